@@ -1,0 +1,5 @@
+pub mod Beginnings
+pub mod Logs
+pub mod Batches
+pub mod Histories
+pub mod Props

@@ -1,0 +1,3 @@
+pub mod Log
+pub mod History
+pub mod Stream
