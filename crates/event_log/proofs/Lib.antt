@@ -1,3 +1,4 @@
+pub mod Distinct
 pub mod Beginnings
 pub mod Logs
 pub mod Batches

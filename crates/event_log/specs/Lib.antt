@@ -1,3 +1,4 @@
+pub mod Distinct
 pub mod Log
 pub mod History
 pub mod Stream
