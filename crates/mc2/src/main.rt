@@ -1,0 +1,16 @@
+//! The program.
+#![tactic(auto)]
+
+mod buffered;
+mod record;
+mod settings;
+mod write_text;
+mod writer;
+
+pub use buffered::Buffered;
+pub use record::Record;
+pub use settings::{LockKind, ObjectSettings, Settings};
+pub use writer::write_record;
+pub use write_text::{WriteFailed, write_text};
+
+fn main() {}

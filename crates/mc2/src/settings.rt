@@ -1,0 +1,88 @@
+//! The settings of a run.
+
+ghost use Rattle.std.specs.Prelude.{◌≡◌};
+
+use arrayvec::ArrayString;
+use event_log::Series;
+use std::marker::Model;
+
+/// Which lock guards an object.
+#[derive(Clone, Copy, Debug, PartialEq, Eq, Drop)]
+pub enum LockKind {
+    Ticket,
+    Mcs,
+}
+
+/// An object's name, its lock, the most events of its log, and the threads of its queue.
+#[derive(Drop)]
+pub struct ObjectSettings {
+    name: ArrayString<16>,
+    lock: LockKind,
+    events: u32,
+    threads: u32,
+}
+
+impl Model for ObjectSettings {
+    ghost use Rattle.std.specs.Prelude.{ℕ};
+    ghost use Rattle.mc2.specs.Settings.{ObjectSettings as Shown};
+
+    ghost Value = { Shown ℕ };
+
+    ghost view = { λ o. record { name = o.name.bytes; lock = o.lock; events = o.events; params = o.threads } };
+}
+
+/// The number of CPUs, and the objects.
+#[derive(Drop)]
+pub struct Settings {
+    cpus: u8,
+    objects: Series<ObjectSettings>,
+}
+
+impl Model for Settings {
+    ghost use Rattle.std.specs.Prelude.{ℕ};
+    ghost use Rattle.mc2.specs.Settings.{Settings as Shown};
+
+    ghost Value = { Shown ℕ };
+
+    ghost view = { λ s. record { cpus = s.cpus; objects = s.objects } };
+}
+
+impl ObjectSettings {
+    pub fn name(&self) -> &[u8]
+        ensures { result.now ≡ self.now.name }
+    {
+        self.name.as_str().as_bytes()
+    }
+
+    pub fn lock(&self) -> LockKind
+        ensures { result ≡ self.now.lock }
+    {
+        self.lock
+    }
+
+    pub fn events(&self) -> u32
+        ensures { result ≡ self.now.events }
+    {
+        self.events
+    }
+
+    pub fn threads(&self) -> u32
+        ensures { result ≡ self.now.params }
+    {
+        self.threads
+    }
+}
+
+impl Settings {
+    pub fn cpus(&self) -> u8
+        ensures { result ≡ self.now.cpus }
+    {
+        self.cpus
+    }
+
+    pub fn objects(&self) -> &[ObjectSettings]
+        ensures { result.now ≡ self.now.objects }
+    {
+        self.objects.as_slice()
+    }
+}
