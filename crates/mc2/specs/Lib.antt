@@ -1,6 +1,8 @@
 pub mod Words
 pub mod Output
-pub mod Settings
 pub mod Spelling
+pub mod Settings
 pub mod RecordText
 pub mod QueueWords
+pub mod ScriptText
+pub mod Reading

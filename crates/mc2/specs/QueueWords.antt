@@ -1,5 +1,5 @@
 -- How a queue's parameters, calls and replies are spelled.
-use Rattle.std.specs.Prelude.{ℕ, ◌^◌, nat_lt, Bool, true, List, [], ◌∷◌, codes, decimal}
+use Rattle.std.specs.Prelude.{ℕ, ◌^◌, nat_lt, nat_le, ◌&&◌, Bool, true, List, [], ◌∷◌, codes, decimal}
 use Rattle.shared_queue.specs.declared.call.QueueCall.{QueueCall}
 use Rattle.shared_queue.specs.declared.call.QueueCall.TheVariants.{Enq, Deq, Remove, Len}
 use Rattle.shared_queue.specs.declared.call.QueueReply.{QueueReply}
@@ -31,6 +31,7 @@ queue_call_fits Len = true
 abbrev pub queue_spelling : Spelling ℕ QueueCall QueueReply
 queue_spelling = record {
   params = λ threads. codes "queue" ∷ decimal threads ∷ [];
+  params_fit = λ threads. nat_le 1 threads && nat_le threads 1024;
   call = queue_call_words;
   reply = queue_reply_words;
   call_fits = queue_call_fits;

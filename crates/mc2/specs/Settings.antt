@@ -1,9 +1,9 @@
 -- The settings of a run: how many CPUs, and which objects behind which locks.
-use Rattle.std.specs.Prelude.{ℕ, List, Some, None, Option, [], ◌∷◌, codes}
-use Rattle.std.specs.List.{slice_get}
+use Rattle.std.specs.Prelude.{ℕ, ◌≡◌, ◌≤◌, ◌<◌, ◌&&◌, ◌||◌, nat_le, Bool, true, false, List, [], ◌∷◌, Some, None, Option, length, All}
+use Rattle.std.specs.List.{slice_get, list_all}
 use Rattle.std.specs.Option.{option_map_or}
 use Rattle.mc2.specs.declared.settings.LockKind.{LockKind}
-use Rattle.mc2.specs.declared.settings.LockKind.TheVariants.{Ticket}
+use Rattle.mc2.specs.Spelling.{Spelling}
 
 -- an object's name, its lock, the most events of its log, and what it is opened with
 pub record ObjectSettings (P : Type 0) : Type 0 where
@@ -19,3 +19,31 @@ pub record Settings (P : Type 0) : Type 0 where
 -- the name of the object at that place, from 0
 abbrev pub name_at : {P : Type 0} → Settings P → ℕ → List ℕ
 name_at settings place = option_map_or (λ o. o.name) (slice_get settings.objects place) []
+
+abbrev pub is_letter : ℕ → Bool
+is_letter b = nat_le 97 b && nat_le b 122
+
+abbrev pub is_digit : ℕ → Bool
+is_digit b = nat_le 48 b && nat_le b 57
+
+-- a lower-case letter, and then such letters or digits: 1 to 16 bytes
+abbrev pub is_name : List ℕ → Bool
+is_name [] = false
+is_name (b ∷ bs) = is_letter b && list_all (λ c. is_letter c || is_digit c) bs && nat_le (length bs) 15
+
+-- each object is found by its name
+abbrev pub NamesDiffer : {P : Type 0} → Settings P → Type 0
+NamesDiffer settings = (i j : ℕ) → i < length settings.objects → j < length settings.objects → name_at settings i ≡ name_at settings j → i ≡ j
+
+module _ {P C R : Type 0} (spelling : Spelling P C R) where
+  pub record ObjectFits (o : ObjectSettings P) : Type 0 where
+    pub name : is_name o.name ≡ true
+    pub events : (1 ≤ o.events) × (o.events ≤ 65536)
+    pub params : spelling.params_fit o.params ≡ true
+
+  -- settings within all limits
+  pub record SettingsFit (s : Settings P) : Type 0 where
+    pub cpus : (1 ≤ s.cpus) × (s.cpus ≤ 8)
+    pub count : (1 ≤ length s.objects) × (length s.objects ≤ 16)
+    pub each : All (λ o. ObjectFits o) s.objects
+    pub names : NamesDiffer s

@@ -3,12 +3,16 @@
 
 mod buffered;
 mod record;
+mod request;
 mod settings;
+mod split_once;
+mod words;
 mod write_text;
 mod writer;
 
 pub use buffered::Buffered;
 pub use record::Record;
+pub use request::Request;
 pub use settings::{LockKind, ObjectSettings, Settings};
 pub use writer::write_record;
 pub use write_text::{WriteFailed, write_text};

@@ -1,0 +1,77 @@
+-- Reading the words of a line from left to right. The laws in proofs/ tie this to the texts.
+use Rattle.std.specs.Prelude.{◌==◌, ℕ, zero, suc, List, [], ◌∷◌, Option, Some, None, if◌then◌else◌, codes, nat_le, nat_lt, ◌&&◌, decimal}
+use Rattle.std.specs.List.{slice_split, position}
+use Rattle.std.specs.Str.{bytes_eq}
+use Rattle.std.specs.Str.Parse.{digits_value}
+use Rattle.std.specs.Borrow.{Bor}
+use Rattle.shared_queue.specs.declared.call.QueueCall.{QueueCall}
+use Rattle.shared_queue.specs.declared.call.QueueCall.TheVariants.{Enq, Deq, Remove, Len}
+use Rattle.mc2.specs.declared.request.Request.{Request}
+use Rattle.mc2.specs.Settings.{Settings}
+
+infixl 10 ◌>>=◌
+abbrev pub ◌>>=◌ : {A B : Type 0} → Option A → (A → Option B) → Option B
+None >>= f = None
+(Some x) >>= f = f x
+
+unfoldable pub words : List ℕ → List (List ℕ)
+words line = slice_split (λ b. b == 32) line
+
+-- the words that are left
+abbrev pub left : Option (Bor (List ℕ)) → List (List ℕ)
+left None = []
+left (Some bytes) = words bytes.now
+
+-- the number up to high whose decimal text the word is
+unfoldable pub number_in : ℕ → List ℕ → Option ℕ
+number_in high word = if bytes_eq (decimal (digits_value 10 word)) word && nat_le (digits_value 10 word) high then Some (digits_value 10 word) else None
+
+unfoldable pub word_at : List (List ℕ) → Option (List ℕ × List (List ℕ))
+word_at [] = None
+word_at (word ∷ rest) = Some (word, rest)
+
+unfoldable pub key_at : List ℕ → List (List ℕ) → Option (List (List ℕ))
+key_at key ws = do
+  w ← word_at ws
+  if bytes_eq w.0 key then Some w.1 else None
+
+unfoldable pub number_at : ℕ → List (List ℕ) → Option (ℕ × List (List ℕ))
+number_at high ws = do
+  w ← word_at ws
+  n ← number_in high w.0
+  Some (n, w.1)
+
+unfoldable pub queue_call_at : List (List ℕ) → Option (QueueCall × List (List ℕ))
+queue_call_at ws = do
+  w ← word_at ws
+  if bytes_eq w.0 (codes "enq") then (number_at 4294967295 w.1 >>= λ t. Some (Enq t.0, t.1))
+    else if bytes_eq w.0 (codes "deq") then Some (Deq, w.1)
+    else if bytes_eq w.0 (codes "remove") then (number_at 4294967295 w.1 >>= λ t. Some (Remove t.0, t.1))
+    else if bytes_eq w.0 (codes "len") then Some (Len, w.1)
+    else None
+
+module _ {C : Type 0} (call_at : List (List ℕ) → Option (C × List (List ℕ))) where
+  -- what follows a call: nothing, or a semicolon and at most n calls more
+  unfoldable pub calls_after : ℕ → C → List (List ℕ) → Option (List C)
+  calls_after n c [] = Some (c ∷ [])
+  calls_after zero c (w ∷ ws) = None
+  calls_after (suc n) c (w ∷ ws) = if bytes_eq w (codes ";") then (call_at ws >>= λ next. calls_after n next.0 next.1 >>= λ more. Some (c ∷ more)) else None
+
+  -- all words are 1 to 8 calls
+  unfoldable pub calls_at : List (List ℕ) → Option (List C)
+  calls_at ws = call_at ws >>= λ first. calls_after 7 first.0 first.1
+
+-- the object of that name, from 0
+unfoldable pub object_at : {P : Type 0} → Settings P → List (List ℕ) → Option (ℕ × List (List ℕ))
+object_at settings ws = do
+  w ← word_at ws
+  i ← position (λ o. bytes_eq o.name w.0) settings.objects
+  Some (i, w.1)
+
+module _ {O P C R : Type 0} (call_at : List (List ℕ) → Option (C × List (List ℕ))) where
+  unfoldable pub request_at : Settings P → List (List ℕ) → Option (Request O P C R)
+  request_at settings ws = do
+    cpu ← number_at 255 ws
+    object ← object_at settings cpu.1
+    calls ← calls_at call_at object.1
+    if nat_lt cpu.0 settings.cpus then Some (record { cpu = cpu.0; todo = record { object = object.0; calls = record { items = calls } } }) else None
