@@ -1,3 +1,4 @@
 pub mod Outputs
 pub mod Lines
 pub mod Cuts
+pub mod Readings

@@ -1,5 +1,5 @@
 -- Reading the words of a line from left to right. The laws in proofs/ tie this to the texts.
-use Rattle.std.specs.Prelude.{◌==◌, ℕ, zero, suc, List, [], ◌∷◌, Option, Some, None, if◌then◌else◌, codes, nat_le, nat_lt, ◌&&◌, decimal}
+use Rattle.std.specs.Prelude.{◌==◌, ℕ, zero, suc, List, [], ◌∷◌, Option, Some, None, Bool, true, false, if◌then◌else◌, codes, nat_le, nat_lt, ◌&&◌, decimal}
 use Rattle.std.specs.List.{slice_split, position}
 use Rattle.std.specs.Str.{bytes_eq}
 use Rattle.std.specs.Str.Parse.{digits_value}
@@ -21,6 +21,11 @@ words line = slice_split (λ b. b == 32) line
 abbrev pub left : Option (Bor (List ℕ)) → List (List ℕ)
 left None = []
 left (Some bytes) = words bytes.now
+
+-- no word is left
+abbrev pub is_nil : List (List ℕ) → Bool
+is_nil [] = true
+is_nil (w ∷ ws) = false
 
 -- the number up to high whose decimal text the word is
 unfoldable pub number_in : ℕ → List ℕ → Option ℕ
@@ -51,15 +56,20 @@ queue_call_at ws = do
     else None
 
 module _ {C : Type 0} (call_at : List (List ℕ) → Option (C × List (List ℕ))) where
-  -- what follows a call: nothing, or a semicolon and at most n calls more
-  unfoldable pub calls_after : ℕ → C → List (List ℕ) → Option (List C)
-  calls_after n c [] = Some (c ∷ [])
-  calls_after zero c (w ∷ ws) = None
-  calls_after (suc n) c (w ∷ ws) = if bytes_eq w (codes ";") then (call_at ws >>= λ next. calls_after n next.0 next.1 >>= λ more. Some (c ∷ more)) else None
+  -- a call behind a semicolon
+  unfoldable pub next_call_at : List (List ℕ) → Option (C × List (List ℕ))
+  next_call_at ws = do
+    rest ← key_at (codes ";") ws
+    call_at rest
 
-  -- all words are 1 to 8 calls
+  -- all words are at most n calls, each behind a semicolon
+  unfoldable pub more_at : ℕ → List (List ℕ) → Option (List C)
+  more_at zero ws = if is_nil ws then Some [] else None
+  more_at (suc n) ws = if is_nil ws then Some [] else (next_call_at ws >>= λ next. more_at n next.1 >>= λ more. Some (next.0 ∷ more))
+
+  -- all words are 1 to 8 calls with semicolons between them
   unfoldable pub calls_at : List (List ℕ) → Option (List C)
-  calls_at ws = call_at ws >>= λ first. calls_after 7 first.0 first.1
+  calls_at ws = call_at ws >>= λ first. more_at 7 first.1 >>= λ more. Some (first.0 ∷ more)
 
 -- the object of that name, from 0
 unfoldable pub object_at : {P : Type 0} → Settings P → List (List ℕ) → Option (ℕ × List (List ℕ))

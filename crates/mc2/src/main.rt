@@ -2,6 +2,7 @@
 #![tactic(auto)]
 
 mod buffered;
+mod entries;
 mod record;
 mod request;
 mod settings;

@@ -1,0 +1,83 @@
+//! Reading what a line of the scripts asks for.
+
+ghost use Rattle.std.specs.Prelude.{◌≡◌, ◌<◌, ◌≤◌, ◌-◌, ℕ, position, length, IfSome};
+ghost use Rattle.std.specs.Option.{option_map};
+ghost use Rattle.std.specs.Str.{bytes_eq};
+ghost use Rattle.mc2.specs.Reading.{words, left, queue_call_at, next_call_at, calls_at, object_at, request_at};
+
+use crate::words::{Words, key, number, word};
+use crate::{Request, Settings};
+use arrayvec::ArrayVec;
+use event_log::Todo;
+use shared_queue::{QueueCall, ThreadQueue};
+
+/// The most calls of an entry.
+const MOST_CALLS: usize = 8;
+
+/// The call that is next.
+#[tactic(auto, unfolding(crate::specs::Reading::queue_call_at))]
+fn call(at: Words<'_>) -> Option<(QueueCall, Words<'_>)>
+    ensures { option_map (λ x. (x.0, left x.1)) result ≡ queue_call_at (left at.entry) }
+{
+    let (name, rest) = word(at)?;
+    if name == b"enq".as_slice() {
+        let (thread, rest) = number(u64::from(u32::MAX), rest)?;
+        Some((QueueCall::Enq(thread as u32), rest))
+    } else if name == b"deq".as_slice() {
+        Some((QueueCall::Deq, rest))
+    } else if name == b"remove".as_slice() {
+        let (thread, rest) = number(u64::from(u32::MAX), rest)?;
+        Some((QueueCall::Remove(thread as u32), rest))
+    } else if name == b"len".as_slice() {
+        Some((QueueCall::Len, rest))
+    } else {
+        None
+    }
+}
+
+/// The call behind a semicolon that is next.
+#[tactic(auto, unfolding(crate::specs::Reading::next_call_at))]
+fn next_call(at: Words<'_>) -> Option<(QueueCall, Words<'_>)>
+    ensures { option_map (λ x. (x.0, left x.1)) result ≡ next_call_at queue_call_at (left at.entry) }
+{
+    let rest = key(b";", at)?;
+    call(rest)
+}
+
+/// 1 to 8 calls with semicolons between them, up to the end of the line.
+fn calls(at: Words<'_>) -> Option<ArrayVec<QueueCall, 8>>
+    ensures { option_map (λ x. x.items) result ≡ calls_at queue_call_at (left at.entry) }
+{
+    let (first, rest) = call(at)?;
+    let mut calls = ArrayVec::new();
+    calls.push(first);
+    let mut left = rest;
+    for count in 1..MOST_CALLS {
+        if left.is_none() {
+            break;
+        }
+        let (next, rest) = next_call(left)?;
+        calls.push(next);
+        left = rest;
+    }
+    if left.is_none() { Some(calls) } else { None }
+}
+
+/// The place of the object of that name, from 0.
+fn place_of(settings: &Settings, name: &[u8]) -> Option<usize>
+    ensures place { result ≡ position (λ o. bytes_eq o.name name.now) settings.now.objects }
+    ensures bound { IfSome result (λ i. i < length settings.now.objects) }
+{
+    settings.objects().iter().position(|object| object.name() == name)
+}
+
+/// The object that is next, by its place.
+#[tactic(auto, unfolding(crate::specs::Reading::object_at))]
+fn object<'a>(settings: &Settings, at: Words<'a>) -> Option<(usize, Words<'a>)>
+    ensures value { option_map (λ x. (x.0, left x.1)) result ≡ object_at settings.now (left at.entry) }
+    ensures bound { IfSome result (λ x. x.0 < length settings.now.objects) }
+{
+    let (name, rest) = word(at)?;
+    let place = place_of(settings, name)?;
+    Some((place, rest))
+}
