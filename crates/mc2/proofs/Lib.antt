@@ -2,3 +2,5 @@ pub mod Outputs
 pub mod Lines
 pub mod Cuts
 pub mod Readings
+pub mod Requests
+pub mod QueueReads
