@@ -6,3 +6,4 @@ pub mod RecordText
 pub mod QueueWords
 pub mod ScriptText
 pub mod Reading
+pub mod QueueTypes

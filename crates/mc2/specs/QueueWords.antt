@@ -4,6 +4,8 @@ use Rattle.shared_queue.specs.declared.call.QueueCall.{QueueCall}
 use Rattle.shared_queue.specs.declared.call.QueueCall.TheVariants.{Enq, Deq, Remove, Len}
 use Rattle.shared_queue.specs.declared.call.QueueReply.{QueueReply}
 use Rattle.shared_queue.specs.declared.call.QueueReply.TheVariants.{Ok, BadThread, Already, Empty, Absent, Thread, Count}
+use Rattle.mc2.specs.declared.settings.LockKind.TheVariants.{Ticket}
+use Rattle.mc2.specs.Settings.{Settings}
 use Rattle.mc2.specs.Spelling.{Spelling}
 
 abbrev pub queue_call_words : QueueCall → List (List ℕ)
@@ -36,3 +38,7 @@ queue_spelling = record {
   reply = queue_reply_words;
   call_fits = queue_call_fits;
 }
+
+-- two CPUs, and one queue of 8 threads behind a ticket lock, with at most 100 events
+abbrev pub built_in_settings : Settings ℕ
+built_in_settings = record { cpus = 2; objects = record { name = codes "q0"; lock = Ticket; events = 100; params = 8 } ∷ [] }

@@ -3,6 +3,10 @@
 ghost use Rattle.std.specs.Prelude.{◌≡◌, ◌<◌, ◌≤◌, ◌-◌, ℕ, position, length, IfSome};
 ghost use Rattle.std.specs.Option.{option_map};
 ghost use Rattle.std.specs.Str.{bytes_eq};
+ghost use Rattle.mc2.specs.Settings.{SettingsFit};
+ghost use Rattle.mc2.specs.QueueWords.{queue_spelling};
+ghost use Rattle.mc2.specs.QueueTypes.{QueueRequest};
+ghost use Rattle.mc2.specs.ScriptText.{IsRequest};
 ghost use Rattle.mc2.specs.Reading.{words, left, queue_call_at, next_call_at, calls_at, object_at, request_at};
 
 use crate::words::{Words, key, number, word};
@@ -66,7 +70,7 @@ fn calls(at: Words<'_>) -> Option<ArrayVec<QueueCall, 8>>
 /// The place of the object of that name, from 0.
 fn place_of(settings: &Settings, name: &[u8]) -> Option<usize>
     ensures place { result ≡ position (λ o. bytes_eq o.name name.now) settings.now.objects }
-    ensures bound { IfSome result (λ i. i < length settings.now.objects) }
+    ensures bound { IfSome result (λ i. i < 16) }
 {
     settings.objects().iter().position(|object| object.name() == name)
 }
@@ -75,9 +79,39 @@ fn place_of(settings: &Settings, name: &[u8]) -> Option<usize>
 #[tactic(auto, unfolding(crate::specs::Reading::object_at))]
 fn object<'a>(settings: &Settings, at: Words<'a>) -> Option<(usize, Words<'a>)>
     ensures value { option_map (λ x. (x.0, left x.1)) result ≡ object_at settings.now (left at.entry) }
-    ensures bound { IfSome result (λ x. x.0 < length settings.now.objects) }
+    ensures bound { IfSome result (λ x. x.0 < 16) }
 {
     let (name, rest) = word(at)?;
     let place = place_of(settings, name)?;
     Some((place, rest))
+}
+
+/// What the words of the line spell, read from left to right.
+#[tactic(auto, unfolding(crate::specs::Reading::request_at))]
+fn spelled(settings: &Settings, line: &[u8]) -> Option<Request<ThreadQueue>>
+    ensures value { result ≡ request_at queue_call_at settings.now (words line.now) }
+    ensures fit { SettingsFit queue_spelling settings.now }
+{
+    let cpus = u64::from(settings.cpus());
+    let (cpu, rest) = number(u64::from(u8::MAX), Some(line))?;
+    let (object, rest) = object(settings, rest)?;
+    let calls = calls(rest)?;
+    if cpu >= cpus {
+        return None;
+    }
+    Some(Request {
+        cpu: cpu as u8,
+        todo: Todo {
+            object: object as u8,
+            calls,
+        },
+    })
+}
+
+/// What the line asks for, if it is an entry.
+pub fn request(settings: &Settings, line: &[u8]) -> Option<Request<ThreadQueue>>
+    ensures found { IfSome result (λ r. IsRequest queue_spelling settings.now line.now r) }
+    ensures only { (r : QueueRequest) → IsRequest queue_spelling settings.now line.now r → result ≡ Some r }
+{
+    spelled(settings, line)
 }

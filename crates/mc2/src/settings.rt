@@ -1,9 +1,12 @@
 //! The settings of a run.
 
-ghost use Rattle.std.specs.Prelude.{◌≡◌};
+ghost use Rattle.std.specs.Prelude.{◌≡◌, IfOk};
+ghost use Rattle.mc2.specs.Settings.{SettingsFit};
+ghost use Rattle.mc2.specs.QueueWords.{queue_spelling, built_in_settings};
 
 use arrayvec::ArrayString;
-use event_log::Series;
+use event_log::{OutOfMemory, Series};
+use std::alloc::Global;
 use std::marker::Model;
 
 /// Which lock guards an object.
@@ -40,11 +43,14 @@ pub struct Settings {
 
 impl Model for Settings {
     ghost use Rattle.std.specs.Prelude.{ℕ};
-    ghost use Rattle.mc2.specs.Settings.{Settings as Shown};
+    ghost use Rattle.mc2.specs.Settings.{Settings as Shown, SettingsFit};
+    ghost use Rattle.mc2.specs.QueueWords.{queue_spelling};
 
     ghost Value = { Shown ℕ };
 
     ghost view = { λ s. record { cpus = s.cpus; objects = s.objects } };
+
+    ghost invariant = { λ s. SettingsFit queue_spelling (record { cpus = s.cpus; objects = s.objects }) };
 }
 
 impl ObjectSettings {
@@ -74,14 +80,38 @@ impl ObjectSettings {
 }
 
 impl Settings {
+    /// Two CPUs, and one queue `q0` of 8 threads behind a ticket lock, with at most 100 events.
+    pub fn built_in(alloc: Global) -> Result<Settings, OutOfMemory>
+        ensures { IfOk result (λ s. s ≡ built_in_settings) }
+    {
+        let mut name = ArrayString::new();
+        name.push_str("q0");
+        let queue = ObjectSettings {
+            name,
+            lock: LockKind::Ticket,
+            events: 100,
+            threads: 8,
+        };
+        let mut objects = Vec::new(alloc);
+        match objects.push(queue) {
+            Ok(()) => Ok(Settings {
+                cpus: 2,
+                objects: Series::from_vec(objects),
+            }),
+            Err(_) => Err(OutOfMemory),
+        }
+    }
+
     pub fn cpus(&self) -> u8
-        ensures { result ≡ self.now.cpus }
+        ensures cpus { result ≡ self.now.cpus }
+        ensures fit { SettingsFit queue_spelling self.now }
     {
         self.cpus
     }
 
     pub fn objects(&self) -> &[ObjectSettings]
-        ensures { result.now ≡ self.now.objects }
+        ensures objects { result.now ≡ self.now.objects }
+        ensures fit { SettingsFit queue_spelling self.now }
     {
         self.objects.as_slice()
     }

@@ -1,0 +1,13 @@
+-- The types of runs over queues.
+use Rattle.std.specs.Prelude.{ℕ}
+use Rattle.event_log.specs.declared.entry.Run.{Run}
+use Rattle.shared_queue.specs.declared.call.QueueCall.{QueueCall}
+use Rattle.shared_queue.specs.declared.call.QueueReply.{QueueReply}
+use Rattle.shared_queue.specs.declared.queue.ThreadQueue.{ThreadQueue}
+use Rattle.mc2.specs.declared.request.Request.{Request}
+
+abbrev pub QueueRequest : Type 0
+QueueRequest = Request ThreadQueue ℕ QueueCall QueueReply
+
+abbrev pub QueueRun : Type 0
+QueueRun = Run ThreadQueue ℕ QueueCall QueueReply
