@@ -4,3 +4,4 @@ pub mod Cuts
 pub mod Readings
 pub mod Requests
 pub mod QueueReads
+pub mod ScriptLines

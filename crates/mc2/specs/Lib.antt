@@ -7,3 +7,4 @@ pub mod QueueWords
 pub mod ScriptText
 pub mod Reading
 pub mod QueueTypes
+pub mod ScriptFaults

@@ -11,6 +11,10 @@ abbrev pub IsBlank : List ℕ → Type 0
 IsBlank [] = Unit {0}
 IsBlank (b ∷ bytes) = b ≡ 35
 
+-- how many of the requests are of that CPU
+abbrev pub count_of : {O P C R : Type 0} → ℕ → List (Request O P C R) → ℕ
+count_of cpu requests = count_by (λ r. r.cpu == cpu) requests
+
 module _ {O P C R : Type 0} (spelling : Spelling P C R) (settings : Settings P) where
   -- `CPU NAME CALLS`
   abbrev pub request_words : Request O P C R → List (List ℕ)
@@ -30,10 +34,6 @@ module _ {O P C R : Type 0} (spelling : Spelling P C R) (settings : Settings P) 
   AskFor [] requests = requests ≡ []
   AskFor (line ∷ lines) [] = IsBlank line × AskFor lines []
   AskFor (line ∷ lines) (r ∷ requests) = (IsBlank line × AskFor lines (r ∷ requests)) ⊎ (IsRequest line r × AskFor lines requests)
-
-  -- how many of the requests are of that CPU
-  abbrev pub count_of : ℕ → List (Request O P C R) → ℕ
-  count_of cpu requests = count_by (λ r. r.cpu == cpu) requests
 
   -- the bytes are lines that ask for these requests, at most 10,000 of each CPU
   pub record AreScripts (bytes : List ℕ) (requests : List (Request O P C R)) : Type 0 where

@@ -5,6 +5,7 @@ mod buffered;
 mod entries;
 mod record;
 mod request;
+mod scripts;
 mod settings;
 mod split_once;
 mod words;
