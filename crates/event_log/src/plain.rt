@@ -1,13 +1,13 @@
 //! Streams over the readers and writers of std.
 
-ghost use Rattle.std.specs.Prelude.{◌≡◌, ◌≤◌, IfOk, length};
-ghost use Rattle.std.specs.Io.KnownBytes.{ReadConsumes, WriteAppends};
-ghost use Rattle.event_log.specs.Stream.{counted, is_failed_read, is_failed_write};
+ghost use Rattle.std.specs.Prelude.{◌≡◌};
+ghost use Rattle.event_log.specs.Stream.{failed_calls};
 
 use crate::{Sink, Source, StreamFailed};
 use std::io::{Read, Write};
 
-/// A reader or a writer of std, with the number of its calls that have failed.
+/// A reader or a writer of std, with the number of its calls that have failed. An interrupted call has failed too: none
+/// is tried again.
 #[derive(Debug, Drop)]
 pub struct Plain<T> {
     pub inner: T,
@@ -18,7 +18,7 @@ impl<T> Plain<T> {
     /// A stream on which no call has failed yet.
     pub fn new(inner: T) -> Plain<T>
         ensures inner { result.inner ≡ inner }
-        ensures none_failed { result.failed ≡ 0 }
+        ensures none_failed { failed_calls result ≡ 0 }
     {
         Plain { inner, failed: 0 }
     }
@@ -27,7 +27,7 @@ impl<T> Plain<T> {
 impl<T: Read> Source for Plain<T> {
     ghost remaining = { λ s. T.remaining s.inner };
 
-    ghost failed = { λ s. s.failed };
+    ghost failed = { failed_calls };
 
     fn read(&mut self, buffer: &mut [u8]) -> Result<usize, StreamFailed> {
         match self.inner.read(buffer) {
@@ -43,7 +43,7 @@ impl<T: Read> Source for Plain<T> {
 impl<T: Write> Sink for Plain<T> {
     ghost contents = { λ s. T.contents s.inner };
 
-    ghost failed = { λ s. s.failed };
+    ghost failed = { failed_calls };
 
     fn write(&mut self, bytes: &[u8]) -> Result<usize, StreamFailed> {
         match self.inner.write(bytes) {
@@ -60,3 +60,6 @@ impl<T: Write> Sink for Plain<T> {
         }
     }
 }
+
+#[cfg(test)]
+mod tests;

@@ -5,3 +5,4 @@ pub mod Readings
 pub mod Requests
 pub mod QueueReads
 pub mod ScriptLines
+pub mod InOrder

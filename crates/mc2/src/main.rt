@@ -3,6 +3,7 @@
 
 mod buffered;
 mod entries;
+mod first_run;
 mod record;
 mod request;
 mod scripts;
