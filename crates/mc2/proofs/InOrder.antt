@@ -17,6 +17,9 @@ use Rattle.event_log.specs.Log.{of}
 use Rattle.event_log.specs.History.{History, IsKept}
 use Rattle.mc2.specs.declared.request.Request.{Request}
 use Rattle.mc2.specs.FirstRun.{asked_of, entries_of, events_of, with_event_of, DoesInOrder, IsAble, DoesEntry}
+use Rattle.mc2.specs.ScriptText.{IsRequest, AskFor}
+use Rattle.mc2.specs.Settings.{Settings}
+use Rattle.mc2.specs.Spelling.{Spelling}
 use Rattle.mc2.specs.Sound.{Opened, Sound, LogIsSound, EntryIsSound, Answers, NoneAfterFull, done_on, with_steps, steps_by, transcript_of}
 
 all_push : {X : Type 0} (Q : X → Type 0) (xs : List X) (x : X) → AllByRecursion Q xs → Q x → AllByRecursion Q (xs ++ x ∷ [])
@@ -266,3 +269,18 @@ module _ {O P C R : Type 0} (meaning : Ghosts O P C R) (opened : Opened P) where
         entries = λ cpu. rw (mine cpu) (all_of (λ e. EntryIsSound meaning (opened ∷ []) run e) cpu requests d.entries (all_both entry d.entries d.objects d.answers));
         full = λ cpu. rw (mine cpu) (full_of cpu requests d.entries d.objects d.full);
       }
+
+-- ---- requests of scripts over one object
+
+module _ {O P C R : Type 0} (spelling : Spelling P C R) (settings : Settings P) (single : length settings.objects ≡ 1) where
+  able_request : (n : ℕ) → settings.cpus ≤ n → (line : List ℕ) (r : Request O P C R) → IsRequest spelling settings line r → IsAble n r
+  able_request n few line r asked =
+      let cpu = asked.cpu in
+      let object = asked.object in
+      record { cpu = omega (arith, cpu, few); object = omega (arith, object, single); some = asked.some; few = asked.few }
+
+  pub able_requests : (n : ℕ) → settings.cpus ≤ n → (lines : List (List ℕ)) (requests : List (Request O P C R)) → AskFor spelling settings lines requests → AllByRecursion (λ r. IsAble n r) requests
+  able_requests n few [] [] h = tt
+  able_requests n few [] (r ∷ requests) h = absurd (cc)
+  able_requests n few (line ∷ lines) [] h = tt
+  able_requests n few (line ∷ lines) (r ∷ requests) h = elim h [ inl b ↦ able_requests n few lines (r ∷ requests) b.1 | inr b ↦ (able_request n few line r b.0, able_requests n few lines requests b.1) ]
