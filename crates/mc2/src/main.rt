@@ -1,9 +1,12 @@
-//! The program.
+//! The program: scripts in, the record of a run out.
 #![tactic(auto)]
 
+mod arguments;
 mod buffered;
 mod entries;
+mod fault;
 mod first_run;
+mod input;
 mod record;
 mod request;
 mod scripts;
@@ -14,10 +17,52 @@ mod write_text;
 mod writer;
 
 pub use buffered::Buffered;
+pub use first_run::{FirstFault, first_run};
 pub use record::Record;
 pub use request::Request;
 pub use settings::{LockKind, ObjectSettings, Settings};
-pub use writer::write_record;
 pub use write_text::{WriteFailed, write_text};
+pub use writer::write_record;
 
-fn main() {}
+use crate::arguments::read_words;
+use crate::fault::Fault;
+use crate::input::read_all;
+use event_log::Plain;
+use std::fs::File;
+use std::process::ExitCode;
+use std::rt::{Env, Files};
+use std::{env, io};
+
+/// Does what the program's words ask for.
+fn run<R: Env + Files + Input + Print + AllocGlobal>(rt: &R) -> Result<(), Fault> {
+    let mut words = Vec::new(rt.alloc());
+    let Ok(all) = env::args(rt) else {
+        return Err(Fault::BadWords);
+    };
+    for word in all.skip(1) {
+        if words.push(word).is_err() {
+            return Err(Fault::OutOfMemory);
+        }
+    }
+    let arguments = read_words(rt.alloc(), words.as_slice())?;
+    let scripts = match arguments.scripts {
+        Some(name) => match File::open(rt, name) {
+            Ok(file) => read_all(rt.alloc(), &mut Plain::new(file))?,
+            Err(_) => return Err(Fault::ReadFailed),
+        },
+        None => read_all(rt.alloc(), &mut Plain::new(rt.reader()))?,
+    };
+    first_run(rt.alloc(), scripts.as_slice(), &mut Plain::new(io::writer(rt)))?;
+    Ok(())
+}
+
+fn main(rt: HostRuntime) -> ExitCode {
+    match run(&rt) {
+        Ok(()) => ExitCode::SUCCESS,
+        Err(fault) => {
+            let status = fault.status();
+            let _ = rt.eprintln(fault);
+            ExitCode::from(status)
+        }
+    }
+}

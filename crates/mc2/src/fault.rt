@@ -1,0 +1,49 @@
+//! Why the program didn't do what its words ask for.
+
+use crate::FirstFault;
+use crate::input::InputFault;
+use thiserror::Error;
+
+/// A refusal, which is printed as one line.
+#[derive(Debug, Drop, Error)]
+pub enum Fault {
+    #[error("mc2: E1 out of memory")]
+    OutOfMemory,
+    #[error("mc2: E7 scripts: line {0}")]
+    BadScripts(usize),
+    #[error("mc2: E12 read failed")]
+    ReadFailed,
+    #[error("mc2: E13 write failed")]
+    WriteFailed,
+    #[error("mc2: E14 bad words")]
+    BadWords,
+}
+
+impl Fault {
+    /// The status that the program ends with.
+    pub fn status(&self) -> u8 {
+        match self {
+            Fault::BadScripts(_) | Fault::BadWords => 2,
+            Fault::OutOfMemory | Fault::ReadFailed | Fault::WriteFailed => 3,
+        }
+    }
+}
+
+impl From<FirstFault> for Fault {
+    fn from(fault: FirstFault) -> Fault {
+        match fault {
+            FirstFault::OutOfMemory => Fault::OutOfMemory,
+            FirstFault::BadScripts(line) => Fault::BadScripts(line),
+            FirstFault::WriteFailed => Fault::WriteFailed,
+        }
+    }
+}
+
+impl From<InputFault> for Fault {
+    fn from(fault: InputFault) -> Fault {
+        match fault {
+            InputFault::OutOfMemory => Fault::OutOfMemory,
+            InputFault::ReadFailed => Fault::ReadFailed,
+        }
+    }
+}
