@@ -1,5 +1,5 @@
 -- Cutting a list at the first member that passes a test.
-use Rattle.std.proofs.Common.{◌≡◌, ℕ, zero, suc, ◌+◌, ◌^◌, ◌<◌, ◌≤◌, ◌==◌, decimal, subst, not, cond, nat_lt, Bool, true, false, Option, Some, None, List, [], ◌∷◌, ◌++◌, length, take, drop, get_or, position, refl, sym, ◌∙◌, ap, arith, add-one, eqb}
+use Rattle.std.proofs.Common.{◌≡◌, ℕ, zero, suc, ◌+◌, ◌^◌, ◌<◌, ◌≤◌, ◌==◌, decimal, subst, not, cond, nat_lt, Bool, true, false, Some, None, List, [], ◌∷◌, ◌++◌, length, take, drop, get_or, position, refl, sym, ◌∙◌, ap, arith}
 use Rattle.std.specs.List.{AllByRecursion, prefix_len, position_or_len, slice_split}
 use Rattle.std.proofs.lemmas.Bool.{eqb-true, ltb-false, and_parts, leb-true, le-leb}
 use Rattle.std.proofs.lemmas.List.{take-append-drop, drop_more}
@@ -25,9 +25,10 @@ cut_found bytes byte i e =
     let at = position-Some (λ b. b == byte) bytes i 0 e in
     let here : get_or bytes i 0 ≡ byte = eqb-true (get_or bytes i 0) byte at.1 in
     let rest : drop i bytes ≡ byte ∷ drop (i + 1) bytes = drop_more bytes i 0 at.0 ∙ ap (λ b. b ∷ drop (i + 1) bytes) here in
-    let tail : drop 1 (drop i bytes) ≡ drop (i + 1) bytes = ap (λ l. drop 1 l) rest in
-    ( none_below (λ b. b == byte) bytes i at.2,
-      sym (take-append-drop i bytes) ∙ ap (λ l. take i bytes ++ l) (rest ∙ ap (λ l. byte ∷ l) (sym tail)) )
+    let tail : drop 1 (drop i bytes) ≡ drop (i + 1) bytes = ap (λ l. drop 1 l) rest in (
+      none_below (λ b. b == byte) bytes i at.2,
+      sym (take-append-drop i bytes) ∙ ap (λ l. take i bytes ++ l) (rest ∙ ap (λ l. byte ∷ l) (sym tail)),
+    )
 
 all_before : (byte : ℕ) (bytes : List ℕ) → length bytes ≤ prefix_len (λ b. not (b == byte)) bytes → AllByRecursion (λ b. (b == byte) ≡ false) bytes
 all_before byte [] h = tt

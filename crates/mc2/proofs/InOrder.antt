@@ -1,9 +1,7 @@
 -- Entries that are done one after another on one object make a sound run.
-use Rattle.std.proofs.Common.{◌≡◌, ◌≢◌, ℕ, zero, suc, ◌+◌, ◌<◌, ◌≤◌, ◌==◌, Bool, true, false, cond, List, [], ◌∷◌, ◌++◌, length, map, refl, sym, ◌∙◌, ap, subst, append_assoc, arith, length-append, Option, Some, None, ◌⊎◌, inl, inr}
-use Rattle.std.specs.Prelude.{unwrap_or}
-use Rattle.std.specs.List.{AllByRecursion, slice_get, filter}
+use Rattle.std.proofs.Common.{◌≡◌, ℕ, zero, suc, ◌<◌, ◌≤◌, ◌==◌, Bool, true, false, cond, List, [], ◌∷◌, ◌++◌, length, map, refl, sym, ◌∙◌, ap, subst, arith, length-append, Some, ◌⊎◌, inl, inr}
+use Rattle.std.specs.List.{AllByRecursion, slice_get}
 use Rattle.std.proofs.lemmas.List.{append-nil, map-append, length-map}
-use Rattle.std.proofs.lemmas.Bool.{eqb-true}
 use Rattle.std.proofs.lemmas.Bool.Decides.{nat_tests}
 use Rattle.event_log.specs.declared.object.SeqObject.{Ghosts}
 use Rattle.event_log.specs.declared.event.Steps.{Steps}
@@ -134,8 +132,8 @@ module _ {O P C R : Type 0} where
       let go : (b : Bool) → cond b (with_steps f.done (done_on x entries)) (done_on x entries) ≡ [] → cond b (with_steps f.done (done_on x (entries ++ e ∷ []))) (done_on x (entries ++ e ∷ [])) ≡ []
       = λ b. elim b as (λ v. cond v (with_steps f.done (done_on x entries)) (done_on x entries) ≡ [] → cond v (with_steps f.done (done_on x (entries ++ e ∷ []))) (done_on x (entries ++ e ∷ [])) ≡ []) [
         | true ↦ (λ k.
-          let parts = nil_with f.done (done_on x entries) k in
-          done_on_first f.done (done_on x (entries ++ e ∷ [])) [] (done_push entries e x none parts.1) ∙ ap (λ d. with_steps d []) parts.0)
+            let parts = nil_with f.done (done_on x entries) k in
+            done_on_first f.done (done_on x (entries ++ e ∷ [])) [] (done_push entries e x none parts.1) ∙ ap (λ d. with_steps d []) parts.0)
         | false ↦ (λ k. done_push entries e x none k)
       ] in
       go (f.object == x) before
@@ -144,9 +142,9 @@ module _ {O P C R : Type 0} where
   full_push : (entries : List (Entry O P C R)) (e : Entry O P C R) → NoneAfterFull entries → ((e.done ≡ done.NoRoom) ⊎ AllByRecursion (λ f. f.done ≡ done.NoRoom → ⊥) entries) → NoneAfterFull (entries ++ e ∷ [])
   full_push [] e full why = ((λ none. refl), tt)
   full_push (f ∷ entries) e full why = elim why [
-      | inl none ↦ ((λ h. done_push entries e f.object none (full.0 h)), full_push entries e full.1 (inl none))
-      | inr room ↦ ((λ h. absurd (room.0 h)), full_push entries e full.1 (inr room.1))
-    ]
+    | inl none ↦ ((λ h. done_push entries e f.object none (full.0 h)), full_push entries e full.1 (inl none))
+    | inr room ↦ ((λ h. absurd (room.0 h)), full_push entries e full.1 (inr room.1))
+  ]
 
 opened_is : {P : Type 0} {p : P} {n : ℕ} {opened : Opened P} → p ≡ opened.params → n ≡ opened.limit → record { params = p; limit = n } ≡ opened
 opened_is e f = λ i. record { params = e i; limit = f i }
@@ -265,7 +263,7 @@ module _ {O P C R : Type 0} (meaning : Ghosts O P C R) (opened : Opened P) where
         counted = refl;
         logs = λ x o log at_object at_log. is_only opened o x at_object (λ zero_is same_o. is_only history.log log x at_log (λ _ same_log. subst (λ l. LogIsSound meaning o l) same_log (subst (λ p. LogIsSound meaning p history.log) same_o sound)));
         taken = λ cpu x log at_log. is_only history.log log x at_log (λ zero_is same_log.
-          ap (λ n. done_on n (transcript_of cpu run)) zero_is ∙ (ap (λ l. done_on 0 l) (mine cpu) ∙ (taken_by cpu requests d.entries (counts requests history first second d) d.objects ∙ ap (λ l. steps_by cpu l) (sym d.log ∙ same_log))));
+            ap (λ n. done_on n (transcript_of cpu run)) zero_is ∙ (ap (λ l. done_on 0 l) (mine cpu) ∙ (taken_by cpu requests d.entries (counts requests history first second d) d.objects ∙ ap (λ l. steps_by cpu l) (sym d.log ∙ same_log))));
         entries = λ cpu. rw (mine cpu) (all_of (λ e. EntryIsSound meaning (opened ∷ []) run e) cpu requests d.entries (all_both entry d.entries d.objects d.answers));
         full = λ cpu. rw (mine cpu) (full_of cpu requests d.entries d.objects d.full);
       }

@@ -5,7 +5,7 @@ use Rattle.event_log.specs.Stream.{counted}
 use Rattle.event_log.proofs.Beginnings.{begins_more}
 use Rattle.mc2.specs.declared.buffered.Buffered.{Buffered}
 use Rattle.mc2.specs.Output.{TakesAll, TakesSome, Puts, AppendsBeginning}
-use Rattle.std.proofs.Common.{◌≡◌, ℕ, ◌+◌, ◌<◌, ◌≤◌, get_or, List, [], ◌∷◌, ◌++◌, Option, Some, None, length, take, drop, refl, sym, ◌∙◌, ap, subst, append_assoc, Result, Ok, Err, OnOk, OnErr, Bool, true, false}
+use Rattle.std.proofs.Common.{◌≡◌, ℕ, ◌+◌, ◌<◌, get_or, List, [], ◌∷◌, ◌++◌, Option, Some, None, length, take, drop, refl, sym, ◌∙◌, ap, subst, append_assoc, Result, Ok, Err, OnOk, OnErr, Bool, true, false}
 use Rattle.std.proofs.lemmas.List.{take-append-drop, append-nil, take_more}
 use Rattle.std.specs.Io.KnownBytes.{Appends}
 
@@ -26,10 +26,11 @@ pub written_more : (first old new : Option (List ℕ)) (text rest : List ℕ) (n
     → ((xs : List ℕ) → first ≡ Some xs → (ys : List ℕ) × (old ≡ Some (xs ++ ys)) × (ys ++ rest ≡ text)) → Appends old new (take n rest)
     → (xs : List ℕ) → first ≡ Some xs → (ys : List ℕ) × (new ≡ Some (xs ++ ys)) × (ys ++ drop n rest ≡ text)
 written_more first old new text rest n so_far more xs e =
-    let before = so_far xs e in
-    ( before.0 ++ take n rest,
+    let before = so_far xs e in (
+      before.0 ++ take n rest,
       known_more old new (take n rest) (xs ++ before.0) more before.1 ∙ ap Some (append_assoc xs before.0 (take n rest)),
-      append_assoc before.0 (take n rest) (drop n rest) ∙ ap (λ l. before.0 ++ l) (take-append-drop n rest) ∙ before.2 )
+      append_assoc before.0 (take n rest) (drop n rest) ∙ ap (λ l. before.0 ++ l) (take-append-drop n rest) ∙ before.2,
+    )
 
 module _ {E : Type 0} where
   -- a front before both
@@ -42,23 +43,25 @@ module _ {W : Type 0} (sink : Ghosts W) where
   takes_all_then a b c s t p q = record {
     failed = q.failed ∙ p.failed;
     bytes = λ xs e.
-      let first = p.bytes xs e in
-      let second = q.bytes (xs ++ first.0) first.1 in
-      ( first.0 ++ second.0,
-        second.1 ∙ ap Some (append_assoc xs first.0 second.0),
-        append_assoc first.0 second.0 c.waiting.items ∙ (ap (λ l. first.0 ++ l) second.2 ∙ (sym (append_assoc first.0 b.waiting.items t) ∙ (ap (λ l. l ++ t) first.2 ∙ append_assoc a.waiting.items s t))) );
+        let first = p.bytes xs e in
+        let second = q.bytes (xs ++ first.0) first.1 in (
+          first.0 ++ second.0,
+          second.1 ∙ ap Some (append_assoc xs first.0 second.0),
+          append_assoc first.0 second.0 c.waiting.items ∙ (ap (λ l. first.0 ++ l) second.2 ∙ (sym (append_assoc first.0 b.waiting.items t) ∙ (ap (λ l. l ++ t) first.2 ∙ append_assoc a.waiting.items s t))),
+        );
   }
 
   takes_some_then : (a b c : Buffered W) (s t : List ℕ) → TakesAll sink a b s → TakesSome sink b c t → TakesSome sink a c (s ++ t)
   takes_some_then a b c s t p q = record {
     failed = q.failed ∙ ap (λ n. counted true n) p.failed;
     bytes = λ xs e.
-      let first = p.bytes xs e in
-      let second = q.bytes (xs ++ first.0) first.1 in
-      let whole : first.0 ++ (b.waiting.items ++ t) ≡ a.waiting.items ++ (s ++ t) = sym (append_assoc first.0 b.waiting.items t) ∙ (ap (λ l. l ++ t) first.2 ∙ append_assoc a.waiting.items s t) in
-      ( first.0 ++ second.0,
-        second.1 ∙ ap Some (append_assoc xs first.0 second.0),
-        subst (λ (l : List ℕ). Begins (first.0 ++ second.0) l) whole (begins_behind first.0 second.0 (b.waiting.items ++ t) second.2) );
+        let first = p.bytes xs e in
+        let second = q.bytes (xs ++ first.0) first.1 in
+        let whole : first.0 ++ (b.waiting.items ++ t) ≡ a.waiting.items ++ (s ++ t) = sym (append_assoc first.0 b.waiting.items t) ∙ (ap (λ l. l ++ t) first.2 ∙ append_assoc a.waiting.items s t) in (
+          first.0 ++ second.0,
+          second.1 ∙ ap Some (append_assoc xs first.0 second.0),
+          subst (λ (l : List ℕ). Begins (first.0 ++ second.0) l) whole (begins_behind first.0 second.0 (b.waiting.items ++ t) second.2),
+        );
   }
 
   -- what the second call left where the first had failed
@@ -66,9 +69,11 @@ module _ {W : Type 0} (sink : Ghosts W) where
   some_then_silent a b c s t p same = record {
     failed = ap (λ n. sink.failed n) same ∙ p.failed;
     bytes = λ xs e.
-      let first = p.bytes xs e in
-      (first.0, ap (λ n. sink.contents n) same ∙ first.1,
-       subst (λ (l : List ℕ). Begins first.0 l) (append_assoc a.waiting.items s t) (begins_more first.0 (a.waiting.items ++ s) t first.2));
+        let first = p.bytes xs e in (
+          first.0,
+          ap (λ n. sink.contents n) same ∙ first.1,
+          subst (λ (l : List ℕ). Begins first.0 l) (append_assoc a.waiting.items s t) (begins_more first.0 (a.waiting.items ++ s) t first.2),
+        );
   }
 
   -- one text after another
@@ -77,17 +82,17 @@ module _ {W : Type 0} (sink : Ghosts W) where
       let middle : (m : Bool) → b.failed ≡ m → Puts sink a c (s ++ t)
       = λ m. elim m as (λ v. b.failed ≡ v → Puts sink a c (s ++ t)) [
         | false ↦ (λ e. record {
-            same_sink = q.same_sink ∙ p.same_sink;
-            ok = λ before after. takes_all_then a b c s t (p.ok before e) (q.ok e after);
-            err = λ before after. takes_some_then a b c s t (p.ok before e) (q.err e after);
-            silent = λ before. absurd (let f : false ≡ true = sym e ∙ (p.silent before).0 in cc);
-          })
+          same_sink = q.same_sink ∙ p.same_sink;
+          ok = λ before after. takes_all_then a b c s t (p.ok before e) (q.ok e after);
+          err = λ before after. takes_some_then a b c s t (p.ok before e) (q.err e after);
+          silent = λ before. absurd (let f : false ≡ true = sym e ∙ (p.silent before).0 in cc);
+        })
         | true ↦ (λ e. record {
-            same_sink = q.same_sink ∙ p.same_sink;
-            ok = λ before after. absurd (let f : true ≡ false = sym (q.silent e).0 ∙ after in cc);
-            err = λ before after. some_then_silent a b c s t (p.err before e) (q.silent e).1;
-            silent = λ before. ((q.silent e).0, (q.silent e).1 ∙ (p.silent before).1);
-          })
+          same_sink = q.same_sink ∙ p.same_sink;
+          ok = λ before after. absurd (let f : true ≡ false = sym (q.silent e).0 ∙ after in cc);
+          err = λ before after. some_then_silent a b c s t (p.err before e) (q.silent e).1;
+          silent = λ before. ((q.silent e).0, (q.silent e).1 ∙ (p.silent before).1);
+        })
       ] in
       middle b.failed refl
 
@@ -112,12 +117,13 @@ module _ {W : Type 0} (sink : Ghosts W) where
   finish_ok : (a b c : Buffered W) (text : List ℕ) → a.failed ≡ false → a.waiting.items ≡ [] → Puts sink a b text → Puts sink b c [] → c.failed ≡ false → c.waiting.items ≡ []
       → Appends (sink.contents a.sink.now) (sink.contents c.sink.now) text × (sink.failed c.sink.now ≡ sink.failed a.sink.now)
   finish_ok a b c text before empty p q after none_waits =
-      let all = (puts_then a b c text [] p q).ok before after in
-      ( appends_known (sink.contents a.sink.now) (sink.contents c.sink.now) text (λ xs e.
-          let sent = all.bytes xs e in
-          let whole : sent.0 ≡ text = sym (append-nil sent.0) ∙ (ap (λ l. sent.0 ++ l) (sym none_waits) ∙ (sent.2 ∙ (ap (λ l. l ++ (text ++ [])) empty ∙ append-nil text))) in
-          sent.1 ∙ ap (λ l. Some (xs ++ l)) whole),
-        all.failed )
+      let all = (puts_then a b c text [] p q).ok before after in (
+        appends_known (sink.contents a.sink.now) (sink.contents c.sink.now) text (λ xs e.
+            let sent = all.bytes xs e in
+            let whole : sent.0 ≡ text = sym (append-nil sent.0) ∙ (ap (λ l. sent.0 ++ l) (sym none_waits) ∙ (sent.2 ∙ (ap (λ l. l ++ (text ++ [])) empty ∙ append-nil text))) in
+            sent.1 ∙ ap (λ l. Some (xs ++ l)) whole),
+        all.failed,
+      )
 
   -- a text that was put into an empty buffer, until a write failed
   finish_err : (a b c : Buffered W) (text : List ℕ) → a.failed ≡ false → a.waiting.items ≡ [] → Puts sink a b text → Puts sink b c [] → c.failed ≡ true

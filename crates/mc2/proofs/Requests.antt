@@ -1,6 +1,5 @@
 -- A line of the scripts is read as what it spells, and nothing else is.
-use Rattle.std.proofs.Common.{◌≡◌, ℕ, zero, suc, ◌+◌, ◌<◌, ◌≤◌, ◌^◌, ◌==◌, Bool, true, false, Option, Some, None, List, [], ◌∷◌, ◌++◌, length, map, refl, sym, ◌∙◌, ap, subst, append_assoc, cond, arith, decimal, codes, position, get_or, All, eqb, ◌⊎◌, inl, inr}
-use Rattle.std.proofs.lemmas.List.{append-nil}
+use Rattle.std.proofs.Common.{◌≡◌, ℕ, zero, suc, ◌<◌, ◌≤◌, ◌^◌, ◌==◌, Bool, true, false, Option, Some, None, List, [], ◌∷◌, ◌++◌, length, map, refl, sym, ◌∙◌, ap, subst, cond, arith, decimal, codes, position, get_or, inl, inr}
 use Rattle.std.proofs.lemmas.List.Elements.{All-from_recursion}
 use Rattle.std.proofs.lemmas.List.Quantifiers.{position-Some}
 use Rattle.std.proofs.lemmas.List.Splits.{slice_split_none, slice_split_at, join_with_byte-slice_split}
@@ -10,7 +9,7 @@ use Rattle.std.proofs.lemmas.List.Sums.{position_or_len_is}
 use Rattle.std.proofs.lemmas.Fmt.{decimal_by_steps}
 use Rattle.std.proofs.lemmas.Slice.Eq.{bytes_eq-Decides}
 use Rattle.std.specs.Prelude.{nat_le, nat_lt, ◌&&◌, ◌||◌}
-use Rattle.std.specs.List.{AllByRecursion, slice_split, join_with_byte, list_all, flat_map, slice_get, position_or_len}
+use Rattle.std.specs.List.{AllByRecursion, join_with_byte, list_all, flat_map, slice_get, position_or_len}
 use Rattle.std.specs.Option.{option_map_or}
 use Rattle.std.specs.Str.{bytes_eq}
 use Rattle.mc2.specs.declared.request.Request.{Request}
@@ -159,14 +158,14 @@ module _ {P C R : Type 0} (spelling : Spelling P C R) (call_at : List (List ℕ)
         | true ↦ (λ none k. let is : [] ≡ more = cc in no_more (suc n) ws more none is)
         | false ↦ (λ some k. bind_some (next_call_at call_at ws) (λ next. more_at call_at n next.1 >>= λ others. Some (next.0 ∷ others)) more k (λ next found read.
             bind_some (more_at call_at n next.1) (λ others. Some (next.0 ∷ others)) more read (λ others rest is.
-              let whole : next.0 ∷ others ≡ more = cc in
-              let call = next_takes ws next.1 next.0 found in
-              let left = more_takes n next.1 others rest in
-              subst (λ (l : List C). AreMore (suc n) ws l) whole (record {
-                text = call.0 ∙ ap (λ l. codes ";" ∷ (spelling.call next.0 ++ l)) left.text;
-                few = let few = left.few in omega (arith, few);
-                fit = and_true (spelling.call_fits next.0) (list_all spelling.call_fits others) call.1 left.fit;
-              }))))
+            let whole : next.0 ∷ others ≡ more = cc in
+            let call = next_takes ws next.1 next.0 found in
+            let left = more_takes n next.1 others rest in
+            subst (λ (l : List C). AreMore (suc n) ws l) whole (record {
+              text = call.0 ∙ ap (λ l. codes ";" ∷ (spelling.call next.0 ++ l)) left.text;
+              few = let few = left.few in omega (arith, few);
+              fit = and_true (spelling.call_fits next.0) (list_all spelling.call_fits others) call.1 left.fit;
+            }))))
       ] in
       go (is_nil ws) refl e
 
@@ -190,15 +189,15 @@ module _ {P C R : Type 0} (spelling : Spelling P C R) (call_at : List (List ℕ)
   unfolding calls_at
   calls_take ws calls e = bind_some (call_at ws) (λ first. more_at call_at 7 first.1 >>= λ more. Some (first.0 ∷ more)) calls e (λ first found read.
       bind_some (more_at call_at 7 first.1) (λ more. Some (first.0 ∷ more)) calls read (λ more rest is.
-        let whole : first.0 ∷ more ≡ calls = cc in
-        let call = reads.takes ws first.1 first.0 found in
-        let left = more_takes 7 first.1 more rest in
-        subst (λ (l : List C). AreCalls ws l) whole (record {
-          text = call.0 ∙ ap (λ l. spelling.call first.0 ++ l) left.text;
-          some = omega arith;
-          few = let few = left.few in omega (arith, few);
-          fit = and_true (spelling.call_fits first.0) (list_all spelling.call_fits more) call.1 left.fit;
-        })))
+      let whole : first.0 ∷ more ≡ calls = cc in
+      let call = reads.takes ws first.1 first.0 found in
+      let left = more_takes 7 first.1 more rest in
+      subst (λ (l : List C). AreCalls ws l) whole (record {
+        text = call.0 ∙ ap (λ l. spelling.call first.0 ++ l) left.text;
+        some = omega arith;
+        few = let few = left.few in omega (arith, few);
+        fit = and_true (spelling.call_fits first.0) (list_all spelling.call_fits more) call.1 left.fit;
+      })))
 
   pub calls_again : (calls : List C) → 0 < length calls → length calls ≤ 8 → list_all spelling.call_fits calls ≡ true → calls_at call_at (separated (map spelling.call calls)) ≡ Some calls
   unfolding calls_at
@@ -225,9 +224,9 @@ module _ {P C R : Type 0} (spelling : Spelling P C R) (call_at : List (List ℕ)
 -- the object at a place, and its name
 object_there : {P : Type 0} (settings : Settings P) (i : ℕ) → i < length settings.objects → (o : ObjectSettings P) × (slice_get settings.objects i ≡ Some o) × (name_at settings i ≡ o.name)
 object_there settings i less = elim (slice_get_cases settings.objects i).1 [
-    | inl h ↦ (h.0, h.2, ap (λ o. option_map_or (λ v. v.name) o []) h.2)
-    | inr h ↦ absurd (let past = h.0 in omega (arith, past, less))
-  ]
+  | inl h ↦ (h.0, h.2, ap (λ o. option_map_or (λ v. v.name) o []) h.2)
+  | inr h ↦ absurd (let past = h.0 in omega (arith, past, less))
+]
 
 named_by : {X : Type 0} (test : X → Bool) (xs : List X) (i : ℕ) → position test xs ≡ Some i → (x : X) × (slice_get xs i ≡ Some x) × (test x ≡ true) × (i < length xs)
 named_by test [] i e = absurd cc
@@ -243,8 +242,8 @@ first_at : {X : Type 0} (test : X → Bool) (xs : List X) (i : ℕ) → i < leng
 first_at test [] i less before here = absurd (omega (arith, less))
 first_at test (x ∷ xs) i less before here =
     let at : position_or_len test (x ∷ xs) ≡ i = position_or_len_is test (x ∷ xs) i x (omega (arith, less))
-      (λ k lower. before k (get_or (x ∷ xs) k x) lower (slice_get-get_or (x ∷ xs) k x (omega (arith, lower, less))))
-      (λ inside. here (get_or (x ∷ xs) i x) (slice_get-get_or (x ∷ xs) i x less)) in
+    (λ k lower. before k (get_or (x ∷ xs) k x) lower (slice_get-get_or (x ∷ xs) k x (omega (arith, lower, less))))
+    (λ inside. here (get_or (x ∷ xs) i x) (slice_get-get_or (x ∷ xs) i x less)) in
     ap (λ n. cond (nat_lt n (length (x ∷ xs))) (Some n) None) at ∙ ap (λ b. cond b (Some i) None) (lt-ltb i (length (x ∷ xs)) less)
 
 pub object_takes : {P : Type 0} (settings : Settings P) (i : ℕ) (ws rest : List (List ℕ)) → object_at settings ws ≡ Some (i, rest) → (ws ≡ name_at settings i ∷ rest) × (i < length settings.objects)
@@ -263,10 +262,10 @@ unfolding object_at word_at
 object_again settings i rest names less =
     let named : (k : ℕ) (o : _) → slice_get settings.objects k ≡ Some o → name_at settings k ≡ o.name = λ k o at. ap (λ v. option_map_or (λ u. u.name) v []) at in
     let found = first_at (λ o. bytes_eq o.name (name_at settings i)) settings.objects i less
-      (λ k o lower at. false_unless (bytes_eq o.name (name_at settings i)) (λ e.
-        let one : k ≡ i = names k i (omega (arith, lower, less)) less (named k o at ∙ same o.name (name_at settings i) e) in
-        omega (arith, one, lower)))
-      (λ o at. rw (← named i o at) (itself (name_at settings i))) in
+    (λ k o lower at. false_unless (bytes_eq o.name (name_at settings i)) (λ e.
+    let one : k ≡ i = names k i (omega (arith, lower, less)) less (named k o at ∙ same o.name (name_at settings i) e) in
+    omega (arith, one, lower)))
+    (λ o at. rw (← named i o at) (itself (name_at settings i))) in
     ap (λ o. o >>= λ j. Some (j, rest)) found
 
 -- ---- lines
@@ -291,22 +290,22 @@ module _ {O P C R : Type 0} (spelling : Spelling P C R) (call_at : List (List �
   request_takes line r e =
       let last : ℕ → ℕ → List C → Option (Request O P C R) = λ cpu object calls. cond (nat_lt cpu settings.cpus) (Some (record { cpu = cpu; todo = record { object = object; calls = record { items = calls } } })) None in
       bind_some (number_at 255 (words line)) (λ cpu. object_at settings cpu.1 >>= λ object. calls_at call_at object.1 >>= λ calls. last cpu.0 object.0 calls) r e (λ cpu found_cpu read_cpu.
-        bind_some (object_at settings cpu.1) (λ object. calls_at call_at object.1 >>= λ calls. last cpu.0 object.0 calls) r read_cpu (λ object found_object read_object.
-          bind_some (calls_at call_at object.1) (λ calls. last cpu.0 object.0 calls) r read_object (λ calls found_calls read_calls.
-            let whole = cond_some (nat_lt cpu.0 settings.cpus) (record { cpu = cpu.0; todo = record { object = object.0; calls = record { items = calls } } }) r read_calls in
-            let number = number_at_takes 255 cpu.0 (words line) cpu.1 found_cpu in
-            let named = object_takes settings object.0 cpu.1 object.1 found_object in
-            let asked = calls_take spelling call_at reads object.1 calls found_calls in
-            let text : words line ≡ decimal cpu.0 ∷ name_at settings object.0 ∷ separated (map spelling.call calls) = number.0 ∙ ap (λ l. decimal cpu.0 ∷ l) (named.0 ∙ ap (λ l. name_at settings object.0 ∷ l) asked.text) in
-            let bound : cpu.0 < settings.cpus = ltb-true cpu.0 settings.cpus whole.0 in
-            subst (λ (q : Request O P C R). IsRequest spelling settings line q) whole.1 (record {
-              text = sym (sentence_words line) ∙ ap sentence text;
-              cpu = bound;
-              object = named.1;
-              some = asked.some;
-              few = asked.few;
-              calls = asked.fit;
-            }))))
+      bind_some (object_at settings cpu.1) (λ object. calls_at call_at object.1 >>= λ calls. last cpu.0 object.0 calls) r read_cpu (λ object found_object read_object.
+      bind_some (calls_at call_at object.1) (λ calls. last cpu.0 object.0 calls) r read_object (λ calls found_calls read_calls.
+      let whole = cond_some (nat_lt cpu.0 settings.cpus) (record { cpu = cpu.0; todo = record { object = object.0; calls = record { items = calls } } }) r read_calls in
+      let number = number_at_takes 255 cpu.0 (words line) cpu.1 found_cpu in
+      let named = object_takes settings object.0 cpu.1 object.1 found_object in
+      let asked = calls_take spelling call_at reads object.1 calls found_calls in
+      let text : words line ≡ decimal cpu.0 ∷ name_at settings object.0 ∷ separated (map spelling.call calls) = number.0 ∙ ap (λ l. decimal cpu.0 ∷ l) (named.0 ∙ ap (λ l. name_at settings object.0 ∷ l) asked.text) in
+      let bound : cpu.0 < settings.cpus = ltb-true cpu.0 settings.cpus whole.0 in
+      subst (λ (q : Request O P C R). IsRequest spelling settings line q) whole.1 (record {
+        text = sym (sentence_words line) ∙ ap sentence text;
+        cpu = bound;
+        object = named.1;
+        some = asked.some;
+        few = asked.few;
+        calls = asked.fit;
+      }))))
 
   -- what a line asks for is read
   pub request_again : (line : List ℕ) (r : Request O P C R) → IsRequest spelling settings line r → request_at call_at settings (words line) ≡ Some r

@@ -1,7 +1,6 @@
 -- Scripts, line by line.
-use Rattle.std.proofs.Common.{◌≡◌, ℕ, ◌+◌, ◌<◌, ◌≤◌, ◌==◌, Bool, true, false, List, [], ◌∷◌, ◌++◌, length, refl, sym, ◌∙◌, ap, subst, append_assoc, arith, length-append, cond, ◌⊎◌, inl, inr}
-use Rattle.std.specs.Prelude.{count_by}
-use Rattle.std.specs.List.{AllByRecursion, flat_map}
+use Rattle.std.proofs.Common.{◌≡◌, ℕ, ◌+◌, ◌<◌, ◌≤◌, ◌==◌, Bool, true, false, List, [], ◌∷◌, ◌++◌, length, refl, sym, ◌∙◌, ap, subst, append_assoc, arith, length-append, cond, inl, inr}
+use Rattle.std.specs.List.{AllByRecursion}
 use Rattle.std.proofs.lemmas.Grind.{flat_map-append}
 use Rattle.std.proofs.lemmas.List.{append-nil}
 use Rattle.std.proofs.lemmas.Bool.{eqb-true}
@@ -62,18 +61,18 @@ module _ {O P C R : Type 0} (spelling : Spelling P C R) (settings : Settings P) 
   line_taken text rest after line old new n so_far no_end is takes =
       let taken : (requests : List (Request O P C R)) → AskFor spelling settings (so_far.good.lines ++ line ∷ []) requests → ((cpu : ℕ) → count_of cpu requests ≤ 10000) → SoFar text after requests (n + 1)
       = λ requests asked within. record {
-          before = so_far.before ++ (line ++ 10 ∷ []);
-          good = record {
-            lines = so_far.good.lines ++ line ∷ [];
-            text = ap (λ t. t ++ (line ++ 10 ∷ [])) so_far.good.text ∙ sym (text_more so_far.good.lines line);
-            each = no_ends so_far.good.lines line so_far.good.each no_end;
-            asked = asked;
-            within = within;
-          };
-          parts = so_far.parts ∙ (ap (λ r. so_far.before ++ r) (is ∙ sym (append_assoc line (10 ∷ []) after)) ∙ sym (append_assoc so_far.before (line ++ 10 ∷ []) after));
-          number = omega (arith, so_far.number, length-append so_far.good.lines (line ∷ []));
-          few = omega (arith, so_far.few, ap length is, length-append line (10 ∷ after));
-        } in
+        before = so_far.before ++ (line ++ 10 ∷ []);
+        good = record {
+          lines = so_far.good.lines ++ line ∷ [];
+          text = ap (λ t. t ++ (line ++ 10 ∷ [])) so_far.good.text ∙ sym (text_more so_far.good.lines line);
+          each = no_ends so_far.good.lines line so_far.good.each no_end;
+          asked = asked;
+          within = within;
+        };
+        parts = so_far.parts ∙ (ap (λ r. so_far.before ++ r) (is ∙ sym (append_assoc line (10 ∷ []) after)) ∙ sym (append_assoc so_far.before (line ++ 10 ∷ []) after));
+        number = omega (arith, so_far.number, length-append so_far.good.lines (line ∷ []));
+        few = omega (arith, so_far.few, ap length is, length-append line (10 ∷ after));
+      } in
       elim takes [
         | inl blank ↦ taken new (rw blank.1 (ask_blank so_far.good.lines old line so_far.good.asked blank.0)) (rw blank.1 so_far.good.within)
         | inr more ↦ taken new (rw more.3 (ask_more so_far.good.lines old line more.0 so_far.good.asked more.1)) (rw more.3 (within_more old more.0 so_far.good.within more.2))

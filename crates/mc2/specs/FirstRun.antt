@@ -14,7 +14,7 @@ use Rattle.mc2.specs.declared.request.Request.{Request}
 use Rattle.mc2.specs.Output.{AppendsBeginning}
 use Rattle.mc2.specs.RecordText.{record_text}
 use Rattle.mc2.specs.ScriptText.{AreScripts}
-use Rattle.mc2.specs.Settings.{Settings, ObjectSettings}
+use Rattle.mc2.specs.Settings.{Settings}
 use Rattle.mc2.specs.Sound.{Opened, Sound, Answers, transcript_of}
 use Rattle.mc2.specs.Spelling.{Spelling}
 

@@ -1,5 +1,5 @@
 -- What writing a text does to a sink.
-use Rattle.std.specs.Prelude.{◌≡◌, ℕ, Bool, true, false, List, ◌++◌, Option, Some}
+use Rattle.std.specs.Prelude.{◌≡◌, ℕ, true, false, List, ◌++◌, Option, Some}
 use Rattle.event_log.specs.declared.stream.Sink.{Ghosts}
 use Rattle.event_log.specs.Log.{Begins}
 use Rattle.event_log.specs.Stream.{counted}

@@ -50,10 +50,10 @@ unfoldable pub queue_call_at : List (List ℕ) → Option (QueueCall × List (Li
 queue_call_at ws = do
   w ← word_at ws
   if bytes_eq w.0 (codes "enq") then (number_at 4294967295 w.1 >>= λ t. Some (Enq t.0, t.1))
-    else if bytes_eq w.0 (codes "deq") then Some (Deq, w.1)
-    else if bytes_eq w.0 (codes "remove") then (number_at 4294967295 w.1 >>= λ t. Some (Remove t.0, t.1))
-    else if bytes_eq w.0 (codes "len") then Some (Len, w.1)
-    else None
+      else if bytes_eq w.0 (codes "deq") then Some (Deq, w.1)
+      else if bytes_eq w.0 (codes "remove") then (number_at 4294967295 w.1 >>= λ t. Some (Remove t.0, t.1))
+      else if bytes_eq w.0 (codes "len") then Some (Len, w.1)
+      else None
 
 module _ {C : Type 0} (call_at : List (List ℕ) → Option (C × List (List ℕ))) where
   -- a call behind a semicolon

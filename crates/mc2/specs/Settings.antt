@@ -1,5 +1,5 @@
 -- The settings of a run: how many CPUs, and which objects behind which locks.
-use Rattle.std.specs.Prelude.{ℕ, ◌≡◌, ◌≤◌, ◌<◌, ◌&&◌, ◌||◌, nat_le, Bool, true, false, List, [], ◌∷◌, Some, None, Option, length, All}
+use Rattle.std.specs.Prelude.{ℕ, ◌≡◌, ◌≤◌, ◌<◌, ◌&&◌, ◌||◌, nat_le, Bool, true, false, List, [], ◌∷◌, length, All}
 use Rattle.std.specs.List.{slice_get, list_all}
 use Rattle.std.specs.Option.{option_map_or}
 use Rattle.mc2.specs.declared.settings.LockKind.{LockKind}

@@ -1,5 +1,5 @@
 -- Sound runs: what a run of whole calls on shared objects must be.
-use Rattle.std.specs.Prelude.{◌≡◌, ℕ, ◌<◌, ◌≤◌, ◌==◌, if◌then◌else◌, List, [], ◌∷◌, Option, Some, length, map, unwrap_or}
+use Rattle.std.specs.Prelude.{◌≡◌, ℕ, ◌≤◌, ◌==◌, if◌then◌else◌, List, [], ◌∷◌, Some, length, map, unwrap_or}
 use Rattle.std.specs.List.{slice_get, AllByRecursion}
 use Rattle.arrayvec.specs.ArrayVec.{ArrayVec}
 use Rattle.event_log.specs.declared.object.SeqObject.{Ghosts}

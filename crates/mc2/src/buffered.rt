@@ -3,8 +3,7 @@
 ghost use Rattle.std.specs.Prelude.{◌≡◌, false, true, [], ◌∷◌, OnOk, OnErr};
 ghost use Rattle.mc2.specs.Output.{Puts};
 
-use crate::write_text;
-use crate::WriteFailed;
+use crate::{WriteFailed, write_text};
 use arrayvec::ArrayVec;
 use event_log::Sink;
 
@@ -72,6 +71,10 @@ impl<'a, W: Sink> Buffered<'a, W> {
         ensures err { OnErr result (self.new.failed ≡ true) }
     {
         self.flush();
-        if self.failed { Err(WriteFailed) } else { Ok(()) }
+        if self.failed {
+            Err(WriteFailed)
+        } else {
+            Ok(())
+        }
     }
 }

@@ -72,7 +72,10 @@ fn place_of(settings: &Settings, name: &[u8]) -> Option<usize>
     ensures place { result ≡ position (λ o. bytes_eq o.name name.now) settings.now.objects }
     ensures bound { IfSome result (λ i. i < 16) }
 {
-    settings.objects().iter().position(|object| object.name() == name)
+    settings
+        .objects()
+        .iter()
+        .position(|object| object.name() == name)
 }
 
 /// The object that is next, by its place.

@@ -58,7 +58,11 @@ pub fn first_run<W: Sink>(alloc: Global, scripts: &[u8], out: &mut W) -> Result<
 }
 
 /// Does an entry as one event.
-fn do_entry(logged: &mut Logged<ThreadQueue>, cpu: u8, todo: Todo<ThreadQueue>) -> Entry<ThreadQueue>
+fn do_entry(
+    logged: &mut Logged<ThreadQueue>,
+    cpu: u8,
+    todo: Todo<ThreadQueue>,
+) -> Entry<ThreadQueue>
     requires some { 0 < length todo.calls.items }
     requires few { length todo.calls.items ≤ 8 }
     requires kept { IsKept ⟦<ThreadQueue as SeqObject>⟧ logged.old }

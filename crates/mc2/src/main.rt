@@ -12,26 +12,27 @@ mod request;
 mod scripts;
 mod settings;
 mod split_once;
+#[cfg(test)]
+mod tests;
 mod words;
 mod write_text;
 mod writer;
 
+use crate::arguments::read_words;
+use crate::fault::Fault;
+use crate::input::read_all;
 pub use buffered::Buffered;
+use event_log::Plain;
 pub use first_run::{FirstFault, first_run};
 pub use record::Record;
 pub use request::Request;
 pub use settings::{LockKind, ObjectSettings, Settings};
-pub use write_text::{WriteFailed, write_text};
-pub use writer::write_record;
-
-use crate::arguments::read_words;
-use crate::fault::Fault;
-use crate::input::read_all;
-use event_log::Plain;
 use std::fs::File;
 use std::process::ExitCode;
 use std::rt::{Env, Files};
 use std::{env, io};
+pub use write_text::{WriteFailed, write_text};
+pub use writer::write_record;
 
 /// Does what the program's words ask for.
 fn run<R: Env + Files + Input + Print + AllocGlobal>(rt: &R) -> Result<(), Fault> {
@@ -52,7 +53,11 @@ fn run<R: Env + Files + Input + Print + AllocGlobal>(rt: &R) -> Result<(), Fault
         },
         None => read_all(rt.alloc(), &mut Plain::new(rt.reader()))?,
     };
-    first_run(rt.alloc(), scripts.as_slice(), &mut Plain::new(io::writer(rt)))?;
+    first_run(
+        rt.alloc(),
+        scripts.as_slice(),
+        &mut Plain::new(io::writer(rt)),
+    )?;
     Ok(())
 }
 

@@ -1,7 +1,7 @@
-use Rattle.std.proofs.Common.{◌≡◌, ℕ, suc, ◌-◌, ◌+◌, ◌<◌, Option, Some, None, not, true, false, List, [], ◌∷◌, ◌++◌, sym, ◌∙◌, ap, arith, length, length-append}
+use Rattle.std.proofs.Common.{◌≡◌, ℕ, suc, ◌-◌, ◌+◌, Option, Some, None, not, true, false, List, [], ◌∷◌, ◌++◌, sym, ◌∙◌, ap, arith, length, length-append}
 use Rattle.std.specs.Option.{option_map}
 use Rattle.shared_queue.specs.declared.call.QueueCall.{QueueCall}
-use Rattle.mc2.specs.Reading.{◌>>=◌, left, queue_call_at, next_call_at, more_at, calls_at}
+use Rattle.mc2.specs.Reading.{◌>>=◌, left, queue_call_at, next_call_at, more_at}
 use Rattle.mc2.proofs.Readings.{none_left, some_left, calls_first, calls_none, more_step, more_none, more_end, more_left}
 use Rattle.mc2.proofs.entries.calls.Goals as goal
 use Rattle.mc2.proofs.entries.calls.Goals.{else-loop-count-test, then-loop-count-test+then-is_none}
@@ -58,8 +58,8 @@ returns-else-is_none-2 c =
     let some = some_left c.loop-count.left there in
     elim c.loop-count-test.branch [
       | else-loop-count-test w ↦ (
-        let last : 8 - c.loop-count.count ≡ 0 = omega (arith, w.loop-count-test) in
-        let reads = rw last at c.loop-count.invariant.reads in
-        sym (reads ∙ more_left queue_call_at (left c.loop-count.left) c.loop-count.calls.items some))
+          let last : 8 - c.loop-count.count ≡ 0 = omega (arith, w.loop-count-test) in
+          let reads = rw last at c.loop-count.invariant.reads in
+          sym (reads ∙ more_left queue_call_at (left c.loop-count.left) c.loop-count.calls.items some))
       | then-loop-count-test+then-is_none w ↦ absurd (apart (sym there ∙ (w.is_none.ensures ∙ ap not w.if-is_none.true)))
     ]

@@ -1,5 +1,4 @@
 use Rattle.std.proofs.Common.{◌≡◌, Option, Some, None, IfSome, sym, ◌∙◌, refl}
-use Rattle.mc2.specs.QueueTypes.{QueueRequest}
 use Rattle.mc2.specs.QueueWords.{queue_spelling}
 use Rattle.mc2.specs.Reading.{queue_call_at}
 use Rattle.mc2.proofs.QueueReads.{reads_queue_calls}

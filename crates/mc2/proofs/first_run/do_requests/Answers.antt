@@ -1,6 +1,5 @@
-use Rattle.std.proofs.Common.{◌≡◌, List, ◌∷◌, [], ◌++◌, cond, Result, Ok, Err, IfOk, ap, sym, ◌∙◌, append_assoc, subst, refl}
+use Rattle.std.proofs.Common.{◌≡◌, List, ◌∷◌, [], Result, Ok, Err, IfOk, ap, sym, ◌∙◌, append_assoc, subst}
 use Rattle.std.proofs.lemmas.List.{append-nil, nil_from_length}
-use Rattle.std.specs.List.{AllByRecursion}
 use Rattle.std.specs.Vec.Iter.{into_iter_items}
 use Rattle.shared_queue.specs.contracts.queue.ThreadQueueSeqObject.TheImpl.{ghosts as queue_meaning}
 use Rattle.mc2.specs.FirstRun.{DoesInOrder}
@@ -36,10 +35,10 @@ returns-clause-in_order c =
     let doing = rw all at c.loop-request.invariant.doing in
     let ordered = in_order queue_meaning _ c.args.requests.items c.loop-request.logged c.loop-request.first.items c.loop-request.second.items doing in
     ok_weaker (λ run. run ≡ record { logs = c.into_log.result.items ∷ []; transcripts = c.loop-request.first.items ∷ c.loop-request.second.items ∷ [] }) _ c.make_run.result
-      (λ run is. subst (λ (r : QueueRun). DoesInOrder c.args.requests.items r) (sym (made run _ c.loop-request.logged _ _ is c.into_log.ensures)) ordered) c.make_run.ensures
+    (λ run is. subst (λ (r : QueueRun). DoesInOrder c.args.requests.items r) (sym (made run _ c.loop-request.logged _ _ is c.into_log.ensures)) ordered) c.make_run.ensures
 
 pub returns-clause-sound : goal.returns-clause-sound
 returns-clause-sound c =
     let sound = is_sound queue_meaning _ c.loop-request.yielded c.loop-request.logged c.loop-request.first.items c.loop-request.second.items c.loop-request.invariant.doing in
     ok_weaker (λ run. run ≡ record { logs = c.into_log.result.items ∷ []; transcripts = c.loop-request.first.items ∷ c.loop-request.second.items ∷ [] }) _ c.make_run.result
-      (λ run is. subst (λ (r : QueueRun). Sound queue_meaning (record { params = 8; limit = 100 } ∷ []) r) (sym (made run _ c.loop-request.logged _ _ is c.into_log.ensures)) sound) c.make_run.ensures
+    (λ run is. subst (λ (r : QueueRun). Sound queue_meaning (record { params = 8; limit = 100 } ∷ []) r) (sym (made run _ c.loop-request.logged _ _ is c.into_log.ensures)) sound) c.make_run.ensures

@@ -1,8 +1,7 @@
-use Rattle.std.proofs.Common.{◌≡◌, ◌<◌, ℕ, length, false, sym, arith, ◌∙◌, ap, Err}
+use Rattle.std.proofs.Common.{◌<◌, length, arith, ◌∙◌, ap, Err}
 use Rattle.std.proofs.lemmas.Grind.{common_steps}
-use Rattle.mc2.specs.QueueTypes.{QueueRequest}
 use Rattle.mc2.specs.QueueWords.{queue_spelling}
-use Rattle.mc2.proofs.ScriptLines.{SoFar, starts, line_taken, bad_line, bad_end}
+use Rattle.mc2.proofs.ScriptLines.{starts, line_taken, bad_line, bad_end}
 use Rattle.mc2.proofs.scripts.read_scripts.Goals as goal
 
 pub loop-rest-init : goal.loop-rest-init
@@ -16,9 +15,9 @@ returns-in_default-clause-fault c =
 pub returns-in-Err-Refused-clause-fault : goal.returns-in-Err-Refused-clause-fault
 returns-in-Err-Refused-clause-fault c =
     bad_line queue_spelling c.args.settings.now c.args.text.now c.loop-rest.rest.now c.in-Some.after.now c.in-Some.line.now c.loop-rest.requests.items c.loop-rest.number c.loop-rest.invariant
-      c.in-Some.ensures.found.0 c.in-Some.ensures.found.1 (c.take_line.ensures.refused (c.in-Err-Refused.is ∙ ap Err c.in-Err-Refused.field-0-is))
+    c.in-Some.ensures.found.0 c.in-Some.ensures.found.1 (c.take_line.ensures.refused (c.in-Err-Refused.is ∙ ap Err c.in-Err-Refused.field-0-is))
 
 pub loop-rest-preserved : goal.loop-rest-preserved
 loop-rest-preserved c =
     line_taken queue_spelling c.args.settings.now c.args.text.now c.loop-rest.rest.now c.in-Some.after.now c.in-Some.line.now c.loop-rest.requests.items c.take_line.new.requests.items c.loop-rest.number c.loop-rest.invariant
-      c.in-Some.ensures.found.0 c.in-Some.ensures.found.1 c.in-Ok.ensures.ok
+    c.in-Some.ensures.found.0 c.in-Some.ensures.found.1 c.in-Ok.ensures.ok

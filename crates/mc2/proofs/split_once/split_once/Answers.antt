@@ -1,4 +1,4 @@
-use Rattle.std.proofs.Common.{◌≡◌, Option, Some, None, IfNone, sym, ◌∙◌}
+use Rattle.std.proofs.Common.{Option, Some, None, IfNone, sym, ◌∙◌}
 use Rattle.mc2.proofs.Cuts.{cut_found, cut_none}
 use Rattle.mc2.proofs.split_once.split_once.Goals as goal
 

@@ -1,4 +1,4 @@
-use Rattle.std.proofs.Common.{◌≡◌, ◌<◌, ◌≤◌, ◌^◌, ℕ, List, decimal, IsUtf8, arith, sym, ap, ◌∙◌}
+use Rattle.std.proofs.Common.{◌≡◌, ◌<◌, ◌^◌, ℕ, List, decimal, IsUtf8, arith, sym, ap, ◌∙◌}
 use Rattle.std.proofs.lemmas.Fmt.{parse-decimal, IsAscii-decimal}
 use Rattle.std.proofs.lemmas.Slice.Eq.{bytes_eq-Decides}
 use Rattle.std.proofs.lemmas.Str.{IsUtf8-from_ascii}
@@ -32,7 +32,7 @@ returns-else-number-high-clause-value c = no_number c.args.high c.args.word.now 
     let equal : c.in-Ok-parse.number ≡ n = cc in
     elim c.else-number-high.branch [
       | else-number-high-via-then-number-high+else-eq w ↦ (
-        let same : w.as_bytes.result.now ≡ c.args.word.now = w.as_bytes.ensures.value ∙ w.format.ensures.text ∙ ap decimal equal ∙ sym e in
-        let equal_bytes = (bytes_eq-Decides w.as_bytes.result.now c.args.word.now).1 same in absurd (cc (w.if-eq.ensures, equal_bytes)))
+          let same : w.as_bytes.result.now ≡ c.args.word.now = w.as_bytes.ensures.value ∙ w.format.ensures.text ∙ ap decimal equal ∙ sym e in
+          let equal_bytes = (bytes_eq-Decides w.as_bytes.result.now c.args.word.now).1 same in absurd (cc (w.if-eq.ensures, equal_bytes)))
       | else-number-high-via-else-number-high w ↦ omega (arith, w.if-number-high.false, equal, high)
     ])

@@ -1,4 +1,4 @@
-use Rattle.std.proofs.Common.{◌≡◌, ◌∙◌, sym, ap}
+use Rattle.std.proofs.Common.{◌∙◌, sym, ap}
 use Rattle.mc2.specs.Reading.{word_at, left}
 use Rattle.mc2.proofs.Cuts.{words_cut, words_whole}
 use Rattle.mc2.proofs.words.word.Goals as goal

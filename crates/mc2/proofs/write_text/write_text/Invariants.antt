@@ -1,4 +1,4 @@
-use Rattle.std.proofs.Common.{◌≡◌, ◌++◌, ℕ, List, length, Option, Some}
+use Rattle.std.proofs.Common.{◌≡◌, ◌++◌, ℕ, List, length, Some}
 use Rattle.mc2.proofs.write_text.write_text.Given as goal
 
 abbrev pub invariant-loop-rest : goal.invariant-loop-rest

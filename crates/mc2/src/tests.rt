@@ -1,0 +1,168 @@
+//! The worked runs, refused scripts, and sinks that fail.
+
+use crate::{FirstFault, first_run};
+use event_log::{Plain, Sink, StreamFailed};
+use std::alloc::Global;
+use std::test::Fail;
+
+/// What is printed before the log where the built-in queue has been opened.
+const HEAD: &str = "record 1\ncpus 2\nobjects 1\nobject q0 ticket 100 queue 8\n";
+
+/// The text of the run that the scripts ask for.
+fn printed(alloc: Global, scripts: &str) -> Result<Vec<u8>, FirstFault> {
+    let mut out = Plain::new(Vec::new(alloc));
+    first_run(alloc, scripts.as_bytes(), &mut out)?;
+    Ok(out.inner)
+}
+
+#[test]
+fn worked_runs(rt: HostRuntime) -> Result<(), Fail> {
+    let rows = [
+        (
+            "0 q0 enq 3\n0 q0 deq\n",
+            "log q0 2\n0 enq 3 = ok\n0 deq = thread 3\ncpu 0 2\nq0 1 enq 3 | enq 3 = ok\nq0 1 deq | deq = thread 3\ncpu 1 0\nend\n",
+        ),
+        (
+            "0 q0 enq 3\n0 q0 enq 3\n",
+            "log q0 2\n0 enq 3 = ok\n0 enq 3 = already\ncpu 0 2\nq0 1 enq 3 | enq 3 = ok\nq0 1 enq 3 | enq 3 = already\ncpu 1 0\nend\n",
+        ),
+        (
+            "0 q0 enq 3 ; enq 3 ; deq\n",
+            "log q0 1\n0 enq 3 = ok ; enq 3 = already\ncpu 0 1\nq0 1 enq 3 ; enq 3 ; deq | enq 3 = ok ; enq 3 = already\ncpu 1 0\nend\n",
+        ),
+        ("", "log q0 0\ncpu 0 0\ncpu 1 0\nend\n"),
+        (
+            "# both CPUs\n\n1 q0 enq 1\n0 q0 remove 2 ; len\n1 q0 len ; remove 1 ; remove 9\n",
+            "log q0 3\n1 enq 1 = ok\n0 remove 2 = absent\n1 len = count 1 ; remove 1 = ok ; remove 9 = badthread\ncpu 0 1\nq0 1 remove 2 ; len | remove 2 = absent\ncpu 1 2\nq0 1 enq 1 | enq 1 = ok\nq0 1 len ; remove 1 ; remove 9 | len = count 1 ; remove 1 = ok ; remove 9 = badthread\nend\n",
+        ),
+    ];
+    for (scripts, rest) in rows {
+        let text = printed(rt.alloc(), scripts)?;
+        let wanted = format!(in rt.alloc(); "{HEAD}{rest}")?;
+        assert!(rt; text.as_slice() == wanted.as_bytes(), "{scripts:?}");
+    }
+    Ok(())
+}
+
+#[test]
+fn refused_scripts(rt: HostRuntime) {
+    let rows = [
+        ("0 q0 enq 3\n0 q0 deq", 2),
+        ("0 q0\tdeq\n", 1),
+        ("0 q0 enq 03\n", 1),
+        ("# two\n\n2 q0 deq\n", 3),
+        ("0 q0 len ; len ; len ; len ; len ; len ; len ; len ; len\n", 1),
+        ("0 q0 deq\n0 q1 deq\n", 2),
+        ("0 q0 enq 4294967296\n", 1),
+        ("0 q0 alloc 1\n", 1),
+        ("0 q0 deq \n", 1),
+        ("0 q0 deq ;\n", 1),
+        (" 0 q0 deq\n", 1),
+        ("0 q0\n", 1),
+        ("0 q0 enq +3\n", 1),
+        ("0 q0 deq\r\n", 1),
+    ];
+    for (scripts, line) in rows {
+        let fault = match printed(rt.alloc(), scripts) {
+            Err(FirstFault::BadScripts(number)) => number,
+            _ => 0,
+        };
+        assert_eq!(rt; fault, line, "{scripts:?}");
+    }
+}
+
+/// Lines of one entry each.
+fn lines(alloc: Global, count: usize) -> Result<String, Fail> {
+    let mut scripts = String::new(alloc);
+    for _ in 0..count {
+        scripts.push_str("0 q0 len\n")?;
+    }
+    Ok(scripts)
+}
+
+#[test]
+fn entries_of_one_cpu(rt: HostRuntime) -> Result<(), Fail> {
+    let most = lines(rt.alloc(), 10_000)?;
+    assert!(rt; printed(rt.alloc(), most.as_str()).is_ok());
+    let more = lines(rt.alloc(), 10_001)?;
+    let refused = printed(rt.alloc(), more.as_str());
+    assert!(rt; matches!(refused, Err(FirstFault::BadScripts(10_001))));
+    Ok(())
+}
+
+/// How a sink fails.
+#[derive(Clone, Copy, Debug, PartialEq, Eq, Drop)]
+enum Failure {
+    Error,
+    NothingTaken,
+}
+
+/// A sink that takes at most so many bytes a call, and fails at one call.
+#[derive(Drop)]
+struct Failing {
+    taken: Vec<u8>,
+    most: usize,
+    calls_left: usize,
+    failure: Failure,
+    failed: u64,
+}
+
+impl Sink for Failing {
+    ghost use Rattle.std.specs.Prelude.{Some};
+
+    ghost contents = { λ s. Some s.taken.items };
+
+    ghost failed = { λ s. s.failed };
+
+    fn write(&mut self, bytes: &[u8]) -> Result<usize, StreamFailed> {
+        let count = bytes.len().min(self.most);
+        if self.calls_left > 0 && count > 0 {
+            self.calls_left -= 1;
+            if self.taken.extend_from_slice(&bytes[..count]).is_ok() {
+                return Ok(count);
+            }
+        }
+        if bytes.is_empty() {
+            return Ok(0);
+        }
+        self.failed = self.failed.saturating_add(1);
+        match self.failure {
+            Failure::Error => Err(StreamFailed),
+            Failure::NothingTaken => Ok(0),
+        }
+    }
+}
+
+/// The outcome of a run whose sink fails after so many calls, and what the sink has.
+fn run_failing(
+    alloc: Global,
+    scripts: &str,
+    calls: usize,
+    failure: Failure,
+) -> (Result<(), FirstFault>, Failing) {
+    let mut out = Failing {
+        taken: Vec::new(alloc),
+        most: 500,
+        calls_left: calls,
+        failure,
+        failed: 0,
+    };
+    (first_run(alloc, scripts.as_bytes(), &mut out), out)
+}
+
+#[test]
+fn failing_sinks(rt: HostRuntime) -> Result<(), Fail> {
+    let scripts = lines(rt.alloc(), 200)?;
+    let whole = printed(rt.alloc(), scripts.as_str())?;
+    let writes = whole.len().div_ceil(500) + 2;
+    for failure in [Failure::Error, Failure::NothingTaken] {
+        for calls in 0..writes {
+            let (done, out) = run_failing(rt.alloc(), scripts.as_str(), calls, failure);
+            let is_whole = out.taken.as_slice() == whole.as_slice();
+            assert_eq!(rt; done.is_ok(), is_whole, "{failure:?} after {calls} calls");
+            assert!(rt; whole.as_slice().starts_with(out.taken.as_slice()));
+            assert_eq!(rt; out.failed == 0, is_whole);
+        }
+    }
+    Ok(())
+}
