@@ -34,22 +34,39 @@ use std::{env, io};
 pub use write_text::{WriteFailed, write_text};
 pub use writer::write_record;
 
+/// Want of memory, or else the other fault.
+fn memory_or(error: io::Error, other: Fault) -> Fault {
+    if error.kind() == io::ErrorKind::OutOfMemory {
+        Fault::OutOfMemory
+    } else {
+        other
+    }
+}
+
+/// The words after the program's name.
+fn all_words<R: Env + AllocGlobal>(rt: &R) -> Result<Vec<String>, Fault> {
+    let mut words = Vec::new(rt.alloc());
+    match env::args(rt) {
+        Ok(all) => {
+            for word in all.skip(1) {
+                if words.push(word).is_err() {
+                    return Err(Fault::OutOfMemory);
+                }
+            }
+            Ok(words)
+        }
+        Err(error) => Err(memory_or(error, Fault::BadWords)),
+    }
+}
+
 /// Does what the program's words ask for.
 fn run<R: Env + Files + Input + Print + AllocGlobal>(rt: &R) -> Result<(), Fault> {
-    let mut words = Vec::new(rt.alloc());
-    let Ok(all) = env::args(rt) else {
-        return Err(Fault::BadWords);
-    };
-    for word in all.skip(1) {
-        if words.push(word).is_err() {
-            return Err(Fault::OutOfMemory);
-        }
-    }
+    let words = all_words(rt)?;
     let arguments = read_words(rt.alloc(), words.as_slice())?;
     let scripts = match arguments.scripts {
         Some(name) => match File::open(rt, name) {
             Ok(file) => read_all(rt.alloc(), &mut Plain::new(file))?,
-            Err(_) => return Err(Fault::ReadFailed),
+            Err(error) => return Err(memory_or(error, Fault::ReadFailed)),
         },
         None => read_all(rt.alloc(), &mut Plain::new(rt.reader()))?,
     };
