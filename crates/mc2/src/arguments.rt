@@ -63,3 +63,6 @@ pub fn read_words<'a>(alloc: Global, words: &'a [String]) -> Result<Arguments<'a
         _ => Ok(Arguments { scripts }),
     }
 }
+
+#[cfg(test)]
+mod tests;

@@ -1,5 +1,8 @@
 //! Why the program didn't do what its words ask for.
 
+ghost use Rattle.std.specs.Prelude.{◌≡◌};
+ghost use Rattle.mc2.specs.Faults.{of_run, of_input, status_of};
+
 use crate::FirstFault;
 use crate::input::InputFault;
 use thiserror::Error;
@@ -21,7 +24,9 @@ pub enum Fault {
 
 impl Fault {
     /// The status that the program ends with.
-    pub fn status(&self) -> u8 {
+    pub fn status(&self) -> u8
+        ensures { result ≡ status_of self.now }
+    {
         match self {
             Fault::BadScripts(_) | Fault::BadWords => 2,
             Fault::OutOfMemory | Fault::ReadFailed | Fault::WriteFailed => 3,
@@ -30,6 +35,8 @@ impl Fault {
 }
 
 impl From<FirstFault> for Fault {
+    ghost from_gives = { λ cause fault. fault ≡ of_run cause };
+
     fn from(fault: FirstFault) -> Fault {
         match fault {
             FirstFault::OutOfMemory => Fault::OutOfMemory,
@@ -40,6 +47,8 @@ impl From<FirstFault> for Fault {
 }
 
 impl From<InputFault> for Fault {
+    ghost from_gives = { λ cause fault. fault ≡ of_input cause };
+
     fn from(fault: InputFault) -> Fault {
         match fault {
             InputFault::OutOfMemory => Fault::OutOfMemory,

@@ -51,7 +51,10 @@ fn refused_scripts(rt: HostRuntime) {
         ("0 q0\tdeq\n", 1),
         ("0 q0 enq 03\n", 1),
         ("# two\n\n2 q0 deq\n", 3),
-        ("0 q0 len ; len ; len ; len ; len ; len ; len ; len ; len\n", 1),
+        (
+            "0 q0 len ; len ; len ; len ; len ; len ; len ; len ; len\n",
+            1,
+        ),
         ("0 q0 deq\n0 q1 deq\n", 2),
         ("0 q0 enq 4294967296\n", 1),
         ("0 q0 alloc 1\n", 1),

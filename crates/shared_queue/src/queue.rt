@@ -87,8 +87,7 @@ fn keep_others(list: &mut Vec<u32>, thread: u32)
 impl SeqObject for ThreadQueue {
     ghost use Rattle.std.specs.Prelude.{◌&&◌, nat_le, []};
     ghost use Rattle.shared_queue.specs.Answer.{queue_answer, is_refusing};
-    ghost use Rattle.shared_queue.specs.Stays.{refused_stays};
-    ghost use Rattle.std.proofs.Common.{lit<};
+    ghost use Rattle.std.proofs.Common.{lit<, rules};
 
     type Params = u32;
 
@@ -104,7 +103,7 @@ impl SeqObject for ThreadQueue {
 
     ghost refusing = { is_refusing };
 
-    ghost stays = { refused_stays };
+    ghost stays = { Prim.search rules };
 
     ghost call_fits = { lit< tt };
 

@@ -1,0 +1,25 @@
+-- Which refusal of the program each cause becomes, and the status that it ends with.
+use Rattle.std.specs.Prelude.{ℕ}
+use Rattle.mc2.specs.declared.fault.Fault.{Fault}
+use Rattle.mc2.specs.declared.fault.Fault.TheVariants as fault
+use Rattle.mc2.specs.declared.first_run.FirstFault.{FirstFault}
+use Rattle.mc2.specs.declared.first_run.FirstFault.TheVariants as first
+use Rattle.mc2.specs.declared.input.InputFault.{InputFault}
+use Rattle.mc2.specs.declared.input.InputFault.TheVariants as input
+
+abbrev pub of_run : FirstFault → Fault
+of_run first.OutOfMemory = fault.OutOfMemory
+of_run (first.BadScripts n) = fault.BadScripts n
+of_run first.WriteFailed = fault.WriteFailed
+
+abbrev pub of_input : InputFault → Fault
+of_input input.OutOfMemory = fault.OutOfMemory
+of_input input.ReadFailed = fault.ReadFailed
+
+-- 2 for what the caller wrote, 3 for what the machine refused
+abbrev pub status_of : Fault → ℕ
+status_of fault.OutOfMemory = 3
+status_of (fault.BadScripts n) = 2
+status_of fault.ReadFailed = 3
+status_of fault.WriteFailed = 3
+status_of fault.BadWords = 2

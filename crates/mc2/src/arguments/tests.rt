@@ -1,0 +1,64 @@
+//! Words that are taken and words that are refused, and the lines of the refusals.
+
+use super::read_words;
+use crate::fault::Fault;
+use std::test::Fail;
+
+#[test]
+fn words_that_are_taken(rt: HostRuntime) -> Result<(), Fail> {
+    let mut words = Vec::new(rt.alloc());
+    words.push(format!(in rt.alloc(); "run")?)?;
+    let input = read_words(rt.alloc(), words.as_slice());
+    assert!(rt; matches!(input, Ok(arguments) if arguments.scripts.is_none()));
+    words.push(format!(in rt.alloc(); "a file")?)?;
+    let file = read_words(rt.alloc(), words.as_slice());
+    assert!(rt; matches!(file, Ok(arguments) if arguments.scripts == Some("a file")));
+    Ok(())
+}
+
+#[test]
+fn words_that_are_refused(rt: HostRuntime) -> Result<(), Fail> {
+    let rows = [
+        "",
+        "rum",
+        "run a b",
+        "run -",
+        "run -a",
+        "run --",
+        "run -- a",
+        "run --settings a",
+        "run --help",
+        "--help",
+        "help",
+        "a run",
+        "sim a b",
+        "run ",
+    ];
+    for row in rows {
+        let mut words = Vec::new(rt.alloc());
+        if !row.is_empty() {
+            for word in row.split(' ') {
+                words.push(format!(in rt.alloc(); "{word}")?)?;
+            }
+        }
+        let refused = read_words(rt.alloc(), words.as_slice());
+        assert!(rt; matches!(refused, Err(Fault::BadWords)), "{row:?}");
+    }
+    Ok(())
+}
+
+#[test]
+fn lines_of_the_refusals(rt: HostRuntime) -> Result<(), Fail> {
+    let rows = [
+        (Fault::OutOfMemory, "mc2: E1 out of memory"),
+        (Fault::BadScripts(10_001), "mc2: E7 scripts: line 10001"),
+        (Fault::ReadFailed, "mc2: E12 read failed"),
+        (Fault::WriteFailed, "mc2: E13 write failed"),
+        (Fault::BadWords, "mc2: E14 bad words"),
+    ];
+    for (fault, line) in rows {
+        let printed = format!(in rt.alloc(); "{fault}")?;
+        assert!(rt; printed.as_str() == line, "{line}");
+    }
+    Ok(())
+}
