@@ -1,0 +1,74 @@
+-- Cells, and what their passes and holds know.
+use Rattle.std.specs.Prelude.{◌≡◌, ℕ, ◌<◌, ◌≤◌, Bool, true, ◌==◌, List, length, drop}
+use Rattle.std.specs.List.{AllByRecursion}
+use Rattle.event_log.specs.declared.object.SeqObject.{Ghosts}
+use Rattle.event_log.specs.declared.event.Event.{Event}
+use Rattle.event_log.specs.Log.{Begins, Legal, replay, of}
+use Rattle.event_log.specs.History.{History}
+
+-- what was fixed when a cell was opened; its CPUs are the numbers below `numbers`
+pub record Cell (O P C R : Type 0) : Type 0 where
+  pub params : P
+  pub limit : ℕ
+  pub numbers : ℕ
+  pub opening : List (Event O P C R)
+
+-- a caller of a cell: the CPU numbers that it owns, and the one that it acts as
+pub record Caller (O P C R : Type 0) : Type 0 where
+  pub cell : Cell O P C R
+  pub owned : ℕ → Bool
+  pub acting : ℕ
+
+-- a caller without the object, and the log that it has seen
+pub record Part (O P C R : Type 0) : Type 0 where
+  pub caller : Caller O P C R
+  pub seen : List (Event O P C R)
+
+-- a caller that holds the object, and the stored history
+pub record Held (O P C R : Type 0) : Type 0 where
+  pub caller : Caller O P C R
+  pub history : History O P C R
+
+module _ {O P C R : Type 0} where
+  -- the part of pass k of a cell that was opened with this history, for n CPUs
+  abbrev pub first_part : History O P C R → ℕ → ℕ → Part O P C R
+  first_part h n k = record { caller = record { cell = record { params = h.params; limit = h.limit; numbers = n; opening = h.log }; owned = (λ j. j == k); acting = k }; seen = h.log }
+
+  -- log b begins with log a, and has the same events of the owned numbers
+  pub record Grows (owned : ℕ → Bool) (a b : List (Event O P C R)) : Type 0 where
+    pub begins : Begins a b
+    pub own : (k : ℕ) → owned k ≡ true → of k b ≡ of k a
+
+  -- the numbers are of the cell, and the caller acts as the least
+  pub record IsCaller (caller : Caller O P C R) : Type 0 where
+    pub acts : caller.owned caller.acting ≡ true
+    pub least : (k : ℕ) → caller.owned k ≡ true → caller.acting ≤ k
+    pub below : (k : ℕ) → caller.owned k ≡ true → k < caller.cell.numbers
+
+  -- the caller owns every number of its cell
+  pub record OwnsAll (caller : Caller O P C R) : Type 0 where
+    pub each : (k : ℕ) → k < caller.cell.numbers → caller.owned k ≡ true
+
+module _ {O P C R : Type 0} (meaning : Ghosts O P C R) where
+  -- a log that the cell may have: it begins with the opening log, is legal and within the limit, and all further events
+  -- are of the cell's CPUs
+  pub record Lawful (cell : Cell O P C R) (log : List (Event O P C R)) : Type 0 where
+    pub begins : Begins cell.opening log
+    pub legal : Legal meaning cell.params log
+    pub within : length log ≤ cell.limit
+    pub numbered : AllByRecursion (λ e. e.cpu < cell.numbers) (drop (length cell.opening) log)
+
+  -- what the cell stores once that log was done
+  abbrev pub stored : Cell O P C R → List (Event O P C R) → History O P C R
+  stored cell log = record { params = cell.params; limit = cell.limit; log = log; state = replay meaning cell.params log }
+
+  -- the numbers are the cell's, and a lawful log was seen
+  pub record IsPart (part : Part O P C R) : Type 0 where
+    pub caller : IsCaller part.caller
+    pub lawful : Lawful part.caller.cell part.seen
+
+  -- the numbers are the cell's, and the stored log is lawful, with its replay
+  pub record IsHeld (held : Held O P C R) : Type 0 where
+    pub caller : IsCaller held.caller
+    pub lawful : Lawful held.caller.cell held.history.log
+    pub replayed : held.history ≡ stored held.caller.cell held.history.log
