@@ -18,7 +18,7 @@ use Rattle.mc2.specs.FirstRun.{asked_of, entries_of, events_of, with_event_of, D
 use Rattle.mc2.specs.ScriptText.{IsRequest, AskFor}
 use Rattle.mc2.specs.Settings.{Settings}
 use Rattle.mc2.specs.Spelling.{Spelling}
-use Rattle.mc2.specs.Sound.{Opened, Sound, LogIsSound, EntryIsSound, Answers, NoneAfterFull, done_on, with_steps, steps_by, transcript_of}
+use Rattle.word_rule.specs.Sound.{Opened, Sound, LogIsSound, EntryIsSound, Answers, NoneAfterFull, done_on, with_steps, steps_by, transcript_of}
 
 all_push : {X : Type 0} (Q : X → Type 0) (xs : List X) (x : X) → AllByRecursion Q xs → Q x → AllByRecursion Q (xs ++ x ∷ [])
 all_push Q [] x h k = (k, tt)

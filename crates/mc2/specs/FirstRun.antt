@@ -15,7 +15,7 @@ use Rattle.mc2.specs.Output.{AppendsBeginning}
 use Rattle.mc2.specs.RecordText.{record_text}
 use Rattle.mc2.specs.ScriptText.{AreScripts}
 use Rattle.mc2.specs.Settings.{Settings}
-use Rattle.mc2.specs.Sound.{Opened, Sound, Answers, transcript_of}
+use Rattle.word_rule.specs.Sound.{Opened, Sound, Answers, transcript_of}
 use Rattle.mc2.specs.Spelling.{Spelling}
 
 -- what the objects of the settings are opened with

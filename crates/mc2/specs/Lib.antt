@@ -8,6 +8,5 @@ pub mod ScriptText
 pub mod Reading
 pub mod QueueTypes
 pub mod ScriptFaults
-pub mod Sound
 pub mod FirstRun
 pub mod Faults

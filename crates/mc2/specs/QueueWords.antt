@@ -4,7 +4,7 @@ use Rattle.shared_queue.specs.declared.call.QueueCall.{QueueCall}
 use Rattle.shared_queue.specs.declared.call.QueueCall.TheVariants.{Enq, Deq, Remove, Len}
 use Rattle.shared_queue.specs.declared.call.QueueReply.{QueueReply}
 use Rattle.shared_queue.specs.declared.call.QueueReply.TheVariants.{Ok, BadThread, Already, Empty, Absent, Thread, Count}
-use Rattle.mc2.specs.declared.settings.LockKind.TheVariants.{Ticket}
+use Rattle.word_rule.specs.declared.lock_kind.LockKind.TheVariants.{Ticket}
 use Rattle.mc2.specs.Settings.{Settings}
 use Rattle.mc2.specs.Spelling.{Spelling}
 

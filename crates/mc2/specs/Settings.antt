@@ -2,7 +2,7 @@
 use Rattle.std.specs.Prelude.{ℕ, ◌≡◌, ◌≤◌, ◌<◌, ◌&&◌, ◌||◌, nat_le, Bool, true, false, List, [], ◌∷◌, length, All}
 use Rattle.std.specs.List.{slice_get, list_all}
 use Rattle.std.specs.Option.{option_map_or}
-use Rattle.mc2.specs.declared.settings.LockKind.{LockKind}
+use Rattle.word_rule.specs.declared.lock_kind.LockKind.{LockKind}
 use Rattle.mc2.specs.Spelling.{Spelling}
 
 -- an object's name, its lock, the most events of its log, and what it is opened with

@@ -7,7 +7,7 @@ ghost use Rattle.event_log.specs.Stream.{counted};
 ghost use Rattle.mc2.specs.FirstRun.{DoesInOrder, DoesEntry, IsAble, WritesRun, WritesBeginning, opened_of};
 ghost use Rattle.mc2.specs.QueueWords.{built_in_settings, queue_spelling};
 ghost use Rattle.mc2.specs.ScriptText.{IsFirstBad};
-ghost use Rattle.mc2.specs.Sound.{Sound};
+ghost use Rattle.word_rule.specs.Sound.{Sound};
 
 use crate::scripts::{ScriptsFault, read_scripts};
 use crate::{Record, Request, Settings, WriteFailed, write_record};

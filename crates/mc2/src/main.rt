@@ -26,7 +26,7 @@ use event_log::Plain;
 pub use first_run::{FirstFault, first_run};
 pub use record::Record;
 pub use request::Request;
-pub use settings::{LockKind, ObjectSettings, Settings};
+pub use settings::{ObjectSettings, Settings};
 use std::fs::File;
 use std::process::ExitCode;
 use std::rt::{Env, Files};

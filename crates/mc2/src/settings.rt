@@ -8,13 +8,7 @@ use arrayvec::ArrayString;
 use event_log::{OutOfMemory, Series};
 use std::alloc::Global;
 use std::marker::Model;
-
-/// Which lock guards an object.
-#[derive(Clone, Copy, Debug, PartialEq, Eq, Drop)]
-pub enum LockKind {
-    Ticket,
-    Mcs,
-}
+use word_rule::LockKind;
 
 /// An object's name, its lock, the most events of its log, and the threads of its queue.
 #[derive(Drop)]

@@ -3,7 +3,7 @@ use Rattle.std.proofs.lemmas.List.{append-nil, nil_from_length}
 use Rattle.std.specs.Vec.Iter.{into_iter_items}
 use Rattle.shared_queue.specs.contracts.queue.ThreadQueueSeqObject.TheImpl.{ghosts as queue_meaning}
 use Rattle.mc2.specs.FirstRun.{DoesInOrder}
-use Rattle.mc2.specs.Sound.{Sound}
+use Rattle.word_rule.specs.Sound.{Sound}
 use Rattle.mc2.specs.QueueTypes.{QueueRun, QueueEvent, QueueEntry, QueueHistory}
 use Rattle.mc2.proofs.InOrder.{entry_more, in_order, is_sound, run_of}
 use Rattle.mc2.proofs.first_run.do_requests.Goals as goal
