@@ -6,3 +6,4 @@ pub mod Requests
 pub mod QueueReads
 pub mod ScriptLines
 pub mod InOrder
+pub mod Verdicts

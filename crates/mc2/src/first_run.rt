@@ -1,12 +1,13 @@
 //! The engine of `run`: scripts in, a record out.
 
-ghost use Rattle.std.specs.Prelude.{◌≡◌, true, IfErr, ◌<◌, ◌≤◌, ℕ, length, IfOk, OnOk, ◌++◌, ◌∷◌, [], ◌==◌, if◌then◌else◌};
+ghost use Rattle.std.specs.Prelude.{◌≡◌, true, IfErr, ◌<◌, ◌≤◌, ℕ, List, length, IfOk, OnOk, ◌++◌, ◌∷◌, [], ◌==◌, if◌then◌else◌};
 ghost use Rattle.std.specs.List.{AllByRecursion};
 ghost use Rattle.event_log.specs.History.{IsKept, opened_history};
 ghost use Rattle.event_log.specs.Stream.{counted};
 ghost use Rattle.mc2.specs.FirstRun.{DoesInOrder, DoesEntry, IsAble, WritesRun, WritesBeginning, opened_of};
 ghost use Rattle.mc2.specs.QueueWords.{built_in_settings, queue_spelling};
-ghost use Rattle.mc2.specs.ScriptText.{IsFirstBad};
+ghost use Rattle.mc2.specs.QueueTypes.{QueueRequest};
+ghost use Rattle.mc2.specs.ScriptText.{AreScripts, IsFirstBad};
 ghost use Rattle.word_rule.specs.Sound.{Sound};
 
 use crate::scripts::{ScriptsFault, read_scripts};
@@ -38,6 +39,7 @@ pub fn first_run<W: Sink>(alloc: Global, scripts: &[u8], out: &mut W) -> Result<
     ensures write_failed { result ≡ Err FirstFault.WriteFailed → WritesBeginning ⟦<ThreadQueue as SeqObject>⟧ queue_spelling built_in_settings scripts.now (W.contents out.old) (W.contents out.new) }
     ensures one_failed { result ≡ Err FirstFault.WriteFailed → W.failed out.new ≡ counted true (W.failed out.old) }
     ensures bad_scripts { (n : ℕ) → result ≡ Err (FirstFault.BadScripts n) → IsFirstBad ThreadQueue queue_spelling built_in_settings scripts.now n }
+    ensures no_scripts { (n : ℕ) (requests : List QueueRequest) → result ≡ Err (FirstFault.BadScripts n) → AreScripts queue_spelling built_in_settings scripts.now requests → ⊥ }
     ensures nothing_written { IfErr result (λ f. (f ≡ FirstFault.WriteFailed → ⊥) → out.new ≡ out.old) }
 {
     let Ok(settings) = Settings::built_in(alloc) else {

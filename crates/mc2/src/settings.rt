@@ -76,7 +76,8 @@ impl ObjectSettings {
 impl Settings {
     /// Two CPUs, and one queue `q0` of 8 threads behind a ticket lock, with at most 100 events.
     pub fn built_in(alloc: Global) -> Result<Settings, OutOfMemory>
-        ensures { IfOk result (λ s. s ≡ built_in_settings) }
+        ensures value { IfOk result (λ s. s ≡ built_in_settings) }
+        ensures fit { IfOk result (λ s. SettingsFit queue_spelling s) }
     {
         let mut name = ArrayString::new();
         name.push_str("q0");
