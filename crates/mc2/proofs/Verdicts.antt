@@ -1,15 +1,14 @@
 -- No text is both scripts and one with a first bad line.
-use Rattle.std.proofs.Common.{◌≡◌, ℕ, zero, suc, ◌+◌, ◌<◌, ◌≤◌, ◌^◌, ◌==◌, Bool, true, false, Option, Some, List, [], ◌∷◌, ◌++◌, length, map, fold, refl, sym, ◌∙◌, ap, subst, append_assoc, arith, cond, decimal, inl, inr}
+use Rattle.std.proofs.Common.{◌≡◌, ℕ, ◌+◌, ◌<◌, ◌≤◌, ◌^◌, ◌==◌, Option, Some, List, [], ◌∷◌, ◌++◌, length, fold, refl, sym, ◌∙◌, ap, subst, append_assoc, arith, cond, decimal, inl, inr}
 use Rattle.std.specs.List.{AllByRecursion}
 use Rattle.std.proofs.lemmas.Bool.{eq-eqb}
 use Rattle.std.proofs.lemmas.Fmt.{decimal_by_steps}
 use Rattle.std.proofs.lemmas.List.Sums.{fold-append}
 use Rattle.mc2.specs.declared.request.Request.{Request}
 use Rattle.mc2.specs.ScriptText.{IsBlank, IsRequest, AskFor, AreScripts, IsRefused, IsFirstBad, count_of, request_words}
-use Rattle.mc2.specs.Settings.{Settings, SettingsFit, name_at}
+use Rattle.mc2.specs.Settings.{Settings, SettingsFit}
 use Rattle.mc2.specs.Spelling.{Spelling}
-use Rattle.mc2.specs.Words.{sentence, separated, text_of_lines, NoEnd}
-use Rattle.mc2.specs.Reading.{words, request_at}
+use Rattle.mc2.specs.Words.{sentence, text_of_lines, NoEnd}
 use Rattle.mc2.proofs.Requests.{ReadsCalls, request_again}
 
 -- two texts with a line end are cut alike
