@@ -35,26 +35,24 @@ line_first line lines = append_assoc line (10 ∷ []) (text_of_lines lines)
 lines_cut : (m l : List ℕ) (lines ls : List (List ℕ)) (tail : List ℕ) → NoEnd m → NoEnd l → text_of_lines (m ∷ lines) ≡ text_of_lines (l ∷ ls) ++ tail → (m ≡ l) × (text_of_lines lines ≡ text_of_lines ls ++ tail)
 lines_cut m l lines ls tail h k e = cut_once m l (text_of_lines lines) (text_of_lines ls ++ tail) h k (sym (line_first m lines) ∙ (e ∙ (ap (λ t. t ++ tail) (line_first l ls) ∙ append_assoc l (10 ∷ text_of_lines ls) tail)))
 
-some_injective : {A : Type 0} {x y : A} → ◌≡◌ {A = Option A} (Some x) (Some y) → x ≡ y
-some_injective e = cc
-
 module _ {O P C R : Type 0} where
-  one_more : (cpu n : ℕ) (requests : List (Request O P C R)) → n ≤ fold (λ (k : ℕ) (q : Request O P C R). k + cond (q.cpu == cpu) 1 0) n requests
-  one_more cpu n [] = omega arith
-  one_more cpu n (q ∷ requests) = let rest = one_more cpu (n + cond (q.cpu == cpu) 1 0) requests in omega (arith, rest)
+  -- counting on never counts less
+  counts_up : (cpu n : ℕ) (requests : List (Request O P C R)) → n ≤ fold (λ (k : ℕ) (q : Request O P C R). k + cond (q.cpu == cpu) 1 0) n requests
+  counts_up cpu n [] = omega arith
+  counts_up cpu n (q ∷ requests) = let rest = counts_up cpu (n + cond (q.cpu == cpu) 1 0) requests in omega (arith, rest)
 
-  -- a request after others is counted
-  counted : (before after : List (Request O P C R)) (r : Request O P C R) → count_of r.cpu before < count_of r.cpu (before ++ r ∷ after)
-  counted before after r =
+  -- a request after others is counted too
+  counted_after : (before after : List (Request O P C R)) (r : Request O P C R) → count_of r.cpu before < count_of r.cpu (before ++ r ∷ after)
+  counted_after before after r =
       let f : ℕ → Request O P C R → ℕ = λ k q. k + cond (q.cpu == r.cpu) 1 0 in
       let whole : count_of r.cpu (before ++ r ∷ after) ≡ fold f (f (count_of r.cpu before) r) after = fold-append f 0 before (r ∷ after) in
       let here : f (count_of r.cpu before) r ≡ count_of r.cpu before + 1 = rw (eq-eqb r.cpu r.cpu refl) refl in
-      let rest = one_more r.cpu (f (count_of r.cpu before) r) after in
+      let rest = counts_up r.cpu (f (count_of r.cpu before) r) after in
       omega (arith, whole, here, rest)
 
 module _ {O P C R : Type 0} (spelling : Spelling P C R) (settings : Settings P)
     (one : (line : List ℕ) (q r : Request O P C R) → IsRequest spelling settings line q → IsRequest spelling settings line r → q ≡ r)
-    (full : (line : List ℕ) (r : Request O P C R) → IsRequest spelling settings line r → IsBlank line → ⊥) where
+    (no_blank : (line : List ℕ) (r : Request O P C R) → IsRequest spelling settings line r → IsBlank line → ⊥) where
   -- lines that a text begins with ask for the first of its requests
   front : (ls lines : List (List ℕ)) (qs rs : List (Request O P C R)) (tail : List ℕ) → AllByRecursion NoEnd ls → AllByRecursion NoEnd lines
       → AskFor spelling settings ls qs → AskFor spelling settings lines rs → text_of_lines lines ≡ text_of_lines ls ++ tail
@@ -68,23 +66,23 @@ module _ {O P C R : Type 0} (spelling : Spelling P C R) (settings : Settings P)
       let cut = lines_cut m l lines ls tail k.0 h.0 e in
       elim all [
         | inl none ↦ front ls lines [] (r ∷ rs) tail h.1 k.1 asked.1 none.1 cut.1 then
-        | inr some ↦ full m r some.0 (subst IsBlank (sym cut.0) asked.0)
+        | inr some ↦ no_blank m r some.0 (subst IsBlank (sym cut.0) asked.0)
       ]
   front (l ∷ ls) (m ∷ lines) (q ∷ qs) [] tail h k asked all e then =
       let cut = lines_cut m l lines ls tail k.0 h.0 e in
       elim asked [
         | inl none ↦ front ls lines (q ∷ qs) [] tail h.1 k.1 none.1 all.1 cut.1 then
-        | inr some ↦ full l q some.0 (subst IsBlank cut.0 all.0)
+        | inr some ↦ no_blank l q some.0 (subst IsBlank cut.0 all.0)
       ]
   front (l ∷ ls) (m ∷ lines) (q ∷ qs) (r ∷ rs) tail h k asked all e then =
       let cut = lines_cut m l lines ls tail k.0 h.0 e in
       elim asked [
         | inl none ↦ elim all [
           | inl none' ↦ front ls lines (q ∷ qs) (r ∷ rs) tail h.1 k.1 none.1 none'.1 cut.1 then
-          | inr some' ↦ full m r some'.0 (subst IsBlank (sym cut.0) none.0)
+          | inr some' ↦ no_blank m r some'.0 (subst IsBlank (sym cut.0) none.0)
         ]
         | inr some ↦ elim all [
-          | inl none' ↦ full l q some.0 (subst IsBlank cut.0 none'.0)
+          | inl none' ↦ no_blank l q some.0 (subst IsBlank cut.0 none'.0)
           | inr some' ↦
               let same : r ≡ q = one m r q some'.0 (subst (λ (z : List ℕ). IsRequest spelling settings z q) (sym cut.0) some.0) in
               front ls lines qs rs tail h.1 k.1 some.1 some'.1 cut.1 (λ more others ends asks text is. then more others ends asks text (λ i. same i ∷ is i))
@@ -107,7 +105,7 @@ module _ {O P C R : Type 0} (spelling : Spelling P C R) (settings : Settings P)
         | inl none ↦ bad.no_blank (subst IsBlank cut.0 none.0)
         | inr some ↦
             let last = bad.no_room r (subst (λ (z : List ℕ). IsRequest spelling settings z r) cut.0 some.0) in
-            let more_than = counted before others r in
+            let more_than = counted_after before others r in
             let most = within r.cpu in
             absurd (omega (arith, last, more_than, most))
       ]
@@ -143,10 +141,10 @@ module _ {O P C R : Type 0} (spelling : Spelling P C R) (call_at : List (List �
   one_request line q r h k =
       let first = request_again spelling call_at reads settings fit line q h in
       let second = request_again spelling call_at reads settings fit line r k in
-      some_injective (sym first ∙ second)
+      cc
 
-  request_full : (line : List ℕ) (r : Request O P C R) → IsRequest spelling settings line r → IsBlank line → ⊥
-  request_full line r h blank =
+  request_no_blank : (line : List ℕ) (r : Request O P C R) → IsRequest spelling settings line r → IsBlank line → ⊥
+  request_no_blank line r h blank =
       let cpus = fit.cpus in
       let cpu = h.cpu in
       let wordy : IsWordy (sentence (request_words spelling settings r)) = wordy_more (decimal r.cpu) _ (wordy_decimal r.cpu (omega (arith, cpu, cpus.1))) in
@@ -154,4 +152,4 @@ module _ {O P C R : Type 0} (spelling : Spelling P C R) (call_at : List (List �
 
   -- a text with a first bad line is no scripts
   pub bad_is_not_good : (bytes : List ℕ) (n : ℕ) (requests : List (Request O P C R)) → AreScripts spelling settings bytes requests → IsFirstBad O spelling settings bytes n → ⊥
-  bad_is_not_good = no_both spelling settings one_request request_full
+  bad_is_not_good = no_both spelling settings one_request request_no_blank
