@@ -1,8 +1,12 @@
-//! The interface of a cell behind a lock, whichever lock it is.
+//! The interface of a cell behind a lock, whichever lock it is, and the part of the locks' rules that all share.
 #![tactic(auto)]
 
 mod lock_cell;
 mod lock_kind;
+mod place;
+mod view;
 
 pub use lock_cell::LockCell;
 pub use lock_kind::LockKind;
+pub use place::Place;
+pub use view::{Seated, Trace, View};

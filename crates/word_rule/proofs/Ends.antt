@@ -1,0 +1,96 @@
+-- A new cell meets its rule, and at its end a pass with every number finds the object at home: the same at every lock.
+use Rattle.std.proofs.Common.{◌≡◌, ◌≢◌, ◌⊎◌, ℕ, zero, suc, ◌+◌, ◌<◌, ◌≤◌, Bool, true, false, true≢false, List, [], ◌∷◌, length, drop, refl, sym, ap, ◌∙◌, subst, arith, Option, Some, None}
+use Rattle.std.specs.List.{AllByRecursion}
+use mathlib.Core.Logic.{dite}
+use mathlib.Core.Option.{some, none, some-injective, some-ne-none}
+use native.Mathlib.Decide.{ℕ_discrete, dec_lt}
+use lib.ListN.{get_elem?}
+use Rattle.atomic_table.specs.Table.{opening}
+use Rattle.event_log.specs.declared.object.SeqObject.{Ghosts}
+use Rattle.event_log.specs.declared.event.Event.{Event}
+use Rattle.event_log.specs.Distinct.{has}
+use Rattle.event_log.specs.History.{History, IsKept}
+use Rattle.event_log.specs.Log.{of}
+use Rattle.event_log.proofs.Beginnings.{begins_self}
+use Rattle.word_rule.specs.declared.place.Place.TheVariants.{Idle}
+use Rattle.word_rule.specs.Cell.{Cell, Grows, Lawful, OwnsAll, IsPart, stored}
+use Rattle.word_rule.specs.Line.{Line, Ties}
+use Rattle.word_rule.specs.Board.{Board, Caller, Viewed, Table, EachFrom, Knows, KnowsAll, Ruled}
+use Rattle.word_rule.specs.Seats.{idle, idle_from, first_view}
+use Rattle.word_rule.specs.Callers.{cell_of, caller_of, part_of}
+use Rattle.word_rule.proofs.Lists.{has_one, drop_self, grows_self, same_log, of_opening}
+use Rattle.word_rule.proofs.Known.{all_idle}
+
+-- no CPU is in line, and the object is at home
+abbrev pub empty_line : Line
+empty_line = record { cpus = []; out = false; place = λ _. Idle }
+
+module _ {O P C R : Type 0} (h : Cell O P C R) where
+  abbrev start : Board O P C R
+  start = record { committed = h.opening; line = empty_line; owner = λ x. (0, x + 1) }
+
+  known : (k m : ℕ) → k + m ≡ h.numbers → EachFrom (Knows h.numbers start 0) (k + 1) (idle_from k m h.opening)
+  known k zero e = tt
+  known k (suc m) e = (
+    record {
+      owns = λ x hx. let is = has_one x k hx in let below : x < h.numbers = omega arith in ((λ i. (0, is i + 1)), below);
+      grows = grows_self (λ x. has x (k ∷ [])) h.opening;
+      stands = λ _. refl;
+      whole = λ _ _. refl;
+      rests = λ x _ _. refl;
+    },
+    known (k + 1) m (omega arith),
+  )
+
+  mine : KnowsAll h start 0 (first_view h)
+  mine = record {
+    told = (refl, tt);
+    main = record {
+      owns = λ y hy. absurd (true≢false (sym hy));
+      grows = record { begins = record { start = refl }; own = λ y hy. absurd (true≢false (sym hy)) };
+      stands = λ hy. absurd (true≢false (sym hy));
+      whole = λ hy _. absurd (true≢false (sym hy));
+      rests = λ y hy _. absurd (true≢false (sym hy));
+    };
+    others = known 0 h.numbers (omega arith);
+  }
+
+  one : (j : ℕ) (u : Viewed O P C R) → get_elem? (first_view h ∷ []) j ≡ some u → KnowsAll h start j u
+  one zero u e = subst (KnowsAll h start 0) (some-injective (first_view h) u e) mine
+  one (suc j) u e = absurd (some-ne-none u (sym e))
+
+module _ {O P C R : Type 0} (meaning : Ghosts O P C R) where
+  -- the opening log is lawful for the cell
+  pub opens_lawful : (x : History O P C R) (n : ℕ) → IsKept meaning x → Lawful meaning (cell_of n x) x.log
+  opens_lawful x n kept = record {
+    begins = begins_self x.log;
+    legal = kept.legal;
+    within = kept.within;
+    numbered = subst (λ l. AllByRecursion (λ (e : Event O P C R). e.cpu < n) l) (sym (drop_self x.log)) tt;
+  }
+
+  -- and what it is made of is what it stores
+  pub opens_stored : (x : History O P C R) (n : ℕ) → IsKept meaning x → x ≡ stored meaning (cell_of n x) x.log
+  opens_stored x n kept i = record { params = x.params; limit = x.limit; log = x.log; state = kept.replayed i }
+
+module _ {O P C R : Type 0} (meaning : Ghosts O P C R) (Tied : ℕ → List ℕ → Line → Type 0) where
+  pub opens : (ws : List ℕ) (x : History O P C R) (n : ℕ) → IsKept meaning x → Tied n ws empty_line → Ruled meaning Tied (cell_of n x) (opening ws (Some x ∷ []) (first_view (cell_of n x)))
+  opens ws x n kept tied = record {
+    board = start (cell_of n x);
+    tied = tied;
+    lawful = opens_lawful meaning x n kept;
+    at_home = λ _. ap (λ z. some (some (Some z))) (opens_stored meaning x n kept);
+    each = one (cell_of n x);
+  }
+
+  -- where a pass has each number, the object is at home, and its log is what the pass has seen
+  pub closing : Ties Tied → (h : Cell O P C R) (id : ℕ) (v : Viewed O P C R) (s : Table O P C R) → Ruled meaning Tied h s → get_elem? s.views id ≡ some v → v.main.place ≡ Idle → IsPart meaning (part_of h v) → OwnsAll (caller_of h v)
+      → get_elem? s.homes 0 ≡ some (some (Some (stored meaning h v.main.seen)))
+  closing ties h id v s r there rests part all =
+      let b = r.board in
+      let know = r.each id v there in
+      let home = ties.over h.numbers s.words b.line r.tied (λ x below. all_idle h.numbers b id 0 v.main know.main rests x (all.each x below)) in
+      let same = same_log v.main.seen b.committed know.main.grows.begins (λ z. dite (dec_lt z h.numbers)
+          (λ below. know.main.grows.own z (all.each z below))
+          (λ not. of_opening z h.numbers b.committed h.opening (omega arith) r.lawful.begins r.lawful.numbered ∙ sym (of_opening z h.numbers v.main.seen h.opening (omega arith) part.lawful.begins part.lawful.numbered))) in
+      r.at_home home ∙ ap (λ l. some (some (Some (stored meaning h l)))) same

@@ -1,0 +1,5 @@
+pub mod Lists
+pub mod Stays
+pub mod Known
+pub mod Meetings
+pub mod Ends

@@ -1,0 +1,35 @@
+-- The line of CPUs at a lock, whichever lock it is.
+use Rattle.std.specs.Prelude.{◌≡◌, ℕ, ◌<◌, Bool, true, false, ◌==◌, cond, List}
+use Rattle.event_log.specs.Distinct.{has}
+use Rattle.word_rule.specs.declared.place.Place.{Place}
+use Rattle.word_rule.specs.declared.place.Place.TheVariants.{Idle, Drawn, Served, Torn}
+
+-- the CPUs in line, whether the object is out with the first of them, and where each CPU stands
+pub record Line : Type 0 where
+  pub cpus : List ℕ
+  pub out : Bool
+  pub place : ℕ → Place
+
+-- p stands there now, and every other CPU where it stood
+abbrev pub moved : (ℕ → Place) → ℕ → Place → ℕ → Place
+moved place p q x = cond (x == p) q (place x)
+
+-- whether a caller that stands there has the object
+abbrev pub holding : Place → Bool
+holding Idle = false
+holding (Drawn t) = false
+holding (Served t) = true
+holding Torn = true
+
+-- what every lock promises of the rule that ties its words to its line, for n CPUs
+pub record Ties (Tied : ℕ → List ℕ → Line → Type 0) : Type 0 where
+  -- there is one holder
+  pub single : (n : ℕ) (ws : List ℕ) (l : Line) → Tied n ws l → (x y : ℕ) → x < n → y < n → holding (l.place x) ≡ true → holding (l.place y) ≡ true → x ≡ y
+  -- who holds has the object
+  pub away : (n : ℕ) (ws : List ℕ) (l : Line) → Tied n ws l → (x : ℕ) → x < n → holding (l.place x) ≡ true → l.out ≡ true
+  -- only the cell's CPUs are in line
+  pub inside : (n : ℕ) (ws : List ℕ) (l : Line) → Tied n ws l → (x : ℕ) → has x l.cpus ≡ true → x < n
+  -- who is idle isn't in line
+  pub apart : (n : ℕ) (ws : List ℕ) (l : Line) → Tied n ws l → (x : ℕ) → x < n → l.place x ≡ Idle → has x l.cpus ≡ false
+  -- where all are idle the object is at home
+  pub over : (n : ℕ) (ws : List ℕ) (l : Line) → Tied n ws l → ((x : ℕ) → x < n → l.place x ≡ Idle) → l.out ≡ false

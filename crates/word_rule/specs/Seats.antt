@@ -1,0 +1,75 @@
+-- What a step, a join or a split makes of a seat.
+use Rattle.std.specs.Prelude.{ℕ, zero, suc, ◌+◌, List, [], ◌∷◌, ◌++◌, map, min, Option}
+use Rattle.atomic_table.specs.Table.{Me}
+use Rattle.event_log.specs.declared.event.Event.{Event}
+use Rattle.event_log.specs.History.{History}
+use Rattle.word_rule.specs.declared.place.Place.{Place}
+use Rattle.word_rule.specs.declared.place.Place.TheVariants.{Idle}
+use Rattle.word_rule.specs.declared.view.Seated.{Seated}
+use Rattle.word_rule.specs.declared.view.View.{View}
+use Rattle.word_rule.specs.Cell.{Cell}
+use Rattle.word_rule.specs.Board.{Viewed}
+
+-- a seat, with the slots that are out with it
+abbrev pub Seat : Type 0 → Type 0 → Type 0 → Type 0 → Type 0
+Seat O P C R = Me (Option (History O P C R)) (Viewed O P C R)
+
+module _ {E : Type 0} where
+  -- the caller has seen this log
+  abbrev pub shown : List E → Seated E → Seated E
+  shown log c = record { cpu = c.cpu; owned = c.owned; place = c.place; seen = log }
+
+  -- the caller stands there
+  abbrev pub at : Place → Seated E → Seated E
+  at p c = record { cpu = c.cpu; owned = c.owned; place = p; seen = c.seen }
+
+  -- an idle caller
+  abbrev pub idle : ℕ → List ℕ → List E → Seated E
+  idle cpu owned seen = record { cpu = cpu; owned = owned; place = Idle; seen = seen }
+
+  -- n idle callers with the numbers from k on
+  abbrev pub idle_from : ℕ → ℕ → List E → List (Seated E)
+  idle_from k zero seen = []
+  idle_from k (suc n) seen = idle k (k ∷ []) seen ∷ idle_from (k + 1) n seen
+
+  abbrev pub behind_first : List (Seated E) → List (Seated E)
+  behind_first [] = []
+  behind_first (c ∷ cs) = cs
+
+  -- the first caller, or one without a number
+  abbrev pub first_or_none : List (Seated E) → Seated E
+  first_or_none [] = idle 0 [] []
+  first_or_none (c ∷ cs) = c
+
+module _ {H E : Type 0} where
+  -- the first caller stands there
+  abbrev pub placed : View H E → Place → View H E
+  placed v p = record { told = v.told; main = at p v.main; others = v.others }
+
+  -- each caller of the seat has seen this log, and the first stands there
+  abbrev pub settled : View H E → Place → List E → View H E
+  settled v p log = record { told = v.told; main = shown log (at p v.main); others = map (shown log) v.others }
+
+  -- the seat takes in the caller of another
+  abbrev pub taken_in : View H E → View H E → View H E
+  taken_in v w = record { told = v.told; main = v.main; others = w.main ∷ [] }
+
+  -- what a seat that was taken in is left with
+  abbrev pub spent : View H E
+  spent = record { told = []; main = idle 0 [] []; others = [] }
+
+  -- the seat without the first of the callers that it has taken in
+  abbrev pub keeping : View H E → View H E
+  keeping v = record { told = v.told; main = v.main; others = behind_first v.others }
+
+  -- that caller alone
+  abbrev pub letting : View H E → View H E
+  letting v = record { told = v.told; main = first_or_none v.others; others = [] }
+
+  -- the first two callers are one, which has seen this log
+  abbrev pub merged : View H E → List E → View H E
+  merged v log = let c = first_or_none v.others in record { told = v.told; main = idle (min v.main.cpu c.cpu) (v.main.owned ++ c.owned) log; others = [] }
+
+-- the first seat of a cell: it has a caller for each CPU
+abbrev pub first_view : {O P C R : Type 0} → Cell O P C R → Viewed O P C R
+first_view h = record { told = h ∷ []; main = idle 0 [] []; others = idle_from 0 h.numbers h.opening }

@@ -1,0 +1,16 @@
+//! Where a caller stands at a cell.
+
+/// What a caller has done last, and so what it may do next. A caller that owns several CPU numbers stands at this place
+/// with the number that it acts as; its others are idle.
+#[derive(Clone, Copy, Debug, PartialEq, Eq, Drop)]
+pub enum Place {
+    /// It isn't in line.
+    Idle,
+    /// It is in a ticket lock's line, with this ticket.
+    Drawn(u64),
+    /// It has the object, by this ticket.
+    Served(u64),
+    /// It is the holder still, but its slot went back. No caller of the public surface stands here: the proof that two
+    /// holds of one cell can't be leads one here on the way.
+    Torn,
+}

@@ -1,0 +1,36 @@
+//! What the seats at a cell's table know of their callers. Contracts read these types, and no value of them is made.
+
+use crate::Place;
+use std::collections::LinkedList;
+use std::marker::Model;
+use std::snapshot::Snapshot;
+
+/// A list that contracts alone read. It has no node, so its elements may be of any size.
+pub struct Trace<E> {
+    events: Snapshot<Vec<E>>,
+}
+
+impl<E> Model for Trace<E> {
+    ghost use Rattle.std.specs.Prelude.{List};
+
+    ghost Value = { List E };
+
+    ghost view = { λ t. t.events.value.items };
+}
+
+/// A caller at its seat: the number that it acts as, the numbers that it owns, where it stands, and the log of events
+/// that it has seen.
+pub struct Seated<E> {
+    pub cpu: u8,
+    pub owned: LinkedList<u8>,
+    pub place: Place,
+    pub seen: Trace<E>,
+}
+
+/// A seat: what it was told of its cell (nothing, once another seat has taken it in), its caller, and the callers that
+/// it has taken in.
+pub struct View<H, E> {
+    pub told: LinkedList<H>,
+    pub main: Seated<E>,
+    pub others: LinkedList<Seated<E>>,
+}
