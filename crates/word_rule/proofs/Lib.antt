@@ -3,3 +3,4 @@ pub mod Stays
 pub mod Known
 pub mod Meetings
 pub mod Ends
+pub mod TicketLines
