@@ -4,3 +4,4 @@ pub mod Known
 pub mod Meetings
 pub mod Ends
 pub mod TicketLines
+pub mod Acting

@@ -1,5 +1,5 @@
 -- What a cell's own types say of their seats, and what the interface shows of them.
-use Rattle.std.specs.Prelude.{◌≡◌, ◌≢◌, ℕ, true, List, [], ◌∷◌, Option, None}
+use Rattle.std.specs.Prelude.{◌≡◌, ◌≢◌, ℕ, true, List, [], ◌∷◌, Option, Some, None}
 use Rattle.event_log.specs.declared.object.SeqObject.{Ghosts}
 use Rattle.event_log.specs.declared.event.Event.{Event}
 use Rattle.event_log.specs.Distinct.{has}
@@ -7,6 +7,7 @@ use Rattle.event_log.specs.History.{History}
 use Rattle.event_log.specs.Log.{Begins, of}
 use Rattle.word_rule.specs.declared.place.Place.{Place}
 use Rattle.word_rule.specs.Cell.{Cell, Caller, Part, Held, IsPart, IsHeld}
+use Rattle.word_rule.specs.Standing.{Standing}
 use Rattle.word_rule.specs.Board.{Viewed}
 use Rattle.word_rule.specs.Seats.{Seat}
 
@@ -31,6 +32,13 @@ module _ {O P C R : Type 0} where
   -- what it knows with the object
   abbrev pub held_of : Cell O P C R → History O P C R → Viewed O P C R → Held O P C R
   held_of h x v = record { caller = caller_of h v; history = x }
+
+  -- where it stands without the object, and with it
+  abbrev pub standing_without : Cell O P C R → Place → Seat O P C R → Standing O P C R
+  standing_without h place m = record { caller = caller_of h m.0; place = place; seen = m.0.main.seen; has = None }
+
+  abbrev pub standing_with : Cell O P C R → Place → History O P C R → Seat O P C R → Standing O P C R
+  standing_with h place x m = record { caller = caller_of h m.0; place = place; seen = m.0.main.seen; has = Some x }
 
   -- the seat has one caller, which acts as that number and stands there, and these slots are out with it
   pub record StandsAt (h : Cell O P C R) (cpu : ℕ) (place : Place) (slots : List (ℕ × Option (History O P C R))) (m : Seat O P C R) : Type 0 where

@@ -1,11 +1,13 @@
 //! The interface of a cell behind a lock, whichever lock it is, and the part of the locks' rules that all share.
 #![tactic(auto)]
 
+mod key;
 mod lock_cell;
 mod lock_kind;
 mod place;
 mod view;
 
+pub use key::Key;
 pub use lock_cell::LockCell;
 pub use lock_kind::LockKind;
 pub use place::Place;

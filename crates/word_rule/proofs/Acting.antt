@@ -1,0 +1,220 @@
+-- What a step leaves with a caller: the types of every lock's callers stay true, and the step is one of its kind.
+use Rattle.std.proofs.Common.{◌≡◌, ◌≢◌, ◌↔◌, ◌⊎◌, inl, inr, ℕ, ◌+◌, ◌<◌, ◌≤◌, ◌||◌, Bool, true, false, true≢false, List, [], ◌∷◌, ◌++◌, map, min, length, drop, refl, sym, ap, ◌∙◌, subst, ⊎_elim, arith, Option, Some, None, Result, Ok, Err, IfOk, IsErr, OnErr, append_assoc, ◌==◌}
+use Rattle.std.proofs.lemmas.Bool.Decides.{nat_tests}
+use Rattle.std.specs.List.{AllByRecursion}
+use Rattle.std.proofs.lemmas.List.Folds.{list_any-append}
+use mathlib.Core.Logic.{dite}
+use native.Mathlib.Decide.{dec_le}
+use Rattle.atomic_table.specs.Table.{rest}
+use Rattle.event_log.specs.declared.object.SeqObject.{Ghosts}
+use Rattle.event_log.specs.declared.event.Event.{Event}
+use Rattle.event_log.specs.declared.event.Steps.{Steps}
+use Rattle.event_log.specs.Distinct.{has}
+use Rattle.event_log.specs.Log.{Begins, Legal, after, replay, of}
+use Rattle.event_log.specs.History.{History, IsKept, with_event}
+use Rattle.event_log.proofs.Beginnings.{begins_self, begins_more, begins_rest}
+use Rattle.word_rule.specs.declared.place.Place.{Place}
+use Rattle.word_rule.specs.declared.place.Place.TheVariants.{Idle}
+use Rattle.word_rule.specs.Cell.{Cell, Caller, Grows, IsCaller, Lawful, IsPart, IsHeld, OwnsAll, stored}
+use Rattle.word_rule.specs.Standing.{Standing, Moves, Takes, Gives}
+use Rattle.word_rule.specs.Board.{Viewed}
+use Rattle.word_rule.specs.Seats.{Seat, shown, at, placed, settled, taken_in, keeping, letting, merged, first_or_none}
+use Rattle.word_rule.specs.Told.{Lacks, HasAll, Learns, Gets, Returns, any_has}
+use Rattle.word_rule.specs.Callers.{AddedBy, caller_of, part_of, held_of, standing_without, standing_with, StandsAt, IsWithout, IsWith}
+use Rattle.word_rule.proofs.Lists.{has_append, of_push, grows_self}
+
+module _ {O P C R : Type 0} where
+  -- the seat after a step that its first caller did
+  stands_settled : (h : Cell O P C R) (cpu : ℕ) (p q : Place) (log : List (Event O P C R)) (slots slots' : List (ℕ × Option (History O P C R))) (m : Seat O P C R) → StandsAt h cpu p slots m → StandsAt h cpu q slots' (settled m.0 q log, slots')
+  stands_settled h cpu p q log slots slots' m a = record { alone = ap (map (shown log)) a.alone; number = a.number; carries = refl; stands = refl; told = a.told }
+
+module _ {O P C R : Type 0} (meaning : Ghosts O P C R) where
+  -- it stands elsewhere
+  pub goes_without : (h : Cell O P C R) (cpu : ℕ) (p q : Place) (m m' : Seat O P C R) → IsWithout meaning h cpu p m → m' ≡ (placed m.0 q, m.1) → IsWithout meaning h cpu q m'
+  goes_without h cpu p q m m' w e = subst (IsWithout meaning h cpu q) (sym e) record {
+    at = record { alone = w.at.alone; number = w.at.number; carries = w.at.carries; stands = refl; told = w.at.told };
+    part = w.part;
+  }
+
+  pub moves_without : (h : Cell O P C R) (cpu : ℕ) (p q : Place) (m m' : Seat O P C R) → IsWithout meaning h cpu p m → m' ≡ (placed m.0 q, m.1) → Moves meaning p q (standing_without h p m) (standing_without h q m')
+  moves_without h cpu p q m m' w e = subst (λ z. Moves meaning p q (standing_without h p m) (standing_without h q z)) (sym e) record {
+    caller = refl;
+    from = refl;
+    to = refl;
+    grows = grows_self (caller_of h m.0).owned m.0.main.seen;
+    lawful = w.part.lawful;
+    has = refl;
+  }
+
+  -- it has seen this log
+  pub sees_without : (h : Cell O P C R) (cpu : ℕ) (p q : Place) (log : List (Event O P C R)) (m m' : Seat O P C R) → IsWithout meaning h cpu p m → Lawful meaning h log → m' ≡ (settled m.0 q log, []) → IsWithout meaning h cpu q m'
+  sees_without h cpu p q log m m' w lawful e = subst (IsWithout meaning h cpu q) (sym e) record {
+    at = stands_settled h cpu p q log [] [] m w.at;
+    part = record { caller = w.part.caller; lawful = lawful };
+  }
+
+  -- it has the object
+  pub holds_now : (h : Cell O P C R) (cpu : ℕ) (p q : Place) (x : History O P C R) (m m' : Seat O P C R) → IsWithout meaning h cpu p m → Lawful meaning h x.log → x ≡ stored meaning h x.log → m' ≡ (settled m.0 q x.log, (0, None) ∷ []) → IsWith meaning h cpu q x m'
+  holds_now h cpu p q x m m' w lawful is e = subst (IsWith meaning h cpu q x) (sym e) record {
+    at = stands_settled h cpu p q x.log [] ((0, None) ∷ []) m w.at;
+    added = record { begins = begins_self x.log; others = λ _ _. refl };
+    held = record { caller = w.part.caller; lawful = lawful; replayed = is };
+  }
+
+  pub takes_now : (h : Cell O P C R) (p q : Place) (x : History O P C R) (m m' : Seat O P C R) → Grows (caller_of h m.0).owned m.0.main.seen x.log → Lawful meaning h x.log → x ≡ stored meaning h x.log → m' ≡ (settled m.0 q x.log, (0, None) ∷ [])
+      → Takes meaning p q (standing_without h p m) (standing_with h q x m')
+  takes_now h p q x m m' grows lawful is e = subst (λ z. Takes meaning p q (standing_without h p m) (standing_with h q x z)) (sym e) record {
+    caller = refl;
+    from = refl;
+    to = refl;
+    grows = grows;
+    lawful = lawful;
+    had = refl;
+    has = ap Some is;
+  }
+
+  -- it gave the object back
+  pub rests_now : (h : Cell O P C R) (cpu : ℕ) (p q : Place) (x : History O P C R) (m m' : Seat O P C R) → IsWith meaning h cpu p x m → m' ≡ (settled m.0 q x.log, []) → IsWithout meaning h cpu q m'
+  rests_now h cpu p q x m m' w e = subst (IsWithout meaning h cpu q) (sym e) record {
+    at = stands_settled h cpu p q x.log ((0, None) ∷ []) [] m w.at;
+    part = record { caller = w.held.caller; lawful = w.held.lawful };
+  }
+
+  pub gives_now : (h : Cell O P C R) (cpu : ℕ) (p q : Place) (x : History O P C R) (m m' : Seat O P C R) → IsWith meaning h cpu p x m → m' ≡ (settled m.0 q x.log, []) → Gives meaning p q (standing_with h p x m) (standing_without h q m')
+  gives_now h cpu p q x m m' w e = subst (λ z. Gives meaning p q (standing_with h p x m) (standing_without h q z)) (sym e) record {
+    caller = refl;
+    from = refl;
+    to = refl;
+    lawful = w.held.lawful;
+    had = ap Some w.held.replayed;
+    has = refl;
+  }
+
+  -- a step gave the object to the slot of the seat, and it was taken out of there
+  pub record Took (q : Place) (m m' : Seat O P C R) (x : History O P C R) : Type 0 where
+    pub seat : m' ≡ (settled m.0 q x.log, (0, None) ∷ m.1)
+    pub learns : Learns meaning m.0 x.log
+    pub replayed : (k : Cell O P C R) → m.0.told ≡ k ∷ [] → x ≡ stored meaning k x.log
+
+  value_of : History O P C R → List (ℕ × Option (History O P C R)) → History O P C R
+  value_of d [] = d
+  value_of d ((n, Some x) ∷ cs) = x
+  value_of d ((n, None) ∷ cs) = d
+
+  pub took : (q : Place) (m m' m'' : Seat O P C R) (r : Option (History O P C R)) (y : History O P C R) → Gets meaning q m m' → m'.1 ≡ (0, r) ∷ rest m'.1 → m'' ≡ (m'.0, (0, None) ∷ rest m'.1) → r ≡ Some y → Took q m m'' y
+  unfolding value_of
+  took q m m' m'' r y g slot out is =
+      let same : g.object ≡ y = ap (value_of g.object) (sym (ap (λ (z : Seat O P C R). z.1) g.seat) ∙ (slot ∙ ap (λ (z : Option (History O P C R)). (0, z) ∷ rest m'.1) is)) in
+      let now : m'' ≡ (settled m.0 q g.object.log, (0, None) ∷ m.1) = out ∙ (λ k. ((g.seat k).0, (0, None) ∷ rest (g.seat k).1)) in
+      subst (Took q m m'') same record { seat = now; learns = g.learns; replayed = g.replayed }
+
+  -- the object was put into the slot, and the step sent it home
+  pub left : (q : Place) (m m' m'' : Seat O P C R) (x : History O P C R) → m.1 ≡ (0, None) ∷ [] → m' ≡ (m.0, (0, Some x) ∷ rest m.1) → Returns meaning q m' m'' → m'' ≡ (settled m.0 q x.log, [])
+  left q m m' m'' x had filled told = told x (rest m.1) (ap (λ (z : Seat O P C R). z.1) filled) ∙ (λ k. (settled (filled k).0 q x.log, rest (had k)))
+
+  -- who owns every number has a seat with each
+  pub not_all : (h : Cell O P C R) (m : Seat O P C R) → m.0.told ≡ h ∷ [] → Lacks m.0 → OwnsAll (caller_of h m.0) → ⊥
+  not_all h m told lacks all = lacks h record { told = told; each = λ x below. ap (λ b. b || any_has x m.0.others) (all.each x below) }
+
+drop_front : {A : Type 0} (a c : List A) → drop (length a) (a ++ c) ≡ c
+drop_front [] c = refl
+drop_front (x ∷ a) c = drop_front a c
+
+all_push : {A : Type 0} (P : A → Type 0) (xs : List A) (x : A) → AllByRecursion P xs → P x → AllByRecursion P (xs ++ x ∷ [])
+all_push P [] x all here = (here, tt)
+all_push P (y ∷ xs) x all here = (all.0, all_push P xs x all.1 here)
+
+module _ {O P C R : Type 0} (meaning : Ghosts O P C R) where
+  -- a lawful log stays so with one event more of a CPU of the cell, if it is legal and within the limit
+  pub lawful_push : (h : Cell O P C R) (log : List (Event O P C R)) (e : Event O P C R) (x : History O P C R) → Lawful meaning h log → e.cpu < h.numbers → IsKept meaning x → x.params ≡ h.params → x.limit ≡ h.limit → x.log ≡ log ++ e ∷ [] → Lawful meaning h x.log
+  lawful_push h log e x lawful below kept params limit is =
+      let since = drop (length h.opening) log in
+      let front : log ≡ h.opening ++ since = begins_rest h.opening log lawful.begins in
+      let whole : log ++ e ∷ [] ≡ h.opening ++ (since ++ e ∷ []) = ap (λ l. l ++ e ∷ []) front ∙ append_assoc h.opening since (e ∷ []) in
+      record {
+        begins = subst (Begins h.opening) (sym is) (begins_more h.opening log (e ∷ []) lawful.begins);
+        legal = subst (λ p. Legal meaning p x.log) params kept.legal;
+        within = subst (λ n. length x.log ≤ n) limit kept.within;
+        numbered = subst (λ l. AllByRecursion (λ (d : Event O P C R). d.cpu < h.numbers) (drop (length h.opening) l)) (sym (is ∙ whole))
+            (subst (AllByRecursion (λ (d : Event O P C R). d.cpu < h.numbers)) (sym (drop_front h.opening (since ++ e ∷ []))) (all_push (λ (d : Event O P C R). d.cpu < h.numbers) since e lawful.numbered below));
+      }
+
+  pub added_push : (cpu : ℕ) (a b : List (Event O P C R)) (e : Event O P C R) → e.cpu ≡ cpu → AddedBy cpu a b → AddedBy cpu a (b ++ e ∷ [])
+  added_push cpu a b e is added = record {
+    begins = begins_more a b (e ∷ []) added.begins;
+    others = λ x n. of_push x b e (λ q. n (q ∙ is)) ∙ added.others x n;
+  }
+
+  -- the holder did one event more, or none
+  pub applied : {X : Type 0} (h : Cell O P C R) (cpu : ℕ) (p : Place) (x y : History O P C R) (m : Seat O P C R) (r : Result (Steps O P C R) X) → IsWith meaning h cpu p x m → IsKept meaning y
+      → IfOk r (λ s. y ≡ with_event x (record { cpu = cpu; steps = s }) (after meaning x.state s.list.items)) → OnErr r (y ≡ x) → IsWith meaning h cpu p y m
+  applied h cpu p x y m (Err e) w kept next same = subst (λ z. IsWith meaning h cpu p z m) (sym same) w
+  applied h cpu p x y m (Ok s) w kept next same =
+      let e : Event O P C R = record { cpu = cpu; steps = s } in
+      let longer : y.log ≡ x.log ++ e ∷ [] = ap (λ z. z.log) next in
+      let params : y.params ≡ h.params = ap (λ z. z.params) next ∙ ap (λ z. z.params) w.held.replayed in
+      let limit : y.limit ≡ h.limit = ap (λ z. z.limit) next ∙ ap (λ z. z.limit) w.held.replayed in
+      let below : cpu < h.numbers = subst (λ k. k < h.numbers) w.at.number (w.held.caller.below m.0.main.cpu w.held.caller.acts) in
+      record {
+        at = w.at;
+        added = subst (AddedBy m.0.main.cpu m.0.main.seen) (sym longer) (added_push m.0.main.cpu m.0.main.seen x.log e (sym w.at.number) w.added);
+        held = record {
+          caller = w.held.caller;
+          lawful = lawful_push h x.log e y w.held.lawful below kept params limit longer;
+          replayed = λ i. record { params = params i; limit = limit i; log = y.log; state = (kept.replayed ∙ ap (λ q. replay meaning q y.log) params) i };
+        };
+      }
+
+-- two seats, joined, at a step of the first, and split again
+module _ {O P C R : Type 0} where
+  pub halves : (q : Place) (log : List (Event O P C R)) (slots : List (ℕ × Option (History O P C R))) (v w : Viewed O P C R) (m' first second : Seat O P C R) → v.others ≡ [] → w.others ≡ [] → w.told ≡ v.told
+      → m' ≡ (settled (taken_in v w) q log, slots) → first ≡ (keeping m'.0, m'.1) → second ≡ (letting m'.0, []) → (first ≡ (settled v q log, slots)) × (second ≡ (settled w w.main.place log, []))
+  halves q log slots v w m' first second alone alone' told e f s = (
+    f ∙ ((λ i. (keeping (e i).0, (e i).1)) ∙ (λ i. (record { told = v.told; main = shown log (at q v.main); others = map (shown log) (sym alone i) }, slots))),
+    s ∙ ((λ i. (letting (e i).0, [])) ∙ (λ i. (record { told = sym told i; main = shown log w.main; others = map (shown log) (sym alone' i) }, []))),
+  )
+
+module _ {O P C R : Type 0} (meaning : Ghosts O P C R) where
+  -- what a joined seat learns
+  pub both_learn : (v w : Viewed O P C R) (m : Seat O P C R) (log : List (Event O P C R)) → m ≡ (taken_in v w, []) → Learns meaning m.0 log → Learns meaning (taken_in v w) log
+  both_learn v w m log e l = subst (λ (z : Seat O P C R). Learns meaning z.0 log) e l
+
+has_both : (xs ys : List ℕ) (k : ℕ) → has k (xs ++ ys) ≡ (has k xs || has k ys)
+has_both xs ys k = list_any-append (λ y. y == k) xs ys
+
+or_true : (a b : Bool) → (a || b) ≡ true → (a ≡ true) ⊎ (b ≡ true)
+or_true true b e = inl refl
+or_true false b e = inr e
+
+true_or : (a b : Bool) → a ≡ true → (a || b) ≡ true
+true_or true b e = refl
+true_or false b e = absurd (true≢false (sym e))
+
+or_there : (a b : Bool) → b ≡ true → (a || b) ≡ true
+or_there true b e = refl
+or_there false b e = e
+
+module _ {O P C R : Type 0} (meaning : Ghosts O P C R) where
+  -- one caller with the numbers of two
+  pub both_callers : (h : Cell O P C R) (p q r : ℕ) (xs ys : List ℕ) → r ≡ min p q → IsCaller {O = O} {P = P} {C = C} {R = R} record { cell = h; owned = λ k. has k xs; acting = p } → IsCaller {O = O} {P = P} {C = C} {R = R} record { cell = h; owned = λ k. has k ys; acting = q }
+      → IsCaller {O = O} {P = P} {C = C} {R = R} record { cell = h; owned = λ k. has k (xs ++ ys); acting = r }
+  both_callers h p q r xs ys is one two = record {
+    acts = dite (dec_le p q)
+        (λ le. let e : r ≡ p = omega arith in subst (λ (z : ℕ). has z (xs ++ ys) ≡ true) (sym e) (has_both xs ys p ∙ true_or (has p xs) (has p ys) one.acts))
+        (λ gt. let e : r ≡ q = omega arith in subst (λ (z : ℕ). has z (xs ++ ys) ≡ true) (sym e) (has_both xs ys q ∙ or_there (has q xs) (has q ys) two.acts));
+    least = λ x hx. ⊎_elim {0, 0, 0} (λ a. let f = one.least x a in omega arith) (λ a. let f = two.least x a in omega arith) (has_append x xs ys hx);
+    below = λ x hx. ⊎_elim {0, 0, 0} (one.below x) (two.below x) (has_append x xs ys hx);
+  }
+
+  -- the pass that two become
+  pub joined : (h : Cell O P C R) (p q r : ℕ) (log : List (Event O P C R)) (m w m' m'' : Seat O P C R) → r ≡ min p q → IsWithout meaning h p Idle m → IsWithout meaning h q Idle w → m' ≡ (taken_in m.0 w.0, []) → m'' ≡ (merged m'.0 log, m'.1) → Lawful meaning h log
+      → (m'' ≡ (merged (taken_in m.0 w.0) log, [])) × IsWithout meaning h r Idle m''
+  joined h p q r log m w m' m'' is one two e e' lawful =
+      let now : m'' ≡ (merged (taken_in m.0 w.0) log, []) = e' ∙ (λ i. (merged (e i).0 log, (e i).1)) in
+      let number : r ≡ min m.0.main.cpu w.0.main.cpu = is ∙ (λ i. min (sym one.at.number i) (sym two.at.number i)) in (
+        now,
+        subst (IsWithout meaning h r Idle) (sym now) record {
+          at = record { alone = refl; number = sym number; carries = refl; stands = refl; told = one.at.told };
+          part = record { caller = both_callers h m.0.main.cpu w.0.main.cpu (min m.0.main.cpu w.0.main.cpu) m.0.main.owned w.0.main.owned refl one.part.caller two.part.caller; lawful = lawful };
+        },
+      )

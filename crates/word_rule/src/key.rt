@@ -1,0 +1,40 @@
+//! What a cell is told when it is made.
+
+ghost use Rattle.std.specs.Prelude.{◌≡◌};
+ghost use Rattle.event_log.specs.History.{IsKept};
+ghost use Rattle.word_rule.specs.Callers.{cell_of};
+
+use event_log::{Logged, SeqObject};
+use std::marker::Model;
+use std::snapshot::Snapshot;
+
+/// The constants of a cell, for contracts: what the object was opened with, its limit, its opening log and the number of
+/// CPUs. It carries no log of its own.
+#[derive(Drop)]
+pub struct Key<O: SeqObject> {
+    cpus: u8,
+    opened: Snapshot<Logged<O>>,
+}
+
+impl<O: SeqObject> Model for Key<O> {
+    ghost use Rattle.word_rule.specs.Cell.{Cell};
+    ghost use Rattle.word_rule.specs.Callers.{cell_of};
+
+    ghost Value = { Cell O O.Params O.Call O.Reply };
+
+    ghost view = { λ k. cell_of k.cpus k.opened.value };
+}
+
+impl<O: SeqObject> Key<O> {
+    /// The constants of a cell that is made of this object for so many CPUs.
+    pub fn of(cpus: u8, logged: &Logged<O>) -> Key<O>
+        ensures value { result ≡ cell_of cpus logged.now }
+        ensures kept { IsKept O.SeqObject logged.now }
+    {
+        let _ = logged.log();
+        Key {
+            cpus,
+            opened: Snapshot::of(logged),
+        }
+    }
+}
