@@ -5,10 +5,12 @@ mod key;
 mod lock_cell;
 mod lock_kind;
 mod place;
+mod plays;
 mod view;
 
 pub use key::Key;
 pub use lock_cell::LockCell;
 pub use lock_kind::LockKind;
 pub use place::Place;
+pub use plays::{Beside, Clash, Meet, Merge, Seat, Tear};
 pub use view::{Seated, Trace, View};

@@ -1,0 +1,31 @@
+-- What the ticket lock's own steps tell the seat that does them.
+use Rattle.std.specs.Prelude.{◌≡◌, ◌≢◌, ℕ, Option}
+use Rattle.atomic_table.specs.Table.{Step}
+use Rattle.event_log.specs.declared.object.SeqObject.{Ghosts}
+use Rattle.event_log.specs.History.{History}
+use Rattle.word_rule.specs.declared.place.Place.TheVariants.{Idle, Drawn, Served}
+use Rattle.word_rule.specs.Seats.{Seat, placed}
+use Rattle.word_rule.specs.Told.{Lacks, Gets, Returns}
+
+module _ {O P C R : Type 0} where
+  -- the number that was found is the ticket
+  abbrev pub draws : Step (Option (History O P C R)) → Seat O P C R → ℕ → Seat O P C R → Type 0
+  draws st m n m' = m' ≡ (placed m.0 (Drawn n), m.1)
+
+  -- the served ticket isn't the caller's: nothing changes, and the seat doesn't have every number
+  pub record Misses (m m' : Seat O P C R) : Type 0 where
+    pub same : m' ≡ m
+    pub lacks : Lacks m.0
+
+module _ {O P C R : Type 0} (meaning : Ghosts O P C R) where
+  -- the object comes where the served ticket is the caller's, and only then
+  pub record Looks (t : ℕ) (m : Seat O P C R) (n : ℕ) (m' : Seat O P C R) : Type 0 where
+    pub hit : n ≡ t → Gets meaning (Served t) m m'
+    pub miss : n ≢ t → Misses m m'
+
+  abbrev pub looks : Step (Option (History O P C R)) → Seat O P C R → ℕ → Seat O P C R → Type 0
+  looks st m n m' = (t : ℕ) → m.0.main.place ≡ Drawn t → Looks t m n m'
+
+  -- the object goes home
+  abbrev pub serves : Step (Option (History O P C R)) → Seat O P C R → ℕ → Seat O P C R → Type 0
+  serves st m n m' = Returns meaning Idle m m'
