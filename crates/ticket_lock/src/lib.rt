@@ -12,7 +12,8 @@ mod make;
 mod meet;
 mod rule;
 mod states;
+mod steps;
 mod whole;
 
-// pub use cell::TicketCell;
+pub use cell::TicketCell;
 pub use states::{Drawn, Hold, Pass};

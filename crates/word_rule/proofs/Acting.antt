@@ -96,13 +96,12 @@ module _ {O P C R : Type 0} (meaning : Ghosts O P C R) where
     pub learns : Learns meaning m.0 x.log
     pub replayed : (k : Cell O P C R) → m.0.told ≡ k ∷ [] → x ≡ stored meaning k x.log
 
-  value_of : History O P C R → List (ℕ × Option (History O P C R)) → History O P C R
+  abbrev pub value_of : History O P C R → List (ℕ × Option (History O P C R)) → History O P C R
   value_of d [] = d
   value_of d ((n, Some x) ∷ cs) = x
   value_of d ((n, None) ∷ cs) = d
 
   pub took : (q : Place) (m m' m'' : Seat O P C R) (r : Option (History O P C R)) (y : History O P C R) → Gets meaning q m m' → m'.1 ≡ (0, r) ∷ rest m'.1 → m'' ≡ (m'.0, (0, None) ∷ rest m'.1) → r ≡ Some y → Took q m m'' y
-  unfolding value_of
   took q m m' m'' r y g slot out is =
       let same : g.object ≡ y = ap (value_of g.object) (sym (ap (λ (z : Seat O P C R). z.1) g.seat) ∙ (slot ∙ ap (λ (z : Option (History O P C R)). (0, z) ∷ rest m'.1) is)) in
       let now : m'' ≡ (settled m.0 q g.object.log, (0, None) ∷ m.1) = out ∙ (λ k. ((g.seat k).0, (0, None) ∷ rest (g.seat k).1)) in

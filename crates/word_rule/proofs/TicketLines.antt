@@ -59,7 +59,7 @@ module _ (m : ℕ) where
     pub out_of_line : (x : ℕ) → x < n → l.place x ≡ Idle → has x l.cpus ≡ false
     out_of_line x below is = subst (Stands m l.cpus l.out r.serving x) is (r.stood x below)
 
-    only_one : (p : ℕ) → p < n → holding (l.place p) ≡ true → (y : ℕ) → y < n → y ≢ p → holding (l.place y) ≡ true → ⊥
+    pub only_one : (p : ℕ) → p < n → holding (l.place p) ≡ true → (y : ℕ) → y < n → y ≢ p → holding (l.place y) ≡ true → ⊥
     only_one p below has_it y y_below ne y_has =
         let f = first_if l.cpus l.out r.serving p (l.place p) has_it (r.stood p below) in
         let g = first_if l.cpus l.out r.serving y (l.place y) y_has (r.stood y y_below) in

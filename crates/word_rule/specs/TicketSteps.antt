@@ -4,16 +4,16 @@ use Rattle.event_log.specs.declared.object.SeqObject.{Ghosts}
 use Rattle.word_rule.specs.declared.place.Place.TheVariants.{Idle, Drawn, Served}
 use Rattle.word_rule.specs.Standing.{Standing, Moves, Takes, Gives, NeedsAnother}
 
-module _ {O P C R : Type 0} (meaning : Ghosts O P C R) where
-  -- the caller joins the line's end, and has this ticket
-  abbrev pub IsDraw : ℕ → Standing O P C R → Standing O P C R → Type 0
-  IsDraw ticket = Moves meaning Idle (Drawn ticket)
+module _ {O P C R : Type 0} (meaning : Ghosts O P C R) (before after : Standing O P C R) where
+  -- the caller joins the line's end, and has a ticket
+  abbrev pub IsDraw : Type 0
+  IsDraw = (ticket : ℕ) × Moves meaning Idle (Drawn ticket) before after
 
   -- the caller looks whether its ticket is served: it gets the object, or nothing changes
-  abbrev pub IsLook : ℕ → Bool → Standing O P C R → Standing O P C R → Type 0
-  IsLook ticket true = Takes meaning (Drawn ticket) (Served ticket)
-  IsLook ticket false = NeedsAnother meaning (Moves meaning (Drawn ticket) (Drawn ticket))
+  abbrev pub IsLook : Bool → Type 0
+  IsLook true = (ticket : ℕ) × Takes meaning (Drawn ticket) (Served ticket) before after
+  IsLook false = (ticket : ℕ) × NeedsAnother meaning (Moves meaning (Drawn ticket) (Drawn ticket)) before after
 
   -- the caller gives the object back, and the next ticket is served
-  abbrev pub IsServe : ℕ → Standing O P C R → Standing O P C R → Type 0
-  IsServe ticket = Gives meaning (Served ticket) Idle
+  abbrev pub IsServe : Type 0
+  IsServe = (ticket : ℕ) × Gives meaning (Served ticket) Idle before after
