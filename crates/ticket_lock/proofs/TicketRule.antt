@@ -17,7 +17,7 @@ use Rattle.word_rule.specs.Line.{Line, moved, holding}
 use Rattle.word_rule.specs.Board.{Caller, Viewed, Table, Ruled}
 use Rattle.word_rule.specs.Seats.{Seat, placed, settled}
 use Rattle.word_rule.specs.Tickets.{Lined}
-use Rattle.word_rule.specs.Callers.{AddedBy}
+use Rattle.word_rule.specs.Callers.{AddedBy, IsWith}
 use Rattle.word_rule.proofs.Lists.{has_at, first_is, first_in, one_place}
 use Rattle.word_rule.proofs.Stays.{kept, taken, given, unmoved, lined}
 use Rattle.word_rule.proofs.Known.{AllIdle, gets, lacks}
@@ -63,7 +63,7 @@ module _ {O P C R : Type 0} (meaning : Ghosts O P C R) (h : Cell O P C R) where
           refl,
         )
 
-    pub looking : (t : ℕ) → v.main.place ≡ Drawn t → AllIdle meaning (Lined m) h v.others → Allows Rule slots id me 1 (λ k. k) (looks meaning (step slots 1 0 0 none) me)
+    pub looking : (t : ℕ) → v.main.place ≡ Drawn t → AllIdle v.others → Allows Rule slots id me 1 (λ k. k) (looks meaning (step slots 1 0 0 none) me)
     looking t is idle s r len there small =
         let l = r.board.line in
         let mine = r.each id v there in
@@ -119,3 +119,9 @@ module _ {O P C R : Type 0} (meaning : Ghosts O P C R) (h : Cell O P C R) where
           (served m n s.words l r.tied p below head.0 head.1)),
           λ x' more' e. let same = sym carries ∙ e in λ z. (settled v Idle (value_of meaning x (same z)).log, rest (e z)),
         )
+
+  -- a holder that put the object into its slot may end its hold
+  pub serving_now : (slots id cpu t : ℕ) (x : History O P C R) (m0 me : Seat O P C R) → IsWith meaning h cpu (Served t) x m0 → slots ≡ 1 → me ≡ (m0.0, (0, Some x) ∷ rest m0.1)
+      → Allows Rule slots id me 1 (λ k. (k + 1) % m) (serves meaning (step slots 1 1 0 none) me)
+  serving_now slots id cpu t x m0 me w one filled = subst (λ z. Allows Rule slots id z 1 (λ k. (k + 1) % m) (serves meaning (step slots 1 1 0 none) z)) (sym filled)
+      (serving slots id (m0.0, (0, Some x) ∷ rest m0.1) w.held.caller.acts x (rest m0.1) t one refl w.added w.held.lawful w.held.replayed w.at.stands)

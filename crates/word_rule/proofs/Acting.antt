@@ -1,5 +1,5 @@
 -- What a step leaves with a caller: the types of every lock's callers stay true, and the step is one of its kind.
-use Rattle.std.proofs.Common.{◌≡◌, ◌≢◌, ◌↔◌, ◌⊎◌, inl, inr, ℕ, ◌+◌, ◌<◌, ◌≤◌, ◌||◌, Bool, true, false, true≢false, List, [], ◌∷◌, ◌++◌, map, min, length, drop, refl, sym, ap, ◌∙◌, subst, ⊎_elim, arith, Option, Some, None, Result, Ok, Err, IfOk, IsErr, OnErr, append_assoc, ◌==◌}
+use Rattle.std.proofs.Common.{◌≡◌, ◌≢◌, ◌↔◌, ◌⊎◌, inl, inr, ℕ, ◌+◌, ◌<◌, ◌≤◌, ◌||◌, Bool, true, false, true≢false, List, [], ◌∷◌, ◌++◌, map, min, length, drop, refl, sym, ap, ◌∙◌, subst, ⊎_elim, arith, Option, Some, None, Result, Ok, Err, IfOk, OnErr, IsSome, rules, append_assoc, ◌==◌}
 use Rattle.std.proofs.lemmas.Bool.Decides.{nat_tests}
 use Rattle.std.specs.List.{AllByRecursion}
 use Rattle.std.proofs.lemmas.List.Folds.{list_any-append}
@@ -16,7 +16,7 @@ use Rattle.event_log.proofs.Beginnings.{begins_self, begins_more, begins_rest}
 use Rattle.word_rule.specs.declared.place.Place.{Place}
 use Rattle.word_rule.specs.declared.place.Place.TheVariants.{Idle}
 use Rattle.word_rule.specs.Cell.{Cell, Caller, Grows, IsCaller, Lawful, IsPart, IsHeld, OwnsAll, stored}
-use Rattle.word_rule.specs.Standing.{Standing, Moves, Takes, Gives}
+use Rattle.word_rule.specs.Standing.{Moves, Takes, Gives, NeedsAnother}
 use Rattle.word_rule.specs.Board.{Viewed}
 use Rattle.word_rule.specs.Seats.{Seat, shown, at, placed, settled, taken_in, keeping, letting, merged, first_or_none}
 use Rattle.word_rule.specs.Told.{Lacks, HasAll, Learns, Gets, Returns, any_has}
@@ -107,6 +107,20 @@ module _ {O P C R : Type 0} (meaning : Ghosts O P C R) where
       let now : m'' ≡ (settled m.0 q g.object.log, (0, None) ∷ m.1) = out ∙ (λ k. ((g.seat k).0, (0, None) ∷ rest (g.seat k).1)) in
       subst (Took q m m'') same record { seat = now; learns = g.learns; replayed = g.replayed }
 
+  abbrev slot_of : List (ℕ × Option (History O P C R)) → Option (History O P C R)
+  slot_of [] = None
+  slot_of (s ∷ more) = s.1
+
+  pub was_there : (q : Place) (m m' : Seat O P C R) (r : Option (History O P C R)) → Gets meaning q m m' → m'.1 ≡ (0, r) ∷ rest m'.1 → IsSome r
+  was_there q m m' r g slot = let is : r ≡ Some g.object = ap slot_of (sym slot ∙ ap (λ (z : Seat O P C R). z.1) g.seat) in subst IsSome (sym is) (search rules)
+
+  -- so it is the caller's
+  pub holds_from : (h : Cell O P C R) (cpu : ℕ) (p q : Place) (x : History O P C R) (m m' : Seat O P C R) → IsWithout meaning h cpu p m → Took q m m' x → IsWith meaning h cpu q x m'
+  holds_from h cpu p q x m m' w t = holds_now h cpu p q x m m' w (t.learns.lawful h w.at.told) (t.replayed h w.at.told) (t.seat ∙ ap (λ cs. (settled m.0 q x.log, (0, None) ∷ cs)) w.at.carries)
+
+  pub takes_from : (h : Cell O P C R) (cpu : ℕ) (p q : Place) (x : History O P C R) (m m' : Seat O P C R) → IsWithout meaning h cpu p m → Took q m m' x → Takes meaning p q (standing_without h p m) (standing_with h q x m')
+  takes_from h cpu p q x m m' w t = takes_now h p q x m m' t.learns.grows (t.learns.lawful h w.at.told) (t.replayed h w.at.told) (t.seat ∙ ap (λ cs. (settled m.0 q x.log, (0, None) ∷ cs)) w.at.carries)
+
   -- the object was put into the slot, and the step sent it home
   pub left : (q : Place) (m m' m'' : Seat O P C R) (x : History O P C R) → m.1 ≡ (0, None) ∷ [] → m' ≡ (m.0, (0, Some x) ∷ rest m.1) → Returns meaning q m' m'' → m'' ≡ (settled m.0 q x.log, [])
   left q m m' m'' x had filled told = told x (rest m.1) (ap (λ (z : Seat O P C R). z.1) filled) ∙ (λ k. (settled (filled k).0 q x.log, rest (had k)))
@@ -114,6 +128,16 @@ module _ {O P C R : Type 0} (meaning : Ghosts O P C R) where
   -- who owns every number has a seat with each
   pub not_all : (h : Cell O P C R) (m : Seat O P C R) → m.0.told ≡ h ∷ [] → Lacks m.0 → OwnsAll (caller_of h m.0) → ⊥
   not_all h m told lacks all = lacks h record { told = told; each = λ x below. ap (λ b. b || any_has x m.0.others) (all.each x below) }
+
+  -- nothing changed, and another CPU is the cause
+  pub stays_without : (h : Cell O P C R) (cpu : ℕ) (p : Place) (m m' : Seat O P C R) → IsWithout meaning h cpu p m → m' ≡ m → IsWithout meaning h cpu p m'
+  stays_without h cpu p m m' w e = subst (IsWithout meaning h cpu p) (sym e) w
+
+  pub misses_without : (h : Cell O P C R) (cpu : ℕ) (p : Place) (m m' : Seat O P C R) → IsWithout meaning h cpu p m → m' ≡ m → Lacks m.0 → NeedsAnother meaning (Moves meaning p p) (standing_without h p m) (standing_without h p m')
+  misses_without h cpu p m m' w e lacks = subst (λ z. NeedsAnother meaning (Moves meaning p p) (standing_without h p m) (standing_without h p z)) (sym e) record {
+    made = record { caller = refl; from = refl; to = refl; grows = grows_self (caller_of h m.0).owned m.0.main.seen; lawful = w.part.lawful; has = refl };
+    another = not_all h m w.at.told lacks;
+  }
 
 drop_front : {A : Type 0} (a c : List A) → drop (length a) (a ++ c) ≡ c
 drop_front [] c = refl

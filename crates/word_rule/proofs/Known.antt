@@ -22,12 +22,17 @@ use Rattle.word_rule.proofs.Lists.{false_from}
 pub all_idle : {O P C R : Type 0} (n : ℕ) (b : Board O P C R) (j k : ℕ) (c : Caller O P C R) → Knows n b j k c → c.place ≡ Idle → (x : ℕ) → has x c.owned ≡ true → b.line.place x ≡ Idle
 all_idle n b j k c s is x hx = dite (ℕ_discrete x c.cpu) (λ e. ap b.line.place e ∙ (s.stands (subst (λ (z : ℕ). has z c.owned ≡ true) e hx) ∙ is)) (λ ne. s.rests x hx ne)
 
+module _ {O P C R : Type 0} where
+  -- the callers that a seat has taken in are idle
+  abbrev pub AllIdle : List (Caller O P C R) → Type 0
+  AllIdle cs = EachFrom (λ _ c. c.place ≡ Idle) 1 cs
+
+  pub idle_alone : (cs : List (Caller O P C R)) → cs ≡ [] → AllIdle cs
+  idle_alone cs is = subst AllIdle (sym is) tt
+
 module _ {O P C R : Type 0} (meaning : Ghosts O P C R) (Tied : ℕ → List ℕ → Line → Type 0) (h : Cell O P C R) where
   abbrev pub Rule : Table O P C R → Type 0
   Rule = Ruled meaning Tied h
-
-  abbrev pub AllIdle : List (Caller O P C R) → Type 0
-  AllIdle cs = EachFrom (λ _ c. c.place ≡ Idle) 1 cs
 
   pub same_cell : (b : Board O P C R) (id : ℕ) (v : Viewed O P C R) (g : Cell O P C R) → KnowsAll h b id v → v.told ≡ g ∷ [] → g ≡ h
   same_cell b id v g mine is = (subst (λ l. EachFrom (λ _ y. y ≡ h) 0 l) is mine.told).0
