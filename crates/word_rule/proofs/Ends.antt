@@ -13,11 +13,11 @@ use Rattle.event_log.specs.History.{History, IsKept}
 use Rattle.event_log.specs.Log.{of}
 use Rattle.event_log.proofs.Beginnings.{begins_self}
 use Rattle.word_rule.specs.declared.place.Place.TheVariants.{Idle}
-use Rattle.word_rule.specs.Cell.{Cell, Grows, Lawful, OwnsAll, IsPart, stored}
+use Rattle.word_rule.specs.Cell.{Cell, cell_of, Grows, Lawful, OwnsAll, IsPart, stored}
 use Rattle.word_rule.specs.Line.{Line, Ties}
 use Rattle.word_rule.specs.Board.{Board, Caller, Viewed, Table, EachFrom, Knows, KnowsAll, Ruled}
 use Rattle.word_rule.specs.Seats.{idle, idle_from, first_view}
-use Rattle.word_rule.specs.Callers.{cell_of, caller_of, part_of}
+use Rattle.word_rule.specs.Callers.{caller_of, part_of}
 use Rattle.word_rule.proofs.Lists.{has_one, drop_self, grows_self, same_log, of_opening}
 use Rattle.word_rule.proofs.Known.{all_idle}
 

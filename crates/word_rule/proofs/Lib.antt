@@ -5,3 +5,4 @@ pub mod Meetings
 pub mod Ends
 pub mod TicketLines
 pub mod Acting
+pub mod Dealing

@@ -17,10 +17,6 @@ module _ {O P C R : Type 0} where
     pub begins : Begins a b
     pub others : (x : ℕ) → x ≢ cpu → of x b ≡ of x a
 
-  -- the cell that is made of this history for n CPUs
-  abbrev pub cell_of : ℕ → History O P C R → Cell O P C R
-  cell_of n h = record { params = h.params; limit = h.limit; numbers = n; opening = h.log }
-
   -- the caller of a seat
   abbrev pub caller_of : Cell O P C R → Viewed O P C R → Caller O P C R
   caller_of h v = record { cell = h; owned = λ k. has k v.main.owned; acting = v.main.cpu }

@@ -1,6 +1,6 @@
 -- Cells, and what their passes and holds know.
-use Rattle.std.specs.Prelude.{◌≡◌, ℕ, ◌<◌, ◌≤◌, Bool, true, ◌==◌, List, length, drop}
-use Rattle.std.specs.List.{AllByRecursion}
+use Rattle.std.specs.Prelude.{◌≡◌, ℕ, ◌<◌, ◌≤◌, Bool, true, ◌==◌, List, length, drop, Some}
+use Rattle.std.specs.List.{AllByRecursion, slice_get}
 use Rattle.event_log.specs.declared.object.SeqObject.{Ghosts}
 use Rattle.event_log.specs.declared.event.Event.{Event}
 use Rattle.event_log.specs.Log.{Begins, Legal, replay, of}
@@ -29,10 +29,22 @@ pub record Held (O P C R : Type 0) : Type 0 where
   pub caller : Caller O P C R
   pub history : History O P C R
 
+-- P holds of each element, with its index
+abbrev pub EachAt : {A : Type 0} → (ℕ → A → Type 0) → List A → Type 0
+EachAt {A} P xs = (k : ℕ) (x : A) → slice_get xs k ≡ Some x → P k x
+
 module _ {O P C R : Type 0} where
-  -- the part of pass k of a cell that was opened with this history, for n CPUs
+  -- the cell that is made of this history for n CPUs
+  abbrev pub cell_of : ℕ → History O P C R → Cell O P C R
+  cell_of n h = record { params = h.params; limit = h.limit; numbers = n; opening = h.log }
+
+  -- the part of pass k of a cell that was just opened
+  abbrev pub opening_part : Cell O P C R → ℕ → Part O P C R
+  opening_part h k = record { caller = record { cell = h; owned = (λ j. j == k); acting = k }; seen = h.opening }
+
+  -- the part of pass k of a cell that was made of this history for n CPUs
   abbrev pub first_part : History O P C R → ℕ → ℕ → Part O P C R
-  first_part h n k = record { caller = record { cell = record { params = h.params; limit = h.limit; numbers = n; opening = h.log }; owned = (λ j. j == k); acting = k }; seen = h.log }
+  first_part h n k = opening_part (cell_of n h) k
 
   -- log b begins with log a, and has the same events of the owned numbers
   pub record Grows (owned : ℕ → Bool) (a b : List (Event O P C R)) : Type 0 where

@@ -2,7 +2,7 @@
 
 ghost use Rattle.std.specs.Prelude.{◌≡◌};
 ghost use Rattle.event_log.specs.History.{IsKept};
-ghost use Rattle.word_rule.specs.Callers.{cell_of};
+ghost use Rattle.word_rule.specs.Cell.{cell_of};
 
 use event_log::{Logged, SeqObject};
 use std::marker::Model;
@@ -17,8 +17,7 @@ pub struct Key<O: SeqObject> {
 }
 
 impl<O: SeqObject> Model for Key<O> {
-    ghost use Rattle.word_rule.specs.Cell.{Cell};
-    ghost use Rattle.word_rule.specs.Callers.{cell_of};
+    ghost use Rattle.word_rule.specs.Cell.{Cell, cell_of};
 
     ghost Value = { Cell O O.Params O.Call O.Reply };
 
