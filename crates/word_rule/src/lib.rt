@@ -14,3 +14,6 @@ pub use lock_kind::LockKind;
 pub use place::Place;
 pub use plays::{Beside, Clash, Meet, Merge, Seat, Tear};
 pub use view::{Seated, Trace, View};
+
+/// The most CPUs of one cell.
+pub const MOST_CPUS: u8 = 8;
