@@ -16,7 +16,7 @@ use Rattle.event_log.proofs.Beginnings.{begins_self, begins_more, begins_rest}
 use Rattle.word_rule.specs.declared.place.Place.{Place}
 use Rattle.word_rule.specs.declared.place.Place.TheVariants.{Idle}
 use Rattle.word_rule.specs.Cell.{Cell, Caller, Grows, IsCaller, Lawful, IsPart, IsHeld, OwnsAll, stored}
-use Rattle.word_rule.specs.Standing.{Moves, Takes, Gives, NeedsAnother}
+use Rattle.word_rule.specs.Standing.{Standing, Moves, Takes, Gives, NeedsAnother}
 use Rattle.word_rule.specs.Board.{Viewed}
 use Rattle.word_rule.specs.Seats.{Seat, shown, at, placed, settled, taken_in, keeping, letting, merged, first_or_none}
 use Rattle.word_rule.specs.Told.{Lacks, HasAll, Learns, Gets, Returns, any_has}
@@ -241,3 +241,75 @@ module _ {O P C R : Type 0} (meaning : Ghosts O P C R) where
           part = record { caller = both_callers h m.0.main.cpu w.0.main.cpu (min m.0.main.cpu w.0.main.cpu) m.0.main.owned w.0.main.owned refl one.part.caller two.part.caller; lawful = lawful };
         },
       )
+
+  -- what the interface says of the pass that two become
+  pub joined_owned : (log : List (Event O P C R)) (m w m' : Seat O P C R) → m' ≡ (merged (taken_in m.0 w.0) log, []) → (k : ℕ) → has k m'.0.main.owned ≡ (has k m.0.main.owned || has k w.0.main.owned)
+  joined_owned log m w m' now k = ap (λ (z : Seat O P C R). has k z.0.main.owned) now ∙ has_both m.0.main.owned w.0.main.owned k
+
+  -- two passes that met
+  pub record Met (h : Cell O P C R) (m w m' w' : Seat O P C R) (log : List (Event O P C R)) : Type 0 where
+    pub first : m' ≡ (settled m.0 Idle log, [])
+    pub second : w' ≡ (settled w.0 Idle log, [])
+    pub first_grows : Grows (λ x. has x m.0.main.owned) m.0.main.seen log
+    pub second_grows : Grows (λ x. has x w.0.main.owned) w.0.main.seen log
+    pub lawful : Lawful meaning h log
+
+  pub met : (h : Cell O P C R) (p q : ℕ) (log : List (Event O P C R)) (m w m1 m2 m' w' : Seat O P C R) → IsWithout meaning h p Idle m → IsWithout meaning h q Idle w → m1 ≡ (taken_in m.0 w.0, m.1) → m2 ≡ (settled m1.0 m1.0.main.place log, m1.1) → Learns meaning m1.0 log
+      → m' ≡ (keeping m2.0, m2.1) → w' ≡ (letting m2.0, []) → Met h m w m' w' log
+  met h p q log m w m1 m2 m' w' one two e e' learns f s =
+      let now : m2 ≡ (settled (taken_in m.0 w.0) Idle log, []) = e' ∙ ((λ i. (settled (e i).0 (e i).0.main.place log, (e i).1)) ∙ (λ i. (settled (taken_in m.0 w.0) (one.at.stands i) log, one.at.carries i))) in
+      let both = halves Idle log [] m.0 w.0 m2 m' w' one.at.alone two.at.alone (two.at.told ∙ sym one.at.told) now f s in
+      let l : Learns meaning (taken_in m.0 w.0) log = subst (λ (z : Seat O P C R). Learns meaning z.0 log) e learns in
+      record {
+        first = both.0;
+        second = both.1 ∙ (λ i. (settled w.0 (two.at.stands i) log, []));
+        first_grows = l.grows;
+        second_grows = l.others.0;
+        lawful = l.lawful h one.at.told;
+      }
+
+  -- a look by two callers together that took the object
+  pub record TookLast (h : Cell O P C R) (q : Place) (x : History O P C R) (m w m' w' : Seat O P C R) : Type 0 where
+    pub first : m' ≡ (settled m.0 q x.log, (0, None) ∷ [])
+    pub second : w' ≡ (settled w.0 Idle x.log, [])
+    pub first_grows : Grows (λ y. has y m.0.main.owned) m.0.main.seen x.log
+    pub second_grows : Grows (λ y. has y w.0.main.owned) w.0.main.seen x.log
+    pub lawful : Lawful meaning h x.log
+    pub replayed : x ≡ stored meaning h x.log
+
+  pub took_last : (h : Cell O P C R) (cpu other : ℕ) (p q : Place) (x : History O P C R) (m w m1 m2 m' w' : Seat O P C R) → IsWithout meaning h cpu p m → IsWithout meaning h other Idle w → m1 ≡ (taken_in m.0 w.0, m.1) → Took meaning q m1 m2 x
+      → m' ≡ (keeping m2.0, m2.1) → w' ≡ (letting m2.0, []) → TookLast h q x m w m' w'
+  took_last h cpu other p q x m w m1 m2 m' w' one two e t f s =
+      let now : m2 ≡ (settled (taken_in m.0 w.0) q x.log, (0, None) ∷ []) = t.seat ∙ ((λ i. (settled (e i).0 q x.log, (0, None) ∷ (e i).1)) ∙ (λ i. (settled (taken_in m.0 w.0) q x.log, (0, None) ∷ one.at.carries i))) in
+      let both = halves q x.log ((0, None) ∷ []) m.0 w.0 m2 m' w' one.at.alone two.at.alone (two.at.told ∙ sym one.at.told) now f s in
+      let l : Learns meaning (taken_in m.0 w.0) x.log = subst (λ (z : Seat O P C R). Learns meaning z.0 x.log) e t.learns in
+      record {
+        first = both.0;
+        second = both.1 ∙ (λ i. (settled w.0 (two.at.stands i) x.log, []));
+        first_grows = l.grows;
+        second_grows = l.others.0;
+        lawful = l.lawful h one.at.told;
+        replayed = t.replayed h (ap (λ (z : Seat O P C R). z.0.told) e ∙ one.at.told);
+      }
+
+  -- the same, from what the step gave and what was taken out of the slot
+  pub last_taken : (h : Cell O P C R) (cpu other : ℕ) (p q : Place) (r : Option (History O P C R)) (x : History O P C R) (m w m1 m2 m3 m' w' : Seat O P C R) → IsWithout meaning h cpu p m → IsWithout meaning h other Idle w → m1 ≡ (taken_in m.0 w.0, m.1) → Gets meaning q m1 m2
+      → m2.1 ≡ (0, r) ∷ rest m2.1 → m3 ≡ (m2.0, (0, None) ∷ rest m2.1) → r ≡ Some x → m' ≡ (keeping m3.0, m3.1) → w' ≡ (letting m3.0, []) → TookLast h q x m w m' w'
+  last_taken h cpu other p q r x m w m1 m2 m3 m' w' one two e got slot out is f s = took_last h cpu other p q x m w m1 m3 m' w' one two e (took meaning q m1 m2 m3 r x got slot out is) f s
+
+  or_none : (b : Bool) → (b || false) ≡ b
+  or_none true = refl
+  or_none false = refl
+
+  -- two callers that own every number together
+  pub all_together : (h : Cell O P C R) (m w m1 : Seat O P C R) → m.0.told ≡ h ∷ [] → m1 ≡ (taken_in m.0 w.0, m.1) → ((k : ℕ) → k < h.numbers → (has k m.0.main.owned || has k w.0.main.owned) ≡ true) → HasAll m1.0 h
+  all_together h m w m1 told e all = subst (λ (z : Seat O P C R). HasAll z.0 h) (sym e) record {
+    told = told;
+    each = λ x below. ap (λ b. has x m.0.main.owned || b) (or_none (has x w.0.main.owned)) ∙ all x below;
+  }
+
+  -- the log of the object that a step gave
+  pub takes_log : (p q : Place) (x : History O P C R) (before after : Standing O P C R) → Takes meaning p q before after → after.has ≡ Some x → Grows before.caller.owned before.seen x.log
+  takes_log p q x before after t is =
+      let same : x ≡ stored meaning before.caller.cell after.seen = cc (is, t.has) in
+      subst (Grows before.caller.owned before.seen) (sym (ap (λ z. z.log) same)) t.grows

@@ -5,7 +5,7 @@ use mathlib.Core.Logic.{dite}
 use mathlib.Core.Option.{some, none, some-injective, some-ne-none}
 use native.Mathlib.Decide.{ℕ_discrete, dec_lt}
 use lib.ListN.{get_elem?}
-use Rattle.atomic_table.specs.Table.{opening}
+use Rattle.atomic_table.specs.Table.{opening, Final, Seen}
 use Rattle.event_log.specs.declared.object.SeqObject.{Ghosts}
 use Rattle.event_log.specs.declared.event.Event.{Event}
 use Rattle.event_log.specs.Distinct.{has}
@@ -16,8 +16,8 @@ use Rattle.word_rule.specs.declared.place.Place.TheVariants.{Idle}
 use Rattle.word_rule.specs.Cell.{Cell, cell_of, Grows, Lawful, OwnsAll, IsPart, stored}
 use Rattle.word_rule.specs.Line.{Line, Ties}
 use Rattle.word_rule.specs.Board.{Board, Caller, Viewed, Table, EachFrom, Knows, KnowsAll, Ruled}
-use Rattle.word_rule.specs.Seats.{idle, idle_from, first_view}
-use Rattle.word_rule.specs.Callers.{caller_of, part_of}
+use Rattle.word_rule.specs.Seats.{Seat, idle, idle_from, first_view}
+use Rattle.word_rule.specs.Callers.{caller_of, part_of, IsWithout}
 use Rattle.word_rule.proofs.Lists.{has_one, drop_self, grows_self, same_log, of_opening}
 use Rattle.word_rule.proofs.Known.{all_idle}
 
@@ -94,3 +94,10 @@ module _ {O P C R : Type 0} (meaning : Ghosts O P C R) (Tied : ℕ → List ℕ 
           (λ below. know.main.grows.own z (all.each z below))
           (λ not. of_opening z h.numbers b.committed h.opening (omega arith) r.lawful.begins r.lawful.numbered ∙ sym (of_opening z h.numbers v.main.seen h.opening (omega arith) part.lawful.begins part.lawful.numbered))) in
       r.at_home home ∙ ap (λ l. some (some (Some (stored meaning h l)))) same
+
+  pub ended : Ties Tied → (h : Cell O P C R) (id cpu : ℕ) (m : Seat O P C R) (ws : List ℕ) (xs : List (Option (History O P C R))) (slot : Option (History O P C R)) → IsWithout meaning h cpu Idle m → OwnsAll (caller_of h m.0)
+      → Final (Seen (Ruled meaning Tied h) id m.0) ws xs → get_elem? xs 0 ≡ some slot → slot ≡ Some (stored meaning h m.0.main.seen)
+  ended ties h id cpu m ws xs slot w all final first =
+      let object : History O P C R = stored meaning h m.0.main.seen in
+      let there = final.4 0 (Some object) (closing ties h id m.0 final.0 final.1.0 final.1.1 w.at.stands w.part all) in
+      some-injective slot (Some object) (sym first ∙ there)
