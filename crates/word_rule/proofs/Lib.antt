@@ -6,3 +6,4 @@ pub mod Ends
 pub mod TicketLines
 pub mod Acting
 pub mod Dealing
+pub mod Parts
