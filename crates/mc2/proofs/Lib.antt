@@ -5,5 +5,5 @@ pub mod Readings
 pub mod Requests
 pub mod QueueReads
 pub mod ScriptLines
-pub mod InOrder
+pub mod Workers
 pub mod Verdicts

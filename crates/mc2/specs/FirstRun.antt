@@ -43,6 +43,11 @@ module _ {O P C R : Type 0} where
     pub some : 0 < length todo.calls.items
     pub few : length todo.calls.items ≤ 8
 
+  -- a request for that, by one of n CPUs
+  pub record IsFor (n : ℕ) (r : Request O P C R) : Type 0 where
+    pub cpu : r.cpu < n
+    pub able : IsAble r.todo
+
 module _ {O P C R : Type 0} (meaning : Ghosts O P C R) where
   -- the calls were answered at the end of the log that the caller sees, or a full log was seen
   abbrev pub Did : Part O P C R → ArrayVec C → Done O P C R → Part O P C R → Type 0
@@ -63,6 +68,7 @@ module _ {O P C R : Type 0} (meaning : Ghosts O P C R) where
   pub record HasDone (before : Part O P C R) (todos : List (Todo O P C R)) (entries : List (Entry O P C R)) (after : Part O P C R) : Type 0 where
     pub caller : after.caller ≡ before.caller
     pub asked : map asked_of entries ≡ todos
+    pub objects : AllByRecursion (λ e. e.object ≡ 0) entries
     pub own : of before.caller.acting after.seen ≡ of before.caller.acting before.seen ++ events_by before.caller.acting (done_on 0 entries)
     pub answers : AllByRecursion (λ e. Answers meaning (opened_in before) after.seen e.asked e.done) entries
     pub full : NoneAfterFull entries

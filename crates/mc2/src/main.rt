@@ -15,6 +15,7 @@ mod split_once;
 #[cfg(test)]
 mod tests;
 mod words;
+mod worker;
 mod write_text;
 mod writer;
 

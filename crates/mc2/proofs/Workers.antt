@@ -1,0 +1,285 @@
+-- Workers that do their entries on one cell make a sound run.
+use Rattle.std.proofs.Common.{◌≡◌, ◌≢◌, ℕ, zero, suc, ◌<◌, ◌≤◌, ◌==◌, ◌||◌, Bool, true, false, cond, List, [], ◌∷◌, ◌++◌, length, map, drop, refl, sym, ◌∙◌, ap, subst, arith, length-append, append_assoc, ◌+◌, Some, ◌⊎◌, inl, inr, Result, Ok, Err, IfOk, OnErr}
+use Rattle.std.specs.List.{AllByRecursion, slice_get, filter}
+use Rattle.std.proofs.lemmas.List.{append-nil, map-append, length-map}
+use Rattle.std.proofs.lemmas.Bool.Decides.{nat_tests}
+use Rattle.arrayvec.specs.ArrayVec.{ArrayVec}
+use Rattle.event_log.specs.declared.object.SeqObject.{Ghosts}
+use Rattle.event_log.specs.declared.event.Steps.{Steps}
+use Rattle.event_log.specs.declared.event.Event.{Event}
+use Rattle.event_log.specs.declared.entry.Done.{Done}
+use Rattle.event_log.specs.declared.entry.Done.TheVariants as done
+use Rattle.event_log.specs.declared.entry.Entry.{Entry}
+use Rattle.event_log.specs.declared.entry.Todo.{Todo}
+use Rattle.event_log.specs.declared.entry.Run.{Run}
+use Rattle.event_log.specs.Log.{Begins, of}
+use Rattle.event_log.proofs.Beginnings.{begins_rest}
+use Rattle.mc2.specs.declared.request.Request.{Request}
+use Rattle.mc2.specs.FirstRun.{asked_of, script_of, AsksFor, IsAble, IsFor, Did, DoesEntry, HasDone, opened_in}
+use Rattle.mc2.specs.ScriptText.{IsRequest, AskFor}
+use Rattle.mc2.specs.Settings.{Settings}
+use Rattle.mc2.specs.Spelling.{Spelling}
+use Rattle.word_rule.specs.Cell.{Cell, Caller, Part, Grows, Lawful, IsPart, opening_part}
+use Rattle.word_rule.specs.Answered.{IsAnswered, IsRefused, events_by}
+use Rattle.word_rule.specs.Sound.{Opened, Sound, LogIsSound, EntryIsSound, Answers, NoneAfterFull, done_on, with_steps, steps_by, transcript_of}
+use Rattle.word_rule.proofs.Lists.{of_opening}
+
+all_push : {X : Type 0} (Q : X → Type 0) (xs : List X) (x : X) → AllByRecursion Q xs → Q x → AllByRecursion Q (xs ++ x ∷ [])
+all_push Q [] x h k = (k, tt)
+all_push Q (y ∷ xs) x h k = (h.0, all_push Q xs x h.1 k)
+
+all_map : {X : Type 0} {Q S : X → Type 0} → ((x : X) → Q x → S x) → (xs : List X) → AllByRecursion Q xs → AllByRecursion S xs
+all_map f [] h = tt
+all_map f (x ∷ xs) h = (f x h.0, all_map f xs h.1)
+
+all_both : {X : Type 0} {Q S T : X → Type 0} → ((x : X) → Q x × S x → T x) → (xs : List X) → AllByRecursion Q xs → AllByRecursion S xs → AllByRecursion T xs
+all_both f [] h k = tt
+all_both f (x ∷ xs) h k = (f x (h.0, k.0), all_both f xs h.1 k.1)
+
+module _ {O P C R : Type 0} where
+  on_first : (e : Entry O P C R) → e.object ≡ 0 → (e.object == 0) ≡ true
+  on_first e is = rw is refl
+
+  -- ---- after a full log
+
+  done_on_first : (d : Done O P C R) (a b : List (Steps O P C R)) → a ≡ b → with_steps d a ≡ with_steps d b
+  done_on_first d a b e = ap (λ l. with_steps d l) e
+
+  nil_with : (d : Done O P C R) (rest : List (Steps O P C R)) → with_steps d rest ≡ [] → (d ≡ done.NoRoom) × (rest ≡ [])
+  nil_with (done.Steps s) rest e = absurd (cc)
+  nil_with done.NoRoom rest e = (refl, e)
+
+  done_push : (entries : List (Entry O P C R)) (e : Entry O P C R) (x : ℕ) → e.done ≡ done.NoRoom → done_on x entries ≡ [] → done_on x (entries ++ e ∷ []) ≡ []
+  done_push [] e x none before = elim (e.object == x) as (λ b. cond b (with_steps e.done []) [] ≡ []) [ true ↦ ap (λ d. with_steps d []) none | false ↦ refl ]
+  done_push (f ∷ entries) e x none before =
+      let go : (b : Bool) → cond b (with_steps f.done (done_on x entries)) (done_on x entries) ≡ [] → cond b (with_steps f.done (done_on x (entries ++ e ∷ []))) (done_on x (entries ++ e ∷ [])) ≡ []
+      = λ b. elim b as (λ v. cond v (with_steps f.done (done_on x entries)) (done_on x entries) ≡ [] → cond v (with_steps f.done (done_on x (entries ++ e ∷ []))) (done_on x (entries ++ e ∷ [])) ≡ []) [
+        | true ↦ (λ k.
+            let parts = nil_with f.done (done_on x entries) k in
+            done_on_first f.done (done_on x (entries ++ e ∷ [])) [] (done_push entries e x none parts.1) ∙ ap (λ d. with_steps d []) parts.0)
+        | false ↦ (λ k. done_push entries e x none k)
+      ] in
+      go (f.object == x) before
+
+  -- an entry more, where the log had room only if no entry found it full
+  full_push : (entries : List (Entry O P C R)) (e : Entry O P C R) → NoneAfterFull entries → ((e.done ≡ done.NoRoom) ⊎ AllByRecursion (λ f. f.done ≡ done.NoRoom → ⊥) entries) → NoneAfterFull (entries ++ e ∷ [])
+  full_push [] e full why = ((λ none. refl), tt)
+  full_push (f ∷ entries) e full why = elim why [
+    | inl none ↦ ((λ h. done_push entries e f.object none (full.0 h)), full_push entries e full.1 (inl none))
+    | inr room ↦ ((λ h. absurd (room.0 h)), full_push entries e full.1 (inr room.1))
+  ]
+
+  -- the steps of one entry more
+  done_more : (entries : List (Entry O P C R)) (e : Entry O P C R) → AllByRecursion (λ f. f.object ≡ 0) entries → e.object ≡ 0 → done_on 0 (entries ++ e ∷ []) ≡ done_on 0 entries ++ with_steps e.done []
+  done_more [] e first is = rw (on_first e is) refl
+  done_more (f ∷ entries) e first is = rw (on_first f first.0) (ap (with_steps f.done) (done_more entries e first.1 is) ∙ with_append f.done (done_on 0 entries) (with_steps e.done []))
+    where
+      with_append : (d : Done O P C R) (xs ys : List (Steps O P C R)) → with_steps d (xs ++ ys) ≡ with_steps d xs ++ ys
+      with_append (done.Steps s) xs ys = refl
+      with_append done.NoRoom xs ys = refl
+
+module _ {O P C R : Type 0} (meaning : Ghosts O P C R) (opened : Opened P) where
+  -- an answer stays one where the log grows, unless it was full
+  answer_stays : (log more : List (Event O P C R)) (asked : _) (d : Done O P C R) → length log < opened.limit → Answers meaning opened log asked d → Answers meaning opened more asked d × (d ≡ done.NoRoom → ⊥)
+  answer_stays log more asked (done.Steps s) room h = (h, λ e. absurd (cc))
+  answer_stays log more asked done.NoRoom room h = absurd (omega (arith, h, room))
+
+  answers_stay : (log more : List (Event O P C R)) (entries : List (Entry O P C R)) → length log < opened.limit → AllByRecursion (λ e. Answers meaning opened log e.asked e.done) entries
+      → AllByRecursion (λ e. Answers meaning opened more e.asked e.done) entries × AllByRecursion (λ e. e.done ≡ done.NoRoom → ⊥) entries
+  answers_stay log more [] room h = (tt, tt)
+  answers_stay log more (e ∷ entries) room h =
+      let here = answer_stays log more e.asked e.done room h.0 in
+      let rest = answers_stay log more entries room h.1 in
+      ((here.0, rest.0), (here.1, rest.1))
+
+  -- where the log is full every answer is one
+  answer_full : (log more : List (Event O P C R)) (asked : _) (d : Done O P C R) → length more ≡ opened.limit → Answers meaning opened log asked d → Answers meaning opened more asked d
+  answer_full log more asked (done.Steps s) full h = h
+  answer_full log more asked done.NoRoom full h = full
+
+module _ {O P C R : Type 0} (meaning : Ghosts O P C R) where
+  -- a caller that was answered sees a longer log
+  longer : (before after : Part O P C R) (cs : List C) (s : Steps O P C R) → IsAnswered meaning before cs s after → length before.seen < length after.seen
+  longer before after cs s a =
+      let k : ℕ = before.caller.acting in
+      let since = drop (length before.seen) after.seen in
+      let is : after.seen ≡ before.seen ++ since = begins_rest before.seen after.seen a.begins in
+      let total : length after.seen ≡ length before.seen + length since = ap length is ∙ length-append before.seen since in
+      let some : 0 < length since = grew k before.seen after.seen since is (record { cpu = k; steps = s }) a.mine in
+      omega arith
+    where
+      grew : (k : ℕ) (a b c : List (Event O P C R)) → b ≡ a ++ c → (e : Event O P C R) → of k b ≡ of k a ++ e ∷ [] → 0 < length c
+      grew k a b (x ∷ c) is e more = omega arith
+      grew k a b [] is e more =
+          let same : of k b ≡ of k a = ap (λ l. of k l) (is ∙ append-nil a) in
+          let lengths : length (of k a) ≡ length (of k a) + 1 = ap length (sym same ∙ more) ∙ length-append (of k a) (e ∷ []) in
+          absurd (omega arith)
+
+  -- what became of an entry, by what became of its calls
+  pub did_of : {X : Type 0} (before after : Part O P C R) (asked : ArrayVec C) (r : Result (Steps O P C R) X) (d : Done O P C R) → IfOk r (λ s. d ≡ done.Steps s) → OnErr r (d ≡ done.NoRoom)
+      → IfOk r (λ s. IsAnswered meaning before asked.items s after) × OnErr r (IsRefused meaning before after) → Did meaning before asked d after
+  did_of before after asked (Ok s) d is not both = subst (λ x. Did meaning before asked x after) (sym is) both.0
+  did_of before after asked (Err e) d is not both = subst (λ x. Did meaning before asked x after) (sym not) both.1
+
+  -- a worker that did nothing yet
+  pub nothing : (before : Part O P C R) → HasDone meaning before [] [] before
+  nothing before = record { caller = refl; asked = refl; objects = tt; own = sym (append-nil (of before.caller.acting before.seen)); answers = tt; full = tt }
+
+  -- what the caller's own events are after one entry more
+  own_more : (before mid after : Part O P C R) (entries : List (Entry O P C R)) (e : Entry O P C R) (d : Done O P C R) → e.done ≡ d → mid.caller ≡ before.caller → IsPart meaning before → AllByRecursion (λ f. f.object ≡ 0) entries → e.object ≡ 0
+      → of before.caller.acting mid.seen ≡ of before.caller.acting before.seen ++ events_by before.caller.acting (done_on 0 entries) → Did meaning mid e.asked d after
+      → of before.caller.acting after.seen ≡ of before.caller.acting before.seen ++ events_by before.caller.acting (done_on 0 (entries ++ e ∷ []))
+  own_more before mid after entries e (done.Steps s) is same part first zero_is own did =
+      let k : ℕ = before.caller.acting in
+      let mine : of k after.seen ≡ of k mid.seen ++ events_by k (s ∷ []) = subst (λ c. of c.acting after.seen ≡ of c.acting mid.seen ++ events_by c.acting (s ∷ [])) same did.mine in
+      let more : done_on 0 (entries ++ e ∷ []) ≡ done_on 0 entries ++ s ∷ [] = done_more entries e first zero_is ∙ ap (λ x. done_on 0 entries ++ with_steps x []) is in
+      mine ∙ (ap (λ l. l ++ events_by k (s ∷ [])) own ∙ (append_assoc (of k before.seen) (events_by k (done_on 0 entries)) (events_by k (s ∷ []))
+      ∙ ap (λ l. of k before.seen ++ l) (sym (map-append (λ (x : Steps O P C R). record { cpu = k; steps = x }) (done_on 0 entries) (s ∷ [])) ∙ ap (events_by k) (sym more))))
+  own_more before mid after entries e done.NoRoom is same part first zero_is own did =
+      let k : ℕ = before.caller.acting in
+      let stays : of k after.seen ≡ of k mid.seen = did.grows.own k (subst (λ c. c.owned k ≡ true) (sym same) part.caller.acts) in
+      let more : done_on 0 (entries ++ e ∷ []) ≡ done_on 0 entries = done_more entries e first zero_is ∙ (ap (λ x. done_on 0 entries ++ with_steps x []) is ∙ append-nil (done_on 0 entries)) in
+      stays ∙ (own ∙ ap (λ l. of k before.seen ++ events_by k l) (sym more))
+
+  -- what one entry more leaves of the answers so far
+  record Stays (opened : Opened P) (more : List (Event O P C R)) (entries : List (Entry O P C R)) (e : Entry O P C R) : Type 0 where
+    pub answers : AllByRecursion (λ f. Answers meaning opened more f.asked f.done) (entries ++ e ∷ [])
+    pub why : (e.done ≡ done.NoRoom) ⊎ AllByRecursion (λ f. f.done ≡ done.NoRoom → ⊥) entries
+
+  stays : (mid after : Part O P C R) (entries : List (Entry O P C R)) (e : Entry O P C R) (d : Done O P C R) → e.done ≡ d → after.caller ≡ mid.caller → IsPart meaning after → Did meaning mid e.asked d after
+      → AllByRecursion (λ f. Answers meaning (opened_in meaning mid) mid.seen f.asked f.done) entries → Stays (opened_in meaning mid) after.seen entries e
+  stays mid after entries e (done.Steps s) is same part did h =
+      let o = opened_in meaning mid in
+      let grew = longer mid after e.asked.items s did in
+      let within : length after.seen ≤ o.limit = did.lawful.within in
+      let both = answers_stay meaning o mid.seen after.seen entries (omega arith) h in
+      record { answers = all_push (λ f. Answers meaning o after.seen f.asked f.done) entries e both.0 (subst (λ x. Answers meaning o after.seen e.asked x) (sym is) did.fulfils); why = inr both.1 }
+  stays mid after entries e done.NoRoom is same part did h =
+      let o = opened_in meaning mid in
+      record {
+        answers = all_push (λ f. Answers meaning o after.seen f.asked f.done) entries e (all_map (λ f. answer_full meaning o mid.seen after.seen f.asked f.done did.full) entries h) (subst (λ x. Answers meaning o after.seen e.asked x) (sym is) did.full);
+        why = inl is;
+      }
+
+  -- one entry more
+  pub entry_more : (before mid after : Part O P C R) (todos : List (Todo O P C R)) (entries : List (Entry O P C R)) (todo : Todo O P C R) (e : Entry O P C R) → IsPart meaning before → IsPart meaning after
+      → HasDone meaning before todos entries mid → IsAble todo → DoesEntry meaning mid todo e after → after.caller ≡ mid.caller → HasDone meaning before (todos ++ todo ∷ []) (entries ++ e ∷ []) after
+  entry_more before mid after todos entries todo e part end d able does same =
+      let object : e.object ≡ 0 = ap (λ (t : Todo O P C R). t.object) does.asked ∙ able.object in
+      let cell : ◌≡◌ {A = Opened P} (opened_in meaning mid) (opened_in meaning before) = ap (λ c. record { params = c.cell.params; limit = c.cell.limit }) d.caller in
+      let left = stays mid after entries e e.done refl same end does.did (subst (λ o. AllByRecursion (λ f. Answers meaning o mid.seen f.asked f.done) entries) (sym cell) d.answers) in
+      record {
+        caller = same ∙ d.caller;
+        asked = map-append asked_of entries (e ∷ []) ∙ (λ i. d.asked i ++ does.asked i ∷ []);
+        objects = all_push (λ f. f.object ≡ 0) entries e d.objects object;
+        own = own_more before mid after entries e e.done refl d.caller part d.objects object d.own does.did;
+        answers = subst (λ o. AllByRecursion (λ f. Answers meaning o after.seen f.asked f.done) (entries ++ e ∷ [])) cell left.answers;
+        full = full_push entries e d.full left.why;
+      }
+
+-- ---- two workers
+
+module _ {O P C R : Type 0} (meaning : Ghosts O P C R) (cell : Cell O P C R) (empty : cell.opening ≡ []) (two : cell.numbers ≡ 2) (log : List (Event O P C R)) (lawful : Lawful meaning cell log) where
+  abbrev opened : Opened P
+  opened = record { params = cell.params; limit = cell.limit }
+
+  -- what the log has of a worker that saw a beginning of it
+  pub record Saw (k : ℕ) (todos : List (Todo O P C R)) (entries : List (Entry O P C R)) : Type 0 where
+    pub asked : map asked_of entries ≡ todos
+    pub objects : AllByRecursion (λ e. e.object ≡ 0) entries
+    pub own : done_on 0 entries ≡ steps_by k log
+    pub answers : AllByRecursion (λ e. Answers meaning opened log e.asked e.done) entries
+    pub full : NoneAfterFull entries
+
+  steps_of : (k : ℕ) (done : List (Steps O P C R)) → map (λ (e : Event O P C R). e.steps) (events_by k done) ≡ done
+  steps_of k [] = refl
+  steps_of k (s ∷ done) = ap (λ l. s ∷ l) (steps_of k done)
+
+  answer_on : (seen : List (Event O P C R)) (asked : _) (d : Done O P C R) → Begins seen log → Answers meaning opened seen asked d → Answers meaning opened log asked d
+  answer_on seen asked (done.Steps s) begins h = h
+  answer_on seen asked done.NoRoom begins h =
+      let is : length log ≡ length seen + length (drop (length seen) log) = ap length (begins_rest seen log begins) ∙ length-append seen (drop (length seen) log) in
+      let within : length log ≤ cell.limit = lawful.within in
+      let full : length seen ≡ cell.limit = h in
+      omega arith
+
+  pub saw : (k : ℕ) (todos : List (Todo O P C R)) (entries : List (Entry O P C R)) (after : Part O P C R) → HasDone meaning (opening_part cell k) todos entries after → Grows after.caller.owned after.seen log → Saw k todos entries
+  saw k todos entries after d grows =
+      let mine : of k log ≡ of k after.seen = grows.own k (subst (λ c. c.owned k ≡ true) (sym d.caller) (self k)) in
+      let none : of k cell.opening ≡ [] = ap (λ l. of k l) empty in
+      let events : of k log ≡ events_by k (done_on 0 entries) = mine ∙ (d.own ∙ ap (λ l. l ++ events_by k (done_on 0 entries)) none) in
+      record {
+        asked = d.asked;
+        objects = d.objects;
+        own = sym (ap (map (λ (e : Event O P C R). e.steps)) events ∙ steps_of k (done_on 0 entries));
+        answers = all_map (λ e. answer_on after.seen e.asked e.done grows.begins) entries d.answers;
+        full = d.full;
+      }
+    where
+      self : (k : ℕ) → (k == k) ≡ true
+      self k = grind (arith, nat_tests)
+
+  module _ (first second : List (Entry O P C R)) (firsts seconds : List (Todo O P C R)) (one : Saw 0 firsts first) (other : Saw 1 seconds second) where
+    -- the run that two CPUs made
+    abbrev pub run_of : Run O P C R
+    run_of = record { logs = log ∷ []; transcripts = first ∷ second ∷ [] }
+
+    is_only : {X Q : Type 0} (x y : X) (i : ℕ) → slice_get (x ∷ []) i ≡ Some y → (i ≡ 0 → x ≡ y → Q) → Q
+    is_only x y zero e k = k refl (let same : x ≡ y = cc in same)
+    is_only x y (suc i) e k = absurd (cc)
+
+    taken : (cpu : ℕ) → done_on 0 (transcript_of cpu run_of) ≡ steps_by cpu log
+    taken zero = one.own
+    taken (suc zero) = other.own
+    taken (suc (suc k)) = sym (ap (map (λ (e : Event O P C R). e.steps)) (of_opening (suc (suc k)) cell.numbers log cell.opening (omega arith) lawful.begins lawful.numbered ∙ ap (λ l. of (suc (suc k)) l) empty))
+
+    entry : (e : Entry O P C R) → (e.object ≡ 0) × Answers meaning opened log e.asked e.done → EntryIsSound meaning (opened ∷ []) run_of e
+    entry e both = record { opened = opened; log = log; object = ap (λ n. slice_get (opened ∷ []) n) both.0; logged = ap (λ n. slice_get (log ∷ []) n) both.0; answers = both.1 }
+
+    entries_sound : (cpu : ℕ) → AllByRecursion (λ e. EntryIsSound meaning (opened ∷ []) run_of e) (transcript_of cpu run_of)
+    entries_sound zero = all_both entry first one.objects one.answers
+    entries_sound (suc zero) = all_both entry second other.objects other.answers
+    entries_sound (suc (suc k)) = tt
+
+    after_full : (cpu : ℕ) → NoneAfterFull (transcript_of cpu run_of)
+    after_full zero = one.full
+    after_full (suc zero) = other.full
+    after_full (suc (suc k)) = tt
+
+    pub is_sound : Sound meaning (opened ∷ []) run_of
+    is_sound =
+        let sound : LogIsSound meaning opened log = record { legal = lawful.legal; within = lawful.within } in
+        record {
+          counted = refl;
+          logs = λ x o l at_object at_log. is_only opened o x at_object (λ _ same_o. is_only log l x at_log (λ _ same_log. subst (λ z. LogIsSound meaning z l) same_o (subst (LogIsSound meaning opened) same_log sound)));
+          taken = λ cpu x l at_log. is_only log l x at_log (λ zero_is same_log. ap (λ n. done_on n (transcript_of cpu run_of)) zero_is ∙ (taken cpu ∙ ap (λ z. steps_by cpu z) same_log));
+          entries = entries_sound;
+          full = after_full;
+        }
+
+    pub asks : (requests : List (Request O P C R)) → firsts ≡ script_of 0 requests → seconds ≡ script_of 1 requests → AllByRecursion (λ r. r.cpu < 2) requests → AsksFor requests run_of
+    asks requests a b able zero = one.asked ∙ a
+    asks requests a b able (suc zero) = other.asked ∙ b
+    asks requests a b able (suc (suc k)) = sym (nobody (suc (suc k)) requests (omega arith) able)
+      where
+        nobody : (cpu : ℕ) (rs : List (Request O P C R)) → 2 ≤ cpu → AllByRecursion (λ r. r.cpu < 2) rs → script_of cpu rs ≡ []
+        nobody cpu [] high able = refl
+        nobody cpu (r ∷ rs) high able =
+            let lower = able.0 in
+            let other : (r.cpu == cpu) ≡ false = grind (arith, nat_tests, lower, high) in
+            rw other (nobody cpu rs high able.1)
+
+-- ---- requests of scripts over one object
+
+module _ {O P C R : Type 0} (spelling : Spelling P C R) (settings : Settings P) (single : length settings.objects ≡ 1) where
+  able_request : (n : ℕ) → settings.cpus ≤ n → (line : List ℕ) (r : Request O P C R) → IsRequest spelling settings line r → IsFor n r
+  able_request n few line r asked =
+      let cpu = asked.cpu in
+      let object = asked.object in
+      record { cpu = omega (arith, cpu, few); able = record { object = omega (arith, object, single); some = asked.some; few = asked.few } }
+
+  pub able_requests : (n : ℕ) → settings.cpus ≤ n → (lines : List (List ℕ)) (requests : List (Request O P C R)) → AskFor spelling settings lines requests → AllByRecursion (λ r. IsFor n r) requests
+  able_requests n few [] [] h = tt
+  able_requests n few [] (r ∷ requests) h = absurd (cc)
+  able_requests n few (line ∷ lines) [] h = tt
+  able_requests n few (line ∷ lines) (r ∷ requests) h = elim h [ inl b ↦ able_requests n few lines (r ∷ requests) b.1 | inr b ↦ (able_request n few line r b.0, able_requests n few lines requests b.1) ]

@@ -1,0 +1,18 @@
+use Rattle.std.proofs.Common.{refl, subst, IfOk}
+use Rattle.event_log.specs.Log.{Fulfils}
+use Rattle.word_rule.proofs.Parts.{did}
+use Rattle.ticket_lock.specs.Passes.{pass_part, hold_held}
+use Rattle.mc2.proofs.Workers.{did_of}
+use Rattle.mc2.proofs.worker.do_entry.Goals as goal
+
+pub release-pass-requires : goal.release-pass-requires
+release-pass-requires g c = c.apply-applied.ensures.hold c.args.cell.now c.acquire-hold.ensures.hold
+
+pub returns-clause-entry : goal.returns-clause-entry
+returns-clause-entry g c = let a = c.apply-applied.ensures in let r = c.release-pass.ensures in let h = c.acquire-hold in
+    let both = did g.O.SeqObject (pass_part c.args.pass) (pass_part c.release-pass.result) (hold_held h.result.0) (hold_held c.apply-applied.new.hold) h.result.0.holds.held h.ensures.caller h.ensures.grows a.caller r.caller r.seen c.release-pass.result.idle.part
+        c.args.todo.calls.items c.apply-applied.result (subst (λ cs. IfOk c.apply-applied.result (λ s. Fulfils g.O.SeqObject cs s.list.items)) c.as_slice.ensures.value a.asked) a.room a.after a.full in
+    record {
+      asked = refl;
+      did = did_of g.O.SeqObject (pass_part c.args.pass) (pass_part c.release-pass.result) c.args.todo.calls c.apply-applied.result c.done_of.result c.done_of.ensures.ok c.done_of.ensures.full both;
+    }

@@ -1,0 +1,72 @@
+//! A CPU's worker: it does its entries on a cell, one after another.
+
+ghost use Rattle.std.specs.Prelude.{◌≡◌, ◌≤◌, [], length, vec_capacity, IfOk, OnErr};
+ghost use Rattle.std.specs.List.{AllByRecursion};
+ghost use Rattle.ticket_lock.specs.Passes.{IsPassOf, pass_part};
+ghost use Rattle.mc2.specs.FirstRun.{IsAble, DoesEntry, HasDone};
+
+use event_log::{Done, Entry, NoRoom, SeqObject, Steps, Todo};
+use std::sync::Wait;
+use ticket_lock::{Pass, TicketCell};
+use word_rule::LockCell;
+
+/// What became of the calls.
+fn done_of<O: SeqObject>(applied: Result<Steps<O>, NoRoom>) -> Done<O>
+    ensures ok { IfOk applied (λ s. result ≡ Done.Steps s) }
+    ensures full { OnErr applied (result ≡ Done.NoRoom) }
+{
+    match applied {
+        Ok(steps) => Done::Steps(steps),
+        Err(NoRoom) => Done::NoRoom,
+    }
+}
+
+/// Does an entry as one event.
+fn do_entry<O: SeqObject, R: Wait>(
+    rt: &R,
+    cell: &TicketCell<O>,
+    pass: Pass<O>,
+    todo: Todo<O>,
+) -> (Pass<O>, Entry<O>)
+    requires pass { IsPassOf cell.now pass }
+    requires able { IsAble todo }
+    ensures pass { IsPassOf cell.now result.0 }
+    ensures entry { DoesEntry O.SeqObject (pass_part pass) todo result.1 (pass_part result.0) }
+    ensures caller { (pass_part result.0).caller ≡ (pass_part pass).caller }
+{
+    let (mut hold, looks) = cell.acquire(rt, pass);
+    let applied = TicketCell::apply(&mut hold, todo.calls.as_slice());
+    let pass = cell.release(rt, hold);
+    let entry = Entry {
+        object: todo.object,
+        asked: todo.calls,
+        done: done_of(applied),
+        looks,
+    };
+    (pass, entry)
+}
+
+/// Does the entries in their order. The transcript has room for them.
+pub fn do_entries<O: SeqObject, R: Wait>(
+    rt: &R,
+    cell: &TicketCell<O>,
+    pass: Pass<O>,
+    todos: Vec<Todo<O>>,
+    transcript: Vec<Entry<O>>,
+) -> (Pass<O>, Vec<Entry<O>>)
+    requires pass { IsPassOf cell.now pass }
+    requires able { AllByRecursion IsAble todos.items }
+    requires empty { transcript.items ≡ [] }
+    requires room { length todos.items ≤ vec_capacity transcript }
+    ensures pass { IsPassOf cell.now result.0 }
+    ensures done { HasDone O.SeqObject (pass_part pass) todos.items result.1.items (pass_part result.0) }
+{
+    let mut pass = pass;
+    let mut transcript = transcript;
+    for todo in todos {
+        let (back, entry) = do_entry(rt, cell, pass, todo);
+        pass = back;
+        transcript.push_reserved(entry);
+    }
+    (pass, transcript)
+}
