@@ -7,3 +7,4 @@ pub mod QueueReads
 pub mod ScriptLines
 pub mod Workers
 pub mod Verdicts
+pub mod QueueSends

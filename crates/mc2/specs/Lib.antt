@@ -10,3 +10,4 @@ pub mod QueueTypes
 pub mod ScriptFaults
 pub mod FirstRun
 pub mod Faults
+pub mod Workers

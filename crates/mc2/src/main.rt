@@ -14,6 +14,7 @@ mod settings;
 mod split_once;
 #[cfg(test)]
 mod tests;
+mod threads;
 mod words;
 mod worker;
 mod write_text;

@@ -1,9 +1,9 @@
 //! A CPU's worker: it does its entries on a cell, one after another.
 
-ghost use Rattle.std.specs.Prelude.{◌≡◌, ◌≤◌, [], length, vec_capacity, IfOk, OnErr};
-ghost use Rattle.std.specs.List.{AllByRecursion};
+ghost use Rattle.std.specs.Prelude.{◌≡◌, vec_capacity, IfOk, OnErr};
 ghost use Rattle.ticket_lock.specs.Passes.{IsPassOf, pass_part};
-ghost use Rattle.mc2.specs.FirstRun.{IsAble, DoesEntry, HasDone};
+ghost use Rattle.mc2.specs.FirstRun.{IsAble, DoesEntry};
+ghost use Rattle.mc2.specs.Workers.{IsReady, IsDone};
 
 use event_log::{Done, Entry, NoRoom, SeqObject, Steps, Todo};
 use std::sync::Wait;
@@ -54,12 +54,8 @@ pub fn do_entries<O: SeqObject, R: Wait>(
     todos: Vec<Todo<O>>,
     transcript: Vec<Entry<O>>,
 ) -> (Pass<O>, Vec<Entry<O>>)
-    requires pass { IsPassOf cell.now pass }
-    requires able { AllByRecursion IsAble todos.items }
-    requires empty { transcript.items ≡ [] }
-    requires room { length todos.items ≤ vec_capacity transcript }
-    ensures pass { IsPassOf cell.now result.0 }
-    ensures done { HasDone O.SeqObject (pass_part pass) todos.items result.1.items (pass_part result.0) }
+    requires { IsReady cell.now pass todos.items transcript.items (vec_capacity transcript) }
+    ensures { IsDone cell.now pass todos.items result.0 result.1.items }
 {
     let mut pass = pass;
     let mut transcript = transcript;

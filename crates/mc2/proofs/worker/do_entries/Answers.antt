@@ -26,9 +26,9 @@ loop-todo-preserved g c =
       room = room_left (length c.loop-todo.transcript.items) (length (into_iter_items c.next.new.self)) _ _ _ (ap length c.push_reserved.ensures.items ∙ length-append c.loop-todo.transcript.items (c.do_entry-back.result.1 ∷ [])) c.push_reserved.ensures.capacity room;
     }
 
-pub returns-clause-done : goal.returns-clause-done
-returns-clause-done g c =
+pub returns : goal.returns
+returns g c =
     let i = c.loop-todo.invariant in
     let none : into_iter_items c.loop-todo.todo-iterator ≡ [] = nil_from_length _ (sym c.loop-todo.todo-iterator.rest.ok.0 ∙ c.in-None.ensures.steps.0) in
     let all : c.loop-todo.yielded ≡ c.args.todos.items = sym (append-nil c.loop-todo.yielded) ∙ (rw none at i.split) in
-    subst (λ l. HasDone g.O.SeqObject (pass_part c.args.pass) l c.loop-todo.transcript.items (pass_part c.loop-todo.pass)) all i.done
+    record { pass = i.pass; done = subst (λ l. HasDone g.O.SeqObject (pass_part c.args.pass) l c.loop-todo.transcript.items (pass_part c.loop-todo.pass)) all i.done }
