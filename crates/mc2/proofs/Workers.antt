@@ -3,6 +3,7 @@ use Rattle.std.proofs.Common.{◌≡◌, ◌≢◌, ℕ, zero, suc, ◌<◌, ◌
 use Rattle.std.specs.List.{AllByRecursion, slice_get, filter}
 use Rattle.std.proofs.lemmas.List.{append-nil, map-append, length-map}
 use Rattle.std.proofs.lemmas.Bool.Decides.{nat_tests}
+use Rattle.std.proofs.lemmas.List.Elements.{filter-append}
 use Rattle.arrayvec.specs.ArrayVec.{ArrayVec}
 use Rattle.event_log.specs.declared.object.SeqObject.{Ghosts}
 use Rattle.event_log.specs.declared.event.Steps.{Steps}
@@ -13,13 +14,14 @@ use Rattle.event_log.specs.declared.entry.Entry.{Entry}
 use Rattle.event_log.specs.declared.entry.Todo.{Todo}
 use Rattle.event_log.specs.declared.entry.Run.{Run}
 use Rattle.event_log.specs.Log.{Begins, of}
+use Rattle.event_log.specs.History.{History}
 use Rattle.event_log.proofs.Beginnings.{begins_rest}
 use Rattle.mc2.specs.declared.request.Request.{Request}
 use Rattle.mc2.specs.FirstRun.{asked_of, script_of, AsksFor, IsAble, IsFor, Did, DoesEntry, HasDone, opened_in}
 use Rattle.mc2.specs.ScriptText.{IsRequest, AskFor}
 use Rattle.mc2.specs.Settings.{Settings}
 use Rattle.mc2.specs.Spelling.{Spelling}
-use Rattle.word_rule.specs.Cell.{Cell, Caller, Part, Grows, Lawful, IsPart, opening_part}
+use Rattle.word_rule.specs.Cell.{Cell, Caller, Part, Grows, Lawful, IsPart, OwnsAll, cell_of, first_part, opening_part}
 use Rattle.word_rule.specs.Answered.{IsAnswered, IsRefused, events_by}
 use Rattle.word_rule.specs.Sound.{Opened, Sound, LogIsSound, EntryIsSound, Answers, NoneAfterFull, done_on, with_steps, steps_by, transcript_of}
 use Rattle.word_rule.proofs.Lists.{of_opening}
@@ -268,6 +270,60 @@ module _ {O P C R : Type 0} (meaning : Ghosts O P C R) (cell : Cell O P C R) (em
             let lower = able.0 in
             let other : (r.cpu == cpu) ≡ false = grind (arith, nat_tests, lower, high) in
             rw other (nobody cpu rs high able.1)
+
+-- what two workers on a new cell of two CPUs leave, and the pass that theirs become
+module _ {O P C R : Type 0} (meaning : Ghosts O P C R) (x : History O P C R) (new : x.log ≡ []) (before0 before1 after0 after1 joined : Part O P C R) (firsts seconds : List (Todo O P C R)) (first second : List (Entry O P C R))
+    (is0 : before0 ≡ first_part x 2 0) (is1 : before1 ≡ first_part x 2 1) (done0 : HasDone meaning before0 firsts first after0) (done1 : HasDone meaning before1 seconds second after1) (one_cell : joined.caller.cell ≡ after0.caller.cell) where
+  abbrev cell : Cell O P C R
+  cell = cell_of 2 x
+
+  one0 : HasDone meaning (opening_part cell 0) firsts first after0
+  one0 = subst (λ p. HasDone meaning p firsts first after0) is0 done0
+
+  one1 : HasDone meaning (opening_part cell 1) seconds second after1
+  one1 = subst (λ p. HasDone meaning p seconds second after1) is1 done1
+
+  pub whole : ((k : ℕ) → joined.caller.owned k ≡ (after0.caller.owned k || after1.caller.owned k)) → OwnsAll joined.caller
+  whole owned = record { each = λ k below. owned k ∙ ((λ i. (one0.caller i).owned k || (one1.caller i).owned k) ∙ both k (subst (λ n. k < n) (ap (λ c. c.numbers) (one_cell ∙ ap (λ c. c.cell) one0.caller)) below)) }
+    where
+      both : (k : ℕ) → k < 2 → ((k == 0) || (k == 1)) ≡ true
+      both zero lt = refl
+      both (suc zero) lt = refl
+      both (suc (suc k)) lt = absurd (omega arith)
+
+  module _ (part : IsPart meaning joined) (grows0 : Grows after0.caller.owned after0.seen joined.seen) (grows1 : Grows after1.caller.owned after1.seen joined.seen) where
+    lawful_joined : Lawful meaning cell joined.seen
+    lawful_joined = subst (λ c. Lawful meaning c joined.seen) (one_cell ∙ ap (λ c. c.cell) one0.caller) part.lawful
+
+    saw0 : Saw meaning cell new refl joined.seen lawful_joined 0 firsts first
+    saw0 = saw meaning cell new refl joined.seen lawful_joined 0 firsts first after0 one0 grows0
+
+    saw1 : Saw meaning cell new refl joined.seen lawful_joined 1 seconds second
+    saw1 = saw meaning cell new refl joined.seen lawful_joined 1 seconds second after1 one1 grows1
+
+    pub run_sound : Sound meaning (record { params = x.params; limit = x.limit } ∷ []) record { logs = joined.seen ∷ []; transcripts = first ∷ second ∷ [] }
+    run_sound = is_sound meaning cell new refl joined.seen lawful_joined first second firsts seconds saw0 saw1
+
+    pub run_asks : (requests : List (Request O P C R)) → firsts ≡ script_of 0 requests → seconds ≡ script_of 1 requests → AllByRecursion (λ r. IsFor 2 r) requests → AsksFor requests record { logs = joined.seen ∷ []; transcripts = first ∷ second ∷ [] }
+    run_asks requests a b able = asks meaning cell new refl joined.seen lawful_joined first second firsts seconds saw0 saw1 requests a b (all_map (λ r f. f.cpu) requests able)
+
+-- ---- scripts, CPU by CPU
+
+module _ {O P C R : Type 0} where
+  pub script_push : (cpu : ℕ) (requests : List (Request O P C R)) (r : Request O P C R) → script_of cpu (requests ++ r ∷ []) ≡ script_of cpu requests ++ cond (r.cpu == cpu) (r.todo ∷ []) []
+  script_push cpu requests r =
+      let split : filter (λ (q : Request O P C R). q.cpu == cpu) (requests ++ r ∷ []) ≡ filter (λ q. q.cpu == cpu) requests ++ filter (λ q. q.cpu == cpu) (r ∷ []) = filter-append (λ q. q.cpu == cpu) requests (r ∷ []) in
+      ap (map (λ (q : Request O P C R). q.todo)) split ∙ (map-append (λ (q : Request O P C R). q.todo) (filter (λ q. q.cpu == cpu) requests) (filter (λ q. q.cpu == cpu) (r ∷ [])) ∙ ap (λ l. script_of cpu requests ++ l) (last (r.cpu == cpu)))
+    where
+      last : (b : Bool) → map (λ (q : Request O P C R). q.todo) (cond b (r ∷ []) []) ≡ cond b (r.todo ∷ []) []
+      last true = refl
+      last false = refl
+
+  pub script_able : (n cpu : ℕ) (requests : List (Request O P C R)) → AllByRecursion (λ r. IsFor n r) requests → AllByRecursion IsAble (script_of cpu requests)
+  script_able n cpu [] h = tt
+  script_able n cpu (r ∷ requests) h =
+      let rest = script_able n cpu requests h.1 in
+      elim (r.cpu == cpu) as (λ b. AllByRecursion IsAble (map (λ (q : Request O P C R). q.todo) (cond b (r ∷ filter (λ q. q.cpu == cpu) requests) (filter (λ q. q.cpu == cpu) requests)))) [ true ↦ (h.0.able, rest) | false ↦ rest ]
 
 -- ---- requests of scripts over one object
 

@@ -9,6 +9,7 @@ use Rattle.mc2.specs.declared.input.InputFault.TheVariants as input
 
 abbrev pub of_run : FirstFault → Fault
 of_run first.OutOfMemory = fault.OutOfMemory
+of_run (first.NoThreadStarted cpu) = fault.NoThreadStarted cpu
 of_run (first.BadScripts n) = fault.BadScripts n
 of_run first.WriteFailed = fault.WriteFailed
 
@@ -19,6 +20,7 @@ of_input input.ReadFailed = fault.ReadFailed
 -- 2 for what the caller wrote, 3 for what the machine refused
 abbrev pub status_of : Fault → ℕ
 status_of fault.OutOfMemory = 3
+status_of (fault.NoThreadStarted cpu) = 3
 status_of (fault.BadScripts n) = 2
 status_of fault.ReadFailed = 3
 status_of fault.WriteFailed = 3

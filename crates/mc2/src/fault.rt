@@ -12,6 +12,8 @@ use thiserror::Error;
 pub enum Fault {
     #[error("mc2: E1 out of memory")]
     OutOfMemory,
+    #[error("mc2: E5 no thread started for cpu {0}")]
+    NoThreadStarted(u8),
     #[error("mc2: E7 scripts: line {0}")]
     BadScripts(usize),
     #[error("mc2: E12 read failed")]
@@ -29,7 +31,10 @@ impl Fault {
     {
         match self {
             Fault::BadScripts(_) | Fault::BadWords => 2,
-            Fault::OutOfMemory | Fault::ReadFailed | Fault::WriteFailed => 3,
+            Fault::OutOfMemory
+            | Fault::NoThreadStarted(_)
+            | Fault::ReadFailed
+            | Fault::WriteFailed => 3,
         }
     }
 }
@@ -40,6 +45,7 @@ impl From<FirstFault> for Fault {
     fn from(fault: FirstFault) -> Fault {
         match fault {
             FirstFault::OutOfMemory => Fault::OutOfMemory,
+            FirstFault::NoThreadStarted(cpu) => Fault::NoThreadStarted(cpu),
             FirstFault::BadScripts(line) => Fault::BadScripts(line),
             FirstFault::WriteFailed => Fault::WriteFailed,
         }

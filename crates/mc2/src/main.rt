@@ -32,6 +32,8 @@ pub use settings::{ObjectSettings, Settings};
 use std::fs::File;
 use std::process::ExitCode;
 use std::rt::{Env, Files};
+use std::sync::Wait;
+use std::thread::Threads;
 use std::{env, io};
 pub use write_text::{WriteFailed, write_text};
 pub use writer::write_record;
@@ -62,7 +64,9 @@ fn all_words<R: Env + AllocGlobal>(rt: &R) -> Result<Vec<String>, Fault> {
 }
 
 /// Does what the program's words ask for.
-fn run<R: Env + Files + Input + Print + AllocGlobal>(rt: &R) -> Result<(), Fault> {
+fn run<R: Env + Files + Input + Print + AllocGlobal + Threads + Wait + Sync>(
+    rt: &R,
+) -> Result<(), Fault> {
     let words = all_words(rt)?;
     let arguments = read_words(rt.alloc(), words.as_slice())?;
     let scripts = match arguments.scripts {
@@ -73,6 +77,7 @@ fn run<R: Env + Files + Input + Print + AllocGlobal>(rt: &R) -> Result<(), Fault
         None => read_all(rt.alloc(), &mut Plain::new(rt.reader()))?,
     };
     first_run(
+        rt,
         rt.alloc(),
         scripts.as_slice(),
         &mut Plain::new(io::writer(rt)),

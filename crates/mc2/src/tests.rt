@@ -3,15 +3,17 @@
 use crate::{FirstFault, first_run};
 use event_log::{Plain, Sink, StreamFailed};
 use std::alloc::Global;
+use std::sync::Wait;
 use std::test::Fail;
+use std::thread::Threads;
 
 /// What is printed before the log where the built-in queue has been opened.
 const HEAD: &str = "record 1\ncpus 2\nobjects 1\nobject q0 ticket 100 queue 8\n";
 
 /// The text of the run that the scripts ask for.
-fn printed(alloc: Global, scripts: &str) -> Result<Vec<u8>, FirstFault> {
-    let mut out = Plain::new(Vec::new(alloc));
-    first_run(alloc, scripts.as_bytes(), &mut out)?;
+fn printed<R: Threads + Wait + Sync + AllocGlobal>(rt: &R, scripts: &str) -> Result<Vec<u8>, FirstFault> {
+    let mut out = Plain::new(Vec::new(rt.alloc()));
+    first_run(rt, rt.alloc(), scripts.as_bytes(), &mut out)?;
     Ok(out.inner)
 }
 
@@ -37,7 +39,7 @@ fn worked_runs(rt: HostRuntime) -> Result<(), Fail> {
         ),
     ];
     for (scripts, rest) in rows {
-        let text = printed(rt.alloc(), scripts)?;
+        let text = printed(&rt, scripts)?;
         let wanted = format!(in rt.alloc(); "{HEAD}{rest}")?;
         assert!(rt; text.as_slice() == wanted.as_bytes(), "{scripts:?}");
     }
@@ -66,7 +68,7 @@ fn refused_scripts(rt: HostRuntime) {
         ("0 q0 deq\r\n", 1),
     ];
     for (scripts, line) in rows {
-        let fault = match printed(rt.alloc(), scripts) {
+        let fault = match printed(&rt, scripts) {
             Err(FirstFault::BadScripts(number)) => number,
             _ => 0,
         };
@@ -86,9 +88,9 @@ fn lines(alloc: Global, count: usize) -> Result<String, Fail> {
 #[test]
 fn entries_of_one_cpu(rt: HostRuntime) -> Result<(), Fail> {
     let most = lines(rt.alloc(), 10_000)?;
-    assert!(rt; printed(rt.alloc(), most.as_str()).is_ok());
+    assert!(rt; printed(&rt, most.as_str()).is_ok());
     let more = lines(rt.alloc(), 10_001)?;
-    let refused = printed(rt.alloc(), more.as_str());
+    let refused = printed(&rt, more.as_str());
     assert!(rt; matches!(refused, Err(FirstFault::BadScripts(10_001))));
     Ok(())
 }
@@ -137,30 +139,33 @@ impl Sink for Failing {
 }
 
 /// The outcome of a run whose sink fails after so many calls, and what the sink has.
-fn run_failing(
-    alloc: Global,
+fn run_failing<R: Threads + Wait + Sync + AllocGlobal>(
+    rt: &R,
     scripts: &str,
     calls: usize,
     failure: Failure,
 ) -> (Result<(), FirstFault>, Failing) {
     let mut out = Failing {
-        taken: Vec::new(alloc),
+        taken: Vec::new(rt.alloc()),
         most: 500,
         calls_left: calls,
         failure,
         failed: 0,
     };
-    (first_run(alloc, scripts.as_bytes(), &mut out), out)
+    (
+        first_run(rt, rt.alloc(), scripts.as_bytes(), &mut out),
+        out,
+    )
 }
 
 #[test]
 fn failing_sinks(rt: HostRuntime) -> Result<(), Fail> {
     let scripts = lines(rt.alloc(), 200)?;
-    let whole = printed(rt.alloc(), scripts.as_str())?;
+    let whole = printed(&rt, scripts.as_str())?;
     let writes = whole.len().div_ceil(500) + 2;
     for failure in [Failure::Error, Failure::NothingTaken] {
         for calls in 0..writes {
-            let (done, out) = run_failing(rt.alloc(), scripts.as_str(), calls, failure);
+            let (done, out) = run_failing(&rt, scripts.as_str(), calls, failure);
             let is_whole = out.taken.as_slice() == whole.as_slice();
             assert_eq!(rt; done.is_ok(), is_whole, "{failure:?} after {calls} calls");
             assert!(rt; whole.as_slice().starts_with(out.taken.as_slice()));
