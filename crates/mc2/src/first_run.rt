@@ -7,10 +7,13 @@ ghost use Rattle.event_log.specs.Stream.{counted};
 ghost use Rattle.word_rule.specs.Cell.{first_part};
 ghost use Rattle.word_rule.specs.Sound.{Sound};
 ghost use Rattle.ticket_lock.specs.Passes.{IsPassOf, pass_part};
-ghost use Rattle.mc2.specs.FirstRun.{AsksFor, IsFor, WritesRun, WritesBeginning, opened_of, script_of};
+ghost use Rattle.mc2.specs.FirstRun.{AsksFor, IsFor, WritesRun, WritesBeginning, script_of};
 ghost use Rattle.mc2.specs.QueueWords.{built_in_settings, queue_spelling};
 ghost use Rattle.mc2.specs.QueueTypes.{QueueRequest};
 ghost use Rattle.mc2.specs.ScriptText.{AreScripts, IsFirstBad};
+
+#[cfg(test)]
+mod tests;
 
 use crate::scripts::{ScriptsFault, read_scripts};
 use crate::threads::{NoThreadStarted, on_two_threads};
@@ -65,7 +68,10 @@ pub fn first_run<R: Threads + Wait + Sync, W: Sink>(
         Err(ScriptsFault::OutOfMemory) => return Err(FirstFault::OutOfMemory),
         Err(ScriptsFault::Line(number)) => return Err(FirstFault::BadScripts(number)),
     };
-    let run = match do_scripts(rt, alloc, &settings, requests) {
+    let Ok(logged) = open_first(alloc, &settings) else {
+        return Err(FirstFault::OutOfMemory);
+    };
+    let run = match do_scripts(rt, alloc, logged, requests) {
         Ok(run) => run,
         Err(RunFault::OutOfMemory) => return Err(FirstFault::OutOfMemory),
         Err(RunFault::NoThreadStarted(cpu)) => return Err(FirstFault::NoThreadStarted(cpu)),
@@ -211,20 +217,20 @@ impl From<NoThreadStarted> for RunFault {
     }
 }
 
-/// Lets each CPU do its entries on a thread of its own. All memory is taken before a thread is started.
+/// Lets each of two CPUs do its entries on a new object, on a thread of its own. All memory is taken before a thread is
+/// started.
 fn do_scripts<R: Threads + Wait + Sync>(
     rt: &R,
     alloc: Global,
-    settings: &Settings,
+    logged: Logged<ThreadQueue>,
     requests: Vec<Request<ThreadQueue>>,
 ) -> Result<Run<ThreadQueue>, RunFault>
-    requires settings { settings.now ≡ built_in_settings }
+    requires new { logged.log ≡ [] }
     requires able { AllByRecursion (λ r. IsFor 2 r) requests.items }
     ensures asks { IfOk result (λ run. AsksFor requests.items run) }
     ensures cpus { IfOk result (λ run. length run.transcripts ≡ 2) }
-    ensures sound { IfOk result (λ run. Sound ⟦<ThreadQueue as SeqObject>⟧ (opened_of built_in_settings) run) }
+    ensures sound { IfOk result (λ run. Sound ⟦<ThreadQueue as SeqObject>⟧ (record { params = logged.params; limit = logged.limit } ∷ []) run) }
 {
-    let logged = open_first(alloc, settings)?;
     let (cell, passes) = open_cell(alloc, logged)?;
     let todos = split_scripts(alloc, requests)?;
     let Room {

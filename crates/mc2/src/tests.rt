@@ -34,8 +34,8 @@ fn worked_runs(rt: HostRuntime) -> Result<(), Fail> {
         ),
         ("", "log q0 0\ncpu 0 0\ncpu 1 0\nend\n"),
         (
-            "# both CPUs\n\n1 q0 enq 1\n0 q0 remove 2 ; len\n1 q0 len ; remove 1 ; remove 9\n",
-            "log q0 3\n1 enq 1 = ok\n0 remove 2 = absent\n1 len = count 1 ; remove 1 = ok ; remove 9 = badthread\ncpu 0 1\nq0 1 remove 2 ; len | remove 2 = absent\ncpu 1 2\nq0 1 enq 1 | enq 1 = ok\nq0 1 len ; remove 1 ; remove 9 | len = count 1 ; remove 1 = ok ; remove 9 = badthread\nend\n",
+            "# CPU 1 alone\n\n1 q0 enq 1\n1 q0 remove 2 ; len\n1 q0 len ; remove 1 ; remove 9\n",
+            "log q0 3\n1 enq 1 = ok\n1 remove 2 = absent\n1 len = count 1 ; remove 1 = ok ; remove 9 = badthread\ncpu 0 0\ncpu 1 3\nq0 1 enq 1 | enq 1 = ok\nq0 1 remove 2 ; len | remove 2 = absent\nq0 1 len ; remove 1 ; remove 9 | len = count 1 ; remove 1 = ok ; remove 9 = badthread\nend\n",
         ),
     ];
     for (scripts, rest) in rows {

@@ -4,7 +4,7 @@ use Rattle.shared_queue.specs.contracts.queue.ThreadQueueSeqObject.TheImpl.{ghos
 use Rattle.word_rule.specs.Sound.{Sound}
 use Rattle.ticket_lock.specs.Passes.{pass_part}
 use Rattle.mc2.specs.FirstRun.{IsAble, AsksFor}
-use Rattle.mc2.specs.QueueTypes.{QueueRun, QueueHistory}
+use Rattle.mc2.specs.QueueTypes.{QueueRun}
 use Rattle.mc2.proofs.Workers.{script_able, whole, run_sound, run_asks}
 use Rattle.mc2.proofs.first_run.do_scripts.Goals as goal
 
@@ -27,13 +27,13 @@ on_two_threads-requires-clause-second g c κs within = record {
 pub close-requires-clause-whole : goal.close-requires-clause-whole
 close-requires-clause-whole g c =
     let passes = c.in_ok-cell.passes in let first = c.in_ok-first.first in let second = c.in_ok-first.second in let todos = c.in_ok-todos.todos in let j = c.join-pass.ensures in
-    whole queue_meaning c.in_ok-logged.logged (ap (λ h. h.log) c.in_ok-logged.ensures.opened) (pass_part passes.0) (pass_part passes.1) (pass_part first.0) (pass_part second.0) (pass_part c.join-pass.result) todos.0.items todos.1.items first.1.items second.1.items
+    whole queue_meaning c.args.logged c.requires.new (pass_part passes.0) (pass_part passes.1) (pass_part first.0) (pass_part second.0) (pass_part c.join-pass.result) todos.0.items todos.1.items first.1.items second.1.items
         c.in_ok-cell.ensures.first.1 c.in_ok-cell.ensures.second.1 c.in_ok-first.ensures.first.done c.in_ok-first.ensures.second.done j.first_cell j.owned
 
 pub returns-clause-asks : goal.returns-clause-asks
 returns-clause-asks g c =
     let passes = c.in_ok-cell.passes in let first = c.in_ok-first.first in let second = c.in_ok-first.second in let todos = c.in_ok-todos.todos in let j = c.join-pass.ensures in
-    let asks = run_asks queue_meaning c.in_ok-logged.logged (ap (λ h. h.log) c.in_ok-logged.ensures.opened) (pass_part passes.0) (pass_part passes.1) (pass_part first.0) (pass_part second.0) (pass_part c.join-pass.result) todos.0.items todos.1.items first.1.items second.1.items
+    let asks = run_asks queue_meaning c.args.logged c.requires.new (pass_part passes.0) (pass_part passes.1) (pass_part first.0) (pass_part second.0) (pass_part c.join-pass.result) todos.0.items todos.1.items first.1.items second.1.items
         c.in_ok-cell.ensures.first.1 c.in_ok-cell.ensures.second.1 c.in_ok-first.ensures.first.done c.in_ok-first.ensures.second.done j.first_cell c.join-pass.result.idle.part j.first_grows j.second_grows c.args.requests.items c.in_ok-todos.ensures.first c.in_ok-todos.ensures.second c.requires.able in
     let log = c.into_log-log.ensures ∙ ap (λ h. h.log) c.close.ensures in
     let made = c.make_run.ensures ∙ ap (λ l. record { logs = l ∷ []; transcripts = first.1.items ∷ second.1.items ∷ [] }) log in
@@ -42,9 +42,8 @@ returns-clause-asks g c =
 pub returns-clause-sound : goal.returns-clause-sound
 returns-clause-sound g c =
     let passes = c.in_ok-cell.passes in let first = c.in_ok-first.first in let second = c.in_ok-first.second in let todos = c.in_ok-todos.todos in let j = c.join-pass.ensures in
-    let sound = run_sound queue_meaning c.in_ok-logged.logged (ap (λ h. h.log) c.in_ok-logged.ensures.opened) (pass_part passes.0) (pass_part passes.1) (pass_part first.0) (pass_part second.0) (pass_part c.join-pass.result) todos.0.items todos.1.items first.1.items second.1.items
+    let sound = run_sound queue_meaning c.args.logged c.requires.new (pass_part passes.0) (pass_part passes.1) (pass_part first.0) (pass_part second.0) (pass_part c.join-pass.result) todos.0.items todos.1.items first.1.items second.1.items
         c.in_ok-cell.ensures.first.1 c.in_ok-cell.ensures.second.1 c.in_ok-first.ensures.first.done c.in_ok-first.ensures.second.done j.first_cell c.join-pass.result.idle.part j.first_grows j.second_grows in
     let log = c.into_log-log.ensures ∙ ap (λ h. h.log) c.close.ensures in
     let made = c.make_run.ensures ∙ ap (λ l. record { logs = l ∷ []; transcripts = first.1.items ∷ second.1.items ∷ [] }) log in
-    let is : Sound queue_meaning (record { params = c.in_ok-logged.logged.params; limit = c.in_ok-logged.logged.limit } ∷ []) c.make_run.result = subst (λ (r : QueueRun). Sound queue_meaning (record { params = c.in_ok-logged.logged.params; limit = c.in_ok-logged.logged.limit } ∷ []) r) (sym made) sound in
-    subst (λ (h : QueueHistory). Sound queue_meaning (record { params = h.params; limit = h.limit } ∷ []) c.make_run.result) c.in_ok-logged.ensures.opened is
+    subst (λ (r : QueueRun). Sound queue_meaning (record { params = c.args.logged.params; limit = c.args.logged.limit } ∷ []) r) (sym made) sound
