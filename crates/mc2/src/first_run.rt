@@ -18,9 +18,7 @@ mod tests;
 use crate::scripts::{ScriptsFault, read_scripts};
 use crate::threads::{NoThreadStarted, on_two_threads};
 use crate::{Record, Request, Settings, WriteFailed, write_record};
-use event_log::{
-    Entry, Event, Logged, OpenFault, OutOfMemory, Run, SeqObject, Series, Sink, Todo,
-};
+use event_log::{Entry, Event, Logged, OpenFault, OutOfMemory, Run, SeqObject, Series, Sink, Todo};
 use shared_queue::ThreadQueue;
 use std::alloc::Global;
 use std::sync::Wait;
@@ -100,7 +98,13 @@ fn open_first(alloc: Global, settings: &Settings) -> Result<Logged<ThreadQueue>,
 fn open_cell(
     alloc: Global,
     logged: Logged<ThreadQueue>,
-) -> Result<(TicketCell<ThreadQueue>, (Pass<ThreadQueue>, Pass<ThreadQueue>)), OutOfMemory>
+) -> Result<
+    (
+        TicketCell<ThreadQueue>,
+        (Pass<ThreadQueue>, Pass<ThreadQueue>),
+    ),
+    OutOfMemory,
+>
     ensures first { IfOk result (λ r. IsPassOf r.0 r.1.0 × (pass_part r.1.0 ≡ first_part logged 2 0)) }
     ensures second { IfOk result (λ r. IsPassOf r.0 r.1.1 × (pass_part r.1.1 ≡ first_part logged 2 1)) }
 {

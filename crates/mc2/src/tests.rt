@@ -11,7 +11,10 @@ use std::thread::Threads;
 const HEAD: &str = "record 1\ncpus 2\nobjects 1\nobject q0 ticket 100 queue 8\n";
 
 /// The text of the run that the scripts ask for.
-fn printed<R: Threads + Wait + Sync + AllocGlobal>(rt: &R, scripts: &str) -> Result<Vec<u8>, FirstFault> {
+fn printed<R: Threads + Wait + Sync + AllocGlobal>(
+    rt: &R,
+    scripts: &str,
+) -> Result<Vec<u8>, FirstFault> {
     let mut out = Plain::new(Vec::new(rt.alloc()));
     first_run(rt, rt.alloc(), scripts.as_bytes(), &mut out)?;
     Ok(out.inner)
@@ -152,10 +155,7 @@ fn run_failing<R: Threads + Wait + Sync + AllocGlobal>(
         failure,
         failed: 0,
     };
-    (
-        first_run(rt, rt.alloc(), scripts.as_bytes(), &mut out),
-        out,
-    )
+    (first_run(rt, rt.alloc(), scripts.as_bytes(), &mut out), out)
 }
 
 #[test]

@@ -69,9 +69,7 @@ pub fn on_two_threads<R: Threads + Wait + Sync>(
                 move || -> Finished
                     requires ready { IsReady cell.now first first_todos.items first_room.items (vec_capacity first_room) }
                     ensures { IsDone cell.entry.now first first_todos.items result.0 result.1.items }
-                {
-                    do_entries(rt, cell, first, first_todos, first_room)
-                },
+                { do_entries(rt, cell, first, first_todos, first_room) },
             ) else {
                 return Err(NoThreadStarted(0));
             };
@@ -85,9 +83,7 @@ pub fn on_two_threads<R: Threads + Wait + Sync>(
                 move || -> Finished
                     requires ready { IsReady cell.now second second_todos.items second_room.items (vec_capacity second_room) }
                     ensures { IsDone cell.entry.now second second_todos.items result.0 result.1.items }
-                {
-                    do_entries(rt, cell, second, second_todos, second_room)
-                },
+                { do_entries(rt, cell, second, second_todos, second_room) },
             );
             let zero = zero.join(rt);
             match one {

@@ -51,6 +51,10 @@ fn words_that_are_refused(rt: HostRuntime) -> Result<(), Fail> {
 fn lines_of_the_refusals(rt: HostRuntime) -> Result<(), Fail> {
     let rows = [
         (Fault::OutOfMemory, "mc2: E1 out of memory"),
+        (
+            Fault::NoThreadStarted(1),
+            "mc2: E5 no thread started for cpu 1",
+        ),
         (Fault::BadScripts(10_001), "mc2: E7 scripts: line 10001"),
         (Fault::ReadFailed, "mc2: E12 read failed"),
         (Fault::WriteFailed, "mc2: E13 write failed"),

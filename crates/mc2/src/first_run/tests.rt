@@ -3,12 +3,15 @@
 use super::do_scripts;
 use crate::Settings;
 use crate::scripts::read_scripts;
-use event_log::{Done, Entry, Event, Logged, SeqObject};
+use event_log::{Done, Entry, Event, Logged, Run, SeqObject};
 use shared_queue::ThreadQueue;
+use std::sync::Wait;
 use std::test::Fail;
+use std::thread::Threads;
 
 /// Entries of both CPUs, which get in each other's way.
-const BLOCK: &str = "0 q0 enq 3\n1 q0 enq 3 ; deq\n0 q0 deq ; len\n1 q0 len\n1 q0 enq 5 ; enq 5\n0 q0 remove 5 ; enq 1\n0 q0 len ; len ; deq\n1 q0 deq ; deq ; deq\n";
+const BLOCK: &str =
+    "0 q0 enq 3\n1 q0 enq 3 ; deq\n0 q0 deq ; len\n1 q0 len\n1 q0 enq 5 ; enq 5\n0 q0 remove 5 ; enq 1\n0 q0 len ; len ; deq\n1 q0 deq ; deq ; deq\n";
 
 /// How often the block stands in the scripts.
 const BLOCKS: usize = 600;
@@ -38,6 +41,27 @@ fn agrees(cpu: u8, log: &[Event<ThreadQueue>], transcript: &[Entry<ThreadQueue>]
     same && mine == transcript.len() && transcript.iter().all(|entry| entry.looks >= 1)
 }
 
+/// The run of the scripts on a queue of 8 threads with room for 65,536 events.
+fn run_of<R: Threads + Wait + Sync + AllocGlobal>(
+    rt: &R,
+    scripts: &str,
+) -> Option<Run<ThreadQueue>> {
+    let Ok(settings) = Settings::built_in(rt.alloc()) else {
+        return None;
+    };
+    let requests = match read_scripts(rt.alloc(), &settings, scripts.as_bytes()) {
+        Ok(requests) => requests,
+        Err(_) => return None,
+    };
+    let Ok(logged) = Logged::open(rt.alloc(), 8, 65536) else {
+        return None;
+    };
+    match do_scripts(rt, rt.alloc(), logged, requests) {
+        Ok(run) => Some(run),
+        Err(_) => None,
+    }
+}
+
 #[test]
 fn long_runs(rt: HostRuntime) -> Result<(), Fail> {
     let mut scripts = String::new(rt.alloc());
@@ -45,17 +69,19 @@ fn long_runs(rt: HostRuntime) -> Result<(), Fail> {
         scripts.push_str(BLOCK)?;
     }
     for _ in 0..3 {
-        let settings = Settings::built_in(rt.alloc())?;
-        let requests = read_scripts(rt.alloc(), &settings, scripts.as_bytes())?;
-        let logged = Logged::<ThreadQueue>::open(rt.alloc(), 8, 65536)?;
-        let run = do_scripts(&rt, rt.alloc(), logged, requests)?;
-        let log = run.logs.as_slice()[0].as_slice();
+        let run = run_of(&rt, scripts.as_str()).expect(&rt, "a run");
+        let [log] = run.logs.as_slice() else {
+            panic!(rt; "one log");
+        };
+        let [first, second] = run.transcripts.as_slice() else {
+            panic!(rt; "two transcripts");
+        };
+        let log = log.as_slice();
         assert_eq!(rt; log.len(), 8 * BLOCKS);
         let mut fresh = ThreadQueue::open(rt.alloc(), &8)?;
         assert!(rt; replays(&mut fresh, log));
-        let transcripts = run.transcripts.as_slice();
-        assert!(rt; agrees(0, log, transcripts[0].as_slice()));
-        assert!(rt; agrees(1, log, transcripts[1].as_slice()));
+        assert!(rt; agrees(0, log, first.as_slice()));
+        assert!(rt; agrees(1, log, second.as_slice()));
     }
     Ok(())
 }
