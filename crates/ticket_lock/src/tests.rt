@@ -123,9 +123,10 @@ fn ended(
 
 #[test]
 fn each_waits_for_its_ticket(rt: HostRuntime) -> Result<(), Fail> {
-    let (cell, zero, one) = cell_of_two(rt.alloc(), 7)?;
+    let (cell, zero, one) = cell_of_two(rt.alloc(), 18446744073709551615)?;
     let zero = cell.draw(zero);
     let one = cell.draw(one);
+    assert_eq!(rt; (zero.ticket, one.ticket), (18446744073709551615, 0));
     let one = match cell.look(one) {
         Err(one) => one,
         Ok(_hold) => panic!(rt; "the second ticket is served first"),
