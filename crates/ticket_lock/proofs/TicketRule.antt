@@ -115,8 +115,8 @@ module _ {O P C R : Type 0} (meaning : Ghosts O P C R) (h : Cell O P C R) where
           gives,
           tt,
           subst (λ (cs : List (ℕ × Option (History O P C R))). Rule (stepped s 1 k id cs (settled v Idle x.log) gives)) (sym slot)
-          (given meaning (Lined m) h s r 1 k id v more x.log head.0 Idle (omega arith) there acts has_it (only_one m n s.words l r.tied p below has_it) added lawful
-          (served m n s.words l r.tied p below head.0 head.1)),
+              (given meaning (Lined m) h s r 1 k id v more x.log head.0 Idle (omega arith) there acts has_it (only_one m n s.words l r.tied p below has_it) added lawful
+              (served m n s.words l r.tied p below head.0 head.1)),
           λ x' more' e. let same = sym carries ∙ e in λ z. (settled v Idle (value_of meaning x (same z)).log, rest (e z)),
         )
 

@@ -13,6 +13,8 @@ mod meet;
 mod rule;
 mod states;
 mod steps;
+#[cfg(test)]
+mod tests;
 mod whole;
 
 pub use cell::TicketCell;

@@ -15,7 +15,10 @@ join_seat-requires g c = let n = c.load.ensures.2 in let key = c.args.self.now.t
     (search rules, search rules, ap (λ z. z.1) n, search rules, joining g.O.SeqObject _ key _ _ _ _ c.args.one.holds.at.alone (ap (λ z. z.0.others) n ∙ c.args.two.holds.at.alone))
 
 pub load-requires-2 : goal.load-requires-2
-load-requires-2 g c = let one = c.args.one.holds in let two = c.args.two.holds in let n = c.load.ensures.2 in let e = c.join_seat.ensures.2 in let key = c.args.self.now.table.shared.key in
-    (search rules, search rules, clashing g.O.SeqObject _ key (ticket_ties m) _ _ c.join_seat.new.seat.me _ c.load.new.seat.me.0.main
-        (subst (λ z. has z.0.main.cpu z.0.main.owned ≡ true) (sym e) one.held.caller.acts) (ap (λ z. holding z.0.main.place) e ∙ ap holding one.at.stands) (ap (λ z. z.0.others) e)
-        (subst (λ z. has z.0.main.cpu z.0.main.owned ≡ true) (sym n) two.held.caller.acts) (ap (λ z. holding z.0.main.place) n))
+load-requires-2 g c = let one = c.args.one.holds in let two = c.args.two.holds in let n = c.load.ensures.2 in let e = c.join_seat.ensures.2 in let key = c.args.self.now.table.shared.key in (
+  search rules,
+  search rules,
+  clashing g.O.SeqObject _ key (ticket_ties m) _ _ c.join_seat.new.seat.me _ c.load.new.seat.me.0.main
+      (subst (λ z. has z.0.main.cpu z.0.main.owned ≡ true) (sym e) one.held.caller.acts) (ap (λ z. holding z.0.main.place) e ∙ ap holding one.at.stands) (ap (λ z. z.0.others) e)
+      (subst (λ z. has z.0.main.cpu z.0.main.owned ≡ true) (sym n) two.held.caller.acts) (ap (λ z. holding z.0.main.place) n),
+)

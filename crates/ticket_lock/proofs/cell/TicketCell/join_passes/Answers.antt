@@ -19,5 +19,5 @@ pub invariant_of-result : goal.invariant_of-result
 invariant_of-result g c = let one = c.args.one in let two = c.args.two in let t = c.load.ensures.2 in let e = c.join_seat.ensures.2 in
     let other = subst (λ k. IsWithout g.O.SeqObject k two.cpu Idle two.seat.me) (c.requires.second.told ∙ sym c.requires.first.told) two.idle in
     let both = joined g.O.SeqObject one.key.value one.cpu two.cpu _ t.0 one.seat.me two.seat.me c.join_seat.new.seat.me c.load.new.seat.me c.min.ensures one.idle other (e ∙ ap (λ l. (taken_in one.seat.me.0 two.seat.me.0, l)) one.idle.at.carries) t.1
-        (t.2.lawful one.key.value (ap (λ z. z.0.told) e ∙ one.idle.at.told)) in
+    (t.2.lawful one.key.value (ap (λ z. z.0.told) e ∙ one.idle.at.told)) in
     record { idle = both.1 }

@@ -44,40 +44,40 @@ pub invariant_of-result : goal.invariant_of-result
 invariant_of-result g c = let d = c.args.drawn in let p = c.args.pass in let e = c.join_seat.ensures.2 in let y = c.unwrap-logged.result in let s = c.split_seat-theirs in let same = c.requires.pass.told ∙ sym c.requires.drawn.told in
     let got = (c.load-found.ensures.2 d.ticket (ap (λ z. z.0.main.place) e ∙ d.drawn.at.stands)).hit c.if-prove.false in
     let last = last_taken g.O.SeqObject d.key.value d.cpu p.cpu (Drawn d.ticket) (Served d.ticket) c.exchange.result y d.seat.me p.seat.me c.join_seat.new.seat.me c.load-found.new.seat.me c.exchange.new.seat.me s.new.seat.me s.result.me d.drawn
-        (subst (λ k. IsWithout g.O.SeqObject k p.cpu Idle p.seat.me) same p.idle) e got c.exchange.ensures.2 c.exchange.ensures.3 c.unwrap-logged.ensures s.ensures.2 s.ensures.4 in
+    (subst (λ k. IsWithout g.O.SeqObject k p.cpu Idle p.seat.me) same p.idle) e got c.exchange.ensures.2 c.exchange.ensures.3 c.unwrap-logged.ensures s.ensures.2 s.ensures.4 in
     record { holds = holds_now g.O.SeqObject d.key.value d.cpu (Drawn d.ticket) (Served d.ticket) y d.seat.me s.new.seat.me d.drawn last.lawful last.replayed last.first }
 
 pub invariant_of-result-2 : goal.invariant_of-result-2
 invariant_of-result-2 g c = let d = c.args.drawn in let p = c.args.pass in let e = c.join_seat.ensures.2 in let y = c.unwrap-logged.result in let s = c.split_seat-theirs in let same = c.requires.pass.told ∙ sym c.requires.drawn.told in
     let got = (c.load-found.ensures.2 d.ticket (ap (λ z. z.0.main.place) e ∙ d.drawn.at.stands)).hit c.if-prove.false in
     let last = last_taken g.O.SeqObject d.key.value d.cpu p.cpu (Drawn d.ticket) (Served d.ticket) c.exchange.result y d.seat.me p.seat.me c.join_seat.new.seat.me c.load-found.new.seat.me c.exchange.new.seat.me s.new.seat.me s.result.me d.drawn
-        (subst (λ k. IsWithout g.O.SeqObject k p.cpu Idle p.seat.me) same p.idle) e got c.exchange.ensures.2 c.exchange.ensures.3 c.unwrap-logged.ensures s.ensures.2 s.ensures.4 in
+    (subst (λ k. IsWithout g.O.SeqObject k p.cpu Idle p.seat.me) same p.idle) e got c.exchange.ensures.2 c.exchange.ensures.3 c.unwrap-logged.ensures s.ensures.2 s.ensures.4 in
     record { idle = sees_without g.O.SeqObject p.key.value p.cpu Idle Idle y.log p.seat.me s.result.me p.idle (subst (λ k. Lawful g.O.SeqObject k y.log) (sym same) last.lawful) last.second }
 
 pub returns-clause-look : goal.returns-clause-look
 returns-clause-look g c = let d = c.args.drawn in let p = c.args.pass in let e = c.join_seat.ensures.2 in let y = c.unwrap-logged.result in let s = c.split_seat-theirs in let same = c.requires.pass.told ∙ sym c.requires.drawn.told in
     let got = (c.load-found.ensures.2 d.ticket (ap (λ z. z.0.main.place) e ∙ d.drawn.at.stands)).hit c.if-prove.false in
     let last = last_taken g.O.SeqObject d.key.value d.cpu p.cpu (Drawn d.ticket) (Served d.ticket) c.exchange.result y d.seat.me p.seat.me c.join_seat.new.seat.me c.load-found.new.seat.me c.exchange.new.seat.me s.new.seat.me s.result.me d.drawn
-        (subst (λ k. IsWithout g.O.SeqObject k p.cpu Idle p.seat.me) same p.idle) e got c.exchange.ensures.2 c.exchange.ensures.3 c.unwrap-logged.ensures s.ensures.2 s.ensures.4 in
+    (subst (λ k. IsWithout g.O.SeqObject k p.cpu Idle p.seat.me) same p.idle) e got c.exchange.ensures.2 c.exchange.ensures.3 c.unwrap-logged.ensures s.ensures.2 s.ensures.4 in
     (d.ticket, takes_now g.O.SeqObject d.key.value (Drawn d.ticket) (Served d.ticket) y d.seat.me s.new.seat.me last.first_grows last.lawful last.replayed last.first)
 
 pub returns-clause-caller : goal.returns-clause-caller
 returns-clause-caller g c = let d = c.args.drawn in let p = c.args.pass in let e = c.join_seat.ensures.2 in let y = c.unwrap-logged.result in let s = c.split_seat-theirs in let same = c.requires.pass.told ∙ sym c.requires.drawn.told in
     let got = (c.load-found.ensures.2 d.ticket (ap (λ z. z.0.main.place) e ∙ d.drawn.at.stands)).hit c.if-prove.false in
     let last = last_taken g.O.SeqObject d.key.value d.cpu p.cpu (Drawn d.ticket) (Served d.ticket) c.exchange.result y d.seat.me p.seat.me c.join_seat.new.seat.me c.load-found.new.seat.me c.exchange.new.seat.me s.new.seat.me s.result.me d.drawn
-        (subst (λ k. IsWithout g.O.SeqObject k p.cpu Idle p.seat.me) same p.idle) e got c.exchange.ensures.2 c.exchange.ensures.3 c.unwrap-logged.ensures s.ensures.2 s.ensures.4 in
+    (subst (λ k. IsWithout g.O.SeqObject k p.cpu Idle p.seat.me) same p.idle) e got c.exchange.ensures.2 c.exchange.ensures.3 c.unwrap-logged.ensures s.ensures.2 s.ensures.4 in
     ap (λ z. caller_of p.key.value z.0) last.second
 
 pub returns-clause-seen : goal.returns-clause-seen
 returns-clause-seen g c = let d = c.args.drawn in let p = c.args.pass in let e = c.join_seat.ensures.2 in let y = c.unwrap-logged.result in let s = c.split_seat-theirs in let same = c.requires.pass.told ∙ sym c.requires.drawn.told in
     let got = (c.load-found.ensures.2 d.ticket (ap (λ z. z.0.main.place) e ∙ d.drawn.at.stands)).hit c.if-prove.false in
     let last = last_taken g.O.SeqObject d.key.value d.cpu p.cpu (Drawn d.ticket) (Served d.ticket) c.exchange.result y d.seat.me p.seat.me c.join_seat.new.seat.me c.load-found.new.seat.me c.exchange.new.seat.me s.new.seat.me s.result.me d.drawn
-        (subst (λ k. IsWithout g.O.SeqObject k p.cpu Idle p.seat.me) same p.idle) e got c.exchange.ensures.2 c.exchange.ensures.3 c.unwrap-logged.ensures s.ensures.2 s.ensures.4 in
+    (subst (λ k. IsWithout g.O.SeqObject k p.cpu Idle p.seat.me) same p.idle) e got c.exchange.ensures.2 c.exchange.ensures.3 c.unwrap-logged.ensures s.ensures.2 s.ensures.4 in
     ap (λ z. z.0.main.seen) last.second
 
 pub returns-clause-grows : goal.returns-clause-grows
 returns-clause-grows g c = let d = c.args.drawn in let p = c.args.pass in let e = c.join_seat.ensures.2 in let y = c.unwrap-logged.result in let s = c.split_seat-theirs in let same = c.requires.pass.told ∙ sym c.requires.drawn.told in
     let got = (c.load-found.ensures.2 d.ticket (ap (λ z. z.0.main.place) e ∙ d.drawn.at.stands)).hit c.if-prove.false in
     let last = last_taken g.O.SeqObject d.key.value d.cpu p.cpu (Drawn d.ticket) (Served d.ticket) c.exchange.result y d.seat.me p.seat.me c.join_seat.new.seat.me c.load-found.new.seat.me c.exchange.new.seat.me s.new.seat.me s.result.me d.drawn
-        (subst (λ k. IsWithout g.O.SeqObject k p.cpu Idle p.seat.me) same p.idle) e got c.exchange.ensures.2 c.exchange.ensures.3 c.unwrap-logged.ensures s.ensures.2 s.ensures.4 in
+    (subst (λ k. IsWithout g.O.SeqObject k p.cpu Idle p.seat.me) same p.idle) e got c.exchange.ensures.2 c.exchange.ensures.3 c.unwrap-logged.ensures s.ensures.2 s.ensures.4 in
     last.second_grows
