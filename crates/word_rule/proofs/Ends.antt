@@ -91,8 +91,8 @@ module _ {O P C R : Type 0} (meaning : Ghosts O P C R) (Tied : ℕ → List ℕ 
       let know = r.each id v there in
       let home = ties.over h.numbers s.words b.line r.tied (λ x below. all_idle h.numbers b id 0 v.main know.main rests x (all.each x below)) in
       let same = same_log v.main.seen b.committed know.main.grows.begins (λ z. dite (dec_lt z h.numbers)
-          (λ below. know.main.grows.own z (all.each z below))
-          (λ not. of_opening z h.numbers b.committed h.opening (omega arith) r.lawful.begins r.lawful.numbered ∙ sym (of_opening z h.numbers v.main.seen h.opening (omega arith) part.lawful.begins part.lawful.numbered))) in
+      (λ below. know.main.grows.own z (all.each z below))
+      (λ not. of_opening z h.numbers b.committed h.opening (omega arith) r.lawful.begins r.lawful.numbered ∙ sym (of_opening z h.numbers v.main.seen h.opening (omega arith) part.lawful.begins part.lawful.numbered))) in
       r.at_home home ∙ ap (λ l. some (some (Some (stored meaning h l)))) same
 
   pub ended : Ties Tied → (h : Cell O P C R) (id cpu : ℕ) (m : Seat O P C R) (ws : List ℕ) (xs : List (Option (History O P C R))) (slot : Option (History O P C R)) → IsWithout meaning h cpu Idle m → OwnsAll (caller_of h m.0)

@@ -123,12 +123,12 @@ module _ {O P C R : Type 0} (meaning : Ghosts O P C R) (Tied : ℕ → List ℕ 
       let b' = changed b b.committed cpus b.line.out p q in
       let other = stays h b b.committed cpus b.line.out id p q own record { begins = begins_self b.committed; others = λ _ _. refl } (λ _ _ _ _. refl) in
       seats_stay h b b' s.views id (placed v q)
-          record {
-            told = mine.told;
-            main = moves h b b.committed cpus b.line.out id v.main q v.main.seen mine.main mine.main.grows whole;
-            others = each_map 1 (λ k c le. other id k c (else_place id k id le)) 1 (omega arith) v.others mine.others;
-          }
-          other r.each
+      record {
+        told = mine.told;
+        main = moves h b b.committed cpus b.line.out id v.main q v.main.seen mine.main mine.main.grows whole;
+        others = each_map 1 (λ k c le. other id k c (else_place id k id le)) 1 (omega arith) v.others mine.others;
+      }
+      other r.each
 
   -- the first caller of a seat stands elsewhere
   pub kept : (s : Table O P C R) (r : Rule s) (i n id : ℕ) (v : Viewed O P C R) (cs : List (ℕ × Option (History O P C R))) (cpus : List ℕ) (q : Place) → get_elem? s.views id ≡ some v → has v.main.cpu v.main.owned ≡ true
