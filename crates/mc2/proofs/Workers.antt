@@ -25,10 +25,7 @@ use Rattle.word_rule.specs.Cell.{Cell, Caller, Part, Grows, Lawful, IsPart, Owns
 use Rattle.word_rule.specs.Answered.{IsAnswered, IsRefused, events_by}
 use Rattle.word_rule.specs.Sound.{Opened, Sound, LogIsSound, EntryIsSound, Answers, NoneAfterFull, done_on, with_steps, steps_by, transcript_of}
 use Rattle.word_rule.proofs.Lists.{of_opening}
-
-all_push : {X : Type 0} (Q : X → Type 0) (xs : List X) (x : X) → AllByRecursion Q xs → Q x → AllByRecursion Q (xs ++ x ∷ [])
-all_push Q [] x h k = (k, tt)
-all_push Q (y ∷ xs) x h k = (h.0, all_push Q xs x h.1 k)
+use Rattle.word_rule.proofs.Acting.{all_push}
 
 all_map : {X : Type 0} {Q S : X → Type 0} → ((x : X) → Q x → S x) → (xs : List X) → AllByRecursion Q xs → AllByRecursion S xs
 all_map f [] h = tt

@@ -143,7 +143,8 @@ drop_front : {A : Type 0} (a c : List A) → drop (length a) (a ++ c) ≡ c
 drop_front [] c = refl
 drop_front (x ∷ a) c = drop_front a c
 
-all_push : {A : Type 0} (P : A → Type 0) (xs : List A) (x : A) → AllByRecursion P xs → P x → AllByRecursion P (xs ++ x ∷ [])
+-- what holds of each element of a list, and of one more
+pub all_push : {A : Type 0} (P : A → Type 0) (xs : List A) (x : A) → AllByRecursion P xs → P x → AllByRecursion P (xs ++ x ∷ [])
 all_push P [] x all here = (here, tt)
 all_push P (y ∷ xs) x all here = (all.0, all_push P xs x all.1 here)
 
