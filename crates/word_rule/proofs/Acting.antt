@@ -1,6 +1,5 @@
 -- What a step leaves with a caller: the types of every lock's callers stay true, and the step is one of its kind.
-use Rattle.std.proofs.Common.{◌≡◌, ◌≢◌, ◌↔◌, ◌⊎◌, inl, inr, ℕ, ◌+◌, ◌<◌, ◌≤◌, ◌||◌, Bool, true, false, true≢false, List, [], ◌∷◌, ◌++◌, map, min, length, drop, refl, sym, ap, ◌∙◌, subst, ⊎_elim, arith, Option, Some, None, Result, Ok, Err, IfOk, OnErr, IsSome, rules, append_assoc, ◌==◌}
-use Rattle.std.proofs.lemmas.Bool.Decides.{nat_tests}
+use Rattle.std.proofs.Common.{◌≡◌, ◌⊎◌, inl, inr, ℕ, ◌<◌, ◌≤◌, ◌||◌, Bool, true, false, true≢false, List, [], ◌∷◌, ◌++◌, map, min, length, drop, refl, sym, ap, ◌∙◌, subst, ⊎_elim, arith, Option, Some, None, Result, Ok, Err, IfOk, OnErr, IsSome, rules, append_assoc, ◌==◌}
 use Rattle.std.specs.List.{AllByRecursion}
 use Rattle.std.proofs.lemmas.List.Folds.{list_any-append}
 use mathlib.Core.Logic.{dite}
@@ -10,17 +9,17 @@ use Rattle.event_log.specs.declared.object.SeqObject.{Ghosts}
 use Rattle.event_log.specs.declared.event.Event.{Event}
 use Rattle.event_log.specs.declared.event.Steps.{Steps}
 use Rattle.event_log.specs.Distinct.{has}
-use Rattle.event_log.specs.Log.{Begins, Legal, after, replay, of}
+use Rattle.event_log.specs.Log.{Begins, Legal, after, replay}
 use Rattle.event_log.specs.History.{History, IsKept, with_event}
 use Rattle.event_log.proofs.Beginnings.{begins_self, begins_more, begins_rest}
 use Rattle.word_rule.specs.declared.place.Place.{Place}
 use Rattle.word_rule.specs.declared.place.Place.TheVariants.{Idle}
-use Rattle.word_rule.specs.Cell.{Cell, Caller, Grows, IsCaller, Lawful, IsPart, IsHeld, OwnsAll, stored}
+use Rattle.word_rule.specs.Cell.{Cell, Grows, IsCaller, Lawful, OwnsAll, stored}
 use Rattle.word_rule.specs.Standing.{Standing, Moves, Takes, Gives, NeedsAnother}
 use Rattle.word_rule.specs.Board.{Viewed}
-use Rattle.word_rule.specs.Seats.{Seat, shown, at, placed, settled, taken_in, keeping, letting, merged, first_or_none}
+use Rattle.word_rule.specs.Seats.{Seat, shown, at, placed, settled, taken_in, keeping, letting, merged}
 use Rattle.word_rule.specs.Told.{Lacks, HasAll, Learns, Gets, Returns, any_has}
-use Rattle.word_rule.specs.Callers.{AddedBy, caller_of, part_of, held_of, standing_without, standing_with, StandsAt, IsWithout, IsWith}
+use Rattle.word_rule.specs.Callers.{AddedBy, caller_of, standing_without, standing_with, StandsAt, IsWithout, IsWith}
 use Rattle.word_rule.proofs.Lists.{has_append, of_push, grows_self}
 
 module _ {O P C R : Type 0} where

@@ -1,14 +1,13 @@
 -- The callers of a new cell's first seat go to seats of their own, one by one.
-use Rattle.std.proofs.Common.{◌≡◌, ◌⊎◌, inl, inr, ℕ, zero, suc, ◌+◌, ◌-◌, ◌<◌, ◌||◌, ◌==◌, Bool, true, false, List, [], ◌∷◌, ◌++◌, length, refl, sym, ap, ◌∙◌, subst, ⊎_elim, arith, Option, Some, None}
+use Rattle.std.proofs.Common.{◌≡◌, ◌⊎◌, inl, inr, ℕ, zero, suc, ◌+◌, ◌-◌, ◌<◌, ◌||◌, ◌==◌, Bool, true, false, List, [], ◌∷◌, ◌++◌, length, refl, sym, ap, ◌∙◌, subst, ⊎_elim, arith, Some}
 use Rattle.std.specs.Prelude.{slice_get}
 use Rattle.std.proofs.lemmas.Bool.Decides.{nat_tests}
 use Rattle.event_log.specs.declared.object.SeqObject.{Ghosts}
 use Rattle.event_log.specs.Distinct.{has}
-use Rattle.event_log.specs.History.{History}
 use Rattle.word_rule.specs.declared.place.Place.TheVariants.{Idle}
-use Rattle.word_rule.specs.Cell.{Cell, Part, Lawful, EachAt, opening_part}
+use Rattle.word_rule.specs.Cell.{Cell, Lawful, EachAt, opening_part}
 use Rattle.word_rule.specs.Board.{Viewed}
-use Rattle.word_rule.specs.Seats.{Seat, idle, idle_from, keeping, letting, first_view}
+use Rattle.word_rule.specs.Seats.{Seat, idle, idle_from, keeping, letting}
 use Rattle.word_rule.specs.Callers.{part_of, IsWithout}
 use Rattle.word_rule.proofs.Lists.{has_one}
 

@@ -1,22 +1,21 @@
 -- A new cell meets its rule, and at its end a pass with every number finds the object at home: the same at every lock.
-use Rattle.std.proofs.Common.{◌≡◌, ◌≢◌, ◌⊎◌, ℕ, zero, suc, ◌+◌, ◌<◌, ◌≤◌, Bool, true, false, true≢false, List, [], ◌∷◌, length, drop, refl, sym, ap, ◌∙◌, subst, arith, Option, Some, None}
+use Rattle.std.proofs.Common.{◌≡◌, ℕ, zero, suc, ◌+◌, ◌<◌, false, true≢false, List, [], ◌∷◌, refl, sym, ap, ◌∙◌, subst, arith, Option, Some}
 use Rattle.std.specs.List.{AllByRecursion}
 use mathlib.Core.Logic.{dite}
-use mathlib.Core.Option.{some, none, some-injective, some-ne-none}
-use native.Mathlib.Decide.{ℕ_discrete, dec_lt}
+use mathlib.Core.Option.{some, some-injective, some-ne-none}
+use native.Mathlib.Decide.{dec_lt}
 use lib.ListN.{get_elem?}
 use Rattle.atomic_table.specs.Table.{opening, Final, Seen}
 use Rattle.event_log.specs.declared.object.SeqObject.{Ghosts}
 use Rattle.event_log.specs.declared.event.Event.{Event}
 use Rattle.event_log.specs.Distinct.{has}
 use Rattle.event_log.specs.History.{History, IsKept}
-use Rattle.event_log.specs.Log.{of}
 use Rattle.event_log.proofs.Beginnings.{begins_self}
 use Rattle.word_rule.specs.declared.place.Place.TheVariants.{Idle}
-use Rattle.word_rule.specs.Cell.{Cell, cell_of, Grows, Lawful, OwnsAll, IsPart, stored}
+use Rattle.word_rule.specs.Cell.{Cell, cell_of, Lawful, OwnsAll, IsPart, stored}
 use Rattle.word_rule.specs.Line.{Line, Ties}
-use Rattle.word_rule.specs.Board.{Board, Caller, Viewed, Table, EachFrom, Knows, KnowsAll, Ruled}
-use Rattle.word_rule.specs.Seats.{Seat, idle, idle_from, first_view}
+use Rattle.word_rule.specs.Board.{Board, Viewed, Table, EachFrom, Knows, KnowsAll, Ruled}
+use Rattle.word_rule.specs.Seats.{Seat, idle_from, first_view}
 use Rattle.word_rule.specs.Callers.{caller_of, part_of, IsWithout}
 use Rattle.word_rule.proofs.Lists.{has_one, drop_self, grows_self, same_log, of_opening}
 use Rattle.word_rule.proofs.Known.{all_idle}

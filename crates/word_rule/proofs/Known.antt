@@ -1,21 +1,18 @@
 -- What a step may tell of the object, and of numbers that aren't the seat's: the same at every lock.
-use Rattle.std.proofs.Common.{◌≡◌, ◌≢◌, ℕ, ◌+◌, ◌<◌, Bool, true, false, true≢false, ◌||◌, List, [], ◌∷◌, refl, sym, ap, ◌∙◌, subst, arith, Option, Some, None}
+use Rattle.std.proofs.Common.{◌≡◌, ◌≢◌, ℕ, ◌+◌, ◌<◌, true, true≢false, List, [], ◌∷◌, refl, sym, ap, ◌∙◌, subst, arith, Some}
 use Rattle.std.proofs.lemmas.Bool.Decides.{nat_tests}
 use Rattle.std.proofs.Math.Bool.{Bool-discrete}
 use mathlib.Core.Logic.{dite}
 use native.Mathlib.Decide.{ℕ_discrete}
-use Rattle.atomic_table.specs.Table.{State}
 use Rattle.event_log.specs.declared.object.SeqObject.{Ghosts}
-use Rattle.event_log.specs.declared.event.Event.{Event}
 use Rattle.event_log.specs.Distinct.{has}
-use Rattle.event_log.specs.History.{History}
 use Rattle.word_rule.specs.declared.place.Place.{Place}
 use Rattle.word_rule.specs.declared.place.Place.TheVariants.{Idle}
 use Rattle.word_rule.specs.Cell.{Cell, Grows, Lawful, stored}
 use Rattle.word_rule.specs.Line.{Line, Ties}
 use Rattle.word_rule.specs.Board.{Board, Caller, Viewed, Table, EachFrom, Knows, KnowsAll, Ruled}
 use Rattle.word_rule.specs.Seats.{Seat, settled}
-use Rattle.word_rule.specs.Told.{any_has, HasAll, Lacks, IsElse, Learns, Gets}
+use Rattle.word_rule.specs.Told.{any_has, Lacks, IsElse, Learns, Gets}
 use Rattle.word_rule.proofs.Lists.{false_from}
 
 -- where a caller is idle, all its numbers are

@@ -1,5 +1,5 @@
 -- Seats are joined and split, and a seat learns what its callers have seen: the same at every lock.
-use Rattle.std.proofs.Common.{◌≡◌, ◌≢◌, ◌⊎◌, inl, inr, ℕ, zero, suc, ◌+◌, ◌<◌, ◌≤◌, Bool, true, false, true≢false, cond, eqb, eq-eqb, ne_eqb, List, [], ◌∷◌, ◌++◌, map, length, get_or, set, min, refl, sym, ap, ◌∙◌, subst, ⊎_elim, arith, Option, Some, None, length-set}
+use Rattle.std.proofs.Common.{◌≡◌, ◌≢◌, ℕ, zero, suc, ◌+◌, ◌<◌, Bool, true, true≢false, cond, eqb, eq-eqb, ne_eqb, List, [], ◌∷◌, ◌++◌, length, get_or, set, min, refl, sym, ap, ◌∙◌, subst, ⊎_elim, arith, None, length-set}
 use mathlib.Core.Option.{some, none}
 use lib.ListN.{get_elem?}
 use lib.Seq.{set-get_or}
@@ -7,17 +7,14 @@ use Rattle.atomic_table.specs.Table.{step, keeps, gives, rest, Allows, Splits, J
 use Rattle.atomic_table.proofs.Lists.{at_set}
 use Rattle.event_log.specs.declared.object.SeqObject.{Ghosts}
 use Rattle.event_log.specs.Distinct.{has}
-use Rattle.event_log.specs.History.{History}
-use Rattle.event_log.proofs.Beginnings.{begins_self}
-use Rattle.word_rule.specs.declared.place.Place.{Place}
 use Rattle.word_rule.specs.declared.place.Place.TheVariants.{Idle, Torn}
-use Rattle.word_rule.specs.Cell.{Cell, Grows}
-use Rattle.word_rule.specs.Line.{Line, Ties, moved, holding}
+use Rattle.word_rule.specs.Cell.{Cell}
+use Rattle.word_rule.specs.Line.{Line, Ties, holding}
 use Rattle.word_rule.specs.Board.{Board, Caller, Viewed, Table, EachFrom, Knows, KnowsAll, Ruled}
-use Rattle.word_rule.specs.Seats.{Seat, shown, at, placed, settled, taken_in, idle, behind_first, first_or_none, spent, keeping, letting, merged}
+use Rattle.word_rule.specs.Seats.{Seat, placed, settled, taken_in, idle, behind_first, first_or_none, spent, keeping, letting, merged}
 use Rattle.word_rule.specs.Told.{meets, joins, tears, clashes}
 use Rattle.word_rule.proofs.Lists.{each_map, has_append, at_snoc_at, grows_self}
-use Rattle.word_rule.proofs.Stays.{else_seat, seats_stay, show_each, torn, lined}
+use Rattle.word_rule.proofs.Stays.{seats_stay, show_each, torn, lined}
 use Rattle.word_rule.proofs.Known.{all_idle, learned}
 
 -- a caller of the seat `other` is the second of the seat id

@@ -1,15 +1,15 @@
 -- What a whole call answers, by what the calls of the interface say.
-use Rattle.std.proofs.Common.{◌≡◌, ◌≢◌, ◌↔◌, ℕ, ◌<◌, ◌≤◌, ◌==◌, Bool, true, false, cond, List, [], ◌∷◌, ◌++◌, length, refl, sym, ap, ◌∙◌, subst, arith, length-append, Result, Ok, Err, IfOk, IsErr, OnErr}
+use Rattle.std.proofs.Common.{◌≡◌, ◌↔◌, ℕ, ◌==◌, true, cond, List, [], ◌∷◌, ◌++◌, length, refl, sym, ap, ◌∙◌, subst, arith, Result, Ok, Err, IfOk, IsErr, OnErr}
 use Rattle.std.proofs.lemmas.Bool.Decides.{nat_tests}
 use Rattle.std.proofs.lemmas.List.Elements.{filter-append}
 use Rattle.event_log.specs.declared.object.SeqObject.{Ghosts}
 use Rattle.event_log.specs.declared.event.Steps.{Steps}
 use Rattle.event_log.specs.declared.event.Event.{Event}
 use Rattle.event_log.specs.Log.{Begins, Fulfils, of, after as after_steps}
-use Rattle.event_log.specs.History.{History, with_event}
-use Rattle.event_log.proofs.Beginnings.{begins_more, begins_rest}
-use Rattle.word_rule.specs.Cell.{Cell, Part, Held, Grows, Lawful, IsPart, IsHeld}
-use Rattle.word_rule.specs.Answered.{IsAnswered, IsRefused, events_by}
+use Rattle.event_log.specs.History.{with_event}
+use Rattle.event_log.proofs.Beginnings.{begins_more}
+use Rattle.word_rule.specs.Cell.{Part, Held, Grows, Lawful, IsPart, IsHeld}
+use Rattle.word_rule.specs.Answered.{IsAnswered, IsRefused}
 use Rattle.word_rule.proofs.Lists.{of_push}
 
 module _ {O P C R : Type 0} where

@@ -1,4 +1,4 @@
-use Rattle.std.proofs.Common.{rules, ◌≡◌, ◌<◌, sym, subst, ◌∙◌}
+use Rattle.std.proofs.Common.{rules, ◌<◌, sym, subst, ◌∙◌}
 use Rattle.word_rule.proofs.Meetings.{splitting}
 use Rattle.word_rule.proofs.Dealing.{goes_on, is_one, one_rests, part_first, each_push}
 use Rattle.ticket_lock.proofs.cell.TicketCell.deal.Goals as goal

@@ -1,10 +1,9 @@
-use Rattle.std.proofs.Common.{rules, ◌≡◌, [], sym, ap, subst, ◌∙◌}
+use Rattle.std.proofs.Common.{rules, sym, ap, subst, ◌∙◌}
 use Rattle.word_rule.specs.declared.place.Place.TheVariants.{Idle}
-use Rattle.word_rule.specs.Cell.{Grows}
 use Rattle.word_rule.specs.Seats.{taken_in}
 use Rattle.word_rule.specs.Callers.{IsWithout}
 use Rattle.word_rule.proofs.Meetings.{joining, merging}
-use Rattle.word_rule.proofs.Acting.{joined, joined_owned}
+use Rattle.word_rule.proofs.Acting.{joined}
 use Rattle.ticket_lock.proofs.cell.TicketCell.join_passes.Goals as goal
 
 pub join_seat-requires : goal.join_seat-requires

@@ -1,7 +1,5 @@
-use Rattle.std.proofs.Common.{rules, ◌≡◌, List, [], ◌∷◌, sym, ap, subst, ◌∙◌, Option, Some}
+use Rattle.std.proofs.Common.{rules, ◌∷◌, sym, ap, ◌∙◌, Some}
 use Rattle.atomic_table.specs.Table.{rest}
-use Rattle.word_rule.specs.declared.place.Place.TheVariants.{Drawn, Served}
-use Rattle.word_rule.specs.Callers.{IsWithout, standing_without}
 use Rattle.word_rule.proofs.Known.{idle_alone}
 use Rattle.word_rule.proofs.Acting.{took, was_there, takes_from, holds_from, stays_without, misses_without}
 use Rattle.ticket_lock.proofs.TicketRule.{looking}

@@ -1,6 +1,4 @@
-use Rattle.std.proofs.Common.{rules, ◌≡◌, sym, ap, subst, ◌∙◌}
-use Rattle.word_rule.specs.declared.place.Place.TheVariants.{Idle}
-use Rattle.word_rule.specs.Callers.{IsWithout}
+use Rattle.std.proofs.Common.{rules}
 use Rattle.word_rule.proofs.Meetings.{joining, meeting, splitting}
 use Rattle.ticket_lock.proofs.cell.TicketCell.meet_passes.Goals as goal
 
