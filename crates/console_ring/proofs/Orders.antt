@@ -1,0 +1,55 @@
+-- What goes into a console comes out of it, in order.
+use Rattle.std.proofs.Common.{◌≡◌, ℕ, nat_lt, Bool, true, false, if◌then◌else◌, List, [], ◌∷◌, ◌++◌, length, refl, sym, ap, ◌∙◌, append_assoc}
+use Rattle.std.proofs.lemmas.List.{append-nil}
+use Rattle.console_ring.specs.State.{ConsoleState}
+use Rattle.console_ring.specs.Answer.{console_answer, full_answer, front_answer}
+use Rattle.console_ring.specs.Passing.{bytes_in, bytes_out, out_with, left_after}
+use Rattle.console_ring.specs.declared.call.ConsoleCall.{ConsoleCall}
+use Rattle.console_ring.specs.declared.call.ConsoleCall.TheVariants.{Put, Get, Level}
+use Rattle.console_ring.specs.declared.call.ConsoleReply.{ConsoleReply}
+use Rattle.console_ring.specs.declared.call.ConsoleReply.TheVariants.{Ok, Dropped, Empty, Byte, Count}
+
+-- the first byte of a full console is dropped
+full : (n : ℕ) (bytes rest : List ℕ) (b : ℕ) → rest ++ b ∷ [] ≡ out_with (full_answer record { capacity = n; bytes = bytes } b rest).1 [] ++ (full_answer record { capacity = n; bytes = bytes } b rest).0.bytes
+full n bytes [] b = refl
+full n bytes (first ∷ rest) b = refl
+
+front : (n : ℕ) (bytes : List ℕ) → bytes ++ [] ≡ out_with (front_answer record { capacity = n; bytes = bytes } bytes).1 [] ++ (front_answer record { capacity = n; bytes = bytes } bytes).0.bytes
+front n [] = refl
+front n (first ∷ rest) = ap (λ l. first ∷ l) (append-nil rest)
+
+-- one call
+conserves : (n : ℕ) (bytes : List ℕ) (call : ConsoleCall) → bytes ++ bytes_in (call ∷ []) ≡ out_with (console_answer record { capacity = n; bytes = bytes } call).1 [] ++ (console_answer record { capacity = n; bytes = bytes } call).0.bytes
+conserves n bytes (Put b) =
+    let c : ConsoleState = record { capacity = n; bytes = bytes } in
+    elim (nat_lt (length bytes) n) as (λ t. bytes ++ b ∷ [] ≡ out_with (if t then (record c { bytes = bytes ++ b ∷ [] }, Ok) else full_answer c b bytes).1 [] ++ (if t then (record c { bytes = bytes ++ b ∷ [] }, Ok) else full_answer c b bytes).0.bytes) [
+      | true ↦ refl
+      | false ↦ full n bytes bytes b
+    ]
+conserves n bytes Get = front n bytes
+conserves n bytes Level = append-nil bytes
+
+one_more : (call : ConsoleCall) (calls : List ConsoleCall) → bytes_in (call ∷ calls) ≡ bytes_in (call ∷ []) ++ bytes_in calls
+one_more (Put b) calls = refl
+one_more Get calls = refl
+one_more Level calls = refl
+
+out_first : (r : ConsoleReply) (rest : List ℕ) → out_with r rest ≡ out_with r [] ++ rest
+out_first Ok rest = refl
+out_first (Dropped b) rest = refl
+out_first Empty rest = refl
+out_first (Byte b) rest = refl
+out_first (Count n) rest = refl
+
+pub in_order : (c : ConsoleState) (calls : List ConsoleCall) → c.bytes ++ bytes_in calls ≡ bytes_out c calls ++ (left_after c calls).bytes
+in_order c [] = append-nil c.bytes
+in_order c (call ∷ calls) =
+    let a = console_answer c call in
+    let rest = in_order a.0 calls in
+    ap (λ l. c.bytes ++ l) (one_more call calls)
+    ∙ (sym (append_assoc c.bytes (bytes_in (call ∷ [])) (bytes_in calls))
+    ∙ (ap (λ l. l ++ bytes_in calls) (conserves c.capacity c.bytes call)
+    ∙ (append_assoc (out_with a.1 []) a.0.bytes (bytes_in calls)
+    ∙ (ap (λ l. out_with a.1 [] ++ l) rest
+    ∙ (sym (append_assoc (out_with a.1 []) (bytes_out a.0 calls) (left_after a.0 calls).bytes)
+    ∙ ap (λ l. l ++ (left_after a.0 calls).bytes) (sym (out_first a.1 (bytes_out a.0 calls))))))))
