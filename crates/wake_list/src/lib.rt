@@ -1,0 +1,2 @@
+//! (begun)
+#![tactic(auto)]
