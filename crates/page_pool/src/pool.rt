@@ -1,0 +1,139 @@
+//! The pool over a plain table.
+
+ghost use Rattle.std.specs.Prelude.{◌≡◌, is_none};
+ghost use Rattle.std.specs.List.{count_by};
+ghost use Rattle.page_pool.specs.Answer.{alloc_answer, free_answer};
+
+use crate::{PoolCall, PoolReply};
+use event_log::{OpenFault, SeqObject};
+use std::alloc::Global;
+use std::marker::Model;
+
+/// The most pages that a pool can be opened for.
+pub const MOST_PAGES: u32 = 4096;
+
+/// Owners are 0 to this number.
+pub const LAST_OWNER: u32 = 15;
+
+/// A pool of the pages 0 to `pages - 1`: entry p of the table is the owner of page p. The table is made when the pool is
+/// opened.
+#[derive(Drop)]
+pub struct PagePool {
+    pages: u32,
+    owners: Vec<Option<u32>>,
+}
+
+impl Model for PagePool {
+    ghost use Rattle.std.specs.Prelude.{◌≡◌, ◌≤◌, length};
+    ghost use Rattle.page_pool.specs.State.{PoolState};
+
+    ghost Value = { PoolState };
+
+    ghost view = { λ s. record { pages = s.pages; owners = s.owners.items } };
+
+    ghost invariant = { λ s. (length s.owners.items ≡ s.pages) × (s.pages ≤ 4096) };
+}
+
+impl PagePool {
+    fn give(&mut self, owner: u32) -> PoolReply
+        ensures { (self.new, result) ≡ alloc_answer self.old owner }
+    {
+        if owner > LAST_OWNER {
+            return PoolReply::BadOwner;
+        }
+        match self.owners.iter().position(|entry| entry.is_none()) {
+            Some(page) => {
+                self.owners[page] = Some(owner);
+                PoolReply::Page(page as u32)
+            }
+            None => PoolReply::NoPage,
+        }
+    }
+
+    fn take_back(&mut self, owner: u32, page: u32) -> PoolReply
+        ensures { (self.new, result) ≡ free_answer self.old owner page }
+    {
+        if owner > LAST_OWNER {
+            return PoolReply::BadOwner;
+        }
+        if page >= self.pages {
+            return PoolReply::BadPage;
+        }
+        match self.owners[page as usize] {
+            None => PoolReply::NotTaken,
+            Some(other) if other != owner => PoolReply::NotYours,
+            Some(_) => {
+                self.owners[page as usize] = None;
+                PoolReply::Ok
+            }
+        }
+    }
+
+    fn count(&self) -> u32
+        ensures { result ≡ count_by is_none self.now.owners }
+    {
+        self.owners.iter().filter(|entry| entry.is_none()).count() as u32
+    }
+}
+
+impl SeqObject for PagePool {
+    ghost use Rattle.std.specs.Prelude.{◌&&◌, nat_le, replicate, None};
+    ghost use Rattle.page_pool.specs.Answer.{pool_answer, is_refusing};
+    ghost use Rattle.std.proofs.Common.{lit<, rules};
+
+    type Params = u32;
+
+    type Call = PoolCall;
+
+    type Reply = PoolReply;
+
+    ghost in_range = { λ n. nat_le 1 n && nat_le n 4096 };
+
+    ghost opening = { λ n. record { pages = n; owners = replicate n None } };
+
+    ghost answer = { pool_answer };
+
+    ghost refusing = { is_refusing };
+
+    ghost stays = { Prim.search rules };
+
+    ghost call_fits = { lit< tt };
+
+    ghost todo_fits = { lit< tt };
+
+    ghost steps_fit = { lit< tt };
+
+    ghost event_fits = { lit< tt };
+
+    ghost entry_fits = { lit< tt };
+
+    fn open(alloc: Global, params: &u32) -> Result<PagePool, OpenFault> {
+        let pages = *params;
+        if pages == 0 || pages > MOST_PAGES {
+            return Err(OpenFault::BadLimit);
+        }
+        match vec![in alloc; None; pages as usize] {
+            Ok(owners) => Ok(PagePool { pages, owners }),
+            Err(_) => Err(OpenFault::OutOfMemory),
+        }
+    }
+
+    fn apply(&mut self, call: &PoolCall) -> PoolReply {
+        match *call {
+            PoolCall::Alloc(owner) => self.give(owner),
+            PoolCall::Free { owner, page } => self.take_back(owner, page),
+            PoolCall::Left => PoolReply::Count(self.count()),
+        }
+    }
+
+    fn refuses(reply: &PoolReply) -> bool {
+        match *reply {
+            PoolReply::NoPage
+            | PoolReply::BadOwner
+            | PoolReply::NotYours
+            | PoolReply::NotTaken
+            | PoolReply::BadPage => true,
+            PoolReply::Ok | PoolReply::Page(_) | PoolReply::Count(_) => false,
+        }
+    }
+}
