@@ -1,0 +1,4 @@
+pub mod Distinct
+pub mod Moves
+pub mod Rooms
+pub mod Kept

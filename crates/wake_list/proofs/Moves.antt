@@ -1,0 +1,50 @@
+-- What goes to another of the lists stays among all of them.
+use Rattle.std.proofs.Common.{◌≡◌, ℕ, suc, ◌+◌, ◌<◌, ◌≤◌, ◌||◌, Bool, List, [], ◌∷◌, ◌++◌, length, get_or, set, take, drop, map, refl, sym, ap, ◌∙◌, subst, arith, append_assoc, length-append}
+use Rattle.std.specs.List.{concat, list_any}
+use Rattle.std.specs.List.Sorted.{IsPermutation}
+use Rattle.std.proofs.lemmas.List.{set_split, set-get_or}
+use Rattle.std.proofs.lemmas.List.Folds.{concat-append, list_any-append}
+use Rattle.std.proofs.lemmas.List.Sorted.{IsPermutation-append_comm, IsPermutation-append_left, IsPermutation-append_right}
+use Rattle.event_log.specs.Distinct.{has}
+
+-- the lists before that place, joined, and those after it
+abbrev before : List (List ℕ) → ℕ → List ℕ
+before ls c = concat (take c ls)
+
+abbrev behind : List (List ℕ) → ℕ → List ℕ
+behind ls c = concat (drop (suc c) ls)
+
+concat_set : (ls : List (List ℕ)) (c : ℕ) (l : List ℕ) → c < length ls → concat (set ls c l) ≡ before ls c ++ (l ++ behind ls c)
+concat_set ls c l lt = ap concat (set_split ls c l lt) ∙ concat-append (take c ls) (l ∷ drop (suc c) ls)
+
+concat_at : (ls : List (List ℕ)) (c : ℕ) → c < length ls → concat ls ≡ before ls c ++ (get_or ls c [] ++ behind ls c)
+concat_at ls c lt = ap concat (sym (set-get_or ls c [])) ∙ concat_set ls c (get_or ls c []) lt
+
+-- one of the lists is no longer than all of them
+pub length_at : (ls : List (List ℕ)) (c : ℕ) → c < length ls → length (get_or ls c []) ≤ length (concat ls)
+length_at ls c lt =
+    omega (arith, ap length (concat_at ls c lt), length-append (before ls c) (get_or ls c [] ++ behind ls c), length-append (get_or ls c []) (behind ls c))
+
+-- what stands at the end goes between
+pub between : (a b m : List ℕ) → IsPermutation ((a ++ b) ++ m) ((a ++ m) ++ b)
+between a b m =
+    subst (λ l. IsPermutation l ((a ++ m) ++ b)) (sym (append_assoc a b m)) (subst (λ l. IsPermutation (a ++ (b ++ m)) l) (sym (append_assoc a m b)) (IsPermutation-append_right a (b ++ m) (m ++ b) (IsPermutation-append_comm b m)))
+
+-- what stands at the end goes to the end of one of the lists
+pub put_in : (r : List ℕ) (ls : List (List ℕ)) (c : ℕ) (m : List ℕ) → c < length ls → IsPermutation ((r ++ concat ls) ++ m) (r ++ concat (set ls c (get_or ls c [] ++ m)))
+put_in r ls c m lt =
+    let x = get_or ls c [] in
+    let left : (r ++ (before ls c ++ x)) ++ behind ls c ≡ r ++ concat ls
+    = append_assoc r (before ls c ++ x) (behind ls c) ∙ ap (λ l. r ++ l) (append_assoc (before ls c) x (behind ls c) ∙ sym (concat_at ls c lt)) in
+    let right : ((r ++ (before ls c ++ x)) ++ m) ++ behind ls c ≡ r ++ concat (set ls c (x ++ m))
+    = ap (λ l. l ++ behind ls c) (append_assoc r (before ls c ++ x) m ∙ ap (λ l. r ++ l) (append_assoc (before ls c) x m)) ∙ (append_assoc r (before ls c ++ (x ++ m)) (behind ls c) ∙ ap (λ l. r ++ l) (append_assoc (before ls c) (x ++ m) (behind ls c) ∙ sym (concat_set ls c (x ++ m) lt))) in
+    subst (λ l. IsPermutation (l ++ m) (r ++ concat (set ls c (x ++ m)))) left (subst (λ l. IsPermutation (((r ++ (before ls c ++ x)) ++ behind ls c) ++ m) l) right (between (r ++ (before ls c ++ x)) (behind ls c) m))
+
+-- the beginning of one of the lists goes to the end of r
+pub taken_out : (r : List ℕ) (ls : List (List ℕ)) (c : ℕ) (m rest : List ℕ) → c < length ls → get_or ls c [] ≡ m ++ rest → IsPermutation (r ++ concat ls) ((r ++ m) ++ concat (set ls c rest))
+taken_out r ls c m rest lt e =
+    let left : ((r ++ before ls c) ++ m) ++ (rest ++ behind ls c) ≡ r ++ concat ls
+    = append_assoc (r ++ before ls c) m (rest ++ behind ls c) ∙ (append_assoc r (before ls c) (m ++ (rest ++ behind ls c)) ∙ ap (λ l. r ++ l) (ap (λ l. before ls c ++ l) (sym (append_assoc m rest (behind ls c)) ∙ ap (λ l. l ++ behind ls c) (sym e)) ∙ sym (concat_at ls c lt))) in
+    let right : ((r ++ m) ++ before ls c) ++ (rest ++ behind ls c) ≡ (r ++ m) ++ concat (set ls c rest)
+    = append_assoc (r ++ m) (before ls c) (rest ++ behind ls c) ∙ ap (λ l. (r ++ m) ++ l) (sym (concat_set ls c rest lt)) in
+    subst (λ l. IsPermutation l ((r ++ m) ++ concat (set ls c rest))) left (subst (λ l. IsPermutation (((r ++ before ls c) ++ m) ++ (rest ++ behind ls c)) l) right (IsPermutation-append_left (rest ++ behind ls c) ((r ++ before ls c) ++ m) ((r ++ m) ++ before ls c) (between r (before ls c) m)))

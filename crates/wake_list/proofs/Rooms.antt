@@ -1,0 +1,45 @@
+-- What vectors of numbers hold together, and how many.
+use Rattle.std.proofs.Common.{◌≡◌, ℕ, ◌+◌, ◌<◌, ◌≤◌, ◌==◌, ◌||◌, List, [], ◌∷◌, ◌++◌, length, get_or, set, map, refl, sym, ap, ◌∙◌, arith, length-append, Vec, Global}
+use Rattle.std.specs.List.{concat, list_any, remove}
+use Rattle.std.proofs.lemmas.List.{get_or-map, map-set, length-map}
+use Rattle.std.proofs.lemmas.List.Folds.{list_any-append}
+use Rattle.event_log.specs.Distinct.{has, AreDistinctBelow}
+use Rattle.event_log.proofs.Distinct.{distinct_length}
+use Rattle.wake_list.proofs.Moves.{length_at}
+
+-- what they hold
+abbrev pub lists_of : List (Vec ℕ Global) → List (List ℕ)
+lists_of vs = map (λ v. v.items) vs
+
+-- a place among the vectors is one among the lists
+pub place_of : (vs : List (Vec ℕ Global)) (c : ℕ) → c < length vs → c < length (lists_of vs)
+place_of vs c lt = omega (arith, length-map vs (λ v. v.items))
+
+-- the vector that was read at that place
+pub list_at : (vs : List (Vec ℕ Global)) (c : ℕ) (v : Vec ℕ Global) → c < length vs → v ≡ get_or vs c v → get_or (lists_of vs) c [] ≡ v.items
+list_at vs c v lt e = get_or-map (λ v. v.items) vs c v [] lt ∙ ap (λ v. v.items) (sym e)
+
+-- the vector that was written at that place
+pub list_put : (vs : List (Vec ℕ Global)) (c : ℕ) (v : Vec ℕ Global) (l : List ℕ) → v.items ≡ l → lists_of (set vs c v) ≡ set (lists_of vs) c l
+list_put vs c v l e = map-set (λ v. v.items) vs c v ∙ ap (λ x. set (lists_of vs) c x) e
+
+-- a number is in one of them
+pub has_concat : (t : ℕ) (vs : List (Vec ℕ Global)) → list_any (λ v. has t v.items) vs ≡ has t (concat (lists_of vs))
+has_concat t [] = refl
+has_concat t (v ∷ vs) = ap (λ b. has t v.items || b) (has_concat t vs) ∙ sym (list_any-append (λ y. y == t) v.items (concat (lists_of vs)))
+
+-- all together are as many as r and the lists
+all_length : (r : List ℕ) (ls : List (List ℕ)) (c : ℕ) → c < length ls → length r + length (get_or ls c []) ≤ length (r ++ concat ls)
+all_length r ls c lt = omega (arith, length-append r (concat ls), length_at ls c lt)
+
+-- r and one list hold fewer than all together may
+pub fits_with : (n : ℕ) (r : List ℕ) (ls : List (List ℕ)) (c : ℕ) → c < length ls → AreDistinctBelow n (r ++ concat ls) → length r + length (get_or ls c []) ≤ n
+fits_with n r ls c lt q = omega (arith, all_length r ls c lt, distinct_length n (r ++ concat ls) q)
+
+pub fits_one_more : (n : ℕ) (r : List ℕ) (ls : List (List ℕ)) (c : ℕ) → c < length ls → length (r ++ concat ls) < n → length (get_or ls c []) < n
+fits_one_more n r ls c lt few = omega (arith, all_length r ls c lt, few)
+
+-- what a removal at the front takes
+pub front_and_rest : (xs : List ℕ) (x : ℕ) → 0 < length xs → x ≡ get_or xs 0 x → xs ≡ x ∷ remove xs 0
+front_and_rest [] x lt e = absurd (omega arith)
+front_and_rest (y ∷ ys) x lt e = ap (λ z. z ∷ ys) (sym e)
