@@ -1,5 +1,5 @@
 -- What vectors of numbers hold together, and how many.
-use Rattle.std.proofs.Common.{◌≡◌, ℕ, ◌+◌, ◌<◌, ◌≤◌, ◌==◌, ◌||◌, List, [], ◌∷◌, ◌++◌, length, get_or, set, map, refl, sym, ap, ◌∙◌, arith, length-append, Vec, Global}
+use Rattle.std.proofs.Common.{◌≡◌, ℕ, ◌+◌, ◌<◌, ◌≤◌, ◌==◌, ◌||◌, List, [], ◌∷◌, ◌++◌, length, get_or, set, map, replicate, zero, suc, refl, sym, ap, ◌∙◌, arith, length-append, Vec, Global}
 use Rattle.std.specs.List.{concat, list_any, remove}
 use Rattle.std.proofs.lemmas.List.{get_or-map, map-set, length-map}
 use Rattle.std.proofs.lemmas.List.Folds.{list_any-append}
@@ -39,7 +39,19 @@ fits_with n r ls c lt q = omega (arith, all_length r ls c lt, distinct_length n 
 pub fits_one_more : (n : ℕ) (r : List ℕ) (ls : List (List ℕ)) (c : ℕ) → c < length ls → length (r ++ concat ls) < n → length (get_or ls c []) < n
 fits_one_more n r ls c lt few = omega (arith, all_length r ls c lt, few)
 
--- what a removal at the front takes
-pub front_and_rest : (xs : List ℕ) (x : ℕ) → 0 < length xs → x ≡ get_or xs 0 x → xs ≡ x ∷ remove xs 0
+front_and_rest : (xs : List ℕ) (x : ℕ) → 0 < length xs → x ≡ get_or xs 0 x → xs ≡ x ∷ remove xs 0
 front_and_rest [] x lt e = absurd (omega arith)
 front_and_rest (y ∷ ys) x lt e = ap (λ z. z ∷ ys) (sym e)
+
+-- the vector at that place was read as u, which isn't empty, and then as v, whose first was removed
+pub front_taken : (vs : List (Vec ℕ Global)) (c : ℕ) (u v : Vec ℕ Global) (x : ℕ) (rest : List ℕ) → c < length vs → u ≡ get_or vs c u → v ≡ get_or vs c v → 0 < length u.items → x ≡ get_or v.items 0 x → rest ≡ remove v.items 0 → get_or (lists_of vs) c [] ≡ x ∷ rest
+front_taken vs c u v x rest lt eu ev some ex er =
+    let tested = list_at vs c u lt eu in
+    let taken = list_at vs c v lt ev in
+    let full : 0 < length v.items = omega (arith, some, ap length tested, ap length taken) in
+    taken ∙ (front_and_rest v.items x full ex ∙ ap (λ l. x ∷ l) (sym er))
+
+-- no list holds any
+pub concat_none : (n : ℕ) → concat (replicate n []) ≡ []
+concat_none zero = refl
+concat_none (suc n) = concat_none n

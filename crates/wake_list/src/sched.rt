@@ -1,6 +1,6 @@
 //! The scheduler over plain lists.
 
-ghost use Rattle.std.specs.Prelude.{◌≡◌, ◌≤◌, IfOk, [], map, replicate};
+ghost use Rattle.std.specs.Prelude.{◌≡◌, ◌≤◌, ◌+◌, ◌++◌, IfOk, [], map, replicate, vec_len};
 ghost use Rattle.std.specs.List.{All};
 ghost use Rattle.std.specs.Vec.{vec_capacity};
 ghost use Rattle.event_log.specs.Distinct.{has};
@@ -135,10 +135,20 @@ impl Sched {
             return SchedReply::BadChannel;
         }
         let count = self.channels[place].len() as u32;
-        // The ready list has room for all threads, so this takes no memory and can't fail.
-        let _ = self.ready.append(&mut self.channels[place]);
+        move_all(&mut self.channels[place], &mut self.ready);
         SchedReply::Count(count)
     }
+}
+
+/// Moves all numbers to the end of the other list, which has room for them, so that no memory is taken.
+fn move_all(from: &mut Vec<u32>, to: &mut Vec<u32>)
+    requires { vec_len to.old + vec_len from.old ≤ vec_capacity to.old }
+    ensures moved { to.new.items ≡ to.old.items ++ from.old.items }
+    ensures emptied { from.new.items ≡ [] }
+    ensures room_to { vec_capacity to.old ≤ vec_capacity to.new }
+    ensures room_from { vec_capacity from.new ≡ vec_capacity from.old }
+{
+    let _ = to.append(from);
 }
 
 /// Empty channels, each with that room.
