@@ -1,1 +1,254 @@
-//! (begun)
+//! Worked answers, the limits of an opening, and a plain program that answers the same.
+
+use crate::{
+    MOST_CHANNELS, MOST_THREADS, Sched, SchedCall as Call, SchedParams, SchedReply as Reply,
+};
+use event_log::{Logged, OpenFault, Step};
+use std::alloc::Global;
+use std::test::Fail;
+
+/// A scheduler of that many threads and channels.
+fn open(alloc: Global, threads: u32, channels: u32) -> Result<Logged<Sched>, OpenFault> {
+    Logged::<Sched>::open(alloc, SchedParams { threads, channels }, 5000)
+}
+
+/// The reply to one call, done as an event of the CPU 0.
+fn reply_to(sched: &mut Logged<Sched>, call: Call) -> Result<Reply, Fail> {
+    let steps = sched.apply(0, &[call])?;
+    match steps.list.as_slice() {
+        [step] => Ok(step.reply),
+        _ => Err(Fail::new("not one step")),
+    }
+}
+
+fn sleep(channel: u32, thread: u32) -> Call {
+    Call::Sleep { channel, thread }
+}
+
+#[test]
+fn worked_answers(rt: HostRuntime) -> Result<(), Fail> {
+    let rows: [(u32, &[(Call, Reply)]); 2] = [
+        (
+            1,
+            &[
+                (sleep(0, 5), Reply::Ok),
+                (sleep(0, 2), Reply::Ok),
+                (Call::WakeAll(0), Reply::Count(2)),
+                (Call::Next, Reply::Thread(5)),
+                (Call::Next, Reply::Thread(2)),
+                (Call::WakeAll(0), Reply::Count(0)),
+            ],
+        ),
+        (
+            2,
+            &[
+                (sleep(0, 1), Reply::Ok),
+                (sleep(1, 2), Reply::Ok),
+                (Call::Ready(1), Reply::Already),
+                (Call::Wake(1), Reply::Thread(2)),
+                (Call::Ready(2), Reply::Already),
+                (Call::Wake(1), Reply::Empty),
+                (sleep(2, 9), Reply::BadChannel),
+                (sleep(0, 9), Reply::BadThread),
+                (Call::Next, Reply::Thread(2)),
+                (Call::Next, Reply::Empty),
+                (Call::WakeAll(0), Reply::Count(1)),
+                (Call::Next, Reply::Thread(1)),
+                (Call::WakeAll(2), Reply::BadChannel),
+            ],
+        ),
+    ];
+    for (channels, row) in rows {
+        let mut sched = open(rt.alloc(), 8, channels)?;
+        for (call, reply) in row {
+            assert_eq!(rt;
+                reply_to(&mut sched, *call)?,
+                *reply,
+                "to {call:?} of {row:?}"
+            );
+        }
+    }
+    Ok(())
+}
+
+#[test]
+fn a_batch_ends_with_a_refusal(rt: HostRuntime) -> Result<(), Fail> {
+    let mut sched = open(rt.alloc(), 8, 2)?;
+    let steps = sched.apply(0, &[sleep(1, 3), Call::Ready(3), Call::Next])?;
+    let wanted = [
+        Step {
+            call: sleep(1, 3),
+            reply: Reply::Ok,
+        },
+        Step {
+            call: Call::Ready(3),
+            reply: Reply::Already,
+        },
+    ];
+    assert!(rt; steps.list.as_slice() == wanted.as_slice());
+    assert_eq!(rt; reply_to(&mut sched, Call::WakeAll(1))?, Reply::Count(1));
+    Ok(())
+}
+
+#[test]
+fn limits_of_an_opening(rt: HostRuntime) {
+    let rows = [
+        (0, 1, Some(OpenFault::BadLimit)),
+        (1, 1, None),
+        (1024, 1, None),
+        (1025, 1, Some(OpenFault::BadLimit)),
+        (1, 0, Some(OpenFault::BadLimit)),
+        (1, 64, None),
+        (1, 65, Some(OpenFault::BadLimit)),
+        (1024, 64, None),
+    ];
+    for (threads, channels, fault) in rows {
+        let opened = open(rt.alloc(), threads, channels);
+        assert_eq!(rt;
+            opened.err(),
+            fault,
+            "for {threads} threads and {channels} channels"
+        );
+    }
+}
+
+/// To be run with each allocation refused in turn: the opening that lacks memory says so, and the next one is as ever.
+#[test]
+fn an_opening_without_memory(rt: HostRuntime) -> Result<(), Fail> {
+    if let Err(fault) = open(rt.alloc(), 8, 3) {
+        assert_eq!(rt; fault, OpenFault::OutOfMemory);
+    }
+    let mut sched = open(rt.alloc(), 8, 3)?;
+    assert_eq!(rt; reply_to(&mut sched, sleep(2, 3))?, Reply::Ok);
+    assert_eq!(rt; reply_to(&mut sched, Call::WakeAll(2))?, Reply::Count(1));
+    Ok(())
+}
+
+#[test]
+fn a_channel_of_all_its_threads(rt: HostRuntime) -> Result<(), Fail> {
+    let mut sched = open(rt.alloc(), MOST_THREADS, MOST_CHANNELS)?;
+    for thread in 0..MOST_THREADS {
+        assert_eq!(rt;
+            reply_to(&mut sched, sleep(63, thread))?,
+            Reply::Ok,
+            "thread {thread}"
+        );
+    }
+    let rows = [
+        (Call::Ready(1023), Reply::Already),
+        (Call::Ready(1024), Reply::BadThread),
+        (sleep(0, 1023), Reply::Already),
+        (sleep(63, 1024), Reply::BadThread),
+        (sleep(64, 0), Reply::BadChannel),
+        (Call::Wake(63), Reply::Thread(0)),
+        (Call::WakeAll(63), Reply::Count(1023)),
+        (Call::WakeAll(63), Reply::Count(0)),
+        (Call::Ready(0), Reply::Already),
+        (Call::Next, Reply::Thread(0)),
+        (Call::Ready(0), Reply::Ok),
+        (Call::Next, Reply::Thread(1)),
+        (sleep(63, 1), Reply::Ok),
+        (Call::Wake(63), Reply::Thread(1)),
+        (Call::Next, Reply::Thread(2)),
+    ];
+    for (call, reply) in rows {
+        assert_eq!(rt; reply_to(&mut sched, call)?, reply, "to {call:?}");
+    }
+    Ok(())
+}
+
+/// A thread with the place where it stands: no channel where it is ready.
+#[derive(Clone, Copy, Drop)]
+struct Standing {
+    channel: Option<u32>,
+    thread: u32,
+}
+
+/// Puts the thread at the end of that place, unless it stands anywhere.
+fn plain_put(list: &mut Vec<Standing>, channel: Option<u32>, thread: u32) -> Result<Reply, Fail> {
+    if list.iter().any(|other| other.thread == thread) {
+        return Ok(Reply::Already);
+    }
+    list.push(Standing { channel, thread })?;
+    Ok(Reply::Ok)
+}
+
+/// Takes out the first thread of that place.
+fn plain_take(list: &mut Vec<Standing>, channel: Option<u32>) -> Option<u32> {
+    let place = list.iter().position(|other| other.channel == channel)?;
+    Some(list.remove(place).thread)
+}
+
+/// The answer of a scheduler that is one plain list in order of arrival, for 7 threads and 3 channels.
+fn plain_answer(alloc: Global, list: &mut Vec<Standing>, call: Call) -> Result<Reply, Fail> {
+    match call {
+        Call::Sleep { channel, .. } | Call::Wake(channel) | Call::WakeAll(channel)
+            if channel >= 3 =>
+            Ok(Reply::BadChannel),
+        Call::Ready(thread) | Call::Sleep { thread, .. } if thread >= 7 => Ok(Reply::BadThread),
+        Call::Ready(thread) => plain_put(list, None, thread),
+        Call::Sleep { channel, thread } => plain_put(list, Some(channel), thread),
+        Call::Next => match plain_take(list, None) {
+            Some(thread) => Ok(Reply::Thread(thread)),
+            None => Ok(Reply::Empty),
+        },
+        Call::Wake(channel) => match plain_take(list, Some(channel)) {
+            Some(thread) => {
+                list.push(Standing {
+                    channel: None,
+                    thread,
+                })?;
+                Ok(Reply::Thread(thread))
+            }
+            None => Ok(Reply::Empty),
+        },
+        Call::WakeAll(channel) => {
+            let mut woken = Vec::new(alloc);
+            for other in list.iter() {
+                if other.channel == Some(channel) {
+                    woken.push(Standing {
+                        channel: None,
+                        thread: other.thread,
+                    })?;
+                }
+            }
+            list.retain(|other| other.channel != Some(channel));
+            list.extend_from_slice(woken.as_slice())?;
+            Ok(Reply::Count(u32::try_from(woken.len())?))
+        }
+    }
+}
+
+/// A call that the number stands for, on one of the threads 0 to 7 and the channels 0 to 3.
+fn call_of(number: u64) -> Call {
+    let thread = (number >> 48) as u32 % 8;
+    let channel = (number >> 56) as u32 % 4;
+    match (number >> 40) % 8 {
+        0..=1 => Call::Ready(thread),
+        2..=3 => sleep(channel, thread),
+        4 => Call::Wake(channel),
+        5 => Call::WakeAll(channel),
+        _ => Call::Next,
+    }
+}
+
+#[test]
+fn answers_as_a_plain_program(rt: HostRuntime) -> Result<(), Fail> {
+    let mut sched = open(rt.alloc(), 7, 3)?;
+    let mut list = Vec::new(rt.alloc());
+    let mut number = 1u64;
+    for turn in 0..5000 {
+        // Knuth's numbers for a linear congruential generator.
+        number = number
+            .wrapping_mul(6364136223846793005)
+            .wrapping_add(1442695040888963407);
+        let call = call_of(number);
+        let wanted = plain_answer(rt.alloc(), &mut list, call)?;
+        assert_eq!(rt;
+            reply_to(&mut sched, call)?,
+            wanted,
+            "to {call:?}, turn {turn}"
+        );
+    }
+    Ok(())
+}
