@@ -128,7 +128,7 @@ fn an_opening_without_memory(rt: HostRuntime) -> Result<(), Fail> {
 }
 
 #[test]
-fn a_pool_of_owned_pages(rt: HostRuntime) -> Result<(), Fail> {
+fn a_pool_with_no_page_left(rt: HostRuntime) -> Result<(), Fail> {
     let mut pool = Logged::<PagePool>::open(rt.alloc(), MOST_PAGES, 5000)?;
     for page in 0..MOST_PAGES {
         assert_eq!(rt;
