@@ -1,7 +1,7 @@
 //! The pool over a plain table.
 
-ghost use Rattle.std.specs.Prelude.{◌≡◌, is_none};
-ghost use Rattle.std.specs.List.{count_by};
+ghost use Rattle.std.specs.Prelude.{◌≡◌};
+ghost use Rattle.page_pool.specs.Table.{left_of};
 ghost use Rattle.page_pool.specs.Answer.{alloc_answer, free_answer};
 
 use crate::{PoolCall, PoolReply};
@@ -70,7 +70,7 @@ impl PagePool {
     }
 
     fn count(&self) -> u32
-        ensures { result ≡ count_by is_none self.now.owners }
+        ensures { result ≡ left_of self.now.owners }
     {
         self.owners.iter().filter(|entry| entry.is_none()).count() as u32
     }
