@@ -179,13 +179,49 @@ fn plain_take(list: &mut Vec<Standing>, channel: Option<u32>) -> Option<u32> {
     Some(list.remove(place).thread)
 }
 
+/// Puts each thread of the channel at the end of the ready ones, and counts them.
+fn plain_wake_all(alloc: Global, list: &mut Vec<Standing>, channel: u32) -> Result<Reply, Fail> {
+    let mut woken = Vec::new(alloc);
+    for other in list.iter() {
+        if other.channel == Some(channel) {
+            woken.push(Standing {
+                channel: None,
+                thread: other.thread,
+            })?;
+        }
+    }
+    list.retain(|other| other.channel != Some(channel));
+    list.extend_from_slice(woken.as_slice())?;
+    Ok(Reply::Count(u32::try_from(woken.len())?))
+}
+
+/// Whether the call names a channel that isn't one of 3.
+fn names_no_channel(call: Call) -> bool {
+    match call {
+        Call::Sleep { channel, .. } => channel >= 3,
+        Call::Wake(channel) | Call::WakeAll(channel) => channel >= 3,
+        Call::Ready(_) | Call::Next => false,
+    }
+}
+
+/// Whether the call names a thread that isn't one of 7.
+fn names_no_thread(call: Call) -> bool {
+    match call {
+        Call::Sleep { thread, .. } => thread >= 7,
+        Call::Ready(thread) => thread >= 7,
+        Call::Next | Call::Wake(_) | Call::WakeAll(_) => false,
+    }
+}
+
 /// The answer of a scheduler that is one plain list in order of arrival, for 7 threads and 3 channels.
 fn plain_answer(alloc: Global, list: &mut Vec<Standing>, call: Call) -> Result<Reply, Fail> {
+    if names_no_channel(call) {
+        return Ok(Reply::BadChannel);
+    }
+    if names_no_thread(call) {
+        return Ok(Reply::BadThread);
+    }
     match call {
-        Call::Sleep { channel, .. } | Call::Wake(channel) | Call::WakeAll(channel)
-            if channel >= 3 =>
-            Ok(Reply::BadChannel),
-        Call::Ready(thread) | Call::Sleep { thread, .. } if thread >= 7 => Ok(Reply::BadThread),
         Call::Ready(thread) => plain_put(list, None, thread),
         Call::Sleep { channel, thread } => plain_put(list, Some(channel), thread),
         Call::Next => match plain_take(list, None) {
@@ -194,28 +230,12 @@ fn plain_answer(alloc: Global, list: &mut Vec<Standing>, call: Call) -> Result<R
         },
         Call::Wake(channel) => match plain_take(list, Some(channel)) {
             Some(thread) => {
-                list.push(Standing {
-                    channel: None,
-                    thread,
-                })?;
+                plain_put(list, None, thread)?;
                 Ok(Reply::Thread(thread))
             }
             None => Ok(Reply::Empty),
         },
-        Call::WakeAll(channel) => {
-            let mut woken = Vec::new(alloc);
-            for other in list.iter() {
-                if other.channel == Some(channel) {
-                    woken.push(Standing {
-                        channel: None,
-                        thread: other.thread,
-                    })?;
-                }
-            }
-            list.retain(|other| other.channel != Some(channel));
-            list.extend_from_slice(woken.as_slice())?;
-            Ok(Reply::Count(u32::try_from(woken.len())?))
-        }
+        Call::WakeAll(channel) => plain_wake_all(alloc, list, channel),
     }
 }
 
