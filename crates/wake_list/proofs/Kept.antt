@@ -1,20 +1,20 @@
 -- No thread is lost, and none stands twice: by one call, and by many.
-use Rattle.std.proofs.Common.{◌≡◌, ℕ, ◌<◌, nat_le, Bool, true, false, if◌then◌else◌, List, [], ◌∷◌, ◌++◌, length, get_or, set, refl, sym, ap, ◌∙◌, subst, arith, append_assoc}
+use Rattle.std.proofs.Common.{◌≡◌, ℕ, ◌<◌, nat_le, Bool, true, false, if◌then◌else◌, List, [], ◌∷◌, ◌++◌, length, refl, sym, ap, subst, arith, append_assoc}
 use Rattle.std.specs.List.{concat}
 use Rattle.std.specs.List.Sorted.{IsPermutation}
 use Rattle.std.proofs.lemmas.Bool.Decides.{nat_tests}
 use Rattle.std.proofs.lemmas.List.{append-nil}
 use Rattle.std.proofs.lemmas.List.Sorted.{IsPermutation-refl, IsPermutation-trans, IsPermutation-append_left, IsPermutation-append_right}
-use Rattle.event_log.specs.Distinct.{has, AreDistinctBelow}
+use Rattle.event_log.specs.Distinct.{has}
 use Rattle.wake_list.proofs.Distinct.{distinct_left, distinct_put}
 use Rattle.wake_list.proofs.Moves.{between, put_in, taken_out}
 use Rattle.wake_list.specs.State.{SchedState, held}
-use Rattle.wake_list.specs.Answer.{sched_answer, ready_answer, front_answer, sleep_answer, woken_answer, wake_answer, wake_all_answer, sleepers, with_sleepers}
+use Rattle.wake_list.specs.Answer.{sched_answer, front_answer, sleep_answer, woken_answer, wake_answer, wake_all_answer, sleepers, with_sleepers}
 use Rattle.wake_list.specs.Keeping.{EachOnce, came_in, went_out, threads_in, threads_out, left_after}
 use Rattle.wake_list.specs.declared.call.SchedCall.{SchedCall}
 use Rattle.wake_list.specs.declared.call.SchedCall.TheVariants.{Ready, Next, Sleep, Wake, WakeAll}
 use Rattle.wake_list.specs.declared.call.SchedReply.{SchedReply}
-use Rattle.wake_list.specs.declared.call.SchedReply.TheVariants.{Ok, BadThread, BadChannel, Already, Empty, Thread, Count}
+use Rattle.wake_list.specs.declared.call.SchedReply.TheVariants.{Ok, BadThread, BadChannel, Already, Thread, Count}
 
 -- what holds of one call and its answer
 pub record Keeps (s : SchedState) (call : SchedCall) (a : SchedState × SchedReply) : Type 0 where

@@ -4,9 +4,9 @@ use Rattle.event_log.specs.Distinct.{AreDistinctBelow}
 use Rattle.wake_list.specs.State.{SchedState, held}
 use Rattle.wake_list.specs.Answer.{sched_answer}
 use Rattle.wake_list.specs.declared.call.SchedCall.{SchedCall}
-use Rattle.wake_list.specs.declared.call.SchedCall.TheVariants.{Ready, Next, Sleep, Wake, WakeAll}
+use Rattle.wake_list.specs.declared.call.SchedCall.TheVariants.{Ready, Next, Sleep}
 use Rattle.wake_list.specs.declared.call.SchedReply.{SchedReply}
-use Rattle.wake_list.specs.declared.call.SchedReply.TheVariants.{Ok, BadThread, BadChannel, Already, Empty, Thread, Count}
+use Rattle.wake_list.specs.declared.call.SchedReply.TheVariants.{Ok, Thread}
 
 -- each thread stands at most once, in the ready list or in one channel, and is below the number of threads
 abbrev pub EachOnce : SchedState → Type 0

@@ -1,5 +1,5 @@
 use Rattle.std.proofs.Common.{◌≡◌, ℕ, ◌==◌, ◌||◌, false, sym, ap, ◌∙◌, rules, tests}
-use Rattle.std.specs.List.{concat, list_any}
+use Rattle.std.specs.List.{concat}
 use Rattle.std.proofs.lemmas.Iterator.{YieldsList-from_slice}
 use Rattle.std.proofs.lemmas.Iterator.Search.{any_from_yields_List}
 use Rattle.std.proofs.lemmas.List.Folds.{list_any-append}
