@@ -7,3 +7,6 @@ pub mod TicketLines
 pub mod Acting
 pub mod Dealing
 pub mod Parts
+pub mod Slices
+pub mod Entries
+pub mod SoundSteps

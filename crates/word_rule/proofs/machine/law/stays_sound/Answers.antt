@@ -1,0 +1,5 @@
+use Rattle.word_rule.proofs.SoundSteps.{sound_run}
+use Rattle.word_rule.proofs.machine.law.stays_sound.Goals as goal
+
+pub returns : goal.returns
+returns g c = λ w schedule h. sound_run g.O.SeqObject schedule w h
