@@ -10,3 +10,7 @@ pub mod Parts
 pub mod Slices
 pub mod Entries
 pub mod SoundSteps
+pub mod Orders
+pub mod TicketTurns
+pub mod McsTurns
+pub mod TurnsKeep

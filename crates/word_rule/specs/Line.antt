@@ -1,5 +1,5 @@
 -- The line of CPUs at a lock, whichever lock it is.
-use Rattle.std.specs.Prelude.{◌≡◌, ℕ, ◌<◌, Bool, true, false, ◌==◌, cond, List, []}
+use Rattle.std.specs.Prelude.{◌≡◌, ℕ, ◌<◌, Bool, true, false, ◌==◌, cond, List, [], ◌∷◌}
 use Rattle.event_log.specs.Distinct.{has}
 use Rattle.word_rule.specs.declared.place.Place.{Place}
 use Rattle.word_rule.specs.declared.place.Place.TheVariants.{Idle, Drawn, Served, Ready, Behind, Armed, Waiting, Holding, Alone, Leaving, Passing, Torn}
@@ -21,6 +21,11 @@ lined cpus out place p q = record { cpus = cpus; out = out; place = moved place 
 -- nobody is in line, and the object is at home
 abbrev pub empty_line : Line
 empty_line = record { cpus = []; out = false; place = λ _. Idle }
+
+-- whether x is the first of the line
+abbrev pub is_first : ℕ → List ℕ → Bool
+is_first x [] = false
+is_first x (y ∷ ys) = y == x
 
 -- whether a caller that stands there has the object
 abbrev pub holding : Place → Bool

@@ -16,11 +16,6 @@ pub record Lock : Type 0 where
 abbrev pub opening_lock : LockKind → ℕ → Lock
 opening_lock kind first = record { kind = kind; line = empty_line; serving = first; next = λ _. None }
 
--- whether the CPU is the first of the line
-abbrev pub is_first : ℕ → List ℕ → Bool
-is_first i [] = false
-is_first i (k ∷ ks) = k == i
-
 -- the last of k ∷ ks
 abbrev pub last_from : ℕ → List ℕ → ℕ
 last_from k [] = k

@@ -6,8 +6,8 @@ use Rattle.word_rule.specs.declared.place.Place.{Place}
 use Rattle.word_rule.specs.declared.place.Place.TheVariants as places
 use Rattle.word_rule.specs.declared.machine.step_done.StepDone.{StepDone}
 use Rattle.word_rule.specs.declared.machine.step_done.StepDone.TheVariants as steps
-use Rattle.word_rule.specs.Line.{Line, lined}
-use Rattle.word_rule.specs.Locks.{Lock, is_first, last, behind, is_named, going, joining, taking, leaving, naming, follower}
+use Rattle.word_rule.specs.Line.{Line, lined, is_first}
+use Rattle.word_rule.specs.Locks.{Lock, last, behind, is_named, going, joining, taking, leaving, naming, follower}
 
 -- how many tickets there are
 abbrev pub tickets : ℕ
