@@ -9,7 +9,7 @@ use Rattle.atomic_table.proofs.Lists.{at_longer, at_last, one_turn}
 use Rattle.event_log.specs.Distinct.{has, AreDistinctBelow}
 use Rattle.event_log.proofs.Distinct.{distinct_length, distinct_push}
 use Rattle.word_rule.specs.declared.place.Place.{Place}
-use Rattle.word_rule.specs.declared.place.Place.TheVariants.{Idle, Drawn, Served, Torn}
+use Rattle.word_rule.specs.declared.place.Place.TheVariants.{Idle, Drawn, Served, Ready, Behind, Armed, Waiting, Holding, Alone, Leaving, Passing, Torn}
 use Rattle.word_rule.specs.Line.{Line, Ties, moved, holding}
 use Rattle.word_rule.specs.Tickets.{Waits, IsFirst, Stands, Lined}
 use Rattle.word_rule.proofs.Lists.{has_tail, has_push, has_at, at_below, below_of, false_from}
@@ -21,6 +21,14 @@ module _ (m : ℕ) where
   first_if cpus out serving x Idle e s = absurd (true≢false (sym e))
   first_if cpus out serving x (Drawn t) e s = absurd (true≢false (sym e))
   first_if cpus out serving x (Served t) e s = s.0
+  first_if cpus out serving x Ready e s = absurd s
+  first_if cpus out serving x (Behind k) e s = absurd s
+  first_if cpus out serving x (Armed k) e s = absurd s
+  first_if cpus out serving x Waiting e s = absurd s
+  first_if cpus out serving x Holding e s = absurd s
+  first_if cpus out serving x Alone e s = absurd s
+  first_if cpus out serving x Leaving e s = absurd s
+  first_if cpus out serving x (Passing k) e s = absurd s
   first_if cpus out serving x Torn e s = s
 
   stood_moved : (n : ℕ) (cpus : List ℕ) (out : Bool) (serving : ℕ) (place : ℕ → Place) (p : ℕ) (q : Place) → Stands m cpus out serving p q → ((x : ℕ) → x < n → x ≢ p → Stands m cpus out serving x (place x))
@@ -33,12 +41,28 @@ module _ (m : ℕ) where
   stands_longer cpus out serving x p ne Idle s = has_push x p cpus s ne
   stands_longer cpus out serving x p ne (Drawn t) s = record { at = s.at; there = at_longer cpus (p ∷ []) s.at x s.there; drawn = s.drawn; home = s.home }
   stands_longer cpus out serving x p ne (Served t) s = (record { there = at_longer cpus (p ∷ []) 0 x s.0.there; object = s.0.object }, s.1)
+  stands_longer cpus out serving x p ne Ready s = absurd s
+  stands_longer cpus out serving x p ne (Behind k) s = absurd s
+  stands_longer cpus out serving x p ne (Armed k) s = absurd s
+  stands_longer cpus out serving x p ne Waiting s = absurd s
+  stands_longer cpus out serving x p ne Holding s = absurd s
+  stands_longer cpus out serving x p ne Alone s = absurd s
+  stands_longer cpus out serving x p ne Leaving s = absurd s
+  stands_longer cpus out serving x p ne (Passing k) s = absurd s
   stands_longer cpus out serving x p ne Torn s = record { there = at_longer cpus (p ∷ []) 0 x s.there; object = s.object }
 
   stands_taken : (cpus : List ℕ) (serving x p : ℕ) → x ≢ p → get_elem? cpus 0 ≡ some p → (q : Place) → Stands m cpus false serving x q → Stands m cpus true serving x q
   stands_taken cpus serving x p ne head Idle s = s
   stands_taken cpus serving x p ne head (Drawn t) s = record { at = s.at; there = s.there; drawn = s.drawn; home = λ e. absurd (ne (some-injective x p (sym (subst (λ (k : ℕ). get_elem? cpus k ≡ some x) e s.there) ∙ head))) }
   stands_taken cpus serving x p ne head (Served t) s = absurd (true≢false (sym s.0.object))
+  stands_taken cpus serving x p ne head Ready s = absurd s
+  stands_taken cpus serving x p ne head (Behind k) s = absurd s
+  stands_taken cpus serving x p ne head (Armed k) s = absurd s
+  stands_taken cpus serving x p ne head Waiting s = absurd s
+  stands_taken cpus serving x p ne head Holding s = absurd s
+  stands_taken cpus serving x p ne head Alone s = absurd s
+  stands_taken cpus serving x p ne head Leaving s = absurd s
+  stands_taken cpus serving x p ne head (Passing k) s = absurd s
   stands_taken cpus serving x p ne head Torn s = absurd (true≢false (sym s.object))
 
   further : (serving x p : ℕ) (rest : List ℕ) (t at : ℕ) → x ≢ p → get_elem? (p ∷ rest) at ≡ some x → t ≡ (serving + at) % m → Waits m rest false ((serving + 1) % m) x t
@@ -49,6 +73,14 @@ module _ (m : ℕ) where
   stands_served out serving x p rest ne Idle s = has_tail x p rest s
   stands_served out serving x p rest ne (Drawn t) s = further serving x p rest t s.at ne s.there s.drawn
   stands_served out serving x p rest ne (Served t) s = absurd (ne (sym (some-injective p x s.0.there)))
+  stands_served out serving x p rest ne Ready s = absurd s
+  stands_served out serving x p rest ne (Behind k) s = absurd s
+  stands_served out serving x p rest ne (Armed k) s = absurd s
+  stands_served out serving x p rest ne Waiting s = absurd s
+  stands_served out serving x p rest ne Holding s = absurd s
+  stands_served out serving x p rest ne Alone s = absurd s
+  stands_served out serving x p rest ne Leaving s = absurd s
+  stands_served out serving x p rest ne (Passing k) s = absurd s
   stands_served out serving x p rest ne Torn s = absurd (ne (sym (some-injective p x s.there)))
 
   module _ (n : ℕ) (ws : List ℕ) (l : Line) (r : Lined m n ws l) where

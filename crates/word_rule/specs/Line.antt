@@ -2,7 +2,7 @@
 use Rattle.std.specs.Prelude.{◌≡◌, ℕ, ◌<◌, Bool, true, false, ◌==◌, cond, List}
 use Rattle.event_log.specs.Distinct.{has}
 use Rattle.word_rule.specs.declared.place.Place.{Place}
-use Rattle.word_rule.specs.declared.place.Place.TheVariants.{Idle, Drawn, Served, Torn}
+use Rattle.word_rule.specs.declared.place.Place.TheVariants.{Idle, Drawn, Served, Ready, Behind, Armed, Waiting, Holding, Alone, Leaving, Passing, Torn}
 
 -- the CPUs in line, whether the object is out with the first of them, and where each CPU stands
 pub record Line : Type 0 where
@@ -19,6 +19,14 @@ abbrev pub holding : Place → Bool
 holding Idle = false
 holding (Drawn t) = false
 holding (Served t) = true
+holding Ready = false
+holding (Behind p) = false
+holding (Armed p) = false
+holding Waiting = false
+holding Holding = true
+holding Alone = true
+holding Leaving = true
+holding (Passing j) = true
 holding Torn = true
 
 -- what every lock promises of the rule that ties its words to its line, for n CPUs
