@@ -10,10 +10,10 @@ use Rattle.event_log.specs.Distinct.{has, AreDistinctBelow}
 use Rattle.event_log.proofs.Distinct.{distinct_length, distinct_push}
 use Rattle.word_rule.specs.declared.place.Place.{Place}
 use Rattle.word_rule.specs.declared.place.Place.TheVariants.{Idle, Drawn, Served, Ready, Behind, Armed, Waiting, Holding, Alone, Leaving, Passing, Torn}
-use Rattle.word_rule.specs.Line.{Line, Ties, moved, holding}
+use Rattle.word_rule.specs.Line.{Line, Ties, holding}
 use Rattle.word_rule.specs.Tickets.{Waits, IsFirst, Stands, Lined}
 use Rattle.word_rule.proofs.Lists.{has_tail, has_push, has_at, at_below, below_of, false_from}
-use Rattle.word_rule.proofs.Stays.{moved_same, moved_else, lined}
+use Rattle.word_rule.proofs.Stays.{each_moved, lined}
 use Rattle.word_rule.proofs.Ends.{empty_line}
 
 module _ (m : ℕ) where
@@ -30,12 +30,6 @@ module _ (m : ℕ) where
   first_if cpus out serving x Leaving e s = absurd s
   first_if cpus out serving x (Passing k) e s = absurd s
   first_if cpus out serving x Torn e s = s
-
-  stood_moved : (n : ℕ) (cpus : List ℕ) (out : Bool) (serving : ℕ) (place : ℕ → Place) (p : ℕ) (q : Place) → Stands m cpus out serving p q → ((x : ℕ) → x < n → x ≢ p → Stands m cpus out serving x (place x))
-      → (x : ℕ) → x < n → Stands m cpus out serving x (moved place p q x)
-  stood_moved n cpus out serving place p q mine others x below = dite (ℕ_discrete x p)
-      (λ is. subst (λ (y : ℕ). Stands m cpus out serving y (moved place p q y)) (sym is) (subst (Stands m cpus out serving p) (sym (moved_same place p q)) mine))
-      (λ ne. subst (Stands m cpus out serving x) (sym (moved_else place p q x ne)) (others x below ne))
 
   stands_longer : (cpus : List ℕ) (out : Bool) (serving x p : ℕ) → x ≢ p → (q : Place) → Stands m cpus out serving x q → Stands m (cpus ++ p ∷ []) out serving x q
   stands_longer cpus out serving x p ne Idle s = has_push x p cpus s ne
@@ -109,7 +103,7 @@ module _ (m : ℕ) where
             few = r.few;
             distinct = distinct_push n l.cpus p r.distinct below absent;
             busy = λ _. omega arith;
-            stood = stood_moved n (l.cpus ++ p ∷ []) l.out r.serving l.place p (Drawn (get_or ws 0 0))
+            stood = each_moved l.place (Stands m (l.cpus ++ p ∷ []) l.out r.serving) n p (Drawn (get_or ws 0 0))
                 (record { at = length l.cpus; there = at_last l.cpus p (length l.cpus) refl; drawn = found; home = λ e. false_from l.out (λ o. let f = r.busy o in omega arith) })
                 (λ x in_cell ne. stands_longer l.cpus l.out r.serving x p ne (l.place x) (r.stood x in_cell));
           }
@@ -138,7 +132,7 @@ module _ (m : ℕ) where
             few = r.few;
             distinct = r.distinct;
             busy = λ _. some_one;
-            stood = stood_moved n l.cpus true r.serving l.place p (Served t)
+            stood = each_moved l.place (Stands m l.cpus true r.serving) n p (Served t)
                 (record { there = head; object = refl }, is)
                 (λ x in_cell ne. stands_taken l.cpus r.serving x p ne head (l.place x) (subst (λ (o : Bool). Stands m l.cpus o r.serving x (l.place x)) home (r.stood x in_cell)));
           }
@@ -151,7 +145,7 @@ module _ (m : ℕ) where
         few = r.few;
         distinct = r.distinct;
         busy = r.busy;
-        stood = stood_moved n l.cpus l.out r.serving l.place p Torn (first_if l.cpus l.out r.serving p (l.place p) has_it (r.stood p below)) (λ x in_cell _. r.stood x in_cell);
+        stood = each_moved l.place (Stands m l.cpus l.out r.serving) n p Torn (first_if l.cpus l.out r.serving p (l.place p) has_it (r.stood p below)) (λ x in_cell _. r.stood x in_cell);
       }
 
       pub served : (rest : List ℕ) → l.cpus ≡ p ∷ rest → Lined m n (set ws 1 ((get_or ws 1 0 + 1) % m)) (lined rest false l.place p Idle)
@@ -167,7 +161,7 @@ module _ (m : ℕ) where
             few = r.few;
             distinct = d.2;
             busy = λ e. absurd (true≢false (sym e));
-            stood = stood_moved n rest false ((r.serving + 1) % m) l.place p Idle d.1
+            stood = each_moved l.place (Stands m rest false ((r.serving + 1) % m)) n p Idle d.1
                 (λ x in_cell ne. stands_served l.out r.serving x p rest ne (l.place x) (subst (λ (z : List ℕ). Stands m z l.out r.serving x (l.place x)) is (r.stood x in_cell)));
           }
 
