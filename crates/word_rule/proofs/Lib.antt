@@ -4,6 +4,9 @@ pub mod Known
 pub mod Meetings
 pub mod Ends
 pub mod TicketLines
+pub mod QueueStands
+pub mod QueueWords
+pub mod QueueLines
 pub mod Acting
 pub mod Dealing
 pub mod Parts

@@ -9,12 +9,13 @@ use Rattle.event_log.specs.Distinct.{has}
 use Rattle.word_rule.specs.declared.place.Place.{Place}
 use Rattle.word_rule.specs.declared.place.Place.TheVariants.{Idle, Drawn, Served, Ready, Behind, Armed, Waiting, Holding, Alone, Leaving, Passing, Torn}
 use Rattle.word_rule.specs.Line.{Line, lined, holding, is_first}
-use Rattle.word_rule.specs.Locks.{Lock, last, last_from, second, behind, is_named, naming, is_waiting, if_linked, follower, going, joining, taking, leaving}
+use Rattle.word_rule.specs.Locks.{Lock, last, last_from, second, behind, is_named, naming, if_linked, follower, going, joining, taking, leaving}
 use Rattle.word_rule.specs.LockWords.{TiedMcs, word_of}
-use Rattle.word_rule.specs.Queues.{Queued, StandsInQueue, Follows, First, tail_of, next_word, locked_word}
+use Rattle.word_rule.specs.Queues.{Queued, StandsInQueue, Follows, First, tail_of, next_word, locked_word, is_linked}
 use Rattle.word_rule.specs.Turns.{clear, arm, link, pass}
 use Rattle.word_rule.proofs.Lists.{first_is, one_place, has_at}
 use Rattle.word_rule.proofs.QueueStands.{elsewhere}
+use Rattle.word_rule.proofs.QueueWords as words
 use Rattle.word_rule.proofs.QueueLines as lines
 use Rattle.word_rule.proofs.TicketTurns.{first_at, at_first}
 
@@ -31,11 +32,6 @@ second_at : (cpus : List ℕ) (j : ℕ) → second cpus ≡ Some j → get_elem?
 second_at [] j e = cc
 second_at (k ∷ []) j e = cc
 second_at (k ∷ y ∷ ys) j e = ap some (let f : y ≡ j = cc in f)
-
-at_second : (cpus : List ℕ) (j : ℕ) → get_elem? cpus 1 ≡ some j → second cpus ≡ Some j
-at_second [] j e = absurd (some-ne-none j (sym e))
-at_second (k ∷ []) j e = absurd (some-ne-none j (sym e))
-at_second (k ∷ y ∷ ys) j e = ap (λ z. Some z) (some-injective y j e)
 
 -- a store to a `next` word
 next_set : (ws : List ℕ) (next : ℕ → Option ℕ) (n p : ℕ) (named : Option ℕ) → 1 + p < length ws → ((x : ℕ) → x < n → next_word ws x ≡ word_of (next x))
@@ -73,9 +69,9 @@ module _ (n : ℕ) (ws : List ℕ) (l : Lock) (h : TiedMcs n ws l) (i : ℕ) (be
   -- the last is a CPU of the cell
   pub last_below : (p : ℕ) → get_or ws 0 0 ≡ p + 1 → p < n
   last_below p e =
-      let t = lines.tail_names n ws l.line h.queued (λ z. absurd (omega (arith, e, z))) in
-      let at = lines.tail_at l.line.cpus p (sym h.queued.tail ∙ e) in
-      lines.in_cell n ws l.line h.queued at.0 p at.1
+      let t = words.tail_names n ws l.line h.queued (λ z. absurd (omega (arith, e, z))) in
+      let at = words.tail_at l.line.cpus p (sym h.queued.tail ∙ e) in
+      words.in_cell n ws l.line h.queued at.0 p at.1
 
   pub arms : (p : ℕ) → l.line.place i ≡ Behind p → TiedMcs n (set ws (1 + n + i) 1) (arm l i p)
   arms p e = record {
@@ -85,7 +81,7 @@ module _ (n : ℕ) (ws : List ℕ) (l : Lock) (h : TiedMcs n ws l) (i : ℕ) (be
 
   -- the one that i is behind is a CPU of the cell
   pub ahead_below : (p : ℕ) → l.line.place i ≡ Armed p → p < n
-  ahead_below p e = let s = lines.stands_at n ws l.line h.queued i (Armed p) below e in lines.in_cell n ws l.line h.queued s.at p s.ahead
+  ahead_below p e = let s = words.stands_at n ws l.line h.queued i (Armed p) below e in words.in_cell n ws l.line h.queued s.at p s.ahead
 
   pub links : (p : ℕ) → l.line.place i ≡ Armed p → TiedMcs n (set ws (1 + p) (i + 1)) (link l i p)
   links p e = record {
@@ -101,86 +97,31 @@ module _ (n : ℕ) (ws : List ℕ) (l : Lock) (h : TiedMcs n ws l) (i : ℕ) (be
   first_free e first = ⊎_elim {0, 0, 0}
       (λ t. let f = t.1 in let k = one_place n l.line.cpus h.queued.distinct (suc f.at) 0 i f.there (first_at i l.line.cpus first) in absurd (omega (arith, k)))
       (λ f. f.lock)
-      (lines.stands_at n ws l.line h.queued i Waiting below e)
+      (words.stands_at n ws l.line h.queued i Waiting below e)
 
   pub gets : l.line.place i ≡ Waiting → is_first i l.line.cpus ≡ true → TiedMcs n ws (record l { line = taking l.line i Holding })
   gets e first = record { queued = lines.looked n ws l.line h.queued i below (lines.free n ws l.line h.queued i below e (first_free e first)); nexts = h.nexts }
 
   -- the holder is the first
   pub holder_at : holding (l.line.place i) ≡ true → get_elem? l.line.cpus 0 ≡ some i
-  holder_at has_it = let f = lines.first_holds n ws l.line h.queued i below has_it in f.there
+  holder_at has_it = let f = words.first_holds n ws l.line h.queued i below has_it in f.there
 
-  -- the second has linked itself where the `next` of the first isn't 0
-  linked_waits : (j : ℕ) → holding (l.line.place i) ≡ true → get_elem? l.line.cpus 1 ≡ some j → next_word ws i ≢ 0 → l.line.place j ≡ Waiting
-  linked_waits j has_it there some_one = by (l.line.place j) refl (lines.stands_at n ws l.line h.queued j (l.line.place j) (lines.in_cell n ws l.line h.queued 1 j there) refl)
-    where
-      not_first : {X : Type 0} → get_elem? l.line.cpus 0 ≡ some j → X
-      not_first at = let k = one_place n l.line.cpus h.queued.distinct 0 1 j at there in absurd (omega (arith, k))
-
-      unlinked : {X : Type 0} (p c : ℕ) → Follows n ws l.line.cpus j p 0 c → X
-      unlinked p c f =
-          let k = one_place n l.line.cpus h.queued.distinct (suc f.at) 1 j f.there there in
-          let zero_at : f.at ≡ 0 = omega (arith, k) in
-          let same : p ≡ i = some-injective p i (sym f.ahead ∙ (ap (λ z. get_elem? l.line.cpus z) zero_at ∙ holder_at has_it)) in
-          absurd (some_one (ap (next_word ws) (sym same) ∙ f.link))
-
-      out : {X : Type 0} → has j l.line.cpus ≡ false → X
-      out absent = absurd (true≢false (sym (has_at l.line.cpus 1 j there) ∙ absent))
-
-      by : (q : Place) → l.line.place j ≡ q → StandsInQueue n ws l.line.cpus l.line.out j q → l.line.place j ≡ Waiting
-      by Waiting e s = e
-      by Idle e s = out s.none
-      by (Drawn t) e s = absurd s
-      by (Served t) e s = absurd s
-      by Ready e s = let a = s.0 in out a.none
-      by (Behind p) e s = unlinked p 0 s
-      by (Armed p) e s = unlinked p 1 s
-      by Holding e s = not_first s.there
-      by Alone e s = not_first s.there
-      by Leaving e s = let f = s.0 in not_first f.there
-      by (Passing k) e s = let f = s.0 in not_first f.there
-      by Torn e s = not_first s.there
-
-  -- what the holder sees in its `next` is its follower
-  pub saw_follower : (j : ℕ) → holding (l.line.place i) ≡ true → next_word ws i ≡ j + 1 → follower l.line ≡ Some j
-  saw_follower j has_it word =
-      let some_one : next_word ws i ≢ 0 = λ z. absurd (omega (arith, z, word)) in
-      let t = lines.saw n ws l.line h.queued i below has_it some_one in
-      let f = t.1 in
-      let same : t.0 ≡ j = let w = f.word in omega (arith, w, word) in
-      let there : get_elem? l.line.cpus 1 ≡ some j = f.second ∙ ap some same in
-      ap (if_linked l.line) (at_second l.line.cpus j there) ∙ ap (λ q. cond (is_waiting q) (Some j) None) (linked_waits j has_it there some_one)
-
-  pub follower_none : holding (l.line.place i) ≡ true → next_word ws i ≡ 0 → follower l.line ≡ None
-  follower_none has_it zero_now = by (second l.line.cpus) refl
-    where
-      waits_not : (j : ℕ) (b : Bool) → is_waiting (l.line.place j) ≡ b → get_elem? l.line.cpus 1 ≡ some j → cond b (Some j) None ≡ None
-      waits_not j false e there = refl
-      waits_not j true e there = absurd (let w = lines.second n ws l.line h.queued i below j has_it there (waiting_is (l.line.place j) e) in omega (arith, w, zero_now))
-        where
-          waiting_is : (q : Place) → is_waiting q ≡ true → q ≡ Waiting
-          waiting_is Waiting e = refl
-          waiting_is Idle e = absurd (true≢false (sym e))
-          waiting_is (Drawn t) e = absurd (true≢false (sym e))
-          waiting_is (Served t) e = absurd (true≢false (sym e))
-          waiting_is Ready e = absurd (true≢false (sym e))
-          waiting_is (Behind p) e = absurd (true≢false (sym e))
-          waiting_is (Armed p) e = absurd (true≢false (sym e))
-          waiting_is Holding e = absurd (true≢false (sym e))
-          waiting_is Alone e = absurd (true≢false (sym e))
-          waiting_is Leaving e = absurd (true≢false (sym e))
-          waiting_is (Passing k) e = absurd (true≢false (sym e))
-          waiting_is Torn e = absurd (true≢false (sym e))
-
-      by : (o : Option ℕ) → second l.line.cpus ≡ o → follower l.line ≡ None
-      by None e = ap (if_linked l.line) e
-      by (Some j) e = ap (if_linked l.line) e ∙ waits_not j (is_waiting (l.line.place j)) refl (second_at l.line.cpus j e)
-
-  -- the follower is named by the `next` word
+  -- the holder's `next` names its follower
   pub follower_word : holding (l.line.place i) ≡ true → next_word ws i ≡ word_of (follower l.line)
-  follower_word has_it = dite (ℕ_discrete (next_word ws i) 0)
-      (λ none. none ∙ ap word_of (sym (follower_none has_it none)))
-      (λ some_one. let t = lines.saw n ws l.line h.queued i below has_it some_one in let f = t.1 in f.word ∙ ap word_of (sym (saw_follower t.0 has_it f.word)))
+  follower_word has_it = by (second l.line.cpus) refl
+    where
+      linked : (j : ℕ) (b : Bool) → cond b (j + 1) 0 ≡ word_of (cond b (Some j) None)
+      linked j true = refl
+      linked j false = refl
+
+      only : (cpus : List ℕ) → get_elem? cpus 0 ≡ some i → second cpus ≡ None → tail_of cpus ≡ i + 1
+      only [] head e = absurd (some-ne-none i (sym head))
+      only (k ∷ []) head e = ap (λ z. z + 1) (some-injective k i head)
+      only (k ∷ j ∷ js) head e = cc
+
+      by : (o : Option ℕ) → second l.line.cpus ≡ o → next_word ws i ≡ word_of (follower l.line)
+      by None e = h.queued.last i (only l.line.cpus (holder_at has_it) e) ∙ ap (λ o. word_of (if_linked l.line o)) (sym e)
+      by (Some j) e = words.next_is n ws l.line h.queued 0 i j (holder_at has_it) (second_at l.line.cpus j e) ∙ (linked j (is_linked (l.line.place j)) ∙ ap (λ o. word_of (if_linked l.line o)) (sym e))
 
   pub sees : (j : ℕ) → holding (l.line.place i) ≡ true → next_word ws i ≡ j + 1 → TiedMcs n ws (record l { line = going l.line i (Passing j) })
   sees j has_it word =
@@ -195,7 +136,7 @@ module _ (n : ℕ) (ws : List ℕ) (l : Lock) (h : TiedMcs n ws l) (i : ℕ) (be
 
   -- a leaving holder that sees nobody stays where it is
   pub still_none : l.line.place i ≡ Leaving → TiedMcs n ws (record l { line = going l.line i Leaving })
-  still_none e = record { queued = lines.replaced n ws l.line h.queued i below Leaving (lines.stands_at n ws l.line h.queued i Leaving below e); nexts = h.nexts }
+  still_none e = record { queued = lines.replaced n ws l.line h.queued i below Leaving (words.stands_at n ws l.line h.queued i Leaving below e); nexts = h.nexts }
 
   -- the tail names i exactly where i is the last
   pub named_last : get_or ws 0 0 ≡ i + 1 → is_named i (last l.line.cpus) ≡ true
@@ -216,7 +157,7 @@ module _ (n : ℕ) (ws : List ℕ) (l : Lock) (h : TiedMcs n ws l) (i : ℕ) (be
   pub alone_is : l.line.place i ≡ Alone → get_or ws 0 0 ≡ i + 1 → l.line.cpus ≡ i ∷ []
   alone_is e word =
       let head = holder_at (ap holding e) in
-      let t = lines.tail_at l.line.cpus i (sym h.queued.tail ∙ word) in
+      let t = words.tail_at l.line.cpus i (sym h.queued.tail ∙ word) in
       let end : t.0 ≡ 0 = one_place n l.line.cpus h.queued.distinct t.0 0 i t.1 head in
       lines.one_is l.line.cpus i head (t.2 ∙ ap suc end)
 
@@ -242,4 +183,4 @@ module _ (n : ℕ) (ws : List ℕ) (l : Lock) (h : TiedMcs n ws l) (i : ℕ) (be
       }
 
   pub passing_below : (j : ℕ) → l.line.place i ≡ Passing j → j < n
-  passing_below j e = let r = passes_to j e in lines.in_cell n ws l.line h.queued 1 j (ap (λ cpus. get_elem? cpus 1) r.1)
+  passing_below j e = let r = passes_to j e in words.in_cell n ws l.line h.queued 1 j (ap (λ cpus. get_elem? cpus 1) r.1)

@@ -2,8 +2,9 @@
 use Rattle.std.specs.Prelude.{ℕ, ◌+◌, Bool, true, false, ◌==◌, cond, List, [], ◌∷◌, ◌++◌, Option, Some, None}
 use Rattle.word_rule.specs.declared.lock_kind.LockKind.{LockKind}
 use Rattle.word_rule.specs.declared.place.Place.{Place}
-use Rattle.word_rule.specs.declared.place.Place.TheVariants.{Idle, Waiting}
+use Rattle.word_rule.specs.declared.place.Place.TheVariants.{Idle}
 use Rattle.word_rule.specs.Line.{Line, lined, empty_line}
+use Rattle.word_rule.specs.Queues.{is_linked}
 
 -- the line; of a ticket lock the ticket that is served; of an MCS lock the CPU that each CPU's `next` names
 pub record Lock : Type 0 where
@@ -61,14 +62,10 @@ leaving l i = lined (behind l.cpus) false l.place i Idle
 abbrev pub naming : (ℕ → Option ℕ) → ℕ → Option ℕ → ℕ → Option ℕ
 naming next p named k = cond (k == p) named (next k)
 
-abbrev pub is_waiting : Place → Bool
-is_waiting Waiting = true
-is_waiting _ = false
-
 -- the one that is named, if it has linked itself
 abbrev pub if_linked : Line → Option ℕ → Option ℕ
 if_linked l None = None
-if_linked l (Some j) = cond (is_waiting (l.place j)) (Some j) None
+if_linked l (Some j) = cond (is_linked (l.place j)) (Some j) None
 
 -- the follower of the first, once it has linked itself
 abbrev pub follower : Line → Option ℕ
