@@ -17,3 +17,4 @@ pub mod Orders
 pub mod TicketTurns
 pub mod McsTurns
 pub mod TurnsKeep
+pub mod Arrivals

@@ -13,7 +13,7 @@ use Rattle.word_rule.specs.Locks.{Lock, last, last_from, second, behind, is_name
 use Rattle.word_rule.specs.LockWords.{TiedMcs, word_of}
 use Rattle.word_rule.specs.Queues.{Queued, StandsInQueue, Follows, First, tail_of, next_word, locked_word, is_linked}
 use Rattle.word_rule.specs.Turns.{clear, arm, link, pass}
-use Rattle.word_rule.proofs.Lists.{first_is, one_place, has_at}
+use Rattle.word_rule.proofs.Lists.{one_place, one_is}
 use Rattle.word_rule.proofs.QueueStands.{elsewhere}
 use Rattle.word_rule.proofs.QueueWords as words
 use Rattle.word_rule.proofs.QueueLines as lines
@@ -159,7 +159,7 @@ module _ (n : ℕ) (ws : List ℕ) (l : Lock) (h : TiedMcs n ws l) (i : ℕ) (be
       let head = holder_at (ap holding e) in
       let t = words.tail_at l.line.cpus i (sym h.queued.tail ∙ word) in
       let end : t.0 ≡ 0 = one_place n l.line.cpus h.queued.distinct t.0 0 i t.1 head in
-      lines.one_is l.line.cpus i head (t.2 ∙ ap suc end)
+      one_is l.line.cpus i head (t.2 ∙ ap suc end)
 
   pub empties : l.line.place i ≡ Alone → get_or ws 0 0 ≡ i + 1 → TiedMcs n (set ws 0 0) (record l { line = leaving l.line i })
   empties e word = record {

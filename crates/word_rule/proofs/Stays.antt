@@ -14,7 +14,7 @@ use Rattle.event_log.specs.History.{History}
 use Rattle.event_log.proofs.Beginnings.{begins_self}
 use Rattle.word_rule.specs.declared.place.Place.{Place}
 use Rattle.word_rule.specs.Cell.{Cell, Grows, Lawful, stored}
-use Rattle.word_rule.specs.Line.{lined, moved, holding}
+use Rattle.word_rule.specs.Line.{Line, lined, moved, holding}
 use Rattle.word_rule.specs.Board.{Board, Caller, Viewed, Table, EachFrom, Knows, KnowsAll, Ruled}
 use Rattle.word_rule.specs.Seats.{shown, at, placed, settled}
 use Rattle.word_rule.specs.Callers.{AddedBy}

@@ -3,5 +3,5 @@
 mod law;
 mod step_done;
 
-pub use law::stays_sound;
+pub use law::first_come;
 pub use step_done::StepDone;
