@@ -13,7 +13,7 @@ use Rattle.event_log.specs.History.{History, IsKept}
 use Rattle.event_log.proofs.Beginnings.{begins_self}
 use Rattle.word_rule.specs.declared.place.Place.TheVariants.{Idle}
 use Rattle.word_rule.specs.Cell.{Cell, cell_of, Lawful, OwnsAll, IsPart, stored}
-use Rattle.word_rule.specs.Line.{Ties, empty_line}
+use Rattle.word_rule.specs.Line.{Line, Ties, empty_line}
 use Rattle.word_rule.specs.Board.{Board, Viewed, Table, EachFrom, Knows, KnowsAll, Ruled}
 use Rattle.word_rule.specs.Seats.{Seat, idle_from, first_view}
 use Rattle.word_rule.specs.Callers.{caller_of, part_of, IsWithout}

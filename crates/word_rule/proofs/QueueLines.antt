@@ -10,18 +10,18 @@ use Rattle.event_log.proofs.Distinct.{distinct_push}
 use Rattle.word_rule.specs.declared.place.Place.{Place}
 use Rattle.word_rule.specs.declared.place.Place.TheVariants.{Idle, Ready, Behind, Armed, Waiting, Holding, Alone, Leaving, Passing, Torn}
 use Rattle.word_rule.specs.Line.{Line, Ties, holding, lined, empty_line}
-use Rattle.word_rule.specs.Queues.{tail_of, next_word, locked_word, next_by, First, StandsInQueue, Queued}
+use Rattle.word_rule.specs.Queues.{tail_of, next_word, locked_word, next_by, Follows, First, StandsInQueue, Queued}
 use Rattle.word_rule.proofs.Lists.{has_at, at_below, below_of, one_place, false_from, there_is, one_at, not_at, two_are, one_is}
 use Rattle.word_rule.proofs.Stays.{each_moved}
 use Rattle.word_rule.proofs.QueueStands.{elsewhere, same_words, longer_queue, first_queue, taken_by, emptied_by, passed_by}
-use Rattle.word_rule.proofs.QueueWords.{tail_at, at_tail, no_tail, stands_at, first_holds, only_one, out_of_line, in_cell, not_both, next_is, next_names}
+use Rattle.word_rule.proofs.QueueWords.{tail_at, at_tail, no_tail, stands_at, first_holds, only_one, out_of_line, in_cell, not_both, tail_names, next_is, next_names}
 
 tail_push : (xs : List ℕ) (p : ℕ) → tail_of (xs ++ p ∷ []) ≡ p + 1
 tail_push [] p = refl
 tail_push (x ∷ []) p = refl
 tail_push (x ∷ y ∷ ys) p = tail_push (y ∷ ys) p
 
--- what the holder p has to do with j, once it has seen it in its `next`
+-- j is the second, behind p, whose `next` names it
 pub record Follower (n : ℕ) (ws : List ℕ) (l : Line) (p j : ℕ) : Type 0 where
   pub second : get_elem? l.cpus 1 ≡ some j
   pub other : j ≢ p
@@ -68,7 +68,7 @@ module _ (n : ℕ) (ws : List ℕ) (l : Line) (r : Queued n ws l) (p : ℕ) (bel
   tail_only v x cpus out = same_words n ws (set ws 0 v) cpus out x (elsewhere ws 0 (1 + n + x) v (λ e. absurd (omega arith))) (λ _ y _ _. elsewhere ws 0 (1 + y) v (λ e. absurd (omega arith)))
       (λ _. elsewhere ws 0 (1 + x) v (λ e. absurd (omega arith))) (λ _. elsewhere ws 0 (1 + x) v (λ e. absurd (omega arith)))
 
-  -- the tail named nobody, so the object is at home, and p gets it
+  -- where the tail names nobody, the object is at home
   pub at_home : get_or ws 0 0 ≡ 0 → l.out ≡ false
   at_home nobody = false_from l.out (λ o. let some_one = r.busy o in let long : length l.cpus ≡ 0 = ap length (no_tail l.cpus (sym r.tail ∙ nobody)) in absurd (omega arith))
 
@@ -88,6 +88,14 @@ module _ (n : ℕ) (ws : List ℕ) (l : Line) (r : Queued n ws l) (p : ℕ) (bel
             (record { there = refl; object = refl; lock = elsewhere ws 0 (1 + n + p) (p + 1) (λ e. absurd (omega arith)) ∙ a.lock })
             (λ x in_cell ne. tail_only (p + 1) x (p ∷ []) true (l.place x) (first_queue n ws l.out true x p ne (l.place x) (subst (λ (cpus : List ℕ). StandsInQueue n ws cpus l.out x (l.place x)) empty (r.stood x in_cell))));
       }
+
+  -- where it names one, that is another
+  pub predecessor : l.place p ≡ Ready → get_or ws 0 0 ≢ 0 → (q : ℕ) × (get_or ws 0 0 ≡ q + 1) × (has q l.cpus ≡ true) × (q ≢ p)
+  predecessor is some_one =
+      let s = stands_at n ws l r p Ready below is in
+      let a = s.0 in
+      let t = tail_names n ws l r some_one in
+      (t.0, t.1, t.2, λ e. true≢false (sym t.2 ∙ (ap (λ z. has z l.cpus) e ∙ a.none)))
 
   pub entered : (q : ℕ) → l.place p ≡ Ready → get_or ws 0 0 ≡ q + 1 → Queued n (set ws 0 (p + 1)) (lined (l.cpus ++ p ∷ []) l.out l.place p (Behind q))
   entered q is found =
@@ -144,6 +152,10 @@ module _ (n : ℕ) (ws : List ℕ) (l : Line) (r : Queued n ws l) (p : ℕ) (bel
       (λ some_one. nexts x (λ is_q. some_one (ap (next_word ws) is_q ∙ s.link)))
       (l.place x) (r.stood x in_cell))
 
+  -- one that p is behind is another
+  pub behind : (q a b : ℕ) → Follows n ws l.cpus p q a b → (has q l.cpus ≡ true) × (q ≢ p)
+  behind q a b s = (has_at l.cpus s.at q s.ahead, λ e. let k = one_place n l.cpus r.distinct s.at (suc s.at) p (s.ahead ∙ ap some e) s.there in absurd (omega arith))
+
   -- where `locked` is 0, p is the first, and the object is at home
   pub free : l.place p ≡ Waiting → locked_word n ws p ≡ 0 → First n ws l.cpus l.out p false
   free is zero_now = ⊎_elim {0, 0, 0} (λ t. let f = t.1 in let z : 0 ≡ 1 = sym zero_now ∙ f.lock in absurd (omega arith)) (λ f. f) (stands_at n ws l r p Waiting below is)
@@ -151,7 +163,7 @@ module _ (n : ℕ) (ws : List ℕ) (l : Line) (r : Queued n ws l) (p : ℕ) (bel
   -- where it isn't, another is ahead
   pub ahead : l.place p ≡ Waiting → locked_word n ws p ≢ 0 → (q : ℕ) × (has q l.cpus ≡ true) × (q ≢ p)
   ahead is some_one = ⊎_elim {0, 0, 0}
-      (λ t. let f = t.1 in (t.0, has_at l.cpus f.at t.0 f.ahead, λ e. let k = one_place n l.cpus r.distinct f.at (suc f.at) p (f.ahead ∙ ap some e) f.there in absurd (omega arith)))
+      (λ t. let b = behind t.0 (p + 1) 1 t.1 in (t.0, b.0, b.1))
       (λ f. absurd (some_one f.lock))
       (stands_at n ws l r p Waiting below is)
 
@@ -172,7 +184,7 @@ module _ (n : ℕ) (ws : List ℕ) (l : Line) (r : Queued n ws l) (p : ℕ) (bel
   pub torn : holding (l.place p) ≡ true → Queued n ws (lined l.cpus l.out l.place p Torn)
   torn has_it = replaced Torn (first_holds n ws l r p below has_it)
 
-  -- p saw its follower
+  -- where the `next` of the holder p isn't 0, it names the second
   pub saw : holding (l.place p) ≡ true → next_word ws p ≢ 0 → (j : ℕ) × Follower n ws l p j × Queued n ws (lined l.cpus l.out l.place p (Passing j))
   saw has_it some_one =
       let f = first_holds n ws l r p below has_it in
@@ -215,10 +227,16 @@ module _ (n : ℕ) (ws : List ℕ) (l : Line) (r : Queued n ws l) (p : ℕ) (bel
   pub left : l.place p ≡ Alone → 1 < length l.cpus → Queued n ws (lined l.cpus l.out l.place p Leaving)
   left is longer = replaced Leaving (stands_at n ws l r p Alone below is, longer)
 
-  -- p passes to the second
+  pub follower : (j : ℕ) → l.place p ≡ Passing j → Follower n ws l p j
+  follower j is =
+      let s = stands_at n ws l r p (Passing j) below is in
+      let f = s.0 in
+      record { second = s.1; other = not_both n ws l r p j f.there s.1; word = s.2 }
+
   pub two : (j : ℕ) → l.place p ≡ Passing j → (rest : List ℕ) × (l.cpus ≡ p ∷ j ∷ rest)
   two j is = let s = stands_at n ws l r p (Passing j) below is in let f = s.0 in two_are l.cpus p j f.there s.1
 
+  -- p passes to the second
   pub passed : (j : ℕ) (rest : List ℕ) → l.place p ≡ Passing j → l.cpus ≡ p ∷ j ∷ rest → Queued n (set ws (1 + n + j) 0) (lined (j ∷ rest) false l.place p Idle)
   passed j rest is both =
       let ws' : List ℕ = set ws (1 + n + j) 0 in

@@ -25,7 +25,7 @@ at_tail (x ∷ []) (suc i) p e long = absurd (some-ne-none p (sym e))
 at_tail (x ∷ y ∷ ys) zero p e long = absurd (omega arith)
 at_tail (x ∷ y ∷ ys) (suc i) p e long = at_tail (y ∷ ys) i p e (omega arith)
 
--- the tail names nobody, or one
+-- where it names nobody, the queue is empty
 pub no_tail : (xs : List ℕ) → tail_of xs ≡ 0 → xs ≡ []
 no_tail [] e = refl
 no_tail (x ∷ []) e = let s : x + 1 ≡ 0 = e in absurd (omega arith)
@@ -36,6 +36,7 @@ some_tail [] ne = absurd (ne refl)
 some_tail (x ∷ []) ne = (x, refl)
 some_tail (x ∷ y ∷ ys) ne = some_tail (y ∷ ys) ne
 
+-- a link that isn't 0
 link_some : (b : Bool) (j : ℕ) → cond b (j + 1) 0 ≢ 0 → cond b (j + 1) 0 ≡ j + 1
 link_some true j ne = refl
 link_some false j ne = absurd (ne refl)
@@ -49,6 +50,7 @@ first_no n [] i x d e = refl
 first_no n (y ∷ ys) i x d e = ne_eqb y x (λ is. true≢false (sym (has_at ys i x e) ∙ (ap (λ z. has z ys) (sym is) ∙ d.1)))
 
 module _ (n : ℕ) (ws cpus : List ℕ) (out : Bool) (x : ℕ) (d : AreDistinctBelow n cpus) where
+  -- one behind another isn't the first
   still : (p a : ℕ) → Follows n ws cpus x p a 1 → locked_word n ws x ≡ cond (not (is_first x cpus)) 1 0
   still p a s = s.lock ∙ sym (ap (λ b. cond (not b) 1 0) (first_no n cpus s.at x d s.there))
 
