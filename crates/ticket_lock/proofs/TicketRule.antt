@@ -10,15 +10,15 @@ use Rattle.event_log.specs.declared.object.SeqObject.{Ghosts}
 use Rattle.event_log.specs.Distinct.{has}
 use Rattle.event_log.specs.History.{History}
 use Rattle.word_rule.specs.declared.place.Place.{Place}
-use Rattle.word_rule.specs.declared.place.Place.TheVariants.{Idle, Drawn, Served, Torn}
+use Rattle.word_rule.specs.declared.place.Place.TheVariants.{Idle, Drawn, Served, Ready, Behind, Armed, Waiting, Holding, Alone, Leaving, Passing, Torn}
 use Rattle.word_rule.specs.Cell.{Cell, Lawful, stored}
-use Rattle.word_rule.specs.Line.{holding}
+use Rattle.word_rule.specs.Line.{holding, lined}
 use Rattle.word_rule.specs.Board.{Viewed, Table, Ruled}
 use Rattle.word_rule.specs.Seats.{Seat, placed, settled}
 use Rattle.word_rule.specs.Tickets.{Lined}
 use Rattle.word_rule.specs.Callers.{AddedBy, IsWith}
 use Rattle.word_rule.proofs.Lists.{has_at, first_is, first_in, one_place}
-use Rattle.word_rule.proofs.Stays.{kept, taken, given, unmoved, lined}
+use Rattle.word_rule.proofs.Stays.{kept, taken, given, unmoved}
 use Rattle.word_rule.proofs.Known.{AllIdle, gets, lacks}
 use Rattle.word_rule.specs.Told.{Gets}
 use Rattle.word_rule.proofs.Acting.{value_of}
@@ -33,6 +33,14 @@ abbrev ticket_of : Place → ℕ
 ticket_of Idle = 0
 ticket_of (Drawn t) = t
 ticket_of (Served t) = t
+ticket_of Ready = 0
+ticket_of (Behind k) = 0
+ticket_of (Armed k) = 0
+ticket_of Waiting = 0
+ticket_of Holding = 0
+ticket_of Alone = 0
+ticket_of Leaving = 0
+ticket_of (Passing k) = 0
 ticket_of Torn = 0
 
 module _ {O P C R : Type 0} (meaning : Ghosts O P C R) (h : Cell O P C R) where

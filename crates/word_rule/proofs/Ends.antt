@@ -13,16 +13,12 @@ use Rattle.event_log.specs.History.{History, IsKept}
 use Rattle.event_log.proofs.Beginnings.{begins_self}
 use Rattle.word_rule.specs.declared.place.Place.TheVariants.{Idle}
 use Rattle.word_rule.specs.Cell.{Cell, cell_of, Lawful, OwnsAll, IsPart, stored}
-use Rattle.word_rule.specs.Line.{Line, Ties}
+use Rattle.word_rule.specs.Line.{Line, Ties, empty_line}
 use Rattle.word_rule.specs.Board.{Board, Viewed, Table, EachFrom, Knows, KnowsAll, Ruled}
 use Rattle.word_rule.specs.Seats.{Seat, idle_from, first_view}
 use Rattle.word_rule.specs.Callers.{caller_of, part_of, IsWithout}
 use Rattle.word_rule.proofs.Lists.{has_one, drop_self, grows_self, same_log, of_opening}
 use Rattle.word_rule.proofs.Known.{all_idle}
-
--- no CPU is in line, and the object is at home
-abbrev pub empty_line : Line
-empty_line = record { cpus = []; out = false; place = λ _. Idle }
 
 module _ {O P C R : Type 0} (h : Cell O P C R) where
   abbrev start : Board O P C R

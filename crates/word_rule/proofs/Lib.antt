@@ -4,6 +4,17 @@ pub mod Known
 pub mod Meetings
 pub mod Ends
 pub mod TicketLines
+pub mod QueueStands
+pub mod QueueWords
+pub mod QueueLines
 pub mod Acting
 pub mod Dealing
 pub mod Parts
+pub mod Slices
+pub mod Entries
+pub mod SoundSteps
+pub mod Orders
+pub mod TicketTurns
+pub mod McsTurns
+pub mod TurnsKeep
+pub mod Arrivals

@@ -70,6 +70,31 @@ at_below [] i a e = absurd (some-ne-none a (sym e))
 at_below (x ∷ xs) zero a e = omega arith
 at_below (x ∷ xs) (suc i) a e = let t = at_below xs i a e in omega arith
 
+pub there_is : {A : Type 0} (l : List A) (i : ℕ) → i < length l → (a : A) × (get_elem? l i ≡ some a)
+there_is [] i h = absurd (omega arith)
+there_is (x ∷ xs) zero h = (x, refl)
+there_is (x ∷ xs) (suc i) h = there_is xs i (omega arith)
+
+-- at one place there is one element
+pub one_at : {A : Type 0} {i j : ℕ} (l : List A) (x y : A) → i ≡ j → get_elem? l i ≡ some x → get_elem? l j ≡ some y → x ≡ y
+one_at l x y e a b = some-injective x y (sym a ∙ (ap (λ k. get_elem? l k) e ∙ b))
+
+-- one that isn't in the list isn't at a place of it
+pub not_at : (l : List ℕ) (i x y : ℕ) → has x l ≡ false → get_elem? l i ≡ some y → x ≢ y
+not_at l i x y absent there e = true≢false (sym (has_at l i y there) ∙ (ap (λ z. has z l) (sym e) ∙ absent))
+
+-- a list with these first two
+pub two_are : (l : List ℕ) (p j : ℕ) → get_elem? l 0 ≡ some p → get_elem? l 1 ≡ some j → (rest : List ℕ) × (l ≡ p ∷ j ∷ rest)
+two_are [] p j a b = absurd (some-ne-none p (sym a))
+two_are (x ∷ []) p j a b = absurd (some-ne-none j (sym b))
+two_are (x ∷ y ∷ ys) p j a b = (ys, λ i. some-injective x p a i ∷ some-injective y j b i ∷ ys)
+
+-- a list with one element
+pub one_is : (l : List ℕ) (p : ℕ) → get_elem? l 0 ≡ some p → length l ≡ 1 → l ≡ p ∷ []
+one_is [] p e long = absurd (some-ne-none p (sym e))
+one_is (x ∷ []) p e long = λ i. some-injective x p e i ∷ []
+one_is (x ∷ y ∷ ys) p e long = absurd (omega arith)
+
 pub at_snoc_at : {A : Type 0} (l : List A) (a b : A) (j : ℕ) → get_elem? (l ++ a ∷ []) j ≡ some b → (get_elem? l j ≡ some b) ⊎ ((j ≡ length l) × (a ≡ b))
 at_snoc_at [] a b zero e = inr (refl, some-injective a b e)
 at_snoc_at [] a b (suc j) e = absurd (some-ne-none b (sym e))

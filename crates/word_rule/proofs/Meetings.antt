@@ -9,12 +9,12 @@ use Rattle.event_log.specs.declared.object.SeqObject.{Ghosts}
 use Rattle.event_log.specs.Distinct.{has}
 use Rattle.word_rule.specs.declared.place.Place.TheVariants.{Idle, Torn}
 use Rattle.word_rule.specs.Cell.{Cell}
-use Rattle.word_rule.specs.Line.{Line, Ties, holding}
+use Rattle.word_rule.specs.Line.{Line, Ties, holding, lined}
 use Rattle.word_rule.specs.Board.{Board, Caller, Viewed, Table, EachFrom, Knows, KnowsAll, Ruled}
 use Rattle.word_rule.specs.Seats.{Seat, placed, settled, taken_in, idle, behind_first, first_or_none, spent, keeping, letting, merged}
 use Rattle.word_rule.specs.Told.{meets, joins, tears, clashes}
 use Rattle.word_rule.proofs.Lists.{each_map, has_append, at_snoc_at, grows_self}
-use Rattle.word_rule.proofs.Stays.{seats_stay, show_each, torn, lined}
+use Rattle.word_rule.proofs.Stays.{seats_stay, show_each, torn}
 use Rattle.word_rule.proofs.Known.{all_idle, learned}
 
 -- a caller of the seat `other` is the second of the seat id

@@ -1,6 +1,8 @@
 -- A step of one caller keeps what the rule says of all callers, if it keeps what ties the words to the line.
 use Rattle.std.proofs.Common.{◌≡◌, ◌≢◌, ℕ, ◌+◌, ◌<◌, ◌≤◌, Bool, true, false, true≢false, cond, eq-eqb, ne_eqb, List, [], ◌∷◌, map, length, get_or, set, refl, sym, ap, ◌∙◌, subst, ⊎_elim, arith, Option, Some}
+use mathlib.Core.Logic.{dite}
 use mathlib.Core.Option.{some}
+use native.Mathlib.Decide.{ℕ_discrete}
 use lib.ListN.{get_elem?}
 use lib.Seq.{set-get_or}
 use Rattle.atomic_table.specs.Table.{keeps, takes, gives, stepped}
@@ -12,7 +14,7 @@ use Rattle.event_log.specs.History.{History}
 use Rattle.event_log.proofs.Beginnings.{begins_self}
 use Rattle.word_rule.specs.declared.place.Place.{Place}
 use Rattle.word_rule.specs.Cell.{Cell, Grows, Lawful, stored}
-use Rattle.word_rule.specs.Line.{Line, moved, holding}
+use Rattle.word_rule.specs.Line.{Line, lined, moved, holding}
 use Rattle.word_rule.specs.Board.{Board, Caller, Viewed, Table, EachFrom, Knows, KnowsAll, Ruled}
 use Rattle.word_rule.specs.Seats.{shown, at, placed, settled}
 use Rattle.word_rule.specs.Callers.{AddedBy}
@@ -24,6 +26,12 @@ module _ (place : ℕ → Place) where
 
   pub moved_else : (p : ℕ) (q : Place) (x : ℕ) → x ≢ p → moved place p q x ≡ place x
   moved_else p q x n = let Q : Bool → Type 0 = λ t. cond t q (place x) ≡ place x in subst Q (sym (ne_eqb x p n)) refl
+
+  -- what holds of p at its new place, and of the others where they stood, holds of each number below n
+  pub each_moved : (At : ℕ → Place → Type 0) (n p : ℕ) (q : Place) → At p q → ((x : ℕ) → x < n → x ≢ p → At x (place x)) → (x : ℕ) → x < n → At x (moved place p q x)
+  each_moved At n p q mine others x below = dite (ℕ_discrete x p)
+      (λ is. subst (λ (y : ℕ). At y (moved place p q y)) (sym is) (subst (At p) (sym (moved_same p q)) mine))
+      (λ ne. subst (At x) (sym (moved_else p q x ne)) (others x below ne))
 
 -- the caller k of the seat j isn't the first of the seat id
 abbrev pub Else : ℕ → ℕ → ℕ → Type 0
@@ -38,10 +46,6 @@ else_place j k id le e = let f : k ≡ 0 = ap (λ (z : ℕ × ℕ). z.1) e in ab
 -- a number of another caller isn't p
 not_mine : {me a : ℕ × ℕ} (owner : ℕ → ℕ × ℕ) (p x : ℕ) → owner p ≡ me → a ≢ me → owner x ≡ a → x ≢ p
 not_mine owner p x mine apart is same = apart (sym is ∙ (ap owner same ∙ mine))
-
--- the line with p at another place
-abbrev pub lined : List ℕ → Bool → (ℕ → Place) → ℕ → Place → Line
-lined cpus out place p q = record { cpus = cpus; out = out; place = moved place p q }
 
 module _ {O P C R : Type 0} where
   abbrev pub changed : Board O P C R → List (Event O P C R) → List ℕ → Bool → ℕ → Place → Board O P C R

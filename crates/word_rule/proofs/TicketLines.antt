@@ -9,36 +9,53 @@ use Rattle.atomic_table.proofs.Lists.{at_longer, at_last, one_turn}
 use Rattle.event_log.specs.Distinct.{has, AreDistinctBelow}
 use Rattle.event_log.proofs.Distinct.{distinct_length, distinct_push}
 use Rattle.word_rule.specs.declared.place.Place.{Place}
-use Rattle.word_rule.specs.declared.place.Place.TheVariants.{Idle, Drawn, Served, Torn}
-use Rattle.word_rule.specs.Line.{Line, Ties, moved, holding}
+use Rattle.word_rule.specs.declared.place.Place.TheVariants.{Idle, Drawn, Served, Ready, Behind, Armed, Waiting, Holding, Alone, Leaving, Passing, Torn}
+use Rattle.word_rule.specs.Line.{Line, Ties, holding, lined, empty_line}
 use Rattle.word_rule.specs.Tickets.{Waits, IsFirst, Stands, Lined}
 use Rattle.word_rule.proofs.Lists.{has_tail, has_push, has_at, at_below, below_of, false_from}
-use Rattle.word_rule.proofs.Stays.{moved_same, moved_else, lined}
-use Rattle.word_rule.proofs.Ends.{empty_line}
+use Rattle.word_rule.proofs.Stays.{each_moved}
 
 module _ (m : ℕ) where
   first_if : (cpus : List ℕ) (out : Bool) (serving x : ℕ) (q : Place) → holding q ≡ true → Stands m cpus out serving x q → IsFirst m cpus out serving x
   first_if cpus out serving x Idle e s = absurd (true≢false (sym e))
   first_if cpus out serving x (Drawn t) e s = absurd (true≢false (sym e))
   first_if cpus out serving x (Served t) e s = s.0
+  first_if cpus out serving x Ready e s = absurd s
+  first_if cpus out serving x (Behind k) e s = absurd s
+  first_if cpus out serving x (Armed k) e s = absurd s
+  first_if cpus out serving x Waiting e s = absurd s
+  first_if cpus out serving x Holding e s = absurd s
+  first_if cpus out serving x Alone e s = absurd s
+  first_if cpus out serving x Leaving e s = absurd s
+  first_if cpus out serving x (Passing k) e s = absurd s
   first_if cpus out serving x Torn e s = s
-
-  stood_moved : (n : ℕ) (cpus : List ℕ) (out : Bool) (serving : ℕ) (place : ℕ → Place) (p : ℕ) (q : Place) → Stands m cpus out serving p q → ((x : ℕ) → x < n → x ≢ p → Stands m cpus out serving x (place x))
-      → (x : ℕ) → x < n → Stands m cpus out serving x (moved place p q x)
-  stood_moved n cpus out serving place p q mine others x below = dite (ℕ_discrete x p)
-      (λ is. subst (λ (y : ℕ). Stands m cpus out serving y (moved place p q y)) (sym is) (subst (Stands m cpus out serving p) (sym (moved_same place p q)) mine))
-      (λ ne. subst (Stands m cpus out serving x) (sym (moved_else place p q x ne)) (others x below ne))
 
   stands_longer : (cpus : List ℕ) (out : Bool) (serving x p : ℕ) → x ≢ p → (q : Place) → Stands m cpus out serving x q → Stands m (cpus ++ p ∷ []) out serving x q
   stands_longer cpus out serving x p ne Idle s = has_push x p cpus s ne
   stands_longer cpus out serving x p ne (Drawn t) s = record { at = s.at; there = at_longer cpus (p ∷ []) s.at x s.there; drawn = s.drawn; home = s.home }
   stands_longer cpus out serving x p ne (Served t) s = (record { there = at_longer cpus (p ∷ []) 0 x s.0.there; object = s.0.object }, s.1)
+  stands_longer cpus out serving x p ne Ready s = absurd s
+  stands_longer cpus out serving x p ne (Behind k) s = absurd s
+  stands_longer cpus out serving x p ne (Armed k) s = absurd s
+  stands_longer cpus out serving x p ne Waiting s = absurd s
+  stands_longer cpus out serving x p ne Holding s = absurd s
+  stands_longer cpus out serving x p ne Alone s = absurd s
+  stands_longer cpus out serving x p ne Leaving s = absurd s
+  stands_longer cpus out serving x p ne (Passing k) s = absurd s
   stands_longer cpus out serving x p ne Torn s = record { there = at_longer cpus (p ∷ []) 0 x s.there; object = s.object }
 
   stands_taken : (cpus : List ℕ) (serving x p : ℕ) → x ≢ p → get_elem? cpus 0 ≡ some p → (q : Place) → Stands m cpus false serving x q → Stands m cpus true serving x q
   stands_taken cpus serving x p ne head Idle s = s
   stands_taken cpus serving x p ne head (Drawn t) s = record { at = s.at; there = s.there; drawn = s.drawn; home = λ e. absurd (ne (some-injective x p (sym (subst (λ (k : ℕ). get_elem? cpus k ≡ some x) e s.there) ∙ head))) }
   stands_taken cpus serving x p ne head (Served t) s = absurd (true≢false (sym s.0.object))
+  stands_taken cpus serving x p ne head Ready s = absurd s
+  stands_taken cpus serving x p ne head (Behind k) s = absurd s
+  stands_taken cpus serving x p ne head (Armed k) s = absurd s
+  stands_taken cpus serving x p ne head Waiting s = absurd s
+  stands_taken cpus serving x p ne head Holding s = absurd s
+  stands_taken cpus serving x p ne head Alone s = absurd s
+  stands_taken cpus serving x p ne head Leaving s = absurd s
+  stands_taken cpus serving x p ne head (Passing k) s = absurd s
   stands_taken cpus serving x p ne head Torn s = absurd (true≢false (sym s.object))
 
   further : (serving x p : ℕ) (rest : List ℕ) (t at : ℕ) → x ≢ p → get_elem? (p ∷ rest) at ≡ some x → t ≡ (serving + at) % m → Waits m rest false ((serving + 1) % m) x t
@@ -49,6 +66,14 @@ module _ (m : ℕ) where
   stands_served out serving x p rest ne Idle s = has_tail x p rest s
   stands_served out serving x p rest ne (Drawn t) s = further serving x p rest t s.at ne s.there s.drawn
   stands_served out serving x p rest ne (Served t) s = absurd (ne (sym (some-injective p x s.0.there)))
+  stands_served out serving x p rest ne Ready s = absurd s
+  stands_served out serving x p rest ne (Behind k) s = absurd s
+  stands_served out serving x p rest ne (Armed k) s = absurd s
+  stands_served out serving x p rest ne Waiting s = absurd s
+  stands_served out serving x p rest ne Holding s = absurd s
+  stands_served out serving x p rest ne Alone s = absurd s
+  stands_served out serving x p rest ne Leaving s = absurd s
+  stands_served out serving x p rest ne (Passing k) s = absurd s
   stands_served out serving x p rest ne Torn s = absurd (ne (sym (some-injective p x s.there)))
 
   module _ (n : ℕ) (ws : List ℕ) (l : Line) (r : Lined m n ws l) where
@@ -77,7 +102,7 @@ module _ (m : ℕ) where
             few = r.few;
             distinct = distinct_push n l.cpus p r.distinct below absent;
             busy = λ _. omega arith;
-            stood = stood_moved n (l.cpus ++ p ∷ []) l.out r.serving l.place p (Drawn (get_or ws 0 0))
+            stood = each_moved l.place (Stands m (l.cpus ++ p ∷ []) l.out r.serving) n p (Drawn (get_or ws 0 0))
                 (record { at = length l.cpus; there = at_last l.cpus p (length l.cpus) refl; drawn = found; home = λ e. false_from l.out (λ o. let f = r.busy o in omega arith) })
                 (λ x in_cell ne. stands_longer l.cpus l.out r.serving x p ne (l.place x) (r.stood x in_cell));
           }
@@ -106,7 +131,7 @@ module _ (m : ℕ) where
             few = r.few;
             distinct = r.distinct;
             busy = λ _. some_one;
-            stood = stood_moved n l.cpus true r.serving l.place p (Served t)
+            stood = each_moved l.place (Stands m l.cpus true r.serving) n p (Served t)
                 (record { there = head; object = refl }, is)
                 (λ x in_cell ne. stands_taken l.cpus r.serving x p ne head (l.place x) (subst (λ (o : Bool). Stands m l.cpus o r.serving x (l.place x)) home (r.stood x in_cell)));
           }
@@ -119,7 +144,7 @@ module _ (m : ℕ) where
         few = r.few;
         distinct = r.distinct;
         busy = r.busy;
-        stood = stood_moved n l.cpus l.out r.serving l.place p Torn (first_if l.cpus l.out r.serving p (l.place p) has_it (r.stood p below)) (λ x in_cell _. r.stood x in_cell);
+        stood = each_moved l.place (Stands m l.cpus l.out r.serving) n p Torn (first_if l.cpus l.out r.serving p (l.place p) has_it (r.stood p below)) (λ x in_cell _. r.stood x in_cell);
       }
 
       pub served : (rest : List ℕ) → l.cpus ≡ p ∷ rest → Lined m n (set ws 1 ((get_or ws 1 0 + 1) % m)) (lined rest false l.place p Idle)
@@ -135,7 +160,7 @@ module _ (m : ℕ) where
             few = r.few;
             distinct = d.2;
             busy = λ e. absurd (true≢false (sym e));
-            stood = stood_moved n rest false ((r.serving + 1) % m) l.place p Idle d.1
+            stood = each_moved l.place (Stands m rest false ((r.serving + 1) % m)) n p Idle d.1
                 (λ x in_cell ne. stands_served l.out r.serving x p rest ne (l.place x) (subst (λ (z : List ℕ). Stands m z l.out r.serving x (l.place x)) is (r.stood x in_cell)));
           }
 

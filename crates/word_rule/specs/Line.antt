@@ -1,8 +1,8 @@
 -- The line of CPUs at a lock, whichever lock it is.
-use Rattle.std.specs.Prelude.{◌≡◌, ℕ, ◌<◌, Bool, true, false, ◌==◌, cond, List}
+use Rattle.std.specs.Prelude.{◌≡◌, ℕ, ◌<◌, Bool, true, false, ◌==◌, cond, List, [], ◌∷◌}
 use Rattle.event_log.specs.Distinct.{has}
 use Rattle.word_rule.specs.declared.place.Place.{Place}
-use Rattle.word_rule.specs.declared.place.Place.TheVariants.{Idle, Drawn, Served, Torn}
+use Rattle.word_rule.specs.declared.place.Place.TheVariants.{Idle, Drawn, Served, Ready, Behind, Armed, Waiting, Holding, Alone, Leaving, Passing, Torn}
 
 -- the CPUs in line, whether the object is out with the first of them, and where each CPU stands
 pub record Line : Type 0 where
@@ -14,11 +14,32 @@ pub record Line : Type 0 where
 abbrev pub moved : (ℕ → Place) → ℕ → Place → ℕ → Place
 moved place p q x = cond (x == p) q (place x)
 
+-- this line, with p at that place
+abbrev pub lined : List ℕ → Bool → (ℕ → Place) → ℕ → Place → Line
+lined cpus out place p q = record { cpus = cpus; out = out; place = moved place p q }
+
+-- nobody is in line, and the object is at home
+abbrev pub empty_line : Line
+empty_line = record { cpus = []; out = false; place = λ _. Idle }
+
+-- whether x is the first of the line
+abbrev pub is_first : ℕ → List ℕ → Bool
+is_first x [] = false
+is_first x (y ∷ ys) = y == x
+
 -- whether a caller that stands there has the object
 abbrev pub holding : Place → Bool
 holding Idle = false
 holding (Drawn t) = false
 holding (Served t) = true
+holding Ready = false
+holding (Behind p) = false
+holding (Armed p) = false
+holding Waiting = false
+holding Holding = true
+holding Alone = true
+holding Leaving = true
+holding (Passing j) = true
 holding Torn = true
 
 -- what every lock promises of the rule that ties its words to its line, for n CPUs

@@ -4,7 +4,7 @@ use mathlib.Core.Option.{some}
 use lib.ListN.{get_elem?}
 use Rattle.event_log.specs.Distinct.{has, AreDistinctBelow}
 use Rattle.word_rule.specs.declared.place.Place.{Place}
-use Rattle.word_rule.specs.declared.place.Place.TheVariants.{Idle, Drawn, Served, Torn}
+use Rattle.word_rule.specs.declared.place.Place.TheVariants.{Idle, Drawn, Served, Ready, Behind, Armed, Waiting, Holding, Alone, Leaving, Passing, Torn}
 use Rattle.word_rule.specs.Line.{Line}
 
 module _ (m : ℕ) (cpus : List ℕ) (out : Bool) (serving : ℕ) (x : ℕ) where
@@ -20,11 +20,19 @@ module _ (m : ℕ) (cpus : List ℕ) (out : Bool) (serving : ℕ) (x : ℕ) wher
     pub there : get_elem? cpus 0 ≡ some x
     pub object : out ≡ true
 
-  -- the CPU x stands there
+  -- the CPU x stands there, which is no place of an MCS lock
   abbrev pub Stands : Place → Type 0
   Stands Idle = has x cpus ≡ false
   Stands (Drawn t) = Waits t
   Stands (Served t) = IsFirst × (t ≡ serving)
+  Stands Ready = ⊥
+  Stands (Behind p) = ⊥
+  Stands (Armed p) = ⊥
+  Stands Waiting = ⊥
+  Stands Holding = ⊥
+  Stands Alone = ⊥
+  Stands Leaving = ⊥
+  Stands (Passing j) = ⊥
   Stands Torn = IsFirst
 
 -- the words of a lock for n CPUs, with that line

@@ -10,6 +10,22 @@ pub enum Place {
     Drawn(u64),
     /// It has the object, by this ticket.
     Served(u64),
+    /// It has cleared its `next` word, and isn't in an MCS lock's queue yet.
+    Ready,
+    /// It is in the queue behind this CPU.
+    Behind(u8),
+    /// The same, and it has armed itself.
+    Armed(u8),
+    /// It has linked itself to the one before it.
+    Waiting,
+    /// It is the first of the queue, and has the object.
+    Holding,
+    /// The same, and it saw nobody behind it.
+    Alone,
+    /// The same, and it has found that it isn't the last.
+    Leaving,
+    /// The same, and it has seen this CPU behind it.
+    Passing(u8),
     /// It is the holder still, but its slot went back. No caller of the public surface stands here: the proof that two
     /// holds of one cell can't be leads one here on the way.
     Torn,

@@ -1,0 +1,8 @@
+use Rattle.word_rule.proofs.Arrivals.{order_lem, few_lem}
+use Rattle.word_rule.proofs.machine.law.first_come.Goals as goal
+
+pub returns-clause-order : goal.returns-clause-order
+returns-clause-order g c = λ w o schedule x. order_lem g.O.SeqObject w o schedule x
+
+pub returns-clause-few : goal.returns-clause-few
+returns-clause-few g c = λ w o before since i x a t le. few_lem g.O.SeqObject w o before since i x a t le

@@ -1,0 +1,47 @@
+-- The steps of an MCS lock (Mellor-Crummey and Scott 1991), one relation for each kind.
+use Rattle.std.specs.Prelude.{◌≡◌, ℕ, Bool, true, false}
+use Rattle.event_log.specs.declared.object.SeqObject.{Ghosts}
+use Rattle.word_rule.specs.declared.place.Place.TheVariants.{Idle, Ready, Behind, Armed, Waiting, Holding, Alone, Leaving, Passing}
+use Rattle.word_rule.specs.Standing.{Standing, Moves, Takes, Gives, NeedsAnother}
+
+module _ {O P C R : Type 0} (meaning : Ghosts O P C R) (before after : Standing O P C R) where
+  -- the caller clears its `next`
+  abbrev pub IsClear : Type 0
+  IsClear = Moves meaning Idle Ready before after
+
+  -- the caller swaps itself into the tail: it gets the object where nobody was there, or has a predecessor
+  abbrev pub IsEnter : Bool → Type 0
+  IsEnter true = Takes meaning Ready Holding before after
+  IsEnter false = (p : ℕ) × (before.caller.owned p ≡ false) × NeedsAnother meaning (Moves meaning Ready (Behind p)) before after
+
+  -- the caller sets its `locked`
+  abbrev pub IsArm : Type 0
+  IsArm = (p : ℕ) × (before.caller.owned p ≡ false) × Moves meaning (Behind p) (Armed p) before after
+
+  -- the caller names itself in its predecessor's `next`
+  abbrev pub IsLink : Type 0
+  IsLink = (p : ℕ) × (before.caller.owned p ≡ false) × Moves meaning (Armed p) Waiting before after
+
+  -- the caller looks whether its `locked` is clear: it gets the object, or nothing changes
+  abbrev pub IsWaitingLook : Bool → Type 0
+  IsWaitingLook true = Takes meaning Waiting Holding before after
+  IsWaitingLook false = NeedsAnother meaning (Moves meaning Waiting Waiting) before after
+
+  -- the holder looks into its `next`: it sees its successor, or nobody
+  abbrev pub IsSee : Bool → Type 0
+  IsSee true = (j : ℕ) × (before.caller.owned j ≡ false) × NeedsAnother meaning (Moves meaning Holding (Passing j)) before after
+  IsSee false = Moves meaning Holding Alone before after
+
+  -- the same, once it isn't the last: it sees its successor, or that hasn't linked itself yet
+  abbrev pub IsSeeAgain : Bool → Type 0
+  IsSeeAgain true = (j : ℕ) × (before.caller.owned j ≡ false) × NeedsAnother meaning (Moves meaning Leaving (Passing j)) before after
+  IsSeeAgain false = NeedsAnother meaning (Moves meaning Leaving Leaving) before after
+
+  -- the holder swaps nobody into the tail, if the tail names it: the object goes home, or the holder isn't the last
+  abbrev pub IsEmpty : Bool → Type 0
+  IsEmpty true = Gives meaning Alone Idle before after
+  IsEmpty false = NeedsAnother meaning (Moves meaning Alone Leaving) before after
+
+  -- the holder clears its successor's `locked`, and gives the object back
+  abbrev pub IsPass : Type 0
+  IsPass = (j : ℕ) × (before.caller.owned j ≡ false) × Gives meaning (Passing j) Idle before after

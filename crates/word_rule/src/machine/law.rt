@@ -1,0 +1,21 @@
+//! Laws of every run of the step machine.
+
+ghost use Rattle.std.specs.Prelude.{◌≡◌, ℕ, ◌+◌, ◌<◌, ◌≤◌, ◌++◌, ◌∷◌, true, List, length};
+ghost use Rattle.event_log.specs.Log.{Begins};
+ghost use Rattle.word_rule.specs.Opening.{IsOpening};
+ghost use Rattle.word_rule.specs.Orders.{is_at, arrivals, endings};
+ghost use Rattle.word_rule.specs.Turns.{arrives};
+ghost use Rattle.word_rule.specs.World.{World, run, step};
+
+use event_log::SeqObject;
+
+/// The law of arrival, without effect. Whoever ends a hold on a cell does so in the order of arrival there. And from the
+/// step by which a call arrives until its own end, fewer other calls end there than there are CPUs.
+pub fn first_come<O: SeqObject>()
+    ensures order { (w : World O O.Params O.Call O.Reply) → IsOpening w → (schedule : List ℕ) (x : ℕ) →
+        Begins (endings O.SeqObject x schedule w) (arrivals O.SeqObject x schedule w) }
+    ensures few { (w : World O O.Params O.Call O.Reply) → IsOpening w → (before since : List ℕ) (i x : ℕ) →
+        arrives (step O.SeqObject (run O.SeqObject before w) i).1 ≡ true → is_at (run O.SeqObject before w) i x ≡ true →
+        length (endings O.SeqObject x (before ++ i ∷ since) w) ≤ length (arrivals O.SeqObject x before w) →
+        length (endings O.SeqObject x (before ++ i ∷ since) w) < length (endings O.SeqObject x before w) + length w.cpus }
+{}
