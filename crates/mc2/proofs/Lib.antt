@@ -5,6 +5,7 @@ pub mod Readings
 pub mod Requests
 pub mod QueueReads
 pub mod ScriptLines
+pub mod Schedules
 pub mod Workers
 pub mod Verdicts
 pub mod QueueSends

@@ -5,6 +5,7 @@ pub mod Settings
 pub mod RecordText
 pub mod QueueWords
 pub mod ScriptText
+pub mod ScheduleText
 pub mod Reading
 pub mod QueueTypes
 pub mod ScriptFaults
