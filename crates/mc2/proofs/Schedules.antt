@@ -88,12 +88,13 @@ next_is text start end e f =
     let rest : drop end words ≡ get_or words end 0 ∷ drop (end + 1) words = drop_more words end 0 at.0 in
     let cut : take end words ++ (get_or words end 0 ∷ drop (end + 1) words) ≡ words = ap (λ l. take end words ++ l) (sym rest) ∙ take-append-drop end words in
     let some : 0 < length (take end words) = omega (arith, length-take end words, later, at.0) in
-    let within = begins.within in
-    (begins.words
-    ∙ (ap schedule_words (sym cut)
-    ∙ (word_first (take end words) (get_or words end 0) (drop (end + 1) words) (none_below is_gap words end at.2) some at.1
-    ∙ ap (λ l. take end words ∷ schedule_words l) (sym rest))),
-    omega (arith, length-drop end words, length-drop start text, later, within))
+    let within = begins.within in (
+      begins.words
+          ∙ (ap schedule_words (sym cut)
+          ∙ (word_first (take end words) (get_or words end 0) (drop (end + 1) words) (none_below is_gap words end at.2) some at.1
+          ∙ ap (λ l. take end words ∷ schedule_words l) (sym rest))),
+      omega (arith, length-drop end words, length-drop start text, later, within),
+    )
 
 pub last_is : (text : List ℕ) (start : ℕ) → position (λ b. not (is_gap b)) text ≡ Some start → position is_gap (drop start text) ≡ None
     → (schedule_words text ≡ drop start text ∷ schedule_words []) × (0 < length text)

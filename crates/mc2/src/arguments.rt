@@ -1,6 +1,5 @@
 //! The program's words.
 
-use crate::fault::Fault;
 use clap::error::ErrorKind;
 use clap::{Arg, ArgAction, Command, Error};
 use std::alloc::{AllocError, Global};
@@ -10,6 +9,14 @@ use std::convert::AsStr;
 #[derive(Clone, Copy, Debug, PartialEq, Eq, Drop)]
 pub struct Arguments<'a> {
     pub scripts: Option<&'a str>,
+}
+
+/// Why words were not read.
+#[derive(Clone, Copy, Debug, PartialEq, Eq, Drop)]
+pub enum WordsFault {
+    OutOfMemory,
+    /// The words are none of the forms.
+    NoForm,
 }
 
 /// All forms of words that there are.
@@ -29,11 +36,11 @@ fn forms<'a>(alloc: Global) -> Result<Command<'a>, AllocError> {
 }
 
 /// A word that is refused is no form, unless memory was wanting.
-fn refusal(error: Error) -> Fault {
+fn refusal(error: Error) -> WordsFault {
     if error.kind() == ErrorKind::OutOfMemory {
-        Fault::OutOfMemory
+        WordsFault::OutOfMemory
     } else {
-        Fault::BadWords
+        WordsFault::NoForm
     }
 }
 
@@ -43,23 +50,23 @@ fn is_file_name(name: &str) -> bool {
 }
 
 /// Reads the words after the program's name.
-pub fn read_words<'a>(alloc: Global, words: &'a [String]) -> Result<Arguments<'a>, Fault> {
+pub fn read_words<'a>(alloc: Global, words: &'a [String]) -> Result<Arguments<'a>, WordsFault> {
     if words.iter().any(|word| word.as_str() == "--") {
-        return Err(Fault::BadWords);
+        return Err(WordsFault::NoForm);
     }
     let Ok(forms) = forms(alloc) else {
-        return Err(Fault::OutOfMemory);
+        return Err(WordsFault::OutOfMemory);
     };
     let matches = match forms.try_get_matches_from(words) {
         Ok(matches) => matches,
         Err(error) => return Err(refusal(error)),
     };
     let Some((_, found)) = matches.subcommand() else {
-        return Err(Fault::BadWords);
+        return Err(WordsFault::NoForm);
     };
     let scripts = found.get_str("scripts");
     match scripts {
-        Some(name) if !is_file_name(name) => Err(Fault::BadWords),
+        Some(name) if !is_file_name(name) => Err(WordsFault::NoForm),
         _ => Ok(Arguments { scripts }),
     }
 }

@@ -3,6 +3,9 @@
 ghost use Rattle.std.specs.Prelude.{◌≡◌, ◌∷◌, ◌<◌, [], ℕ, List, not, length, position, decimal, IfOk, IfSome, IfNone};
 ghost use Rattle.mc2.specs.ScheduleText.{is_gap, schedule_words, IsSchedule, NamesNoCpu, IsFirstBadWord};
 
+#[cfg(test)]
+mod tests;
+
 use crate::Settings;
 use crate::words::number_of;
 use std::alloc::Global;

@@ -1,6 +1,6 @@
 //! Words that are taken and words that are refused, and the lines of the refusals.
 
-use super::read_words;
+use super::{WordsFault, read_words};
 use crate::fault::Fault;
 use std::test::Fail;
 
@@ -42,7 +42,7 @@ fn words_that_are_refused(rt: HostRuntime) -> Result<(), Fail> {
             }
         }
         let refused = read_words(rt.alloc(), words.as_slice());
-        assert!(rt; matches!(refused, Err(Fault::BadWords)), "{row:?}");
+        assert!(rt; matches!(refused, Err(WordsFault::NoForm)), "{row:?}");
     }
     Ok(())
 }
@@ -56,6 +56,7 @@ fn lines_of_the_refusals(rt: HostRuntime) -> Result<(), Fail> {
             "mc2: E5 no thread started for cpu 1",
         ),
         (Fault::BadScripts(10_001), "mc2: E7 scripts: line 10001"),
+        (Fault::BadSchedule(100_001), "mc2: E8 schedule: word 100001"),
         (Fault::ReadFailed, "mc2: E12 read failed"),
         (Fault::WriteFailed, "mc2: E13 write failed"),
         (Fault::BadWords, "mc2: E14 bad words"),
