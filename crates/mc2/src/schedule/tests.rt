@@ -12,6 +12,22 @@ fn read<R: AllocGlobal>(rt: &R, text: &[u8]) -> Result<Vec<u8>, ScheduleFault> {
     }
 }
 
+/// Whether the text spells these steps.
+fn spells<R: AllocGlobal>(rt: &R, text: &[u8], steps: &[u8]) -> bool {
+    match read(rt, text) {
+        Ok(found) => found.as_slice() == steps,
+        Err(_fault) => false,
+    }
+}
+
+/// The first bad word of the text, or 0.
+fn bad_word<R: AllocGlobal>(rt: &R, text: &[u8]) -> usize {
+    match read(rt, text) {
+        Err(ScheduleFault::Word(number)) => number,
+        _ => 0,
+    }
+}
+
 #[test]
 fn schedules_that_are_read(rt: HostRuntime) {
     let rows: [(&str, &[u8]); 8] = [
@@ -25,11 +41,7 @@ fn schedules_that_are_read(rt: HostRuntime) {
         ("  1", &[1]),
     ];
     for (text, steps) in rows {
-        let found = read(&rt, text.as_bytes());
-        assert!(rt;
-            matches!(found, Ok(list) if list.as_slice() == steps),
-            "{text:?}"
-        );
+        assert!(rt; spells(&rt, text.as_bytes(), steps), "{text:?}");
     }
 }
 
@@ -51,13 +63,9 @@ fn schedules_that_are_refused(rt: HostRuntime) {
         ("0 1 #", 3),
     ];
     for (text, word) in rows {
-        let fault = match read(&rt, text.as_bytes()) {
-            Err(ScheduleFault::Word(number)) => number,
-            _ => 0,
-        };
-        assert_eq!(rt; fault, word, "{text:?}");
+        assert_eq!(rt; bad_word(&rt, text.as_bytes()), word, "{text:?}");
     }
-    assert!(rt; read(&rt, &[48, 32, 255]) == Err(ScheduleFault::Word(2)));
+    assert_eq!(rt; bad_word(&rt, &[48, 32, 255]), 2);
 }
 
 /// So many words `1`, and then the end.
@@ -72,14 +80,18 @@ fn words<R: AllocGlobal>(rt: &R, count: usize, end: &str) -> Result<String, Fail
 
 #[test]
 fn steps_of_one_schedule(rt: HostRuntime) -> Result<(), Fail> {
-    let most = read(&rt, words(&rt, 100_000, "\n")?.as_bytes());
-    assert!(rt; matches!(most, Ok(steps) if steps.len() == 100_000));
-    for end in ["0", "2", "0 0 2"] {
-        let more = read(&rt, words(&rt, 100_000, end)?.as_bytes());
-        assert!(rt; more == Err(ScheduleFault::Word(100_001)), "{end:?}");
+    let most = words(&rt, 100_000, "\n")?;
+    let steps = vec![in rt.alloc(); 1; 100_000]?;
+    assert!(rt; spells(&rt, most.as_bytes(), steps.as_slice()));
+    for (count, end, word) in [
+        (100_000, "0", 100_001),
+        (100_000, "2", 100_001),
+        (100_000, "0 0 2", 100_001),
+        (99_999, "x 0 0", 100_000),
+    ] {
+        let more = words(&rt, count, end)?;
+        assert_eq!(rt; bad_word(&rt, more.as_bytes()), word, "{end:?}");
     }
-    let bad = read(&rt, words(&rt, 99_999, "x 0 0")?.as_bytes());
-    assert!(rt; bad == Err(ScheduleFault::Word(100_000)));
     Ok(())
 }
 
@@ -121,14 +133,11 @@ fn generated_schedules(rt: HostRuntime) -> Result<(), Fail> {
             text.push(bytes[place])?;
             text.push(b" 0\n"[place % 3])?;
         }
-        let found = read(&rt, text.as_slice());
         match plainly(&rt, text.as_slice())? {
-            Ok(steps) => {
-                assert!(rt; matches!(found, Ok(list) if list.as_slice() == steps.as_slice()))
-            }
+            Ok(steps) => assert!(rt; spells(&rt, text.as_slice(), steps.as_slice())),
             Err(word) => {
                 refused = refused.saturating_add(1);
-                assert!(rt; found == Err(ScheduleFault::Word(word)));
+                assert_eq!(rt; bad_word(&rt, text.as_slice()), word);
             }
         }
     }
