@@ -1,6 +1,6 @@
 -- A schedule, word by word.
-use Rattle.std.proofs.Common.{◌≡◌, ℕ, zero, suc, ◌+◌, ◌<◌, ◌≤◌, ◌==◌, ◌⊎◌, Bool, true, false, not, cond, Some, None, List, [], ◌∷◌, ◌++◌, length, map, take, drop, get_or, position, decimal, refl, sym, ◌∙◌, ap, subst, append_assoc, add-zero, arith, inl, inr, length-append}
-use Rattle.std.proofs.lemmas.List.{append-nil, map-append, drop_more, take-append-drop, length-map, length-take, length-drop, get_or-drop}
+use Rattle.std.proofs.Common.{◌≡◌, ℕ, zero, suc, ◌+◌, ◌<◌, ◌≤◌, ◌==◌, ◌⊎◌, Bool, true, false, not, cond, Some, None, List, [], ◌∷◌, ◌++◌, length, map, take, drop, get_or, position, decimal, refl, sym, ◌∙◌, ap, add-zero, arith, inl, inr, length-append}
+use Rattle.std.proofs.lemmas.List.{drop_more, take-append-drop, length-map, length-take, length-drop, get_or-drop}
 use Rattle.std.proofs.lemmas.List.Elements.{All-from_recursion}
 use Rattle.std.proofs.lemmas.List.Quantifiers.{position-Some}
 use Rattle.std.proofs.lemmas.List.Splits.{slice_split-cons_yes, slice_split_none, slice_split_at}

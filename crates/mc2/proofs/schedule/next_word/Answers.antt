@@ -1,4 +1,4 @@
-use Rattle.std.proofs.Common.{◌≡◌, Option, Some, None, List, IfNone, position, not, drop, sym, ◌∙◌, subst}
+use Rattle.std.proofs.Common.{◌≡◌, Option, Some, None, IfNone, position, drop, sym, ◌∙◌}
 use Rattle.mc2.specs.ScheduleText.{is_gap}
 use Rattle.mc2.proofs.Schedules.{next_is, last_is, none_is}
 use Rattle.mc2.proofs.schedule.next_word.Goals as goal
