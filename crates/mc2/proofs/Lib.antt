@@ -6,6 +6,7 @@ pub mod Requests
 pub mod QueueReads
 pub mod ScriptLines
 pub mod Schedules
+pub mod Simulations
 pub mod Workers
 pub mod Verdicts
 pub mod QueueSends

@@ -10,5 +10,6 @@ pub mod Reading
 pub mod QueueTypes
 pub mod ScriptFaults
 pub mod FirstRun
+pub mod Simulation
 pub mod Faults
 pub mod Workers

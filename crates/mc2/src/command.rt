@@ -1,18 +1,18 @@
 //! A whole command: the words after the program's name in, a status out.
 
-ghost use Rattle.std.specs.Prelude.{◌≡◌, ◌⊎◌, ◌++◌, true, ℕ, List, OnOk, IfErr};
+ghost use Rattle.std.specs.Prelude.{◌≡◌, ◌⊎◌, true, OnOk, IfErr};
 ghost use Rattle.event_log.specs.Stream.{counted};
-ghost use Rattle.mc2.specs.FirstRun.{WritesRun};
+ghost use Rattle.mc2.specs.Simulation.{WritesAnswer};
 ghost use Rattle.mc2.specs.Faults.{status_of};
 ghost use Rattle.mc2.specs.QueueWords.{built_in_settings, queue_spelling};
 
 #[cfg(test)]
 mod tests;
 
-use crate::arguments::read_words;
+use crate::arguments::{Arguments, read_words};
 use crate::fault::Fault;
 use crate::input::read_input;
-use crate::{Buffered, Inputs, first_run};
+use crate::{Buffered, Inputs, first_run, first_sim};
 use event_log::{SeqObject, Sink};
 use shared_queue::ThreadQueue;
 use std::alloc::Global;
@@ -30,7 +30,7 @@ pub fn command<R: Threads + Wait + Sync, I: Inputs, W: Sink, F: Sink>(
     out: &mut W,
     faults: &mut F,
 ) -> u8
-    ensures done { result ≡ 0 → (scripts : List ℕ) × WritesRun ⟦<ThreadQueue as SeqObject>⟧ queue_spelling built_in_settings scripts (W.contents out.old) (W.contents out.new) }
+    ensures done { result ≡ 0 → WritesAnswer ⟦<ThreadQueue as SeqObject>⟧ queue_spelling built_in_settings (W.contents out.old) (W.contents out.new) }
     ensures none_failed { result ≡ 0 → W.failed out.new ≡ W.failed out.old }
     ensures no_line { result ≡ 0 → faults.new ≡ faults.old }
     ensures nothing_written { result ≡ 2 → out.new ≡ out.old }
@@ -50,15 +50,19 @@ fn perform<R: Threads + Wait + Sync, I: Inputs, W: Sink>(
     inputs: &mut I,
     out: &mut W,
 ) -> Result<(), Fault>
-    ensures done { OnOk result ((scripts : List ℕ) × WritesRun ⟦<ThreadQueue as SeqObject>⟧ queue_spelling built_in_settings scripts (W.contents out.old) (W.contents out.new)) }
+    ensures done { OnOk result (WritesAnswer ⟦<ThreadQueue as SeqObject>⟧ queue_spelling built_in_settings (W.contents out.old) (W.contents out.new)) }
     ensures none_failed { OnOk result (W.failed out.new ≡ W.failed out.old) }
     ensures one_failed { result ≡ Err Fault.WriteFailed → W.failed out.new ≡ counted true (W.failed out.old) }
     ensures nothing_written { IfErr result (λ f. (f ≡ Fault.WriteFailed → ⊥) → out.new ≡ out.old) }
 {
-    let arguments = read_words(alloc, words)?;
-    let scripts = read_input(alloc, inputs, arguments.scripts)?;
-    first_run(rt, alloc, scripts.as_slice(), out)?;
-    Ok(())
+    match read_words(alloc, words)? {
+        Arguments::Run { scripts } => {
+            let scripts = read_input(alloc, inputs, scripts)?;
+            first_run(rt, alloc, scripts.as_slice(), out)?;
+            Ok(())
+        }
+        Arguments::Sim { scripts, schedule } => first_sim(alloc, inputs, scripts, schedule, out),
+    }
 }
 
 /// Writes the line of the refusal, and answers its status.

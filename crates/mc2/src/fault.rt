@@ -1,11 +1,13 @@
 //! Why the program didn't do what its words ask for.
 
 ghost use Rattle.std.specs.Prelude.{◌≡◌};
-ghost use Rattle.mc2.specs.Faults.{of_words, of_run, of_input, of_schedule, status_of};
+ghost use Rattle.mc2.specs.Faults.{of_memory, of_words, of_run, of_scripts, of_input, of_schedule, of_write, status_of};
 
 use crate::arguments::WordsFault;
 use crate::input::InputFault;
-use crate::{FirstFault, ScheduleFault};
+use crate::scripts::ScriptsFault;
+use crate::{FirstFault, ScheduleFault, WriteFailed};
+use event_log::OutOfMemory;
 use thiserror::Error;
 
 /// A refusal, which is printed as one line.
@@ -73,6 +75,35 @@ impl From<InputFault> for Fault {
         match fault {
             InputFault::OutOfMemory => Fault::OutOfMemory,
             InputFault::ReadFailed => Fault::ReadFailed,
+        }
+    }
+}
+
+impl From<OutOfMemory> for Fault {
+    ghost from_gives = { λ cause fault. fault ≡ of_memory cause };
+
+    fn from(fault: OutOfMemory) -> Fault {
+        let OutOfMemory = fault;
+        Fault::OutOfMemory
+    }
+}
+
+impl From<WriteFailed> for Fault {
+    ghost from_gives = { λ cause fault. fault ≡ of_write cause };
+
+    fn from(fault: WriteFailed) -> Fault {
+        let WriteFailed = fault;
+        Fault::WriteFailed
+    }
+}
+
+impl From<ScriptsFault> for Fault {
+    ghost from_gives = { λ cause fault. fault ≡ of_scripts cause };
+
+    fn from(fault: ScriptsFault) -> Fault {
+        match fault {
+            ScriptsFault::OutOfMemory => Fault::OutOfMemory,
+            ScriptsFault::Line(number) => Fault::BadScripts(number),
         }
     }
 }

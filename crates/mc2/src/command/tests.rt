@@ -65,10 +65,16 @@ impl<'a> Inputs for Named<'a> {
 }
 
 /// The files that there are.
-const FILES: [(&str, &str); 3] = [
+const FILES: [(&str, &str); 9] = [
     ("scripts", SCRIPTS),
     ("bad", "0 q0 enq 3\n0 q1 deq\n"),
     ("broken", SCRIPTS),
+    ("both", "0 q0 enq 3\n1 q0 enq 4\n"),
+    ("alone", "0 q0 enq 3\n"),
+    ("turns", "0 1 1 1 0 0 1 1\n"),
+    ("held", "0 1 0"),
+    ("idle", "0 0 0 0 1"),
+    ("steps", "0 2"),
 ];
 
 /// Does the command of these words, and answers the status and how many inputs were opened.
@@ -120,6 +126,31 @@ fn a_file_of_scripts(rt: HostRuntime) -> Result<(), Fail> {
 }
 
 #[test]
+fn worked_simulations(rt: HostRuntime) -> Result<(), Fail> {
+    let rows = [
+        (
+            "sim both turns",
+            "log q0 2\n0 enq 3 = ok\n1 enq 4 = ok\ncpu 0 1\nq0 1 enq 3 | enq 3 = ok\ncpu 1 1\nq0 3 enq 4 | enq 4 = ok\nend\n",
+        ),
+        ("sim both held", "log q0 0\ncpu 0 0\ncpu 1 0\nend\n"),
+        (
+            "sim alone idle",
+            "log q0 1\n0 enq 3 = ok\ncpu 0 1\nq0 1 enq 3 | enq 3 = ok\ncpu 1 0\nend\n",
+        ),
+    ];
+    for (line, rest) in rows {
+        let mut out = Plain::new(Vec::new(rt.alloc()));
+        let mut faults = Plain::new(Vec::new(rt.alloc()));
+        let status = told(&rt, line, "x", &mut out, &mut faults)?;
+        assert!(rt; status == (0, 2), "{line:?}");
+        let wanted = format!(in rt.alloc(); "{HEAD}{rest}")?;
+        assert!(rt; out.inner.as_slice() == wanted.as_bytes(), "{line:?}");
+        assert!(rt; faults.inner.is_empty(), "{line:?}");
+    }
+    Ok(())
+}
+
+#[test]
 fn refused_scripts(rt: HostRuntime) -> Result<(), Fail> {
     for (scripts, line) in REFUSED {
         let mut out = Plain::new(Vec::new(rt.alloc()));
@@ -139,6 +170,16 @@ fn refused_commands(rt: HostRuntime) -> Result<(), Fail> {
         ("run bad", 2, "mc2: E7 scripts: line 2\n", 1),
         ("run none", 3, "mc2: E12 read failed\n", 1),
         ("run broken", 3, "mc2: E12 read failed\n", 1),
+        ("sim both steps", 2, "mc2: E8 schedule: word 2\n", 2),
+        ("sim bad none", 2, "mc2: E7 scripts: line 2\n", 1),
+        ("sim none turns", 3, "mc2: E12 read failed\n", 1),
+        ("sim broken turns", 3, "mc2: E12 read failed\n", 1),
+        ("sim both none", 3, "mc2: E12 read failed\n", 2),
+        ("sim both broken", 3, "mc2: E12 read failed\n", 2),
+        ("sim", 2, "mc2: E14 bad words\n", 0),
+        ("sim both", 2, "mc2: E14 bad words\n", 0),
+        ("sim both turns held", 2, "mc2: E14 bad words\n", 0),
+        ("sim both -turns", 2, "mc2: E14 bad words\n", 0),
         ("", 2, "mc2: E14 bad words\n", 0),
         ("walk", 2, "mc2: E14 bad words\n", 0),
         ("run -scripts", 2, "mc2: E14 bad words\n", 0),
