@@ -18,3 +18,4 @@ pub mod TicketTurns
 pub mod McsTurns
 pub mod TurnsKeep
 pub mod Arrivals
+pub mod ShownTurns
