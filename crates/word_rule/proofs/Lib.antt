@@ -19,3 +19,4 @@ pub mod McsTurns
 pub mod TurnsKeep
 pub mod Arrivals
 pub mod ShownTurns
+pub mod Outcomes

@@ -9,10 +9,10 @@ use Rattle.word_rule.specs.declared.machine.step_done.StepDone.TheVariants as st
 use Rattle.word_rule.specs.declared.place.Place.{Place}
 use Rattle.word_rule.specs.declared.place.Place.TheVariants.{Idle, Drawn, Served, Ready, Behind, Armed, Waiting, Holding, Alone, Leaving, Passing, Torn}
 use Rattle.word_rule.specs.Line.{Line, lined, moved, holding, is_first}
-use Rattle.word_rule.specs.Locks.{Lock, last, is_named, follower, going, joining, taking, leaving}
+use Rattle.word_rule.specs.Locks.{Lock, last, is_named, follower, going, joining, taking, leaving, tickets}
 use Rattle.word_rule.specs.LockWords.{TiedOf, ShowsLock, word_of}
 use Rattle.word_rule.specs.Queues.{next_word, locked_word}
-use Rattle.word_rule.specs.Turns.{tickets, look, see, enter, empty, draw, serve, clear, arm, link, pass, ticket_turn, mcs_turn, turn_of, turn}
+use Rattle.word_rule.specs.Turns.{look, see, enter, empty, draw, serve, clear, arm, link, pass, ticket_turn, mcs_turn, turn_of, turn}
 use Rattle.word_rule.proofs.Stays.{moved_same, moved_else}
 use Rattle.word_rule.proofs.TicketTurns.{ticket_is, draws, hit_first, first_hit, takes, serves}
 use Rattle.word_rule.proofs.QueueWords as words
