@@ -20,3 +20,7 @@ pub mod TurnsKeep
 pub mod Arrivals
 pub mod ShownTurns
 pub mod Outcomes
+pub mod MachineSteps
+pub mod MachineKeeps
+pub mod WordLists
+pub mod SoundRuns

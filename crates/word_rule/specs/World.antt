@@ -53,6 +53,10 @@ module _ {O P C R : Type 0} where
   abbrev pub finished : CpuState O P C R → Todo O P C R → Done O P C R → CpuState O P C R
   finished c todo d = record { todo = left c.todo; transcript = c.transcript ++ entry_of todo d c.looks ∷ []; looks = 0 }
 
+  -- the CPU after a step in that entry
+  abbrev pub cpu_after : CpuState O P C R → Todo O P C R → StepDone → Done O P C R → CpuState O P C R
+  cpu_after cpu todo s d = if ends_hold s then finished cpu todo d else record cpu { looks = counted cpu.looks s }
+
   -- the logs and transcripts of a world
   abbrev pub run_of : World O P C R → Run O P C R
   run_of w = record { logs = map (λ c. c.log) w.cells; transcripts = map (λ c. c.transcript) w.cpus }
@@ -69,10 +73,6 @@ module _ {O P C R : Type 0} (meaning : Ghosts O P C R) where
   -- the cell after a step of CPU i that does an entry there
   abbrev pub cell_after : CellState O P C R → ℕ → Todo O P C R → Lock × StepDone → CellState O P C R
   cell_after c i todo t = record { opened = c.opened; lock = t.0; log = if ends_hold t.1 then with_done i c.log (outcome c.opened c.log todo.calls.items) else c.log }
-
-  -- the CPU after the step
-  abbrev pub cpu_after : CpuState O P C R → Todo O P C R → StepDone → Done O P C R → CpuState O P C R
-  cpu_after cpu todo s d = if ends_hold s then finished cpu todo d else record cpu { looks = counted cpu.looks s }
 
   -- the world after the step
   abbrev pub world_after : World O P C R → ℕ → CellState O P C R → CpuState O P C R → Todo O P C R → Lock × StepDone → World O P C R

@@ -15,6 +15,7 @@ mod law;
 mod lock_words;
 mod mcs;
 mod progress;
+mod recorded;
 mod room;
 mod step_done;
 mod ticket;
@@ -22,6 +23,7 @@ mod ticket;
 use crate::machine::hold::count_step;
 use crate::machine::lock_words::LockWords;
 use crate::machine::progress::Progress;
+use crate::machine::recorded::{all_logs, all_transcripts};
 use crate::machine::room::{Room, make_room};
 pub use cell_spec::CellSpec;
 use event_log::{Entry, Event, OutOfMemory, Run, SeqObject, Series, Todo};
@@ -71,7 +73,7 @@ impl<O: SeqObject> Machine<O> {
         requires able { AllByRecursion (λ s. AllByRecursion (λ t. IsTodo (vec_len cells) t) s.items) scripts.items }
         ensures shows { IfOk result (λ m. Shows O.SeqObject m (opening_world cells.items scripts.items)) }
         ensures opening { IsOpening (opening_world cells.items scripts.items) }
-        ensures back { IfErr result (λ e. e ≡ (OutOfMemory, cells, scripts)) }
+        ensures back { IfErr result (λ e. (e.1 ≡ cells) × (e.2 ≡ scripts)) }
     {
         match make_room(alloc, cells.as_slice(), scripts.as_slice()) {
             Ok(Room {
@@ -142,28 +144,12 @@ impl<O: SeqObject> Machine<O> {
             locks: _,
             scripts: _,
             done,
-            mut logs,
-            mut transcripts,
+            logs,
+            transcripts,
         } = self;
-        for cell in cells {
-            let CellSpec {
-                kind: _,
-                first: _,
-                logged,
-            } = cell;
-            logs.push_reserved(Series::from_vec(logged.into_log()));
-        }
-        for progress in done {
-            let Progress {
-                at: _,
-                transcript,
-                looks: _,
-            } = progress;
-            transcripts.push_reserved(Series::from_vec(transcript));
-        }
         Run {
-            logs: Series::from_vec(logs),
-            transcripts: Series::from_vec(transcripts),
+            logs: Series::from_vec(all_logs(cells, logs)),
+            transcripts: Series::from_vec(all_transcripts(done, transcripts)),
         }
     }
 }
