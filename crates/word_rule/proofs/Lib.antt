@@ -24,3 +24,4 @@ pub mod MachineSteps
 pub mod MachineKeeps
 pub mod WordLists
 pub mod SoundRuns
+pub mod Openings

@@ -1,5 +1,5 @@
 -- What the machine's invariant is after a step.
-use Rattle.std.proofs.Common.{◌≡◌, ◌≢◌, ℕ, zero, suc, ◌+◌, ◌-◌, ◌<◌, ◌≤◌, Bool, true, false, cond, List, [], ◌∷◌, ◌++◌, length, map, get_or, slice_get, vec_len, vec_capacity, Vec, Option, Some, None, refl, sym, ap, ◌∙◌, subst, arith, length-append}
+use Rattle.std.proofs.Common.{◌≡◌, ◌≢◌, ℕ, zero, suc, ◌+◌, ◌-◌, ◌<◌, ◌≤◌, Bool, true, false, cond, List, [], ◌∷◌, ◌++◌, length, map, take, get_or, slice_get, vec_len, vec_capacity, Vec, Option, Some, None, refl, sym, ap, ◌∙◌, subst, arith, length-append}
 use Rattle.std.proofs.Math.ListN.{set}
 use Rattle.std.specs.declared.alloc.Global.{Global}
 use Rattle.std.proofs.lemmas.List.{length-set}
@@ -17,7 +17,8 @@ use Rattle.word_rule.specs.Shown.{Parts, Shows, Runs, HasRoom, IsRoomy, opened_b
 use Rattle.word_rule.specs.Sound.{Opened}
 use Rattle.word_rule.specs.SoundWorld.{IsTodo}
 use Rattle.word_rule.specs.Turns.{turn, ends_hold}
-use Rattle.word_rule.specs.World.{World, entry_of, outcome, step}
+use Rattle.word_rule.specs.World.{World, entry_of, outcome, step, run}
+use Rattle.word_rule.proofs.Openings.{take_more}
 use Rattle.word_rule.proofs.MachineSteps.{Counts, kept_parts, the_cell, able, stepped}
 use Rattle.word_rule.proofs.Slices.{get_set_same, get_set_other, read_get, some_at, one_of}
 use Rattle.word_rule.proofs.SoundSteps.{sound_step}
@@ -102,3 +103,17 @@ module _ {O P C R : Type 0} (meaning : Ghosts O P C R) (cells : List (CellSpec O
       shows = stepped meaning cells locks scripts done i lt p p_is script script_is todo todo_at below spec spec_is lock lock_is r.world r.shows s lock' spec' p' s_is turned k;
       sound = sound_step meaning r.world i r.sound;
     }
+
+module _ {O P C R : Type 0} (meaning : Ghosts O P C R) where
+  same_or : (xs : List ℕ) (k : ℕ) → k < length xs → get_or xs k 0 ≡ get_or xs k (get_or xs k 0)
+  same_or [] k lt = absurd (omega (arith, lt))
+  same_or (x ∷ xs) zero lt = refl
+  same_or (x ∷ xs) (suc k) lt = same_or xs k (omega (arith, lt))
+
+  run_more : (is : List ℕ) (i : ℕ) (w : World O P C R) → run meaning (is ++ i ∷ []) w ≡ (step meaning (run meaning is w) i).0
+  run_more [] i w = refl
+  run_more (j ∷ is) i w = run_more is i (step meaning w j).0
+
+  -- one step more of a schedule
+  pub run_take : (schedule : List ℕ) (k : ℕ) (w : World O P C R) → k < length schedule → run meaning (take (k + 1) schedule) w ≡ (step meaning (run meaning (take k schedule) w) (get_or schedule k 0)).0
+  run_take schedule k w lt = ap (λ l. run meaning l w) (take_more schedule k (get_or schedule k 0) lt (same_or schedule k lt)) ∙ run_more (take k schedule) (get_or schedule k 0) w

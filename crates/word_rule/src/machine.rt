@@ -27,7 +27,7 @@ use crate::machine::recorded::{all_logs, all_transcripts};
 use crate::machine::room::{Room, make_room};
 pub use cell_spec::CellSpec;
 use event_log::{Entry, Event, OutOfMemory, Run, SeqObject, Series, Todo};
-pub use law::first_come;
+pub use law::{first_come, one_holder, sound_runs};
 use std::alloc::Global;
 use std::marker::Model;
 pub use step_done::StepDone;

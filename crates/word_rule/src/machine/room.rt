@@ -69,8 +69,12 @@ pub fn make_room<O: SeqObject>(
 {
     let locks = make_locks(alloc, cells, scripts.len())?;
     let done = make_done(alloc, scripts)?;
-    let logs = Vec::with_capacity(alloc, cells.len()).map_err(|_| OutOfMemory)?;
-    let transcripts = Vec::with_capacity(alloc, scripts.len()).map_err(|_| OutOfMemory)?;
+    let Ok(logs) = Vec::with_capacity(alloc, cells.len()) else {
+        return Err(OutOfMemory);
+    };
+    let Ok(transcripts) = Vec::with_capacity(alloc, scripts.len()) else {
+        return Err(OutOfMemory);
+    };
     Ok(Room {
         locks,
         done,
