@@ -1,0 +1,2 @@
+pub mod McsRule
+pub mod McsActing
