@@ -1,5 +1,5 @@
 -- What each step of the code asks of an MCS lock's rule, and what it leaves with a caller.
-use Rattle.std.proofs.Common.{◌≡◌, ◌≢◌, ℕ, ◌+◌, ◌<◌, ◌==◌, true, false, true≢false, List, [], ◌∷◌, refl, sym, ap, ◌∙◌, subst, arith, Option, Some, None}
+use Rattle.std.proofs.Common.{◌≡◌, ◌≢◌, ℕ, ◌+◌, ◌<◌, ◌==◌, true, false, true≢false, List, [], ◌∷◌, refl, sym, ap, ◌∙◌, subst, arith, Option, Some, None, IsSome, rules}
 use mathlib.Core.Option.{none}
 use prog.Atomic.{either}
 use Rattle.atomic_table.specs.Table.{step, rest, Allows}
@@ -78,6 +78,9 @@ module _ {O P C R : Type 0} where
   pub not_else : (h : Cell O P C R) (m : Seat O P C R) (j : ℕ) → m.0.told ≡ h ∷ [] → IsElse m.0 j → OwnsAll (caller_of h m.0) → ⊥
   not_else h m j told other all = true≢false (sym (all.each j (other.inside h told)) ∙ other.other)
 
+  pub else_below : (h : Cell O P C R) (n j : ℕ) (m : Seat O P C R) → h.numbers ≡ n → m.0.told ≡ h ∷ [] → IsElse m.0 j → j < n
+  else_below h n j m is told other = let below = other.inside h told in omega arith
+
   pub else_now : (q : Place) (m m' : Seat O P C R) (j : ℕ) → m' ≡ (placed m.0 q, m.1) → IsElse m.0 j → IsElse m'.0 j
   else_now q m m' j e other = subst (λ (z : Seat O P C R). IsElse z.0 j) (sym e) record { other = other.other; inside = other.inside }
 
@@ -89,6 +92,17 @@ module _ {O P C R : Type 0} where
       (t.seat ∙ ap (λ (z : ℕ). (placed m.0 (at z), m.1)) same, subst (IsElse m.0) same t.other)
 
 module _ {O P C R : Type 0} (meaning : Ghosts O P C R) where
+  abbrev slot_of : List (ℕ × Option (History O P C R)) → Option (History O P C R)
+  slot_of [] = None
+  slot_of (s ∷ others) = s.1
+
+  -- a caller acts as a number of the cell
+  pub below_without : (h : Cell O P C R) (n cpu : ℕ) (p : Place) (m : Seat O P C R) → h.numbers ≡ n → IsWithout meaning h cpu p m → cpu < n
+  below_without h n cpu p m is w = let below = w.part.caller.below m.0.main.cpu w.part.caller.acts in let number = w.at.number in omega arith
+
+  pub below_with : (h : Cell O P C R) (n cpu : ℕ) (p : Place) (x : History O P C R) (m : Seat O P C R) → h.numbers ≡ n → IsWith meaning h cpu p x m → cpu < n
+  below_with h n cpu p x m is w = let below = w.held.caller.below m.0.main.cpu w.held.caller.acts in let number = w.at.number in omega arith
+
   -- a holder stands elsewhere
   pub goes_with : (h : Cell O P C R) (cpu : ℕ) (p q : Place) (x : History O P C R) (m m' : Seat O P C R) → IsWith meaning h cpu p x m → m' ≡ (placed m.0 q, m.1) → IsWith meaning h cpu q x m'
   goes_with h cpu p q x m m' w e = subst (IsWith meaning h cpu q x) (sym e) record {
@@ -106,6 +120,12 @@ module _ {O P C R : Type 0} (meaning : Ghosts O P C R) where
     lawful = lawful;
     has = refl;
   }
+
+  -- the object was put into the slot, and the step left it there
+  pub still_there : (q : Place) (m m1 m2 : Seat O P C R) (x : History O P C R) (r : Option (History O P C R)) → m1 ≡ (m.0, (0, Some x) ∷ rest m.1) → m2 ≡ (placed m1.0 q, m1.1) → m2.1 ≡ (0, r) ∷ rest m2.1 → IsSome r
+  still_there q m m1 m2 x r filled went slot =
+      let is : r ≡ Some x = ap slot_of (sym slot ∙ (ap (λ (z : Seat O P C R). z.1) went ∙ ap (λ (z : Seat O P C R). z.1) filled)) in
+      subst IsSome (sym is) (search rules)
 
   -- the object was put into the slot, the step left it there, and it was taken out again
   pub came_back : (q : Place) (m m1 m2 m3 : Seat O P C R) (x y : History O P C R) (r : Option (History O P C R)) → m.1 ≡ (0, None) ∷ [] → m1 ≡ (m.0, (0, Some x) ∷ rest m.1) → m2 ≡ (placed m1.0 q, m1.1)

@@ -60,6 +60,9 @@ module _ {O P C R : Type 0} {g : Ghosts O P C R} {call_eq : Eq C} {call_default 
   abbrev pub pass_part : Pass O P C R g call_eq call_default reply_eq reply_default → Part O P C R
   pass_part p = part_of p.key.value p.seat.me.0
 
+  abbrev pub behind_part : BehindCaller O P C R g call_eq call_default reply_eq reply_default → Part O P C R
+  behind_part b = part_of b.key.value b.seat.me.0
+
   abbrev pub waiting_part : WaitingCaller O P C R g call_eq call_default reply_eq reply_default → Part O P C R
   waiting_part w = part_of w.key.value w.seat.me.0
 

@@ -1,6 +1,6 @@
 //! The cell of an MCS lock.
 
-ghost use Rattle.std.specs.Prelude.{◌≡◌, ◌+◌, ◌*◌};
+ghost use Rattle.std.specs.Prelude.{◌≡◌, ◌≤◌, ◌+◌, ◌*◌};
 
 use crate::rule::Mcs;
 use atomic_table::Table;
@@ -13,5 +13,6 @@ use word_rule::{Key, View};
 pub struct McsCell<O: SeqObject> {
     pub(crate) table: Table<Option<Logged<O>>, View<Key<O>, Event<O>>, Key<O>, Mcs<O>, Global>,
     pub(crate) cpus: u8,
+    ghost few: { cpus ≤ 8 },
     ghost sized: { (table.shared.table_id.words ≡ 1 + 2 * cpus) × (table.shared.table_id.slots ≡ 1) × (table.shared.key.numbers ≡ cpus) },
 }

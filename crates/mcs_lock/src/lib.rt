@@ -10,9 +10,13 @@
 #![tactic(auto)]
 
 mod cell;
+mod lock;
+mod make;
+mod meet;
 mod rule;
 mod states;
 mod steps;
+mod whole;
 
 pub use cell::McsCell;
 pub use states::{Alone, Armed, Behind, Entered, Hold, Leaving, Pass, Passing, Ready, Waiting};
