@@ -4,17 +4,18 @@ use mathlib.Core.Option.{none}
 use prog.Atomic.{either}
 use Rattle.atomic_table.specs.Table.{step, rest, Allows}
 use Rattle.event_log.specs.declared.object.SeqObject.{Ghosts}
+use Rattle.event_log.specs.declared.event.Event.{Event}
 use Rattle.event_log.specs.Distinct.{has}
 use Rattle.event_log.specs.History.{History}
 use Rattle.word_rule.specs.declared.place.Place.{Place}
 use Rattle.word_rule.specs.declared.place.Place.TheVariants.{Idle, Ready, Behind, Armed, Waiting, Holding, Alone, Leaving, Passing}
-use Rattle.word_rule.specs.Cell.{Cell, Lawful, OwnsAll}
-use Rattle.word_rule.specs.Standing.{Moves}
+use Rattle.word_rule.specs.Cell.{Cell, Grows, Lawful, OwnsAll}
+use Rattle.word_rule.specs.Standing.{Standing, Moves}
 use Rattle.word_rule.specs.Board.{Caller}
-use Rattle.word_rule.specs.Seats.{Seat, placed}
+use Rattle.word_rule.specs.Seats.{Seat, at, placed, taken_in, keeping, letting}
 use Rattle.word_rule.specs.Told.{IsElse}
-use Rattle.word_rule.specs.Callers.{AddedBy, caller_of, standing_with, IsWithout, IsWith}
-use Rattle.word_rule.proofs.Lists.{grows_self}
+use Rattle.word_rule.specs.Callers.{caller_of, held_of, standing_with, IsWithout, IsWith}
+use Rattle.word_rule.proofs.Lists.{grows_self, grows_then}
 use Rattle.word_rule.proofs.Known.{AllIdle, idle_alone}
 use Rattle.word_rule.proofs.Acting.{value_of}
 use Rattle.mcs_lock.specs.Steps.{goes, arms, Names, enters, looks, sees, sees_again, empties, passes}
@@ -83,6 +84,33 @@ module _ {O P C R : Type 0} where
 
   pub else_now : (q : Place) (m m' : Seat O P C R) (j : ℕ) → m' ≡ (placed m.0 q, m.1) → IsElse m.0 j → IsElse m'.0 j
   else_now q m m' j e other = subst (λ (z : Seat O P C R). IsElse z.0 j) (sym e) record { other = other.other; inside = other.inside }
+
+  -- a joined seat has the first caller of the first
+  pub else_of : (m w m1 : Seat O P C R) (j : ℕ) → m1 ≡ (taken_in m.0 w.0, m.1) → IsElse m1.0 j → IsElse m.0 j
+  else_of m w m1 j e other = let both = subst (λ (z : Seat O P C R). IsElse z.0 j) e other in record { other = both.other; inside = both.inside }
+
+  -- two seats, joined, where the first caller moved, and split again
+  pub first_moved : (q : Place) (m w m1 m2 m' : Seat O P C R) → m.0.others ≡ [] → m1 ≡ (taken_in m.0 w.0, m.1) → m2 ≡ (placed m1.0 q, m1.1) → m' ≡ (keeping m2.0, m2.1) → m' ≡ (placed m.0 q, m.1)
+  first_moved q m w m1 m2 m' alone e e' f =
+      let both : m2 ≡ (placed (taken_in m.0 w.0) q, m.1) = e' ∙ (λ i. (placed (e i).0 q, (e i).1)) in
+      f ∙ ((λ i. (keeping (both i).0, (both i).1)) ∙ (λ i. (record { told = m.0.told; main = at q m.0.main; others = sym alone i }, m.1)))
+
+  pub second_same : (q : Place) (m w m1 m2 w' : Seat O P C R) → w.0.others ≡ [] → w.1 ≡ [] → w.0.told ≡ m.0.told → m1 ≡ (taken_in m.0 w.0, m.1) → m2 ≡ (placed m1.0 q, m1.1) → w' ≡ (letting m2.0, []) → w' ≡ w
+  second_same q m w m1 m2 w' alone empty told e e' f =
+      let both : m2 ≡ (placed (taken_in m.0 w.0) q, m.1) = e' ∙ (λ i. (placed (e i).0 q, (e i).1)) in
+      f ∙ ((λ i. (letting (both i).0, [])) ∙ (λ i. (record { told = sym told i; main = w.0.main; others = sym alone i }, sym empty i)))
+
+  abbrev history_in : History O P C R → Option (History O P C R) → History O P C R
+  history_in d None = d
+  history_in d (Some x) = x
+
+  -- a holder that moves has the same numbers and the same object
+  pub same_held : (meaning : Ghosts O P C R) (h k : Cell O P C R) (p q s t : Place) (x y : History O P C R) (m m' : Seat O P C R) → Moves meaning p q (standing_with h s x m) (standing_with k t y m') → held_of k y m'.0 ≡ held_of h x m.0
+  same_held meaning h k p q s t x y m m' moved = λ i. record { caller = moved.caller i; history = history_in x (moved.has i) }
+
+  -- what a caller has seen grows step by step
+  pub grows_on : (before after : Standing O P C R) (log : List (Event O P C R)) → after.caller ≡ before.caller → Grows before.caller.owned before.seen after.seen → Grows after.caller.owned after.seen log → Grows before.caller.owned before.seen log
+  grows_on before after log same one two = grows_then before.caller.owned before.seen after.seen log one (subst (λ k. Grows k.owned after.seen log) same two)
 
   -- the CPU that a word named, by the number that the code has
   pub named : (at : ℕ → Place) (n k : ℕ) (m m' : Seat O P C R) → Names at m n m' → n ≡ k + 1 → (m' ≡ (placed m.0 (at k), m.1)) × IsElse m.0 k
