@@ -16,6 +16,8 @@ mod meet;
 mod rule;
 mod states;
 mod steps;
+#[cfg(test)]
+mod tests;
 mod whole;
 
 pub use cell::McsCell;
