@@ -140,12 +140,15 @@ fn seen(cell: &McsCell<ThreadQueue>, behind: Behind<ThreadQueue>) -> Waiting<Thr
 
 /// Puts the thread into the queue.
 fn enq(
+    cell: &McsCell<ThreadQueue>,
     hold: Hold<ThreadQueue>,
     thread: u32,
 ) -> (Hold<ThreadQueue>, Result<Steps<ThreadQueue>, NoRoom>)
-    ensures hold { (cell : McsCell ThreadQueue) → IsHoldOf cell hold → IsHoldOf cell result.0 }
+    requires { IsHoldOf cell.now hold }
+    ensures hold { IsHoldOf cell.now result.0 }
     ensures caller { (hold_held result.0).caller ≡ (hold_held hold).caller }
 {
+    let _ = cell;
     let mut hold = hold;
     let done = McsCell::apply(&mut hold, &[Call::Enq(thread)]);
     (hold, done)
@@ -272,12 +275,12 @@ fn a_late_follower_gets_the_object(rt: HostRuntime) -> Result<(), Fail> {
     let (cell, zero, one) = cell_of_two(rt.alloc())?;
     let hold = first(&rt, &cell, zero);
     let behind = second(&rt, &cell, one);
-    let (hold, done) = enq(hold, 3);
+    let (hold, done) = enq(&cell, hold, 3);
     let leaving = stays(&rt, &cell, hold);
     let waiting = seen(&cell, behind);
     let zero = passes(&rt, &cell, leaving);
     let hold = gets(&rt, &cell, waiting);
-    let (hold, next) = enq(hold, 4);
+    let (hold, next) = enq(&cell, hold, 4);
     let one = ends(&rt, &cell, hold);
     let queue = ended(cell, zero, one);
     assert!(rt; in_turn(&queue, done, next));
@@ -289,13 +292,13 @@ fn the_last_see_and_the_last_look(rt: HostRuntime) -> Result<(), Fail> {
     let (cell, zero, one) = cell_of_two(rt.alloc())?;
     let hold = first(&rt, &cell, zero);
     let behind = second(&rt, &cell, one);
-    let (hold, done) = enq(hold, 3);
+    let (hold, done) = enq(&cell, hold, 3);
     let leaving = stays(&rt, &cell, hold);
     let waiting = seen(&cell, behind);
     let (passing, waiting) = cell.last_see(leaving, waiting);
     let zero = cell.pass_on(passing);
     let (hold, zero) = cell.last_look(waiting, zero);
-    let (hold, next) = enq(hold, 4);
+    let (hold, next) = enq(&cell, hold, 4);
     let one = ends(&rt, &cell, hold);
     let queue = ended(cell, zero, one);
     assert!(rt; in_turn(&queue, done, next));
