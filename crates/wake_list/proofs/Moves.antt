@@ -33,17 +33,14 @@ between a b m =
 pub put_in : (r : List ℕ) (ls : List (List ℕ)) (c : ℕ) (m : List ℕ) → c < length ls → IsPermutation ((r ++ concat ls) ++ m) (r ++ concat (set ls c (get_or ls c [] ++ m)))
 put_in r ls c m lt =
     let x = get_or ls c [] in
-    let left : (r ++ (before ls c ++ x)) ++ behind ls c ≡ r ++ concat ls
-    = append_assoc r (before ls c ++ x) (behind ls c) ∙ ap (λ l. r ++ l) (append_assoc (before ls c) x (behind ls c) ∙ sym (concat_at ls c lt)) in
-    let right : ((r ++ (before ls c ++ x)) ++ m) ++ behind ls c ≡ r ++ concat (set ls c (x ++ m))
-    = ap (λ l. l ++ behind ls c) (append_assoc r (before ls c ++ x) m ∙ ap (λ l. r ++ l) (append_assoc (before ls c) x m)) ∙ (append_assoc r (before ls c ++ (x ++ m)) (behind ls c) ∙ ap (λ l. r ++ l) (append_assoc (before ls c) (x ++ m) (behind ls c) ∙ sym (concat_set ls c (x ++ m) lt))) in
+    let left : (r ++ (before ls c ++ x)) ++ behind ls c ≡ r ++ concat ls = rw (concat_at ls c lt) (simp append_assoc) in
+    let right : ((r ++ (before ls c ++ x)) ++ m) ++ behind ls c ≡ r ++ concat (set ls c (x ++ m)) = rw (concat_set ls c (x ++ m) lt) (simp append_assoc) in
     subst (λ l. IsPermutation (l ++ m) (r ++ concat (set ls c (x ++ m)))) left (subst (λ l. IsPermutation (((r ++ (before ls c ++ x)) ++ behind ls c) ++ m) l) right (between (r ++ (before ls c ++ x)) (behind ls c) m))
 
 -- the beginning of one of the lists goes to the end of r
 pub taken_out : (r : List ℕ) (ls : List (List ℕ)) (c : ℕ) (m rest : List ℕ) → c < length ls → get_or ls c [] ≡ m ++ rest → IsPermutation (r ++ concat ls) ((r ++ m) ++ concat (set ls c rest))
 taken_out r ls c m rest lt e =
-    let left : ((r ++ before ls c) ++ m) ++ (rest ++ behind ls c) ≡ r ++ concat ls
-    = append_assoc (r ++ before ls c) m (rest ++ behind ls c) ∙ (append_assoc r (before ls c) (m ++ (rest ++ behind ls c)) ∙ ap (λ l. r ++ l) (ap (λ l. before ls c ++ l) (sym (append_assoc m rest (behind ls c)) ∙ ap (λ l. l ++ behind ls c) (sym e)) ∙ sym (concat_at ls c lt))) in
-    let right : ((r ++ m) ++ before ls c) ++ (rest ++ behind ls c) ≡ (r ++ m) ++ concat (set ls c rest)
-    = append_assoc (r ++ m) (before ls c) (rest ++ behind ls c) ∙ ap (λ l. (r ++ m) ++ l) (sym (concat_set ls c rest lt)) in
-    subst (λ l. IsPermutation l ((r ++ m) ++ concat (set ls c rest))) left (subst (λ l. IsPermutation (((r ++ before ls c) ++ m) ++ (rest ++ behind ls c)) l) right (IsPermutation-append_left (rest ++ behind ls c) ((r ++ before ls c) ++ m) ((r ++ m) ++ before ls c) (between r (before ls c) m)))
+    let after = rest ++ behind ls c in
+    let left : ((r ++ before ls c) ++ m) ++ after ≡ r ++ concat ls = rw (concat_at ls c lt) (rw e (simp append_assoc)) in
+    let right : ((r ++ m) ++ before ls c) ++ after ≡ (r ++ m) ++ concat (set ls c rest) = rw (concat_set ls c rest lt) (simp append_assoc) in
+    subst (λ l. IsPermutation l ((r ++ m) ++ concat (set ls c rest))) left (subst (λ l. IsPermutation (((r ++ before ls c) ++ m) ++ after) l) right (IsPermutation-append_left after ((r ++ before ls c) ++ m) ((r ++ m) ++ before ls c) (between r (before ls c) m)))

@@ -28,14 +28,15 @@ pub has_concat : (t : ℕ) (vs : List (Vec ℕ Global)) → list_any (λ v. has 
 has_concat t [] = refl
 has_concat t (v ∷ vs) = ap (λ b. has t v.items || b) (has_concat t vs) ∙ sym (list_any-append (λ y. y == t) v.items (concat (lists_of vs)))
 
--- all together are as many as r and the lists
+-- r and one of the lists are no longer than all together
 all_length : (r : List ℕ) (ls : List (List ℕ)) (c : ℕ) → c < length ls → length r + length (get_or ls c []) ≤ length (r ++ concat ls)
 all_length r ls c lt = omega (arith, length-append r (concat ls), length_at ls c lt)
 
--- r and one list hold fewer than all together may
+-- where all together are distinct numbers below n, r and one of the lists hold at most n
 pub fits_with : (n : ℕ) (r : List ℕ) (ls : List (List ℕ)) (c : ℕ) → c < length ls → AreDistinctBelow n (r ++ concat ls) → length r + length (get_or ls c []) ≤ n
 fits_with n r ls c lt q = omega (arith, all_length r ls c lt, distinct_length n (r ++ concat ls) q)
 
+-- where all together are fewer than n, so is one of the lists
 pub fits_one_more : (n : ℕ) (r : List ℕ) (ls : List (List ℕ)) (c : ℕ) → c < length ls → length (r ++ concat ls) < n → length (get_or ls c []) < n
 fits_one_more n r ls c lt few = omega (arith, all_length r ls c lt, few)
 

@@ -25,8 +25,8 @@ pub struct SchedParams {
     pub channels: u32,
 }
 
-/// The ready list and the channels of the threads 0 to `threads - 1`; each thread stands at most once in all of them.
-/// Each list has its room for all threads when the scheduler is opened.
+/// A ready list and channels for the threads 0 to `threads - 1`; each thread stands at most once in all of them. Each
+/// list's room, for all threads, is taken when the scheduler is opened.
 #[derive(Drop)]
 pub struct Sched {
     threads: u32,
@@ -49,7 +49,7 @@ impl Model for Sched {
 }
 
 impl Sched {
-    /// A scheduler without threads, with all its room.
+    /// A scheduler that holds no thread, with all its room.
     fn empty(alloc: Global, params: SchedParams) -> Result<Sched, AllocError>
         requires { params.threads ≤ 1024 }
         ensures { IfOk result (λ s. s ≡ empty_sched params.threads params.channels) }
@@ -63,6 +63,7 @@ impl Sched {
         })
     }
 
+    /// Whether the thread is ready or sleeps in a channel.
     fn holds(&self, thread: u32) -> bool
         ensures { result ≡ has thread (held self.now) }
     {

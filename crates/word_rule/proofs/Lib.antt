@@ -18,3 +18,10 @@ pub mod TicketTurns
 pub mod McsTurns
 pub mod TurnsKeep
 pub mod Arrivals
+pub mod ShownTurns
+pub mod Outcomes
+pub mod MachineSteps
+pub mod MachineKeeps
+pub mod WordLists
+pub mod SoundRuns
+pub mod Openings

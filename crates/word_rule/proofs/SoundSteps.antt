@@ -192,7 +192,7 @@ module _ {O P C R : Type 0} (meaning : Ghosts O P C R) where
         }
 
     -- what becomes of the entry, by whether there is room
-    ended : Turned (length w.cells) todo.object i c (record { opened = c.opened; lock = lock; log = with_done i c.log (outcome meaning c todo.calls.items) }) cpu (finished cpu todo (outcome meaning c todo.calls.items))
+    ended : Turned (length w.cells) todo.object i c (record { opened = c.opened; lock = lock; log = with_done i c.log (outcome meaning c.opened c.log todo.calls.items) }) cpu (finished cpu todo (outcome meaning c.opened c.log todo.calls.items))
     ended = by (length c.log == c.opened.limit) refl
       where
         by : (b : Bool) → (length c.log == c.opened.limit) ≡ b
@@ -204,8 +204,8 @@ module _ {O P C R : Type 0} (meaning : Ghosts O P C R) where
     world_turned s = by (ends_hold s) refl
       where
         by : (b : Bool) → ends_hold s ≡ b → SoundWorld meaning (record {
-          cells = set w.cells todo.object (record { opened = c.opened; lock = lock; log = cond b (with_done i c.log (outcome meaning c todo.calls.items)) c.log });
-          cpus = set w.cpus i (cond b (finished cpu todo (outcome meaning c todo.calls.items)) (record { todo = cpu.todo; transcript = cpu.transcript; looks = counted cpu.looks s }));
+          cells = set w.cells todo.object (record { opened = c.opened; lock = lock; log = cond b (with_done i c.log (outcome meaning c.opened c.log todo.calls.items)) c.log });
+          cpus = set w.cpus i (cond b (finished cpu todo (outcome meaning c.opened c.log todo.calls.items)) (record { todo = cpu.todo; transcript = cpu.transcript; looks = counted cpu.looks s }));
         })
         by true e = turned w h todo.object i c _ cpu _ cell_is cpu_is ended
         by false e = turned w h todo.object i c _ cpu _ cell_is cpu_is (going_on (counted cpu.looks s))

@@ -7,10 +7,10 @@ use Rattle.event_log.specs.Distinct.{has, AreDistinctBelow}
 use Rattle.word_rule.specs.declared.place.Place.{Place}
 use Rattle.word_rule.specs.declared.place.Place.TheVariants.{Idle, Drawn, Served}
 use Rattle.word_rule.specs.Line.{Line, lined, holding, is_first}
-use Rattle.word_rule.specs.Locks.{Lock, behind, taking, leaving}
+use Rattle.word_rule.specs.Locks.{Lock, behind, taking, leaving, tickets}
 use Rattle.word_rule.specs.LockWords.{TiedTicket}
 use Rattle.word_rule.specs.Tickets.{Lined, Waits, IsFirst}
-use Rattle.word_rule.specs.Turns.{tickets, draw, serve}
+use Rattle.word_rule.specs.Turns.{draw, serve}
 use Rattle.word_rule.proofs.Lists.{first_is, one_place}
 use Rattle.word_rule.proofs.TicketLines.{at_serving, drawn, waits, served_now, first_served, looked, served, first_holds}
 

@@ -9,9 +9,9 @@ use Rattle.word_rule.specs.declared.machine.step_done.StepDone.TheVariants as st
 use Rattle.word_rule.specs.declared.place.Place.{Place}
 use Rattle.word_rule.specs.declared.place.Place.TheVariants.{Idle, Drawn, Served, Ready, Behind, Armed, Waiting, Holding, Alone, Leaving, Passing, Torn}
 use Rattle.word_rule.specs.Line.{Line, lined, holding, is_first}
-use Rattle.word_rule.specs.Locks.{Lock, last, behind, is_named, follower, going, joining, taking, leaving}
+use Rattle.word_rule.specs.Locks.{Lock, last, behind, is_named, follower, going, joining, taking, leaving, tickets}
 use Rattle.word_rule.specs.LockWords.{TiedTicket, TiedMcs, TiedOf, word_of}
-use Rattle.word_rule.specs.Turns.{tickets, look, see, enter, empty, ticket_turn, mcs_turn, turn_of, turn}
+use Rattle.word_rule.specs.Turns.{look, see, enter, empty, ticket_turn, mcs_turn, turn_of, turn}
 use Rattle.word_rule.proofs.Orders.{LineAfter, Keeps}
 use Rattle.word_rule.proofs.TicketTurns.{draws, takes, holder_first, serves}
 use Rattle.word_rule.proofs.McsTurns as mcs

@@ -5,10 +5,9 @@ use Rattle.word_rule.specs.declared.lock_kind.LockKind.{LockKind}
 use Rattle.word_rule.specs.declared.lock_kind.LockKind.TheVariants as kinds
 use Rattle.word_rule.specs.declared.place.Place.{Place}
 use Rattle.word_rule.specs.declared.place.Place.TheVariants.{Idle}
-use Rattle.word_rule.specs.Locks.{Lock, last}
+use Rattle.word_rule.specs.Locks.{Lock, last, tickets}
 use Rattle.word_rule.specs.Queues.{Queued, next_word, locked_at}
 use Rattle.word_rule.specs.Tickets.{Lined}
-use Rattle.word_rule.specs.Turns.{tickets}
 
 -- 0 for nobody, and j + 1 for the CPU j
 abbrev pub word_of : Option ℕ → ℕ

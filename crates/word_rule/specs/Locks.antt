@@ -1,5 +1,5 @@
 -- A lock of either kind, apart from its words, and what its line does.
-use Rattle.std.specs.Prelude.{ℕ, ◌+◌, Bool, true, false, ◌==◌, cond, List, [], ◌∷◌, ◌++◌, Option, Some, None}
+use Rattle.std.specs.Prelude.{ℕ, ◌+◌, ◌%◌, ◌^◌, Bool, true, false, ◌==◌, cond, List, [], ◌∷◌, ◌++◌, Option, Some, None}
 use Rattle.word_rule.specs.declared.lock_kind.LockKind.{LockKind}
 use Rattle.word_rule.specs.declared.place.Place.{Place}
 use Rattle.word_rule.specs.declared.place.Place.TheVariants.{Idle}
@@ -13,9 +13,13 @@ pub record Lock : Type 0 where
   pub serving : ℕ
   pub next : ℕ → Option ℕ
 
+-- how many tickets there are
+abbrev pub tickets : ℕ
+tickets = 2 ^ 64
+
 -- a lock before the first step
 abbrev pub opening_lock : LockKind → ℕ → Lock
-opening_lock kind first = record { kind = kind; line = empty_line; serving = first; next = λ _. None }
+opening_lock kind first = record { kind = kind; line = empty_line; serving = first % tickets; next = λ _. None }
 
 -- the last of k ∷ ks
 abbrev pub last_from : ℕ → List ℕ → ℕ

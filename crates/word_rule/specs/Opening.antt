@@ -1,10 +1,13 @@
 -- A world before its first step.
-use Rattle.std.specs.Prelude.{◌≡◌, ℕ, ◌<◌, List, [], map, length, Some, slice_get}
+use Rattle.std.specs.Prelude.{◌≡◌, ℕ, ◌<◌, List, [], map, length, Some, slice_get, Vec}
+use Rattle.std.specs.List.{AllByRecursion}
+use Rattle.std.specs.declared.alloc.Global.{Global}
 use Rattle.event_log.specs.declared.entry.Todo.{Todo}
 use Rattle.event_log.specs.History.{History}
 use Rattle.word_rule.specs.declared.lock_kind.LockKind.{LockKind}
-use Rattle.word_rule.specs.Locks.{Lock, opening_lock}
-use Rattle.word_rule.specs.Turns.{tickets}
+use Rattle.word_rule.specs.Locks.{Lock, opening_lock, tickets}
+use Rattle.word_rule.specs.declared.machine.cell_spec.CellSpec.{CellSpec}
+use Rattle.word_rule.specs.SoundWorld.{IsTodo}
 use Rattle.word_rule.specs.World.{World, CellState, CpuState}
 
 module _ {O P C R : Type 0} where
@@ -16,14 +19,19 @@ module _ {O P C R : Type 0} where
   abbrev pub opening_cpu : List (Todo O P C R) → CpuState O P C R
   opening_cpu script = record { todo = script; transcript = []; looks = 0 }
 
-  -- the lock is free, with a ticket that fits, and the log empty
+  -- the world that is made of these cells and scripts
+  abbrev pub opening_world : List (CellSpec O P C R) → List (Vec (Todo O P C R) Global) → World O P C R
+  opening_world cells scripts = record { cells = map (λ c. opening_cell c.kind c.first c.logged) cells; cpus = map (λ s. opening_cpu s.items) scripts }
+
+  -- the lock is free, and the log is empty
   pub record IsOpeningCell (c : CellState O P C R) : Type 0 where
-    pub free : c.lock ≡ opening_lock c.lock.kind c.lock.serving
-    pub fits : c.lock.serving < tickets
+    pub first : ℕ
+    pub free : c.lock ≡ opening_lock c.lock.kind first
     pub empty : c.log ≡ []
 
-  -- each CPU is idle with an empty transcript, each lock is free and its log empty
+  -- each lock is free and each log empty, and each CPU is idle, with an empty transcript and entries that can be done
   pub record IsOpening (w : World O P C R) : Type 0 where
     pub few : length w.cpus < tickets
     pub cells : (x : ℕ) (c : CellState O P C R) → slice_get w.cells x ≡ Some c → IsOpeningCell c
     pub cpus : (i : ℕ) (cpu : CpuState O P C R) → slice_get w.cpus i ≡ Some cpu → cpu ≡ opening_cpu cpu.todo
+    pub able : (i : ℕ) (cpu : CpuState O P C R) → slice_get w.cpus i ≡ Some cpu → AllByRecursion (λ t. IsTodo (length w.cells) t) cpu.todo

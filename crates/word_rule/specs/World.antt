@@ -53,6 +53,10 @@ module _ {O P C R : Type 0} where
   abbrev pub finished : CpuState O P C R → Todo O P C R → Done O P C R → CpuState O P C R
   finished c todo d = record { todo = left c.todo; transcript = c.transcript ++ entry_of todo d c.looks ∷ []; looks = 0 }
 
+  -- the CPU after a step in that entry
+  abbrev pub cpu_after : CpuState O P C R → Todo O P C R → StepDone → Done O P C R → CpuState O P C R
+  cpu_after cpu todo s d = if ends_hold s then finished cpu todo d else record cpu { looks = counted cpu.looks s }
+
   -- the logs and transcripts of a world
   abbrev pub run_of : World O P C R → Run O P C R
   run_of w = record { logs = map (λ c. c.log) w.cells; transcripts = map (λ c. c.transcript) w.cpus }
@@ -63,22 +67,18 @@ module _ {O P C R : Type 0} where
 
 module _ {O P C R : Type 0} (meaning : Ghosts O P C R) where
   -- what becomes of calls at the end of a hold: one event from the replay of the log on, if there is room for it
-  abbrev pub outcome : CellState O P C R → List C → Done O P C R
-  outcome c asked = if length c.log == c.opened.limit then done.NoRoom else done.Steps record { list = record { items = answers meaning (replay meaning c.opened.params c.log) asked } }
+  abbrev pub outcome : Opened P → List (Event O P C R) → List C → Done O P C R
+  outcome opened log asked = if length log == opened.limit then done.NoRoom else done.Steps record { list = record { items = answers meaning (replay meaning opened.params log) asked } }
 
   -- the cell after a step of CPU i that does an entry there
   abbrev pub cell_after : CellState O P C R → ℕ → Todo O P C R → Lock × StepDone → CellState O P C R
-  cell_after c i todo t = record { opened = c.opened; lock = t.0; log = if ends_hold t.1 then with_done i c.log (outcome c todo.calls.items) else c.log }
-
-  -- the CPU after the step
-  abbrev pub cpu_after : CpuState O P C R → Todo O P C R → StepDone → Done O P C R → CpuState O P C R
-  cpu_after cpu todo s d = if ends_hold s then finished cpu todo d else record cpu { looks = counted cpu.looks s }
+  cell_after c i todo t = record { opened = c.opened; lock = t.0; log = if ends_hold t.1 then with_done i c.log (outcome c.opened c.log todo.calls.items) else c.log }
 
   -- the world after the step
   abbrev pub world_after : World O P C R → ℕ → CellState O P C R → CpuState O P C R → Todo O P C R → Lock × StepDone → World O P C R
   world_after w i c cpu todo t = record {
     cells = slice_set w.cells todo.object (cell_after c i todo t);
-    cpus = slice_set w.cpus i (cpu_after cpu todo t.1 (outcome c todo.calls.items));
+    cpus = slice_set w.cpus i (cpu_after cpu todo t.1 (outcome c.opened c.log todo.calls.items));
   }
 
   abbrev pub step_on : World O P C R → ℕ → CpuState O P C R → Todo O P C R → Option (CellState O P C R) → World O P C R × StepDone

@@ -12,7 +12,7 @@ mod view;
 pub use key::Key;
 pub use lock_cell::LockCell;
 pub use lock_kind::LockKind;
-pub use machine::{StepDone, first_come};
+pub use machine::{CellSpec, MOST_CELLS, Machine, StepDone, first_come, one_holder, sound_runs};
 pub use place::Place;
 pub use plays::{Beside, Clash, Meet, Merge, Seat, Tear};
 pub use view::{Seated, Trace, View};

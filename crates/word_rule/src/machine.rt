@@ -1,7 +1,155 @@
 //! The pure step machine: cells of either kind under any schedule, one atomic step at a time.
 
-mod law;
-mod step_done;
+ghost use Rattle.std.specs.Prelude.{◌≡◌, ◌<◌, ◌≤◌, [], All, length, map, vec_len, Some, slice_get, IfOk, IfErr};
+ghost use Rattle.std.specs.List.{AllByRecursion};
+ghost use Rattle.word_rule.specs.LockWords.{lock_words};
+ghost use Rattle.word_rule.specs.Opening.{opening_world, IsOpening};
+ghost use Rattle.word_rule.specs.Shown.{Shows, opened_by};
+ghost use Rattle.word_rule.specs.Sound.{Sound};
+ghost use Rattle.word_rule.specs.SoundWorld.{IsTodo};
+ghost use Rattle.word_rule.specs.World.{World, CellState, step, run, run_of};
 
-pub use law::first_come;
+mod cell_spec;
+mod hold;
+mod law;
+mod lock_words;
+mod mcs;
+mod progress;
+mod recorded;
+mod room;
+mod step_done;
+mod ticket;
+
+use crate::machine::hold::count_step;
+use crate::machine::lock_words::LockWords;
+use crate::machine::progress::Progress;
+use crate::machine::recorded::{all_logs, all_transcripts};
+use crate::machine::room::{Room, make_room};
+pub use cell_spec::CellSpec;
+use event_log::{Entry, Event, OutOfMemory, Run, SeqObject, Series, Todo};
+pub use law::{first_come, one_holder, sound_runs};
+use std::alloc::Global;
+use std::marker::Model;
 pub use step_done::StepDone;
+
+/// The most cells of one machine.
+pub const MOST_CELLS: u8 = 16;
+
+/// Cells of either kind, and CPUs that do the entries of their scripts on them, one atomic step at a time. All its memory
+/// is taken when it is made.
+#[derive(Drop)]
+pub struct Machine<O: SeqObject> {
+    cells: Vec<CellSpec<O>>,
+    locks: Vec<LockWords>,
+    scripts: Vec<Vec<Todo<O>>>,
+    done: Vec<Progress<O>>,
+    logs: Vec<Series<Event<O>>>,
+    transcripts: Vec<Series<Entry<O>>>,
+}
+
+impl<O: SeqObject> Model for Machine<O> {
+    ghost use Rattle.std.specs.Prelude.{◌≡◌, []};
+    ghost use Rattle.std.specs.Vec.{vec_capacity};
+    ghost use Rattle.word_rule.specs.Shown.{Parts, Runs, IsRoomy};
+
+    ghost Value = { Parts O O.Params O.Call O.Reply };
+
+    ghost view = { λ m. record { cells = m.cells.items; locks = m.locks.items; scripts = m.scripts.items; done = m.done.items } };
+
+    ghost invariant = { λ m. Runs O.SeqObject (record { cells = m.cells.items; locks = m.locks.items; scripts = m.scripts.items; done = m.done.items }) × IsRoomy (record { cells = m.cells.items; locks = m.locks.items; scripts = m.scripts.items; done = m.done.items }) (vec_capacity m.logs) (vec_capacity m.transcripts) × (m.logs.items ≡ []) × (m.transcripts.items ≡ []) };
+}
+
+impl<O: SeqObject> Machine<O> {
+    /// A machine of 1 to 16 cells with empty logs and of 1 to 8 CPUs, each with its script, before the first step. Each
+    /// entry has 1 to 8 calls on one of the cells. Where memory is refused both lists come back.
+    pub fn new(
+        alloc: Global,
+        cells: Vec<CellSpec<O>>,
+        scripts: Vec<Vec<Todo<O>>>,
+    ) -> Result<Machine<O>, (OutOfMemory, Vec<CellSpec<O>>, Vec<Vec<Todo<O>>>)>
+        requires cells { (0 < vec_len cells) × (vec_len cells ≤ 16) }
+        requires cpus { (0 < vec_len scripts) × (vec_len scripts ≤ 8) }
+        requires empty { AllByRecursion (λ c. c.logged.log ≡ []) cells.items }
+        requires able { AllByRecursion (λ s. AllByRecursion (λ t. IsTodo (vec_len cells) t) s.items) scripts.items }
+        ensures shows { IfOk result (λ m. Shows O.SeqObject m (opening_world cells.items scripts.items)) }
+        ensures opening { IsOpening (opening_world cells.items scripts.items) }
+        ensures back { IfErr result (λ e. (e.1 ≡ cells) × (e.2 ≡ scripts)) }
+    {
+        match make_room(alloc, cells.as_slice(), scripts.as_slice()) {
+            Ok(Room {
+                locks,
+                done,
+                logs,
+                transcripts,
+            }) => Ok(Machine {
+                cells,
+                locks,
+                scripts,
+                done,
+                logs,
+                transcripts,
+            }),
+            Err(OutOfMemory) => Err((OutOfMemory, cells, scripts)),
+        }
+    }
+
+    /// The next atomic step of a CPU. One whose script is done does an idle step, which changes nothing.
+    pub fn step(&mut self, cpu: u8) -> StepDone
+        requires { cpu < length self.old.scripts }
+        ensures done { (w : World O O.Params O.Call O.Reply) → Shows O.SeqObject self.old w → result ≡ (step O.SeqObject w cpu).1 }
+        ensures shows { (w : World O O.Params O.Call O.Reply) → Shows O.SeqObject self.old w → Shows O.SeqObject self.new (step O.SeqObject w cpu).0 }
+        ensures scripts { self.new.scripts ≡ self.old.scripts }
+        ensures opened { opened_by self.new ≡ opened_by self.old }
+    {
+        let i = cpu as usize;
+        let at = self.done[i].at;
+        let Some(todo) = self.scripts[i].get(at) else {
+            return StepDone::Idle;
+        };
+        let x = todo.object as usize;
+        let step = self.locks[x].turn(cpu);
+        count_step(&mut self.done[i], &mut self.cells[x].logged, cpu, todo, step);
+        step
+    }
+
+    /// The steps of a whole schedule, in order.
+    pub fn run(&mut self, schedule: &[u8])
+        requires { All (λ i. i < length self.old.scripts) schedule.now }
+        ensures shows { (w : World O O.Params O.Call O.Reply) → Shows O.SeqObject self.old w → Shows O.SeqObject self.new (run O.SeqObject schedule.now w) }
+        ensures scripts { self.new.scripts ≡ self.old.scripts }
+        ensures opened { opened_by self.new ≡ opened_by self.old }
+    {
+        for cpu in schedule {
+            self.step(*cpu);
+        }
+    }
+
+    /// The words of a cell: of a ticket lock the next ticket and the one that is served; of an MCS lock the tail, then
+    /// each CPU's `next`, then each CPU's `locked`.
+    pub fn words(&self, cell: u8) -> &[u64]
+        requires { cell < length self.now.cells }
+        ensures { (w : World O O.Params O.Call O.Reply) (c : CellState O O.Params O.Call O.Reply) → Shows O.SeqObject self.now w → slice_get w.cells cell ≡ Some c → result.now ≡ lock_words (length w.cpus) c.lock }
+    {
+        self.locks[cell as usize].words.as_slice()
+    }
+
+    /// The committed logs, and the transcripts so far. An entry stands in a transcript once the step that ended its hold
+    /// was done.
+    pub fn record(self) -> Run<O>
+        ensures shows { (w : World O O.Params O.Call O.Reply) → Shows O.SeqObject self w → result ≡ run_of w }
+        ensures sound { Sound O.SeqObject (opened_by self) result }
+    {
+        let Machine {
+            cells,
+            locks: _,
+            scripts: _,
+            done,
+            logs,
+            transcripts,
+        } = self;
+        Run {
+            logs: Series::from_vec(all_logs(cells, logs)),
+            transcripts: Series::from_vec(all_transcripts(done, transcripts)),
+        }
+    }
+}

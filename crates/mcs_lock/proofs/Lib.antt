@@ -1,0 +1,4 @@
+pub mod McsRule
+pub mod McsActing
+pub mod Zeros
+pub mod Sends

@@ -1,0 +1,16 @@
+use Rattle.std.proofs.Common.{◌+◌, ◌*◌, ◌<◌, subst, arith}
+use Rattle.word_rule.specs.declared.place.Place.TheVariants.{Idle}
+use Rattle.word_rule.specs.Callers.{IsWithout}
+use Rattle.word_rule.proofs.Acting.{moves_without}
+use Rattle.mcs_lock.proofs.McsActing.{clear_now, below_without}
+use Rattle.mcs_lock.proofs.cell.McsCell.clear.Goals as goal
+
+pub store-requires : goal.store-requires
+store-requires g c = let s = c.args.self.now in let a = c.args.pass in let key = s.table.shared.key in let words = s.sized.0 in
+    let w = subst (λ k. IsWithout g.O.SeqObject k a.cpu Idle a.seat.me) c.requires.told a.idle in
+    let below = below_without g.O.SeqObject key s.cpus a.cpu Idle a.seat.me s.sized.2 w in
+    (c.requires.table, omega arith, clear_now g.O.SeqObject key _ _ a.cpu a.seat.me w)
+
+pub returns-clause-step : goal.returns-clause-step
+returns-clause-step g c = let a = c.args.pass in
+    moves_without g.O.SeqObject a.key.value a.cpu _ _ a.seat.me c.store.new.seat.me a.idle c.store.ensures.2

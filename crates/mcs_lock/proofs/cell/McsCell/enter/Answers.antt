@@ -1,0 +1,33 @@
+use Rattle.std.proofs.Common.{rules, ◌≡◌, ℕ, ◌+◌, ◌-◌, ◌*◌, ◌<◌, ◌∷◌, sym, ap, subst, ◌∙◌, arith, Some}
+use Rattle.atomic_table.specs.Table.{rest}
+use Rattle.word_rule.specs.declared.place.Place.TheVariants.{Ready, Behind}
+use Rattle.word_rule.specs.Callers.{IsWithout}
+use Rattle.word_rule.proofs.Acting.{took, takes_from, holds_from, moves_without}
+use Rattle.mcs_lock.proofs.McsActing.{enter_now, named, not_else}
+use Rattle.mcs_lock.proofs.cell.McsCell.enter.Goals as goal
+
+pub swap-found-requires : goal.swap-found-requires
+swap-found-requires g c = let s = c.args.self.now in let a = c.args.ready in let words = s.sized.0 in
+    (c.requires.table, omega arith, enter_now g.O.SeqObject s.table.shared.key _ _ a.cpu a.seat.me (subst (λ k. IsWithout g.O.SeqObject k a.cpu Ready a.seat.me) c.requires.told a.ready))
+
+pub exchange-requires : goal.exchange-requires
+exchange-requires g c = let t = c.swap-found.ensures.2.first c.if-found-eq0.true in
+    (search rules, (Some t.object, ap (λ m. m.1) t.seat ∙ ap (λ m. (0, Some t.object) ∷ rest m.1) (sym t.seat)))
+
+pub invariant_of-result : goal.invariant_of-result
+invariant_of-result g c = let a = c.args.ready in let t = c.swap-found.ensures.2.first c.if-found-eq0.true in let e = c.exchange.ensures in
+    record { holds = holds_from g.O.SeqObject a.key.value a.cpu _ _ c.unwrap-logged.result a.seat.me c.exchange.new.seat.me a.ready (took g.O.SeqObject _ a.seat.me c.swap-found.new.seat.me c.exchange.new.seat.me c.exchange.result c.unwrap-logged.result t e.2 e.3 c.unwrap-logged.ensures) }
+
+pub returns-then-found-eq0-clause-got : goal.returns-then-found-eq0-clause-got
+returns-then-found-eq0-clause-got g c = let a = c.args.ready in let t = c.swap-found.ensures.2.first c.if-found-eq0.true in let e = c.exchange.ensures in
+    (search rules, takes_from g.O.SeqObject a.key.value a.cpu _ _ c.unwrap-logged.result a.seat.me c.exchange.new.seat.me a.ready (took g.O.SeqObject _ a.seat.me c.swap-found.new.seat.me c.exchange.new.seat.me c.exchange.result c.unwrap-logged.result t e.2 e.3 c.unwrap-logged.ensures))
+
+pub returns-else-found-eq0-clause-queued : goal.returns-else-found-eq0-clause-queued
+returns-else-found-eq0-clause-queued g c = let a = c.args.ready in let some_one = c.if-found-eq0.false in let k : ℕ = c.swap-found.result - 1 in
+    let t = named Behind c.swap-found.result k a.seat.me c.swap-found.new.seat.me (c.swap-found.ensures.2.behind some_one) (omega arith) in (
+      search rules,
+      (k, t.1.other, record {
+        made = moves_without g.O.SeqObject a.key.value a.cpu Ready (Behind k) a.seat.me c.swap-found.new.seat.me a.ready t.0;
+        another = not_else a.key.value a.seat.me k a.ready.at.told t.1;
+      }),
+    )

@@ -1,0 +1,47 @@
+use Rattle.std.proofs.Common.{rules, ◌≡◌, ℕ, ◌+◌, ◌-◌, ◌*◌, ◌<◌, ◌≤◌, [], ◌∷◌, ap, subst, ◌∙◌, arith}
+use Rattle.word_rule.specs.declared.place.Place.TheVariants.{Leaving, Passing}
+use Rattle.word_rule.specs.Callers.{IsWith}
+use Rattle.word_rule.proofs.Acting.{not_all}
+use Rattle.mcs_lock.proofs.McsActing.{see_again_now, below_with, named, not_else, else_below, else_now, goes_with, moves_with}
+use Rattle.mcs_lock.proofs.cell.McsCell.see_again.Goals as goal
+
+pub load-found-requires : goal.load-found-requires
+load-found-requires g c = let s = c.args.self.now in let a = c.args.leaving in let key = s.table.shared.key in let words = s.sized.0 in
+    let w = subst (λ k. IsWith g.O.SeqObject k a.cpu Leaving a.logged a.seat.me) c.requires.told a.leaves in
+    let below = below_with g.O.SeqObject key s.cpus a.cpu Leaving a.logged a.seat.me s.sized.2 w in
+    (c.requires.table, omega arith, see_again_now g.O.SeqObject key _ _ a.cpu a.seat.me a.logged w)
+
+pub invariant_of-result : goal.invariant_of-result
+invariant_of-result g c = let a = c.args.leaving in
+    record { leaves = goes_with g.O.SeqObject a.key.value a.cpu _ _ a.logged a.seat.me c.load-found.new.seat.me a.leaves ((c.load-found.ensures.2.none c.if-found-eq0.true).seat) }
+
+pub overflow_cast-follower : goal.overflow_cast-follower
+overflow_cast-follower g c = let s = c.args.self.now in let a = c.args.leaving in let few = s.few in let t = c.load-found.ensures.2.found c.if-found-eq0.false in let word = t.word in
+    let below = else_below s.table.shared.key s.cpus t.cpu a.seat.me s.sized.2 (a.leaves.at.told ∙ ap (λ k. k ∷ []) c.requires.told) t.other in
+    let small : c.load-found.result - 1 < 256 = omega arith in record { fits = small }
+
+pub invariant_of-result-else-found-eq0 : goal.invariant_of-result-else-found-eq0
+invariant_of-result-else-found-eq0 g c = let a = c.args.leaving in let some_one = c.if-found-eq0.false in let k : ℕ = c.load-found.result - 1 in
+    let t = named Passing c.load-found.result k a.seat.me c.load-found.new.seat.me (c.load-found.ensures.2.found some_one) (omega arith) in record {
+      passes = goes_with g.O.SeqObject a.key.value a.cpu Leaving (Passing k) a.logged a.seat.me c.load-found.new.seat.me a.leaves t.0;
+      other = else_now (Passing k) a.seat.me c.load-found.new.seat.me k t.0 t.1;
+    }
+
+pub returns-then-found-eq0-clause-missed : goal.returns-then-found-eq0-clause-missed
+returns-then-found-eq0-clause-missed g c = let a = c.args.leaving in let t = c.load-found.ensures.2 in let miss = c.load-found.ensures.2.none c.if-found-eq0.true in (
+  search rules,
+  record {
+    made = moves_with g.O.SeqObject a.key.value _ _ a.logged a.seat.me c.load-found.new.seat.me (t.lawful a.key.value a.leaves.at.told) miss.seat;
+    another = not_all g.O.SeqObject a.key.value a.seat.me a.leaves.at.told miss.lacks;
+  },
+)
+
+pub returns-else-found-eq0-clause-found : goal.returns-else-found-eq0-clause-found
+returns-else-found-eq0-clause-found g c = let a = c.args.leaving in let some_one = c.if-found-eq0.false in let k : ℕ = c.load-found.result - 1 in let s = c.load-found.ensures.2 in
+    let t = named Passing c.load-found.result k a.seat.me c.load-found.new.seat.me (s.found some_one) (omega arith) in (
+      search rules,
+      (k, t.1.other, record {
+        made = moves_with g.O.SeqObject a.key.value Leaving (Passing k) a.logged a.seat.me c.load-found.new.seat.me (s.lawful a.key.value a.leaves.at.told) t.0;
+        another = not_else a.key.value a.seat.me k a.leaves.at.told t.1;
+      }),
+    )

@@ -1,0 +1,59 @@
+//! The MCS lock meets the interface of all locks.
+
+ghost use Rattle.mcs_lock.specs.Passes.{IsPassOf, IsHoldOf, pass_part, hold_held};
+
+use crate::cell::McsCell;
+use crate::states::{Hold, Pass};
+use event_log::{Logged, NoRoom, SeqObject, Steps};
+use std::sync::Wait;
+use word_rule::LockCell;
+
+impl<O: SeqObject> LockCell<O> for McsCell<O> {
+    type Pass = Pass<O>;
+
+    type Hold = Hold<O>;
+
+    ghost is_pass = { IsPassOf };
+
+    ghost is_hold = { IsHoldOf };
+
+    ghost part = { pass_part };
+
+    ghost held = { hold_held };
+
+    fn acquire<R: Wait>(&self, rt: &R, pass: Pass<O>) -> (Hold<O>, u64) {
+        self.wait(rt, pass)
+    }
+
+    fn apply(hold: &mut Hold<O>, calls: &[O::Call]) -> Result<Steps<O>, NoRoom> {
+        hold.logged.apply(hold.cpu, calls)
+    }
+
+    fn logged(hold: &Hold<O>) -> &Logged<O> {
+        &hold.logged
+    }
+
+    fn release<R: Wait>(&self, rt: &R, hold: Hold<O>) -> Pass<O> {
+        self.leave(rt, hold)
+    }
+
+    fn meet(&self, first: Pass<O>, second: Pass<O>) -> (Pass<O>, Pass<O>) {
+        self.meet_passes(first, second)
+    }
+
+    fn apart(&self, first: Hold<O>, second: Hold<O>) -> (Hold<O>, Hold<O>) {
+        self.clash(first, second)
+    }
+
+    fn join(&self, first: Pass<O>, second: Pass<O>) -> Pass<O> {
+        self.join_passes(first, second)
+    }
+
+    fn close(self, pass: Pass<O>) -> Logged<O> {
+        self.end(pass)
+    }
+
+    ghost pass_is_part = { λ _ pass _. pass.idle.part };
+
+    ghost hold_is_held = { λ _ hold _. hold.holds.held };
+}

@@ -1,0 +1,86 @@
+//! The rule of the cell's table, and the steps that are the MCS lock's own.
+
+ghost use Rattle.word_rule.specs.declared.place.Place.TheVariants.{Ready, Waiting};
+ghost use Rattle.word_rule.specs.Board.{Ruled};
+ghost use Rattle.word_rule.specs.Queues.{Queued};
+ghost use Rattle.word_rule.specs.Seats.{first_view};
+ghost use Rattle.mcs_lock.specs.Steps.{goes, arms, enters, looks, sees, sees_again, empties, passes};
+
+use atomic_table::{Play, TableRule};
+use event_log::{Event, Logged, SeqObject};
+use std::marker::PhantomData;
+use word_rule::{Key, View};
+
+/// The rule of an MCS lock.
+pub struct Mcs<O> {
+    object: PhantomData<O>,
+}
+
+impl<O: SeqObject> TableRule<Option<Logged<O>>, View<Key<O>, Event<O>>, Key<O>> for Mcs<O> {
+    ghost holds = { Ruled O.SeqObject Queued };
+
+    ghost first = { first_view };
+}
+
+/// A store to the caller's `next`.
+pub struct Clear;
+
+impl<O: SeqObject> Play<Option<Logged<O>>, View<Key<O>, Event<O>>> for Clear {
+    ghost then = { goes Ready };
+}
+
+/// A swap of the tail.
+pub struct Enter;
+
+impl<O: SeqObject> Play<Option<Logged<O>>, View<Key<O>, Event<O>>> for Enter {
+    ghost then = { enters O.SeqObject };
+}
+
+/// A store to the caller's `locked`.
+pub struct Arm;
+
+impl<O: SeqObject> Play<Option<Logged<O>>, View<Key<O>, Event<O>>> for Arm {
+    ghost then = { arms };
+}
+
+/// A store to the `next` of the one before.
+pub struct Link;
+
+impl<O: SeqObject> Play<Option<Logged<O>>, View<Key<O>, Event<O>>> for Link {
+    ghost then = { goes Waiting };
+}
+
+/// A load of the caller's `locked`.
+pub struct Look;
+
+impl<O: SeqObject> Play<Option<Logged<O>>, View<Key<O>, Event<O>>> for Look {
+    ghost then = { looks O.SeqObject };
+}
+
+/// A load of the holder's `next`.
+pub struct See;
+
+impl<O: SeqObject> Play<Option<Logged<O>>, View<Key<O>, Event<O>>> for See {
+    ghost then = { sees O.SeqObject };
+}
+
+/// The same by a holder that has found that it isn't the last.
+pub struct SeeAgain;
+
+impl<O: SeqObject> Play<Option<Logged<O>>, View<Key<O>, Event<O>>> for SeeAgain {
+    ghost then = { sees_again O.SeqObject };
+}
+
+/// A compare-exchange of the tail.
+pub struct Empty;
+
+impl<O: SeqObject> Play<Option<Logged<O>>, View<Key<O>, Event<O>>> for Empty {
+    ghost then = { empties O.SeqObject };
+}
+
+/// A store to the `locked` of the one behind.
+pub struct PassOn;
+
+impl<O: SeqObject> Play<Option<Logged<O>>, View<Key<O>, Event<O>>> for PassOn {
+    ghost then = { passes O.SeqObject };
+}

@@ -1,0 +1,102 @@
+//! A caller of an MCS lock, by what it may do next.
+
+ghost use Rattle.std.specs.Prelude.{◌≡◌, ◌<◌, ◌≤◌, ◌↔◌, length, IsErr, IfOk, OnErr};
+ghost use Rattle.event_log.specs.Log.{answers, after, Fulfils};
+ghost use Rattle.event_log.specs.History.{with_event};
+ghost use Rattle.event_log.proofs.Props.{legal_props};
+ghost use Rattle.word_rule.specs.declared.place.Place.TheVariants.{Idle, Ready, Behind, Armed, Waiting, Holding, Alone, Leaving, Passing};
+ghost use Rattle.word_rule.specs.Told.{IsElse};
+ghost use Rattle.word_rule.specs.Callers.{IsWithout, IsWith};
+
+use event_log::{Logged, SeqObject};
+use std::snapshot::Snapshot;
+use word_rule::{Key, Seat};
+
+/// A caller that isn't in the queue. One that is dropped leaves a cell that can't be closed any more.
+#[derive(Drop)]
+pub struct Pass<O: SeqObject> {
+    pub(crate) cpu: u8,
+    pub(crate) key: Snapshot<Key<O>>,
+    pub(crate) seat: Seat<O>,
+    pub ghost idle: { IsWithout O.SeqObject key.value cpu Idle seat.me } by { Prim.hlevel legal_props },
+}
+
+/// A caller whose `next` is clear. It can't be dropped: it ends in `enter`.
+pub struct Ready<O: SeqObject> {
+    pub(crate) cpu: u8,
+    pub(crate) key: Snapshot<Key<O>>,
+    pub(crate) seat: Seat<O>,
+    pub ghost ready: { IsWithout O.SeqObject key.value cpu Ready seat.me } by { Prim.hlevel legal_props },
+}
+
+/// A caller in the queue behind the CPU `ahead`. It can't be dropped: it ends in `arm`.
+pub struct Behind<O: SeqObject> {
+    pub(crate) cpu: u8,
+    pub(crate) ahead: u8,
+    pub(crate) key: Snapshot<Key<O>>,
+    pub(crate) seat: Seat<O>,
+    pub ghost behind: { IsWithout O.SeqObject key.value cpu (Behind ahead) seat.me } by { Prim.hlevel legal_props },
+    pub ghost other: { IsElse seat.me.0 ahead },
+}
+
+/// The same, whose `locked` is set. It can't be dropped: it ends in `link`.
+pub struct Armed<O: SeqObject> {
+    pub(crate) cpu: u8,
+    pub(crate) ahead: u8,
+    pub(crate) key: Snapshot<Key<O>>,
+    pub(crate) seat: Seat<O>,
+    pub ghost armed: { IsWithout O.SeqObject key.value cpu (Armed ahead) seat.me } by { Prim.hlevel legal_props },
+    pub ghost other: { IsElse seat.me.0 ahead },
+}
+
+/// A caller in the queue that the one before it can see. It can't be dropped: it ends in a look that gets the object.
+pub struct Waiting<O: SeqObject> {
+    pub(crate) cpu: u8,
+    pub(crate) key: Snapshot<Key<O>>,
+    pub(crate) seat: Seat<O>,
+    pub ghost waits: { IsWithout O.SeqObject key.value cpu Waiting seat.me } by { Prim.hlevel legal_props },
+}
+
+/// A caller with the object. It can't be dropped: it ends in `see`.
+pub struct Hold<O: SeqObject> {
+    pub(crate) cpu: u8,
+    pub(crate) logged: Logged<O>,
+    pub(crate) key: Snapshot<Key<O>>,
+    pub(crate) seat: Seat<O>,
+    pub ghost holds: { IsWith O.SeqObject key.value cpu Holding logged seat.me } by { Prim.hlevel legal_props },
+}
+
+/// A holder that saw nobody behind it. It can't be dropped: it ends in `empty`.
+pub struct Alone<O: SeqObject> {
+    pub(crate) cpu: u8,
+    pub(crate) logged: Logged<O>,
+    pub(crate) key: Snapshot<Key<O>>,
+    pub(crate) seat: Seat<O>,
+    pub ghost alone: { IsWith O.SeqObject key.value cpu Alone logged seat.me } by { Prim.hlevel legal_props },
+}
+
+/// A holder that isn't the last, and hasn't seen who is behind it. It can't be dropped: it ends in a see that finds one.
+pub struct Leaving<O: SeqObject> {
+    pub(crate) cpu: u8,
+    pub(crate) logged: Logged<O>,
+    pub(crate) key: Snapshot<Key<O>>,
+    pub(crate) seat: Seat<O>,
+    pub ghost leaves: { IsWith O.SeqObject key.value cpu Leaving logged seat.me } by { Prim.hlevel legal_props },
+}
+
+/// A holder that saw the CPU `follower` behind it. It can't be dropped: it ends in `pass_on`.
+pub struct Passing<O: SeqObject> {
+    pub(crate) cpu: u8,
+    pub(crate) follower: u8,
+    pub(crate) logged: Logged<O>,
+    pub(crate) key: Snapshot<Key<O>>,
+    pub(crate) seat: Seat<O>,
+    pub ghost passes: { IsWith O.SeqObject key.value cpu (Passing follower) logged seat.me } by { Prim.hlevel legal_props },
+    pub ghost other: { IsElse seat.me.0 follower },
+}
+
+/// What a caller is that has entered the queue: it has the object, or is behind another.
+pub enum Entered<O: SeqObject> {
+    Hold(Hold<O>),
+    Behind(Behind<O>),
+}

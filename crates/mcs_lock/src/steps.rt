@@ -1,0 +1,223 @@
+//! The single steps of an MCS lock.
+
+ghost use Rattle.std.specs.Prelude.{◌≡◌, true, false, IfOk, IfErr};
+ghost use Rattle.word_rule.specs.McsSteps.{IsClear, IsEnter, IsArm, IsLink, IsWaitingLook, IsSee, IsSeeAgain, IsEmpty, IsPass};
+ghost use Rattle.mcs_lock.specs.Passes.{IsPassOf, IsReadyOf, IsBehindOf, IsArmedOf, IsWaitingOf, IsHoldOf, IsAloneOf, IsLeavingOf, IsPassingOf, IfHold, IfBehind};
+ghost use Rattle.mcs_lock.specs.Passes.{pass_standing, ready_standing, behind_standing, armed_standing, waiting_standing, hold_standing, alone_standing, leaving_standing, passing_standing};
+
+use crate::cell::McsCell;
+use crate::rule::{Arm, Clear, Empty, Enter, Link, Look, PassOn, See, SeeAgain};
+use crate::states::{Alone, Armed, Behind, Entered, Hold, Leaving, Pass, Passing, Ready, Waiting};
+use event_log::SeqObject;
+
+impl<O: SeqObject> McsCell<O> {
+    /// Clears its `next`: one store.
+    pub fn clear(&self, pass: Pass<O>) -> Ready<O>
+        requires { IsPassOf self.now pass }
+        ensures ready { IsReadyOf self.now result }
+        ensures step { IsClear O.SeqObject (pass_standing pass) (ready_standing result) }
+    {
+        let Pass { cpu, key, mut seat } = pass;
+        self.table.shared.store::<Clear>(&mut seat, 1 + cpu as usize, 0);
+        Ready { cpu, key, seat }
+    }
+
+    /// Puts itself into the tail: one swap. The object comes where nobody was there; a caller that owns every number of
+    /// the cell gets it.
+    pub fn enter(&self, ready: Ready<O>) -> Entered<O>
+        requires { IsReadyOf self.now ready }
+        ensures got { IfHold result (λ h. IsHoldOf self.now h × IsEnter O.SeqObject (ready_standing ready) (hold_standing h) true) }
+        ensures queued { IfBehind result (λ b. IsBehindOf self.now b × IsEnter O.SeqObject (ready_standing ready) (behind_standing b) false) }
+    {
+        let Ready { cpu, key, mut seat } = ready;
+        let found = self.table.shared.swap::<Enter>(&mut seat, 0, cpu as u64 + 1);
+        if found == 0 {
+            let logged = self.table.shared.exchange(&mut seat, 0, None).unwrap();
+            Entered::Hold(Hold {
+                cpu,
+                logged,
+                key,
+                seat,
+            })
+        } else {
+            let ahead = (found - 1) as u8;
+            Entered::Behind(Behind {
+                cpu,
+                ahead,
+                key,
+                seat,
+            })
+        }
+    }
+
+    /// Sets its `locked`: one store.
+    pub fn arm(&self, behind: Behind<O>) -> Armed<O>
+        requires { IsBehindOf self.now behind }
+        ensures armed { IsArmedOf self.now result }
+        ensures step { IsArm O.SeqObject (behind_standing behind) (armed_standing result) }
+    {
+        let Behind {
+            cpu,
+            ahead,
+            key,
+            mut seat,
+        } = behind;
+        self.table.shared.store::<Arm>(&mut seat, 1 + self.cpus as usize + cpu as usize, 1);
+        Armed {
+            cpu,
+            ahead,
+            key,
+            seat,
+        }
+    }
+
+    /// Names itself in the `next` of the one before it: one store.
+    pub fn link(&self, armed: Armed<O>) -> Waiting<O>
+        requires { IsArmedOf self.now armed }
+        ensures waiting { IsWaitingOf self.now result }
+        ensures step { IsLink O.SeqObject (armed_standing armed) (waiting_standing result) }
+    {
+        let Armed {
+            cpu,
+            ahead,
+            key,
+            mut seat,
+        } = armed;
+        self.table.shared.store::<Link>(&mut seat, 1 + ahead as usize, cpu as u64 + 1);
+        Waiting { cpu, key, seat }
+    }
+
+    /// Looks whether its `locked` is clear: one load. The object comes where it is.
+    pub fn look(&self, waiting: Waiting<O>) -> Result<Hold<O>, Waiting<O>>
+        requires { IsWaitingOf self.now waiting }
+        ensures got { IfOk result (λ h. IsHoldOf self.now h × IsWaitingLook O.SeqObject (waiting_standing waiting) (hold_standing h) true) }
+        ensures missed { IfErr result (λ w. IsWaitingOf self.now w × IsWaitingLook O.SeqObject (waiting_standing waiting) (waiting_standing w) false) }
+    {
+        let Waiting { cpu, key, mut seat } = waiting;
+        let found = self.table.shared.load::<Look>(&mut seat, 1 + self.cpus as usize + cpu as usize);
+        if found == 0 {
+            let logged = self.table.shared.exchange(&mut seat, 0, None).unwrap();
+            Ok(Hold {
+                cpu,
+                logged,
+                key,
+                seat,
+            })
+        } else {
+            Err(Waiting { cpu, key, seat })
+        }
+    }
+
+    /// Looks who is behind it, by its own `next`: one load. A caller that owns every number sees nobody.
+    pub fn see(&self, hold: Hold<O>) -> Result<Passing<O>, Alone<O>>
+        requires { IsHoldOf self.now hold }
+        ensures found { IfOk result (λ p. IsPassingOf self.now p × IsSee O.SeqObject (hold_standing hold) (passing_standing p) true) }
+        ensures none { IfErr result (λ a. IsAloneOf self.now a × IsSee O.SeqObject (hold_standing hold) (alone_standing a) false) }
+    {
+        let Hold {
+            cpu,
+            logged,
+            key,
+            mut seat,
+        } = hold;
+        let found = self.table.shared.load::<See>(&mut seat, 1 + cpu as usize);
+        if found == 0 {
+            Err(Alone {
+                cpu,
+                logged,
+                key,
+                seat,
+            })
+        } else {
+            let follower = (found - 1) as u8;
+            Ok(Passing {
+                cpu,
+                follower,
+                logged,
+                key,
+                seat,
+            })
+        }
+    }
+
+    /// Empties the tail, if it is the last there, and gives the object back: one compare-exchange. A caller that owns
+    /// every number is the last.
+    pub fn empty(&self, alone: Alone<O>) -> Result<Pass<O>, Leaving<O>>
+        requires { IsAloneOf self.now alone }
+        ensures home { IfOk result (λ p. IsPassOf self.now p × IsEmpty O.SeqObject (alone_standing alone) (pass_standing p) true) }
+        ensures missed { IfErr result (λ l. IsLeavingOf self.now l × IsEmpty O.SeqObject (alone_standing alone) (leaving_standing l) false) }
+    {
+        let Alone {
+            cpu,
+            logged,
+            key,
+            mut seat,
+        } = alone;
+        let empty = self.table.shared.exchange(&mut seat, 0, Some(logged));
+        let None = empty else { unreachable!() };
+        let last = cpu as u64 + 1;
+        let found = self.table.shared.compare_exchange::<Empty>(&mut seat, 0, last, 0);
+        if found == last {
+            Ok(Pass { cpu, key, seat })
+        } else {
+            let logged = self.table.shared.exchange(&mut seat, 0, None).unwrap();
+            Err(Leaving {
+                cpu,
+                logged,
+                key,
+                seat,
+            })
+        }
+    }
+
+    /// Looks again who is behind it: one load.
+    pub fn see_again(&self, leaving: Leaving<O>) -> Result<Passing<O>, Leaving<O>>
+        requires { IsLeavingOf self.now leaving }
+        ensures found { IfOk result (λ p. IsPassingOf self.now p × IsSeeAgain O.SeqObject (leaving_standing leaving) (passing_standing p) true) }
+        ensures missed { IfErr result (λ l. IsLeavingOf self.now l × IsSeeAgain O.SeqObject (leaving_standing leaving) (leaving_standing l) false) }
+    {
+        let Leaving {
+            cpu,
+            logged,
+            key,
+            mut seat,
+        } = leaving;
+        let found = self.table.shared.load::<SeeAgain>(&mut seat, 1 + cpu as usize);
+        if found == 0 {
+            Err(Leaving {
+                cpu,
+                logged,
+                key,
+                seat,
+            })
+        } else {
+            let follower = (found - 1) as u8;
+            Ok(Passing {
+                cpu,
+                follower,
+                logged,
+                key,
+                seat,
+            })
+        }
+    }
+
+    /// Gives the object back, and clears the `locked` of the one behind it: one store.
+    pub fn pass_on(&self, passing: Passing<O>) -> Pass<O>
+        requires { IsPassingOf self.now passing }
+        ensures pass { IsPassOf self.now result }
+        ensures step { IsPass O.SeqObject (passing_standing passing) (pass_standing result) }
+    {
+        let Passing {
+            cpu,
+            follower,
+            logged,
+            key,
+            mut seat,
+        } = passing;
+        let empty = self.table.shared.exchange(&mut seat, 0, Some(logged));
+        let None = empty else { unreachable!() };
+        self.table.shared.store::<PassOn>(&mut seat, 1 + self.cpus as usize + follower as usize, 0);
+        Pass { cpu, key, seat }
+    }
+}

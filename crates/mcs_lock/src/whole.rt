@@ -1,0 +1,194 @@
+//! Whole calls of an MCS lock, and its end.
+
+ghost use Rattle.std.specs.Prelude.{◌≡◌, ◌<◌, ◌≤◌, ◌↔◌, ◌||◌, ℕ, true, length, IsErr, IfOk, OnErr};
+ghost use Rattle.event_log.specs.Log.{answers, after, Fulfils};
+ghost use Rattle.event_log.specs.History.{with_event};
+ghost use Rattle.word_rule.specs.Cell.{Grows, OwnsAll, stored};
+ghost use Rattle.word_rule.specs.McsSteps.{IsWaitingLook, IsSeeAgain};
+ghost use Rattle.mcs_lock.specs.Passes.{IsPassOf, IsBehindOf, IsWaitingOf, IsHoldOf, IsLeavingOf, IsPassingOf, pass_part, behind_part, waiting_part, hold_held, leaving_held, passing_held};
+ghost use Rattle.mcs_lock.specs.Passes.{waiting_standing, hold_standing, leaving_standing, passing_standing};
+
+use crate::cell::McsCell;
+use crate::rule::{Look, SeeAgain};
+use crate::states::{Behind, Entered, Hold, Leaving, Pass, Passing, Waiting};
+use crossbeam_utils::Backoff;
+use event_log::{Logged, SeqObject};
+use std::sync::Wait;
+use word_rule::Beside;
+
+impl<O: SeqObject> McsCell<O> {
+    /// Enters, and where another is before it looks until it gets the object. The number is that of the looks.
+    pub(crate) fn wait<R: Wait>(&self, rt: &R, pass: Pass<O>) -> (Hold<O>, u64)
+        requires { IsPassOf self.now pass }
+        ensures hold { IsHoldOf self.now result.0 }
+        ensures caller { (hold_held result.0).caller ≡ (pass_part pass).caller }
+        ensures grows { Grows (pass_part pass).caller.owned (pass_part pass).seen (hold_held result.0).history.log }
+    {
+        let ready = self.clear(pass);
+        match self.enter(ready) {
+            Entered::Hold(hold) => (hold, 0),
+            Entered::Behind(behind) => self.wait_behind(rt, behind),
+        }
+    }
+
+    // Lets itself be seen by the one before it, and looks until it gets the object, with a pause between two looks.
+    fn wait_behind<R: Wait>(&self, rt: &R, behind: Behind<O>) -> (Hold<O>, u64)
+        requires { IsBehindOf self.now behind }
+        ensures hold { IsHoldOf self.now result.0 }
+        ensures caller { (hold_held result.0).caller ≡ (behind_part behind).caller }
+        ensures grows { Grows (behind_part behind).caller.owned (behind_part behind).seen (hold_held result.0).history.log }
+    {
+        let armed = self.arm(behind);
+        let mut waiting = self.link(armed);
+        let mut looks = 0u64;
+        let backoff = Backoff::new();
+        for _ in rt.forever() {
+            looks = looks.saturating_add(1);
+            match self.look(waiting) {
+                Ok(hold) => return (hold, looks),
+                Err(again) => waiting = again,
+            }
+            backoff.snooze();
+        }
+        unreachable!()
+    }
+
+    /// Gives the object back: to the one behind it, or, where nobody is, with the tail empty.
+    pub(crate) fn leave<R: Wait>(&self, rt: &R, hold: Hold<O>) -> Pass<O>
+        requires { IsHoldOf self.now hold }
+        ensures pass { IsPassOf self.now result }
+        ensures caller { (pass_part result).caller ≡ (hold_held hold).caller }
+        ensures seen { (pass_part result).seen ≡ (hold_held hold).history.log }
+    {
+        let alone = match self.see(hold) {
+            Ok(passing) => return self.pass_on(passing),
+            Err(alone) => alone,
+        };
+        match self.empty(alone) {
+            Ok(pass) => pass,
+            Err(leaving) => {
+                let passing = self.wait_follower(rt, leaving);
+                self.pass_on(passing)
+            }
+        }
+    }
+
+    // Looks who is behind it until it sees one, with a pause between two looks.
+    fn wait_follower<R: Wait>(&self, rt: &R, leaving: Leaving<O>) -> Passing<O>
+        requires { IsLeavingOf self.now leaving }
+        ensures passing { IsPassingOf self.now result }
+        ensures held { passing_held result ≡ leaving_held leaving }
+    {
+        let mut leaving = leaving;
+        let backoff = Backoff::new();
+        for _ in rt.forever() {
+            match self.see_again(leaving) {
+                Ok(passing) => return passing,
+                Err(again) => leaving = again,
+            }
+            backoff.snooze();
+        }
+        unreachable!()
+    }
+
+    /// One look by a caller that owns every number of the cell together with the pass. It gets the object, so no call
+    /// is lost whose rivals are all idle.
+    pub fn last_look(&self, waiting: Waiting<O>, pass: Pass<O>) -> (Hold<O>, Pass<O>)
+        requires waiting { IsWaitingOf self.now waiting }
+        requires pass { IsPassOf self.now pass }
+        requires all { (k : ℕ) → k < (pass_part pass).caller.cell.numbers → ((waiting_part waiting).caller.owned k || (pass_part pass).caller.owned k) ≡ true }
+        ensures hold { IsHoldOf self.now result.0 }
+        ensures look { IsWaitingLook O.SeqObject (waiting_standing waiting) (hold_standing result.0) true }
+        ensures pass { IsPassOf self.now result.1 }
+        ensures caller { (pass_part result.1).caller ≡ (pass_part pass).caller }
+        ensures seen { (pass_part result.1).seen ≡ (hold_held result.0).history.log }
+        ensures grows { Grows (pass_part pass).caller.owned (pass_part pass).seen (hold_held result.0).history.log }
+    {
+        let Waiting { cpu, key, mut seat } = waiting;
+        let Pass {
+            cpu: other,
+            key: told,
+            seat: theirs,
+        } = pass;
+        self.table.shared.join_seat::<Beside>(&mut seat, theirs);
+        let found = self.table.shared.load::<Look>(&mut seat, 1 + self.cpus as usize + cpu as usize);
+        prove!(found == 0);
+        let logged = self.table.shared.exchange(&mut seat, 0, None).unwrap();
+        let theirs = self.table.shared.split_seat::<Beside>(&mut seat);
+        (
+            Hold {
+                cpu,
+                logged,
+                key,
+                seat,
+            },
+            Pass {
+                cpu: other,
+                key: told,
+                seat: theirs,
+            },
+        )
+    }
+
+    /// One look by a holder, that isn't the last, for who is behind it, where it owns every number of the cell together
+    /// with one that waits. It sees that one.
+    pub fn last_see(&self, leaving: Leaving<O>, waiting: Waiting<O>) -> (Passing<O>, Waiting<O>)
+        requires leaving { IsLeavingOf self.now leaving }
+        requires waiting { IsWaitingOf self.now waiting }
+        requires all { (k : ℕ) → k < (waiting_part waiting).caller.cell.numbers → ((leaving_held leaving).caller.owned k || (waiting_part waiting).caller.owned k) ≡ true }
+        ensures passing { IsPassingOf self.now result.0 }
+        ensures see { IsSeeAgain O.SeqObject (leaving_standing leaving) (passing_standing result.0) true }
+        ensures held { passing_held result.0 ≡ leaving_held leaving }
+        ensures waiting { IsWaitingOf self.now result.1 }
+        ensures waits { waiting_standing result.1 ≡ waiting_standing waiting }
+    {
+        let Leaving {
+            cpu,
+            logged,
+            key,
+            mut seat,
+        } = leaving;
+        let Waiting {
+            cpu: other,
+            key: told,
+            seat: theirs,
+        } = waiting;
+        self.table.shared.join_seat::<Beside>(&mut seat, theirs);
+        let found = self.table.shared.load::<SeeAgain>(&mut seat, 1 + cpu as usize);
+        prove!(found != 0);
+        let follower = (found - 1) as u8;
+        let theirs = self.table.shared.split_seat::<Beside>(&mut seat);
+        (
+            Passing {
+                cpu,
+                follower,
+                logged,
+                key,
+                seat,
+            },
+            Waiting {
+                cpu: other,
+                key: told,
+                seat: theirs,
+            },
+        )
+    }
+
+    /// The pass owns every number, so the object is at home, and its log is what the pass has seen.
+    pub(crate) fn end(self, pass: Pass<O>) -> Logged<O>
+        requires cell { IsPassOf self pass }
+        requires whole { OwnsAll (pass_part pass).caller }
+        ensures { result ≡ stored O.SeqObject (pass_part pass).caller.cell (pass_part pass).seen }
+    {
+        let McsCell { table, cpus: _ } = self;
+        let Pass {
+            cpu: _,
+            key: _,
+            seat,
+        } = pass;
+        let mut closed = table.close_with(seat);
+        let slot = closed.take(0);
+        closed.free();
+        slot.unwrap()
+    }
+}

@@ -1,0 +1,22 @@
+-- What becomes of calls at the end of a hold.
+use Rattle.std.proofs.Common.{◌≡◌, ◌==◌, List, length, ap, refl, sym, ◌∙◌, eq-eqb, ne_eqb, cond}
+use Rattle.event_log.specs.declared.object.SeqObject.{Ghosts}
+use Rattle.event_log.specs.declared.event.Event.{Event}
+use Rattle.event_log.specs.declared.event.Steps.{Steps}
+use Rattle.event_log.specs.declared.event.Step.{Step}
+use Rattle.event_log.specs.declared.entry.Done.{Done}
+use Rattle.event_log.specs.declared.entry.Done.TheVariants as done
+use Rattle.event_log.specs.Log.{answers, replay}
+use Rattle.word_rule.specs.Sound.{Opened}
+use Rattle.word_rule.specs.World.{outcome}
+
+module _ {O P C R : Type 0} (meaning : Ghosts O P C R) (opened : Opened P) (log : List (Event O P C R)) (asked : List C) where
+  abbrev with_items : List (Step O P C R) → Done O P C R
+  with_items l = done.Steps record { list = record { items = l } }
+
+  pub done_now : (s : Steps O P C R) → (length log ≡ opened.limit → ⊥) → s.list.items ≡ answers meaning (replay meaning opened.params log) asked → done.Steps s ≡ outcome meaning opened log asked
+  done_now s room e = ap with_items e
+      ∙ ap (λ b. cond b done.NoRoom (done.Steps record { list = record { items = answers meaning (replay meaning opened.params log) asked } })) (sym (ne_eqb (length log) opened.limit room))
+
+  pub refused_now : length log ≡ opened.limit → done.NoRoom ≡ outcome meaning opened log asked
+  refused_now full = ap (λ b. cond b done.NoRoom (done.Steps record { list = record { items = answers meaning (replay meaning opened.params log) asked } })) (sym (eq-eqb (length log) opened.limit full))

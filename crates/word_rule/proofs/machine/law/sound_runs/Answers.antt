@@ -1,0 +1,7 @@
+use Rattle.word_rule.proofs.Openings.{opening_sound}
+use Rattle.word_rule.proofs.SoundRuns.{sound_run_of}
+use Rattle.word_rule.proofs.SoundSteps.{sound_run}
+use Rattle.word_rule.proofs.machine.law.sound_runs.Goals as goal
+
+pub returns : goal.returns
+returns g c = λ w o schedule. sound_run_of g.O.SeqObject _ (sound_run g.O.SeqObject schedule w (opening_sound g.O.SeqObject w o))

@@ -1,0 +1,12 @@
+//! What a cell of the step machine is made of.
+
+use crate::LockKind;
+use event_log::{Logged, SeqObject};
+
+/// A cell for the step machine: its lock, the first ticket (0 for an MCS lock), and the object with its log.
+#[derive(Drop)]
+pub struct CellSpec<O: SeqObject> {
+    pub kind: LockKind,
+    pub first: u64,
+    pub logged: Logged<O>,
+}
