@@ -1,10 +1,9 @@
 -- Every step keeps a world sound.
-use Rattle.std.proofs.Common.{◌≡◌, ◌≢◌, ◌⊎◌, inl, inr, ⊎_elim, ℕ, zero, suc, ◌+◌, ◌<◌, ◌≤◌, ◌==◌, Bool, true, false, cond, List, [], ◌∷◌, ◌++◌, length, map, slice_get, Option, Some, None, refl, sym, ap, ◌∙◌, subst, arith, length-append}
+use Rattle.std.proofs.Common.{◌≡◌, ◌≢◌, ℕ, ◌<◌, ◌==◌, Bool, true, false, cond, List, [], ◌∷◌, ◌++◌, length, slice_get, Option, Some, None, refl, sym, ap, ◌∙◌, subst, arith, length-append}
 use Rattle.std.proofs.Math.ListN.{set}
 use Rattle.std.specs.List.{AllByRecursion}
 use Rattle.std.proofs.lemmas.List.{append-nil, length-set}
-use Rattle.std.proofs.lemmas.Bool.{cases_Bool, eqb-true, eqb-false}
-use Rattle.std.proofs.lemmas.Option.{slice_get_within}
+use Rattle.std.proofs.lemmas.Bool.{eqb-true, eqb-false}
 use mathlib.Core.Logic.{dite}
 use native.Mathlib.Decide.{ℕ_discrete}
 use Rattle.arrayvec.specs.ArrayVec.{ArrayVec}
@@ -15,20 +14,21 @@ use Rattle.event_log.specs.declared.entry.Done.{Done}
 use Rattle.event_log.specs.declared.entry.Done.TheVariants as done
 use Rattle.event_log.specs.declared.entry.Entry.{Entry}
 use Rattle.event_log.specs.declared.entry.Todo.{Todo}
-use Rattle.event_log.specs.Log.{answers, replay, of}
+use Rattle.event_log.specs.Log.{answers, replay}
 use Rattle.event_log.proofs.Logs.{legal_append}
 use Rattle.event_log.proofs.Batches.{next_answers, answers_fulfil}
 use Rattle.word_rule.specs.declared.machine.step_done.StepDone.{StepDone}
 use Rattle.word_rule.specs.Locks.{Lock}
 use Rattle.word_rule.specs.Turns.{turn, ends_hold}
-use Rattle.word_rule.specs.Sound.{LogIsSound, Answers, NoneAfterFull, done_on, with_steps, steps_by}
-use Rattle.word_rule.specs.World.{World, CellState, CpuState, with_done, entry_of, left, finished, counted, outcome, cell_after, cpu_after, world_after, step_on, step_of, step_by, step, run}
+use Rattle.word_rule.specs.Sound.{LogIsSound, Answers, NoneAfterFull, done_on, steps_by}
+use Rattle.word_rule.specs.World.{World, CellState, CpuState, with_done, entry_of, left, finished, counted, outcome, world_after, step_on, step_of, step_by, step, run}
 use Rattle.word_rule.specs.SoundWorld.{IsTodo, entries_of, entries_by, IsAnswer, SoundWorld}
 use Rattle.word_rule.proofs.Acting.{all_push}
 use Rattle.word_rule.proofs.Entries.{done_append, done_here, done_elsewhere, done_without, steps_push, steps_other, full_push}
 use Rattle.word_rule.proofs.Slices.{get_set_same, get_set_other, one_of}
 
-all_map : {X : Type 0} {Q S : X → Type 0} → ((x : X) → Q x → S x) → (xs : List X) → AllByRecursion Q xs → AllByRecursion S xs
+-- what holds of each element, and from which another follows
+pub all_map : {X : Type 0} {Q S : X → Type 0} → ((x : X) → Q x → S x) → (xs : List X) → AllByRecursion Q xs → AllByRecursion S xs
 all_map f [] h = tt
 all_map f (x ∷ xs) h = (f x h.0, all_map f xs h.1)
 
@@ -66,7 +66,7 @@ module _ {O P C R : Type 0} (meaning : Ghosts O P C R) where
     carried : (e : Entry O P C R) → IsAnswer meaning w e → IsAnswer meaning w' e
     carried e a = dite (ℕ_discrete e.object x)
         (λ is. let same : a.cell ≡ c = one_of a.cell c (slice_get w.cells x) (ap (λ k. slice_get w.cells k) (sym is) ∙ a.there) cell_is in
-            record { cell = c'; there = ap (λ k. slice_get (set w.cells x c') k) is ∙ cell_at; answers = t.carries e.asked e.done (subst (λ (k : CellState O P C R). Answers meaning k.opened k.log e.asked e.done) same a.answers) })
+        record { cell = c'; there = ap (λ k. slice_get (set w.cells x c') k) is ∙ cell_at; answers = t.carries e.asked e.done (subst (λ (k : CellState O P C R). Answers meaning k.opened k.log e.asked e.done) same a.answers) })
         (λ ne. record { cell = a.cell; there = cell_off e.object ne ∙ a.there; answers = a.answers })
 
     taken_here : (j : ℕ) → done_on x (entries_by j w') ≡ steps_by j c'.log
@@ -89,7 +89,7 @@ module _ {O P C R : Type 0} (meaning : Ghosts O P C R) where
           (λ ne. taken_there y j d ne (sym (cell_off y ne) ∙ there));
       answers = λ j. dite (ℕ_discrete j i)
           (λ is. subst (λ k. AllByRecursion (λ e. IsAnswer meaning w' e) (entries_by k w')) (sym is) (subst (λ l. AllByRecursion (λ e. IsAnswer meaning w' e) l) (sym mine_at)
-              (t.answers w' cell_at (all_map carried cpu.transcript (subst (λ l. AllByRecursion (λ e. IsAnswer meaning w e) l) mine_was (h.answers i))))))
+          (t.answers w' cell_at (all_map carried cpu.transcript (subst (λ l. AllByRecursion (λ e. IsAnswer meaning w e) l) mine_was (h.answers i))))))
           (λ ne. subst (λ l. AllByRecursion (λ e. IsAnswer meaning w' e) l) (sym (other_at j ne)) (all_map carried (entries_by j w) (h.answers j)));
       full = λ j. dite (ℕ_discrete j i)
           (λ is. subst (λ k. NoneAfterFull (entries_by k w')) (sym is) (subst NoneAfterFull (sym mine_at) t.full))
@@ -165,8 +165,8 @@ module _ {O P C R : Type 0} (meaning : Ghosts O P C R) where
     not_here : length c.log < c.opened.limit → (e f : Entry O P C R) → e.object ≡ todo.object → IsAnswer meaning w f → f.done ≡ done.NoRoom → done_on f.object (e ∷ []) ≡ []
     not_here room e f is a none = dite (ℕ_discrete e.object f.object)
         (λ same. absurd (let at : a.cell ≡ c = one_of a.cell c (slice_get w.cells todo.object) (ap (λ k. slice_get w.cells k) (sym is ∙ same) ∙ a.there) cell_is in
-            let full : length a.cell.log ≡ a.cell.opened.limit = subst (λ d. Answers meaning a.cell.opened a.cell.log f.asked d) none a.answers in
-            let full' : length c.log ≡ c.opened.limit = subst (λ (k : CellState O P C R). length k.log ≡ k.opened.limit) at full in omega (arith, full', room)))
+        let full : length a.cell.log ≡ a.cell.opened.limit = subst (λ d. Answers meaning a.cell.opened a.cell.log f.asked d) none a.answers in
+        let full' : length c.log ≡ c.opened.limit = subst (λ (k : CellState O P C R). length k.log ≡ k.opened.limit) at full in omega (arith, full', room)))
         (λ ne. done_elsewhere f.object e ne)
 
     -- one event more
