@@ -81,6 +81,7 @@ fn cell_of_two(
     ensures zero { IfOk result (λ r. IsPassOf r.0 r.1) }
     ensures one { IfOk result (λ r. IsPassOf r.0 r.2) }
     ensures all { IfOk result (λ r. (k : ℕ) → k < (pass_part r.2).caller.cell.numbers → ((pass_part r.1).caller.owned k || (pass_part r.2).caller.owned k) ≡ true) }
+    ensures both { IfOk result (λ r. (k : ℕ) → k < (pass_part r.1).caller.cell.numbers → ((pass_part r.2).caller.owned k || (pass_part r.1).caller.owned k) ≡ true) }
 {
     let queue = Logged::<ThreadQueue>::open(alloc, 8, 100)?;
     let Ok((cell, mut passes)) = McsCell::new(alloc, queue, 2) else {
