@@ -111,7 +111,10 @@ impl<O: SeqObject> McsCell<O> {
             seat: theirs,
         } = pass;
         self.table.shared.join_seat::<Beside>(&mut seat, theirs);
-        let found = self.table.shared.load::<Look>(&mut seat, 1 + self.cpus as usize + cpu as usize);
+        let found = self
+            .table
+            .shared
+            .load::<Look>(&mut seat, 1 + self.cpus as usize + cpu as usize);
         prove!(found == 0);
         let logged = self.table.shared.exchange(&mut seat, 0, None).unwrap();
         let theirs = self.table.shared.split_seat::<Beside>(&mut seat);
@@ -154,7 +157,10 @@ impl<O: SeqObject> McsCell<O> {
             seat: theirs,
         } = waiting;
         self.table.shared.join_seat::<Beside>(&mut seat, theirs);
-        let found = self.table.shared.load::<SeeAgain>(&mut seat, 1 + cpu as usize);
+        let found = self
+            .table
+            .shared
+            .load::<SeeAgain>(&mut seat, 1 + cpu as usize);
         prove!(found != 0);
         let follower = (found - 1) as u8;
         let theirs = self.table.shared.split_seat::<Beside>(&mut seat);
