@@ -1,8 +1,6 @@
 //! Whole calls of an MCS lock, and its end.
 
-ghost use Rattle.std.specs.Prelude.{◌≡◌, ◌<◌, ◌≤◌, ◌↔◌, ◌||◌, ℕ, true, length, IsErr, IfOk, OnErr};
-ghost use Rattle.event_log.specs.Log.{answers, after, Fulfils};
-ghost use Rattle.event_log.specs.History.{with_event};
+ghost use Rattle.std.specs.Prelude.{◌≡◌, ◌<◌, ◌||◌, ℕ, true};
 ghost use Rattle.word_rule.specs.Cell.{Grows, OwnsAll, stored};
 ghost use Rattle.word_rule.specs.McsSteps.{IsWaitingLook, IsSeeAgain};
 ghost use Rattle.mcs_lock.specs.Passes.{IsPassOf, IsBehindOf, IsWaitingOf, IsHoldOf, IsLeavingOf, IsPassingOf, pass_part, behind_part, waiting_part, hold_held, leaving_held, passing_held};
