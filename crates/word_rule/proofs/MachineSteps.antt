@@ -110,7 +110,6 @@ module _ {O P C R : Type 0} (meaning : Ghosts O P C R) (cells : List (CellSpec O
           abbrev c0 : CellState O P C R
           c0 = the_cell.0
 
-
           opened_is : (let o : Opened P = record { params = spec.logged.params; limit = spec.logged.limit } in o) ≡ c0.opened
           opened_is = λ j. record { params = shown_cell.params j; limit = shown_cell.limit j }
 
@@ -171,7 +170,6 @@ module _ {O P C R : Type 0} (meaning : Ghosts O P C R) (cells : List (CellSpec O
           each_cpu' : (x : ℕ) (a : Vec (Todo O P C R) Global) (b : Progress O P C R) (c : CpuState O P C R) → slice_get scripts x ≡ Some a → slice_get (set done i p') x ≡ Some b → slice_get w1.cpus x ≡ Some c → ShowsCpu a b c
           each_cpu' x a b c ea eb ec = dite (ℕ_discrete x i) here there
             where
-
               here : x ≡ i → ShowsCpu a b c
               here e =
                   let fa = one_of script a (slice_get scripts x) (subst (λ y. slice_get scripts y ≡ Some script) (sym e) script_there) ea in

@@ -66,7 +66,7 @@ module _ {O P C R : Type 0} (meaning : Ghosts O P C R) where
     carried : (e : Entry O P C R) → IsAnswer meaning w e → IsAnswer meaning w' e
     carried e a = dite (ℕ_discrete e.object x)
         (λ is. let same : a.cell ≡ c = one_of a.cell c (slice_get w.cells x) (ap (λ k. slice_get w.cells k) (sym is) ∙ a.there) cell_is in
-            record { cell = c'; there = ap (λ k. slice_get (set w.cells x c') k) is ∙ cell_at; answers = t.carries e.asked e.done (subst (λ (k : CellState O P C R). Answers meaning k.opened k.log e.asked e.done) same a.answers) })
+        record { cell = c'; there = ap (λ k. slice_get (set w.cells x c') k) is ∙ cell_at; answers = t.carries e.asked e.done (subst (λ (k : CellState O P C R). Answers meaning k.opened k.log e.asked e.done) same a.answers) })
         (λ ne. record { cell = a.cell; there = cell_off e.object ne ∙ a.there; answers = a.answers })
 
     taken_here : (j : ℕ) → done_on x (entries_by j w') ≡ steps_by j c'.log
@@ -89,7 +89,7 @@ module _ {O P C R : Type 0} (meaning : Ghosts O P C R) where
           (λ ne. taken_there y j d ne (sym (cell_off y ne) ∙ there));
       answers = λ j. dite (ℕ_discrete j i)
           (λ is. subst (λ k. AllByRecursion (λ e. IsAnswer meaning w' e) (entries_by k w')) (sym is) (subst (λ l. AllByRecursion (λ e. IsAnswer meaning w' e) l) (sym mine_at)
-              (t.answers w' cell_at (all_map carried cpu.transcript (subst (λ l. AllByRecursion (λ e. IsAnswer meaning w e) l) mine_was (h.answers i))))))
+          (t.answers w' cell_at (all_map carried cpu.transcript (subst (λ l. AllByRecursion (λ e. IsAnswer meaning w e) l) mine_was (h.answers i))))))
           (λ ne. subst (λ l. AllByRecursion (λ e. IsAnswer meaning w' e) l) (sym (other_at j ne)) (all_map carried (entries_by j w) (h.answers j)));
       full = λ j. dite (ℕ_discrete j i)
           (λ is. subst (λ k. NoneAfterFull (entries_by k w')) (sym is) (subst NoneAfterFull (sym mine_at) t.full))
@@ -165,8 +165,8 @@ module _ {O P C R : Type 0} (meaning : Ghosts O P C R) where
     not_here : length c.log < c.opened.limit → (e f : Entry O P C R) → e.object ≡ todo.object → IsAnswer meaning w f → f.done ≡ done.NoRoom → done_on f.object (e ∷ []) ≡ []
     not_here room e f is a none = dite (ℕ_discrete e.object f.object)
         (λ same. absurd (let at : a.cell ≡ c = one_of a.cell c (slice_get w.cells todo.object) (ap (λ k. slice_get w.cells k) (sym is ∙ same) ∙ a.there) cell_is in
-            let full : length a.cell.log ≡ a.cell.opened.limit = subst (λ d. Answers meaning a.cell.opened a.cell.log f.asked d) none a.answers in
-            let full' : length c.log ≡ c.opened.limit = subst (λ (k : CellState O P C R). length k.log ≡ k.opened.limit) at full in omega (arith, full', room)))
+        let full : length a.cell.log ≡ a.cell.opened.limit = subst (λ d. Answers meaning a.cell.opened a.cell.log f.asked d) none a.answers in
+        let full' : length c.log ≡ c.opened.limit = subst (λ (k : CellState O P C R). length k.log ≡ k.opened.limit) at full in omega (arith, full', room)))
         (λ ne. done_elsewhere f.object e ne)
 
     -- one event more

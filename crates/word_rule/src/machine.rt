@@ -18,6 +18,8 @@ mod progress;
 mod recorded;
 mod room;
 mod step_done;
+#[cfg(test)]
+mod tests;
 mod ticket;
 
 use crate::machine::hold::count_step;
@@ -76,12 +78,14 @@ impl<O: SeqObject> Machine<O> {
         ensures back { IfErr result (λ e. (e.1 ≡ cells) × (e.2 ≡ scripts)) }
     {
         match make_room(alloc, cells.as_slice(), scripts.as_slice()) {
-            Ok(Room {
-                locks,
-                done,
-                logs,
-                transcripts,
-            }) => Ok(Machine {
+            Ok(
+                Room {
+                    locks,
+                    done,
+                    logs,
+                    transcripts,
+                },
+            ) => Ok(Machine {
                 cells,
                 locks,
                 scripts,
@@ -108,7 +112,13 @@ impl<O: SeqObject> Machine<O> {
         };
         let x = todo.object as usize;
         let step = self.locks[x].turn(cpu);
-        count_step(&mut self.done[i], &mut self.cells[x].logged, cpu, todo, step);
+        count_step(
+            &mut self.done[i],
+            &mut self.cells[x].logged,
+            cpu,
+            todo,
+            step,
+        );
         step
     }
 
