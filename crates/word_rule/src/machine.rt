@@ -18,6 +18,8 @@ mod progress;
 mod recorded;
 mod room;
 mod step_done;
+#[cfg(test)]
+mod tests;
 mod ticket;
 
 use crate::machine::hold::count_step;

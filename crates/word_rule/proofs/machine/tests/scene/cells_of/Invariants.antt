@@ -1,0 +1,6 @@
+use Rattle.std.proofs.Common.{◌≡◌, []}
+use Rattle.std.specs.List.{AllByRecursion}
+use Rattle.word_rule.proofs.machine.tests.scene.cells_of.Given as goal
+
+abbrev pub invariant-loop-kind : goal.invariant-loop-kind
+invariant-loop-kind l = AllByRecursion (λ c. c.logged.log ≡ []) l.cells.items

@@ -1,0 +1,77 @@
+//! A machine for which memory is refused.
+
+use crate::LockKind;
+use crate::machine::tests::scene::{Left, Setting, Turn, cells_of, leaves, plays, scripts_of};
+use crate::machine::{CellSpec, Machine, StepDone};
+use event_log::{OutOfMemory, Todo};
+use shared_queue::{QueueCall as Call, QueueReply as Reply, ThreadQueue};
+use std::process::Abort;
+use std::test::Fail;
+
+/// The cells are those of the setting, without events.
+fn are_cells_of<R: Abort>(rt: &R, setting: &Setting<'_>, cells: &[CellSpec<ThreadQueue>]) {
+    assert_eq!(rt; cells.len(), setting.locks.len());
+    for x in 0..cells.len() {
+        let cell = &cells[x];
+        assert_eq!(rt; (cell.kind, cell.first), setting.locks[x], "cell {x}");
+        assert_eq!(rt; *cell.logged.params(), 8, "cell {x}");
+        assert_eq!(rt; cell.logged.limit(), setting.limit, "cell {x}");
+        assert!(rt; cell.logged.log().is_empty(), "cell {x}");
+    }
+}
+
+/// The script is this one.
+fn is_script<R: Abort>(rt: &R, entries: &[(u8, Call)], script: &[Todo<ThreadQueue>]) {
+    assert_eq!(rt; script.len(), entries.len());
+    for k in 0..script.len() {
+        let (object, call) = entries[k];
+        assert_eq!(rt; script[k].object, object, "entry {k}");
+        assert_eq!(rt; script[k].calls.as_slice(), [call].as_slice(), "entry {k}");
+    }
+}
+
+/// The scripts are those of the setting.
+fn are_scripts_of<R: Abort>(rt: &R, setting: &Setting<'_>, scripts: &[Vec<Todo<ThreadQueue>>]) {
+    assert_eq!(rt; scripts.len(), setting.scripts.len());
+    for i in 0..scripts.len() {
+        is_script(rt, setting.scripts[i], scripts[i].as_slice());
+    }
+}
+
+/// To be run with each allocation refused in turn: the machine that lacks memory gives back what it was to be made of,
+/// and the next one is as ever.
+#[test]
+fn a_machine_without_memory(rt: HostRuntime) -> Result<(), Fail> {
+    let setting = Setting {
+        locks: &[(LockKind::Ticket, 7), (LockKind::Mcs, 0)],
+        limit: 100,
+        scripts: &[&[(0, Call::Enq(3)), (1, Call::Enq(4))], &[(1, Call::Deq)]],
+    };
+    let cells = cells_of(rt.alloc(), &setting)?;
+    let scripts = scripts_of(rt.alloc(), &setting, cells.len())?;
+    if cells.len() != 2 || scripts.len() != 2 {
+        return Err(Fail::new("not two cells and two CPUs"));
+    }
+    let mut machine = match Machine::new(rt.alloc(), cells, scripts) {
+        Ok(machine) => machine,
+        Err((OutOfMemory, cells, scripts)) => {
+            are_cells_of(&rt, &setting, cells.as_slice());
+            are_scripts_of(&rt, &setting, scripts.as_slice());
+            match Machine::new(rt.alloc(), cells, scripts) {
+                Ok(machine) => machine,
+                Err(_) => return Err(Fail::new("no memory")),
+            }
+        }
+    };
+    let turns: [Turn<'_>; 3] = [
+        (0, StepDone::Draw, &[&[8, 7], &[0, 0, 0, 0, 0]]),
+        (0, StepDone::Look(true), &[&[8, 7], &[0, 0, 0, 0, 0]]),
+        (0, StepDone::Serve, &[&[8, 8], &[0, 0, 0, 0, 0]]),
+    ];
+    let left = Left {
+        logs: &[&[(0, Call::Enq(3), Reply::Ok)], &[]],
+        transcripts: &[&[(0, Call::Enq(3), Some(Reply::Ok), 1)], &[]],
+    };
+    plays(&rt, &mut machine, &turns)?;
+    leaves(&rt, rt.alloc(), machine.record(), &left)
+}
