@@ -1,0 +1,1 @@
+-- What one group more makes of a hold's part.

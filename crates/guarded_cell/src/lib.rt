@@ -1,0 +1,13 @@
+//! An object behind a lock of either kind, and whole calls on it.
+#![tactic(auto)]
+
+mod cell;
+mod groups;
+mod lock;
+mod make;
+#[cfg(test)]
+mod tests;
+mod whole;
+
+pub use cell::{AnyCell, AnyHold, AnyPass};
+pub use whole::{batch, call, with_hold};
