@@ -26,7 +26,8 @@ pub(crate) fn do_groups<O: SeqObject, C: LockCell<O>>(
     ensures full { OnErr result (length (C.held hold.new).history.log ≡ (C.held hold.new).history.limit) }
 {
     for calls in groups {
-        done.push(C::apply(hold, calls.as_slice())?);
+        let steps = C::apply(hold, calls.as_slice())?;
+        done.push(steps);
     }
     Ok(())
 }

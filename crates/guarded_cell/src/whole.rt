@@ -27,6 +27,7 @@ pub fn batch<O: SeqObject, C: LockCell<O>, R: Wait>(
     requires some { 0 < length calls.now }
     requires few { length calls.now ≤ 8 }
     ensures pass { C.is_pass cell.now result.0 }
+    ensures caller { (C.part result.0).caller ≡ (C.part pass).caller }
     ensures answered { IfOk result.1 (λ s. IsAnswered O.SeqObject (C.part pass) calls.now s (C.part result.0)) }
     ensures refused { OnErr result.1 (IsRefused O.SeqObject (C.part pass) (C.part result.0)) }
 {
@@ -57,6 +58,7 @@ pub fn call<O: SeqObject, C: LockCell<O>, R: Wait>(
 ) -> (C::Pass, Result<O::Reply, NoRoom>, u64)
     requires { C.is_pass cell.now pass }
     ensures pass { C.is_pass cell.now result.0 }
+    ensures caller { (C.part result.0).caller ≡ (C.part pass).caller }
     ensures answered { IfOk result.1 (λ r. IsAnswered O.SeqObject (C.part pass) (call.now ∷ []) (one_step call.now r) (C.part result.0)) }
     ensures refused { OnErr result.1 (IsRefused O.SeqObject (C.part pass) (C.part result.0)) }
 {
@@ -82,6 +84,7 @@ pub fn with_hold<O: SeqObject, C: LockCell<O>, R: Wait>(
     requires each { All (λ g. 0 < length g.items) groups.now }
     requires empty { done.old.items ≡ [] }
     ensures pass { C.is_pass cell.now result.0 }
+    ensures caller { (C.part result.0).caller ≡ (C.part pass).caller }
     ensures held { IsHeldThrough O.SeqObject (C.part pass) groups.now done.new.items (C.part result.0) }
     ensures whole { OnOk result.1 (length done.new.items ≡ length groups.now) }
     ensures left { OnErr result.1 (length done.new.items < length groups.now) }
@@ -103,6 +106,7 @@ impl<O: SeqObject> AnyCell<O> {
     ) -> (AnyPass<O>, Result<O::Reply, NoRoom>, u64)
         requires { IsPassOf self.now pass }
         ensures pass { IsPassOf self.now result.0 }
+        ensures caller { (pass_part result.0).caller ≡ (pass_part pass).caller }
         ensures answered { IfOk result.1 (λ r. IsAnswered O.SeqObject (pass_part pass) (asked.now ∷ []) (one_step asked.now r) (pass_part result.0)) }
         ensures refused { OnErr result.1 (IsRefused O.SeqObject (pass_part pass) (pass_part result.0)) }
     {
@@ -120,6 +124,7 @@ impl<O: SeqObject> AnyCell<O> {
         requires some { 0 < length calls.now }
         requires few { length calls.now ≤ 8 }
         ensures pass { IsPassOf self.now result.0 }
+        ensures caller { (pass_part result.0).caller ≡ (pass_part pass).caller }
         ensures answered { IfOk result.1 (λ s. IsAnswered O.SeqObject (pass_part pass) calls.now s (pass_part result.0)) }
         ensures refused { OnErr result.1 (IsRefused O.SeqObject (pass_part pass) (pass_part result.0)) }
     {
@@ -141,6 +146,7 @@ impl<O: SeqObject> AnyCell<O> {
         requires each { All (λ g. 0 < length g.items) groups.now }
         requires empty { done.old.items ≡ [] }
         ensures pass { IsPassOf self.now result.0 }
+        ensures caller { (pass_part result.0).caller ≡ (pass_part pass).caller }
         ensures held { IsHeldThrough O.SeqObject (pass_part pass) groups.now done.new.items (pass_part result.0) }
         ensures whole { OnOk result.1 (length done.new.items ≡ length groups.now) }
         ensures left { OnErr result.1 (length done.new.items < length groups.now) }
