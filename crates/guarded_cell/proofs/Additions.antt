@@ -1,5 +1,5 @@
 -- What a hold adds to a log, group by group.
-use Rattle.std.proofs.Common.{◌≡◌, ℕ, suc, ◌+◌, ◌<◌, List, [], ◌∷◌, ◌++◌, length, map, take, drop, get_or, refl, sym, ap, ◌∙◌, subst, arith, append_assoc, length-take, Result, Ok, Err, OnErr}
+use Rattle.std.proofs.Common.{◌≡◌, ℕ, suc, ◌+◌, ◌<◌, List, [], ◌∷◌, ◌++◌, length, map, take, drop, get_or, slice_index_or, refl, sym, ap, ◌∙◌, subst, arith, append_assoc, length-take, Result, Ok, Err, OnErr}
 use Rattle.std.proofs.lemmas.List.{map-append, take-append-drop, take_more}
 use Rattle.arrayvec.specs.ArrayVec.{ArrayVec}
 use Rattle.event_log.specs.declared.object.SeqObject.{Ghosts}
@@ -13,10 +13,13 @@ use Rattle.guarded_cell.specs.Groups.{HasAdded}
 
 module _ {O P C R : Type 0} (meaning : Ghosts O P C R) where
   -- a single call is answered by a single step
-  pub one_long : (c : C) (steps : List (Step O P C R)) → Fulfils meaning (c ∷ []) steps → length steps ≡ 1
-  one_long c [] f = absurd (let e : [] ≡ c ∷ [] = f.whole refl in cc)
-  one_long c (s ∷ []) f = refl
-  one_long c (s ∷ t ∷ more) f = absurd (let e : 1 ≡ suc (suc (length (calls_of more))) = ap length f.beginning.start in omega arith)
+  pub only_step : (c : C) (steps : List (Step O P C R)) (d : Step O P C R) → Fulfils meaning (c ∷ []) steps → steps ≡ record { call = c; reply = (slice_index_or steps 0 d).reply } ∷ []
+  only_step c [] d f = absurd (let e : [] ≡ c ∷ [] = f.whole refl in cc)
+  only_step c (s ∷ []) d f =
+      let same : c ∷ [] ≡ s.call ∷ [] = f.beginning.start in
+      let call : s.call ≡ c = cc in
+      λ i. record { call = call i; reply = s.reply } ∷ []
+  only_step c (s ∷ t ∷ more) d f = absurd (let e : 1 ≡ suc (suc (length (calls_of more))) = ap length f.beginning.start in omega arith)
 
   -- one event more under a hold
   pub added_more : (h0 h k : Held O P C R) (done more : List (Steps O P C R)) (s : Steps O P C R) (state : O) → HasAdded h0 done h → k.caller ≡ h.caller

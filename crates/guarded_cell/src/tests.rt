@@ -78,10 +78,8 @@ fn call_alone<O: SeqObject, R: Wait>(
 fn are_steps<O: SeqObject>(steps: &Steps<O>, wanted: &[(O::Call, O::Reply)]) -> bool {
     let steps = steps.list.as_slice();
     steps.len() == wanted.len()
-        && steps
-            .iter()
-            .zip(wanted.iter())
-            .all(|(step, (call, reply))| step.call == *call && step.reply == *reply)
+        && steps.iter().zip(wanted.iter()).all(|(step, (call, reply))| step.call == *call
+            && step.reply == *reply)
 }
 
 #[test]
@@ -149,7 +147,12 @@ fn a_hold_stops_at_a_full_log(rt: HostRuntime) -> Result<(), Fail> {
         let [first, second, third] = done.as_slice() else {
             return Err(Fail::new("not three groups"));
         };
-        assert!(rt; are_steps(first, &[(Call::Enq(1), Reply::Ok), (Call::Enq(2), Reply::Ok)]));
+        assert!(rt;
+            are_steps(
+                first,
+                &[(Call::Enq(1), Reply::Ok), (Call::Enq(2), Reply::Ok)]
+            )
+        );
         assert!(rt; are_steps(second, &[(Call::Enq(1), Reply::Already)]));
         assert!(rt; are_steps(third, &[(Call::Deq, Reply::Thread(1))]));
         assert_eq!(rt; queue.log().len(), 3);
@@ -172,10 +175,7 @@ fn meet_between<R: Wait>(
     passes: (AnyPass<ThreadQueue>, AnyPass<ThreadQueue>),
     first: Call,
     second: Call,
-) -> (
-    Logged<ThreadQueue>,
-    [(Result<Reply, NoRoom>, u64); 2],
-)
+) -> (Logged<ThreadQueue>, [(Result<Reply, NoRoom>, u64); 2])
     requires zero { IsPassOf cell passes.0 }
     requires one { IsPassOf cell passes.1 }
     requires all { (k : ℕ) → k < (pass_part passes.0).caller.cell.numbers → ((pass_part passes.0).caller.owned k || (pass_part passes.1).caller.owned k) ≡ true }
@@ -185,10 +185,7 @@ fn meet_between<R: Wait>(
     let (zero, one) = cell.meet(zero, one);
     let (one, got, second_looks) = cell.call(rt, one, &second);
     let pass = cell.join(zero, one);
-    (
-        cell.close(pass),
-        [(put, first_looks), (got, second_looks)],
-    )
+    (cell.close(pass), [(put, first_looks), (got, second_looks)])
 }
 
 #[test]
@@ -197,7 +194,10 @@ fn two_cpus_meet(rt: HostRuntime) -> Result<(), Fail> {
         let (cell, passes) = cell_of_two(rt.alloc(), kind, 100)?;
         assert_eq!(rt; cell.kind(), kind);
         let (mut queue, replies) = meet_between(&rt, cell, passes, Call::Enq(3), Call::Deq);
-        assert_eq!(rt; replies, [(Ok(Reply::Ok), looks), (Ok(Reply::Thread(3)), looks)]);
+        assert_eq!(rt;
+            replies,
+            [(Ok(Reply::Ok), looks), (Ok(Reply::Thread(3)), looks)]
+        );
         let [enq, deq] = queue.log() else {
             return Err(Fail::new("not two events"));
         };

@@ -43,10 +43,7 @@ fn only_reply<O: SeqObject>(call: &O::Call, steps: &Steps<O>) -> O::Reply
     ensures { steps.now ≡ one_step call.now result }
 {
     let _ = call;
-    match steps.list.as_slice() {
-        [step] => step.reply,
-        _ => unreachable!(),
-    }
+    steps.list.as_slice()[0].reply
 }
 
 /// Does a call as one event of the acting CPU.
