@@ -1,3 +1,4 @@
 pub mod Additions
-pub mod Wrapped
 pub mod Called
+pub mod Owners
+pub mod Wrapped

@@ -56,7 +56,7 @@ impl<O: SeqObject> AnyCell<O> {
     }
 }
 
-// The same passes, in order. There is room for them.
+// The passes of a ticket lock as passes of a cell, in order. There is room for them.
 fn ticket_passes<O: SeqObject>(
     passes: Vec<ticket_lock::Pass<O>>,
     mut any: Vec<AnyPass<O>>,
@@ -70,6 +70,7 @@ fn ticket_passes<O: SeqObject>(
     any
 }
 
+// The same for passes of an MCS lock.
 fn mcs_passes<O: SeqObject>(
     passes: Vec<mcs_lock::Pass<O>>,
     mut any: Vec<AnyPass<O>>,

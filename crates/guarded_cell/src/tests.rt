@@ -1,12 +1,12 @@
 //! Cells of both kinds around a queue of threads and around a scheduler.
 
-ghost use Rattle.std.specs.Prelude.{◌≡◌, ◌<◌, ◌≤◌, ◌||◌, ℕ, true, length, IfOk};
+ghost use Rattle.std.specs.Prelude.{◌≡◌, ◌<◌, ◌||◌, ℕ, true, [], ◌∷◌, IfOk};
 ghost use Rattle.word_rule.specs.Cell.{OwnsAll};
 ghost use Rattle.guarded_cell.specs.Kinds.{IsPassOf, pass_part};
 
-use crate::{AnyCell, AnyPass, call_all, two_callers};
+use crate::{AnyCell, AnyPass, two_callers};
 use arrayvec::ArrayVec;
-use event_log::{Logged, NoRoom, SeqObject, Step, Steps};
+use event_log::{Logged, NoRoom, SeqObject, Steps};
 use shared_queue::{QueueCall as Call, QueueReply as Reply, ThreadQueue};
 use std::alloc::Global;
 use std::sync::Wait;
@@ -103,15 +103,22 @@ fn a_queue_goes_from_lock_to_lock(rt: HostRuntime) -> Result<(), Fail> {
     Ok(())
 }
 
-/// The calls as a group.
-fn group(calls: &[Call]) -> ArrayVec<Call, 8>
-    requires { length calls.now ≤ 8 }
-    ensures { result.items ≡ calls.now }
+/// A group of one call.
+fn one(call: Call) -> ArrayVec<Call, 8>
+    ensures { result.items ≡ call ∷ [] }
 {
     let mut group = ArrayVec::new();
-    for call in calls {
-        group.push(*call);
-    }
+    group.push(call);
+    group
+}
+
+/// A group of two calls.
+fn two(first: Call, second: Call) -> ArrayVec<Call, 8>
+    ensures { result.items ≡ first ∷ second ∷ [] }
+{
+    let mut group = ArrayVec::new();
+    group.push(first);
+    group.push(second);
     group
 }
 
@@ -129,10 +136,10 @@ fn four_groups<R: Wait>(
         return Err(Fail::new("no memory"));
     };
     let groups = [
-        group(&[Call::Enq(1), Call::Enq(2)]),
-        group(&[Call::Enq(1)]),
-        group(&[Call::Deq]),
-        group(&[Call::Len]),
+        two(Call::Enq(1), Call::Enq(2)),
+        one(Call::Enq(1)),
+        one(Call::Deq),
+        one(Call::Len),
     ];
     let (pass, outcome, _) = cell.with_hold(rt, pass, &groups, done);
     Ok((cell.close(pass), outcome))
@@ -301,5 +308,17 @@ fn two_callers_end_a_cell(rt: HostRuntime) -> Result<(), Fail> {
         let cpus = queue.log().iter().filter(|event| event.cpu == 0).count();
         assert_eq!(rt; (cpus, queue.log().len()), (2, 3));
     }
+    Ok(())
+}
+
+#[test]
+fn example(rt: HostRuntime) -> Result<(), Fail> {
+    let (cell, (zero, one)) = cell_of_two(rt.alloc(), LockKind::Mcs, 100)?;
+    let (zero, put, _) = cell.call(&rt, zero, &Call::Enq(3));
+    let (one, got, _) = cell.call(&rt, one, &Call::Deq);
+    let pass = cell.join(zero, one);
+    let queue = cell.close(pass);
+    assert_eq!(rt; (put, got), (Ok(Reply::Ok), Ok(Reply::Thread(3))));
+    assert_eq!(rt; queue.log().len(), 2);
     Ok(())
 }
