@@ -1,4 +1,4 @@
-use Rattle.std.proofs.Common.{◌≡◌, ◌+◌, take, refl, sym, ap, ◌∙◌, subst}
+use Rattle.std.proofs.Common.{◌+◌, take, refl, sym, ap, ◌∙◌, subst}
 use Rattle.guarded_cell.specs.Calls.{HasCalled}
 use Rattle.guarded_cell.proofs.Called.{called_nothing, called_next, called_full}
 use Rattle.guarded_cell.proofs.callers.call_all.Goals as goal

@@ -1,4 +1,4 @@
-use Rattle.std.proofs.Common.{◌≡◌, ap, ◌∙◌}
+use Rattle.std.proofs.Common.{ap, ◌∙◌}
 use Rattle.guarded_cell.proofs.Called.{called_met, ended, ended_full}
 use Rattle.guarded_cell.proofs.callers.two_callers.Goals as goal
 

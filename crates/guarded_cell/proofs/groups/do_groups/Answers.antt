@@ -1,5 +1,5 @@
-use Rattle.std.proofs.Common.{rules, arith, ◌≡◌, ◌<◌, [], ◌∷◌, ◌+◌, length, ap, sym, ◌∙◌, subst, refl, length-append}
-use Rattle.guarded_cell.proofs.Additions.{added_more, fulfil_next, fulfil_front, on_err}
+use Rattle.std.proofs.Common.{[], ◌∷◌, ◌+◌, length, ap, ◌∙◌, length-append}
+use Rattle.guarded_cell.proofs.Additions.{added_more, fulfil_next, fulfil_front}
 use Rattle.guarded_cell.proofs.groups.do_groups.Goals as goal
 
 pub returns-in_err-steps-clause-fulfils : goal.returns-in_err-steps-clause-fulfils
