@@ -1,0 +1,4 @@
+pub mod Additions
+pub mod Called
+pub mod Owners
+pub mod Wrapped

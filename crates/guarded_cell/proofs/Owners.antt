@@ -1,0 +1,24 @@
+-- Passes of a new cell that own every number.
+use Rattle.std.proofs.Common.{◌≡◌, ℕ, zero, suc, ◌<◌, ◌==◌, ◌||◌, true, refl, sym, subst, arith}
+use Rattle.event_log.specs.History.{History}
+use Rattle.word_rule.specs.Cell.{Part, OwnsAll, first_part}
+
+module _ {O P C R : Type 0} where
+  -- the only pass of a cell of one CPU
+  pub owns_alone : (x : History O P C R) (p : Part O P C R) → p ≡ first_part x 1 0 → OwnsAll p.caller
+  owns_alone x p is = subst (λ (z : Part O P C R). OwnsAll z.caller) (sym is) (record { each = alone })
+    where
+      alone : (k : ℕ) → k < 1 → (k == 0) ≡ true
+      alone zero lt = refl
+      alone (suc k) lt = absurd (omega arith)
+
+  -- the two passes of a cell of two CPUs
+  pub own_both : (x : History O P C R) (p q : Part O P C R) → p ≡ first_part x 2 0 → q ≡ first_part x 2 1 → (k : ℕ) → k < p.caller.cell.numbers → (p.caller.owned k || q.caller.owned k) ≡ true
+  own_both x p q first second k lt =
+      subst (λ (z : Part O P C R). (z.caller.owned k || q.caller.owned k) ≡ true) (sym first)
+      (subst (λ (z : Part O P C R). ((k == 0) || z.caller.owned k) ≡ true) (sym second) (both k (subst (λ (z : Part O P C R). k < z.caller.cell.numbers) first lt)))
+    where
+      both : (k : ℕ) → k < 2 → ((k == 0) || (k == 1)) ≡ true
+      both zero lt = refl
+      both (suc zero) lt = refl
+      both (suc (suc k)) lt = absurd (omega arith)

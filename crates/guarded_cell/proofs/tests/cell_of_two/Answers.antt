@@ -1,0 +1,10 @@
+use Rattle.std.proofs.Common.{rules, ◌≡◌, Some, slice_get}
+use Rattle.guarded_cell.specs.Kinds.{pass_part}
+use Rattle.guarded_cell.proofs.Owners.{own_both}
+use Rattle.guarded_cell.proofs.tests.cell_of_two.Goals as goal
+
+pub returns-clause-all : goal.returns-clause-all
+returns-clause-all c =
+    let zero : slice_get c.in-Ok.passes.items 0 ≡ Some c.unwrap-zero.result = search rules in
+    let one : slice_get c.in-Ok.passes.items 1 ≡ Some c.unwrap-one.result = search rules in
+    own_both c.in_ok-queue.queue (pass_part c.unwrap-zero.result) (pass_part c.unwrap-one.result) (c.in-Ok.ensures.passes 0 c.unwrap-zero.result zero).1 (c.in-Ok.ensures.passes 1 c.unwrap-one.result one).1

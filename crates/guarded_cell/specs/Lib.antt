@@ -1,0 +1,4 @@
+pub mod Kinds
+pub mod Callers
+pub mod Groups
+pub mod Calls

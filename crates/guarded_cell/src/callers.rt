@@ -1,0 +1,62 @@
+//! Callers that do lists of calls, and end their cell: what they leave in the log, whatever order their calls come in.
+
+ghost use Rattle.std.specs.Prelude.{◌≡◌, ◌<◌, ◌≤◌, ◌||◌, ℕ, true, length, take};
+ghost use Rattle.guarded_cell.specs.Calls.{HasCalled, IsEnded};
+
+use crate::whole::call;
+use event_log::{Logged, NoRoom, SeqObject};
+use std::sync::Wait;
+use word_rule::LockCell;
+
+/// Does the calls one after another, each as one event, up to the first without room. The number is that of the calls
+/// that were done. Other callers may do theirs at the same time.
+pub fn call_all<O: SeqObject, C: LockCell<O>, R: Wait>(
+    rt: &R,
+    cell: &C,
+    pass: C::Pass,
+    calls: &[O::Call],
+) -> (C::Pass, usize)
+    requires { C.is_pass cell.now pass }
+    ensures pass { C.is_pass cell.now result.0 }
+    ensures caller { (C.part result.0).caller ≡ (C.part pass).caller }
+    ensures called { HasCalled (C.part pass) (take result.1 calls.now) (C.part result.0).seen }
+    ensures count { result.1 ≤ length calls.now }
+    ensures full { result.1 < length calls.now → length (C.part result.0).seen ≡ (C.part pass).caller.cell.limit }
+{
+    let mut pass = pass;
+    let mut done = 0;
+    for asked in calls {
+        let (back, reply, _looks) = call(rt, cell, pass, asked);
+        pass = back;
+        match reply {
+            Ok(_) => done += 1,
+            Err(NoRoom) => return (pass, done),
+        }
+    }
+    (pass, done)
+}
+
+/// Two callers, who own every number of the cell together, do their calls, meet, become one and end the cell. The numbers
+/// are those of the calls that each has done: all, unless the log is full.
+pub fn two_callers<O: SeqObject, C: LockCell<O>, R: Wait>(
+    rt: &R,
+    cell: C,
+    passes: (C::Pass, C::Pass),
+    first_calls: &[O::Call],
+    second_calls: &[O::Call],
+) -> (Logged<O>, usize, usize)
+    requires first { C.is_pass cell passes.0 }
+    requires second { C.is_pass cell passes.1 }
+    requires all { (k : ℕ) → k < (C.part passes.0).caller.cell.numbers → ((C.part passes.0).caller.owned k || (C.part passes.1).caller.owned k) ≡ true }
+    ensures ended { IsEnded O.SeqObject (C.part passes.0) (take result.1 first_calls.now) (C.part passes.1) (take result.2 second_calls.now) result.0 }
+    ensures counts { (result.1 ≤ length first_calls.now) × (result.2 ≤ length second_calls.now) }
+    ensures first_full { result.1 < length first_calls.now → length result.0.log ≡ result.0.limit }
+    ensures second_full { result.2 < length second_calls.now → length result.0.log ≡ result.0.limit }
+{
+    let (first, second) = passes;
+    let (first, first_done) = call_all(rt, &cell, first, first_calls);
+    let (second, second_done) = call_all(rt, &cell, second, second_calls);
+    let (first, second) = cell.meet(first, second);
+    let pass = cell.join(first, second);
+    (cell.close(pass), first_done, second_done)
+}

@@ -1,0 +1,33 @@
+//! Groups of calls under one hold.
+
+ghost use Rattle.std.specs.Prelude.{◌≡◌, ◌<◌, ◌≤◌, [], length, OnOk, OnErr};
+ghost use Rattle.std.specs.List.{All};
+ghost use Rattle.word_rule.specs.Answered.{FulfilFirst};
+ghost use Rattle.guarded_cell.specs.Groups.{HasAdded};
+
+use arrayvec::ArrayVec;
+use event_log::{NoRoom, SeqObject, Steps};
+use word_rule::LockCell;
+
+/// Does the groups, one event for each, up to the first without room.
+pub(crate) fn do_groups<O: SeqObject, C: LockCell<O>>(
+    hold: &mut C::Hold,
+    groups: &[ArrayVec<O::Call, 8>],
+    done: &mut ArrayVec<Steps<O>, 8>,
+) -> Result<(), NoRoom>
+    requires few { length groups.now ≤ 8 }
+    requires each { All (λ g. 0 < length g.items) groups.now }
+    requires empty { done.old.items ≡ [] }
+    ensures hold { (cell : C) → C.is_hold cell hold.old → C.is_hold cell hold.new }
+    ensures added { HasAdded (C.held hold.old) done.new.items (C.held hold.new) }
+    ensures fulfils { FulfilFirst O.SeqObject groups.now done.new.items }
+    ensures whole { OnOk result (length done.new.items ≡ length groups.now) }
+    ensures left { OnErr result (length done.new.items < length groups.now) }
+    ensures full { OnErr result (length (C.held hold.new).history.log ≡ (C.held hold.new).history.limit) }
+{
+    for calls in groups {
+        let steps = C::apply(hold, calls.as_slice())?;
+        done.push(steps);
+    }
+    Ok(())
+}

@@ -1,0 +1,15 @@
+//! An object behind a lock of either kind, and whole calls on it.
+#![tactic(auto)]
+
+mod callers;
+mod cell;
+mod groups;
+mod lock;
+mod make;
+#[cfg(test)]
+mod tests;
+mod whole;
+
+pub use callers::{call_all, two_callers};
+pub use cell::{AnyCell, AnyHold, AnyPass};
+pub use whole::{batch, call, with_hold};

@@ -1,0 +1,154 @@
+//! Whole calls on a cell: the object is acquired once and released once. They take no memory, and may wait.
+
+ghost use Rattle.std.specs.Prelude.{◌≡◌, ◌<◌, ◌≤◌, [], ◌∷◌, length, IfOk, OnOk, OnErr};
+ghost use Rattle.std.specs.List.{All};
+ghost use Rattle.event_log.specs.Log.{Fulfils};
+ghost use Rattle.word_rule.specs.Answered.{IsAnswered, IsRefused, IsHeldThrough};
+ghost use Rattle.guarded_cell.specs.Groups.{one_step};
+ghost use Rattle.guarded_cell.specs.Kinds.{IsPassOf, pass_part};
+
+use crate::cell::{AnyCell, AnyPass};
+use crate::groups::do_groups;
+use arrayvec::ArrayVec;
+use event_log::{NoRoom, SeqObject, Steps};
+use std::slice;
+use std::sync::Wait;
+use word_rule::LockCell;
+
+/// Does 1 to 8 calls as one event of the acting CPU, up to and with the first that is refused. The number is that of the
+/// looks.
+pub fn batch<O: SeqObject, C: LockCell<O>, R: Wait>(
+    rt: &R,
+    cell: &C,
+    pass: C::Pass,
+    calls: &[O::Call],
+) -> (C::Pass, Result<Steps<O>, NoRoom>, u64)
+    requires pass { C.is_pass cell.now pass }
+    requires some { 0 < length calls.now }
+    requires few { length calls.now ≤ 8 }
+    ensures pass { C.is_pass cell.now result.0 }
+    ensures caller { (C.part result.0).caller ≡ (C.part pass).caller }
+    ensures answered { IfOk result.1 (λ s. IsAnswered O.SeqObject (C.part pass) calls.now s (C.part result.0)) }
+    ensures refused { OnErr result.1 (IsRefused O.SeqObject (C.part pass) (C.part result.0)) }
+{
+    let (mut hold, looks) = cell.acquire(rt, pass);
+    let done = C::apply(&mut hold, calls);
+    let pass = cell.release(rt, hold);
+    (pass, done, looks)
+}
+
+// The reply of the steps' only call.
+fn only_reply<O: SeqObject>(call: &O::Call, steps: &Steps<O>) -> O::Reply
+    requires { Fulfils O.SeqObject (call.now ∷ []) steps.now.list.items }
+    ensures { steps.now ≡ one_step call.now result }
+{
+    let _ = call;
+    steps.list.as_slice()[0].reply
+}
+
+/// Does a call as one event of the acting CPU.
+pub fn call<O: SeqObject, C: LockCell<O>, R: Wait>(
+    rt: &R,
+    cell: &C,
+    pass: C::Pass,
+    call: &O::Call,
+) -> (C::Pass, Result<O::Reply, NoRoom>, u64)
+    requires { C.is_pass cell.now pass }
+    ensures pass { C.is_pass cell.now result.0 }
+    ensures caller { (C.part result.0).caller ≡ (C.part pass).caller }
+    ensures answered { IfOk result.1 (λ r. IsAnswered O.SeqObject (C.part pass) (call.now ∷ []) (one_step call.now r) (C.part result.0)) }
+    ensures refused { OnErr result.1 (IsRefused O.SeqObject (C.part pass) (C.part result.0)) }
+{
+    let (pass, done, looks) = batch(rt, cell, pass, slice::from_ref(call));
+    match done {
+        Ok(steps) => (pass, Ok(only_reply(call, &steps)), looks),
+        Err(NoRoom) => (pass, Err(NoRoom), looks),
+    }
+}
+
+/// Does 1 to 8 groups of 1 to 8 calls each under one hold: one event for each group, and nobody's event between them. At
+/// the first group without room it stops; `done` gets the steps of the groups that were done.
+pub fn with_hold<O: SeqObject, C: LockCell<O>, R: Wait>(
+    rt: &R,
+    cell: &C,
+    pass: C::Pass,
+    groups: &[ArrayVec<O::Call, 8>],
+    done: &mut ArrayVec<Steps<O>, 8>,
+) -> (C::Pass, Result<(), NoRoom>, u64)
+    requires pass { C.is_pass cell.now pass }
+    requires some { 0 < length groups.now }
+    requires few { length groups.now ≤ 8 }
+    requires each { All (λ g. 0 < length g.items) groups.now }
+    requires empty { done.old.items ≡ [] }
+    ensures pass { C.is_pass cell.now result.0 }
+    ensures caller { (C.part result.0).caller ≡ (C.part pass).caller }
+    ensures held { IsHeldThrough O.SeqObject (C.part pass) groups.now done.new.items (C.part result.0) }
+    ensures whole { OnOk result.1 (length done.new.items ≡ length groups.now) }
+    ensures left { OnErr result.1 (length done.new.items < length groups.now) }
+    ensures full { OnErr result.1 (length (C.part result.0).seen ≡ (C.part pass).caller.cell.limit) }
+{
+    let (mut hold, looks) = cell.acquire(rt, pass);
+    let outcome = do_groups::<O, C>(&mut hold, groups, done);
+    let pass = cell.release(rt, hold);
+    (pass, outcome, looks)
+}
+
+impl<O: SeqObject> AnyCell<O> {
+    /// Does a call as one event of the acting CPU. The number is that of the looks.
+    pub fn call<R: Wait>(
+        &self,
+        rt: &R,
+        pass: AnyPass<O>,
+        asked: &O::Call,
+    ) -> (AnyPass<O>, Result<O::Reply, NoRoom>, u64)
+        requires { IsPassOf self.now pass }
+        ensures pass { IsPassOf self.now result.0 }
+        ensures caller { (pass_part result.0).caller ≡ (pass_part pass).caller }
+        ensures answered { IfOk result.1 (λ r. IsAnswered O.SeqObject (pass_part pass) (asked.now ∷ []) (one_step asked.now r) (pass_part result.0)) }
+        ensures refused { OnErr result.1 (IsRefused O.SeqObject (pass_part pass) (pass_part result.0)) }
+    {
+        call(rt, self, pass, asked)
+    }
+
+    /// Does 1 to 8 calls as one event of the acting CPU, up to and with the first that is refused.
+    pub fn batch<R: Wait>(
+        &self,
+        rt: &R,
+        pass: AnyPass<O>,
+        calls: &[O::Call],
+    ) -> (AnyPass<O>, Result<Steps<O>, NoRoom>, u64)
+        requires pass { IsPassOf self.now pass }
+        requires some { 0 < length calls.now }
+        requires few { length calls.now ≤ 8 }
+        ensures pass { IsPassOf self.now result.0 }
+        ensures caller { (pass_part result.0).caller ≡ (pass_part pass).caller }
+        ensures answered { IfOk result.1 (λ s. IsAnswered O.SeqObject (pass_part pass) calls.now s (pass_part result.0)) }
+        ensures refused { OnErr result.1 (IsRefused O.SeqObject (pass_part pass) (pass_part result.0)) }
+    {
+        batch(rt, self, pass, calls)
+    }
+
+    /// Does 1 to 8 groups of 1 to 8 calls each under one hold: one event for each group, and nobody's event between them.
+    /// At the first group without room it stops; `done` gets the steps of the groups that were done.
+    pub fn with_hold<R: Wait>(
+        &self,
+        rt: &R,
+        pass: AnyPass<O>,
+        groups: &[ArrayVec<O::Call, 8>],
+        done: &mut ArrayVec<Steps<O>, 8>,
+    ) -> (AnyPass<O>, Result<(), NoRoom>, u64)
+        requires pass { IsPassOf self.now pass }
+        requires some { 0 < length groups.now }
+        requires few { length groups.now ≤ 8 }
+        requires each { All (λ g. 0 < length g.items) groups.now }
+        requires empty { done.old.items ≡ [] }
+        ensures pass { IsPassOf self.now result.0 }
+        ensures caller { (pass_part result.0).caller ≡ (pass_part pass).caller }
+        ensures held { IsHeldThrough O.SeqObject (pass_part pass) groups.now done.new.items (pass_part result.0) }
+        ensures whole { OnOk result.1 (length done.new.items ≡ length groups.now) }
+        ensures left { OnErr result.1 (length done.new.items < length groups.now) }
+        ensures full { OnErr result.1 (length (pass_part result.0).seen ≡ (pass_part pass).caller.cell.limit) }
+    {
+        with_hold(rt, self, pass, groups, done)
+    }
+}
