@@ -1,5 +1,5 @@
 -- The law of arrival, from an opening world on.
-use Rattle.std.proofs.Common.{◌≡◌, ℕ, zero, suc, ◌+◌, ◌*◌, ◌%◌, ◌<◌, ◌≤◌, Bool, true, false, List, [], ◌∷◌, ◌++◌, length, replicate, get_or, slice_get, Option, Some, None, refl, sym, ap, ◌∙◌, subst, arith}
+use Rattle.std.proofs.Common.{◌≡◌, ℕ, zero, suc, ◌+◌, ◌*◌, ◌%◌, ◌<◌, ◌≤◌, true, List, [], ◌∷◌, ◌++◌, length, replicate, get_or, slice_get, Option, Some, None, refl, sym, ap, ◌∙◌, subst, arith}
 use Rattle.std.proofs.lemmas.List.{length-append, length-replicate}
 use Rattle.std.proofs.Math.Nat.{mod-lt}
 use Rattle.event_log.specs.declared.object.SeqObject.{Ghosts}
@@ -10,11 +10,11 @@ use Rattle.word_rule.specs.declared.lock_kind.LockKind.TheVariants as kinds
 use Rattle.word_rule.specs.Line.{holding}
 use Rattle.word_rule.specs.Locks.{Lock, opening_lock, tickets}
 use Rattle.word_rule.specs.LockWords.{TiedTicket, TiedMcs, TiedOf}
-use Rattle.word_rule.specs.Opening.{IsOpening, IsOpeningCell}
+use Rattle.word_rule.specs.Opening.{IsOpening}
 use Rattle.word_rule.specs.Orders.{is_at, arrivals, endings}
-use Rattle.word_rule.specs.Turns.{arrives, ends_hold}
+use Rattle.word_rule.specs.Turns.{arrives}
 use Rattle.word_rule.specs.World.{World, CellState, run, step}
-use Rattle.word_rule.proofs.Orders.{AreLocks, IsCell, line_in, in_order, locks_run, same_cpus, room_to_arrive, run_append, doers_append}
+use Rattle.word_rule.proofs.Orders.{AreLocks, IsCell, line_in, in_order, locks_run, same_cpus, room_to_arrive}
 use Rattle.word_rule.proofs.QueueLines.{queue_starts, queue_ties}
 use Rattle.word_rule.proofs.TicketLines.{starts, ticket_ties}
 use Rattle.word_rule.proofs.TurnsKeep.{IsLock, locks_keep}

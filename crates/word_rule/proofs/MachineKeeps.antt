@@ -1,5 +1,5 @@
 -- What the machine's invariant is after a step.
-use Rattle.std.proofs.Common.{◌≡◌, ◌≢◌, ℕ, zero, suc, ◌+◌, ◌-◌, ◌<◌, ◌≤◌, Bool, true, false, cond, List, [], ◌∷◌, ◌++◌, length, map, take, get_or, slice_get, vec_len, vec_capacity, Vec, Option, Some, None, refl, sym, ap, ◌∙◌, subst, arith, length-append}
+use Rattle.std.proofs.Common.{◌≡◌, ℕ, zero, suc, ◌+◌, ◌<◌, ◌≤◌, Bool, true, false, cond, List, [], ◌∷◌, ◌++◌, length, map, take, get_or, slice_get, vec_len, Vec, Some, None, refl, sym, ap, ◌∙◌, subst, arith, length-append}
 use Rattle.std.proofs.Math.ListN.{set}
 use Rattle.std.specs.declared.alloc.Global.{Global}
 use Rattle.std.proofs.lemmas.List.{length-set}
@@ -13,14 +13,13 @@ use Rattle.word_rule.specs.declared.machine.lock_words.LockWords.{LockWords}
 use Rattle.word_rule.specs.declared.machine.progress.Progress.{Progress}
 use Rattle.word_rule.specs.declared.machine.step_done.StepDone.{StepDone}
 use Rattle.word_rule.specs.LockWords.{ShowsLock}
-use Rattle.word_rule.specs.Shown.{Parts, Shows, Runs, HasRoom, IsRoomy, opened_by}
+use Rattle.word_rule.specs.Shown.{Parts, Runs, HasRoom, IsRoomy, opened_by}
 use Rattle.word_rule.specs.Sound.{Opened}
-use Rattle.word_rule.specs.SoundWorld.{IsTodo}
 use Rattle.word_rule.specs.Turns.{turn, ends_hold}
 use Rattle.word_rule.specs.World.{World, entry_of, outcome, step, run}
 use Rattle.word_rule.proofs.Openings.{take_more}
-use Rattle.word_rule.proofs.MachineSteps.{Counts, kept_parts, the_cell, able, stepped}
-use Rattle.word_rule.proofs.Slices.{get_set_same, get_set_other, read_get, some_at, one_of}
+use Rattle.word_rule.proofs.MachineSteps.{Counts, kept_parts, the_cell, stepped}
+use Rattle.word_rule.proofs.Slices.{get_set_same, get_set_other, read_get, one_of}
 use Rattle.word_rule.proofs.SoundSteps.{sound_step}
 
 pub same_read : {X : Type 0} (xs : List X) (i : ℕ) (x y : X) → i < length xs → x ≡ get_or xs i x → y ≡ get_or xs i y → x ≡ y

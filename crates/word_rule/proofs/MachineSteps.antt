@@ -1,15 +1,12 @@
 -- A step of the machine against a step of the world.
-use Rattle.std.proofs.Common.{◌≡◌, ◌≢◌, ℕ, zero, suc, ◌+◌, ◌-◌, ◌<◌, ◌≤◌, Bool, true, false, cond, List, [], ◌∷◌, ◌++◌, length, map, drop, get_or, slice_get, slice_set, vec_len, vec_capacity, Vec, Option, Some, None, refl, sym, ap, ◌∙◌, subst, arith, add-one}
+use Rattle.std.proofs.Common.{◌≡◌, ◌≢◌, ℕ, zero, suc, ◌+◌, ◌<◌, Bool, true, false, cond, List, [], ◌∷◌, ◌++◌, length, drop, get_or, slice_get, vec_len, vec_capacity, Vec, Option, Some, None, refl, sym, ap, ◌∙◌, subst, arith, add-one}
 use Rattle.std.proofs.Math.ListN.{set}
 use Rattle.std.specs.List.{AllByRecursion}
 use Rattle.std.specs.declared.alloc.Global.{Global}
-use Rattle.std.proofs.lemmas.List.{length-set, drop_all}
-use Rattle.std.proofs.lemmas.Option.{slice_get_within}
+use Rattle.std.proofs.lemmas.List.{length-set}
 use mathlib.Core.Logic.{dite}
 use native.Mathlib.Decide.{ℕ_discrete}
 use Rattle.event_log.specs.declared.object.SeqObject.{Ghosts}
-use Rattle.event_log.specs.declared.event.Event.{Event}
-use Rattle.event_log.specs.declared.entry.Entry.{Entry}
 use Rattle.event_log.specs.declared.entry.Todo.{Todo}
 use Rattle.event_log.specs.History.{History, IsKept}
 use Rattle.word_rule.specs.declared.machine.cell_spec.CellSpec.{CellSpec}
@@ -19,9 +16,9 @@ use Rattle.word_rule.specs.declared.machine.step_done.StepDone.{StepDone}
 use Rattle.word_rule.specs.declared.machine.step_done.StepDone.TheVariants as steps
 use Rattle.word_rule.specs.Locks.{Lock}
 use Rattle.word_rule.specs.LockWords.{ShowsLock}
-use Rattle.word_rule.specs.Shown.{Parts, ShowsCell, ShowsCpu, Shows, Runs, HasRoom, IsRoomy, opened_by}
+use Rattle.word_rule.specs.Shown.{Parts, ShowsCell, ShowsCpu, Shows, Runs}
 use Rattle.word_rule.specs.Sound.{Opened}
-use Rattle.word_rule.specs.SoundWorld.{IsTodo, SoundWorld}
+use Rattle.word_rule.specs.SoundWorld.{IsTodo}
 use Rattle.word_rule.specs.Turns.{turn, ends_hold}
 use Rattle.word_rule.specs.World.{World, CellState, CpuState, with_done, entry_of, left, finished, counted, outcome, cell_after, cpu_after, world_after, step_on, step_of, step_by, step}
 use Rattle.word_rule.proofs.Slices.{get_set_same, get_set_other, read_get, some_at, one_of}

@@ -1,17 +1,15 @@
 -- An MCS lock's turns, on its words.
-use Rattle.std.proofs.Common.{◌≡◌, ◌≢◌, ⊎_elim, ℕ, zero, suc, ◌+◌, ◌*◌, ◌<◌, ◌≤◌, ◌==◌, Bool, true, false, true≢false, cond, eqb, List, [], ◌∷◌, ◌++◌, length, get_or, set, refl, sym, ap, ◌∙◌, subst, arith, get_or-set_same, Option, Some, None, eq-eqb, ne_eqb}
+use Rattle.std.proofs.Common.{◌≡◌, ◌≢◌, ⊎_elim, ℕ, suc, ◌+◌, ◌<◌, Bool, true, false, true≢false, cond, List, [], ◌∷◌, length, get_or, set, refl, sym, ap, ◌∙◌, subst, arith, get_or-set_same, Option, Some, None, eq-eqb, ne_eqb}
 use Rattle.std.proofs.lemmas.Bool.{eqb-true}
 use mathlib.Core.Logic.{dite}
 use mathlib.Core.Option.{some, some-injective, some-ne-none}
 use native.Mathlib.Decide.{ℕ_discrete}
 use lib.ListN.{get_elem?}
-use Rattle.event_log.specs.Distinct.{has}
-use Rattle.word_rule.specs.declared.place.Place.{Place}
-use Rattle.word_rule.specs.declared.place.Place.TheVariants.{Idle, Drawn, Served, Ready, Behind, Armed, Waiting, Holding, Alone, Leaving, Passing, Torn}
-use Rattle.word_rule.specs.Line.{Line, lined, holding, is_first}
+use Rattle.word_rule.specs.declared.place.Place.TheVariants.{Idle, Ready, Behind, Armed, Waiting, Holding, Alone, Leaving, Passing}
+use Rattle.word_rule.specs.Line.{lined, holding, is_first}
 use Rattle.word_rule.specs.Locks.{Lock, last, last_from, second, behind, is_named, naming, if_linked, follower, going, joining, taking, leaving}
 use Rattle.word_rule.specs.LockWords.{TiedMcs, word_of}
-use Rattle.word_rule.specs.Queues.{Queued, StandsInQueue, Follows, First, tail_of, next_word, locked_word, is_linked}
+use Rattle.word_rule.specs.Queues.{Queued, tail_of, next_word, locked_word, is_linked}
 use Rattle.word_rule.specs.Turns.{clear, arm, link, pass}
 use Rattle.word_rule.proofs.Lists.{one_place, one_is}
 use Rattle.word_rule.proofs.QueueStands.{elsewhere}

@@ -1,19 +1,17 @@
 -- What a machine keeps before its first step shows the opening world, which is sound.
-use Rattle.std.proofs.Common.{◌≡◌, ℕ, zero, suc, ◌+◌, ◌-◌, ◌<◌, ◌≤◌, List, [], ◌∷◌, ◌++◌, length, map, drop, take, get_or, slice_get, vec_len, vec_capacity, Vec, Option, Some, None, refl, sym, ap, ◌∙◌, subst, arith, add-one}
+use Rattle.std.proofs.Common.{◌≡◌, ℕ, zero, suc, ◌+◌, ◌<◌, ◌≤◌, List, [], ◌∷◌, ◌++◌, length, drop, take, get_or, slice_get, Vec, Option, Some, None, refl, sym, ap, ◌∙◌, subst, arith, add-one}
 use Rattle.std.specs.List.{AllByRecursion, AllZip}
 use Rattle.std.specs.declared.alloc.Global.{Global}
 use Rattle.std.proofs.lemmas.List.{length-map}
 use Rattle.std.proofs.lemmas.Slice.Zip.{AllZip-long}
 use Rattle.event_log.specs.declared.object.SeqObject.{Ghosts}
 use Rattle.event_log.specs.declared.entry.Todo.{Todo}
-use Rattle.event_log.specs.declared.entry.Entry.{Entry}
 use Rattle.word_rule.specs.declared.machine.cell_spec.CellSpec.{CellSpec}
 use Rattle.word_rule.specs.declared.machine.lock_words.LockWords.{LockWords}
 use Rattle.word_rule.specs.declared.machine.progress.Progress.{Progress}
-use Rattle.word_rule.specs.Locks.{tickets}
 use Rattle.word_rule.specs.LockWords.{ShowsLock}
 use Rattle.word_rule.specs.Opening.{opening_cell, opening_cpu, opening_world, IsOpening, IsOpeningCell}
-use Rattle.word_rule.specs.Shown.{Parts, ShowsCell, ShowsCpu, Shows, Runs, HasRoom, IsRoomy, FreshCpu, FreshDone, FreshLock, FreshLocks}
+use Rattle.word_rule.specs.Shown.{Parts, ShowsCell, ShowsCpu, Shows, Runs, IsRoomy, FreshCpu, FreshDone, FreshLock, FreshLocks}
 use Rattle.word_rule.specs.Sound.{LogIsSound, done_on, steps_by, NoneAfterFull}
 use Rattle.word_rule.specs.SoundWorld.{SoundWorld, IsTodo, IsAnswer, entries_of, entries_by}
 use Rattle.word_rule.specs.World.{World, CellState, CpuState}

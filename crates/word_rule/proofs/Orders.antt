@@ -1,5 +1,5 @@
 -- The order in which CPUs end their holds, over any invariant of locks that each turn keeps.
-use Rattle.std.proofs.Common.{◌≡◌, ℕ, ◌+◌, ◌<◌, ◌≤◌, Bool, true, false, ◌&&◌, ◌==◌, cond, eqb, List, [], ◌∷◌, ◌++◌, length, slice_set, slice_get, Option, Some, None, ◌⊎◌, inl, inr, refl, sym, ap, ◌∙◌, subst, arith, suc, zero, append_assoc}
+use Rattle.std.proofs.Common.{◌≡◌, ℕ, ◌<◌, ◌≤◌, Bool, true, false, ◌&&◌, cond, eqb, List, [], ◌∷◌, ◌++◌, length, slice_set, slice_get, Option, Some, None, ◌⊎◌, inl, inr, refl, sym, ap, ◌∙◌, subst, arith, append_assoc}
 use Rattle.std.proofs.Math.ListN.{set}
 use Rattle.std.proofs.lemmas.Bool.{cases_Bool, eqb-true, eqb-false, false≢true}
 use Rattle.std.proofs.lemmas.List.{length-set, length-append, append-nil}
@@ -11,8 +11,7 @@ use Rattle.word_rule.specs.declared.machine.step_done.StepDone.{StepDone}
 use Rattle.word_rule.specs.declared.machine.step_done.StepDone.TheVariants as steps
 use Rattle.word_rule.specs.Locks.{Lock}
 use Rattle.word_rule.specs.Turns.{turn, ends_hold, arrives}
-use Rattle.word_rule.specs.Sound.{Opened}
-use Rattle.word_rule.specs.World.{World, CellState, CpuState, step, step_by, step_of, step_on, world_after, run}
+use Rattle.word_rule.specs.World.{World, CellState, CpuState, step, step_by, step_of, step_on, run}
 use Rattle.word_rule.specs.Orders.{first_cell, works_on, is_that, is_at, doers, arrivals, endings}
 use Rattle.word_rule.proofs.Slices.{get_set_same, get_set_other}
 

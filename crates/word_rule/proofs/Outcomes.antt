@@ -1,5 +1,5 @@
 -- What becomes of calls at the end of a hold.
-use Rattle.std.proofs.Common.{◌≡◌, ◌==◌, List, length, ap, refl, sym, ◌∙◌, eq-eqb, ne_eqb, cond}
+use Rattle.std.proofs.Common.{◌≡◌, List, length, ap, sym, ◌∙◌, eq-eqb, ne_eqb, cond}
 use Rattle.event_log.specs.declared.object.SeqObject.{Ghosts}
 use Rattle.event_log.specs.declared.event.Event.{Event}
 use Rattle.event_log.specs.declared.event.Steps.{Steps}

@@ -1,5 +1,5 @@
 -- What is kept of a lock shows it after each step, too.
-use Rattle.std.proofs.Common.{◌≡◌, ◌≢◌, ℕ, ◌+◌, ◌-◌, ◌*◌, ◌%◌, ◌<◌, ◌≤◌, Bool, true, false, true≢false, cond, List, [], ◌∷◌, ◌++◌, length, get_or, set, refl, sym, ap, ◌∙◌, subst, arith, get_or-set_other, get_or-set_same, length-set, Option, Some, None}
+use Rattle.std.proofs.Common.{◌≡◌, ◌≢◌, ℕ, ◌+◌, ◌-◌, ◌*◌, ◌%◌, ◌<◌, ◌≤◌, Bool, true, false, cond, List, length, get_or, set, refl, sym, ap, ◌∙◌, subst, arith, get_or-set_other, get_or-set_same, length-set, Option, Some, None}
 use mathlib.Core.Logic.{dite}
 use native.Mathlib.Decide.{ℕ_discrete}
 use Rattle.word_rule.specs.declared.lock_kind.LockKind.{LockKind}
@@ -7,12 +7,12 @@ use Rattle.word_rule.specs.declared.lock_kind.LockKind.TheVariants as kinds
 use Rattle.word_rule.specs.declared.machine.step_done.StepDone.{StepDone}
 use Rattle.word_rule.specs.declared.machine.step_done.StepDone.TheVariants as steps
 use Rattle.word_rule.specs.declared.place.Place.{Place}
-use Rattle.word_rule.specs.declared.place.Place.TheVariants.{Idle, Drawn, Served, Ready, Behind, Armed, Waiting, Holding, Alone, Leaving, Passing, Torn}
-use Rattle.word_rule.specs.Line.{Line, lined, moved, holding, is_first}
-use Rattle.word_rule.specs.Locks.{Lock, last, is_named, follower, going, joining, taking, leaving, tickets}
+use Rattle.word_rule.specs.declared.place.Place.TheVariants.{Idle, Drawn, Served, Ready, Behind, Armed, Waiting, Holding, Alone, Leaving, Passing}
+use Rattle.word_rule.specs.Line.{moved, holding, is_first}
+use Rattle.word_rule.specs.Locks.{Lock, last, is_named, follower, going, taking, leaving, tickets}
 use Rattle.word_rule.specs.LockWords.{TiedOf, ShowsLock, word_of}
 use Rattle.word_rule.specs.Queues.{next_word, locked_word}
-use Rattle.word_rule.specs.Turns.{look, see, enter, empty, draw, serve, clear, arm, link, pass, ticket_turn, mcs_turn, turn_of, turn}
+use Rattle.word_rule.specs.Turns.{see, enter, draw, serve, clear, arm, link, pass, ticket_turn, mcs_turn, turn_of, turn}
 use Rattle.word_rule.proofs.Stays.{moved_same, moved_else}
 use Rattle.word_rule.proofs.TicketTurns.{ticket_is, draws, hit_first, first_hit, takes, serves}
 use Rattle.word_rule.proofs.QueueWords as words

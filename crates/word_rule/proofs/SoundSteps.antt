@@ -1,10 +1,9 @@
 -- Every step keeps a world sound.
-use Rattle.std.proofs.Common.{◌≡◌, ◌≢◌, ◌⊎◌, inl, inr, ⊎_elim, ℕ, zero, suc, ◌+◌, ◌<◌, ◌≤◌, ◌==◌, Bool, true, false, cond, List, [], ◌∷◌, ◌++◌, length, map, slice_get, Option, Some, None, refl, sym, ap, ◌∙◌, subst, arith, length-append}
+use Rattle.std.proofs.Common.{◌≡◌, ◌≢◌, ℕ, ◌<◌, ◌==◌, Bool, true, false, cond, List, [], ◌∷◌, ◌++◌, length, slice_get, Option, Some, None, refl, sym, ap, ◌∙◌, subst, arith, length-append}
 use Rattle.std.proofs.Math.ListN.{set}
 use Rattle.std.specs.List.{AllByRecursion}
 use Rattle.std.proofs.lemmas.List.{append-nil, length-set}
-use Rattle.std.proofs.lemmas.Bool.{cases_Bool, eqb-true, eqb-false}
-use Rattle.std.proofs.lemmas.Option.{slice_get_within}
+use Rattle.std.proofs.lemmas.Bool.{eqb-true, eqb-false}
 use mathlib.Core.Logic.{dite}
 use native.Mathlib.Decide.{ℕ_discrete}
 use Rattle.arrayvec.specs.ArrayVec.{ArrayVec}
@@ -15,14 +14,14 @@ use Rattle.event_log.specs.declared.entry.Done.{Done}
 use Rattle.event_log.specs.declared.entry.Done.TheVariants as done
 use Rattle.event_log.specs.declared.entry.Entry.{Entry}
 use Rattle.event_log.specs.declared.entry.Todo.{Todo}
-use Rattle.event_log.specs.Log.{answers, replay, of}
+use Rattle.event_log.specs.Log.{answers, replay}
 use Rattle.event_log.proofs.Logs.{legal_append}
 use Rattle.event_log.proofs.Batches.{next_answers, answers_fulfil}
 use Rattle.word_rule.specs.declared.machine.step_done.StepDone.{StepDone}
 use Rattle.word_rule.specs.Locks.{Lock}
 use Rattle.word_rule.specs.Turns.{turn, ends_hold}
-use Rattle.word_rule.specs.Sound.{LogIsSound, Answers, NoneAfterFull, done_on, with_steps, steps_by}
-use Rattle.word_rule.specs.World.{World, CellState, CpuState, with_done, entry_of, left, finished, counted, outcome, cell_after, cpu_after, world_after, step_on, step_of, step_by, step, run}
+use Rattle.word_rule.specs.Sound.{LogIsSound, Answers, NoneAfterFull, done_on, steps_by}
+use Rattle.word_rule.specs.World.{World, CellState, CpuState, with_done, entry_of, left, finished, counted, outcome, world_after, step_on, step_of, step_by, step, run}
 use Rattle.word_rule.specs.SoundWorld.{IsTodo, entries_of, entries_by, IsAnswer, SoundWorld}
 use Rattle.word_rule.proofs.Acting.{all_push}
 use Rattle.word_rule.proofs.Entries.{done_append, done_here, done_elsewhere, done_without, steps_push, steps_other, full_push}

@@ -1,15 +1,13 @@
 -- A ticket lock's turns, on its words.
-use Rattle.std.proofs.Common.{◌≡◌, ◌≢◌, ℕ, zero, suc, ◌+◌, ◌%◌, ◌<◌, ◌≤◌, Bool, true, false, true≢false, eqb, List, [], ◌∷◌, ◌++◌, length, get_or, set, refl, sym, ap, ◌∙◌, subst, arith, get_or-set_other, get_or-set_same, eq-eqb}
+use Rattle.std.proofs.Common.{◌≡◌, ℕ, ◌+◌, ◌%◌, ◌<◌, true, false, true≢false, List, [], ◌∷◌, ◌++◌, length, get_or, set, sym, ap, ◌∙◌, subst, arith, get_or-set_other, get_or-set_same, eq-eqb}
 use Rattle.std.proofs.lemmas.Bool.{eqb-true}
 use mathlib.Core.Option.{some, some-injective}
 use lib.ListN.{get_elem?}
-use Rattle.event_log.specs.Distinct.{has, AreDistinctBelow}
-use Rattle.word_rule.specs.declared.place.Place.{Place}
 use Rattle.word_rule.specs.declared.place.Place.TheVariants.{Idle, Drawn, Served}
-use Rattle.word_rule.specs.Line.{Line, lined, holding, is_first}
-use Rattle.word_rule.specs.Locks.{Lock, behind, taking, leaving, tickets}
+use Rattle.word_rule.specs.Line.{lined, holding, is_first}
+use Rattle.word_rule.specs.Locks.{Lock, behind, taking, tickets}
 use Rattle.word_rule.specs.LockWords.{TiedTicket}
-use Rattle.word_rule.specs.Tickets.{Lined, Waits, IsFirst}
+use Rattle.word_rule.specs.Tickets.{Lined}
 use Rattle.word_rule.specs.Turns.{draw, serve}
 use Rattle.word_rule.proofs.Lists.{first_is, one_place}
 use Rattle.word_rule.proofs.TicketLines.{at_serving, drawn, waits, served_now, first_served, looked, served, first_holds}

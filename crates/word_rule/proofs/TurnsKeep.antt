@@ -1,6 +1,5 @@
 -- Each turn keeps what ties a lock's words to it, and changes its line as the step says.
-use Rattle.std.proofs.Common.{◌≡◌, ◌≢◌, ⊎_elim, ℕ, ◌+◌, ◌%◌, ◌<◌, ◌≤◌, Bool, true, false, cond, List, [], ◌∷◌, ◌++◌, length, get_or, set, refl, sym, ap, ◌∙◌, subst, Option, Some, None}
-use Rattle.std.proofs.lemmas.Bool.{cases_Bool}
+use Rattle.std.proofs.Common.{◌≡◌, ℕ, ◌+◌, ◌%◌, ◌<◌, ◌≤◌, Bool, true, false, cond, List, [], ◌∷◌, ◌++◌, length, get_or, set, refl, sym, ap, ◌∙◌, subst, Option, Some, None}
 use Rattle.event_log.proofs.Distinct.{distinct_length}
 use Rattle.word_rule.specs.declared.lock_kind.LockKind.{LockKind}
 use Rattle.word_rule.specs.declared.lock_kind.LockKind.TheVariants as kinds
@@ -8,8 +7,8 @@ use Rattle.word_rule.specs.declared.machine.step_done.StepDone.{StepDone}
 use Rattle.word_rule.specs.declared.machine.step_done.StepDone.TheVariants as steps
 use Rattle.word_rule.specs.declared.place.Place.{Place}
 use Rattle.word_rule.specs.declared.place.Place.TheVariants.{Idle, Drawn, Served, Ready, Behind, Armed, Waiting, Holding, Alone, Leaving, Passing, Torn}
-use Rattle.word_rule.specs.Line.{Line, lined, holding, is_first}
-use Rattle.word_rule.specs.Locks.{Lock, last, behind, is_named, follower, going, joining, taking, leaving, tickets}
+use Rattle.word_rule.specs.Line.{holding, is_first}
+use Rattle.word_rule.specs.Locks.{Lock, last, behind, is_named, follower, going, taking, leaving, tickets}
 use Rattle.word_rule.specs.LockWords.{TiedTicket, TiedMcs, TiedOf, word_of}
 use Rattle.word_rule.specs.Turns.{look, see, enter, empty, ticket_turn, mcs_turn, turn_of, turn}
 use Rattle.word_rule.proofs.Orders.{LineAfter, Keeps}

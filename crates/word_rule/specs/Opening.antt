@@ -5,7 +5,7 @@ use Rattle.std.specs.declared.alloc.Global.{Global}
 use Rattle.event_log.specs.declared.entry.Todo.{Todo}
 use Rattle.event_log.specs.History.{History}
 use Rattle.word_rule.specs.declared.lock_kind.LockKind.{LockKind}
-use Rattle.word_rule.specs.Locks.{Lock, opening_lock, tickets}
+use Rattle.word_rule.specs.Locks.{opening_lock, tickets}
 use Rattle.word_rule.specs.declared.machine.cell_spec.CellSpec.{CellSpec}
 use Rattle.word_rule.specs.SoundWorld.{IsTodo}
 use Rattle.word_rule.specs.World.{World, CellState, CpuState}

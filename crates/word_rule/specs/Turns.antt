@@ -1,13 +1,13 @@
 -- What a CPU's next step does to a lock, by where the CPU stands: the ticket lock and the MCS lock, apart from words.
-use Rattle.std.specs.Prelude.{ℕ, ◌+◌, ◌%◌, Bool, true, false, ◌==◌, if◌then◌else◌, List, [], ◌∷◌, length, Option, Some, None}
+use Rattle.std.specs.Prelude.{ℕ, ◌+◌, ◌%◌, Bool, true, false, if◌then◌else◌, [], ◌∷◌, length, Option, Some, None}
 use Rattle.word_rule.specs.declared.lock_kind.LockKind.{LockKind}
 use Rattle.word_rule.specs.declared.lock_kind.LockKind.TheVariants as kinds
 use Rattle.word_rule.specs.declared.place.Place.{Place}
 use Rattle.word_rule.specs.declared.place.Place.TheVariants as places
 use Rattle.word_rule.specs.declared.machine.step_done.StepDone.{StepDone}
 use Rattle.word_rule.specs.declared.machine.step_done.StepDone.TheVariants as steps
-use Rattle.word_rule.specs.Line.{Line, lined, is_first}
-use Rattle.word_rule.specs.Locks.{Lock, tickets, last, behind, is_named, going, joining, taking, leaving, naming, follower}
+use Rattle.word_rule.specs.Line.{lined, is_first}
+use Rattle.word_rule.specs.Locks.{Lock, tickets, last, is_named, going, joining, taking, leaving, naming, follower}
 
 -- i joins the end of the line, with the ticket that comes after those in line
 abbrev pub draw : Lock → ℕ → Lock

@@ -1,8 +1,7 @@
-use Rattle.std.proofs.Common.{◌≡◌, sym, subst, ◌∙◌, List, ap}
+use Rattle.std.proofs.Common.{sym, subst, ◌∙◌, List}
 use Rattle.event_log.specs.declared.entry.Run.{Run}
-use Rattle.word_rule.specs.Shown.{Parts, Shows, opened_by}
+use Rattle.word_rule.specs.Shown.{Shows}
 use Rattle.word_rule.specs.Sound.{Opened, Sound}
-use Rattle.word_rule.specs.World.{World, run_of}
 use Rattle.word_rule.proofs.SoundRuns.{sound_run_of, logs_are, opened_are, transcripts_are}
 use Rattle.word_rule.proofs.machine.Machine.record.Goals as goal
 

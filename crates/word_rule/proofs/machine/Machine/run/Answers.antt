@@ -1,4 +1,4 @@
-use Rattle.std.proofs.Common.{◌≡◌, ◌<◌, ◌∙◌, sym, subst, ap, length, take, get_or, arith}
+use Rattle.std.proofs.Common.{◌<◌, ◌∙◌, sym, subst, length, get_or}
 use Rattle.word_rule.specs.Shown.{Shows}
 use Rattle.word_rule.proofs.MachineKeeps.{run_take}
 use Rattle.word_rule.proofs.machine.Machine.run.Goals as goal

@@ -1,4 +1,4 @@
-use Rattle.std.proofs.Common.{◌<◌, length, sym, subst, arith, ◌∙◌, slice_get, Some}
+use Rattle.std.proofs.Common.{◌<◌, length, sym, subst, ◌∙◌}
 use Rattle.word_rule.specs.Shown.{Shows}
 use Rattle.word_rule.proofs.MachineSteps.{words_shown}
 use Rattle.word_rule.proofs.WordLists.{shown_words}

@@ -1,4 +1,4 @@
-use Rattle.std.proofs.Common.{refl, arith, ◌≡◌, ◌-◌, ◌+◌, slice_index_or}
+use Rattle.std.proofs.Common.{refl, arith, ◌-◌, slice_index_or}
 use Rattle.word_rule.proofs.ShownTurns.{cleared, entered, entered_behind, armed, linked, got, waited, sees, sees_again, emptied, stayed, passed, wide, tail_small, next_small, armed_below, passing_below}
 use Rattle.word_rule.proofs.machine.mcs.turn_mcs.Goals as goal
 

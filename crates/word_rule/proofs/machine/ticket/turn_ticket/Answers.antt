@@ -1,5 +1,3 @@
-use Rattle.std.proofs.Common.{sym, eq-eqb, arith}
-use Rattle.std.proofs.lemmas.Bool.{eqb-true}
 use Rattle.word_rule.proofs.ShownTurns.{drew, won, lost, served}
 use Rattle.word_rule.proofs.machine.ticket.turn_ticket.Goals as goal
 
