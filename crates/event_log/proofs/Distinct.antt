@@ -7,20 +7,23 @@ use Rattle.std.proofs.lemmas.Map.Steps.{length-le_from_distinct_below}
 use Rattle.event_log.specs.Distinct.{has, AreDistinctBelow}
 
 -- both parts of a test that fails
-or_false : (a b : Bool) → (a || b) ≡ false → (a ≡ false) × (b ≡ false)
+pub or_false : (a b : Bool) → (a || b) ≡ false → (a ≡ false) × (b ≡ false)
 or_false true b h = absurd (cc)
 or_false false b h = (refl, h)
 
-false_or : (a b : Bool) → a ≡ false → b ≡ false → (a || b) ≡ false
+-- a test of which both parts fail
+pub false_or : (a b : Bool) → a ≡ false → b ≡ false → (a || b) ≡ false
 false_or a b p q = rw p q
 
-apart_from : (x : ℕ) (xs : List ℕ) → has x xs ≡ false → AllByRecursion (λ y. eqb x y ≡ false) xs
+-- a number that isn't in the list differs from each of it
+pub apart_from : (x : ℕ) (xs : List ℕ) → has x xs ≡ false → AllByRecursion (λ y. eqb x y ≡ false) xs
 apart_from x [] h = tt
 apart_from x (y ∷ ys) h =
     let p = or_false (y == x) (has x ys) h in
     (grind (arith, nat_tests, p.0), apart_from x ys p.1)
 
-distinct : (n : ℕ) (xs : List ℕ) → AreDistinctBelow n xs → IsDistinct eqb xs
+-- the same in std's words
+pub distinct : (n : ℕ) (xs : List ℕ) → AreDistinctBelow n xs → IsDistinct eqb xs
 unfolding IsDistinct
 distinct n [] q = tt
 distinct n (x ∷ xs) q = (apart_from x xs q.1, distinct n xs q.2)

@@ -14,7 +14,7 @@ use Rattle.std.specs.Str.{bytes_eq}
 use Rattle.std.specs.Str.Parse.{digits_value}
 use Rattle.mc2.specs.Reading.{words, number_in}
 
-none_below : (test : ℕ → Bool) (xs : List ℕ) (i : ℕ) → ((k : ℕ) → k < i → test (get_or xs k 0) ≡ false) → AllByRecursion (λ b. test b ≡ false) (take i xs)
+pub none_below : (test : ℕ → Bool) (xs : List ℕ) (i : ℕ) → ((k : ℕ) → k < i → test (get_or xs k 0) ≡ false) → AllByRecursion (λ b. test b ≡ false) (take i xs)
 none_below test xs zero h = tt
 none_below test [] (suc i) h = tt
 none_below test (x ∷ xs) (suc i) h = (h 0 (omega arith), none_below test xs i (λ k less. h (suc k) (omega arith)))
@@ -30,22 +30,26 @@ cut_found bytes byte i e =
       sym (take-append-drop i bytes) ∙ ap (λ l. take i bytes ++ l) (rest ∙ ap (λ l. byte ∷ l) (sym tail)),
     )
 
-all_before : (byte : ℕ) (bytes : List ℕ) → length bytes ≤ prefix_len (λ b. not (b == byte)) bytes → AllByRecursion (λ b. (b == byte) ≡ false) bytes
-all_before byte [] h = tt
-all_before byte (x ∷ xs) h =
-    let go : (b : Bool) → (x == byte) ≡ b → suc (length xs) ≤ cond (not b) (1 + prefix_len (λ c. not (c == byte)) xs) 0 → AllByRecursion (λ c. (c == byte) ≡ false) (x ∷ xs)
-    = λ b. elim b as (λ v. (x == byte) ≡ v → suc (length xs) ≤ cond (not v) (1 + prefix_len (λ c. not (c == byte)) xs) 0 → AllByRecursion (λ c. (c == byte) ≡ false) (x ∷ xs)) [
+all_before : (test : ℕ → Bool) (xs : List ℕ) → length xs ≤ prefix_len (λ b. not (test b)) xs → AllByRecursion (λ b. test b ≡ false) xs
+all_before test [] h = tt
+all_before test (x ∷ xs) h =
+    let go : (b : Bool) → test x ≡ b → suc (length xs) ≤ cond (not b) (1 + prefix_len (λ c. not (test c)) xs) 0 → AllByRecursion (λ c. test c ≡ false) (x ∷ xs)
+    = λ b. elim b as (λ v. test x ≡ v → suc (length xs) ≤ cond (not v) (1 + prefix_len (λ c. not (test c)) xs) 0 → AllByRecursion (λ c. test c ≡ false) (x ∷ xs)) [
       | true ↦ (λ e k. absurd (omega (arith, k)))
-      | false ↦ (λ e k. (e, all_before byte xs (omega (arith, k))))
+      | false ↦ (λ e k. (e, all_before test xs (omega (arith, k))))
     ] in
-    go (x == byte) refl h
+    go (test x) refl h
+
+-- no member passes
+pub none_passes : (test : ℕ → Bool) (xs : List ℕ) → position test xs ≡ None → AllByRecursion (λ b. test b ≡ false) xs
+none_passes test xs e =
+    let n : ℕ = position_or_len test xs in
+    let go : (b : Bool) → nat_lt n (length xs) ≡ b → cond b (Some n) None ≡ None → length xs ≤ n
+    = λ b. elim b as (λ v. nat_lt n (length xs) ≡ v → cond v (Some n) None ≡ None → length xs ≤ n) [ true ↦ (λ less k. absurd (cc)) | false ↦ (λ less k. ltb-false n (length xs) less) ] in
+    all_before test xs (go (nat_lt n (length xs)) refl e)
 
 pub cut_none : (bytes : List ℕ) (byte : ℕ) → position (λ b. b == byte) bytes ≡ None → AllByRecursion (λ b. (b == byte) ≡ false) bytes
-cut_none bytes byte e =
-    let n : ℕ = position_or_len (λ b. b == byte) bytes in
-    let go : (b : Bool) → nat_lt n (length bytes) ≡ b → cond b (Some n) None ≡ None → length bytes ≤ n
-    = λ b. elim b as (λ v. nat_lt n (length bytes) ≡ v → cond v (Some n) None ≡ None → length bytes ≤ n) [ true ↦ (λ less k. absurd (cc)) | false ↦ (λ less k. ltb-false n (length bytes) less) ] in
-    all_before byte bytes (go (nat_lt n (length bytes)) refl e)
+cut_none bytes byte e = none_passes (λ b. b == byte) bytes e
 
 -- a word, and what follows the space behind it
 pub words_cut : (bytes word rest : List ℕ) → AllByRecursion (λ b. (b == 32) ≡ false) word → bytes ≡ word ++ 32 ∷ rest → words bytes ≡ word ∷ words rest

@@ -5,6 +5,8 @@ pub mod Readings
 pub mod Requests
 pub mod QueueReads
 pub mod ScriptLines
+pub mod Schedules
+pub mod Simulations
 pub mod Workers
 pub mod Verdicts
 pub mod QueueSends

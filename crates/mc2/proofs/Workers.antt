@@ -1,7 +1,7 @@
 -- Workers that do their entries on one cell make a sound run.
-use Rattle.std.proofs.Common.{◌≡◌, ◌≢◌, ℕ, zero, suc, ◌<◌, ◌≤◌, ◌==◌, ◌||◌, Bool, true, false, cond, List, [], ◌∷◌, ◌++◌, length, map, drop, refl, sym, ◌∙◌, ap, subst, arith, length-append, append_assoc, ◌+◌, Some, ◌⊎◌, inl, inr, Result, Ok, Err, IfOk, OnErr}
+use Rattle.std.proofs.Common.{◌≡◌, ℕ, zero, suc, ◌<◌, ◌≤◌, ◌==◌, ◌||◌, Bool, true, false, cond, List, [], ◌∷◌, ◌++◌, length, map, drop, refl, sym, ◌∙◌, ap, subst, arith, length-append, append_assoc, ◌+◌, Some, ◌⊎◌, inl, inr, Result, Ok, Err, IfOk, OnErr}
 use Rattle.std.specs.List.{AllByRecursion, slice_get, filter}
-use Rattle.std.proofs.lemmas.List.{append-nil, map-append, length-map}
+use Rattle.std.proofs.lemmas.List.{append-nil, map-append}
 use Rattle.std.proofs.lemmas.Bool.Decides.{nat_tests}
 use Rattle.std.proofs.lemmas.List.Elements.{filter-append}
 use Rattle.arrayvec.specs.ArrayVec.{ArrayVec}
@@ -21,7 +21,7 @@ use Rattle.mc2.specs.FirstRun.{asked_of, script_of, AsksFor, IsAble, IsFor, Did,
 use Rattle.mc2.specs.ScriptText.{IsRequest, AskFor}
 use Rattle.mc2.specs.Settings.{Settings}
 use Rattle.mc2.specs.Spelling.{Spelling}
-use Rattle.word_rule.specs.Cell.{Cell, Caller, Part, Grows, Lawful, IsPart, OwnsAll, cell_of, first_part, opening_part}
+use Rattle.word_rule.specs.Cell.{Cell, Part, Grows, Lawful, IsPart, OwnsAll, cell_of, first_part, opening_part}
 use Rattle.word_rule.specs.Answered.{IsAnswered, IsRefused, events_by}
 use Rattle.word_rule.specs.Sound.{Opened, Sound, LogIsSound, EntryIsSound, Answers, NoneAfterFull, done_on, with_steps, steps_by, transcript_of}
 use Rattle.word_rule.proofs.Lists.{of_opening}

@@ -5,9 +5,11 @@ pub mod Settings
 pub mod RecordText
 pub mod QueueWords
 pub mod ScriptText
+pub mod ScheduleText
 pub mod Reading
 pub mod QueueTypes
 pub mod ScriptFaults
 pub mod FirstRun
+pub mod Simulation
 pub mod Faults
 pub mod Workers

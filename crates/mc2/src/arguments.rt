@@ -1,66 +1,97 @@
 //! The program's words.
 
-use crate::fault::Fault;
 use clap::error::ErrorKind;
-use clap::{Arg, ArgAction, Command, Error};
+use clap::{Arg, ArgAction, ArgMatches, Command, Error};
 use std::alloc::{AllocError, Global};
 use std::convert::AsStr;
 
-/// What the words ask for: `run` with this file of scripts, or with standard input.
+/// What the words ask for. Without a file of scripts `run` reads standard input.
 #[derive(Clone, Copy, Debug, PartialEq, Eq, Drop)]
-pub struct Arguments<'a> {
-    pub scripts: Option<&'a str>,
+pub enum Arguments<'a> {
+    Run { scripts: Option<&'a str> },
+    Sim { scripts: &'a str, schedule: &'a str },
+}
+
+/// Why words were not read.
+#[derive(Clone, Copy, Debug, PartialEq, Eq, Drop)]
+pub enum WordsFault {
+    OutOfMemory,
+    /// The words are none of the forms.
+    NoForm,
+}
+
+/// A command without help and version.
+fn plain<'a>(alloc: Global, name: &'a str) -> Command<'a> {
+    Command::new(alloc, name)
+        .disable_help_flag(true)
+        .disable_version_flag(true)
 }
 
 /// All forms of words that there are.
 fn forms<'a>(alloc: Global) -> Result<Command<'a>, AllocError> {
     let scripts = Arg::new(alloc, "scripts").action(ArgAction::Set);
-    let run = Command::new(alloc, "run")
-        .disable_help_flag(true)
-        .disable_version_flag(true)
-        .arg(scripts)?;
-    Command::new(alloc, "mc2")
-        .disable_help_flag(true)
-        .disable_version_flag(true)
+    let run = plain(alloc, "run").arg(scripts)?;
+    let scripts = Arg::new(alloc, "scripts").action(ArgAction::Set);
+    let schedule = Arg::new(alloc, "schedule").action(ArgAction::Set);
+    let sim = plain(alloc, "sim")
+        .arg(scripts.required(true))?
+        .arg(schedule.required(true))?;
+    plain(alloc, "mc2")
         .disable_help_subcommand(true)
         .no_binary_name(true)
         .subcommand_required(true)
-        .subcommand(run)
+        .subcommand(run)?
+        .subcommand(sim)
 }
 
 /// A word that is refused is no form, unless memory was wanting.
-fn refusal(error: Error) -> Fault {
+fn refusal(error: Error) -> WordsFault {
     if error.kind() == ErrorKind::OutOfMemory {
-        Fault::OutOfMemory
+        WordsFault::OutOfMemory
     } else {
-        Fault::BadWords
+        WordsFault::NoForm
     }
 }
 
-/// Whether a file may be named so.
-fn is_file_name(name: &str) -> bool {
-    !name.is_empty() && !name.starts_with('-')
+/// The name of a file, which is not empty and does not begin with `-`.
+fn file_name(name: &str) -> Result<&str, WordsFault> {
+    if name.is_empty() || name.starts_with('-') {
+        Err(WordsFault::NoForm)
+    } else {
+        Ok(name)
+    }
+}
+
+/// The file of that name among the words, if there is one.
+fn file<'a>(found: &ArgMatches<'a>, id: &str) -> Result<Option<&'a str>, WordsFault> {
+    match found.get_str(id) {
+        Some(name) => Ok(Some(file_name(name)?)),
+        None => Ok(None),
+    }
 }
 
 /// Reads the words after the program's name.
-pub fn read_words<'a>(alloc: Global, words: &'a [String]) -> Result<Arguments<'a>, Fault> {
+pub fn read_words<'a>(alloc: Global, words: &'a [String]) -> Result<Arguments<'a>, WordsFault> {
     if words.iter().any(|word| word.as_str() == "--") {
-        return Err(Fault::BadWords);
+        return Err(WordsFault::NoForm);
     }
     let Ok(forms) = forms(alloc) else {
-        return Err(Fault::OutOfMemory);
+        return Err(WordsFault::OutOfMemory);
     };
     let matches = match forms.try_get_matches_from(words) {
         Ok(matches) => matches,
         Err(error) => return Err(refusal(error)),
     };
-    let Some((_, found)) = matches.subcommand() else {
-        return Err(Fault::BadWords);
+    let Some((name, found)) = matches.subcommand() else {
+        return Err(WordsFault::NoForm);
     };
-    let scripts = found.get_str("scripts");
-    match scripts {
-        Some(name) if !is_file_name(name) => Err(Fault::BadWords),
-        _ => Ok(Arguments { scripts }),
+    let scripts = file(found, "scripts")?;
+    if name == "run" {
+        return Ok(Arguments::Run { scripts });
+    }
+    match (scripts, file(found, "schedule")?) {
+        (Some(scripts), Some(schedule)) => Ok(Arguments::Sim { scripts, schedule }),
+        _ => Err(WordsFault::NoForm),
     }
 }
 

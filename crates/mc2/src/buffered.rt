@@ -6,6 +6,7 @@ ghost use Rattle.mc2.specs.Output.{Puts};
 use crate::{WriteFailed, write_text};
 use arrayvec::ArrayVec;
 use event_log::Sink;
+use std::fmt;
 
 /// How many bytes wait at the most.
 const ROOM: usize = 4096;
@@ -76,5 +77,14 @@ impl<'a, W: Sink> Buffered<'a, W> {
         } else {
             Ok(())
         }
+    }
+}
+
+impl<W: Sink> fmt::Write for Buffered<'_, W> {
+    ghost write_str_gives = { λ old text new. Puts W.Sink old new text };
+
+    fn write_str(&mut self, text: &str) -> fmt::Result {
+        self.put(text.as_bytes());
+        Ok(())
     }
 }

@@ -1,10 +1,13 @@
 //! Why the program didn't do what its words ask for.
 
 ghost use Rattle.std.specs.Prelude.{◌≡◌};
-ghost use Rattle.mc2.specs.Faults.{of_run, of_input, status_of};
+ghost use Rattle.mc2.specs.Faults.{of_memory, of_words, of_run, of_scripts, of_input, of_schedule, of_write, status_of};
 
-use crate::FirstFault;
+use crate::arguments::WordsFault;
 use crate::input::InputFault;
+use crate::scripts::ScriptsFault;
+use crate::{FirstFault, ScheduleFault, WriteFailed};
+use event_log::OutOfMemory;
 use thiserror::Error;
 
 /// A refusal, which is printed as one line.
@@ -16,6 +19,8 @@ pub enum Fault {
     NoThreadStarted(u8),
     #[error("mc2: E7 scripts: line {0}")]
     BadScripts(usize),
+    #[error("mc2: E8 schedule: word {0}")]
+    BadSchedule(usize),
     #[error("mc2: E12 read failed")]
     ReadFailed,
     #[error("mc2: E13 write failed")]
@@ -30,11 +35,22 @@ impl Fault {
         ensures { result ≡ status_of self.now }
     {
         match self {
-            Fault::BadScripts(_) | Fault::BadWords => 2,
+            Fault::BadScripts(_) | Fault::BadSchedule(_) | Fault::BadWords => 2,
             Fault::OutOfMemory
             | Fault::NoThreadStarted(_)
             | Fault::ReadFailed
             | Fault::WriteFailed => 3,
+        }
+    }
+}
+
+impl From<WordsFault> for Fault {
+    ghost from_gives = { λ cause fault. fault ≡ of_words cause };
+
+    fn from(fault: WordsFault) -> Fault {
+        match fault {
+            WordsFault::OutOfMemory => Fault::OutOfMemory,
+            WordsFault::NoForm => Fault::BadWords,
         }
     }
 }
@@ -59,6 +75,46 @@ impl From<InputFault> for Fault {
         match fault {
             InputFault::OutOfMemory => Fault::OutOfMemory,
             InputFault::ReadFailed => Fault::ReadFailed,
+        }
+    }
+}
+
+impl From<OutOfMemory> for Fault {
+    ghost from_gives = { λ cause fault. fault ≡ of_memory cause };
+
+    fn from(fault: OutOfMemory) -> Fault {
+        let OutOfMemory = fault;
+        Fault::OutOfMemory
+    }
+}
+
+impl From<WriteFailed> for Fault {
+    ghost from_gives = { λ cause fault. fault ≡ of_write cause };
+
+    fn from(fault: WriteFailed) -> Fault {
+        let WriteFailed = fault;
+        Fault::WriteFailed
+    }
+}
+
+impl From<ScriptsFault> for Fault {
+    ghost from_gives = { λ cause fault. fault ≡ of_scripts cause };
+
+    fn from(fault: ScriptsFault) -> Fault {
+        match fault {
+            ScriptsFault::OutOfMemory => Fault::OutOfMemory,
+            ScriptsFault::Line(number) => Fault::BadScripts(number),
+        }
+    }
+}
+
+impl From<ScheduleFault> for Fault {
+    ghost from_gives = { λ cause fault. fault ≡ of_schedule cause };
+
+    fn from(fault: ScheduleFault) -> Fault {
+        match fault {
+            ScheduleFault::OutOfMemory => Fault::OutOfMemory,
+            ScheduleFault::Word(number) => Fault::BadSchedule(number),
         }
     }
 }

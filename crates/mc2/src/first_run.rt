@@ -81,7 +81,7 @@ pub fn first_run<R: Threads + Wait + Sync, W: Sink>(
 }
 
 /// Opens the first object of the settings.
-fn open_first(alloc: Global, settings: &Settings) -> Result<Logged<ThreadQueue>, OutOfMemory>
+pub fn open_first(alloc: Global, settings: &Settings) -> Result<Logged<ThreadQueue>, OutOfMemory>
     requires { settings.now ≡ built_in_settings }
     ensures opened { IfOk result (λ l. l ≡ opened_history 8 100 (⟦<ThreadQueue as SeqObject>⟧.opening 8)) }
     ensures kept { IfOk result (λ l. IsKept ⟦<ThreadQueue as SeqObject>⟧ l) }
@@ -117,7 +117,7 @@ fn open_cell(
 }
 
 /// The entries of CPU 0, and those of CPU 1.
-fn split_scripts(
+pub fn split_scripts(
     alloc: Global,
     requests: Vec<Request<ThreadQueue>>,
 ) -> Result<(Vec<Todo<ThreadQueue>>, Vec<Todo<ThreadQueue>>), OutOfMemory>

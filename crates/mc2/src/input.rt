@@ -1,10 +1,18 @@
-//! Reading a source to its end.
+//! Inputs, and reading one to its end.
 
 ghost use Rattle.std.specs.Prelude.{◌≡◌, true, ℕ, List, Some, IfOk, OnOk};
 ghost use Rattle.event_log.specs.Stream.{counted};
 
-use event_log::Source;
+use event_log::{Source, StreamFailed};
 use std::alloc::Global;
+
+/// The files and the standard input that a command may read.
+pub trait Inputs {
+    type Input: Source + Drop;
+
+    /// The reader of the file of that name, or of standard input.
+    fn input(&mut self, name: Option<&str>) -> Result<Self::Input, StreamFailed>;
+}
 
 /// Why an input was not read.
 #[derive(Clone, Copy, Debug, PartialEq, Eq, Drop)]
@@ -34,4 +42,16 @@ pub fn read_all<S: Source>(alloc: Global, source: &mut S) -> Result<Vec<u8>, Inp
     }
     // Each turn took a byte at least, and memory holds fewer than 2^63.
     unreachable!()
+}
+
+/// All bytes of the input of that name.
+pub fn read_input<I: Inputs>(
+    alloc: Global,
+    inputs: &mut I,
+    name: Option<&str>,
+) -> Result<Vec<u8>, InputFault> {
+    match inputs.input(name) {
+        Ok(mut input) => read_all(alloc, &mut input),
+        Err(StreamFailed) => Err(InputFault::ReadFailed),
+    }
 }

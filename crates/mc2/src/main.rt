@@ -3,12 +3,15 @@
 
 mod arguments;
 mod buffered;
+mod command;
 mod entries;
 mod fault;
 mod first_run;
+mod first_sim;
 mod input;
 mod record;
 mod request;
+mod schedule;
 mod scripts;
 mod settings;
 mod split_once;
@@ -20,30 +23,59 @@ mod worker;
 mod write_text;
 mod writer;
 
-use crate::arguments::read_words;
+pub use crate::command::command;
+use crate::command::refuse;
 use crate::fault::Fault;
-use crate::input::read_all;
 pub use buffered::Buffered;
-use event_log::Plain;
+use event_log::{Plain, StreamFailed};
 pub use first_run::{FirstFault, first_run};
+pub use first_sim::first_sim;
+pub use input::Inputs;
 pub use record::Record;
 pub use request::Request;
+pub use schedule::{ScheduleFault, read_schedule};
 pub use settings::{ObjectSettings, Settings};
-use std::fs::File;
+use std::fs::{File, Files};
+use std::io::{Input, Read};
 use std::process::ExitCode;
-use std::rt::{Env, Files};
-use std::sync::Wait;
-use std::thread::Threads;
+use std::rt::Env;
 use std::{env, io};
 pub use write_text::{WriteFailed, write_text};
 pub use writer::write_record;
 
-/// Want of memory, or else the other fault.
-fn memory_or(error: io::Error, other: Fault) -> Fault {
-    if error.kind() == io::ErrorKind::OutOfMemory {
-        Fault::OutOfMemory
-    } else {
-        other
+/// An open file, or standard input.
+#[derive(Drop)]
+enum Opened<F, S> {
+    File(F),
+    Standard(S),
+}
+
+impl<F: Read, S: Read> Read for Opened<F, S> {
+    fn read(&mut self, buffer: &mut [u8]) -> io::Result<usize> {
+        match self {
+            Opened::File(file) => file.read(buffer),
+            Opened::Standard(input) => input.read(buffer),
+        }
+    }
+}
+
+/// The files and the standard input of the system.
+#[derive(Drop)]
+struct System<'a, R> {
+    rt: &'a R,
+}
+
+impl<R: Files + Input> Inputs for System<'_, R> {
+    type Input = Plain<Opened<R::File, R::Reader>>;
+
+    fn input(&mut self, name: Option<&str>) -> Result<Self::Input, StreamFailed> {
+        match name {
+            Some(name) => match File::open(self.rt, name) {
+                Ok(file) => Ok(Plain::new(Opened::File(file))),
+                Err(_) => Err(StreamFailed),
+            },
+            None => Ok(Plain::new(Opened::Standard(self.rt.reader()))),
+        }
     }
 }
 
@@ -59,39 +91,24 @@ fn all_words<R: Env + AllocGlobal>(rt: &R) -> Result<Vec<String>, Fault> {
             }
             Ok(words)
         }
-        Err(error) => Err(memory_or(error, Fault::BadWords)),
+        Err(error) if error.kind() == io::ErrorKind::OutOfMemory => Err(Fault::OutOfMemory),
+        Err(_) => Err(Fault::BadWords),
     }
-}
-
-/// Does what the program's words ask for.
-fn run<R: Env + Files + Input + Print + AllocGlobal + Threads + Wait + Sync>(
-    rt: &R,
-) -> Result<(), Fault> {
-    let words = all_words(rt)?;
-    let arguments = read_words(rt.alloc(), words.as_slice())?;
-    let scripts = match arguments.scripts {
-        Some(name) => match File::open(rt, name) {
-            Ok(file) => read_all(rt.alloc(), &mut Plain::new(file))?,
-            Err(error) => return Err(memory_or(error, Fault::ReadFailed)),
-        },
-        None => read_all(rt.alloc(), &mut Plain::new(rt.reader()))?,
-    };
-    first_run(
-        rt,
-        rt.alloc(),
-        scripts.as_slice(),
-        &mut Plain::new(io::writer(rt)),
-    )?;
-    Ok(())
 }
 
 fn main(rt: HostRuntime) -> ExitCode {
-    match run(&rt) {
-        Ok(()) => ExitCode::SUCCESS,
-        Err(fault) => {
-            let status = fault.status();
-            let _ = rt.eprintln(fault);
-            ExitCode::from(status)
-        }
-    }
+    let mut out = Plain::new(rt.stdout());
+    let mut faults = Plain::new(rt.stderr());
+    let status = match all_words(&rt) {
+        Ok(words) => command(
+            &rt,
+            rt.alloc(),
+            words.as_slice(),
+            &mut System { rt: &rt },
+            &mut out,
+            &mut faults,
+        ),
+        Err(fault) => refuse(&fault, &mut faults),
+    };
+    ExitCode::from(status)
 }

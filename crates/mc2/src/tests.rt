@@ -8,7 +8,49 @@ use std::test::Fail;
 use std::thread::Threads;
 
 /// What is printed before the log where the built-in queue has been opened.
-const HEAD: &str = "record 1\ncpus 2\nobjects 1\nobject q0 ticket 100 queue 8\n";
+pub const HEAD: &str = "record 1\ncpus 2\nobjects 1\nobject q0 ticket 100 queue 8\n";
+
+/// Scripts, and what their runs print after the head.
+pub const WORKED: [(&str, &str); 5] = [
+    (
+        "0 q0 enq 3\n0 q0 deq\n",
+        "log q0 2\n0 enq 3 = ok\n0 deq = thread 3\ncpu 0 2\nq0 1 enq 3 | enq 3 = ok\nq0 1 deq | deq = thread 3\ncpu 1 0\nend\n",
+    ),
+    (
+        "0 q0 enq 3\n0 q0 enq 3\n",
+        "log q0 2\n0 enq 3 = ok\n0 enq 3 = already\ncpu 0 2\nq0 1 enq 3 | enq 3 = ok\nq0 1 enq 3 | enq 3 = already\ncpu 1 0\nend\n",
+    ),
+    (
+        "0 q0 enq 3 ; enq 3 ; deq\n",
+        "log q0 1\n0 enq 3 = ok ; enq 3 = already\ncpu 0 1\nq0 1 enq 3 ; enq 3 ; deq | enq 3 = ok ; enq 3 = already\ncpu 1 0\nend\n",
+    ),
+    ("", "log q0 0\ncpu 0 0\ncpu 1 0\nend\n"),
+    (
+        "# CPU 1 alone\n\n1 q0 enq 1\n1 q0 remove 2 ; len\n1 q0 len ; remove 1 ; remove 9\n",
+        "log q0 3\n1 enq 1 = ok\n1 remove 2 = absent\n1 len = count 1 ; remove 1 = ok ; remove 9 = badthread\ncpu 0 0\ncpu 1 3\nq0 1 enq 1 | enq 1 = ok\nq0 1 remove 2 ; len | remove 2 = absent\nq0 1 len ; remove 1 ; remove 9 | len = count 1 ; remove 1 = ok ; remove 9 = badthread\nend\n",
+    ),
+];
+
+/// Scripts that are refused, and their first bad lines.
+pub const REFUSED: [(&str, usize); 14] = [
+    ("0 q0 enq 3\n0 q0 deq", 2),
+    ("0 q0\tdeq\n", 1),
+    ("0 q0 enq 03\n", 1),
+    ("# two\n\n2 q0 deq\n", 3),
+    (
+        "0 q0 len ; len ; len ; len ; len ; len ; len ; len ; len\n",
+        1,
+    ),
+    ("0 q0 deq\n0 q1 deq\n", 2),
+    ("0 q0 enq 4294967296\n", 1),
+    ("0 q0 alloc 1\n", 1),
+    ("0 q0 deq \n", 1),
+    ("0 q0 deq ;\n", 1),
+    (" 0 q0 deq\n", 1),
+    ("0 q0\n", 1),
+    ("0 q0 enq +3\n", 1),
+    ("0 q0 deq\r\n", 1),
+];
 
 /// The text of the run that the scripts ask for.
 fn printed<R: Threads + Wait + Sync + AllocGlobal>(
@@ -22,26 +64,7 @@ fn printed<R: Threads + Wait + Sync + AllocGlobal>(
 
 #[test]
 fn worked_runs(rt: HostRuntime) -> Result<(), Fail> {
-    let rows = [
-        (
-            "0 q0 enq 3\n0 q0 deq\n",
-            "log q0 2\n0 enq 3 = ok\n0 deq = thread 3\ncpu 0 2\nq0 1 enq 3 | enq 3 = ok\nq0 1 deq | deq = thread 3\ncpu 1 0\nend\n",
-        ),
-        (
-            "0 q0 enq 3\n0 q0 enq 3\n",
-            "log q0 2\n0 enq 3 = ok\n0 enq 3 = already\ncpu 0 2\nq0 1 enq 3 | enq 3 = ok\nq0 1 enq 3 | enq 3 = already\ncpu 1 0\nend\n",
-        ),
-        (
-            "0 q0 enq 3 ; enq 3 ; deq\n",
-            "log q0 1\n0 enq 3 = ok ; enq 3 = already\ncpu 0 1\nq0 1 enq 3 ; enq 3 ; deq | enq 3 = ok ; enq 3 = already\ncpu 1 0\nend\n",
-        ),
-        ("", "log q0 0\ncpu 0 0\ncpu 1 0\nend\n"),
-        (
-            "# CPU 1 alone\n\n1 q0 enq 1\n1 q0 remove 2 ; len\n1 q0 len ; remove 1 ; remove 9\n",
-            "log q0 3\n1 enq 1 = ok\n1 remove 2 = absent\n1 len = count 1 ; remove 1 = ok ; remove 9 = badthread\ncpu 0 0\ncpu 1 3\nq0 1 enq 1 | enq 1 = ok\nq0 1 remove 2 ; len | remove 2 = absent\nq0 1 len ; remove 1 ; remove 9 | len = count 1 ; remove 1 = ok ; remove 9 = badthread\nend\n",
-        ),
-    ];
-    for (scripts, rest) in rows {
+    for (scripts, rest) in WORKED {
         let text = printed(&rt, scripts)?;
         let wanted = format!(in rt.alloc(); "{HEAD}{rest}")?;
         assert!(rt; text.as_slice() == wanted.as_bytes(), "{scripts:?}");
@@ -51,26 +74,7 @@ fn worked_runs(rt: HostRuntime) -> Result<(), Fail> {
 
 #[test]
 fn refused_scripts(rt: HostRuntime) {
-    let rows = [
-        ("0 q0 enq 3\n0 q0 deq", 2),
-        ("0 q0\tdeq\n", 1),
-        ("0 q0 enq 03\n", 1),
-        ("# two\n\n2 q0 deq\n", 3),
-        (
-            "0 q0 len ; len ; len ; len ; len ; len ; len ; len ; len\n",
-            1,
-        ),
-        ("0 q0 deq\n0 q1 deq\n", 2),
-        ("0 q0 enq 4294967296\n", 1),
-        ("0 q0 alloc 1\n", 1),
-        ("0 q0 deq \n", 1),
-        ("0 q0 deq ;\n", 1),
-        (" 0 q0 deq\n", 1),
-        ("0 q0\n", 1),
-        ("0 q0 enq +3\n", 1),
-        ("0 q0 deq\r\n", 1),
-    ];
-    for (scripts, line) in rows {
+    for (scripts, line) in REFUSED {
         let fault = match printed(&rt, scripts) {
             Err(FirstFault::BadScripts(number)) => number,
             _ => 0,
@@ -100,19 +104,32 @@ fn entries_of_one_cpu(rt: HostRuntime) -> Result<(), Fail> {
 
 /// How a sink fails.
 #[derive(Clone, Copy, Debug, PartialEq, Eq, Drop)]
-enum Failure {
+pub enum Failure {
     Error,
     NothingTaken,
 }
 
 /// A sink that takes at most so many bytes a call, and fails at one call.
 #[derive(Drop)]
-struct Failing {
-    taken: Vec<u8>,
+pub struct Failing {
+    pub taken: Vec<u8>,
     most: usize,
     calls_left: usize,
     failure: Failure,
     failed: u64,
+}
+
+impl Failing {
+    /// A sink that fails after so many calls of at most 500 bytes.
+    pub fn after(alloc: Global, calls: usize, failure: Failure) -> Failing {
+        Failing {
+            taken: Vec::new(alloc),
+            most: 500,
+            calls_left: calls,
+            failure,
+            failed: 0,
+        }
+    }
 }
 
 impl Sink for Failing {
@@ -148,13 +165,7 @@ fn run_failing<R: Threads + Wait + Sync + AllocGlobal>(
     calls: usize,
     failure: Failure,
 ) -> (Result<(), FirstFault>, Failing) {
-    let mut out = Failing {
-        taken: Vec::new(rt.alloc()),
-        most: 500,
-        calls_left: calls,
-        failure,
-        failed: 0,
-    };
+    let mut out = Failing::after(rt.alloc(), calls, failure);
     (first_run(rt, rt.alloc(), scripts.as_bytes(), &mut out), out)
 }
 

@@ -32,7 +32,7 @@ pub fn key<'a>(key: &[u8], at: Words<'a>) -> Option<Words<'a>>
 }
 
 /// The number of at most `high` whose decimal text the word is.
-fn number_of(word: &[u8], high: u64) -> Option<u64>
+pub fn number_of(word: &[u8], high: u64) -> Option<u64>
     ensures value { result ≡ number_in high word.now }
     ensures bound { IfSome result (λ n. n ≤ high) }
 {

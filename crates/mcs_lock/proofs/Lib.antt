@@ -1,4 +1,5 @@
 pub mod McsRule
 pub mod McsActing
 pub mod Zeros
+pub mod Together
 pub mod Sends

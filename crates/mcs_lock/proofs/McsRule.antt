@@ -1,5 +1,5 @@
 -- Each step of an MCS lock keeps its rule, and tells its play.
-use Rattle.std.proofs.Common.{◌≡◌, ◌≢◌, ℕ, ◌+◌, ◌<◌, ◌||◌, ◌==◌, true, false, true≢false, List, [], ◌∷◌, ◌++◌, length, get_or, set, refl, sym, ap, ◌∙◌, subst, arith, Option, Some}
+use Rattle.std.proofs.Common.{◌≡◌, ◌≢◌, ℕ, ◌+◌, ◌||◌, ◌==◌, true, false, true≢false, List, [], ◌∷◌, ◌++◌, length, get_or, set, refl, sym, ap, ◌∙◌, subst, arith, Option, Some}
 use Rattle.std.proofs.lemmas.Bool.Decides.{nat_tests}
 use mathlib.Core.Logic.{dite}
 use mathlib.Core.Option.{some, none}
@@ -19,7 +19,7 @@ use Rattle.word_rule.specs.Line.{holding, lined}
 use Rattle.word_rule.specs.Queues.{Queued}
 use Rattle.word_rule.specs.Board.{Caller, EachFrom, Viewed, Table, Knows, Ruled}
 use Rattle.word_rule.specs.Seats.{Seat, placed, settled}
-use Rattle.word_rule.specs.Told.{any_has, Lacks, Gets, Returns}
+use Rattle.word_rule.specs.Told.{any_has, Lacks, Returns}
 use Rattle.word_rule.specs.Callers.{AddedBy}
 use Rattle.word_rule.proofs.Lists.{has_at}
 use Rattle.word_rule.proofs.Stays.{kept, taken, given}
@@ -27,7 +27,7 @@ use Rattle.word_rule.proofs.Known.{AllIdle, same_cell, gets, someone_else, lacks
 use Rattle.word_rule.proofs.Acting.{value_of}
 use Rattle.word_rule.proofs.QueueWords.{stands_at, in_cell, only_one, out_of_line, another}
 use Rattle.word_rule.proofs.QueueLines.{replaced, cleared, at_home, entered_first, predecessor, entered, armed, linked, free, ahead, looked, saw, saw_none, second, emptied, more, left, two, passed, queue_ties}
-use Rattle.mcs_lock.specs.Steps.{goes, arms, Names, Lags, SawLawful, enters, looks, sees, sees_again, Empties, empties, passes}
+use Rattle.mcs_lock.specs.Steps.{goes, arms, Names, SawLawful, enters, looks, sees, sees_again, Empties, empties, passes}
 
 abbrev cpu_of : Place → ℕ
 cpu_of Idle = 0
@@ -68,7 +68,7 @@ module _ {O P C R : Type 0} (meaning : Ghosts O P C R) (h : Cell O P C R) where
         let l = r.board.line in
         let mine = r.each id v there in
         kept meaning Queued h s r i (get_or s.words i 0) id v me.1 l.cpus q there acts (λ e. mine.main.whole acts (has_it e))
-            (subst (λ (ws : List ℕ). Queued n ws (lined l.cpus l.out l.place p q)) (sym (set-get_or s.words i 0)) tied)
+        (subst (λ (ws : List ℕ). Queued n ws (lined l.cpus l.out l.place p q)) (sym (set-get_or s.words i 0)) tied)
 
     pub clearing : v.main.place ≡ Idle → Allows Rule slots id me (1 + p) (λ _. 0) (λ _. goes Ready (step slots (1 + p) 0 0 none) me 0)
     clearing is s r len there small =

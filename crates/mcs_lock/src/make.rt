@@ -14,7 +14,7 @@ use std::snapshot::Snapshot;
 use word_rule::{Beside, Key, MOST_CPUS, Seat};
 
 // The words of the greatest cell.
-const MOST_WORDS: usize = 17;
+const MOST_WORDS: usize = 1 + 2 * MOST_CPUS as usize;
 
 impl<O: SeqObject> McsCell<O> {
     // The first seat has a caller for each CPU. Each goes to a seat of its own.

@@ -1,8 +1,5 @@
 //! A caller of an MCS lock, by what it may do next.
 
-ghost use Rattle.std.specs.Prelude.{◌≡◌, ◌<◌, ◌≤◌, ◌↔◌, length, IsErr, IfOk, OnErr};
-ghost use Rattle.event_log.specs.Log.{answers, after, Fulfils};
-ghost use Rattle.event_log.specs.History.{with_event};
 ghost use Rattle.event_log.proofs.Props.{legal_props};
 ghost use Rattle.word_rule.specs.declared.place.Place.TheVariants.{Idle, Ready, Behind, Armed, Waiting, Holding, Alone, Leaving, Passing};
 ghost use Rattle.word_rule.specs.Told.{IsElse};

@@ -18,7 +18,9 @@ impl<O: SeqObject> McsCell<O> {
         ensures step { IsClear O.SeqObject (pass_standing pass) (ready_standing result) }
     {
         let Pass { cpu, key, mut seat } = pass;
-        self.table.shared.store::<Clear>(&mut seat, 1 + cpu as usize, 0);
+        self.table
+            .shared
+            .store::<Clear>(&mut seat, 1 + cpu as usize, 0);
         Ready { cpu, key, seat }
     }
 
@@ -30,7 +32,10 @@ impl<O: SeqObject> McsCell<O> {
         ensures queued { IfBehind result (λ b. IsBehindOf self.now b × IsEnter O.SeqObject (ready_standing ready) (behind_standing b) false) }
     {
         let Ready { cpu, key, mut seat } = ready;
-        let found = self.table.shared.swap::<Enter>(&mut seat, 0, cpu as u64 + 1);
+        let found = self
+            .table
+            .shared
+            .swap::<Enter>(&mut seat, 0, cpu as u64 + 1);
         if found == 0 {
             let logged = self.table.shared.exchange(&mut seat, 0, None).unwrap();
             Entered::Hold(Hold {
@@ -62,7 +67,9 @@ impl<O: SeqObject> McsCell<O> {
             key,
             mut seat,
         } = behind;
-        self.table.shared.store::<Arm>(&mut seat, 1 + self.cpus as usize + cpu as usize, 1);
+        self.table
+            .shared
+            .store::<Arm>(&mut seat, 1 + self.cpus as usize + cpu as usize, 1);
         Armed {
             cpu,
             ahead,
@@ -83,7 +90,9 @@ impl<O: SeqObject> McsCell<O> {
             key,
             mut seat,
         } = armed;
-        self.table.shared.store::<Link>(&mut seat, 1 + ahead as usize, cpu as u64 + 1);
+        self.table
+            .shared
+            .store::<Link>(&mut seat, 1 + ahead as usize, cpu as u64 + 1);
         Waiting { cpu, key, seat }
     }
 
@@ -94,7 +103,10 @@ impl<O: SeqObject> McsCell<O> {
         ensures missed { IfErr result (λ w. IsWaitingOf self.now w × IsWaitingLook O.SeqObject (waiting_standing waiting) (waiting_standing w) false) }
     {
         let Waiting { cpu, key, mut seat } = waiting;
-        let found = self.table.shared.load::<Look>(&mut seat, 1 + self.cpus as usize + cpu as usize);
+        let found = self
+            .table
+            .shared
+            .load::<Look>(&mut seat, 1 + self.cpus as usize + cpu as usize);
         if found == 0 {
             let logged = self.table.shared.exchange(&mut seat, 0, None).unwrap();
             Ok(Hold {
@@ -156,7 +168,10 @@ impl<O: SeqObject> McsCell<O> {
         let empty = self.table.shared.exchange(&mut seat, 0, Some(logged));
         let None = empty else { unreachable!() };
         let last = cpu as u64 + 1;
-        let found = self.table.shared.compare_exchange::<Empty>(&mut seat, 0, last, 0);
+        let found = self
+            .table
+            .shared
+            .compare_exchange::<Empty>(&mut seat, 0, last, 0);
         if found == last {
             Ok(Pass { cpu, key, seat })
         } else {
@@ -182,7 +197,10 @@ impl<O: SeqObject> McsCell<O> {
             key,
             mut seat,
         } = leaving;
-        let found = self.table.shared.load::<SeeAgain>(&mut seat, 1 + cpu as usize);
+        let found = self
+            .table
+            .shared
+            .load::<SeeAgain>(&mut seat, 1 + cpu as usize);
         if found == 0 {
             Err(Leaving {
                 cpu,
@@ -217,7 +235,9 @@ impl<O: SeqObject> McsCell<O> {
         } = passing;
         let empty = self.table.shared.exchange(&mut seat, 0, Some(logged));
         let None = empty else { unreachable!() };
-        self.table.shared.store::<PassOn>(&mut seat, 1 + self.cpus as usize + follower as usize, 0);
+        self.table
+            .shared
+            .store::<PassOn>(&mut seat, 1 + self.cpus as usize + follower as usize, 0);
         Pass { cpu, key, seat }
     }
 }

@@ -70,17 +70,11 @@ fn a_free_lock_takes_no_look(rt: HostRuntime) -> Result<(), Fail> {
 /// A cell of two CPUs around a queue of 8 threads.
 fn cell_of_two(
     alloc: Global,
-) -> Result<
-    (
-        McsCell<ThreadQueue>,
-        Pass<ThreadQueue>,
-        Pass<ThreadQueue>,
-    ),
-    Fail,
->
+) -> Result<(McsCell<ThreadQueue>, Pass<ThreadQueue>, Pass<ThreadQueue>), Fail>
     ensures zero { IfOk result (λ r. IsPassOf r.0 r.1) }
     ensures one { IfOk result (λ r. IsPassOf r.0 r.2) }
     ensures all { IfOk result (λ r. (k : ℕ) → k < (pass_part r.2).caller.cell.numbers → ((pass_part r.1).caller.owned k || (pass_part r.2).caller.owned k) ≡ true) }
+    ensures both { IfOk result (λ r. (k : ℕ) → k < (pass_part r.1).caller.cell.numbers → ((pass_part r.2).caller.owned k || (pass_part r.1).caller.owned k) ≡ true) }
 {
     let queue = Logged::<ThreadQueue>::open(alloc, 8, 100)?;
     let Ok((cell, mut passes)) = McsCell::new(alloc, queue, 2) else {
@@ -179,11 +173,7 @@ fn stays<R: Abort>(
 }
 
 /// Sees nobody behind it, and is the last.
-fn ends<R: Abort>(
-    rt: &R,
-    cell: &McsCell<ThreadQueue>,
-    hold: Hold<ThreadQueue>,
-) -> Pass<ThreadQueue>
+fn ends<R: Abort>(rt: &R, cell: &McsCell<ThreadQueue>, hold: Hold<ThreadQueue>) -> Pass<ThreadQueue>
     requires { IsHoldOf cell.now hold }
     ensures pass { IsPassOf cell.now result }
     ensures caller { (pass_part result).caller ≡ (hold_held hold).caller }

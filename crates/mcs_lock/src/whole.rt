@@ -1,8 +1,6 @@
 //! Whole calls of an MCS lock, and its end.
 
-ghost use Rattle.std.specs.Prelude.{◌≡◌, ◌<◌, ◌≤◌, ◌↔◌, ◌||◌, ℕ, true, length, IsErr, IfOk, OnErr};
-ghost use Rattle.event_log.specs.Log.{answers, after, Fulfils};
-ghost use Rattle.event_log.specs.History.{with_event};
+ghost use Rattle.std.specs.Prelude.{◌≡◌, ◌<◌, ◌||◌, ℕ, true};
 ghost use Rattle.word_rule.specs.Cell.{Grows, OwnsAll, stored};
 ghost use Rattle.word_rule.specs.McsSteps.{IsWaitingLook, IsSeeAgain};
 ghost use Rattle.mcs_lock.specs.Passes.{IsPassOf, IsBehindOf, IsWaitingOf, IsHoldOf, IsLeavingOf, IsPassingOf, pass_part, behind_part, waiting_part, hold_held, leaving_held, passing_held};
@@ -111,7 +109,10 @@ impl<O: SeqObject> McsCell<O> {
             seat: theirs,
         } = pass;
         self.table.shared.join_seat::<Beside>(&mut seat, theirs);
-        let found = self.table.shared.load::<Look>(&mut seat, 1 + self.cpus as usize + cpu as usize);
+        let found = self
+            .table
+            .shared
+            .load::<Look>(&mut seat, 1 + self.cpus as usize + cpu as usize);
         prove!(found == 0);
         let logged = self.table.shared.exchange(&mut seat, 0, None).unwrap();
         let theirs = self.table.shared.split_seat::<Beside>(&mut seat);
@@ -154,7 +155,10 @@ impl<O: SeqObject> McsCell<O> {
             seat: theirs,
         } = waiting;
         self.table.shared.join_seat::<Beside>(&mut seat, theirs);
-        let found = self.table.shared.load::<SeeAgain>(&mut seat, 1 + cpu as usize);
+        let found = self
+            .table
+            .shared
+            .load::<SeeAgain>(&mut seat, 1 + cpu as usize);
         prove!(found != 0);
         let follower = (found - 1) as u8;
         let theirs = self.table.shared.split_seat::<Beside>(&mut seat);

@@ -1,5 +1,5 @@
 -- Distinct numbers below a bound stay distinct in another order, and where some are left out.
-use Rattle.std.proofs.Common.{◌≡◌, ℕ, ◌<◌, ◌==◌, ◌||◌, Bool, true, false, List, [], ◌∷◌, ◌++◌, length, refl, subst, arith}
+use Rattle.std.proofs.Common.{◌≡◌, ℕ, ◌<◌, ◌==◌, false, List, [], ◌∷◌, ◌++◌, length, refl, subst, arith}
 use Rattle.std.specs.List.{IsDistinct, AllByRecursion}
 use Rattle.std.specs.List.Sorted.{IsPermutation}
 use Rattle.std.proofs.Math.Dec.{eqb}
@@ -9,28 +9,9 @@ use Rattle.std.proofs.lemmas.List.Elements.{All-from_recursion, recursion_from_A
 use Rattle.std.proofs.lemmas.List.Sorted.{All-permutation}
 use Rattle.std.proofs.lemmas.Map.Keys.{IsDistinct-IsPermutation}
 use Rattle.event_log.specs.Distinct.{has, AreDistinctBelow}
-use Rattle.event_log.proofs.Distinct.{distinct_length, distinct_push}
+use Rattle.event_log.proofs.Distinct.{false_or, distinct, distinct_length, distinct_push}
 
--- both parts of a test that fails
-or_false : (a b : Bool) → (a || b) ≡ false → (a ≡ false) × (b ≡ false)
-or_false true b h = absurd (cc)
-or_false false b h = (refl, h)
-
-false_or : (a b : Bool) → a ≡ false → b ≡ false → (a || b) ≡ false
-false_or a b p q = rw p q
-
--- the two parts of `AreDistinctBelow`
-apart_from : (x : ℕ) (xs : List ℕ) → has x xs ≡ false → AllByRecursion (λ y. eqb x y ≡ false) xs
-apart_from x [] h = tt
-apart_from x (y ∷ ys) h =
-    let p = or_false (y == x) (has x ys) h in
-    (grind (arith, nat_tests, p.0), apart_from x ys p.1)
-
-distinct : (n : ℕ) (xs : List ℕ) → AreDistinctBelow n xs → IsDistinct eqb xs
-unfolding IsDistinct
-distinct n [] q = tt
-distinct n (x ∷ xs) q = (apart_from x xs q.1, distinct n xs q.2)
-
+-- each is below the bound
 below : (n : ℕ) (xs : List ℕ) → AreDistinctBelow n xs → AllByRecursion (λ x. x < n) xs
 below n [] q = tt
 below n (x ∷ xs) q = (q.0, below n xs q.2)

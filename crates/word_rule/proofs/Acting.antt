@@ -20,7 +20,7 @@ use Rattle.word_rule.specs.Board.{Viewed}
 use Rattle.word_rule.specs.Seats.{Seat, shown, at, placed, settled, taken_in, keeping, letting, merged}
 use Rattle.word_rule.specs.Told.{Lacks, HasAll, Learns, Gets, Returns, any_has}
 use Rattle.word_rule.specs.Callers.{AddedBy, caller_of, standing_without, standing_with, StandsAt, IsWithout, IsWith}
-use Rattle.word_rule.proofs.Lists.{has_append, of_push, grows_self}
+use Rattle.word_rule.proofs.Lists.{has_append, of_push, grows_self, or_none}
 
 module _ {O P C R : Type 0} where
   -- the seat after a step that its first caller did
@@ -296,10 +296,6 @@ module _ {O P C R : Type 0} (meaning : Ghosts O P C R) where
   pub last_taken : (h : Cell O P C R) (cpu other : ℕ) (p q : Place) (r : Option (History O P C R)) (x : History O P C R) (m w m1 m2 m3 m' w' : Seat O P C R) → IsWithout meaning h cpu p m → IsWithout meaning h other Idle w → m1 ≡ (taken_in m.0 w.0, m.1) → Gets meaning q m1 m2
       → m2.1 ≡ (0, r) ∷ rest m2.1 → m3 ≡ (m2.0, (0, None) ∷ rest m2.1) → r ≡ Some x → m' ≡ (keeping m3.0, m3.1) → w' ≡ (letting m3.0, []) → TookLast h q x m w m' w'
   last_taken h cpu other p q r x m w m1 m2 m3 m' w' one two e got slot out is f s = took_last h cpu other p q x m w m1 m3 m' w' one two e (took meaning q m1 m2 m3 r x got slot out is) f s
-
-  or_none : (b : Bool) → (b || false) ≡ b
-  or_none true = refl
-  or_none false = refl
 
   -- two callers that own every number together
   pub all_together : (h : Cell O P C R) (m w m1 : Seat O P C R) → m.0.told ≡ h ∷ [] → m1 ≡ (taken_in m.0 w.0, m.1) → ((k : ℕ) → k < h.numbers → (has k m.0.main.owned || has k w.0.main.owned) ≡ true) → HasAll m1.0 h

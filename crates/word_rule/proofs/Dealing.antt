@@ -1,5 +1,5 @@
 -- The callers of a new cell's first seat go to seats of their own, one by one.
-use Rattle.std.proofs.Common.{◌≡◌, ◌⊎◌, inl, inr, ℕ, zero, suc, ◌+◌, ◌-◌, ◌<◌, ◌||◌, ◌==◌, Bool, true, false, List, [], ◌∷◌, ◌++◌, length, refl, sym, ap, ◌∙◌, subst, ⊎_elim, arith, Some}
+use Rattle.std.proofs.Common.{◌≡◌, ◌⊎◌, inl, inr, ℕ, zero, suc, ◌+◌, ◌-◌, ◌<◌, ◌==◌, Bool, List, [], ◌∷◌, ◌++◌, length, refl, sym, ap, ◌∙◌, subst, ⊎_elim, arith, Some}
 use Rattle.std.specs.Prelude.{slice_get}
 use Rattle.std.proofs.lemmas.Bool.Decides.{nat_tests}
 use Rattle.event_log.specs.declared.object.SeqObject.{Ghosts}
@@ -9,7 +9,7 @@ use Rattle.word_rule.specs.Cell.{Cell, Lawful, EachAt, opening_part}
 use Rattle.word_rule.specs.Board.{Viewed}
 use Rattle.word_rule.specs.Seats.{Seat, idle, idle_from, keeping, letting}
 use Rattle.word_rule.specs.Callers.{part_of, IsWithout}
-use Rattle.word_rule.proofs.Lists.{has_one}
+use Rattle.word_rule.proofs.Lists.{has_one, or_none}
 
 module _ {O P C R : Type 0} where
   -- the first seat, where the callers below k have gone
@@ -29,12 +29,8 @@ module _ {O P C R : Type 0} where
   pub is_one : (h : Cell O P C R) (k : ℕ) (m m' : Seat O P C R) → k < h.numbers → m ≡ (undealt h k, []) → m' ≡ (letting m.0, []) → m' ≡ (one_of h k, [])
   is_one h k m m' below e e' = e' ∙ ((λ i. (letting (e i).0, [])) ∙ ap (λ l. (letting record { told = h ∷ []; main = idle 0 [] []; others = l }, [])) (next h k below))
 
-or_false : (b : Bool) → (b || false) ≡ b
-or_false true = refl
-or_false false = refl
-
 has_one_is : (k : ℕ) → ◌≡◌ {A = ℕ → Bool} (λ j. has j (k ∷ [])) (λ j. k == j)
-has_one_is k = λ i j. or_false (k == j) i
+has_one_is k = λ i j. or_none (k == j) i
 
 swap : (k j : ℕ) → (k == j) ≡ (j == k)
 swap k j = grind (arith, nat_tests)

@@ -1,5 +1,5 @@
 -- Lists of numbers, and logs.
-use Rattle.std.proofs.Common.{◌≡◌, ◌≢◌, ◌⊎◌, inl, inr, ⊎_elim, ℕ, zero, suc, ◌+◌, ◌<◌, ◌≤◌, Bool, true, false, true≢false, List, [], ◌∷◌, ◌++◌, ◌==◌, eqb, ne_eqb, length, drop, refl, sym, ap, ◌∙◌, arith, append-nil}
+use Rattle.std.proofs.Common.{◌≡◌, ◌||◌, ◌≢◌, ◌⊎◌, inl, inr, ⊎_elim, ℕ, zero, suc, ◌+◌, ◌<◌, ◌≤◌, Bool, true, false, true≢false, List, [], ◌∷◌, ◌++◌, ◌==◌, eqb, ne_eqb, length, drop, refl, sym, ap, ◌∙◌, arith, append-nil}
 use Rattle.std.proofs.lemmas.Bool.{eq-eqb}
 use Rattle.std.proofs.lemmas.Bool.Decides.{nat_tests}
 use Rattle.std.proofs.lemmas.List.Elements.{filter-append}
@@ -18,6 +18,10 @@ use Rattle.word_rule.specs.Board.{EachFrom}
 pub false_from : (b : Bool) → (b ≡ true → ⊥) → b ≡ false
 false_from true f = absurd (f refl)
 false_from false f = refl
+
+pub or_none : (b : Bool) → (b || false) ≡ b
+or_none true = refl
+or_none false = refl
 
 -- an element further on isn't there either
 pub has_tail : (x y : ℕ) (xs : List ℕ) → has x (y ∷ xs) ≡ false → has x xs ≡ false

@@ -145,33 +145,33 @@ module _ {O P C R : Type 0} (meaning : Ghosts O P C R) (cells : List (CellSpec O
                 looks = k.looks ∙ (ap (λ b. cond b 0 (counted p.looks s)) (ends false e) ∙ (λ j. counted (q.looks j) (s_is j)));
               }
 
-          abbrev w1 : World O P C R
-          w1 = world_after meaning w i c0 (the_cpu w h).0 todo (turn c0.lock i)
+          abbrev next_world : World O P C R
+          next_world = world_after meaning w i c0 (the_cpu w h).0 todo (turn c0.lock i)
 
           abbrev next_parts : Parts O P C R
           next_parts = record { cells = set cells todo.object spec'; locks = set locks todo.object lock'; scripts = scripts; done = set done i p' }
 
-          each_cell' : (x : ℕ) (a : CellSpec O P C R) (b : LockWords) (c : CellState O P C R) → slice_get (set cells todo.object spec') x ≡ Some a → slice_get (set locks todo.object lock') x ≡ Some b → slice_get w1.cells x ≡ Some c → ShowsCell meaning (length w1.cpus) a b c
+          each_cell' : (x : ℕ) (a : CellSpec O P C R) (b : LockWords) (c : CellState O P C R) → slice_get (set cells todo.object spec') x ≡ Some a → slice_get (set locks todo.object lock') x ≡ Some b → slice_get next_world.cells x ≡ Some c → ShowsCell meaning (length next_world.cpus) a b c
           each_cell' x a b c ea eb ec = subst (λ n. ShowsCell meaning n a b c) (sym (length-set w.cpus i _)) (dite (ℕ_discrete x todo.object) here there)
             where
               here : x ≡ todo.object → ShowsCell meaning (length w.cpus) a b c
               here e =
                   let fa = one_of spec' a (slice_get (set cells todo.object spec') x) (subst (λ y. slice_get (set cells todo.object spec') y ≡ Some spec') (sym e) (get_set_same cells todo.object spec' spec (read_get cells todo.object spec on_cell spec_is))) ea in
                   let fb = one_of lock' b (slice_get (set locks todo.object lock') x) (subst (λ y. slice_get (set locks todo.object lock') y ≡ Some lock') (sym e) (get_set_same locks todo.object lock' lock (read_get locks todo.object lock (omega (arith, on_cell, h.cells, h.locks)) lock_is))) eb in
-                  let fc = one_of (cell_after meaning c0 i todo (turn c0.lock i)) c (slice_get w1.cells x) (subst (λ y. slice_get w1.cells y ≡ Some (cell_after meaning c0 i todo (turn c0.lock i))) (sym e) (get_set_same w.cells todo.object (cell_after meaning c0 i todo (turn c0.lock i)) c0 the_cell.1)) ec in
+                  let fc = one_of (cell_after meaning c0 i todo (turn c0.lock i)) c (slice_get next_world.cells x) (subst (λ y. slice_get next_world.cells y ≡ Some (cell_after meaning c0 i todo (turn c0.lock i))) (sym e) (get_set_same w.cells todo.object (cell_after meaning c0 i todo (turn c0.lock i)) c0 the_cell.1)) ec in
                   subst (λ (z : CellSpec O P C R × LockWords × CellState O P C R). ShowsCell meaning (length w.cpus) z.0 z.1 z.2) (λ j. (fa j, fb j, fc j)) new_cell
 
               there : x ≢ todo.object → ShowsCell meaning (length w.cpus) a b c
               there ne = h.each_cell x a b c (sym (get_set_other cells todo.object x spec' (λ e. ne (sym e))) ∙ ea) (sym (get_set_other locks todo.object x lock' (λ e. ne (sym e))) ∙ eb) (sym (get_set_other w.cells todo.object x (cell_after meaning c0 i todo (turn c0.lock i)) (λ e. ne (sym e))) ∙ ec)
 
-          each_cpu' : (x : ℕ) (a : Vec (Todo O P C R) Global) (b : Progress O P C R) (c : CpuState O P C R) → slice_get scripts x ≡ Some a → slice_get (set done i p') x ≡ Some b → slice_get w1.cpus x ≡ Some c → ShowsCpu a b c
+          each_cpu' : (x : ℕ) (a : Vec (Todo O P C R) Global) (b : Progress O P C R) (c : CpuState O P C R) → slice_get scripts x ≡ Some a → slice_get (set done i p') x ≡ Some b → slice_get next_world.cpus x ≡ Some c → ShowsCpu a b c
           each_cpu' x a b c ea eb ec = dite (ℕ_discrete x i) here there
             where
               here : x ≡ i → ShowsCpu a b c
               here e =
                   let fa = one_of script a (slice_get scripts x) (subst (λ y. slice_get scripts y ≡ Some script) (sym e) script_there) ea in
                   let fb = one_of p' b (slice_get (set done i p') x) (subst (λ y. slice_get (set done i p') y ≡ Some p') (sym e) (get_set_same done i p' p (p_there w h))) eb in
-                  let fc = one_of _ c (slice_get w1.cpus x) (subst (λ y. slice_get w1.cpus y ≡ Some (cpu_after (the_cpu w h).0 todo (turn c0.lock i).1 (outcome meaning c0.opened c0.log todo.calls.items))) (sym e) (get_set_same w.cpus i _ (the_cpu w h).0 (the_cpu w h).1)) ec in
+                  let fc = one_of _ c (slice_get next_world.cpus x) (subst (λ y. slice_get next_world.cpus y ≡ Some (cpu_after (the_cpu w h).0 todo (turn c0.lock i).1 (outcome meaning c0.opened c0.log todo.calls.items))) (sym e) (get_set_same w.cpus i _ (the_cpu w h).0 (the_cpu w h).1)) ec in
                   subst (λ (z : Vec (Todo O P C R) Global × Progress O P C R × CpuState O P C R). ShowsCpu z.0 z.1 z.2) (λ j. (fa j, fb j, fc j)) new_cpu
 
               there : x ≢ i → ShowsCpu a b c

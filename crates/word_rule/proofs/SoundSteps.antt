@@ -27,7 +27,8 @@ use Rattle.word_rule.proofs.Acting.{all_push}
 use Rattle.word_rule.proofs.Entries.{done_append, done_here, done_elsewhere, done_without, steps_push, steps_other, full_push}
 use Rattle.word_rule.proofs.Slices.{get_set_same, get_set_other, one_of}
 
-all_map : {X : Type 0} {Q S : X → Type 0} → ((x : X) → Q x → S x) → (xs : List X) → AllByRecursion Q xs → AllByRecursion S xs
+-- what holds of each element, and from which another follows
+pub all_map : {X : Type 0} {Q S : X → Type 0} → ((x : X) → Q x → S x) → (xs : List X) → AllByRecursion Q xs → AllByRecursion S xs
 all_map f [] h = tt
 all_map f (x ∷ xs) h = (f x h.0, all_map f xs h.1)
 

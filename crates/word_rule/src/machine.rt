@@ -75,6 +75,8 @@ impl<O: SeqObject> Machine<O> {
         requires able { AllByRecursion (λ s. AllByRecursion (λ t. IsTodo (vec_len cells) t) s.items) scripts.items }
         ensures shows { IfOk result (λ m. Shows O.SeqObject m (opening_world cells.items scripts.items)) }
         ensures opening { IsOpening (opening_world cells.items scripts.items) }
+        ensures scripts { IfOk result (λ m. m.scripts ≡ scripts.items) }
+        ensures opened { IfOk result (λ m. opened_by m ≡ map (λ c. record { params = c.logged.params; limit = c.logged.limit }) cells.items) }
         ensures back { IfErr result (λ e. (e.1 ≡ cells) × (e.2 ≡ scripts)) }
     {
         match make_room(alloc, cells.as_slice(), scripts.as_slice()) {

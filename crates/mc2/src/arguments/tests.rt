@@ -1,6 +1,6 @@
 //! Words that are taken and words that are refused, and the lines of the refusals.
 
-use super::read_words;
+use super::{Arguments, WordsFault, read_words};
 use crate::fault::Fault;
 use std::test::Fail;
 
@@ -9,10 +9,22 @@ fn words_that_are_taken(rt: HostRuntime) -> Result<(), Fail> {
     let mut words = Vec::new(rt.alloc());
     words.push(format!(in rt.alloc(); "run")?)?;
     let input = read_words(rt.alloc(), words.as_slice());
-    assert!(rt; matches!(input, Ok(arguments) if arguments.scripts.is_none()));
+    assert!(rt; input == Ok(Arguments::Run { scripts: None }));
     words.push(format!(in rt.alloc(); "a file")?)?;
     let file = read_words(rt.alloc(), words.as_slice());
-    assert!(rt; matches!(file, Ok(arguments) if arguments.scripts == Some("a file")));
+    assert!(rt;
+        file == Ok(Arguments::Run {
+            scripts: Some("a file")
+        })
+    );
+    words[0] = format!(in rt.alloc(); "sim")?;
+    words.push(format!(in rt.alloc(); "b")?)?;
+    let sim = read_words(rt.alloc(), words.as_slice());
+    let wanted = Arguments::Sim {
+        scripts: "a file",
+        schedule: "b",
+    };
+    assert!(rt; sim == Ok(wanted));
     Ok(())
 }
 
@@ -31,7 +43,12 @@ fn words_that_are_refused(rt: HostRuntime) -> Result<(), Fail> {
         "--help",
         "help",
         "a run",
-        "sim a b",
+        "sim",
+        "sim a",
+        "sim a b c",
+        "sim a -",
+        "sim a ",
+        "sim  b",
         "run ",
     ];
     for row in rows {
@@ -42,7 +59,7 @@ fn words_that_are_refused(rt: HostRuntime) -> Result<(), Fail> {
             }
         }
         let refused = read_words(rt.alloc(), words.as_slice());
-        assert!(rt; matches!(refused, Err(Fault::BadWords)), "{row:?}");
+        assert!(rt; matches!(refused, Err(WordsFault::NoForm)), "{row:?}");
     }
     Ok(())
 }
@@ -56,6 +73,7 @@ fn lines_of_the_refusals(rt: HostRuntime) -> Result<(), Fail> {
             "mc2: E5 no thread started for cpu 1",
         ),
         (Fault::BadScripts(10_001), "mc2: E7 scripts: line 10001"),
+        (Fault::BadSchedule(100_001), "mc2: E8 schedule: word 100001"),
         (Fault::ReadFailed, "mc2: E12 read failed"),
         (Fault::WriteFailed, "mc2: E13 write failed"),
         (Fault::BadWords, "mc2: E14 bad words"),

@@ -1,4 +1,4 @@
-use Rattle.std.proofs.Common.{rules, ◌≡◌, ℕ, ◌+◌, ◌-◌, ◌*◌, ◌<◌, ◌∷◌, sym, ap, subst, ◌∙◌, arith, Some}
+use Rattle.std.proofs.Common.{rules, ℕ, ◌-◌, ◌∷◌, sym, ap, subst, ◌∙◌, arith, Some}
 use Rattle.atomic_table.specs.Table.{rest}
 use Rattle.word_rule.specs.declared.place.Place.TheVariants.{Ready, Behind}
 use Rattle.word_rule.specs.Callers.{IsWithout}
@@ -26,8 +26,12 @@ pub returns-else-found-eq0-clause-queued : goal.returns-else-found-eq0-clause-qu
 returns-else-found-eq0-clause-queued g c = let a = c.args.ready in let some_one = c.if-found-eq0.false in let k : ℕ = c.swap-found.result - 1 in
     let t = named Behind c.swap-found.result k a.seat.me c.swap-found.new.seat.me (c.swap-found.ensures.2.behind some_one) (omega arith) in (
       search rules,
-      (k, t.1.other, record {
-        made = moves_without g.O.SeqObject a.key.value a.cpu Ready (Behind k) a.seat.me c.swap-found.new.seat.me a.ready t.0;
-        another = not_else a.key.value a.seat.me k a.ready.at.told t.1;
-      }),
+      (
+        k,
+        t.1.other,
+        record {
+          made = moves_without g.O.SeqObject a.key.value a.cpu Ready (Behind k) a.seat.me c.swap-found.new.seat.me a.ready t.0;
+          another = not_else a.key.value a.seat.me k a.ready.at.told t.1;
+        },
+      ),
     )

@@ -1,4 +1,4 @@
-use Rattle.std.proofs.Common.{rules, ◌≡◌, ℕ, ◌+◌, ◌-◌, ◌*◌, ◌<◌, ◌≤◌, true, [], ◌∷◌, sym, ap, subst, ◌∙◌, arith}
+use Rattle.std.proofs.Common.{rules, ◌≡◌, ℕ, ◌-◌, ◌<◌, true, [], ◌∷◌, sym, ap, subst, ◌∙◌, arith}
 use Rattle.event_log.specs.Distinct.{has}
 use Rattle.word_rule.specs.declared.place.Place.TheVariants.{Leaving, Waiting, Passing}
 use Rattle.word_rule.specs.Callers.{IsWith, IsWithout, held_of, standing_without}

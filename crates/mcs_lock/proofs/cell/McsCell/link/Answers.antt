@@ -1,4 +1,4 @@
-use Rattle.std.proofs.Common.{◌+◌, ◌*◌, ◌<◌, subst, arith}
+use Rattle.std.proofs.Common.{subst, arith}
 use Rattle.word_rule.specs.declared.place.Place.TheVariants.{Armed}
 use Rattle.word_rule.specs.Callers.{IsWithout}
 use Rattle.word_rule.proofs.Acting.{moves_without}

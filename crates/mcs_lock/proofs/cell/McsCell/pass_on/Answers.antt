@@ -1,4 +1,4 @@
-use Rattle.std.proofs.Common.{rules, ◌+◌, ◌*◌, ◌<◌, subst, arith}
+use Rattle.std.proofs.Common.{rules, subst, arith}
 use Rattle.word_rule.specs.declared.place.Place.TheVariants.{Passing}
 use Rattle.word_rule.specs.Callers.{IsWith}
 use Rattle.word_rule.proofs.Acting.{left, rests_now, gives_now}

@@ -1,7 +1,6 @@
-use Rattle.std.proofs.Common.{rules, ◌≡◌, ℕ, ◌+◌, ◌-◌, ◌*◌, ◌<◌, ◌≤◌, [], ◌∷◌, ap, subst, ◌∙◌, arith}
+use Rattle.std.proofs.Common.{rules, ℕ, ◌-◌, ◌<◌, [], ◌∷◌, ap, subst, ◌∙◌, arith}
 use Rattle.word_rule.specs.declared.place.Place.TheVariants.{Holding, Passing}
 use Rattle.word_rule.specs.Callers.{IsWith}
-use Rattle.word_rule.proofs.Acting.{not_all}
 use Rattle.mcs_lock.proofs.McsActing.{see_now, below_with, named, not_else, else_below, else_now, goes_with, moves_with}
 use Rattle.mcs_lock.proofs.cell.McsCell.see.Goals as goal
 
@@ -34,8 +33,12 @@ pub returns-else-found-eq0-clause-found : goal.returns-else-found-eq0-clause-fou
 returns-else-found-eq0-clause-found g c = let a = c.args.hold in let some_one = c.if-found-eq0.false in let k : ℕ = c.load-found.result - 1 in let s = c.load-found.ensures.2 in
     let t = named Passing c.load-found.result k a.seat.me c.load-found.new.seat.me (s.found some_one) (omega arith) in (
       search rules,
-      (k, t.1.other, record {
-        made = moves_with g.O.SeqObject a.key.value Holding (Passing k) a.logged a.seat.me c.load-found.new.seat.me (s.lawful a.key.value a.holds.at.told) t.0;
-        another = not_else a.key.value a.seat.me k a.holds.at.told t.1;
-      }),
+      (
+        k,
+        t.1.other,
+        record {
+          made = moves_with g.O.SeqObject a.key.value Holding (Passing k) a.logged a.seat.me c.load-found.new.seat.me (s.lawful a.key.value a.holds.at.told) t.0;
+          another = not_else a.key.value a.seat.me k a.holds.at.told t.1;
+        },
+      ),
     )

@@ -1,4 +1,4 @@
-use Rattle.std.proofs.Common.{rules, ◌≡◌, ℕ, ◌+◌, ◌-◌, ◌*◌, ◌<◌, ◌≤◌, [], ◌∷◌, ap, subst, ◌∙◌, arith}
+use Rattle.std.proofs.Common.{rules, ℕ, ◌-◌, ◌<◌, [], ◌∷◌, ap, subst, ◌∙◌, arith}
 use Rattle.word_rule.specs.declared.place.Place.TheVariants.{Leaving, Passing}
 use Rattle.word_rule.specs.Callers.{IsWith}
 use Rattle.word_rule.proofs.Acting.{not_all}
@@ -40,8 +40,12 @@ pub returns-else-found-eq0-clause-found : goal.returns-else-found-eq0-clause-fou
 returns-else-found-eq0-clause-found g c = let a = c.args.leaving in let some_one = c.if-found-eq0.false in let k : ℕ = c.load-found.result - 1 in let s = c.load-found.ensures.2 in
     let t = named Passing c.load-found.result k a.seat.me c.load-found.new.seat.me (s.found some_one) (omega arith) in (
       search rules,
-      (k, t.1.other, record {
-        made = moves_with g.O.SeqObject a.key.value Leaving (Passing k) a.logged a.seat.me c.load-found.new.seat.me (s.lawful a.key.value a.leaves.at.told) t.0;
-        another = not_else a.key.value a.seat.me k a.leaves.at.told t.1;
-      }),
+      (
+        k,
+        t.1.other,
+        record {
+          made = moves_with g.O.SeqObject a.key.value Leaving (Passing k) a.logged a.seat.me c.load-found.new.seat.me (s.lawful a.key.value a.leaves.at.told) t.0;
+          another = not_else a.key.value a.seat.me k a.leaves.at.told t.1;
+        },
+      ),
     )

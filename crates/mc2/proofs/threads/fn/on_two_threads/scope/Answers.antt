@@ -3,7 +3,6 @@ use mir.Syntax.{w32}
 use denote.Exit.{yes}
 use denote.Plain.{UInt}
 use denote.Param.Send.{param_send, arg_send, shr_send, sendable}
-use Rattle.std.proofs.Crossing.{crosses}
 use Rattle.shared_queue.specs.contracts.queue.ThreadQueue as Queue
 use Rattle.shared_queue.specs.contracts.call.QueueCall as Call
 use Rattle.shared_queue.specs.contracts.call.QueueReply as Reply

@@ -1,0 +1,21 @@
+use Rattle.std.proofs.Common.{◌≡◌, ◌<◌, ◌≤◌, ◌^◌, Option, Some, None, IfNone, sym, ◌∙◌, ap, arith}
+use Rattle.mc2.specs.Reading.{number_in}
+use Rattle.mc2.proofs.Cuts.{number_takes, number_again}
+use Rattle.mc2.proofs.schedule.cpu_of.Goals as goal
+
+if_none : {X P : Type 0} (o : Option X) → P → IfNone o P
+if_none None p = p
+if_none (Some x) p = tt
+
+pub returns-in_err-number-clause-none : goal.returns-in_err-number-clause-none
+returns-in_err-number-clause-none c = if_none c.from_residual.result (λ cpu less is.
+    let last : cpu ≤ c.from-last.result = let fit = c.cpus.ensures.fit.cpus in omega (arith, less, fit.0, c.cpus.ensures.cpus, c.from-last.ensures) in
+    let few : cpu < 2 ^ 64 = let fit = c.cpus.ensures.fit.cpus in omega (arith, less, fit.1) in
+    let found : Some cpu ≡ None = sym (number_again c.from-last.result cpu last few) ∙ (ap (number_in c.from-last.result) (sym is) ∙ (sym c.number_of.ensures.value ∙ c.in_err-number.was)) in
+    absurd cc)
+
+pub returns-clause-found : goal.returns-clause-found
+returns-clause-found c =
+    let takes = number_takes c.from-last.result c.args.word.now c.in_ok-number.number (sym c.number_of.ensures.value ∙ c.in_ok-number.was) in
+    let fit = c.cpus.ensures.fit.cpus in
+    (takes.0, omega (arith, takes.1, fit.0, c.cpus.ensures.cpus, c.from-last.ensures))

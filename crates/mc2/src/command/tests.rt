@@ -1,0 +1,220 @@
+//! Whole commands: the status, what was written, and the line of each refusal.
+
+use super::command;
+use crate::Inputs;
+use crate::tests::{Failing, Failure, HEAD, REFUSED, WORKED};
+use event_log::{Plain, Sink, StreamFailed};
+use std::io;
+use std::io::Read;
+use std::sync::Wait;
+use std::test::Fail;
+use std::thread::Threads;
+
+/// The scripts of the worked run.
+const SCRIPTS: &str = "0 q0 enq 3\n0 q0 deq\n";
+
+/// A reader that gives at most five bytes a call, and may fail where they end.
+#[derive(Drop)]
+struct Reader<'a> {
+    rest: &'a [u8],
+    fails: bool,
+}
+
+impl Read for Reader<'_> {
+    fn read(&mut self, buffer: &mut [u8]) -> io::Result<usize> {
+        if self.rest.is_empty() && self.fails {
+            return Err(io::Error::from(io::ErrorKind::Other));
+        }
+        let count = self.rest.len().min(buffer.len()).min(5);
+        let (front, back) = self.rest.split_at(count);
+        buffer[..count].copy_from_slice(front);
+        self.rest = back;
+        Ok(count)
+    }
+}
+
+/// Texts under names, and one for standard input. The file `none` can't be opened, and `broken` fails behind its text.
+#[derive(Drop)]
+struct Named<'a> {
+    standard: &'a str,
+    files: &'a [(&'a str, &'a str)],
+    opened: usize,
+}
+
+impl<'a> Inputs for Named<'a> {
+    type Input = Plain<Reader<'a>>;
+
+    fn input(&mut self, name: Option<&str>) -> Result<Plain<Reader<'a>>, StreamFailed> {
+        self.opened = self.opened.saturating_add(1);
+        let Some(name) = name else {
+            return Ok(Plain::new(Reader {
+                rest: self.standard.as_bytes(),
+                fails: false,
+            }));
+        };
+        for (file, text) in self.files {
+            if *file == name {
+                return Ok(Plain::new(Reader {
+                    rest: text.as_bytes(),
+                    fails: name == "broken",
+                }));
+            }
+        }
+        Err(StreamFailed)
+    }
+}
+
+/// The files that there are.
+const FILES: [(&str, &str); 9] = [
+    ("scripts", SCRIPTS),
+    ("bad", "0 q0 enq 3\n0 q1 deq\n"),
+    ("broken", SCRIPTS),
+    ("both", "0 q0 enq 3\n1 q0 enq 4\n"),
+    ("alone", "0 q0 enq 3\n"),
+    ("turns", "0 1 1 1 0 0 1 1\n"),
+    ("held", "0 1 0"),
+    ("idle", "0 0 0 0 1"),
+    ("steps", "0 2"),
+];
+
+/// Does the command of these words, and answers the status and how many inputs were opened.
+fn told<R: Threads + Wait + Sync + AllocGlobal, W: Sink, F: Sink>(
+    rt: &R,
+    line: &str,
+    standard: &str,
+    out: &mut W,
+    faults: &mut F,
+) -> Result<(u8, usize), Fail> {
+    let mut words = Vec::new(rt.alloc());
+    for word in line.split(' ') {
+        words.push(format!(in rt.alloc(); "{word}")?)?;
+    }
+    let mut inputs = Named {
+        standard,
+        files: &FILES,
+        opened: 0,
+    };
+    let status = command(rt, rt.alloc(), words.as_slice(), &mut inputs, out, faults);
+    Ok((status, inputs.opened))
+}
+
+#[test]
+fn worked_runs(rt: HostRuntime) -> Result<(), Fail> {
+    for (scripts, rest) in WORKED {
+        let mut out = Plain::new(Vec::new(rt.alloc()));
+        let mut faults = Plain::new(Vec::new(rt.alloc()));
+        let status = told(&rt, "run", scripts, &mut out, &mut faults)?;
+        assert!(rt; status == (0, 1), "{scripts:?}");
+        let wanted = format!(in rt.alloc(); "{HEAD}{rest}")?;
+        assert!(rt; out.inner.as_slice() == wanted.as_bytes(), "{scripts:?}");
+        assert!(rt; faults.inner.is_empty(), "{scripts:?}");
+    }
+    Ok(())
+}
+
+#[test]
+fn a_file_of_scripts(rt: HostRuntime) -> Result<(), Fail> {
+    let mut standard = Plain::new(Vec::new(rt.alloc()));
+    let mut file = Plain::new(Vec::new(rt.alloc()));
+    let mut faults = Plain::new(Vec::new(rt.alloc()));
+    let first = told(&rt, "run", SCRIPTS, &mut standard, &mut faults)?;
+    let second = told(&rt, "run scripts", "x", &mut file, &mut faults)?;
+    assert!(rt; first == (0, 1) && second == (0, 1));
+    assert!(rt; file.inner.as_slice() == standard.inner.as_slice());
+    assert!(rt; faults.inner.is_empty());
+    Ok(())
+}
+
+#[test]
+fn worked_simulations(rt: HostRuntime) -> Result<(), Fail> {
+    let rows = [
+        (
+            "sim both turns",
+            "log q0 2\n0 enq 3 = ok\n1 enq 4 = ok\ncpu 0 1\nq0 1 enq 3 | enq 3 = ok\ncpu 1 1\nq0 3 enq 4 | enq 4 = ok\nend\n",
+        ),
+        ("sim both held", "log q0 0\ncpu 0 0\ncpu 1 0\nend\n"),
+        (
+            "sim alone idle",
+            "log q0 1\n0 enq 3 = ok\ncpu 0 1\nq0 1 enq 3 | enq 3 = ok\ncpu 1 0\nend\n",
+        ),
+    ];
+    for (line, rest) in rows {
+        let mut out = Plain::new(Vec::new(rt.alloc()));
+        let mut faults = Plain::new(Vec::new(rt.alloc()));
+        let status = told(&rt, line, "x", &mut out, &mut faults)?;
+        assert!(rt; status == (0, 2), "{line:?}");
+        let wanted = format!(in rt.alloc(); "{HEAD}{rest}")?;
+        assert!(rt; out.inner.as_slice() == wanted.as_bytes(), "{line:?}");
+        assert!(rt; faults.inner.is_empty(), "{line:?}");
+    }
+    Ok(())
+}
+
+#[test]
+fn refused_scripts(rt: HostRuntime) -> Result<(), Fail> {
+    for (scripts, line) in REFUSED {
+        let mut out = Plain::new(Vec::new(rt.alloc()));
+        let mut faults = Plain::new(Vec::new(rt.alloc()));
+        let status = told(&rt, "run", scripts, &mut out, &mut faults)?;
+        assert!(rt; status == (2, 1), "{scripts:?}");
+        let wanted = format!(in rt.alloc(); "mc2: E7 scripts: line {line}\n")?;
+        assert!(rt; faults.inner.as_slice() == wanted.as_bytes(), "{scripts:?}");
+        assert!(rt; out.inner.is_empty(), "{scripts:?}");
+    }
+    Ok(())
+}
+
+#[test]
+fn refused_commands(rt: HostRuntime) -> Result<(), Fail> {
+    let rows = [
+        ("run bad", 2, "mc2: E7 scripts: line 2\n", 1),
+        ("run none", 3, "mc2: E12 read failed\n", 1),
+        ("run broken", 3, "mc2: E12 read failed\n", 1),
+        ("sim both steps", 2, "mc2: E8 schedule: word 2\n", 2),
+        ("sim bad none", 2, "mc2: E7 scripts: line 2\n", 1),
+        ("sim none turns", 3, "mc2: E12 read failed\n", 1),
+        ("sim broken turns", 3, "mc2: E12 read failed\n", 1),
+        ("sim both none", 3, "mc2: E12 read failed\n", 2),
+        ("sim both broken", 3, "mc2: E12 read failed\n", 2),
+        ("sim", 2, "mc2: E14 bad words\n", 0),
+        ("sim both", 2, "mc2: E14 bad words\n", 0),
+        ("sim both turns held", 2, "mc2: E14 bad words\n", 0),
+        ("sim both -turns", 2, "mc2: E14 bad words\n", 0),
+        ("", 2, "mc2: E14 bad words\n", 0),
+        ("walk", 2, "mc2: E14 bad words\n", 0),
+        ("run -scripts", 2, "mc2: E14 bad words\n", 0),
+        ("run ", 2, "mc2: E14 bad words\n", 0),
+        ("run scripts scripts", 2, "mc2: E14 bad words\n", 0),
+    ];
+    for (line, status, refusal, opened) in rows {
+        let mut out = Plain::new(Vec::new(rt.alloc()));
+        let mut faults = Plain::new(Vec::new(rt.alloc()));
+        let found = told(&rt, line, SCRIPTS, &mut out, &mut faults)?;
+        assert!(rt; found == (status, opened), "{line:?}");
+        assert!(rt; faults.inner.as_slice() == refusal.as_bytes(), "{line:?}");
+        assert!(rt; out.inner.is_empty(), "{line:?}");
+    }
+    Ok(())
+}
+
+#[test]
+fn sinks_that_fail(rt: HostRuntime) -> Result<(), Fail> {
+    let rows = [
+        (SCRIPTS, 0, 3, "mc2: E13 write failed\n"),
+        ("x\n", 0, 2, "mc2: E7 scripts: line 1\n"),
+        (SCRIPTS, 1, 0, ""),
+    ];
+    for failure in [Failure::Error, Failure::NothingTaken] {
+        for (standard, calls, status, refusal) in rows {
+            for (most, line) in [(1, refusal), (0, "")] {
+                let mut out = Failing::after(rt.alloc(), calls, failure);
+                let mut faults = Failing::after(rt.alloc(), most, failure);
+                let found = told(&rt, "run", standard, &mut out, &mut faults)?;
+                assert!(rt; found == (status, 1), "{standard:?} {failure:?} {most}");
+                assert!(rt; faults.taken.as_slice() == line.as_bytes());
+                assert_eq!(rt; out.taken.is_empty(), status != 0);
+            }
+        }
+    }
+    Ok(())
+}
