@@ -1,10 +1,15 @@
 //! A machine for which memory is refused.
 
+ghost use Rattle.std.specs.Prelude.{◌≡◌, ◌<◌, ◌≤◌, [], vec_len};
+ghost use Rattle.std.specs.List.{AllByRecursion};
+ghost use Rattle.word_rule.specs.SoundWorld.{IsTodo};
+
 use crate::LockKind;
 use crate::machine::tests::scene::{Left, Setting, Turn, cells_of, leaves, plays, scripts_of};
 use crate::machine::{CellSpec, Machine, StepDone};
 use event_log::{OutOfMemory, Todo};
 use shared_queue::{QueueCall as Call, QueueReply as Reply, ThreadQueue};
+use std::alloc::Global;
 use std::process::Abort;
 use std::test::Fail;
 
@@ -38,6 +43,32 @@ fn are_scripts_of<R: Abort>(rt: &R, setting: &Setting<'_>, scripts: &[Vec<Todo<T
     }
 }
 
+/// The machine. Where memory is refused, what it was to be made of comes back, and it is made once more.
+fn made<R: Abort>(
+    rt: &R,
+    alloc: Global,
+    setting: &Setting<'_>,
+    cells: Vec<CellSpec<ThreadQueue>>,
+    scripts: Vec<Vec<Todo<ThreadQueue>>>,
+) -> Result<Machine<ThreadQueue>, Fail>
+    requires cells { (0 < vec_len cells) × (vec_len cells ≤ 16) }
+    requires cpus { (0 < vec_len scripts) × (vec_len scripts ≤ 8) }
+    requires empty { AllByRecursion (λ c. c.logged.log ≡ []) cells.items }
+    requires able { AllByRecursion (λ s. AllByRecursion (λ t. IsTodo (vec_len cells) t) s.items) scripts.items }
+{
+    match Machine::new(alloc, cells, scripts) {
+        Ok(machine) => Ok(machine),
+        Err((OutOfMemory, cells, scripts)) => {
+            are_cells_of(rt, setting, cells.as_slice());
+            are_scripts_of(rt, setting, scripts.as_slice());
+            match Machine::new(alloc, cells, scripts) {
+                Ok(machine) => Ok(machine),
+                Err(_) => Err(Fail::new("no memory")),
+            }
+        }
+    }
+}
+
 /// To be run with each allocation refused in turn: the machine that lacks memory gives back what it was to be made of,
 /// and the next one is as ever.
 #[test]
@@ -52,17 +83,7 @@ fn a_machine_without_memory(rt: HostRuntime) -> Result<(), Fail> {
     if cells.len() != 2 || scripts.len() != 2 {
         return Err(Fail::new("not two cells and two CPUs"));
     }
-    let mut machine = match Machine::new(rt.alloc(), cells, scripts) {
-        Ok(machine) => machine,
-        Err((OutOfMemory, cells, scripts)) => {
-            are_cells_of(&rt, &setting, cells.as_slice());
-            are_scripts_of(&rt, &setting, scripts.as_slice());
-            match Machine::new(rt.alloc(), cells, scripts) {
-                Ok(machine) => machine,
-                Err(_) => return Err(Fail::new("no memory")),
-            }
-        }
-    };
+    let mut machine = made(&rt, rt.alloc(), &setting, cells, scripts)?;
     let turns: [Turn<'_>; 3] = [
         (0, StepDone::Draw, &[&[8, 7], &[0, 0, 0, 0, 0]]),
         (0, StepDone::Look(true), &[&[8, 7], &[0, 0, 0, 0, 0]]),
