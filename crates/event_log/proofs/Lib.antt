@@ -4,3 +4,4 @@ pub mod Logs
 pub mod Batches
 pub mod Histories
 pub mod Props
+pub mod Sends

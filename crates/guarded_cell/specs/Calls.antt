@@ -1,5 +1,5 @@
 -- What callers leave in the log by their calls, whatever order they come in.
-use Rattle.std.specs.Prelude.{◌≡◌, ◌≢◌, ℕ, true, List, [], ◌∷◌, ◌++◌, map}
+use Rattle.std.specs.Prelude.{◌≡◌, ◌≢◌, ℕ, ◌<◌, ◌≤◌, true, List, [], ◌∷◌, ◌++◌, map, length, take}
 use Rattle.event_log.specs.declared.object.SeqObject.{Ghosts}
 use Rattle.event_log.specs.declared.event.Event.{Event}
 use Rattle.event_log.specs.Log.{Begins, of, calls_of}
@@ -17,6 +17,13 @@ module _ {O P C R : Type 0} where
     pub begins : Begins before.seen log
     pub mine : asked_by before.caller.acting log ≡ asked_by before.caller.acting before.seen ++ map (λ c. c ∷ []) calls
     pub others : (k : ℕ) → before.caller.owned k ≡ true → k ≢ before.caller.acting → of k log ≡ of k before.seen
+
+  -- the same caller, which has called the first so many of its calls: all, unless it saw a full log
+  pub record HasDone (before : Part O P C R) (calls : List C) (done : ℕ) (after : Part O P C R) : Type 0 where
+    pub caller : after.caller ≡ before.caller
+    pub called : HasCalled before (take done calls) after.seen
+    pub count : done ≤ length calls
+    pub full : done < length calls → length after.seen ≡ before.caller.cell.limit
 
 module _ {O P C R : Type 0} (meaning : Ghosts O P C R) where
   -- what a cell leaves that two callers ended: a lawful log with the calls of each, and its replay

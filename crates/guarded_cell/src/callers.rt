@@ -1,11 +1,13 @@
 //! Callers that do lists of calls, and end their cell: what they leave in the log, whatever order their calls come in.
 
 ghost use Rattle.std.specs.Prelude.{◌≡◌, ◌<◌, ◌≤◌, ◌||◌, ℕ, true, length, take};
-ghost use Rattle.guarded_cell.specs.Calls.{HasCalled, IsEnded};
+ghost use Rattle.guarded_cell.specs.Calls.{HasDone, IsEnded};
 
 use crate::whole::call;
 use event_log::{Logged, NoRoom, SeqObject};
 use std::sync::Wait;
+use std::thread;
+use std::thread::Threads;
 use word_rule::LockCell;
 
 /// Does the calls one after another, each as one event, up to the first without room. The number is that of the calls
@@ -18,10 +20,7 @@ pub fn call_all<O: SeqObject, C: LockCell<O>, R: Wait>(
 ) -> (C::Pass, usize)
     requires { C.is_pass cell.now pass }
     ensures pass { C.is_pass cell.now result.0 }
-    ensures caller { (C.part result.0).caller ≡ (C.part pass).caller }
-    ensures called { HasCalled (C.part pass) (take result.1 calls.now) (C.part result.0).seen }
-    ensures count { result.1 ≤ length calls.now }
-    ensures full { result.1 < length calls.now → length (C.part result.0).seen ≡ (C.part pass).caller.cell.limit }
+    ensures done { HasDone (C.part pass) calls.now result.1 (C.part result.0) }
 {
     let mut pass = pass;
     let mut done = 0;
@@ -36,15 +35,60 @@ pub fn call_all<O: SeqObject, C: LockCell<O>, R: Wait>(
     (pass, done)
 }
 
-/// Two callers, who own every number of the cell together, do their calls, meet, become one and end the cell. The numbers
-/// are those of the calls that each has done: all, unless the log is full.
-pub fn two_callers<O: SeqObject, C: LockCell<O>, R: Wait>(
+/// Two callers do their calls, each on a thread of its own where one can be made, else one after the other. The numbers
+/// are those of the calls that each has done.
+pub fn call_on_two_threads<
+    O: SeqObject + Send,
+    C: LockCell<O> + Sync,
+    R: Threads + Wait + Sync,
+>(
+    rt: &R,
+    cell: &C,
+    passes: (C::Pass, C::Pass),
+    first_calls: &[O::Call],
+    second_calls: &[O::Call],
+) -> ((C::Pass, usize), (C::Pass, usize))
+where
+    O::Params: Send,
+    O::Call: Send + Sync,
+    O::Reply: Send,
+    C::Pass: Send,
+    requires first { C.is_pass cell.now passes.0 }
+    requires second { C.is_pass cell.now passes.1 }
+    ensures passes { C.is_pass cell.now result.0.0 × C.is_pass cell.now result.1.0 }
+    ensures first { HasDone (C.part passes.0) first_calls.now result.0.1 (C.part result.0.0) }
+    ensures second { HasDone (C.part passes.1) second_calls.now result.1.1 (C.part result.1.0) }
+{
+    let (first, second) = passes;
+    thread::join(
+        rt,
+        move || -> (C::Pass, usize)
+            requires pass { C.is_pass cell.now first }
+            ensures pass { C.is_pass cell.entry.now result.0 }
+            ensures done { HasDone (C.part first) first_calls.entry.now result.1 (C.part result.0) }
+        { call_all(rt, cell, first, first_calls) },
+        move || -> (C::Pass, usize)
+            requires pass { C.is_pass cell.now second }
+            ensures pass { C.is_pass cell.entry.now result.0 }
+            ensures done { HasDone (C.part second) second_calls.entry.now result.1 (C.part result.0) }
+        { call_all(rt, cell, second, second_calls) },
+    )
+}
+
+/// Two callers, who own every number of the cell together, do their calls on two threads, meet, become one and end the
+/// cell. The numbers are those of the calls that each has done: all, unless the log is full.
+pub fn two_callers<O: SeqObject + Send, C: LockCell<O> + Sync, R: Threads + Wait + Sync>(
     rt: &R,
     cell: C,
     passes: (C::Pass, C::Pass),
     first_calls: &[O::Call],
     second_calls: &[O::Call],
 ) -> (Logged<O>, usize, usize)
+where
+    O::Params: Send,
+    O::Call: Send + Sync,
+    O::Reply: Send,
+    C::Pass: Send,
     requires first { C.is_pass cell passes.0 }
     requires second { C.is_pass cell passes.1 }
     requires all { (k : ℕ) → k < (C.part passes.0).caller.cell.numbers → ((C.part passes.0).caller.owned k || (C.part passes.1).caller.owned k) ≡ true }
@@ -53,9 +97,8 @@ pub fn two_callers<O: SeqObject, C: LockCell<O>, R: Wait>(
     ensures first_full { result.1 < length first_calls.now → length result.0.log ≡ result.0.limit }
     ensures second_full { result.2 < length second_calls.now → length result.0.log ≡ result.0.limit }
 {
-    let (first, second) = passes;
-    let (first, first_done) = call_all(rt, &cell, first, first_calls);
-    let (second, second_done) = call_all(rt, &cell, second, second_calls);
+    let ((first, first_done), (second, second_done)) =
+        call_on_two_threads(rt, &cell, passes, first_calls, second_calls);
     let (first, second) = cell.meet(first, second);
     let pass = cell.join(first, second);
     (cell.close(pass), first_done, second_done)

@@ -10,6 +10,6 @@ mod make;
 mod tests;
 mod whole;
 
-pub use callers::{call_all, two_callers};
+pub use callers::{call_all, call_on_two_threads, two_callers};
 pub use cell::{AnyCell, AnyHold, AnyPass};
 pub use whole::{batch, call, with_hold};

@@ -1,4 +1,6 @@
-use Rattle.std.proofs.Common.{◌+◌, take, refl, sym, ap, ◌∙◌, subst}
+use Rattle.std.proofs.Common.{◌+◌, take, refl, sym, ap, ◌∙◌, subst, arith, Result, OnErr}
+use Rattle.event_log.specs.declared.logged.NoRoom.{NoRoom}
+use Rattle.word_rule.specs.Answered.{IsRefused}
 use Rattle.guarded_cell.specs.Calls.{HasCalled}
 use Rattle.guarded_cell.proofs.Called.{called_nothing, called_next, called_full}
 use Rattle.guarded_cell.proofs.callers.call_all.Goals as goal
@@ -18,12 +20,30 @@ loop-asked-preserved g c =
       count = ap (λ n. n + 1) i.count;
     }
 
-pub returns-in-Err-clause-called : goal.returns-in-Err-clause-called
-returns-in-Err-clause-called g c =
+pub returns-in-Err-clause-done : goal.returns-in-Err-clause-done
+returns-in-Err-clause-done g c =
     let i = c.loop-asked.invariant in
     let b = c.call-back in
     let before = g.C.LockCell.part c.args.pass in
     let after = g.C.LockCell.part b.result.0 in
     let part = g.met.C.LockCell.pass_is_part c.args.cell.now c.args.pass c.requires in
-    subst (λ n. HasCalled before (take n c.args.calls.now) after.seen) (sym i.count)
-    (called_full g.O.SeqObject before (g.C.LockCell.part c.loop-asked.pass) after (take c.loop-asked.asked-index c.args.calls.now) b.result.1 c.in-Err.field-0 c.in-Err.is b.ensures.refused part.caller i.caller i.called)
+    let called = called_full g.O.SeqObject before (g.C.LockCell.part c.loop-asked.pass) after (take c.loop-asked.asked-index c.args.calls.now) b.result.1 c.in-Err.field-0 c.in-Err.is b.ensures.refused part.caller i.caller i.called in
+    record {
+      caller = b.ensures.caller ∙ i.caller;
+      called = subst (λ n. HasCalled before (take n c.args.calls.now) after.seen) (sym i.count) called;
+      count = let less = c.loop-asked-test.true in let same = i.count in omega (arith, less, same);
+      full = λ less. IsRefused.full (subst (λ (v : Result g.row.O-Reply.Denot NoRoom). OnErr v (IsRefused g.O.SeqObject (g.C.LockCell.part c.loop-asked.pass) after)) c.in-Err.is b.ensures.refused) ∙ ap (λ x. x.cell.limit) i.caller;
+    }
+
+pub returns-clause-done : goal.returns-clause-done
+returns-clause-done g c =
+    let i = c.loop-asked.invariant in
+    let within = c.loop-asked.auto.asked-index-end in
+    let whole = c.loop-asked-test.false in
+    let same = i.count in
+    record {
+      caller = i.caller;
+      called = subst (λ n. HasCalled (g.C.LockCell.part c.args.pass) (take n c.args.calls.now) (g.C.LockCell.part c.loop-asked.pass).seen) (sym same) i.called;
+      count = omega (arith, within, same);
+      full = λ less. absurd (omega (arith, less, whole, same));
+    }

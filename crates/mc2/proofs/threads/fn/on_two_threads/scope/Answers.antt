@@ -7,8 +7,10 @@ use Rattle.shared_queue.specs.contracts.queue.ThreadQueue as Queue
 use Rattle.shared_queue.specs.contracts.call.QueueCall as Call
 use Rattle.shared_queue.specs.contracts.call.QueueReply as Reply
 use Rattle.shared_queue.proofs.queue.ThreadQueue.TheSendSync.{the_send as queue_send}
-use Rattle.ticket_lock.proofs.Sends.{captures_send, pass_send, cell_sync}
-use Rattle.mc2.proofs.QueueSends.{call_send, reply_send, clones, equals, compares, defaults, todos, transcript, todos_send, transcript_send}
+use Rattle.event_log.proofs.Sends.{captures_send, clones, equals, compares, defaults}
+use Rattle.shared_queue.proofs.Sends.{call_send, reply_send}
+use Rattle.ticket_lock.proofs.Sends.{pass_send, cell_sync}
+use Rattle.mc2.proofs.QueueSends.{todos, transcript, todos_send, transcript_send}
 use Rattle.mc2.proofs.threads.fn.on_two_threads.scope.Goals as goal
 
 pub spawn_with-requires-send-F : goal.spawn_with-requires-send-F
