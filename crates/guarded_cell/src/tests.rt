@@ -4,7 +4,9 @@ ghost use Rattle.std.specs.Prelude.{◌≡◌, ◌<◌, ◌||◌, ℕ, true, [],
 ghost use Rattle.word_rule.specs.Cell.{OwnsAll};
 ghost use Rattle.guarded_cell.specs.Kinds.{IsPassOf, pass_part};
 
-use crate::{AnyCell, AnyPass, two_callers};
+mod threads;
+
+use crate::{AnyCell, AnyPass};
 use arrayvec::ArrayVec;
 use event_log::{Logged, NoRoom, SeqObject, Steps};
 use shared_queue::{QueueCall as Call, QueueReply as Reply, ThreadQueue};
@@ -289,24 +291,6 @@ fn a_queue_goes_in_and_comes_out(rt: HostRuntime) -> Result<(), Fail> {
         };
         assert_eq!(rt; event.cpu, 5);
         assert!(rt; are_steps(&event.steps, &[(Call::Enq(3), Reply::Ok)]));
-    }
-    Ok(())
-}
-
-#[test]
-fn two_callers_end_a_cell(rt: HostRuntime) -> Result<(), Fail> {
-    for kind in KINDS {
-        let (cell, passes) = cell_of_two(rt.alloc(), kind, 3)?;
-        let (queue, first, second) = two_callers(
-            &rt,
-            cell,
-            passes,
-            &[Call::Enq(3), Call::Deq],
-            &[Call::Len, Call::Len],
-        );
-        assert_eq!(rt; (first, second), (2, 1));
-        let cpus = queue.log().iter().filter(|event| event.cpu == 0).count();
-        assert_eq!(rt; (cpus, queue.log().len()), (2, 3));
     }
     Ok(())
 }

@@ -12,7 +12,8 @@ use Rattle.event_log.specs.contracts.entry.Entry as Entry
 use Rattle.shared_queue.specs.contracts.queue.ThreadQueue as Queue
 use Rattle.shared_queue.specs.contracts.call.QueueCall as Call
 use Rattle.shared_queue.specs.contracts.call.QueueReply as Reply
-use Rattle.shared_queue.proofs.Sends.{call_send, reply_send}
+use Rattle.shared_queue.proofs.call.QueueCall.TheSendSync.{the_send as call_send}
+use Rattle.shared_queue.proofs.call.QueueReply.TheSendSync.{the_send as reply_send}
 
 abbrev pub todos : RattleType
 todos = Vec.the_row (Todo.the_row Queue.the_row (UInt w32) Call.the_row Reply.the_row) Heap.the_row heap

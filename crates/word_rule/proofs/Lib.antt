@@ -25,4 +25,3 @@ pub mod MachineKeeps
 pub mod WordLists
 pub mod SoundRuns
 pub mod Openings
-pub mod Sends
