@@ -22,3 +22,19 @@ module _ {O P C R : Type 0} where
       both zero lt = refl
       both (suc zero) lt = refl
       both (suc (suc k)) lt = absurd (omega arith)
+
+  -- the four passes of a cell of four CPUs
+  pub own_four : (x : History O P C R) (p q r s : Part O P C R) → p ≡ first_part x 4 0 → q ≡ first_part x 4 1 → r ≡ first_part x 4 2 → s ≡ first_part x 4 3 →
+      (k : ℕ) → k < p.caller.cell.numbers → ((p.caller.owned k || q.caller.owned k) || (r.caller.owned k || s.caller.owned k)) ≡ true
+  own_four x p q r s first second third fourth k lt =
+      subst (λ (z : Part O P C R). ((z.caller.owned k || q.caller.owned k) || (r.caller.owned k || s.caller.owned k)) ≡ true) (sym first)
+      (subst (λ (z : Part O P C R). (((k == 0) || z.caller.owned k) || (r.caller.owned k || s.caller.owned k)) ≡ true) (sym second)
+      (subst (λ (z : Part O P C R). (((k == 0) || (k == 1)) || (z.caller.owned k || s.caller.owned k)) ≡ true) (sym third)
+      (subst (λ (z : Part O P C R). (((k == 0) || (k == 1)) || ((k == 2) || z.caller.owned k)) ≡ true) (sym fourth) (each k (subst (λ (z : Part O P C R). k < z.caller.cell.numbers) first lt)))))
+    where
+      each : (k : ℕ) → k < 4 → (((k == 0) || (k == 1)) || ((k == 2) || (k == 3))) ≡ true
+      each zero lt = refl
+      each (suc zero) lt = refl
+      each (suc (suc zero)) lt = refl
+      each (suc (suc (suc zero))) lt = refl
+      each (suc (suc (suc (suc k)))) lt = absurd (omega arith)

@@ -1,0 +1,17 @@
+use mathlib.Core.List.{[], ◌∷◌}
+use denote.Exit.{yes}
+use denote.Param.Send.{param_send, arg_send, shr_send, shr_slice_send}
+use Rattle.event_log.proofs.Sends.{captures_send}
+use Rattle.shared_queue.proofs.call.QueueCall.TheSendSync.{the_sync as call_sync}
+use Rattle.guarded_cell.proofs.QueueSends.{queue_pass_send, queue_cell_sync}
+use Rattle.guarded_cell.proofs.tests.threads.four_call.Goals as goal
+
+pub join-zero-requires-send-F : goal.join-zero-requires-send-F
+join-zero-requires-send-F g c κs within =
+    let pass = queue_pass_send _ _ _ _ _ in
+    param_send _ _ (arg_send _ yes _ (captures_send _ (_ ∷ _ ∷ _ ∷ _ ∷ _ ∷ _ ∷ []) (shr_send _ _ _ c.type_bounds.sync-R, (shr_send _ _ _ (queue_cell_sync _ _ _ _ _ _ _ _ _), (pass, (pass, (shr_slice_send _ _ _ call_sync, (shr_slice_send _ _ _ call_sync, tt))))))))
+
+pub join-zero-requires-send-A : goal.join-zero-requires-send-A
+join-zero-requires-send-A g c κs within =
+    let pass = queue_pass_send _ _ _ _ _ in
+    param_send _ _ (arg_send _ yes _ (captures_send _ (_ ∷ _ ∷ []) (pass, (pass, tt))))

@@ -1,0 +1,179 @@
+//! Threads that call one cell.
+
+ghost use Rattle.std.specs.Prelude.{◌≡◌, ◌<◌, ◌||◌, ℕ, true, IfOk};
+ghost use Rattle.guarded_cell.specs.Kinds.{IsPassOf, pass_part};
+
+use super::{KINDS, cell_of_two};
+use crate::{AnyCell, AnyPass, call_on_two_threads, two_callers};
+use event_log::{Logged, SeqObject};
+use shared_queue::{QueueCall as Call, ThreadQueue};
+use std::alloc::Global;
+use std::sync::Wait;
+use std::test::Fail;
+use std::thread;
+use std::thread::Threads;
+use word_rule::{LockCell, LockKind};
+
+/// The passes of two callers.
+type Pair<P> = (P, P);
+
+/// So many calls, the first at that place of the round that all of them go.
+fn calls_from(alloc: Global, start: u32, count: u32) -> Result<Vec<Call>, Fail> {
+    let mut calls = Vec::new(alloc);
+    for i in 0..count {
+        let call = match (start % 5 + i % 5) % 5 {
+            0 => Call::Enq(i % 8),
+            1 => Call::Enq(i % 3),
+            2 => Call::Deq,
+            3 => Call::Len,
+            _ => Call::Remove(i % 8),
+        };
+        calls.push(call)?;
+    }
+    Ok(calls)
+}
+
+/// Whether the CPU's events are these calls, each once and in order.
+fn are_calls_of(queue: &Logged<ThreadQueue>, cpu: u8, wanted: &[Call]) -> bool {
+    let count = queue.log().iter().filter(|event| event.cpu == cpu).count();
+    let mine = queue.log().iter().filter(|event| event.cpu == cpu);
+    count == wanted.len()
+        && mine
+            .zip(wanted.iter())
+            .all(|(event, call)| match event.steps.list.as_slice() {
+                [step] => step.call == *call,
+                _ => false,
+            })
+}
+
+/// Whether a queue that begins anew gives the log's replies to its calls.
+fn is_replayed(alloc: Global, queue: &Logged<ThreadQueue>) -> Result<bool, Fail> {
+    let mut fresh = ThreadQueue::open(alloc, &8)?;
+    for event in queue.log() {
+        for step in event.steps.list.as_slice() {
+            if fresh.apply(&step.call) != step.reply {
+                return Ok(false);
+            }
+        }
+    }
+    Ok(true)
+}
+
+#[test]
+fn two_threads_call_one_cell(rt: HostRuntime) -> Result<(), Fail> {
+    let first = calls_from(rt.alloc(), 0, 2000)?;
+    let second = calls_from(rt.alloc(), 3, 3000)?;
+    for kind in [KINDS[0], KINDS[1], KINDS[0], KINDS[1], KINDS[0], KINDS[1]] {
+        let (cell, passes) = cell_of_two(rt.alloc(), kind, 5000)?;
+        let (queue, first_done, second_done) =
+            two_callers(&rt, cell, passes, first.as_slice(), second.as_slice());
+        assert_eq!(rt; (first_done, second_done), (2000, 3000));
+        assert_eq!(rt; queue.log().len(), 5000);
+        assert!(rt; are_calls_of(&queue, 0, first.as_slice()));
+        assert!(rt; are_calls_of(&queue, 1, second.as_slice()));
+        assert!(rt; is_replayed(rt.alloc(), &queue)?);
+    }
+    Ok(())
+}
+
+#[test]
+fn two_threads_fill_a_log(rt: HostRuntime) -> Result<(), Fail> {
+    let calls = calls_from(rt.alloc(), 0, 2000)?;
+    for kind in KINDS {
+        let (cell, passes) = cell_of_two(rt.alloc(), kind, 2500)?;
+        let (queue, first, second) = two_callers(&rt, cell, passes, calls.as_slice(), calls.as_slice());
+        assert_eq!(rt; first + second, 2500);
+        assert_eq!(rt; queue.log().len(), 2500);
+        assert!(rt; are_calls_of(&queue, 0, &calls[..first]));
+        assert!(rt; are_calls_of(&queue, 1, &calls[..second]));
+        assert!(rt; is_replayed(rt.alloc(), &queue)?);
+    }
+    Ok(())
+}
+
+/// A cell of four CPUs around a queue of 8 threads with room for so many events, and its passes.
+fn cell_of_four(
+    alloc: Global,
+    kind: LockKind,
+    limit: u32,
+) -> Result<(AnyCell<ThreadQueue>, Pair<Pair<AnyPass<ThreadQueue>>>), Fail>
+    ensures front { IfOk result (λ r. IsPassOf r.0 r.1.0.0 × IsPassOf r.0 r.1.0.1) }
+    ensures back { IfOk result (λ r. IsPassOf r.0 r.1.1.0 × IsPassOf r.0 r.1.1.1) }
+    ensures all { IfOk result (λ r. (k : ℕ) → k < (pass_part r.1.0.0).caller.cell.numbers → (((pass_part r.1.0.0).caller.owned k || (pass_part r.1.0.1).caller.owned k) || ((pass_part r.1.1.0).caller.owned k || (pass_part r.1.1.1).caller.owned k)) ≡ true) }
+{
+    let queue = Logged::<ThreadQueue>::open(alloc, 8, limit)?;
+    let Ok((cell, mut passes)) = AnyCell::open(alloc, kind, queue, 4) else {
+        return Err(Fail::new("no memory"));
+    };
+    let three = passes.pop().unwrap();
+    let two = passes.pop().unwrap();
+    let one = passes.pop().unwrap();
+    let zero = passes.pop().unwrap();
+    Ok((cell, ((zero, one), (two, three))))
+}
+
+/// Two callers do their calls on two threads.
+fn both_call<R: Threads + Wait + Sync>(
+    rt: &R,
+    cell: &AnyCell<ThreadQueue>,
+    passes: Pair<AnyPass<ThreadQueue>>,
+    first: &[Call],
+    second: &[Call],
+) -> Pair<AnyPass<ThreadQueue>>
+    requires passes { IsPassOf cell.now passes.0 × IsPassOf cell.now passes.1 }
+    ensures passes { IsPassOf cell.now result.0 × IsPassOf cell.now result.1 }
+    ensures callers { ((pass_part result.0).caller ≡ (pass_part passes.0).caller) × ((pass_part result.1).caller ≡ (pass_part passes.1).caller) }
+{
+    let ((zero, _), (one, _)) = call_on_two_threads(rt, cell, passes, first, second);
+    (zero, one)
+}
+
+/// Four callers, who own every number of the cell together, do their calls on four threads, become one and end the cell.
+fn four_call<R: Threads + Wait + Sync>(
+    rt: &R,
+    cell: AnyCell<ThreadQueue>,
+    passes: Pair<Pair<AnyPass<ThreadQueue>>>,
+    first: &[Call],
+    second: &[Call],
+) -> Logged<ThreadQueue>
+    requires front { IsPassOf cell passes.0.0 × IsPassOf cell passes.0.1 }
+    requires back { IsPassOf cell passes.1.0 × IsPassOf cell passes.1.1 }
+    requires all { (k : ℕ) → k < (pass_part passes.0.0).caller.cell.numbers → (((pass_part passes.0.0).caller.owned k || (pass_part passes.0.1).caller.owned k) || ((pass_part passes.1.0).caller.owned k || (pass_part passes.1.1).caller.owned k)) ≡ true }
+{
+    let ((zero, one), (two, three)) = passes;
+    let shared = &cell;
+    let ((zero, one), (two, three)) = thread::join(
+        rt,
+        move || -> Pair<AnyPass<ThreadQueue>>
+            requires passes { IsPassOf shared.now zero × IsPassOf shared.now one }
+            ensures passes { IsPassOf shared.entry.now result.0 × IsPassOf shared.entry.now result.1 }
+            ensures callers { ((pass_part result.0).caller ≡ (pass_part zero).caller) × ((pass_part result.1).caller ≡ (pass_part one).caller) }
+        { both_call(rt, shared, (zero, one), first, second) },
+        move || -> Pair<AnyPass<ThreadQueue>>
+            requires passes { IsPassOf shared.now two × IsPassOf shared.now three }
+            ensures passes { IsPassOf shared.entry.now result.0 × IsPassOf shared.entry.now result.1 }
+            ensures callers { ((pass_part result.0).caller ≡ (pass_part two).caller) × ((pass_part result.1).caller ≡ (pass_part three).caller) }
+        { both_call(rt, shared, (two, three), first, second) },
+    );
+    let front = cell.join(zero, one);
+    let back = cell.join(two, three);
+    let pass = cell.join(front, back);
+    cell.close(pass)
+}
+
+#[test]
+fn four_threads_call_one_cell(rt: HostRuntime) -> Result<(), Fail> {
+    let first = calls_from(rt.alloc(), 0, 1000)?;
+    let second = calls_from(rt.alloc(), 3, 1500)?;
+    for kind in KINDS {
+        let (cell, passes) = cell_of_four(rt.alloc(), kind, 5000)?;
+        let queue = four_call(&rt, cell, passes, first.as_slice(), second.as_slice());
+        assert_eq!(rt; queue.log().len(), 5000);
+        for cpu in [0u8, 2] {
+            assert!(rt; are_calls_of(&queue, cpu, first.as_slice()));
+            assert!(rt; are_calls_of(&queue, cpu + 1, second.as_slice()));
+        }
+        assert!(rt; is_replayed(rt.alloc(), &queue)?);
+    }
+    Ok(())
+}
