@@ -1,7 +1,7 @@
 -- Passes of a new cell that own every number.
-use Rattle.std.proofs.Common.{◌≡◌, ℕ, zero, suc, ◌<◌, ◌==◌, ◌||◌, true, refl, sym, subst, arith}
+use Rattle.std.proofs.Common.{◌≡◌, ℕ, zero, suc, ◌<◌, ◌==◌, ◌||◌, true, refl, sym, ap, subst, ◌∙◌, arith}
 use Rattle.event_log.specs.History.{History}
-use Rattle.word_rule.specs.Cell.{Part, OwnsAll, first_part}
+use Rattle.word_rule.specs.Cell.{Cell, Caller, Part, OwnsAll, first_part}
 
 module _ {O P C R : Type 0} where
   -- the only pass of a cell of one CPU
@@ -38,3 +38,12 @@ module _ {O P C R : Type 0} where
       each (suc (suc zero)) lt = refl
       each (suc (suc (suc zero))) lt = refl
       each (suc (suc (suc (suc k)))) lt = absurd (omega arith)
+
+  -- two passes of a cell of two CPUs that kept their callers, and then became one
+  pub joined_both : (x : History O P C R) (p q p' q' j : Part O P C R) → p ≡ first_part x 2 0 → q ≡ first_part x 2 1 → p'.caller ≡ p.caller → q'.caller ≡ q.caller → j.caller.cell ≡ p'.caller.cell →
+      ((k : ℕ) → j.caller.owned k ≡ (p'.caller.owned k || q'.caller.owned k)) → OwnsAll j.caller
+  joined_both x p q p' q' j first second kept_first kept_second cell owned = record {
+    each = λ k lt. owned k ∙ subst (λ (z : Caller O P C R). (z.owned k || q'.caller.owned k) ≡ true) (sym kept_first)
+        (subst (λ (z : Caller O P C R). (p.caller.owned k || z.owned k) ≡ true) (sym kept_second)
+        (own_both x p q first second k (subst (λ (z : Cell O P C R). k < z.numbers) (cell ∙ ap (λ (z : Caller O P C R). z.cell) kept_first) lt)));
+  }

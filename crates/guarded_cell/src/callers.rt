@@ -37,11 +37,7 @@ pub fn call_all<O: SeqObject, C: LockCell<O>, R: Wait>(
 
 /// Two callers do their calls, each on a thread of its own where one can be made, else one after the other. The numbers
 /// are those of the calls that each has done.
-pub fn call_on_two_threads<
-    O: SeqObject + Send,
-    C: LockCell<O> + Sync,
-    R: Threads + Wait + Sync,
->(
+pub fn call_on_two_threads<O: SeqObject + Send, C: LockCell<O> + Sync, R: Threads + Wait + Sync>(
     rt: &R,
     cell: &C,
     passes: (C::Pass, C::Pass),
@@ -97,8 +93,13 @@ where
     ensures first_full { result.1 < length first_calls.now → length result.0.log ≡ result.0.limit }
     ensures second_full { result.2 < length second_calls.now → length result.0.log ≡ result.0.limit }
 {
-    let ((first, first_done), (second, second_done)) =
-        call_on_two_threads(rt, &cell, passes, first_calls, second_calls);
+    let ((first, first_done), (second, second_done)) = call_on_two_threads(
+        rt,
+        &cell,
+        passes,
+        first_calls,
+        second_calls,
+    );
     let (first, second) = cell.meet(first, second);
     let pass = cell.join(first, second);
     (cell.close(pass), first_done, second_done)

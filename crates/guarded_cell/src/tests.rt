@@ -294,15 +294,3 @@ fn a_queue_goes_in_and_comes_out(rt: HostRuntime) -> Result<(), Fail> {
     }
     Ok(())
 }
-
-#[test]
-fn example(rt: HostRuntime) -> Result<(), Fail> {
-    let (cell, (zero, one)) = cell_of_two(rt.alloc(), LockKind::Mcs, 100)?;
-    let (zero, put, _) = cell.call(&rt, zero, &Call::Enq(3));
-    let (one, got, _) = cell.call(&rt, one, &Call::Deq);
-    let pass = cell.join(zero, one);
-    let queue = cell.close(pass);
-    assert_eq!(rt; (put, got), (Ok(Reply::Ok), Ok(Reply::Thread(3))));
-    assert_eq!(rt; queue.log().len(), 2);
-    Ok(())
-}

@@ -38,12 +38,10 @@ fn are_calls_of(queue: &Logged<ThreadQueue>, cpu: u8, wanted: &[Call]) -> bool {
     let count = queue.log().iter().filter(|event| event.cpu == cpu).count();
     let mine = queue.log().iter().filter(|event| event.cpu == cpu);
     count == wanted.len()
-        && mine
-            .zip(wanted.iter())
-            .all(|(event, call)| match event.steps.list.as_slice() {
-                [step] => step.call == *call,
-                _ => false,
-            })
+        && mine.zip(wanted.iter()).all(|(event, call)| match event.steps.list.as_slice() {
+            [step] => step.call == *call,
+            _ => false,
+        })
 }
 
 /// Whether a queue that begins anew gives the log's replies to its calls.
@@ -60,13 +58,34 @@ fn is_replayed(alloc: Global, queue: &Logged<ThreadQueue>) -> Result<bool, Fail>
 }
 
 #[test]
+fn example(rt: HostRuntime) -> Result<(), Fail> {
+    let queue = Logged::<ThreadQueue>::open(rt.alloc(), 8, 100)?;
+    let Ok((cell, mut passes)) = AnyCell::open(rt.alloc(), LockKind::Mcs, queue, 2) else {
+        return Err(Fail::new("no memory"));
+    };
+    let one = passes.pop().unwrap();
+    let zero = passes.pop().unwrap();
+    let (puts, takes) = ([Call::Enq(3), Call::Enq(4)], [Call::Deq]);
+    let ((zero, _), (one, _)) = call_on_two_threads(&rt, &cell, (zero, one), &puts, &takes);
+    let pass = cell.join(zero, one);
+    let queue = cell.close(pass);
+    assert_eq!(rt; queue.log().len(), 3);
+    Ok(())
+}
+
+#[test]
 fn two_threads_call_one_cell(rt: HostRuntime) -> Result<(), Fail> {
     let first = calls_from(rt.alloc(), 0, 2000)?;
     let second = calls_from(rt.alloc(), 3, 3000)?;
     for kind in [KINDS[0], KINDS[1], KINDS[0], KINDS[1], KINDS[0], KINDS[1]] {
         let (cell, passes) = cell_of_two(rt.alloc(), kind, 5000)?;
-        let (queue, first_done, second_done) =
-            two_callers(&rt, cell, passes, first.as_slice(), second.as_slice());
+        let (queue, first_done, second_done) = two_callers(
+            &rt,
+            cell,
+            passes,
+            first.as_slice(),
+            second.as_slice(),
+        );
         assert_eq!(rt; (first_done, second_done), (2000, 3000));
         assert_eq!(rt; queue.log().len(), 5000);
         assert!(rt; are_calls_of(&queue, 0, first.as_slice()));
@@ -81,7 +100,13 @@ fn two_threads_fill_a_log(rt: HostRuntime) -> Result<(), Fail> {
     let calls = calls_from(rt.alloc(), 0, 2000)?;
     for kind in KINDS {
         let (cell, passes) = cell_of_two(rt.alloc(), kind, 2500)?;
-        let (queue, first, second) = two_callers(&rt, cell, passes, calls.as_slice(), calls.as_slice());
+        let (queue, first, second) = two_callers(
+            &rt,
+            cell,
+            passes,
+            calls.as_slice(),
+            calls.as_slice(),
+        );
         assert_eq!(rt; first + second, 2500);
         assert_eq!(rt; queue.log().len(), 2500);
         assert!(rt; are_calls_of(&queue, 0, &calls[..first]));
