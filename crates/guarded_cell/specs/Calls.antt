@@ -19,7 +19,7 @@ module _ {O P C R : Type 0} where
     pub others : (k : ℕ) → before.caller.owned k ≡ true → k ≢ before.caller.acting → of k log ≡ of k before.seen
 
   -- the same caller, which has called the first so many of its calls: all, unless it saw a full log
-  pub record HasDone (before : Part O P C R) (calls : List C) (done : ℕ) (after : Part O P C R) : Type 0 where
+  pub record HasDoneCalls (before : Part O P C R) (calls : List C) (done : ℕ) (after : Part O P C R) : Type 0 where
     pub caller : after.caller ≡ before.caller
     pub called : HasCalled before (take done calls) after.seen
     pub count : done ≤ length calls

@@ -1,7 +1,7 @@
 //! Callers that do lists of calls, and end their cell: what they leave in the log, whatever order their calls come in.
 
 ghost use Rattle.std.specs.Prelude.{◌≡◌, ◌<◌, ◌≤◌, ◌||◌, ℕ, true, length, take};
-ghost use Rattle.guarded_cell.specs.Calls.{HasDone, IsEnded};
+ghost use Rattle.guarded_cell.specs.Calls.{HasDoneCalls, IsEnded};
 
 use crate::whole::call;
 use event_log::{Logged, NoRoom, SeqObject};
@@ -20,7 +20,7 @@ pub fn call_all<O: SeqObject, C: LockCell<O>, R: Wait>(
 ) -> (C::Pass, usize)
     requires { C.is_pass cell.now pass }
     ensures pass { C.is_pass cell.now result.0 }
-    ensures done { HasDone (C.part pass) calls.now result.1 (C.part result.0) }
+    ensures done { HasDoneCalls (C.part pass) calls.now result.1 (C.part result.0) }
 {
     let mut pass = pass;
     let mut done = 0;
@@ -52,8 +52,8 @@ where
     requires first { C.is_pass cell.now passes.0 }
     requires second { C.is_pass cell.now passes.1 }
     ensures passes { C.is_pass cell.now result.0.0 × C.is_pass cell.now result.1.0 }
-    ensures first { HasDone (C.part passes.0) first_calls.now result.0.1 (C.part result.0.0) }
-    ensures second { HasDone (C.part passes.1) second_calls.now result.1.1 (C.part result.1.0) }
+    ensures first { HasDoneCalls (C.part passes.0) first_calls.now result.0.1 (C.part result.0.0) }
+    ensures second { HasDoneCalls (C.part passes.1) second_calls.now result.1.1 (C.part result.1.0) }
 {
     let (first, second) = passes;
     thread::join(
@@ -61,12 +61,12 @@ where
         move || -> (C::Pass, usize)
             requires pass { C.is_pass cell.now first }
             ensures pass { C.is_pass cell.entry.now result.0 }
-            ensures done { HasDone (C.part first) first_calls.entry.now result.1 (C.part result.0) }
+            ensures done { HasDoneCalls (C.part first) first_calls.entry.now result.1 (C.part result.0) }
         { call_all(rt, cell, first, first_calls) },
         move || -> (C::Pass, usize)
             requires pass { C.is_pass cell.now second }
             ensures pass { C.is_pass cell.entry.now result.0 }
-            ensures done { HasDone (C.part second) second_calls.entry.now result.1 (C.part result.0) }
+            ensures done { HasDoneCalls (C.part second) second_calls.entry.now result.1 (C.part result.0) }
         { call_all(rt, cell, second, second_calls) },
     )
 }
