@@ -1,7 +1,6 @@
 -- A cell around a queue, and its passes, may go to other threads.
 use denote.Param.Send.{IsSend, IsSync, sendable}
 use denote.Plain.{UInt}
-use denote.RattleType.{RattleType}
 use mir.Syntax.{w32}
 use Rattle.event_log.specs.declared.object.SeqObject.{Ghosts}
 use Rattle.std.specs.declared.clone.Clone.{Ghosts as Clones}

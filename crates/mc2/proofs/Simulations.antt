@@ -1,12 +1,9 @@
 -- Simulations of two CPUs on one cell.
-use Rattle.std.proofs.Common.{◌≡◌, ℕ, ◌<◌, List, [], ◌∷◌, length, map, Some, refl, sym, ◌∙◌, ap, subst, arith, Vec, Global}
+use Rattle.std.proofs.Common.{◌≡◌, ℕ, List, [], ◌∷◌, length, map, Some, refl, sym, ◌∙◌, ap, subst, arith, Vec, Global}
 use Rattle.std.specs.List.{AllByRecursion, slice_get}
 use Rattle.event_log.specs.declared.object.SeqObject.{Ghosts}
 use Rattle.event_log.specs.declared.entry.Todo.{Todo}
-use Rattle.mc2.specs.declared.request.Request.{Request}
-use Rattle.mc2.specs.FirstRun.{IsAble, script_of}
-use Rattle.mc2.specs.Settings.{Settings}
-use Rattle.mc2.specs.Simulation.{new_cell, new_world}
+use Rattle.mc2.specs.FirstRun.{IsAble}
 use Rattle.word_rule.specs.declared.machine.cell_spec.CellSpec.{CellSpec}
 use Rattle.word_rule.specs.declared.machine.lock_words.LockWords.{LockWords}
 use Rattle.word_rule.specs.Opening.{opening_cell, opening_cpu, opening_world}

@@ -1,5 +1,5 @@
 -- What `sim` does: the scripts on the built-in objects, one atomic step at a time, in the order of a schedule.
-use Rattle.std.specs.Prelude.{◌≡◌, ◌⊎◌, ℕ, List, [], ◌∷◌, Option, map}
+use Rattle.std.specs.Prelude.{◌≡◌, ◌⊎◌, ℕ, List, [], Option, map}
 use Rattle.std.specs.List.{range_with_len}
 use Rattle.std.specs.Io.KnownBytes.{Appends}
 use Rattle.event_log.specs.declared.object.SeqObject.{Ghosts}

@@ -1,5 +1,4 @@
-use Rattle.std.proofs.Common.{◌<◌, refl, arith, subst, sym}
-use Rattle.std.specs.List.{AllByRecursion}
+use Rattle.std.proofs.Common.{refl, arith}
 use Rattle.mc2.specs.QueueWords.{built_in_settings, queue_spelling}
 use Rattle.mc2.proofs.Workers.{able_requests}
 use Rattle.mc2.proofs.first_sim.first_sim.Goals as goal
