@@ -124,16 +124,17 @@ fn two(first: Call, second: Call) -> ArrayVec<Call, 8>
     group
 }
 
-/// Does four groups on a cell of one CPU whose log has room for three events.
+/// Does four groups on a cell of one CPU whose log has room for so many events.
 fn four_groups<R: Wait>(
     rt: &R,
     alloc: Global,
     kind: LockKind,
+    limit: u32,
     done: &mut ArrayVec<Steps<ThreadQueue>, 8>,
 ) -> Result<(Logged<ThreadQueue>, Result<(), NoRoom>), Fail>
     requires { done.old.items ≡ [] }
 {
-    let queue = Logged::<ThreadQueue>::open(alloc, 8, 3)?;
+    let queue = Logged::<ThreadQueue>::open(alloc, 8, limit)?;
     let Ok((cell, pass)) = cell_of_one(alloc, kind, queue) else {
         return Err(Fail::new("no memory"));
     };
@@ -148,10 +149,26 @@ fn four_groups<R: Wait>(
 }
 
 #[test]
+fn a_hold_does_all_groups(rt: HostRuntime) -> Result<(), Fail> {
+    for kind in KINDS {
+        let mut done = ArrayVec::new();
+        let (queue, outcome) = four_groups(&rt, rt.alloc(), kind, 4, &mut done)?;
+        assert_eq!(rt; outcome, Ok(()));
+        let [_, _, third, fourth] = done.as_slice() else {
+            return Err(Fail::new("not four groups"));
+        };
+        assert!(rt; are_steps(third, &[(Call::Deq, Reply::Thread(1))]));
+        assert!(rt; are_steps(fourth, &[(Call::Len, Reply::Count(1))]));
+        assert_eq!(rt; queue.log().len(), 4);
+    }
+    Ok(())
+}
+
+#[test]
 fn a_hold_stops_at_a_full_log(rt: HostRuntime) -> Result<(), Fail> {
     for kind in KINDS {
         let mut done = ArrayVec::new();
-        let (queue, outcome) = four_groups(&rt, rt.alloc(), kind, &mut done)?;
+        let (queue, outcome) = four_groups(&rt, rt.alloc(), kind, 3, &mut done)?;
         assert_eq!(rt; outcome, Err(NoRoom));
         let [first, second, third] = done.as_slice() else {
             return Err(Fail::new("not three groups"));
