@@ -7,7 +7,7 @@ use Rattle.std.specs.declared.cmp.PartialEq.{Ghosts as Compares}
 use Rattle.std.specs.declared.default.Default.{Ghosts as Defaults}
 use Rattle.atomic_table.proofs.shared.Seat.TheSendSync.{the_send as seat}
 use Rattle.event_log.specs.declared.object.SeqObject.{Ghosts}
-use Rattle.event_log.proofs.Sends.{slot_send}
+use Rattle.word_rule.proofs.Sends.{slot_send}
 use Rattle.ticket_lock.specs.contracts.states.Pass as Pass
 
 pub pass_send : (O P C R : RattleType) (g : Ghosts O.Denot P.Denot C.Denot R.Denot) (ce : Compares C.Denot) (cd : Defaults C.Denot) (re : Compares R.Denot) (rd : Defaults R.Denot) → IsSend O → IsSend P → IsSend C → IsSend R →

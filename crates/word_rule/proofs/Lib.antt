@@ -25,3 +25,4 @@ pub mod MachineKeeps
 pub mod WordLists
 pub mod SoundRuns
 pub mod Openings
+pub mod Sends

@@ -1,0 +1,17 @@
+-- What lies in a cell's slot may go to another thread.
+use denote.RattleType.{RattleType}
+use denote.Param.Send.{IsSend, recorded_send, enum_send}
+use denote.Enum.Declared.{shape}
+use Rattle.std.specs.contracts.option.Option as Option
+use Rattle.std.specs.declared.cmp.PartialEq.{Ghosts as Compares}
+use Rattle.std.specs.declared.default.Default.{Ghosts as Defaults}
+use Rattle.event_log.specs.declared.object.SeqObject.{Ghosts}
+use Rattle.event_log.specs.contracts.logged.Logged as Logged
+use Rattle.event_log.proofs.logged.Logged.TheSendSync.{the_send as logged_send}
+
+-- an object with its log, or none, goes where the object, its parameters, calls and replies go
+pub slot_send : (O P C R : RattleType) (g : Ghosts O.Denot P.Denot C.Denot R.Denot) (ce : Compares C.Denot) (cd : Defaults C.Denot) (re : Compares R.Denot) (rd : Defaults R.Denot) → IsSend O → IsSend P → IsSend C → IsSend R →
+    IsSend (Option.the_row (Logged.the_row O P C R g ce cd re rd))
+slot_send O P C R g ce cd re rd o p c r =
+    let t = Option.the_type (Logged.the_row O P C R g ce cd re rd) in
+    recorded_send _ _ _ t.to_one (enum_send (shape t) (tt, ((logged_send O P C R g ce cd re rd o p c r, tt), tt)))
