@@ -1,4 +1,4 @@
--- A cell around a queue, and its passes, may go to other threads.
+-- For the tests: a cell around a queue, and its passes, may go to other threads.
 use denote.Param.Send.{IsSend, IsSync, sendable}
 use denote.Plain.{UInt}
 use mir.Syntax.{w32}

@@ -35,8 +35,8 @@ pub fn call_all<O: SeqObject, C: LockCell<O>, R: Wait>(
     (pass, done)
 }
 
-/// Two callers do their calls, each on a thread of its own where one can be made, else one after the other. The numbers
-/// are those of the calls that each has done.
+/// Two callers do their calls, the second on this thread, the first on a new one, or after the second where none can be
+/// made. The numbers are those of the calls that each has done.
 pub fn call_on_two_threads<O: SeqObject + Send, C: LockCell<O> + Sync, R: Threads + Wait + Sync>(
     rt: &R,
     cell: &C,
