@@ -1,5 +1,5 @@
 -- What goes into a console comes out of it, in order.
-use Rattle.std.specs.Prelude.{ℕ, List, [], ◌∷◌, ◌++◌}
+use Rattle.std.specs.Prelude.{ℕ, List, [], ◌∷◌}
 use Rattle.console_ring.specs.State.{ConsoleState}
 use Rattle.console_ring.specs.Answer.{console_answer}
 use Rattle.console_ring.specs.declared.call.ConsoleCall.{ConsoleCall}

@@ -1,6 +1,5 @@
 pub mod Additions
 pub mod Called
-pub mod Owners
 pub mod Sends
 pub mod QueueSends
 pub mod Wrapped

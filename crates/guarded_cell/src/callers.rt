@@ -1,6 +1,7 @@
 //! Callers that do lists of calls, and end their cell: what they leave in the log, whatever order their calls come in.
 
-ghost use Rattle.std.specs.Prelude.{◌≡◌, ◌<◌, ◌≤◌, ◌||◌, ℕ, true, length, take};
+ghost use Rattle.std.specs.Prelude.{◌≡◌, ◌<◌, ◌≤◌, length, take};
+ghost use Rattle.word_rule.specs.Cell.{OwnTogether};
 ghost use Rattle.guarded_cell.specs.Calls.{HasDoneCalls, IsEnded};
 
 use crate::whole::call;
@@ -87,7 +88,7 @@ where
     C::Pass: Send,
     requires first { C.is_pass cell passes.0 }
     requires second { C.is_pass cell passes.1 }
-    requires all { (k : ℕ) → k < (C.part passes.0).caller.cell.numbers → ((C.part passes.0).caller.owned k || (C.part passes.1).caller.owned k) ≡ true }
+    requires all { OwnTogether (C.part passes.0).caller (C.part passes.1).caller }
     ensures ended { IsEnded O.SeqObject (C.part passes.0) (take result.1 first_calls.now) (C.part passes.1) (take result.2 second_calls.now) result.0 }
     ensures counts { (result.1 ≤ length first_calls.now) × (result.2 ≤ length second_calls.now) }
     ensures first_full { result.1 < length first_calls.now → length result.0.log ≡ result.0.limit }

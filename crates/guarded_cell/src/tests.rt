@@ -1,7 +1,7 @@
 //! Cells of both kinds around a queue of threads and around a scheduler.
 
-ghost use Rattle.std.specs.Prelude.{◌≡◌, ◌<◌, ◌||◌, ℕ, true, [], ◌∷◌, IfOk};
-ghost use Rattle.word_rule.specs.Cell.{OwnsAll};
+ghost use Rattle.std.specs.Prelude.{◌≡◌, [], ◌∷◌, IfOk};
+ghost use Rattle.word_rule.specs.Cell.{OwnsAll, OwnTogether};
 ghost use Rattle.guarded_cell.specs.Kinds.{IsPassOf, pass_part};
 
 mod threads;
@@ -50,7 +50,7 @@ fn cell_of_two(
 >
     ensures zero { IfOk result (λ r. IsPassOf r.0 r.1.0) }
     ensures one { IfOk result (λ r. IsPassOf r.0 r.1.1) }
-    ensures all { IfOk result (λ r. (k : ℕ) → k < (pass_part r.1.0).caller.cell.numbers → ((pass_part r.1.0).caller.owned k || (pass_part r.1.1).caller.owned k) ≡ true) }
+    ensures all { IfOk result (λ r. OwnTogether (pass_part r.1.0).caller (pass_part r.1.1).caller) }
 {
     let queue = Logged::<ThreadQueue>::open(alloc, 8, limit)?;
     let Ok((cell, mut passes)) = AnyCell::open(alloc, kind, queue, 2) else {
@@ -204,7 +204,7 @@ fn meet_between<R: Wait>(
 ) -> (Logged<ThreadQueue>, [(Result<Reply, NoRoom>, u64); 2])
     requires zero { IsPassOf cell passes.0 }
     requires one { IsPassOf cell passes.1 }
-    requires all { (k : ℕ) → k < (pass_part passes.0).caller.cell.numbers → ((pass_part passes.0).caller.owned k || (pass_part passes.1).caller.owned k) ≡ true }
+    requires all { OwnTogether (pass_part passes.0).caller (pass_part passes.1).caller }
 {
     let (zero, one) = passes;
     let (zero, put, first_looks) = cell.call(rt, zero, &first);

@@ -26,6 +26,7 @@ use Rattle.word_rule.specs.Answered.{IsAnswered, IsRefused, events_by}
 use Rattle.word_rule.specs.Sound.{Opened, Sound, LogIsSound, EntryIsSound, Answers, NoneAfterFull, done_on, with_steps, steps_by, transcript_of}
 use Rattle.word_rule.proofs.Lists.{of_opening}
 use Rattle.word_rule.proofs.Acting.{all_push}
+use Rattle.word_rule.proofs.Owners.{still_together, together_joined, own_both}
 
 all_map : {X : Type 0} {Q S : X → Type 0} → ((x : X) → Q x → S x) → (xs : List X) → AllByRecursion Q xs → AllByRecursion S xs
 all_map f [] h = tt
@@ -281,12 +282,10 @@ module _ {O P C R : Type 0} (meaning : Ghosts O P C R) (x : History O P C R) (ne
   one1 = subst (λ p. HasDone meaning p seconds second after1) is1 done1
 
   pub whole : ((k : ℕ) → joined.caller.owned k ≡ (after0.caller.owned k || after1.caller.owned k)) → OwnsAll joined.caller
-  whole owned = record { each = λ k below. owned k ∙ ((λ i. (one0.caller i).owned k || (one1.caller i).owned k) ∙ both k (subst (λ n. k < n) (ap (λ c. c.numbers) (one_cell ∙ ap (λ c. c.cell) one0.caller)) below)) }
-    where
-      both : (k : ℕ) → k < 2 → ((k == 0) || (k == 1)) ≡ true
-      both zero lt = refl
-      both (suc zero) lt = refl
-      both (suc (suc k)) lt = absurd (omega arith)
+  whole owned =
+      let own = still_together before0.caller after0.caller before1.caller after1.caller done0.caller done1.caller (own_both x before0 before1 is0 is1) in
+      let same = one_cell ∙ (ap (λ c. c.cell) one0.caller ∙ sym (ap (λ c. c.cell) one1.caller)) in
+      together_joined after0.caller after1.caller joined.caller same owned own
 
   module _ (part : IsPart meaning joined) (grows0 : Grows after0.caller.owned after0.seen joined.seen) (grows1 : Grows after1.caller.owned after1.seen joined.seen) where
     lawful_joined : Lawful meaning cell joined.seen

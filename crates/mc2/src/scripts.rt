@@ -1,6 +1,6 @@
 //! Reading scripts: one entry a line.
 
-ghost use Rattle.std.specs.Prelude.{◌≡◌, ◌≤◌, ◌==◌, ◌↔◌, ℕ, IsTrue, IfOk, IfErr, OnOk, count_by};
+ghost use Rattle.std.specs.Prelude.{◌≡◌, ◌≤◌, ◌==◌, ◌↔◌, ℕ, IsTrue, IfOk, IfErr, OnOk};
 ghost use Rattle.shared_queue.specs.declared.queue.ThreadQueue.{ThreadQueue};
 ghost use Rattle.mc2.specs.QueueWords.{queue_spelling};
 ghost use Rattle.mc2.specs.ScriptText.{IsBlank, IsRefused, AreScripts, count_of};

@@ -1,5 +1,4 @@
 pub mod McsRule
 pub mod McsActing
 pub mod Zeros
-pub mod Together
 pub mod Sends

@@ -1,12 +1,11 @@
 -- What contracts say of an MCS lock's callers.
-use Rattle.std.specs.Prelude.{◌≡◌}
 use Rattle.std.specs.declared.cmp.PartialEq.{Ghosts as Eq}
 use Rattle.std.specs.declared.default.Default.{Ghosts as Default}
 use Rattle.event_log.specs.declared.object.SeqObject.{Ghosts}
 use Rattle.word_rule.specs.declared.place.Place.TheVariants.{Idle, Ready, Behind, Armed, Waiting, Holding, Alone, Leaving, Passing}
 use Rattle.word_rule.specs.Cell.{Part, Held}
 use Rattle.word_rule.specs.Standing.{Standing}
-use Rattle.word_rule.specs.Callers.{part_of, held_of, standing_without, standing_with}
+use Rattle.word_rule.specs.Callers.{IsAt, part_of, held_of, standing_without, standing_with}
 use Rattle.mcs_lock.specs.declared.cell.McsCell.{McsCell}
 use Rattle.mcs_lock.specs.declared.states.Pass.{Pass}
 use Rattle.mcs_lock.specs.declared.states.Ready.{Ready as ReadyCaller}
@@ -22,42 +21,33 @@ use Rattle.mcs_lock.specs.declared.states.Entered.TheVariants as entered
 
 -- The types of callers are over all that an object is bound by.
 module _ {O P C R : Type 0} {g : Ghosts O P C R} {call_eq : Eq C} {call_default : Default C} {reply_eq : Eq R} {reply_default : Default R} where
-  -- the caller's seat is at the cell's table, and it was told what the table was told
-  pub record IsPassOf (c : McsCell O P C R) (p : Pass O P C R g call_eq call_default reply_eq reply_default) : Type 0 where
-    pub table : p.seat.table_id ≡ c.table.shared.table_id
-    pub told : p.key.value ≡ c.table.shared.key
+  -- a caller of the cell, wherever it stands
+  abbrev pub IsPassOf : McsCell O P C R → Pass O P C R g call_eq call_default reply_eq reply_default → Type 0
+  IsPassOf c p = IsAt c.table.shared.table_id c.table.shared.key p.seat.table_id p.key.value
 
-  pub record IsReadyOf (c : McsCell O P C R) (r : ReadyCaller O P C R g call_eq call_default reply_eq reply_default) : Type 0 where
-    pub table : r.seat.table_id ≡ c.table.shared.table_id
-    pub told : r.key.value ≡ c.table.shared.key
+  abbrev pub IsReadyOf : McsCell O P C R → ReadyCaller O P C R g call_eq call_default reply_eq reply_default → Type 0
+  IsReadyOf c r = IsAt c.table.shared.table_id c.table.shared.key r.seat.table_id r.key.value
 
-  pub record IsBehindOf (c : McsCell O P C R) (b : BehindCaller O P C R g call_eq call_default reply_eq reply_default) : Type 0 where
-    pub table : b.seat.table_id ≡ c.table.shared.table_id
-    pub told : b.key.value ≡ c.table.shared.key
+  abbrev pub IsBehindOf : McsCell O P C R → BehindCaller O P C R g call_eq call_default reply_eq reply_default → Type 0
+  IsBehindOf c b = IsAt c.table.shared.table_id c.table.shared.key b.seat.table_id b.key.value
 
-  pub record IsArmedOf (c : McsCell O P C R) (a : ArmedCaller O P C R g call_eq call_default reply_eq reply_default) : Type 0 where
-    pub table : a.seat.table_id ≡ c.table.shared.table_id
-    pub told : a.key.value ≡ c.table.shared.key
+  abbrev pub IsArmedOf : McsCell O P C R → ArmedCaller O P C R g call_eq call_default reply_eq reply_default → Type 0
+  IsArmedOf c a = IsAt c.table.shared.table_id c.table.shared.key a.seat.table_id a.key.value
 
-  pub record IsWaitingOf (c : McsCell O P C R) (w : WaitingCaller O P C R g call_eq call_default reply_eq reply_default) : Type 0 where
-    pub table : w.seat.table_id ≡ c.table.shared.table_id
-    pub told : w.key.value ≡ c.table.shared.key
+  abbrev pub IsWaitingOf : McsCell O P C R → WaitingCaller O P C R g call_eq call_default reply_eq reply_default → Type 0
+  IsWaitingOf c w = IsAt c.table.shared.table_id c.table.shared.key w.seat.table_id w.key.value
 
-  pub record IsHoldOf (c : McsCell O P C R) (h : Hold O P C R g call_eq call_default reply_eq reply_default) : Type 0 where
-    pub table : h.seat.table_id ≡ c.table.shared.table_id
-    pub told : h.key.value ≡ c.table.shared.key
+  abbrev pub IsHoldOf : McsCell O P C R → Hold O P C R g call_eq call_default reply_eq reply_default → Type 0
+  IsHoldOf c h = IsAt c.table.shared.table_id c.table.shared.key h.seat.table_id h.key.value
 
-  pub record IsAloneOf (c : McsCell O P C R) (a : AloneCaller O P C R g call_eq call_default reply_eq reply_default) : Type 0 where
-    pub table : a.seat.table_id ≡ c.table.shared.table_id
-    pub told : a.key.value ≡ c.table.shared.key
+  abbrev pub IsAloneOf : McsCell O P C R → AloneCaller O P C R g call_eq call_default reply_eq reply_default → Type 0
+  IsAloneOf c a = IsAt c.table.shared.table_id c.table.shared.key a.seat.table_id a.key.value
 
-  pub record IsLeavingOf (c : McsCell O P C R) (l : LeavingCaller O P C R g call_eq call_default reply_eq reply_default) : Type 0 where
-    pub table : l.seat.table_id ≡ c.table.shared.table_id
-    pub told : l.key.value ≡ c.table.shared.key
+  abbrev pub IsLeavingOf : McsCell O P C R → LeavingCaller O P C R g call_eq call_default reply_eq reply_default → Type 0
+  IsLeavingOf c l = IsAt c.table.shared.table_id c.table.shared.key l.seat.table_id l.key.value
 
-  pub record IsPassingOf (c : McsCell O P C R) (p : PassingCaller O P C R g call_eq call_default reply_eq reply_default) : Type 0 where
-    pub table : p.seat.table_id ≡ c.table.shared.table_id
-    pub told : p.key.value ≡ c.table.shared.key
+  abbrev pub IsPassingOf : McsCell O P C R → PassingCaller O P C R g call_eq call_default reply_eq reply_default → Type 0
+  IsPassingOf c p = IsAt c.table.shared.table_id c.table.shared.key p.seat.table_id p.key.value
 
   -- what each knows: without the object, and with it
   abbrev pub pass_part : Pass O P C R g call_eq call_default reply_eq reply_default → Part O P C R

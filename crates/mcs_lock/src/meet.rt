@@ -2,7 +2,7 @@
 
 ghost use Rattle.std.specs.Prelude.{◌≡◌, ℕ, ◌||◌, min};
 ghost use Rattle.word_rule.specs.Cell.{Grows};
-ghost use Rattle.mcs_lock.specs.Passes.{IsPassOf, IsHoldOf, pass_part, hold_held};
+ghost use Rattle.mcs_lock.specs.Passes.{IsPassOf, IsHoldOf, pass_part};
 
 use crate::cell::McsCell;
 use crate::states::{Hold, Pass};

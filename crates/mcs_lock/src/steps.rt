@@ -1,6 +1,6 @@
 //! The single steps of an MCS lock.
 
-ghost use Rattle.std.specs.Prelude.{◌≡◌, true, false, IfOk, IfErr};
+ghost use Rattle.std.specs.Prelude.{true, false, IfOk, IfErr};
 ghost use Rattle.word_rule.specs.McsSteps.{IsClear, IsEnter, IsArm, IsLink, IsWaitingLook, IsSee, IsSeeAgain, IsEmpty, IsPass};
 ghost use Rattle.mcs_lock.specs.Passes.{IsPassOf, IsReadyOf, IsBehindOf, IsArmedOf, IsWaitingOf, IsHoldOf, IsAloneOf, IsLeavingOf, IsPassingOf, IfHold, IfBehind};
 ghost use Rattle.mcs_lock.specs.Passes.{pass_standing, ready_standing, behind_standing, armed_standing, waiting_standing, hold_standing, alone_standing, leaving_standing, passing_standing};

@@ -1,8 +1,8 @@
 //! An MCS lock around a queue of threads.
 
-ghost use Rattle.std.specs.Prelude.{◌≡◌, ◌<◌, ◌||◌, ℕ, true, IfOk};
-ghost use Rattle.word_rule.specs.Cell.{OwnsAll};
-ghost use Rattle.mcs_lock.specs.Passes.{IsPassOf, IsBehindOf, IsWaitingOf, IsHoldOf, IsLeavingOf, IfHold, IfBehind};
+ghost use Rattle.std.specs.Prelude.{◌≡◌, IfOk};
+ghost use Rattle.word_rule.specs.Cell.{OwnsAll, OwnTogether};
+ghost use Rattle.mcs_lock.specs.Passes.{IsPassOf, IsBehindOf, IsWaitingOf, IsHoldOf, IsLeavingOf};
 ghost use Rattle.mcs_lock.specs.Passes.{pass_part, behind_part, waiting_part, hold_held, leaving_held};
 
 use crate::{Behind, Entered, Hold, Leaving, McsCell, Pass, Waiting};
@@ -73,8 +73,8 @@ fn cell_of_two(
 ) -> Result<(McsCell<ThreadQueue>, Pass<ThreadQueue>, Pass<ThreadQueue>), Fail>
     ensures zero { IfOk result (λ r. IsPassOf r.0 r.1) }
     ensures one { IfOk result (λ r. IsPassOf r.0 r.2) }
-    ensures all { IfOk result (λ r. (k : ℕ) → k < (pass_part r.2).caller.cell.numbers → ((pass_part r.1).caller.owned k || (pass_part r.2).caller.owned k) ≡ true) }
-    ensures both { IfOk result (λ r. (k : ℕ) → k < (pass_part r.1).caller.cell.numbers → ((pass_part r.2).caller.owned k || (pass_part r.1).caller.owned k) ≡ true) }
+    ensures all { IfOk result (λ r. OwnTogether (pass_part r.1).caller (pass_part r.2).caller) }
+    ensures turned { IfOk result (λ r. OwnTogether (pass_part r.2).caller (pass_part r.1).caller) }
 {
     let queue = Logged::<ThreadQueue>::open(alloc, 8, 100)?;
     let Ok((cell, mut passes)) = McsCell::new(alloc, queue, 2) else {
@@ -231,7 +231,7 @@ fn ended(
 ) -> Logged<ThreadQueue>
     requires first { IsPassOf cell first }
     requires second { IsPassOf cell second }
-    requires all { (k : ℕ) → k < (pass_part second).caller.cell.numbers → ((pass_part first).caller.owned k || (pass_part second).caller.owned k) ≡ true }
+    requires all { OwnTogether (pass_part first).caller (pass_part second).caller }
 {
     let (first, second) = cell.meet(first, second);
     let pass = cell.join(first, second);

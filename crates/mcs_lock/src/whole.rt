@@ -1,7 +1,7 @@
 //! Whole calls of an MCS lock, and its end.
 
-ghost use Rattle.std.specs.Prelude.{◌≡◌, ◌<◌, ◌||◌, ℕ, true};
-ghost use Rattle.word_rule.specs.Cell.{Grows, OwnsAll, stored};
+ghost use Rattle.std.specs.Prelude.{◌≡◌, true};
+ghost use Rattle.word_rule.specs.Cell.{Grows, OwnsAll, OwnTogether, stored};
 ghost use Rattle.word_rule.specs.McsSteps.{IsWaitingLook, IsSeeAgain};
 ghost use Rattle.mcs_lock.specs.Passes.{IsPassOf, IsBehindOf, IsWaitingOf, IsHoldOf, IsLeavingOf, IsPassingOf, pass_part, behind_part, waiting_part, hold_held, leaving_held, passing_held};
 ghost use Rattle.mcs_lock.specs.Passes.{waiting_standing, hold_standing, leaving_standing, passing_standing};
@@ -94,7 +94,7 @@ impl<O: SeqObject> McsCell<O> {
     pub fn last_look(&self, waiting: Waiting<O>, pass: Pass<O>) -> (Hold<O>, Pass<O>)
         requires waiting { IsWaitingOf self.now waiting }
         requires pass { IsPassOf self.now pass }
-        requires all { (k : ℕ) → k < (pass_part pass).caller.cell.numbers → ((waiting_part waiting).caller.owned k || (pass_part pass).caller.owned k) ≡ true }
+        requires all { OwnTogether (waiting_part waiting).caller (pass_part pass).caller }
         ensures hold { IsHoldOf self.now result.0 }
         ensures look { IsWaitingLook O.SeqObject (waiting_standing waiting) (hold_standing result.0) true }
         ensures pass { IsPassOf self.now result.1 }
@@ -136,7 +136,7 @@ impl<O: SeqObject> McsCell<O> {
     pub fn last_see(&self, leaving: Leaving<O>, waiting: Waiting<O>) -> (Passing<O>, Waiting<O>)
         requires leaving { IsLeavingOf self.now leaving }
         requires waiting { IsWaitingOf self.now waiting }
-        requires all { (k : ℕ) → k < (waiting_part waiting).caller.cell.numbers → ((leaving_held leaving).caller.owned k || (waiting_part waiting).caller.owned k) ≡ true }
+        requires all { OwnTogether (leaving_held leaving).caller (waiting_part waiting).caller }
         ensures passing { IsPassingOf self.now result.0 }
         ensures see { IsSeeAgain O.SeqObject (leaving_standing leaving) (passing_standing result.0) true }
         ensures held { passing_held result.0 ≡ leaving_held leaving }

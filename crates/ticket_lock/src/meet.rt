@@ -2,7 +2,7 @@
 
 ghost use Rattle.std.specs.Prelude.{◌≡◌, ℕ, ◌||◌, min};
 ghost use Rattle.word_rule.specs.Cell.{Grows};
-ghost use Rattle.ticket_lock.specs.Passes.{IsPassOf, IsHoldOf, pass_part, hold_held};
+ghost use Rattle.ticket_lock.specs.Passes.{IsPassOf, IsHoldOf, pass_part};
 
 use crate::cell::TicketCell;
 use crate::states::{Hold, Pass};

@@ -1,8 +1,6 @@
 //! A caller of a ticket lock, by what it may do next.
 
-ghost use Rattle.std.specs.Prelude.{◌≡◌, ◌<◌, ◌≤◌, ◌↔◌, length, IsErr, IfOk, OnErr};
-ghost use Rattle.event_log.specs.Log.{answers, after, Fulfils};
-ghost use Rattle.event_log.specs.History.{with_event};
+ghost use Rattle.std.specs.Prelude.{◌<◌};
 ghost use Rattle.event_log.proofs.Props.{legal_props};
 ghost use Rattle.word_rule.specs.declared.place.Place.TheVariants.{Idle, Drawn, Served};
 ghost use Rattle.word_rule.specs.Callers.{IsWithout, IsWith};

@@ -1,6 +1,6 @@
 //! The single steps of a ticket lock.
 
-ghost use Rattle.std.specs.Prelude.{◌≡◌, true, false, IfOk, IfErr};
+ghost use Rattle.std.specs.Prelude.{true, false, IfOk, IfErr};
 ghost use Rattle.word_rule.specs.TicketSteps.{IsDraw, IsLook, IsServe};
 ghost use Rattle.ticket_lock.specs.Passes.{IsPassOf, IsDrawnOf, IsHoldOf, pass_standing, drawn_standing, hold_standing};
 

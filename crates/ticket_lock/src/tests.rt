@@ -1,7 +1,7 @@
 //! A ticket lock around a queue of threads.
 
-ghost use Rattle.std.specs.Prelude.{◌≡◌, ◌<◌, ◌||◌, ℕ, true, IfOk};
-ghost use Rattle.word_rule.specs.Cell.{OwnsAll};
+ghost use Rattle.std.specs.Prelude.{◌≡◌, IfOk};
+ghost use Rattle.word_rule.specs.Cell.{OwnsAll, OwnTogether};
 ghost use Rattle.ticket_lock.specs.Passes.{IsPassOf, IsHoldOf, pass_part, hold_held};
 
 use crate::{Hold, Pass, TicketCell};
@@ -80,7 +80,7 @@ fn cell_of_two(
 >
     ensures zero { IfOk result (λ r. IsPassOf r.0 r.1) }
     ensures one { IfOk result (λ r. IsPassOf r.0 r.2) }
-    ensures all { IfOk result (λ r. (k : ℕ) → k < (pass_part r.1).caller.cell.numbers → ((pass_part r.2).caller.owned k || (pass_part r.1).caller.owned k) ≡ true) }
+    ensures all { IfOk result (λ r. OwnTogether (pass_part r.2).caller (pass_part r.1).caller) }
 {
     let queue = Logged::<ThreadQueue>::open(alloc, 8, 100)?;
     let Ok((cell, mut passes)) = TicketCell::new(alloc, queue, 2, first) else {
@@ -114,7 +114,7 @@ fn ended(
 ) -> Logged<ThreadQueue>
     requires first { IsPassOf cell first }
     requires second { IsPassOf cell second }
-    requires all { (k : ℕ) → k < (pass_part second).caller.cell.numbers → ((pass_part first).caller.owned k || (pass_part second).caller.owned k) ≡ true }
+    requires all { OwnTogether (pass_part first).caller (pass_part second).caller }
 {
     let (first, second) = cell.meet(first, second);
     let pass = cell.join(first, second);

@@ -1,9 +1,7 @@
 //! Whole calls of a ticket lock, and its end.
 
-ghost use Rattle.std.specs.Prelude.{◌≡◌, ◌<◌, ◌≤◌, ◌↔◌, ◌||◌, ℕ, true, length, IsErr, IfOk, OnErr};
-ghost use Rattle.event_log.specs.Log.{answers, after, Fulfils};
-ghost use Rattle.event_log.specs.History.{with_event};
-ghost use Rattle.word_rule.specs.Cell.{Grows, OwnsAll, stored};
+ghost use Rattle.std.specs.Prelude.{◌≡◌, ◌<◌, true};
+ghost use Rattle.word_rule.specs.Cell.{Grows, OwnsAll, OwnTogether, stored};
 ghost use Rattle.word_rule.specs.TicketSteps.{IsLook};
 ghost use Rattle.ticket_lock.specs.Passes.{IsPassOf, IsDrawnOf, IsHoldOf, pass_part, drawn_part, hold_held, drawn_standing, hold_standing};
 
@@ -42,7 +40,7 @@ impl<O: SeqObject> TicketCell<O> {
     pub fn last_look(&self, drawn: Drawn<O>, pass: Pass<O>) -> (Hold<O>, Pass<O>)
         requires drawn { IsDrawnOf self.now drawn }
         requires pass { IsPassOf self.now pass }
-        requires all { (k : ℕ) → k < (pass_part pass).caller.cell.numbers → ((drawn_part drawn).caller.owned k || (pass_part pass).caller.owned k) ≡ true }
+        requires all { OwnTogether (drawn_part drawn).caller (pass_part pass).caller }
         ensures hold { IsHoldOf self.now result.0 }
         ensures look { IsLook O.SeqObject (drawn_standing drawn) (hold_standing result.0) true }
         ensures pass { IsPassOf self.now result.1 }

@@ -25,4 +25,5 @@ pub mod MachineKeeps
 pub mod WordLists
 pub mod SoundRuns
 pub mod Openings
+pub mod Owners
 pub mod Sends

@@ -36,6 +36,11 @@ module _ {O P C R : Type 0} where
   abbrev pub standing_with : Cell O P C R → Place → History O P C R → Seat O P C R → Standing O P C R
   standing_with h place x m = record { caller = caller_of h m.0; place = place; seen = m.0.main.seen; has = Some x }
 
+  -- a caller is of a cell: its seat is at the cell's table, and it was told what the table was told
+  pub record IsAt {T : Type 0} (cell_table : T) (cell_key : Cell O P C R) (table_id : T) (key : Cell O P C R) : Type 0 where
+    pub table : table_id ≡ cell_table
+    pub told : key ≡ cell_key
+
   -- the seat has one caller, which acts as that number and stands there, and these slots are out with it
   pub record StandsAt (h : Cell O P C R) (cpu : ℕ) (place : Place) (slots : List (ℕ × Option (History O P C R))) (m : Seat O P C R) : Type 0 where
     pub alone : m.0.others ≡ []

@@ -1,5 +1,5 @@
 -- Cells, and what their passes and holds know.
-use Rattle.std.specs.Prelude.{◌≡◌, ℕ, ◌<◌, ◌≤◌, Bool, true, ◌==◌, List, length, drop, Some}
+use Rattle.std.specs.Prelude.{◌≡◌, ℕ, ◌<◌, ◌≤◌, Bool, true, ◌==◌, ◌||◌, List, length, drop, Some}
 use Rattle.std.specs.List.{AllByRecursion, slice_get}
 use Rattle.event_log.specs.declared.object.SeqObject.{Ghosts}
 use Rattle.event_log.specs.declared.event.Event.{Event}
@@ -60,6 +60,10 @@ module _ {O P C R : Type 0} where
   -- the caller owns every number of its cell
   pub record OwnsAll (caller : Caller O P C R) : Type 0 where
     pub each : (k : ℕ) → k < caller.cell.numbers → caller.owned k ≡ true
+
+  -- two callers own every number of the second's cell together
+  abbrev pub OwnTogether : Caller O P C R → Caller O P C R → Type 0
+  OwnTogether a b = (k : ℕ) → k < b.cell.numbers → (a.owned k || b.owned k) ≡ true
 
 module _ {O P C R : Type 0} (meaning : Ghosts O P C R) where
   -- a log that the cell may have: it begins with the opening log, is legal and within the limit, and all further events

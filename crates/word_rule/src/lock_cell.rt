@@ -3,7 +3,7 @@
 ghost use Rattle.std.specs.Prelude.{◌≡◌, ◌<◌, ◌≤◌, ◌↔◌, ◌||◌, ℕ, min, length, IsErr, IfOk, OnErr};
 ghost use Rattle.event_log.specs.Log.{answers, after, Fulfils};
 ghost use Rattle.event_log.specs.History.{with_event};
-ghost use Rattle.word_rule.specs.Cell.{Part, Held, Grows, IsPart, IsHeld, OwnsAll, Lawful, stored};
+ghost use Rattle.word_rule.specs.Cell.{Part, Held, Grows, IsPart, IsHeld, OwnsAll, stored};
 
 use event_log::{Logged, NoRoom, SeqObject, Steps};
 use std::sync::Wait;

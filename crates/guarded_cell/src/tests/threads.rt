@@ -1,17 +1,20 @@
 //! Threads that call one cell.
 
 ghost use Rattle.std.specs.Prelude.{◌≡◌, ◌<◌, ◌||◌, ℕ, true, IfOk};
+ghost use Rattle.word_rule.specs.Cell.{OwnTogether};
 ghost use Rattle.guarded_cell.specs.Kinds.{IsPassOf, pass_part};
 
 use super::{KINDS, cell_of_two};
 use crate::{AnyCell, AnyPass, call_on_two_threads, two_callers};
 use event_log::{Logged, SeqObject};
+use mcs_lock::McsCell;
 use shared_queue::{QueueCall as Call, ThreadQueue};
 use std::alloc::Global;
 use std::sync::Wait;
 use std::test::Fail;
 use std::thread;
 use std::thread::Threads;
+use ticket_lock::TicketCell;
 use word_rule::{LockCell, LockKind};
 
 /// The passes of two callers.
@@ -73,24 +76,44 @@ fn example(rt: HostRuntime) -> Result<(), Fail> {
     Ok(())
 }
 
+/// Two callers, who own every number of the cell together, do their calls on two threads and end the cell: the number of
+/// events, where the log has the calls of each once and in order, with the replies of a queue that begins anew. It knows
+/// the interface alone, so it serves each cell.
+fn two_leave_their_calls<C: LockCell<ThreadQueue> + Sync, R: Threads + Wait + Sync>(
+    rt: &R,
+    alloc: Global,
+    cell: C,
+    passes: Pair<C::Pass>,
+    calls: Pair<&[Call]>,
+) -> Result<usize, Fail>
+where
+    C::Pass: Send,
+    requires first { C.is_pass cell passes.0 }
+    requires second { C.is_pass cell passes.1 }
+    requires all { OwnTogether (C.part passes.0).caller (C.part passes.1).caller }
+{
+    let (queue, first, second) = two_callers(rt, cell, passes, calls.0, calls.1);
+    let events = queue.log().len();
+    let right = events.checked_sub(first) == Some(second)
+        && are_calls_of(&queue, 0, &calls.0[..first])
+        && are_calls_of(&queue, 1, &calls.1[..second])
+        && is_replayed(alloc, &queue)?;
+    if right {
+        Ok(events)
+    } else {
+        Err(Fail::new("the log is another"))
+    }
+}
+
 #[test]
-fn two_threads_call_one_cell(rt: HostRuntime) -> Result<(), Fail> {
+fn two_threads_call_a_cell_of_either_kind(rt: HostRuntime) -> Result<(), Fail> {
     let first = calls_from(rt.alloc(), 0, 2000)?;
     let second = calls_from(rt.alloc(), 3, 3000)?;
+    let calls = (first.as_slice(), second.as_slice());
     for kind in [KINDS[0], KINDS[1], KINDS[0], KINDS[1], KINDS[0], KINDS[1]] {
         let (cell, passes) = cell_of_two(rt.alloc(), kind, 5000)?;
-        let (queue, first_done, second_done) = two_callers(
-            &rt,
-            cell,
-            passes,
-            first.as_slice(),
-            second.as_slice(),
-        );
-        assert_eq!(rt; (first_done, second_done), (2000, 3000));
-        assert_eq!(rt; queue.log().len(), 5000);
-        assert!(rt; are_calls_of(&queue, 0, first.as_slice()));
-        assert!(rt; are_calls_of(&queue, 1, second.as_slice()));
-        assert!(rt; is_replayed(rt.alloc(), &queue)?);
+        let events = two_leave_their_calls(&rt, rt.alloc(), cell, passes, calls)?;
+        assert_eq!(rt; events, 5000);
     }
     Ok(())
 }
@@ -98,21 +121,44 @@ fn two_threads_call_one_cell(rt: HostRuntime) -> Result<(), Fail> {
 #[test]
 fn two_threads_fill_a_log(rt: HostRuntime) -> Result<(), Fail> {
     let calls = calls_from(rt.alloc(), 0, 2000)?;
+    let calls = (calls.as_slice(), calls.as_slice());
     for kind in KINDS {
         let (cell, passes) = cell_of_two(rt.alloc(), kind, 2500)?;
-        let (queue, first, second) = two_callers(
-            &rt,
-            cell,
-            passes,
-            calls.as_slice(),
-            calls.as_slice(),
-        );
-        assert_eq!(rt; first + second, 2500);
-        assert_eq!(rt; queue.log().len(), 2500);
-        assert!(rt; are_calls_of(&queue, 0, &calls[..first]));
-        assert!(rt; are_calls_of(&queue, 1, &calls[..second]));
-        assert!(rt; is_replayed(rt.alloc(), &queue)?);
+        let events = two_leave_their_calls(&rt, rt.alloc(), cell, passes, calls)?;
+        assert_eq!(rt; events, 2500);
     }
+    Ok(())
+}
+
+#[test]
+fn two_threads_call_a_ticket_lock(rt: HostRuntime) -> Result<(), Fail> {
+    let first = calls_from(rt.alloc(), 0, 2000)?;
+    let second = calls_from(rt.alloc(), 3, 3000)?;
+    let calls = (first.as_slice(), second.as_slice());
+    let queue = Logged::<ThreadQueue>::open(rt.alloc(), 8, 5000)?;
+    let Ok((cell, mut passes)) = TicketCell::new(rt.alloc(), queue, 2, u64::MAX) else {
+        return Err(Fail::new("no memory"));
+    };
+    let one = passes.pop().unwrap();
+    let zero = passes.pop().unwrap();
+    let events = two_leave_their_calls(&rt, rt.alloc(), cell, (zero, one), calls)?;
+    assert_eq!(rt; events, 5000);
+    Ok(())
+}
+
+#[test]
+fn two_threads_call_an_mcs_lock(rt: HostRuntime) -> Result<(), Fail> {
+    let first = calls_from(rt.alloc(), 0, 2000)?;
+    let second = calls_from(rt.alloc(), 3, 3000)?;
+    let calls = (first.as_slice(), second.as_slice());
+    let queue = Logged::<ThreadQueue>::open(rt.alloc(), 8, 5000)?;
+    let Ok((cell, mut passes)) = McsCell::new(rt.alloc(), queue, 2) else {
+        return Err(Fail::new("no memory"));
+    };
+    let one = passes.pop().unwrap();
+    let zero = passes.pop().unwrap();
+    let events = two_leave_their_calls(&rt, rt.alloc(), cell, (zero, one), calls)?;
+    assert_eq!(rt; events, 5000);
     Ok(())
 }
 

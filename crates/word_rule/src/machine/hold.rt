@@ -1,6 +1,6 @@
 //! What a step leaves of a CPU and of the object that it works on.
 
-ghost use Rattle.std.specs.Prelude.{◌≡◌, ℕ, ◌+◌, ◌^◌, ◌<◌, ◌≤◌, ◌++◌, ◌∷◌, [], if◌then◌else◌, length, vec_len, vec_capacity};
+ghost use Rattle.std.specs.Prelude.{◌≡◌, ◌+◌, ◌^◌, ◌<◌, ◌≤◌, ◌++◌, ◌∷◌, [], if◌then◌else◌, length, vec_len, vec_capacity};
 ghost use Rattle.event_log.specs.History.{IsKept};
 ghost use Rattle.word_rule.specs.Turns.{ends_hold};
 ghost use Rattle.word_rule.specs.World.{outcome, with_done, entry_of, counted};

@@ -1,7 +1,6 @@
 //! How far a CPU is in its script.
 
-ghost use Rattle.std.specs.Prelude.{◌≡◌, ℕ, ◌+◌, ◌-◌, ◌^◌, ◌<◌, ◌≤◌, ◌++◌, ◌∷◌, [], min, length, vec_len, vec_capacity, IfOk};
-ghost use Rattle.std.specs.List.{AllByRecursion};
+ghost use Rattle.std.specs.Prelude.{◌≡◌, ◌+◌, ◌-◌, ◌^◌, ◌<◌, ◌≤◌, ◌++◌, ◌∷◌, [], min, length, vec_len, vec_capacity, IfOk};
 ghost use Rattle.word_rule.specs.World.{entry_of};
 
 use arrayvec::ArrayVec;

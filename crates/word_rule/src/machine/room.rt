@@ -1,6 +1,6 @@
 //! The memory of a step machine.
 
-ghost use Rattle.std.specs.Prelude.{◌≡◌, ◌≤◌, [], length, vec_len, vec_capacity, IfOk};
+ghost use Rattle.std.specs.Prelude.{◌≡◌, ◌≤◌, [], length, vec_capacity, IfOk};
 ghost use Rattle.word_rule.specs.Shown.{FreshLocks, FreshDone};
 
 use crate::machine::cell_spec::CellSpec;

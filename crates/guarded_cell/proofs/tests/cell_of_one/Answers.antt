@@ -1,6 +1,6 @@
 use Rattle.std.proofs.Common.{rules, ◌≡◌, Some, slice_get}
 use Rattle.guarded_cell.specs.Kinds.{pass_part}
-use Rattle.guarded_cell.proofs.Owners.{owns_alone}
+use Rattle.word_rule.proofs.Owners.{owns_alone}
 use Rattle.guarded_cell.proofs.tests.cell_of_one.Goals as goal
 
 pub returns-in-Ok-clause-all : goal.returns-in-Ok-clause-all

@@ -1,6 +1,6 @@
 use Rattle.std.proofs.Common.{rules, ◌≡◌, Some, slice_get}
 use Rattle.guarded_cell.specs.Kinds.{pass_part}
-use Rattle.guarded_cell.proofs.Owners.{own_both}
+use Rattle.word_rule.proofs.Owners.{own_both}
 use Rattle.guarded_cell.proofs.tests.cell_of_two.Goals as goal
 
 pub returns-clause-all : goal.returns-clause-all

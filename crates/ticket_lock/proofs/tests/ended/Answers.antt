@@ -1,9 +1,10 @@
-use Rattle.std.proofs.Common.{◌≡◌, ◌<◌, ◌||◌, true, sym, ap, subst, ◌∙◌}
 use Rattle.ticket_lock.specs.Passes.{pass_part}
+use Rattle.word_rule.proofs.Owners.{still_together, together_joined}
 use Rattle.ticket_lock.proofs.tests.ended.Goals as goal
 
 pub close-requires-clause-whole : goal.close-requires-clause-whole
-close-requires-clause-whole c = let first = c.args.first in let e = c.meet-first.ensures in let second = (pass_part c.meet-first.result.1).caller in record {
-  each = λ k below. c.join-pass.ensures.owned k ∙ subst (λ z. (z.owned k || second.owned k) ≡ true) (sym e.first_caller)
-      (subst (λ z. ((pass_part first).caller.owned k || z.owned k) ≡ true) (sym e.second_caller) (c.requires.all k (subst (λ z. k < z.numbers) (c.join-pass.ensures.second_cell ∙ ap (λ z. z.cell) e.second_caller) below)));
-}
+close-requires-clause-whole c = let met = c.meet-first in let joined = c.join-pass in
+    let first = (pass_part met.result.0).caller in
+    let second = (pass_part met.result.1).caller in
+    together_joined first second (pass_part joined.result).caller joined.ensures.second_cell joined.ensures.owned
+    (still_together (pass_part c.args.first).caller first (pass_part c.args.second).caller second met.ensures.first_caller met.ensures.second_caller c.requires.all)

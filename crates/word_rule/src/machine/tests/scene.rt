@@ -1,6 +1,6 @@
 //! Machines over queues of 8 threads, made and played from tables.
 
-ghost use Rattle.std.specs.Prelude.{◌≡◌, [], length, vec_len, IfOk};
+ghost use Rattle.std.specs.Prelude.{◌≡◌, [], IfOk};
 ghost use Rattle.std.specs.List.{AllByRecursion};
 ghost use Rattle.word_rule.specs.SoundWorld.{IsTodo};
 

@@ -1,9 +1,17 @@
--- Passes of a new cell that own every number.
+-- Callers who own every number of a cell, alone or together.
 use Rattle.std.proofs.Common.{◌≡◌, ℕ, zero, suc, ◌<◌, ◌==◌, ◌||◌, true, refl, sym, ap, subst, ◌∙◌, arith}
 use Rattle.event_log.specs.History.{History}
-use Rattle.word_rule.specs.Cell.{Cell, Caller, Part, OwnsAll, first_part}
+use Rattle.word_rule.specs.Cell.{Cell, Caller, Part, OwnsAll, OwnTogether, first_part}
 
 module _ {O P C R : Type 0} where
+  -- two that stay who they are
+  pub still_together : (a a' b b' : Caller O P C R) → a' ≡ a → b' ≡ b → OwnTogether a b → OwnTogether a' b'
+  still_together a a' b b' e f all = subst (λ z. OwnTogether z b') (sym e) (subst (OwnTogether a) (sym f) all)
+
+  -- two that become one
+  pub together_joined : (a b j : Caller O P C R) → j.cell ≡ b.cell → ((k : ℕ) → j.owned k ≡ (a.owned k || b.owned k)) → OwnTogether a b → OwnsAll j
+  together_joined a b j cell owned all = record { each = λ k below. owned k ∙ all k (subst (λ (z : Cell O P C R). k < z.numbers) cell below) }
+
   -- the only pass of a cell of one CPU
   pub owns_alone : (x : History O P C R) (p : Part O P C R) → p ≡ first_part x 1 0 → OwnsAll p.caller
   owns_alone x p is = subst (λ (z : Part O P C R). OwnsAll z.caller) (sym is) (record { each = alone })
@@ -12,16 +20,22 @@ module _ {O P C R : Type 0} where
       alone zero lt = refl
       alone (suc k) lt = absurd (omega arith)
 
-  -- the two passes of a cell of two CPUs
-  pub own_both : (x : History O P C R) (p q : Part O P C R) → p ≡ first_part x 2 0 → q ≡ first_part x 2 1 → (k : ℕ) → k < p.caller.cell.numbers → (p.caller.owned k || q.caller.owned k) ≡ true
-  own_both x p q first second k lt =
-      subst (λ (z : Part O P C R). (z.caller.owned k || q.caller.owned k) ≡ true) (sym first)
-      (subst (λ (z : Part O P C R). ((k == 0) || z.caller.owned k) ≡ true) (sym second) (both k (subst (λ (z : Part O P C R). k < z.caller.cell.numbers) first lt)))
+  -- the two passes of a cell of two CPUs, in either order
+  pub own_both : (x : History O P C R) (p q : Part O P C R) → p ≡ first_part x 2 0 → q ≡ first_part x 2 1 → OwnTogether p.caller q.caller
+  own_both x p q first second = still_together (first_part x 2 0).caller p.caller (first_part x 2 1).caller q.caller (ap (λ z. z.caller) first) (ap (λ z. z.caller) second) each
     where
-      both : (k : ℕ) → k < 2 → ((k == 0) || (k == 1)) ≡ true
-      both zero lt = refl
-      both (suc zero) lt = refl
-      both (suc (suc k)) lt = absurd (omega arith)
+      each : OwnTogether (first_part x 2 0).caller (first_part x 2 1).caller
+      each zero lt = refl
+      each (suc zero) lt = refl
+      each (suc (suc k)) lt = absurd (omega arith)
+
+  pub own_both_turned : (x : History O P C R) (p q : Part O P C R) → p ≡ first_part x 2 0 → q ≡ first_part x 2 1 → OwnTogether q.caller p.caller
+  own_both_turned x p q first second = still_together (first_part x 2 1).caller q.caller (first_part x 2 0).caller p.caller (ap (λ z. z.caller) second) (ap (λ z. z.caller) first) each
+    where
+      each : OwnTogether (first_part x 2 1).caller (first_part x 2 0).caller
+      each zero lt = refl
+      each (suc zero) lt = refl
+      each (suc (suc k)) lt = absurd (omega arith)
 
   -- the four passes of a cell of four CPUs
   pub own_four : (x : History O P C R) (p q r s : Part O P C R) → p ≡ first_part x 4 0 → q ≡ first_part x 4 1 → r ≡ first_part x 4 2 → s ≡ first_part x 4 3 →
@@ -38,12 +52,3 @@ module _ {O P C R : Type 0} where
       each (suc (suc zero)) lt = refl
       each (suc (suc (suc zero))) lt = refl
       each (suc (suc (suc (suc k)))) lt = absurd (omega arith)
-
-  -- two passes of a cell of two CPUs that kept their callers, and then became one
-  pub joined_both : (x : History O P C R) (p q p' q' j : Part O P C R) → p ≡ first_part x 2 0 → q ≡ first_part x 2 1 → p'.caller ≡ p.caller → q'.caller ≡ q.caller → j.caller.cell ≡ p'.caller.cell →
-      ((k : ℕ) → j.caller.owned k ≡ (p'.caller.owned k || q'.caller.owned k)) → OwnsAll j.caller
-  joined_both x p q p' q' j first second kept_first kept_second cell owned = record {
-    each = λ k lt. owned k ∙ subst (λ (z : Caller O P C R). (z.owned k || q'.caller.owned k) ≡ true) (sym kept_first)
-        (subst (λ (z : Caller O P C R). (p.caller.owned k || z.owned k) ≡ true) (sym kept_second)
-        (own_both x p q first second k (subst (λ (z : Cell O P C R). k < z.numbers) (cell ∙ ap (λ (z : Caller O P C R). z.cell) kept_first) lt)));
-  }
