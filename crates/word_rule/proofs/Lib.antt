@@ -27,3 +27,4 @@ pub mod SoundRuns
 pub mod Openings
 pub mod Owners
 pub mod Sends
+pub mod Definitions
