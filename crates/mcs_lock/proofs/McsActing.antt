@@ -2,7 +2,7 @@
 use Rattle.std.proofs.Common.{◌≡◌, ℕ, ◌+◌, ◌<◌, ◌==◌, true, true≢false, List, [], ◌∷◌, refl, sym, ap, ◌∙◌, subst, arith, Option, Some, None, IsSome, rules}
 use mathlib.Core.Option.{none}
 use prog.Atomic.{either}
-use Rattle.atomic_table.specs.Table.{step, rest, Allows}
+use Rattle.atomic_table.specs.Table.{step, rest}
 use Rattle.event_log.specs.declared.object.SeqObject.{Ghosts}
 use Rattle.event_log.specs.declared.event.Event.{Event}
 use Rattle.event_log.specs.Distinct.{has}
@@ -10,6 +10,8 @@ use Rattle.event_log.specs.History.{History}
 use Rattle.word_rule.specs.declared.place.Place.{Place}
 use Rattle.word_rule.specs.declared.place.Place.TheVariants.{Idle, Ready, Behind, Armed, Waiting, Holding, Alone, Leaving, Passing}
 use Rattle.word_rule.specs.Cell.{Cell, Grows, Lawful, OwnsAll}
+use Rattle.word_rule.specs.declared.lock_kind.LockKind.TheVariants.{Mcs}
+use Rattle.word_rule.specs.Definition.{Turns}
 use Rattle.word_rule.specs.Standing.{Standing, Moves}
 use Rattle.word_rule.specs.Board.{Caller}
 use Rattle.word_rule.specs.Seats.{Seat, at, placed, taken_in, keeping, letting}
@@ -19,58 +21,58 @@ use Rattle.word_rule.proofs.Lists.{grows_self, grows_then}
 use Rattle.word_rule.proofs.Known.{AllIdle, idle_alone}
 use Rattle.word_rule.proofs.Acting.{value_of}
 use Rattle.mcs_lock.specs.Steps.{goes, arms, Names, enters, looks, sees, sees_again, empties, passes}
-use Rattle.mcs_lock.proofs.McsRule.{Rule, clearing, entering, arming, linking, looking, seeing, seeing_again, finding, emptying, passing}
+use Rattle.mcs_lock.proofs.McsRule.{clearing, entering, arming, linking, looking, seeing, seeing_again, finding, emptying, passing}
 
 -- the words are those of the number that the code has
 module _ {O P C R : Type 0} (meaning : Ghosts O P C R) (h : Cell O P C R) (slots id cpu : ℕ) where
-  pub clear_now : (m : Seat O P C R) → IsWithout meaning h cpu Idle m → Allows (Rule meaning h) slots id m (1 + cpu) (λ _. 0) (λ _. goes Ready (step slots (1 + cpu) 0 0 none) m 0)
-  clear_now m w = subst (λ (z : ℕ). Allows (Rule meaning h) slots id m (1 + z) (λ _. 0) (λ _. goes Ready (step slots (1 + z) 0 0 none) m 0)) w.at.number
+  pub clear_now : (m : Seat O P C R) → IsWithout meaning h cpu Idle m → Turns meaning Mcs h slots id m (1 + cpu) (λ _. 0) (λ _. goes Ready (step slots (1 + cpu) 0 0 none) m 0)
+  clear_now m w = subst (λ (z : ℕ). Turns meaning Mcs h slots id m (1 + z) (λ _. 0) (λ _. goes Ready (step slots (1 + z) 0 0 none) m 0)) w.at.number
       (clearing meaning h slots id m w.part.caller.acts w.at.stands)
 
-  pub enter_now : (m : Seat O P C R) → IsWithout meaning h cpu Ready m → Allows (Rule meaning h) slots id m 0 (λ _. cpu + 1) (enters meaning (step slots 0 (cpu + 1) 0 none) m)
-  enter_now m w = subst (λ (z : ℕ). Allows (Rule meaning h) slots id m 0 (λ _. z + 1) (enters meaning (step slots 0 (z + 1) 0 none) m)) w.at.number
+  pub enter_now : (m : Seat O P C R) → IsWithout meaning h cpu Ready m → Turns meaning Mcs h slots id m 0 (λ _. cpu + 1) (enters meaning (step slots 0 (cpu + 1) 0 none) m)
+  enter_now m w = subst (λ (z : ℕ). Turns meaning Mcs h slots id m 0 (λ _. z + 1) (enters meaning (step slots 0 (z + 1) 0 none) m)) w.at.number
       (entering meaning h slots id m w.part.caller.acts w.at.stands)
 
-  pub arm_now : (n q : ℕ) (m : Seat O P C R) → h.numbers ≡ n → IsWithout meaning h cpu (Behind q) m → Allows (Rule meaning h) slots id m (1 + n + cpu) (λ _. 1) (λ _. arms (step slots (1 + n + cpu) 1 0 none) m 1)
-  arm_now n q m is w = subst (λ (z : ℕ × ℕ). Allows (Rule meaning h) slots id m (1 + z.0 + z.1) (λ _. 1) (λ _. arms (step slots (1 + z.0 + z.1) 1 0 none) m 1)) (λ i. (is i, w.at.number i))
+  pub arm_now : (n q : ℕ) (m : Seat O P C R) → h.numbers ≡ n → IsWithout meaning h cpu (Behind q) m → Turns meaning Mcs h slots id m (1 + n + cpu) (λ _. 1) (λ _. arms (step slots (1 + n + cpu) 1 0 none) m 1)
+  arm_now n q m is w = subst (λ (z : ℕ × ℕ). Turns meaning Mcs h slots id m (1 + z.0 + z.1) (λ _. 1) (λ _. arms (step slots (1 + z.0 + z.1) 1 0 none) m 1)) (λ i. (is i, w.at.number i))
       (arming meaning h slots id m w.part.caller.acts q w.at.stands)
 
-  pub link_now : (q : ℕ) (m : Seat O P C R) → IsWithout meaning h cpu (Armed q) m → Allows (Rule meaning h) slots id m (1 + q) (λ _. cpu + 1) (λ _. goes Waiting (step slots (1 + q) (cpu + 1) 0 none) m (cpu + 1))
-  link_now q m w = subst (λ (z : ℕ). Allows (Rule meaning h) slots id m (1 + q) (λ _. z + 1) (λ _. goes Waiting (step slots (1 + q) (z + 1) 0 none) m (z + 1))) w.at.number
+  pub link_now : (q : ℕ) (m : Seat O P C R) → IsWithout meaning h cpu (Armed q) m → Turns meaning Mcs h slots id m (1 + q) (λ _. cpu + 1) (λ _. goes Waiting (step slots (1 + q) (cpu + 1) 0 none) m (cpu + 1))
+  link_now q m w = subst (λ (z : ℕ). Turns meaning Mcs h slots id m (1 + q) (λ _. z + 1) (λ _. goes Waiting (step slots (1 + q) (z + 1) 0 none) m (z + 1))) w.at.number
       (linking meaning h slots id m w.part.caller.acts q w.at.stands)
 
   -- a look by a caller, also beside callers that are idle
   pub look_now : (n : ℕ) (m : Seat O P C R) → h.numbers ≡ n → has m.0.main.cpu m.0.main.owned ≡ true → m.0.main.cpu ≡ cpu → m.0.main.place ≡ Waiting → AllIdle m.0.others
-      → Allows (Rule meaning h) slots id m (1 + n + cpu) (λ k. k) (looks meaning (step slots (1 + n + cpu) 0 0 none) m)
-  look_now n m is acts number stands idle = subst (λ (z : ℕ × ℕ). Allows (Rule meaning h) slots id m (1 + z.0 + z.1) (λ k. k) (looks meaning (step slots (1 + z.0 + z.1) 0 0 none) m)) (λ i. (is i, number i))
+      → Turns meaning Mcs h slots id m (1 + n + cpu) (λ k. k) (looks meaning (step slots (1 + n + cpu) 0 0 none) m)
+  look_now n m is acts number stands idle = subst (λ (z : ℕ × ℕ). Turns meaning Mcs h slots id m (1 + z.0 + z.1) (λ k. k) (looks meaning (step slots (1 + z.0 + z.1) 0 0 none) m)) (λ i. (is i, number i))
       (looking meaning h slots id m acts stands idle)
 
-  pub see_now : (m : Seat O P C R) (x : History O P C R) → IsWith meaning h cpu Holding x m → Allows (Rule meaning h) slots id m (1 + cpu) (λ k. k) (sees meaning (step slots (1 + cpu) 0 0 none) m)
-  see_now m x w = subst (λ (z : ℕ). Allows (Rule meaning h) slots id m (1 + z) (λ k. k) (sees meaning (step slots (1 + z) 0 0 none) m)) w.at.number
+  pub see_now : (m : Seat O P C R) (x : History O P C R) → IsWith meaning h cpu Holding x m → Turns meaning Mcs h slots id m (1 + cpu) (λ k. k) (sees meaning (step slots (1 + cpu) 0 0 none) m)
+  see_now m x w = subst (λ (z : ℕ). Turns meaning Mcs h slots id m (1 + z) (λ k. k) (sees meaning (step slots (1 + z) 0 0 none) m)) w.at.number
       (seeing meaning h slots id m w.held.caller.acts w.at.stands)
 
-  pub see_again_now : (m : Seat O P C R) (x : History O P C R) → IsWith meaning h cpu Leaving x m → Allows (Rule meaning h) slots id m (1 + cpu) (λ k. k) (sees_again meaning (step slots (1 + cpu) 0 0 none) m)
-  see_again_now m x w = subst (λ (z : ℕ). Allows (Rule meaning h) slots id m (1 + z) (λ k. k) (sees_again meaning (step slots (1 + z) 0 0 none) m)) w.at.number
+  pub see_again_now : (m : Seat O P C R) (x : History O P C R) → IsWith meaning h cpu Leaving x m → Turns meaning Mcs h slots id m (1 + cpu) (λ k. k) (sees_again meaning (step slots (1 + cpu) 0 0 none) m)
+  see_again_now m x w = subst (λ (z : ℕ). Turns meaning Mcs h slots id m (1 + z) (λ k. k) (sees_again meaning (step slots (1 + z) 0 0 none) m)) w.at.number
       (seeing_again meaning h slots id m w.held.caller.acts w.at.stands (idle_alone m.0.others w.at.alone))
 
   -- the same beside a caller that waits
   pub find_now : (m : Seat O P C R) (c : Caller O P C R) → has m.0.main.cpu m.0.main.owned ≡ true → m.0.main.cpu ≡ cpu → m.0.main.place ≡ Leaving → m.0.others ≡ c ∷ [] → c.place ≡ Waiting
-      → Allows (Rule meaning h) slots id m (1 + cpu) (λ k. k) (sees_again meaning (step slots (1 + cpu) 0 0 none) m)
-  find_now m c acts number stands beside waits = subst (λ (z : ℕ). Allows (Rule meaning h) slots id m (1 + z) (λ k. k) (sees_again meaning (step slots (1 + z) 0 0 none) m)) number
+      → Turns meaning Mcs h slots id m (1 + cpu) (λ k. k) (sees_again meaning (step slots (1 + cpu) 0 0 none) m)
+  find_now m c acts number stands beside waits = subst (λ (z : ℕ). Turns meaning Mcs h slots id m (1 + z) (λ k. k) (sees_again meaning (step slots (1 + z) 0 0 none) m)) number
       (finding meaning h slots id m acts c stands beside waits)
 
   -- a holder that put the object into its slot
   pub empty_now : (x : History O P C R) (m me : Seat O P C R) → IsWith meaning h cpu Alone x m → slots ≡ 1 → me ≡ (m.0, (0, Some x) ∷ rest m.1)
-      → Allows (Rule meaning h) slots id me 0 (λ k. either (k == (cpu + 1)) 0 k) (empties meaning (step slots 0 (cpu + 1) 0 none) me)
+      → Turns meaning Mcs h slots id me 0 (λ k. either (k == (cpu + 1)) 0 k) (empties meaning (step slots 0 (cpu + 1) 0 none) me)
   empty_now x m me w one filled =
-      let Goal : ℕ × Seat O P C R → Type 0 = λ z. Allows (Rule meaning h) slots id z.1 0 (λ k. either (k == (z.0 + 1)) 0 k) (empties meaning (step slots 0 (z.0 + 1) 0 none) z.1) in
+      let Goal : ℕ × Seat O P C R → Type 0 = λ z. Turns meaning Mcs h slots id z.1 0 (λ k. either (k == (z.0 + 1)) 0 k) (empties meaning (step slots 0 (z.0 + 1) 0 none) z.1) in
       subst Goal (λ i. (w.at.number i, sym filled i))
       (emptying meaning h slots id (m.0, (0, Some x) ∷ rest m.1) w.held.caller.acts x (rest m.1) one refl w.added w.held.lawful w.held.replayed w.at.stands (idle_alone m.0.others w.at.alone))
 
   pub pass_now : (n j : ℕ) (x : History O P C R) (m me : Seat O P C R) → h.numbers ≡ n → IsWith meaning h cpu (Passing j) x m → slots ≡ 1 → me ≡ (m.0, (0, Some x) ∷ rest m.1)
-      → Allows (Rule meaning h) slots id me (1 + n + j) (λ _. 0) (λ _. passes meaning (step slots (1 + n + j) 0 0 none) me 0)
+      → Turns meaning Mcs h slots id me (1 + n + j) (λ _. 0) (λ _. passes meaning (step slots (1 + n + j) 0 0 none) me 0)
   pass_now n j x m me is w one filled =
-      let Goal : ℕ × Seat O P C R → Type 0 = λ z. Allows (Rule meaning h) slots id z.1 (1 + z.0 + j) (λ _. 0) (λ _. passes meaning (step slots (1 + z.0 + j) 0 0 none) z.1 0) in
+      let Goal : ℕ × Seat O P C R → Type 0 = λ z. Turns meaning Mcs h slots id z.1 (1 + z.0 + j) (λ _. 0) (λ _. passes meaning (step slots (1 + z.0 + j) 0 0 none) z.1 0) in
       subst Goal (λ i. (is i, sym filled i))
       (passing meaning h slots id (m.0, (0, Some x) ∷ rest m.1) w.held.caller.acts x (rest m.1) one refl w.added w.held.lawful w.held.replayed j w.at.stands)
 

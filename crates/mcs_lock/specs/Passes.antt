@@ -7,7 +7,7 @@ use Rattle.word_rule.specs.Cell.{Part, Held}
 use Rattle.word_rule.specs.Standing.{Standing}
 use Rattle.word_rule.specs.Callers.{IsAt, part_of, held_of, standing_without, standing_with}
 use Rattle.mcs_lock.specs.declared.cell.McsCell.{McsCell}
-use Rattle.mcs_lock.specs.declared.states.Pass.{Pass}
+use Rattle.word_rule.specs.declared.pass.Pass.{Pass}
 use Rattle.mcs_lock.specs.declared.states.Ready.{Ready as ReadyCaller}
 use Rattle.mcs_lock.specs.declared.states.Behind.{Behind as BehindCaller}
 use Rattle.mcs_lock.specs.declared.states.Armed.{Armed as ArmedCaller}
@@ -23,31 +23,31 @@ use Rattle.mcs_lock.specs.declared.states.Entered.TheVariants as entered
 module _ {O P C R : Type 0} {g : Ghosts O P C R} {call_eq : Eq C} {call_default : Default C} {reply_eq : Eq R} {reply_default : Default R} where
   -- a caller of the cell, wherever it stands
   abbrev pub IsPassOf : McsCell O P C R → Pass O P C R g call_eq call_default reply_eq reply_default → Type 0
-  IsPassOf c p = IsAt c.table.shared.table_id c.table.shared.key p.seat.table_id p.key.value
+  IsPassOf c p = IsAt c.table.table.shared.table_id c.table.table.shared.key p.seat.table_id p.key.value
 
   abbrev pub IsReadyOf : McsCell O P C R → ReadyCaller O P C R g call_eq call_default reply_eq reply_default → Type 0
-  IsReadyOf c r = IsAt c.table.shared.table_id c.table.shared.key r.seat.table_id r.key.value
+  IsReadyOf c r = IsAt c.table.table.shared.table_id c.table.table.shared.key r.seat.table_id r.key.value
 
   abbrev pub IsBehindOf : McsCell O P C R → BehindCaller O P C R g call_eq call_default reply_eq reply_default → Type 0
-  IsBehindOf c b = IsAt c.table.shared.table_id c.table.shared.key b.seat.table_id b.key.value
+  IsBehindOf c b = IsAt c.table.table.shared.table_id c.table.table.shared.key b.seat.table_id b.key.value
 
   abbrev pub IsArmedOf : McsCell O P C R → ArmedCaller O P C R g call_eq call_default reply_eq reply_default → Type 0
-  IsArmedOf c a = IsAt c.table.shared.table_id c.table.shared.key a.seat.table_id a.key.value
+  IsArmedOf c a = IsAt c.table.table.shared.table_id c.table.table.shared.key a.seat.table_id a.key.value
 
   abbrev pub IsWaitingOf : McsCell O P C R → WaitingCaller O P C R g call_eq call_default reply_eq reply_default → Type 0
-  IsWaitingOf c w = IsAt c.table.shared.table_id c.table.shared.key w.seat.table_id w.key.value
+  IsWaitingOf c w = IsAt c.table.table.shared.table_id c.table.table.shared.key w.seat.table_id w.key.value
 
   abbrev pub IsHoldOf : McsCell O P C R → Hold O P C R g call_eq call_default reply_eq reply_default → Type 0
-  IsHoldOf c h = IsAt c.table.shared.table_id c.table.shared.key h.seat.table_id h.key.value
+  IsHoldOf c h = IsAt c.table.table.shared.table_id c.table.table.shared.key h.seat.table_id h.key.value
 
   abbrev pub IsAloneOf : McsCell O P C R → AloneCaller O P C R g call_eq call_default reply_eq reply_default → Type 0
-  IsAloneOf c a = IsAt c.table.shared.table_id c.table.shared.key a.seat.table_id a.key.value
+  IsAloneOf c a = IsAt c.table.table.shared.table_id c.table.table.shared.key a.seat.table_id a.key.value
 
   abbrev pub IsLeavingOf : McsCell O P C R → LeavingCaller O P C R g call_eq call_default reply_eq reply_default → Type 0
-  IsLeavingOf c l = IsAt c.table.shared.table_id c.table.shared.key l.seat.table_id l.key.value
+  IsLeavingOf c l = IsAt c.table.table.shared.table_id c.table.table.shared.key l.seat.table_id l.key.value
 
   abbrev pub IsPassingOf : McsCell O P C R → PassingCaller O P C R g call_eq call_default reply_eq reply_default → Type 0
-  IsPassingOf c p = IsAt c.table.shared.table_id c.table.shared.key p.seat.table_id p.key.value
+  IsPassingOf c p = IsAt c.table.table.shared.table_id c.table.table.shared.key p.seat.table_id p.key.value
 
   -- what each knows: without the object, and with it
   abbrev pub pass_part : Pass O P C R g call_eq call_default reply_eq reply_default → Part O P C R

@@ -21,4 +21,5 @@ mod tests;
 mod whole;
 
 pub use cell::McsCell;
-pub use states::{Alone, Armed, Behind, Entered, Hold, Leaving, Pass, Passing, Ready, Waiting};
+pub use states::{Alone, Armed, Behind, Entered, Hold, Leaving, Passing, Ready, Waiting};
+pub use word_rule::Pass;

@@ -3,10 +3,10 @@
 ghost use Rattle.mcs_lock.specs.Passes.{IsPassOf, IsHoldOf, pass_part, hold_held};
 
 use crate::cell::McsCell;
-use crate::states::{Hold, Pass};
+use crate::states::Hold;
 use event_log::{Logged, NoRoom, SeqObject, Steps};
 use std::sync::Wait;
-use word_rule::LockCell;
+use word_rule::{LockCell, Pass};
 
 impl<O: SeqObject> LockCell<O> for McsCell<O> {
     type Pass = Pass<O>;

@@ -6,12 +6,11 @@ ghost use Rattle.word_rule.specs.Seats.{first_view};
 ghost use Rattle.mcs_lock.specs.Passes.{IsPassOf, pass_part};
 
 use crate::cell::McsCell;
-use crate::states::Pass;
-use atomic_table::{Refused, Table};
+use atomic_table::Refused;
 use event_log::{Logged, OutOfMemory, SeqObject};
 use std::alloc::Global;
 use std::snapshot::Snapshot;
-use word_rule::{Beside, Key, MOST_CPUS, Seat};
+use word_rule::{Key, LockTable, MOST_CPUS, Pass, Seat};
 
 // The words of the greatest cell.
 const MOST_WORDS: usize = 1 + 2 * MOST_CPUS as usize;
@@ -25,15 +24,15 @@ impl<O: SeqObject> McsCell<O> {
         cpus: u8,
         mut passes: Vec<Pass<O>>,
     ) -> Vec<Pass<O>>
-        requires cell { key.now ≡ self.now.table.shared.key }
-        requires seat { (seat.table_id ≡ self.now.table.shared.table_id) × (seat.me ≡ (first_view key.now, [])) × (key.now.numbers ≡ cpus) }
+        requires cell { key.now ≡ self.now.table.table.shared.key }
+        requires seat { (seat.table_id ≡ self.now.table.table.shared.table_id) × (seat.me ≡ (first_view key.now, [])) × (key.now.numbers ≡ cpus) }
         requires room { (passes.items ≡ []) × (cpus ≤ vec_capacity passes) }
         requires lawful { Lawful O.SeqObject key.now key.now.opening }
         ensures passes { EachAt (λ k p. IsPassOf self.now p × (pass_part p ≡ opening_part key.now k)) result.items }
         ensures count { vec_len result ≡ cpus }
     {
         for cpu in 0..cpus {
-            let theirs = self.table.shared.split_seat::<Beside>(&mut seat);
+            let theirs = self.table.split_seat(&mut seat);
             passes.push_reserved(Pass {
                 cpu,
                 key: Snapshot::of(key),
@@ -66,7 +65,7 @@ impl<O: SeqObject> McsCell<O> {
         slots.push_reserved(Some(logged));
         let zeros = [0u64; MOST_WORDS];
         let words = &zeros[..1 + 2 * cpus as usize];
-        match Table::new(alloc, words, slots, &key) {
+        match LockTable::new(alloc, words, slots, &key) {
             Ok((table, seat)) => {
                 let cell = McsCell { table, cpus };
                 let passes = cell.deal(seat, &key, cpus, passes);

@@ -5,9 +5,9 @@ ghost use Rattle.word_rule.specs.Cell.{Grows};
 ghost use Rattle.mcs_lock.specs.Passes.{IsPassOf, IsHoldOf, pass_part};
 
 use crate::cell::McsCell;
-use crate::states::{Hold, Pass};
+use crate::states::Hold;
 use event_log::SeqObject;
-use word_rule::{Beside, Clash, Meet, Merge, Tear};
+use word_rule::Pass;
 
 impl<O: SeqObject> McsCell<O> {
     /// One pass with the numbers of both, which has seen what both had: one load of the first caller.
@@ -21,19 +21,7 @@ impl<O: SeqObject> McsCell<O> {
         ensures first_grows { Grows (pass_part one).caller.owned (pass_part one).seen (pass_part result).seen }
         ensures second_grows { Grows (pass_part two).caller.owned (pass_part two).seen (pass_part result).seen }
     {
-        let Pass { cpu, key, mut seat } = one;
-        let Pass {
-            cpu: other,
-            key: _,
-            seat: theirs,
-        } = two;
-        self.table.shared.join_seat::<Beside>(&mut seat, theirs);
-        self.table.shared.load::<Merge>(&mut seat, 0);
-        Pass {
-            cpu: cpu.min(other),
-            key,
-            seat,
-        }
+        self.table.join(one, two)
     }
 
     /// Both have seen one log, which begins with what each had seen: one load of the two callers together.
@@ -53,9 +41,9 @@ impl<O: SeqObject> McsCell<O> {
             key: told,
             seat: theirs,
         } = two;
-        self.table.shared.join_seat::<Beside>(&mut seat, theirs);
-        self.table.shared.load::<Meet>(&mut seat, 0);
-        let theirs = self.table.shared.split_seat::<Beside>(&mut seat);
+        self.table.join_seat(&mut seat, theirs);
+        self.table.meet(&mut seat);
+        let theirs = self.table.split_seat(&mut seat);
         (
             Pass { cpu, key, seat },
             Pass {
@@ -76,17 +64,15 @@ impl<O: SeqObject> McsCell<O> {
             cpu: _,
             logged: _logged,
             key: _,
-            mut seat,
+            seat,
         } = one;
         let Hold {
             cpu: _,
             logged: _other,
             key: _,
-            seat: mut theirs,
+            seat: theirs,
         } = two;
-        self.table.shared.load::<Tear>(&mut theirs, 0);
-        self.table.shared.join_seat::<Beside>(&mut seat, theirs);
-        self.table.shared.load::<Clash>(&mut seat, 0);
+        self.table.clash(seat, theirs);
         unreachable!()
     }
 }

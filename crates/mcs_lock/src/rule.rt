@@ -1,26 +1,11 @@
-//! The rule of the cell's table, and the steps that are the MCS lock's own.
+//! The steps that are the MCS lock's own.
 
 ghost use Rattle.word_rule.specs.declared.place.Place.TheVariants.{Ready, Waiting};
-ghost use Rattle.word_rule.specs.Board.{Ruled};
-ghost use Rattle.word_rule.specs.Queues.{Queued};
-ghost use Rattle.word_rule.specs.Seats.{first_view};
 ghost use Rattle.mcs_lock.specs.Steps.{goes, arms, enters, looks, sees, sees_again, empties, passes};
 
-use atomic_table::{Play, TableRule};
+use atomic_table::Play;
 use event_log::{Event, Logged, SeqObject};
-use std::marker::PhantomData;
 use word_rule::{Key, View};
-
-/// The rule of an MCS lock.
-pub struct Mcs<O> {
-    object: PhantomData<O>,
-}
-
-impl<O: SeqObject> TableRule<Option<Logged<O>>, View<Key<O>, Event<O>>, Key<O>> for Mcs<O> {
-    ghost holds = { Ruled O.SeqObject Queued };
-
-    ghost first = { first_view };
-}
 
 /// A store to the caller's `next`.
 pub struct Clear;

@@ -1,22 +1,13 @@
 //! A caller of an MCS lock, by what it may do next.
 
 ghost use Rattle.event_log.proofs.Props.{legal_props};
-ghost use Rattle.word_rule.specs.declared.place.Place.TheVariants.{Idle, Ready, Behind, Armed, Waiting, Holding, Alone, Leaving, Passing};
+ghost use Rattle.word_rule.specs.declared.place.Place.TheVariants.{Ready, Behind, Armed, Waiting, Holding, Alone, Leaving, Passing};
 ghost use Rattle.word_rule.specs.Told.{IsElse};
 ghost use Rattle.word_rule.specs.Callers.{IsWithout, IsWith};
 
 use event_log::{Logged, SeqObject};
 use std::snapshot::Snapshot;
 use word_rule::{Key, Seat};
-
-/// A caller that isn't in the queue. One that is dropped leaves a cell that can't be closed any more.
-#[derive(Drop)]
-pub struct Pass<O: SeqObject> {
-    pub(crate) cpu: u8,
-    pub(crate) key: Snapshot<Key<O>>,
-    pub(crate) seat: Seat<O>,
-    pub ghost idle: { IsWithout O.SeqObject key.value cpu Idle seat.me } by { Prim.hlevel legal_props },
-}
 
 /// A caller whose `next` is clear. It can't be dropped: it ends in `enter`.
 pub struct Ready<O: SeqObject> {

@@ -7,8 +7,9 @@ ghost use Rattle.mcs_lock.specs.Passes.{pass_standing, ready_standing, behind_st
 
 use crate::cell::McsCell;
 use crate::rule::{Arm, Clear, Empty, Enter, Link, Look, PassOn, See, SeeAgain};
-use crate::states::{Alone, Armed, Behind, Entered, Hold, Leaving, Pass, Passing, Ready, Waiting};
+use crate::states::{Alone, Armed, Behind, Entered, Hold, Leaving, Passing, Ready, Waiting};
 use event_log::SeqObject;
+use word_rule::Pass;
 
 impl<O: SeqObject> McsCell<O> {
     /// Clears its `next`: one store.
@@ -18,9 +19,7 @@ impl<O: SeqObject> McsCell<O> {
         ensures step { IsClear O.SeqObject (pass_standing pass) (ready_standing result) }
     {
         let Pass { cpu, key, mut seat } = pass;
-        self.table
-            .shared
-            .store::<Clear>(&mut seat, 1 + cpu as usize, 0);
+        self.table.store::<Clear>(&mut seat, 1 + cpu as usize, 0);
         Ready { cpu, key, seat }
     }
 
@@ -32,12 +31,9 @@ impl<O: SeqObject> McsCell<O> {
         ensures queued { IfBehind result (λ b. IsBehindOf self.now b × IsEnter O.SeqObject (ready_standing ready) (behind_standing b) false) }
     {
         let Ready { cpu, key, mut seat } = ready;
-        let found = self
-            .table
-            .shared
-            .swap::<Enter>(&mut seat, 0, cpu as u64 + 1);
+        let found = self.table.swap::<Enter>(&mut seat, 0, cpu as u64 + 1);
         if found == 0 {
-            let logged = self.table.shared.exchange(&mut seat, 0, None).unwrap();
+            let logged = self.table.exchange(&mut seat, None).unwrap();
             Entered::Hold(Hold {
                 cpu,
                 logged,
@@ -67,9 +63,7 @@ impl<O: SeqObject> McsCell<O> {
             key,
             mut seat,
         } = behind;
-        self.table
-            .shared
-            .store::<Arm>(&mut seat, 1 + self.cpus as usize + cpu as usize, 1);
+        self.table.store::<Arm>(&mut seat, 1 + self.cpus as usize + cpu as usize, 1);
         Armed {
             cpu,
             ahead,
@@ -90,9 +84,7 @@ impl<O: SeqObject> McsCell<O> {
             key,
             mut seat,
         } = armed;
-        self.table
-            .shared
-            .store::<Link>(&mut seat, 1 + ahead as usize, cpu as u64 + 1);
+        self.table.store::<Link>(&mut seat, 1 + ahead as usize, cpu as u64 + 1);
         Waiting { cpu, key, seat }
     }
 
@@ -103,12 +95,9 @@ impl<O: SeqObject> McsCell<O> {
         ensures missed { IfErr result (λ w. IsWaitingOf self.now w × IsWaitingLook O.SeqObject (waiting_standing waiting) (waiting_standing w) false) }
     {
         let Waiting { cpu, key, mut seat } = waiting;
-        let found = self
-            .table
-            .shared
-            .load::<Look>(&mut seat, 1 + self.cpus as usize + cpu as usize);
+        let found = self.table.load::<Look>(&mut seat, 1 + self.cpus as usize + cpu as usize);
         if found == 0 {
-            let logged = self.table.shared.exchange(&mut seat, 0, None).unwrap();
+            let logged = self.table.exchange(&mut seat, None).unwrap();
             Ok(Hold {
                 cpu,
                 logged,
@@ -132,7 +121,7 @@ impl<O: SeqObject> McsCell<O> {
             key,
             mut seat,
         } = hold;
-        let found = self.table.shared.load::<See>(&mut seat, 1 + cpu as usize);
+        let found = self.table.load::<See>(&mut seat, 1 + cpu as usize);
         if found == 0 {
             Err(Alone {
                 cpu,
@@ -165,17 +154,14 @@ impl<O: SeqObject> McsCell<O> {
             key,
             mut seat,
         } = alone;
-        let empty = self.table.shared.exchange(&mut seat, 0, Some(logged));
+        let empty = self.table.exchange(&mut seat, Some(logged));
         let None = empty else { unreachable!() };
         let last = cpu as u64 + 1;
-        let found = self
-            .table
-            .shared
-            .compare_exchange::<Empty>(&mut seat, 0, last, 0);
+        let found = self.table.compare_exchange::<Empty>(&mut seat, 0, last, 0);
         if found == last {
             Ok(Pass { cpu, key, seat })
         } else {
-            let logged = self.table.shared.exchange(&mut seat, 0, None).unwrap();
+            let logged = self.table.exchange(&mut seat, None).unwrap();
             Err(Leaving {
                 cpu,
                 logged,
@@ -197,10 +183,7 @@ impl<O: SeqObject> McsCell<O> {
             key,
             mut seat,
         } = leaving;
-        let found = self
-            .table
-            .shared
-            .load::<SeeAgain>(&mut seat, 1 + cpu as usize);
+        let found = self.table.load::<SeeAgain>(&mut seat, 1 + cpu as usize);
         if found == 0 {
             Err(Leaving {
                 cpu,
@@ -233,11 +216,9 @@ impl<O: SeqObject> McsCell<O> {
             key,
             mut seat,
         } = passing;
-        let empty = self.table.shared.exchange(&mut seat, 0, Some(logged));
+        let empty = self.table.exchange(&mut seat, Some(logged));
         let None = empty else { unreachable!() };
-        self.table
-            .shared
-            .store::<PassOn>(&mut seat, 1 + self.cpus as usize + follower as usize, 0);
+        self.table.store::<PassOn>(&mut seat, 1 + self.cpus as usize + follower as usize, 0);
         Pass { cpu, key, seat }
     }
 }

@@ -8,11 +8,11 @@ ghost use Rattle.mcs_lock.specs.Passes.{waiting_standing, hold_standing, leaving
 
 use crate::cell::McsCell;
 use crate::rule::{Look, SeeAgain};
-use crate::states::{Behind, Entered, Hold, Leaving, Pass, Passing, Waiting};
+use crate::states::{Behind, Entered, Hold, Leaving, Passing, Waiting};
 use crossbeam_utils::Backoff;
 use event_log::{Logged, SeqObject};
 use std::sync::Wait;
-use word_rule::Beside;
+use word_rule::Pass;
 
 impl<O: SeqObject> McsCell<O> {
     /// Enters, and where another is before it looks until it gets the object. The number is that of the looks.
@@ -108,14 +108,11 @@ impl<O: SeqObject> McsCell<O> {
             key: told,
             seat: theirs,
         } = pass;
-        self.table.shared.join_seat::<Beside>(&mut seat, theirs);
-        let found = self
-            .table
-            .shared
-            .load::<Look>(&mut seat, 1 + self.cpus as usize + cpu as usize);
+        self.table.join_seat(&mut seat, theirs);
+        let found = self.table.load::<Look>(&mut seat, 1 + self.cpus as usize + cpu as usize);
         prove!(found == 0);
-        let logged = self.table.shared.exchange(&mut seat, 0, None).unwrap();
-        let theirs = self.table.shared.split_seat::<Beside>(&mut seat);
+        let logged = self.table.exchange(&mut seat, None).unwrap();
+        let theirs = self.table.split_seat(&mut seat);
         (
             Hold {
                 cpu,
@@ -154,14 +151,11 @@ impl<O: SeqObject> McsCell<O> {
             key: told,
             seat: theirs,
         } = waiting;
-        self.table.shared.join_seat::<Beside>(&mut seat, theirs);
-        let found = self
-            .table
-            .shared
-            .load::<SeeAgain>(&mut seat, 1 + cpu as usize);
+        self.table.join_seat(&mut seat, theirs);
+        let found = self.table.load::<SeeAgain>(&mut seat, 1 + cpu as usize);
         prove!(found != 0);
         let follower = (found - 1) as u8;
-        let theirs = self.table.shared.split_seat::<Beside>(&mut seat);
+        let theirs = self.table.split_seat(&mut seat);
         (
             Passing {
                 cpu,
@@ -185,14 +179,7 @@ impl<O: SeqObject> McsCell<O> {
         ensures { result ≡ stored O.SeqObject (pass_part pass).caller.cell (pass_part pass).seen }
     {
         let McsCell { table, cpus: _ } = self;
-        let Pass {
-            cpu: _,
-            key: _,
-            seat,
-        } = pass;
-        let mut closed = table.close_with(seat);
-        let slot = closed.take(0);
-        closed.free();
-        slot.unwrap()
+        let Pass { cpu, key: _, seat } = pass;
+        table.close(cpu, seat)
     }
 }

@@ -10,7 +10,11 @@ use Rattle.word_rule.specs.Line.{lined, holding, is_first}
 use Rattle.word_rule.specs.Locks.{Lock, last, last_from, second, behind, is_named, naming, if_linked, follower, going, joining, taking, leaving}
 use Rattle.word_rule.specs.LockWords.{TiedMcs, word_of}
 use Rattle.word_rule.specs.Queues.{Queued, tail_of, next_word, locked_word, is_linked}
-use Rattle.word_rule.specs.Turns.{clear, arm, link, pass}
+use Rattle.word_rule.specs.declared.lock_kind.LockKind.TheVariants.{Mcs}
+use Rattle.word_rule.specs.declared.machine.step_done.StepDone.{StepDone}
+use Rattle.word_rule.specs.declared.machine.step_done.StepDone.TheVariants as steps
+use Rattle.word_rule.specs.declared.place.Place.{Place}
+use Rattle.word_rule.specs.Turns.{clear, arm, link, pass, turn, turn_of, mcs_turn}
 use Rattle.word_rule.proofs.Lists.{one_place, one_is}
 use Rattle.word_rule.proofs.QueueStands.{elsewhere}
 use Rattle.word_rule.proofs.QueueWords as words
@@ -30,6 +34,33 @@ second_at : (cpus : List ℕ) (j : ℕ) → second cpus ≡ Some j → get_elem?
 second_at [] j e = cc
 second_at (k ∷ []) j e = cc
 second_at (k ∷ y ∷ ys) j e = ap some (let f : y ≡ j = cc in f)
+
+-- a word names nobody, or one CPU
+word_none : (o : Option ℕ) → word_of o ≡ 0 → o ≡ None
+word_none None e = refl
+word_none (Some k) e = absurd (let z : k + 1 ≡ 0 = e in omega (arith, z))
+
+word_some : (o : Option ℕ) (q : ℕ) → word_of o ≡ q + 1 → o ≡ Some q
+word_some None q e = absurd (let z : 0 ≡ q + 1 = e in omega (arith, z))
+word_some (Some k) q e = ap Some (let z : k + 1 ≡ q + 1 = e in omega (arith, z))
+
+-- the turn of a CPU that stands there
+pub turned : (l : Lock) (i : ℕ) (q : Place) → l.kind ≡ Mcs → l.line.place i ≡ q → (turn l i).0 ≡ (mcs_turn l i q).0
+turned l i q kind there = ap (λ k. (turn_of k l i).0) kind ∙ ap (λ z. (mcs_turn l i z).0) there
+
+-- a look of one that waits: it gets the object where it is the first
+pub hits : (l : Lock) (i : ℕ) → is_first i l.line.cpus ≡ true → (mcs_turn l i Waiting).0 ≡ record l { line = taking l.line i Holding }
+hits l i is = ap (λ (b : Bool). let r : Lock × StepDone = cond b (record l { line = taking l.line i Holding }, steps.Look true) (l, steps.Look false) in r.0) is
+
+pub passes_by : (l : Lock) (i : ℕ) → is_first i l.line.cpus ≡ false → (mcs_turn l i Waiting).0 ≡ l
+passes_by l i is = ap (λ (b : Bool). let r : Lock × StepDone = cond b (record l { line = taking l.line i Holding }, steps.Look true) (l, steps.Look false) in r.0) is
+
+-- an attempt to empty the queue: it succeeds where the last is the one that tries
+pub ends_queue : (l : Lock) (i : ℕ) → is_named i (last l.line.cpus) ≡ true → (mcs_turn l i Alone).0 ≡ record l { line = leaving l.line i }
+ends_queue l i is = ap (λ (b : Bool). let r : Lock × StepDone = cond b (record l { line = leaving l.line i }, steps.Empty true) (record l { line = going l.line i Leaving }, steps.Empty false) in r.0) is
+
+pub stays_queued : (l : Lock) (i : ℕ) → is_named i (last l.line.cpus) ≡ false → (mcs_turn l i Alone).0 ≡ record l { line = going l.line i Leaving }
+stays_queued l i is = ap (λ (b : Bool). let r : Lock × StepDone = cond b (record l { line = leaving l.line i }, steps.Empty true) (record l { line = going l.line i Leaving }, steps.Empty false) in r.0) is
 
 -- a store to a `next` word
 next_set : (ws : List ℕ) (next : ℕ → Option ℕ) (n p : ℕ) (named : Option ℕ) → 1 + p < length ws → ((x : ℕ) → x < n → next_word ws x ≡ word_of (next x))
@@ -51,6 +82,12 @@ module _ (n : ℕ) (ws : List ℕ) (l : Lock) (h : TiedMcs n ws l) (i : ℕ) (be
 
   pub tail_word : get_or ws 0 0 ≡ word_of (last l.line.cpus)
   tail_word = h.queued.tail ∙ tail_last l.line.cpus
+
+  pub tail_none : get_or ws 0 0 ≡ 0 → last l.line.cpus ≡ None
+  tail_none e = word_none (last l.line.cpus) (sym tail_word ∙ e)
+
+  pub tail_some : (p : ℕ) → get_or ws 0 0 ≡ p + 1 → last l.line.cpus ≡ Some p
+  tail_some p e = word_some (last l.line.cpus) p (sym tail_word ∙ e)
 
   pub enters_first : l.line.place i ≡ Ready → last l.line.cpus ≡ None → TiedMcs n (set ws 0 (i + 1)) (record l { line = lined (i ∷ []) true l.line.place i Holding })
   enters_first e none = record {
@@ -120,6 +157,12 @@ module _ (n : ℕ) (ws : List ℕ) (l : Lock) (h : TiedMcs n ws l) (i : ℕ) (be
       by : (o : Option ℕ) → second l.line.cpus ≡ o → next_word ws i ≡ word_of (follower l.line)
       by None e = h.queued.last i (only l.line.cpus (holder_at has_it) e) ∙ ap (λ o. word_of (if_linked l.line o)) (sym e)
       by (Some j) e = words.next_is n ws l.line h.queued 0 i j (holder_at has_it) (second_at l.line.cpus j e) ∙ (linked j (is_linked (l.line.place j)) ∙ ap (λ o. word_of (if_linked l.line o)) (sym e))
+
+  pub sees_nobody : holding (l.line.place i) ≡ true → next_word ws i ≡ 0 → follower l.line ≡ None
+  sees_nobody has_it word = word_none (follower l.line) (sym (follower_word has_it) ∙ word)
+
+  pub sees_that : (j : ℕ) → holding (l.line.place i) ≡ true → next_word ws i ≡ j + 1 → follower l.line ≡ Some j
+  sees_that j has_it word = word_some (follower l.line) j (sym (follower_word has_it) ∙ word)
 
   pub sees : (j : ℕ) → holding (l.line.place i) ≡ true → next_word ws i ≡ j + 1 → TiedMcs n ws (record l { line = going l.line i (Passing j) })
   sees j has_it word =

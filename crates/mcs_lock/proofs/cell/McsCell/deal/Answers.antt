@@ -1,10 +1,9 @@
 use Rattle.std.proofs.Common.{rules, ◌<◌, sym, subst, ◌∙◌}
-use Rattle.word_rule.proofs.Meetings.{splitting}
 use Rattle.word_rule.proofs.Dealing.{goes_on, is_one, one_rests, part_first, each_push}
 use Rattle.mcs_lock.proofs.cell.McsCell.deal.Goals as goal
 
 pub split_seat-theirs-requires : goal.split_seat-theirs-requires
-split_seat-theirs-requires g c = (search rules, search rules, splitting g.O.SeqObject _ c.args.self.now.table.shared.key _ _)
+split_seat-theirs-requires g c = (g.met.O.SeqObject.event_fits, (search rules, search rules))
 
 pub invariant_of-push_reserved : goal.invariant_of-push_reserved
 invariant_of-push_reserved g c = let h = c.args.key.now in let i = c.loop-cpu.invariant in let k = c.loop-cpu.cpu in let below = subst (λ n. k < n) (sym c.requires.seat.2) c.loop-cpu-test.true in

@@ -6,6 +6,6 @@ use Rattle.mcs_lock.proofs.cell.McsCell.deal.Given as goal
 
 abbrev pub invariant-loop-cpu : goal.invariant-loop-cpu
 invariant-loop-cpu g l = record {
-  seat : (l.seat.table_id ≡ l.self.table.shared.table_id) × (l.seat.me ≡ (undealt l.key l.cpu, []));
+  seat : (l.seat.table_id ≡ l.self.table.table.shared.table_id) × (l.seat.me ≡ (undealt l.key l.cpu, []));
   made : EachAt (λ k p. IsPassOf l.self p × (pass_part p ≡ opening_part l.key k)) l.passes.items × (vec_len l.passes ≡ l.cpu) × (l.cpus ≤ vec_capacity l.passes);
 }

@@ -12,7 +12,7 @@ use Rattle.mcs_lock.proofs.cell.McsCell.empty.Goals as goal
 
 pub compare_exchange-found-requires : goal.compare_exchange-found-requires
 compare_exchange-found-requires g c = let s = c.args.self.now in let a = c.args.alone in let words = s.sized.0 in
-    (search rules, omega arith, empty_now g.O.SeqObject s.table.shared.key _ _ a.cpu a.logged a.seat.me c.exchange-empty.new.seat.me (subst (λ k. IsWith g.O.SeqObject k a.cpu Alone a.logged a.seat.me) c.requires.told a.alone) s.sized.1 c.exchange-empty.ensures.3)
+    (g.met.O.SeqObject.event_fits, (search rules, omega arith, empty_now g.O.SeqObject s.table.table.shared.key _ _ a.cpu a.logged a.seat.me c.exchange-empty.new.seat.me (subst (λ k. IsWith g.O.SeqObject k a.cpu Alone a.logged a.seat.me) c.requires.told a.alone) s.table.sized c.exchange-empty.ensures.3))
 
 pub invariant_of-result : goal.invariant_of-result
 invariant_of-result g c = let a = c.args.alone in
@@ -25,7 +25,7 @@ returns-then-found-last-clause-home g c = let a = c.args.alone in
 pub exchange-requires : goal.exchange-requires
 exchange-requires g c = let a = c.args.alone in let t = c.compare_exchange-found.ensures.2.miss c.if-found-last.false in
     let is = ap (λ z. z.1) t.seat ∙ ap (λ z. z.1) c.exchange-empty.ensures.3 in
-    (search rules, (Some a.logged, is ∙ ap (λ z. (0, Some a.logged) ∷ rest z) (sym is)))
+    (g.met.O.SeqObject.event_fits, (search rules, (Some a.logged, is ∙ ap (λ z. (0, Some a.logged) ∷ rest z) (sym is))))
 
 pub unwrap-logged-requires : goal.unwrap-logged-requires
 unwrap-logged-requires g c = let a = c.args.alone in

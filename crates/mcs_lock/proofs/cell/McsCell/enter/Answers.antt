@@ -8,11 +8,11 @@ use Rattle.mcs_lock.proofs.cell.McsCell.enter.Goals as goal
 
 pub swap-found-requires : goal.swap-found-requires
 swap-found-requires g c = let s = c.args.self.now in let a = c.args.ready in let words = s.sized.0 in
-    (c.requires.table, omega arith, enter_now g.O.SeqObject s.table.shared.key _ _ a.cpu a.seat.me (subst (λ k. IsWithout g.O.SeqObject k a.cpu Ready a.seat.me) c.requires.told a.ready))
+    (g.met.O.SeqObject.event_fits, (c.requires.table, omega arith, enter_now g.O.SeqObject s.table.table.shared.key _ _ a.cpu a.seat.me (subst (λ k. IsWithout g.O.SeqObject k a.cpu Ready a.seat.me) c.requires.told a.ready)))
 
 pub exchange-requires : goal.exchange-requires
 exchange-requires g c = let t = c.swap-found.ensures.2.first c.if-found-eq0.true in
-    (search rules, (Some t.object, ap (λ m. m.1) t.seat ∙ ap (λ m. (0, Some t.object) ∷ rest m.1) (sym t.seat)))
+    (g.met.O.SeqObject.event_fits, (search rules, (Some t.object, ap (λ m. m.1) t.seat ∙ ap (λ m. (0, Some t.object) ∷ rest m.1) (sym t.seat))))
 
 pub invariant_of-result : goal.invariant_of-result
 invariant_of-result g c = let a = c.args.ready in let t = c.swap-found.ensures.2.first c.if-found-eq0.true in let e = c.exchange.ensures in

@@ -4,7 +4,6 @@ use Rattle.event_log.specs.Distinct.{has}
 use Rattle.word_rule.specs.declared.place.Place.TheVariants.{Idle, Waiting, Holding}
 use Rattle.word_rule.specs.Cell.{Lawful}
 use Rattle.word_rule.specs.Callers.{IsWithout, caller_of}
-use Rattle.word_rule.proofs.Meetings.{joining, splitting}
 use Rattle.word_rule.proofs.Known.{AllIdle}
 use Rattle.word_rule.proofs.Acting.{last_taken, all_together, holds_now, takes_now, sees_without}
 use Rattle.mcs_lock.proofs.McsActing.{look_now, below_without}
@@ -12,17 +11,17 @@ use Rattle.mcs_lock.proofs.cell.McsCell.last_look.Goals as goal
 
 pub join_seat-requires : goal.join_seat-requires
 join_seat-requires g c = let s = c.args.self.now in let words = s.sized.0 in
-    (search rules, search rules, search rules, omega arith, joining g.O.SeqObject _ s.table.shared.key _ _ _ _ c.args.waiting.waits.at.alone c.args.pass.idle.at.alone)
+    (g.met.O.SeqObject.event_fits, (search rules, search rules, search rules, omega arith, c.args.waiting.waits.at.alone, c.args.pass.idle.at.alone))
 
 pub load-found-requires : goal.load-found-requires
-load-found-requires g c = let s = c.args.self.now in let a = c.args.waiting in let key = s.table.shared.key in let words = s.sized.0 in let e = c.join_seat.ensures.2 in
+load-found-requires g c = let s = c.args.self.now in let a = c.args.waiting in let key = s.table.table.shared.key in let words = s.sized.0 in let e = c.join_seat.ensures.2 in
     let w = subst (λ k. IsWithout g.O.SeqObject k a.cpu Waiting a.seat.me) c.requires.waiting.told a.waits in
-    let below = below_without g.O.SeqObject key s.cpus a.cpu Waiting a.seat.me s.sized.2 w in (
+    let below = below_without g.O.SeqObject key s.cpus a.cpu Waiting a.seat.me s.sized.2 w in (g.met.O.SeqObject.event_fits, (
       search rules,
       omega arith,
       look_now g.O.SeqObject key _ _ a.cpu s.cpus c.join_seat.new.seat.me s.sized.2 (subst (λ z. has z.0.main.cpu z.0.main.owned ≡ true) (sym e) a.waits.part.caller.acts) (ap (λ z. z.0.main.cpu) e ∙ a.waits.at.number)
           (ap (λ z. z.0.main.place) e ∙ a.waits.at.stands) (subst (λ z. AllIdle z.0.others) (sym e) (c.args.pass.idle.at.stands, tt)),
-    )
+    ))
 
 pub prove-unreachable-requires : goal.prove-unreachable-requires
 prove-unreachable-requires g c = let a = c.args.waiting in let p = c.args.pass in let e = c.join_seat.ensures.2 in
@@ -32,11 +31,11 @@ prove-unreachable-requires g c = let a = c.args.waiting in let p = c.args.pass i
 
 pub exchange-requires : goal.exchange-requires
 exchange-requires g c = let t = c.load-found.ensures.2.hit c.if-prove.false in
-    (c.load-found.ensures.0 ∙ (c.join_seat.ensures.0 ∙ c.requires.waiting.table), (Some t.object, ap (λ z. z.1) t.seat ∙ ap (λ z. (0, Some t.object) ∷ rest z.1) (sym t.seat)))
+    (g.met.O.SeqObject.event_fits, (c.load-found.ensures.0 ∙ (c.join_seat.ensures.0 ∙ c.requires.waiting.table), (Some t.object, ap (λ z. z.1) t.seat ∙ ap (λ z. (0, Some t.object) ∷ rest z.1) (sym t.seat))))
 
 pub split_seat-theirs-requires : goal.split_seat-theirs-requires
 split_seat-theirs-requires g c = let s = c.args.self.now in let words = s.sized.0 in
-    (search rules, omega arith, splitting g.O.SeqObject _ s.table.shared.key _ _)
+    (g.met.O.SeqObject.event_fits, (search rules, omega arith))
 
 pub invariant_of-result : goal.invariant_of-result
 invariant_of-result g c = let a = c.args.waiting in let p = c.args.pass in let e = c.join_seat.ensures.2 in let y = c.unwrap-logged.result in let s = c.split_seat-theirs in let same = c.requires.pass.told ∙ sym c.requires.waiting.told in

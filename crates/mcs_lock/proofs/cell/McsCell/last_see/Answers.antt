@@ -2,7 +2,6 @@ use Rattle.std.proofs.Common.{rules, ◌≡◌, ℕ, ◌-◌, ◌<◌, true, [],
 use Rattle.event_log.specs.Distinct.{has}
 use Rattle.word_rule.specs.declared.place.Place.TheVariants.{Leaving, Waiting, Passing}
 use Rattle.word_rule.specs.Callers.{IsWith, IsWithout, held_of, standing_without}
-use Rattle.word_rule.proofs.Meetings.{joining, splitting}
 use Rattle.word_rule.proofs.Acting.{all_together}
 use Rattle.mcs_lock.specs.Steps.{SawLawful}
 use Rattle.mcs_lock.proofs.McsActing.{find_now, below_with, named, not_else, else_below, else_now, else_of, first_moved, second_same, goes_with, moves_with}
@@ -10,17 +9,17 @@ use Rattle.mcs_lock.proofs.cell.McsCell.last_see.Goals as goal
 
 pub join_seat-requires : goal.join_seat-requires
 join_seat-requires g c = let s = c.args.self.now in let words = s.sized.0 in
-    (search rules, search rules, search rules, omega arith, joining g.O.SeqObject _ s.table.shared.key _ _ _ _ c.args.leaving.leaves.at.alone c.args.waiting.waits.at.alone)
+    (g.met.O.SeqObject.event_fits, (search rules, search rules, search rules, omega arith, c.args.leaving.leaves.at.alone, c.args.waiting.waits.at.alone))
 
 pub load-found-requires : goal.load-found-requires
-load-found-requires g c = let s = c.args.self.now in let a = c.args.leaving in let key = s.table.shared.key in let words = s.sized.0 in let e = c.join_seat.ensures.2 in
+load-found-requires g c = let s = c.args.self.now in let a = c.args.leaving in let key = s.table.table.shared.key in let words = s.sized.0 in let e = c.join_seat.ensures.2 in
     let w = subst (λ k. IsWith g.O.SeqObject k a.cpu Leaving a.logged a.seat.me) c.requires.leaving.told a.leaves in
-    let below = below_with g.O.SeqObject key s.cpus a.cpu Leaving a.logged a.seat.me s.sized.2 w in (
+    let below = below_with g.O.SeqObject key s.cpus a.cpu Leaving a.logged a.seat.me s.sized.2 w in (g.met.O.SeqObject.event_fits, (
       search rules,
       omega arith,
       find_now g.O.SeqObject key _ _ a.cpu c.join_seat.new.seat.me c.args.waiting.seat.me.0.main (subst (λ z. has z.0.main.cpu z.0.main.owned ≡ true) (sym e) a.leaves.held.caller.acts) (ap (λ z. z.0.main.cpu) e ∙ a.leaves.at.number)
           (ap (λ z. z.0.main.place) e ∙ a.leaves.at.stands) (ap (λ z. z.0.others) e) c.args.waiting.waits.at.stands,
-    )
+    ))
 
 pub prove-unreachable-requires : goal.prove-unreachable-requires
 prove-unreachable-requires g c = let a = c.args.leaving in let w = c.args.waiting in let e = c.join_seat.ensures.2 in
@@ -31,12 +30,12 @@ prove-unreachable-requires g c = let a = c.args.leaving in let w = c.args.waitin
 pub overflow_cast-follower : goal.overflow_cast-follower
 overflow_cast-follower g c = let s = c.args.self.now in let a = c.args.leaving in let few = s.few in let t = c.load-found.ensures.2.found c.if-prove.false in let word = t.word in
     let told = ap (λ z. z.0.told) c.join_seat.ensures.2 ∙ (a.leaves.at.told ∙ ap (λ k. k ∷ []) c.requires.leaving.told) in
-    let below = else_below s.table.shared.key s.cpus t.cpu c.join_seat.new.seat.me s.sized.2 told t.other in
+    let below = else_below s.table.table.shared.key s.cpus t.cpu c.join_seat.new.seat.me s.sized.2 told t.other in
     let small : c.load-found.result - 1 < 256 = omega arith in record { fits = small }
 
 pub split_seat-theirs-requires : goal.split_seat-theirs-requires
 split_seat-theirs-requires g c = let s = c.args.self.now in let words = s.sized.0 in
-    (search rules, omega arith, splitting g.O.SeqObject _ s.table.shared.key _ _)
+    (g.met.O.SeqObject.event_fits, (search rules, omega arith))
 
 pub invariant_of-result : goal.invariant_of-result
 invariant_of-result g c = let a = c.args.leaving in let w = c.args.waiting in let e = c.join_seat.ensures.2 in let s = c.split_seat-theirs in let told = c.load-found.ensures.2 in let some_one = c.if-prove.false in let k : ℕ = c.load-found.result - 1 in

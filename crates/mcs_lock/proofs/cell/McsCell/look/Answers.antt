@@ -8,14 +8,14 @@ use Rattle.mcs_lock.proofs.McsActing.{look_now, below_without}
 use Rattle.mcs_lock.proofs.cell.McsCell.look.Goals as goal
 
 pub load-found-requires : goal.load-found-requires
-load-found-requires g c = let s = c.args.self.now in let a = c.args.waiting in let key = s.table.shared.key in let words = s.sized.0 in
+load-found-requires g c = let s = c.args.self.now in let a = c.args.waiting in let key = s.table.table.shared.key in let words = s.sized.0 in
     let w = subst (λ k. IsWithout g.O.SeqObject k a.cpu Waiting a.seat.me) c.requires.told a.waits in
     let below = below_without g.O.SeqObject key s.cpus a.cpu Waiting a.seat.me s.sized.2 w in
-    (c.requires.table, omega arith, look_now g.O.SeqObject key _ _ a.cpu s.cpus a.seat.me s.sized.2 w.part.caller.acts w.at.number w.at.stands (idle_alone a.seat.me.0.others w.at.alone))
+    (g.met.O.SeqObject.event_fits, (c.requires.table, omega arith, look_now g.O.SeqObject key _ _ a.cpu s.cpus a.seat.me s.sized.2 w.part.caller.acts w.at.number w.at.stands (idle_alone a.seat.me.0.others w.at.alone)))
 
 pub exchange-requires : goal.exchange-requires
 exchange-requires g c = let t = c.load-found.ensures.2.hit c.if-found-eq0.true in
-    (search rules, (Some t.object, ap (λ m. m.1) t.seat ∙ ap (λ m. (0, Some t.object) ∷ rest m.1) (sym t.seat)))
+    (g.met.O.SeqObject.event_fits, (search rules, (Some t.object, ap (λ m. m.1) t.seat ∙ ap (λ m. (0, Some t.object) ∷ rest m.1) (sym t.seat))))
 
 pub invariant_of-result : goal.invariant_of-result
 invariant_of-result g c = let a = c.args.waiting in let t = c.load-found.ensures.2.hit c.if-found-eq0.true in let e = c.exchange.ensures in

@@ -1,12 +1,12 @@
-use Rattle.std.proofs.Common.{rules, ℕ, ◌+◌, ◌*◌, List, [], ◌∷◌, ◌++◌, arith, sym, ap, subst, ◌∙◌, Option, Some}
+use Rattle.std.proofs.Common.{rules, ℕ, ◌+◌, ◌*◌, List, length, [], ◌∷◌, ◌++◌, arith, sym, ap, subst, ◌∙◌, Option, Some}
 use Rattle.atomic_table.specs.Table.{opening}
 use Rattle.event_log.specs.History.{History}
 use Rattle.word_rule.specs.Cell.{Cell, Lawful, opening_part}
-use Rattle.word_rule.specs.Board.{Ruled}
+use Rattle.word_rule.specs.declared.lock_kind.LockKind.TheVariants.{Mcs}
+use Rattle.word_rule.specs.Definition.{Defined, Shows}
 use Rattle.word_rule.specs.Seats.{first_view}
-use Rattle.word_rule.specs.Queues.{Queued}
 use Rattle.word_rule.proofs.Ends.{opens, opens_lawful}
-use Rattle.word_rule.proofs.QueueLines.{queue_starts}
+use Rattle.word_rule.proofs.Definitions.{starts_mcs}
 use Rattle.mcs_lock.proofs.Zeros.{zeros, all_zero, zero_count}
 use Rattle.mcs_lock.proofs.cell.McsCell.new.Goals as goal
 
@@ -16,8 +16,14 @@ new-requires g c = let n = c.args.cpus in let few = c.requires.few in let ws : L
     let k = c.of-key.ensures.value in
     let M = Option (History g.row.O.Denot g.row.O-Params.Denot g.row.O-Call.Denot g.row.O-Reply.Denot) in
     let K = Cell g.row.O.Denot g.row.O-Params.Denot g.row.O-Call.Denot g.row.O-Reply.Denot in
-    subst (λ (z : K × List M). Ruled g.O.SeqObject Queued z.0 (opening ws z.1 (first_view z.0))) (λ i. (sym k i, sym e i))
-    (opens g.O.SeqObject Queued ws c.args.logged n c.of-key.ensures.kept (queue_starts n ws (zero_count (1 + 2 * n) 17 (omega arith)) (all_zero (1 + 2 * n) 17)))
+    (
+      g.met.O.SeqObject.event_fits,
+      (
+        subst (λ (z : K × List M). Shows g.O.SeqObject Mcs z.0 (opening ws z.1 (first_view z.0))) (λ i. (sym k i, sym e i))
+            (opens g.O.SeqObject (Defined Mcs) ws c.args.logged n c.of-key.ensures.kept (starts_mcs n ws (zero_count (1 + 2 * n) 17 (omega arith)) (all_zero (1 + 2 * n) 17))),
+        ap length e,
+      ),
+    )
 
 pub deal-passes-requires : goal.deal-passes-requires
 deal-passes-requires g c = let o = c.in-Ok-new.ensures.ok in let k = c.of-key.ensures.value in (

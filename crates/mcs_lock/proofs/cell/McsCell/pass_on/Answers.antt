@@ -6,10 +6,10 @@ use Rattle.mcs_lock.proofs.McsActing.{pass_now, else_below}
 use Rattle.mcs_lock.proofs.cell.McsCell.pass_on.Goals as goal
 
 pub store-requires : goal.store-requires
-store-requires g c = let s = c.args.self.now in let a = c.args.passing in let key = s.table.shared.key in let words = s.sized.0 in
+store-requires g c = let s = c.args.self.now in let a = c.args.passing in let key = s.table.table.shared.key in let words = s.sized.0 in
     let w = subst (λ k. IsWith g.O.SeqObject k a.cpu (Passing a.follower) a.logged a.seat.me) c.requires.told a.passes in
     let below = else_below key s.cpus a.follower a.seat.me s.sized.2 w.at.told a.other in
-    (search rules, omega arith, pass_now g.O.SeqObject key _ _ a.cpu s.cpus a.follower a.logged a.seat.me c.exchange-empty.new.seat.me s.sized.2 w s.sized.1 c.exchange-empty.ensures.3)
+    (g.met.O.SeqObject.event_fits, (search rules, omega arith, pass_now g.O.SeqObject key _ _ a.cpu s.cpus a.follower a.logged a.seat.me c.exchange-empty.new.seat.me s.sized.2 w s.table.sized c.exchange-empty.ensures.3))
 
 pub invariant_of-result : goal.invariant_of-result
 invariant_of-result g c = let a = c.args.passing in
