@@ -11,6 +11,7 @@ use Rattle.event_log.specs.declared.event.Event.{Event}
 use Rattle.event_log.specs.Distinct.{has}
 use Rattle.event_log.specs.History.{History, IsKept}
 use Rattle.event_log.proofs.Beginnings.{begins_self}
+use Rattle.word_rule.specs.declared.lock_kind.LockKind.{LockKind}
 use Rattle.word_rule.specs.declared.place.Place.TheVariants.{Idle}
 use Rattle.word_rule.specs.Cell.{Cell, cell_of, Lawful, OwnsAll, IsPart, stored}
 use Rattle.word_rule.specs.Line.{Line, Ties, empty_line}
@@ -56,8 +57,8 @@ module _ {O P C R : Type 0} (h : Cell O P C R) where
 
 module _ {O P C R : Type 0} (meaning : Ghosts O P C R) where
   -- the opening log is lawful for the cell
-  pub opens_lawful : (x : History O P C R) (n : ℕ) → IsKept meaning x → Lawful meaning (cell_of n x) x.log
-  opens_lawful x n kept = record {
+  pub opens_lawful : (k : LockKind) (x : History O P C R) (n : ℕ) → IsKept meaning x → Lawful meaning (cell_of k n x) x.log
+  opens_lawful k x n kept = record {
     begins = begins_self x.log;
     legal = kept.legal;
     within = kept.within;
@@ -65,17 +66,17 @@ module _ {O P C R : Type 0} (meaning : Ghosts O P C R) where
   }
 
   -- and what it is made of is what it stores
-  pub opens_stored : (x : History O P C R) (n : ℕ) → IsKept meaning x → x ≡ stored meaning (cell_of n x) x.log
-  opens_stored x n kept i = record { params = x.params; limit = x.limit; log = x.log; state = kept.replayed i }
+  pub opens_stored : (k : LockKind) (x : History O P C R) (n : ℕ) → IsKept meaning x → x ≡ stored meaning (cell_of k n x) x.log
+  opens_stored k x n kept i = record { params = x.params; limit = x.limit; log = x.log; state = kept.replayed i }
 
 module _ {O P C R : Type 0} (meaning : Ghosts O P C R) (Tied : ℕ → List ℕ → Line → Type 0) where
-  pub opens : (ws : List ℕ) (x : History O P C R) (n : ℕ) → IsKept meaning x → Tied n ws empty_line → Ruled meaning Tied (cell_of n x) (opening ws (Some x ∷ []) (first_view (cell_of n x)))
-  opens ws x n kept tied = record {
-    board = start (cell_of n x);
+  pub opens : (k : LockKind) (ws : List ℕ) (x : History O P C R) (n : ℕ) → IsKept meaning x → Tied n ws empty_line → Ruled meaning Tied (cell_of k n x) (opening ws (Some x ∷ []) (first_view (cell_of k n x)))
+  opens k ws x n kept tied = record {
+    board = start (cell_of k n x);
     tied = tied;
-    lawful = opens_lawful meaning x n kept;
-    at_home = λ _. ap (λ z. some (some (Some z))) (opens_stored meaning x n kept);
-    each = one (cell_of n x);
+    lawful = opens_lawful meaning k x n kept;
+    at_home = λ _. ap (λ z. some (some (Some z))) (opens_stored meaning k x n kept);
+    each = one (cell_of k n x);
   }
 
   -- where a pass has each number, the object is at home, and its log is what the pass has seen

@@ -1,13 +1,17 @@
--- What lies in a cell's slot may go to another thread.
+-- What lies in a cell's slot, and a cell's passes, may go to another thread.
 use denote.RattleType.{RattleType}
-use denote.Param.Send.{IsSend, recorded_send, enum_send}
+use denote.Param.Send.{IsSend, sendable, recorded_send, enum_send, struct_send}
 use denote.Enum.Declared.{shape}
+use denote.Struct.Declared.{shape as fields}
+use Rattle.std.proofs.Crossing.{crosses}
 use Rattle.std.specs.contracts.option.Option as Option
 use Rattle.std.specs.declared.cmp.PartialEq.{Ghosts as Compares}
 use Rattle.std.specs.declared.default.Default.{Ghosts as Defaults}
 use Rattle.event_log.specs.declared.object.SeqObject.{Ghosts}
 use Rattle.event_log.specs.contracts.logged.Logged as Logged
 use Rattle.event_log.proofs.logged.Logged.TheSendSync.{the_send as logged_send}
+use Rattle.atomic_table.proofs.shared.Seat.TheSendSync.{the_send as seat}
+use Rattle.word_rule.specs.contracts.pass.Pass as Pass
 
 -- an object with its log, or none, goes where the object, its parameters, calls and replies go
 pub slot_send : (O P C R : RattleType) (g : Ghosts O.Denot P.Denot C.Denot R.Denot) (ce : Compares C.Denot) (cd : Defaults C.Denot) (re : Compares R.Denot) (rd : Defaults R.Denot) → IsSend O → IsSend P → IsSend C → IsSend R →
@@ -15,3 +19,10 @@ pub slot_send : (O P C R : RattleType) (g : Ghosts O.Denot P.Denot C.Denot R.Den
 slot_send O P C R g ce cd re rd o p c r =
     let t = Option.the_type (Logged.the_row O P C R g ce cd re rd) in
     recorded_send _ _ _ t.to_one (enum_send (shape t) (tt, ((logged_send O P C R g ce cd re rd o p c r, tt), tt)))
+
+-- and so does a pass
+pub pass_send : (O P C R : RattleType) (g : Ghosts O.Denot P.Denot C.Denot R.Denot) (ce : Compares C.Denot) (cd : Defaults C.Denot) (re : Compares R.Denot) (rd : Defaults R.Denot) → IsSend O → IsSend P → IsSend C → IsSend R →
+    IsSend (Pass.the_row O P C R g ce cd re rd)
+pass_send O P C R g ce cd re rd o p c r =
+    let t = Pass.the_type O P C R g ce cd re rd in
+    recorded_send _ _ _ t.to_one (struct_send (fields t) (search sendable, (search crosses, (seat _ _ (slot_send O P C R g ce cd re rd o p c r), tt))))

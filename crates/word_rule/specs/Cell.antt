@@ -5,9 +5,11 @@ use Rattle.event_log.specs.declared.object.SeqObject.{Ghosts}
 use Rattle.event_log.specs.declared.event.Event.{Event}
 use Rattle.event_log.specs.Log.{Begins, Legal, replay, of}
 use Rattle.event_log.specs.History.{History}
+use Rattle.word_rule.specs.declared.lock_kind.LockKind.{LockKind}
 
 -- what was fixed when a cell was opened; its CPUs are the numbers below `numbers`
 pub record Cell (O P C R : Type 0) : Type 0 where
+  pub kind : LockKind
   pub params : P
   pub limit : ℕ
   pub numbers : ℕ
@@ -34,17 +36,17 @@ abbrev pub EachAt : {A : Type 0} → (ℕ → A → Type 0) → List A → Type 
 EachAt {A} P xs = (k : ℕ) (x : A) → slice_get xs k ≡ Some x → P k x
 
 module _ {O P C R : Type 0} where
-  -- the cell that is made of this history for n CPUs
-  abbrev pub cell_of : ℕ → History O P C R → Cell O P C R
-  cell_of n h = record { params = h.params; limit = h.limit; numbers = n; opening = h.log }
+  -- the cell behind such a lock that is made of this history for n CPUs
+  abbrev pub cell_of : LockKind → ℕ → History O P C R → Cell O P C R
+  cell_of k n h = record { kind = k; params = h.params; limit = h.limit; numbers = n; opening = h.log }
 
   -- the part of pass k of a cell that was just opened
   abbrev pub opening_part : Cell O P C R → ℕ → Part O P C R
   opening_part h k = record { caller = record { cell = h; owned = (λ j. j == k); acting = k }; seen = h.opening }
 
-  -- the part of pass k of a cell that was made of this history for n CPUs
-  abbrev pub first_part : History O P C R → ℕ → ℕ → Part O P C R
-  first_part h n k = opening_part (cell_of n h) k
+  -- the part of pass i of a cell behind such a lock that was made of this history for n CPUs
+  abbrev pub first_part : LockKind → History O P C R → ℕ → ℕ → Part O P C R
+  first_part k h n i = opening_part (cell_of k n h) i
 
   -- log b begins with log a, and has the same events of the owned numbers
   pub record Grows (owned : ℕ → Bool) (a b : List (Event O P C R)) : Type 0 where

@@ -1,6 +1,8 @@
 -- The line of CPUs at a lock, whichever lock it is.
 use Rattle.std.specs.Prelude.{◌≡◌, ℕ, ◌<◌, Bool, true, false, ◌==◌, cond, List, [], ◌∷◌}
 use Rattle.event_log.specs.Distinct.{has}
+use Rattle.word_rule.specs.declared.lock_kind.LockKind.{LockKind}
+use Rattle.word_rule.specs.declared.lock_kind.LockKind.TheVariants as kinds
 use Rattle.word_rule.specs.declared.place.Place.{Place}
 use Rattle.word_rule.specs.declared.place.Place.TheVariants.{Idle, Drawn, Served, Ready, Behind, Armed, Waiting, Holding, Alone, Leaving, Passing, Torn}
 
@@ -41,6 +43,13 @@ holding Alone = true
 holding Leaving = true
 holding (Passing j) = true
 holding Torn = true
+
+-- whether one that stands there can lend the object to its caller, at such a lock
+abbrev pub lends : LockKind → Place → Bool
+lends kinds.Ticket (Served t) = true
+lends kinds.Ticket q = false
+lends kinds.Mcs Holding = true
+lends kinds.Mcs q = false
 
 -- what every lock promises of the rule that ties its words to its line, for n CPUs
 pub record Ties (Tied : ℕ → List ℕ → Line → Type 0) : Type 0 where

@@ -4,14 +4,16 @@ ghost use Rattle.std.specs.Prelude.{◌≡◌};
 ghost use Rattle.event_log.specs.History.{IsKept};
 ghost use Rattle.word_rule.specs.Cell.{cell_of};
 
+use crate::LockKind;
 use event_log::{Logged, SeqObject};
 use std::marker::Model;
 use std::snapshot::Snapshot;
 
-/// The constants of a cell, for contracts: what the object was opened with, its limit, its opening log and the number of
-/// CPUs. It carries no log of its own.
+/// The constants of a cell, for contracts: which lock it has, what the object was opened with, its limit, its opening log
+/// and the number of CPUs. It carries no log of its own.
 #[derive(Drop)]
 pub struct Key<O: SeqObject> {
+    kind: LockKind,
     cpus: u8,
     opened: Snapshot<Logged<O>>,
 }
@@ -21,17 +23,18 @@ impl<O: SeqObject> Model for Key<O> {
 
     ghost Value = { Cell O O.Params O.Call O.Reply };
 
-    ghost view = { λ k. cell_of k.cpus k.opened.value };
+    ghost view = { λ k. cell_of k.kind k.cpus k.opened.value };
 }
 
 impl<O: SeqObject> Key<O> {
-    /// The constants of a cell that is made of this object for so many CPUs.
-    pub fn of(cpus: u8, logged: &Logged<O>) -> Key<O>
-        ensures value { result ≡ cell_of cpus logged.now }
+    /// The constants of a cell behind such a lock that is made of this object for so many CPUs.
+    pub fn of(kind: LockKind, cpus: u8, logged: &Logged<O>) -> Key<O>
+        ensures value { result ≡ cell_of kind cpus logged.now }
         ensures kept { IsKept O.SeqObject logged.now }
     {
         let _ = logged.log();
         Key {
+            kind,
             cpus,
             opened: Snapshot::of(logged),
         }

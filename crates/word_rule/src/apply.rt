@@ -1,0 +1,26 @@
+//! Calls of a caller that has the object, whichever lock its cell has.
+
+ghost use Rattle.std.specs.Prelude.{◌≡◌, ◌≤◌, ◌<◌, ◌↔◌, length, IsErr, IfOk, OnErr};
+ghost use Rattle.event_log.specs.History.{with_event};
+ghost use Rattle.event_log.specs.Log.{answers, after, Fulfils};
+ghost use Rattle.word_rule.specs.Passes.{hold_held};
+
+use crate::Hold;
+use event_log::{NoRoom, SeqObject, Steps};
+
+impl<O: SeqObject> Hold<O> {
+    /// Does 1 to 8 calls as one event of the acting CPU, up to and with the first that is refused. It takes no memory.
+    pub fn apply(&mut self, calls: &[O::Call]) -> Result<Steps<O>, NoRoom>
+        requires some { 0 < length calls.now }
+        requires few { length calls.now ≤ 8 }
+        ensures table { (self.new.seat.table_id ≡ self.old.seat.table_id) × (self.new.key.value ≡ self.old.key.value) }
+        ensures caller { (hold_held self.new).caller ≡ (hold_held self.old).caller }
+        ensures room { IsErr result ↔ (length (hold_held self.old).history.log ≡ (hold_held self.old).history.limit) }
+        ensures steps { IfOk result (λ s. s.list.items ≡ answers O.SeqObject (hold_held self.old).history.state calls.now) }
+        ensures asked { IfOk result (λ s. Fulfils O.SeqObject calls.now s.list.items) }
+        ensures after { IfOk result (λ s. (hold_held self.new).history ≡ with_event (hold_held self.old).history (record { cpu = (hold_held self.old).caller.acting; steps = s }) (after O.SeqObject (hold_held self.old).history.state s.list.items)) }
+        ensures full { OnErr result (hold_held self.new ≡ hold_held self.old) }
+    {
+        self.logged.apply(self.cpu, calls)
+    }
+}

@@ -1,0 +1,23 @@
+//! A caller of a cell that has the object, whichever lock the cell has.
+
+ghost use Rattle.std.specs.Prelude.{◌≡◌, true};
+ghost use Rattle.event_log.proofs.Props.{legal_props};
+ghost use Rattle.word_rule.specs.Callers.{IsWith};
+ghost use Rattle.word_rule.specs.Line.{lends};
+
+use crate::{Key, Lent, Place, Seat};
+use event_log::{Logged, SeqObject};
+use std::snapshot::Snapshot;
+
+/// A caller with the object. It can't be dropped: it ends where its lock takes the object back. Its fields are for the
+/// crates of the locks.
+pub struct Hold<O: SeqObject> {
+    pub cpu: u8,
+    pub place: Place,
+    pub logged: Logged<O>,
+    pub lent: Lent,
+    pub key: Snapshot<Key<O>>,
+    pub seat: Seat<O>,
+    pub ghost holds: { IsWith O.SeqObject key.value cpu place logged seat.me } by { Prim.hlevel legal_props },
+    pub ghost there: { lends key.value.kind place ≡ true },
+}

@@ -1,0 +1,34 @@
+//! The object of a cell, out of its slot and back.
+
+ghost use Rattle.std.specs.Prelude.{◌≡◌, ◌∷◌, Option, Some, None};
+ghost use Rattle.atomic_table.specs.Table.{rest};
+ghost use Rattle.event_log.specs.History.{History};
+
+use crate::{LockTable, Seat};
+use event_log::{Logged, SeqObject};
+
+/// Stands for an object that is out of its cell. It can't be dropped: it ends where the object is put back.
+pub struct Lent {
+    out: (),
+}
+
+impl<O: SeqObject> LockTable<O> {
+    /// Takes the object out of the slot, which has come to the seat.
+    pub fn take(&self, seat: &mut Seat<O>) -> (Logged<O>, Lent)
+        requires { (seat.old.table_id ≡ self.now.table.shared.table_id) × ((x : History O O.Params O.Call O.Reply) × (seat.old.me.1 ≡ (0, Some x) ∷ rest seat.old.me.1)) }
+        ensures { (seat.new.table_id ≡ seat.old.table_id) × (seat.new.id ≡ seat.old.id) × (seat.old.me.1 ≡ (0, Some result.0) ∷ rest seat.old.me.1) × (seat.new.me ≡ (seat.old.me.0, (0, None) ∷ rest seat.old.me.1)) }
+    {
+        let logged = self.table.shared.exchange(seat, 0, None).unwrap();
+        (logged, Lent { out: () })
+    }
+
+    /// Puts the object back into the slot, which is still with the seat.
+    pub fn put_back(&self, seat: &mut Seat<O>, logged: Logged<O>, lent: Lent)
+        requires { (seat.old.table_id ≡ self.now.table.shared.table_id) × (seat.old.me.1 ≡ (0, None) ∷ rest seat.old.me.1) }
+        ensures { (seat.new.table_id ≡ seat.old.table_id) × (seat.new.id ≡ seat.old.id) × (seat.new.me ≡ (seat.old.me.0, (0, Some logged) ∷ rest seat.old.me.1)) }
+    {
+        let Lent { out: _ } = lent;
+        let empty = self.table.shared.exchange(seat, 0, Some(logged));
+        let None = empty else { unreachable!() };
+    }
+}

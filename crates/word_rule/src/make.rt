@@ -1,0 +1,96 @@
+//! The opening of a cell and its end, whichever lock it has.
+
+ghost use Rattle.std.specs.Prelude.{◌≡◌, ◌<◌, ◌≤◌, [], length, IfOk, IfErr, vec_len, vec_capacity};
+ghost use Rattle.word_rule.specs.Cell.{Lawful, EachAt, OwnsAll, cell_of, opening_part, first_part, stored};
+ghost use Rattle.word_rule.specs.Definition.{Defined};
+ghost use Rattle.word_rule.specs.Line.{empty_line};
+ghost use Rattle.word_rule.specs.Passes.{IsPassAt, pass_part};
+ghost use Rattle.word_rule.specs.Seats.{first_view};
+
+use crate::{Key, LockKind, LockTable, Pass, Seat};
+use atomic_table::{Refused, Table};
+use event_log::{Logged, OutOfMemory, SeqObject};
+use std::alloc::Global;
+use std::snapshot::Snapshot;
+
+impl<O: SeqObject> LockTable<O> {
+    /// The table of a new cell, whose words are those of its lock before the first step, and a pass for each CPU, in
+    /// order: pass k owns the CPU k and has seen the log of the given object. Where there is no memory the object comes
+    /// back as it was.
+    pub fn open(
+        alloc: Global,
+        kind: LockKind,
+        words: &[u64],
+        logged: Logged<O>,
+        cpus: u8,
+    ) -> Result<(LockTable<O>, Vec<Pass<O>>), (OutOfMemory, Logged<O>)>
+        requires some { 0 < length words.now }
+        requires defined { Defined kind cpus words.now empty_line }
+        ensures key { IfOk result (λ r. r.0.table.shared.key ≡ cell_of kind cpus logged) }
+        ensures words { IfOk result (λ r. r.0.table.shared.table_id.words ≡ length words.now) }
+        ensures count { IfOk result (λ r. vec_len r.1 ≡ cpus) }
+        ensures passes { IfOk result (λ r. EachAt (λ k p. IsPassAt r.0 p × (pass_part p ≡ first_part kind logged cpus k)) r.1.items) }
+        ensures unchanged { IfErr result (λ e. e.1 ≡ logged) }
+    {
+        let Ok(passes) = Vec::with_capacity(alloc, cpus as usize) else {
+            return Err((OutOfMemory, logged));
+        };
+        let Ok(mut slots) = Vec::with_capacity(alloc, 1) else {
+            return Err((OutOfMemory, logged));
+        };
+        let key = Key::of(kind, cpus, &logged);
+        slots.push_reserved(Some(logged));
+        match Table::new(alloc, words, slots, &key) {
+            Ok((table, seat)) => {
+                let table = LockTable { table };
+                let passes = table.deal(seat, &key, cpus, passes);
+                Ok((table, passes))
+            }
+            Err(Refused { mut slots }) => {
+                let slot = slots.pop().unwrap();
+                slots.destroy_empty();
+                Err((OutOfMemory, slot.unwrap()))
+            }
+        }
+    }
+
+    // The first seat has a caller for each CPU. Each goes to a seat of its own.
+    fn deal(
+        &self,
+        mut seat: Seat<O>,
+        key: &Key<O>,
+        cpus: u8,
+        mut passes: Vec<Pass<O>>,
+    ) -> Vec<Pass<O>>
+        requires cell { key.now ≡ self.now.table.shared.key }
+        requires some { 0 < self.now.table.shared.table_id.words }
+        requires seat { (seat.table_id ≡ self.now.table.shared.table_id) × (seat.me ≡ (first_view key.now, [])) × (key.now.numbers ≡ cpus) }
+        requires room { (passes.items ≡ []) × (cpus ≤ vec_capacity passes) }
+        requires lawful { Lawful O.SeqObject key.now key.now.opening }
+        ensures passes { EachAt (λ k p. IsPassAt self.now p × (pass_part p ≡ opening_part key.now k)) result.items }
+        ensures count { vec_len result ≡ cpus }
+    {
+        for cpu in 0..cpus {
+            let theirs = self.split_seat(&mut seat);
+            passes.push_reserved(Pass {
+                cpu,
+                key: Snapshot::of(key),
+                seat: theirs,
+            });
+        }
+        passes
+    }
+
+    /// A pass that owns every number ends the cell: the object is at home, and its log is what the pass has seen.
+    pub fn close(self, pass: Pass<O>) -> Logged<O>
+        requires pass { IsPassAt self pass }
+        requires whole { OwnsAll (pass_part pass).caller }
+        ensures { result ≡ stored O.SeqObject (pass_part pass).caller.cell (pass_part pass).seen }
+    {
+        let LockTable { table } = self;
+        let mut closed = table.close_with(pass.seat);
+        let slot = closed.take(0);
+        closed.free();
+        slot.unwrap()
+    }
+}
