@@ -1,2 +1,1 @@
 pub mod TicketRule
-pub mod Sends

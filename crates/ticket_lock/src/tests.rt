@@ -2,7 +2,8 @@
 
 ghost use Rattle.std.specs.Prelude.{◌≡◌, IfOk};
 ghost use Rattle.word_rule.specs.Cell.{OwnsAll, OwnTogether};
-ghost use Rattle.ticket_lock.specs.Passes.{IsPassOf, IsHoldOf, pass_part, hold_held};
+ghost use Rattle.ticket_lock.specs.Passes.{IsPassOf, IsHoldOf};
+ghost use Rattle.word_rule.specs.Passes.{pass_part, hold_held};
 
 use crate::{Hold, Pass, TicketCell};
 use event_log::{Event, Logged, NoRoom, Steps};

@@ -2,7 +2,8 @@ use Rattle.std.proofs.Common.{refl, subst, ◌∙◌}
 use Rattle.word_rule.specs.Cell.{Grows}
 use Rattle.word_rule.proofs.Lists.{grows_then}
 use Rattle.word_rule.proofs.Acting.{takes_log}
-use Rattle.ticket_lock.specs.Passes.{pass_part, drawn_part, drawn_standing, hold_standing}
+use Rattle.ticket_lock.specs.Passes.{drawn_part, drawn_standing}
+use Rattle.word_rule.specs.Passes.{pass_part, hold_standing}
 use Rattle.ticket_lock.proofs.cell.TicketCell.wait.Goals as goal
 
 pub returns-in-Ok-clause-grows : goal.returns-in-Ok-clause-grows

@@ -1,6 +1,7 @@
 use Rattle.std.proofs.Common.{◌≡◌}
 use Rattle.word_rule.specs.Cell.{Grows}
-use Rattle.ticket_lock.specs.Passes.{IsDrawnOf, pass_part, drawn_part}
+use Rattle.ticket_lock.specs.Passes.{IsDrawnOf, drawn_part}
+use Rattle.word_rule.specs.Passes.{pass_part}
 use Rattle.ticket_lock.proofs.cell.TicketCell.wait.Given as goal
 
 abbrev pub invariant-loop : goal.invariant-loop
