@@ -1,4 +1,3 @@
 pub mod McsRule
 pub mod McsActing
 pub mod Zeros
-pub mod Sends

@@ -2,9 +2,10 @@
 use Rattle.std.specs.declared.cmp.PartialEq.{Ghosts as Eq}
 use Rattle.std.specs.declared.default.Default.{Ghosts as Default}
 use Rattle.event_log.specs.declared.object.SeqObject.{Ghosts}
-use Rattle.word_rule.specs.declared.place.Place.TheVariants.{Idle, Ready, Behind, Armed, Waiting, Holding, Alone, Leaving, Passing}
+use Rattle.word_rule.specs.declared.place.Place.TheVariants.{Ready, Behind, Armed, Waiting, Alone, Leaving, Passing}
 use Rattle.word_rule.specs.Cell.{Part, Held}
 use Rattle.word_rule.specs.Standing.{Standing}
+use Rattle.word_rule.specs.Passes.{IsPassAt, IsHoldAt}
 use Rattle.word_rule.specs.Callers.{IsAt, part_of, held_of, standing_without, standing_with}
 use Rattle.mcs_lock.specs.declared.cell.McsCell.{McsCell}
 use Rattle.word_rule.specs.declared.pass.Pass.{Pass}
@@ -12,7 +13,7 @@ use Rattle.mcs_lock.specs.declared.states.Ready.{Ready as ReadyCaller}
 use Rattle.mcs_lock.specs.declared.states.Behind.{Behind as BehindCaller}
 use Rattle.mcs_lock.specs.declared.states.Armed.{Armed as ArmedCaller}
 use Rattle.mcs_lock.specs.declared.states.Waiting.{Waiting as WaitingCaller}
-use Rattle.mcs_lock.specs.declared.states.Hold.{Hold}
+use Rattle.word_rule.specs.declared.hold.Hold.{Hold}
 use Rattle.mcs_lock.specs.declared.states.Alone.{Alone as AloneCaller}
 use Rattle.mcs_lock.specs.declared.states.Leaving.{Leaving as LeavingCaller}
 use Rattle.mcs_lock.specs.declared.states.Passing.{Passing as PassingCaller}
@@ -23,7 +24,7 @@ use Rattle.mcs_lock.specs.declared.states.Entered.TheVariants as entered
 module _ {O P C R : Type 0} {g : Ghosts O P C R} {call_eq : Eq C} {call_default : Default C} {reply_eq : Eq R} {reply_default : Default R} where
   -- a caller of the cell, wherever it stands
   abbrev pub IsPassOf : McsCell O P C R → Pass O P C R g call_eq call_default reply_eq reply_default → Type 0
-  IsPassOf c p = IsAt c.table.table.shared.table_id c.table.table.shared.key p.seat.table_id p.key.value
+  IsPassOf c p = IsPassAt c.table p
 
   abbrev pub IsReadyOf : McsCell O P C R → ReadyCaller O P C R g call_eq call_default reply_eq reply_default → Type 0
   IsReadyOf c r = IsAt c.table.table.shared.table_id c.table.table.shared.key r.seat.table_id r.key.value
@@ -38,7 +39,7 @@ module _ {O P C R : Type 0} {g : Ghosts O P C R} {call_eq : Eq C} {call_default 
   IsWaitingOf c w = IsAt c.table.table.shared.table_id c.table.table.shared.key w.seat.table_id w.key.value
 
   abbrev pub IsHoldOf : McsCell O P C R → Hold O P C R g call_eq call_default reply_eq reply_default → Type 0
-  IsHoldOf c h = IsAt c.table.table.shared.table_id c.table.table.shared.key h.seat.table_id h.key.value
+  IsHoldOf c h = IsHoldAt c.table h
 
   abbrev pub IsAloneOf : McsCell O P C R → AloneCaller O P C R g call_eq call_default reply_eq reply_default → Type 0
   IsAloneOf c a = IsAt c.table.table.shared.table_id c.table.table.shared.key a.seat.table_id a.key.value
@@ -50,17 +51,11 @@ module _ {O P C R : Type 0} {g : Ghosts O P C R} {call_eq : Eq C} {call_default 
   IsPassingOf c p = IsAt c.table.table.shared.table_id c.table.table.shared.key p.seat.table_id p.key.value
 
   -- what each knows: without the object, and with it
-  abbrev pub pass_part : Pass O P C R g call_eq call_default reply_eq reply_default → Part O P C R
-  pass_part p = part_of p.key.value p.seat.me.0
-
   abbrev pub behind_part : BehindCaller O P C R g call_eq call_default reply_eq reply_default → Part O P C R
   behind_part b = part_of b.key.value b.seat.me.0
 
   abbrev pub waiting_part : WaitingCaller O P C R g call_eq call_default reply_eq reply_default → Part O P C R
   waiting_part w = part_of w.key.value w.seat.me.0
-
-  abbrev pub hold_held : Hold O P C R g call_eq call_default reply_eq reply_default → Held O P C R
-  hold_held h = held_of h.key.value h.logged h.seat.me.0
 
   abbrev pub leaving_held : LeavingCaller O P C R g call_eq call_default reply_eq reply_default → Held O P C R
   leaving_held l = held_of l.key.value l.logged l.seat.me.0
@@ -69,9 +64,6 @@ module _ {O P C R : Type 0} {g : Ghosts O P C R} {call_eq : Eq C} {call_default 
   passing_held p = held_of p.key.value p.logged p.seat.me.0
 
   -- where each stands
-  abbrev pub pass_standing : Pass O P C R g call_eq call_default reply_eq reply_default → Standing O P C R
-  pass_standing p = standing_without p.key.value Idle p.seat.me
-
   abbrev pub ready_standing : ReadyCaller O P C R g call_eq call_default reply_eq reply_default → Standing O P C R
   ready_standing r = standing_without r.key.value Ready r.seat.me
 
@@ -83,9 +75,6 @@ module _ {O P C R : Type 0} {g : Ghosts O P C R} {call_eq : Eq C} {call_default 
 
   abbrev pub waiting_standing : WaitingCaller O P C R g call_eq call_default reply_eq reply_default → Standing O P C R
   waiting_standing w = standing_without w.key.value Waiting w.seat.me
-
-  abbrev pub hold_standing : Hold O P C R g call_eq call_default reply_eq reply_default → Standing O P C R
-  hold_standing h = standing_with h.key.value Holding h.logged h.seat.me
 
   abbrev pub alone_standing : AloneCaller O P C R g call_eq call_default reply_eq reply_default → Standing O P C R
   alone_standing a = standing_with a.key.value Alone a.logged a.seat.me

@@ -12,7 +12,6 @@
 mod cell;
 mod lock;
 mod make;
-mod meet;
 mod rule;
 mod states;
 mod steps;
@@ -21,5 +20,5 @@ mod tests;
 mod whole;
 
 pub use cell::McsCell;
-pub use states::{Alone, Armed, Behind, Entered, Hold, Leaving, Passing, Ready, Waiting};
-pub use word_rule::Pass;
+pub use states::{Alone, Armed, Behind, Entered, Leaving, Passing, Ready, Waiting};
+pub use word_rule::{Hold, Pass};

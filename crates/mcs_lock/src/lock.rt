@@ -1,12 +1,12 @@
 //! The MCS lock meets the interface of all locks.
 
-ghost use Rattle.mcs_lock.specs.Passes.{IsPassOf, IsHoldOf, pass_part, hold_held};
+ghost use Rattle.mcs_lock.specs.Passes.{IsPassOf, IsHoldOf};
+ghost use Rattle.word_rule.specs.Passes.{pass_part, hold_held};
 
 use crate::cell::McsCell;
-use crate::states::Hold;
 use event_log::{Logged, NoRoom, SeqObject, Steps};
 use std::sync::Wait;
-use word_rule::{LockCell, Pass};
+use word_rule::{Hold, LockCell, Pass};
 
 impl<O: SeqObject> LockCell<O> for McsCell<O> {
     type Pass = Pass<O>;
@@ -26,7 +26,7 @@ impl<O: SeqObject> LockCell<O> for McsCell<O> {
     }
 
     fn apply(hold: &mut Hold<O>, calls: &[O::Call]) -> Result<Steps<O>, NoRoom> {
-        hold.logged.apply(hold.cpu, calls)
+        hold.apply(calls)
     }
 
     fn logged(hold: &Hold<O>) -> &Logged<O> {
@@ -38,19 +38,19 @@ impl<O: SeqObject> LockCell<O> for McsCell<O> {
     }
 
     fn meet(&self, first: Pass<O>, second: Pass<O>) -> (Pass<O>, Pass<O>) {
-        self.meet_passes(first, second)
+        self.table.meet(first, second)
     }
 
     fn apart(&self, first: Hold<O>, second: Hold<O>) -> (Hold<O>, Hold<O>) {
-        self.clash(first, second)
+        self.table.apart(first, second)
     }
 
     fn join(&self, first: Pass<O>, second: Pass<O>) -> Pass<O> {
-        self.join_passes(first, second)
+        self.table.join(first, second)
     }
 
     fn close(self, pass: Pass<O>) -> Logged<O> {
-        self.end(pass)
+        self.table.close(pass)
     }
 
     ghost pass_is_part = { λ _ pass _. pass.idle.part };

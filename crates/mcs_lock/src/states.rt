@@ -1,13 +1,13 @@
 //! A caller of an MCS lock, by what it may do next.
 
 ghost use Rattle.event_log.proofs.Props.{legal_props};
-ghost use Rattle.word_rule.specs.declared.place.Place.TheVariants.{Ready, Behind, Armed, Waiting, Holding, Alone, Leaving, Passing};
+ghost use Rattle.word_rule.specs.declared.place.Place.TheVariants.{Ready, Behind, Armed, Waiting, Alone, Leaving, Passing};
 ghost use Rattle.word_rule.specs.Told.{IsElse};
 ghost use Rattle.word_rule.specs.Callers.{IsWithout, IsWith};
 
 use event_log::{Logged, SeqObject};
 use std::snapshot::Snapshot;
-use word_rule::{Key, Seat};
+use word_rule::{Hold, Key, Lent, Seat};
 
 /// A caller whose `next` is clear. It can't be dropped: it ends in `enter`.
 pub struct Ready<O: SeqObject> {
@@ -45,19 +45,11 @@ pub struct Waiting<O: SeqObject> {
     pub ghost waits: { IsWithout O.SeqObject key.value cpu Waiting seat.me } by { Prim.hlevel legal_props },
 }
 
-/// A caller with the object. It can't be dropped: it ends in `see`.
-pub struct Hold<O: SeqObject> {
-    pub(crate) cpu: u8,
-    pub(crate) logged: Logged<O>,
-    pub(crate) key: Snapshot<Key<O>>,
-    pub(crate) seat: Seat<O>,
-    pub ghost holds: { IsWith O.SeqObject key.value cpu Holding logged seat.me } by { Prim.hlevel legal_props },
-}
-
 /// A holder that saw nobody behind it. It can't be dropped: it ends in `empty`.
 pub struct Alone<O: SeqObject> {
     pub(crate) cpu: u8,
     pub(crate) logged: Logged<O>,
+    pub(crate) lent: Lent,
     pub(crate) key: Snapshot<Key<O>>,
     pub(crate) seat: Seat<O>,
     pub ghost alone: { IsWith O.SeqObject key.value cpu Alone logged seat.me } by { Prim.hlevel legal_props },
@@ -67,6 +59,7 @@ pub struct Alone<O: SeqObject> {
 pub struct Leaving<O: SeqObject> {
     pub(crate) cpu: u8,
     pub(crate) logged: Logged<O>,
+    pub(crate) lent: Lent,
     pub(crate) key: Snapshot<Key<O>>,
     pub(crate) seat: Seat<O>,
     pub ghost leaves: { IsWith O.SeqObject key.value cpu Leaving logged seat.me } by { Prim.hlevel legal_props },
@@ -77,6 +70,7 @@ pub struct Passing<O: SeqObject> {
     pub(crate) cpu: u8,
     pub(crate) follower: u8,
     pub(crate) logged: Logged<O>,
+    pub(crate) lent: Lent,
     pub(crate) key: Snapshot<Key<O>>,
     pub(crate) seat: Seat<O>,
     pub ghost passes: { IsWith O.SeqObject key.value cpu (Passing follower) logged seat.me } by { Prim.hlevel legal_props },

@@ -3,13 +3,14 @@
 ghost use Rattle.std.specs.Prelude.{true, false, IfOk, IfErr};
 ghost use Rattle.word_rule.specs.McsSteps.{IsClear, IsEnter, IsArm, IsLink, IsWaitingLook, IsSee, IsSeeAgain, IsEmpty, IsPass};
 ghost use Rattle.mcs_lock.specs.Passes.{IsPassOf, IsReadyOf, IsBehindOf, IsArmedOf, IsWaitingOf, IsHoldOf, IsAloneOf, IsLeavingOf, IsPassingOf, IfHold, IfBehind};
-ghost use Rattle.mcs_lock.specs.Passes.{pass_standing, ready_standing, behind_standing, armed_standing, waiting_standing, hold_standing, alone_standing, leaving_standing, passing_standing};
+ghost use Rattle.mcs_lock.specs.Passes.{ready_standing, behind_standing, armed_standing, waiting_standing, alone_standing, leaving_standing, passing_standing};
+ghost use Rattle.word_rule.specs.Passes.{pass_standing, hold_standing};
 
 use crate::cell::McsCell;
 use crate::rule::{Arm, Clear, Empty, Enter, Link, Look, PassOn, See, SeeAgain};
-use crate::states::{Alone, Armed, Behind, Entered, Hold, Leaving, Passing, Ready, Waiting};
+use crate::states::{Alone, Armed, Behind, Entered, Leaving, Passing, Ready, Waiting};
 use event_log::SeqObject;
-use word_rule::Pass;
+use word_rule::{Hold, Pass, Place};
 
 impl<O: SeqObject> McsCell<O> {
     /// Clears its `next`: one store.
@@ -33,10 +34,12 @@ impl<O: SeqObject> McsCell<O> {
         let Ready { cpu, key, mut seat } = ready;
         let found = self.table.swap::<Enter>(&mut seat, 0, cpu as u64 + 1);
         if found == 0 {
-            let logged = self.table.exchange(&mut seat, None).unwrap();
+            let (logged, lent) = self.table.take(&mut seat);
             Entered::Hold(Hold {
                 cpu,
+                place: Place::Holding,
                 logged,
+                lent,
                 key,
                 seat,
             })
@@ -63,7 +66,8 @@ impl<O: SeqObject> McsCell<O> {
             key,
             mut seat,
         } = behind;
-        self.table.store::<Arm>(&mut seat, 1 + self.cpus as usize + cpu as usize, 1);
+        self.table
+            .store::<Arm>(&mut seat, 1 + self.cpus as usize + cpu as usize, 1);
         Armed {
             cpu,
             ahead,
@@ -84,7 +88,8 @@ impl<O: SeqObject> McsCell<O> {
             key,
             mut seat,
         } = armed;
-        self.table.store::<Link>(&mut seat, 1 + ahead as usize, cpu as u64 + 1);
+        self.table
+            .store::<Link>(&mut seat, 1 + ahead as usize, cpu as u64 + 1);
         Waiting { cpu, key, seat }
     }
 
@@ -95,12 +100,16 @@ impl<O: SeqObject> McsCell<O> {
         ensures missed { IfErr result (λ w. IsWaitingOf self.now w × IsWaitingLook O.SeqObject (waiting_standing waiting) (waiting_standing w) false) }
     {
         let Waiting { cpu, key, mut seat } = waiting;
-        let found = self.table.load::<Look>(&mut seat, 1 + self.cpus as usize + cpu as usize);
+        let found = self
+            .table
+            .load::<Look>(&mut seat, 1 + self.cpus as usize + cpu as usize);
         if found == 0 {
-            let logged = self.table.exchange(&mut seat, None).unwrap();
+            let (logged, lent) = self.table.take(&mut seat);
             Ok(Hold {
                 cpu,
+                place: Place::Holding,
                 logged,
+                lent,
                 key,
                 seat,
             })
@@ -117,7 +126,9 @@ impl<O: SeqObject> McsCell<O> {
     {
         let Hold {
             cpu,
+            place: _,
             logged,
+            lent,
             key,
             mut seat,
         } = hold;
@@ -126,6 +137,7 @@ impl<O: SeqObject> McsCell<O> {
             Err(Alone {
                 cpu,
                 logged,
+                lent,
                 key,
                 seat,
             })
@@ -135,6 +147,7 @@ impl<O: SeqObject> McsCell<O> {
                 cpu,
                 follower,
                 logged,
+                lent,
                 key,
                 seat,
             })
@@ -151,20 +164,21 @@ impl<O: SeqObject> McsCell<O> {
         let Alone {
             cpu,
             logged,
+            lent,
             key,
             mut seat,
         } = alone;
-        let empty = self.table.exchange(&mut seat, Some(logged));
-        let None = empty else { unreachable!() };
+        self.table.put_back(&mut seat, logged, lent);
         let last = cpu as u64 + 1;
         let found = self.table.compare_exchange::<Empty>(&mut seat, 0, last, 0);
         if found == last {
             Ok(Pass { cpu, key, seat })
         } else {
-            let logged = self.table.exchange(&mut seat, None).unwrap();
+            let (logged, lent) = self.table.take(&mut seat);
             Err(Leaving {
                 cpu,
                 logged,
+                lent,
                 key,
                 seat,
             })
@@ -180,6 +194,7 @@ impl<O: SeqObject> McsCell<O> {
         let Leaving {
             cpu,
             logged,
+            lent,
             key,
             mut seat,
         } = leaving;
@@ -188,6 +203,7 @@ impl<O: SeqObject> McsCell<O> {
             Err(Leaving {
                 cpu,
                 logged,
+                lent,
                 key,
                 seat,
             })
@@ -197,6 +213,7 @@ impl<O: SeqObject> McsCell<O> {
                 cpu,
                 follower,
                 logged,
+                lent,
                 key,
                 seat,
             })
@@ -213,12 +230,13 @@ impl<O: SeqObject> McsCell<O> {
             cpu,
             follower,
             logged,
+            lent,
             key,
             mut seat,
         } = passing;
-        let empty = self.table.exchange(&mut seat, Some(logged));
-        let None = empty else { unreachable!() };
-        self.table.store::<PassOn>(&mut seat, 1 + self.cpus as usize + follower as usize, 0);
+        self.table.put_back(&mut seat, logged, lent);
+        self.table
+            .store::<PassOn>(&mut seat, 1 + self.cpus as usize + follower as usize, 0);
         Pass { cpu, key, seat }
     }
 }

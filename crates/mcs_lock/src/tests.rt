@@ -3,7 +3,8 @@
 ghost use Rattle.std.specs.Prelude.{◌≡◌, IfOk};
 ghost use Rattle.word_rule.specs.Cell.{OwnsAll, OwnTogether};
 ghost use Rattle.mcs_lock.specs.Passes.{IsPassOf, IsBehindOf, IsWaitingOf, IsHoldOf, IsLeavingOf};
-ghost use Rattle.mcs_lock.specs.Passes.{pass_part, behind_part, waiting_part, hold_held, leaving_held};
+ghost use Rattle.mcs_lock.specs.Passes.{behind_part, waiting_part, leaving_held};
+ghost use Rattle.word_rule.specs.Passes.{pass_part, hold_held};
 
 use crate::{Behind, Entered, Hold, Leaving, McsCell, Pass, Waiting};
 use event_log::{Event, Logged, NoRoom, Steps};

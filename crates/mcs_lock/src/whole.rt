@@ -1,18 +1,20 @@
 //! Whole calls of an MCS lock, and its end.
 
 ghost use Rattle.std.specs.Prelude.{◌≡◌, true};
-ghost use Rattle.word_rule.specs.Cell.{Grows, OwnsAll, OwnTogether, stored};
+ghost use Rattle.word_rule.specs.Cell.{Grows, OwnTogether};
 ghost use Rattle.word_rule.specs.McsSteps.{IsWaitingLook, IsSeeAgain};
-ghost use Rattle.mcs_lock.specs.Passes.{IsPassOf, IsBehindOf, IsWaitingOf, IsHoldOf, IsLeavingOf, IsPassingOf, pass_part, behind_part, waiting_part, hold_held, leaving_held, passing_held};
-ghost use Rattle.mcs_lock.specs.Passes.{waiting_standing, hold_standing, leaving_standing, passing_standing};
+ghost use Rattle.mcs_lock.specs.Passes.{IsPassOf, IsBehindOf, IsWaitingOf, IsHoldOf, IsLeavingOf, IsPassingOf, behind_part, waiting_part, leaving_held, passing_held};
+ghost use Rattle.word_rule.specs.Passes.{pass_part, hold_held};
+ghost use Rattle.mcs_lock.specs.Passes.{waiting_standing, leaving_standing, passing_standing};
+ghost use Rattle.word_rule.specs.Passes.{hold_standing};
 
 use crate::cell::McsCell;
 use crate::rule::{Look, SeeAgain};
-use crate::states::{Behind, Entered, Hold, Leaving, Passing, Waiting};
+use crate::states::{Behind, Entered, Leaving, Passing, Waiting};
 use crossbeam_utils::Backoff;
-use event_log::{Logged, SeqObject};
+use event_log::SeqObject;
 use std::sync::Wait;
-use word_rule::Pass;
+use word_rule::{Hold, Pass, Place};
 
 impl<O: SeqObject> McsCell<O> {
     /// Enters, and where another is before it looks until it gets the object. The number is that of the looks.
@@ -109,14 +111,18 @@ impl<O: SeqObject> McsCell<O> {
             seat: theirs,
         } = pass;
         self.table.join_seat(&mut seat, theirs);
-        let found = self.table.load::<Look>(&mut seat, 1 + self.cpus as usize + cpu as usize);
+        let found = self
+            .table
+            .load::<Look>(&mut seat, 1 + self.cpus as usize + cpu as usize);
         prove!(found == 0);
-        let logged = self.table.exchange(&mut seat, None).unwrap();
+        let (logged, lent) = self.table.take(&mut seat);
         let theirs = self.table.split_seat(&mut seat);
         (
             Hold {
                 cpu,
+                place: Place::Holding,
                 logged,
+                lent,
                 key,
                 seat,
             },
@@ -143,6 +149,7 @@ impl<O: SeqObject> McsCell<O> {
         let Leaving {
             cpu,
             logged,
+            lent,
             key,
             mut seat,
         } = leaving;
@@ -161,6 +168,7 @@ impl<O: SeqObject> McsCell<O> {
                 cpu,
                 follower,
                 logged,
+                lent,
                 key,
                 seat,
             },
@@ -170,16 +178,5 @@ impl<O: SeqObject> McsCell<O> {
                 seat: theirs,
             },
         )
-    }
-
-    /// The pass owns every number, so the object is at home, and its log is what the pass has seen.
-    pub(crate) fn end(self, pass: Pass<O>) -> Logged<O>
-        requires cell { IsPassOf self pass }
-        requires whole { OwnsAll (pass_part pass).caller }
-        ensures { result ≡ stored O.SeqObject (pass_part pass).caller.cell (pass_part pass).seen }
-    {
-        let McsCell { table, cpus: _ } = self;
-        let Pass { cpu, key: _, seat } = pass;
-        table.close(cpu, seat)
     }
 }

@@ -1,6 +1,6 @@
 use Rattle.std.proofs.Common.{rules, ◌≡◌, Some, slice_get}
 use Rattle.word_rule.proofs.Owners.{own_both, own_both_turned}
-use Rattle.mcs_lock.specs.Passes.{pass_part}
+use Rattle.word_rule.specs.Passes.{pass_part}
 use Rattle.mcs_lock.proofs.tests.cell_of_two.Goals as goal
 
 pub returns-clause-zero : goal.returns-clause-zero

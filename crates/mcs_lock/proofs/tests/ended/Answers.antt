@@ -1,4 +1,4 @@
-use Rattle.mcs_lock.specs.Passes.{pass_part}
+use Rattle.word_rule.specs.Passes.{pass_part}
 use Rattle.word_rule.proofs.Owners.{still_together, together_joined}
 use Rattle.mcs_lock.proofs.tests.ended.Goals as goal
 

@@ -1,4 +1,4 @@
-use Rattle.std.proofs.Common.{rules, ◌∷◌, sym, ap, subst, ◌∙◌, arith, Some}
+use Rattle.std.proofs.Common.{rules, ◌∷◌, refl, sym, ap, subst, ◌∙◌, arith, Some, None}
 use Rattle.atomic_table.specs.Table.{rest}
 use Rattle.word_rule.specs.declared.place.Place.TheVariants.{Alone, Leaving}
 use Rattle.word_rule.specs.Standing.{Moves}
@@ -7,42 +7,41 @@ use Rattle.word_rule.specs.Callers.{standing_with, IsWith}
 use Rattle.word_rule.proofs.Acting.{left, rests_now, gives_now, not_all}
 use Rattle.mcs_lock.specs.Steps.{SawLawful}
 use Rattle.mcs_lock.specs.Passes.{alone_standing}
-use Rattle.mcs_lock.proofs.McsActing.{empty_now, still_there, came_back, goes_with, moves_with}
+use Rattle.mcs_lock.proofs.McsActing.{empty_now, came_back, goes_with, moves_with}
 use Rattle.mcs_lock.proofs.cell.McsCell.empty.Goals as goal
+
+pub put_back-requires : goal.put_back-requires
+put_back-requires g c = let k = c.args.alone.alone.at.carries in (g.met.O.SeqObject.event_fits, (c.requires.table, k ∙ ap (λ l. (0, None) ∷ rest l) (sym k)))
 
 pub compare_exchange-found-requires : goal.compare_exchange-found-requires
 compare_exchange-found-requires g c = let s = c.args.self.now in let a = c.args.alone in let words = s.sized.0 in
-    (g.met.O.SeqObject.event_fits, (search rules, omega arith, empty_now g.O.SeqObject s.table.table.shared.key _ _ a.cpu a.logged a.seat.me c.exchange-empty.new.seat.me (subst (λ k. IsWith g.O.SeqObject k a.cpu Alone a.logged a.seat.me) c.requires.told a.alone) s.table.sized c.exchange-empty.ensures.3))
+    (g.met.O.SeqObject.event_fits, (search rules, omega arith, empty_now g.O.SeqObject s.table.table.shared.key _ _ a.cpu c.args.self.now.kind a.logged a.seat.me c.put_back.new.seat.me (subst (λ k. IsWith g.O.SeqObject k a.cpu Alone a.logged a.seat.me) c.requires.told a.alone) s.table.sized c.put_back.ensures.2))
 
 pub invariant_of-result : goal.invariant_of-result
 invariant_of-result g c = let a = c.args.alone in
-    record { idle = rests_now g.O.SeqObject a.key.value a.cpu _ _ a.logged a.seat.me c.compare_exchange-found.new.seat.me a.alone (left g.O.SeqObject _ a.seat.me c.exchange-empty.new.seat.me c.compare_exchange-found.new.seat.me a.logged a.alone.at.carries c.exchange-empty.ensures.3 (c.compare_exchange-found.ensures.2.hit c.if-found-last.true)) }
+    record { idle = rests_now g.O.SeqObject a.key.value a.cpu _ _ a.logged a.seat.me c.compare_exchange-found.new.seat.me a.alone (left g.O.SeqObject _ a.seat.me c.put_back.new.seat.me c.compare_exchange-found.new.seat.me a.logged a.alone.at.carries c.put_back.ensures.2 (c.compare_exchange-found.ensures.2.hit c.if-found-last.true)) }
 
 pub returns-then-found-last-clause-home : goal.returns-then-found-last-clause-home
 returns-then-found-last-clause-home g c = let a = c.args.alone in
-    (search rules, gives_now g.O.SeqObject a.key.value a.cpu _ _ a.logged a.seat.me c.compare_exchange-found.new.seat.me a.alone (left g.O.SeqObject _ a.seat.me c.exchange-empty.new.seat.me c.compare_exchange-found.new.seat.me a.logged a.alone.at.carries c.exchange-empty.ensures.3 (c.compare_exchange-found.ensures.2.hit c.if-found-last.true)))
+    (search rules, gives_now g.O.SeqObject a.key.value a.cpu _ _ a.logged a.seat.me c.compare_exchange-found.new.seat.me a.alone (left g.O.SeqObject _ a.seat.me c.put_back.new.seat.me c.compare_exchange-found.new.seat.me a.logged a.alone.at.carries c.put_back.ensures.2 (c.compare_exchange-found.ensures.2.hit c.if-found-last.true)))
 
-pub exchange-requires : goal.exchange-requires
-exchange-requires g c = let a = c.args.alone in let t = c.compare_exchange-found.ensures.2.miss c.if-found-last.false in
-    let is = ap (λ z. z.1) t.seat ∙ ap (λ z. z.1) c.exchange-empty.ensures.3 in
-    (g.met.O.SeqObject.event_fits, (search rules, (Some a.logged, is ∙ ap (λ z. (0, Some a.logged) ∷ rest z) (sym is))))
-
-pub unwrap-logged-requires : goal.unwrap-logged-requires
-unwrap-logged-requires g c = let a = c.args.alone in
-    still_there g.O.SeqObject Leaving a.seat.me c.exchange-empty.new.seat.me c.compare_exchange-found.new.seat.me a.logged c.exchange.result c.exchange-empty.ensures.3 (c.compare_exchange-found.ensures.2.miss c.if-found-last.false).seat c.exchange.ensures.2
+pub take-logged-requires : goal.take-logged-requires
+take-logged-requires g c = let a = c.args.alone in let t = c.compare_exchange-found.ensures.2.miss c.if-found-last.false in
+    let is = ap (λ z. z.1) t.seat ∙ ap (λ z. z.1) c.put_back.ensures.2 in
+    (g.met.O.SeqObject.event_fits, (search rules, (a.logged, is ∙ ap (λ z. (0, Some a.logged) ∷ rest z) (sym is))))
 
 pub invariant_of-result-else-found-last : goal.invariant_of-result-else-found-last
-invariant_of-result-else-found-last g c = let a = c.args.alone in let y = c.unwrap-logged.result in let t = c.compare_exchange-found.ensures.2.miss c.if-found-last.false in let e = c.exchange.ensures in
-    let back = came_back g.O.SeqObject Leaving a.seat.me c.exchange-empty.new.seat.me c.compare_exchange-found.new.seat.me c.exchange.new.seat.me a.logged y c.exchange.result a.alone.at.carries c.exchange-empty.ensures.3 t.seat e.2 e.3 c.unwrap-logged.ensures in
-    record { leaves = subst (λ z. IsWith g.O.SeqObject a.key.value a.cpu Leaving z c.exchange.new.seat.me) back.1 (goes_with g.O.SeqObject a.key.value a.cpu _ _ a.logged a.seat.me c.exchange.new.seat.me a.alone back.0) }
+invariant_of-result-else-found-last g c = let a = c.args.alone in let y = c.take-logged.result.0 in let t = c.compare_exchange-found.ensures.2.miss c.if-found-last.false in let e = c.take-logged.ensures in
+    let back = came_back g.O.SeqObject Leaving a.seat.me c.put_back.new.seat.me c.compare_exchange-found.new.seat.me c.take-logged.new.seat.me a.logged y (Some y) a.alone.at.carries c.put_back.ensures.2 t.seat e.2 e.3 refl in
+    record { leaves = subst (λ z. IsWith g.O.SeqObject a.key.value a.cpu Leaving z c.take-logged.new.seat.me) back.1 (goes_with g.O.SeqObject a.key.value a.cpu _ _ a.logged a.seat.me c.take-logged.new.seat.me a.alone back.0) }
 
 pub returns-else-found-last-clause-missed : goal.returns-else-found-last-clause-missed
-returns-else-found-last-clause-missed g c = let a = c.args.alone in let y = c.unwrap-logged.result in let told = c.compare_exchange-found.ensures.2 in let t = told.miss c.if-found-last.false in let e = c.exchange.ensures in let filled = c.exchange-empty.ensures.3 in
-    let back = came_back g.O.SeqObject Leaving a.seat.me c.exchange-empty.new.seat.me c.compare_exchange-found.new.seat.me c.exchange.new.seat.me a.logged y c.exchange.result a.alone.at.carries filled t.seat e.2 e.3 c.unwrap-logged.ensures in
+returns-else-found-last-clause-missed g c = let a = c.args.alone in let y = c.take-logged.result.0 in let told = c.compare_exchange-found.ensures.2 in let t = told.miss c.if-found-last.false in let e = c.take-logged.ensures in let filled = c.put_back.ensures.2 in
+    let back = came_back g.O.SeqObject Leaving a.seat.me c.put_back.new.seat.me c.compare_exchange-found.new.seat.me c.take-logged.new.seat.me a.logged y (Some y) a.alone.at.carries filled t.seat e.2 e.3 refl in
     let lawful = subst (λ z. SawLawful g.O.SeqObject z.0) filled told.lawful a.key.value a.alone.at.told in (
       search rules,
       record {
-        made = subst (λ z. Moves g.O.SeqObject Alone Leaving (alone_standing a) (standing_with a.key.value Leaving z c.exchange.new.seat.me)) back.1 (moves_with g.O.SeqObject a.key.value Alone Leaving a.logged a.seat.me c.exchange.new.seat.me lawful back.0);
+        made = subst (λ z. Moves g.O.SeqObject Alone Leaving (alone_standing a) (standing_with a.key.value Leaving z c.take-logged.new.seat.me)) back.1 (moves_with g.O.SeqObject a.key.value Alone Leaving a.logged a.seat.me c.take-logged.new.seat.me lawful back.0);
         another = not_all g.O.SeqObject a.key.value a.seat.me a.alone.at.told (subst (λ z. Lacks z.0) filled t.lacks);
       },
     )

@@ -1,6 +1,7 @@
-use Rattle.std.proofs.Common.{rules, ℕ, ◌-◌, ◌∷◌, sym, ap, subst, ◌∙◌, arith, Some}
+use Rattle.std.proofs.Common.{rules, ◌≡◌, true, refl, ℕ, ◌-◌, ◌∷◌, sym, ap, subst, ◌∙◌, arith, Some}
 use Rattle.atomic_table.specs.Table.{rest}
-use Rattle.word_rule.specs.declared.place.Place.TheVariants.{Ready, Behind}
+use Rattle.word_rule.specs.declared.place.Place.TheVariants.{Ready, Behind, Holding}
+use Rattle.word_rule.specs.Line.{lends}
 use Rattle.word_rule.specs.Callers.{IsWithout}
 use Rattle.word_rule.proofs.Acting.{took, takes_from, holds_from, moves_without}
 use Rattle.mcs_lock.proofs.McsActing.{enter_now, named, not_else}
@@ -8,19 +9,19 @@ use Rattle.mcs_lock.proofs.cell.McsCell.enter.Goals as goal
 
 pub swap-found-requires : goal.swap-found-requires
 swap-found-requires g c = let s = c.args.self.now in let a = c.args.ready in let words = s.sized.0 in
-    (g.met.O.SeqObject.event_fits, (c.requires.table, omega arith, enter_now g.O.SeqObject s.table.table.shared.key _ _ a.cpu a.seat.me (subst (λ k. IsWithout g.O.SeqObject k a.cpu Ready a.seat.me) c.requires.told a.ready)))
+    (g.met.O.SeqObject.event_fits, (c.requires.table, omega arith, enter_now g.O.SeqObject s.table.table.shared.key _ _ a.cpu c.args.self.now.kind a.seat.me (subst (λ k. IsWithout g.O.SeqObject k a.cpu Ready a.seat.me) c.requires.told a.ready)))
 
-pub exchange-requires : goal.exchange-requires
-exchange-requires g c = let t = c.swap-found.ensures.2.first c.if-found-eq0.true in
-    (g.met.O.SeqObject.event_fits, (search rules, (Some t.object, ap (λ m. m.1) t.seat ∙ ap (λ m. (0, Some t.object) ∷ rest m.1) (sym t.seat))))
+pub take-logged-requires : goal.take-logged-requires
+take-logged-requires g c = let t = c.swap-found.ensures.2.first c.if-found-eq0.true in
+    (g.met.O.SeqObject.event_fits, (search rules, (t.object, ap (λ m. m.1) t.seat ∙ ap (λ m. (0, Some t.object) ∷ rest m.1) (sym t.seat))))
 
 pub invariant_of-result : goal.invariant_of-result
-invariant_of-result g c = let a = c.args.ready in let t = c.swap-found.ensures.2.first c.if-found-eq0.true in let e = c.exchange.ensures in
-    record { holds = holds_from g.O.SeqObject a.key.value a.cpu _ _ c.unwrap-logged.result a.seat.me c.exchange.new.seat.me a.ready (took g.O.SeqObject _ a.seat.me c.swap-found.new.seat.me c.exchange.new.seat.me c.exchange.result c.unwrap-logged.result t e.2 e.3 c.unwrap-logged.ensures) }
+invariant_of-result g c = let a = c.args.ready in let t = c.swap-found.ensures.2.first c.if-found-eq0.true in let y = c.take-logged.result.0 in let e = c.take-logged.ensures in
+    record { holds = holds_from g.O.SeqObject a.key.value a.cpu _ _ y a.seat.me c.take-logged.new.seat.me a.ready (took g.O.SeqObject _ a.seat.me c.swap-found.new.seat.me c.take-logged.new.seat.me (Some y) y t e.2 e.3 refl); there = subst (λ k. lends k Holding ≡ true) (sym (ap (λ k. k.kind) c.requires.told ∙ c.args.self.now.kind)) refl }
 
 pub returns-then-found-eq0-clause-got : goal.returns-then-found-eq0-clause-got
-returns-then-found-eq0-clause-got g c = let a = c.args.ready in let t = c.swap-found.ensures.2.first c.if-found-eq0.true in let e = c.exchange.ensures in
-    (search rules, takes_from g.O.SeqObject a.key.value a.cpu _ _ c.unwrap-logged.result a.seat.me c.exchange.new.seat.me a.ready (took g.O.SeqObject _ a.seat.me c.swap-found.new.seat.me c.exchange.new.seat.me c.exchange.result c.unwrap-logged.result t e.2 e.3 c.unwrap-logged.ensures))
+returns-then-found-eq0-clause-got g c = let a = c.args.ready in let t = c.swap-found.ensures.2.first c.if-found-eq0.true in let y = c.take-logged.result.0 in let e = c.take-logged.ensures in
+    (search rules, takes_from g.O.SeqObject a.key.value a.cpu _ _ y a.seat.me c.take-logged.new.seat.me a.ready (took g.O.SeqObject _ a.seat.me c.swap-found.new.seat.me c.take-logged.new.seat.me (Some y) y t e.2 e.3 refl))
 
 pub returns-else-found-eq0-clause-queued : goal.returns-else-found-eq0-clause-queued
 returns-else-found-eq0-clause-queued g c = let a = c.args.ready in let some_one = c.if-found-eq0.false in let k : ℕ = c.swap-found.result - 1 in

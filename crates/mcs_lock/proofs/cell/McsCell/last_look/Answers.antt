@@ -1,8 +1,9 @@
-use Rattle.std.proofs.Common.{rules, ◌≡◌, ◌<◌, true, ◌∷◌, sym, ap, subst, ◌∙◌, arith, Some}
+use Rattle.std.proofs.Common.{rules, refl, ◌≡◌, ◌<◌, true, ◌∷◌, sym, ap, subst, ◌∙◌, arith, Some}
 use Rattle.atomic_table.specs.Table.{rest}
 use Rattle.event_log.specs.Distinct.{has}
 use Rattle.word_rule.specs.declared.place.Place.TheVariants.{Idle, Waiting, Holding}
 use Rattle.word_rule.specs.Cell.{Lawful}
+use Rattle.word_rule.specs.Line.{lends}
 use Rattle.word_rule.specs.Callers.{IsWithout, caller_of}
 use Rattle.word_rule.proofs.Known.{AllIdle}
 use Rattle.word_rule.proofs.Acting.{last_taken, all_together, holds_now, takes_now, sees_without}
@@ -16,12 +17,15 @@ join_seat-requires g c = let s = c.args.self.now in let words = s.sized.0 in
 pub load-found-requires : goal.load-found-requires
 load-found-requires g c = let s = c.args.self.now in let a = c.args.waiting in let key = s.table.table.shared.key in let words = s.sized.0 in let e = c.join_seat.ensures.2 in
     let w = subst (λ k. IsWithout g.O.SeqObject k a.cpu Waiting a.seat.me) c.requires.waiting.told a.waits in
-    let below = below_without g.O.SeqObject key s.cpus a.cpu Waiting a.seat.me s.sized.2 w in (g.met.O.SeqObject.event_fits, (
-      search rules,
-      omega arith,
-      look_now g.O.SeqObject key _ _ a.cpu s.cpus c.join_seat.new.seat.me s.sized.2 (subst (λ z. has z.0.main.cpu z.0.main.owned ≡ true) (sym e) a.waits.part.caller.acts) (ap (λ z. z.0.main.cpu) e ∙ a.waits.at.number)
-          (ap (λ z. z.0.main.place) e ∙ a.waits.at.stands) (subst (λ z. AllIdle z.0.others) (sym e) (c.args.pass.idle.at.stands, tt)),
-    ))
+    let below = below_without g.O.SeqObject key s.cpus a.cpu Waiting a.seat.me s.sized.1 w in (
+      g.met.O.SeqObject.event_fits,
+      (
+        search rules,
+        omega arith,
+        look_now g.O.SeqObject key _ _ a.cpu c.args.self.now.kind s.cpus c.join_seat.new.seat.me s.sized.1 (subst (λ z. has z.0.main.cpu z.0.main.owned ≡ true) (sym e) a.waits.part.caller.acts) (ap (λ z. z.0.main.cpu) e ∙ a.waits.at.number)
+            (ap (λ z. z.0.main.place) e ∙ a.waits.at.stands) (subst (λ z. AllIdle z.0.others) (sym e) (c.args.pass.idle.at.stands, tt)),
+      ),
+    )
 
 pub prove-unreachable-requires : goal.prove-unreachable-requires
 prove-unreachable-requires g c = let a = c.args.waiting in let p = c.args.pass in let e = c.join_seat.ensures.2 in
@@ -29,52 +33,52 @@ prove-unreachable-requires g c = let a = c.args.waiting in let p = c.args.pass i
     let same = c.requires.pass.told ∙ sym c.requires.waiting.told in
     miss.lacks a.key.value (all_together g.O.SeqObject a.key.value a.seat.me p.seat.me c.join_seat.new.seat.me a.waits.at.told e (λ k below. c.requires.all k (subst (λ z. k < z.numbers) (sym same) below)))
 
-pub exchange-requires : goal.exchange-requires
-exchange-requires g c = let t = c.load-found.ensures.2.hit c.if-prove.false in
-    (g.met.O.SeqObject.event_fits, (c.load-found.ensures.0 ∙ (c.join_seat.ensures.0 ∙ c.requires.waiting.table), (Some t.object, ap (λ z. z.1) t.seat ∙ ap (λ z. (0, Some t.object) ∷ rest z.1) (sym t.seat))))
+pub take-logged-requires : goal.take-logged-requires
+take-logged-requires g c = let t = c.load-found.ensures.2.hit c.if-prove.false in
+    (g.met.O.SeqObject.event_fits, (c.load-found.ensures.0 ∙ (c.join_seat.ensures.0 ∙ c.requires.waiting.table), (t.object, ap (λ z. z.1) t.seat ∙ ap (λ z. (0, Some t.object) ∷ rest z.1) (sym t.seat))))
 
 pub split_seat-theirs-requires : goal.split_seat-theirs-requires
 split_seat-theirs-requires g c = let s = c.args.self.now in let words = s.sized.0 in
     (g.met.O.SeqObject.event_fits, (search rules, omega arith))
 
 pub invariant_of-result : goal.invariant_of-result
-invariant_of-result g c = let a = c.args.waiting in let p = c.args.pass in let e = c.join_seat.ensures.2 in let y = c.unwrap-logged.result in let s = c.split_seat-theirs in let same = c.requires.pass.told ∙ sym c.requires.waiting.told in
+invariant_of-result g c = let a = c.args.waiting in let p = c.args.pass in let e = c.join_seat.ensures.2 in let y = c.take-logged.result.0 in let s = c.split_seat-theirs in let same = c.requires.pass.told ∙ sym c.requires.waiting.told in
     let got = c.load-found.ensures.2.hit c.if-prove.false in
-    let last = last_taken g.O.SeqObject a.key.value a.cpu p.cpu Waiting Holding c.exchange.result y a.seat.me p.seat.me c.join_seat.new.seat.me c.load-found.new.seat.me c.exchange.new.seat.me s.new.seat.me s.result.me a.waits
-    (subst (λ k. IsWithout g.O.SeqObject k p.cpu Idle p.seat.me) same p.idle) e got c.exchange.ensures.2 c.exchange.ensures.3 c.unwrap-logged.ensures s.ensures.2 s.ensures.4 in
-    record { holds = holds_now g.O.SeqObject a.key.value a.cpu Waiting Holding y a.seat.me s.new.seat.me a.waits last.lawful last.replayed last.first }
+    let last = last_taken g.O.SeqObject a.key.value a.cpu p.cpu Waiting Holding (Some y) y a.seat.me p.seat.me c.join_seat.new.seat.me c.load-found.new.seat.me c.take-logged.new.seat.me s.new.seat.me s.result.me a.waits
+    (subst (λ k. IsWithout g.O.SeqObject k p.cpu Idle p.seat.me) same p.idle) e got c.take-logged.ensures.2 c.take-logged.ensures.3 refl s.ensures.2 s.ensures.4 in
+    record { holds = holds_now g.O.SeqObject a.key.value a.cpu Waiting Holding y a.seat.me s.new.seat.me a.waits last.lawful last.replayed last.first; there = subst (λ k. lends k Holding ≡ true) (sym (ap (λ k. k.kind) c.requires.waiting.told ∙ c.args.self.now.kind)) refl }
 
 pub invariant_of-result-2 : goal.invariant_of-result-2
-invariant_of-result-2 g c = let a = c.args.waiting in let p = c.args.pass in let e = c.join_seat.ensures.2 in let y = c.unwrap-logged.result in let s = c.split_seat-theirs in let same = c.requires.pass.told ∙ sym c.requires.waiting.told in
+invariant_of-result-2 g c = let a = c.args.waiting in let p = c.args.pass in let e = c.join_seat.ensures.2 in let y = c.take-logged.result.0 in let s = c.split_seat-theirs in let same = c.requires.pass.told ∙ sym c.requires.waiting.told in
     let got = c.load-found.ensures.2.hit c.if-prove.false in
-    let last = last_taken g.O.SeqObject a.key.value a.cpu p.cpu Waiting Holding c.exchange.result y a.seat.me p.seat.me c.join_seat.new.seat.me c.load-found.new.seat.me c.exchange.new.seat.me s.new.seat.me s.result.me a.waits
-    (subst (λ k. IsWithout g.O.SeqObject k p.cpu Idle p.seat.me) same p.idle) e got c.exchange.ensures.2 c.exchange.ensures.3 c.unwrap-logged.ensures s.ensures.2 s.ensures.4 in
+    let last = last_taken g.O.SeqObject a.key.value a.cpu p.cpu Waiting Holding (Some y) y a.seat.me p.seat.me c.join_seat.new.seat.me c.load-found.new.seat.me c.take-logged.new.seat.me s.new.seat.me s.result.me a.waits
+    (subst (λ k. IsWithout g.O.SeqObject k p.cpu Idle p.seat.me) same p.idle) e got c.take-logged.ensures.2 c.take-logged.ensures.3 refl s.ensures.2 s.ensures.4 in
     record { idle = sees_without g.O.SeqObject p.key.value p.cpu Idle Idle y.log p.seat.me s.result.me p.idle (subst (λ k. Lawful g.O.SeqObject k y.log) (sym same) last.lawful) last.second }
 
 pub returns-clause-look : goal.returns-clause-look
-returns-clause-look g c = let a = c.args.waiting in let p = c.args.pass in let e = c.join_seat.ensures.2 in let y = c.unwrap-logged.result in let s = c.split_seat-theirs in let same = c.requires.pass.told ∙ sym c.requires.waiting.told in
+returns-clause-look g c = let a = c.args.waiting in let p = c.args.pass in let e = c.join_seat.ensures.2 in let y = c.take-logged.result.0 in let s = c.split_seat-theirs in let same = c.requires.pass.told ∙ sym c.requires.waiting.told in
     let got = c.load-found.ensures.2.hit c.if-prove.false in
-    let last = last_taken g.O.SeqObject a.key.value a.cpu p.cpu Waiting Holding c.exchange.result y a.seat.me p.seat.me c.join_seat.new.seat.me c.load-found.new.seat.me c.exchange.new.seat.me s.new.seat.me s.result.me a.waits
-    (subst (λ k. IsWithout g.O.SeqObject k p.cpu Idle p.seat.me) same p.idle) e got c.exchange.ensures.2 c.exchange.ensures.3 c.unwrap-logged.ensures s.ensures.2 s.ensures.4 in
+    let last = last_taken g.O.SeqObject a.key.value a.cpu p.cpu Waiting Holding (Some y) y a.seat.me p.seat.me c.join_seat.new.seat.me c.load-found.new.seat.me c.take-logged.new.seat.me s.new.seat.me s.result.me a.waits
+    (subst (λ k. IsWithout g.O.SeqObject k p.cpu Idle p.seat.me) same p.idle) e got c.take-logged.ensures.2 c.take-logged.ensures.3 refl s.ensures.2 s.ensures.4 in
     takes_now g.O.SeqObject a.key.value Waiting Holding y a.seat.me s.new.seat.me last.first_grows last.lawful last.replayed last.first
 
 pub returns-clause-caller : goal.returns-clause-caller
-returns-clause-caller g c = let a = c.args.waiting in let p = c.args.pass in let e = c.join_seat.ensures.2 in let y = c.unwrap-logged.result in let s = c.split_seat-theirs in let same = c.requires.pass.told ∙ sym c.requires.waiting.told in
+returns-clause-caller g c = let a = c.args.waiting in let p = c.args.pass in let e = c.join_seat.ensures.2 in let y = c.take-logged.result.0 in let s = c.split_seat-theirs in let same = c.requires.pass.told ∙ sym c.requires.waiting.told in
     let got = c.load-found.ensures.2.hit c.if-prove.false in
-    let last = last_taken g.O.SeqObject a.key.value a.cpu p.cpu Waiting Holding c.exchange.result y a.seat.me p.seat.me c.join_seat.new.seat.me c.load-found.new.seat.me c.exchange.new.seat.me s.new.seat.me s.result.me a.waits
-    (subst (λ k. IsWithout g.O.SeqObject k p.cpu Idle p.seat.me) same p.idle) e got c.exchange.ensures.2 c.exchange.ensures.3 c.unwrap-logged.ensures s.ensures.2 s.ensures.4 in
+    let last = last_taken g.O.SeqObject a.key.value a.cpu p.cpu Waiting Holding (Some y) y a.seat.me p.seat.me c.join_seat.new.seat.me c.load-found.new.seat.me c.take-logged.new.seat.me s.new.seat.me s.result.me a.waits
+    (subst (λ k. IsWithout g.O.SeqObject k p.cpu Idle p.seat.me) same p.idle) e got c.take-logged.ensures.2 c.take-logged.ensures.3 refl s.ensures.2 s.ensures.4 in
     ap (λ z. caller_of p.key.value z.0) last.second
 
 pub returns-clause-seen : goal.returns-clause-seen
-returns-clause-seen g c = let a = c.args.waiting in let p = c.args.pass in let e = c.join_seat.ensures.2 in let y = c.unwrap-logged.result in let s = c.split_seat-theirs in let same = c.requires.pass.told ∙ sym c.requires.waiting.told in
+returns-clause-seen g c = let a = c.args.waiting in let p = c.args.pass in let e = c.join_seat.ensures.2 in let y = c.take-logged.result.0 in let s = c.split_seat-theirs in let same = c.requires.pass.told ∙ sym c.requires.waiting.told in
     let got = c.load-found.ensures.2.hit c.if-prove.false in
-    let last = last_taken g.O.SeqObject a.key.value a.cpu p.cpu Waiting Holding c.exchange.result y a.seat.me p.seat.me c.join_seat.new.seat.me c.load-found.new.seat.me c.exchange.new.seat.me s.new.seat.me s.result.me a.waits
-    (subst (λ k. IsWithout g.O.SeqObject k p.cpu Idle p.seat.me) same p.idle) e got c.exchange.ensures.2 c.exchange.ensures.3 c.unwrap-logged.ensures s.ensures.2 s.ensures.4 in
+    let last = last_taken g.O.SeqObject a.key.value a.cpu p.cpu Waiting Holding (Some y) y a.seat.me p.seat.me c.join_seat.new.seat.me c.load-found.new.seat.me c.take-logged.new.seat.me s.new.seat.me s.result.me a.waits
+    (subst (λ k. IsWithout g.O.SeqObject k p.cpu Idle p.seat.me) same p.idle) e got c.take-logged.ensures.2 c.take-logged.ensures.3 refl s.ensures.2 s.ensures.4 in
     ap (λ z. z.0.main.seen) last.second
 
 pub returns-clause-grows : goal.returns-clause-grows
-returns-clause-grows g c = let a = c.args.waiting in let p = c.args.pass in let e = c.join_seat.ensures.2 in let y = c.unwrap-logged.result in let s = c.split_seat-theirs in let same = c.requires.pass.told ∙ sym c.requires.waiting.told in
+returns-clause-grows g c = let a = c.args.waiting in let p = c.args.pass in let e = c.join_seat.ensures.2 in let y = c.take-logged.result.0 in let s = c.split_seat-theirs in let same = c.requires.pass.told ∙ sym c.requires.waiting.told in
     let got = c.load-found.ensures.2.hit c.if-prove.false in
-    let last = last_taken g.O.SeqObject a.key.value a.cpu p.cpu Waiting Holding c.exchange.result y a.seat.me p.seat.me c.join_seat.new.seat.me c.load-found.new.seat.me c.exchange.new.seat.me s.new.seat.me s.result.me a.waits
-    (subst (λ k. IsWithout g.O.SeqObject k p.cpu Idle p.seat.me) same p.idle) e got c.exchange.ensures.2 c.exchange.ensures.3 c.unwrap-logged.ensures s.ensures.2 s.ensures.4 in
+    let last = last_taken g.O.SeqObject a.key.value a.cpu p.cpu Waiting Holding (Some y) y a.seat.me p.seat.me c.join_seat.new.seat.me c.load-found.new.seat.me c.take-logged.new.seat.me s.new.seat.me s.result.me a.waits
+    (subst (λ k. IsWithout g.O.SeqObject k p.cpu Idle p.seat.me) same p.idle) e got c.take-logged.ensures.2 c.take-logged.ensures.3 refl s.ensures.2 s.ensures.4 in
     last.second_grows

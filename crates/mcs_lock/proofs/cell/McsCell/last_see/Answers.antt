@@ -14,12 +14,15 @@ join_seat-requires g c = let s = c.args.self.now in let words = s.sized.0 in
 pub load-found-requires : goal.load-found-requires
 load-found-requires g c = let s = c.args.self.now in let a = c.args.leaving in let key = s.table.table.shared.key in let words = s.sized.0 in let e = c.join_seat.ensures.2 in
     let w = subst (λ k. IsWith g.O.SeqObject k a.cpu Leaving a.logged a.seat.me) c.requires.leaving.told a.leaves in
-    let below = below_with g.O.SeqObject key s.cpus a.cpu Leaving a.logged a.seat.me s.sized.2 w in (g.met.O.SeqObject.event_fits, (
-      search rules,
-      omega arith,
-      find_now g.O.SeqObject key _ _ a.cpu c.join_seat.new.seat.me c.args.waiting.seat.me.0.main (subst (λ z. has z.0.main.cpu z.0.main.owned ≡ true) (sym e) a.leaves.held.caller.acts) (ap (λ z. z.0.main.cpu) e ∙ a.leaves.at.number)
-          (ap (λ z. z.0.main.place) e ∙ a.leaves.at.stands) (ap (λ z. z.0.others) e) c.args.waiting.waits.at.stands,
-    ))
+    let below = below_with g.O.SeqObject key s.cpus a.cpu Leaving a.logged a.seat.me s.sized.1 w in (
+      g.met.O.SeqObject.event_fits,
+      (
+        search rules,
+        omega arith,
+        find_now g.O.SeqObject key _ _ a.cpu c.args.self.now.kind c.join_seat.new.seat.me c.args.waiting.seat.me.0.main (subst (λ z. has z.0.main.cpu z.0.main.owned ≡ true) (sym e) a.leaves.held.caller.acts) (ap (λ z. z.0.main.cpu) e ∙ a.leaves.at.number)
+            (ap (λ z. z.0.main.place) e ∙ a.leaves.at.stands) (ap (λ z. z.0.others) e) c.args.waiting.waits.at.stands,
+      ),
+    )
 
 pub prove-unreachable-requires : goal.prove-unreachable-requires
 prove-unreachable-requires g c = let a = c.args.leaving in let w = c.args.waiting in let e = c.join_seat.ensures.2 in
@@ -30,7 +33,7 @@ prove-unreachable-requires g c = let a = c.args.leaving in let w = c.args.waitin
 pub overflow_cast-follower : goal.overflow_cast-follower
 overflow_cast-follower g c = let s = c.args.self.now in let a = c.args.leaving in let few = s.few in let t = c.load-found.ensures.2.found c.if-prove.false in let word = t.word in
     let told = ap (λ z. z.0.told) c.join_seat.ensures.2 ∙ (a.leaves.at.told ∙ ap (λ k. k ∷ []) c.requires.leaving.told) in
-    let below = else_below s.table.table.shared.key s.cpus t.cpu c.join_seat.new.seat.me s.sized.2 told t.other in
+    let below = else_below s.table.table.shared.key s.cpus t.cpu c.join_seat.new.seat.me s.sized.1 told t.other in
     let small : c.load-found.result - 1 < 256 = omega arith in record { fits = small }
 
 pub split_seat-theirs-requires : goal.split_seat-theirs-requires

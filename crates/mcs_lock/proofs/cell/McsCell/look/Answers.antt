@@ -1,6 +1,7 @@
-use Rattle.std.proofs.Common.{rules, ◌∷◌, sym, ap, subst, ◌∙◌, arith, Some}
+use Rattle.std.proofs.Common.{rules, ◌≡◌, true, refl, ◌∷◌, sym, ap, subst, ◌∙◌, arith, Some}
 use Rattle.atomic_table.specs.Table.{rest}
-use Rattle.word_rule.specs.declared.place.Place.TheVariants.{Waiting}
+use Rattle.word_rule.specs.declared.place.Place.TheVariants.{Waiting, Holding}
+use Rattle.word_rule.specs.Line.{lends}
 use Rattle.word_rule.specs.Callers.{IsWithout}
 use Rattle.word_rule.proofs.Known.{idle_alone}
 use Rattle.word_rule.proofs.Acting.{took, takes_from, holds_from, moves_without, not_all}
@@ -10,20 +11,20 @@ use Rattle.mcs_lock.proofs.cell.McsCell.look.Goals as goal
 pub load-found-requires : goal.load-found-requires
 load-found-requires g c = let s = c.args.self.now in let a = c.args.waiting in let key = s.table.table.shared.key in let words = s.sized.0 in
     let w = subst (λ k. IsWithout g.O.SeqObject k a.cpu Waiting a.seat.me) c.requires.told a.waits in
-    let below = below_without g.O.SeqObject key s.cpus a.cpu Waiting a.seat.me s.sized.2 w in
-    (g.met.O.SeqObject.event_fits, (c.requires.table, omega arith, look_now g.O.SeqObject key _ _ a.cpu s.cpus a.seat.me s.sized.2 w.part.caller.acts w.at.number w.at.stands (idle_alone a.seat.me.0.others w.at.alone)))
+    let below = below_without g.O.SeqObject key s.cpus a.cpu Waiting a.seat.me s.sized.1 w in
+    (g.met.O.SeqObject.event_fits, (c.requires.table, omega arith, look_now g.O.SeqObject key _ _ a.cpu c.args.self.now.kind s.cpus a.seat.me s.sized.1 w.part.caller.acts w.at.number w.at.stands (idle_alone a.seat.me.0.others w.at.alone)))
 
-pub exchange-requires : goal.exchange-requires
-exchange-requires g c = let t = c.load-found.ensures.2.hit c.if-found-eq0.true in
-    (g.met.O.SeqObject.event_fits, (search rules, (Some t.object, ap (λ m. m.1) t.seat ∙ ap (λ m. (0, Some t.object) ∷ rest m.1) (sym t.seat))))
+pub take-logged-requires : goal.take-logged-requires
+take-logged-requires g c = let t = c.load-found.ensures.2.hit c.if-found-eq0.true in
+    (g.met.O.SeqObject.event_fits, (search rules, (t.object, ap (λ m. m.1) t.seat ∙ ap (λ m. (0, Some t.object) ∷ rest m.1) (sym t.seat))))
 
 pub invariant_of-result : goal.invariant_of-result
-invariant_of-result g c = let a = c.args.waiting in let t = c.load-found.ensures.2.hit c.if-found-eq0.true in let e = c.exchange.ensures in
-    record { holds = holds_from g.O.SeqObject a.key.value a.cpu _ _ c.unwrap-logged.result a.seat.me c.exchange.new.seat.me a.waits (took g.O.SeqObject _ a.seat.me c.load-found.new.seat.me c.exchange.new.seat.me c.exchange.result c.unwrap-logged.result t e.2 e.3 c.unwrap-logged.ensures) }
+invariant_of-result g c = let a = c.args.waiting in let t = c.load-found.ensures.2.hit c.if-found-eq0.true in let y = c.take-logged.result.0 in let e = c.take-logged.ensures in
+    record { holds = holds_from g.O.SeqObject a.key.value a.cpu _ _ y a.seat.me c.take-logged.new.seat.me a.waits (took g.O.SeqObject _ a.seat.me c.load-found.new.seat.me c.take-logged.new.seat.me (Some y) y t e.2 e.3 refl); there = subst (λ k. lends k Holding ≡ true) (sym (ap (λ k. k.kind) c.requires.told ∙ c.args.self.now.kind)) refl }
 
 pub returns-then-found-eq0-clause-got : goal.returns-then-found-eq0-clause-got
-returns-then-found-eq0-clause-got g c = let a = c.args.waiting in let t = c.load-found.ensures.2.hit c.if-found-eq0.true in let e = c.exchange.ensures in
-    (search rules, takes_from g.O.SeqObject a.key.value a.cpu _ _ c.unwrap-logged.result a.seat.me c.exchange.new.seat.me a.waits (took g.O.SeqObject _ a.seat.me c.load-found.new.seat.me c.exchange.new.seat.me c.exchange.result c.unwrap-logged.result t e.2 e.3 c.unwrap-logged.ensures))
+returns-then-found-eq0-clause-got g c = let a = c.args.waiting in let t = c.load-found.ensures.2.hit c.if-found-eq0.true in let y = c.take-logged.result.0 in let e = c.take-logged.ensures in
+    (search rules, takes_from g.O.SeqObject a.key.value a.cpu _ _ y a.seat.me c.take-logged.new.seat.me a.waits (took g.O.SeqObject _ a.seat.me c.load-found.new.seat.me c.take-logged.new.seat.me (Some y) y t e.2 e.3 refl))
 
 pub returns-else-found-eq0-clause-missed : goal.returns-else-found-eq0-clause-missed
 returns-else-found-eq0-clause-missed g c = let a = c.args.waiting in let t = c.load-found.ensures.2.miss c.if-found-eq0.false in (

@@ -1,44 +1,8 @@
-use Rattle.std.proofs.Common.{rules, ℕ, ◌+◌, ◌*◌, List, length, [], ◌∷◌, ◌++◌, arith, sym, ap, subst, ◌∙◌, Option, Some}
-use Rattle.atomic_table.specs.Table.{opening}
-use Rattle.event_log.specs.History.{History}
-use Rattle.word_rule.specs.Cell.{Cell, Lawful, opening_part}
-use Rattle.word_rule.specs.declared.lock_kind.LockKind.TheVariants.{Mcs}
-use Rattle.word_rule.specs.Definition.{Defined, Shows}
-use Rattle.word_rule.specs.Seats.{first_view}
-use Rattle.word_rule.proofs.Ends.{opens, opens_lawful}
+use Rattle.std.proofs.Common.{rules, ◌+◌, ◌*◌, arith}
 use Rattle.word_rule.proofs.Definitions.{starts_mcs}
 use Rattle.mcs_lock.proofs.Zeros.{zeros, all_zero, zero_count}
 use Rattle.mcs_lock.proofs.cell.McsCell.new.Goals as goal
 
-pub new-requires : goal.new-requires
-new-requires g c = let n = c.args.cpus in let few = c.requires.few in let ws : List ℕ = zeros (1 + 2 * n) 17 in
-    let e = c.push_reserved.ensures.items ∙ (λ i. c.in-Ok-with_capacity.ensures.items i ++ Some c.args.logged ∷ []) in
-    let k = c.of-key.ensures.value in
-    let M = Option (History g.row.O.Denot g.row.O-Params.Denot g.row.O-Call.Denot g.row.O-Reply.Denot) in
-    let K = Cell g.row.O.Denot g.row.O-Params.Denot g.row.O-Call.Denot g.row.O-Reply.Denot in
-    (
-      g.met.O.SeqObject.event_fits,
-      (
-        subst (λ (z : K × List M). Shows g.O.SeqObject Mcs z.0 (opening ws z.1 (first_view z.0))) (λ i. (sym k i, sym e i))
-            (opens g.O.SeqObject (Defined Mcs) ws c.args.logged n c.of-key.ensures.kept (starts_mcs n ws (zero_count (1 + 2 * n) 17 (omega arith)) (all_zero (1 + 2 * n) 17))),
-        ap length e,
-      ),
-    )
-
-pub deal-passes-requires : goal.deal-passes-requires
-deal-passes-requires g c = let o = c.in-Ok-new.ensures.ok in let k = c.of-key.ensures.value in (
-  g.met.O.SeqObject.event_fits,
-  (
-    sym o.5,
-    (
-      (o.2, o.4, ap (λ z. z.numbers) k),
-      (
-        search rules,
-        subst (λ z. Lawful g.O.SeqObject z z.opening) (sym k) (opens_lawful g.O.SeqObject c.args.logged c.args.cpus c.of-key.ensures.kept),
-      ),
-    ),
-  ),
-)
-
-pub returns-in-Ok-new-clause-passes : goal.returns-in-Ok-new-clause-passes
-returns-in-Ok-new-clause-passes g c k x at = let p = c.deal-passes.ensures.passes k x at in (p.0, p.1 ∙ ap (λ z. opening_part z k) c.of-key.ensures.value)
+pub open-requires : goal.open-requires
+open-requires g c = let n = c.args.cpus in let few = c.requires.few in
+    record { some = search rules; defined = starts_mcs n (zeros (1 + 2 * n) 17) (zero_count (1 + 2 * n) 17 (omega arith)) (all_zero (1 + 2 * n) 17) }

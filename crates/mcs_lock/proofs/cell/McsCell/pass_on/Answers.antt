@@ -1,20 +1,24 @@
-use Rattle.std.proofs.Common.{rules, subst, arith}
+use Rattle.std.proofs.Common.{rules, ◌∷◌, sym, ap, subst, ◌∙◌, arith, None}
+use Rattle.atomic_table.specs.Table.{rest}
 use Rattle.word_rule.specs.declared.place.Place.TheVariants.{Passing}
 use Rattle.word_rule.specs.Callers.{IsWith}
 use Rattle.word_rule.proofs.Acting.{left, rests_now, gives_now}
 use Rattle.mcs_lock.proofs.McsActing.{pass_now, else_below}
 use Rattle.mcs_lock.proofs.cell.McsCell.pass_on.Goals as goal
 
+pub put_back-requires : goal.put_back-requires
+put_back-requires g c = let k = c.args.passing.passes.at.carries in (g.met.O.SeqObject.event_fits, (c.requires.table, k ∙ ap (λ l. (0, None) ∷ rest l) (sym k)))
+
 pub store-requires : goal.store-requires
 store-requires g c = let s = c.args.self.now in let a = c.args.passing in let key = s.table.table.shared.key in let words = s.sized.0 in
     let w = subst (λ k. IsWith g.O.SeqObject k a.cpu (Passing a.follower) a.logged a.seat.me) c.requires.told a.passes in
-    let below = else_below key s.cpus a.follower a.seat.me s.sized.2 w.at.told a.other in
-    (g.met.O.SeqObject.event_fits, (search rules, omega arith, pass_now g.O.SeqObject key _ _ a.cpu s.cpus a.follower a.logged a.seat.me c.exchange-empty.new.seat.me s.sized.2 w s.table.sized c.exchange-empty.ensures.3))
+    let below = else_below key s.cpus a.follower a.seat.me s.sized.1 w.at.told a.other in
+    (g.met.O.SeqObject.event_fits, (search rules, omega arith, pass_now g.O.SeqObject key _ _ a.cpu c.args.self.now.kind s.cpus a.follower a.logged a.seat.me c.put_back.new.seat.me s.sized.1 w s.table.sized c.put_back.ensures.2))
 
 pub invariant_of-result : goal.invariant_of-result
 invariant_of-result g c = let a = c.args.passing in
-    record { idle = rests_now g.O.SeqObject a.key.value a.cpu _ _ a.logged a.seat.me c.store.new.seat.me a.passes (left g.O.SeqObject _ a.seat.me c.exchange-empty.new.seat.me c.store.new.seat.me a.logged a.passes.at.carries c.exchange-empty.ensures.3 c.store.ensures.2) }
+    record { idle = rests_now g.O.SeqObject a.key.value a.cpu _ _ a.logged a.seat.me c.store.new.seat.me a.passes (left g.O.SeqObject _ a.seat.me c.put_back.new.seat.me c.store.new.seat.me a.logged a.passes.at.carries c.put_back.ensures.2 c.store.ensures.2) }
 
 pub returns-clause-step : goal.returns-clause-step
 returns-clause-step g c = let a = c.args.passing in
-    (a.follower, a.other.other, gives_now g.O.SeqObject a.key.value a.cpu _ _ a.logged a.seat.me c.store.new.seat.me a.passes (left g.O.SeqObject _ a.seat.me c.exchange-empty.new.seat.me c.store.new.seat.me a.logged a.passes.at.carries c.exchange-empty.ensures.3 c.store.ensures.2))
+    (a.follower, a.other.other, gives_now g.O.SeqObject a.key.value a.cpu _ _ a.logged a.seat.me c.store.new.seat.me a.passes (left g.O.SeqObject _ a.seat.me c.put_back.new.seat.me c.store.new.seat.me a.logged a.passes.at.carries c.put_back.ensures.2 c.store.ensures.2))

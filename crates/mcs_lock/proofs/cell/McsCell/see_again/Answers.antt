@@ -8,8 +8,8 @@ use Rattle.mcs_lock.proofs.cell.McsCell.see_again.Goals as goal
 pub load-found-requires : goal.load-found-requires
 load-found-requires g c = let s = c.args.self.now in let a = c.args.leaving in let key = s.table.table.shared.key in let words = s.sized.0 in
     let w = subst (λ k. IsWith g.O.SeqObject k a.cpu Leaving a.logged a.seat.me) c.requires.told a.leaves in
-    let below = below_with g.O.SeqObject key s.cpus a.cpu Leaving a.logged a.seat.me s.sized.2 w in
-    (g.met.O.SeqObject.event_fits, (c.requires.table, omega arith, see_again_now g.O.SeqObject key _ _ a.cpu a.seat.me a.logged w))
+    let below = below_with g.O.SeqObject key s.cpus a.cpu Leaving a.logged a.seat.me s.sized.1 w in
+    (g.met.O.SeqObject.event_fits, (c.requires.table, omega arith, see_again_now g.O.SeqObject key _ _ a.cpu c.args.self.now.kind a.seat.me a.logged w))
 
 pub invariant_of-result : goal.invariant_of-result
 invariant_of-result g c = let a = c.args.leaving in
@@ -17,7 +17,7 @@ invariant_of-result g c = let a = c.args.leaving in
 
 pub overflow_cast-follower : goal.overflow_cast-follower
 overflow_cast-follower g c = let s = c.args.self.now in let a = c.args.leaving in let few = s.few in let t = c.load-found.ensures.2.found c.if-found-eq0.false in let word = t.word in
-    let below = else_below s.table.table.shared.key s.cpus t.cpu a.seat.me s.sized.2 (a.leaves.at.told ∙ ap (λ k. k ∷ []) c.requires.told) t.other in
+    let below = else_below s.table.table.shared.key s.cpus t.cpu a.seat.me s.sized.1 (a.leaves.at.told ∙ ap (λ k. k ∷ []) c.requires.told) t.other in
     let small : c.load-found.result - 1 < 256 = omega arith in record { fits = small }
 
 pub invariant_of-result-else-found-eq0 : goal.invariant_of-result-else-found-eq0

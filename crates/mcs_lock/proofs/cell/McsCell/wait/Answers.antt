@@ -1,6 +1,7 @@
 use Rattle.std.proofs.Common.{refl}
 use Rattle.word_rule.proofs.Acting.{takes_log}
-use Rattle.mcs_lock.specs.Passes.{pass_standing, ready_standing, behind_standing, hold_standing}
+use Rattle.mcs_lock.specs.Passes.{ready_standing, behind_standing}
+use Rattle.word_rule.specs.Passes.{pass_standing, hold_standing}
 use Rattle.mcs_lock.proofs.McsActing.{grows_on}
 use Rattle.mcs_lock.proofs.cell.McsCell.wait.Goals as goal
 

@@ -1,6 +1,7 @@
 use Rattle.std.proofs.Common.{refl, ◌∙◌}
 use Rattle.word_rule.proofs.Acting.{takes_log}
-use Rattle.mcs_lock.specs.Passes.{behind_standing, armed_standing, waiting_standing, hold_standing}
+use Rattle.mcs_lock.specs.Passes.{behind_standing, armed_standing, waiting_standing}
+use Rattle.word_rule.specs.Passes.{hold_standing}
 use Rattle.mcs_lock.proofs.McsActing.{grows_on}
 use Rattle.mcs_lock.proofs.cell.McsCell.wait_behind.Goals as goal
 
