@@ -1,4 +1,4 @@
--- For the tests: a cell around a queue, and the passes of each lock, may go to other threads.
+-- For the tests: a cell around a queue, and its passes, may go to other threads.
 use denote.Param.Send.{IsSend, IsSync, sendable}
 use denote.Plain.{UInt}
 use mir.Syntax.{w32}
@@ -13,24 +13,14 @@ use Rattle.shared_queue.specs.contracts.call.QueueReply as Reply
 use Rattle.shared_queue.proofs.queue.ThreadQueue.TheSendSync.{the_send as queue_send}
 use Rattle.shared_queue.proofs.call.QueueCall.TheSendSync.{the_send as call_send}
 use Rattle.shared_queue.proofs.call.QueueReply.TheSendSync.{the_send as reply_send}
-use Rattle.ticket_lock.specs.contracts.states.Pass as TicketPass
-use Rattle.ticket_lock.proofs.Sends.{pass_send as ticket_send}
-use Rattle.mcs_lock.specs.contracts.states.Pass as McsPass
-use Rattle.mcs_lock.proofs.Sends.{pass_send as mcs_send}
-use Rattle.guarded_cell.specs.contracts.cell.AnyPass as AnyPass
+use Rattle.word_rule.specs.contracts.pass.Pass as Pass
+use Rattle.word_rule.proofs.Sends.{pass_send}
 use Rattle.guarded_cell.specs.contracts.cell.AnyCell as AnyCell
 use Rattle.guarded_cell.proofs.cell.AnyCell.TheSendSync.{the_sync as any_sync}
-use Rattle.guarded_cell.proofs.Sends.{pass_send}
 
 module _ (g : Ghosts Queue.the_row.Denot (UInt w32).Denot Call.the_row.Denot Reply.the_row.Denot) where
-  pub queue_pass_send : (ce : Compares Call.the_row.Denot) (cd : Defaults Call.the_row.Denot) (re : Compares Reply.the_row.Denot) (rd : Defaults Reply.the_row.Denot) → IsSend (AnyPass.the_row Queue.the_row (UInt w32) Call.the_row Reply.the_row g ce cd re rd)
+  pub queue_pass_send : (ce : Compares Call.the_row.Denot) (cd : Defaults Call.the_row.Denot) (re : Compares Reply.the_row.Denot) (rd : Defaults Reply.the_row.Denot) → IsSend (Pass.the_row Queue.the_row (UInt w32) Call.the_row Reply.the_row g ce cd re rd)
   queue_pass_send ce cd re rd = pass_send Queue.the_row (UInt w32) Call.the_row Reply.the_row g ce cd re rd queue_send (search sendable) call_send reply_send
-
-  pub queue_ticket_send : (ce : Compares Call.the_row.Denot) (cd : Defaults Call.the_row.Denot) (re : Compares Reply.the_row.Denot) (rd : Defaults Reply.the_row.Denot) → IsSend (TicketPass.the_row Queue.the_row (UInt w32) Call.the_row Reply.the_row g ce cd re rd)
-  queue_ticket_send ce cd re rd = ticket_send Queue.the_row (UInt w32) Call.the_row Reply.the_row g ce cd re rd queue_send (search sendable) call_send reply_send
-
-  pub queue_mcs_send : (ce : Compares Call.the_row.Denot) (cd : Defaults Call.the_row.Denot) (re : Compares Reply.the_row.Denot) (rd : Defaults Reply.the_row.Denot) → IsSend (McsPass.the_row Queue.the_row (UInt w32) Call.the_row Reply.the_row g ce cd re rd)
-  queue_mcs_send ce cd re rd = mcs_send Queue.the_row (UInt w32) Call.the_row Reply.the_row g ce cd re rd queue_send (search sendable) call_send reply_send
 
   pub queue_cell_sync : (cl : Clones Call.the_row.Denot) (cq : Equals Call.the_row.Denot) (ce : Compares Call.the_row.Denot) (cd : Defaults Call.the_row.Denot) (rc : Clones Reply.the_row.Denot) (rq : Equals Reply.the_row.Denot) (re : Compares Reply.the_row.Denot) (rd : Defaults Reply.the_row.Denot)
       → IsSync (AnyCell.the_row Queue.the_row (UInt w32) Call.the_row Reply.the_row g cl cq ce cd rc rq re rd)

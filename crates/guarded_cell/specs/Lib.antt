@@ -1,4 +1,3 @@
 pub mod Kinds
-pub mod Callers
 pub mod Groups
 pub mod Calls

@@ -1,20 +1,18 @@
-//! A cell of either kind meets the interface of all locks: it does what its lock does. By the conditions no caller of
-//! the other kind comes.
+//! A cell of either kind meets the interface of all locks: it does what its lock does. A caller of the other kind isn't of
+//! the cell, since its key names its lock.
 
-ghost use Rattle.guarded_cell.specs.Kinds.{IsPassOf, IsHoldOf, pass_part, hold_held};
-ghost use Rattle.guarded_cell.specs.Callers.{any_part, any_held};
+ghost use Rattle.word_rule.specs.Passes.{pass_part, hold_held};
+ghost use Rattle.guarded_cell.specs.Kinds.{IsPassOf, IsHoldOf};
 
-use crate::cell::{AnyCell, AnyHold, AnyPass};
+use crate::cell::AnyCell;
 use event_log::{Logged, NoRoom, SeqObject, Steps};
-use mcs_lock::McsCell;
 use std::sync::Wait;
-use ticket_lock::TicketCell;
-use word_rule::LockCell;
+use word_rule::{Hold, LockCell, Pass};
 
 impl<O: SeqObject> LockCell<O> for AnyCell<O> {
-    type Pass = AnyPass<O>;
+    type Pass = Pass<O>;
 
-    type Hold = AnyHold<O>;
+    type Hold = Hold<O>;
 
     ghost is_pass = { IsPassOf };
 
@@ -24,93 +22,57 @@ impl<O: SeqObject> LockCell<O> for AnyCell<O> {
 
     ghost held = { hold_held };
 
-    fn acquire<R: Wait>(&self, rt: &R, pass: AnyPass<O>) -> (AnyHold<O>, u64) {
-        match (self, pass) {
-            (AnyCell::Ticket(cell), AnyPass::Ticket(pass)) => {
-                let (hold, looks) = cell.acquire(rt, pass);
-                (AnyHold::Ticket(hold), looks)
-            }
-            (AnyCell::Mcs(cell), AnyPass::Mcs(pass)) => {
-                let (hold, looks) = cell.acquire(rt, pass);
-                (AnyHold::Mcs(hold), looks)
-            }
-            _ => unreachable!(),
+    fn acquire<R: Wait>(&self, rt: &R, pass: Pass<O>) -> (Hold<O>, u64) {
+        match self {
+            AnyCell::Ticket(cell) => cell.acquire(rt, pass),
+            AnyCell::Mcs(cell) => cell.acquire(rt, pass),
         }
     }
 
-    fn apply(hold: &mut AnyHold<O>, calls: &[O::Call]) -> Result<Steps<O>, NoRoom> {
-        match hold {
-            AnyHold::Ticket(hold) => TicketCell::apply(hold, calls),
-            AnyHold::Mcs(hold) => McsCell::apply(hold, calls),
+    fn apply(hold: &mut Hold<O>, calls: &[O::Call]) -> Result<Steps<O>, NoRoom> {
+        hold.apply(calls)
+    }
+
+    fn logged(hold: &Hold<O>) -> &Logged<O> {
+        &hold.logged
+    }
+
+    fn release<R: Wait>(&self, rt: &R, hold: Hold<O>) -> Pass<O> {
+        match self {
+            AnyCell::Ticket(cell) => cell.release(rt, hold),
+            AnyCell::Mcs(cell) => cell.release(rt, hold),
         }
     }
 
-    fn logged(hold: &AnyHold<O>) -> &Logged<O> {
-        match hold {
-            AnyHold::Ticket(hold) => TicketCell::logged(hold),
-            AnyHold::Mcs(hold) => McsCell::logged(hold),
+    fn meet(&self, first: Pass<O>, second: Pass<O>) -> (Pass<O>, Pass<O>) {
+        match self {
+            AnyCell::Ticket(cell) => cell.meet(first, second),
+            AnyCell::Mcs(cell) => cell.meet(first, second),
         }
     }
 
-    fn release<R: Wait>(&self, rt: &R, hold: AnyHold<O>) -> AnyPass<O> {
-        match (self, hold) {
-            (AnyCell::Ticket(cell), AnyHold::Ticket(hold)) => {
-                AnyPass::Ticket(cell.release(rt, hold))
-            }
-            (AnyCell::Mcs(cell), AnyHold::Mcs(hold)) => AnyPass::Mcs(cell.release(rt, hold)),
-            _ => unreachable!(),
+    fn apart(&self, first: Hold<O>, second: Hold<O>) -> (Hold<O>, Hold<O>) {
+        match self {
+            AnyCell::Ticket(cell) => cell.apart(first, second),
+            AnyCell::Mcs(cell) => cell.apart(first, second),
         }
     }
 
-    fn meet(&self, first: AnyPass<O>, second: AnyPass<O>) -> (AnyPass<O>, AnyPass<O>) {
-        match (self, first, second) {
-            (AnyCell::Ticket(cell), AnyPass::Ticket(first), AnyPass::Ticket(second)) => {
-                let (first, second) = cell.meet(first, second);
-                (AnyPass::Ticket(first), AnyPass::Ticket(second))
-            }
-            (AnyCell::Mcs(cell), AnyPass::Mcs(first), AnyPass::Mcs(second)) => {
-                let (first, second) = cell.meet(first, second);
-                (AnyPass::Mcs(first), AnyPass::Mcs(second))
-            }
-            _ => unreachable!(),
+    fn join(&self, first: Pass<O>, second: Pass<O>) -> Pass<O> {
+        match self {
+            AnyCell::Ticket(cell) => cell.join(first, second),
+            AnyCell::Mcs(cell) => cell.join(first, second),
         }
     }
 
-    fn apart(&self, first: AnyHold<O>, second: AnyHold<O>) -> (AnyHold<O>, AnyHold<O>) {
-        match (self, first, second) {
-            (AnyCell::Ticket(cell), AnyHold::Ticket(first), AnyHold::Ticket(second)) => {
-                let (first, second) = cell.apart(first, second);
-                (AnyHold::Ticket(first), AnyHold::Ticket(second))
-            }
-            (AnyCell::Mcs(cell), AnyHold::Mcs(first), AnyHold::Mcs(second)) => {
-                let (first, second) = cell.apart(first, second);
-                (AnyHold::Mcs(first), AnyHold::Mcs(second))
-            }
-            _ => unreachable!(),
+    fn close(self, pass: Pass<O>) -> Logged<O> {
+        match self {
+            AnyCell::Ticket(cell) => cell.close(pass),
+            AnyCell::Mcs(cell) => cell.close(pass),
         }
     }
 
-    fn join(&self, first: AnyPass<O>, second: AnyPass<O>) -> AnyPass<O> {
-        match (self, first, second) {
-            (AnyCell::Ticket(cell), AnyPass::Ticket(first), AnyPass::Ticket(second)) => {
-                AnyPass::Ticket(cell.join(first, second))
-            }
-            (AnyCell::Mcs(cell), AnyPass::Mcs(first), AnyPass::Mcs(second)) => {
-                AnyPass::Mcs(cell.join(first, second))
-            }
-            _ => unreachable!(),
-        }
-    }
+    ghost pass_is_part = { λ _ pass _. pass.idle.part };
 
-    fn close(self, pass: AnyPass<O>) -> Logged<O> {
-        match (self, pass) {
-            (AnyCell::Ticket(cell), AnyPass::Ticket(pass)) => cell.close(pass),
-            (AnyCell::Mcs(cell), AnyPass::Mcs(pass)) => cell.close(pass),
-            _ => unreachable!(),
-        }
-    }
-
-    ghost pass_is_part = { λ _ pass _. any_part pass };
-
-    ghost hold_is_held = { λ _ hold _. any_held hold };
+    ghost hold_is_held = { λ _ hold _. hold.holds.held };
 }

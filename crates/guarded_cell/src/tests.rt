@@ -2,7 +2,8 @@
 
 ghost use Rattle.std.specs.Prelude.{◌≡◌, [], ◌∷◌, IfOk};
 ghost use Rattle.word_rule.specs.Cell.{OwnsAll, OwnTogether};
-ghost use Rattle.guarded_cell.specs.Kinds.{IsPassOf, pass_part};
+ghost use Rattle.guarded_cell.specs.Kinds.{IsPassOf};
+ghost use Rattle.word_rule.specs.Passes.{pass_part};
 
 mod threads;
 

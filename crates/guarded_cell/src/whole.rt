@@ -5,9 +5,11 @@ ghost use Rattle.std.specs.List.{All};
 ghost use Rattle.event_log.specs.Log.{Fulfils};
 ghost use Rattle.word_rule.specs.Answered.{IsAnswered, IsRefused, IsHeldThrough};
 ghost use Rattle.guarded_cell.specs.Groups.{one_step};
-ghost use Rattle.guarded_cell.specs.Kinds.{IsPassOf, pass_part};
+ghost use Rattle.guarded_cell.specs.Kinds.{IsPassOf};
+ghost use Rattle.word_rule.specs.Passes.{pass_part};
 
-use crate::cell::{AnyCell, AnyPass};
+use crate::AnyPass;
+use crate::cell::AnyCell;
 use crate::groups::do_groups;
 use arrayvec::ArrayVec;
 use event_log::{NoRoom, SeqObject, Steps};

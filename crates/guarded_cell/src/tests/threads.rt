@@ -2,7 +2,8 @@
 
 ghost use Rattle.std.specs.Prelude.{◌≡◌, ◌<◌, ◌||◌, ℕ, true, IfOk};
 ghost use Rattle.word_rule.specs.Cell.{OwnTogether};
-ghost use Rattle.guarded_cell.specs.Kinds.{IsPassOf, pass_part};
+ghost use Rattle.guarded_cell.specs.Kinds.{IsPassOf};
+ghost use Rattle.word_rule.specs.Passes.{pass_part};
 
 use super::{KINDS, cell_of_two};
 use crate::{AnyCell, AnyPass, call_on_two_threads, two_callers};

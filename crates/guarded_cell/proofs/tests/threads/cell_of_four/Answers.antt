@@ -1,5 +1,5 @@
 use Rattle.std.proofs.Common.{rules, ◌≡◌, Some, slice_get}
-use Rattle.guarded_cell.specs.Kinds.{pass_part}
+use Rattle.word_rule.specs.Passes.{pass_part}
 use Rattle.word_rule.proofs.Owners.{own_four}
 use Rattle.guarded_cell.proofs.tests.threads.cell_of_four.Goals as goal
 

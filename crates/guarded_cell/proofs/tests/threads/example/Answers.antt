@@ -1,7 +1,7 @@
 use denote.Exit.{yes}
 use denote.Param.Send.{param_send, arg_send}
 use Rattle.std.proofs.Common.{rules, ◌≡◌, Some, slice_get}
-use Rattle.guarded_cell.specs.Kinds.{pass_part}
+use Rattle.word_rule.specs.Passes.{pass_part}
 use Rattle.word_rule.proofs.Owners.{still_together, together_joined, own_both}
 use Rattle.guarded_cell.proofs.QueueSends.{queue_pass_send}
 use Rattle.guarded_cell.proofs.tests.threads.example.Goals as goal

@@ -2,12 +2,12 @@ use denote.Exit.{yes}
 use denote.Param.Send.{param_send, arg_send}
 use Rattle.std.proofs.Common.{rules, ◌≡◌, Some, slice_get}
 use Rattle.word_rule.proofs.Owners.{own_both}
-use Rattle.mcs_lock.specs.Passes.{pass_part}
-use Rattle.guarded_cell.proofs.QueueSends.{queue_mcs_send}
+use Rattle.word_rule.specs.Passes.{pass_part}
+use Rattle.guarded_cell.proofs.QueueSends.{queue_pass_send}
 use Rattle.guarded_cell.proofs.tests.threads.two_threads_call_an_mcs_lock.Goals as goal
 
 pub two_leave_their_calls-requires-send-C-Pass : goal.two_leave_their_calls-requires-send-C-Pass
-two_leave_their_calls-requires-send-C-Pass c κs within = param_send _ _ (arg_send _ yes _ (queue_mcs_send _ _ _ _ _))
+two_leave_their_calls-requires-send-C-Pass c κs within = param_send _ _ (arg_send _ yes _ (queue_pass_send _ _ _ _ _))
 
 pub two_leave_their_calls-requires-clause-first : goal.two_leave_their_calls-requires-clause-first
 two_leave_their_calls-requires-clause-first g c κs =
