@@ -21,6 +21,7 @@ use Rattle.mc2.specs.FirstRun.{asked_of, script_of, AsksFor, IsAble, IsFor, Did,
 use Rattle.mc2.specs.ScriptText.{IsRequest, AskFor}
 use Rattle.mc2.specs.Settings.{Settings}
 use Rattle.mc2.specs.Spelling.{Spelling}
+use Rattle.word_rule.specs.declared.lock_kind.LockKind.TheVariants.{Ticket}
 use Rattle.word_rule.specs.Cell.{Cell, Part, Grows, Lawful, IsPart, OwnsAll, cell_of, first_part, opening_part}
 use Rattle.word_rule.specs.Answered.{IsAnswered, IsRefused, events_by}
 use Rattle.word_rule.specs.Sound.{Opened, Sound, LogIsSound, EntryIsSound, Answers, NoneAfterFull, done_on, with_steps, steps_by, transcript_of}
@@ -271,9 +272,9 @@ module _ {O P C R : Type 0} (meaning : Ghosts O P C R) (cell : Cell O P C R) (em
 
 -- what two workers on a new cell of two CPUs leave, and the pass that theirs become
 module _ {O P C R : Type 0} (meaning : Ghosts O P C R) (x : History O P C R) (new : x.log ≡ []) (before0 before1 after0 after1 joined : Part O P C R) (firsts seconds : List (Todo O P C R)) (first second : List (Entry O P C R))
-    (is0 : before0 ≡ first_part x 2 0) (is1 : before1 ≡ first_part x 2 1) (done0 : HasDone meaning before0 firsts first after0) (done1 : HasDone meaning before1 seconds second after1) (one_cell : joined.caller.cell ≡ after0.caller.cell) where
+    (is0 : before0 ≡ first_part Ticket x 2 0) (is1 : before1 ≡ first_part Ticket x 2 1) (done0 : HasDone meaning before0 firsts first after0) (done1 : HasDone meaning before1 seconds second after1) (one_cell : joined.caller.cell ≡ after0.caller.cell) where
   abbrev cell : Cell O P C R
-  cell = cell_of 2 x
+  cell = cell_of Ticket 2 x
 
   one0 : HasDone meaning (opening_part cell 0) firsts first after0
   one0 = subst (λ p. HasDone meaning p firsts first after0) is0 done0

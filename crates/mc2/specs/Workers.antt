@@ -7,8 +7,9 @@ use Rattle.event_log.specs.declared.object.SeqObject.{Ghosts}
 use Rattle.event_log.specs.declared.entry.Entry.{Entry}
 use Rattle.event_log.specs.declared.entry.Todo.{Todo}
 use Rattle.ticket_lock.specs.declared.cell.TicketCell.{TicketCell}
-use Rattle.ticket_lock.specs.declared.states.Pass.{Pass}
-use Rattle.ticket_lock.specs.Passes.{IsPassOf, pass_part}
+use Rattle.word_rule.specs.declared.pass.Pass.{Pass}
+use Rattle.ticket_lock.specs.Passes.{IsPassOf}
+use Rattle.word_rule.specs.Passes.{pass_part}
 use Rattle.mc2.specs.FirstRun.{IsAble, HasDone}
 
 module _ {O P C R : Type 0} {g : Ghosts O P C R} {call_eq : Eq C} {call_default : Default C} {reply_eq : Eq R} {reply_default : Default R} where

@@ -1,7 +1,8 @@
 //! A CPU's worker: it does its entries on a cell, one after another.
 
 ghost use Rattle.std.specs.Prelude.{◌≡◌, vec_capacity, IfOk, OnErr};
-ghost use Rattle.ticket_lock.specs.Passes.{IsPassOf, pass_part};
+ghost use Rattle.ticket_lock.specs.Passes.{IsPassOf};
+ghost use Rattle.word_rule.specs.Passes.{pass_part};
 ghost use Rattle.mc2.specs.FirstRun.{IsAble, DoesEntry};
 ghost use Rattle.mc2.specs.Workers.{IsReady, IsDone};
 

@@ -2,7 +2,7 @@ use Rattle.std.proofs.Common.{◌≤◌, ◌∷◌, [], vec_capacity, sym, ap, s
 use Rattle.std.specs.List.{AllByRecursion}
 use Rattle.shared_queue.specs.contracts.queue.ThreadQueueSeqObject.TheImpl.{ghosts as queue_meaning}
 use Rattle.word_rule.specs.Sound.{Sound}
-use Rattle.ticket_lock.specs.Passes.{pass_part}
+use Rattle.word_rule.specs.Passes.{pass_part}
 use Rattle.mc2.specs.FirstRun.{IsAble, AsksFor}
 use Rattle.mc2.specs.QueueTypes.{QueueRun}
 use Rattle.mc2.proofs.Workers.{script_able, whole, run_sound, run_asks}

@@ -1,7 +1,7 @@
 use Rattle.std.proofs.Common.{◌≡◌, ℕ, suc, ◌∷◌, [], ◌++◌, ◌+◌, ◌≤◌, length, sym, ap, subst, ◌∙◌, append_assoc, arith, length-append}
 use Rattle.std.proofs.lemmas.List.{append-nil, nil_from_length}
 use Rattle.std.specs.Vec.Iter.{into_iter_items}
-use Rattle.ticket_lock.specs.Passes.{pass_part}
+use Rattle.word_rule.specs.Passes.{pass_part}
 use Rattle.mc2.specs.FirstRun.{HasDone}
 use Rattle.mc2.proofs.Workers.{entry_more}
 use Rattle.mc2.proofs.worker.do_entries.Goals as goal

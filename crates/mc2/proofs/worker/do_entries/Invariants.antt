@@ -1,7 +1,8 @@
 use Rattle.std.proofs.Common.{◌≡◌, ◌++◌, ◌≤◌, ◌+◌, length, vec_capacity}
 use Rattle.std.specs.List.{AllByRecursion}
 use Rattle.std.specs.Vec.Iter.{into_iter_items}
-use Rattle.ticket_lock.specs.Passes.{IsPassOf, pass_part}
+use Rattle.ticket_lock.specs.Passes.{IsPassOf}
+use Rattle.word_rule.specs.Passes.{pass_part}
 use Rattle.mc2.specs.FirstRun.{IsAble, HasDone}
 use Rattle.mc2.proofs.worker.do_entries.Given as goal
 

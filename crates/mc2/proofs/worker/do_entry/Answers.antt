@@ -1,7 +1,7 @@
 use Rattle.std.proofs.Common.{refl, subst, IfOk}
 use Rattle.event_log.specs.Log.{Fulfils}
 use Rattle.word_rule.proofs.Parts.{did}
-use Rattle.ticket_lock.specs.Passes.{pass_part, hold_held}
+use Rattle.word_rule.specs.Passes.{pass_part, hold_held}
 use Rattle.mc2.proofs.Workers.{did_of}
 use Rattle.mc2.proofs.worker.do_entry.Goals as goal
 

@@ -10,7 +10,7 @@ use Rattle.shared_queue.proofs.queue.ThreadQueue.TheSendSync.{the_send as queue_
 use Rattle.event_log.proofs.Sends.{captures_send, clones, equals, compares, defaults}
 use Rattle.shared_queue.proofs.call.QueueCall.TheSendSync.{the_send as call_send}
 use Rattle.shared_queue.proofs.call.QueueReply.TheSendSync.{the_send as reply_send}
-use Rattle.ticket_lock.proofs.Sends.{pass_send}
+use Rattle.word_rule.proofs.Sends.{pass_send}
 use Rattle.ticket_lock.proofs.cell.TicketCell.TheSendSync.{the_sync as cell_sync}
 use Rattle.mc2.proofs.QueueSends.{todos, transcript, todos_send, transcript_send}
 use Rattle.mc2.proofs.threads.fn.on_two_threads.scope.Goals as goal
