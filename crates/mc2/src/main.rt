@@ -19,13 +19,14 @@ mod split_once;
 mod tests;
 mod threads;
 mod words;
+mod words_given;
 mod worker;
 mod write_text;
 mod writer;
 
 pub use crate::command::command;
 use crate::command::refuse;
-use crate::fault::Fault;
+use crate::words_given::words_given;
 pub use buffered::Buffered;
 use event_log::{Plain, StreamFailed};
 pub use first_run::{FirstFault, first_run};
@@ -36,10 +37,9 @@ pub use request::Request;
 pub use schedule::{ScheduleFault, read_schedule};
 pub use settings::{ObjectSettings, Settings};
 use std::fs::{File, Files};
+use std::io;
 use std::io::{Input, Read};
 use std::process::ExitCode;
-use std::rt::Env;
-use std::{env, io};
 pub use write_text::{WriteFailed, write_text};
 pub use writer::write_record;
 
@@ -79,27 +79,10 @@ impl<R: Files + Input> Inputs for System<'_, R> {
     }
 }
 
-/// The words after the program's name.
-fn all_words<R: Env + AllocGlobal>(rt: &R) -> Result<Vec<String>, Fault> {
-    let mut words = Vec::new(rt.alloc());
-    match env::args(rt) {
-        Ok(all) => {
-            for word in all.skip(1) {
-                if words.push(word).is_err() {
-                    return Err(Fault::OutOfMemory);
-                }
-            }
-            Ok(words)
-        }
-        Err(error) if error.kind() == io::ErrorKind::OutOfMemory => Err(Fault::OutOfMemory),
-        Err(_) => Err(Fault::BadWords),
-    }
-}
-
 fn main(rt: HostRuntime) -> ExitCode {
     let mut out = Plain::new(rt.stdout());
     let mut faults = Plain::new(rt.stderr());
-    let status = match all_words(&rt) {
+    let status = match words_given(&rt, rt.alloc()) {
         Ok(words) => command(
             &rt,
             rt.alloc(),
