@@ -1,3 +1,4 @@
 pub mod Additions
 pub mod Called
 pub mod QueueSends
+pub mod Stays

@@ -4,10 +4,10 @@ use Rattle.std.specs.declared.default.Default.{Ghosts as Default}
 use Rattle.event_log.specs.declared.object.SeqObject.{Ghosts}
 use Rattle.word_rule.specs.declared.lock_kind.LockKind.{LockKind}
 use Rattle.word_rule.specs.declared.lock_kind.LockKind.TheVariants as kinds
-use Rattle.word_rule.specs.declared.lock_table.LockTable.{LockTable}
 use Rattle.word_rule.specs.declared.pass.Pass.{Pass}
 use Rattle.word_rule.specs.declared.hold.Hold.{Hold}
-use Rattle.word_rule.specs.Passes.{IsPassAt, IsHoldAt}
+use Rattle.ticket_lock.specs.Passes.{IsPassOf as IsTicketPass, IsHoldOf as IsTicketHold}
+use Rattle.mcs_lock.specs.Passes.{IsPassOf as IsMcsPass, IsHoldOf as IsMcsHold}
 use Rattle.guarded_cell.specs.declared.cell.AnyCell.{AnyCell}
 use Rattle.guarded_cell.specs.declared.cell.AnyCell.TheVariants as cells
 
@@ -17,17 +17,14 @@ module _ {O P C R : Type 0} where
   kind_of (cells.Ticket c) = kinds.Ticket
   kind_of (cells.Mcs c) = kinds.Mcs
 
-  -- the table of the cell
-  abbrev pub table_of : AnyCell O P C R → LockTable O P C R
-  table_of (cells.Ticket c) = c.table
-  table_of (cells.Mcs c) = c.table
-
 -- The types of callers are over all that an object is bound by.
 module _ {O P C R : Type 0} {g : Ghosts O P C R} {call_eq : Eq C} {call_default : Default C} {reply_eq : Eq R} {reply_default : Default R} where
   -- the pass is of the cell, and so of its kind
   abbrev pub IsPassOf : AnyCell O P C R → Pass O P C R g call_eq call_default reply_eq reply_default → Type 0
-  IsPassOf c p = IsPassAt (table_of c) p
+  IsPassOf (cells.Ticket c) p = IsTicketPass c p
+  IsPassOf (cells.Mcs c) p = IsMcsPass c p
 
   -- the hold is of the cell, and so of its kind
   abbrev pub IsHoldOf : AnyCell O P C R → Hold O P C R g call_eq call_default reply_eq reply_default → Type 0
-  IsHoldOf c h = IsHoldAt (table_of c) h
+  IsHoldOf (cells.Ticket c) h = IsTicketHold c h
+  IsHoldOf (cells.Mcs c) h = IsMcsHold c h

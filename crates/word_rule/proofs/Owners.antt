@@ -13,6 +13,14 @@ module _ {O P C R : Type 0} where
   pub together_joined : (a b j : Caller O P C R) → j.cell ≡ b.cell → ((k : ℕ) → j.owned k ≡ (a.owned k || b.owned k)) → OwnTogether a b → OwnsAll j
   together_joined a b j cell owned all = record { each = λ k below. owned k ∙ all k (subst (λ (z : Cell O P C R). k < z.numbers) cell below) }
 
+  -- four that become one, by two and two
+  pub four_joined : (a b c d a' b' c' d' f g j : Caller O P C R) → a' ≡ a → b' ≡ b → c' ≡ c → d' ≡ d → j.cell ≡ f.cell → f.cell ≡ a'.cell
+      → ((k : ℕ) → f.owned k ≡ (a'.owned k || b'.owned k)) → ((k : ℕ) → g.owned k ≡ (c'.owned k || d'.owned k)) → ((k : ℕ) → j.owned k ≡ (f.owned k || g.owned k))
+      → ((k : ℕ) → k < a.cell.numbers → ((a.owned k || b.owned k) || (c.owned k || d.owned k)) ≡ true) → OwnsAll j
+  four_joined a b c d a' b' c' d' f g j is_a is_b is_c is_d cell front two other both all = record {
+    each = λ k below. both k ∙ ((λ i. two k i || other k i) ∙ ((λ i. ((is_a i).owned k || (is_b i).owned k) || ((is_c i).owned k || (is_d i).owned k)) ∙ all k (subst (λ (z : Cell O P C R). k < z.numbers) (cell ∙ (front ∙ ap (λ z. z.cell) is_a)) below)));
+  }
+
 module _ {O P C R : Type 0} {kind : LockKind} where
   -- the only pass of a cell of one CPU
   pub owns_alone : (x : History O P C R) (p : Part O P C R) → p ≡ first_part kind x 1 0 → OwnsAll p.caller
