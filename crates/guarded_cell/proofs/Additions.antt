@@ -7,7 +7,7 @@ use Rattle.event_log.specs.declared.event.Step.{Step}
 use Rattle.event_log.specs.declared.event.Steps.{Steps}
 use Rattle.event_log.specs.Log.{Fulfils, calls_of}
 use Rattle.event_log.specs.History.{with_event}
-use Rattle.word_rule.specs.Cell.{Part, Held, Grows, Lawful, IsPart, IsHeld}
+use Rattle.word_rule.specs.Cell.{PassView, HoldView, Grows, Lawful, IsPassView, IsHoldView}
 use Rattle.word_rule.specs.Answered.{FulfilFirst, IsHeldThrough, events_by}
 use Rattle.guarded_cell.specs.Groups.{HasAdded}
 
@@ -22,7 +22,7 @@ module _ {O P C R : Type 0} (meaning : Ghosts O P C R) where
   only_step c (s ∷ t ∷ more) d f = absurd (let e : 1 ≡ suc (suc (length (calls_of more))) = ap length f.beginning.start in omega arith)
 
   -- one event more under a hold
-  pub added_more : (h0 h k : Held O P C R) (done more : List (Steps O P C R)) (s : Steps O P C R) (state : O) → HasAdded h0 done h → k.caller ≡ h.caller
+  pub added_more : (h0 h k : HoldView O P C R) (done more : List (Steps O P C R)) (s : Steps O P C R) (state : O) → HasAdded h0 done h → k.caller ≡ h.caller
       → k.history ≡ with_event h.history (record { cpu = h.caller.acting; steps = s }) state → more ≡ done ++ s ∷ [] → HasAdded h0 more k
   added_more h0 h k done more s state a same next longer = record {
     caller = same ∙ a.caller;
@@ -62,8 +62,8 @@ module _ {O P C R : Type 0} (meaning : Ghosts O P C R) where
       subst T (take-append-drop i gs) (fulfil_longer (take i gs) (drop i gs) done asked)
 
   -- the hold h of a caller, which it is after the groups, and the caller without the object afterwards
-  module _ (before after : Part O P C R) (h k : Held O P C R) (done : List (Steps O P C R)) (was : h.caller ≡ before.caller) (added : HasAdded h done k) (seen : after.seen ≡ k.history.log) where
-    pub held_through : (gs : List (ArrayVec C)) → IsHeld meaning h → Grows before.caller.owned before.seen h.history.log → FulfilFirst meaning gs done → after.caller ≡ k.caller → IsPart meaning after
+  module _ (before after : PassView O P C R) (h k : HoldView O P C R) (done : List (Steps O P C R)) (was : h.caller ≡ before.caller) (added : HasAdded h done k) (seen : after.seen ≡ k.history.log) where
+    pub held_through : (gs : List (ArrayVec C)) → IsHoldView meaning h → Grows before.caller.owned before.seen h.history.log → FulfilFirst meaning gs done → after.caller ≡ k.caller → IsPassView meaning after
         → IsHeldThrough meaning before gs done after
     held_through gs held grows asked ends part =
         let same : after.caller ≡ before.caller = ends ∙ (added.caller ∙ was) in
@@ -78,7 +78,7 @@ module _ {O P C R : Type 0} (meaning : Ghosts O P C R) where
         }
 
     -- a log that was full under the hold is full
-    pub full_after : {A E : Type 0} (r : Result A E) → IsHeld meaning k → OnErr r (length k.history.log ≡ k.history.limit) → OnErr r (length after.seen ≡ before.caller.cell.limit)
+    pub full_after : {A E : Type 0} (r : Result A E) → IsHoldView meaning k → OnErr r (length k.history.log ≡ k.history.limit) → OnErr r (length after.seen ≡ before.caller.cell.limit)
     full_after (Ok x) held full = tt
     full_after (Err e) held full = ap length seen ∙ (full ∙ (ap (λ x. x.limit) held.replayed ∙ ap (λ c. c.cell.limit) (added.caller ∙ was)))
 

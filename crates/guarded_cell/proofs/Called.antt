@@ -6,7 +6,7 @@ use Rattle.event_log.specs.declared.event.Event.{Event}
 use Rattle.event_log.specs.Log.{Begins, of, calls_of}
 use Rattle.event_log.proofs.Beginnings.{begins_self, begins_then, begins_rest}
 use Rattle.event_log.specs.History.{History}
-use Rattle.word_rule.specs.Cell.{Caller, Part, Grows, Lawful, IsPart, IsCaller, stored}
+use Rattle.word_rule.specs.Cell.{Caller, PassView, Grows, Lawful, IsPassView, IsCaller, stored}
 use Rattle.word_rule.specs.Answered.{IsAnswered, IsRefused}
 use Rattle.guarded_cell.specs.Groups.{one_step}
 use Rattle.guarded_cell.specs.Calls.{asked_by, HasCalled, IsEnded}
@@ -23,11 +23,11 @@ module _ {O P C R : Type 0} where
   calls_in e = calls_of e.steps.list.items
 
   -- a caller that has called nothing yet
-  pub called_nothing : (before : Part O P C R) → HasCalled before [] before.seen
+  pub called_nothing : (before : PassView O P C R) → HasCalled before [] before.seen
   called_nothing before = record { begins = begins_self before.seen; mine = sym (append-nil (asked_by before.caller.acting before.seen)); others = λ k owned apart. refl }
 
   -- what a caller has called stays where the log grows without it
-  pub called_grows : (before : Part O P C R) (calls : List C) (a b : List (Event O P C R)) → IsCaller before.caller → HasCalled before calls a → Grows before.caller.owned a b → HasCalled before calls b
+  pub called_grows : (before : PassView O P C R) (calls : List C) (a b : List (Event O P C R)) → IsCaller before.caller → HasCalled before calls a → Grows before.caller.owned a b → HasCalled before calls b
   called_grows before calls a b is h g = record {
     begins = begins_then before.seen a b h.begins g.begins;
     mine = ap (map calls_in) (g.own before.caller.acting is.acts) ∙ h.mine;
@@ -35,7 +35,7 @@ module _ {O P C R : Type 0} where
   }
 
   -- what a caller has called stays where it meets another and joins it
-  pub called_met : (before f m : Part O P C R) (calls : List C) (log : List (Event O P C R)) → IsCaller before.caller → HasCalled before calls f.seen → f.caller ≡ before.caller → m.caller ≡ f.caller
+  pub called_met : (before f m : PassView O P C R) (calls : List C) (log : List (Event O P C R)) → IsCaller before.caller → HasCalled before calls f.seen → f.caller ≡ before.caller → m.caller ≡ f.caller
       → Grows f.caller.owned f.seen m.seen → Grows m.caller.owned m.seen log → HasCalled before calls log
   called_met before f m calls log is h fc mc g k =
       let meets : Grows before.caller.owned f.seen m.seen = subst (λ (x : Caller O P C R). Grows x.owned f.seen m.seen) fc g in
@@ -44,7 +44,7 @@ module _ {O P C R : Type 0} where
 
 module _ {O P C R : Type 0} (meaning : Ghosts O P C R) where
   -- one call more
-  pub called_more : (before mid after : Part O P C R) (calls : List C) (c : C) (r : R) → mid.caller ≡ before.caller → HasCalled before calls mid.seen → IsAnswered meaning mid (c ∷ []) (one_step c r) after
+  pub called_more : (before mid after : PassView O P C R) (calls : List C) (c : C) (r : R) → mid.caller ≡ before.caller → HasCalled before calls mid.seen → IsAnswered meaning mid (c ∷ []) (one_step c r) after
       → HasCalled before (calls ++ c ∷ []) after.seen
   called_more before mid after calls c r same h answer =
       let k : ℕ = before.caller.acting in
@@ -59,7 +59,7 @@ module _ {O P C R : Type 0} (meaning : Ghosts O P C R) where
       }
 
   -- the call at the index i was done too
-  pub called_next : {X : Type 0} (before mid after : Part O P C R) (calls : List C) (i : ℕ) (c : C) (reply : Result R X) (r : R) → reply ≡ Ok r → IfOk reply (λ x. IsAnswered meaning mid (c ∷ []) (one_step c x) after)
+  pub called_next : {X : Type 0} (before mid after : PassView O P C R) (calls : List C) (i : ℕ) (c : C) (reply : Result R X) (r : R) → reply ≡ Ok r → IfOk reply (λ x. IsAnswered meaning mid (c ∷ []) (one_step c x) after)
       → mid.caller ≡ before.caller → i < length calls → c ≡ get_or calls i c → HasCalled before (take i calls) mid.seen → HasCalled before (take (i + 1) calls) after.seen
   called_next {X} before mid after calls i c reply r is answered same lt at h =
       let answer : IsAnswered meaning mid (c ∷ []) (one_step c r) after = subst (λ (v : Result R X). IfOk v (λ x. IsAnswered meaning mid (c ∷ []) (one_step c x) after)) is answered in
@@ -67,15 +67,15 @@ module _ {O P C R : Type 0} (meaning : Ghosts O P C R) where
       subst (λ l. HasCalled before l after.seen) (sym taken) (called_more before mid after (take i calls) c r same h answer)
 
   -- a call without room adds nothing
-  pub called_full : {X : Type 0} (before mid after : Part O P C R) (calls : List C) (reply : Result R X) (x : X) → reply ≡ Err x → OnErr reply (IsRefused meaning mid after)
+  pub called_full : {X : Type 0} (before mid after : PassView O P C R) (calls : List C) (reply : Result R X) (x : X) → reply ≡ Err x → OnErr reply (IsRefused meaning mid after)
       → IsCaller before.caller → mid.caller ≡ before.caller → HasCalled before calls mid.seen → HasCalled before calls after.seen
   called_full {X} before mid after calls reply x is refused caller same h =
       let full : IsRefused meaning mid after = subst (λ (v : Result R X). OnErr v (IsRefused meaning mid after)) is refused in
       called_grows before calls mid.seen after.seen caller h (subst (λ (z : Caller O P C R). Grows z.owned mid.seen after.seen) same full.grows)
 
   -- the caller j that ended the cell, and the cell's history
-  module _ (j : Part O P C R) (h : History O P C R) (part : IsPart meaning j) (closed : h ≡ stored meaning j.caller.cell j.seen) where
-    pub ended : (first second : Part O P C R) (firsts seconds : List C) → j.caller.cell ≡ first.caller.cell → HasCalled first firsts j.seen → HasCalled second seconds j.seen → IsEnded meaning first firsts second seconds h
+  module _ (j : PassView O P C R) (h : History O P C R) (part : IsPassView meaning j) (closed : h ≡ stored meaning j.caller.cell j.seen) where
+    pub ended : (first second : PassView O P C R) (firsts seconds : List C) → j.caller.cell ≡ first.caller.cell → HasCalled first firsts j.seen → HasCalled second seconds j.seen → IsEnded meaning first firsts second seconds h
     ended first second firsts seconds cell a b =
         let log : h.log ≡ j.seen = ap (λ x. x.log) closed in
         let lawful : Lawful meaning first.caller.cell j.seen = subst (λ c. Lawful meaning c j.seen) cell part.lawful in
@@ -88,7 +88,7 @@ module _ {O P C R : Type 0} (meaning : Ghosts O P C R) where
         }
 
     -- a caller that saw a full log
-    pub ended_full : (seen : List (Event O P C R)) (before m : Part O P C R) → j.caller.cell ≡ before.caller.cell → Begins seen m.seen → Begins m.seen j.seen → length seen ≡ before.caller.cell.limit → length h.log ≡ h.limit
+    pub ended_full : (seen : List (Event O P C R)) (before m : PassView O P C R) → j.caller.cell ≡ before.caller.cell → Begins seen m.seen → Begins m.seen j.seen → length seen ≡ before.caller.cell.limit → length h.log ≡ h.limit
     ended_full seen before m cell meets joins full =
         let whole : length j.seen ≡ before.caller.cell.limit = full_longer seen j.seen before.caller.cell.limit (begins_then seen m.seen j.seen meets joins) full (subst (λ c. length j.seen ≤ c.limit) cell part.lawful.within) in
         ap (λ x. length x.log) closed ∙ (whole ∙ sym (ap (λ x. x.limit) closed ∙ ap (λ c. c.limit) cell))

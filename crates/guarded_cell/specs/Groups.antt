@@ -1,7 +1,7 @@
 -- What a hold adds to a log.
 use Rattle.std.specs.Prelude.{◌≡◌, List, [], ◌∷◌, ◌++◌}
 use Rattle.event_log.specs.declared.event.Steps.{Steps}
-use Rattle.word_rule.specs.Cell.{Held}
+use Rattle.word_rule.specs.Cell.{HoldView}
 use Rattle.word_rule.specs.Answered.{events_by}
 
 module _ {O P C R : Type 0} where
@@ -10,6 +10,6 @@ module _ {O P C R : Type 0} where
   one_step c r = record { list = record { items = record { call = c; reply = r } ∷ [] } }
 
   -- the holder has added an event for each of the steps, in order
-  pub record HasAdded (before : Held O P C R) (done : List (Steps O P C R)) (after : Held O P C R) : Type 0 where
+  pub record HasAdded (before : HoldView O P C R) (done : List (Steps O P C R)) (after : HoldView O P C R) : Type 0 where
     pub caller : after.caller ≡ before.caller
     pub log : after.history.log ≡ before.history.log ++ events_by before.caller.acting done

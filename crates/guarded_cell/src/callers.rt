@@ -19,9 +19,9 @@ pub fn call_all<O: SeqObject, C: LockCell<O>, R: Wait>(
     pass: C::Pass,
     calls: &[O::Call],
 ) -> (C::Pass, usize)
-    requires { C.is_pass cell.now pass }
-    ensures pass { C.is_pass cell.now result.0 }
-    ensures done { HasDoneCalls (C.part pass) calls.now result.1 (C.part result.0) }
+    requires { C.is_pass_of cell.now pass }
+    ensures pass { C.is_pass_of cell.now result.0 }
+    ensures done { HasDoneCalls (C.pass_view pass) calls.now result.1 (C.pass_view result.0) }
 {
     let mut pass = pass;
     let mut done = 0;
@@ -50,24 +50,24 @@ where
     O::Call: Send + Sync,
     O::Reply: Send,
     C::Pass: Send,
-    requires first { C.is_pass cell.now passes.0 }
-    requires second { C.is_pass cell.now passes.1 }
-    ensures passes { C.is_pass cell.now result.0.0 × C.is_pass cell.now result.1.0 }
-    ensures first { HasDoneCalls (C.part passes.0) first_calls.now result.0.1 (C.part result.0.0) }
-    ensures second { HasDoneCalls (C.part passes.1) second_calls.now result.1.1 (C.part result.1.0) }
+    requires first { C.is_pass_of cell.now passes.0 }
+    requires second { C.is_pass_of cell.now passes.1 }
+    ensures passes { C.is_pass_of cell.now result.0.0 × C.is_pass_of cell.now result.1.0 }
+    ensures first { HasDoneCalls (C.pass_view passes.0) first_calls.now result.0.1 (C.pass_view result.0.0) }
+    ensures second { HasDoneCalls (C.pass_view passes.1) second_calls.now result.1.1 (C.pass_view result.1.0) }
 {
     let (first, second) = passes;
     thread::join(
         rt,
         move || -> (C::Pass, usize)
-            requires pass { C.is_pass cell.now first }
-            ensures pass { C.is_pass cell.entry.now result.0 }
-            ensures done { HasDoneCalls (C.part first) first_calls.entry.now result.1 (C.part result.0) }
+            requires pass { C.is_pass_of cell.now first }
+            ensures pass { C.is_pass_of cell.entry.now result.0 }
+            ensures done { HasDoneCalls (C.pass_view first) first_calls.entry.now result.1 (C.pass_view result.0) }
         { call_all(rt, cell, first, first_calls) },
         move || -> (C::Pass, usize)
-            requires pass { C.is_pass cell.now second }
-            ensures pass { C.is_pass cell.entry.now result.0 }
-            ensures done { HasDoneCalls (C.part second) second_calls.entry.now result.1 (C.part result.0) }
+            requires pass { C.is_pass_of cell.now second }
+            ensures pass { C.is_pass_of cell.entry.now result.0 }
+            ensures done { HasDoneCalls (C.pass_view second) second_calls.entry.now result.1 (C.pass_view result.0) }
         { call_all(rt, cell, second, second_calls) },
     )
 }
@@ -86,10 +86,10 @@ where
     O::Call: Send + Sync,
     O::Reply: Send,
     C::Pass: Send,
-    requires first { C.is_pass cell passes.0 }
-    requires second { C.is_pass cell passes.1 }
-    requires all { OwnTogether (C.part passes.0).caller (C.part passes.1).caller }
-    ensures ended { IsEnded O.SeqObject (C.part passes.0) (take result.1 first_calls.now) (C.part passes.1) (take result.2 second_calls.now) result.0 }
+    requires first { C.is_pass_of cell passes.0 }
+    requires second { C.is_pass_of cell passes.1 }
+    requires all { OwnTogether (C.pass_view passes.0).caller (C.pass_view passes.1).caller }
+    ensures ended { IsEnded O.SeqObject (C.pass_view passes.0) (take result.1 first_calls.now) (C.pass_view passes.1) (take result.2 second_calls.now) result.0 }
     ensures counts { (result.1 ≤ length first_calls.now) × (result.2 ≤ length second_calls.now) }
     ensures first_full { result.1 < length first_calls.now → length result.0.log ≡ result.0.limit }
     ensures second_full { result.2 < length second_calls.now → length result.0.log ≡ result.0.limit }

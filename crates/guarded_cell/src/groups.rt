@@ -18,12 +18,12 @@ pub(crate) fn do_groups<O: SeqObject, C: LockCell<O>>(
     requires few { length groups.now ≤ 8 }
     requires each { All (λ g. 0 < length g.items) groups.now }
     requires empty { done.old.items ≡ [] }
-    ensures hold { (cell : C) → C.is_hold cell hold.old → C.is_hold cell hold.new }
-    ensures added { HasAdded (C.held hold.old) done.new.items (C.held hold.new) }
+    ensures hold { (cell : C) → C.is_hold_of cell hold.old → C.is_hold_of cell hold.new }
+    ensures added { HasAdded (C.hold_view hold.old) done.new.items (C.hold_view hold.new) }
     ensures fulfils { FulfilFirst O.SeqObject groups.now done.new.items }
     ensures whole { OnOk result (length done.new.items ≡ length groups.now) }
     ensures left { OnErr result (length done.new.items < length groups.now) }
-    ensures full { OnErr result (length (C.held hold.new).history.log ≡ (C.held hold.new).history.limit) }
+    ensures full { OnErr result (length (C.hold_view hold.new).history.log ≡ (C.hold_view hold.new).history.limit) }
 {
     for calls in groups {
         let steps = C::apply(hold, calls.as_slice())?;

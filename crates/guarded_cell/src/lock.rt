@@ -1,7 +1,7 @@
 //! A cell of either kind meets the interface of all locks: it does what its lock does. A caller of the other kind isn't of
 //! the cell, since its key names its lock.
 
-ghost use Rattle.word_rule.specs.Passes.{pass_part, hold_held};
+ghost use Rattle.word_rule.specs.Passes.{view_of_pass, view_of_hold};
 ghost use Rattle.guarded_cell.specs.Kinds.{IsPassOf, IsHoldOf};
 
 use crate::cell::AnyCell;
@@ -14,13 +14,13 @@ impl<O: SeqObject> LockCell<O> for AnyCell<O> {
 
     type Hold = Hold<O>;
 
-    ghost is_pass = { IsPassOf };
+    ghost is_pass_of = { IsPassOf };
 
-    ghost is_hold = { IsHoldOf };
+    ghost is_hold_of = { IsHoldOf };
 
-    ghost part = { pass_part };
+    ghost pass_view = { view_of_pass };
 
-    ghost held = { hold_held };
+    ghost hold_view = { view_of_hold };
 
     fn acquire<R: Wait>(&self, rt: &R, pass: Pass<O>) -> (Hold<O>, u64) {
         match self {
@@ -72,7 +72,7 @@ impl<O: SeqObject> LockCell<O> for AnyCell<O> {
         }
     }
 
-    ghost pass_is_part = { λ _ pass _. pass.idle.part };
+    ghost pass_is_lawful = { λ _ pass _. pass.idle.pass_view };
 
-    ghost hold_is_held = { λ _ hold _. hold.holds.held };
+    ghost hold_is_lawful = { λ _ hold _. hold.holds.hold_view };
 }

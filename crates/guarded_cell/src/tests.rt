@@ -3,7 +3,7 @@
 ghost use Rattle.std.specs.Prelude.{◌≡◌, [], ◌∷◌, IfOk};
 ghost use Rattle.word_rule.specs.Cell.{OwnsAll, OwnTogether};
 ghost use Rattle.guarded_cell.specs.Kinds.{IsPassOf};
-ghost use Rattle.word_rule.specs.Passes.{pass_part};
+ghost use Rattle.word_rule.specs.Passes.{view_of_pass};
 
 mod threads;
 
@@ -26,7 +26,7 @@ fn cell_of_one<O: SeqObject>(
     logged: Logged<O>,
 ) -> Result<(AnyCell<O>, AnyPass<O>), Logged<O>>
     ensures pass { IfOk result (λ r. IsPassOf r.0 r.1) }
-    ensures all { IfOk result (λ r. OwnsAll (pass_part r.1).caller) }
+    ensures all { IfOk result (λ r. OwnsAll (view_of_pass r.1).caller) }
 {
     match AnyCell::open(alloc, kind, logged, 1) {
         Ok((cell, mut passes)) => {
@@ -51,7 +51,7 @@ fn cell_of_two(
 >
     ensures zero { IfOk result (λ r. IsPassOf r.0 r.1.0) }
     ensures one { IfOk result (λ r. IsPassOf r.0 r.1.1) }
-    ensures all { IfOk result (λ r. OwnTogether (pass_part r.1.0).caller (pass_part r.1.1).caller) }
+    ensures all { IfOk result (λ r. OwnTogether (view_of_pass r.1.0).caller (view_of_pass r.1.1).caller) }
 {
     let queue = Logged::<ThreadQueue>::open(alloc, 8, limit)?;
     let Ok((cell, mut passes)) = AnyCell::open(alloc, kind, queue, 2) else {
@@ -205,7 +205,7 @@ fn meet_between<R: Wait>(
 ) -> (Logged<ThreadQueue>, [(Result<Reply, NoRoom>, u64); 2])
     requires zero { IsPassOf cell passes.0 }
     requires one { IsPassOf cell passes.1 }
-    requires all { OwnTogether (pass_part passes.0).caller (pass_part passes.1).caller }
+    requires all { OwnTogether (view_of_pass passes.0).caller (view_of_pass passes.1).caller }
 {
     let (zero, one) = passes;
     let (zero, put, first_looks) = cell.call(rt, zero, &first);

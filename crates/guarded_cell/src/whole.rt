@@ -6,7 +6,7 @@ ghost use Rattle.event_log.specs.Log.{Fulfils};
 ghost use Rattle.word_rule.specs.Answered.{IsAnswered, IsRefused, IsHeldThrough};
 ghost use Rattle.guarded_cell.specs.Groups.{one_step};
 ghost use Rattle.guarded_cell.specs.Kinds.{IsPassOf};
-ghost use Rattle.word_rule.specs.Passes.{pass_part};
+ghost use Rattle.word_rule.specs.Passes.{view_of_pass};
 
 use crate::AnyPass;
 use crate::cell::AnyCell;
@@ -25,13 +25,13 @@ pub fn batch<O: SeqObject, C: LockCell<O>, R: Wait>(
     pass: C::Pass,
     calls: &[O::Call],
 ) -> (C::Pass, Result<Steps<O>, NoRoom>, u64)
-    requires pass { C.is_pass cell.now pass }
+    requires pass { C.is_pass_of cell.now pass }
     requires some { 0 < length calls.now }
     requires few { length calls.now ≤ 8 }
-    ensures pass { C.is_pass cell.now result.0 }
-    ensures caller { (C.part result.0).caller ≡ (C.part pass).caller }
-    ensures answered { IfOk result.1 (λ s. IsAnswered O.SeqObject (C.part pass) calls.now s (C.part result.0)) }
-    ensures refused { OnErr result.1 (IsRefused O.SeqObject (C.part pass) (C.part result.0)) }
+    ensures pass { C.is_pass_of cell.now result.0 }
+    ensures caller { (C.pass_view result.0).caller ≡ (C.pass_view pass).caller }
+    ensures answered { IfOk result.1 (λ s. IsAnswered O.SeqObject (C.pass_view pass) calls.now s (C.pass_view result.0)) }
+    ensures refused { OnErr result.1 (IsRefused O.SeqObject (C.pass_view pass) (C.pass_view result.0)) }
 {
     let (mut hold, looks) = cell.acquire(rt, pass);
     let done = C::apply(&mut hold, calls);
@@ -55,11 +55,11 @@ pub fn call<O: SeqObject, C: LockCell<O>, R: Wait>(
     pass: C::Pass,
     call: &O::Call,
 ) -> (C::Pass, Result<O::Reply, NoRoom>, u64)
-    requires { C.is_pass cell.now pass }
-    ensures pass { C.is_pass cell.now result.0 }
-    ensures caller { (C.part result.0).caller ≡ (C.part pass).caller }
-    ensures answered { IfOk result.1 (λ r. IsAnswered O.SeqObject (C.part pass) (call.now ∷ []) (one_step call.now r) (C.part result.0)) }
-    ensures refused { OnErr result.1 (IsRefused O.SeqObject (C.part pass) (C.part result.0)) }
+    requires { C.is_pass_of cell.now pass }
+    ensures pass { C.is_pass_of cell.now result.0 }
+    ensures caller { (C.pass_view result.0).caller ≡ (C.pass_view pass).caller }
+    ensures answered { IfOk result.1 (λ r. IsAnswered O.SeqObject (C.pass_view pass) (call.now ∷ []) (one_step call.now r) (C.pass_view result.0)) }
+    ensures refused { OnErr result.1 (IsRefused O.SeqObject (C.pass_view pass) (C.pass_view result.0)) }
 {
     let (pass, done, looks) = batch(rt, cell, pass, slice::from_ref(call));
     match done {
@@ -77,17 +77,17 @@ pub fn with_hold<O: SeqObject, C: LockCell<O>, R: Wait>(
     groups: &[ArrayVec<O::Call, 8>],
     done: &mut ArrayVec<Steps<O>, 8>,
 ) -> (C::Pass, Result<(), NoRoom>, u64)
-    requires pass { C.is_pass cell.now pass }
+    requires pass { C.is_pass_of cell.now pass }
     requires some { 0 < length groups.now }
     requires few { length groups.now ≤ 8 }
     requires each { All (λ g. 0 < length g.items) groups.now }
     requires empty { done.old.items ≡ [] }
-    ensures pass { C.is_pass cell.now result.0 }
-    ensures caller { (C.part result.0).caller ≡ (C.part pass).caller }
-    ensures held { IsHeldThrough O.SeqObject (C.part pass) groups.now done.new.items (C.part result.0) }
+    ensures pass { C.is_pass_of cell.now result.0 }
+    ensures caller { (C.pass_view result.0).caller ≡ (C.pass_view pass).caller }
+    ensures held { IsHeldThrough O.SeqObject (C.pass_view pass) groups.now done.new.items (C.pass_view result.0) }
     ensures whole { OnOk result.1 (length done.new.items ≡ length groups.now) }
     ensures left { OnErr result.1 (length done.new.items < length groups.now) }
-    ensures full { OnErr result.1 (length (C.part result.0).seen ≡ (C.part pass).caller.cell.limit) }
+    ensures full { OnErr result.1 (length (C.pass_view result.0).seen ≡ (C.pass_view pass).caller.cell.limit) }
 {
     let (mut hold, looks) = cell.acquire(rt, pass);
     let outcome = do_groups::<O, C>(&mut hold, groups, done);
@@ -105,9 +105,9 @@ impl<O: SeqObject> AnyCell<O> {
     ) -> (AnyPass<O>, Result<O::Reply, NoRoom>, u64)
         requires { IsPassOf self.now pass }
         ensures pass { IsPassOf self.now result.0 }
-        ensures caller { (pass_part result.0).caller ≡ (pass_part pass).caller }
-        ensures answered { IfOk result.1 (λ r. IsAnswered O.SeqObject (pass_part pass) (asked.now ∷ []) (one_step asked.now r) (pass_part result.0)) }
-        ensures refused { OnErr result.1 (IsRefused O.SeqObject (pass_part pass) (pass_part result.0)) }
+        ensures caller { (view_of_pass result.0).caller ≡ (view_of_pass pass).caller }
+        ensures answered { IfOk result.1 (λ r. IsAnswered O.SeqObject (view_of_pass pass) (asked.now ∷ []) (one_step asked.now r) (view_of_pass result.0)) }
+        ensures refused { OnErr result.1 (IsRefused O.SeqObject (view_of_pass pass) (view_of_pass result.0)) }
     {
         call(rt, self, pass, asked)
     }
@@ -123,9 +123,9 @@ impl<O: SeqObject> AnyCell<O> {
         requires some { 0 < length calls.now }
         requires few { length calls.now ≤ 8 }
         ensures pass { IsPassOf self.now result.0 }
-        ensures caller { (pass_part result.0).caller ≡ (pass_part pass).caller }
-        ensures answered { IfOk result.1 (λ s. IsAnswered O.SeqObject (pass_part pass) calls.now s (pass_part result.0)) }
-        ensures refused { OnErr result.1 (IsRefused O.SeqObject (pass_part pass) (pass_part result.0)) }
+        ensures caller { (view_of_pass result.0).caller ≡ (view_of_pass pass).caller }
+        ensures answered { IfOk result.1 (λ s. IsAnswered O.SeqObject (view_of_pass pass) calls.now s (view_of_pass result.0)) }
+        ensures refused { OnErr result.1 (IsRefused O.SeqObject (view_of_pass pass) (view_of_pass result.0)) }
     {
         batch(rt, self, pass, calls)
     }
@@ -145,11 +145,11 @@ impl<O: SeqObject> AnyCell<O> {
         requires each { All (λ g. 0 < length g.items) groups.now }
         requires empty { done.old.items ≡ [] }
         ensures pass { IsPassOf self.now result.0 }
-        ensures caller { (pass_part result.0).caller ≡ (pass_part pass).caller }
-        ensures held { IsHeldThrough O.SeqObject (pass_part pass) groups.now done.new.items (pass_part result.0) }
+        ensures caller { (view_of_pass result.0).caller ≡ (view_of_pass pass).caller }
+        ensures held { IsHeldThrough O.SeqObject (view_of_pass pass) groups.now done.new.items (view_of_pass result.0) }
         ensures whole { OnOk result.1 (length done.new.items ≡ length groups.now) }
         ensures left { OnErr result.1 (length done.new.items < length groups.now) }
-        ensures full { OnErr result.1 (length (pass_part result.0).seen ≡ (pass_part pass).caller.cell.limit) }
+        ensures full { OnErr result.1 (length (view_of_pass result.0).seen ≡ (view_of_pass pass).caller.cell.limit) }
     {
         with_hold(rt, self, pass, groups, done)
     }

@@ -7,7 +7,7 @@ use Rattle.mc2.specs.FirstRun.{IsAble}
 use Rattle.word_rule.specs.declared.machine.cell_spec.CellSpec.{CellSpec}
 use Rattle.word_rule.specs.declared.machine.lock_words.LockWords.{LockWords}
 use Rattle.word_rule.specs.Opening.{opening_cell, opening_cpu, opening_world}
-use Rattle.word_rule.specs.Shown.{Parts, Shows, ShowsCell, opened_by}
+use Rattle.word_rule.specs.Shown.{MachineParts, Represents, RepresentsCell, opened_by}
 use Rattle.word_rule.specs.SoundWorld.{IsTodo}
 use Rattle.word_rule.specs.World.{World, CellState}
 
@@ -29,7 +29,7 @@ module _ {O P C R : Type 0} where
 
 module _ {O P C R : Type 0} (meaning : Ghosts O P C R) where
   one_opened : (n : ℕ) (c : CellState O P C R) (specs : List (CellSpec O P C R)) (locks : List LockWords) → length specs ≡ 1 → length locks ≡ 1
-      → ((spec : CellSpec O P C R) (words : LockWords) → slice_get specs 0 ≡ Some spec → slice_get locks 0 ≡ Some words → ShowsCell meaning n spec words c)
+      → ((spec : CellSpec O P C R) (words : LockWords) → slice_get specs 0 ≡ Some spec → slice_get locks 0 ≡ Some words → RepresentsCell meaning n spec words c)
       → map (λ s. record { params = s.logged.params; limit = s.logged.limit }) specs ≡ c.opened ∷ []
   one_opened n c [] locks p q h = absurd (omega (arith, p))
   one_opened n c (s ∷ specs) [] p q h = absurd (omega (arith, q))
@@ -37,6 +37,6 @@ module _ {O P C R : Type 0} (meaning : Ghosts O P C R) where
   one_opened n c (s ∷ []) (l ∷ locks) p q h = let shown = h s l refl refl in rw (shown.params, shown.limit) refl
 
   -- what the one cell of a machine is judged by
-  pub opened_one : (m : Parts O P C R) (w : World O P C R) (c : CellState O P C R) → Shows meaning m w → w.cells ≡ c ∷ [] → opened_by m ≡ c.opened ∷ []
+  pub opened_one : (m : MachineParts O P C R) (w : World O P C R) (c : CellState O P C R) → Represents meaning m w → w.cells ≡ c ∷ [] → opened_by m ≡ c.opened ∷ []
   opened_one m w c shows is =
       one_opened (length w.cpus) c m.cells m.locks (shows.cells ∙ ap length is) (shows.locks ∙ ap length is) (λ spec words p q. shows.each_cell 0 spec words c p q (ap (λ l. slice_get l 0) is))

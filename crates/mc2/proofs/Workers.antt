@@ -22,7 +22,7 @@ use Rattle.mc2.specs.ScriptText.{IsRequest, AskFor}
 use Rattle.mc2.specs.Settings.{Settings}
 use Rattle.mc2.specs.Spelling.{Spelling}
 use Rattle.word_rule.specs.declared.lock_kind.LockKind.TheVariants.{Ticket}
-use Rattle.word_rule.specs.Cell.{Cell, Part, Grows, Lawful, IsPart, OwnsAll, cell_of, first_part, opening_part}
+use Rattle.word_rule.specs.Cell.{Cell, PassView, Grows, Lawful, IsPassView, OwnsAll, cell_of, first_pass, opening_pass}
 use Rattle.word_rule.specs.Answered.{IsAnswered, IsRefused, events_by}
 use Rattle.word_rule.specs.Sound.{Opened, Sound, LogIsSound, EntryIsSound, Answers, NoneAfterFull, done_on, with_steps, steps_by, transcript_of}
 use Rattle.word_rule.proofs.Lists.{of_opening}
@@ -100,7 +100,7 @@ module _ {O P C R : Type 0} (meaning : Ghosts O P C R) (opened : Opened P) where
 
 module _ {O P C R : Type 0} (meaning : Ghosts O P C R) where
   -- a caller that was answered sees a longer log
-  longer : (before after : Part O P C R) (cs : List C) (s : Steps O P C R) → IsAnswered meaning before cs s after → length before.seen < length after.seen
+  longer : (before after : PassView O P C R) (cs : List C) (s : Steps O P C R) → IsAnswered meaning before cs s after → length before.seen < length after.seen
   longer before after cs s a =
       let k : ℕ = before.caller.acting in
       let since = drop (length before.seen) after.seen in
@@ -117,17 +117,17 @@ module _ {O P C R : Type 0} (meaning : Ghosts O P C R) where
           absurd (omega arith)
 
   -- what became of an entry, by what became of its calls
-  pub did_of : {X : Type 0} (before after : Part O P C R) (asked : ArrayVec C) (r : Result (Steps O P C R) X) (d : Done O P C R) → IfOk r (λ s. d ≡ done.Steps s) → OnErr r (d ≡ done.NoRoom)
+  pub did_of : {X : Type 0} (before after : PassView O P C R) (asked : ArrayVec C) (r : Result (Steps O P C R) X) (d : Done O P C R) → IfOk r (λ s. d ≡ done.Steps s) → OnErr r (d ≡ done.NoRoom)
       → IfOk r (λ s. IsAnswered meaning before asked.items s after) × OnErr r (IsRefused meaning before after) → Did meaning before asked d after
   did_of before after asked (Ok s) d is not both = subst (λ x. Did meaning before asked x after) (sym is) both.0
   did_of before after asked (Err e) d is not both = subst (λ x. Did meaning before asked x after) (sym not) both.1
 
   -- a worker that did nothing yet
-  pub nothing : (before : Part O P C R) → HasDone meaning before [] [] before
+  pub nothing : (before : PassView O P C R) → HasDone meaning before [] [] before
   nothing before = record { caller = refl; asked = refl; objects = tt; own = sym (append-nil (of before.caller.acting before.seen)); answers = tt; full = tt }
 
   -- what the caller's own events are after one entry more
-  own_more : (before mid after : Part O P C R) (entries : List (Entry O P C R)) (e : Entry O P C R) (d : Done O P C R) → e.done ≡ d → mid.caller ≡ before.caller → IsPart meaning before → AllByRecursion (λ f. f.object ≡ 0) entries → e.object ≡ 0
+  own_more : (before mid after : PassView O P C R) (entries : List (Entry O P C R)) (e : Entry O P C R) (d : Done O P C R) → e.done ≡ d → mid.caller ≡ before.caller → IsPassView meaning before → AllByRecursion (λ f. f.object ≡ 0) entries → e.object ≡ 0
       → of before.caller.acting mid.seen ≡ of before.caller.acting before.seen ++ events_by before.caller.acting (done_on 0 entries) → Did meaning mid e.asked d after
       → of before.caller.acting after.seen ≡ of before.caller.acting before.seen ++ events_by before.caller.acting (done_on 0 (entries ++ e ∷ []))
   own_more before mid after entries e (done.Steps s) is same part first zero_is own did =
@@ -147,7 +147,7 @@ module _ {O P C R : Type 0} (meaning : Ghosts O P C R) where
     pub answers : AllByRecursion (λ f. Answers meaning opened more f.asked f.done) (entries ++ e ∷ [])
     pub why : (e.done ≡ done.NoRoom) ⊎ AllByRecursion (λ f. f.done ≡ done.NoRoom → ⊥) entries
 
-  stays : (mid after : Part O P C R) (entries : List (Entry O P C R)) (e : Entry O P C R) (d : Done O P C R) → e.done ≡ d → after.caller ≡ mid.caller → IsPart meaning after → Did meaning mid e.asked d after
+  stays : (mid after : PassView O P C R) (entries : List (Entry O P C R)) (e : Entry O P C R) (d : Done O P C R) → e.done ≡ d → after.caller ≡ mid.caller → IsPassView meaning after → Did meaning mid e.asked d after
       → AllByRecursion (λ f. Answers meaning (opened_in meaning mid) mid.seen f.asked f.done) entries → Stays (opened_in meaning mid) after.seen entries e
   stays mid after entries e (done.Steps s) is same part did h =
       let o = opened_in meaning mid in
@@ -163,7 +163,7 @@ module _ {O P C R : Type 0} (meaning : Ghosts O P C R) where
       }
 
   -- one entry more
-  pub entry_more : (before mid after : Part O P C R) (todos : List (Todo O P C R)) (entries : List (Entry O P C R)) (todo : Todo O P C R) (e : Entry O P C R) → IsPart meaning before → IsPart meaning after
+  pub entry_more : (before mid after : PassView O P C R) (todos : List (Todo O P C R)) (entries : List (Entry O P C R)) (todo : Todo O P C R) (e : Entry O P C R) → IsPassView meaning before → IsPassView meaning after
       → HasDone meaning before todos entries mid → IsAble todo → DoesEntry meaning mid todo e after → after.caller ≡ mid.caller → HasDone meaning before (todos ++ todo ∷ []) (entries ++ e ∷ []) after
   entry_more before mid after todos entries todo e part end d able does same =
       let object : e.object ≡ 0 = ap (λ (t : Todo O P C R). t.object) does.asked ∙ able.object in
@@ -204,7 +204,7 @@ module _ {O P C R : Type 0} (meaning : Ghosts O P C R) (cell : Cell O P C R) (em
       let full : length seen ≡ cell.limit = h in
       omega arith
 
-  pub saw : (k : ℕ) (todos : List (Todo O P C R)) (entries : List (Entry O P C R)) (after : Part O P C R) → HasDone meaning (opening_part cell k) todos entries after → Grows after.caller.owned after.seen log → Saw k todos entries
+  pub saw : (k : ℕ) (todos : List (Todo O P C R)) (entries : List (Entry O P C R)) (after : PassView O P C R) → HasDone meaning (opening_pass cell k) todos entries after → Grows after.caller.owned after.seen log → Saw k todos entries
   saw k todos entries after d grows =
       let mine : of k log ≡ of k after.seen = grows.own k (subst (λ c. c.owned k ≡ true) (sym d.caller) (self k)) in
       let none : of k cell.opening ≡ [] = ap (λ l. of k l) empty in
@@ -271,15 +271,15 @@ module _ {O P C R : Type 0} (meaning : Ghosts O P C R) (cell : Cell O P C R) (em
             rw other (nobody cpu rs high able.1)
 
 -- what two workers on a new cell of two CPUs leave, and the pass that theirs become
-module _ {O P C R : Type 0} (meaning : Ghosts O P C R) (x : History O P C R) (new : x.log ≡ []) (before0 before1 after0 after1 joined : Part O P C R) (firsts seconds : List (Todo O P C R)) (first second : List (Entry O P C R))
-    (is0 : before0 ≡ first_part Ticket x 2 0) (is1 : before1 ≡ first_part Ticket x 2 1) (done0 : HasDone meaning before0 firsts first after0) (done1 : HasDone meaning before1 seconds second after1) (one_cell : joined.caller.cell ≡ after0.caller.cell) where
+module _ {O P C R : Type 0} (meaning : Ghosts O P C R) (x : History O P C R) (new : x.log ≡ []) (before0 before1 after0 after1 joined : PassView O P C R) (firsts seconds : List (Todo O P C R)) (first second : List (Entry O P C R))
+    (is0 : before0 ≡ first_pass Ticket x 2 0) (is1 : before1 ≡ first_pass Ticket x 2 1) (done0 : HasDone meaning before0 firsts first after0) (done1 : HasDone meaning before1 seconds second after1) (one_cell : joined.caller.cell ≡ after0.caller.cell) where
   abbrev cell : Cell O P C R
   cell = cell_of Ticket 2 x
 
-  one0 : HasDone meaning (opening_part cell 0) firsts first after0
+  one0 : HasDone meaning (opening_pass cell 0) firsts first after0
   one0 = subst (λ p. HasDone meaning p firsts first after0) is0 done0
 
-  one1 : HasDone meaning (opening_part cell 1) seconds second after1
+  one1 : HasDone meaning (opening_pass cell 1) seconds second after1
   one1 = subst (λ p. HasDone meaning p seconds second after1) is1 done1
 
   pub whole : ((k : ℕ) → joined.caller.owned k ≡ (after0.caller.owned k || after1.caller.owned k)) → OwnsAll joined.caller
@@ -288,7 +288,7 @@ module _ {O P C R : Type 0} (meaning : Ghosts O P C R) (x : History O P C R) (ne
       let same = one_cell ∙ (ap (λ c. c.cell) one0.caller ∙ sym (ap (λ c. c.cell) one1.caller)) in
       together_joined after0.caller after1.caller joined.caller same owned own
 
-  module _ (part : IsPart meaning joined) (grows0 : Grows after0.caller.owned after0.seen joined.seen) (grows1 : Grows after1.caller.owned after1.seen joined.seen) where
+  module _ (part : IsPassView meaning joined) (grows0 : Grows after0.caller.owned after0.seen joined.seen) (grows1 : Grows after1.caller.owned after1.seen joined.seen) where
     lawful_joined : Lawful meaning cell joined.seen
     lawful_joined = subst (λ c. Lawful meaning c joined.seen) (one_cell ∙ ap (λ c. c.cell) one0.caller) part.lawful
 

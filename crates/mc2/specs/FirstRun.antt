@@ -15,7 +15,7 @@ use Rattle.mc2.specs.Output.{AppendsBeginning}
 use Rattle.mc2.specs.RecordText.{record_text}
 use Rattle.mc2.specs.ScriptText.{AreScripts}
 use Rattle.mc2.specs.Settings.{Settings}
-use Rattle.word_rule.specs.Cell.{Part}
+use Rattle.word_rule.specs.Cell.{PassView}
 use Rattle.word_rule.specs.Answered.{IsAnswered, IsRefused, events_by}
 use Rattle.word_rule.specs.Sound.{Opened, Sound, Answers, NoneAfterFull, done_on, transcript_of}
 use Rattle.mc2.specs.Spelling.{Spelling}
@@ -50,22 +50,22 @@ module _ {O P C R : Type 0} where
 
 module _ {O P C R : Type 0} (meaning : Ghosts O P C R) where
   -- the calls were answered at the end of the log that the caller sees, or a full log was seen
-  abbrev pub Did : Part O P C R → ArrayVec C → Done O P C R → Part O P C R → Type 0
+  abbrev pub Did : PassView O P C R → ArrayVec C → Done O P C R → PassView O P C R → Type 0
   Did before asked (Steps s) after = IsAnswered meaning before asked.items s after
   Did before asked NoRoom after = IsRefused meaning before after
 
   -- the entry is what became of the todo
-  pub record DoesEntry (before : Part O P C R) (todo : Todo O P C R) (entry : Entry O P C R) (after : Part O P C R) : Type 0 where
+  pub record DoesEntry (before : PassView O P C R) (todo : Todo O P C R) (entry : Entry O P C R) (after : PassView O P C R) : Type 0 where
     pub asked : asked_of entry ≡ todo
     pub did : Did before entry.asked entry.done after
 
   -- what a cell's object is judged by
-  abbrev pub opened_in : Part O P C R → Opened P
-  opened_in part = record { params = part.caller.cell.params; limit = part.caller.cell.limit }
+  abbrev pub opened_in : PassView O P C R → Opened P
+  opened_in pass_view = record { params = pass_view.caller.cell.params; limit = pass_view.caller.cell.limit }
 
   -- the entries are what became of the todos, one after another: the caller has added their events in their order, and
   -- no others
-  pub record HasDone (before : Part O P C R) (todos : List (Todo O P C R)) (entries : List (Entry O P C R)) (after : Part O P C R) : Type 0 where
+  pub record HasDone (before : PassView O P C R) (todos : List (Todo O P C R)) (entries : List (Entry O P C R)) (after : PassView O P C R) : Type 0 where
     pub caller : after.caller ≡ before.caller
     pub asked : map asked_of entries ≡ todos
     pub objects : AllByRecursion (λ e. e.object ≡ 0) entries

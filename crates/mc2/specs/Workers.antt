@@ -9,7 +9,7 @@ use Rattle.event_log.specs.declared.entry.Todo.{Todo}
 use Rattle.ticket_lock.specs.declared.cell.TicketCell.{TicketCell}
 use Rattle.word_rule.specs.declared.pass.Pass.{Pass}
 use Rattle.ticket_lock.specs.Passes.{IsPassOf}
-use Rattle.word_rule.specs.Passes.{pass_part}
+use Rattle.word_rule.specs.Passes.{view_of_pass}
 use Rattle.mc2.specs.FirstRun.{IsAble, HasDone}
 
 module _ {O P C R : Type 0} {g : Ghosts O P C R} {call_eq : Eq C} {call_default : Default C} {reply_eq : Eq R} {reply_default : Default R} where
@@ -23,4 +23,4 @@ module _ {O P C R : Type 0} {g : Ghosts O P C R} {call_eq : Eq C} {call_default 
   -- a pass of the cell again, and what became of the entries
   pub record IsDone (cell : TicketCell O P C R) (before : Pass O P C R g call_eq call_default reply_eq reply_default) (todos : List (Todo O P C R)) (after : Pass O P C R g call_eq call_default reply_eq reply_default) (transcript : List (Entry O P C R)) : Type 0 where
     pub pass : IsPassOf cell after
-    pub done : HasDone g (pass_part before) todos transcript (pass_part after)
+    pub done : HasDone g (view_of_pass before) todos transcript (view_of_pass after)

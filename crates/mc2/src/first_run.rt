@@ -5,10 +5,10 @@ ghost use Rattle.std.specs.List.{AllByRecursion};
 ghost use Rattle.event_log.specs.History.{IsKept, opened_history};
 ghost use Rattle.event_log.specs.Stream.{counted};
 ghost use Rattle.word_rule.specs.declared.lock_kind.LockKind.TheVariants.{Ticket};
-ghost use Rattle.word_rule.specs.Cell.{first_part};
+ghost use Rattle.word_rule.specs.Cell.{first_pass};
 ghost use Rattle.word_rule.specs.Sound.{Sound};
 ghost use Rattle.ticket_lock.specs.Passes.{IsPassOf};
-ghost use Rattle.word_rule.specs.Passes.{pass_part};
+ghost use Rattle.word_rule.specs.Passes.{view_of_pass};
 ghost use Rattle.mc2.specs.FirstRun.{AsksFor, IsFor, WritesRun, WritesBeginning, script_of};
 ghost use Rattle.mc2.specs.QueueWords.{built_in_settings, queue_spelling};
 ghost use Rattle.mc2.specs.QueueTypes.{QueueRequest};
@@ -107,8 +107,8 @@ fn open_cell(
     ),
     OutOfMemory,
 >
-    ensures first { IfOk result (λ r. IsPassOf r.0 r.1.0 × (pass_part r.1.0 ≡ first_part Ticket logged 2 0)) }
-    ensures second { IfOk result (λ r. IsPassOf r.0 r.1.1 × (pass_part r.1.1 ≡ first_part Ticket logged 2 1)) }
+    ensures first { IfOk result (λ r. IsPassOf r.0 r.1.0 × (view_of_pass r.1.0 ≡ first_pass Ticket logged 2 0)) }
+    ensures second { IfOk result (λ r. IsPassOf r.0 r.1.1 × (view_of_pass r.1.1 ≡ first_pass Ticket logged 2 1)) }
 {
     let Ok((cell, mut passes)) = TicketCell::new(alloc, logged, 2, 0) else {
         return Err(OutOfMemory);

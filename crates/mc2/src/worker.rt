@@ -2,7 +2,7 @@
 
 ghost use Rattle.std.specs.Prelude.{◌≡◌, vec_capacity, IfOk, OnErr};
 ghost use Rattle.ticket_lock.specs.Passes.{IsPassOf};
-ghost use Rattle.word_rule.specs.Passes.{pass_part};
+ghost use Rattle.word_rule.specs.Passes.{view_of_pass};
 ghost use Rattle.mc2.specs.FirstRun.{IsAble, DoesEntry};
 ghost use Rattle.mc2.specs.Workers.{IsReady, IsDone};
 
@@ -32,8 +32,8 @@ fn do_entry<O: SeqObject, R: Wait>(
     requires pass { IsPassOf cell.now pass }
     requires able { IsAble todo }
     ensures pass { IsPassOf cell.now result.0 }
-    ensures entry { DoesEntry O.SeqObject (pass_part pass) todo result.1 (pass_part result.0) }
-    ensures caller { (pass_part result.0).caller ≡ (pass_part pass).caller }
+    ensures entry { DoesEntry O.SeqObject (view_of_pass pass) todo result.1 (view_of_pass result.0) }
+    ensures caller { (view_of_pass result.0).caller ≡ (view_of_pass pass).caller }
 {
     let (mut hold, looks) = cell.acquire(rt, pass);
     let applied = TicketCell::apply(&mut hold, todo.calls.as_slice());

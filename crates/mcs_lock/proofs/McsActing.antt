@@ -7,16 +7,16 @@ use Rattle.event_log.specs.declared.object.SeqObject.{Ghosts}
 use Rattle.event_log.specs.declared.event.Event.{Event}
 use Rattle.event_log.specs.Distinct.{has}
 use Rattle.event_log.specs.History.{History}
-use Rattle.word_rule.specs.declared.place.Place.{Place}
-use Rattle.word_rule.specs.declared.place.Place.TheVariants.{Idle, Ready, Behind, Armed, Waiting, Holding, Alone, Leaving, Passing}
+use Rattle.word_rule.specs.declared.stage.Stage.{Stage}
+use Rattle.word_rule.specs.declared.stage.Stage.TheVariants.{Idle, Ready, Behind, Armed, Waiting, Holding, Alone, Leaving, Passing}
 use Rattle.word_rule.specs.Cell.{Cell, Grows, Lawful, OwnsAll}
 use Rattle.word_rule.specs.declared.lock_kind.LockKind.TheVariants.{Mcs}
-use Rattle.word_rule.specs.Definition.{Turns}
-use Rattle.word_rule.specs.Standing.{Standing, Moves}
-use Rattle.word_rule.specs.Board.{Caller}
-use Rattle.word_rule.specs.Seats.{Seat, at, placed, taken_in, keeping, letting}
-use Rattle.word_rule.specs.Told.{IsElse}
-use Rattle.word_rule.specs.Callers.{caller_of, held_of, standing_with, IsWithout, IsWith}
+use Rattle.word_rule.specs.Definition.{IsTurn}
+use Rattle.word_rule.specs.CallerState.{CallerState, Moves}
+use Rattle.word_rule.specs.CellInvariant.{Caller}
+use Rattle.word_rule.specs.Seats.{Seat, at, with_stage, taken_in, keeping, letting}
+use Rattle.word_rule.specs.Announced.{IsElse}
+use Rattle.word_rule.specs.Callers.{caller_of, hold_view_of, state_with, IsWithout, IsWith}
 use Rattle.word_rule.proofs.Lists.{grows_self, grows_then}
 use Rattle.word_rule.proofs.Known.{AllIdle, idle_alone}
 use Rattle.word_rule.proofs.Acting.{value_of}
@@ -25,82 +25,82 @@ use Rattle.mcs_lock.proofs.McsRule.{clearing, entering, arming, linking, looking
 
 -- the words are those of the number that the code has
 module _ {O P C R : Type 0} (meaning : Ghosts O P C R) (h : Cell O P C R) (slots id cpu : ℕ) where
-  clear_so : (m : Seat O P C R) → IsWithout meaning h cpu Idle m → Turns meaning Mcs h slots id m (1 + cpu) (λ _. 0) (λ _. goes Ready (step slots (1 + cpu) 0 0 none) m 0)
-  clear_so m w = subst (λ (z : ℕ). Turns meaning Mcs h slots id m (1 + z) (λ _. 0) (λ _. goes Ready (step slots (1 + z) 0 0 none) m 0)) w.at.number
-      (clearing meaning h slots id m w.part.caller.acts w.at.stands)
+  clear_so : (m : Seat O P C R) → IsWithout meaning h cpu Idle m → IsTurn meaning Mcs h slots id m (1 + cpu) (λ _. 0) (λ _. goes Ready (step slots (1 + cpu) 0 0 none) m 0)
+  clear_so m w = subst (λ (z : ℕ). IsTurn meaning Mcs h slots id m (1 + z) (λ _. 0) (λ _. goes Ready (step slots (1 + z) 0 0 none) m 0)) w.at.number
+      (clearing meaning h slots id m w.pass_view.caller.acts w.at.stands)
 
-  pub clear_now : h.kind ≡ Mcs → (m : Seat O P C R) → IsWithout meaning h cpu Idle m → Turns meaning h.kind h slots id m (1 + cpu) (λ _. 0) (λ _. goes Ready (step slots (1 + cpu) 0 0 none) m 0)
-  clear_now kind m w = subst (λ k. Turns meaning k h slots id m (1 + cpu) (λ _. 0) (λ _. goes Ready (step slots (1 + cpu) 0 0 none) m 0)) (sym kind) (clear_so m w)
+  pub clear_now : h.kind ≡ Mcs → (m : Seat O P C R) → IsWithout meaning h cpu Idle m → IsTurn meaning h.kind h slots id m (1 + cpu) (λ _. 0) (λ _. goes Ready (step slots (1 + cpu) 0 0 none) m 0)
+  clear_now kind m w = subst (λ k. IsTurn meaning k h slots id m (1 + cpu) (λ _. 0) (λ _. goes Ready (step slots (1 + cpu) 0 0 none) m 0)) (sym kind) (clear_so m w)
 
-  enter_so : (m : Seat O P C R) → IsWithout meaning h cpu Ready m → Turns meaning Mcs h slots id m 0 (λ _. cpu + 1) (enters meaning (step slots 0 (cpu + 1) 0 none) m)
-  enter_so m w = subst (λ (z : ℕ). Turns meaning Mcs h slots id m 0 (λ _. z + 1) (enters meaning (step slots 0 (z + 1) 0 none) m)) w.at.number
-      (entering meaning h slots id m w.part.caller.acts w.at.stands)
+  enter_so : (m : Seat O P C R) → IsWithout meaning h cpu Ready m → IsTurn meaning Mcs h slots id m 0 (λ _. cpu + 1) (enters meaning (step slots 0 (cpu + 1) 0 none) m)
+  enter_so m w = subst (λ (z : ℕ). IsTurn meaning Mcs h slots id m 0 (λ _. z + 1) (enters meaning (step slots 0 (z + 1) 0 none) m)) w.at.number
+      (entering meaning h slots id m w.pass_view.caller.acts w.at.stands)
 
-  pub enter_now : h.kind ≡ Mcs → (m : Seat O P C R) → IsWithout meaning h cpu Ready m → Turns meaning h.kind h slots id m 0 (λ _. cpu + 1) (enters meaning (step slots 0 (cpu + 1) 0 none) m)
-  enter_now kind m w = subst (λ k. Turns meaning k h slots id m 0 (λ _. cpu + 1) (enters meaning (step slots 0 (cpu + 1) 0 none) m)) (sym kind) (enter_so m w)
+  pub enter_now : h.kind ≡ Mcs → (m : Seat O P C R) → IsWithout meaning h cpu Ready m → IsTurn meaning h.kind h slots id m 0 (λ _. cpu + 1) (enters meaning (step slots 0 (cpu + 1) 0 none) m)
+  enter_now kind m w = subst (λ k. IsTurn meaning k h slots id m 0 (λ _. cpu + 1) (enters meaning (step slots 0 (cpu + 1) 0 none) m)) (sym kind) (enter_so m w)
 
-  arm_so : (n q : ℕ) (m : Seat O P C R) → h.numbers ≡ n → IsWithout meaning h cpu (Behind q) m → Turns meaning Mcs h slots id m (1 + n + cpu) (λ _. 1) (λ _. arms (step slots (1 + n + cpu) 1 0 none) m 1)
-  arm_so n q m is w = subst (λ (z : ℕ × ℕ). Turns meaning Mcs h slots id m (1 + z.0 + z.1) (λ _. 1) (λ _. arms (step slots (1 + z.0 + z.1) 1 0 none) m 1)) (λ i. (is i, w.at.number i))
-      (arming meaning h slots id m w.part.caller.acts q w.at.stands)
+  arm_so : (n q : ℕ) (m : Seat O P C R) → h.numbers ≡ n → IsWithout meaning h cpu (Behind q) m → IsTurn meaning Mcs h slots id m (1 + n + cpu) (λ _. 1) (λ _. arms (step slots (1 + n + cpu) 1 0 none) m 1)
+  arm_so n q m is w = subst (λ (z : ℕ × ℕ). IsTurn meaning Mcs h slots id m (1 + z.0 + z.1) (λ _. 1) (λ _. arms (step slots (1 + z.0 + z.1) 1 0 none) m 1)) (λ i. (is i, w.at.number i))
+      (arming meaning h slots id m w.pass_view.caller.acts q w.at.stands)
 
-  pub arm_now : h.kind ≡ Mcs → (n q : ℕ) (m : Seat O P C R) → h.numbers ≡ n → IsWithout meaning h cpu (Behind q) m → Turns meaning h.kind h slots id m (1 + n + cpu) (λ _. 1) (λ _. arms (step slots (1 + n + cpu) 1 0 none) m 1)
-  arm_now kind n q m is w = subst (λ k. Turns meaning k h slots id m (1 + n + cpu) (λ _. 1) (λ _. arms (step slots (1 + n + cpu) 1 0 none) m 1)) (sym kind) (arm_so n q m is w)
+  pub arm_now : h.kind ≡ Mcs → (n q : ℕ) (m : Seat O P C R) → h.numbers ≡ n → IsWithout meaning h cpu (Behind q) m → IsTurn meaning h.kind h slots id m (1 + n + cpu) (λ _. 1) (λ _. arms (step slots (1 + n + cpu) 1 0 none) m 1)
+  arm_now kind n q m is w = subst (λ k. IsTurn meaning k h slots id m (1 + n + cpu) (λ _. 1) (λ _. arms (step slots (1 + n + cpu) 1 0 none) m 1)) (sym kind) (arm_so n q m is w)
 
-  link_so : (q : ℕ) (m : Seat O P C R) → IsWithout meaning h cpu (Armed q) m → Turns meaning Mcs h slots id m (1 + q) (λ _. cpu + 1) (λ _. goes Waiting (step slots (1 + q) (cpu + 1) 0 none) m (cpu + 1))
-  link_so q m w = subst (λ (z : ℕ). Turns meaning Mcs h slots id m (1 + q) (λ _. z + 1) (λ _. goes Waiting (step slots (1 + q) (z + 1) 0 none) m (z + 1))) w.at.number
-      (linking meaning h slots id m w.part.caller.acts q w.at.stands)
+  link_so : (q : ℕ) (m : Seat O P C R) → IsWithout meaning h cpu (Armed q) m → IsTurn meaning Mcs h slots id m (1 + q) (λ _. cpu + 1) (λ _. goes Waiting (step slots (1 + q) (cpu + 1) 0 none) m (cpu + 1))
+  link_so q m w = subst (λ (z : ℕ). IsTurn meaning Mcs h slots id m (1 + q) (λ _. z + 1) (λ _. goes Waiting (step slots (1 + q) (z + 1) 0 none) m (z + 1))) w.at.number
+      (linking meaning h slots id m w.pass_view.caller.acts q w.at.stands)
 
-  pub link_now : h.kind ≡ Mcs → (q : ℕ) (m : Seat O P C R) → IsWithout meaning h cpu (Armed q) m → Turns meaning h.kind h slots id m (1 + q) (λ _. cpu + 1) (λ _. goes Waiting (step slots (1 + q) (cpu + 1) 0 none) m (cpu + 1))
-  link_now kind q m w = subst (λ k. Turns meaning k h slots id m (1 + q) (λ _. cpu + 1) (λ _. goes Waiting (step slots (1 + q) (cpu + 1) 0 none) m (cpu + 1))) (sym kind) (link_so q m w)
+  pub link_now : h.kind ≡ Mcs → (q : ℕ) (m : Seat O P C R) → IsWithout meaning h cpu (Armed q) m → IsTurn meaning h.kind h slots id m (1 + q) (λ _. cpu + 1) (λ _. goes Waiting (step slots (1 + q) (cpu + 1) 0 none) m (cpu + 1))
+  link_now kind q m w = subst (λ k. IsTurn meaning k h slots id m (1 + q) (λ _. cpu + 1) (λ _. goes Waiting (step slots (1 + q) (cpu + 1) 0 none) m (cpu + 1))) (sym kind) (link_so q m w)
 
   -- a look by a caller, also beside callers that are idle
-  look_so : (n : ℕ) (m : Seat O P C R) → h.numbers ≡ n → has m.0.main.cpu m.0.main.owned ≡ true → m.0.main.cpu ≡ cpu → m.0.main.place ≡ Waiting → AllIdle m.0.others → Turns meaning Mcs h slots id m (1 + n + cpu) (λ k. k) (looks meaning (step slots (1 + n + cpu) 0 0 none) m)
-  look_so n m is acts number stands idle = subst (λ (z : ℕ × ℕ). Turns meaning Mcs h slots id m (1 + z.0 + z.1) (λ k. k) (looks meaning (step slots (1 + z.0 + z.1) 0 0 none) m)) (λ i. (is i, number i))
+  look_so : (n : ℕ) (m : Seat O P C R) → h.numbers ≡ n → has m.0.main.cpu m.0.main.owned ≡ true → m.0.main.cpu ≡ cpu → m.0.main.stage ≡ Waiting → AllIdle m.0.others → IsTurn meaning Mcs h slots id m (1 + n + cpu) (λ k. k) (looks meaning (step slots (1 + n + cpu) 0 0 none) m)
+  look_so n m is acts number stands idle = subst (λ (z : ℕ × ℕ). IsTurn meaning Mcs h slots id m (1 + z.0 + z.1) (λ k. k) (looks meaning (step slots (1 + z.0 + z.1) 0 0 none) m)) (λ i. (is i, number i))
       (looking meaning h slots id m acts stands idle)
 
-  pub look_now : h.kind ≡ Mcs → (n : ℕ) (m : Seat O P C R) → h.numbers ≡ n → has m.0.main.cpu m.0.main.owned ≡ true → m.0.main.cpu ≡ cpu → m.0.main.place ≡ Waiting → AllIdle m.0.others → Turns meaning h.kind h slots id m (1 + n + cpu) (λ k. k) (looks meaning (step slots (1 + n + cpu) 0 0 none) m)
-  look_now kind n m is acts number stands idle = subst (λ k. Turns meaning k h slots id m (1 + n + cpu) (λ k. k) (looks meaning (step slots (1 + n + cpu) 0 0 none) m)) (sym kind) (look_so n m is acts number stands idle)
+  pub look_now : h.kind ≡ Mcs → (n : ℕ) (m : Seat O P C R) → h.numbers ≡ n → has m.0.main.cpu m.0.main.owned ≡ true → m.0.main.cpu ≡ cpu → m.0.main.stage ≡ Waiting → AllIdle m.0.others → IsTurn meaning h.kind h slots id m (1 + n + cpu) (λ k. k) (looks meaning (step slots (1 + n + cpu) 0 0 none) m)
+  look_now kind n m is acts number stands idle = subst (λ k. IsTurn meaning k h slots id m (1 + n + cpu) (λ k. k) (looks meaning (step slots (1 + n + cpu) 0 0 none) m)) (sym kind) (look_so n m is acts number stands idle)
 
-  see_so : (m : Seat O P C R) (x : History O P C R) → IsWith meaning h cpu Holding x m → Turns meaning Mcs h slots id m (1 + cpu) (λ k. k) (sees meaning (step slots (1 + cpu) 0 0 none) m)
-  see_so m x w = subst (λ (z : ℕ). Turns meaning Mcs h slots id m (1 + z) (λ k. k) (sees meaning (step slots (1 + z) 0 0 none) m)) w.at.number
-      (seeing meaning h slots id m w.held.caller.acts w.at.stands)
+  see_so : (m : Seat O P C R) (x : History O P C R) → IsWith meaning h cpu Holding x m → IsTurn meaning Mcs h slots id m (1 + cpu) (λ k. k) (sees meaning (step slots (1 + cpu) 0 0 none) m)
+  see_so m x w = subst (λ (z : ℕ). IsTurn meaning Mcs h slots id m (1 + z) (λ k. k) (sees meaning (step slots (1 + z) 0 0 none) m)) w.at.number
+      (seeing meaning h slots id m w.hold_view.caller.acts w.at.stands)
 
-  pub see_now : h.kind ≡ Mcs → (m : Seat O P C R) (x : History O P C R) → IsWith meaning h cpu Holding x m → Turns meaning h.kind h slots id m (1 + cpu) (λ k. k) (sees meaning (step slots (1 + cpu) 0 0 none) m)
-  see_now kind m x w = subst (λ k. Turns meaning k h slots id m (1 + cpu) (λ k. k) (sees meaning (step slots (1 + cpu) 0 0 none) m)) (sym kind) (see_so m x w)
+  pub see_now : h.kind ≡ Mcs → (m : Seat O P C R) (x : History O P C R) → IsWith meaning h cpu Holding x m → IsTurn meaning h.kind h slots id m (1 + cpu) (λ k. k) (sees meaning (step slots (1 + cpu) 0 0 none) m)
+  see_now kind m x w = subst (λ k. IsTurn meaning k h slots id m (1 + cpu) (λ k. k) (sees meaning (step slots (1 + cpu) 0 0 none) m)) (sym kind) (see_so m x w)
 
-  see_again_so : (m : Seat O P C R) (x : History O P C R) → IsWith meaning h cpu Leaving x m → Turns meaning Mcs h slots id m (1 + cpu) (λ k. k) (sees_again meaning (step slots (1 + cpu) 0 0 none) m)
-  see_again_so m x w = subst (λ (z : ℕ). Turns meaning Mcs h slots id m (1 + z) (λ k. k) (sees_again meaning (step slots (1 + z) 0 0 none) m)) w.at.number
-      (seeing_again meaning h slots id m w.held.caller.acts w.at.stands (idle_alone m.0.others w.at.alone))
+  see_again_so : (m : Seat O P C R) (x : History O P C R) → IsWith meaning h cpu Leaving x m → IsTurn meaning Mcs h slots id m (1 + cpu) (λ k. k) (sees_again meaning (step slots (1 + cpu) 0 0 none) m)
+  see_again_so m x w = subst (λ (z : ℕ). IsTurn meaning Mcs h slots id m (1 + z) (λ k. k) (sees_again meaning (step slots (1 + z) 0 0 none) m)) w.at.number
+      (seeing_again meaning h slots id m w.hold_view.caller.acts w.at.stands (idle_alone m.0.others w.at.alone))
 
-  pub see_again_now : h.kind ≡ Mcs → (m : Seat O P C R) (x : History O P C R) → IsWith meaning h cpu Leaving x m → Turns meaning h.kind h slots id m (1 + cpu) (λ k. k) (sees_again meaning (step slots (1 + cpu) 0 0 none) m)
-  see_again_now kind m x w = subst (λ k. Turns meaning k h slots id m (1 + cpu) (λ k. k) (sees_again meaning (step slots (1 + cpu) 0 0 none) m)) (sym kind) (see_again_so m x w)
+  pub see_again_now : h.kind ≡ Mcs → (m : Seat O P C R) (x : History O P C R) → IsWith meaning h cpu Leaving x m → IsTurn meaning h.kind h slots id m (1 + cpu) (λ k. k) (sees_again meaning (step slots (1 + cpu) 0 0 none) m)
+  see_again_now kind m x w = subst (λ k. IsTurn meaning k h slots id m (1 + cpu) (λ k. k) (sees_again meaning (step slots (1 + cpu) 0 0 none) m)) (sym kind) (see_again_so m x w)
 
   -- the same beside a caller that waits
-  find_so : (m : Seat O P C R) (c : Caller O P C R) → has m.0.main.cpu m.0.main.owned ≡ true → m.0.main.cpu ≡ cpu → m.0.main.place ≡ Leaving → m.0.others ≡ c ∷ [] → c.place ≡ Waiting → Turns meaning Mcs h slots id m (1 + cpu) (λ k. k) (sees_again meaning (step slots (1 + cpu) 0 0 none) m)
-  find_so m c acts number stands beside waits = subst (λ (z : ℕ). Turns meaning Mcs h slots id m (1 + z) (λ k. k) (sees_again meaning (step slots (1 + z) 0 0 none) m)) number
+  find_so : (m : Seat O P C R) (c : Caller O P C R) → has m.0.main.cpu m.0.main.owned ≡ true → m.0.main.cpu ≡ cpu → m.0.main.stage ≡ Leaving → m.0.others ≡ c ∷ [] → c.stage ≡ Waiting → IsTurn meaning Mcs h slots id m (1 + cpu) (λ k. k) (sees_again meaning (step slots (1 + cpu) 0 0 none) m)
+  find_so m c acts number stands beside waits = subst (λ (z : ℕ). IsTurn meaning Mcs h slots id m (1 + z) (λ k. k) (sees_again meaning (step slots (1 + z) 0 0 none) m)) number
       (finding meaning h slots id m acts c stands beside waits)
 
-  pub find_now : h.kind ≡ Mcs → (m : Seat O P C R) (c : Caller O P C R) → has m.0.main.cpu m.0.main.owned ≡ true → m.0.main.cpu ≡ cpu → m.0.main.place ≡ Leaving → m.0.others ≡ c ∷ [] → c.place ≡ Waiting → Turns meaning h.kind h slots id m (1 + cpu) (λ k. k) (sees_again meaning (step slots (1 + cpu) 0 0 none) m)
-  find_now kind m c acts number stands beside waits = subst (λ k. Turns meaning k h slots id m (1 + cpu) (λ k. k) (sees_again meaning (step slots (1 + cpu) 0 0 none) m)) (sym kind) (find_so m c acts number stands beside waits)
+  pub find_now : h.kind ≡ Mcs → (m : Seat O P C R) (c : Caller O P C R) → has m.0.main.cpu m.0.main.owned ≡ true → m.0.main.cpu ≡ cpu → m.0.main.stage ≡ Leaving → m.0.others ≡ c ∷ [] → c.stage ≡ Waiting → IsTurn meaning h.kind h slots id m (1 + cpu) (λ k. k) (sees_again meaning (step slots (1 + cpu) 0 0 none) m)
+  find_now kind m c acts number stands beside waits = subst (λ k. IsTurn meaning k h slots id m (1 + cpu) (λ k. k) (sees_again meaning (step slots (1 + cpu) 0 0 none) m)) (sym kind) (find_so m c acts number stands beside waits)
 
   -- a holder that put the object into its slot
-  empty_so : (x : History O P C R) (m me : Seat O P C R) → IsWith meaning h cpu Alone x m → slots ≡ 1 → me ≡ (m.0, (0, Some x) ∷ rest m.1) → Turns meaning Mcs h slots id me 0 (λ k. either (k == (cpu + 1)) 0 k) (empties meaning (step slots 0 (cpu + 1) 0 none) me)
+  empty_so : (x : History O P C R) (m me : Seat O P C R) → IsWith meaning h cpu Alone x m → slots ≡ 1 → me ≡ (m.0, (0, Some x) ∷ rest m.1) → IsTurn meaning Mcs h slots id me 0 (λ k. either (k == (cpu + 1)) 0 k) (empties meaning (step slots 0 (cpu + 1) 0 none) me)
   empty_so x m me w one filled =
-      let Goal : ℕ × Seat O P C R → Type 0 = λ z. Turns meaning Mcs h slots id z.1 0 (λ k. either (k == (z.0 + 1)) 0 k) (empties meaning (step slots 0 (z.0 + 1) 0 none) z.1) in
+      let Goal : ℕ × Seat O P C R → Type 0 = λ z. IsTurn meaning Mcs h slots id z.1 0 (λ k. either (k == (z.0 + 1)) 0 k) (empties meaning (step slots 0 (z.0 + 1) 0 none) z.1) in
       subst Goal (λ i. (w.at.number i, sym filled i))
-      (emptying meaning h slots id (m.0, (0, Some x) ∷ rest m.1) w.held.caller.acts x (rest m.1) one refl w.added w.held.lawful w.held.replayed w.at.stands (idle_alone m.0.others w.at.alone))
+      (emptying meaning h slots id (m.0, (0, Some x) ∷ rest m.1) w.hold_view.caller.acts x (rest m.1) one refl w.added w.hold_view.lawful w.hold_view.replayed w.at.stands (idle_alone m.0.others w.at.alone))
 
-  pub empty_now : h.kind ≡ Mcs → (x : History O P C R) (m me : Seat O P C R) → IsWith meaning h cpu Alone x m → slots ≡ 1 → me ≡ (m.0, (0, Some x) ∷ rest m.1) → Turns meaning h.kind h slots id me 0 (λ k. either (k == (cpu + 1)) 0 k) (empties meaning (step slots 0 (cpu + 1) 0 none) me)
-  empty_now kind x m me w one filled = subst (λ k. Turns meaning k h slots id me 0 (λ k. either (k == (cpu + 1)) 0 k) (empties meaning (step slots 0 (cpu + 1) 0 none) me)) (sym kind) (empty_so x m me w one filled)
+  pub empty_now : h.kind ≡ Mcs → (x : History O P C R) (m me : Seat O P C R) → IsWith meaning h cpu Alone x m → slots ≡ 1 → me ≡ (m.0, (0, Some x) ∷ rest m.1) → IsTurn meaning h.kind h slots id me 0 (λ k. either (k == (cpu + 1)) 0 k) (empties meaning (step slots 0 (cpu + 1) 0 none) me)
+  empty_now kind x m me w one filled = subst (λ k. IsTurn meaning k h slots id me 0 (λ k. either (k == (cpu + 1)) 0 k) (empties meaning (step slots 0 (cpu + 1) 0 none) me)) (sym kind) (empty_so x m me w one filled)
 
-  pass_so : (n j : ℕ) (x : History O P C R) (m me : Seat O P C R) → h.numbers ≡ n → IsWith meaning h cpu (Passing j) x m → slots ≡ 1 → me ≡ (m.0, (0, Some x) ∷ rest m.1) → Turns meaning Mcs h slots id me (1 + n + j) (λ _. 0) (λ _. passes meaning (step slots (1 + n + j) 0 0 none) me 0)
+  pass_so : (n j : ℕ) (x : History O P C R) (m me : Seat O P C R) → h.numbers ≡ n → IsWith meaning h cpu (Passing j) x m → slots ≡ 1 → me ≡ (m.0, (0, Some x) ∷ rest m.1) → IsTurn meaning Mcs h slots id me (1 + n + j) (λ _. 0) (λ _. passes meaning (step slots (1 + n + j) 0 0 none) me 0)
   pass_so n j x m me is w one filled =
-      let Goal : ℕ × Seat O P C R → Type 0 = λ z. Turns meaning Mcs h slots id z.1 (1 + z.0 + j) (λ _. 0) (λ _. passes meaning (step slots (1 + z.0 + j) 0 0 none) z.1 0) in
+      let Goal : ℕ × Seat O P C R → Type 0 = λ z. IsTurn meaning Mcs h slots id z.1 (1 + z.0 + j) (λ _. 0) (λ _. passes meaning (step slots (1 + z.0 + j) 0 0 none) z.1 0) in
       subst Goal (λ i. (is i, sym filled i))
-      (passing meaning h slots id (m.0, (0, Some x) ∷ rest m.1) w.held.caller.acts x (rest m.1) one refl w.added w.held.lawful w.held.replayed j w.at.stands)
+      (passing meaning h slots id (m.0, (0, Some x) ∷ rest m.1) w.hold_view.caller.acts x (rest m.1) one refl w.added w.hold_view.lawful w.hold_view.replayed j w.at.stands)
 
-  pub pass_now : h.kind ≡ Mcs → (n j : ℕ) (x : History O P C R) (m me : Seat O P C R) → h.numbers ≡ n → IsWith meaning h cpu (Passing j) x m → slots ≡ 1 → me ≡ (m.0, (0, Some x) ∷ rest m.1) → Turns meaning h.kind h slots id me (1 + n + j) (λ _. 0) (λ _. passes meaning (step slots (1 + n + j) 0 0 none) me 0)
-  pass_now kind n j x m me is w one filled = subst (λ k. Turns meaning k h slots id me (1 + n + j) (λ _. 0) (λ _. passes meaning (step slots (1 + n + j) 0 0 none) me 0)) (sym kind) (pass_so n j x m me is w one filled)
+  pub pass_now : h.kind ≡ Mcs → (n j : ℕ) (x : History O P C R) (m me : Seat O P C R) → h.numbers ≡ n → IsWith meaning h cpu (Passing j) x m → slots ≡ 1 → me ≡ (m.0, (0, Some x) ∷ rest m.1) → IsTurn meaning h.kind h slots id me (1 + n + j) (λ _. 0) (λ _. passes meaning (step slots (1 + n + j) 0 0 none) me 0)
+  pass_now kind n j x m me is w one filled = subst (λ k. IsTurn meaning k h slots id me (1 + n + j) (λ _. 0) (λ _. passes meaning (step slots (1 + n + j) 0 0 none) me 0)) (sym kind) (pass_so n j x m me is w one filled)
 
 module _ {O P C R : Type 0} where
   -- who owns every number owns the one that a word named
@@ -110,7 +110,7 @@ module _ {O P C R : Type 0} where
   pub else_below : (h : Cell O P C R) (n j : ℕ) (m : Seat O P C R) → h.numbers ≡ n → m.0.told ≡ h ∷ [] → IsElse m.0 j → j < n
   else_below h n j m is told other = let below = other.inside h told in omega arith
 
-  pub else_now : (q : Place) (m m' : Seat O P C R) (j : ℕ) → m' ≡ (placed m.0 q, m.1) → IsElse m.0 j → IsElse m'.0 j
+  pub else_now : (q : Stage) (m m' : Seat O P C R) (j : ℕ) → m' ≡ (with_stage m.0 q, m.1) → IsElse m.0 j → IsElse m'.0 j
   else_now q m m' j e other = subst (λ (z : Seat O P C R). IsElse z.0 j) (sym e) record { other = other.other; inside = other.inside }
 
   -- a joined seat has the first caller of the first
@@ -118,14 +118,14 @@ module _ {O P C R : Type 0} where
   else_of m w m1 j e other = let both = subst (λ (z : Seat O P C R). IsElse z.0 j) e other in record { other = both.other; inside = both.inside }
 
   -- two seats, joined, where the first caller moved, and split again
-  pub first_moved : (q : Place) (m w m1 m2 m' : Seat O P C R) → m.0.others ≡ [] → m1 ≡ (taken_in m.0 w.0, m.1) → m2 ≡ (placed m1.0 q, m1.1) → m' ≡ (keeping m2.0, m2.1) → m' ≡ (placed m.0 q, m.1)
+  pub first_moved : (q : Stage) (m w m1 m2 m' : Seat O P C R) → m.0.others ≡ [] → m1 ≡ (taken_in m.0 w.0, m.1) → m2 ≡ (with_stage m1.0 q, m1.1) → m' ≡ (keeping m2.0, m2.1) → m' ≡ (with_stage m.0 q, m.1)
   first_moved q m w m1 m2 m' alone e e' f =
-      let both : m2 ≡ (placed (taken_in m.0 w.0) q, m.1) = e' ∙ (λ i. (placed (e i).0 q, (e i).1)) in
+      let both : m2 ≡ (with_stage (taken_in m.0 w.0) q, m.1) = e' ∙ (λ i. (with_stage (e i).0 q, (e i).1)) in
       f ∙ ((λ i. (keeping (both i).0, (both i).1)) ∙ (λ i. (record { told = m.0.told; main = at q m.0.main; others = sym alone i }, m.1)))
 
-  pub second_same : (q : Place) (m w m1 m2 w' : Seat O P C R) → w.0.others ≡ [] → w.1 ≡ [] → w.0.told ≡ m.0.told → m1 ≡ (taken_in m.0 w.0, m.1) → m2 ≡ (placed m1.0 q, m1.1) → w' ≡ (letting m2.0, []) → w' ≡ w
+  pub second_same : (q : Stage) (m w m1 m2 w' : Seat O P C R) → w.0.others ≡ [] → w.1 ≡ [] → w.0.told ≡ m.0.told → m1 ≡ (taken_in m.0 w.0, m.1) → m2 ≡ (with_stage m1.0 q, m1.1) → w' ≡ (letting m2.0, []) → w' ≡ w
   second_same q m w m1 m2 w' alone empty told e e' f =
-      let both : m2 ≡ (placed (taken_in m.0 w.0) q, m.1) = e' ∙ (λ i. (placed (e i).0 q, (e i).1)) in
+      let both : m2 ≡ (with_stage (taken_in m.0 w.0) q, m.1) = e' ∙ (λ i. (with_stage (e i).0 q, (e i).1)) in
       f ∙ ((λ i. (letting (both i).0, [])) ∙ (λ i. (record { told = sym told i; main = w.0.main; others = sym alone i }, sym empty i)))
 
   abbrev history_in : History O P C R → Option (History O P C R) → History O P C R
@@ -133,19 +133,19 @@ module _ {O P C R : Type 0} where
   history_in d (Some x) = x
 
   -- a holder that moves has the same numbers and the same object
-  pub same_held : (meaning : Ghosts O P C R) (h k : Cell O P C R) (p q s t : Place) (x y : History O P C R) (m m' : Seat O P C R) → Moves meaning p q (standing_with h s x m) (standing_with k t y m') → held_of k y m'.0 ≡ held_of h x m.0
+  pub same_held : (meaning : Ghosts O P C R) (h k : Cell O P C R) (p q s t : Stage) (x y : History O P C R) (m m' : Seat O P C R) → Moves meaning p q (state_with h s x m) (state_with k t y m') → hold_view_of k y m'.0 ≡ hold_view_of h x m.0
   same_held meaning h k p q s t x y m m' moved = λ i. record { caller = moved.caller i; history = history_in x (moved.has i) }
 
   -- what a caller has seen grows step by step
-  pub grows_on : (before after : Standing O P C R) (log : List (Event O P C R)) → after.caller ≡ before.caller → Grows before.caller.owned before.seen after.seen → Grows after.caller.owned after.seen log → Grows before.caller.owned before.seen log
+  pub grows_on : (before after : CallerState O P C R) (log : List (Event O P C R)) → after.caller ≡ before.caller → Grows before.caller.owned before.seen after.seen → Grows after.caller.owned after.seen log → Grows before.caller.owned before.seen log
   grows_on before after log same one two = grows_then before.caller.owned before.seen after.seen log one (subst (λ k. Grows k.owned after.seen log) same two)
 
   -- the CPU that a word named, by the number that the code has
-  pub named : (at : ℕ → Place) (n k : ℕ) (m m' : Seat O P C R) → Names at m n m' → n ≡ k + 1 → (m' ≡ (placed m.0 (at k), m.1)) × IsElse m.0 k
+  pub named : (at : ℕ → Stage) (n k : ℕ) (m m' : Seat O P C R) → Names at m n m' → n ≡ k + 1 → (m' ≡ (with_stage m.0 (at k), m.1)) × IsElse m.0 k
   named at n k m m' t is =
       let w = t.word in
       let same : t.cpu ≡ k = omega arith in
-      (t.seat ∙ ap (λ (z : ℕ). (placed m.0 (at z), m.1)) same, subst (IsElse m.0) same t.other)
+      (t.seat ∙ ap (λ (z : ℕ). (with_stage m.0 (at z), m.1)) same, subst (IsElse m.0) same t.other)
 
 module _ {O P C R : Type 0} (meaning : Ghosts O P C R) where
   abbrev slot_of : List (ℕ × Option (History O P C R)) → Option (History O P C R)
@@ -153,22 +153,22 @@ module _ {O P C R : Type 0} (meaning : Ghosts O P C R) where
   slot_of (s ∷ others) = s.1
 
   -- a caller acts as a number of the cell
-  pub below_without : (h : Cell O P C R) (n cpu : ℕ) (p : Place) (m : Seat O P C R) → h.numbers ≡ n → IsWithout meaning h cpu p m → cpu < n
-  below_without h n cpu p m is w = let below = w.part.caller.below m.0.main.cpu w.part.caller.acts in let number = w.at.number in omega arith
+  pub below_without : (h : Cell O P C R) (n cpu : ℕ) (p : Stage) (m : Seat O P C R) → h.numbers ≡ n → IsWithout meaning h cpu p m → cpu < n
+  below_without h n cpu p m is w = let below = w.pass_view.caller.below m.0.main.cpu w.pass_view.caller.acts in let number = w.at.number in omega arith
 
-  pub below_with : (h : Cell O P C R) (n cpu : ℕ) (p : Place) (x : History O P C R) (m : Seat O P C R) → h.numbers ≡ n → IsWith meaning h cpu p x m → cpu < n
-  below_with h n cpu p x m is w = let below = w.held.caller.below m.0.main.cpu w.held.caller.acts in let number = w.at.number in omega arith
+  pub below_with : (h : Cell O P C R) (n cpu : ℕ) (p : Stage) (x : History O P C R) (m : Seat O P C R) → h.numbers ≡ n → IsWith meaning h cpu p x m → cpu < n
+  below_with h n cpu p x m is w = let below = w.hold_view.caller.below m.0.main.cpu w.hold_view.caller.acts in let number = w.at.number in omega arith
 
   -- a holder stands elsewhere
-  pub goes_with : (h : Cell O P C R) (cpu : ℕ) (p q : Place) (x : History O P C R) (m m' : Seat O P C R) → IsWith meaning h cpu p x m → m' ≡ (placed m.0 q, m.1) → IsWith meaning h cpu q x m'
+  pub goes_with : (h : Cell O P C R) (cpu : ℕ) (p q : Stage) (x : History O P C R) (m m' : Seat O P C R) → IsWith meaning h cpu p x m → m' ≡ (with_stage m.0 q, m.1) → IsWith meaning h cpu q x m'
   goes_with h cpu p q x m m' w e = subst (IsWith meaning h cpu q x) (sym e) record {
     at = record { alone = w.at.alone; number = w.at.number; carries = w.at.carries; stands = refl; told = w.at.told };
     added = w.added;
-    held = w.held;
+    hold_view = w.hold_view;
   }
 
-  pub moves_with : (h : Cell O P C R) (p q : Place) (x : History O P C R) (m m' : Seat O P C R) → Lawful meaning h m.0.main.seen → m' ≡ (placed m.0 q, m.1) → Moves meaning p q (standing_with h p x m) (standing_with h q x m')
-  moves_with h p q x m m' lawful e = subst (λ z. Moves meaning p q (standing_with h p x m) (standing_with h q x z)) (sym e) record {
+  pub moves_with : (h : Cell O P C R) (p q : Stage) (x : History O P C R) (m m' : Seat O P C R) → Lawful meaning h m.0.main.seen → m' ≡ (with_stage m.0 q, m.1) → Moves meaning p q (state_with h p x m) (state_with h q x m')
+  moves_with h p q x m m' lawful e = subst (λ z. Moves meaning p q (state_with h p x m) (state_with h q x z)) (sym e) record {
     caller = refl;
     from = refl;
     to = refl;
@@ -178,16 +178,16 @@ module _ {O P C R : Type 0} (meaning : Ghosts O P C R) where
   }
 
   -- the object was put into the slot, and the step left it there
-  pub still_there : (q : Place) (m m1 m2 : Seat O P C R) (x : History O P C R) (r : Option (History O P C R)) → m1 ≡ (m.0, (0, Some x) ∷ rest m.1) → m2 ≡ (placed m1.0 q, m1.1) → m2.1 ≡ (0, r) ∷ rest m2.1 → IsSome r
+  pub still_there : (q : Stage) (m m1 m2 : Seat O P C R) (x : History O P C R) (r : Option (History O P C R)) → m1 ≡ (m.0, (0, Some x) ∷ rest m.1) → m2 ≡ (with_stage m1.0 q, m1.1) → m2.1 ≡ (0, r) ∷ rest m2.1 → IsSome r
   still_there q m m1 m2 x r filled went slot =
       let is : r ≡ Some x = ap slot_of (sym slot ∙ (ap (λ (z : Seat O P C R). z.1) went ∙ ap (λ (z : Seat O P C R). z.1) filled)) in
       subst IsSome (sym is) (search rules)
 
   -- the object was put into the slot, the step left it there, and it was taken out again
-  pub came_back : (q : Place) (m m1 m2 m3 : Seat O P C R) (x y : History O P C R) (r : Option (History O P C R)) → m.1 ≡ (0, None) ∷ [] → m1 ≡ (m.0, (0, Some x) ∷ rest m.1) → m2 ≡ (placed m1.0 q, m1.1)
-      → m2.1 ≡ (0, r) ∷ rest m2.1 → m3 ≡ (m2.0, (0, None) ∷ rest m2.1) → r ≡ Some y → (m3 ≡ (placed m.0 q, m.1)) × (x ≡ y)
+  pub came_back : (q : Stage) (m m1 m2 m3 : Seat O P C R) (x y : History O P C R) (r : Option (History O P C R)) → m.1 ≡ (0, None) ∷ [] → m1 ≡ (m.0, (0, Some x) ∷ rest m.1) → m2 ≡ (with_stage m1.0 q, m1.1)
+      → m2.1 ≡ (0, r) ∷ rest m2.1 → m3 ≡ (m2.0, (0, None) ∷ rest m2.1) → r ≡ Some y → (m3 ≡ (with_stage m.0 q, m.1)) × (x ≡ y)
   came_back q m m1 m2 m3 x y r had filled went slot out is =
-      let there : m2 ≡ (placed m.0 q, (0, Some x) ∷ []) = went ∙ ((λ i. (placed (filled i).0 q, (filled i).1)) ∙ (λ i. (placed m.0 q, (0, Some x) ∷ rest (had i)))) in (
-        out ∙ ((λ i. ((there i).0, (0, None) ∷ rest (there i).1)) ∙ (λ i. (placed m.0 q, sym had i))),
+      let there : m2 ≡ (with_stage m.0 q, (0, Some x) ∷ []) = went ∙ ((λ i. (with_stage (filled i).0 q, (filled i).1)) ∙ (λ i. (with_stage m.0 q, (0, Some x) ∷ rest (had i)))) in (
+        out ∙ ((λ i. ((there i).0, (0, None) ∷ rest (there i).1)) ∙ (λ i. (with_stage m.0 q, sym had i))),
         ap (value_of meaning x) (sym (ap (λ (z : Seat O P C R). z.1) there) ∙ (slot ∙ ap (λ (z : Option (History O P C R)). (0, z) ∷ rest m2.1) is)),
       )

@@ -12,18 +12,18 @@ use Rattle.atomic_table.proofs.Lists.{exchanged, set_again}
 use Rattle.event_log.specs.declared.object.SeqObject.{Ghosts}
 use Rattle.event_log.specs.Distinct.{has}
 use Rattle.event_log.specs.History.{History}
-use Rattle.word_rule.specs.declared.place.Place.{Place}
-use Rattle.word_rule.specs.declared.place.Place.TheVariants.{Idle, Drawn, Served, Ready, Behind, Armed, Waiting, Holding, Alone, Leaving, Passing, Torn}
+use Rattle.word_rule.specs.declared.stage.Stage.{Stage}
+use Rattle.word_rule.specs.declared.stage.Stage.TheVariants.{Idle, Drawn, Served, Ready, Behind, Armed, Waiting, Holding, Alone, Leaving, Passing, Torn}
 use Rattle.word_rule.specs.declared.lock_kind.LockKind.TheVariants.{Mcs}
 use Rattle.word_rule.specs.Cell.{Cell, Lawful, stored}
-use Rattle.word_rule.specs.Definition.{Defined, Shows, Turns}
+use Rattle.word_rule.specs.Definition.{Defined, FollowsDefinition, IsTurn}
 use Rattle.word_rule.specs.Line.{Line, holding, is_first, lined}
 use Rattle.word_rule.specs.Locks.{Lock, behind, follower, going, is_named, joining, last, leaving, taking}
-use Rattle.word_rule.specs.LockWords.{TiedMcs}
-use Rattle.word_rule.specs.Queues.{Queued}
-use Rattle.word_rule.specs.Board.{Board, Caller, EachFrom, Viewed, Table, Knows, KnowsAll}
-use Rattle.word_rule.specs.Seats.{Seat, placed, settled}
-use Rattle.word_rule.specs.Told.{any_has, Lacks, Returns}
+use Rattle.word_rule.specs.LockWords.{IsMcsLock}
+use Rattle.word_rule.specs.Queues.{IsMcsWords}
+use Rattle.word_rule.specs.CellInvariant.{GhostState, Caller, EachFrom, Viewed, Table, CallerInvariant, SeatInvariant}
+use Rattle.word_rule.specs.Seats.{Seat, with_stage, settled}
+use Rattle.word_rule.specs.Announced.{any_has, Lacks, Returns}
 use Rattle.word_rule.specs.Callers.{AddedBy}
 use Rattle.word_rule.specs.Turns.{turn, clear, enter, arm, link, see, pass}
 use Rattle.word_rule.proofs.Definitions.{queued_of, defined_ties}
@@ -34,9 +34,9 @@ use Rattle.word_rule.proofs.Acting.{value_of}
 use Rattle.word_rule.proofs.QueueWords.{stands_at, in_cell, only_one, out_of_line, another}
 use Rattle.word_rule.proofs.QueueLines.{at_home, predecessor, free, ahead, saw, second, more}
 use Rattle.word_rule.proofs.McsTurns as turns
-use Rattle.mcs_lock.specs.Steps.{goes, arms, Names, SawLawful, enters, looks, sees, sees_again, Empties, empties, passes}
+use Rattle.mcs_lock.specs.Steps.{goes, arms, Names, SawLawful, enters, looks, sees, sees_again, EmptyOutcome, empties, passes}
 
-abbrev cpu_of : Place → ℕ
+abbrev cpu_of : Stage → ℕ
 cpu_of Idle = 0
 cpu_of (Drawn t) = 0
 cpu_of (Served t) = 0
@@ -52,7 +52,7 @@ cpu_of Torn = 0
 
 module _ {O P C R : Type 0} (meaning : Ghosts O P C R) (h : Cell O P C R) where
   abbrev pub Rule : Table O P C R → Type 0
-  Rule = Shows meaning Mcs h
+  Rule = FollowsDefinition meaning Mcs h
 
   module _ (slots id : ℕ) (me : Seat O P C R) (acts : has me.0.main.cpu me.0.main.owned ≡ true) where
     abbrev p : ℕ
@@ -65,22 +65,22 @@ module _ {O P C R : Type 0} (meaning : Ghosts O P C R) (h : Cell O P C R) where
     n = h.numbers
 
     -- the words of the queue that is shown
-    tie : (s : Table O P C R) (r : Rule s) → Queued n s.words r.board.line
-    tie s r = queued_of n s.words r.board.line r.tied
+    tie : (s : Table O P C R) (r : Rule s) → IsMcsWords n s.words r.state.line
+    tie s r = queued_of n s.words r.state.line r.tied
 
     -- where the caller stands in the lock that is shown
-    stands_there : (s : Table O P C R) (r : Rule s) (q : Place) → get_elem? s.views id ≡ some v → v.main.place ≡ q → r.tied.lock.line.place p ≡ q
-    stands_there s r q there is = let mine = r.each id v there in ap (λ (z : Line). z.place p) r.tied.line_is ∙ (mine.main.stands acts ∙ is)
+    stands_there : (s : Table O P C R) (r : Rule s) (q : Stage) → get_elem? s.views id ≡ some v → v.main.stage ≡ q → r.tied.lock.line.stage p ≡ q
+    stands_there s r q there is = let mine = r.each id v there in ap (λ (z : Line). z.stage p) r.tied.line_is ∙ (mine.main.stands acts ∙ is)
 
     -- the caller stands elsewhere, in this line, and one word is another
-    abbrev goes_to : (s : Table O P C R) (r : Rule s) (i k : ℕ) (cpus : List ℕ) (q : Place) → get_elem? s.views id ≡ some v → holding q ≡ false → Defined Mcs n (set s.words i k) (lined cpus r.board.line.out r.board.line.place p q) → Rule (stepped s i k id me.1 (placed v q) keeps)
+    abbrev goes_to : (s : Table O P C R) (r : Rule s) (i k : ℕ) (cpus : List ℕ) (q : Stage) → get_elem? s.views id ≡ some v → holding q ≡ false → Defined Mcs n (set s.words i k) (lined cpus r.state.line.out r.state.line.stage p q) → Rule (stepped s i k id me.1 (with_stage v q) keeps)
     goes_to s r i k cpus q there free tied = kept meaning (Defined Mcs) h s r i k id v me.1 cpus q there acts (λ e. absurd (true≢false (sym e ∙ free))) tied
 
     -- a word was read, and the caller stands elsewhere
-    abbrev reads : (s : Table O P C R) (r : Rule s) (i : ℕ) (q : Place) → get_elem? s.views id ≡ some v → (holding q ≡ true → holding v.main.place ≡ true) → TiedMcs n s.words (record r.tied.lock { line = going r.tied.lock.line p q })
-        → Rule (stepped s i (get_or s.words i 0) id me.1 (placed v q) keeps)
+    abbrev reads : (s : Table O P C R) (r : Rule s) (i : ℕ) (q : Stage) → get_elem? s.views id ≡ some v → (holding q ≡ true → holding v.main.stage ≡ true) → IsMcsLock n s.words (record r.tied.lock { line = going r.tied.lock.line p q })
+        → Rule (stepped s i (get_or s.words i 0) id me.1 (with_stage v q) keeps)
     reads s r i q there has_it tied =
-        let b = r.board.line in
+        let b = r.state.line in
         let l = r.tied.lock in
         let mine = r.each id v there in
         kept meaning (Defined Mcs) h s r i (get_or s.words i 0) id v me.1 b.cpus q there acts (λ e. mine.main.whole acts (has_it e))
@@ -88,41 +88,41 @@ module _ {O P C R : Type 0} (meaning : Ghosts O P C R) (h : Cell O P C R) where
           lock = record l { line = going l.line p q };
           kind_is = r.tied.kind_is;
           line_is = ap (λ (z : Line). going z p q) r.tied.line_is;
-          tied = subst (λ (ws : List ℕ). TiedMcs n ws (record l { line = going l.line p q })) (sym (set-get_or s.words i 0)) tied;
+          tied = subst (λ (ws : List ℕ). IsMcsLock n ws (record l { line = going l.line p q })) (sym (set-get_or s.words i 0)) tied;
         }
 
     -- a word was read, and nothing changed
     abbrev unchanged : (s : Table O P C R) (r : Rule s) (i : ℕ) → get_elem? s.views id ≡ some v → Rule (stepped s i (get_or s.words i 0) id me.1 v keeps)
     unchanged s r i there = record {
-      board = r.board;
+      state = r.state;
       tied = record {
         lock = r.tied.lock;
         kind_is = r.tied.kind_is;
         line_is = r.tied.line_is;
-        tied = subst (λ (ws : List ℕ). TiedMcs n ws r.tied.lock) (sym (set-get_or s.words i 0)) r.tied.tied;
+        tied = subst (λ (ws : List ℕ). IsMcsLock n ws r.tied.lock) (sym (set-get_or s.words i 0)) r.tied.tied;
       };
       lawful = r.lawful;
       at_home = r.at_home;
-      each = subst (λ (views : List (Viewed O P C R)). (j : ℕ) (u : Viewed O P C R) → get_elem? views j ≡ some u → KnowsAll h r.board j u) (sym (set_again s.views id v there)) r.each;
+      each = subst (λ (views : List (Viewed O P C R)). (j : ℕ) (u : Viewed O P C R) → get_elem? views j ≡ some u → SeatInvariant h r.state j u) (sym (set_again s.views id v there)) r.each;
     }
 
-    pub clearing : v.main.place ≡ Idle → Turns meaning Mcs h slots id me (1 + p) (λ _. 0) (λ _. goes Ready (step slots (1 + p) 0 0 none) me 0)
+    pub clearing : v.main.stage ≡ Idle → IsTurn meaning Mcs h slots id me (1 + p) (λ _. 0) (λ _. goes Ready (step slots (1 + p) 0 0 none) me 0)
     clearing is s r len there small =
         let l = r.tied.lock in
         let mine = r.each id v there in
         let below = (mine.main.owns p acts).1 in
         let at = stands_there s r Idle there is in (
-          placed v Ready,
+          with_stage v Ready,
           keeps,
           tt,
-          goes_to s r (1 + p) 0 r.board.line.cpus Ready there refl record { lock = clear l p; kind_is = r.tied.kind_is; line_is = ap (λ (z : Line). going z p Ready) r.tied.line_is; tied = turns.clears n s.words l r.tied.tied p below at },
+          goes_to s r (1 + p) 0 r.state.line.cpus Ready there refl record { lock = clear l p; kind_is = r.tied.kind_is; line_is = ap (λ (z : Line). going z p Ready) r.tied.line_is; tied = turns.clears n s.words l r.tied.tied p below at },
           refl,
           sym (turns.turned l p Idle r.tied.kind_is at),
         )
 
-    pub entering : v.main.place ≡ Ready → Turns meaning Mcs h slots id me 0 (λ _. p + 1) (enters meaning (step slots 0 (p + 1) 0 none) me)
+    pub entering : v.main.stage ≡ Ready → IsTurn meaning Mcs h slots id me 0 (λ _. p + 1) (enters meaning (step slots 0 (p + 1) 0 none) me)
     entering is s r len there small =
-        let b = r.board.line in
+        let b = r.state.line in
         let l = r.tied.lock in
         let mine = r.each id v there in
         let below = (mine.main.owns p acts).1 in
@@ -130,18 +130,18 @@ module _ {O P C R : Type 0} (meaning : Ghosts O P C R) (h : Cell O P C R) where
         let at = stands_there s r Ready there is in
         dite (ℕ_discrete (get_or s.words 0 0) 0)
         (λ nobody. let none = turns.tail_none n s.words l r.tied.tied p below nobody in (
-          settled v Holding r.board.committed,
-          takes 0 (Some (stored meaning h r.board.committed)),
+          settled v Holding r.state.committed,
+          takes 0 (Some (stored meaning h r.state.committed)),
           r.at_home (at_home n s.words b (tie s r) p below nobody),
           taken meaning (Defined Mcs) h s r 0 (p + 1) id v me.1 (p ∷ []) Holding there acts
-              record { lock = (enter l p None).0; kind_is = r.tied.kind_is; line_is = ap (λ (z : Line). lined (p ∷ []) true z.place p Holding) r.tied.line_is; tied = turns.enters_first n s.words l r.tied.tied p below at none },
+              record { lock = (enter l p None).0; kind_is = r.tied.kind_is; line_is = ap (λ (z : Line). lined (p ∷ []) true z.stage p Holding) r.tied.line_is; tied = turns.enters_first n s.words l r.tied.tied p below at none },
           record { first = λ _. gets meaning (Defined Mcs) h s r id me Holding mine; behind = λ some_one. absurd (some_one nobody) },
           sym (turns.turned l p Ready r.tied.kind_is at ∙ ap (λ z. (enter l p z).0) none),
         ))
         (λ some_one.
         let t = predecessor n s.words b (tie s r) p below here some_one in
         let one = turns.tail_some n s.words l r.tied.tied p below t.0 t.1 in (
-          placed v (Behind t.0),
+          with_stage v (Behind t.0),
           keeps,
           tt,
           goes_to s r 0 (p + 1) (b.cpus ++ p ∷ []) (Behind t.0) there refl
@@ -153,39 +153,39 @@ module _ {O P C R : Type 0} (meaning : Ghosts O P C R) (h : Cell O P C R) where
           sym (turns.turned l p Ready r.tied.kind_is at ∙ ap (λ z. (enter l p z).0) one),
         ))
 
-    pub arming : (q : ℕ) → v.main.place ≡ Behind q → Turns meaning Mcs h slots id me (1 + n + p) (λ _. 1) (λ _. arms (step slots (1 + n + p) 1 0 none) me 1)
+    pub arming : (q : ℕ) → v.main.stage ≡ Behind q → IsTurn meaning Mcs h slots id me (1 + n + p) (λ _. 1) (λ _. arms (step slots (1 + n + p) 1 0 none) me 1)
     arming q is s r len there small =
         let l = r.tied.lock in
         let mine = r.each id v there in
         let below = (mine.main.owns p acts).1 in
         let at = stands_there s r (Behind q) there is in (
-          placed v (Armed q),
+          with_stage v (Armed q),
           keeps,
           tt,
-          goes_to s r (1 + n + p) 1 r.board.line.cpus (Armed q) there refl
+          goes_to s r (1 + n + p) 1 r.state.line.cpus (Armed q) there refl
               record { lock = arm l p q; kind_is = r.tied.kind_is; line_is = ap (λ (z : Line). going z p (Armed q)) r.tied.line_is; tied = turns.arms n s.words l r.tied.tied p below q at },
-          λ u e. let same : q ≡ u = ap cpu_of (sym is ∙ e) in ap (λ (z : ℕ). (placed v (Armed z), me.1)) same,
+          λ u e. let same : q ≡ u = ap cpu_of (sym is ∙ e) in ap (λ (z : ℕ). (with_stage v (Armed z), me.1)) same,
           sym (turns.turned l p (Behind q) r.tied.kind_is at),
         )
 
-    pub linking : (q : ℕ) → v.main.place ≡ Armed q → Turns meaning Mcs h slots id me (1 + q) (λ _. p + 1) (λ _. goes Waiting (step slots (1 + q) (p + 1) 0 none) me (p + 1))
+    pub linking : (q : ℕ) → v.main.stage ≡ Armed q → IsTurn meaning Mcs h slots id me (1 + q) (λ _. p + 1) (λ _. goes Waiting (step slots (1 + q) (p + 1) 0 none) me (p + 1))
     linking q is s r len there small =
         let l = r.tied.lock in
         let mine = r.each id v there in
         let below = (mine.main.owns p acts).1 in
         let at = stands_there s r (Armed q) there is in (
-          placed v Waiting,
+          with_stage v Waiting,
           keeps,
           tt,
-          goes_to s r (1 + q) (p + 1) r.board.line.cpus Waiting there refl
+          goes_to s r (1 + q) (p + 1) r.state.line.cpus Waiting there refl
               record { lock = link l p q; kind_is = r.tied.kind_is; line_is = ap (λ (z : Line). going z p Waiting) r.tied.line_is; tied = turns.links n s.words l r.tied.tied p below q at },
           refl,
           sym (turns.turned l p (Armed q) r.tied.kind_is at),
         )
 
-    pub looking : v.main.place ≡ Waiting → AllIdle v.others → Turns meaning Mcs h slots id me (1 + n + p) (λ k. k) (looks meaning (step slots (1 + n + p) 0 0 none) me)
+    pub looking : v.main.stage ≡ Waiting → AllIdle v.others → IsTurn meaning Mcs h slots id me (1 + n + p) (λ k. k) (looks meaning (step slots (1 + n + p) 0 0 none) me)
     looking is idle s r len there small =
-        let b = r.board.line in
+        let b = r.state.line in
         let l = r.tied.lock in
         let mine = r.each id v there in
         let below = (mine.main.owns p acts).1 in
@@ -196,15 +196,15 @@ module _ {O P C R : Type 0} (meaning : Ghosts O P C R) (h : Cell O P C R) where
         (λ hit.
         let f = free n s.words b (tie s r) p below here hit in
         let first = turns.free_first n s.words l r.tied.tied p below at hit in (
-          settled v Holding r.board.committed,
-          takes 0 (Some (stored meaning h r.board.committed)),
+          settled v Holding r.state.committed,
+          takes 0 (Some (stored meaning h r.state.committed)),
           r.at_home f.object,
           taken meaning (Defined Mcs) h s r w (get_or s.words w 0) id v me.1 b.cpus Holding there acts
               record {
                 lock = record l { line = taking l.line p Holding };
                 kind_is = r.tied.kind_is;
                 line_is = ap (λ (z : Line). taking z p Holding) r.tied.line_is;
-                tied = subst (λ (ws : List ℕ). TiedMcs n ws (record l { line = taking l.line p Holding })) (sym (set-get_or s.words w 0)) (turns.gets n s.words l r.tied.tied p below at first);
+                tied = subst (λ (ws : List ℕ). IsMcsLock n ws (record l { line = taking l.line p Holding })) (sym (set-get_or s.words w 0)) (turns.gets n s.words l r.tied.tied p below at first);
               },
           record { hit = λ _. gets meaning (Defined Mcs) h s r id me Holding mine; miss = λ miss. absurd (miss hit) },
           sym (turns.turned l p Waiting r.tied.kind_is at ∙ turns.hits l p first),
@@ -218,26 +218,26 @@ module _ {O P C R : Type 0} (meaning : Ghosts O P C R) (h : Cell O P C R) where
           unchanged s r w there,
           record {
             hit = λ hit. absurd (miss hit);
-            miss = λ _. record { seat = ap (λ (q : Place). (placed v q, me.1)) is; lacks = lacks meaning (Defined Mcs) h (defined_ties Mcs) s r id v t.0 mine idle t.1 t.2 };
+            miss = λ _. record { seat = ap (λ (q : Stage). (with_stage v q, me.1)) is; lacks = lacks meaning (Defined Mcs) h (defined_ties Mcs) s r id v t.0 mine idle t.1 t.2 };
           },
           sym (turns.turned l p Waiting r.tied.kind_is at ∙ turns.passes_by l p behind_one),
         ))
 
     -- what a holder has seen is the committed log
-    saw_lawful : (s : Table O P C R) (r : Rule s) → get_elem? s.views id ≡ some v → holding v.main.place ≡ true → SawLawful meaning v
+    saw_lawful : (s : Table O P C R) (r : Rule s) → get_elem? s.views id ≡ some v → holding v.main.stage ≡ true → SawLawful meaning v
     saw_lawful s r there has_it g told =
         let mine = r.each id v there in
-        subst (λ (z : Cell O P C R). Lawful meaning z v.main.seen) (sym (same_cell meaning (Defined Mcs) h r.board id v g mine told)) (subst (Lawful meaning h) (sym (mine.main.whole acts has_it)) r.lawful)
+        subst (λ (z : Cell O P C R). Lawful meaning z v.main.seen) (sym (same_cell meaning (Defined Mcs) h r.state id v g mine told)) (subst (Lawful meaning h) (sym (mine.main.whole acts has_it)) r.lawful)
 
     -- a holder's `next` that isn't 0 names the one behind it
-    finds : (s : Table O P C R) (r : Rule s) → get_elem? s.views id ≡ some v → holding v.main.place ≡ true → get_or s.words (1 + p) 0 ≢ 0
-        → (j : ℕ) × TiedMcs n s.words (record r.tied.lock { line = going r.tied.lock.line p (Passing j) }) × Names Passing me (get_or s.words (1 + p) 0) (placed v (Passing j), me.1) × (follower r.tied.lock.line ≡ Some j)
+    finds : (s : Table O P C R) (r : Rule s) → get_elem? s.views id ≡ some v → holding v.main.stage ≡ true → get_or s.words (1 + p) 0 ≢ 0
+        → (j : ℕ) × IsMcsLock n s.words (record r.tied.lock { line = going r.tied.lock.line p (Passing j) }) × Names Passing me (get_or s.words (1 + p) 0) (with_stage v (Passing j), me.1) × (follower r.tied.lock.line ≡ Some j)
     finds s r there has_it some_one =
-        let b = r.board.line in
+        let b = r.state.line in
         let l = r.tied.lock in
         let mine = r.each id v there in
         let below = (mine.main.owns p acts).1 in
-        let holds = ap holding (stands_there s r v.main.place there refl) ∙ has_it in
+        let holds = ap holding (stands_there s r v.main.stage there refl) ∙ has_it in
         let t = saw n s.words b (tie s r) p below (ap holding (mine.main.stands acts) ∙ has_it) some_one in
         let f = t.1 in (
           t.0,
@@ -246,7 +246,7 @@ module _ {O P C R : Type 0} (meaning : Ghosts O P C R) (h : Cell O P C R) where
           turns.sees_that n s.words l r.tied.tied p below t.0 holds f.word,
         )
 
-    pub seeing : v.main.place ≡ Holding → Turns meaning Mcs h slots id me (1 + p) (λ k. k) (sees meaning (step slots (1 + p) 0 0 none) me)
+    pub seeing : v.main.stage ≡ Holding → IsTurn meaning Mcs h slots id me (1 + p) (λ k. k) (sees meaning (step slots (1 + p) 0 0 none) me)
     seeing is s r len there small =
         let l = r.tied.lock in
         let mine = r.each id v there in
@@ -255,7 +255,7 @@ module _ {O P C R : Type 0} (meaning : Ghosts O P C R) (h : Cell O P C R) where
         let has_it = ap holding is in
         dite (ℕ_discrete (get_or s.words (1 + p) 0) 0)
         (λ nobody. (
-          placed v Alone,
+          with_stage v Alone,
           keeps,
           tt,
           reads s r (1 + p) Alone there (λ _. has_it) (turns.sees_none n s.words l r.tied.tied p below at),
@@ -263,7 +263,7 @@ module _ {O P C R : Type 0} (meaning : Ghosts O P C R) (h : Cell O P C R) where
           sym (turns.turned l p Holding r.tied.kind_is at ∙ ap (λ z. (see l p Alone z).0) (turns.sees_nobody n s.words l r.tied.tied p below (ap holding at) nobody)),
         ))
         (λ some_one. let t = finds s r there has_it some_one in (
-          placed v (Passing t.0),
+          with_stage v (Passing t.0),
           keeps,
           tt,
           reads s r (1 + p) (Passing t.0) there (λ _. has_it) t.1,
@@ -272,7 +272,7 @@ module _ {O P C R : Type 0} (meaning : Ghosts O P C R) (h : Cell O P C R) where
         ))
 
     -- a caller that leaves sees one, or lacks a number
-    sees_behind : v.main.place ≡ Leaving → ((s : Table O P C R) → Rule s → get_elem? s.views id ≡ some v → get_or s.words (1 + p) 0 ≡ 0 → Lacks v) → Turns meaning Mcs h slots id me (1 + p) (λ k. k) (sees_again meaning (step slots (1 + p) 0 0 none) me)
+    sees_behind : v.main.stage ≡ Leaving → ((s : Table O P C R) → Rule s → get_elem? s.views id ≡ some v → get_or s.words (1 + p) 0 ≡ 0 → Lacks v) → IsTurn meaning Mcs h slots id me (1 + p) (λ k. k) (sees_again meaning (step slots (1 + p) 0 0 none) me)
     sees_behind is lacking s r len there small =
         let l = r.tied.lock in
         let mine = r.each id v there in
@@ -281,7 +281,7 @@ module _ {O P C R : Type 0} (meaning : Ghosts O P C R) (h : Cell O P C R) where
         let has_it = ap holding is in
         dite (ℕ_discrete (get_or s.words (1 + p) 0) 0)
         (λ nobody. (
-          placed v Leaving,
+          with_stage v Leaving,
           keeps,
           tt,
           reads s r (1 + p) Leaving there (λ _. has_it) (turns.still_none n s.words l r.tied.tied p below at),
@@ -289,7 +289,7 @@ module _ {O P C R : Type 0} (meaning : Ghosts O P C R) (h : Cell O P C R) where
           sym (turns.turned l p Leaving r.tied.kind_is at ∙ ap (λ z. (see l p Leaving z).0) (turns.sees_nobody n s.words l r.tied.tied p below (ap holding at) nobody)),
         ))
         (λ some_one. let t = finds s r there has_it some_one in (
-          placed v (Passing t.0),
+          with_stage v (Passing t.0),
           keeps,
           tt,
           reads s r (1 + p) (Passing t.0) there (λ _. has_it) t.1,
@@ -298,21 +298,21 @@ module _ {O P C R : Type 0} (meaning : Ghosts O P C R) (h : Cell O P C R) where
         ))
 
     -- the one behind a caller that leaves
-    behind_it : (s : Table O P C R) (r : Rule s) → get_elem? s.views id ≡ some v → v.main.place ≡ Leaving → (j : ℕ) × (get_elem? r.board.line.cpus 1 ≡ some j) × (j ≢ p)
+    behind_it : (s : Table O P C R) (r : Rule s) → get_elem? s.views id ≡ some v → v.main.stage ≡ Leaving → (j : ℕ) × (get_elem? r.state.line.cpus 1 ≡ some j) × (j ≢ p)
     behind_it s r there is =
-        let l = r.board.line in
+        let l = r.state.line in
         let mine = r.each id v there in
         let w = stands_at n s.words l (tie s r) p Leaving (mine.main.owns p acts).1 (mine.main.stands acts ∙ is) in
         let f = w.0 in
         another n s.words l (tie s r) p f.there w.1
 
-    pub seeing_again : v.main.place ≡ Leaving → AllIdle v.others → Turns meaning Mcs h slots id me (1 + p) (λ k. k) (sees_again meaning (step slots (1 + p) 0 0 none) me)
-    seeing_again is idle = sees_behind is (λ s r there nobody. let t = behind_it s r there is in lacks meaning (Defined Mcs) h (defined_ties Mcs) s r id v t.0 (r.each id v there) idle (has_at r.board.line.cpus 1 t.0 t.1) t.2)
+    pub seeing_again : v.main.stage ≡ Leaving → AllIdle v.others → IsTurn meaning Mcs h slots id me (1 + p) (λ k. k) (sees_again meaning (step slots (1 + p) 0 0 none) me)
+    seeing_again is idle = sees_behind is (λ s r there nobody. let t = behind_it s r there is in lacks meaning (Defined Mcs) h (defined_ties Mcs) s r id v t.0 (r.each id v there) idle (has_at r.state.line.cpus 1 t.0 t.1) t.2)
 
     -- beside one that waits, it sees that one, or lacks a number
-    pub finding : (c : Caller O P C R) → v.main.place ≡ Leaving → v.others ≡ c ∷ [] → c.place ≡ Waiting → Turns meaning Mcs h slots id me (1 + p) (λ k. k) (sees_again meaning (step slots (1 + p) 0 0 none) me)
+    pub finding : (c : Caller O P C R) → v.main.stage ≡ Leaving → v.others ≡ c ∷ [] → c.stage ≡ Waiting → IsTurn meaning Mcs h slots id me (1 + p) (λ k. k) (sees_again meaning (step slots (1 + p) 0 0 none) me)
     finding c is beside waits = sees_behind is (λ s r there nobody g has_all.
-        let b = r.board in
+        let b = r.state in
         let l = b.line in
         let mine = r.each id v there in
         let below = (mine.main.owns p acts).1 in
@@ -325,10 +325,10 @@ module _ {O P C R : Type 0} (meaning : Ghosts O P C R) (h : Cell O P C R) where
         let elsewhere : any_has y v.others ≡ true = grind (arith, nat_tests) in
         let one : (has y c.owned || false) ≡ true = ap (any_has y) (sym beside) ∙ elsewhere in
         let owned : has y c.owned ≡ true = grind (arith, nat_tests) in
-        let know = (subst (λ (cs : List (Caller O P C R)). EachFrom (Knows n b id) 1 cs) beside mine.others).0 in
+        let know = (subst (λ (cs : List (Caller O P C R)). EachFrom (CallerInvariant n b id) 1 cs) beside mine.others).0 in
         dite (ℕ_discrete y c.cpu)
         (λ e.
-        let stands : l.place y ≡ Waiting = ap l.place e ∙ (know.stands (subst (λ (z : ℕ). has z c.owned ≡ true) e owned) ∙ waits) in
+        let stands : l.stage y ≡ Waiting = ap l.stage e ∙ (know.stands (subst (λ (z : ℕ). has z c.owned ≡ true) e owned) ∙ waits) in
         let link = second n s.words l (tie s r) p below y (ap holding (mine.main.stands acts ∙ is)) t.1 stands in
         let z : 0 ≡ y + 1 = sym nobody ∙ link in
         absurd (omega arith))
@@ -336,25 +336,25 @@ module _ {O P C R : Type 0} (meaning : Ghosts O P C R) (h : Cell O P C R) where
 
     module _ (x : History O P C R) (others : List (ℕ × Option (History O P C R))) (one : slots ≡ 1) (carries : me.1 ≡ (0, Some x) ∷ others) (added : AddedBy p v.main.seen x.log) (lawful : Lawful meaning h x.log) (is_stored : x ≡ stored meaning h x.log) where
       -- the object goes home, and nobody has it
-      gave : (s : Table O P C R) (r : Rule s) (i k : ℕ) → length s.homes ≡ slots → get_elem? s.views id ≡ some v → holding v.main.place ≡ true → TiedMcs n (set s.words i k) (record r.tied.lock { line = leaving r.tied.lock.line p })
+      gave : (s : Table O P C R) (r : Rule s) (i k : ℕ) → length s.homes ≡ slots → get_elem? s.views id ≡ some v → holding v.main.stage ≡ true → IsMcsLock n (set s.words i k) (record r.tied.lock { line = leaving r.tied.lock.line p })
           → (r' : Rule (stepped s i k id me.1 (settled v Idle x.log) gives)) × (r'.tied.lock ≡ record r.tied.lock { line = leaving r.tied.lock.line p })
       gave s r i k len there has_it tied =
-          let b = r.board.line in
+          let b = r.state.line in
           let l = r.tied.lock in
           let mine = r.each id v there in
           let below = (mine.main.owns p acts).1 in
           let holds = ap holding (mine.main.stands acts) ∙ has_it in
           let slot : me.1 ≡ (0, Some (stored meaning h x.log)) ∷ others = carries ∙ ap (λ z. (0, Some z) ∷ others) is_stored in
-          let defined : Defined Mcs n (set s.words i k) (lined (behind b.cpus) false b.place p Idle) = record { lock = record l { line = leaving l.line p }; kind_is = r.tied.kind_is; line_is = ap (λ (z : Line). leaving z p) r.tied.line_is; tied = tied } in
+          let defined : Defined Mcs n (set s.words i k) (lined (behind b.cpus) false b.stage p Idle) = record { lock = record l { line = leaving l.line p }; kind_is = r.tied.kind_is; line_is = ap (λ (z : Line). leaving z p) r.tied.line_is; tied = tied } in
           subst (λ (cs : List (ℕ × Option (History O P C R))). (r' : Rule (stepped s i k id cs (settled v Idle x.log) gives)) × (r'.tied.lock ≡ record l { line = leaving l.line p })) (sym slot)
           (given meaning (Defined Mcs) h s r i k id v others x.log (behind b.cpus) Idle (omega arith) there acts holds (only_one n s.words b (tie s r) p below holds) added lawful defined, refl)
 
       returned : Returns meaning Idle me (settled v Idle x.log, rest me.1)
       returned x' others' e = let same = sym carries ∙ e in λ z. (settled v Idle (value_of meaning x (same z)).log, rest (e z))
 
-      pub emptying : v.main.place ≡ Alone → AllIdle v.others → Turns meaning Mcs h slots id me 0 (λ k. either (k == (p + 1)) 0 k) (empties meaning (step slots 0 (p + 1) 0 none) me)
+      pub emptying : v.main.stage ≡ Alone → AllIdle v.others → IsTurn meaning Mcs h slots id me 0 (λ k. either (k == (p + 1)) 0 k) (empties meaning (step slots 0 (p + 1) 0 none) me)
       emptying is idle s r len there small =
-          let b = r.board.line in
+          let b = r.state.line in
           let l = r.tied.lock in
           let mine = r.each id v there in
           let below = (mine.main.owns p acts).1 in
@@ -363,7 +363,7 @@ module _ {O P C R : Type 0} (meaning : Ghosts O P C R) (h : Cell O P C R) where
           let has_it = ap holding is in
           let found : ℕ = get_or s.words 0 0 in
           exchanged found (p + 1) 0
-          (λ (k : ℕ). (w : Viewed O P C R) × (a : Act (Option (History O P C R))) × Valid s.homes me.1 a × (r' : Rule (stepped s 0 k id me.1 w a)) × Empties meaning (p + 1) me found (w, carried_after me.1 a) × (r'.tied.lock ≡ (turn l p).0))
+          (λ (k : ℕ). (w : Viewed O P C R) × (a : Act (Option (History O P C R))) × Valid s.homes me.1 a × (r' : Rule (stepped s 0 k id me.1 w a)) × EmptyOutcome meaning (p + 1) me found (w, carried_after me.1 a) × (r'.tied.lock ≡ (turn l p).0))
           (λ hit. let now = gave s r 0 0 len there has_it (turns.empties n s.words l r.tied.tied p below at hit) in (
             settled v Idle x.log,
             gives,
@@ -377,7 +377,7 @@ module _ {O P C R : Type 0} (meaning : Ghosts O P C R) (h : Cell O P C R) where
           let f = stands_at n s.words b (tie s r) p Alone below here in
           let t = another n s.words b (tie s r) p f.there longer in
           let not_last = false_from (is_named p (last l.line.cpus)) (λ named. miss (turns.last_named n s.words l r.tied.tied p below named)) in (
-            placed v Leaving,
+            with_stage v Leaving,
             keeps,
             tt,
             reads s r 0 Leaving there (λ _. has_it) (turns.stays_on n s.words l r.tied.tied p below at miss),
@@ -389,7 +389,7 @@ module _ {O P C R : Type 0} (meaning : Ghosts O P C R) (h : Cell O P C R) where
             sym (turns.turned l p Alone r.tied.kind_is at ∙ turns.stays_queued l p not_last),
           ))
 
-      pub passing : (j : ℕ) → v.main.place ≡ Passing j → Turns meaning Mcs h slots id me (1 + n + j) (λ _. 0) (λ _. passes meaning (step slots (1 + n + j) 0 0 none) me 0)
+      pub passing : (j : ℕ) → v.main.stage ≡ Passing j → IsTurn meaning Mcs h slots id me (1 + n + j) (λ _. 0) (λ _. passes meaning (step slots (1 + n + j) 0 0 none) me 0)
       passing j is s r len there small =
           let l = r.tied.lock in
           let mine = r.each id v there in

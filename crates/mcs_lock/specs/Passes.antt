@@ -2,11 +2,11 @@
 use Rattle.std.specs.declared.cmp.PartialEq.{Ghosts as Eq}
 use Rattle.std.specs.declared.default.Default.{Ghosts as Default}
 use Rattle.event_log.specs.declared.object.SeqObject.{Ghosts}
-use Rattle.word_rule.specs.declared.place.Place.TheVariants.{Ready, Behind, Armed, Waiting, Alone, Leaving, Passing}
-use Rattle.word_rule.specs.Cell.{Part, Held}
-use Rattle.word_rule.specs.Standing.{Standing}
+use Rattle.word_rule.specs.declared.stage.Stage.TheVariants.{Ready, Behind, Armed, Waiting, Alone, Leaving, Passing}
+use Rattle.word_rule.specs.Cell.{PassView, HoldView}
+use Rattle.word_rule.specs.CallerState.{CallerState}
 use Rattle.word_rule.specs.Passes.{IsPassAt, IsHoldAt}
-use Rattle.word_rule.specs.Callers.{IsAt, part_of, held_of, standing_without, standing_with}
+use Rattle.word_rule.specs.Callers.{IsAt, pass_view_of, hold_view_of, state_without, state_with}
 use Rattle.mcs_lock.specs.declared.cell.McsCell.{McsCell}
 use Rattle.word_rule.specs.declared.pass.Pass.{Pass}
 use Rattle.mcs_lock.specs.declared.states.Ready.{Ready as ReadyCaller}
@@ -51,39 +51,39 @@ module _ {O P C R : Type 0} {g : Ghosts O P C R} {call_eq : Eq C} {call_default 
   IsPassingOf c p = IsAt c.table.table.shared.table_id c.table.table.shared.key p.seat.table_id p.key.value
 
   -- what each knows: without the object, and with it
-  abbrev pub behind_part : BehindCaller O P C R g call_eq call_default reply_eq reply_default → Part O P C R
-  behind_part b = part_of b.key.value b.seat.me.0
+  abbrev pub view_of_behind : BehindCaller O P C R g call_eq call_default reply_eq reply_default → PassView O P C R
+  view_of_behind b = pass_view_of b.key.value b.seat.me.0
 
-  abbrev pub waiting_part : WaitingCaller O P C R g call_eq call_default reply_eq reply_default → Part O P C R
-  waiting_part w = part_of w.key.value w.seat.me.0
+  abbrev pub view_of_waiting : WaitingCaller O P C R g call_eq call_default reply_eq reply_default → PassView O P C R
+  view_of_waiting w = pass_view_of w.key.value w.seat.me.0
 
-  abbrev pub leaving_held : LeavingCaller O P C R g call_eq call_default reply_eq reply_default → Held O P C R
-  leaving_held l = held_of l.key.value l.logged l.seat.me.0
+  abbrev pub view_of_leaving : LeavingCaller O P C R g call_eq call_default reply_eq reply_default → HoldView O P C R
+  view_of_leaving l = hold_view_of l.key.value l.logged l.seat.me.0
 
-  abbrev pub passing_held : PassingCaller O P C R g call_eq call_default reply_eq reply_default → Held O P C R
-  passing_held p = held_of p.key.value p.logged p.seat.me.0
+  abbrev pub view_of_passing : PassingCaller O P C R g call_eq call_default reply_eq reply_default → HoldView O P C R
+  view_of_passing p = hold_view_of p.key.value p.logged p.seat.me.0
 
   -- where each stands
-  abbrev pub ready_standing : ReadyCaller O P C R g call_eq call_default reply_eq reply_default → Standing O P C R
-  ready_standing r = standing_without r.key.value Ready r.seat.me
+  abbrev pub state_of_ready : ReadyCaller O P C R g call_eq call_default reply_eq reply_default → CallerState O P C R
+  state_of_ready r = state_without r.key.value Ready r.seat.me
 
-  abbrev pub behind_standing : BehindCaller O P C R g call_eq call_default reply_eq reply_default → Standing O P C R
-  behind_standing b = standing_without b.key.value (Behind b.ahead) b.seat.me
+  abbrev pub state_of_behind : BehindCaller O P C R g call_eq call_default reply_eq reply_default → CallerState O P C R
+  state_of_behind b = state_without b.key.value (Behind b.ahead) b.seat.me
 
-  abbrev pub armed_standing : ArmedCaller O P C R g call_eq call_default reply_eq reply_default → Standing O P C R
-  armed_standing a = standing_without a.key.value (Armed a.ahead) a.seat.me
+  abbrev pub state_of_armed : ArmedCaller O P C R g call_eq call_default reply_eq reply_default → CallerState O P C R
+  state_of_armed a = state_without a.key.value (Armed a.ahead) a.seat.me
 
-  abbrev pub waiting_standing : WaitingCaller O P C R g call_eq call_default reply_eq reply_default → Standing O P C R
-  waiting_standing w = standing_without w.key.value Waiting w.seat.me
+  abbrev pub state_of_waiting : WaitingCaller O P C R g call_eq call_default reply_eq reply_default → CallerState O P C R
+  state_of_waiting w = state_without w.key.value Waiting w.seat.me
 
-  abbrev pub alone_standing : AloneCaller O P C R g call_eq call_default reply_eq reply_default → Standing O P C R
-  alone_standing a = standing_with a.key.value Alone a.logged a.seat.me
+  abbrev pub state_of_alone : AloneCaller O P C R g call_eq call_default reply_eq reply_default → CallerState O P C R
+  state_of_alone a = state_with a.key.value Alone a.logged a.seat.me
 
-  abbrev pub leaving_standing : LeavingCaller O P C R g call_eq call_default reply_eq reply_default → Standing O P C R
-  leaving_standing l = standing_with l.key.value Leaving l.logged l.seat.me
+  abbrev pub state_of_leaving : LeavingCaller O P C R g call_eq call_default reply_eq reply_default → CallerState O P C R
+  state_of_leaving l = state_with l.key.value Leaving l.logged l.seat.me
 
-  abbrev pub passing_standing : PassingCaller O P C R g call_eq call_default reply_eq reply_default → Standing O P C R
-  passing_standing p = standing_with p.key.value (Passing p.follower) p.logged p.seat.me
+  abbrev pub state_of_passing : PassingCaller O P C R g call_eq call_default reply_eq reply_default → CallerState O P C R
+  state_of_passing p = state_with p.key.value (Passing p.follower) p.logged p.seat.me
 
   -- this holds of what a caller that has entered is
   abbrev pub IfHold : Entered O P C R g call_eq call_default reply_eq reply_default → (Hold O P C R g call_eq call_default reply_eq reply_default → Type 0) → Type 0

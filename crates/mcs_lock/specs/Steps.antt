@@ -3,32 +3,32 @@ use Rattle.std.specs.Prelude.{◌≡◌, ◌≢◌, ℕ, ◌+◌, [], ◌∷◌,
 use Rattle.atomic_table.specs.Table.{Step}
 use Rattle.event_log.specs.declared.object.SeqObject.{Ghosts}
 use Rattle.event_log.specs.History.{History}
-use Rattle.word_rule.specs.declared.place.Place.{Place}
-use Rattle.word_rule.specs.declared.place.Place.TheVariants.{Idle, Behind, Armed, Waiting, Holding, Alone, Leaving, Passing}
+use Rattle.word_rule.specs.declared.stage.Stage.{Stage}
+use Rattle.word_rule.specs.declared.stage.Stage.TheVariants.{Idle, Behind, Armed, Waiting, Holding, Alone, Leaving, Passing}
 use Rattle.word_rule.specs.Cell.{Cell, Lawful}
-use Rattle.word_rule.specs.Board.{Viewed}
-use Rattle.word_rule.specs.Seats.{Seat, placed}
-use Rattle.word_rule.specs.Told.{Lacks, IsElse, Gets, Returns}
+use Rattle.word_rule.specs.CellInvariant.{Viewed}
+use Rattle.word_rule.specs.Seats.{Seat, with_stage}
+use Rattle.word_rule.specs.Announced.{Lacks, IsElse, Gets, Returns}
 
 module _ {O P C R : Type 0} where
   -- the caller stands there now
-  abbrev pub goes : Place → Step (Option (History O P C R)) → Seat O P C R → ℕ → Seat O P C R → Type 0
-  goes place st m n m' = m' ≡ (placed m.0 place, m.1)
+  abbrev pub goes : Stage → Step (Option (History O P C R)) → Seat O P C R → ℕ → Seat O P C R → Type 0
+  goes stage st m n m' = m' ≡ (with_stage m.0 stage, m.1)
 
   -- the caller, behind p, has armed itself
   abbrev pub arms : Step (Option (History O P C R)) → Seat O P C R → ℕ → Seat O P C R → Type 0
-  arms st m n m' = (p : ℕ) → m.0.main.place ≡ Behind p → m' ≡ (placed m.0 (Armed p), m.1)
+  arms st m n m' = (p : ℕ) → m.0.main.stage ≡ Behind p → m' ≡ (with_stage m.0 (Armed p), m.1)
 
   -- the word n names a CPU that isn't the caller's, and the caller stands there now
-  pub record Names (place : ℕ → Place) (m : Seat O P C R) (n : ℕ) (m' : Seat O P C R) : Type 0 where
+  pub record Names (stage : ℕ → Stage) (m : Seat O P C R) (n : ℕ) (m' : Seat O P C R) : Type 0 where
     pub cpu : ℕ
     pub word : n ≡ cpu + 1
-    pub seat : m' ≡ (placed m.0 (place cpu), m.1)
+    pub seat : m' ≡ (with_stage m.0 (stage cpu), m.1)
     pub other : IsElse m.0 cpu
 
   -- the caller stands there now, and the seat doesn't have every number
-  pub record Lags (place : Place) (m m' : Seat O P C R) : Type 0 where
-    pub seat : m' ≡ (placed m.0 place, m.1)
+  pub record Lags (stage : Stage) (m m' : Seat O P C R) : Type 0 where
+    pub seat : m' ≡ (with_stage m.0 stage, m.1)
     pub lacks : Lacks m.0
 
 module _ {O P C R : Type 0} (meaning : Ghosts O P C R) where
@@ -37,47 +37,47 @@ module _ {O P C R : Type 0} (meaning : Ghosts O P C R) where
   SawLawful v = (h : Cell O P C R) → v.told ≡ h ∷ [] → Lawful meaning h v.main.seen
 
   -- the object comes where the tail named nobody, and else the caller is behind the one that it named
-  pub record Enters (m : Seat O P C R) (n : ℕ) (m' : Seat O P C R) : Type 0 where
+  pub record EnterOutcome (m : Seat O P C R) (n : ℕ) (m' : Seat O P C R) : Type 0 where
     pub first : n ≡ 0 → Gets meaning Holding m m'
     pub behind : n ≢ 0 → Names Behind m n m'
 
   abbrev pub enters : Step (Option (History O P C R)) → Seat O P C R → ℕ → Seat O P C R → Type 0
-  enters st m n m' = Enters m n m'
+  enters st m n m' = EnterOutcome m n m'
 
   -- the object comes where the caller's `locked` is clear, and only then
-  pub record Looks (m : Seat O P C R) (n : ℕ) (m' : Seat O P C R) : Type 0 where
+  pub record LookOutcome (m : Seat O P C R) (n : ℕ) (m' : Seat O P C R) : Type 0 where
     pub hit : n ≡ 0 → Gets meaning Holding m m'
     pub miss : n ≢ 0 → Lags Waiting m m'
 
   abbrev pub looks : Step (Option (History O P C R)) → Seat O P C R → ℕ → Seat O P C R → Type 0
-  looks st m n m' = Looks m n m'
+  looks st m n m' = LookOutcome m n m'
 
   -- the holder sees the one behind it where that has linked itself
-  pub record Sees (m : Seat O P C R) (n : ℕ) (m' : Seat O P C R) : Type 0 where
+  pub record SeeOutcome (m : Seat O P C R) (n : ℕ) (m' : Seat O P C R) : Type 0 where
     pub lawful : SawLawful m.0
     pub found : n ≢ 0 → Names Passing m n m'
-    pub none : n ≡ 0 → m' ≡ (placed m.0 Alone, m.1)
+    pub none : n ≡ 0 → m' ≡ (with_stage m.0 Alone, m.1)
 
   abbrev pub sees : Step (Option (History O P C R)) → Seat O P C R → ℕ → Seat O P C R → Type 0
-  sees st m n m' = Sees m n m'
+  sees st m n m' = SeeOutcome m n m'
 
   -- the same, where there is one behind it
-  pub record SeesAgain (m : Seat O P C R) (n : ℕ) (m' : Seat O P C R) : Type 0 where
+  pub record SeeAgainOutcome (m : Seat O P C R) (n : ℕ) (m' : Seat O P C R) : Type 0 where
     pub lawful : SawLawful m.0
     pub found : n ≢ 0 → Names Passing m n m'
     pub none : n ≡ 0 → Lags Leaving m m'
 
   abbrev pub sees_again : Step (Option (History O P C R)) → Seat O P C R → ℕ → Seat O P C R → Type 0
-  sees_again st m n m' = SeesAgain m n m'
+  sees_again st m n m' = SeeAgainOutcome m n m'
 
   -- the object goes home where the tail was the word that was asked for, and else there is one behind the holder
-  pub record Empties (last : ℕ) (m : Seat O P C R) (n : ℕ) (m' : Seat O P C R) : Type 0 where
+  pub record EmptyOutcome (last : ℕ) (m : Seat O P C R) (n : ℕ) (m' : Seat O P C R) : Type 0 where
     pub lawful : SawLawful m.0
     pub hit : n ≡ last → Returns meaning Idle m m'
     pub miss : n ≢ last → Lags Leaving m m'
 
   abbrev pub empties : Step (Option (History O P C R)) → Seat O P C R → ℕ → Seat O P C R → Type 0
-  empties st m n m' = Empties st.first m n m'
+  empties st m n m' = EmptyOutcome st.first m n m'
 
   -- the object goes home
   abbrev pub passes : Step (Option (History O P C R)) → Seat O P C R → ℕ → Seat O P C R → Type 0

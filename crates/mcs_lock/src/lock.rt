@@ -1,7 +1,7 @@
 //! The MCS lock meets the interface of all locks.
 
 ghost use Rattle.mcs_lock.specs.Passes.{IsPassOf, IsHoldOf};
-ghost use Rattle.word_rule.specs.Passes.{pass_part, hold_held};
+ghost use Rattle.word_rule.specs.Passes.{view_of_pass, view_of_hold};
 
 use crate::cell::McsCell;
 use event_log::{Logged, NoRoom, SeqObject, Steps};
@@ -13,13 +13,13 @@ impl<O: SeqObject> LockCell<O> for McsCell<O> {
 
     type Hold = Hold<O>;
 
-    ghost is_pass = { IsPassOf };
+    ghost is_pass_of = { IsPassOf };
 
-    ghost is_hold = { IsHoldOf };
+    ghost is_hold_of = { IsHoldOf };
 
-    ghost part = { pass_part };
+    ghost pass_view = { view_of_pass };
 
-    ghost held = { hold_held };
+    ghost hold_view = { view_of_hold };
 
     fn acquire<R: Wait>(&self, rt: &R, pass: Pass<O>) -> (Hold<O>, u64) {
         self.wait(rt, pass)
@@ -53,7 +53,7 @@ impl<O: SeqObject> LockCell<O> for McsCell<O> {
         self.table.close(pass)
     }
 
-    ghost pass_is_part = { λ _ pass _. pass.idle.part };
+    ghost pass_is_lawful = { λ _ pass _. pass.idle.pass_view };
 
-    ghost hold_is_held = { λ _ hold _. hold.holds.held };
+    ghost hold_is_lawful = { λ _ hold _. hold.holds.hold_view };
 }

@@ -1,6 +1,6 @@
 //! The steps that are the MCS lock's own.
 
-ghost use Rattle.word_rule.specs.declared.place.Place.TheVariants.{Ready, Waiting};
+ghost use Rattle.word_rule.specs.declared.stage.Stage.TheVariants.{Ready, Waiting};
 ghost use Rattle.mcs_lock.specs.Steps.{goes, arms, enters, looks, sees, sees_again, empties, passes};
 
 use atomic_table::Play;

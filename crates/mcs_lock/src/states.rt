@@ -1,8 +1,8 @@
 //! A caller of an MCS lock, by what it may do next.
 
 ghost use Rattle.event_log.proofs.Props.{legal_props};
-ghost use Rattle.word_rule.specs.declared.place.Place.TheVariants.{Ready, Behind, Armed, Waiting, Alone, Leaving, Passing};
-ghost use Rattle.word_rule.specs.Told.{IsElse};
+ghost use Rattle.word_rule.specs.declared.stage.Stage.TheVariants.{Ready, Behind, Armed, Waiting, Alone, Leaving, Passing};
+ghost use Rattle.word_rule.specs.Announced.{IsElse};
 ghost use Rattle.word_rule.specs.Callers.{IsWithout, IsWith};
 
 use event_log::{Logged, SeqObject};

@@ -3,21 +3,21 @@
 ghost use Rattle.std.specs.Prelude.{true, false, IfOk, IfErr};
 ghost use Rattle.word_rule.specs.McsSteps.{IsClear, IsEnter, IsArm, IsLink, IsWaitingLook, IsSee, IsSeeAgain, IsEmpty, IsPass};
 ghost use Rattle.mcs_lock.specs.Passes.{IsPassOf, IsReadyOf, IsBehindOf, IsArmedOf, IsWaitingOf, IsHoldOf, IsAloneOf, IsLeavingOf, IsPassingOf, IfHold, IfBehind};
-ghost use Rattle.mcs_lock.specs.Passes.{ready_standing, behind_standing, armed_standing, waiting_standing, alone_standing, leaving_standing, passing_standing};
-ghost use Rattle.word_rule.specs.Passes.{pass_standing, hold_standing};
+ghost use Rattle.mcs_lock.specs.Passes.{state_of_ready, state_of_behind, state_of_armed, state_of_waiting, state_of_alone, state_of_leaving, state_of_passing};
+ghost use Rattle.word_rule.specs.Passes.{state_of_pass, state_of_hold};
 
 use crate::cell::McsCell;
 use crate::rule::{Arm, Clear, Empty, Enter, Link, Look, PassOn, See, SeeAgain};
 use crate::states::{Alone, Armed, Behind, Entered, Leaving, Passing, Ready, Waiting};
 use event_log::SeqObject;
-use word_rule::{Hold, Pass, Place};
+use word_rule::{Hold, Pass, Stage};
 
 impl<O: SeqObject> McsCell<O> {
     /// Clears its `next`: one store.
     pub fn clear(&self, pass: Pass<O>) -> Ready<O>
         requires { IsPassOf self.now pass }
         ensures ready { IsReadyOf self.now result }
-        ensures step { IsClear O.SeqObject (pass_standing pass) (ready_standing result) }
+        ensures step { IsClear O.SeqObject (state_of_pass pass) (state_of_ready result) }
     {
         let Pass { cpu, key, mut seat } = pass;
         self.table.store::<Clear>(&mut seat, 1 + cpu as usize, 0);
@@ -28,8 +28,8 @@ impl<O: SeqObject> McsCell<O> {
     /// the cell gets it.
     pub fn enter(&self, ready: Ready<O>) -> Entered<O>
         requires { IsReadyOf self.now ready }
-        ensures got { IfHold result (λ h. IsHoldOf self.now h × IsEnter O.SeqObject (ready_standing ready) (hold_standing h) true) }
-        ensures queued { IfBehind result (λ b. IsBehindOf self.now b × IsEnter O.SeqObject (ready_standing ready) (behind_standing b) false) }
+        ensures got { IfHold result (λ h. IsHoldOf self.now h × IsEnter O.SeqObject (state_of_ready ready) (state_of_hold h) true) }
+        ensures queued { IfBehind result (λ b. IsBehindOf self.now b × IsEnter O.SeqObject (state_of_ready ready) (state_of_behind b) false) }
     {
         let Ready { cpu, key, mut seat } = ready;
         let found = self.table.swap::<Enter>(&mut seat, 0, cpu as u64 + 1);
@@ -37,7 +37,7 @@ impl<O: SeqObject> McsCell<O> {
             let (logged, lent) = self.table.take(&mut seat);
             Entered::Hold(Hold {
                 cpu,
-                place: Place::Holding,
+                stage: Stage::Holding,
                 logged,
                 lent,
                 key,
@@ -58,7 +58,7 @@ impl<O: SeqObject> McsCell<O> {
     pub fn arm(&self, behind: Behind<O>) -> Armed<O>
         requires { IsBehindOf self.now behind }
         ensures armed { IsArmedOf self.now result }
-        ensures step { IsArm O.SeqObject (behind_standing behind) (armed_standing result) }
+        ensures step { IsArm O.SeqObject (state_of_behind behind) (state_of_armed result) }
     {
         let Behind {
             cpu,
@@ -80,7 +80,7 @@ impl<O: SeqObject> McsCell<O> {
     pub fn link(&self, armed: Armed<O>) -> Waiting<O>
         requires { IsArmedOf self.now armed }
         ensures waiting { IsWaitingOf self.now result }
-        ensures step { IsLink O.SeqObject (armed_standing armed) (waiting_standing result) }
+        ensures step { IsLink O.SeqObject (state_of_armed armed) (state_of_waiting result) }
     {
         let Armed {
             cpu,
@@ -96,8 +96,8 @@ impl<O: SeqObject> McsCell<O> {
     /// Looks whether its `locked` is clear: one load. The object comes where it is.
     pub fn look(&self, waiting: Waiting<O>) -> Result<Hold<O>, Waiting<O>>
         requires { IsWaitingOf self.now waiting }
-        ensures got { IfOk result (λ h. IsHoldOf self.now h × IsWaitingLook O.SeqObject (waiting_standing waiting) (hold_standing h) true) }
-        ensures missed { IfErr result (λ w. IsWaitingOf self.now w × IsWaitingLook O.SeqObject (waiting_standing waiting) (waiting_standing w) false) }
+        ensures got { IfOk result (λ h. IsHoldOf self.now h × IsWaitingLook O.SeqObject (state_of_waiting waiting) (state_of_hold h) true) }
+        ensures missed { IfErr result (λ w. IsWaitingOf self.now w × IsWaitingLook O.SeqObject (state_of_waiting waiting) (state_of_waiting w) false) }
     {
         let Waiting { cpu, key, mut seat } = waiting;
         let found = self
@@ -107,7 +107,7 @@ impl<O: SeqObject> McsCell<O> {
             let (logged, lent) = self.table.take(&mut seat);
             Ok(Hold {
                 cpu,
-                place: Place::Holding,
+                stage: Stage::Holding,
                 logged,
                 lent,
                 key,
@@ -121,12 +121,12 @@ impl<O: SeqObject> McsCell<O> {
     /// Looks who is behind it, by its own `next`: one load. A caller that owns every number sees nobody.
     pub fn see(&self, hold: Hold<O>) -> Result<Passing<O>, Alone<O>>
         requires { IsHoldOf self.now hold }
-        ensures found { IfOk result (λ p. IsPassingOf self.now p × IsSee O.SeqObject (hold_standing hold) (passing_standing p) true) }
-        ensures none { IfErr result (λ a. IsAloneOf self.now a × IsSee O.SeqObject (hold_standing hold) (alone_standing a) false) }
+        ensures found { IfOk result (λ p. IsPassingOf self.now p × IsSee O.SeqObject (state_of_hold hold) (state_of_passing p) true) }
+        ensures none { IfErr result (λ a. IsAloneOf self.now a × IsSee O.SeqObject (state_of_hold hold) (state_of_alone a) false) }
     {
         let Hold {
             cpu,
-            place: _,
+            stage: _,
             logged,
             lent,
             key,
@@ -158,8 +158,8 @@ impl<O: SeqObject> McsCell<O> {
     /// every number is the last.
     pub fn empty(&self, alone: Alone<O>) -> Result<Pass<O>, Leaving<O>>
         requires { IsAloneOf self.now alone }
-        ensures home { IfOk result (λ p. IsPassOf self.now p × IsEmpty O.SeqObject (alone_standing alone) (pass_standing p) true) }
-        ensures missed { IfErr result (λ l. IsLeavingOf self.now l × IsEmpty O.SeqObject (alone_standing alone) (leaving_standing l) false) }
+        ensures home { IfOk result (λ p. IsPassOf self.now p × IsEmpty O.SeqObject (state_of_alone alone) (state_of_pass p) true) }
+        ensures missed { IfErr result (λ l. IsLeavingOf self.now l × IsEmpty O.SeqObject (state_of_alone alone) (state_of_leaving l) false) }
     {
         let Alone {
             cpu,
@@ -188,8 +188,8 @@ impl<O: SeqObject> McsCell<O> {
     /// Looks again who is behind it: one load.
     pub fn see_again(&self, leaving: Leaving<O>) -> Result<Passing<O>, Leaving<O>>
         requires { IsLeavingOf self.now leaving }
-        ensures found { IfOk result (λ p. IsPassingOf self.now p × IsSeeAgain O.SeqObject (leaving_standing leaving) (passing_standing p) true) }
-        ensures missed { IfErr result (λ l. IsLeavingOf self.now l × IsSeeAgain O.SeqObject (leaving_standing leaving) (leaving_standing l) false) }
+        ensures found { IfOk result (λ p. IsPassingOf self.now p × IsSeeAgain O.SeqObject (state_of_leaving leaving) (state_of_passing p) true) }
+        ensures missed { IfErr result (λ l. IsLeavingOf self.now l × IsSeeAgain O.SeqObject (state_of_leaving leaving) (state_of_leaving l) false) }
     {
         let Leaving {
             cpu,
@@ -224,7 +224,7 @@ impl<O: SeqObject> McsCell<O> {
     pub fn pass_on(&self, passing: Passing<O>) -> Pass<O>
         requires { IsPassingOf self.now passing }
         ensures pass { IsPassOf self.now result }
-        ensures step { IsPass O.SeqObject (passing_standing passing) (pass_standing result) }
+        ensures step { IsPass O.SeqObject (state_of_passing passing) (state_of_pass result) }
     {
         let Passing {
             cpu,

@@ -3,8 +3,8 @@
 ghost use Rattle.std.specs.Prelude.{◌≡◌, IfOk};
 ghost use Rattle.word_rule.specs.Cell.{OwnsAll, OwnTogether};
 ghost use Rattle.mcs_lock.specs.Passes.{IsPassOf, IsBehindOf, IsWaitingOf, IsHoldOf, IsLeavingOf};
-ghost use Rattle.mcs_lock.specs.Passes.{behind_part, waiting_part, leaving_held};
-ghost use Rattle.word_rule.specs.Passes.{pass_part, hold_held};
+ghost use Rattle.mcs_lock.specs.Passes.{view_of_behind, view_of_waiting, view_of_leaving};
+ghost use Rattle.word_rule.specs.Passes.{view_of_pass, view_of_hold};
 
 use crate::{Behind, Entered, Hold, Leaving, McsCell, Pass, Waiting};
 use event_log::{Event, Logged, NoRoom, Steps};
@@ -21,7 +21,7 @@ fn cell_of_one(
     queue: Logged<ThreadQueue>,
 ) -> Result<(McsCell<ThreadQueue>, Pass<ThreadQueue>), Logged<ThreadQueue>>
     ensures pass { IfOk result (λ r. IsPassOf r.0 r.1) }
-    ensures all { IfOk result (λ r. OwnsAll (pass_part r.1).caller) }
+    ensures all { IfOk result (λ r. OwnsAll (view_of_pass r.1).caller) }
 {
     match McsCell::new(alloc, queue, 1) {
         Ok((cell, mut passes)) => {
@@ -74,8 +74,8 @@ fn cell_of_two(
 ) -> Result<(McsCell<ThreadQueue>, Pass<ThreadQueue>, Pass<ThreadQueue>), Fail>
     ensures zero { IfOk result (λ r. IsPassOf r.0 r.1) }
     ensures one { IfOk result (λ r. IsPassOf r.0 r.2) }
-    ensures all { IfOk result (λ r. OwnTogether (pass_part r.1).caller (pass_part r.2).caller) }
-    ensures turned { IfOk result (λ r. OwnTogether (pass_part r.2).caller (pass_part r.1).caller) }
+    ensures all { IfOk result (λ r. OwnTogether (view_of_pass r.1).caller (view_of_pass r.2).caller) }
+    ensures turned { IfOk result (λ r. OwnTogether (view_of_pass r.2).caller (view_of_pass r.1).caller) }
 {
     let queue = Logged::<ThreadQueue>::open(alloc, 8, 100)?;
     let Ok((cell, mut passes)) = McsCell::new(alloc, queue, 2) else {
@@ -94,7 +94,7 @@ fn first<R: Abort>(
 ) -> Hold<ThreadQueue>
     requires { IsPassOf cell.now pass }
     ensures hold { IsHoldOf cell.now result }
-    ensures caller { (hold_held result).caller ≡ (pass_part pass).caller }
+    ensures caller { (view_of_hold result).caller ≡ (view_of_pass pass).caller }
 {
     let ready = cell.clear(pass);
     match cell.enter(ready) {
@@ -111,7 +111,7 @@ fn second<R: Abort>(
 ) -> Behind<ThreadQueue>
     requires { IsPassOf cell.now pass }
     ensures behind { IsBehindOf cell.now result }
-    ensures caller { (behind_part result).caller ≡ (pass_part pass).caller }
+    ensures caller { (view_of_behind result).caller ≡ (view_of_pass pass).caller }
 {
     let ready = cell.clear(pass);
     match cell.enter(ready) {
@@ -127,7 +127,7 @@ fn second<R: Abort>(
 fn seen(cell: &McsCell<ThreadQueue>, behind: Behind<ThreadQueue>) -> Waiting<ThreadQueue>
     requires { IsBehindOf cell.now behind }
     ensures waiting { IsWaitingOf cell.now result }
-    ensures caller { (waiting_part result).caller ≡ (behind_part behind).caller }
+    ensures caller { (view_of_waiting result).caller ≡ (view_of_behind behind).caller }
 {
     let armed = cell.arm(behind);
     cell.link(armed)
@@ -141,7 +141,7 @@ fn enq(
 ) -> (Hold<ThreadQueue>, Result<Steps<ThreadQueue>, NoRoom>)
     requires { IsHoldOf cell.now hold }
     ensures hold { IsHoldOf cell.now result.0 }
-    ensures caller { (hold_held result.0).caller ≡ (hold_held hold).caller }
+    ensures caller { (view_of_hold result.0).caller ≡ (view_of_hold hold).caller }
 {
     let _ = cell;
     let mut hold = hold;
@@ -157,7 +157,7 @@ fn stays<R: Abort>(
 ) -> Leaving<ThreadQueue>
     requires { IsHoldOf cell.now hold }
     ensures leaving { IsLeavingOf cell.now result }
-    ensures caller { (leaving_held result).caller ≡ (hold_held hold).caller }
+    ensures caller { (view_of_leaving result).caller ≡ (view_of_hold hold).caller }
 {
     let alone = match cell.see(hold) {
         Err(alone) => alone,
@@ -177,7 +177,7 @@ fn stays<R: Abort>(
 fn ends<R: Abort>(rt: &R, cell: &McsCell<ThreadQueue>, hold: Hold<ThreadQueue>) -> Pass<ThreadQueue>
     requires { IsHoldOf cell.now hold }
     ensures pass { IsPassOf cell.now result }
-    ensures caller { (pass_part result).caller ≡ (hold_held hold).caller }
+    ensures caller { (view_of_pass result).caller ≡ (view_of_hold hold).caller }
 {
     let alone = match cell.see(hold) {
         Err(alone) => alone,
@@ -197,7 +197,7 @@ fn passes<R: Abort>(
 ) -> Pass<ThreadQueue>
     requires { IsLeavingOf cell.now leaving }
     ensures pass { IsPassOf cell.now result }
-    ensures caller { (pass_part result).caller ≡ (leaving_held leaving).caller }
+    ensures caller { (view_of_pass result).caller ≡ (view_of_leaving leaving).caller }
 {
     match cell.see_again(leaving) {
         Ok(passing) => {
@@ -216,7 +216,7 @@ fn gets<R: Abort>(
 ) -> Hold<ThreadQueue>
     requires { IsWaitingOf cell.now waiting }
     ensures hold { IsHoldOf cell.now result }
-    ensures caller { (hold_held result).caller ≡ (waiting_part waiting).caller }
+    ensures caller { (view_of_hold result).caller ≡ (view_of_waiting waiting).caller }
 {
     match cell.look(waiting) {
         Ok(hold) => hold,
@@ -232,7 +232,7 @@ fn ended(
 ) -> Logged<ThreadQueue>
     requires first { IsPassOf cell first }
     requires second { IsPassOf cell second }
-    requires all { OwnTogether (pass_part first).caller (pass_part second).caller }
+    requires all { OwnTogether (view_of_pass first).caller (view_of_pass second).caller }
 {
     let (first, second) = cell.meet(first, second);
     let pass = cell.join(first, second);

@@ -3,10 +3,10 @@
 ghost use Rattle.std.specs.Prelude.{◌≡◌, true};
 ghost use Rattle.word_rule.specs.Cell.{Grows, OwnTogether};
 ghost use Rattle.word_rule.specs.McsSteps.{IsWaitingLook, IsSeeAgain};
-ghost use Rattle.mcs_lock.specs.Passes.{IsPassOf, IsBehindOf, IsWaitingOf, IsHoldOf, IsLeavingOf, IsPassingOf, behind_part, waiting_part, leaving_held, passing_held};
-ghost use Rattle.word_rule.specs.Passes.{pass_part, hold_held};
-ghost use Rattle.mcs_lock.specs.Passes.{waiting_standing, leaving_standing, passing_standing};
-ghost use Rattle.word_rule.specs.Passes.{hold_standing};
+ghost use Rattle.mcs_lock.specs.Passes.{IsPassOf, IsBehindOf, IsWaitingOf, IsHoldOf, IsLeavingOf, IsPassingOf, view_of_behind, view_of_waiting, view_of_leaving, view_of_passing};
+ghost use Rattle.word_rule.specs.Passes.{view_of_pass, view_of_hold};
+ghost use Rattle.mcs_lock.specs.Passes.{state_of_waiting, state_of_leaving, state_of_passing};
+ghost use Rattle.word_rule.specs.Passes.{state_of_hold};
 
 use crate::cell::McsCell;
 use crate::rule::{Look, SeeAgain};
@@ -14,15 +14,15 @@ use crate::states::{Behind, Entered, Leaving, Passing, Waiting};
 use crossbeam_utils::Backoff;
 use event_log::SeqObject;
 use std::sync::Wait;
-use word_rule::{Hold, Pass, Place};
+use word_rule::{Hold, Pass, Stage};
 
 impl<O: SeqObject> McsCell<O> {
     /// Enters, and where another is before it looks until it gets the object. The number is that of the looks.
     pub(crate) fn wait<R: Wait>(&self, rt: &R, pass: Pass<O>) -> (Hold<O>, u64)
         requires { IsPassOf self.now pass }
         ensures hold { IsHoldOf self.now result.0 }
-        ensures caller { (hold_held result.0).caller ≡ (pass_part pass).caller }
-        ensures grows { Grows (pass_part pass).caller.owned (pass_part pass).seen (hold_held result.0).history.log }
+        ensures caller { (view_of_hold result.0).caller ≡ (view_of_pass pass).caller }
+        ensures grows { Grows (view_of_pass pass).caller.owned (view_of_pass pass).seen (view_of_hold result.0).history.log }
     {
         let ready = self.clear(pass);
         match self.enter(ready) {
@@ -35,8 +35,8 @@ impl<O: SeqObject> McsCell<O> {
     fn wait_behind<R: Wait>(&self, rt: &R, behind: Behind<O>) -> (Hold<O>, u64)
         requires { IsBehindOf self.now behind }
         ensures hold { IsHoldOf self.now result.0 }
-        ensures caller { (hold_held result.0).caller ≡ (behind_part behind).caller }
-        ensures grows { Grows (behind_part behind).caller.owned (behind_part behind).seen (hold_held result.0).history.log }
+        ensures caller { (view_of_hold result.0).caller ≡ (view_of_behind behind).caller }
+        ensures grows { Grows (view_of_behind behind).caller.owned (view_of_behind behind).seen (view_of_hold result.0).history.log }
     {
         let armed = self.arm(behind);
         let mut waiting = self.link(armed);
@@ -57,8 +57,8 @@ impl<O: SeqObject> McsCell<O> {
     pub(crate) fn leave<R: Wait>(&self, rt: &R, hold: Hold<O>) -> Pass<O>
         requires { IsHoldOf self.now hold }
         ensures pass { IsPassOf self.now result }
-        ensures caller { (pass_part result).caller ≡ (hold_held hold).caller }
-        ensures seen { (pass_part result).seen ≡ (hold_held hold).history.log }
+        ensures caller { (view_of_pass result).caller ≡ (view_of_hold hold).caller }
+        ensures seen { (view_of_pass result).seen ≡ (view_of_hold hold).history.log }
     {
         let alone = match self.see(hold) {
             Ok(passing) => return self.pass_on(passing),
@@ -77,7 +77,7 @@ impl<O: SeqObject> McsCell<O> {
     fn wait_follower<R: Wait>(&self, rt: &R, leaving: Leaving<O>) -> Passing<O>
         requires { IsLeavingOf self.now leaving }
         ensures passing { IsPassingOf self.now result }
-        ensures held { passing_held result ≡ leaving_held leaving }
+        ensures held { view_of_passing result ≡ view_of_leaving leaving }
     {
         let mut leaving = leaving;
         let backoff = Backoff::new();
@@ -96,13 +96,13 @@ impl<O: SeqObject> McsCell<O> {
     pub fn last_look(&self, waiting: Waiting<O>, pass: Pass<O>) -> (Hold<O>, Pass<O>)
         requires waiting { IsWaitingOf self.now waiting }
         requires pass { IsPassOf self.now pass }
-        requires all { OwnTogether (waiting_part waiting).caller (pass_part pass).caller }
+        requires all { OwnTogether (view_of_waiting waiting).caller (view_of_pass pass).caller }
         ensures hold { IsHoldOf self.now result.0 }
-        ensures look { IsWaitingLook O.SeqObject (waiting_standing waiting) (hold_standing result.0) true }
+        ensures look { IsWaitingLook O.SeqObject (state_of_waiting waiting) (state_of_hold result.0) true }
         ensures pass { IsPassOf self.now result.1 }
-        ensures caller { (pass_part result.1).caller ≡ (pass_part pass).caller }
-        ensures seen { (pass_part result.1).seen ≡ (hold_held result.0).history.log }
-        ensures grows { Grows (pass_part pass).caller.owned (pass_part pass).seen (hold_held result.0).history.log }
+        ensures caller { (view_of_pass result.1).caller ≡ (view_of_pass pass).caller }
+        ensures seen { (view_of_pass result.1).seen ≡ (view_of_hold result.0).history.log }
+        ensures grows { Grows (view_of_pass pass).caller.owned (view_of_pass pass).seen (view_of_hold result.0).history.log }
     {
         let Waiting { cpu, key, mut seat } = waiting;
         let Pass {
@@ -120,7 +120,7 @@ impl<O: SeqObject> McsCell<O> {
         (
             Hold {
                 cpu,
-                place: Place::Holding,
+                stage: Stage::Holding,
                 logged,
                 lent,
                 key,
@@ -139,12 +139,12 @@ impl<O: SeqObject> McsCell<O> {
     pub fn last_see(&self, leaving: Leaving<O>, waiting: Waiting<O>) -> (Passing<O>, Waiting<O>)
         requires leaving { IsLeavingOf self.now leaving }
         requires waiting { IsWaitingOf self.now waiting }
-        requires all { OwnTogether (leaving_held leaving).caller (waiting_part waiting).caller }
+        requires all { OwnTogether (view_of_leaving leaving).caller (view_of_waiting waiting).caller }
         ensures passing { IsPassingOf self.now result.0 }
-        ensures see { IsSeeAgain O.SeqObject (leaving_standing leaving) (passing_standing result.0) true }
-        ensures held { passing_held result.0 ≡ leaving_held leaving }
+        ensures see { IsSeeAgain O.SeqObject (state_of_leaving leaving) (state_of_passing result.0) true }
+        ensures held { view_of_passing result.0 ≡ view_of_leaving leaving }
         ensures waiting { IsWaitingOf self.now result.1 }
-        ensures waits { waiting_standing result.1 ≡ waiting_standing waiting }
+        ensures waits { state_of_waiting result.1 ≡ state_of_waiting waiting }
     {
         let Leaving {
             cpu,

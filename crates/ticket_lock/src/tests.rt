@@ -3,7 +3,7 @@
 ghost use Rattle.std.specs.Prelude.{◌≡◌, IfOk};
 ghost use Rattle.word_rule.specs.Cell.{OwnsAll, OwnTogether};
 ghost use Rattle.ticket_lock.specs.Passes.{IsPassOf, IsHoldOf};
-ghost use Rattle.word_rule.specs.Passes.{pass_part, hold_held};
+ghost use Rattle.word_rule.specs.Passes.{view_of_pass, view_of_hold};
 
 use crate::{Hold, Pass, TicketCell};
 use event_log::{Event, Logged, NoRoom, Steps};
@@ -20,7 +20,7 @@ fn cell_of_one(
     first: u64,
 ) -> Result<(TicketCell<ThreadQueue>, Pass<ThreadQueue>), Logged<ThreadQueue>>
     ensures pass { IfOk result (λ r. IsPassOf r.0 r.1) }
-    ensures all { IfOk result (λ r. OwnsAll (pass_part r.1).caller) }
+    ensures all { IfOk result (λ r. OwnsAll (view_of_pass r.1).caller) }
 {
     match TicketCell::new(alloc, queue, 1, first) {
         Ok((cell, mut passes)) => {
@@ -81,7 +81,7 @@ fn cell_of_two(
 >
     ensures zero { IfOk result (λ r. IsPassOf r.0 r.1) }
     ensures one { IfOk result (λ r. IsPassOf r.0 r.2) }
-    ensures all { IfOk result (λ r. OwnTogether (pass_part r.2).caller (pass_part r.1).caller) }
+    ensures all { IfOk result (λ r. OwnTogether (view_of_pass r.2).caller (view_of_pass r.1).caller) }
 {
     let queue = Logged::<ThreadQueue>::open(alloc, 8, 100)?;
     let Ok((cell, mut passes)) = TicketCell::new(alloc, queue, 2, first) else {
@@ -100,7 +100,7 @@ fn enq(
 ) -> (Pass<ThreadQueue>, Result<Steps<ThreadQueue>, NoRoom>)
     requires { IsHoldOf cell.now hold }
     ensures pass { IsPassOf cell.now result.0 }
-    ensures caller { (pass_part result.0).caller ≡ (hold_held hold).caller }
+    ensures caller { (view_of_pass result.0).caller ≡ (view_of_hold hold).caller }
 {
     let mut hold = hold;
     let done = TicketCell::apply(&mut hold, &[Call::Enq(thread)]);
@@ -115,7 +115,7 @@ fn ended(
 ) -> Logged<ThreadQueue>
     requires first { IsPassOf cell first }
     requires second { IsPassOf cell second }
-    requires all { OwnTogether (pass_part first).caller (pass_part second).caller }
+    requires all { OwnTogether (view_of_pass first).caller (view_of_pass second).caller }
 {
     let (first, second) = cell.meet(first, second);
     let pass = cell.join(first, second);

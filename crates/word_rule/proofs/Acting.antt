@@ -12,57 +12,57 @@ use Rattle.event_log.specs.Distinct.{has}
 use Rattle.event_log.specs.Log.{Begins, Legal, after, replay}
 use Rattle.event_log.specs.History.{History, IsKept, with_event}
 use Rattle.event_log.proofs.Beginnings.{begins_self, begins_more, begins_rest}
-use Rattle.word_rule.specs.declared.place.Place.{Place}
-use Rattle.word_rule.specs.declared.place.Place.TheVariants.{Idle}
+use Rattle.word_rule.specs.declared.stage.Stage.{Stage}
+use Rattle.word_rule.specs.declared.stage.Stage.TheVariants.{Idle}
 use Rattle.word_rule.specs.Cell.{Cell, Grows, IsCaller, Lawful, OwnsAll, stored}
-use Rattle.word_rule.specs.Standing.{Standing, Moves, Takes, Gives, NeedsAnother}
-use Rattle.word_rule.specs.Board.{Viewed}
-use Rattle.word_rule.specs.Seats.{Seat, shown, at, placed, settled, taken_in, keeping, letting, merged}
-use Rattle.word_rule.specs.Told.{Lacks, HasAll, Learns, Gets, Returns, any_has}
-use Rattle.word_rule.specs.Callers.{AddedBy, caller_of, standing_without, standing_with, StandsAt, IsWithout, IsWith}
+use Rattle.word_rule.specs.CallerState.{CallerState, Moves, Takes, Gives, NeedsAnother}
+use Rattle.word_rule.specs.CellInvariant.{Viewed}
+use Rattle.word_rule.specs.Seats.{Seat, shown, at, with_stage, settled, taken_in, keeping, letting, merged}
+use Rattle.word_rule.specs.Announced.{Lacks, HasAll, Learns, Gets, Returns, any_has}
+use Rattle.word_rule.specs.Callers.{AddedBy, caller_of, state_without, state_with, StandsAt, IsWithout, IsWith}
 use Rattle.word_rule.proofs.Lists.{has_append, of_push, grows_self, or_none}
 
 module _ {O P C R : Type 0} where
   -- the seat after a step that its first caller did
-  stands_settled : (h : Cell O P C R) (cpu : ℕ) (p q : Place) (log : List (Event O P C R)) (slots slots' : List (ℕ × Option (History O P C R))) (m : Seat O P C R) → StandsAt h cpu p slots m → StandsAt h cpu q slots' (settled m.0 q log, slots')
+  stands_settled : (h : Cell O P C R) (cpu : ℕ) (p q : Stage) (log : List (Event O P C R)) (slots slots' : List (ℕ × Option (History O P C R))) (m : Seat O P C R) → StandsAt h cpu p slots m → StandsAt h cpu q slots' (settled m.0 q log, slots')
   stands_settled h cpu p q log slots slots' m a = record { alone = ap (map (shown log)) a.alone; number = a.number; carries = refl; stands = refl; told = a.told }
 
 module _ {O P C R : Type 0} (meaning : Ghosts O P C R) where
   -- it stands elsewhere
-  pub goes_without : (h : Cell O P C R) (cpu : ℕ) (p q : Place) (m m' : Seat O P C R) → IsWithout meaning h cpu p m → m' ≡ (placed m.0 q, m.1) → IsWithout meaning h cpu q m'
+  pub goes_without : (h : Cell O P C R) (cpu : ℕ) (p q : Stage) (m m' : Seat O P C R) → IsWithout meaning h cpu p m → m' ≡ (with_stage m.0 q, m.1) → IsWithout meaning h cpu q m'
   goes_without h cpu p q m m' w e = subst (IsWithout meaning h cpu q) (sym e) record {
     at = record { alone = w.at.alone; number = w.at.number; carries = w.at.carries; stands = refl; told = w.at.told };
-    part = w.part;
+    pass_view = w.pass_view;
   }
 
-  pub moves_without : (h : Cell O P C R) (cpu : ℕ) (p q : Place) (m m' : Seat O P C R) → IsWithout meaning h cpu p m → m' ≡ (placed m.0 q, m.1) → Moves meaning p q (standing_without h p m) (standing_without h q m')
-  moves_without h cpu p q m m' w e = subst (λ z. Moves meaning p q (standing_without h p m) (standing_without h q z)) (sym e) record {
+  pub moves_without : (h : Cell O P C R) (cpu : ℕ) (p q : Stage) (m m' : Seat O P C R) → IsWithout meaning h cpu p m → m' ≡ (with_stage m.0 q, m.1) → Moves meaning p q (state_without h p m) (state_without h q m')
+  moves_without h cpu p q m m' w e = subst (λ z. Moves meaning p q (state_without h p m) (state_without h q z)) (sym e) record {
     caller = refl;
     from = refl;
     to = refl;
     grows = grows_self (caller_of h m.0).owned m.0.main.seen;
-    lawful = w.part.lawful;
+    lawful = w.pass_view.lawful;
     has = refl;
   }
 
   -- it has seen this log
-  pub sees_without : (h : Cell O P C R) (cpu : ℕ) (p q : Place) (log : List (Event O P C R)) (m m' : Seat O P C R) → IsWithout meaning h cpu p m → Lawful meaning h log → m' ≡ (settled m.0 q log, []) → IsWithout meaning h cpu q m'
+  pub sees_without : (h : Cell O P C R) (cpu : ℕ) (p q : Stage) (log : List (Event O P C R)) (m m' : Seat O P C R) → IsWithout meaning h cpu p m → Lawful meaning h log → m' ≡ (settled m.0 q log, []) → IsWithout meaning h cpu q m'
   sees_without h cpu p q log m m' w lawful e = subst (IsWithout meaning h cpu q) (sym e) record {
     at = stands_settled h cpu p q log [] [] m w.at;
-    part = record { caller = w.part.caller; lawful = lawful };
+    pass_view = record { caller = w.pass_view.caller; lawful = lawful };
   }
 
   -- it has the object
-  pub holds_now : (h : Cell O P C R) (cpu : ℕ) (p q : Place) (x : History O P C R) (m m' : Seat O P C R) → IsWithout meaning h cpu p m → Lawful meaning h x.log → x ≡ stored meaning h x.log → m' ≡ (settled m.0 q x.log, (0, None) ∷ []) → IsWith meaning h cpu q x m'
+  pub holds_now : (h : Cell O P C R) (cpu : ℕ) (p q : Stage) (x : History O P C R) (m m' : Seat O P C R) → IsWithout meaning h cpu p m → Lawful meaning h x.log → x ≡ stored meaning h x.log → m' ≡ (settled m.0 q x.log, (0, None) ∷ []) → IsWith meaning h cpu q x m'
   holds_now h cpu p q x m m' w lawful is e = subst (IsWith meaning h cpu q x) (sym e) record {
     at = stands_settled h cpu p q x.log [] ((0, None) ∷ []) m w.at;
     added = record { begins = begins_self x.log; others = λ _ _. refl };
-    held = record { caller = w.part.caller; lawful = lawful; replayed = is };
+    hold_view = record { caller = w.pass_view.caller; lawful = lawful; replayed = is };
   }
 
-  pub takes_now : (h : Cell O P C R) (p q : Place) (x : History O P C R) (m m' : Seat O P C R) → Grows (caller_of h m.0).owned m.0.main.seen x.log → Lawful meaning h x.log → x ≡ stored meaning h x.log → m' ≡ (settled m.0 q x.log, (0, None) ∷ [])
-      → Takes meaning p q (standing_without h p m) (standing_with h q x m')
-  takes_now h p q x m m' grows lawful is e = subst (λ z. Takes meaning p q (standing_without h p m) (standing_with h q x z)) (sym e) record {
+  pub takes_now : (h : Cell O P C R) (p q : Stage) (x : History O P C R) (m m' : Seat O P C R) → Grows (caller_of h m.0).owned m.0.main.seen x.log → Lawful meaning h x.log → x ≡ stored meaning h x.log → m' ≡ (settled m.0 q x.log, (0, None) ∷ [])
+      → Takes meaning p q (state_without h p m) (state_with h q x m')
+  takes_now h p q x m m' grows lawful is e = subst (λ z. Takes meaning p q (state_without h p m) (state_with h q x z)) (sym e) record {
     caller = refl;
     from = refl;
     to = refl;
@@ -73,24 +73,24 @@ module _ {O P C R : Type 0} (meaning : Ghosts O P C R) where
   }
 
   -- it gave the object back
-  pub rests_now : (h : Cell O P C R) (cpu : ℕ) (p q : Place) (x : History O P C R) (m m' : Seat O P C R) → IsWith meaning h cpu p x m → m' ≡ (settled m.0 q x.log, []) → IsWithout meaning h cpu q m'
+  pub rests_now : (h : Cell O P C R) (cpu : ℕ) (p q : Stage) (x : History O P C R) (m m' : Seat O P C R) → IsWith meaning h cpu p x m → m' ≡ (settled m.0 q x.log, []) → IsWithout meaning h cpu q m'
   rests_now h cpu p q x m m' w e = subst (IsWithout meaning h cpu q) (sym e) record {
     at = stands_settled h cpu p q x.log ((0, None) ∷ []) [] m w.at;
-    part = record { caller = w.held.caller; lawful = w.held.lawful };
+    pass_view = record { caller = w.hold_view.caller; lawful = w.hold_view.lawful };
   }
 
-  pub gives_now : (h : Cell O P C R) (cpu : ℕ) (p q : Place) (x : History O P C R) (m m' : Seat O P C R) → IsWith meaning h cpu p x m → m' ≡ (settled m.0 q x.log, []) → Gives meaning p q (standing_with h p x m) (standing_without h q m')
-  gives_now h cpu p q x m m' w e = subst (λ z. Gives meaning p q (standing_with h p x m) (standing_without h q z)) (sym e) record {
+  pub gives_now : (h : Cell O P C R) (cpu : ℕ) (p q : Stage) (x : History O P C R) (m m' : Seat O P C R) → IsWith meaning h cpu p x m → m' ≡ (settled m.0 q x.log, []) → Gives meaning p q (state_with h p x m) (state_without h q m')
+  gives_now h cpu p q x m m' w e = subst (λ z. Gives meaning p q (state_with h p x m) (state_without h q z)) (sym e) record {
     caller = refl;
     from = refl;
     to = refl;
-    lawful = w.held.lawful;
-    had = ap Some w.held.replayed;
+    lawful = w.hold_view.lawful;
+    had = ap Some w.hold_view.replayed;
     has = refl;
   }
 
   -- a step gave the object to the slot of the seat, and it was taken out of there
-  pub record Took (q : Place) (m m' : Seat O P C R) (x : History O P C R) : Type 0 where
+  pub record Took (q : Stage) (m m' : Seat O P C R) (x : History O P C R) : Type 0 where
     pub seat : m' ≡ (settled m.0 q x.log, (0, None) ∷ m.1)
     pub learns : Learns meaning m.0 x.log
     pub replayed : (k : Cell O P C R) → m.0.told ≡ k ∷ [] → x ≡ stored meaning k x.log
@@ -100,7 +100,7 @@ module _ {O P C R : Type 0} (meaning : Ghosts O P C R) where
   value_of d ((n, Some x) ∷ cs) = x
   value_of d ((n, None) ∷ cs) = d
 
-  pub took : (q : Place) (m m' m'' : Seat O P C R) (r : Option (History O P C R)) (y : History O P C R) → Gets meaning q m m' → m'.1 ≡ (0, r) ∷ rest m'.1 → m'' ≡ (m'.0, (0, None) ∷ rest m'.1) → r ≡ Some y → Took q m m'' y
+  pub took : (q : Stage) (m m' m'' : Seat O P C R) (r : Option (History O P C R)) (y : History O P C R) → Gets meaning q m m' → m'.1 ≡ (0, r) ∷ rest m'.1 → m'' ≡ (m'.0, (0, None) ∷ rest m'.1) → r ≡ Some y → Took q m m'' y
   took q m m' m'' r y g slot out is =
       let same : g.object ≡ y = ap (value_of g.object) (sym (ap (λ (z : Seat O P C R). z.1) g.seat) ∙ (slot ∙ ap (λ (z : Option (History O P C R)). (0, z) ∷ rest m'.1) is)) in
       let now : m'' ≡ (settled m.0 q g.object.log, (0, None) ∷ m.1) = out ∙ (λ k. ((g.seat k).0, (0, None) ∷ rest (g.seat k).1)) in
@@ -110,18 +110,18 @@ module _ {O P C R : Type 0} (meaning : Ghosts O P C R) where
   slot_of [] = None
   slot_of (s ∷ more) = s.1
 
-  pub was_there : (q : Place) (m m' : Seat O P C R) (r : Option (History O P C R)) → Gets meaning q m m' → m'.1 ≡ (0, r) ∷ rest m'.1 → IsSome r
+  pub was_there : (q : Stage) (m m' : Seat O P C R) (r : Option (History O P C R)) → Gets meaning q m m' → m'.1 ≡ (0, r) ∷ rest m'.1 → IsSome r
   was_there q m m' r g slot = let is : r ≡ Some g.object = ap slot_of (sym slot ∙ ap (λ (z : Seat O P C R). z.1) g.seat) in subst IsSome (sym is) (search rules)
 
   -- so it is the caller's
-  pub holds_from : (h : Cell O P C R) (cpu : ℕ) (p q : Place) (x : History O P C R) (m m' : Seat O P C R) → IsWithout meaning h cpu p m → Took q m m' x → IsWith meaning h cpu q x m'
+  pub holds_from : (h : Cell O P C R) (cpu : ℕ) (p q : Stage) (x : History O P C R) (m m' : Seat O P C R) → IsWithout meaning h cpu p m → Took q m m' x → IsWith meaning h cpu q x m'
   holds_from h cpu p q x m m' w t = holds_now h cpu p q x m m' w (t.learns.lawful h w.at.told) (t.replayed h w.at.told) (t.seat ∙ ap (λ cs. (settled m.0 q x.log, (0, None) ∷ cs)) w.at.carries)
 
-  pub takes_from : (h : Cell O P C R) (cpu : ℕ) (p q : Place) (x : History O P C R) (m m' : Seat O P C R) → IsWithout meaning h cpu p m → Took q m m' x → Takes meaning p q (standing_without h p m) (standing_with h q x m')
+  pub takes_from : (h : Cell O P C R) (cpu : ℕ) (p q : Stage) (x : History O P C R) (m m' : Seat O P C R) → IsWithout meaning h cpu p m → Took q m m' x → Takes meaning p q (state_without h p m) (state_with h q x m')
   takes_from h cpu p q x m m' w t = takes_now h p q x m m' t.learns.grows (t.learns.lawful h w.at.told) (t.replayed h w.at.told) (t.seat ∙ ap (λ cs. (settled m.0 q x.log, (0, None) ∷ cs)) w.at.carries)
 
   -- the object was put into the slot, and the step sent it home
-  pub left : (q : Place) (m m' m'' : Seat O P C R) (x : History O P C R) → m.1 ≡ (0, None) ∷ [] → m' ≡ (m.0, (0, Some x) ∷ rest m.1) → Returns meaning q m' m'' → m'' ≡ (settled m.0 q x.log, [])
+  pub left : (q : Stage) (m m' m'' : Seat O P C R) (x : History O P C R) → m.1 ≡ (0, None) ∷ [] → m' ≡ (m.0, (0, Some x) ∷ rest m.1) → Returns meaning q m' m'' → m'' ≡ (settled m.0 q x.log, [])
   left q m m' m'' x had filled told = told x (rest m.1) (ap (λ (z : Seat O P C R). z.1) filled) ∙ (λ k. (settled (filled k).0 q x.log, rest (had k)))
 
   -- who owns every number has a seat with each
@@ -129,12 +129,12 @@ module _ {O P C R : Type 0} (meaning : Ghosts O P C R) where
   not_all h m told lacks all = lacks h record { told = told; each = λ x below. ap (λ b. b || any_has x m.0.others) (all.each x below) }
 
   -- nothing changed, and another CPU is the cause
-  pub stays_without : (h : Cell O P C R) (cpu : ℕ) (p : Place) (m m' : Seat O P C R) → IsWithout meaning h cpu p m → m' ≡ m → IsWithout meaning h cpu p m'
+  pub stays_without : (h : Cell O P C R) (cpu : ℕ) (p : Stage) (m m' : Seat O P C R) → IsWithout meaning h cpu p m → m' ≡ m → IsWithout meaning h cpu p m'
   stays_without h cpu p m m' w e = subst (IsWithout meaning h cpu p) (sym e) w
 
-  pub misses_without : (h : Cell O P C R) (cpu : ℕ) (p : Place) (m m' : Seat O P C R) → IsWithout meaning h cpu p m → m' ≡ m → Lacks m.0 → NeedsAnother meaning (Moves meaning p p) (standing_without h p m) (standing_without h p m')
-  misses_without h cpu p m m' w e lacks = subst (λ z. NeedsAnother meaning (Moves meaning p p) (standing_without h p m) (standing_without h p z)) (sym e) record {
-    made = record { caller = refl; from = refl; to = refl; grows = grows_self (caller_of h m.0).owned m.0.main.seen; lawful = w.part.lawful; has = refl };
+  pub misses_without : (h : Cell O P C R) (cpu : ℕ) (p : Stage) (m m' : Seat O P C R) → IsWithout meaning h cpu p m → m' ≡ m → Lacks m.0 → NeedsAnother meaning (Moves meaning p p) (state_without h p m) (state_without h p m')
+  misses_without h cpu p m m' w e lacks = subst (λ z. NeedsAnother meaning (Moves meaning p p) (state_without h p m) (state_without h p z)) (sym e) record {
+    made = record { caller = refl; from = refl; to = refl; grows = grows_self (caller_of h m.0).owned m.0.main.seen; lawful = w.pass_view.lawful; has = refl };
     another = not_all h m w.at.told lacks;
   }
 
@@ -169,29 +169,29 @@ module _ {O P C R : Type 0} (meaning : Ghosts O P C R) where
   }
 
   -- the holder did one event more, or none
-  pub applied : {X : Type 0} (h : Cell O P C R) (cpu : ℕ) (p : Place) (x y : History O P C R) (m : Seat O P C R) (r : Result (Steps O P C R) X) → IsWith meaning h cpu p x m → IsKept meaning y
+  pub applied : {X : Type 0} (h : Cell O P C R) (cpu : ℕ) (p : Stage) (x y : History O P C R) (m : Seat O P C R) (r : Result (Steps O P C R) X) → IsWith meaning h cpu p x m → IsKept meaning y
       → IfOk r (λ s. y ≡ with_event x (record { cpu = cpu; steps = s }) (after meaning x.state s.list.items)) → OnErr r (y ≡ x) → IsWith meaning h cpu p y m
   applied h cpu p x y m (Err e) w kept next same = subst (λ z. IsWith meaning h cpu p z m) (sym same) w
   applied h cpu p x y m (Ok s) w kept next same =
       let e : Event O P C R = record { cpu = cpu; steps = s } in
       let longer : y.log ≡ x.log ++ e ∷ [] = ap (λ z. z.log) next in
-      let params : y.params ≡ h.params = ap (λ z. z.params) next ∙ ap (λ z. z.params) w.held.replayed in
-      let limit : y.limit ≡ h.limit = ap (λ z. z.limit) next ∙ ap (λ z. z.limit) w.held.replayed in
-      let below : cpu < h.numbers = subst (λ k. k < h.numbers) w.at.number (w.held.caller.below m.0.main.cpu w.held.caller.acts) in
+      let params : y.params ≡ h.params = ap (λ z. z.params) next ∙ ap (λ z. z.params) w.hold_view.replayed in
+      let limit : y.limit ≡ h.limit = ap (λ z. z.limit) next ∙ ap (λ z. z.limit) w.hold_view.replayed in
+      let below : cpu < h.numbers = subst (λ k. k < h.numbers) w.at.number (w.hold_view.caller.below m.0.main.cpu w.hold_view.caller.acts) in
       record {
         at = w.at;
         added = subst (AddedBy m.0.main.cpu m.0.main.seen) (sym longer) (added_push m.0.main.cpu m.0.main.seen x.log e (sym w.at.number) w.added);
-        held = record {
-          caller = w.held.caller;
-          lawful = lawful_push h x.log e y w.held.lawful below kept params limit longer;
+        hold_view = record {
+          caller = w.hold_view.caller;
+          lawful = lawful_push h x.log e y w.hold_view.lawful below kept params limit longer;
           replayed = λ i. record { params = params i; limit = limit i; log = y.log; state = (kept.replayed ∙ ap (λ q. replay meaning q y.log) params) i };
         };
       }
 
 -- two seats, joined, at a step of the first, and split again
 module _ {O P C R : Type 0} where
-  pub halves : (q : Place) (log : List (Event O P C R)) (slots : List (ℕ × Option (History O P C R))) (v w : Viewed O P C R) (m' first second : Seat O P C R) → v.others ≡ [] → w.others ≡ [] → w.told ≡ v.told
-      → m' ≡ (settled (taken_in v w) q log, slots) → first ≡ (keeping m'.0, m'.1) → second ≡ (letting m'.0, []) → (first ≡ (settled v q log, slots)) × (second ≡ (settled w w.main.place log, []))
+  pub halves : (q : Stage) (log : List (Event O P C R)) (slots : List (ℕ × Option (History O P C R))) (v w : Viewed O P C R) (m' first second : Seat O P C R) → v.others ≡ [] → w.others ≡ [] → w.told ≡ v.told
+      → m' ≡ (settled (taken_in v w) q log, slots) → first ≡ (keeping m'.0, m'.1) → second ≡ (letting m'.0, []) → (first ≡ (settled v q log, slots)) × (second ≡ (settled w w.main.stage log, []))
   halves q log slots v w m' first second alone alone' told e f s = (
     f ∙ ((λ i. (keeping (e i).0, (e i).1)) ∙ (λ i. (record { told = v.told; main = shown log (at q v.main); others = map (shown log) (sym alone i) }, slots))),
     s ∙ ((λ i. (letting (e i).0, [])) ∙ (λ i. (record { told = sym told i; main = shown log w.main; others = map (shown log) (sym alone' i) }, []))),
@@ -238,7 +238,7 @@ module _ {O P C R : Type 0} (meaning : Ghosts O P C R) where
         now,
         subst (IsWithout meaning h r Idle) (sym now) record {
           at = record { alone = refl; number = sym number; carries = refl; stands = refl; told = one.at.told };
-          part = record { caller = both_callers h m.0.main.cpu w.0.main.cpu (min m.0.main.cpu w.0.main.cpu) m.0.main.owned w.0.main.owned refl one.part.caller two.part.caller; lawful = lawful };
+          pass_view = record { caller = both_callers h m.0.main.cpu w.0.main.cpu (min m.0.main.cpu w.0.main.cpu) m.0.main.owned w.0.main.owned refl one.pass_view.caller two.pass_view.caller; lawful = lawful };
         },
       )
 
@@ -254,10 +254,10 @@ module _ {O P C R : Type 0} (meaning : Ghosts O P C R) where
     pub second_grows : Grows (λ x. has x w.0.main.owned) w.0.main.seen log
     pub lawful : Lawful meaning h log
 
-  pub met : (h : Cell O P C R) (p q : ℕ) (log : List (Event O P C R)) (m w m1 m2 m' w' : Seat O P C R) → IsWithout meaning h p Idle m → IsWithout meaning h q Idle w → m1 ≡ (taken_in m.0 w.0, m.1) → m2 ≡ (settled m1.0 m1.0.main.place log, m1.1) → Learns meaning m1.0 log
+  pub met : (h : Cell O P C R) (p q : ℕ) (log : List (Event O P C R)) (m w m1 m2 m' w' : Seat O P C R) → IsWithout meaning h p Idle m → IsWithout meaning h q Idle w → m1 ≡ (taken_in m.0 w.0, m.1) → m2 ≡ (settled m1.0 m1.0.main.stage log, m1.1) → Learns meaning m1.0 log
       → m' ≡ (keeping m2.0, m2.1) → w' ≡ (letting m2.0, []) → Met h m w m' w' log
   met h p q log m w m1 m2 m' w' one two e e' learns f s =
-      let now : m2 ≡ (settled (taken_in m.0 w.0) Idle log, []) = e' ∙ ((λ i. (settled (e i).0 (e i).0.main.place log, (e i).1)) ∙ (λ i. (settled (taken_in m.0 w.0) (one.at.stands i) log, one.at.carries i))) in
+      let now : m2 ≡ (settled (taken_in m.0 w.0) Idle log, []) = e' ∙ ((λ i. (settled (e i).0 (e i).0.main.stage log, (e i).1)) ∙ (λ i. (settled (taken_in m.0 w.0) (one.at.stands i) log, one.at.carries i))) in
       let both = halves Idle log [] m.0 w.0 m2 m' w' one.at.alone two.at.alone (two.at.told ∙ sym one.at.told) now f s in
       let l : Learns meaning (taken_in m.0 w.0) log = subst (λ (z : Seat O P C R). Learns meaning z.0 log) e learns in
       record {
@@ -269,7 +269,7 @@ module _ {O P C R : Type 0} (meaning : Ghosts O P C R) where
       }
 
   -- a look by two callers together that took the object
-  pub record TookLast (h : Cell O P C R) (q : Place) (x : History O P C R) (m w m' w' : Seat O P C R) : Type 0 where
+  pub record TookLast (h : Cell O P C R) (q : Stage) (x : History O P C R) (m w m' w' : Seat O P C R) : Type 0 where
     pub first : m' ≡ (settled m.0 q x.log, (0, None) ∷ [])
     pub second : w' ≡ (settled w.0 Idle x.log, [])
     pub first_grows : Grows (λ y. has y m.0.main.owned) m.0.main.seen x.log
@@ -277,7 +277,7 @@ module _ {O P C R : Type 0} (meaning : Ghosts O P C R) where
     pub lawful : Lawful meaning h x.log
     pub replayed : x ≡ stored meaning h x.log
 
-  pub took_last : (h : Cell O P C R) (cpu other : ℕ) (p q : Place) (x : History O P C R) (m w m1 m2 m' w' : Seat O P C R) → IsWithout meaning h cpu p m → IsWithout meaning h other Idle w → m1 ≡ (taken_in m.0 w.0, m.1) → Took meaning q m1 m2 x
+  pub took_last : (h : Cell O P C R) (cpu other : ℕ) (p q : Stage) (x : History O P C R) (m w m1 m2 m' w' : Seat O P C R) → IsWithout meaning h cpu p m → IsWithout meaning h other Idle w → m1 ≡ (taken_in m.0 w.0, m.1) → Took meaning q m1 m2 x
       → m' ≡ (keeping m2.0, m2.1) → w' ≡ (letting m2.0, []) → TookLast h q x m w m' w'
   took_last h cpu other p q x m w m1 m2 m' w' one two e t f s =
       let now : m2 ≡ (settled (taken_in m.0 w.0) q x.log, (0, None) ∷ []) = t.seat ∙ ((λ i. (settled (e i).0 q x.log, (0, None) ∷ (e i).1)) ∙ (λ i. (settled (taken_in m.0 w.0) q x.log, (0, None) ∷ one.at.carries i))) in
@@ -293,7 +293,7 @@ module _ {O P C R : Type 0} (meaning : Ghosts O P C R) where
       }
 
   -- the same, from what the step gave and what was taken out of the slot
-  pub last_taken : (h : Cell O P C R) (cpu other : ℕ) (p q : Place) (r : Option (History O P C R)) (x : History O P C R) (m w m1 m2 m3 m' w' : Seat O P C R) → IsWithout meaning h cpu p m → IsWithout meaning h other Idle w → m1 ≡ (taken_in m.0 w.0, m.1) → Gets meaning q m1 m2
+  pub last_taken : (h : Cell O P C R) (cpu other : ℕ) (p q : Stage) (r : Option (History O P C R)) (x : History O P C R) (m w m1 m2 m3 m' w' : Seat O P C R) → IsWithout meaning h cpu p m → IsWithout meaning h other Idle w → m1 ≡ (taken_in m.0 w.0, m.1) → Gets meaning q m1 m2
       → m2.1 ≡ (0, r) ∷ rest m2.1 → m3 ≡ (m2.0, (0, None) ∷ rest m2.1) → r ≡ Some x → m' ≡ (keeping m3.0, m3.1) → w' ≡ (letting m3.0, []) → TookLast h q x m w m' w'
   last_taken h cpu other p q r x m w m1 m2 m3 m' w' one two e got slot out is f s = took_last h cpu other p q x m w m1 m3 m' w' one two e (took meaning q m1 m2 m3 r x got slot out is) f s
 
@@ -305,7 +305,7 @@ module _ {O P C R : Type 0} (meaning : Ghosts O P C R) where
   }
 
   -- the log of the object that a step gave
-  pub takes_log : (p q : Place) (x : History O P C R) (before after : Standing O P C R) → Takes meaning p q before after → after.has ≡ Some x → Grows before.caller.owned before.seen x.log
+  pub takes_log : (p q : Stage) (x : History O P C R) (before after : CallerState O P C R) → Takes meaning p q before after → after.has ≡ Some x → Grows before.caller.owned before.seen x.log
   takes_log p q x before after t is =
       let same : x ≡ stored meaning before.caller.cell after.seen = cc (is, t.has) in
       subst (Grows before.caller.owned before.seen) (sym (ap (λ z. z.log) same)) t.grows

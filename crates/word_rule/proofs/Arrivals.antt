@@ -9,7 +9,7 @@ use Rattle.word_rule.specs.declared.lock_kind.LockKind.{LockKind}
 use Rattle.word_rule.specs.declared.lock_kind.LockKind.TheVariants as kinds
 use Rattle.word_rule.specs.Line.{holding}
 use Rattle.word_rule.specs.Locks.{Lock, opening_lock, tickets}
-use Rattle.word_rule.specs.LockWords.{TiedTicket, TiedMcs, TiedOf}
+use Rattle.word_rule.specs.LockWords.{IsTicketLock, IsMcsLock, IsLockOf}
 use Rattle.word_rule.specs.Opening.{IsOpening}
 use Rattle.word_rule.specs.Orders.{is_at, arrivals, endings}
 use Rattle.word_rule.specs.Turns.{arrives}
@@ -25,10 +25,10 @@ all_zero (suc n) zero = refl
 all_zero (suc n) (suc k) = all_zero n k
 
 -- the words of a new lock
-pub fresh_ticket : (n first : ℕ) → n < tickets → TiedTicket n (first % tickets ∷ first % tickets ∷ []) (opening_lock kinds.Ticket first)
+pub fresh_ticket : (n first : ℕ) → n < tickets → IsTicketLock n (first % tickets ∷ first % tickets ∷ []) (opening_lock kinds.Ticket first)
 fresh_ticket n first few = record { lined = starts tickets n (first % tickets) (mod-lt first (omega arith)) few; served = refl }
 
-pub fresh_mcs : (n first : ℕ) → TiedMcs n (replicate (1 + 2 * n) 0) (opening_lock kinds.Mcs first)
+pub fresh_mcs : (n first : ℕ) → IsMcsLock n (replicate (1 + 2 * n) 0) (opening_lock kinds.Mcs first)
 fresh_mcs n first = record { queued = queue_starts n (replicate (1 + 2 * n) 0) (length-replicate (1 + 2 * n) 0) (all_zero (1 + 2 * n)); nexts = λ x below. all_zero (1 + 2 * n) (1 + x) }
 
 fresh : (n first : ℕ) (k : LockKind) → n < tickets → IsLock n (opening_lock k first)
@@ -64,11 +64,11 @@ module _ {O P C R : Type 0} (meaning : Ghosts O P C R) (w : World O P C R) (o : 
       let so = ap length (sym (so_far before x)) ∙ length-append (endings meaning x before w) line in
       omega (arith, le, so, room, same_cpus IsLock locks_keep meaning before w free)
 
-  one_of_lock : (n : ℕ) (ws : List ℕ) (l : Lock) (k : LockKind) → TiedOf k n ws l → (i j : ℕ) → i < n → j < n → holding (l.line.place i) ≡ true → holding (l.line.place j) ≡ true → i ≡ j
+  one_of_lock : (n : ℕ) (ws : List ℕ) (l : Lock) (k : LockKind) → IsLockOf k n ws l → (i j : ℕ) → i < n → j < n → holding (l.line.stage i) ≡ true → holding (l.line.stage j) ≡ true → i ≡ j
   one_of_lock n ws l kinds.Ticket h i j = let t = ticket_ties tickets in t.single n ws l.line h.lined i j
   one_of_lock n ws l kinds.Mcs h i j = let t = queue_ties in t.single n ws l.line h.queued i j
 
-  pub one_lem : (is : List ℕ) (x i j : ℕ) (c : CellState O P C R) → slice_get (run meaning is w).cells x ≡ Some c → i < length w.cpus → j < length w.cpus → holding (c.lock.line.place i) ≡ true → holding (c.lock.line.place j) ≡ true → i ≡ j
+  pub one_lem : (is : List ℕ) (x i j : ℕ) (c : CellState O P C R) → slice_get (run meaning is w).cells x ≡ Some c → i < length w.cpus → j < length w.cpus → holding (c.lock.line.stage i) ≡ true → holding (c.lock.line.stage j) ≡ true → i ≡ j
   one_lem is x i j c there below below' a b =
       let same = same_cpus IsLock locks_keep meaning is w free in
       let h : IsLock (length (run meaning is w).cpus) c.lock = subst (λ (q : Option (CellState O P C R)). IsCell IsLock locks_keep meaning (length (run meaning is w).cpus) q) there (locks_run IsLock locks_keep meaning is w free x) in

@@ -4,11 +4,11 @@ use Rattle.std.specs.Prelude.{slice_get}
 use Rattle.std.proofs.lemmas.Bool.Decides.{nat_tests}
 use Rattle.event_log.specs.declared.object.SeqObject.{Ghosts}
 use Rattle.event_log.specs.Distinct.{has}
-use Rattle.word_rule.specs.declared.place.Place.TheVariants.{Idle}
-use Rattle.word_rule.specs.Cell.{Cell, Lawful, EachAt, opening_part}
-use Rattle.word_rule.specs.Board.{Viewed}
+use Rattle.word_rule.specs.declared.stage.Stage.TheVariants.{Idle}
+use Rattle.word_rule.specs.Cell.{Cell, Lawful, EachAt, opening_pass}
+use Rattle.word_rule.specs.CellInvariant.{Viewed}
 use Rattle.word_rule.specs.Seats.{Seat, idle, idle_from, keeping, letting}
-use Rattle.word_rule.specs.Callers.{part_of, IsWithout}
+use Rattle.word_rule.specs.Callers.{pass_view_of, IsWithout}
 use Rattle.word_rule.proofs.Lists.{has_one, or_none}
 
 module _ {O P C R : Type 0} where
@@ -39,14 +39,14 @@ module _ {O P C R : Type 0} (meaning : Ghosts O P C R) where
   pub one_rests : (h told : Cell O P C R) (k : ℕ) (m : Seat O P C R) → told ≡ h → k < h.numbers → Lawful meaning h h.opening → m ≡ (one_of h k, []) → IsWithout meaning told k Idle m
   one_rests h told k m is below lawful e = subst (λ (z : Cell O P C R × Seat O P C R). IsWithout meaning z.0 k Idle z.1) (λ i. (sym is i, sym e i)) record {
     at = record { alone = refl; number = refl; carries = refl; stands = refl; told = refl };
-    part = record {
+    pass_view = record {
       caller = record { acts = grind (arith, nat_tests); least = λ x hx. let same = has_one x k hx in omega arith; below = λ x hx. let same = has_one x k hx in omega arith };
       lawful = lawful;
     };
   }
 
-  pub part_first : (h told : Cell O P C R) (k : ℕ) (m : Seat O P C R) → told ≡ h → m ≡ (one_of h k, []) → part_of told m.0 ≡ opening_part h k
-  part_first h told k m is me = (λ i. part_of (is i) (me i).0) ∙ (λ i. record { caller = record { cell = h; owned = ((has_one_is k) ∙ (λ i j. swap k j i)) i; acting = k }; seen = h.opening })
+  pub part_first : (h told : Cell O P C R) (k : ℕ) (m : Seat O P C R) → told ≡ h → m ≡ (one_of h k, []) → pass_view_of told m.0 ≡ opening_pass h k
+  part_first h told k m is me = (λ i. pass_view_of (is i) (me i).0) ∙ (λ i. record { caller = record { cell = h; owned = ((has_one_is k) ∙ (λ i j. swap k j i)) i; acting = k }; seen = h.opening })
 
 snoc_cases : {A : Type 0} (xs : List A) (a b : A) (k : ℕ) → slice_get (xs ++ a ∷ []) k ≡ Some b → (slice_get xs k ≡ Some b) ⊎ ((k ≡ length xs) × (a ≡ b))
 snoc_cases [] a b zero e = let q : a ≡ b = cc in inr (refl, q)

@@ -12,20 +12,20 @@ use Rattle.event_log.specs.Distinct.{has}
 use Rattle.event_log.specs.History.{History, IsKept}
 use Rattle.event_log.proofs.Beginnings.{begins_self}
 use Rattle.word_rule.specs.declared.lock_kind.LockKind.{LockKind}
-use Rattle.word_rule.specs.declared.place.Place.TheVariants.{Idle}
-use Rattle.word_rule.specs.Cell.{Cell, cell_of, Lawful, OwnsAll, IsPart, stored}
-use Rattle.word_rule.specs.Line.{Line, Ties, empty_line}
-use Rattle.word_rule.specs.Board.{Board, Viewed, Table, EachFrom, Knows, KnowsAll, Ruled}
+use Rattle.word_rule.specs.declared.stage.Stage.TheVariants.{Idle}
+use Rattle.word_rule.specs.Cell.{Cell, cell_of, Lawful, OwnsAll, IsPassView, stored}
+use Rattle.word_rule.specs.Line.{Line, TieLaws, empty_line}
+use Rattle.word_rule.specs.CellInvariant.{GhostState, Viewed, Table, EachFrom, CallerInvariant, SeatInvariant, CellInvariant}
 use Rattle.word_rule.specs.Seats.{Seat, idle_from, first_view}
-use Rattle.word_rule.specs.Callers.{caller_of, part_of, IsWithout}
+use Rattle.word_rule.specs.Callers.{caller_of, pass_view_of, IsWithout}
 use Rattle.word_rule.proofs.Lists.{has_one, drop_self, grows_self, same_log, of_opening}
 use Rattle.word_rule.proofs.Known.{all_idle}
 
 module _ {O P C R : Type 0} (h : Cell O P C R) where
-  abbrev start : Board O P C R
+  abbrev start : GhostState O P C R
   start = record { committed = h.opening; line = empty_line; owner = λ x. (0, x + 1) }
 
-  known : (k m : ℕ) → k + m ≡ h.numbers → EachFrom (Knows h.numbers start 0) (k + 1) (idle_from k m h.opening)
+  known : (k m : ℕ) → k + m ≡ h.numbers → EachFrom (CallerInvariant h.numbers start 0) (k + 1) (idle_from k m h.opening)
   known k zero e = tt
   known k (suc m) e = (
     record {
@@ -38,7 +38,7 @@ module _ {O P C R : Type 0} (h : Cell O P C R) where
     known (k + 1) m (omega arith),
   )
 
-  mine : KnowsAll h start 0 (first_view h)
+  mine : SeatInvariant h start 0 (first_view h)
   mine = record {
     told = (refl, tt);
     main = record {
@@ -51,8 +51,8 @@ module _ {O P C R : Type 0} (h : Cell O P C R) where
     others = known 0 h.numbers (omega arith);
   }
 
-  one : (j : ℕ) (u : Viewed O P C R) → get_elem? (first_view h ∷ []) j ≡ some u → KnowsAll h start j u
-  one zero u e = subst (KnowsAll h start 0) (some-injective (first_view h) u e) mine
+  one : (j : ℕ) (u : Viewed O P C R) → get_elem? (first_view h ∷ []) j ≡ some u → SeatInvariant h start j u
+  one zero u e = subst (SeatInvariant h start 0) (some-injective (first_view h) u e) mine
   one (suc j) u e = absurd (some-ne-none u (sym e))
 
 module _ {O P C R : Type 0} (meaning : Ghosts O P C R) where
@@ -69,10 +69,10 @@ module _ {O P C R : Type 0} (meaning : Ghosts O P C R) where
   pub opens_stored : (k : LockKind) (x : History O P C R) (n : ℕ) → IsKept meaning x → x ≡ stored meaning (cell_of k n x) x.log
   opens_stored k x n kept i = record { params = x.params; limit = x.limit; log = x.log; state = kept.replayed i }
 
-module _ {O P C R : Type 0} (meaning : Ghosts O P C R) (Tied : ℕ → List ℕ → Line → Type 0) where
-  pub opens : (k : LockKind) (ws : List ℕ) (x : History O P C R) (n : ℕ) → IsKept meaning x → Tied n ws empty_line → Ruled meaning Tied (cell_of k n x) (opening ws (Some x ∷ []) (first_view (cell_of k n x)))
+module _ {O P C R : Type 0} (meaning : Ghosts O P C R) (IsTied : ℕ → List ℕ → Line → Type 0) where
+  pub opens : (k : LockKind) (ws : List ℕ) (x : History O P C R) (n : ℕ) → IsKept meaning x → IsTied n ws empty_line → CellInvariant meaning IsTied (cell_of k n x) (opening ws (Some x ∷ []) (first_view (cell_of k n x)))
   opens k ws x n kept tied = record {
-    board = start (cell_of k n x);
+    state = start (cell_of k n x);
     tied = tied;
     lawful = opens_lawful meaning k x n kept;
     at_home = λ _. ap (λ z. some (some (Some z))) (opens_stored meaning k x n kept);
@@ -80,10 +80,10 @@ module _ {O P C R : Type 0} (meaning : Ghosts O P C R) (Tied : ℕ → List ℕ 
   }
 
   -- where a pass has each number, the object is at home, and its log is what the pass has seen
-  pub closing : Ties Tied → (h : Cell O P C R) (id : ℕ) (v : Viewed O P C R) (s : Table O P C R) → Ruled meaning Tied h s → get_elem? s.views id ≡ some v → v.main.place ≡ Idle → IsPart meaning (part_of h v) → OwnsAll (caller_of h v)
+  pub closing : TieLaws IsTied → (h : Cell O P C R) (id : ℕ) (v : Viewed O P C R) (s : Table O P C R) → CellInvariant meaning IsTied h s → get_elem? s.views id ≡ some v → v.main.stage ≡ Idle → IsPassView meaning (pass_view_of h v) → OwnsAll (caller_of h v)
       → get_elem? s.homes 0 ≡ some (some (Some (stored meaning h v.main.seen)))
   closing ties h id v s r there rests part all =
-      let b = r.board in
+      let b = r.state in
       let know = r.each id v there in
       let home = ties.over h.numbers s.words b.line r.tied (λ x below. all_idle h.numbers b id 0 v.main know.main rests x (all.each x below)) in
       let same = same_log v.main.seen b.committed know.main.grows.begins (λ z. dite (dec_lt z h.numbers)
@@ -91,9 +91,9 @@ module _ {O P C R : Type 0} (meaning : Ghosts O P C R) (Tied : ℕ → List ℕ 
       (λ not. of_opening z h.numbers b.committed h.opening (omega arith) r.lawful.begins r.lawful.numbered ∙ sym (of_opening z h.numbers v.main.seen h.opening (omega arith) part.lawful.begins part.lawful.numbered))) in
       r.at_home home ∙ ap (λ l. some (some (Some (stored meaning h l)))) same
 
-  pub ended : Ties Tied → (h : Cell O P C R) (id cpu : ℕ) (m : Seat O P C R) (ws : List ℕ) (xs : List (Option (History O P C R))) (slot : Option (History O P C R)) → IsWithout meaning h cpu Idle m → OwnsAll (caller_of h m.0)
-      → Final (Seen (Ruled meaning Tied h) id m.0) ws xs → get_elem? xs 0 ≡ some slot → slot ≡ Some (stored meaning h m.0.main.seen)
+  pub ended : TieLaws IsTied → (h : Cell O P C R) (id cpu : ℕ) (m : Seat O P C R) (ws : List ℕ) (xs : List (Option (History O P C R))) (slot : Option (History O P C R)) → IsWithout meaning h cpu Idle m → OwnsAll (caller_of h m.0)
+      → Final (Seen (CellInvariant meaning IsTied h) id m.0) ws xs → get_elem? xs 0 ≡ some slot → slot ≡ Some (stored meaning h m.0.main.seen)
   ended ties h id cpu m ws xs slot w all final first =
       let object : History O P C R = stored meaning h m.0.main.seen in
-      let there = final.4 0 (Some object) (closing ties h id m.0 final.0 final.1.0 final.1.1 w.at.stands w.part all) in
+      let there = final.4 0 (Some object) (closing ties h id m.0 final.0 final.1.0 final.1.1 w.at.stands w.pass_view all) in
       some-injective slot (Some object) (sym first ∙ there)

@@ -9,7 +9,7 @@ pub mod QueueWords
 pub mod QueueLines
 pub mod Acting
 pub mod Dealing
-pub mod Parts
+pub mod MachineParts
 pub mod Slices
 pub mod Entries
 pub mod SoundSteps

@@ -12,8 +12,8 @@ use Rattle.word_rule.specs.declared.machine.cell_spec.CellSpec.{CellSpec}
 use Rattle.word_rule.specs.declared.machine.lock_words.LockWords.{LockWords}
 use Rattle.word_rule.specs.declared.machine.progress.Progress.{Progress}
 use Rattle.word_rule.specs.declared.machine.step_done.StepDone.{StepDone}
-use Rattle.word_rule.specs.LockWords.{ShowsLock}
-use Rattle.word_rule.specs.Shown.{Parts, Runs, HasRoom, IsRoomy, opened_by}
+use Rattle.word_rule.specs.LockWords.{RepresentsLock}
+use Rattle.word_rule.specs.Shown.{MachineParts, Runs, HasRoom, IsRoomy, opened_by}
 use Rattle.word_rule.specs.Sound.{Opened}
 use Rattle.word_rule.specs.Turns.{turn, ends_hold}
 use Rattle.word_rule.specs.World.{World, entry_of, outcome, step, run}
@@ -66,14 +66,14 @@ module _ {O P C R : Type 0} (meaning : Ghosts O P C R) (i : ℕ) (todo : Todo O 
 module _ {O P C R : Type 0} (meaning : Ghosts O P C R) (cells : List (CellSpec O P C R)) (locks : List LockWords) (scripts : List (Vec (Todo O P C R) Global)) (done : List (Progress O P C R))
     (i : ℕ) (lt : i < length scripts) (p : Progress O P C R) (p_is : p ≡ get_or done i p) (script : Vec (Todo O P C R) Global) (script_is : script ≡ get_or scripts i script) (todo : Todo O P C R) (todo_at : slice_get script.items p.at ≡ Some todo)
     (spec : CellSpec O P C R) (spec_is : spec ≡ get_or cells todo.object spec) (lock : LockWords) (lock_is : lock ≡ get_or locks todo.object lock) where
-  abbrev Kept : Parts O P C R
+  abbrev Kept : MachineParts O P C R
   Kept = kept_parts meaning cells locks scripts done
 
   pub room_at : (logs transcripts : ℕ) → Runs meaning Kept → IsRoomy Kept logs transcripts → HasRoom script p
   room_at logs transcripts r m = m.each i script p (read_get scripts i script lt script_is) (read_get done i p (let h = r.shows in omega (arith, lt, h.scripts, h.done)) p_is)
 
   module _ (s : StepDone) (lock' : LockWords) (spec' : CellSpec O P C R) (p' : Progress O P C R) (k : Counts meaning i todo s spec.logged spec'.logged p p') where
-    abbrev Next : Parts O P C R
+    abbrev Next : MachineParts O P C R
     Next = record { cells = set cells todo.object spec'; locks = set locks todo.object lock'; scripts = scripts; done = set done i p' }
 
     pub roomy_next : (logs transcripts : ℕ) → Runs meaning Kept → IsRoomy Kept logs transcripts → IsRoomy Next logs transcripts
@@ -96,7 +96,7 @@ module _ {O P C R : Type 0} (meaning : Ghosts O P C R) (cells : List (CellSpec O
     opened_next below = map_set (λ (c : CellSpec O P C R). let o : Opened P = record { params = c.logged.params; limit = c.logged.limit } in o) cells todo.object spec' spec (read_get cells todo.object spec below spec_is) (λ j. record { params = k.params j; limit = k.limit j })
 
     pub runs_next : (r : Runs meaning Kept) (below : todo.object < length cells) → s ≡ (turn (the_cell meaning cells locks scripts done i lt p p_is script script_is todo todo_at below spec spec_is lock lock_is r.world r.shows).0.lock i).1
-        → ShowsLock (vec_len lock.places) lock'.kind lock'.words.items lock'.places.items (turn (the_cell meaning cells locks scripts done i lt p p_is script script_is todo todo_at below spec spec_is lock lock_is r.world r.shows).0.lock i).0 → Runs meaning Next
+        → RepresentsLock (vec_len lock.stages) lock'.kind lock'.words.items lock'.stages.items (turn (the_cell meaning cells locks scripts done i lt p p_is script script_is todo todo_at below spec spec_is lock lock_is r.world r.shows).0.lock i).0 → Runs meaning Next
     runs_next r below s_is turned = record {
       world = (step meaning r.world i).0;
       shows = stepped meaning cells locks scripts done i lt p p_is script script_is todo todo_at below spec spec_is lock lock_is r.world r.shows s lock' spec' p' s_is turned k;

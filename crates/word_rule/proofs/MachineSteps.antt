@@ -15,8 +15,8 @@ use Rattle.word_rule.specs.declared.machine.progress.Progress.{Progress}
 use Rattle.word_rule.specs.declared.machine.step_done.StepDone.{StepDone}
 use Rattle.word_rule.specs.declared.machine.step_done.StepDone.TheVariants as steps
 use Rattle.word_rule.specs.Locks.{Lock}
-use Rattle.word_rule.specs.LockWords.{ShowsLock}
-use Rattle.word_rule.specs.Shown.{Parts, ShowsCell, ShowsCpu, Shows, Runs}
+use Rattle.word_rule.specs.LockWords.{RepresentsLock}
+use Rattle.word_rule.specs.Shown.{MachineParts, RepresentsCell, ShowsCpu, Represents, Runs}
 use Rattle.word_rule.specs.Sound.{Opened}
 use Rattle.word_rule.specs.SoundWorld.{IsTodo}
 use Rattle.word_rule.specs.Turns.{turn, ends_hold}
@@ -47,14 +47,14 @@ module _ {O P C R : Type 0} where
     pub room : vec_capacity q.transcript ≡ vec_capacity p.transcript
 
 module _ {O P C R : Type 0} (meaning : Ghosts O P C R) (cells : List (CellSpec O P C R)) (locks : List LockWords) (scripts : List (Vec (Todo O P C R) Global)) (done : List (Progress O P C R)) where
-  abbrev pub kept_parts : Parts O P C R
+  abbrev pub kept_parts : MachineParts O P C R
   kept_parts = record { cells = cells; locks = locks; scripts = scripts; done = done }
 
   module _ (i : ℕ) (lt : i < length scripts) (p : Progress O P C R) (p_is : p ≡ get_or done i p) (script : Vec (Todo O P C R) Global) (script_is : script ≡ get_or scripts i script) where
     script_there : slice_get scripts i ≡ Some script
     script_there = read_get scripts i script lt script_is
 
-    module _ (w : World O P C R) (h : Shows meaning kept_parts w) where
+    module _ (w : World O P C R) (h : Represents meaning kept_parts w) where
       p_there : slice_get done i ≡ Some p
       p_there = read_get done i p (omega (arith, lt, h.scripts, h.done)) p_is
 
@@ -80,18 +80,18 @@ module _ {O P C R : Type 0} (meaning : Ghosts O P C R) (cells : List (CellSpec O
           let a = subst (λ (l : List (Todo O P C R)). AllByRecursion (λ t. IsTodo (length r.world.cells) t) l) (todo_is r.world r.shows todo todo_at) (r.sound.able i (the_cpu r.world r.shows).0 (the_cpu r.world r.shows).1) in
           subst (λ n. IsTodo n todo) (sym r.shows.cells) a.0
 
-      module _ (on_cell : todo.object < length cells) (spec : CellSpec O P C R) (spec_is : spec ≡ get_or cells todo.object spec) (lock : LockWords) (lock_is : lock ≡ get_or locks todo.object lock) (w : World O P C R) (h : Shows meaning kept_parts w) where
+      module _ (on_cell : todo.object < length cells) (spec : CellSpec O P C R) (spec_is : spec ≡ get_or cells todo.object spec) (lock : LockWords) (lock_is : lock ≡ get_or locks todo.object lock) (w : World O P C R) (h : Represents meaning kept_parts w) where
         pub the_cell : (c : CellState O P C R) × (slice_get w.cells todo.object ≡ Some c)
         the_cell = some_at w.cells todo.object (omega (arith, on_cell, h.cells))
 
-        pub shown_cell : ShowsCell meaning (length w.cpus) spec lock the_cell.0
+        pub shown_cell : RepresentsCell meaning (length w.cpus) spec lock the_cell.0
         shown_cell = h.each_cell todo.object spec lock the_cell.0 (read_get cells todo.object spec on_cell spec_is) (read_get locks todo.object lock (omega (arith, on_cell, h.cells, h.locks)) lock_is) the_cell.1
 
-        pub cpus_are : vec_len lock.places ≡ length w.cpus
-        cpus_are = let s = shown_cell.lock in omega (arith, s.size, lock.places.ok.0)
+        pub cpus_are : vec_len lock.stages ≡ length w.cpus
+        cpus_are = let s = shown_cell.lock in omega (arith, s.size, lock.stages.ok.0)
 
-        pub shown_lock : ShowsLock (vec_len lock.places) lock.kind lock.words.items lock.places.items the_cell.0.lock
-        shown_lock = subst (λ n. ShowsLock n lock.kind lock.words.items lock.places.items the_cell.0.lock) (sym cpus_are) shown_cell.lock
+        pub shown_lock : RepresentsLock (vec_len lock.stages) lock.kind lock.words.items lock.stages.items the_cell.0.lock
+        shown_lock = subst (λ n. RepresentsLock n lock.kind lock.words.items lock.stages.items the_cell.0.lock) (sym cpus_are) shown_cell.lock
 
         pub step_is : step meaning w i ≡ (world_after meaning w i the_cell.0 (the_cpu w h).0 todo (turn the_cell.0.lock i), (turn the_cell.0.lock i).1)
         step_is =
@@ -103,7 +103,7 @@ module _ {O P C R : Type 0} (meaning : Ghosts O P C R) (cells : List (CellSpec O
         done_is s e = e ∙ ap (λ (r : World O P C R × StepDone). r.1) (sym step_is)
 
         module _ (s : StepDone) (lock' : LockWords) (spec' : CellSpec O P C R) (p' : Progress O P C R) (s_is : s ≡ (turn the_cell.0.lock i).1)
-            (turned : ShowsLock (vec_len lock.places) lock'.kind lock'.words.items lock'.places.items (turn the_cell.0.lock i).0) (k : Counts meaning i todo s spec.logged spec'.logged p p') where
+            (turned : RepresentsLock (vec_len lock.stages) lock'.kind lock'.words.items lock'.stages.items (turn the_cell.0.lock i).0) (k : Counts meaning i todo s spec.logged spec'.logged p p') where
           abbrev c0 : CellState O P C R
           c0 = the_cell.0
 
@@ -113,9 +113,9 @@ module _ {O P C R : Type 0} (meaning : Ghosts O P C R) (cells : List (CellSpec O
           outcome_is : outcome meaning record { params = spec.logged.params; limit = spec.logged.limit } spec.logged.log todo.calls.items ≡ outcome meaning c0.opened c0.log todo.calls.items
           outcome_is = λ j. outcome meaning (opened_is j) (shown_cell.log j) todo.calls.items
 
-          new_cell : ShowsCell meaning (length w.cpus) spec' lock' (cell_after meaning c0 i todo (turn c0.lock i))
+          new_cell : RepresentsCell meaning (length w.cpus) spec' lock' (cell_after meaning c0 i todo (turn c0.lock i))
           new_cell = record {
-            lock = subst (λ n. ShowsLock n lock'.kind lock'.words.items lock'.places.items (turn c0.lock i).0) cpus_are turned;
+            lock = subst (λ n. RepresentsLock n lock'.kind lock'.words.items lock'.stages.items (turn c0.lock i).0) cpus_are turned;
             params = k.params ∙ shown_cell.params;
             limit = k.limit ∙ shown_cell.limit;
             log = k.log ∙ (λ j. cond (ends_hold (s_is j)) (with_done i (shown_cell.log j) (outcome_is j)) (shown_cell.log j));
@@ -148,20 +148,20 @@ module _ {O P C R : Type 0} (meaning : Ghosts O P C R) (cells : List (CellSpec O
           abbrev next_world : World O P C R
           next_world = world_after meaning w i c0 (the_cpu w h).0 todo (turn c0.lock i)
 
-          abbrev next_parts : Parts O P C R
+          abbrev next_parts : MachineParts O P C R
           next_parts = record { cells = set cells todo.object spec'; locks = set locks todo.object lock'; scripts = scripts; done = set done i p' }
 
-          each_cell' : (x : ℕ) (a : CellSpec O P C R) (b : LockWords) (c : CellState O P C R) → slice_get (set cells todo.object spec') x ≡ Some a → slice_get (set locks todo.object lock') x ≡ Some b → slice_get next_world.cells x ≡ Some c → ShowsCell meaning (length next_world.cpus) a b c
-          each_cell' x a b c ea eb ec = subst (λ n. ShowsCell meaning n a b c) (sym (length-set w.cpus i _)) (dite (ℕ_discrete x todo.object) here there)
+          each_cell' : (x : ℕ) (a : CellSpec O P C R) (b : LockWords) (c : CellState O P C R) → slice_get (set cells todo.object spec') x ≡ Some a → slice_get (set locks todo.object lock') x ≡ Some b → slice_get next_world.cells x ≡ Some c → RepresentsCell meaning (length next_world.cpus) a b c
+          each_cell' x a b c ea eb ec = subst (λ n. RepresentsCell meaning n a b c) (sym (length-set w.cpus i _)) (dite (ℕ_discrete x todo.object) here there)
             where
-              here : x ≡ todo.object → ShowsCell meaning (length w.cpus) a b c
+              here : x ≡ todo.object → RepresentsCell meaning (length w.cpus) a b c
               here e =
                   let fa = one_of spec' a (slice_get (set cells todo.object spec') x) (subst (λ y. slice_get (set cells todo.object spec') y ≡ Some spec') (sym e) (get_set_same cells todo.object spec' spec (read_get cells todo.object spec on_cell spec_is))) ea in
                   let fb = one_of lock' b (slice_get (set locks todo.object lock') x) (subst (λ y. slice_get (set locks todo.object lock') y ≡ Some lock') (sym e) (get_set_same locks todo.object lock' lock (read_get locks todo.object lock (omega (arith, on_cell, h.cells, h.locks)) lock_is))) eb in
                   let fc = one_of (cell_after meaning c0 i todo (turn c0.lock i)) c (slice_get next_world.cells x) (subst (λ y. slice_get next_world.cells y ≡ Some (cell_after meaning c0 i todo (turn c0.lock i))) (sym e) (get_set_same w.cells todo.object (cell_after meaning c0 i todo (turn c0.lock i)) c0 the_cell.1)) ec in
-                  subst (λ (z : CellSpec O P C R × LockWords × CellState O P C R). ShowsCell meaning (length w.cpus) z.0 z.1 z.2) (λ j. (fa j, fb j, fc j)) new_cell
+                  subst (λ (z : CellSpec O P C R × LockWords × CellState O P C R). RepresentsCell meaning (length w.cpus) z.0 z.1 z.2) (λ j. (fa j, fb j, fc j)) new_cell
 
-              there : x ≢ todo.object → ShowsCell meaning (length w.cpus) a b c
+              there : x ≢ todo.object → RepresentsCell meaning (length w.cpus) a b c
               there ne = h.each_cell x a b c (sym (get_set_other cells todo.object x spec' (λ e. ne (sym e))) ∙ ea) (sym (get_set_other locks todo.object x lock' (λ e. ne (sym e))) ∙ eb) (sym (get_set_other w.cells todo.object x (cell_after meaning c0 i todo (turn c0.lock i)) (λ e. ne (sym e))) ∙ ec)
 
           each_cpu' : (x : ℕ) (a : Vec (Todo O P C R) Global) (b : Progress O P C R) (c : CpuState O P C R) → slice_get scripts x ≡ Some a → slice_get (set done i p') x ≡ Some b → slice_get next_world.cpus x ≡ Some c → ShowsCpu a b c
@@ -178,8 +178,8 @@ module _ {O P C R : Type 0} (meaning : Ghosts O P C R) (cells : List (CellSpec O
               there ne = h.each_cpu x a b c ea (sym (get_set_other done i x p' (λ e. ne (sym e))) ∙ eb) (sym (get_set_other w.cpus i x _ (λ e. ne (sym e))) ∙ ec)
 
           -- what is kept afterwards is the world after the step
-          pub stepped : Shows meaning next_parts (step meaning w i).0
-          stepped = subst (λ (r : World O P C R × StepDone). Shows meaning next_parts r.0) (sym step_is) record {
+          pub stepped : Represents meaning next_parts (step meaning w i).0
+          stepped = subst (λ (r : World O P C R × StepDone). Represents meaning next_parts r.0) (sym step_is) record {
             cells = length-set cells todo.object spec' ∙ (h.cells ∙ sym (length-set w.cells todo.object _));
             locks = length-set locks todo.object lock' ∙ (h.locks ∙ sym (length-set w.cells todo.object _));
             scripts = h.scripts ∙ sym (length-set w.cpus i _);
@@ -189,17 +189,17 @@ module _ {O P C R : Type 0} (meaning : Ghosts O P C R) (cells : List (CellSpec O
           }
 
   -- the lock of a cell is shown, whoever asks
-  pub lock_ready : (x : ℕ) → x < length cells → (lock : LockWords) → lock ≡ get_or locks x lock → (w : World O P C R) → Shows meaning kept_parts w
-      → ((l : Lock) × ShowsLock (vec_len lock.places) lock.kind lock.words.items lock.places.items l) × (vec_len lock.places ≡ length w.cpus)
+  pub lock_ready : (x : ℕ) → x < length cells → (lock : LockWords) → lock ≡ get_or locks x lock → (w : World O P C R) → Represents meaning kept_parts w
+      → ((l : Lock) × RepresentsLock (vec_len lock.stages) lock.kind lock.words.items lock.stages.items l) × (vec_len lock.stages ≡ length w.cpus)
   lock_ready x below lock lock_is w h =
       let c = some_at w.cells x (omega (arith, below, h.cells)) in
       let spec = some_at cells x below in
       let s = h.each_cell x spec.0 lock c.0 spec.1 (read_get locks x lock (omega (arith, below, h.cells, h.locks)) lock_is) c.1 in
-      let n : vec_len lock.places ≡ length w.cpus = let l = s.lock in omega (arith, l.size, lock.places.ok.0) in
-      ((c.0.lock, subst (λ n. ShowsLock n lock.kind lock.words.items lock.places.items c.0.lock) (sym n) s.lock), n)
+      let n : vec_len lock.stages ≡ length w.cpus = let l = s.lock in omega (arith, l.size, lock.stages.ok.0) in
+      ((c.0.lock, subst (λ n. RepresentsLock n lock.kind lock.words.items lock.stages.items c.0.lock) (sym n) s.lock), n)
 
   -- the words of a cell
-  pub words_shown : (x : ℕ) → x < length cells → (lock : LockWords) → lock ≡ get_or locks x lock → (w : World O P C R) → Shows meaning kept_parts w → (c : CellState O P C R) → slice_get w.cells x ≡ Some c → ShowsLock (length w.cpus) lock.kind lock.words.items lock.places.items c.lock
+  pub words_shown : (x : ℕ) → x < length cells → (lock : LockWords) → lock ≡ get_or locks x lock → (w : World O P C R) → Represents meaning kept_parts w → (c : CellState O P C R) → slice_get w.cells x ≡ Some c → RepresentsLock (length w.cpus) lock.kind lock.words.items lock.stages.items c.lock
   words_shown x below lock lock_is w h c there =
       let spec = some_at cells x below in
       let s = h.each_cell x spec.0 lock c spec.1 (read_get locks x lock (omega (arith, below, h.cells, h.locks)) lock_is) there in

@@ -5,15 +5,15 @@ use mathlib.Core.Logic.{dite}
 use mathlib.Core.Option.{some, some-injective, some-ne-none}
 use native.Mathlib.Decide.{ℕ_discrete}
 use lib.ListN.{get_elem?}
-use Rattle.word_rule.specs.declared.place.Place.TheVariants.{Idle, Ready, Behind, Armed, Waiting, Holding, Alone, Leaving, Passing}
+use Rattle.word_rule.specs.declared.stage.Stage.TheVariants.{Idle, Ready, Behind, Armed, Waiting, Holding, Alone, Leaving, Passing}
 use Rattle.word_rule.specs.Line.{lined, holding, is_first}
 use Rattle.word_rule.specs.Locks.{Lock, last, last_from, second, behind, is_named, naming, if_linked, follower, going, joining, taking, leaving}
-use Rattle.word_rule.specs.LockWords.{TiedMcs, word_of}
-use Rattle.word_rule.specs.Queues.{Queued, tail_of, next_word, locked_word, is_linked}
+use Rattle.word_rule.specs.LockWords.{IsMcsLock, word_of}
+use Rattle.word_rule.specs.Queues.{IsMcsWords, tail_of, next_word, locked_word, is_linked}
 use Rattle.word_rule.specs.declared.lock_kind.LockKind.TheVariants.{Mcs}
 use Rattle.word_rule.specs.declared.machine.step_done.StepDone.{StepDone}
 use Rattle.word_rule.specs.declared.machine.step_done.StepDone.TheVariants as steps
-use Rattle.word_rule.specs.declared.place.Place.{Place}
+use Rattle.word_rule.specs.declared.stage.Stage.{Stage}
 use Rattle.word_rule.specs.Turns.{clear, arm, link, pass, turn, turn_of, mcs_turn}
 use Rattle.word_rule.proofs.Lists.{one_place, one_is}
 use Rattle.word_rule.proofs.QueueStands.{elsewhere}
@@ -45,7 +45,7 @@ word_some None q e = absurd (let z : 0 ≡ q + 1 = e in omega (arith, z))
 word_some (Some k) q e = ap Some (let z : k + 1 ≡ q + 1 = e in omega (arith, z))
 
 -- the turn of a CPU that stands there
-pub turned : (l : Lock) (i : ℕ) (q : Place) → l.kind ≡ Mcs → l.line.place i ≡ q → (turn l i).0 ≡ (mcs_turn l i q).0
+pub turned : (l : Lock) (i : ℕ) (q : Stage) → l.kind ≡ Mcs → l.line.stage i ≡ q → (turn l i).0 ≡ (mcs_turn l i q).0
 turned l i q kind there = ap (λ k. (turn_of k l i).0) kind ∙ ap (λ z. (mcs_turn l i z).0) there
 
 -- a look of one that waits: it gets the object where it is the first
@@ -69,7 +69,7 @@ next_set ws next n p named wide h x below = dite (ℕ_discrete x p)
     (λ is. subst (λ (y : ℕ). next_word (set ws (1 + p) (word_of named)) y ≡ word_of (naming next p named y)) (sym is) (get_or-set_same ws (1 + p) (word_of named) 0 wide ∙ ap (λ b. word_of (cond b named (next p))) (sym (eq-eqb p p refl))))
     (λ ne. elsewhere ws (1 + p) (1 + x) (word_of named) (λ e. ne (omega (arith, e))) ∙ (h x below ∙ ap (λ b. word_of (cond b named (next x))) (sym (ne_eqb x p ne))))
 
-module _ (n : ℕ) (ws : List ℕ) (l : Lock) (h : TiedMcs n ws l) (i : ℕ) (below : i < n) where
+module _ (n : ℕ) (ws : List ℕ) (l : Lock) (h : IsMcsLock n ws l) (i : ℕ) (below : i < n) where
   -- a store to another word leaves each `next`
   nexts_stay : (k v : ℕ) → ((x : ℕ) → x < n → k ≢ 1 + x) → (x : ℕ) → x < n → next_word (set ws k v) x ≡ word_of (l.next x)
   nexts_stay k v ne x in_cell = elsewhere ws k (1 + x) v (ne x in_cell) ∙ h.nexts x in_cell
@@ -77,7 +77,7 @@ module _ (n : ℕ) (ws : List ℕ) (l : Lock) (h : TiedMcs n ws l) (i : ℕ) (be
   wide_next : (p : ℕ) → p < n → 1 + p < length ws
   wide_next p lt = let w = h.queued.wide in omega (arith, w, lt)
 
-  pub clears : l.line.place i ≡ Idle → TiedMcs n (set ws (1 + i) 0) (clear l i)
+  pub clears : l.line.stage i ≡ Idle → IsMcsLock n (set ws (1 + i) 0) (clear l i)
   clears e = record { queued = lines.cleared n ws l.line h.queued i below e; nexts = next_set ws l.next n i None (wide_next i below) h.nexts }
 
   pub tail_word : get_or ws 0 0 ≡ word_of (last l.line.cpus)
@@ -89,13 +89,13 @@ module _ (n : ℕ) (ws : List ℕ) (l : Lock) (h : TiedMcs n ws l) (i : ℕ) (be
   pub tail_some : (p : ℕ) → get_or ws 0 0 ≡ p + 1 → last l.line.cpus ≡ Some p
   tail_some p e = word_some (last l.line.cpus) p (sym tail_word ∙ e)
 
-  pub enters_first : l.line.place i ≡ Ready → last l.line.cpus ≡ None → TiedMcs n (set ws 0 (i + 1)) (record l { line = lined (i ∷ []) true l.line.place i Holding })
+  pub enters_first : l.line.stage i ≡ Ready → last l.line.cpus ≡ None → IsMcsLock n (set ws 0 (i + 1)) (record l { line = lined (i ∷ []) true l.line.stage i Holding })
   enters_first e none = record {
     queued = lines.entered_first n ws l.line h.queued i below e (tail_word ∙ ap word_of none);
     nexts = nexts_stay 0 (i + 1) (λ x in_cell z. absurd (omega (arith, z)));
   }
 
-  pub enters_behind : (p : ℕ) → l.line.place i ≡ Ready → last l.line.cpus ≡ Some p → TiedMcs n (set ws 0 (i + 1)) (record l { line = joining l.line i (Behind p) })
+  pub enters_behind : (p : ℕ) → l.line.stage i ≡ Ready → last l.line.cpus ≡ Some p → IsMcsLock n (set ws 0 (i + 1)) (record l { line = joining l.line i (Behind p) })
   enters_behind p e some_one = record {
     queued = lines.entered n ws l.line h.queued i below p e (tail_word ∙ ap word_of some_one);
     nexts = nexts_stay 0 (i + 1) (λ x in_cell z. absurd (omega (arith, z)));
@@ -108,41 +108,41 @@ module _ (n : ℕ) (ws : List ℕ) (l : Lock) (h : TiedMcs n ws l) (i : ℕ) (be
       let at = words.tail_at l.line.cpus p (sym h.queued.tail ∙ e) in
       words.in_cell n ws l.line h.queued at.0 p at.1
 
-  pub arms : (p : ℕ) → l.line.place i ≡ Behind p → TiedMcs n (set ws (1 + n + i) 1) (arm l i p)
+  pub arms : (p : ℕ) → l.line.stage i ≡ Behind p → IsMcsLock n (set ws (1 + n + i) 1) (arm l i p)
   arms p e = record {
     queued = lines.armed n ws l.line h.queued i below p e;
     nexts = nexts_stay (1 + n + i) 1 (λ x in_cell z. absurd (omega (arith, z, in_cell)));
   }
 
   -- the one that i is behind is a CPU of the cell
-  pub ahead_below : (p : ℕ) → l.line.place i ≡ Armed p → p < n
+  pub ahead_below : (p : ℕ) → l.line.stage i ≡ Armed p → p < n
   ahead_below p e = let s = words.stands_at n ws l.line h.queued i (Armed p) below e in words.in_cell n ws l.line h.queued s.at p s.ahead
 
-  pub links : (p : ℕ) → l.line.place i ≡ Armed p → TiedMcs n (set ws (1 + p) (i + 1)) (link l i p)
+  pub links : (p : ℕ) → l.line.stage i ≡ Armed p → IsMcsLock n (set ws (1 + p) (i + 1)) (link l i p)
   links p e = record {
     queued = lines.linked n ws l.line h.queued i below p e;
     nexts = next_set ws l.next n p (Some i) (wide_next p (ahead_below p e)) h.nexts;
   }
 
   -- `locked` is 0 exactly where i is the first
-  pub free_first : l.line.place i ≡ Waiting → locked_word n ws i ≡ 0 → is_first i l.line.cpus ≡ true
+  pub free_first : l.line.stage i ≡ Waiting → locked_word n ws i ≡ 0 → is_first i l.line.cpus ≡ true
   free_first e zero_now = let f = lines.free n ws l.line h.queued i below e zero_now in at_first i l.line.cpus f.there
 
-  pub first_free : l.line.place i ≡ Waiting → is_first i l.line.cpus ≡ true → locked_word n ws i ≡ 0
+  pub first_free : l.line.stage i ≡ Waiting → is_first i l.line.cpus ≡ true → locked_word n ws i ≡ 0
   first_free e first = ⊎_elim {0, 0, 0}
       (λ t. let f = t.1 in let k = one_place n l.line.cpus h.queued.distinct (suc f.at) 0 i f.there (first_at i l.line.cpus first) in absurd (omega (arith, k)))
       (λ f. f.lock)
       (words.stands_at n ws l.line h.queued i Waiting below e)
 
-  pub gets : l.line.place i ≡ Waiting → is_first i l.line.cpus ≡ true → TiedMcs n ws (record l { line = taking l.line i Holding })
+  pub gets : l.line.stage i ≡ Waiting → is_first i l.line.cpus ≡ true → IsMcsLock n ws (record l { line = taking l.line i Holding })
   gets e first = record { queued = lines.looked n ws l.line h.queued i below (lines.free n ws l.line h.queued i below e (first_free e first)); nexts = h.nexts }
 
   -- the holder is the first
-  pub holder_at : holding (l.line.place i) ≡ true → get_elem? l.line.cpus 0 ≡ some i
+  pub holder_at : holding (l.line.stage i) ≡ true → get_elem? l.line.cpus 0 ≡ some i
   holder_at has_it = let f = words.first_holds n ws l.line h.queued i below has_it in f.there
 
   -- the holder's `next` names its follower
-  pub follower_word : holding (l.line.place i) ≡ true → next_word ws i ≡ word_of (follower l.line)
+  pub follower_word : holding (l.line.stage i) ≡ true → next_word ws i ≡ word_of (follower l.line)
   follower_word has_it = by (second l.line.cpus) refl
     where
       linked : (j : ℕ) (b : Bool) → cond b (j + 1) 0 ≡ word_of (cond b (Some j) None)
@@ -156,27 +156,27 @@ module _ (n : ℕ) (ws : List ℕ) (l : Lock) (h : TiedMcs n ws l) (i : ℕ) (be
 
       by : (o : Option ℕ) → second l.line.cpus ≡ o → next_word ws i ≡ word_of (follower l.line)
       by None e = h.queued.last i (only l.line.cpus (holder_at has_it) e) ∙ ap (λ o. word_of (if_linked l.line o)) (sym e)
-      by (Some j) e = words.next_is n ws l.line h.queued 0 i j (holder_at has_it) (second_at l.line.cpus j e) ∙ (linked j (is_linked (l.line.place j)) ∙ ap (λ o. word_of (if_linked l.line o)) (sym e))
+      by (Some j) e = words.next_is n ws l.line h.queued 0 i j (holder_at has_it) (second_at l.line.cpus j e) ∙ (linked j (is_linked (l.line.stage j)) ∙ ap (λ o. word_of (if_linked l.line o)) (sym e))
 
-  pub sees_nobody : holding (l.line.place i) ≡ true → next_word ws i ≡ 0 → follower l.line ≡ None
+  pub sees_nobody : holding (l.line.stage i) ≡ true → next_word ws i ≡ 0 → follower l.line ≡ None
   sees_nobody has_it word = word_none (follower l.line) (sym (follower_word has_it) ∙ word)
 
-  pub sees_that : (j : ℕ) → holding (l.line.place i) ≡ true → next_word ws i ≡ j + 1 → follower l.line ≡ Some j
+  pub sees_that : (j : ℕ) → holding (l.line.stage i) ≡ true → next_word ws i ≡ j + 1 → follower l.line ≡ Some j
   sees_that j has_it word = word_some (follower l.line) j (sym (follower_word has_it) ∙ word)
 
-  pub sees : (j : ℕ) → holding (l.line.place i) ≡ true → next_word ws i ≡ j + 1 → TiedMcs n ws (record l { line = going l.line i (Passing j) })
+  pub sees : (j : ℕ) → holding (l.line.stage i) ≡ true → next_word ws i ≡ j + 1 → IsMcsLock n ws (record l { line = going l.line i (Passing j) })
   sees j has_it word =
       let some_one : next_word ws i ≢ 0 = λ z. absurd (omega (arith, z, word)) in
       let t = lines.saw n ws l.line h.queued i below has_it some_one in
       let f = t.1 in
       let same : t.0 ≡ j = let w = f.word in omega (arith, w, word) in
-      record { queued = subst (λ (k : ℕ). Queued n ws (lined l.line.cpus l.line.out l.line.place i (Passing k))) same t.2; nexts = h.nexts }
+      record { queued = subst (λ (k : ℕ). IsMcsWords n ws (lined l.line.cpus l.line.out l.line.stage i (Passing k))) same t.2; nexts = h.nexts }
 
-  pub sees_none : l.line.place i ≡ Holding → TiedMcs n ws (record l { line = going l.line i Alone })
+  pub sees_none : l.line.stage i ≡ Holding → IsMcsLock n ws (record l { line = going l.line i Alone })
   sees_none e = record { queued = lines.saw_none n ws l.line h.queued i below e; nexts = h.nexts }
 
   -- a leaving holder that sees nobody stays where it is
-  pub still_none : l.line.place i ≡ Leaving → TiedMcs n ws (record l { line = going l.line i Leaving })
+  pub still_none : l.line.stage i ≡ Leaving → IsMcsLock n ws (record l { line = going l.line i Leaving })
   still_none e = record { queued = lines.replaced n ws l.line h.queued i below Leaving (words.stands_at n ws l.line h.queued i Leaving below e); nexts = h.nexts }
 
   -- the tail names i exactly where i is the last
@@ -195,33 +195,33 @@ module _ (n : ℕ) (ws : List ℕ) (l : Lock) (h : TiedMcs n ws l) (i : ℕ) (be
       by (Some k) e = ap (λ z. z + 1) (eqb-true k i e)
 
   -- the last, who has the object, is alone
-  pub alone_is : l.line.place i ≡ Alone → get_or ws 0 0 ≡ i + 1 → l.line.cpus ≡ i ∷ []
+  pub alone_is : l.line.stage i ≡ Alone → get_or ws 0 0 ≡ i + 1 → l.line.cpus ≡ i ∷ []
   alone_is e word =
       let head = holder_at (ap holding e) in
       let t = words.tail_at l.line.cpus i (sym h.queued.tail ∙ word) in
       let end : t.0 ≡ 0 = one_place n l.line.cpus h.queued.distinct t.0 0 i t.1 head in
       one_is l.line.cpus i head (t.2 ∙ ap suc end)
 
-  pub empties : l.line.place i ≡ Alone → get_or ws 0 0 ≡ i + 1 → TiedMcs n (set ws 0 0) (record l { line = leaving l.line i })
+  pub empties : l.line.stage i ≡ Alone → get_or ws 0 0 ≡ i + 1 → IsMcsLock n (set ws 0 0) (record l { line = leaving l.line i })
   empties e word = record {
-    queued = subst (λ (cpus : List ℕ). Queued n (set ws 0 0) (lined cpus false l.line.place i Idle)) (sym (ap behind (alone_is e word))) (lines.emptied n ws l.line h.queued i below e word);
+    queued = subst (λ (cpus : List ℕ). IsMcsWords n (set ws 0 0) (lined cpus false l.line.stage i Idle)) (sym (ap behind (alone_is e word))) (lines.emptied n ws l.line h.queued i below e word);
     nexts = nexts_stay 0 0 (λ x in_cell z. absurd (omega (arith, z)));
   }
 
-  pub stays_on : l.line.place i ≡ Alone → get_or ws 0 0 ≢ i + 1 → TiedMcs n ws (record l { line = going l.line i Leaving })
+  pub stays_on : l.line.stage i ≡ Alone → get_or ws 0 0 ≢ i + 1 → IsMcsLock n ws (record l { line = going l.line i Leaving })
   stays_on e other = record { queued = lines.left n ws l.line h.queued i below e (lines.more n ws l.line h.queued i below e other); nexts = h.nexts }
 
   -- the follower that i passes to
-  pub passes_to : (j : ℕ) → l.line.place i ≡ Passing j → (rest : List ℕ) × (l.line.cpus ≡ i ∷ j ∷ rest)
+  pub passes_to : (j : ℕ) → l.line.stage i ≡ Passing j → (rest : List ℕ) × (l.line.cpus ≡ i ∷ j ∷ rest)
   passes_to j e = lines.two n ws l.line h.queued i below j e
 
-  pub passes : (j : ℕ) → l.line.place i ≡ Passing j → TiedMcs n (set ws (1 + n + j) 0) (pass l i)
+  pub passes : (j : ℕ) → l.line.stage i ≡ Passing j → IsMcsLock n (set ws (1 + n + j) 0) (pass l i)
   passes j e =
       let r = passes_to j e in
       record {
-        queued = subst (λ (cpus : List ℕ). Queued n (set ws (1 + n + j) 0) (lined cpus false l.line.place i Idle)) (sym (ap behind r.1)) (lines.passed n ws l.line h.queued i below j r.0 e r.1);
+        queued = subst (λ (cpus : List ℕ). IsMcsWords n (set ws (1 + n + j) 0) (lined cpus false l.line.stage i Idle)) (sym (ap behind r.1)) (lines.passed n ws l.line h.queued i below j r.0 e r.1);
         nexts = nexts_stay (1 + n + j) 0 (λ x in_cell z. absurd (omega (arith, z, in_cell)));
       }
 
-  pub passing_below : (j : ℕ) → l.line.place i ≡ Passing j → j < n
+  pub passing_below : (j : ℕ) → l.line.stage i ≡ Passing j → j < n
   passing_below j e = let r = passes_to j e in words.in_cell n ws l.line h.queued 1 j (ap (λ cpus. get_elem? cpus 1) r.1)

@@ -7,12 +7,12 @@ use Rattle.atomic_table.specs.Table.{step, keeps, gives, rest, Allows, Splits, J
 use Rattle.atomic_table.proofs.Lists.{at_set}
 use Rattle.event_log.specs.declared.object.SeqObject.{Ghosts}
 use Rattle.event_log.specs.Distinct.{has}
-use Rattle.word_rule.specs.declared.place.Place.TheVariants.{Idle, Torn}
+use Rattle.word_rule.specs.declared.stage.Stage.TheVariants.{Idle, Torn}
 use Rattle.word_rule.specs.Cell.{Cell}
-use Rattle.word_rule.specs.Line.{Line, Ties, holding, lined}
-use Rattle.word_rule.specs.Board.{Board, Caller, Viewed, Table, EachFrom, Knows, KnowsAll, Ruled}
-use Rattle.word_rule.specs.Seats.{Seat, placed, settled, taken_in, idle, behind_first, first_or_none, spent, keeping, letting, merged}
-use Rattle.word_rule.specs.Told.{meets, joins, tears, clashes}
+use Rattle.word_rule.specs.Line.{Line, TieLaws, holding, lined}
+use Rattle.word_rule.specs.CellInvariant.{GhostState, Caller, Viewed, Table, EachFrom, CallerInvariant, SeatInvariant, CellInvariant}
+use Rattle.word_rule.specs.Seats.{Seat, with_stage, settled, taken_in, idle, behind_first, first_or_none, spent, keeping, letting, merged}
+use Rattle.word_rule.specs.Announced.{meets, joins, tears, clashes}
 use Rattle.word_rule.proofs.Lists.{each_map, has_append, at_snoc_at, grows_self}
 use Rattle.word_rule.proofs.Stays.{seats_stay, show_each, torn}
 use Rattle.word_rule.proofs.Known.{all_idle, learned}
@@ -54,23 +54,23 @@ together_there id k = let Q : Bool → Type 0 = λ t. ◌≡◌ {A = ℕ × ℕ}
 
 module _ {O P C R : Type 0} where
   -- the callers stand at other places of the seats
-  abbrev pub renamed : Board O P C R → (ℕ × ℕ → ℕ × ℕ) → Board O P C R
+  abbrev pub renamed : GhostState O P C R → (ℕ × ℕ → ℕ × ℕ) → GhostState O P C R
   renamed b f = record { committed = b.committed; line = b.line; owner = λ x. f (b.owner x) }
 
-module _ {O P C R : Type 0} (meaning : Ghosts O P C R) (Tied : ℕ → List ℕ → Line → Type 0) (h : Cell O P C R) where
+module _ {O P C R : Type 0} (meaning : Ghosts O P C R) (IsTied : ℕ → List ℕ → Line → Type 0) (h : Cell O P C R) where
   abbrev pub Rule : Table O P C R → Type 0
-  Rule = Ruled meaning Tied h
+  Rule = CellInvariant meaning IsTied h
 
   abbrev V : Type 0
   V = Viewed O P C R
 
-  abbrev K : Board O P C R → ℕ → ℕ → Caller O P C R → Type 0
-  K = Knows h.numbers
+  abbrev K : GhostState O P C R → ℕ → ℕ → Caller O P C R → Type 0
+  K = CallerInvariant h.numbers
 
-  abbrev All : Board O P C R → ℕ → V → Type 0
-  All b = KnowsAll h b
+  abbrev All : GhostState O P C R → ℕ → V → Type 0
+  All b = SeatInvariant h b
 
-  rename : (b : Board O P C R) (f : ℕ × ℕ → ℕ × ℕ) (j k j' k' : ℕ) (c : Caller O P C R) → ◌≡◌ {A = ℕ × ℕ} (f (j, k)) (j', k') → K b j k c → K (renamed b f) j' k' c
+  rename : (b : GhostState O P C R) (f : ℕ × ℕ → ℕ × ℕ) (j k j' k' : ℕ) (c : Caller O P C R) → ◌≡◌ {A = ℕ × ℕ} (f (j, k)) (j', k') → K b j k c → K (renamed b f) j' k' c
   rename b f j k j' k' c e s = record {
     owns = λ x hx. let o = s.owns x hx in (ap f o.0 ∙ e, o.1);
     grows = s.grows;
@@ -79,7 +79,7 @@ module _ {O P C R : Type 0} (meaning : Ghosts O P C R) (Tied : ℕ → List ℕ 
     rests = s.rests;
   }
 
-  blank_known : (b : Board O P C R) (j : ℕ) → K b j 0 (idle 0 [] [])
+  blank_known : (b : GhostState O P C R) (j : ℕ) → K b j 0 (idle 0 [] [])
   blank_known b j = record {
     owns = λ x hx. absurd (true≢false (sym hx));
     grows = record { begins = record { start = refl }; own = λ x hx. absurd (true≢false (sym hx)) };
@@ -89,7 +89,7 @@ module _ {O P C R : Type 0} (meaning : Ghosts O P C R) (Tied : ℕ → List ℕ 
   }
 
   -- what was known of a seat that isn't the one that changed
-  elsewhere : (b : Board O P C R) (f : ℕ × ℕ → ℕ × ℕ) (j : ℕ) (u : V) → ((k : ℕ) → ◌≡◌ {A = ℕ × ℕ} (f (j, k)) (j, k)) → All b j u → All (renamed b f) j u
+  elsewhere : (b : GhostState O P C R) (f : ℕ × ℕ → ℕ × ℕ) (j : ℕ) (u : V) → ((k : ℕ) → ◌≡◌ {A = ℕ × ℕ} (f (j, k)) (j, k)) → All b j u → All (renamed b f) j u
   elsewhere b f j u same a = record {
     told = a.told;
     main = rename b f j 0 j 0 u.main (same 0) a.main;
@@ -98,7 +98,7 @@ module _ {O P C R : Type 0} (meaning : Ghosts O P C R) (Tied : ℕ → List ℕ 
 
   pub joining : (id : ℕ) (v : V) (other : ℕ) (w : V) → v.others ≡ [] → w.others ≡ [] → Joins Rule id v other w (taken_in v w) spent
   joining id v other w alone alone' s r there apart theirs_at =
-      let b = r.board in
+      let b = r.state in
       let f = into id other in
       let b' = renamed b f in
       let gone : V = spent in
@@ -106,7 +106,7 @@ module _ {O P C R : Type 0} (meaning : Ghosts O P C R) (Tied : ℕ → List ℕ 
       let away : other ≢ id = apart in
       let theirs = r.each other w (⊎_elim {0, 0, 0} (λ (t : (other ≡ id) × (taken_in v w ≡ w)). absurd (away t.0)) (λ (t : (other ≢ id) × (get_elem? s.views other ≡ some w)). t.1) (at_set s.views id other (taken_in v w) w theirs_at)) in
       record {
-        board = b';
+        state = b';
         tied = r.tied;
         lawful = r.lawful;
         at_home = r.at_home;
@@ -123,22 +123,22 @@ module _ {O P C R : Type 0} (meaning : Ghosts O P C R) (Tied : ℕ → List ℕ 
             (at_set (set s.views id (taken_in v w)) other j gone u e);
       }
 
-  shift_up : (b : Board O P C R) (id n k : ℕ) (cs : List (Caller O P C R)) → EachFrom (K b id) (suc (suc k)) cs → EachFrom (K (renamed b (out_of id n)) id) (suc k) cs
+  shift_up : (b : GhostState O P C R) (id n k : ℕ) (cs : List (Caller O P C R)) → EachFrom (K b id) (suc (suc k)) cs → EachFrom (K (renamed b (out_of id n)) id) (suc k) cs
   shift_up b id n k [] e = tt
   shift_up b id n k (c ∷ cs) e = let Q : ℕ → Type 0 = λ z. EachFrom (K b id) z cs in let S : ℕ → Type 0 = λ z. EachFrom (K (renamed b (out_of id n)) id) z cs in let two : suc (suc k) + 1 ≡ suc (suc (suc k)) = omega arith in let one : suc k + 1 ≡ suc (suc k) = omega arith in
       (rename b (out_of id n) id (suc (suc k)) id (suc k) c (out_there id n (suc (suc k))) e.0, subst S (sym one) (shift_up b id n (suc k) cs (subst Q two e.1)))
 
-  rest_known : (b : Board O P C R) (id n : ℕ) (cs : List (Caller O P C R)) → EachFrom (K b id) 1 cs → EachFrom (K (renamed b (out_of id n)) id) 1 (behind_first cs)
+  rest_known : (b : GhostState O P C R) (id n : ℕ) (cs : List (Caller O P C R)) → EachFrom (K b id) 1 cs → EachFrom (K (renamed b (out_of id n)) id) 1 (behind_first cs)
   rest_known b id n [] e = tt
   rest_known b id n (c ∷ cs) e = shift_up b id n 0 cs e.1
 
-  first_known : (b : Board O P C R) (id n : ℕ) (cs : List (Caller O P C R)) → EachFrom (K b id) 1 cs → K (renamed b (out_of id n)) n 0 (first_or_none cs)
+  first_known : (b : GhostState O P C R) (id n : ℕ) (cs : List (Caller O P C R)) → EachFrom (K b id) 1 cs → K (renamed b (out_of id n)) n 0 (first_or_none cs)
   first_known b id n [] e = blank_known (renamed b (out_of id n)) n
   first_known b id n (c ∷ cs) e = rename b (out_of id n) id 1 n 0 c (out_there id n 1) e.0
 
   pub splitting : (id : ℕ) (v : V) → Splits Rule id v (keeping v) (letting v)
   splitting id v s r there =
-      let b = r.board in
+      let b = r.state in
       let n : ℕ = length s.views in
       let f = out_of id n in
       let b' = renamed b f in
@@ -147,7 +147,7 @@ module _ {O P C R : Type 0} (meaning : Ghosts O P C R) (Tied : ℕ → List ℕ 
       let mine = r.each id v there in
       let same : length (set s.views id keep) ≡ n = length-set s.views id keep in
       record {
-        board = b';
+        state = b';
         tied = r.tied;
         lawful = r.lawful;
         at_home = r.at_home;
@@ -170,18 +170,18 @@ module _ {O P C R : Type 0} (meaning : Ghosts O P C R) (Tied : ℕ → List ℕ 
 
   pub meeting : (slots id : ℕ) (me : Seat O P C R) (i : ℕ) → Allows Rule slots id me i (λ k. k) (meets meaning (step slots i 0 0 none) me)
   meeting slots id me i s r len there small =
-      let b = r.board in
+      let b = r.state in
       let v : V = me.0 in
       let mine = r.each id v there in (
-        settled v v.main.place b.committed,
+        settled v v.main.stage b.committed,
         keeps,
         tt,
         record {
-          board = b;
-          tied = subst (λ (ws : List ℕ). Tied h.numbers ws b.line) (sym (set-get_or s.words i 0)) r.tied;
+          state = b;
+          tied = subst (λ (ws : List ℕ). IsTied h.numbers ws b.line) (sym (set-get_or s.words i 0)) r.tied;
           lawful = r.lawful;
           at_home = r.at_home;
-          each = seats_stay h b b s.views id (settled v v.main.place b.committed)
+          each = seats_stay h b b s.views id (settled v v.main.stage b.committed)
               record {
                 told = mine.told;
                 main = let k = show_each h b id 0 (v.main ∷ []) (mine.main, tt) in k.0;
@@ -189,14 +189,14 @@ module _ {O P C R : Type 0} (meaning : Ghosts O P C R) (Tied : ℕ → List ℕ 
               }
               (λ j k c _ z. z) r.each;
         },
-        (b.committed, refl, learned meaning Tied h b id v r.lawful mine),
+        (b.committed, refl, learned meaning IsTied h b id v r.lawful mine),
       )
 
-  merged_known : (b : Board O P C R) (id : ℕ) (v : V) (c : Caller O P C R) → v.others ≡ c ∷ [] → v.main.place ≡ Idle → c.place ≡ Idle → All b id v → All (renamed b (together id)) id (merged v b.committed)
+  merged_known : (b : GhostState O P C R) (id : ℕ) (v : V) (c : Caller O P C R) → v.others ≡ c ∷ [] → v.main.stage ≡ Idle → c.stage ≡ Idle → All b id v → All (renamed b (together id)) id (merged v b.committed)
   merged_known b id v c is rests c_rests mine =
       let Q : List (Caller O P C R) → Type 0 = λ l. All (renamed b (together id)) id record { told = v.told; main = idle (min v.main.cpu (first_or_none l).cpu) (v.main.owned ++ (first_or_none l).owned) b.committed; others = [] } in
       let k = (subst (λ (l : List (Caller O P C R)). EachFrom (K b id) 1 l) is mine.others).0 in
-      let all : (x : ℕ) → has x (v.main.owned ++ c.owned) ≡ true → b.line.place x ≡ Idle = λ x hx. ⊎_elim {0, 0, 0} (all_idle h.numbers b id 0 v.main mine.main rests x) (all_idle h.numbers b id 1 c k c_rests x) (has_append x v.main.owned c.owned hx) in
+      let all : (x : ℕ) → has x (v.main.owned ++ c.owned) ≡ true → b.line.stage x ≡ Idle = λ x hx. ⊎_elim {0, 0, 0} (all_idle h.numbers b id 0 v.main mine.main rests x) (all_idle h.numbers b id 1 c k c_rests x) (has_append x v.main.owned c.owned hx) in
       subst Q (sym is) record {
         told = mine.told;
         main = record {
@@ -212,39 +212,39 @@ module _ {O P C R : Type 0} (meaning : Ghosts O P C R) (Tied : ℕ → List ℕ 
         others = tt;
       }
 
-  others_stay : (b b' : Board O P C R) (views : List V) (id : ℕ) (w : V) → All b' id w → ((j : ℕ) (v : V) → j ≢ id → All b j v → All b' j v)
+  others_stay : (b b' : GhostState O P C R) (views : List V) (id : ℕ) (w : V) → All b' id w → ((j : ℕ) (v : V) → j ≢ id → All b j v → All b' j v)
       → ((j : ℕ) (v : V) → get_elem? views j ≡ some v → All b j v) → (j : ℕ) (v : V) → get_elem? (set views id w) j ≡ some v → All b' j v
   others_stay b b' views id w mine carry each j v there = ⊎_elim {0, 0, 0}
       (λ (t : (j ≡ id) × (w ≡ v)). subst (λ (z : ℕ × V). All b' z.0 z.1) (λ i. (sym t.0 i, t.1 i)) mine)
       (λ (t : (j ≢ id) × (get_elem? views j ≡ some v)). carry j v t.0 (each j v t.1))
       (at_set views id j w v there)
 
-  pub merging : (slots id : ℕ) (me : Seat O P C R) (i : ℕ) (c : Caller O P C R) → me.0.main.place ≡ Idle → me.0.others ≡ c ∷ [] → c.place ≡ Idle → Allows Rule slots id me i (λ k. k) (joins meaning (step slots i 0 0 none) me)
+  pub merging : (slots id : ℕ) (me : Seat O P C R) (i : ℕ) (c : Caller O P C R) → me.0.main.stage ≡ Idle → me.0.others ≡ c ∷ [] → c.stage ≡ Idle → Allows Rule slots id me i (λ k. k) (joins meaning (step slots i 0 0 none) me)
   merging slots id me i c rests is c_rests s r len there small =
-      let b = r.board in
+      let b = r.state in
       let v : V = me.0 in
       let mine = r.each id v there in (
         merged v b.committed,
         keeps,
         tt,
         record {
-          board = renamed b (together id);
-          tied = subst (λ (ws : List ℕ). Tied h.numbers ws b.line) (sym (set-get_or s.words i 0)) r.tied;
+          state = renamed b (together id);
+          tied = subst (λ (ws : List ℕ). IsTied h.numbers ws b.line) (sym (set-get_or s.words i 0)) r.tied;
           lawful = r.lawful;
           at_home = r.at_home;
           each = others_stay b (renamed b (together id)) s.views id (merged v b.committed) (merged_known b id v c is rests c_rests mine)
               (λ j u away. elsewhere b (together id) j u (λ k. together_else id j k away)) r.each;
         },
-        (b.committed, refl, learned meaning Tied h b id v r.lawful mine),
+        (b.committed, refl, learned meaning IsTied h b id v r.lawful mine),
       )
 
-  module _ (ties : Ties Tied) where
+  module _ (ties : TieLaws IsTied) where
     -- a holder gives its slot back with no end of the hold
-    pub tearing : (slots id : ℕ) (me : Seat O P C R) (i : ℕ) → has me.0.main.cpu me.0.main.owned ≡ true → holding me.0.main.place ≡ true → me.1 ≡ (0, None) ∷ []
-        → ((ws : List ℕ) (l : Line) → Tied h.numbers ws l → me.0.main.cpu < h.numbers → l.place me.0.main.cpu ≡ me.0.main.place → Tied h.numbers ws (lined l.cpus l.out l.place me.0.main.cpu Torn))
+    pub tearing : (slots id : ℕ) (me : Seat O P C R) (i : ℕ) → has me.0.main.cpu me.0.main.owned ≡ true → holding me.0.main.stage ≡ true → me.1 ≡ (0, None) ∷ []
+        → ((ws : List ℕ) (l : Line) → IsTied h.numbers ws l → me.0.main.cpu < h.numbers → l.stage me.0.main.cpu ≡ me.0.main.stage → IsTied h.numbers ws (lined l.cpus l.out l.stage me.0.main.cpu Torn))
         → Allows Rule slots id me i (λ k. k) (tears (step slots i 0 0 none) me)
     tearing slots id me i acts holds carries moves s r len there small =
-        let b = r.board in
+        let b = r.state in
         let l = b.line in
         let v : V = me.0 in
         let p : ℕ = v.main.cpu in
@@ -252,19 +252,19 @@ module _ {O P C R : Type 0} (meaning : Ghosts O P C R) (Tied : ℕ → List ℕ 
         let below = (mine.main.owns p acts).1 in
         let here = mine.main.stands acts in
         let out : l.out ≡ true = ties.away h.numbers s.words l r.tied p below (ap holding here ∙ holds) in
-        let tied = subst (λ (ws : List ℕ). Tied h.numbers ws (lined l.cpus l.out l.place p Torn)) (sym (set-get_or s.words i 0)) (moves s.words l r.tied below here) in (
-          placed v Torn,
+        let tied = subst (λ (ws : List ℕ). IsTied h.numbers ws (lined l.cpus l.out l.stage p Torn)) (sym (set-get_or s.words i 0)) (moves s.words l r.tied below here) in (
+          with_stage v Torn,
           gives,
           tt,
-          torn meaning Tied h s r i (get_or s.words i 0) id v me.1 l.cpus Torn there acts out (λ _. mine.main.whole acts holds) tied,
-          λ z. (placed v Torn, rest (carries z)),
+          torn meaning IsTied h s r i (get_or s.words i 0) id v me.1 l.cpus Torn there acts out (λ _. mine.main.whole acts holds) tied,
+          λ z. (with_stage v Torn, rest (carries z)),
         )
 
     -- two holders of one cell can't be
-    pub clashing : (slots id : ℕ) (me : Seat O P C R) (i : ℕ) (c : Caller O P C R) → has me.0.main.cpu me.0.main.owned ≡ true → holding me.0.main.place ≡ true → me.0.others ≡ c ∷ [] → has c.cpu c.owned ≡ true → holding c.place ≡ true
+    pub clashing : (slots id : ℕ) (me : Seat O P C R) (i : ℕ) (c : Caller O P C R) → has me.0.main.cpu me.0.main.owned ≡ true → holding me.0.main.stage ≡ true → me.0.others ≡ c ∷ [] → has c.cpu c.owned ≡ true → holding c.stage ≡ true
         → Allows Rule slots id me i (λ k. k) (clashes (step slots i 0 0 none) me)
     clashing slots id me i c acts holds is c_acts c_holds s r len there small =
-        let b = r.board in
+        let b = r.state in
         let v : V = me.0 in
         let mine = r.each id v there in
         let k = (subst (λ (l : List (Caller O P C R)). EachFrom (K b id) 1 l) is mine.others).0 in

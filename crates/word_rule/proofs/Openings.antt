@@ -9,9 +9,9 @@ use Rattle.event_log.specs.declared.entry.Todo.{Todo}
 use Rattle.word_rule.specs.declared.machine.cell_spec.CellSpec.{CellSpec}
 use Rattle.word_rule.specs.declared.machine.lock_words.LockWords.{LockWords}
 use Rattle.word_rule.specs.declared.machine.progress.Progress.{Progress}
-use Rattle.word_rule.specs.LockWords.{ShowsLock}
+use Rattle.word_rule.specs.LockWords.{RepresentsLock}
 use Rattle.word_rule.specs.Opening.{opening_cell, opening_cpu, opening_world, IsOpening, IsOpeningCell}
-use Rattle.word_rule.specs.Shown.{Parts, ShowsCell, ShowsCpu, Shows, Runs, IsRoomy, FreshCpu, FreshDone, FreshLock, FreshLocks}
+use Rattle.word_rule.specs.Shown.{MachineParts, RepresentsCell, ShowsCpu, Represents, Runs, IsRoomy, FreshCpu, FreshDone, FreshLock, FreshLocks}
 use Rattle.word_rule.specs.Sound.{LogIsSound, done_on, steps_by, NoneAfterFull}
 use Rattle.word_rule.specs.SoundWorld.{SoundWorld, IsTodo, IsAnswer, entries_of, entries_by}
 use Rattle.word_rule.specs.World.{World, CellState, CpuState}
@@ -73,10 +73,10 @@ module _ {O P C R : Type 0} (cells : List (CellSpec O P C R)) (scripts : List (V
   }
 
   module _ (meaning : Ghosts O P C R) (locks : List LockWords) (done : List (Progress O P C R)) (fresh : FreshLocks meaning (length scripts) cells locks) (begun : FreshDone scripts done) where
-    abbrev M : Parts O P C R
+    abbrev M : MachineParts O P C R
     M = record { cells = cells; locks = locks; scripts = scripts; done = done }
 
-    pub opening_shows : Shows meaning M W
+    pub opening_shows : Represents meaning M W
     opening_shows = record {
       cells = sym cells_are;
       locks = AllZip-long (FreshLock meaning (length scripts)) cells locks fresh ∙ sym cells_are;
@@ -87,8 +87,8 @@ module _ {O P C R : Type 0} (cells : List (CellSpec O P C R)) (scripts : List (V
           let same = one_of a.0 spec (slice_get cells x) a.1 ea in
           let f = zip_at (FreshLock meaning (length scripts)) cells locks x spec words fresh ea eb in
           let is : opening_cell spec.kind spec.first spec.logged ≡ c = ap (λ (s : CellSpec O P C R). opening_cell s.kind s.first s.logged) (sym same) ∙ a.2 in
-          subst (λ k. ShowsCell meaning (length W.cpus) spec words k) is record {
-            lock = subst (λ n. ShowsLock n words.kind words.words.items words.places.items (opening_cell spec.kind spec.first spec.logged).lock) (sym cpus_are) f.lock;
+          subst (λ k. RepresentsCell meaning (length W.cpus) spec words k) is record {
+            lock = subst (λ n. RepresentsLock n words.kind words.words.items words.stages.items (opening_cell spec.kind spec.first spec.logged).lock) (sym cpus_are) f.lock;
             params = refl;
             limit = refl;
             log = refl;

@@ -2,7 +2,7 @@
 use Rattle.std.proofs.Common.{◌≡◌, ℕ, zero, suc, ◌<◌, ◌==◌, ◌||◌, true, refl, sym, ap, subst, ◌∙◌, arith}
 use Rattle.event_log.specs.History.{History}
 use Rattle.word_rule.specs.declared.lock_kind.LockKind.{LockKind}
-use Rattle.word_rule.specs.Cell.{Cell, Caller, Part, OwnsAll, OwnTogether, first_part}
+use Rattle.word_rule.specs.Cell.{Cell, Caller, PassView, OwnsAll, OwnTogether, first_pass}
 
 module _ {O P C R : Type 0} where
   -- two that stay who they are
@@ -23,38 +23,38 @@ module _ {O P C R : Type 0} where
 
 module _ {O P C R : Type 0} {kind : LockKind} where
   -- the only pass of a cell of one CPU
-  pub owns_alone : (x : History O P C R) (p : Part O P C R) → p ≡ first_part kind x 1 0 → OwnsAll p.caller
-  owns_alone x p is = subst (λ (z : Part O P C R). OwnsAll z.caller) (sym is) (record { each = alone })
+  pub owns_alone : (x : History O P C R) (p : PassView O P C R) → p ≡ first_pass kind x 1 0 → OwnsAll p.caller
+  owns_alone x p is = subst (λ (z : PassView O P C R). OwnsAll z.caller) (sym is) (record { each = alone })
     where
       alone : (k : ℕ) → k < 1 → (k == 0) ≡ true
       alone zero lt = refl
       alone (suc k) lt = absurd (omega arith)
 
   -- the two passes of a cell of two CPUs, in either order
-  pub own_both : (x : History O P C R) (p q : Part O P C R) → p ≡ first_part kind x 2 0 → q ≡ first_part kind x 2 1 → OwnTogether p.caller q.caller
-  own_both x p q first second = still_together (first_part kind x 2 0).caller p.caller (first_part kind x 2 1).caller q.caller (ap (λ z. z.caller) first) (ap (λ z. z.caller) second) each
+  pub own_both : (x : History O P C R) (p q : PassView O P C R) → p ≡ first_pass kind x 2 0 → q ≡ first_pass kind x 2 1 → OwnTogether p.caller q.caller
+  own_both x p q first second = still_together (first_pass kind x 2 0).caller p.caller (first_pass kind x 2 1).caller q.caller (ap (λ z. z.caller) first) (ap (λ z. z.caller) second) each
     where
-      each : OwnTogether (first_part kind x 2 0).caller (first_part kind x 2 1).caller
+      each : OwnTogether (first_pass kind x 2 0).caller (first_pass kind x 2 1).caller
       each zero lt = refl
       each (suc zero) lt = refl
       each (suc (suc k)) lt = absurd (omega arith)
 
-  pub own_both_turned : (x : History O P C R) (p q : Part O P C R) → p ≡ first_part kind x 2 0 → q ≡ first_part kind x 2 1 → OwnTogether q.caller p.caller
-  own_both_turned x p q first second = still_together (first_part kind x 2 1).caller q.caller (first_part kind x 2 0).caller p.caller (ap (λ z. z.caller) second) (ap (λ z. z.caller) first) each
+  pub own_both_turned : (x : History O P C R) (p q : PassView O P C R) → p ≡ first_pass kind x 2 0 → q ≡ first_pass kind x 2 1 → OwnTogether q.caller p.caller
+  own_both_turned x p q first second = still_together (first_pass kind x 2 1).caller q.caller (first_pass kind x 2 0).caller p.caller (ap (λ z. z.caller) second) (ap (λ z. z.caller) first) each
     where
-      each : OwnTogether (first_part kind x 2 1).caller (first_part kind x 2 0).caller
+      each : OwnTogether (first_pass kind x 2 1).caller (first_pass kind x 2 0).caller
       each zero lt = refl
       each (suc zero) lt = refl
       each (suc (suc k)) lt = absurd (omega arith)
 
   -- the four passes of a cell of four CPUs
-  pub own_four : (x : History O P C R) (p q r s : Part O P C R) → p ≡ first_part kind x 4 0 → q ≡ first_part kind x 4 1 → r ≡ first_part kind x 4 2 → s ≡ first_part kind x 4 3 →
+  pub own_four : (x : History O P C R) (p q r s : PassView O P C R) → p ≡ first_pass kind x 4 0 → q ≡ first_pass kind x 4 1 → r ≡ first_pass kind x 4 2 → s ≡ first_pass kind x 4 3 →
       (k : ℕ) → k < p.caller.cell.numbers → ((p.caller.owned k || q.caller.owned k) || (r.caller.owned k || s.caller.owned k)) ≡ true
   own_four x p q r s first second third fourth k lt =
-      subst (λ (z : Part O P C R). ((z.caller.owned k || q.caller.owned k) || (r.caller.owned k || s.caller.owned k)) ≡ true) (sym first)
-      (subst (λ (z : Part O P C R). (((k == 0) || z.caller.owned k) || (r.caller.owned k || s.caller.owned k)) ≡ true) (sym second)
-      (subst (λ (z : Part O P C R). (((k == 0) || (k == 1)) || (z.caller.owned k || s.caller.owned k)) ≡ true) (sym third)
-      (subst (λ (z : Part O P C R). (((k == 0) || (k == 1)) || ((k == 2) || z.caller.owned k)) ≡ true) (sym fourth) (each k (subst (λ (z : Part O P C R). k < z.caller.cell.numbers) first lt)))))
+      subst (λ (z : PassView O P C R). ((z.caller.owned k || q.caller.owned k) || (r.caller.owned k || s.caller.owned k)) ≡ true) (sym first)
+      (subst (λ (z : PassView O P C R). (((k == 0) || z.caller.owned k) || (r.caller.owned k || s.caller.owned k)) ≡ true) (sym second)
+      (subst (λ (z : PassView O P C R). (((k == 0) || (k == 1)) || (z.caller.owned k || s.caller.owned k)) ≡ true) (sym third)
+      (subst (λ (z : PassView O P C R). (((k == 0) || (k == 1)) || ((k == 2) || z.caller.owned k)) ≡ true) (sym fourth) (each k (subst (λ (z : PassView O P C R). k < z.caller.cell.numbers) first lt)))))
     where
       each : (k : ℕ) → k < 4 → (((k == 0) || (k == 1)) || ((k == 2) || (k == 3))) ≡ true
       each zero lt = refl

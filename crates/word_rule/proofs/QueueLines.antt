@@ -7,10 +7,10 @@ use lib.ListN.{get_elem?}
 use Rattle.atomic_table.proofs.Lists.{at_longer, at_last}
 use Rattle.event_log.specs.Distinct.{has, AreDistinctBelow}
 use Rattle.event_log.proofs.Distinct.{distinct_push}
-use Rattle.word_rule.specs.declared.place.Place.{Place}
-use Rattle.word_rule.specs.declared.place.Place.TheVariants.{Idle, Ready, Behind, Armed, Waiting, Holding, Alone, Leaving, Passing, Torn}
-use Rattle.word_rule.specs.Line.{Line, Ties, holding, lined, empty_line}
-use Rattle.word_rule.specs.Queues.{tail_of, next_word, locked_word, next_by, Follows, First, StandsInQueue, Queued}
+use Rattle.word_rule.specs.declared.stage.Stage.{Stage}
+use Rattle.word_rule.specs.declared.stage.Stage.TheVariants.{Idle, Ready, Behind, Armed, Waiting, Holding, Alone, Leaving, Passing, Torn}
+use Rattle.word_rule.specs.Line.{Line, TieLaws, holding, lined, empty_line}
+use Rattle.word_rule.specs.Queues.{tail_of, next_word, locked_word, next_by, Follows, First, StandsInQueue, IsMcsWords}
 use Rattle.word_rule.proofs.Lists.{has_at, at_below, below_of, one_place, false_from, there_is, one_at, not_at, two_are, one_is}
 use Rattle.word_rule.proofs.Stays.{each_moved}
 use Rattle.word_rule.proofs.QueueStands.{elsewhere, same_words, longer_queue, first_queue, taken_by, emptied_by, passed_by}
@@ -27,31 +27,31 @@ pub record Follower (n : ℕ) (ws : List ℕ) (l : Line) (p j : ℕ) : Type 0 wh
   pub other : j ≢ p
   pub word : next_word ws p ≡ j + 1
 
-module _ (n : ℕ) (ws : List ℕ) (l : Line) (r : Queued n ws l) (p : ℕ) (below : p < n) where
+module _ (n : ℕ) (ws : List ℕ) (l : Line) (r : IsMcsWords n ws l) (p : ℕ) (below : p < n) where
   -- only the place of p changes
-  pub replaced : (q : Place) → StandsInQueue n ws l.cpus l.out p q → Queued n ws (lined l.cpus l.out l.place p q)
+  pub replaced : (q : Stage) → StandsInQueue n ws l.cpus l.out p q → IsMcsWords n ws (lined l.cpus l.out l.stage p q)
   replaced q s = record {
     wide = r.wide;
     tail = r.tail;
     distinct = r.distinct;
     busy = r.busy;
     last = r.last;
-    stood = each_moved l.place (StandsInQueue n ws l.cpus l.out) n p q s (λ x in_cell _. r.stood x in_cell);
+    stood = each_moved l.stage (StandsInQueue n ws l.cpus l.out) n p q s (λ x in_cell _. r.stood x in_cell);
   }
 
   -- the place of p changes, and a word that isn't the tail
-  stored : (i v : ℕ) (q : Place) → i ≢ 0 → ((y : ℕ) → tail_of l.cpus ≡ y + 1 → next_word (set ws i v) y ≡ next_word ws y) → StandsInQueue n (set ws i v) l.cpus l.out p q
-      → ((x : ℕ) → x < n → x ≢ p → StandsInQueue n (set ws i v) l.cpus l.out x (l.place x)) → Queued n (set ws i v) (lined l.cpus l.out l.place p q)
+  stored : (i v : ℕ) (q : Stage) → i ≢ 0 → ((y : ℕ) → tail_of l.cpus ≡ y + 1 → next_word (set ws i v) y ≡ next_word ws y) → StandsInQueue n (set ws i v) l.cpus l.out p q
+      → ((x : ℕ) → x < n → x ≢ p → StandsInQueue n (set ws i v) l.cpus l.out x (l.stage x)) → IsMcsWords n (set ws i v) (lined l.cpus l.out l.stage p q)
   stored i v q ne end mine others = record {
     wide = length-set ws i v ∙ r.wide;
     tail = elsewhere ws i 0 v ne ∙ r.tail;
     distinct = r.distinct;
     busy = r.busy;
     last = λ y e. end y e ∙ r.last y e;
-    stood = each_moved l.place (StandsInQueue n (set ws i v) l.cpus l.out) n p q mine others;
+    stood = each_moved l.stage (StandsInQueue n (set ws i v) l.cpus l.out) n p q mine others;
   }
 
-  pub cleared : l.place p ≡ Idle → Queued n (set ws (1 + p) 0) (lined l.cpus l.out l.place p Ready)
+  pub cleared : l.stage p ≡ Idle → IsMcsWords n (set ws (1 + p) 0) (lined l.cpus l.out l.stage p Ready)
   cleared is =
       let ws' : List ℕ = set ws (1 + p) 0 in
       let s = stands_at n ws l r p Idle below is in
@@ -61,10 +61,10 @@ module _ (n : ℕ) (ws : List ℕ) (l : Line) (r : Queued n ws l) (p : ℕ) (bel
       stored (1 + p) 0 Ready (λ e. absurd (omega arith))
       (λ y e. let t = tail_at l.cpus y e in queued t.0 y t.1)
       (record { none = s.none; lock = locks p ∙ s.lock }, get_or-set_same ws (1 + p) 0 0 (let w = r.wide in omega arith))
-      (λ x in_cell ne. same_words n ws ws' l.cpus l.out x (locks x) (λ i y there _. queued i y there) (λ _. nexts x ne) (λ _. nexts x ne) (l.place x) (r.stood x in_cell))
+      (λ x in_cell ne. same_words n ws ws' l.cpus l.out x (locks x) (λ i y there _. queued i y there) (λ _. nexts x ne) (λ _. nexts x ne) (l.stage x) (r.stood x in_cell))
 
   -- a store to the tail changes no `next` and no `locked`
-  tail_only : (v x : ℕ) (cpus : List ℕ) (out : Bool) (q : Place) → StandsInQueue n ws cpus out x q → StandsInQueue n (set ws 0 v) cpus out x q
+  tail_only : (v x : ℕ) (cpus : List ℕ) (out : Bool) (q : Stage) → StandsInQueue n ws cpus out x q → StandsInQueue n (set ws 0 v) cpus out x q
   tail_only v x cpus out = same_words n ws (set ws 0 v) cpus out x (elsewhere ws 0 (1 + n + x) v (λ e. absurd (omega arith))) (λ _ y _ _. elsewhere ws 0 (1 + y) v (λ e. absurd (omega arith)))
       (λ _. elsewhere ws 0 (1 + x) v (λ e. absurd (omega arith))) (λ _. elsewhere ws 0 (1 + x) v (λ e. absurd (omega arith)))
 
@@ -72,7 +72,7 @@ module _ (n : ℕ) (ws : List ℕ) (l : Line) (r : Queued n ws l) (p : ℕ) (bel
   pub at_home : get_or ws 0 0 ≡ 0 → l.out ≡ false
   at_home nobody = false_from l.out (λ o. let some_one = r.busy o in let long : length l.cpus ≡ 0 = ap length (no_tail l.cpus (sym r.tail ∙ nobody)) in absurd (omega arith))
 
-  pub entered_first : l.place p ≡ Ready → get_or ws 0 0 ≡ 0 → Queued n (set ws 0 (p + 1)) (lined (p ∷ []) true l.place p Holding)
+  pub entered_first : l.stage p ≡ Ready → get_or ws 0 0 ≡ 0 → IsMcsWords n (set ws 0 (p + 1)) (lined (p ∷ []) true l.stage p Holding)
   entered_first is nobody =
       let ws' : List ℕ = set ws 0 (p + 1) in
       let s = stands_at n ws l r p Ready below is in
@@ -84,20 +84,20 @@ module _ (n : ℕ) (ws : List ℕ) (l : Line) (r : Queued n ws l) (p : ℕ) (bel
         distinct = (below, refl, tt);
         busy = λ _. omega arith;
         last = λ y e. let same : p ≡ y = omega arith in subst (λ (z : ℕ). next_word ws' z ≡ 0) same (elsewhere ws 0 (1 + p) (p + 1) (λ e. absurd (omega arith)) ∙ s.1);
-        stood = each_moved l.place (StandsInQueue n ws' (p ∷ []) true) n p Holding
+        stood = each_moved l.stage (StandsInQueue n ws' (p ∷ []) true) n p Holding
             (record { there = refl; object = refl; lock = elsewhere ws 0 (1 + n + p) (p + 1) (λ e. absurd (omega arith)) ∙ a.lock })
-            (λ x in_cell ne. tail_only (p + 1) x (p ∷ []) true (l.place x) (first_queue n ws l.out true x p ne (l.place x) (subst (λ (cpus : List ℕ). StandsInQueue n ws cpus l.out x (l.place x)) empty (r.stood x in_cell))));
+            (λ x in_cell ne. tail_only (p + 1) x (p ∷ []) true (l.stage x) (first_queue n ws l.out true x p ne (l.stage x) (subst (λ (cpus : List ℕ). StandsInQueue n ws cpus l.out x (l.stage x)) empty (r.stood x in_cell))));
       }
 
   -- where it names one, that is another
-  pub predecessor : l.place p ≡ Ready → get_or ws 0 0 ≢ 0 → (q : ℕ) × (get_or ws 0 0 ≡ q + 1) × (has q l.cpus ≡ true) × (q ≢ p)
+  pub predecessor : l.stage p ≡ Ready → get_or ws 0 0 ≢ 0 → (q : ℕ) × (get_or ws 0 0 ≡ q + 1) × (has q l.cpus ≡ true) × (q ≢ p)
   predecessor is some_one =
       let s = stands_at n ws l r p Ready below is in
       let a = s.0 in
       let t = tail_names n ws l r some_one in
       (t.0, t.1, t.2, λ e. true≢false (sym t.2 ∙ (ap (λ z. has z l.cpus) e ∙ a.none)))
 
-  pub entered : (q : ℕ) → l.place p ≡ Ready → get_or ws 0 0 ≡ q + 1 → Queued n (set ws 0 (p + 1)) (lined (l.cpus ++ p ∷ []) l.out l.place p (Behind q))
+  pub entered : (q : ℕ) → l.stage p ≡ Ready → get_or ws 0 0 ≡ q + 1 → IsMcsWords n (set ws 0 (p + 1)) (lined (l.cpus ++ p ∷ []) l.out l.stage p (Behind q))
   entered q is found =
       let ws' : List ℕ = set ws 0 (p + 1) in
       let longer : List ℕ = l.cpus ++ p ∷ [] in
@@ -112,7 +112,7 @@ module _ (n : ℕ) (ws : List ℕ) (l : Line) (r : Queued n ws l) (p : ℕ) (bel
         distinct = distinct_push n l.cpus p r.distinct below a.none;
         busy = λ _. omega (arith, length-append l.cpus (p ∷ []));
         last = λ y e. let f : p + 1 ≡ y + 1 = sym (tail_push l.cpus p) ∙ e in let same : p ≡ y = omega arith in subst (λ (z : ℕ). next_word ws' z ≡ 0) same (nexts p ∙ s.1);
-        stood = each_moved l.place (StandsInQueue n ws' longer l.out) n p (Behind q)
+        stood = each_moved l.stage (StandsInQueue n ws' longer l.out) n p (Behind q)
             (record {
               at = t.0;
               ahead = at_longer l.cpus (p ∷ []) t.0 q t.1;
@@ -120,10 +120,10 @@ module _ (n : ℕ) (ws : List ℕ) (l : Line) (r : Queued n ws l) (p : ℕ) (bel
               link = nexts q ∙ r.last q named;
               lock = elsewhere ws 0 (1 + n + p) (p + 1) (λ e. absurd (omega arith)) ∙ a.lock;
             })
-            (λ x in_cell ne. tail_only (p + 1) x longer l.out (l.place x) (longer_queue n ws l.cpus l.out x p ne (l.place x) (r.stood x in_cell)));
+            (λ x in_cell ne. tail_only (p + 1) x longer l.out (l.stage x) (longer_queue n ws l.cpus l.out x p ne (l.stage x) (r.stood x in_cell)));
       }
 
-  pub armed : (q : ℕ) → l.place p ≡ Behind q → Queued n (set ws (1 + n + p) 1) (lined l.cpus l.out l.place p (Armed q))
+  pub armed : (q : ℕ) → l.stage p ≡ Behind q → IsMcsWords n (set ws (1 + n + p) 1) (lined l.cpus l.out l.stage p (Armed q))
   armed q is =
       let ws' : List ℕ = set ws (1 + n + p) 1 in
       let s = stands_at n ws l r p (Behind q) below is in
@@ -133,9 +133,9 @@ module _ (n : ℕ) (ws : List ℕ) (l : Line) (r : Queued n ws l) (p : ℕ) (bel
       stored (1 + n + p) 1 (Armed q) (λ e. absurd (omega arith))
       (λ y e. let t = tail_at l.cpus y e in queued t.0 y t.1)
       record { at = s.at; ahead = s.ahead; there = s.there; link = queued s.at q s.ahead ∙ s.link; lock = get_or-set_same ws (1 + n + p) 1 0 (let w = r.wide in omega arith) }
-      (λ x in_cell ne. same_words n ws ws' l.cpus l.out x (locks x ne) (λ i y there _. queued i y there) (λ _. nexts x in_cell) (λ _. nexts x in_cell) (l.place x) (r.stood x in_cell))
+      (λ x in_cell ne. same_words n ws ws' l.cpus l.out x (locks x ne) (λ i y there _. queued i y there) (λ _. nexts x in_cell) (λ _. nexts x in_cell) (l.stage x) (r.stood x in_cell))
 
-  pub linked : (q : ℕ) → l.place p ≡ Armed q → Queued n (set ws (1 + q) (p + 1)) (lined l.cpus l.out l.place p Waiting)
+  pub linked : (q : ℕ) → l.stage p ≡ Armed q → IsMcsWords n (set ws (1 + q) (p + 1)) (lined l.cpus l.out l.stage p Waiting)
   linked q is =
       let ws' : List ℕ = set ws (1 + q) (p + 1) in
       let s = stands_at n ws l r p (Armed q) below is in
@@ -150,24 +150,24 @@ module _ (n : ℕ) (ws : List ℕ) (l : Line) (r : Queued n ws l) (p : ℕ) (bel
       (λ i y ahead there. nexts y (λ is_q. ne (one_at l.cpus x p (ap suc (place_of i y ahead is_q)) there s.there)))
       (λ absent. nexts x (not_at l.cpus s.at x q absent s.ahead))
       (λ some_one. nexts x (λ is_q. some_one (ap (next_word ws) is_q ∙ s.link)))
-      (l.place x) (r.stood x in_cell))
+      (l.stage x) (r.stood x in_cell))
 
   -- one that p is behind is another
   pub behind : (q a b : ℕ) → Follows n ws l.cpus p q a b → (has q l.cpus ≡ true) × (q ≢ p)
   behind q a b s = (has_at l.cpus s.at q s.ahead, λ e. let k = one_place n l.cpus r.distinct s.at (suc s.at) p (s.ahead ∙ ap some e) s.there in absurd (omega arith))
 
   -- where `locked` is 0, p is the first, and the object is at home
-  pub free : l.place p ≡ Waiting → locked_word n ws p ≡ 0 → First n ws l.cpus l.out p false
+  pub free : l.stage p ≡ Waiting → locked_word n ws p ≡ 0 → First n ws l.cpus l.out p false
   free is zero_now = ⊎_elim {0, 0, 0} (λ t. let f = t.1 in let z : 0 ≡ 1 = sym zero_now ∙ f.lock in absurd (omega arith)) (λ f. f) (stands_at n ws l r p Waiting below is)
 
   -- where it isn't, another is ahead
-  pub ahead : l.place p ≡ Waiting → locked_word n ws p ≢ 0 → (q : ℕ) × (has q l.cpus ≡ true) × (q ≢ p)
+  pub ahead : l.stage p ≡ Waiting → locked_word n ws p ≢ 0 → (q : ℕ) × (has q l.cpus ≡ true) × (q ≢ p)
   ahead is some_one = ⊎_elim {0, 0, 0}
       (λ t. let b = behind t.0 (p + 1) 1 t.1 in (t.0, b.0, b.1))
       (λ f. absurd (some_one f.lock))
       (stands_at n ws l r p Waiting below is)
 
-  pub looked : First n ws l.cpus l.out p false → Queued n ws (lined l.cpus true l.place p Holding)
+  pub looked : First n ws l.cpus l.out p false → IsMcsWords n ws (lined l.cpus true l.stage p Holding)
   looked f =
       let some_one = at_below l.cpus 0 p f.there in
       record {
@@ -176,30 +176,30 @@ module _ (n : ℕ) (ws : List ℕ) (l : Line) (r : Queued n ws l) (p : ℕ) (bel
         distinct = r.distinct;
         busy = λ _. some_one;
         last = r.last;
-        stood = each_moved l.place (StandsInQueue n ws l.cpus true) n p Holding
+        stood = each_moved l.stage (StandsInQueue n ws l.cpus true) n p Holding
             (record { there = f.there; object = refl; lock = f.lock })
-            (λ x in_cell ne. taken_by n ws l.cpus x p ne f.there (l.place x) (subst (λ (o : Bool). StandsInQueue n ws l.cpus o x (l.place x)) f.object (r.stood x in_cell)));
+            (λ x in_cell ne. taken_by n ws l.cpus x p ne f.there (l.stage x) (subst (λ (o : Bool). StandsInQueue n ws l.cpus o x (l.stage x)) f.object (r.stood x in_cell)));
       }
 
-  pub torn : holding (l.place p) ≡ true → Queued n ws (lined l.cpus l.out l.place p Torn)
+  pub torn : holding (l.stage p) ≡ true → IsMcsWords n ws (lined l.cpus l.out l.stage p Torn)
   torn has_it = replaced Torn (first_holds n ws l r p below has_it)
 
   -- where the `next` of the holder p isn't 0, it names the second
-  pub saw : holding (l.place p) ≡ true → next_word ws p ≢ 0 → (j : ℕ) × Follower n ws l p j × Queued n ws (lined l.cpus l.out l.place p (Passing j))
+  pub saw : holding (l.stage p) ≡ true → next_word ws p ≢ 0 → (j : ℕ) × Follower n ws l p j × IsMcsWords n ws (lined l.cpus l.out l.stage p (Passing j))
   saw has_it some_one =
       let f = first_holds n ws l r p below has_it in
       let t = next_names n ws l r 0 p f.there some_one in
       (t.0, record { second = t.1; other = not_both n ws l r p t.0 f.there t.1; word = t.2 }, replaced (Passing t.0) (f, t.1, t.2))
 
-  pub saw_none : l.place p ≡ Holding → Queued n ws (lined l.cpus l.out l.place p Alone)
+  pub saw_none : l.stage p ≡ Holding → IsMcsWords n ws (lined l.cpus l.out l.stage p Alone)
   saw_none is = replaced Alone (stands_at n ws l r p Holding below is)
 
   -- one that waits in the second place has linked itself to the first
-  pub second : (y : ℕ) → holding (l.place p) ≡ true → get_elem? l.cpus 1 ≡ some y → l.place y ≡ Waiting → next_word ws p ≡ y + 1
+  pub second : (y : ℕ) → holding (l.stage p) ≡ true → get_elem? l.cpus 1 ≡ some y → l.stage y ≡ Waiting → next_word ws p ≡ y + 1
   second y has_it there waits = let f = first_holds n ws l r p below has_it in next_is n ws l r 0 p y f.there there ∙ ap (λ q. next_by q y) waits
 
   -- the tail names p, so p is alone
-  pub emptied : l.place p ≡ Alone → get_or ws 0 0 ≡ p + 1 → Queued n (set ws 0 0) (lined [] false l.place p Idle)
+  pub emptied : l.stage p ≡ Alone → get_or ws 0 0 ≡ p + 1 → IsMcsWords n (set ws 0 0) (lined [] false l.stage p Idle)
   emptied is last_now =
       let ws' : List ℕ = set ws 0 0 in
       let s = stands_at n ws l r p Alone below is in
@@ -212,32 +212,32 @@ module _ (n : ℕ) (ws : List ℕ) (l : Line) (r : Queued n ws l) (p : ℕ) (bel
         distinct = tt;
         busy = λ e. absurd (true≢false (sym e));
         last = λ y e. let z : 0 ≡ y + 1 = e in absurd (omega arith);
-        stood = each_moved l.place (StandsInQueue n ws' [] false) n p Idle
+        stood = each_moved l.stage (StandsInQueue n ws' [] false) n p Idle
             (record { none = refl; lock = elsewhere ws 0 (1 + n + p) 0 (λ e. absurd (omega arith)) ∙ s.lock })
-            (λ x in_cell ne. tail_only 0 x [] false (l.place x) (emptied_by n ws l.out x p ne (l.place x) (subst (λ (cpus : List ℕ). StandsInQueue n ws cpus l.out x (l.place x)) one (r.stood x in_cell))));
+            (λ x in_cell ne. tail_only 0 x [] false (l.stage x) (emptied_by n ws l.out x p ne (l.stage x) (subst (λ (cpus : List ℕ). StandsInQueue n ws cpus l.out x (l.stage x)) one (r.stood x in_cell))));
       }
 
   -- the tail names another, so p isn't the last
-  pub more : l.place p ≡ Alone → get_or ws 0 0 ≢ p + 1 → 1 < length l.cpus
+  pub more : l.stage p ≡ Alone → get_or ws 0 0 ≢ p + 1 → 1 < length l.cpus
   more is other =
       let s = stands_at n ws l r p Alone below is in
       let some_one = at_below l.cpus 0 p s.there in
       dite (ℕ_discrete (length l.cpus) 1) (λ one. absurd (other (r.tail ∙ at_tail l.cpus 0 p s.there one))) (λ not. omega arith)
 
-  pub left : l.place p ≡ Alone → 1 < length l.cpus → Queued n ws (lined l.cpus l.out l.place p Leaving)
+  pub left : l.stage p ≡ Alone → 1 < length l.cpus → IsMcsWords n ws (lined l.cpus l.out l.stage p Leaving)
   left is longer = replaced Leaving (stands_at n ws l r p Alone below is, longer)
 
-  pub follower : (j : ℕ) → l.place p ≡ Passing j → Follower n ws l p j
+  pub follower : (j : ℕ) → l.stage p ≡ Passing j → Follower n ws l p j
   follower j is =
       let s = stands_at n ws l r p (Passing j) below is in
       let f = s.0 in
       record { second = s.1; other = not_both n ws l r p j f.there s.1; word = s.2 }
 
-  pub two : (j : ℕ) → l.place p ≡ Passing j → (rest : List ℕ) × (l.cpus ≡ p ∷ j ∷ rest)
+  pub two : (j : ℕ) → l.stage p ≡ Passing j → (rest : List ℕ) × (l.cpus ≡ p ∷ j ∷ rest)
   two j is = let s = stands_at n ws l r p (Passing j) below is in let f = s.0 in two_are l.cpus p j f.there s.1
 
   -- p passes to the second
-  pub passed : (j : ℕ) (rest : List ℕ) → l.place p ≡ Passing j → l.cpus ≡ p ∷ j ∷ rest → Queued n (set ws (1 + n + j) 0) (lined (j ∷ rest) false l.place p Idle)
+  pub passed : (j : ℕ) (rest : List ℕ) → l.stage p ≡ Passing j → l.cpus ≡ p ∷ j ∷ rest → IsMcsWords n (set ws (1 + n + j) 0) (lined (j ∷ rest) false l.stage p Idle)
   passed j rest is both =
       let ws' : List ℕ = set ws (1 + n + j) 0 in
       let s = stands_at n ws l r p (Passing j) below is in
@@ -253,13 +253,13 @@ module _ (n : ℕ) (ws : List ℕ) (l : Line) (r : Queued n ws l) (p : ℕ) (bel
         distinct = d.2;
         busy = λ e. absurd (true≢false (sym e));
         last = λ y e. let t = tail_at (j ∷ rest) y e in nexts y (below_of n (j ∷ rest) d.2 y (has_at (j ∷ rest) t.0 y t.1)) ∙ r.last y (ap tail_of both ∙ e);
-        stood = each_moved l.place (StandsInQueue n ws' (j ∷ rest) false) n p Idle
+        stood = each_moved l.stage (StandsInQueue n ws' (j ∷ rest) false) n p Idle
             (record { none = d.1; lock = locks p (not_at (j ∷ rest) 0 p j d.1 refl) ∙ f.lock })
-            (λ x in_cell ne. passed_by n ws ws' l.out p j rest x ne in_cell d s.2 (get_or-set_same ws (1 + n + j) 0 0 (omega arith)) locks nexts (l.place x)
-            (subst (λ (cpus : List ℕ). StandsInQueue n ws cpus l.out x (l.place x)) both (r.stood x in_cell)));
+            (λ x in_cell ne. passed_by n ws ws' l.out p j rest x ne in_cell d s.2 (get_or-set_same ws (1 + n + j) 0 0 (omega arith)) locks nexts (l.stage x)
+            (subst (λ (cpus : List ℕ). StandsInQueue n ws cpus l.out x (l.stage x)) both (r.stood x in_cell)));
       }
 
-pub queue_ties : Ties Queued
+pub queue_ties : TieLaws IsMcsWords
 queue_ties = record {
   single = λ n ws l r x y x_below y_below a b. dite (ℕ_discrete x y) (λ e. e) (λ ne. absurd (only_one n ws l r x x_below a y y_below (λ e. ne (sym e)) b));
   away = λ n ws l r x below has_it. let f = first_holds n ws l r x below has_it in f.object;
@@ -272,7 +272,7 @@ queue_ties = record {
 }
 
 -- the words of a new lock
-pub queue_starts : (n : ℕ) (ws : List ℕ) → length ws ≡ 1 + 2 * n → ((i : ℕ) → get_or ws i 0 ≡ 0) → Queued n ws empty_line
+pub queue_starts : (n : ℕ) (ws : List ℕ) → length ws ≡ 1 + 2 * n → ((i : ℕ) → get_or ws i 0 ≡ 0) → IsMcsWords n ws empty_line
 queue_starts n ws wide zeros = record {
   wide = wide;
   tail = zeros 0;

@@ -4,8 +4,8 @@ use mathlib.Core.Option.{some, some-injective, some-ne-none}
 use lib.ListN.{get_elem?}
 use Rattle.atomic_table.proofs.Lists.{at_longer}
 use Rattle.event_log.specs.Distinct.{has, AreDistinctBelow}
-use Rattle.word_rule.specs.declared.place.Place.{Place}
-use Rattle.word_rule.specs.declared.place.Place.TheVariants.{Idle, Drawn, Served, Ready, Behind, Armed, Waiting, Holding, Alone, Leaving, Passing, Torn}
+use Rattle.word_rule.specs.declared.stage.Stage.{Stage}
+use Rattle.word_rule.specs.declared.stage.Stage.TheVariants.{Idle, Drawn, Served, Ready, Behind, Armed, Waiting, Holding, Alone, Leaving, Passing, Torn}
 use Rattle.word_rule.specs.Line.{holding}
 use Rattle.word_rule.specs.Queues.{next_word, locked_word, next_by, Follows, First, Apart, StandsInQueue}
 use Rattle.word_rule.proofs.Lists.{has_tail, has_push, has_at, below_of, one_place, not_at}
@@ -25,7 +25,7 @@ module _ (n : ℕ) (ws ws' cpus cpus' : List ℕ) (out out' : Bool) (x : ℕ) wh
     longer : First n ws cpus out x true → 1 < length cpus → 1 < length cpus'
     second : (j : ℕ) → First n ws cpus out x true → get_elem? cpus 1 ≡ some j → next_word ws x ≡ j + 1 → (get_elem? cpus' 1 ≡ some j) × (next_word ws' x ≡ j + 1)
 
-  carried : Carries → (q : Place) → StandsInQueue n ws cpus out x q → StandsInQueue n ws' cpus' out' x q
+  carried : Carries → (q : Stage) → StandsInQueue n ws cpus out x q → StandsInQueue n ws' cpus' out' x q
   carried c Idle s = c.apart s
   carried c (Drawn t) s = absurd s
   carried c (Served t) s = absurd s
@@ -42,7 +42,7 @@ module _ (n : ℕ) (ws ws' cpus cpus' : List ℕ) (out out' : Bool) (x : ℕ) wh
 -- the words change, and none that says where x stands
 pub same_words : (n : ℕ) (ws ws' cpus : List ℕ) (out : Bool) (x : ℕ) → locked_word n ws' x ≡ locked_word n ws x
     → ((i p : ℕ) → get_elem? cpus i ≡ some p → get_elem? cpus (suc i) ≡ some x → next_word ws' p ≡ next_word ws p) → (has x cpus ≡ false → next_word ws' x ≡ next_word ws x)
-    → (next_word ws x ≢ 0 → next_word ws' x ≡ next_word ws x) → (q : Place) → StandsInQueue n ws cpus out x q → StandsInQueue n ws' cpus out x q
+    → (next_word ws x ≢ 0 → next_word ws' x ≡ next_word ws x) → (q : Stage) → StandsInQueue n ws cpus out x q → StandsInQueue n ws' cpus out x q
 same_words n ws ws' cpus out x lock links free named = carried n ws ws' cpus cpus out out x record {
   apart = λ s. record { none = s.none; lock = lock ∙ s.lock };
   ready = free;
@@ -57,7 +57,7 @@ same_words n ws ws' cpus out x lock links free named = carried n ws ws' cpus cpu
     follows p a b s = record { at = s.at; ahead = s.ahead; there = s.there; link = links s.at p s.ahead s.there ∙ s.link; lock = lock ∙ s.lock }
 
 -- the queue grows at its end by another
-pub longer_queue : (n : ℕ) (ws cpus : List ℕ) (out : Bool) (x p : ℕ) → x ≢ p → (q : Place) → StandsInQueue n ws cpus out x q → StandsInQueue n ws (cpus ++ p ∷ []) out x q
+pub longer_queue : (n : ℕ) (ws cpus : List ℕ) (out : Bool) (x p : ℕ) → x ≢ p → (q : Stage) → StandsInQueue n ws cpus out x q → StandsInQueue n ws (cpus ++ p ∷ []) out x q
 longer_queue n ws cpus out x p ne = carried n ws ws cpus (cpus ++ p ∷ []) out out x record {
   apart = λ s. record { none = has_push x p cpus s.none ne; lock = s.lock };
   ready = λ _. refl;
@@ -72,7 +72,7 @@ longer_queue n ws cpus out x p ne = carried n ws ws cpus (cpus ++ p ∷ []) out 
     follows q a b s = record { at = s.at; ahead = at_longer cpus (p ∷ []) s.at q s.ahead; there = at_longer cpus (p ∷ []) (suc s.at) x s.there; link = s.link; lock = s.lock }
 
 -- p enters an empty queue
-pub first_queue : (n : ℕ) (ws : List ℕ) (out out' : Bool) (x p : ℕ) → x ≢ p → (q : Place) → StandsInQueue n ws [] out x q → StandsInQueue n ws (p ∷ []) out' x q
+pub first_queue : (n : ℕ) (ws : List ℕ) (out out' : Bool) (x p : ℕ) → x ≢ p → (q : Stage) → StandsInQueue n ws [] out x q → StandsInQueue n ws (p ∷ []) out' x q
 first_queue n ws out out' x p ne = carried n ws ws [] (p ∷ []) out out' x record {
   apart = λ s. record { none = has_push x p [] refl ne; lock = s.lock };
   ready = λ _. refl;
@@ -87,7 +87,7 @@ first_queue n ws out out' x p ne = carried n ws ws [] (p ∷ []) out out' x reco
     nobody i y there = absurd (some-ne-none y (sym there))
 
 -- the object goes to p, the first
-pub taken_by : (n : ℕ) (ws cpus : List ℕ) (x p : ℕ) → x ≢ p → get_elem? cpus 0 ≡ some p → (q : Place) → StandsInQueue n ws cpus false x q → StandsInQueue n ws cpus true x q
+pub taken_by : (n : ℕ) (ws cpus : List ℕ) (x p : ℕ) → x ≢ p → get_elem? cpus 0 ≡ some p → (q : Stage) → StandsInQueue n ws cpus false x q → StandsInQueue n ws cpus true x q
 taken_by n ws cpus x p ne head = carried n ws ws cpus cpus false true x record {
   apart = λ s. s;
   ready = λ _. refl;
@@ -99,7 +99,7 @@ taken_by n ws cpus x p ne head = carried n ws ws cpus cpus false true x record {
 }
 
 -- p, alone in the queue, leaves it
-pub emptied_by : (n : ℕ) (ws : List ℕ) (out : Bool) (x p : ℕ) → x ≢ p → (q : Place) → StandsInQueue n ws (p ∷ []) out x q → StandsInQueue n ws [] false x q
+pub emptied_by : (n : ℕ) (ws : List ℕ) (out : Bool) (x p : ℕ) → x ≢ p → (q : Stage) → StandsInQueue n ws (p ∷ []) out x q → StandsInQueue n ws [] false x q
 emptied_by n ws out x p ne = carried n ws ws (p ∷ []) [] out false x record {
   apart = λ s. record { none = refl; lock = s.lock };
   ready = λ _. refl;
@@ -119,7 +119,7 @@ emptied_by n ws out x p ne = carried n ws ws (p ∷ []) [] out false x record {
 -- p, the first, passes to j, the second, whose `locked` is 0 now
 pub passed_by : (n : ℕ) (ws ws' : List ℕ) (out : Bool) (p j : ℕ) (rest : List ℕ) (x : ℕ) → x ≢ p → x < n → AreDistinctBelow n (p ∷ j ∷ rest) → next_word ws p ≡ j + 1 → locked_word n ws' j ≡ 0
     → ((y : ℕ) → y ≢ j → locked_word n ws' y ≡ locked_word n ws y) → ((y : ℕ) → y < n → next_word ws' y ≡ next_word ws y)
-    → (q : Place) → StandsInQueue n ws (p ∷ j ∷ rest) out x q → StandsInQueue n ws' (j ∷ rest) false x q
+    → (q : Stage) → StandsInQueue n ws (p ∷ j ∷ rest) out x q → StandsInQueue n ws' (j ∷ rest) false x q
 passed_by n ws ws' out p j rest x ne below d named free locks nexts = carried n ws ws' line (j ∷ rest) out false x record {
   apart = λ s. record { none = has_tail x p (j ∷ rest) s.none; lock = locks x (not_at line 1 x j s.none refl) ∙ s.lock };
   ready = λ _. nexts x below;
@@ -156,7 +156,7 @@ passed_by n ws ws' out p j rest x ne below d named free locks nexts = carried n 
 
 module _ (n : ℕ) (ws cpus : List ℕ) (out : Bool) (x : ℕ) where
   -- one that has the object is the first
-  pub first_if : (q : Place) → holding q ≡ true → StandsInQueue n ws cpus out x q → First n ws cpus out x true
+  pub first_if : (q : Stage) → holding q ≡ true → StandsInQueue n ws cpus out x q → First n ws cpus out x true
   first_if Idle e s = absurd (true≢false (sym e))
   first_if (Drawn t) e s = absurd s
   first_if (Served t) e s = absurd s
@@ -171,10 +171,10 @@ module _ (n : ℕ) (ws cpus : List ℕ) (out : Bool) (x : ℕ) where
   first_if Torn e s = s
 
   -- one in the queue is the first, or behind another
-  abbrev pub StandsIn : Place → Type 0
+  abbrev pub StandsIn : Stage → Type 0
   StandsIn q = ((o : Bool) × First n ws cpus out x o) ⊎ ((p a : ℕ) × Follows n ws cpus x p (next_by q x) a)
 
-  pub stands_in : (q : Place) → has x cpus ≡ true → StandsInQueue n ws cpus out x q → StandsIn q
+  pub stands_in : (q : Stage) → has x cpus ≡ true → StandsInQueue n ws cpus out x q → StandsIn q
   stands_in Idle e s = absurd (true≢false (sym e ∙ s.none))
   stands_in (Drawn t) e s = absurd s
   stands_in (Served t) e s = absurd s

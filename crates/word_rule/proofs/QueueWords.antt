@@ -5,10 +5,10 @@ use mathlib.Core.Option.{some, some-injective, some-ne-none}
 use native.Mathlib.Decide.{ℕ_discrete}
 use lib.ListN.{get_elem?}
 use Rattle.event_log.specs.Distinct.{has, AreDistinctBelow}
-use Rattle.word_rule.specs.declared.place.Place.{Place}
-use Rattle.word_rule.specs.declared.place.Place.TheVariants.{Idle, Drawn, Served, Ready, Behind, Armed, Waiting, Holding, Alone, Leaving, Passing, Torn}
+use Rattle.word_rule.specs.declared.stage.Stage.{Stage}
+use Rattle.word_rule.specs.declared.stage.Stage.TheVariants.{Idle, Drawn, Served, Ready, Behind, Armed, Waiting, Holding, Alone, Leaving, Passing, Torn}
 use Rattle.word_rule.specs.Line.{Line, holding, is_first}
-use Rattle.word_rule.specs.Queues.{tail_of, next_word, locked_word, next_by, locked_at, is_linked, is_armed, Follows, First, StandsInQueue, Queued}
+use Rattle.word_rule.specs.Queues.{tail_of, next_word, locked_word, next_by, locked_at, is_linked, is_armed, Follows, First, StandsInQueue, IsMcsWords}
 use Rattle.word_rule.proofs.Lists.{has_at, at_below, below_of, one_place, there_is, one_at}
 use Rattle.word_rule.proofs.QueueStands.{first_if, stands_in}
 
@@ -54,7 +54,7 @@ module _ (n : ℕ) (ws cpus : List ℕ) (out : Bool) (x : ℕ) (d : AreDistinctB
   still : (p a : ℕ) → Follows n ws cpus x p a 1 → locked_word n ws x ≡ cond (not (is_first x cpus)) 1 0
   still p a s = s.lock ∙ sym (ap (λ b. cond (not b) 1 0) (first_no n cpus s.at x d s.there))
 
-  locked_by : (q : Place) → StandsInQueue n ws cpus out x q → locked_word n ws x ≡ cond (is_armed q && not (is_first x cpus)) 1 0
+  locked_by : (q : Stage) → StandsInQueue n ws cpus out x q → locked_word n ws x ≡ cond (is_armed q && not (is_first x cpus)) 1 0
   locked_by Idle s = s.lock
   locked_by (Drawn t) s = absurd s
   locked_by (Served t) s = absurd s
@@ -68,21 +68,21 @@ module _ (n : ℕ) (ws cpus : List ℕ) (out : Bool) (x : ℕ) (d : AreDistinctB
   locked_by (Passing j) s = let f = s.0 in f.lock
   locked_by Torn s = s.lock
 
-module _ (n : ℕ) (ws : List ℕ) (l : Line) (r : Queued n ws l) where
-  pub stands_at : (x : ℕ) (q : Place) → x < n → l.place x ≡ q → StandsInQueue n ws l.cpus l.out x q
+module _ (n : ℕ) (ws : List ℕ) (l : Line) (r : IsMcsWords n ws l) where
+  pub stands_at : (x : ℕ) (q : Stage) → x < n → l.stage x ≡ q → StandsInQueue n ws l.cpus l.out x q
   stands_at x q below is = subst (StandsInQueue n ws l.cpus l.out x) is (r.stood x below)
 
-  pub first_holds : (x : ℕ) → x < n → holding (l.place x) ≡ true → First n ws l.cpus l.out x true
-  first_holds x below has_it = first_if n ws l.cpus l.out x (l.place x) has_it (r.stood x below)
+  pub first_holds : (x : ℕ) → x < n → holding (l.stage x) ≡ true → First n ws l.cpus l.out x true
+  first_holds x below has_it = first_if n ws l.cpus l.out x (l.stage x) has_it (r.stood x below)
 
   -- nobody else has the object
-  pub only_one : (p : ℕ) → p < n → holding (l.place p) ≡ true → (y : ℕ) → y < n → y ≢ p → holding (l.place y) ≡ true → ⊥
+  pub only_one : (p : ℕ) → p < n → holding (l.stage p) ≡ true → (y : ℕ) → y < n → y ≢ p → holding (l.stage y) ≡ true → ⊥
   only_one p below has_it y y_below ne y_has =
       let f = first_holds p below has_it in
       let g = first_holds y y_below y_has in
       ne (some-injective y p (sym g.there ∙ f.there))
 
-  pub out_of_line : (x : ℕ) → x < n → l.place x ≡ Idle → has x l.cpus ≡ false
+  pub out_of_line : (x : ℕ) → x < n → l.stage x ≡ Idle → has x l.cpus ≡ false
   out_of_line x below is = let s = stands_at x Idle below is in s.none
 
   pub in_cell : (i x : ℕ) → get_elem? l.cpus i ≡ some x → x < n
@@ -110,14 +110,14 @@ module _ (n : ℕ) (ws : List ℕ) (l : Line) (r : Queued n ws l) where
   tail_small = dite (ℕ_discrete (get_or ws 0 0) 0) (λ z. omega arith) (λ ne. let t = tail_names ne in let w = t.1 in let q_below = below_of n l.cpus r.distinct t.0 t.2 in omega arith)
 
   -- the `next` of one in line, by where the next behind it stands
-  pub next_is : (i p j : ℕ) → get_elem? l.cpus i ≡ some p → get_elem? l.cpus (suc i) ≡ some j → next_word ws p ≡ next_by (l.place j) j
+  pub next_is : (i p j : ℕ) → get_elem? l.cpus i ≡ some p → get_elem? l.cpus (suc i) ≡ some j → next_word ws p ≡ next_by (l.stage j) j
   next_is i p j ahead there = ⊎_elim {0, 0, 0}
       (λ t. let f = t.1 in let e = one_place n l.cpus r.distinct (suc i) 0 j there f.there in absurd (omega arith))
       (λ t. let f = t.2 in
       let e = one_place n l.cpus r.distinct (suc i) (suc f.at) j there f.there in
       let k : f.at ≡ i = omega arith in
       ap (next_word ws) (sym (one_at l.cpus t.0 p k f.ahead ahead)) ∙ f.link)
-      (stands_in n ws l.cpus l.out j (l.place j) (has_at l.cpus (suc i) j there) (r.stood j (in_cell (suc i) j there)))
+      (stands_in n ws l.cpus l.out j (l.stage j) (has_at l.cpus (suc i) j there) (r.stood j (in_cell (suc i) j there)))
 
   -- so it is 0, or names that
   pub next_names : (i p : ℕ) → get_elem? l.cpus i ≡ some p → next_word ws p ≢ 0 → (j : ℕ) × (get_elem? l.cpus (suc i) ≡ some j) × (next_word ws p ≡ j + 1)
@@ -127,10 +127,10 @@ module _ (n : ℕ) (ws : List ℕ) (l : Line) (r : Queued n ws l) where
       let in_line = at_below l.cpus i p there in
       let t = there_is l.cpus (suc i) (omega arith) in
       let is = next_is i p t.0 there t.1 in
-      (t.0, t.1, is ∙ link_some (is_linked (l.place t.0)) t.0 (λ z. some_one (is ∙ z))))
+      (t.0, t.1, is ∙ link_some (is_linked (l.stage t.0)) t.0 (λ z. some_one (is ∙ z))))
 
   pub next_small : (i p : ℕ) → get_elem? l.cpus i ≡ some p → next_word ws p ≤ n
   next_small i p there = dite (ℕ_discrete (next_word ws p) 0) (λ z. omega arith) (λ ne. let t = next_names i p there ne in let w = t.2 in let j_below = in_cell (suc i) t.0 t.1 in omega arith)
 
   pub locked_is : (x : ℕ) → x < n → locked_word n ws x ≡ locked_at l x
-  locked_is x below = locked_by n ws l.cpus l.out x r.distinct (l.place x) (r.stood x below)
+  locked_is x below = locked_by n ws l.cpus l.out x r.distinct (l.stage x) (r.stood x below)

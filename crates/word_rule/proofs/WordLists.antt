@@ -6,20 +6,20 @@ use Rattle.std.proofs.lemmas.List.{ext_get_or, get_or_append_left, get_or-append
 use Rattle.std.proofs.lemmas.List.FromFn.{get_or-map-range_with_len, length-map-range_with_len}
 use Rattle.word_rule.specs.declared.lock_kind.LockKind.{LockKind}
 use Rattle.word_rule.specs.declared.lock_kind.LockKind.TheVariants as kinds
-use Rattle.word_rule.specs.declared.place.Place.{Place}
+use Rattle.word_rule.specs.declared.stage.Stage.{Stage}
 use Rattle.word_rule.specs.Locks.{Lock, tickets}
-use Rattle.word_rule.specs.LockWords.{TiedTicket, TiedMcs, TiedOf, ShowsLock, word_of, ticket_words, mcs_words, words_of, lock_words}
+use Rattle.word_rule.specs.LockWords.{IsTicketLock, IsMcsLock, IsLockOf, RepresentsLock, word_of, ticket_words, mcs_words, words_of, lock_words}
 use Rattle.word_rule.specs.Queues.{locked_at}
 use Rattle.word_rule.proofs.McsTurns.{tail_last}
 use Rattle.word_rule.proofs.QueueWords.{locked_is}
 use Rattle.word_rule.proofs.TicketLines.{at_serving}
 
-ticket_are : (n : ℕ) (ws : List ℕ) (l : Lock) → TiedTicket n ws l → ws ≡ ticket_words l
+ticket_are : (n : ℕ) (ws : List ℕ) (l : Lock) → IsTicketLock n ws l → ws ≡ ticket_words l
 ticket_are n ws l h =
     let same : h.lined.serving ≡ l.serving = sym (at_serving tickets n ws l.line h.lined) ∙ h.served in
     h.lined.words ∙ ap (λ (s : ℕ). (s + length l.line.cpus) % tickets ∷ s ∷ []) same
 
-mcs_are : (n : ℕ) (ws : List ℕ) (l : Lock) → TiedMcs n ws l → ws ≡ mcs_words n l
+mcs_are : (n : ℕ) (ws : List ℕ) (l : Lock) → IsMcsLock n ws l → ws ≡ mcs_words n l
 mcs_are n ws l h =
     ext_get_or 0 ws (mcs_words n l) (omega (arith, h.queued.wide, length-append (map (λ i. word_of (l.next i)) (range_with_len 0 n)) (map (λ i. locked_at l.line i) (range_with_len 0 n)), length-map-range_with_len (λ i. word_of (l.next i)) 0 n, length-map-range_with_len (λ i. locked_at l.line i) 0 n)) at
   where
@@ -39,9 +39,9 @@ mcs_are n ws l h =
     at (suc j) lt = behind j lt (cases_lt j n)
 
 -- the words that show a lock are its words
-pub shown_words : (n : ℕ) (k : LockKind) (ws : List ℕ) (places : List Place) (l : Lock) → ShowsLock n k ws places l → ws ≡ lock_words n l
-shown_words n k ws places l h = by k h.tied ∙ ap (λ z. words_of z n l) (sym h.kind_is)
+pub shown_words : (n : ℕ) (k : LockKind) (ws : List ℕ) (stages : List Stage) (l : Lock) → RepresentsLock n k ws stages l → ws ≡ lock_words n l
+shown_words n k ws stages l h = by k h.tied ∙ ap (λ z. words_of z n l) (sym h.kind_is)
   where
-    by : (k : LockKind) → TiedOf k n ws l → ws ≡ words_of k n l
+    by : (k : LockKind) → IsLockOf k n ws l → ws ≡ words_of k n l
     by kinds.Ticket t = ticket_are n ws l t
     by kinds.Mcs t = mcs_are n ws l t

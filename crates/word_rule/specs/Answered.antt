@@ -5,7 +5,7 @@ use Rattle.event_log.specs.declared.object.SeqObject.{Ghosts}
 use Rattle.event_log.specs.declared.event.Steps.{Steps}
 use Rattle.event_log.specs.declared.event.Event.{Event}
 use Rattle.event_log.specs.Log.{Begins, Fulfils, of}
-use Rattle.word_rule.specs.Cell.{Part, Lawful, Grows}
+use Rattle.word_rule.specs.Cell.{PassView, Lawful, Grows}
 
 -- the events of that CPU with these steps, in order
 abbrev pub events_by : {O P C R : Type 0} → ℕ → List (Steps O P C R) → List (Event O P C R)
@@ -13,7 +13,7 @@ events_by cpu done = map (λ s. record { cpu = cpu; steps = s }) done
 
 module _ {O P C R : Type 0} (meaning : Ghosts O P C R) where
   -- the calls were answered at the end of a lawful log that begins with all that the caller had seen
-  pub record IsAnswered (before : Part O P C R) (asked : List C) (steps : Steps O P C R) (after : Part O P C R) : Type 0 where
+  pub record IsAnswered (before : PassView O P C R) (asked : List C) (steps : Steps O P C R) (after : PassView O P C R) : Type 0 where
     pub caller : after.caller ≡ before.caller
     pub lawful : Lawful meaning before.caller.cell after.seen
     pub begins : Begins before.seen after.seen
@@ -24,7 +24,7 @@ module _ {O P C R : Type 0} (meaning : Ghosts O P C R) where
     pub fulfils : Fulfils meaning asked steps.list.items
 
   -- a full log was seen
-  pub record IsRefused (before after : Part O P C R) : Type 0 where
+  pub record IsRefused (before after : PassView O P C R) : Type 0 where
     pub caller : after.caller ≡ before.caller
     pub lawful : Lawful meaning before.caller.cell after.seen
     pub grows : Grows before.caller.owned before.seen after.seen
@@ -37,7 +37,7 @@ module _ {O P C R : Type 0} (meaning : Ghosts O P C R) where
   FulfilFirst (g ∷ groups) (s ∷ done) = Fulfils meaning g.items s.list.items × FulfilFirst groups done
 
   -- the groups that were done stand together at the end of a lawful log that begins with all that the caller had seen
-  pub record IsHeldThrough (before : Part O P C R) (groups : List (ArrayVec C)) (done : List (Steps O P C R)) (after : Part O P C R) : Type 0 where
+  pub record IsHeldThrough (before : PassView O P C R) (groups : List (ArrayVec C)) (done : List (Steps O P C R)) (after : PassView O P C R) : Type 0 where
     pub caller : after.caller ≡ before.caller
     pub found : List (Event O P C R)
     pub found_lawful : Lawful meaning before.caller.cell found

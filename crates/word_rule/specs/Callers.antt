@@ -5,10 +5,10 @@ use Rattle.event_log.specs.declared.event.Event.{Event}
 use Rattle.event_log.specs.Distinct.{has}
 use Rattle.event_log.specs.History.{History}
 use Rattle.event_log.specs.Log.{Begins, of}
-use Rattle.word_rule.specs.declared.place.Place.{Place}
-use Rattle.word_rule.specs.Cell.{Cell, Caller, Part, Held, IsPart, IsHeld}
-use Rattle.word_rule.specs.Standing.{Standing}
-use Rattle.word_rule.specs.Board.{Viewed}
+use Rattle.word_rule.specs.declared.stage.Stage.{Stage}
+use Rattle.word_rule.specs.Cell.{Cell, Caller, PassView, HoldView, IsPassView, IsHoldView}
+use Rattle.word_rule.specs.CallerState.{CallerState}
+use Rattle.word_rule.specs.CellInvariant.{Viewed}
 use Rattle.word_rule.specs.Seats.{Seat}
 
 module _ {O P C R : Type 0} where
@@ -22,19 +22,19 @@ module _ {O P C R : Type 0} where
   caller_of h v = record { cell = h; owned = λ k. has k v.main.owned; acting = v.main.cpu }
 
   -- what it knows without the object
-  abbrev pub part_of : Cell O P C R → Viewed O P C R → Part O P C R
-  part_of h v = record { caller = caller_of h v; seen = v.main.seen }
+  abbrev pub pass_view_of : Cell O P C R → Viewed O P C R → PassView O P C R
+  pass_view_of h v = record { caller = caller_of h v; seen = v.main.seen }
 
   -- what it knows with the object
-  abbrev pub held_of : Cell O P C R → History O P C R → Viewed O P C R → Held O P C R
-  held_of h x v = record { caller = caller_of h v; history = x }
+  abbrev pub hold_view_of : Cell O P C R → History O P C R → Viewed O P C R → HoldView O P C R
+  hold_view_of h x v = record { caller = caller_of h v; history = x }
 
   -- where it stands without the object, and with it
-  abbrev pub standing_without : Cell O P C R → Place → Seat O P C R → Standing O P C R
-  standing_without h place m = record { caller = caller_of h m.0; place = place; seen = m.0.main.seen; has = None }
+  abbrev pub state_without : Cell O P C R → Stage → Seat O P C R → CallerState O P C R
+  state_without h stage m = record { caller = caller_of h m.0; stage = stage; seen = m.0.main.seen; has = None }
 
-  abbrev pub standing_with : Cell O P C R → Place → History O P C R → Seat O P C R → Standing O P C R
-  standing_with h place x m = record { caller = caller_of h m.0; place = place; seen = m.0.main.seen; has = Some x }
+  abbrev pub state_with : Cell O P C R → Stage → History O P C R → Seat O P C R → CallerState O P C R
+  state_with h stage x m = record { caller = caller_of h m.0; stage = stage; seen = m.0.main.seen; has = Some x }
 
   -- a caller is of a cell: its seat is at the cell's table, and it was told what the table was told
   pub record IsAt {T : Type 0} (cell_table : T) (cell_key : Cell O P C R) (table_id : T) (key : Cell O P C R) : Type 0 where
@@ -42,21 +42,21 @@ module _ {O P C R : Type 0} where
     pub told : key ≡ cell_key
 
   -- the seat has one caller, which acts as that number and stands there, and these slots are out with it
-  pub record StandsAt (h : Cell O P C R) (cpu : ℕ) (place : Place) (slots : List (ℕ × Option (History O P C R))) (m : Seat O P C R) : Type 0 where
+  pub record StandsAt (h : Cell O P C R) (cpu : ℕ) (stage : Stage) (slots : List (ℕ × Option (History O P C R))) (m : Seat O P C R) : Type 0 where
     pub alone : m.0.others ≡ []
     pub number : m.0.main.cpu ≡ cpu
     pub carries : m.1 ≡ slots
-    pub stands : m.0.main.place ≡ place
+    pub stands : m.0.main.stage ≡ stage
     pub told : m.0.told ≡ h ∷ []
 
 module _ {O P C R : Type 0} (meaning : Ghosts O P C R) where
   -- a caller without the object, which stands there
-  pub record IsWithout (h : Cell O P C R) (cpu : ℕ) (place : Place) (m : Seat O P C R) : Type 0 where
-    pub at : StandsAt h cpu place [] m
-    pub part : IsPart meaning (part_of h m.0)
+  pub record IsWithout (h : Cell O P C R) (cpu : ℕ) (stage : Stage) (m : Seat O P C R) : Type 0 where
+    pub at : StandsAt h cpu stage [] m
+    pub pass_view : IsPassView meaning (pass_view_of h m.0)
 
   -- a caller that has the object, to whose log it alone has added
-  pub record IsWith (h : Cell O P C R) (cpu : ℕ) (place : Place) (x : History O P C R) (m : Seat O P C R) : Type 0 where
-    pub at : StandsAt h cpu place ((0, None) ∷ []) m
+  pub record IsWith (h : Cell O P C R) (cpu : ℕ) (stage : Stage) (x : History O P C R) (m : Seat O P C R) : Type 0 where
+    pub at : StandsAt h cpu stage ((0, None) ∷ []) m
     pub added : AddedBy m.0.main.cpu m.0.main.seen x.log
-    pub held : IsHeld meaning (held_of h x m.0)
+    pub hold_view : IsHoldView meaning (hold_view_of h x m.0)

@@ -22,12 +22,12 @@ pub record Caller (O P C R : Type 0) : Type 0 where
   pub acting : ℕ
 
 -- a caller without the object, and the log that it has seen
-pub record Part (O P C R : Type 0) : Type 0 where
+pub record PassView (O P C R : Type 0) : Type 0 where
   pub caller : Caller O P C R
   pub seen : List (Event O P C R)
 
 -- a caller that holds the object, and the stored history
-pub record Held (O P C R : Type 0) : Type 0 where
+pub record HoldView (O P C R : Type 0) : Type 0 where
   pub caller : Caller O P C R
   pub history : History O P C R
 
@@ -40,13 +40,13 @@ module _ {O P C R : Type 0} where
   abbrev pub cell_of : LockKind → ℕ → History O P C R → Cell O P C R
   cell_of k n h = record { kind = k; params = h.params; limit = h.limit; numbers = n; opening = h.log }
 
-  -- the part of pass k of a cell that was just opened
-  abbrev pub opening_part : Cell O P C R → ℕ → Part O P C R
-  opening_part h k = record { caller = record { cell = h; owned = (λ j. j == k); acting = k }; seen = h.opening }
+  -- the view of pass k of a cell that was just opened
+  abbrev pub opening_pass : Cell O P C R → ℕ → PassView O P C R
+  opening_pass h k = record { caller = record { cell = h; owned = (λ j. j == k); acting = k }; seen = h.opening }
 
-  -- the part of pass i of a cell behind such a lock that was made of this history for n CPUs
-  abbrev pub first_part : LockKind → History O P C R → ℕ → ℕ → Part O P C R
-  first_part k h n i = opening_part (cell_of k n h) i
+  -- the view of pass i of a cell behind such a lock that was made of this history for n CPUs
+  abbrev pub first_pass : LockKind → History O P C R → ℕ → ℕ → PassView O P C R
+  first_pass k h n i = opening_pass (cell_of k n h) i
 
   -- log b begins with log a, and has the same events of the owned numbers
   pub record Grows (owned : ℕ → Bool) (a b : List (Event O P C R)) : Type 0 where
@@ -81,12 +81,12 @@ module _ {O P C R : Type 0} (meaning : Ghosts O P C R) where
   stored cell log = record { params = cell.params; limit = cell.limit; log = log; state = replay meaning cell.params log }
 
   -- the numbers are the cell's, and a lawful log was seen
-  pub record IsPart (part : Part O P C R) : Type 0 where
-    pub caller : IsCaller part.caller
-    pub lawful : Lawful part.caller.cell part.seen
+  pub record IsPassView (view : PassView O P C R) : Type 0 where
+    pub caller : IsCaller view.caller
+    pub lawful : Lawful view.caller.cell view.seen
 
   -- the numbers are the cell's, and the stored log is lawful, with its replay
-  pub record IsHeld (held : Held O P C R) : Type 0 where
-    pub caller : IsCaller held.caller
-    pub lawful : Lawful held.caller.cell held.history.log
-    pub replayed : held.history ≡ stored held.caller.cell held.history.log
+  pub record IsHoldView (view : HoldView O P C R) : Type 0 where
+    pub caller : IsCaller view.caller
+    pub lawful : Lawful view.caller.cell view.history.log
+    pub replayed : view.history ≡ stored view.caller.cell view.history.log

@@ -3,11 +3,11 @@ use Rattle.std.specs.Prelude.{◌≡◌, ℕ, ◌+◌, ◌%◌, ◌<◌, List, [
 use Rattle.std.specs.List.{range_with_len}
 use Rattle.word_rule.specs.declared.lock_kind.LockKind.{LockKind}
 use Rattle.word_rule.specs.declared.lock_kind.LockKind.TheVariants as kinds
-use Rattle.word_rule.specs.declared.place.Place.{Place}
-use Rattle.word_rule.specs.declared.place.Place.TheVariants.{Idle}
+use Rattle.word_rule.specs.declared.stage.Stage.{Stage}
+use Rattle.word_rule.specs.declared.stage.Stage.TheVariants.{Idle}
 use Rattle.word_rule.specs.Locks.{Lock, last, tickets}
-use Rattle.word_rule.specs.Queues.{Queued, next_word, locked_at}
-use Rattle.word_rule.specs.Tickets.{Lined}
+use Rattle.word_rule.specs.Queues.{IsMcsWords, next_word, locked_at}
+use Rattle.word_rule.specs.Tickets.{IsTicketWords}
 
 -- 0 for nobody, and j + 1 for the CPU j
 abbrev pub word_of : Option ℕ → ℕ
@@ -31,22 +31,22 @@ abbrev pub lock_words : ℕ → Lock → List ℕ
 lock_words n l = words_of l.kind n l
 
 -- these are the words of a ticket lock
-pub record TiedTicket (n : ℕ) (ws : List ℕ) (l : Lock) : Type 0 where
-  pub lined : Lined tickets n ws l.line
+pub record IsTicketLock (n : ℕ) (ws : List ℕ) (l : Lock) : Type 0 where
+  pub lined : IsTicketWords tickets n ws l.line
   pub served : slice_index ws 1 ≡ l.serving
 
 -- these are the words of an MCS lock
-pub record TiedMcs (n : ℕ) (ws : List ℕ) (l : Lock) : Type 0 where
-  pub queued : Queued n ws l.line
+pub record IsMcsLock (n : ℕ) (ws : List ℕ) (l : Lock) : Type 0 where
+  pub queued : IsMcsWords n ws l.line
   pub nexts : (x : ℕ) → x < n → next_word ws x ≡ word_of (l.next x)
 
-abbrev pub TiedOf : LockKind → ℕ → List ℕ → Lock → Type 0
-TiedOf kinds.Ticket n ws l = TiedTicket n ws l
-TiedOf kinds.Mcs n ws l = TiedMcs n ws l
+abbrev pub IsLockOf : LockKind → ℕ → List ℕ → Lock → Type 0
+IsLockOf kinds.Ticket n ws l = IsTicketLock n ws l
+IsLockOf kinds.Mcs n ws l = IsMcsLock n ws l
 
 -- these are the words of the lock, and the places at which its n CPUs stand
-pub record ShowsLock (n : ℕ) (kind : LockKind) (ws : List ℕ) (places : List Place) (l : Lock) : Type 0 where
+pub record RepresentsLock (n : ℕ) (kind : LockKind) (ws : List ℕ) (stages : List Stage) (l : Lock) : Type 0 where
   pub kind_is : l.kind ≡ kind
-  pub tied : TiedOf kind n ws l
-  pub size : length places ≡ n
-  pub places_are : (k : ℕ) → k < n → slice_index_or places k Idle ≡ l.line.place k
+  pub tied : IsLockOf kind n ws l
+  pub size : length stages ≡ n
+  pub stages_are : (k : ℕ) → k < n → slice_index_or stages k Idle ≡ l.line.stage k

@@ -1,8 +1,8 @@
 -- A lock of either kind, apart from its words, and what its line does.
 use Rattle.std.specs.Prelude.{ℕ, ◌%◌, ◌^◌, Bool, true, false, ◌==◌, cond, List, [], ◌∷◌, ◌++◌, Option, Some, None}
 use Rattle.word_rule.specs.declared.lock_kind.LockKind.{LockKind}
-use Rattle.word_rule.specs.declared.place.Place.{Place}
-use Rattle.word_rule.specs.declared.place.Place.TheVariants.{Idle}
+use Rattle.word_rule.specs.declared.stage.Stage.{Stage}
+use Rattle.word_rule.specs.declared.stage.Stage.TheVariants.{Idle}
 use Rattle.word_rule.specs.Line.{Line, lined, empty_line}
 use Rattle.word_rule.specs.Queues.{is_linked}
 
@@ -47,20 +47,20 @@ is_named i None = false
 is_named i (Some k) = k == i
 
 -- i stands there now
-abbrev pub going : Line → ℕ → Place → Line
-going l i q = lined l.cpus l.out l.place i q
+abbrev pub going : Line → ℕ → Stage → Line
+going l i q = lined l.cpus l.out l.stage i q
 
 -- i joins the end of the line, and stands there
-abbrev pub joining : Line → ℕ → Place → Line
-joining l i q = lined (l.cpus ++ i ∷ []) l.out l.place i q
+abbrev pub joining : Line → ℕ → Stage → Line
+joining l i q = lined (l.cpus ++ i ∷ []) l.out l.stage i q
 
 -- the object goes to i, which stands there
-abbrev pub taking : Line → ℕ → Place → Line
-taking l i q = lined l.cpus true l.place i q
+abbrev pub taking : Line → ℕ → Stage → Line
+taking l i q = lined l.cpus true l.stage i q
 
 -- i, the first, leaves the line, and the object is at home
 abbrev pub leaving : Line → ℕ → Line
-leaving l i = lined (behind l.cpus) false l.place i Idle
+leaving l i = lined (behind l.cpus) false l.stage i Idle
 
 -- the `next` of p names this now
 abbrev pub naming : (ℕ → Option ℕ) → ℕ → Option ℕ → ℕ → Option ℕ
@@ -69,7 +69,7 @@ naming next p named k = cond (k == p) named (next k)
 -- the one that is named, if it has linked itself
 abbrev pub if_linked : Line → Option ℕ → Option ℕ
 if_linked l None = None
-if_linked l (Some j) = cond (is_linked (l.place j)) (Some j) None
+if_linked l (Some j) = cond (is_linked (l.stage j)) (Some j) None
 
 -- the follower of the first, once it has linked itself
 abbrev pub follower : Line → Option ℕ

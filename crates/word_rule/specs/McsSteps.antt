@@ -1,10 +1,10 @@
 -- The steps of an MCS lock (Mellor-Crummey and Scott 1991), one relation for each kind.
 use Rattle.std.specs.Prelude.{◌≡◌, ℕ, Bool, true, false}
 use Rattle.event_log.specs.declared.object.SeqObject.{Ghosts}
-use Rattle.word_rule.specs.declared.place.Place.TheVariants.{Idle, Ready, Behind, Armed, Waiting, Holding, Alone, Leaving, Passing}
-use Rattle.word_rule.specs.Standing.{Standing, Moves, Takes, Gives, NeedsAnother}
+use Rattle.word_rule.specs.declared.stage.Stage.TheVariants.{Idle, Ready, Behind, Armed, Waiting, Holding, Alone, Leaving, Passing}
+use Rattle.word_rule.specs.CallerState.{CallerState, Moves, Takes, Gives, NeedsAnother}
 
-module _ {O P C R : Type 0} (meaning : Ghosts O P C R) (before after : Standing O P C R) where
+module _ {O P C R : Type 0} (meaning : Ghosts O P C R) (before after : CallerState O P C R) where
   -- the caller clears its `next`
   abbrev pub IsClear : Type 0
   IsClear = Moves meaning Idle Ready before after

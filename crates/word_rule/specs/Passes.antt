@@ -2,13 +2,13 @@
 use Rattle.std.specs.declared.cmp.PartialEq.{Ghosts as Eq}
 use Rattle.std.specs.declared.default.Default.{Ghosts as Default}
 use Rattle.event_log.specs.declared.object.SeqObject.{Ghosts}
-use Rattle.word_rule.specs.declared.place.Place.TheVariants.{Idle}
+use Rattle.word_rule.specs.declared.stage.Stage.TheVariants.{Idle}
 use Rattle.word_rule.specs.declared.lock_table.LockTable.{LockTable}
 use Rattle.word_rule.specs.declared.pass.Pass.{Pass}
 use Rattle.word_rule.specs.declared.hold.Hold.{Hold}
-use Rattle.word_rule.specs.Cell.{Part, Held}
-use Rattle.word_rule.specs.Standing.{Standing}
-use Rattle.word_rule.specs.Callers.{IsAt, part_of, held_of, standing_without, standing_with}
+use Rattle.word_rule.specs.Cell.{PassView, HoldView}
+use Rattle.word_rule.specs.CallerState.{CallerState}
+use Rattle.word_rule.specs.Callers.{IsAt, pass_view_of, hold_view_of, state_without, state_with}
 
 -- The types of callers are over all that an object is bound by.
 module _ {O P C R : Type 0} {g : Ghosts O P C R} {call_eq : Eq C} {call_default : Default C} {reply_eq : Eq R} {reply_default : Default R} where
@@ -20,15 +20,15 @@ module _ {O P C R : Type 0} {g : Ghosts O P C R} {call_eq : Eq C} {call_default 
   IsHoldAt t h = IsAt t.table.shared.table_id t.table.shared.key h.seat.table_id h.key.value
 
   -- what a pass knows, and what a hold knows
-  abbrev pub pass_part : Pass O P C R g call_eq call_default reply_eq reply_default → Part O P C R
-  pass_part p = part_of p.key.value p.seat.me.0
+  abbrev pub view_of_pass : Pass O P C R g call_eq call_default reply_eq reply_default → PassView O P C R
+  view_of_pass p = pass_view_of p.key.value p.seat.me.0
 
-  abbrev pub hold_held : Hold O P C R g call_eq call_default reply_eq reply_default → Held O P C R
-  hold_held h = held_of h.key.value h.logged h.seat.me.0
+  abbrev pub view_of_hold : Hold O P C R g call_eq call_default reply_eq reply_default → HoldView O P C R
+  view_of_hold h = hold_view_of h.key.value h.logged h.seat.me.0
 
   -- where each stands
-  abbrev pub pass_standing : Pass O P C R g call_eq call_default reply_eq reply_default → Standing O P C R
-  pass_standing p = standing_without p.key.value Idle p.seat.me
+  abbrev pub state_of_pass : Pass O P C R g call_eq call_default reply_eq reply_default → CallerState O P C R
+  state_of_pass p = state_without p.key.value Idle p.seat.me
 
-  abbrev pub hold_standing : Hold O P C R g call_eq call_default reply_eq reply_default → Standing O P C R
-  hold_standing h = standing_with h.key.value h.place h.logged h.seat.me
+  abbrev pub state_of_hold : Hold O P C R g call_eq call_default reply_eq reply_default → CallerState O P C R
+  state_of_hold h = state_with h.key.value h.stage h.logged h.seat.me

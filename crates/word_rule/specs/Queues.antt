@@ -4,8 +4,8 @@ use Rattle.std.specs.Prelude.{◌≡◌, ◌⊎◌, ℕ, suc, ◌+◌, ◌*◌, 
 use mathlib.Core.Option.{some}
 use lib.ListN.{get_elem?}
 use Rattle.event_log.specs.Distinct.{has, AreDistinctBelow}
-use Rattle.word_rule.specs.declared.place.Place.{Place}
-use Rattle.word_rule.specs.declared.place.Place.TheVariants.{Idle, Drawn, Served, Ready, Behind, Armed, Waiting, Holding, Alone, Leaving, Passing, Torn}
+use Rattle.word_rule.specs.declared.stage.Stage.{Stage}
+use Rattle.word_rule.specs.declared.stage.Stage.TheVariants.{Idle, Drawn, Served, Ready, Behind, Armed, Waiting, Holding, Alone, Leaving, Passing, Torn}
 use Rattle.word_rule.specs.Line.{Line, is_first}
 
 -- the word that names the last of the queue
@@ -44,7 +44,7 @@ module _ (n : ℕ) (ws cpus : List ℕ) (out : Bool) (x : ℕ) where
     pub lock : locked_word n ws x ≡ 0
 
   -- the CPU x stands there, which is no place of a ticket lock
-  abbrev pub StandsInQueue : Place → Type 0
+  abbrev pub StandsInQueue : Stage → Type 0
   StandsInQueue Idle = Apart n ws cpus x
   StandsInQueue (Drawn t) = ⊥
   StandsInQueue (Served t) = ⊥
@@ -59,17 +59,17 @@ module _ (n : ℕ) (ws cpus : List ℕ) (out : Bool) (x : ℕ) where
   StandsInQueue Torn = First true
 
 -- the words of a lock for n CPUs, with that line
-pub record Queued (n : ℕ) (ws : List ℕ) (l : Line) : Type 0 where
+pub record IsMcsWords (n : ℕ) (ws : List ℕ) (l : Line) : Type 0 where
   pub wide : length ws ≡ 1 + 2 * n
   pub tail : slice_index ws 0 ≡ tail_of l.cpus
   pub distinct : AreDistinctBelow n l.cpus
   pub busy : l.out ≡ true → 0 < length l.cpus
   -- nobody has linked itself to the last
   pub last : (p : ℕ) → tail_of l.cpus ≡ p + 1 → next_word ws p ≡ 0
-  pub stood : (x : ℕ) → x < n → StandsInQueue n ws l.cpus l.out x (l.place x)
+  pub stood : (x : ℕ) → x < n → StandsInQueue n ws l.cpus l.out x (l.stage x)
 
 -- whether one that stands there has linked itself, and hasn't had the object since
-abbrev pub is_linked : Place → Bool
+abbrev pub is_linked : Stage → Bool
 is_linked Idle = false
 is_linked (Drawn t) = false
 is_linked (Served t) = false
@@ -84,11 +84,11 @@ is_linked (Passing j) = false
 is_linked Torn = false
 
 -- the `next` of one in the queue, by where the next behind it stands, which is j
-abbrev pub next_by : Place → ℕ → ℕ
+abbrev pub next_by : Stage → ℕ → ℕ
 next_by q j = cond (is_linked q) (j + 1) 0
 
 -- whether one that stands there has armed itself, and hasn't had the object since
-abbrev pub is_armed : Place → Bool
+abbrev pub is_armed : Stage → Bool
 is_armed Idle = false
 is_armed (Drawn t) = false
 is_armed (Served t) = false
@@ -104,4 +104,4 @@ is_armed Torn = false
 
 -- the `locked` of x, by the line alone: 1 from where x arms itself until it is the first
 abbrev pub locked_at : Line → ℕ → ℕ
-locked_at l x = cond (is_armed (l.place x) && not (is_first x l.cpus)) 1 0
+locked_at l x = cond (is_armed (l.stage x) && not (is_first x l.cpus)) 1 0

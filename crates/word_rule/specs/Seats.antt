@@ -2,12 +2,12 @@
 use Rattle.std.specs.Prelude.{ℕ, zero, suc, ◌+◌, List, [], ◌∷◌, ◌++◌, map, min, Option}
 use Rattle.atomic_table.specs.Table.{Me}
 use Rattle.event_log.specs.History.{History}
-use Rattle.word_rule.specs.declared.place.Place.{Place}
-use Rattle.word_rule.specs.declared.place.Place.TheVariants.{Idle}
+use Rattle.word_rule.specs.declared.stage.Stage.{Stage}
+use Rattle.word_rule.specs.declared.stage.Stage.TheVariants.{Idle}
 use Rattle.word_rule.specs.declared.view.Seated.{Seated}
 use Rattle.word_rule.specs.declared.view.View.{View}
 use Rattle.word_rule.specs.Cell.{Cell}
-use Rattle.word_rule.specs.Board.{Viewed}
+use Rattle.word_rule.specs.CellInvariant.{Viewed}
 
 -- a seat, with the slots that are out with it
 abbrev pub Seat : Type 0 → Type 0 → Type 0 → Type 0 → Type 0
@@ -16,15 +16,15 @@ Seat O P C R = Me (Option (History O P C R)) (Viewed O P C R)
 module _ {E : Type 0} where
   -- the caller has seen this log
   abbrev pub shown : List E → Seated E → Seated E
-  shown log c = record { cpu = c.cpu; owned = c.owned; place = c.place; seen = log }
+  shown log c = record { cpu = c.cpu; owned = c.owned; stage = c.stage; seen = log }
 
   -- the caller stands there
-  abbrev pub at : Place → Seated E → Seated E
-  at p c = record { cpu = c.cpu; owned = c.owned; place = p; seen = c.seen }
+  abbrev pub at : Stage → Seated E → Seated E
+  at p c = record { cpu = c.cpu; owned = c.owned; stage = p; seen = c.seen }
 
   -- an idle caller
   abbrev pub idle : ℕ → List ℕ → List E → Seated E
-  idle cpu owned seen = record { cpu = cpu; owned = owned; place = Idle; seen = seen }
+  idle cpu owned seen = record { cpu = cpu; owned = owned; stage = Idle; seen = seen }
 
   -- n idle callers with the numbers from k on
   abbrev pub idle_from : ℕ → ℕ → List E → List (Seated E)
@@ -42,11 +42,11 @@ module _ {E : Type 0} where
 
 module _ {H E : Type 0} where
   -- the first caller stands there
-  abbrev pub placed : View H E → Place → View H E
-  placed v p = record { told = v.told; main = at p v.main; others = v.others }
+  abbrev pub with_stage : View H E → Stage → View H E
+  with_stage v p = record { told = v.told; main = at p v.main; others = v.others }
 
   -- each caller of the seat has seen this log, and the first stands there
-  abbrev pub settled : View H E → Place → List E → View H E
+  abbrev pub settled : View H E → Stage → List E → View H E
   settled v p log = record { told = v.told; main = shown log (at p v.main); others = map (shown log) v.others }
 
   -- the seat takes in the caller of another

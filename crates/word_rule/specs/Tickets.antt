@@ -3,8 +3,8 @@ use Rattle.std.specs.Prelude.{◌≡◌, ℕ, ◌+◌, ◌%◌, ◌<◌, Bool, t
 use mathlib.Core.Option.{some}
 use lib.ListN.{get_elem?}
 use Rattle.event_log.specs.Distinct.{has, AreDistinctBelow}
-use Rattle.word_rule.specs.declared.place.Place.{Place}
-use Rattle.word_rule.specs.declared.place.Place.TheVariants.{Idle, Drawn, Served, Ready, Behind, Armed, Waiting, Holding, Alone, Leaving, Passing, Torn}
+use Rattle.word_rule.specs.declared.stage.Stage.{Stage}
+use Rattle.word_rule.specs.declared.stage.Stage.TheVariants.{Idle, Drawn, Served, Ready, Behind, Armed, Waiting, Holding, Alone, Leaving, Passing, Torn}
 use Rattle.word_rule.specs.Line.{Line}
 
 module _ (m : ℕ) (cpus : List ℕ) (out : Bool) (serving : ℕ) (x : ℕ) where
@@ -21,26 +21,26 @@ module _ (m : ℕ) (cpus : List ℕ) (out : Bool) (serving : ℕ) (x : ℕ) wher
     pub object : out ≡ true
 
   -- the CPU x stands there, which is no place of an MCS lock
-  abbrev pub Stands : Place → Type 0
-  Stands Idle = has x cpus ≡ false
-  Stands (Drawn t) = Waits t
-  Stands (Served t) = IsFirst × (t ≡ serving)
-  Stands Ready = ⊥
-  Stands (Behind p) = ⊥
-  Stands (Armed p) = ⊥
-  Stands Waiting = ⊥
-  Stands Holding = ⊥
-  Stands Alone = ⊥
-  Stands Leaving = ⊥
-  Stands (Passing j) = ⊥
-  Stands Torn = IsFirst
+  abbrev pub StandsInLine : Stage → Type 0
+  StandsInLine Idle = has x cpus ≡ false
+  StandsInLine (Drawn t) = Waits t
+  StandsInLine (Served t) = IsFirst × (t ≡ serving)
+  StandsInLine Ready = ⊥
+  StandsInLine (Behind p) = ⊥
+  StandsInLine (Armed p) = ⊥
+  StandsInLine Waiting = ⊥
+  StandsInLine Holding = ⊥
+  StandsInLine Alone = ⊥
+  StandsInLine Leaving = ⊥
+  StandsInLine (Passing j) = ⊥
+  StandsInLine Torn = IsFirst
 
 -- the words of a lock for n CPUs, with that line
-pub record Lined (m n : ℕ) (ws : List ℕ) (l : Line) : Type 0 where
+pub record IsTicketWords (m n : ℕ) (ws : List ℕ) (l : Line) : Type 0 where
   pub serving : ℕ
   pub words : ws ≡ ((serving + length l.cpus) % m) ∷ serving ∷ []
   pub small : serving < m
   pub few : n < m
   pub distinct : AreDistinctBelow n l.cpus
   pub busy : l.out ≡ true → 0 < length l.cpus
-  pub stood : (x : ℕ) → x < n → Stands m l.cpus l.out serving x (l.place x)
+  pub stood : (x : ℕ) → x < n → StandsInLine m l.cpus l.out serving x (l.stage x)

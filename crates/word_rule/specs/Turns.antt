@@ -2,8 +2,8 @@
 use Rattle.std.specs.Prelude.{ℕ, ◌+◌, ◌%◌, Bool, true, false, if◌then◌else◌, [], ◌∷◌, length, Option, Some, None}
 use Rattle.word_rule.specs.declared.lock_kind.LockKind.{LockKind}
 use Rattle.word_rule.specs.declared.lock_kind.LockKind.TheVariants as kinds
-use Rattle.word_rule.specs.declared.place.Place.{Place}
-use Rattle.word_rule.specs.declared.place.Place.TheVariants as places
+use Rattle.word_rule.specs.declared.stage.Stage.{Stage}
+use Rattle.word_rule.specs.declared.stage.Stage.TheVariants as stages
 use Rattle.word_rule.specs.declared.machine.step_done.StepDone.{StepDone}
 use Rattle.word_rule.specs.declared.machine.step_done.StepDone.TheVariants as steps
 use Rattle.word_rule.specs.Line.{lined, is_first}
@@ -11,10 +11,10 @@ use Rattle.word_rule.specs.Locks.{Lock, tickets, last, is_named, going, joining,
 
 -- i joins the end of the line, with the ticket that comes after those in line
 abbrev pub draw : Lock → ℕ → Lock
-draw l i = record l { line = joining l.line i (places.Drawn ((l.serving + length l.line.cpus) % tickets)) }
+draw l i = record l { line = joining l.line i (stages.Drawn ((l.serving + length l.line.cpus) % tickets)) }
 
 -- the first of the line gets the object, and nobody else
-abbrev pub look : Lock → ℕ → Place → Lock × StepDone
+abbrev pub look : Lock → ℕ → Stage → Lock × StepDone
 look l i q = if is_first i l.line.cpus then (record l { line = taking l.line i q }, steps.Look true) else (l, steps.Look false)
 
 -- the object is at home, i leaves the line, and the next ticket is served
@@ -22,57 +22,57 @@ abbrev pub serve : Lock → ℕ → Lock
 serve l i = record l { line = leaving l.line i; serving = (l.serving + 1) % tickets }
 
 -- a ticket lock's next step
-abbrev pub ticket_turn : Lock → ℕ → Place → Lock × StepDone
-ticket_turn l i places.Idle = (draw l i, steps.Draw)
-ticket_turn l i (places.Drawn t) = look l i (places.Served t)
-ticket_turn l i (places.Served t) = (serve l i, steps.Serve)
+abbrev pub ticket_turn : Lock → ℕ → Stage → Lock × StepDone
+ticket_turn l i stages.Idle = (draw l i, steps.Draw)
+ticket_turn l i (stages.Drawn t) = look l i (stages.Served t)
+ticket_turn l i (stages.Served t) = (serve l i, steps.Serve)
 ticket_turn l i _ = (l, steps.Idle)
 
 -- the `next` of i becomes empty
 abbrev pub clear : Lock → ℕ → Lock
-clear l i = record l { line = going l.line i places.Ready; next = naming l.next i None }
+clear l i = record l { line = going l.line i stages.Ready; next = naming l.next i None }
 
 -- i joins the queue. With nobody there it gets the object, else it is behind the old last
 abbrev pub enter : Lock → ℕ → Option ℕ → Lock × StepDone
-enter l i None = (record l { line = lined (i ∷ []) true l.line.place i places.Holding }, steps.Enter true)
-enter l i (Some p) = (record l { line = joining l.line i (places.Behind p) }, steps.Enter false)
+enter l i None = (record l { line = lined (i ∷ []) true l.line.stage i stages.Holding }, steps.Enter true)
+enter l i (Some p) = (record l { line = joining l.line i (stages.Behind p) }, steps.Enter false)
 
 abbrev pub arm : Lock → ℕ → ℕ → Lock
-arm l i p = record l { line = going l.line i (places.Armed p) }
+arm l i p = record l { line = going l.line i (stages.Armed p) }
 
 -- the `next` of p names i
 abbrev pub link : Lock → ℕ → ℕ → Lock
-link l i p = record l { line = going l.line i places.Waiting; next = naming l.next p (Some i) }
+link l i p = record l { line = going l.line i stages.Waiting; next = naming l.next p (Some i) }
 
 -- the holder's follower, if there is one that has linked itself. With none the holder stands elsewhere
-abbrev pub see : Lock → ℕ → Place → Option ℕ → Lock × StepDone
+abbrev pub see : Lock → ℕ → Stage → Option ℕ → Lock × StepDone
 see l i otherwise None = (record l { line = going l.line i otherwise }, steps.See false)
-see l i otherwise (Some j) = (record l { line = going l.line i (places.Passing j) }, steps.See true)
+see l i otherwise (Some j) = (record l { line = going l.line i (stages.Passing j) }, steps.See true)
 
 -- the last of the queue leaves it empty, and the object is at home; another knows that it has a follower
 abbrev pub empty : Lock → ℕ → Lock × StepDone
-empty l i = if is_named i (last l.line.cpus) then (record l { line = leaving l.line i }, steps.Empty true) else (record l { line = going l.line i places.Leaving }, steps.Empty false)
+empty l i = if is_named i (last l.line.cpus) then (record l { line = leaving l.line i }, steps.Empty true) else (record l { line = going l.line i stages.Leaving }, steps.Empty false)
 
 -- the object is at home, and i leaves the queue
 abbrev pub pass : Lock → ℕ → Lock
 pass l i = record l { line = leaving l.line i }
 
 -- an MCS lock's next step (Mellor-Crummey and Scott 1991)
-abbrev pub mcs_turn : Lock → ℕ → Place → Lock × StepDone
-mcs_turn l i places.Idle = (clear l i, steps.Clear)
-mcs_turn l i places.Ready = enter l i (last l.line.cpus)
-mcs_turn l i (places.Behind p) = (arm l i p, steps.Arm)
-mcs_turn l i (places.Armed p) = (link l i p, steps.Link)
-mcs_turn l i places.Waiting = look l i places.Holding
-mcs_turn l i places.Holding = see l i places.Alone (follower l.line)
-mcs_turn l i places.Alone = empty l i
-mcs_turn l i places.Leaving = see l i places.Leaving (follower l.line)
-mcs_turn l i (places.Passing j) = (pass l i, steps.Pass)
+abbrev pub mcs_turn : Lock → ℕ → Stage → Lock × StepDone
+mcs_turn l i stages.Idle = (clear l i, steps.Clear)
+mcs_turn l i stages.Ready = enter l i (last l.line.cpus)
+mcs_turn l i (stages.Behind p) = (arm l i p, steps.Arm)
+mcs_turn l i (stages.Armed p) = (link l i p, steps.Link)
+mcs_turn l i stages.Waiting = look l i stages.Holding
+mcs_turn l i stages.Holding = see l i stages.Alone (follower l.line)
+mcs_turn l i stages.Alone = empty l i
+mcs_turn l i stages.Leaving = see l i stages.Leaving (follower l.line)
+mcs_turn l i (stages.Passing j) = (pass l i, steps.Pass)
 mcs_turn l i _ = (l, steps.Idle)
 
 abbrev pub turn_of : LockKind → Lock → ℕ → Lock × StepDone
-turn_of kinds.Ticket l i = ticket_turn l i (l.line.place i)
-turn_of kinds.Mcs l i = mcs_turn l i (l.line.place i)
+turn_of kinds.Ticket l i = ticket_turn l i (l.line.stage i)
+turn_of kinds.Mcs l i = mcs_turn l i (l.line.stage i)
 
 -- a CPU's next step on the lock
 abbrev pub turn : Lock → ℕ → Lock × StepDone

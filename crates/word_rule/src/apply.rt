@@ -3,7 +3,7 @@
 ghost use Rattle.std.specs.Prelude.{◌≡◌, ◌≤◌, ◌<◌, ◌↔◌, length, IsErr, IfOk, OnErr};
 ghost use Rattle.event_log.specs.History.{with_event};
 ghost use Rattle.event_log.specs.Log.{answers, after, Fulfils};
-ghost use Rattle.word_rule.specs.Passes.{hold_held};
+ghost use Rattle.word_rule.specs.Passes.{view_of_hold};
 
 use crate::Hold;
 use event_log::{NoRoom, SeqObject, Steps};
@@ -14,12 +14,12 @@ impl<O: SeqObject> Hold<O> {
         requires some { 0 < length calls.now }
         requires few { length calls.now ≤ 8 }
         ensures table { (self.new.seat.table_id ≡ self.old.seat.table_id) × (self.new.key.value ≡ self.old.key.value) }
-        ensures caller { (hold_held self.new).caller ≡ (hold_held self.old).caller }
-        ensures room { IsErr result ↔ (length (hold_held self.old).history.log ≡ (hold_held self.old).history.limit) }
-        ensures steps { IfOk result (λ s. s.list.items ≡ answers O.SeqObject (hold_held self.old).history.state calls.now) }
+        ensures caller { (view_of_hold self.new).caller ≡ (view_of_hold self.old).caller }
+        ensures room { IsErr result ↔ (length (view_of_hold self.old).history.log ≡ (view_of_hold self.old).history.limit) }
+        ensures steps { IfOk result (λ s. s.list.items ≡ answers O.SeqObject (view_of_hold self.old).history.state calls.now) }
         ensures asked { IfOk result (λ s. Fulfils O.SeqObject calls.now s.list.items) }
-        ensures after { IfOk result (λ s. (hold_held self.new).history ≡ with_event (hold_held self.old).history (record { cpu = (hold_held self.old).caller.acting; steps = s }) (after O.SeqObject (hold_held self.old).history.state s.list.items)) }
-        ensures full { OnErr result (hold_held self.new ≡ hold_held self.old) }
+        ensures after { IfOk result (λ s. (view_of_hold self.new).history ≡ with_event (view_of_hold self.old).history (record { cpu = (view_of_hold self.old).caller.acting; steps = s }) (after O.SeqObject (view_of_hold self.old).history.state s.list.items)) }
+        ensures full { OnErr result (view_of_hold self.new ≡ view_of_hold self.old) }
     {
         self.logged.apply(self.cpu, calls)
     }

@@ -5,7 +5,7 @@ ghost use Rattle.event_log.proofs.Props.{legal_props};
 ghost use Rattle.word_rule.specs.Callers.{IsWith};
 ghost use Rattle.word_rule.specs.Line.{lends};
 
-use crate::{Key, Lent, Place, Seat};
+use crate::{Key, Lent, Seat, Stage};
 use event_log::{Logged, SeqObject};
 use std::snapshot::Snapshot;
 
@@ -13,11 +13,11 @@ use std::snapshot::Snapshot;
 /// crates of the locks.
 pub struct Hold<O: SeqObject> {
     pub cpu: u8,
-    pub place: Place,
+    pub stage: Stage,
     pub logged: Logged<O>,
     pub lent: Lent,
     pub key: Snapshot<Key<O>>,
     pub seat: Seat<O>,
-    pub ghost holds: { IsWith O.SeqObject key.value cpu place logged seat.me } by { Prim.hlevel legal_props },
-    pub ghost there: { lends key.value.kind place ≡ true },
+    pub ghost holds: { IsWith O.SeqObject key.value cpu stage logged seat.me } by { Prim.hlevel legal_props },
+    pub ghost there: { lends key.value.kind stage ≡ true },
 }

@@ -4,7 +4,7 @@ ghost use Rattle.std.specs.Prelude.{◌≡◌, ◌<◌, ◌≤◌, [], All, leng
 ghost use Rattle.std.specs.List.{AllByRecursion};
 ghost use Rattle.word_rule.specs.LockWords.{lock_words};
 ghost use Rattle.word_rule.specs.Opening.{opening_world, IsOpening};
-ghost use Rattle.word_rule.specs.Shown.{Shows, opened_by};
+ghost use Rattle.word_rule.specs.Shown.{Represents, opened_by};
 ghost use Rattle.word_rule.specs.Sound.{Sound};
 ghost use Rattle.word_rule.specs.SoundWorld.{IsTodo};
 ghost use Rattle.word_rule.specs.World.{World, CellState, step, run, run_of};
@@ -52,9 +52,9 @@ pub struct Machine<O: SeqObject> {
 impl<O: SeqObject> Model for Machine<O> {
     ghost use Rattle.std.specs.Prelude.{◌≡◌, []};
     ghost use Rattle.std.specs.Vec.{vec_capacity};
-    ghost use Rattle.word_rule.specs.Shown.{Parts, Runs, IsRoomy};
+    ghost use Rattle.word_rule.specs.Shown.{MachineParts, Runs, IsRoomy};
 
-    ghost Value = { Parts O O.Params O.Call O.Reply };
+    ghost Value = { MachineParts O O.Params O.Call O.Reply };
 
     ghost view = { λ m. record { cells = m.cells.items; locks = m.locks.items; scripts = m.scripts.items; done = m.done.items } };
 
@@ -73,7 +73,7 @@ impl<O: SeqObject> Machine<O> {
         requires cpus { (0 < vec_len scripts) × (vec_len scripts ≤ 8) }
         requires empty { AllByRecursion (λ c. c.logged.log ≡ []) cells.items }
         requires able { AllByRecursion (λ s. AllByRecursion (λ t. IsTodo (vec_len cells) t) s.items) scripts.items }
-        ensures shows { IfOk result (λ m. Shows O.SeqObject m (opening_world cells.items scripts.items)) }
+        ensures shows { IfOk result (λ m. Represents O.SeqObject m (opening_world cells.items scripts.items)) }
         ensures opening { IsOpening (opening_world cells.items scripts.items) }
         ensures scripts { IfOk result (λ m. m.scripts ≡ scripts.items) }
         ensures opened { IfOk result (λ m. opened_by m ≡ map (λ c. record { params = c.logged.params; limit = c.logged.limit }) cells.items) }
@@ -102,8 +102,8 @@ impl<O: SeqObject> Machine<O> {
     /// The next atomic step of a CPU. One whose script is done does an idle step, which changes nothing.
     pub fn step(&mut self, cpu: u8) -> StepDone
         requires { cpu < length self.old.scripts }
-        ensures done { (w : World O O.Params O.Call O.Reply) → Shows O.SeqObject self.old w → result ≡ (step O.SeqObject w cpu).1 }
-        ensures shows { (w : World O O.Params O.Call O.Reply) → Shows O.SeqObject self.old w → Shows O.SeqObject self.new (step O.SeqObject w cpu).0 }
+        ensures done { (w : World O O.Params O.Call O.Reply) → Represents O.SeqObject self.old w → result ≡ (step O.SeqObject w cpu).1 }
+        ensures shows { (w : World O O.Params O.Call O.Reply) → Represents O.SeqObject self.old w → Represents O.SeqObject self.new (step O.SeqObject w cpu).0 }
         ensures scripts { self.new.scripts ≡ self.old.scripts }
         ensures opened { opened_by self.new ≡ opened_by self.old }
     {
@@ -127,7 +127,7 @@ impl<O: SeqObject> Machine<O> {
     /// The steps of a whole schedule, in order.
     pub fn run(&mut self, schedule: &[u8])
         requires { All (λ i. i < length self.old.scripts) schedule.now }
-        ensures shows { (w : World O O.Params O.Call O.Reply) → Shows O.SeqObject self.old w → Shows O.SeqObject self.new (run O.SeqObject schedule.now w) }
+        ensures shows { (w : World O O.Params O.Call O.Reply) → Represents O.SeqObject self.old w → Represents O.SeqObject self.new (run O.SeqObject schedule.now w) }
         ensures scripts { self.new.scripts ≡ self.old.scripts }
         ensures opened { opened_by self.new ≡ opened_by self.old }
     {
@@ -140,7 +140,7 @@ impl<O: SeqObject> Machine<O> {
     /// each CPU's `next`, then each CPU's `locked`.
     pub fn words(&self, cell: u8) -> &[u64]
         requires { cell < length self.now.cells }
-        ensures { (w : World O O.Params O.Call O.Reply) (c : CellState O O.Params O.Call O.Reply) → Shows O.SeqObject self.now w → slice_get w.cells cell ≡ Some c → result.now ≡ lock_words (length w.cpus) c.lock }
+        ensures { (w : World O O.Params O.Call O.Reply) (c : CellState O O.Params O.Call O.Reply) → Represents O.SeqObject self.now w → slice_get w.cells cell ≡ Some c → result.now ≡ lock_words (length w.cpus) c.lock }
     {
         self.locks[cell as usize].words.as_slice()
     }
@@ -148,7 +148,7 @@ impl<O: SeqObject> Machine<O> {
     /// The committed logs, and the transcripts so far. An entry stands in a transcript once the step that ended its hold
     /// was done.
     pub fn record(self) -> Run<O>
-        ensures shows { (w : World O O.Params O.Call O.Reply) → Shows O.SeqObject self w → result ≡ run_of w }
+        ensures shows { (w : World O O.Params O.Call O.Reply) → Represents O.SeqObject self w → result ≡ run_of w }
         ensures sound { Sound O.SeqObject (opened_by self) result }
     {
         let Machine {

@@ -1,10 +1,10 @@
 //! The opening of a cell and its end, whichever lock it has.
 
 ghost use Rattle.std.specs.Prelude.{◌≡◌, ◌<◌, ◌≤◌, [], length, IfOk, IfErr, vec_len, vec_capacity};
-ghost use Rattle.word_rule.specs.Cell.{Lawful, EachAt, OwnsAll, cell_of, opening_part, first_part, stored};
+ghost use Rattle.word_rule.specs.Cell.{Lawful, EachAt, OwnsAll, cell_of, opening_pass, first_pass, stored};
 ghost use Rattle.word_rule.specs.Definition.{Defined};
 ghost use Rattle.word_rule.specs.Line.{empty_line};
-ghost use Rattle.word_rule.specs.Passes.{IsPassAt, pass_part};
+ghost use Rattle.word_rule.specs.Passes.{IsPassAt, view_of_pass};
 ghost use Rattle.word_rule.specs.Seats.{first_view};
 
 use crate::{Key, LockKind, LockTable, Pass, Seat};
@@ -29,7 +29,7 @@ impl<O: SeqObject> LockTable<O> {
         ensures key { IfOk result (λ r. r.0.table.shared.key ≡ cell_of kind cpus logged) }
         ensures words { IfOk result (λ r. r.0.table.shared.table_id.words ≡ length words.now) }
         ensures count { IfOk result (λ r. vec_len r.1 ≡ cpus) }
-        ensures passes { IfOk result (λ r. EachAt (λ k p. IsPassAt r.0 p × (pass_part p ≡ first_part kind logged cpus k)) r.1.items) }
+        ensures passes { IfOk result (λ r. EachAt (λ k p. IsPassAt r.0 p × (view_of_pass p ≡ first_pass kind logged cpus k)) r.1.items) }
         ensures unchanged { IfErr result (λ e. e.1 ≡ logged) }
     {
         let Ok(passes) = Vec::with_capacity(alloc, cpus as usize) else {
@@ -67,7 +67,7 @@ impl<O: SeqObject> LockTable<O> {
         requires seat { (seat.table_id ≡ self.now.table.shared.table_id) × (seat.me ≡ (first_view key.now, [])) × (key.now.numbers ≡ cpus) }
         requires room { (passes.items ≡ []) × (cpus ≤ vec_capacity passes) }
         requires lawful { Lawful O.SeqObject key.now key.now.opening }
-        ensures passes { EachAt (λ k p. IsPassAt self.now p × (pass_part p ≡ opening_part key.now k)) result.items }
+        ensures passes { EachAt (λ k p. IsPassAt self.now p × (view_of_pass p ≡ opening_pass key.now k)) result.items }
         ensures count { vec_len result ≡ cpus }
     {
         for cpu in 0..cpus {
@@ -84,8 +84,8 @@ impl<O: SeqObject> LockTable<O> {
     /// A pass that owns every number ends the cell: the object is at home, and its log is what the pass has seen.
     pub fn close(self, pass: Pass<O>) -> Logged<O>
         requires pass { IsPassAt self pass }
-        requires whole { OwnsAll (pass_part pass).caller }
-        ensures { result ≡ stored O.SeqObject (pass_part pass).caller.cell (pass_part pass).seen }
+        requires whole { OwnsAll (view_of_pass pass).caller }
+        ensures { result ≡ stored O.SeqObject (view_of_pass pass).caller.cell (view_of_pass pass).seen }
     {
         let LockTable { table } = self;
         let mut closed = table.close_with(pass.seat);

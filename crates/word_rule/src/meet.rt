@@ -2,7 +2,7 @@
 
 ghost use Rattle.std.specs.Prelude.{◌≡◌, ℕ, ◌<◌, ◌||◌, min};
 ghost use Rattle.word_rule.specs.Cell.{Grows};
-ghost use Rattle.word_rule.specs.Passes.{IsPassAt, IsHoldAt, pass_part};
+ghost use Rattle.word_rule.specs.Passes.{IsPassAt, IsHoldAt, view_of_pass};
 
 use crate::{Beside, Clash, Hold, LockTable, Meet, Merge, Pass, Tear};
 use event_log::SeqObject;
@@ -14,11 +14,11 @@ impl<O: SeqObject> LockTable<O> {
         requires second { IsPassAt self.now two }
         requires some { 0 < self.now.table.shared.table_id.words }
         ensures pass { IsPassAt self.now result }
-        ensures cell { (pass_part result).caller.cell ≡ (pass_part one).caller.cell }
-        ensures owned { (k : ℕ) → (pass_part result).caller.owned k ≡ ((pass_part one).caller.owned k || (pass_part two).caller.owned k) }
-        ensures acting { (pass_part result).caller.acting ≡ min (pass_part one).caller.acting (pass_part two).caller.acting }
-        ensures first_grows { Grows (pass_part one).caller.owned (pass_part one).seen (pass_part result).seen }
-        ensures second_grows { Grows (pass_part two).caller.owned (pass_part two).seen (pass_part result).seen }
+        ensures cell { (view_of_pass result).caller.cell ≡ (view_of_pass one).caller.cell }
+        ensures owned { (k : ℕ) → (view_of_pass result).caller.owned k ≡ ((view_of_pass one).caller.owned k || (view_of_pass two).caller.owned k) }
+        ensures acting { (view_of_pass result).caller.acting ≡ min (view_of_pass one).caller.acting (view_of_pass two).caller.acting }
+        ensures first_grows { Grows (view_of_pass one).caller.owned (view_of_pass one).seen (view_of_pass result).seen }
+        ensures second_grows { Grows (view_of_pass two).caller.owned (view_of_pass two).seen (view_of_pass result).seen }
     {
         let Pass { cpu, key, mut seat } = one;
         let Pass {
@@ -41,11 +41,11 @@ impl<O: SeqObject> LockTable<O> {
         requires second { IsPassAt self.now two }
         requires some { 0 < self.now.table.shared.table_id.words }
         ensures passes { IsPassAt self.now result.0 × IsPassAt self.now result.1 }
-        ensures first_caller { (pass_part result.0).caller ≡ (pass_part one).caller }
-        ensures second_caller { (pass_part result.1).caller ≡ (pass_part two).caller }
-        ensures one_log { (pass_part result.0).seen ≡ (pass_part result.1).seen }
-        ensures first_grows { Grows (pass_part one).caller.owned (pass_part one).seen (pass_part result.0).seen }
-        ensures second_grows { Grows (pass_part two).caller.owned (pass_part two).seen (pass_part result.1).seen }
+        ensures first_caller { (view_of_pass result.0).caller ≡ (view_of_pass one).caller }
+        ensures second_caller { (view_of_pass result.1).caller ≡ (view_of_pass two).caller }
+        ensures one_log { (view_of_pass result.0).seen ≡ (view_of_pass result.1).seen }
+        ensures first_grows { Grows (view_of_pass one).caller.owned (view_of_pass one).seen (view_of_pass result.0).seen }
+        ensures second_grows { Grows (view_of_pass two).caller.owned (view_of_pass two).seen (view_of_pass result.1).seen }
     {
         let Pass { cpu, key, mut seat } = one;
         let Pass {
@@ -75,7 +75,7 @@ impl<O: SeqObject> LockTable<O> {
     {
         let Hold {
             cpu: _,
-            place: _,
+            stage: _,
             logged: _first,
             lent: _one,
             key: _,
@@ -83,7 +83,7 @@ impl<O: SeqObject> LockTable<O> {
         } = one;
         let Hold {
             cpu: _,
-            place: _,
+            stage: _,
             logged: _second,
             lent: _two,
             key: _,

@@ -1,6 +1,6 @@
 //! What the seats at a cell's table know of their callers. Contracts read these types, and no value of them is made.
 
-use crate::Place;
+use crate::Stage;
 use std::collections::LinkedList;
 use std::marker::Model;
 use std::snapshot::Snapshot;
@@ -23,7 +23,7 @@ impl<E> Model for Trace<E> {
 pub struct Seated<E> {
     pub cpu: u8,
     pub owned: LinkedList<u8>,
-    pub place: Place,
+    pub stage: Stage,
     pub seen: Trace<E>,
 }
 

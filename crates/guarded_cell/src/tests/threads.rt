@@ -3,7 +3,7 @@
 ghost use Rattle.std.specs.Prelude.{◌≡◌, ◌<◌, ◌||◌, ℕ, true, IfOk};
 ghost use Rattle.word_rule.specs.Cell.{OwnTogether};
 ghost use Rattle.guarded_cell.specs.Kinds.{IsPassOf};
-ghost use Rattle.word_rule.specs.Passes.{pass_part};
+ghost use Rattle.word_rule.specs.Passes.{view_of_pass};
 
 use super::{KINDS, cell_of_two};
 use crate::{AnyCell, AnyPass, call_on_two_threads, two_callers};
@@ -89,9 +89,9 @@ fn two_leave_their_calls<C: LockCell<ThreadQueue> + Sync, R: Threads + Wait + Sy
 ) -> Result<usize, Fail>
 where
     C::Pass: Send,
-    requires first { C.is_pass cell passes.0 }
-    requires second { C.is_pass cell passes.1 }
-    requires all { OwnTogether (C.part passes.0).caller (C.part passes.1).caller }
+    requires first { C.is_pass_of cell passes.0 }
+    requires second { C.is_pass_of cell passes.1 }
+    requires all { OwnTogether (C.pass_view passes.0).caller (C.pass_view passes.1).caller }
 {
     let (queue, first, second) = two_callers(rt, cell, passes, calls.0, calls.1);
     let events = queue.log().len();
@@ -171,7 +171,7 @@ fn cell_of_four(
 ) -> Result<(AnyCell<ThreadQueue>, Pair<Pair<AnyPass<ThreadQueue>>>), Fail>
     ensures front { IfOk result (λ r. IsPassOf r.0 r.1.0.0 × IsPassOf r.0 r.1.0.1) }
     ensures back { IfOk result (λ r. IsPassOf r.0 r.1.1.0 × IsPassOf r.0 r.1.1.1) }
-    ensures all { IfOk result (λ r. (k : ℕ) → k < (pass_part r.1.0.0).caller.cell.numbers → (((pass_part r.1.0.0).caller.owned k || (pass_part r.1.0.1).caller.owned k) || ((pass_part r.1.1.0).caller.owned k || (pass_part r.1.1.1).caller.owned k)) ≡ true) }
+    ensures all { IfOk result (λ r. (k : ℕ) → k < (view_of_pass r.1.0.0).caller.cell.numbers → (((view_of_pass r.1.0.0).caller.owned k || (view_of_pass r.1.0.1).caller.owned k) || ((view_of_pass r.1.1.0).caller.owned k || (view_of_pass r.1.1.1).caller.owned k)) ≡ true) }
 {
     let queue = Logged::<ThreadQueue>::open(alloc, 8, limit)?;
     let Ok((cell, mut passes)) = AnyCell::open(alloc, kind, queue, 4) else {
@@ -194,7 +194,7 @@ fn both_call<R: Threads + Wait + Sync>(
 ) -> Pair<AnyPass<ThreadQueue>>
     requires passes { IsPassOf cell.now passes.0 × IsPassOf cell.now passes.1 }
     ensures passes { IsPassOf cell.now result.0 × IsPassOf cell.now result.1 }
-    ensures callers { ((pass_part result.0).caller ≡ (pass_part passes.0).caller) × ((pass_part result.1).caller ≡ (pass_part passes.1).caller) }
+    ensures callers { ((view_of_pass result.0).caller ≡ (view_of_pass passes.0).caller) × ((view_of_pass result.1).caller ≡ (view_of_pass passes.1).caller) }
 {
     let ((zero, _), (one, _)) = call_on_two_threads(rt, cell, passes, first, second);
     (zero, one)
@@ -210,7 +210,7 @@ fn four_call<R: Threads + Wait + Sync>(
 ) -> Logged<ThreadQueue>
     requires front { IsPassOf cell passes.0.0 × IsPassOf cell passes.0.1 }
     requires back { IsPassOf cell passes.1.0 × IsPassOf cell passes.1.1 }
-    requires all { (k : ℕ) → k < (pass_part passes.0.0).caller.cell.numbers → (((pass_part passes.0.0).caller.owned k || (pass_part passes.0.1).caller.owned k) || ((pass_part passes.1.0).caller.owned k || (pass_part passes.1.1).caller.owned k)) ≡ true }
+    requires all { (k : ℕ) → k < (view_of_pass passes.0.0).caller.cell.numbers → (((view_of_pass passes.0.0).caller.owned k || (view_of_pass passes.0.1).caller.owned k) || ((view_of_pass passes.1.0).caller.owned k || (view_of_pass passes.1.1).caller.owned k)) ≡ true }
 {
     let ((zero, one), (two, three)) = passes;
     let shared = &cell;
@@ -219,12 +219,12 @@ fn four_call<R: Threads + Wait + Sync>(
         move || -> Pair<AnyPass<ThreadQueue>>
             requires passes { IsPassOf shared.now zero × IsPassOf shared.now one }
             ensures passes { IsPassOf shared.entry.now result.0 × IsPassOf shared.entry.now result.1 }
-            ensures callers { ((pass_part result.0).caller ≡ (pass_part zero).caller) × ((pass_part result.1).caller ≡ (pass_part one).caller) }
+            ensures callers { ((view_of_pass result.0).caller ≡ (view_of_pass zero).caller) × ((view_of_pass result.1).caller ≡ (view_of_pass one).caller) }
         { both_call(rt, shared, (zero, one), first, second) },
         move || -> Pair<AnyPass<ThreadQueue>>
             requires passes { IsPassOf shared.now two × IsPassOf shared.now three }
             ensures passes { IsPassOf shared.entry.now result.0 × IsPassOf shared.entry.now result.1 }
-            ensures callers { ((pass_part result.0).caller ≡ (pass_part two).caller) × ((pass_part result.1).caller ≡ (pass_part three).caller) }
+            ensures callers { ((view_of_pass result.0).caller ≡ (view_of_pass two).caller) × ((view_of_pass result.1).caller ≡ (view_of_pass three).caller) }
         { both_call(rt, shared, (two, three), first, second) },
     );
     let front = cell.join(zero, one);

@@ -26,7 +26,7 @@ pub fn first_come<O: SeqObject>()
 pub fn one_holder<O: SeqObject>()
     ensures { (w : World O O.Params O.Call O.Reply) → IsOpening w → (schedule : List ℕ) (x i j : ℕ) (c : CellState O O.Params O.Call O.Reply) →
         slice_get (run O.SeqObject schedule w).cells x ≡ Some c → i < length w.cpus → j < length w.cpus →
-        holding (c.lock.line.place i) ≡ true → holding (c.lock.line.place j) ≡ true → i ≡ j }
+        holding (c.lock.line.stage i) ≡ true → holding (c.lock.line.stage j) ≡ true → i ≡ j }
 {}
 
 /// Under every schedule each log is legal, and logs and transcripts are a sound run.

@@ -2,13 +2,13 @@
 
 ghost use Rattle.std.specs.Prelude.{◌≡◌, ◌<◌, ◌≤◌, vec_len, IfOk};
 ghost use Rattle.word_rule.specs.Locks.{Lock, opening_lock};
-ghost use Rattle.word_rule.specs.LockWords.{ShowsLock, TiedOf};
+ghost use Rattle.word_rule.specs.LockWords.{RepresentsLock, IsLockOf};
 ghost use Rattle.word_rule.specs.Turns.{turn};
 
 use crate::machine::mcs::turn_mcs;
 use crate::machine::step_done::StepDone;
 use crate::machine::ticket::turn_ticket;
-use crate::{LockKind, Place};
+use crate::{LockKind, Stage};
 use event_log::OutOfMemory;
 use std::alloc::Global;
 
@@ -17,7 +17,7 @@ use std::alloc::Global;
 pub struct LockWords {
     pub kind: LockKind,
     pub words: Vec<u64>,
-    pub places: Vec<Place>,
+    pub stages: Vec<Stage>,
 }
 
 impl LockWords {
@@ -29,14 +29,14 @@ impl LockWords {
         cpus: usize,
     ) -> Result<LockWords, OutOfMemory>
         requires { cpus ≤ 8 }
-        ensures { IfOk result (λ w. ShowsLock cpus w.kind w.words.items w.places.items (opening_lock kind first)) }
+        ensures { IfOk result (λ w. RepresentsLock cpus w.kind w.words.items w.stages.items (opening_lock kind first)) }
     {
         let words = new_words(alloc, kind, first, cpus)?;
-        match vec![in alloc; Place::Idle; cpus] {
-            Ok(places) => Ok(LockWords {
+        match vec![in alloc; Stage::Idle; cpus] {
+            Ok(stages) => Ok(LockWords {
                 kind,
                 words,
-                places,
+                stages,
             }),
             Err(_) => Err(OutOfMemory),
         }
@@ -44,15 +44,15 @@ impl LockWords {
 
     /// The next step of a CPU.
     pub fn turn(&mut self, cpu: u8) -> StepDone
-        requires shows { (l : Lock) × ShowsLock (vec_len self.old.places) self.old.kind self.old.words.items self.old.places.items l }
-        requires exists { cpu < vec_len self.old.places }
-        requires few { vec_len self.old.places ≤ 8 }
-        ensures done { (l : Lock) → ShowsLock (vec_len self.old.places) self.old.kind self.old.words.items self.old.places.items l → result ≡ (turn l cpu).1 }
-        ensures shows { (l : Lock) → ShowsLock (vec_len self.old.places) self.old.kind self.old.words.items self.old.places.items l → ShowsLock (vec_len self.old.places) self.new.kind self.new.words.items self.new.places.items (turn l cpu).0 }
+        requires shows { (l : Lock) × RepresentsLock (vec_len self.old.stages) self.old.kind self.old.words.items self.old.stages.items l }
+        requires exists { cpu < vec_len self.old.stages }
+        requires few { vec_len self.old.stages ≤ 8 }
+        ensures done { (l : Lock) → RepresentsLock (vec_len self.old.stages) self.old.kind self.old.words.items self.old.stages.items l → result ≡ (turn l cpu).1 }
+        ensures shows { (l : Lock) → RepresentsLock (vec_len self.old.stages) self.old.kind self.old.words.items self.old.stages.items l → RepresentsLock (vec_len self.old.stages) self.new.kind self.new.words.items self.new.stages.items (turn l cpu).0 }
     {
         match self.kind {
-            LockKind::Ticket => turn_ticket(&mut self.words, &mut self.places, cpu),
-            LockKind::Mcs => turn_mcs(&mut self.words, &mut self.places, cpu),
+            LockKind::Ticket => turn_ticket(&mut self.words, &mut self.stages, cpu),
+            LockKind::Mcs => turn_mcs(&mut self.words, &mut self.stages, cpu),
         }
     }
 }
@@ -65,7 +65,7 @@ fn new_words(
     cpus: usize,
 ) -> Result<Vec<u64>, OutOfMemory>
     requires { cpus ≤ 8 }
-    ensures { IfOk result (λ w. TiedOf kind cpus w.items (opening_lock kind first)) }
+    ensures { IfOk result (λ w. IsLockOf kind cpus w.items (opening_lock kind first)) }
 {
     match kind {
         LockKind::Ticket => match vec![in alloc; first; 2] {

@@ -3,71 +3,71 @@
 
 ghost use Rattle.std.specs.Prelude.{◌≡◌, ℕ, ◌+◌, ◌<◌, ◌≤◌, true, false, length};
 ghost use Rattle.word_rule.specs.Locks.{Lock};
-ghost use Rattle.word_rule.specs.LockWords.{ShowsLock};
+ghost use Rattle.word_rule.specs.LockWords.{RepresentsLock};
 ghost use Rattle.word_rule.specs.Turns.{turn};
 
 use crate::machine::step_done::StepDone;
-use crate::{LockKind, Place};
+use crate::{LockKind, Stage};
 
 /// The next step of a CPU.
-pub fn turn_mcs(words: &mut [u64], places: &mut [Place], cpu: u8) -> StepDone
-    requires shows { (l : Lock) × ShowsLock (length places.old) LockKind.Mcs words.old places.old l }
-    requires exists { cpu < length places.old }
-    requires few { length places.old ≤ 8 }
-    ensures done { (l : Lock) → ShowsLock (length places.old) LockKind.Mcs words.old places.old l → result ≡ (turn l cpu).1 }
-    ensures shows { (l : Lock) → ShowsLock (length places.old) LockKind.Mcs words.old places.old l → ShowsLock (length places.old) LockKind.Mcs words.new places.new (turn l cpu).0 }
+pub fn turn_mcs(words: &mut [u64], stages: &mut [Stage], cpu: u8) -> StepDone
+    requires shows { (l : Lock) × RepresentsLock (length stages.old) LockKind.Mcs words.old stages.old l }
+    requires exists { cpu < length stages.old }
+    requires few { length stages.old ≤ 8 }
+    ensures done { (l : Lock) → RepresentsLock (length stages.old) LockKind.Mcs words.old stages.old l → result ≡ (turn l cpu).1 }
+    ensures shows { (l : Lock) → RepresentsLock (length stages.old) LockKind.Mcs words.old stages.old l → RepresentsLock (length stages.old) LockKind.Mcs words.new stages.new (turn l cpu).0 }
 {
-    let n = places.len();
+    let n = stages.len();
     let i = cpu as usize;
     let me = cpu as u64 + 1;
-    match places[i] {
-        Place::Idle => {
+    match stages[i] {
+        Stage::Idle => {
             words[1 + i] = 0;
-            places[i] = Place::Ready;
+            stages[i] = Stage::Ready;
             StepDone::Clear
         }
-        Place::Ready => {
+        Stage::Ready => {
             let old = words[0];
             words[0] = me;
             if old == 0 {
-                places[i] = Place::Holding;
+                stages[i] = Stage::Holding;
                 StepDone::Enter(true)
             } else {
-                places[i] = Place::Behind((old - 1) as u8);
+                stages[i] = Stage::Behind((old - 1) as u8);
                 StepDone::Enter(false)
             }
         }
-        Place::Behind(ahead) => {
+        Stage::Behind(ahead) => {
             words[1 + n + i] = 1;
-            places[i] = Place::Armed(ahead);
+            stages[i] = Stage::Armed(ahead);
             StepDone::Arm
         }
-        Place::Armed(ahead) => {
+        Stage::Armed(ahead) => {
             words[1 + ahead as usize] = me;
-            places[i] = Place::Waiting;
+            stages[i] = Stage::Waiting;
             StepDone::Link
         }
-        Place::Waiting => {
+        Stage::Waiting => {
             if words[1 + n + i] != 0 {
                 return StepDone::Look(false);
             }
-            places[i] = Place::Holding;
+            stages[i] = Stage::Holding;
             StepDone::Look(true)
         }
-        Place::Holding => see(words[1 + i], Place::Alone, &mut places[i]),
-        Place::Alone => {
+        Stage::Holding => see(words[1 + i], Stage::Alone, &mut stages[i]),
+        Stage::Alone => {
             if words[0] != me {
-                places[i] = Place::Leaving;
+                stages[i] = Stage::Leaving;
                 return StepDone::Empty(false);
             }
             words[0] = 0;
-            places[i] = Place::Idle;
+            stages[i] = Stage::Idle;
             StepDone::Empty(true)
         }
-        Place::Leaving => see(words[1 + i], Place::Leaving, &mut places[i]),
-        Place::Passing(behind) => {
+        Stage::Leaving => see(words[1 + i], Stage::Leaving, &mut stages[i]),
+        Stage::Passing(behind) => {
             words[1 + n + behind as usize] = 0;
-            places[i] = Place::Idle;
+            stages[i] = Stage::Idle;
             StepDone::Pass
         }
         _ => StepDone::Idle,
@@ -75,15 +75,15 @@ pub fn turn_mcs(words: &mut [u64], places: &mut [Place], cpu: u8) -> StepDone
 }
 
 /// What a holder sees in its `next`: its follower, to which it will pass, or nobody.
-fn see(next: u64, otherwise: Place, place: &mut Place) -> StepDone
+fn see(next: u64, otherwise: Stage, stage: &mut Stage) -> StepDone
     requires { next ≤ 8 }
-    ensures none { next ≡ 0 → (result ≡ StepDone.See false) × (place.new ≡ otherwise) }
-    ensures one { (j : ℕ) → next ≡ j + 1 → (result ≡ StepDone.See true) × (place.new ≡ Place.Passing j) }
+    ensures none { next ≡ 0 → (result ≡ StepDone.See false) × (stage.new ≡ otherwise) }
+    ensures one { (j : ℕ) → next ≡ j + 1 → (result ≡ StepDone.See true) × (stage.new ≡ Stage.Passing j) }
 {
     if next == 0 {
-        *place = otherwise;
+        *stage = otherwise;
         return StepDone::See(false);
     }
-    *place = Place::Passing((next - 1) as u8);
+    *stage = Stage::Passing((next - 1) as u8);
     StepDone::See(true)
 }

@@ -4,8 +4,8 @@ use Rattle.guarded_cell.proofs.callers.call_all.Given as goal
 
 abbrev pub invariant-loop-asked : goal.invariant-loop-asked
 invariant-loop-asked g l = record {
-  pass : g.C.LockCell.is_pass l.cell l.pass;
-  caller : (g.C.LockCell.part l.pass).caller ≡ (g.C.LockCell.part l.fn.pass).caller;
-  called : HasCalled (g.C.LockCell.part l.fn.pass) (take l.asked-index l.calls) (g.C.LockCell.part l.pass).seen;
+  pass : g.C.LockCell.is_pass_of l.cell l.pass;
+  caller : (g.C.LockCell.pass_view l.pass).caller ≡ (g.C.LockCell.pass_view l.fn.pass).caller;
+  called : HasCalled (g.C.LockCell.pass_view l.fn.pass) (take l.asked-index l.calls) (g.C.LockCell.pass_view l.pass).seen;
   count : l.done ≡ l.asked-index;
 }

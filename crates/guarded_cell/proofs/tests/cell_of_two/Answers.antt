@@ -1,5 +1,5 @@
 use Rattle.std.proofs.Common.{rules, ◌≡◌, Some, slice_get}
-use Rattle.word_rule.specs.Passes.{pass_part}
+use Rattle.word_rule.specs.Passes.{view_of_pass}
 use Rattle.word_rule.proofs.Owners.{own_both}
 use Rattle.guarded_cell.proofs.tests.cell_of_two.Goals as goal
 
@@ -7,4 +7,4 @@ pub returns-clause-all : goal.returns-clause-all
 returns-clause-all c =
     let zero : slice_get c.in-Ok.passes.items 0 ≡ Some c.unwrap-zero.result = search rules in
     let one : slice_get c.in-Ok.passes.items 1 ≡ Some c.unwrap-one.result = search rules in
-    own_both c.in_ok-queue.queue (pass_part c.unwrap-zero.result) (pass_part c.unwrap-one.result) (c.in-Ok.ensures.passes 0 c.unwrap-zero.result zero).1 (c.in-Ok.ensures.passes 1 c.unwrap-one.result one).1
+    own_both c.in_ok-queue.queue (view_of_pass c.unwrap-zero.result) (view_of_pass c.unwrap-one.result) (c.in-Ok.ensures.passes 0 c.unwrap-zero.result zero).1 (c.in-Ok.ensures.passes 1 c.unwrap-one.result one).1

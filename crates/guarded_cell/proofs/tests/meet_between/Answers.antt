@@ -1,5 +1,5 @@
 use Rattle.std.proofs.Common.{◌∙◌}
-use Rattle.word_rule.specs.Passes.{pass_part}
+use Rattle.word_rule.specs.Passes.{view_of_pass}
 use Rattle.word_rule.proofs.Owners.{still_together, together_joined}
 use Rattle.guarded_cell.proofs.tests.meet_between.Goals as goal
 
@@ -7,7 +7,7 @@ pub close-requires-clause-whole : goal.close-requires-clause-whole
 close-requires-clause-whole g c =
     let met = c.meet-zero.ensures in
     let joined = c.join-pass in
-    let first = (pass_part c.meet-zero.result.0).caller in
-    let second = (pass_part c.call-one.result.0).caller in
-    together_joined first second (pass_part joined.result).caller joined.ensures.second_cell joined.ensures.owned
-    (still_together (pass_part c.args.passes.0).caller first (pass_part c.args.passes.1).caller second (met.first_caller ∙ c.call-zero.ensures.caller) (c.call-one.ensures.caller ∙ met.second_caller) c.requires.all)
+    let first = (view_of_pass c.meet-zero.result.0).caller in
+    let second = (view_of_pass c.call-one.result.0).caller in
+    together_joined first second (view_of_pass joined.result).caller joined.ensures.second_cell joined.ensures.owned
+    (still_together (view_of_pass c.args.passes.0).caller first (view_of_pass c.args.passes.1).caller second (met.first_caller ∙ c.call-zero.ensures.caller) (c.call-one.ensures.caller ∙ met.second_caller) c.requires.all)

@@ -1,4 +1,4 @@
-use Rattle.word_rule.proofs.Parts.{did}
+use Rattle.word_rule.proofs.MachineParts.{did}
 use Rattle.guarded_cell.proofs.whole.batch.Goals as goal
 
 pub returns-clause-answered : goal.returns-clause-answered
@@ -6,13 +6,13 @@ returns-clause-answered g c =
     let h = c.acquire-hold in
     let a = c.apply-done in
     let r = c.release-pass in
-    (did g.O.SeqObject (g.C.LockCell.part c.args.pass) (g.C.LockCell.part r.result) (g.C.LockCell.held h.result.0) (g.C.LockCell.held a.new.hold) (g.met.C.LockCell.hold_is_held c.args.cell.now h.result.0 h.ensures.hold)
-    h.ensures.caller h.ensures.grows a.ensures.caller r.ensures.caller r.ensures.seen (g.met.C.LockCell.pass_is_part c.args.cell.now r.result r.ensures.pass) c.args.calls.now a.result a.ensures.asked a.ensures.room a.ensures.after a.ensures.full).0
+    (did g.O.SeqObject (g.C.LockCell.pass_view c.args.pass) (g.C.LockCell.pass_view r.result) (g.C.LockCell.hold_view h.result.0) (g.C.LockCell.hold_view a.new.hold) (g.met.C.LockCell.hold_is_lawful c.args.cell.now h.result.0 h.ensures.hold)
+    h.ensures.caller h.ensures.grows a.ensures.caller r.ensures.caller r.ensures.seen (g.met.C.LockCell.pass_is_lawful c.args.cell.now r.result r.ensures.pass) c.args.calls.now a.result a.ensures.asked a.ensures.room a.ensures.after a.ensures.full).0
 
 pub returns-clause-refused : goal.returns-clause-refused
 returns-clause-refused g c =
     let h = c.acquire-hold in
     let a = c.apply-done in
     let r = c.release-pass in
-    (did g.O.SeqObject (g.C.LockCell.part c.args.pass) (g.C.LockCell.part r.result) (g.C.LockCell.held h.result.0) (g.C.LockCell.held a.new.hold) (g.met.C.LockCell.hold_is_held c.args.cell.now h.result.0 h.ensures.hold)
-    h.ensures.caller h.ensures.grows a.ensures.caller r.ensures.caller r.ensures.seen (g.met.C.LockCell.pass_is_part c.args.cell.now r.result r.ensures.pass) c.args.calls.now a.result a.ensures.asked a.ensures.room a.ensures.after a.ensures.full).1
+    (did g.O.SeqObject (g.C.LockCell.pass_view c.args.pass) (g.C.LockCell.pass_view r.result) (g.C.LockCell.hold_view h.result.0) (g.C.LockCell.hold_view a.new.hold) (g.met.C.LockCell.hold_is_lawful c.args.cell.now h.result.0 h.ensures.hold)
+    h.ensures.caller h.ensures.grows a.ensures.caller r.ensures.caller r.ensures.seen (g.met.C.LockCell.pass_is_lawful c.args.cell.now r.result r.ensures.pass) c.args.calls.now a.result a.ensures.asked a.ensures.room a.ensures.after a.ensures.full).1

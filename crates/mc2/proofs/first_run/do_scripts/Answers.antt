@@ -2,7 +2,7 @@ use Rattle.std.proofs.Common.{◌≤◌, ◌∷◌, [], vec_capacity, sym, ap, s
 use Rattle.std.specs.List.{AllByRecursion}
 use Rattle.shared_queue.specs.contracts.queue.ThreadQueueSeqObject.TheImpl.{ghosts as queue_meaning}
 use Rattle.word_rule.specs.Sound.{Sound}
-use Rattle.word_rule.specs.Passes.{pass_part}
+use Rattle.word_rule.specs.Passes.{view_of_pass}
 use Rattle.mc2.specs.FirstRun.{IsAble, AsksFor}
 use Rattle.mc2.specs.QueueTypes.{QueueRun}
 use Rattle.mc2.proofs.Workers.{script_able, whole, run_sound, run_asks}
@@ -27,14 +27,14 @@ on_two_threads-requires-clause-second g c κs within = record {
 pub close-requires-clause-whole : goal.close-requires-clause-whole
 close-requires-clause-whole g c =
     let passes = c.in_ok-cell.passes in let first = c.in_ok-first.first in let second = c.in_ok-first.second in let todos = c.in_ok-todos.todos in let j = c.join-pass.ensures in
-    whole queue_meaning c.args.logged c.requires.new (pass_part passes.0) (pass_part passes.1) (pass_part first.0) (pass_part second.0) (pass_part c.join-pass.result) todos.0.items todos.1.items first.1.items second.1.items
+    whole queue_meaning c.args.logged c.requires.new (view_of_pass passes.0) (view_of_pass passes.1) (view_of_pass first.0) (view_of_pass second.0) (view_of_pass c.join-pass.result) todos.0.items todos.1.items first.1.items second.1.items
     c.in_ok-cell.ensures.first.1 c.in_ok-cell.ensures.second.1 c.in_ok-first.ensures.first.done c.in_ok-first.ensures.second.done j.first_cell j.owned
 
 pub returns-clause-asks : goal.returns-clause-asks
 returns-clause-asks g c =
     let passes = c.in_ok-cell.passes in let first = c.in_ok-first.first in let second = c.in_ok-first.second in let todos = c.in_ok-todos.todos in let j = c.join-pass.ensures in
-    let asks = run_asks queue_meaning c.args.logged c.requires.new (pass_part passes.0) (pass_part passes.1) (pass_part first.0) (pass_part second.0) (pass_part c.join-pass.result) todos.0.items todos.1.items first.1.items second.1.items
-    c.in_ok-cell.ensures.first.1 c.in_ok-cell.ensures.second.1 c.in_ok-first.ensures.first.done c.in_ok-first.ensures.second.done j.first_cell c.join-pass.result.idle.part j.first_grows j.second_grows c.args.requests.items c.in_ok-todos.ensures.first c.in_ok-todos.ensures.second c.requires.able in
+    let asks = run_asks queue_meaning c.args.logged c.requires.new (view_of_pass passes.0) (view_of_pass passes.1) (view_of_pass first.0) (view_of_pass second.0) (view_of_pass c.join-pass.result) todos.0.items todos.1.items first.1.items second.1.items
+    c.in_ok-cell.ensures.first.1 c.in_ok-cell.ensures.second.1 c.in_ok-first.ensures.first.done c.in_ok-first.ensures.second.done j.first_cell c.join-pass.result.idle.pass_view j.first_grows j.second_grows c.args.requests.items c.in_ok-todos.ensures.first c.in_ok-todos.ensures.second c.requires.able in
     let log = c.into_log-log.ensures ∙ ap (λ h. h.log) c.close.ensures in
     let made = c.make_run.ensures ∙ ap (λ l. record { logs = l ∷ []; transcripts = first.1.items ∷ second.1.items ∷ [] }) log in
     subst (λ (r : QueueRun). AsksFor c.args.requests.items r) (sym made) asks
@@ -42,8 +42,8 @@ returns-clause-asks g c =
 pub returns-clause-sound : goal.returns-clause-sound
 returns-clause-sound g c =
     let passes = c.in_ok-cell.passes in let first = c.in_ok-first.first in let second = c.in_ok-first.second in let todos = c.in_ok-todos.todos in let j = c.join-pass.ensures in
-    let sound = run_sound queue_meaning c.args.logged c.requires.new (pass_part passes.0) (pass_part passes.1) (pass_part first.0) (pass_part second.0) (pass_part c.join-pass.result) todos.0.items todos.1.items first.1.items second.1.items
-    c.in_ok-cell.ensures.first.1 c.in_ok-cell.ensures.second.1 c.in_ok-first.ensures.first.done c.in_ok-first.ensures.second.done j.first_cell c.join-pass.result.idle.part j.first_grows j.second_grows in
+    let sound = run_sound queue_meaning c.args.logged c.requires.new (view_of_pass passes.0) (view_of_pass passes.1) (view_of_pass first.0) (view_of_pass second.0) (view_of_pass c.join-pass.result) todos.0.items todos.1.items first.1.items second.1.items
+    c.in_ok-cell.ensures.first.1 c.in_ok-cell.ensures.second.1 c.in_ok-first.ensures.first.done c.in_ok-first.ensures.second.done j.first_cell c.join-pass.result.idle.pass_view j.first_grows j.second_grows in
     let log = c.into_log-log.ensures ∙ ap (λ h. h.log) c.close.ensures in
     let made = c.make_run.ensures ∙ ap (λ l. record { logs = l ∷ []; transcripts = first.1.items ∷ second.1.items ∷ [] }) log in
     subst (λ (r : QueueRun). Sound queue_meaning (record { params = c.args.logged.params; limit = c.args.logged.limit } ∷ []) r) (sym made) sound

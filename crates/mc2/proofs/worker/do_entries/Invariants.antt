@@ -2,7 +2,7 @@ use Rattle.std.proofs.Common.{◌≡◌, ◌++◌, ◌≤◌, ◌+◌, length, v
 use Rattle.std.specs.List.{AllByRecursion}
 use Rattle.std.specs.Vec.Iter.{into_iter_items}
 use Rattle.ticket_lock.specs.Passes.{IsPassOf}
-use Rattle.word_rule.specs.Passes.{pass_part}
+use Rattle.word_rule.specs.Passes.{view_of_pass}
 use Rattle.mc2.specs.FirstRun.{IsAble, HasDone}
 use Rattle.mc2.proofs.worker.do_entries.Given as goal
 
@@ -11,6 +11,6 @@ invariant-loop-todo g l = record {
   split : l.yielded ++ into_iter_items l.todo-iterator ≡ l.fn.todos.items;
   able : AllByRecursion IsAble (into_iter_items l.todo-iterator);
   pass : IsPassOf l.cell l.pass;
-  done : HasDone g.O.SeqObject (pass_part l.fn.pass) l.yielded l.transcript.items (pass_part l.pass);
+  done : HasDone g.O.SeqObject (view_of_pass l.fn.pass) l.yielded l.transcript.items (view_of_pass l.pass);
   room : length l.transcript.items + length (into_iter_items l.todo-iterator) ≤ vec_capacity l.transcript;
 }

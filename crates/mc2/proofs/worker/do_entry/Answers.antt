@@ -1,7 +1,7 @@
 use Rattle.std.proofs.Common.{refl, subst, IfOk}
 use Rattle.event_log.specs.Log.{Fulfils}
-use Rattle.word_rule.proofs.Parts.{did}
-use Rattle.word_rule.specs.Passes.{pass_part, hold_held}
+use Rattle.word_rule.proofs.MachineParts.{did}
+use Rattle.word_rule.specs.Passes.{view_of_pass, view_of_hold}
 use Rattle.mc2.proofs.Workers.{did_of}
 use Rattle.mc2.proofs.worker.do_entry.Goals as goal
 
@@ -10,9 +10,9 @@ release-pass-requires g c = c.apply-applied.ensures.hold c.args.cell.now c.acqui
 
 pub returns-clause-entry : goal.returns-clause-entry
 returns-clause-entry g c = let a = c.apply-applied.ensures in let r = c.release-pass.ensures in let h = c.acquire-hold in
-    let both = did g.O.SeqObject (pass_part c.args.pass) (pass_part c.release-pass.result) (hold_held h.result.0) (hold_held c.apply-applied.new.hold) h.result.0.holds.held h.ensures.caller h.ensures.grows a.caller r.caller r.seen c.release-pass.result.idle.part
+    let both = did g.O.SeqObject (view_of_pass c.args.pass) (view_of_pass c.release-pass.result) (view_of_hold h.result.0) (view_of_hold c.apply-applied.new.hold) h.result.0.holds.hold_view h.ensures.caller h.ensures.grows a.caller r.caller r.seen c.release-pass.result.idle.pass_view
     c.args.todo.calls.items c.apply-applied.result (subst (λ cs. IfOk c.apply-applied.result (λ s. Fulfils g.O.SeqObject cs s.list.items)) c.as_slice.ensures.value a.asked) a.room a.after a.full in
     record {
       asked = refl;
-      did = did_of g.O.SeqObject (pass_part c.args.pass) (pass_part c.release-pass.result) c.args.todo.calls c.apply-applied.result c.done_of.result c.done_of.ensures.ok c.done_of.ensures.full both;
+      did = did_of g.O.SeqObject (view_of_pass c.args.pass) (view_of_pass c.release-pass.result) c.args.todo.calls c.apply-applied.result c.done_of.result c.done_of.ensures.ok c.done_of.ensures.full both;
     }

@@ -122,8 +122,8 @@ impl Plain {
             LockKind::Ticket => self.ticket(cpu, stage)?,
             LockKind::Mcs => self.mcs_in(cpu, stage)?,
         };
-        if let Some(place) = self.stages.get_mut(cpu as usize) {
-            *place = next;
+        if let Some(stage) = self.stages.get_mut(cpu as usize) {
+            *stage = next;
         }
         Ok(done)
     }

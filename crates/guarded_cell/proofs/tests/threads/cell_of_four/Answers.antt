@@ -1,5 +1,5 @@
 use Rattle.std.proofs.Common.{rules, ◌≡◌, Some, slice_get}
-use Rattle.word_rule.specs.Passes.{pass_part}
+use Rattle.word_rule.specs.Passes.{view_of_pass}
 use Rattle.word_rule.proofs.Owners.{own_four}
 use Rattle.guarded_cell.proofs.tests.threads.cell_of_four.Goals as goal
 
@@ -21,5 +21,5 @@ returns-clause-all c =
     let one : slice_get c.in-Ok.passes.items 1 ≡ Some c.unwrap-one.result = search rules in
     let two : slice_get c.in-Ok.passes.items 2 ≡ Some c.unwrap-two.result = search rules in
     let three : slice_get c.in-Ok.passes.items 3 ≡ Some c.unwrap-three.result = search rules in
-    own_four c.in_ok-queue.queue (pass_part c.unwrap-zero.result) (pass_part c.unwrap-one.result) (pass_part c.unwrap-two.result) (pass_part c.unwrap-three.result)
+    own_four c.in_ok-queue.queue (view_of_pass c.unwrap-zero.result) (view_of_pass c.unwrap-one.result) (view_of_pass c.unwrap-two.result) (view_of_pass c.unwrap-three.result)
     (c.in-Ok.ensures.passes 0 c.unwrap-zero.result zero).1 (c.in-Ok.ensures.passes 1 c.unwrap-one.result one).1 (c.in-Ok.ensures.passes 2 c.unwrap-two.result two).1 (c.in-Ok.ensures.passes 3 c.unwrap-three.result three).1

@@ -2,7 +2,7 @@ use denote.Exit.{yes}
 use denote.Param.Send.{param_send, arg_send}
 use Rattle.std.proofs.Common.{rules, ◌≡◌, Some, slice_get}
 use Rattle.word_rule.proofs.Owners.{own_both}
-use Rattle.word_rule.specs.Passes.{pass_part}
+use Rattle.word_rule.specs.Passes.{view_of_pass}
 use Rattle.guarded_cell.proofs.QueueSends.{queue_pass_send}
 use Rattle.guarded_cell.proofs.tests.threads.two_threads_call_a_ticket_lock.Goals as goal
 
@@ -23,4 +23,4 @@ pub two_leave_their_calls-requires-clause-all : goal.two_leave_their_calls-requi
 two_leave_their_calls-requires-clause-all g c κs =
     let zero : slice_get c.in-Ok.passes.items 0 ≡ Some c.unwrap-zero.result = search rules in
     let one : slice_get c.in-Ok.passes.items 1 ≡ Some c.unwrap-one.result = search rules in
-    own_both c.in_ok-queue.queue (pass_part c.unwrap-zero.result) (pass_part c.unwrap-one.result) (c.in-Ok.ensures.passes 0 c.unwrap-zero.result zero).1 (c.in-Ok.ensures.passes 1 c.unwrap-one.result one).1
+    own_both c.in_ok-queue.queue (view_of_pass c.unwrap-zero.result) (view_of_pass c.unwrap-one.result) (c.in-Ok.ensures.passes 0 c.unwrap-zero.result zero).1 (c.in-Ok.ensures.passes 1 c.unwrap-one.result one).1

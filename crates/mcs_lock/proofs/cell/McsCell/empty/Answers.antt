@@ -1,12 +1,12 @@
 use Rattle.std.proofs.Common.{rules, ◌∷◌, refl, sym, ap, subst, ◌∙◌, arith, Some, None}
 use Rattle.atomic_table.specs.Table.{rest}
-use Rattle.word_rule.specs.declared.place.Place.TheVariants.{Alone, Leaving}
-use Rattle.word_rule.specs.Standing.{Moves}
-use Rattle.word_rule.specs.Told.{Lacks}
-use Rattle.word_rule.specs.Callers.{standing_with, IsWith}
+use Rattle.word_rule.specs.declared.stage.Stage.TheVariants.{Alone, Leaving}
+use Rattle.word_rule.specs.CallerState.{Moves}
+use Rattle.word_rule.specs.Announced.{Lacks}
+use Rattle.word_rule.specs.Callers.{state_with, IsWith}
 use Rattle.word_rule.proofs.Acting.{left, rests_now, gives_now, not_all}
 use Rattle.mcs_lock.specs.Steps.{SawLawful}
-use Rattle.mcs_lock.specs.Passes.{alone_standing}
+use Rattle.mcs_lock.specs.Passes.{state_of_alone}
 use Rattle.mcs_lock.proofs.McsActing.{empty_now, came_back, goes_with, moves_with}
 use Rattle.mcs_lock.proofs.cell.McsCell.empty.Goals as goal
 
@@ -41,7 +41,7 @@ returns-else-found-last-clause-missed g c = let a = c.args.alone in let y = c.ta
     let lawful = subst (λ z. SawLawful g.O.SeqObject z.0) filled told.lawful a.key.value a.alone.at.told in (
       search rules,
       record {
-        made = subst (λ z. Moves g.O.SeqObject Alone Leaving (alone_standing a) (standing_with a.key.value Leaving z c.take-logged.new.seat.me)) back.1 (moves_with g.O.SeqObject a.key.value Alone Leaving a.logged a.seat.me c.take-logged.new.seat.me lawful back.0);
+        made = subst (λ z. Moves g.O.SeqObject Alone Leaving (state_of_alone a) (state_with a.key.value Leaving z c.take-logged.new.seat.me)) back.1 (moves_with g.O.SeqObject a.key.value Alone Leaving a.logged a.seat.me c.take-logged.new.seat.me lawful back.0);
         another = not_all g.O.SeqObject a.key.value a.seat.me a.alone.at.told (subst (λ z. Lacks z.0) filled t.lacks);
       },
     )

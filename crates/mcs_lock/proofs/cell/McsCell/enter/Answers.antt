@@ -1,6 +1,6 @@
 use Rattle.std.proofs.Common.{rules, ◌≡◌, true, refl, ℕ, ◌-◌, ◌∷◌, sym, ap, subst, ◌∙◌, arith, Some}
 use Rattle.atomic_table.specs.Table.{rest}
-use Rattle.word_rule.specs.declared.place.Place.TheVariants.{Ready, Behind, Holding}
+use Rattle.word_rule.specs.declared.stage.Stage.TheVariants.{Ready, Behind, Holding}
 use Rattle.word_rule.specs.Line.{lends}
 use Rattle.word_rule.specs.Callers.{IsWithout}
 use Rattle.word_rule.proofs.Acting.{took, takes_from, holds_from, moves_without}

@@ -1,7 +1,7 @@
 use Rattle.std.proofs.Common.{rules, refl, ◌≡◌, ◌<◌, true, ◌∷◌, sym, ap, subst, ◌∙◌, arith, Some}
 use Rattle.atomic_table.specs.Table.{rest}
 use Rattle.event_log.specs.Distinct.{has}
-use Rattle.word_rule.specs.declared.place.Place.TheVariants.{Idle, Waiting, Holding}
+use Rattle.word_rule.specs.declared.stage.Stage.TheVariants.{Idle, Waiting, Holding}
 use Rattle.word_rule.specs.Cell.{Lawful}
 use Rattle.word_rule.specs.Line.{lends}
 use Rattle.word_rule.specs.Callers.{IsWithout, caller_of}
@@ -22,8 +22,8 @@ load-found-requires g c = let s = c.args.self.now in let a = c.args.waiting in l
       (
         search rules,
         omega arith,
-        look_now g.O.SeqObject key _ _ a.cpu c.args.self.now.kind s.cpus c.join_seat.new.seat.me s.sized.1 (subst (λ z. has z.0.main.cpu z.0.main.owned ≡ true) (sym e) a.waits.part.caller.acts) (ap (λ z. z.0.main.cpu) e ∙ a.waits.at.number)
-            (ap (λ z. z.0.main.place) e ∙ a.waits.at.stands) (subst (λ z. AllIdle z.0.others) (sym e) (c.args.pass.idle.at.stands, tt)),
+        look_now g.O.SeqObject key _ _ a.cpu c.args.self.now.kind s.cpus c.join_seat.new.seat.me s.sized.1 (subst (λ z. has z.0.main.cpu z.0.main.owned ≡ true) (sym e) a.waits.pass_view.caller.acts) (ap (λ z. z.0.main.cpu) e ∙ a.waits.at.number)
+            (ap (λ z. z.0.main.stage) e ∙ a.waits.at.stands) (subst (λ z. AllIdle z.0.others) (sym e) (c.args.pass.idle.at.stands, tt)),
       ),
     )
 

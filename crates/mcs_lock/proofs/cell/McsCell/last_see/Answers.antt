@@ -1,7 +1,7 @@
 use Rattle.std.proofs.Common.{rules, ◌≡◌, ℕ, ◌-◌, ◌<◌, true, [], ◌∷◌, sym, ap, subst, ◌∙◌, arith}
 use Rattle.event_log.specs.Distinct.{has}
-use Rattle.word_rule.specs.declared.place.Place.TheVariants.{Leaving, Waiting, Passing}
-use Rattle.word_rule.specs.Callers.{IsWith, IsWithout, held_of, standing_without}
+use Rattle.word_rule.specs.declared.stage.Stage.TheVariants.{Leaving, Waiting, Passing}
+use Rattle.word_rule.specs.Callers.{IsWith, IsWithout, hold_view_of, state_without}
 use Rattle.word_rule.proofs.Acting.{all_together}
 use Rattle.mcs_lock.specs.Steps.{SawLawful}
 use Rattle.mcs_lock.proofs.McsActing.{find_now, below_with, named, not_else, else_below, else_now, else_of, first_moved, second_same, goes_with, moves_with}
@@ -19,8 +19,8 @@ load-found-requires g c = let s = c.args.self.now in let a = c.args.leaving in l
       (
         search rules,
         omega arith,
-        find_now g.O.SeqObject key _ _ a.cpu c.args.self.now.kind c.join_seat.new.seat.me c.args.waiting.seat.me.0.main (subst (λ z. has z.0.main.cpu z.0.main.owned ≡ true) (sym e) a.leaves.held.caller.acts) (ap (λ z. z.0.main.cpu) e ∙ a.leaves.at.number)
-            (ap (λ z. z.0.main.place) e ∙ a.leaves.at.stands) (ap (λ z. z.0.others) e) c.args.waiting.waits.at.stands,
+        find_now g.O.SeqObject key _ _ a.cpu c.args.self.now.kind c.join_seat.new.seat.me c.args.waiting.seat.me.0.main (subst (λ z. has z.0.main.cpu z.0.main.owned ≡ true) (sym e) a.leaves.hold_view.caller.acts) (ap (λ z. z.0.main.cpu) e ∙ a.leaves.at.number)
+            (ap (λ z. z.0.main.stage) e ∙ a.leaves.at.stands) (ap (λ z. z.0.others) e) c.args.waiting.waits.at.stands,
       ),
     )
 
@@ -66,10 +66,10 @@ pub returns-clause-held : goal.returns-clause-held
 returns-clause-held g c = let a = c.args.leaving in let w = c.args.waiting in let e = c.join_seat.ensures.2 in let s = c.split_seat-theirs in let told = c.load-found.ensures.2 in let some_one = c.if-prove.false in let k : ℕ = c.load-found.result - 1 in
     let t = named Passing c.load-found.result k c.join_seat.new.seat.me c.load-found.new.seat.me (told.found some_one) (omega arith) in
     let first = first_moved (Passing k) a.seat.me w.seat.me c.join_seat.new.seat.me c.load-found.new.seat.me s.new.seat.me a.leaves.at.alone e t.0 s.ensures.2 in
-    ap (λ z. held_of a.key.value a.logged z.0) first
+    ap (λ z. hold_view_of a.key.value a.logged z.0) first
 
 pub returns-clause-waits : goal.returns-clause-waits
 returns-clause-waits g c = let a = c.args.leaving in let w = c.args.waiting in let e = c.join_seat.ensures.2 in let s = c.split_seat-theirs in let told = c.load-found.ensures.2 in let some_one = c.if-prove.false in let k : ℕ = c.load-found.result - 1 in
     let t = named Passing c.load-found.result k c.join_seat.new.seat.me c.load-found.new.seat.me (told.found some_one) (omega arith) in
     let second = second_same (Passing k) a.seat.me w.seat.me c.join_seat.new.seat.me c.load-found.new.seat.me s.result.me w.waits.at.alone w.waits.at.carries (w.waits.at.told ∙ (ap (λ z. z ∷ []) (c.requires.waiting.told ∙ sym c.requires.leaving.told) ∙ sym a.leaves.at.told)) e t.0 s.ensures.4 in
-    ap (λ z. standing_without w.key.value Waiting z) second
+    ap (λ z. state_without w.key.value Waiting z) second

@@ -1,5 +1,5 @@
 use Rattle.std.proofs.Common.{subst, arith}
-use Rattle.word_rule.specs.declared.place.Place.TheVariants.{Armed}
+use Rattle.word_rule.specs.declared.stage.Stage.TheVariants.{Armed}
 use Rattle.word_rule.specs.Callers.{IsWithout}
 use Rattle.word_rule.proofs.Acting.{moves_without}
 use Rattle.mcs_lock.proofs.McsActing.{link_now, else_below}

@@ -1,6 +1,6 @@
 use Rattle.std.proofs.Common.{rules, ◌∷◌, sym, ap, subst, ◌∙◌, arith, None}
 use Rattle.atomic_table.specs.Table.{rest}
-use Rattle.word_rule.specs.declared.place.Place.TheVariants.{Passing}
+use Rattle.word_rule.specs.declared.stage.Stage.TheVariants.{Passing}
 use Rattle.word_rule.specs.Callers.{IsWith}
 use Rattle.word_rule.proofs.Acting.{left, rests_now, gives_now}
 use Rattle.mcs_lock.proofs.McsActing.{pass_now, else_below}

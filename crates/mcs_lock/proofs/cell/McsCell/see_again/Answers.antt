@@ -1,5 +1,5 @@
 use Rattle.std.proofs.Common.{rules, ℕ, ◌-◌, ◌<◌, [], ◌∷◌, ap, subst, ◌∙◌, arith}
-use Rattle.word_rule.specs.declared.place.Place.TheVariants.{Leaving, Passing}
+use Rattle.word_rule.specs.declared.stage.Stage.TheVariants.{Leaving, Passing}
 use Rattle.word_rule.specs.Callers.{IsWith}
 use Rattle.word_rule.proofs.Acting.{not_all}
 use Rattle.mcs_lock.proofs.McsActing.{see_again_now, below_with, named, not_else, else_below, else_now, goes_with, moves_with}

@@ -1,11 +1,11 @@
 use Rattle.std.proofs.Common.{◌≡◌, take}
-use Rattle.word_rule.specs.Shown.{Shows, opened_by}
+use Rattle.word_rule.specs.Shown.{Represents, opened_by}
 use Rattle.word_rule.specs.World.{World, run}
 use Rattle.word_rule.proofs.machine.Machine.run.Given as goal
 
 abbrev pub invariant-loop-cpu : goal.invariant-loop-cpu
 invariant-loop-cpu g l = record {
-  shows : (w : World _ _ _ _) → Shows g.O.SeqObject l.fn.self w → Shows g.O.SeqObject l.self (run g.O.SeqObject (take l.cpu-index l.schedule) w);
+  shows : (w : World _ _ _ _) → Represents g.O.SeqObject l.fn.self w → Represents g.O.SeqObject l.self (run g.O.SeqObject (take l.cpu-index l.schedule) w);
   scripts : l.self.scripts ≡ l.fn.self.scripts;
   opened : opened_by l.self ≡ opened_by l.fn.self;
 }

@@ -1,6 +1,6 @@
 use Rattle.std.proofs.Common.{◌≡◌, sym, ◌∙◌, ap, subst, arith, ◌<◌, length, Some, slice_get}
 use Rattle.std.proofs.lemmas.Option.{slice_get_within}
-use Rattle.word_rule.specs.Shown.{Shows, opened_by}
+use Rattle.word_rule.specs.Shown.{Represents, opened_by}
 use Rattle.word_rule.proofs.MachineKeeps.{same_read, found, not_found, room_at, roomy_next, opened_next, runs_next}
 use Rattle.word_rule.proofs.MachineSteps.{Counts, over, able, shown_cell, shown_lock, lock_ready, done_is, stepped}
 use Rattle.word_rule.proofs.machine.Machine.step.Goals as goal
@@ -9,13 +9,13 @@ pub returns-in_default-clause-done : goal.returns-in_default-clause-done
 returns-in_default-clause-done g c = λ w h.
     let lt : c.args.cpu < length c.self.inside.scripts.items = subst (λ m. c.args.cpu < length m.scripts) (sym c.self.view_is) c.requires in
     let none = not_found c.deref.result.now c.index-2.result.now.items c.index.result.now.at c.deref.ensures.value c.in_default.ensures.lookup.3 in
-    ap (λ r. r.1) (sym (over g.O.SeqObject c.self.inside.cells.items c.self.inside.locks.items c.self.inside.scripts.items c.self.inside.done.items c.args.cpu lt c.index.result.now c.index.ensures c.index-2.result.now c.index-2.ensures w (subst (λ m. Shows g.O.SeqObject m w) (sym c.self.view_is) h) none))
+    ap (λ r. r.1) (sym (over g.O.SeqObject c.self.inside.cells.items c.self.inside.locks.items c.self.inside.scripts.items c.self.inside.done.items c.args.cpu lt c.index.result.now c.index.ensures c.index-2.result.now c.index-2.ensures w (subst (λ m. Represents g.O.SeqObject m w) (sym c.self.view_is) h) none))
 
 pub returns-in_default-clause-shows : goal.returns-in_default-clause-shows
 returns-in_default-clause-shows g c = λ w h.
     let lt : c.args.cpu < length c.self.inside.scripts.items = subst (λ m. c.args.cpu < length m.scripts) (sym c.self.view_is) c.requires in
     let none = not_found c.deref.result.now c.index-2.result.now.items c.index.result.now.at c.deref.ensures.value c.in_default.ensures.lookup.3 in
-    subst (λ r. Shows g.O.SeqObject c.args.self.now r.0) (sym (over g.O.SeqObject c.self.inside.cells.items c.self.inside.locks.items c.self.inside.scripts.items c.self.inside.done.items c.args.cpu lt c.index.result.now c.index.ensures c.index-2.result.now c.index-2.ensures w (subst (λ m. Shows g.O.SeqObject m w) (sym c.self.view_is) h) none)) h
+    subst (λ r. Represents g.O.SeqObject c.args.self.now r.0) (sym (over g.O.SeqObject c.self.inside.cells.items c.self.inside.locks.items c.self.inside.scripts.items c.self.inside.done.items c.args.cpu lt c.index.result.now c.index.ensures c.index-2.result.now c.index-2.ensures w (subst (λ m. Represents g.O.SeqObject m w) (sym c.self.view_is) h) none)) h
 
 pub index_mut-requires : goal.index_mut-requires
 index_mut-requires g c =
@@ -114,7 +114,7 @@ returns-clause-done g c = λ w h.
     let p_is = c.index_mut-2.ensures.value in
     let same = same_read c.self.inside.done.items c.args.cpu c.index.result.now p (omega (arith, lt, h0.scripts, h0.done)) c.index.ensures p_is in
     let at : slice_get c.index-2.result.now.items p.at ≡ Some todo = subst (λ q. slice_get c.index-2.result.now.items q.at ≡ Some todo) same there in
-    let shown = subst (λ m. Shows g.O.SeqObject m w) (sym c.self.view_is) h in
+    let shown = subst (λ m. Represents g.O.SeqObject m w) (sym c.self.view_is) h in
     let lock = shown_lock g.O.SeqObject c.self.inside.cells.items c.self.inside.locks.items c.self.inside.scripts.items c.self.inside.done.items c.args.cpu lt p p_is c.index-2.result.now c.index-2.ensures todo at can.on_cell c.index_mut-3.result.now c.index_mut-3.ensures.value c.index_mut.result.now c.index_mut.ensures.value w shown in
     done_is g.O.SeqObject c.self.inside.cells.items c.self.inside.locks.items c.self.inside.scripts.items c.self.inside.done.items c.args.cpu lt p p_is c.index-2.result.now c.index-2.ensures todo at can.on_cell c.index_mut-3.result.now c.index_mut-3.ensures.value c.index_mut.result.now c.index_mut.ensures.value w shown c.turn-step.result (c.turn-step.ensures.done _ lock)
 
@@ -130,7 +130,7 @@ returns-clause-shows g c = λ w h.
     let same = same_read c.self.inside.done.items c.args.cpu c.index.result.now p (omega (arith, lt, h0.scripts, h0.done)) c.index.ensures p_is in
     let at : slice_get c.index-2.result.now.items p.at ≡ Some todo = subst (λ q. slice_get c.index-2.result.now.items q.at ≡ Some todo) same there in
     let k : Counts g.O.SeqObject c.args.cpu todo c.turn-step.result c.index_mut-3.result.now.logged c.count_step.new.logged p c.count_step.new.progress = record { params = c.count_step.ensures.params; limit = c.count_step.ensures.limit; log = c.count_step.ensures.log; kept = c.count_step.ensures.kept; at = c.count_step.ensures.at; transcript = c.count_step.ensures.transcript; looks = c.count_step.ensures.looks; room = c.count_step.ensures.room } in
-    let shown = subst (λ m. Shows g.O.SeqObject m w) (sym c.self.view_is) h in
+    let shown = subst (λ m. Represents g.O.SeqObject m w) (sym c.self.view_is) h in
     let lock = shown_lock g.O.SeqObject c.self.inside.cells.items c.self.inside.locks.items c.self.inside.scripts.items c.self.inside.done.items c.args.cpu lt p p_is c.index-2.result.now c.index-2.ensures todo at can.on_cell c.index_mut-3.result.now c.index_mut-3.ensures.value c.index_mut.result.now c.index_mut.ensures.value w shown in
     stepped g.O.SeqObject c.self.inside.cells.items c.self.inside.locks.items c.self.inside.scripts.items c.self.inside.done.items c.args.cpu lt p p_is c.index-2.result.now c.index-2.ensures todo at can.on_cell c.index_mut-3.result.now c.index_mut-3.ensures.value c.index_mut.result.now c.index_mut.ensures.value w shown c.turn-step.result c.turn-step.new.self record { kind = c.index_mut-3.result.now.kind; first = c.index_mut-3.result.now.first; logged = c.count_step.new.logged } c.count_step.new.progress (c.turn-step.ensures.done _ lock) (c.turn-step.ensures.shows _ lock) k
 

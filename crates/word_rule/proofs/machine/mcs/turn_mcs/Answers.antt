@@ -2,8 +2,8 @@ use Rattle.std.proofs.Common.{refl, arith, ◌-◌, slice_index_or}
 use Rattle.word_rule.proofs.ShownTurns.{cleared, entered, entered_behind, armed, linked, got, waited, sees, sees_again, emptied, stayed, passed, wide, tail_small, next_small, armed_below, passing_below}
 use Rattle.word_rule.proofs.machine.mcs.turn_mcs.Goals as goal
 
-pub overflow_cast-places : goal.overflow_cast-places
-overflow_cast-places c = omega (arith, tail_small _ _ _ c.requires.shows.0 c.requires.shows.1 c.args.cpu c.requires.exists _ refl, c.requires.few)
+pub overflow_cast-stages : goal.overflow_cast-stages
+overflow_cast-stages c = omega (arith, tail_small _ _ _ c.requires.shows.0 c.requires.shows.1 c.args.cpu c.requires.exists _ refl, c.requires.few)
 
 pub bounds-words-ahead : goal.bounds-words-ahead
 bounds-words-ahead c = omega (arith, armed_below _ _ _ c.requires.shows.0 c.requires.shows.1 c.args.cpu c.requires.exists c.in-Armed.ahead c.in-Armed.is, wide _ _ _ c.requires.shows.0 c.requires.shows.1 c.args.cpu c.requires.exists)
@@ -51,10 +51,10 @@ pub returns-else-words-n-ne0-clause-shows : goal.returns-else-words-n-ne0-clause
 returns-else-words-n-ne0-clause-shows c = λ l h. (got _ _ _ l h c.args.cpu c.requires.exists c.in-Waiting.is c.if-words-n-ne0.false).1
 
 pub returns-in-Holding-clause-done : goal.returns-in-Holding-clause-done
-returns-in-Holding-clause-done c = λ l h. (sees _ _ _ l h c.args.cpu c.requires.exists c.see.new.place c.see.result c.in-Holding.is c.see.ensures.none c.see.ensures.one).0
+returns-in-Holding-clause-done c = λ l h. (sees _ _ _ l h c.args.cpu c.requires.exists c.see.new.stage c.see.result c.in-Holding.is c.see.ensures.none c.see.ensures.one).0
 
 pub returns-in-Holding-clause-shows : goal.returns-in-Holding-clause-shows
-returns-in-Holding-clause-shows c = λ l h. (sees _ _ _ l h c.args.cpu c.requires.exists c.see.new.place c.see.result c.in-Holding.is c.see.ensures.none c.see.ensures.one).1
+returns-in-Holding-clause-shows c = λ l h. (sees _ _ _ l h c.args.cpu c.requires.exists c.see.new.stage c.see.result c.in-Holding.is c.see.ensures.none c.see.ensures.one).1
 
 pub returns-then-words-me-clause-done : goal.returns-then-words-me-clause-done
 returns-then-words-me-clause-done c = λ l h. (stayed _ _ _ l h c.args.cpu c.requires.exists c.in-Alone.is c.if-words-me.true).0
@@ -69,10 +69,10 @@ pub returns-else-words-me-clause-shows : goal.returns-else-words-me-clause-shows
 returns-else-words-me-clause-shows c = λ l h. (emptied _ _ _ l h c.args.cpu c.requires.exists c.in-Alone.is c.if-words-me.false).1
 
 pub returns-in-Leaving-clause-done : goal.returns-in-Leaving-clause-done
-returns-in-Leaving-clause-done c = λ l h. (sees_again _ _ _ l h c.args.cpu c.requires.exists c.see-in-Leaving.new.place c.see-in-Leaving.result c.in-Leaving.is c.see-in-Leaving.ensures.none c.see-in-Leaving.ensures.one).0
+returns-in-Leaving-clause-done c = λ l h. (sees_again _ _ _ l h c.args.cpu c.requires.exists c.see-in-Leaving.new.stage c.see-in-Leaving.result c.in-Leaving.is c.see-in-Leaving.ensures.none c.see-in-Leaving.ensures.one).0
 
 pub returns-in-Leaving-clause-shows : goal.returns-in-Leaving-clause-shows
-returns-in-Leaving-clause-shows c = λ l h. (sees_again _ _ _ l h c.args.cpu c.requires.exists c.see-in-Leaving.new.place c.see-in-Leaving.result c.in-Leaving.is c.see-in-Leaving.ensures.none c.see-in-Leaving.ensures.one).1
+returns-in-Leaving-clause-shows c = λ l h. (sees_again _ _ _ l h c.args.cpu c.requires.exists c.see-in-Leaving.new.stage c.see-in-Leaving.result c.in-Leaving.is c.see-in-Leaving.ensures.none c.see-in-Leaving.ensures.one).1
 
 pub returns-in-Passing-clause-shows : goal.returns-in-Passing-clause-shows
 returns-in-Passing-clause-shows c = λ l h. (passed _ _ _ l h c.args.cpu c.requires.exists c.in-Passing.behind c.in-Passing.is).1

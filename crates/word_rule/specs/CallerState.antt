@@ -3,46 +3,46 @@ use Rattle.std.specs.Prelude.{◌≡◌, List, Option, Some, None}
 use Rattle.event_log.specs.declared.object.SeqObject.{Ghosts}
 use Rattle.event_log.specs.declared.event.Event.{Event}
 use Rattle.event_log.specs.History.{History}
-use Rattle.word_rule.specs.declared.place.Place.{Place}
+use Rattle.word_rule.specs.declared.stage.Stage.{Stage}
 use Rattle.word_rule.specs.Cell.{Caller, Grows, Lawful, OwnsAll, stored}
 
 -- a caller, where it stands, the log that it has seen, and the stored history while it has the object
-pub record Standing (O P C R : Type 0) : Type 0 where
+pub record CallerState (O P C R : Type 0) : Type 0 where
   pub caller : Caller O P C R
-  pub place : Place
+  pub stage : Stage
   pub seen : List (Event O P C R)
   pub has : Option (History O P C R)
 
 module _ {O P C R : Type 0} (meaning : Ghosts O P C R) where
   -- the caller goes from p to q, and may see more; who has the object stays, and what is stored
-  pub record Moves (p q : Place) (before after : Standing O P C R) : Type 0 where
+  pub record Moves (p q : Stage) (before after : CallerState O P C R) : Type 0 where
     pub caller : after.caller ≡ before.caller
-    pub from : before.place ≡ p
-    pub to : after.place ≡ q
+    pub from : before.stage ≡ p
+    pub to : after.stage ≡ q
     pub grows : Grows before.caller.owned before.seen after.seen
     pub lawful : Lawful meaning before.caller.cell after.seen
     pub has : after.has ≡ before.has
 
   -- the object comes to the caller, with the log that it sees now
-  pub record Takes (p q : Place) (before after : Standing O P C R) : Type 0 where
+  pub record Takes (p q : Stage) (before after : CallerState O P C R) : Type 0 where
     pub caller : after.caller ≡ before.caller
-    pub from : before.place ≡ p
-    pub to : after.place ≡ q
+    pub from : before.stage ≡ p
+    pub to : after.stage ≡ q
     pub grows : Grows before.caller.owned before.seen after.seen
     pub lawful : Lawful meaning before.caller.cell after.seen
     pub had : before.has ≡ None
     pub has : after.has ≡ Some (stored meaning before.caller.cell after.seen)
 
   -- the object goes home, and the caller has seen the stored log
-  pub record Gives (p q : Place) (before after : Standing O P C R) : Type 0 where
+  pub record Gives (p q : Stage) (before after : CallerState O P C R) : Type 0 where
     pub caller : after.caller ≡ before.caller
-    pub from : before.place ≡ p
-    pub to : after.place ≡ q
+    pub from : before.stage ≡ p
+    pub to : after.stage ≡ q
     pub lawful : Lawful meaning before.caller.cell after.seen
     pub had : before.has ≡ Some (stored meaning before.caller.cell after.seen)
     pub has : after.has ≡ None
 
   -- a step that another CPU has made so, and that nobody makes who owns every number
-  pub record NeedsAnother (step : Standing O P C R → Standing O P C R → Type 0) (before after : Standing O P C R) : Type 0 where
+  pub record NeedsAnother (step : CallerState O P C R → CallerState O P C R → Type 0) (before after : CallerState O P C R) : Type 0 where
     pub made : step before after
     pub another : OwnsAll before.caller → ⊥

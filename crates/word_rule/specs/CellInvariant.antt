@@ -8,14 +8,14 @@ use Rattle.event_log.specs.declared.object.SeqObject.{Ghosts}
 use Rattle.event_log.specs.declared.event.Event.{Event}
 use Rattle.event_log.specs.Distinct.{has}
 use Rattle.event_log.specs.History.{History}
-use Rattle.word_rule.specs.declared.place.Place.TheVariants.{Idle}
+use Rattle.word_rule.specs.declared.stage.Stage.TheVariants.{Idle}
 use Rattle.word_rule.specs.declared.view.Seated.{Seated}
 use Rattle.word_rule.specs.declared.view.View.{View}
 use Rattle.word_rule.specs.Cell.{Cell, Grows, Lawful, stored}
 use Rattle.word_rule.specs.Line.{Line, holding}
 
 -- the committed log, the line, and whose each CPU number is: a seat, and a place among the seat's callers
-pub record Board (O P C R : Type 0) : Type 0 where
+pub record GhostState (O P C R : Type 0) : Type 0 where
   pub committed : List (Event O P C R)
   pub line : Line
   pub owner : ℕ → ℕ × ℕ
@@ -37,26 +37,26 @@ Viewed O P C R = View (Cell O P C R) (Event O P C R)
 abbrev pub Table : Type 0 → Type 0 → Type 0 → Type 0 → Type 0
 Table O P C R = State (Option (History O P C R)) (Viewed O P C R)
 
-module _ {O P C R : Type 0} (n : ℕ) (b : Board O P C R) where
+module _ {O P C R : Type 0} (n : ℕ) (b : GhostState O P C R) where
   -- what the rule says of the caller k of the seat j, in a cell of n CPUs
-  pub record Knows (j k : ℕ) (c : Caller O P C R) : Type 0 where
+  pub record CallerInvariant (j k : ℕ) (c : Caller O P C R) : Type 0 where
     pub owns : (x : ℕ) → has x c.owned ≡ true → (b.owner x ≡ (j, k)) × (x < n)
     pub grows : Grows (λ x. has x c.owned) c.seen b.committed
-    pub stands : has c.cpu c.owned ≡ true → b.line.place c.cpu ≡ c.place
-    pub whole : has c.cpu c.owned ≡ true → holding c.place ≡ true → c.seen ≡ b.committed
-    pub rests : (x : ℕ) → has x c.owned ≡ true → x ≢ c.cpu → b.line.place x ≡ Idle
+    pub stands : has c.cpu c.owned ≡ true → b.line.stage c.cpu ≡ c.stage
+    pub whole : has c.cpu c.owned ≡ true → holding c.stage ≡ true → c.seen ≡ b.committed
+    pub rests : (x : ℕ) → has x c.owned ≡ true → x ≢ c.cpu → b.line.stage x ≡ Idle
 
-module _ {O P C R : Type 0} (h : Cell O P C R) (b : Board O P C R) where
+module _ {O P C R : Type 0} (h : Cell O P C R) (b : GhostState O P C R) where
   -- what the rule says of a seat
-  pub record KnowsAll (j : ℕ) (v : Viewed O P C R) : Type 0 where
+  pub record SeatInvariant (j : ℕ) (v : Viewed O P C R) : Type 0 where
     pub told : EachFrom (λ _ x. x ≡ h) 0 v.told
-    pub main : Knows h.numbers b j 0 v.main
-    pub others : EachFrom (Knows h.numbers b j) 1 v.others
+    pub main : CallerInvariant h.numbers b j 0 v.main
+    pub others : EachFrom (CallerInvariant h.numbers b j) 1 v.others
 
 -- the rule: at home the object is the replay of the committed log
-pub record Ruled {O P C R : Type 0} (meaning : Ghosts O P C R) (Tied : ℕ → List ℕ → Line → Type 0) (h : Cell O P C R) (s : Table O P C R) : Type 0 where
-  pub board : Board O P C R
-  pub tied : Tied h.numbers s.words board.line
-  pub lawful : Lawful meaning h board.committed
-  pub at_home : board.line.out ≡ false → get_elem? s.homes 0 ≡ some (some (Some (stored meaning h board.committed)))
-  pub each : (j : ℕ) (v : Viewed O P C R) → get_elem? s.views j ≡ some v → KnowsAll h board j v
+pub record CellInvariant {O P C R : Type 0} (meaning : Ghosts O P C R) (IsTied : ℕ → List ℕ → Line → Type 0) (h : Cell O P C R) (s : Table O P C R) : Type 0 where
+  pub state : GhostState O P C R
+  pub tied : IsTied h.numbers s.words state.line
+  pub lawful : Lawful meaning h state.committed
+  pub at_home : state.line.out ≡ false → get_elem? s.homes 0 ≡ some (some (Some (stored meaning h state.committed)))
+  pub each : (j : ℕ) (v : Viewed O P C R) → get_elem? s.views j ≡ some v → SeatInvariant h state j v

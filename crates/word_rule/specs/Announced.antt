@@ -5,12 +5,12 @@ use Rattle.event_log.specs.declared.object.SeqObject.{Ghosts}
 use Rattle.event_log.specs.declared.event.Event.{Event}
 use Rattle.event_log.specs.Distinct.{has}
 use Rattle.event_log.specs.History.{History}
-use Rattle.word_rule.specs.declared.place.Place.{Place}
-use Rattle.word_rule.specs.declared.place.Place.TheVariants.{Torn}
+use Rattle.word_rule.specs.declared.stage.Stage.{Stage}
+use Rattle.word_rule.specs.declared.stage.Stage.TheVariants.{Torn}
 use Rattle.word_rule.specs.declared.view.Seated.{Seated}
 use Rattle.word_rule.specs.Cell.{Cell, Grows, Lawful, stored}
-use Rattle.word_rule.specs.Board.{EachFrom, Caller, Viewed}
-use Rattle.word_rule.specs.Seats.{Seat, placed, settled, merged}
+use Rattle.word_rule.specs.CellInvariant.{EachFrom, Caller, Viewed}
+use Rattle.word_rule.specs.Seats.{Seat, with_stage, settled, merged}
 
 -- one of the callers has the number
 abbrev pub any_has : {E : Type 0} → ℕ → List (Seated E) → Bool
@@ -41,19 +41,19 @@ module _ {O P C R : Type 0} (meaning : Ghosts O P C R) where
 
   -- the object comes to the first caller, which stands there now: it is the replay of a log that all callers of the seat
   -- have seen now
-  pub record Gets (place : Place) (m m' : Seat O P C R) : Type 0 where
+  pub record Gets (stage : Stage) (m m' : Seat O P C R) : Type 0 where
     pub object : History O P C R
-    pub seat : m' ≡ (settled m.0 place object.log, (0, Some object) ∷ m.1)
+    pub seat : m' ≡ (settled m.0 stage object.log, (0, Some object) ∷ m.1)
     pub learns : Learns m.0 object.log
     pub replayed : (h : Cell O P C R) → m.0.told ≡ h ∷ [] → object ≡ stored meaning h object.log
 
   -- the object goes home, and the first caller stands there now
-  abbrev pub Returns : Place → Seat O P C R → Seat O P C R → Type 0
-  Returns place m m' = (x : History O P C R) (more : List (ℕ × Option (History O P C R))) → m.1 ≡ (0, Some x) ∷ more → m' ≡ (settled m.0 place x.log, more)
+  abbrev pub Returns : Stage → Seat O P C R → Seat O P C R → Type 0
+  Returns stage m m' = (x : History O P C R) (more : List (ℕ × Option (History O P C R))) → m.1 ≡ (0, Some x) ∷ more → m' ≡ (settled m.0 stage x.log, more)
 
   -- the callers of a seat learn one log
   abbrev pub meets : Step (Option (History O P C R)) → Seat O P C R → ℕ → Seat O P C R → Type 0
-  meets st m n m' = (log : List (Event O P C R)) × (m' ≡ (settled m.0 m.0.main.place log, m.1)) × Learns m.0 log
+  meets st m n m' = (log : List (Event O P C R)) × (m' ≡ (settled m.0 m.0.main.stage log, m.1)) × Learns m.0 log
 
   -- the callers of a seat become one
   abbrev pub joins : Step (Option (History O P C R)) → Seat O P C R → ℕ → Seat O P C R → Type 0
@@ -62,7 +62,7 @@ module _ {O P C R : Type 0} (meaning : Ghosts O P C R) where
 module _ {O P C R : Type 0} where
   -- the slot goes back, and the hold doesn't end
   abbrev pub tears : Step (Option (History O P C R)) → Seat O P C R → ℕ → Seat O P C R → Type 0
-  tears st m n m' = m' ≡ (placed m.0 Torn, [])
+  tears st m n m' = m' ≡ (with_stage m.0 Torn, [])
 
   -- there is no such seat
   abbrev pub clashes : Step (Option (History O P C R)) → Seat O P C R → ℕ → Seat O P C R → Type 0

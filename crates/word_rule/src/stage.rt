@@ -3,7 +3,7 @@
 /// What a caller has done last, and so what it may do next. A caller that owns several CPU numbers stands at this place
 /// with the number that it acts as; its others are idle.
 #[derive(Clone, Copy, Debug, PartialEq, Eq, Drop)]
-pub enum Place {
+pub enum Stage {
     /// It isn't in line.
     Idle,
     /// It is in a ticket lock's line, with this ticket.

@@ -8,7 +8,7 @@ use Rattle.event_log.specs.declared.event.Event.{Event}
 use Rattle.event_log.specs.Log.{Begins, Fulfils, of, after as after_steps}
 use Rattle.event_log.specs.History.{with_event}
 use Rattle.event_log.proofs.Beginnings.{begins_more}
-use Rattle.word_rule.specs.Cell.{Part, Held, Grows, Lawful, IsPart, IsHeld}
+use Rattle.word_rule.specs.Cell.{PassView, HoldView, Grows, Lawful, IsPassView, IsHoldView}
 use Rattle.word_rule.specs.Answered.{IsAnswered, IsRefused}
 use Rattle.word_rule.proofs.Lists.{of_push}
 
@@ -20,8 +20,8 @@ module _ {O P C R : Type 0} where
 
 module _ {O P C R : Type 0} (meaning : Ghosts O P C R) where
   -- the hold h of a caller, which it is after the call, and the caller without the object afterwards
-  module _ (before after : Part O P C R) (h k : Held O P C R) (held : IsHeld meaning h) (was : h.caller ≡ before.caller) (grows : Grows before.caller.owned before.seen h.history.log)
-      (goes : k.caller ≡ h.caller) (ends : after.caller ≡ k.caller) (seen : after.seen ≡ k.history.log) (part : IsPart meaning after) where
+  module _ (before after : PassView O P C R) (h k : HoldView O P C R) (held : IsHoldView meaning h) (was : h.caller ≡ before.caller) (grows : Grows before.caller.owned before.seen h.history.log)
+      (goes : k.caller ≡ h.caller) (ends : after.caller ≡ k.caller) (seen : after.seen ≡ k.history.log) (part : IsPassView meaning after) where
     same : after.caller ≡ before.caller
     same = ends ∙ (goes ∙ was)
 
