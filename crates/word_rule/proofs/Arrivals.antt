@@ -31,7 +31,7 @@ fresh_ticket n first few = record { lined = starts tickets n (first % tickets) (
 pub fresh_mcs : (n first : ℕ) → IsMcsLock n (replicate (1 + 2 * n) 0) (opening_lock kinds.Mcs first)
 fresh_mcs n first = record { queued = queue_starts n (replicate (1 + 2 * n) 0) (length-replicate (1 + 2 * n) 0) (all_zero (1 + 2 * n)); nexts = λ x below. all_zero (1 + 2 * n) (1 + x) }
 
-fresh : (n first : ℕ) (k : LockKind) → n < tickets → IsLock n (opening_lock k first)
+pub fresh : (n first : ℕ) (k : LockKind) → n < tickets → IsLock n (opening_lock k first)
 fresh n first kinds.Ticket few = (first % tickets ∷ first % tickets ∷ [], fresh_ticket n first few)
 fresh n first kinds.Mcs few = (replicate (1 + 2 * n) 0, fresh_mcs n first)
 
@@ -56,13 +56,12 @@ module _ {O P C R : Type 0} (meaning : Ghosts O P C R) (w : World O P C R) (o : 
   pub order_lem : (is : List ℕ) (x : ℕ) → Begins (endings meaning x is w) (arrivals meaning x is w)
   order_lem is x = subst (Begins (endings meaning x is w)) (so_far is x) (begins_more (endings meaning x is w) (endings meaning x is w) (line_in (slice_get (run meaning is w).cells x)) (begins_self (endings meaning x is w)))
 
-  pub few_lem : (before since : List ℕ) (i x : ℕ) → arrives (step meaning (run meaning before w) i).1 ≡ true → is_at (run meaning before w) i x ≡ true
-      → length (endings meaning x (before ++ i ∷ since) w) ≤ length (arrivals meaning x before w) → length (endings meaning x (before ++ i ∷ since) w) < length (endings meaning x before w) + length w.cpus
-  few_lem before since i x a t le =
-      let line : List ℕ = line_in (slice_get (run meaning before w).cells x) in
-      let room = room_to_arrive IsLock locks_keep meaning (run meaning before w) i x (locks_run IsLock locks_keep meaning before w free) a t in
-      let so = ap length (sym (so_far before x)) ∙ length-append (endings meaning x before w) line in
-      omega (arith, le, so, room, same_cpus IsLock locks_keep meaning before w free)
+  pub few_lem : (is : List ℕ) (i x : ℕ) → arrives (step meaning (run meaning is w) i).1 ≡ true → is_at (run meaning is w) i x ≡ true → length (arrivals meaning x is w) < length (endings meaning x is w) + length w.cpus
+  few_lem is i x a t =
+      let line : List ℕ = line_in (slice_get (run meaning is w).cells x) in
+      let room = room_to_arrive IsLock locks_keep meaning (run meaning is w) i x (locks_run IsLock locks_keep meaning is w free) a t in
+      let so = ap length (sym (so_far is x)) ∙ length-append (endings meaning x is w) line in
+      omega (arith, so, room, same_cpus IsLock locks_keep meaning is w free)
 
   one_of_lock : (n : ℕ) (ws : List ℕ) (l : Lock) (k : LockKind) → IsLockOf k n ws l → (i j : ℕ) → i < n → j < n → holding (l.line.stage i) ≡ true → holding (l.line.stage j) ≡ true → i ≡ j
   one_of_lock n ws l kinds.Ticket h i j = let t = ticket_ties tickets in t.single n ws l.line h.lined i j

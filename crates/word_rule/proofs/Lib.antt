@@ -24,6 +24,7 @@ pub mod MachineSteps
 pub mod MachineKeeps
 pub mod WordLists
 pub mod SoundRuns
+pub mod IdleSteps
 pub mod Openings
 pub mod Owners
 pub mod Sends

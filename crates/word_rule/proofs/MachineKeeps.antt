@@ -19,7 +19,7 @@ use Rattle.word_rule.specs.Turns.{turn, ends_hold}
 use Rattle.word_rule.specs.World.{World, entry_of, outcome, step, run}
 use Rattle.word_rule.proofs.Openings.{take_more}
 use Rattle.word_rule.proofs.MachineSteps.{Counts, kept_parts, the_cell, stepped}
-use Rattle.word_rule.proofs.Slices.{get_set_same, get_set_other, read_get, one_of}
+use Rattle.word_rule.proofs.Slices.{map_set, get_set_same, get_set_other, read_get, one_of}
 use Rattle.word_rule.proofs.SoundSteps.{sound_step}
 
 pub same_read : {X : Type 0} (xs : List X) (i : ℕ) (x y : X) → i < length xs → x ≡ get_or xs i x → y ≡ get_or xs i y → x ≡ y
@@ -36,11 +36,6 @@ not_found items xs i e le = subst (λ l. slice_get l i ≡ None) e (past items i
     past [] i le = refl
     past (y ∷ ys) zero le = absurd (omega (arith, le))
     past (y ∷ ys) (suc i) le = past ys i (omega (arith, le))
-
-map_set : {X Y : Type 0} (f : X → Y) (xs : List X) (i : ℕ) (x y : X) → slice_get xs i ≡ Some y → f x ≡ f y → map f (set xs i x) ≡ map f xs
-map_set f [] i x y e g = refl
-map_set f (z ∷ zs) zero x y e g = ap (λ k. k ∷ map f zs) (g ∙ ap f (sym (let s : z ≡ y = cc in s)))
-map_set f (z ∷ zs) (suc i) x y e g = ap (λ l. f z ∷ l) (map_set f zs i x y e g)
 
 module _ {O P C R : Type 0} (meaning : Ghosts O P C R) (i : ℕ) (todo : Todo O P C R) (s : StepDone) where
   -- the room for the entries that are left

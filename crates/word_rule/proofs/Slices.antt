@@ -44,3 +44,9 @@ module _ {X : Type 0} where
   map_none f [] i e = refl
   map_none f (y ∷ ys) zero e = cc
   map_none f (y ∷ ys) (suc i) e = map_none f ys i e
+
+-- a list of images stays where an element with the same image is written
+pub map_set : {X Y : Type 0} (f : X → Y) (xs : List X) (i : ℕ) (x y : X) → slice_get xs i ≡ Some y → f x ≡ f y → map f (set xs i x) ≡ map f xs
+map_set f [] i x y e g = refl
+map_set f (z ∷ zs) zero x y e g = ap (λ k. k ∷ map f zs) (g ∙ ap f (sym (let s : z ≡ y = cc in s)))
+map_set f (z ∷ zs) (suc i) x y e g = ap (λ l. f z ∷ l) (map_set f zs i x y e g)

@@ -4,7 +4,7 @@ ghost use Rattle.std.specs.Prelude.{◌≡◌, ◌<◌, ◌≤◌, [], All, leng
 ghost use Rattle.std.specs.List.{AllByRecursion};
 ghost use Rattle.word_rule.specs.LockWords.{lock_words};
 ghost use Rattle.word_rule.specs.Opening.{opening_world, IsOpening};
-ghost use Rattle.word_rule.specs.Shown.{Represents, opened_by};
+ghost use Rattle.word_rule.specs.Shown.{Represents, Runs, opened_by};
 ghost use Rattle.word_rule.specs.Sound.{Sound};
 ghost use Rattle.word_rule.specs.SoundWorld.{IsTodo};
 ghost use Rattle.word_rule.specs.World.{World, CellState, step, run, run_of};
@@ -29,7 +29,7 @@ use crate::machine::recorded::{all_logs, all_transcripts};
 use crate::machine::room::{Room, make_room};
 pub use cell_spec::CellSpec;
 use event_log::{Entry, Event, OutOfMemory, Run, SeqObject, Series, Todo};
-pub use law::{first_come, one_holder, sound_runs};
+pub use law::{first_come, idle_when_done, one_holder, sound_runs};
 use std::alloc::Global;
 use std::marker::Model;
 pub use step_done::StepDone;
@@ -97,6 +97,16 @@ impl<O: SeqObject> Machine<O> {
             }),
             Err(OutOfMemory) => Err((OutOfMemory, cells, scripts)),
         }
+    }
+
+    /// What every machine is, whoever made it: it keeps a world, whose logs and transcripts are sound, of at most 16 cells
+    /// and 8 CPUs. It has no effect.
+    pub fn keeps_a_world(&self)
+        ensures world { Runs O.SeqObject self.now }
+        ensures cells { length self.now.cells ≤ 16 }
+        ensures cpus { length self.now.scripts ≤ 8 }
+    {
+        let _ = &self.cells;
     }
 
     /// The next atomic step of a CPU. One whose script is done does an idle step, which changes nothing.

@@ -5,4 +5,4 @@ pub returns-clause-order : goal.returns-clause-order
 returns-clause-order g c = λ w o schedule x. order_lem g.O.SeqObject w o schedule x
 
 pub returns-clause-few : goal.returns-clause-few
-returns-clause-few g c = λ w o before since i x a t le. few_lem g.O.SeqObject w o before since i x a t le
+returns-clause-few g c = λ w o schedule i x a t. few_lem g.O.SeqObject w o schedule i x a t

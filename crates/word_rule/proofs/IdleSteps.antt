@@ -1,0 +1,196 @@
+-- A CPU's step is idle exactly where its script is done, in every run from an opening world.
+use Rattle.std.proofs.Common.{◌≡◌, ◌↔◌, ℕ, ◌<◌, ◌==◌, Bool, true, false, true≢false, cond, List, [], ◌∷◌, length, slice_get, Option, Some, None, refl, sym, ap, ◌∙◌, subst}
+use Rattle.std.specs.List.{AllByRecursion}
+use Rattle.std.proofs.lemmas.Option.{slice_get_within}
+use Rattle.event_log.specs.declared.object.SeqObject.{Ghosts}
+use Rattle.event_log.specs.declared.entry.Todo.{Todo}
+use Rattle.word_rule.specs.declared.lock_kind.LockKind.{LockKind}
+use Rattle.word_rule.specs.declared.lock_kind.LockKind.TheVariants as kinds
+use Rattle.word_rule.specs.declared.machine.step_done.StepDone.{StepDone}
+use Rattle.word_rule.specs.declared.machine.step_done.StepDone.TheVariants as steps
+use Rattle.word_rule.specs.declared.stage.Stage.{Stage}
+use Rattle.word_rule.specs.declared.stage.Stage.TheVariants.{Idle, Drawn, Served, Ready, Behind, Armed, Waiting, Holding, Alone, Leaving, Passing, Torn}
+use Rattle.word_rule.specs.Line.{is_first, moved}
+use Rattle.word_rule.specs.Tickets.{StandsInLine}
+use Rattle.word_rule.specs.Locks.{Lock, tickets, last, is_named, follower, going, taking, leaving}
+use Rattle.word_rule.specs.LockWords.{IsTicketLock, IsMcsLock, IsLockOf}
+use Rattle.word_rule.specs.Opening.{IsOpening}
+use Rattle.word_rule.specs.SoundWorld.{IsTodo}
+use Rattle.word_rule.specs.Turns.{look, see, enter, empty, ticket_turn, mcs_turn, turn_of, turn}
+use Rattle.word_rule.specs.World.{World, CellState, CpuState, step, step_by, step_of, step_on, run}
+use Rattle.word_rule.proofs.Arrivals.{fresh}
+use Rattle.word_rule.proofs.Openings.{opening_sound}
+use Rattle.word_rule.proofs.Orders.{Keeps, AreLocks, IsCell, locks_run, same_cpus}
+use Rattle.word_rule.proofs.QueueWords.{stands_at}
+use Rattle.word_rule.proofs.Slices.{some_at}
+use Rattle.word_rule.proofs.SoundSteps.{sound_run}
+use Rattle.word_rule.proofs.TurnsKeep.{IsLock, locks_keep}
+
+abbrev is_torn : Stage → Bool
+is_torn Torn = true
+is_torn q = false
+
+abbrev is_idle : StepDone → Bool
+is_idle steps.Idle = true
+is_idle s = false
+
+-- no CPU stands where the rule of cells alone has one on the way to a contradiction
+abbrev IsWhole : Lock → Type 0
+IsWhole l = (x : ℕ) → is_torn (l.line.stage x) ≡ false
+
+moved_whole : (stage : ℕ → Stage) (p : ℕ) (q : Stage) → ((x : ℕ) → is_torn (stage x) ≡ false) → is_torn q ≡ false → (x : ℕ) → is_torn (moved stage p q x) ≡ false
+moved_whole stage p q others mine x = by (x == p)
+  where
+    by : (b : Bool) → is_torn (cond b q (stage x)) ≡ false
+    by true = mine
+    by false = others x
+
+module _ (l : Lock) (i : ℕ) (h : IsWhole l) where
+  look_whole : (q : Stage) → is_torn q ≡ false → IsWhole (look l i q).0
+  look_whole q mine = by (is_first i l.line.cpus)
+    where
+      by : (b : Bool) → let r : Lock × StepDone = cond b (record l { line = taking l.line i q }, steps.Look true) (l, steps.Look false) in IsWhole r.0
+      by true = moved_whole l.line.stage i q h mine
+      by false = h
+
+  ticket_whole : (q : Stage) → IsWhole (ticket_turn l i q).0
+  ticket_whole Idle = moved_whole l.line.stage i _ h refl
+  ticket_whole (Drawn t) = look_whole (Served t) refl
+  ticket_whole (Served t) = moved_whole l.line.stage i _ h refl
+  ticket_whole q = h
+
+  enter_whole : (o : Option ℕ) → IsWhole (enter l i o).0
+  enter_whole None = moved_whole l.line.stage i _ h refl
+  enter_whole (Some p) = moved_whole l.line.stage i _ h refl
+
+  see_whole : (q : Stage) → is_torn q ≡ false → (o : Option ℕ) → IsWhole (see l i q o).0
+  see_whole q mine None = moved_whole l.line.stage i q h mine
+  see_whole q mine (Some j) = moved_whole l.line.stage i _ h refl
+
+  empty_whole : IsWhole (empty l i).0
+  empty_whole = by (is_named i (last l.line.cpus))
+    where
+      by : (b : Bool) → let r : Lock × StepDone = cond b (record l { line = leaving l.line i }, steps.Empty true) (record l { line = going l.line i Leaving }, steps.Empty false) in IsWhole r.0
+      by true = moved_whole l.line.stage i _ h refl
+      by false = moved_whole l.line.stage i _ h refl
+
+  mcs_whole : (q : Stage) → IsWhole (mcs_turn l i q).0
+  mcs_whole Idle = moved_whole l.line.stage i _ h refl
+  mcs_whole Ready = enter_whole (last l.line.cpus)
+  mcs_whole (Behind p) = moved_whole l.line.stage i _ h refl
+  mcs_whole (Armed p) = moved_whole l.line.stage i _ h refl
+  mcs_whole Waiting = look_whole Holding refl
+  mcs_whole Holding = see_whole Alone refl (follower l.line)
+  mcs_whole Alone = empty_whole
+  mcs_whole Leaving = see_whole Leaving refl (follower l.line)
+  mcs_whole (Passing j) = moved_whole l.line.stage i _ h refl
+  mcs_whole q = h
+
+  turn_whole : (k : LockKind) → IsWhole (turn_of k l i).0
+  turn_whole kinds.Ticket = ticket_whole (l.line.stage i)
+  turn_whole kinds.Mcs = mcs_whole (l.line.stage i)
+
+-- a lock for n CPUs, of which none is torn
+abbrev IsWholeLock : ℕ → Lock → Type 0
+IsWholeLock n l = IsLock n l × IsWhole l
+
+whole_keeps : Keeps IsWholeLock
+whole_keeps = record {
+  turned = λ n l i h below. let t = locks_keep.turned n l i h.0 below in ((t.0, turn_whole l i h.1 l.kind), t.1);
+  few = λ n l h. locks_keep.few n l h.0;
+}
+
+-- a step of a CPU that stands where its lock has it isn't idle
+module _ (n : ℕ) (ws : List ℕ) (l : Lock) (i : ℕ) (below : i < n) where
+  look_acts : (q : Stage) → is_idle (look l i q).1 ≡ false
+  look_acts q = by (is_first i l.line.cpus)
+    where
+      by : (b : Bool) → let r : Lock × StepDone = cond b (record l { line = taking l.line i q }, steps.Look true) (l, steps.Look false) in is_idle r.1 ≡ false
+      by true = refl
+      by false = refl
+
+  stands : (h : IsTicketLock n ws l) (q : Stage) → l.line.stage i ≡ q → StandsInLine tickets l.line.cpus l.line.out h.lined.serving i q
+  stands h q e = subst (StandsInLine tickets l.line.cpus l.line.out h.lined.serving i) e (h.lined.stood i below)
+
+  ticket_acts : IsTicketLock n ws l → (q : Stage) → l.line.stage i ≡ q → is_torn q ≡ false → is_idle (ticket_turn l i q).1 ≡ false
+  ticket_acts h Idle e whole = refl
+  ticket_acts h (Drawn t) e whole = look_acts (Served t)
+  ticket_acts h (Served t) e whole = refl
+  ticket_acts h Torn e whole = absurd (true≢false whole)
+  ticket_acts h Ready e whole = absurd (stands h Ready e)
+  ticket_acts h (Behind p) e whole = absurd (stands h (Behind p) e)
+  ticket_acts h (Armed p) e whole = absurd (stands h (Armed p) e)
+  ticket_acts h Waiting e whole = absurd (stands h Waiting e)
+  ticket_acts h Holding e whole = absurd (stands h Holding e)
+  ticket_acts h Alone e whole = absurd (stands h Alone e)
+  ticket_acts h Leaving e whole = absurd (stands h Leaving e)
+  ticket_acts h (Passing j) e whole = absurd (stands h (Passing j) e)
+
+  see_acts : (q : Stage) (o : Option ℕ) → is_idle (see l i q o).1 ≡ false
+  see_acts q None = refl
+  see_acts q (Some j) = refl
+
+  enter_acts : (o : Option ℕ) → is_idle (enter l i o).1 ≡ false
+  enter_acts None = refl
+  enter_acts (Some p) = refl
+
+  empty_acts : is_idle (empty l i).1 ≡ false
+  empty_acts = by (is_named i (last l.line.cpus))
+    where
+      by : (b : Bool) → let r : Lock × StepDone = cond b (record l { line = leaving l.line i }, steps.Empty true) (record l { line = going l.line i Leaving }, steps.Empty false) in is_idle r.1 ≡ false
+      by true = refl
+      by false = refl
+
+  mcs_acts : IsMcsLock n ws l → (q : Stage) → l.line.stage i ≡ q → is_torn q ≡ false → is_idle (mcs_turn l i q).1 ≡ false
+  mcs_acts h Idle e whole = refl
+  mcs_acts h Ready e whole = enter_acts (last l.line.cpus)
+  mcs_acts h (Behind p) e whole = refl
+  mcs_acts h (Armed p) e whole = refl
+  mcs_acts h Waiting e whole = look_acts Holding
+  mcs_acts h Holding e whole = see_acts Alone (follower l.line)
+  mcs_acts h Alone e whole = empty_acts
+  mcs_acts h Leaving e whole = see_acts Leaving (follower l.line)
+  mcs_acts h (Passing j) e whole = refl
+  mcs_acts h Torn e whole = absurd (true≢false whole)
+  mcs_acts h (Drawn t) e whole = absurd (stands_at n ws l.line h.queued i (Drawn t) below e)
+  mcs_acts h (Served t) e whole = absurd (stands_at n ws l.line h.queued i (Served t) below e)
+
+  acts : (k : LockKind) → IsLockOf k n ws l → is_torn (l.line.stage i) ≡ false → is_idle (turn_of k l i).1 ≡ false
+  acts kinds.Ticket h whole = ticket_acts h (l.line.stage i) refl whole
+  acts kinds.Mcs h whole = mcs_acts h (l.line.stage i) refl whole
+
+module _ {O P C R : Type 0} (meaning : Ghosts O P C R) (w : World O P C R) (o : IsOpening w) where
+  free : AreLocks IsWholeLock whole_keeps meaning w
+  free = λ x. by x (slice_get w.cells x) refl
+    where
+      by : (x : ℕ) (q : Option (CellState O P C R)) → slice_get w.cells x ≡ q → IsCell IsWholeLock whole_keeps meaning (length w.cpus) q
+      by x None e = tt
+      by x (Some c) e = let a = o.cells x c e in subst (λ l. IsWholeLock (length w.cpus) l) (sym a.free) (fresh (length w.cpus) a.first c.lock.kind o.few, λ y. refl)
+
+  module _ (is : List ℕ) (i : ℕ) (cpu : CpuState O P C R) (there : slice_get (run meaning is w).cpus i ≡ Some cpu) where
+    abbrev pub v : World O P C R
+    v = run meaning is w
+
+    stepped : step meaning v i ≡ step_of meaning v i cpu cpu.todo
+    stepped = ap (λ q. step_by meaning v i q) there
+
+    below : i < length w.cpus
+    below = subst (λ n. i < n) (same_cpus IsWholeLock whole_keeps meaning is w free) (slice_get_within v.cpus i cpu there)
+
+    on_cell : (todo : Todo O P C R) (c : CellState O P C R) → slice_get v.cells todo.object ≡ Some c → is_idle (turn c.lock i).1 ≡ false
+    on_cell todo c e =
+        let n : ℕ = length v.cpus in
+        let h : IsWholeLock n c.lock = subst (λ (q : Option (CellState O P C R)). IsCell IsWholeLock whole_keeps meaning n q) e (locks_run IsWholeLock whole_keeps meaning is w free todo.object) in
+        acts n h.0.0 c.lock i (slice_get_within v.cpus i cpu there) c.lock.kind h.0.1 (h.1 i)
+
+    busy : (todos : List (Todo O P C R)) → cpu.todo ≡ todos → AllByRecursion (λ t. IsTodo (length v.cells) t) todos → is_idle (step_of meaning v i cpu todos).1 ≡ true → todos ≡ []
+    busy [] e able idle = refl
+    busy (todo ∷ more) e able idle =
+        let c = some_at v.cells todo.object able.0.on_cell in
+        absurd (true≢false (sym idle ∙ (ap (λ q. is_idle (step_on meaning v i cpu todo q).1) c.1 ∙ on_cell todo c.0 c.1)))
+
+    pub idle_done : ((step meaning v i).1 ≡ steps.Idle) ↔ (cpu.todo ≡ [])
+    idle_done = (
+      λ idle. busy cpu.todo refl ((sound_run meaning is w (opening_sound meaning w o)).able i cpu there) (sym (ap (λ r. is_idle r.1) stepped) ∙ ap is_idle idle),
+      λ done. ap (λ r. r.1) (stepped ∙ ap (λ todos. step_of meaning v i cpu todos) done),
+    )
