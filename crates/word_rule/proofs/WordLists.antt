@@ -39,9 +39,12 @@ mcs_are n ws l h =
     at (suc j) lt = behind j lt (cases_lt j n)
 
 -- the words that show a lock are its words
-pub shown_words : (n : ℕ) (k : LockKind) (ws : List ℕ) (stages : List Stage) (l : Lock) → RepresentsLock n k ws stages l → ws ≡ lock_words n l
-shown_words n k ws stages l h = by k h.tied ∙ ap (λ z. words_of z n l) (sym h.kind_is)
+pub tied_words : (n : ℕ) (k : LockKind) (ws : List ℕ) (l : Lock) → l.kind ≡ k → IsLockOf k n ws l → ws ≡ lock_words n l
+tied_words n k ws l kind_is h = by k h ∙ ap (λ z. words_of z n l) (sym kind_is)
   where
     by : (k : LockKind) → IsLockOf k n ws l → ws ≡ words_of k n l
     by kinds.Ticket t = ticket_are n ws l t
     by kinds.Mcs t = mcs_are n ws l t
+
+pub shown_words : (n : ℕ) (k : LockKind) (ws : List ℕ) (stages : List Stage) (l : Lock) → RepresentsLock n k ws stages l → ws ≡ lock_words n l
+shown_words n k ws stages l h = tied_words n k ws l h.kind_is h.tied

@@ -14,6 +14,7 @@ impl<O: SeqObject> Hold<O> {
         requires some { 0 < length calls.now }
         requires few { length calls.now ≤ 8 }
         ensures table { (self.new.seat.table_id ≡ self.old.seat.table_id) × (self.new.key.value ≡ self.old.key.value) }
+        ensures stage { self.new.stage ≡ self.old.stage }
         ensures caller { (view_of_hold self.new).caller ≡ (view_of_hold self.old).caller }
         ensures room { IsErr result ↔ (length (view_of_hold self.old).history.log ≡ (view_of_hold self.old).history.limit) }
         ensures steps { IfOk result (λ s. s.list.items ≡ answers O.SeqObject (view_of_hold self.old).history.state calls.now) }
