@@ -31,6 +31,10 @@ impl SeqObject for Purse {
 
     ghost stays = { Prim.search rules };
 
+    ghost call_equality = { Prim.search rules };
+
+    ghost reply_equality = { Prim.search rules };
+
     ghost call_fits = { lit< tt };
 
     ghost todo_fits = { lit< tt };
