@@ -1,16 +1,11 @@
 -- No thread is lost, and none stands twice.
 use Rattle.std.specs.Prelude.{ℕ, List, [], ◌∷◌, ◌++◌}
-use Rattle.event_log.specs.Distinct.{AreDistinctBelow}
-use Rattle.wake_list.specs.State.{SchedState, held}
+use Rattle.wake_list.specs.State.{SchedState}
 use Rattle.wake_list.specs.Answer.{sched_answer}
 use Rattle.wake_list.specs.declared.call.SchedCall.{SchedCall}
 use Rattle.wake_list.specs.declared.call.SchedCall.TheVariants.{Ready, Next, Sleep}
 use Rattle.wake_list.specs.declared.call.SchedReply.{SchedReply}
 use Rattle.wake_list.specs.declared.call.SchedReply.TheVariants.{Ok, Thread}
-
--- each thread stands at most once, in the ready list or in one channel, and is below the number of threads
-abbrev pub EachOnce : SchedState → Type 0
-EachOnce s = AreDistinctBelow s.threads (held s)
 
 -- the thread that came in with the call
 abbrev pub came_in : SchedCall → SchedReply → List ℕ
