@@ -5,12 +5,13 @@ use Rattle.std.specs.List.Sorted.{IsPermutation}
 use Rattle.std.proofs.lemmas.Bool.Decides.{nat_tests}
 use Rattle.std.proofs.lemmas.List.{append-nil, length-set, length-replicate}
 use Rattle.std.proofs.lemmas.List.Sorted.{IsPermutation-refl, IsPermutation-trans, IsPermutation-append_left, IsPermutation-append_right}
+use Rattle.event_log.specs.declared.event.Step.{Step}
 use Rattle.event_log.specs.Distinct.{has, AreDistinctBelow}
 use Rattle.event_log.proofs.Distinct.{distinct_left, distinct_put}
 use Rattle.event_log.proofs.Joined.{concat_none, between, put_in, taken_out}
 use Rattle.wake_list.specs.State.{SchedState, held, opening_state, EachOnce, IsSchedOf}
 use Rattle.wake_list.specs.Answer.{sched_answer, front_answer, sleep_answer, woken_answer, wake_answer, wake_all_answer, sleepers, with_sleepers}
-use Rattle.wake_list.specs.Keeping.{came_in, went_out, threads_in, threads_out, left_after}
+use Rattle.wake_list.specs.Keeping.{came_in, went_out, threads_put, threads_told, threads_in, threads_out, left_after}
 use Rattle.wake_list.specs.declared.call.SchedCall.{SchedCall}
 use Rattle.wake_list.specs.declared.call.SchedCall.TheVariants.{Ready, Next, Sleep, Wake, WakeAll}
 use Rattle.wake_list.specs.declared.sched.SchedParams.{SchedParams}
@@ -105,6 +106,20 @@ none_lost s [] = unchanged s
 none_lost s (call ∷ calls) =
     let a = sched_answer s call in
     both_moves (held s) (came_in call a.1) (threads_in a.0 calls) (went_out call a.1) (threads_out a.0 calls) (held a.0) (held (left_after a.0 calls)) (keeps s call).all (none_lost a.0 calls)
+
+-- so the steps xs lead from s to t
+abbrev pub PassesOn : {O P : Type 0} → SchedState → List (Step O P SchedCall SchedReply) → SchedState → Type 0
+PassesOn s xs t = IsPermutation (held s ++ threads_put xs) (threads_told xs ++ held t)
+
+pub no_step : {O P : Type 0} (s : SchedState) → PassesOn {O} {P} s [] s
+no_step s = unchanged s
+
+pub one_step : {O P : Type 0} (s : SchedState) (x : Step O P SchedCall SchedReply) (xs : List (Step O P SchedCall SchedReply)) (t : SchedState) → x.reply ≡ (sched_answer s x.call).1 → PassesOn (sched_answer s x.call).0 xs t → PassesOn s (x ∷ xs) t
+one_step s x xs t is h =
+    let new = (sched_answer s x.call).0 in
+    let first : IsPermutation (held s ++ came_in x.call x.reply) (went_out x.call x.reply ++ held new)
+    = subst (λ r. IsPermutation (held s ++ came_in x.call r) (went_out x.call r ++ held new)) (sym is) (keeps s x.call).all in
+    both_moves (held s) (came_in x.call x.reply) (threads_put xs) (went_out x.call x.reply) (threads_told xs) (held new) (held t) first h
 
 pub none_twice : (s : SchedState) (calls : List SchedCall) → EachOnce s → EachOnce (left_after s calls)
 none_twice s [] once = once
