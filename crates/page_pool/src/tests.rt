@@ -7,8 +7,10 @@ ghost use Rattle.page_pool.specs.Owning.{IsLeastFree};
 ghost use Rattle.page_pool.specs.declared.call.PoolCall.TheVariants.{Alloc, Free};
 ghost use Rattle.page_pool.specs.declared.call.PoolReply.TheVariants.{Ok, Page};
 
-use crate::{MOST_PAGES, PagePool, PoolCall as Call, PoolReply as Reply};
-use crate::{frees_its_own, gives_the_least, stays_whole};
+use crate::{
+    MOST_PAGES, PagePool, PoolCall as Call, PoolReply as Reply, frees_its_own, gives_the_least,
+    stays_whole,
+};
 use event_log::{Logged, OpenFault, Step};
 use std::test::Fail;
 
