@@ -1,9 +1,11 @@
 -- What goes into a console comes out of it, in order.
 use Rattle.std.proofs.Common.{◌≡◌, ℕ, nat_lt, true, false, if◌then◌else◌, List, [], ◌∷◌, ◌++◌, length, refl, sym, ap, ◌∙◌, append_assoc}
 use Rattle.std.proofs.lemmas.List.{append-nil}
+use Rattle.event_log.specs.declared.event.Step.{Step}
+use Rattle.event_log.specs.Log.{calls_of}
 use Rattle.console_ring.specs.State.{ConsoleState}
 use Rattle.console_ring.specs.Answer.{console_answer, full_answer, front_answer}
-use Rattle.console_ring.specs.Passing.{bytes_in, bytes_out, out_with, left_after}
+use Rattle.console_ring.specs.Passing.{bytes_in, bytes_told, bytes_out, out_with, left_after}
 use Rattle.console_ring.specs.declared.call.ConsoleCall.{ConsoleCall}
 use Rattle.console_ring.specs.declared.call.ConsoleCall.TheVariants.{Put, Get, Level}
 use Rattle.console_ring.specs.declared.call.ConsoleReply.{ConsoleReply}
@@ -41,15 +43,27 @@ out_first Empty rest = refl
 out_first (Byte b) rest = refl
 out_first (Count n) rest = refl
 
-pub in_order : (c : ConsoleState) (calls : List ConsoleCall) → c.bytes ++ bytes_in calls ≡ bytes_out c calls ++ (left_after c calls).bytes
-in_order c [] = append-nil c.bytes
-in_order c (call ∷ calls) =
+-- one call before others, of which `out` came out and `rest` was left
+one_call : (c : ConsoleState) (call : ConsoleCall) (calls : List ConsoleCall) (out rest : List ℕ) → (console_answer c call).0.bytes ++ bytes_in calls ≡ out ++ rest → c.bytes ++ bytes_in (call ∷ calls) ≡ out_with (console_answer c call).1 out ++ rest
+one_call c call calls out rest h =
     let a = console_answer c call in
-    let rest = in_order a.0 calls in
     ap (λ l. c.bytes ++ l) (one_more call calls)
     ∙ (sym (append_assoc c.bytes (bytes_in (call ∷ [])) (bytes_in calls))
     ∙ (ap (λ l. l ++ bytes_in calls) (conserves c.capacity c.bytes call)
     ∙ (append_assoc (out_with a.1 []) a.0.bytes (bytes_in calls)
-    ∙ (ap (λ l. out_with a.1 [] ++ l) rest
-    ∙ (sym (append_assoc (out_with a.1 []) (bytes_out a.0 calls) (left_after a.0 calls).bytes)
-    ∙ ap (λ l. l ++ (left_after a.0 calls).bytes) (sym (out_first a.1 (bytes_out a.0 calls))))))))
+    ∙ (ap (λ l. out_with a.1 [] ++ l) h
+    ∙ (sym (append_assoc (out_with a.1 []) out rest)
+    ∙ ap (λ l. l ++ rest) (sym (out_first a.1 out)))))))
+
+pub in_order : (c : ConsoleState) (calls : List ConsoleCall) → c.bytes ++ bytes_in calls ≡ bytes_out c calls ++ (left_after c calls).bytes
+in_order c [] = append-nil c.bytes
+in_order c (call ∷ calls) =
+    let a = console_answer c call in
+    one_call c call calls (bytes_out a.0 calls) (left_after a.0 calls).bytes (in_order a.0 calls)
+
+-- so the steps xs lead from c to d
+abbrev pub PassesOn : {O P : Type 0} → ConsoleState → List (Step O P ConsoleCall ConsoleReply) → ConsoleState → Type 0
+PassesOn c xs d = c.bytes ++ bytes_in (calls_of xs) ≡ bytes_told xs ++ d.bytes
+
+pub one_step : {O P : Type 0} (c : ConsoleState) (x : Step O P ConsoleCall ConsoleReply) (xs : List (Step O P ConsoleCall ConsoleReply)) (d : ConsoleState) → x.reply ≡ (console_answer c x.call).1 → PassesOn (console_answer c x.call).0 xs d → PassesOn c (x ∷ xs) d
+one_step c x xs d is h = one_call c x.call (calls_of xs) (bytes_told xs) d.bytes h ∙ ap (λ r. out_with r (bytes_told xs) ++ d.bytes) (sym is)

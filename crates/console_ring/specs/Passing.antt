@@ -1,5 +1,6 @@
 -- What goes into a console comes out of it, in order.
 use Rattle.std.specs.Prelude.{ℕ, List, [], ◌∷◌}
+use Rattle.event_log.specs.declared.event.Step.{Step}
 use Rattle.console_ring.specs.State.{ConsoleState}
 use Rattle.console_ring.specs.Answer.{console_answer}
 use Rattle.console_ring.specs.declared.call.ConsoleCall.{ConsoleCall}
@@ -21,6 +22,11 @@ out_with (Dropped b) rest = b ∷ rest
 out_with Empty rest = rest
 out_with (Byte b) rest = b ∷ rest
 out_with (Count n) rest = rest
+
+-- the bytes that came out with the replies of steps, got or dropped, in order
+abbrev pub bytes_told : {O P : Type 0} → List (Step O P ConsoleCall ConsoleReply) → List ℕ
+bytes_told [] = []
+bytes_told (step ∷ steps) = out_with step.reply (bytes_told steps)
 
 -- the bytes that came out, got or dropped, in order
 abbrev pub bytes_out : ConsoleState → List ConsoleCall → List ℕ

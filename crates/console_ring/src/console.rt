@@ -60,7 +60,7 @@ impl Console {
 }
 
 impl SeqObject for Console {
-    ghost use Rattle.std.specs.Prelude.{◌&&◌, nat_le, []};
+    ghost use Rattle.console_ring.specs.State.{is_in_range, opening_state};
     ghost use Rattle.console_ring.specs.Answer.{console_answer, is_refusing};
     ghost use Rattle.std.proofs.Common.{lit<, rules};
 
@@ -70,15 +70,19 @@ impl SeqObject for Console {
 
     type Reply = ConsoleReply;
 
-    ghost in_range = { λ n. nat_le 1 n && nat_le n 4096 };
+    ghost in_range = { is_in_range };
 
-    ghost opening = { λ n. record { capacity = n; bytes = [] } };
+    ghost opening = { opening_state };
 
     ghost answer = { console_answer };
 
     ghost refusing = { is_refusing };
 
     ghost stays = { Prim.search rules };
+
+    ghost call_equality = { Prim.search rules };
+
+    ghost reply_equality = { Prim.search rules };
 
     ghost call_fits = { lit< tt };
 

@@ -9,4 +9,4 @@ mod tests;
 
 pub use call::{ConsoleCall, ConsoleReply};
 pub use console::{Console, MOST_BYTES};
-pub use passing::first_in_first_out;
+pub use passing::{first_in_first_out, stays_within};

@@ -1,25 +1,24 @@
--- Distinct numbers below a bound are few, and stay distinct.
-use Rattle.std.proofs.Common.{◌≡◌, ℕ, ◌<◌, ◌≤◌, ◌==◌, ◌||◌, Bool, true, false, cond, List, [], ◌∷◌, ◌++◌, length, refl, arith}
+-- Distinct numbers below a bound are few. They stay distinct where one more comes, where some are left out, and in another order.
+use Rattle.std.proofs.Common.{◌≡◌, ◌≢◌, ℕ, ◌<◌, ◌≤◌, ◌==◌, ◌||◌, Bool, true, false, cond, List, [], ◌∷◌, ◌++◌, length, refl, subst, arith}
 use Rattle.std.specs.List.{list_any, IsDistinct, AllByRecursion, filter}
+use Rattle.std.specs.List.Sorted.{IsPermutation}
 use Rattle.std.proofs.Math.Dec.{eqb}
+use Rattle.std.proofs.lemmas.Bool.{or_from, or_parts}
 use Rattle.std.proofs.lemmas.Bool.Decides.{nat_tests}
+use Rattle.std.proofs.lemmas.Cmp.{nat_eq_equiv}
+use Rattle.std.proofs.lemmas.List.{append-nil, length_push}
+use Rattle.std.proofs.lemmas.List.Elements.{recursion_from_All}
+use Rattle.std.proofs.lemmas.List.Sorted.{All-permutation}
+use Rattle.std.proofs.lemmas.Map.Keys.{IsDistinct-IsPermutation}
 use Rattle.std.proofs.lemmas.Map.Steps.{length-le_from_distinct_below}
+use Rattle.std.proofs.lemmas.Map.Views.{All-from_any}
 use Rattle.event_log.specs.Distinct.{has, AreDistinctBelow}
-
--- both parts of a test that fails
-pub or_false : (a b : Bool) → (a || b) ≡ false → (a ≡ false) × (b ≡ false)
-or_false true b h = absurd (cc)
-or_false false b h = (refl, h)
-
--- a test of which both parts fail
-pub false_or : (a b : Bool) → a ≡ false → b ≡ false → (a || b) ≡ false
-false_or a b p q = rw p q
 
 -- a number that isn't in the list differs from each of it
 pub apart_from : (x : ℕ) (xs : List ℕ) → has x xs ≡ false → AllByRecursion (λ y. eqb x y ≡ false) xs
 apart_from x [] h = tt
 apart_from x (y ∷ ys) h =
-    let p = or_false (y == x) (has x ys) h in
+    let p = or_parts (y == x) (has x ys) h in
     (grind (arith, nat_tests, p.0), apart_from x ys p.1)
 
 -- the same in std's words
@@ -39,24 +38,25 @@ below n (x ∷ xs) q t h =
 pub distinct_length : (n : ℕ) (xs : List ℕ) → AreDistinctBelow n xs → length xs ≤ n
 distinct_length n xs q = length-le_from_distinct_below xs n (distinct n xs q) (below n xs q)
 
-has_push : (t u : ℕ) (xs : List ℕ) → has t xs ≡ false → (u == t) ≡ false → has t (xs ++ u ∷ []) ≡ false
-has_push t u [] h k = false_or (u == t) false k refl
-has_push t u (x ∷ xs) h k = let p = or_false (x == t) (has t xs) h in false_or (x == t) (has t (xs ++ u ∷ [])) p.0 (has_push t u xs p.1 k)
+-- a number isn't in a list that grows by another
+pub has_push : (x y : ℕ) (xs : List ℕ) → has x xs ≡ false → x ≢ y → has x (xs ++ y ∷ []) ≡ false
+has_push x y [] h n = grind (arith, nat_tests)
+has_push x y (z ∷ xs) h n = let p = or_parts (z == x) (has x xs) h in or_from (z == x) (has x (xs ++ y ∷ [])) p.0 (has_push x y xs p.1 n)
 
 -- a new number may be put at the end
 pub distinct_push : (n : ℕ) (xs : List ℕ) (t : ℕ) → AreDistinctBelow n xs → t < n → has t xs ≡ false → AreDistinctBelow n (xs ++ t ∷ [])
 distinct_push n [] t q lt h = (lt, refl, tt)
 distinct_push n (x ∷ xs) t q lt h =
-    let p = or_false (x == t) (has t xs) h in
-    let k : (t == x) ≡ false = grind (arith, nat_tests, p.0) in
+    let p = or_parts (x == t) (has t xs) h in
+    let k : x ≢ t = grind (arith, nat_tests, p.0) in
     (q.0, has_push x t xs q.1 k, distinct_push n xs t q.2 lt p.1)
 
 has_filter : (p : ℕ → Bool) (t : ℕ) (xs : List ℕ) → has t xs ≡ false → has t (filter p xs) ≡ false
 has_filter p t [] h = refl
 has_filter p t (x ∷ xs) h =
-    let parts = or_false (x == t) (has t xs) h in
+    let parts = or_parts (x == t) (has t xs) h in
     let rest = has_filter p t xs parts.1 in
-    elim (p x) as (λ b. has t (cond b (x ∷ filter p xs) (filter p xs)) ≡ false) [ true ↦ false_or (x == t) (has t (filter p xs)) parts.0 rest | false ↦ rest ]
+    elim (p x) as (λ b. has t (cond b (x ∷ filter p xs) (filter p xs)) ≡ false) [ true ↦ or_from (x == t) (has t (filter p xs)) parts.0 rest | false ↦ rest ]
 
 -- some of them may be left out
 pub distinct_filter : (p : ℕ → Bool) (n : ℕ) (xs : List ℕ) → AreDistinctBelow n xs → AreDistinctBelow n (filter p xs)
@@ -64,3 +64,45 @@ distinct_filter p n [] q = tt
 distinct_filter p n (x ∷ xs) q =
     let rest = distinct_filter p n xs q.2 in
     elim (p x) as (λ b. AreDistinctBelow n (cond b (x ∷ filter p xs) (filter p xs))) [ true ↦ (q.0, has_filter p x xs q.1, rest) | false ↦ rest ]
+
+-- there are fewer than n where one is missing
+pub distinct_length_missing : (n : ℕ) (xs : List ℕ) (t : ℕ) → AreDistinctBelow n xs → t < n → has t xs ≡ false → length xs < n
+distinct_length_missing n xs t q lt h =
+    let few = distinct_length n (xs ++ t ∷ []) (distinct_push n xs t q lt h) in
+    omega (arith, length_push xs t, few)
+
+-- those before may be left out
+pub distinct_rest : (n : ℕ) (xs ys : List ℕ) → AreDistinctBelow n (xs ++ ys) → AreDistinctBelow n ys
+distinct_rest n [] ys q = q
+distinct_rest n (x ∷ xs) ys q = distinct_rest n xs ys q.2
+
+absent : (x : ℕ) (xs : List ℕ) → AllByRecursion (λ y. eqb x y ≡ false) xs → has x xs ≡ false
+absent x [] h = refl
+absent x (y ∷ ys) h =
+    let other : (y == x) ≡ false = grind (arith, nat_tests, h.0) in
+    or_from (y == x) (has x ys) other (absent x ys h.1)
+
+-- from std's words
+both : (n : ℕ) (xs : List ℕ) → AllByRecursion (λ x. x < n) xs → IsDistinct eqb xs → AreDistinctBelow n xs
+unfolding IsDistinct
+both n [] b d = tt
+both n (x ∷ xs) b d = (b.0, absent x xs d.0, both n xs b.1 d.1)
+
+flips : (x y : ℕ) → eqb x y ≡ eqb y x
+flips x y = grind (arith, nat_tests)
+
+-- in another order they are as distinct
+pub distinct_permuted : (n : ℕ) (xs ys : List ℕ) → AreDistinctBelow n xs → IsPermutation xs ys → AreDistinctBelow n ys
+distinct_permuted n xs ys q p =
+    let lt : ℕ → Type 0 = λ x. x < n in
+    let all = All-permutation lt xs ys p (All-from_any nat_eq_equiv lt xs (below n xs q)) in
+    both n ys (recursion_from_All lt ys all) (IsDistinct-IsPermutation eqb flips xs ys p (distinct n xs q))
+
+-- what is left once some were taken out
+pub distinct_left : (n : ℕ) (xs out ys : List ℕ) → IsPermutation (xs ++ []) (out ++ ys) → AreDistinctBelow n xs → AreDistinctBelow n ys
+distinct_left n xs out ys p q =
+    distinct_rest n out ys (distinct_permuted n xs (out ++ ys) q (subst (λ l. IsPermutation l (out ++ ys)) (append-nil xs) p))
+
+-- a new one goes to any place
+pub distinct_put : (n : ℕ) (xs ys : List ℕ) (t : ℕ) → IsPermutation (xs ++ t ∷ []) ys → t < n → has t xs ≡ false → AreDistinctBelow n xs → AreDistinctBelow n ys
+distinct_put n xs ys t p lt h q = distinct_permuted n (xs ++ t ∷ []) ys (distinct_push n xs t q lt h) p

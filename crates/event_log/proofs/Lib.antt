@@ -1,7 +1,9 @@
 pub mod Distinct
+pub mod Joined
 pub mod Beginnings
 pub mod Logs
 pub mod Batches
 pub mod Histories
+pub mod Replays
 pub mod Props
 pub mod Sends

@@ -58,6 +58,12 @@ pub trait SeqObject: Drop {
     /// A call that is refused leaves the state.
     ghost stays: { (s : Self) (c : Self.Call) → refusing (answer s c).1 ≡ true → (answer s c).0 ≡ s };
 
+    /// `==` on calls is equality.
+    ghost call_equality: { (a b : Self.Call) → Self.Call.eq a b ≡ true → a ≡ b };
+
+    /// `==` on replies is equality.
+    ghost reply_equality: { (a b : Self.Reply) → Self.Reply.eq a b ≡ true → a ≡ b };
+
     /// A call, and each of the types that are made of calls and replies, has fewer than 2^63 bytes.
     ghost call_fits: { FitsInMemory Self.Call.row };
 

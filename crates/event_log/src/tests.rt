@@ -1,5 +1,7 @@
 //! The logged object around a small object: its limits, a full log, batches, entries.
 
+ghost use Rattle.std.specs.Prelude.{◌≡◌, true};
+
 use crate::{Done, Entry, Event, Logged, NoRoom, OpenFault, SeqObject, Series, Step};
 use arrayvec::ArrayVec;
 use std::alloc::Global;
@@ -30,6 +32,10 @@ impl SeqObject for Purse {
     ghost refusing = { not };
 
     ghost stays = { Prim.search rules };
+
+    ghost call_equality = { Prim.search rules };
+
+    ghost reply_equality = { Prim.search rules };
 
     ghost call_fits = { lit< tt };
 
@@ -107,6 +113,29 @@ fn a_full_log(rt: HostRuntime) -> Result<(), Fail> {
         assert_eq!(rt; purse.state().coins, 9 - limit);
         assert_eq!(rt; (*purse.params(), purse.limit()), (9, limit));
         assert_eq!(rt; purse.into_log().len(), limit as usize);
+    }
+    Ok(())
+}
+
+/// Whether a step is this call with this reply, by `==` alone: generic code has no more.
+fn is_step<O: SeqObject>(step: &Step<O>, call: O::Call, reply: O::Reply) -> bool
+    ensures call { result ≡ true → step.now.call ≡ call }
+    ensures reply { result ≡ true → step.now.reply ≡ reply }
+{
+    step.call == call && step.reply == reply
+}
+
+#[test]
+fn steps_are_told_by_their_call_and_reply(rt: HostRuntime) -> Result<(), Fail> {
+    let mut purse = Logged::<Purse>::open(rt.alloc(), 5, 1)?;
+    let steps = purse.apply(0, &[2])?;
+    match steps.list.as_slice() {
+        [step] => {
+            assert!(rt; is_step(step, 2, true));
+            assert!(rt; !is_step(step, 3, true));
+            assert!(rt; !is_step(step, 2, false));
+        }
+        _ => return Err(Fail::new("not one step")),
     }
     Ok(())
 }

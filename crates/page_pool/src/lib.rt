@@ -8,5 +8,5 @@ mod pool;
 mod tests;
 
 pub use call::{PoolCall, PoolReply};
-pub use owning::{frees_its_own, gives_the_least};
+pub use owning::{frees_its_own, gives_the_least, stays_whole};
 pub use pool::{LAST_OWNER, MOST_PAGES, PagePool};

@@ -77,7 +77,7 @@ impl PagePool {
 }
 
 impl SeqObject for PagePool {
-    ghost use Rattle.std.specs.Prelude.{◌&&◌, nat_le, replicate, None};
+    ghost use Rattle.page_pool.specs.State.{is_in_range, opening_state};
     ghost use Rattle.page_pool.specs.Answer.{pool_answer, is_refusing};
     ghost use Rattle.std.proofs.Common.{lit<, rules};
 
@@ -87,15 +87,19 @@ impl SeqObject for PagePool {
 
     type Reply = PoolReply;
 
-    ghost in_range = { λ n. nat_le 1 n && nat_le n 4096 };
+    ghost in_range = { is_in_range };
 
-    ghost opening = { λ n. record { pages = n; owners = replicate n None } };
+    ghost opening = { opening_state };
 
     ghost answer = { pool_answer };
 
     ghost refusing = { is_refusing };
 
     ghost stays = { Prim.search rules };
+
+    ghost call_equality = { Prim.search rules };
+
+    ghost reply_equality = { Prim.search rules };
 
     ghost call_fits = { lit< tt };
 

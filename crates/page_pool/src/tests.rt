@@ -1,6 +1,16 @@
 //! Worked answers, the limits of an opening, and a plain program that answers the same.
 
-use crate::{MOST_PAGES, PagePool, PoolCall as Call, PoolReply as Reply};
+ghost use Rattle.std.specs.Prelude.{◌≡◌, ℕ, Some};
+ghost use Rattle.page_pool.specs.Table.{owner_of};
+ghost use Rattle.page_pool.specs.Answer.{pool_answer};
+ghost use Rattle.page_pool.specs.Owning.{IsLeastFree};
+ghost use Rattle.page_pool.specs.declared.call.PoolCall.TheVariants.{Alloc, Free};
+ghost use Rattle.page_pool.specs.declared.call.PoolReply.TheVariants.{Ok, Page};
+
+use crate::{
+    MOST_PAGES, PagePool, PoolCall as Call, PoolReply as Reply, frees_its_own, gives_the_least,
+    stays_whole,
+};
 use event_log::{Logged, OpenFault, Step};
 use std::test::Fail;
 
@@ -11,6 +21,26 @@ fn reply_to(pool: &mut Logged<PagePool>, call: Call) -> Result<Reply, Fail> {
         [step] => Ok(step.reply),
         _ => Err(Fail::new("not one step")),
     }
+}
+
+/// What the laws say of any pool with its log: which page is given next, and which can be freed.
+fn laws_of(pool: &Logged<PagePool>)
+    ensures gives { (o p : ℕ) → (pool_answer pool.now.state (Alloc o)).1 ≡ Page p → IsLeastFree pool.now.state p }
+    ensures frees { (o p : ℕ) → (pool_answer pool.now.state (Free o p)).1 ≡ Ok → owner_of pool.now.state.owners p ≡ Some o }
+{
+    let _ = pool.log();
+    stays_whole();
+    gives_the_least();
+    frees_its_own();
+}
+
+#[test]
+fn the_laws_are_of_a_logged_pool(rt: HostRuntime) -> Result<(), Fail> {
+    let mut pool = Logged::<PagePool>::open(rt.alloc(), 3, 10)?;
+    assert_eq!(rt; reply_to(&mut pool, Call::Alloc(2))?, Reply::Page(0));
+    laws_of(&pool);
+    assert_eq!(rt; reply_to(&mut pool, Call::Alloc(2))?, Reply::Page(1));
+    Ok(())
 }
 
 #[test]

@@ -85,7 +85,7 @@ fn keep_others(list: &mut Vec<u32>, thread: u32)
 }
 
 impl SeqObject for ThreadQueue {
-    ghost use Rattle.std.specs.Prelude.{◌&&◌, nat_le, []};
+    ghost use Rattle.shared_queue.specs.State.{is_in_range, opening_state};
     ghost use Rattle.shared_queue.specs.Answer.{queue_answer, is_refusing};
     ghost use Rattle.std.proofs.Common.{lit<, rules};
 
@@ -95,15 +95,19 @@ impl SeqObject for ThreadQueue {
 
     type Reply = QueueReply;
 
-    ghost in_range = { λ n. nat_le 1 n && nat_le n 1024 };
+    ghost in_range = { is_in_range };
 
-    ghost opening = { λ n. record { threads = n; list = [] } };
+    ghost opening = { opening_state };
 
     ghost answer = { queue_answer };
 
     ghost refusing = { is_refusing };
 
     ghost stays = { Prim.search rules };
+
+    ghost call_equality = { Prim.search rules };
+
+    ghost reply_equality = { Prim.search rules };
 
     ghost call_fits = { lit< tt };
 

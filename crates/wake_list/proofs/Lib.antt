@@ -1,4 +1,2 @@
-pub mod Distinct
-pub mod Moves
 pub mod Rooms
 pub mod Kept

@@ -5,7 +5,7 @@ use Rattle.std.proofs.lemmas.List.{get_or-map, map-set, length-map}
 use Rattle.std.proofs.lemmas.List.Folds.{list_any-append}
 use Rattle.event_log.specs.Distinct.{has, AreDistinctBelow}
 use Rattle.event_log.proofs.Distinct.{distinct_length}
-use Rattle.wake_list.proofs.Moves.{length_at}
+use Rattle.event_log.proofs.Joined.{length_with}
 
 -- what they hold
 abbrev pub lists_of : List (Vec ℕ Global) → List (List ℕ)
@@ -28,17 +28,13 @@ pub has_concat : (t : ℕ) (vs : List (Vec ℕ Global)) → list_any (λ v. has 
 has_concat t [] = refl
 has_concat t (v ∷ vs) = ap (λ b. has t v.items || b) (has_concat t vs) ∙ sym (list_any-append (λ y. y == t) v.items (concat (lists_of vs)))
 
--- r and one of the lists are no longer than all together
-all_length : (r : List ℕ) (ls : List (List ℕ)) (c : ℕ) → c < length ls → length r + length (get_or ls c []) ≤ length (r ++ concat ls)
-all_length r ls c lt = omega (arith, length-append r (concat ls), length_at ls c lt)
-
 -- where all together are distinct numbers below n, r and one of the lists hold at most n
 pub fits_with : (n : ℕ) (r : List ℕ) (ls : List (List ℕ)) (c : ℕ) → c < length ls → AreDistinctBelow n (r ++ concat ls) → length r + length (get_or ls c []) ≤ n
-fits_with n r ls c lt q = omega (arith, all_length r ls c lt, distinct_length n (r ++ concat ls) q)
+fits_with n r ls c lt q = omega (arith, length_with r ls c lt, distinct_length n (r ++ concat ls) q)
 
 -- where all together are fewer than n, so is one of the lists
 pub fits_one_more : (n : ℕ) (r : List ℕ) (ls : List (List ℕ)) (c : ℕ) → c < length ls → length (r ++ concat ls) < n → length (get_or ls c []) < n
-fits_one_more n r ls c lt few = omega (arith, all_length r ls c lt, few)
+fits_one_more n r ls c lt few = omega (arith, length_with r ls c lt, few)
 
 front_and_rest : (xs : List ℕ) (x : ℕ) → 0 < length xs → x ≡ get_or xs 0 x → xs ≡ x ∷ remove xs 0
 front_and_rest [] x lt e = absurd (omega arith)
@@ -51,8 +47,3 @@ front_taken vs c u v x rest lt eu ev some ex er =
     let taken = list_at vs c v lt ev in
     let full : 0 < length v.items = omega (arith, some, ap length tested, ap length taken) in
     taken ∙ (front_and_rest v.items x full ex ∙ ap (λ l. x ∷ l) (sym er))
-
--- no list holds any
-pub concat_none : (n : ℕ) → concat (replicate n []) ≡ []
-concat_none zero = refl
-concat_none (suc n) = concat_none n

@@ -4,7 +4,7 @@ ghost use Rattle.std.specs.Prelude.{◌≡◌, ◌≤◌, ◌+◌, ◌++◌, IfO
 ghost use Rattle.std.specs.List.{All};
 ghost use Rattle.std.specs.Vec.{vec_capacity};
 ghost use Rattle.event_log.specs.Distinct.{has};
-ghost use Rattle.wake_list.specs.State.{held, empty_sched};
+ghost use Rattle.wake_list.specs.State.{held, opening_state};
 ghost use Rattle.wake_list.specs.Answer.{ready_answer, next_answer, sleep_answer, wake_answer, wake_all_answer};
 
 use crate::{SchedCall, SchedReply};
@@ -52,7 +52,7 @@ impl Sched {
     /// A scheduler that holds no thread, with all its room.
     fn empty(alloc: Global, params: SchedParams) -> Result<Sched, AllocError>
         requires { params.threads ≤ 1024 }
-        ensures { IfOk result (λ s. s ≡ empty_sched params.threads params.channels) }
+        ensures { IfOk result (λ s. s ≡ opening_state params) }
     {
         let ready = Vec::with_capacity(alloc, params.threads as usize)?;
         let channels = empty_channels(alloc, params.channels, params.threads)?;
@@ -165,8 +165,7 @@ fn empty_channels(alloc: Global, channels: u32, room: u32) -> Result<Vec<Vec<u32
 }
 
 impl SeqObject for Sched {
-    ghost use Rattle.std.specs.Prelude.{◌&&◌, nat_le};
-    ghost use Rattle.wake_list.specs.State.{empty_sched};
+    ghost use Rattle.wake_list.specs.State.{is_in_range, opening_state};
     ghost use Rattle.wake_list.specs.Answer.{sched_answer, is_refusing};
     ghost use Rattle.std.proofs.Common.{lit<, rules};
 
@@ -176,15 +175,19 @@ impl SeqObject for Sched {
 
     type Reply = SchedReply;
 
-    ghost in_range = { λ p. nat_le 1 p.threads && nat_le p.threads 1024 && nat_le 1 p.channels && nat_le p.channels 64 };
+    ghost in_range = { is_in_range };
 
-    ghost opening = { λ p. empty_sched p.threads p.channels };
+    ghost opening = { opening_state };
 
     ghost answer = { sched_answer };
 
     ghost refusing = { is_refusing };
 
     ghost stays = { Prim.search rules };
+
+    ghost call_equality = { Prim.search rules };
+
+    ghost reply_equality = { Prim.search rules };
 
     ghost call_fits = { lit< tt };
 

@@ -1,7 +1,8 @@
 use Rattle.std.proofs.Common.{◌≡◌, [], ◌++◌, sym, ap, ◌∙◌, subst, arith}
 use Rattle.std.specs.List.{concat}
 use Rattle.event_log.specs.Distinct.{AreDistinctBelow}
-use Rattle.wake_list.proofs.Rooms.{lists_of, concat_none}
+use Rattle.event_log.proofs.Joined.{concat_none}
+use Rattle.wake_list.proofs.Rooms.{lists_of}
 use Rattle.wake_list.proofs.sched.Sched.empty.Goals as goal
 
 pub invariant_of-result : goal.invariant_of-result

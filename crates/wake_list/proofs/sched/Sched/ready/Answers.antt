@@ -2,8 +2,8 @@ use Rattle.std.proofs.Common.{◌≡◌, ℕ, false, ◌∷◌, [], ◌++◌, ar
 use Rattle.std.specs.List.{concat}
 use Rattle.event_log.specs.Distinct.{has}
 use Rattle.wake_list.specs.State.{held}
-use Rattle.wake_list.proofs.Distinct.{distinct_put, distinct_length_missing}
-use Rattle.wake_list.proofs.Moves.{between}
+use Rattle.event_log.proofs.Distinct.{distinct_put, distinct_length_missing}
+use Rattle.event_log.proofs.Joined.{between}
 use Rattle.wake_list.proofs.Rooms.{lists_of}
 use Rattle.wake_list.proofs.sched.Sched.ready.Goals as goal
 

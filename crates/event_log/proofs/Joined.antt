@@ -1,5 +1,5 @@
--- What goes to another of the lists stays among all of them.
-use Rattle.std.proofs.Common.{◌≡◌, ℕ, suc, ◌<◌, ◌≤◌, List, [], ◌∷◌, ◌++◌, length, get_or, set, take, drop, sym, ap, ◌∙◌, subst, arith, append_assoc, length-append}
+-- Lists that are joined: what goes from one of them to another stays among all.
+use Rattle.std.proofs.Common.{◌≡◌, ℕ, zero, suc, ◌+◌, ◌<◌, ◌≤◌, List, [], ◌∷◌, ◌++◌, length, get_or, set, replicate, take, drop, refl, sym, ap, ◌∙◌, subst, arith, append_assoc, length-append}
 use Rattle.std.specs.List.{concat}
 use Rattle.std.specs.List.Sorted.{IsPermutation}
 use Rattle.std.proofs.lemmas.List.{set_split, set-get_or}
@@ -20,7 +20,7 @@ concat_at : (ls : List (List ℕ)) (c : ℕ) → c < length ls → concat ls ≡
 concat_at ls c lt = ap concat (sym (set-get_or ls c [])) ∙ concat_set ls c (get_or ls c []) lt
 
 -- one of the lists is no longer than all of them
-pub length_at : (ls : List (List ℕ)) (c : ℕ) → c < length ls → length (get_or ls c []) ≤ length (concat ls)
+length_at : (ls : List (List ℕ)) (c : ℕ) → c < length ls → length (get_or ls c []) ≤ length (concat ls)
 length_at ls c lt =
     omega (arith, ap length (concat_at ls c lt), length-append (before ls c) (get_or ls c [] ++ behind ls c), length-append (get_or ls c []) (behind ls c))
 
@@ -44,3 +44,12 @@ taken_out r ls c m rest lt e =
     let left : ((r ++ before ls c) ++ m) ++ after ≡ r ++ concat ls = rw (concat_at ls c lt) (rw e (simp append_assoc)) in
     let right : ((r ++ m) ++ before ls c) ++ after ≡ (r ++ m) ++ concat (set ls c rest) = rw (concat_set ls c rest lt) (simp append_assoc) in
     subst (λ l. IsPermutation l ((r ++ m) ++ concat (set ls c rest))) left (subst (λ l. IsPermutation (((r ++ before ls c) ++ m) ++ after) l) right (IsPermutation-append_left after ((r ++ before ls c) ++ m) ((r ++ m) ++ before ls c) (between r (before ls c) m)))
+
+-- r and one of the lists are no longer than all together
+pub length_with : (r : List ℕ) (ls : List (List ℕ)) (c : ℕ) → c < length ls → length r + length (get_or ls c []) ≤ length (r ++ concat ls)
+length_with r ls c lt = omega (arith, length-append r (concat ls), length_at ls c lt)
+
+-- no list holds any
+pub concat_none : (n : ℕ) → concat (replicate n []) ≡ []
+concat_none zero = refl
+concat_none (suc n) = concat_none n
