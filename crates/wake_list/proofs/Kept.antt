@@ -25,7 +25,7 @@ pub record Keeps (s : SchedState) (call : SchedCall) (a : SchedState × SchedRep
   pub all : IsPermutation (held s ++ came_in call a.1) (went_out call a.1 ++ held a.0)
   pub once : EachOnce s → EachOnce a.0
 
-unchanged : (s : SchedState) → IsPermutation (held s ++ []) (held s)
+pub unchanged : (s : SchedState) → IsPermutation (held s ++ []) (held s)
 unchanged s = subst (λ l. IsPermutation l (held s)) (sym (append-nil (held s))) (IsPermutation-refl (held s))
 
 within : (n c : ℕ) → nat_le n c ≡ false → c < n
@@ -110,9 +110,6 @@ none_lost s (call ∷ calls) =
 -- so the steps xs lead from s to t
 abbrev pub PassesOn : {O P : Type 0} → SchedState → List (Step O P SchedCall SchedReply) → SchedState → Type 0
 PassesOn s xs t = IsPermutation (held s ++ threads_put xs) (threads_told xs ++ held t)
-
-pub no_step : {O P : Type 0} (s : SchedState) → PassesOn {O} {P} s [] s
-no_step s = unchanged s
 
 pub one_step : {O P : Type 0} (s : SchedState) (x : Step O P SchedCall SchedReply) (xs : List (Step O P SchedCall SchedReply)) (t : SchedState) → x.reply ≡ (sched_answer s x.call).1 → PassesOn (sched_answer s x.call).0 xs t → PassesOn s (x ∷ xs) t
 one_step s x xs t is h =
