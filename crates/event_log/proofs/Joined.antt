@@ -1,10 +1,12 @@
--- Lists that are joined: what goes from one of them to another stays among all.
+-- Lists that are joined: what goes from one of them to another stays among all, and how many one of them can hold.
 use Rattle.std.proofs.Common.{◌≡◌, ℕ, zero, suc, ◌+◌, ◌<◌, ◌≤◌, List, [], ◌∷◌, ◌++◌, length, get_or, set, replicate, take, drop, refl, sym, ap, ◌∙◌, subst, arith, append_assoc, length-append}
-use Rattle.std.specs.List.{concat}
+use Rattle.std.specs.List.{concat, remove}
 use Rattle.std.specs.List.Sorted.{IsPermutation}
 use Rattle.std.proofs.lemmas.List.{set_split, set-get_or}
 use Rattle.std.proofs.lemmas.List.Folds.{concat-append}
-use Rattle.std.proofs.lemmas.List.Sorted.{IsPermutation-append_comm, IsPermutation-append_left, IsPermutation-append_right}
+use Rattle.std.proofs.lemmas.List.Sorted.{IsPermutation-append_comm, IsPermutation-append_left, IsPermutation-append_right, IsPermutation-trans}
+use Rattle.event_log.specs.Distinct.{AreDistinctBelow}
+use Rattle.event_log.proofs.Distinct.{distinct_length}
 
 -- the lists before that place, joined, and those after it
 abbrev before : List (List ℕ) → ℕ → List ℕ
@@ -53,3 +55,25 @@ length_with r ls c lt = omega (arith, length-append r (concat ls), length_at ls 
 pub concat_none : (n : ℕ) → concat (replicate n []) ≡ []
 concat_none zero = refl
 concat_none (suc n) = concat_none n
+
+-- where all together are distinct numbers below n, r and one of the lists hold at most n
+pub fits_with : (n : ℕ) (r : List ℕ) (ls : List (List ℕ)) (c : ℕ) → c < length ls → AreDistinctBelow n (r ++ concat ls) → length r + length (get_or ls c []) ≤ n
+fits_with n r ls c lt q = omega (arith, length_with r ls c lt, distinct_length n (r ++ concat ls) q)
+
+-- where all together are fewer than n, so is one of the lists
+pub fits_one_more : (n : ℕ) (r : List ℕ) (ls : List (List ℕ)) (c : ℕ) → c < length ls → length (r ++ concat ls) < n → length (get_or ls c []) < n
+fits_one_more n r ls c lt few = omega (arith, length_with r ls c lt, few)
+
+-- a list is its first element and the rest
+pub front_and_rest : (xs : List ℕ) (x : ℕ) → 0 < length xs → x ≡ get_or xs 0 x → xs ≡ x ∷ remove xs 0
+front_and_rest [] x lt e = absurd (omega arith)
+front_and_rest (y ∷ ys) x lt e = ap (λ z. z ∷ ys) (sym e)
+
+-- two moves, one after the other
+pub both_moves : (h i j o p h1 h2 : List ℕ) → IsPermutation (h ++ i) (o ++ h1) → IsPermutation (h1 ++ j) (p ++ h2) → IsPermutation (h ++ (i ++ j)) ((o ++ p) ++ h2)
+both_moves h i j o p h1 h2 a b =
+    let first : IsPermutation (h ++ (i ++ j)) (o ++ (h1 ++ j))
+    = subst (λ l. IsPermutation l (o ++ (h1 ++ j))) (append_assoc h i j) (subst (λ l. IsPermutation ((h ++ i) ++ j) l) (append_assoc o h1 j) (IsPermutation-append_left j (h ++ i) (o ++ h1) a)) in
+    let then' : IsPermutation (o ++ (h1 ++ j)) ((o ++ p) ++ h2)
+    = subst (λ l. IsPermutation (o ++ (h1 ++ j)) l) (sym (append_assoc o p h2)) (IsPermutation-append_right o (h1 ++ j) (p ++ h2) b) in
+    IsPermutation-trans (h ++ (i ++ j)) (o ++ (h1 ++ j)) ((o ++ p) ++ h2) first then'

@@ -1,14 +1,14 @@
 -- No thread is lost, and none stands twice: by one call, and by many.
-use Rattle.std.proofs.Common.{◌≡◌, ℕ, ◌<◌, nat_le, Bool, true, false, if◌then◌else◌, List, [], ◌∷◌, ◌++◌, length, replicate, refl, sym, ap, ◌∙◌, subst, arith, append_assoc}
+use Rattle.std.proofs.Common.{◌≡◌, ℕ, ◌<◌, nat_le, Bool, true, false, if◌then◌else◌, List, [], ◌∷◌, ◌++◌, length, refl, sym, ap, ◌∙◌, subst, arith, append_assoc}
 use Rattle.std.specs.List.{concat}
 use Rattle.std.specs.List.Sorted.{IsPermutation}
 use Rattle.std.proofs.lemmas.Bool.Decides.{nat_tests}
 use Rattle.std.proofs.lemmas.List.{append-nil, length-set, length-replicate}
-use Rattle.std.proofs.lemmas.List.Sorted.{IsPermutation-refl, IsPermutation-trans, IsPermutation-append_left, IsPermutation-append_right}
+use Rattle.std.proofs.lemmas.List.Sorted.{IsPermutation-refl}
 use Rattle.event_log.specs.declared.event.Step.{Step}
 use Rattle.event_log.specs.Distinct.{has, AreDistinctBelow}
 use Rattle.event_log.proofs.Distinct.{distinct_left, distinct_put}
-use Rattle.event_log.proofs.Joined.{concat_none, between, put_in, taken_out}
+use Rattle.event_log.proofs.Joined.{concat_none, between, put_in, taken_out, both_moves}
 use Rattle.wake_list.specs.State.{SchedState, held, opening_state, EachOnce, IsSchedOf}
 use Rattle.wake_list.specs.Answer.{sched_answer, front_answer, sleep_answer, woken_answer, wake_answer, wake_all_answer, sleepers, with_sleepers}
 use Rattle.wake_list.specs.Keeping.{came_in, went_out, threads_put, threads_told, threads_in, threads_out, left_after}
@@ -91,15 +91,6 @@ states_stay p s call h =
 
 pub opens : (p : SchedParams) → IsSchedOf p (opening_state p)
 opens p = record { threads = refl; channels = length-replicate p.channels []; once = subst (λ l. AreDistinctBelow p.threads l) (sym (concat_none p.channels)) tt }
-
--- two moves, one after the other
-both_moves : (h i j o p h1 h2 : List ℕ) → IsPermutation (h ++ i) (o ++ h1) → IsPermutation (h1 ++ j) (p ++ h2) → IsPermutation (h ++ (i ++ j)) ((o ++ p) ++ h2)
-both_moves h i j o p h1 h2 a b =
-    let first : IsPermutation (h ++ (i ++ j)) (o ++ (h1 ++ j))
-    = subst (λ l. IsPermutation l (o ++ (h1 ++ j))) (append_assoc h i j) (subst (λ l. IsPermutation ((h ++ i) ++ j) l) (append_assoc o h1 j) (IsPermutation-append_left j (h ++ i) (o ++ h1) a)) in
-    let then' : IsPermutation (o ++ (h1 ++ j)) ((o ++ p) ++ h2)
-    = subst (λ l. IsPermutation (o ++ (h1 ++ j)) l) (sym (append_assoc o p h2)) (IsPermutation-append_right o (h1 ++ j) (p ++ h2) b) in
-    IsPermutation-trans (h ++ (i ++ j)) (o ++ (h1 ++ j)) ((o ++ p) ++ h2) first then'
 
 pub none_lost : (s : SchedState) (calls : List SchedCall) → IsPermutation (held s ++ threads_in s calls) (threads_out s calls ++ held (left_after s calls))
 none_lost s [] = unchanged s

@@ -1,11 +1,10 @@
--- What vectors of numbers hold together, and how many.
-use Rattle.std.proofs.Common.{◌≡◌, ℕ, ◌+◌, ◌<◌, ◌≤◌, ◌==◌, ◌||◌, List, [], ◌∷◌, ◌++◌, length, get_or, set, map, replicate, zero, suc, refl, sym, ap, ◌∙◌, arith, length-append, Vec, Global}
+-- What vectors of numbers hold together.
+use Rattle.std.proofs.Common.{◌≡◌, ℕ, ◌+◌, ◌<◌, ◌≤◌, ◌==◌, ◌||◌, List, [], ◌∷◌, ◌++◌, length, get_or, set, map, refl, sym, ap, ◌∙◌, arith, Vec, Global}
 use Rattle.std.specs.List.{concat, list_any, remove}
 use Rattle.std.proofs.lemmas.List.{get_or-map, map-set, length-map}
 use Rattle.std.proofs.lemmas.List.Folds.{list_any-append}
-use Rattle.event_log.specs.Distinct.{has, AreDistinctBelow}
-use Rattle.event_log.proofs.Distinct.{distinct_length}
-use Rattle.event_log.proofs.Joined.{length_with}
+use Rattle.event_log.specs.Distinct.{has}
+use Rattle.event_log.proofs.Joined.{front_and_rest}
 
 -- what they hold
 abbrev pub lists_of : List (Vec ℕ Global) → List (List ℕ)
@@ -27,18 +26,6 @@ list_put vs c v l e = map-set (λ v. v.items) vs c v ∙ ap (λ x. set (lists_of
 pub has_concat : (t : ℕ) (vs : List (Vec ℕ Global)) → list_any (λ v. has t v.items) vs ≡ has t (concat (lists_of vs))
 has_concat t [] = refl
 has_concat t (v ∷ vs) = ap (λ b. has t v.items || b) (has_concat t vs) ∙ sym (list_any-append (λ y. y == t) v.items (concat (lists_of vs)))
-
--- where all together are distinct numbers below n, r and one of the lists hold at most n
-pub fits_with : (n : ℕ) (r : List ℕ) (ls : List (List ℕ)) (c : ℕ) → c < length ls → AreDistinctBelow n (r ++ concat ls) → length r + length (get_or ls c []) ≤ n
-fits_with n r ls c lt q = omega (arith, length_with r ls c lt, distinct_length n (r ++ concat ls) q)
-
--- where all together are fewer than n, so is one of the lists
-pub fits_one_more : (n : ℕ) (r : List ℕ) (ls : List (List ℕ)) (c : ℕ) → c < length ls → length (r ++ concat ls) < n → length (get_or ls c []) < n
-fits_one_more n r ls c lt few = omega (arith, length_with r ls c lt, few)
-
-front_and_rest : (xs : List ℕ) (x : ℕ) → 0 < length xs → x ≡ get_or xs 0 x → xs ≡ x ∷ remove xs 0
-front_and_rest [] x lt e = absurd (omega arith)
-front_and_rest (y ∷ ys) x lt e = ap (λ z. z ∷ ys) (sym e)
 
 -- the vector at that place was read as u, which isn't empty, and then as v, whose first was removed
 pub front_taken : (vs : List (Vec ℕ Global)) (c : ℕ) (u v : Vec ℕ Global) (x : ℕ) (rest : List ℕ) → c < length vs → u ≡ get_or vs c u → v ≡ get_or vs c v → 0 < length u.items → x ≡ get_or v.items 0 x → rest ≡ remove v.items 0 → get_or (lists_of vs) c [] ≡ x ∷ rest

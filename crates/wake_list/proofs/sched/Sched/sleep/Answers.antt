@@ -8,8 +8,8 @@ use Rattle.wake_list.specs.Answer.{sleep_answer}
 use Rattle.wake_list.specs.declared.call.SchedReply.{SchedReply}
 use Rattle.wake_list.specs.declared.call.SchedReply.TheVariants.{Ok}
 use Rattle.event_log.proofs.Distinct.{distinct_put, distinct_length_missing}
-use Rattle.event_log.proofs.Joined.{put_in}
-use Rattle.wake_list.proofs.Rooms.{lists_of, place_of, list_at, list_put, fits_one_more}
+use Rattle.event_log.proofs.Joined.{put_in, fits_one_more}
+use Rattle.wake_list.proofs.Rooms.{lists_of, place_of, list_at, list_put}
 use Rattle.wake_list.proofs.Kept.{sleep_ok}
 use Rattle.wake_list.proofs.sched.Sched.sleep.Goals as goal
 

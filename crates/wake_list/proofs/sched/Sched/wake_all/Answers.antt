@@ -9,8 +9,8 @@ use Rattle.wake_list.specs.Answer.{wake_all_answer}
 use Rattle.wake_list.specs.declared.call.SchedReply.{SchedReply}
 use Rattle.wake_list.specs.declared.call.SchedReply.TheVariants.{Count}
 use Rattle.event_log.proofs.Distinct.{distinct_permuted}
-use Rattle.event_log.proofs.Joined.{taken_out}
-use Rattle.wake_list.proofs.Rooms.{lists_of, place_of, list_at, list_put, fits_with}
+use Rattle.event_log.proofs.Joined.{taken_out, fits_with}
+use Rattle.wake_list.proofs.Rooms.{lists_of, place_of, list_at, list_put}
 use Rattle.wake_list.proofs.Kept.{wake_all_ok}
 use Rattle.wake_list.proofs.sched.Sched.wake_all.Goals as goal
 
