@@ -13,7 +13,8 @@ use Rattle.event_log.specs.declared.object.SeqObject.{Ghosts}
 use Rattle.event_log.specs.Distinct.{has}
 use Rattle.event_log.specs.History.{History}
 use Rattle.word_rule.specs.declared.stage.Stage.{Stage}
-use Rattle.word_rule.specs.declared.stage.Stage.TheVariants.{Idle, Drawn, Served, Ready, Behind, Armed, Waiting, Holding, Alone, Leaving, Passing, Torn}
+use Rattle.word_rule.specs.declared.stage.Stage.TheVariants.{Idle, Mcs, Torn}
+use Rattle.word_rule.specs.declared.stage.McsStage.TheVariants.{Ready, Behind, Armed, Waiting, Holding, Alone, Leaving, Passing}
 use Rattle.word_rule.specs.declared.lock_kind.LockKind.TheVariants.{Mcs}
 use Rattle.word_rule.specs.Cell.{Cell, Lawful, stored}
 use Rattle.word_rule.specs.Definition.{Defined, FollowsDefinition, IsTurn}
@@ -40,14 +41,14 @@ abbrev cpu_of : Stage → ℕ
 cpu_of Idle = 0
 cpu_of (Drawn t) = 0
 cpu_of (Served t) = 0
-cpu_of Ready = 0
-cpu_of (Behind p) = p
-cpu_of (Armed p) = p
-cpu_of Waiting = 0
-cpu_of Holding = 0
-cpu_of Alone = 0
-cpu_of Leaving = 0
-cpu_of (Passing j) = j
+cpu_of (Mcs Ready) = 0
+cpu_of (Mcs (Behind p)) = p
+cpu_of (Mcs (Armed p)) = p
+cpu_of (Mcs Waiting) = 0
+cpu_of (Mcs Holding) = 0
+cpu_of (Mcs Alone) = 0
+cpu_of (Mcs Leaving) = 0
+cpu_of (Mcs (Passing j)) = j
 cpu_of Torn = 0
 
 module _ {O P C R : Type 0} (meaning : Ghosts O P C R) (h : Cell O P C R) where
@@ -106,108 +107,108 @@ module _ {O P C R : Type 0} (meaning : Ghosts O P C R) (h : Cell O P C R) where
       each = subst (λ (views : List (Viewed O P C R)). (j : ℕ) (u : Viewed O P C R) → get_elem? views j ≡ some u → SeatInvariant h r.state j u) (sym (set_again s.views id v there)) r.each;
     }
 
-    pub clearing : v.main.stage ≡ Idle → IsTurn meaning Mcs h slots id me (1 + p) (λ _. 0) (λ _. goes Ready (step slots (1 + p) 0 0 none) me 0)
+    pub clearing : v.main.stage ≡ Idle → IsTurn meaning Mcs h slots id me (1 + p) (λ _. 0) (λ _. goes (Mcs Ready) (step slots (1 + p) 0 0 none) me 0)
     clearing is s r len there small =
         let l = r.tied.lock in
         let mine = r.each id v there in
         let below = (mine.main.owns p acts).1 in
         let at = stands_there s r Idle there is in (
-          with_stage v Ready,
+          with_stage v (Mcs Ready),
           keeps,
           tt,
-          goes_to s r (1 + p) 0 r.state.line.cpus Ready there refl record { lock = clear l p; kind_is = r.tied.kind_is; line_is = ap (λ (z : Line). going z p Ready) r.tied.line_is; tied = turns.clears n s.words l r.tied.tied p below at },
+          goes_to s r (1 + p) 0 r.state.line.cpus (Mcs Ready) there refl record { lock = clear l p; kind_is = r.tied.kind_is; line_is = ap (λ (z : Line). going z p (Mcs Ready)) r.tied.line_is; tied = turns.clears n s.words l r.tied.tied p below at },
           refl,
           sym (turns.turned l p Idle r.tied.kind_is at),
         )
 
-    pub entering : v.main.stage ≡ Ready → IsTurn meaning Mcs h slots id me 0 (λ _. p + 1) (enters meaning (step slots 0 (p + 1) 0 none) me)
+    pub entering : v.main.stage ≡ (Mcs Ready) → IsTurn meaning Mcs h slots id me 0 (λ _. p + 1) (enters meaning (step slots 0 (p + 1) 0 none) me)
     entering is s r len there small =
         let b = r.state.line in
         let l = r.tied.lock in
         let mine = r.each id v there in
         let below = (mine.main.owns p acts).1 in
         let here = mine.main.stands acts ∙ is in
-        let at = stands_there s r Ready there is in
+        let at = stands_there s r (Mcs Ready) there is in
         dite (ℕ_discrete (get_or s.words 0 0) 0)
         (λ nobody. let none = turns.tail_none n s.words l r.tied.tied p below nobody in (
-          settled v Holding r.state.committed,
+          settled v (Mcs Holding) r.state.committed,
           takes 0 (Some (stored meaning h r.state.committed)),
           r.at_home (at_home n s.words b (tie s r) p below nobody),
-          taken meaning (Defined Mcs) h s r 0 (p + 1) id v me.1 (p ∷ []) Holding there acts
-              record { lock = (enter l p None).0; kind_is = r.tied.kind_is; line_is = ap (λ (z : Line). lined (p ∷ []) true z.stage p Holding) r.tied.line_is; tied = turns.enters_first n s.words l r.tied.tied p below at none },
-          record { first = λ _. gets meaning (Defined Mcs) h s r id me Holding mine; behind = λ some_one. absurd (some_one nobody) },
-          sym (turns.turned l p Ready r.tied.kind_is at ∙ ap (λ z. (enter l p z).0) none),
+          taken meaning (Defined Mcs) h s r 0 (p + 1) id v me.1 (p ∷ []) (Mcs Holding) there acts
+              record { lock = (enter l p None).0; kind_is = r.tied.kind_is; line_is = ap (λ (z : Line). lined (p ∷ []) true z.stage p (Mcs Holding)) r.tied.line_is; tied = turns.enters_first n s.words l r.tied.tied p below at none },
+          record { first = λ _. gets meaning (Defined Mcs) h s r id me (Mcs Holding) mine; behind = λ some_one. absurd (some_one nobody) },
+          sym (turns.turned l p (Mcs Ready) r.tied.kind_is at ∙ ap (λ z. (enter l p z).0) none),
         ))
         (λ some_one.
         let t = predecessor n s.words b (tie s r) p below here some_one in
         let one = turns.tail_some n s.words l r.tied.tied p below t.0 t.1 in (
-          with_stage v (Behind t.0),
+          with_stage v (Mcs (Behind t.0)),
           keeps,
           tt,
-          goes_to s r 0 (p + 1) (b.cpus ++ p ∷ []) (Behind t.0) there refl
-              record { lock = (enter l p (Some t.0)).0; kind_is = r.tied.kind_is; line_is = ap (λ (z : Line). joining z p (Behind t.0)) r.tied.line_is; tied = turns.enters_behind n s.words l r.tied.tied p below t.0 at one },
+          goes_to s r 0 (p + 1) (b.cpus ++ p ∷ []) (Mcs (Behind t.0)) there refl
+              record { lock = (enter l p (Some t.0)).0; kind_is = r.tied.kind_is; line_is = ap (λ (z : Line). joining z p (Mcs (Behind t.0))) r.tied.line_is; tied = turns.enters_behind n s.words l r.tied.tied p below t.0 at one },
           record {
             first = λ nobody. absurd (some_one nobody);
             behind = λ _. record { cpu = t.0; word = t.1; seat = refl; other = someone_else meaning (Defined Mcs) h (defined_ties Mcs) s r id v t.0 mine t.2 t.3 };
           },
-          sym (turns.turned l p Ready r.tied.kind_is at ∙ ap (λ z. (enter l p z).0) one),
+          sym (turns.turned l p (Mcs Ready) r.tied.kind_is at ∙ ap (λ z. (enter l p z).0) one),
         ))
 
-    pub arming : (q : ℕ) → v.main.stage ≡ Behind q → IsTurn meaning Mcs h slots id me (1 + n + p) (λ _. 1) (λ _. arms (step slots (1 + n + p) 1 0 none) me 1)
+    pub arming : (q : ℕ) → v.main.stage ≡ Mcs (Behind q) → IsTurn meaning Mcs h slots id me (1 + n + p) (λ _. 1) (λ _. arms (step slots (1 + n + p) 1 0 none) me 1)
     arming q is s r len there small =
         let l = r.tied.lock in
         let mine = r.each id v there in
         let below = (mine.main.owns p acts).1 in
-        let at = stands_there s r (Behind q) there is in (
-          with_stage v (Armed q),
+        let at = stands_there s r (Mcs (Behind q)) there is in (
+          with_stage v (Mcs (Armed q)),
           keeps,
           tt,
-          goes_to s r (1 + n + p) 1 r.state.line.cpus (Armed q) there refl
-              record { lock = arm l p q; kind_is = r.tied.kind_is; line_is = ap (λ (z : Line). going z p (Armed q)) r.tied.line_is; tied = turns.arms n s.words l r.tied.tied p below q at },
-          λ u e. let same : q ≡ u = ap cpu_of (sym is ∙ e) in ap (λ (z : ℕ). (with_stage v (Armed z), me.1)) same,
-          sym (turns.turned l p (Behind q) r.tied.kind_is at),
+          goes_to s r (1 + n + p) 1 r.state.line.cpus (Mcs (Armed q)) there refl
+              record { lock = arm l p q; kind_is = r.tied.kind_is; line_is = ap (λ (z : Line). going z p (Mcs (Armed q))) r.tied.line_is; tied = turns.arms n s.words l r.tied.tied p below q at },
+          λ u e. let same : q ≡ u = ap cpu_of (sym is ∙ e) in ap (λ (z : ℕ). (with_stage v (Mcs (Armed z)), me.1)) same,
+          sym (turns.turned l p (Mcs (Behind q)) r.tied.kind_is at),
         )
 
-    pub linking : (q : ℕ) → v.main.stage ≡ Armed q → IsTurn meaning Mcs h slots id me (1 + q) (λ _. p + 1) (λ _. goes Waiting (step slots (1 + q) (p + 1) 0 none) me (p + 1))
+    pub linking : (q : ℕ) → v.main.stage ≡ Mcs (Armed q) → IsTurn meaning Mcs h slots id me (1 + q) (λ _. p + 1) (λ _. goes (Mcs Waiting) (step slots (1 + q) (p + 1) 0 none) me (p + 1))
     linking q is s r len there small =
         let l = r.tied.lock in
         let mine = r.each id v there in
         let below = (mine.main.owns p acts).1 in
-        let at = stands_there s r (Armed q) there is in (
-          with_stage v Waiting,
+        let at = stands_there s r (Mcs (Armed q)) there is in (
+          with_stage v (Mcs Waiting),
           keeps,
           tt,
-          goes_to s r (1 + q) (p + 1) r.state.line.cpus Waiting there refl
-              record { lock = link l p q; kind_is = r.tied.kind_is; line_is = ap (λ (z : Line). going z p Waiting) r.tied.line_is; tied = turns.links n s.words l r.tied.tied p below q at },
+          goes_to s r (1 + q) (p + 1) r.state.line.cpus (Mcs Waiting) there refl
+              record { lock = link l p q; kind_is = r.tied.kind_is; line_is = ap (λ (z : Line). going z p (Mcs Waiting)) r.tied.line_is; tied = turns.links n s.words l r.tied.tied p below q at },
           refl,
-          sym (turns.turned l p (Armed q) r.tied.kind_is at),
+          sym (turns.turned l p (Mcs (Armed q)) r.tied.kind_is at),
         )
 
-    pub looking : v.main.stage ≡ Waiting → AllIdle v.others → IsTurn meaning Mcs h slots id me (1 + n + p) (λ k. k) (looks meaning (step slots (1 + n + p) 0 0 none) me)
+    pub looking : v.main.stage ≡ (Mcs Waiting) → AllIdle v.others → IsTurn meaning Mcs h slots id me (1 + n + p) (λ k. k) (looks meaning (step slots (1 + n + p) 0 0 none) me)
     looking is idle s r len there small =
         let b = r.state.line in
         let l = r.tied.lock in
         let mine = r.each id v there in
         let below = (mine.main.owns p acts).1 in
         let here = mine.main.stands acts ∙ is in
-        let at = stands_there s r Waiting there is in
+        let at = stands_there s r (Mcs Waiting) there is in
         let w : ℕ = 1 + n + p in
         dite (ℕ_discrete (get_or s.words w 0) 0)
         (λ hit.
         let f = free n s.words b (tie s r) p below here hit in
         let first = turns.free_first n s.words l r.tied.tied p below at hit in (
-          settled v Holding r.state.committed,
+          settled v (Mcs Holding) r.state.committed,
           takes 0 (Some (stored meaning h r.state.committed)),
           r.at_home f.object,
-          taken meaning (Defined Mcs) h s r w (get_or s.words w 0) id v me.1 b.cpus Holding there acts
+          taken meaning (Defined Mcs) h s r w (get_or s.words w 0) id v me.1 b.cpus (Mcs Holding) there acts
               record {
-                lock = record l { line = taking l.line p Holding };
+                lock = record l { line = taking l.line p (Mcs Holding) };
                 kind_is = r.tied.kind_is;
-                line_is = ap (λ (z : Line). taking z p Holding) r.tied.line_is;
-                tied = subst (λ (ws : List ℕ). IsMcsLock n ws (record l { line = taking l.line p Holding })) (sym (set-get_or s.words w 0)) (turns.gets n s.words l r.tied.tied p below at first);
+                line_is = ap (λ (z : Line). taking z p (Mcs Holding)) r.tied.line_is;
+                tied = subst (λ (ws : List ℕ). IsMcsLock n ws (record l { line = taking l.line p (Mcs Holding) })) (sym (set-get_or s.words w 0)) (turns.gets n s.words l r.tied.tied p below at first);
               },
-          record { hit = λ _. gets meaning (Defined Mcs) h s r id me Holding mine; miss = λ miss. absurd (miss hit) },
-          sym (turns.turned l p Waiting r.tied.kind_is at ∙ turns.hits l p first),
+          record { hit = λ _. gets meaning (Defined Mcs) h s r id me (Mcs Holding) mine; miss = λ miss. absurd (miss hit) },
+          sym (turns.turned l p (Mcs Waiting) r.tied.kind_is at ∙ turns.hits l p first),
         ))
         (λ miss.
         let t = ahead n s.words b (tie s r) p below here miss in
@@ -220,7 +221,7 @@ module _ {O P C R : Type 0} (meaning : Ghosts O P C R) (h : Cell O P C R) where
             hit = λ hit. absurd (miss hit);
             miss = λ _. record { seat = ap (λ (q : Stage). (with_stage v q, me.1)) is; lacks = lacks meaning (Defined Mcs) h (defined_ties Mcs) s r id v t.0 mine idle t.1 t.2 };
           },
-          sym (turns.turned l p Waiting r.tied.kind_is at ∙ turns.passes_by l p behind_one),
+          sym (turns.turned l p (Mcs Waiting) r.tied.kind_is at ∙ turns.passes_by l p behind_one),
         ))
 
     -- what a holder has seen is the committed log
@@ -231,7 +232,7 @@ module _ {O P C R : Type 0} (meaning : Ghosts O P C R) (h : Cell O P C R) where
 
     -- a holder's `next` that isn't 0 names the one behind it
     finds : (s : Table O P C R) (r : Rule s) → get_elem? s.views id ≡ some v → holding v.main.stage ≡ true → get_or s.words (1 + p) 0 ≢ 0
-        → (j : ℕ) × IsMcsLock n s.words (record r.tied.lock { line = going r.tied.lock.line p (Passing j) }) × Names Passing me (get_or s.words (1 + p) 0) (with_stage v (Passing j), me.1) × (follower r.tied.lock.line ≡ Some j)
+        → (j : ℕ) × IsMcsLock n s.words (record r.tied.lock { line = going r.tied.lock.line p (Mcs (Passing j)) }) × Names (λ p. Mcs (Passing p)) me (get_or s.words (1 + p) 0) (with_stage v (Mcs (Passing j)), me.1) × (follower r.tied.lock.line ≡ Some j)
     finds s r there has_it some_one =
         let b = r.state.line in
         let l = r.tied.lock in
@@ -246,71 +247,71 @@ module _ {O P C R : Type 0} (meaning : Ghosts O P C R) (h : Cell O P C R) where
           turns.sees_that n s.words l r.tied.tied p below t.0 holds f.word,
         )
 
-    pub seeing : v.main.stage ≡ Holding → IsTurn meaning Mcs h slots id me (1 + p) (λ k. k) (sees meaning (step slots (1 + p) 0 0 none) me)
+    pub seeing : v.main.stage ≡ (Mcs Holding) → IsTurn meaning Mcs h slots id me (1 + p) (λ k. k) (sees meaning (step slots (1 + p) 0 0 none) me)
     seeing is s r len there small =
         let l = r.tied.lock in
         let mine = r.each id v there in
         let below = (mine.main.owns p acts).1 in
-        let at = stands_there s r Holding there is in
+        let at = stands_there s r (Mcs Holding) there is in
         let has_it = ap holding is in
         dite (ℕ_discrete (get_or s.words (1 + p) 0) 0)
         (λ nobody. (
-          with_stage v Alone,
+          with_stage v (Mcs Alone),
           keeps,
           tt,
-          reads s r (1 + p) Alone there (λ _. has_it) (turns.sees_none n s.words l r.tied.tied p below at),
+          reads s r (1 + p) (Mcs Alone) there (λ _. has_it) (turns.sees_none n s.words l r.tied.tied p below at),
           record { lawful = saw_lawful s r there has_it; found = λ some_one. absurd (some_one nobody); none = λ _. refl },
-          sym (turns.turned l p Holding r.tied.kind_is at ∙ ap (λ z. (see l p Alone z).0) (turns.sees_nobody n s.words l r.tied.tied p below (ap holding at) nobody)),
+          sym (turns.turned l p (Mcs Holding) r.tied.kind_is at ∙ ap (λ z. (see l p (Mcs Alone) z).0) (turns.sees_nobody n s.words l r.tied.tied p below (ap holding at) nobody)),
         ))
         (λ some_one. let t = finds s r there has_it some_one in (
-          with_stage v (Passing t.0),
+          with_stage v (Mcs (Passing t.0)),
           keeps,
           tt,
-          reads s r (1 + p) (Passing t.0) there (λ _. has_it) t.1,
+          reads s r (1 + p) (Mcs (Passing t.0)) there (λ _. has_it) t.1,
           record { lawful = saw_lawful s r there has_it; found = λ _. t.2; none = λ nobody. absurd (some_one nobody) },
-          sym (turns.turned l p Holding r.tied.kind_is at ∙ ap (λ z. (see l p Alone z).0) t.3),
+          sym (turns.turned l p (Mcs Holding) r.tied.kind_is at ∙ ap (λ z. (see l p (Mcs Alone) z).0) t.3),
         ))
 
     -- a caller that leaves sees one, or lacks a number
-    sees_behind : v.main.stage ≡ Leaving → ((s : Table O P C R) → Rule s → get_elem? s.views id ≡ some v → get_or s.words (1 + p) 0 ≡ 0 → Lacks v) → IsTurn meaning Mcs h slots id me (1 + p) (λ k. k) (sees_again meaning (step slots (1 + p) 0 0 none) me)
+    sees_behind : v.main.stage ≡ (Mcs Leaving) → ((s : Table O P C R) → Rule s → get_elem? s.views id ≡ some v → get_or s.words (1 + p) 0 ≡ 0 → Lacks v) → IsTurn meaning Mcs h slots id me (1 + p) (λ k. k) (sees_again meaning (step slots (1 + p) 0 0 none) me)
     sees_behind is lacking s r len there small =
         let l = r.tied.lock in
         let mine = r.each id v there in
         let below = (mine.main.owns p acts).1 in
-        let at = stands_there s r Leaving there is in
+        let at = stands_there s r (Mcs Leaving) there is in
         let has_it = ap holding is in
         dite (ℕ_discrete (get_or s.words (1 + p) 0) 0)
         (λ nobody. (
-          with_stage v Leaving,
+          with_stage v (Mcs Leaving),
           keeps,
           tt,
-          reads s r (1 + p) Leaving there (λ _. has_it) (turns.still_none n s.words l r.tied.tied p below at),
+          reads s r (1 + p) (Mcs Leaving) there (λ _. has_it) (turns.still_none n s.words l r.tied.tied p below at),
           record { lawful = saw_lawful s r there has_it; found = λ some_one. absurd (some_one nobody); none = λ _. record { seat = refl; lacks = lacking s r there nobody } },
-          sym (turns.turned l p Leaving r.tied.kind_is at ∙ ap (λ z. (see l p Leaving z).0) (turns.sees_nobody n s.words l r.tied.tied p below (ap holding at) nobody)),
+          sym (turns.turned l p (Mcs Leaving) r.tied.kind_is at ∙ ap (λ z. (see l p (Mcs Leaving) z).0) (turns.sees_nobody n s.words l r.tied.tied p below (ap holding at) nobody)),
         ))
         (λ some_one. let t = finds s r there has_it some_one in (
-          with_stage v (Passing t.0),
+          with_stage v (Mcs (Passing t.0)),
           keeps,
           tt,
-          reads s r (1 + p) (Passing t.0) there (λ _. has_it) t.1,
+          reads s r (1 + p) (Mcs (Passing t.0)) there (λ _. has_it) t.1,
           record { lawful = saw_lawful s r there has_it; found = λ _. t.2; none = λ nobody. absurd (some_one nobody) },
-          sym (turns.turned l p Leaving r.tied.kind_is at ∙ ap (λ z. (see l p Leaving z).0) t.3),
+          sym (turns.turned l p (Mcs Leaving) r.tied.kind_is at ∙ ap (λ z. (see l p (Mcs Leaving) z).0) t.3),
         ))
 
     -- the one behind a caller that leaves
-    behind_it : (s : Table O P C R) (r : Rule s) → get_elem? s.views id ≡ some v → v.main.stage ≡ Leaving → (j : ℕ) × (get_elem? r.state.line.cpus 1 ≡ some j) × (j ≢ p)
+    behind_it : (s : Table O P C R) (r : Rule s) → get_elem? s.views id ≡ some v → v.main.stage ≡ (Mcs Leaving) → (j : ℕ) × (get_elem? r.state.line.cpus 1 ≡ some j) × (j ≢ p)
     behind_it s r there is =
         let l = r.state.line in
         let mine = r.each id v there in
-        let w = stands_at n s.words l (tie s r) p Leaving (mine.main.owns p acts).1 (mine.main.stands acts ∙ is) in
+        let w = stands_at n s.words l (tie s r) p (Mcs Leaving) (mine.main.owns p acts).1 (mine.main.stands acts ∙ is) in
         let f = w.0 in
         another n s.words l (tie s r) p f.there w.1
 
-    pub seeing_again : v.main.stage ≡ Leaving → AllIdle v.others → IsTurn meaning Mcs h slots id me (1 + p) (λ k. k) (sees_again meaning (step slots (1 + p) 0 0 none) me)
+    pub seeing_again : v.main.stage ≡ (Mcs Leaving) → AllIdle v.others → IsTurn meaning Mcs h slots id me (1 + p) (λ k. k) (sees_again meaning (step slots (1 + p) 0 0 none) me)
     seeing_again is idle = sees_behind is (λ s r there nobody. let t = behind_it s r there is in lacks meaning (Defined Mcs) h (defined_ties Mcs) s r id v t.0 (r.each id v there) idle (has_at r.state.line.cpus 1 t.0 t.1) t.2)
 
     -- beside one that waits, it sees that one, or lacks a number
-    pub finding : (c : Caller O P C R) → v.main.stage ≡ Leaving → v.others ≡ c ∷ [] → c.stage ≡ Waiting → IsTurn meaning Mcs h slots id me (1 + p) (λ k. k) (sees_again meaning (step slots (1 + p) 0 0 none) me)
+    pub finding : (c : Caller O P C R) → v.main.stage ≡ (Mcs Leaving) → v.others ≡ c ∷ [] → c.stage ≡ (Mcs Waiting) → IsTurn meaning Mcs h slots id me (1 + p) (λ k. k) (sees_again meaning (step slots (1 + p) 0 0 none) me)
     finding c is beside waits = sees_behind is (λ s r there nobody g has_all.
         let b = r.state in
         let l = b.line in
@@ -328,7 +329,7 @@ module _ {O P C R : Type 0} (meaning : Ghosts O P C R) (h : Cell O P C R) where
         let know = (subst (λ (cs : List (Caller O P C R)). EachFrom (CallerInvariant n b id) 1 cs) beside mine.others).0 in
         dite (ℕ_discrete y c.cpu)
         (λ e.
-        let stands : l.stage y ≡ Waiting = ap l.stage e ∙ (know.stands (subst (λ (z : ℕ). has z c.owned ≡ true) e owned) ∙ waits) in
+        let stands : l.stage y ≡ (Mcs Waiting) = ap l.stage e ∙ (know.stands (subst (λ (z : ℕ). has z c.owned ≡ true) e owned) ∙ waits) in
         let link = second n s.words l (tie s r) p below y (ap holding (mine.main.stands acts ∙ is)) t.1 stands in
         let z : 0 ≡ y + 1 = sym nobody ∙ link in
         absurd (omega arith))
@@ -352,14 +353,14 @@ module _ {O P C R : Type 0} (meaning : Ghosts O P C R) (h : Cell O P C R) where
       returned : Returns meaning Idle me (settled v Idle x.log, rest me.1)
       returned x' others' e = let same = sym carries ∙ e in λ z. (settled v Idle (value_of meaning x (same z)).log, rest (e z))
 
-      pub emptying : v.main.stage ≡ Alone → AllIdle v.others → IsTurn meaning Mcs h slots id me 0 (λ k. either (k == (p + 1)) 0 k) (empties meaning (step slots 0 (p + 1) 0 none) me)
+      pub emptying : v.main.stage ≡ (Mcs Alone) → AllIdle v.others → IsTurn meaning Mcs h slots id me 0 (λ k. either (k == (p + 1)) 0 k) (empties meaning (step slots 0 (p + 1) 0 none) me)
       emptying is idle s r len there small =
           let b = r.state.line in
           let l = r.tied.lock in
           let mine = r.each id v there in
           let below = (mine.main.owns p acts).1 in
           let here = mine.main.stands acts ∙ is in
-          let at = stands_there s r Alone there is in
+          let at = stands_there s r (Mcs Alone) there is in
           let has_it = ap holding is in
           let found : ℕ = get_or s.words 0 0 in
           exchanged found (p + 1) 0
@@ -370,30 +371,30 @@ module _ {O P C R : Type 0} (meaning : Ghosts O P C R) (h : Cell O P C R) where
             tt,
             now.0,
             record { lawful = saw_lawful s r there has_it; hit = λ _. returned; miss = λ miss. absurd (miss hit) },
-            now.1 ∙ sym (turns.turned l p Alone r.tied.kind_is at ∙ turns.ends_queue l p (turns.named_last n s.words l r.tied.tied p below hit)),
+            now.1 ∙ sym (turns.turned l p (Mcs Alone) r.tied.kind_is at ∙ turns.ends_queue l p (turns.named_last n s.words l r.tied.tied p below hit)),
           ))
           (λ miss.
           let longer = more n s.words b (tie s r) p below here miss in
-          let f = stands_at n s.words b (tie s r) p Alone below here in
+          let f = stands_at n s.words b (tie s r) p (Mcs Alone) below here in
           let t = another n s.words b (tie s r) p f.there longer in
           let not_last = false_from (is_named p (last l.line.cpus)) (λ named. miss (turns.last_named n s.words l r.tied.tied p below named)) in (
-            with_stage v Leaving,
+            with_stage v (Mcs Leaving),
             keeps,
             tt,
-            reads s r 0 Leaving there (λ _. has_it) (turns.stays_on n s.words l r.tied.tied p below at miss),
+            reads s r 0 (Mcs Leaving) there (λ _. has_it) (turns.stays_on n s.words l r.tied.tied p below at miss),
             record {
               lawful = saw_lawful s r there has_it;
               hit = λ hit. absurd (miss hit);
               miss = λ _. record { seat = refl; lacks = lacks meaning (Defined Mcs) h (defined_ties Mcs) s r id v t.0 mine idle (has_at b.cpus 1 t.0 t.1) t.2 };
             },
-            sym (turns.turned l p Alone r.tied.kind_is at ∙ turns.stays_queued l p not_last),
+            sym (turns.turned l p (Mcs Alone) r.tied.kind_is at ∙ turns.stays_queued l p not_last),
           ))
 
-      pub passing : (j : ℕ) → v.main.stage ≡ Passing j → IsTurn meaning Mcs h slots id me (1 + n + j) (λ _. 0) (λ _. passes meaning (step slots (1 + n + j) 0 0 none) me 0)
+      pub passing : (j : ℕ) → v.main.stage ≡ Mcs (Passing j) → IsTurn meaning Mcs h slots id me (1 + n + j) (λ _. 0) (λ _. passes meaning (step slots (1 + n + j) 0 0 none) me 0)
       passing j is s r len there small =
           let l = r.tied.lock in
           let mine = r.each id v there in
           let below = (mine.main.owns p acts).1 in
-          let at = stands_there s r (Passing j) there is in
+          let at = stands_there s r (Mcs (Passing j)) there is in
           let now = gave s r (1 + n + j) 0 len there (ap holding is) (turns.passes n s.words l r.tied.tied p below j at) in
-          (settled v Idle x.log, gives, tt, now.0, returned, now.1 ∙ sym (turns.turned l p (Passing j) r.tied.kind_is at))
+          (settled v Idle x.log, gives, tt, now.0, returned, now.1 ∙ sym (turns.turned l p (Mcs (Passing j)) r.tied.kind_is at))

@@ -2,7 +2,8 @@
 use Rattle.std.specs.declared.cmp.PartialEq.{Ghosts as Eq}
 use Rattle.std.specs.declared.default.Default.{Ghosts as Default}
 use Rattle.event_log.specs.declared.object.SeqObject.{Ghosts}
-use Rattle.word_rule.specs.declared.stage.Stage.TheVariants.{Ready, Behind, Armed, Waiting, Alone, Leaving, Passing}
+use Rattle.word_rule.specs.declared.stage.Stage.TheVariants.{Mcs}
+use Rattle.word_rule.specs.declared.stage.McsStage.TheVariants.{Ready, Behind, Armed, Waiting, Alone, Leaving, Passing}
 use Rattle.word_rule.specs.Cell.{PassView, HoldView}
 use Rattle.word_rule.specs.CallerState.{CallerState}
 use Rattle.word_rule.specs.Passes.{IsPassAt, IsHoldAt}
@@ -65,25 +66,25 @@ module _ {O P C R : Type 0} {g : Ghosts O P C R} {call_eq : Eq C} {call_default 
 
   -- where each stands
   abbrev pub state_of_ready : ReadyCaller O P C R g call_eq call_default reply_eq reply_default → CallerState O P C R
-  state_of_ready r = state_without r.key.value Ready r.seat.me
+  state_of_ready r = state_without r.key.value (Mcs Ready) r.seat.me
 
   abbrev pub state_of_behind : BehindCaller O P C R g call_eq call_default reply_eq reply_default → CallerState O P C R
-  state_of_behind b = state_without b.key.value (Behind b.ahead) b.seat.me
+  state_of_behind b = state_without b.key.value (Mcs (Behind b.ahead)) b.seat.me
 
   abbrev pub state_of_armed : ArmedCaller O P C R g call_eq call_default reply_eq reply_default → CallerState O P C R
-  state_of_armed a = state_without a.key.value (Armed a.ahead) a.seat.me
+  state_of_armed a = state_without a.key.value (Mcs (Armed a.ahead)) a.seat.me
 
   abbrev pub state_of_waiting : WaitingCaller O P C R g call_eq call_default reply_eq reply_default → CallerState O P C R
-  state_of_waiting w = state_without w.key.value Waiting w.seat.me
+  state_of_waiting w = state_without w.key.value (Mcs Waiting) w.seat.me
 
   abbrev pub state_of_alone : AloneCaller O P C R g call_eq call_default reply_eq reply_default → CallerState O P C R
-  state_of_alone a = state_with a.key.value Alone a.logged a.seat.me
+  state_of_alone a = state_with a.key.value (Mcs Alone) a.logged a.seat.me
 
   abbrev pub state_of_leaving : LeavingCaller O P C R g call_eq call_default reply_eq reply_default → CallerState O P C R
-  state_of_leaving l = state_with l.key.value Leaving l.logged l.seat.me
+  state_of_leaving l = state_with l.key.value (Mcs Leaving) l.logged l.seat.me
 
   abbrev pub state_of_passing : PassingCaller O P C R g call_eq call_default reply_eq reply_default → CallerState O P C R
-  state_of_passing p = state_with p.key.value (Passing p.follower) p.logged p.seat.me
+  state_of_passing p = state_with p.key.value (Mcs (Passing p.follower)) p.logged p.seat.me
 
   -- this holds of what a caller that has entered is
   abbrev pub IfHold : Entered O P C R g call_eq call_default reply_eq reply_default → (Hold O P C R g call_eq call_default reply_eq reply_default → Type 0) → Type 0

@@ -4,7 +4,8 @@ use Rattle.atomic_table.specs.Table.{Step}
 use Rattle.event_log.specs.declared.object.SeqObject.{Ghosts}
 use Rattle.event_log.specs.History.{History}
 use Rattle.word_rule.specs.declared.stage.Stage.{Stage}
-use Rattle.word_rule.specs.declared.stage.Stage.TheVariants.{Idle, Behind, Armed, Waiting, Holding, Alone, Leaving, Passing}
+use Rattle.word_rule.specs.declared.stage.Stage.TheVariants.{Idle, Mcs}
+use Rattle.word_rule.specs.declared.stage.McsStage.TheVariants.{Behind, Armed, Waiting, Holding, Alone, Leaving, Passing}
 use Rattle.word_rule.specs.Cell.{Cell, Lawful}
 use Rattle.word_rule.specs.CellInvariant.{Viewed}
 use Rattle.word_rule.specs.Seats.{Seat, with_stage}
@@ -17,7 +18,7 @@ module _ {O P C R : Type 0} where
 
   -- the caller, behind p, has armed itself
   abbrev pub arms : Step (Option (History O P C R)) → Seat O P C R → ℕ → Seat O P C R → Type 0
-  arms st m n m' = (p : ℕ) → m.0.main.stage ≡ Behind p → m' ≡ (with_stage m.0 (Armed p), m.1)
+  arms st m n m' = (p : ℕ) → m.0.main.stage ≡ Mcs (Behind p) → m' ≡ (with_stage m.0 (Mcs (Armed p)), m.1)
 
   -- the word n names a CPU that isn't the caller's, and the caller stands there now
   pub record Names (stage : ℕ → Stage) (m : Seat O P C R) (n : ℕ) (m' : Seat O P C R) : Type 0 where
@@ -38,16 +39,16 @@ module _ {O P C R : Type 0} (meaning : Ghosts O P C R) where
 
   -- the object comes where the tail named nobody, and else the caller is behind the one that it named
   pub record EnterOutcome (m : Seat O P C R) (n : ℕ) (m' : Seat O P C R) : Type 0 where
-    pub first : n ≡ 0 → Gets meaning Holding m m'
-    pub behind : n ≢ 0 → Names Behind m n m'
+    pub first : n ≡ 0 → Gets meaning (Mcs Holding) m m'
+    pub behind : n ≢ 0 → Names (λ p. Mcs (Behind p)) m n m'
 
   abbrev pub enters : Step (Option (History O P C R)) → Seat O P C R → ℕ → Seat O P C R → Type 0
   enters st m n m' = EnterOutcome m n m'
 
   -- the object comes where the caller's `locked` is clear, and only then
   pub record LookOutcome (m : Seat O P C R) (n : ℕ) (m' : Seat O P C R) : Type 0 where
-    pub hit : n ≡ 0 → Gets meaning Holding m m'
-    pub miss : n ≢ 0 → Lags Waiting m m'
+    pub hit : n ≡ 0 → Gets meaning (Mcs Holding) m m'
+    pub miss : n ≢ 0 → Lags (Mcs Waiting) m m'
 
   abbrev pub looks : Step (Option (History O P C R)) → Seat O P C R → ℕ → Seat O P C R → Type 0
   looks st m n m' = LookOutcome m n m'
@@ -55,8 +56,8 @@ module _ {O P C R : Type 0} (meaning : Ghosts O P C R) where
   -- the holder sees the one behind it where that has linked itself
   pub record SeeOutcome (m : Seat O P C R) (n : ℕ) (m' : Seat O P C R) : Type 0 where
     pub lawful : SawLawful m.0
-    pub found : n ≢ 0 → Names Passing m n m'
-    pub none : n ≡ 0 → m' ≡ (with_stage m.0 Alone, m.1)
+    pub found : n ≢ 0 → Names (λ p. Mcs (Passing p)) m n m'
+    pub none : n ≡ 0 → m' ≡ (with_stage m.0 (Mcs Alone), m.1)
 
   abbrev pub sees : Step (Option (History O P C R)) → Seat O P C R → ℕ → Seat O P C R → Type 0
   sees st m n m' = SeeOutcome m n m'
@@ -64,8 +65,8 @@ module _ {O P C R : Type 0} (meaning : Ghosts O P C R) where
   -- the same, where there is one behind it
   pub record SeeAgainOutcome (m : Seat O P C R) (n : ℕ) (m' : Seat O P C R) : Type 0 where
     pub lawful : SawLawful m.0
-    pub found : n ≢ 0 → Names Passing m n m'
-    pub none : n ≡ 0 → Lags Leaving m m'
+    pub found : n ≢ 0 → Names (λ p. Mcs (Passing p)) m n m'
+    pub none : n ≡ 0 → Lags (Mcs Leaving) m m'
 
   abbrev pub sees_again : Step (Option (History O P C R)) → Seat O P C R → ℕ → Seat O P C R → Type 0
   sees_again st m n m' = SeeAgainOutcome m n m'
@@ -74,7 +75,7 @@ module _ {O P C R : Type 0} (meaning : Ghosts O P C R) where
   pub record EmptyOutcome (last : ℕ) (m : Seat O P C R) (n : ℕ) (m' : Seat O P C R) : Type 0 where
     pub lawful : SawLawful m.0
     pub hit : n ≡ last → Returns meaning Idle m m'
-    pub miss : n ≢ last → Lags Leaving m m'
+    pub miss : n ≢ last → Lags (Mcs Leaving) m m'
 
   abbrev pub empties : Step (Option (History O P C R)) → Seat O P C R → ℕ → Seat O P C R → Type 0
   empties st m n m' = EmptyOutcome st.first m n m'

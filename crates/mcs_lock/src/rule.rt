@@ -1,6 +1,7 @@
 //! The steps that are the MCS lock's own.
 
-ghost use Rattle.word_rule.specs.declared.stage.Stage.TheVariants.{Ready, Waiting};
+ghost use Rattle.word_rule.specs.declared.stage.Stage.TheVariants.{Mcs};
+ghost use Rattle.word_rule.specs.declared.stage.McsStage.TheVariants.{Ready, Waiting};
 ghost use Rattle.mcs_lock.specs.Steps.{goes, arms, enters, looks, sees, sees_again, empties, passes};
 
 use atomic_table::Play;
@@ -11,7 +12,7 @@ use word_rule::{Key, View};
 pub struct Clear;
 
 impl<O: SeqObject> Play<Option<Logged<O>>, View<Key<O>, Event<O>>> for Clear {
-    ghost then = { goes Ready };
+    ghost then = { goes (Mcs Ready) };
 }
 
 /// A swap of the tail.
@@ -32,7 +33,7 @@ impl<O: SeqObject> Play<Option<Logged<O>>, View<Key<O>, Event<O>>> for Arm {
 pub struct Link;
 
 impl<O: SeqObject> Play<Option<Logged<O>>, View<Key<O>, Event<O>>> for Link {
-    ghost then = { goes Waiting };
+    ghost then = { goes (Mcs Waiting) };
 }
 
 /// A load of the caller's `locked`.

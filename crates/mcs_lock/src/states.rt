@@ -1,7 +1,8 @@
 //! A caller of an MCS lock, by what it may do next.
 
 ghost use Rattle.event_log.proofs.Props.{legal_props};
-ghost use Rattle.word_rule.specs.declared.stage.Stage.TheVariants.{Ready, Behind, Armed, Waiting, Alone, Leaving, Passing};
+ghost use Rattle.word_rule.specs.declared.stage.Stage.TheVariants.{Mcs};
+ghost use Rattle.word_rule.specs.declared.stage.McsStage.TheVariants.{Ready, Behind, Armed, Waiting, Alone, Leaving, Passing};
 ghost use Rattle.word_rule.specs.Announced.{IsElse};
 ghost use Rattle.word_rule.specs.Callers.{IsWithout, IsWith};
 
@@ -14,7 +15,7 @@ pub struct Ready<O: SeqObject> {
     pub(crate) cpu: u8,
     pub(crate) key: Snapshot<Key<O>>,
     pub(crate) seat: Seat<O>,
-    pub ghost ready: { IsWithout O.SeqObject key.value cpu Ready seat.me } by { Prim.hlevel legal_props },
+    pub ghost ready: { IsWithout O.SeqObject key.value cpu (Mcs Ready) seat.me } by { Prim.hlevel legal_props },
 }
 
 /// A caller in the queue behind the CPU `ahead`. It can't be dropped: it ends in `arm`.
@@ -23,7 +24,7 @@ pub struct Behind<O: SeqObject> {
     pub(crate) ahead: u8,
     pub(crate) key: Snapshot<Key<O>>,
     pub(crate) seat: Seat<O>,
-    pub ghost behind: { IsWithout O.SeqObject key.value cpu (Behind ahead) seat.me } by { Prim.hlevel legal_props },
+    pub ghost behind: { IsWithout O.SeqObject key.value cpu (Mcs (Behind ahead)) seat.me } by { Prim.hlevel legal_props },
     pub ghost other: { IsElse seat.me.0 ahead },
 }
 
@@ -33,7 +34,7 @@ pub struct Armed<O: SeqObject> {
     pub(crate) ahead: u8,
     pub(crate) key: Snapshot<Key<O>>,
     pub(crate) seat: Seat<O>,
-    pub ghost armed: { IsWithout O.SeqObject key.value cpu (Armed ahead) seat.me } by { Prim.hlevel legal_props },
+    pub ghost armed: { IsWithout O.SeqObject key.value cpu (Mcs (Armed ahead)) seat.me } by { Prim.hlevel legal_props },
     pub ghost other: { IsElse seat.me.0 ahead },
 }
 
@@ -42,7 +43,7 @@ pub struct Waiting<O: SeqObject> {
     pub(crate) cpu: u8,
     pub(crate) key: Snapshot<Key<O>>,
     pub(crate) seat: Seat<O>,
-    pub ghost waits: { IsWithout O.SeqObject key.value cpu Waiting seat.me } by { Prim.hlevel legal_props },
+    pub ghost waits: { IsWithout O.SeqObject key.value cpu (Mcs Waiting) seat.me } by { Prim.hlevel legal_props },
 }
 
 /// A holder that saw nobody behind it. It can't be dropped: it ends in `empty`.
@@ -52,7 +53,7 @@ pub struct Alone<O: SeqObject> {
     pub(crate) lent: Lent,
     pub(crate) key: Snapshot<Key<O>>,
     pub(crate) seat: Seat<O>,
-    pub ghost alone: { IsWith O.SeqObject key.value cpu Alone logged seat.me } by { Prim.hlevel legal_props },
+    pub ghost alone: { IsWith O.SeqObject key.value cpu (Mcs Alone) logged seat.me } by { Prim.hlevel legal_props },
 }
 
 /// A holder that isn't the last, and hasn't seen who is behind it. It can't be dropped: it ends in a see that finds one.
@@ -62,7 +63,7 @@ pub struct Leaving<O: SeqObject> {
     pub(crate) lent: Lent,
     pub(crate) key: Snapshot<Key<O>>,
     pub(crate) seat: Seat<O>,
-    pub ghost leaves: { IsWith O.SeqObject key.value cpu Leaving logged seat.me } by { Prim.hlevel legal_props },
+    pub ghost leaves: { IsWith O.SeqObject key.value cpu (Mcs Leaving) logged seat.me } by { Prim.hlevel legal_props },
 }
 
 /// A holder that saw the CPU `follower` behind it. It can't be dropped: it ends in `pass_on`.
@@ -73,7 +74,7 @@ pub struct Passing<O: SeqObject> {
     pub(crate) lent: Lent,
     pub(crate) key: Snapshot<Key<O>>,
     pub(crate) seat: Seat<O>,
-    pub ghost passes: { IsWith O.SeqObject key.value cpu (Passing follower) logged seat.me } by { Prim.hlevel legal_props },
+    pub ghost passes: { IsWith O.SeqObject key.value cpu (Mcs (Passing follower)) logged seat.me } by { Prim.hlevel legal_props },
     pub ghost other: { IsElse seat.me.0 follower },
 }
 

@@ -3,14 +3,15 @@ use Rattle.std.specs.Prelude.{◌≡◌, ◌≢◌, ℕ, Option}
 use Rattle.atomic_table.specs.Table.{Step}
 use Rattle.event_log.specs.declared.object.SeqObject.{Ghosts}
 use Rattle.event_log.specs.History.{History}
-use Rattle.word_rule.specs.declared.stage.Stage.TheVariants.{Idle, Drawn, Served}
+use Rattle.word_rule.specs.declared.stage.Stage.TheVariants.{Idle, Ticket}
+use Rattle.word_rule.specs.declared.stage.TicketStage.TheVariants.{Drawn, Served}
 use Rattle.word_rule.specs.Seats.{Seat, with_stage}
 use Rattle.word_rule.specs.Announced.{Lacks, Gets, Returns}
 
 module _ {O P C R : Type 0} where
   -- the number that was found is the ticket
   abbrev pub draws : Step (Option (History O P C R)) → Seat O P C R → ℕ → Seat O P C R → Type 0
-  draws st m n m' = m' ≡ (with_stage m.0 (Drawn n), m.1)
+  draws st m n m' = m' ≡ (with_stage m.0 (Ticket (Drawn n)), m.1)
 
   -- the served ticket isn't the caller's: nothing changes, and the seat doesn't have every number
   pub record Misses (m m' : Seat O P C R) : Type 0 where
@@ -20,11 +21,11 @@ module _ {O P C R : Type 0} where
 module _ {O P C R : Type 0} (meaning : Ghosts O P C R) where
   -- the object comes where the served ticket is the caller's, and only then
   pub record LookOutcome (t : ℕ) (m : Seat O P C R) (n : ℕ) (m' : Seat O P C R) : Type 0 where
-    pub hit : n ≡ t → Gets meaning (Served t) m m'
+    pub hit : n ≡ t → Gets meaning (Ticket (Served t)) m m'
     pub miss : n ≢ t → Misses m m'
 
   abbrev pub looks : Step (Option (History O P C R)) → Seat O P C R → ℕ → Seat O P C R → Type 0
-  looks st m n m' = (t : ℕ) → m.0.main.stage ≡ Drawn t → LookOutcome t m n m'
+  looks st m n m' = (t : ℕ) → m.0.main.stage ≡ Ticket (Drawn t) → LookOutcome t m n m'
 
   -- the object goes home
   abbrev pub serves : Step (Option (History O P C R)) → Seat O P C R → ℕ → Seat O P C R → Type 0

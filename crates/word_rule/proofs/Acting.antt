@@ -106,13 +106,6 @@ module _ {O P C R : Type 0} (meaning : Ghosts O P C R) where
       let now : m'' ≡ (settled m.0 q g.object.log, (0, None) ∷ m.1) = out ∙ (λ k. ((g.seat k).0, (0, None) ∷ rest (g.seat k).1)) in
       subst (Took q m m'') same record { seat = now; learns = g.learns; replayed = g.replayed }
 
-  abbrev slot_of : List (ℕ × Option (History O P C R)) → Option (History O P C R)
-  slot_of [] = None
-  slot_of (s ∷ more) = s.1
-
-  pub was_there : (q : Stage) (m m' : Seat O P C R) (r : Option (History O P C R)) → Gets meaning q m m' → m'.1 ≡ (0, r) ∷ rest m'.1 → IsSome r
-  was_there q m m' r g slot = let is : r ≡ Some g.object = ap slot_of (sym slot ∙ ap (λ (z : Seat O P C R). z.1) g.seat) in subst IsSome (sym is) (search rules)
-
   -- so it is the caller's
   pub holds_from : (h : Cell O P C R) (cpu : ℕ) (p q : Stage) (x : History O P C R) (m m' : Seat O P C R) → IsWithout meaning h cpu p m → Took q m m' x → IsWith meaning h cpu q x m'
   holds_from h cpu p q x m m' w t = holds_now h cpu p q x m m' w (t.learns.lawful h w.at.told) (t.replayed h w.at.told) (t.seat ∙ ap (λ cs. (settled m.0 q x.log, (0, None) ∷ cs)) w.at.carries)

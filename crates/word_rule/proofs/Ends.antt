@@ -14,16 +14,18 @@ use Rattle.event_log.proofs.Beginnings.{begins_self}
 use Rattle.word_rule.specs.declared.lock_kind.LockKind.{LockKind}
 use Rattle.word_rule.specs.declared.stage.Stage.TheVariants.{Idle}
 use Rattle.word_rule.specs.Cell.{Cell, cell_of, Lawful, OwnsAll, IsPassView, stored}
-use Rattle.word_rule.specs.Line.{Line, TieLaws, empty_line}
+use Rattle.word_rule.specs.Locks.{Lock, opening_lock}
+use Rattle.word_rule.specs.LockStates.{IsLockOf}
 use Rattle.word_rule.specs.CellInvariant.{GhostState, Viewed, Table, EachFrom, CallerInvariant, SeatInvariant, CellInvariant}
 use Rattle.word_rule.specs.Seats.{Seat, idle_from, first_view}
 use Rattle.word_rule.specs.Callers.{caller_of, pass_view_of, IsWithout}
 use Rattle.word_rule.proofs.Lists.{has_one, drop_self, grows_self, same_log, of_opening}
 use Rattle.word_rule.proofs.Known.{all_idle}
+use Rattle.word_rule.proofs.LockLaws.{idle_home}
 
-module _ {O P C R : Type 0} (h : Cell O P C R) where
+module _ {O P C R : Type 0} (h : Cell O P C R) (kind : LockKind) (first : ℕ) where
   abbrev start : GhostState O P C R
-  start = record { committed = h.opening; line = empty_line; owner = λ x. (0, x + 1) }
+  start = record { committed = h.opening; lock = opening_lock kind first; owner = λ x. (0, x + 1) }
 
   known : (k m : ℕ) → k + m ≡ h.numbers → EachFrom (CallerInvariant h.numbers start 0) (k + 1) (idle_from k m h.opening)
   known k zero e = tt
@@ -69,31 +71,31 @@ module _ {O P C R : Type 0} (meaning : Ghosts O P C R) where
   pub opens_stored : (k : LockKind) (x : History O P C R) (n : ℕ) → IsKept meaning x → x ≡ stored meaning (cell_of k n x) x.log
   opens_stored k x n kept i = record { params = x.params; limit = x.limit; log = x.log; state = kept.replayed i }
 
-module _ {O P C R : Type 0} (meaning : Ghosts O P C R) (IsTied : ℕ → List ℕ → Line → Type 0) where
-  pub opens : (k : LockKind) (ws : List ℕ) (x : History O P C R) (n : ℕ) → IsKept meaning x → IsTied n ws empty_line → CellInvariant meaning IsTied (cell_of k n x) (opening ws (Some x ∷ []) (first_view (cell_of k n x)))
-  opens k ws x n kept tied = record {
-    state = start (cell_of k n x);
+module _ {O P C R : Type 0} (meaning : Ghosts O P C R) (kind : LockKind) where
+  pub opens : (ws : List ℕ) (x : History O P C R) (n first : ℕ) → IsKept meaning x → IsLockOf kind n ws (opening_lock kind first) → CellInvariant meaning kind (cell_of kind n x) (opening ws (Some x ∷ []) (first_view (cell_of kind n x)))
+  opens ws x n first kept tied = record {
+    state = start (cell_of kind n x) kind first;
     tied = tied;
-    lawful = opens_lawful meaning k x n kept;
-    at_home = λ _. ap (λ z. some (some (Some z))) (opens_stored meaning k x n kept);
-    each = one (cell_of k n x);
+    lawful = opens_lawful meaning kind x n kept;
+    at_home = λ _. ap (λ z. some (some (Some z))) (opens_stored meaning kind x n kept);
+    each = one (cell_of kind n x) kind first;
   }
 
   -- where a pass has each number, the object is at home, and its log is what the pass has seen
-  pub closing : TieLaws IsTied → (h : Cell O P C R) (id : ℕ) (v : Viewed O P C R) (s : Table O P C R) → CellInvariant meaning IsTied h s → get_elem? s.views id ≡ some v → v.main.stage ≡ Idle → IsPassView meaning (pass_view_of h v) → OwnsAll (caller_of h v)
+  pub closing : (h : Cell O P C R) (id : ℕ) (v : Viewed O P C R) (s : Table O P C R) → CellInvariant meaning kind h s → get_elem? s.views id ≡ some v → v.main.stage ≡ Idle → IsPassView meaning (pass_view_of h v) → OwnsAll (caller_of h v)
       → get_elem? s.homes 0 ≡ some (some (Some (stored meaning h v.main.seen)))
-  closing ties h id v s r there rests part all =
+  closing h id v s r there rests part all =
       let b = r.state in
       let know = r.each id v there in
-      let home = ties.over h.numbers s.words b.line r.tied (λ x below. all_idle h.numbers b id 0 v.main know.main rests x (all.each x below)) in
+      let home = idle_home kind h.numbers b.lock r.tied.state (λ x below. all_idle h.numbers b id 0 v.main know.main rests x (all.each x below)) in
       let same = same_log v.main.seen b.committed know.main.grows.begins (λ z. dite (dec_lt z h.numbers)
       (λ below. know.main.grows.own z (all.each z below))
       (λ not. of_opening z h.numbers b.committed h.opening (omega arith) r.lawful.begins r.lawful.numbered ∙ sym (of_opening z h.numbers v.main.seen h.opening (omega arith) part.lawful.begins part.lawful.numbered))) in
       r.at_home home ∙ ap (λ l. some (some (Some (stored meaning h l)))) same
 
-  pub ended : TieLaws IsTied → (h : Cell O P C R) (id cpu : ℕ) (m : Seat O P C R) (ws : List ℕ) (xs : List (Option (History O P C R))) (slot : Option (History O P C R)) → IsWithout meaning h cpu Idle m → OwnsAll (caller_of h m.0)
-      → Final (Seen (CellInvariant meaning IsTied h) id m.0) ws xs → get_elem? xs 0 ≡ some slot → slot ≡ Some (stored meaning h m.0.main.seen)
-  ended ties h id cpu m ws xs slot w all final first =
+  pub ended : (h : Cell O P C R) (id cpu : ℕ) (m : Seat O P C R) (ws : List ℕ) (xs : List (Option (History O P C R))) (slot : Option (History O P C R)) → IsWithout meaning h cpu Idle m → OwnsAll (caller_of h m.0)
+      → Final (Seen (CellInvariant meaning kind h) id m.0) ws xs → get_elem? xs 0 ≡ some slot → slot ≡ Some (stored meaning h m.0.main.seen)
+  ended h id cpu m ws xs slot w all final first =
       let object : History O P C R = stored meaning h m.0.main.seen in
-      let there = final.4 0 (Some object) (closing ties h id m.0 final.0 final.1.0 final.1.1 w.at.stands w.pass_view all) in
+      let there = final.4 0 (Some object) (closing h id m.0 final.0 final.1.0 final.1.1 w.at.stands w.pass_view all) in
       some-injective slot (Some object) (sym first ∙ there)

@@ -9,11 +9,12 @@ use Rattle.word_rule.specs.declared.lock_kind.LockKind.TheVariants as kinds
 use Rattle.word_rule.specs.declared.machine.step_done.StepDone.{StepDone}
 use Rattle.word_rule.specs.declared.machine.step_done.StepDone.TheVariants as steps
 use Rattle.word_rule.specs.declared.stage.Stage.{Stage}
-use Rattle.word_rule.specs.declared.stage.Stage.TheVariants.{Idle, Drawn, Served, Ready, Behind, Armed, Waiting, Holding, Alone, Leaving, Passing, Torn}
+use Rattle.word_rule.specs.declared.stage.Stage.TheVariants.{Idle, Ticket, Mcs, Torn}
+use Rattle.word_rule.specs.declared.stage.TicketStage.TheVariants.{Drawn, Served}
+use Rattle.word_rule.specs.declared.stage.McsStage.TheVariants.{Ready, Behind, Armed, Waiting, Holding, Alone, Leaving, Passing}
 use Rattle.word_rule.specs.Line.{is_first, moved}
-use Rattle.word_rule.specs.Tickets.{StandsInLine}
-use Rattle.word_rule.specs.Locks.{Lock, tickets, last, is_named, follower, going, taking, leaving}
-use Rattle.word_rule.specs.LockWords.{IsTicketLock, IsMcsLock, IsLockOf}
+use Rattle.word_rule.specs.Locks.{Lock, last, is_named, follower, going, taking, leaving}
+use Rattle.word_rule.specs.LockStates.{IsLock}
 use Rattle.word_rule.specs.Opening.{IsOpening}
 use Rattle.word_rule.specs.SoundWorld.{IsTodo}
 use Rattle.word_rule.specs.Turns.{look, see, enter, empty, ticket_turn, mcs_turn, turn_of, turn}
@@ -21,10 +22,10 @@ use Rattle.word_rule.specs.World.{World, CellState, CpuState, step, step_by, ste
 use Rattle.word_rule.proofs.Arrivals.{fresh}
 use Rattle.word_rule.proofs.Openings.{opening_sound}
 use Rattle.word_rule.proofs.Orders.{Keeps, AreLocks, IsCell, locks_run, same_cpus}
-use Rattle.word_rule.proofs.QueueWords.{stands_at}
+use Rattle.word_rule.proofs.LockLaws.{stands_at}
 use Rattle.word_rule.proofs.Slices.{some_at}
 use Rattle.word_rule.proofs.SoundSteps.{sound_run}
-use Rattle.word_rule.proofs.TurnsKeep.{IsLock, locks_keep}
+use Rattle.word_rule.proofs.TurnsKeep.{IsState, locks_keep}
 
 abbrev is_torn : Stage → Bool
 is_torn Torn = true
@@ -55,8 +56,8 @@ module _ (l : Lock) (i : ℕ) (h : IsWhole l) where
 
   ticket_whole : (q : Stage) → IsWhole (ticket_turn l i q).0
   ticket_whole Idle = moved_whole l.line.stage i _ h refl
-  ticket_whole (Drawn t) = look_whole (Served t) refl
-  ticket_whole (Served t) = moved_whole l.line.stage i _ h refl
+  ticket_whole (Ticket (Drawn t)) = look_whole (Ticket (Served t)) refl
+  ticket_whole (Ticket (Served t)) = moved_whole l.line.stage i _ h refl
   ticket_whole q = h
 
   enter_whole : (o : Option ℕ) → IsWhole (enter l i o).0
@@ -70,20 +71,20 @@ module _ (l : Lock) (i : ℕ) (h : IsWhole l) where
   empty_whole : IsWhole (empty l i).0
   empty_whole = by (is_named i (last l.line.cpus))
     where
-      by : (b : Bool) → let r : Lock × StepDone = cond b (record l { line = leaving l.line i }, steps.Empty true) (record l { line = going l.line i Leaving }, steps.Empty false) in IsWhole r.0
+      by : (b : Bool) → let r : Lock × StepDone = cond b (record l { line = leaving l.line i }, steps.Empty true) (record l { line = going l.line i (Mcs Leaving) }, steps.Empty false) in IsWhole r.0
       by true = moved_whole l.line.stage i _ h refl
       by false = moved_whole l.line.stage i _ h refl
 
   mcs_whole : (q : Stage) → IsWhole (mcs_turn l i q).0
   mcs_whole Idle = moved_whole l.line.stage i _ h refl
-  mcs_whole Ready = enter_whole (last l.line.cpus)
-  mcs_whole (Behind p) = moved_whole l.line.stage i _ h refl
-  mcs_whole (Armed p) = moved_whole l.line.stage i _ h refl
-  mcs_whole Waiting = look_whole Holding refl
-  mcs_whole Holding = see_whole Alone refl (follower l.line)
-  mcs_whole Alone = empty_whole
-  mcs_whole Leaving = see_whole Leaving refl (follower l.line)
-  mcs_whole (Passing j) = moved_whole l.line.stage i _ h refl
+  mcs_whole (Mcs Ready) = enter_whole (last l.line.cpus)
+  mcs_whole (Mcs (Behind p)) = moved_whole l.line.stage i _ h refl
+  mcs_whole (Mcs (Armed p)) = moved_whole l.line.stage i _ h refl
+  mcs_whole (Mcs Waiting) = look_whole (Mcs Holding) refl
+  mcs_whole (Mcs Holding) = see_whole (Mcs Alone) refl (follower l.line)
+  mcs_whole (Mcs Alone) = empty_whole
+  mcs_whole (Mcs Leaving) = see_whole (Mcs Leaving) refl (follower l.line)
+  mcs_whole (Mcs (Passing j)) = moved_whole l.line.stage i _ h refl
   mcs_whole q = h
 
   turn_whole : (k : LockKind) → IsWhole (turn_of k l i).0
@@ -92,7 +93,7 @@ module _ (l : Lock) (i : ℕ) (h : IsWhole l) where
 
 -- a lock for n CPUs, of which none is torn
 abbrev IsWholeLock : ℕ → Lock → Type 0
-IsWholeLock n l = IsLock n l × IsWhole l
+IsWholeLock n l = IsState n l × IsWhole l
 
 whole_keeps : Keeps IsWholeLock
 whole_keeps = record {
@@ -101,7 +102,7 @@ whole_keeps = record {
 }
 
 -- a step of a CPU that stands where its lock has it isn't idle
-module _ (n : ℕ) (ws : List ℕ) (l : Lock) (i : ℕ) (below : i < n) where
+module _ (n : ℕ) (l : Lock) (i : ℕ) (below : i < n) where
   look_acts : (q : Stage) → is_idle (look l i q).1 ≡ false
   look_acts q = by (is_first i l.line.cpus)
     where
@@ -109,22 +110,12 @@ module _ (n : ℕ) (ws : List ℕ) (l : Lock) (i : ℕ) (below : i < n) where
       by true = refl
       by false = refl
 
-  stands : (h : IsTicketLock n ws l) (q : Stage) → l.line.stage i ≡ q → StandsInLine tickets l.line.cpus l.line.out h.lined.serving i q
-  stands h q e = subst (StandsInLine tickets l.line.cpus l.line.out h.lined.serving i) e (h.lined.stood i below)
-
-  ticket_acts : IsTicketLock n ws l → (q : Stage) → l.line.stage i ≡ q → is_torn q ≡ false → is_idle (ticket_turn l i q).1 ≡ false
+  ticket_acts : IsLock kinds.Ticket n l → (q : Stage) → l.line.stage i ≡ q → is_torn q ≡ false → is_idle (ticket_turn l i q).1 ≡ false
   ticket_acts h Idle e whole = refl
-  ticket_acts h (Drawn t) e whole = look_acts (Served t)
-  ticket_acts h (Served t) e whole = refl
+  ticket_acts h (Ticket (Drawn t)) e whole = look_acts (Ticket (Served t))
+  ticket_acts h (Ticket (Served t)) e whole = refl
+  ticket_acts h (Mcs q) e whole = absurd (stands_at kinds.Ticket n l h i (Mcs q) below e)
   ticket_acts h Torn e whole = absurd (true≢false whole)
-  ticket_acts h Ready e whole = absurd (stands h Ready e)
-  ticket_acts h (Behind p) e whole = absurd (stands h (Behind p) e)
-  ticket_acts h (Armed p) e whole = absurd (stands h (Armed p) e)
-  ticket_acts h Waiting e whole = absurd (stands h Waiting e)
-  ticket_acts h Holding e whole = absurd (stands h Holding e)
-  ticket_acts h Alone e whole = absurd (stands h Alone e)
-  ticket_acts h Leaving e whole = absurd (stands h Leaving e)
-  ticket_acts h (Passing j) e whole = absurd (stands h (Passing j) e)
 
   see_acts : (q : Stage) (o : Option ℕ) → is_idle (see l i q o).1 ≡ false
   see_acts q None = refl
@@ -137,25 +128,24 @@ module _ (n : ℕ) (ws : List ℕ) (l : Lock) (i : ℕ) (below : i < n) where
   empty_acts : is_idle (empty l i).1 ≡ false
   empty_acts = by (is_named i (last l.line.cpus))
     where
-      by : (b : Bool) → let r : Lock × StepDone = cond b (record l { line = leaving l.line i }, steps.Empty true) (record l { line = going l.line i Leaving }, steps.Empty false) in is_idle r.1 ≡ false
+      by : (b : Bool) → let r : Lock × StepDone = cond b (record l { line = leaving l.line i }, steps.Empty true) (record l { line = going l.line i (Mcs Leaving) }, steps.Empty false) in is_idle r.1 ≡ false
       by true = refl
       by false = refl
 
-  mcs_acts : IsMcsLock n ws l → (q : Stage) → l.line.stage i ≡ q → is_torn q ≡ false → is_idle (mcs_turn l i q).1 ≡ false
+  mcs_acts : IsLock kinds.Mcs n l → (q : Stage) → l.line.stage i ≡ q → is_torn q ≡ false → is_idle (mcs_turn l i q).1 ≡ false
   mcs_acts h Idle e whole = refl
-  mcs_acts h Ready e whole = enter_acts (last l.line.cpus)
-  mcs_acts h (Behind p) e whole = refl
-  mcs_acts h (Armed p) e whole = refl
-  mcs_acts h Waiting e whole = look_acts Holding
-  mcs_acts h Holding e whole = see_acts Alone (follower l.line)
-  mcs_acts h Alone e whole = empty_acts
-  mcs_acts h Leaving e whole = see_acts Leaving (follower l.line)
-  mcs_acts h (Passing j) e whole = refl
+  mcs_acts h (Mcs Ready) e whole = enter_acts (last l.line.cpus)
+  mcs_acts h (Mcs (Behind p)) e whole = refl
+  mcs_acts h (Mcs (Armed p)) e whole = refl
+  mcs_acts h (Mcs Waiting) e whole = look_acts (Mcs Holding)
+  mcs_acts h (Mcs Holding) e whole = see_acts (Mcs Alone) (follower l.line)
+  mcs_acts h (Mcs Alone) e whole = empty_acts
+  mcs_acts h (Mcs Leaving) e whole = see_acts (Mcs Leaving) (follower l.line)
+  mcs_acts h (Mcs (Passing j)) e whole = refl
+  mcs_acts h (Ticket q) e whole = absurd (stands_at kinds.Mcs n l h i (Ticket q) below e)
   mcs_acts h Torn e whole = absurd (true≢false whole)
-  mcs_acts h (Drawn t) e whole = absurd (stands_at n ws l.line h.queued i (Drawn t) below e)
-  mcs_acts h (Served t) e whole = absurd (stands_at n ws l.line h.queued i (Served t) below e)
 
-  acts : (k : LockKind) → IsLockOf k n ws l → is_torn (l.line.stage i) ≡ false → is_idle (turn_of k l i).1 ≡ false
+  acts : (k : LockKind) → IsLock k n l → is_torn (l.line.stage i) ≡ false → is_idle (turn_of k l i).1 ≡ false
   acts kinds.Ticket h whole = ticket_acts h (l.line.stage i) refl whole
   acts kinds.Mcs h whole = mcs_acts h (l.line.stage i) refl whole
 
@@ -181,7 +171,7 @@ module _ {O P C R : Type 0} (meaning : Ghosts O P C R) (w : World O P C R) (o : 
     on_cell todo c e =
         let n : ℕ = length v.cpus in
         let h : IsWholeLock n c.lock = subst (λ (q : Option (CellState O P C R)). IsCell IsWholeLock whole_keeps meaning n q) e (locks_run IsWholeLock whole_keeps meaning is w free todo.object) in
-        acts n h.0.0 c.lock i (slice_get_within v.cpus i cpu there) c.lock.kind h.0.1 (h.1 i)
+        acts n c.lock i (slice_get_within v.cpus i cpu there) c.lock.kind h.0 (h.1 i)
 
     busy : (todos : List (Todo O P C R)) → cpu.todo ≡ todos → AllByRecursion (λ t. IsTodo (length v.cells) t) todos → is_idle (step_of meaning v i cpu todos).1 ≡ true → todos ≡ []
     busy [] e able idle = refl

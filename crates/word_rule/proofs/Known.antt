@@ -6,18 +6,19 @@ use mathlib.Core.Logic.{dite}
 use native.Mathlib.Decide.{ℕ_discrete}
 use Rattle.event_log.specs.declared.object.SeqObject.{Ghosts}
 use Rattle.event_log.specs.Distinct.{has}
+use Rattle.word_rule.specs.declared.lock_kind.LockKind.{LockKind}
 use Rattle.word_rule.specs.declared.stage.Stage.{Stage}
 use Rattle.word_rule.specs.declared.stage.Stage.TheVariants.{Idle}
 use Rattle.word_rule.specs.Cell.{Cell, Grows, Lawful, stored}
-use Rattle.word_rule.specs.Line.{Line, TieLaws}
 use Rattle.word_rule.specs.CellInvariant.{GhostState, Caller, Viewed, Table, EachFrom, CallerInvariant, SeatInvariant, CellInvariant}
 use Rattle.word_rule.specs.Seats.{Seat, settled}
 use Rattle.word_rule.specs.Announced.{any_has, Lacks, IsElse, Learns, Gets}
 use Rattle.word_rule.proofs.Lists.{false_from}
+use Rattle.word_rule.proofs.LockLaws.{in_line_below, idle_outside}
 
 -- where a caller is idle, all its numbers are
-pub all_idle : {O P C R : Type 0} (n : ℕ) (b : GhostState O P C R) (j k : ℕ) (c : Caller O P C R) → CallerInvariant n b j k c → c.stage ≡ Idle → (x : ℕ) → has x c.owned ≡ true → b.line.stage x ≡ Idle
-all_idle n b j k c s is x hx = dite (ℕ_discrete x c.cpu) (λ e. ap b.line.stage e ∙ (s.stands (subst (λ (z : ℕ). has z c.owned ≡ true) e hx) ∙ is)) (λ ne. s.rests x hx ne)
+pub all_idle : {O P C R : Type 0} (n : ℕ) (b : GhostState O P C R) (j k : ℕ) (c : Caller O P C R) → CallerInvariant n b j k c → c.stage ≡ Idle → (x : ℕ) → has x c.owned ≡ true → b.lock.line.stage x ≡ Idle
+all_idle n b j k c s is x hx = dite (ℕ_discrete x c.cpu) (λ e. ap b.lock.line.stage e ∙ (s.stands (subst (λ (z : ℕ). has z c.owned ≡ true) e hx) ∙ is)) (λ ne. s.rests x hx ne)
 
 module _ {O P C R : Type 0} where
   -- the callers that a seat has taken in are idle
@@ -27,9 +28,9 @@ module _ {O P C R : Type 0} where
   pub idle_alone : (cs : List (Caller O P C R)) → cs ≡ [] → AllIdle cs
   idle_alone cs is = subst AllIdle (sym is) tt
 
-module _ {O P C R : Type 0} (meaning : Ghosts O P C R) (IsTied : ℕ → List ℕ → Line → Type 0) (h : Cell O P C R) where
+module _ {O P C R : Type 0} (meaning : Ghosts O P C R) (kind : LockKind) (h : Cell O P C R) where
   abbrev pub Rule : Table O P C R → Type 0
-  Rule = CellInvariant meaning IsTied h
+  Rule = CellInvariant meaning kind h
 
   pub same_cell : (b : GhostState O P C R) (id : ℕ) (v : Viewed O P C R) (g : Cell O P C R) → SeatInvariant h b id v → v.told ≡ g ∷ [] → g ≡ h
   same_cell b id v g mine is = (subst (λ l. EachFrom (λ _ y. y ≡ h) 0 l) is mine.told).0
@@ -56,29 +57,28 @@ module _ {O P C R : Type 0} (meaning : Ghosts O P C R) (IsTied : ℕ → List �
     replayed = λ g is. ap (λ (z : Cell O P C R). stored meaning z r.state.committed) (sym (same_cell r.state id me.0 g mine is));
   }
 
-  module _ (ties : TieLaws IsTied) where
-    -- one in line that isn't the one that the caller acts as isn't the caller's
-    pub someone_else : (s : Table O P C R) (r : Rule s) (id : ℕ) (v : Viewed O P C R) (y : ℕ) → SeatInvariant h r.state id v → has y r.state.line.cpus ≡ true → y ≢ v.main.cpu → IsElse v y
-    someone_else s r id v y mine in_line ne =
-        let l = r.state.line in
-        let below = ties.inside h.numbers s.words l r.tied y in_line in
-        record {
-          other = false_from (has y v.main.owned) (λ hy. true≢false (sym in_line ∙ ties.apart h.numbers s.words l r.tied y below (mine.main.rests y hy ne)));
-          inside = λ g is. subst (λ (z : Cell O P C R). y < z.numbers) (sym (same_cell r.state id v g mine is)) below;
-        }
+  -- one in line that isn't the one that the caller acts as isn't the caller's
+  pub someone_else : (s : Table O P C R) (r : Rule s) (id : ℕ) (v : Viewed O P C R) (y : ℕ) → SeatInvariant h r.state id v → has y r.state.lock.line.cpus ≡ true → y ≢ v.main.cpu → IsElse v y
+  someone_else s r id v y mine in_line ne =
+      let l = r.state.lock in
+      let below = in_line_below kind h.numbers l r.tied.state y in_line in
+      record {
+        other = false_from (has y v.main.owned) (λ hy. true≢false (sym in_line ∙ idle_outside kind h.numbers l r.tied.state y below (mine.main.rests y hy ne)));
+        inside = λ g is. subst (λ (z : Cell O P C R). y < z.numbers) (sym (same_cell r.state id v g mine is)) below;
+      }
 
-    outs : (b : GhostState O P C R) (j k : ℕ) (cs : List (Caller O P C R)) (y : ℕ) → EachFrom (CallerInvariant h.numbers b j) k cs → EachFrom (λ _ c. c.stage ≡ Idle) k cs → any_has y cs ≡ true → b.line.stage y ≡ Idle
-    outs b j k [] y know is hy = absurd (true≢false (sym hy))
-    outs b j k (c ∷ cs) y know is hy = dite (Bool-discrete (has y c.owned) true)
-        (λ yes. all_idle h.numbers b j k c know.0 is.0 y yes)
-        (λ not. outs b j (k + 1) cs y know.1 is.1 (grind (arith, nat_tests)))
+  outs : (b : GhostState O P C R) (j k : ℕ) (cs : List (Caller O P C R)) (y : ℕ) → EachFrom (CallerInvariant h.numbers b j) k cs → EachFrom (λ _ c. c.stage ≡ Idle) k cs → any_has y cs ≡ true → b.lock.line.stage y ≡ Idle
+  outs b j k [] y know is hy = absurd (true≢false (sym hy))
+  outs b j k (c ∷ cs) y know is hy = dite (Bool-discrete (has y c.owned) true)
+      (λ yes. all_idle h.numbers b j k c know.0 is.0 y yes)
+      (λ not. outs b j (k + 1) cs y know.1 is.1 (grind (arith, nat_tests)))
 
-    -- so a seat, of whose callers the first alone isn't idle, lacks it
-    pub lacks : (s : Table O P C R) (r : Rule s) (id : ℕ) (v : Viewed O P C R) (y : ℕ) → SeatInvariant h r.state id v → AllIdle v.others → has y r.state.line.cpus ≡ true → y ≢ v.main.cpu → Lacks v
-    lacks s r id v y mine out in_line ne g has_all =
-        let b = r.state in
-        let below = ties.inside h.numbers s.words b.line r.tied y in_line in
-        let other = someone_else s r id v y mine in_line ne in
-        let cover = has_all.each y (other.inside g has_all.told) in
-        let no_mine = other.other in
-        true≢false (sym in_line ∙ ties.apart h.numbers s.words b.line r.tied y below (outs b id 1 v.others y mine.others out (grind (arith, nat_tests))))
+  -- so a seat, of whose callers the first alone isn't idle, lacks it
+  pub lacks : (s : Table O P C R) (r : Rule s) (id : ℕ) (v : Viewed O P C R) (y : ℕ) → SeatInvariant h r.state id v → AllIdle v.others → has y r.state.lock.line.cpus ≡ true → y ≢ v.main.cpu → Lacks v
+  lacks s r id v y mine out in_line ne g has_all =
+      let b = r.state in
+      let below = in_line_below kind h.numbers b.lock r.tied.state y in_line in
+      let other = someone_else s r id v y mine in_line ne in
+      let cover = has_all.each y (other.inside g has_all.told) in
+      let no_mine = other.other in
+      true≢false (sym in_line ∙ idle_outside kind h.numbers b.lock r.tied.state y below (outs b id 1 v.others y mine.others out (grind (arith, nat_tests))))

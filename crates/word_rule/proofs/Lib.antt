@@ -3,10 +3,10 @@ pub mod Stays
 pub mod Known
 pub mod Meetings
 pub mod Ends
-pub mod TicketLines
+pub mod LockLaws
 pub mod QueueStands
-pub mod QueueWords
-pub mod QueueLines
+pub mod QueueTurns
+pub mod McsWords
 pub mod Acting
 pub mod Dealing
 pub mod MachineParts
@@ -22,10 +22,9 @@ pub mod ShownTurns
 pub mod Outcomes
 pub mod MachineSteps
 pub mod MachineKeeps
-pub mod WordLists
 pub mod SoundRuns
 pub mod IdleSteps
 pub mod Openings
 pub mod Owners
 pub mod Sends
-pub mod Definitions
+pub mod Lenders

@@ -38,10 +38,6 @@ has_append x (z ∷ xs) ys e = dite (ℕ_discrete x z) (λ is. inl (grind (arith
 pub has_one : (x k : ℕ) → has x (k ∷ []) ≡ true → x ≡ k
 has_one x k e = grind (arith, nat_tests)
 
-pub has_push : (x y : ℕ) (xs : List ℕ) → has x xs ≡ false → x ≢ y → has x (xs ++ y ∷ []) ≡ false
-has_push x y [] e n = grind (arith, nat_tests)
-has_push x y (z ∷ xs) e n = let t = has_push x y xs (has_tail x z xs e) n in grind (arith, nat_tests)
-
 pub has_at : (xs : List ℕ) (k x : ℕ) → get_elem? xs k ≡ some x → has x xs ≡ true
 has_at [] k x e = absurd (some-ne-none x (sym e))
 has_at (y ∷ xs) zero x e = let q : y ≡ x = some-injective y x e in grind (arith, nat_tests)

@@ -12,7 +12,7 @@ use Rattle.word_rule.specs.declared.machine.cell_spec.CellSpec.{CellSpec}
 use Rattle.word_rule.specs.declared.machine.lock_words.LockWords.{LockWords}
 use Rattle.word_rule.specs.declared.machine.progress.Progress.{Progress}
 use Rattle.word_rule.specs.declared.machine.step_done.StepDone.{StepDone}
-use Rattle.word_rule.specs.LockWords.{RepresentsLock}
+use Rattle.word_rule.specs.LockStates.{RepresentsLock}
 use Rattle.word_rule.specs.Shown.{MachineParts, Runs, HasRoom, IsRoomy, opened_by}
 use Rattle.word_rule.specs.Sound.{Opened}
 use Rattle.word_rule.specs.Turns.{turn, ends_hold}

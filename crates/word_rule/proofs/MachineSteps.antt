@@ -15,7 +15,7 @@ use Rattle.word_rule.specs.declared.machine.progress.Progress.{Progress}
 use Rattle.word_rule.specs.declared.machine.step_done.StepDone.{StepDone}
 use Rattle.word_rule.specs.declared.machine.step_done.StepDone.TheVariants as steps
 use Rattle.word_rule.specs.Locks.{Lock}
-use Rattle.word_rule.specs.LockWords.{RepresentsLock}
+use Rattle.word_rule.specs.LockStates.{RepresentsLock}
 use Rattle.word_rule.specs.Shown.{MachineParts, RepresentsCell, ShowsCpu, Represents, Runs}
 use Rattle.word_rule.specs.Sound.{Opened}
 use Rattle.word_rule.specs.SoundWorld.{IsTodo}

@@ -1,227 +1,259 @@
--- An MCS lock's turns, on its words.
-use Rattle.std.proofs.Common.{◌≡◌, ◌≢◌, ⊎_elim, ℕ, suc, ◌+◌, ◌<◌, Bool, true, false, true≢false, cond, List, [], ◌∷◌, length, get_or, set, refl, sym, ap, ◌∙◌, subst, arith, get_or-set_same, Option, Some, None, eq-eqb, ne_eqb}
+-- An MCS lock's turns: each leaves a state of the lock, and words that are the state's.
+use Rattle.std.proofs.Common.{◌≡◌, ◌≢◌, ℕ, suc, ◌+◌, ◌*◌, ◌<◌, ◌≤◌, ◌&&◌, not, Bool, true, false, true≢false, cond, eq-eqb, ne_eqb, List, [], ◌∷◌, ◌++◌, length, replicate, get_or, set, refl, sym, ap, ◌∙◌, subst, arith, Option, Some, None}
 use Rattle.std.proofs.lemmas.Bool.{eqb-true}
-use mathlib.Core.Logic.{dite}
-use mathlib.Core.Option.{some, some-injective, some-ne-none}
-use native.Mathlib.Decide.{ℕ_discrete}
+use Rattle.std.proofs.lemmas.List.{get_or-replicate, length-replicate}
+use mathlib.Core.Option.{some}
 use lib.ListN.{get_elem?}
-use Rattle.word_rule.specs.declared.stage.Stage.TheVariants.{Idle, Ready, Behind, Armed, Waiting, Holding, Alone, Leaving, Passing}
-use Rattle.word_rule.specs.Line.{lined, holding, is_first}
-use Rattle.word_rule.specs.Locks.{Lock, last, last_from, second, behind, is_named, naming, if_linked, follower, going, joining, taking, leaving}
-use Rattle.word_rule.specs.LockWords.{IsMcsLock, word_of}
-use Rattle.word_rule.specs.Queues.{IsMcsWords, tail_of, next_word, locked_word, is_linked}
-use Rattle.word_rule.specs.declared.lock_kind.LockKind.TheVariants.{Mcs}
-use Rattle.word_rule.specs.declared.machine.step_done.StepDone.{StepDone}
+use Rattle.word_rule.specs.declared.lock_kind.LockKind.TheVariants as kinds
 use Rattle.word_rule.specs.declared.machine.step_done.StepDone.TheVariants as steps
 use Rattle.word_rule.specs.declared.stage.Stage.{Stage}
+use Rattle.word_rule.specs.declared.stage.Stage.TheVariants.{Idle, Mcs, Torn}
+use Rattle.word_rule.specs.declared.stage.McsStage.TheVariants.{Ready, Behind, Armed, Waiting, Holding, Alone, Leaving, Passing}
+use Rattle.word_rule.specs.Line.{Line, lined, moved, holding, is_first}
+use Rattle.word_rule.specs.Locks.{Lock, last, behind, is_named, follower, going, joining, taking, leaving, opening_lock}
+use Rattle.word_rule.specs.LockStates.{IsLock, IsLockOf}
+use Rattle.word_rule.specs.LockWords.{word_of, is_armed, locked_by, locked_at, mcs_words}
 use Rattle.word_rule.specs.Turns.{clear, arm, link, pass, turn, turn_of, mcs_turn}
-use Rattle.word_rule.proofs.Lists.{one_place, one_is}
-use Rattle.word_rule.proofs.QueueStands.{elsewhere}
-use Rattle.word_rule.proofs.QueueWords as words
-use Rattle.word_rule.proofs.QueueLines as lines
-use Rattle.word_rule.proofs.TicketTurns.{first_at, at_first}
-
--- the tail word names the last
-pub tail_last : (cpus : List ℕ) → tail_of cpus ≡ word_of (last cpus)
-tail_last [] = refl
-tail_last (k ∷ ks) = go k ks
-  where
-    go : (k : ℕ) (ks : List ℕ) → tail_of (k ∷ ks) ≡ last_from k ks + 1
-    go k [] = refl
-    go k (j ∷ js) = go j js
-
-second_at : (cpus : List ℕ) (j : ℕ) → second cpus ≡ Some j → get_elem? cpus 1 ≡ some j
-second_at [] j e = cc
-second_at (k ∷ []) j e = cc
-second_at (k ∷ y ∷ ys) j e = ap some (let f : y ≡ j = cc in f)
+use Rattle.word_rule.proofs.Lists.{one_place, false_from}
+use Rattle.word_rule.proofs.LockLaws.{stands_at, in_cell, torn}
+use Rattle.word_rule.proofs.McsWords as words
+use Rattle.word_rule.proofs.QueueTurns as queue
+use Rattle.word_rule.proofs.Stays.{moved_same, each_moved}
+use Rattle.word_rule.proofs.TicketTurns.{first_at}
 
 -- a word names nobody, or one CPU
-word_none : (o : Option ℕ) → word_of o ≡ 0 → o ≡ None
+pub word_none : (o : Option ℕ) → word_of o ≡ 0 → o ≡ None
 word_none None e = refl
 word_none (Some k) e = absurd (let z : k + 1 ≡ 0 = e in omega (arith, z))
 
-word_some : (o : Option ℕ) (q : ℕ) → word_of o ≡ q + 1 → o ≡ Some q
+pub word_some : (o : Option ℕ) (q : ℕ) → word_of o ≡ q + 1 → o ≡ Some q
 word_some None q e = absurd (let z : 0 ≡ q + 1 = e in omega (arith, z))
 word_some (Some k) q e = ap Some (let z : k + 1 ≡ q + 1 = e in omega (arith, z))
 
+pub some_word : (o : Option ℕ) → word_of o ≢ 0 → (q : ℕ) × (o ≡ Some q) × (word_of o ≡ q + 1)
+some_word None ne = absurd (ne refl)
+some_word (Some q) ne = (q, refl, refl)
+
 -- the turn of a CPU that stands there
-pub turned : (l : Lock) (i : ℕ) (q : Stage) → l.kind ≡ Mcs → l.line.stage i ≡ q → (turn l i).0 ≡ (mcs_turn l i q).0
-turned l i q kind there = ap (λ k. (turn_of k l i).0) kind ∙ ap (λ z. (mcs_turn l i z).0) there
+pub turned : (l : Lock) (i : ℕ) (q : Stage) → l.kind ≡ kinds.Mcs → l.line.stage i ≡ q → turn l i ≡ mcs_turn l i q
+turned l i q kind there = ap (λ k. turn_of k l i) kind ∙ ap (λ z. mcs_turn l i z) there
 
 -- a look of one that waits: it gets the object where it is the first
-pub hits : (l : Lock) (i : ℕ) → is_first i l.line.cpus ≡ true → (mcs_turn l i Waiting).0 ≡ record l { line = taking l.line i Holding }
-hits l i is = ap (λ (b : Bool). let r : Lock × StepDone = cond b (record l { line = taking l.line i Holding }, steps.Look true) (l, steps.Look false) in r.0) is
+pub hits : (l : Lock) (i : ℕ) → is_first i l.line.cpus ≡ true → mcs_turn l i (Mcs Waiting) ≡ (record l { line = taking l.line i (Mcs Holding) }, steps.Look true)
+hits l i is = ap (λ (b : Bool). cond b (record l { line = taking l.line i (Mcs Holding) }, steps.Look true) (l, steps.Look false)) is
 
-pub passes_by : (l : Lock) (i : ℕ) → is_first i l.line.cpus ≡ false → (mcs_turn l i Waiting).0 ≡ l
-passes_by l i is = ap (λ (b : Bool). let r : Lock × StepDone = cond b (record l { line = taking l.line i Holding }, steps.Look true) (l, steps.Look false) in r.0) is
+pub misses : (l : Lock) (i : ℕ) → is_first i l.line.cpus ≡ false → mcs_turn l i (Mcs Waiting) ≡ (l, steps.Look false)
+misses l i is = ap (λ (b : Bool). cond b (record l { line = taking l.line i (Mcs Holding) }, steps.Look true) (l, steps.Look false)) is
 
 -- an attempt to empty the queue: it succeeds where the last is the one that tries
-pub ends_queue : (l : Lock) (i : ℕ) → is_named i (last l.line.cpus) ≡ true → (mcs_turn l i Alone).0 ≡ record l { line = leaving l.line i }
-ends_queue l i is = ap (λ (b : Bool). let r : Lock × StepDone = cond b (record l { line = leaving l.line i }, steps.Empty true) (record l { line = going l.line i Leaving }, steps.Empty false) in r.0) is
+pub ends_queue : (l : Lock) (i : ℕ) → is_named i (last l.line.cpus) ≡ true → mcs_turn l i (Mcs Alone) ≡ (record l { line = leaving l.line i }, steps.Empty true)
+ends_queue l i is = ap (λ (b : Bool). cond b (record l { line = leaving l.line i }, steps.Empty true) (record l { line = going l.line i (Mcs Leaving) }, steps.Empty false)) is
 
-pub stays_queued : (l : Lock) (i : ℕ) → is_named i (last l.line.cpus) ≡ false → (mcs_turn l i Alone).0 ≡ record l { line = going l.line i Leaving }
-stays_queued l i is = ap (λ (b : Bool). let r : Lock × StepDone = cond b (record l { line = leaving l.line i }, steps.Empty true) (record l { line = going l.line i Leaving }, steps.Empty false) in r.0) is
+pub stays_queued : (l : Lock) (i : ℕ) → is_named i (last l.line.cpus) ≡ false → mcs_turn l i (Mcs Alone) ≡ (record l { line = going l.line i (Mcs Leaving) }, steps.Empty false)
+stays_queued l i is = ap (λ (b : Bool). cond b (record l { line = leaving l.line i }, steps.Empty true) (record l { line = going l.line i (Mcs Leaving) }, steps.Empty false)) is
 
--- a store to a `next` word
-next_set : (ws : List ℕ) (next : ℕ → Option ℕ) (n p : ℕ) (named : Option ℕ) → 1 + p < length ws → ((x : ℕ) → x < n → next_word ws x ≡ word_of (next x))
-    → (x : ℕ) → x < n → next_word (set ws (1 + p) (word_of named)) x ≡ word_of (naming next p named x)
-next_set ws next n p named wide h x below = dite (ℕ_discrete x p)
-    (λ is. subst (λ (y : ℕ). next_word (set ws (1 + p) (word_of named)) y ≡ word_of (naming next p named y)) (sym is) (get_or-set_same ws (1 + p) (word_of named) 0 wide ∙ ap (λ b. word_of (cond b named (next p))) (sym (eq-eqb p p refl))))
-    (λ ne. elsewhere ws (1 + p) (1 + x) (word_of named) (λ e. ne (omega (arith, e))) ∙ (h x below ∙ ap (λ b. word_of (cond b named (next x))) (sym (ne_eqb x p ne))))
+-- where one stands elsewhere, and is as little armed there
+locked_going : (l : Line) (n i : ℕ) (p q : Stage) → l.stage i ≡ p → locked_by q i l.cpus ≡ locked_by p i l.cpus → (x : ℕ) → x < n → locked_by (moved l.stage i q x) x l.cpus ≡ locked_at l x
+locked_going l n i p q e same = words.locked_moved l.stage n i q l.cpus l.cpus (same ∙ ap (λ z. locked_by z i l.cpus) (sym e)) (λ x _ _. refl)
 
-module _ (n : ℕ) (ws : List ℕ) (l : Lock) (h : IsMcsLock n ws l) (i : ℕ) (below : i < n) where
-  -- a store to another word leaves each `next`
-  nexts_stay : (k v : ℕ) → ((x : ℕ) → x < n → k ≢ 1 + x) → (x : ℕ) → x < n → next_word (set ws k v) x ≡ word_of (l.next x)
-  nexts_stay k v ne x in_cell = elsewhere ws k (1 + x) v (ne x in_cell) ∙ h.nexts x in_cell
+-- who isn't the first of either queue is locked alike
+locked_alike : (q : Stage) (x : ℕ) (cpus cpus' : List ℕ) → is_first x cpus ≡ false → is_first x cpus' ≡ false → locked_by q x cpus ≡ locked_by q x cpus'
+locked_alike q x cpus cpus' a b = ap (λ z. cond (is_armed q && not z) 1 0) (a ∙ sym b)
 
-  wide_next : (p : ℕ) → p < n → 1 + p < length ws
-  wide_next p lt = let w = h.queued.wide in omega (arith, w, lt)
+first_longer : (x i p : ℕ) (cpus : List ℕ) → last cpus ≡ Some p → is_first x (cpus ++ i ∷ []) ≡ is_first x cpus
+first_longer x i p [] e = cc
+first_longer x i p (y ∷ ys) e = refl
 
-  pub clears : l.line.stage i ≡ Idle → IsMcsLock n (set ws (1 + i) 0) (clear l i)
-  clears e = record { queued = lines.cleared n ws l.line h.queued i below e; nexts = next_set ws l.next n i None (wide_next i below) h.nexts }
+free_first_word : (b : Bool) → ◌≡◌ {A = ℕ} (cond (b && not true) 1 0) 0
+free_first_word true = refl
+free_first_word false = refl
 
-  pub tail_word : get_or ws 0 0 ≡ word_of (last l.line.cpus)
-  tail_word = h.queued.tail ∙ tail_last l.line.cpus
+module _ (n : ℕ) (ws : List ℕ) (l : Lock) (h : IsLockOf kinds.Mcs n ws l) where
+  -- a step that leaves each word as it was
+  read : (l' : Lock) → l'.kind ≡ l.kind → IsLock kinds.Mcs n l' → l'.next ≡ l.next → last l'.line.cpus ≡ last l.line.cpus → ((x : ℕ) → x < n → locked_at l'.line x ≡ locked_at l.line x) → IsLockOf kinds.Mcs n ws l'
+  read l' kind state next tail locked = record { kind_is = kind ∙ h.kind_is; state = state; words = words.words_stay n ws l h.words l' next tail locked }
+
+  pub wide : length ws ≡ 1 + 2 * n
+  wide = words.wide n ws l h.words
 
   pub tail_none : get_or ws 0 0 ≡ 0 → last l.line.cpus ≡ None
-  tail_none e = word_none (last l.line.cpus) (sym tail_word ∙ e)
+  tail_none e = word_none (last l.line.cpus) (sym (words.tail_word n ws l h.words) ∙ e)
 
   pub tail_some : (p : ℕ) → get_or ws 0 0 ≡ p + 1 → last l.line.cpus ≡ Some p
-  tail_some p e = word_some (last l.line.cpus) p (sym tail_word ∙ e)
+  tail_some p e = word_some (last l.line.cpus) p (sym (words.tail_word n ws l h.words) ∙ e)
 
-  pub enters_first : l.line.stage i ≡ Ready → last l.line.cpus ≡ None → IsMcsLock n (set ws 0 (i + 1)) (record l { line = lined (i ∷ []) true l.line.stage i Holding })
-  enters_first e none = record {
-    queued = lines.entered_first n ws l.line h.queued i below e (tail_word ∙ ap word_of none);
-    nexts = nexts_stay 0 (i + 1) (λ x in_cell z. absurd (omega (arith, z)));
-  }
+  -- a tail that isn't 0 names the last
+  pub tail_names : get_or ws 0 0 ≢ 0 → (p : ℕ) × (last l.line.cpus ≡ Some p) × (get_or ws 0 0 ≡ p + 1)
+  tail_names some_one = let tail = words.tail_word n ws l h.words in let t = some_word (last l.line.cpus) (λ e. some_one (tail ∙ e)) in (t.0, t.1, tail ∙ t.2)
 
-  pub enters_behind : (p : ℕ) → l.line.stage i ≡ Ready → last l.line.cpus ≡ Some p → IsMcsLock n (set ws 0 (i + 1)) (record l { line = joining l.line i (Behind p) })
-  enters_behind p e some_one = record {
-    queued = lines.entered n ws l.line h.queued i below p e (tail_word ∙ ap word_of some_one);
-    nexts = nexts_stay 0 (i + 1) (λ x in_cell z. absurd (omega (arith, z)));
-  }
-
-  -- the last is a CPU of the cell
-  pub last_below : (p : ℕ) → get_or ws 0 0 ≡ p + 1 → p < n
-  last_below p e =
-      let t = words.tail_names n ws l.line h.queued (λ z. absurd (omega (arith, e, z))) in
-      let at = words.tail_at l.line.cpus p (sym h.queued.tail ∙ e) in
-      words.in_cell n ws l.line h.queued at.0 p at.1
-
-  pub arms : (p : ℕ) → l.line.stage i ≡ Behind p → IsMcsLock n (set ws (1 + n + i) 1) (arm l i p)
-  arms p e = record {
-    queued = lines.armed n ws l.line h.queued i below p e;
-    nexts = nexts_stay (1 + n + i) 1 (λ x in_cell z. absurd (omega (arith, z, in_cell)));
-  }
-
-  -- the one that i is behind is a CPU of the cell
-  pub ahead_below : (p : ℕ) → l.line.stage i ≡ Armed p → p < n
-  ahead_below p e = let s = words.stands_at n ws l.line h.queued i (Armed p) below e in words.in_cell n ws l.line h.queued s.at p s.ahead
-
-  pub links : (p : ℕ) → l.line.stage i ≡ Armed p → IsMcsLock n (set ws (1 + p) (i + 1)) (link l i p)
-  links p e = record {
-    queued = lines.linked n ws l.line h.queued i below p e;
-    nexts = next_set ws l.next n p (Some i) (wide_next p (ahead_below p e)) h.nexts;
-  }
-
-  -- `locked` is 0 exactly where i is the first
-  pub free_first : l.line.stage i ≡ Waiting → locked_word n ws i ≡ 0 → is_first i l.line.cpus ≡ true
-  free_first e zero_now = let f = lines.free n ws l.line h.queued i below e zero_now in at_first i l.line.cpus f.there
-
-  pub first_free : l.line.stage i ≡ Waiting → is_first i l.line.cpus ≡ true → locked_word n ws i ≡ 0
-  first_free e first = ⊎_elim {0, 0, 0}
-      (λ t. let f = t.1 in let k = one_place n l.line.cpus h.queued.distinct (suc f.at) 0 i f.there (first_at i l.line.cpus first) in absurd (omega (arith, k)))
-      (λ f. f.lock)
-      (words.stands_at n ws l.line h.queued i Waiting below e)
-
-  pub gets : l.line.stage i ≡ Waiting → is_first i l.line.cpus ≡ true → IsMcsLock n ws (record l { line = taking l.line i Holding })
-  gets e first = record { queued = lines.looked n ws l.line h.queued i below (lines.free n ws l.line h.queued i below e (first_free e first)); nexts = h.nexts }
-
-  -- the holder is the first
-  pub holder_at : holding (l.line.stage i) ≡ true → get_elem? l.line.cpus 0 ≡ some i
-  holder_at has_it = let f = words.first_holds n ws l.line h.queued i below has_it in f.there
-
-  -- the holder's `next` names its follower
-  pub follower_word : holding (l.line.stage i) ≡ true → next_word ws i ≡ word_of (follower l.line)
-  follower_word has_it = by (second l.line.cpus) refl
+  pub tail_small : get_or ws 0 0 ≤ n
+  tail_small = subst (λ z. z ≤ n) (sym (words.tail_word n ws l h.words)) (by (last l.line.cpus) refl)
     where
-      linked : (j : ℕ) (b : Bool) → cond b (j + 1) 0 ≡ word_of (cond b (Some j) None)
-      linked j true = refl
-      linked j false = refl
+      by : (o : Option ℕ) → last l.line.cpus ≡ o → word_of o ≤ n
+      by None e = omega arith
+      by (Some p) e = let lt = (queue.last_in n l h.state p e).1 in omega (arith, lt)
 
-      only : (cpus : List ℕ) → get_elem? cpus 0 ≡ some i → second cpus ≡ None → tail_of cpus ≡ i + 1
-      only [] head e = absurd (some-ne-none i (sym head))
-      only (k ∷ []) head e = ap (λ z. z + 1) (some-injective k i head)
-      only (k ∷ j ∷ js) head e = cc
+  module _ (i : ℕ) (below : i < n) where
+    pub clears : l.line.stage i ≡ Idle → IsLockOf kinds.Mcs n (set ws (1 + i) 0) (clear l i)
+    clears e = record { kind_is = h.kind_is; state = queue.clears n l h.state i below e; words = words.next_stored n ws l h.words (clear l i) i None below refl refl (locked_going l.line n i Idle (Mcs Ready) e refl) }
 
-      by : (o : Option ℕ) → second l.line.cpus ≡ o → next_word ws i ≡ word_of (follower l.line)
-      by None e = h.queued.last i (only l.line.cpus (holder_at has_it) e) ∙ ap (λ o. word_of (if_linked l.line o)) (sym e)
-      by (Some j) e = words.next_is n ws l.line h.queued 0 i j (holder_at has_it) (second_at l.line.cpus j e) ∙ (linked j (is_linked (l.line.stage j)) ∙ ap (λ o. word_of (if_linked l.line o)) (sym e))
+    pub enters_first : l.line.stage i ≡ Mcs Ready → last l.line.cpus ≡ None → IsLockOf kinds.Mcs n (set ws 0 (i + 1)) (record l { line = lined (i ∷ []) true l.line.stage i (Mcs Holding) })
+    enters_first e none =
+        let empty = queue.no_last l.line.cpus none in
+        record {
+          kind_is = h.kind_is;
+          state = queue.enters_first n l h.state i below e none;
+          words = words.tail_stored n ws l h.words (record l { line = lined (i ∷ []) true l.line.stage i (Mcs Holding) }) (i + 1) refl refl
+              (words.locked_moved l.line.stage n i (Mcs Holding) l.line.cpus (i ∷ []) (ap (λ z. locked_by z i l.line.cpus) (sym e))
+              (λ x _ ne. locked_alike (l.line.stage x) x (i ∷ []) l.line.cpus (ne_eqb i x (λ is. ne (sym is))) (ap (is_first x) empty)));
+        }
 
-  pub sees_nobody : holding (l.line.stage i) ≡ true → next_word ws i ≡ 0 → follower l.line ≡ None
-  sees_nobody has_it word = word_none (follower l.line) (sym (follower_word has_it) ∙ word)
+    pub enters_behind : (p : ℕ) → l.line.stage i ≡ Mcs Ready → last l.line.cpus ≡ Some p → IsLockOf kinds.Mcs n (set ws 0 (i + 1)) (record l { line = joining l.line i (Mcs (Behind p)) })
+    enters_behind p e there = record {
+      kind_is = h.kind_is;
+      state = queue.enters_behind n l h.state i below p e there;
+      words = words.tail_stored n ws l h.words (record l { line = joining l.line i (Mcs (Behind p)) }) (i + 1) refl (ap word_of (queue.last_push l.line.cpus i))
+          (words.locked_moved l.line.stage n i (Mcs (Behind p)) l.line.cpus (l.line.cpus ++ i ∷ []) (ap (λ z. locked_by z i l.line.cpus) (sym e))
+          (λ x _ _. ap (λ z. cond (is_armed (l.line.stage x) && not z) 1 0) (first_longer x i p l.line.cpus there)));
+    }
 
-  pub sees_that : (j : ℕ) → holding (l.line.stage i) ≡ true → next_word ws i ≡ j + 1 → follower l.line ≡ Some j
-  sees_that j has_it word = word_some (follower l.line) j (sym (follower_word has_it) ∙ word)
+    -- one behind another isn't the first
+    not_first : (p at : ℕ) → get_elem? l.line.cpus (suc at) ≡ some i → is_first i l.line.cpus ≡ false
+    not_first p at there = false_from (is_first i l.line.cpus) (λ first. let k = one_place n l.line.cpus h.state.distinct (suc at) 0 i there (first_at i l.line.cpus first) in absurd (omega (arith, k)))
 
-  pub sees : (j : ℕ) → holding (l.line.stage i) ≡ true → next_word ws i ≡ j + 1 → IsMcsLock n ws (record l { line = going l.line i (Passing j) })
-  sees j has_it word =
-      let some_one : next_word ws i ≢ 0 = λ z. absurd (omega (arith, z, word)) in
-      let t = lines.saw n ws l.line h.queued i below has_it some_one in
-      let f = t.1 in
-      let same : t.0 ≡ j = let w = f.word in omega (arith, w, word) in
-      record { queued = subst (λ (k : ℕ). IsMcsWords n ws (lined l.line.cpus l.line.out l.line.stage i (Passing k))) same t.2; nexts = h.nexts }
+    pub arms : (p : ℕ) → l.line.stage i ≡ Mcs (Behind p) → IsLockOf kinds.Mcs n (set ws (1 + n + i) 1) (arm l i p)
+    arms p e =
+        let s = stands_at kinds.Mcs n l h.state i (Mcs (Behind p)) below e in
+        record {
+          kind_is = h.kind_is;
+          state = queue.arms n l h.state i below p e;
+          words = words.locked_stored n ws l h.words (arm l i p) i 1 below refl refl
+              (ap (λ z. locked_by z i l.line.cpus) (moved_same l.line.stage i (Mcs (Armed p))) ∙ ap (λ z. cond (not z) 1 0) (not_first p s.at s.there))
+              (each_moved l.line.stage (λ x q. x ≢ i → locked_by q x l.line.cpus ≡ locked_at l.line x) n i (Mcs (Armed p)) (λ ne. absurd (ne refl)) (λ x _ _ _. refl));
+        }
 
-  pub sees_none : l.line.stage i ≡ Holding → IsMcsLock n ws (record l { line = going l.line i Alone })
-  sees_none e = record { queued = lines.saw_none n ws l.line h.queued i below e; nexts = h.nexts }
+    pub ahead_below : (p : ℕ) → l.line.stage i ≡ Mcs (Armed p) → p < n
+    ahead_below p e = (queue.ahead_of n l h.state i below p None (stands_at kinds.Mcs n l h.state i (Mcs (Armed p)) below e)).2
 
-  -- a leaving holder that sees nobody stays where it is
-  pub still_none : l.line.stage i ≡ Leaving → IsMcsLock n ws (record l { line = going l.line i Leaving })
-  still_none e = record { queued = lines.replaced n ws l.line h.queued i below Leaving (words.stands_at n ws l.line h.queued i Leaving below e); nexts = h.nexts }
+    pub links : (p : ℕ) → l.line.stage i ≡ Mcs (Armed p) → IsLockOf kinds.Mcs n (set ws (1 + p) (i + 1)) (link l i p)
+    links p e = record { kind_is = h.kind_is; state = queue.links n l h.state i below p e; words = words.next_stored n ws l h.words (link l i p) p (Some i) (ahead_below p e) refl refl (locked_going l.line n i (Mcs (Armed p)) (Mcs Waiting) e refl) }
 
-  -- the tail names i exactly where i is the last
-  pub named_last : get_or ws 0 0 ≡ i + 1 → is_named i (last l.line.cpus) ≡ true
-  named_last e = by (last l.line.cpus) (sym tail_word ∙ e)
-    where
-      by : (o : Option ℕ) → word_of o ≡ i + 1 → is_named i o ≡ true
-      by None e = absurd (let z : 0 ≡ i + 1 = e in omega (arith, z))
-      by (Some k) e = eq-eqb k i (let z : k + 1 ≡ i + 1 = e in omega (arith, z))
+    -- `locked` is 0 exactly where i is the first
+    waits_word : l.line.stage i ≡ Mcs Waiting → get_or ws (1 + n + i) 0 ≡ cond (not (is_first i l.line.cpus)) 1 0
+    waits_word e = words.locked_word n ws l h.words i below ∙ ap (λ z. locked_by z i l.line.cpus) e
 
-  pub last_named : is_named i (last l.line.cpus) ≡ true → get_or ws 0 0 ≡ i + 1
-  last_named e = tail_word ∙ by (last l.line.cpus) e
-    where
-      by : (o : Option ℕ) → is_named i o ≡ true → word_of o ≡ i + 1
-      by None e = absurd (true≢false (sym e))
-      by (Some k) e = ap (λ z. z + 1) (eqb-true k i e)
+    pub free_first : l.line.stage i ≡ Mcs Waiting → get_or ws (1 + n + i) 0 ≡ 0 → is_first i l.line.cpus ≡ true
+    free_first e zero_now = by (is_first i l.line.cpus) (sym (waits_word e) ∙ zero_now)
+      where
+        by : (b : Bool) → ◌≡◌ {A = ℕ} (cond (not b) 1 0) 0 → b ≡ true
+        by true e = refl
+        by false e = absurd (let z : 1 ≡ 0 = e in omega (arith, z))
 
-  -- the last, who has the object, is alone
-  pub alone_is : l.line.stage i ≡ Alone → get_or ws 0 0 ≡ i + 1 → l.line.cpus ≡ i ∷ []
-  alone_is e word =
-      let head = holder_at (ap holding e) in
-      let t = words.tail_at l.line.cpus i (sym h.queued.tail ∙ word) in
-      let end : t.0 ≡ 0 = one_place n l.line.cpus h.queued.distinct t.0 0 i t.1 head in
-      one_is l.line.cpus i head (t.2 ∙ ap suc end)
+    pub locked_behind : l.line.stage i ≡ Mcs Waiting → get_or ws (1 + n + i) 0 ≢ 0 → is_first i l.line.cpus ≡ false
+    locked_behind e some_one = false_from (is_first i l.line.cpus) (λ first. some_one (waits_word e ∙ ap (λ z. cond (not z) 1 0) first))
 
-  pub empties : l.line.stage i ≡ Alone → get_or ws 0 0 ≡ i + 1 → IsMcsLock n (set ws 0 0) (record l { line = leaving l.line i })
-  empties e word = record {
-    queued = subst (λ (cpus : List ℕ). IsMcsWords n (set ws 0 0) (lined cpus false l.line.stage i Idle)) (sym (ap behind (alone_is e word))) (lines.emptied n ws l.line h.queued i below e word);
-    nexts = nexts_stay 0 0 (λ x in_cell z. absurd (omega (arith, z)));
-  }
+    pub gets : l.line.stage i ≡ Mcs Waiting → is_first i l.line.cpus ≡ true → IsLockOf kinds.Mcs n ws (record l { line = taking l.line i (Mcs Holding) })
+    gets e first = read (record l { line = taking l.line i (Mcs Holding) }) refl (queue.gets n l h.state i below e first) refl refl
+        (locked_going l.line n i (Mcs Waiting) (Mcs Holding) e (sym (ap (λ z. cond (not z) 1 0) first)))
 
-  pub stays_on : l.line.stage i ≡ Alone → get_or ws 0 0 ≢ i + 1 → IsMcsLock n ws (record l { line = going l.line i Leaving })
-  stays_on e other = record { queued = lines.left n ws l.line h.queued i below e (lines.more n ws l.line h.queued i below e other); nexts = h.nexts }
+    -- the holder's `next` names its follower
+    pub follower_word : holding (l.line.stage i) ≡ true → get_or ws (1 + i) 0 ≡ word_of (follower l.line)
+    follower_word has_it = words.next_word n ws l h.words i below ∙ ap word_of (queue.follower_is n l h.state i below has_it)
 
-  -- the follower that i passes to
-  pub passes_to : (j : ℕ) → l.line.stage i ≡ Passing j → (rest : List ℕ) × (l.line.cpus ≡ i ∷ j ∷ rest)
-  passes_to j e = lines.two n ws l.line h.queued i below j e
+    pub sees_nobody : holding (l.line.stage i) ≡ true → get_or ws (1 + i) 0 ≡ 0 → follower l.line ≡ None
+    sees_nobody has_it word = word_none (follower l.line) (sym (follower_word has_it) ∙ word)
 
-  pub passes : (j : ℕ) → l.line.stage i ≡ Passing j → IsMcsLock n (set ws (1 + n + j) 0) (pass l i)
-  passes j e =
-      let r = passes_to j e in
-      record {
-        queued = subst (λ (cpus : List ℕ). IsMcsWords n (set ws (1 + n + j) 0) (lined cpus false l.line.stage i Idle)) (sym (ap behind r.1)) (lines.passed n ws l.line h.queued i below j r.0 e r.1);
-        nexts = nexts_stay (1 + n + j) 0 (λ x in_cell z. absurd (omega (arith, z, in_cell)));
-      }
+    pub sees_that : (j : ℕ) → holding (l.line.stage i) ≡ true → get_or ws (1 + i) 0 ≡ j + 1 → follower l.line ≡ Some j
+    sees_that j has_it word = word_some (follower l.line) j (sym (follower_word has_it) ∙ word)
 
-  pub passing_below : (j : ℕ) → l.line.stage i ≡ Passing j → j < n
-  passing_below j e = let r = passes_to j e in words.in_cell n ws l.line h.queued 1 j (ap (λ cpus. get_elem? cpus 1) r.1)
+    pub sees_one : holding (l.line.stage i) ≡ true → get_or ws (1 + i) 0 ≢ 0 → (j : ℕ) × (follower l.line ≡ Some j) × (get_or ws (1 + i) 0 ≡ j + 1)
+    sees_one has_it some_one = let word = follower_word has_it in let t = some_word (follower l.line) (λ e. some_one (word ∙ e)) in (t.0, t.1, word ∙ t.2)
+
+    pub next_small : holding (l.line.stage i) ≡ true → get_or ws (1 + i) 0 ≤ n
+    next_small has_it = subst (λ z. z ≤ n) (sym (follower_word has_it)) (by (follower l.line) refl)
+      where
+        by : (o : Option ℕ) → follower l.line ≡ o → word_of o ≤ n
+        by None e = omega arith
+        by (Some j) e = let lt = in_cell kinds.Mcs n l h.state 1 j (queue.follower_at n l h.state i below j e) in omega (arith, lt)
+
+    -- one that has the object goes on, and no word changes
+    reads_on : (p q : Stage) → l.line.stage i ≡ p → locked_by q i l.line.cpus ≡ locked_by p i l.line.cpus → IsLock kinds.Mcs n (record l { line = going l.line i q }) → IsLockOf kinds.Mcs n ws (record l { line = going l.line i q })
+    reads_on p q e same state = read (record l { line = going l.line i q }) refl state refl refl (locked_going l.line n i p q e same)
+
+    pub saw : (j : ℕ) → l.line.stage i ≡ Mcs Holding → follower l.line ≡ Some j → IsLockOf kinds.Mcs n ws (record l { line = going l.line i (Mcs (Passing j)) })
+    saw j e f = reads_on (Mcs Holding) (Mcs (Passing j)) e refl (queue.sees n l h.state i below j (ap holding e) f)
+
+    pub saw_again : (j : ℕ) → l.line.stage i ≡ Mcs Leaving → follower l.line ≡ Some j → IsLockOf kinds.Mcs n ws (record l { line = going l.line i (Mcs (Passing j)) })
+    saw_again j e f = reads_on (Mcs Leaving) (Mcs (Passing j)) e refl (queue.sees n l h.state i below j (ap holding e) f)
+
+    pub sees_none : l.line.stage i ≡ Mcs Holding → IsLockOf kinds.Mcs n ws (record l { line = going l.line i (Mcs Alone) })
+    sees_none e = reads_on (Mcs Holding) (Mcs Alone) e refl (queue.sees_none n l h.state i below e)
+
+    pub still_none : l.line.stage i ≡ Mcs Leaving → IsLockOf kinds.Mcs n ws (record l { line = going l.line i (Mcs Leaving) })
+    still_none e = reads_on (Mcs Leaving) (Mcs Leaving) e refl (queue.still_none n l h.state i below e)
+
+    -- the tail names i exactly where i is the last
+    pub last_is : get_or ws 0 0 ≡ i + 1 → is_named i (last l.line.cpus) ≡ true
+    last_is e = ap (is_named i) (tail_some i e) ∙ eq-eqb i i refl
+
+    pub last_else : get_or ws 0 0 ≢ i + 1 → last l.line.cpus ≢ Some i
+    last_else other e = other (words.tail_word n ws l h.words ∙ ap word_of e)
+
+    pub not_named : get_or ws 0 0 ≢ i + 1 → is_named i (last l.line.cpus) ≡ false
+    not_named other = by (last l.line.cpus) (last_else other)
+      where
+        by : (o : Option ℕ) → o ≢ Some i → is_named i o ≡ false
+        by None ne = refl
+        by (Some k) ne = ne_eqb k i (λ e. ne (ap Some e))
+
+    pub empties : l.line.stage i ≡ Mcs Alone → last l.line.cpus ≡ Some i → IsLockOf kinds.Mcs n (set ws 0 0) (record l { line = leaving l.line i })
+    empties e there =
+        let one = queue.alone_is n l h.state i below e there in
+        record {
+          kind_is = h.kind_is;
+          state = queue.empties n l h.state i below e there;
+          words = words.tail_stored n ws l h.words (record l { line = leaving l.line i }) 0 refl (ap (λ c. word_of (last (behind c))) one)
+              (words.locked_moved l.line.stage n i Idle l.line.cpus (behind l.line.cpus) (ap (λ z. locked_by z i l.line.cpus) (sym e))
+              (λ x _ ne. locked_alike (l.line.stage x) x (behind l.line.cpus) l.line.cpus (ap (λ c. is_first x (behind c)) one) (ap (is_first x) one ∙ ne_eqb i x (λ is. ne (sym is)))));
+        }
+
+    pub stays_on : l.line.stage i ≡ Mcs Alone → last l.line.cpus ≢ Some i → IsLockOf kinds.Mcs n ws (record l { line = going l.line i (Mcs Leaving) })
+    stays_on e other = reads_on (Mcs Alone) (Mcs Leaving) e refl (queue.stays_on n l h.state i below e other)
+
+    pub passes : (j : ℕ) → l.line.stage i ≡ Mcs (Passing j) → IsLockOf kinds.Mcs n (set ws (1 + n + j) 0) (pass l i)
+    passes j e =
+        let r = queue.passes_to n l h.state i below j e in
+        let gone : is_first j (behind l.line.cpus) ≡ true = ap (λ c. is_first j (behind c)) r.1 ∙ eq-eqb j j refl in
+        record {
+          kind_is = h.kind_is;
+          state = queue.passes n l h.state i below j e;
+          words = words.locked_stored n ws l h.words (pass l i) j 0 (queue.passing_below n l h.state i below j e) refl (ap (λ c. last (behind c)) r.1 ∙ sym (ap last r.1))
+              (ap (λ z. cond (is_armed (moved l.line.stage i Idle j) && not z) 1 0) gone ∙ free_first_word (is_armed (moved l.line.stage i Idle j)))
+              (each_moved l.line.stage (λ x q. x ≢ j → locked_by q x (behind l.line.cpus) ≡ locked_at l.line x) n i Idle
+              (λ _. ap (λ z. locked_by z i l.line.cpus) (sym e))
+              (λ x _ ne other. locked_alike (l.line.stage x) x (behind l.line.cpus) l.line.cpus (ap (λ c. is_first x (behind c)) r.1 ∙ ne_eqb j x (λ is. other (sym is))) (ap (is_first x) r.1 ∙ ne_eqb i x (λ is. ne (sym is)))));
+        }
+
+-- one that has the object isn't locked, so no word says where it stands
+pub mcs_torn : (n : ℕ) (ws : List ℕ) (l : Lock) → IsLockOf kinds.Mcs n ws l → (p : ℕ) → p < n → holding (l.line.stage p) ≡ true → IsLockOf kinds.Mcs n ws (record l { line = going l.line p Torn })
+mcs_torn n ws l h p below has_it = record {
+  kind_is = h.kind_is;
+  state = torn kinds.Mcs n l h.state p below has_it;
+  words = words.words_stay n ws l h.words (record l { line = going l.line p Torn }) refl refl (words.locked_moved l.line.stage n p Torn l.line.cpus l.line.cpus (by (l.line.stage p) has_it) (λ x _ _. refl));
+}
+  where
+    by : (q : Stage) → holding q ≡ true → 0 ≡ locked_by q p l.line.cpus
+    by (Mcs (Armed k)) e = absurd (true≢false (sym e))
+    by (Mcs Waiting) e = absurd (true≢false (sym e))
+    by q e = refl
+
+-- an MCS lock before the first step, and its words
+pub starts_mcs : (n first : ℕ) (ws : List ℕ) → ws ≡ replicate (1 + 2 * n) 0 → IsLockOf kinds.Mcs n ws (opening_lock kinds.Mcs first)
+starts_mcs n first ws is = record {
+  kind_is = refl;
+  state = record { distinct = tt; busy = λ e. absurd (true≢false (sym e)); stood = λ x below. refl; own = λ p _. refl };
+  words = words.are n (opening_lock kinds.Mcs first) ws (ap length is ∙ length-replicate (1 + 2 * n) 0) (zeros 0 (omega arith)) (λ x lt. zeros (1 + x) (omega (arith, lt))) (λ x lt. zeros (1 + n + x) (omega (arith, lt)));
+}
+  where
+    zeros : (i : ℕ) → i < 1 + 2 * n → get_or ws i 0 ≡ 0
+    zeros i lt = ap (λ z. get_or z i 0) is ∙ get_or-replicate (1 + 2 * n) i 0 0 lt

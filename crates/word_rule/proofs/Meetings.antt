@@ -7,15 +7,19 @@ use Rattle.atomic_table.specs.Table.{step, keeps, gives, rest, Allows, Splits, J
 use Rattle.atomic_table.proofs.Lists.{at_set}
 use Rattle.event_log.specs.declared.object.SeqObject.{Ghosts}
 use Rattle.event_log.specs.Distinct.{has}
+use Rattle.word_rule.specs.declared.lock_kind.LockKind.{LockKind}
 use Rattle.word_rule.specs.declared.stage.Stage.TheVariants.{Idle, Torn}
 use Rattle.word_rule.specs.Cell.{Cell}
-use Rattle.word_rule.specs.Line.{Line, TieLaws, holding, lined}
+use Rattle.word_rule.specs.Line.{holding}
+use Rattle.word_rule.specs.Locks.{Lock, going}
+use Rattle.word_rule.specs.LockStates.{IsLockOf}
 use Rattle.word_rule.specs.CellInvariant.{GhostState, Caller, Viewed, Table, EachFrom, CallerInvariant, SeatInvariant, CellInvariant}
 use Rattle.word_rule.specs.Seats.{Seat, with_stage, settled, taken_in, idle, behind_first, first_or_none, spent, keeping, letting, merged}
 use Rattle.word_rule.specs.Announced.{meets, joins, tears, clashes}
 use Rattle.word_rule.proofs.Lists.{each_map, has_append, at_snoc_at, grows_self}
 use Rattle.word_rule.proofs.Stays.{seats_stay, show_each, torn}
 use Rattle.word_rule.proofs.Known.{all_idle, learned}
+use Rattle.word_rule.proofs.LockLaws.{one_holds, object_out}
 
 -- a caller of the seat `other` is the second of the seat id
 abbrev into : ℕ → ℕ → ℕ × ℕ → ℕ × ℕ
@@ -55,11 +59,11 @@ together_there id k = let Q : Bool → Type 0 = λ t. ◌≡◌ {A = ℕ × ℕ}
 module _ {O P C R : Type 0} where
   -- the callers stand at other places of the seats
   abbrev pub renamed : GhostState O P C R → (ℕ × ℕ → ℕ × ℕ) → GhostState O P C R
-  renamed b f = record { committed = b.committed; line = b.line; owner = λ x. f (b.owner x) }
+  renamed b f = record { committed = b.committed; lock = b.lock; owner = λ x. f (b.owner x) }
 
-module _ {O P C R : Type 0} (meaning : Ghosts O P C R) (IsTied : ℕ → List ℕ → Line → Type 0) (h : Cell O P C R) where
+module _ {O P C R : Type 0} (meaning : Ghosts O P C R) (kind : LockKind) (h : Cell O P C R) where
   abbrev pub Rule : Table O P C R → Type 0
-  Rule = CellInvariant meaning IsTied h
+  Rule = CellInvariant meaning kind h
 
   abbrev V : Type 0
   V = Viewed O P C R
@@ -178,7 +182,7 @@ module _ {O P C R : Type 0} (meaning : Ghosts O P C R) (IsTied : ℕ → List �
         tt,
         record {
           state = b;
-          tied = subst (λ (ws : List ℕ). IsTied h.numbers ws b.line) (sym (set-get_or s.words i 0)) r.tied;
+          tied = subst (λ (ws : List ℕ). IsLockOf kind h.numbers ws b.lock) (sym (set-get_or s.words i 0)) r.tied;
           lawful = r.lawful;
           at_home = r.at_home;
           each = seats_stay h b b s.views id (settled v v.main.stage b.committed)
@@ -189,14 +193,14 @@ module _ {O P C R : Type 0} (meaning : Ghosts O P C R) (IsTied : ℕ → List �
               }
               (λ j k c _ z. z) r.each;
         },
-        (b.committed, refl, learned meaning IsTied h b id v r.lawful mine),
+        (b.committed, refl, learned meaning kind h b id v r.lawful mine),
       )
 
   merged_known : (b : GhostState O P C R) (id : ℕ) (v : V) (c : Caller O P C R) → v.others ≡ c ∷ [] → v.main.stage ≡ Idle → c.stage ≡ Idle → All b id v → All (renamed b (together id)) id (merged v b.committed)
   merged_known b id v c is rests c_rests mine =
       let Q : List (Caller O P C R) → Type 0 = λ l. All (renamed b (together id)) id record { told = v.told; main = idle (min v.main.cpu (first_or_none l).cpu) (v.main.owned ++ (first_or_none l).owned) b.committed; others = [] } in
       let k = (subst (λ (l : List (Caller O P C R)). EachFrom (K b id) 1 l) is mine.others).0 in
-      let all : (x : ℕ) → has x (v.main.owned ++ c.owned) ≡ true → b.line.stage x ≡ Idle = λ x hx. ⊎_elim {0, 0, 0} (all_idle h.numbers b id 0 v.main mine.main rests x) (all_idle h.numbers b id 1 c k c_rests x) (has_append x v.main.owned c.owned hx) in
+      let all : (x : ℕ) → has x (v.main.owned ++ c.owned) ≡ true → b.lock.line.stage x ≡ Idle = λ x hx. ⊎_elim {0, 0, 0} (all_idle h.numbers b id 0 v.main mine.main rests x) (all_idle h.numbers b id 1 c k c_rests x) (has_append x v.main.owned c.owned hx) in
       subst Q (sym is) record {
         told = mine.told;
         main = record {
@@ -229,47 +233,46 @@ module _ {O P C R : Type 0} (meaning : Ghosts O P C R) (IsTied : ℕ → List �
         tt,
         record {
           state = renamed b (together id);
-          tied = subst (λ (ws : List ℕ). IsTied h.numbers ws b.line) (sym (set-get_or s.words i 0)) r.tied;
+          tied = subst (λ (ws : List ℕ). IsLockOf kind h.numbers ws b.lock) (sym (set-get_or s.words i 0)) r.tied;
           lawful = r.lawful;
           at_home = r.at_home;
           each = others_stay b (renamed b (together id)) s.views id (merged v b.committed) (merged_known b id v c is rests c_rests mine)
               (λ j u away. elsewhere b (together id) j u (λ k. together_else id j k away)) r.each;
         },
-        (b.committed, refl, learned meaning IsTied h b id v r.lawful mine),
+        (b.committed, refl, learned meaning kind h b id v r.lawful mine),
       )
 
-  module _ (ties : TieLaws IsTied) where
-    -- a holder gives its slot back with no end of the hold
-    pub tearing : (slots id : ℕ) (me : Seat O P C R) (i : ℕ) → has me.0.main.cpu me.0.main.owned ≡ true → holding me.0.main.stage ≡ true → me.1 ≡ (0, None) ∷ []
-        → ((ws : List ℕ) (l : Line) → IsTied h.numbers ws l → me.0.main.cpu < h.numbers → l.stage me.0.main.cpu ≡ me.0.main.stage → IsTied h.numbers ws (lined l.cpus l.out l.stage me.0.main.cpu Torn))
-        → Allows Rule slots id me i (λ k. k) (tears (step slots i 0 0 none) me)
-    tearing slots id me i acts holds carries moves s r len there small =
-        let b = r.state in
-        let l = b.line in
-        let v : V = me.0 in
-        let p : ℕ = v.main.cpu in
-        let mine = r.each id v there in
-        let below = (mine.main.owns p acts).1 in
-        let here = mine.main.stands acts in
-        let out : l.out ≡ true = ties.away h.numbers s.words l r.tied p below (ap holding here ∙ holds) in
-        let tied = subst (λ (ws : List ℕ). IsTied h.numbers ws (lined l.cpus l.out l.stage p Torn)) (sym (set-get_or s.words i 0)) (moves s.words l r.tied below here) in (
-          with_stage v Torn,
-          gives,
-          tt,
-          torn meaning IsTied h s r i (get_or s.words i 0) id v me.1 l.cpus Torn there acts out (λ _. mine.main.whole acts holds) tied,
-          λ z. (with_stage v Torn, rest (carries z)),
-        )
+  -- a holder gives its slot back with no end of the hold
+  pub tearing : (slots id : ℕ) (me : Seat O P C R) (i : ℕ) → has me.0.main.cpu me.0.main.owned ≡ true → holding me.0.main.stage ≡ true → me.1 ≡ (0, None) ∷ []
+      → ((ws : List ℕ) (l : Lock) → IsLockOf kind h.numbers ws l → me.0.main.cpu < h.numbers → holding (l.line.stage me.0.main.cpu) ≡ true → IsLockOf kind h.numbers ws (record l { line = going l.line me.0.main.cpu Torn }))
+      → Allows Rule slots id me i (λ k. k) (tears (step slots i 0 0 none) me)
+  tearing slots id me i acts holds carries moves s r len there small =
+      let b = r.state in
+      let l = b.lock in
+      let v : V = me.0 in
+      let p : ℕ = v.main.cpu in
+      let mine = r.each id v there in
+      let below = (mine.main.owns p acts).1 in
+      let has_it = ap holding (mine.main.stands acts) ∙ holds in
+      let l' : Lock = record l { line = going l.line p Torn } in
+      let tied = subst (λ (ws : List ℕ). IsLockOf kind h.numbers ws l') (sym (set-get_or s.words i 0)) (moves s.words l r.tied below has_it) in (
+        with_stage v Torn,
+        gives,
+        tt,
+        torn meaning kind h s r i (get_or s.words i 0) id v me.1 l' Torn refl (object_out kind h.numbers l r.tied.state p below has_it) there acts (λ _. mine.main.whole acts holds) tied,
+        λ z. (with_stage v Torn, rest (carries z)),
+      )
 
-    -- two holders of one cell can't be
-    pub clashing : (slots id : ℕ) (me : Seat O P C R) (i : ℕ) (c : Caller O P C R) → has me.0.main.cpu me.0.main.owned ≡ true → holding me.0.main.stage ≡ true → me.0.others ≡ c ∷ [] → has c.cpu c.owned ≡ true → holding c.stage ≡ true
-        → Allows Rule slots id me i (λ k. k) (clashes (step slots i 0 0 none) me)
-    clashing slots id me i c acts holds is c_acts c_holds s r len there small =
-        let b = r.state in
-        let v : V = me.0 in
-        let mine = r.each id v there in
-        let k = (subst (λ (l : List (Caller O P C R)). EachFrom (K b id) 1 l) is mine.others).0 in
-        let one = mine.main.owns v.main.cpu acts in
-        let two = k.owns c.cpu c_acts in
-        let same : v.main.cpu ≡ c.cpu = ties.single h.numbers s.words b.line r.tied v.main.cpu c.cpu one.1 two.1 (ap holding (mine.main.stands acts) ∙ holds) (ap holding (k.stands c_acts) ∙ c_holds) in
-        let both : ◌≡◌ {A = ℕ} 0 1 = ap (λ (z : ℕ × ℕ). z.1) (sym one.0 ∙ (ap b.owner same ∙ two.0)) in
-        absurd (omega arith)
+  -- two holders of one cell can't be
+  pub clashing : (slots id : ℕ) (me : Seat O P C R) (i : ℕ) (c : Caller O P C R) → has me.0.main.cpu me.0.main.owned ≡ true → holding me.0.main.stage ≡ true → me.0.others ≡ c ∷ [] → has c.cpu c.owned ≡ true → holding c.stage ≡ true
+      → Allows Rule slots id me i (λ k. k) (clashes (step slots i 0 0 none) me)
+  clashing slots id me i c acts holds is c_acts c_holds s r len there small =
+      let b = r.state in
+      let v : V = me.0 in
+      let mine = r.each id v there in
+      let k = (subst (λ (l : List (Caller O P C R)). EachFrom (K b id) 1 l) is mine.others).0 in
+      let one = mine.main.owns v.main.cpu acts in
+      let two = k.owns c.cpu c_acts in
+      let same : v.main.cpu ≡ c.cpu = one_holds kind h.numbers b.lock r.tied.state v.main.cpu c.cpu one.1 two.1 (ap holding (mine.main.stands acts) ∙ holds) (ap holding (k.stands c_acts) ∙ c_holds) in
+      let both : ◌≡◌ {A = ℕ} 0 1 = ap (λ (z : ℕ × ℕ). z.1) (sym one.0 ∙ (ap b.owner same ∙ two.0)) in
+      absurd (omega arith)

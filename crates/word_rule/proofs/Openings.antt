@@ -9,7 +9,7 @@ use Rattle.event_log.specs.declared.entry.Todo.{Todo}
 use Rattle.word_rule.specs.declared.machine.cell_spec.CellSpec.{CellSpec}
 use Rattle.word_rule.specs.declared.machine.lock_words.LockWords.{LockWords}
 use Rattle.word_rule.specs.declared.machine.progress.Progress.{Progress}
-use Rattle.word_rule.specs.LockWords.{RepresentsLock}
+use Rattle.word_rule.specs.LockStates.{RepresentsLock}
 use Rattle.word_rule.specs.Opening.{opening_cell, opening_cpu, opening_world, IsOpening, IsOpeningCell}
 use Rattle.word_rule.specs.Shown.{MachineParts, RepresentsCell, ShowsCpu, Represents, Runs, IsRoomy, FreshCpu, FreshDone, FreshLock, FreshLocks}
 use Rattle.word_rule.specs.Sound.{LogIsSound, done_on, steps_by, NoneAfterFull}

@@ -1,5 +1,5 @@
 -- Where a caller stands at a cell, and what each kind of step does with it.
-use Rattle.std.specs.Prelude.{◌≡◌, List, Option, Some, None}
+use Rattle.std.specs.Prelude.{◌≡◌, ℕ, ◌<◌, false, List, Option, Some, None}
 use Rattle.event_log.specs.declared.object.SeqObject.{Ghosts}
 use Rattle.event_log.specs.declared.event.Event.{Event}
 use Rattle.event_log.specs.History.{History}
@@ -12,6 +12,12 @@ pub record CallerState (O P C R : Type 0) : Type 0 where
   pub stage : Stage
   pub seen : List (Event O P C R)
   pub has : Option (History O P C R)
+
+module _ {O P C R : Type 0} where
+  -- p is a CPU of the caller's cell, and none of its own numbers
+  pub record IsOther (caller : Caller O P C R) (p : ℕ) : Type 0 where
+    pub other : caller.owned p ≡ false
+    pub inside : p < caller.cell.numbers
 
 module _ {O P C R : Type 0} (meaning : Ghosts O P C R) where
   -- the caller goes from p to q, and may see more; who has the object stays, and what is stored

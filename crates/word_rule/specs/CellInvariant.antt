@@ -1,5 +1,4 @@
--- The rule of a cell's table, over what ties the lock's words to its line: what is true at all times of the words, the
--- object and all callers.
+-- The rule of a cell's table: what is true at all times of the words, the object and all callers.
 use Rattle.std.specs.Prelude.{◌≡◌, ◌≢◌, ℕ, ◌+◌, ◌<◌, true, false, List, [], ◌∷◌, Option, Some}
 use mathlib.Core.Option.{some}
 use lib.ListN.{get_elem?}
@@ -8,16 +7,19 @@ use Rattle.event_log.specs.declared.object.SeqObject.{Ghosts}
 use Rattle.event_log.specs.declared.event.Event.{Event}
 use Rattle.event_log.specs.Distinct.{has}
 use Rattle.event_log.specs.History.{History}
+use Rattle.word_rule.specs.declared.lock_kind.LockKind.{LockKind}
 use Rattle.word_rule.specs.declared.stage.Stage.TheVariants.{Idle}
 use Rattle.word_rule.specs.declared.view.Seated.{Seated}
 use Rattle.word_rule.specs.declared.view.View.{View}
 use Rattle.word_rule.specs.Cell.{Cell, Grows, Lawful, stored}
-use Rattle.word_rule.specs.Line.{Line, holding}
+use Rattle.word_rule.specs.Line.{holding}
+use Rattle.word_rule.specs.Locks.{Lock}
+use Rattle.word_rule.specs.LockStates.{IsLockOf}
 
--- the committed log, the line, and whose each CPU number is: a seat, and a place among the seat's callers
+-- the committed log, the lock that the words are of, and whose each CPU number is: a seat, and a place among its callers
 pub record GhostState (O P C R : Type 0) : Type 0 where
   pub committed : List (Event O P C R)
-  pub line : Line
+  pub lock : Lock
   pub owner : ℕ → ℕ × ℕ
 
 -- P holds of each element, with its place from k on
@@ -42,9 +44,9 @@ module _ {O P C R : Type 0} (n : ℕ) (b : GhostState O P C R) where
   pub record CallerInvariant (j k : ℕ) (c : Caller O P C R) : Type 0 where
     pub owns : (x : ℕ) → has x c.owned ≡ true → (b.owner x ≡ (j, k)) × (x < n)
     pub grows : Grows (λ x. has x c.owned) c.seen b.committed
-    pub stands : has c.cpu c.owned ≡ true → b.line.stage c.cpu ≡ c.stage
+    pub stands : has c.cpu c.owned ≡ true → b.lock.line.stage c.cpu ≡ c.stage
     pub whole : has c.cpu c.owned ≡ true → holding c.stage ≡ true → c.seen ≡ b.committed
-    pub rests : (x : ℕ) → has x c.owned ≡ true → x ≢ c.cpu → b.line.stage x ≡ Idle
+    pub rests : (x : ℕ) → has x c.owned ≡ true → x ≢ c.cpu → b.lock.line.stage x ≡ Idle
 
 module _ {O P C R : Type 0} (h : Cell O P C R) (b : GhostState O P C R) where
   -- what the rule says of a seat
@@ -53,10 +55,10 @@ module _ {O P C R : Type 0} (h : Cell O P C R) (b : GhostState O P C R) where
     pub main : CallerInvariant h.numbers b j 0 v.main
     pub others : EachFrom (CallerInvariant h.numbers b j) 1 v.others
 
--- the rule: at home the object is the replay of the committed log
-pub record CellInvariant {O P C R : Type 0} (meaning : Ghosts O P C R) (IsTied : ℕ → List ℕ → Line → Type 0) (h : Cell O P C R) (s : Table O P C R) : Type 0 where
+-- the rule, for such a lock: the words are those of a state of it, and at home the object is the replay of the committed log
+pub record CellInvariant {O P C R : Type 0} (meaning : Ghosts O P C R) (kind : LockKind) (h : Cell O P C R) (s : Table O P C R) : Type 0 where
   pub state : GhostState O P C R
-  pub tied : IsTied h.numbers s.words state.line
+  pub tied : IsLockOf kind h.numbers s.words state.lock
   pub lawful : Lawful meaning h state.committed
-  pub at_home : state.line.out ≡ false → get_elem? s.homes 0 ≡ some (some (Some (stored meaning h state.committed)))
+  pub at_home : state.lock.line.out ≡ false → get_elem? s.homes 0 ≡ some (some (Some (stored meaning h state.committed)))
   pub each : (j : ℕ) (v : Viewed O P C R) → get_elem? s.views j ≡ some v → SeatInvariant h state j v

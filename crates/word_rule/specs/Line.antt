@@ -1,10 +1,11 @@
 -- The line of CPUs at a lock, whichever lock it is.
-use Rattle.std.specs.Prelude.{◌≡◌, ℕ, ◌<◌, Bool, true, false, ◌==◌, cond, List, [], ◌∷◌}
-use Rattle.event_log.specs.Distinct.{has}
+use Rattle.std.specs.Prelude.{ℕ, Bool, true, false, ◌==◌, cond, List, [], ◌∷◌}
 use Rattle.word_rule.specs.declared.lock_kind.LockKind.{LockKind}
 use Rattle.word_rule.specs.declared.lock_kind.LockKind.TheVariants as kinds
 use Rattle.word_rule.specs.declared.stage.Stage.{Stage}
-use Rattle.word_rule.specs.declared.stage.Stage.TheVariants.{Idle, Drawn, Served, Ready, Behind, Armed, Waiting, Holding, Alone, Leaving, Passing, Torn}
+use Rattle.word_rule.specs.declared.stage.Stage.TheVariants.{Idle, Ticket, Mcs, Torn}
+use Rattle.word_rule.specs.declared.stage.TicketStage.TheVariants.{Drawn, Served}
+use Rattle.word_rule.specs.declared.stage.McsStage.TheVariants.{Ready, Behind, Armed, Waiting, Holding, Alone, Leaving, Passing}
 
 -- the CPUs in line, whether the object is out with the first of them, and where each CPU stands
 pub record Line : Type 0 where
@@ -32,34 +33,20 @@ is_first x (y ∷ ys) = y == x
 -- whether a caller that stands there has the object
 abbrev pub holding : Stage → Bool
 holding Idle = false
-holding (Drawn t) = false
-holding (Served t) = true
-holding Ready = false
-holding (Behind p) = false
-holding (Armed p) = false
-holding Waiting = false
-holding Holding = true
-holding Alone = true
-holding Leaving = true
-holding (Passing j) = true
+holding (Ticket (Drawn t)) = false
+holding (Ticket (Served t)) = true
+holding (Mcs Ready) = false
+holding (Mcs (Behind p)) = false
+holding (Mcs (Armed p)) = false
+holding (Mcs Waiting) = false
+holding (Mcs Holding) = true
+holding (Mcs Alone) = true
+holding (Mcs Leaving) = true
+holding (Mcs (Passing j)) = true
 holding Torn = true
 
 -- whether one that stands there can lend the object to its caller, at such a lock
 abbrev pub lends : LockKind → Stage → Bool
-lends kinds.Ticket (Served t) = true
-lends kinds.Ticket q = false
-lends kinds.Mcs Holding = true
-lends kinds.Mcs q = false
-
--- what every lock promises of the rule that ties its words to its line, for n CPUs
-pub record TieLaws (IsTied : ℕ → List ℕ → Line → Type 0) : Type 0 where
-  -- there is one holder
-  pub single : (n : ℕ) (ws : List ℕ) (l : Line) → IsTied n ws l → (x y : ℕ) → x < n → y < n → holding (l.stage x) ≡ true → holding (l.stage y) ≡ true → x ≡ y
-  -- who holds has the object
-  pub away : (n : ℕ) (ws : List ℕ) (l : Line) → IsTied n ws l → (x : ℕ) → x < n → holding (l.stage x) ≡ true → l.out ≡ true
-  -- only the cell's CPUs are in line
-  pub inside : (n : ℕ) (ws : List ℕ) (l : Line) → IsTied n ws l → (x : ℕ) → has x l.cpus ≡ true → x < n
-  -- who is idle isn't in line
-  pub apart : (n : ℕ) (ws : List ℕ) (l : Line) → IsTied n ws l → (x : ℕ) → x < n → l.stage x ≡ Idle → has x l.cpus ≡ false
-  -- where all are idle the object is at home
-  pub over : (n : ℕ) (ws : List ℕ) (l : Line) → IsTied n ws l → ((x : ℕ) → x < n → l.stage x ≡ Idle) → l.out ≡ false
+lends kinds.Ticket (Ticket (Served t)) = true
+lends kinds.Mcs (Mcs Holding) = true
+lends k q = false

@@ -2,9 +2,9 @@
 use Rattle.std.specs.Prelude.{ℕ, ◌%◌, ◌^◌, Bool, true, false, ◌==◌, cond, List, [], ◌∷◌, ◌++◌, Option, Some, None}
 use Rattle.word_rule.specs.declared.lock_kind.LockKind.{LockKind}
 use Rattle.word_rule.specs.declared.stage.Stage.{Stage}
-use Rattle.word_rule.specs.declared.stage.Stage.TheVariants.{Idle}
+use Rattle.word_rule.specs.declared.stage.Stage.TheVariants.{Idle, Mcs}
+use Rattle.word_rule.specs.declared.stage.McsStage.TheVariants.{Waiting}
 use Rattle.word_rule.specs.Line.{Line, lined, empty_line}
-use Rattle.word_rule.specs.Queues.{is_linked}
 
 -- the line; of a ticket lock the ticket that is served; of an MCS lock the CPU that each CPU's `next` names
 pub record Lock : Type 0 where
@@ -65,6 +65,11 @@ leaving l i = lined (behind l.cpus) false l.stage i Idle
 -- the `next` of p names this now
 abbrev pub naming : (ℕ → Option ℕ) → ℕ → Option ℕ → ℕ → Option ℕ
 naming next p named k = cond (k == p) named (next k)
+
+-- whether one that stands there has linked itself, and hasn't had the object since
+abbrev pub is_linked : Stage → Bool
+is_linked (Mcs Waiting) = true
+is_linked q = false
 
 -- the one that is named, if it has linked itself
 abbrev pub if_linked : Line → Option ℕ → Option ℕ

@@ -9,7 +9,7 @@ use Rattle.word_rule.specs.declared.machine.cell_spec.CellSpec.{CellSpec}
 use Rattle.word_rule.specs.declared.machine.lock_words.LockWords.{LockWords}
 use Rattle.word_rule.specs.declared.machine.progress.Progress.{Progress}
 use Rattle.word_rule.specs.Locks.{opening_lock}
-use Rattle.word_rule.specs.LockWords.{RepresentsLock}
+use Rattle.word_rule.specs.LockStates.{RepresentsLock}
 use Rattle.word_rule.specs.Sound.{Opened}
 use Rattle.word_rule.specs.SoundWorld.{SoundWorld}
 use Rattle.word_rule.specs.World.{World, CellState, CpuState}

@@ -3,7 +3,9 @@ use Rattle.std.specs.Prelude.{ℕ, ◌+◌, ◌%◌, Bool, true, false, if◌the
 use Rattle.word_rule.specs.declared.lock_kind.LockKind.{LockKind}
 use Rattle.word_rule.specs.declared.lock_kind.LockKind.TheVariants as kinds
 use Rattle.word_rule.specs.declared.stage.Stage.{Stage}
-use Rattle.word_rule.specs.declared.stage.Stage.TheVariants as stages
+use Rattle.word_rule.specs.declared.stage.Stage.TheVariants.{Idle, Ticket, Mcs}
+use Rattle.word_rule.specs.declared.stage.TicketStage.TheVariants.{Drawn, Served}
+use Rattle.word_rule.specs.declared.stage.McsStage.TheVariants.{Ready, Behind, Armed, Waiting, Holding, Alone, Leaving, Passing}
 use Rattle.word_rule.specs.declared.machine.step_done.StepDone.{StepDone}
 use Rattle.word_rule.specs.declared.machine.step_done.StepDone.TheVariants as steps
 use Rattle.word_rule.specs.Line.{lined, is_first}
@@ -11,7 +13,7 @@ use Rattle.word_rule.specs.Locks.{Lock, tickets, last, is_named, going, joining,
 
 -- i joins the end of the line, with the ticket that comes after those in line
 abbrev pub draw : Lock → ℕ → Lock
-draw l i = record l { line = joining l.line i (stages.Drawn ((l.serving + length l.line.cpus) % tickets)) }
+draw l i = record l { line = joining l.line i (Ticket (Drawn ((l.serving + length l.line.cpus) % tickets))) }
 
 -- the first of the line gets the object, and nobody else
 abbrev pub look : Lock → ℕ → Stage → Lock × StepDone
@@ -23,35 +25,35 @@ serve l i = record l { line = leaving l.line i; serving = (l.serving + 1) % tick
 
 -- a ticket lock's next step
 abbrev pub ticket_turn : Lock → ℕ → Stage → Lock × StepDone
-ticket_turn l i stages.Idle = (draw l i, steps.Draw)
-ticket_turn l i (stages.Drawn t) = look l i (stages.Served t)
-ticket_turn l i (stages.Served t) = (serve l i, steps.Serve)
+ticket_turn l i Idle = (draw l i, steps.Draw)
+ticket_turn l i (Ticket (Drawn t)) = look l i (Ticket (Served t))
+ticket_turn l i (Ticket (Served t)) = (serve l i, steps.Serve)
 ticket_turn l i _ = (l, steps.Idle)
 
 -- the `next` of i becomes empty
 abbrev pub clear : Lock → ℕ → Lock
-clear l i = record l { line = going l.line i stages.Ready; next = naming l.next i None }
+clear l i = record l { line = going l.line i (Mcs Ready); next = naming l.next i None }
 
 -- i joins the queue. With nobody there it gets the object, else it is behind the old last
 abbrev pub enter : Lock → ℕ → Option ℕ → Lock × StepDone
-enter l i None = (record l { line = lined (i ∷ []) true l.line.stage i stages.Holding }, steps.Enter true)
-enter l i (Some p) = (record l { line = joining l.line i (stages.Behind p) }, steps.Enter false)
+enter l i None = (record l { line = lined (i ∷ []) true l.line.stage i (Mcs Holding) }, steps.Enter true)
+enter l i (Some p) = (record l { line = joining l.line i (Mcs (Behind p)) }, steps.Enter false)
 
 abbrev pub arm : Lock → ℕ → ℕ → Lock
-arm l i p = record l { line = going l.line i (stages.Armed p) }
+arm l i p = record l { line = going l.line i (Mcs (Armed p)) }
 
 -- the `next` of p names i
 abbrev pub link : Lock → ℕ → ℕ → Lock
-link l i p = record l { line = going l.line i stages.Waiting; next = naming l.next p (Some i) }
+link l i p = record l { line = going l.line i (Mcs Waiting); next = naming l.next p (Some i) }
 
 -- the holder's follower, if there is one that has linked itself. With none the holder stands elsewhere
 abbrev pub see : Lock → ℕ → Stage → Option ℕ → Lock × StepDone
 see l i otherwise None = (record l { line = going l.line i otherwise }, steps.See false)
-see l i otherwise (Some j) = (record l { line = going l.line i (stages.Passing j) }, steps.See true)
+see l i otherwise (Some j) = (record l { line = going l.line i (Mcs (Passing j)) }, steps.See true)
 
 -- the last of the queue leaves it empty, and the object is at home; another knows that it has a follower
 abbrev pub empty : Lock → ℕ → Lock × StepDone
-empty l i = if is_named i (last l.line.cpus) then (record l { line = leaving l.line i }, steps.Empty true) else (record l { line = going l.line i stages.Leaving }, steps.Empty false)
+empty l i = if is_named i (last l.line.cpus) then (record l { line = leaving l.line i }, steps.Empty true) else (record l { line = going l.line i (Mcs Leaving) }, steps.Empty false)
 
 -- the object is at home, and i leaves the queue
 abbrev pub pass : Lock → ℕ → Lock
@@ -59,15 +61,15 @@ pass l i = record l { line = leaving l.line i }
 
 -- an MCS lock's next step (Mellor-Crummey and Scott 1991)
 abbrev pub mcs_turn : Lock → ℕ → Stage → Lock × StepDone
-mcs_turn l i stages.Idle = (clear l i, steps.Clear)
-mcs_turn l i stages.Ready = enter l i (last l.line.cpus)
-mcs_turn l i (stages.Behind p) = (arm l i p, steps.Arm)
-mcs_turn l i (stages.Armed p) = (link l i p, steps.Link)
-mcs_turn l i stages.Waiting = look l i stages.Holding
-mcs_turn l i stages.Holding = see l i stages.Alone (follower l.line)
-mcs_turn l i stages.Alone = empty l i
-mcs_turn l i stages.Leaving = see l i stages.Leaving (follower l.line)
-mcs_turn l i (stages.Passing j) = (pass l i, steps.Pass)
+mcs_turn l i Idle = (clear l i, steps.Clear)
+mcs_turn l i (Mcs Ready) = enter l i (last l.line.cpus)
+mcs_turn l i (Mcs (Behind p)) = (arm l i p, steps.Arm)
+mcs_turn l i (Mcs (Armed p)) = (link l i p, steps.Link)
+mcs_turn l i (Mcs Waiting) = look l i (Mcs Holding)
+mcs_turn l i (Mcs Holding) = see l i (Mcs Alone) (follower l.line)
+mcs_turn l i (Mcs Alone) = empty l i
+mcs_turn l i (Mcs Leaving) = see l i (Mcs Leaving) (follower l.line)
+mcs_turn l i (Mcs (Passing j)) = (pass l i, steps.Pass)
 mcs_turn l i _ = (l, steps.Idle)
 
 abbrev pub turn_of : LockKind → Lock → ℕ → Lock × StepDone

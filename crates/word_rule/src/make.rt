@@ -1,9 +1,9 @@
 //! The opening of a cell and its end, whichever lock it has.
 
-ghost use Rattle.std.specs.Prelude.{◌≡◌, ◌<◌, ◌≤◌, [], length, IfOk, IfErr, vec_len, vec_capacity};
+ghost use Rattle.std.specs.Prelude.{◌≡◌, ℕ, ◌<◌, ◌≤◌, [], length, IfOk, IfErr, vec_len, vec_capacity};
 ghost use Rattle.word_rule.specs.Cell.{Lawful, EachAt, OwnsAll, cell_of, opening_pass, first_pass, stored};
-ghost use Rattle.word_rule.specs.Definition.{Defined};
-ghost use Rattle.word_rule.specs.Line.{empty_line};
+ghost use Rattle.word_rule.specs.Locks.{opening_lock};
+ghost use Rattle.word_rule.specs.LockStates.{IsLockOf};
 ghost use Rattle.word_rule.specs.Passes.{IsPassAt, view_of_pass};
 ghost use Rattle.word_rule.specs.Seats.{first_view};
 
@@ -25,7 +25,7 @@ impl<O: SeqObject> LockTable<O> {
         cpus: u8,
     ) -> Result<(LockTable<O>, Vec<Pass<O>>), (OutOfMemory, Logged<O>)>
         requires some { 0 < length words.now }
-        requires defined { Defined kind cpus words.now empty_line }
+        requires defined { (first : ℕ) × IsLockOf kind cpus words.now (opening_lock kind first) }
         ensures key { IfOk result (λ r. r.0.table.shared.key ≡ cell_of kind cpus logged) }
         ensures words { IfOk result (λ r. r.0.table.shared.table_id.words ≡ length words.now) }
         ensures count { IfOk result (λ r. vec_len r.1 ≡ cpus) }

@@ -6,11 +6,28 @@
 pub enum Stage {
     /// It isn't in line.
     Idle,
-    /// It is in a ticket lock's line, with this ticket.
+    /// It is at a ticket lock.
+    Ticket(TicketStage),
+    /// It is at an MCS lock.
+    Mcs(McsStage),
+    /// It is the holder still, but its slot went back. No caller of the public surface stands here: the proof that two
+    /// holds of one cell can't be leads one here on the way.
+    Torn,
+}
+
+/// Where a caller stands at a ticket lock.
+#[derive(Clone, Copy, Debug, PartialEq, Eq, Drop)]
+pub enum TicketStage {
+    /// It is in line, with this ticket.
     Drawn(u64),
     /// It has the object, by this ticket.
     Served(u64),
-    /// It has cleared its `next` word, and isn't in an MCS lock's queue yet.
+}
+
+/// Where a caller stands at an MCS lock.
+#[derive(Clone, Copy, Debug, PartialEq, Eq, Drop)]
+pub enum McsStage {
+    /// It has cleared its `next` word, and isn't in the queue yet.
     Ready,
     /// It is in the queue behind this CPU.
     Behind(u8),
@@ -26,7 +43,4 @@ pub enum Stage {
     Leaving,
     /// The same, and it has seen this CPU behind it.
     Passing(u8),
-    /// It is the holder still, but its slot went back. No caller of the public surface stands here: the proof that two
-    /// holds of one cell can't be leads one here on the way.
-    Torn,
 }

@@ -2,7 +2,7 @@
 
 ghost use Rattle.std.specs.Prelude.{◌≡◌, ◌<◌, ◌≤◌, vec_len, IfOk};
 ghost use Rattle.word_rule.specs.Locks.{Lock, opening_lock};
-ghost use Rattle.word_rule.specs.LockWords.{RepresentsLock, IsLockOf};
+ghost use Rattle.word_rule.specs.LockStates.{RepresentsLock, IsLockOf};
 ghost use Rattle.word_rule.specs.Turns.{turn};
 
 use crate::machine::mcs::turn_mcs;

@@ -1,13 +1,13 @@
 //! An MCS lock's steps, each on one word (Mellor-Crummey and Scott 1991). With n CPUs word 0 is the tail, word 1 + i the
 //! `next` of CPU i, and word 1 + n + i its `locked`. A tail or a `next` is 0, or j + 1 where it names CPU j.
 
-ghost use Rattle.std.specs.Prelude.{◌≡◌, ℕ, ◌+◌, ◌<◌, ◌≤◌, true, false, length};
+ghost use Rattle.std.specs.Prelude.{◌≡◌, ℕ, ◌+◌, ◌<◌, ◌≤◌, true, false, length, slice_index_or};
 ghost use Rattle.word_rule.specs.Locks.{Lock};
-ghost use Rattle.word_rule.specs.LockWords.{RepresentsLock};
+ghost use Rattle.word_rule.specs.LockStates.{RepresentsLock};
 ghost use Rattle.word_rule.specs.Turns.{turn};
 
 use crate::machine::step_done::StepDone;
-use crate::{LockKind, Stage};
+use crate::{LockKind, McsStage, Stage};
 
 /// The next step of a CPU.
 pub fn turn_mcs(words: &mut [u64], stages: &mut [Stage], cpu: u8) -> StepDone
@@ -17,73 +17,92 @@ pub fn turn_mcs(words: &mut [u64], stages: &mut [Stage], cpu: u8) -> StepDone
     ensures done { (l : Lock) → RepresentsLock (length stages.old) LockKind.Mcs words.old stages.old l → result ≡ (turn l cpu).1 }
     ensures shows { (l : Lock) → RepresentsLock (length stages.old) LockKind.Mcs words.old stages.old l → RepresentsLock (length stages.old) LockKind.Mcs words.new stages.new (turn l cpu).0 }
 {
-    let n = stages.len();
     let i = cpu as usize;
-    let me = cpu as u64 + 1;
     match stages[i] {
         Stage::Idle => {
             words[1 + i] = 0;
-            stages[i] = Stage::Ready;
+            stages[i] = Stage::Mcs(McsStage::Ready);
             StepDone::Clear
         }
-        Stage::Ready => {
+        Stage::Mcs(stage) => turn_in_queue(words, stages, cpu, stage),
+        _ => StepDone::Idle,
+    }
+}
+
+/// The next step of a CPU that has begun.
+fn turn_in_queue(
+    words: &mut [u64],
+    stages: &mut [Stage],
+    cpu: u8,
+    stage: McsStage,
+) -> StepDone
+    requires shows { (l : Lock) × RepresentsLock (length stages.old) LockKind.Mcs words.old stages.old l }
+    requires exists { cpu < length stages.old }
+    requires few { length stages.old ≤ 8 }
+    requires stands { slice_index_or stages.old cpu Stage.Idle ≡ Stage.Mcs stage }
+    ensures done { (l : Lock) → RepresentsLock (length stages.old) LockKind.Mcs words.old stages.old l → result ≡ (turn l cpu).1 }
+    ensures shows { (l : Lock) → RepresentsLock (length stages.old) LockKind.Mcs words.old stages.old l → RepresentsLock (length stages.old) LockKind.Mcs words.new stages.new (turn l cpu).0 }
+{
+    let n = stages.len();
+    let i = cpu as usize;
+    let me = cpu as u64 + 1;
+    match stage {
+        McsStage::Ready => {
             let old = words[0];
             words[0] = me;
             if old == 0 {
-                stages[i] = Stage::Holding;
-                StepDone::Enter(true)
-            } else {
-                stages[i] = Stage::Behind((old - 1) as u8);
-                StepDone::Enter(false)
+                stages[i] = Stage::Mcs(McsStage::Holding);
+                return StepDone::Enter(true);
             }
+            stages[i] = Stage::Mcs(McsStage::Behind((old - 1) as u8));
+            StepDone::Enter(false)
         }
-        Stage::Behind(ahead) => {
+        McsStage::Behind(ahead) => {
             words[1 + n + i] = 1;
-            stages[i] = Stage::Armed(ahead);
+            stages[i] = Stage::Mcs(McsStage::Armed(ahead));
             StepDone::Arm
         }
-        Stage::Armed(ahead) => {
+        McsStage::Armed(ahead) => {
             words[1 + ahead as usize] = me;
-            stages[i] = Stage::Waiting;
+            stages[i] = Stage::Mcs(McsStage::Waiting);
             StepDone::Link
         }
-        Stage::Waiting => {
+        McsStage::Waiting => {
             if words[1 + n + i] != 0 {
                 return StepDone::Look(false);
             }
-            stages[i] = Stage::Holding;
+            stages[i] = Stage::Mcs(McsStage::Holding);
             StepDone::Look(true)
         }
-        Stage::Holding => see(words[1 + i], Stage::Alone, &mut stages[i]),
-        Stage::Alone => {
+        McsStage::Holding => see(words[1 + i], McsStage::Alone, &mut stages[i]),
+        McsStage::Alone => {
             if words[0] != me {
-                stages[i] = Stage::Leaving;
+                stages[i] = Stage::Mcs(McsStage::Leaving);
                 return StepDone::Empty(false);
             }
             words[0] = 0;
             stages[i] = Stage::Idle;
             StepDone::Empty(true)
         }
-        Stage::Leaving => see(words[1 + i], Stage::Leaving, &mut stages[i]),
-        Stage::Passing(behind) => {
+        McsStage::Leaving => see(words[1 + i], McsStage::Leaving, &mut stages[i]),
+        McsStage::Passing(behind) => {
             words[1 + n + behind as usize] = 0;
             stages[i] = Stage::Idle;
             StepDone::Pass
         }
-        _ => StepDone::Idle,
     }
 }
 
 /// What a holder sees in its `next`: its follower, to which it will pass, or nobody.
-fn see(next: u64, otherwise: Stage, stage: &mut Stage) -> StepDone
+fn see(next: u64, otherwise: McsStage, stage: &mut Stage) -> StepDone
     requires { next ≤ 8 }
-    ensures none { next ≡ 0 → (result ≡ StepDone.See false) × (stage.new ≡ otherwise) }
-    ensures one { (j : ℕ) → next ≡ j + 1 → (result ≡ StepDone.See true) × (stage.new ≡ Stage.Passing j) }
+    ensures none { next ≡ 0 → (result ≡ StepDone.See false) × (stage.new ≡ Stage.Mcs otherwise) }
+    ensures one { (j : ℕ) → next ≡ j + 1 → (result ≡ StepDone.See true) × (stage.new ≡ Stage.Mcs (McsStage.Passing j)) }
 {
     if next == 0 {
-        *stage = otherwise;
+        *stage = Stage::Mcs(otherwise);
         return StepDone::See(false);
     }
-    *stage = Stage::Passing((next - 1) as u8);
+    *stage = Stage::Mcs(McsStage::Passing((next - 1) as u8));
     StepDone::See(true)
 }

@@ -1,5 +1,6 @@
 use Rattle.std.proofs.Common.{subst, arith}
-use Rattle.word_rule.specs.declared.stage.Stage.TheVariants.{Behind}
+use Rattle.word_rule.specs.declared.stage.Stage.TheVariants.{Mcs}
+use Rattle.word_rule.specs.declared.stage.McsStage.TheVariants.{Behind}
 use Rattle.word_rule.specs.Callers.{IsWithout}
 use Rattle.word_rule.proofs.Acting.{moves_without}
 use Rattle.mcs_lock.proofs.McsActing.{arm_now, below_without}
@@ -7,8 +8,8 @@ use Rattle.mcs_lock.proofs.cell.McsCell.arm.Goals as goal
 
 pub store-requires : goal.store-requires
 store-requires g c = let s = c.args.self.now in let a = c.args.behind in let key = s.table.table.shared.key in let words = s.sized.0 in
-    let w = subst (λ k. IsWithout g.O.SeqObject k a.cpu (Behind a.ahead) a.seat.me) c.requires.told a.behind in
-    let below = below_without g.O.SeqObject key s.cpus a.cpu (Behind a.ahead) a.seat.me s.sized.1 w in
+    let w = subst (λ k. IsWithout g.O.SeqObject k a.cpu (Mcs (Behind a.ahead)) a.seat.me) c.requires.told a.behind in
+    let below = below_without g.O.SeqObject key s.cpus a.cpu (Mcs (Behind a.ahead)) a.seat.me s.sized.1 w in
     (g.met.O.SeqObject.event_fits, (c.requires.table, omega arith, arm_now g.O.SeqObject key _ _ a.cpu c.args.self.now.kind s.cpus a.ahead a.seat.me s.sized.1 w))
 
 pub returns-clause-step : goal.returns-clause-step

@@ -1,6 +1,7 @@
 use Rattle.std.proofs.Common.{rules, ◌∷◌, refl, sym, ap, subst, ◌∙◌, arith, Some, None}
 use Rattle.atomic_table.specs.Table.{rest}
-use Rattle.word_rule.specs.declared.stage.Stage.TheVariants.{Alone, Leaving}
+use Rattle.word_rule.specs.declared.stage.Stage.TheVariants.{Mcs}
+use Rattle.word_rule.specs.declared.stage.McsStage.TheVariants.{Alone, Leaving}
 use Rattle.word_rule.specs.CallerState.{Moves}
 use Rattle.word_rule.specs.Announced.{Lacks}
 use Rattle.word_rule.specs.Callers.{state_with, IsWith}
@@ -15,7 +16,7 @@ put_back-requires g c = let k = c.args.alone.alone.at.carries in (g.met.O.SeqObj
 
 pub compare_exchange-found-requires : goal.compare_exchange-found-requires
 compare_exchange-found-requires g c = let s = c.args.self.now in let a = c.args.alone in let words = s.sized.0 in
-    (g.met.O.SeqObject.event_fits, (search rules, omega arith, empty_now g.O.SeqObject s.table.table.shared.key _ _ a.cpu c.args.self.now.kind a.logged a.seat.me c.put_back.new.seat.me (subst (λ k. IsWith g.O.SeqObject k a.cpu Alone a.logged a.seat.me) c.requires.told a.alone) s.table.sized c.put_back.ensures.2))
+    (g.met.O.SeqObject.event_fits, (search rules, omega arith, empty_now g.O.SeqObject s.table.table.shared.key _ _ a.cpu c.args.self.now.kind a.logged a.seat.me c.put_back.new.seat.me (subst (λ k. IsWith g.O.SeqObject k a.cpu (Mcs Alone) a.logged a.seat.me) c.requires.told a.alone) s.table.sized c.put_back.ensures.2))
 
 pub invariant_of-result : goal.invariant_of-result
 invariant_of-result g c = let a = c.args.alone in
@@ -32,16 +33,16 @@ take-logged-requires g c = let a = c.args.alone in let t = c.compare_exchange-fo
 
 pub invariant_of-result-else-found-last : goal.invariant_of-result-else-found-last
 invariant_of-result-else-found-last g c = let a = c.args.alone in let y = c.take-logged.result.0 in let t = c.compare_exchange-found.ensures.2.miss c.if-found-last.false in let e = c.take-logged.ensures in
-    let back = came_back g.O.SeqObject Leaving a.seat.me c.put_back.new.seat.me c.compare_exchange-found.new.seat.me c.take-logged.new.seat.me a.logged y (Some y) a.alone.at.carries c.put_back.ensures.2 t.seat e.2 e.3 refl in
-    record { leaves = subst (λ z. IsWith g.O.SeqObject a.key.value a.cpu Leaving z c.take-logged.new.seat.me) back.1 (goes_with g.O.SeqObject a.key.value a.cpu _ _ a.logged a.seat.me c.take-logged.new.seat.me a.alone back.0) }
+    let back = came_back g.O.SeqObject (Mcs Leaving) a.seat.me c.put_back.new.seat.me c.compare_exchange-found.new.seat.me c.take-logged.new.seat.me a.logged y (Some y) a.alone.at.carries c.put_back.ensures.2 t.seat e.2 e.3 refl in
+    record { leaves = subst (λ z. IsWith g.O.SeqObject a.key.value a.cpu (Mcs Leaving) z c.take-logged.new.seat.me) back.1 (goes_with g.O.SeqObject a.key.value a.cpu _ _ a.logged a.seat.me c.take-logged.new.seat.me a.alone back.0) }
 
 pub returns-else-found-last-clause-missed : goal.returns-else-found-last-clause-missed
 returns-else-found-last-clause-missed g c = let a = c.args.alone in let y = c.take-logged.result.0 in let told = c.compare_exchange-found.ensures.2 in let t = told.miss c.if-found-last.false in let e = c.take-logged.ensures in let filled = c.put_back.ensures.2 in
-    let back = came_back g.O.SeqObject Leaving a.seat.me c.put_back.new.seat.me c.compare_exchange-found.new.seat.me c.take-logged.new.seat.me a.logged y (Some y) a.alone.at.carries filled t.seat e.2 e.3 refl in
+    let back = came_back g.O.SeqObject (Mcs Leaving) a.seat.me c.put_back.new.seat.me c.compare_exchange-found.new.seat.me c.take-logged.new.seat.me a.logged y (Some y) a.alone.at.carries filled t.seat e.2 e.3 refl in
     let lawful = subst (λ z. SawLawful g.O.SeqObject z.0) filled told.lawful a.key.value a.alone.at.told in (
       search rules,
       record {
-        made = subst (λ z. Moves g.O.SeqObject Alone Leaving (state_of_alone a) (state_with a.key.value Leaving z c.take-logged.new.seat.me)) back.1 (moves_with g.O.SeqObject a.key.value Alone Leaving a.logged a.seat.me c.take-logged.new.seat.me lawful back.0);
+        made = subst (λ z. Moves g.O.SeqObject (Mcs Alone) (Mcs Leaving) (state_of_alone a) (state_with a.key.value (Mcs Leaving) z c.take-logged.new.seat.me)) back.1 (moves_with g.O.SeqObject a.key.value (Mcs Alone) (Mcs Leaving) a.logged a.seat.me c.take-logged.new.seat.me lawful back.0);
         another = not_all g.O.SeqObject a.key.value a.seat.me a.alone.at.told (subst (λ z. Lacks z.0) filled t.lacks);
       },
     )

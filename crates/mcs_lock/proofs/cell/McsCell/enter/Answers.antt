@@ -1,6 +1,7 @@
 use Rattle.std.proofs.Common.{rules, ◌≡◌, true, refl, ℕ, ◌-◌, ◌∷◌, sym, ap, subst, ◌∙◌, arith, Some}
 use Rattle.atomic_table.specs.Table.{rest}
-use Rattle.word_rule.specs.declared.stage.Stage.TheVariants.{Ready, Behind, Holding}
+use Rattle.word_rule.specs.declared.stage.Stage.TheVariants.{Mcs}
+use Rattle.word_rule.specs.declared.stage.McsStage.TheVariants.{Ready, Behind, Holding}
 use Rattle.word_rule.specs.Line.{lends}
 use Rattle.word_rule.specs.Callers.{IsWithout}
 use Rattle.word_rule.proofs.Acting.{took, takes_from, holds_from, moves_without}
@@ -9,7 +10,7 @@ use Rattle.mcs_lock.proofs.cell.McsCell.enter.Goals as goal
 
 pub swap-found-requires : goal.swap-found-requires
 swap-found-requires g c = let s = c.args.self.now in let a = c.args.ready in let words = s.sized.0 in
-    (g.met.O.SeqObject.event_fits, (c.requires.table, omega arith, enter_now g.O.SeqObject s.table.table.shared.key _ _ a.cpu c.args.self.now.kind a.seat.me (subst (λ k. IsWithout g.O.SeqObject k a.cpu Ready a.seat.me) c.requires.told a.ready)))
+    (g.met.O.SeqObject.event_fits, (c.requires.table, omega arith, enter_now g.O.SeqObject s.table.table.shared.key _ _ a.cpu c.args.self.now.kind a.seat.me (subst (λ k. IsWithout g.O.SeqObject k a.cpu (Mcs Ready) a.seat.me) c.requires.told a.ready)))
 
 pub take-logged-requires : goal.take-logged-requires
 take-logged-requires g c = let t = c.swap-found.ensures.2.first c.if-found-eq0.true in
@@ -17,7 +18,7 @@ take-logged-requires g c = let t = c.swap-found.ensures.2.first c.if-found-eq0.t
 
 pub invariant_of-result : goal.invariant_of-result
 invariant_of-result g c = let a = c.args.ready in let t = c.swap-found.ensures.2.first c.if-found-eq0.true in let y = c.take-logged.result.0 in let e = c.take-logged.ensures in
-    record { holds = holds_from g.O.SeqObject a.key.value a.cpu _ _ y a.seat.me c.take-logged.new.seat.me a.ready (took g.O.SeqObject _ a.seat.me c.swap-found.new.seat.me c.take-logged.new.seat.me (Some y) y t e.2 e.3 refl); there = subst (λ k. lends k Holding ≡ true) (sym (ap (λ k. k.kind) c.requires.told ∙ c.args.self.now.kind)) refl }
+    record { holds = holds_from g.O.SeqObject a.key.value a.cpu _ _ y a.seat.me c.take-logged.new.seat.me a.ready (took g.O.SeqObject _ a.seat.me c.swap-found.new.seat.me c.take-logged.new.seat.me (Some y) y t e.2 e.3 refl); there = subst (λ k. lends k (Mcs Holding) ≡ true) (sym (ap (λ k. k.kind) c.requires.told ∙ c.args.self.now.kind)) refl }
 
 pub returns-then-found-eq0-clause-got : goal.returns-then-found-eq0-clause-got
 returns-then-found-eq0-clause-got g c = let a = c.args.ready in let t = c.swap-found.ensures.2.first c.if-found-eq0.true in let y = c.take-logged.result.0 in let e = c.take-logged.ensures in
@@ -25,13 +26,13 @@ returns-then-found-eq0-clause-got g c = let a = c.args.ready in let t = c.swap-f
 
 pub returns-else-found-eq0-clause-queued : goal.returns-else-found-eq0-clause-queued
 returns-else-found-eq0-clause-queued g c = let a = c.args.ready in let some_one = c.if-found-eq0.false in let k : ℕ = c.swap-found.result - 1 in
-    let t = named Behind c.swap-found.result k a.seat.me c.swap-found.new.seat.me (c.swap-found.ensures.2.behind some_one) (omega arith) in (
+    let t = named (λ p. Mcs (Behind p)) c.swap-found.result k a.seat.me c.swap-found.new.seat.me (c.swap-found.ensures.2.behind some_one) (omega arith) in (
       search rules,
       (
         k,
         t.1.other,
         record {
-          made = moves_without g.O.SeqObject a.key.value a.cpu Ready (Behind k) a.seat.me c.swap-found.new.seat.me a.ready t.0;
+          made = moves_without g.O.SeqObject a.key.value a.cpu (Mcs Ready) (Mcs (Behind k)) a.seat.me c.swap-found.new.seat.me a.ready t.0;
           another = not_else a.key.value a.seat.me k a.ready.at.told t.1;
         },
       ),

@@ -1,6 +1,7 @@
 use Rattle.std.proofs.Common.{rules, ◌≡◌, ℕ, ◌-◌, ◌<◌, true, [], ◌∷◌, sym, ap, subst, ◌∙◌, arith}
 use Rattle.event_log.specs.Distinct.{has}
-use Rattle.word_rule.specs.declared.stage.Stage.TheVariants.{Leaving, Waiting, Passing}
+use Rattle.word_rule.specs.declared.stage.Stage.TheVariants.{Mcs}
+use Rattle.word_rule.specs.declared.stage.McsStage.TheVariants.{Leaving, Waiting, Passing}
 use Rattle.word_rule.specs.Callers.{IsWith, IsWithout, hold_view_of, state_without}
 use Rattle.word_rule.proofs.Acting.{all_together}
 use Rattle.mcs_lock.specs.Steps.{SawLawful}
@@ -13,8 +14,8 @@ join_seat-requires g c = let s = c.args.self.now in let words = s.sized.0 in
 
 pub load-found-requires : goal.load-found-requires
 load-found-requires g c = let s = c.args.self.now in let a = c.args.leaving in let key = s.table.table.shared.key in let words = s.sized.0 in let e = c.join_seat.ensures.2 in
-    let w = subst (λ k. IsWith g.O.SeqObject k a.cpu Leaving a.logged a.seat.me) c.requires.leaving.told a.leaves in
-    let below = below_with g.O.SeqObject key s.cpus a.cpu Leaving a.logged a.seat.me s.sized.1 w in (
+    let w = subst (λ k. IsWith g.O.SeqObject k a.cpu (Mcs Leaving) a.logged a.seat.me) c.requires.leaving.told a.leaves in
+    let below = below_with g.O.SeqObject key s.cpus a.cpu (Mcs Leaving) a.logged a.seat.me s.sized.1 w in (
       g.met.O.SeqObject.event_fits,
       (
         search rules,
@@ -42,34 +43,34 @@ split_seat-theirs-requires g c = let s = c.args.self.now in let words = s.sized.
 
 pub invariant_of-result : goal.invariant_of-result
 invariant_of-result g c = let a = c.args.leaving in let w = c.args.waiting in let e = c.join_seat.ensures.2 in let s = c.split_seat-theirs in let told = c.load-found.ensures.2 in let some_one = c.if-prove.false in let k : ℕ = c.load-found.result - 1 in
-    let t = named Passing c.load-found.result k c.join_seat.new.seat.me c.load-found.new.seat.me (told.found some_one) (omega arith) in
-    let first = first_moved (Passing k) a.seat.me w.seat.me c.join_seat.new.seat.me c.load-found.new.seat.me s.new.seat.me a.leaves.at.alone e t.0 s.ensures.2 in record {
-      passes = goes_with g.O.SeqObject a.key.value a.cpu Leaving (Passing k) a.logged a.seat.me s.new.seat.me a.leaves first;
-      other = else_now (Passing k) a.seat.me s.new.seat.me k first (else_of a.seat.me w.seat.me c.join_seat.new.seat.me k e t.1);
+    let t = named (λ p. Mcs (Passing p)) c.load-found.result k c.join_seat.new.seat.me c.load-found.new.seat.me (told.found some_one) (omega arith) in
+    let first = first_moved (Mcs (Passing k)) a.seat.me w.seat.me c.join_seat.new.seat.me c.load-found.new.seat.me s.new.seat.me a.leaves.at.alone e t.0 s.ensures.2 in record {
+      passes = goes_with g.O.SeqObject a.key.value a.cpu (Mcs Leaving) (Mcs (Passing k)) a.logged a.seat.me s.new.seat.me a.leaves first;
+      other = else_now (Mcs (Passing k)) a.seat.me s.new.seat.me k first (else_of a.seat.me w.seat.me c.join_seat.new.seat.me k e t.1);
     }
 
 pub invariant_of-result-2 : goal.invariant_of-result-2
 invariant_of-result-2 g c = let a = c.args.leaving in let w = c.args.waiting in let e = c.join_seat.ensures.2 in let s = c.split_seat-theirs in let told = c.load-found.ensures.2 in let some_one = c.if-prove.false in let k : ℕ = c.load-found.result - 1 in
-    let t = named Passing c.load-found.result k c.join_seat.new.seat.me c.load-found.new.seat.me (told.found some_one) (omega arith) in
-    let second = second_same (Passing k) a.seat.me w.seat.me c.join_seat.new.seat.me c.load-found.new.seat.me s.result.me w.waits.at.alone w.waits.at.carries (w.waits.at.told ∙ (ap (λ z. z ∷ []) (c.requires.waiting.told ∙ sym c.requires.leaving.told) ∙ sym a.leaves.at.told)) e t.0 s.ensures.4 in
-    record { waits = subst (IsWithout g.O.SeqObject w.key.value w.cpu Waiting) (sym second) w.waits }
+    let t = named (λ p. Mcs (Passing p)) c.load-found.result k c.join_seat.new.seat.me c.load-found.new.seat.me (told.found some_one) (omega arith) in
+    let second = second_same (Mcs (Passing k)) a.seat.me w.seat.me c.join_seat.new.seat.me c.load-found.new.seat.me s.result.me w.waits.at.alone w.waits.at.carries (w.waits.at.told ∙ (ap (λ z. z ∷ []) (c.requires.waiting.told ∙ sym c.requires.leaving.told) ∙ sym a.leaves.at.told)) e t.0 s.ensures.4 in
+    record { waits = subst (IsWithout g.O.SeqObject w.key.value w.cpu (Mcs Waiting)) (sym second) w.waits }
 
 pub returns-clause-see : goal.returns-clause-see
 returns-clause-see g c = let a = c.args.leaving in let w = c.args.waiting in let e = c.join_seat.ensures.2 in let s = c.split_seat-theirs in let told = c.load-found.ensures.2 in let some_one = c.if-prove.false in let k : ℕ = c.load-found.result - 1 in
-    let t = named Passing c.load-found.result k c.join_seat.new.seat.me c.load-found.new.seat.me (told.found some_one) (omega arith) in
-    let first = first_moved (Passing k) a.seat.me w.seat.me c.join_seat.new.seat.me c.load-found.new.seat.me s.new.seat.me a.leaves.at.alone e t.0 s.ensures.2 in
+    let t = named (λ p. Mcs (Passing p)) c.load-found.result k c.join_seat.new.seat.me c.load-found.new.seat.me (told.found some_one) (omega arith) in
+    let first = first_moved (Mcs (Passing k)) a.seat.me w.seat.me c.join_seat.new.seat.me c.load-found.new.seat.me s.new.seat.me a.leaves.at.alone e t.0 s.ensures.2 in
     let other = else_of a.seat.me w.seat.me c.join_seat.new.seat.me k e t.1 in
     let lawful = subst (λ z. SawLawful g.O.SeqObject z.0) e told.lawful a.key.value a.leaves.at.told in
-    (k, other.other, record { made = moves_with g.O.SeqObject a.key.value Leaving (Passing k) a.logged a.seat.me s.new.seat.me lawful first; another = not_else a.key.value a.seat.me k a.leaves.at.told other })
+    (k, other.other, record { made = moves_with g.O.SeqObject a.key.value (Mcs Leaving) (Mcs (Passing k)) a.logged a.seat.me s.new.seat.me lawful first; another = not_else a.key.value a.seat.me k a.leaves.at.told other })
 
 pub returns-clause-held : goal.returns-clause-held
 returns-clause-held g c = let a = c.args.leaving in let w = c.args.waiting in let e = c.join_seat.ensures.2 in let s = c.split_seat-theirs in let told = c.load-found.ensures.2 in let some_one = c.if-prove.false in let k : ℕ = c.load-found.result - 1 in
-    let t = named Passing c.load-found.result k c.join_seat.new.seat.me c.load-found.new.seat.me (told.found some_one) (omega arith) in
-    let first = first_moved (Passing k) a.seat.me w.seat.me c.join_seat.new.seat.me c.load-found.new.seat.me s.new.seat.me a.leaves.at.alone e t.0 s.ensures.2 in
+    let t = named (λ p. Mcs (Passing p)) c.load-found.result k c.join_seat.new.seat.me c.load-found.new.seat.me (told.found some_one) (omega arith) in
+    let first = first_moved (Mcs (Passing k)) a.seat.me w.seat.me c.join_seat.new.seat.me c.load-found.new.seat.me s.new.seat.me a.leaves.at.alone e t.0 s.ensures.2 in
     ap (λ z. hold_view_of a.key.value a.logged z.0) first
 
 pub returns-clause-waits : goal.returns-clause-waits
 returns-clause-waits g c = let a = c.args.leaving in let w = c.args.waiting in let e = c.join_seat.ensures.2 in let s = c.split_seat-theirs in let told = c.load-found.ensures.2 in let some_one = c.if-prove.false in let k : ℕ = c.load-found.result - 1 in
-    let t = named Passing c.load-found.result k c.join_seat.new.seat.me c.load-found.new.seat.me (told.found some_one) (omega arith) in
-    let second = second_same (Passing k) a.seat.me w.seat.me c.join_seat.new.seat.me c.load-found.new.seat.me s.result.me w.waits.at.alone w.waits.at.carries (w.waits.at.told ∙ (ap (λ z. z ∷ []) (c.requires.waiting.told ∙ sym c.requires.leaving.told) ∙ sym a.leaves.at.told)) e t.0 s.ensures.4 in
-    ap (λ z. state_without w.key.value Waiting z) second
+    let t = named (λ p. Mcs (Passing p)) c.load-found.result k c.join_seat.new.seat.me c.load-found.new.seat.me (told.found some_one) (omega arith) in
+    let second = second_same (Mcs (Passing k)) a.seat.me w.seat.me c.join_seat.new.seat.me c.load-found.new.seat.me s.result.me w.waits.at.alone w.waits.at.carries (w.waits.at.told ∙ (ap (λ z. z ∷ []) (c.requires.waiting.told ∙ sym c.requires.leaving.told) ∙ sym a.leaves.at.told)) e t.0 s.ensures.4 in
+    ap (λ z. state_without w.key.value (Mcs Waiting) z) second

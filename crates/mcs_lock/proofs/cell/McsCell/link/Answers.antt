@@ -1,5 +1,6 @@
 use Rattle.std.proofs.Common.{subst, arith}
-use Rattle.word_rule.specs.declared.stage.Stage.TheVariants.{Armed}
+use Rattle.word_rule.specs.declared.stage.Stage.TheVariants.{Mcs}
+use Rattle.word_rule.specs.declared.stage.McsStage.TheVariants.{Armed}
 use Rattle.word_rule.specs.Callers.{IsWithout}
 use Rattle.word_rule.proofs.Acting.{moves_without}
 use Rattle.mcs_lock.proofs.McsActing.{link_now, else_below}
@@ -7,7 +8,7 @@ use Rattle.mcs_lock.proofs.cell.McsCell.link.Goals as goal
 
 pub store-requires : goal.store-requires
 store-requires g c = let s = c.args.self.now in let a = c.args.armed in let key = s.table.table.shared.key in let words = s.sized.0 in
-    let w = subst (λ k. IsWithout g.O.SeqObject k a.cpu (Armed a.ahead) a.seat.me) c.requires.told a.armed in
+    let w = subst (λ k. IsWithout g.O.SeqObject k a.cpu (Mcs (Armed a.ahead)) a.seat.me) c.requires.told a.armed in
     let below = else_below key s.cpus a.ahead a.seat.me s.sized.1 w.at.told a.other in
     (g.met.O.SeqObject.event_fits, (c.requires.table, omega arith, link_now g.O.SeqObject key _ _ a.cpu c.args.self.now.kind a.ahead a.seat.me w))
 

@@ -1,6 +1,7 @@
 use Rattle.std.proofs.Common.{rules, ◌≡◌, true, refl, ◌∷◌, sym, ap, subst, ◌∙◌, arith, Some}
 use Rattle.atomic_table.specs.Table.{rest}
-use Rattle.word_rule.specs.declared.stage.Stage.TheVariants.{Waiting, Holding}
+use Rattle.word_rule.specs.declared.stage.Stage.TheVariants.{Mcs}
+use Rattle.word_rule.specs.declared.stage.McsStage.TheVariants.{Waiting, Holding}
 use Rattle.word_rule.specs.Line.{lends}
 use Rattle.word_rule.specs.Callers.{IsWithout}
 use Rattle.word_rule.proofs.Known.{idle_alone}
@@ -10,8 +11,8 @@ use Rattle.mcs_lock.proofs.cell.McsCell.look.Goals as goal
 
 pub load-found-requires : goal.load-found-requires
 load-found-requires g c = let s = c.args.self.now in let a = c.args.waiting in let key = s.table.table.shared.key in let words = s.sized.0 in
-    let w = subst (λ k. IsWithout g.O.SeqObject k a.cpu Waiting a.seat.me) c.requires.told a.waits in
-    let below = below_without g.O.SeqObject key s.cpus a.cpu Waiting a.seat.me s.sized.1 w in
+    let w = subst (λ k. IsWithout g.O.SeqObject k a.cpu (Mcs Waiting) a.seat.me) c.requires.told a.waits in
+    let below = below_without g.O.SeqObject key s.cpus a.cpu (Mcs Waiting) a.seat.me s.sized.1 w in
     (g.met.O.SeqObject.event_fits, (c.requires.table, omega arith, look_now g.O.SeqObject key _ _ a.cpu c.args.self.now.kind s.cpus a.seat.me s.sized.1 w.pass_view.caller.acts w.at.number w.at.stands (idle_alone a.seat.me.0.others w.at.alone)))
 
 pub take-logged-requires : goal.take-logged-requires
@@ -20,7 +21,7 @@ take-logged-requires g c = let t = c.load-found.ensures.2.hit c.if-found-eq0.tru
 
 pub invariant_of-result : goal.invariant_of-result
 invariant_of-result g c = let a = c.args.waiting in let t = c.load-found.ensures.2.hit c.if-found-eq0.true in let y = c.take-logged.result.0 in let e = c.take-logged.ensures in
-    record { holds = holds_from g.O.SeqObject a.key.value a.cpu _ _ y a.seat.me c.take-logged.new.seat.me a.waits (took g.O.SeqObject _ a.seat.me c.load-found.new.seat.me c.take-logged.new.seat.me (Some y) y t e.2 e.3 refl); there = subst (λ k. lends k Holding ≡ true) (sym (ap (λ k. k.kind) c.requires.told ∙ c.args.self.now.kind)) refl }
+    record { holds = holds_from g.O.SeqObject a.key.value a.cpu _ _ y a.seat.me c.take-logged.new.seat.me a.waits (took g.O.SeqObject _ a.seat.me c.load-found.new.seat.me c.take-logged.new.seat.me (Some y) y t e.2 e.3 refl); there = subst (λ k. lends k (Mcs Holding) ≡ true) (sym (ap (λ k. k.kind) c.requires.told ∙ c.args.self.now.kind)) refl }
 
 pub returns-then-found-eq0-clause-got : goal.returns-then-found-eq0-clause-got
 returns-then-found-eq0-clause-got g c = let a = c.args.waiting in let t = c.load-found.ensures.2.hit c.if-found-eq0.true in let y = c.take-logged.result.0 in let e = c.take-logged.ensures in

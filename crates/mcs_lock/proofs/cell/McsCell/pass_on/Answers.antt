@@ -1,6 +1,7 @@
 use Rattle.std.proofs.Common.{rules, ◌∷◌, sym, ap, subst, ◌∙◌, arith, None}
 use Rattle.atomic_table.specs.Table.{rest}
-use Rattle.word_rule.specs.declared.stage.Stage.TheVariants.{Passing}
+use Rattle.word_rule.specs.declared.stage.Stage.TheVariants.{Mcs}
+use Rattle.word_rule.specs.declared.stage.McsStage.TheVariants.{Passing}
 use Rattle.word_rule.specs.Callers.{IsWith}
 use Rattle.word_rule.proofs.Acting.{left, rests_now, gives_now}
 use Rattle.mcs_lock.proofs.McsActing.{pass_now, else_below}
@@ -11,7 +12,7 @@ put_back-requires g c = let k = c.args.passing.passes.at.carries in (g.met.O.Seq
 
 pub store-requires : goal.store-requires
 store-requires g c = let s = c.args.self.now in let a = c.args.passing in let key = s.table.table.shared.key in let words = s.sized.0 in
-    let w = subst (λ k. IsWith g.O.SeqObject k a.cpu (Passing a.follower) a.logged a.seat.me) c.requires.told a.passes in
+    let w = subst (λ k. IsWith g.O.SeqObject k a.cpu (Mcs (Passing a.follower)) a.logged a.seat.me) c.requires.told a.passes in
     let below = else_below key s.cpus a.follower a.seat.me s.sized.1 w.at.told a.other in
     (g.met.O.SeqObject.event_fits, (search rules, omega arith, pass_now g.O.SeqObject key _ _ a.cpu c.args.self.now.kind s.cpus a.follower a.logged a.seat.me c.put_back.new.seat.me s.sized.1 w s.table.sized c.put_back.ensures.2))
 

@@ -1,5 +1,6 @@
 use Rattle.std.proofs.Common.{rules, ℕ, ◌-◌, ◌<◌, [], ◌∷◌, ap, subst, ◌∙◌, arith}
-use Rattle.word_rule.specs.declared.stage.Stage.TheVariants.{Leaving, Passing}
+use Rattle.word_rule.specs.declared.stage.Stage.TheVariants.{Mcs}
+use Rattle.word_rule.specs.declared.stage.McsStage.TheVariants.{Leaving, Passing}
 use Rattle.word_rule.specs.Callers.{IsWith}
 use Rattle.word_rule.proofs.Acting.{not_all}
 use Rattle.mcs_lock.proofs.McsActing.{see_again_now, below_with, named, not_else, else_below, else_now, goes_with, moves_with}
@@ -7,8 +8,8 @@ use Rattle.mcs_lock.proofs.cell.McsCell.see_again.Goals as goal
 
 pub load-found-requires : goal.load-found-requires
 load-found-requires g c = let s = c.args.self.now in let a = c.args.leaving in let key = s.table.table.shared.key in let words = s.sized.0 in
-    let w = subst (λ k. IsWith g.O.SeqObject k a.cpu Leaving a.logged a.seat.me) c.requires.told a.leaves in
-    let below = below_with g.O.SeqObject key s.cpus a.cpu Leaving a.logged a.seat.me s.sized.1 w in
+    let w = subst (λ k. IsWith g.O.SeqObject k a.cpu (Mcs Leaving) a.logged a.seat.me) c.requires.told a.leaves in
+    let below = below_with g.O.SeqObject key s.cpus a.cpu (Mcs Leaving) a.logged a.seat.me s.sized.1 w in
     (g.met.O.SeqObject.event_fits, (c.requires.table, omega arith, see_again_now g.O.SeqObject key _ _ a.cpu c.args.self.now.kind a.seat.me a.logged w))
 
 pub invariant_of-result : goal.invariant_of-result
@@ -22,9 +23,9 @@ overflow_cast-follower g c = let s = c.args.self.now in let a = c.args.leaving i
 
 pub invariant_of-result-else-found-eq0 : goal.invariant_of-result-else-found-eq0
 invariant_of-result-else-found-eq0 g c = let a = c.args.leaving in let some_one = c.if-found-eq0.false in let k : ℕ = c.load-found.result - 1 in
-    let t = named Passing c.load-found.result k a.seat.me c.load-found.new.seat.me (c.load-found.ensures.2.found some_one) (omega arith) in record {
-      passes = goes_with g.O.SeqObject a.key.value a.cpu Leaving (Passing k) a.logged a.seat.me c.load-found.new.seat.me a.leaves t.0;
-      other = else_now (Passing k) a.seat.me c.load-found.new.seat.me k t.0 t.1;
+    let t = named (λ p. Mcs (Passing p)) c.load-found.result k a.seat.me c.load-found.new.seat.me (c.load-found.ensures.2.found some_one) (omega arith) in record {
+      passes = goes_with g.O.SeqObject a.key.value a.cpu (Mcs Leaving) (Mcs (Passing k)) a.logged a.seat.me c.load-found.new.seat.me a.leaves t.0;
+      other = else_now (Mcs (Passing k)) a.seat.me c.load-found.new.seat.me k t.0 t.1;
     }
 
 pub returns-then-found-eq0-clause-missed : goal.returns-then-found-eq0-clause-missed
@@ -38,13 +39,13 @@ returns-then-found-eq0-clause-missed g c = let a = c.args.leaving in let t = c.l
 
 pub returns-else-found-eq0-clause-found : goal.returns-else-found-eq0-clause-found
 returns-else-found-eq0-clause-found g c = let a = c.args.leaving in let some_one = c.if-found-eq0.false in let k : ℕ = c.load-found.result - 1 in let s = c.load-found.ensures.2 in
-    let t = named Passing c.load-found.result k a.seat.me c.load-found.new.seat.me (s.found some_one) (omega arith) in (
+    let t = named (λ p. Mcs (Passing p)) c.load-found.result k a.seat.me c.load-found.new.seat.me (s.found some_one) (omega arith) in (
       search rules,
       (
         k,
         t.1.other,
         record {
-          made = moves_with g.O.SeqObject a.key.value Leaving (Passing k) a.logged a.seat.me c.load-found.new.seat.me (s.lawful a.key.value a.leaves.at.told) t.0;
+          made = moves_with g.O.SeqObject a.key.value (Mcs Leaving) (Mcs (Passing k)) a.logged a.seat.me c.load-found.new.seat.me (s.lawful a.key.value a.leaves.at.told) t.0;
           another = not_else a.key.value a.seat.me k a.leaves.at.told t.1;
         },
       ),

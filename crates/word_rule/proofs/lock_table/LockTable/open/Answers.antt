@@ -2,7 +2,7 @@ use Rattle.std.proofs.Common.{rules, length, List, [], ◌∷◌, ◌++◌, arit
 use Rattle.atomic_table.specs.Table.{opening}
 use Rattle.event_log.specs.History.{History}
 use Rattle.word_rule.specs.Cell.{Cell, Lawful, opening_pass}
-use Rattle.word_rule.specs.Definition.{Defined, FollowsDefinition}
+use Rattle.word_rule.specs.CellInvariant.{CellInvariant}
 use Rattle.word_rule.specs.Seats.{first_view}
 use Rattle.word_rule.proofs.Ends.{opens, opens_lawful}
 use Rattle.word_rule.proofs.lock_table.LockTable.open.Goals as goal
@@ -13,8 +13,8 @@ new-requires g c = let kind = c.args.kind in
     let k = c.of-key.ensures.value in
     let M = Option (History g.row.O.Denot g.row.O-Params.Denot g.row.O-Call.Denot g.row.O-Reply.Denot) in
     let K = Cell g.row.O.Denot g.row.O-Params.Denot g.row.O-Call.Denot g.row.O-Reply.Denot in
-    subst (λ (z : K × List M). FollowsDefinition g.O.SeqObject z.0.kind z.0 (opening c.args.words.now z.1 (first_view z.0))) (λ i. (sym k i, sym e i))
-    (opens g.O.SeqObject (Defined kind) kind c.args.words.now c.args.logged c.args.cpus c.of-key.ensures.kept c.requires.defined)
+    subst (λ (z : K × List M). CellInvariant g.O.SeqObject z.0.kind z.0 (opening c.args.words.now z.1 (first_view z.0))) (λ i. (sym k i, sym e i))
+    (opens g.O.SeqObject kind c.args.words.now c.args.logged c.args.cpus c.requires.defined.0 c.of-key.ensures.kept c.requires.defined.1)
 
 pub deal-passes-requires : goal.deal-passes-requires
 deal-passes-requires g c = let o = c.in-Ok-new.ensures.ok in let k = c.of-key.ensures.value in (
