@@ -1,5 +1,5 @@
 -- Each step of an MCS lock is a turn of the lock's definition, and tells its play.
-use Rattle.std.proofs.Common.{◌≡◌, ◌≢◌, ℕ, ◌+◌, ◌||◌, ◌==◌, true, false, true≢false, List, [], ◌∷◌, ◌++◌, length, get_or, set, refl, sym, ap, ◌∙◌, subst, arith, Option, Some, None}
+use Rattle.std.proofs.Common.{◌≡◌, ◌≢◌, ℕ, ◌+◌, ◌||◌, ◌==◌, true, false, true≢false, List, [], ◌∷◌, length, get_or, set, refl, sym, ap, ◌∙◌, subst, arith, Option, Some, None}
 use Rattle.std.proofs.lemmas.Bool.Decides.{nat_tests}
 use mathlib.Core.Logic.{dite}
 use mathlib.Core.Option.{some, none}
@@ -8,52 +8,41 @@ use prog.Atomic.{either}
 use lib.ListN.{get_elem?}
 use lib.Seq.{set-get_or}
 use Rattle.atomic_table.specs.Table.{Act, step, keeps, takes, gives, rest, stepped, carried_after, Valid}
-use Rattle.atomic_table.proofs.Lists.{exchanged, set_again}
+use Rattle.atomic_table.proofs.Lists.{exchanged}
 use Rattle.event_log.specs.declared.object.SeqObject.{Ghosts}
 use Rattle.event_log.specs.Distinct.{has}
 use Rattle.event_log.specs.History.{History}
+use Rattle.word_rule.specs.declared.lock_kind.LockKind.TheVariants as kinds
+use Rattle.word_rule.specs.declared.machine.step_done.StepDone.{StepDone}
 use Rattle.word_rule.specs.declared.stage.Stage.{Stage}
-use Rattle.word_rule.specs.declared.stage.Stage.TheVariants.{Idle, Mcs, Torn}
+use Rattle.word_rule.specs.declared.stage.Stage.TheVariants.{Idle, Mcs}
 use Rattle.word_rule.specs.declared.stage.McsStage.TheVariants.{Ready, Behind, Armed, Waiting, Holding, Alone, Leaving, Passing}
-use Rattle.word_rule.specs.declared.lock_kind.LockKind.TheVariants.{Mcs}
 use Rattle.word_rule.specs.Cell.{Cell, Lawful, stored}
-use Rattle.word_rule.specs.Definition.{Defined, FollowsDefinition, IsTurn}
-use Rattle.word_rule.specs.Line.{Line, holding, is_first, lined}
-use Rattle.word_rule.specs.Locks.{Lock, behind, follower, going, is_named, joining, last, leaving, taking}
-use Rattle.word_rule.specs.LockWords.{IsMcsLock}
-use Rattle.word_rule.specs.Queues.{IsMcsWords}
-use Rattle.word_rule.specs.CellInvariant.{GhostState, Caller, EachFrom, Viewed, Table, CallerInvariant, SeatInvariant}
+use Rattle.word_rule.specs.CellInvariant.{Caller, EachFrom, Viewed, Table, CallerInvariant, CellInvariant}
+use Rattle.word_rule.specs.Definition.{IsTurn}
+use Rattle.word_rule.specs.Line.{holding}
+use Rattle.word_rule.specs.Locks.{Lock, follower, going, taking, leaving}
+use Rattle.word_rule.specs.LockStates.{IsLockOf}
 use Rattle.word_rule.specs.Seats.{Seat, with_stage, settled}
 use Rattle.word_rule.specs.Announced.{any_has, Lacks, Returns}
 use Rattle.word_rule.specs.Callers.{AddedBy}
-use Rattle.word_rule.specs.Turns.{turn, clear, enter, arm, link, see, pass}
-use Rattle.word_rule.proofs.Definitions.{queued_of, defined_ties}
-use Rattle.word_rule.proofs.Lists.{has_at, false_from}
-use Rattle.word_rule.proofs.Stays.{kept, taken, given}
-use Rattle.word_rule.proofs.Known.{AllIdle, same_cell, gets, someone_else, lacks}
+use Rattle.word_rule.specs.Turns.{turn, clear, enter, arm, link, see, pass, mcs_turn}
 use Rattle.word_rule.proofs.Acting.{value_of}
-use Rattle.word_rule.proofs.QueueWords.{stands_at, in_cell, only_one, out_of_line, another}
-use Rattle.word_rule.proofs.QueueLines.{at_home, predecessor, free, ahead, saw, second, more}
+use Rattle.word_rule.proofs.Known.{AllIdle, same_cell, gets, someone_else, lacks}
+use Rattle.word_rule.proofs.Lists.{has_at}
+use Rattle.word_rule.proofs.LockLaws.{stands_at, in_cell, idle_outside, one_holds}
 use Rattle.word_rule.proofs.McsTurns as turns
+use Rattle.word_rule.proofs.QueueTurns as queue
+use Rattle.word_rule.proofs.Stays.{kept, unmoved, taken, given}
 use Rattle.mcs_lock.specs.Steps.{goes, arms, Names, SawLawful, enters, looks, sees, sees_again, EmptyOutcome, empties, passes}
 
 abbrev cpu_of : Stage → ℕ
-cpu_of Idle = 0
-cpu_of (Drawn t) = 0
-cpu_of (Served t) = 0
-cpu_of (Mcs Ready) = 0
 cpu_of (Mcs (Behind p)) = p
-cpu_of (Mcs (Armed p)) = p
-cpu_of (Mcs Waiting) = 0
-cpu_of (Mcs Holding) = 0
-cpu_of (Mcs Alone) = 0
-cpu_of (Mcs Leaving) = 0
-cpu_of (Mcs (Passing j)) = j
-cpu_of Torn = 0
+cpu_of q = 0
 
 module _ {O P C R : Type 0} (meaning : Ghosts O P C R) (h : Cell O P C R) where
   abbrev pub Rule : Table O P C R → Type 0
-  Rule = FollowsDefinition meaning Mcs h
+  Rule = CellInvariant meaning kinds.Mcs h
 
   module _ (slots id : ℕ) (me : Seat O P C R) (acts : has me.0.main.cpu me.0.main.owned ≡ true) where
     abbrev p : ℕ
@@ -65,262 +54,213 @@ module _ {O P C R : Type 0} (meaning : Ghosts O P C R) (h : Cell O P C R) where
     abbrev n : ℕ
     n = h.numbers
 
-    -- the words of the queue that is shown
-    tie : (s : Table O P C R) (r : Rule s) → IsMcsWords n s.words r.state.line
-    tie s r = queued_of n s.words r.state.line r.tied
+    -- the lock that the words are of goes where the definition says
+    turns_to : (l : Lock) (q : Stage) (r : Lock × StepDone) → l.kind ≡ kinds.Mcs → l.line.stage p ≡ q → mcs_turn l p q ≡ r → r.0 ≡ (turn l p).0
+    turns_to l q r kind at is = sym (ap (λ z. z.0) (turns.turned l p q kind at ∙ is))
 
-    -- where the caller stands in the lock that is shown
-    stands_there : (s : Table O P C R) (r : Rule s) (q : Stage) → get_elem? s.views id ≡ some v → v.main.stage ≡ q → r.tied.lock.line.stage p ≡ q
-    stands_there s r q there is = let mine = r.each id v there in ap (λ (z : Line). z.stage p) r.tied.line_is ∙ (mine.main.stands acts ∙ is)
-
-    -- the caller stands elsewhere, in this line, and one word is another
-    abbrev goes_to : (s : Table O P C R) (r : Rule s) (i k : ℕ) (cpus : List ℕ) (q : Stage) → get_elem? s.views id ≡ some v → holding q ≡ false → Defined Mcs n (set s.words i k) (lined cpus r.state.line.out r.state.line.stage p q) → Rule (stepped s i k id me.1 (with_stage v q) keeps)
-    goes_to s r i k cpus q there free tied = kept meaning (Defined Mcs) h s r i k id v me.1 cpus q there acts (λ e. absurd (true≢false (sym e ∙ free))) tied
+    -- the caller stands elsewhere, and one word is another
+    abbrev goes_to : (s : Table O P C R) (r : Rule s) (i k : ℕ) (l : Lock) (q : Stage) → l.line.stage ≡ (going r.state.lock.line p q).stage → l.line.out ≡ r.state.lock.line.out → get_elem? s.views id ≡ some v → holding q ≡ false → IsLockOf kinds.Mcs n (set s.words i k) l → Rule (stepped s i k id me.1 (with_stage v q) keeps)
+    goes_to s r i k l q stage out there free tied = kept meaning kinds.Mcs h s r i k id v me.1 l q stage out there acts (λ e. absurd (true≢false (sym e ∙ free))) tied
 
     -- a word was read, and the caller stands elsewhere
-    abbrev reads : (s : Table O P C R) (r : Rule s) (i : ℕ) (q : Stage) → get_elem? s.views id ≡ some v → (holding q ≡ true → holding v.main.stage ≡ true) → IsMcsLock n s.words (record r.tied.lock { line = going r.tied.lock.line p q })
+    abbrev reads : (s : Table O P C R) (r : Rule s) (i : ℕ) (q : Stage) → get_elem? s.views id ≡ some v → (holding q ≡ true → holding v.main.stage ≡ true) → IsLockOf kinds.Mcs n s.words (record r.state.lock { line = going r.state.lock.line p q })
         → Rule (stepped s i (get_or s.words i 0) id me.1 (with_stage v q) keeps)
     reads s r i q there has_it tied =
-        let b = r.state.line in
-        let l = r.tied.lock in
         let mine = r.each id v there in
-        kept meaning (Defined Mcs) h s r i (get_or s.words i 0) id v me.1 b.cpus q there acts (λ e. mine.main.whole acts (has_it e))
-        record {
-          lock = record l { line = going l.line p q };
-          kind_is = r.tied.kind_is;
-          line_is = ap (λ (z : Line). going z p q) r.tied.line_is;
-          tied = subst (λ (ws : List ℕ). IsMcsLock n ws (record l { line = going l.line p q })) (sym (set-get_or s.words i 0)) tied;
-        }
+        let l' : Lock = record r.state.lock { line = going r.state.lock.line p q } in
+        kept meaning kinds.Mcs h s r i (get_or s.words i 0) id v me.1 l' q refl refl there acts (λ e. mine.main.whole acts (has_it e)) (subst (λ (ws : List ℕ). IsLockOf kinds.Mcs n ws l') (sym (set-get_or s.words i 0)) tied)
 
-    -- a word was read, and nothing changed
-    abbrev unchanged : (s : Table O P C R) (r : Rule s) (i : ℕ) → get_elem? s.views id ≡ some v → Rule (stepped s i (get_or s.words i 0) id me.1 v keeps)
-    unchanged s r i there = record {
-      state = r.state;
-      tied = record {
-        lock = r.tied.lock;
-        kind_is = r.tied.kind_is;
-        line_is = r.tied.line_is;
-        tied = subst (λ (ws : List ℕ). IsMcsLock n ws r.tied.lock) (sym (set-get_or s.words i 0)) r.tied.tied;
-      };
-      lawful = r.lawful;
-      at_home = r.at_home;
-      each = subst (λ (views : List (Viewed O P C R)). (j : ℕ) (u : Viewed O P C R) → get_elem? views j ≡ some u → SeatInvariant h r.state j u) (sym (set_again s.views id v there)) r.each;
-    }
-
-    pub clearing : v.main.stage ≡ Idle → IsTurn meaning Mcs h slots id me (1 + p) (λ _. 0) (λ _. goes (Mcs Ready) (step slots (1 + p) 0 0 none) me 0)
+    pub clearing : v.main.stage ≡ Idle → IsTurn meaning kinds.Mcs h slots id me (1 + p) (λ _. 0) (λ _. goes (Mcs Ready) (step slots (1 + p) 0 0 none) me 0)
     clearing is s r len there small =
-        let l = r.tied.lock in
+        let l = r.state.lock in
         let mine = r.each id v there in
         let below = (mine.main.owns p acts).1 in
-        let at = stands_there s r Idle there is in (
+        let at = mine.main.stands acts ∙ is in (
           with_stage v (Mcs Ready),
           keeps,
           tt,
-          goes_to s r (1 + p) 0 r.state.line.cpus (Mcs Ready) there refl record { lock = clear l p; kind_is = r.tied.kind_is; line_is = ap (λ (z : Line). going z p (Mcs Ready)) r.tied.line_is; tied = turns.clears n s.words l r.tied.tied p below at },
+          goes_to s r (1 + p) 0 (clear l p) (Mcs Ready) refl refl there refl (turns.clears n s.words l r.tied p below at),
           refl,
-          sym (turns.turned l p Idle r.tied.kind_is at),
+          turns_to l Idle _ r.tied.kind_is at refl,
         )
 
-    pub entering : v.main.stage ≡ (Mcs Ready) → IsTurn meaning Mcs h slots id me 0 (λ _. p + 1) (enters meaning (step slots 0 (p + 1) 0 none) me)
+    pub entering : v.main.stage ≡ Mcs Ready → IsTurn meaning kinds.Mcs h slots id me 0 (λ _. p + 1) (enters meaning (step slots 0 (p + 1) 0 none) me)
     entering is s r len there small =
-        let b = r.state.line in
-        let l = r.tied.lock in
+        let l = r.state.lock in
         let mine = r.each id v there in
         let below = (mine.main.owns p acts).1 in
-        let here = mine.main.stands acts ∙ is in
-        let at = stands_there s r (Mcs Ready) there is in
+        let at = mine.main.stands acts ∙ is in
         dite (ℕ_discrete (get_or s.words 0 0) 0)
-        (λ nobody. let none = turns.tail_none n s.words l r.tied.tied p below nobody in (
+        (λ nobody. let none = turns.tail_none n s.words l r.tied nobody in (
           settled v (Mcs Holding) r.state.committed,
           takes 0 (Some (stored meaning h r.state.committed)),
-          r.at_home (at_home n s.words b (tie s r) p below nobody),
-          taken meaning (Defined Mcs) h s r 0 (p + 1) id v me.1 (p ∷ []) (Mcs Holding) there acts
-              record { lock = (enter l p None).0; kind_is = r.tied.kind_is; line_is = ap (λ (z : Line). lined (p ∷ []) true z.stage p (Mcs Holding)) r.tied.line_is; tied = turns.enters_first n s.words l r.tied.tied p below at none },
-          record { first = λ _. gets meaning (Defined Mcs) h s r id me (Mcs Holding) mine; behind = λ some_one. absurd (some_one nobody) },
-          sym (turns.turned l p (Mcs Ready) r.tied.kind_is at ∙ ap (λ z. (enter l p z).0) none),
+          r.at_home (queue.nobody_home n l r.tied.state p below none),
+          taken meaning kinds.Mcs h s r 0 (p + 1) id v me.1 (enter l p None).0 (Mcs Holding) refl refl there acts (turns.enters_first n s.words l r.tied p below at none),
+          record { first = λ _. gets meaning kinds.Mcs h s r id me (Mcs Holding) mine; behind = λ some_one. absurd (some_one nobody) },
+          turns_to l (Mcs Ready) (enter l p None) r.tied.kind_is at (ap (enter l p) none),
         ))
-        (λ some_one.
-        let t = predecessor n s.words b (tie s r) p below here some_one in
-        let one = turns.tail_some n s.words l r.tied.tied p below t.0 t.1 in (
+        (λ some_one. let t = turns.tail_names n s.words l r.tied some_one in (
           with_stage v (Mcs (Behind t.0)),
           keeps,
           tt,
-          goes_to s r 0 (p + 1) (b.cpus ++ p ∷ []) (Mcs (Behind t.0)) there refl
-              record { lock = (enter l p (Some t.0)).0; kind_is = r.tied.kind_is; line_is = ap (λ (z : Line). joining z p (Mcs (Behind t.0))) r.tied.line_is; tied = turns.enters_behind n s.words l r.tied.tied p below t.0 at one },
+          goes_to s r 0 (p + 1) (enter l p (Some t.0)).0 (Mcs (Behind t.0)) refl refl there refl (turns.enters_behind n s.words l r.tied p below t.0 at t.1),
           record {
             first = λ nobody. absurd (some_one nobody);
-            behind = λ _. record { cpu = t.0; word = t.1; seat = refl; other = someone_else meaning (Defined Mcs) h (defined_ties Mcs) s r id v t.0 mine t.2 t.3 };
+            behind = λ _. record { cpu = t.0; word = t.2; seat = refl; other = someone_else meaning kinds.Mcs h s r id v t.0 mine (queue.last_in n l r.tied.state t.0 t.1).0 (queue.other_last n l r.tied.state p below t.0 at t.1) };
           },
-          sym (turns.turned l p (Mcs Ready) r.tied.kind_is at ∙ ap (λ z. (enter l p z).0) one),
+          turns_to l (Mcs Ready) (enter l p (Some t.0)) r.tied.kind_is at (ap (enter l p) t.1),
         ))
 
-    pub arming : (q : ℕ) → v.main.stage ≡ Mcs (Behind q) → IsTurn meaning Mcs h slots id me (1 + n + p) (λ _. 1) (λ _. arms (step slots (1 + n + p) 1 0 none) me 1)
+    pub arming : (q : ℕ) → v.main.stage ≡ Mcs (Behind q) → IsTurn meaning kinds.Mcs h slots id me (1 + n + p) (λ _. 1) (λ _. arms (step slots (1 + n + p) 1 0 none) me 1)
     arming q is s r len there small =
-        let l = r.tied.lock in
+        let l = r.state.lock in
         let mine = r.each id v there in
         let below = (mine.main.owns p acts).1 in
-        let at = stands_there s r (Mcs (Behind q)) there is in (
+        let at = mine.main.stands acts ∙ is in (
           with_stage v (Mcs (Armed q)),
           keeps,
           tt,
-          goes_to s r (1 + n + p) 1 r.state.line.cpus (Mcs (Armed q)) there refl
-              record { lock = arm l p q; kind_is = r.tied.kind_is; line_is = ap (λ (z : Line). going z p (Mcs (Armed q))) r.tied.line_is; tied = turns.arms n s.words l r.tied.tied p below q at },
+          goes_to s r (1 + n + p) 1 (arm l p q) (Mcs (Armed q)) refl refl there refl (turns.arms n s.words l r.tied p below q at),
           λ u e. let same : q ≡ u = ap cpu_of (sym is ∙ e) in ap (λ (z : ℕ). (with_stage v (Mcs (Armed z)), me.1)) same,
-          sym (turns.turned l p (Mcs (Behind q)) r.tied.kind_is at),
+          turns_to l (Mcs (Behind q)) _ r.tied.kind_is at refl,
         )
 
-    pub linking : (q : ℕ) → v.main.stage ≡ Mcs (Armed q) → IsTurn meaning Mcs h slots id me (1 + q) (λ _. p + 1) (λ _. goes (Mcs Waiting) (step slots (1 + q) (p + 1) 0 none) me (p + 1))
+    pub linking : (q : ℕ) → v.main.stage ≡ Mcs (Armed q) → IsTurn meaning kinds.Mcs h slots id me (1 + q) (λ _. p + 1) (λ _. goes (Mcs Waiting) (step slots (1 + q) (p + 1) 0 none) me (p + 1))
     linking q is s r len there small =
-        let l = r.tied.lock in
+        let l = r.state.lock in
         let mine = r.each id v there in
         let below = (mine.main.owns p acts).1 in
-        let at = stands_there s r (Mcs (Armed q)) there is in (
+        let at = mine.main.stands acts ∙ is in (
           with_stage v (Mcs Waiting),
           keeps,
           tt,
-          goes_to s r (1 + q) (p + 1) r.state.line.cpus (Mcs Waiting) there refl
-              record { lock = link l p q; kind_is = r.tied.kind_is; line_is = ap (λ (z : Line). going z p (Mcs Waiting)) r.tied.line_is; tied = turns.links n s.words l r.tied.tied p below q at },
+          goes_to s r (1 + q) (p + 1) (link l p q) (Mcs Waiting) refl refl there refl (turns.links n s.words l r.tied p below q at),
           refl,
-          sym (turns.turned l p (Mcs (Armed q)) r.tied.kind_is at),
+          turns_to l (Mcs (Armed q)) _ r.tied.kind_is at refl,
         )
 
-    pub looking : v.main.stage ≡ (Mcs Waiting) → AllIdle v.others → IsTurn meaning Mcs h slots id me (1 + n + p) (λ k. k) (looks meaning (step slots (1 + n + p) 0 0 none) me)
+    pub looking : v.main.stage ≡ Mcs Waiting → AllIdle v.others → IsTurn meaning kinds.Mcs h slots id me (1 + n + p) (λ k. k) (looks meaning (step slots (1 + n + p) 0 0 none) me)
     looking is idle s r len there small =
-        let b = r.state.line in
-        let l = r.tied.lock in
+        let l = r.state.lock in
         let mine = r.each id v there in
         let below = (mine.main.owns p acts).1 in
-        let here = mine.main.stands acts ∙ is in
-        let at = stands_there s r (Mcs Waiting) there is in
+        let at = mine.main.stands acts ∙ is in
         let w : ℕ = 1 + n + p in
         dite (ℕ_discrete (get_or s.words w 0) 0)
         (λ hit.
-        let f = free n s.words b (tie s r) p below here hit in
-        let first = turns.free_first n s.words l r.tied.tied p below at hit in (
+        let first = turns.free_first n s.words l r.tied p below at hit in
+        let f = queue.free n l r.tied.state p below at first in
+        let l' : Lock = record l { line = taking l.line p (Mcs Holding) } in (
           settled v (Mcs Holding) r.state.committed,
           takes 0 (Some (stored meaning h r.state.committed)),
           r.at_home f.object,
-          taken meaning (Defined Mcs) h s r w (get_or s.words w 0) id v me.1 b.cpus (Mcs Holding) there acts
-              record {
-                lock = record l { line = taking l.line p (Mcs Holding) };
-                kind_is = r.tied.kind_is;
-                line_is = ap (λ (z : Line). taking z p (Mcs Holding)) r.tied.line_is;
-                tied = subst (λ (ws : List ℕ). IsMcsLock n ws (record l { line = taking l.line p (Mcs Holding) })) (sym (set-get_or s.words w 0)) (turns.gets n s.words l r.tied.tied p below at first);
-              },
-          record { hit = λ _. gets meaning (Defined Mcs) h s r id me (Mcs Holding) mine; miss = λ miss. absurd (miss hit) },
-          sym (turns.turned l p (Mcs Waiting) r.tied.kind_is at ∙ turns.hits l p first),
+          taken meaning kinds.Mcs h s r w (get_or s.words w 0) id v me.1 l' (Mcs Holding) refl refl there acts (subst (λ (ws : List ℕ). IsLockOf kinds.Mcs n ws l') (sym (set-get_or s.words w 0)) (turns.gets n s.words l r.tied p below at first)),
+          record { hit = λ _. gets meaning kinds.Mcs h s r id me (Mcs Holding) mine; miss = λ miss. absurd (miss hit) },
+          turns_to l (Mcs Waiting) _ r.tied.kind_is at (turns.hits l p first),
         ))
         (λ miss.
-        let t = ahead n s.words b (tie s r) p below here miss in
-        let behind_one = false_from (is_first p l.line.cpus) (λ first. miss (turns.first_free n s.words l r.tied.tied p below at first)) in (
+        let behind_one = turns.locked_behind n s.words l r.tied p below at miss in
+        let t = queue.ahead n l r.tied.state p below at behind_one in (
           v,
           keeps,
           tt,
-          unchanged s r w there,
+          unmoved meaning kinds.Mcs h s r w id v me.1 there,
           record {
             hit = λ hit. absurd (miss hit);
-            miss = λ _. record { seat = ap (λ (q : Stage). (with_stage v q, me.1)) is; lacks = lacks meaning (Defined Mcs) h (defined_ties Mcs) s r id v t.0 mine idle t.1 t.2 };
+            miss = λ _. record { seat = ap (λ (q : Stage). (with_stage v q, me.1)) is; lacks = lacks meaning kinds.Mcs h s r id v t.0 mine idle t.1 t.2 };
           },
-          sym (turns.turned l p (Mcs Waiting) r.tied.kind_is at ∙ turns.passes_by l p behind_one),
+          turns_to l (Mcs Waiting) _ r.tied.kind_is at (turns.misses l p behind_one),
         ))
 
     -- what a holder has seen is the committed log
     saw_lawful : (s : Table O P C R) (r : Rule s) → get_elem? s.views id ≡ some v → holding v.main.stage ≡ true → SawLawful meaning v
     saw_lawful s r there has_it g told =
         let mine = r.each id v there in
-        subst (λ (z : Cell O P C R). Lawful meaning z v.main.seen) (sym (same_cell meaning (Defined Mcs) h r.state id v g mine told)) (subst (Lawful meaning h) (sym (mine.main.whole acts has_it)) r.lawful)
+        subst (λ (z : Cell O P C R). Lawful meaning z v.main.seen) (sym (same_cell meaning kinds.Mcs h r.state id v g mine told)) (subst (Lawful meaning h) (sym (mine.main.whole acts has_it)) r.lawful)
 
     -- a holder's `next` that isn't 0 names the one behind it
-    finds : (s : Table O P C R) (r : Rule s) → get_elem? s.views id ≡ some v → holding v.main.stage ≡ true → get_or s.words (1 + p) 0 ≢ 0
-        → (j : ℕ) × IsMcsLock n s.words (record r.tied.lock { line = going r.tied.lock.line p (Mcs (Passing j)) }) × Names (λ p. Mcs (Passing p)) me (get_or s.words (1 + p) 0) (with_stage v (Mcs (Passing j)), me.1) × (follower r.tied.lock.line ≡ Some j)
-    finds s r there has_it some_one =
-        let b = r.state.line in
-        let l = r.tied.lock in
+    finds : (s : Table O P C R) (r : Rule s) (below : p < n) → get_elem? s.views id ≡ some v → holding v.main.stage ≡ true → (j : ℕ) → follower r.state.lock.line ≡ Some j → get_or s.words (1 + p) 0 ≡ j + 1
+        → Names (λ p. Mcs (Passing p)) me (get_or s.words (1 + p) 0) (with_stage v (Mcs (Passing j)), me.1)
+    finds s r below there has_it j f word =
+        let l = r.state.lock in
         let mine = r.each id v there in
-        let below = (mine.main.owns p acts).1 in
-        let holds = ap holding (stands_there s r v.main.stage there refl) ∙ has_it in
-        let t = saw n s.words b (tie s r) p below (ap holding (mine.main.stands acts) ∙ has_it) some_one in
-        let f = t.1 in (
-          t.0,
-          turns.sees n s.words l r.tied.tied p below t.0 holds f.word,
-          record { cpu = t.0; word = f.word; seat = refl; other = someone_else meaning (Defined Mcs) h (defined_ties Mcs) s r id v t.0 mine (has_at b.cpus 1 t.0 f.second) f.other },
-          turns.sees_that n s.words l r.tied.tied p below t.0 holds f.word,
-        )
+        let at = queue.follower_at n l r.tied.state p below j f in
+        let head = queue.holder_at n l r.tied.state p below (ap holding (mine.main.stands acts) ∙ has_it) in
+        record { cpu = j; word = word; seat = refl; other = someone_else meaning kinds.Mcs h s r id v j mine (has_at l.line.cpus 1 j at) (queue.not_both n l r.tied.state p j head at) }
 
-    pub seeing : v.main.stage ≡ (Mcs Holding) → IsTurn meaning Mcs h slots id me (1 + p) (λ k. k) (sees meaning (step slots (1 + p) 0 0 none) me)
+    pub seeing : v.main.stage ≡ Mcs Holding → IsTurn meaning kinds.Mcs h slots id me (1 + p) (λ k. k) (sees meaning (step slots (1 + p) 0 0 none) me)
     seeing is s r len there small =
-        let l = r.tied.lock in
+        let l = r.state.lock in
         let mine = r.each id v there in
         let below = (mine.main.owns p acts).1 in
-        let at = stands_there s r (Mcs Holding) there is in
+        let at = mine.main.stands acts ∙ is in
         let has_it = ap holding is in
         dite (ℕ_discrete (get_or s.words (1 + p) 0) 0)
         (λ nobody. (
           with_stage v (Mcs Alone),
           keeps,
           tt,
-          reads s r (1 + p) (Mcs Alone) there (λ _. has_it) (turns.sees_none n s.words l r.tied.tied p below at),
+          reads s r (1 + p) (Mcs Alone) there (λ _. has_it) (turns.sees_none n s.words l r.tied p below at),
           record { lawful = saw_lawful s r there has_it; found = λ some_one. absurd (some_one nobody); none = λ _. refl },
-          sym (turns.turned l p (Mcs Holding) r.tied.kind_is at ∙ ap (λ z. (see l p (Mcs Alone) z).0) (turns.sees_nobody n s.words l r.tied.tied p below (ap holding at) nobody)),
+          turns_to l (Mcs Holding) (see l p (Mcs Alone) None) r.tied.kind_is at (ap (see l p (Mcs Alone)) (turns.sees_nobody n s.words l r.tied p below (ap holding at) nobody)),
         ))
-        (λ some_one. let t = finds s r there has_it some_one in (
+        (λ some_one. let t = turns.sees_one n s.words l r.tied p below (ap holding at) some_one in (
           with_stage v (Mcs (Passing t.0)),
           keeps,
           tt,
-          reads s r (1 + p) (Mcs (Passing t.0)) there (λ _. has_it) t.1,
-          record { lawful = saw_lawful s r there has_it; found = λ _. t.2; none = λ nobody. absurd (some_one nobody) },
-          sym (turns.turned l p (Mcs Holding) r.tied.kind_is at ∙ ap (λ z. (see l p (Mcs Alone) z).0) t.3),
+          reads s r (1 + p) (Mcs (Passing t.0)) there (λ _. has_it) (turns.saw n s.words l r.tied p below t.0 at t.1),
+          record { lawful = saw_lawful s r there has_it; found = λ _. finds s r below there has_it t.0 t.1 t.2; none = λ nobody. absurd (some_one nobody) },
+          turns_to l (Mcs Holding) (see l p (Mcs Alone) (Some t.0)) r.tied.kind_is at (ap (see l p (Mcs Alone)) t.1),
         ))
 
     -- a caller that leaves sees one, or lacks a number
-    sees_behind : v.main.stage ≡ (Mcs Leaving) → ((s : Table O P C R) → Rule s → get_elem? s.views id ≡ some v → get_or s.words (1 + p) 0 ≡ 0 → Lacks v) → IsTurn meaning Mcs h slots id me (1 + p) (λ k. k) (sees_again meaning (step slots (1 + p) 0 0 none) me)
+    sees_behind : v.main.stage ≡ Mcs Leaving → ((s : Table O P C R) → Rule s → get_elem? s.views id ≡ some v → get_or s.words (1 + p) 0 ≡ 0 → Lacks v) → IsTurn meaning kinds.Mcs h slots id me (1 + p) (λ k. k) (sees_again meaning (step slots (1 + p) 0 0 none) me)
     sees_behind is lacking s r len there small =
-        let l = r.tied.lock in
+        let l = r.state.lock in
         let mine = r.each id v there in
         let below = (mine.main.owns p acts).1 in
-        let at = stands_there s r (Mcs Leaving) there is in
+        let at = mine.main.stands acts ∙ is in
         let has_it = ap holding is in
         dite (ℕ_discrete (get_or s.words (1 + p) 0) 0)
         (λ nobody. (
           with_stage v (Mcs Leaving),
           keeps,
           tt,
-          reads s r (1 + p) (Mcs Leaving) there (λ _. has_it) (turns.still_none n s.words l r.tied.tied p below at),
+          reads s r (1 + p) (Mcs Leaving) there (λ _. has_it) (turns.still_none n s.words l r.tied p below at),
           record { lawful = saw_lawful s r there has_it; found = λ some_one. absurd (some_one nobody); none = λ _. record { seat = refl; lacks = lacking s r there nobody } },
-          sym (turns.turned l p (Mcs Leaving) r.tied.kind_is at ∙ ap (λ z. (see l p (Mcs Leaving) z).0) (turns.sees_nobody n s.words l r.tied.tied p below (ap holding at) nobody)),
+          turns_to l (Mcs Leaving) (see l p (Mcs Leaving) None) r.tied.kind_is at (ap (see l p (Mcs Leaving)) (turns.sees_nobody n s.words l r.tied p below (ap holding at) nobody)),
         ))
-        (λ some_one. let t = finds s r there has_it some_one in (
+        (λ some_one. let t = turns.sees_one n s.words l r.tied p below (ap holding at) some_one in (
           with_stage v (Mcs (Passing t.0)),
           keeps,
           tt,
-          reads s r (1 + p) (Mcs (Passing t.0)) there (λ _. has_it) t.1,
-          record { lawful = saw_lawful s r there has_it; found = λ _. t.2; none = λ nobody. absurd (some_one nobody) },
-          sym (turns.turned l p (Mcs Leaving) r.tied.kind_is at ∙ ap (λ z. (see l p (Mcs Leaving) z).0) t.3),
+          reads s r (1 + p) (Mcs (Passing t.0)) there (λ _. has_it) (turns.saw_again n s.words l r.tied p below t.0 at t.1),
+          record { lawful = saw_lawful s r there has_it; found = λ _. finds s r below there has_it t.0 t.1 t.2; none = λ nobody. absurd (some_one nobody) },
+          turns_to l (Mcs Leaving) (see l p (Mcs Leaving) (Some t.0)) r.tied.kind_is at (ap (see l p (Mcs Leaving)) t.1),
         ))
 
     -- the one behind a caller that leaves
-    behind_it : (s : Table O P C R) (r : Rule s) → get_elem? s.views id ≡ some v → v.main.stage ≡ (Mcs Leaving) → (j : ℕ) × (get_elem? r.state.line.cpus 1 ≡ some j) × (j ≢ p)
+    behind_it : (s : Table O P C R) (r : Rule s) → get_elem? s.views id ≡ some v → v.main.stage ≡ Mcs Leaving → (j : ℕ) × (get_elem? r.state.lock.line.cpus 1 ≡ some j) × (j ≢ p)
     behind_it s r there is =
-        let l = r.state.line in
         let mine = r.each id v there in
-        let w = stands_at n s.words l (tie s r) p (Mcs Leaving) (mine.main.owns p acts).1 (mine.main.stands acts ∙ is) in
+        let w = stands_at kinds.Mcs n r.state.lock r.tied.state p (Mcs Leaving) (mine.main.owns p acts).1 (mine.main.stands acts ∙ is) in
         let f = w.0 in
-        another n s.words l (tie s r) p f.there w.1
+        queue.another n r.state.lock r.tied.state p f.there w.1
 
-    pub seeing_again : v.main.stage ≡ (Mcs Leaving) → AllIdle v.others → IsTurn meaning Mcs h slots id me (1 + p) (λ k. k) (sees_again meaning (step slots (1 + p) 0 0 none) me)
-    seeing_again is idle = sees_behind is (λ s r there nobody. let t = behind_it s r there is in lacks meaning (Defined Mcs) h (defined_ties Mcs) s r id v t.0 (r.each id v there) idle (has_at r.state.line.cpus 1 t.0 t.1) t.2)
+    pub seeing_again : v.main.stage ≡ Mcs Leaving → AllIdle v.others → IsTurn meaning kinds.Mcs h slots id me (1 + p) (λ k. k) (sees_again meaning (step slots (1 + p) 0 0 none) me)
+    seeing_again is idle = sees_behind is (λ s r there nobody. let t = behind_it s r there is in lacks meaning kinds.Mcs h s r id v t.0 (r.each id v there) idle (has_at r.state.lock.line.cpus 1 t.0 t.1) t.2)
 
     -- beside one that waits, it sees that one, or lacks a number
-    pub finding : (c : Caller O P C R) → v.main.stage ≡ (Mcs Leaving) → v.others ≡ c ∷ [] → c.stage ≡ (Mcs Waiting) → IsTurn meaning Mcs h slots id me (1 + p) (λ k. k) (sees_again meaning (step slots (1 + p) 0 0 none) me)
+    pub finding : (c : Caller O P C R) → v.main.stage ≡ Mcs Leaving → v.others ≡ c ∷ [] → c.stage ≡ Mcs Waiting → IsTurn meaning kinds.Mcs h slots id me (1 + p) (λ k. k) (sees_again meaning (step slots (1 + p) 0 0 none) me)
     finding c is beside waits = sees_behind is (λ s r there nobody g has_all.
         let b = r.state in
-        let l = b.line in
+        let l = b.lock in
         let mine = r.each id v there in
         let below = (mine.main.owns p acts).1 in
         let t = behind_it s r there is in
         let y : ℕ = t.0 in
-        let in_line : has y l.cpus ≡ true = has_at l.cpus 1 y t.1 in
-        let other = someone_else meaning (Defined Mcs) h (defined_ties Mcs) s r id v y mine in_line t.2 in
+        let in_line : has y l.line.cpus ≡ true = has_at l.line.cpus 1 y t.1 in
+        let other = someone_else meaning kinds.Mcs h s r id v y mine in_line t.2 in
         let no_mine = other.other in
         let cover = has_all.each y (other.inside g has_all.told) in
         let elsewhere : any_has y v.others ≡ true = grind (arith, nat_tests) in
@@ -329,72 +269,67 @@ module _ {O P C R : Type 0} (meaning : Ghosts O P C R) (h : Cell O P C R) where
         let know = (subst (λ (cs : List (Caller O P C R)). EachFrom (CallerInvariant n b id) 1 cs) beside mine.others).0 in
         dite (ℕ_discrete y c.cpu)
         (λ e.
-        let stands : l.stage y ≡ (Mcs Waiting) = ap l.stage e ∙ (know.stands (subst (λ (z : ℕ). has z c.owned ≡ true) e owned) ∙ waits) in
-        let link = second n s.words l (tie s r) p below y (ap holding (mine.main.stands acts ∙ is)) t.1 stands in
+        let stands : l.line.stage y ≡ Mcs Waiting = ap l.line.stage e ∙ (know.stands (subst (λ (z : ℕ). has z c.owned ≡ true) e owned) ∙ waits) in
+        let link = turns.waits_linked n s.words l r.tied p below y (ap holding (mine.main.stands acts ∙ is)) t.1 stands in
         let z : 0 ≡ y + 1 = sym nobody ∙ link in
         absurd (omega arith))
-        (λ ne. absurd (true≢false (sym in_line ∙ out_of_line n s.words l (tie s r) y (in_cell n s.words l (tie s r) 1 y t.1) (know.rests y owned ne)))))
+        (λ ne. absurd (true≢false (sym in_line ∙ idle_outside kinds.Mcs n l r.tied.state y (in_cell kinds.Mcs n l r.tied.state 1 y t.1) (know.rests y owned ne)))))
 
     module _ (x : History O P C R) (others : List (ℕ × Option (History O P C R))) (one : slots ≡ 1) (carries : me.1 ≡ (0, Some x) ∷ others) (added : AddedBy p v.main.seen x.log) (lawful : Lawful meaning h x.log) (is_stored : x ≡ stored meaning h x.log) where
       -- the object goes home, and nobody has it
-      gave : (s : Table O P C R) (r : Rule s) (i k : ℕ) → length s.homes ≡ slots → get_elem? s.views id ≡ some v → holding v.main.stage ≡ true → IsMcsLock n (set s.words i k) (record r.tied.lock { line = leaving r.tied.lock.line p })
-          → (r' : Rule (stepped s i k id me.1 (settled v Idle x.log) gives)) × (r'.tied.lock ≡ record r.tied.lock { line = leaving r.tied.lock.line p })
+      gave : (s : Table O P C R) (r : Rule s) (i k : ℕ) → length s.homes ≡ slots → get_elem? s.views id ≡ some v → holding v.main.stage ≡ true → IsLockOf kinds.Mcs n (set s.words i k) (pass r.state.lock p)
+          → (r' : Rule (stepped s i k id me.1 (settled v Idle x.log) gives)) × (r'.state.lock ≡ pass r.state.lock p)
       gave s r i k len there has_it tied =
-          let b = r.state.line in
-          let l = r.tied.lock in
+          let l = r.state.lock in
           let mine = r.each id v there in
           let below = (mine.main.owns p acts).1 in
           let holds = ap holding (mine.main.stands acts) ∙ has_it in
           let slot : me.1 ≡ (0, Some (stored meaning h x.log)) ∷ others = carries ∙ ap (λ z. (0, Some z) ∷ others) is_stored in
-          let defined : Defined Mcs n (set s.words i k) (lined (behind b.cpus) false b.stage p Idle) = record { lock = record l { line = leaving l.line p }; kind_is = r.tied.kind_is; line_is = ap (λ (z : Line). leaving z p) r.tied.line_is; tied = tied } in
-          subst (λ (cs : List (ℕ × Option (History O P C R))). (r' : Rule (stepped s i k id cs (settled v Idle x.log) gives)) × (r'.tied.lock ≡ record l { line = leaving l.line p })) (sym slot)
-          (given meaning (Defined Mcs) h s r i k id v others x.log (behind b.cpus) Idle (omega arith) there acts holds (only_one n s.words b (tie s r) p below holds) added lawful defined, refl)
+          subst (λ (cs : List (ℕ × Option (History O P C R))). (r' : Rule (stepped s i k id cs (settled v Idle x.log) gives)) × (r'.state.lock ≡ pass l p)) (sym slot)
+          (given meaning kinds.Mcs h s r i k id v others x.log (pass l p) Idle refl (omega arith) there acts holds (λ y y_below y_has. one_holds kinds.Mcs n l r.tied.state y p y_below below y_has holds) added lawful tied, refl)
 
       returned : Returns meaning Idle me (settled v Idle x.log, rest me.1)
       returned x' others' e = let same = sym carries ∙ e in λ z. (settled v Idle (value_of meaning x (same z)).log, rest (e z))
 
-      pub emptying : v.main.stage ≡ (Mcs Alone) → AllIdle v.others → IsTurn meaning Mcs h slots id me 0 (λ k. either (k == (p + 1)) 0 k) (empties meaning (step slots 0 (p + 1) 0 none) me)
+      pub emptying : v.main.stage ≡ Mcs Alone → AllIdle v.others → IsTurn meaning kinds.Mcs h slots id me 0 (λ k. either (k == (p + 1)) 0 k) (empties meaning (step slots 0 (p + 1) 0 none) me)
       emptying is idle s r len there small =
-          let b = r.state.line in
-          let l = r.tied.lock in
+          let l = r.state.lock in
           let mine = r.each id v there in
           let below = (mine.main.owns p acts).1 in
-          let here = mine.main.stands acts ∙ is in
-          let at = stands_there s r (Mcs Alone) there is in
+          let at = mine.main.stands acts ∙ is in
           let has_it = ap holding is in
           let found : ℕ = get_or s.words 0 0 in
           exchanged found (p + 1) 0
-          (λ (k : ℕ). (w : Viewed O P C R) × (a : Act (Option (History O P C R))) × Valid s.homes me.1 a × (r' : Rule (stepped s 0 k id me.1 w a)) × EmptyOutcome meaning (p + 1) me found (w, carried_after me.1 a) × (r'.tied.lock ≡ (turn l p).0))
-          (λ hit. let now = gave s r 0 0 len there has_it (turns.empties n s.words l r.tied.tied p below at hit) in (
+          (λ (k : ℕ). (w : Viewed O P C R) × (a : Act (Option (History O P C R))) × Valid s.homes me.1 a × (r' : Rule (stepped s 0 k id me.1 w a)) × EmptyOutcome meaning (p + 1) me found (w, carried_after me.1 a) × (r'.state.lock ≡ (turn l p).0))
+          (λ hit. let now = gave s r 0 0 len there has_it (turns.empties n s.words l r.tied p below at (turns.tail_some n s.words l r.tied p hit)) in (
             settled v Idle x.log,
             gives,
             tt,
             now.0,
             record { lawful = saw_lawful s r there has_it; hit = λ _. returned; miss = λ miss. absurd (miss hit) },
-            now.1 ∙ sym (turns.turned l p (Mcs Alone) r.tied.kind_is at ∙ turns.ends_queue l p (turns.named_last n s.words l r.tied.tied p below hit)),
+            now.1 ∙ turns_to l (Mcs Alone) _ r.tied.kind_is at (turns.ends_queue l p (turns.last_is n s.words l r.tied p below hit)),
           ))
           (λ miss.
-          let longer = more n s.words b (tie s r) p below here miss in
-          let f = stands_at n s.words b (tie s r) p (Mcs Alone) below here in
-          let t = another n s.words b (tie s r) p f.there longer in
-          let not_last = false_from (is_named p (last l.line.cpus)) (λ named. miss (turns.last_named n s.words l r.tied.tied p below named)) in (
+          let other = turns.last_else n s.words l r.tied p below miss in
+          let f = stands_at kinds.Mcs n l r.tied.state p (Mcs Alone) below at in
+          let t = queue.another n l r.tied.state p f.there (queue.more n l r.tied.state p below at other) in (
             with_stage v (Mcs Leaving),
             keeps,
             tt,
-            reads s r 0 (Mcs Leaving) there (λ _. has_it) (turns.stays_on n s.words l r.tied.tied p below at miss),
+            reads s r 0 (Mcs Leaving) there (λ _. has_it) (turns.stays_on n s.words l r.tied p below at other),
             record {
               lawful = saw_lawful s r there has_it;
               hit = λ hit. absurd (miss hit);
-              miss = λ _. record { seat = refl; lacks = lacks meaning (Defined Mcs) h (defined_ties Mcs) s r id v t.0 mine idle (has_at b.cpus 1 t.0 t.1) t.2 };
+              miss = λ _. record { seat = refl; lacks = lacks meaning kinds.Mcs h s r id v t.0 mine idle (has_at l.line.cpus 1 t.0 t.1) t.2 };
             },
-            sym (turns.turned l p (Mcs Alone) r.tied.kind_is at ∙ turns.stays_queued l p not_last),
+            turns_to l (Mcs Alone) _ r.tied.kind_is at (turns.stays_queued l p (turns.not_named n s.words l r.tied p below miss)),
           ))
 
-      pub passing : (j : ℕ) → v.main.stage ≡ Mcs (Passing j) → IsTurn meaning Mcs h slots id me (1 + n + j) (λ _. 0) (λ _. passes meaning (step slots (1 + n + j) 0 0 none) me 0)
+      pub passing : (j : ℕ) → v.main.stage ≡ Mcs (Passing j) → IsTurn meaning kinds.Mcs h slots id me (1 + n + j) (λ _. 0) (λ _. passes meaning (step slots (1 + n + j) 0 0 none) me 0)
       passing j is s r len there small =
-          let l = r.tied.lock in
+          let l = r.state.lock in
           let mine = r.each id v there in
           let below = (mine.main.owns p acts).1 in
-          let at = stands_there s r (Mcs (Passing j)) there is in
-          let now = gave s r (1 + n + j) 0 len there (ap holding is) (turns.passes n s.words l r.tied.tied p below j at) in
-          (settled v Idle x.log, gives, tt, now.0, returned, now.1 ∙ sym (turns.turned l p (Mcs (Passing j)) r.tied.kind_is at))
+          let at = mine.main.stands acts ∙ is in
+          let now = gave s r (1 + n + j) 0 len there (ap holding is) (turns.passes n s.words l r.tied p below j at) in
+          (settled v Idle x.log, gives, tt, now.0, returned, now.1 ∙ turns_to l (Mcs (Passing j)) _ r.tied.kind_is at refl)

@@ -10,7 +10,7 @@ use Rattle.word_rule.specs.declared.stage.Stage.{Stage}
 use Rattle.word_rule.specs.declared.stage.Stage.TheVariants.{Idle, Mcs, Torn}
 use Rattle.word_rule.specs.declared.stage.McsStage.TheVariants.{Ready, Behind, Armed, Waiting, Holding, Alone, Leaving, Passing}
 use Rattle.word_rule.specs.Line.{Line, lined, moved, holding, is_first}
-use Rattle.word_rule.specs.Locks.{Lock, last, behind, is_named, follower, going, joining, taking, leaving, opening_lock}
+use Rattle.word_rule.specs.Locks.{Lock, is_linked, last, behind, is_named, follower, going, joining, taking, leaving, opening_lock}
 use Rattle.word_rule.specs.LockStates.{IsLock, IsLockOf}
 use Rattle.word_rule.specs.LockWords.{word_of, is_armed, locked_by, locked_at, mcs_words}
 use Rattle.word_rule.specs.Turns.{clear, arm, link, pass, turn, turn_of, mcs_turn}
@@ -175,6 +175,10 @@ module _ (n : ℕ) (ws : List ℕ) (l : Lock) (h : IsLockOf kinds.Mcs n ws l) wh
         by : (o : Option ℕ) → follower l.line ≡ o → word_of o ≤ n
         by None e = omega arith
         by (Some j) e = let lt = in_cell kinds.Mcs n l h.state 1 j (queue.follower_at n l h.state i below j e) in omega (arith, lt)
+
+    -- one that waits in the second place has linked itself to the holder
+    pub waits_linked : (y : ℕ) → holding (l.line.stage i) ≡ true → get_elem? l.line.cpus 1 ≡ some y → l.line.stage y ≡ Mcs Waiting → get_or ws (1 + i) 0 ≡ y + 1
+    waits_linked y has_it there waits = words.next_word n ws l h.words i below ∙ ap word_of (queue.next_is n l h.state 0 i y (queue.holder_at n l h.state i below has_it) there ∙ ap (λ q. cond (is_linked q) (Some y) None) waits)
 
     -- one that has the object goes on, and no word changes
     reads_on : (p q : Stage) → l.line.stage i ≡ p → locked_by q i l.line.cpus ≡ locked_by p i l.line.cpus → IsLock kinds.Mcs n (record l { line = going l.line i q }) → IsLockOf kinds.Mcs n ws (record l { line = going l.line i q })
