@@ -1,3 +1,2 @@
 pub mod McsRule
 pub mod McsActing
-pub mod Zeros

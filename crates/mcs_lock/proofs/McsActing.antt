@@ -1,5 +1,5 @@
 -- What each step of the code asks of an MCS lock's rule, and what it leaves with a caller.
-use Rattle.std.proofs.Common.{◌≡◌, ℕ, ◌+◌, ◌<◌, ◌==◌, true, true≢false, List, [], ◌∷◌, refl, sym, ap, ◌∙◌, subst, arith, Option, Some, None, IsSome, rules}
+use Rattle.std.proofs.Common.{◌≡◌, ℕ, ◌+◌, ◌<◌, ◌==◌, true, true≢false, List, [], ◌∷◌, refl, sym, ap, ◌∙◌, subst, arith, Option, Some, None}
 use mathlib.Core.Option.{none}
 use prog.Atomic.{either}
 use Rattle.atomic_table.specs.Table.{step, rest}
@@ -11,9 +11,9 @@ use Rattle.word_rule.specs.declared.stage.Stage.{Stage}
 use Rattle.word_rule.specs.declared.stage.Stage.TheVariants.{Idle, Mcs}
 use Rattle.word_rule.specs.declared.stage.McsStage.TheVariants.{Ready, Behind, Armed, Waiting, Holding, Alone, Leaving, Passing}
 use Rattle.word_rule.specs.Cell.{Cell, Grows, Lawful, OwnsAll}
-use Rattle.word_rule.specs.declared.lock_kind.LockKind.TheVariants.{Mcs}
+use Rattle.word_rule.specs.declared.lock_kind.LockKind.TheVariants as kinds
 use Rattle.word_rule.specs.Definition.{IsTurn}
-use Rattle.word_rule.specs.CallerState.{CallerState, Moves}
+use Rattle.word_rule.specs.CallerState.{CallerState, IsOther, Moves}
 use Rattle.word_rule.specs.CellInvariant.{Caller}
 use Rattle.word_rule.specs.Seats.{Seat, at, with_stage, taken_in, keeping, letting}
 use Rattle.word_rule.specs.Announced.{IsElse}
@@ -24,89 +24,66 @@ use Rattle.word_rule.proofs.Acting.{value_of}
 use Rattle.mcs_lock.specs.Steps.{goes, arms, Names, enters, looks, sees, sees_again, empties, passes}
 use Rattle.mcs_lock.proofs.McsRule.{clearing, entering, arming, linking, looking, seeing, seeing_again, finding, emptying, passing}
 
--- the words are those of the number that the code has
-module _ {O P C R : Type 0} (meaning : Ghosts O P C R) (h : Cell O P C R) (slots id cpu : ℕ) where
-  clear_so : (m : Seat O P C R) → IsWithout meaning h cpu Idle m → IsTurn meaning Mcs h slots id m (1 + cpu) (λ _. 0) (λ _. goes (Mcs Ready) (step slots (1 + cpu) 0 0 none) m 0)
-  clear_so m w = subst (λ (z : ℕ). IsTurn meaning Mcs h slots id m (1 + z) (λ _. 0) (λ _. goes (Mcs Ready) (step slots (1 + z) 0 0 none) m 0)) w.at.number
-      (clearing meaning h slots id m w.pass_view.caller.acts w.at.stands)
+-- the words are those of the number that the code has, at a cell of the MCS lock
+module _ {O P C R : Type 0} (meaning : Ghosts O P C R) (h : Cell O P C R) (kind : h.kind ≡ kinds.Mcs) (slots id cpu : ℕ) where
+  at_kind : (m : Seat O P C R) (i : ℕ) (f : ℕ → ℕ) (then : ℕ → Seat O P C R → Type 0) → IsTurn meaning kinds.Mcs h slots id m i f then → IsTurn meaning h.kind h slots id m i f then
+  at_kind m i f then t = subst (λ k. IsTurn meaning k h slots id m i f then) (sym kind) t
 
-  pub clear_now : h.kind ≡ Mcs → (m : Seat O P C R) → IsWithout meaning h cpu Idle m → IsTurn meaning h.kind h slots id m (1 + cpu) (λ _. 0) (λ _. goes (Mcs Ready) (step slots (1 + cpu) 0 0 none) m 0)
-  clear_now kind m w = subst (λ k. IsTurn meaning k h slots id m (1 + cpu) (λ _. 0) (λ _. goes (Mcs Ready) (step slots (1 + cpu) 0 0 none) m 0)) (sym kind) (clear_so m w)
+  pub clear_now : (m : Seat O P C R) → IsWithout meaning h cpu Idle m → IsTurn meaning h.kind h slots id m (1 + cpu) (λ _. 0) (λ _. goes (Mcs Ready) (step slots (1 + cpu) 0 0 none) m 0)
+  clear_now m w = at_kind m (1 + cpu) (λ _. 0) (λ _. goes (Mcs Ready) (step slots (1 + cpu) 0 0 none) m 0) (subst (λ (z : ℕ). IsTurn meaning kinds.Mcs h slots id m (1 + z) (λ _. 0) (λ _. goes (Mcs Ready) (step slots (1 + z) 0 0 none) m 0)) w.at.number
+      (clearing meaning h slots id m w.pass_view.caller.acts w.at.stands))
 
-  enter_so : (m : Seat O P C R) → IsWithout meaning h cpu (Mcs Ready) m → IsTurn meaning Mcs h slots id m 0 (λ _. cpu + 1) (enters meaning (step slots 0 (cpu + 1) 0 none) m)
-  enter_so m w = subst (λ (z : ℕ). IsTurn meaning Mcs h slots id m 0 (λ _. z + 1) (enters meaning (step slots 0 (z + 1) 0 none) m)) w.at.number
-      (entering meaning h slots id m w.pass_view.caller.acts w.at.stands)
+  pub enter_now : (m : Seat O P C R) → IsWithout meaning h cpu (Mcs Ready) m → IsTurn meaning h.kind h slots id m 0 (λ _. cpu + 1) (enters meaning (step slots 0 (cpu + 1) 0 none) m)
+  enter_now m w = at_kind m 0 (λ _. cpu + 1) (enters meaning (step slots 0 (cpu + 1) 0 none) m) (subst (λ (z : ℕ). IsTurn meaning kinds.Mcs h slots id m 0 (λ _. z + 1) (enters meaning (step slots 0 (z + 1) 0 none) m)) w.at.number
+      (entering meaning h slots id m w.pass_view.caller.acts w.at.stands))
 
-  pub enter_now : h.kind ≡ Mcs → (m : Seat O P C R) → IsWithout meaning h cpu (Mcs Ready) m → IsTurn meaning h.kind h slots id m 0 (λ _. cpu + 1) (enters meaning (step slots 0 (cpu + 1) 0 none) m)
-  enter_now kind m w = subst (λ k. IsTurn meaning k h slots id m 0 (λ _. cpu + 1) (enters meaning (step slots 0 (cpu + 1) 0 none) m)) (sym kind) (enter_so m w)
+  pub arm_now : (n q : ℕ) (m : Seat O P C R) → h.numbers ≡ n → IsWithout meaning h cpu (Mcs (Behind q)) m → IsTurn meaning h.kind h slots id m (1 + n + cpu) (λ _. 1) (λ _. arms (step slots (1 + n + cpu) 1 0 none) m 1)
+  arm_now n q m is w = at_kind m (1 + n + cpu) (λ _. 1) (λ _. arms (step slots (1 + n + cpu) 1 0 none) m 1) (subst (λ (z : ℕ × ℕ). IsTurn meaning kinds.Mcs h slots id m (1 + z.0 + z.1) (λ _. 1) (λ _. arms (step slots (1 + z.0 + z.1) 1 0 none) m 1)) (λ i. (is i, w.at.number i))
+      (arming meaning h slots id m w.pass_view.caller.acts q w.at.stands))
 
-  arm_so : (n q : ℕ) (m : Seat O P C R) → h.numbers ≡ n → IsWithout meaning h cpu (Mcs (Behind q)) m → IsTurn meaning Mcs h slots id m (1 + n + cpu) (λ _. 1) (λ _. arms (step slots (1 + n + cpu) 1 0 none) m 1)
-  arm_so n q m is w = subst (λ (z : ℕ × ℕ). IsTurn meaning Mcs h slots id m (1 + z.0 + z.1) (λ _. 1) (λ _. arms (step slots (1 + z.0 + z.1) 1 0 none) m 1)) (λ i. (is i, w.at.number i))
-      (arming meaning h slots id m w.pass_view.caller.acts q w.at.stands)
-
-  pub arm_now : h.kind ≡ Mcs → (n q : ℕ) (m : Seat O P C R) → h.numbers ≡ n → IsWithout meaning h cpu (Mcs (Behind q)) m → IsTurn meaning h.kind h slots id m (1 + n + cpu) (λ _. 1) (λ _. arms (step slots (1 + n + cpu) 1 0 none) m 1)
-  arm_now kind n q m is w = subst (λ k. IsTurn meaning k h slots id m (1 + n + cpu) (λ _. 1) (λ _. arms (step slots (1 + n + cpu) 1 0 none) m 1)) (sym kind) (arm_so n q m is w)
-
-  link_so : (q : ℕ) (m : Seat O P C R) → IsWithout meaning h cpu (Mcs (Armed q)) m → IsTurn meaning Mcs h slots id m (1 + q) (λ _. cpu + 1) (λ _. goes (Mcs Waiting) (step slots (1 + q) (cpu + 1) 0 none) m (cpu + 1))
-  link_so q m w = subst (λ (z : ℕ). IsTurn meaning Mcs h slots id m (1 + q) (λ _. z + 1) (λ _. goes (Mcs Waiting) (step slots (1 + q) (z + 1) 0 none) m (z + 1))) w.at.number
-      (linking meaning h slots id m w.pass_view.caller.acts q w.at.stands)
-
-  pub link_now : h.kind ≡ Mcs → (q : ℕ) (m : Seat O P C R) → IsWithout meaning h cpu (Mcs (Armed q)) m → IsTurn meaning h.kind h slots id m (1 + q) (λ _. cpu + 1) (λ _. goes (Mcs Waiting) (step slots (1 + q) (cpu + 1) 0 none) m (cpu + 1))
-  link_now kind q m w = subst (λ k. IsTurn meaning k h slots id m (1 + q) (λ _. cpu + 1) (λ _. goes (Mcs Waiting) (step slots (1 + q) (cpu + 1) 0 none) m (cpu + 1))) (sym kind) (link_so q m w)
+  pub link_now : (q : ℕ) (m : Seat O P C R) → IsWithout meaning h cpu (Mcs (Armed q)) m → IsTurn meaning h.kind h slots id m (1 + q) (λ _. cpu + 1) (λ _. goes (Mcs Waiting) (step slots (1 + q) (cpu + 1) 0 none) m (cpu + 1))
+  link_now q m w = at_kind m (1 + q) (λ _. cpu + 1) (λ _. goes (Mcs Waiting) (step slots (1 + q) (cpu + 1) 0 none) m (cpu + 1)) (subst (λ (z : ℕ). IsTurn meaning kinds.Mcs h slots id m (1 + q) (λ _. z + 1) (λ _. goes (Mcs Waiting) (step slots (1 + q) (z + 1) 0 none) m (z + 1))) w.at.number
+      (linking meaning h slots id m w.pass_view.caller.acts q w.at.stands))
 
   -- a look by a caller, also beside callers that are idle
-  look_so : (n : ℕ) (m : Seat O P C R) → h.numbers ≡ n → has m.0.main.cpu m.0.main.owned ≡ true → m.0.main.cpu ≡ cpu → m.0.main.stage ≡ (Mcs Waiting) → AllIdle m.0.others → IsTurn meaning Mcs h slots id m (1 + n + cpu) (λ k. k) (looks meaning (step slots (1 + n + cpu) 0 0 none) m)
-  look_so n m is acts number stands idle = subst (λ (z : ℕ × ℕ). IsTurn meaning Mcs h slots id m (1 + z.0 + z.1) (λ k. k) (looks meaning (step slots (1 + z.0 + z.1) 0 0 none) m)) (λ i. (is i, number i))
-      (looking meaning h slots id m acts stands idle)
+  pub look_now : (n : ℕ) (m : Seat O P C R) → h.numbers ≡ n → has m.0.main.cpu m.0.main.owned ≡ true → m.0.main.cpu ≡ cpu → m.0.main.stage ≡ Mcs Waiting → AllIdle m.0.others → IsTurn meaning h.kind h slots id m (1 + n + cpu) (λ k. k) (looks meaning (step slots (1 + n + cpu) 0 0 none) m)
+  look_now n m is acts number stands idle = at_kind m (1 + n + cpu) (λ k. k) (looks meaning (step slots (1 + n + cpu) 0 0 none) m) (subst (λ (z : ℕ × ℕ). IsTurn meaning kinds.Mcs h slots id m (1 + z.0 + z.1) (λ k. k) (looks meaning (step slots (1 + z.0 + z.1) 0 0 none) m)) (λ i. (is i, number i))
+      (looking meaning h slots id m acts stands idle))
 
-  pub look_now : h.kind ≡ Mcs → (n : ℕ) (m : Seat O P C R) → h.numbers ≡ n → has m.0.main.cpu m.0.main.owned ≡ true → m.0.main.cpu ≡ cpu → m.0.main.stage ≡ (Mcs Waiting) → AllIdle m.0.others → IsTurn meaning h.kind h slots id m (1 + n + cpu) (λ k. k) (looks meaning (step slots (1 + n + cpu) 0 0 none) m)
-  look_now kind n m is acts number stands idle = subst (λ k. IsTurn meaning k h slots id m (1 + n + cpu) (λ k. k) (looks meaning (step slots (1 + n + cpu) 0 0 none) m)) (sym kind) (look_so n m is acts number stands idle)
+  pub see_now : (m : Seat O P C R) (x : History O P C R) → IsWith meaning h cpu (Mcs Holding) x m → IsTurn meaning h.kind h slots id m (1 + cpu) (λ k. k) (sees meaning (step slots (1 + cpu) 0 0 none) m)
+  see_now m x w = at_kind m (1 + cpu) (λ k. k) (sees meaning (step slots (1 + cpu) 0 0 none) m) (subst (λ (z : ℕ). IsTurn meaning kinds.Mcs h slots id m (1 + z) (λ k. k) (sees meaning (step slots (1 + z) 0 0 none) m)) w.at.number
+      (seeing meaning h slots id m w.hold_view.caller.acts w.at.stands))
 
-  see_so : (m : Seat O P C R) (x : History O P C R) → IsWith meaning h cpu (Mcs Holding) x m → IsTurn meaning Mcs h slots id m (1 + cpu) (λ k. k) (sees meaning (step slots (1 + cpu) 0 0 none) m)
-  see_so m x w = subst (λ (z : ℕ). IsTurn meaning Mcs h slots id m (1 + z) (λ k. k) (sees meaning (step slots (1 + z) 0 0 none) m)) w.at.number
-      (seeing meaning h slots id m w.hold_view.caller.acts w.at.stands)
-
-  pub see_now : h.kind ≡ Mcs → (m : Seat O P C R) (x : History O P C R) → IsWith meaning h cpu (Mcs Holding) x m → IsTurn meaning h.kind h slots id m (1 + cpu) (λ k. k) (sees meaning (step slots (1 + cpu) 0 0 none) m)
-  see_now kind m x w = subst (λ k. IsTurn meaning k h slots id m (1 + cpu) (λ k. k) (sees meaning (step slots (1 + cpu) 0 0 none) m)) (sym kind) (see_so m x w)
-
-  see_again_so : (m : Seat O P C R) (x : History O P C R) → IsWith meaning h cpu (Mcs Leaving) x m → IsTurn meaning Mcs h slots id m (1 + cpu) (λ k. k) (sees_again meaning (step slots (1 + cpu) 0 0 none) m)
-  see_again_so m x w = subst (λ (z : ℕ). IsTurn meaning Mcs h slots id m (1 + z) (λ k. k) (sees_again meaning (step slots (1 + z) 0 0 none) m)) w.at.number
-      (seeing_again meaning h slots id m w.hold_view.caller.acts w.at.stands (idle_alone m.0.others w.at.alone))
-
-  pub see_again_now : h.kind ≡ Mcs → (m : Seat O P C R) (x : History O P C R) → IsWith meaning h cpu (Mcs Leaving) x m → IsTurn meaning h.kind h slots id m (1 + cpu) (λ k. k) (sees_again meaning (step slots (1 + cpu) 0 0 none) m)
-  see_again_now kind m x w = subst (λ k. IsTurn meaning k h slots id m (1 + cpu) (λ k. k) (sees_again meaning (step slots (1 + cpu) 0 0 none) m)) (sym kind) (see_again_so m x w)
+  pub see_again_now : (m : Seat O P C R) (x : History O P C R) → IsWith meaning h cpu (Mcs Leaving) x m → IsTurn meaning h.kind h slots id m (1 + cpu) (λ k. k) (sees_again meaning (step slots (1 + cpu) 0 0 none) m)
+  see_again_now m x w = at_kind m (1 + cpu) (λ k. k) (sees_again meaning (step slots (1 + cpu) 0 0 none) m) (subst (λ (z : ℕ). IsTurn meaning kinds.Mcs h slots id m (1 + z) (λ k. k) (sees_again meaning (step slots (1 + z) 0 0 none) m)) w.at.number
+      (seeing_again meaning h slots id m w.hold_view.caller.acts w.at.stands (idle_alone m.0.others w.at.alone)))
 
   -- the same beside a caller that waits
-  find_so : (m : Seat O P C R) (c : Caller O P C R) → has m.0.main.cpu m.0.main.owned ≡ true → m.0.main.cpu ≡ cpu → m.0.main.stage ≡ (Mcs Leaving) → m.0.others ≡ c ∷ [] → c.stage ≡ (Mcs Waiting) → IsTurn meaning Mcs h slots id m (1 + cpu) (λ k. k) (sees_again meaning (step slots (1 + cpu) 0 0 none) m)
-  find_so m c acts number stands beside waits = subst (λ (z : ℕ). IsTurn meaning Mcs h slots id m (1 + z) (λ k. k) (sees_again meaning (step slots (1 + z) 0 0 none) m)) number
-      (finding meaning h slots id m acts c stands beside waits)
-
-  pub find_now : h.kind ≡ Mcs → (m : Seat O P C R) (c : Caller O P C R) → has m.0.main.cpu m.0.main.owned ≡ true → m.0.main.cpu ≡ cpu → m.0.main.stage ≡ (Mcs Leaving) → m.0.others ≡ c ∷ [] → c.stage ≡ (Mcs Waiting) → IsTurn meaning h.kind h slots id m (1 + cpu) (λ k. k) (sees_again meaning (step slots (1 + cpu) 0 0 none) m)
-  find_now kind m c acts number stands beside waits = subst (λ k. IsTurn meaning k h slots id m (1 + cpu) (λ k. k) (sees_again meaning (step slots (1 + cpu) 0 0 none) m)) (sym kind) (find_so m c acts number stands beside waits)
+  pub find_now : (m : Seat O P C R) (c : Caller O P C R) → has m.0.main.cpu m.0.main.owned ≡ true → m.0.main.cpu ≡ cpu → m.0.main.stage ≡ Mcs Leaving → m.0.others ≡ c ∷ [] → c.stage ≡ Mcs Waiting → IsTurn meaning h.kind h slots id m (1 + cpu) (λ k. k) (sees_again meaning (step slots (1 + cpu) 0 0 none) m)
+  find_now m c acts number stands beside waits = at_kind m (1 + cpu) (λ k. k) (sees_again meaning (step slots (1 + cpu) 0 0 none) m) (subst (λ (z : ℕ). IsTurn meaning kinds.Mcs h slots id m (1 + z) (λ k. k) (sees_again meaning (step slots (1 + z) 0 0 none) m)) number
+      (finding meaning h slots id m acts c stands beside waits))
 
   -- a holder that put the object into its slot
-  empty_so : (x : History O P C R) (m me : Seat O P C R) → IsWith meaning h cpu (Mcs Alone) x m → slots ≡ 1 → me ≡ (m.0, (0, Some x) ∷ rest m.1) → IsTurn meaning Mcs h slots id me 0 (λ k. either (k == (cpu + 1)) 0 k) (empties meaning (step slots 0 (cpu + 1) 0 none) me)
-  empty_so x m me w one filled =
-      let Goal : ℕ × Seat O P C R → Type 0 = λ z. IsTurn meaning Mcs h slots id z.1 0 (λ k. either (k == (z.0 + 1)) 0 k) (empties meaning (step slots 0 (z.0 + 1) 0 none) z.1) in
-      subst Goal (λ i. (w.at.number i, sym filled i))
-      (emptying meaning h slots id (m.0, (0, Some x) ∷ rest m.1) w.hold_view.caller.acts x (rest m.1) one refl w.added w.hold_view.lawful w.hold_view.replayed w.at.stands (idle_alone m.0.others w.at.alone))
+  pub empty_now : (x : History O P C R) (m me : Seat O P C R) → IsWith meaning h cpu (Mcs Alone) x m → slots ≡ 1 → me ≡ (m.0, (0, Some x) ∷ rest m.1) → IsTurn meaning h.kind h slots id me 0 (λ k. either (k == (cpu + 1)) 0 k) (empties meaning (step slots 0 (cpu + 1) 0 none) me)
+  empty_now x m me w one filled =
+      let Goal : ℕ × Seat O P C R → Type 0 = λ z. IsTurn meaning kinds.Mcs h slots id z.1 0 (λ k. either (k == (z.0 + 1)) 0 k) (empties meaning (step slots 0 (z.0 + 1) 0 none) z.1) in
+      at_kind me 0 (λ k. either (k == (cpu + 1)) 0 k) (empties meaning (step slots 0 (cpu + 1) 0 none) me) (subst Goal (λ i. (w.at.number i, sym filled i))
+      (emptying meaning h slots id (m.0, (0, Some x) ∷ rest m.1) w.hold_view.caller.acts x (rest m.1) one refl w.added w.hold_view.lawful w.hold_view.replayed w.at.stands (idle_alone m.0.others w.at.alone)))
 
-  pub empty_now : h.kind ≡ Mcs → (x : History O P C R) (m me : Seat O P C R) → IsWith meaning h cpu (Mcs Alone) x m → slots ≡ 1 → me ≡ (m.0, (0, Some x) ∷ rest m.1) → IsTurn meaning h.kind h slots id me 0 (λ k. either (k == (cpu + 1)) 0 k) (empties meaning (step slots 0 (cpu + 1) 0 none) me)
-  empty_now kind x m me w one filled = subst (λ k. IsTurn meaning k h slots id me 0 (λ k. either (k == (cpu + 1)) 0 k) (empties meaning (step slots 0 (cpu + 1) 0 none) me)) (sym kind) (empty_so x m me w one filled)
-
-  pass_so : (n j : ℕ) (x : History O P C R) (m me : Seat O P C R) → h.numbers ≡ n → IsWith meaning h cpu (Mcs (Passing j)) x m → slots ≡ 1 → me ≡ (m.0, (0, Some x) ∷ rest m.1) → IsTurn meaning Mcs h slots id me (1 + n + j) (λ _. 0) (λ _. passes meaning (step slots (1 + n + j) 0 0 none) me 0)
-  pass_so n j x m me is w one filled =
-      let Goal : ℕ × Seat O P C R → Type 0 = λ z. IsTurn meaning Mcs h slots id z.1 (1 + z.0 + j) (λ _. 0) (λ _. passes meaning (step slots (1 + z.0 + j) 0 0 none) z.1 0) in
-      subst Goal (λ i. (is i, sym filled i))
-      (passing meaning h slots id (m.0, (0, Some x) ∷ rest m.1) w.hold_view.caller.acts x (rest m.1) one refl w.added w.hold_view.lawful w.hold_view.replayed j w.at.stands)
-
-  pub pass_now : h.kind ≡ Mcs → (n j : ℕ) (x : History O P C R) (m me : Seat O P C R) → h.numbers ≡ n → IsWith meaning h cpu (Mcs (Passing j)) x m → slots ≡ 1 → me ≡ (m.0, (0, Some x) ∷ rest m.1) → IsTurn meaning h.kind h slots id me (1 + n + j) (λ _. 0) (λ _. passes meaning (step slots (1 + n + j) 0 0 none) me 0)
-  pass_now kind n j x m me is w one filled = subst (λ k. IsTurn meaning k h slots id me (1 + n + j) (λ _. 0) (λ _. passes meaning (step slots (1 + n + j) 0 0 none) me 0)) (sym kind) (pass_so n j x m me is w one filled)
+  pub pass_now : (n j : ℕ) (x : History O P C R) (m me : Seat O P C R) → h.numbers ≡ n → IsWith meaning h cpu (Mcs (Passing j)) x m → slots ≡ 1 → me ≡ (m.0, (0, Some x) ∷ rest m.1) → IsTurn meaning h.kind h slots id me (1 + n + j) (λ _. 0) (λ _. passes meaning (step slots (1 + n + j) 0 0 none) me 0)
+  pass_now n j x m me is w one filled =
+      let Goal : ℕ × Seat O P C R → Type 0 = λ z. IsTurn meaning kinds.Mcs h slots id z.1 (1 + z.0 + j) (λ _. 0) (λ _. passes meaning (step slots (1 + z.0 + j) 0 0 none) z.1 0) in
+      at_kind me (1 + n + j) (λ _. 0) (λ _. passes meaning (step slots (1 + n + j) 0 0 none) me 0) (subst Goal (λ i. (is i, sym filled i))
+      (passing meaning h slots id (m.0, (0, Some x) ∷ rest m.1) w.hold_view.caller.acts x (rest m.1) one refl w.added w.hold_view.lawful w.hold_view.replayed j w.at.stands))
 
 module _ {O P C R : Type 0} where
   -- who owns every number owns the one that a word named
   pub not_else : (h : Cell O P C R) (m : Seat O P C R) (j : ℕ) → m.0.told ≡ h ∷ [] → IsElse m.0 j → OwnsAll (caller_of h m.0) → ⊥
   not_else h m j told other all = true≢false (sym (all.each j (other.inside h told)) ∙ other.other)
+
+  -- that is a CPU of the cell which isn't the caller's
+  pub is_other : (h : Cell O P C R) (m : Seat O P C R) (j : ℕ) → m.0.told ≡ h ∷ [] → IsElse m.0 j → IsOther (caller_of h m.0) j
+  is_other h m j told other = record { other = other.other; inside = other.inside h told }
 
   pub else_below : (h : Cell O P C R) (n j : ℕ) (m : Seat O P C R) → h.numbers ≡ n → m.0.told ≡ h ∷ [] → IsElse m.0 j → j < n
   else_below h n j m is told other = let below = other.inside h told in omega arith
@@ -149,10 +126,6 @@ module _ {O P C R : Type 0} where
       (t.seat ∙ ap (λ (z : ℕ). (with_stage m.0 (at z), m.1)) same, subst (IsElse m.0) same t.other)
 
 module _ {O P C R : Type 0} (meaning : Ghosts O P C R) where
-  abbrev slot_of : List (ℕ × Option (History O P C R)) → Option (History O P C R)
-  slot_of [] = None
-  slot_of (s ∷ others) = s.1
-
   -- a caller acts as a number of the cell
   pub below_without : (h : Cell O P C R) (n cpu : ℕ) (p : Stage) (m : Seat O P C R) → h.numbers ≡ n → IsWithout meaning h cpu p m → cpu < n
   below_without h n cpu p m is w = let below = w.pass_view.caller.below m.0.main.cpu w.pass_view.caller.acts in let number = w.at.number in omega arith
@@ -177,12 +150,6 @@ module _ {O P C R : Type 0} (meaning : Ghosts O P C R) where
     lawful = lawful;
     has = refl;
   }
-
-  -- the object was put into the slot, and the step left it there
-  pub still_there : (q : Stage) (m m1 m2 : Seat O P C R) (x : History O P C R) (r : Option (History O P C R)) → m1 ≡ (m.0, (0, Some x) ∷ rest m.1) → m2 ≡ (with_stage m1.0 q, m1.1) → m2.1 ≡ (0, r) ∷ rest m2.1 → IsSome r
-  still_there q m m1 m2 x r filled went slot =
-      let is : r ≡ Some x = ap slot_of (sym slot ∙ (ap (λ (z : Seat O P C R). z.1) went ∙ ap (λ (z : Seat O P C R). z.1) filled)) in
-      subst IsSome (sym is) (search rules)
 
   -- the object was put into the slot, the step left it there, and it was taken out again
   pub came_back : (q : Stage) (m m1 m2 m3 : Seat O P C R) (x y : History O P C R) (r : Option (History O P C R)) → m.1 ≡ (0, None) ∷ [] → m1 ≡ (m.0, (0, Some x) ∷ rest m.1) → m2 ≡ (with_stage m1.0 q, m1.1)

@@ -3,15 +3,15 @@ use Rattle.word_rule.specs.declared.stage.Stage.TheVariants.{Mcs}
 use Rattle.word_rule.specs.declared.stage.McsStage.TheVariants.{Behind}
 use Rattle.word_rule.specs.Callers.{IsWithout}
 use Rattle.word_rule.proofs.Acting.{moves_without}
-use Rattle.mcs_lock.proofs.McsActing.{arm_now, below_without}
+use Rattle.mcs_lock.proofs.McsActing.{arm_now, below_without, is_other}
 use Rattle.mcs_lock.proofs.cell.McsCell.arm.Goals as goal
 
 pub store-requires : goal.store-requires
 store-requires g c = let s = c.args.self.now in let a = c.args.behind in let key = s.table.table.shared.key in let words = s.sized.0 in
     let w = subst (λ k. IsWithout g.O.SeqObject k a.cpu (Mcs (Behind a.ahead)) a.seat.me) c.requires.told a.behind in
     let below = below_without g.O.SeqObject key s.cpus a.cpu (Mcs (Behind a.ahead)) a.seat.me s.sized.1 w in
-    (g.met.O.SeqObject.event_fits, (c.requires.table, omega arith, arm_now g.O.SeqObject key _ _ a.cpu c.args.self.now.kind s.cpus a.ahead a.seat.me s.sized.1 w))
+    (g.met.O.SeqObject.event_fits, (c.requires.table, omega arith, arm_now g.O.SeqObject key c.args.self.now.kind _ _ a.cpu s.cpus a.ahead a.seat.me s.sized.1 w))
 
 pub returns-clause-step : goal.returns-clause-step
 returns-clause-step g c = let a = c.args.behind in
-    (a.ahead, a.other.other, moves_without g.O.SeqObject a.key.value a.cpu _ _ a.seat.me c.store.new.seat.me a.behind (c.store.ensures.2 a.ahead a.behind.at.stands))
+    (a.ahead, is_other a.key.value a.seat.me a.ahead a.behind.at.told a.other, moves_without g.O.SeqObject a.key.value a.cpu _ _ a.seat.me c.store.new.seat.me a.behind (c.store.ensures.2 a.ahead a.behind.at.stands))

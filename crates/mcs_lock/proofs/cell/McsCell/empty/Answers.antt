@@ -16,7 +16,7 @@ put_back-requires g c = let k = c.args.alone.alone.at.carries in (g.met.O.SeqObj
 
 pub compare_exchange-found-requires : goal.compare_exchange-found-requires
 compare_exchange-found-requires g c = let s = c.args.self.now in let a = c.args.alone in let words = s.sized.0 in
-    (g.met.O.SeqObject.event_fits, (search rules, omega arith, empty_now g.O.SeqObject s.table.table.shared.key _ _ a.cpu c.args.self.now.kind a.logged a.seat.me c.put_back.new.seat.me (subst (λ k. IsWith g.O.SeqObject k a.cpu (Mcs Alone) a.logged a.seat.me) c.requires.told a.alone) s.table.sized c.put_back.ensures.2))
+    (g.met.O.SeqObject.event_fits, (search rules, omega arith, empty_now g.O.SeqObject s.table.table.shared.key c.args.self.now.kind _ _ a.cpu a.logged a.seat.me c.put_back.new.seat.me (subst (λ k. IsWith g.O.SeqObject k a.cpu (Mcs Alone) a.logged a.seat.me) c.requires.told a.alone) s.table.sized c.put_back.ensures.2))
 
 pub invariant_of-result : goal.invariant_of-result
 invariant_of-result g c = let a = c.args.alone in

@@ -5,12 +5,12 @@ use Rattle.word_rule.specs.declared.stage.McsStage.TheVariants.{Ready, Behind, H
 use Rattle.word_rule.specs.Line.{lends}
 use Rattle.word_rule.specs.Callers.{IsWithout}
 use Rattle.word_rule.proofs.Acting.{took, takes_from, holds_from, moves_without}
-use Rattle.mcs_lock.proofs.McsActing.{enter_now, named, not_else}
+use Rattle.mcs_lock.proofs.McsActing.{enter_now, named, not_else, is_other}
 use Rattle.mcs_lock.proofs.cell.McsCell.enter.Goals as goal
 
 pub swap-found-requires : goal.swap-found-requires
 swap-found-requires g c = let s = c.args.self.now in let a = c.args.ready in let words = s.sized.0 in
-    (g.met.O.SeqObject.event_fits, (c.requires.table, omega arith, enter_now g.O.SeqObject s.table.table.shared.key _ _ a.cpu c.args.self.now.kind a.seat.me (subst (λ k. IsWithout g.O.SeqObject k a.cpu (Mcs Ready) a.seat.me) c.requires.told a.ready)))
+    (g.met.O.SeqObject.event_fits, (c.requires.table, omega arith, enter_now g.O.SeqObject s.table.table.shared.key c.args.self.now.kind _ _ a.cpu a.seat.me (subst (λ k. IsWithout g.O.SeqObject k a.cpu (Mcs Ready) a.seat.me) c.requires.told a.ready)))
 
 pub take-logged-requires : goal.take-logged-requires
 take-logged-requires g c = let t = c.swap-found.ensures.2.first c.if-found-eq0.true in
@@ -30,7 +30,7 @@ returns-else-found-eq0-clause-queued g c = let a = c.args.ready in let some_one 
       search rules,
       (
         k,
-        t.1.other,
+        is_other a.key.value a.seat.me k a.ready.at.told t.1,
         record {
           made = moves_without g.O.SeqObject a.key.value a.cpu (Mcs Ready) (Mcs (Behind k)) a.seat.me c.swap-found.new.seat.me a.ready t.0;
           another = not_else a.key.value a.seat.me k a.ready.at.told t.1;

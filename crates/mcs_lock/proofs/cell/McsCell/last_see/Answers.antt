@@ -5,7 +5,7 @@ use Rattle.word_rule.specs.declared.stage.McsStage.TheVariants.{Leaving, Waiting
 use Rattle.word_rule.specs.Callers.{IsWith, IsWithout, hold_view_of, state_without}
 use Rattle.word_rule.proofs.Acting.{all_together}
 use Rattle.mcs_lock.specs.Steps.{SawLawful}
-use Rattle.mcs_lock.proofs.McsActing.{find_now, below_with, named, not_else, else_below, else_now, else_of, first_moved, second_same, goes_with, moves_with}
+use Rattle.mcs_lock.proofs.McsActing.{find_now, below_with, named, not_else, is_other, else_below, else_now, else_of, first_moved, second_same, goes_with, moves_with}
 use Rattle.mcs_lock.proofs.cell.McsCell.last_see.Goals as goal
 
 pub join_seat-requires : goal.join_seat-requires
@@ -20,7 +20,7 @@ load-found-requires g c = let s = c.args.self.now in let a = c.args.leaving in l
       (
         search rules,
         omega arith,
-        find_now g.O.SeqObject key _ _ a.cpu c.args.self.now.kind c.join_seat.new.seat.me c.args.waiting.seat.me.0.main (subst (λ z. has z.0.main.cpu z.0.main.owned ≡ true) (sym e) a.leaves.hold_view.caller.acts) (ap (λ z. z.0.main.cpu) e ∙ a.leaves.at.number)
+        find_now g.O.SeqObject key c.args.self.now.kind _ _ a.cpu c.join_seat.new.seat.me c.args.waiting.seat.me.0.main (subst (λ z. has z.0.main.cpu z.0.main.owned ≡ true) (sym e) a.leaves.hold_view.caller.acts) (ap (λ z. z.0.main.cpu) e ∙ a.leaves.at.number)
             (ap (λ z. z.0.main.stage) e ∙ a.leaves.at.stands) (ap (λ z. z.0.others) e) c.args.waiting.waits.at.stands,
       ),
     )
@@ -61,7 +61,7 @@ returns-clause-see g c = let a = c.args.leaving in let w = c.args.waiting in let
     let first = first_moved (Mcs (Passing k)) a.seat.me w.seat.me c.join_seat.new.seat.me c.load-found.new.seat.me s.new.seat.me a.leaves.at.alone e t.0 s.ensures.2 in
     let other = else_of a.seat.me w.seat.me c.join_seat.new.seat.me k e t.1 in
     let lawful = subst (λ z. SawLawful g.O.SeqObject z.0) e told.lawful a.key.value a.leaves.at.told in
-    (k, other.other, record { made = moves_with g.O.SeqObject a.key.value (Mcs Leaving) (Mcs (Passing k)) a.logged a.seat.me s.new.seat.me lawful first; another = not_else a.key.value a.seat.me k a.leaves.at.told other })
+    (k, is_other a.key.value a.seat.me k a.leaves.at.told other, record { made = moves_with g.O.SeqObject a.key.value (Mcs Leaving) (Mcs (Passing k)) a.logged a.seat.me s.new.seat.me lawful first; another = not_else a.key.value a.seat.me k a.leaves.at.told other })
 
 pub returns-clause-held : goal.returns-clause-held
 returns-clause-held g c = let a = c.args.leaving in let w = c.args.waiting in let e = c.join_seat.ensures.2 in let s = c.split_seat-theirs in let told = c.load-found.ensures.2 in let some_one = c.if-prove.false in let k : ℕ = c.load-found.result - 1 in

@@ -4,7 +4,7 @@ use Rattle.word_rule.specs.declared.stage.McsStage.TheVariants.{Holding, Alone, 
 use Rattle.word_rule.specs.CallerState.{Moves}
 use Rattle.word_rule.specs.Callers.{IsWith, state_with}
 use Rattle.word_rule.proofs.Lenders.{holding_at}
-use Rattle.mcs_lock.proofs.McsActing.{see_now, below_with, named, not_else, else_below, else_now, goes_with, moves_with}
+use Rattle.mcs_lock.proofs.McsActing.{see_now, below_with, named, not_else, is_other, else_below, else_now, goes_with, moves_with}
 use Rattle.mcs_lock.proofs.cell.McsCell.see.Goals as goal
 
 pub load-found-requires : goal.load-found-requires
@@ -12,7 +12,7 @@ load-found-requires g c = let s = c.args.self.now in let a = c.args.hold in let 
     let at = holding_at a.key.value.kind a.stage (ap (λ k. k.kind) c.requires.told ∙ s.kind) a.there in
     let w = subst (λ q. IsWith g.O.SeqObject key a.cpu q a.logged a.seat.me) at (subst (λ k. IsWith g.O.SeqObject k a.cpu a.stage a.logged a.seat.me) c.requires.told a.holds) in
     let below = below_with g.O.SeqObject key s.cpus a.cpu (Mcs Holding) a.logged a.seat.me s.sized.1 w in
-    (g.met.O.SeqObject.event_fits, (c.requires.table, omega arith, see_now g.O.SeqObject key _ _ a.cpu c.args.self.now.kind a.seat.me a.logged w))
+    (g.met.O.SeqObject.event_fits, (c.requires.table, omega arith, see_now g.O.SeqObject key c.args.self.now.kind _ _ a.cpu a.seat.me a.logged w))
 
 pub invariant_of-result : goal.invariant_of-result
 invariant_of-result g c = let a = c.args.hold in
@@ -40,7 +40,7 @@ returns-else-found-eq0-clause-found g c = let a = c.args.hold in let some_one = 
       search rules,
       (
         k,
-        t.1.other,
+        is_other a.key.value a.seat.me k a.holds.at.told t.1,
         record {
           made = subst (λ q. Moves g.O.SeqObject q (Mcs (Passing k)) (state_with a.key.value a.stage a.logged a.seat.me) (state_with a.key.value (Mcs (Passing k)) a.logged c.load-found.new.seat.me)) at (moves_with g.O.SeqObject a.key.value a.stage (Mcs (Passing k)) a.logged a.seat.me c.load-found.new.seat.me (s.lawful a.key.value a.holds.at.told) t.0);
           another = not_else a.key.value a.seat.me k a.holds.at.told t.1;

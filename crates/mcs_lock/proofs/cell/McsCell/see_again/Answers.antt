@@ -3,14 +3,14 @@ use Rattle.word_rule.specs.declared.stage.Stage.TheVariants.{Mcs}
 use Rattle.word_rule.specs.declared.stage.McsStage.TheVariants.{Leaving, Passing}
 use Rattle.word_rule.specs.Callers.{IsWith}
 use Rattle.word_rule.proofs.Acting.{not_all}
-use Rattle.mcs_lock.proofs.McsActing.{see_again_now, below_with, named, not_else, else_below, else_now, goes_with, moves_with}
+use Rattle.mcs_lock.proofs.McsActing.{see_again_now, below_with, named, not_else, is_other, else_below, else_now, goes_with, moves_with}
 use Rattle.mcs_lock.proofs.cell.McsCell.see_again.Goals as goal
 
 pub load-found-requires : goal.load-found-requires
 load-found-requires g c = let s = c.args.self.now in let a = c.args.leaving in let key = s.table.table.shared.key in let words = s.sized.0 in
     let w = subst (λ k. IsWith g.O.SeqObject k a.cpu (Mcs Leaving) a.logged a.seat.me) c.requires.told a.leaves in
     let below = below_with g.O.SeqObject key s.cpus a.cpu (Mcs Leaving) a.logged a.seat.me s.sized.1 w in
-    (g.met.O.SeqObject.event_fits, (c.requires.table, omega arith, see_again_now g.O.SeqObject key _ _ a.cpu c.args.self.now.kind a.seat.me a.logged w))
+    (g.met.O.SeqObject.event_fits, (c.requires.table, omega arith, see_again_now g.O.SeqObject key c.args.self.now.kind _ _ a.cpu a.seat.me a.logged w))
 
 pub invariant_of-result : goal.invariant_of-result
 invariant_of-result g c = let a = c.args.leaving in
@@ -43,7 +43,7 @@ returns-else-found-eq0-clause-found g c = let a = c.args.leaving in let some_one
       search rules,
       (
         k,
-        t.1.other,
+        is_other a.key.value a.seat.me k a.leaves.at.told t.1,
         record {
           made = moves_with g.O.SeqObject a.key.value (Mcs Leaving) (Mcs (Passing k)) a.logged a.seat.me c.load-found.new.seat.me (s.lawful a.key.value a.leaves.at.told) t.0;
           another = not_else a.key.value a.seat.me k a.leaves.at.told t.1;
