@@ -2,9 +2,8 @@
 
 ghost use Rattle.std.specs.Prelude.{◌≡◌, ◌<◌, ◌≤◌, [], ◌∷◌, length, IfOk, OnOk, OnErr};
 ghost use Rattle.std.specs.List.{All};
-ghost use Rattle.event_log.specs.Log.{Fulfils};
+ghost use Rattle.event_log.specs.Log.{one_step};
 ghost use Rattle.word_rule.specs.Answered.{IsAnswered, IsRefused, IsHeldThrough};
-ghost use Rattle.guarded_cell.specs.Groups.{one_step};
 ghost use Rattle.guarded_cell.specs.Kinds.{IsPassOf};
 ghost use Rattle.word_rule.specs.Passes.{view_of_pass};
 
@@ -39,15 +38,6 @@ pub fn batch<O: SeqObject, C: LockCell<O>, R: Wait>(
     (pass, done, looks)
 }
 
-// The reply of the steps' only call.
-fn only_reply<O: SeqObject>(call: &O::Call, steps: &Steps<O>) -> O::Reply
-    requires { Fulfils O.SeqObject (call.now ∷ []) steps.now.list.items }
-    ensures { steps.now ≡ one_step call.now result }
-{
-    let _ = call;
-    steps.list.as_slice()[0].reply
-}
-
 /// Does a call as one event of the acting CPU.
 pub fn call<O: SeqObject, C: LockCell<O>, R: Wait>(
     rt: &R,
@@ -63,7 +53,7 @@ pub fn call<O: SeqObject, C: LockCell<O>, R: Wait>(
 {
     let (pass, done, looks) = batch(rt, cell, pass, slice::from_ref(call));
     match done {
-        Ok(steps) => (pass, Ok(only_reply(call, &steps)), looks),
+        Ok(steps) => (pass, Ok(steps.only_reply(call)), looks),
         Err(NoRoom) => (pass, Err(NoRoom), looks),
     }
 }
