@@ -4,15 +4,6 @@ use crate::{Console, ConsoleCall as Call, ConsoleReply as Reply, MOST_BYTES};
 use event_log::{Logged, OpenFault};
 use std::test::Fail;
 
-/// The reply to one call, done as an event of the CPU 0.
-fn reply_to(console: &mut Logged<Console>, call: Call) -> Result<Reply, Fail> {
-    let steps = console.apply(0, &[call])?;
-    match steps.list.as_slice() {
-        [step] => Ok(step.reply),
-        _ => Err(Fail::new("not one step")),
-    }
-}
-
 #[test]
 fn worked_answers(rt: HostRuntime) -> Result<(), Fail> {
     let rows: [(u32, &[(Call, Reply)]); 2] = [
@@ -42,11 +33,7 @@ fn worked_answers(rt: HostRuntime) -> Result<(), Fail> {
     for (capacity, row) in rows {
         let mut console = Logged::<Console>::open(rt.alloc(), capacity, 100)?;
         for (call, reply) in row {
-            assert_eq!(rt;
-                reply_to(&mut console, *call)?,
-                *reply,
-                "to {call:?} of {row:?}"
-            );
+            assert_eq!(rt; console.call(0, call)?, *reply, "to {call:?} of {row:?}");
         }
     }
     Ok(())
@@ -73,8 +60,8 @@ fn an_opening_without_memory(rt: HostRuntime) -> Result<(), Fail> {
         assert_eq!(rt; fault, OpenFault::OutOfMemory);
     }
     let mut console = Logged::<Console>::open(rt.alloc(), 8, 100)?;
-    assert_eq!(rt; reply_to(&mut console, Call::Put(3))?, Reply::Ok);
-    assert_eq!(rt; reply_to(&mut console, Call::Level)?, Reply::Count(1));
+    assert_eq!(rt; console.call(0, &Call::Put(3))?, Reply::Ok);
+    assert_eq!(rt; console.call(0, &Call::Level)?, Reply::Count(1));
     Ok(())
 }
 
@@ -83,7 +70,7 @@ fn a_full_console(rt: HostRuntime) -> Result<(), Fail> {
     let mut console = Logged::<Console>::open(rt.alloc(), MOST_BYTES, 5000)?;
     for number in 0..MOST_BYTES {
         let byte = (number % 251) as u8;
-        assert_eq!(rt; reply_to(&mut console, Call::Put(byte))?, Reply::Ok);
+        assert_eq!(rt; console.call(0, &Call::Put(byte))?, Reply::Ok);
     }
     let rows = [
         (Call::Level, Reply::Count(4096)),
@@ -94,7 +81,7 @@ fn a_full_console(rt: HostRuntime) -> Result<(), Fail> {
         (Call::Put(9), Reply::Dropped(2)),
     ];
     for (call, reply) in rows {
-        assert_eq!(rt; reply_to(&mut console, call)?, reply, "to {call:?}");
+        assert_eq!(rt; console.call(0, &call)?, reply, "to {call:?}");
     }
     Ok(())
 }
@@ -137,11 +124,7 @@ fn answers_as_a_plain_program(rt: HostRuntime) -> Result<(), Fail> {
             .wrapping_add(1442695040888963407);
         let call = call_of(number);
         let wanted = plain_answer(&mut list, call)?;
-        assert_eq!(rt;
-            reply_to(&mut console, call)?,
-            wanted,
-            "to {call:?}, turn {turn}"
-        );
+        assert_eq!(rt; console.call(0, &call)?, wanted, "to {call:?}, turn {turn}");
     }
     Ok(())
 }

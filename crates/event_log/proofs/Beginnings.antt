@@ -1,20 +1,16 @@
 -- Lists that begin with another.
-use Rattle.std.proofs.Common.{◌≡◌, List, [], ◌∷◌, ◌++◌, length, take, drop, refl, sym, ◌∙◌, ap, subst, append_assoc}
+use Rattle.std.proofs.Common.{◌≡◌, List, [], ◌∷◌, ◌++◌, length, drop, sym, ◌∙◌, ap, subst, append_assoc}
+use Rattle.std.proofs.Math.Seq.{take-append_seam, take-length}
 use Rattle.std.proofs.lemmas.List.{take-append-drop}
 use Rattle.event_log.specs.Log.{Begins}
 
 module _ {E : Type 0} where
-  take_front : (a c : List E) → take (length a) (a ++ c) ≡ a
-  take_front [] c = refl
-  take_front (x ∷ a) c = ap (λ l. x ∷ l) (take_front a c)
-
   -- a list and more begins with the list
   pub begins_append : (a c : List E) → Begins a (a ++ c)
-  begins_append a c = record { start = take_front a c }
+  begins_append a c = record { start = take-append_seam a c }
 
   pub begins_self : (a : List E) → Begins a a
-  begins_self [] = record { start = refl }
-  begins_self (x ∷ a) = record { start = ap (λ l. x ∷ l) (begins_self a).start }
+  begins_self a = record { start = take-length a }
 
   -- what comes behind the beginning
   pub begins_rest : (a b : List E) → Begins a b → b ≡ a ++ drop (length a) b
@@ -30,3 +26,8 @@ module _ {E : Type 0} where
 
   pub begins_cons : (x : E) (a b : List E) → Begins a b → Begins (x ∷ a) (x ∷ b)
   begins_cons x a b h = record { start = ap (λ l. x ∷ l) h.start }
+
+  -- a front before both
+  pub begins_behind : (front a b : List E) → Begins a b → Begins (front ++ a) (front ++ b)
+  begins_behind [] a b h = h
+  begins_behind (x ∷ front) a b h = begins_cons x (front ++ a) (front ++ b) (begins_behind front a b h)

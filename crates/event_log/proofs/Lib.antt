@@ -1,4 +1,5 @@
 pub mod Distinct
+pub mod Each
 pub mod Joined
 pub mod Beginnings
 pub mod Logs

@@ -103,6 +103,20 @@ fn a_batch_ends_with_a_refusal(rt: HostRuntime) -> Result<(), Fail> {
 }
 
 #[test]
+fn single_calls(rt: HostRuntime) -> Result<(), Fail> {
+    let mut purse = Logged::<Purse>::open(rt.alloc(), 5, 2)?;
+    assert!(rt; purse.call(1, &2)?);
+    assert!(rt; !purse.call(3, &4)?);
+    assert_eq!(rt; purse.call(0, &1).err(), Some(NoRoom));
+    assert_eq!(rt; purse.state().coins, 3);
+    match purse.log() {
+        [first, second] => assert_eq!(rt; (first.cpu, second.cpu), (1, 3)),
+        _ => return Err(Fail::new("not two events")),
+    }
+    Ok(())
+}
+
+#[test]
 fn a_full_log(rt: HostRuntime) -> Result<(), Fail> {
     for limit in [1, 2, 3] {
         let mut purse = Logged::<Purse>::open(rt.alloc(), 9, limit)?;

@@ -1,26 +1,16 @@
 -- What a hold adds to a log, group by group.
-use Rattle.std.proofs.Common.{◌≡◌, ℕ, suc, ◌+◌, ◌<◌, List, [], ◌∷◌, ◌++◌, length, take, drop, get_or, slice_index_or, refl, sym, ap, ◌∙◌, subst, arith, append_assoc, length-take, Result, Ok, Err, OnErr}
+use Rattle.std.proofs.Common.{◌≡◌, ℕ, ◌+◌, ◌<◌, List, [], ◌∷◌, ◌++◌, length, take, drop, get_or, sym, ap, ◌∙◌, subst, arith, append_assoc, length-take, Result, Ok, Err, OnErr}
 use Rattle.std.proofs.lemmas.List.{map-append, take-append-drop, take_more}
 use Rattle.arrayvec.specs.ArrayVec.{ArrayVec}
 use Rattle.event_log.specs.declared.object.SeqObject.{Ghosts}
-use Rattle.event_log.specs.declared.event.Step.{Step}
 use Rattle.event_log.specs.declared.event.Steps.{Steps}
-use Rattle.event_log.specs.Log.{Fulfils, calls_of}
+use Rattle.event_log.specs.Log.{Fulfils}
 use Rattle.event_log.specs.History.{with_event}
 use Rattle.word_rule.specs.Cell.{PassView, HoldView, Grows, Lawful, IsPassView, IsHoldView}
 use Rattle.word_rule.specs.Answered.{FulfilFirst, IsHeldThrough, events_by}
 use Rattle.guarded_cell.specs.Groups.{HasAdded}
 
 module _ {O P C R : Type 0} (meaning : Ghosts O P C R) where
-  -- a single call is answered by a single step
-  pub only_step : (c : C) (steps : List (Step O P C R)) (d : Step O P C R) → Fulfils meaning (c ∷ []) steps → steps ≡ record { call = c; reply = (slice_index_or steps 0 d).reply } ∷ []
-  only_step c [] d f = absurd (let e : [] ≡ c ∷ [] = f.whole refl in cc)
-  only_step c (s ∷ []) d f =
-      let same : c ∷ [] ≡ s.call ∷ [] = f.beginning.start in
-      let call : s.call ≡ c = cc in
-      λ i. record { call = call i; reply = s.reply } ∷ []
-  only_step c (s ∷ t ∷ more) d f = absurd (let e : 1 ≡ suc (suc (length (calls_of more))) = ap length f.beginning.start in omega arith)
-
   -- one event more under a hold
   pub added_more : (h0 h k : HoldView O P C R) (done more : List (Steps O P C R)) (s : Steps O P C R) (state : O) → HasAdded h0 done h → k.caller ≡ h.caller
       → k.history ≡ with_event h.history (record { cpu = h.caller.acting; steps = s }) state → more ≡ done ++ s ∷ [] → HasAdded h0 more k
@@ -81,8 +71,3 @@ module _ {O P C R : Type 0} (meaning : Ghosts O P C R) where
     pub full_after : {A E : Type 0} (r : Result A E) → IsHoldView meaning k → OnErr r (length k.history.log ≡ k.history.limit) → OnErr r (length after.seen ≡ before.caller.cell.limit)
     full_after (Ok x) held full = tt
     full_after (Err e) held full = ap length seen ∙ (full ∙ (ap (λ x. x.limit) held.replayed ∙ ap (λ c. c.cell.limit) (added.caller ∙ was)))
-
--- a fact stands at every refusal
-pub on_err : {A E : Type 0} {Q : Type 0} (r : Result A E) → Q → OnErr r Q
-on_err (Ok x) q = tt
-on_err (Err e) q = q

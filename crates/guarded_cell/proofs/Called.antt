@@ -3,12 +3,11 @@ use Rattle.std.proofs.Common.{◌≡◌, ℕ, ◌+◌, ◌<◌, ◌≤◌, List,
 use Rattle.std.proofs.lemmas.List.{append-nil, map-append, take_more}
 use Rattle.event_log.specs.declared.object.SeqObject.{Ghosts}
 use Rattle.event_log.specs.declared.event.Event.{Event}
-use Rattle.event_log.specs.Log.{Begins, of, calls_of}
+use Rattle.event_log.specs.Log.{Begins, of, calls_of, one_step}
 use Rattle.event_log.proofs.Beginnings.{begins_self, begins_then, begins_rest}
 use Rattle.event_log.specs.History.{History}
 use Rattle.word_rule.specs.Cell.{Caller, PassView, Grows, Lawful, IsPassView, IsCaller, stored}
 use Rattle.word_rule.specs.Answered.{IsAnswered, IsRefused}
-use Rattle.guarded_cell.specs.Groups.{one_step}
 use Rattle.guarded_cell.specs.Calls.{asked_by, HasCalled, IsEnded}
 
 -- a list that is full, and one that begins with it and isn't longer than the limit

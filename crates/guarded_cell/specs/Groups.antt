@@ -1,14 +1,10 @@
 -- What a hold adds to a log.
-use Rattle.std.specs.Prelude.{◌≡◌, List, [], ◌∷◌, ◌++◌}
+use Rattle.std.specs.Prelude.{◌≡◌, List, ◌++◌}
 use Rattle.event_log.specs.declared.event.Steps.{Steps}
 use Rattle.word_rule.specs.Cell.{HoldView}
 use Rattle.word_rule.specs.Answered.{events_by}
 
 module _ {O P C R : Type 0} where
-  -- the steps of one call
-  abbrev pub one_step : C → R → Steps O P C R
-  one_step c r = record { list = record { items = record { call = c; reply = r } ∷ [] } }
-
   -- the holder has added an event for each of the steps, in order
   pub record HasAdded (before : HoldView O P C R) (done : List (Steps O P C R)) (after : HoldView O P C R) : Type 0 where
     pub caller : after.caller ≡ before.caller

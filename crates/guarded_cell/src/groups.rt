@@ -6,16 +6,19 @@ ghost use Rattle.word_rule.specs.Answered.{FulfilFirst};
 ghost use Rattle.guarded_cell.specs.Groups.{HasAdded};
 
 use arrayvec::ArrayVec;
-use event_log::{NoRoom, SeqObject, Steps};
+use event_log::{MOST_CALLS, NoRoom, SeqObject, Steps};
 use word_rule::LockCell;
+
+/// The most groups of calls under one hold.
+pub const MOST_GROUPS: usize = 8;
 
 /// Does the groups, one event for each, up to the first without room.
 pub(crate) fn do_groups<O: SeqObject, C: LockCell<O>>(
     hold: &mut C::Hold,
-    groups: &[ArrayVec<O::Call, 8>],
-    done: &mut ArrayVec<Steps<O>, 8>,
+    groups: &[ArrayVec<O::Call, MOST_CALLS>],
+    done: &mut ArrayVec<Steps<O>, MOST_GROUPS>,
 ) -> Result<(), NoRoom>
-    requires few { length groups.now ≤ 8 }
+    requires few { length groups.now ≤ MOST_GROUPS }
     requires each { All (λ g. 0 < length g.items) groups.now }
     requires empty { done.old.items ≡ [] }
     ensures hold { (cell : C) → C.is_hold_of cell hold.old → C.is_hold_of cell hold.new }

@@ -12,5 +12,6 @@ mod whole;
 
 pub use callers::{call_all, call_on_two_threads, two_callers};
 pub use cell::AnyCell;
+pub use groups::MOST_GROUPS;
 pub use whole::{batch, call, with_hold};
 pub use word_rule::{Hold as AnyHold, Pass as AnyPass};

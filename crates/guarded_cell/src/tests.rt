@@ -7,9 +7,9 @@ ghost use Rattle.word_rule.specs.Passes.{view_of_pass};
 
 mod threads;
 
-use crate::{AnyCell, AnyPass};
+use crate::{AnyCell, AnyPass, MOST_GROUPS};
 use arrayvec::ArrayVec;
-use event_log::{Logged, NoRoom, SeqObject, Steps};
+use event_log::{Logged, MOST_CALLS, NoRoom, SeqObject, Steps};
 use shared_queue::{QueueCall as Call, QueueReply as Reply, ThreadQueue};
 use std::alloc::Global;
 use std::sync::Wait;
@@ -107,7 +107,7 @@ fn a_queue_goes_from_lock_to_lock(rt: HostRuntime) -> Result<(), Fail> {
 }
 
 /// A group of one call.
-fn one(call: Call) -> ArrayVec<Call, 8>
+fn one(call: Call) -> ArrayVec<Call, MOST_CALLS>
     ensures { result.items ≡ call ∷ [] }
 {
     let mut group = ArrayVec::new();
@@ -116,7 +116,7 @@ fn one(call: Call) -> ArrayVec<Call, 8>
 }
 
 /// A group of two calls.
-fn two(first: Call, second: Call) -> ArrayVec<Call, 8>
+fn two(first: Call, second: Call) -> ArrayVec<Call, MOST_CALLS>
     ensures { result.items ≡ first ∷ second ∷ [] }
 {
     let mut group = ArrayVec::new();
@@ -131,7 +131,7 @@ fn four_groups<R: Wait>(
     alloc: Global,
     kind: LockKind,
     limit: u32,
-    done: &mut ArrayVec<Steps<ThreadQueue>, 8>,
+    done: &mut ArrayVec<Steps<ThreadQueue>, MOST_GROUPS>,
 ) -> Result<(Logged<ThreadQueue>, Result<(), NoRoom>), Fail>
     requires { done.old.items ≡ [] }
 {

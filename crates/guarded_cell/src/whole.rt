@@ -2,17 +2,16 @@
 
 ghost use Rattle.std.specs.Prelude.{◌≡◌, ◌<◌, ◌≤◌, [], ◌∷◌, length, IfOk, OnOk, OnErr};
 ghost use Rattle.std.specs.List.{All};
-ghost use Rattle.event_log.specs.Log.{Fulfils};
+ghost use Rattle.event_log.specs.Log.{one_step};
 ghost use Rattle.word_rule.specs.Answered.{IsAnswered, IsRefused, IsHeldThrough};
-ghost use Rattle.guarded_cell.specs.Groups.{one_step};
 ghost use Rattle.guarded_cell.specs.Kinds.{IsPassOf};
 ghost use Rattle.word_rule.specs.Passes.{view_of_pass};
 
 use crate::AnyPass;
 use crate::cell::AnyCell;
-use crate::groups::do_groups;
+use crate::groups::{MOST_GROUPS, do_groups};
 use arrayvec::ArrayVec;
-use event_log::{NoRoom, SeqObject, Steps};
+use event_log::{MOST_CALLS, NoRoom, SeqObject, Steps};
 use std::slice;
 use std::sync::Wait;
 use word_rule::LockCell;
@@ -27,7 +26,7 @@ pub fn batch<O: SeqObject, C: LockCell<O>, R: Wait>(
 ) -> (C::Pass, Result<Steps<O>, NoRoom>, u64)
     requires pass { C.is_pass_of cell.now pass }
     requires some { 0 < length calls.now }
-    requires few { length calls.now ≤ 8 }
+    requires few { length calls.now ≤ MOST_CALLS }
     ensures pass { C.is_pass_of cell.now result.0 }
     ensures caller { (C.pass_view result.0).caller ≡ (C.pass_view pass).caller }
     ensures answered { IfOk result.1 (λ s. IsAnswered O.SeqObject (C.pass_view pass) calls.now s (C.pass_view result.0)) }
@@ -37,15 +36,6 @@ pub fn batch<O: SeqObject, C: LockCell<O>, R: Wait>(
     let done = C::apply(&mut hold, calls);
     let pass = cell.release(rt, hold);
     (pass, done, looks)
-}
-
-// The reply of the steps' only call.
-fn only_reply<O: SeqObject>(call: &O::Call, steps: &Steps<O>) -> O::Reply
-    requires { Fulfils O.SeqObject (call.now ∷ []) steps.now.list.items }
-    ensures { steps.now ≡ one_step call.now result }
-{
-    let _ = call;
-    steps.list.as_slice()[0].reply
 }
 
 /// Does a call as one event of the acting CPU.
@@ -63,7 +53,7 @@ pub fn call<O: SeqObject, C: LockCell<O>, R: Wait>(
 {
     let (pass, done, looks) = batch(rt, cell, pass, slice::from_ref(call));
     match done {
-        Ok(steps) => (pass, Ok(only_reply(call, &steps)), looks),
+        Ok(steps) => (pass, Ok(steps.only_reply(call)), looks),
         Err(NoRoom) => (pass, Err(NoRoom), looks),
     }
 }
@@ -74,12 +64,12 @@ pub fn with_hold<O: SeqObject, C: LockCell<O>, R: Wait>(
     rt: &R,
     cell: &C,
     pass: C::Pass,
-    groups: &[ArrayVec<O::Call, 8>],
-    done: &mut ArrayVec<Steps<O>, 8>,
+    groups: &[ArrayVec<O::Call, MOST_CALLS>],
+    done: &mut ArrayVec<Steps<O>, MOST_GROUPS>,
 ) -> (C::Pass, Result<(), NoRoom>, u64)
     requires pass { C.is_pass_of cell.now pass }
     requires some { 0 < length groups.now }
-    requires few { length groups.now ≤ 8 }
+    requires few { length groups.now ≤ MOST_GROUPS }
     requires each { All (λ g. 0 < length g.items) groups.now }
     requires empty { done.old.items ≡ [] }
     ensures pass { C.is_pass_of cell.now result.0 }
@@ -121,7 +111,7 @@ impl<O: SeqObject> AnyCell<O> {
     ) -> (AnyPass<O>, Result<Steps<O>, NoRoom>, u64)
         requires pass { IsPassOf self.now pass }
         requires some { 0 < length calls.now }
-        requires few { length calls.now ≤ 8 }
+        requires few { length calls.now ≤ MOST_CALLS }
         ensures pass { IsPassOf self.now result.0 }
         ensures caller { (view_of_pass result.0).caller ≡ (view_of_pass pass).caller }
         ensures answered { IfOk result.1 (λ s. IsAnswered O.SeqObject (view_of_pass pass) calls.now s (view_of_pass result.0)) }
@@ -136,12 +126,12 @@ impl<O: SeqObject> AnyCell<O> {
         &self,
         rt: &R,
         pass: AnyPass<O>,
-        groups: &[ArrayVec<O::Call, 8>],
-        done: &mut ArrayVec<Steps<O>, 8>,
+        groups: &[ArrayVec<O::Call, MOST_CALLS>],
+        done: &mut ArrayVec<Steps<O>, MOST_GROUPS>,
     ) -> (AnyPass<O>, Result<(), NoRoom>, u64)
         requires pass { IsPassOf self.now pass }
         requires some { 0 < length groups.now }
-        requires few { length groups.now ≤ 8 }
+        requires few { length groups.now ≤ MOST_GROUPS }
         requires each { All (λ g. 0 < length g.items) groups.now }
         requires empty { done.old.items ≡ [] }
         ensures pass { IsPassOf self.now result.0 }

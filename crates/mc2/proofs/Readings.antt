@@ -1,9 +1,10 @@
 -- Reading calls one after another.
-use Rattle.std.proofs.Common.{◌≡◌, ℕ, zero, suc, Bool, true, false, Option, Some, None, List, [], ◌∷◌, ◌++◌, refl, sym, ◌∙◌, ap, append_assoc, cond}
+use Rattle.std.proofs.Common.{◌≡◌, ℕ, zero, suc, ◌-◌, Bool, true, false, Option, Some, None, List, [], ◌∷◌, ◌++◌, refl, sym, ◌∙◌, ap, append_assoc, cond}
 use Rattle.std.proofs.lemmas.List.{append-nil}
 use Rattle.std.specs.Borrow.{Bor}
 use Rattle.std.specs.Option.{is_some}
 use Rattle.std.specs.List.{onto_first}
+use Rattle.event_log.specs.declared.event.TheConstants.{MOST_CALLS}
 use Rattle.mc2.specs.Reading.{◌>>=◌, words, left, is_nil, next_call_at, more_at, calls_at}
 
 -- what a step that goes on gives, in two ways
@@ -39,13 +40,13 @@ some_left None h = absurd cc
 some_left (Some x) h = words_some x.now
 
 module _ {C : Type 0} (call_at : List (List ℕ) → Option (C × List (List ℕ))) where
-  pub calls_first : (ws rest : List (List ℕ)) (c : C) → call_at ws ≡ Some (c, rest) → calls_at call_at ws ≡ (more_at call_at 7 rest >>= λ more. Some (c ∷ more))
+  pub calls_first : (ws rest : List (List ℕ)) (c : C) → call_at ws ≡ Some (c, rest) → calls_at call_at ws ≡ (more_at call_at (MOST_CALLS - 1) rest >>= λ more. Some (c ∷ more))
   unfolding calls_at
-  calls_first ws rest c e = ap (λ o. o >>= λ first. more_at call_at 7 first.1 >>= λ more. Some (first.0 ∷ more)) e
+  calls_first ws rest c e = ap (λ o. o >>= λ first. more_at call_at (MOST_CALLS - 1) first.1 >>= λ more. Some (first.0 ∷ more)) e
 
   pub calls_none : (ws : List (List ℕ)) → call_at ws ≡ None → calls_at call_at ws ≡ None
   unfolding calls_at
-  calls_none ws e = ap (λ o. o >>= λ first. more_at call_at 7 first.1 >>= λ more. Some (first.0 ∷ more)) e
+  calls_none ws e = ap (λ o. o >>= λ first. more_at call_at (MOST_CALLS - 1) first.1 >>= λ more. Some (first.0 ∷ more)) e
 
   -- one call more, and what was read before it
   pub more_step : (n : ℕ) (ws rest : List (List ℕ)) (c : C) (front : List C) → is_nil ws ≡ false → next_call_at call_at ws ≡ Some (c, rest)

@@ -1,5 +1,5 @@
 -- A line of the scripts is read as what it spells, and nothing else is.
-use Rattle.std.proofs.Common.{◌≡◌, ℕ, zero, suc, ◌<◌, ◌≤◌, ◌^◌, ◌==◌, Bool, true, false, Option, Some, None, List, [], ◌∷◌, ◌++◌, length, map, refl, sym, ◌∙◌, ap, subst, cond, arith, decimal, codes, position, get_or, inl, inr}
+use Rattle.std.proofs.Common.{◌≡◌, ℕ, zero, suc, ◌<◌, ◌≤◌, ◌^◌, ◌-◌, ◌==◌, Bool, true, false, Option, Some, None, List, [], ◌∷◌, ◌++◌, length, map, refl, sym, ◌∙◌, ap, subst, cond, arith, decimal, codes, position, get_or, inl, inr}
 use Rattle.std.proofs.lemmas.List.Elements.{All-from_recursion}
 use Rattle.std.proofs.lemmas.List.Quantifiers.{position-Some}
 use Rattle.std.proofs.lemmas.List.Splits.{slice_split_none, slice_split_at, join_with_byte-slice_split}
@@ -12,6 +12,7 @@ use Rattle.std.specs.Prelude.{nat_le, nat_lt, ◌&&◌, ◌||◌}
 use Rattle.std.specs.List.{AllByRecursion, join_with_byte, list_all, flat_map, slice_get, position_or_len}
 use Rattle.std.specs.Option.{option_map_or}
 use Rattle.std.specs.Str.{bytes_eq}
+use Rattle.event_log.specs.declared.event.TheConstants.{MOST_CALLS}
 use Rattle.mc2.specs.declared.request.Request.{Request}
 use Rattle.mc2.specs.Reading.{◌>>=◌, words, is_nil, number_in, word_at, key_at, number_at, next_call_at, more_at, calls_at, object_at, request_at}
 use Rattle.mc2.specs.ScriptText.{IsRequest, request_words}
@@ -182,16 +183,16 @@ module _ {P C R : Type 0} (spelling : Spelling P C R) (call_at : List (List ℕ)
   pub record AreCalls (ws : List (List ℕ)) (calls : List C) : Type 0 where
     pub text : ws ≡ separated (map spelling.call calls)
     pub some : 0 < length calls
-    pub few : length calls ≤ 8
+    pub few : length calls ≤ MOST_CALLS
     pub fit : list_all spelling.call_fits calls ≡ true
 
   pub calls_take : (ws : List (List ℕ)) (calls : List C) → calls_at call_at ws ≡ Some calls → AreCalls ws calls
   unfolding calls_at
-  calls_take ws calls e = bind_some (call_at ws) (λ first. more_at call_at 7 first.1 >>= λ more. Some (first.0 ∷ more)) calls e (λ first found read.
-      bind_some (more_at call_at 7 first.1) (λ more. Some (first.0 ∷ more)) calls read (λ more rest is.
+  calls_take ws calls e = bind_some (call_at ws) (λ first. more_at call_at (MOST_CALLS - 1) first.1 >>= λ more. Some (first.0 ∷ more)) calls e (λ first found read.
+      bind_some (more_at call_at (MOST_CALLS - 1) first.1) (λ more. Some (first.0 ∷ more)) calls read (λ more rest is.
       let whole : first.0 ∷ more ≡ calls = cc in
       let call = reads.takes ws first.1 first.0 found in
-      let left = more_takes 7 first.1 more rest in
+      let left = more_takes (MOST_CALLS - 1) first.1 more rest in
       subst (λ (l : List C). AreCalls ws l) whole (record {
         text = call.0 ∙ ap (λ l. spelling.call first.0 ++ l) left.text;
         some = omega arith;
@@ -199,13 +200,13 @@ module _ {P C R : Type 0} (spelling : Spelling P C R) (call_at : List (List ℕ)
         fit = and_true (spelling.call_fits first.0) (list_all spelling.call_fits more) call.1 left.fit;
       })))
 
-  pub calls_again : (calls : List C) → 0 < length calls → length calls ≤ 8 → list_all spelling.call_fits calls ≡ true → calls_at call_at (separated (map spelling.call calls)) ≡ Some calls
+  pub calls_again : (calls : List C) → 0 < length calls → length calls ≤ MOST_CALLS → list_all spelling.call_fits calls ≡ true → calls_at call_at (separated (map spelling.call calls)) ≡ Some calls
   unfolding calls_at
   calls_again [] some few fit = absurd (omega (arith, some))
   calls_again (c ∷ more) some few fit =
       let parts = and_parts (spelling.call_fits c) (list_all spelling.call_fits more) fit in
-      ap (λ o. o >>= λ first. more_at call_at 7 first.1 >>= λ others. Some (first.0 ∷ others)) (reads.again c (behind more) parts.0)
-      ∙ ap (λ o. o >>= λ others. Some (c ∷ others)) (more_again 7 more (omega (arith, few)) parts.1)
+      ap (λ o. o >>= λ first. more_at call_at (MOST_CALLS - 1) first.1 >>= λ others. Some (first.0 ∷ others)) (reads.again c (behind more) parts.0)
+      ∙ ap (λ o. o >>= λ others. Some (c ∷ others)) (more_again (MOST_CALLS - 1) more (omega (arith, few)) parts.1)
 
   behind_plain : (more : List C) → list_all spelling.call_fits more ≡ true → AllByRecursion IsPlain (behind more)
   behind_plain [] fit = tt

@@ -5,6 +5,7 @@ use Rattle.std.proofs.lemmas.List.Elements.{All-from_recursion}
 use Rattle.std.proofs.lemmas.List.Quantifiers.{position-Some}
 use Rattle.std.proofs.lemmas.List.Splits.{slice_split-cons_yes, slice_split_none, slice_split_at}
 use Rattle.std.specs.List.{AllByRecursion, filter, slice_split}
+use Rattle.mc2.specs.declared.schedule.TheConstants.{MOST_STEPS}
 use Rattle.mc2.specs.ScheduleText.{is_gap, schedule_words, IsSchedule, NamesNoCpu, IsFirstBadWord}
 use Rattle.mc2.proofs.Cuts.{none_below, none_passes}
 
@@ -113,9 +114,9 @@ module _ (cpus : ℕ) where
   pub record SoFar (text rest steps : List ℕ) : Type 0 where
     pub words : schedule_words text ≡ map decimal steps ++ schedule_words rest
     pub each : AllByRecursion (λ cpu. cpu < cpus) steps
-    pub few : length steps ≤ 100000
+    pub few : length steps ≤ MOST_STEPS
 
-  pub bad_word : (text rest after word steps : List ℕ) → SoFar text rest steps → schedule_words rest ≡ word ∷ schedule_words after → NamesNoCpu cpus word ⊎ (length steps ≡ 100000) → IsFirstBadWord cpus text (length steps + 1)
+  pub bad_word : (text rest after word steps : List ℕ) → SoFar text rest steps → schedule_words rest ≡ word ∷ schedule_words after → NamesNoCpu cpus word ⊎ (length steps ≡ MOST_STEPS) → IsFirstBadWord cpus text (length steps + 1)
   bad_word text rest after word steps so_far next bad = record {
     before = steps;
     word = word;

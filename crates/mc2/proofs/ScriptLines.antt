@@ -6,6 +6,7 @@ use Rattle.std.proofs.lemmas.List.{append-nil}
 use Rattle.std.proofs.lemmas.Bool.{eqb-true}
 use Rattle.std.proofs.lemmas.List.Sums.{fold-append}
 use Rattle.mc2.specs.declared.request.Request.{Request}
+use Rattle.mc2.specs.declared.scripts.TheConstants.{MOST_ENTRIES}
 use Rattle.mc2.specs.ScriptText.{IsBlank, IsRequest, AskFor, AreScripts, IsRefused, IsFirstBad, count_of}
 use Rattle.mc2.specs.ScriptFaults.{TakesLine}
 use Rattle.mc2.specs.Settings.{Settings}
@@ -23,11 +24,11 @@ module _ {O P C R : Type 0} where
   count_by_more : (cpu : ℕ) (requests : List (Request O P C R)) (r : Request O P C R) → count_of cpu (requests ++ r ∷ []) ≡ count_of cpu requests + cond (r.cpu == cpu) 1 0
   count_by_more cpu requests r = fold-append (λ (n : ℕ) (q : Request O P C R). n + cond (q.cpu == cpu) 1 0) 0 requests (r ∷ [])
 
-  within_more : (requests : List (Request O P C R)) (r : Request O P C R) → ((cpu : ℕ) → count_of cpu requests ≤ 10000) → count_of r.cpu requests < 10000 → (cpu : ℕ) → count_of cpu (requests ++ r ∷ []) ≤ 10000
+  within_more : (requests : List (Request O P C R)) (r : Request O P C R) → ((cpu : ℕ) → count_of cpu requests ≤ MOST_ENTRIES) → count_of r.cpu requests < MOST_ENTRIES → (cpu : ℕ) → count_of cpu (requests ++ r ∷ []) ≤ MOST_ENTRIES
   within_more requests r within less cpu =
-      let go : (b : Bool) → (r.cpu == cpu) ≡ b → count_of cpu requests + cond b 1 0 ≤ 10000
-      = λ b. elim b as (λ v. (r.cpu == cpu) ≡ v → count_of cpu requests + cond v 1 0 ≤ 10000) [
-        | true ↦ (λ e. let same : r.cpu ≡ cpu = eqb-true r.cpu cpu e in let here : count_of cpu requests < 10000 = subst (λ c. count_of c requests < 10000) same less in omega (arith, here))
+      let go : (b : Bool) → (r.cpu == cpu) ≡ b → count_of cpu requests + cond b 1 0 ≤ MOST_ENTRIES
+      = λ b. elim b as (λ v. (r.cpu == cpu) ≡ v → count_of cpu requests + cond v 1 0 ≤ MOST_ENTRIES) [
+        | true ↦ (λ e. let same : r.cpu ≡ cpu = eqb-true r.cpu cpu e in let here : count_of cpu requests < MOST_ENTRIES = subst (λ c. count_of c requests < MOST_ENTRIES) same less in omega (arith, here))
         | false ↦ (λ e. omega (arith, within cpu))
       ] in
       rw (count_by_more cpu requests r) (go (r.cpu == cpu) refl)
@@ -59,7 +60,7 @@ module _ {O P C R : Type 0} (spelling : Spelling P C R) (settings : Settings P) 
   -- what a line more makes of good lines
   pub line_taken : (text rest after line : List ℕ) (old new : List (Request O P C R)) (n : ℕ) → SoFar text rest old n → NoEnd line → rest ≡ line ++ 10 ∷ after → TakesLine spelling settings line old new → SoFar text after new (n + 1)
   line_taken text rest after line old new n so_far no_end is takes =
-      let taken : (requests : List (Request O P C R)) → AskFor spelling settings (so_far.good.lines ++ line ∷ []) requests → ((cpu : ℕ) → count_of cpu requests ≤ 10000) → SoFar text after requests (n + 1)
+      let taken : (requests : List (Request O P C R)) → AskFor spelling settings (so_far.good.lines ++ line ∷ []) requests → ((cpu : ℕ) → count_of cpu requests ≤ MOST_ENTRIES) → SoFar text after requests (n + 1)
       = λ requests asked within. record {
         before = so_far.before ++ (line ++ 10 ∷ []);
         good = record {

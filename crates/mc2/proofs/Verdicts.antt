@@ -5,6 +5,7 @@ use Rattle.std.proofs.lemmas.Bool.{eq-eqb}
 use Rattle.std.proofs.lemmas.Fmt.{decimal_by_steps}
 use Rattle.std.proofs.lemmas.List.Sums.{fold-append}
 use Rattle.mc2.specs.declared.request.Request.{Request}
+use Rattle.mc2.specs.declared.scripts.TheConstants.{MOST_ENTRIES}
 use Rattle.mc2.specs.ScriptText.{IsBlank, IsRequest, AskFor, AreScripts, IsRefused, IsFirstBad, count_of, request_words}
 use Rattle.mc2.specs.Settings.{Settings, SettingsFit}
 use Rattle.mc2.specs.Spelling.{Spelling}
@@ -94,7 +95,7 @@ module _ {O P C R : Type 0} (spelling : Spelling P C R) (settings : Settings P)
   no_line (m ∷ more) line k some e = no_cut m (text_of_lines more) line k (sym (line_first m more) ∙ e)
 
   refused_line : (more : List (List ℕ)) (others before : List (Request O P C R)) (line rest : List ℕ) → AllByRecursion NoEnd more → AskFor spelling settings more others → NoEnd line
-      → text_of_lines more ≡ line ++ 10 ∷ rest → IsRefused spelling settings before line → ((cpu : ℕ) → count_of cpu (before ++ others) ≤ 10000) → ⊥
+      → text_of_lines more ≡ line ++ 10 ∷ rest → IsRefused spelling settings before line → ((cpu : ℕ) → count_of cpu (before ++ others) ≤ MOST_ENTRIES) → ⊥
   refused_line [] others before line rest h asked k e bad within = no_cut line rest [] tt (sym e)
   refused_line (m ∷ more) [] before line rest h asked k e bad within =
       let cut = cut_once m line (text_of_lines more) rest h.0 k (sym (line_first m more) ∙ e) in
@@ -117,7 +118,7 @@ module _ {O P C R : Type 0} (spelling : Spelling P C R) (settings : Settings P)
         | inl end ↦ front begin good.lines bad.requests requests bad.line bad.good.each good.each bad.good.asked good.asked (sym good.text ∙ (end.0 ∙ ap (λ t. t ++ bad.line) bad.good.text))
             (λ more others ends asks text is. no_line more bad.line bad.no_end end.1 text)
         | inr line ↦ front begin good.lines bad.requests requests (bad.line ++ 10 ∷ line.0) bad.good.each good.each bad.good.asked good.asked (sym good.text ∙ (line.1 ∙ ap (λ t. t ++ (bad.line ++ 10 ∷ line.0)) bad.good.text))
-            (λ more others ends asks text is. refused_line more others bad.requests bad.line line.0 ends asks bad.no_end text line.2 (λ cpu. subst (λ (z : List (Request O P C R)). count_of cpu z ≤ 10000) is (good.within cpu)))
+            (λ more others ends asks text is. refused_line more others bad.requests bad.line line.0 ends asks bad.no_end text line.2 (λ cpu. subst (λ (z : List (Request O P C R)). count_of cpu z ≤ MOST_ENTRIES) is (good.within cpu)))
       ]
 
 -- the first byte is a digit, or a letter

@@ -10,6 +10,7 @@ use Rattle.event_log.specs.declared.entry.Done.TheVariants.{Steps, NoRoom}
 use Rattle.event_log.specs.declared.entry.Entry.{Entry}
 use Rattle.event_log.specs.declared.entry.Todo.{Todo}
 use Rattle.event_log.specs.declared.entry.Run.{Run}
+use Rattle.event_log.specs.declared.event.TheConstants.{MOST_CALLS}
 use Rattle.mc2.specs.declared.request.Request.{Request}
 use Rattle.mc2.specs.Output.{AppendsBeginning}
 use Rattle.mc2.specs.RecordText.{record_text}
@@ -41,7 +42,7 @@ module _ {O P C R : Type 0} where
   pub record IsAble (todo : Todo O P C R) : Type 0 where
     pub object : todo.object ≡ 0
     pub some : 0 < length todo.calls.items
-    pub few : length todo.calls.items ≤ 8
+    pub few : length todo.calls.items ≤ MOST_CALLS
 
   -- a request for that, by one of n CPUs
   pub record IsFor (n : ℕ) (r : Request O P C R) : Type 0 where

@@ -1,9 +1,10 @@
 -- Reading the words of a line from left to right. The laws in proofs/ tie this to the texts.
-use Rattle.std.specs.Prelude.{◌==◌, ℕ, zero, suc, List, [], ◌∷◌, Option, Some, None, Bool, true, false, if◌then◌else◌, codes, nat_le, nat_lt, ◌&&◌, decimal}
+use Rattle.std.specs.Prelude.{◌==◌, ℕ, zero, suc, List, [], ◌∷◌, Option, Some, None, Bool, true, false, if◌then◌else◌, codes, ◌-◌, nat_le, nat_lt, ◌&&◌, decimal}
 use Rattle.std.specs.List.{slice_split, position}
 use Rattle.std.specs.Str.{bytes_eq}
 use Rattle.std.specs.Str.Parse.{digits_value}
 use Rattle.std.specs.Borrow.{Bor}
+use Rattle.event_log.specs.declared.event.TheConstants.{MOST_CALLS}
 use Rattle.shared_queue.specs.declared.call.QueueCall.{QueueCall}
 use Rattle.shared_queue.specs.declared.call.QueueCall.TheVariants.{Enq, Deq, Remove, Len}
 use Rattle.mc2.specs.declared.request.Request.{Request}
@@ -69,7 +70,7 @@ module _ {C : Type 0} (call_at : List (List ℕ) → Option (C × List (List ℕ
 
   -- all words are 1 to 8 calls with semicolons between them
   unfoldable pub calls_at : List (List ℕ) → Option (List C)
-  calls_at ws = call_at ws >>= λ first. more_at 7 first.1 >>= λ more. Some (first.0 ∷ more)
+  calls_at ws = call_at ws >>= λ first. more_at (MOST_CALLS - 1) first.1 >>= λ more. Some (first.0 ∷ more)
 
 -- the object of that name, from 0
 unfoldable pub object_at : {P : Type 0} → Settings P → List (List ℕ) → Option (ℕ × List (List ℕ))

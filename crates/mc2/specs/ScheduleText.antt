@@ -1,6 +1,7 @@
 -- The text of a schedule: whose turn each step is, one word a step.
 use Rattle.std.specs.Prelude.{ℕ, ◌+◌, ◌≡◌, ◌<◌, ◌≤◌, ◌==◌, ◌||◌, ◌⊎◌, Bool, not, List, ◌∷◌, ◌++◌, map, length, decimal}
 use Rattle.std.specs.List.{AllByRecursion, filter, slice_split}
+use Rattle.mc2.specs.declared.schedule.TheConstants.{MOST_STEPS}
 
 -- a space or a line end
 abbrev pub is_gap : ℕ → Bool
@@ -14,7 +15,7 @@ schedule_words text = filter (λ word. not (length word == 0)) (slice_split is_g
 pub record IsSchedule (cpus : ℕ) (text steps : List ℕ) : Type 0 where
   pub words : schedule_words text ≡ map decimal steps
   pub each : AllByRecursion (λ cpu. cpu < cpus) steps
-  pub few : length steps ≤ 100000
+  pub few : length steps ≤ MOST_STEPS
 
 -- the word is no CPU's number
 abbrev pub NamesNoCpu : ℕ → List ℕ → Type 0
@@ -27,6 +28,6 @@ pub record IsFirstBadWord (cpus : ℕ) (text : List ℕ) (n : ℕ) : Type 0 wher
   pub rest : List (List ℕ)
   pub words : schedule_words text ≡ map decimal before ++ word ∷ rest
   pub each : AllByRecursion (λ cpu. cpu < cpus) before
-  pub few : length before ≤ 100000
+  pub few : length before ≤ MOST_STEPS
   pub number : n ≡ length before + 1
-  pub bad : NamesNoCpu cpus word ⊎ (length before ≡ 100000)
+  pub bad : NamesNoCpu cpus word ⊎ (length before ≡ MOST_STEPS)

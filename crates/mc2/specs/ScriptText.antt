@@ -1,7 +1,9 @@
 -- The text of scripts: what each CPU does, one entry a line.
 use Rattle.std.specs.Prelude.{ℕ, ◌+◌, ◌≡◌, ◌<◌, ◌≤◌, ◌==◌, ◌⊎◌, true, List, [], ◌∷◌, ◌++◌, map, length, decimal, count_by}
 use Rattle.std.specs.List.{list_all, AllByRecursion}
+use Rattle.event_log.specs.declared.event.TheConstants.{MOST_CALLS}
 use Rattle.mc2.specs.declared.request.Request.{Request}
+use Rattle.mc2.specs.declared.scripts.TheConstants.{MOST_ENTRIES}
 use Rattle.mc2.specs.Settings.{Settings, name_at}
 use Rattle.mc2.specs.Spelling.{Spelling}
 use Rattle.mc2.specs.Words.{sentence, separated, text_of_lines, NoEnd}
@@ -26,7 +28,7 @@ module _ {O P C R : Type 0} (spelling : Spelling P C R) (settings : Settings P) 
     pub cpu : r.cpu < settings.cpus
     pub object : r.todo.object < length settings.objects
     pub some : 0 < length r.todo.calls.items
-    pub few : length r.todo.calls.items ≤ 8
+    pub few : length r.todo.calls.items ≤ MOST_CALLS
     pub calls : list_all spelling.call_fits r.todo.calls.items ≡ true
 
   -- the lines ask for these requests, in order, and for nothing else
@@ -41,12 +43,12 @@ module _ {O P C R : Type 0} (spelling : Spelling P C R) (settings : Settings P) 
     pub text : bytes ≡ text_of_lines lines
     pub each : AllByRecursion NoEnd lines
     pub asked : AskFor lines requests
-    pub within : (cpu : ℕ) → count_of cpu requests ≤ 10000
+    pub within : (cpu : ℕ) → count_of cpu requests ≤ MOST_ENTRIES
 
   -- a line that can't come after these requests: it is no entry, or one too many of its CPU
   pub record IsRefused (requests : List (Request O P C R)) (line : List ℕ) : Type 0 where
     pub no_blank : IsBlank line → ⊥
-    pub no_room : (r : Request O P C R) → IsRequest line r → count_of r.cpu requests ≡ 10000
+    pub no_room : (r : Request O P C R) → IsRequest line r → count_of r.cpu requests ≡ MOST_ENTRIES
 
 -- line n, from 1, is the first that can't come, or that has no end
 pub record IsFirstBad (O : Type 0) {P C R : Type 0} (spelling : Spelling P C R) (settings : Settings P) (bytes : List ℕ) (n : ℕ) : Type 0 where

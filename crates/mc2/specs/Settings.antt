@@ -2,7 +2,10 @@
 use Rattle.std.specs.Prelude.{ℕ, ◌≡◌, ◌≤◌, ◌<◌, ◌&&◌, ◌||◌, nat_le, Bool, true, false, List, [], ◌∷◌, length, All}
 use Rattle.std.specs.List.{slice_get, list_all}
 use Rattle.std.specs.Option.{option_map_or}
+use Rattle.event_log.specs.declared.logged.TheConstants.{MOST_EVENTS}
+use Rattle.word_rule.specs.declared.TheConstants.{MOST_CPUS}
 use Rattle.word_rule.specs.declared.lock_kind.LockKind.{LockKind}
+use Rattle.word_rule.specs.declared.machine.TheConstants.{MOST_CELLS}
 use Rattle.mc2.specs.Spelling.{Spelling}
 
 -- an object's name, its lock, the most events of its log, and what it is opened with
@@ -38,12 +41,12 @@ NamesDiffer settings = (i j : ℕ) → i < length settings.objects → j < lengt
 module _ {P C R : Type 0} (spelling : Spelling P C R) where
   pub record ObjectFits (o : ObjectSettings P) : Type 0 where
     pub name : is_name o.name ≡ true
-    pub events : (1 ≤ o.events) × (o.events ≤ 65536)
+    pub events : (1 ≤ o.events) × (o.events ≤ MOST_EVENTS)
     pub params : spelling.params_fit o.params ≡ true
 
   -- settings within all limits
   pub record SettingsFit (s : Settings P) : Type 0 where
-    pub cpus : (1 ≤ s.cpus) × (s.cpus ≤ 8)
-    pub count : (1 ≤ length s.objects) × (length s.objects ≤ 16)
+    pub cpus : (1 ≤ s.cpus) × (s.cpus ≤ MOST_CPUS)
+    pub count : (1 ≤ length s.objects) × (length s.objects ≤ MOST_CELLS)
     pub each : All (λ o. ObjectFits o) s.objects
     pub names : NamesDiffer s

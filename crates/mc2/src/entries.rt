@@ -12,11 +12,9 @@ ghost use Rattle.mc2.specs.Reading.{words, left, queue_call_at, next_call_at, ca
 use crate::words::{Words, key, number, word};
 use crate::{Request, Settings};
 use arrayvec::ArrayVec;
-use event_log::Todo;
+use event_log::{MOST_CALLS, Todo};
 use shared_queue::{QueueCall, ThreadQueue};
-
-/// The most calls of an entry.
-const MOST_CALLS: usize = 8;
+use word_rule::MOST_CELLS;
 
 /// The call that is next.
 #[tactic(auto, unfolding(crate::specs::Reading::queue_call_at))]
@@ -49,7 +47,7 @@ fn next_call(at: Words<'_>) -> Option<(QueueCall, Words<'_>)>
 }
 
 /// 1 to 8 calls with semicolons between them, up to the end of the line.
-fn calls(at: Words<'_>) -> Option<ArrayVec<QueueCall, 8>>
+fn calls(at: Words<'_>) -> Option<ArrayVec<QueueCall, MOST_CALLS>>
     ensures { option_map (λ x. x.items) result ≡ calls_at queue_call_at (left at.entry) }
 {
     let (first, rest) = call(at)?;
@@ -70,7 +68,7 @@ fn calls(at: Words<'_>) -> Option<ArrayVec<QueueCall, 8>>
 /// The place of the object of that name, from 0.
 fn place_of(settings: &Settings, name: &[u8]) -> Option<usize>
     ensures place { result ≡ position (λ o. bytes_eq o.name name.now) settings.now.objects }
-    ensures bound { IfSome result (λ i. i < 16) }
+    ensures bound { IfSome result (λ i. i < MOST_CELLS) }
 {
     settings
         .objects()
@@ -82,7 +80,7 @@ fn place_of(settings: &Settings, name: &[u8]) -> Option<usize>
 #[tactic(auto, unfolding(crate::specs::Reading::object_at))]
 fn object<'a>(settings: &Settings, at: Words<'a>) -> Option<(usize, Words<'a>)>
     ensures value { option_map (λ x. (x.0, left x.1)) result ≡ object_at settings.now (left at.entry) }
-    ensures bound { IfSome result (λ x. x.0 < 16) }
+    ensures bound { IfSome result (λ x. x.0 < MOST_CELLS) }
 {
     let (name, rest) = word(at)?;
     let place = place_of(settings, name)?;

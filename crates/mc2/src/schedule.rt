@@ -11,7 +11,7 @@ use crate::words::number_of;
 use std::alloc::Global;
 
 /// The most steps of a schedule.
-const MOST_STEPS: usize = 100_000;
+pub const MOST_STEPS: usize = 100_000;
 
 /// Why a schedule was not read.
 #[derive(Clone, Copy, Debug, PartialEq, Eq, Drop)]

@@ -54,7 +54,7 @@ fn take_line(
     line: &[u8],
     requests: &mut Vec<Request<ThreadQueue>>,
 ) -> Result<(), LineFault>
-    requires within { (cpu : ℕ) → count_of cpu requests.old.items ≤ 10000 }
+    requires within { (cpu : ℕ) → count_of cpu requests.old.items ≤ MOST_ENTRIES }
     ensures ok { OnOk result (TakesLine queue_spelling settings.now line.now requests.old.items requests.new.items) }
     ensures refused { result ≡ Err LineFault.Refused → IsRefused queue_spelling settings.now requests.old.items line.now }
 {

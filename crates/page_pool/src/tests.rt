@@ -14,15 +14,6 @@ use crate::{
 use event_log::{Logged, OpenFault, Step};
 use std::test::Fail;
 
-/// The reply to one call, done as an event of the CPU 0.
-fn reply_to(pool: &mut Logged<PagePool>, call: Call) -> Result<Reply, Fail> {
-    let steps = pool.apply(0, &[call])?;
-    match steps.list.as_slice() {
-        [step] => Ok(step.reply),
-        _ => Err(Fail::new("not one step")),
-    }
-}
-
 /// What the laws say of any pool with its log: which page is given next, and which can be freed.
 fn laws_of(pool: &Logged<PagePool>)
     ensures gives { (o p : ℕ) → (pool_answer pool.now.state (Alloc o)).1 ≡ Page p → IsLeastFree pool.now.state p }
@@ -37,9 +28,9 @@ fn laws_of(pool: &Logged<PagePool>)
 #[test]
 fn the_laws_are_of_a_logged_pool(rt: HostRuntime) -> Result<(), Fail> {
     let mut pool = Logged::<PagePool>::open(rt.alloc(), 3, 10)?;
-    assert_eq!(rt; reply_to(&mut pool, Call::Alloc(2))?, Reply::Page(0));
+    assert_eq!(rt; pool.call(0, &Call::Alloc(2))?, Reply::Page(0));
     laws_of(&pool);
-    assert_eq!(rt; reply_to(&mut pool, Call::Alloc(2))?, Reply::Page(1));
+    assert_eq!(rt; pool.call(0, &Call::Alloc(2))?, Reply::Page(1));
     Ok(())
 }
 
@@ -102,11 +93,7 @@ fn worked_answers(rt: HostRuntime) -> Result<(), Fail> {
     for (pages, row) in rows {
         let mut pool = Logged::<PagePool>::open(rt.alloc(), pages, 100)?;
         for (call, reply) in row {
-            assert_eq!(rt;
-                reply_to(&mut pool, *call)?,
-                *reply,
-                "to {call:?} of {row:?}"
-            );
+            assert_eq!(rt; pool.call(0, call)?, *reply, "to {call:?} of {row:?}");
         }
     }
     Ok(())
@@ -127,7 +114,7 @@ fn a_batch_ends_with_a_refusal(rt: HostRuntime) -> Result<(), Fail> {
         },
     ];
     assert!(rt; steps.list.as_slice() == wanted.as_slice());
-    assert_eq!(rt; reply_to(&mut pool, Call::Left)?, Reply::Count(0));
+    assert_eq!(rt; pool.call(0, &Call::Left)?, Reply::Count(0));
     Ok(())
 }
 
@@ -152,8 +139,8 @@ fn an_opening_without_memory(rt: HostRuntime) -> Result<(), Fail> {
         assert_eq!(rt; fault, OpenFault::OutOfMemory);
     }
     let mut pool = Logged::<PagePool>::open(rt.alloc(), 8, 100)?;
-    assert_eq!(rt; reply_to(&mut pool, Call::Alloc(3))?, Reply::Page(0));
-    assert_eq!(rt; reply_to(&mut pool, Call::Left)?, Reply::Count(7));
+    assert_eq!(rt; pool.call(0, &Call::Alloc(3))?, Reply::Page(0));
+    assert_eq!(rt; pool.call(0, &Call::Left)?, Reply::Count(7));
     Ok(())
 }
 
@@ -162,7 +149,7 @@ fn a_pool_with_no_page_left(rt: HostRuntime) -> Result<(), Fail> {
     let mut pool = Logged::<PagePool>::open(rt.alloc(), MOST_PAGES, 5000)?;
     for page in 0..MOST_PAGES {
         assert_eq!(rt;
-            reply_to(&mut pool, Call::Alloc(page % 16))?,
+            pool.call(0, &Call::Alloc(page % 16))?,
             Reply::Page(page),
             "page {page}"
         );
@@ -195,7 +182,7 @@ fn a_pool_with_no_page_left(rt: HostRuntime) -> Result<(), Fail> {
         (Call::Alloc(7), Reply::Page(4095)),
     ];
     for (call, reply) in rows {
-        assert_eq!(rt; reply_to(&mut pool, call)?, reply, "to {call:?}");
+        assert_eq!(rt; pool.call(0, &call)?, reply, "to {call:?}");
     }
     Ok(())
 }
@@ -255,11 +242,7 @@ fn answers_as_a_plain_program(rt: HostRuntime) -> Result<(), Fail> {
             .wrapping_add(1442695040888963407);
         let call = call_of(number);
         let wanted = plain_answer(&mut taken, call)?;
-        assert_eq!(rt;
-            reply_to(&mut pool, call)?,
-            wanted,
-            "to {call:?}, turn {turn}"
-        );
+        assert_eq!(rt; pool.call(0, &call)?, wanted, "to {call:?}, turn {turn}");
     }
     Ok(())
 }

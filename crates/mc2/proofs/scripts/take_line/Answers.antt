@@ -1,4 +1,5 @@
 use Rattle.std.proofs.Common.{◌≡◌, ◌≤◌, Some, sym, ◌∙◌, subst, arith}
+use Rattle.mc2.specs.declared.scripts.TheConstants.{MOST_ENTRIES}
 use Rattle.mc2.specs.QueueTypes.{QueueRequest}
 use Rattle.mc2.specs.ScriptText.{count_of}
 use Rattle.mc2.proofs.scripts.take_line.Goals as goal
@@ -9,8 +10,8 @@ returns-then-is_full-clause-refused c = λ _. record {
   no_room = λ r asked.
       let both : Some c.in-Some.request ≡ Some r = sym c.in-Some.is ∙ c.request.ensures.only r asked in
       let one : c.in-Some.request ≡ r = cc in
-      let full : 10000 ≤ count_of c.in-Some.request.cpu c.args.requests.now.items = rw c.as_slice.ensures.value at (c.is_full.ensures.0 c.if-is_full.true) in
-      let here : 10000 ≤ count_of r.cpu c.args.requests.now.items = subst (λ (q : QueueRequest). 10000 ≤ count_of q.cpu c.args.requests.now.items) one full in
+      let full : MOST_ENTRIES ≤ count_of c.in-Some.request.cpu c.args.requests.now.items = rw c.as_slice.ensures.value at (c.is_full.ensures.0 c.if-is_full.true) in
+      let here : MOST_ENTRIES ≤ count_of r.cpu c.args.requests.now.items = subst (λ (q : QueueRequest). MOST_ENTRIES ≤ count_of q.cpu c.args.requests.now.items) one full in
       let most = c.requires.within r.cpu in
       omega (arith, here, most);
 }
