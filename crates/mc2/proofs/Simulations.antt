@@ -6,10 +6,10 @@ use Rattle.event_log.specs.declared.entry.Todo.{Todo}
 use Rattle.mc2.specs.FirstRun.{IsAble}
 use Rattle.word_rule.specs.declared.machine.cell_spec.CellSpec.{CellSpec}
 use Rattle.word_rule.specs.declared.machine.lock_words.LockWords.{LockWords}
-use Rattle.word_rule.specs.Opening.{opening_cell, opening_cpu, opening_world}
-use Rattle.word_rule.specs.Shown.{MachineParts, Represents, RepresentsCell, opened_by}
-use Rattle.word_rule.specs.SoundWorld.{IsTodo}
-use Rattle.word_rule.specs.World.{World, CellState}
+use Rattle.word_rule.specs.Machine.Opening.{opening_cell, opening_cpu, opening_world}
+use Rattle.word_rule.specs.Machine.Shown.{MachineParts, Represents, RepresentsCell, opened_by}
+use Rattle.word_rule.specs.Machine.SoundWorld.{IsTodo}
+use Rattle.word_rule.specs.Machine.World.{World, CellState}
 
 module _ {O P C R : Type 0} where
   -- entries on the first object can be done where there is one cell

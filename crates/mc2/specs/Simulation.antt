@@ -12,9 +12,9 @@ use Rattle.mc2.specs.ScriptText.{AreScripts}
 use Rattle.mc2.specs.Settings.{Settings, ObjectSettings}
 use Rattle.mc2.specs.Spelling.{Spelling}
 use Rattle.word_rule.specs.Locks.{opening_lock}
-use Rattle.word_rule.specs.Opening.{opening_cpu}
+use Rattle.word_rule.specs.Machine.Opening.{opening_cpu}
 use Rattle.word_rule.specs.Sound.{Sound}
-use Rattle.word_rule.specs.World.{World, CellState, run, run_of}
+use Rattle.word_rule.specs.Machine.World.{World, CellState, run, run_of}
 
 module _ {O P C R : Type 0} where
   -- an object of the settings behind its lock, with the first ticket 0 and an empty log

@@ -12,12 +12,12 @@ use Rattle.word_rule.specs.declared.stage.Stage.TheVariants.{Idle, Mcs}
 use Rattle.word_rule.specs.declared.stage.McsStage.TheVariants.{Ready, Behind, Armed, Waiting, Holding, Alone, Leaving, Passing}
 use Rattle.word_rule.specs.Cell.{Cell, Grows, Lawful, OwnsAll}
 use Rattle.word_rule.specs.declared.lock_kind.LockKind.TheVariants as kinds
-use Rattle.word_rule.specs.Definition.{IsTurn}
+use Rattle.word_rule.specs.Rule.Definition.{IsTurn}
 use Rattle.word_rule.specs.CallerState.{CallerState, IsOther, Moves}
-use Rattle.word_rule.specs.CellInvariant.{Caller}
-use Rattle.word_rule.specs.Seats.{Seat, at, with_stage, taken_in, keeping, letting}
-use Rattle.word_rule.specs.Announced.{IsElse}
-use Rattle.word_rule.specs.Callers.{caller_of, hold_view_of, state_with, IsWithout, IsWith}
+use Rattle.word_rule.specs.Rule.CellInvariant.{Caller}
+use Rattle.word_rule.specs.Rule.Seats.{Seat, at, with_stage, taken_in, keeping, letting}
+use Rattle.word_rule.specs.Rule.Announced.{IsElse}
+use Rattle.word_rule.specs.Rule.Callers.{caller_of, hold_view_of, state_with, IsWithout, IsWith}
 use Rattle.word_rule.proofs.Lists.{grows_self, grows_then}
 use Rattle.word_rule.proofs.Known.{AllIdle, idle_alone}
 use Rattle.word_rule.proofs.Acting.{value_of}

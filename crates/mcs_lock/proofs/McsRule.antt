@@ -18,14 +18,14 @@ use Rattle.word_rule.specs.declared.stage.Stage.{Stage}
 use Rattle.word_rule.specs.declared.stage.Stage.TheVariants.{Idle, Mcs}
 use Rattle.word_rule.specs.declared.stage.McsStage.TheVariants.{Ready, Behind, Armed, Waiting, Holding, Alone, Leaving, Passing}
 use Rattle.word_rule.specs.Cell.{Cell, Lawful, stored}
-use Rattle.word_rule.specs.CellInvariant.{Caller, EachFrom, Viewed, Table, CallerInvariant, CellInvariant}
-use Rattle.word_rule.specs.Definition.{IsTurn}
+use Rattle.word_rule.specs.Rule.CellInvariant.{Caller, EachFrom, Viewed, Table, CallerInvariant, CellInvariant}
+use Rattle.word_rule.specs.Rule.Definition.{IsTurn}
 use Rattle.word_rule.specs.Line.{holding}
 use Rattle.word_rule.specs.Locks.{Lock, follower, going, taking, leaving}
-use Rattle.word_rule.specs.LockStates.{IsLockOf}
-use Rattle.word_rule.specs.Seats.{Seat, with_stage, settled}
-use Rattle.word_rule.specs.Announced.{any_has, Lacks, Returns}
-use Rattle.word_rule.specs.Callers.{AddedBy}
+use Rattle.word_rule.specs.Rule.LockStates.{IsLockOf}
+use Rattle.word_rule.specs.Rule.Seats.{Seat, with_stage, settled}
+use Rattle.word_rule.specs.Rule.Announced.{any_has, Lacks, Returns}
+use Rattle.word_rule.specs.Rule.Callers.{AddedBy}
 use Rattle.word_rule.specs.Turns.{turn, clear, enter, arm, link, see, pass, mcs_turn}
 use Rattle.word_rule.proofs.Acting.{value_of}
 use Rattle.word_rule.proofs.Known.{AllIdle, same_cell, gets, someone_else, lacks}

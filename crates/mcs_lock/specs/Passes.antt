@@ -7,7 +7,7 @@ use Rattle.word_rule.specs.declared.stage.McsStage.TheVariants.{Ready, Behind, A
 use Rattle.word_rule.specs.Cell.{PassView, HoldView}
 use Rattle.word_rule.specs.CallerState.{CallerState}
 use Rattle.word_rule.specs.Passes.{IsPassAt, IsHoldAt}
-use Rattle.word_rule.specs.Callers.{IsAt, pass_view_of, hold_view_of, state_without, state_with}
+use Rattle.word_rule.specs.Rule.Callers.{IsAt, pass_view_of, hold_view_of, state_without, state_with}
 use Rattle.mcs_lock.specs.declared.cell.McsCell.{McsCell}
 use Rattle.word_rule.specs.declared.pass.Pass.{Pass}
 use Rattle.mcs_lock.specs.declared.states.Ready.{Ready as ReadyCaller}

@@ -7,9 +7,9 @@ use Rattle.word_rule.specs.declared.stage.Stage.{Stage}
 use Rattle.word_rule.specs.declared.stage.Stage.TheVariants.{Idle, Mcs}
 use Rattle.word_rule.specs.declared.stage.McsStage.TheVariants.{Behind, Armed, Waiting, Holding, Alone, Leaving, Passing}
 use Rattle.word_rule.specs.Cell.{Cell, Lawful}
-use Rattle.word_rule.specs.CellInvariant.{Viewed}
-use Rattle.word_rule.specs.Seats.{Seat, with_stage}
-use Rattle.word_rule.specs.Announced.{Lacks, IsElse, Gets, Returns}
+use Rattle.word_rule.specs.Rule.CellInvariant.{Viewed}
+use Rattle.word_rule.specs.Rule.Seats.{Seat, with_stage}
+use Rattle.word_rule.specs.Rule.Announced.{Lacks, IsElse, Gets, Returns}
 
 module _ {O P C R : Type 0} where
   -- the caller stands there now

@@ -3,8 +3,8 @@
 ghost use Rattle.event_log.proofs.Props.{legal_props};
 ghost use Rattle.word_rule.specs.declared.stage.Stage.TheVariants.{Mcs};
 ghost use Rattle.word_rule.specs.declared.stage.McsStage.TheVariants.{Ready, Behind, Armed, Waiting, Alone, Leaving, Passing};
-ghost use Rattle.word_rule.specs.Announced.{IsElse};
-ghost use Rattle.word_rule.specs.Callers.{IsWithout, IsWith};
+ghost use Rattle.word_rule.specs.Rule.Announced.{IsElse};
+ghost use Rattle.word_rule.specs.Rule.Callers.{IsWithout, IsWith};
 
 use event_log::{Logged, SeqObject};
 use std::snapshot::Snapshot;

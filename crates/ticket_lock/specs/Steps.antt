@@ -5,8 +5,8 @@ use Rattle.event_log.specs.declared.object.SeqObject.{Ghosts}
 use Rattle.event_log.specs.History.{History}
 use Rattle.word_rule.specs.declared.stage.Stage.TheVariants.{Idle, Ticket}
 use Rattle.word_rule.specs.declared.stage.TicketStage.TheVariants.{Drawn, Served}
-use Rattle.word_rule.specs.Seats.{Seat, with_stage}
-use Rattle.word_rule.specs.Announced.{Lacks, Gets, Returns}
+use Rattle.word_rule.specs.Rule.Seats.{Seat, with_stage}
+use Rattle.word_rule.specs.Rule.Announced.{Lacks, Gets, Returns}
 
 module _ {O P C R : Type 0} where
   -- the number that was found is the ticket

@@ -16,10 +16,10 @@ use Rattle.word_rule.specs.declared.stage.Stage.{Stage}
 use Rattle.word_rule.specs.declared.stage.Stage.TheVariants.{Idle}
 use Rattle.word_rule.specs.Cell.{Cell, Grows, IsCaller, Lawful, OwnsAll, stored}
 use Rattle.word_rule.specs.CallerState.{CallerState, Moves, Takes, Gives, NeedsAnother}
-use Rattle.word_rule.specs.CellInvariant.{Viewed}
-use Rattle.word_rule.specs.Seats.{Seat, shown, at, with_stage, settled, taken_in, keeping, letting, merged}
-use Rattle.word_rule.specs.Announced.{Lacks, HasAll, Learns, Gets, Returns, any_has}
-use Rattle.word_rule.specs.Callers.{AddedBy, caller_of, state_without, state_with, StandsAt, IsWithout, IsWith}
+use Rattle.word_rule.specs.Rule.CellInvariant.{Viewed}
+use Rattle.word_rule.specs.Rule.Seats.{Seat, shown, at, with_stage, settled, taken_in, keeping, letting, merged}
+use Rattle.word_rule.specs.Rule.Announced.{Lacks, HasAll, Learns, Gets, Returns, any_has}
+use Rattle.word_rule.specs.Rule.Callers.{AddedBy, caller_of, state_without, state_with, StandsAt, IsWithout, IsWith}
 use Rattle.word_rule.proofs.Lists.{has_append, of_push, grows_self, or_none}
 
 module _ {O P C R : Type 0} where

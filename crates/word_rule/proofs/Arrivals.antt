@@ -8,10 +8,10 @@ use Rattle.word_rule.specs.declared.lock_kind.LockKind.{LockKind}
 use Rattle.word_rule.specs.declared.lock_kind.LockKind.TheVariants as kinds
 use Rattle.word_rule.specs.Line.{holding}
 use Rattle.word_rule.specs.Locks.{Lock, opening_lock, tickets}
-use Rattle.word_rule.specs.Opening.{IsOpening}
-use Rattle.word_rule.specs.Orders.{is_at, arrivals, endings}
+use Rattle.word_rule.specs.Machine.Opening.{IsOpening}
+use Rattle.word_rule.specs.Machine.Orders.{is_at, arrivals, endings}
 use Rattle.word_rule.specs.Turns.{arrives}
-use Rattle.word_rule.specs.World.{World, CellState, run, step}
+use Rattle.word_rule.specs.Machine.World.{World, CellState, run, step}
 use Rattle.word_rule.proofs.Orders.{AreLocks, IsCell, line_in, in_order, locks_run, same_cpus, room_to_arrive}
 use Rattle.word_rule.proofs.LockLaws.{one_holds}
 use Rattle.word_rule.proofs.McsTurns.{starts_mcs}

@@ -6,9 +6,9 @@ use Rattle.event_log.specs.declared.object.SeqObject.{Ghosts}
 use Rattle.event_log.specs.Distinct.{has}
 use Rattle.word_rule.specs.declared.stage.Stage.TheVariants.{Idle}
 use Rattle.word_rule.specs.Cell.{Cell, Lawful, EachAt, opening_pass}
-use Rattle.word_rule.specs.CellInvariant.{Viewed}
-use Rattle.word_rule.specs.Seats.{Seat, idle, idle_from, keeping, letting}
-use Rattle.word_rule.specs.Callers.{pass_view_of, IsWithout}
+use Rattle.word_rule.specs.Rule.CellInvariant.{Viewed}
+use Rattle.word_rule.specs.Rule.Seats.{Seat, idle, idle_from, keeping, letting}
+use Rattle.word_rule.specs.Rule.Callers.{pass_view_of, IsWithout}
 use Rattle.word_rule.proofs.Lists.{has_one, or_none}
 
 module _ {O P C R : Type 0} where

@@ -15,10 +15,10 @@ use Rattle.word_rule.specs.declared.lock_kind.LockKind.{LockKind}
 use Rattle.word_rule.specs.declared.stage.Stage.TheVariants.{Idle}
 use Rattle.word_rule.specs.Cell.{Cell, cell_of, Lawful, OwnsAll, IsPassView, stored}
 use Rattle.word_rule.specs.Locks.{Lock, opening_lock}
-use Rattle.word_rule.specs.LockStates.{IsLockOf}
-use Rattle.word_rule.specs.CellInvariant.{GhostState, Viewed, Table, EachFrom, CallerInvariant, SeatInvariant, CellInvariant}
-use Rattle.word_rule.specs.Seats.{Seat, idle_from, first_view}
-use Rattle.word_rule.specs.Callers.{caller_of, pass_view_of, IsWithout}
+use Rattle.word_rule.specs.Rule.LockStates.{IsLockOf}
+use Rattle.word_rule.specs.Rule.CellInvariant.{GhostState, Viewed, Table, EachFrom, CallerInvariant, SeatInvariant, CellInvariant}
+use Rattle.word_rule.specs.Rule.Seats.{Seat, idle_from, first_view}
+use Rattle.word_rule.specs.Rule.Callers.{caller_of, pass_view_of, IsWithout}
 use Rattle.word_rule.proofs.Lists.{has_one, drop_self, grows_self, same_log, of_opening}
 use Rattle.word_rule.proofs.Known.{all_idle}
 use Rattle.word_rule.proofs.LockLaws.{idle_home}

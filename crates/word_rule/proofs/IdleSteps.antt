@@ -14,11 +14,11 @@ use Rattle.word_rule.specs.declared.stage.TicketStage.TheVariants.{Drawn, Served
 use Rattle.word_rule.specs.declared.stage.McsStage.TheVariants.{Ready, Behind, Armed, Waiting, Holding, Alone, Leaving, Passing}
 use Rattle.word_rule.specs.Line.{is_first, moved}
 use Rattle.word_rule.specs.Locks.{Lock, last, is_named, follower, going, taking, leaving}
-use Rattle.word_rule.specs.LockStates.{IsLock}
-use Rattle.word_rule.specs.Opening.{IsOpening}
-use Rattle.word_rule.specs.SoundWorld.{IsTodo}
+use Rattle.word_rule.specs.Rule.LockStates.{IsLock}
+use Rattle.word_rule.specs.Machine.Opening.{IsOpening}
+use Rattle.word_rule.specs.Machine.SoundWorld.{IsTodo}
 use Rattle.word_rule.specs.Turns.{look, see, enter, empty, ticket_turn, mcs_turn, turn_of, turn}
-use Rattle.word_rule.specs.World.{World, CellState, CpuState, step, step_by, step_of, step_on, run}
+use Rattle.word_rule.specs.Machine.World.{World, CellState, CpuState, step, step_by, step_of, step_on, run}
 use Rattle.word_rule.proofs.Arrivals.{fresh}
 use Rattle.word_rule.proofs.Openings.{opening_sound}
 use Rattle.word_rule.proofs.Orders.{Keeps, AreLocks, IsCell, locks_run, same_cpus}

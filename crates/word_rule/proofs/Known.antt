@@ -10,9 +10,9 @@ use Rattle.word_rule.specs.declared.lock_kind.LockKind.{LockKind}
 use Rattle.word_rule.specs.declared.stage.Stage.{Stage}
 use Rattle.word_rule.specs.declared.stage.Stage.TheVariants.{Idle}
 use Rattle.word_rule.specs.Cell.{Cell, Grows, Lawful, stored}
-use Rattle.word_rule.specs.CellInvariant.{GhostState, Caller, Viewed, Table, EachFrom, CallerInvariant, SeatInvariant, CellInvariant}
-use Rattle.word_rule.specs.Seats.{Seat, settled}
-use Rattle.word_rule.specs.Announced.{any_has, Lacks, IsElse, Learns, Gets}
+use Rattle.word_rule.specs.Rule.CellInvariant.{GhostState, Caller, Viewed, Table, EachFrom, CallerInvariant, SeatInvariant, CellInvariant}
+use Rattle.word_rule.specs.Rule.Seats.{Seat, settled}
+use Rattle.word_rule.specs.Rule.Announced.{any_has, Lacks, IsElse, Learns, Gets}
 use Rattle.word_rule.proofs.Lists.{false_from}
 use Rattle.word_rule.proofs.LockLaws.{in_line_below, idle_outside}
 

@@ -8,7 +8,7 @@ use Rattle.word_rule.specs.declared.stage.TicketStage.TheVariants.{Served}
 use Rattle.word_rule.specs.declared.stage.McsStage.TheVariants.{Holding}
 use Rattle.word_rule.specs.Line.{holding, lends}
 use Rattle.word_rule.specs.Locks.{Lock, going}
-use Rattle.word_rule.specs.LockStates.{IsLockOf}
+use Rattle.word_rule.specs.Rule.LockStates.{IsLockOf}
 use Rattle.word_rule.proofs.LockLaws as laws
 use Rattle.word_rule.proofs.McsTurns.{mcs_torn}
 

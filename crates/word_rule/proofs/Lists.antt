@@ -13,7 +13,7 @@ use Rattle.event_log.specs.Distinct.{has, AreDistinctBelow}
 use Rattle.event_log.specs.Log.{Begins, of}
 use Rattle.event_log.proofs.Beginnings.{begins_self, begins_then, begins_rest}
 use Rattle.word_rule.specs.Cell.{Grows}
-use Rattle.word_rule.specs.CellInvariant.{EachFrom}
+use Rattle.word_rule.specs.Rule.CellInvariant.{EachFrom}
 
 pub false_from : (b : Bool) → (b ≡ true → ⊥) → b ≡ false
 false_from true f = absurd (f refl)

@@ -14,7 +14,7 @@ use Rattle.word_rule.specs.declared.stage.TicketStage.TheVariants.{Drawn, Served
 use Rattle.word_rule.specs.declared.stage.McsStage.TheVariants.{Ready, Behind, Armed, Waiting, Holding, Alone, Leaving, Passing}
 use Rattle.word_rule.specs.Line.{holding}
 use Rattle.word_rule.specs.Locks.{Lock, going}
-use Rattle.word_rule.specs.LockStates.{First, Stands, IsLock, IsLockOf}
+use Rattle.word_rule.specs.Rule.LockStates.{First, Stands, IsLock, IsLockOf}
 use Rattle.word_rule.specs.LockWords.{words_of, lock_words}
 use Rattle.word_rule.proofs.Lists.{has_at, below_of, there_is, false_from}
 use Rattle.word_rule.proofs.Stays.{each_moved}

@@ -12,11 +12,11 @@ use Rattle.word_rule.specs.declared.machine.cell_spec.CellSpec.{CellSpec}
 use Rattle.word_rule.specs.declared.machine.lock_words.LockWords.{LockWords}
 use Rattle.word_rule.specs.declared.machine.progress.Progress.{Progress}
 use Rattle.word_rule.specs.declared.machine.step_done.StepDone.{StepDone}
-use Rattle.word_rule.specs.LockStates.{RepresentsLock}
-use Rattle.word_rule.specs.Shown.{MachineParts, Runs, HasRoom, IsRoomy, opened_by}
+use Rattle.word_rule.specs.Rule.LockStates.{RepresentsLock}
+use Rattle.word_rule.specs.Machine.Shown.{MachineParts, Runs, HasRoom, IsRoomy, opened_by}
 use Rattle.word_rule.specs.Sound.{Opened}
 use Rattle.word_rule.specs.Turns.{turn, ends_hold}
-use Rattle.word_rule.specs.World.{World, entry_of, outcome, step, run}
+use Rattle.word_rule.specs.Machine.World.{World, entry_of, outcome, step, run}
 use Rattle.word_rule.proofs.Openings.{take_more}
 use Rattle.word_rule.proofs.MachineSteps.{Counts, kept_parts, the_cell, stepped}
 use Rattle.word_rule.proofs.Slices.{map_set, get_set_same, get_set_other, read_get, one_of}

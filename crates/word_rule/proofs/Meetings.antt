@@ -12,10 +12,10 @@ use Rattle.word_rule.specs.declared.stage.Stage.TheVariants.{Idle, Torn}
 use Rattle.word_rule.specs.Cell.{Cell}
 use Rattle.word_rule.specs.Line.{holding}
 use Rattle.word_rule.specs.Locks.{Lock, going}
-use Rattle.word_rule.specs.LockStates.{IsLockOf}
-use Rattle.word_rule.specs.CellInvariant.{GhostState, Caller, Viewed, Table, EachFrom, CallerInvariant, SeatInvariant, CellInvariant}
-use Rattle.word_rule.specs.Seats.{Seat, with_stage, settled, taken_in, idle, behind_first, first_or_none, spent, keeping, letting, merged}
-use Rattle.word_rule.specs.Announced.{meets, joins, tears, clashes}
+use Rattle.word_rule.specs.Rule.LockStates.{IsLockOf}
+use Rattle.word_rule.specs.Rule.CellInvariant.{GhostState, Caller, Viewed, Table, EachFrom, CallerInvariant, SeatInvariant, CellInvariant}
+use Rattle.word_rule.specs.Rule.Seats.{Seat, with_stage, settled, taken_in, idle, behind_first, first_or_none, spent, keeping, letting, merged}
+use Rattle.word_rule.specs.Rule.Announced.{meets, joins, tears, clashes}
 use Rattle.word_rule.proofs.Lists.{each_map, has_append, at_snoc_at, grows_self}
 use Rattle.word_rule.proofs.Stays.{seats_stay, show_each, torn}
 use Rattle.word_rule.proofs.Known.{all_idle, learned}

@@ -11,8 +11,8 @@ use Rattle.word_rule.specs.declared.machine.step_done.StepDone.{StepDone}
 use Rattle.word_rule.specs.declared.machine.step_done.StepDone.TheVariants as steps
 use Rattle.word_rule.specs.Locks.{Lock}
 use Rattle.word_rule.specs.Turns.{turn, ends_hold, arrives}
-use Rattle.word_rule.specs.World.{World, CellState, CpuState, step, step_by, step_of, step_on, run}
-use Rattle.word_rule.specs.Orders.{first_cell, works_on, is_that, is_at, doers, arrivals, endings}
+use Rattle.word_rule.specs.Machine.World.{World, CellState, CpuState, step, step_by, step_of, step_on, run}
+use Rattle.word_rule.specs.Machine.Orders.{first_cell, works_on, is_that, is_at, doers, arrivals, endings}
 use Rattle.word_rule.proofs.Slices.{get_set_same, get_set_other}
 
 -- What a step of CPU i does to the line: who arrives joins its end, and who ends a hold leaves from its front.

@@ -10,7 +10,7 @@ use Rattle.word_rule.specs.declared.stage.Stage.{Stage}
 use Rattle.word_rule.specs.declared.stage.Stage.TheVariants.{Idle, Ticket, Mcs, Torn}
 use Rattle.word_rule.specs.declared.stage.McsStage.TheVariants.{Ready, Behind, Armed, Waiting, Holding, Alone, Leaving, Passing}
 use Rattle.word_rule.specs.Locks.{naming, is_linked}
-use Rattle.word_rule.specs.LockStates.{First, Follows, Stands}
+use Rattle.word_rule.specs.Rule.LockStates.{First, Follows, Stands}
 use Rattle.word_rule.proofs.Lists.{has_tail}
 
 -- the `next` of p names this now, and every other `next` what it named

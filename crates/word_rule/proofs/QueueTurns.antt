@@ -13,7 +13,7 @@ use Rattle.word_rule.specs.declared.stage.Stage.TheVariants.{Idle, Mcs}
 use Rattle.word_rule.specs.declared.stage.McsStage.TheVariants.{Ready, Behind, Armed, Waiting, Holding, Alone, Leaving, Passing}
 use Rattle.word_rule.specs.Line.{Line, holding, is_first, lined}
 use Rattle.word_rule.specs.Locks.{Lock, last, last_from, is_named, second, behind, if_linked, is_linked, follower, going, joining, taking, leaving, naming}
-use Rattle.word_rule.specs.LockStates.{First, Follows, Stands, IsLock}
+use Rattle.word_rule.specs.Rule.LockStates.{First, Follows, Stands, IsLock}
 use Rattle.word_rule.specs.Turns.{clear, arm, link, pass}
 use Rattle.word_rule.proofs.Lists.{has_at, at_below, one_place, one_at, not_at, there_is, two_are, one_is, false_from}
 use Rattle.word_rule.proofs.LockLaws.{stands_at, first_holds, in_cell, idle_outside, restaged}

@@ -12,7 +12,7 @@ use Rattle.word_rule.specs.declared.stage.TicketStage.TheVariants.{Drawn, Served
 use Rattle.word_rule.specs.declared.stage.McsStage.TheVariants.{Ready, Behind, Armed, Waiting, Holding, Alone, Leaving, Passing}
 use Rattle.word_rule.specs.Line.{moved, holding, is_first}
 use Rattle.word_rule.specs.Locks.{Lock, last, follower, going, taking, leaving, tickets}
-use Rattle.word_rule.specs.LockStates.{IsLockOf, RepresentsLock}
+use Rattle.word_rule.specs.Rule.LockStates.{IsLockOf, RepresentsLock}
 use Rattle.word_rule.specs.Turns.{draw, serve, clear, enter, arm, link, see, pass, ticket_turn, mcs_turn, turn_of, turn}
 use Rattle.word_rule.proofs.Lists.{false_from}
 use Rattle.word_rule.proofs.McsTurns as mcs

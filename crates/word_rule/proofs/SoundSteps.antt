@@ -21,8 +21,8 @@ use Rattle.word_rule.specs.declared.machine.step_done.StepDone.{StepDone}
 use Rattle.word_rule.specs.Locks.{Lock}
 use Rattle.word_rule.specs.Turns.{turn, ends_hold}
 use Rattle.word_rule.specs.Sound.{LogIsSound, Answers, NoneAfterFull, done_on, steps_by}
-use Rattle.word_rule.specs.World.{World, CellState, CpuState, with_done, entry_of, left, finished, counted, outcome, world_after, step_on, step_of, step_by, step, run}
-use Rattle.word_rule.specs.SoundWorld.{IsTodo, entries_of, entries_by, IsAnswer, SoundWorld}
+use Rattle.word_rule.specs.Machine.World.{World, CellState, CpuState, with_done, entry_of, left, finished, counted, outcome, world_after, step_on, step_of, step_by, step, run}
+use Rattle.word_rule.specs.Machine.SoundWorld.{IsTodo, entries_of, entries_by, IsAnswer, SoundWorld}
 use Rattle.word_rule.proofs.Acting.{all_push}
 use Rattle.word_rule.proofs.Entries.{done_append, done_here, done_elsewhere, done_without, steps_push, steps_other, full_push}
 use Rattle.word_rule.proofs.Slices.{get_set_same, get_set_other, one_of}

@@ -12,7 +12,7 @@ use Rattle.word_rule.specs.declared.stage.TicketStage.TheVariants.{Drawn, Served
 use Rattle.word_rule.specs.declared.stage.McsStage.TheVariants.{Ready, Behind, Armed, Waiting, Holding, Alone, Leaving, Passing}
 use Rattle.word_rule.specs.Line.{holding, is_first}
 use Rattle.word_rule.specs.Locks.{Lock, last, behind, is_named, follower, going, taking, leaving}
-use Rattle.word_rule.specs.LockStates.{IsLock, IsLockOf}
+use Rattle.word_rule.specs.Rule.LockStates.{IsLock, IsLockOf}
 use Rattle.word_rule.specs.LockWords.{words_of}
 use Rattle.word_rule.specs.Turns.{look, see, enter, empty, ticket_turn, mcs_turn, turn_of, turn}
 use Rattle.word_rule.proofs.LockLaws.{line_fits}

@@ -8,7 +8,7 @@ use Rattle.word_rule.specs.declared.pass.Pass.{Pass}
 use Rattle.word_rule.specs.declared.hold.Hold.{Hold}
 use Rattle.word_rule.specs.Cell.{PassView, HoldView}
 use Rattle.word_rule.specs.CallerState.{CallerState}
-use Rattle.word_rule.specs.Callers.{IsAt, pass_view_of, hold_view_of, state_without, state_with}
+use Rattle.word_rule.specs.Rule.Callers.{IsAt, pass_view_of, hold_view_of, state_without, state_with}
 
 -- The types of callers are over all that an object is bound by.
 module _ {O P C R : Type 0} {g : Ghosts O P C R} {call_eq : Eq C} {call_default : Default C} {reply_eq : Eq R} {reply_default : Default R} where

@@ -6,13 +6,13 @@ ghost use Rattle.event_log.specs.Log.{answers, after, Fulfils};
 ghost use Rattle.word_rule.specs.Passes.{view_of_hold};
 
 use crate::Hold;
-use event_log::{NoRoom, SeqObject, Steps};
+use event_log::{MOST_CALLS, NoRoom, SeqObject, Steps};
 
 impl<O: SeqObject> Hold<O> {
     /// Does 1 to 8 calls as one event of the acting CPU, up to and with the first that is refused. It takes no memory.
     pub fn apply(&mut self, calls: &[O::Call]) -> Result<Steps<O>, NoRoom>
         requires some { 0 < length calls.now }
-        requires few { length calls.now ≤ 8 }
+        requires few { length calls.now ≤ MOST_CALLS }
         ensures table { (self.new.seat.table_id ≡ self.old.seat.table_id) × (self.new.key.value ≡ self.old.key.value) }
         ensures stage { self.new.stage ≡ self.old.stage }
         ensures caller { (view_of_hold self.new).caller ≡ (view_of_hold self.old).caller }

@@ -2,7 +2,7 @@
 
 ghost use Rattle.std.specs.Prelude.{◌≡◌, true};
 ghost use Rattle.event_log.proofs.Props.{legal_props};
-ghost use Rattle.word_rule.specs.Callers.{IsWith};
+ghost use Rattle.word_rule.specs.Rule.Callers.{IsWith};
 ghost use Rattle.word_rule.specs.Line.{lends};
 
 use crate::{Key, Lent, Seat, Stage};

@@ -9,6 +9,9 @@ use event_log::{Logged, SeqObject};
 use std::marker::Model;
 use std::snapshot::Snapshot;
 
+/// The most CPUs of one cell.
+pub const MOST_CPUS: u8 = 8;
+
 /// The constants of a cell, for contracts: which lock it has, what the object was opened with, its limit, its opening log
 /// and the number of CPUs. It carries no log of its own.
 #[derive(Drop)]

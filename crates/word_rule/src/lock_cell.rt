@@ -5,7 +5,7 @@ ghost use Rattle.event_log.specs.Log.{answers, after, Fulfils};
 ghost use Rattle.event_log.specs.History.{with_event};
 ghost use Rattle.word_rule.specs.Cell.{PassView, HoldView, Grows, IsPassView, IsHoldView, OwnsAll, stored};
 
-use event_log::{Logged, NoRoom, SeqObject, Steps};
+use event_log::{Logged, MOST_CALLS, NoRoom, SeqObject, Steps};
 use std::sync::Wait;
 
 /// A cell that lends its object to one caller at a time. A caller has a pass, which owns one or more CPU numbers and
@@ -40,7 +40,7 @@ pub trait LockCell<O: SeqObject> {
     /// Does 1 to 8 calls as one event of the acting CPU, up to and with the first that is refused. It takes no memory.
     fn apply(hold: &mut Self::Hold, calls: &[O::Call]) -> Result<Steps<O>, NoRoom>
         requires some { 0 < length calls.now }
-        requires few { length calls.now ≤ 8 }
+        requires few { length calls.now ≤ MOST_CALLS }
         ensures hold { (cell : Self) → is_hold_of cell hold.old → is_hold_of cell hold.new }
         ensures caller { (hold_view hold.new).caller ≡ (hold_view hold.old).caller }
         ensures room { IsErr result ↔ (length (hold_view hold.old).history.log ≡ (hold_view hold.old).history.limit) }

@@ -3,11 +3,11 @@
 ghost use Rattle.std.specs.Prelude.{◌≡◌, ◌<◌, ◌≤◌, [], All, length, map, vec_len, Some, slice_get, IfOk, IfErr};
 ghost use Rattle.std.specs.List.{AllByRecursion};
 ghost use Rattle.word_rule.specs.LockWords.{lock_words};
-ghost use Rattle.word_rule.specs.Opening.{opening_world, IsOpening};
-ghost use Rattle.word_rule.specs.Shown.{Represents, Runs, opened_by};
+ghost use Rattle.word_rule.specs.Machine.Opening.{opening_world, IsOpening};
+ghost use Rattle.word_rule.specs.Machine.Shown.{Represents, Runs, opened_by};
 ghost use Rattle.word_rule.specs.Sound.{Sound};
-ghost use Rattle.word_rule.specs.SoundWorld.{IsTodo};
-ghost use Rattle.word_rule.specs.World.{World, CellState, step, run, run_of};
+ghost use Rattle.word_rule.specs.Machine.SoundWorld.{IsTodo};
+ghost use Rattle.word_rule.specs.Machine.World.{World, CellState, step, run, run_of};
 
 mod cell_spec;
 mod hold;
@@ -27,6 +27,7 @@ use crate::machine::lock_words::LockWords;
 use crate::machine::progress::Progress;
 use crate::machine::recorded::{all_logs, all_transcripts};
 use crate::machine::room::{Room, make_room};
+use crate::MOST_CPUS;
 pub use cell_spec::CellSpec;
 use event_log::{Entry, Event, OutOfMemory, Run, SeqObject, Series, Todo};
 pub use law::{first_come, idle_when_done, one_holder, sound_runs};
@@ -52,7 +53,7 @@ pub struct Machine<O: SeqObject> {
 impl<O: SeqObject> Model for Machine<O> {
     ghost use Rattle.std.specs.Prelude.{◌≡◌, []};
     ghost use Rattle.std.specs.Vec.{vec_capacity};
-    ghost use Rattle.word_rule.specs.Shown.{MachineParts, Runs, IsRoomy};
+    ghost use Rattle.word_rule.specs.Machine.Shown.{MachineParts, Runs, IsRoomy};
 
     ghost Value = { MachineParts O O.Params O.Call O.Reply };
 
@@ -69,8 +70,8 @@ impl<O: SeqObject> Machine<O> {
         cells: Vec<CellSpec<O>>,
         scripts: Vec<Vec<Todo<O>>>,
     ) -> Result<Machine<O>, (OutOfMemory, Vec<CellSpec<O>>, Vec<Vec<Todo<O>>>)>
-        requires cells { (0 < vec_len cells) × (vec_len cells ≤ 16) }
-        requires cpus { (0 < vec_len scripts) × (vec_len scripts ≤ 8) }
+        requires cells { (0 < vec_len cells) × (vec_len cells ≤ MOST_CELLS) }
+        requires cpus { (0 < vec_len scripts) × (vec_len scripts ≤ MOST_CPUS) }
         requires empty { AllByRecursion (λ c. c.logged.log ≡ []) cells.items }
         requires able { AllByRecursion (λ s. AllByRecursion (λ t. IsTodo (vec_len cells) t) s.items) scripts.items }
         ensures shows { IfOk result (λ m. Represents O.SeqObject m (opening_world cells.items scripts.items)) }
@@ -103,8 +104,8 @@ impl<O: SeqObject> Machine<O> {
     /// and 8 CPUs. It has no effect.
     pub fn keeps_a_world(&self)
         ensures world { Runs O.SeqObject self.now }
-        ensures cells { length self.now.cells ≤ 16 }
-        ensures cpus { length self.now.scripts ≤ 8 }
+        ensures cells { length self.now.cells ≤ MOST_CELLS }
+        ensures cpus { length self.now.scripts ≤ MOST_CPUS }
     {
         let _ = &self.cells;
     }

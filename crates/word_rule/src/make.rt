@@ -3,9 +3,9 @@
 ghost use Rattle.std.specs.Prelude.{◌≡◌, ℕ, ◌<◌, ◌≤◌, [], length, IfOk, IfErr, vec_len, vec_capacity};
 ghost use Rattle.word_rule.specs.Cell.{Lawful, EachAt, OwnsAll, cell_of, opening_pass, first_pass, stored};
 ghost use Rattle.word_rule.specs.Locks.{opening_lock};
-ghost use Rattle.word_rule.specs.LockStates.{IsLockOf};
+ghost use Rattle.word_rule.specs.Rule.LockStates.{IsLockOf};
 ghost use Rattle.word_rule.specs.Passes.{IsPassAt, view_of_pass};
-ghost use Rattle.word_rule.specs.Seats.{first_view};
+ghost use Rattle.word_rule.specs.Rule.Seats.{first_view};
 
 use crate::{Key, LockKind, LockTable, Pass, Seat};
 use atomic_table::{Refused, Table};

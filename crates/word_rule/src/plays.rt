@@ -1,7 +1,7 @@
 //! The moves of a cell's seats that are the same at every lock.
 
-ghost use Rattle.word_rule.specs.Seats.{taken_in, spent, keeping, letting};
-ghost use Rattle.word_rule.specs.Announced.{meets, joins, tears, clashes};
+ghost use Rattle.word_rule.specs.Rule.Seats.{taken_in, spent, keeping, letting};
+ghost use Rattle.word_rule.specs.Rule.Announced.{meets, joins, tears, clashes};
 
 use crate::{Key, View};
 use atomic_table::{Join, Play, Split};

@@ -1,7 +1,7 @@
 //! Seats that take in one another's callers, and let them go: moves of the table, which change no word.
 
 ghost use Rattle.std.specs.Prelude.{◌≡◌, ◌<◌, []};
-ghost use Rattle.word_rule.specs.Seats.{taken_in, keeping, letting};
+ghost use Rattle.word_rule.specs.Rule.Seats.{taken_in, keeping, letting};
 
 use crate::{Beside, LockTable, Seat};
 use event_log::SeqObject;

@@ -3,16 +3,16 @@
 ghost use Rattle.std.specs.Prelude.{◌≡◌, ◌+◌, ◌^◌, ◌<◌, ◌≤◌, ◌++◌, ◌∷◌, [], if◌then◌else◌, length, vec_len, vec_capacity};
 ghost use Rattle.event_log.specs.History.{IsKept};
 ghost use Rattle.word_rule.specs.Turns.{ends_hold};
-ghost use Rattle.word_rule.specs.World.{outcome, with_done, entry_of, counted};
+ghost use Rattle.word_rule.specs.Machine.World.{outcome, with_done, entry_of, counted};
 
 use crate::machine::progress::Progress;
 use crate::machine::step_done::{StepDone, is_a_look, is_end};
-use event_log::{Done, Logged, NoRoom, SeqObject, Todo};
+use event_log::{Done, Logged, MOST_CALLS, NoRoom, SeqObject, Todo};
 
 /// Does the calls of an entry as one event of the CPU.
 fn end_hold<O: SeqObject>(logged: &mut Logged<O>, cpu: u8, todo: &Todo<O>) -> Done<O>
     requires some { 0 < length todo.now.calls.items }
-    requires few { length todo.now.calls.items ≤ 8 }
+    requires few { length todo.now.calls.items ≤ MOST_CALLS }
     requires kept { IsKept O.SeqObject logged.old }
     ensures done { result ≡ outcome O.SeqObject (record { params = logged.old.params; limit = logged.old.limit }) logged.old.log todo.now.calls.items }
     ensures params { logged.new.params ≡ logged.old.params }
@@ -36,7 +36,7 @@ pub fn count_step<O: SeqObject>(
     step: StepDone,
 )
     requires some { 0 < length todo.now.calls.items }
-    requires few { length todo.now.calls.items ≤ 8 }
+    requires few { length todo.now.calls.items ≤ MOST_CALLS }
     requires kept { IsKept O.SeqObject logged.old }
     requires room { vec_len progress.old.transcript < vec_capacity progress.old.transcript }
     requires more { progress.old.at + 1 < 2 ^ 64 }

@@ -4,11 +4,11 @@ ghost use Rattle.std.specs.Prelude.{◌≡◌, ◌↔◌, ℕ, ◌+◌, ◌<◌,
 ghost use Rattle.event_log.specs.Log.{Begins};
 ghost use Rattle.word_rule.specs.declared.machine.step_done.StepDone.TheVariants.{Idle};
 ghost use Rattle.word_rule.specs.Line.{holding};
-ghost use Rattle.word_rule.specs.Opening.{IsOpening};
-ghost use Rattle.word_rule.specs.Orders.{is_at, arrivals, endings};
+ghost use Rattle.word_rule.specs.Machine.Opening.{IsOpening};
+ghost use Rattle.word_rule.specs.Machine.Orders.{is_at, arrivals, endings};
 ghost use Rattle.word_rule.specs.Sound.{Sound};
 ghost use Rattle.word_rule.specs.Turns.{arrives};
-ghost use Rattle.word_rule.specs.World.{World, CellState, CpuState, run, step, run_of, opened_in};
+ghost use Rattle.word_rule.specs.Machine.World.{World, CellState, CpuState, run, step, run_of, opened_in};
 
 use event_log::SeqObject;
 

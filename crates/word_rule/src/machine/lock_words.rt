@@ -2,13 +2,13 @@
 
 ghost use Rattle.std.specs.Prelude.{◌≡◌, ◌<◌, ◌≤◌, vec_len, IfOk};
 ghost use Rattle.word_rule.specs.Locks.{Lock, opening_lock};
-ghost use Rattle.word_rule.specs.LockStates.{RepresentsLock, IsLockOf};
+ghost use Rattle.word_rule.specs.Rule.LockStates.{RepresentsLock, IsLockOf};
 ghost use Rattle.word_rule.specs.Turns.{turn};
 
 use crate::machine::mcs::turn_mcs;
 use crate::machine::step_done::StepDone;
 use crate::machine::ticket::turn_ticket;
-use crate::{LockKind, Stage};
+use crate::{LockKind, MOST_CPUS, Stage};
 use event_log::OutOfMemory;
 use std::alloc::Global;
 
@@ -28,7 +28,7 @@ impl LockWords {
         first: u64,
         cpus: usize,
     ) -> Result<LockWords, OutOfMemory>
-        requires { cpus ≤ 8 }
+        requires { cpus ≤ MOST_CPUS }
         ensures { IfOk result (λ w. RepresentsLock cpus w.kind w.words.items w.stages.items (opening_lock kind first)) }
     {
         let words = new_words(alloc, kind, first, cpus)?;
@@ -46,7 +46,7 @@ impl LockWords {
     pub fn turn(&mut self, cpu: u8) -> StepDone
         requires shows { (l : Lock) × RepresentsLock (vec_len self.old.stages) self.old.kind self.old.words.items self.old.stages.items l }
         requires exists { cpu < vec_len self.old.stages }
-        requires few { vec_len self.old.stages ≤ 8 }
+        requires few { vec_len self.old.stages ≤ MOST_CPUS }
         ensures done { (l : Lock) → RepresentsLock (vec_len self.old.stages) self.old.kind self.old.words.items self.old.stages.items l → result ≡ (turn l cpu).1 }
         ensures shows { (l : Lock) → RepresentsLock (vec_len self.old.stages) self.old.kind self.old.words.items self.old.stages.items l → RepresentsLock (vec_len self.old.stages) self.new.kind self.new.words.items self.new.stages.items (turn l cpu).0 }
     {
@@ -64,7 +64,7 @@ fn new_words(
     first: u64,
     cpus: usize,
 ) -> Result<Vec<u64>, OutOfMemory>
-    requires { cpus ≤ 8 }
+    requires { cpus ≤ MOST_CPUS }
     ensures { IfOk result (λ w. IsLockOf kind cpus w.items (opening_lock kind first)) }
 {
     match kind {

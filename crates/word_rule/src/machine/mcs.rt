@@ -3,17 +3,17 @@
 
 ghost use Rattle.std.specs.Prelude.{◌≡◌, ℕ, ◌+◌, ◌<◌, ◌≤◌, true, false, length, slice_index_or};
 ghost use Rattle.word_rule.specs.Locks.{Lock};
-ghost use Rattle.word_rule.specs.LockStates.{RepresentsLock};
+ghost use Rattle.word_rule.specs.Rule.LockStates.{RepresentsLock};
 ghost use Rattle.word_rule.specs.Turns.{turn};
 
 use crate::machine::step_done::StepDone;
-use crate::{LockKind, McsStage, Stage};
+use crate::{LockKind, MOST_CPUS, McsStage, Stage};
 
 /// The next step of a CPU.
 pub fn turn_mcs(words: &mut [u64], stages: &mut [Stage], cpu: u8) -> StepDone
     requires shows { (l : Lock) × RepresentsLock (length stages.old) LockKind.Mcs words.old stages.old l }
     requires exists { cpu < length stages.old }
-    requires few { length stages.old ≤ 8 }
+    requires few { length stages.old ≤ MOST_CPUS }
     ensures done { (l : Lock) → RepresentsLock (length stages.old) LockKind.Mcs words.old stages.old l → result ≡ (turn l cpu).1 }
     ensures shows { (l : Lock) → RepresentsLock (length stages.old) LockKind.Mcs words.old stages.old l → RepresentsLock (length stages.old) LockKind.Mcs words.new stages.new (turn l cpu).0 }
 {
@@ -38,7 +38,7 @@ fn turn_in_queue(
 ) -> StepDone
     requires shows { (l : Lock) × RepresentsLock (length stages.old) LockKind.Mcs words.old stages.old l }
     requires exists { cpu < length stages.old }
-    requires few { length stages.old ≤ 8 }
+    requires few { length stages.old ≤ MOST_CPUS }
     requires stands { slice_index_or stages.old cpu Stage.Idle ≡ Stage.Mcs stage }
     ensures done { (l : Lock) → RepresentsLock (length stages.old) LockKind.Mcs words.old stages.old l → result ≡ (turn l cpu).1 }
     ensures shows { (l : Lock) → RepresentsLock (length stages.old) LockKind.Mcs words.old stages.old l → RepresentsLock (length stages.old) LockKind.Mcs words.new stages.new (turn l cpu).0 }
@@ -95,7 +95,7 @@ fn turn_in_queue(
 
 /// What a holder sees in its `next`: its follower, to which it will pass, or nobody.
 fn see(next: u64, otherwise: McsStage, stage: &mut Stage) -> StepDone
-    requires { next ≤ 8 }
+    requires { next ≤ MOST_CPUS }
     ensures none { next ≡ 0 → (result ≡ StepDone.See false) × (stage.new ≡ Stage.Mcs otherwise) }
     ensures one { (j : ℕ) → next ≡ j + 1 → (result ≡ StepDone.See true) × (stage.new ≡ Stage.Mcs (McsStage.Passing j)) }
 {

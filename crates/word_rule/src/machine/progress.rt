@@ -1,10 +1,10 @@
 //! How far a CPU is in its script.
 
 ghost use Rattle.std.specs.Prelude.{◌≡◌, ◌+◌, ◌-◌, ◌^◌, ◌<◌, ◌≤◌, ◌++◌, ◌∷◌, [], min, length, vec_len, vec_capacity, IfOk};
-ghost use Rattle.word_rule.specs.World.{entry_of};
+ghost use Rattle.word_rule.specs.Machine.World.{entry_of};
 
 use arrayvec::ArrayVec;
-use event_log::{Done, Entry, OutOfMemory, SeqObject, Todo};
+use event_log::{Done, Entry, MOST_CALLS, OutOfMemory, SeqObject, Todo};
 use std::alloc::Global;
 
 /// How many of its entries a CPU has done, what became of them, and how often it has looked for the one at hand.
@@ -32,7 +32,7 @@ impl<O: SeqObject> Progress<O> {
 
     /// The entry at hand is done.
     pub fn finish(&mut self, todo: &Todo<O>, done: Done<O>)
-        requires few { length todo.now.calls.items ≤ 8 }
+        requires few { length todo.now.calls.items ≤ MOST_CALLS }
         requires room { vec_len self.old.transcript < vec_capacity self.old.transcript }
         requires more { self.old.at + 1 < 2 ^ 64 }
         ensures at { self.new.at ≡ self.old.at + 1 }

@@ -1,8 +1,9 @@
 //! The memory of a step machine.
 
 ghost use Rattle.std.specs.Prelude.{◌≡◌, ◌≤◌, [], length, vec_capacity, IfOk};
-ghost use Rattle.word_rule.specs.Shown.{FreshLocks, FreshDone};
+ghost use Rattle.word_rule.specs.Machine.Shown.{FreshLocks, FreshDone};
 
+use crate::MOST_CPUS;
 use crate::machine::cell_spec::CellSpec;
 use crate::machine::lock_words::LockWords;
 use crate::machine::progress::Progress;
@@ -24,7 +25,7 @@ fn make_locks<O: SeqObject>(
     cells: &[CellSpec<O>],
     cpus: usize,
 ) -> Result<Vec<LockWords>, OutOfMemory>
-    requires { cpus ≤ 8 }
+    requires { cpus ≤ MOST_CPUS }
     ensures { IfOk result (λ v. FreshLocks O.SeqObject cpus cells.now v.items) }
 {
     let mut locks = Vec::new(alloc);
@@ -61,7 +62,7 @@ pub fn make_room<O: SeqObject>(
     cells: &[CellSpec<O>],
     scripts: &[Vec<Todo<O>>],
 ) -> Result<Room<O>, OutOfMemory>
-    requires { length scripts.now ≤ 8 }
+    requires { length scripts.now ≤ MOST_CPUS }
     ensures locks { IfOk result (λ r. FreshLocks O.SeqObject (length scripts.now) cells.now r.locks.items) }
     ensures done { IfOk result (λ r. FreshDone scripts.now r.done.items) }
     ensures logs { IfOk result (λ r. (r.logs.items ≡ []) × (length cells.now ≤ vec_capacity r.logs)) }

@@ -2,7 +2,7 @@
 
 ghost use Rattle.std.specs.Prelude.{◌≡◌, ◌<◌, length, slice_index_or};
 ghost use Rattle.word_rule.specs.Locks.{Lock};
-ghost use Rattle.word_rule.specs.LockStates.{RepresentsLock};
+ghost use Rattle.word_rule.specs.Rule.LockStates.{RepresentsLock};
 ghost use Rattle.word_rule.specs.Turns.{turn};
 
 use crate::machine::step_done::StepDone;

@@ -6,10 +6,10 @@ use Rattle.shared_queue.specs.declared.queue.ThreadQueue.{ThreadQueue}
 use Rattle.shared_queue.specs.contracts.queue.ThreadQueueSeqObject.TheImpl.{ghosts as queue_meaning}
 use Rattle.word_rule.specs.declared.lock_kind.LockKind.TheVariants.{Ticket}
 use Rattle.word_rule.specs.Locks.{opening_lock}
-use Rattle.word_rule.specs.Opening.{opening_cell, opening_world}
-use Rattle.word_rule.specs.Shown.{opened_by}
+use Rattle.word_rule.specs.Machine.Opening.{opening_cell, opening_world}
+use Rattle.word_rule.specs.Machine.Shown.{opened_by}
 use Rattle.word_rule.specs.Sound.{Opened, Sound}
-use Rattle.word_rule.specs.World.{World, CellState, run, run_of}
+use Rattle.word_rule.specs.Machine.World.{World, CellState, run, run_of}
 use Rattle.mc2.specs.FirstRun.{IsAble, script_of}
 use Rattle.mc2.specs.QueueWords.{built_in_settings}
 use Rattle.mc2.specs.Simulation.{new_world, simulated}

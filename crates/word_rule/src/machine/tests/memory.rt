@@ -2,7 +2,7 @@
 
 ghost use Rattle.std.specs.Prelude.{◌≡◌, ◌<◌, ◌≤◌, [], vec_len};
 ghost use Rattle.std.specs.List.{AllByRecursion};
-ghost use Rattle.word_rule.specs.SoundWorld.{IsTodo};
+ghost use Rattle.word_rule.specs.Machine.SoundWorld.{IsTodo};
 
 use crate::LockKind;
 use crate::machine::tests::scene::{Left, Setting, Turn, cells_of, leaves, plays, scripts_of};

@@ -2,7 +2,7 @@
 
 ghost use Rattle.std.specs.Prelude.{◌≡◌, [], IfOk};
 ghost use Rattle.std.specs.List.{AllByRecursion};
-ghost use Rattle.word_rule.specs.SoundWorld.{IsTodo};
+ghost use Rattle.word_rule.specs.Machine.SoundWorld.{IsTodo};
 
 use crate::LockKind;
 use crate::machine::{CellSpec, Machine, StepDone};

@@ -1,7 +1,7 @@
 use Rattle.std.proofs.Common.{subst, arith}
 use Rattle.word_rule.specs.declared.stage.Stage.TheVariants.{Mcs}
 use Rattle.word_rule.specs.declared.stage.McsStage.TheVariants.{Behind}
-use Rattle.word_rule.specs.Callers.{IsWithout}
+use Rattle.word_rule.specs.Rule.Callers.{IsWithout}
 use Rattle.word_rule.proofs.Acting.{moves_without}
 use Rattle.mcs_lock.proofs.McsActing.{arm_now, below_without, is_other}
 use Rattle.mcs_lock.proofs.cell.McsCell.arm.Goals as goal

@@ -1,6 +1,6 @@
 use Rattle.std.proofs.Common.{subst, arith}
 use Rattle.word_rule.specs.declared.stage.Stage.TheVariants.{Idle}
-use Rattle.word_rule.specs.Callers.{IsWithout}
+use Rattle.word_rule.specs.Rule.Callers.{IsWithout}
 use Rattle.word_rule.proofs.Acting.{moves_without}
 use Rattle.mcs_lock.proofs.McsActing.{clear_now, below_without}
 use Rattle.mcs_lock.proofs.cell.McsCell.clear.Goals as goal

@@ -3,8 +3,8 @@ use Rattle.atomic_table.specs.Table.{rest}
 use Rattle.word_rule.specs.declared.stage.Stage.TheVariants.{Mcs}
 use Rattle.word_rule.specs.declared.stage.McsStage.TheVariants.{Alone, Leaving}
 use Rattle.word_rule.specs.CallerState.{Moves}
-use Rattle.word_rule.specs.Announced.{Lacks}
-use Rattle.word_rule.specs.Callers.{state_with, IsWith}
+use Rattle.word_rule.specs.Rule.Announced.{Lacks}
+use Rattle.word_rule.specs.Rule.Callers.{state_with, IsWith}
 use Rattle.word_rule.proofs.Acting.{left, rests_now, gives_now, not_all}
 use Rattle.mcs_lock.specs.Steps.{SawLawful}
 use Rattle.mcs_lock.specs.Passes.{state_of_alone}

@@ -3,7 +3,7 @@ use Rattle.atomic_table.specs.Table.{rest}
 use Rattle.word_rule.specs.declared.stage.Stage.TheVariants.{Mcs}
 use Rattle.word_rule.specs.declared.stage.McsStage.TheVariants.{Ready, Behind, Holding}
 use Rattle.word_rule.specs.Line.{lends}
-use Rattle.word_rule.specs.Callers.{IsWithout}
+use Rattle.word_rule.specs.Rule.Callers.{IsWithout}
 use Rattle.word_rule.proofs.Acting.{took, takes_from, holds_from, moves_without}
 use Rattle.mcs_lock.proofs.McsActing.{enter_now, named, not_else, is_other}
 use Rattle.mcs_lock.proofs.cell.McsCell.enter.Goals as goal

@@ -2,7 +2,7 @@ use Rattle.std.proofs.Common.{rules, ◌≡◌, ℕ, ◌-◌, ◌<◌, true, [],
 use Rattle.event_log.specs.Distinct.{has}
 use Rattle.word_rule.specs.declared.stage.Stage.TheVariants.{Mcs}
 use Rattle.word_rule.specs.declared.stage.McsStage.TheVariants.{Leaving, Waiting, Passing}
-use Rattle.word_rule.specs.Callers.{IsWith, IsWithout, hold_view_of, state_without}
+use Rattle.word_rule.specs.Rule.Callers.{IsWith, IsWithout, hold_view_of, state_without}
 use Rattle.word_rule.proofs.Acting.{all_together}
 use Rattle.mcs_lock.specs.Steps.{SawLawful}
 use Rattle.mcs_lock.proofs.McsActing.{find_now, below_with, named, not_else, is_other, else_below, else_now, else_of, first_moved, second_same, goes_with, moves_with}

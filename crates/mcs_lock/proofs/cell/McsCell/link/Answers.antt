@@ -1,7 +1,7 @@
 use Rattle.std.proofs.Common.{subst, arith}
 use Rattle.word_rule.specs.declared.stage.Stage.TheVariants.{Mcs}
 use Rattle.word_rule.specs.declared.stage.McsStage.TheVariants.{Armed}
-use Rattle.word_rule.specs.Callers.{IsWithout}
+use Rattle.word_rule.specs.Rule.Callers.{IsWithout}
 use Rattle.word_rule.proofs.Acting.{moves_without}
 use Rattle.mcs_lock.proofs.McsActing.{link_now, else_below, is_other}
 use Rattle.mcs_lock.proofs.cell.McsCell.link.Goals as goal

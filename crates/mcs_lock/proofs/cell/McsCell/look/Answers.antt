@@ -3,7 +3,7 @@ use Rattle.atomic_table.specs.Table.{rest}
 use Rattle.word_rule.specs.declared.stage.Stage.TheVariants.{Mcs}
 use Rattle.word_rule.specs.declared.stage.McsStage.TheVariants.{Waiting, Holding}
 use Rattle.word_rule.specs.Line.{lends}
-use Rattle.word_rule.specs.Callers.{IsWithout}
+use Rattle.word_rule.specs.Rule.Callers.{IsWithout}
 use Rattle.word_rule.proofs.Known.{idle_alone}
 use Rattle.word_rule.proofs.Acting.{took, takes_from, holds_from, moves_without, not_all}
 use Rattle.mcs_lock.proofs.McsActing.{look_now, below_without}

@@ -2,7 +2,7 @@ use Rattle.std.proofs.Common.{rules, ◌∷◌, sym, ap, subst, ◌∙◌, arith
 use Rattle.atomic_table.specs.Table.{rest}
 use Rattle.word_rule.specs.declared.stage.Stage.TheVariants.{Mcs}
 use Rattle.word_rule.specs.declared.stage.McsStage.TheVariants.{Passing}
-use Rattle.word_rule.specs.Callers.{IsWith}
+use Rattle.word_rule.specs.Rule.Callers.{IsWith}
 use Rattle.word_rule.proofs.Acting.{left, rests_now, gives_now}
 use Rattle.mcs_lock.proofs.McsActing.{pass_now, else_below, is_other}
 use Rattle.mcs_lock.proofs.cell.McsCell.pass_on.Goals as goal

@@ -2,7 +2,7 @@ use Rattle.std.proofs.Common.{rules, ℕ, ◌-◌, ◌<◌, [], ◌∷◌, ap, s
 use Rattle.word_rule.specs.declared.stage.Stage.TheVariants.{Mcs}
 use Rattle.word_rule.specs.declared.stage.McsStage.TheVariants.{Holding, Alone, Passing}
 use Rattle.word_rule.specs.CallerState.{Moves}
-use Rattle.word_rule.specs.Callers.{IsWith, state_with}
+use Rattle.word_rule.specs.Rule.Callers.{IsWith, state_with}
 use Rattle.word_rule.proofs.Lenders.{holding_at}
 use Rattle.mcs_lock.proofs.McsActing.{see_now, below_with, named, not_else, is_other, else_below, else_now, goes_with, moves_with}
 use Rattle.mcs_lock.proofs.cell.McsCell.see.Goals as goal

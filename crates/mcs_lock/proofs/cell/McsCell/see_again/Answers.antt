@@ -1,7 +1,7 @@
 use Rattle.std.proofs.Common.{rules, ℕ, ◌-◌, ◌<◌, [], ◌∷◌, ap, subst, ◌∙◌, arith}
 use Rattle.word_rule.specs.declared.stage.Stage.TheVariants.{Mcs}
 use Rattle.word_rule.specs.declared.stage.McsStage.TheVariants.{Leaving, Passing}
-use Rattle.word_rule.specs.Callers.{IsWith}
+use Rattle.word_rule.specs.Rule.Callers.{IsWith}
 use Rattle.word_rule.proofs.Acting.{not_all}
 use Rattle.mcs_lock.proofs.McsActing.{see_again_now, below_with, named, not_else, is_other, else_below, else_now, goes_with, moves_with}
 use Rattle.mcs_lock.proofs.cell.McsCell.see_again.Goals as goal

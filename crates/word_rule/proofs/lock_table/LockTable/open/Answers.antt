@@ -2,8 +2,8 @@ use Rattle.std.proofs.Common.{rules, length, List, [], ◌∷◌, ◌++◌, arit
 use Rattle.atomic_table.specs.Table.{opening}
 use Rattle.event_log.specs.History.{History}
 use Rattle.word_rule.specs.Cell.{Cell, Lawful, opening_pass}
-use Rattle.word_rule.specs.CellInvariant.{CellInvariant}
-use Rattle.word_rule.specs.Seats.{first_view}
+use Rattle.word_rule.specs.Rule.CellInvariant.{CellInvariant}
+use Rattle.word_rule.specs.Rule.Seats.{first_view}
 use Rattle.word_rule.proofs.Ends.{opens, opens_lawful}
 use Rattle.word_rule.proofs.lock_table.LockTable.open.Goals as goal
 

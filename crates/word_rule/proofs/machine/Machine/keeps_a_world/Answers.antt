@@ -1,5 +1,5 @@
 use Rattle.std.proofs.Common.{◌≤◌, length, subst}
-use Rattle.word_rule.specs.Shown.{Runs}
+use Rattle.word_rule.specs.Machine.Shown.{Runs}
 use Rattle.word_rule.proofs.machine.Machine.keeps_a_world.Goals as goal
 
 pub returns-clause-world : goal.returns-clause-world

@@ -1,6 +1,6 @@
 use Rattle.std.proofs.Common.{sym, subst, ◌∙◌, List}
 use Rattle.event_log.specs.declared.entry.Run.{Run}
-use Rattle.word_rule.specs.Shown.{Represents}
+use Rattle.word_rule.specs.Machine.Shown.{Represents}
 use Rattle.word_rule.specs.Sound.{Opened, Sound}
 use Rattle.word_rule.proofs.SoundRuns.{sound_run_of, logs_are, opened_are, transcripts_are}
 use Rattle.word_rule.proofs.machine.Machine.record.Goals as goal

@@ -1,5 +1,5 @@
 use Rattle.std.proofs.Common.{◌<◌, ◌∙◌, sym, subst, length, get_or}
-use Rattle.word_rule.specs.Shown.{Represents}
+use Rattle.word_rule.specs.Machine.Shown.{Represents}
 use Rattle.word_rule.proofs.MachineKeeps.{run_take}
 use Rattle.word_rule.proofs.machine.Machine.run.Goals as goal
 

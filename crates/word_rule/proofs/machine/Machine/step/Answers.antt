@@ -1,6 +1,6 @@
 use Rattle.std.proofs.Common.{◌≡◌, sym, ◌∙◌, ap, subst, arith, ◌<◌, length, Some, slice_get}
 use Rattle.std.proofs.lemmas.Option.{slice_get_within}
-use Rattle.word_rule.specs.Shown.{Represents, opened_by}
+use Rattle.word_rule.specs.Machine.Shown.{Represents, opened_by}
 use Rattle.word_rule.proofs.MachineKeeps.{same_read, found, not_found, room_at, roomy_next, opened_next, runs_next}
 use Rattle.word_rule.proofs.MachineSteps.{Counts, over, able, shown_cell, shown_lock, lock_ready, done_is, stepped}
 use Rattle.word_rule.proofs.machine.Machine.step.Goals as goal

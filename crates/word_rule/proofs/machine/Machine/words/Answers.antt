@@ -1,5 +1,5 @@
 use Rattle.std.proofs.Common.{◌<◌, length, sym, subst, ◌∙◌}
-use Rattle.word_rule.specs.Shown.{Represents}
+use Rattle.word_rule.specs.Machine.Shown.{Represents}
 use Rattle.word_rule.proofs.MachineSteps.{words_shown}
 use Rattle.word_rule.proofs.LockLaws.{tied_words}
 use Rattle.word_rule.proofs.machine.Machine.words.Goals as goal

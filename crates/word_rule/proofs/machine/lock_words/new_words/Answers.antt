@@ -1,6 +1,6 @@
 use Rattle.std.proofs.Common.{sym, subst}
 use Rattle.word_rule.specs.Locks.{opening_lock}
-use Rattle.word_rule.specs.LockStates.{IsLockOf}
+use Rattle.word_rule.specs.Rule.LockStates.{IsLockOf}
 use Rattle.word_rule.proofs.McsTurns.{starts_mcs}
 use Rattle.word_rule.proofs.machine.lock_words.new_words.Goals as goal
 

@@ -2,7 +2,7 @@ use Rattle.std.proofs.Common.{◌≡◌, sym, ap, ◌∙◌, cond, subst, take, 
 use Rattle.std.specs.List.{AllZip}
 use Rattle.std.specs.declared.alloc.Global.{Global}
 use Rattle.word_rule.specs.declared.machine.progress.Progress.{Progress}
-use Rattle.word_rule.specs.Shown.{FreshCpu}
+use Rattle.word_rule.specs.Machine.Shown.{FreshCpu}
 use Rattle.word_rule.proofs.Openings.{zip_push, take_more}
 use Rattle.word_rule.proofs.machine.room.make_done.Goals as goal
 

@@ -2,7 +2,7 @@ use Rattle.std.proofs.Common.{◌≡◌, sym, ap, ◌∙◌, cond, subst, take, 
 use Rattle.std.specs.List.{AllZip}
 use Rattle.word_rule.specs.declared.machine.cell_spec.CellSpec.{CellSpec}
 use Rattle.word_rule.specs.declared.machine.lock_words.LockWords.{LockWords}
-use Rattle.word_rule.specs.Shown.{FreshLock}
+use Rattle.word_rule.specs.Machine.Shown.{FreshLock}
 use Rattle.word_rule.proofs.Openings.{zip_push, take_more}
 use Rattle.word_rule.proofs.machine.room.make_locks.Goals as goal
 

@@ -1,6 +1,6 @@
 use Rattle.std.proofs.Common.{take}
 use Rattle.std.specs.List.{AllZip}
-use Rattle.word_rule.specs.Shown.{FreshLock}
+use Rattle.word_rule.specs.Machine.Shown.{FreshLock}
 use Rattle.word_rule.proofs.machine.room.make_locks.Given as goal
 
 abbrev pub invariant-loop-cell : goal.invariant-loop-cell

@@ -1,5 +1,5 @@
 use Rattle.std.specs.List.{AllByRecursion}
-use Rattle.word_rule.specs.SoundWorld.{IsTodo}
+use Rattle.word_rule.specs.Machine.SoundWorld.{IsTodo}
 use Rattle.word_rule.proofs.machine.tests.scene.script_of.Given as goal
 
 abbrev pub invariant-loop-object : goal.invariant-loop-object

@@ -8,8 +8,8 @@ use Rattle.event_log.specs.Log.{Begins, of}
 use Rattle.word_rule.specs.declared.stage.Stage.{Stage}
 use Rattle.word_rule.specs.Cell.{Cell, Caller, PassView, HoldView, IsPassView, IsHoldView}
 use Rattle.word_rule.specs.CallerState.{CallerState}
-use Rattle.word_rule.specs.CellInvariant.{Viewed}
-use Rattle.word_rule.specs.Seats.{Seat}
+use Rattle.word_rule.specs.Rule.CellInvariant.{Viewed}
+use Rattle.word_rule.specs.Rule.Seats.{Seat}
 
 module _ {O P C R : Type 0} where
   -- log b is log a, and after it events of this CPU alone

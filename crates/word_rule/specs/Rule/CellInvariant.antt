@@ -14,7 +14,7 @@ use Rattle.word_rule.specs.declared.view.View.{View}
 use Rattle.word_rule.specs.Cell.{Cell, Grows, Lawful, stored}
 use Rattle.word_rule.specs.Line.{holding}
 use Rattle.word_rule.specs.Locks.{Lock}
-use Rattle.word_rule.specs.LockStates.{IsLockOf}
+use Rattle.word_rule.specs.Rule.LockStates.{IsLockOf}
 
 -- the committed log, the lock that the words are of, and whose each CPU number is: a seat, and a place among its callers
 pub record GhostState (O P C R : Type 0) : Type 0 where

@@ -2,16 +2,17 @@
 use Rattle.std.specs.Prelude.{◌≡◌, ℕ, ◌<◌, ◌≤◌, List, [], length, Option, Some, None, slice_get}
 use Rattle.std.specs.List.{AllByRecursion}
 use Rattle.event_log.specs.declared.object.SeqObject.{Ghosts}
+use Rattle.event_log.specs.declared.event.TheConstants.{MOST_CALLS}
 use Rattle.event_log.specs.declared.entry.Entry.{Entry}
 use Rattle.event_log.specs.declared.entry.Todo.{Todo}
 use Rattle.word_rule.specs.Sound.{LogIsSound, Answers, NoneAfterFull, done_on, steps_by}
-use Rattle.word_rule.specs.World.{World, CellState, CpuState}
+use Rattle.word_rule.specs.Machine.World.{World, CellState, CpuState}
 
 module _ {O P C R : Type 0} where
   -- an entry that can be done: 1 to 8 calls on one of the n cells
   pub record IsTodo (n : ℕ) (todo : Todo O P C R) : Type 0 where
     pub some : 0 < length todo.calls.items
-    pub few : length todo.calls.items ≤ 8
+    pub few : length todo.calls.items ≤ MOST_CALLS
     pub on_cell : todo.object < n
 
   -- the transcript, if there is such a CPU

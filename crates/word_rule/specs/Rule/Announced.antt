@@ -9,8 +9,8 @@ use Rattle.word_rule.specs.declared.stage.Stage.{Stage}
 use Rattle.word_rule.specs.declared.stage.Stage.TheVariants.{Torn}
 use Rattle.word_rule.specs.declared.view.Seated.{Seated}
 use Rattle.word_rule.specs.Cell.{Cell, Grows, Lawful, stored}
-use Rattle.word_rule.specs.CellInvariant.{EachFrom, Caller, Viewed}
-use Rattle.word_rule.specs.Seats.{Seat, with_stage, settled, merged}
+use Rattle.word_rule.specs.Rule.CellInvariant.{EachFrom, Caller, Viewed}
+use Rattle.word_rule.specs.Rule.Seats.{Seat, with_stage, settled, merged}
 
 -- one of the callers has the number
 abbrev pub any_has : {E : Type 0} → ℕ → List (Seated E) → Bool

@@ -4,7 +4,7 @@ use Rattle.event_log.specs.declared.object.SeqObject.{Ghosts}
 use Rattle.event_log.specs.declared.entry.Todo.{Todo}
 use Rattle.word_rule.specs.declared.machine.step_done.StepDone.{StepDone}
 use Rattle.word_rule.specs.Turns.{ends_hold, arrives}
-use Rattle.word_rule.specs.World.{World, CpuState, step}
+use Rattle.word_rule.specs.Machine.World.{World, CpuState, step}
 
 abbrev pub is_that : Option ℕ → ℕ → Bool
 is_that None x = false

@@ -7,7 +7,7 @@ use Rattle.word_rule.specs.declared.stage.Stage.TheVariants.{Idle}
 use Rattle.word_rule.specs.declared.view.Seated.{Seated}
 use Rattle.word_rule.specs.declared.view.View.{View}
 use Rattle.word_rule.specs.Cell.{Cell}
-use Rattle.word_rule.specs.CellInvariant.{Viewed}
+use Rattle.word_rule.specs.Rule.CellInvariant.{Viewed}
 
 -- a seat, with the slots that are out with it
 abbrev pub Seat : Type 0 → Type 0 → Type 0 → Type 0 → Type 0

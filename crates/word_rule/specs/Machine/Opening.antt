@@ -7,8 +7,8 @@ use Rattle.event_log.specs.History.{History}
 use Rattle.word_rule.specs.declared.lock_kind.LockKind.{LockKind}
 use Rattle.word_rule.specs.Locks.{opening_lock, tickets}
 use Rattle.word_rule.specs.declared.machine.cell_spec.CellSpec.{CellSpec}
-use Rattle.word_rule.specs.SoundWorld.{IsTodo}
-use Rattle.word_rule.specs.World.{World, CellState, CpuState}
+use Rattle.word_rule.specs.Machine.SoundWorld.{IsTodo}
+use Rattle.word_rule.specs.Machine.World.{World, CellState, CpuState}
 
 module _ {O P C R : Type 0} where
   -- a cell of that kind, with this first ticket, that is made of this object

@@ -5,14 +5,16 @@ use Rattle.std.specs.declared.alloc.Global.{Global}
 use Rattle.event_log.specs.declared.object.SeqObject.{Ghosts}
 use Rattle.event_log.specs.declared.entry.Todo.{Todo}
 use Rattle.event_log.specs.History.{IsKept}
+use Rattle.word_rule.specs.declared.key.TheConstants.{MOST_CPUS}
+use Rattle.word_rule.specs.declared.machine.TheConstants.{MOST_CELLS}
 use Rattle.word_rule.specs.declared.machine.cell_spec.CellSpec.{CellSpec}
 use Rattle.word_rule.specs.declared.machine.lock_words.LockWords.{LockWords}
 use Rattle.word_rule.specs.declared.machine.progress.Progress.{Progress}
 use Rattle.word_rule.specs.Locks.{opening_lock}
-use Rattle.word_rule.specs.LockStates.{RepresentsLock}
+use Rattle.word_rule.specs.Rule.LockStates.{RepresentsLock}
 use Rattle.word_rule.specs.Sound.{Opened}
-use Rattle.word_rule.specs.SoundWorld.{SoundWorld}
-use Rattle.word_rule.specs.World.{World, CellState, CpuState}
+use Rattle.word_rule.specs.Machine.SoundWorld.{SoundWorld}
+use Rattle.word_rule.specs.Machine.World.{World, CellState, CpuState}
 
 -- what a machine keeps: its cells, the words of each, the scripts, and how far each CPU is
 pub record MachineParts (O P C R : Type 0) : Type 0 where
@@ -61,8 +63,8 @@ module _ {O P C R : Type 0} where
 
   -- there are few cells and CPUs, and room for all that will come: these are the capacities for logs and transcripts
   pub record IsRoomy (m : MachineParts O P C R) (logs transcripts : ℕ) : Type 0 where
-    pub cells : length m.cells ≤ 16
-    pub cpus : length m.scripts ≤ 8
+    pub cells : length m.cells ≤ MOST_CELLS
+    pub cpus : length m.scripts ≤ MOST_CPUS
     pub logs_fit : length m.cells ≤ logs
     pub transcripts_fit : length m.scripts ≤ transcripts
     pub each : (i : ℕ) (script : Vec (Todo O P C R) Global) (p : Progress O P C R) → slice_get m.scripts i ≡ Some script → slice_get m.done i ≡ Some p → HasRoom script p

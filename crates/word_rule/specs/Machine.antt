@@ -1,0 +1,6 @@
+-- The step machine: many CPUs over many cells, under any schedule.
+pub mod Opening
+pub mod Orders
+pub mod Shown
+pub mod SoundWorld
+pub mod World
