@@ -1,10 +1,11 @@
 //! The cell of an MCS lock.
 
 ghost use Rattle.std.specs.Prelude.{◌≡◌, ◌≤◌, ◌+◌, ◌*◌};
+ghost use Rattle.word_rule.specs.declared.key.TheConstants.{MOST_CPUS};
 ghost use Rattle.word_rule.specs.declared.lock_kind.LockKind.TheVariants.{Mcs};
 
 use event_log::SeqObject;
-use word_rule::{LockTable, MOST_CPUS};
+use word_rule::LockTable;
 
 /// An object behind an MCS lock. One that is dropped drops the object.
 #[derive(Drop)]

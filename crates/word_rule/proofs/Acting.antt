@@ -1,5 +1,5 @@
 -- What a step leaves with a caller: the types of every lock's callers stay true, and the step is one of its kind.
-use Rattle.std.proofs.Common.{◌≡◌, ◌⊎◌, inl, inr, ℕ, ◌<◌, ◌≤◌, ◌||◌, Bool, true, false, true≢false, List, [], ◌∷◌, ◌++◌, map, min, length, drop, refl, sym, ap, ◌∙◌, subst, ⊎_elim, arith, Option, Some, None, Result, Ok, Err, IfOk, OnErr, IsSome, rules, append_assoc, ◌==◌}
+use Rattle.std.proofs.Common.{◌≡◌, ℕ, ◌<◌, ◌≤◌, ◌||◌, Bool, true, false, true≢false, List, [], ◌∷◌, ◌++◌, map, min, length, drop, refl, sym, ap, ◌∙◌, subst, ⊎_elim, arith, Option, Some, None, Result, Ok, Err, IfOk, OnErr, append_assoc, ◌==◌}
 use Rattle.std.specs.List.{AllByRecursion}
 use Rattle.std.proofs.lemmas.List.Folds.{list_any-append}
 use mathlib.Core.Logic.{dite}
@@ -29,12 +29,6 @@ module _ {O P C R : Type 0} where
 
 module _ {O P C R : Type 0} (meaning : Ghosts O P C R) where
   -- it stands elsewhere
-  pub goes_without : (h : Cell O P C R) (cpu : ℕ) (p q : Stage) (m m' : Seat O P C R) → IsWithout meaning h cpu p m → m' ≡ (with_stage m.0 q, m.1) → IsWithout meaning h cpu q m'
-  goes_without h cpu p q m m' w e = subst (IsWithout meaning h cpu q) (sym e) record {
-    at = record { alone = w.at.alone; number = w.at.number; carries = w.at.carries; stands = refl; told = w.at.told };
-    pass_view = w.pass_view;
-  }
-
   pub moves_without : (h : Cell O P C R) (cpu : ℕ) (p q : Stage) (m m' : Seat O P C R) → IsWithout meaning h cpu p m → m' ≡ (with_stage m.0 q, m.1) → Moves meaning p q (state_without h p m) (state_without h q m')
   moves_without h cpu p q m m' w e = subst (λ z. Moves meaning p q (state_without h p m) (state_without h q z)) (sym e) record {
     caller = refl;
@@ -190,17 +184,8 @@ module _ {O P C R : Type 0} where
     s ∙ ((λ i. (letting (e i).0, [])) ∙ (λ i. (record { told = sym told i; main = shown log w.main; others = map (shown log) (sym alone' i) }, []))),
   )
 
-module _ {O P C R : Type 0} (meaning : Ghosts O P C R) where
-  -- what a joined seat learns
-  pub both_learn : (v w : Viewed O P C R) (m : Seat O P C R) (log : List (Event O P C R)) → m ≡ (taken_in v w, []) → Learns meaning m.0 log → Learns meaning (taken_in v w) log
-  both_learn v w m log e l = subst (λ (z : Seat O P C R). Learns meaning z.0 log) e l
-
 has_both : (xs ys : List ℕ) (k : ℕ) → has k (xs ++ ys) ≡ (has k xs || has k ys)
 has_both xs ys k = list_any-append (λ y. y == k) xs ys
-
-or_true : (a b : Bool) → (a || b) ≡ true → (a ≡ true) ⊎ (b ≡ true)
-or_true true b e = inl refl
-or_true false b e = inr e
 
 true_or : (a b : Bool) → a ≡ true → (a || b) ≡ true
 true_or true b e = refl
@@ -234,10 +219,6 @@ module _ {O P C R : Type 0} (meaning : Ghosts O P C R) where
           pass_view = record { caller = both_callers h m.0.main.cpu w.0.main.cpu (min m.0.main.cpu w.0.main.cpu) m.0.main.owned w.0.main.owned refl one.pass_view.caller two.pass_view.caller; lawful = lawful };
         },
       )
-
-  -- what the interface says of the pass that two become
-  pub joined_owned : (log : List (Event O P C R)) (m w m' : Seat O P C R) → m' ≡ (merged (taken_in m.0 w.0) log, []) → (k : ℕ) → has k m'.0.main.owned ≡ (has k m.0.main.owned || has k w.0.main.owned)
-  joined_owned log m w m' now k = ap (λ (z : Seat O P C R). has k z.0.main.owned) now ∙ has_both m.0.main.owned w.0.main.owned k
 
   -- two passes that met
   pub record Met (h : Cell O P C R) (m w m' w' : Seat O P C R) (log : List (Event O P C R)) : Type 0 where

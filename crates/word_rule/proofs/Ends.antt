@@ -14,7 +14,7 @@ use Rattle.event_log.proofs.Beginnings.{begins_self}
 use Rattle.word_rule.specs.declared.lock_kind.LockKind.{LockKind}
 use Rattle.word_rule.specs.declared.stage.Stage.TheVariants.{Idle}
 use Rattle.word_rule.specs.Cell.{Cell, cell_of, Lawful, OwnsAll, IsPassView, stored}
-use Rattle.word_rule.specs.Locks.{Lock, opening_lock}
+use Rattle.word_rule.specs.Locks.{opening_lock}
 use Rattle.word_rule.specs.Rule.LockStates.{IsLockOf}
 use Rattle.word_rule.specs.Rule.CellInvariant.{GhostState, Viewed, Table, EachFrom, CallerInvariant, SeatInvariant, CellInvariant}
 use Rattle.word_rule.specs.Rule.Seats.{Seat, idle_from, first_view}

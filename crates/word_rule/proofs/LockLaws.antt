@@ -1,8 +1,6 @@
 -- What follows of where the CPUs stand at a lock, whichever lock it is.
-use Rattle.std.proofs.Common.{◌≡◌, ◌≢◌, ℕ, ◌<◌, ◌≤◌, Bool, true, false, true≢false, List, length, refl, sym, ap, ◌∙◌, subst, Option}
-use mathlib.Core.Logic.{dite}
+use Rattle.std.proofs.Common.{◌≡◌, ℕ, ◌<◌, ◌≤◌, Bool, true, false, true≢false, List, length, sym, ap, ◌∙◌, subst, Option}
 use mathlib.Core.Option.{some, some-injective}
-use native.Mathlib.Decide.{ℕ_discrete}
 use lib.ListN.{get_elem?}
 use Rattle.event_log.specs.Distinct.{has}
 use Rattle.event_log.proofs.Distinct.{distinct_length}
@@ -10,8 +8,8 @@ use Rattle.word_rule.specs.declared.lock_kind.LockKind.{LockKind}
 use Rattle.word_rule.specs.declared.lock_kind.LockKind.TheVariants as kinds
 use Rattle.word_rule.specs.declared.stage.Stage.{Stage}
 use Rattle.word_rule.specs.declared.stage.Stage.TheVariants.{Idle, Ticket, Mcs, Torn}
-use Rattle.word_rule.specs.declared.stage.TicketStage.TheVariants.{Drawn, Served}
-use Rattle.word_rule.specs.declared.stage.McsStage.TheVariants.{Ready, Behind, Armed, Waiting, Holding, Alone, Leaving, Passing}
+use Rattle.word_rule.specs.declared.stage.TicketStage.TheVariants.{Served}
+use Rattle.word_rule.specs.declared.stage.McsStage.TheVariants.{Holding, Alone, Leaving, Passing}
 use Rattle.word_rule.specs.Line.{holding}
 use Rattle.word_rule.specs.Locks.{Lock, going}
 use Rattle.word_rule.specs.Rule.LockStates.{First, Stands, IsLock, IsLockOf}

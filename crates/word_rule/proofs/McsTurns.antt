@@ -1,6 +1,5 @@
 -- An MCS lock's turns: each leaves a state of the lock, and words that are the state's.
 use Rattle.std.proofs.Common.{◌≡◌, ◌≢◌, ℕ, suc, ◌+◌, ◌*◌, ◌<◌, ◌≤◌, ◌&&◌, not, Bool, true, false, true≢false, cond, eq-eqb, ne_eqb, List, [], ◌∷◌, ◌++◌, length, replicate, get_or, set, refl, sym, ap, ◌∙◌, subst, arith, Option, Some, None}
-use Rattle.std.proofs.lemmas.Bool.{eqb-true}
 use Rattle.std.proofs.lemmas.List.{get_or-replicate, length-replicate}
 use mathlib.Core.Option.{some}
 use lib.ListN.{get_elem?}
@@ -12,7 +11,7 @@ use Rattle.word_rule.specs.declared.stage.McsStage.TheVariants.{Ready, Behind, A
 use Rattle.word_rule.specs.Line.{Line, lined, moved, holding, is_first}
 use Rattle.word_rule.specs.Locks.{Lock, is_linked, last, behind, is_named, follower, going, joining, taking, leaving, opening_lock}
 use Rattle.word_rule.specs.Rule.LockStates.{IsLock, IsLockOf}
-use Rattle.word_rule.specs.LockWords.{word_of, is_armed, locked_by, locked_at, mcs_words}
+use Rattle.word_rule.specs.LockWords.{word_of, is_armed, locked_by, locked_at}
 use Rattle.word_rule.specs.Turns.{clear, arm, link, pass, turn, turn_of, mcs_turn}
 use Rattle.word_rule.proofs.Lists.{one_place, false_from}
 use Rattle.word_rule.proofs.LockLaws.{stands_at, in_cell, torn}
@@ -162,9 +161,6 @@ module _ (n : ℕ) (ws : List ℕ) (l : Lock) (h : IsLockOf kinds.Mcs n ws l) wh
 
     pub sees_nobody : holding (l.line.stage i) ≡ true → get_or ws (1 + i) 0 ≡ 0 → follower l.line ≡ None
     sees_nobody has_it word = word_none (follower l.line) (sym (follower_word has_it) ∙ word)
-
-    pub sees_that : (j : ℕ) → holding (l.line.stage i) ≡ true → get_or ws (1 + i) 0 ≡ j + 1 → follower l.line ≡ Some j
-    sees_that j has_it word = word_some (follower l.line) j (sym (follower_word has_it) ∙ word)
 
     pub sees_one : holding (l.line.stage i) ≡ true → get_or ws (1 + i) 0 ≢ 0 → (j : ℕ) × (follower l.line ≡ Some j) × (get_or ws (1 + i) 0 ≡ j + 1)
     sees_one has_it some_one = let word = follower_word has_it in let t = some_word (follower l.line) (λ e. some_one (word ∙ e)) in (t.0, t.1, word ∙ t.2)

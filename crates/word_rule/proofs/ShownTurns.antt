@@ -1,5 +1,5 @@
 -- What is kept of a lock shows it after each step, too.
-use Rattle.std.proofs.Common.{◌≡◌, ◌≢◌, ℕ, ◌+◌, ◌-◌, ◌*◌, ◌%◌, ◌<◌, ◌≤◌, Bool, true, false, List, length, get_or, set, refl, sym, ap, ◌∙◌, subst, arith, get_or-set_other, get_or-set_same, length-set, Option, Some, None}
+use Rattle.std.proofs.Common.{◌≡◌, ◌≢◌, ℕ, ◌+◌, ◌*◌, ◌%◌, ◌<◌, ◌≤◌, true, false, List, length, get_or, set, refl, sym, ap, ◌∙◌, subst, arith, get_or-set_other, get_or-set_same, length-set, Some, None}
 use mathlib.Core.Logic.{dite}
 use native.Mathlib.Decide.{ℕ_discrete}
 use Rattle.word_rule.specs.declared.lock_kind.LockKind.{LockKind}
@@ -11,9 +11,9 @@ use Rattle.word_rule.specs.declared.stage.Stage.TheVariants.{Idle, Ticket, Mcs}
 use Rattle.word_rule.specs.declared.stage.TicketStage.TheVariants.{Drawn, Served}
 use Rattle.word_rule.specs.declared.stage.McsStage.TheVariants.{Ready, Behind, Armed, Waiting, Holding, Alone, Leaving, Passing}
 use Rattle.word_rule.specs.Line.{moved, holding, is_first}
-use Rattle.word_rule.specs.Locks.{Lock, last, follower, going, taking, leaving, tickets}
+use Rattle.word_rule.specs.Locks.{Lock, follower, going, taking, leaving, tickets}
 use Rattle.word_rule.specs.Rule.LockStates.{IsLockOf, RepresentsLock}
-use Rattle.word_rule.specs.Turns.{draw, serve, clear, enter, arm, link, see, pass, ticket_turn, mcs_turn, turn_of, turn}
+use Rattle.word_rule.specs.Turns.{draw, serve, clear, enter, arm, link, see, pass, ticket_turn, mcs_turn, turn}
 use Rattle.word_rule.proofs.Lists.{false_from}
 use Rattle.word_rule.proofs.McsTurns as mcs
 use Rattle.word_rule.proofs.QueueTurns as queue

@@ -14,7 +14,7 @@ use Rattle.word_rule.specs.declared.stage.Stage.TheVariants.{Idle, Ticket, Mcs, 
 use Rattle.word_rule.specs.declared.stage.TicketStage.TheVariants.{Drawn, Served}
 use Rattle.word_rule.specs.Line.{holding, is_first}
 use Rattle.word_rule.specs.Locks.{Lock, behind, taking, tickets, opening_lock}
-use Rattle.word_rule.specs.Rule.LockStates.{First, Waits, Stands, IsLock, IsLockOf}
+use Rattle.word_rule.specs.Rule.LockStates.{Waits, Stands, IsLockOf}
 use Rattle.word_rule.specs.Turns.{draw, serve, turn, turn_of, ticket_turn}
 use Rattle.word_rule.proofs.Lists.{has_tail, at_below, first_is, one_place, false_from}
 use Rattle.word_rule.proofs.LockLaws.{stands_at, first_holds, idle_outside, line_fits}

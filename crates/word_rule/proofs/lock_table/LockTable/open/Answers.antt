@@ -1,4 +1,4 @@
-use Rattle.std.proofs.Common.{rules, length, List, [], ◌∷◌, ◌++◌, arith, sym, ap, subst, ◌∙◌, Option, Some}
+use Rattle.std.proofs.Common.{rules, List, [], ◌∷◌, ◌++◌, sym, ap, subst, ◌∙◌, Option, Some}
 use Rattle.atomic_table.specs.Table.{opening}
 use Rattle.event_log.specs.History.{History}
 use Rattle.word_rule.specs.Cell.{Cell, Lawful, opening_pass}
