@@ -21,7 +21,7 @@ use Rattle.word_rule.specs.Cell.{Cell, Lawful, stored}
 use Rattle.word_rule.specs.Rule.CellInvariant.{Caller, EachFrom, Viewed, Table, CallerInvariant, CellInvariant}
 use Rattle.word_rule.specs.Rule.Definition.{IsTurn}
 use Rattle.word_rule.specs.Line.{holding}
-use Rattle.word_rule.specs.Locks.{Lock, follower, going, taking, leaving}
+use Rattle.word_rule.specs.Locks.{Lock, follower, going, taking}
 use Rattle.word_rule.specs.Rule.LockStates.{IsLockOf}
 use Rattle.word_rule.specs.Rule.Seats.{Seat, with_stage, settled}
 use Rattle.word_rule.specs.Rule.Announced.{any_has, Lacks, Returns}

@@ -15,6 +15,7 @@ use std::sync::Wait;
 use std::test::Fail;
 use std::thread;
 use std::thread::Threads;
+use std::time::{Clock, Duration};
 use ticket_lock::TicketCell;
 use word_rule::{LockCell, LockKind};
 
@@ -246,6 +247,53 @@ fn four_threads_call_one_cell(rt: HostRuntime) -> Result<(), Fail> {
             assert!(rt; are_calls_of(&queue, cpu + 1, second.as_slice()));
         }
         assert!(rt; is_replayed(rt.alloc(), &queue)?);
+    }
+    Ok(())
+}
+
+/// Takes the object, keeps it for a while and gives it back: the number of looks.
+fn keep<R: Wait + Clock>(rt: &R, cell: &AnyCell<ThreadQueue>, pass: AnyPass<ThreadQueue>) -> u64
+    requires { IsPassOf cell.now pass }
+{
+    let (hold, looks) = cell.acquire(rt, pass);
+    thread::sleep(rt, Duration::from_millis(20));
+    let _ = cell.release(rt, hold);
+    looks
+}
+
+/// The most looks of two callers, each of which keeps the object for a while.
+fn most_looks<R: Threads + Wait + Clock + Sync>(
+    rt: &R,
+    cell: &AnyCell<ThreadQueue>,
+    passes: Pair<AnyPass<ThreadQueue>>,
+) -> u64
+    requires { IsPassOf cell.now passes.0 × IsPassOf cell.now passes.1 }
+{
+    let (first, second) = passes;
+    let (one, other) = thread::join(
+        rt,
+        move || -> u64
+            requires pass { IsPassOf cell.now first }
+        { keep(rt, cell, first) },
+        move || -> u64
+            requires pass { IsPassOf cell.now second }
+        { keep(rt, cell, second) },
+    );
+    one.max(other)
+}
+
+// One of two callers comes while the other keeps the object, unless its thread starts late: then they try again.
+#[test]
+fn a_caller_that_waits_counts_its_looks(rt: HostRuntime) -> Result<(), Fail> {
+    for kind in KINDS {
+        let mut most = 0;
+        for _ in 0..100 {
+            if most < 2 {
+                let (cell, passes) = cell_of_two(rt.alloc(), kind, 10)?;
+                most = most_looks(&rt, &cell, passes);
+            }
+        }
+        assert!(rt; most > 1);
     }
     Ok(())
 }
