@@ -1,5 +1,5 @@
 -- A schedule, word by word.
-use Rattle.std.proofs.Common.{◌≡◌, ℕ, zero, suc, ◌+◌, ◌<◌, ◌≤◌, ◌==◌, ◌⊎◌, Bool, true, false, not, cond, Some, None, List, [], ◌∷◌, ◌++◌, length, map, take, drop, get_or, position, decimal, refl, sym, ◌∙◌, ap, add-zero, arith, inl, inr, length-append}
+use Rattle.std.proofs.Common.{◌≡◌, ℕ, zero, suc, ◌+◌, ◌<◌, ◌≤◌, ◌==◌, ◌⊎◌, true, false, not, cond, Some, None, List, [], ◌∷◌, ◌++◌, length, map, take, drop, get_or, position, decimal, refl, sym, ◌∙◌, ap, add-zero, arith, inl, inr, length-append}
 use Rattle.std.proofs.lemmas.Bool.{not-true, not-false}
 use Rattle.std.proofs.lemmas.List.{drop_more, take-append-drop, length-map, length-take, length-drop, get_or-drop}
 use Rattle.std.proofs.lemmas.List.Elements.{All-from_recursion}

@@ -1,5 +1,5 @@
 -- Workers that do their entries on one cell make a sound run.
-use Rattle.std.proofs.Common.{◌≡◌, ℕ, zero, suc, ◌<◌, ◌≤◌, ◌==◌, ◌||◌, Bool, true, false, cond, List, [], ◌∷◌, ◌++◌, length, map, drop, refl, sym, ◌∙◌, ap, subst, arith, length-append, append_assoc, ◌+◌, Some, ◌⊎◌, inl, inr, Result, Ok, Err, IfOk, OnErr}
+use Rattle.std.proofs.Common.{◌≡◌, ℕ, zero, suc, ◌<◌, ◌≤◌, ◌==◌, ◌||◌, Bool, true, false, cond, List, [], ◌∷◌, ◌++◌, length, map, drop, refl, sym, ◌∙◌, ap, subst, arith, length-append, append_assoc, ◌+◌, Some, inl, inr, Result, Ok, Err, IfOk, OnErr}
 use Rattle.std.specs.List.{AllByRecursion, slice_get, filter}
 use Rattle.std.proofs.lemmas.List.{append-nil, map-append}
 use Rattle.std.proofs.lemmas.Bool.Decides.{nat_tests}

@@ -1,4 +1,4 @@
-use Rattle.std.proofs.Common.{◌≡◌, ◌<◌, ◌≤◌, ◌^◌, Option, Some, None, IfNone, sym, ◌∙◌, ap, arith}
+use Rattle.std.proofs.Common.{◌≡◌, ◌<◌, ◌≤◌, ◌^◌, Some, None, sym, ◌∙◌, ap, arith}
 use Rattle.mc2.specs.Reading.{number_in}
 use Rattle.mc2.proofs.Cuts.{number_takes, number_again}
 use Rattle.mc2.proofs.Readings.{if_none}

@@ -1,4 +1,4 @@
-use Rattle.std.proofs.Common.{◌≡◌, Option, Some, None, IfNone, position, drop, sym, ◌∙◌}
+use Rattle.std.proofs.Common.{◌≡◌, Some, None, position, drop, sym, ◌∙◌}
 use Rattle.mc2.specs.ScheduleText.{is_gap}
 use Rattle.mc2.proofs.Schedules.{next_is, last_is, none_is}
 use Rattle.mc2.proofs.Readings.{if_none}
