@@ -48,9 +48,6 @@ none_passes test xs e =
     = λ b. elim b as (λ v. nat_lt n (length xs) ≡ v → cond v (Some n) None ≡ None → length xs ≤ n) [ true ↦ (λ less k. absurd (cc)) | false ↦ (λ less k. ltb-false n (length xs) less) ] in
     all_before test xs (go (nat_lt n (length xs)) refl e)
 
-pub cut_none : (bytes : List ℕ) (byte : ℕ) → position (λ b. b == byte) bytes ≡ None → AllByRecursion (λ b. (b == byte) ≡ false) bytes
-cut_none bytes byte e = none_passes (λ b. b == byte) bytes e
-
 -- a word, and what follows the space behind it
 pub words_cut : (bytes word rest : List ℕ) → AllByRecursion (λ b. (b == 32) ≡ false) word → bytes ≡ word ++ 32 ∷ rest → words bytes ≡ word ∷ words rest
 unfolding words

@@ -2,7 +2,7 @@
 use Rattle.event_log.specs.declared.stream.Sink.{Ghosts}
 use Rattle.event_log.specs.Log.{Begins}
 use Rattle.event_log.specs.Stream.{counted}
-use Rattle.event_log.proofs.Beginnings.{begins_more}
+use Rattle.event_log.proofs.Beginnings.{begins_more, begins_behind}
 use Rattle.mc2.specs.declared.buffered.Buffered.{Buffered}
 use Rattle.mc2.specs.Output.{TakesAll, TakesSome, Puts, AppendsBeginning}
 use Rattle.std.proofs.Common.{◌≡◌, ℕ, ◌+◌, ◌<◌, get_or, List, [], ◌∷◌, ◌++◌, Option, Some, None, length, take, drop, refl, sym, ◌∙◌, ap, subst, append_assoc, Result, Ok, Err, OnOk, OnErr, Bool, true, false}
@@ -31,12 +31,6 @@ written_more first old new text rest n so_far more xs e =
       known_more old new (take n rest) (xs ++ before.0) more before.1 ∙ ap Some (append_assoc xs before.0 (take n rest)),
       append_assoc before.0 (take n rest) (drop n rest) ∙ ap (λ l. before.0 ++ l) (take-append-drop n rest) ∙ before.2,
     )
-
-module _ {E : Type 0} where
-  -- a front before both
-  pub begins_behind : (front a b : List E) → Begins a b → Begins (front ++ a) (front ++ b)
-  begins_behind [] a b h = h
-  begins_behind (x ∷ front) a b h = let rest = begins_behind front a b h in record { start = ap (λ l. x ∷ l) rest.start }
 
 module _ {W : Type 0} (sink : Ghosts W) where
   takes_all_then : (a b c : Buffered W) (s t : List ℕ) → TakesAll sink a b s → TakesAll sink b c t → TakesAll sink a c (s ++ t)

@@ -33,9 +33,6 @@ chosen : {A Q : Type 0} (b : Bool) (x y z : A) → cond b x y ≡ z → (b ≡ t
 chosen true x y z e on off = on refl e
 chosen false x y z e on off = off refl e
 
-same : (a b : List ℕ) → bytes_eq a b ≡ true → a ≡ b
-same a b e = (bytes_eq-Decides a b).0 e
-
 -- a call that was read, with its words
 read : (d : QueueCall) (ws left rest : List (List ℕ)) (c : QueueCall) → ws ≡ queue_call_words d ++ left → queue_call_fits d ≡ true → ◌≡◌ {A = Option (QueueCall × List (List ℕ))} (Some (d, left)) (Some (c, rest)) → Takes ws rest c
 read d ws left rest c text fits is =
@@ -45,14 +42,14 @@ read d ws left rest c text fits is =
 
 -- a word alone
 alone : (d : QueueCall) (word w : List ℕ) (ws rest : List (List ℕ)) (c : QueueCall) → queue_call_words d ≡ word ∷ [] → queue_call_fits d ≡ true → bytes_eq w word ≡ true → ◌≡◌ {A = Option (QueueCall × List (List ℕ))} (Some (d, ws)) (Some (c, rest)) → Takes (w ∷ ws) rest c
-alone d word w ws rest c spelled fits found is = read d (w ∷ ws) ws rest c (ap (λ v. v ∷ ws) (same w word found) ∙ ap (λ l. l ++ ws) (sym spelled)) fits is
+alone d word w ws rest c spelled fits found is = read d (w ∷ ws) ws rest c (ap (λ v. v ∷ ws) ((bytes_eq-Decides w word).0 found) ∙ ap (λ l. l ++ ws) (sym spelled)) fits is
 
 -- a word and a thread
 numbered : (make : ℕ → QueueCall) (word w : List ℕ) (ws rest : List (List ℕ)) (c : QueueCall) → ((t : ℕ) → queue_call_words (make t) ≡ word ∷ decimal t ∷ []) → ((t : ℕ) → queue_call_fits (make t) ≡ nat_lt t 4294967296)
     → bytes_eq w word ≡ true → ◌≡◌ {A = Option (QueueCall × List (List ℕ))} (number_at 4294967295 ws >>= λ t. Some (make t.0, t.1)) (Some (c, rest)) → Takes (w ∷ ws) rest c
 numbered make word w ws rest c spelled fit found e = bind_some (number_at 4294967295 ws) (λ t. Some (make t.0, t.1)) (c, rest) e (λ t number is.
     let takes = number_at_takes 4294967295 t.0 ws t.1 number in
-    read (make t.0) (w ∷ ws) t.1 rest c (ap (λ v. v ∷ ws) (same w word found) ∙ (ap (λ l. word ∷ l) takes.0 ∙ ap (λ l. l ++ t.1) (sym (spelled t.0)))) (fit t.0 ∙ lt-ltb t.0 4294967296 (let high = takes.1 in omega (arith, high))) is)
+    read (make t.0) (w ∷ ws) t.1 rest c (ap (λ v. v ∷ ws) ((bytes_eq-Decides w word).0 found) ∙ (ap (λ l. word ∷ l) takes.0 ∙ ap (λ l. l ++ t.1) (sym (spelled t.0)))) (fit t.0 ∙ lt-ltb t.0 4294967296 (let high = takes.1 in omega (arith, high))) is)
 
 takes : (ws rest : List (List ℕ)) (c : QueueCall) → queue_call_at ws ≡ Some (c, rest) → Takes ws rest c
 unfolding queue_call_at word_at

@@ -3,7 +3,7 @@ use Rattle.std.proofs.Common.{◌≡◌, ℕ, zero, suc, ◌<◌, ◌≤◌, ◌
 use Rattle.std.proofs.lemmas.List.Elements.{All-from_recursion}
 use Rattle.std.proofs.lemmas.List.Quantifiers.{position-Some}
 use Rattle.std.proofs.lemmas.List.Splits.{slice_split_none, slice_split_at, join_with_byte-slice_split}
-use Rattle.std.proofs.lemmas.Bool.{and_parts, leb-true, lt-ltb, ltb-true}
+use Rattle.std.proofs.lemmas.Bool.{and_parts, and_from, false_from_ne_true, leb-true, lt-ltb, ltb-true}
 use Rattle.std.proofs.lemmas.Option.{cond_some, slice_get-get_or, slice_get_cases, get_or_from_slice_get}
 use Rattle.std.proofs.lemmas.List.Sums.{position_or_len_is}
 use Rattle.std.proofs.lemmas.Fmt.{decimal_by_steps}
@@ -13,6 +13,7 @@ use Rattle.std.specs.List.{AllByRecursion, join_with_byte, list_all, flat_map, s
 use Rattle.std.specs.Option.{option_map_or}
 use Rattle.std.specs.Str.{bytes_eq}
 use Rattle.event_log.specs.declared.event.TheConstants.{MOST_CALLS}
+use Rattle.event_log.proofs.Each.{all_map, all_append}
 use Rattle.mc2.specs.declared.request.Request.{Request}
 use Rattle.mc2.specs.Reading.{◌>>=◌, words, is_nil, number_in, word_at, key_at, number_at, next_call_at, more_at, calls_at, object_at, request_at}
 use Rattle.mc2.specs.ScriptText.{IsRequest, request_words}
@@ -26,23 +27,14 @@ use Rattle.mc2.proofs.Readings.{bind_some}
 abbrev pub IsPlain : List ℕ → Type 0
 IsPlain word = AllByRecursion (λ b. 32 < b) word
 
-pub plain_both : (a b : List ℕ) → IsPlain a → IsPlain b → IsPlain (a ++ b)
-plain_both [] b p q = q
-plain_both (x ∷ a) b p q = (p.0, plain_both a b p.1 q)
-
-pub plain_words : (a b : List (List ℕ)) → AllByRecursion IsPlain a → AllByRecursion IsPlain b → AllByRecursion IsPlain (a ++ b)
-plain_words [] b p q = q
-plain_words (x ∷ a) b p q = (p.0, plain_words a b p.1 q)
-
 pub plain_decimal : (n : ℕ) → n < 2 ^ 64 → IsPlain (decimal n)
-plain_decimal n fits = decimal_by_steps (λ n ds. IsPlain ds) (λ n h. (omega arith, tt)) (λ n ds h p. plain_both ds _ p (omega arith, tt)) n fits
+plain_decimal n fits = decimal_by_steps (λ n ds. IsPlain ds) (λ n h. (omega arith, tt)) (λ n ds h p. all_append (λ b. 32 < b) ds _ p (omega arith, tt)) n fits
 
 not_space : (b : ℕ) → 32 < b → (b == 32) ≡ false
 not_space b high = grind arith
 
 no_space : (word : List ℕ) → IsPlain word → AllByRecursion (λ b. (b == 32) ≡ false) word
-no_space [] p = tt
-no_space (b ∷ word) p = (not_space b p.0, no_space word p.1)
+no_space word p = all_map not_space word p
 
 pub words_sentence : (w : List ℕ) (ws : List (List ℕ)) → AllByRecursion IsPlain (w ∷ ws) → words (sentence (w ∷ ws)) ≡ w ∷ ws
 unfolding words
@@ -80,9 +72,6 @@ name_plain (b ∷ bs) e =
 
 -- ---- tests
 
-same : (a b : List ℕ) → bytes_eq a b ≡ true → a ≡ b
-same a b e = (bytes_eq-Decides a b).0 e
-
 itself : (a : List ℕ) → bytes_eq a a ≡ true
 itself a = (bytes_eq-Decides a a).1 refl
 
@@ -91,7 +80,7 @@ unfolding key_at word_at
 key_takes key [] rest e = absurd cc
 key_takes key (w ∷ ws) rest e =
     let found = cond_some (bytes_eq w key) ws rest e in
-    ap (λ v. v ∷ ws) (same w key found.0) ∙ ap (λ l. key ∷ l) found.1
+    ap (λ v. v ∷ ws) ((bytes_eq-Decides w key).0 found.0) ∙ ap (λ l. key ∷ l) found.1
 
 pub key_again : (key : List ℕ) (rest : List (List ℕ)) → key_at key (key ∷ rest) ≡ Some rest
 unfolding key_at word_at
@@ -146,9 +135,6 @@ module _ {P C R : Type 0} (spelling : Spelling P C R) (call_at : List (List ℕ)
   no_more : (n : ℕ) (ws : List (List ℕ)) (more : List C) → is_nil ws ≡ true → [] ≡ more → AreMore n ws more
   no_more n ws more none is = subst (λ (l : List C). AreMore n ws l) is (record { text = nil_is ws none; few = omega arith; fit = refl })
 
-  and_true : (a b : Bool) → a ≡ true → b ≡ true → (a && b) ≡ true
-  and_true a b p q = rw (p, q) refl
-
   more_takes : (n : ℕ) (ws : List (List ℕ)) (more : List C) → more_at call_at n ws ≡ Some more → AreMore n ws more
   unfolding more_at
   more_takes zero ws more e = let found = cond_some (is_nil ws) [] more e in no_more 0 ws more found.0 found.1
@@ -165,7 +151,7 @@ module _ {P C R : Type 0} (spelling : Spelling P C R) (call_at : List (List ℕ)
             subst (λ (l : List C). AreMore (suc n) ws l) whole (record {
               text = call.0 ∙ ap (λ l. codes ";" ∷ (spelling.call next.0 ++ l)) left.text;
               few = let few = left.few in omega (arith, few);
-              fit = and_true (spelling.call_fits next.0) (list_all spelling.call_fits others) call.1 left.fit;
+              fit = and_from (spelling.call_fits next.0) (list_all spelling.call_fits others) call.1 left.fit;
             }))))
       ] in
       go (is_nil ws) refl e
@@ -197,7 +183,7 @@ module _ {P C R : Type 0} (spelling : Spelling P C R) (call_at : List (List ℕ)
         text = call.0 ∙ ap (λ l. spelling.call first.0 ++ l) left.text;
         some = omega arith;
         few = let few = left.few in omega (arith, few);
-        fit = and_true (spelling.call_fits first.0) (list_all spelling.call_fits more) call.1 left.fit;
+        fit = and_from (spelling.call_fits first.0) (list_all spelling.call_fits more) call.1 left.fit;
       })))
 
   pub calls_again : (calls : List C) → 0 < length calls → length calls ≤ MOST_CALLS → list_all spelling.call_fits calls ≡ true → calls_at call_at (separated (map spelling.call calls)) ≡ Some calls
@@ -212,13 +198,13 @@ module _ {P C R : Type 0} (spelling : Spelling P C R) (call_at : List (List ℕ)
   behind_plain [] fit = tt
   behind_plain (c ∷ more) fit =
       let parts = and_parts (spelling.call_fits c) (list_all spelling.call_fits more) fit in
-      ((omega arith, tt), plain_words (spelling.call c) (behind more) (reads.plain c parts.0) (behind_plain more parts.1))
+      ((omega arith, tt), all_append IsPlain (spelling.call c) (behind more) (reads.plain c parts.0) (behind_plain more parts.1))
 
   pub calls_plain : (calls : List C) → list_all spelling.call_fits calls ≡ true → AllByRecursion IsPlain (separated (map spelling.call calls))
   calls_plain [] fit = tt
   calls_plain (c ∷ more) fit =
       let parts = and_parts (spelling.call_fits c) (list_all spelling.call_fits more) fit in
-      plain_words (spelling.call c) (behind more) (reads.plain c parts.0) (behind_plain more parts.1)
+      all_append IsPlain (spelling.call c) (behind more) (reads.plain c parts.0) (behind_plain more parts.1)
 
 -- ---- objects
 
@@ -234,10 +220,6 @@ named_by test [] i e = absurd cc
 named_by test (x ∷ xs) i e =
     let found = position-Some test (x ∷ xs) i x e in
     (get_or (x ∷ xs) i x, slice_get-get_or (x ∷ xs) i x found.0, found.1, found.0)
-
-false_unless : (b : Bool) → (b ≡ true → ⊥) → b ≡ false
-false_unless true h = absurd (h refl)
-false_unless false h = refl
 
 first_at : {X : Type 0} (test : X → Bool) (xs : List X) (i : ℕ) → i < length xs → ((k : ℕ) (x : X) → k < i → slice_get xs k ≡ Some x → test x ≡ false) → ((x : X) → slice_get xs i ≡ Some x → test x ≡ true) → position test xs ≡ Some i
 first_at test [] i less before here = absurd (omega (arith, less))
@@ -255,7 +237,7 @@ object_takes settings i (w ∷ ws) rest e = bind_some (position (λ o. bytes_eq 
     let place : j ≡ i = ap (λ p. p.0) pair in
     let left : ws ≡ rest = ap (λ p. p.1) pair in
     let at = named_by (λ o. bytes_eq o.name w) settings.objects i (found ∙ ap Some place) in
-    let name : name_at settings i ≡ w = ap (λ o. option_map_or (λ v. v.name) o []) at.1 ∙ same at.0.name w at.2 in
+    let name : name_at settings i ≡ w = ap (λ o. option_map_or (λ v. v.name) o []) at.1 ∙ (bytes_eq-Decides at.0.name w).0 at.2 in
     (ap (λ v. v ∷ ws) (sym name) ∙ ap (λ l. name_at settings i ∷ l) left, at.3))
 
 pub object_again : {P : Type 0} (settings : Settings P) (i : ℕ) (rest : List (List ℕ)) → NamesDiffer settings → i < length settings.objects → object_at settings (name_at settings i ∷ rest) ≡ Some (i, rest)
@@ -263,8 +245,8 @@ unfolding object_at word_at
 object_again settings i rest names less =
     let named : (k : ℕ) (o : _) → slice_get settings.objects k ≡ Some o → name_at settings k ≡ o.name = λ k o at. ap (λ v. option_map_or (λ u. u.name) v []) at in
     let found = first_at (λ o. bytes_eq o.name (name_at settings i)) settings.objects i less
-    (λ k o lower at. false_unless (bytes_eq o.name (name_at settings i)) (λ e.
-    let one : k ≡ i = names k i (omega (arith, lower, less)) less (named k o at ∙ same o.name (name_at settings i) e) in
+    (λ k o lower at. false_from_ne_true (bytes_eq o.name (name_at settings i)) (λ e.
+    let one : k ≡ i = names k i (omega (arith, lower, less)) less (named k o at ∙ (bytes_eq-Decides o.name (name_at settings i)).0 e) in
     omega (arith, one, lower)))
     (λ o at. rw (← named i o at) (itself (name_at settings i))) in
     ap (λ o. o >>= λ j. Some (j, rest)) found

@@ -1,5 +1,6 @@
 -- A schedule, word by word.
-use Rattle.std.proofs.Common.{◌≡◌, ℕ, zero, suc, ◌+◌, ◌<◌, ◌≤◌, ◌==◌, ◌⊎◌, Bool, true, false, not, cond, Some, None, List, [], ◌∷◌, ◌++◌, length, map, take, drop, get_or, position, decimal, refl, sym, ◌∙◌, ap, add-zero, arith, inl, inr, length-append}
+use Rattle.std.proofs.Common.{◌≡◌, ℕ, zero, suc, ◌+◌, ◌<◌, ◌≤◌, ◌==◌, ◌⊎◌, true, false, not, cond, Some, None, List, [], ◌∷◌, ◌++◌, length, map, take, drop, get_or, position, decimal, refl, sym, ◌∙◌, ap, add-zero, arith, inl, inr, length-append}
+use Rattle.std.proofs.lemmas.Bool.{not-true, not-false}
 use Rattle.std.proofs.lemmas.List.{drop_more, take-append-drop, length-map, length-take, length-drop, get_or-drop}
 use Rattle.std.proofs.lemmas.List.Elements.{All-from_recursion}
 use Rattle.std.proofs.lemmas.List.Quantifiers.{position-Some}
@@ -8,14 +9,6 @@ use Rattle.std.specs.List.{AllByRecursion, filter, slice_split}
 use Rattle.mc2.specs.declared.schedule.TheConstants.{MOST_STEPS}
 use Rattle.mc2.specs.ScheduleText.{is_gap, schedule_words, IsSchedule, NamesNoCpu, IsFirstBadWord}
 use Rattle.mc2.proofs.Cuts.{none_below, none_passes}
-
-not_false : (b : Bool) → not b ≡ false → b ≡ true
-not_false true e = refl
-not_false false e = absurd cc
-
-not_true : (b : Bool) → not b ≡ true → b ≡ false
-not_true true e = absurd cc
-not_true false e = refl
 
 -- ---- words
 
@@ -28,7 +21,7 @@ gap_first b text gap = ap (λ pieces. filter (λ word. not (length word == 0)) p
 gaps_first : (text : List ℕ) (i : ℕ) → AllByRecursion (λ b. not (is_gap b) ≡ false) (take i text) → schedule_words text ≡ schedule_words (drop i text)
 gaps_first text zero h = refl
 gaps_first [] (suc i) h = refl
-gaps_first (b ∷ text) (suc i) h = gap_first b text (not_false (is_gap b) h.0) ∙ gaps_first text i h.1
+gaps_first (b ∷ text) (suc i) h = gap_first b text (not-false (is_gap b) h.0) ∙ gaps_first text i h.1
 
 no_words : schedule_words [] ≡ []
 unfolding schedule_words
@@ -36,7 +29,7 @@ no_words = refl
 
 gaps_alone : (text : List ℕ) → AllByRecursion (λ b. not (is_gap b) ≡ false) text → schedule_words text ≡ []
 gaps_alone [] h = no_words
-gaps_alone (b ∷ text) h = gap_first b text (not_false (is_gap b) h.0) ∙ gaps_alone text h.1
+gaps_alone (b ∷ text) h = gap_first b text (not-false (is_gap b) h.0) ∙ gaps_alone text h.1
 
 some_bytes : (b : ℕ) (word : List ℕ) → (length (b ∷ word) == 0) ≡ false
 some_bytes b word = grind arith
@@ -72,7 +65,7 @@ starts_at text start e =
     record {
       within = at.0;
       words = gaps_first text start (none_below (λ b. not (is_gap b)) text start at.2);
-      first = ap is_gap here ∙ not_true (is_gap (get_or text start 0)) at.1;
+      first = ap is_gap here ∙ not-true (is_gap (get_or text start 0)) at.1;
     }
 
 ends_later : (words : List ℕ) (end : ℕ) → is_gap (get_or words 0 0) ≡ false → is_gap (get_or words end 0) ≡ true → 0 < end

@@ -1,10 +1,10 @@
 -- Scripts, line by line.
 use Rattle.std.proofs.Common.{◌≡◌, ℕ, ◌+◌, ◌<◌, ◌≤◌, ◌==◌, Bool, true, false, List, [], ◌∷◌, ◌++◌, length, refl, sym, ◌∙◌, ap, subst, append_assoc, arith, length-append, cond, inl, inr}
-use Rattle.std.specs.List.{AllByRecursion}
 use Rattle.std.proofs.lemmas.Grind.{flat_map-append}
 use Rattle.std.proofs.lemmas.List.{append-nil}
 use Rattle.std.proofs.lemmas.Bool.{eqb-true}
 use Rattle.std.proofs.lemmas.List.Sums.{fold-append}
+use Rattle.event_log.proofs.Each.{all_push}
 use Rattle.mc2.specs.declared.request.Request.{Request}
 use Rattle.mc2.specs.declared.scripts.TheConstants.{MOST_ENTRIES}
 use Rattle.mc2.specs.ScriptText.{IsBlank, IsRequest, AskFor, AreScripts, IsRefused, IsFirstBad, count_of}
@@ -12,10 +12,6 @@ use Rattle.mc2.specs.ScriptFaults.{TakesLine}
 use Rattle.mc2.specs.Settings.{Settings}
 use Rattle.mc2.specs.Spelling.{Spelling}
 use Rattle.mc2.specs.Words.{text_of_lines, NoEnd}
-
-no_ends : (lines : List (List ℕ)) (line : List ℕ) → AllByRecursion NoEnd lines → NoEnd line → AllByRecursion NoEnd (lines ++ line ∷ [])
-no_ends [] line h k = (k, tt)
-no_ends (l ∷ lines) line h k = (h.0, no_ends lines line h.1 k)
 
 text_more : (lines : List (List ℕ)) (line : List ℕ) → text_of_lines (lines ++ line ∷ []) ≡ text_of_lines lines ++ (line ++ 10 ∷ [])
 text_more lines line = flat_map-append (λ l. l ++ 10 ∷ []) lines (line ∷ []) ∙ ap (λ t. text_of_lines lines ++ t) (append-nil (line ++ 10 ∷ []))
@@ -66,7 +62,7 @@ module _ {O P C R : Type 0} (spelling : Spelling P C R) (settings : Settings P) 
         good = record {
           lines = so_far.good.lines ++ line ∷ [];
           text = ap (λ t. t ++ (line ++ 10 ∷ [])) so_far.good.text ∙ sym (text_more so_far.good.lines line);
-          each = no_ends so_far.good.lines line so_far.good.each no_end;
+          each = all_push NoEnd so_far.good.lines line so_far.good.each no_end;
           asked = asked;
           within = within;
         };

@@ -1,5 +1,5 @@
 -- Workers that do their entries on one cell make a sound run.
-use Rattle.std.proofs.Common.{◌≡◌, ℕ, zero, suc, ◌<◌, ◌≤◌, ◌==◌, ◌||◌, Bool, true, false, cond, List, [], ◌∷◌, ◌++◌, length, map, drop, refl, sym, ◌∙◌, ap, subst, arith, length-append, append_assoc, ◌+◌, Some, ◌⊎◌, inl, inr, Result, Ok, Err, IfOk, OnErr}
+use Rattle.std.proofs.Common.{◌≡◌, ℕ, zero, suc, ◌<◌, ◌≤◌, ◌==◌, ◌||◌, Bool, true, false, cond, List, [], ◌∷◌, ◌++◌, length, map, drop, refl, sym, ◌∙◌, ap, subst, arith, length-append, append_assoc, ◌+◌, Some, inl, inr, Result, Ok, Err, IfOk, OnErr}
 use Rattle.std.specs.List.{AllByRecursion, slice_get, filter}
 use Rattle.std.proofs.lemmas.List.{append-nil, map-append}
 use Rattle.std.proofs.lemmas.Bool.Decides.{nat_tests}
@@ -16,6 +16,7 @@ use Rattle.event_log.specs.declared.entry.Run.{Run}
 use Rattle.event_log.specs.Log.{Begins, of}
 use Rattle.event_log.specs.History.{History}
 use Rattle.event_log.proofs.Beginnings.{begins_rest}
+use Rattle.event_log.proofs.Each.{all_map, all_both, all_push}
 use Rattle.mc2.specs.declared.request.Request.{Request}
 use Rattle.mc2.specs.FirstRun.{asked_of, script_of, AsksFor, IsAble, IsFor, Did, DoesEntry, HasDone, opened_in}
 use Rattle.mc2.specs.ScriptText.{IsRequest, AskFor}
@@ -26,58 +27,8 @@ use Rattle.word_rule.specs.Cell.{Cell, PassView, Grows, Lawful, IsPassView, Owns
 use Rattle.word_rule.specs.Answered.{IsAnswered, IsRefused, events_by}
 use Rattle.word_rule.specs.Sound.{Opened, Sound, LogIsSound, EntryIsSound, Answers, NoneAfterFull, done_on, with_steps, steps_by, transcript_of}
 use Rattle.word_rule.proofs.Lists.{of_opening}
-use Rattle.word_rule.proofs.Acting.{all_push}
+use Rattle.word_rule.proofs.Entries.{done_append, done_here, done_without, full_push}
 use Rattle.word_rule.proofs.Owners.{still_together, together_joined, own_both}
-
-all_map : {X : Type 0} {Q S : X → Type 0} → ((x : X) → Q x → S x) → (xs : List X) → AllByRecursion Q xs → AllByRecursion S xs
-all_map f [] h = tt
-all_map f (x ∷ xs) h = (f x h.0, all_map f xs h.1)
-
-all_both : {X : Type 0} {Q S T : X → Type 0} → ((x : X) → Q x × S x → T x) → (xs : List X) → AllByRecursion Q xs → AllByRecursion S xs → AllByRecursion T xs
-all_both f [] h k = tt
-all_both f (x ∷ xs) h k = (f x (h.0, k.0), all_both f xs h.1 k.1)
-
-module _ {O P C R : Type 0} where
-  on_first : (e : Entry O P C R) → e.object ≡ 0 → (e.object == 0) ≡ true
-  on_first e is = rw is refl
-
-  -- ---- after a full log
-
-  done_on_first : (d : Done O P C R) (a b : List (Steps O P C R)) → a ≡ b → with_steps d a ≡ with_steps d b
-  done_on_first d a b e = ap (λ l. with_steps d l) e
-
-  nil_with : (d : Done O P C R) (rest : List (Steps O P C R)) → with_steps d rest ≡ [] → (d ≡ done.NoRoom) × (rest ≡ [])
-  nil_with (done.Steps s) rest e = absurd (cc)
-  nil_with done.NoRoom rest e = (refl, e)
-
-  done_push : (entries : List (Entry O P C R)) (e : Entry O P C R) (x : ℕ) → e.done ≡ done.NoRoom → done_on x entries ≡ [] → done_on x (entries ++ e ∷ []) ≡ []
-  done_push [] e x none before = elim (e.object == x) as (λ b. cond b (with_steps e.done []) [] ≡ []) [ true ↦ ap (λ d. with_steps d []) none | false ↦ refl ]
-  done_push (f ∷ entries) e x none before =
-      let go : (b : Bool) → cond b (with_steps f.done (done_on x entries)) (done_on x entries) ≡ [] → cond b (with_steps f.done (done_on x (entries ++ e ∷ []))) (done_on x (entries ++ e ∷ [])) ≡ []
-      = λ b. elim b as (λ v. cond v (with_steps f.done (done_on x entries)) (done_on x entries) ≡ [] → cond v (with_steps f.done (done_on x (entries ++ e ∷ []))) (done_on x (entries ++ e ∷ [])) ≡ []) [
-        | true ↦ (λ k.
-            let parts = nil_with f.done (done_on x entries) k in
-            done_on_first f.done (done_on x (entries ++ e ∷ [])) [] (done_push entries e x none parts.1) ∙ ap (λ d. with_steps d []) parts.0)
-        | false ↦ (λ k. done_push entries e x none k)
-      ] in
-      go (f.object == x) before
-
-  -- an entry more, where the log had room only if no entry found it full
-  full_push : (entries : List (Entry O P C R)) (e : Entry O P C R) → NoneAfterFull entries → ((e.done ≡ done.NoRoom) ⊎ AllByRecursion (λ f. f.done ≡ done.NoRoom → ⊥) entries) → NoneAfterFull (entries ++ e ∷ [])
-  full_push [] e full why = ((λ none. refl), tt)
-  full_push (f ∷ entries) e full why = elim why [
-    | inl none ↦ ((λ h. done_push entries e f.object none (full.0 h)), full_push entries e full.1 (inl none))
-    | inr room ↦ ((λ h. absurd (room.0 h)), full_push entries e full.1 (inr room.1))
-  ]
-
-  -- the steps of one entry more
-  done_more : (entries : List (Entry O P C R)) (e : Entry O P C R) → AllByRecursion (λ f. f.object ≡ 0) entries → e.object ≡ 0 → done_on 0 (entries ++ e ∷ []) ≡ done_on 0 entries ++ with_steps e.done []
-  done_more [] e first is = rw (on_first e is) refl
-  done_more (f ∷ entries) e first is = rw (on_first f first.0) (ap (with_steps f.done) (done_more entries e first.1 is) ∙ with_append f.done (done_on 0 entries) (with_steps e.done []))
-    where
-      with_append : (d : Done O P C R) (xs ys : List (Steps O P C R)) → with_steps d (xs ++ ys) ≡ with_steps d xs ++ ys
-      with_append (done.Steps s) xs ys = refl
-      with_append done.NoRoom xs ys = refl
 
 module _ {O P C R : Type 0} (meaning : Ghosts O P C R) (opened : Opened P) where
   -- an answer stays one where the log grows, unless it was full
@@ -127,25 +78,25 @@ module _ {O P C R : Type 0} (meaning : Ghosts O P C R) where
   nothing before = record { caller = refl; asked = refl; objects = tt; own = sym (append-nil (of before.caller.acting before.seen)); answers = tt; full = tt }
 
   -- what the caller's own events are after one entry more
-  own_more : (before mid after : PassView O P C R) (entries : List (Entry O P C R)) (e : Entry O P C R) (d : Done O P C R) → e.done ≡ d → mid.caller ≡ before.caller → IsPassView meaning before → AllByRecursion (λ f. f.object ≡ 0) entries → e.object ≡ 0
+  own_more : (before mid after : PassView O P C R) (entries : List (Entry O P C R)) (e : Entry O P C R) (d : Done O P C R) → e.done ≡ d → mid.caller ≡ before.caller → IsPassView meaning before → e.object ≡ 0
       → of before.caller.acting mid.seen ≡ of before.caller.acting before.seen ++ events_by before.caller.acting (done_on 0 entries) → Did meaning mid e.asked d after
       → of before.caller.acting after.seen ≡ of before.caller.acting before.seen ++ events_by before.caller.acting (done_on 0 (entries ++ e ∷ []))
-  own_more before mid after entries e (done.Steps s) is same part first zero_is own did =
+  own_more before mid after entries e (done.Steps s) is same part zero_is own did =
       let k : ℕ = before.caller.acting in
       let mine : of k after.seen ≡ of k mid.seen ++ events_by k (s ∷ []) = subst (λ c. of c.acting after.seen ≡ of c.acting mid.seen ++ events_by c.acting (s ∷ [])) same did.mine in
-      let more : done_on 0 (entries ++ e ∷ []) ≡ done_on 0 entries ++ s ∷ [] = done_more entries e first zero_is ∙ ap (λ x. done_on 0 entries ++ with_steps x []) is in
+      let more : done_on 0 (entries ++ e ∷ []) ≡ done_on 0 entries ++ s ∷ [] = done_append 0 entries (e ∷ []) ∙ ap (λ l. done_on 0 entries ++ l) (done_here 0 e zero_is ∙ ap (λ x. with_steps x []) is) in
       mine ∙ (ap (λ l. l ++ events_by k (s ∷ [])) own ∙ (append_assoc (of k before.seen) (events_by k (done_on 0 entries)) (events_by k (s ∷ []))
       ∙ ap (λ l. of k before.seen ++ l) (sym (map-append (λ (x : Steps O P C R). record { cpu = k; steps = x }) (done_on 0 entries) (s ∷ [])) ∙ ap (events_by k) (sym more))))
-  own_more before mid after entries e done.NoRoom is same part first zero_is own did =
+  own_more before mid after entries e done.NoRoom is same part zero_is own did =
       let k : ℕ = before.caller.acting in
       let stays : of k after.seen ≡ of k mid.seen = did.grows.own k (subst (λ c. c.owned k ≡ true) (sym same) part.caller.acts) in
-      let more : done_on 0 (entries ++ e ∷ []) ≡ done_on 0 entries = done_more entries e first zero_is ∙ (ap (λ x. done_on 0 entries ++ with_steps x []) is ∙ append-nil (done_on 0 entries)) in
+      let more : done_on 0 (entries ++ e ∷ []) ≡ done_on 0 entries = done_append 0 entries (e ∷ []) ∙ (ap (λ l. done_on 0 entries ++ l) (done_without 0 e is) ∙ append-nil (done_on 0 entries)) in
       stays ∙ (own ∙ ap (λ l. of k before.seen ++ events_by k l) (sym more))
 
   -- what one entry more leaves of the answers so far
   record Stays (opened : Opened P) (more : List (Event O P C R)) (entries : List (Entry O P C R)) (e : Entry O P C R) : Type 0 where
     pub answers : AllByRecursion (λ f. Answers meaning opened more f.asked f.done) (entries ++ e ∷ [])
-    pub why : (e.done ≡ done.NoRoom) ⊎ AllByRecursion (λ f. f.done ≡ done.NoRoom → ⊥) entries
+    pub why : AllByRecursion (λ f. f.done ≡ done.NoRoom → done_on f.object (e ∷ []) ≡ []) entries
 
   stays : (mid after : PassView O P C R) (entries : List (Entry O P C R)) (e : Entry O P C R) (d : Done O P C R) → e.done ≡ d → after.caller ≡ mid.caller → IsPassView meaning after → Did meaning mid e.asked d after
       → AllByRecursion (λ f. Answers meaning (opened_in meaning mid) mid.seen f.asked f.done) entries → Stays (opened_in meaning mid) after.seen entries e
@@ -154,12 +105,12 @@ module _ {O P C R : Type 0} (meaning : Ghosts O P C R) where
       let grew = longer mid after e.asked.items s did in
       let within : length after.seen ≤ o.limit = did.lawful.within in
       let both = answers_stay meaning o mid.seen after.seen entries (omega arith) h in
-      record { answers = all_push (λ f. Answers meaning o after.seen f.asked f.done) entries e both.0 (subst (λ x. Answers meaning o after.seen e.asked x) (sym is) did.fulfils); why = inr both.1 }
+      record { answers = all_push (λ f. Answers meaning o after.seen f.asked f.done) entries e both.0 (subst (λ x. Answers meaning o after.seen e.asked x) (sym is) did.fulfils); why = all_map (λ f room none. absurd (room none)) entries both.1 }
   stays mid after entries e done.NoRoom is same part did h =
       let o = opened_in meaning mid in
       record {
         answers = all_push (λ f. Answers meaning o after.seen f.asked f.done) entries e (all_map (λ f. answer_full meaning o mid.seen after.seen f.asked f.done did.full) entries h) (subst (λ x. Answers meaning o after.seen e.asked x) (sym is) did.full);
-        why = inl is;
+        why = all_map (λ f _ _. done_without f.object e is) entries h;
       }
 
   -- one entry more
@@ -173,7 +124,7 @@ module _ {O P C R : Type 0} (meaning : Ghosts O P C R) where
         caller = same ∙ d.caller;
         asked = map-append asked_of entries (e ∷ []) ∙ (λ i. d.asked i ++ does.asked i ∷ []);
         objects = all_push (λ f. f.object ≡ 0) entries e d.objects object;
-        own = own_more before mid after entries e e.done refl d.caller part d.objects object d.own does.did;
+        own = own_more before mid after entries e e.done refl d.caller part object d.own does.did;
         answers = subst (λ o. AllByRecursion (λ f. Answers meaning o after.seen f.asked f.done) (entries ++ e ∷ [])) cell left.answers;
         full = full_push entries e d.full left.why;
       }

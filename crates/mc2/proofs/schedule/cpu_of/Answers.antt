@@ -1,11 +1,8 @@
-use Rattle.std.proofs.Common.{◌≡◌, ◌<◌, ◌≤◌, ◌^◌, Option, Some, None, IfNone, sym, ◌∙◌, ap, arith}
+use Rattle.std.proofs.Common.{◌≡◌, ◌<◌, ◌≤◌, ◌^◌, Some, None, sym, ◌∙◌, ap, arith}
 use Rattle.mc2.specs.Reading.{number_in}
 use Rattle.mc2.proofs.Cuts.{number_takes, number_again}
+use Rattle.mc2.proofs.Readings.{if_none}
 use Rattle.mc2.proofs.schedule.cpu_of.Goals as goal
-
-if_none : {X P : Type 0} (o : Option X) → P → IfNone o P
-if_none None p = p
-if_none (Some x) p = tt
 
 pub returns-in_err-number-clause-none : goal.returns-in_err-number-clause-none
 returns-in_err-number-clause-none c = if_none c.from_residual.result (λ cpu less is.

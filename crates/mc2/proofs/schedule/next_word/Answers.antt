@@ -1,11 +1,8 @@
-use Rattle.std.proofs.Common.{◌≡◌, Option, Some, None, IfNone, position, drop, sym, ◌∙◌}
+use Rattle.std.proofs.Common.{◌≡◌, Some, None, position, drop, sym, ◌∙◌}
 use Rattle.mc2.specs.ScheduleText.{is_gap}
 use Rattle.mc2.proofs.Schedules.{next_is, last_is, none_is}
+use Rattle.mc2.proofs.Readings.{if_none}
 use Rattle.mc2.proofs.schedule.next_word.Goals as goal
-
-if_none : {X P : Type 0} (o : Option X) → P → IfNone o P
-if_none None p = p
-if_none (Some x) p = tt
 
 pub returns-in_err-start-clause-none : goal.returns-in_err-start-clause-none
 returns-in_err-start-clause-none c = if_none c.from_residual.result (none_is c.args.text.now (sym c.find_start.ensures.place ∙ c.in_err-start.was))

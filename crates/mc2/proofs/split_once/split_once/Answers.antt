@@ -1,13 +1,10 @@
-use Rattle.std.proofs.Common.{Option, Some, None, IfNone, sym, ◌∙◌}
-use Rattle.mc2.proofs.Cuts.{cut_found, cut_none}
+use Rattle.std.proofs.Common.{◌==◌, sym, ◌∙◌}
+use Rattle.mc2.proofs.Cuts.{cut_found, none_passes}
+use Rattle.mc2.proofs.Readings.{if_none}
 use Rattle.mc2.proofs.split_once.split_once.Goals as goal
 
-if_none : {X P : Type 0} (o : Option X) → P → IfNone o P
-if_none None p = p
-if_none (Some x) p = tt
-
 pub returns-in_err-place-clause-none : goal.returns-in_err-place-clause-none
-returns-in_err-place-clause-none c = if_none c.from_residual.result (cut_none c.args.bytes.now c.args.byte (sym c.find.ensures.place ∙ c.in_err-place.was))
+returns-in_err-place-clause-none c = if_none c.from_residual.result (none_passes (λ b. b == c.args.byte) c.args.bytes.now (sym c.find.ensures.place ∙ c.in_err-place.was))
 
 pub returns-clause-found : goal.returns-clause-found
 returns-clause-found c =

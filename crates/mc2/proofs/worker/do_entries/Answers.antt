@@ -1,13 +1,11 @@
-use Rattle.std.proofs.Common.{◌≡◌, ℕ, suc, ◌∷◌, [], ◌++◌, ◌+◌, ◌≤◌, length, sym, ap, subst, ◌∙◌, append_assoc, arith, length-append}
+use Rattle.std.proofs.Common.{◌≡◌, ◌∷◌, [], ◌++◌, ◌+◌, length, sym, ap, subst, ◌∙◌, append_assoc, length-append}
 use Rattle.std.proofs.lemmas.List.{append-nil, nil_from_length}
 use Rattle.std.specs.Vec.Iter.{into_iter_items}
 use Rattle.word_rule.specs.Passes.{view_of_pass}
+use Rattle.word_rule.proofs.SoundRuns.{room_left}
 use Rattle.mc2.specs.FirstRun.{HasDone}
 use Rattle.mc2.proofs.Workers.{entry_more}
 use Rattle.mc2.proofs.worker.do_entries.Goals as goal
-
-room_left : (n k total room room' : ℕ) → total ≡ n + 1 → room' ≡ room → n + suc k ≤ room → total + k ≤ room'
-room_left n k total room room' e f h = omega arith
 
 pub loop-todo-preserved : goal.loop-todo-preserved
 loop-todo-preserved g c =
