@@ -252,8 +252,8 @@ fn four_threads_call_one_cell(rt: HostRuntime) -> Result<(), Fail> {
 }
 
 /// Takes the object, keeps it for a while and gives it back: the number of looks.
-fn keep<R: Wait + Clock>(rt: &R, cell: &AnyCell<ThreadQueue>, pass: AnyPass<ThreadQueue>) -> u64
-    requires { IsPassOf cell.now pass }
+fn keep<C: LockCell<ThreadQueue>, R: Wait + Clock>(rt: &R, cell: &C, pass: C::Pass) -> u64
+    requires { C.is_pass_of cell.now pass }
 {
     let (hold, looks) = cell.acquire(rt, pass);
     thread::sleep(rt, Duration::from_millis(20));
@@ -262,21 +262,24 @@ fn keep<R: Wait + Clock>(rt: &R, cell: &AnyCell<ThreadQueue>, pass: AnyPass<Thre
 }
 
 /// The most looks of two callers, each of which keeps the object for a while.
-fn most_looks<R: Threads + Wait + Clock + Sync>(
+fn most_looks<C: LockCell<ThreadQueue> + Sync, R: Threads + Wait + Clock + Sync>(
     rt: &R,
-    cell: &AnyCell<ThreadQueue>,
-    passes: Pair<AnyPass<ThreadQueue>>,
+    cell: &C,
+    passes: Pair<C::Pass>,
 ) -> u64
-    requires { IsPassOf cell.now passes.0 × IsPassOf cell.now passes.1 }
+where
+    C::Pass: Send,
+    requires first { C.is_pass_of cell.now passes.0 }
+    requires second { C.is_pass_of cell.now passes.1 }
 {
     let (first, second) = passes;
     let (one, other) = thread::join(
         rt,
         move || -> u64
-            requires pass { IsPassOf cell.now first }
+            requires pass { C.is_pass_of cell.now first }
         { keep(rt, cell, first) },
         move || -> u64
-            requires pass { IsPassOf cell.now second }
+            requires pass { C.is_pass_of cell.now second }
         { keep(rt, cell, second) },
     );
     one.max(other)
