@@ -3,7 +3,7 @@ use Rattle.std.specs.Prelude.{ℕ, ◌≡◌, ◌≤◌, ◌<◌, ◌&&◌, ◌|
 use Rattle.std.specs.List.{slice_get, list_all}
 use Rattle.std.specs.Option.{option_map_or}
 use Rattle.event_log.specs.declared.logged.TheConstants.{MOST_EVENTS}
-use Rattle.word_rule.specs.declared.TheConstants.{MOST_CPUS}
+use Rattle.word_rule.specs.declared.key.TheConstants.{MOST_CPUS}
 use Rattle.word_rule.specs.declared.lock_kind.LockKind.{LockKind}
 use Rattle.word_rule.specs.declared.machine.TheConstants.{MOST_CELLS}
 use Rattle.mc2.specs.Spelling.{Spelling}

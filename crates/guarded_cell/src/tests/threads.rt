@@ -11,11 +11,11 @@ use event_log::{Logged, SeqObject};
 use mcs_lock::McsCell;
 use shared_queue::{QueueCall as Call, ThreadQueue};
 use std::alloc::Global;
+use std::slice;
 use std::sync::Wait;
 use std::test::Fail;
 use std::thread;
 use std::thread::Threads;
-use std::time::{Clock, Duration};
 use ticket_lock::TicketCell;
 use word_rule::{LockCell, LockKind};
 
@@ -251,36 +251,49 @@ fn four_threads_call_one_cell(rt: HostRuntime) -> Result<(), Fail> {
     Ok(())
 }
 
-/// Takes the object, keeps it for a while and gives it back: the number of looks.
-fn keep<C: LockCell<ThreadQueue>, R: Wait + Clock>(rt: &R, cell: &C, pass: C::Pass) -> u64
+/// Takes the object, does the calls under one hold and gives it back: the number of looks.
+fn keep<O: SeqObject, C: LockCell<O>, R: Wait>(
+    rt: &R,
+    cell: &C,
+    pass: C::Pass,
+    calls: &[O::Call],
+) -> (C::Pass, u64)
     requires { C.is_pass_of cell.now pass }
+    ensures { C.is_pass_of cell.now result.0 }
 {
-    let (hold, looks) = cell.acquire(rt, pass);
-    thread::sleep(rt, Duration::from_millis(20));
-    let _ = cell.release(rt, hold);
-    looks
+    let (mut hold, looks) = cell.acquire(rt, pass);
+    for call in calls {
+        let _ = C::apply(&mut hold, slice::from_ref(call));
+    }
+    (cell.release(rt, hold), looks)
 }
 
 /// The most looks of two callers, each of which keeps the object for a while.
-fn most_looks<C: LockCell<ThreadQueue> + Sync, R: Threads + Wait + Clock + Sync>(
+fn most_looks<O: SeqObject + Send, C: LockCell<O> + Sync, R: Threads + Wait + Sync>(
     rt: &R,
     cell: &C,
     passes: Pair<C::Pass>,
+    calls: &[O::Call],
 ) -> u64
 where
+    O::Params: Send,
+    O::Call: Send + Sync,
+    O::Reply: Send,
     C::Pass: Send,
     requires first { C.is_pass_of cell.now passes.0 }
     requires second { C.is_pass_of cell.now passes.1 }
 {
     let (first, second) = passes;
-    let (one, other) = thread::join(
+    let ((_, one), (_, other)) = thread::join(
         rt,
-        move || -> u64
+        move || -> (C::Pass, u64)
             requires pass { C.is_pass_of cell.now first }
-        { keep(rt, cell, first) },
-        move || -> u64
+            ensures pass { C.is_pass_of cell.entry.now result.0 }
+        { keep(rt, cell, first, calls) },
+        move || -> (C::Pass, u64)
             requires pass { C.is_pass_of cell.now second }
-        { keep(rt, cell, second) },
+            ensures pass { C.is_pass_of cell.entry.now result.0 }
+        { keep(rt, cell, second, calls) },
     );
     one.max(other)
 }
@@ -288,12 +301,13 @@ where
 // One of two callers comes while the other keeps the object, unless its thread starts late: then they try again.
 #[test]
 fn a_caller_that_waits_counts_its_looks(rt: HostRuntime) -> Result<(), Fail> {
+    let calls = calls_from(rt.alloc(), 0, 2000)?;
     for kind in KINDS {
         let mut most = 0;
         for _ in 0..100 {
             if most < 2 {
-                let (cell, passes) = cell_of_two(rt.alloc(), kind, 10)?;
-                most = most_looks(&rt, &cell, passes);
+                let (cell, passes) = cell_of_two(rt.alloc(), kind, 4000)?;
+                most = most_looks(&rt, &cell, passes, &calls);
             }
         }
         assert!(rt; most > 1);
