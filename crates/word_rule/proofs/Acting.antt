@@ -1,5 +1,6 @@
 -- What a step leaves with a caller: the types of every lock's callers stay true, and the step is one of its kind.
 use Rattle.std.proofs.Common.{◌≡◌, ℕ, ◌<◌, ◌≤◌, ◌||◌, Bool, true, false, true≢false, List, [], ◌∷◌, ◌++◌, map, min, length, drop, refl, sym, ap, ◌∙◌, subst, ⊎_elim, arith, Option, Some, None, Result, Ok, Err, IfOk, OnErr, append_assoc, ◌==◌}
+use Rattle.std.proofs.Math.Seq.{drop-append_seam}
 use Rattle.std.specs.List.{AllByRecursion}
 use Rattle.std.proofs.lemmas.List.Folds.{list_any-append}
 use mathlib.Core.Logic.{dite}
@@ -11,6 +12,7 @@ use Rattle.event_log.specs.declared.event.Steps.{Steps}
 use Rattle.event_log.specs.Distinct.{has}
 use Rattle.event_log.specs.Log.{Begins, Legal, after, replay}
 use Rattle.event_log.specs.History.{History, IsKept, with_event}
+use Rattle.event_log.proofs.Each.{all_push}
 use Rattle.event_log.proofs.Beginnings.{begins_self, begins_more, begins_rest}
 use Rattle.word_rule.specs.declared.stage.Stage.{Stage}
 use Rattle.word_rule.specs.declared.stage.Stage.TheVariants.{Idle}
@@ -125,15 +127,6 @@ module _ {O P C R : Type 0} (meaning : Ghosts O P C R) where
     another = not_all h m w.at.told lacks;
   }
 
-drop_front : {A : Type 0} (a c : List A) → drop (length a) (a ++ c) ≡ c
-drop_front [] c = refl
-drop_front (x ∷ a) c = drop_front a c
-
--- what holds of each element of a list, and of one more
-pub all_push : {A : Type 0} (P : A → Type 0) (xs : List A) (x : A) → AllByRecursion P xs → P x → AllByRecursion P (xs ++ x ∷ [])
-all_push P [] x all here = (here, tt)
-all_push P (y ∷ xs) x all here = (all.0, all_push P xs x all.1 here)
-
 module _ {O P C R : Type 0} (meaning : Ghosts O P C R) where
   -- a lawful log stays so with one event more of a CPU of the cell, if it is legal and within the limit
   pub lawful_push : (h : Cell O P C R) (log : List (Event O P C R)) (e : Event O P C R) (x : History O P C R) → Lawful meaning h log → e.cpu < h.numbers → IsKept meaning x → x.params ≡ h.params → x.limit ≡ h.limit → x.log ≡ log ++ e ∷ [] → Lawful meaning h x.log
@@ -146,7 +139,7 @@ module _ {O P C R : Type 0} (meaning : Ghosts O P C R) where
         legal = subst (λ p. Legal meaning p x.log) params kept.legal;
         within = subst (λ n. length x.log ≤ n) limit kept.within;
         numbered = subst (λ l. AllByRecursion (λ (d : Event O P C R). d.cpu < h.numbers) (drop (length h.opening) l)) (sym (is ∙ whole))
-            (subst (AllByRecursion (λ (d : Event O P C R). d.cpu < h.numbers)) (sym (drop_front h.opening (since ++ e ∷ []))) (all_push (λ (d : Event O P C R). d.cpu < h.numbers) since e lawful.numbered below));
+            (subst (AllByRecursion (λ (d : Event O P C R). d.cpu < h.numbers)) (sym (drop-append_seam h.opening (since ++ e ∷ []))) (all_push (λ (d : Event O P C R). d.cpu < h.numbers) since e lawful.numbered below));
       }
 
   pub added_push : (cpu : ℕ) (a b : List (Event O P C R)) (e : Event O P C R) → e.cpu ≡ cpu → AddedBy cpu a b → AddedBy cpu a (b ++ e ∷ [])

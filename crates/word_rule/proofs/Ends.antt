@@ -1,5 +1,6 @@
 -- A new cell meets its rule, and at its end a pass with every number finds the object at home: the same at every lock.
 use Rattle.std.proofs.Common.{◌≡◌, ℕ, zero, suc, ◌+◌, ◌<◌, true≢false, List, [], ◌∷◌, refl, sym, ap, ◌∙◌, subst, arith, Option, Some}
+use Rattle.std.proofs.Math.Seq.{drop-length}
 use Rattle.std.specs.List.{AllByRecursion}
 use mathlib.Core.Logic.{dite}
 use mathlib.Core.Option.{some, some-injective, some-ne-none}
@@ -19,7 +20,7 @@ use Rattle.word_rule.specs.Rule.LockStates.{IsLockOf}
 use Rattle.word_rule.specs.Rule.CellInvariant.{GhostState, Viewed, Table, EachFrom, CallerInvariant, SeatInvariant, CellInvariant}
 use Rattle.word_rule.specs.Rule.Seats.{Seat, idle_from, first_view}
 use Rattle.word_rule.specs.Rule.Callers.{caller_of, pass_view_of, IsWithout}
-use Rattle.word_rule.proofs.Lists.{has_one, drop_self, grows_self, same_log, of_opening}
+use Rattle.word_rule.proofs.Lists.{has_one, grows_self, same_log, of_opening}
 use Rattle.word_rule.proofs.Known.{all_idle}
 use Rattle.word_rule.proofs.LockLaws.{idle_home}
 
@@ -64,7 +65,7 @@ module _ {O P C R : Type 0} (meaning : Ghosts O P C R) where
     begins = begins_self x.log;
     legal = kept.legal;
     within = kept.within;
-    numbered = subst (λ l. AllByRecursion (λ (e : Event O P C R). e.cpu < n) l) (sym (drop_self x.log)) tt;
+    numbered = subst (λ l. AllByRecursion (λ (e : Event O P C R). e.cpu < n) l) (sym (drop-length x.log)) tt;
   }
 
   -- and what it is made of is what it stores

@@ -1,5 +1,6 @@
 -- What a step may tell of the object, and of numbers that aren't the seat's: the same at every lock.
 use Rattle.std.proofs.Common.{◌≡◌, ◌≢◌, ℕ, ◌+◌, ◌<◌, true, true≢false, List, [], ◌∷◌, refl, sym, ap, ◌∙◌, subst, arith, Some}
+use Rattle.std.proofs.lemmas.Bool.{false_from_ne_true}
 use Rattle.std.proofs.lemmas.Bool.Decides.{nat_tests}
 use Rattle.std.proofs.Math.Bool.{Bool-discrete}
 use mathlib.Core.Logic.{dite}
@@ -13,7 +14,6 @@ use Rattle.word_rule.specs.Cell.{Cell, Grows, Lawful, stored}
 use Rattle.word_rule.specs.Rule.CellInvariant.{GhostState, Caller, Viewed, Table, EachFrom, CallerInvariant, SeatInvariant, CellInvariant}
 use Rattle.word_rule.specs.Rule.Seats.{Seat, settled}
 use Rattle.word_rule.specs.Rule.Announced.{any_has, Lacks, IsElse, Learns, Gets}
-use Rattle.word_rule.proofs.Lists.{false_from}
 use Rattle.word_rule.proofs.LockLaws.{in_line_below, idle_outside}
 
 -- where a caller is idle, all its numbers are
@@ -63,7 +63,7 @@ module _ {O P C R : Type 0} (meaning : Ghosts O P C R) (kind : LockKind) (h : Ce
       let l = r.state.lock in
       let below = in_line_below kind h.numbers l r.tied.state y in_line in
       record {
-        other = false_from (has y v.main.owned) (λ hy. true≢false (sym in_line ∙ idle_outside kind h.numbers l r.tied.state y below (mine.main.rests y hy ne)));
+        other = false_from_ne_true (has y v.main.owned) (λ hy. true≢false (sym in_line ∙ idle_outside kind h.numbers l r.tied.state y below (mine.main.rests y hy ne)));
         inside = λ g is. subst (λ (z : Cell O P C R). y < z.numbers) (sym (same_cell r.state id v g mine is)) below;
       }
 

@@ -15,10 +15,6 @@ use Rattle.event_log.proofs.Beginnings.{begins_self, begins_then, begins_rest}
 use Rattle.word_rule.specs.Cell.{Grows}
 use Rattle.word_rule.specs.Rule.CellInvariant.{EachFrom}
 
-pub false_from : (b : Bool) → (b ≡ true → ⊥) → b ≡ false
-false_from true f = absurd (f refl)
-false_from false f = refl
-
 pub or_none : (b : Bool) → (b || false) ≡ b
 or_none true = refl
 or_none false = refl
@@ -100,10 +96,6 @@ at_snoc_at [] a b zero e = inr (refl, some-injective a b e)
 at_snoc_at [] a b (suc j) e = absurd (some-ne-none b (sym e))
 at_snoc_at (x ∷ xs) a b zero e = inl e
 at_snoc_at (x ∷ xs) a b (suc j) e = ⊎_elim inl (λ t. inr (ap suc t.0, t.1)) (at_snoc_at xs a b j e)
-
-pub drop_self : {A : Type 0} (l : List A) → drop (length l) l ≡ []
-drop_self [] = refl
-drop_self (x ∷ xs) = drop_self xs
 
 module _ {A : Type 0} where
   -- what holds of each element of a list, with its place from `from` on, goes over

@@ -1,5 +1,6 @@
 -- What follows of where the CPUs stand at a lock, whichever lock it is.
 use Rattle.std.proofs.Common.{◌≡◌, ℕ, ◌<◌, ◌≤◌, Bool, true, false, true≢false, List, length, sym, ap, ◌∙◌, subst, Option}
+use Rattle.std.proofs.lemmas.Bool.{false_from_ne_true}
 use mathlib.Core.Option.{some, some-injective}
 use lib.ListN.{get_elem?}
 use Rattle.event_log.specs.Distinct.{has}
@@ -14,7 +15,7 @@ use Rattle.word_rule.specs.Line.{holding}
 use Rattle.word_rule.specs.Locks.{Lock, going}
 use Rattle.word_rule.specs.Rule.LockStates.{First, Stands, IsLock, IsLockOf}
 use Rattle.word_rule.specs.LockWords.{words_of, lock_words}
-use Rattle.word_rule.proofs.Lists.{has_at, below_of, there_is, false_from}
+use Rattle.word_rule.proofs.Lists.{has_at, below_of, there_is}
 use Rattle.word_rule.proofs.Stays.{each_moved}
 
 -- the words of a lock are its words, whichever way its kind is told
@@ -63,7 +64,7 @@ module _ (k : LockKind) (n : ℕ) (l : Lock) (h : IsLock k n l) where
 
   -- where all are idle the object is at home
   pub idle_home : ((x : ℕ) → x < n → l.line.stage x ≡ Idle) → l.line.out ≡ false
-  idle_home all = false_from l.line.out (λ o.
+  idle_home all = false_from_ne_true l.line.out (λ o.
       let t = there_is l.line.cpus 0 (h.busy o) in
       let below = in_cell 0 t.0 t.1 in
       true≢false (sym (has_at l.line.cpus 0 t.0 t.1) ∙ idle_outside t.0 below (all t.0 below)))

@@ -1,5 +1,6 @@
 -- An MCS lock's turns: each leaves a state of the lock, and words that are the state's.
 use Rattle.std.proofs.Common.{◌≡◌, ◌≢◌, ℕ, suc, ◌+◌, ◌*◌, ◌<◌, ◌≤◌, ◌&&◌, not, Bool, true, false, true≢false, cond, eq-eqb, ne_eqb, List, [], ◌∷◌, ◌++◌, length, replicate, get_or, set, refl, sym, ap, ◌∙◌, subst, arith, Option, Some, None}
+use Rattle.std.proofs.lemmas.Bool.{false_from_ne_true}
 use Rattle.std.proofs.lemmas.List.{get_or-replicate, length-replicate}
 use mathlib.Core.Option.{some}
 use lib.ListN.{get_elem?}
@@ -13,7 +14,7 @@ use Rattle.word_rule.specs.Locks.{Lock, is_linked, last, behind, is_named, follo
 use Rattle.word_rule.specs.Rule.LockStates.{IsLock, IsLockOf}
 use Rattle.word_rule.specs.LockWords.{word_of, is_armed, locked_by, locked_at}
 use Rattle.word_rule.specs.Turns.{clear, arm, link, pass, turn, turn_of, mcs_turn}
-use Rattle.word_rule.proofs.Lists.{one_place, false_from}
+use Rattle.word_rule.proofs.Lists.{one_place}
 use Rattle.word_rule.proofs.LockLaws.{stands_at, in_cell, torn}
 use Rattle.word_rule.proofs.McsWords as words
 use Rattle.word_rule.proofs.QueueTurns as queue
@@ -118,7 +119,7 @@ module _ (n : ℕ) (ws : List ℕ) (l : Lock) (h : IsLockOf kinds.Mcs n ws l) wh
 
     -- one behind another isn't the first
     not_first : (p at : ℕ) → get_elem? l.line.cpus (suc at) ≡ some i → is_first i l.line.cpus ≡ false
-    not_first p at there = false_from (is_first i l.line.cpus) (λ first. let k = one_place n l.line.cpus h.state.distinct (suc at) 0 i there (first_at i l.line.cpus first) in absurd (omega (arith, k)))
+    not_first p at there = false_from_ne_true (is_first i l.line.cpus) (λ first. let k = one_place n l.line.cpus h.state.distinct (suc at) 0 i there (first_at i l.line.cpus first) in absurd (omega (arith, k)))
 
     pub arms : (p : ℕ) → l.line.stage i ≡ Mcs (Behind p) → IsLockOf kinds.Mcs n (set ws (1 + n + i) 1) (arm l i p)
     arms p e =
@@ -149,7 +150,7 @@ module _ (n : ℕ) (ws : List ℕ) (l : Lock) (h : IsLockOf kinds.Mcs n ws l) wh
         by false e = absurd (let z : 1 ≡ 0 = e in omega (arith, z))
 
     pub locked_behind : l.line.stage i ≡ Mcs Waiting → get_or ws (1 + n + i) 0 ≢ 0 → is_first i l.line.cpus ≡ false
-    locked_behind e some_one = false_from (is_first i l.line.cpus) (λ first. some_one (waits_word e ∙ ap (λ z. cond (not z) 1 0) first))
+    locked_behind e some_one = false_from_ne_true (is_first i l.line.cpus) (λ first. some_one (waits_word e ∙ ap (λ z. cond (not z) 1 0) first))
 
     pub gets : l.line.stage i ≡ Mcs Waiting → is_first i l.line.cpus ≡ true → IsLockOf kinds.Mcs n ws (record l { line = taking l.line i (Mcs Holding) })
     gets e first = read (record l { line = taking l.line i (Mcs Holding) }) refl (queue.gets n l h.state i below e first) refl refl

@@ -2,7 +2,7 @@
 use Rattle.std.proofs.Common.{◌≡◌, ℕ, zero, suc, ◌+◌, ◌<◌, ◌≤◌, List, [], ◌∷◌, ◌++◌, length, drop, take, get_or, slice_get, Vec, Option, Some, None, refl, sym, ap, ◌∙◌, subst, arith, add-one}
 use Rattle.std.specs.List.{AllByRecursion, AllZip}
 use Rattle.std.specs.declared.alloc.Global.{Global}
-use Rattle.std.proofs.lemmas.List.{length-map}
+use Rattle.std.proofs.lemmas.List.{length-map, take_more as one_more}
 use Rattle.std.proofs.lemmas.Slice.Zip.{AllZip-long}
 use Rattle.event_log.specs.declared.object.SeqObject.{Ghosts}
 use Rattle.event_log.specs.declared.entry.Todo.{Todo}
@@ -124,11 +124,6 @@ zip_push R [] (b ∷ ys) x y z r = absurd z
 zip_push R (a ∷ xs) [] x y z r = absurd z
 zip_push R (a ∷ xs) (b ∷ ys) x y z r = (z.0, zip_push R xs ys x y z.1 r)
 
-take_suc : {X : Type 0} (xs : List X) (k : ℕ) (x : X) → k < length xs → x ≡ get_or xs k x → take (suc k) xs ≡ take k xs ++ x ∷ []
-take_suc [] k x lt e = absurd (omega (arith, lt))
-take_suc (y ∷ xs) zero x lt e = ap (λ z. z ∷ []) (sym e)
-take_suc (y ∷ xs) (suc k) x lt e = ap (λ l. y ∷ l) (take_suc xs k x (omega (arith, lt)) e)
-
 -- one element more of a list
 pub take_more : {X : Type 0} (xs : List X) (k : ℕ) (x : X) → k < length xs → x ≡ get_or xs k x → take (k + 1) xs ≡ take k xs ++ x ∷ []
-take_more xs k x lt e = ap (λ n. take n xs) (add-one k) ∙ take_suc xs k x lt e
+take_more xs k x lt e = one_more xs k x lt ∙ ap (λ z. take k xs ++ z ∷ []) (sym e)

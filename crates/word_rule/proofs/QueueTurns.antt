@@ -1,5 +1,6 @@
 -- An MCS lock's turns, apart from words: each leaves a state of the lock.
 use Rattle.std.proofs.Common.{◌≡◌, ◌≢◌, inl, ⊎_elim, ℕ, zero, suc, ◌<◌, Bool, true, false, true≢false, cond, eq-eqb, List, [], ◌∷◌, ◌++◌, length, refl, sym, ap, ◌∙◌, subst, arith, length-append, Option, Some, None}
+use Rattle.std.proofs.lemmas.Bool.{false_from_ne_true}
 use mathlib.Core.Logic.{dite}
 use mathlib.Core.Option.{some, some-injective, some-ne-none}
 use native.Mathlib.Decide.{ℕ_discrete}
@@ -15,7 +16,7 @@ use Rattle.word_rule.specs.Line.{holding, is_first, lined}
 use Rattle.word_rule.specs.Locks.{Lock, last, last_from, is_named, second, behind, if_linked, is_linked, follower, going, joining, taking, leaving, naming}
 use Rattle.word_rule.specs.Rule.LockStates.{First, Follows, Stands, IsLock}
 use Rattle.word_rule.specs.Turns.{clear, arm, link, pass}
-use Rattle.word_rule.proofs.Lists.{has_at, at_below, one_place, one_at, not_at, there_is, two_are, one_is, false_from}
+use Rattle.word_rule.proofs.Lists.{has_at, at_below, one_place, one_at, not_at, there_is, two_are, one_is}
 use Rattle.word_rule.proofs.LockLaws.{stands_at, first_holds, in_cell, idle_outside, restaged}
 use Rattle.word_rule.proofs.QueueStands.{naming_same, naming_else, none_some, other_next, longer_queue, first_queue, taken_by, emptied_by, passed_by, stands_in}
 use Rattle.word_rule.proofs.Stays.{each_moved}
@@ -103,7 +104,7 @@ module _ (n : ℕ) (l : Lock) (h : IsLock kinds.Mcs n l) where
 
     -- where nobody is last, the object is at home
     pub nobody_home : last l.line.cpus ≡ None → l.line.out ≡ false
-    nobody_home none = false_from l.line.out (λ o. let some_one = h.busy o in let long : length l.line.cpus ≡ 0 = ap length (no_last l.line.cpus none) in absurd (omega arith))
+    nobody_home none = false_from_ne_true l.line.out (λ o. let some_one = h.busy o in let long : length l.line.cpus ≡ 0 = ap length (no_last l.line.cpus none) in absurd (omega arith))
 
     pub enters_first : l.line.stage i ≡ Mcs Ready → last l.line.cpus ≡ None → IsLock kinds.Mcs n (record l { line = lined (i ∷ []) true l.line.stage i (Mcs Holding) })
     enters_first e none =

@@ -1,5 +1,6 @@
 -- What is kept of a lock shows it after each step, too.
 use Rattle.std.proofs.Common.{◌≡◌, ◌≢◌, ℕ, ◌+◌, ◌*◌, ◌%◌, ◌<◌, ◌≤◌, true, false, List, length, get_or, set, refl, sym, ap, ◌∙◌, subst, arith, get_or-set_other, get_or-set_same, length-set, Some, None}
+use Rattle.std.proofs.lemmas.Bool.{false_from_ne_true}
 use mathlib.Core.Logic.{dite}
 use native.Mathlib.Decide.{ℕ_discrete}
 use Rattle.word_rule.specs.declared.lock_kind.LockKind.{LockKind}
@@ -14,7 +15,6 @@ use Rattle.word_rule.specs.Line.{moved, holding, is_first}
 use Rattle.word_rule.specs.Locks.{Lock, follower, going, taking, leaving, tickets}
 use Rattle.word_rule.specs.Rule.LockStates.{IsLockOf, RepresentsLock}
 use Rattle.word_rule.specs.Turns.{draw, serve, clear, enter, arm, link, see, pass, ticket_turn, mcs_turn, turn}
-use Rattle.word_rule.proofs.Lists.{false_from}
 use Rattle.word_rule.proofs.McsTurns as mcs
 use Rattle.word_rule.proofs.QueueTurns as queue
 use Rattle.word_rule.proofs.Stays.{moved_same, moved_else}
@@ -71,7 +71,7 @@ module _ (n : ℕ) (ws : List ℕ) (stages : List Stage) (l : Lock) (h : Represe
   pub lost : (t : ℕ) → get_or stages i Idle ≡ Ticket (Drawn t) → get_or ws 1 0 ≢ t → AfterTicket ws stages (steps.Look false)
   lost t e other =
       let p = stood (Ticket (Drawn t)) e in
-      same n kinds.Ticket ws stages l h i below (steps.Look false) (turn_at (Ticket (Drawn t)) e ∙ ticket.misses l i t (false_from (is_first i l.line.cpus) (λ f. other (ticket.first_hit n ws l h.tied i below t p f))))
+      same n kinds.Ticket ws stages l h i below (steps.Look false) (turn_at (Ticket (Drawn t)) e ∙ ticket.misses l i t (false_from_ne_true (is_first i l.line.cpus) (λ f. other (ticket.first_hit n ws l h.tied i below t p f))))
 
   pub served : (t : ℕ) → get_or stages i Idle ≡ Ticket (Served t) → AfterTicket (set ws 1 ((get_or ws 1 0 + 1) % tickets)) (set stages i Idle) steps.Serve
   served t e = became n kinds.Ticket ws stages l h i below _ Idle Idle (serve l i, steps.Serve) (turn_at (Ticket (Served t)) e) (ticket.serves n ws l h.tied i below t (stood (Ticket (Served t)) e)) refl refl

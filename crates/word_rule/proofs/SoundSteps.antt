@@ -23,14 +23,9 @@ use Rattle.word_rule.specs.Turns.{turn, ends_hold}
 use Rattle.word_rule.specs.Sound.{LogIsSound, Answers, NoneAfterFull, done_on, steps_by}
 use Rattle.word_rule.specs.Machine.World.{World, CellState, CpuState, with_done, entry_of, left, finished, counted, outcome, world_after, step_on, step_of, step_by, step, run}
 use Rattle.word_rule.specs.Machine.SoundWorld.{IsTodo, entries_of, entries_by, IsAnswer, SoundWorld}
-use Rattle.word_rule.proofs.Acting.{all_push}
+use Rattle.event_log.proofs.Each.{all_map, all_push}
 use Rattle.word_rule.proofs.Entries.{done_append, done_here, done_elsewhere, done_without, steps_push, steps_other, full_push}
 use Rattle.word_rule.proofs.Slices.{get_set_same, get_set_other, one_of}
-
--- what holds of each element, and from which another follows
-pub all_map : {X : Type 0} {Q S : X → Type 0} → ((x : X) → Q x → S x) → (xs : List X) → AllByRecursion Q xs → AllByRecursion S xs
-all_map f [] h = tt
-all_map f (x ∷ xs) h = (f x h.0, all_map f xs h.1)
 
 module _ {O P C R : Type 0} (meaning : Ghosts O P C R) where
   -- what a CPU's step on a cell leaves, of the cell and of the CPU

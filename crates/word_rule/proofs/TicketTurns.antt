@@ -1,5 +1,6 @@
 -- A ticket lock's turns: each leaves a state of the lock, and words that are the state's.
 use Rattle.std.proofs.Common.{◌≡◌, ◌≢◌, ℕ, zero, suc, ◌+◌, ◌%◌, ◌<◌, ◌≤◌, Bool, true, false, true≢false, cond, List, [], ◌∷◌, ◌++◌, length, get_or, set, refl, sym, ap, ◌∙◌, subst, arith, length-append, eq-eqb, Option}
+use Rattle.std.proofs.lemmas.Bool.{false_from_ne_true}
 use Rattle.std.proofs.lemmas.Bool.{eqb-true}
 use Rattle.std.proofs.Math.Nat.{mod-add-mod, mod-lt, mod-eq_of_lt}
 use mathlib.Core.Option.{some, some-injective}
@@ -16,7 +17,7 @@ use Rattle.word_rule.specs.Line.{holding, is_first}
 use Rattle.word_rule.specs.Locks.{Lock, behind, taking, tickets, opening_lock}
 use Rattle.word_rule.specs.Rule.LockStates.{Waits, Stands, IsLockOf}
 use Rattle.word_rule.specs.Turns.{draw, serve, turn, turn_of, ticket_turn}
-use Rattle.word_rule.proofs.Lists.{has_tail, at_below, first_is, one_place, false_from}
+use Rattle.word_rule.proofs.Lists.{has_tail, at_below, first_is, one_place}
 use Rattle.word_rule.proofs.LockLaws.{stands_at, first_holds, idle_outside, line_fits}
 use Rattle.word_rule.proofs.Stays.{each_moved}
 
@@ -86,7 +87,7 @@ module _ (n : ℕ) (ws : List ℕ) (l : Lock) (h : IsLockOf kinds.Ticket n ws l)
           distinct = distinct_push n l.line.cpus i h.state.distinct below (absent e);
           busy = λ _. omega arith;
           stood = each_moved l.line.stage (λ x q. Stands (l.line.cpus ++ i ∷ []) l.line.out x kinds.Ticket l.serving l.next q) n i (Ticket (Drawn ((l.serving + length l.line.cpus) % tickets)))
-              (record { at = length l.line.cpus; there = at_last l.line.cpus i (length l.line.cpus) refl; drawn = refl; home = λ e. false_from l.line.out (λ o. let f = h.state.busy o in omega arith) })
+              (record { at = length l.line.cpus; there = at_last l.line.cpus i (length l.line.cpus) refl; drawn = refl; home = λ e. false_from_ne_true l.line.out (λ o. let f = h.state.busy o in omega arith) })
               (λ x in_cell ne. stands_longer l.next l.line.cpus l.line.out l.serving x i ne (l.line.stage x) (h.state.stood x in_cell));
           own = h.state.own;
         };
