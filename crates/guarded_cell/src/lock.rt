@@ -33,6 +33,10 @@ impl<O: SeqObject> LockCell<O> for AnyCell<O> {
         hold.apply(calls)
     }
 
+    fn call(hold: &mut Hold<O>, call: &O::Call) -> Result<O::Reply, NoRoom> {
+        hold.call(call)
+    }
+
     fn logged(hold: &Hold<O>) -> &Logged<O> {
         &hold.logged
     }

@@ -12,7 +12,6 @@ use crate::cell::AnyCell;
 use crate::groups::{MOST_GROUPS, do_groups};
 use arrayvec::ArrayVec;
 use event_log::{MOST_CALLS, NoRoom, SeqObject, Steps};
-use std::slice;
 use std::sync::Wait;
 use word_rule::LockCell;
 
@@ -51,11 +50,10 @@ pub fn call<O: SeqObject, C: LockCell<O>, R: Wait>(
     ensures answered { IfOk result.1 (λ r. IsAnswered O.SeqObject (C.pass_view pass) (call.now ∷ []) (one_step call.now r) (C.pass_view result.0)) }
     ensures refused { OnErr result.1 (IsRefused O.SeqObject (C.pass_view pass) (C.pass_view result.0)) }
 {
-    let (pass, done, looks) = batch(rt, cell, pass, slice::from_ref(call));
-    match done {
-        Ok(steps) => (pass, Ok(steps.only_reply(call)), looks),
-        Err(NoRoom) => (pass, Err(NoRoom), looks),
-    }
+    let (mut hold, looks) = cell.acquire(rt, pass);
+    let done = C::call(&mut hold, call);
+    let pass = cell.release(rt, hold);
+    (pass, done, looks)
 }
 
 /// Does 1 to 8 groups of 1 to 8 calls each under one hold: one event for each group, and nobody's event between them. At

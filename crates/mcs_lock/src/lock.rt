@@ -29,6 +29,10 @@ impl<O: SeqObject> LockCell<O> for McsCell<O> {
         hold.apply(calls)
     }
 
+    fn call(hold: &mut Hold<O>, call: &O::Call) -> Result<O::Reply, NoRoom> {
+        hold.call(call)
+    }
+
     fn logged(hold: &Hold<O>) -> &Logged<O> {
         &hold.logged
     }

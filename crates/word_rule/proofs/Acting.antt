@@ -10,7 +10,7 @@ use Rattle.event_log.specs.declared.object.SeqObject.{Ghosts}
 use Rattle.event_log.specs.declared.event.Event.{Event}
 use Rattle.event_log.specs.declared.event.Steps.{Steps}
 use Rattle.event_log.specs.Distinct.{has}
-use Rattle.event_log.specs.Log.{Begins, Legal, after, replay}
+use Rattle.event_log.specs.Log.{Begins, Legal, after, one_step, replay}
 use Rattle.event_log.specs.History.{History, IsKept, with_event}
 use Rattle.event_log.proofs.Each.{all_push}
 use Rattle.event_log.proofs.Beginnings.{begins_self, begins_more, begins_rest}
@@ -167,6 +167,12 @@ module _ {O P C R : Type 0} (meaning : Ghosts O P C R) where
           replayed = λ i. record { params = params i; limit = limit i; log = y.log; state = (kept.replayed ∙ ap (λ q. replay meaning q y.log) params) i };
         };
       }
+
+  -- the same of one call
+  pub applied_one : {X : Type 0} (h : Cell O P C R) (cpu : ℕ) (p : Stage) (x y : History O P C R) (m : Seat O P C R) (c : C) (r : Result R X) → IsWith meaning h cpu p x m → IsKept meaning y
+      → IfOk r (λ v. y ≡ with_event x (record { cpu = cpu; steps = one_step c v }) (meaning.answer x.state c).0) → OnErr r (y ≡ x) → IsWith meaning h cpu p y m
+  applied_one {X} h cpu p x y m c (Err e) w kept next same = applied {X = X} h cpu p x y m (Err e) w kept tt same
+  applied_one {X} h cpu p x y m c (Ok v) w kept next same = applied {X = X} h cpu p x y m (Ok (one_step c v)) w kept next tt
 
 -- two seats, joined, at a step of the first, and split again
 module _ {O P C R : Type 0} where

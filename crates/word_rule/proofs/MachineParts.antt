@@ -5,7 +5,7 @@ use Rattle.std.proofs.lemmas.List.Elements.{filter-append}
 use Rattle.event_log.specs.declared.object.SeqObject.{Ghosts}
 use Rattle.event_log.specs.declared.event.Steps.{Steps}
 use Rattle.event_log.specs.declared.event.Event.{Event}
-use Rattle.event_log.specs.Log.{Begins, Fulfils, of, after as after_steps}
+use Rattle.event_log.specs.Log.{Begins, Fulfils, of, after as after_steps, one_step}
 use Rattle.event_log.specs.History.{with_event}
 use Rattle.event_log.proofs.Beginnings.{begins_more}
 use Rattle.word_rule.specs.Cell.{PassView, HoldView, Grows, Lawful, IsPassView, IsHoldView}
@@ -58,3 +58,10 @@ module _ {O P C R : Type 0} (meaning : Ghosts O P C R) where
         → IfOk r (λ s. IsAnswered meaning before cs s after) × OnErr r (IsRefused meaning before after)
     did cs (Ok s) asked room next kept = (answered cs s _ asked next, tt)
     did cs (Err e) asked room next kept = (tt, refused kept (room.0 refl))
+
+    -- the same of one call
+    pub did_one : {X : Type 0} (c : C) (r : Result R X) → (IsErr r ↔ (length h.history.log ≡ h.history.limit))
+        → IfOk r (λ v. k.history ≡ with_event h.history (record { cpu = h.caller.acting; steps = one_step c v }) (meaning.answer h.history.state c).0) → OnErr r (k ≡ h)
+        → IfOk r (λ v. IsAnswered meaning before (c ∷ []) (one_step c v) after) × OnErr r (IsRefused meaning before after)
+    did_one c (Ok v) room next kept = (answered (c ∷ []) (one_step c v) _ (record { beginning = record { start = refl }; whole = λ _. refl }) next, tt)
+    did_one c (Err e) room next kept = (tt, refused kept (room.0 refl))

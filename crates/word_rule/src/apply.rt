@@ -2,7 +2,7 @@
 
 ghost use Rattle.std.specs.Prelude.{◌≡◌, ◌≤◌, ◌<◌, ◌↔◌, length, IsErr, IfOk, OnErr};
 ghost use Rattle.event_log.specs.History.{with_event};
-ghost use Rattle.event_log.specs.Log.{answers, after, Fulfils};
+ghost use Rattle.event_log.specs.Log.{answers, after, one_step, Fulfils};
 ghost use Rattle.word_rule.specs.Passes.{view_of_hold};
 
 use crate::Hold;
@@ -23,5 +23,19 @@ impl<O: SeqObject> Hold<O> {
         ensures full { OnErr result (view_of_hold self.new ≡ view_of_hold self.old) }
     {
         self.logged.apply(self.cpu, calls)
+    }
+
+    /// Does a call as one event of the acting CPU. It takes no memory.
+    #[inline]
+    pub fn call(&mut self, call: &O::Call) -> Result<O::Reply, NoRoom>
+        ensures table { (self.new.seat.table_id ≡ self.old.seat.table_id) × (self.new.key.value ≡ self.old.key.value) }
+        ensures stage { self.new.stage ≡ self.old.stage }
+        ensures caller { (view_of_hold self.new).caller ≡ (view_of_hold self.old).caller }
+        ensures room { IsErr result ↔ (length (view_of_hold self.old).history.log ≡ (view_of_hold self.old).history.limit) }
+        ensures reply { IfOk result (λ r. r ≡ (O.answer (view_of_hold self.old).history.state call.now).1) }
+        ensures after { IfOk result (λ r. (view_of_hold self.new).history ≡ with_event (view_of_hold self.old).history (record { cpu = (view_of_hold self.old).caller.acting; steps = one_step call.now r }) (O.answer (view_of_hold self.old).history.state call.now).0) }
+        ensures full { OnErr result (view_of_hold self.new ≡ view_of_hold self.old) }
+    {
+        self.logged.call(self.cpu, call)
     }
 }

@@ -1,7 +1,7 @@
 //! The interface of a cell behind a lock.
 
 ghost use Rattle.std.specs.Prelude.{◌≡◌, ◌<◌, ◌≤◌, ◌↔◌, ◌||◌, ℕ, min, length, IsErr, IfOk, OnErr};
-ghost use Rattle.event_log.specs.Log.{answers, after, Fulfils};
+ghost use Rattle.event_log.specs.Log.{answers, after, one_step, Fulfils};
 ghost use Rattle.event_log.specs.History.{with_event};
 ghost use Rattle.word_rule.specs.Cell.{PassView, HoldView, Grows, IsPassView, IsHoldView, OwnsAll, stored};
 
@@ -47,6 +47,15 @@ pub trait LockCell<O: SeqObject> {
         ensures steps { IfOk result (λ s. s.list.items ≡ answers O.SeqObject (hold_view hold.old).history.state calls.now) }
         ensures asked { IfOk result (λ s. Fulfils O.SeqObject calls.now s.list.items) }
         ensures after { IfOk result (λ s. (hold_view hold.new).history ≡ with_event (hold_view hold.old).history (record { cpu = (hold_view hold.old).caller.acting; steps = s }) (after O.SeqObject (hold_view hold.old).history.state s.list.items)) }
+        ensures full { OnErr result (hold_view hold.new ≡ hold_view hold.old) };
+
+    /// Does a call as one event of the acting CPU, as `apply` does with the call alone. It takes no memory.
+    fn call(hold: &mut Self::Hold, call: &O::Call) -> Result<O::Reply, NoRoom>
+        ensures hold { (cell : Self) → is_hold_of cell hold.old → is_hold_of cell hold.new }
+        ensures caller { (hold_view hold.new).caller ≡ (hold_view hold.old).caller }
+        ensures room { IsErr result ↔ (length (hold_view hold.old).history.log ≡ (hold_view hold.old).history.limit) }
+        ensures reply { IfOk result (λ r. r ≡ (O.answer (hold_view hold.old).history.state call.now).1) }
+        ensures after { IfOk result (λ r. (hold_view hold.new).history ≡ with_event (hold_view hold.old).history (record { cpu = (hold_view hold.old).caller.acting; steps = one_step call.now r }) (O.answer (hold_view hold.old).history.state call.now).0) }
         ensures full { OnErr result (hold_view hold.new ≡ hold_view hold.old) };
 
     /// The object with its log.
