@@ -33,8 +33,8 @@ impl<O: SeqObject> LockCell<O> for AnyCell<O> {
         hold.apply(calls)
     }
 
-    fn call(hold: &mut Hold<O>, call: &O::Call) -> Result<O::Reply, NoRoom> {
-        hold.call(call)
+    fn apply_one(hold: &mut Hold<O>, call: &O::Call) -> Result<O::Reply, NoRoom> {
+        hold.apply_one(call)
     }
 
     fn logged(hold: &Hold<O>) -> &Logged<O> {

@@ -51,7 +51,7 @@ pub fn call<O: SeqObject, C: LockCell<O>, R: Wait>(
     ensures refused { OnErr result.1 (IsRefused O.SeqObject (C.pass_view pass) (C.pass_view result.0)) }
 {
     let (mut hold, looks) = cell.acquire(rt, pass);
-    let done = C::call(&mut hold, call);
+    let done = C::apply_one(&mut hold, call);
     let pass = cell.release(rt, hold);
     (pass, done, looks)
 }

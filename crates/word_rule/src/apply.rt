@@ -27,7 +27,7 @@ impl<O: SeqObject> Hold<O> {
 
     /// Does a call as one event of the acting CPU. It takes no memory.
     #[inline]
-    pub fn call(&mut self, call: &O::Call) -> Result<O::Reply, NoRoom>
+    pub fn apply_one(&mut self, call: &O::Call) -> Result<O::Reply, NoRoom>
         ensures table { (self.new.seat.table_id ≡ self.old.seat.table_id) × (self.new.key.value ≡ self.old.key.value) }
         ensures stage { self.new.stage ≡ self.old.stage }
         ensures caller { (view_of_hold self.new).caller ≡ (view_of_hold self.old).caller }

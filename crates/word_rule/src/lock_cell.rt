@@ -50,7 +50,7 @@ pub trait LockCell<O: SeqObject> {
         ensures full { OnErr result (hold_view hold.new ≡ hold_view hold.old) };
 
     /// Does a call as one event of the acting CPU, as `apply` does with the call alone. It takes no memory.
-    fn call(hold: &mut Self::Hold, call: &O::Call) -> Result<O::Reply, NoRoom>
+    fn apply_one(hold: &mut Self::Hold, call: &O::Call) -> Result<O::Reply, NoRoom>
         ensures hold { (cell : Self) → is_hold_of cell hold.old → is_hold_of cell hold.new }
         ensures caller { (hold_view hold.new).caller ≡ (hold_view hold.old).caller }
         ensures room { IsErr result ↔ (length (hold_view hold.old).history.log ≡ (hold_view hold.old).history.limit) }

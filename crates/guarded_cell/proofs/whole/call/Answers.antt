@@ -4,7 +4,7 @@ use Rattle.guarded_cell.proofs.whole.call.Goals as goal
 pub returns-clause-answered : goal.returns-clause-answered
 returns-clause-answered g c =
     let h = c.acquire-hold in
-    let a = c.call-done in
+    let a = c.apply_one-done in
     let r = c.release-pass in
     (did_one g.O.SeqObject (g.C.LockCell.pass_view c.args.pass) (g.C.LockCell.pass_view r.result) (g.C.LockCell.hold_view h.result.0) (g.C.LockCell.hold_view a.new.hold) (g.met.C.LockCell.hold_is_lawful c.args.cell.now h.result.0 h.ensures.hold)
     h.ensures.caller h.ensures.grows a.ensures.caller r.ensures.caller r.ensures.seen (g.met.C.LockCell.pass_is_lawful c.args.cell.now r.result r.ensures.pass) c.args.call.now a.result a.ensures.room a.ensures.after a.ensures.full).0
@@ -12,7 +12,7 @@ returns-clause-answered g c =
 pub returns-clause-refused : goal.returns-clause-refused
 returns-clause-refused g c =
     let h = c.acquire-hold in
-    let a = c.call-done in
+    let a = c.apply_one-done in
     let r = c.release-pass in
     (did_one g.O.SeqObject (g.C.LockCell.pass_view c.args.pass) (g.C.LockCell.pass_view r.result) (g.C.LockCell.hold_view h.result.0) (g.C.LockCell.hold_view a.new.hold) (g.met.C.LockCell.hold_is_lawful c.args.cell.now h.result.0 h.ensures.hold)
     h.ensures.caller h.ensures.grows a.ensures.caller r.ensures.caller r.ensures.seen (g.met.C.LockCell.pass_is_lawful c.args.cell.now r.result r.ensures.pass) c.args.call.now a.result a.ensures.room a.ensures.after a.ensures.full).1

@@ -1,5 +1,5 @@
 use Rattle.word_rule.proofs.Acting.{applied_one}
-use Rattle.word_rule.proofs.hold.Hold.call.Goals as goal
+use Rattle.word_rule.proofs.hold.Hold.apply_one.Goals as goal
 
 pub invariant_of-self : goal.invariant_of-self
 invariant_of-self g c = let h = c.args.self.now in let e = c.call.ensures in
