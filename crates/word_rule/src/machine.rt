@@ -22,12 +22,12 @@ mod step_done;
 mod tests;
 mod ticket;
 
+use crate::MOST_CPUS;
 use crate::machine::hold::count_step;
 use crate::machine::lock_words::LockWords;
 use crate::machine::progress::Progress;
 use crate::machine::recorded::{all_logs, all_transcripts};
 use crate::machine::room::{Room, make_room};
-use crate::MOST_CPUS;
 pub use cell_spec::CellSpec;
 use event_log::{Entry, Event, OutOfMemory, Run, SeqObject, Series, Todo};
 pub use law::{first_come, idle_when_done, one_holder, sound_runs};

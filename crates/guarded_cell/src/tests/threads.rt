@@ -11,11 +11,10 @@ use event_log::{Logged, SeqObject};
 use mcs_lock::McsCell;
 use shared_queue::{QueueCall as Call, ThreadQueue};
 use std::alloc::Global;
-use std::slice;
 use std::sync::Wait;
 use std::test::Fail;
-use std::thread;
 use std::thread::Threads;
+use std::{slice, thread};
 use ticket_lock::TicketCell;
 use word_rule::{LockCell, LockKind};
 

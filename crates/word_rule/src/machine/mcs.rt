@@ -30,12 +30,7 @@ pub fn turn_mcs(words: &mut [u64], stages: &mut [Stage], cpu: u8) -> StepDone
 }
 
 /// The next step of a CPU that has begun.
-fn turn_in_queue(
-    words: &mut [u64],
-    stages: &mut [Stage],
-    cpu: u8,
-    stage: McsStage,
-) -> StepDone
+fn turn_in_queue(words: &mut [u64], stages: &mut [Stage], cpu: u8, stage: McsStage) -> StepDone
     requires shows { (l : Lock) × RepresentsLock (length stages.old) LockKind.Mcs words.old stages.old l }
     requires exists { cpu < length stages.old }
     requires few { length stages.old ≤ MOST_CPUS }

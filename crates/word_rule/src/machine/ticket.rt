@@ -29,12 +29,7 @@ pub fn turn_ticket(words: &mut [u64], stages: &mut [Stage], cpu: u8) -> StepDone
 }
 
 /// The next step of a CPU that has a ticket.
-fn turn_in_line(
-    words: &mut [u64],
-    stages: &mut [Stage],
-    cpu: u8,
-    stage: TicketStage,
-) -> StepDone
+fn turn_in_line(words: &mut [u64], stages: &mut [Stage], cpu: u8, stage: TicketStage) -> StepDone
     requires shows { (l : Lock) × RepresentsLock (length stages.old) LockKind.Ticket words.old stages.old l }
     requires exists { cpu < length stages.old }
     requires stands { slice_index_or stages.old cpu Stage.Idle ≡ Stage.Ticket stage }
