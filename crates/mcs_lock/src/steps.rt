@@ -10,7 +10,7 @@ use crate::cell::McsCell;
 use crate::rule::{Arm, Clear, Empty, Enter, Link, Look, PassOn, See, SeeAgain};
 use crate::states::{Alone, Armed, Behind, Entered, Leaving, Passing, Ready, Waiting};
 use event_log::SeqObject;
-use word_rule::{Hold, McsStage, Pass, Stage};
+use word_rule::{Hold, Pass};
 
 impl<O: SeqObject> McsCell<O> {
     /// Clears its `next`: one store.
@@ -37,7 +37,6 @@ impl<O: SeqObject> McsCell<O> {
             let (logged, lent) = self.table.take(&mut seat);
             Entered::Hold(Hold {
                 cpu,
-                stage: Stage::Mcs(McsStage::Holding),
                 logged,
                 lent,
                 key,
@@ -107,7 +106,6 @@ impl<O: SeqObject> McsCell<O> {
             let (logged, lent) = self.table.take(&mut seat);
             Ok(Hold {
                 cpu,
-                stage: Stage::Mcs(McsStage::Holding),
                 logged,
                 lent,
                 key,
@@ -126,7 +124,6 @@ impl<O: SeqObject> McsCell<O> {
     {
         let Hold {
             cpu,
-            stage: _,
             logged,
             lent,
             key,

@@ -14,7 +14,7 @@ use crate::states::{Behind, Entered, Leaving, Passing, Waiting};
 use crossbeam_utils::Backoff;
 use event_log::SeqObject;
 use std::sync::Wait;
-use word_rule::{Hold, McsStage, Pass, Stage};
+use word_rule::{Hold, Pass};
 
 impl<O: SeqObject> McsCell<O> {
     /// Enters, and where another is before it looks until it gets the object. The number is that of the looks.
@@ -120,7 +120,6 @@ impl<O: SeqObject> McsCell<O> {
         (
             Hold {
                 cpu,
-                stage: Stage::Mcs(McsStage::Holding),
                 logged,
                 lent,
                 key,

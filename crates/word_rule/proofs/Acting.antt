@@ -48,17 +48,17 @@ module _ {O P C R : Type 0} (meaning : Ghosts O P C R) where
     pass_view = record { caller = w.pass_view.caller; lawful = lawful };
   }
 
-  -- it has the object
-  pub holds_now : (h : Cell O P C R) (cpu : ℕ) (p q : Stage) (x : History O P C R) (m m' : Seat O P C R) → IsWithout meaning h cpu p m → Lawful meaning h x.log → x ≡ stored meaning h x.log → m' ≡ (settled m.0 q x.log, (0, None) ∷ []) → IsWith meaning h cpu q x m'
-  holds_now h cpu p q x m m' w lawful is e = subst (IsWith meaning h cpu q x) (sym e) record {
+  -- it has the object, and stands where its seat says
+  pub holds_now : (h : Cell O P C R) (cpu : ℕ) (p q : Stage) (x : History O P C R) (m m' : Seat O P C R) → IsWithout meaning h cpu p m → Lawful meaning h x.log → x ≡ stored meaning h x.log → m' ≡ (settled m.0 q x.log, (0, None) ∷ []) → IsWith meaning h cpu m'.0.main.stage x m'
+  holds_now h cpu p q x m m' w lawful is e = subst (λ z. IsWith meaning h cpu z.0.main.stage x z) (sym e) record {
     at = stands_settled h cpu p q x.log [] ((0, None) ∷ []) m w.at;
     added = record { begins = begins_self x.log; others = λ _ _. refl };
     hold_view = record { caller = w.pass_view.caller; lawful = lawful; replayed = is };
   }
 
   pub takes_now : (h : Cell O P C R) (p q : Stage) (x : History O P C R) (m m' : Seat O P C R) → Grows (caller_of h m.0).owned m.0.main.seen x.log → Lawful meaning h x.log → x ≡ stored meaning h x.log → m' ≡ (settled m.0 q x.log, (0, None) ∷ [])
-      → Takes meaning p q (state_without h p m) (state_with h q x m')
-  takes_now h p q x m m' grows lawful is e = subst (λ z. Takes meaning p q (state_without h p m) (state_with h q x z)) (sym e) record {
+      → Takes meaning p q (state_without h p m) (state_with h m'.0.main.stage x m')
+  takes_now h p q x m m' grows lawful is e = subst (λ z. Takes meaning p q (state_without h p m) (state_with h z.0.main.stage x z)) (sym e) record {
     caller = refl;
     from = refl;
     to = refl;
@@ -103,10 +103,10 @@ module _ {O P C R : Type 0} (meaning : Ghosts O P C R) where
       subst (Took q m m'') same record { seat = now; learns = g.learns; replayed = g.replayed }
 
   -- so it is the caller's
-  pub holds_from : (h : Cell O P C R) (cpu : ℕ) (p q : Stage) (x : History O P C R) (m m' : Seat O P C R) → IsWithout meaning h cpu p m → Took q m m' x → IsWith meaning h cpu q x m'
+  pub holds_from : (h : Cell O P C R) (cpu : ℕ) (p q : Stage) (x : History O P C R) (m m' : Seat O P C R) → IsWithout meaning h cpu p m → Took q m m' x → IsWith meaning h cpu m'.0.main.stage x m'
   holds_from h cpu p q x m m' w t = holds_now h cpu p q x m m' w (t.learns.lawful h w.at.told) (t.replayed h w.at.told) (t.seat ∙ ap (λ cs. (settled m.0 q x.log, (0, None) ∷ cs)) w.at.carries)
 
-  pub takes_from : (h : Cell O P C R) (cpu : ℕ) (p q : Stage) (x : History O P C R) (m m' : Seat O P C R) → IsWithout meaning h cpu p m → Took q m m' x → Takes meaning p q (state_without h p m) (state_with h q x m')
+  pub takes_from : (h : Cell O P C R) (cpu : ℕ) (p q : Stage) (x : History O P C R) (m m' : Seat O P C R) → IsWithout meaning h cpu p m → Took q m m' x → Takes meaning p q (state_without h p m) (state_with h m'.0.main.stage x m')
   takes_from h cpu p q x m m' w t = takes_now h p q x m m' t.learns.grows (t.learns.lawful h w.at.told) (t.replayed h w.at.told) (t.seat ∙ ap (λ cs. (settled m.0 q x.log, (0, None) ∷ cs)) w.at.carries)
 
   -- the object was put into the slot, and the step sent it home

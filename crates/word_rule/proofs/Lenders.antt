@@ -23,6 +23,10 @@ lender_holds kinds.Ticket (Ticket (Served t)) is = refl
 lender_holds kinds.Mcs (Mcs Holding) is = refl
 lender_holds k q is = absurd (true≢false (sym is))
 
+-- who stands where one can lend the object, can lend it
+pub lends_at : (k l : LockKind) (p q : Stage) → k ≡ l → p ≡ q → lends l q ≡ true → lends k p ≡ true
+lends_at k l p q kind there is = subst (λ z. lends z p ≡ true) (sym kind) (subst (λ z. lends l z ≡ true) (sym there) is)
+
 -- and stands there
 pub served_at : (k : LockKind) (q : Stage) → k ≡ kinds.Ticket → lends k q ≡ true → (t : ℕ) × (q ≡ Ticket (Served t))
 served_at k q kind is = by q (subst (λ z. lends z q ≡ true) kind is)

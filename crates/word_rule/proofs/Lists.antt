@@ -1,6 +1,6 @@
 -- Lists of numbers, and logs.
 use Rattle.std.proofs.Common.{◌≡◌, ◌||◌, ◌≢◌, ◌⊎◌, inl, inr, ⊎_elim, ℕ, zero, suc, ◌+◌, ◌<◌, ◌≤◌, Bool, true, false, true≢false, List, [], ◌∷◌, ◌++◌, ◌==◌, eqb, ne_eqb, length, drop, refl, sym, ap, ◌∙◌, arith, append-nil}
-use Rattle.std.proofs.lemmas.Bool.{eq-eqb}
+use Rattle.std.proofs.lemmas.Bool.{eq-eqb, eqb-true}
 use Rattle.std.proofs.lemmas.Bool.Decides.{nat_tests}
 use Rattle.std.proofs.lemmas.List.Elements.{filter-append}
 use Rattle.std.specs.List.{AllByRecursion}
@@ -13,6 +13,7 @@ use Rattle.event_log.specs.Distinct.{has, AreDistinctBelow}
 use Rattle.event_log.specs.Log.{Begins, of}
 use Rattle.event_log.proofs.Beginnings.{begins_self, begins_then, begins_rest}
 use Rattle.word_rule.specs.Cell.{Grows}
+use Rattle.word_rule.specs.Line.{is_first}
 use Rattle.word_rule.specs.Rule.CellInvariant.{EachFrom}
 
 pub or_none : (b : Bool) → (b || false) ≡ b
@@ -55,6 +56,15 @@ one_place n (y ∷ xs) d (suc i) (suc j) x e f = ap suc (one_place n xs d.2 i j 
 pub first_is : (line : List ℕ) (p : ℕ) → get_elem? line 0 ≡ some p → (rest : List ℕ) × (line ≡ p ∷ rest)
 first_is [] p e = absurd (some-ne-none p (sym e))
 first_is (q ∷ rest) p e = (rest, λ i. some-injective q p e i ∷ rest)
+
+-- the first stands at the place 0
+pub first_at : (i : ℕ) (line : List ℕ) → is_first i line ≡ true → get_elem? line 0 ≡ some i
+first_at i [] e = absurd (true≢false (sym e))
+first_at i (k ∷ ks) e = ap some (eqb-true k i e)
+
+pub at_first : (i : ℕ) (line : List ℕ) → get_elem? line 0 ≡ some i → is_first i line ≡ true
+at_first i [] e = absurd (cc)
+at_first i (k ∷ ks) e = eq-eqb k i (some-injective k i e)
 
 -- where there is an element there is a first one
 pub first_in : (l : List ℕ) (i p : ℕ) → get_elem? l i ≡ some p → (q : ℕ) × (get_elem? l 0 ≡ some q)

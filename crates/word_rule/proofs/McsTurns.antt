@@ -14,12 +14,11 @@ use Rattle.word_rule.specs.Locks.{Lock, is_linked, last, behind, is_named, follo
 use Rattle.word_rule.specs.Rule.LockStates.{IsLock, IsLockOf}
 use Rattle.word_rule.specs.LockWords.{word_of, is_armed, locked_by, locked_at}
 use Rattle.word_rule.specs.Turns.{clear, arm, link, pass, turn, turn_of, mcs_turn}
-use Rattle.word_rule.proofs.Lists.{one_place}
+use Rattle.word_rule.proofs.Lists.{one_place, first_at}
 use Rattle.word_rule.proofs.LockLaws.{stands_at, in_cell, torn}
 use Rattle.word_rule.proofs.McsWords as words
 use Rattle.word_rule.proofs.QueueTurns as queue
 use Rattle.word_rule.proofs.Stays.{moved_same, each_moved}
-use Rattle.word_rule.proofs.TicketTurns.{first_at}
 
 -- a word names nobody, or one CPU
 pub word_none : (o : Option ℕ) → word_of o ≡ 0 → o ≡ None

@@ -16,11 +16,10 @@ use Rattle.word_rule.specs.Line.{holding, is_first, lined}
 use Rattle.word_rule.specs.Locks.{Lock, last, last_from, is_named, second, behind, if_linked, is_linked, follower, going, joining, taking, leaving, naming}
 use Rattle.word_rule.specs.Rule.LockStates.{First, Follows, Stands, IsLock}
 use Rattle.word_rule.specs.Turns.{clear, arm, link, pass}
-use Rattle.word_rule.proofs.Lists.{has_at, at_below, one_place, one_at, not_at, there_is, two_are, one_is}
+use Rattle.word_rule.proofs.Lists.{has_at, at_below, one_place, one_at, not_at, there_is, two_are, one_is, first_at, at_first}
 use Rattle.word_rule.proofs.LockLaws.{stands_at, first_holds, in_cell, idle_outside, restaged}
 use Rattle.word_rule.proofs.QueueStands.{naming_same, naming_else, none_some, other_next, longer_queue, first_queue, taken_by, emptied_by, passed_by, stands_in}
 use Rattle.word_rule.proofs.Stays.{each_moved}
-use Rattle.word_rule.proofs.TicketTurns.{first_at, at_first}
 
 -- the last is at the end
 pub last_at : (xs : List ℕ) (p : ℕ) → last xs ≡ Some p → (i : ℕ) × (get_elem? xs i ≡ some p) × (length xs ≡ suc i)

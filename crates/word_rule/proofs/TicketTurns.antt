@@ -17,18 +17,9 @@ use Rattle.word_rule.specs.Line.{holding, is_first}
 use Rattle.word_rule.specs.Locks.{Lock, behind, taking, tickets, opening_lock}
 use Rattle.word_rule.specs.Rule.LockStates.{Waits, Stands, IsLockOf}
 use Rattle.word_rule.specs.Turns.{draw, serve, turn, turn_of, ticket_turn}
-use Rattle.word_rule.proofs.Lists.{has_tail, at_below, first_is, one_place}
+use Rattle.word_rule.proofs.Lists.{has_tail, at_below, at_first, first_at, first_is, one_place}
 use Rattle.word_rule.proofs.LockLaws.{stands_at, first_holds, idle_outside, line_fits}
 use Rattle.word_rule.proofs.Stays.{each_moved}
-
--- the first stands at the place 0
-pub first_at : (i : ℕ) (cpus : List ℕ) → is_first i cpus ≡ true → get_elem? cpus 0 ≡ some i
-first_at i [] e = absurd (true≢false (sym e))
-first_at i (k ∷ ks) e = ap some (eqb-true k i e)
-
-pub at_first : (i : ℕ) (cpus : List ℕ) → get_elem? cpus 0 ≡ some i → is_first i cpus ≡ true
-at_first i [] e = absurd (cc)
-at_first i (k ∷ ks) e = eq-eqb k i (some-injective k i e)
 
 -- the turn of a CPU that stands there
 pub turned : (l : Lock) (i : ℕ) (q : Stage) → l.kind ≡ kinds.Ticket → l.line.stage i ≡ q → turn l i ≡ ticket_turn l i q

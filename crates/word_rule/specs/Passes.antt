@@ -31,4 +31,4 @@ module _ {O P C R : Type 0} {g : Ghosts O P C R} {call_eq : Eq C} {call_default 
   state_of_pass p = state_without p.key.value Idle p.seat.me
 
   abbrev pub state_of_hold : Hold O P C R g call_eq call_default reply_eq reply_default → CallerState O P C R
-  state_of_hold h = state_with h.key.value h.stage h.logged h.seat.me
+  state_of_hold h = state_with h.key.value h.seat.me.0.main.stage h.logged h.seat.me

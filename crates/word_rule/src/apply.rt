@@ -14,7 +14,7 @@ impl<O: SeqObject> Hold<O> {
         requires some { 0 < length calls.now }
         requires few { length calls.now ≤ MOST_CALLS }
         ensures table { (self.new.seat.table_id ≡ self.old.seat.table_id) × (self.new.key.value ≡ self.old.key.value) }
-        ensures stage { self.new.stage ≡ self.old.stage }
+        ensures stage { self.new.seat.me.0.main.stage ≡ self.old.seat.me.0.main.stage }
         ensures caller { (view_of_hold self.new).caller ≡ (view_of_hold self.old).caller }
         ensures room { IsErr result ↔ (length (view_of_hold self.old).history.log ≡ (view_of_hold self.old).history.limit) }
         ensures steps { IfOk result (λ s. s.list.items ≡ answers O.SeqObject (view_of_hold self.old).history.state calls.now) }
@@ -29,7 +29,7 @@ impl<O: SeqObject> Hold<O> {
     #[inline]
     pub fn apply_one(&mut self, call: &O::Call) -> Result<O::Reply, NoRoom>
         ensures table { (self.new.seat.table_id ≡ self.old.seat.table_id) × (self.new.key.value ≡ self.old.key.value) }
-        ensures stage { self.new.stage ≡ self.old.stage }
+        ensures stage { self.new.seat.me.0.main.stage ≡ self.old.seat.me.0.main.stage }
         ensures caller { (view_of_hold self.new).caller ≡ (view_of_hold self.old).caller }
         ensures room { IsErr result ↔ (length (view_of_hold self.old).history.log ≡ (view_of_hold self.old).history.limit) }
         ensures reply { IfOk result (λ r. r ≡ (O.answer (view_of_hold self.old).history.state call.now).1) }

@@ -5,7 +5,7 @@ ghost use Rattle.event_log.proofs.Props.{legal_props};
 ghost use Rattle.word_rule.specs.Rule.Callers.{IsWith};
 ghost use Rattle.word_rule.specs.Line.{lends};
 
-use crate::{Key, Lent, Seat, Stage};
+use crate::{Key, Lent, Seat};
 use event_log::{Logged, SeqObject};
 use std::snapshot::Snapshot;
 
@@ -13,11 +13,10 @@ use std::snapshot::Snapshot;
 /// crates of the locks.
 pub struct Hold<O: SeqObject> {
     pub cpu: u8,
-    pub stage: Stage,
     pub logged: Logged<O>,
     pub lent: Lent,
     pub key: Snapshot<Key<O>>,
     pub seat: Seat<O>,
-    pub ghost holds: { IsWith O.SeqObject key.value cpu stage logged seat.me } by { Prim.hlevel legal_props },
-    pub ghost there: { lends key.value.kind stage ≡ true },
+    pub ghost holds: { IsWith O.SeqObject key.value cpu seat.me.0.main.stage logged seat.me } by { Prim.hlevel legal_props },
+    pub ghost there: { lends key.value.kind seat.me.0.main.stage ≡ true },
 }

@@ -75,7 +75,6 @@ impl<O: SeqObject> LockTable<O> {
     {
         let Hold {
             cpu: _,
-            stage: _,
             logged: _first,
             lent: _one,
             key: _,
@@ -83,7 +82,6 @@ impl<O: SeqObject> LockTable<O> {
         } = one;
         let Hold {
             cpu: _,
-            stage: _,
             logged: _second,
             lent: _two,
             key: _,

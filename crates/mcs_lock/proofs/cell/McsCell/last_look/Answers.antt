@@ -4,7 +4,7 @@ use Rattle.event_log.specs.Distinct.{has}
 use Rattle.word_rule.specs.declared.stage.Stage.TheVariants.{Idle, Mcs}
 use Rattle.word_rule.specs.declared.stage.McsStage.TheVariants.{Waiting, Holding}
 use Rattle.word_rule.specs.Cell.{Lawful}
-use Rattle.word_rule.specs.Line.{lends}
+use Rattle.word_rule.proofs.Lenders.{lends_at}
 use Rattle.word_rule.specs.Rule.Callers.{IsWithout, caller_of}
 use Rattle.word_rule.proofs.Known.{AllIdle}
 use Rattle.word_rule.proofs.Acting.{last_taken, all_together, holds_now, takes_now, sees_without}
@@ -47,7 +47,7 @@ invariant_of-result g c = let a = c.args.waiting in let p = c.args.pass in let e
     let got = c.load-found.ensures.2.hit c.if-prove.false in
     let last = last_taken g.O.SeqObject a.key.value a.cpu p.cpu (Mcs Waiting) (Mcs Holding) (Some y) y a.seat.me p.seat.me c.join_seat.new.seat.me c.load-found.new.seat.me c.take-logged.new.seat.me s.new.seat.me s.result.me a.waits
     (subst (λ k. IsWithout g.O.SeqObject k p.cpu Idle p.seat.me) same p.idle) e got c.take-logged.ensures.2 c.take-logged.ensures.3 refl s.ensures.2 s.ensures.4 in
-    record { holds = holds_now g.O.SeqObject a.key.value a.cpu (Mcs Waiting) (Mcs Holding) y a.seat.me s.new.seat.me a.waits last.lawful last.replayed last.first; there = subst (λ k. lends k (Mcs Holding) ≡ true) (sym (ap (λ k. k.kind) c.requires.waiting.told ∙ c.args.self.now.kind)) refl }
+    record { holds = holds_now g.O.SeqObject a.key.value a.cpu (Mcs Waiting) (Mcs Holding) y a.seat.me s.new.seat.me a.waits last.lawful last.replayed last.first; there = lends_at _ _ _ (Mcs Holding) (ap (λ k. k.kind) c.requires.waiting.told ∙ c.args.self.now.kind) (ap (λ z. z.0.main.stage) last.first) refl }
 
 pub invariant_of-result-2 : goal.invariant_of-result-2
 invariant_of-result-2 g c = let a = c.args.waiting in let p = c.args.pass in let e = c.join_seat.ensures.2 in let y = c.take-logged.result.0 in let s = c.split_seat-theirs in let same = c.requires.pass.told ∙ sym c.requires.waiting.told in

@@ -9,8 +9,8 @@ use Rattle.mcs_lock.proofs.cell.McsCell.see.Goals as goal
 
 pub load-found-requires : goal.load-found-requires
 load-found-requires g c = let s = c.args.self.now in let a = c.args.hold in let key = s.table.table.shared.key in let words = s.sized.0 in
-    let at = holding_at a.key.value.kind a.stage (ap (λ k. k.kind) c.requires.told ∙ s.kind) a.there in
-    let w = subst (λ q. IsWith g.O.SeqObject key a.cpu q a.logged a.seat.me) at (subst (λ k. IsWith g.O.SeqObject k a.cpu a.stage a.logged a.seat.me) c.requires.told a.holds) in
+    let at = holding_at a.key.value.kind a.seat.me.0.main.stage (ap (λ k. k.kind) c.requires.told ∙ s.kind) a.there in
+    let w = subst (λ q. IsWith g.O.SeqObject key a.cpu q a.logged a.seat.me) at (subst (λ k. IsWith g.O.SeqObject k a.cpu a.seat.me.0.main.stage a.logged a.seat.me) c.requires.told a.holds) in
     let below = below_with g.O.SeqObject key s.cpus a.cpu (Mcs Holding) a.logged a.seat.me s.sized.1 w in
     (g.met.O.SeqObject.event_fits, (c.requires.table, omega arith, see_now g.O.SeqObject key c.args.self.now.kind _ _ a.cpu a.seat.me a.logged w))
 
@@ -26,23 +26,23 @@ overflow_cast-follower g c = let s = c.args.self.now in let a = c.args.hold in l
 pub invariant_of-result-else-found-eq0 : goal.invariant_of-result-else-found-eq0
 invariant_of-result-else-found-eq0 g c = let a = c.args.hold in let some_one = c.if-found-eq0.false in let k : ℕ = c.load-found.result - 1 in
     let t = named (λ p. Mcs (Passing p)) c.load-found.result k a.seat.me c.load-found.new.seat.me (c.load-found.ensures.2.found some_one) (omega arith) in record {
-      passes = goes_with g.O.SeqObject a.key.value a.cpu a.stage (Mcs (Passing k)) a.logged a.seat.me c.load-found.new.seat.me a.holds t.0;
+      passes = goes_with g.O.SeqObject a.key.value a.cpu a.seat.me.0.main.stage (Mcs (Passing k)) a.logged a.seat.me c.load-found.new.seat.me a.holds t.0;
       other = else_now (Mcs (Passing k)) a.seat.me c.load-found.new.seat.me k t.0 t.1;
     }
 
 pub returns-then-found-eq0-clause-none : goal.returns-then-found-eq0-clause-none
-returns-then-found-eq0-clause-none g c = let a = c.args.hold in let t = c.load-found.ensures.2 in let at = holding_at a.key.value.kind a.stage (ap (λ k. k.kind) c.requires.told ∙ c.args.self.now.kind) a.there in
-    (search rules, subst (λ q. Moves g.O.SeqObject q (Mcs Alone) (state_with a.key.value a.stage a.logged a.seat.me) (state_with a.key.value (Mcs Alone) a.logged c.load-found.new.seat.me)) at (moves_with g.O.SeqObject a.key.value a.stage (Mcs Alone) a.logged a.seat.me c.load-found.new.seat.me (t.lawful a.key.value a.holds.at.told) (t.none c.if-found-eq0.true)))
+returns-then-found-eq0-clause-none g c = let a = c.args.hold in let t = c.load-found.ensures.2 in let at = holding_at a.key.value.kind a.seat.me.0.main.stage (ap (λ k. k.kind) c.requires.told ∙ c.args.self.now.kind) a.there in
+    (search rules, subst (λ q. Moves g.O.SeqObject q (Mcs Alone) (state_with a.key.value a.seat.me.0.main.stage a.logged a.seat.me) (state_with a.key.value (Mcs Alone) a.logged c.load-found.new.seat.me)) at (moves_with g.O.SeqObject a.key.value a.seat.me.0.main.stage (Mcs Alone) a.logged a.seat.me c.load-found.new.seat.me (t.lawful a.key.value a.holds.at.told) (t.none c.if-found-eq0.true)))
 
 pub returns-else-found-eq0-clause-found : goal.returns-else-found-eq0-clause-found
-returns-else-found-eq0-clause-found g c = let a = c.args.hold in let some_one = c.if-found-eq0.false in let k : ℕ = c.load-found.result - 1 in let s = c.load-found.ensures.2 in let at = holding_at a.key.value.kind a.stage (ap (λ k. k.kind) c.requires.told ∙ c.args.self.now.kind) a.there in
+returns-else-found-eq0-clause-found g c = let a = c.args.hold in let some_one = c.if-found-eq0.false in let k : ℕ = c.load-found.result - 1 in let s = c.load-found.ensures.2 in let at = holding_at a.key.value.kind a.seat.me.0.main.stage (ap (λ k. k.kind) c.requires.told ∙ c.args.self.now.kind) a.there in
     let t = named (λ p. Mcs (Passing p)) c.load-found.result k a.seat.me c.load-found.new.seat.me (s.found some_one) (omega arith) in (
       search rules,
       (
         k,
         is_other a.key.value a.seat.me k a.holds.at.told t.1,
         record {
-          made = subst (λ q. Moves g.O.SeqObject q (Mcs (Passing k)) (state_with a.key.value a.stage a.logged a.seat.me) (state_with a.key.value (Mcs (Passing k)) a.logged c.load-found.new.seat.me)) at (moves_with g.O.SeqObject a.key.value a.stage (Mcs (Passing k)) a.logged a.seat.me c.load-found.new.seat.me (s.lawful a.key.value a.holds.at.told) t.0);
+          made = subst (λ q. Moves g.O.SeqObject q (Mcs (Passing k)) (state_with a.key.value a.seat.me.0.main.stage a.logged a.seat.me) (state_with a.key.value (Mcs (Passing k)) a.logged c.load-found.new.seat.me)) at (moves_with g.O.SeqObject a.key.value a.seat.me.0.main.stage (Mcs (Passing k)) a.logged a.seat.me c.load-found.new.seat.me (s.lawful a.key.value a.holds.at.told) t.0);
           another = not_else a.key.value a.seat.me k a.holds.at.told t.1;
         },
       ),
