@@ -20,7 +20,7 @@ impl<O: SeqObject> McsCell<O> {
         ensures step { IsClear O.SeqObject (state_of_pass pass) (state_of_ready result) }
     {
         let Pass { cpu, key, mut seat } = pass;
-        self.table.store::<Clear>(&mut seat, 1 + cpu as usize, 0);
+        self.table.store::<Clear>(&mut seat, 1 + cpu.number as usize, 0);
         Ready { cpu, key, seat }
     }
 
@@ -32,7 +32,7 @@ impl<O: SeqObject> McsCell<O> {
         ensures queued { IfBehind result (λ b. IsBehindOf self.now b × IsEnter O.SeqObject (state_of_ready ready) (state_of_behind b) false) }
     {
         let Ready { cpu, key, mut seat } = ready;
-        let found = self.table.swap::<Enter>(&mut seat, 0, cpu as u64 + 1);
+        let found = self.table.swap::<Enter>(&mut seat, 0, cpu.number as u64 + 1);
         if found == 0 {
             let (logged, lent) = self.table.take(&mut seat);
             Entered::Hold(Hold {
@@ -66,7 +66,7 @@ impl<O: SeqObject> McsCell<O> {
             mut seat,
         } = behind;
         self.table
-            .store::<Arm>(&mut seat, 1 + self.cpus as usize + cpu as usize, 1);
+            .store::<Arm>(&mut seat, 1 + self.cpus as usize + cpu.number as usize, 1);
         Armed {
             cpu,
             ahead,
@@ -88,7 +88,7 @@ impl<O: SeqObject> McsCell<O> {
             mut seat,
         } = armed;
         self.table
-            .store::<Link>(&mut seat, 1 + ahead as usize, cpu as u64 + 1);
+            .store::<Link>(&mut seat, 1 + ahead as usize, cpu.number as u64 + 1);
         Waiting { cpu, key, seat }
     }
 
@@ -101,7 +101,7 @@ impl<O: SeqObject> McsCell<O> {
         let Waiting { cpu, key, mut seat } = waiting;
         let found = self
             .table
-            .load::<Look>(&mut seat, 1 + self.cpus as usize + cpu as usize);
+            .load::<Look>(&mut seat, 1 + self.cpus as usize + cpu.number as usize);
         if found == 0 {
             let (logged, lent) = self.table.take(&mut seat);
             Ok(Hold {
@@ -129,7 +129,7 @@ impl<O: SeqObject> McsCell<O> {
             key,
             mut seat,
         } = hold;
-        let found = self.table.load::<See>(&mut seat, 1 + cpu as usize);
+        let found = self.table.load::<See>(&mut seat, 1 + cpu.number as usize);
         if found == 0 {
             Err(Alone {
                 cpu,
@@ -166,7 +166,7 @@ impl<O: SeqObject> McsCell<O> {
             mut seat,
         } = alone;
         self.table.put_back(&mut seat, logged, lent);
-        let last = cpu as u64 + 1;
+        let last = cpu.number as u64 + 1;
         let found = self.table.compare_exchange::<Empty>(&mut seat, 0, last, 0);
         if found == last {
             Ok(Pass { cpu, key, seat })
@@ -195,7 +195,7 @@ impl<O: SeqObject> McsCell<O> {
             key,
             mut seat,
         } = leaving;
-        let found = self.table.load::<SeeAgain>(&mut seat, 1 + cpu as usize);
+        let found = self.table.load::<SeeAgain>(&mut seat, 1 + cpu.number as usize);
         if found == 0 {
             Err(Leaving {
                 cpu,

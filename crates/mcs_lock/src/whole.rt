@@ -113,7 +113,7 @@ impl<O: SeqObject> McsCell<O> {
         self.table.join_seat(&mut seat, theirs);
         let found = self
             .table
-            .load::<Look>(&mut seat, 1 + self.cpus as usize + cpu as usize);
+            .load::<Look>(&mut seat, 1 + self.cpus as usize + cpu.number as usize);
         prove!(found == 0);
         let (logged, lent) = self.table.take(&mut seat);
         let theirs = self.table.split_seat(&mut seat);
@@ -158,7 +158,7 @@ impl<O: SeqObject> McsCell<O> {
             seat: theirs,
         } = waiting;
         self.table.join_seat(&mut seat, theirs);
-        let found = self.table.load::<SeeAgain>(&mut seat, 1 + cpu as usize);
+        let found = self.table.load::<SeeAgain>(&mut seat, 1 + cpu.number as usize);
         prove!(found != 0);
         let follower = (found - 1) as u8;
         let theirs = self.table.split_seat(&mut seat);

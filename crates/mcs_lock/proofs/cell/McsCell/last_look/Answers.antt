@@ -17,13 +17,13 @@ join_seat-requires g c = let s = c.args.self.now in let words = s.sized.0 in
 
 pub load-found-requires : goal.load-found-requires
 load-found-requires g c = let s = c.args.self.now in let a = c.args.waiting in let key = s.table.table.shared.key in let words = s.sized.0 in let e = c.join_seat.ensures.2 in
-    let w = subst (λ k. IsWithout g.O.SeqObject k a.cpu (Mcs Waiting) a.seat.me) c.requires.waiting.told a.waits in
-    let below = below_without g.O.SeqObject key s.cpus a.cpu (Mcs Waiting) a.seat.me s.sized.1 w in (
+    let w = subst (λ k. IsWithout g.O.SeqObject k a.cpu.number (Mcs Waiting) a.seat.me) c.requires.waiting.told a.waits in
+    let below = below_without g.O.SeqObject key s.cpus a.cpu.number (Mcs Waiting) a.seat.me s.sized.1 w in (
       g.met.O.SeqObject.event_fits,
       (
         search rules,
         omega arith,
-        look_now g.O.SeqObject key c.args.self.now.kind _ _ a.cpu s.cpus c.join_seat.new.seat.me s.sized.1 (subst (λ z. has z.0.main.cpu z.0.main.owned ≡ true) (sym e) a.waits.pass_view.caller.acts) (ap (λ z. z.0.main.cpu) e ∙ a.waits.at.number)
+        look_now g.O.SeqObject key c.args.self.now.kind _ _ a.cpu.number s.cpus c.join_seat.new.seat.me s.sized.1 (subst (λ z. has z.0.main.cpu z.0.main.owned ≡ true) (sym e) a.waits.pass_view.caller.acts) (ap (λ z. z.0.main.cpu) e ∙ a.waits.at.number)
             (ap (λ z. z.0.main.stage) e ∙ a.waits.at.stands) (subst (λ z. AllIdle z.0.others) (sym e) (c.args.pass.idle.at.stands, tt)),
       ),
     )
@@ -45,41 +45,41 @@ split_seat-theirs-requires g c = let s = c.args.self.now in let words = s.sized.
 pub invariant_of-result : goal.invariant_of-result
 invariant_of-result g c = let a = c.args.waiting in let p = c.args.pass in let e = c.join_seat.ensures.2 in let y = c.take-logged.result.0 in let s = c.split_seat-theirs in let same = c.requires.pass.told ∙ sym c.requires.waiting.told in
     let got = c.load-found.ensures.2.hit c.if-prove.false in
-    let last = last_taken g.O.SeqObject a.key.value a.cpu p.cpu (Mcs Waiting) (Mcs Holding) (Some y) y a.seat.me p.seat.me c.join_seat.new.seat.me c.load-found.new.seat.me c.take-logged.new.seat.me s.new.seat.me s.result.me a.waits
-    (subst (λ k. IsWithout g.O.SeqObject k p.cpu Idle p.seat.me) same p.idle) e got c.take-logged.ensures.2 c.take-logged.ensures.3 refl s.ensures.2 s.ensures.4 in
-    record { holds = holds_now g.O.SeqObject a.key.value a.cpu (Mcs Waiting) (Mcs Holding) y a.seat.me s.new.seat.me a.waits last.lawful last.replayed last.first; there = lends_at _ _ _ (Mcs Holding) (ap (λ k. k.kind) c.requires.waiting.told ∙ c.args.self.now.kind) (ap (λ z. z.0.main.stage) last.first) refl }
+    let last = last_taken g.O.SeqObject a.key.value a.cpu.number p.cpu.number (Mcs Waiting) (Mcs Holding) (Some y) y a.seat.me p.seat.me c.join_seat.new.seat.me c.load-found.new.seat.me c.take-logged.new.seat.me s.new.seat.me s.result.me a.waits
+    (subst (λ k. IsWithout g.O.SeqObject k p.cpu.number Idle p.seat.me) same p.idle) e got c.take-logged.ensures.2 c.take-logged.ensures.3 refl s.ensures.2 s.ensures.4 in
+    record { holds = holds_now g.O.SeqObject a.key.value a.cpu.number (Mcs Waiting) (Mcs Holding) y a.seat.me s.new.seat.me a.waits last.lawful last.replayed last.first; there = lends_at _ _ _ (Mcs Holding) (ap (λ k. k.kind) c.requires.waiting.told ∙ c.args.self.now.kind) (ap (λ z. z.0.main.stage) last.first) refl }
 
 pub invariant_of-result-2 : goal.invariant_of-result-2
 invariant_of-result-2 g c = let a = c.args.waiting in let p = c.args.pass in let e = c.join_seat.ensures.2 in let y = c.take-logged.result.0 in let s = c.split_seat-theirs in let same = c.requires.pass.told ∙ sym c.requires.waiting.told in
     let got = c.load-found.ensures.2.hit c.if-prove.false in
-    let last = last_taken g.O.SeqObject a.key.value a.cpu p.cpu (Mcs Waiting) (Mcs Holding) (Some y) y a.seat.me p.seat.me c.join_seat.new.seat.me c.load-found.new.seat.me c.take-logged.new.seat.me s.new.seat.me s.result.me a.waits
-    (subst (λ k. IsWithout g.O.SeqObject k p.cpu Idle p.seat.me) same p.idle) e got c.take-logged.ensures.2 c.take-logged.ensures.3 refl s.ensures.2 s.ensures.4 in
-    record { idle = sees_without g.O.SeqObject p.key.value p.cpu Idle Idle y.log p.seat.me s.result.me p.idle (subst (λ k. Lawful g.O.SeqObject k y.log) (sym same) last.lawful) last.second }
+    let last = last_taken g.O.SeqObject a.key.value a.cpu.number p.cpu.number (Mcs Waiting) (Mcs Holding) (Some y) y a.seat.me p.seat.me c.join_seat.new.seat.me c.load-found.new.seat.me c.take-logged.new.seat.me s.new.seat.me s.result.me a.waits
+    (subst (λ k. IsWithout g.O.SeqObject k p.cpu.number Idle p.seat.me) same p.idle) e got c.take-logged.ensures.2 c.take-logged.ensures.3 refl s.ensures.2 s.ensures.4 in
+    record { idle = sees_without g.O.SeqObject p.key.value p.cpu.number Idle Idle y.log p.seat.me s.result.me p.idle (subst (λ k. Lawful g.O.SeqObject k y.log) (sym same) last.lawful) last.second }
 
 pub returns-clause-look : goal.returns-clause-look
 returns-clause-look g c = let a = c.args.waiting in let p = c.args.pass in let e = c.join_seat.ensures.2 in let y = c.take-logged.result.0 in let s = c.split_seat-theirs in let same = c.requires.pass.told ∙ sym c.requires.waiting.told in
     let got = c.load-found.ensures.2.hit c.if-prove.false in
-    let last = last_taken g.O.SeqObject a.key.value a.cpu p.cpu (Mcs Waiting) (Mcs Holding) (Some y) y a.seat.me p.seat.me c.join_seat.new.seat.me c.load-found.new.seat.me c.take-logged.new.seat.me s.new.seat.me s.result.me a.waits
-    (subst (λ k. IsWithout g.O.SeqObject k p.cpu Idle p.seat.me) same p.idle) e got c.take-logged.ensures.2 c.take-logged.ensures.3 refl s.ensures.2 s.ensures.4 in
+    let last = last_taken g.O.SeqObject a.key.value a.cpu.number p.cpu.number (Mcs Waiting) (Mcs Holding) (Some y) y a.seat.me p.seat.me c.join_seat.new.seat.me c.load-found.new.seat.me c.take-logged.new.seat.me s.new.seat.me s.result.me a.waits
+    (subst (λ k. IsWithout g.O.SeqObject k p.cpu.number Idle p.seat.me) same p.idle) e got c.take-logged.ensures.2 c.take-logged.ensures.3 refl s.ensures.2 s.ensures.4 in
     takes_now g.O.SeqObject a.key.value (Mcs Waiting) (Mcs Holding) y a.seat.me s.new.seat.me last.first_grows last.lawful last.replayed last.first
 
 pub returns-clause-caller : goal.returns-clause-caller
 returns-clause-caller g c = let a = c.args.waiting in let p = c.args.pass in let e = c.join_seat.ensures.2 in let y = c.take-logged.result.0 in let s = c.split_seat-theirs in let same = c.requires.pass.told ∙ sym c.requires.waiting.told in
     let got = c.load-found.ensures.2.hit c.if-prove.false in
-    let last = last_taken g.O.SeqObject a.key.value a.cpu p.cpu (Mcs Waiting) (Mcs Holding) (Some y) y a.seat.me p.seat.me c.join_seat.new.seat.me c.load-found.new.seat.me c.take-logged.new.seat.me s.new.seat.me s.result.me a.waits
-    (subst (λ k. IsWithout g.O.SeqObject k p.cpu Idle p.seat.me) same p.idle) e got c.take-logged.ensures.2 c.take-logged.ensures.3 refl s.ensures.2 s.ensures.4 in
+    let last = last_taken g.O.SeqObject a.key.value a.cpu.number p.cpu.number (Mcs Waiting) (Mcs Holding) (Some y) y a.seat.me p.seat.me c.join_seat.new.seat.me c.load-found.new.seat.me c.take-logged.new.seat.me s.new.seat.me s.result.me a.waits
+    (subst (λ k. IsWithout g.O.SeqObject k p.cpu.number Idle p.seat.me) same p.idle) e got c.take-logged.ensures.2 c.take-logged.ensures.3 refl s.ensures.2 s.ensures.4 in
     ap (λ z. caller_of p.key.value z.0) last.second
 
 pub returns-clause-seen : goal.returns-clause-seen
 returns-clause-seen g c = let a = c.args.waiting in let p = c.args.pass in let e = c.join_seat.ensures.2 in let y = c.take-logged.result.0 in let s = c.split_seat-theirs in let same = c.requires.pass.told ∙ sym c.requires.waiting.told in
     let got = c.load-found.ensures.2.hit c.if-prove.false in
-    let last = last_taken g.O.SeqObject a.key.value a.cpu p.cpu (Mcs Waiting) (Mcs Holding) (Some y) y a.seat.me p.seat.me c.join_seat.new.seat.me c.load-found.new.seat.me c.take-logged.new.seat.me s.new.seat.me s.result.me a.waits
-    (subst (λ k. IsWithout g.O.SeqObject k p.cpu Idle p.seat.me) same p.idle) e got c.take-logged.ensures.2 c.take-logged.ensures.3 refl s.ensures.2 s.ensures.4 in
+    let last = last_taken g.O.SeqObject a.key.value a.cpu.number p.cpu.number (Mcs Waiting) (Mcs Holding) (Some y) y a.seat.me p.seat.me c.join_seat.new.seat.me c.load-found.new.seat.me c.take-logged.new.seat.me s.new.seat.me s.result.me a.waits
+    (subst (λ k. IsWithout g.O.SeqObject k p.cpu.number Idle p.seat.me) same p.idle) e got c.take-logged.ensures.2 c.take-logged.ensures.3 refl s.ensures.2 s.ensures.4 in
     ap (λ z. z.0.main.seen) last.second
 
 pub returns-clause-grows : goal.returns-clause-grows
 returns-clause-grows g c = let a = c.args.waiting in let p = c.args.pass in let e = c.join_seat.ensures.2 in let y = c.take-logged.result.0 in let s = c.split_seat-theirs in let same = c.requires.pass.told ∙ sym c.requires.waiting.told in
     let got = c.load-found.ensures.2.hit c.if-prove.false in
-    let last = last_taken g.O.SeqObject a.key.value a.cpu p.cpu (Mcs Waiting) (Mcs Holding) (Some y) y a.seat.me p.seat.me c.join_seat.new.seat.me c.load-found.new.seat.me c.take-logged.new.seat.me s.new.seat.me s.result.me a.waits
-    (subst (λ k. IsWithout g.O.SeqObject k p.cpu Idle p.seat.me) same p.idle) e got c.take-logged.ensures.2 c.take-logged.ensures.3 refl s.ensures.2 s.ensures.4 in
+    let last = last_taken g.O.SeqObject a.key.value a.cpu.number p.cpu.number (Mcs Waiting) (Mcs Holding) (Some y) y a.seat.me p.seat.me c.join_seat.new.seat.me c.load-found.new.seat.me c.take-logged.new.seat.me s.new.seat.me s.result.me a.waits
+    (subst (λ k. IsWithout g.O.SeqObject k p.cpu.number Idle p.seat.me) same p.idle) e got c.take-logged.ensures.2 c.take-logged.ensures.3 refl s.ensures.2 s.ensures.4 in
     last.second_grows

@@ -14,13 +14,13 @@ join_seat-requires g c = let s = c.args.self.now in let words = s.sized.0 in
 
 pub load-found-requires : goal.load-found-requires
 load-found-requires g c = let s = c.args.self.now in let a = c.args.leaving in let key = s.table.table.shared.key in let words = s.sized.0 in let e = c.join_seat.ensures.2 in
-    let w = subst (λ k. IsWith g.O.SeqObject k a.cpu (Mcs Leaving) a.logged a.seat.me) c.requires.leaving.told a.leaves in
-    let below = below_with g.O.SeqObject key s.cpus a.cpu (Mcs Leaving) a.logged a.seat.me s.sized.1 w in (
+    let w = subst (λ k. IsWith g.O.SeqObject k a.cpu.number (Mcs Leaving) a.logged a.seat.me) c.requires.leaving.told a.leaves in
+    let below = below_with g.O.SeqObject key s.cpus a.cpu.number (Mcs Leaving) a.logged a.seat.me s.sized.1 w in (
       g.met.O.SeqObject.event_fits,
       (
         search rules,
         omega arith,
-        find_now g.O.SeqObject key c.args.self.now.kind _ _ a.cpu c.join_seat.new.seat.me c.args.waiting.seat.me.0.main (subst (λ z. has z.0.main.cpu z.0.main.owned ≡ true) (sym e) a.leaves.hold_view.caller.acts) (ap (λ z. z.0.main.cpu) e ∙ a.leaves.at.number)
+        find_now g.O.SeqObject key c.args.self.now.kind _ _ a.cpu.number c.join_seat.new.seat.me c.args.waiting.seat.me.0.main (subst (λ z. has z.0.main.cpu z.0.main.owned ≡ true) (sym e) a.leaves.hold_view.caller.acts) (ap (λ z. z.0.main.cpu) e ∙ a.leaves.at.number)
             (ap (λ z. z.0.main.stage) e ∙ a.leaves.at.stands) (ap (λ z. z.0.others) e) c.args.waiting.waits.at.stands,
       ),
     )
@@ -45,7 +45,7 @@ pub invariant_of-result : goal.invariant_of-result
 invariant_of-result g c = let a = c.args.leaving in let w = c.args.waiting in let e = c.join_seat.ensures.2 in let s = c.split_seat-theirs in let told = c.load-found.ensures.2 in let some_one = c.if-prove.false in let k : ℕ = c.load-found.result - 1 in
     let t = named (λ p. Mcs (Passing p)) c.load-found.result k c.join_seat.new.seat.me c.load-found.new.seat.me (told.found some_one) (omega arith) in
     let first = first_moved (Mcs (Passing k)) a.seat.me w.seat.me c.join_seat.new.seat.me c.load-found.new.seat.me s.new.seat.me a.leaves.at.alone e t.0 s.ensures.2 in record {
-      passes = goes_with g.O.SeqObject a.key.value a.cpu (Mcs Leaving) (Mcs (Passing k)) a.logged a.seat.me s.new.seat.me a.leaves first;
+      passes = goes_with g.O.SeqObject a.key.value a.cpu.number (Mcs Leaving) (Mcs (Passing k)) a.logged a.seat.me s.new.seat.me a.leaves first;
       other = else_now (Mcs (Passing k)) a.seat.me s.new.seat.me k first (else_of a.seat.me w.seat.me c.join_seat.new.seat.me k e t.1);
     }
 
@@ -53,7 +53,7 @@ pub invariant_of-result-2 : goal.invariant_of-result-2
 invariant_of-result-2 g c = let a = c.args.leaving in let w = c.args.waiting in let e = c.join_seat.ensures.2 in let s = c.split_seat-theirs in let told = c.load-found.ensures.2 in let some_one = c.if-prove.false in let k : ℕ = c.load-found.result - 1 in
     let t = named (λ p. Mcs (Passing p)) c.load-found.result k c.join_seat.new.seat.me c.load-found.new.seat.me (told.found some_one) (omega arith) in
     let second = second_same (Mcs (Passing k)) a.seat.me w.seat.me c.join_seat.new.seat.me c.load-found.new.seat.me s.result.me w.waits.at.alone w.waits.at.carries (w.waits.at.told ∙ (ap (λ z. z ∷ []) (c.requires.waiting.told ∙ sym c.requires.leaving.told) ∙ sym a.leaves.at.told)) e t.0 s.ensures.4 in
-    record { waits = subst (IsWithout g.O.SeqObject w.key.value w.cpu (Mcs Waiting)) (sym second) w.waits }
+    record { waits = subst (IsWithout g.O.SeqObject w.key.value w.cpu.number (Mcs Waiting)) (sym second) w.waits }
 
 pub returns-clause-see : goal.returns-clause-see
 returns-clause-see g c = let a = c.args.leaving in let w = c.args.waiting in let e = c.join_seat.ensures.2 in let s = c.split_seat-theirs in let told = c.load-found.ensures.2 in let some_one = c.if-prove.false in let k : ℕ = c.load-found.result - 1 in
