@@ -7,9 +7,10 @@ use Rattle.word_rule.specs.Cell.{Lawful}
 use Rattle.word_rule.proofs.Lenders.{lends_at}
 use Rattle.word_rule.specs.Rule.Callers.{IsWithout, caller_of}
 use Rattle.word_rule.proofs.Known.{AllIdle}
-use Rattle.word_rule.proofs.Acting.{last_taken, all_together, holds_now, takes_now, sees_without}
+use Rattle.word_rule.proofs.Acting.{TookLast, last_taken, all_together, holds_now, takes_now, sees_without}
 use Rattle.mcs_lock.proofs.McsActing.{look_now, below_without}
 use Rattle.mcs_lock.proofs.cell.McsCell.last_look.Goals as goal
+use Rattle.mcs_lock.proofs.cell.McsCell.last_look.Given as given
 
 pub join_seat-requires : goal.join_seat-requires
 join_seat-requires g c = let s = c.args.self.now in let words = s.sized.0 in
@@ -42,44 +43,33 @@ pub split_seat-theirs-requires : goal.split_seat-theirs-requires
 split_seat-theirs-requires g c = let s = c.args.self.now in let words = s.sized.0 in
     (g.met.O.SeqObject.event_fits, (search rules, omega arith))
 
-pub invariant_of-result : goal.invariant_of-result
-invariant_of-result g c = let a = c.args.waiting in let p = c.args.pass in let e = c.join_seat.ensures.2 in let y = c.take-logged.result.0 in let s = c.split_seat-theirs in let same = c.requires.pass.told ∙ sym c.requires.waiting.told in
+-- what the look gave, and what each of the two has seen
+last : (g : given.Over) (c : goal.After-split_seat-theirs g)
+    → TookLast g.O.SeqObject c.args.waiting.key.value (Mcs Holding) c.take-logged.result.0 c.args.waiting.seat.me c.args.pass.seat.me c.split_seat-theirs.new.seat.me c.split_seat-theirs.result.me
+last g c = let a = c.args.waiting in let p = c.args.pass in let e = c.join_seat.ensures.2 in let y = c.take-logged.result.0 in let s = c.split_seat-theirs in let same = c.requires.pass.told ∙ sym c.requires.waiting.told in
     let got = c.load-found.ensures.2.hit c.if-prove.false in
-    let last = last_taken g.O.SeqObject a.key.value a.cpu.number p.cpu.number (Mcs Waiting) (Mcs Holding) (Some y) y a.seat.me p.seat.me c.join_seat.new.seat.me c.load-found.new.seat.me c.take-logged.new.seat.me s.new.seat.me s.result.me a.waits
-    (subst (λ k. IsWithout g.O.SeqObject k p.cpu.number Idle p.seat.me) same p.idle) e got c.take-logged.ensures.2 c.take-logged.ensures.3 refl s.ensures.2 s.ensures.4 in
-    record { holds = holds_now g.O.SeqObject a.key.value a.cpu.number (Mcs Waiting) (Mcs Holding) y a.seat.me s.new.seat.me a.waits last.lawful last.replayed last.first; there = lends_at _ _ _ (Mcs Holding) (ap (λ k. k.kind) c.requires.waiting.told ∙ c.args.self.now.kind) (ap (λ z. z.0.main.stage) last.first) refl }
+    last_taken g.O.SeqObject a.key.value a.cpu.number p.cpu.number (Mcs Waiting) (Mcs Holding) (Some y) y a.seat.me p.seat.me c.join_seat.new.seat.me c.load-found.new.seat.me c.take-logged.new.seat.me s.new.seat.me s.result.me a.waits
+    (subst (λ k. IsWithout g.O.SeqObject k p.cpu.number Idle p.seat.me) same p.idle) e got c.take-logged.ensures.2 c.take-logged.ensures.3 refl s.ensures.2 s.ensures.4
+
+pub invariant_of-result : goal.invariant_of-result
+invariant_of-result g c = let a = c.args.waiting in let y = c.take-logged.result.0 in let l = last g c in record {
+  holds = holds_now g.O.SeqObject a.key.value a.cpu.number (Mcs Waiting) (Mcs Holding) y a.seat.me c.split_seat-theirs.new.seat.me a.waits l.lawful l.replayed l.first;
+  there = lends_at _ _ _ (Mcs Holding) (ap (λ k. k.kind) c.requires.waiting.told ∙ c.args.self.now.kind) (ap (λ z. z.0.main.stage) l.first) refl;
+}
 
 pub invariant_of-result-2 : goal.invariant_of-result-2
-invariant_of-result-2 g c = let a = c.args.waiting in let p = c.args.pass in let e = c.join_seat.ensures.2 in let y = c.take-logged.result.0 in let s = c.split_seat-theirs in let same = c.requires.pass.told ∙ sym c.requires.waiting.told in
-    let got = c.load-found.ensures.2.hit c.if-prove.false in
-    let last = last_taken g.O.SeqObject a.key.value a.cpu.number p.cpu.number (Mcs Waiting) (Mcs Holding) (Some y) y a.seat.me p.seat.me c.join_seat.new.seat.me c.load-found.new.seat.me c.take-logged.new.seat.me s.new.seat.me s.result.me a.waits
-    (subst (λ k. IsWithout g.O.SeqObject k p.cpu.number Idle p.seat.me) same p.idle) e got c.take-logged.ensures.2 c.take-logged.ensures.3 refl s.ensures.2 s.ensures.4 in
-    record { idle = sees_without g.O.SeqObject p.key.value p.cpu.number Idle Idle y.log p.seat.me s.result.me p.idle (subst (λ k. Lawful g.O.SeqObject k y.log) (sym same) last.lawful) last.second }
+invariant_of-result-2 g c = let p = c.args.pass in let y = c.take-logged.result.0 in let l = last g c.before in let same = c.requires.pass.told ∙ sym c.requires.waiting.told in
+    record { idle = sees_without g.O.SeqObject p.key.value p.cpu.number Idle Idle y.log p.seat.me c.split_seat-theirs.result.me p.idle (subst (λ k. Lawful g.O.SeqObject k y.log) (sym same) l.lawful) l.second }
 
 pub returns-clause-look : goal.returns-clause-look
-returns-clause-look g c = let a = c.args.waiting in let p = c.args.pass in let e = c.join_seat.ensures.2 in let y = c.take-logged.result.0 in let s = c.split_seat-theirs in let same = c.requires.pass.told ∙ sym c.requires.waiting.told in
-    let got = c.load-found.ensures.2.hit c.if-prove.false in
-    let last = last_taken g.O.SeqObject a.key.value a.cpu.number p.cpu.number (Mcs Waiting) (Mcs Holding) (Some y) y a.seat.me p.seat.me c.join_seat.new.seat.me c.load-found.new.seat.me c.take-logged.new.seat.me s.new.seat.me s.result.me a.waits
-    (subst (λ k. IsWithout g.O.SeqObject k p.cpu.number Idle p.seat.me) same p.idle) e got c.take-logged.ensures.2 c.take-logged.ensures.3 refl s.ensures.2 s.ensures.4 in
-    takes_now g.O.SeqObject a.key.value (Mcs Waiting) (Mcs Holding) y a.seat.me s.new.seat.me last.first_grows last.lawful last.replayed last.first
+returns-clause-look g c = let a = c.args.waiting in let l = last g c.before.before in
+    takes_now g.O.SeqObject a.key.value (Mcs Waiting) (Mcs Holding) c.take-logged.result.0 a.seat.me c.split_seat-theirs.new.seat.me l.first_grows l.lawful l.replayed l.first
 
 pub returns-clause-caller : goal.returns-clause-caller
-returns-clause-caller g c = let a = c.args.waiting in let p = c.args.pass in let e = c.join_seat.ensures.2 in let y = c.take-logged.result.0 in let s = c.split_seat-theirs in let same = c.requires.pass.told ∙ sym c.requires.waiting.told in
-    let got = c.load-found.ensures.2.hit c.if-prove.false in
-    let last = last_taken g.O.SeqObject a.key.value a.cpu.number p.cpu.number (Mcs Waiting) (Mcs Holding) (Some y) y a.seat.me p.seat.me c.join_seat.new.seat.me c.load-found.new.seat.me c.take-logged.new.seat.me s.new.seat.me s.result.me a.waits
-    (subst (λ k. IsWithout g.O.SeqObject k p.cpu.number Idle p.seat.me) same p.idle) e got c.take-logged.ensures.2 c.take-logged.ensures.3 refl s.ensures.2 s.ensures.4 in
-    ap (λ z. caller_of p.key.value z.0) last.second
+returns-clause-caller g c = ap (λ z. caller_of c.args.pass.key.value z.0) (last g c.before.before).second
 
 pub returns-clause-seen : goal.returns-clause-seen
-returns-clause-seen g c = let a = c.args.waiting in let p = c.args.pass in let e = c.join_seat.ensures.2 in let y = c.take-logged.result.0 in let s = c.split_seat-theirs in let same = c.requires.pass.told ∙ sym c.requires.waiting.told in
-    let got = c.load-found.ensures.2.hit c.if-prove.false in
-    let last = last_taken g.O.SeqObject a.key.value a.cpu.number p.cpu.number (Mcs Waiting) (Mcs Holding) (Some y) y a.seat.me p.seat.me c.join_seat.new.seat.me c.load-found.new.seat.me c.take-logged.new.seat.me s.new.seat.me s.result.me a.waits
-    (subst (λ k. IsWithout g.O.SeqObject k p.cpu.number Idle p.seat.me) same p.idle) e got c.take-logged.ensures.2 c.take-logged.ensures.3 refl s.ensures.2 s.ensures.4 in
-    ap (λ z. z.0.main.seen) last.second
+returns-clause-seen g c = ap (λ z. z.0.main.seen) (last g c.before.before).second
 
 pub returns-clause-grows : goal.returns-clause-grows
-returns-clause-grows g c = let a = c.args.waiting in let p = c.args.pass in let e = c.join_seat.ensures.2 in let y = c.take-logged.result.0 in let s = c.split_seat-theirs in let same = c.requires.pass.told ∙ sym c.requires.waiting.told in
-    let got = c.load-found.ensures.2.hit c.if-prove.false in
-    let last = last_taken g.O.SeqObject a.key.value a.cpu.number p.cpu.number (Mcs Waiting) (Mcs Holding) (Some y) y a.seat.me p.seat.me c.join_seat.new.seat.me c.load-found.new.seat.me c.take-logged.new.seat.me s.new.seat.me s.result.me a.waits
-    (subst (λ k. IsWithout g.O.SeqObject k p.cpu.number Idle p.seat.me) same p.idle) e got c.take-logged.ensures.2 c.take-logged.ensures.3 refl s.ensures.2 s.ensures.4 in
-    last.second_grows
+returns-clause-grows g c = (last g c.before.before).second_grows
