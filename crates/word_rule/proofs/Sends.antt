@@ -25,9 +25,13 @@ slot_send O P C R g ce cd re rd o p c r =
 cpu_send : IsSend Cpu.the_field.row
 cpu_send = struct_send (fields Cpu.the_type) (search sendable, (search sendable, (search sendable, (search sendable, tt))))
 
--- and so does a pass
+-- and so does a pass, in a struct and by itself
+pub pass_field_send : (O P C R : RattleType) (g : Ghosts O.Denot P.Denot C.Denot R.Denot) (ce : Compares C.Denot) (cd : Defaults C.Denot) (re : Compares R.Denot) (rd : Defaults R.Denot) → IsSend O → IsSend P → IsSend C → IsSend R →
+    IsSend (Pass.the_field O P C R g ce cd re rd).row
+pass_field_send O P C R g ce cd re rd o p c r = struct_send (fields (Pass.the_type O P C R g ce cd re rd)) (cpu_send, (search crosses, (seat _ _ (slot_send O P C R g ce cd re rd o p c r), tt)))
+
 pub pass_send : (O P C R : RattleType) (g : Ghosts O.Denot P.Denot C.Denot R.Denot) (ce : Compares C.Denot) (cd : Defaults C.Denot) (re : Compares R.Denot) (rd : Defaults R.Denot) → IsSend O → IsSend P → IsSend C → IsSend R →
     IsSend (Pass.the_row O P C R g ce cd re rd)
 pass_send O P C R g ce cd re rd o p c r =
     let t = Pass.the_type O P C R g ce cd re rd in
-    recorded_send _ _ _ t.to_one (struct_send (fields t) (cpu_send, (search crosses, (seat _ _ (slot_send O P C R g ce cd re rd o p c r), tt))))
+    recorded_send _ _ _ t.to_one (pass_field_send O P C R g ce cd re rd o p c r)

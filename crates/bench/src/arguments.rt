@@ -1,0 +1,82 @@
+//! The program's words.
+
+use crate::kind::Kind;
+use crate::load::Load;
+use std::alloc::Global;
+use std::rt::Env;
+use std::{env, io};
+
+pub const USAGE: &str = "usage: bench KIND[,KIND..] CPUS CALLS ROUNDS
+  KIND    ticket, mcs, any-ticket, any-mcs or mutex
+  CPUS    1 to 8, a thread for each
+  CALLS   of each CPU in a round; a round has at most 8388608 events
+  ROUNDS  of each kind
+A line is `KIND NANOSECONDS EVENTS TURNS`.";
+
+/// What the words ask for.
+#[derive(Debug, Drop)]
+pub struct Settings {
+    pub kinds: Vec<Kind>,
+    pub load: Load,
+    pub rounds: u32,
+}
+
+/// Why words were not read.
+#[derive(Clone, Copy, Debug, PartialEq, Eq, Drop)]
+pub enum WordsFault {
+    OutOfMemory,
+    /// The words are not of the form.
+    NoForm,
+}
+
+/// The words after the program's name.
+pub fn words_given<E: Env>(env: &E, alloc: Global) -> Result<Vec<String>, WordsFault> {
+    let mut words = Vec::new(alloc);
+    match env::args(&(env, alloc)) {
+        Ok(all) => {
+            for word in all.skip(1) {
+                if words.push(word).is_err() {
+                    return Err(WordsFault::OutOfMemory);
+                }
+            }
+            Ok(words)
+        }
+        Err(error) if error.kind() == io::ErrorKind::OutOfMemory => Err(WordsFault::OutOfMemory),
+        Err(_) => Err(WordsFault::NoForm),
+    }
+}
+
+/// The kinds of names that are joined by commas.
+fn read_kinds(alloc: Global, names: &str) -> Result<Vec<Kind>, WordsFault> {
+    let mut kinds = Vec::new(alloc);
+    for name in names.split(',') {
+        let kind = Kind::named(name).ok_or(WordsFault::NoForm)?;
+        if kinds.push(kind).is_err() {
+            return Err(WordsFault::OutOfMemory);
+        }
+    }
+    Ok(kinds)
+}
+
+/// A round or more.
+fn read_rounds(word: &str) -> Option<u32> {
+    word.parse().ok().filter(|rounds| *rounds > 0)
+}
+
+fn read_load(cpus: &str, calls: &str) -> Option<Load> {
+    Load::new(cpus.parse().ok()?, calls.parse().ok()?)
+}
+
+impl Settings {
+    /// Reads the words after the program's name.
+    pub fn read(alloc: Global, words: &[String]) -> Result<Settings, WordsFault> {
+        let [kinds, cpus, calls, rounds] = words else {
+            return Err(WordsFault::NoForm);
+        };
+        Ok(Settings {
+            kinds: read_kinds(alloc, kinds.as_str())?,
+            load: read_load(cpus.as_str(), calls.as_str()).ok_or(WordsFault::NoForm)?,
+            rounds: read_rounds(rounds.as_str()).ok_or(WordsFault::NoForm)?,
+        })
+    }
+}

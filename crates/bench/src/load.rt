@@ -1,0 +1,48 @@
+//! How much is called in a round.
+
+ghost use Rattle.std.specs.Prelude.{◌≡◌, ◌<◌, ◌≤◌, IfOk, IfSome, sum};
+
+use event_log::{MOST_EVENTS, OutOfMemory};
+use std::alloc::Global;
+use word_rule::MOST_CPUS;
+
+/// The most events of a round. Each takes 144 bytes of a log.
+pub const MOST_ROUND_EVENTS: u32 = 128 * MOST_EVENTS;
+
+/// How many CPUs call, and how many calls each makes in a round.
+#[derive(Clone, Copy, Debug, PartialEq, Eq, Drop)]
+pub struct Load {
+    pub cpus: u8,
+    pub calls: u32,
+    ghost some: { 0 < cpus },
+    ghost few: { cpus ≤ 8 },
+}
+
+impl Load {
+    /// From 1 CPU to the most of a cell, and from 1 call to the most events of a round.
+    pub fn new(cpus: u8, calls: u32) -> Option<Load> {
+        if cpus == 0 || cpus > MOST_CPUS || calls == 0 {
+            return None;
+        }
+        if calls > MOST_ROUND_EVENTS / u32::from(cpus) {
+            return None;
+        }
+        Some(Load { cpus, calls })
+    }
+
+    /// The calls of each CPU on one queue after another: as many as the log has room for.
+    pub fn shares(&self, alloc: Global) -> Result<Vec<u32>, OutOfMemory>
+        ensures { IfOk result (λ s. sum s.items ≡ self.now.calls) }
+    {
+        let most = MOST_EVENTS / u32::from(self.cpus);
+        let whole = (self.calls / most) as usize;
+        let Ok(mut shares) = vec![in alloc; most; whole] else {
+            return Err(OutOfMemory);
+        };
+        let rest = self.calls % most;
+        if rest > 0 && shares.push(rest).is_err() {
+            return Err(OutOfMemory);
+        }
+        Ok(shares)
+    }
+}

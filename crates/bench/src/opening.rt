@@ -1,0 +1,135 @@
+//! The opening of a queue: a caller for each CPU, in order.
+
+ghost use Rattle.std.specs.Prelude.{◌≡◌, ◌<◌, ◌≤◌};
+
+use crate::by_lock::{ByAny, ByMcs, ByTicket};
+use crate::caller::Caller;
+use crate::kind::Kind;
+use event_log::{Logged, OutOfMemory};
+use guarded_cell::AnyCell;
+use mcs_lock::McsCell;
+use shared_queue::ThreadQueue;
+use std::alloc::Global;
+use std::sync::{Arc, Mutex};
+use ticket_lock::TicketCell;
+use word_rule::{LockKind, MOST_CPUS};
+
+/// The first ticket of a ticket lock.
+const FIRST_TICKET: u64 = 0;
+
+fn open_ticket(
+    alloc: Global,
+    queue: Logged<ThreadQueue>,
+    cpus: u8,
+) -> Result<Vec<Caller>, OutOfMemory>
+    requires some { 0 < cpus }
+    requires few { cpus ≤ MOST_CPUS }
+{
+    let Ok((cell, passes)) = TicketCell::new(alloc, queue, cpus, FIRST_TICKET) else {
+        return Err(OutOfMemory);
+    };
+    let Ok(shared) = Arc::new(alloc, cell) else {
+        return Err(OutOfMemory);
+    };
+    let mut callers = Vec::new(alloc);
+    for pass in passes {
+        let Ok(cell) = Arc::try_clone(&shared) else {
+            return Err(OutOfMemory);
+        };
+        if callers
+            .push(Caller::Ticket(ByTicket { cell, pass }))
+            .is_err()
+        {
+            return Err(OutOfMemory);
+        }
+    }
+    Ok(callers)
+}
+
+fn open_mcs(alloc: Global, queue: Logged<ThreadQueue>, cpus: u8) -> Result<Vec<Caller>, OutOfMemory>
+    requires some { 0 < cpus }
+    requires few { cpus ≤ MOST_CPUS }
+{
+    let Ok((cell, passes)) = McsCell::new(alloc, queue, cpus) else {
+        return Err(OutOfMemory);
+    };
+    let Ok(shared) = Arc::new(alloc, cell) else {
+        return Err(OutOfMemory);
+    };
+    let mut callers = Vec::new(alloc);
+    for pass in passes {
+        let Ok(cell) = Arc::try_clone(&shared) else {
+            return Err(OutOfMemory);
+        };
+        if callers.push(Caller::Mcs(ByMcs { cell, pass })).is_err() {
+            return Err(OutOfMemory);
+        }
+    }
+    Ok(callers)
+}
+
+fn open_any(
+    alloc: Global,
+    kind: LockKind,
+    queue: Logged<ThreadQueue>,
+    cpus: u8,
+) -> Result<Vec<Caller>, OutOfMemory>
+    requires some { 0 < cpus }
+    requires few { cpus ≤ MOST_CPUS }
+{
+    let Ok((cell, passes)) = AnyCell::open(alloc, kind, queue, cpus) else {
+        return Err(OutOfMemory);
+    };
+    let Ok(shared) = Arc::new(alloc, cell) else {
+        return Err(OutOfMemory);
+    };
+    let mut callers = Vec::new(alloc);
+    for pass in passes {
+        let Ok(cell) = Arc::try_clone(&shared) else {
+            return Err(OutOfMemory);
+        };
+        if callers.push(Caller::Any(ByAny { cell, pass })).is_err() {
+            return Err(OutOfMemory);
+        }
+    }
+    Ok(callers)
+}
+
+fn open_mutex(
+    alloc: Global,
+    queue: Logged<ThreadQueue>,
+    cpus: u8,
+) -> Result<Vec<Caller>, OutOfMemory> {
+    let Ok(shared) = Arc::new(alloc, Mutex::new(queue)) else {
+        return Err(OutOfMemory);
+    };
+    let mut callers = Vec::new(alloc);
+    for _ in 0..cpus {
+        let Ok(queue) = Arc::try_clone(&shared) else {
+            return Err(OutOfMemory);
+        };
+        if callers.push(Caller::Mutex(queue)).is_err() {
+            return Err(OutOfMemory);
+        }
+    }
+    Ok(callers)
+}
+
+/// Guards the queue in the way of the kind.
+pub fn open(
+    alloc: Global,
+    kind: Kind,
+    queue: Logged<ThreadQueue>,
+    cpus: u8,
+) -> Result<Vec<Caller>, OutOfMemory>
+    requires some { 0 < cpus }
+    requires few { cpus ≤ MOST_CPUS }
+{
+    match kind {
+        Kind::Ticket => open_ticket(alloc, queue, cpus),
+        Kind::Mcs => open_mcs(alloc, queue, cpus),
+        Kind::AnyTicket => open_any(alloc, LockKind::Ticket, queue, cpus),
+        Kind::AnyMcs => open_any(alloc, LockKind::Mcs, queue, cpus),
+        Kind::Mutex => open_mutex(alloc, queue, cpus),
+    }
+}
