@@ -10,8 +10,10 @@ use crate::tally::Tally;
 use event_log::{Logged, MOST_EVENTS};
 use shared_queue::{QueueCall as Call, ThreadQueue};
 use std::alloc::Global;
+use std::sync::Wait;
 use std::test::Fail;
-use std::time::Duration;
+use std::thread::Threads;
+use std::time::{Clock, Duration};
 
 const KINDS: [Kind; 5] = [
     Kind::Ticket,
@@ -36,7 +38,7 @@ fn words_are_read(rt: HostRuntime) -> Result<(), Fail> {
         return Err(Fail::new("refused"));
     };
     let kinds = [Kind::Ticket, Kind::Mutex, Kind::AnyMcs];
-    assert!(rt; *found.kinds.as_slice() == kinds);
+    assert!(rt; found.kinds.as_slice() == kinds.as_slice());
     assert_eq!(rt; (found.load.cpus, found.load.calls), (8, 1048576));
     assert_eq!(rt; found.rounds, 7);
     Ok(())
@@ -88,12 +90,16 @@ fn other_words_are_refused(rt: HostRuntime) -> Result<(), Fail> {
 
 #[test]
 fn calls_are_shared_out(rt: HostRuntime) -> Result<(), Fail> {
-    let load = Load::new(3, 50000).ok_or(Fail::new("refused"))?;
+    let Some(load) = Load::new(3, 50000) else {
+        return Err(Fail::new("refused"));
+    };
     let Ok(shares) = load.shares(rt.alloc()) else {
         return Err(Fail::new("no memory"));
     };
-    assert!(rt; *shares.as_slice() == [21845, 21845, 6310]);
-    let load = Load::new(8, MOST_ROUND_EVENTS / 8).ok_or(Fail::new("refused"))?;
+    assert!(rt; shares.as_slice() == [21845, 21845, 6310].as_slice());
+    let Some(load) = Load::new(8, MOST_ROUND_EVENTS / 8) else {
+        return Err(Fail::new("refused"));
+    };
     let Ok(shares) = load.shares(rt.alloc()) else {
         return Err(Fail::new("no memory"));
     };
@@ -108,19 +114,30 @@ fn calls_are_shared_out(rt: HostRuntime) -> Result<(), Fail> {
 }
 
 /// A round of so many calls of each CPU.
-fn round_of(rt: HostRuntime, kind: Kind, cpus: u8, calls: u32) -> Result<Round, Fail> {
-    let load = Load::new(cpus, calls).ok_or(Fail::new("refused"))?;
-    one_round(&rt, rt.alloc(), kind, &load).map_err(|_| Fail::new("no round"))
+fn round_of<R: Threads + Wait + Clock + Sync>(
+    rt: &R,
+    alloc: Global,
+    kind: Kind,
+    cpus: u8,
+    calls: u32,
+) -> Result<Round, Fail> {
+    let Some(load) = Load::new(cpus, calls) else {
+        return Err(Fail::new("refused"));
+    };
+    match one_round(rt, alloc, kind, &load) {
+        Ok(round) => Ok(round),
+        Err(_) => Err(Fail::new("no round")),
+    }
 }
 
 #[test]
 fn all_calls_are_made(rt: HostRuntime) -> Result<(), Fail> {
     for kind in KINDS {
         for (cpus, calls) in [(1, 1), (1, 7), (2, 50), (3, 40), (8, 9)] {
-            let round = round_of(rt, kind, cpus, calls)?;
+            let round = round_of(&rt, rt.alloc(), kind, cpus, calls)?;
             let events = usize::from(cpus) * calls as usize;
             assert_eq!(rt; (round.kind, round.tally.events), (kind, events));
-            assert!(rt; round.tally.turns + 1 >= usize::from(cpus));
+            assert!(rt; round.tally.turns.saturating_add(1) >= usize::from(cpus));
             assert!(rt; round.tally.turns < events);
         }
     }
@@ -130,7 +147,7 @@ fn all_calls_are_made(rt: HostRuntime) -> Result<(), Fail> {
 #[test]
 fn one_cpu_takes_no_turns(rt: HostRuntime) -> Result<(), Fail> {
     for kind in KINDS {
-        assert_eq!(rt; round_of(rt, kind, 1, 100)?.tally.turns, 0);
+        assert_eq!(rt; round_of(&rt, rt.alloc(), kind, 1, 100)?.tally.turns, 0);
     }
     Ok(())
 }
@@ -138,7 +155,7 @@ fn one_cpu_takes_no_turns(rt: HostRuntime) -> Result<(), Fail> {
 #[test]
 fn a_round_goes_over_two_queues(rt: HostRuntime) -> Result<(), Fail> {
     for kind in KINDS {
-        let round = round_of(rt, kind, 2, MOST_EVENTS / 2 + 3)?;
+        let round = round_of(&rt, rt.alloc(), kind, 2, MOST_EVENTS / 2 + 3)?;
         assert_eq!(rt; round.tally.events, MOST_EVENTS as usize + 6);
     }
     Ok(())
