@@ -20,7 +20,8 @@ impl<O: SeqObject> McsCell<O> {
         ensures step { IsClear O.SeqObject (state_of_pass pass) (state_of_ready result) }
     {
         let Pass { cpu, key, mut seat } = pass;
-        self.table.store::<Clear>(&mut seat, 1 + cpu.number as usize, 0);
+        self.table
+            .store::<Clear>(&mut seat, 1 + cpu.number as usize, 0);
         Ready { cpu, key, seat }
     }
 
@@ -32,7 +33,9 @@ impl<O: SeqObject> McsCell<O> {
         ensures queued { IfBehind result (λ b. IsBehindOf self.now b × IsEnter O.SeqObject (state_of_ready ready) (state_of_behind b) false) }
     {
         let Ready { cpu, key, mut seat } = ready;
-        let found = self.table.swap::<Enter>(&mut seat, 0, cpu.number as u64 + 1);
+        let found = self
+            .table
+            .swap::<Enter>(&mut seat, 0, cpu.number as u64 + 1);
         if found == 0 {
             let (logged, lent) = self.table.take(&mut seat);
             Entered::Hold(Hold {
@@ -195,7 +198,9 @@ impl<O: SeqObject> McsCell<O> {
             key,
             mut seat,
         } = leaving;
-        let found = self.table.load::<SeeAgain>(&mut seat, 1 + cpu.number as usize);
+        let found = self
+            .table
+            .load::<SeeAgain>(&mut seat, 1 + cpu.number as usize);
         if found == 0 {
             Err(Leaving {
                 cpu,

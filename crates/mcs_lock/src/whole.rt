@@ -158,7 +158,9 @@ impl<O: SeqObject> McsCell<O> {
             seat: theirs,
         } = waiting;
         self.table.join_seat(&mut seat, theirs);
-        let found = self.table.load::<SeeAgain>(&mut seat, 1 + cpu.number as usize);
+        let found = self
+            .table
+            .load::<SeeAgain>(&mut seat, 1 + cpu.number as usize);
         prove!(found != 0);
         let follower = (found - 1) as u8;
         let theirs = self.table.split_seat(&mut seat);
