@@ -4,6 +4,7 @@ use std::sync::Wait;
 use std::sync::atomic::{AtomicUsize, Ordering};
 use std::thread;
 
+/// A `Barrier` that can be opened before all have come: where a thread isn't started, the others must go on.
 #[derive(Drop)]
 pub struct Gate {
     arrived: AtomicUsize,
