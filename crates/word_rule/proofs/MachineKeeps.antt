@@ -15,18 +15,19 @@ use Rattle.word_rule.specs.declared.machine.step_done.StepDone.{StepDone}
 use Rattle.word_rule.specs.Rule.LockStates.{RepresentsLock}
 use Rattle.word_rule.specs.Machine.Shown.{MachineParts, Runs, HasRoom, IsRoomy, opened_by}
 use Rattle.word_rule.specs.Sound.{Opened}
+use Rattle.word_rule.specs.Machine.SoundWorld.{IsTodo}
 use Rattle.word_rule.specs.Turns.{turn, ends_hold}
 use Rattle.word_rule.specs.Machine.World.{World, entry_of, outcome, step, run}
 use Rattle.word_rule.proofs.Openings.{take_more}
-use Rattle.word_rule.proofs.MachineSteps.{Counts, kept_parts, the_cell, stepped}
+use Rattle.word_rule.proofs.MachineSteps.{Counts, kept_parts, able, the_cell, stepped}
 use Rattle.word_rule.proofs.Slices.{map_set, get_set_same, get_set_other, read_get, one_of}
 use Rattle.word_rule.proofs.SoundSteps.{sound_step}
 
-pub same_read : {X : Type 0} (xs : List X) (i : ℕ) (x y : X) → i < length xs → x ≡ get_or xs i x → y ≡ get_or xs i y → x ≡ y
+same_read : {X : Type 0} (xs : List X) (i : ℕ) (x y : X) → i < length xs → x ≡ get_or xs i x → y ≡ get_or xs i y → x ≡ y
 same_read xs i x y lt e f = one_of x y (slice_get xs i) (read_get xs i x lt e) (read_get xs i y lt f)
 
 -- what the code reads of a list
-pub found : {X : Type 0} (items xs : List X) (i : ℕ) (x : X) → items ≡ xs → i < length items → x ≡ get_or items i x → slice_get xs i ≡ Some x
+found : {X : Type 0} (items xs : List X) (i : ℕ) (x : X) → items ≡ xs → i < length items → x ≡ get_or items i x → slice_get xs i ≡ Some x
 found items xs i x e lt is = subst (λ l. slice_get l i ≡ Some x) e (read_get items i x lt is)
 
 pub not_found : {X : Type 0} (items xs : List X) (i : ℕ) → items ≡ xs → length items ≤ i → slice_get xs i ≡ None
@@ -36,6 +37,20 @@ not_found items xs i e le = subst (λ l. slice_get l i ≡ None) e (past items i
     past [] i le = refl
     past (y ∷ ys) zero le = absurd (omega (arith, le))
     past (y ∷ ys) (suc i) le = past ys i (omega (arith, le))
+
+module _ {O P C R : Type 0} (meaning : Ghosts O P C R) (cells : List (CellSpec O P C R)) (locks : List LockWords) (scripts : List (Vec (Todo O P C R) Global)) (done : List (Progress O P C R))
+    (i : ℕ) (p : Progress O P C R) (p_is : p ≡ get_or done i p) (script : Vec (Todo O P C R) Global) (script_is : script ≡ get_or scripts i script) (todo : Todo O P C R) where
+  -- the entry that a CPU reads in its script can be done
+  pub at_hand : (m : MachineParts O P C R) → kept_parts meaning cells locks scripts done ≡ m → Runs meaning (kept_parts meaning cells locks scripts done) → i < length m.scripts
+      → (items : List (Todo O P C R)) → items ≡ script.items → p.at < length items → todo ≡ get_or items p.at todo → (i < length scripts) × (slice_get script.items p.at ≡ Some todo) × IsTodo (length cells) todo
+  at_hand m view_is r exists items same within is =
+      let lt : i < length scripts = subst (λ (k : MachineParts O P C R). i < length k.scripts) (sym view_is) exists in
+      let there = found items script.items p.at todo same within is in
+      (lt, there, able meaning cells locks scripts done i lt p p_is script script_is todo there r)
+
+  -- and it is that where its progress is read again
+  pub at_again : i < length scripts → length scripts ≡ length done → slice_get script.items p.at ≡ Some todo → (q : Progress O P C R) → q ≡ get_or done i q → slice_get script.items q.at ≡ Some todo
+  at_again lt long there q q_is = subst (λ (z : Progress O P C R). slice_get script.items z.at ≡ Some todo) (same_read done i p q (omega (arith, lt, long)) p_is q_is) there
 
 module _ {O P C R : Type 0} (meaning : Ghosts O P C R) (i : ℕ) (todo : Todo O P C R) (s : StepDone) where
   -- the room for the entries that are left

@@ -47,8 +47,7 @@ impl LockWords {
         requires shows { (l : Lock) × RepresentsLock (vec_len self.old.stages) self.old.kind self.old.words.items self.old.stages.items l }
         requires exists { cpu < vec_len self.old.stages }
         requires few { vec_len self.old.stages ≤ MOST_CPUS }
-        ensures done { (l : Lock) → RepresentsLock (vec_len self.old.stages) self.old.kind self.old.words.items self.old.stages.items l → result ≡ (turn l cpu).1 }
-        ensures shows { (l : Lock) → RepresentsLock (vec_len self.old.stages) self.old.kind self.old.words.items self.old.stages.items l → RepresentsLock (vec_len self.old.stages) self.new.kind self.new.words.items self.new.stages.items (turn l cpu).0 }
+        ensures { (l : Lock) → RepresentsLock (vec_len self.old.stages) self.old.kind self.old.words.items self.old.stages.items l → (result ≡ (turn l cpu).1) × RepresentsLock (vec_len self.old.stages) self.new.kind self.new.words.items self.new.stages.items (turn l cpu).0 }
     {
         match self.kind {
             LockKind::Ticket => turn_ticket(&mut self.words, &mut self.stages, cpu),

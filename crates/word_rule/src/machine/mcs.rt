@@ -1,5 +1,5 @@
-//! An MCS lock's steps, each on one word (Mellor-Crummey and Scott 1991). With n CPUs word 0 is the tail, word 1 + i the
-//! `next` of CPU i, and word 1 + n + i its `locked`. A tail or a `next` is 0, or j + 1 where it names CPU j.
+//! An MCS lock's steps, each on one word (Mellor-Crummey and Scott 1991). A tail or a `next` is 0, or j + 1 where it names
+//! CPU j.
 
 ghost use Rattle.std.specs.Prelude.{◌≡◌, ℕ, ◌+◌, ◌<◌, ◌≤◌, true, false, length, slice_index_or};
 ghost use Rattle.word_rule.specs.Locks.{Lock};
@@ -7,20 +7,19 @@ ghost use Rattle.word_rule.specs.Rule.LockStates.{RepresentsLock};
 ghost use Rattle.word_rule.specs.Turns.{turn};
 
 use crate::machine::step_done::StepDone;
-use crate::{LockKind, MOST_CPUS, McsStage, Stage};
+use crate::{LockKind, MOST_CPUS, McsStage, Stage, locked_index, next_index};
 
 /// The next step of a CPU.
 pub fn turn_mcs(words: &mut [u64], stages: &mut [Stage], cpu: u8) -> StepDone
     requires shows { (l : Lock) × RepresentsLock (length stages.old) LockKind.Mcs words.old stages.old l }
     requires exists { cpu < length stages.old }
     requires few { length stages.old ≤ MOST_CPUS }
-    ensures done { (l : Lock) → RepresentsLock (length stages.old) LockKind.Mcs words.old stages.old l → result ≡ (turn l cpu).1 }
-    ensures shows { (l : Lock) → RepresentsLock (length stages.old) LockKind.Mcs words.old stages.old l → RepresentsLock (length stages.old) LockKind.Mcs words.new stages.new (turn l cpu).0 }
+    ensures { (l : Lock) → RepresentsLock (length stages.old) LockKind.Mcs words.old stages.old l → (result ≡ (turn l cpu).1) × RepresentsLock (length stages.old) LockKind.Mcs words.new stages.new (turn l cpu).0 }
 {
     let i = cpu as usize;
     match stages[i] {
         Stage::Idle => {
-            words[1 + i] = 0;
+            words[next_index(cpu)] = 0;
             stages[i] = Stage::Mcs(McsStage::Ready);
             StepDone::Clear
         }
@@ -35,10 +34,9 @@ fn turn_in_queue(words: &mut [u64], stages: &mut [Stage], cpu: u8, stage: McsSta
     requires exists { cpu < length stages.old }
     requires few { length stages.old ≤ MOST_CPUS }
     requires stands { slice_index_or stages.old cpu Stage.Idle ≡ Stage.Mcs stage }
-    ensures done { (l : Lock) → RepresentsLock (length stages.old) LockKind.Mcs words.old stages.old l → result ≡ (turn l cpu).1 }
-    ensures shows { (l : Lock) → RepresentsLock (length stages.old) LockKind.Mcs words.old stages.old l → RepresentsLock (length stages.old) LockKind.Mcs words.new stages.new (turn l cpu).0 }
+    ensures { (l : Lock) → RepresentsLock (length stages.old) LockKind.Mcs words.old stages.old l → (result ≡ (turn l cpu).1) × RepresentsLock (length stages.old) LockKind.Mcs words.new stages.new (turn l cpu).0 }
 {
-    let n = stages.len();
+    let n = stages.len() as u8;
     let i = cpu as usize;
     let me = cpu as u64 + 1;
     match stage {
@@ -53,23 +51,23 @@ fn turn_in_queue(words: &mut [u64], stages: &mut [Stage], cpu: u8, stage: McsSta
             StepDone::Enter(false)
         }
         McsStage::Behind(ahead) => {
-            words[1 + n + i] = 1;
+            words[locked_index(n, cpu)] = 1;
             stages[i] = Stage::Mcs(McsStage::Armed(ahead));
             StepDone::Arm
         }
         McsStage::Armed(ahead) => {
-            words[1 + ahead as usize] = me;
+            words[next_index(ahead)] = me;
             stages[i] = Stage::Mcs(McsStage::Waiting);
             StepDone::Link
         }
         McsStage::Waiting => {
-            if words[1 + n + i] != 0 {
+            if words[locked_index(n, cpu)] != 0 {
                 return StepDone::Look(false);
             }
             stages[i] = Stage::Mcs(McsStage::Holding);
             StepDone::Look(true)
         }
-        McsStage::Holding => see(words[1 + i], McsStage::Alone, &mut stages[i]),
+        McsStage::Holding => see(words[next_index(cpu)], McsStage::Alone, &mut stages[i]),
         McsStage::Alone => {
             if words[0] != me {
                 stages[i] = Stage::Mcs(McsStage::Leaving);
@@ -79,9 +77,9 @@ fn turn_in_queue(words: &mut [u64], stages: &mut [Stage], cpu: u8, stage: McsSta
             stages[i] = Stage::Idle;
             StepDone::Empty(true)
         }
-        McsStage::Leaving => see(words[1 + i], McsStage::Leaving, &mut stages[i]),
+        McsStage::Leaving => see(words[next_index(cpu)], McsStage::Leaving, &mut stages[i]),
         McsStage::Passing(behind) => {
-            words[1 + n + behind as usize] = 0;
+            words[locked_index(n, behind)] = 0;
             stages[i] = Stage::Idle;
             StepDone::Pass
         }

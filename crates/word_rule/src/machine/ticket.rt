@@ -12,8 +12,7 @@ use crate::{LockKind, Stage, TicketStage};
 pub fn turn_ticket(words: &mut [u64], stages: &mut [Stage], cpu: u8) -> StepDone
     requires shows { (l : Lock) × RepresentsLock (length stages.old) LockKind.Ticket words.old stages.old l }
     requires exists { cpu < length stages.old }
-    ensures done { (l : Lock) → RepresentsLock (length stages.old) LockKind.Ticket words.old stages.old l → result ≡ (turn l cpu).1 }
-    ensures shows { (l : Lock) → RepresentsLock (length stages.old) LockKind.Ticket words.old stages.old l → RepresentsLock (length stages.old) LockKind.Ticket words.new stages.new (turn l cpu).0 }
+    ensures { (l : Lock) → RepresentsLock (length stages.old) LockKind.Ticket words.old stages.old l → (result ≡ (turn l cpu).1) × RepresentsLock (length stages.old) LockKind.Ticket words.new stages.new (turn l cpu).0 }
 {
     let i = cpu as usize;
     match stages[i] {
@@ -33,8 +32,7 @@ fn turn_in_line(words: &mut [u64], stages: &mut [Stage], cpu: u8, stage: TicketS
     requires shows { (l : Lock) × RepresentsLock (length stages.old) LockKind.Ticket words.old stages.old l }
     requires exists { cpu < length stages.old }
     requires stands { slice_index_or stages.old cpu Stage.Idle ≡ Stage.Ticket stage }
-    ensures done { (l : Lock) → RepresentsLock (length stages.old) LockKind.Ticket words.old stages.old l → result ≡ (turn l cpu).1 }
-    ensures shows { (l : Lock) → RepresentsLock (length stages.old) LockKind.Ticket words.old stages.old l → RepresentsLock (length stages.old) LockKind.Ticket words.new stages.new (turn l cpu).0 }
+    ensures { (l : Lock) → RepresentsLock (length stages.old) LockKind.Ticket words.old stages.old l → (result ≡ (turn l cpu).1) × RepresentsLock (length stages.old) LockKind.Ticket words.new stages.new (turn l cpu).0 }
 {
     let i = cpu as usize;
     match stage {

@@ -2,8 +2,8 @@ use Rattle.std.proofs.Common.{arith}
 use Rattle.word_rule.proofs.ShownTurns.{cleared, wide}
 use Rattle.word_rule.proofs.machine.mcs.turn_mcs.Goals as goal
 
-pub bounds-words-i : goal.bounds-words-i
-bounds-words-i c = omega (arith, c.requires.exists, wide _ _ _ c.requires.shows.0 c.requires.shows.1 c.args.cpu c.requires.exists)
+pub bounds-words-next_index : goal.bounds-words-next_index
+bounds-words-next_index c = omega (arith, c.next_index.ensures, c.requires.exists, wide _ _ _ c.requires.shows.0 c.requires.shows.1 c.args.cpu c.requires.exists)
 
-pub returns-in-Idle-clause-shows : goal.returns-in-Idle-clause-shows
-returns-in-Idle-clause-shows c = λ l h. (cleared _ _ _ l h c.args.cpu c.requires.exists c.in-Idle.is).1
+pub returns-in-Idle : goal.returns-in-Idle
+returns-in-Idle c = λ l h. rw c.next_index.ensures (cleared _ _ _ l h c.args.cpu c.requires.exists c.in-Idle.is)
