@@ -10,7 +10,7 @@ use crate::cell::McsCell;
 use crate::rule::{Arm, Clear, Empty, Enter, Link, Look, PassOn, See, SeeAgain};
 use crate::states::{Alone, Armed, Behind, Entered, Leaving, Passing, Ready, Waiting};
 use event_log::SeqObject;
-use word_rule::{Hold, Pass};
+use word_rule::{Hold, Pass, locked_index, next_index};
 
 impl<O: SeqObject> McsCell<O> {
     /// Clears its `next`: one store.
@@ -21,7 +21,7 @@ impl<O: SeqObject> McsCell<O> {
     {
         let Pass { cpu, key, mut seat } = pass;
         self.table
-            .store::<Clear>(&mut seat, 1 + cpu.number as usize, 0);
+            .store::<Clear>(&mut seat, next_index(cpu.number), 0);
         Ready { cpu, key, seat }
     }
 
@@ -69,7 +69,7 @@ impl<O: SeqObject> McsCell<O> {
             mut seat,
         } = behind;
         self.table
-            .store::<Arm>(&mut seat, 1 + self.cpus as usize + cpu.number as usize, 1);
+            .store::<Arm>(&mut seat, locked_index(self.cpus, cpu.number), 1);
         Armed {
             cpu,
             ahead,
@@ -91,7 +91,7 @@ impl<O: SeqObject> McsCell<O> {
             mut seat,
         } = armed;
         self.table
-            .store::<Link>(&mut seat, 1 + ahead as usize, cpu.number as u64 + 1);
+            .store::<Link>(&mut seat, next_index(ahead), cpu.number as u64 + 1);
         Waiting { cpu, key, seat }
     }
 
@@ -104,7 +104,7 @@ impl<O: SeqObject> McsCell<O> {
         let Waiting { cpu, key, mut seat } = waiting;
         let found = self
             .table
-            .load::<Look>(&mut seat, 1 + self.cpus as usize + cpu.number as usize);
+            .load::<Look>(&mut seat, locked_index(self.cpus, cpu.number));
         if found == 0 {
             let (logged, lent) = self.table.take(&mut seat);
             Ok(Hold {
@@ -132,7 +132,7 @@ impl<O: SeqObject> McsCell<O> {
             key,
             mut seat,
         } = hold;
-        let found = self.table.load::<See>(&mut seat, 1 + cpu.number as usize);
+        let found = self.table.load::<See>(&mut seat, next_index(cpu.number));
         if found == 0 {
             Err(Alone {
                 cpu,
@@ -200,7 +200,7 @@ impl<O: SeqObject> McsCell<O> {
         } = leaving;
         let found = self
             .table
-            .load::<SeeAgain>(&mut seat, 1 + cpu.number as usize);
+            .load::<SeeAgain>(&mut seat, next_index(cpu.number));
         if found == 0 {
             Err(Leaving {
                 cpu,
@@ -238,7 +238,7 @@ impl<O: SeqObject> McsCell<O> {
         } = passing;
         self.table.put_back(&mut seat, logged, lent);
         self.table
-            .store::<PassOn>(&mut seat, 1 + self.cpus as usize + follower as usize, 0);
+            .store::<PassOn>(&mut seat, locked_index(self.cpus, follower), 0);
         Pass { cpu, key, seat }
     }
 }

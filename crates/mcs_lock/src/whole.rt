@@ -14,7 +14,7 @@ use crate::states::{Behind, Entered, Leaving, Passing, Waiting};
 use crossbeam_utils::Backoff;
 use event_log::SeqObject;
 use std::sync::Wait;
-use word_rule::{Hold, Pass};
+use word_rule::{Hold, Pass, locked_index, next_index};
 
 impl<O: SeqObject> McsCell<O> {
     /// Enters, and where another is before it looks until it gets the object. The number is that of the looks.
@@ -113,7 +113,7 @@ impl<O: SeqObject> McsCell<O> {
         self.table.join_seat(&mut seat, theirs);
         let found = self
             .table
-            .load::<Look>(&mut seat, 1 + self.cpus as usize + cpu.number as usize);
+            .load::<Look>(&mut seat, locked_index(self.cpus, cpu.number));
         prove!(found == 0);
         let (logged, lent) = self.table.take(&mut seat);
         let theirs = self.table.split_seat(&mut seat);
@@ -160,7 +160,7 @@ impl<O: SeqObject> McsCell<O> {
         self.table.join_seat(&mut seat, theirs);
         let found = self
             .table
-            .load::<SeeAgain>(&mut seat, 1 + cpu.number as usize);
+            .load::<SeeAgain>(&mut seat, next_index(cpu.number));
         prove!(found != 0);
         let follower = (found - 1) as u8;
         let theirs = self.table.split_seat(&mut seat);

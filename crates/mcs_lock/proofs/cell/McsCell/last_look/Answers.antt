@@ -23,9 +23,9 @@ load-found-requires g c = let s = c.args.self.now in let a = c.args.waiting in l
       g.met.O.SeqObject.event_fits,
       (
         search rules,
-        omega arith,
-        look_now g.O.SeqObject key c.args.self.now.kind _ _ a.cpu.number s.cpus c.join_seat.new.seat.me s.sized.1 (subst (λ z. has z.0.main.cpu z.0.main.owned ≡ true) (sym e) a.waits.pass_view.caller.acts) (ap (λ z. z.0.main.cpu) e ∙ a.waits.at.number)
-            (ap (λ z. z.0.main.stage) e ∙ a.waits.at.stands) (subst (λ z. AllIdle z.0.others) (sym e) (c.args.pass.idle.at.stands, tt)),
+        omega (arith, c.locked_index.ensures),
+        rw c.locked_index.ensures (look_now g.O.SeqObject key c.args.self.now.kind _ _ a.cpu.number s.cpus c.join_seat.new.seat.me s.sized.1 (subst (λ z. has z.0.main.cpu z.0.main.owned ≡ true) (sym e) a.waits.pass_view.caller.acts) (ap (λ z. z.0.main.cpu) e ∙ a.waits.at.number)
+            (ap (λ z. z.0.main.stage) e ∙ a.waits.at.stands) (subst (λ z. AllIdle z.0.others) (sym e) (c.args.pass.idle.at.stands, tt))),
       ),
     )
 

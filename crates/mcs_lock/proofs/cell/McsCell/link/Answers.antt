@@ -10,7 +10,7 @@ pub store-requires : goal.store-requires
 store-requires g c = let s = c.args.self.now in let a = c.args.armed in let key = s.table.table.shared.key in let words = s.sized.0 in
     let w = subst (λ k. IsWithout g.O.SeqObject k a.cpu.number (Mcs (Armed a.ahead)) a.seat.me) c.requires.told a.armed in
     let below = else_below key s.cpus a.ahead a.seat.me s.sized.1 w.at.told a.other in
-    (g.met.O.SeqObject.event_fits, (c.requires.table, omega arith, link_now g.O.SeqObject key c.args.self.now.kind _ _ a.cpu.number a.ahead a.seat.me w))
+    (g.met.O.SeqObject.event_fits, (c.requires.table, omega (arith, c.next_index.ensures), rw c.next_index.ensures (link_now g.O.SeqObject key c.args.self.now.kind _ _ a.cpu.number a.ahead a.seat.me w)))
 
 pub returns-clause-step : goal.returns-clause-step
 returns-clause-step g c = let a = c.args.armed in

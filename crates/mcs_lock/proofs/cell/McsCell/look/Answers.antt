@@ -13,7 +13,7 @@ pub load-found-requires : goal.load-found-requires
 load-found-requires g c = let s = c.args.self.now in let a = c.args.waiting in let key = s.table.table.shared.key in let words = s.sized.0 in
     let w = subst (λ k. IsWithout g.O.SeqObject k a.cpu.number (Mcs Waiting) a.seat.me) c.requires.told a.waits in
     let below = below_without g.O.SeqObject key s.cpus a.cpu.number (Mcs Waiting) a.seat.me s.sized.1 w in
-    (g.met.O.SeqObject.event_fits, (c.requires.table, omega arith, look_now g.O.SeqObject key c.args.self.now.kind _ _ a.cpu.number s.cpus a.seat.me s.sized.1 w.pass_view.caller.acts w.at.number w.at.stands (idle_alone a.seat.me.0.others w.at.alone)))
+    (g.met.O.SeqObject.event_fits, (c.requires.table, omega (arith, c.locked_index.ensures), rw c.locked_index.ensures (look_now g.O.SeqObject key c.args.self.now.kind _ _ a.cpu.number s.cpus a.seat.me s.sized.1 w.pass_view.caller.acts w.at.number w.at.stands (idle_alone a.seat.me.0.others w.at.alone))))
 
 pub take-logged-requires : goal.take-logged-requires
 take-logged-requires g c = let t = c.load-found.ensures.2.hit c.if-found-eq0.true in

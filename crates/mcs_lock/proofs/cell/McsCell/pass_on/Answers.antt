@@ -14,7 +14,7 @@ pub store-requires : goal.store-requires
 store-requires g c = let s = c.args.self.now in let a = c.args.passing in let key = s.table.table.shared.key in let words = s.sized.0 in
     let w = subst (λ k. IsWith g.O.SeqObject k a.cpu.number (Mcs (Passing a.follower)) a.logged a.seat.me) c.requires.told a.passes in
     let below = else_below key s.cpus a.follower a.seat.me s.sized.1 w.at.told a.other in
-    (g.met.O.SeqObject.event_fits, (search rules, omega arith, pass_now g.O.SeqObject key c.args.self.now.kind _ _ a.cpu.number s.cpus a.follower a.logged a.seat.me c.put_back.new.seat.me s.sized.1 w s.table.sized c.put_back.ensures.2))
+    (g.met.O.SeqObject.event_fits, (search rules, omega (arith, c.locked_index.ensures), rw c.locked_index.ensures (pass_now g.O.SeqObject key c.args.self.now.kind _ _ a.cpu.number s.cpus a.follower a.logged a.seat.me c.put_back.new.seat.me s.sized.1 w s.table.sized c.put_back.ensures.2)))
 
 pub invariant_of-result : goal.invariant_of-result
 invariant_of-result g c = let a = c.args.passing in

@@ -12,7 +12,7 @@ load-found-requires g c = let s = c.args.self.now in let a = c.args.hold in let 
     let at = holding_at a.key.value.kind a.seat.me.0.main.stage (ap (λ k. k.kind) c.requires.told ∙ s.kind) a.there in
     let w = subst (λ q. IsWith g.O.SeqObject key a.cpu.number q a.logged a.seat.me) at (subst (λ k. IsWith g.O.SeqObject k a.cpu.number a.seat.me.0.main.stage a.logged a.seat.me) c.requires.told a.holds) in
     let below = below_with g.O.SeqObject key s.cpus a.cpu.number (Mcs Holding) a.logged a.seat.me s.sized.1 w in
-    (g.met.O.SeqObject.event_fits, (c.requires.table, omega arith, see_now g.O.SeqObject key c.args.self.now.kind _ _ a.cpu.number a.seat.me a.logged w))
+    (g.met.O.SeqObject.event_fits, (c.requires.table, omega (arith, c.next_index.ensures), rw c.next_index.ensures (see_now g.O.SeqObject key c.args.self.now.kind _ _ a.cpu.number a.seat.me a.logged w)))
 
 pub invariant_of-result : goal.invariant_of-result
 invariant_of-result g c = let a = c.args.hold in

@@ -10,7 +10,7 @@ pub load-found-requires : goal.load-found-requires
 load-found-requires g c = let s = c.args.self.now in let a = c.args.leaving in let key = s.table.table.shared.key in let words = s.sized.0 in
     let w = subst (λ k. IsWith g.O.SeqObject k a.cpu.number (Mcs Leaving) a.logged a.seat.me) c.requires.told a.leaves in
     let below = below_with g.O.SeqObject key s.cpus a.cpu.number (Mcs Leaving) a.logged a.seat.me s.sized.1 w in
-    (g.met.O.SeqObject.event_fits, (c.requires.table, omega arith, see_again_now g.O.SeqObject key c.args.self.now.kind _ _ a.cpu.number a.seat.me a.logged w))
+    (g.met.O.SeqObject.event_fits, (c.requires.table, omega (arith, c.next_index.ensures), rw c.next_index.ensures (see_again_now g.O.SeqObject key c.args.self.now.kind _ _ a.cpu.number a.seat.me a.logged w)))
 
 pub invariant_of-result : goal.invariant_of-result
 invariant_of-result g c = let a = c.args.leaving in
