@@ -3,10 +3,8 @@
 ghost use Rattle.std.specs.Prelude.{◌≡◌, true};
 ghost use Rattle.word_rule.specs.Cell.{Grows, OwnTogether};
 ghost use Rattle.word_rule.specs.McsSteps.{IsWaitingLook, IsSeeAgain};
-ghost use Rattle.mcs_lock.specs.Passes.{IsPassOf, IsBehindOf, IsWaitingOf, IsHoldOf, IsLeavingOf, IsPassingOf, view_of_behind, view_of_waiting, view_of_leaving, view_of_passing};
-ghost use Rattle.word_rule.specs.Passes.{view_of_pass, view_of_hold};
-ghost use Rattle.mcs_lock.specs.Passes.{state_of_waiting, state_of_leaving, state_of_passing};
-ghost use Rattle.word_rule.specs.Passes.{state_of_hold};
+ghost use Rattle.mcs_lock.specs.Passes.{IsPassOf, IsBehindOf, IsWaitingOf, IsHoldOf, IsLeavingOf, IsPassingOf, view_of_behind, view_of_waiting, view_of_leaving, view_of_passing, state_of_waiting, state_of_leaving, state_of_passing};
+ghost use Rattle.word_rule.specs.Passes.{view_of_pass, view_of_hold, state_of_hold};
 
 use crate::cell::McsCell;
 use crate::rule::{Look, SeeAgain};

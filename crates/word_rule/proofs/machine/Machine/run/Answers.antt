@@ -1,4 +1,4 @@
-use Rattle.std.proofs.Common.{◌<◌, ◌∙◌, sym, subst, length, get_or}
+use Rattle.std.proofs.Common.{◌∙◌, sym, subst}
 use Rattle.word_rule.specs.Machine.Shown.{Represents}
 use Rattle.word_rule.proofs.MachineKeeps.{run_take}
 use Rattle.word_rule.proofs.machine.Machine.run.Goals as goal
@@ -11,6 +11,3 @@ loop-cpu-preserved g c =
       scripts = c.step.ensures.scripts ∙ i.scripts;
       opened = c.step.ensures.opened ∙ i.opened;
     }
-
-pub step-requires : goal.step-requires
-step-requires g c = subst (λ scripts. get_or c.args.schedule.now c.loop-cpu.cpu-index 0 < length scripts) (sym c.loop-cpu.invariant.scripts) (c.requires c.loop-cpu.cpu-index 0 c.loop-cpu-test.true)

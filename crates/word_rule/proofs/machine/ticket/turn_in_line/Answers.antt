@@ -1,6 +1,6 @@
 use Rattle.std.proofs.Common.{ap, ◌∙◌}
 use Rattle.word_rule.specs.declared.stage.Stage.TheVariants.{Ticket}
-use Rattle.word_rule.proofs.ShownTurns.{won, lost, served}
+use Rattle.word_rule.proofs.ShownTurns.{won, lost}
 use Rattle.word_rule.proofs.machine.ticket.turn_in_line.Goals as goal
 
 pub returns-then-words-ticket : goal.returns-then-words-ticket
@@ -8,6 +8,3 @@ returns-then-words-ticket c = λ l h. lost _ _ _ l h c.args.cpu c.requires.exist
 
 pub returns-else-words-ticket : goal.returns-else-words-ticket
 returns-else-words-ticket c = λ l h. won _ _ _ l h c.args.cpu c.requires.exists c.in-Drawn.ticket (c.requires.stands ∙ ap (λ q. Ticket q) c.in-Drawn.is) c.if-words-ticket.false
-
-pub returns-in-Served : goal.returns-in-Served
-returns-in-Served c = λ l h. served _ _ _ l h c.args.cpu c.requires.exists c.in-Served.field-0 (c.requires.stands ∙ ap (λ q. Ticket q) c.in-Served.is)
