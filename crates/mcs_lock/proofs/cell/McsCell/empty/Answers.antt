@@ -1,4 +1,4 @@
-use Rattle.std.proofs.Common.{rules, ◌∷◌, refl, sym, ap, subst, ◌∙◌, arith, Some, None}
+use Rattle.std.proofs.Common.{rules, ◌∷◌, refl, sym, ap, subst, ◌∙◌, arith, Some}
 use Rattle.atomic_table.specs.Table.{rest}
 use Rattle.word_rule.specs.declared.stage.Stage.TheVariants.{Mcs}
 use Rattle.word_rule.specs.declared.stage.McsStage.TheVariants.{Alone, Leaving}
@@ -10,9 +10,6 @@ use Rattle.mcs_lock.specs.Steps.{SawLawful}
 use Rattle.mcs_lock.specs.Passes.{state_of_alone}
 use Rattle.mcs_lock.proofs.McsActing.{empty_now, came_back, goes_with, moves_with}
 use Rattle.mcs_lock.proofs.cell.McsCell.empty.Goals as goal
-
-pub put_back-requires : goal.put_back-requires
-put_back-requires g c = let k = c.args.alone.alone.at.carries in (g.met.O.SeqObject.event_fits, (c.requires.table, k ∙ ap (λ l. (0, None) ∷ rest l) (sym k)))
 
 pub compare_exchange-found-requires : goal.compare_exchange-found-requires
 compare_exchange-found-requires g c = let s = c.args.self.now in let a = c.args.alone in let words = s.sized.0 in

@@ -1,4 +1,4 @@
-use Rattle.std.proofs.Common.{rules, ◌≡◌, true, refl, ℕ, ◌-◌, ◌∷◌, sym, ap, subst, ◌∙◌, arith, Some}
+use Rattle.std.proofs.Common.{rules, refl, ℕ, ◌-◌, ◌∷◌, sym, ap, subst, ◌∙◌, arith, Some}
 use Rattle.atomic_table.specs.Table.{rest}
 use Rattle.word_rule.specs.declared.stage.Stage.TheVariants.{Mcs}
 use Rattle.word_rule.specs.declared.stage.McsStage.TheVariants.{Ready, Behind, Holding}

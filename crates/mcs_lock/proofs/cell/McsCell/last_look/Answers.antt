@@ -12,10 +12,6 @@ use Rattle.mcs_lock.proofs.McsActing.{look_now, below_without}
 use Rattle.mcs_lock.proofs.cell.McsCell.last_look.Goals as goal
 use Rattle.mcs_lock.proofs.cell.McsCell.last_look.Given as given
 
-pub join_seat-requires : goal.join_seat-requires
-join_seat-requires g c = let s = c.args.self.now in let words = s.sized.0 in
-    (g.met.O.SeqObject.event_fits, (search rules, search rules, search rules, omega arith, c.args.waiting.waits.at.alone, c.args.pass.idle.at.alone))
-
 pub load-found-requires : goal.load-found-requires
 load-found-requires g c = let s = c.args.self.now in let a = c.args.waiting in let key = s.table.table.shared.key in let words = s.sized.0 in let e = c.join_seat.ensures.2 in
     let w = subst (λ k. IsWithout g.O.SeqObject k a.cpu.number (Mcs Waiting) a.seat.me) c.requires.waiting.told a.waits in
@@ -38,10 +34,6 @@ prove-unreachable-requires g c = let a = c.args.waiting in let p = c.args.pass i
 pub take-logged-requires : goal.take-logged-requires
 take-logged-requires g c = let t = c.load-found.ensures.2.hit c.if-prove.false in
     (g.met.O.SeqObject.event_fits, (c.load-found.ensures.0 ∙ (c.join_seat.ensures.0 ∙ c.requires.waiting.table), (t.object, ap (λ z. z.1) t.seat ∙ ap (λ z. (0, Some t.object) ∷ rest z.1) (sym t.seat))))
-
-pub split_seat-theirs-requires : goal.split_seat-theirs-requires
-split_seat-theirs-requires g c = let s = c.args.self.now in let words = s.sized.0 in
-    (g.met.O.SeqObject.event_fits, (search rules, omega arith))
 
 -- what the look gave, and what each of the two has seen
 last : (g : given.Over) (c : goal.After-split_seat-theirs g)

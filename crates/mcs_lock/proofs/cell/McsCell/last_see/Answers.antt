@@ -11,10 +11,6 @@ use Rattle.mcs_lock.proofs.McsActing.{find_now, below_with, named, not_else, is_
 use Rattle.mcs_lock.proofs.cell.McsCell.last_see.Goals as goal
 use Rattle.mcs_lock.proofs.cell.McsCell.last_see.Given as given
 
-pub join_seat-requires : goal.join_seat-requires
-join_seat-requires g c = let s = c.args.self.now in let words = s.sized.0 in
-    (g.met.O.SeqObject.event_fits, (search rules, search rules, search rules, omega arith, c.args.leaving.leaves.at.alone, c.args.waiting.waits.at.alone))
-
 pub load-found-requires : goal.load-found-requires
 load-found-requires g c = let s = c.args.self.now in let a = c.args.leaving in let key = s.table.table.shared.key in let words = s.sized.0 in let e = c.join_seat.ensures.2 in
     let w = subst (λ k. IsWith g.O.SeqObject k a.cpu.number (Mcs Leaving) a.logged a.seat.me) c.requires.leaving.told a.leaves in
@@ -39,10 +35,6 @@ overflow_cast-follower g c = let s = c.args.self.now in let a = c.args.leaving i
     let told = ap (λ z. z.0.told) c.join_seat.ensures.2 ∙ (a.leaves.at.told ∙ ap (λ k. k ∷ []) c.requires.leaving.told) in
     let below = else_below s.table.table.shared.key s.cpus t.cpu c.join_seat.new.seat.me s.sized.1 told t.other in
     let small : c.load-found.result - 1 < 256 = omega arith in record { fits = small }
-
-pub split_seat-theirs-requires : goal.split_seat-theirs-requires
-split_seat-theirs-requires g c = let s = c.args.self.now in let words = s.sized.0 in
-    (g.met.O.SeqObject.event_fits, (search rules, omega arith))
 
 -- the first caller moved, the second is as it was, and the word named another CPU
 saw : (g : given.Over) (c : goal.After-split_seat-theirs g) → let a = c.args.leaving in let w = c.args.waiting in let s = c.split_seat-theirs in let k : ℕ = c.load-found.result - 1 in

@@ -1,14 +1,10 @@
-use Rattle.std.proofs.Common.{rules, ◌∷◌, sym, ap, subst, ◌∙◌, arith, None}
-use Rattle.atomic_table.specs.Table.{rest}
+use Rattle.std.proofs.Common.{rules, subst, arith}
 use Rattle.word_rule.specs.declared.stage.Stage.TheVariants.{Mcs}
 use Rattle.word_rule.specs.declared.stage.McsStage.TheVariants.{Passing}
 use Rattle.word_rule.specs.Rule.Callers.{IsWith}
 use Rattle.word_rule.proofs.Acting.{left, rests_now, gives_now}
 use Rattle.mcs_lock.proofs.McsActing.{pass_now, else_below, is_other}
 use Rattle.mcs_lock.proofs.cell.McsCell.pass_on.Goals as goal
-
-pub put_back-requires : goal.put_back-requires
-put_back-requires g c = let k = c.args.passing.passes.at.carries in (g.met.O.SeqObject.event_fits, (c.requires.table, k ∙ ap (λ l. (0, None) ∷ rest l) (sym k)))
 
 pub store-requires : goal.store-requires
 store-requires g c = let s = c.args.self.now in let a = c.args.passing in let key = s.table.table.shared.key in let words = s.sized.0 in

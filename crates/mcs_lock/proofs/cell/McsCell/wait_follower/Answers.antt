@@ -1,12 +1,8 @@
 use Rattle.std.proofs.Common.{◌∙◌}
 use Rattle.word_rule.specs.declared.stage.Stage.TheVariants.{Mcs}
-use Rattle.word_rule.specs.declared.stage.McsStage.TheVariants.{Leaving, Passing}
+use Rattle.word_rule.specs.declared.stage.McsStage.TheVariants.{Leaving}
 use Rattle.mcs_lock.proofs.McsActing.{same_held}
 use Rattle.mcs_lock.proofs.cell.McsCell.wait_follower.Goals as goal
-
-pub returns-in-Ok-clause-held : goal.returns-in-Ok-clause-held
-returns-in-Ok-clause-held g c = let l = c.loop.leaving in let p = c.in-Ok.passing in let e = c.in-Ok.ensures.found.1 in
-    same_held g.O.SeqObject l.key.value p.key.value _ _ (Mcs Leaving) (Mcs (Passing p.follower)) l.logged p.logged l.seat.me p.seat.me e.2.made ∙ c.loop.invariant.hold_view
 
 pub loop-preserved : goal.loop-preserved
 loop-preserved g c = let l = c.loop.leaving in let again = c.in-Err.again in let e = c.in-Err.ensures.missed in record {
