@@ -1,6 +1,7 @@
 //! How much is called in a round.
 
 ghost use Rattle.std.specs.Prelude.{◌≡◌, ◌<◌, ◌≤◌, IfOk, IfSome, sum};
+ghost use Rattle.word_rule.specs.declared.key.TheConstants.{MOST_CPUS};
 
 use event_log::{MOST_EVENTS, OutOfMemory};
 use std::alloc::Global;
@@ -15,7 +16,7 @@ pub struct Load {
     pub cpus: u8,
     pub calls: u32,
     ghost some: { 0 < cpus },
-    ghost few: { cpus ≤ 8 },
+    ghost few: { cpus ≤ MOST_CPUS },
 }
 
 impl Load {
