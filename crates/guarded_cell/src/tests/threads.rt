@@ -12,6 +12,7 @@ use mcs_lock::McsCell;
 use shared_queue::{QueueCall as Call, ThreadQueue};
 use std::alloc::Global;
 use std::sync::Wait;
+use std::sync::atomic::{AtomicUsize, Ordering};
 use std::test::Fail;
 use std::thread::Threads;
 use std::{slice, thread};
@@ -250,9 +251,21 @@ fn four_threads_call_one_cell(rt: HostRuntime) -> Result<(), Fail> {
     Ok(())
 }
 
-/// Takes the object, does the calls under one hold and gives it back: the number of looks.
+/// Waits until both callers have come. Where no second thread can be started it gives up.
+fn wait_for_both(come: &AtomicUsize) {
+    for _ in 0..100_000 {
+        if come.load(Ordering::SeqCst) > 1 {
+            return;
+        }
+        thread::yield_now();
+    }
+}
+
+/// Comes, takes the object, waits for the other to come, does the calls under one hold and gives it back: the number of
+/// looks.
 fn keep<O: SeqObject, C: LockCell<O>, R: Wait>(
     rt: &R,
+    come: &AtomicUsize,
     cell: &C,
     pass: C::Pass,
     calls: &[O::Call],
@@ -260,7 +273,9 @@ fn keep<O: SeqObject, C: LockCell<O>, R: Wait>(
     requires { C.is_pass_of cell.now pass }
     ensures { C.is_pass_of cell.now result.0 }
 {
+    come.fetch_add(1, Ordering::SeqCst);
     let (mut hold, looks) = cell.acquire(rt, pass);
+    wait_for_both(come);
     for call in calls {
         let _ = C::apply(&mut hold, slice::from_ref(call));
     }
@@ -283,21 +298,23 @@ where
     requires second { C.is_pass_of cell.now passes.1 }
 {
     let (first, second) = passes;
+    let come = &AtomicUsize::new(0);
     let ((_, one), (_, other)) = thread::join(
         rt,
         move || -> (C::Pass, u64)
             requires pass { C.is_pass_of cell.now first }
             ensures pass { C.is_pass_of cell.entry.now result.0 }
-        { keep(rt, cell, first, calls) },
+        { keep(rt, come, cell, first, calls) },
         move || -> (C::Pass, u64)
             requires pass { C.is_pass_of cell.now second }
             ensures pass { C.is_pass_of cell.entry.now result.0 }
-        { keep(rt, cell, second, calls) },
+        { keep(rt, come, cell, second, calls) },
     );
     one.max(other)
 }
 
-// One of two callers comes while the other keeps the object, unless its thread starts late: then they try again.
+// One of two callers comes while the other keeps the object. It looks once alone if its thread is held up just then for as
+// long as the other's calls take: then they try again.
 #[test]
 fn a_caller_that_waits_counts_its_looks(rt: HostRuntime) -> Result<(), Fail> {
     let calls = calls_from(rt.alloc(), 0, 2000)?;
