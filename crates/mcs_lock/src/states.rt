@@ -8,73 +8,73 @@ ghost use Rattle.word_rule.specs.Rule.Callers.{IsWithout, IsWith};
 
 use event_log::{Logged, SeqObject};
 use std::snapshot::Snapshot;
-use word_rule::{Hold, Key, Lent, Seat};
+use word_rule::{Cpu, Hold, Key, Lent, Seat};
 
 /// A caller whose `next` is clear. It can't be dropped: it ends in `enter`.
 pub struct Ready<O: SeqObject> {
-    pub(crate) cpu: u8,
+    pub(crate) cpu: Cpu,
     pub(crate) key: Snapshot<Key<O>>,
     pub(crate) seat: Seat<O>,
-    pub ghost ready: { IsWithout O.SeqObject key.value cpu (Mcs Ready) seat.me } by { Prim.hlevel legal_props },
+    pub ghost ready: { IsWithout O.SeqObject key.value cpu.number (Mcs Ready) seat.me } by { Prim.hlevel legal_props },
 }
 
 /// A caller in the queue behind the CPU `ahead`. It can't be dropped: it ends in `arm`.
 pub struct Behind<O: SeqObject> {
-    pub(crate) cpu: u8,
+    pub(crate) cpu: Cpu,
     pub(crate) ahead: u8,
     pub(crate) key: Snapshot<Key<O>>,
     pub(crate) seat: Seat<O>,
-    pub ghost behind: { IsWithout O.SeqObject key.value cpu (Mcs (Behind ahead)) seat.me } by { Prim.hlevel legal_props },
+    pub ghost behind: { IsWithout O.SeqObject key.value cpu.number (Mcs (Behind ahead)) seat.me } by { Prim.hlevel legal_props },
     pub ghost other: { IsElse seat.me.0 ahead },
 }
 
 /// The same, whose `locked` is set. It can't be dropped: it ends in `link`.
 pub struct Armed<O: SeqObject> {
-    pub(crate) cpu: u8,
+    pub(crate) cpu: Cpu,
     pub(crate) ahead: u8,
     pub(crate) key: Snapshot<Key<O>>,
     pub(crate) seat: Seat<O>,
-    pub ghost armed: { IsWithout O.SeqObject key.value cpu (Mcs (Armed ahead)) seat.me } by { Prim.hlevel legal_props },
+    pub ghost armed: { IsWithout O.SeqObject key.value cpu.number (Mcs (Armed ahead)) seat.me } by { Prim.hlevel legal_props },
     pub ghost other: { IsElse seat.me.0 ahead },
 }
 
 /// A caller in the queue that the one before it can see. It can't be dropped: it ends in a look that gets the object.
 pub struct Waiting<O: SeqObject> {
-    pub(crate) cpu: u8,
+    pub(crate) cpu: Cpu,
     pub(crate) key: Snapshot<Key<O>>,
     pub(crate) seat: Seat<O>,
-    pub ghost waits: { IsWithout O.SeqObject key.value cpu (Mcs Waiting) seat.me } by { Prim.hlevel legal_props },
+    pub ghost waits: { IsWithout O.SeqObject key.value cpu.number (Mcs Waiting) seat.me } by { Prim.hlevel legal_props },
 }
 
 /// A holder that saw nobody behind it. It can't be dropped: it ends in `empty`.
 pub struct Alone<O: SeqObject> {
-    pub(crate) cpu: u8,
+    pub(crate) cpu: Cpu,
     pub(crate) logged: Logged<O>,
     pub(crate) lent: Lent,
     pub(crate) key: Snapshot<Key<O>>,
     pub(crate) seat: Seat<O>,
-    pub ghost alone: { IsWith O.SeqObject key.value cpu (Mcs Alone) logged seat.me } by { Prim.hlevel legal_props },
+    pub ghost alone: { IsWith O.SeqObject key.value cpu.number (Mcs Alone) logged seat.me } by { Prim.hlevel legal_props },
 }
 
 /// A holder that isn't the last, and hasn't seen who is behind it. It can't be dropped: it ends in a see that finds one.
 pub struct Leaving<O: SeqObject> {
-    pub(crate) cpu: u8,
+    pub(crate) cpu: Cpu,
     pub(crate) logged: Logged<O>,
     pub(crate) lent: Lent,
     pub(crate) key: Snapshot<Key<O>>,
     pub(crate) seat: Seat<O>,
-    pub ghost leaves: { IsWith O.SeqObject key.value cpu (Mcs Leaving) logged seat.me } by { Prim.hlevel legal_props },
+    pub ghost leaves: { IsWith O.SeqObject key.value cpu.number (Mcs Leaving) logged seat.me } by { Prim.hlevel legal_props },
 }
 
 /// A holder that saw the CPU `follower` behind it. It can't be dropped: it ends in `pass_on`.
 pub struct Passing<O: SeqObject> {
-    pub(crate) cpu: u8,
+    pub(crate) cpu: Cpu,
     pub(crate) follower: u8,
     pub(crate) logged: Logged<O>,
     pub(crate) lent: Lent,
     pub(crate) key: Snapshot<Key<O>>,
     pub(crate) seat: Seat<O>,
-    pub ghost passes: { IsWith O.SeqObject key.value cpu (Mcs (Passing follower)) logged seat.me } by { Prim.hlevel legal_props },
+    pub ghost passes: { IsWith O.SeqObject key.value cpu.number (Mcs (Passing follower)) logged seat.me } by { Prim.hlevel legal_props },
     pub ghost other: { IsElse seat.me.0 follower },
 }
 

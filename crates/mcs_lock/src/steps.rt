@@ -19,7 +19,8 @@ impl<O: SeqObject> McsCell<O> {
         ensures step { IsClear O.SeqObject (state_of_pass pass) (state_of_ready result) }
     {
         let Pass { cpu, key, mut seat } = pass;
-        self.table.store::<Clear>(&mut seat, next_index(cpu), 0);
+        self.table
+            .store::<Clear>(&mut seat, next_index(cpu.number), 0);
         Ready { cpu, key, seat }
     }
 
@@ -31,7 +32,9 @@ impl<O: SeqObject> McsCell<O> {
         ensures queued { IfBehind result (λ b. IsBehindOf self.now b × IsEnter O.SeqObject (state_of_ready ready) (state_of_behind b) false) }
     {
         let Ready { cpu, key, mut seat } = ready;
-        let found = self.table.swap::<Enter>(&mut seat, 0, cpu as u64 + 1);
+        let found = self
+            .table
+            .swap::<Enter>(&mut seat, 0, cpu.number as u64 + 1);
         if found == 0 {
             let (logged, lent) = self.table.take(&mut seat);
             Entered::Hold(Hold {
@@ -65,7 +68,7 @@ impl<O: SeqObject> McsCell<O> {
             mut seat,
         } = behind;
         self.table
-            .store::<Arm>(&mut seat, locked_index(self.cpus, cpu), 1);
+            .store::<Arm>(&mut seat, locked_index(self.cpus, cpu.number), 1);
         Armed {
             cpu,
             ahead,
@@ -87,7 +90,7 @@ impl<O: SeqObject> McsCell<O> {
             mut seat,
         } = armed;
         self.table
-            .store::<Link>(&mut seat, next_index(ahead), cpu as u64 + 1);
+            .store::<Link>(&mut seat, next_index(ahead), cpu.number as u64 + 1);
         Waiting { cpu, key, seat }
     }
 
@@ -100,7 +103,7 @@ impl<O: SeqObject> McsCell<O> {
         let Waiting { cpu, key, mut seat } = waiting;
         let found = self
             .table
-            .load::<Look>(&mut seat, locked_index(self.cpus, cpu));
+            .load::<Look>(&mut seat, locked_index(self.cpus, cpu.number));
         if found == 0 {
             let (logged, lent) = self.table.take(&mut seat);
             Ok(Hold {
@@ -128,7 +131,7 @@ impl<O: SeqObject> McsCell<O> {
             key,
             mut seat,
         } = hold;
-        let found = self.table.load::<See>(&mut seat, next_index(cpu));
+        let found = self.table.load::<See>(&mut seat, next_index(cpu.number));
         if found == 0 {
             Err(Alone {
                 cpu,
@@ -165,7 +168,7 @@ impl<O: SeqObject> McsCell<O> {
             mut seat,
         } = alone;
         self.table.put_back(&mut seat, logged, lent);
-        let last = cpu as u64 + 1;
+        let last = cpu.number as u64 + 1;
         let found = self.table.compare_exchange::<Empty>(&mut seat, 0, last, 0);
         if found == last {
             Ok(Pass { cpu, key, seat })
@@ -194,7 +197,9 @@ impl<O: SeqObject> McsCell<O> {
             key,
             mut seat,
         } = leaving;
-        let found = self.table.load::<SeeAgain>(&mut seat, next_index(cpu));
+        let found = self
+            .table
+            .load::<SeeAgain>(&mut seat, next_index(cpu.number));
         if found == 0 {
             Err(Leaving {
                 cpu,

@@ -111,7 +111,7 @@ impl<O: SeqObject> McsCell<O> {
         self.table.join_seat(&mut seat, theirs);
         let found = self
             .table
-            .load::<Look>(&mut seat, locked_index(self.cpus, cpu));
+            .load::<Look>(&mut seat, locked_index(self.cpus, cpu.number));
         prove!(found == 0);
         let (logged, lent) = self.table.take(&mut seat);
         let theirs = self.table.split_seat(&mut seat);
@@ -156,7 +156,9 @@ impl<O: SeqObject> McsCell<O> {
             seat: theirs,
         } = waiting;
         self.table.join_seat(&mut seat, theirs);
-        let found = self.table.load::<SeeAgain>(&mut seat, next_index(cpu));
+        let found = self
+            .table
+            .load::<SeeAgain>(&mut seat, next_index(cpu.number));
         prove!(found != 0);
         let follower = (found - 1) as u8;
         let theirs = self.table.split_seat(&mut seat);

@@ -22,7 +22,7 @@ impl<O: SeqObject> Hold<O> {
         ensures after { IfOk result (λ s. (view_of_hold self.new).history ≡ with_event (view_of_hold self.old).history (record { cpu = (view_of_hold self.old).caller.acting; steps = s }) (after O.SeqObject (view_of_hold self.old).history.state s.list.items)) }
         ensures full { OnErr result (view_of_hold self.new ≡ view_of_hold self.old) }
     {
-        self.logged.apply(self.cpu, calls)
+        self.logged.apply(self.cpu.number, calls)
     }
 
     /// Does a call as one event of the acting CPU. It takes no memory.
@@ -36,6 +36,6 @@ impl<O: SeqObject> Hold<O> {
         ensures after { IfOk result (λ r. (view_of_hold self.new).history ≡ with_event (view_of_hold self.old).history (record { cpu = (view_of_hold self.old).caller.acting; steps = one_step call.now r }) (O.answer (view_of_hold self.old).history.state call.now).0) }
         ensures full { OnErr result (view_of_hold self.new ≡ view_of_hold self.old) }
     {
-        self.logged.call(self.cpu, call)
+        self.logged.call(self.cpu.number, call)
     }
 }

@@ -5,18 +5,18 @@ ghost use Rattle.event_log.proofs.Props.{legal_props};
 ghost use Rattle.word_rule.specs.Rule.Callers.{IsWith};
 ghost use Rattle.word_rule.specs.Line.{lends};
 
-use crate::{Key, Lent, Seat};
+use crate::{Cpu, Key, Lent, Seat};
 use event_log::{Logged, SeqObject};
 use std::snapshot::Snapshot;
 
 /// A caller with the object. It can't be dropped: it ends where its lock takes the object back. Its fields are for the
 /// crates of the locks.
 pub struct Hold<O: SeqObject> {
-    pub cpu: u8,
+    pub cpu: Cpu,
     pub logged: Logged<O>,
     pub lent: Lent,
     pub key: Snapshot<Key<O>>,
     pub seat: Seat<O>,
-    pub ghost holds: { IsWith O.SeqObject key.value cpu seat.me.0.main.stage logged seat.me } by { Prim.hlevel legal_props },
+    pub ghost holds: { IsWith O.SeqObject key.value cpu.number seat.me.0.main.stage logged seat.me } by { Prim.hlevel legal_props },
     pub ghost there: { lends key.value.kind seat.me.0.main.stage ≡ true },
 }

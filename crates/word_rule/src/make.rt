@@ -7,7 +7,7 @@ ghost use Rattle.word_rule.specs.Rule.LockStates.{IsLockOf};
 ghost use Rattle.word_rule.specs.Passes.{IsPassAt, view_of_pass};
 ghost use Rattle.word_rule.specs.Rule.Seats.{first_view};
 
-use crate::{Key, LockKind, LockTable, Pass, Seat};
+use crate::{Cpu, Key, LockKind, LockTable, Pass, Seat};
 use atomic_table::{Refused, Table};
 use event_log::{Logged, OutOfMemory, SeqObject};
 use std::alloc::Global;
@@ -73,7 +73,7 @@ impl<O: SeqObject> LockTable<O> {
         for cpu in 0..cpus {
             let theirs = self.split_seat(&mut seat);
             passes.push_reserved(Pass {
-                cpu,
+                cpu: Cpu::numbered(cpu),
                 key: Snapshot::of(key),
                 seat: theirs,
             });

@@ -4,7 +4,7 @@ ghost use Rattle.std.specs.Prelude.{◌≡◌, ℕ, ◌<◌, ◌||◌, min};
 ghost use Rattle.word_rule.specs.Cell.{Grows};
 ghost use Rattle.word_rule.specs.Passes.{IsPassAt, IsHoldAt, view_of_pass};
 
-use crate::{Beside, Clash, Hold, LockTable, Meet, Merge, Pass, Tear};
+use crate::{Beside, Clash, Cpu, Hold, LockTable, Meet, Merge, Pass, Tear};
 use event_log::SeqObject;
 
 impl<O: SeqObject> LockTable<O> {
@@ -29,7 +29,7 @@ impl<O: SeqObject> LockTable<O> {
         self.join_seat(&mut seat, theirs);
         self.table.shared.load::<Merge>(&mut seat, 0);
         Pass {
-            cpu: cpu.min(other),
+            cpu: Cpu::numbered(cpu.number.min(other.number)),
             key,
             seat,
         }

@@ -8,10 +8,10 @@ use Rattle.mcs_lock.proofs.cell.McsCell.arm.Goals as goal
 
 pub store-requires : goal.store-requires
 store-requires g c = let s = c.args.self.now in let a = c.args.behind in let key = s.table.table.shared.key in let words = s.sized.0 in
-    let w = subst (λ k. IsWithout g.O.SeqObject k a.cpu (Mcs (Behind a.ahead)) a.seat.me) c.requires.told a.behind in
-    let below = below_without g.O.SeqObject key s.cpus a.cpu (Mcs (Behind a.ahead)) a.seat.me s.sized.1 w in
-    (g.met.O.SeqObject.event_fits, (c.requires.table, omega (arith, c.locked_index.ensures), rw c.locked_index.ensures (arm_now g.O.SeqObject key c.args.self.now.kind _ _ a.cpu s.cpus a.ahead a.seat.me s.sized.1 w)))
+    let w = subst (λ k. IsWithout g.O.SeqObject k a.cpu.number (Mcs (Behind a.ahead)) a.seat.me) c.requires.told a.behind in
+    let below = below_without g.O.SeqObject key s.cpus a.cpu.number (Mcs (Behind a.ahead)) a.seat.me s.sized.1 w in
+    (g.met.O.SeqObject.event_fits, (c.requires.table, omega (arith, c.locked_index.ensures), rw c.locked_index.ensures (arm_now g.O.SeqObject key c.args.self.now.kind _ _ a.cpu.number s.cpus a.ahead a.seat.me s.sized.1 w)))
 
 pub returns-clause-step : goal.returns-clause-step
 returns-clause-step g c = let a = c.args.behind in
-    (a.ahead, is_other a.key.value a.seat.me a.ahead a.behind.at.told a.other, moves_without g.O.SeqObject a.key.value a.cpu _ _ a.seat.me c.store.new.seat.me a.behind (c.store.ensures.2 a.ahead a.behind.at.stands))
+    (a.ahead, is_other a.key.value a.seat.me a.ahead a.behind.at.told a.other, moves_without g.O.SeqObject a.key.value a.cpu.number _ _ a.seat.me c.store.new.seat.me a.behind (c.store.ensures.2 a.ahead a.behind.at.stands))

@@ -7,10 +7,10 @@ use Rattle.mcs_lock.proofs.cell.McsCell.clear.Goals as goal
 
 pub store-requires : goal.store-requires
 store-requires g c = let s = c.args.self.now in let a = c.args.pass in let key = s.table.table.shared.key in let words = s.sized.0 in
-    let w = subst (λ k. IsWithout g.O.SeqObject k a.cpu Idle a.seat.me) c.requires.told a.idle in
-    let below = below_without g.O.SeqObject key s.cpus a.cpu Idle a.seat.me s.sized.1 w in
-    (g.met.O.SeqObject.event_fits, (c.requires.table, omega (arith, c.next_index.ensures), rw c.next_index.ensures (clear_now g.O.SeqObject key c.args.self.now.kind _ _ a.cpu a.seat.me w)))
+    let w = subst (λ k. IsWithout g.O.SeqObject k a.cpu.number Idle a.seat.me) c.requires.told a.idle in
+    let below = below_without g.O.SeqObject key s.cpus a.cpu.number Idle a.seat.me s.sized.1 w in
+    (g.met.O.SeqObject.event_fits, (c.requires.table, omega (arith, c.next_index.ensures), rw c.next_index.ensures (clear_now g.O.SeqObject key c.args.self.now.kind _ _ a.cpu.number a.seat.me w)))
 
 pub returns-clause-step : goal.returns-clause-step
 returns-clause-step g c = let a = c.args.pass in
-    moves_without g.O.SeqObject a.key.value a.cpu _ _ a.seat.me c.store.new.seat.me a.idle c.store.ensures.2
+    moves_without g.O.SeqObject a.key.value a.cpu.number _ _ a.seat.me c.store.new.seat.me a.idle c.store.ensures.2

@@ -13,15 +13,15 @@ use Rattle.mcs_lock.proofs.cell.McsCell.empty.Goals as goal
 
 pub compare_exchange-found-requires : goal.compare_exchange-found-requires
 compare_exchange-found-requires g c = let s = c.args.self.now in let a = c.args.alone in let words = s.sized.0 in
-    (g.met.O.SeqObject.event_fits, (search rules, omega arith, empty_now g.O.SeqObject s.table.table.shared.key c.args.self.now.kind _ _ a.cpu a.logged a.seat.me c.put_back.new.seat.me (subst (λ k. IsWith g.O.SeqObject k a.cpu (Mcs Alone) a.logged a.seat.me) c.requires.told a.alone) s.table.sized c.put_back.ensures.2))
+    (g.met.O.SeqObject.event_fits, (search rules, omega arith, empty_now g.O.SeqObject s.table.table.shared.key c.args.self.now.kind _ _ a.cpu.number a.logged a.seat.me c.put_back.new.seat.me (subst (λ k. IsWith g.O.SeqObject k a.cpu.number (Mcs Alone) a.logged a.seat.me) c.requires.told a.alone) s.table.sized c.put_back.ensures.2))
 
 pub invariant_of-result : goal.invariant_of-result
 invariant_of-result g c = let a = c.args.alone in
-    record { idle = rests_now g.O.SeqObject a.key.value a.cpu _ _ a.logged a.seat.me c.compare_exchange-found.new.seat.me a.alone (left g.O.SeqObject _ a.seat.me c.put_back.new.seat.me c.compare_exchange-found.new.seat.me a.logged a.alone.at.carries c.put_back.ensures.2 (c.compare_exchange-found.ensures.2.hit c.if-found-last.true)) }
+    record { idle = rests_now g.O.SeqObject a.key.value a.cpu.number _ _ a.logged a.seat.me c.compare_exchange-found.new.seat.me a.alone (left g.O.SeqObject _ a.seat.me c.put_back.new.seat.me c.compare_exchange-found.new.seat.me a.logged a.alone.at.carries c.put_back.ensures.2 (c.compare_exchange-found.ensures.2.hit c.if-found-last.true)) }
 
 pub returns-then-found-last-clause-home : goal.returns-then-found-last-clause-home
 returns-then-found-last-clause-home g c = let a = c.args.alone in
-    (search rules, gives_now g.O.SeqObject a.key.value a.cpu _ _ a.logged a.seat.me c.compare_exchange-found.new.seat.me a.alone (left g.O.SeqObject _ a.seat.me c.put_back.new.seat.me c.compare_exchange-found.new.seat.me a.logged a.alone.at.carries c.put_back.ensures.2 (c.compare_exchange-found.ensures.2.hit c.if-found-last.true)))
+    (search rules, gives_now g.O.SeqObject a.key.value a.cpu.number _ _ a.logged a.seat.me c.compare_exchange-found.new.seat.me a.alone (left g.O.SeqObject _ a.seat.me c.put_back.new.seat.me c.compare_exchange-found.new.seat.me a.logged a.alone.at.carries c.put_back.ensures.2 (c.compare_exchange-found.ensures.2.hit c.if-found-last.true)))
 
 pub take-logged-requires : goal.take-logged-requires
 take-logged-requires g c = let a = c.args.alone in let t = c.compare_exchange-found.ensures.2.miss c.if-found-last.false in
@@ -31,7 +31,7 @@ take-logged-requires g c = let a = c.args.alone in let t = c.compare_exchange-fo
 pub invariant_of-result-else-found-last : goal.invariant_of-result-else-found-last
 invariant_of-result-else-found-last g c = let a = c.args.alone in let y = c.take-logged.result.0 in let t = c.compare_exchange-found.ensures.2.miss c.if-found-last.false in let e = c.take-logged.ensures in
     let back = came_back g.O.SeqObject (Mcs Leaving) a.seat.me c.put_back.new.seat.me c.compare_exchange-found.new.seat.me c.take-logged.new.seat.me a.logged y (Some y) a.alone.at.carries c.put_back.ensures.2 t.seat e.2 e.3 refl in
-    record { leaves = subst (λ z. IsWith g.O.SeqObject a.key.value a.cpu (Mcs Leaving) z c.take-logged.new.seat.me) back.1 (goes_with g.O.SeqObject a.key.value a.cpu _ _ a.logged a.seat.me c.take-logged.new.seat.me a.alone back.0) }
+    record { leaves = subst (λ z. IsWith g.O.SeqObject a.key.value a.cpu.number (Mcs Leaving) z c.take-logged.new.seat.me) back.1 (goes_with g.O.SeqObject a.key.value a.cpu.number _ _ a.logged a.seat.me c.take-logged.new.seat.me a.alone back.0) }
 
 pub returns-else-found-last-clause-missed : goal.returns-else-found-last-clause-missed
 returns-else-found-last-clause-missed g c = let a = c.args.alone in let y = c.take-logged.result.0 in let told = c.compare_exchange-found.ensures.2 in let t = told.miss c.if-found-last.false in let e = c.take-logged.ensures in let filled = c.put_back.ensures.2 in

@@ -10,7 +10,7 @@ use Rattle.mcs_lock.proofs.cell.McsCell.enter.Goals as goal
 
 pub swap-found-requires : goal.swap-found-requires
 swap-found-requires g c = let s = c.args.self.now in let a = c.args.ready in let words = s.sized.0 in
-    (g.met.O.SeqObject.event_fits, (c.requires.table, omega arith, enter_now g.O.SeqObject s.table.table.shared.key c.args.self.now.kind _ _ a.cpu a.seat.me (subst (λ k. IsWithout g.O.SeqObject k a.cpu (Mcs Ready) a.seat.me) c.requires.told a.ready)))
+    (g.met.O.SeqObject.event_fits, (c.requires.table, omega arith, enter_now g.O.SeqObject s.table.table.shared.key c.args.self.now.kind _ _ a.cpu.number a.seat.me (subst (λ k. IsWithout g.O.SeqObject k a.cpu.number (Mcs Ready) a.seat.me) c.requires.told a.ready)))
 
 pub take-logged-requires : goal.take-logged-requires
 take-logged-requires g c = let t = c.swap-found.ensures.2.first c.if-found-eq0.true in
@@ -18,11 +18,11 @@ take-logged-requires g c = let t = c.swap-found.ensures.2.first c.if-found-eq0.t
 
 pub invariant_of-result : goal.invariant_of-result
 invariant_of-result g c = let a = c.args.ready in let t = c.swap-found.ensures.2.first c.if-found-eq0.true in let y = c.take-logged.result.0 in let e = c.take-logged.ensures in
-    record { holds = holds_from g.O.SeqObject a.key.value a.cpu _ _ y a.seat.me c.take-logged.new.seat.me a.ready (took g.O.SeqObject _ a.seat.me c.swap-found.new.seat.me c.take-logged.new.seat.me (Some y) y t e.2 e.3 refl); there = lends_at _ _ _ (Mcs Holding) (ap (λ k. k.kind) c.requires.told ∙ c.args.self.now.kind) (ap (λ z. z.0.main.stage) (took g.O.SeqObject _ a.seat.me c.swap-found.new.seat.me c.take-logged.new.seat.me (Some y) y t e.2 e.3 refl).seat) refl }
+    record { holds = holds_from g.O.SeqObject a.key.value a.cpu.number _ _ y a.seat.me c.take-logged.new.seat.me a.ready (took g.O.SeqObject _ a.seat.me c.swap-found.new.seat.me c.take-logged.new.seat.me (Some y) y t e.2 e.3 refl); there = lends_at _ _ _ (Mcs Holding) (ap (λ k. k.kind) c.requires.told ∙ c.args.self.now.kind) (ap (λ z. z.0.main.stage) (took g.O.SeqObject _ a.seat.me c.swap-found.new.seat.me c.take-logged.new.seat.me (Some y) y t e.2 e.3 refl).seat) refl }
 
 pub returns-then-found-eq0-clause-got : goal.returns-then-found-eq0-clause-got
 returns-then-found-eq0-clause-got g c = let a = c.args.ready in let t = c.swap-found.ensures.2.first c.if-found-eq0.true in let y = c.take-logged.result.0 in let e = c.take-logged.ensures in
-    (search rules, takes_from g.O.SeqObject a.key.value a.cpu _ _ y a.seat.me c.take-logged.new.seat.me a.ready (took g.O.SeqObject _ a.seat.me c.swap-found.new.seat.me c.take-logged.new.seat.me (Some y) y t e.2 e.3 refl))
+    (search rules, takes_from g.O.SeqObject a.key.value a.cpu.number _ _ y a.seat.me c.take-logged.new.seat.me a.ready (took g.O.SeqObject _ a.seat.me c.swap-found.new.seat.me c.take-logged.new.seat.me (Some y) y t e.2 e.3 refl))
 
 pub returns-else-found-eq0-clause-queued : goal.returns-else-found-eq0-clause-queued
 returns-else-found-eq0-clause-queued g c = let a = c.args.ready in let some_one = c.if-found-eq0.false in let k : ℕ = c.swap-found.result - 1 in
@@ -32,7 +32,7 @@ returns-else-found-eq0-clause-queued g c = let a = c.args.ready in let some_one 
         k,
         is_other a.key.value a.seat.me k a.ready.at.told t.1,
         record {
-          made = moves_without g.O.SeqObject a.key.value a.cpu (Mcs Ready) (Mcs (Behind k)) a.seat.me c.swap-found.new.seat.me a.ready t.0;
+          made = moves_without g.O.SeqObject a.key.value a.cpu.number (Mcs Ready) (Mcs (Behind k)) a.seat.me c.swap-found.new.seat.me a.ready t.0;
           another = not_else a.key.value a.seat.me k a.ready.at.told t.1;
         },
       ),

@@ -14,13 +14,13 @@ use Rattle.mcs_lock.proofs.cell.McsCell.last_look.Given as given
 
 pub load-found-requires : goal.load-found-requires
 load-found-requires g c = let s = c.args.self.now in let a = c.args.waiting in let key = s.table.table.shared.key in let words = s.sized.0 in let e = c.join_seat.ensures.2 in
-    let w = subst (λ k. IsWithout g.O.SeqObject k a.cpu (Mcs Waiting) a.seat.me) c.requires.waiting.told a.waits in
-    let below = below_without g.O.SeqObject key s.cpus a.cpu (Mcs Waiting) a.seat.me s.sized.1 w in (
+    let w = subst (λ k. IsWithout g.O.SeqObject k a.cpu.number (Mcs Waiting) a.seat.me) c.requires.waiting.told a.waits in
+    let below = below_without g.O.SeqObject key s.cpus a.cpu.number (Mcs Waiting) a.seat.me s.sized.1 w in (
       g.met.O.SeqObject.event_fits,
       (
         search rules,
         omega (arith, c.locked_index.ensures),
-        rw c.locked_index.ensures (look_now g.O.SeqObject key c.args.self.now.kind _ _ a.cpu s.cpus c.join_seat.new.seat.me s.sized.1 (subst (λ z. has z.0.main.cpu z.0.main.owned ≡ true) (sym e) a.waits.pass_view.caller.acts) (ap (λ z. z.0.main.cpu) e ∙ a.waits.at.number)
+        rw c.locked_index.ensures (look_now g.O.SeqObject key c.args.self.now.kind _ _ a.cpu.number s.cpus c.join_seat.new.seat.me s.sized.1 (subst (λ z. has z.0.main.cpu z.0.main.owned ≡ true) (sym e) a.waits.pass_view.caller.acts) (ap (λ z. z.0.main.cpu) e ∙ a.waits.at.number)
             (ap (λ z. z.0.main.stage) e ∙ a.waits.at.stands) (subst (λ z. AllIdle z.0.others) (sym e) (c.args.pass.idle.at.stands, tt))),
       ),
     )
@@ -40,18 +40,18 @@ last : (g : given.Over) (c : goal.After-split_seat-theirs g)
     → TookLast g.O.SeqObject c.args.waiting.key.value (Mcs Holding) c.take-logged.result.0 c.args.waiting.seat.me c.args.pass.seat.me c.split_seat-theirs.new.seat.me c.split_seat-theirs.result.me
 last g c = let a = c.args.waiting in let p = c.args.pass in let e = c.join_seat.ensures.2 in let y = c.take-logged.result.0 in let s = c.split_seat-theirs in let same = c.requires.pass.told ∙ sym c.requires.waiting.told in
     let got = c.load-found.ensures.2.hit c.if-prove.false in
-    last_taken g.O.SeqObject a.key.value a.cpu p.cpu (Mcs Waiting) (Mcs Holding) (Some y) y a.seat.me p.seat.me c.join_seat.new.seat.me c.load-found.new.seat.me c.take-logged.new.seat.me s.new.seat.me s.result.me a.waits
-    (subst (λ k. IsWithout g.O.SeqObject k p.cpu Idle p.seat.me) same p.idle) e got c.take-logged.ensures.2 c.take-logged.ensures.3 refl s.ensures.2 s.ensures.4
+    last_taken g.O.SeqObject a.key.value a.cpu.number p.cpu.number (Mcs Waiting) (Mcs Holding) (Some y) y a.seat.me p.seat.me c.join_seat.new.seat.me c.load-found.new.seat.me c.take-logged.new.seat.me s.new.seat.me s.result.me a.waits
+    (subst (λ k. IsWithout g.O.SeqObject k p.cpu.number Idle p.seat.me) same p.idle) e got c.take-logged.ensures.2 c.take-logged.ensures.3 refl s.ensures.2 s.ensures.4
 
 pub invariant_of-result : goal.invariant_of-result
 invariant_of-result g c = let a = c.args.waiting in let y = c.take-logged.result.0 in let l = last g c in record {
-  holds = holds_now g.O.SeqObject a.key.value a.cpu (Mcs Waiting) (Mcs Holding) y a.seat.me c.split_seat-theirs.new.seat.me a.waits l.lawful l.replayed l.first;
+  holds = holds_now g.O.SeqObject a.key.value a.cpu.number (Mcs Waiting) (Mcs Holding) y a.seat.me c.split_seat-theirs.new.seat.me a.waits l.lawful l.replayed l.first;
   there = lends_at _ _ _ (Mcs Holding) (ap (λ k. k.kind) c.requires.waiting.told ∙ c.args.self.now.kind) (ap (λ z. z.0.main.stage) l.first) refl;
 }
 
 pub invariant_of-result-2 : goal.invariant_of-result-2
 invariant_of-result-2 g c = let p = c.args.pass in let y = c.take-logged.result.0 in let l = last g c.before in let same = c.requires.pass.told ∙ sym c.requires.waiting.told in
-    record { idle = sees_without g.O.SeqObject p.key.value p.cpu Idle Idle y.log p.seat.me c.split_seat-theirs.result.me p.idle (subst (λ k. Lawful g.O.SeqObject k y.log) (sym same) l.lawful) l.second }
+    record { idle = sees_without g.O.SeqObject p.key.value p.cpu.number Idle Idle y.log p.seat.me c.split_seat-theirs.result.me p.idle (subst (λ k. Lawful g.O.SeqObject k y.log) (sym same) l.lawful) l.second }
 
 pub returns-clause-look : goal.returns-clause-look
 returns-clause-look g c = let a = c.args.waiting in let l = last g c.before.before in

@@ -13,13 +13,13 @@ use Rattle.mcs_lock.proofs.cell.McsCell.last_see.Given as given
 
 pub load-found-requires : goal.load-found-requires
 load-found-requires g c = let s = c.args.self.now in let a = c.args.leaving in let key = s.table.table.shared.key in let words = s.sized.0 in let e = c.join_seat.ensures.2 in
-    let w = subst (λ k. IsWith g.O.SeqObject k a.cpu (Mcs Leaving) a.logged a.seat.me) c.requires.leaving.told a.leaves in
-    let below = below_with g.O.SeqObject key s.cpus a.cpu (Mcs Leaving) a.logged a.seat.me s.sized.1 w in (
+    let w = subst (λ k. IsWith g.O.SeqObject k a.cpu.number (Mcs Leaving) a.logged a.seat.me) c.requires.leaving.told a.leaves in
+    let below = below_with g.O.SeqObject key s.cpus a.cpu.number (Mcs Leaving) a.logged a.seat.me s.sized.1 w in (
       g.met.O.SeqObject.event_fits,
       (
         search rules,
         omega (arith, c.next_index.ensures),
-        rw c.next_index.ensures (find_now g.O.SeqObject key c.args.self.now.kind _ _ a.cpu c.join_seat.new.seat.me c.args.waiting.seat.me.0.main (subst (λ z. has z.0.main.cpu z.0.main.owned ≡ true) (sym e) a.leaves.hold_view.caller.acts) (ap (λ z. z.0.main.cpu) e ∙ a.leaves.at.number)
+        rw c.next_index.ensures (find_now g.O.SeqObject key c.args.self.now.kind _ _ a.cpu.number c.join_seat.new.seat.me c.args.waiting.seat.me.0.main (subst (λ z. has z.0.main.cpu z.0.main.owned ≡ true) (sym e) a.leaves.hold_view.caller.acts) (ap (λ z. z.0.main.cpu) e ∙ a.leaves.at.number)
             (ap (λ z. z.0.main.stage) e ∙ a.leaves.at.stands) (ap (λ z. z.0.others) e) c.args.waiting.waits.at.stands),
       ),
     )
@@ -48,12 +48,12 @@ saw g c = let a = c.args.leaving in let w = c.args.waiting in let e = c.join_sea
 
 pub invariant_of-result : goal.invariant_of-result
 invariant_of-result g c = let a = c.args.leaving in let k : ℕ = c.load-found.result - 1 in let t = saw g c in record {
-  passes = goes_with g.O.SeqObject a.key.value a.cpu (Mcs Leaving) (Mcs (Passing k)) a.logged a.seat.me c.split_seat-theirs.new.seat.me a.leaves t.0;
+  passes = goes_with g.O.SeqObject a.key.value a.cpu.number (Mcs Leaving) (Mcs (Passing k)) a.logged a.seat.me c.split_seat-theirs.new.seat.me a.leaves t.0;
   other = else_now (Mcs (Passing k)) a.seat.me c.split_seat-theirs.new.seat.me k t.0 t.2;
 }
 
 pub invariant_of-result-2 : goal.invariant_of-result-2
-invariant_of-result-2 g c = let w = c.args.waiting in record { waits = subst (IsWithout g.O.SeqObject w.key.value w.cpu (Mcs Waiting)) (sym (saw g c.before).1) w.waits }
+invariant_of-result-2 g c = let w = c.args.waiting in record { waits = subst (IsWithout g.O.SeqObject w.key.value w.cpu.number (Mcs Waiting)) (sym (saw g c.before).1) w.waits }
 
 pub returns-clause-see : goal.returns-clause-see
 returns-clause-see g c = let a = c.args.leaving in let k : ℕ = c.load-found.result - 1 in let t = saw g c.before.before in

@@ -8,10 +8,10 @@ use Rattle.mcs_lock.proofs.cell.McsCell.link.Goals as goal
 
 pub store-requires : goal.store-requires
 store-requires g c = let s = c.args.self.now in let a = c.args.armed in let key = s.table.table.shared.key in let words = s.sized.0 in
-    let w = subst (λ k. IsWithout g.O.SeqObject k a.cpu (Mcs (Armed a.ahead)) a.seat.me) c.requires.told a.armed in
+    let w = subst (λ k. IsWithout g.O.SeqObject k a.cpu.number (Mcs (Armed a.ahead)) a.seat.me) c.requires.told a.armed in
     let below = else_below key s.cpus a.ahead a.seat.me s.sized.1 w.at.told a.other in
-    (g.met.O.SeqObject.event_fits, (c.requires.table, omega (arith, c.next_index.ensures), rw c.next_index.ensures (link_now g.O.SeqObject key c.args.self.now.kind _ _ a.cpu a.ahead a.seat.me w)))
+    (g.met.O.SeqObject.event_fits, (c.requires.table, omega (arith, c.next_index.ensures), rw c.next_index.ensures (link_now g.O.SeqObject key c.args.self.now.kind _ _ a.cpu.number a.ahead a.seat.me w)))
 
 pub returns-clause-step : goal.returns-clause-step
 returns-clause-step g c = let a = c.args.armed in
-    (a.ahead, is_other a.key.value a.seat.me a.ahead a.armed.at.told a.other, moves_without g.O.SeqObject a.key.value a.cpu _ _ a.seat.me c.store.new.seat.me a.armed c.store.ensures.2)
+    (a.ahead, is_other a.key.value a.seat.me a.ahead a.armed.at.told a.other, moves_without g.O.SeqObject a.key.value a.cpu.number _ _ a.seat.me c.store.new.seat.me a.armed c.store.ensures.2)

@@ -11,9 +11,9 @@ use Rattle.mcs_lock.proofs.cell.McsCell.look.Goals as goal
 
 pub load-found-requires : goal.load-found-requires
 load-found-requires g c = let s = c.args.self.now in let a = c.args.waiting in let key = s.table.table.shared.key in let words = s.sized.0 in
-    let w = subst (λ k. IsWithout g.O.SeqObject k a.cpu (Mcs Waiting) a.seat.me) c.requires.told a.waits in
-    let below = below_without g.O.SeqObject key s.cpus a.cpu (Mcs Waiting) a.seat.me s.sized.1 w in
-    (g.met.O.SeqObject.event_fits, (c.requires.table, omega (arith, c.locked_index.ensures), rw c.locked_index.ensures (look_now g.O.SeqObject key c.args.self.now.kind _ _ a.cpu s.cpus a.seat.me s.sized.1 w.pass_view.caller.acts w.at.number w.at.stands (idle_alone a.seat.me.0.others w.at.alone))))
+    let w = subst (λ k. IsWithout g.O.SeqObject k a.cpu.number (Mcs Waiting) a.seat.me) c.requires.told a.waits in
+    let below = below_without g.O.SeqObject key s.cpus a.cpu.number (Mcs Waiting) a.seat.me s.sized.1 w in
+    (g.met.O.SeqObject.event_fits, (c.requires.table, omega (arith, c.locked_index.ensures), rw c.locked_index.ensures (look_now g.O.SeqObject key c.args.self.now.kind _ _ a.cpu.number s.cpus a.seat.me s.sized.1 w.pass_view.caller.acts w.at.number w.at.stands (idle_alone a.seat.me.0.others w.at.alone))))
 
 pub take-logged-requires : goal.take-logged-requires
 take-logged-requires g c = let t = c.load-found.ensures.2.hit c.if-found-eq0.true in
@@ -21,17 +21,17 @@ take-logged-requires g c = let t = c.load-found.ensures.2.hit c.if-found-eq0.tru
 
 pub invariant_of-result : goal.invariant_of-result
 invariant_of-result g c = let a = c.args.waiting in let t = c.load-found.ensures.2.hit c.if-found-eq0.true in let y = c.take-logged.result.0 in let e = c.take-logged.ensures in
-    record { holds = holds_from g.O.SeqObject a.key.value a.cpu _ _ y a.seat.me c.take-logged.new.seat.me a.waits (took g.O.SeqObject _ a.seat.me c.load-found.new.seat.me c.take-logged.new.seat.me (Some y) y t e.2 e.3 refl); there = lends_at _ _ _ (Mcs Holding) (ap (λ k. k.kind) c.requires.told ∙ c.args.self.now.kind) (ap (λ z. z.0.main.stage) (took g.O.SeqObject _ a.seat.me c.load-found.new.seat.me c.take-logged.new.seat.me (Some y) y t e.2 e.3 refl).seat) refl }
+    record { holds = holds_from g.O.SeqObject a.key.value a.cpu.number _ _ y a.seat.me c.take-logged.new.seat.me a.waits (took g.O.SeqObject _ a.seat.me c.load-found.new.seat.me c.take-logged.new.seat.me (Some y) y t e.2 e.3 refl); there = lends_at _ _ _ (Mcs Holding) (ap (λ k. k.kind) c.requires.told ∙ c.args.self.now.kind) (ap (λ z. z.0.main.stage) (took g.O.SeqObject _ a.seat.me c.load-found.new.seat.me c.take-logged.new.seat.me (Some y) y t e.2 e.3 refl).seat) refl }
 
 pub returns-then-found-eq0-clause-got : goal.returns-then-found-eq0-clause-got
 returns-then-found-eq0-clause-got g c = let a = c.args.waiting in let t = c.load-found.ensures.2.hit c.if-found-eq0.true in let y = c.take-logged.result.0 in let e = c.take-logged.ensures in
-    (search rules, takes_from g.O.SeqObject a.key.value a.cpu _ _ y a.seat.me c.take-logged.new.seat.me a.waits (took g.O.SeqObject _ a.seat.me c.load-found.new.seat.me c.take-logged.new.seat.me (Some y) y t e.2 e.3 refl))
+    (search rules, takes_from g.O.SeqObject a.key.value a.cpu.number _ _ y a.seat.me c.take-logged.new.seat.me a.waits (took g.O.SeqObject _ a.seat.me c.load-found.new.seat.me c.take-logged.new.seat.me (Some y) y t e.2 e.3 refl))
 
 pub returns-else-found-eq0-clause-missed : goal.returns-else-found-eq0-clause-missed
 returns-else-found-eq0-clause-missed g c = let a = c.args.waiting in let t = c.load-found.ensures.2.miss c.if-found-eq0.false in (
   search rules,
   record {
-    made = moves_without g.O.SeqObject a.key.value a.cpu _ _ a.seat.me c.load-found.new.seat.me a.waits t.seat;
+    made = moves_without g.O.SeqObject a.key.value a.cpu.number _ _ a.seat.me c.load-found.new.seat.me a.waits t.seat;
     another = not_all g.O.SeqObject a.key.value a.seat.me a.waits.at.told t.lacks;
   },
 )

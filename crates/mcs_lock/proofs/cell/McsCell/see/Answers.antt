@@ -10,13 +10,13 @@ use Rattle.mcs_lock.proofs.cell.McsCell.see.Goals as goal
 pub load-found-requires : goal.load-found-requires
 load-found-requires g c = let s = c.args.self.now in let a = c.args.hold in let key = s.table.table.shared.key in let words = s.sized.0 in
     let at = holding_at a.key.value.kind a.seat.me.0.main.stage (ap (λ k. k.kind) c.requires.told ∙ s.kind) a.there in
-    let w = subst (λ q. IsWith g.O.SeqObject key a.cpu q a.logged a.seat.me) at (subst (λ k. IsWith g.O.SeqObject k a.cpu a.seat.me.0.main.stage a.logged a.seat.me) c.requires.told a.holds) in
-    let below = below_with g.O.SeqObject key s.cpus a.cpu (Mcs Holding) a.logged a.seat.me s.sized.1 w in
-    (g.met.O.SeqObject.event_fits, (c.requires.table, omega (arith, c.next_index.ensures), rw c.next_index.ensures (see_now g.O.SeqObject key c.args.self.now.kind _ _ a.cpu a.seat.me a.logged w)))
+    let w = subst (λ q. IsWith g.O.SeqObject key a.cpu.number q a.logged a.seat.me) at (subst (λ k. IsWith g.O.SeqObject k a.cpu.number a.seat.me.0.main.stage a.logged a.seat.me) c.requires.told a.holds) in
+    let below = below_with g.O.SeqObject key s.cpus a.cpu.number (Mcs Holding) a.logged a.seat.me s.sized.1 w in
+    (g.met.O.SeqObject.event_fits, (c.requires.table, omega (arith, c.next_index.ensures), rw c.next_index.ensures (see_now g.O.SeqObject key c.args.self.now.kind _ _ a.cpu.number a.seat.me a.logged w)))
 
 pub invariant_of-result : goal.invariant_of-result
 invariant_of-result g c = let a = c.args.hold in
-    record { alone = goes_with g.O.SeqObject a.key.value a.cpu _ _ a.logged a.seat.me c.load-found.new.seat.me a.holds (c.load-found.ensures.2.none c.if-found-eq0.true) }
+    record { alone = goes_with g.O.SeqObject a.key.value a.cpu.number _ _ a.logged a.seat.me c.load-found.new.seat.me a.holds (c.load-found.ensures.2.none c.if-found-eq0.true) }
 
 pub overflow_cast-follower : goal.overflow_cast-follower
 overflow_cast-follower g c = let s = c.args.self.now in let a = c.args.hold in let few = s.few in let t = c.load-found.ensures.2.found c.if-found-eq0.false in let word = t.word in
@@ -26,7 +26,7 @@ overflow_cast-follower g c = let s = c.args.self.now in let a = c.args.hold in l
 pub invariant_of-result-else-found-eq0 : goal.invariant_of-result-else-found-eq0
 invariant_of-result-else-found-eq0 g c = let a = c.args.hold in let some_one = c.if-found-eq0.false in let k : ℕ = c.load-found.result - 1 in
     let t = named (λ p. Mcs (Passing p)) c.load-found.result k a.seat.me c.load-found.new.seat.me (c.load-found.ensures.2.found some_one) (omega arith) in record {
-      passes = goes_with g.O.SeqObject a.key.value a.cpu a.seat.me.0.main.stage (Mcs (Passing k)) a.logged a.seat.me c.load-found.new.seat.me a.holds t.0;
+      passes = goes_with g.O.SeqObject a.key.value a.cpu.number a.seat.me.0.main.stage (Mcs (Passing k)) a.logged a.seat.me c.load-found.new.seat.me a.holds t.0;
       other = else_now (Mcs (Passing k)) a.seat.me c.load-found.new.seat.me k t.0 t.1;
     }
 

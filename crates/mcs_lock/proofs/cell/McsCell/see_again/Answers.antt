@@ -8,13 +8,13 @@ use Rattle.mcs_lock.proofs.cell.McsCell.see_again.Goals as goal
 
 pub load-found-requires : goal.load-found-requires
 load-found-requires g c = let s = c.args.self.now in let a = c.args.leaving in let key = s.table.table.shared.key in let words = s.sized.0 in
-    let w = subst (λ k. IsWith g.O.SeqObject k a.cpu (Mcs Leaving) a.logged a.seat.me) c.requires.told a.leaves in
-    let below = below_with g.O.SeqObject key s.cpus a.cpu (Mcs Leaving) a.logged a.seat.me s.sized.1 w in
-    (g.met.O.SeqObject.event_fits, (c.requires.table, omega (arith, c.next_index.ensures), rw c.next_index.ensures (see_again_now g.O.SeqObject key c.args.self.now.kind _ _ a.cpu a.seat.me a.logged w)))
+    let w = subst (λ k. IsWith g.O.SeqObject k a.cpu.number (Mcs Leaving) a.logged a.seat.me) c.requires.told a.leaves in
+    let below = below_with g.O.SeqObject key s.cpus a.cpu.number (Mcs Leaving) a.logged a.seat.me s.sized.1 w in
+    (g.met.O.SeqObject.event_fits, (c.requires.table, omega (arith, c.next_index.ensures), rw c.next_index.ensures (see_again_now g.O.SeqObject key c.args.self.now.kind _ _ a.cpu.number a.seat.me a.logged w)))
 
 pub invariant_of-result : goal.invariant_of-result
 invariant_of-result g c = let a = c.args.leaving in
-    record { leaves = goes_with g.O.SeqObject a.key.value a.cpu _ _ a.logged a.seat.me c.load-found.new.seat.me a.leaves ((c.load-found.ensures.2.none c.if-found-eq0.true).seat) }
+    record { leaves = goes_with g.O.SeqObject a.key.value a.cpu.number _ _ a.logged a.seat.me c.load-found.new.seat.me a.leaves ((c.load-found.ensures.2.none c.if-found-eq0.true).seat) }
 
 pub overflow_cast-follower : goal.overflow_cast-follower
 overflow_cast-follower g c = let s = c.args.self.now in let a = c.args.leaving in let few = s.few in let t = c.load-found.ensures.2.found c.if-found-eq0.false in let word = t.word in
@@ -24,7 +24,7 @@ overflow_cast-follower g c = let s = c.args.self.now in let a = c.args.leaving i
 pub invariant_of-result-else-found-eq0 : goal.invariant_of-result-else-found-eq0
 invariant_of-result-else-found-eq0 g c = let a = c.args.leaving in let some_one = c.if-found-eq0.false in let k : ℕ = c.load-found.result - 1 in
     let t = named (λ p. Mcs (Passing p)) c.load-found.result k a.seat.me c.load-found.new.seat.me (c.load-found.ensures.2.found some_one) (omega arith) in record {
-      passes = goes_with g.O.SeqObject a.key.value a.cpu (Mcs Leaving) (Mcs (Passing k)) a.logged a.seat.me c.load-found.new.seat.me a.leaves t.0;
+      passes = goes_with g.O.SeqObject a.key.value a.cpu.number (Mcs Leaving) (Mcs (Passing k)) a.logged a.seat.me c.load-found.new.seat.me a.leaves t.0;
       other = else_now (Mcs (Passing k)) a.seat.me c.load-found.new.seat.me k t.0 t.1;
     }
 
