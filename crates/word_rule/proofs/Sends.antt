@@ -23,7 +23,7 @@ slot_send O P C R g ce cd re rd o p c r =
 
 -- so does a CPU's number
 cpu_send : IsSend Cpu.the_field.row
-cpu_send = struct_send (fields Cpu.the_type) (search sendable, (search sendable, (search sendable, (search sendable, tt))))
+cpu_send = struct_send (fields Cpu.the_type) (search sendable, tt)
 
 -- and so does a pass, in a struct and by itself
 pub pass_field_send : (O P C R : RattleType) (g : Ghosts O.Denot P.Denot C.Denot R.Denot) (ce : Compares C.Denot) (cd : Defaults C.Denot) (re : Compares R.Denot) (rd : Defaults R.Denot) → IsSend O → IsSend P → IsSend C → IsSend R →

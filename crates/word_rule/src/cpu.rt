@@ -1,15 +1,12 @@
-//! The number of a CPU, in a whole word.
+//! The number of a CPU.
 
 ghost use Rattle.std.specs.Prelude.{◌≡◌};
 
-/// The number of a CPU. All eight bytes are written: a lone byte in front of a pointer leaves seven that each move of a
-/// caller copies too, in two halves that overlap, and a read of the copy waits for both.
+/// The number of a CPU, as a caller has it. It is a type of its own since a caller whose field is a lone byte is moved by
+/// more instructions: `docs/SPEED.md` has what was counted.
 #[derive(Drop)]
 pub struct Cpu {
     pub number: u8,
-    byte: u8,
-    half: u16,
-    word: u32,
 }
 
 impl Cpu {
@@ -18,11 +15,6 @@ impl Cpu {
     pub fn numbered(number: u8) -> Cpu
         ensures { result.number ≡ number }
     {
-        Cpu {
-            number,
-            byte: 0,
-            half: 0,
-            word: 0,
-        }
+        Cpu { number }
     }
 }
