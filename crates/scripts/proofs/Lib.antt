@@ -1,0 +1,2 @@
+pub mod KernelRanges
+pub mod LogRanges

@@ -1,0 +1,5 @@
+pub mod Kernel
+pub mod Ranges
+pub mod Row
+pub mod Rows
+pub mod Tables

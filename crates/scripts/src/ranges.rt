@@ -1,0 +1,37 @@
+//! Ranges, of values and of the replies in a log.
+
+ghost use Rattle.std.specs.Prelude.{◌≡◌, List, true};
+ghost use Rattle.event_log.specs.declared.event.Event.{Event};
+ghost use Rattle.event_log.specs.Log.{Legal};
+ghost use Rattle.scripts.specs.Row.{row_fits};
+ghost use Rattle.scripts.specs.Kernel.{kernel_in_range};
+ghost use Rattle.scripts.specs.Ranges.{call_fits, reply_fits, log_asks, log_answers};
+ghost use Rattle.scripts.specs.declared.kernel_call.KParams.{KParams};
+ghost use Rattle.scripts.specs.declared.kernel_call.KCall.{KCall};
+ghost use Rattle.scripts.specs.declared.kernel_call.KReply.{KReply};
+ghost use Rattle.scripts.specs.declared.kernel_object.KernelObject.{KernelObject};
+
+use crate::{KernelObject, Spelled};
+use console_ring::stays_within;
+use event_log::SeqObject;
+use page_pool::stays_whole;
+use shared_queue::stays_distinct;
+use wake_list::stays_once;
+
+/// Whether each number of the value is in its range.
+pub fn fits<T: Spelled>(value: &T) -> bool
+    ensures { result ≡ row_fits (T.row_of value.now) }
+{
+    value.spelling().fields.as_slice().iter().all(|field| field.low <= field.value
+        && field.value <= field.high)
+}
+
+/// A law of all objects of the kernel, without effect: a legal log whose calls are in range has replies in range.
+pub fn replies_fit()
+    ensures { (p : KParams) (log : List (Event KernelObject KParams KCall KReply)) → kernel_in_range p ≡ true → Legal ⟦<KernelObject as SeqObject>⟧ p log → log_asks call_fits log ≡ true → log_answers reply_fits log ≡ true }
+{
+    stays_distinct();
+    stays_whole();
+    stays_within();
+    stays_once();
+}

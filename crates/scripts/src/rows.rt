@@ -1,0 +1,224 @@
+//! The tables of parameters, calls and replies.
+
+use crate::spelled::{first, second};
+use crate::{Field, KCall, KParams, KReply, Spelled, Spelling};
+use console_ring::{ConsoleCall, MOST_BYTES};
+use page_pool::{MOST_PAGES, PoolCall};
+use shared_queue::{MOST_THREADS, QueueCall};
+use wake_list::{MOST_CHANNELS, SchedCall, SchedParams};
+
+impl Spelled for KParams {
+    ghost use Rattle.scripts.specs.Rows.{params_row, params_samples, params_filled};
+    ghost use Rattle.scripts.specs.Tables.{params_table};
+
+    ghost row_of = { params_row };
+
+    ghost table = { params_samples };
+
+    ghost filled = { params_filled };
+
+    ghost right = { params_table };
+
+    fn spelling(&self) -> Spelling {
+        match *self {
+            KParams::Queue(threads) => Spelling::one(b"queue", Field::limit(MOST_THREADS, threads)),
+            KParams::Pool(pages) => Spelling::one(b"pool", Field::limit(MOST_PAGES, pages)),
+            KParams::Console(bytes) => Spelling::one(b"console", Field::limit(MOST_BYTES, bytes)),
+            KParams::Sched(params) => Spelling::two(
+                b"sched",
+                Field::limit(wake_list::MOST_THREADS, params.threads),
+                Field::limit(MOST_CHANNELS, params.channels),
+            ),
+        }
+    }
+
+    fn samples() -> &'static [KParams] {
+        &[
+            KParams::Queue(0),
+            KParams::Pool(0),
+            KParams::Console(0),
+            KParams::Sched(SchedParams {
+                threads: 0,
+                channels: 0,
+            }),
+        ]
+    }
+
+    fn fill(&self, numbers: &[u32]) -> KParams {
+        match *self {
+            KParams::Queue(_) => KParams::Queue(first(numbers)),
+            KParams::Pool(_) => KParams::Pool(first(numbers)),
+            KParams::Console(_) => KParams::Console(first(numbers)),
+            KParams::Sched(_) => KParams::Sched(SchedParams {
+                threads: first(numbers),
+                channels: second(numbers),
+            }),
+        }
+    }
+}
+
+impl Spelled for KCall {
+    ghost use Rattle.scripts.specs.Rows.{call_row, call_samples, call_filled};
+    ghost use Rattle.scripts.specs.Tables.{call_table};
+
+    ghost row_of = { call_row };
+
+    ghost table = { call_samples };
+
+    ghost filled = { call_filled };
+
+    ghost right = { call_table };
+
+    fn spelling(&self) -> Spelling {
+        match *self {
+            KCall::Queue(QueueCall::Enq(thread)) => Spelling::one(b"enq", Field::wide(thread)),
+            KCall::Queue(QueueCall::Deq) => Spelling::word(b"deq"),
+            KCall::Queue(QueueCall::Remove(thread)) => Spelling::one(
+                b"remove",
+                Field::wide(thread),
+            ),
+            KCall::Queue(QueueCall::Len) => Spelling::word(b"len"),
+            KCall::Pool(PoolCall::Alloc(owner)) => Spelling::one(b"alloc", Field::wide(owner)),
+            KCall::Pool(PoolCall::Free { owner, page }) => {
+                Spelling::two(b"free", Field::wide(owner), Field::wide(page))
+            }
+            KCall::Pool(PoolCall::Left) => Spelling::word(b"left"),
+            KCall::Console(ConsoleCall::Put(byte)) => Spelling::one(b"put", Field::byte(byte)),
+            KCall::Console(ConsoleCall::Get) => Spelling::word(b"get"),
+            KCall::Console(ConsoleCall::Level) => Spelling::word(b"level"),
+            KCall::Sched(SchedCall::Ready(thread)) => Spelling::one(b"ready", Field::wide(thread)),
+            KCall::Sched(SchedCall::Next) => Spelling::word(b"next"),
+            KCall::Sched(SchedCall::Sleep { channel, thread }) => {
+                Spelling::two(b"sleep", Field::wide(channel), Field::wide(thread))
+            }
+            KCall::Sched(SchedCall::Wake(channel)) => Spelling::one(b"wake", Field::wide(channel)),
+            KCall::Sched(SchedCall::WakeAll(channel)) => {
+                Spelling::one(b"wakeall", Field::wide(channel))
+            }
+        }
+    }
+
+    fn samples() -> &'static [KCall] {
+        &[
+            KCall::Queue(QueueCall::Enq(0)),
+            KCall::Queue(QueueCall::Deq),
+            KCall::Queue(QueueCall::Remove(0)),
+            KCall::Queue(QueueCall::Len),
+            KCall::Pool(PoolCall::Alloc(0)),
+            KCall::Pool(PoolCall::Free { owner: 0, page: 0 }),
+            KCall::Pool(PoolCall::Left),
+            KCall::Console(ConsoleCall::Put(0)),
+            KCall::Console(ConsoleCall::Get),
+            KCall::Console(ConsoleCall::Level),
+            KCall::Sched(SchedCall::Ready(0)),
+            KCall::Sched(SchedCall::Next),
+            KCall::Sched(SchedCall::Sleep {
+                channel: 0,
+                thread: 0,
+            }),
+            KCall::Sched(SchedCall::Wake(0)),
+            KCall::Sched(SchedCall::WakeAll(0)),
+        ]
+    }
+
+    fn fill(&self, numbers: &[u32]) -> KCall {
+        match *self {
+            KCall::Queue(QueueCall::Enq(_)) => KCall::Queue(QueueCall::Enq(first(numbers))),
+            KCall::Queue(QueueCall::Deq) => KCall::Queue(QueueCall::Deq),
+            KCall::Queue(QueueCall::Remove(_)) => KCall::Queue(QueueCall::Remove(first(numbers))),
+            KCall::Queue(QueueCall::Len) => KCall::Queue(QueueCall::Len),
+            KCall::Pool(PoolCall::Alloc(_)) => KCall::Pool(PoolCall::Alloc(first(numbers))),
+            KCall::Pool(PoolCall::Free { owner: _, page: _ }) => KCall::Pool(PoolCall::Free {
+                owner: first(numbers),
+                page: second(numbers),
+            }),
+            KCall::Pool(PoolCall::Left) => KCall::Pool(PoolCall::Left),
+            KCall::Console(ConsoleCall::Put(_)) => {
+                KCall::Console(ConsoleCall::Put(first(numbers) as u8))
+            }
+            KCall::Console(ConsoleCall::Get) => KCall::Console(ConsoleCall::Get),
+            KCall::Console(ConsoleCall::Level) => KCall::Console(ConsoleCall::Level),
+            KCall::Sched(SchedCall::Ready(_)) => KCall::Sched(SchedCall::Ready(first(numbers))),
+            KCall::Sched(SchedCall::Next) => KCall::Sched(SchedCall::Next),
+            KCall::Sched(
+                SchedCall::Sleep {
+                    channel: _,
+                    thread: _,
+                },
+            ) => KCall::Sched(SchedCall::Sleep {
+                channel: first(numbers),
+                thread: second(numbers),
+            }),
+            KCall::Sched(SchedCall::Wake(_)) => KCall::Sched(SchedCall::Wake(first(numbers))),
+            KCall::Sched(SchedCall::WakeAll(_)) => KCall::Sched(SchedCall::WakeAll(first(numbers))),
+        }
+    }
+}
+
+impl Spelled for KReply {
+    ghost use Rattle.scripts.specs.Rows.{reply_row, reply_samples, reply_filled};
+    ghost use Rattle.scripts.specs.Tables.{reply_table};
+
+    ghost row_of = { reply_row };
+
+    ghost table = { reply_samples };
+
+    ghost filled = { reply_filled };
+
+    ghost right = { reply_table };
+
+    fn spelling(&self) -> Spelling {
+        match *self {
+            KReply::Ok => Spelling::word(b"ok"),
+            KReply::Already => Spelling::word(b"already"),
+            KReply::BadThread => Spelling::word(b"badthread"),
+            KReply::Thread(thread) => Spelling::one(b"thread", Field::wide(thread)),
+            KReply::Empty => Spelling::word(b"empty"),
+            KReply::Absent => Spelling::word(b"absent"),
+            KReply::Count(count) => Spelling::one(b"count", Field::wide(count)),
+            KReply::Page(page) => Spelling::one(b"page", Field::wide(page)),
+            KReply::NoPage => Spelling::word(b"none"),
+            KReply::BadOwner => Spelling::word(b"badowner"),
+            KReply::NotYours => Spelling::word(b"notyours"),
+            KReply::NotTaken => Spelling::word(b"nottaken"),
+            KReply::BadPage => Spelling::word(b"badpage"),
+            KReply::Dropped(byte) => Spelling::one(b"dropped", Field::byte(byte)),
+            KReply::Byte(byte) => Spelling::one(b"byte", Field::byte(byte)),
+            KReply::BadChannel => Spelling::word(b"badchannel"),
+            KReply::BadCall => Spelling::word(b"badcall"),
+        }
+    }
+
+    fn samples() -> &'static [KReply] {
+        &[
+            KReply::Ok,
+            KReply::Already,
+            KReply::BadThread,
+            KReply::Thread(0),
+            KReply::Empty,
+            KReply::Absent,
+            KReply::Count(0),
+            KReply::Page(0),
+            KReply::NoPage,
+            KReply::BadOwner,
+            KReply::NotYours,
+            KReply::NotTaken,
+            KReply::BadPage,
+            KReply::Dropped(0),
+            KReply::Byte(0),
+            KReply::BadChannel,
+            KReply::BadCall,
+        ]
+    }
+
+    fn fill(&self, numbers: &[u32]) -> KReply {
+        match *self {
+            KReply::Thread(_) => KReply::Thread(first(numbers)),
+            KReply::Count(_) => KReply::Count(first(numbers)),
+            KReply::Page(_) => KReply::Page(first(numbers)),
+            KReply::Dropped(_) => KReply::Dropped(first(numbers) as u8),
+            KReply::Byte(_) => KReply::Byte(first(numbers) as u8),
+            reply => reply,
+        }
+    }
+}
