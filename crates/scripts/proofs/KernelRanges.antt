@@ -8,7 +8,7 @@ use Rattle.std.specs.List.{AllByRecursion, concat}
 use Rattle.event_log.specs.Distinct.{AreDistinctBelow}
 use Rattle.event_log.specs.Log.{Legal}
 use Rattle.event_log.specs.declared.event.Event.{Event}
-use Rattle.event_log.proofs.Distinct.{distinct_length}
+use Rattle.event_log.proofs.Distinct.{distinct_length, distinct_rest}
 use Rattle.shared_queue.specs.State.{QueueState, IsQueueOf, opening_state as opening_queue}
 use Rattle.shared_queue.specs.Answer.{queue_answer}
 use Rattle.shared_queue.specs.declared.call.QueueCall.{QueueCall}
@@ -87,16 +87,12 @@ Once n a = AreDistinctBelow n (held a.0)
 abbrev Fits : SchedState × SchedReply → Type 0
 Fits a = sched_fits a.1 ≡ true
 
-below : (n : ℕ) (a : List ℕ) (t : ℕ) (b : List ℕ) → AreDistinctBelow n (a ++ t ∷ b) → t < n
-below n [] t b q = q.0
-below n (x ∷ a) t b q = below n a t b q.2
-
 -- who is woken stands at the ready end then
 woken_fits : (n : ℕ) (s : SchedState) (c : ℕ) (ts : List ℕ) → n ≤ 1024 → Once n (woken_answer s c ts) → Fits (woken_answer s c ts)
 woken_fits n s c [] few once = refl
 woken_fits n s c (t ∷ rest) few once =
     let after : SchedState = (woken_answer s c (t ∷ rest)).0 in
-    let lt : t < n = below n s.ready t (concat after.channels) (subst (λ l. AreDistinctBelow n l) (append_assoc s.ready (t ∷ []) (concat after.channels)) once) in
+    let lt : t < n = (distinct_rest n s.ready (t ∷ concat after.channels) (subst (λ l. AreDistinctBelow n l) (append_assoc s.ready (t ∷ []) (concat after.channels)) once)).0 in
     wide_fits t (omega (arith, lt, few))
 
 wake_fits : (n : ℕ) (s : SchedState) (c : ℕ) (a : Bool) → n ≤ 1024 → Once n (if a then (s, BadChannel) else woken_answer s c (sleepers s c)) → Fits (if a then (s, BadChannel) else woken_answer s c (sleepers s c))
@@ -105,7 +101,7 @@ wake_fits n s c false few once = woken_fits n s c (sleepers s c) few once
 
 answer_fits : (n : ℕ) (s : SchedState) (c : SchedCall) → n ≤ 1024 → Once n (s, BadChannel) → Once n (sched_answer s c) → Fits (sched_answer s c)
 answer_fits n s (Ready t) few had once = search rules
-answer_fits n s Next few had once = search (rules, below, wide_fits)
+answer_fits n s Next few had once = search (rules, wide_fits)
 answer_fits n s (Sleep c t) few had once = search rules
 answer_fits n s (Wake c) few had once = wake_fits n s c (nat_le (length s.channels) c) few once
 answer_fits n s (WakeAll c) few had once = search (rules, distinct_length, length-append, wide_fits)

@@ -39,7 +39,7 @@ kernel_opening (PoolParams n) = PoolObject (pool.opening_state n)
 kernel_opening (ConsoleParams n) = ConsoleObject (console.opening_state n)
 kernel_opening (SchedParams p) = SchedObject (sched.opening_state p)
 
--- a kind's reply, as the reply with its text
+-- a queue's reply, as the reply with its text
 abbrev pub of_queue : QueueReply → KReply
 of_queue Queue.Ok = Ok
 of_queue Queue.BadThread = BadThread
@@ -49,6 +49,7 @@ of_queue Queue.Absent = Absent
 of_queue (Queue.Thread t) = Thread t
 of_queue (Queue.Count n) = Count n
 
+-- a page pool's
 abbrev pub of_pool : PoolReply → KReply
 of_pool Pool.Ok = Ok
 of_pool (Pool.Page p) = Page p
@@ -59,6 +60,7 @@ of_pool Pool.NotTaken = NotTaken
 of_pool Pool.BadPage = BadPage
 of_pool (Pool.Count n) = Count n
 
+-- a console's
 abbrev pub of_console : ConsoleReply → KReply
 of_console Console.Ok = Ok
 of_console (Console.Dropped b) = Dropped b
@@ -66,6 +68,7 @@ of_console Console.Empty = Empty
 of_console (Console.Byte b) = Byte b
 of_console (Console.Count n) = Count n
 
+-- a scheduler's
 abbrev pub of_sched : SchedReply → KReply
 of_sched Sched.Ok = Ok
 of_sched Sched.BadThread = BadThread
@@ -83,6 +86,7 @@ kernel_answer (ConsoleObject s) (ConsoleCalled c) = (ConsoleObject (console_answ
 kernel_answer (SchedObject s) (SchedCalled c) = (SchedObject (sched_answer s c).0, of_sched (sched_answer s c).1)
 kernel_answer o c = (o, BadCall)
 
+-- whether a reply refuses its call
 abbrev pub kernel_refusing : KReply → Bool
 kernel_refusing Ok = false
 kernel_refusing Already = true

@@ -44,13 +44,15 @@ refill (f ∷ fs) ns = record f { value = first ns } ∷ refill fs (others ns)
 abbrev pub refilled_row : Row → List ℕ → Row
 refilled_row row ns = record row { fields = refill row.fields ns }
 
--- a number of 32 bits, a byte, a limit
+-- a number of 32 bits
 abbrev pub wide : ℕ → Field
 wide n = record { low = 0; high = 4294967295; value = n }
 
+-- a byte
 abbrev pub byte : ℕ → Field
 byte n = record { low = 0; high = 255; value = n }
 
+-- a number from 1 to that limit
 abbrev pub limit : ℕ → ℕ → Field
 limit high n = record { low = 1; high = high; value = n }
 
@@ -59,13 +61,13 @@ abbrev pub IsPlain : List ℕ → Type 0
 IsPlain word = AllByRecursion (λ b. 32 < b) word
 
 module _ {T : Type 0} (row : T → Row) where
-  -- the first of the samples that begins with the word
+  -- the first of the samples that has the word
   unfoldable pub sample_at : List T → List ℕ → Option T
   sample_at [] word = None
   sample_at (x ∷ xs) word = if bytes_eq (row x).word word then Some x else sample_at xs word
 
   module _ (samples : List T) (filled : T → List ℕ → T) where
-    -- the table is right: a value has a sample of its word, and a sample that is filled with a value's numbers is it
+    -- the table is right: a value has a sample of its word, which is the value once it is filled with the value's numbers
     pub record IsTable : Type 0 where
       pub kept : (x : T) → filled x (values (row x)) ≡ x
       pub again : (x : T) (ns : List ℕ) → filled (filled x []) ns ≡ filled x ns

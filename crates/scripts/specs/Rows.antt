@@ -17,21 +17,25 @@ use Rattle.scripts.specs.declared.kernel_call.KReply.{KReply}
 use Rattle.scripts.specs.declared.kernel_call.KReply.TheVariants.{Ok, Already, BadThread, Thread, Empty, Absent, Count, Page, NoPage, BadOwner, NotYours, NotTaken, BadPage, Dropped, Byte, BadChannel, BadCall}
 use Rattle.scripts.specs.Row.{Row, first, others, wide, byte, limit}
 
+-- how parameters are spelled
 abbrev pub params_row : KParams → Row
 params_row (Params.Queue t) = record { word = codes "queue"; fields = limit MOST_THREADS t ∷ [] }
 params_row (Params.Pool p) = record { word = codes "pool"; fields = limit MOST_PAGES p ∷ [] }
 params_row (Params.Console b) = record { word = codes "console"; fields = limit MOST_BYTES b ∷ [] }
 params_row (Params.Sched p) = record { word = codes "sched"; fields = limit MOST_SCHEDULED p.threads ∷ limit MOST_CHANNELS p.channels ∷ [] }
 
+-- parameters of the same word with these numbers
 abbrev pub params_filled : KParams → List ℕ → KParams
 params_filled (Params.Queue _) ns = Params.Queue (first ns)
 params_filled (Params.Pool _) ns = Params.Pool (first ns)
 params_filled (Params.Console _) ns = Params.Console (first ns)
 params_filled (Params.Sched _) ns = Params.Sched (record { threads = first ns; channels = first (others ns) })
 
+-- parameters of each word
 abbrev pub params_samples : List KParams
 params_samples = Params.Queue 0 ∷ Params.Pool 0 ∷ Params.Console 0 ∷ Params.Sched (record { threads = 0; channels = 0 }) ∷ []
 
+-- how a call is spelled
 abbrev pub call_row : KCall → Row
 call_row (Queue (Enq t)) = record { word = codes "enq"; fields = wide t ∷ [] }
 call_row (Queue Deq) = record { word = codes "deq"; fields = [] }
@@ -49,6 +53,7 @@ call_row (Sched (Sleep c t)) = record { word = codes "sleep"; fields = wide c �
 call_row (Sched (Wake c)) = record { word = codes "wake"; fields = wide c ∷ [] }
 call_row (Sched (WakeAll c)) = record { word = codes "wakeall"; fields = wide c ∷ [] }
 
+-- the call of the same word with these numbers
 abbrev pub call_filled : KCall → List ℕ → KCall
 call_filled (Queue (Enq _)) ns = Queue (Enq (first ns))
 call_filled (Queue Deq) ns = Queue Deq
@@ -66,9 +71,11 @@ call_filled (Sched (Sleep _ _)) ns = Sched (Sleep (first ns) (first (others ns))
 call_filled (Sched (Wake _)) ns = Sched (Wake (first ns))
 call_filled (Sched (WakeAll _)) ns = Sched (WakeAll (first ns))
 
+-- a call of each word
 abbrev pub call_samples : List KCall
 call_samples = Queue (Enq 0) ∷ Queue Deq ∷ Queue (Remove 0) ∷ Queue Len ∷ Pool (Alloc 0) ∷ Pool (Free 0 0) ∷ Pool Left ∷ Console (Put 0) ∷ Console Get ∷ Console Level ∷ Sched (Ready 0) ∷ Sched Next ∷ Sched (Sleep 0 0) ∷ Sched (Wake 0) ∷ Sched (WakeAll 0) ∷ []
 
+-- how a reply is spelled
 abbrev pub reply_row : KReply → Row
 reply_row Ok = record { word = codes "ok"; fields = [] }
 reply_row Already = record { word = codes "already"; fields = [] }
@@ -88,6 +95,7 @@ reply_row (Byte b) = record { word = codes "byte"; fields = byte b ∷ [] }
 reply_row BadChannel = record { word = codes "badchannel"; fields = [] }
 reply_row BadCall = record { word = codes "badcall"; fields = [] }
 
+-- the reply of the same word with these numbers
 abbrev pub reply_filled : KReply → List ℕ → KReply
 reply_filled (Thread _) ns = Thread (first ns)
 reply_filled (Count _) ns = Count (first ns)
@@ -96,5 +104,6 @@ reply_filled (Dropped _) ns = Dropped (first ns)
 reply_filled (Byte _) ns = Byte (first ns)
 reply_filled r ns = r
 
+-- a reply of each word
 abbrev pub reply_samples : List KReply
 reply_samples = Ok ∷ Already ∷ BadThread ∷ Thread 0 ∷ Empty ∷ Absent ∷ Count 0 ∷ Page 0 ∷ NoPage ∷ BadOwner ∷ NotYours ∷ NotTaken ∷ BadPage ∷ Dropped 0 ∷ Byte 0 ∷ BadChannel ∷ BadCall ∷ []

@@ -13,5 +13,5 @@ mod tests;
 pub use field::Field;
 pub use kernel_call::{KCall, KParams, KReply};
 pub use kernel_object::KernelObject;
-pub use ranges::{fits, replies_fit};
+pub use ranges::{fits, parameters_fit, replies_fit};
 pub use spelled::{Spelled, Spelling};

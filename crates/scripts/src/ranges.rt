@@ -4,6 +4,7 @@ ghost use Rattle.std.specs.Prelude.{◌≡◌, List, true};
 ghost use Rattle.event_log.specs.declared.event.Event.{Event};
 ghost use Rattle.event_log.specs.Log.{Legal};
 ghost use Rattle.scripts.specs.Row.{row_fits};
+ghost use Rattle.scripts.specs.Rows.{params_row};
 ghost use Rattle.scripts.specs.Kernel.{kernel_in_range};
 ghost use Rattle.scripts.specs.Ranges.{call_fits, reply_fits, log_asks, log_answers};
 ghost use Rattle.scripts.specs.declared.kernel_call.KParams.{KParams};
@@ -25,6 +26,11 @@ pub fn fits<T: Spelled>(value: &T) -> bool
     value.spelling().fields.as_slice().iter().all(|field| field.low <= field.value
         && field.value <= field.high)
 }
+
+/// A law of parameters, without effect: each of their numbers is in its range exactly where an object can be opened with them.
+pub fn parameters_fit()
+    ensures { (p : KParams) → row_fits (params_row p) ≡ kernel_in_range p }
+{}
 
 /// A law of all objects of the kernel, without effect: a legal log whose calls are in range has replies in range.
 pub fn replies_fit()
