@@ -1,6 +1,4 @@
-pub mod Outputs
 pub mod Lines
-pub mod Cuts
 pub mod Readings
 pub mod Requests
 pub mod QueueReads

@@ -7,9 +7,10 @@ use Rattle.std.specs.List.{AllByRecursion}
 use Rattle.std.specs.Str.{bytes_eq}
 use Rattle.shared_queue.specs.declared.call.QueueCall.{QueueCall}
 use Rattle.shared_queue.specs.declared.call.QueueCall.TheVariants.{Enq, Deq, Remove, Len}
-use Rattle.mc2.specs.Reading.{◌>>=◌, word_at, number_at, queue_call_at}
+use Rattle.mc2.specs.Reading.{queue_call_at}
+use Rattle.scripts.specs.Reading.{◌>>=◌, word_at, number_at}
 use Rattle.mc2.specs.QueueWords.{queue_call_words, queue_call_fits, queue_spelling}
-use Rattle.mc2.proofs.Readings.{bind_some}
+use Rattle.scripts.proofs.Readings.{bind_some}
 use Rattle.mc2.proofs.Requests.{IsPlain, ReadsCalls, plain_decimal, number_at_takes, number_at_again}
 
 again : (c : QueueCall) (rest : List (List ℕ)) → queue_call_fits c ≡ true → queue_call_at (queue_call_words c ++ rest) ≡ Some (c, rest)

@@ -2,28 +2,12 @@
 use Rattle.std.proofs.Common.{◌≡◌, ℕ, zero, suc, ◌-◌, Bool, true, false, Option, Some, None, List, [], ◌∷◌, ◌++◌, refl, sym, ◌∙◌, ap, append_assoc, cond}
 use Rattle.std.proofs.lemmas.List.{append-nil}
 use Rattle.std.specs.Borrow.{Bor}
-use Rattle.std.specs.Option.{IfNone, is_some}
+use Rattle.std.specs.Option.{is_some}
 use Rattle.std.specs.List.{onto_first}
 use Rattle.event_log.specs.declared.event.TheConstants.{MOST_CALLS}
-use Rattle.mc2.specs.Reading.{◌>>=◌, words, left, is_nil, next_call_at, more_at, calls_at}
-
--- what is so stands where there is no value
-pub if_none : {X P : Type 0} (o : Option X) → P → IfNone o P
-if_none None p = p
-if_none (Some x) p = tt
-
--- what a step that goes on gives, in two ways
-pub bind_some : {A B P : Type 0} (o : Option A) (f : A → Option B) (y : B) → (o >>= f) ≡ Some y → ((x : A) → o ≡ Some x → f x ≡ Some y → P) → P
-bind_some None f y e k = absurd cc
-bind_some (Some x) f y e k = k x refl e
-
-pub bind_bind : {A B C : Type 0} (o : Option A) (f : A → Option B) (g : B → Option C) → ((o >>= f) >>= g) ≡ (o >>= λ x. f x >>= g)
-bind_bind None f g = refl
-bind_bind (Some x) f g = refl
-
-pub bind_same : {A B : Type 0} (o : Option A) (f g : A → Option B) → ((x : A) → f x ≡ g x) → (o >>= f) ≡ (o >>= g)
-bind_same None f g same = refl
-bind_same (Some x) f g same = same x
+use Rattle.scripts.specs.Reading.{◌>>=◌, words, left}
+use Rattle.scripts.proofs.Readings.{bind_bind, bind_same}
+use Rattle.mc2.specs.Reading.{is_nil, next_call_at, more_at, calls_at}
 
 -- a line has a word, be it empty
 onto_first_some : (b : Bool) (x : ℕ) (ws : List (List ℕ)) → is_nil ws ≡ false → is_nil (cond b ([] ∷ ws) (onto_first x ws)) ≡ false

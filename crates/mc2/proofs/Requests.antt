@@ -15,13 +15,14 @@ use Rattle.std.specs.Str.{bytes_eq}
 use Rattle.event_log.specs.declared.event.TheConstants.{MOST_CALLS}
 use Rattle.event_log.proofs.Each.{all_map, all_append}
 use Rattle.mc2.specs.declared.request.Request.{Request}
-use Rattle.mc2.specs.Reading.{◌>>=◌, words, is_nil, number_in, word_at, key_at, number_at, next_call_at, more_at, calls_at, object_at, request_at}
+use Rattle.mc2.specs.Reading.{is_nil, next_call_at, more_at, calls_at, object_at, request_at}
+use Rattle.scripts.specs.Reading.{◌>>=◌, words, number_in, word_at, key_at, number_at}
 use Rattle.mc2.specs.ScriptText.{IsRequest, request_words}
 use Rattle.mc2.specs.Settings.{Settings, ObjectSettings, SettingsFit, ObjectFits, NamesDiffer, name_at, is_name, is_letter, is_digit}
 use Rattle.mc2.specs.Spelling.{Spelling}
-use Rattle.mc2.specs.Words.{sentence, separated}
-use Rattle.mc2.proofs.Cuts.{number_takes, number_again}
-use Rattle.mc2.proofs.Readings.{bind_some}
+use Rattle.scripts.specs.Words.{sentence, separated}
+use Rattle.scripts.proofs.Cuts.{number_takes, number_again}
+use Rattle.scripts.proofs.Readings.{bind_some}
 
 -- neither a line end nor a space is in the word
 abbrev pub IsPlain : List ℕ → Type 0

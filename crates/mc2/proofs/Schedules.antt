@@ -8,7 +8,7 @@ use Rattle.std.proofs.lemmas.List.Splits.{slice_split-cons_yes, slice_split_none
 use Rattle.std.specs.List.{AllByRecursion, filter, slice_split}
 use Rattle.mc2.specs.declared.schedule.TheConstants.{MOST_STEPS}
 use Rattle.mc2.specs.ScheduleText.{is_gap, schedule_words, IsSchedule, NamesNoCpu, IsFirstBadWord}
-use Rattle.mc2.proofs.Cuts.{none_below, none_passes}
+use Rattle.scripts.proofs.Cuts.{none_below, none_passes}
 
 -- ---- words
 

@@ -6,12 +6,12 @@ use Rattle.std.proofs.lemmas.Bool.{eqb-true}
 use Rattle.std.proofs.lemmas.List.Sums.{fold-append}
 use Rattle.event_log.proofs.Each.{all_push}
 use Rattle.mc2.specs.declared.request.Request.{Request}
-use Rattle.mc2.specs.declared.scripts.TheConstants.{MOST_ENTRIES}
+use Rattle.mc2.specs.declared.read_scripts.TheConstants.{MOST_ENTRIES}
 use Rattle.mc2.specs.ScriptText.{IsBlank, IsRequest, AskFor, AreScripts, IsRefused, IsFirstBad, count_of}
 use Rattle.mc2.specs.ScriptFaults.{TakesLine}
 use Rattle.mc2.specs.Settings.{Settings}
 use Rattle.mc2.specs.Spelling.{Spelling}
-use Rattle.mc2.specs.Words.{text_of_lines, NoEnd}
+use Rattle.scripts.specs.Words.{text_of_lines, NoEnd}
 
 text_more : (lines : List (List ℕ)) (line : List ℕ) → text_of_lines (lines ++ line ∷ []) ≡ text_of_lines lines ++ (line ++ 10 ∷ [])
 text_more lines line = flat_map-append (λ l. l ++ 10 ∷ []) lines (line ∷ []) ∙ ap (λ t. text_of_lines lines ++ t) (append-nil (line ++ 10 ∷ []))

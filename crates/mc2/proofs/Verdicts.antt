@@ -5,11 +5,11 @@ use Rattle.std.proofs.lemmas.Bool.{eq-eqb}
 use Rattle.std.proofs.lemmas.Fmt.{decimal_by_steps}
 use Rattle.std.proofs.lemmas.List.Sums.{fold-append}
 use Rattle.mc2.specs.declared.request.Request.{Request}
-use Rattle.mc2.specs.declared.scripts.TheConstants.{MOST_ENTRIES}
+use Rattle.mc2.specs.declared.read_scripts.TheConstants.{MOST_ENTRIES}
 use Rattle.mc2.specs.ScriptText.{IsBlank, IsRequest, AskFor, AreScripts, IsRefused, IsFirstBad, count_of, request_words}
 use Rattle.mc2.specs.Settings.{Settings, SettingsFit}
 use Rattle.mc2.specs.Spelling.{Spelling}
-use Rattle.mc2.specs.Words.{sentence, text_of_lines, NoEnd}
+use Rattle.scripts.specs.Words.{sentence, text_of_lines, NoEnd}
 use Rattle.mc2.proofs.Requests.{ReadsCalls, request_again}
 
 -- two texts with a line end are cut alike

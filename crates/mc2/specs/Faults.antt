@@ -9,9 +9,9 @@ use Rattle.mc2.specs.declared.first_run.FirstFault.{FirstFault}
 use Rattle.mc2.specs.declared.first_run.FirstFault.TheVariants as first
 use Rattle.mc2.specs.declared.input.InputFault.{InputFault}
 use Rattle.mc2.specs.declared.input.InputFault.TheVariants as input
-use Rattle.mc2.specs.declared.write_text.WriteFailed.{WriteFailed}
-use Rattle.mc2.specs.declared.scripts.ScriptsFault.{ScriptsFault}
-use Rattle.mc2.specs.declared.scripts.ScriptsFault.TheVariants as scripts
+use Rattle.scripts.specs.declared.written.WriteFailed.{WriteFailed}
+use Rattle.mc2.specs.declared.read_scripts.ScriptsFault.{ScriptsFault}
+use Rattle.mc2.specs.declared.read_scripts.ScriptsFault.TheVariants as scripts
 use Rattle.mc2.specs.declared.schedule.ScheduleFault.{ScheduleFault}
 use Rattle.mc2.specs.declared.schedule.ScheduleFault.TheVariants as schedule
 

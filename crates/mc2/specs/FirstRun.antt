@@ -12,7 +12,7 @@ use Rattle.event_log.specs.declared.entry.Todo.{Todo}
 use Rattle.event_log.specs.declared.entry.Run.{Run}
 use Rattle.event_log.specs.declared.event.TheConstants.{MOST_CALLS}
 use Rattle.mc2.specs.declared.request.Request.{Request}
-use Rattle.mc2.specs.Output.{AppendsBeginning}
+use Rattle.scripts.specs.Output.{AppendsBeginning}
 use Rattle.mc2.specs.RecordText.{record_text}
 use Rattle.mc2.specs.ScriptText.{AreScripts}
 use Rattle.mc2.specs.Settings.{Settings}

@@ -1,5 +1,3 @@
-pub mod Words
-pub mod Output
 pub mod Spelling
 pub mod Settings
 pub mod RecordText

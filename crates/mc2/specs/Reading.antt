@@ -1,51 +1,18 @@
--- Reading the words of a line from left to right. The laws in proofs/ tie this to the texts.
-use Rattle.std.specs.Prelude.{◌==◌, ℕ, zero, suc, List, [], ◌∷◌, Option, Some, None, Bool, true, false, if◌then◌else◌, codes, ◌-◌, nat_le, nat_lt, ◌&&◌, decimal}
-use Rattle.std.specs.List.{slice_split, position}
+-- Reading an entry of the scripts from left to right. The laws in proofs/ tie this to the texts.
+use Rattle.std.specs.Prelude.{ℕ, zero, suc, List, [], ◌∷◌, Option, Some, None, Bool, true, false, if◌then◌else◌, codes, ◌-◌, nat_lt}
+use Rattle.std.specs.List.{position}
 use Rattle.std.specs.Str.{bytes_eq}
-use Rattle.std.specs.Str.Parse.{digits_value}
-use Rattle.std.specs.Borrow.{Bor}
 use Rattle.event_log.specs.declared.event.TheConstants.{MOST_CALLS}
 use Rattle.shared_queue.specs.declared.call.QueueCall.{QueueCall}
 use Rattle.shared_queue.specs.declared.call.QueueCall.TheVariants.{Enq, Deq, Remove, Len}
+use Rattle.scripts.specs.Reading.{◌>>=◌, word_at, key_at, number_at}
 use Rattle.mc2.specs.declared.request.Request.{Request}
 use Rattle.mc2.specs.Settings.{Settings}
-
-infixl 10 ◌>>=◌
-abbrev pub ◌>>=◌ : {A B : Type 0} → Option A → (A → Option B) → Option B
-None >>= f = None
-(Some x) >>= f = f x
-
-unfoldable pub words : List ℕ → List (List ℕ)
-words line = slice_split (λ b. b == 32) line
-
--- the words that are left
-abbrev pub left : Option (Bor (List ℕ)) → List (List ℕ)
-left None = []
-left (Some bytes) = words bytes.now
 
 -- no word is left
 abbrev pub is_nil : List (List ℕ) → Bool
 is_nil [] = true
 is_nil (w ∷ ws) = false
-
--- the number up to high whose decimal text the word is
-unfoldable pub number_in : ℕ → List ℕ → Option ℕ
-number_in high word = if bytes_eq (decimal (digits_value 10 word)) word && nat_le (digits_value 10 word) high then Some (digits_value 10 word) else None
-
-unfoldable pub word_at : List (List ℕ) → Option (List ℕ × List (List ℕ))
-word_at [] = None
-word_at (word ∷ rest) = Some (word, rest)
-
-unfoldable pub key_at : List ℕ → List (List ℕ) → Option (List (List ℕ))
-key_at key ws = do
-  w ← word_at ws
-  if bytes_eq w.0 key then Some w.1 else None
-
-unfoldable pub number_at : ℕ → List (List ℕ) → Option (ℕ × List (List ℕ))
-number_at high ws = do
-  w ← word_at ws
-  n ← number_in high w.0
-  Some (n, w.1)
 
 unfoldable pub queue_call_at : List (List ℕ) → Option (QueueCall × List (List ℕ))
 queue_call_at ws = do

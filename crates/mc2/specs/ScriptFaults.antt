@@ -2,9 +2,9 @@
 use Rattle.std.specs.Prelude.{ℕ, ◌≡◌, ◌<◌, ◌⊎◌, List, [], ◌∷◌, ◌++◌}
 use Rattle.shared_queue.specs.declared.queue.ThreadQueue.{ThreadQueue}
 use Rattle.mc2.specs.declared.request.Request.{Request}
-use Rattle.mc2.specs.declared.scripts.TheConstants.{MOST_ENTRIES}
-use Rattle.mc2.specs.declared.scripts.ScriptsFault.{ScriptsFault}
-use Rattle.mc2.specs.declared.scripts.ScriptsFault.TheVariants.{OutOfMemory, Line}
+use Rattle.mc2.specs.declared.read_scripts.TheConstants.{MOST_ENTRIES}
+use Rattle.mc2.specs.declared.read_scripts.ScriptsFault.{ScriptsFault}
+use Rattle.mc2.specs.declared.read_scripts.ScriptsFault.TheVariants.{OutOfMemory, Line}
 use Rattle.mc2.specs.QueueWords.{queue_spelling}
 use Rattle.mc2.specs.ScriptText.{IsBlank, IsRequest, IsFirstBad, count_of}
 use Rattle.mc2.specs.Settings.{Settings}

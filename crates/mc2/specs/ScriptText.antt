@@ -3,10 +3,10 @@ use Rattle.std.specs.Prelude.{ℕ, ◌+◌, ◌≡◌, ◌<◌, ◌≤◌, ◌==
 use Rattle.std.specs.List.{list_all, AllByRecursion}
 use Rattle.event_log.specs.declared.event.TheConstants.{MOST_CALLS}
 use Rattle.mc2.specs.declared.request.Request.{Request}
-use Rattle.mc2.specs.declared.scripts.TheConstants.{MOST_ENTRIES}
+use Rattle.mc2.specs.declared.read_scripts.TheConstants.{MOST_ENTRIES}
 use Rattle.mc2.specs.Settings.{Settings, name_at}
 use Rattle.mc2.specs.Spelling.{Spelling}
-use Rattle.mc2.specs.Words.{sentence, separated, text_of_lines, NoEnd}
+use Rattle.scripts.specs.Words.{sentence, separated, text_of_lines, NoEnd}
 
 -- an empty line, or a comment
 abbrev pub IsBlank : List ℕ → Type 0

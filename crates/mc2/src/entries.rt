@@ -7,9 +7,10 @@ ghost use Rattle.mc2.specs.Settings.{SettingsFit};
 ghost use Rattle.mc2.specs.QueueWords.{queue_spelling};
 ghost use Rattle.mc2.specs.QueueTypes.{QueueRequest};
 ghost use Rattle.mc2.specs.ScriptText.{IsRequest};
-ghost use Rattle.mc2.specs.Reading.{words, left, queue_call_at, next_call_at, calls_at, object_at, request_at};
+ghost use Rattle.mc2.specs.Reading.{queue_call_at, next_call_at, calls_at, object_at, request_at};
+ghost use Rattle.scripts.specs.Reading.{words, left};
 
-use crate::words::{Words, key, number, word};
+use scripts::{Words, key, number, word};
 use crate::{Request, Settings};
 use arrayvec::ArrayVec;
 use event_log::{MOST_CALLS, Todo};

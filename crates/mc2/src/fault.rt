@@ -5,8 +5,9 @@ ghost use Rattle.mc2.specs.Faults.{of_memory, of_words, of_run, of_scripts, of_i
 
 use crate::arguments::WordsFault;
 use crate::input::InputFault;
-use crate::scripts::ScriptsFault;
-use crate::{FirstFault, ScheduleFault, WriteFailed};
+use crate::read_scripts::ScriptsFault;
+use crate::{FirstFault, ScheduleFault};
+use scripts::WriteFailed;
 use event_log::OutOfMemory;
 use thiserror::Error;
 

@@ -17,9 +17,10 @@ ghost use Rattle.mc2.specs.ScriptText.{AreScripts, IsFirstBad};
 #[cfg(test)]
 mod tests;
 
-use crate::scripts::{ScriptsFault, read_scripts};
+use crate::read_scripts::{ScriptsFault, read_scripts};
 use crate::threads::{NoThreadStarted, on_two_threads};
-use crate::{Record, Request, Settings, WriteFailed, write_record};
+use crate::{Record, Request, Settings, write_record};
+use scripts::WriteFailed;
 use event_log::{Entry, Event, Logged, OpenFault, OutOfMemory, Run, SeqObject, Series, Sink, Todo};
 use shared_queue::ThreadQueue;
 use std::alloc::Global;

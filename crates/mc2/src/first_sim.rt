@@ -11,7 +11,7 @@ ghost use Rattle.mc2.specs.Simulation.{WritesSimulation, simulated};
 use crate::fault::Fault;
 use crate::first_run::{open_first, split_scripts};
 use crate::input::read_input;
-use crate::scripts::read_scripts;
+use crate::read_scripts::read_scripts;
 use crate::{Inputs, Record, Request, Settings, read_schedule, write_record};
 use event_log::{OutOfMemory, Run, SeqObject, Sink, Todo};
 use shared_queue::ThreadQueue;

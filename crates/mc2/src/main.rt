@@ -2,7 +2,6 @@
 #![tactic(auto)]
 
 mod arguments;
-mod buffered;
 mod command;
 mod entries;
 mod fault;
@@ -10,24 +9,20 @@ mod first_run;
 mod first_sim;
 mod input;
 mod record;
+mod read_scripts;
 mod request;
 mod schedule;
-mod scripts;
 mod settings;
-mod split_once;
 #[cfg(test)]
 mod tests;
 mod threads;
-mod words;
 mod words_given;
 mod worker;
-mod write_text;
 mod writer;
 
 pub use crate::command::command;
 use crate::command::refuse;
 use crate::words_given::words_given;
-pub use buffered::Buffered;
 use event_log::{Plain, StreamFailed};
 pub use first_run::{FirstFault, first_run};
 pub use first_sim::first_sim;
@@ -40,7 +35,6 @@ use std::fs::{File, Files};
 use std::io;
 use std::io::{Input, Read};
 use std::process::ExitCode;
-pub use write_text::{WriteFailed, write_text};
 pub use writer::write_record;
 
 /// An open file, or standard input.

@@ -7,7 +7,7 @@ ghost use Rattle.mc2.specs.ScheduleText.{is_gap, schedule_words, IsSchedule, Nam
 mod tests;
 
 use crate::Settings;
-use crate::words::number_of;
+use scripts::number_of;
 use std::alloc::Global;
 
 /// The most steps of a schedule.

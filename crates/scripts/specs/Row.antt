@@ -3,6 +3,7 @@ use Rattle.std.specs.Prelude.{◌≡◌, ℕ, ◌<◌, nat_le, ◌&&◌, Bool, t
 use Rattle.std.specs.List.{list_all, AllByRecursion}
 use Rattle.std.specs.Str.{bytes_eq}
 use Rattle.scripts.specs.declared.field.Field.{Field}
+use Rattle.scripts.specs.Reading.{◌>>=◌, word_at, number_at}
 
 -- a word, and then its numbers, each with its range
 pub record Row : Type 0 where
@@ -60,6 +61,20 @@ limit high n = record { low = 1; high = high; value = n }
 abbrev pub IsPlain : List ℕ → Type 0
 IsPlain word = AllByRecursion (λ b. 32 < b) word
 
+-- a number in the field's range
+unfoldable pub field_at : Field → List (List ℕ) → Option (ℕ × List (List ℕ))
+field_at f ws = do
+  n ← number_at f.high ws
+  if nat_le f.low n.0 then Some n else None
+
+-- as many numbers as there are fields, each in its range
+unfoldable pub numbers_at : List Field → List (List ℕ) → Option (List ℕ × List (List ℕ))
+numbers_at [] ws = Some ([], ws)
+numbers_at (f ∷ fs) ws = do
+  n ← field_at f ws
+  more ← numbers_at fs n.1
+  Some (n.0 ∷ more.0, more.1)
+
 module _ {T : Type 0} (row : T → Row) where
   -- the first of the samples that has the word
   unfoldable pub sample_at : List T → List ℕ → Option T
@@ -67,6 +82,14 @@ module _ {T : Type 0} (row : T → Row) where
   sample_at (x ∷ xs) word = if bytes_eq (row x).word word then Some x else sample_at xs word
 
   module _ (samples : List T) (filled : T → List ℕ → T) where
+    -- the value that is spelled next
+    unfoldable pub value_at : List (List ℕ) → Option (T × List (List ℕ))
+    value_at ws = do
+      w ← word_at ws
+      x ← sample_at samples w.0
+      ns ← numbers_at (row x).fields w.1
+      Some (filled x ns.0, ns.1)
+
     -- the table is right: a value has a sample of its word, which is the value once it is filled with the value's numbers
     pub record IsTable : Type 0 where
       pub kept : (x : T) → filled x (values (row x)) ≡ x

@@ -1,9 +1,9 @@
 //! Ranges, of values and of the replies in a log.
 
-ghost use Rattle.std.specs.Prelude.{◌≡◌, List, true};
+ghost use Rattle.std.specs.Prelude.{◌≡◌, ◌++◌, ℕ, List, true};
 ghost use Rattle.event_log.specs.declared.event.Event.{Event};
 ghost use Rattle.event_log.specs.Log.{Legal};
-ghost use Rattle.scripts.specs.Row.{row_fits};
+ghost use Rattle.scripts.specs.Row.{row_fits, spelled};
 ghost use Rattle.scripts.specs.Rows.{params_row};
 ghost use Rattle.scripts.specs.Kernel.{kernel_in_range};
 ghost use Rattle.scripts.specs.Ranges.{call_fits, reply_fits, log_asks, log_answers};
@@ -26,6 +26,11 @@ pub fn fits<T: Spelled>(value: &T) -> bool
     value.spelling().fields.as_slice().iter().all(|field| field.low <= field.value
         && field.value <= field.high)
 }
+
+/// A law of every table, without effect: no two values are spelled alike, whatever follows them.
+pub fn spelled_once<T: Spelled>()
+    ensures { (x y : T) (a b : List (List ℕ)) → row_fits (T.row_of x) ≡ true → row_fits (T.row_of y) ≡ true → spelled (T.row_of x) ++ a ≡ spelled (T.row_of y) ++ b → (x ≡ y) × (a ≡ b) }
+{}
 
 /// A law of parameters, without effect: each of their numbers is in its range exactly where an object can be opened with them.
 pub fn parameters_fit()

@@ -2,7 +2,7 @@
 
 use super::do_scripts;
 use crate::Settings;
-use crate::scripts::read_scripts;
+use crate::read_scripts::read_scripts;
 use event_log::{Done, Entry, Event, Logged, Run, SeqObject};
 use shared_queue::ThreadQueue;
 use std::sync::Wait;

@@ -2,7 +2,8 @@ use Rattle.std.proofs.Common.{◌≡◌, ℕ, suc, ◌-◌, ◌+◌, Option, Som
 use Rattle.std.specs.Option.{option_map}
 use Rattle.event_log.specs.declared.event.TheConstants.{MOST_CALLS}
 use Rattle.shared_queue.specs.declared.call.QueueCall.{QueueCall}
-use Rattle.mc2.specs.Reading.{◌>>=◌, left, queue_call_at, next_call_at, more_at}
+use Rattle.mc2.specs.Reading.{queue_call_at, next_call_at, more_at}
+use Rattle.scripts.specs.Reading.{◌>>=◌, left}
 use Rattle.mc2.proofs.Readings.{none_left, some_left, calls_first, calls_none, more_step, more_none, more_end, more_left}
 use Rattle.mc2.proofs.entries.calls.Goals as goal
 use Rattle.mc2.proofs.entries.calls.Goals.{else-loop-count-test, then-loop-count-test+then-is_none}

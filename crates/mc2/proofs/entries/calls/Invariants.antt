@@ -1,6 +1,7 @@
 use Rattle.std.proofs.Common.{◌≡◌, ◌++◌, ◌-◌, length, Some}
 use Rattle.event_log.specs.declared.event.TheConstants.{MOST_CALLS}
-use Rattle.mc2.specs.Reading.{◌>>=◌, left, queue_call_at, more_at, calls_at}
+use Rattle.mc2.specs.Reading.{queue_call_at, more_at, calls_at}
+use Rattle.scripts.specs.Reading.{◌>>=◌, left}
 use Rattle.mc2.proofs.entries.calls.Given as goal
 
 abbrev pub invariant-loop-count : goal.invariant-loop-count

@@ -1,7 +1,7 @@
 use Rattle.std.proofs.Common.{◌≡◌, ◌<◌, ◌≤◌, ◌^◌, Some, None, sym, ◌∙◌, ap, arith}
-use Rattle.mc2.specs.Reading.{number_in}
-use Rattle.mc2.proofs.Cuts.{number_takes, number_again}
-use Rattle.mc2.proofs.Readings.{if_none}
+use Rattle.scripts.specs.Reading.{number_in}
+use Rattle.scripts.proofs.Cuts.{number_takes, number_again}
+use Rattle.scripts.proofs.Readings.{if_none}
 use Rattle.mc2.proofs.schedule.cpu_of.Goals as goal
 
 pub returns-in_err-number-clause-none : goal.returns-in_err-number-clause-none

@@ -1,7 +1,7 @@
 use Rattle.std.proofs.Common.{◌≡◌, Some, None, position, drop, sym, ◌∙◌}
 use Rattle.mc2.specs.ScheduleText.{is_gap}
 use Rattle.mc2.proofs.Schedules.{next_is, last_is, none_is}
-use Rattle.mc2.proofs.Readings.{if_none}
+use Rattle.scripts.proofs.Readings.{if_none}
 use Rattle.mc2.proofs.schedule.next_word.Goals as goal
 
 pub returns-in_err-start-clause-none : goal.returns-in_err-start-clause-none

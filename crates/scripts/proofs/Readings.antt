@@ -1,0 +1,51 @@
+-- Words and numbers are read as what they are, and nothing else is.
+use Rattle.std.proofs.Common.{◌≡◌, ℕ, ◌<◌, ◌≤◌, ◌^◌, true, Option, Some, None, List, [], ◌∷◌, ◌++◌, refl, ◌∙◌, ap, subst, arith, decimal}
+use Rattle.std.proofs.lemmas.Fmt.{decimal_by_steps}
+use Rattle.std.proofs.lemmas.Slice.Eq.{bytes_eq-Decides}
+use Rattle.std.specs.Option.{IfNone}
+use Rattle.std.specs.Str.{bytes_eq}
+use Rattle.scripts.specs.Reading.{◌>>=◌, number_in, word_at, number_at}
+use Rattle.scripts.specs.Row.{IsPlain}
+use Rattle.scripts.proofs.Cuts.{number_takes, number_again}
+
+-- what is so stands where there is no value
+pub if_none : {X P : Type 0} (o : Option X) → P → IfNone o P
+if_none None p = p
+if_none (Some x) p = tt
+
+-- what a step that goes on gives, in two ways
+pub bind_some : {A B P : Type 0} (o : Option A) (f : A → Option B) (y : B) → (o >>= f) ≡ Some y → ((x : A) → o ≡ Some x → f x ≡ Some y → P) → P
+bind_some None f y e k = absurd cc
+bind_some (Some x) f y e k = k x refl e
+
+pub bind_bind : {A B C : Type 0} (o : Option A) (f : A → Option B) (g : B → Option C) → ((o >>= f) >>= g) ≡ (o >>= λ x. f x >>= g)
+bind_bind None f g = refl
+bind_bind (Some x) f g = refl
+
+pub bind_same : {A B : Type 0} (o : Option A) (f g : A → Option B) → ((x : A) → f x ≡ g x) → (o >>= f) ≡ (o >>= g)
+bind_same None f g same = refl
+bind_same (Some x) f g same = same x
+
+pub plain_both : (a b : List ℕ) → IsPlain a → IsPlain b → IsPlain (a ++ b)
+plain_both [] b p q = q
+plain_both (x ∷ a) b p q = (p.0, plain_both a b p.1 q)
+
+pub plain_decimal : (n : ℕ) → n < 2 ^ 64 → IsPlain (decimal n)
+plain_decimal n fits = decimal_by_steps (λ n ds. IsPlain ds) (λ n h. (omega arith, tt)) (λ n ds h p. plain_both ds _ p (omega arith, tt)) n fits
+
+pub same : (a b : List ℕ) → bytes_eq a b ≡ true → a ≡ b
+same a b e = (bytes_eq-Decides a b).0 e
+
+pub number_at_takes : (high n : ℕ) (ws rest : List (List ℕ)) → number_at high ws ≡ Some (n, rest) → (ws ≡ decimal n ∷ rest) × (n ≤ high)
+unfolding number_at word_at
+number_at_takes high n [] rest e = absurd cc
+number_at_takes high n (w ∷ ws) rest e = bind_some (number_in high w) (λ m. Some (m, ws)) (n, rest) e (λ m found is.
+    let pair : ◌≡◌ {A = ℕ × List (List ℕ)} (m, ws) (n, rest) = cc in
+    let number : m ≡ n = ap (λ p. p.0) pair in
+    let left : ws ≡ rest = ap (λ p. p.1) pair in
+    let takes = number_takes high w m found in
+    (ap (λ v. v ∷ ws) (takes.0 ∙ ap decimal number) ∙ ap (λ l. decimal n ∷ l) left, subst (λ (k : ℕ). k ≤ high) number takes.1))
+
+pub number_at_again : (high n : ℕ) (rest : List (List ℕ)) → n ≤ high → n < 2 ^ 64 → number_at high (decimal n ∷ rest) ≡ Some (n, rest)
+unfolding number_at word_at
+number_at_again high n rest hi fits = ap (λ o. o >>= λ m. Some (m, rest)) (number_again high n hi fits)
