@@ -10,10 +10,10 @@ ghost use Rattle.mc2.specs.ScriptText.{IsRequest};
 ghost use Rattle.mc2.specs.Reading.{queue_call_at, next_call_at, calls_at, object_at, request_at};
 ghost use Rattle.scripts.specs.Reading.{words, left};
 
-use scripts::{Words, key, number, word};
 use crate::{Request, Settings};
 use arrayvec::ArrayVec;
 use event_log::{MOST_CALLS, Todo};
+use scripts::{Words, key, number, word};
 use shared_queue::{QueueCall, ThreadQueue};
 use word_rule::MOST_CELLS;
 

@@ -7,8 +7,8 @@ use crate::arguments::WordsFault;
 use crate::input::InputFault;
 use crate::read_scripts::ScriptsFault;
 use crate::{FirstFault, ScheduleFault};
-use scripts::WriteFailed;
 use event_log::OutOfMemory;
+use scripts::WriteFailed;
 use thiserror::Error;
 
 /// A refusal, which is printed as one line.

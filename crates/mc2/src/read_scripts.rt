@@ -7,8 +7,8 @@ ghost use Rattle.mc2.specs.ScriptText.{IsBlank, IsRefused, AreScripts, count_of}
 ghost use Rattle.mc2.specs.ScriptFaults.{TakesLine, NamesFirstBad};
 
 use crate::entries::request;
-use scripts::split_once;
 use crate::{Request, Settings};
+use scripts::split_once;
 use shared_queue::ThreadQueue;
 use std::alloc::{AllocFailed, Global};
 

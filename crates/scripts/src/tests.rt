@@ -1,8 +1,8 @@
 //! Objects of each kind as one object of the kernel, and the words of all values.
 
-use crate::{KCall, KParams, KReply, KernelObject, Spelled, fits};
+use crate::{Buffered, KCall, KParams, KReply, KernelObject, Spelled, fits, put_value, value};
 use console_ring::ConsoleCall;
-use event_log::{Logged, OpenFault};
+use event_log::{Logged, OpenFault, Plain};
 use page_pool::PoolCall;
 use shared_queue::QueueCall;
 use std::test::Fail;
@@ -168,4 +168,81 @@ fn ranges_of_parameters(rt: HostRuntime) {
     ] {
         assert!(rt; !fits(&params), "{params:?}");
     }
+}
+
+/// Whether the line is this value's text, whole.
+fn is_text<T: Spelled + PartialEq>(line: &[u8], wanted: &T) -> bool {
+    match value::<T>(Some(line)) {
+        Some((value, None)) => value == *wanted,
+        _ => false,
+    }
+}
+
+#[test]
+fn values_are_read(rt: HostRuntime) {
+    let [_, _, _, sched] = KINDS;
+    assert!(rt; is_text(b"sched 4 2", &sched));
+    assert!(rt; is_text(b"enq 4294967295", &KCall::Queue(QueueCall::Enq(4294967295))));
+    assert!(rt;
+        is_text(
+            b"free 7 9",
+            &KCall::Pool(PoolCall::Free { owner: 7, page: 9 })
+        )
+    );
+    assert!(rt; is_text(b"level", &KCall::Console(ConsoleCall::Level)));
+    assert!(rt; is_text(b"none", &KReply::NoPage));
+    assert!(rt; is_text(b"byte 255", &KReply::Byte(255)));
+    assert!(rt; !is_text(b"deq ; len", &KCall::Queue(QueueCall::Deq)));
+}
+
+#[test]
+fn texts_of_no_call(rt: HostRuntime) {
+    let texts = [
+        "",
+        " deq",
+        "deqs",
+        "enq",
+        "enq ",
+        "enq 03",
+        "enq +3",
+        "enq -3",
+        "enq 3x",
+        "enq\t3",
+        "enq  3",
+        "put 256",
+        "enq 4294967296",
+        "free 1",
+        "noroom",
+        "ok",
+        "Deq",
+    ];
+    for text in texts {
+        assert!(rt; value::<KCall>(Some(text.as_bytes())).is_none(), "{text:?}");
+    }
+    for text in [
+        "queue 0",
+        "queue 1025",
+        "pool 4097",
+        "sched 4",
+        "sched 4 65",
+    ] {
+        assert!(rt;
+            value::<KParams>(Some(text.as_bytes())).is_none(),
+            "{text:?}"
+        );
+    }
+    assert!(rt; value::<KReply>(Some(b"noroom")).is_none());
+}
+
+#[test]
+fn values_are_written(rt: HostRuntime) {
+    let mut out = Plain::new(Vec::new(rt.alloc()));
+    let mut text = Buffered::new(&mut out);
+    put_value(
+        &mut text,
+        &KCall::Pool(PoolCall::Free { owner: 7, page: 0 }),
+    );
+    put_value(&mut text, &KReply::BadCall);
+    assert!(rt; text.finish().is_ok());
+    assert!(rt; out.inner.as_slice() == b" free 7 0 badcall".as_slice());
 }
