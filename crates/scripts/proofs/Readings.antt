@@ -2,11 +2,16 @@
 use Rattle.std.proofs.Common.{◌≡◌, ℕ, ◌<◌, ◌≤◌, ◌^◌, true, Option, Some, None, List, [], ◌∷◌, ◌++◌, refl, ◌∙◌, ap, subst, arith, decimal}
 use Rattle.std.proofs.lemmas.Fmt.{decimal_by_steps}
 use Rattle.std.proofs.lemmas.Slice.Eq.{bytes_eq-Decides}
-use Rattle.std.specs.Option.{IfNone}
+use Rattle.std.specs.Option.{IfSome, IfNone}
 use Rattle.std.specs.Str.{bytes_eq}
 use Rattle.scripts.specs.Reading.{◌>>=◌, number_in, word_at, number_at}
 use Rattle.scripts.specs.Row.{IsPlain}
 use Rattle.scripts.proofs.Cuts.{number_takes, number_again}
+
+-- what holds of a value that is there
+pub if_some : {X : Type 0} (Q : X → Type 0) (o : Option X) → ((x : X) → o ≡ Some x → Q x) → IfSome o Q
+if_some Q None h = tt
+if_some Q (Some x) h = h x refl
 
 -- what is so stands where there is no value
 pub if_none : {X P : Type 0} (o : Option X) → P → IfNone o P
