@@ -1,10 +1,6 @@
-pub mod Lines
-pub mod Readings
-pub mod Requests
-pub mod QueueReads
-pub mod ScriptLines
-pub mod Schedules
+pub mod Worlds
 pub mod Simulations
 pub mod Workers
-pub mod Verdicts
-pub mod QueueSends
+pub mod KernelSends
+pub mod FirstRuns
+pub mod Answered

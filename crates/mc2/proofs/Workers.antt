@@ -1,5 +1,5 @@
 -- Workers that do their entries on one cell make a sound run.
-use Rattle.std.proofs.Common.{◌≡◌, ℕ, zero, suc, ◌<◌, ◌≤◌, ◌==◌, ◌||◌, Bool, true, false, cond, List, [], ◌∷◌, ◌++◌, length, map, drop, refl, sym, ◌∙◌, ap, subst, arith, length-append, append_assoc, ◌+◌, Some, inl, inr, Result, Ok, Err, IfOk, OnErr}
+use Rattle.std.proofs.Common.{◌≡◌, ℕ, zero, suc, ◌<◌, ◌≤◌, ◌^◌, ◌==◌, ◌||◌, Bool, true, false, cond, List, [], ◌∷◌, ◌++◌, length, map, drop, refl, sym, ◌∙◌, ap, subst, arith, length-append, append_assoc, ◌+◌, Some, inl, inr, Result, Ok, Err, IfOk, OnErr}
 use Rattle.std.specs.List.{AllByRecursion, slice_get, filter}
 use Rattle.std.proofs.lemmas.List.{append-nil, map-append}
 use Rattle.std.proofs.lemmas.Bool.Decides.{nat_tests}
@@ -17,11 +17,8 @@ use Rattle.event_log.specs.Log.{Begins, of}
 use Rattle.event_log.specs.History.{History}
 use Rattle.event_log.proofs.Beginnings.{begins_rest}
 use Rattle.event_log.proofs.Each.{all_map, all_both, all_push}
-use Rattle.mc2.specs.declared.request.Request.{Request}
-use Rattle.mc2.specs.FirstRun.{asked_of, script_of, AsksFor, IsAble, IsFor, Did, DoesEntry, HasDone, opened_in}
-use Rattle.mc2.specs.ScriptText.{IsRequest, AskFor}
-use Rattle.mc2.specs.Settings.{Settings}
-use Rattle.mc2.specs.Spelling.{Spelling}
+use Rattle.mc2.specs.FirstRun.{IsAble, Did, DoesEntry, HasDone, opened_in}
+use Rattle.scripts.specs.Runs.{asked_of}
 use Rattle.word_rule.specs.declared.lock_kind.LockKind.TheVariants.{Ticket}
 use Rattle.word_rule.specs.Cell.{Cell, PassView, Grows, Lawful, IsPassView, OwnsAll, cell_of, first_pass, opening_pass}
 use Rattle.word_rule.specs.Answered.{IsAnswered, IsRefused, events_by}
@@ -75,7 +72,7 @@ module _ {O P C R : Type 0} (meaning : Ghosts O P C R) where
 
   -- a worker that did nothing yet
   pub nothing : (before : PassView O P C R) → HasDone meaning before [] [] before
-  nothing before = record { caller = refl; asked = refl; objects = tt; own = sym (append-nil (of before.caller.acting before.seen)); answers = tt; full = tt }
+  nothing before = record { caller = refl; asked = refl; objects = tt; looks = tt; own = sym (append-nil (of before.caller.acting before.seen)); answers = tt; full = tt }
 
   -- what the caller's own events are after one entry more
   own_more : (before mid after : PassView O P C R) (entries : List (Entry O P C R)) (e : Entry O P C R) (d : Done O P C R) → e.done ≡ d → mid.caller ≡ before.caller → IsPassView meaning before → e.object ≡ 0
@@ -124,6 +121,7 @@ module _ {O P C R : Type 0} (meaning : Ghosts O P C R) where
         caller = same ∙ d.caller;
         asked = map-append asked_of entries (e ∷ []) ∙ (λ i. d.asked i ++ does.asked i ∷ []);
         objects = all_push (λ f. f.object ≡ 0) entries e d.objects object;
+        looks = all_push (λ f. f.looks < 2 ^ 64) entries e d.looks does.looks;
         own = own_more before mid after entries e e.done refl d.caller part object d.own does.did;
         answers = subst (λ o. AllByRecursion (λ f. Answers meaning o after.seen f.asked f.done) (entries ++ e ∷ [])) cell left.answers;
         full = full_push entries e d.full left.why;
@@ -209,18 +207,6 @@ module _ {O P C R : Type 0} (meaning : Ghosts O P C R) (cell : Cell O P C R) (em
           full = after_full;
         }
 
-    pub asks : (requests : List (Request O P C R)) → firsts ≡ script_of 0 requests → seconds ≡ script_of 1 requests → AllByRecursion (λ r. r.cpu < 2) requests → AsksFor requests run_of
-    asks requests a b able zero = one.asked ∙ a
-    asks requests a b able (suc zero) = other.asked ∙ b
-    asks requests a b able (suc (suc k)) = sym (nobody (suc (suc k)) requests (omega arith) able)
-      where
-        nobody : (cpu : ℕ) (rs : List (Request O P C R)) → 2 ≤ cpu → AllByRecursion (λ r. r.cpu < 2) rs → script_of cpu rs ≡ []
-        nobody cpu [] high able = refl
-        nobody cpu (r ∷ rs) high able =
-            let lower = able.0 in
-            let other : (r.cpu == cpu) ≡ false = grind (arith, nat_tests, lower, high) in
-            rw other (nobody cpu rs high able.1)
-
 -- what two workers on a new cell of two CPUs leave, and the pass that theirs become
 module _ {O P C R : Type 0} (meaning : Ghosts O P C R) (x : History O P C R) (new : x.log ≡ []) (before0 before1 after0 after1 joined : PassView O P C R) (firsts seconds : List (Todo O P C R)) (first second : List (Entry O P C R))
     (is0 : before0 ≡ first_pass Ticket x 2 0) (is1 : before1 ≡ first_pass Ticket x 2 1) (done0 : HasDone meaning before0 firsts first after0) (done1 : HasDone meaning before1 seconds second after1) (one_cell : joined.caller.cell ≡ after0.caller.cell) where
@@ -251,39 +237,3 @@ module _ {O P C R : Type 0} (meaning : Ghosts O P C R) (x : History O P C R) (ne
 
     pub run_sound : Sound meaning (record { params = x.params; limit = x.limit } ∷ []) record { logs = joined.seen ∷ []; transcripts = first ∷ second ∷ [] }
     run_sound = is_sound meaning cell new refl joined.seen lawful_joined first second firsts seconds saw0 saw1
-
-    pub run_asks : (requests : List (Request O P C R)) → firsts ≡ script_of 0 requests → seconds ≡ script_of 1 requests → AllByRecursion (λ r. IsFor 2 r) requests → AsksFor requests record { logs = joined.seen ∷ []; transcripts = first ∷ second ∷ [] }
-    run_asks requests a b able = asks meaning cell new refl joined.seen lawful_joined first second firsts seconds saw0 saw1 requests a b (all_map (λ r f. f.cpu) requests able)
-
--- ---- scripts, CPU by CPU
-
-module _ {O P C R : Type 0} where
-  pub script_push : (cpu : ℕ) (requests : List (Request O P C R)) (r : Request O P C R) → script_of cpu (requests ++ r ∷ []) ≡ script_of cpu requests ++ cond (r.cpu == cpu) (r.todo ∷ []) []
-  script_push cpu requests r =
-      let split : filter (λ (q : Request O P C R). q.cpu == cpu) (requests ++ r ∷ []) ≡ filter (λ q. q.cpu == cpu) requests ++ filter (λ q. q.cpu == cpu) (r ∷ []) = filter-append (λ q. q.cpu == cpu) requests (r ∷ []) in
-      ap (map (λ (q : Request O P C R). q.todo)) split ∙ (map-append (λ (q : Request O P C R). q.todo) (filter (λ q. q.cpu == cpu) requests) (filter (λ q. q.cpu == cpu) (r ∷ [])) ∙ ap (λ l. script_of cpu requests ++ l) (last (r.cpu == cpu)))
-    where
-      last : (b : Bool) → map (λ (q : Request O P C R). q.todo) (cond b (r ∷ []) []) ≡ cond b (r.todo ∷ []) []
-      last true = refl
-      last false = refl
-
-  pub script_able : (n cpu : ℕ) (requests : List (Request O P C R)) → AllByRecursion (λ r. IsFor n r) requests → AllByRecursion IsAble (script_of cpu requests)
-  script_able n cpu [] h = tt
-  script_able n cpu (r ∷ requests) h =
-      let rest = script_able n cpu requests h.1 in
-      elim (r.cpu == cpu) as (λ b. AllByRecursion IsAble (map (λ (q : Request O P C R). q.todo) (cond b (r ∷ filter (λ q. q.cpu == cpu) requests) (filter (λ q. q.cpu == cpu) requests)))) [ true ↦ (h.0.able, rest) | false ↦ rest ]
-
--- ---- requests of scripts over one object
-
-module _ {O P C R : Type 0} (spelling : Spelling P C R) (settings : Settings P) (single : length settings.objects ≡ 1) where
-  able_request : (n : ℕ) → settings.cpus ≤ n → (line : List ℕ) (r : Request O P C R) → IsRequest spelling settings line r → IsFor n r
-  able_request n few line r asked =
-      let cpu = asked.cpu in
-      let object = asked.object in
-      record { cpu = omega (arith, cpu, few); able = record { object = omega (arith, object, single); some = asked.some; few = asked.few } }
-
-  pub able_requests : (n : ℕ) → settings.cpus ≤ n → (lines : List (List ℕ)) (requests : List (Request O P C R)) → AskFor spelling settings lines requests → AllByRecursion (λ r. IsFor n r) requests
-  able_requests n few [] [] h = tt
-  able_requests n few [] (r ∷ requests) h = absurd (cc)
-  able_requests n few (line ∷ lines) [] h = tt
-  able_requests n few (line ∷ lines) (r ∷ requests) h = elim h [ inl b ↦ able_requests n few lines (r ∷ requests) b.1 | inr b ↦ (able_request n few line r b.0, able_requests n few lines requests b.1) ]

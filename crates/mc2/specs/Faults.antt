@@ -1,40 +1,32 @@
 -- Which refusal of the program each cause becomes, and the status that it ends with.
 use Rattle.std.specs.Prelude.{ℕ}
 use Rattle.event_log.specs.declared.object.OutOfMemory.{OutOfMemory}
-use Rattle.mc2.specs.declared.arguments.WordsFault.{WordsFault}
-use Rattle.mc2.specs.declared.arguments.WordsFault.TheVariants as words
+use Rattle.scripts.specs.declared.schedule.ScheduleFault.{ScheduleFault}
+use Rattle.scripts.specs.declared.schedule.ScheduleFault.TheVariants as schedule
+use Rattle.scripts.specs.declared.script_reader.ScriptsFault.{ScriptsFault}
+use Rattle.scripts.specs.declared.script_reader.ScriptsFault.TheVariants as scripts
+use Rattle.scripts.specs.declared.source_reader.ReadFault.{ReadFault}
+use Rattle.scripts.specs.declared.source_reader.ReadFault.TheVariants as read
+use Rattle.scripts.specs.declared.written.WriteFailed.{WriteFailed}
 use Rattle.mc2.specs.declared.fault.Fault.{Fault}
 use Rattle.mc2.specs.declared.fault.Fault.TheVariants as fault
-use Rattle.mc2.specs.declared.first_run.FirstFault.{FirstFault}
-use Rattle.mc2.specs.declared.first_run.FirstFault.TheVariants as first
-use Rattle.mc2.specs.declared.input.InputFault.{InputFault}
-use Rattle.mc2.specs.declared.input.InputFault.TheVariants as input
-use Rattle.scripts.specs.declared.written.WriteFailed.{WriteFailed}
-use Rattle.mc2.specs.declared.read_scripts.ScriptsFault.{ScriptsFault}
-use Rattle.mc2.specs.declared.read_scripts.ScriptsFault.TheVariants as scripts
-use Rattle.mc2.specs.declared.schedule.ScheduleFault.{ScheduleFault}
-use Rattle.mc2.specs.declared.schedule.ScheduleFault.TheVariants as schedule
+use Rattle.mc2.specs.declared.first_run.RunFault.{RunFault}
+use Rattle.mc2.specs.declared.first_run.RunFault.TheVariants as run
 
 abbrev pub of_memory : OutOfMemory → Fault
 of_memory e = fault.OutOfMemory
 
-abbrev pub of_words : WordsFault → Fault
-of_words words.OutOfMemory = fault.OutOfMemory
-of_words words.NoForm = fault.BadWords
-
-abbrev pub of_run : FirstFault → Fault
-of_run first.OutOfMemory = fault.OutOfMemory
-of_run (first.NoThreadStarted cpu) = fault.NoThreadStarted cpu
-of_run (first.BadScripts n) = fault.BadScripts n
-of_run first.WriteFailed = fault.WriteFailed
+abbrev pub of_run : RunFault → Fault
+of_run run.OutOfMemory = fault.OutOfMemory
+of_run (run.NoThreadStarted cpu) = fault.NoThreadStarted cpu
 
 abbrev pub of_scripts : ScriptsFault → Fault
 of_scripts scripts.OutOfMemory = fault.OutOfMemory
 of_scripts (scripts.Line n) = fault.BadScripts n
 
-abbrev pub of_input : InputFault → Fault
-of_input input.OutOfMemory = fault.OutOfMemory
-of_input input.ReadFailed = fault.ReadFailed
+abbrev pub of_read : ReadFault → Fault
+of_read read.OutOfMemory = fault.OutOfMemory
+of_read read.ReadFailed = fault.ReadFailed
 
 abbrev pub of_schedule : ScheduleFault → Fault
 of_schedule schedule.OutOfMemory = fault.OutOfMemory

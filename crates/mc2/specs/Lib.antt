@@ -1,13 +1,5 @@
-pub mod Spelling
-pub mod Settings
-pub mod RecordText
-pub mod QueueWords
-pub mod ScriptText
-pub mod ScheduleText
-pub mod Reading
-pub mod QueueTypes
-pub mod ScriptFaults
 pub mod FirstRun
 pub mod Simulation
+pub mod Answers
 pub mod Faults
 pub mod Workers

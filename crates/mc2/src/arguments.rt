@@ -1,5 +1,8 @@
 //! The program's words.
 
+ghost use Rattle.std.specs.Prelude.{◌≡◌, ◌⊎◌, IfErr};
+
+use crate::fault::Fault;
 use clap::error::ErrorKind;
 use clap::{Arg, ArgAction, ArgMatches, Command, Error};
 use std::alloc::{AllocError, Global};
@@ -10,14 +13,6 @@ use std::convert::AsStr;
 pub enum Arguments<'a> {
     Run { scripts: Option<&'a str> },
     Sim { scripts: &'a str, schedule: &'a str },
-}
-
-/// Why words were not read.
-#[derive(Clone, Copy, Debug, PartialEq, Eq, Drop)]
-pub enum WordsFault {
-    OutOfMemory,
-    /// The words are none of the forms.
-    NoForm,
 }
 
 /// A command without help and version.
@@ -45,45 +40,53 @@ fn forms<'a>(alloc: Global) -> Result<Command<'a>, AllocError> {
 }
 
 /// A word that is refused is no form, unless memory was wanting.
-fn refusal(error: Error) -> WordsFault {
+fn refusal(error: Error) -> Fault
+    ensures { (result ≡ Fault.OutOfMemory) ⊎ (result ≡ Fault.BadWords) }
+{
     if error.kind() == ErrorKind::OutOfMemory {
-        WordsFault::OutOfMemory
+        Fault::OutOfMemory
     } else {
-        WordsFault::NoForm
+        Fault::BadWords
     }
 }
 
 /// The name of a file, which is not empty and does not begin with `-`.
-fn file_name(name: &str) -> Result<&str, WordsFault> {
+fn file_name(name: &str) -> Result<&str, Fault>
+    ensures { IfErr result (λ f. f ≡ Fault.BadWords) }
+{
     if name.is_empty() || name.starts_with('-') {
-        Err(WordsFault::NoForm)
+        Err(Fault::BadWords)
     } else {
         Ok(name)
     }
 }
 
 /// The file of that name among the words, if there is one.
-fn file<'a>(found: &ArgMatches<'a>, id: &str) -> Result<Option<&'a str>, WordsFault> {
+fn file<'a>(found: &ArgMatches<'a>, id: &str) -> Result<Option<&'a str>, Fault>
+    ensures { IfErr result (λ f. f ≡ Fault.BadWords) }
+{
     match found.get_str(id) {
         Some(name) => Ok(Some(file_name(name)?)),
         None => Ok(None),
     }
 }
 
-/// Reads the words after the program's name.
-pub fn read_words<'a>(alloc: Global, words: &'a [String]) -> Result<Arguments<'a>, WordsFault> {
+/// Reads the words after the program's name. Words that are no form are bad words, unless memory was wanting.
+pub fn read_words<'a>(alloc: Global, words: &'a [String]) -> Result<Arguments<'a>, Fault>
+    ensures { IfErr result (λ f. (f ≡ Fault.OutOfMemory) ⊎ (f ≡ Fault.BadWords)) }
+{
     if words.iter().any(|word| word.as_str() == "--") {
-        return Err(WordsFault::NoForm);
+        return Err(Fault::BadWords);
     }
     let Ok(forms) = forms(alloc) else {
-        return Err(WordsFault::OutOfMemory);
+        return Err(Fault::OutOfMemory);
     };
     let matches = match forms.try_get_matches_from(words) {
         Ok(matches) => matches,
         Err(error) => return Err(refusal(error)),
     };
     let Some((name, found)) = matches.subcommand() else {
-        return Err(WordsFault::NoForm);
+        return Err(Fault::BadWords);
     };
     let scripts = file(found, "scripts")?;
     if name == "run" {
@@ -91,7 +94,7 @@ pub fn read_words<'a>(alloc: Global, words: &'a [String]) -> Result<Arguments<'a
     }
     match (scripts, file(found, "schedule")?) {
         (Some(scripts), Some(schedule)) => Ok(Arguments::Sim { scripts, schedule }),
-        _ => Err(WordsFault::NoForm),
+        _ => Err(Fault::BadWords),
     }
 }
 

@@ -1,21 +1,19 @@
 //! A whole command: the words after the program's name in, a status out.
 
-ghost use Rattle.std.specs.Prelude.{◌≡◌, ◌⊎◌, true, OnOk, IfErr};
+ghost use Rattle.std.specs.Prelude.{◌≡◌, ◌⊎◌, true, OnOk, IfOk, IfErr};
 ghost use Rattle.event_log.specs.Stream.{counted};
-ghost use Rattle.mc2.specs.Simulation.{WritesAnswer};
+ghost use Rattle.mc2.specs.Answers.{Answers, Prints, PrintsSome};
 ghost use Rattle.mc2.specs.Faults.{status_of};
-ghost use Rattle.mc2.specs.QueueWords.{built_in_settings, queue_spelling};
 
 #[cfg(test)]
 mod tests;
 
+use crate::Inputs;
+use crate::answers::{run_answer, sim_answer};
 use crate::arguments::{Arguments, read_words};
 use crate::fault::Fault;
-use crate::input::read_input;
-use crate::{Inputs, first_run, first_sim};
-use event_log::{SeqObject, Sink};
-use scripts::Buffered;
-use shared_queue::ThreadQueue;
+use event_log::Sink;
+use scripts::{Buffered, Record, write_record};
 use std::alloc::Global;
 use std::fmt::Write;
 use std::sync::Wait;
@@ -31,15 +29,32 @@ pub fn command<R: Threads + Wait + Sync, I: Inputs, W: Sink, F: Sink>(
     out: &mut W,
     faults: &mut F,
 ) -> u8
-    ensures done { result ≡ 0 → WritesAnswer ⟦<ThreadQueue as SeqObject>⟧ queue_spelling built_in_settings (W.contents out.old) (W.contents out.new) }
+    ensures done { result ≡ 0 → Prints (Answers (I.held inputs.old)) (W.contents out.old) (W.contents out.new) }
     ensures none_failed { result ≡ 0 → W.failed out.new ≡ W.failed out.old }
     ensures no_line { result ≡ 0 → faults.new ≡ faults.old }
     ensures nothing_written { result ≡ 2 → out.new ≡ out.old }
+    ensures failed { result ≡ 3 → (out.new ≡ out.old) ⊎ (PrintsSome (Answers (I.held inputs.old)) (W.contents out.old) (W.contents out.new) × (W.failed out.new ≡ counted true (W.failed out.old))) }
     ensures statuses { (result ≡ 0) ⊎ ((result ≡ 2) ⊎ (result ≡ 3)) }
 {
     match perform(rt, alloc, words, inputs, out) {
         Ok(()) => 0,
         Err(fault) => refuse(&fault, faults),
+    }
+}
+
+/// The record that the words ask for.
+fn answer<R: Threads + Wait + Sync, I: Inputs>(
+    rt: &R,
+    alloc: Global,
+    words: &[String],
+    inputs: &mut I,
+) -> Result<Record, Fault>
+    ensures answer { IfOk result (Answers (I.held inputs.old)) }
+    ensures no_write { result ≡ Err Fault.WriteFailed → ⊥ }
+{
+    match read_words(alloc, words)? {
+        Arguments::Run { scripts } => run_answer(rt, alloc, inputs, scripts),
+        Arguments::Sim { scripts, schedule } => sim_answer(alloc, inputs, scripts, schedule),
     }
 }
 
@@ -51,19 +66,15 @@ fn perform<R: Threads + Wait + Sync, I: Inputs, W: Sink>(
     inputs: &mut I,
     out: &mut W,
 ) -> Result<(), Fault>
-    ensures done { OnOk result (WritesAnswer ⟦<ThreadQueue as SeqObject>⟧ queue_spelling built_in_settings (W.contents out.old) (W.contents out.new)) }
+    ensures done { OnOk result (Prints (Answers (I.held inputs.old)) (W.contents out.old) (W.contents out.new)) }
     ensures none_failed { OnOk result (W.failed out.new ≡ W.failed out.old) }
+    ensures some { result ≡ Err Fault.WriteFailed → PrintsSome (Answers (I.held inputs.old)) (W.contents out.old) (W.contents out.new) }
     ensures one_failed { result ≡ Err Fault.WriteFailed → W.failed out.new ≡ counted true (W.failed out.old) }
     ensures nothing_written { IfErr result (λ f. (f ≡ Fault.WriteFailed → ⊥) → out.new ≡ out.old) }
 {
-    match read_words(alloc, words)? {
-        Arguments::Run { scripts } => {
-            let scripts = read_input(alloc, inputs, scripts)?;
-            first_run(rt, alloc, scripts.as_slice(), out)?;
-            Ok(())
-        }
-        Arguments::Sim { scripts, schedule } => first_sim(alloc, inputs, scripts, schedule, out),
-    }
+    let record = answer(rt, alloc, words, inputs)?;
+    write_record(&record, out)?;
+    Ok(())
 }
 
 /// Writes the line of the refusal, and answers its status.

@@ -1,14 +1,11 @@
 //! Why the program didn't do what its words ask for.
 
 ghost use Rattle.std.specs.Prelude.{◌≡◌};
-ghost use Rattle.mc2.specs.Faults.{of_memory, of_words, of_run, of_scripts, of_input, of_schedule, of_write, status_of};
+ghost use Rattle.mc2.specs.Faults.{of_memory, of_run, of_scripts, of_read, of_schedule, of_write, status_of};
 
-use crate::arguments::WordsFault;
-use crate::input::InputFault;
-use crate::read_scripts::ScriptsFault;
-use crate::{FirstFault, ScheduleFault};
+use crate::RunFault;
 use event_log::OutOfMemory;
-use scripts::WriteFailed;
+use scripts::{ReadFault, ScheduleFault, ScriptsFault, WriteFailed};
 use thiserror::Error;
 
 /// A refusal, which is printed as one line.
@@ -45,37 +42,24 @@ impl Fault {
     }
 }
 
-impl From<WordsFault> for Fault {
-    ghost from_gives = { λ cause fault. fault ≡ of_words cause };
-
-    fn from(fault: WordsFault) -> Fault {
-        match fault {
-            WordsFault::OutOfMemory => Fault::OutOfMemory,
-            WordsFault::NoForm => Fault::BadWords,
-        }
-    }
-}
-
-impl From<FirstFault> for Fault {
+impl From<RunFault> for Fault {
     ghost from_gives = { λ cause fault. fault ≡ of_run cause };
 
-    fn from(fault: FirstFault) -> Fault {
+    fn from(fault: RunFault) -> Fault {
         match fault {
-            FirstFault::OutOfMemory => Fault::OutOfMemory,
-            FirstFault::NoThreadStarted(cpu) => Fault::NoThreadStarted(cpu),
-            FirstFault::BadScripts(line) => Fault::BadScripts(line),
-            FirstFault::WriteFailed => Fault::WriteFailed,
+            RunFault::OutOfMemory => Fault::OutOfMemory,
+            RunFault::NoThreadStarted(cpu) => Fault::NoThreadStarted(cpu),
         }
     }
 }
 
-impl From<InputFault> for Fault {
-    ghost from_gives = { λ cause fault. fault ≡ of_input cause };
+impl From<ReadFault> for Fault {
+    ghost from_gives = { λ cause fault. fault ≡ of_read cause };
 
-    fn from(fault: InputFault) -> Fault {
+    fn from(fault: ReadFault) -> Fault {
         match fault {
-            InputFault::OutOfMemory => Fault::OutOfMemory,
-            InputFault::ReadFailed => Fault::ReadFailed,
+            ReadFault::OutOfMemory => Fault::OutOfMemory,
+            ReadFault::ReadFailed => Fault::ReadFailed,
         }
     }
 }

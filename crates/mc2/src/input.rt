@@ -1,47 +1,26 @@
-//! Inputs, and reading one to its end.
+//! Inputs: files, and standard input.
 
-ghost use Rattle.std.specs.Prelude.{◌≡◌, true, ℕ, List, Some, IfOk, OnOk};
-ghost use Rattle.event_log.specs.Stream.{counted};
+ghost use Rattle.std.specs.Prelude.{◌≡◌, ℕ, List, Some, IfOk};
+ghost use Rattle.mc2.specs.Answers.{Reads, bytes_of};
 
 use event_log::{Source, StreamFailed};
+use scripts::{ReadFault, read_all};
 use std::alloc::Global;
 
 /// The files and the standard input that a command may read.
 pub trait Inputs {
+    ghost use Rattle.std.specs.Prelude.{◌≡◌, ℕ, List, Option, Some, None, IfOk};
+    ghost use Rattle.mc2.specs.Answers.{bytes_of};
+
     type Input: Source + Drop;
 
+    /// What the file of a name holds, or standard input, where that is known.
+    ghost held: { Self → Option (List ℕ) → Option (List ℕ) } = { λ _ _. None };
+
     /// The reader of the file of that name, or of standard input.
-    fn input(&mut self, name: Option<&str>) -> Result<Self::Input, StreamFailed>;
-}
-
-/// Why an input was not read.
-#[derive(Clone, Copy, Debug, PartialEq, Eq, Drop)]
-pub enum InputFault {
-    OutOfMemory,
-    ReadFailed,
-}
-
-/// All bytes of the source.
-pub fn read_all<S: Source>(alloc: Global, source: &mut S) -> Result<Vec<u8>, InputFault>
-    ensures whole { IfOk result (λ bytes. (all : List ℕ) → S.remaining source.old ≡ Some all → bytes.items ≡ all) }
-    ensures none_failed { OnOk result (S.failed source.new ≡ S.failed source.old) }
-    ensures one_failed { result ≡ Err InputFault.ReadFailed → S.failed source.new ≡ counted true (S.failed source.old) }
-{
-    let mut bytes = Vec::new(alloc);
-    let mut buffer = [0u8; 4096];
-    for _ in 0..u64::MAX {
-        let Ok(count) = source.read(&mut buffer) else {
-            return Err(InputFault::ReadFailed);
-        };
-        if count == 0 {
-            return Ok(bytes);
-        }
-        if bytes.extend_from_slice(&buffer[..count]).is_err() {
-            return Err(InputFault::OutOfMemory);
-        }
-    }
-    // Each turn took a byte at least, and memory holds fewer than 2^63.
-    unreachable!()
+    fn input(&mut self, name: Option<&str>) -> Result<Self::Input, StreamFailed>
+        ensures all { IfOk result (λ input. (all : List ℕ) → held self.old (bytes_of name.entry) ≡ Some all → Self.Input.remaining input ≡ Some all) }
+        ensures files { (file : List ℕ) → held self.new (Some file) ≡ held self.old (Some file) };
 }
 
 /// All bytes of the input of that name.
@@ -49,9 +28,12 @@ pub fn read_input<I: Inputs>(
     alloc: Global,
     inputs: &mut I,
     name: Option<&str>,
-) -> Result<Vec<u8>, InputFault> {
+) -> Result<Vec<u8>, ReadFault>
+    ensures all { IfOk result (λ bytes. Reads (I.held inputs.old) (bytes_of name.entry) bytes.items) }
+    ensures files { (file : List ℕ) → I.held inputs.new (Some file) ≡ I.held inputs.old (Some file) }
+{
     match inputs.input(name) {
         Ok(mut input) => read_all(alloc, &mut input),
-        Err(StreamFailed) => Err(InputFault::ReadFailed),
+        Err(StreamFailed) => Err(ReadFault::ReadFailed),
     }
 }

@@ -1,41 +1,31 @@
 //! The program: scripts in, the record of a run out.
 #![tactic(auto)]
 
+mod answers;
 mod arguments;
 mod command;
-mod entries;
 mod fault;
 mod first_run;
-mod first_sim;
 mod input;
-mod read_scripts;
-mod record;
-mod request;
-mod schedule;
-mod settings;
+mod simulate;
 #[cfg(test)]
 mod tests;
 mod threads;
 mod words_given;
 mod worker;
-mod writer;
 
 pub use crate::command::command;
 use crate::command::refuse;
 use crate::words_given::words_given;
+pub use answers::{run_answer, sim_answer};
 use event_log::{Plain, StreamFailed};
-pub use first_run::{FirstFault, first_run};
-pub use first_sim::first_sim;
+pub use first_run::{RunFault, first_run};
 pub use input::Inputs;
-pub use record::Record;
-pub use request::Request;
-pub use schedule::{ScheduleFault, read_schedule};
-pub use settings::{ObjectSettings, Settings};
+pub use simulate::simulate;
 use std::fs::{File, Files};
 use std::io;
 use std::io::{Input, Read};
 use std::process::ExitCode;
-pub use writer::write_record;
 
 /// An open file, or standard input.
 #[derive(Drop)]

@@ -1,7 +1,9 @@
 //! The worked runs, refused scripts, and sinks that fail.
 
-use crate::{FirstFault, first_run};
+use crate::fault::Fault;
+use crate::first_run;
 use event_log::{Plain, Sink, StreamFailed};
+use scripts::{Scripts, Settings, write_record};
 use std::alloc::Global;
 use std::sync::Wait;
 use std::test::Fail;
@@ -11,7 +13,7 @@ use std::thread::Threads;
 pub const HEAD: &str = "record 1\ncpus 2\nobjects 1\nobject q0 ticket 100 queue 8\n";
 
 /// Scripts, and what their runs print after the head.
-pub const WORKED: [(&str, &str); 5] = [
+pub const WORKED: [(&str, &str); 6] = [
     (
         "0 q0 enq 3\n0 q0 deq\n",
         "log q0 2\n0 enq 3 = ok\n0 deq = thread 3\ncpu 0 2\nq0 1 enq 3 | enq 3 = ok\nq0 1 deq | deq = thread 3\ncpu 1 0\nend\n",
@@ -26,13 +28,17 @@ pub const WORKED: [(&str, &str); 5] = [
     ),
     ("", "log q0 0\ncpu 0 0\ncpu 1 0\nend\n"),
     (
+        "0 q0 alloc 1 ; deq\n",
+        "log q0 1\n0 alloc 1 = badcall\ncpu 0 1\nq0 1 alloc 1 ; deq | alloc 1 = badcall\ncpu 1 0\nend\n",
+    ),
+    (
         "# CPU 1 alone\n\n1 q0 enq 1\n1 q0 remove 2 ; len\n1 q0 len ; remove 1 ; remove 9\n",
         "log q0 3\n1 enq 1 = ok\n1 remove 2 = absent\n1 len = count 1 ; remove 1 = ok ; remove 9 = badthread\ncpu 0 0\ncpu 1 3\nq0 1 enq 1 | enq 1 = ok\nq0 1 remove 2 ; len | remove 2 = absent\nq0 1 len ; remove 1 ; remove 9 | len = count 1 ; remove 1 = ok ; remove 9 = badthread\nend\n",
     ),
 ];
 
 /// Scripts that are refused, and their first bad lines.
-pub const REFUSED: [(&str, usize); 14] = [
+pub const REFUSED: [(&str, usize); 13] = [
     ("0 q0 enq 3\n0 q0 deq", 2),
     ("0 q0\tdeq\n", 1),
     ("0 q0 enq 03\n", 1),
@@ -43,7 +49,6 @@ pub const REFUSED: [(&str, usize); 14] = [
     ),
     ("0 q0 deq\n0 q1 deq\n", 2),
     ("0 q0 enq 4294967296\n", 1),
-    ("0 q0 alloc 1\n", 1),
     ("0 q0 deq \n", 1),
     ("0 q0 deq ;\n", 1),
     (" 0 q0 deq\n", 1),
@@ -52,13 +57,23 @@ pub const REFUSED: [(&str, usize); 14] = [
     ("0 q0 deq\r\n", 1),
 ];
 
-/// The text of the run that the scripts ask for.
-fn printed<R: Threads + Wait + Sync + AllocGlobal>(
+/// Writes the record of the run that the scripts ask for.
+fn write_run<R: Threads + Wait + Sync + AllocGlobal, W: Sink>(
     rt: &R,
     scripts: &str,
-) -> Result<Vec<u8>, FirstFault> {
+    out: &mut W,
+) -> Result<(), Fault> {
+    let settings = Settings::built_in(rt.alloc())?;
+    let scripts = Scripts::read(rt.alloc(), scripts.as_bytes(), &settings)?;
+    let record = first_run(rt, rt.alloc(), settings, scripts)?;
+    write_record(&record, out)?;
+    Ok(())
+}
+
+/// The text of the run that the scripts ask for.
+fn printed<R: Threads + Wait + Sync + AllocGlobal>(rt: &R, scripts: &str) -> Result<Vec<u8>, Fault> {
     let mut out = Plain::new(Vec::new(rt.alloc()));
-    first_run(rt, rt.alloc(), scripts.as_bytes(), &mut out)?;
+    write_run(rt, scripts, &mut out)?;
     Ok(out.inner)
 }
 
@@ -76,7 +91,7 @@ fn worked_runs(rt: HostRuntime) -> Result<(), Fail> {
 fn refused_scripts(rt: HostRuntime) {
     for (scripts, line) in REFUSED {
         let fault = match printed(&rt, scripts) {
-            Err(FirstFault::BadScripts(number)) => number,
+            Err(Fault::BadScripts(number)) => number,
             _ => 0,
         };
         assert_eq!(rt; fault, line, "{scripts:?}");
@@ -98,7 +113,7 @@ fn entries_of_one_cpu(rt: HostRuntime) -> Result<(), Fail> {
     assert!(rt; printed(&rt, most.as_str()).is_ok());
     let more = lines(rt.alloc(), 10_001)?;
     let refused = printed(&rt, more.as_str());
-    assert!(rt; matches!(refused, Err(FirstFault::BadScripts(10_001))));
+    assert!(rt; matches!(refused, Err(Fault::BadScripts(10_001))));
     Ok(())
 }
 
@@ -164,9 +179,9 @@ fn run_failing<R: Threads + Wait + Sync + AllocGlobal>(
     scripts: &str,
     calls: usize,
     failure: Failure,
-) -> (Result<(), FirstFault>, Failing) {
+) -> (Result<(), Fault>, Failing) {
     let mut out = Failing::after(rt.alloc(), calls, failure);
-    (first_run(rt, rt.alloc(), scripts.as_bytes(), &mut out), out)
+    (write_run(rt, scripts, &mut out), out)
 }
 
 #[test]

@@ -1,12 +1,12 @@
 //! Two CPUs' workers, each on a thread of its own.
 
-ghost use Rattle.std.specs.Prelude.{IfOk, vec_capacity};
+ghost use Rattle.std.specs.Prelude.{◌<◌, IfOk, IfErr, vec_capacity};
 ghost use Rattle.std.specs.Thread.{IsSync};
 ghost use Rattle.mc2.specs.Workers.{IsReady, IsDone};
 
 use crate::worker::do_entries;
 use event_log::{Entry, Todo};
-use shared_queue::ThreadQueue;
+use scripts::KernelObject;
 use std::snapshot::Snapshot;
 use std::sync::Wait;
 use std::thread;
@@ -18,14 +18,14 @@ use ticket_lock::{Pass, TicketCell};
 pub struct NoThreadStarted(pub u8);
 
 /// A worker's pass and transcript, once it has ended.
-pub type Finished = (Pass<ThreadQueue>, Vec<Entry<ThreadQueue>>);
+pub type Finished = (Pass<KernelObject>, Vec<Entry<KernelObject>>);
 
 /// A worker gives back a pass of the cell, and has done its entries.
 #[derive(Drop)]
 struct DoesEntries {
-    cell: Snapshot<TicketCell<ThreadQueue>>,
-    pass: Snapshot<Pass<ThreadQueue>>,
-    todos: Snapshot<Vec<Todo<ThreadQueue>>>,
+    cell: Snapshot<TicketCell<KernelObject>>,
+    pass: Snapshot<Pass<KernelObject>>,
+    todos: Snapshot<Vec<Todo<KernelObject>>>,
 }
 
 impl Promise<Finished> for DoesEntries {
@@ -36,15 +36,16 @@ impl Promise<Finished> for DoesEntries {
 /// further one is started, and the workers that run end their entries.
 pub fn on_two_threads<R: Threads + Wait + Sync>(
     rt: &R,
-    cell: &TicketCell<ThreadQueue>,
-    passes: (Pass<ThreadQueue>, Pass<ThreadQueue>),
-    todos: (Vec<Todo<ThreadQueue>>, Vec<Todo<ThreadQueue>>),
-    transcripts: (Vec<Entry<ThreadQueue>>, Vec<Entry<ThreadQueue>>),
+    cell: &TicketCell<KernelObject>,
+    passes: (Pass<KernelObject>, Pass<KernelObject>),
+    todos: (Vec<Todo<KernelObject>>, Vec<Todo<KernelObject>>),
+    transcripts: (Vec<Entry<KernelObject>>, Vec<Entry<KernelObject>>),
 ) -> Result<(Finished, Finished), NoThreadStarted>
     requires first { IsReady cell.now passes.0 todos.0.items transcripts.0.items (vec_capacity transcripts.0) }
     requires second { IsReady cell.now passes.1 todos.1.items transcripts.1.items (vec_capacity transcripts.1) }
     ensures first { IfOk result (λ r. IsDone cell.now passes.0 todos.0.items r.0.0 r.0.1.items) }
     ensures second { IfOk result (λ r. IsDone cell.now passes.1 todos.1.items r.1.0 r.1.1.items) }
+    ensures cpu { IfErr result (λ f. f.0 < 2) }
 {
     let (first, second) = passes;
     let (first_todos, second_todos) = todos;
@@ -58,6 +59,7 @@ pub fn on_two_threads<R: Threads + Wait + Sync>(
             requires shares { IsSync R.row }
             ensures first { IfOk result (λ r. IsDone cell.entry.now first first_todos.items r.0.0 r.0.1.items) }
             ensures second { IfOk result (λ r. IsDone cell.entry.now second second_todos.items r.1.0 r.1.1.items) }
+            ensures cpu { IfErr result (λ f. f.0 < 2) }
         {
             let promise = DoesEntries {
                 cell: Snapshot::of(cell),

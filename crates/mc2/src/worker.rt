@@ -1,6 +1,7 @@
 //! A CPU's worker: it does its entries on a cell, one after another.
 
-ghost use Rattle.std.specs.Prelude.{◌≡◌, vec_capacity, IfOk, OnErr};
+ghost use Rattle.std.specs.Prelude.{◌≡◌, ◌<◌, ◌^◌, vec_capacity, IfOk, OnErr};
+ghost use Rattle.scripts.specs.Runs.{asked_of};
 ghost use Rattle.ticket_lock.specs.Passes.{IsPassOf};
 ghost use Rattle.word_rule.specs.Passes.{view_of_pass};
 ghost use Rattle.mc2.specs.FirstRun.{IsAble, DoesEntry};
@@ -11,14 +12,25 @@ use std::sync::Wait;
 use ticket_lock::{Pass, TicketCell};
 use word_rule::LockCell;
 
-/// What became of the calls.
-fn done_of<O: SeqObject>(applied: Result<Steps<O>, NoRoom>) -> Done<O>
-    ensures ok { IfOk applied (λ s. result ≡ Done.Steps s) }
-    ensures full { OnErr applied (result ≡ Done.NoRoom) }
+/// The entry of the transcript: what was asked, what became of it, and the looks.
+fn entry_of<O: SeqObject>(
+    todo: Todo<O>,
+    applied: Result<Steps<O>, NoRoom>,
+    looks: u64,
+) -> Entry<O>
+    ensures asked { asked_of result ≡ todo }
+    ensures looks { result.looks < 2 ^ 64 }
+    ensures ok { IfOk applied (λ s. result.done ≡ Done.Steps s) }
+    ensures full { OnErr applied (result.done ≡ Done.NoRoom) }
 {
-    match applied {
-        Ok(steps) => Done::Steps(steps),
-        Err(NoRoom) => Done::NoRoom,
+    Entry {
+        object: todo.object,
+        asked: todo.calls,
+        done: match applied {
+            Ok(steps) => Done::Steps(steps),
+            Err(NoRoom) => Done::NoRoom,
+        },
+        looks,
     }
 }
 
@@ -38,13 +50,7 @@ fn do_entry<O: SeqObject, R: Wait>(
     let (mut hold, looks) = cell.acquire(rt, pass);
     let applied = TicketCell::apply(&mut hold, todo.calls.as_slice());
     let pass = cell.release(rt, hold);
-    let entry = Entry {
-        object: todo.object,
-        asked: todo.calls,
-        done: done_of(applied),
-        looks,
-    };
-    (pass, entry)
+    (pass, entry_of(todo, applied, looks))
 }
 
 /// Does the entries in their order. The transcript has room for them.

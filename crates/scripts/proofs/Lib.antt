@@ -6,3 +6,15 @@ pub mod Lookups
 pub mod Spellings
 pub mod Outputs
 pub mod Lines
+pub mod RunLines
+pub mod ScriptRanges
+pub mod Schedules
+pub mod Dealt
+pub mod ScriptLines
+pub mod ScriptVerdicts
+pub mod Sentences
+pub mod Lists
+pub mod Names
+pub mod ListLaws
+pub mod RequestLaws
+pub mod SoundRanges

@@ -6,3 +6,13 @@ pub mod Tables
 pub mod Words
 pub mod Reading
 pub mod Output
+pub mod KernelTypes
+pub mod Settings
+pub mod ScriptText
+pub mod RecordText
+pub mod RecordRanges
+pub mod ScheduleText
+pub mod ScriptFaults
+pub mod RecordReading
+pub mod Runs
+pub mod SettingsText

@@ -1,10 +1,16 @@
 //! Ranges, of values and of the replies in a log.
 
-ghost use Rattle.std.specs.Prelude.{◌≡◌, ◌++◌, ℕ, List, true};
+ghost use Rattle.std.specs.Prelude.{◌≡◌, ◌++◌, ℕ, List, length, true};
+ghost use Rattle.std.specs.List.{AllByRecursion};
+ghost use Rattle.word_rule.specs.Sound.{Sound};
 ghost use Rattle.event_log.specs.declared.event.Event.{Event};
 ghost use Rattle.event_log.specs.Log.{Legal};
+ghost use Rattle.scripts.specs.KernelTypes.{KernelRun};
+ghost use Rattle.scripts.specs.RecordRanges.{RunFits};
 ghost use Rattle.scripts.specs.Row.{row_fits, spelled};
 ghost use Rattle.scripts.specs.Rows.{params_row};
+ghost use Rattle.scripts.specs.Runs.{opened_of, TranscriptAsks};
+ghost use Rattle.scripts.specs.Settings.{Settings, SettingsFit};
 ghost use Rattle.scripts.specs.Kernel.{kernel_in_range};
 ghost use Rattle.scripts.specs.Ranges.{call_fits, reply_fits, log_asks, log_answers};
 ghost use Rattle.scripts.specs.declared.kernel_call.KParams.{KParams};
@@ -45,4 +51,13 @@ pub fn replies_fit()
     stays_whole();
     stays_within();
     stays_once();
+}
+
+/// A law of all runs, without effect: a sound run under settings, whose entries asked for what is in its ranges, is in its
+/// ranges as a whole, so that it has a text.
+pub fn sound_runs_fit()
+    ensures { (settings : Settings) (run : KernelRun) → SettingsFit settings → Sound ⟦<KernelObject as SeqObject>⟧ (opened_of settings) run → length run.transcripts ≡ settings.cpus → AllByRecursion (TranscriptAsks (length settings.objects)) run.transcripts → RunFits settings run }
+{
+    parameters_fit();
+    replies_fit();
 }

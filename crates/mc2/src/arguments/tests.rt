@@ -1,6 +1,6 @@
 //! Words that are taken and words that are refused, and the lines of the refusals.
 
-use super::{Arguments, WordsFault, read_words};
+use super::{Arguments, read_words};
 use crate::fault::Fault;
 use std::test::Fail;
 
@@ -8,23 +8,19 @@ use std::test::Fail;
 fn words_that_are_taken(rt: HostRuntime) -> Result<(), Fail> {
     let mut words = Vec::new(rt.alloc());
     words.push(format!(in rt.alloc(); "run")?)?;
-    let input = read_words(rt.alloc(), words.as_slice());
-    assert!(rt; input == Ok(Arguments::Run { scripts: None }));
+    let input = read_words(rt.alloc(), words.as_slice())?;
+    assert!(rt; input == Arguments::Run { scripts: None });
     words.push(format!(in rt.alloc(); "a file")?)?;
-    let file = read_words(rt.alloc(), words.as_slice());
-    assert!(rt;
-        file == Ok(Arguments::Run {
-            scripts: Some("a file")
-        })
-    );
+    let file = read_words(rt.alloc(), words.as_slice())?;
+    assert!(rt; file == Arguments::Run { scripts: Some("a file") });
     words[0] = format!(in rt.alloc(); "sim")?;
     words.push(format!(in rt.alloc(); "b")?)?;
-    let sim = read_words(rt.alloc(), words.as_slice());
+    let sim = read_words(rt.alloc(), words.as_slice())?;
     let wanted = Arguments::Sim {
         scripts: "a file",
         schedule: "b",
     };
-    assert!(rt; sim == Ok(wanted));
+    assert!(rt; sim == wanted);
     Ok(())
 }
 
@@ -59,7 +55,7 @@ fn words_that_are_refused(rt: HostRuntime) -> Result<(), Fail> {
             }
         }
         let refused = read_words(rt.alloc(), words.as_slice());
-        assert!(rt; matches!(refused, Err(WordsFault::NoForm)), "{row:?}");
+        assert!(rt; matches!(refused, Err(Fault::BadWords)), "{row:?}");
     }
     Ok(())
 }

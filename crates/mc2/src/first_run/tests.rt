@@ -1,10 +1,8 @@
 //! Runs of two threads with some thousands of entries.
 
 use super::do_scripts;
-use crate::Settings;
-use crate::read_scripts::read_scripts;
 use event_log::{Done, Entry, Event, Logged, Run, SeqObject};
-use shared_queue::ThreadQueue;
+use scripts::{KParams, KernelObject, Scripts, Settings};
 use std::sync::Wait;
 use std::test::Fail;
 use std::thread::Threads;
@@ -17,18 +15,18 @@ const BLOCK: &str =
 const BLOCKS: usize = 600;
 
 /// Whether the replies of the log are those of a fresh object.
-fn replays(queue: &mut ThreadQueue, log: &[Event<ThreadQueue>]) -> bool {
+fn replays(object: &mut KernelObject, log: &[Event<KernelObject>]) -> bool {
     log.iter().all(|event| {
         event
             .steps
             .list
             .iter()
-            .all(|step| queue.apply(&step.call) == step.reply)
+            .all(|step| object.apply(&step.call) == step.reply)
     })
 }
 
 /// Whether the transcript has the CPU's events of the log, in their order.
-fn agrees(cpu: u8, log: &[Event<ThreadQueue>], transcript: &[Entry<ThreadQueue>]) -> bool {
+fn agrees(cpu: u8, log: &[Event<KernelObject>], transcript: &[Entry<KernelObject>]) -> bool {
     let mine = log.iter().filter(|event| event.cpu == cpu).count();
     let same = log
         .iter()
@@ -45,18 +43,18 @@ fn agrees(cpu: u8, log: &[Event<ThreadQueue>], transcript: &[Entry<ThreadQueue>]
 fn run_of<R: Threads + Wait + Sync + AllocGlobal>(
     rt: &R,
     scripts: &str,
-) -> Option<Run<ThreadQueue>> {
+) -> Option<Run<KernelObject>> {
     let Ok(settings) = Settings::built_in(rt.alloc()) else {
         return None;
     };
-    let requests = match read_scripts(rt.alloc(), &settings, scripts.as_bytes()) {
-        Ok(requests) => requests,
+    let scripts = match Scripts::read(rt.alloc(), scripts.as_bytes(), &settings) {
+        Ok(scripts) => scripts,
         Err(_) => return None,
     };
-    let Ok(logged) = Logged::open(rt.alloc(), 8, 65536) else {
+    let Ok(logged) = Logged::open(rt.alloc(), KParams::Queue(8), 65536) else {
         return None;
     };
-    match do_scripts(rt, rt.alloc(), logged, requests) {
+    match do_scripts(rt, rt.alloc(), logged, scripts) {
         Ok(run) => Some(run),
         Err(_) => None,
     }
@@ -78,7 +76,7 @@ fn long_runs(rt: HostRuntime) -> Result<(), Fail> {
         };
         let log = log.as_slice();
         assert_eq!(rt; log.len(), 8 * BLOCKS);
-        let mut fresh = ThreadQueue::open(rt.alloc(), &8)?;
+        let mut fresh = KernelObject::open(rt.alloc(), &KParams::Queue(8))?;
         assert!(rt; replays(&mut fresh, log));
         assert!(rt; agrees(0, log, first.as_slice()));
         assert!(rt; agrees(1, log, second.as_slice()));

@@ -1,9 +1,0 @@
-use Rattle.std.proofs.Common.{inl}
-use Rattle.mc2.proofs.Schedules.{bad_word, bad_is_not_good}
-use Rattle.mc2.proofs.schedule.read_schedule.Goals as goal
-
-pub returns-in_default-cpu_of-clause-no_schedule : goal.returns-in_default-cpu_of-clause-no_schedule
-returns-in_default-cpu_of-clause-no_schedule c =
-    let cpus = c.args.settings.now.cpus in
-    let bad = bad_word cpus c.args.text.now c.loop-word.rest.now c.in-Some.after.now c.in-Some.word.now c.loop-word.steps.items c.loop-word.invariant c.in-Some.ensures.words (inl c.in_default-cpu_of.ensures.none) in
-    λ n steps e good. bad_is_not_good cpus c.args.text.now _ steps bad good

@@ -1,0 +1,56 @@
+//! What the program answers: a record, of a run or of a simulation.
+
+ghost use Rattle.std.specs.Prelude.{◌≡◌, ◌<◌, ℕ, List, Some, IfOk};
+ghost use Rattle.mc2.specs.Answers.{Reads, AnswersRun, AnswersSim, bytes_of};
+ghost use Rattle.scripts.specs.ScheduleText.{IsFirstBadWord};
+ghost use Rattle.scripts.specs.ScriptText.{IsFirstBad};
+ghost use Rattle.scripts.specs.Settings.{built_in_settings};
+
+use crate::fault::Fault;
+use crate::input::read_input;
+use crate::{Inputs, first_run, simulate};
+use scripts::{Record, Schedule, Scripts, Settings};
+use std::alloc::Global;
+use std::sync::Wait;
+use std::thread::Threads;
+
+/// The record of a run of the scripts of that name, or of standard input, on the built-in objects. It may wait.
+pub fn run_answer<R: Threads + Wait + Sync, I: Inputs>(
+    rt: &R,
+    alloc: Global,
+    inputs: &mut I,
+    scripts: Option<&str>,
+) -> Result<Record, Fault>
+    ensures answer { IfOk result (AnswersRun (I.held inputs.old) (bytes_of scripts.entry)) }
+    ensures bad_scripts { (n : ℕ) → result ≡ Err (Fault.BadScripts n) → (text : List ℕ) × Reads (I.held inputs.old) (bytes_of scripts.entry) text × IsFirstBad built_in_settings text n }
+    ensures cpu { (cpu : ℕ) → result ≡ Err (Fault.NoThreadStarted cpu) → cpu < built_in_settings.cpus }
+    ensures no_write { result ≡ Err Fault.WriteFailed → ⊥ }
+{
+    let settings = Settings::built_in(alloc)?;
+    let text = read_input(alloc, inputs, scripts)?;
+    let scripts = Scripts::read(alloc, text.as_slice(), &settings)?;
+    let record = first_run(rt, alloc, settings, scripts)?;
+    Ok(record)
+}
+
+/// The record of the simulation of the scripts and the schedule of those names, on the built-in objects. The scripts are
+/// judged before the schedule is opened.
+pub fn sim_answer<I: Inputs>(
+    alloc: Global,
+    inputs: &mut I,
+    scripts: &str,
+    schedule: &str,
+) -> Result<Record, Fault>
+    ensures answer { IfOk result (AnswersSim (I.held inputs.old) scripts.now schedule.now) }
+    ensures bad_scripts { (n : ℕ) → result ≡ Err (Fault.BadScripts n) → (text : List ℕ) × Reads (I.held inputs.old) (Some scripts.now) text × IsFirstBad built_in_settings text n }
+    ensures bad_schedule { (n : ℕ) → result ≡ Err (Fault.BadSchedule n) → (text : List ℕ) × Reads (I.held inputs.old) (Some schedule.now) text × IsFirstBadWord built_in_settings.cpus text n }
+    ensures no_write { result ≡ Err Fault.WriteFailed → ⊥ }
+{
+    let settings = Settings::built_in(alloc)?;
+    let text = read_input(alloc, inputs, Some(scripts))?;
+    let scripts = Scripts::read(alloc, text.as_slice(), &settings)?;
+    let text = read_input(alloc, inputs, Some(schedule))?;
+    let schedule = Schedule::read(alloc, text.as_slice(), &settings)?;
+    let record = simulate(alloc, settings, scripts, &schedule)?;
+    Ok(record)
+}

@@ -1,0 +1,97 @@
+-- Names, and the objects that they name.
+use Rattle.std.proofs.Common.{◌≡◌, ℕ, zero, suc, ◌<◌, Bool, true, false, Some, None, List, [], ◌∷◌, length, refl, sym, ◌∙◌, ap, subst, cond, arith, position, get_or, inl, inr}
+use Rattle.std.proofs.lemmas.List.Quantifiers.{position-Some}
+use Rattle.std.proofs.lemmas.Bool.{and_parts, false_from_ne_true, leb-true, lt-ltb}
+use Rattle.std.proofs.lemmas.Option.{slice_get-get_or, slice_get_cases}
+use Rattle.std.proofs.lemmas.List.Sums.{position_or_len_is}
+use Rattle.std.proofs.lemmas.Slice.Eq.{bytes_eq-Decides}
+use Rattle.std.specs.Prelude.{nat_le, nat_lt, ◌&&◌, ◌||◌}
+use Rattle.std.specs.List.{AllByRecursion, list_all, slice_get, position_or_len}
+use Rattle.std.specs.Option.{option_map_or}
+use Rattle.std.specs.Str.{bytes_eq}
+use Rattle.scripts.specs.Reading.{◌>>=◌, word_at}
+use Rattle.scripts.specs.Row.{IsPlain}
+use Rattle.scripts.specs.Settings.{Settings, ObjectSettings, SettingsFit, ObjectFits, NamesDiffer, name_at, is_name, is_letter, is_digit}
+use Rattle.scripts.specs.RecordReading.{place_at}
+use Rattle.scripts.proofs.Readings.{bind_some, same}
+
+letter_plain : (b : ℕ) → is_letter b ≡ true → 32 < b
+letter_plain b e = let low = leb-true 97 b (and_parts (nat_le 97 b) (nat_le b 122) e).0 in omega (arith, low)
+
+digit_plain : (b : ℕ) → is_digit b ≡ true → 32 < b
+digit_plain b e = let low = leb-true 48 b (and_parts (nat_le 48 b) (nat_le b 57) e).0 in omega (arith, low)
+
+either_plain : (c d : Bool) (b : ℕ) → (c || d) ≡ true → (c ≡ true → 32 < b) → (d ≡ true → 32 < b) → 32 < b
+either_plain true d b e f g = f refl
+either_plain false d b e f g = g e
+
+name_bytes_plain : (bs : List ℕ) → list_all (λ c. is_letter c || is_digit c) bs ≡ true → IsPlain bs
+name_bytes_plain [] e = tt
+name_bytes_plain (b ∷ bs) e =
+    let parts = and_parts (is_letter b || is_digit b) (list_all (λ c. is_letter c || is_digit c) bs) e in
+    (either_plain (is_letter b) (is_digit b) b parts.0 (letter_plain b) (digit_plain b), name_bytes_plain bs parts.1)
+
+-- neither a line end nor a space is in a name
+pub name_plain : (name : List ℕ) → is_name name ≡ true → IsPlain name
+name_plain [] e = absurd cc
+name_plain (b ∷ bs) e =
+    let parts = and_parts (is_letter b && list_all (λ c. is_letter c || is_digit c) bs) (nat_le (length bs) 15) e in
+    let first = and_parts (is_letter b) (list_all (λ c. is_letter c || is_digit c) bs) parts.0 in
+    (letter_plain b first.0, name_bytes_plain bs first.1)
+
+-- the object at a place
+object_there : (settings : Settings) (i : ℕ) → i < length settings.objects → (o : ObjectSettings) × (slice_get settings.objects i ≡ Some o)
+object_there settings i less = elim (slice_get_cases settings.objects i).1 [
+  | inl h ↦ (h.0, h.2)
+  | inr h ↦ absurd (let past = h.0 in omega (arith, past, less))
+]
+
+each_at : {X : Type 0} (P : X → Type 0) (xs : List X) (i : ℕ) (x : X) → AllByRecursion P xs → slice_get xs i ≡ Some x → P x
+each_at P [] i x all e = absurd cc
+each_at P (y ∷ ys) zero x all e = let is : y ≡ x = cc in subst P is all.0
+each_at P (y ∷ ys) (suc i) x all e = each_at P ys i x all.1 e
+
+pub name_at_plain : (settings : Settings) → SettingsFit settings → (i : ℕ) → i < length settings.objects → IsPlain (name_at settings i)
+name_at_plain settings fit i less =
+    let there = object_there settings i less in
+    let fits : ObjectFits there.0 = each_at ObjectFits settings.objects i there.0 fit.each there.1 in
+    subst IsPlain (sym (ap (λ o. option_map_or (λ v. v.name) o []) there.1)) (name_plain there.0.name fits.name)
+
+named_by : {X : Type 0} (test : X → Bool) (xs : List X) (i : ℕ) → position test xs ≡ Some i → (x : X) × (slice_get xs i ≡ Some x) × (test x ≡ true) × (i < length xs)
+named_by test [] i e = absurd cc
+named_by test (x ∷ xs) i e =
+    let found = position-Some test (x ∷ xs) i x e in
+    (get_or (x ∷ xs) i x, slice_get-get_or (x ∷ xs) i x found.0, found.1, found.0)
+
+first_at : {X : Type 0} (test : X → Bool) (xs : List X) (i : ℕ) → i < length xs → ((k : ℕ) (x : X) → k < i → slice_get xs k ≡ Some x → test x ≡ false) → ((x : X) → slice_get xs i ≡ Some x → test x ≡ true) → position test xs ≡ Some i
+first_at test [] i less before here = absurd (omega (arith, less))
+first_at test (x ∷ xs) i less before here =
+    let at : position_or_len test (x ∷ xs) ≡ i = position_or_len_is test (x ∷ xs) i x (omega (arith, less))
+    (λ k lower. before k (get_or (x ∷ xs) k x) lower (slice_get-get_or (x ∷ xs) k x (omega (arith, lower, less))))
+    (λ inside. here (get_or (x ∷ xs) i x) (slice_get-get_or (x ∷ xs) i x less)) in
+    ap (λ n. cond (nat_lt n (length (x ∷ xs))) (Some n) None) at ∙ ap (λ b. cond b (Some i) None) (lt-ltb i (length (x ∷ xs)) less)
+
+-- the name is next, and it is that of the object at the place
+pub record IsNamed (settings : Settings) (ws : List (List ℕ)) (read : ℕ × List (List ℕ)) : Type 0 where
+  pub text : ws ≡ name_at settings read.0 ∷ read.1
+  pub bound : read.0 < length settings.objects
+
+pub place_takes : (settings : Settings) (ws : List (List ℕ)) (read : ℕ × List (List ℕ)) → place_at settings ws ≡ Some read → IsNamed settings ws read
+unfolding place_at word_at
+place_takes settings [] read e = absurd cc
+place_takes settings (w ∷ ws) read e = bind_some (position (λ o. bytes_eq o.name w) settings.objects) _ read e (λ i found last.
+    let is : ◌≡◌ {A = ℕ × List (List ℕ)} (i, ws) read = cc in
+    let at = named_by (λ o. bytes_eq o.name w) settings.objects i found in
+    let name : name_at settings i ≡ w = ap (λ o. option_map_or (λ v. v.name) o []) at.1 ∙ same at.0.name w at.2 in
+    subst (λ p. IsNamed settings (w ∷ ws) p) is (record { text = ap (λ v. v ∷ ws) (sym name); bound = at.3 }))
+
+pub place_again : (settings : Settings) (i : ℕ) (rest : List (List ℕ)) → NamesDiffer settings → i < length settings.objects → place_at settings (name_at settings i ∷ rest) ≡ Some (i, rest)
+unfolding place_at word_at
+place_again settings i rest names less =
+    let named : (k : ℕ) (o : ObjectSettings) → slice_get settings.objects k ≡ Some o → name_at settings k ≡ o.name = λ k o at. ap (λ v. option_map_or (λ u. u.name) v []) at in
+    let found = first_at (λ o. bytes_eq o.name (name_at settings i)) settings.objects i less
+    (λ k o lower at. false_from_ne_true (bytes_eq o.name (name_at settings i)) (λ e.
+    let one : k ≡ i = names k i (omega (arith, lower, less)) less (named k o at ∙ same o.name (name_at settings i) e) in
+    omega (arith, one, lower)))
+    (λ o at. (bytes_eq-Decides o.name (name_at settings i)).1 (sym (named i o at))) in
+    ap (λ o. o >>= λ j. Some (j, rest)) found

@@ -1,0 +1,79 @@
+-- A line of the scripts is read as what it spells, and nothing else is.
+use Rattle.std.proofs.Common.{◌≡◌, ℕ, true, Option, Some, None, List, [], ◌∷◌, ◌++◌, map, sym, ◌∙◌, ap, subst, cond, arith, decimal}
+use Rattle.std.proofs.lemmas.Bool.{and_parts, lt-ltb, ltb-true}
+use Rattle.std.proofs.lemmas.List.{append-nil}
+use Rattle.std.proofs.lemmas.Option.{cond_some}
+use Rattle.std.specs.Prelude.{nat_lt, ◌&&◌}
+use Rattle.std.specs.List.{AllByRecursion}
+use Rattle.scripts.specs.declared.kernel_call.KCall.{KCall}
+use Rattle.scripts.specs.declared.request.Request.{Request}
+use Rattle.scripts.specs.Ranges.{call_fits}
+use Rattle.scripts.specs.Reading.{◌>>=◌, words, number_at}
+use Rattle.scripts.specs.Row.{IsPlain, spelled}
+use Rattle.scripts.specs.Rows.{call_row, call_samples, call_filled}
+use Rattle.scripts.specs.ScriptText.{IsRequest, request_words}
+use Rattle.scripts.specs.Settings.{Settings, SettingsFit, name_at}
+use Rattle.scripts.specs.Tables.{call_table}
+use Rattle.scripts.specs.Words.{sentence, separated}
+use Rattle.scripts.specs.RecordReading.{is_nil, call_at, list_at, place_at, request_at}
+use Rattle.scripts.proofs.ListLaws.{ReadsItems, nil_is, key_end, list_takes, list_again, list_plain}
+use Rattle.scripts.proofs.Names.{name_at_plain, place_takes, place_again}
+use Rattle.scripts.proofs.Readings.{bind_some, plain_decimal, number_at_takes, number_at_again}
+use Rattle.scripts.proofs.Sentences.{words_sentence, sentence_words}
+use Rattle.scripts.proofs.Spellings.{value_takes, value_again, value_plain}
+
+-- the words of a call
+abbrev pub call_words : KCall → List (List ℕ)
+call_words c = spelled (call_row c)
+
+pub reads_calls : ReadsItems call_words call_fits call_at
+reads_calls = record {
+  takes = λ ws read e. let is = value_takes call_row call_samples call_filled call_table ws read e in record { text = is.text; fit = is.fits };
+  again = value_again call_row call_samples call_filled call_table;
+  plain = value_plain call_row call_samples call_filled call_table;
+}
+
+module _ (settings : Settings) (fit : SettingsFit settings) where
+  -- the request of these numbers and calls, where the CPU is one of the settings and no word is left
+  abbrev made : ℕ → ℕ → List KCall × List (List ℕ) → Option Request
+  made cpu object calls = cond (nat_lt cpu settings.cpus && is_nil calls.1) (Some (record { cpu = cpu; todo = record { object = object; calls = record { items = calls.0 } } })) None
+
+  -- what is read of a line is what it asks for
+  pub request_takes : (line : List ℕ) (r : Request) → request_at settings (words line) ≡ Some r → IsRequest settings line r
+  unfolding request_at
+  request_takes line r e =
+      bind_some (number_at 255 (words line)) (λ cpu. place_at settings cpu.1 >>= λ object. list_at call_at object.1 >>= λ calls. made cpu.0 object.0 calls) r e (λ cpu found_cpu read_cpu.
+      bind_some (place_at settings cpu.1) (λ object. list_at call_at object.1 >>= λ calls. made cpu.0 object.0 calls) r read_cpu (λ object found_object read_object.
+      bind_some (list_at call_at object.1) (λ calls. made cpu.0 object.0 calls) r read_object (λ calls found_calls last.
+      let whole = cond_some (nat_lt cpu.0 settings.cpus && is_nil calls.1) (record { cpu = cpu.0; todo = record { object = object.0; calls = record { items = calls.0 } } }) r last in
+      let tests = and_parts (nat_lt cpu.0 settings.cpus) (is_nil calls.1) whole.0 in
+      let number = number_at_takes 255 cpu.0 (words line) cpu.1 found_cpu in
+      let named = place_takes settings cpu.1 object found_object in
+      let asked = list_takes call_words call_fits call_at reads_calls object.1 calls found_calls in
+      let spells : object.1 ≡ separated (map call_words calls.0) = asked.text ∙ (ap (λ l. separated (map call_words calls.0) ++ l) (nil_is calls.1 tests.1) ∙ append-nil (separated (map call_words calls.0))) in
+      let text : words line ≡ decimal cpu.0 ∷ name_at settings object.0 ∷ separated (map call_words calls.0) = number.0 ∙ ap (λ l. decimal cpu.0 ∷ l) (named.text ∙ ap (λ l. name_at settings object.0 ∷ l) spells) in
+      subst (λ (q : Request). IsRequest settings line q) whole.1 (record {
+        text = sym (sentence_words line) ∙ ap sentence text;
+        cpu = ltb-true cpu.0 settings.cpus tests.0;
+        todo = record { object = named.bound; some = asked.some; few = asked.few; calls = asked.fit };
+      }))))
+
+  request_plain : (line : List ℕ) (r : Request) → IsRequest settings line r → AllByRecursion IsPlain (request_words settings r)
+  request_plain line r asked =
+      let cpus = fit.cpus in
+      let cpu = asked.cpu in
+      (plain_decimal r.cpu (omega (arith, cpu, cpus.1)), (name_at_plain settings fit r.todo.object asked.todo.object, list_plain call_words call_fits call_at reads_calls r.todo.calls.items asked.todo.calls))
+
+  -- what a line asks for is read
+  pub request_again : (line : List ℕ) (r : Request) → IsRequest settings line r → request_at settings (words line) ≡ Some r
+  unfolding request_at
+  request_again line r asked =
+      let calls : List (List ℕ) = separated (map call_words r.todo.calls.items) in
+      let text : words line ≡ request_words settings r = ap words asked.text ∙ words_sentence (request_words settings r) (omega arith) (request_plain line r asked) in
+      let cpus = fit.cpus in
+      let cpu = asked.cpu in
+      ap (λ ws. number_at 255 ws >>= λ n. place_at settings n.1 >>= λ object. list_at call_at object.1 >>= λ cs. made n.0 object.0 cs) text
+      ∙ (ap (λ o. o >>= λ n. place_at settings n.1 >>= λ object. list_at call_at object.1 >>= λ cs. made n.0 object.0 cs) (number_at_again 255 r.cpu (name_at settings r.todo.object ∷ calls) (omega (arith, cpu, cpus.1)) (omega (arith, cpu, cpus.1)))
+      ∙ (ap (λ o. o >>= λ object. list_at call_at object.1 >>= λ cs. made r.cpu object.0 cs) (place_again settings r.todo.object calls fit.names asked.todo.object)
+      ∙ (ap (λ o. o >>= λ cs. made r.cpu r.todo.object cs) (ap (λ l. list_at call_at l) (sym (append-nil calls)) ∙ list_again call_words call_fits call_at reads_calls r.todo.calls.items [] asked.todo.some asked.todo.few asked.todo.calls (key_end _))
+      ∙ ap (λ b. cond (b && true) (Some r) None) (lt-ltb r.cpu settings.cpus asked.cpu))))

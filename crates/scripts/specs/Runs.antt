@@ -1,0 +1,37 @@
+-- Runs of scripts under settings.
+use Rattle.std.specs.Prelude.{◌≡◌, ◌<◌, ◌≤◌, ◌^◌, ℕ, List, map, length}
+use Rattle.std.specs.List.{AllByRecursion, AllZip}
+use Rattle.event_log.specs.declared.entry.Entry.{Entry}
+use Rattle.event_log.specs.declared.entry.Todo.{Todo}
+use Rattle.event_log.specs.Log.{Begins}
+use Rattle.word_rule.specs.Sound.{Opened}
+use Rattle.scripts.specs.declared.kernel_call.KParams.{KParams}
+use Rattle.scripts.specs.declared.script_list.TheConstants.{MOST_ENTRIES}
+use Rattle.scripts.specs.KernelTypes.{KernelEntry, KernelTodo, KernelRun}
+use Rattle.scripts.specs.ScriptText.{TodoFits}
+use Rattle.scripts.specs.Settings.{Settings}
+
+-- what the objects of the settings are opened with
+abbrev pub opened_of : Settings → List (Opened KParams)
+opened_of settings = map (λ o. record { params = o.params; limit = o.events }) settings.objects
+
+-- what the entry was asked
+abbrev pub asked_of : {O P C R : Type 0} → Entry O P C R → Todo O P C R
+asked_of e = record { object = e.object; calls = e.asked }
+
+-- each CPU's transcript asks for its script
+abbrev pub AsksFor : List (List KernelTodo) → KernelRun → Type 0
+AsksFor scripts run = map (λ entries. map asked_of entries) run.transcripts ≡ scripts
+
+-- each CPU's transcript asks for a beginning of its script
+abbrev pub AsksFirst : List (List KernelTodo) → KernelRun → Type 0
+AsksFirst scripts run = AllZip (λ entries script. Begins (map asked_of entries) script) run.transcripts scripts
+
+-- what was asked is in its ranges, and the looks were counted
+pub record EntryAsks (objects : ℕ) (e : KernelEntry) : Type 0 where
+  pub todo : TodoFits objects (asked_of e)
+  pub looks : e.looks < 2 ^ 64
+
+-- at most 10,000 such entries
+abbrev pub TranscriptAsks : ℕ → List KernelEntry → Type 0
+TranscriptAsks objects entries = (length entries ≤ MOST_ENTRIES) × AllByRecursion (EntryAsks objects) entries

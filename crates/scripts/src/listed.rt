@@ -1,0 +1,52 @@
+//! Reading a list whose items have semicolons between them.
+
+ghost use Rattle.std.specs.Prelude.{◌≡◌};
+ghost use Rattle.std.specs.Option.{option_map};
+ghost use Rattle.scripts.specs.Reading.{left};
+ghost use Rattle.scripts.specs.RecordReading.{list_at};
+
+use crate::words::{Words, key};
+use crate::{KCall, value};
+use arrayvec::ArrayVec;
+use event_log::MOST_CALLS;
+
+/// What lines have lists of.
+pub(crate) trait Listed: Default + Drop {
+    ghost use Rattle.std.specs.Prelude.{ℕ, List, Option};
+
+    /// The item that is next, and the words behind it.
+    ghost item_at: { List (List ℕ) → Option (Self × List (List ℕ)) };
+
+    /// The item that is next, and the words behind it.
+    fn item(at: Words<'_>) -> Option<(Self, Words<'_>)>
+        ensures { option_map (λ x. (x.0, left x.1)) result ≡ item_at (left at.entry) };
+}
+
+impl Listed for KCall {
+    ghost use Rattle.scripts.specs.RecordReading.{call_at};
+
+    ghost item_at = { call_at };
+
+    fn item(at: Words<'_>) -> Option<(KCall, Words<'_>)> {
+        value(at)
+    }
+}
+
+/// 1 to 8 items, each but the first behind a semicolon, and the words behind them.
+pub(crate) fn list<T: Listed>(at: Words<'_>) -> Option<(ArrayVec<T, MOST_CALLS>, Words<'_>)>
+    ensures { option_map (λ x. (x.0.items, left x.1)) result ≡ list_at T.item_at (left at.entry) }
+{
+    let (first, rest) = T::item(at)?;
+    let mut items = ArrayVec::new();
+    items.push(first);
+    let mut left = rest;
+    for _ in 1..MOST_CALLS {
+        let Some(rest) = key(b";", left) else {
+            break;
+        };
+        let (next, rest) = T::item(rest)?;
+        items.push(next);
+        left = rest;
+    }
+    Some((items, left))
+}

@@ -1,0 +1,32 @@
+//! Finding an object by its name.
+
+ghost use Rattle.std.specs.Prelude.{◌≡◌, ◌<◌, position, IfSome};
+ghost use Rattle.std.specs.Option.{option_map};
+ghost use Rattle.std.specs.Str.{bytes_eq};
+ghost use Rattle.scripts.specs.Reading.{left};
+ghost use Rattle.scripts.specs.RecordReading.{place_at};
+
+use crate::Settings;
+use crate::words::{Words, word};
+use word_rule::MOST_CELLS;
+
+/// The place of the object of that name, from 0.
+fn place_of(settings: &Settings, name: &[u8]) -> Option<usize>
+    ensures place { result ≡ position (λ o. bytes_eq o.name name.now) settings.now.objects }
+    ensures bound { IfSome result (λ i. i < MOST_CELLS) }
+{
+    settings
+        .objects()
+        .iter()
+        .position(|object| object.name() == name)
+}
+
+/// The place of the object whose name is next, from 0.
+#[tactic(auto, unfolding(crate::specs::RecordReading::place_at))]
+pub(crate) fn place<'a>(settings: &Settings, at: Words<'a>) -> Option<(u8, Words<'a>)>
+    ensures { option_map (λ x. (x.0, left x.1)) result ≡ place_at settings.now (left at.entry) }
+{
+    let (name, rest) = word(at)?;
+    let place = place_of(settings, name)?;
+    Some((place as u8, rest))
+}

@@ -1,0 +1,11 @@
+//! What a line of the scripts asks for.
+
+use crate::KernelObject;
+use event_log::Todo;
+
+/// An entry of the scripts, with its CPU.
+#[derive(Drop)]
+pub struct Request {
+    pub cpu: u8,
+    pub todo: Todo<KernelObject>,
+}

@@ -1,0 +1,136 @@
+//! Reading scripts: one entry a line.
+
+ghost use Rattle.std.specs.Prelude.{◌≡◌, ◌<◌, ◌≤◌, ◌↔◌, ◌++◌, ◌∷◌, ℕ, List, [], map, length, IsTrue, IfOk, IfErr, OnOk};
+ghost use Rattle.scripts.specs.KernelTypes.{KernelTodo};
+ghost use Rattle.scripts.specs.ScriptFaults.{Adds, IsFull, TakesLine, IsNotTaken, NamesFirstBad};
+ghost use Rattle.scripts.specs.ScriptText.{IsBlank, AreScripts, ScriptsFit, dealt};
+ghost use Rattle.scripts.specs.Settings.{SettingsFit};
+
+use crate::request_line::request;
+use crate::script_list::MOST_ENTRIES;
+use crate::{KernelObject, Request, Scripts, Settings, split_once};
+use event_log::Todo;
+use std::alloc::{AllocFailed, Global};
+
+/// Why scripts were not read.
+#[derive(Clone, Copy, Debug, PartialEq, Eq, Drop)]
+pub enum ScriptsFault {
+    OutOfMemory,
+    /// The first line, from 1, that can't come there.
+    Line(usize),
+}
+
+/// Why a line was not taken.
+#[derive(Clone, Copy, Debug, PartialEq, Eq, Drop)]
+enum LineFault {
+    OutOfMemory,
+    Refused,
+}
+
+impl Scripts {
+    /// Reads all entries: each CPU's, in the order of their lines.
+    pub fn read(alloc: Global, text: &[u8], settings: &Settings) -> Result<Scripts, ScriptsFault>
+        ensures found { IfOk result (λ scripts. AreScripts settings.now text.now scripts) }
+        ensures fit { IfOk result (λ scripts. ScriptsFit settings.now.cpus (length settings.now.objects) scripts) }
+        ensures fault { IfErr result (NamesFirstBad settings.now text.now) }
+        ensures no_scripts { (n : ℕ) (scripts : List (List KernelTodo)) → result ≡ Err (ScriptsFault.Line n) → AreScripts settings.now text.now scripts → ⊥ }
+    {
+        match read_lists(alloc, text, settings) {
+            Ok(lists) => Ok(Scripts::of(lists)),
+            Err(fault) => Err(fault),
+        }
+    }
+}
+
+/// Whether the line is empty or a comment.
+fn is_blank(line: &[u8]) -> bool
+    ensures { IsTrue result ↔ IsBlank line.now }
+{
+    match line {
+        [] => true,
+        [first, ..] => *first == b'#',
+    }
+}
+
+/// An empty list for each CPU.
+fn empty_lists(alloc: Global, cpus: u8) -> Result<Vec<Vec<Todo<KernelObject>>>, ScriptsFault>
+    ensures lists { IfOk result (λ lists. map (λ l. l.items) lists.items ≡ dealt cpus []) }
+    ensures fault { IfErr result (λ f. f ≡ ScriptsFault.OutOfMemory) }
+{
+    let mut lists = Vec::new(alloc);
+    for _ in 0..cpus {
+        match lists.push(Vec::new(alloc)) {
+            Ok(()) => {}
+            Err(_) => return Err(ScriptsFault::OutOfMemory),
+        }
+    }
+    Ok(lists)
+}
+
+/// Adds an entry at the end of its CPU's list, if there is room for it.
+fn add(
+    lists: &mut Vec<Vec<Todo<KernelObject>>>,
+    cpu: u8,
+    todo: Todo<KernelObject>,
+) -> Result<(), LineFault>
+    requires { cpu < length lists.old.items }
+    ensures ok { OnOk result (Adds (map (λ l. l.items) lists.old.items) (map (λ l. l.items) lists.new.items) (record { cpu = cpu; todo = todo })) }
+    ensures full { result ≡ Err LineFault.Refused → IsFull (map (λ l. l.items) lists.old.items) cpu }
+{
+    let list = &mut lists[cpu as usize];
+    if list.len() >= MOST_ENTRIES {
+        return Err(LineFault::Refused);
+    }
+    match list.push(todo) {
+        Ok(()) => Ok(()),
+        Err(_) => Err(LineFault::OutOfMemory),
+    }
+}
+
+/// Takes a line, which has no end in it.
+fn take_line(
+    settings: &Settings,
+    line: &[u8],
+    lists: &mut Vec<Vec<Todo<KernelObject>>>,
+) -> Result<(), LineFault>
+    requires { length lists.old.items ≡ settings.now.cpus }
+    ensures ok { OnOk result (TakesLine settings.now line.now (map (λ l. l.items) lists.old.items) (map (λ l. l.items) lists.new.items)) }
+    ensures refused { result ≡ Err LineFault.Refused → IsNotTaken settings.now line.now (map (λ l. l.items) lists.old.items) }
+{
+    if is_blank(line) {
+        return Ok(());
+    }
+    let Some(request) = request(settings, line) else {
+        return Err(LineFault::Refused);
+    };
+    let Request { cpu, todo } = request;
+    add(lists, cpu, todo)
+}
+
+/// Reads each CPU's entries.
+fn read_lists(
+    alloc: Global,
+    text: &[u8],
+    settings: &Settings,
+) -> Result<Vec<Vec<Todo<KernelObject>>>, ScriptsFault>
+    ensures found { IfOk result (λ lists. AreScripts settings.now text.now (map (λ l. l.items) lists.items)) }
+    ensures settings_fit { SettingsFit settings.now }
+    ensures fault { IfErr result (NamesFirstBad settings.now text.now) }
+{
+    let mut lists = empty_lists(alloc, settings.cpus())?;
+    let mut rest = text;
+    let mut number = 1;
+    while !rest.is_empty() {
+        let Some((line, after)) = split_once(rest, b'\n') else {
+            return Err(ScriptsFault::Line(number));
+        };
+        match take_line(settings, line, &mut lists) {
+            Ok(()) => {}
+            Err(LineFault::OutOfMemory) => return Err(ScriptsFault::OutOfMemory),
+            Err(LineFault::Refused) => return Err(ScriptsFault::Line(number)),
+        }
+        rest = after;
+        number += 1;
+    }
+    Ok(lists)
+}
