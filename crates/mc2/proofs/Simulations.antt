@@ -50,9 +50,10 @@ module _ (objects : ℕ) where
 
   asks_script : (cpu : KernelCpu) (script : List KernelTodo) → KeepsCpu script cpu → ScriptFits objects script → Begins (map asked_of cpu.transcript) script × TranscriptAsks objects cpu.transcript
   asks_script cpu script keeps fit =
-      let total : length (map asked_of cpu.transcript) + length cpu.todo ≡ length script = sym (length-append (map asked_of cpu.transcript) cpu.todo) ∙ ap length keeps.asks in
-      (subst (λ (l : List KernelTodo). Begins (map asked_of cpu.transcript) l) keeps.asks (begins_append (map asked_of cpu.transcript) cpu.todo),
-       (omega (arith, total, length-map cpu.transcript asked_of, fit.0), asks_each cpu.transcript cpu.todo script keeps.asks fit.1 keeps.counted))
+      let total : length (map asked_of cpu.transcript) + length cpu.todo ≡ length script = sym (length-append (map asked_of cpu.transcript) cpu.todo) ∙ ap length keeps.asks in (
+        subst (λ (l : List KernelTodo). Begins (map asked_of cpu.transcript) l) keeps.asks (begins_append (map asked_of cpu.transcript) cpu.todo),
+        (omega (arith, total, length-map cpu.transcript asked_of, fit.0), asks_each cpu.transcript cpu.todo script keeps.asks fit.1 keeps.counted),
+      )
 
   asks_all : (cpus : List KernelCpu) (scripts : List (List KernelTodo)) → length cpus ≡ length scripts → ((i : ℕ) (cpu : KernelCpu) (script : List KernelTodo) → slice_get cpus i ≡ Some cpu → slice_get scripts i ≡ Some script → KeepsCpu script cpu)
       → AllByRecursion (ScriptFits objects) scripts

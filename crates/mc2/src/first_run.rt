@@ -12,7 +12,6 @@ ghost use Rattle.scripts.specs.ScriptText.{ScriptsFit};
 ghost use Rattle.scripts.specs.Settings.{built_in_settings};
 ghost use Rattle.std.specs.List.{AllByRecursion};
 
-
 #[cfg(test)]
 mod tests;
 

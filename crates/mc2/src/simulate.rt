@@ -12,7 +12,8 @@ ghost use Rattle.mc2.specs.Simulation.{new_cell, simulated};
 
 use event_log::{Logged, OpenFault, OutOfMemory, SeqObject};
 use scripts::{
-    KernelObject, ObjectSettings, Record, Schedule, Scripts, Settings, parameters_fit, sound_runs_fit,
+    KernelObject, ObjectSettings, Record, Schedule, Scripts, Settings, parameters_fit,
+    sound_runs_fit,
 };
 use std::alloc::Global;
 use word_rule::{CellSpec, Machine};

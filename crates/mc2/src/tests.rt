@@ -71,7 +71,10 @@ fn write_run<R: Threads + Wait + Sync + AllocGlobal, W: Sink>(
 }
 
 /// The text of the run that the scripts ask for.
-fn printed<R: Threads + Wait + Sync + AllocGlobal>(rt: &R, scripts: &str) -> Result<Vec<u8>, Fault> {
+fn printed<R: Threads + Wait + Sync + AllocGlobal>(
+    rt: &R,
+    scripts: &str,
+) -> Result<Vec<u8>, Fault> {
     let mut out = Plain::new(Vec::new(rt.alloc()));
     write_run(rt, scripts, &mut out)?;
     Ok(out.inner)

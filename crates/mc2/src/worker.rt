@@ -13,11 +13,7 @@ use ticket_lock::{Pass, TicketCell};
 use word_rule::LockCell;
 
 /// The entry of the transcript: what was asked, what became of it, and the looks.
-fn entry_of<O: SeqObject>(
-    todo: Todo<O>,
-    applied: Result<Steps<O>, NoRoom>,
-    looks: u64,
-) -> Entry<O>
+fn entry_of<O: SeqObject>(todo: Todo<O>, applied: Result<Steps<O>, NoRoom>, looks: u64) -> Entry<O>
     ensures asked { asked_of result ≡ todo }
     ensures looks { result.looks < 2 ^ 64 }
     ensures ok { IfOk applied (λ s. result.done ≡ Done.Steps s) }

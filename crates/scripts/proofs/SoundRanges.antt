@@ -185,9 +185,10 @@ module _ (settings : Settings) (fit : SettingsFit settings) (run : KernelRun) (s
       let asked = asks_all log (all_map (λ e h. h.0) log events) in
       let replied = answers_all log (replies o.params log (sym (ranges o.params) ∙ good.params) is.legal asked) in
       let sizes = legal_sizes (kernel.opening o.params) log is.legal in
-      let sized = all_both (λ e (h : ((0 < length e.steps.list.items) × (length e.steps.list.items ≤ MOST_CALLS)) × (steps_answer reply_fits e.steps.list.items ≡ true)). h) log sizes replied in
-      (omega (arith, is.within, good.events.1),
-       all_both (λ e h. record { cpu = h.0.1; steps = record { some = h.1.0.0; few = h.1.0.1; calls = h.0.0; replies = h.1.1 } }) log events sized)
+      let sized = all_both (λ e (h : ((0 < length e.steps.list.items) × (length e.steps.list.items ≤ MOST_CALLS)) × (steps_answer reply_fits e.steps.list.items ≡ true)). h) log sizes replied in (
+        omega (arith, is.within, good.events.1),
+        all_both (λ e h. record { cpu = h.0.1; steps = record { some = h.1.0.0; few = h.1.0.1; calls = h.0.0; replies = h.1.1 } }) log events sized,
+      )
 
   -- the steps of a transcript on an object are in range, since they stand in its log
   abbrev InRange : KernelSteps → Type 0

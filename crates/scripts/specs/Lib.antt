@@ -15,4 +15,3 @@ pub mod ScheduleText
 pub mod ScriptFaults
 pub mod RecordReading
 pub mod Runs
-pub mod SettingsText

@@ -43,11 +43,7 @@ impl Model for Schedule {
 impl Schedule {
     /// Reads all steps, in the order of their words: numbers of CPUs of the settings, with spaces or line ends around
     /// them.
-    pub fn read(
-        alloc: Global,
-        text: &[u8],
-        settings: &Settings,
-    ) -> Result<Schedule, ScheduleFault>
+    pub fn read(alloc: Global, text: &[u8], settings: &Settings) -> Result<Schedule, ScheduleFault>
         ensures found { IfOk result (λ steps. IsSchedule settings.now.cpus text.now steps) }
         ensures first_bad { (n : ℕ) → result ≡ Err (ScheduleFault.Word n) → IsFirstBadWord settings.now.cpus text.now n }
         ensures no_schedule { (n : ℕ) (steps : List ℕ) → result ≡ Err (ScheduleFault.Word n) → IsSchedule settings.now.cpus text.now steps → ⊥ }
@@ -122,11 +118,7 @@ fn cpu_of(cpus: u8, word: &[u8]) -> Option<u8>
 }
 
 /// Reads all steps, in the order of their words.
-fn read_steps(
-    alloc: Global,
-    text: &[u8],
-    cpus: u8,
-) -> Result<Vec<u8>, ScheduleFault>
+fn read_steps(alloc: Global, text: &[u8], cpus: u8) -> Result<Vec<u8>, ScheduleFault>
     requires { 1 ≤ cpus }
     ensures found { IfOk result (λ steps. IsSchedule cpus text.now steps.items) }
     ensures first_bad { (n : ℕ) → result ≡ Err (ScheduleFault.Word n) → IsFirstBadWord cpus text.now n }

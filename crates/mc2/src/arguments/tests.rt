@@ -12,7 +12,11 @@ fn words_that_are_taken(rt: HostRuntime) -> Result<(), Fail> {
     assert!(rt; input == Arguments::Run { scripts: None });
     words.push(format!(in rt.alloc(); "a file")?)?;
     let file = read_words(rt.alloc(), words.as_slice())?;
-    assert!(rt; file == Arguments::Run { scripts: Some("a file") });
+    assert!(rt;
+        file == Arguments::Run {
+            scripts: Some("a file")
+        }
+    );
     words[0] = format!(in rt.alloc(); "sim")?;
     words.push(format!(in rt.alloc(); "b")?)?;
     let sim = read_words(rt.alloc(), words.as_slice())?;
