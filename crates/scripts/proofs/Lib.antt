@@ -13,6 +13,8 @@ pub mod Dealt
 pub mod ScriptLines
 pub mod ScriptVerdicts
 pub mod Sentences
+pub mod SettingsTables
+pub mod SettingsFits
 pub mod Lists
 pub mod Names
 pub mod ListLaws

@@ -8,6 +8,7 @@ pub mod Reading
 pub mod Output
 pub mod KernelTypes
 pub mod Settings
+pub mod SettingsText
 pub mod ScriptText
 pub mod RecordText
 pub mod RecordRanges

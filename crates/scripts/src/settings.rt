@@ -45,6 +45,18 @@ impl Model for Settings {
 }
 
 impl ObjectSettings {
+    /// An object's settings.
+    pub(crate) fn new(name: ArrayString<16>, lock: LockKind, events: u32, params: KParams) -> ObjectSettings
+        ensures { result ≡ record { name = name.bytes; lock = lock; events = events; params = params } }
+    {
+        ObjectSettings {
+            name,
+            lock,
+            events,
+            params,
+        }
+    }
+
     /// Its name: a lower-case letter, and then such letters or digits, 1 to 16 bytes.
     pub fn name(&self) -> &[u8]
         ensures { result.now ≡ self.now.name }
@@ -75,6 +87,14 @@ impl ObjectSettings {
 }
 
 impl Settings {
+    /// Settings of these objects.
+    pub(crate) fn new(cpus: u8, objects: Series<ObjectSettings>) -> Settings
+        requires { SettingsFit (record { cpus = cpus; objects = objects }) }
+        ensures { result ≡ record { cpus = cpus; objects = objects } }
+    {
+        Settings { cpus, objects }
+    }
+
     /// Two CPUs, and one queue `q0` of 8 threads behind a ticket lock, with at most 100 events.
     pub fn built_in(alloc: Global) -> Result<Settings, OutOfMemory>
         ensures value { IfOk result (λ s. s ≡ built_in_settings) }

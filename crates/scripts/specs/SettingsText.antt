@@ -1,0 +1,174 @@
+-- Which settings a TOML text spells, and the first fault of one that spells none.
+use Rattle.std.specs.Prelude.{◌≡◌, ℕ, ℤ, pos, nat_abs, int_le, suc, ◌+◌, ◌&&◌, not, nat_le, if◌then◌else◌, Bool, true, false, List, [], ◌∷◌, ◌++◌, length, map, Option, Some, None, Result, Ok, Err, codes}
+use Rattle.std.specs.List.{list_all, list_any}
+use Rattle.std.specs.Option.{option_map_or}
+use Rattle.std.specs.Str.{bytes_eq}
+use Rattle.toml.specs.Data.{Data, string, integer, array, table, Items, no_items, item, Members, no_members, member, get_member, as_str, as_integer, as_array, as_table}
+use Rattle.event_log.specs.declared.logged.TheConstants.{MOST_EVENTS}
+use Rattle.shared_queue.specs.declared.queue.TheConstants.{MOST_THREADS}
+use Rattle.page_pool.specs.declared.pool.TheConstants.{MOST_PAGES}
+use Rattle.console_ring.specs.declared.console.TheConstants.{MOST_BYTES}
+use Rattle.wake_list.specs.declared.sched.TheConstants.{MOST_THREADS as MOST_SCHEDULED, MOST_CHANNELS}
+use Rattle.word_rule.specs.declared.key.TheConstants.{MOST_CPUS}
+use Rattle.word_rule.specs.declared.lock_kind.LockKind.{LockKind}
+use Rattle.word_rule.specs.declared.lock_kind.LockKind.TheVariants.{Ticket, Mcs}
+use Rattle.word_rule.specs.declared.machine.TheConstants.{MOST_CELLS}
+use Rattle.scripts.specs.declared.kernel_call.KParams.{KParams}
+use Rattle.scripts.specs.declared.kernel_call.KParams.TheVariants.{Queue, Pool, Console, Sched}
+use Rattle.scripts.specs.declared.settings_fault.BadSettings.{BadSettings}
+use Rattle.scripts.specs.declared.settings_fault.SettingsFault.{SettingsFault}
+use Rattle.scripts.specs.declared.settings_fault.SettingsFault.TheVariants.{OutOfMemory, Refused}
+use Rattle.scripts.specs.declared.settings_fault.Cause.{Cause}
+use Rattle.scripts.specs.declared.settings_fault.Cause.TheVariants.{NotToml, Missing, WrongType, OutOfRange, BadWord, Repeated, Unknown}
+use Rattle.scripts.specs.declared.settings_fault.Place.{Place}
+use Rattle.scripts.specs.declared.settings_fault.Place.TheVariants.{Top, Object}
+use Rattle.scripts.specs.declared.settings_fault.SettingsKey.{SettingsKey}
+use Rattle.scripts.specs.declared.settings_fault.SettingsKey.TheVariants as Key
+use Rattle.scripts.specs.Row.{sample_at}
+use Rattle.scripts.specs.Rows.{params_row, params_samples}
+use Rattle.scripts.specs.Settings.{Settings, ObjectSettings, is_name}
+
+-- go on with what was read, or keep the first fault
+infixl 10 ◌>>=◌
+abbrev pub ◌>>=◌ : {A B F : Type 0} → Result A F → (A → Result B F) → Result B F
+(Ok x) >>= f = f x
+(Err e) >>= f = Err e
+
+-- what was found, as it is seen
+abbrev pub ok_map : {A B F : Type 0} → (A → B) → Result A F → Result B F
+ok_map f (Ok x) = Ok (f x)
+ok_map f (Err e) = Err e
+
+-- ---- values
+
+-- a whole number from 1 to high
+unfoldable pub number_from : ℕ → Data → Result ℕ Cause
+number_from high d = option_map_or (λ z. if int_le (pos 1) z && int_le z (pos high) then Ok (nat_abs z) else Err OutOfRange) (as_integer d) (Err WrongType)
+
+-- a name, which no earlier object has
+unfoldable pub name_from : List ObjectSettings → Data → Result (List ℕ) Cause
+name_from earlier d = option_map_or (λ s. if is_name s then (if list_any (λ o. bytes_eq o.name s) earlier then Err Repeated else Ok s) else Err BadWord) (as_str d) (Err WrongType)
+
+-- the kind of an object, as parameters whose numbers are 0
+unfoldable pub kind_from : Data → Result KParams Cause
+kind_from d = option_map_or (λ s. option_map_or Ok (sample_at params_row params_samples s) (Err BadWord)) (as_str d) (Err WrongType)
+
+-- the kind of a lock
+unfoldable pub lock_from : Data → Result LockKind Cause
+lock_from d = option_map_or (λ s. if bytes_eq s (codes "ticket") then Ok Ticket else if bytes_eq s (codes "mcs") then Ok Mcs else Err BadWord) (as_str d) (Err WrongType)
+
+-- how many items
+abbrev pub count_items : Items → ℕ
+count_items no_items = 0
+count_items (item d ds) = suc (count_items ds)
+
+-- 1 to 16 items
+unfoldable pub items_from : Data → Result Items Cause
+items_from d = option_map_or (λ ds. if nat_le 1 (count_items ds) && nat_le (count_items ds) MOST_CELLS then Ok ds else Err OutOfRange) (as_array d) (Err WrongType)
+
+-- ---- keys
+
+-- the key as users write it
+abbrev pub key_word : SettingsKey → List ℕ
+key_word Key.Text = codes "text"
+key_word Key.Cpus = codes "cpus"
+key_word Key.Object = codes "object"
+key_word Key.Name = codes "name"
+key_word Key.Kind = codes "kind"
+key_word Key.Lock = codes "lock"
+key_word Key.Events = codes "events"
+key_word Key.Threads = codes "threads"
+key_word Key.Channels = codes "channels"
+key_word Key.Pages = codes "pages"
+key_word Key.Bytes = codes "bytes"
+key_word Key.Other = codes "other"
+
+-- a cause is a fault of that key, at that place
+unfoldable pub at_key : {X : Type 0} → Place → SettingsKey → Result X Cause → Result X BadSettings
+at_key place key (Ok x) = Ok x
+at_key place key (Err cause) = Err (record { place = place; key = key; cause = cause })
+
+-- the value of the key
+unfoldable pub find_key : Place → SettingsKey → Members → Result Data BadSettings
+find_key place key ms = at_key place key (option_map_or Ok (get_member (key_word key) ms) (Err Missing))
+
+-- the value of the key, read so; a cause is a fault of that key, at that place
+unfoldable pub key_in : {X : Type 0} → Place → SettingsKey → (Data → Result X Cause) → Members → Result X BadSettings
+key_in place key read ms = find_key place key ms >>= λ d. at_key place key (read d)
+
+-- each key is one of these
+unfoldable pub has_only : List SettingsKey → Members → Bool
+has_only keys no_members = true
+has_only keys (member k d ms) = list_any (λ key. bytes_eq (key_word key) k) keys && has_only keys ms
+
+-- a key that isn't of this place
+abbrev pub unknown_key : Place → BadSettings
+unknown_key place = record { place = place; key = Key.Other; cause = Unknown }
+
+-- ---- objects
+
+-- the parameters of that kind
+unfoldable pub params_in : Place → KParams → Members → Result KParams BadSettings
+params_in place (Queue _) ms = do
+  threads ← key_in place Key.Threads (number_from MOST_THREADS) ms
+  Ok (Queue threads)
+params_in place (Pool _) ms = do
+  pages ← key_in place Key.Pages (number_from MOST_PAGES) ms
+  Ok (Pool pages)
+params_in place (Console _) ms = do
+  bytes ← key_in place Key.Bytes (number_from MOST_BYTES) ms
+  Ok (Console bytes)
+params_in place (Sched _) ms = do
+  threads ← key_in place Key.Threads (number_from MOST_SCHEDULED) ms
+  channels ← key_in place Key.Channels (number_from MOST_CHANNELS) ms
+  Ok (Sched (record { threads = threads; channels = channels }))
+
+-- the keys of every object, and those of its kind
+abbrev pub keys_of : KParams → List SettingsKey
+keys_of (Queue _) = Key.Name ∷ Key.Kind ∷ Key.Lock ∷ Key.Events ∷ Key.Threads ∷ []
+keys_of (Pool _) = Key.Name ∷ Key.Kind ∷ Key.Lock ∷ Key.Events ∷ Key.Pages ∷ []
+keys_of (Console _) = Key.Name ∷ Key.Kind ∷ Key.Lock ∷ Key.Events ∷ Key.Bytes ∷ []
+keys_of (Sched _) = Key.Name ∷ Key.Kind ∷ Key.Lock ∷ Key.Events ∷ Key.Threads ∷ Key.Channels ∷ []
+
+-- an object's table, behind earlier objects
+unfoldable pub object_in : Place → List ObjectSettings → Members → Result ObjectSettings BadSettings
+object_in place earlier ms = do
+  name ← key_in place Key.Name (name_from earlier) ms
+  kind ← key_in place Key.Kind kind_from ms
+  lock ← key_in place Key.Lock lock_from ms
+  events ← key_in place Key.Events (number_from MOST_EVENTS) ms
+  params ← params_in place kind ms
+  if has_only (keys_of kind) ms then Ok (record { name = name; lock = lock; events = events; params = params }) else Err (unknown_key place)
+
+-- an object is a table
+unfoldable pub object_from : List ObjectSettings → Data → Result ObjectSettings BadSettings
+object_from earlier d = option_map_or (object_in (Object (length earlier + 1)) earlier) (as_table d) (Err (record { place = Object (length earlier + 1); key = Key.Object; cause = WrongType }))
+
+-- the objects of the items, behind earlier ones
+unfoldable pub objects_from : List ObjectSettings → Items → Result (List ObjectSettings) BadSettings
+objects_from earlier no_items = Ok earlier
+objects_from earlier (item d ds) = object_from earlier d >>= λ o. objects_from (earlier ++ o ∷ []) ds
+
+-- ---- settings
+
+-- the settings of a table
+unfoldable pub settings_in : Members → Result Settings BadSettings
+settings_in ms = do
+  cpus ← key_in Top Key.Cpus (number_from MOST_CPUS) ms
+  items ← key_in Top Key.Object items_from ms
+  objects ← objects_from [] items
+  if has_only (Key.Cpus ∷ Key.Object ∷ []) ms then Ok (record { cpus = cpus; objects = objects }) else Err (unknown_key Top)
+
+-- text that is no table is refused as a whole
+abbrev pub not_toml : BadSettings
+not_toml = record { place = Top; key = Key.Text; cause = NotToml }
+
+-- the settings of what was read as TOML
+unfoldable pub settings_of : Option Members → Result Settings BadSettings
+settings_of read = option_map_or settings_in read (Err not_toml)
+
+-- what the answer says, if memory did not run out
+abbrev pub Settles : {X : Type 0} → Result X SettingsFault → Result X BadSettings → Type 0
+Settles (Ok x) expected = expected ≡ Ok x
+Settles (Err OutOfMemory) expected = Unit {0}
+Settles (Err (Refused fault)) expected = expected ≡ Err fault
