@@ -13,6 +13,7 @@ use Rattle.scripts.specs.Runs.{opened_of, AsksFor}
 use Rattle.scripts.specs.ScheduleText.{IsSchedule}
 use Rattle.scripts.specs.ScriptText.{AreScripts}
 use Rattle.scripts.specs.Settings.{Settings, built_in_settings}
+use Rattle.scripts.specs.SettingsText.{SpellsSettings}
 use Rattle.mc2.specs.Simulation.{simulated}
 
 -- the bytes of a name, if there is one
@@ -46,13 +47,23 @@ module _ (held : Option (List ℕ) → Option (List ℕ)) where
   abbrev pub AnswersRun : Option (List ℕ) → Record → Type 0
   AnswersRun name r = (text : List ℕ) × Reads held name text × IsRunOf built_in_settings text r
 
-  -- what `sim` answers: the simulation of the scripts and the schedule under those names
-  abbrev pub AnswersSim : List ℕ → List ℕ → Record → Type 0
-  AnswersSim scripts schedule r = (text : List ℕ) × Reads held (Some scripts) text × (turns : List ℕ) × Reads held (Some schedule) turns × IsSimulationOf built_in_settings text turns r
+  -- the settings under that name
+  abbrev pub ReadsSettings : List ℕ → Settings → Type 0
+  ReadsSettings name given = (text : List ℕ) × Reads held (Some name) text × SpellsSettings text given
+
+  -- what `sim` answers: the simulation of the scripts and the schedule under those names, on the objects of the settings
+  pub record AnswersSim (settings scripts schedule : List ℕ) (r : Record) : Type 0 where
+    pub given : Settings
+    pub set : ReadsSettings settings given
+    pub text : List ℕ
+    pub read : Reads held (Some scripts) text
+    pub turns : List ℕ
+    pub scheduled : Reads held (Some schedule) turns
+    pub is : IsSimulationOf given text turns r
 
   -- what words of some form answer
   abbrev pub Answers : Record → Type 0
-  Answers r = ((name : Option (List ℕ)) × AnswersRun name r) ⊎ ((scripts : List ℕ) × (schedule : List ℕ) × AnswersSim scripts schedule r)
+  Answers r = ((name : Option (List ℕ)) × AnswersRun name r) ⊎ ((settings : List ℕ) × (scripts : List ℕ) × (schedule : List ℕ) × AnswersSim settings scripts schedule r)
 
 -- known contents grew by the text of such a record
 abbrev pub Prints : (Record → Type 0) → Option (List ℕ) → Option (List ℕ) → Type 0

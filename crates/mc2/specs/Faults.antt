@@ -5,6 +5,8 @@ use Rattle.scripts.specs.declared.schedule.ScheduleFault.{ScheduleFault}
 use Rattle.scripts.specs.declared.schedule.ScheduleFault.TheVariants as schedule
 use Rattle.scripts.specs.declared.script_reader.ScriptsFault.{ScriptsFault}
 use Rattle.scripts.specs.declared.script_reader.ScriptsFault.TheVariants as scripts
+use Rattle.scripts.specs.declared.settings_fault.SettingsFault.{SettingsFault}
+use Rattle.scripts.specs.declared.settings_fault.SettingsFault.TheVariants as settings
 use Rattle.scripts.specs.declared.source_reader.ReadFault.{ReadFault}
 use Rattle.scripts.specs.declared.source_reader.ReadFault.TheVariants as read
 use Rattle.scripts.specs.declared.written.WriteFailed.{WriteFailed}
@@ -19,6 +21,10 @@ of_memory e = fault.OutOfMemory
 abbrev pub of_run : RunFault → Fault
 of_run run.OutOfMemory = fault.OutOfMemory
 of_run (run.NoThreadStarted cpu) = fault.NoThreadStarted cpu
+
+abbrev pub of_settings : SettingsFault → Fault
+of_settings settings.OutOfMemory = fault.OutOfMemory
+of_settings (settings.Refused bad) = fault.BadSettings bad
 
 abbrev pub of_scripts : ScriptsFault → Fault
 of_scripts scripts.OutOfMemory = fault.OutOfMemory
@@ -39,6 +45,7 @@ of_write e = fault.WriteFailed
 abbrev pub status_of : Fault → ℕ
 status_of fault.OutOfMemory = 3
 status_of (fault.NoThreadStarted cpu) = 3
+status_of (fault.BadSettings bad) = 2
 status_of (fault.BadScripts n) = 2
 status_of (fault.BadSchedule n) = 2
 status_of fault.ReadFailed = 3

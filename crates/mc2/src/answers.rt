@@ -1,10 +1,12 @@
 //! What the program answers: a record, of a run or of a simulation.
 
 ghost use Rattle.std.specs.Prelude.{◌≡◌, ◌<◌, ℕ, List, Some, IfOk};
-ghost use Rattle.mc2.specs.Answers.{Reads, AnswersRun, AnswersSim, bytes_of};
+ghost use Rattle.mc2.specs.Answers.{Reads, ReadsSettings, AnswersRun, AnswersSim, bytes_of};
 ghost use Rattle.scripts.specs.ScheduleText.{IsFirstBadWord};
 ghost use Rattle.scripts.specs.ScriptText.{IsFirstBad};
-ghost use Rattle.scripts.specs.Settings.{built_in_settings};
+ghost use Rattle.scripts.specs.Settings.{Settings, built_in_settings};
+ghost use Rattle.scripts.specs.SettingsText.{IsSettingsFault};
+ghost use Rattle.scripts.specs.declared.settings_fault.BadSettings.{BadSettings};
 
 use crate::fault::Fault;
 use crate::input::read_input;
@@ -33,20 +35,23 @@ pub fn run_answer<R: Threads + Wait + Sync, I: Inputs>(
     Ok(record)
 }
 
-/// The record of the simulation of the scripts and the schedule of those names, on the built-in objects. The scripts are
-/// judged before the schedule is opened.
+/// The record of the simulation of the scripts and the schedule of those names, on the objects of the settings. Each is
+/// judged before the next is opened: the settings, the scripts, the schedule.
 pub fn sim_answer<I: Inputs>(
     alloc: Global,
     inputs: &mut I,
+    settings: &str,
     scripts: &str,
     schedule: &str,
 ) -> Result<Record, Fault>
-    ensures answer { IfOk result (AnswersSim (I.held inputs.old) scripts.now schedule.now) }
-    ensures bad_scripts { (n : ℕ) → result ≡ Err (Fault.BadScripts n) → (text : List ℕ) × Reads (I.held inputs.old) (Some scripts.now) text × IsFirstBad built_in_settings text n }
-    ensures bad_schedule { (n : ℕ) → result ≡ Err (Fault.BadSchedule n) → (text : List ℕ) × Reads (I.held inputs.old) (Some schedule.now) text × IsFirstBadWord built_in_settings.cpus text n }
+    ensures answer { IfOk result (AnswersSim (I.held inputs.old) settings.now scripts.now schedule.now) }
+    ensures bad_settings { (bad : BadSettings) → result ≡ Err (Fault.BadSettings bad) → (text : List ℕ) × Reads (I.held inputs.old) (Some settings.now) text × IsSettingsFault text bad }
+    ensures bad_scripts { (n : ℕ) → result ≡ Err (Fault.BadScripts n) → (given : Settings) × ReadsSettings (I.held inputs.old) settings.now given × (text : List ℕ) × Reads (I.held inputs.old) (Some scripts.now) text × IsFirstBad given text n }
+    ensures bad_schedule { (n : ℕ) → result ≡ Err (Fault.BadSchedule n) → (given : Settings) × ReadsSettings (I.held inputs.old) settings.now given × (text : List ℕ) × Reads (I.held inputs.old) (Some schedule.now) text × IsFirstBadWord given.cpus text n }
     ensures no_write { result ≡ Err Fault.WriteFailed → ⊥ }
 {
-    let settings = Settings::built_in(alloc)?;
+    let text = read_input(alloc, inputs, Some(settings))?;
+    let settings = Settings::read(alloc, text.as_slice())?;
     let text = read_input(alloc, inputs, Some(scripts))?;
     let scripts = Scripts::read(alloc, text.as_slice(), &settings)?;
     let text = read_input(alloc, inputs, Some(schedule))?;

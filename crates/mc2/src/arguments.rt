@@ -12,7 +12,11 @@ use std::convert::AsStr;
 #[derive(Clone, Copy, Debug, PartialEq, Eq, Drop)]
 pub enum Arguments<'a> {
     Run { scripts: Option<&'a str> },
-    Sim { scripts: &'a str, schedule: &'a str },
+    Sim {
+        settings: &'a str,
+        scripts: &'a str,
+        schedule: &'a str,
+    },
 }
 
 /// A command without help and version.
@@ -28,7 +32,11 @@ fn forms<'a>(alloc: Global) -> Result<Command<'a>, AllocError> {
     let run = plain(alloc, "run").arg(scripts)?;
     let scripts = Arg::new(alloc, "scripts").action(ArgAction::Set);
     let schedule = Arg::new(alloc, "schedule").action(ArgAction::Set);
+    let settings = Arg::new(alloc, "settings")
+        .long("settings")
+        .action(ArgAction::Set);
     let sim = plain(alloc, "sim")
+        .arg(settings.required(true))?
         .arg(scripts.required(true))?
         .arg(schedule.required(true))?;
     plain(alloc, "mc2")
@@ -71,11 +79,16 @@ fn file<'a>(found: &ArgMatches<'a>, id: &str) -> Result<Option<&'a str>, Fault>
     }
 }
 
+/// Whether the word is one that a command line often takes, but no form has.
+fn is_no_form(word: &str) -> bool {
+    word == "--" || word.starts_with("--settings=")
+}
+
 /// Reads the words after the program's name. Words that are no form are bad words, unless memory was wanting.
 pub fn read_words<'a>(alloc: Global, words: &'a [String]) -> Result<Arguments<'a>, Fault>
     ensures { IfErr result (λ f. (f ≡ Fault.OutOfMemory) ⊎ (f ≡ Fault.BadWords)) }
 {
-    if words.iter().any(|word| word.as_str() == "--") {
+    if words.iter().any(|word| is_no_form(word.as_str())) {
         return Err(Fault::BadWords);
     }
     let Ok(forms) = forms(alloc) else {
@@ -92,8 +105,12 @@ pub fn read_words<'a>(alloc: Global, words: &'a [String]) -> Result<Arguments<'a
     if name == "run" {
         return Ok(Arguments::Run { scripts });
     }
-    match (scripts, file(found, "schedule")?) {
-        (Some(scripts), Some(schedule)) => Ok(Arguments::Sim { scripts, schedule }),
+    match (file(found, "settings")?, scripts, file(found, "schedule")?) {
+        (Some(settings), Some(scripts), Some(schedule)) => Ok(Arguments::Sim {
+            settings,
+            scripts,
+            schedule,
+        }),
         _ => Err(Fault::BadWords),
     }
 }

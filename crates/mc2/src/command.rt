@@ -54,7 +54,11 @@ fn answer<R: Threads + Wait + Sync, I: Inputs>(
 {
     match read_words(alloc, words)? {
         Arguments::Run { scripts } => run_answer(rt, alloc, inputs, scripts),
-        Arguments::Sim { scripts, schedule } => sim_answer(alloc, inputs, scripts, schedule),
+        Arguments::Sim {
+            settings,
+            scripts,
+            schedule,
+        } => sim_answer(alloc, inputs, settings, scripts, schedule),
     }
 }
 

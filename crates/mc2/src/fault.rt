@@ -1,11 +1,11 @@
 //! Why the program didn't do what its words ask for.
 
 ghost use Rattle.std.specs.Prelude.{◌≡◌};
-ghost use Rattle.mc2.specs.Faults.{of_memory, of_run, of_scripts, of_read, of_schedule, of_write, status_of};
+ghost use Rattle.mc2.specs.Faults.{of_memory, of_run, of_settings, of_scripts, of_read, of_schedule, of_write, status_of};
 
 use crate::RunFault;
 use event_log::OutOfMemory;
-use scripts::{ReadFault, ScheduleFault, ScriptsFault, WriteFailed};
+use scripts::{BadSettings, ReadFault, ScheduleFault, ScriptsFault, SettingsFault, WriteFailed};
 use thiserror::Error;
 
 /// A refusal, which is printed as one line.
@@ -15,6 +15,8 @@ pub enum Fault {
     OutOfMemory,
     #[error("mc2: E5 no thread started for cpu {0}")]
     NoThreadStarted(u8),
+    #[error("mc2: E6 settings: {0}")]
+    BadSettings(BadSettings),
     #[error("mc2: E7 scripts: line {0}")]
     BadScripts(usize),
     #[error("mc2: E8 schedule: word {0}")]
@@ -33,7 +35,10 @@ impl Fault {
         ensures { result ≡ status_of self.now }
     {
         match self {
-            Fault::BadScripts(_) | Fault::BadSchedule(_) | Fault::BadWords => 2,
+            Fault::BadSettings(_)
+            | Fault::BadScripts(_)
+            | Fault::BadSchedule(_)
+            | Fault::BadWords => 2,
             Fault::OutOfMemory
             | Fault::NoThreadStarted(_)
             | Fault::ReadFailed
@@ -79,6 +84,17 @@ impl From<WriteFailed> for Fault {
     fn from(fault: WriteFailed) -> Fault {
         let WriteFailed = fault;
         Fault::WriteFailed
+    }
+}
+
+impl From<SettingsFault> for Fault {
+    ghost from_gives = { λ cause fault. fault ≡ of_settings cause };
+
+    fn from(fault: SettingsFault) -> Fault {
+        match fault {
+            SettingsFault::OutOfMemory => Fault::OutOfMemory,
+            SettingsFault::Refused(bad) => Fault::BadSettings(bad),
+        }
     }
 }
 

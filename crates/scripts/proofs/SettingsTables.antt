@@ -1,21 +1,22 @@
 -- Values of settings, as they are seen in a TOML table.
-use Rattle.std.proofs.Common.{◌≡◌, ℕ, suc, ◌+◌, ◌<◌, Bool, true, false, List, [], ◌∷◌, ◌++◌, length, drop, get_or, Ok, Err, IfOk, Result, String, Global, string_bytes, refl, ap, sym, ◌∙◌, ◌&&◌, if◌then◌else◌}
+use Rattle.std.proofs.Common.{◌≡◌, ℕ, suc, ◌+◌, ◌<◌, Bool, true, false, List, [], ◌∷◌, ◌++◌, length, drop, get_or, Ok, Err, IfOk, IfErr, IsUtf8, Result, String, Global, string_bytes, refl, ap, sym, ◌∙◌, ◌&&◌, if◌then◌else◌}
 use Rattle.std.specs.Result.{IsErrAnd}
 use Rattle.std.specs.List.{list_all, list_any}
 use Rattle.std.specs.Str.{bytes_eq}
 use Rattle.std.specs.Map.{keys_of}
 use Rattle.toml.proofs.Views.{items_view-drop, Entry}
 use Rattle.toml.specs.Data.{Data, Items, no_items, item}
+use Rattle.toml.specs.Parse.{parse_document}
 use Rattle.toml.specs.View.{view, items_view, members_view}
 use Rattle.toml.specs.declared.value.Value.{Value}
-use Rattle.scripts.specs.Settings.{ObjectSettings}
+use Rattle.scripts.specs.Settings.{ObjectSettings, Settings}
 use Rattle.scripts.specs.declared.settings_fault.BadSettings.{BadSettings}
 use Rattle.scripts.specs.declared.settings_fault.Cause.{Cause}
 use Rattle.scripts.specs.declared.settings_fault.Place.{Place}
 use Rattle.scripts.specs.declared.settings_fault.SettingsFault.{SettingsFault}
 use Rattle.scripts.specs.declared.settings_fault.SettingsFault.TheVariants.{OutOfMemory, Refused}
 use Rattle.scripts.specs.declared.settings_fault.SettingsKey.{SettingsKey}
-use Rattle.scripts.specs.SettingsText.{◌>>=◌, count_items, ok_map, at_key, key_word, has_only, object_from, objects_from, Settles}
+use Rattle.scripts.specs.SettingsText.{◌>>=◌, count_items, ok_map, at_key, key_word, has_only, object_from, objects_from, settings_of, Settles, NamesFirstFault}
 
 -- an array has as many items as values
 pub items_counted : (vs : List Value) → count_items (items_view vs) ≡ length vs
@@ -100,3 +101,14 @@ if_refused false x f e y h = let same : f ≡ e = cc in ap Err same
 pub if_passed : {X Y : Type 0} (b : Bool) (x z : X) (f : BadSettings) (y : Y) → (if b then Ok x else Err f) ≡ Ok z → (if b then Ok y else Err f) ≡ Ok y
 if_passed true x z f y h = refl
 if_passed false x z f y h = absurd cc
+
+-- the fault of a table is the first of its text
+pub first_fault : (r : Result Settings SettingsFault) (bytes : List ℕ) (expected : Result Settings BadSettings) → IsUtf8 bytes → settings_of (parse_document bytes) ≡ expected → Settles r expected → IfErr r (NamesFirstFault bytes)
+first_fault (Ok x) bytes expected utf8 same h = tt
+first_fault (Err OutOfMemory) bytes expected utf8 same h = tt
+first_fault (Err (Refused fault)) bytes expected utf8 same h = ((λ u. same ∙ h), (λ bad. absurd (bad utf8)))
+
+-- what was found is what was expected
+pub found_ok : {X U : Type 0} (r : Result X SettingsFault) (expected spelled : Result X BadSettings) → U → spelled ≡ expected → Settles r expected → IfOk r (λ x. U × (spelled ≡ Ok x))
+found_ok (Ok x) expected spelled u same h = (u, same ∙ h)
+found_ok (Err f) expected spelled u same h = tt

@@ -1,8 +1,9 @@
 -- Which settings a TOML text spells, and the first fault of one that spells none.
-use Rattle.std.specs.Prelude.{◌≡◌, ℕ, ℤ, pos, nat_abs, int_le, suc, ◌+◌, ◌&&◌, not, nat_le, if◌then◌else◌, Bool, true, false, List, [], ◌∷◌, ◌++◌, length, map, Option, Some, None, Result, Ok, Err, codes}
+use Rattle.std.specs.Prelude.{◌≡◌, ℕ, ℤ, pos, nat_abs, int_le, suc, ◌+◌, ◌&&◌, not, nat_le, if◌then◌else◌, Bool, true, false, List, [], ◌∷◌, ◌++◌, length, map, Option, Some, None, Result, Ok, Err, codes, IsUtf8}
 use Rattle.std.specs.List.{list_all, list_any}
 use Rattle.std.specs.Option.{option_map_or}
 use Rattle.std.specs.Str.{bytes_eq}
+use Rattle.toml.specs.Parse.{parse_document}
 use Rattle.toml.specs.Data.{Data, string, integer, array, table, Items, no_items, item, Members, no_members, member, get_member, as_str, as_integer, as_array, as_table}
 use Rattle.event_log.specs.declared.logged.TheConstants.{MOST_EVENTS}
 use Rattle.shared_queue.specs.declared.queue.TheConstants.{MOST_THREADS}
@@ -166,6 +167,19 @@ not_toml = record { place = Top; key = Key.Text; cause = NotToml }
 -- the settings of what was read as TOML
 unfoldable pub settings_of : Option Members → Result Settings BadSettings
 settings_of read = option_map_or settings_in read (Err not_toml)
+
+-- the bytes are UTF-8, and spell the settings
+abbrev pub SpellsSettings : List ℕ → Settings → Type 0
+SpellsSettings bytes settings = IsUtf8 bytes × (settings_of (parse_document bytes) ≡ Ok settings)
+
+-- the first fault of the bytes
+abbrev pub IsSettingsFault : List ℕ → BadSettings → Type 0
+IsSettingsFault bytes fault = (IsUtf8 bytes → settings_of (parse_document bytes) ≡ Err fault) × ((IsUtf8 bytes → ⊥) → settings_of None ≡ Err fault)
+
+-- the fault that is named is the first
+abbrev pub NamesFirstFault : List ℕ → SettingsFault → Type 0
+NamesFirstFault bytes OutOfMemory = Unit {0}
+NamesFirstFault bytes (Refused fault) = IsSettingsFault bytes fault
 
 -- what the answer says, if memory did not run out
 abbrev pub Settles : {X : Type 0} → Result X SettingsFault → Result X BadSettings → Type 0

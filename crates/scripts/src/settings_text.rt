@@ -1,12 +1,12 @@
 //! Reading settings, a TOML text.
 
-ghost use Rattle.std.specs.Prelude.{◌≡◌, ◌≤◌, ◌∷◌, [], map, length, None, if◌then◌else◌, IsUtf8, IfOk};
+ghost use Rattle.std.specs.Prelude.{◌≡◌, ◌≤◌, ◌∷◌, [], map, length, None, if◌then◌else◌, IsUtf8, IfOk, IfErr};
 ghost use Rattle.toml.specs.Parse.{parse_document};
 ghost use Rattle.toml.specs.View.{view, table_view, items_view};
 ghost use Rattle.scripts.specs.Settings.{SettingsFit};
 ghost use Rattle.std.specs.List.{list_any};
 ghost use Rattle.std.specs.Str.{bytes_eq};
-ghost use Rattle.scripts.specs.SettingsText.{key_word, Settles, ok_map, key_in, at_key, find_key, number_from, name_from, kind_from, lock_from, items_from, has_only, keys_of, params_in, object_in, object_from, objects_from, settings_in, settings_of, unknown_key};
+ghost use Rattle.scripts.specs.SettingsText.{key_word, Settles, SpellsSettings, NamesFirstFault, ok_map, key_in, at_key, find_key, number_from, name_from, kind_from, lock_from, items_from, has_only, keys_of, params_in, object_in, object_from, objects_from, settings_in, settings_of, unknown_key};
 
 use crate::name::name_of;
 use crate::read::sample;
@@ -322,6 +322,8 @@ impl Settings {
     pub fn read(alloc: Global, text: &[u8]) -> Result<Settings, SettingsFault>
         ensures utf8 { IsUtf8 text.now → Settles result (settings_of (parse_document text.now)) }
         ensures not_utf8 { (IsUtf8 text.now → ⊥) → Settles result (settings_of None) }
+        ensures found { IfOk result (SpellsSettings text.now) }
+        ensures fault { IfErr result (NamesFirstFault text.now) }
         ensures fit { IfOk result (λ s. SettingsFit s) }
     {
         match toml::table_from_slice(alloc, text) {

@@ -1,5 +1,7 @@
 //! Objects of each kind as one object of the kernel, and the words of all values.
 
+mod settings;
+
 use crate::{Buffered, KCall, KParams, KReply, KernelObject, Spelled, fits, put_value, value};
 use console_ring::ConsoleCall;
 use event_log::{Logged, OpenFault, Plain};

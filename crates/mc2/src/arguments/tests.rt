@@ -2,6 +2,7 @@
 
 use super::{Arguments, read_words};
 use crate::fault::Fault;
+use scripts::{BadSettings, Cause, Place, SettingsKey};
 use std::test::Fail;
 
 #[test]
@@ -18,9 +19,12 @@ fn words_that_are_taken(rt: HostRuntime) -> Result<(), Fail> {
         }
     );
     words[0] = format!(in rt.alloc(); "sim")?;
+    words.push(format!(in rt.alloc(); "--settings")?)?;
+    words.push(format!(in rt.alloc(); "s")?)?;
     words.push(format!(in rt.alloc(); "b")?)?;
     let sim = read_words(rt.alloc(), words.as_slice())?;
     let wanted = Arguments::Sim {
+        settings: "s",
         scripts: "a file",
         schedule: "b",
     };
@@ -44,11 +48,19 @@ fn words_that_are_refused(rt: HostRuntime) -> Result<(), Fail> {
         "help",
         "a run",
         "sim",
-        "sim a",
-        "sim a b c",
-        "sim a -",
-        "sim a ",
-        "sim  b",
+        "sim a b",
+        "sim --settings s",
+        "sim --settings s a",
+        "sim --settings s a b c",
+        "sim --settings s a -",
+        "sim --settings s a ",
+        "sim --settings s  b",
+        "sim --settings - a b",
+        "sim --settings  a b",
+        "sim --settings=s a b",
+        "sim a b --settings",
+        "sim --settings s --settings s a b",
+        "sim --set s a b",
         "run ",
     ];
     for row in rows {
@@ -71,6 +83,14 @@ fn lines_of_the_refusals(rt: HostRuntime) -> Result<(), Fail> {
         (
             Fault::NoThreadStarted(1),
             "mc2: E5 no thread started for cpu 1",
+        ),
+        (
+            Fault::BadSettings(BadSettings {
+                place: Place::Object(2),
+                key: SettingsKey::Name,
+                cause: Cause::Repeated,
+            }),
+            "mc2: E6 settings: object 2: name: repeated",
         ),
         (Fault::BadScripts(10_001), "mc2: E7 scripts: line 10001"),
         (Fault::BadSchedule(100_001), "mc2: E8 schedule: word 100001"),
