@@ -11,7 +11,9 @@ use std::convert::AsStr;
 /// What the words ask for. Without a file of scripts `run` reads standard input.
 #[derive(Clone, Copy, Debug, PartialEq, Eq, Drop)]
 pub enum Arguments<'a> {
-    Run { scripts: Option<&'a str> },
+    Run {
+        scripts: Option<&'a str>,
+    },
     Sim {
         settings: &'a str,
         scripts: &'a str,

@@ -120,7 +120,7 @@ params_ok place (Sched x) ms p e =
     let channels = bind_ok (key_in place Key.Channels (number_from MOST_CHANNELS) ms) _ p threads.2 in
     let same : Sched (record { threads = threads.0; channels = channels.0 }) ≡ p = cc in
     subst (λ q. row_fits (params_row q) ≡ true) same
-        (rw (one_fits threads.0 MOST_SCHEDULED (number_in place Key.Threads MOST_SCHEDULED ms threads.0 threads.1), one_fits channels.0 MOST_CHANNELS (number_in place Key.Channels MOST_CHANNELS ms channels.0 channels.1)) refl)
+    (rw (one_fits threads.0 MOST_SCHEDULED (number_in place Key.Threads MOST_SCHEDULED ms threads.0 threads.1), one_fits channels.0 MOST_CHANNELS (number_in place Key.Channels MOST_CHANNELS ms channels.0 channels.1)) refl)
 
 -- ---- objects
 
@@ -181,13 +181,13 @@ differ_more os o differ fresh i j li lj same =
     let j_end : j ≤ length os = omega (arith, lj, count) in
     elim (eq-or-lt_of_le i_end) [
       | inl a ↦ elim (eq-or-lt_of_le j_end) [
-          | inl b ↦ a ∙ sym b
-          | inr b ↦ absurd (apart j b (sym (name_left os o j b) ∙ (sym same ∙ (ap (name_in (os ++ o ∷ [])) a ∙ name_last os o))))
-        ]
+        | inl b ↦ a ∙ sym b
+        | inr b ↦ absurd (apart j b (sym (name_left os o j b) ∙ (sym same ∙ (ap (name_in (os ++ o ∷ [])) a ∙ name_last os o))))
+      ]
       | inr a ↦ elim (eq-or-lt_of_le j_end) [
-          | inl b ↦ absurd (apart i a (sym (name_left os o i a) ∙ (same ∙ (ap (name_in (os ++ o ∷ [])) b ∙ name_last os o))))
-          | inr b ↦ differ i j a b (sym (name_left os o i a) ∙ (same ∙ name_left os o j b))
-        ]
+        | inl b ↦ absurd (apart i a (sym (name_left os o i a) ∙ (same ∙ (ap (name_in (os ++ o ∷ [])) b ∙ name_last os o))))
+        | inr b ↦ differ i j a b (sym (name_left os o i a) ∙ (same ∙ name_left os o j b))
+      ]
     ]
 
 -- the objects, as many as items

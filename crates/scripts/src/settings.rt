@@ -46,7 +46,12 @@ impl Model for Settings {
 
 impl ObjectSettings {
     /// An object's settings.
-    pub(crate) fn new(name: ArrayString<16>, lock: LockKind, events: u32, params: KParams) -> ObjectSettings
+    pub(crate) fn new(
+        name: ArrayString<16>,
+        lock: LockKind,
+        events: u32,
+        params: KParams,
+    ) -> ObjectSettings
         ensures { result ≡ record { name = name.bytes; lock = lock; events = events; params = params } }
     {
         ObjectSettings {

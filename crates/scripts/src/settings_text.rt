@@ -10,7 +10,9 @@ ghost use Rattle.scripts.specs.SettingsText.{key_word, Settles, SpellsSettings, 
 
 use crate::name::name_of;
 use crate::read::sample;
-use crate::{BadSettings, Cause, KParams, ObjectSettings, Place, Settings, SettingsFault, SettingsKey};
+use crate::{
+    BadSettings, Cause, KParams, ObjectSettings, Place, Settings, SettingsFault, SettingsKey,
+};
 use arrayvec::ArrayString;
 use console_ring::MOST_BYTES;
 use event_log::{MOST_EVENTS, Series};
@@ -151,9 +153,27 @@ fn keys_of(kind: &KParams) -> &'static [SettingsKey]
     ensures { result.now ≡ keys_of kind.now }
 {
     match kind {
-        KParams::Queue(_) => &[SettingsKey::Name, SettingsKey::Kind, SettingsKey::Lock, SettingsKey::Events, SettingsKey::Threads],
-        KParams::Pool(_) => &[SettingsKey::Name, SettingsKey::Kind, SettingsKey::Lock, SettingsKey::Events, SettingsKey::Pages],
-        KParams::Console(_) => &[SettingsKey::Name, SettingsKey::Kind, SettingsKey::Lock, SettingsKey::Events, SettingsKey::Bytes],
+        KParams::Queue(_) => &[
+            SettingsKey::Name,
+            SettingsKey::Kind,
+            SettingsKey::Lock,
+            SettingsKey::Events,
+            SettingsKey::Threads,
+        ],
+        KParams::Pool(_) => &[
+            SettingsKey::Name,
+            SettingsKey::Kind,
+            SettingsKey::Lock,
+            SettingsKey::Events,
+            SettingsKey::Pages,
+        ],
+        KParams::Console(_) => &[
+            SettingsKey::Name,
+            SettingsKey::Kind,
+            SettingsKey::Lock,
+            SettingsKey::Events,
+            SettingsKey::Bytes,
+        ],
         KParams::Sched(_) => &[
             SettingsKey::Name,
             SettingsKey::Kind,
@@ -193,7 +213,11 @@ fn params(table: &Table, place: Place, kind: &KParams) -> Result<KParams, BadSet
 
 /// The name of the object, which no earlier one has.
 #[tactic(auto, using(crate::proofs::SettingsTables::at_map, crate::proofs::SettingsTables::at_ok), unfolding(crate::specs::SettingsText::key_in))]
-fn name_of_object(table: &Table, place: Place, earlier: &[ObjectSettings]) -> Result<ArrayString<16>, BadSettings>
+fn name_of_object(
+    table: &Table,
+    place: Place,
+    earlier: &[ObjectSettings],
+) -> Result<ArrayString<16>, BadSettings>
     ensures { ok_map (λ x. x.bytes) result ≡ key_in place SettingsKey.Name (name_from earlier.now) (table_view table.now) }
 {
     let value = find(table, place, SettingsKey::Name)?;
@@ -235,7 +259,11 @@ fn refuse_others(table: &Table, place: Place, keys: &[SettingsKey]) -> Result<()
 
 /// The object of the table, behind earlier objects.
 #[tactic(auto, unfolding(crate::specs::SettingsText::object_in))]
-fn object_of(table: &Table, place: Place, earlier: &[ObjectSettings]) -> Result<ObjectSettings, BadSettings>
+fn object_of(
+    table: &Table,
+    place: Place,
+    earlier: &[ObjectSettings],
+) -> Result<ObjectSettings, BadSettings>
     ensures { result ≡ object_in place earlier.now (table_view table.now) }
 {
     let name = name_of_object(table, place, earlier)?;

@@ -14,13 +14,16 @@ use std::thread::Threads;
 const SCRIPTS: &str = "0 q0 enq 3\n0 q0 deq\n";
 
 /// The built-in settings as a text.
-const SETTINGS: &str = "cpus = 2\n[[object]]\nname = \"q0\"\nkind = \"queue\"\nlock = \"ticket\"\nevents = 100\nthreads = 8\n";
+const SETTINGS: &str =
+    "cpus = 2\n[[object]]\nname = \"q0\"\nkind = \"queue\"\nlock = \"ticket\"\nevents = 100\nthreads = 8\n";
 
 /// Settings of two objects of one name.
-const TWICE: &str = "cpus = 1\n[[object]]\nname = \"q0\"\nkind = \"pool\"\nlock = \"mcs\"\nevents = 1\npages = 1\n[[object]]\nname = \"q0\"\n";
+const TWICE: &str =
+    "cpus = 1\n[[object]]\nname = \"q0\"\nkind = \"pool\"\nlock = \"mcs\"\nevents = 1\npages = 1\n[[object]]\nname = \"q0\"\n";
 
 /// Settings of a pool named `q0`.
-const POOL: &str = "cpus = 2\n[[object]]\nname = \"q0\"\nkind = \"pool\"\nlock = \"mcs\"\nevents = 1\npages = 1\n";
+const POOL: &str =
+    "cpus = 2\n[[object]]\nname = \"q0\"\nkind = \"pool\"\nlock = \"mcs\"\nevents = 1\npages = 1\n";
 
 /// A reader that gives at most five bytes a call, and may fail where they end.
 #[derive(Drop)]
@@ -144,7 +147,10 @@ fn worked_simulations(rt: HostRuntime) -> Result<(), Fail> {
             "sim --settings settings both turns",
             "log q0 2\n0 enq 3 = ok\n1 enq 4 = ok\ncpu 0 1\nq0 1 enq 3 | enq 3 = ok\ncpu 1 1\nq0 3 enq 4 | enq 4 = ok\nend\n",
         ),
-        ("sim --settings settings both held", "log q0 0\ncpu 0 0\ncpu 1 0\nend\n"),
+        (
+            "sim --settings settings both held",
+            "log q0 0\ncpu 0 0\ncpu 1 0\nend\n",
+        ),
         (
             "sim --settings settings alone idle",
             "log q0 1\n0 enq 3 = ok\ncpu 0 1\nq0 1 enq 3 | enq 3 = ok\ncpu 1 0\nend\n",
@@ -182,12 +188,42 @@ fn refused_commands(rt: HostRuntime) -> Result<(), Fail> {
         ("run bad", 2, "mc2: E7 scripts: line 2\n", 1),
         ("run none", 3, "mc2: E12 read failed\n", 1),
         ("run broken", 3, "mc2: E12 read failed\n", 1),
-        ("sim --settings settings both steps", 2, "mc2: E8 schedule: word 2\n", 3),
-        ("sim --settings settings bad none", 2, "mc2: E7 scripts: line 2\n", 2),
-        ("sim --settings settings none turns", 3, "mc2: E12 read failed\n", 2),
-        ("sim --settings settings broken turns", 3, "mc2: E12 read failed\n", 2),
-        ("sim --settings settings both none", 3, "mc2: E12 read failed\n", 3),
-        ("sim --settings settings both broken", 3, "mc2: E12 read failed\n", 3),
+        (
+            "sim --settings settings both steps",
+            2,
+            "mc2: E8 schedule: word 2\n",
+            3,
+        ),
+        (
+            "sim --settings settings bad none",
+            2,
+            "mc2: E7 scripts: line 2\n",
+            2,
+        ),
+        (
+            "sim --settings settings none turns",
+            3,
+            "mc2: E12 read failed\n",
+            2,
+        ),
+        (
+            "sim --settings settings broken turns",
+            3,
+            "mc2: E12 read failed\n",
+            2,
+        ),
+        (
+            "sim --settings settings both none",
+            3,
+            "mc2: E12 read failed\n",
+            3,
+        ),
+        (
+            "sim --settings settings both broken",
+            3,
+            "mc2: E12 read failed\n",
+            3,
+        ),
         (
             "sim --settings twice none none",
             2,
@@ -200,13 +236,33 @@ fn refused_commands(rt: HostRuntime) -> Result<(), Fail> {
             "mc2: E6 settings: top: text: not toml\n",
             1,
         ),
-        ("sim --settings none both turns", 3, "mc2: E12 read failed\n", 1),
-        ("sim --settings=settings both turns", 2, "mc2: E14 bad words\n", 0),
+        (
+            "sim --settings none both turns",
+            3,
+            "mc2: E12 read failed\n",
+            1,
+        ),
+        (
+            "sim --settings=settings both turns",
+            2,
+            "mc2: E14 bad words\n",
+            0,
+        ),
         ("sim both turns", 2, "mc2: E14 bad words\n", 0),
         ("sim", 2, "mc2: E14 bad words\n", 0),
         ("sim both", 2, "mc2: E14 bad words\n", 0),
-        ("sim --settings settings both turns held", 2, "mc2: E14 bad words\n", 0),
-        ("sim --settings settings both -turns", 2, "mc2: E14 bad words\n", 0),
+        (
+            "sim --settings settings both turns held",
+            2,
+            "mc2: E14 bad words\n",
+            0,
+        ),
+        (
+            "sim --settings settings both -turns",
+            2,
+            "mc2: E14 bad words\n",
+            0,
+        ),
         ("", 2, "mc2: E14 bad words\n", 0),
         ("walk", 2, "mc2: E14 bad words\n", 0),
         ("run -scripts", 2, "mc2: E14 bad words\n", 0),

@@ -37,7 +37,13 @@ name = "s0"
 "#;
 
 /// Whether the object has the name, the lock, the number of events and the parameters.
-fn is_object(object: &ObjectSettings, name: &str, lock: LockKind, events: u32, params: KParams) -> bool {
+fn is_object(
+    object: &ObjectSettings,
+    name: &str,
+    lock: LockKind,
+    events: u32,
+    params: KParams,
+) -> bool {
     object.name() == name.as_bytes()
         && object.lock() == lock
         && object.events() == events
@@ -57,7 +63,13 @@ fn an_object_of_each_kind(rt: HostRuntime) {
                 [queue, pool, console, list] => {
                     settings.cpus() == 8
                         && is_object(queue, "q0", LockKind::Ticket, 65_536, KParams::Queue(1024))
-                        && is_object(pool, "abcdefghijklmn09", LockKind::Mcs, 1, KParams::Pool(4096))
+                        && is_object(
+                            pool,
+                            "abcdefghijklmn09",
+                            LockKind::Mcs,
+                            1,
+                            KParams::Pool(4096),
+                        )
                         && is_object(console, "c", LockKind::Mcs, 100, KParams::Console(4096))
                         && is_object(list, "s0", LockKind::Ticket, 100, KParams::Sched(sched))
                 }
@@ -157,7 +169,10 @@ fn faults_of_the_whole(rt: HostRuntime) -> Result<(), Fail> {
         ("cpus = 1", "top: object: missing"),
         ("cpus = 1\nobject = 1", "top: object: wrong type"),
         ("cpus = 1\nobject = []", "top: object: out of range"),
-        ("cpus = 1\nobject = [1]\nx = 1", "object 1: object: wrong type"),
+        (
+            "cpus = 1\nobject = [1]\nx = 1",
+            "object 1: object: wrong type",
+        ),
         ("cpus = 1\nobject = [{}, 1]", "object 1: name: missing"),
         (
             "cpus = 1\nobject = [1,1,1,1,1,1,1,1,1,1,1,1,1,1,1,1]",

@@ -10,7 +10,7 @@ returns-in_err-object c =
     let here = item_there c.args.values.now c.loop-value.value-index c.value-item.result c.loop-value-test.true c.value-item.is in
     let failed = ap (λ os. object_from os (view c.value-item.result)) (sym c.as_slice.ensures.value) ∙ sym c.object.ensures ∙ c.in_err-object.was in
     refused_map (λ v. v.items) c.from_residual.result c.in_err-object.field-0.0 (objects_from [] (items_view c.args.values.now)) c.from_residual.ensures.1
-        (c.loop-value.invariant.reads ∙ (ap (objects_from c.loop-value.objects.items) here ∙ objects_none c.loop-value.objects.items (view c.value-item.result) (items_view (drop (c.loop-value.value-index + 1) c.args.values.now)) c.in_err-object.field-0.0 failed))
+    (c.loop-value.invariant.reads ∙ (ap (objects_from c.loop-value.objects.items) here ∙ objects_none c.loop-value.objects.items (view c.value-item.result) (items_view (drop (c.loop-value.value-index + 1) c.args.values.now)) c.in_err-object.field-0.0 failed))
 
 pub loop-value-preserved : goal.loop-value-preserved
 loop-value-preserved c =
