@@ -1,5 +1,7 @@
 -- Names, and the objects that they name.
-use Rattle.std.proofs.Common.{◌≡◌, ℕ, zero, suc, ◌<◌, Bool, true, false, Some, None, List, [], ◌∷◌, length, refl, sym, ◌∙◌, ap, subst, cond, arith, position, get_or, inl, inr}
+use Rattle.std.proofs.lemmas.Str.{IsUtf8-from_ascii}
+use Rattle.std.specs.Str.{IsUtf8}
+use Rattle.std.proofs.Common.{Option, if◌then◌else◌, ◌≡◌, ℕ, zero, suc, ◌<◌, Bool, true, false, Some, None, List, [], ◌∷◌, length, refl, sym, ◌∙◌, ap, subst, cond, arith, position, get_or, inl, inr}
 use Rattle.std.proofs.lemmas.List.Quantifiers.{position-Some}
 use Rattle.std.proofs.lemmas.Bool.{and_parts, false_from_ne_true, leb-true, lt-ltb}
 use Rattle.std.proofs.lemmas.Option.{slice_get-get_or, slice_get_cases}
@@ -95,3 +97,32 @@ place_again settings i rest names less =
     omega (arith, one, lower)))
     (λ o at. (bytes_eq-Decides o.name (name_at settings i)).1 (sym (named i o at))) in
     ap (λ o. o >>= λ j. Some (j, rest)) found
+
+letter_small : (b : ℕ) → is_letter b ≡ true → b < 128
+letter_small b e = let high = leb-true b 122 (and_parts (nat_le 97 b) (nat_le b 122) e).1 in omega (arith, high)
+
+digit_small : (b : ℕ) → is_digit b ≡ true → b < 128
+digit_small b e = let high = leb-true b 57 (and_parts (nat_le 48 b) (nat_le b 57) e).1 in omega (arith, high)
+
+either_small : (c d : Bool) (b : ℕ) → (c || d) ≡ true → (c ≡ true → b < 128) → (d ≡ true → b < 128) → b < 128
+either_small true d b e f g = f refl
+either_small false d b e f g = g e
+
+name_bytes_small : (bs : List ℕ) → list_all (λ c. is_letter c || is_digit c) bs ≡ true → (i : ℕ) → get_or bs i 0 < 128
+name_bytes_small [] e i = omega arith
+name_bytes_small (b ∷ bs) e zero = either_small (is_letter b) (is_digit b) b (and_parts (is_letter b || is_digit b) (list_all (λ c. is_letter c || is_digit c) bs) e).0 (letter_small b) (digit_small b)
+name_bytes_small (b ∷ bs) e (suc i) = name_bytes_small bs (and_parts (is_letter b || is_digit b) (list_all (λ c. is_letter c || is_digit c) bs) e).1 i
+
+name_ascii : (name : List ℕ) → is_name name ≡ true → (i : ℕ) → get_or name i 0 < 128
+name_ascii [] e i = absurd cc
+name_ascii (b ∷ bs) e zero = letter_small b (and_parts (is_letter b) (list_all (λ c. is_letter c || is_digit c) bs) (and_parts (is_letter b && list_all (λ c. is_letter c || is_digit c) bs) (nat_le (length bs) 15) e).0).0
+name_ascii (b ∷ bs) e (suc i) = name_bytes_small bs (and_parts (is_letter b) (list_all (λ c. is_letter c || is_digit c) bs) (and_parts (is_letter b && list_all (λ c. is_letter c || is_digit c) bs) (nat_le (length bs) 15) e).0).1 i
+
+-- a name is UTF-8
+pub name_utf8 : (name : List ℕ) → is_name name ≡ true → IsUtf8 name
+name_utf8 name e = IsUtf8-from_ascii name (name_ascii name e)
+
+-- bytes that are no UTF-8 are no name
+pub no_name : (b : Bool) (bytes : List ℕ) → (b ≡ true → ⊥) → ◌≡◌ {A = Option (List ℕ)} None (if b then Some bytes else None)
+no_name true bytes h = absurd (h refl)
+no_name false bytes h = refl

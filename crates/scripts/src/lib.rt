@@ -11,6 +11,7 @@ mod named;
 mod ranges;
 mod read;
 mod record;
+mod record_lines;
 mod record_writer;
 mod request;
 mod request_line;

@@ -6,9 +6,9 @@ ghost use Rattle.scripts.specs.Reading.{left};
 ghost use Rattle.scripts.specs.RecordReading.{list_at};
 
 use crate::words::{Words, key};
-use crate::{KCall, value};
+use crate::{KCall, KernelObject, value};
 use arrayvec::ArrayVec;
-use event_log::MOST_CALLS;
+use event_log::{MOST_CALLS, Step};
 
 /// What lines have lists of.
 pub(crate) trait Listed: Default + Drop {
@@ -29,6 +29,20 @@ impl Listed for KCall {
 
     fn item(at: Words<'_>) -> Option<(KCall, Words<'_>)> {
         value(at)
+    }
+}
+
+impl Listed for Step<KernelObject> {
+    ghost use Rattle.scripts.specs.RecordReading.{step_at};
+
+    ghost item_at = { step_at };
+
+    #[tactic(auto, unfolding(crate::specs::RecordReading::step_at))]
+    fn item(at: Words<'_>) -> Option<(Step<KernelObject>, Words<'_>)> {
+        let (call, rest) = value(at)?;
+        let rest = key(b"=", rest)?;
+        let (reply, rest) = value(rest)?;
+        Some((Step { call, reply }, rest))
     }
 }
 

@@ -44,3 +44,13 @@ pub(crate) fn name_of(text: &str) -> Option<ArrayString<16>>
     name.push_str(text);
     Some(name)
 }
+
+/// The bytes as text, if they are a name.
+pub(crate) fn name_in(bytes: &[u8]) -> Option<ArrayString<16>>
+    ensures { option_map (λ x. x.bytes) result ≡ if is_name bytes.now then Some bytes.now else None }
+{
+    match std::str::from_utf8(bytes) {
+        Ok(text) => name_of(text),
+        Err(_) => None,
+    }
+}
