@@ -3,8 +3,8 @@ use Rattle.std.specs.Prelude.{ℕ}
 use Rattle.event_log.specs.declared.object.OutOfMemory.{OutOfMemory}
 use Rattle.scripts.specs.declared.schedule.ScheduleFault.{ScheduleFault}
 use Rattle.scripts.specs.declared.schedule.ScheduleFault.TheVariants as schedule
-use Rattle.scripts.specs.declared.script_reader.ScriptsFault.{ScriptsFault}
-use Rattle.scripts.specs.declared.script_reader.ScriptsFault.TheVariants as scripts
+use Rattle.scripts.specs.declared.script_source.ScriptsReadFault.{ScriptsReadFault}
+use Rattle.scripts.specs.declared.script_source.ScriptsReadFault.TheVariants as scripts
 use Rattle.scripts.specs.declared.settings_fault.SettingsFault.{SettingsFault}
 use Rattle.scripts.specs.declared.settings_fault.SettingsFault.TheVariants as settings
 use Rattle.scripts.specs.declared.source_reader.ReadFault.{ReadFault}
@@ -26,8 +26,9 @@ abbrev pub of_settings : SettingsFault → Fault
 of_settings settings.OutOfMemory = fault.OutOfMemory
 of_settings (settings.Refused bad) = fault.BadSettings bad
 
-abbrev pub of_scripts : ScriptsFault → Fault
+abbrev pub of_scripts : ScriptsReadFault → Fault
 of_scripts scripts.OutOfMemory = fault.OutOfMemory
+of_scripts scripts.ReadFailed = fault.ReadFailed
 of_scripts (scripts.Line n) = fault.BadScripts n
 
 abbrev pub of_read : ReadFault → Fault

@@ -9,9 +9,9 @@ ghost use Rattle.scripts.specs.SettingsText.{IsSettingsFault};
 ghost use Rattle.scripts.specs.declared.settings_fault.BadSettings.{BadSettings};
 
 use crate::fault::Fault;
-use crate::input::read_input;
+use crate::input::{read_input, read_scripts};
 use crate::{Inputs, first_run, simulate};
-use scripts::{Record, Schedule, Scripts, Settings};
+use scripts::{Record, Schedule, Settings};
 use std::alloc::Global;
 use std::sync::Wait;
 use std::thread::Threads;
@@ -29,8 +29,7 @@ pub fn run_answer<R: Threads + Wait + Sync, I: Inputs>(
     ensures no_write { result ≡ Err Fault.WriteFailed → ⊥ }
 {
     let settings = Settings::built_in(alloc)?;
-    let text = read_input(alloc, inputs, scripts)?;
-    let scripts = Scripts::read(alloc, text.as_slice(), &settings)?;
+    let scripts = read_scripts(alloc, inputs, scripts, &settings)?;
     let record = first_run(rt, alloc, settings, scripts)?;
     Ok(record)
 }
@@ -52,8 +51,7 @@ pub fn sim_answer<I: Inputs>(
 {
     let text = read_input(alloc, inputs, Some(settings))?;
     let settings = Settings::read(alloc, text.as_slice())?;
-    let text = read_input(alloc, inputs, Some(scripts))?;
-    let scripts = Scripts::read(alloc, text.as_slice(), &settings)?;
+    let scripts = read_scripts(alloc, inputs, Some(scripts), &settings)?;
     let text = read_input(alloc, inputs, Some(schedule))?;
     let schedule = Schedule::read(alloc, text.as_slice(), &settings)?;
     let record = simulate(alloc, settings, scripts, &schedule)?;

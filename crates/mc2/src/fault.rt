@@ -5,7 +5,9 @@ ghost use Rattle.mc2.specs.Faults.{of_memory, of_run, of_settings, of_scripts, o
 
 use crate::RunFault;
 use event_log::OutOfMemory;
-use scripts::{BadSettings, ReadFault, ScheduleFault, ScriptsFault, SettingsFault, WriteFailed};
+use scripts::{
+    BadSettings, ReadFault, ScheduleFault, ScriptsReadFault, SettingsFault, WriteFailed,
+};
 use thiserror::Error;
 
 /// A refusal, which is printed as one line.
@@ -98,13 +100,14 @@ impl From<SettingsFault> for Fault {
     }
 }
 
-impl From<ScriptsFault> for Fault {
+impl From<ScriptsReadFault> for Fault {
     ghost from_gives = { λ cause fault. fault ≡ of_scripts cause };
 
-    fn from(fault: ScriptsFault) -> Fault {
+    fn from(fault: ScriptsReadFault) -> Fault {
         match fault {
-            ScriptsFault::OutOfMemory => Fault::OutOfMemory,
-            ScriptsFault::Line(number) => Fault::BadScripts(number),
+            ScriptsReadFault::OutOfMemory => Fault::OutOfMemory,
+            ScriptsReadFault::ReadFailed => Fault::ReadFailed,
+            ScriptsReadFault::Line(number) => Fault::BadScripts(number),
         }
     }
 }

@@ -1,10 +1,12 @@
 //! Inputs: files, and standard input.
 
-ghost use Rattle.std.specs.Prelude.{◌≡◌, ℕ, List, Some, IfOk};
+ghost use Rattle.std.specs.Prelude.{◌≡◌, ℕ, List, Some, length, IfOk, IfErr};
+ghost use Rattle.scripts.specs.ScriptFaults.{SpellsRest, NamesFirstBadOfRest};
+ghost use Rattle.scripts.specs.ScriptText.{ScriptsFit};
 ghost use Rattle.mc2.specs.Answers.{Reads, bytes_of};
 
 use event_log::{Source, StreamFailed};
-use scripts::{ReadFault, read_all};
+use scripts::{ReadFault, Scripts, ScriptsReadFault, Settings, read_all};
 use std::alloc::Global;
 
 /// The files and the standard input that a command may read.
@@ -35,5 +37,23 @@ pub fn read_input<I: Inputs>(
     match inputs.input(name) {
         Ok(mut input) => read_all(alloc, &mut input),
         Err(StreamFailed) => Err(ReadFault::ReadFailed),
+    }
+}
+
+/// The scripts that the input of that name spells. Where a line can't come, no more is read.
+pub fn read_scripts<I: Inputs>(
+    alloc: Global,
+    inputs: &mut I,
+    name: Option<&str>,
+    settings: &Settings,
+) -> Result<Scripts, ScriptsReadFault>
+    ensures found { IfOk result (SpellsRest settings.now (I.held inputs.old (bytes_of name.entry))) }
+    ensures fit { IfOk result (λ scripts. ScriptsFit settings.now.cpus (length settings.now.objects) scripts) }
+    ensures fault { IfErr result (NamesFirstBadOfRest settings.now (I.held inputs.old (bytes_of name.entry))) }
+    ensures files { (file : List ℕ) → I.held inputs.new (Some file) ≡ I.held inputs.old (Some file) }
+{
+    match inputs.input(name) {
+        Ok(mut input) => Scripts::read_from(alloc, &mut input, settings),
+        Err(StreamFailed) => Err(ScriptsReadFault::ReadFailed),
     }
 }

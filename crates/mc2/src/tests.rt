@@ -64,7 +64,8 @@ fn write_run<R: Threads + Wait + Sync + AllocGlobal, W: Sink>(
     out: &mut W,
 ) -> Result<(), Fault> {
     let settings = Settings::built_in(rt.alloc())?;
-    let scripts = Scripts::read(rt.alloc(), scripts.as_bytes(), &settings)?;
+    let mut source = Plain::new(scripts.as_bytes());
+    let scripts = Scripts::read_from(rt.alloc(), &mut source, &settings)?;
     let record = first_run(rt, rt.alloc(), settings, scripts)?;
     write_record(&record, out)?;
     Ok(())

@@ -20,3 +20,17 @@ pub mod Names
 pub mod ListLaws
 pub mod RequestLaws
 pub mod SoundRanges
+pub mod FirstLines
+pub mod RecordLineLaws
+pub mod ExactReaders
+pub mod ExactLists
+pub mod ExactBlocks
+pub mod NewObjects
+pub mod ExactRecords
+pub mod RecordWords
+pub mod RecordSteps
+pub mod RecordVerdicts
+pub mod RecordAnswers
+pub mod Digits
+pub mod ScriptTexts
+pub mod ScriptSources

@@ -17,7 +17,7 @@ use Rattle.scripts.specs.Settings.{Settings}
 use Rattle.scripts.specs.Words.{text_of_lines, NoEnd}
 use Rattle.scripts.proofs.Dealt.{dealt_push, dealt_get, dealt_all, script_length}
 
-text_more : (lines : List (List ℕ)) (line : List ℕ) → text_of_lines (lines ++ line ∷ []) ≡ text_of_lines lines ++ (line ++ 10 ∷ [])
+pub text_more : (lines : List (List ℕ)) (line : List ℕ) → text_of_lines (lines ++ line ∷ []) ≡ text_of_lines lines ++ (line ++ 10 ∷ [])
 text_more lines line = flat_map-append (λ l. l ++ 10 ∷ []) lines (line ∷ []) ∙ ap (λ t. text_of_lines lines ++ t) (append-nil (line ++ 10 ∷ []))
 
 count_by_more : (cpu : ℕ) (requests : List Request) (r : Request) → count_of cpu (requests ++ r ∷ []) ≡ count_of cpu requests + cond (r.cpu == cpu) 1 0

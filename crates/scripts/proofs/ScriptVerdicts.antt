@@ -1,5 +1,5 @@
 -- No text is both scripts and one with a first bad line.
-use Rattle.std.proofs.Common.{◌≡◌, ℕ, ◌+◌, ◌<◌, ◌≤◌, ◌^◌, ◌==◌, Option, List, [], ◌∷◌, ◌++◌, length, fold, refl, sym, ◌∙◌, ap, subst, append_assoc, arith, cond, decimal, inl, inr}
+use Rattle.std.proofs.Common.{◌≡◌, ℕ, ◌+◌, ◌<◌, ◌≤◌, ◌^◌, ◌==◌, List, [], ◌∷◌, ◌++◌, length, fold, refl, sym, ◌∙◌, ap, subst, append_assoc, arith, cond, decimal, inl, inr}
 use Rattle.std.specs.List.{AllByRecursion}
 use Rattle.std.proofs.lemmas.Bool.{eq-eqb}
 use Rattle.std.proofs.lemmas.Fmt.{decimal_by_steps}
@@ -30,7 +30,7 @@ no_cut [] x (c ∷ b) k e = let is : 10 ≡ c = cc in absurd (grind (arith, k.0)
 no_cut (c ∷ a) x [] k e = absurd cc
 no_cut (c ∷ a) x (d ∷ b) k e = let tail : a ++ 10 ∷ x ≡ b = cc in no_cut a x b k.1 tail
 
-line_first : (line : List ℕ) (lines : List (List ℕ)) → text_of_lines (line ∷ lines) ≡ line ++ 10 ∷ text_of_lines lines
+pub line_first : (line : List ℕ) (lines : List (List ℕ)) → text_of_lines (line ∷ lines) ≡ line ++ 10 ∷ text_of_lines lines
 line_first line lines = append_assoc line (10 ∷ []) (text_of_lines lines)
 
 lines_cut : (m l : List ℕ) (lines ls : List (List ℕ)) (tail : List ℕ) → NoEnd m → NoEnd l → text_of_lines (m ∷ lines) ≡ text_of_lines (l ∷ ls) ++ tail → (m ≡ l) × (text_of_lines lines ≡ text_of_lines ls ++ tail)

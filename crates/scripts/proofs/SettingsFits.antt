@@ -1,7 +1,7 @@
 -- What settings of a TOML table are: within all limits.
-use Rattle.std.proofs.Common.{◌≡◌, ℕ, ℤ, pos, negsuc, zero, suc, ◌+◌, ◌<◌, ◌≤◌, Bool, true, false, ◌&&◌, nat_le, List, [], ◌∷◌, ◌++◌, length, length-append, get_or, Option, Some, None, Ok, Err, Result, refl, ap, sym, ◌∙◌, subst, cond, arith, inl, inr, if◌then◌else◌}
+use Rattle.std.proofs.Common.{◌≡◌, ℕ, ℤ, pos, negsuc, zero, suc, ◌+◌, ◌<◌, ◌≤◌, Bool, true, false, ◌&&◌, nat_le, List, [], ◌∷◌, ◌++◌, length, length-append, Option, Some, None, Ok, Err, Result, refl, ap, sym, ◌∙◌, subst, arith, inl, inr, if◌then◌else◌}
 use Rattle.std.specs.Prelude.{int_le, nat_abs, ◌||◌}
-use Rattle.std.specs.List.{list_any, list_all, slice_get, AllByRecursion}
+use Rattle.std.specs.List.{list_any, slice_get, AllByRecursion}
 use Rattle.std.specs.Option.{option_map_or}
 use Rattle.std.specs.Str.{bytes_eq}
 use Rattle.std.proofs.Math.Nat.{eq-or-lt_of_le}
@@ -14,7 +14,6 @@ use Rattle.word_rule.specs.declared.machine.TheConstants.{MOST_CELLS}
 use Rattle.event_log.specs.declared.logged.TheConstants.{MOST_EVENTS}
 use Rattle.scripts.specs.declared.kernel_call.KParams.{KParams}
 use Rattle.scripts.specs.declared.kernel_call.KParams.TheVariants.{Queue, Pool, Console, Sched}
-use Rattle.scripts.specs.declared.settings_fault.BadSettings.{BadSettings}
 use Rattle.scripts.specs.declared.settings_fault.Cause.{Cause}
 use Rattle.scripts.specs.declared.settings_fault.Place.{Place}
 use Rattle.scripts.specs.declared.settings_fault.Place.TheVariants.{Top, Object}
@@ -26,8 +25,9 @@ use Rattle.console_ring.specs.declared.console.TheConstants.{MOST_BYTES}
 use Rattle.wake_list.specs.declared.sched.TheConstants.{MOST_THREADS as MOST_SCHEDULED, MOST_CHANNELS}
 use Rattle.scripts.specs.Row.{row_fits}
 use Rattle.scripts.specs.Rows.{params_row}
-use Rattle.scripts.specs.Settings.{Settings, ObjectSettings, ObjectFits, SettingsFit, NamesDiffer, name_at, is_name}
-use Rattle.scripts.specs.SettingsText.{◌>>=◌, number_from, name_from, items_from, count_items, at_key, find_key, key_in, kind_from, lock_from, has_only, keys_of, params_in, object_in, object_from, objects_from, settings_in}
+use Rattle.scripts.specs.Settings.{Settings, ObjectSettings, ObjectFits, SettingsFit, is_name}
+use Rattle.scripts.specs.Answers.{◌>>=◌}
+use Rattle.scripts.specs.SettingsText.{number_from, name_from, items_from, count_items, at_key, find_key, key_in, kind_from, lock_from, has_only, keys_of, params_in, object_in, object_from, objects_from, settings_in}
 
 -- ---- answers in parts
 
@@ -167,13 +167,13 @@ or_true : (b c : Bool) → c ≡ true → (b || c) ≡ true
 or_true true c e = refl
 or_true false c e = e
 
-taken : (os : List ObjectSettings) (i : ℕ) (s : List ℕ) → i < length os → name_in os i ≡ s → list_any (λ o. bytes_eq o.name s) os ≡ true
+pub taken : (os : List ObjectSettings) (i : ℕ) (s : List ℕ) → i < length os → name_in os i ≡ s → list_any (λ o. bytes_eq o.name s) os ≡ true
 taken [] i s less e = absurd (omega (arith, less))
 taken (x ∷ os) zero s less e = ap (λ b. b || list_any (λ o. bytes_eq o.name s) os) ((bytes_eq-Decides x.name s).1 e)
 taken (x ∷ os) (suc i) s less e = or_true (bytes_eq x.name s) (list_any (λ o. bytes_eq o.name s) os) (taken os i s (omega (arith, less)) e)
 
 -- an object of a new name is found by it, and the others are still found
-differ_more : (os : List ObjectSettings) (o : ObjectSettings) → Differ os → list_any (λ x. bytes_eq x.name o.name) os ≡ false → Differ (os ++ o ∷ [])
+pub differ_more : (os : List ObjectSettings) (o : ObjectSettings) → Differ os → list_any (λ x. bytes_eq x.name o.name) os ≡ false → Differ (os ++ o ∷ [])
 differ_more os o differ fresh i j li lj same =
     let count = length-append os (o ∷ []) in
     let apart : (k : ℕ) → k < length os → name_in os k ≡ o.name → ⊥ = λ k less e. false≢true (sym fresh ∙ taken os k o.name less e) in

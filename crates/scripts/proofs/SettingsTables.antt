@@ -16,7 +16,8 @@ use Rattle.scripts.specs.declared.settings_fault.Place.{Place}
 use Rattle.scripts.specs.declared.settings_fault.SettingsFault.{SettingsFault}
 use Rattle.scripts.specs.declared.settings_fault.SettingsFault.TheVariants.{OutOfMemory, Refused}
 use Rattle.scripts.specs.declared.settings_fault.SettingsKey.{SettingsKey}
-use Rattle.scripts.specs.SettingsText.{◌>>=◌, count_items, ok_map, at_key, key_word, has_only, object_from, objects_from, settings_of, Settles, NamesFirstFault}
+use Rattle.scripts.specs.Answers.{◌>>=◌, ok_map}
+use Rattle.scripts.specs.SettingsText.{count_items, at_key, key_word, has_only, object_from, objects_from, settings_of, Settles, NamesFirstFault}
 
 -- an array has as many items as values
 pub items_counted : (vs : List Value) → count_items (items_view vs) ≡ length vs

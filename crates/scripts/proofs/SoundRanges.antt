@@ -1,18 +1,17 @@
 -- A sound run of entries in their ranges is in its ranges as a whole.
 use Rattle.std.specs.Cmp.Derive.{both_true}
-use Rattle.std.proofs.Common.{◌≡◌, ℕ, zero, suc, ◌<◌, ◌≤◌, ◌==◌, ◌⊎◌, inl, inr, Bool, true, false, cond, Option, Some, None, List, [], ◌∷◌, ◌++◌, map, length, take, refl, sym, ◌∙◌, ap, subst, arith}
+use Rattle.std.proofs.Common.{◌≡◌, ℕ, zero, suc, ◌<◌, ◌≤◌, ◌==◌, Bool, true, false, cond, Option, Some, None, List, [], ◌∷◌, map, length, take, refl, sym, ◌∙◌, ap, subst, arith}
 use Rattle.std.specs.Prelude.{slice_get, unwrap_or, nat_lt, ◌&&◌}
 use Rattle.std.specs.List.{list_all, AllByRecursion}
-use Rattle.std.proofs.lemmas.Bool.{and_parts, eq-eqb, eqb-true, ltb-true, ltb-false}
+use Rattle.std.proofs.lemmas.Bool.{and_parts, eq-eqb, ltb-true, ltb-false}
 use Rattle.std.proofs.lemmas.List.{length-map}
 use Rattle.std.proofs.lemmas.Option.{slice_get_past, slice_get_within}
 use Rattle.event_log.proofs.Each.{all_map, all_both}
 use Rattle.event_log.specs.declared.entry.Done.TheVariants.{Steps, NoRoom}
 use Rattle.event_log.specs.declared.event.TheConstants.{MOST_CALLS}
-use Rattle.event_log.specs.declared.logged.TheConstants.{MOST_EVENTS}
-use Rattle.event_log.specs.Log.{Begins, calls_of, Fulfils, LegalFrom, Legal, after, of}
+use Rattle.event_log.specs.Log.{Begins, calls_of, LegalFrom, Legal, after, of}
 use Rattle.word_rule.specs.Sound.{Opened, Sound, Answers, EntryIsSound, done_on, with_steps, steps_by, transcript_of}
-use Rattle.word_rule.proofs.Slices.{some_at, map_get, one_of}
+use Rattle.word_rule.proofs.Slices.{some_at, map_get}
 use Rattle.scripts.specs.contracts.kernel_object.KernelObjectSeqObject.TheImpl.{ghosts as kernel}
 use Rattle.scripts.specs.declared.kernel_call.KParams.{KParams}
 use Rattle.scripts.specs.declared.kernel_call.KCall.{KCall}
@@ -20,10 +19,10 @@ use Rattle.scripts.specs.declared.kernel_object.KernelObject.{KernelObject}
 use Rattle.scripts.specs.Kernel.{kernel_in_range}
 use Rattle.scripts.specs.KernelTypes.{KernelStep, KernelSteps, KernelEvent, KernelDone, KernelEntry, KernelRun}
 use Rattle.scripts.specs.Ranges.{call_fits, reply_fits, steps_ask, steps_answer, log_asks, log_answers}
-use Rattle.scripts.specs.RecordRanges.{StepsFit, DoneFits, EventFits, EntryFits, LogFits, TranscriptFits, RunFits}
+use Rattle.scripts.specs.RecordRanges.{StepsFit, DoneFits, LogFits, TranscriptFits, RunFits}
 use Rattle.scripts.specs.Row.{row_fits}
 use Rattle.scripts.specs.Rows.{params_row}
-use Rattle.scripts.specs.Runs.{opened_of, asked_of, EntryAsks, TranscriptAsks}
+use Rattle.scripts.specs.Runs.{opened_of, EntryAsks, TranscriptAsks}
 use Rattle.scripts.specs.Settings.{Settings, ObjectSettings, SettingsFit, ObjectFits}
 
 -- ---- lists

@@ -15,4 +15,7 @@ pub mod RecordRanges
 pub mod ScheduleText
 pub mod ScriptFaults
 pub mod RecordReading
+pub mod Answers
+pub mod RecordLines
+pub mod RecordFaults
 pub mod Runs

@@ -1,12 +1,16 @@
 -- What a line of the scripts does, and what reading them answers.
-use Rattle.std.specs.Prelude.{ℕ, ◌≡◌, ◌<◌, ◌≤◌, ◌⊎◌, List, [], ◌∷◌, ◌++◌, length, Some, slice_get, slice_set}
+use Rattle.std.specs.Prelude.{ℕ, ◌≡◌, ◌<◌, ◌≤◌, ◌⊎◌, ◌+◌, List, [], ◌∷◌, ◌++◌, length, Option, Some, slice_get, slice_set}
+use Rattle.std.specs.List.{AllByRecursion}
 use Rattle.scripts.specs.declared.request.Request.{Request}
 use Rattle.scripts.specs.declared.script_list.TheConstants.{MOST_ENTRIES}
 use Rattle.scripts.specs.declared.script_reader.ScriptsFault.{ScriptsFault}
 use Rattle.scripts.specs.declared.script_reader.ScriptsFault.TheVariants.{OutOfMemory, Line}
+use Rattle.scripts.specs.declared.script_source.ScriptsReadFault.{ScriptsReadFault}
+use Rattle.scripts.specs.declared.script_source.ScriptsReadFault.TheVariants as stream
 use Rattle.scripts.specs.KernelTypes.{KernelTodo}
-use Rattle.scripts.specs.ScriptText.{IsBlank, IsRequest, IsFirstBad}
+use Rattle.scripts.specs.ScriptText.{IsBlank, IsRequest, IsFirstBad, AreScripts}
 use Rattle.scripts.specs.Settings.{Settings}
+use Rattle.scripts.specs.Words.{NoEnd, text_of_lines}
 
 -- an entry is added to its CPU's script, which has room for it
 pub record Adds (old new : List (List KernelTodo)) (r : Request) : Type 0 where
@@ -33,3 +37,49 @@ module _ (settings : Settings) where
 abbrev pub NamesFirstBad : Settings → List ℕ → ScriptsFault → Type 0
 NamesFirstBad settings text OutOfMemory = Unit {0}
 NamesFirstBad settings text (Line n) = IsFirstBad settings text n
+
+module _ (settings : Settings) where
+  -- the lines, one after the other, take scripts to scripts
+  abbrev pub TakesEach : List (List ℕ) → List (List KernelTodo) → List (List KernelTodo) → Type 0
+  TakesEach [] old new = new ≡ old
+  TakesEach (line ∷ lines) old new = (between : List (List KernelTodo)) × TakesLine settings line old between × TakesEach lines between new
+
+  -- the text is whole lines, which take scripts to scripts, and a rest without an end; m is the number of the line after them
+  pub record TakesText (text : List ℕ) (old : List (List KernelTodo)) (n : ℕ) (rest : List ℕ) (new : List (List KernelTodo)) (m : ℕ) : Type 0 where
+    pub lines : List (List ℕ)
+    pub each : AllByRecursion NoEnd lines
+    pub parts : text ≡ text_of_lines lines ++ rest
+    pub takes : TakesEach lines old new
+    pub number : m ≡ n + length lines
+
+  -- line m of the text, where the first has number n, is the first that isn't taken
+  pub record RefusesText (text : List ℕ) (old : List (List KernelTodo)) (n m : ℕ) : Type 0 where
+    pub line : List ℕ
+    pub after : List ℕ
+    pub new : List (List KernelTodo)
+    pub before : TakesText text old n (line ++ 10 ∷ after) new m
+    pub no_end : NoEnd line
+    pub bad : IsNotTaken settings line new
+
+-- what is read is a source's rest, where it tells it
+abbrev pub IsRest : Option (List ℕ) → List ℕ → Type 0
+IsRest remaining text = (all : List ℕ) → remaining ≡ Some all → text ≡ all
+
+-- the scripts that the rest of a source spells
+abbrev pub SpellsRest : Settings → Option (List ℕ) → List (List KernelTodo) → Type 0
+SpellsRest settings remaining scripts = (text : List ℕ) × IsRest remaining text × AreScripts settings text scripts
+
+-- the first line of the rest of a source that can't come
+abbrev pub IsFirstBadOfRest : Settings → Option (List ℕ) → ℕ → Type 0
+IsFirstBadOfRest settings remaining n = (text : List ℕ) × IsRest remaining text × IsFirstBad settings text n
+
+-- the line that is named is the first that can't come
+abbrev pub NamesFirstBadOfRest : Settings → Option (List ℕ) → ScriptsReadFault → Type 0
+NamesFirstBadOfRest settings remaining stream.OutOfMemory = Unit {0}
+NamesFirstBadOfRest settings remaining stream.ReadFailed = Unit {0}
+NamesFirstBadOfRest settings remaining (stream.Line n) = IsFirstBadOfRest settings remaining n
+
+-- the same refusal of a text and of a source
+abbrev pub of_text : ScriptsFault → ScriptsReadFault
+of_text OutOfMemory = stream.OutOfMemory
+of_text (Line n) = stream.Line n

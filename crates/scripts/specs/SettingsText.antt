@@ -1,10 +1,10 @@
 -- Which settings a TOML text spells, and the first fault of one that spells none.
-use Rattle.std.specs.Prelude.{◌≡◌, ℕ, ℤ, pos, nat_abs, int_le, suc, ◌+◌, ◌&&◌, not, nat_le, if◌then◌else◌, Bool, true, false, List, [], ◌∷◌, ◌++◌, length, map, Option, Some, None, Result, Ok, Err, codes, IsUtf8}
-use Rattle.std.specs.List.{list_all, list_any}
+use Rattle.std.specs.Prelude.{◌≡◌, ℕ, pos, nat_abs, int_le, suc, ◌+◌, ◌&&◌, nat_le, if◌then◌else◌, Bool, true, List, [], ◌∷◌, ◌++◌, length, Option, None, Result, Ok, Err, codes, IsUtf8}
+use Rattle.std.specs.List.{list_any}
 use Rattle.std.specs.Option.{option_map_or}
 use Rattle.std.specs.Str.{bytes_eq}
 use Rattle.toml.specs.Parse.{parse_document}
-use Rattle.toml.specs.Data.{Data, string, integer, array, table, Items, no_items, item, Members, no_members, member, get_member, as_str, as_integer, as_array, as_table}
+use Rattle.toml.specs.Data.{Data, Items, no_items, item, Members, no_members, member, get_member, as_str, as_integer, as_array, as_table}
 use Rattle.event_log.specs.declared.logged.TheConstants.{MOST_EVENTS}
 use Rattle.shared_queue.specs.declared.queue.TheConstants.{MOST_THREADS}
 use Rattle.page_pool.specs.declared.pool.TheConstants.{MOST_PAGES}
@@ -25,20 +25,10 @@ use Rattle.scripts.specs.declared.settings_fault.Place.{Place}
 use Rattle.scripts.specs.declared.settings_fault.Place.TheVariants.{Top, Object}
 use Rattle.scripts.specs.declared.settings_fault.SettingsKey.{SettingsKey}
 use Rattle.scripts.specs.declared.settings_fault.SettingsKey.TheVariants as Key
+use Rattle.scripts.specs.Answers.{◌>>=◌}
 use Rattle.scripts.specs.Row.{sample_at}
 use Rattle.scripts.specs.Rows.{params_row, params_samples}
 use Rattle.scripts.specs.Settings.{Settings, ObjectSettings, is_name}
-
--- go on with what was read, or keep the first fault
-infixl 10 ◌>>=◌
-abbrev pub ◌>>=◌ : {A B F : Type 0} → Result A F → (A → Result B F) → Result B F
-(Ok x) >>= f = f x
-(Err e) >>= f = Err e
-
--- what was found, as it is seen
-abbrev pub ok_map : {A B F : Type 0} → (A → B) → Result A F → Result B F
-ok_map f (Ok x) = Ok (f x)
-ok_map f (Err e) = Err e
 
 -- ---- values
 

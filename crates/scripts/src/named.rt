@@ -1,14 +1,22 @@
 //! Finding an object by its name.
 
 ghost use Rattle.std.specs.Prelude.{◌≡◌, ◌<◌, position, IfSome};
+ghost use Rattle.std.specs.List.{list_any};
 ghost use Rattle.std.specs.Option.{option_map};
 ghost use Rattle.std.specs.Str.{bytes_eq};
 ghost use Rattle.scripts.specs.Reading.{left};
 ghost use Rattle.scripts.specs.RecordReading.{place_at};
 
-use crate::Settings;
 use crate::words::{Words, word};
+use crate::{ObjectSettings, Settings};
 use word_rule::MOST_CELLS;
+
+/// Whether one of the objects has the name.
+pub(crate) fn is_taken(objects: &[ObjectSettings], name: &[u8]) -> bool
+    ensures { result ≡ list_any (λ o. bytes_eq o.name name.now) objects.now }
+{
+    objects.iter().any(|object| object.name() == name)
+}
 
 /// The place of the object of that name, from 0.
 fn place_of(settings: &Settings, name: &[u8]) -> Option<usize>

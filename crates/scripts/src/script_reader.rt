@@ -2,9 +2,10 @@
 
 ghost use Rattle.std.specs.Prelude.{◌≡◌, ◌<◌, ◌≤◌, ◌↔◌, ◌++◌, ◌∷◌, ℕ, List, [], map, length, IsTrue, IfOk, IfErr, OnOk};
 ghost use Rattle.scripts.specs.KernelTypes.{KernelTodo};
-ghost use Rattle.scripts.specs.ScriptFaults.{Adds, IsFull, TakesLine, IsNotTaken, NamesFirstBad};
+ghost use Rattle.scripts.specs.ScriptFaults.{Adds, IsFull, TakesLine, IsNotTaken, TakesText, RefusesText, NamesFirstBad};
 ghost use Rattle.scripts.specs.ScriptText.{IsBlank, AreScripts, ScriptsFit, dealt};
 ghost use Rattle.scripts.specs.Settings.{SettingsFit};
+ghost use Rattle.scripts.specs.Words.{NoEnd};
 
 use crate::request_line::request;
 use crate::script_list::MOST_ENTRIES;
@@ -53,7 +54,10 @@ fn is_blank(line: &[u8]) -> bool
 }
 
 /// An empty list for each CPU.
-fn empty_lists(alloc: Global, cpus: u8) -> Result<Vec<Vec<Todo<KernelObject>>>, ScriptsFault>
+pub(crate) fn empty_lists(
+    alloc: Global,
+    cpus: u8,
+) -> Result<Vec<Vec<Todo<KernelObject>>>, ScriptsFault>
     ensures lists { IfOk result (λ lists. map (λ l. l.items) lists.items ≡ dealt cpus []) }
     ensures fault { IfErr result (λ f. f ≡ ScriptsFault.OutOfMemory) }
 {
@@ -107,6 +111,38 @@ fn take_line(
     add(lists, cpu, todo)
 }
 
+/// Takes the whole lines of the text, of which the first has that number, and answers what is left, a line without an end,
+/// and its number.
+pub(crate) fn take_text<'a>(
+    settings: &Settings,
+    text: &'a [u8],
+    number: usize,
+    lists: &mut Vec<Vec<Todo<KernelObject>>>,
+) -> Result<(&'a [u8], usize), ScriptsFault>
+    requires { length lists.old.items ≡ settings.now.cpus }
+    ensures count { IfOk result (λ _. length lists.new.items ≡ settings.now.cpus) }
+    ensures ok { IfOk result (λ left. TakesText settings.now text.now (map (λ l. l.items) lists.old.items) number left.0.now (map (λ l. l.items) lists.new.items) left.1) }
+    ensures no_end { IfOk result (λ left. NoEnd left.0.now) }
+    ensures refused { (m : ℕ) → result ≡ Err (ScriptsFault.Line m) → RefusesText settings.now text.now (map (λ l. l.items) lists.old.items) number m }
+{
+    let mut rest = text;
+    let mut number = number;
+    while let Some((line, after)) = split_once(rest, b'\n') {
+        match take_line(settings, line, lists) {
+            Ok(()) => {}
+            Err(LineFault::OutOfMemory) => return Err(ScriptsFault::OutOfMemory),
+            Err(LineFault::Refused) => return Err(ScriptsFault::Line(number)),
+        }
+        // A text of 2^64 lines has no place in memory, and a source with as many is never read to its end.
+        let Some(next) = number.checked_add(1) else {
+            return Err(ScriptsFault::OutOfMemory);
+        };
+        number = next;
+        rest = after;
+    }
+    Ok((rest, number))
+}
+
 /// Reads each CPU's entries.
 fn read_lists(
     alloc: Global,
@@ -118,19 +154,10 @@ fn read_lists(
     ensures fault { IfErr result (NamesFirstBad settings.now text.now) }
 {
     let mut lists = empty_lists(alloc, settings.cpus())?;
-    let mut rest = text;
-    let mut number = 1;
-    while !rest.is_empty() {
-        let Some((line, after)) = split_once(rest, b'\n') else {
-            return Err(ScriptsFault::Line(number));
-        };
-        match take_line(settings, line, &mut lists) {
-            Ok(()) => {}
-            Err(LineFault::OutOfMemory) => return Err(ScriptsFault::OutOfMemory),
-            Err(LineFault::Refused) => return Err(ScriptsFault::Line(number)),
-        }
-        rest = after;
-        number += 1;
+    let (rest, number) = take_text(settings, text, 1, &mut lists)?;
+    if rest.is_empty() {
+        Ok(lists)
+    } else {
+        Err(ScriptsFault::Line(number))
     }
-    Ok(lists)
 }

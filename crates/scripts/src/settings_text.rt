@@ -6,9 +6,11 @@ ghost use Rattle.toml.specs.View.{view, table_view, items_view};
 ghost use Rattle.scripts.specs.Settings.{SettingsFit};
 ghost use Rattle.std.specs.List.{list_any};
 ghost use Rattle.std.specs.Str.{bytes_eq};
-ghost use Rattle.scripts.specs.SettingsText.{key_word, Settles, SpellsSettings, NamesFirstFault, ok_map, key_in, at_key, find_key, number_from, name_from, kind_from, lock_from, items_from, has_only, keys_of, params_in, object_in, object_from, objects_from, settings_in, settings_of, unknown_key};
+ghost use Rattle.scripts.specs.Answers.{ok_map};
+ghost use Rattle.scripts.specs.SettingsText.{key_word, Settles, SpellsSettings, NamesFirstFault, key_in, at_key, find_key, number_from, name_from, kind_from, lock_from, items_from, has_only, keys_of, params_in, object_in, object_from, objects_from, settings_in, settings_of, unknown_key};
 
 use crate::name::name_of;
+use crate::named::is_taken;
 use crate::read::sample;
 use crate::{
     BadSettings, Cause, KParams, ObjectSettings, Place, Settings, SettingsFault, SettingsKey,
@@ -75,12 +77,11 @@ fn number_of(table: &Table, place: Place, key: SettingsKey, high: u32) -> Result
     at(place, key, number(value, high))
 }
 
-/// Whether one of the objects has the name.
-fn is_taken(name: &str, objects: &[ObjectSettings]) -> bool
-    ensures { result ≡ list_any (λ o. bytes_eq o.name name.now) objects.now }
+/// Whether one of the earlier objects has the name.
+fn is_repeated(name: &str, earlier: &[ObjectSettings]) -> bool
+    ensures { result ≡ list_any (λ o. bytes_eq o.name name.now) earlier.now }
 {
-    let name = name.as_bytes();
-    objects.iter().any(|object| object.name() == name)
+    is_taken(earlier, name.as_bytes())
 }
 
 /// A name that no earlier object has.
@@ -94,7 +95,7 @@ fn name(value: &Value, earlier: &[ObjectSettings]) -> Result<ArrayString<16>, Ca
     let Some(name) = name_of(text) else {
         return Err(Cause::BadWord);
     };
-    if is_taken(text, earlier) {
+    if is_repeated(text, earlier) {
         return Err(Cause::Repeated);
     }
     Ok(name)

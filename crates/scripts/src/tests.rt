@@ -1,6 +1,8 @@
 //! Objects of each kind as one object of the kernel, and the words of all values.
 
+mod record;
 mod settings;
+mod source;
 
 use crate::{Buffered, KCall, KParams, KReply, KernelObject, Spelled, fits, put_value, value};
 use console_ring::ConsoleCall;

@@ -1,11 +1,12 @@
 //! The words of a line, from left to right.
 
-ghost use Rattle.std.specs.Prelude.{◌≡◌, ◌≤◌, IfSome};
+ghost use Rattle.std.specs.Prelude.{◌≡◌, ◌≤◌, ◌<◌, ◌+◌, ℕ, Some, IfSome, IfNone, decimal};
+ghost use Rattle.std.specs.Int.{IsInRange};
 ghost use Rattle.std.specs.Option.{option_map};
-ghost use Rattle.scripts.specs.Reading.{left, word_at, key_at, number_in, number_at};
+ghost use Rattle.std.specs.Str.Parse.{digits_value};
+ghost use Rattle.scripts.specs.Reading.{AreDigits, left, word_at, key_at, number_in, number_at};
 
 use crate::split::split_once;
-use itoa::Buffer;
 
 /// The words that are left of a line: those of the bytes, or none.
 pub type Words<'a> = Option<&'a [u8]>;
@@ -31,22 +32,48 @@ pub fn key<'a>(key: &[u8], at: Words<'a>) -> Option<Words<'a>>
     if word == key { Some(rest) } else { None }
 }
 
+/// The value of a digit.
+fn digit(byte: u8) -> Option<u64>
+    ensures found { IfSome result (λ d. (byte ≡ 48 + d) × (d < 10)) }
+    ensures none { IfNone result (IsInRange 48 57 byte → ⊥) }
+{
+    if b'0' <= byte && byte <= b'9' {
+        Some(u64::from(byte - b'0'))
+    } else {
+        None
+    }
+}
+
+/// The value of digits, if it is at most `high`.
+fn digits(word: &[u8], high: u64) -> Option<u64>
+    ensures digits { IfSome result (λ _. AreDigits word.now) }
+    ensures value { IfSome result (λ n. n ≡ digits_value 10 word.now) }
+    ensures bound { IfSome result (λ n. n ≤ high) }
+    ensures none { IfNone result (AreDigits word.now → high < digits_value 10 word.now) }
+{
+    let mut number: u64 = 0;
+    for byte in word {
+        let digit = digit(*byte)?;
+        number = number.checked_mul(10)?.checked_add(digit)?;
+        if number > high {
+            return None;
+        }
+    }
+    Some(number)
+}
+
 /// The number of at most `high` whose decimal text the word is.
 pub fn number_of(word: &[u8], high: u64) -> Option<u64>
     ensures value { result ≡ number_in high word.now }
     ensures bound { IfSome result (λ n. n ≤ high) }
+    ensures found { IfSome result (λ n. word.now ≡ decimal n) }
+    ensures only { (n : ℕ) → n ≤ high → word.now ≡ decimal n → result ≡ Some n }
 {
-    let Ok(text) = std::str::from_utf8(word) else {
+    let first = word.first()?;
+    if *first == b'0' && word.len() > 1 {
         return None;
-    };
-    let Ok(number) = text.parse::<u64>() else {
-        return None;
-    };
-    if number <= high && Buffer::new().format(number).as_bytes() == word {
-        Some(number)
-    } else {
-        None
     }
+    digits(word, high)
 }
 
 /// The number of at most `high` that is next.

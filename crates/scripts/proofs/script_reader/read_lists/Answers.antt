@@ -1,27 +1,30 @@
-use Rattle.std.proofs.Common.{◌≡◌, ◌<◌, [], map, length, arith, ◌∙◌, sym, ap, Err}
-use Rattle.std.proofs.lemmas.Grind.{common_steps}
+use Rattle.std.proofs.Common.{[], Err, sym, ap, ◌∙◌}
 use Rattle.std.proofs.lemmas.List.{length-map}
 use Rattle.scripts.specs.ScriptText.{dealt}
-use Rattle.scripts.proofs.ScriptLines.{starts, counted, line_taken, bad_line, bad_end}
+use Rattle.scripts.proofs.Cuts.{is_nothing, is_something}
+use Rattle.scripts.proofs.ScriptLines.{starts, counted, whole, bad_end}
+use Rattle.scripts.proofs.ScriptTexts.{whole_taken, whole_refused, refusal_names}
 use Rattle.scripts.proofs.script_reader.read_lists.Goals as goal
 
-pub loop-rest-init : goal.loop-rest-init
-loop-rest-init c = starts c.args.settings.now c.args.text.now _ (c.in_ok-lists.ensures.lists ∙ ap (λ n. dealt n []) c.cpus.ensures.cpus)
+pub take_text-requires : goal.take_text-requires
+take_text-requires c =
+    let empty = c.in_ok-lists.ensures.lists ∙ ap (λ n. dealt n []) c.cpus.ensures.cpus in
+    sym (length-map c.in_ok-lists.lists.items (λ l. l.items)) ∙ counted c.args.settings.now [] [] _ 1 (starts c.args.settings.now [] _ empty)
 
-pub returns-in_default-clause-fault : goal.returns-in_default-clause-fault
-returns-in_default-clause-fault c =
-    let some : 0 < length c.loop-rest.rest.now = grind (arith, common_steps) in
-    bad_end c.args.settings.now c.args.text.now c.loop-rest.rest.now _ c.loop-rest.number c.loop-rest.invariant c.in_default.ensures.none some
+pub returns-in_err-rest-clause-fault : goal.returns-in_err-rest-clause-fault
+returns-in_err-rest-clause-fault c =
+    let empty = c.in_ok-lists.ensures.lists ∙ ap (λ n. dealt n []) c.cpus.ensures.cpus in
+    refusal_names c.args.settings.now c.args.text.now c.in_err-rest.field-0.0 c.from_residual-in_err-rest.result c.from_residual-in_err-rest.ensures.1
+    (λ m e. whole_refused c.args.settings.now c.args.text.now _ m empty (c.take_text.ensures.refused m (c.in_err-rest.was ∙ ap Err e)))
 
-pub take_line-requires : goal.take_line-requires
-take_line-requires c = sym (length-map c.loop-rest.lists.items (λ l. l.items)) ∙ counted c.args.settings.now c.args.text.now c.loop-rest.rest.now _ c.loop-rest.number c.loop-rest.invariant
+pub returns-then-is_empty-clause-found : goal.returns-then-is_empty-clause-found
+returns-then-is_empty-clause-found c =
+    let empty = c.in_ok-lists.ensures.lists ∙ ap (λ n. dealt n []) c.cpus.ensures.cpus in
+    whole c.args.settings.now c.args.text.now _ c.in_ok-rest.number c.in_ok-rest.rest.now (is_nothing c.in_ok-rest.rest.now c.if-is_empty.ensures)
+    (whole_taken c.args.settings.now c.args.text.now c.in_ok-rest.rest.now _ _ c.in_ok-rest.number empty c.in_ok-rest.ensures.ok)
 
-pub returns-in-Err-Refused-clause-fault : goal.returns-in-Err-Refused-clause-fault
-returns-in-Err-Refused-clause-fault c =
-    bad_line c.args.settings.now c.args.text.now c.loop-rest.rest.now c.in-Some.after.now c.in-Some.line.now _ c.loop-rest.number c.loop-rest.invariant
-    c.in-Some.ensures.found.0 c.in-Some.ensures.found.1 (c.take_line.ensures.refused (c.in-Err-Refused.is ∙ ap Err c.in-Err-Refused.field-0-is))
-
-pub loop-rest-preserved : goal.loop-rest-preserved
-loop-rest-preserved c =
-    line_taken c.args.settings.now c.args.text.now c.loop-rest.rest.now c.in-Some.after.now c.in-Some.line.now _ _ c.loop-rest.number c.loop-rest.invariant
-    c.in-Some.ensures.found.0 c.in-Some.ensures.found.1 c.in-Ok.ensures.ok
+pub returns-else-is_empty-clause-fault : goal.returns-else-is_empty-clause-fault
+returns-else-is_empty-clause-fault c =
+    let empty = c.in_ok-lists.ensures.lists ∙ ap (λ n. dealt n []) c.cpus.ensures.cpus in
+    bad_end c.args.settings.now c.args.text.now c.in_ok-rest.rest.now _ c.in_ok-rest.number
+    (whole_taken c.args.settings.now c.args.text.now c.in_ok-rest.rest.now _ _ c.in_ok-rest.number empty c.in_ok-rest.ensures.ok) c.in_ok-rest.ensures.no_end (is_something c.in_ok-rest.rest.now c.if-is_empty.ensures)

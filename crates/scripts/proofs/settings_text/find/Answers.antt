@@ -1,4 +1,3 @@
-use Rattle.std.proofs.Common.{◌∙◌, ◌≡◌, ap, sym, Some, None}
 use Rattle.toml.proofs.Views.{table_get}
 use Rattle.scripts.specs.SettingsText.{find_key, at_key}
 use Rattle.scripts.proofs.settings_text.find.Goals as goal

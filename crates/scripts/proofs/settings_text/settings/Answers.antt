@@ -1,6 +1,7 @@
-use Rattle.std.proofs.Common.{◌≡◌, [], ◌∙◌, sym, ap, subst, Ok}
+use Rattle.std.proofs.Common.{[], ◌∙◌, sym, ap, subst, Ok}
 use Rattle.toml.specs.View.{table_view, items_view}
-use Rattle.scripts.specs.SettingsText.{settings_in, objects_from, ok_map}
+use Rattle.scripts.specs.Answers.{ok_map}
+use Rattle.scripts.specs.SettingsText.{settings_in, objects_from}
 use Rattle.scripts.proofs.SettingsTables.{refused, passed, settles_first, if_refused, if_passed}
 use Rattle.scripts.proofs.SettingsFits.{settings_fit}
 use Rattle.scripts.specs.Settings.{SettingsFit}

@@ -1,4 +1,4 @@
-use Rattle.std.proofs.Common.{◌≡◌, arith}
+use Rattle.std.proofs.Common.{arith}
 use Rattle.scripts.proofs.Schedules.{few_cpus}
 use Rattle.scripts.proofs.schedule.Schedule.read.Goals as goal
 

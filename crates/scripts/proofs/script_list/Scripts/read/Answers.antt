@@ -1,8 +1,8 @@
-use Rattle.std.proofs.Common.{◌≡◌, ◌≤◌, ◌∙◌, List, length, sym, ap, subst, arith}
+use Rattle.std.proofs.Common.{◌≡◌, List, length, sym, subst, arith}
 use Rattle.scripts.specs.declared.script_reader.ScriptsFault.TheVariants.{Line}
 use Rattle.scripts.specs.ScriptFaults.{NamesFirstBad}
 use Rattle.scripts.specs.KernelTypes.{KernelTodo}
-use Rattle.scripts.specs.ScriptText.{ScriptsFit, AreScripts, IsFirstBad}
+use Rattle.scripts.specs.ScriptText.{ScriptsFit, IsFirstBad}
 use Rattle.scripts.proofs.ScriptLines.{scripts_fit}
 use Rattle.scripts.proofs.ScriptRanges.{scripts_within}
 use Rattle.scripts.proofs.ScriptVerdicts.{bad_is_not_good}

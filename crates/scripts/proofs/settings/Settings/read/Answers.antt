@@ -1,4 +1,4 @@
-use Rattle.std.proofs.Common.{◌≡◌, subst, refl, IsTrue}
+use Rattle.std.proofs.Common.{subst, refl, IsTrue}
 use Rattle.std.proofs.lemmas.Bool.{false≢true}
 use Rattle.scripts.specs.SettingsText.{settings_of, settings_in}
 use Rattle.scripts.proofs.SettingsTables.{found_ok, first_fault}
