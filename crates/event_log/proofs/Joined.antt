@@ -65,7 +65,7 @@ pub fits_one_more : (n : ℕ) (r : List ℕ) (ls : List (List ℕ)) (c : ℕ) �
 fits_one_more n r ls c lt few = omega (arith, length_with r ls c lt, few)
 
 -- a list is its first element and the rest
-pub front_and_rest : (xs : List ℕ) (x : ℕ) → 0 < length xs → x ≡ get_or xs 0 x → xs ≡ x ∷ remove xs 0
+pub front_and_rest : {X : Type 0} (xs : List X) (x : X) → 0 < length xs → x ≡ get_or xs 0 x → xs ≡ x ∷ remove xs 0
 front_and_rest [] x lt e = absurd (omega arith)
 front_and_rest (y ∷ ys) x lt e = ap (λ z. z ∷ ys) (sym e)
 

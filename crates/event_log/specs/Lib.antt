@@ -2,3 +2,4 @@ pub mod Distinct
 pub mod Log
 pub mod History
 pub mod Stream
+pub mod Entries

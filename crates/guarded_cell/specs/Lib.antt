@@ -1,3 +1,5 @@
 pub mod Kinds
 pub mod Groups
 pub mod Calls
+pub mod Workers
+pub mod Runs

@@ -6,6 +6,7 @@ mod cell;
 mod groups;
 mod lock;
 mod make;
+mod runs;
 #[cfg(test)]
 mod tests;
 mod whole;
@@ -13,5 +14,6 @@ mod whole;
 pub use callers::{call_all, call_on_two_threads, two_callers};
 pub use cell::AnyCell;
 pub use groups::MOST_GROUPS;
+pub use runs::joined_runs_are_sound;
 pub use whole::{batch, call, with_hold};
 pub use word_rule::{Hold as AnyHold, Pass as AnyPass};

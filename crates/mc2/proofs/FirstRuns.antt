@@ -3,7 +3,8 @@ use Rattle.std.proofs.Common.{◌≡◌, ℕ, ◌<◌, ◌^◌, List, [], ◌∷
 use Rattle.std.specs.List.{AllByRecursion}
 use Rattle.std.proofs.lemmas.List.{length-map}
 use Rattle.scripts.specs.KernelTypes.{KernelEntry, KernelTodo, KernelRun}
-use Rattle.scripts.specs.Runs.{asked_of, AsksFor, EntryAsks, TranscriptAsks}
+use Rattle.event_log.specs.Entries.{asked_of}
+use Rattle.scripts.specs.Runs.{AsksFor, EntryAsks, TranscriptAsks}
 use Rattle.scripts.specs.ScriptText.{TodoFits, ScriptFits}
 use Rattle.mc2.specs.FirstRun.{IsAble}
 

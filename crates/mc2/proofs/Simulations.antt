@@ -13,7 +13,8 @@ use Rattle.scripts.specs.declared.kernel_call.KCall.{KCall}
 use Rattle.scripts.specs.declared.kernel_call.KReply.{KReply}
 use Rattle.scripts.specs.declared.kernel_object.KernelObject.{KernelObject}
 use Rattle.scripts.specs.KernelTypes.{KernelEntry, KernelTodo, KernelRun}
-use Rattle.scripts.specs.Runs.{asked_of, AsksFirst, EntryAsks, TranscriptAsks}
+use Rattle.event_log.specs.Entries.{asked_of}
+use Rattle.scripts.specs.Runs.{AsksFirst, EntryAsks, TranscriptAsks}
 use Rattle.scripts.specs.ScriptText.{TodoFits, ScriptFits, ScriptsFit}
 use Rattle.scripts.specs.Settings.{Settings, ObjectSettings}
 use Rattle.word_rule.specs.Sound.{Opened}

@@ -18,7 +18,7 @@ use Rattle.event_log.specs.History.{History}
 use Rattle.event_log.proofs.Beginnings.{begins_rest}
 use Rattle.event_log.proofs.Each.{all_map, all_both, all_push}
 use Rattle.mc2.specs.FirstRun.{IsAble, Did, DoesEntry, HasDone, opened_in}
-use Rattle.scripts.specs.Runs.{asked_of}
+use Rattle.event_log.specs.Entries.{asked_of}
 use Rattle.word_rule.specs.declared.lock_kind.LockKind.TheVariants.{Ticket}
 use Rattle.word_rule.specs.Cell.{Cell, PassView, Grows, Lawful, IsPassView, OwnsAll, cell_of, first_pass, opening_pass}
 use Rattle.word_rule.specs.Answered.{IsAnswered, IsRefused, events_by}

@@ -9,7 +9,7 @@ use Rattle.event_log.specs.declared.entry.Done.TheVariants.{Steps, NoRoom}
 use Rattle.event_log.specs.declared.entry.Entry.{Entry}
 use Rattle.event_log.specs.declared.entry.Todo.{Todo}
 use Rattle.event_log.specs.declared.event.TheConstants.{MOST_CALLS}
-use Rattle.scripts.specs.Runs.{asked_of}
+use Rattle.event_log.specs.Entries.{asked_of}
 use Rattle.word_rule.specs.Cell.{PassView}
 use Rattle.word_rule.specs.Answered.{IsAnswered, IsRefused, events_by}
 use Rattle.word_rule.specs.Sound.{Opened, Answers, NoneAfterFull, done_on}

@@ -1,7 +1,7 @@
 //! A CPU's worker: it does its entries on a cell, one after another.
 
 ghost use Rattle.std.specs.Prelude.{◌≡◌, ◌<◌, ◌^◌, vec_capacity, IfOk, OnErr};
-ghost use Rattle.scripts.specs.Runs.{asked_of};
+ghost use Rattle.event_log.specs.Entries.{asked_of};
 ghost use Rattle.ticket_lock.specs.Passes.{IsPassOf};
 ghost use Rattle.word_rule.specs.Passes.{view_of_pass};
 ghost use Rattle.mc2.specs.FirstRun.{IsAble, DoesEntry};

@@ -29,7 +29,7 @@ use Rattle.scripts.specs.Settings.{Settings, ObjectSettings, SettingsFit, Object
 
 module _ {X : Type 0} (P : X → Type 0) where
   -- what holds at each place holds of each member
-  all_at : (xs : List X) → ((i : ℕ) (x : X) → slice_get xs i ≡ Some x → P x) → AllByRecursion P xs
+  pub all_at : (xs : List X) → ((i : ℕ) (x : X) → slice_get xs i ≡ Some x → P x) → AllByRecursion P xs
   all_at [] h = tt
   all_at (x ∷ xs) h = (h 0 x refl, all_at xs (λ i y e. h (suc i) y e))
 

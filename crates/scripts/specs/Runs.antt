@@ -1,8 +1,7 @@
 -- Runs of scripts under settings.
 use Rattle.std.specs.Prelude.{◌≡◌, ◌<◌, ◌≤◌, ◌^◌, ℕ, List, map, length}
 use Rattle.std.specs.List.{AllByRecursion, AllZip}
-use Rattle.event_log.specs.declared.entry.Entry.{Entry}
-use Rattle.event_log.specs.declared.entry.Todo.{Todo}
+use Rattle.event_log.specs.Entries.{asked_of}
 use Rattle.event_log.specs.Log.{Begins}
 use Rattle.word_rule.specs.Sound.{Opened}
 use Rattle.scripts.specs.declared.kernel_call.KParams.{KParams}
@@ -14,10 +13,6 @@ use Rattle.scripts.specs.Settings.{Settings}
 -- what the objects of the settings are opened with
 abbrev pub opened_of : Settings → List (Opened KParams)
 opened_of settings = map (λ o. record { params = o.params; limit = o.events }) settings.objects
-
--- what the entry was asked
-abbrev pub asked_of : {O P C R : Type 0} → Entry O P C R → Todo O P C R
-asked_of e = record { object = e.object; calls = e.asked }
 
 -- each CPU's transcript asks for its script
 abbrev pub AsksFor : List (List KernelTodo) → KernelRun → Type 0

@@ -2,6 +2,7 @@
 #![tactic(auto)]
 
 mod buffered;
+mod copies;
 mod field;
 mod head_lines;
 mod kernel_call;

@@ -1,11 +1,13 @@
 //! Scripts: what each CPU does.
 
-ghost use Rattle.std.specs.Prelude.{◌≡◌, ◌↔◌, IsTrue, length, map, nat_lt};
+ghost use Rattle.std.specs.Prelude.{◌≡◌, ◌↔◌, IsTrue, length, map, nat_lt, IfOk};
 ghost use Rattle.std.specs.List.{list_all};
 ghost use Rattle.scripts.specs.ScriptText.{ScriptsFit, ScriptsWithin};
 
+use crate::copies::copy_all;
 use crate::{KernelObject, Settings};
-use event_log::Todo;
+use event_log::{OutOfMemory, Todo};
+use std::alloc::Global;
 use std::marker::Model;
 
 /// The most entries of one CPU.
@@ -56,6 +58,14 @@ impl Scripts {
         lists
     }
 
+    /// The same scripts once more.
+    pub fn copy(&self, alloc: Global) -> Result<Scripts, OutOfMemory>
+        ensures { IfOk result (λ copy. copy ≡ self.now) }
+    {
+        let lists = copy_lists(alloc, self.lists())?;
+        Ok(Scripts::of(lists))
+    }
+
     /// Whether there is one script for each CPU of the settings, and each entry's object is one of theirs.
     pub fn fits(&self, settings: &Settings) -> bool
         ensures { IsTrue result ↔ ScriptsFit settings.now.cpus (length settings.now.objects) self.now }
@@ -63,6 +73,22 @@ impl Scripts {
         let objects = settings.objects().len();
         self.lists().len() == settings.cpus() as usize && are_on(self.lists(), objects)
     }
+}
+
+/// The same lists once more, each in memory that is taken at once.
+fn copy_lists(
+    alloc: Global,
+    lists: &[Vec<Todo<KernelObject>>],
+) -> Result<Vec<Vec<Todo<KernelObject>>>, OutOfMemory>
+    ensures { IfOk result (λ copies. map (λ l. l.items) copies.items ≡ map (λ l. l.items) lists.now) }
+{
+    let Ok(mut copies) = Vec::with_capacity(alloc, lists.len()) else {
+        return Err(OutOfMemory);
+    };
+    for list in lists {
+        copies.push_reserved(copy_all(alloc, list.as_slice())?);
+    }
+    Ok(copies)
 }
 
 /// Whether each entry is on one of so many objects.

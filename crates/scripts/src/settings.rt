@@ -4,6 +4,7 @@ ghost use Rattle.std.specs.Prelude.{◌≡◌, IfOk};
 ghost use Rattle.scripts.specs.Settings.{SettingsFit, built_in_settings};
 
 use crate::KParams;
+use crate::copies::{Copied, copy_all};
 use arrayvec::ArrayString;
 use event_log::{OutOfMemory, Series};
 use std::alloc::Global;
@@ -69,6 +70,13 @@ impl ObjectSettings {
         self.name.as_str().as_bytes()
     }
 
+    /// Its name, as text.
+    pub fn name_str(&self) -> &str
+        ensures { result.now ≡ self.now.name }
+    {
+        self.name.as_str()
+    }
+
     /// The kind of its lock.
     pub fn lock(&self) -> LockKind
         ensures { result ≡ self.now.lock }
@@ -88,6 +96,17 @@ impl ObjectSettings {
         ensures { result ≡ self.now.params }
     {
         self.params
+    }
+}
+
+impl Copied for ObjectSettings {
+    fn copied(&self) -> ObjectSettings {
+        ObjectSettings {
+            name: self.name,
+            lock: self.lock,
+            events: self.events,
+            params: self.params,
+        }
     }
 }
 
@@ -137,5 +156,13 @@ impl Settings {
         ensures fit { SettingsFit self.now }
     {
         self.objects.as_slice()
+    }
+
+    /// The same settings once more.
+    pub fn copy(&self, alloc: Global) -> Result<Settings, OutOfMemory>
+        ensures { IfOk result (λ copy. copy ≡ self.now) }
+    {
+        let objects = copy_all(alloc, self.objects())?;
+        Ok(Settings::new(self.cpus(), Series::from_vec(objects)))
     }
 }

@@ -17,13 +17,13 @@ use Rattle.word_rule.specs.Machine.SoundWorld.{SoundWorld, IsTodo, IsAnswer, ent
 use Rattle.word_rule.specs.Machine.World.{World, CellState, CpuState}
 use Rattle.word_rule.proofs.Slices.{get_map, one_of}
 
-zip_at : {X Y : Type 0} (R : X → Y → Type 0) (xs : List X) (ys : List Y) (k : ℕ) (x : X) (y : Y) → AllZip R xs ys → slice_get xs k ≡ Some x → slice_get ys k ≡ Some y → R x y
+pub zip_at : {X Y : Type 0} (R : X → Y → Type 0) (xs : List X) (ys : List Y) (k : ℕ) (x : X) (y : Y) → AllZip R xs ys → slice_get xs k ≡ Some x → slice_get ys k ≡ Some y → R x y
 zip_at R [] ys k x y z e f = cc
 zip_at R (a ∷ xs) [] k x y z e f = absurd z
 zip_at R (a ∷ xs) (b ∷ ys) zero x y z e f = subst (λ (t : _ × _). R t.0 t.1) (λ j. ((let p : a ≡ x = cc in p) j, (let q : b ≡ y = cc in q) j)) z.0
 zip_at R (a ∷ xs) (b ∷ ys) (suc k) x y z e f = zip_at R xs ys k x y z.1 e f
 
-all_at : {X : Type 0} (P : X → Type 0) (xs : List X) (k : ℕ) (x : X) → AllByRecursion P xs → slice_get xs k ≡ Some x → P x
+pub all_at : {X : Type 0} (P : X → Type 0) (xs : List X) (k : ℕ) (x : X) → AllByRecursion P xs → slice_get xs k ≡ Some x → P x
 all_at P [] k x h e = cc
 all_at P (a ∷ xs) zero x h e = subst P (let p : a ≡ x = cc in p) h.0
 all_at P (a ∷ xs) (suc k) x h e = all_at P xs k x h.1 e

@@ -1,0 +1,9 @@
+pub mod Places
+pub mod Sends
+pub mod Zips
+pub mod Deals
+pub mod Rows
+pub mod Runs
+pub mod Worlds
+pub mod Simulations
+pub mod Reports

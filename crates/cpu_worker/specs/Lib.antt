@@ -1,0 +1,4 @@
+pub mod Work
+pub mod Opening
+pub mod Report
+pub mod Simulation

@@ -1,0 +1,30 @@
+-- What a simulation does: scripts on the objects of the settings, one atomic step at a time, in the order of a schedule.
+use Rattle.std.specs.Prelude.{ℕ, List, [], map}
+use Rattle.word_rule.specs.Locks.{opening_lock}
+use Rattle.word_rule.specs.Machine.Opening.{opening_cpu}
+use Rattle.word_rule.specs.Machine.World.{World, CellState, run, run_of}
+use Rattle.scripts.specs.contracts.kernel_object.KernelObjectSeqObject.TheImpl.{ghosts as kernel}
+use Rattle.scripts.specs.declared.kernel_call.KParams.{KParams}
+use Rattle.scripts.specs.declared.kernel_call.KCall.{KCall}
+use Rattle.scripts.specs.declared.kernel_call.KReply.{KReply}
+use Rattle.scripts.specs.declared.kernel_object.KernelObject.{KernelObject}
+use Rattle.scripts.specs.KernelTypes.{KernelTodo, KernelRun}
+use Rattle.scripts.specs.Settings.{Settings, ObjectSettings}
+
+abbrev pub KernelWorld : Type 0
+KernelWorld = World KernelObject KParams KCall KReply
+
+abbrev pub KernelCell : Type 0
+KernelCell = CellState KernelObject KParams KCall KReply
+
+-- an object of the settings behind its lock, with the first ticket 0 and an empty log
+abbrev pub new_cell : ObjectSettings → KernelCell
+new_cell o = record { opened = record { params = o.params; limit = o.events }; lock = opening_lock o.lock 0; log = [] }
+
+-- the objects of the settings, and each CPU with its script, before the first step
+abbrev pub new_world : Settings → List (List KernelTodo) → KernelWorld
+new_world settings scripts = record { cells = map new_cell settings.objects; cpus = map opening_cpu scripts }
+
+-- the run whose steps are done in the order of the schedule
+unfoldable pub simulated : Settings → List (List KernelTodo) → List ℕ → KernelRun
+simulated settings scripts steps = run_of (run kernel steps (new_world settings scripts))

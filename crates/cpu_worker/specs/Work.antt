@@ -1,0 +1,34 @@
+-- What a CPU's worker on objects of the kernel is given, and what it leaves.
+use Rattle.std.specs.Prelude.{◌≡◌, ℕ, ◌≤◌, List, [], map, length}
+use Rattle.std.specs.List.{AllByRecursion}
+use Rattle.guarded_cell.specs.Workers.{ArePasses, HasDone}
+use Rattle.scripts.specs.contracts.kernel_object.KernelObjectSeqObject.TheImpl.{ghosts as kernel}
+use Rattle.scripts.specs.declared.kernel_call.KParams.{KParams}
+use Rattle.scripts.specs.declared.kernel_call.KCall.{KCall}
+use Rattle.scripts.specs.declared.kernel_call.KReply.{KReply}
+use Rattle.scripts.specs.declared.kernel_object.KernelObject.{KernelObject}
+use Rattle.scripts.specs.declared.script_list.TheConstants.{MOST_ENTRIES}
+use Rattle.scripts.specs.KernelTypes.{KernelTodo, KernelEntry}
+use Rattle.word_rule.specs.Cell.{Cell, PassView}
+use Rattle.word_rule.specs.Machine.SoundWorld.{IsTodo}
+
+-- a caller of a cell around an object of the kernel, and such a cell
+abbrev pub KernelView : Type 0
+KernelView = PassView KernelObject KParams KCall KReply
+
+abbrev pub KernelCell : Type 0
+KernelCell = Cell KernelObject KParams KCall KReply
+
+module _ {T S : Type 0} (is_pass_of : T → S → Type 0) where
+  -- a pass of each cell, entries that can be done on them, and an empty transcript that has room for them
+  pub record IsReady (cells : List T) (given : List S) (todos : List KernelTodo) (transcript : List KernelEntry) (capacity : ℕ) : Type 0 where
+    pub passes : ArePasses is_pass_of cells given
+    pub able : AllByRecursion (λ t. IsTodo (length cells) t) todos
+    pub few : length todos ≤ MOST_ENTRIES
+    pub empty : transcript ≡ []
+    pub room : length todos ≤ capacity
+
+  -- a pass of each cell again, and what became of the entries
+  pub record IsDone (pass_view : S → KernelView) (cells : List T) (before : List S) (todos : List KernelTodo) (after : List S) (entries : List KernelEntry) : Type 0 where
+    pub passes : ArePasses is_pass_of cells after
+    pub done : HasDone kernel (map pass_view before) todos entries (map pass_view after)

@@ -1,0 +1,26 @@
+//! Opening an object of settings.
+
+ghost use Rattle.std.specs.Prelude.{◌≡◌, IfOk};
+ghost use Rattle.event_log.specs.History.{IsKept, opened_history};
+ghost use Rattle.scripts.specs.Settings.{ObjectFits};
+
+use event_log::{Logged, OpenFault, OutOfMemory, SeqObject};
+use scripts::{KernelObject, ObjectSettings, parameters_fit};
+use std::alloc::Global;
+
+/// Opens an object of settings, which are within its limits.
+pub fn open_object(
+    alloc: Global,
+    object: &ObjectSettings,
+) -> Result<Logged<KernelObject>, OutOfMemory>
+    requires { ObjectFits object.now }
+    ensures opened { IfOk result (λ l. l ≡ opened_history object.now.params object.now.events (⟦<KernelObject as SeqObject>⟧.opening object.now.params)) }
+    ensures kept { IfOk result (λ l. IsKept ⟦<KernelObject as SeqObject>⟧ l) }
+{
+    parameters_fit();
+    match Logged::open(alloc, object.params(), object.events()) {
+        Ok(logged) => Ok(logged),
+        Err(OpenFault::OutOfMemory) => Err(OutOfMemory),
+        Err(OpenFault::BadLimit) => unreachable!(),
+    }
+}

@@ -1,0 +1,157 @@
+//! A thread for each CPU.
+
+ghost use Rattle.std.specs.Prelude.{◌≡◌, ◌<◌, ◌≤◌, ℕ, [], IfOk, length, vec_len, vec_capacity};
+ghost use Rattle.std.specs.List.{AllByRecursion, AllZip};
+ghost use Rattle.std.specs.Thread.{IsSync};
+ghost use Rattle.word_rule.specs.declared.key.TheConstants.{MOST_CPUS};
+ghost use Rattle.word_rule.specs.Passes.{view_of_pass};
+ghost use Rattle.guarded_cell.specs.Kinds.{IsPassOf};
+ghost use Rattle.cpu_worker.specs.Work.{IsReady, IsDone};
+
+use crate::gate::Gate;
+use crate::worker::do_script;
+use event_log::{Entry, OutOfMemory, Todo};
+use guarded_cell::{AnyCell, AnyPass};
+use scripts::KernelObject;
+use std::snapshot::Snapshot;
+use std::sync::Wait;
+use std::thread;
+use std::thread::{Promise, PromisedHandle, Threads};
+
+/// Why there is no run.
+#[derive(Clone, Copy, Debug, PartialEq, Eq, Drop)]
+pub enum RunFault {
+    /// No thread was started.
+    OutOfMemory,
+    /// The least CPU whose thread wasn't started. The workers that ran have ended.
+    NoThreadStarted(u8),
+}
+
+impl From<OutOfMemory> for RunFault {
+    ghost use Rattle.cpu_worker.specs.declared.threads.RunFault.TheVariants.{OutOfMemory};
+
+    ghost from_gives = { λ _ fault. fault ≡ OutOfMemory };
+
+    fn from(fault: OutOfMemory) -> RunFault {
+        let OutOfMemory = fault;
+        RunFault::OutOfMemory
+    }
+}
+
+/// A cell around an object of the kernel.
+pub type KernelCell = AnyCell<KernelObject>;
+
+/// A pass of such a cell.
+pub type KernelPass = AnyPass<KernelObject>;
+
+/// What a worker leaves: a pass of each object in order, and its transcript.
+pub type Finished = (Vec<KernelPass>, Vec<Entry<KernelObject>>);
+
+/// A worker's thread.
+pub type Handle = PromisedHandle<Finished, DoesScript>;
+
+/// What a worker is given: a pass of each object in order, its script, and room for its transcript.
+#[derive(Drop)]
+pub struct Job {
+    pub passes: Vec<KernelPass>,
+    pub todos: Vec<Todo<KernelObject>>,
+    pub transcript: Vec<Entry<KernelObject>>,
+}
+
+/// A worker does its script on the cells.
+#[derive(Drop)]
+pub struct DoesScript {
+    cells: Snapshot<Vec<KernelCell>>,
+    job: Snapshot<Job>,
+}
+
+impl Promise<Finished> for DoesScript {
+    ghost kept_by = { λ p r. IsDone IsPassOf view_of_pass p.cells.value.items p.job.value.passes.items p.job.value.todos.items r.0.items r.1.items };
+}
+
+/// What a worker's thread does.
+fn do_job<G: Gate, R: Wait>(
+    rt: &R,
+    gate: &G,
+    cpu: u8,
+    cells: &Vec<KernelCell>,
+    passes: Vec<KernelPass>,
+    todos: Vec<Todo<KernelObject>>,
+    transcript: Vec<Entry<KernelObject>>,
+) -> Finished
+    requires { IsReady IsPassOf cells.now.items passes.items todos.items transcript.items (vec_capacity transcript) }
+    ensures { IsDone IsPassOf view_of_pass cells.now.items passes.items todos.items result.0.items result.1.items }
+{
+    do_script(rt, gate, cpu, cells.as_slice(), passes, todos, transcript)
+}
+
+/// Waits for all workers. There is room for what they leave.
+fn join_all<R: Threads>(rt: &R, handles: Vec<Handle>, finished: Vec<Finished>) -> Vec<Finished>
+    requires room { (finished.items ≡ []) × (vec_len handles ≤ vec_capacity finished) }
+    ensures { AllZip (λ h r. IsDone IsPassOf view_of_pass h.promise.cells.value.items h.promise.job.value.passes.items h.promise.job.value.todos.items r.0.items r.1.items) handles.items result.items }
+{
+    let mut finished = finished;
+    for handle in handles {
+        finished.push_reserved(handle.join(rt));
+    }
+    finished
+}
+
+/// Starts a thread for each job, CPU by CPU, and waits for all. At the first thread that isn't started no further one is
+/// started, and the workers that run end their scripts.
+pub fn on_threads<G: Gate + Sync, R: Threads + Wait + Sync>(
+    rt: &R,
+    gate: &G,
+    cells: &Vec<KernelCell>,
+    jobs: Vec<Job>,
+    handles: Vec<Handle>,
+    finished: Vec<Finished>,
+) -> Result<Vec<Finished>, RunFault>
+    requires few { vec_len jobs ≤ MOST_CPUS }
+    requires ready { AllByRecursion (λ j. IsReady IsPassOf cells.now.items j.passes.items j.todos.items j.transcript.items (vec_capacity j.transcript)) jobs.items }
+    requires handles { (handles.items ≡ []) × (vec_len jobs ≤ vec_capacity handles) }
+    requires finished { (finished.items ≡ []) × (vec_len jobs ≤ vec_capacity finished) }
+    ensures done { IfOk result (λ r. AllZip (λ j f. IsDone IsPassOf view_of_pass cells.now.items j.passes.items j.todos.items f.0.items f.1.items) jobs.items r.items) }
+    ensures cpu { (cpu : ℕ) → result ≡ Err (RunFault.NoThreadStarted cpu) → cpu < length jobs.items }
+{
+    thread::scope(
+        thread::scope_env(),
+        rt,
+        move |scope| -> Result<Vec<Finished>, RunFault>
+            requires shares { IsSync R.row }
+            requires gate { IsSync G.row }
+            requires few { vec_len jobs ≤ MOST_CPUS }
+            requires ready { AllByRecursion (λ j. IsReady IsPassOf cells.now.items j.passes.items j.todos.items j.transcript.items (vec_capacity j.transcript)) jobs.items }
+            requires handles { (handles.items ≡ []) × (vec_len jobs ≤ vec_capacity handles) }
+            requires finished { (finished.items ≡ []) × (vec_len jobs ≤ vec_capacity finished) }
+            ensures done { IfOk result (λ r. AllZip (λ j f. IsDone IsPassOf view_of_pass cells.entry.now.items j.passes.items j.todos.items f.0.items f.1.items) jobs.items r.items) }
+            ensures cpu { (cpu : ℕ) → result ≡ Err (RunFault.NoThreadStarted cpu) → cpu < length jobs.items }
+        {
+            let mut handles = handles;
+            let mut cpu = 0;
+            for job in jobs {
+                let promise = DoesScript {
+                    cells: Snapshot::of(cells),
+                    job: Snapshot::of(&job),
+                };
+                let Job {
+                    passes,
+                    todos,
+                    transcript,
+                } = job;
+                let Ok(handle) = scope.spawn_with(
+                    promise,
+                    move || -> Finished
+                        requires { IsReady IsPassOf cells.now.items passes.items todos.items transcript.items (vec_capacity transcript) }
+                        ensures { IsDone IsPassOf view_of_pass cells.entry.now.items passes.items todos.items result.0.items result.1.items }
+                    { do_job(rt, gate, cpu, cells, passes, todos, transcript) },
+                ) else {
+                    return Err(RunFault::NoThreadStarted(cpu));
+                };
+                handles.push_reserved(handle);
+                cpu += 1;
+            }
+            Ok(join_all(rt, handles, finished))
+        },
+    )
+}

@@ -1,0 +1,40 @@
+//! Values once more.
+
+ghost use Rattle.std.specs.Prelude.{◌≡◌, IfOk};
+
+use crate::KernelObject;
+use arrayvec::ArrayVec;
+use event_log::{OutOfMemory, Todo};
+use std::alloc::Global;
+
+/// What can be had once more without taking memory.
+pub(crate) trait Copied: Drop {
+    /// The same once more.
+    fn copied(&self) -> Self
+        ensures { result ≡ self.now };
+}
+
+impl Copied for Todo<KernelObject> {
+    fn copied(&self) -> Todo<KernelObject> {
+        let Ok(calls) = ArrayVec::try_from(self.calls.as_slice()) else {
+            unreachable!()
+        };
+        Todo {
+            object: self.object,
+            calls,
+        }
+    }
+}
+
+/// The same values once more, in memory that is taken at once.
+pub(crate) fn copy_all<T: Copied>(alloc: Global, values: &[T]) -> Result<Vec<T>, OutOfMemory>
+    ensures { IfOk result (λ copies. copies.items ≡ values.now) }
+{
+    let Ok(mut copies) = Vec::with_capacity(alloc, values.len()) else {
+        return Err(OutOfMemory);
+    };
+    for value in values {
+        copies.push_reserved(value.copied());
+    }
+    Ok(copies)
+}
