@@ -1,20 +1,21 @@
--- What the program prints: the record of a run, or of a simulation.
-use Rattle.std.specs.Prelude.{◌≡◌, ◌⊎◌, ℕ, List, Option, Some}
+-- What the program prints: the record of a run, or of a simulation, or the report on a record.
+use Rattle.std.specs.Prelude.{◌≡◌, ◌⊎◌, ℕ, List, Option, Some, None}
 use Rattle.std.specs.Borrow.{Bor}
 use Rattle.std.specs.Io.KnownBytes.{Appends}
 use Rattle.std.specs.Option.{option_map}
+use Rattle.cpu_worker.specs.Report.{report_text}
+use Rattle.cpu_worker.specs.Simulation.{simulated}
 use Rattle.word_rule.specs.Sound.{Sound}
 use Rattle.scripts.specs.contracts.kernel_object.KernelObjectSeqObject.TheImpl.{ghosts as kernel}
 use Rattle.scripts.specs.KernelTypes.{KernelTodo}
 use Rattle.scripts.specs.Output.{AppendsBeginning}
+use Rattle.scripts.specs.RecordFaults.{IsWhole, text_of}
 use Rattle.scripts.specs.RecordRanges.{Record}
-use Rattle.scripts.specs.RecordText.{record_text}
 use Rattle.scripts.specs.Runs.{opened_of, AsksFor}
 use Rattle.scripts.specs.ScheduleText.{IsSchedule}
 use Rattle.scripts.specs.ScriptText.{AreScripts}
 use Rattle.scripts.specs.Settings.{Settings, built_in_settings}
 use Rattle.scripts.specs.SettingsText.{SpellsSettings}
-use Rattle.mc2.specs.Simulation.{simulated}
 
 -- the bytes of a name, if there is one
 abbrev pub bytes_of : Option (Bor (List ℕ)) → Option (List ℕ)
@@ -43,32 +44,49 @@ pub record IsSimulationOf (settings : Settings) (text turns : List ℕ) (r : Rec
   pub sound : Sound kernel (opened_of settings) r.run
 
 module _ (held : Option (List ℕ) → Option (List ℕ)) where
-  -- what `run` answers: a run of the scripts under that name
-  abbrev pub AnswersRun : Option (List ℕ) → Record → Type 0
-  AnswersRun name r = (text : List ℕ) × Reads held name text × IsRunOf built_in_settings text r
+  -- the settings under that name, or the built-in ones
+  abbrev pub ReadsSettings : Option (List ℕ) → Settings → Type 0
+  ReadsSettings None given = given ≡ built_in_settings
+  ReadsSettings (Some name) given = (text : List ℕ) × Reads held (Some name) text × SpellsSettings text given
 
-  -- the settings under that name
-  abbrev pub ReadsSettings : List ℕ → Settings → Type 0
-  ReadsSettings name given = (text : List ℕ) × Reads held (Some name) text × SpellsSettings text given
+  -- what `run` answers: a run of the scripts under that name, on the objects of the settings
+  pub record AnswersRun (settings scripts : Option (List ℕ)) (r : Record) : Type 0 where
+    pub given : Settings
+    pub set : ReadsSettings settings given
+    pub text : List ℕ
+    pub read : Reads held scripts text
+    pub is : IsRunOf given text r
 
   -- what `sim` answers: the simulation of the scripts and the schedule under those names, on the objects of the settings
   pub record AnswersSim (settings scripts schedule : List ℕ) (r : Record) : Type 0 where
     pub given : Settings
-    pub set : ReadsSettings settings given
+    pub set : ReadsSettings (Some settings) given
     pub text : List ℕ
     pub read : Reads held (Some scripts) text
     pub turns : List ℕ
     pub scheduled : Reads held (Some schedule) turns
     pub is : IsSimulationOf given text turns r
 
-  -- what words of some form answer
-  abbrev pub Answers : Record → Type 0
-  Answers r = ((name : Option (List ℕ)) × AnswersRun name r) ⊎ ((settings : List ℕ) × (scripts : List ℕ) × (schedule : List ℕ) × AnswersSim settings scripts schedule r)
+  -- what `report` answers: the report on the record under that name
+  pub record AnswersReport (name : Option (List ℕ)) (answer : List ℕ) : Type 0 where
+    pub bytes : List ℕ
+    pub read : Reads held name bytes
+    pub of : Record
+    pub spelled : IsWhole bytes of
+    pub is : answer ≡ report_text of
 
--- known contents grew by the text of such a record
-abbrev pub Prints : (Record → Type 0) → Option (List ℕ) → Option (List ℕ) → Type 0
-Prints Is old new = (r : Record) × Is r × Appends old new (record_text r.settings r.run)
+  -- a record that words of some form answer
+  abbrev pub AnswersRecord : Record → Type 0
+  AnswersRecord r = ((settings scripts : Option (List ℕ)) × AnswersRun settings scripts r) ⊎ ((settings scripts schedule : List ℕ) × AnswersSim settings scripts schedule r)
 
--- known contents grew by a beginning of the text of such a record
-abbrev pub PrintsSome : (Record → Type 0) → Option (List ℕ) → Option (List ℕ) → Type 0
-PrintsSome Is old new = (r : Record) × Is r × AppendsBeginning old new (record_text r.settings r.run)
+  -- the text that words of some form answer
+  abbrev pub Answers : List ℕ → Type 0
+  Answers text = ((r : Record) × AnswersRecord r × (text ≡ text_of r)) ⊎ ((name : Option (List ℕ)) × AnswersReport name text)
+
+-- known contents grew by such a text
+abbrev pub Prints : (List ℕ → Type 0) → Option (List ℕ) → Option (List ℕ) → Type 0
+Prints Is old new = (text : List ℕ) × Is text × Appends old new text
+
+-- known contents grew by a beginning of such a text
+abbrev pub PrintsSome : (List ℕ → Type 0) → Option (List ℕ) → Option (List ℕ) → Type 0
+PrintsSome Is old new = (text : List ℕ) × Is text × AppendsBeginning old new text

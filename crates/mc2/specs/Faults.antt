@@ -1,6 +1,10 @@
 -- Which refusal of the program each cause becomes, and the status that it ends with.
 use Rattle.std.specs.Prelude.{ℕ}
+use Rattle.cpu_worker.specs.declared.threads.RunFault.{RunFault}
+use Rattle.cpu_worker.specs.declared.threads.RunFault.TheVariants as run
 use Rattle.event_log.specs.declared.object.OutOfMemory.{OutOfMemory}
+use Rattle.scripts.specs.declared.record_fault.RecordFault.{RecordFault}
+use Rattle.scripts.specs.declared.record_fault.RecordFault.TheVariants as records
 use Rattle.scripts.specs.declared.schedule.ScheduleFault.{ScheduleFault}
 use Rattle.scripts.specs.declared.schedule.ScheduleFault.TheVariants as schedule
 use Rattle.scripts.specs.declared.script_source.ScriptsReadFault.{ScriptsReadFault}
@@ -12,8 +16,6 @@ use Rattle.scripts.specs.declared.source_reader.ReadFault.TheVariants as read
 use Rattle.scripts.specs.declared.written.WriteFailed.{WriteFailed}
 use Rattle.mc2.specs.declared.fault.Fault.{Fault}
 use Rattle.mc2.specs.declared.fault.Fault.TheVariants as fault
-use Rattle.mc2.specs.declared.first_run.RunFault.{RunFault}
-use Rattle.mc2.specs.declared.first_run.RunFault.TheVariants as run
 
 abbrev pub of_memory : OutOfMemory → Fault
 of_memory e = fault.OutOfMemory
@@ -39,6 +41,10 @@ abbrev pub of_schedule : ScheduleFault → Fault
 of_schedule schedule.OutOfMemory = fault.OutOfMemory
 of_schedule (schedule.Word n) = fault.BadSchedule n
 
+abbrev pub of_record : RecordFault → Fault
+of_record records.OutOfMemory = fault.OutOfMemory
+of_record (records.Line n) = fault.BadRecord n
+
 abbrev pub of_write : WriteFailed → Fault
 of_write e = fault.WriteFailed
 
@@ -49,6 +55,19 @@ status_of (fault.NoThreadStarted cpu) = 3
 status_of (fault.BadSettings bad) = 2
 status_of (fault.BadScripts n) = 2
 status_of (fault.BadSchedule n) = 2
+status_of (fault.BadRecord n) = 2
 status_of fault.ReadFailed = 3
 status_of fault.WriteFailed = 3
 status_of fault.BadWords = 2
+
+-- what the reading of settings may end in
+abbrev pub IsOfSettings : Fault → Type 0
+IsOfSettings fault.OutOfMemory = Unit {0}
+IsOfSettings (fault.NoThreadStarted cpu) = ⊥
+IsOfSettings (fault.BadSettings bad) = Unit {0}
+IsOfSettings (fault.BadScripts n) = ⊥
+IsOfSettings (fault.BadSchedule n) = ⊥
+IsOfSettings (fault.BadRecord n) = ⊥
+IsOfSettings fault.ReadFailed = Unit {0}
+IsOfSettings fault.WriteFailed = ⊥
+IsOfSettings fault.BadWords = ⊥

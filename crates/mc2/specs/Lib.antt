@@ -1,5 +1,3 @@
-pub mod FirstRun
-pub mod Simulation
 pub mod Answers
 pub mod Faults
-pub mod Workers
+pub mod Printed

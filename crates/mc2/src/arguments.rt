@@ -8,16 +8,21 @@ use clap::{Arg, ArgAction, ArgMatches, Command, Error};
 use std::alloc::{AllocError, Global};
 use std::convert::AsStr;
 
-/// What the words ask for. Without a file of scripts `run` reads standard input.
+/// What the words ask for. Without a file of scripts, or of the record, standard input is read; without settings `run` has
+/// the built-in ones.
 #[derive(Clone, Copy, Debug, PartialEq, Eq, Drop)]
 pub enum Arguments<'a> {
     Run {
+        settings: Option<&'a str>,
         scripts: Option<&'a str>,
     },
     Sim {
         settings: &'a str,
         scripts: &'a str,
         schedule: &'a str,
+    },
+    Report {
+        record: Option<&'a str>,
     },
 }
 
@@ -28,25 +33,35 @@ fn plain<'a>(alloc: Global, name: &'a str) -> Command<'a> {
         .disable_version_flag(true)
 }
 
+/// A file at a place of its own.
+fn file_at<'a>(alloc: Global, id: &'a str) -> Arg<'a> {
+    Arg::new(alloc, id).action(ArgAction::Set)
+}
+
+/// `--settings F`, anywhere.
+fn settings_option<'a>(alloc: Global) -> Arg<'a> {
+    Arg::new(alloc, "settings")
+        .long("settings")
+        .action(ArgAction::Set)
+}
+
 /// All forms of words that there are.
 fn forms<'a>(alloc: Global) -> Result<Command<'a>, AllocError> {
-    let scripts = Arg::new(alloc, "scripts").action(ArgAction::Set);
-    let run = plain(alloc, "run").arg(scripts)?;
-    let scripts = Arg::new(alloc, "scripts").action(ArgAction::Set);
-    let schedule = Arg::new(alloc, "schedule").action(ArgAction::Set);
-    let settings = Arg::new(alloc, "settings")
-        .long("settings")
-        .action(ArgAction::Set);
+    let run = plain(alloc, "run")
+        .arg(settings_option(alloc))?
+        .arg(file_at(alloc, "scripts"))?;
     let sim = plain(alloc, "sim")
-        .arg(settings.required(true))?
-        .arg(scripts.required(true))?
-        .arg(schedule.required(true))?;
+        .arg(settings_option(alloc).required(true))?
+        .arg(file_at(alloc, "scripts").required(true))?
+        .arg(file_at(alloc, "schedule").required(true))?;
+    let report = plain(alloc, "report").arg(file_at(alloc, "record"))?;
     plain(alloc, "mc2")
         .disable_help_subcommand(true)
         .no_binary_name(true)
         .subcommand_required(true)
         .subcommand(run)?
-        .subcommand(sim)
+        .subcommand(sim)?
+        .subcommand(report)
 }
 
 /// A word that is refused is no form, unless memory was wanting.
@@ -103,11 +118,16 @@ pub fn read_words<'a>(alloc: Global, words: &'a [String]) -> Result<Arguments<'a
     let Some((name, found)) = matches.subcommand() else {
         return Err(Fault::BadWords);
     };
+    if name == "report" {
+        let record = file(found, "record")?;
+        return Ok(Arguments::Report { record });
+    }
+    let settings = file(found, "settings")?;
     let scripts = file(found, "scripts")?;
     if name == "run" {
-        return Ok(Arguments::Run { scripts });
+        return Ok(Arguments::Run { settings, scripts });
     }
-    match (file(found, "settings")?, scripts, file(found, "schedule")?) {
+    match (settings, scripts, file(found, "schedule")?) {
         (Some(settings), Some(scripts), Some(schedule)) => Ok(Arguments::Sim {
             settings,
             scripts,

@@ -3,17 +3,18 @@
 ghost use Rattle.std.specs.Prelude.{◌≡◌, ◌⊎◌, true, OnOk, IfOk, IfErr};
 ghost use Rattle.event_log.specs.Stream.{counted};
 ghost use Rattle.mc2.specs.Answers.{Answers, Prints, PrintsSome};
+ghost use Rattle.mc2.specs.Printed.{printed};
 ghost use Rattle.mc2.specs.Faults.{status_of};
 
 #[cfg(test)]
 mod tests;
 
 use crate::Inputs;
-use crate::answers::{run_answer, sim_answer};
+use crate::answers::{report_answer, run_answer, sim_answer};
 use crate::arguments::{Arguments, read_words};
 use crate::fault::Fault;
 use event_log::Sink;
-use scripts::{Buffered, Record, write_record};
+use scripts::{Buffered, Record, write_record, write_text};
 use std::alloc::Global;
 use std::fmt::Write;
 use std::sync::Wait;
@@ -42,23 +43,40 @@ pub fn command<R: Threads + Wait + Sync, I: Inputs, W: Sink, F: Sink>(
     }
 }
 
-/// The record that the words ask for.
-fn answer<R: Threads + Wait + Sync, I: Inputs>(
+/// What the words ask for.
+#[derive(Drop)]
+enum Answer {
+    Record(Record),
+    Report(String),
+}
+
+/// What the words ask for, once it is known.
+fn answered<R: Threads + Wait + Sync, I: Inputs>(
     rt: &R,
     alloc: Global,
     words: &[String],
     inputs: &mut I,
-) -> Result<Record, Fault>
-    ensures answer { IfOk result (Answers (I.held inputs.old)) }
+) -> Result<Answer, Fault>
+    ensures answer { IfOk result (λ a. Answers (I.held inputs.old) (printed a)) }
     ensures no_write { result ≡ Err Fault.WriteFailed → ⊥ }
 {
     match read_words(alloc, words)? {
-        Arguments::Run { scripts } => run_answer(rt, alloc, inputs, scripts),
+        Arguments::Run { settings, scripts } => {
+            let record = run_answer(rt, alloc, inputs, settings, scripts)?;
+            Ok(Answer::Record(record))
+        }
         Arguments::Sim {
             settings,
             scripts,
             schedule,
-        } => sim_answer(alloc, inputs, settings, scripts, schedule),
+        } => {
+            let record = sim_answer(alloc, inputs, settings, scripts, schedule)?;
+            Ok(Answer::Record(record))
+        }
+        Arguments::Report { record } => {
+            let text = report_answer(alloc, inputs, record)?;
+            Ok(Answer::Report(text))
+        }
     }
 }
 
@@ -76,8 +94,10 @@ fn perform<R: Threads + Wait + Sync, I: Inputs, W: Sink>(
     ensures one_failed { result ≡ Err Fault.WriteFailed → W.failed out.new ≡ counted true (W.failed out.old) }
     ensures nothing_written { IfErr result (λ f. (f ≡ Fault.WriteFailed → ⊥) → out.new ≡ out.old) }
 {
-    let record = answer(rt, alloc, words, inputs)?;
-    write_record(&record, out)?;
+    match answered(rt, alloc, words, inputs)? {
+        Answer::Record(record) => write_record(&record, out)?,
+        Answer::Report(text) => write_text(text.as_bytes(), out)?,
+    }
     Ok(())
 }
 

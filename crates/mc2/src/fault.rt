@@ -1,12 +1,13 @@
 //! Why the program didn't do what its words ask for.
 
 ghost use Rattle.std.specs.Prelude.{◌≡◌};
-ghost use Rattle.mc2.specs.Faults.{of_memory, of_run, of_settings, of_scripts, of_read, of_schedule, of_write, status_of};
+ghost use Rattle.mc2.specs.Faults.{of_memory, of_run, of_settings, of_scripts, of_read, of_schedule, of_record, of_write, status_of};
 
-use crate::RunFault;
+use cpu_worker::RunFault;
 use event_log::OutOfMemory;
 use scripts::{
-    BadSettings, ReadFault, ScheduleFault, ScriptsReadFault, SettingsFault, WriteFailed,
+    BadSettings, ReadFault, RecordFault, ScheduleFault, ScriptsReadFault, SettingsFault,
+    WriteFailed,
 };
 use thiserror::Error;
 
@@ -23,6 +24,8 @@ pub enum Fault {
     BadScripts(usize),
     #[error("mc2: E8 schedule: word {0}")]
     BadSchedule(usize),
+    #[error("mc2: E9 record: line {0}")]
+    BadRecord(usize),
     #[error("mc2: E12 read failed")]
     ReadFailed,
     #[error("mc2: E13 write failed")]
@@ -40,6 +43,7 @@ impl Fault {
             Fault::BadSettings(_)
             | Fault::BadScripts(_)
             | Fault::BadSchedule(_)
+            | Fault::BadRecord(_)
             | Fault::BadWords => 2,
             Fault::OutOfMemory
             | Fault::NoThreadStarted(_)
@@ -119,6 +123,17 @@ impl From<ScheduleFault> for Fault {
         match fault {
             ScheduleFault::OutOfMemory => Fault::OutOfMemory,
             ScheduleFault::Word(number) => Fault::BadSchedule(number),
+        }
+    }
+}
+
+impl From<RecordFault> for Fault {
+    ghost from_gives = { λ cause fault. fault ≡ of_record cause };
+
+    fn from(fault: RecordFault) -> Fault {
+        match fault {
+            RecordFault::OutOfMemory => Fault::OutOfMemory,
+            RecordFault::Line(number) => Fault::BadRecord(number),
         }
     }
 }

@@ -1,10 +1,14 @@
 //! Inputs: files, and standard input.
 
-ghost use Rattle.std.specs.Prelude.{◌≡◌, ℕ, List, Some, length, IfOk, IfErr};
+ghost use Rattle.std.specs.Prelude.{◌≡◌, ℕ, List, Option, Some, None, length, IfOk, IfErr};
 ghost use Rattle.scripts.specs.ScriptFaults.{SpellsRest, NamesFirstBadOfRest};
 ghost use Rattle.scripts.specs.ScriptText.{ScriptsFit};
-ghost use Rattle.mc2.specs.Answers.{Reads, bytes_of};
+ghost use Rattle.scripts.specs.SettingsText.{IsSettingsFault};
+ghost use Rattle.scripts.specs.declared.settings_fault.BadSettings.{BadSettings};
+ghost use Rattle.mc2.specs.Answers.{Reads, ReadsSettings, bytes_of};
+ghost use Rattle.mc2.specs.Faults.{IsOfSettings};
 
+use crate::fault::Fault;
 use event_log::{Source, StreamFailed};
 use scripts::{ReadFault, Scripts, ScriptsReadFault, Settings, read_all};
 use std::alloc::Global;
@@ -22,7 +26,8 @@ pub trait Inputs {
     /// The reader of the file of that name, or of standard input.
     fn input(&mut self, name: Option<&str>) -> Result<Self::Input, StreamFailed>
         ensures all { IfOk result (λ input. (all : List ℕ) → held self.old (bytes_of name.entry) ≡ Some all → Self.Input.remaining input ≡ Some all) }
-        ensures files { (file : List ℕ) → held self.new (Some file) ≡ held self.old (Some file) };
+        ensures files { (file : List ℕ) → held self.new (Some file) ≡ held self.old (Some file) }
+        ensures standard { (file : List ℕ) → bytes_of name.entry ≡ Some file → held self.new None ≡ held self.old None };
 }
 
 /// All bytes of the input of that name.
@@ -33,11 +38,30 @@ pub fn read_input<I: Inputs>(
 ) -> Result<Vec<u8>, ReadFault>
     ensures all { IfOk result (λ bytes. Reads (I.held inputs.old) (bytes_of name.entry) bytes.items) }
     ensures files { (file : List ℕ) → I.held inputs.new (Some file) ≡ I.held inputs.old (Some file) }
+    ensures standard { (file : List ℕ) → bytes_of name.entry ≡ Some file → I.held inputs.new None ≡ I.held inputs.old None }
 {
     match inputs.input(name) {
         Ok(mut input) => read_all(alloc, &mut input),
         Err(StreamFailed) => Err(ReadFault::ReadFailed),
     }
+}
+
+/// The settings that the file of that name spells, or the built-in ones.
+pub fn read_settings<I: Inputs>(
+    alloc: Global,
+    inputs: &mut I,
+    name: Option<&str>,
+) -> Result<Settings, Fault>
+    ensures found { IfOk result (ReadsSettings (I.held inputs.old) (bytes_of name.entry)) }
+    ensures refused { (bad : BadSettings) → result ≡ Err (Fault.BadSettings bad) → (text : List ℕ) × Reads (I.held inputs.old) (bytes_of name.entry) text × IsSettingsFault text bad }
+    ensures fault { IfErr result IsOfSettings }
+    ensures same { (other : Option (List ℕ)) → I.held inputs.new other ≡ I.held inputs.old other }
+{
+    let Some(file) = name else {
+        return Ok(Settings::built_in(alloc)?);
+    };
+    let text = read_input(alloc, inputs, Some(file))?;
+    Ok(Settings::read(alloc, text.as_slice())?)
 }
 
 /// The scripts that the input of that name spells. Where a line can't come, no more is read.

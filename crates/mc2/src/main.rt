@@ -1,27 +1,21 @@
-//! The program: scripts in, the record of a run out.
+//! The program: scripts in, the record of a run out; a record in, a report out.
 #![tactic(auto)]
 
 mod answers;
 mod arguments;
 mod command;
 mod fault;
-mod first_run;
 mod input;
-mod simulate;
 #[cfg(test)]
 mod tests;
-mod threads;
 mod words_given;
-mod worker;
 
 pub use crate::command::command;
 use crate::command::refuse;
 use crate::words_given::words_given;
-pub use answers::{run_answer, sim_answer};
+pub use answers::{report_answer, run_answer, sim_answer};
 use event_log::{Plain, StreamFailed};
-pub use first_run::{RunFault, first_run};
 pub use input::Inputs;
-pub use simulate::simulate;
 use std::fs::{File, Files};
 use std::io;
 use std::io::{Input, Read};

@@ -1,7 +1,7 @@
 //! The worked runs, refused scripts, and sinks that fail.
 
 use crate::fault::Fault;
-use crate::first_run;
+use cpu_worker::{OpenGate, run};
 use event_log::{Plain, Sink, StreamFailed};
 use scripts::{Scripts, Settings, write_record};
 use std::alloc::Global;
@@ -66,7 +66,7 @@ fn write_run<R: Threads + Wait + Sync + AllocGlobal, W: Sink>(
     let settings = Settings::built_in(rt.alloc())?;
     let mut source = Plain::new(scripts.as_bytes());
     let scripts = Scripts::read_from(rt.alloc(), &mut source, &settings)?;
-    let record = first_run(rt, rt.alloc(), settings, scripts)?;
+    let record = run(rt, rt.alloc(), &settings, &scripts, &OpenGate)?;
     write_record(&record, out)?;
     Ok(())
 }

@@ -10,11 +10,16 @@ fn words_that_are_taken(rt: HostRuntime) -> Result<(), Fail> {
     let mut words = Vec::new(rt.alloc());
     words.push(format!(in rt.alloc(); "run")?)?;
     let input = read_words(rt.alloc(), words.as_slice())?;
-    assert!(rt; input == Arguments::Run { scripts: None });
+    let wanted = Arguments::Run {
+        settings: None,
+        scripts: None,
+    };
+    assert!(rt; input == wanted);
     words.push(format!(in rt.alloc(); "a file")?)?;
     let file = read_words(rt.alloc(), words.as_slice())?;
     assert!(rt;
         file == Arguments::Run {
+            settings: None,
             scripts: Some("a file")
         }
     );
@@ -42,7 +47,14 @@ fn words_that_are_refused(rt: HostRuntime) -> Result<(), Fail> {
         "run -a",
         "run --",
         "run -- a",
-        "run --settings a",
+        "run --settings",
+        "run --settings a b c",
+        "run --settings=a",
+        "run --settings - a",
+        "report a b",
+        "report -",
+        "report --settings a",
+        "report ",
         "run --help",
         "--help",
         "help",

@@ -17,6 +17,14 @@ const SCRIPTS: &str = "0 q0 enq 3\n0 q0 deq\n";
 const SETTINGS: &str =
     "cpus = 2\n[[object]]\nname = \"q0\"\nkind = \"queue\"\nlock = \"ticket\"\nevents = 100\nthreads = 8\n";
 
+/// The same behind an MCS lock.
+const MCS: &str =
+    "cpus = 2\n[[object]]\nname = \"q0\"\nkind = \"queue\"\nlock = \"mcs\"\nevents = 100\nthreads = 8\n";
+
+/// A record of two CPUs, one of which waited.
+const RECORD: &str =
+    "record 1\ncpus 2\nobjects 1\nobject q0 ticket 100 queue 8\nlog q0 2\n0 enq 3 = ok\n1 enq 4 = ok\ncpu 0 1\nq0 1 enq 3 | enq 3 = ok\ncpu 1 1\nq0 3 enq 4 | enq 4 = ok\nend\n";
+
 /// Settings of two objects of one name.
 const TWICE: &str =
     "cpus = 1\n[[object]]\nname = \"q0\"\nkind = \"pool\"\nlock = \"mcs\"\nevents = 1\npages = 1\n[[object]]\nname = \"q0\"\n";
@@ -77,10 +85,12 @@ impl<'a> Inputs for Named<'a> {
 }
 
 /// The files that there are.
-const FILES: [(&str, &str); 12] = [
+const FILES: [(&str, &str); 14] = [
     ("settings", SETTINGS),
     ("twice", TWICE),
     ("pool", POOL),
+    ("mcs", MCS),
+    ("record", RECORD),
     ("scripts", SCRIPTS),
     ("bad", "0 q0 enq 3\n0 q1 deq\n"),
     ("broken", SCRIPTS),
@@ -169,6 +179,39 @@ fn worked_simulations(rt: HostRuntime) -> Result<(), Fail> {
 }
 
 #[test]
+fn a_run_on_other_settings(rt: HostRuntime) -> Result<(), Fail> {
+    let wanted =
+        "record 1\ncpus 2\nobjects 1\nobject q0 mcs 100 queue 8\nlog q0 2\n0 enq 3 = ok\n0 deq = thread 3\ncpu 0 2\nq0 0 enq 3 | enq 3 = ok\nq0 0 deq | deq = thread 3\ncpu 1 0\nend\n";
+    for (line, opened) in [
+        ("run --settings mcs scripts", 2),
+        ("run scripts --settings mcs", 2),
+        ("run --settings mcs", 2),
+    ] {
+        let mut out = Plain::new(Vec::new(rt.alloc()));
+        let mut faults = Plain::new(Vec::new(rt.alloc()));
+        let status = told(&rt, line, SCRIPTS, &mut out, &mut faults)?;
+        assert!(rt; status == (0, opened), "{line:?}");
+        assert!(rt; out.inner.as_slice() == wanted.as_bytes(), "{line:?}");
+        assert!(rt; faults.inner.is_empty(), "{line:?}");
+    }
+    Ok(())
+}
+
+#[test]
+fn reports(rt: HostRuntime) -> Result<(), Fail> {
+    let wanted = "q0 ticket entries 2 noroom 0 looks 4 most 3\ncpus 2 entries 2\n";
+    for (line, standard) in [("report", RECORD), ("report record", "x")] {
+        let mut out = Plain::new(Vec::new(rt.alloc()));
+        let mut faults = Plain::new(Vec::new(rt.alloc()));
+        let status = told(&rt, line, standard, &mut out, &mut faults)?;
+        assert!(rt; status == (0, 1), "{line:?}");
+        assert!(rt; out.inner.as_slice() == wanted.as_bytes(), "{line:?}");
+        assert!(rt; faults.inner.is_empty(), "{line:?}");
+    }
+    Ok(())
+}
+
+#[test]
 fn refused_scripts(rt: HostRuntime) -> Result<(), Fail> {
     for (scripts, line) in REFUSED {
         let mut out = Plain::new(Vec::new(rt.alloc()));
@@ -187,6 +230,24 @@ fn refused_commands(rt: HostRuntime) -> Result<(), Fail> {
     let rows = [
         ("run bad", 2, "mc2: E7 scripts: line 2\n", 1),
         ("run none", 3, "mc2: E12 read failed\n", 1),
+        (
+            "run --settings none scripts",
+            3,
+            "mc2: E12 read failed\n",
+            1,
+        ),
+        (
+            "run --settings twice none",
+            2,
+            "mc2: E6 settings: object 2: name: repeated\n",
+            1,
+        ),
+        ("run --settings mcs bad", 2, "mc2: E7 scripts: line 2\n", 2),
+        ("run --settings", 2, "mc2: E14 bad words\n", 0),
+        ("report", 2, "mc2: E9 record: line 1\n", 1),
+        ("report scripts", 2, "mc2: E9 record: line 1\n", 1),
+        ("report none", 3, "mc2: E12 read failed\n", 1),
+        ("report record record", 2, "mc2: E14 bad words\n", 0),
         ("run broken", 3, "mc2: E12 read failed\n", 1),
         (
             "sim --settings settings both steps",

@@ -1,11 +1,14 @@
-use Rattle.std.proofs.Common.{Some, sym, subst}
-use Rattle.mc2.specs.Answers.{Reads}
-use Rattle.mc2.proofs.Answered.{settings_refused}
+use Rattle.std.proofs.Common.{Some, Err, ap, ◌∙◌}
+use Rattle.mc2.proofs.Answered.{schedule_refused}
 use Rattle.mc2.proofs.answers.sim_answer.Goals as goal
 
-pub returns-in_err-settings-clause-bad_settings : goal.returns-in_err-settings-clause-bad_settings
-returns-in_err-settings-clause-bad_settings g c bad same = (
-  c.as_slice.result.now,
-  subst (Reads (g.I.Inputs.held c.args.inputs.now) (Some c.args.settings.now)) (sym c.as_slice.ensures.value) c.in_ok-text.ensures.all,
-  settings_refused c.from_residual-in_err-settings.result c.as_slice.result.now c.in_err-settings.field-0.0 bad c.from_residual-in_err-settings.ensures.1 same c.in_err-settings.ensures.fault,
-)
+pub returns-in_err-schedule-clause-bad_schedule : goal.returns-in_err-schedule-clause-bad_schedule
+returns-in_err-schedule-clause-bad_schedule g c n same =
+    let word = schedule_refused c.from_residual-in_err-schedule.result c.in_err-schedule.field-0.0 n c.from_residual-in_err-schedule.ensures.1 same in
+    let file = c.args.schedule.now in (
+      c.in_ok-settings.settings,
+      c.in_ok-settings.ensures.found,
+      c.as_slice.result.now,
+      (λ all e. c.as_slice.ensures.value ∙ c.in_ok-text.ensures.all all (c.in_ok-scripts.ensures.files file ∙ (c.in_ok-settings.ensures.same (Some file) ∙ e))),
+      c.in_err-schedule.ensures.first_bad n (ap Err word),
+    )
