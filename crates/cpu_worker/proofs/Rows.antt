@@ -5,10 +5,10 @@ use Rattle.std.proofs.lemmas.Option.{slice_get_within}
 use Rattle.guarded_cell.proofs.Joins.{at_snoc}
 use Rattle.word_rule.specs.Cell.{opening_pass}
 use Rattle.cpu_worker.specs.Opening.{IsRow}
-use Rattle.cpu_worker.specs.Work.{KernelCell, KernelView}
+use Rattle.cpu_worker.specs.Work.{FixedCell, KernelView}
 
 module _ {T S : Type 0} (is_pass_of : T → S → Type 0) (pass_view : S → KernelView) where
-  module _ (cells : List KernelCell) (opened : List T) (k : ℕ) (row : List S) (c : KernelCell) (t : T) (p : S) (r : IsRow is_pass_of pass_view cells opened k row) (fits : is_pass_of t p) (view : pass_view p ≡ opening_pass c k) where
+  module _ (cells : List FixedCell) (opened : List T) (k : ℕ) (row : List S) (c : FixedCell) (t : T) (p : S) (r : IsRow is_pass_of pass_view cells opened k row) (fits : is_pass_of t p) (view : pass_view p ≡ opening_pass c k) where
     at_place : (x : ℕ) (d : T) (q : S) → ((slice_get opened x ≡ Some d) ⊎ ((x ≡ length opened) × (t ≡ d))) → ((slice_get row x ≡ Some q) ⊎ ((x ≡ length row) × (p ≡ q))) → is_pass_of d q
     at_place x d q (inl e) (inl f) = r.passes.each x d q e f
     at_place x d q (inl e) (inr f) = let lt = slice_get_within opened x d e in let count = r.passes.count in let last = f.0 in absurd (omega (arith, lt, count, last))
@@ -25,5 +25,5 @@ module _ {T S : Type 0} (is_pass_of : T → S → Type 0) (pass_view : S → Ker
     }
 
     -- the pass of one cell more
-    pub row_next : (all : List KernelCell) (opens : List T) (longer : List S) → all ≡ cells ++ c ∷ [] → opens ≡ opened ++ t ∷ [] → longer ≡ row ++ p ∷ [] → IsRow is_pass_of pass_view all opens k longer
+    pub row_next : (all : List FixedCell) (opens : List T) (longer : List S) → all ≡ cells ++ c ∷ [] → opens ≡ opened ++ t ∷ [] → longer ≡ row ++ p ∷ [] → IsRow is_pass_of pass_view all opens k longer
     row_next all opens longer a b l = subst (λ z. IsRow is_pass_of pass_view z opens k longer) (sym a) (subst (λ z. IsRow is_pass_of pass_view (cells ++ c ∷ []) z k longer) (sym b) (subst (λ z. IsRow is_pass_of pass_view (cells ++ c ∷ []) (opened ++ t ∷ []) k z) (sym l) row_more))

@@ -1,7 +1,7 @@
 -- What the workers of all CPUs leave on the cells of the settings.
 use Rattle.std.proofs.Common.{◌≡◌, ℕ, ◌<◌, ◌≤◌, ◌^◌, List, [], ◌∷◌, length, map, sym, ◌∙◌, ap, subst, arith, slice_get, Some}
 use Rattle.std.specs.List.{AllByRecursion, AllZip}
-use Rattle.std.proofs.lemmas.List.{length-map}
+use Rattle.std.proofs.lemmas.List.{append-nil, length-map}
 use Rattle.std.proofs.lemmas.Simd.{map-map}
 use Rattle.std.proofs.lemmas.Option.{slice_get_within}
 use Rattle.event_log.specs.Entries.{asked_of}
@@ -21,8 +21,9 @@ use Rattle.word_rule.specs.Machine.SoundWorld.{IsTodo}
 use Rattle.word_rule.specs.Sound.{Opened, Sound}
 use Rattle.word_rule.proofs.Openings.{all_at, zip_at}
 use Rattle.word_rule.proofs.Slices.{some_at, get_map, map_get}
+use Rattle.cpu_worker.proofs.Simulations.{asks_each}
 use Rattle.cpu_worker.specs.Opening.{IsRow, cell_for, cells_for}
-use Rattle.cpu_worker.specs.Work.{KernelCell, KernelView, IsReady, IsDone}
+use Rattle.cpu_worker.specs.Work.{FixedCell, KernelView, IsReady, IsDone}
 
 -- entries in their ranges can be done on as many cells
 pub able : (objects cells : ℕ) → cells ≡ objects → (todos : List KernelTodo) → AllByRecursion (TodoFits objects) todos → AllByRecursion (λ t. IsTodo cells t) todos
@@ -30,16 +31,8 @@ able objects cells same todos fit = all_map (λ t h. record { some = h.some; few
 
 -- a transcript that asked for a script in its ranges
 module _ (objects : ℕ) where
-  asks_each : (entries : List KernelEntry) (todos : List KernelTodo) → map asked_of entries ≡ todos → AllByRecursion (TodoFits objects) todos → AllByRecursion (λ e. e.looks < 2 ^ 64) entries → AllByRecursion (EntryAsks objects) entries
-  asks_each [] todos is fit looks = tt
-  asks_each (e ∷ entries) [] is fit looks = absurd cc
-  asks_each (e ∷ entries) (t ∷ todos) is fit looks =
-      let head : asked_of e ≡ t = cc in
-      let tail : map asked_of entries ≡ todos = cc in
-      (record { todo = subst (TodoFits objects) (sym head) fit.0; looks = looks.0 }, asks_each entries todos tail fit.1 looks.1)
-
   asks : (entries : List KernelEntry) (todos : List KernelTodo) → map asked_of entries ≡ todos → ScriptFits objects todos → AllByRecursion (λ e. e.looks < 2 ^ 64) entries → TranscriptAsks objects entries
-  asks entries todos is fit looks = let wide = length-map entries asked_of in let long = ap length is in let few = fit.0 in (omega (arith, wide, long, few), asks_each entries todos is fit.1 looks)
+  asks entries todos is fit looks = let wide = length-map entries asked_of in let long = ap length is in let few = fit.0 in (omega (arith, wide, long, few), asks_each objects entries [] todos (append-nil (map asked_of entries) ∙ is) fit.1 looks)
 
 module _ {T S : Type 0} (is_pass_of : T → S → Type 0) (pass_view : S → KernelView) (settings : Settings) (opened : List T) (passes : List S) where
   -- the worker of CPU k began with new cells, did its script, and its passes were joined to the last ones
@@ -52,7 +45,7 @@ module _ {T S : Type 0} (is_pass_of : T → S → Type 0) (pass_view : S → Ker
 
   module _ (law : (c : T) (p : S) → is_pass_of c p → IsPassView kernel (pass_view p)) (scripts : List (List KernelTodo)) (transcripts : List (List KernelEntry)) (sizes : SettingsFit settings) (fit : ScriptsFit settings.cpus (length settings.objects) scripts) (wide : length opened ≡ length settings.objects) (count : length transcripts ≡ settings.cpus)
       (merged : ArePasses is_pass_of opened passes) (left : (k : ℕ) (todos : List KernelTodo) (entries : List KernelEntry) → slice_get scripts k ≡ Some todos → slice_get transcripts k ≡ Some entries → Left k todos entries) where
-    abbrev pub cells : List KernelCell
+    abbrev pub cells : List FixedCell
     cells = cells_for settings
 
     worked : (k : ℕ) (todos : List KernelTodo) (entries : List KernelEntry) → slice_get scripts k ≡ Some todos → slice_get transcripts k ≡ Some entries → Worked kernel cells (map pass_view passes) k todos entries
@@ -65,11 +58,11 @@ module _ {T S : Type 0} (is_pass_of : T → S → Type 0) (pass_view : S → Ker
           joins = l.joins;
         }
 
-    opened_for : (x : ℕ) (c : KernelCell) → slice_get cells x ≡ Some c → (c.opening ≡ []) × (c.numbers ≡ settings.cpus)
-    opened_for x c e = let o = get_map (cell_for settings.cpus) settings.objects x c e in (ap (λ (d : KernelCell). d.opening) (sym o.2), ap (λ (d : KernelCell). d.numbers) (sym o.2))
+    opened_for : (x : ℕ) (c : FixedCell) → slice_get cells x ≡ Some c → (c.opening ≡ []) × (c.numbers ≡ settings.cpus)
+    opened_for x c e = let o = get_map (cell_for settings.cpus) settings.objects x c e in (ap (λ (d : FixedCell). d.opening) (sym o.2), ap (λ (d : FixedCell). d.numbers) (sym o.2))
 
     -- the last passes are of the cells: so says the first CPU's worker
-    of_cells : (x : ℕ) (c : KernelCell) (j : KernelView) → slice_get cells x ≡ Some c → slice_get (map pass_view passes) x ≡ Some j → j.caller.cell ≡ c
+    of_cells : (x : ℕ) (c : FixedCell) (j : KernelView) → slice_get cells x ≡ Some c → slice_get (map pass_view passes) x ≡ Some j → j.caller.cell ≡ c
     of_cells x c j a b =
         let some = sizes.cpus.0 in
         let long = fit.0 in

@@ -40,7 +40,7 @@ opening_keeps settings scripts = record {
 -- ---- what a world that keeps the scripts hands out
 
 module _ (objects : ℕ) where
-  asks_each : (entries : List KernelEntry) (todo : List KernelTodo) (script : List KernelTodo) → map asked_of entries ++ todo ≡ script → AllByRecursion (TodoFits objects) script → AllByRecursion (λ e. e.looks < 2 ^ 64) entries → AllByRecursion (EntryAsks objects) entries
+  pub asks_each : (entries : List KernelEntry) (todo : List KernelTodo) (script : List KernelTodo) → map asked_of entries ++ todo ≡ script → AllByRecursion (TodoFits objects) script → AllByRecursion (λ e. e.looks < 2 ^ 64) entries → AllByRecursion (EntryAsks objects) entries
   asks_each [] todo script is fit looks = tt
   asks_each (e ∷ entries) todo [] is fit looks = absurd cc
   asks_each (e ∷ entries) todo (t ∷ script) is fit looks =

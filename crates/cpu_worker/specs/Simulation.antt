@@ -14,11 +14,11 @@ use Rattle.scripts.specs.Settings.{Settings, ObjectSettings}
 abbrev pub KernelWorld : Type 0
 KernelWorld = World KernelObject KParams KCall KReply
 
-abbrev pub KernelCell : Type 0
-KernelCell = CellState KernelObject KParams KCall KReply
+abbrev pub MachineCell : Type 0
+MachineCell = CellState KernelObject KParams KCall KReply
 
 -- an object of the settings behind its lock, with the first ticket 0 and an empty log
-abbrev pub new_cell : ObjectSettings → KernelCell
+abbrev pub new_cell : ObjectSettings → MachineCell
 new_cell o = record { opened = record { params = o.params; limit = o.events }; lock = opening_lock o.lock 0; log = [] }
 
 -- the objects of the settings, and each CPU with its script, before the first step

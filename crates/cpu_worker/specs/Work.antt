@@ -12,12 +12,12 @@ use Rattle.scripts.specs.KernelTypes.{KernelTodo, KernelEntry}
 use Rattle.word_rule.specs.Cell.{Cell, PassView}
 use Rattle.word_rule.specs.Machine.SoundWorld.{IsTodo}
 
--- a caller of a cell around an object of the kernel, and such a cell
+-- a caller of a cell around an object of the kernel, and what was fixed when such a cell was opened
 abbrev pub KernelView : Type 0
 KernelView = PassView KernelObject KParams KCall KReply
 
-abbrev pub KernelCell : Type 0
-KernelCell = Cell KernelObject KParams KCall KReply
+abbrev pub FixedCell : Type 0
+FixedCell = Cell KernelObject KParams KCall KReply
 
 module _ {T S : Type 0} (is_pass_of : T → S → Type 0) where
   -- a pass of each cell, entries that can be done on them, and an empty transcript that has room for them
