@@ -9,6 +9,8 @@ mod opening;
 mod report_lines;
 mod simulation;
 mod sums;
+#[cfg(test)]
+mod tests;
 mod threads;
 mod whole_run;
 mod worker;

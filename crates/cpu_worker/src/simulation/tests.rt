@@ -1,8 +1,8 @@
 //! Simulations of two CPUs on one queue.
 
 use super::simulate;
-use event_log::Plain;
-use scripts::{Record, Schedule, Scripts, Settings, write_record};
+use crate::tests::written;
+use scripts::{Schedule, Scripts, Settings};
 use std::alloc::Global;
 use std::test::Fail;
 
@@ -48,13 +48,6 @@ cpu 0 0
 cpu 1 0
 end
 ";
-
-/// What is written of the record.
-fn written(alloc: Global, record: &Record) -> Result<Vec<u8>, Fail> {
-    let mut out = Plain::new(Vec::new(alloc));
-    write_record(record, &mut out)?;
-    Ok(out.inner)
-}
 
 /// What is written of two simulations in the order of one schedule.
 fn written_twice(alloc: Global, schedule: &str) -> Result<(Vec<u8>, Vec<u8>), Fail> {
