@@ -1,10 +1,20 @@
--- What the program prints: the record of a run, or of a simulation, or the report on a record.
+-- What the program prints: the record of a run, or of a simulation, and the report, the verdict or the order of a record.
 use Rattle.std.specs.Prelude.{◌≡◌, ◌⊎◌, ℕ, List, Option, Some, None}
 use Rattle.std.specs.Borrow.{Bor}
 use Rattle.std.specs.Io.KnownBytes.{Appends}
 use Rattle.std.specs.Option.{option_map}
+use Rattle.auditor.specs.declared.fault.Fault.{Fault}
+use Rattle.auditor.specs.declared.fault.Verdict.{Verdict}
+use Rattle.auditor.specs.declared.fault.Verdict.TheVariants as verdicts
+use Rattle.auditor.specs.Audits.{IsVerdict}
+use Rattle.auditor.specs.Faults.{IsFirstFault}
+use Rattle.auditor.specs.VerdictText.{fault_text, verdict_text}
 use Rattle.cpu_worker.specs.Report.{report_text}
 use Rattle.cpu_worker.specs.Simulation.{simulated}
+use Rattle.log_merge.specs.declared.place.Place.{Place}
+use Rattle.log_merge.specs.CycleText.{cycle_text}
+use Rattle.log_merge.specs.MergedRecords.{IsMerged, HasCycle}
+use Rattle.log_merge.specs.MergedText.{merged_text}
 use Rattle.word_rule.specs.Sound.{Sound}
 use Rattle.scripts.specs.contracts.kernel_object.KernelObjectSeqObject.TheImpl.{ghosts as kernel}
 use Rattle.scripts.specs.KernelTypes.{KernelTodo}
@@ -67,21 +77,77 @@ module _ (held : Option (List ℕ) → Option (List ℕ)) where
     pub scheduled : Reads held (Some schedule) turns
     pub is : IsSimulationOf given text turns r
 
-  -- what `report` answers: the report on the record under that name
-  pub record AnswersReport (name : Option (List ℕ)) (answer : List ℕ) : Type 0 where
+  -- the record under that name
+  pub record ReadsRecord (name : Option (List ℕ)) (of : Record) : Type 0 where
     pub bytes : List ℕ
     pub read : Reads held name bytes
-    pub of : Record
     pub spelled : IsWhole bytes of
+
+  -- what `report` answers: the report on the record under that name
+  pub record AnswersReport (name : Option (List ℕ)) (answer : List ℕ) : Type 0 where
+    pub of : Record
+    pub read : ReadsRecord name of
     pub is : answer ≡ report_text of
+
+  -- what `audit` answers: the verdict on the record under that name
+  pub record AnswersAudit (name : Option (List ℕ)) (verdict : Verdict) (answer : List ℕ) : Type 0 where
+    pub of : Record
+    pub read : ReadsRecord name of
+    pub judged : IsVerdict of verdict
+    pub is : answer ≡ verdict_text of.settings verdict
+
+  -- what `merge` answers: the order of all entries of the record under that name, which is sound
+  pub record AnswersMerge (name : Option (List ℕ)) (of : Record) (places : List Place) : Type 0 where
+    pub read : ReadsRecord name of
+    pub merged : IsMerged kernel (opened_of of.settings) of.run places
+
+  -- why `merge` refuses the record under that name: this is its first fault
+  pub record RefusesUnsound (name : Option (List ℕ)) (answer : List ℕ) : Type 0 where
+    pub of : Record
+    pub read : ReadsRecord name of
+    pub fault : Fault
+    pub first : IsFirstFault kernel (opened_of of.settings) of.run fault
+    pub is : answer ≡ fault_text of.settings fault
+
+  -- or: it is sound, and this is a cycle of its entries, which excludes an order
+  pub record RefusesCycle (name : Option (List ℕ)) (answer : List ℕ) : Type 0 where
+    pub of : Record
+    pub read : ReadsRecord name of
+    pub cycle : List Place
+    pub has : HasCycle kernel (opened_of of.settings) of.run cycle
+    pub is : answer ≡ cycle_text cycle
 
   -- a record that words of some form answer
   abbrev pub AnswersRecord : Record → Type 0
   AnswersRecord r = ((settings scripts : Option (List ℕ)) × AnswersRun settings scripts r) ⊎ ((settings scripts schedule : List ℕ) × AnswersSim settings scripts schedule r)
 
+  -- the lines of an order that words of some form answer
+  pub record AnswersLines (answer : List ℕ) : Type 0 where
+    pub name : Option (List ℕ)
+    pub of : Record
+    pub places : List Place
+    pub merged : AnswersMerge name of places
+    pub is : answer ≡ merged_text of places
+
+  -- the text that words of some form answer on a record that is read
+  abbrev pub AnswersText : List ℕ → Type 0
+  AnswersText text = ((name : Option (List ℕ)) × AnswersReport name text) ⊎ (((name : Option (List ℕ)) × AnswersAudit name verdicts.Sound text) ⊎ AnswersLines text)
+
   -- the text that words of some form answer
   abbrev pub Answers : List ℕ → Type 0
-  Answers text = ((r : Record) × AnswersRecord r × (text ≡ text_of r)) ⊎ ((name : Option (List ℕ)) × AnswersReport name text)
+  Answers text = ((r : Record) × AnswersRecord r × (text ≡ text_of r)) ⊎ AnswersText text
+
+  -- the verdict that names the first fault of a record
+  abbrev pub Finds : List ℕ → Type 0
+  Finds text = (name : Option (List ℕ)) × (fault : Fault) × AnswersAudit name (verdicts.Unsound fault) text
+
+  -- what `merge` found, where it gives no order
+  abbrev pub FindsNoOrder : Type 0
+  FindsNoOrder = (name : Option (List ℕ)) × (text : List ℕ) × (RefusesUnsound name text ⊎ RefusesCycle name text)
+
+  -- the text goes with the status: 0 for an answer, 1 where a fault was found
+  abbrev pub AnswersWith : ℕ → List ℕ → Type 0
+  AnswersWith status text = ((status ≡ 0) × Answers text) ⊎ ((status ≡ 1) × Finds text)
 
 -- known contents grew by such a text
 abbrev pub Prints : (List ℕ → Type 0) → Option (List ℕ) → Option (List ℕ) → Type 0
@@ -90,3 +156,7 @@ Prints Is old new = (text : List ℕ) × Is text × Appends old new text
 -- known contents grew by a beginning of such a text
 abbrev pub PrintsSome : (List ℕ → Type 0) → Option (List ℕ) → Option (List ℕ) → Type 0
 PrintsSome Is old new = (text : List ℕ) × Is text × AppendsBeginning old new text
+
+-- known contents grew by a beginning of a text that goes with some status
+abbrev pub PrintsAnySome : (Option (List ℕ) → Option (List ℕ)) → Option (List ℕ) → Option (List ℕ) → Type 0
+PrintsAnySome held old new = (status : ℕ) × PrintsSome (AnswersWith held status) old new

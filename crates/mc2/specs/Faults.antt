@@ -48,7 +48,7 @@ of_record (records.Line n) = fault.BadRecord n
 abbrev pub of_write : WriteFailed → Fault
 of_write e = fault.WriteFailed
 
--- 2 for what the caller wrote, 3 for what the machine refused
+-- 1 for what was found of a record, 2 for what the caller wrote, 3 for what the machine refused
 abbrev pub status_of : Fault → ℕ
 status_of fault.OutOfMemory = 3
 status_of (fault.NoThreadStarted cpu) = 3
@@ -56,6 +56,8 @@ status_of (fault.BadSettings bad) = 2
 status_of (fault.BadScripts n) = 2
 status_of (fault.BadSchedule n) = 2
 status_of (fault.BadRecord n) = 2
+status_of (fault.Unsound text) = 1
+status_of (fault.Cycle text) = 1
 status_of fault.ReadFailed = 3
 status_of fault.WriteFailed = 3
 status_of fault.BadWords = 2
@@ -68,6 +70,36 @@ IsOfSettings (fault.BadSettings bad) = Unit {0}
 IsOfSettings (fault.BadScripts n) = ⊥
 IsOfSettings (fault.BadSchedule n) = ⊥
 IsOfSettings (fault.BadRecord n) = ⊥
+IsOfSettings (fault.Unsound text) = ⊥
+IsOfSettings (fault.Cycle text) = ⊥
 IsOfSettings fault.ReadFailed = Unit {0}
 IsOfSettings fault.WriteFailed = ⊥
 IsOfSettings fault.BadWords = ⊥
+
+-- what the reading of a record may end in
+abbrev pub IsOfRecord : Fault → Type 0
+IsOfRecord fault.OutOfMemory = Unit {0}
+IsOfRecord (fault.NoThreadStarted cpu) = ⊥
+IsOfRecord (fault.BadSettings bad) = ⊥
+IsOfRecord (fault.BadScripts n) = ⊥
+IsOfRecord (fault.BadSchedule n) = ⊥
+IsOfRecord (fault.BadRecord n) = Unit {0}
+IsOfRecord (fault.Unsound text) = ⊥
+IsOfRecord (fault.Cycle text) = ⊥
+IsOfRecord fault.ReadFailed = Unit {0}
+IsOfRecord fault.WriteFailed = ⊥
+IsOfRecord fault.BadWords = ⊥
+
+-- neither something that was found of a record, nor a failed write
+abbrev pub IsRefusal : Fault → Type 0
+IsRefusal fault.OutOfMemory = Unit {0}
+IsRefusal (fault.NoThreadStarted cpu) = Unit {0}
+IsRefusal (fault.BadSettings bad) = Unit {0}
+IsRefusal (fault.BadScripts n) = Unit {0}
+IsRefusal (fault.BadSchedule n) = Unit {0}
+IsRefusal (fault.BadRecord n) = Unit {0}
+IsRefusal (fault.Unsound text) = ⊥
+IsRefusal (fault.Cycle text) = ⊥
+IsRefusal fault.ReadFailed = Unit {0}
+IsRefusal fault.WriteFailed = ⊥
+IsRefusal fault.BadWords = Unit {0}

@@ -1,7 +1,8 @@
-//! What the program answers: a record, of a run or of a simulation, or the report on a record.
+//! What the program answers: the record of a run or of a simulation, and the report on a record, its verdict or its order.
 
-ghost use Rattle.std.specs.Prelude.{◌≡◌, ◌<◌, ℕ, List, Some, IfOk, string_bytes};
-ghost use Rattle.mc2.specs.Answers.{Reads, ReadsSettings, AnswersRun, AnswersSim, AnswersReport, bytes_of};
+ghost use Rattle.std.specs.Prelude.{◌≡◌, ◌<◌, ℕ, List, Some, IfOk, IfErr, string_bytes};
+ghost use Rattle.mc2.specs.Answers.{Reads, ReadsSettings, AnswersRun, AnswersSim, AnswersReport, AnswersAudit, AnswersMerge, RefusesUnsound, RefusesCycle, bytes_of};
+ghost use Rattle.mc2.specs.Faults.{IsRefusal};
 ghost use Rattle.scripts.specs.RecordFaults.{IsBadLine};
 ghost use Rattle.scripts.specs.ScheduleText.{IsFirstBadWord};
 ghost use Rattle.scripts.specs.ScriptText.{IsFirstBad};
@@ -11,8 +12,10 @@ ghost use Rattle.scripts.specs.declared.settings_fault.BadSettings.{BadSettings}
 
 use crate::Inputs;
 use crate::fault::Fault;
-use crate::input::{read_input, read_scripts, read_settings};
+use crate::input::{read_input, read_record, read_scripts, read_settings};
+use auditor::{Verdict, audit, fault_text, verdict_line};
 use cpu_worker::{OpenGate, report, run, simulate};
+use log_merge::{MergeFault, Merged, cycle_text, merge};
 use scripts::{Record, Schedule};
 use std::alloc::Global;
 use std::sync::Wait;
@@ -31,7 +34,7 @@ pub fn run_answer<R: Threads + Wait + Sync, I: Inputs>(
     ensures bad_settings { (bad : BadSettings) → result ≡ Err (Fault.BadSettings bad) → (text : List ℕ) × Reads (I.held inputs.old) (bytes_of settings.entry) text × IsSettingsFault text bad }
     ensures bad_scripts { (n : ℕ) → result ≡ Err (Fault.BadScripts n) → (given : Settings) × ReadsSettings (I.held inputs.old) (bytes_of settings.entry) given × (text : List ℕ) × Reads (I.held inputs.old) (bytes_of scripts.entry) text × IsFirstBad given text n }
     ensures cpu { (cpu : ℕ) → result ≡ Err (Fault.NoThreadStarted cpu) → (given : Settings) × ReadsSettings (I.held inputs.old) (bytes_of settings.entry) given × (cpu < given.cpus) }
-    ensures no_write { result ≡ Err Fault.WriteFailed → ⊥ }
+    ensures refusal { IfErr result IsRefusal }
 {
     let settings = read_settings(alloc, inputs, settings)?;
     let scripts = read_scripts(alloc, inputs, scripts, &settings)?;
@@ -52,7 +55,7 @@ pub fn sim_answer<I: Inputs>(
     ensures bad_settings { (bad : BadSettings) → result ≡ Err (Fault.BadSettings bad) → (text : List ℕ) × Reads (I.held inputs.old) (Some settings.now) text × IsSettingsFault text bad }
     ensures bad_scripts { (n : ℕ) → result ≡ Err (Fault.BadScripts n) → (given : Settings) × ReadsSettings (I.held inputs.old) (Some settings.now) given × (text : List ℕ) × Reads (I.held inputs.old) (Some scripts.now) text × IsFirstBad given text n }
     ensures bad_schedule { (n : ℕ) → result ≡ Err (Fault.BadSchedule n) → (given : Settings) × ReadsSettings (I.held inputs.old) (Some settings.now) given × (text : List ℕ) × Reads (I.held inputs.old) (Some schedule.now) text × IsFirstBadWord given.cpus text n }
-    ensures no_write { result ≡ Err Fault.WriteFailed → ⊥ }
+    ensures refusal { IfErr result IsRefusal }
 {
     let settings = read_settings(alloc, inputs, Some(settings))?;
     let scripts = read_scripts(alloc, inputs, Some(scripts), &settings)?;
@@ -70,10 +73,52 @@ pub fn report_answer<I: Inputs>(
 ) -> Result<String, Fault>
     ensures answer { IfOk result (λ text. AnswersReport (I.held inputs.old) (bytes_of «record».entry) (string_bytes text)) }
     ensures bad_record { (n : ℕ) → result ≡ Err (Fault.BadRecord n) → (bytes : List ℕ) × Reads (I.held inputs.old) (bytes_of «record».entry) bytes × IsBadLine bytes n }
-    ensures no_write { result ≡ Err Fault.WriteFailed → ⊥ }
+    ensures refusal { IfErr result IsRefusal }
 {
-    let bytes = read_input(alloc, inputs, record)?;
-    let record = Record::read(alloc, bytes.as_slice())?;
+    let record = read_record(alloc, inputs, record)?;
     let text = report(alloc, &record)?;
     Ok(text)
+}
+
+/// The verdict on the record of that name, or on that of standard input, and its line.
+pub fn audit_answer<I: Inputs>(
+    alloc: Global,
+    inputs: &mut I,
+    record: Option<&str>,
+) -> Result<(Verdict, String), Fault>
+    ensures answer { IfOk result (λ a. AnswersAudit (I.held inputs.old) (bytes_of «record».entry) a.0 (string_bytes a.1)) }
+    ensures bad_record { (n : ℕ) → result ≡ Err (Fault.BadRecord n) → (bytes : List ℕ) × Reads (I.held inputs.old) (bytes_of «record».entry) bytes × IsBadLine bytes n }
+    ensures refusal { IfErr result IsRefusal }
+{
+    let record = read_record(alloc, inputs, record)?;
+    let verdict = audit(alloc, &record)?;
+    let line = verdict_line(alloc, &record, verdict)?;
+    Ok((verdict, line))
+}
+
+/// The record of that name, or that of standard input, and the one order of its entries.
+pub fn merge_answer<I: Inputs>(
+    alloc: Global,
+    inputs: &mut I,
+    record: Option<&str>,
+) -> Result<(Record, Merged), Fault>
+    ensures answer { IfOk result (λ a. AnswersMerge (I.held inputs.old) (bytes_of «record».entry) a.0 a.1.places) }
+    ensures unsound { (text : _) → result ≡ Err (Fault.Unsound text) → RefusesUnsound (I.held inputs.old) (bytes_of «record».entry) (string_bytes text) }
+    ensures cycle { (text : _) → result ≡ Err (Fault.Cycle text) → RefusesCycle (I.held inputs.old) (bytes_of «record».entry) (string_bytes text) }
+    ensures bad_record { (n : ℕ) → result ≡ Err (Fault.BadRecord n) → (bytes : List ℕ) × Reads (I.held inputs.old) (bytes_of «record».entry) bytes × IsBadLine bytes n }
+    ensures no_write { result ≡ Err Fault.WriteFailed → ⊥ }
+{
+    let record = read_record(alloc, inputs, record)?;
+    match merge(alloc, &record) {
+        Ok(merged) => Ok((record, merged)),
+        Err(MergeFault::OutOfMemory) => Err(Fault::OutOfMemory),
+        Err(MergeFault::Unsound(fault)) => {
+            let text = fault_text(alloc, &record, &fault)?;
+            Err(Fault::Unsound(text))
+        }
+        Err(MergeFault::Cycle(cycle)) => {
+            let text = cycle_text(alloc, cycle.as_slice())?;
+            Err(Fault::Cycle(text))
+        }
+    }
 }

@@ -24,6 +24,12 @@ pub enum Arguments<'a> {
     Report {
         record: Option<&'a str>,
     },
+    Audit {
+        record: Option<&'a str>,
+    },
+    Merge {
+        record: Option<&'a str>,
+    },
 }
 
 /// A command without help and version.
@@ -45,6 +51,11 @@ fn settings_option<'a>(alloc: Global) -> Arg<'a> {
         .action(ArgAction::Set)
 }
 
+/// A command on a record.
+fn on_record<'a>(alloc: Global, name: &'a str) -> Result<Command<'a>, AllocError> {
+    plain(alloc, name).arg(file_at(alloc, "record"))
+}
+
 /// All forms of words that there are.
 fn forms<'a>(alloc: Global) -> Result<Command<'a>, AllocError> {
     let run = plain(alloc, "run")
@@ -54,14 +65,15 @@ fn forms<'a>(alloc: Global) -> Result<Command<'a>, AllocError> {
         .arg(settings_option(alloc).required(true))?
         .arg(file_at(alloc, "scripts").required(true))?
         .arg(file_at(alloc, "schedule").required(true))?;
-    let report = plain(alloc, "report").arg(file_at(alloc, "record"))?;
     plain(alloc, "mc2")
         .disable_help_subcommand(true)
         .no_binary_name(true)
         .subcommand_required(true)
         .subcommand(run)?
         .subcommand(sim)?
-        .subcommand(report)
+        .subcommand(on_record(alloc, "report")?)?
+        .subcommand(on_record(alloc, "audit")?)?
+        .subcommand(on_record(alloc, "merge")?)
 }
 
 /// A word that is refused is no form, unless memory was wanting.
@@ -96,6 +108,22 @@ fn file<'a>(found: &ArgMatches<'a>, id: &str) -> Result<Option<&'a str>, Fault>
     }
 }
 
+/// The three files of a simulation.
+fn sim_words<'a>(found: &ArgMatches<'a>) -> Result<Arguments<'a>, Fault>
+    ensures { IfErr result (λ f. f ≡ Fault.BadWords) }
+{
+    let settings = file(found, "settings")?;
+    let scripts = file(found, "scripts")?;
+    match (settings, scripts, file(found, "schedule")?) {
+        (Some(settings), Some(scripts), Some(schedule)) => Ok(Arguments::Sim {
+            settings,
+            scripts,
+            schedule,
+        }),
+        _ => Err(Fault::BadWords),
+    }
+}
+
 /// Whether the word is one that a command line often takes, but no form has.
 fn is_no_form(word: &str) -> bool {
     word == "--" || word.starts_with("--settings=")
@@ -118,20 +146,20 @@ pub fn read_words<'a>(alloc: Global, words: &'a [String]) -> Result<Arguments<'a
     let Some((name, found)) = matches.subcommand() else {
         return Err(Fault::BadWords);
     };
-    if name == "report" {
-        let record = file(found, "record")?;
-        return Ok(Arguments::Report { record });
-    }
-    let settings = file(found, "settings")?;
-    let scripts = file(found, "scripts")?;
-    if name == "run" {
-        return Ok(Arguments::Run { settings, scripts });
-    }
-    match (settings, scripts, file(found, "schedule")?) {
-        (Some(settings), Some(scripts), Some(schedule)) => Ok(Arguments::Sim {
-            settings,
-            scripts,
-            schedule,
+    match name {
+        "run" => Ok(Arguments::Run {
+            settings: file(found, "settings")?,
+            scripts: file(found, "scripts")?,
+        }),
+        "sim" => sim_words(found),
+        "report" => Ok(Arguments::Report {
+            record: file(found, "record")?,
+        }),
+        "audit" => Ok(Arguments::Audit {
+            record: file(found, "record")?,
+        }),
+        "merge" => Ok(Arguments::Merge {
+            record: file(found, "record")?,
         }),
         _ => Err(Fault::BadWords),
     }

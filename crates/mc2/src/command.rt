@@ -1,19 +1,21 @@
 //! A whole command: the words after the program's name in, a status out.
 
-ghost use Rattle.std.specs.Prelude.{◌≡◌, ◌⊎◌, true, OnOk, IfOk, IfErr};
+ghost use Rattle.std.specs.Prelude.{◌≡◌, ◌⊎◌, ◌≤◌, true, OnOk, IfOk, IfErr};
 ghost use Rattle.event_log.specs.Stream.{counted};
-ghost use Rattle.mc2.specs.Answers.{Answers, Prints, PrintsSome};
-ghost use Rattle.mc2.specs.Printed.{printed};
+ghost use Rattle.mc2.specs.Answers.{Answers, AnswersWith, Finds, FindsNoOrder, Prints, PrintsAnySome};
+ghost use Rattle.mc2.specs.Printed.{printed, status_by, status_with};
 ghost use Rattle.mc2.specs.Faults.{status_of};
 
 #[cfg(test)]
 mod tests;
 
 use crate::Inputs;
-use crate::answers::{report_answer, run_answer, sim_answer};
+use crate::answers::{audit_answer, merge_answer, report_answer, run_answer, sim_answer};
 use crate::arguments::{Arguments, read_words};
 use crate::fault::Fault;
+use auditor::Verdict;
 use event_log::Sink;
+use log_merge::{Merged, write_merged};
 use scripts::{Buffered, Record, write_record, write_text};
 use std::alloc::Global;
 use std::fmt::Write;
@@ -31,14 +33,15 @@ pub fn command<R: Threads + Wait + Sync, I: Inputs, W: Sink, F: Sink>(
     faults: &mut F,
 ) -> u8
     ensures done { result ≡ 0 → Prints (Answers (I.held inputs.old)) (W.contents out.old) (W.contents out.new) }
-    ensures none_failed { result ≡ 0 → W.failed out.new ≡ W.failed out.old }
+    ensures none_failed { result ≤ 1 → W.failed out.new ≡ W.failed out.old }
     ensures no_line { result ≡ 0 → faults.new ≡ faults.old }
+    ensures found { result ≡ 1 → Prints (Finds (I.held inputs.old)) (W.contents out.old) (W.contents out.new) ⊎ ((out.new ≡ out.old) × FindsNoOrder (I.held inputs.old)) }
     ensures nothing_written { result ≡ 2 → out.new ≡ out.old }
-    ensures failed { result ≡ 3 → (out.new ≡ out.old) ⊎ (PrintsSome (Answers (I.held inputs.old)) (W.contents out.old) (W.contents out.new) × (W.failed out.new ≡ counted true (W.failed out.old))) }
-    ensures statuses { (result ≡ 0) ⊎ ((result ≡ 2) ⊎ (result ≡ 3)) }
+    ensures failed { result ≡ 3 → (out.new ≡ out.old) ⊎ (PrintsAnySome (I.held inputs.old) (W.contents out.old) (W.contents out.new) × (W.failed out.new ≡ counted true (W.failed out.old))) }
+    ensures statuses { result ≤ 3 }
 {
     match perform(rt, alloc, words, inputs, out) {
-        Ok(()) => 0,
+        Ok(status) => status,
         Err(fault) => refuse(&fault, faults),
     }
 }
@@ -48,6 +51,22 @@ pub fn command<R: Threads + Wait + Sync, I: Inputs, W: Sink, F: Sink>(
 enum Answer {
     Record(Record),
     Report(String),
+    /// A verdict with its line.
+    Verdict(Verdict, String),
+    /// A record with the one order of its entries.
+    Merged(Record, Merged),
+}
+
+impl Answer {
+    /// The status that the program ends with, once it is written.
+    fn status(&self) -> u8
+        ensures { result ≡ status_with self.now }
+    {
+        match self {
+            Answer::Verdict(Verdict::Unsound(_), _) => 1,
+            _ => 0,
+        }
+    }
 }
 
 /// What the words ask for, once it is known.
@@ -57,7 +76,8 @@ fn answered<R: Threads + Wait + Sync, I: Inputs>(
     words: &[String],
     inputs: &mut I,
 ) -> Result<Answer, Fault>
-    ensures answer { IfOk result (λ a. Answers (I.held inputs.old) (printed a)) }
+    ensures answer { IfOk result (λ a. AnswersWith (I.held inputs.old) (status_with a) (printed a)) }
+    ensures found { IfErr result (λ f. status_of f ≡ 1 → FindsNoOrder (I.held inputs.old)) }
     ensures no_write { result ≡ Err Fault.WriteFailed → ⊥ }
 {
     match read_words(alloc, words)? {
@@ -77,28 +97,39 @@ fn answered<R: Threads + Wait + Sync, I: Inputs>(
             let text = report_answer(alloc, inputs, record)?;
             Ok(Answer::Report(text))
         }
+        Arguments::Audit { record } => {
+            let (verdict, line) = audit_answer(alloc, inputs, record)?;
+            Ok(Answer::Verdict(verdict, line))
+        }
+        Arguments::Merge { record } => {
+            let (record, merged) = merge_answer(alloc, inputs, record)?;
+            Ok(Answer::Merged(record, merged))
+        }
     }
 }
 
-/// Does what the words ask for.
+/// Does what the words ask for, and answers the status.
 fn perform<R: Threads + Wait + Sync, I: Inputs, W: Sink>(
     rt: &R,
     alloc: Global,
     words: &[String],
     inputs: &mut I,
     out: &mut W,
-) -> Result<(), Fault>
-    ensures done { OnOk result (Prints (Answers (I.held inputs.old)) (W.contents out.old) (W.contents out.new)) }
+) -> Result<u8, Fault>
+    ensures done { IfOk result (λ status. Prints (AnswersWith (I.held inputs.old) status) (W.contents out.old) (W.contents out.new)) }
+    ensures found { IfErr result (λ f. status_of f ≡ 1 → FindsNoOrder (I.held inputs.old)) }
     ensures none_failed { OnOk result (W.failed out.new ≡ W.failed out.old) }
-    ensures some { result ≡ Err Fault.WriteFailed → PrintsSome (Answers (I.held inputs.old)) (W.contents out.old) (W.contents out.new) }
+    ensures some { result ≡ Err Fault.WriteFailed → PrintsAnySome (I.held inputs.old) (W.contents out.old) (W.contents out.new) }
     ensures one_failed { result ≡ Err Fault.WriteFailed → W.failed out.new ≡ counted true (W.failed out.old) }
     ensures nothing_written { IfErr result (λ f. (f ≡ Fault.WriteFailed → ⊥) → out.new ≡ out.old) }
 {
-    match answered(rt, alloc, words, inputs)? {
-        Answer::Record(record) => write_record(&record, out)?,
-        Answer::Report(text) => write_text(text.as_bytes(), out)?,
+    let answer = answered(rt, alloc, words, inputs)?;
+    match &answer {
+        Answer::Record(record) => write_record(record, out)?,
+        Answer::Report(text) | Answer::Verdict(_, text) => write_text(text.as_bytes(), out)?,
+        Answer::Merged(record, merged) => write_merged(record, merged, out)?,
     }
-    Ok(())
+    Ok(answer.status())
 }
 
 /// Writes the line of the refusal, and answers its status.

@@ -26,6 +26,10 @@ pub enum Fault {
     BadSchedule(usize),
     #[error("mc2: E9 record: line {0}")]
     BadRecord(usize),
+    #[error("mc2: E10 unsound: {0}")]
+    Unsound(String),
+    #[error("mc2: E11 cycle: {0}")]
+    Cycle(String),
     #[error("mc2: E12 read failed")]
     ReadFailed,
     #[error("mc2: E13 write failed")]
@@ -40,6 +44,7 @@ impl Fault {
         ensures { result ≡ status_of self.now }
     {
         match self {
+            Fault::Unsound(_) | Fault::Cycle(_) => 1,
             Fault::BadSettings(_)
             | Fault::BadScripts(_)
             | Fault::BadSchedule(_)

@@ -5,12 +5,13 @@ ghost use Rattle.scripts.specs.ScriptFaults.{SpellsRest, NamesFirstBadOfRest};
 ghost use Rattle.scripts.specs.ScriptText.{ScriptsFit};
 ghost use Rattle.scripts.specs.SettingsText.{IsSettingsFault};
 ghost use Rattle.scripts.specs.declared.settings_fault.BadSettings.{BadSettings};
-ghost use Rattle.mc2.specs.Answers.{Reads, ReadsSettings, bytes_of};
-ghost use Rattle.mc2.specs.Faults.{IsOfSettings};
+ghost use Rattle.scripts.specs.RecordFaults.{IsBadLine};
+ghost use Rattle.mc2.specs.Answers.{Reads, ReadsSettings, ReadsRecord, bytes_of};
+ghost use Rattle.mc2.specs.Faults.{IsOfSettings, IsOfRecord};
 
 use crate::fault::Fault;
 use event_log::{Source, StreamFailed};
-use scripts::{ReadFault, Scripts, ScriptsReadFault, Settings, read_all};
+use scripts::{ReadFault, Record, Scripts, ScriptsReadFault, Settings, read_all};
 use std::alloc::Global;
 
 /// The files and the standard input that a command may read.
@@ -80,4 +81,18 @@ pub fn read_scripts<I: Inputs>(
         Ok(mut input) => Scripts::read_from(alloc, &mut input, settings),
         Err(StreamFailed) => Err(ScriptsReadFault::ReadFailed),
     }
+}
+
+/// The record that the input of that name spells.
+pub fn read_record<I: Inputs>(
+    alloc: Global,
+    inputs: &mut I,
+    name: Option<&str>,
+) -> Result<Record, Fault>
+    ensures found { IfOk result (ReadsRecord (I.held inputs.old) (bytes_of name.entry)) }
+    ensures bad { (n : ℕ) → result ≡ Err (Fault.BadRecord n) → (bytes : List ℕ) × Reads (I.held inputs.old) (bytes_of name.entry) bytes × IsBadLine bytes n }
+    ensures fault { IfErr result IsOfRecord }
+{
+    let bytes = read_input(alloc, inputs, name)?;
+    Ok(Record::read(alloc, bytes.as_slice())?)
 }

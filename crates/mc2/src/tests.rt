@@ -1,5 +1,7 @@
 //! The worked runs, refused scripts, and sinks that fail.
 
+mod texts;
+
 use crate::fault::Fault;
 use cpu_worker::{OpenGate, run};
 use event_log::{Plain, Sink, StreamFailed};

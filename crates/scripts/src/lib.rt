@@ -30,8 +30,6 @@ mod settings_text;
 mod source_reader;
 mod spelled;
 mod split;
-#[cfg(test)]
-mod tests;
 mod text_lines;
 mod words;
 mod write;
@@ -46,7 +44,7 @@ pub use read::value;
 pub use record::Record;
 pub use record_fault::RecordFault;
 pub use record_reader::no_text_begins_another;
-pub use record_writer::write_record;
+pub use record_writer::{begin_line, end_line, put_done, write_record};
 pub use request::Request;
 pub use schedule::{MOST_STEPS, Schedule, ScheduleFault};
 pub use script_list::{MOST_ENTRIES, Scripts};

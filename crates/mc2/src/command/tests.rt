@@ -1,5 +1,7 @@
 //! Whole commands: the status, what was written, and the line of each refusal.
 
+mod judging;
+
 use super::command;
 use crate::Inputs;
 use crate::tests::{Failing, Failure, HEAD, REFUSED, WORKED};

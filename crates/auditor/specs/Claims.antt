@@ -1,0 +1,47 @@
+-- How entries take events, one after the other.
+use Rattle.std.specs.Prelude.{◌≡◌, ◌≢◌, ◌⊎◌, ℕ, ◌+◌, ◌<◌, ◌≤◌, List, length, Result, Ok, Err, Some, slice_get}
+use Rattle.arrayvec.specs.ArrayVec.{ArrayVec}
+use Rattle.event_log.specs.declared.object.SeqObject.{Ghosts}
+use Rattle.event_log.specs.declared.event.Event.{Event}
+use Rattle.event_log.specs.declared.entry.Done.{Done}
+use Rattle.event_log.specs.declared.entry.Done.TheVariants as done
+use Rattle.event_log.specs.declared.entry.Entry.{Entry}
+use Rattle.event_log.specs.Log.{Fulfils}
+use Rattle.word_rule.specs.Sound.{steps_by}
+use Rattle.auditor.specs.Links.{IsAt}
+use Rattle.auditor.specs.declared.entries.EntryFault.{EntryFault}
+use Rattle.auditor.specs.declared.entries.EntryFault.TheVariants as fault
+
+module _ {O P C R : Type 0} where
+  -- how many events were taken, after what became of one entry more
+  abbrev pub taken : ℕ → Done O P C R → ℕ
+  taken k (done.Steps s) = k + 1
+  taken k done.NoRoom = k
+
+module _ {O P C R : Type 0} (meaning : Ghosts O P C R) (cpu limit : ℕ) (log : List (Event O P C R)) where
+  -- after k entries that were done, this one is as it must be
+  abbrev pub IsRight : ℕ → ArrayVec C → Done O P C R → Type 0
+  IsRight k asked (done.Steps s) = (slice_get (steps_by cpu log) k ≡ Some s) × Fulfils meaning asked.items s.list.items
+  IsRight k asked done.NoRoom = (limit ≤ length log) × (length (steps_by cpu log) ≤ k)
+
+  -- there was no room, says the entry, but there was
+  abbrev pub HasRoom : ℕ → Done O P C R → Type 0
+  HasRoom k (done.Steps s) = ⊥
+  HasRoom k done.NoRoom = (length log < limit) ⊎ (k < length (steps_by cpu log))
+
+  -- the steps aren't those of the CPU's next event
+  abbrev pub IsOther : ℕ → Done O P C R → Type 0
+  IsOther k (done.Steps s) = slice_get (steps_by cpu log) k ≢ Some s
+  IsOther k done.NoRoom = ⊥
+
+  -- they are, and aren't what was asked
+  abbrev pub IsUnasked : ℕ → ArrayVec C → Done O P C R → Type 0
+  IsUnasked k asked (done.Steps s) = (slice_get (steps_by cpu log) k ≡ Some s) × (Fulfils meaning asked.items s.list.items → ⊥)
+  IsUnasked k asked done.NoRoom = ⊥
+
+  -- what is answered of an entry: the place of the CPU's next event, or what is wrong
+  abbrev pub IsJudged : ℕ → Entry O P C R → Result ℕ EntryFault → Type 0
+  IsJudged k e (Ok j) = IsRight k e.asked e.done × IsAt cpu log (taken k e.done) j
+  IsJudged k e (Err fault.RoomWasLeft) = HasRoom k e.done
+  IsJudged k e (Err fault.NotItsEvent) = IsOther k e.done
+  IsJudged k e (Err fault.NotAsked) = IsUnasked k e.asked e.done

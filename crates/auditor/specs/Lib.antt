@@ -1,0 +1,12 @@
+pub mod Faults
+pub mod Links
+pub mod Claims
+pub mod Transcripts
+pub mod Passes
+pub mod NoFaults
+pub mod Logs
+pub mod Audits
+pub mod Marks
+pub mod Pages
+pub mod Plain
+pub mod VerdictText

@@ -1,0 +1,55 @@
+//! Records.
+
+ghost use Rattle.std.specs.Prelude.{◌≡◌, ◌↔◌, IfOk};
+ghost use Rattle.word_rule.specs.Sound.{Sound};
+ghost use Rattle.scripts.specs.Runs.{opened_of};
+ghost use Rattle.auditor.specs.Faults.{IsFirstFault};
+ghost use Rattle.auditor.specs.Transcripts.{opened_by};
+ghost use Rattle.auditor.specs.VerdictText.{CanBeTold};
+
+use crate::judge::judge_run;
+use crate::replays::PlainObject;
+use crate::{Fault, Replays, Terms, Verdict};
+use event_log::{OutOfMemory, SeqObject};
+use scripts::{KernelObject, Record, Settings, parameters_fit};
+use std::alloc::Global;
+
+/// What the objects of the settings are judged by.
+fn terms_of(alloc: Global, settings: &Settings) -> Result<Vec<Terms<KernelObject>>, OutOfMemory>
+    ensures { IfOk result (λ terms. opened_by terms.items ≡ opened_of settings.now) }
+{
+    let objects = settings.objects();
+    let Ok(mut terms) = Vec::with_capacity(alloc, objects.len()) else {
+        return Err(OutOfMemory);
+    };
+    for object in objects {
+        terms.push_reserved(Terms {
+            params: object.params(),
+            limit: object.events(),
+        });
+    }
+    Ok(terms)
+}
+
+/// The verdict on a record, whose calls are answered a second time by values of that type.
+fn audit_by<J: Replays<KernelObject>>(
+    alloc: Global,
+    record: &Record,
+) -> Result<Verdict, OutOfMemory>
+    ensures sound { IfOk result (λ v. (v ≡ Verdict.Sound) ↔ Sound ⟦<KernelObject as SeqObject>⟧ (opened_of «record».now.settings) «record».now.run) }
+    ensures fault { (f : Fault) → IfOk result (λ v. (v ≡ Verdict.Unsound f) ↔ IsFirstFault ⟦<KernelObject as SeqObject>⟧ (opened_of «record».now.settings) «record».now.run f) }
+    ensures told { IfOk result (CanBeTold «record».now.settings) }
+{
+    parameters_fit();
+    let terms = terms_of(alloc, record.settings())?;
+    judge_run::<KernelObject, J>(alloc, terms.as_slice(), record.run())
+}
+
+/// Whether the record is sound, or else its first fault.
+pub fn audit(alloc: Global, record: &Record) -> Result<Verdict, OutOfMemory>
+    ensures sound { IfOk result (λ v. (v ≡ Verdict.Sound) ↔ Sound ⟦<KernelObject as SeqObject>⟧ (opened_of «record».now.settings) «record».now.run) }
+    ensures fault { (f : Fault) → IfOk result (λ v. (v ≡ Verdict.Unsound f) ↔ IsFirstFault ⟦<KernelObject as SeqObject>⟧ (opened_of «record».now.settings) «record».now.run f) }
+    ensures told { IfOk result (CanBeTold «record».now.settings) }
+{
+    audit_by::<PlainObject>(alloc, record)
+}

@@ -1,0 +1,115 @@
+//! A page pool, once more.
+
+ghost use Rattle.std.specs.Prelude.{◌≡◌};
+ghost use Rattle.page_pool.specs.Table.{left_of, least_free};
+ghost use Rattle.page_pool.specs.Answer.{alloc_answer, free_answer};
+
+use crate::Replays;
+use event_log::OutOfMemory;
+use page_pool::{PagePool, PoolCall, PoolReply};
+use std::alloc::Global;
+use std::marker::Model;
+
+/// The owner of each page, or none; how many have none; and a page below which every one has an owner.
+#[derive(Drop)]
+pub struct PlainPool {
+    owners: Vec<Option<u8>>,
+    free: u32,
+    full_below: usize,
+}
+
+impl Model for PlainPool {
+    ghost use Rattle.std.specs.Prelude.{◌≡◌, ◌<◌, ◌≤◌, ◌^◌, length};
+    ghost use Rattle.page_pool.specs.State.{PoolState};
+    ghost use Rattle.page_pool.specs.Table.{left_of};
+    ghost use Rattle.auditor.specs.Pages.{AreTakenBelow};
+
+    ghost Value = { PoolState };
+
+    ghost view = { λ s. record { pages = length s.owners.items; owners = s.owners.items } };
+
+    ghost invariant = { λ s. AreTakenBelow s.full_below s.owners.items × (s.full_below ≤ length s.owners.items) × (s.free ≡ left_of s.owners.items) × (length s.owners.items < 2 ^ 32) };
+}
+
+impl PlainPool {
+    /// The least page without an owner, looked for from the page on below which none is free.
+    fn least_free(&self) -> Option<usize>
+        ensures { result ≡ least_free self.now.owners }
+    {
+        for page in self.full_below..self.owners.len() {
+            if self.owners[page].is_none() {
+                return Some(page);
+            }
+        }
+        None
+    }
+
+    fn give(&mut self, owner: u32) -> PoolReply
+        ensures { (self.new, result) ≡ alloc_answer self.old owner }
+    {
+        if owner > 15 {
+            return PoolReply::BadOwner;
+        }
+        match self.least_free() {
+            Some(page) => {
+                self.owners[page] = Some(owner as u8);
+                self.free -= 1;
+                self.full_below = page + 1;
+                PoolReply::Page(page as u32)
+            }
+            None => PoolReply::NoPage,
+        }
+    }
+
+    fn take_back(&mut self, owner: u32, page: u32) -> PoolReply
+        ensures { (self.new, result) ≡ free_answer self.old owner page }
+    {
+        let place = page as usize;
+        if owner > 15 {
+            return PoolReply::BadOwner;
+        }
+        if place >= self.owners.len() {
+            return PoolReply::BadPage;
+        }
+        match self.owners[place] {
+            None => PoolReply::NotTaken,
+            Some(other) if u32::from(other) == owner => {
+                self.owners[place] = None;
+                self.free += 1;
+                self.full_below = self.full_below.min(place);
+                PoolReply::Ok
+            }
+            Some(_) => PoolReply::NotYours,
+        }
+    }
+
+    fn count(&self) -> u32
+        ensures { result ≡ left_of self.now.owners }
+    {
+        self.free
+    }
+}
+
+impl Replays<PagePool> for PlainPool {
+    ghost shows = { λ s. s };
+
+    fn open(alloc: Global, params: &u32) -> Result<PlainPool, OutOfMemory> {
+        let pages = *params;
+        match vec![in alloc; None; pages as usize] {
+            Ok(owners) => Ok(PlainPool {
+                owners,
+                free: pages,
+                full_below: 0,
+            }),
+            Err(_) => Err(OutOfMemory),
+        }
+    }
+
+    fn apply(&mut self, call: &PoolCall) -> PoolReply {
+        match *call {
+            PoolCall::Alloc(owner) => self.give(owner),
+            PoolCall::Free { owner, page } => self.take_back(owner, page),
+            PoolCall::Left => PoolReply::Count(self.count()),
+        }
+    }
+}

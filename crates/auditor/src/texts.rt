@@ -1,0 +1,70 @@
+//! Texts of records, from a source.
+
+ghost use Rattle.std.specs.Prelude.{◌≡◌, true, Some, IfOk, OnOk, IfErr};
+ghost use Rattle.event_log.specs.Stream.{counted};
+ghost use Rattle.scripts.specs.RecordFaults.{text_of};
+ghost use Rattle.scripts.specs.RecordRanges.{RecordFits, Record as Shown};
+ghost use Rattle.auditor.specs.Audits.{IsVerdictOnText, IsTextFault, IsAudited};
+
+use crate::{Verdict, audit};
+use event_log::{OutOfMemory, Source};
+use scripts::{ReadFault, Record, RecordFault, read_all};
+use std::alloc::Global;
+
+/// Why a text was not judged.
+#[derive(Clone, Copy, Debug, PartialEq, Eq, Drop)]
+pub enum TextFault {
+    OutOfMemory,
+    /// The first line, from 1, with which no record goes on.
+    BadLine(usize),
+    ReadFailed,
+}
+
+impl From<OutOfMemory> for TextFault {
+    ghost use Rattle.auditor.specs.declared.texts.TextFault.TheVariants.{OutOfMemory};
+
+    ghost from_gives = { λ _ fault. fault ≡ OutOfMemory };
+
+    fn from(_failed: OutOfMemory) -> TextFault {
+        TextFault::OutOfMemory
+    }
+}
+
+impl From<ReadFault> for TextFault {
+    ghost use Rattle.auditor.specs.Audits.{of_read};
+
+    ghost from_gives = { λ cause fault. fault ≡ of_read cause };
+
+    fn from(fault: ReadFault) -> TextFault {
+        match fault {
+            ReadFault::OutOfMemory => TextFault::OutOfMemory,
+            ReadFault::ReadFailed => TextFault::ReadFailed,
+        }
+    }
+}
+
+impl From<RecordFault> for TextFault {
+    ghost use Rattle.auditor.specs.Audits.{of_record};
+
+    ghost from_gives = { λ cause fault. fault ≡ of_record cause };
+
+    fn from(fault: RecordFault) -> TextFault {
+        match fault {
+            RecordFault::OutOfMemory => TextFault::OutOfMemory,
+            RecordFault::Line(line) => TextFault::BadLine(line),
+        }
+    }
+}
+
+/// Reads the source to its end, and judges the record that its bytes spell.
+pub fn audit_text<R: Source>(alloc: Global, source: &mut R) -> Result<Verdict, TextFault>
+    ensures verdict { IfOk result (IsVerdictOnText (R.remaining source.old)) }
+    ensures fault { IfErr result (IsTextFault (R.remaining source.old)) }
+    ensures only { (r : Shown) → RecordFits r → R.remaining source.old ≡ Some (text_of r) → IsAudited r result }
+    ensures none_failed { OnOk result (R.failed source.new ≡ R.failed source.old) }
+    ensures one_failed { result ≡ Err TextFault.ReadFailed → R.failed source.new ≡ counted true (R.failed source.old) }
+{
+    let bytes = read_all(alloc, source)?;
+    let record = Record::read(alloc, bytes.as_slice())?;
+    Ok(audit(alloc, &record)?)
+}

@@ -1,0 +1,15 @@
+pub mod Lent
+pub mod Counts
+pub mod Exclusion
+pub mod Fronts
+pub mod Stuck
+pub mod Placing
+pub mod NotSelf
+pub mod Turning
+pub mod Leasts
+pub mod Cycles
+pub mod Matched
+pub mod OneOrder
+pub mod WholeRuns
+pub mod NextLines
+pub mod Rows

@@ -1,0 +1,56 @@
+-- The lists of a record's run are as long as they may be.
+use Rattle.std.proofs.Common.{◌≡◌, ℕ, zero, suc, ◌<◌, List, [], ◌∷◌, length, slice_get, Some, subst, arith}
+use Rattle.std.specs.Prelude.{unwrap_or}
+use Rattle.std.specs.List.{AllByRecursion}
+use Rattle.std.proofs.lemmas.Option.{slice_get_within}
+use Rattle.word_rule.specs.Sound.{transcript_of}
+use Rattle.scripts.specs.declared.script_list.TheConstants.{MOST_ENTRIES}
+use Rattle.scripts.specs.KernelTypes.{KernelRun}
+use Rattle.scripts.specs.RecordRanges.{EntryFits, LogFits, TranscriptFits, RunFits}
+use Rattle.scripts.specs.Settings.{Settings}
+use Rattle.log_merge.specs.declared.place.Place.{Place}
+use Rattle.log_merge.specs.Chains.{Chain, Cyclic}
+use Rattle.log_merge.specs.Nexts.{IsWhole}
+use Rattle.log_merge.specs.Tangles.{WaitsFor}
+
+-- what holds of each list, and of none, holds of the list at a place
+list_at : {E : Type 0} (Q : List E → Type 0) (lists : List (List E)) (i : ℕ) → AllByRecursion Q lists → Q [] → Q (unwrap_or (slice_get lists i) [])
+list_at Q [] i all none = none
+list_at Q (l ∷ lists) zero all none = all.0
+list_at Q (l ∷ lists) (suc i) all none = list_at Q lists i all.1 none
+
+-- what holds of each element holds of one
+one_at : {E : Type 0} (Q : E → Type 0) (xs : List E) (i : ℕ) (x : E) → AllByRecursion Q xs → slice_get xs i ≡ Some x → Q x
+one_at Q [] i x all e = cc
+one_at Q (y ∷ xs) zero x all e = let same : y ≡ x = cc in subst Q same all.0
+one_at Q (y ∷ xs) (suc i) x all e = one_at Q xs i x all.1 e
+
+module _ (settings : Settings) (run : KernelRun) (fit : RunFits settings run) where
+  transcript : (cpu : ℕ) → TranscriptFits (length settings.objects) (transcript_of cpu run)
+  transcript cpu = list_at (TranscriptFits (length settings.objects)) run.transcripts cpu fit.transcripts (omega arith, tt)
+
+  pub whole_of_fits : IsWhole run
+  whole_of_fits = record {
+    entries = λ cpu. let few = (transcript cpu).0 in omega (arith, few);
+    events = λ x. let few = (list_at (LogFits settings.cpus) run.logs x fit.logs (omega arith, tt)).0 in omega (arith, few);
+    objects = λ cpu n e there.
+        let on = (one_at (EntryFits (length settings.objects)) (transcript_of cpu run) n e (transcript cpu).1 there).object in
+        let logs = fit.log_count in
+        omega (arith, on, logs);
+  }
+
+  waits_few : (p q : Place) → WaitsFor run p q → p.entry < MOST_ENTRIES
+  waits_few p q w =
+      let there = slice_get_within (transcript_of p.cpu run) p.entry w.entry w.there in
+      let few = (transcript p.cpu).0 in
+      omega (arith, there, few)
+
+  chain_few : (places : List Place) (q : Place) → Chain (WaitsFor run) places q → AllByRecursion (λ p. p.entry < MOST_ENTRIES) places
+  chain_few [] q w = tt
+  chain_few (p ∷ []) q w = (waits_few p q w, tt)
+  chain_few (p ∷ r ∷ places) q w = (waits_few p r w.0, chain_few (r ∷ places) q w.1)
+
+  -- what waits is an entry of the record
+  pub few_entries : (cycle : List Place) → Cyclic (WaitsFor run) cycle → AllByRecursion (λ p. p.entry < MOST_ENTRIES) cycle
+  few_entries [] w = absurd w
+  few_entries (p ∷ cycle) w = chain_few (p ∷ cycle) p w

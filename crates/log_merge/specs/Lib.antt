@@ -1,0 +1,11 @@
+pub mod Chains
+pub mod Orders
+pub mod Tangles
+pub mod Fronts
+pub mod Nexts
+pub mod Least
+pub mod FoundCycles
+pub mod Merging
+pub mod MergedRecords
+pub mod MergedText
+pub mod CycleText

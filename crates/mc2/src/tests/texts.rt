@@ -1,0 +1,7 @@
+//! The texts of the crate `scripts`: its tests stand here, where they are proved once.
+
+mod record;
+mod schedule;
+mod settings;
+mod source;
+mod words;
