@@ -1,13 +1,14 @@
 // Refuses one allocation, or the start of one thread, to the program that it is loaded into: that of the number in
-// REFUSED_ALLOCATION or REFUSED_THREAD, from 1. Where COUNTS names a file, both counts are written to it at the end.
+// REFUSED_ALLOCATION or REFUSED_THREAD, from 1. It then makes the file that REFUSED_MARK names.
 #define _GNU_SOURCE
 #include <dlfcn.h>
 #include <errno.h>
+#include <fcntl.h>
 #include <pthread.h>
 #include <stdatomic.h>
 #include <stddef.h>
-#include <stdio.h>
 #include <stdlib.h>
+#include <unistd.h>
 
 void *__libc_malloc(size_t size);
 void *__libc_calloc(size_t count, size_t size);
@@ -25,18 +26,17 @@ __attribute__((constructor)) static void read_settings(void) {
     refused_thread = thread ? atol(thread) : 0;
 }
 
-__attribute__((destructor)) static void write_counts(void) {
-    const char *name = getenv("COUNTS");
-    FILE *file = name ? fopen(name, "w") : NULL;
-    if (file) {
-        fprintf(file, "%ld %ld\n", (long)allocations, (long)threads);
-        fclose(file);
-    }
+static void mark(void) {
+    const char *name = getenv("REFUSED_MARK");
+    int file = name ? open(name, O_CREAT | O_WRONLY, 0600) : -1;
+    if (file >= 0)
+        close(file);
 }
 
 static int is_refused(void) {
     if (atomic_fetch_add(&allocations, 1) + 1 != refused_allocation)
         return 0;
+    mark();
     errno = ENOMEM;
     return 1;
 }
@@ -63,7 +63,9 @@ int pthread_create(pthread_t *thread, const pthread_attr_t *attributes, void *(*
     static int (*next)(pthread_t *, const pthread_attr_t *, void *(*)(void *), void *);
     if (!next)
         *(void **)&next = dlsym(RTLD_NEXT, "pthread_create");
-    if (atomic_fetch_add(&threads, 1) + 1 == refused_thread)
+    if (atomic_fetch_add(&threads, 1) + 1 == refused_thread) {
+        mark();
         return EAGAIN;
+    }
     return next(thread, attributes, start, argument);
 }

@@ -22,10 +22,19 @@ use Rattle.log_merge.specs.declared.next.Next.{Next}
 use Rattle.log_merge.specs.declared.next.Next.TheVariants as next
 use Rattle.log_merge.specs.Orders.{numbers}
 use Rattle.log_merge.specs.Fronts.{IsMatched, IsFront, Comes, CanCome, IsBlocked}
-use Rattle.log_merge.specs.Nexts.{IsReady, IsWhole, left_in, placed_with, placed_after, IsNext}
+use Rattle.log_merge.specs.Nexts.{IsReady, IsWhole, left_in, IsNext}
 use Rattle.auditor.proofs.Ranked.{done_at}
 use Rattle.log_merge.proofs.Counts.{not_below}
 use Rattle.log_merge.proofs.Fronts.{rank_is, push_full, push_done}
+
+-- how many events are placed on each object, after one entry more
+abbrev pub placed_with : {O P C R : Type 0} → List ℕ → ℕ → Done O P C R → List ℕ
+placed_with placed x (done.Steps s) = set placed x (suc (get_or placed x 0))
+placed_with placed x done.NoRoom = placed
+
+-- after that entry
+abbrev pub placed_after : {O P C R : Type 0} → List ℕ → Entry O P C R → List ℕ
+placed_after placed e = placed_with placed e.object e.done
 
 get_zeros : (n i : ℕ) → get_or {A = ℕ} (replicate {A = ℕ} n 0) i 0 ≡ 0
 get_zeros zero i = refl

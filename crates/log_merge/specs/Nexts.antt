@@ -1,7 +1,6 @@
 -- What there is of a CPU's next entry.
-use Rattle.std.specs.Prelude.{◌≡◌, ◌+◌, ◌-◌, ◌^◌, ◌≤◌, ◌<◌, ℕ, suc, List, [], ◌∷◌, length, Some, slice_get, slice_index, slice_set}
+use Rattle.std.specs.Prelude.{◌≡◌, ◌+◌, ◌-◌, ◌^◌, ◌≤◌, ◌<◌, ℕ, List, [], ◌∷◌, length, Some, slice_get, slice_index}
 use Rattle.event_log.specs.declared.event.Steps.{Steps}
-use Rattle.event_log.specs.declared.entry.Done.{Done}
 use Rattle.event_log.specs.declared.entry.Done.TheVariants as done
 use Rattle.event_log.specs.declared.entry.Entry.{Entry}
 use Rattle.event_log.specs.declared.entry.Run.{Run}
@@ -17,14 +16,6 @@ abbrev pub left_in : {E : Type 0} → List (List E) → List ℕ → ℕ
 left_in [] at = 0
 left_in (t ∷ ts) [] = length t + left_in ts []
 left_in (t ∷ ts) (n ∷ at) = (length t - n) + left_in ts at
-
--- how many events are placed on each object, after one entry more
-abbrev pub placed_with : {O P C R : Type 0} → List ℕ → ℕ → Done O P C R → List ℕ
-placed_with placed x (done.Steps s) = slice_set placed x (suc (slice_index placed x))
-placed_with placed x done.NoRoom = placed
-
-abbrev pub placed_after : {O P C R : Type 0} → List ℕ → Entry O P C R → List ℕ
-placed_after placed e = placed_with placed e.object e.done
 
 module _ {O P C R : Type 0} (run : Run O P C R) where
   -- the places fit the run: one for each CPU and object, entries are on objects, and a done entry that comes next has an

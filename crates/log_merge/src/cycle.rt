@@ -40,11 +40,7 @@ fn put_next(places: &mut Vec<Place>, at: &[usize], cpus: &[usize]) -> Result<(),
 }
 
 /// The next entries of the CPUs in a circle, from the least CPU on.
-pub(crate) fn turned(
-    alloc: Global,
-    at: &[usize],
-    cpus: &[usize],
-) -> Result<Vec<Place>, OutOfMemory>
+pub(crate) fn turned(alloc: Global, at: &[usize], cpus: &[usize]) -> Result<Vec<Place>, OutOfMemory>
     requires some { 0 < length cpus.now }
     requires within { AllByRecursion (λ cpu. cpu < length at.now) cpus.now }
     ensures { IfOk result (λ places. (order : List ℕ) × IsTurned cpus.now order × (places.items ≡ map (next_place (slice_index at.now)) order)) }

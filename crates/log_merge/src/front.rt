@@ -68,10 +68,7 @@ fn place_next<O: SeqObject>(
 }
 
 /// The least CPU's next entry each time, as long as one can come.
-pub(crate) fn merge_front<O: SeqObject>(
-    alloc: Global,
-    run: &Run<O>,
-) -> Result<Front, OutOfMemory>
+pub(crate) fn merge_front<O: SeqObject>(alloc: Global, run: &Run<O>) -> Result<Front, OutOfMemory>
     requires whole { IsWhole run.now }
     requires matched { IsMatched run.now }
     ensures stuck { IfOk result (λ f. IsStuck run.now f.places.items f.at.items f.placed.items) }

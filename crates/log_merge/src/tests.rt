@@ -43,7 +43,10 @@ fn worked_orders(rt: HostRuntime) -> Result<(), Fail> {
             TWO_OBJECTS,
             "0 a enq 3 = ok\n0 b put 65 = ok\n0 a deq = thread 3\n",
         ),
-        (THE_LEAST_WAITS, "1 q0 enq 4 = ok\n0 q0 enq 3 = ok ; len = count 2\n"),
+        (
+            THE_LEAST_WAITS,
+            "1 q0 enq 4 = ok\n0 q0 enq 3 = ok ; len = count 2\n",
+        ),
         (FULL_BEHIND, "1 q0 enq 4 = ok\n0 q0 noroom\n1 q0 noroom\n"),
     ] {
         let text = lines(rt.alloc(), record)?;

@@ -1,10 +1,12 @@
 //! A whole command: the words after the program's name in, a status out.
 
-ghost use Rattle.std.specs.Prelude.{◌≡◌, ◌⊎◌, ◌≤◌, true, OnOk, IfOk, IfErr};
+ghost use Rattle.std.specs.Prelude.{◌≡◌, ◌⊎◌, ◌≤◌, true, OnOk, OnErr, IfOk, IfErr};
+ghost use Rattle.std.specs.Io.KnownBytes.{Appends};
 ghost use Rattle.event_log.specs.Stream.{counted};
 ghost use Rattle.mc2.specs.Answers.{Answers, AnswersWith, Finds, FindsNoOrder, Prints, PrintsAnySome};
 ghost use Rattle.mc2.specs.Printed.{printed, status_by, status_with};
 ghost use Rattle.mc2.specs.Faults.{status_of};
+ghost use Rattle.scripts.specs.Output.{AppendsBeginning};
 
 #[cfg(test)]
 mod tests;
@@ -16,7 +18,7 @@ use crate::fault::Fault;
 use auditor::Verdict;
 use event_log::Sink;
 use log_merge::{Merged, write_merged};
-use scripts::{Buffered, Record, write_record, write_text};
+use scripts::{Buffered, Record, WriteFailed, write_record, write_text};
 use std::alloc::Global;
 use std::fmt::Write;
 use std::sync::Wait;
@@ -108,6 +110,21 @@ fn answered<R: Threads + Wait + Sync, I: Inputs>(
     }
 }
 
+/// Writes the text of the answer.
+fn write_answer<W: Sink>(answer: &Answer, out: &mut W) -> Result<(), WriteFailed>
+    ensures ok { OnOk result (Appends (W.contents out.old) (W.contents out.new) (printed answer.now)) }
+    ensures none_failed { OnOk result (W.failed out.new ≡ W.failed out.old) }
+    ensures err { OnErr result (AppendsBeginning (W.contents out.old) (W.contents out.new) (printed answer.now)) }
+    ensures one_failed { OnErr result (W.failed out.new ≡ counted true (W.failed out.old)) }
+{
+    match answer {
+        Answer::Record(record) => write_record(record, out),
+        Answer::Report(text) => write_text(text.as_bytes(), out),
+        Answer::Verdict(_, line) => write_text(line.as_bytes(), out),
+        Answer::Merged(record, merged) => write_merged(record, merged, out),
+    }
+}
+
 /// Does what the words ask for, and answers the status.
 fn perform<R: Threads + Wait + Sync, I: Inputs, W: Sink>(
     rt: &R,
@@ -124,11 +141,7 @@ fn perform<R: Threads + Wait + Sync, I: Inputs, W: Sink>(
     ensures nothing_written { IfErr result (λ f. (f ≡ Fault.WriteFailed → ⊥) → out.new ≡ out.old) }
 {
     let answer = answered(rt, alloc, words, inputs)?;
-    match &answer {
-        Answer::Record(record) => write_record(record, out)?,
-        Answer::Report(text) | Answer::Verdict(_, text) => write_text(text.as_bytes(), out)?,
-        Answer::Merged(record, merged) => write_merged(record, merged, out)?,
-    }
+    write_answer(&answer, out)?;
     Ok(answer.status())
 }
 

@@ -4,7 +4,6 @@ ghost use Rattle.std.specs.Prelude.{◌≡◌, ◌∷◌, ◌<◌, ◌≤◌, []
 ghost use Rattle.std.specs.List.{list_all};
 ghost use Rattle.scripts.specs.ScheduleText.{is_gap, schedule_words, IsSchedule, ScheduleWithin, NamesNoCpu, IsFirstBadWord};
 
-
 use crate::Settings;
 use crate::words::number_of;
 use std::alloc::Global;

@@ -24,7 +24,8 @@ returns c =
     let m = c.least_of.result in
     let f = next_place (slice_index c.args.at.now) in
     let first = c.in_ok-put_next.ensures ∙ (λ j. c.new-places.ensures.items j ++ map f (c.split_at.ensures.back j)) in
-    let whole = c.in_ok-put_next-2.ensures ∙ (λ j. first j ++ map f (c.split_at.ensures.front j)) in
-    (drop m cpus ++ take m cpus,
-    record { place = m; within = c.least_of.ensures.0; least = least_at cpus m c.least_of.ensures; is = refl },
-    whole ∙ sym (map-append f (drop m cpus) (take m cpus)))
+    let whole = c.in_ok-put_next-2.ensures ∙ (λ j. first j ++ map f (c.split_at.ensures.front j)) in (
+      drop m cpus ++ take m cpus,
+      record { place = m; within = c.least_of.ensures.0; least = least_at cpus m c.least_of.ensures; is = refl },
+      whole ∙ sym (map-append f (drop m cpus) (take m cpus)),
+    )

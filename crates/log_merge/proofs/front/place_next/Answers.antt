@@ -4,8 +4,8 @@ use Rattle.std.proofs.Math.ListN.{set}
 use Rattle.word_rule.specs.Sound.{transcript_of}
 use Rattle.log_merge.specs.declared.place.Place.{Place}
 use Rattle.log_merge.specs.Fronts.{IsFront}
-use Rattle.log_merge.specs.Nexts.{left_in, placed_with}
-use Rattle.log_merge.proofs.Placing.{left_falls, next_placed}
+use Rattle.log_merge.specs.Nexts.{left_in}
+use Rattle.log_merge.proofs.Placing.{left_falls, next_placed, placed_with}
 use Rattle.log_merge.proofs.front.place_next.Goals as goal
 
 pub overflow_add-at : goal.overflow_add-at

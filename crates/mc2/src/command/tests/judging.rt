@@ -42,7 +42,13 @@ fn verdicts_and_orders(rt: HostRuntime) -> Result<(), Fail> {
         ("audit none", "", 3, "", "mc2: E12 read failed\n"),
         ("merge none", "", 3, "", "mc2: E12 read failed\n"),
         ("audit a b", "", 2, "", "mc2: E14 bad words\n"),
-        ("merge --settings settings", "", 2, "", "mc2: E14 bad words\n"),
+        (
+            "merge --settings settings",
+            "",
+            2,
+            "",
+            "mc2: E14 bad words\n",
+        ),
     ];
     for (line, record, status, out, faults) in rows {
         let told = judged(&rt, line, record)?;
@@ -66,8 +72,16 @@ fn faults(rt: HostRuntime) -> Result<(), Fail> {
             "0\n",
             "log q0 event 2 step 2: wrong step",
         ),
-        ("0\n", "1\nq0 1 deq | noroom\n", "cpu 0 entry 1: room was left"),
-        ("0\n", "1\nq0 1 deq | deq = empty\n", "cpu 0 entry 1: not its event"),
+        (
+            "0\n",
+            "1\nq0 1 deq | noroom\n",
+            "cpu 0 entry 1: room was left",
+        ),
+        (
+            "0\n",
+            "1\nq0 1 deq | deq = empty\n",
+            "cpu 0 entry 1: not its event",
+        ),
         (
             "1\n0 deq = empty\n",
             "1\nq0 1 len | deq = empty\n",
