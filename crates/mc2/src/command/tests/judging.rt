@@ -2,10 +2,12 @@
 
 use super::{RECORD, told};
 use event_log::Plain;
+use std::sync::Wait;
 use std::test::Fail;
+use std::thread::Threads;
 
 /// A record of one CPU that has this log and this transcript.
-fn alone(rt: &HostRuntime, log: &str, entries: &str) -> Result<String, Fail> {
+fn alone<R: AllocGlobal>(rt: &R, log: &str, entries: &str) -> Result<String, Fail> {
     let head = "record 1\ncpus 1\nobjects 1\nobject q0 ticket 2 queue 8\nlog q0 ";
     Ok(format!(in rt.alloc(); "{head}{log}cpu 0 {entries}end\n")?)
 }
@@ -15,7 +17,11 @@ const CYCLE: &str =
     "record 1\ncpus 2\nobjects 2\nobject a ticket 10 queue 8\nobject b ticket 10 queue 8\nlog a 2\n1 enq 1 = ok\n0 enq 2 = ok\nlog b 2\n0 enq 2 = ok\n1 enq 1 = ok\ncpu 0 2\na 1 enq 2 | enq 2 = ok\nb 1 enq 2 | enq 2 = ok\ncpu 1 2\nb 1 enq 1 | enq 1 = ok\na 1 enq 1 | enq 1 = ok\nend\n";
 
 /// What the program answers to the record on standard input: the status, the output and the line.
-fn judged(rt: &HostRuntime, line: &str, record: &str) -> Result<(u8, String, String), Fail> {
+fn judged<R: Threads + Wait + Sync + AllocGlobal>(
+    rt: &R,
+    line: &str,
+    record: &str,
+) -> Result<(u8, String, String), Fail> {
     let mut out = Plain::new(Vec::new(rt.alloc()));
     let mut faults = Plain::new(Vec::new(rt.alloc()));
     let (status, _) = told(rt, line, record, &mut out, &mut faults)?;
