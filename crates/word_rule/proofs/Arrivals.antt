@@ -8,6 +8,7 @@ use Rattle.word_rule.specs.declared.lock_kind.LockKind.{LockKind}
 use Rattle.word_rule.specs.declared.lock_kind.LockKind.TheVariants as kinds
 use Rattle.word_rule.specs.Line.{holding}
 use Rattle.word_rule.specs.Locks.{Lock, opening_lock, tickets}
+use Rattle.word_rule.specs.LockWords.{ticket_word}
 use Rattle.word_rule.specs.Machine.Opening.{IsOpening}
 use Rattle.word_rule.specs.Machine.Orders.{is_at, arrivals, endings}
 use Rattle.word_rule.specs.Turns.{arrives}
@@ -20,7 +21,7 @@ use Rattle.word_rule.proofs.TurnsKeep.{IsState, locks_keep}
 
 -- a lock before its first step
 pub fresh : (n first : ℕ) (k : LockKind) → n < tickets → IsState n (opening_lock k first)
-fresh n first kinds.Ticket few = (starts_ticket n first (first % tickets ∷ first % tickets ∷ []) few refl).state
+fresh n first kinds.Ticket few = (starts_ticket n first (ticket_word (first % tickets) (first % tickets) ∷ []) few refl).state
 fresh n first kinds.Mcs few = (starts_mcs n first (replicate (1 + 2 * n) 0) refl).state
 
 module _ {O P C R : Type 0} (meaning : Ghosts O P C R) (w : World O P C R) (o : IsOpening w) where

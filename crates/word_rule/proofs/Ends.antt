@@ -37,6 +37,7 @@ module _ {O P C R : Type 0} (h : Cell O P C R) (kind : LockKind) (first : ℕ) w
       stands = λ _. refl;
       whole = λ _ _. refl;
       rests = λ x _ _. refl;
+      finds = λ _ e _. cc;
     },
     known (k + 1) m (omega arith),
   )
@@ -50,6 +51,7 @@ module _ {O P C R : Type 0} (h : Cell O P C R) (kind : LockKind) (first : ℕ) w
       stands = λ hy. absurd (true≢false (sym hy));
       whole = λ hy _. absurd (true≢false (sym hy));
       rests = λ y hy _. absurd (true≢false (sym hy));
+      finds = λ _ e _. cc;
     };
     others = known 0 h.numbers (omega arith);
   }

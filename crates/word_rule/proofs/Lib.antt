@@ -28,3 +28,5 @@ pub mod Openings
 pub mod Owners
 pub mod Sends
 pub mod Lenders
+pub mod TicketWords
+pub mod WordsRead

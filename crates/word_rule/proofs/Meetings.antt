@@ -81,6 +81,7 @@ module _ {O P C R : Type 0} (meaning : Ghosts O P C R) (kind : LockKind) (h : Ce
     stands = s.stands;
     whole = s.whole;
     rests = s.rests;
+    finds = s.finds;
   }
 
   blank_known : (b : GhostState O P C R) (j : ℕ) → K b j 0 (idle 0 [] [])
@@ -90,6 +91,7 @@ module _ {O P C R : Type 0} (meaning : Ghosts O P C R) (kind : LockKind) (h : Ce
     stands = λ hx. absurd (true≢false (sym hx));
     whole = λ hx _. absurd (true≢false (sym hx));
     rests = λ x hx _. absurd (true≢false (sym hx));
+    finds = λ _ e _. cc;
   }
 
   -- what was known of a seat that isn't the one that changed
@@ -212,6 +214,7 @@ module _ {O P C R : Type 0} (meaning : Ghosts O P C R) (kind : LockKind) (h : Ce
           stands = λ acts. all (min v.main.cpu c.cpu) acts;
           whole = λ _ _. refl;
           rests = λ x hx _. all x hx;
+          finds = λ _ e _. cc;
         };
         others = tt;
       }

@@ -1,5 +1,5 @@
 -- What is kept of a lock shows it after each step, too.
-use Rattle.std.proofs.Common.{◌≡◌, ◌≢◌, ℕ, ◌+◌, ◌*◌, ◌%◌, ◌<◌, ◌≤◌, true, false, List, length, get_or, set, refl, sym, ap, ◌∙◌, subst, arith, get_or-set_other, get_or-set_same, length-set, Some, None}
+use Rattle.std.proofs.Common.{◌≡◌, ◌≢◌, ℕ, ◌+◌, ◌-◌, ◌*◌, ◌/◌, ◌%◌, ◌^◌, ◌<◌, ◌≤◌, true, false, List, length, get_or, set, refl, sym, ap, ◌∙◌, subst, arith, get_or-set_other, get_or-set_same, length-set, Some, None}
 use Rattle.std.proofs.lemmas.Bool.{false_from_ne_true}
 use mathlib.Core.Logic.{dite}
 use native.Mathlib.Decide.{ℕ_discrete}
@@ -59,22 +59,28 @@ module _ (n : ℕ) (ws : List ℕ) (stages : List Stage) (l : Lock) (h : Represe
   turn_at : (q : Stage) → get_or stages i Idle ≡ q → turn l i ≡ ticket_turn l i q
   turn_at q e = ticket.turned l i q h.tied.kind_is (stood q e)
 
-  pub drew : get_or stages i Idle ≡ Idle → AfterTicket (set ws 0 ((get_or ws 0 0 + 1) % tickets)) (set stages i (Ticket (Drawn (get_or ws 0 0)))) steps.Draw
-  drew e = became n kinds.Ticket ws stages l h i below _ _ (Ticket (Drawn ((l.serving + length l.line.cpus) % tickets))) (draw l i, steps.Draw) (turn_at Idle e) (ticket.draws n ws l h.tied i below (stood Idle e)) refl (ap (λ t. Ticket (Drawn t)) (ticket.ticket_is n ws l h.tied i below))
+  pub drew : (t : ℕ) → get_or stages i Idle ≡ Idle → t ≡ get_or ws 0 0 / tickets → AfterTicket (set ws 0 ((get_or ws 0 0 + tickets) % 2 ^ 64)) (set stages i (Ticket (Drawn t))) steps.Draw
+  drew t e is = became n kinds.Ticket ws stages l h i below _ _ (Ticket (Drawn ((l.serving + length l.line.cpus) % tickets))) (draw l i, steps.Draw) (turn_at Idle e) (ticket.draws n ws l h.tied i below (stood Idle e)) refl (ap (λ t. Ticket (Drawn t)) (is ∙ ticket.ticket_is n ws l h.tied i below))
 
-  pub won : (t : ℕ) → get_or stages i Idle ≡ Ticket (Drawn t) → get_or ws 1 0 ≡ t → AfterTicket ws (set stages i (Ticket (Served t))) (steps.Look true)
+  pub won : (t : ℕ) → get_or stages i Idle ≡ Ticket (Drawn t) → get_or ws 0 0 % tickets ≡ t → AfterTicket ws (set stages i (Ticket (Served t))) (steps.Look true)
   won t e hit =
       let p = stood (Ticket (Drawn t)) e in
       let f = ticket.hit_first n ws l h.tied i below t p hit in
       became n kinds.Ticket ws stages l h i below ws (Ticket (Served t)) (Ticket (Served t)) (record l { line = taking l.line i (Ticket (Served t)) }, steps.Look true) (turn_at (Ticket (Drawn t)) e ∙ ticket.hits l i t f) (ticket.takes n ws l h.tied i below t p f) refl refl
 
-  pub lost : (t : ℕ) → get_or stages i Idle ≡ Ticket (Drawn t) → get_or ws 1 0 ≢ t → AfterTicket ws stages (steps.Look false)
+  pub lost : (t : ℕ) → get_or stages i Idle ≡ Ticket (Drawn t) → get_or ws 0 0 % tickets ≢ t → AfterTicket ws stages (steps.Look false)
   lost t e other =
       let p = stood (Ticket (Drawn t)) e in
       same n kinds.Ticket ws stages l h i below (steps.Look false) (turn_at (Ticket (Drawn t)) e ∙ ticket.misses l i t (false_from_ne_true (is_first i l.line.cpus) (λ f. other (ticket.first_hit n ws l h.tied i below t p f))))
 
-  pub served : (t : ℕ) → get_or stages i Idle ≡ Ticket (Served t) → AfterTicket (set ws 1 ((get_or ws 1 0 + 1) % tickets)) (set stages i Idle) steps.Serve
-  served t e = became n kinds.Ticket ws stages l h i below _ Idle Idle (serve l i, steps.Serve) (turn_at (Ticket (Served t)) e) (ticket.serves n ws l h.tied i below t (stood (Ticket (Served t)) e)) refl refl
+  served_by : (t : ℕ) → get_or stages i Idle ≡ Ticket (Served t) → (ws' : List ℕ) → IsLockOf kinds.Ticket n ws' (serve l i) → AfterTicket ws' (set stages i Idle) steps.Serve
+  served_by t e ws' tied = became n kinds.Ticket ws stages l h i below ws' Idle Idle (serve l i, steps.Serve) (turn_at (Ticket (Served t)) e) tied refl refl
+
+  pub served_adding : (t : ℕ) → get_or stages i Idle ≡ Ticket (Served t) → t + 1 < tickets → AfterTicket (set ws 0 ((get_or ws 0 0 + 1) % 2 ^ 64)) (set stages i Idle) steps.Serve
+  served_adding t e fits = served_by t e _ (ticket.serves_adding n ws l h.tied i below t (stood (Ticket (Served t)) e) fits)
+
+  pub served_subtracting : (t : ℕ) → get_or stages i Idle ≡ Ticket (Served t) → t + 1 ≡ tickets → AfterTicket (set ws 0 ((get_or ws 0 0 + (2 ^ 64 - (tickets - 1))) % 2 ^ 64)) (set stages i Idle) steps.Serve
+  served_subtracting t e last = served_by t e _ (ticket.serves_subtracting n ws l h.tied i below t (stood (Ticket (Served t)) e) last)
 
 module _ (n : ℕ) (ws : List ℕ) (stages : List Stage) (l : Lock) (h : RepresentsLock n kinds.Mcs ws stages l) (i : ℕ) (below : i < n) where
   abbrev AfterMcs : List ℕ → List Stage → StepDone → Type 0

@@ -1,8 +1,8 @@
 -- A ticket lock's turns: each leaves a state of the lock, and words that are the state's.
-use Rattle.std.proofs.Common.{◌≡◌, ◌≢◌, ℕ, zero, suc, ◌+◌, ◌%◌, ◌<◌, ◌≤◌, Bool, true, false, true≢false, cond, List, [], ◌∷◌, ◌++◌, length, get_or, set, refl, sym, ap, ◌∙◌, subst, arith, length-append, Option}
+use Rattle.std.proofs.Common.{◌≡◌, ◌≢◌, ◌||◌, ℕ, zero, suc, ◌+◌, ◌-◌, ◌/◌, ◌%◌, ◌^◌, ◌<◌, ◌≤◌, Bool, true, false, true≢false, cond, List, [], ◌∷◌, ◌++◌, length, get_or, set, ne_eqb, refl, sym, ap, ◌∙◌, subst, arith, length-append, Option}
 use Rattle.std.proofs.lemmas.Bool.{false_from_ne_true}
 use Rattle.std.proofs.Math.Nat.{mod-add-mod, mod-lt, mod-eq_of_lt}
-use mathlib.Core.Option.{some, some-injective}
+use mathlib.Core.Option.{some, some-injective, some-ne-none}
 use lib.ListN.{get_elem?}
 use Rattle.atomic_table.proofs.Lists.{at_longer, at_last, one_turn}
 use Rattle.event_log.specs.Distinct.{has, AreDistinctBelow}
@@ -13,12 +13,15 @@ use Rattle.word_rule.specs.declared.stage.Stage.{Stage}
 use Rattle.word_rule.specs.declared.stage.Stage.TheVariants.{Idle, Ticket, Mcs, Torn}
 use Rattle.word_rule.specs.declared.stage.TicketStage.TheVariants.{Drawn, Served}
 use Rattle.word_rule.specs.Line.{holding, is_first}
+use Rattle.word_rule.specs.LockWords.{ticket_word}
 use Rattle.word_rule.specs.Locks.{Lock, behind, taking, tickets, opening_lock}
-use Rattle.word_rule.specs.Rule.LockStates.{Waits, Stands, IsLockOf}
+use Rattle.word_rule.specs.Rule.LockStates.{Waits, Stands, IsLock, IsLockOf}
 use Rattle.word_rule.specs.Turns.{draw, serve, turn, turn_of, ticket_turn}
 use Rattle.word_rule.proofs.Lists.{has_tail, at_below, at_first, first_at, first_is, one_place}
 use Rattle.word_rule.proofs.LockLaws.{stands_at, first_holds, idle_outside, line_fits}
 use Rattle.word_rule.proofs.Stays.{each_moved}
+use Rattle.word_rule.proofs.TicketWords.{high_half, low_half, next_added, served_added, served_subtracted}
+use Rattle.word_rule.specs.Tries.{taken_by}
 
 -- the turn of a CPU that stands there
 pub turned : (l : Lock) (i : ℕ) (q : Stage) → l.kind ≡ kinds.Ticket → l.line.stage i ≡ q → turn l i ≡ ticket_turn l i q
@@ -57,18 +60,43 @@ module _ (next : ℕ → Option ℕ) where
   stands_served out serving x p rest ne (Mcs q) s = absurd s
   stands_served out serving x p rest ne Torn s = absurd (ne (sym (some-injective p x s.there)))
 
-module _ (n : ℕ) (ws : List ℕ) (l : Lock) (h : IsLockOf kinds.Ticket n ws l) (i : ℕ) (below : i < n) where
-  -- the next word is the ticket after those in line, and the other word the ticket that is served
-  pub ticket_is : get_or ws 0 0 ≡ (l.serving + length l.line.cpus) % tickets
-  ticket_is = ap (λ z. get_or z 0 0) h.words
+  -- with nobody in line all are idle, and stay so beside one that comes
+  stands_beside : (out : Bool) (serving x p : ℕ) → x ≢ p → (q : Stage) → Stands [] out x kinds.Ticket serving next q → Stands (p ∷ []) true x kinds.Ticket serving next q
+  stands_beside out serving x p ne Idle s = ap (λ (b : Bool). b || false) (ne_eqb p x (λ is. ne (sym is)))
+  stands_beside out serving x p ne (Ticket (Drawn t)) s = absurd (some-ne-none x (sym s.there))
+  stands_beside out serving x p ne (Ticket (Served t)) s = absurd (some-ne-none x (sym s.0.there))
+  stands_beside out serving x p ne (Mcs q) s = absurd s
+  stands_beside out serving x p ne Torn s = absurd (some-ne-none x (sym s.there))
 
-  pub serving_is : get_or ws 1 0 ≡ l.serving
-  serving_is = ap (λ z. get_or z 1 0) h.words
+none_there : (xs : List ℕ) → length xs ≡ 0 → xs ≡ []
+none_there [] e = refl
+none_there (x ∷ xs) e = absurd (omega arith)
+
+module _ (n : ℕ) (ws : List ℕ) (l : Lock) (h : IsLockOf kinds.Ticket n ws l) (i : ℕ) (below : i < n) where
+  abbrev next_one : ℕ
+  next_one = (l.serving + length l.line.cpus) % tickets
+
+  next_small : next_one < tickets
+  next_small = mod-lt (l.serving + length l.line.cpus) (omega arith)
+
+  word_is : get_or ws 0 0 ≡ ticket_word next_one l.serving
+  word_is = ap (λ z. get_or z 0 0) h.words
+
+  -- the high half is the ticket after those in line, and the low half the ticket that is served
+  pub ticket_is : get_or ws 0 0 / tickets ≡ next_one
+  ticket_is = ap (λ (z : ℕ). z / tickets) word_is ∙ high_half next_one l.serving next_small h.state.own.0
+
+  pub serving_is : get_or ws 0 0 % tickets ≡ l.serving
+  serving_is = ap (λ (z : ℕ). z % tickets) word_is ∙ low_half next_one l.serving next_small h.state.own.0
+
+  -- one CPU more in line, and the word with a ticket more
+  one_more : (next_one + 1) % tickets ≡ (l.serving + (length l.line.cpus + 1)) % tickets
+  one_more = mod-add-mod (l.serving + length l.line.cpus) tickets 1 ∙ ap (λ (x : ℕ). x % tickets) (omega arith)
 
   absent : l.line.stage i ≡ Idle → has i l.line.cpus ≡ false
   absent e = idle_outside kinds.Ticket n l h.state i below e
 
-  pub draws : l.line.stage i ≡ Idle → IsLockOf kinds.Ticket n (set ws 0 ((get_or ws 0 0 + 1) % tickets)) (draw l i)
+  pub draws : l.line.stage i ≡ Idle → IsLockOf kinds.Ticket n (set ws 0 ((get_or ws 0 0 + tickets) % 2 ^ 64)) (draw l i)
   draws e =
       let longer : length (l.line.cpus ++ i ∷ []) ≡ length l.line.cpus + 1 = length-append l.line.cpus (i ∷ []) in
       record {
@@ -81,7 +109,7 @@ module _ (n : ℕ) (ws : List ℕ) (l : Lock) (h : IsLockOf kinds.Ticket n ws l)
               (λ x in_cell ne. stands_longer l.next l.line.cpus l.line.out l.serving x i ne (l.line.stage x) (h.state.stood x in_cell));
           own = h.state.own;
         };
-        words = ap (λ (z : List ℕ). set z 0 ((get_or z 0 0 + 1) % tickets)) h.words ∙ ap (λ (x : ℕ). x ∷ l.serving ∷ []) (mod-add-mod (l.serving + length l.line.cpus) tickets 1 ∙ ap (λ (x : ℕ). x % tickets) (omega arith));
+        words = ap (λ (z : List ℕ). set z 0 ((get_or z 0 0 + tickets) % 2 ^ 64)) h.words ∙ ap (λ (x : ℕ). x ∷ []) (next_added next_one l.serving next_small h.state.own.0 ∙ ap (λ (x : ℕ). ticket_word x l.serving) (one_more ∙ ap (λ (x : ℕ). (l.serving + x) % tickets) (sym longer)));
       }
 
   pub waits : (t : ℕ) → l.line.stage i ≡ Ticket (Drawn t) → Waits l.line.cpus l.line.out i l.serving t
@@ -96,12 +124,12 @@ module _ (n : ℕ) (ws : List ℕ) (l : Lock) (h : IsLockOf kinds.Ticket n ws l)
       let one : l.serving ≡ l.serving + w.at = one_turn l.serving (l.serving + w.at) tickets (omega arith) (omega arith) (mod-eq_of_lt h.state.own.0 ∙ (hit ∙ w.drawn)) in
       omega arith
 
-  pub hit_first : (t : ℕ) → l.line.stage i ≡ Ticket (Drawn t) → get_or ws 1 0 ≡ t → is_first i l.line.cpus ≡ true
+  pub hit_first : (t : ℕ) → l.line.stage i ≡ Ticket (Drawn t) → get_or ws 0 0 % tickets ≡ t → is_first i l.line.cpus ≡ true
   hit_first t e hit =
       let w = waits t e in
       at_first i l.line.cpus (subst (λ (k : ℕ). get_elem? l.line.cpus k ≡ some i) (served_now t w (sym serving_is ∙ hit)) w.there)
 
-  pub first_hit : (t : ℕ) → l.line.stage i ≡ Ticket (Drawn t) → is_first i l.line.cpus ≡ true → get_or ws 1 0 ≡ t
+  pub first_hit : (t : ℕ) → l.line.stage i ≡ Ticket (Drawn t) → is_first i l.line.cpus ≡ true → get_or ws 0 0 % tickets ≡ t
   first_hit t e first =
       let w = waits t e in
       let here : w.at ≡ 0 = one_place n l.line.cpus h.state.distinct w.at 0 i w.there (first_at i l.line.cpus first) in
@@ -132,29 +160,75 @@ module _ (n : ℕ) (ws : List ℕ) (l : Lock) (h : IsLockOf kinds.Ticket n ws l)
   pub holder_first : (t : ℕ) → l.line.stage i ≡ Ticket (Served t) → (rest : List ℕ) × (l.line.cpus ≡ i ∷ rest)
   holder_first t e = let f = first_holds kinds.Ticket n l h.state i below (ap holding e) in first_is l.line.cpus i f.there
 
-  pub serves : (t : ℕ) → l.line.stage i ≡ Ticket (Served t) → IsLockOf kinds.Ticket n (set ws 1 ((get_or ws 1 0 + 1) % tickets)) (serve l i)
-  serves t e =
+  pub serves_state : (t : ℕ) → l.line.stage i ≡ Ticket (Served t) → IsLock kinds.Ticket n (serve l i)
+  serves_state t e =
       let r = holder_first t e in
       let rest = r.0 in
       let d : AreDistinctBelow n (i ∷ rest) = subst (AreDistinctBelow n) r.1 h.state.distinct in
-      let longer : length l.line.cpus ≡ suc (length rest) = ap length r.1 in
       let now : ℕ = (l.serving + 1) % tickets in
-      subst (λ (cpus : List ℕ). IsLockOf kinds.Ticket n (set ws 1 ((get_or ws 1 0 + 1) % tickets)) record l { line = record (serve l i).line { cpus = cpus }; serving = now }) (sym (ap behind r.1)) record {
-        kind_is = h.kind_is;
-        state = record {
-          distinct = d.2;
-          busy = λ e. absurd (true≢false (sym e));
-          stood = each_moved l.line.stage (λ x q. Stands rest false x kinds.Ticket now l.next q) n i Idle d.1
-              (λ x in_cell ne. stands_served l.next l.line.out l.serving x i rest ne (l.line.stage x) (subst (λ (z : List ℕ). Stands z l.line.out x kinds.Ticket l.serving l.next (l.line.stage x)) r.1 (h.state.stood x in_cell)));
-          own = (mod-lt (l.serving + 1) (omega arith), h.state.own.1);
-        };
-        words = ap (λ (z : List ℕ). set z 1 ((get_or z 1 0 + 1) % tickets)) h.words ∙ ap (λ (x : ℕ). x ∷ now ∷ []) (ap (λ (k : ℕ). k % tickets) (omega arith) ∙ sym (mod-add-mod (l.serving + 1) tickets (length rest)));
+      subst (λ (cpus : List ℕ). IsLock kinds.Ticket n record l { line = record (serve l i).line { cpus = cpus }; serving = now }) (sym (ap behind r.1)) record {
+        distinct = d.2;
+        busy = λ e. absurd (true≢false (sym e));
+        stood = each_moved l.line.stage (λ x q. Stands rest false x kinds.Ticket now l.next q) n i Idle d.1
+            (λ x in_cell ne. stands_served l.next l.line.out l.serving x i rest ne (l.line.stage x) (subst (λ (z : List ℕ). Stands z l.line.out x kinds.Ticket l.serving l.next (l.line.stage x)) r.1 (h.state.stood x in_cell)));
+        own = (mod-lt (l.serving + 1) (omega arith), h.state.own.1);
       }
 
--- a ticket lock before the first step, and its words
-pub starts_ticket : (n first : ℕ) (ws : List ℕ) → n < tickets → ws ≡ first % tickets ∷ first % tickets ∷ [] → IsLockOf kinds.Ticket n ws (opening_lock kinds.Ticket first)
+  -- the next ticket stays, as one CPU less is in line behind the next that is served
+  same_next : (t : ℕ) → l.line.stage i ≡ Ticket (Served t) → next_one ≡ ((l.serving + 1) % tickets + length (behind l.line.cpus)) % tickets
+  same_next t e =
+      let r = holder_first t e in
+      let longer : length l.line.cpus ≡ suc (length r.0) = ap length r.1 in
+      let rest : length (behind l.line.cpus) ≡ length r.0 = ap (λ z. length (behind z)) r.1 in
+      ap (λ (k : ℕ). k % tickets) (omega arith) ∙ (sym (mod-add-mod (l.serving + 1) tickets (length r.0)) ∙ ap (λ (k : ℕ). ((l.serving + 1) % tickets + k) % tickets) (sym rest))
+
+  serves : (t : ℕ) → l.line.stage i ≡ Ticket (Served t) → (word : ℕ → ℕ) → word (ticket_word next_one l.serving) ≡ ticket_word next_one ((l.serving + 1) % tickets) → IsLockOf kinds.Ticket n (set ws 0 (word (get_or ws 0 0))) (serve l i)
+  serves t e word is = record {
+    kind_is = h.kind_is;
+    state = serves_state t e;
+    words = ap (λ (z : List ℕ). set z 0 (word (get_or z 0 0))) h.words ∙ ap (λ (x : ℕ). x ∷ []) (is ∙ ap (λ (x : ℕ). ticket_word x ((l.serving + 1) % tickets)) (same_next t e));
+  }
+
+  served_is : (t : ℕ) → l.line.stage i ≡ Ticket (Served t) → t ≡ l.serving
+  served_is t e = let s = stands_at kinds.Ticket n l h.state i (Ticket (Served t)) below e in s.1
+
+  -- by adding one to the low half, for every ticket but the greatest
+  pub serves_adding : (t : ℕ) → l.line.stage i ≡ Ticket (Served t) → t + 1 < tickets → IsLockOf kinds.Ticket n (set ws 0 ((get_or ws 0 0 + 1) % 2 ^ 64)) (serve l i)
+  serves_adding t e fits = serves t e (λ w. (w + 1) % 2 ^ 64) (served_added next_one l.serving next_small h.state.own.0 (subst (λ (k : ℕ). k + 1 < tickets) (served_is t e) fits))
+
+  -- by subtracting the greatest from itself
+  pub serves_subtracting : (t : ℕ) → l.line.stage i ≡ Ticket (Served t) → t + 1 ≡ tickets → IsLockOf kinds.Ticket n (set ws 0 ((get_or ws 0 0 + (2 ^ 64 - (tickets - 1))) % 2 ^ 64)) (serve l i)
+  serves_subtracting t e last = serves t e (λ w. (w + (2 ^ 64 - (tickets - 1))) % 2 ^ 64) (served_subtracted next_one l.serving next_small h.state.own.0 (subst (λ (k : ℕ). k + 1 ≡ tickets) (served_is t e) last))
+
+  -- the halves are alike exactly where nobody is in line
+  pub alike_empty : get_or ws 0 0 / tickets ≡ get_or ws 0 0 % tickets → l.line.cpus ≡ []
+  alike_empty alike =
+      let few = h.state.own.1 in
+      let long : length l.line.cpus ≤ n = line_fits kinds.Ticket n l h.state in
+      let one : l.serving ≡ l.serving + length l.line.cpus = one_turn l.serving (l.serving + length l.line.cpus) tickets (omega arith) (omega arith) (mod-eq_of_lt h.state.own.0 ∙ (sym serving_is ∙ (sym alike ∙ ticket_is))) in
+      none_there l.line.cpus (omega arith)
+
+  pub empty_alike : l.line.cpus ≡ [] → get_or ws 0 0 / tickets ≡ get_or ws 0 0 % tickets
+  empty_alike none = ticket_is ∙ (ap (λ (z : List ℕ). (l.serving + length z) % tickets) none ∙ (ap (λ (k : ℕ). k % tickets) (omega arith) ∙ (mod-eq_of_lt h.state.own.0 ∙ sym serving_is)))
+
+  -- with nobody in line, one that was idle is alone there, and has the object
+  pub tries : l.line.stage i ≡ Idle → l.line.cpus ≡ [] → IsLockOf kinds.Ticket n (set ws 0 ((get_or ws 0 0 + tickets) % 2 ^ 64)) (taken_by l i (Ticket (Served l.serving)))
+  tries e none = record {
+    kind_is = h.kind_is;
+    state = record {
+      distinct = (below, refl, tt);
+      busy = λ _. omega arith;
+      stood = each_moved l.line.stage (λ x q. Stands (i ∷ []) true x kinds.Ticket l.serving l.next q) n i (Ticket (Served l.serving)) (record { there = refl; object = refl }, refl)
+          (λ x in_cell ne. stands_beside l.next l.line.out l.serving x i ne (l.line.stage x) (subst (λ (z : List ℕ). Stands z l.line.out x kinds.Ticket l.serving l.next (l.line.stage x)) none (h.state.stood x in_cell)));
+      own = h.state.own;
+    };
+    words = ap (λ (z : List ℕ). set z 0 ((get_or z 0 0 + tickets) % 2 ^ 64)) h.words ∙ ap (λ (x : ℕ). x ∷ []) (next_added next_one l.serving next_small h.state.own.0 ∙ ap (λ (x : ℕ). ticket_word x l.serving) (one_more ∙ ap (λ (z : List ℕ). (l.serving + (length z + 1)) % tickets) none));
+  }
+
+-- a ticket lock before the first step, and its word
+pub starts_ticket : (n first : ℕ) (ws : List ℕ) → n < tickets → ws ≡ ticket_word (first % tickets) (first % tickets) ∷ [] → IsLockOf kinds.Ticket n ws (opening_lock kinds.Ticket first)
 starts_ticket n first ws few is = record {
   kind_is = refl;
   state = record { distinct = tt; busy = λ e. absurd (true≢false (sym e)); stood = λ x below. refl; own = (mod-lt first (omega arith), few) };
-  words = is ∙ ap (λ (z : ℕ). z ∷ first % tickets ∷ []) (sym (mod-eq_of_lt (mod-lt first (omega arith))) ∙ ap (λ (z : ℕ). z % tickets) (omega arith));
+  words = is ∙ ap (λ (z : ℕ). ticket_word z (first % tickets) ∷ []) (sym (mod-eq_of_lt (mod-lt first (omega arith))) ∙ ap (λ (z : ℕ). z % tickets) (omega arith));
 }

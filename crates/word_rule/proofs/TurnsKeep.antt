@@ -47,7 +47,7 @@ module _ (n : ℕ) (l : Lock) (i : ℕ) (below : i < n) where
           by true f = record { state = (tickets.takes n (words_of kinds.Ticket n l) l tied i below t e f).state; line = refl; kind = refl }
           by false f = stays kinds.Ticket (steps.Look false) h refl
       at (Served t) e = let r = tickets.holder_first n (words_of kinds.Ticket n l) l tied i below t e in
-          record { state = (tickets.serves n (words_of kinds.Ticket n l) l tied i below t e).state; line = split_line i r.0 l.line.cpus r.1; kind = refl }
+          record { state = tickets.serves_state n (words_of kinds.Ticket n l) l tied i below t e; line = split_line i r.0 l.line.cpus r.1; kind = refl }
   ticket_goes kind h Idle e = record { state = (tickets.draws n (words_of kinds.Ticket n l) l record { kind_is = kind; state = h; words = refl } i below e).state; line = refl; kind = refl }
   ticket_goes kind h (Mcs q) e = stays kinds.Ticket steps.Idle h refl
   ticket_goes kind h Torn e = stays kinds.Ticket steps.Idle h refl

@@ -5,7 +5,13 @@ use Rattle.event_log.specs.declared.object.SeqObject.{Ghosts}
 use Rattle.event_log.specs.declared.event.Steps.{Steps}
 use Rattle.event_log.specs.declared.event.Event.{Event}
 use Rattle.event_log.specs.Log.{Begins, Fulfils, of}
-use Rattle.word_rule.specs.Cell.{PassView, Lawful, Grows}
+use Rattle.word_rule.specs.Cell.{PassView, Lawful, Grows, OwnsAll}
+
+-- the caller didn't get the object, and did nothing; nobody has it else who owns every number
+pub record IsBusy {O P C R : Type 0} (before after : PassView O P C R) : Type 0 where
+  pub caller : after.caller ≡ before.caller
+  pub grows : Grows before.caller.owned before.seen after.seen
+  pub another : OwnsAll before.caller → ⊥
 
 -- the events of that CPU with these steps, in order
 abbrev pub events_by : {O P C R : Type 0} → ℕ → List (Steps O P C R) → List (Event O P C R)

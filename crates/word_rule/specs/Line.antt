@@ -45,8 +45,7 @@ holding (Mcs Leaving) = true
 holding (Mcs (Passing j)) = true
 holding Torn = true
 
--- whether one that stands there can lend the object to its caller, at such a lock
-abbrev pub lends : LockKind → Stage → Bool
-lends kinds.Ticket (Ticket (Served t)) = true
-lends kinds.Mcs (Mcs Holding) = true
-lends k q = false
+-- where a holder stands, which can still do calls, at such a lock: at a ticket lock with this ticket
+abbrev pub holder : LockKind → ℕ → Stage
+holder kinds.Ticket ticket = Ticket (Served ticket)
+holder kinds.Mcs ticket = Mcs Holding

@@ -1,7 +1,7 @@
--- The words of a lock: all that is said of them, for cells and for the step machine. Word 0 of a ticket lock is the next
--- ticket, word 1 the ticket that is served. Word 0 of an MCS lock for n CPUs is the tail, word 1 + i the `next` of CPU i,
--- word 1 + n + i its `locked`.
-use Rattle.std.specs.Prelude.{ℕ, ◌+◌, ◌%◌, ◌&&◌, not, Bool, true, false, cond, List, [], ◌∷◌, ◌++◌, length, map, Option, Some, None}
+-- The words of a lock: all that is said of them, for cells and for the step machine. A ticket lock has one word: its high
+-- half is the next ticket, its low half the ticket that is served. Word 0 of an MCS lock for n CPUs is the tail, word 1 + i
+-- the `next` of CPU i, word 1 + n + i its `locked`.
+use Rattle.std.specs.Prelude.{ℕ, ◌+◌, ◌*◌, ◌%◌, ◌&&◌, not, Bool, true, false, cond, List, [], ◌∷◌, ◌++◌, length, map, Option, Some, None}
 use Rattle.std.specs.List.{range_with_len}
 use Rattle.word_rule.specs.declared.lock_kind.LockKind.{LockKind}
 use Rattle.word_rule.specs.declared.lock_kind.LockKind.TheVariants as kinds
@@ -29,9 +29,14 @@ locked_by q x cpus = cond (is_armed q && not (is_first x cpus)) 1 0
 abbrev pub locked_at : Line → ℕ → ℕ
 locked_at l x = locked_by (l.stage x) x l.cpus
 
--- the next ticket, and the ticket that is served
+-- the word with these halves
+abbrev pub ticket_word : ℕ → ℕ → ℕ
+ticket_word next serving = next * tickets + serving
+
+-- the next ticket is the one behind those in line. No more CPUs are in line than a cell has, so as there are more tickets
+-- than CPUs the halves are alike only where nobody is
 abbrev pub ticket_words : Lock → List ℕ
-ticket_words l = (l.serving + length l.line.cpus) % tickets ∷ l.serving ∷ []
+ticket_words l = ticket_word ((l.serving + length l.line.cpus) % tickets) l.serving ∷ []
 
 -- the tail, each CPU's `next`, each CPU's `locked`
 abbrev pub mcs_words : ℕ → Lock → List ℕ

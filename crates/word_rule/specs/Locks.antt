@@ -1,6 +1,7 @@
 -- A lock of either kind, apart from its words, and what its line does.
-use Rattle.std.specs.Prelude.{ℕ, ◌%◌, ◌^◌, Bool, true, false, ◌==◌, cond, List, [], ◌∷◌, ◌++◌, Option, Some, None}
+use Rattle.std.specs.Prelude.{ℕ, ◌<◌, ◌%◌, ◌^◌, Bool, true, false, ◌==◌, cond, List, [], ◌∷◌, ◌++◌, Option, Some, None}
 use Rattle.word_rule.specs.declared.lock_kind.LockKind.{LockKind}
+use Rattle.word_rule.specs.declared.lock_kind.LockKind.TheVariants as kinds
 use Rattle.word_rule.specs.declared.stage.Stage.{Stage}
 use Rattle.word_rule.specs.declared.stage.Stage.TheVariants.{Idle, Mcs}
 use Rattle.word_rule.specs.declared.stage.McsStage.TheVariants.{Waiting}
@@ -13,13 +14,18 @@ pub record Lock : Type 0 where
   pub serving : ℕ
   pub next : ℕ → Option ℕ
 
--- how many tickets there are
+-- how many tickets there are: as many as half of a word can tell apart
 abbrev pub tickets : ℕ
-tickets = 2 ^ 64
+tickets = 2 ^ 32
 
 -- a lock before the first step
 abbrev pub opening_lock : LockKind → ℕ → Lock
 opening_lock kind first = record { kind = kind; line = empty_line; serving = first % tickets; next = λ _. None }
+
+-- the first ticket is a ticket; an MCS lock has none
+abbrev pub IsFirst : LockKind → ℕ → Type 0
+IsFirst kinds.Ticket first = first < tickets
+IsFirst kinds.Mcs first = Unit {0}
 
 -- the last of k ∷ ks
 abbrev pub last_from : ℕ → List ℕ → ℕ

@@ -15,6 +15,11 @@ module _ {O P C R : Type 0} (meaning : Ghosts O P C R) (before after : CallerSta
   IsEnter true = Takes meaning (Mcs Ready) (Mcs Holding) before after
   IsEnter false = (p : ℕ) × IsOther before.caller p × NeedsAnother meaning (Moves meaning (Mcs Ready) (Mcs (Behind p))) before after
 
+  -- the caller swaps itself into the tail if that names nobody: it gets the object, or is idle again
+  abbrev pub IsTryEnter : Bool → Type 0
+  IsTryEnter true = Takes meaning (Mcs Ready) (Mcs Holding) before after
+  IsTryEnter false = NeedsAnother meaning (Moves meaning (Mcs Ready) Idle) before after
+
   -- the caller sets its `locked`
   abbrev pub IsArm : Type 0
   IsArm = (p : ℕ) × IsOther before.caller p × Moves meaning (Mcs (Behind p)) (Mcs (Armed p)) before after

@@ -15,6 +15,11 @@ module _ {O P C R : Type 0} (meaning : Ghosts O P C R) (before after : CallerSta
   IsLook true = (ticket : ℕ) × Takes meaning (Ticket (Drawn ticket)) (Ticket (Served ticket)) before after
   IsLook false = (ticket : ℕ) × NeedsAnother meaning (Moves meaning (Ticket (Drawn ticket)) (Ticket (Drawn ticket))) before after
 
+  -- the caller tries to be the only one in line: it gets the object, or nothing changes
+  abbrev pub IsTry : Bool → Type 0
+  IsTry true = (ticket : ℕ) × Takes meaning Idle (Ticket (Served ticket)) before after
+  IsTry false = NeedsAnother meaning (Moves meaning Idle Idle) before after
+
   -- the caller gives the object back, and the next ticket is served
   abbrev pub IsServe : Type 0
   IsServe = (ticket : ℕ) × Gives meaning (Ticket (Served ticket)) Idle before after

@@ -1,8 +1,9 @@
 //! The interface of a cell behind a lock.
 
-ghost use Rattle.std.specs.Prelude.{◌≡◌, ◌<◌, ◌≤◌, ◌↔◌, ◌||◌, ℕ, min, length, IsErr, IfOk, OnErr};
+ghost use Rattle.std.specs.Prelude.{◌≡◌, ◌<◌, ◌≤◌, ◌↔◌, ◌||◌, ℕ, min, length, IsErr, IfOk, IfErr, OnErr};
 ghost use Rattle.event_log.specs.Log.{answers, after, one_step, Fulfils};
 ghost use Rattle.event_log.specs.History.{with_event};
+ghost use Rattle.word_rule.specs.Answered.{IsBusy};
 ghost use Rattle.word_rule.specs.Cell.{PassView, HoldView, Grows, IsPassView, IsHoldView, OwnsAll, stored};
 
 use event_log::{Logged, MOST_CALLS, NoRoom, SeqObject, Steps};
@@ -36,6 +37,16 @@ pub trait LockCell<O: SeqObject> {
         ensures hold { is_hold_of self.now result.0 }
         ensures caller { (hold_view result.0).caller ≡ (pass_view pass).caller }
         ensures grows { Grows (pass_view pass).caller.owned (pass_view pass).seen (hold_view result.0).history.log };
+
+    /// Gets the object if nobody has it or is in line for it, and doesn't wait. Else it is busy, and the pass comes back: a
+    /// pass that owns every number of the cell always gets the object.
+    fn try_acquire(&self, pass: Self::Pass) -> Result<Self::Hold, Self::Pass>
+        requires { is_pass_of self.now pass }
+        ensures hold { IfOk result (λ h. is_hold_of self.now h) }
+        ensures caller { IfOk result (λ h. (hold_view h).caller ≡ (pass_view pass).caller) }
+        ensures grows { IfOk result (λ h. Grows (pass_view pass).caller.owned (pass_view pass).seen (hold_view h).history.log) }
+        ensures pass { IfErr result (λ p. is_pass_of self.now p) }
+        ensures busy { IfErr result (λ p. IsBusy (pass_view pass) (pass_view p)) };
 
     /// Does 1 to 8 calls as one event of the acting CPU, up to and with the first that is refused. It takes no memory.
     fn apply(hold: &mut Self::Hold, calls: &[O::Call]) -> Result<Steps<O>, NoRoom>

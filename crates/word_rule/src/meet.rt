@@ -75,6 +75,7 @@ impl<O: SeqObject> LockTable<O> {
     {
         let Hold {
             cpu: _,
+            ticket: _,
             logged: _first,
             lent: _one,
             key: _,
@@ -82,6 +83,7 @@ impl<O: SeqObject> LockTable<O> {
         } = one;
         let Hold {
             cpu: _,
+            ticket: _,
             logged: _second,
             lent: _two,
             key: _,

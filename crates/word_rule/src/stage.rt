@@ -19,9 +19,9 @@ pub enum Stage {
 #[derive(Clone, Copy, Debug, PartialEq, Eq, Drop)]
 pub enum TicketStage {
     /// It is in line, with this ticket.
-    Drawn(u64),
+    Drawn(u32),
     /// It has the object, by this ticket.
-    Served(u64),
+    Served(u32),
 }
 
 /// Where a caller stands at an MCS lock.

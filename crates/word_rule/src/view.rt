@@ -18,13 +18,14 @@ impl<E> Model for Trace<E> {
     ghost view = { λ t. t.events.value.items };
 }
 
-/// A caller at its seat: the number that it acts as, the numbers that it owns, where it stands, and the log of events
-/// that it has seen.
+/// A caller at its seat: the number that it acts as, the numbers that it owns, where it stands, the log of events that it
+/// has seen, and the word 0 that it has read for a try, if it has done nothing since.
 pub struct Seated<E> {
     pub cpu: u8,
     pub owned: LinkedList<u8>,
     pub stage: Stage,
     pub seen: Trace<E>,
+    pub read: Option<u64>,
 }
 
 /// A seat: what it was told of its cell (nothing, once another seat has taken it in), its caller, and the callers that

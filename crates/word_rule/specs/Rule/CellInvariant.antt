@@ -1,5 +1,5 @@
 -- The rule of a cell's table: what is true at all times of the words, the object and all callers.
-use Rattle.std.specs.Prelude.{◌≡◌, ◌≢◌, ℕ, ◌+◌, ◌<◌, true, false, List, [], ◌∷◌, Option, Some}
+use Rattle.std.specs.Prelude.{◌≡◌, ◌≢◌, ℕ, ◌+◌, ◌<◌, true, false, List, [], ◌∷◌, Option, Some, slice_index}
 use mathlib.Core.Option.{some}
 use lib.ListN.{get_elem?}
 use Rattle.atomic_table.specs.Table.{State}
@@ -14,6 +14,7 @@ use Rattle.word_rule.specs.declared.view.View.{View}
 use Rattle.word_rule.specs.Cell.{Cell, Grows, Lawful, stored}
 use Rattle.word_rule.specs.Line.{holding}
 use Rattle.word_rule.specs.Locks.{Lock}
+use Rattle.word_rule.specs.LockWords.{lock_words}
 use Rattle.word_rule.specs.Rule.LockStates.{IsLockOf}
 
 -- the committed log, the lock that the words are of, and whose each CPU number is: a seat, and a place among its callers
@@ -40,13 +41,15 @@ abbrev pub Table : Type 0 → Type 0 → Type 0 → Type 0 → Type 0
 Table O P C R = State (Option (History O P C R)) (Viewed O P C R)
 
 module _ {O P C R : Type 0} (n : ℕ) (b : GhostState O P C R) where
-  -- what the rule says of the caller k of the seat j, in a cell of n CPUs
+  -- what the rule says of the caller k of the seat j, in a cell of n CPUs. One that owns every number finds the word that
+  -- it has read
   pub record CallerInvariant (j k : ℕ) (c : Caller O P C R) : Type 0 where
     pub owns : (x : ℕ) → has x c.owned ≡ true → (b.owner x ≡ (j, k)) × (x < n)
     pub grows : Grows (λ x. has x c.owned) c.seen b.committed
     pub stands : has c.cpu c.owned ≡ true → b.lock.line.stage c.cpu ≡ c.stage
     pub whole : has c.cpu c.owned ≡ true → holding c.stage ≡ true → c.seen ≡ b.committed
     pub rests : (x : ℕ) → has x c.owned ≡ true → x ≢ c.cpu → b.lock.line.stage x ≡ Idle
+    pub finds : (w : ℕ) → c.read ≡ Some w → ((x : ℕ) → x < n → has x c.owned ≡ true) → slice_index (lock_words n b.lock) 0 ≡ w
 
 module _ {O P C R : Type 0} (h : Cell O P C R) (b : GhostState O P C R) where
   -- what the rule says of a seat

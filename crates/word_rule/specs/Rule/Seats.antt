@@ -1,5 +1,5 @@
 -- What a step, a join or a split makes of a seat.
-use Rattle.std.specs.Prelude.{ℕ, zero, suc, ◌+◌, List, [], ◌∷◌, ◌++◌, map, min, Option}
+use Rattle.std.specs.Prelude.{ℕ, zero, suc, ◌+◌, List, [], ◌∷◌, ◌++◌, map, min, Option, Some, None}
 use Rattle.atomic_table.specs.Table.{Me}
 use Rattle.event_log.specs.History.{History}
 use Rattle.word_rule.specs.declared.stage.Stage.{Stage}
@@ -14,17 +14,21 @@ abbrev pub Seat : Type 0 → Type 0 → Type 0 → Type 0 → Type 0
 Seat O P C R = Me (Option (History O P C R)) (Viewed O P C R)
 
 module _ {E : Type 0} where
-  -- the caller has seen this log
+  -- the caller has seen this log, and has read no word since
   abbrev pub shown : List E → Seated E → Seated E
-  shown log c = record { cpu = c.cpu; owned = c.owned; stage = c.stage; seen = log }
+  shown log c = record { cpu = c.cpu; owned = c.owned; stage = c.stage; seen = log; read = None }
 
-  -- the caller stands there
+  -- the caller stands there, and has read no word since
   abbrev pub at : Stage → Seated E → Seated E
-  at p c = record { cpu = c.cpu; owned = c.owned; stage = p; seen = c.seen }
+  at p c = record { cpu = c.cpu; owned = c.owned; stage = p; seen = c.seen; read = None }
+
+  -- the caller has read this word
+  abbrev pub reading : ℕ → Seated E → Seated E
+  reading w c = record { cpu = c.cpu; owned = c.owned; stage = c.stage; seen = c.seen; read = Some w }
 
   -- an idle caller
   abbrev pub idle : ℕ → List ℕ → List E → Seated E
-  idle cpu owned seen = record { cpu = cpu; owned = owned; stage = Idle; seen = seen }
+  idle cpu owned seen = record { cpu = cpu; owned = owned; stage = Idle; seen = seen; read = None }
 
   -- n idle callers with the numbers from k on
   abbrev pub idle_from : ℕ → ℕ → List E → List (Seated E)
@@ -44,6 +48,10 @@ module _ {H E : Type 0} where
   -- the first caller stands there
   abbrev pub with_stage : View H E → Stage → View H E
   with_stage v p = record { told = v.told; main = at p v.main; others = v.others }
+
+  -- the first caller has read this word
+  abbrev pub noted : View H E → ℕ → View H E
+  noted v w = record { told = v.told; main = reading w v.main; others = v.others }
 
   -- each caller of the seat has seen this log, and the first stands there
   abbrev pub settled : View H E → Stage → List E → View H E

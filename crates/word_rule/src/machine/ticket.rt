@@ -1,12 +1,12 @@
-//! A ticket lock's steps, each on one word. Word 0 is the next ticket, word 1 the ticket that is served.
+//! A ticket lock's steps, each on its one word.
 
-ghost use Rattle.std.specs.Prelude.{◌≡◌, ◌<◌, length, slice_index_or};
-ghost use Rattle.word_rule.specs.Locks.{Lock};
+ghost use Rattle.std.specs.Prelude.{◌≡◌, ◌+◌, ◌-◌, ◌%◌, ◌^◌, ◌<◌, length, slice_index_or};
+ghost use Rattle.word_rule.specs.Locks.{Lock, tickets};
 ghost use Rattle.word_rule.specs.Rule.LockStates.{RepresentsLock};
 ghost use Rattle.word_rule.specs.Turns.{turn};
 
 use crate::machine::step_done::StepDone;
-use crate::{LockKind, Stage, TicketStage};
+use crate::{LAST_TICKET, LockKind, Stage, TICKETS, TicketStage, next_ticket, served_ticket};
 
 /// The next step of a CPU.
 pub fn turn_ticket(words: &mut [u64], stages: &mut [Stage], cpu: u8) -> StepDone
@@ -17,9 +17,9 @@ pub fn turn_ticket(words: &mut [u64], stages: &mut [Stage], cpu: u8) -> StepDone
     let i = cpu as usize;
     match stages[i] {
         Stage::Idle => {
-            let ticket = words[0];
-            words[0] = ticket.wrapping_add(1);
-            stages[i] = Stage::Ticket(TicketStage::Drawn(ticket));
+            let word = words[0];
+            words[0] = word.wrapping_add(TICKETS);
+            stages[i] = Stage::Ticket(TicketStage::Drawn(next_ticket(word)));
             StepDone::Draw
         }
         Stage::Ticket(stage) => turn_in_line(words, stages, cpu, stage),
@@ -37,16 +37,28 @@ fn turn_in_line(words: &mut [u64], stages: &mut [Stage], cpu: u8, stage: TicketS
     let i = cpu as usize;
     match stage {
         TicketStage::Drawn(ticket) => {
-            if words[1] != ticket {
+            if served_ticket(words[0]) != ticket {
                 return StepDone::Look(false);
             }
             stages[i] = Stage::Ticket(TicketStage::Served(ticket));
             StepDone::Look(true)
         }
-        TicketStage::Served(_) => {
-            words[1] = words[1].wrapping_add(1);
+        TicketStage::Served(ticket) => {
+            words[0] = served_next(words[0], ticket);
             stages[i] = Stage::Idle;
             StepDone::Serve
         }
+    }
+}
+
+/// The word once the next ticket is served: one more in the low half, or after the greatest ticket none.
+fn served_next(word: u64, ticket: u32) -> u64
+    ensures adds { ticket + 1 < tickets → result ≡ (word + 1) % 2 ^ 64 }
+    ensures subtracts { ticket + 1 ≡ tickets → result ≡ (word + (2 ^ 64 - (tickets - 1))) % 2 ^ 64 }
+{
+    if ticket == u32::MAX {
+        word.wrapping_sub(LAST_TICKET)
+    } else {
+        word.wrapping_add(1)
     }
 }
