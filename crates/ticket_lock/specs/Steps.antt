@@ -1,28 +1,37 @@
 -- What the ticket lock's own steps tell the seat that does them.
-use Rattle.std.specs.Prelude.{◌≡◌, ◌≢◌, ℕ, Option}
+use Rattle.std.specs.Prelude.{◌≡◌, ◌≢◌, ℕ, ◌/◌, ◌%◌, Option, Some}
 use Rattle.atomic_table.specs.Table.{Step}
 use Rattle.event_log.specs.declared.object.SeqObject.{Ghosts}
 use Rattle.event_log.specs.History.{History}
 use Rattle.word_rule.specs.declared.stage.Stage.TheVariants.{Idle, Ticket}
 use Rattle.word_rule.specs.declared.stage.TicketStage.TheVariants.{Drawn, Served}
-use Rattle.word_rule.specs.Rule.Seats.{Seat, with_stage}
+use Rattle.word_rule.specs.Locks.{tickets}
+use Rattle.word_rule.specs.Rule.Seats.{Seat, with_stage, noted}
 use Rattle.word_rule.specs.Rule.Announced.{Lacks, Gets, Returns}
 
 module _ {O P C R : Type 0} where
-  -- the number that was found is the ticket
+  -- the high half that was found is the ticket
   abbrev pub draws : Step (Option (History O P C R)) → Seat O P C R → ℕ → Seat O P C R → Type 0
-  draws st m n m' = m' ≡ (with_stage m.0 (Ticket (Drawn n)), m.1)
+  draws st m n m' = m' ≡ (with_stage m.0 (Ticket (Drawn (n / tickets))), m.1)
 
   -- the served ticket isn't the caller's: nothing changes, and the seat doesn't have every number
   pub record Misses (m m' : Seat O P C R) : Type 0 where
     pub same : m' ≡ m
     pub lacks : Lacks m.0
 
+  -- the caller keeps the word that was found; where its halves differ the seat doesn't have every number
+  pub record Reads (m : Seat O P C R) (n : ℕ) (m' : Seat O P C R) : Type 0 where
+    pub seat : m' ≡ (noted m.0 n, m.1)
+    pub busy : n / tickets ≢ n % tickets → Lacks m.0
+
+  abbrev pub reads : Step (Option (History O P C R)) → Seat O P C R → ℕ → Seat O P C R → Type 0
+  reads st m n m' = Reads m n m'
+
 module _ {O P C R : Type 0} (meaning : Ghosts O P C R) where
   -- the object comes where the served ticket is the caller's, and only then
   pub record LookOutcome (t : ℕ) (m : Seat O P C R) (n : ℕ) (m' : Seat O P C R) : Type 0 where
-    pub hit : n ≡ t → Gets meaning (Ticket (Served t)) m m'
-    pub miss : n ≢ t → Misses m m'
+    pub hit : n % tickets ≡ t → Gets meaning (Ticket (Served t)) m m'
+    pub miss : n % tickets ≢ t → Misses m m'
 
   abbrev pub looks : Step (Option (History O P C R)) → Seat O P C R → ℕ → Seat O P C R → Type 0
   looks st m n m' = (t : ℕ) → m.0.main.stage ≡ Ticket (Drawn t) → LookOutcome t m n m'
@@ -30,3 +39,13 @@ module _ {O P C R : Type 0} (meaning : Ghosts O P C R) where
   -- the object goes home
   abbrev pub serves : Step (Option (History O P C R)) → Seat O P C R → ℕ → Seat O P C R → Type 0
   serves st m n m' = Returns meaning Idle m m'
+
+  -- the object comes where the word is still the one that was read; else nothing changes, and the seat doesn't have every
+  -- number
+  pub record TryOutcome (old : ℕ) (m : Seat O P C R) (n : ℕ) (m' : Seat O P C R) : Type 0 where
+    pub hit : n ≡ old → Gets meaning (Ticket (Served (old % tickets))) m m'
+    pub same : n ≢ old → m' ≡ m
+    pub lacks : n ≢ old → m.0.main.read ≡ Some old → Lacks m.0
+
+  abbrev pub tries : Step (Option (History O P C R)) → Seat O P C R → ℕ → Seat O P C R → Type 0
+  tries st m n m' = TryOutcome st.first m n m'

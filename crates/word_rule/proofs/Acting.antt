@@ -16,6 +16,7 @@ use Rattle.event_log.proofs.Each.{all_push}
 use Rattle.event_log.proofs.Beginnings.{begins_self, begins_more, begins_rest}
 use Rattle.word_rule.specs.declared.stage.Stage.{Stage}
 use Rattle.word_rule.specs.declared.stage.Stage.TheVariants.{Idle}
+use Rattle.word_rule.specs.Answered.{IsBusy}
 use Rattle.word_rule.specs.Cell.{Cell, Grows, IsCaller, Lawful, OwnsAll, stored}
 use Rattle.word_rule.specs.CallerState.{CallerState, Moves, Takes, Gives, NeedsAnother}
 use Rattle.word_rule.specs.Rule.CellInvariant.{Viewed}
@@ -120,6 +121,10 @@ module _ {O P C R : Type 0} (meaning : Ghosts O P C R) where
   -- nothing changed, and another CPU is the cause
   pub stays_without : (h : Cell O P C R) (cpu : ℕ) (p : Stage) (m m' : Seat O P C R) → IsWithout meaning h cpu p m → m' ≡ m → IsWithout meaning h cpu p m'
   stays_without h cpu p m m' w e = subst (IsWithout meaning h cpu p) (sym e) w
+
+  -- a caller that goes without the object finds it busy
+  pub busy_by : (p q : Stage) (before after : CallerState O P C R) → NeedsAnother meaning (Moves meaning p q) before after → IsBusy {O = O} {P = P} {C = C} {R = R} record { caller = before.caller; seen = before.seen } record { caller = after.caller; seen = after.seen }
+  busy_by p q before after n = record { caller = n.made.caller; grows = n.made.grows; another = n.another }
 
   pub misses_without : (h : Cell O P C R) (cpu : ℕ) (p : Stage) (m m' : Seat O P C R) → IsWithout meaning h cpu p m → m' ≡ m → Lacks m.0 → NeedsAnother meaning (Moves meaning p p) (state_without h p m) (state_without h p m')
   misses_without h cpu p m m' w e lacks = subst (λ z. NeedsAnother meaning (Moves meaning p p) (state_without h p m) (state_without h p z)) (sym e) record {

@@ -1,7 +1,7 @@
 -- A ticket lock's turns: each leaves a state of the lock, and words that are the state's.
-use Rattle.std.proofs.Common.{◌≡◌, ◌≢◌, ◌||◌, ℕ, zero, suc, ◌+◌, ◌-◌, ◌/◌, ◌%◌, ◌^◌, ◌<◌, ◌≤◌, Bool, true, false, true≢false, cond, List, [], ◌∷◌, ◌++◌, length, get_or, set, ne_eqb, refl, sym, ap, ◌∙◌, subst, arith, length-append, Option}
-use Rattle.std.proofs.lemmas.Bool.{false_from_ne_true}
-use Rattle.std.proofs.Math.Nat.{mod-add-mod, mod-lt, mod-eq_of_lt}
+use Rattle.std.proofs.Common.{◌≡◌, ◌≢◌, ◌||◌, ℕ, zero, suc, ◌+◌, ◌-◌, ◌*◌, ◌/◌, ◌%◌, ◌^◌, ◌<◌, ◌≤◌, ◌==◌, ◌&&◌, Bool, true, false, true≢false, cond, List, [], ◌∷◌, ◌++◌, length, get_or, set, ne_eqb, refl, sym, ap, ◌∙◌, subst, arith, length-append, Option}
+use Rattle.std.proofs.lemmas.Bool.{false_from_ne_true, eq-eqb, eqb-true}
+use Rattle.std.proofs.Math.Nat.{div-add-mod, mod-add-mod, mod-lt, mod-eq_of_lt}
 use mathlib.Core.Option.{some, some-injective, some-ne-none}
 use lib.ListN.{get_elem?}
 use Rattle.atomic_table.proofs.Lists.{at_longer, at_last, one_turn}
@@ -17,11 +17,11 @@ use Rattle.word_rule.specs.LockWords.{ticket_word}
 use Rattle.word_rule.specs.Locks.{Lock, behind, taking, tickets, opening_lock}
 use Rattle.word_rule.specs.Rule.LockStates.{Waits, Stands, IsLock, IsLockOf}
 use Rattle.word_rule.specs.Turns.{draw, serve, turn, turn_of, ticket_turn}
-use Rattle.word_rule.proofs.Lists.{has_tail, at_below, at_first, first_at, first_is, one_place}
+use Rattle.word_rule.proofs.Lists.{has_at, has_tail, at_below, at_first, first_at, first_is, one_place}
 use Rattle.word_rule.proofs.LockLaws.{stands_at, first_holds, idle_outside, line_fits}
 use Rattle.word_rule.proofs.Stays.{each_moved}
 use Rattle.word_rule.proofs.TicketWords.{high_half, low_half, next_added, served_added, served_subtracted}
-use Rattle.word_rule.specs.Tries.{taken_by}
+use Rattle.word_rule.specs.Tries.{is_empty, taken_by, attempt, attempt_at}
 
 -- the turn of a CPU that stands there
 pub turned : (l : Lock) (i : ℕ) (q : Stage) → l.kind ≡ kinds.Ticket → l.line.stage i ≡ q → turn l i ≡ ticket_turn l i q
@@ -192,6 +192,9 @@ module _ (n : ℕ) (ws : List ℕ) (l : Lock) (h : IsLockOf kinds.Ticket n ws l)
   served_is : (t : ℕ) → l.line.stage i ≡ Ticket (Served t) → t ≡ l.serving
   served_is t e = let s = stands_at kinds.Ticket n l h.state i (Ticket (Served t)) below e in s.1
 
+  pub not_greatest : (t : ℕ) → l.line.stage i ≡ Ticket (Served t) → t + 1 ≢ tickets → t + 1 < tickets
+  not_greatest t e other = let is = served_is t e in let small = h.state.own.0 in omega arith
+
   -- by adding one to the low half, for every ticket but the greatest
   pub serves_adding : (t : ℕ) → l.line.stage i ≡ Ticket (Served t) → t + 1 < tickets → IsLockOf kinds.Ticket n (set ws 0 ((get_or ws 0 0 + 1) % 2 ^ 64)) (serve l i)
   serves_adding t e fits = serves t e (λ w. (w + 1) % 2 ^ 64) (served_added next_one l.serving next_small h.state.own.0 (subst (λ (k : ℕ). k + 1 < tickets) (served_is t e) fits))
@@ -211,6 +214,20 @@ module _ (n : ℕ) (ws : List ℕ) (l : Lock) (h : IsLockOf kinds.Ticket n ws l)
   pub empty_alike : l.line.cpus ≡ [] → get_or ws 0 0 / tickets ≡ get_or ws 0 0 % tickets
   empty_alike none = ticket_is ∙ (ap (λ (z : List ℕ). (l.serving + length z) % tickets) none ∙ (ap (λ (k : ℕ). k % tickets) (omega arith) ∙ (mod-eq_of_lt h.state.own.0 ∙ sym serving_is)))
 
+  -- where they differ, another than one that is idle is in line
+  pub busy_first : l.line.stage i ≡ Idle → get_or ws 0 0 / tickets ≢ get_or ws 0 0 % tickets → (y : ℕ) × (get_elem? l.line.cpus 0 ≡ some y) × (y ≢ i)
+  busy_first e differ = by l.line.cpus refl
+    where
+      by : (cpus : List ℕ) → l.line.cpus ≡ cpus → (y : ℕ) × (get_elem? l.line.cpus 0 ≡ some y) × (y ≢ i)
+      by [] is = absurd (differ (empty_alike is))
+      by (y ∷ ys) is =
+          let there : get_elem? l.line.cpus 0 ≡ some y = ap (λ z. get_elem? z 0) is in
+          (y, there, λ same. true≢false (sym (has_at l.line.cpus 0 y there) ∙ (ap (λ z. has z l.line.cpus) same ∙ absent e)))
+
+  -- where nobody is in line the object is at home
+  pub empty_home : l.line.cpus ≡ [] → l.line.out ≡ false
+  empty_home none = false_from_ne_true l.line.out (λ o. let f = h.state.busy o in let short : length l.line.cpus ≡ 0 = ap length none in omega arith)
+
   -- with nobody in line, one that was idle is alone there, and has the object
   pub tries : l.line.stage i ≡ Idle → l.line.cpus ≡ [] → IsLockOf kinds.Ticket n (set ws 0 ((get_or ws 0 0 + tickets) % 2 ^ 64)) (taken_by l i (Ticket (Served l.serving)))
   tries e none = record {
@@ -224,6 +241,36 @@ module _ (n : ℕ) (ws : List ℕ) (l : Lock) (h : IsLockOf kinds.Ticket n ws l)
     };
     words = ap (λ (z : List ℕ). set z 0 ((get_or z 0 0 + tickets) % 2 ^ 64)) h.words ∙ ap (λ (x : ℕ). x ∷ []) (next_added next_one l.serving next_small h.state.own.0 ∙ ap (λ (x : ℕ). ticket_word x l.serving) (one_more ∙ ap (λ (z : List ℕ). (l.serving + (length z + 1)) % tickets) none));
   }
+
+  -- a word whose halves are alike, and that is still there: nobody is in line, and the ticket in it is served
+  pub unchanged_free : l.line.stage i ≡ Idle → (old : ℕ) → old / tickets ≡ old % tickets → get_or ws 0 0 ≡ old → (l.line.cpus ≡ []) × (l.serving ≡ old % tickets)
+  unchanged_free e old alike is = (alike_empty (ap (λ (z : ℕ). z / tickets) is ∙ (alike ∙ ap (λ (z : ℕ). z % tickets) (sym is))), sym serving_is ∙ ap (λ (z : ℕ). z % tickets) is)
+
+  pub free_unchanged : l.line.stage i ≡ Idle → (old : ℕ) → old / tickets ≡ old % tickets → l.line.cpus ≡ [] → l.serving ≡ old % tickets → get_or ws 0 0 ≡ old
+  free_unchanged e old alike none served =
+      let low : get_or ws 0 0 % tickets ≡ old % tickets = serving_is ∙ served in
+      let high : get_or ws 0 0 / tickets ≡ old / tickets = empty_alike none ∙ (low ∙ sym alike) in
+      sym (div-add-mod (get_or ws 0 0) tickets) ∙ ((λ k. tickets * high k + low k) ∙ div-add-mod old tickets)
+
+  pub tries_from : l.line.stage i ≡ Idle → (old new : ℕ) → old / tickets ≡ old % tickets → get_or ws 0 0 ≡ old → new ≡ (old + tickets) % 2 ^ 64 → IsLockOf kinds.Ticket n (set ws 0 new) (taken_by l i (Ticket (Served (old % tickets))))
+  tries_from e old new alike is new_is =
+      let free = unchanged_free e old alike is in
+      subst (λ (z : ℕ × ℕ). IsLockOf kinds.Ticket n (set ws 0 z.0) (taken_by l i (Ticket (Served z.1)))) (λ k. (sym (new_is ∙ ap (λ (z : ℕ). (z + tickets) % 2 ^ 64) (sym is)) k, free.1 k)) (tries e free.0)
+
+-- a try that finds nobody in line and its ticket served, and one that doesn't
+module _ (l : Lock) (i t : ℕ) (kind : l.kind ≡ kinds.Ticket) where
+  tried : (b : Bool) → (is_empty l.line.cpus && l.serving == t) ≡ b → attempt l i t ≡ cond b (taken_by l i (Ticket (Served t))) l
+  tried b is = ap (λ k. attempt_at k l i t) kind ∙ ap (λ (c : Bool). cond c (taken_by l i (Ticket (Served t))) l) is
+
+  pub succeeds : l.line.cpus ≡ [] → l.serving ≡ t → attempt l i t ≡ taken_by l i (Ticket (Served t))
+  succeeds none served = tried true (ap (λ z. is_empty z && l.serving == t) none ∙ eq-eqb l.serving t served)
+
+  pub fails : (l.line.cpus ≡ [] → l.serving ≡ t → ⊥) → attempt l i t ≡ l
+  fails not = tried false (false_from_ne_true (is_empty l.line.cpus && l.serving == t) (λ e. both l.line.cpus refl e))
+    where
+      both : (cpus : List ℕ) → l.line.cpus ≡ cpus → (is_empty l.line.cpus && l.serving == t) ≡ true → ⊥
+      both [] is e = not is (eqb-true l.serving t (sym (ap (λ z. is_empty z && l.serving == t) is) ∙ e))
+      both (y ∷ ys) is e = true≢false (sym e ∙ ap (λ z. is_empty z && l.serving == t) is)
 
 -- a ticket lock before the first step, and its word
 pub starts_ticket : (n first : ℕ) (ws : List ℕ) → n < tickets → ws ≡ ticket_word (first % tickets) (first % tickets) ∷ [] → IsLockOf kinds.Ticket n ws (opening_lock kinds.Ticket first)
