@@ -3,3 +3,4 @@ pub mod Groups
 pub mod Calls
 pub mod Workers
 pub mod Runs
+pub mod Tries

@@ -9,11 +9,13 @@ mod make;
 mod runs;
 #[cfg(test)]
 mod tests;
+mod tries;
 mod whole;
 
 pub use callers::{call_all, call_on_two_threads, two_callers};
 pub use cell::AnyCell;
 pub use groups::MOST_GROUPS;
 pub use runs::joined_runs_are_sound;
+pub use tries::{Declined, try_batch, try_call};
 pub use whole::{batch, call, with_hold};
 pub use word_rule::{Hold as AnyHold, Pass as AnyPass};

@@ -29,6 +29,13 @@ impl<O: SeqObject> LockCell<O> for AnyCell<O> {
         }
     }
 
+    fn try_acquire(&self, pass: Pass<O>) -> Result<Hold<O>, Pass<O>> {
+        match self {
+            AnyCell::Ticket(cell) => cell.try_acquire(pass),
+            AnyCell::Mcs(cell) => cell.try_acquire(pass),
+        }
+    }
+
     fn apply(hold: &mut Hold<O>, calls: &[O::Call]) -> Result<Steps<O>, NoRoom> {
         hold.apply(calls)
     }

@@ -13,7 +13,7 @@ use ticket_lock::TicketCell;
 use word_rule::{LockKind, MOST_CPUS, Pass};
 
 // The number that a new ticket lock begins with.
-const FIRST_TICKET: u64 = 0;
+const FIRST_TICKET: u32 = 0;
 
 impl<O: SeqObject> AnyCell<O> {
     /// A cell of the kind, of 1 to 8 CPUs, and a pass for each CPU, in order: pass k owns the CPU k and has seen the log

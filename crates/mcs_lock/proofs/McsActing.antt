@@ -11,8 +11,9 @@ use Rattle.word_rule.specs.declared.stage.Stage.{Stage}
 use Rattle.word_rule.specs.declared.stage.Stage.TheVariants.{Idle, Mcs}
 use Rattle.word_rule.specs.declared.stage.McsStage.TheVariants.{Ready, Behind, Armed, Waiting, Holding, Alone, Leaving, Passing}
 use Rattle.word_rule.specs.Cell.{Cell, Grows, Lawful, OwnsAll}
+use Rattle.word_rule.specs.declared.lock_kind.LockKind.{LockKind}
 use Rattle.word_rule.specs.declared.lock_kind.LockKind.TheVariants as kinds
-use Rattle.word_rule.specs.Rule.Definition.{IsTurn}
+use Rattle.word_rule.specs.Rule.Definition.{IsTurn, IsTry}
 use Rattle.word_rule.specs.CallerState.{CallerState, IsOther, Moves}
 use Rattle.word_rule.specs.Rule.CellInvariant.{Caller}
 use Rattle.word_rule.specs.Rule.Seats.{Seat, at, with_stage, taken_in, keeping, letting}
@@ -21,8 +22,8 @@ use Rattle.word_rule.specs.Rule.Callers.{caller_of, hold_view_of, state_with, Is
 use Rattle.word_rule.proofs.Lists.{grows_self, grows_then}
 use Rattle.word_rule.proofs.Known.{AllIdle, idle_alone}
 use Rattle.word_rule.proofs.Acting.{value_of}
-use Rattle.mcs_lock.specs.Steps.{goes, arms, Names, enters, looks, sees, sees_again, empties, passes}
-use Rattle.mcs_lock.proofs.McsRule.{clearing, entering, arming, linking, looking, seeing, seeing_again, finding, emptying, passing}
+use Rattle.mcs_lock.specs.Steps.{goes, arms, Names, enters, tries, looks, sees, sees_again, empties, passes}
+use Rattle.mcs_lock.proofs.McsRule.{clearing, entering, trying, arming, linking, looking, seeing, seeing_again, finding, emptying, passing}
 
 -- the words are those of the number that the code has, at a cell of the MCS lock
 module _ {O P C R : Type 0} (meaning : Ghosts O P C R) (h : Cell O P C R) (kind : h.kind ≡ kinds.Mcs) (slots id cpu : ℕ) where
@@ -36,6 +37,11 @@ module _ {O P C R : Type 0} (meaning : Ghosts O P C R) (h : Cell O P C R) (kind 
   pub enter_now : (m : Seat O P C R) → IsWithout meaning h cpu (Mcs Ready) m → IsTurn meaning h.kind h slots id m 0 (λ _. cpu + 1) (enters meaning (step slots 0 (cpu + 1) 0 none) m)
   enter_now m w = at_kind m 0 (λ _. cpu + 1) (enters meaning (step slots 0 (cpu + 1) 0 none) m) (subst (λ (z : ℕ). IsTurn meaning kinds.Mcs h slots id m 0 (λ _. z + 1) (enters meaning (step slots 0 (z + 1) 0 none) m)) w.at.number
       (entering meaning h slots id m w.pass_view.caller.acts w.at.stands))
+
+  pub try_now : (m : Seat O P C R) → IsWithout meaning h cpu (Mcs Ready) m → IsTry meaning h.kind h 0 slots id m 0 (λ k. either (k == 0) (cpu + 1) k) (tries meaning (step slots 0 0 (cpu + 1) none) m)
+  try_now m w =
+      let Goal : LockKind × ℕ → Type 0 = λ z. IsTry meaning z.0 h 0 slots id m 0 (λ k. either (k == 0) (z.1 + 1) k) (tries meaning (step slots 0 0 (z.1 + 1) none) m) in
+      subst Goal (λ i. (sym kind i, w.at.number i)) (trying meaning h slots id m w.pass_view.caller.acts w.at.stands (idle_alone m.0.others w.at.alone))
 
   pub arm_now : (n q : ℕ) (m : Seat O P C R) → h.numbers ≡ n → IsWithout meaning h cpu (Mcs (Behind q)) m → IsTurn meaning h.kind h slots id m (1 + n + cpu) (λ _. 1) (λ _. arms (step slots (1 + n + cpu) 1 0 none) m 1)
   arm_now n q m is w = at_kind m (1 + n + cpu) (λ _. 1) (λ _. arms (step slots (1 + n + cpu) 1 0 none) m 1) (subst (λ (z : ℕ × ℕ). IsTurn meaning kinds.Mcs h slots id m (1 + z.0 + z.1) (λ _. 1) (λ _. arms (step slots (1 + z.0 + z.1) 1 0 none) m 1)) (λ i. (is i, w.at.number i))

@@ -19,13 +19,14 @@ use Rattle.word_rule.specs.declared.stage.Stage.TheVariants.{Idle, Mcs}
 use Rattle.word_rule.specs.declared.stage.McsStage.TheVariants.{Ready, Behind, Armed, Waiting, Holding, Alone, Leaving, Passing}
 use Rattle.word_rule.specs.Cell.{Cell, Lawful, stored}
 use Rattle.word_rule.specs.Rule.CellInvariant.{Caller, EachFrom, Viewed, Table, CallerInvariant, CellInvariant}
-use Rattle.word_rule.specs.Rule.Definition.{IsTurn}
+use Rattle.word_rule.specs.Rule.Definition.{IsTurn, IsTry}
 use Rattle.word_rule.specs.Line.{holding}
 use Rattle.word_rule.specs.Locks.{Lock, follower, going, taking}
 use Rattle.word_rule.specs.Rule.LockStates.{IsLockOf}
 use Rattle.word_rule.specs.Rule.Seats.{Seat, with_stage, settled}
 use Rattle.word_rule.specs.Rule.Announced.{any_has, Lacks, Returns}
 use Rattle.word_rule.specs.Rule.Callers.{AddedBy}
+use Rattle.word_rule.specs.Tries.{taken_by, attempt}
 use Rattle.word_rule.specs.Turns.{turn, clear, enter, arm, link, see, pass, mcs_turn}
 use Rattle.word_rule.proofs.Acting.{value_of}
 use Rattle.word_rule.proofs.Known.{AllIdle, same_cell, gets, someone_else, lacks}
@@ -33,8 +34,8 @@ use Rattle.word_rule.proofs.Lists.{has_at}
 use Rattle.word_rule.proofs.LockLaws.{stands_at, in_cell, idle_outside, one_holds}
 use Rattle.word_rule.proofs.McsTurns as turns
 use Rattle.word_rule.proofs.QueueTurns as queue
-use Rattle.word_rule.proofs.Stays.{kept, unmoved, taken, given}
-use Rattle.mcs_lock.specs.Steps.{goes, arms, Names, SawLawful, enters, looks, sees, sees_again, EmptyOutcome, empties, passes}
+use Rattle.word_rule.proofs.Stays.{kept, stood, taken, given}
+use Rattle.mcs_lock.specs.Steps.{goes, arms, Names, SawLawful, enters, TryOutcome, tries, looks, sees, sees_again, EmptyOutcome, empties, passes}
 
 abbrev cpu_of : Stage → ℕ
 cpu_of (Mcs (Behind p)) = p
@@ -111,6 +112,35 @@ module _ {O P C R : Type 0} (meaning : Ghosts O P C R) (h : Cell O P C R) where
           turns_to l (Mcs Ready) (enter l p (Some t.0)) r.tied.kind_is at (ap (enter l p) t.1),
         ))
 
+    pub trying : v.main.stage ≡ Mcs Ready → AllIdle v.others → IsTry meaning kinds.Mcs h 0 slots id me 0 (λ k. either (k == 0) (p + 1) k) (tries meaning (step slots 0 0 (p + 1) none) me)
+    trying is idle s r len there small =
+        let l = r.state.lock in
+        let mine = r.each id v there in
+        let below = (mine.main.owns p acts).1 in
+        let at = mine.main.stands acts ∙ is in
+        let found : ℕ = get_or s.words 0 0 in
+        exchanged found 0 (p + 1)
+        (λ (k : ℕ). (w : Viewed O P C R) × (a : Act (Option (History O P C R))) × Valid s.homes me.1 a × (r' : Rule (stepped s 0 k id me.1 w a)) × TryOutcome meaning me found (w, carried_after me.1 a) × (r'.state.lock ≡ attempt l p 0))
+        (λ nobody. let none = turns.tail_none n s.words l r.tied nobody in (
+          settled v (Mcs Holding) r.state.committed,
+          takes 0 (Some (stored meaning h r.state.committed)),
+          r.at_home (queue.nobody_home n l r.tied.state p below none),
+          taken meaning kinds.Mcs h s r 0 (p + 1) id v me.1 (taken_by l p (Mcs Holding)) (Mcs Holding) refl refl there acts (turns.enters_first n s.words l r.tied p below at none),
+          record { first = λ _. gets meaning kinds.Mcs h s r id me (Mcs Holding) mine; busy = λ some_one. absurd (some_one nobody) },
+          sym (turns.tries_first l p 0 r.tied.kind_is none),
+        ))
+        (λ some_one. let t = turns.tail_names n s.words l r.tied some_one in (
+          with_stage v Idle,
+          keeps,
+          tt,
+          reads s r 0 Idle there (λ e. absurd (true≢false (sym e))) (turns.gives_up n s.words l r.tied p below at),
+          record {
+            first = λ nobody. absurd (some_one nobody);
+            busy = λ _. record { seat = refl; lacks = lacks meaning kinds.Mcs h s r id v t.0 mine idle (queue.last_in n l r.tied.state t.0 t.1).0 (queue.other_last n l r.tied.state p below t.0 at t.1) };
+          },
+          sym (turns.tries_busy l p 0 r.tied.kind_is t.0 t.1),
+        ))
+
     pub arming : (q : ℕ) → v.main.stage ≡ Mcs (Behind q) → IsTurn meaning kinds.Mcs h slots id me (1 + n + p) (λ _. 1) (λ _. arms (step slots (1 + n + p) 1 0 none) me 1)
     arming q is s r len there small =
         let l = r.state.lock in
@@ -161,10 +191,10 @@ module _ {O P C R : Type 0} (meaning : Ghosts O P C R) (h : Cell O P C R) where
         (λ miss.
         let behind_one = turns.locked_behind n s.words l r.tied p below at miss in
         let t = queue.ahead n l r.tied.state p below at behind_one in (
-          v,
+          with_stage v v.main.stage,
           keeps,
           tt,
-          unmoved meaning kinds.Mcs h s r w id v me.1 there,
+          stood meaning kinds.Mcs h s r w id v me.1 there,
           record {
             hit = λ hit. absurd (miss hit);
             miss = λ _. record { seat = ap (λ (q : Stage). (with_stage v q, me.1)) is; lacks = lacks meaning kinds.Mcs h s r id v t.0 mine idle t.1 t.2 };

@@ -45,6 +45,14 @@ module _ {O P C R : Type 0} (meaning : Ghosts O P C R) where
   abbrev pub enters : Step (Option (History O P C R)) → Seat O P C R → ℕ → Seat O P C R → Type 0
   enters st m n m' = EnterOutcome m n m'
 
+  -- the object comes where the tail named nobody, and else the caller is idle again
+  pub record TryOutcome (m : Seat O P C R) (n : ℕ) (m' : Seat O P C R) : Type 0 where
+    pub first : n ≡ 0 → Gets meaning (Mcs Holding) m m'
+    pub busy : n ≢ 0 → Lags Idle m m'
+
+  abbrev pub tries : Step (Option (History O P C R)) → Seat O P C R → ℕ → Seat O P C R → Type 0
+  tries st m n m' = TryOutcome m n m'
+
   -- the object comes where the caller's `locked` is clear, and only then
   pub record LookOutcome (m : Seat O P C R) (n : ℕ) (m' : Seat O P C R) : Type 0 where
     pub hit : n ≡ 0 → Gets meaning (Mcs Holding) m m'

@@ -17,6 +17,7 @@ mod states;
 mod steps;
 #[cfg(test)]
 mod tests;
+mod tries;
 mod whole;
 
 pub use cell::McsCell;

@@ -25,6 +25,10 @@ impl<O: SeqObject> LockCell<O> for McsCell<O> {
         self.wait(rt, pass)
     }
 
+    fn try_acquire(&self, pass: Pass<O>) -> Result<Hold<O>, Pass<O>> {
+        self.attempt(pass)
+    }
+
     fn apply(hold: &mut Hold<O>, calls: &[O::Call]) -> Result<Steps<O>, NoRoom> {
         hold.apply(calls)
     }

@@ -2,7 +2,7 @@
 
 ghost use Rattle.word_rule.specs.declared.stage.Stage.TheVariants.{Mcs};
 ghost use Rattle.word_rule.specs.declared.stage.McsStage.TheVariants.{Ready, Waiting};
-ghost use Rattle.mcs_lock.specs.Steps.{goes, arms, enters, looks, sees, sees_again, empties, passes};
+ghost use Rattle.mcs_lock.specs.Steps.{goes, arms, enters, tries, looks, sees, sees_again, empties, passes};
 
 use atomic_table::Play;
 use event_log::{Event, Logged, SeqObject};
@@ -20,6 +20,13 @@ pub struct Enter;
 
 impl<O: SeqObject> Play<Option<Logged<O>>, View<Key<O>, Event<O>>> for Enter {
     ghost then = { enters O.SeqObject };
+}
+
+/// A compare-and-exchange of the tail, from nobody to the caller.
+pub struct Try;
+
+impl<O: SeqObject> Play<Option<Logged<O>>, View<Key<O>, Event<O>>> for Try {
+    ghost then = { tries O.SeqObject };
 }
 
 /// A store to the caller's `locked`.

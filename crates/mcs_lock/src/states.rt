@@ -10,7 +10,7 @@ use event_log::{Logged, SeqObject};
 use std::snapshot::Snapshot;
 use word_rule::{Cpu, Hold, Key, Lent, Seat};
 
-/// A caller whose `next` is clear. It can't be dropped: it ends in `enter`.
+/// A caller whose `next` is clear. It can't be dropped: it ends in `enter`, or in a try.
 pub struct Ready<O: SeqObject> {
     pub(crate) cpu: Cpu,
     pub(crate) key: Snapshot<Key<O>>,

@@ -39,6 +39,7 @@ impl<O: SeqObject> McsCell<O> {
             let (logged, lent) = self.table.take(&mut seat);
             Entered::Hold(Hold {
                 cpu,
+                ticket: 0,
                 logged,
                 lent,
                 key,
@@ -108,6 +109,7 @@ impl<O: SeqObject> McsCell<O> {
             let (logged, lent) = self.table.take(&mut seat);
             Ok(Hold {
                 cpu,
+                ticket: 0,
                 logged,
                 lent,
                 key,
@@ -126,6 +128,7 @@ impl<O: SeqObject> McsCell<O> {
     {
         let Hold {
             cpu,
+            ticket: _,
             logged,
             lent,
             key,

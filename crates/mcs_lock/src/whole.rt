@@ -118,6 +118,7 @@ impl<O: SeqObject> McsCell<O> {
         (
             Hold {
                 cpu,
+                ticket: 0,
                 logged,
                 lent,
                 key,

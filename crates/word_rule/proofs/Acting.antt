@@ -23,7 +23,7 @@ use Rattle.word_rule.specs.Rule.CellInvariant.{Viewed}
 use Rattle.word_rule.specs.Rule.Seats.{Seat, shown, at, with_stage, settled, taken_in, keeping, letting, merged}
 use Rattle.word_rule.specs.Rule.Announced.{Lacks, HasAll, Learns, Gets, Returns, any_has}
 use Rattle.word_rule.specs.Rule.Callers.{AddedBy, caller_of, state_without, state_with, StandsAt, IsWithout, IsWith}
-use Rattle.word_rule.proofs.Lists.{has_append, of_push, grows_self, or_none}
+use Rattle.word_rule.proofs.Lists.{has_append, of_push, grows_self, grows_then, or_none}
 
 module _ {O P C R : Type 0} where
   -- the seat after a step that its first caller did
@@ -122,9 +122,13 @@ module _ {O P C R : Type 0} (meaning : Ghosts O P C R) where
   pub stays_without : (h : Cell O P C R) (cpu : ℕ) (p : Stage) (m m' : Seat O P C R) → IsWithout meaning h cpu p m → m' ≡ m → IsWithout meaning h cpu p m'
   stays_without h cpu p m m' w e = subst (IsWithout meaning h cpu p) (sym e) w
 
-  -- a caller that goes without the object finds it busy
-  pub busy_by : (p q : Stage) (before after : CallerState O P C R) → NeedsAnother meaning (Moves meaning p q) before after → IsBusy {O = O} {P = P} {C = C} {R = R} record { caller = before.caller; seen = before.seen } record { caller = after.caller; seen = after.seen }
-  busy_by p q before after n = record { caller = n.made.caller; grows = n.made.grows; another = n.another }
+  -- a caller that goes without the object, a step later, finds it busy
+  pub busy_by : (p q r : Stage) (a b c : CallerState O P C R) → Moves meaning p q a b → NeedsAnother meaning (Moves meaning q r) b c → IsBusy {O = O} {P = P} {C = C} {R = R} record { caller = a.caller; seen = a.seen } record { caller = c.caller; seen = c.seen }
+  busy_by p q r a b c m n = record {
+    caller = n.made.caller ∙ m.caller;
+    grows = grows_then a.caller.owned a.seen b.seen c.seen m.grows (subst (λ k. Grows k.owned b.seen c.seen) m.caller n.made.grows);
+    another = λ all. n.another (subst OwnsAll (sym m.caller) all);
+  }
 
   pub misses_without : (h : Cell O P C R) (cpu : ℕ) (p : Stage) (m m' : Seat O P C R) → IsWithout meaning h cpu p m → m' ≡ m → Lacks m.0 → NeedsAnother meaning (Moves meaning p p) (state_without h p m) (state_without h p m')
   misses_without h cpu p m m' w e lacks = subst (λ z. NeedsAnother meaning (Moves meaning p p) (state_without h p m) (state_without h p z)) (sym e) record {

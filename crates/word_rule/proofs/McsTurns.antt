@@ -13,6 +13,7 @@ use Rattle.word_rule.specs.Line.{Line, lined, moved, holding, is_first}
 use Rattle.word_rule.specs.Locks.{Lock, is_linked, last, behind, is_named, follower, going, joining, taking, leaving, opening_lock}
 use Rattle.word_rule.specs.Rule.LockStates.{IsLock, IsLockOf}
 use Rattle.word_rule.specs.LockWords.{word_of, is_armed, locked_by, locked_at}
+use Rattle.word_rule.specs.Tries.{is_empty, taken_by, attempt, attempt_at}
 use Rattle.word_rule.specs.Turns.{clear, arm, link, pass, turn, turn_of, mcs_turn}
 use Rattle.word_rule.proofs.Lists.{one_place, first_at}
 use Rattle.word_rule.proofs.LockLaws.{stands_at, in_cell, torn}
@@ -106,6 +107,10 @@ module _ (n : ℕ) (ws : List ℕ) (l : Lock) (h : IsLockOf kinds.Mcs n ws l) wh
               (words.locked_moved l.line.stage n i (Mcs Holding) l.line.cpus (i ∷ []) (ap (λ z. locked_by z i l.line.cpus) (sym e))
               (λ x _ ne. locked_alike (l.line.stage x) x (i ∷ []) l.line.cpus (ne_eqb i x (λ is. ne (sym is))) (ap (is_first x) empty)));
         }
+
+    -- one that doesn't get the object by its try is idle again
+    pub gives_up : l.line.stage i ≡ Mcs Ready → IsLockOf kinds.Mcs n ws (record l { line = going l.line i Idle })
+    gives_up e = read (record l { line = going l.line i Idle }) refl (queue.gives_up n l h.state i below e) refl refl (locked_going l.line n i (Mcs Ready) Idle e refl)
 
     pub enters_behind : (p : ℕ) → l.line.stage i ≡ Mcs Ready → last l.line.cpus ≡ Some p → IsLockOf kinds.Mcs n (set ws 0 (i + 1)) (record l { line = joining l.line i (Mcs (Behind p)) })
     enters_behind p e there = record {
@@ -246,6 +251,18 @@ mcs_torn n ws l h p below has_it = record {
     by (Mcs (Armed k)) e = absurd (true≢false (sym e))
     by (Mcs Waiting) e = absurd (true≢false (sym e))
     by q e = refl
+
+-- a try that finds nobody in the queue, and one that doesn't
+module _ (l : Lock) (i t : ℕ) (kind : l.kind ≡ kinds.Mcs) where
+  pub tries_first : last l.line.cpus ≡ None → attempt l i t ≡ taken_by l i (Mcs Holding)
+  tries_first none = ap (λ k. attempt_at k l i t) kind ∙ ap (λ cpus. cond (is_empty cpus) (taken_by l i (Mcs Holding)) (record l { line = going l.line i Idle })) (queue.no_last l.line.cpus none)
+
+  pub tries_busy : (p : ℕ) → last l.line.cpus ≡ Some p → attempt l i t ≡ record l { line = going l.line i Idle }
+  tries_busy p there = ap (λ k. attempt_at k l i t) kind ∙ by l.line.cpus there
+    where
+      by : (cpus : List ℕ) → last cpus ≡ Some p → cond (is_empty cpus) (taken_by l i (Mcs Holding)) (record l { line = going l.line i Idle }) ≡ record l { line = going l.line i Idle }
+      by [] e = cc
+      by (x ∷ xs) e = refl
 
 -- an MCS lock before the first step, and its words
 pub starts_mcs : (n first : ℕ) (ws : List ℕ) → ws ≡ replicate (1 + 2 * n) 0 → IsLockOf kinds.Mcs n ws (opening_lock kinds.Mcs first)

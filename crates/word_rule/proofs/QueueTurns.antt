@@ -122,6 +122,9 @@ module _ (n : ℕ) (l : Lock) (h : IsLock kinds.Mcs n l) where
     pub other_last : (p : ℕ) → l.line.stage i ≡ Mcs Ready → last l.line.cpus ≡ Some p → p ≢ i
     other_last p e there is = let s = here (Mcs Ready) e in true≢false (sym (last_in p there).0 ∙ (ap (λ z. has z l.line.cpus) is ∙ s.0))
 
+    pub gives_up : l.line.stage i ≡ Mcs Ready → IsLock kinds.Mcs n (record l { line = going l.line i Idle })
+    gives_up e = let s = stands_at kinds.Mcs n l h i (Mcs Ready) below e in restaged kinds.Mcs n l h i below Idle s.0
+
     pub enters_behind : (p : ℕ) → l.line.stage i ≡ Mcs Ready → last l.line.cpus ≡ Some p → IsLock kinds.Mcs n (record l { line = joining l.line i (Mcs (Behind p)) })
     enters_behind p e there =
         let s = here (Mcs Ready) e in

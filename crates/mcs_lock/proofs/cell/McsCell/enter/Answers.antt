@@ -2,7 +2,7 @@ use Rattle.std.proofs.Common.{rules, refl, ℕ, ◌-◌, ◌∷◌, sym, ap, sub
 use Rattle.atomic_table.specs.Table.{rest}
 use Rattle.word_rule.specs.declared.stage.Stage.TheVariants.{Mcs}
 use Rattle.word_rule.specs.declared.stage.McsStage.TheVariants.{Ready, Behind, Holding}
-use Rattle.word_rule.proofs.Lenders.{lends_at}
+use Rattle.word_rule.specs.Line.{holder}
 use Rattle.word_rule.specs.Rule.Callers.{IsWithout}
 use Rattle.word_rule.proofs.Acting.{took, takes_from, holds_from, moves_without}
 use Rattle.mcs_lock.proofs.McsActing.{enter_now, named, not_else, is_other}
@@ -18,7 +18,7 @@ take-logged-requires g c = let t = c.swap-found.ensures.2.first c.if-found-eq0.t
 
 pub invariant_of-result : goal.invariant_of-result
 invariant_of-result g c = let a = c.args.ready in let t = c.swap-found.ensures.2.first c.if-found-eq0.true in let y = c.take-logged.result.0 in let e = c.take-logged.ensures in
-    record { holds = holds_from g.O.SeqObject a.key.value a.cpu.number _ _ y a.seat.me c.take-logged.new.seat.me a.ready (took g.O.SeqObject _ a.seat.me c.swap-found.new.seat.me c.take-logged.new.seat.me (Some y) y t e.2 e.3 refl); there = lends_at _ _ _ (Mcs Holding) (ap (λ k. k.kind) c.requires.told ∙ c.args.self.now.kind) (ap (λ z. z.0.main.stage) (took g.O.SeqObject _ a.seat.me c.swap-found.new.seat.me c.take-logged.new.seat.me (Some y) y t e.2 e.3 refl).seat) refl }
+    record { holds = holds_from g.O.SeqObject a.key.value a.cpu.number _ _ y a.seat.me c.take-logged.new.seat.me a.ready (took g.O.SeqObject _ a.seat.me c.swap-found.new.seat.me c.take-logged.new.seat.me (Some y) y t e.2 e.3 refl); there = (ap (λ z. z.0.main.stage) (took g.O.SeqObject _ a.seat.me c.swap-found.new.seat.me c.take-logged.new.seat.me (Some y) y t e.2 e.3 refl).seat) ∙ ap (λ k. holder k 0) (sym (ap (λ k. k.kind) c.requires.told ∙ c.args.self.now.kind)) }
 
 pub returns-then-found-eq0-clause-got : goal.returns-then-found-eq0-clause-got
 returns-then-found-eq0-clause-got g c = let a = c.args.ready in let t = c.swap-found.ensures.2.first c.if-found-eq0.true in let y = c.take-logged.result.0 in let e = c.take-logged.ensures in

@@ -4,7 +4,7 @@ use Rattle.event_log.specs.Distinct.{has}
 use Rattle.word_rule.specs.declared.stage.Stage.TheVariants.{Idle, Mcs}
 use Rattle.word_rule.specs.declared.stage.McsStage.TheVariants.{Waiting, Holding}
 use Rattle.word_rule.specs.Cell.{Lawful}
-use Rattle.word_rule.proofs.Lenders.{lends_at}
+use Rattle.word_rule.specs.Line.{holder}
 use Rattle.word_rule.specs.Rule.Callers.{IsWithout, caller_of}
 use Rattle.word_rule.proofs.Known.{AllIdle}
 use Rattle.word_rule.proofs.Acting.{TookLast, last_taken, all_together, holds_now, takes_now, sees_without}
@@ -46,7 +46,7 @@ last g c = let a = c.args.waiting in let p = c.args.pass in let e = c.join_seat.
 pub invariant_of-result : goal.invariant_of-result
 invariant_of-result g c = let a = c.args.waiting in let y = c.take-logged.result.0 in let l = last g c in record {
   holds = holds_now g.O.SeqObject a.key.value a.cpu.number (Mcs Waiting) (Mcs Holding) y a.seat.me c.split_seat-theirs.new.seat.me a.waits l.lawful l.replayed l.first;
-  there = lends_at _ _ _ (Mcs Holding) (ap (λ k. k.kind) c.requires.waiting.told ∙ c.args.self.now.kind) (ap (λ z. z.0.main.stage) l.first) refl;
+  there = (ap (λ z. z.0.main.stage) l.first) ∙ ap (λ k. holder k 0) (sym (ap (λ k. k.kind) c.requires.waiting.told ∙ c.args.self.now.kind));
 }
 
 pub invariant_of-result-2 : goal.invariant_of-result-2

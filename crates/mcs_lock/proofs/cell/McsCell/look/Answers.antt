@@ -2,7 +2,7 @@ use Rattle.std.proofs.Common.{rules, refl, ◌∷◌, sym, ap, subst, ◌∙◌,
 use Rattle.atomic_table.specs.Table.{rest}
 use Rattle.word_rule.specs.declared.stage.Stage.TheVariants.{Mcs}
 use Rattle.word_rule.specs.declared.stage.McsStage.TheVariants.{Waiting, Holding}
-use Rattle.word_rule.proofs.Lenders.{lends_at}
+use Rattle.word_rule.specs.Line.{holder}
 use Rattle.word_rule.specs.Rule.Callers.{IsWithout}
 use Rattle.word_rule.proofs.Known.{idle_alone}
 use Rattle.word_rule.proofs.Acting.{took, takes_from, holds_from, moves_without, not_all}
@@ -21,7 +21,7 @@ take-logged-requires g c = let t = c.load-found.ensures.2.hit c.if-found-eq0.tru
 
 pub invariant_of-result : goal.invariant_of-result
 invariant_of-result g c = let a = c.args.waiting in let t = c.load-found.ensures.2.hit c.if-found-eq0.true in let y = c.take-logged.result.0 in let e = c.take-logged.ensures in
-    record { holds = holds_from g.O.SeqObject a.key.value a.cpu.number _ _ y a.seat.me c.take-logged.new.seat.me a.waits (took g.O.SeqObject _ a.seat.me c.load-found.new.seat.me c.take-logged.new.seat.me (Some y) y t e.2 e.3 refl); there = lends_at _ _ _ (Mcs Holding) (ap (λ k. k.kind) c.requires.told ∙ c.args.self.now.kind) (ap (λ z. z.0.main.stage) (took g.O.SeqObject _ a.seat.me c.load-found.new.seat.me c.take-logged.new.seat.me (Some y) y t e.2 e.3 refl).seat) refl }
+    record { holds = holds_from g.O.SeqObject a.key.value a.cpu.number _ _ y a.seat.me c.take-logged.new.seat.me a.waits (took g.O.SeqObject _ a.seat.me c.load-found.new.seat.me c.take-logged.new.seat.me (Some y) y t e.2 e.3 refl); there = (ap (λ z. z.0.main.stage) (took g.O.SeqObject _ a.seat.me c.load-found.new.seat.me c.take-logged.new.seat.me (Some y) y t e.2 e.3 refl).seat) ∙ ap (λ k. holder k 0) (sym (ap (λ k. k.kind) c.requires.told ∙ c.args.self.now.kind)) }
 
 pub returns-then-found-eq0-clause-got : goal.returns-then-found-eq0-clause-got
 returns-then-found-eq0-clause-got g c = let a = c.args.waiting in let t = c.load-found.ensures.2.hit c.if-found-eq0.true in let y = c.take-logged.result.0 in let e = c.take-logged.ensures in

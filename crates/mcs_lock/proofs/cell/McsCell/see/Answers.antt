@@ -3,13 +3,13 @@ use Rattle.word_rule.specs.declared.stage.Stage.TheVariants.{Mcs}
 use Rattle.word_rule.specs.declared.stage.McsStage.TheVariants.{Holding, Alone, Passing}
 use Rattle.word_rule.specs.CallerState.{Moves}
 use Rattle.word_rule.specs.Rule.Callers.{IsWith, state_with}
-use Rattle.word_rule.proofs.Lenders.{holding_at}
+use Rattle.word_rule.specs.Line.{holder}
 use Rattle.mcs_lock.proofs.McsActing.{see_now, below_with, named, not_else, is_other, else_below, else_now, goes_with, moves_with}
 use Rattle.mcs_lock.proofs.cell.McsCell.see.Goals as goal
 
 pub load-found-requires : goal.load-found-requires
 load-found-requires g c = let s = c.args.self.now in let a = c.args.hold in let key = s.table.table.shared.key in let words = s.sized.0 in
-    let at = holding_at a.key.value.kind a.seat.me.0.main.stage (ap (λ k. k.kind) c.requires.told ∙ s.kind) a.there in
+    let at = a.there ∙ ap (λ k. holder k a.ticket) (ap (λ k. k.kind) c.requires.told ∙ s.kind) in
     let w = subst (λ q. IsWith g.O.SeqObject key a.cpu.number q a.logged a.seat.me) at (subst (λ k. IsWith g.O.SeqObject k a.cpu.number a.seat.me.0.main.stage a.logged a.seat.me) c.requires.told a.holds) in
     let below = below_with g.O.SeqObject key s.cpus a.cpu.number (Mcs Holding) a.logged a.seat.me s.sized.1 w in
     (g.met.O.SeqObject.event_fits, (c.requires.table, omega (arith, c.next_index.ensures), rw c.next_index.ensures (see_now g.O.SeqObject key c.args.self.now.kind _ _ a.cpu.number a.seat.me a.logged w)))
@@ -31,11 +31,11 @@ invariant_of-result-else-found-eq0 g c = let a = c.args.hold in let some_one = c
     }
 
 pub returns-then-found-eq0-clause-none : goal.returns-then-found-eq0-clause-none
-returns-then-found-eq0-clause-none g c = let a = c.args.hold in let t = c.load-found.ensures.2 in let at = holding_at a.key.value.kind a.seat.me.0.main.stage (ap (λ k. k.kind) c.requires.told ∙ c.args.self.now.kind) a.there in
+returns-then-found-eq0-clause-none g c = let a = c.args.hold in let t = c.load-found.ensures.2 in let at = a.there ∙ ap (λ k. holder k a.ticket) (ap (λ k. k.kind) c.requires.told ∙ c.args.self.now.kind) in
     (search rules, subst (λ q. Moves g.O.SeqObject q (Mcs Alone) (state_with a.key.value a.seat.me.0.main.stage a.logged a.seat.me) (state_with a.key.value (Mcs Alone) a.logged c.load-found.new.seat.me)) at (moves_with g.O.SeqObject a.key.value a.seat.me.0.main.stage (Mcs Alone) a.logged a.seat.me c.load-found.new.seat.me (t.lawful a.key.value a.holds.at.told) (t.none c.if-found-eq0.true)))
 
 pub returns-else-found-eq0-clause-found : goal.returns-else-found-eq0-clause-found
-returns-else-found-eq0-clause-found g c = let a = c.args.hold in let some_one = c.if-found-eq0.false in let k : ℕ = c.load-found.result - 1 in let s = c.load-found.ensures.2 in let at = holding_at a.key.value.kind a.seat.me.0.main.stage (ap (λ k. k.kind) c.requires.told ∙ c.args.self.now.kind) a.there in
+returns-else-found-eq0-clause-found g c = let a = c.args.hold in let some_one = c.if-found-eq0.false in let k : ℕ = c.load-found.result - 1 in let s = c.load-found.ensures.2 in let at = a.there ∙ ap (λ k. holder k a.ticket) (ap (λ k. k.kind) c.requires.told ∙ c.args.self.now.kind) in
     let t = named (λ p. Mcs (Passing p)) c.load-found.result k a.seat.me c.load-found.new.seat.me (s.found some_one) (omega arith) in (
       search rules,
       (
