@@ -1,0 +1,23 @@
+use Rattle.std.proofs.Common.{OnErr, subst}
+use Rattle.std.proofs.lemmas.Result.{IfOk-at_ok}
+use Rattle.word_rule.specs.Answered.{IsAnswered, IsRefused}
+use Rattle.word_rule.proofs.MachineParts.{did}
+use Rattle.guarded_cell.proofs.tries.try_batch.Goals as goal
+
+pub returns-in-Ok-done-clause-answered : goal.returns-in-Ok-done-clause-answered
+returns-in-Ok-done-clause-answered g c =
+    let h = c.in-Ok in
+    let a = c.apply-done in
+    let r = c.release-pass in
+    IfOk-at_ok (λ s. IsAnswered g.O.SeqObject (g.C.LockCell.pass_view c.args.pass) c.args.calls.now s (g.C.LockCell.pass_view r.result)) c.in-Ok-done.is
+    (did g.O.SeqObject (g.C.LockCell.pass_view c.args.pass) (g.C.LockCell.pass_view r.result) (g.C.LockCell.hold_view h.hold) (g.C.LockCell.hold_view a.new.hold) (g.met.C.LockCell.hold_is_lawful c.args.cell.now h.hold h.ensures.hold)
+    h.ensures.caller h.ensures.grows a.ensures.caller r.ensures.caller r.ensures.seen (g.met.C.LockCell.pass_is_lawful c.args.cell.now r.result r.ensures.pass) c.args.calls.now a.result a.ensures.asked a.ensures.room a.ensures.after a.ensures.full).0
+
+pub returns-in-Err-done-clause-declined : goal.returns-in-Err-done-clause-declined
+returns-in-Err-done-clause-declined g c =
+    let h = c.in-Ok in
+    let a = c.apply-done in
+    let r = c.release-pass in
+    subst (λ z. OnErr z (IsRefused g.O.SeqObject (g.C.LockCell.pass_view c.args.pass) (g.C.LockCell.pass_view r.result))) c.in-Err-done.is
+    (did g.O.SeqObject (g.C.LockCell.pass_view c.args.pass) (g.C.LockCell.pass_view r.result) (g.C.LockCell.hold_view h.hold) (g.C.LockCell.hold_view a.new.hold) (g.met.C.LockCell.hold_is_lawful c.args.cell.now h.hold h.ensures.hold)
+    h.ensures.caller h.ensures.grows a.ensures.caller r.ensures.caller r.ensures.seen (g.met.C.LockCell.pass_is_lawful c.args.cell.now r.result r.ensures.pass) c.args.calls.now a.result a.ensures.asked a.ensures.room a.ensures.after a.ensures.full).1

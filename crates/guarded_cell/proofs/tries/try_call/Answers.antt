@@ -1,0 +1,24 @@
+use Rattle.std.proofs.Common.{OnErr, [], ◌∷◌, subst}
+use Rattle.std.proofs.lemmas.Result.{IfOk-at_ok}
+use Rattle.event_log.specs.Log.{one_step}
+use Rattle.word_rule.specs.Answered.{IsAnswered, IsRefused}
+use Rattle.word_rule.proofs.MachineParts.{did_one}
+use Rattle.guarded_cell.proofs.tries.try_call.Goals as goal
+
+pub returns-in-Ok-done-clause-answered : goal.returns-in-Ok-done-clause-answered
+returns-in-Ok-done-clause-answered g c =
+    let h = c.in-Ok in
+    let a = c.apply_one-done in
+    let r = c.release-pass in
+    IfOk-at_ok (λ v. IsAnswered g.O.SeqObject (g.C.LockCell.pass_view c.args.pass) (c.args.call.now ∷ []) (one_step c.args.call.now v) (g.C.LockCell.pass_view r.result)) c.in-Ok-done.is
+    (did_one g.O.SeqObject (g.C.LockCell.pass_view c.args.pass) (g.C.LockCell.pass_view r.result) (g.C.LockCell.hold_view h.hold) (g.C.LockCell.hold_view a.new.hold) (g.met.C.LockCell.hold_is_lawful c.args.cell.now h.hold h.ensures.hold)
+    h.ensures.caller h.ensures.grows a.ensures.caller r.ensures.caller r.ensures.seen (g.met.C.LockCell.pass_is_lawful c.args.cell.now r.result r.ensures.pass) c.args.call.now a.result a.ensures.room a.ensures.after a.ensures.full).0
+
+pub returns-in-Err-done-clause-declined : goal.returns-in-Err-done-clause-declined
+returns-in-Err-done-clause-declined g c =
+    let h = c.in-Ok in
+    let a = c.apply_one-done in
+    let r = c.release-pass in
+    subst (λ z. OnErr z (IsRefused g.O.SeqObject (g.C.LockCell.pass_view c.args.pass) (g.C.LockCell.pass_view r.result))) c.in-Err-done.is
+    (did_one g.O.SeqObject (g.C.LockCell.pass_view c.args.pass) (g.C.LockCell.pass_view r.result) (g.C.LockCell.hold_view h.hold) (g.C.LockCell.hold_view a.new.hold) (g.met.C.LockCell.hold_is_lawful c.args.cell.now h.hold h.ensures.hold)
+    h.ensures.caller h.ensures.grows a.ensures.caller r.ensures.caller r.ensures.seen (g.met.C.LockCell.pass_is_lawful c.args.cell.now r.result r.ensures.pass) c.args.call.now a.result a.ensures.room a.ensures.after a.ensures.full).1
