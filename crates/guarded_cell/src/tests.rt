@@ -6,6 +6,7 @@ ghost use Rattle.guarded_cell.specs.Kinds.{IsPassOf};
 ghost use Rattle.word_rule.specs.Passes.{view_of_pass};
 
 mod threads;
+mod tries;
 
 use crate::{AnyCell, AnyPass, MOST_GROUPS};
 use arrayvec::ArrayVec;

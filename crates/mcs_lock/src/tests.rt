@@ -352,3 +352,29 @@ fn a_queue_goes_in_and_comes_out(rt: HostRuntime) -> Result<(), Fail> {
     assert_eq!(rt; step.reply, Reply::Thread(3));
     Ok(())
 }
+
+#[test]
+fn an_entry_between_clear_and_exchange(rt: HostRuntime) -> Result<(), Fail> {
+    let (cell, zero, one) = cell_of_two(rt.alloc())?;
+    let ready = cell.clear(one);
+    let hold = first(&rt, &cell, zero);
+    let one = match cell.try_enter(ready) {
+        Ok(_hold) => panic!(rt; "two have the object"),
+        Err(pass) => pass,
+    };
+    let alone = match cell.see(hold) {
+        Err(alone) => alone,
+        Ok(_passing) => panic!(rt; "nobody is behind it"),
+    };
+    let _zero = match cell.empty(alone) {
+        Ok(pass) => pass,
+        Err(_leaving) => panic!(rt; "nobody is behind it"),
+    };
+    match cell.try_acquire(one) {
+        Ok(hold) => {
+            let _one = cell.release(&rt, hold);
+            Ok(())
+        }
+        Err(_pass) => Err(Fail::new("the queue is empty")),
+    }
+}

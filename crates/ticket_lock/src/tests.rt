@@ -9,6 +9,7 @@ use crate::{Hold, Pass, TicketCell};
 use event_log::{Event, Logged, NoRoom, Steps};
 use shared_queue::{QueueCall as Call, QueueReply as Reply, ThreadQueue};
 use std::alloc::Global;
+use std::process::Abort;
 use std::sync::Wait;
 use std::test::Fail;
 use word_rule::LockCell;
@@ -17,7 +18,7 @@ use word_rule::LockCell;
 fn cell_of_one(
     alloc: Global,
     queue: Logged<ThreadQueue>,
-    first: u64,
+    first: u32,
 ) -> Result<(TicketCell<ThreadQueue>, Pass<ThreadQueue>), Logged<ThreadQueue>>
     ensures pass { IfOk result (λ r. IsPassOf r.0 r.1) }
     ensures all { IfOk result (λ r. OwnsAll (view_of_pass r.1).caller) }
@@ -57,7 +58,7 @@ fn reply_to<R: Wait>(
 #[test]
 fn after_the_greatest_ticket_comes_zero(rt: HostRuntime) -> Result<(), Fail> {
     let queue = Logged::<ThreadQueue>::open(rt.alloc(), 8, 100)?;
-    let Ok((cell, pass)) = cell_of_one(rt.alloc(), queue, 18446744073709551615) else {
+    let Ok((cell, pass)) = cell_of_one(rt.alloc(), queue, 4294967295) else {
         return Err(Fail::new("no memory"));
     };
     let (pass, reply, looks) = reply_to(&rt, &cell, pass, Call::Enq(3));
@@ -70,7 +71,7 @@ fn after_the_greatest_ticket_comes_zero(rt: HostRuntime) -> Result<(), Fail> {
 /// A cell of two CPUs around a queue of 8 threads.
 fn cell_of_two(
     alloc: Global,
-    first: u64,
+    first: u32,
 ) -> Result<
     (
         TicketCell<ThreadQueue>,
@@ -124,10 +125,10 @@ fn ended(
 
 #[test]
 fn each_waits_for_its_ticket(rt: HostRuntime) -> Result<(), Fail> {
-    let (cell, zero, one) = cell_of_two(rt.alloc(), 18446744073709551615)?;
+    let (cell, zero, one) = cell_of_two(rt.alloc(), 4294967295)?;
     let zero = cell.draw(zero);
     let one = cell.draw(one);
-    assert_eq!(rt; (zero.ticket, one.ticket), (18446744073709551615, 0));
+    assert_eq!(rt; (zero.ticket, one.ticket), (4294967295, 0));
     let one = match cell.look(one) {
         Err(one) => one,
         Ok(_hold) => panic!(rt; "the second ticket is served first"),
@@ -174,5 +175,74 @@ fn a_queue_goes_in_and_comes_out(rt: HostRuntime) -> Result<(), Fail> {
         return Err(Fail::new("not one step"));
     };
     assert_eq!(rt; step.reply, Reply::Thread(3));
+    Ok(())
+}
+
+/// A try that is to get the object.
+fn gets<R: Abort>(
+    rt: &R,
+    cell: &TicketCell<ThreadQueue>,
+    pass: Pass<ThreadQueue>,
+) -> Hold<ThreadQueue>
+    requires { IsPassOf cell.now pass }
+    ensures { IsHoldOf cell.now result }
+{
+    match cell.try_acquire(pass) {
+        Ok(hold) => hold,
+        Err(_pass) => panic!(rt; "it is busy"),
+    }
+}
+
+/// A try that is to find the object with another.
+fn is_busy<R: Abort>(
+    rt: &R,
+    cell: &TicketCell<ThreadQueue>,
+    pass: Pass<ThreadQueue>,
+) -> Pass<ThreadQueue>
+    requires { IsPassOf cell.now pass }
+    ensures { IsPassOf cell.now result }
+{
+    match cell.try_acquire(pass) {
+        Ok(_hold) => panic!(rt; "two have the object"),
+        Err(pass) => pass,
+    }
+}
+
+#[test]
+fn a_try_behind_a_ticket_is_busy(rt: HostRuntime) -> Result<(), Fail> {
+    let (cell, zero, one) = cell_of_two(rt.alloc(), 4294967295)?;
+    let zero = cell.draw(zero);
+    let one = is_busy(&rt, &cell, one);
+    let hold = match cell.look(zero) {
+        Ok(hold) => hold,
+        Err(_drawn) => panic!(rt; "the first ticket isn't served"),
+    };
+    let one = is_busy(&rt, &cell, one);
+    let _zero = cell.serve(hold);
+    let hold = gets(&rt, &cell, one);
+    assert_eq!(rt; hold.ticket, 0);
+    let _one = cell.serve(hold);
+    Ok(())
+}
+
+#[test]
+fn a_draw_between_read_and_exchange(rt: HostRuntime) -> Result<(), Fail> {
+    let (cell, zero, one) = cell_of_two(rt.alloc(), 7)?;
+    let Ok(trying) = cell.read(one) else {
+        return Err(Fail::new("somebody is in line"));
+    };
+    let zero = cell.draw(zero);
+    let one = match cell.exchange(trying) {
+        Ok(_hold) => panic!(rt; "it passed one in line"),
+        Err(pass) => pass,
+    };
+    let hold = match cell.look(zero) {
+        Ok(hold) => hold,
+        Err(_drawn) => panic!(rt; "the first ticket isn't served"),
+    };
+    let _zero = cell.serve(hold);
+    let hold = gets(&rt, &cell, one);
+    assert_eq!(rt; hold.ticket, 8);
+    let _one = cell.serve(hold);
     Ok(())
 }

@@ -1,7 +1,6 @@
 -- A lock of either kind, apart from its words, and what its line does.
-use Rattle.std.specs.Prelude.{ℕ, ◌<◌, ◌%◌, ◌^◌, Bool, true, false, ◌==◌, cond, List, [], ◌∷◌, ◌++◌, Option, Some, None}
+use Rattle.std.specs.Prelude.{ℕ, ◌%◌, ◌^◌, Bool, true, false, ◌==◌, cond, List, [], ◌∷◌, ◌++◌, Option, Some, None}
 use Rattle.word_rule.specs.declared.lock_kind.LockKind.{LockKind}
-use Rattle.word_rule.specs.declared.lock_kind.LockKind.TheVariants as kinds
 use Rattle.word_rule.specs.declared.stage.Stage.{Stage}
 use Rattle.word_rule.specs.declared.stage.Stage.TheVariants.{Idle, Mcs}
 use Rattle.word_rule.specs.declared.stage.McsStage.TheVariants.{Waiting}
@@ -18,14 +17,9 @@ pub record Lock : Type 0 where
 abbrev pub tickets : ℕ
 tickets = 2 ^ 32
 
--- a lock before the first step
+-- a lock before the first step: nobody is in line, and a ticket lock serves the first ticket
 abbrev pub opening_lock : LockKind → ℕ → Lock
 opening_lock kind first = record { kind = kind; line = empty_line; serving = first % tickets; next = λ _. None }
-
--- the first ticket is a ticket; an MCS lock has none
-abbrev pub IsFirst : LockKind → ℕ → Type 0
-IsFirst kinds.Ticket first = first < tickets
-IsFirst kinds.Mcs first = Unit {0}
 
 -- the last of k ∷ ks
 abbrev pub last_from : ℕ → List ℕ → ℕ

@@ -2,7 +2,6 @@
 
 ghost use Rattle.std.specs.Prelude.{◌≡◌, ◌<◌, ◌≤◌, [], All, length, map, vec_len, Some, slice_get, IfOk, IfErr};
 ghost use Rattle.std.specs.List.{AllByRecursion};
-ghost use Rattle.word_rule.specs.Locks.{IsFirst};
 ghost use Rattle.word_rule.specs.LockWords.{lock_words};
 ghost use Rattle.word_rule.specs.Machine.Opening.{opening_world, IsOpening};
 ghost use Rattle.word_rule.specs.Machine.Shown.{Represents, Runs, opened_by};
@@ -65,8 +64,7 @@ impl<O: SeqObject> Model for Machine<O> {
 
 impl<O: SeqObject> Machine<O> {
     /// A machine of 1 to 16 cells with empty logs and of 1 to 8 CPUs, each with its script, before the first step. Each
-    /// entry has 1 to 8 calls on one of the cells, and the first ticket of a ticket lock is below 2^32. Where memory is refused
-    /// both lists come back.
+    /// entry has 1 to 8 calls on one of the cells. Where memory is refused both lists come back.
     pub fn new(
         alloc: Global,
         cells: Vec<CellSpec<O>>,
@@ -75,7 +73,6 @@ impl<O: SeqObject> Machine<O> {
         requires cells { (0 < vec_len cells) × (vec_len cells ≤ MOST_CELLS) }
         requires cpus { (0 < vec_len scripts) × (vec_len scripts ≤ MOST_CPUS) }
         requires empty { AllByRecursion (λ c. c.logged.log ≡ []) cells.items }
-        requires firsts { All (λ c. IsFirst c.kind c.first) cells.items }
         requires able { AllByRecursion (λ s. AllByRecursion (λ t. IsTodo (vec_len cells) t) s.items) scripts.items }
         ensures shows { IfOk result (λ m. Represents O.SeqObject m (opening_world cells.items scripts.items)) }
         ensures opening { IsOpening (opening_world cells.items scripts.items) }

@@ -20,10 +20,10 @@ use ticket_lock::TicketCell;
 use word_rule::{LockCell, LockKind};
 
 /// The passes of two callers.
-type Pair<P> = (P, P);
+pub type Pair<P> = (P, P);
 
 /// So many calls, the first at that place of the round that all of them go.
-fn calls_from(alloc: Global, start: u32, count: u32) -> Result<Vec<Call>, Fail> {
+pub fn calls_from(alloc: Global, start: u32, count: u32) -> Result<Vec<Call>, Fail> {
     let mut calls = Vec::new(alloc);
     for i in 0..count {
         let call = match (start % 5 + i % 5) % 5 {
@@ -39,7 +39,7 @@ fn calls_from(alloc: Global, start: u32, count: u32) -> Result<Vec<Call>, Fail> 
 }
 
 /// Whether the CPU's events are these calls, each once and in order.
-fn are_calls_of(queue: &Logged<ThreadQueue>, cpu: u8, wanted: &[Call]) -> bool {
+pub fn are_calls_of(queue: &Logged<ThreadQueue>, cpu: u8, wanted: &[Call]) -> bool {
     let count = queue.log().iter().filter(|event| event.cpu == cpu).count();
     let mine = queue.log().iter().filter(|event| event.cpu == cpu);
     count == wanted.len()
@@ -50,7 +50,7 @@ fn are_calls_of(queue: &Logged<ThreadQueue>, cpu: u8, wanted: &[Call]) -> bool {
 }
 
 /// Whether a queue that begins anew gives the log's replies to its calls.
-fn is_replayed(alloc: Global, queue: &Logged<ThreadQueue>) -> Result<bool, Fail> {
+pub fn is_replayed(alloc: Global, queue: &Logged<ThreadQueue>) -> Result<bool, Fail> {
     let mut fresh = ThreadQueue::open(alloc, &8)?;
     for event in queue.log() {
         for step in event.steps.list.as_slice() {
@@ -138,7 +138,7 @@ fn two_threads_call_a_ticket_lock(rt: HostRuntime) -> Result<(), Fail> {
     let second = calls_from(rt.alloc(), 3, 3000)?;
     let calls = (first.as_slice(), second.as_slice());
     let queue = Logged::<ThreadQueue>::open(rt.alloc(), 8, 5000)?;
-    let Ok((cell, mut passes)) = TicketCell::new(rt.alloc(), queue, 2, u64::MAX) else {
+    let Ok((cell, mut passes)) = TicketCell::new(rt.alloc(), queue, 2, u32::MAX) else {
         return Err(Fail::new("no memory"));
     };
     let one = passes.pop().unwrap();

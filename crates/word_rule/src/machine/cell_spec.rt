@@ -3,7 +3,7 @@
 use crate::LockKind;
 use event_log::{Logged, SeqObject};
 
-/// A cell for the step machine: its lock, the first ticket (below 2^32; 0 for an MCS lock), and the object with its log.
+/// A cell for the step machine: its lock, the first ticket (modulo 2^32; 0 for an MCS lock), and the object with its log.
 #[derive(Drop)]
 pub struct CellSpec<O: SeqObject> {
     pub kind: LockKind,

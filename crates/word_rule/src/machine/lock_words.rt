@@ -1,14 +1,14 @@
 //! The words of a lock.
 
 ghost use Rattle.std.specs.Prelude.{◌≡◌, ◌<◌, ◌≤◌, vec_len, IfOk};
-ghost use Rattle.word_rule.specs.Locks.{Lock, IsFirst, opening_lock};
+ghost use Rattle.word_rule.specs.Locks.{Lock, opening_lock};
 ghost use Rattle.word_rule.specs.Rule.LockStates.{RepresentsLock, IsLockOf};
 ghost use Rattle.word_rule.specs.Turns.{turn};
 
 use crate::machine::mcs::turn_mcs;
 use crate::machine::step_done::StepDone;
 use crate::machine::ticket::turn_ticket;
-use crate::{LockKind, MOST_CPUS, Stage, word_with};
+use crate::{LockKind, MOST_CPUS, Stage, TICKETS, word_with};
 use event_log::OutOfMemory;
 use std::alloc::Global;
 
@@ -28,8 +28,7 @@ impl LockWords {
         first: u64,
         cpus: usize,
     ) -> Result<LockWords, OutOfMemory>
-        requires few { cpus ≤ MOST_CPUS }
-        requires first { IsFirst kind first }
+        requires { cpus ≤ MOST_CPUS }
         ensures { IfOk result (λ w. RepresentsLock cpus w.kind w.words.items w.stages.items (opening_lock kind first)) }
     {
         let words = new_words(alloc, kind, first, cpus)?;
@@ -64,15 +63,17 @@ fn new_words(
     first: u64,
     cpus: usize,
 ) -> Result<Vec<u64>, OutOfMemory>
-    requires few { cpus ≤ MOST_CPUS }
-    requires first { IsFirst kind first }
+    requires { cpus ≤ MOST_CPUS }
     ensures { IfOk result (λ w. IsLockOf kind cpus w.items (opening_lock kind first)) }
 {
     match kind {
-        LockKind::Ticket => match vec![in alloc; word_with(first as u32, first as u32); 1] {
-            Ok(words) => Ok(words),
-            Err(_) => Err(OutOfMemory),
-        },
+        LockKind::Ticket => {
+            let first = (first % TICKETS) as u32;
+            match vec![in alloc; word_with(first, first); 1] {
+                Ok(words) => Ok(words),
+                Err(_) => Err(OutOfMemory),
+            }
+        }
         LockKind::Mcs => match vec![in alloc; 0; 1 + 2 * cpus] {
             Ok(words) => Ok(words),
             Err(_) => Err(OutOfMemory),

@@ -1,7 +1,6 @@
 //! The memory of a step machine.
 
-ghost use Rattle.std.specs.Prelude.{◌≡◌, ◌≤◌, [], All, length, vec_capacity, IfOk};
-ghost use Rattle.word_rule.specs.Locks.{IsFirst};
+ghost use Rattle.std.specs.Prelude.{◌≡◌, ◌≤◌, [], length, vec_capacity, IfOk};
 ghost use Rattle.word_rule.specs.Machine.Shown.{FreshLocks, FreshDone};
 
 use crate::MOST_CPUS;
@@ -26,8 +25,7 @@ fn make_locks<O: SeqObject>(
     cells: &[CellSpec<O>],
     cpus: usize,
 ) -> Result<Vec<LockWords>, OutOfMemory>
-    requires few { cpus ≤ MOST_CPUS }
-    requires firsts { All (λ c. IsFirst c.kind c.first) cells.now }
+    requires { cpus ≤ MOST_CPUS }
     ensures { IfOk result (λ v. FreshLocks O.SeqObject cpus cells.now v.items) }
 {
     let mut locks = Vec::new(alloc);
@@ -64,8 +62,7 @@ pub fn make_room<O: SeqObject>(
     cells: &[CellSpec<O>],
     scripts: &[Vec<Todo<O>>],
 ) -> Result<Room<O>, OutOfMemory>
-    requires few { length scripts.now ≤ MOST_CPUS }
-    requires firsts { All (λ c. IsFirst c.kind c.first) cells.now }
+    requires { length scripts.now ≤ MOST_CPUS }
     ensures locks { IfOk result (λ r. FreshLocks O.SeqObject (length scripts.now) cells.now r.locks.items) }
     ensures done { IfOk result (λ r. FreshDone scripts.now r.done.items) }
     ensures logs { IfOk result (λ r. (r.logs.items ≡ []) × (length cells.now ≤ vec_capacity r.logs)) }

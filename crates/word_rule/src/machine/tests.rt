@@ -10,17 +10,20 @@ mod memory;
 mod plain;
 mod scene;
 
+/// One in the high half of a ticket lock's word, where the next ticket stands.
+const NEXT: u64 = 1 << 32;
+
 #[test]
 fn a_later_ticket_waits(rt: HostRuntime) -> Result<(), Fail> {
     let turns: [Turn<'_>; 8] = [
-        (0, StepDone::Draw, &[&[1, 0]]),
-        (1, StepDone::Draw, &[&[2, 0]]),
-        (1, StepDone::Look(false), &[&[2, 0]]),
-        (1, StepDone::Look(false), &[&[2, 0]]),
-        (0, StepDone::Look(true), &[&[2, 0]]),
-        (0, StepDone::Serve, &[&[2, 1]]),
-        (1, StepDone::Look(true), &[&[2, 1]]),
-        (1, StepDone::Serve, &[&[2, 2]]),
+        (0, StepDone::Draw, &[&[NEXT]]),
+        (1, StepDone::Draw, &[&[2 * NEXT]]),
+        (1, StepDone::Look(false), &[&[2 * NEXT]]),
+        (1, StepDone::Look(false), &[&[2 * NEXT]]),
+        (0, StepDone::Look(true), &[&[2 * NEXT]]),
+        (0, StepDone::Serve, &[&[2 * NEXT + 1]]),
+        (1, StepDone::Look(true), &[&[2 * NEXT + 1]]),
+        (1, StepDone::Serve, &[&[2 * NEXT + 2]]),
     ];
     let left = Left {
         logs: &[&[(0, Call::Enq(3), Reply::Ok), (1, Call::Enq(4), Reply::Ok)]],
@@ -100,13 +103,13 @@ fn both_kinds_beside_each_other(rt: HostRuntime) -> Result<(), Fail> {
         scripts: &[&[(0, Call::Enq(3)), (1, Call::Enq(4))]],
     };
     let turns: [Turn<'_>; 7] = [
-        (0, StepDone::Draw, &[&[1, 0], &[0, 0, 0]]),
-        (0, StepDone::Look(true), &[&[1, 0], &[0, 0, 0]]),
-        (0, StepDone::Serve, &[&[1, 1], &[0, 0, 0]]),
-        (0, StepDone::Clear, &[&[1, 1], &[0, 0, 0]]),
-        (0, StepDone::Enter(true), &[&[1, 1], &[1, 0, 0]]),
-        (0, StepDone::See(false), &[&[1, 1], &[1, 0, 0]]),
-        (0, StepDone::Empty(true), &[&[1, 1], &[0, 0, 0]]),
+        (0, StepDone::Draw, &[&[NEXT], &[0, 0, 0]]),
+        (0, StepDone::Look(true), &[&[NEXT], &[0, 0, 0]]),
+        (0, StepDone::Serve, &[&[NEXT + 1], &[0, 0, 0]]),
+        (0, StepDone::Clear, &[&[NEXT + 1], &[0, 0, 0]]),
+        (0, StepDone::Enter(true), &[&[NEXT + 1], &[1, 0, 0]]),
+        (0, StepDone::See(false), &[&[NEXT + 1], &[1, 0, 0]]),
+        (0, StepDone::Empty(true), &[&[NEXT + 1], &[0, 0, 0]]),
     ];
     let left = Left {
         logs: &[
@@ -131,11 +134,11 @@ fn a_done_script_is_idle(rt: HostRuntime) -> Result<(), Fail> {
         scripts: &[&[(0, Call::Enq(3))], &[]],
     };
     let turns: [Turn<'_>; 5] = [
-        (0, StepDone::Draw, &[&[1, 0]]),
-        (0, StepDone::Look(true), &[&[1, 0]]),
-        (0, StepDone::Serve, &[&[1, 1]]),
-        (0, StepDone::Idle, &[&[1, 1]]),
-        (1, StepDone::Idle, &[&[1, 1]]),
+        (0, StepDone::Draw, &[&[NEXT]]),
+        (0, StepDone::Look(true), &[&[NEXT]]),
+        (0, StepDone::Serve, &[&[NEXT + 1]]),
+        (0, StepDone::Idle, &[&[NEXT + 1]]),
+        (1, StepDone::Idle, &[&[NEXT + 1]]),
     ];
     let left = Left {
         logs: &[&[(0, Call::Enq(3), Reply::Ok)]],
@@ -149,9 +152,9 @@ fn a_done_script_is_idle(rt: HostRuntime) -> Result<(), Fail> {
 #[test]
 fn an_open_hold_leaves_nothing(rt: HostRuntime) -> Result<(), Fail> {
     let turns: [Turn<'_>; 3] = [
-        (0, StepDone::Draw, &[&[1, 0]]),
-        (1, StepDone::Draw, &[&[2, 0]]),
-        (0, StepDone::Look(true), &[&[2, 0]]),
+        (0, StepDone::Draw, &[&[NEXT]]),
+        (1, StepDone::Draw, &[&[2 * NEXT]]),
+        (0, StepDone::Look(true), &[&[2 * NEXT]]),
     ];
     let left = Left {
         logs: &[&[]],
@@ -165,17 +168,17 @@ fn an_open_hold_leaves_nothing(rt: HostRuntime) -> Result<(), Fail> {
 #[test]
 fn after_the_greatest_ticket_comes_zero(rt: HostRuntime) -> Result<(), Fail> {
     let setting = Setting {
-        locks: &[(LockKind::Ticket, 18446744073709551615)],
+        locks: &[(LockKind::Ticket, 4294967295)],
         limit: 100,
         scripts: &[&[(0, Call::Enq(3)), (0, Call::Deq)]],
     };
     let turns: [Turn<'_>; 6] = [
-        (0, StepDone::Draw, &[&[0, 18446744073709551615]]),
-        (0, StepDone::Look(true), &[&[0, 18446744073709551615]]),
-        (0, StepDone::Serve, &[&[0, 0]]),
-        (0, StepDone::Draw, &[&[1, 0]]),
-        (0, StepDone::Look(true), &[&[1, 0]]),
-        (0, StepDone::Serve, &[&[1, 1]]),
+        (0, StepDone::Draw, &[&[4294967295]]),
+        (0, StepDone::Look(true), &[&[4294967295]]),
+        (0, StepDone::Serve, &[&[0]]),
+        (0, StepDone::Draw, &[&[NEXT]]),
+        (0, StepDone::Look(true), &[&[NEXT]]),
+        (0, StepDone::Serve, &[&[NEXT + 1]]),
     ];
     let left = Left {
         logs: &[&[
@@ -200,12 +203,12 @@ fn a_full_log_has_no_room(rt: HostRuntime) -> Result<(), Fail> {
         scripts: &[&[(0, Call::Enq(3)), (0, Call::Deq)]],
     };
     let turns: [Turn<'_>; 6] = [
-        (0, StepDone::Draw, &[&[1, 0]]),
-        (0, StepDone::Look(true), &[&[1, 0]]),
-        (0, StepDone::Serve, &[&[1, 1]]),
-        (0, StepDone::Draw, &[&[2, 1]]),
-        (0, StepDone::Look(true), &[&[2, 1]]),
-        (0, StepDone::Serve, &[&[2, 2]]),
+        (0, StepDone::Draw, &[&[NEXT]]),
+        (0, StepDone::Look(true), &[&[NEXT]]),
+        (0, StepDone::Serve, &[&[NEXT + 1]]),
+        (0, StepDone::Draw, &[&[2 * NEXT + 1]]),
+        (0, StepDone::Look(true), &[&[2 * NEXT + 1]]),
+        (0, StepDone::Serve, &[&[2 * NEXT + 2]]),
     ];
     let left = Left {
         logs: &[&[(0, Call::Enq(3), Reply::Ok)]],

@@ -5,6 +5,7 @@ ghost use Rattle.std.specs.List.{AllByRecursion};
 ghost use Rattle.word_rule.specs.Machine.SoundWorld.{IsTodo};
 
 use crate::LockKind;
+use crate::machine::tests::NEXT;
 use crate::machine::tests::scene::{Left, Setting, Turn, cells_of, leaves, plays, scripts_of};
 use crate::machine::{CellSpec, Machine, StepDone};
 use event_log::{OutOfMemory, Todo};
@@ -85,9 +86,9 @@ fn a_machine_without_memory(rt: HostRuntime) -> Result<(), Fail> {
     }
     let mut machine = made(&rt, rt.alloc(), &setting, cells, scripts)?;
     let turns: [Turn<'_>; 3] = [
-        (0, StepDone::Draw, &[&[8, 7], &[0, 0, 0, 0, 0]]),
-        (0, StepDone::Look(true), &[&[8, 7], &[0, 0, 0, 0, 0]]),
-        (0, StepDone::Serve, &[&[8, 8], &[0, 0, 0, 0, 0]]),
+        (0, StepDone::Draw, &[&[8 * NEXT + 7], &[0, 0, 0, 0, 0]]),
+        (0, StepDone::Look(true), &[&[8 * NEXT + 7], &[0, 0, 0, 0, 0]]),
+        (0, StepDone::Serve, &[&[8 * NEXT + 8], &[0, 0, 0, 0, 0]]),
     ];
     let left = Left {
         logs: &[&[(0, Call::Enq(3), Reply::Ok)], &[]],
