@@ -1,5 +1,6 @@
 //! The worked runs, refused scripts, and sinks that fail.
 
+mod judged_runs;
 mod texts;
 
 use crate::fault::Fault;

@@ -1,0 +1,91 @@
+//! Runs by threads, eight CPUs on sixteen objects of all kinds: their records are sound, and have an order.
+
+use auditor::{Verdict, audit};
+use cpu_worker::{OpenGate, run};
+use log_merge::merge;
+use scripts::{Scripts, Settings};
+use std::alloc::Global;
+use std::test::Fail;
+
+const CPUS: u8 = 8;
+
+const OBJECTS: usize = 16;
+
+const ENTRIES: usize = 300;
+
+/// Each kind, what it is opened with, and what is asked of it.
+const KINDS: [(&str, &str, [&str; 4]); 4] = [
+    (
+        "queue",
+        "threads = 8",
+        ["enq 1", "enq 2 ; enq 3 ; len", "deq", "remove 3"],
+    ),
+    (
+        "pool",
+        "pages = 4",
+        ["alloc 1", "alloc 2 ; left", "free 1 0", "free 2 4"],
+    ),
+    (
+        "console",
+        "bytes = 3",
+        ["put 65", "put 66 ; put 67 ; level", "get", "get ; get"],
+    ),
+    (
+        "sched",
+        "threads = 8\nchannels = 2",
+        ["ready 1", "sleep 0 2 ; sleep 1 3", "next", "wakeall 1"],
+    ),
+];
+
+/// Sixteen objects behind the lock. The logs of some are full before all entries are done.
+fn settings_text(alloc: Global, lock: &str) -> Result<String, Fail> {
+    let mut text = String::new(alloc);
+    writeln!(text, "cpus = {CPUS}")?;
+    for place in 0..OBJECTS {
+        let (kind, numbers, _) = KINDS[place % 4];
+        let events = if place < 4 { 40 } else { 1000 };
+        writeln!(
+            text,
+            "[[object]]\nname = \"o{place}\"\nkind = \"{kind}\"\nlock = \"{lock}\"\nevents = {events}\n{numbers}"
+        )?;
+    }
+    Ok(text)
+}
+
+/// Each CPU goes over all objects again and again, and asks something else each time.
+fn put_script(text: &mut String, cpu: u8) -> Result<(), Fail> {
+    let first = cpu as usize;
+    for index in 0..ENTRIES {
+        let place = (index + first) % OBJECTS;
+        let (_, _, asked) = KINDS[place % 4];
+        let call = asked[(index / OBJECTS + first) % 4];
+        writeln!(text, "{cpu} o{place} {call}")?;
+    }
+    Ok(())
+}
+
+fn scripts_text(alloc: Global) -> Result<String, Fail> {
+    let mut text = String::new(alloc);
+    for cpu in 0..CPUS {
+        put_script(&mut text, cpu)?;
+    }
+    Ok(text)
+}
+
+#[test]
+fn runs_are_sound_and_have_an_order(rt: HostRuntime) -> Result<(), Fail> {
+    let scripts = scripts_text(rt.alloc())?;
+    for lock in ["ticket", "mcs"] {
+        let settings = settings_text(rt.alloc(), lock)?;
+        let settings = Settings::read(rt.alloc(), settings.as_bytes())?;
+        let scripts = Scripts::read(rt.alloc(), scripts.as_bytes(), &settings)?;
+        let record = run(&rt, rt.alloc(), &settings, &scripts, &OpenGate)?;
+        let verdict = audit(rt.alloc(), &record)?;
+        assert!(rt; matches!(verdict, Verdict::Sound), "{lock}");
+        let Ok(merged) = merge(rt.alloc(), &record) else {
+            return Err(Fail::new("a run without an order"));
+        };
+        assert_eq!(rt; merged.places.as_slice().len(), 8 * ENTRIES, "{lock}");
+    }
+    Ok(())
+}
