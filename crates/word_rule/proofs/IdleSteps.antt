@@ -114,8 +114,8 @@ module _ (n : ℕ) (l : Lock) (i : ℕ) (below : i < n) where
   ticket_acts h Idle e whole = refl
   ticket_acts h (Ticket (Drawn t)) e whole = look_acts (Ticket (Served t))
   ticket_acts h (Ticket (Served t)) e whole = refl
-  ticket_acts h (Mcs q) e whole = absurd (stands_at kinds.Ticket n l h i (Mcs q) below e)
   ticket_acts h Torn e whole = absurd (true≢false whole)
+  ticket_acts h q e whole = absurd (stands_at kinds.Ticket n l h i q below e)
 
   see_acts : (q : Stage) (o : Option ℕ) → is_idle (see l i q o).1 ≡ false
   see_acts q None = refl
@@ -142,8 +142,8 @@ module _ (n : ℕ) (l : Lock) (i : ℕ) (below : i < n) where
   mcs_acts h (Mcs Alone) e whole = empty_acts
   mcs_acts h (Mcs Leaving) e whole = see_acts (Mcs Leaving) (follower l.line)
   mcs_acts h (Mcs (Passing j)) e whole = refl
-  mcs_acts h (Ticket q) e whole = absurd (stands_at kinds.Mcs n l h i (Ticket q) below e)
   mcs_acts h Torn e whole = absurd (true≢false whole)
+  mcs_acts h q e whole = absurd (stands_at kinds.Mcs n l h i q below e)
 
   acts : (k : LockKind) → IsLock k n l → is_torn (l.line.stage i) ≡ false → is_idle (turn_of k l i).1 ≡ false
   acts kinds.Ticket h whole = ticket_acts h (l.line.stage i) refl whole

@@ -9,7 +9,7 @@ use Rattle.word_rule.specs.declared.lock_kind.LockKind.{LockKind}
 use Rattle.word_rule.specs.declared.lock_kind.LockKind.TheVariants as kinds
 use Rattle.word_rule.specs.declared.stage.Stage.{Stage}
 use Rattle.word_rule.specs.declared.stage.Stage.TheVariants.{Idle, Ticket, Mcs, Torn}
-use Rattle.word_rule.specs.declared.stage.TicketStage.TheVariants.{Served}
+use Rattle.word_rule.specs.declared.stage.TicketStage.TheVariants.{Drawn, Served}
 use Rattle.word_rule.specs.declared.stage.McsStage.TheVariants.{Holding, Alone, Leaving, Passing}
 use Rattle.word_rule.specs.Line.{holding}
 use Rattle.word_rule.specs.Locks.{Lock, going}
@@ -31,9 +31,10 @@ module _ (serving : ℕ) (next : ℕ → Option ℕ) (cpus : List ℕ) (out : Bo
   first_if kinds.Mcs (Mcs Alone) e s = s
   first_if kinds.Mcs (Mcs Leaving) e s = s.0
   first_if kinds.Mcs (Mcs (Passing j)) e s = s.0
-  first_if kinds.Ticket (Mcs q) e s = absurd s
-  first_if kinds.Mcs (Ticket q) e s = absurd s
-  first_if k q e s = absurd (true≢false (sym e))
+  first_if kinds.Ticket (Ticket (Drawn t)) e s = absurd (true≢false (sym e))
+  first_if kinds.Mcs (Mcs q) e s = absurd (true≢false (sym e))
+  first_if k Idle e s = absurd (true≢false (sym e))
+  first_if k q e s = absurd s
 
 module _ (k : LockKind) (n : ℕ) (l : Lock) (h : IsLock k n l) where
   -- where a CPU stands, by its stage

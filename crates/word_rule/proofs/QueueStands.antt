@@ -7,7 +7,7 @@ use Rattle.event_log.specs.Distinct.{has}
 use Rattle.event_log.proofs.Distinct.{has_push}
 use Rattle.word_rule.specs.declared.lock_kind.LockKind.TheVariants as kinds
 use Rattle.word_rule.specs.declared.stage.Stage.{Stage}
-use Rattle.word_rule.specs.declared.stage.Stage.TheVariants.{Idle, Ticket, Mcs, Torn}
+use Rattle.word_rule.specs.declared.stage.Stage.TheVariants.{Idle, Mcs, Torn}
 use Rattle.word_rule.specs.declared.stage.McsStage.TheVariants.{Ready, Behind, Armed, Waiting, Holding, Alone, Leaving, Passing}
 use Rattle.word_rule.specs.Locks.{naming, is_linked}
 use Rattle.word_rule.specs.Rule.LockStates.{First, Follows, Stands}
@@ -36,7 +36,6 @@ module _ (next next' : ℕ → Option ℕ) (cpus cpus' : List ℕ) (out out' : B
 
   carried : Carries → (serving : ℕ) (q : Stage) → Stands cpus out x kinds.Mcs serving next q → Stands cpus' out' x kinds.Mcs serving next' q
   carried c serving Idle s = c.apart s
-  carried c serving (Ticket q) s = absurd s
   carried c serving (Mcs Ready) s = (c.apart s.0, c.ready s.0 ∙ s.1)
   carried c serving (Mcs (Behind p)) s = c.unlinked p s
   carried c serving (Mcs (Armed p)) s = c.unlinked p s
@@ -46,6 +45,7 @@ module _ (next next' : ℕ → Option ℕ) (cpus cpus' : List ℕ) (out out' : B
   carried c serving (Mcs Leaving) s = (c.first true s.0, c.longer s.0 s.1)
   carried c serving (Mcs (Passing j)) s = let t = c.second j s.0 s.1 s.2 in (c.first true s.0, t.0, t.1)
   carried c serving Torn s = c.first true s
+  carried c serving q s = absurd s
 
 -- a `next` changes, and none that says where x stands
 pub other_next : (next next' : ℕ → Option ℕ) (cpus : List ℕ) (out : Bool) (x : ℕ) → ((i p : ℕ) → get_elem? cpus i ≡ some p → get_elem? cpus (suc i) ≡ some x → next' p ≡ next p) → (has x cpus ≡ false → next' x ≡ next x)
@@ -157,7 +157,6 @@ module _ (next : ℕ → Option ℕ) (cpus : List ℕ) (out : Bool) (x : ℕ) wh
 
   pub stands_in : (serving : ℕ) (q : Stage) → has x cpus ≡ true → Stands cpus out x kinds.Mcs serving next q → StandsIn q
   stands_in serving Idle e s = absurd (true≢false (sym e ∙ s))
-  stands_in serving (Ticket q) e s = absurd s
   stands_in serving (Mcs Ready) e s = absurd (true≢false (sym e ∙ s.0))
   stands_in serving (Mcs (Behind p)) e s = inr (p, s)
   stands_in serving (Mcs (Armed p)) e s = inr (p, s)
@@ -167,3 +166,4 @@ module _ (next : ℕ → Option ℕ) (cpus : List ℕ) (out : Bool) (x : ℕ) wh
   stands_in serving (Mcs Leaving) e s = inl (true, s.0)
   stands_in serving (Mcs (Passing j)) e s = inl (true, s.0)
   stands_in serving Torn e s = inl (true, s)
+  stands_in serving q e s = absurd s

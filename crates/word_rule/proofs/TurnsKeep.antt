@@ -6,7 +6,7 @@ use Rattle.word_rule.specs.declared.lock_kind.LockKind.TheVariants as kinds
 use Rattle.word_rule.specs.declared.machine.step_done.StepDone.{StepDone}
 use Rattle.word_rule.specs.declared.machine.step_done.StepDone.TheVariants as steps
 use Rattle.word_rule.specs.declared.stage.Stage.{Stage}
-use Rattle.word_rule.specs.declared.stage.Stage.TheVariants.{Idle, Ticket, Mcs, Torn}
+use Rattle.word_rule.specs.declared.stage.Stage.TheVariants.{Idle, Ticket, Mcs}
 use Rattle.word_rule.specs.declared.stage.TicketStage.{TicketStage}
 use Rattle.word_rule.specs.declared.stage.TicketStage.TheVariants.{Drawn, Served}
 use Rattle.word_rule.specs.declared.stage.McsStage.TheVariants.{Ready, Behind, Armed, Waiting, Holding, Alone, Leaving, Passing}
@@ -49,8 +49,7 @@ module _ (n : ℕ) (l : Lock) (i : ℕ) (below : i < n) where
       at (Served t) e = let r = tickets.holder_first n (words_of kinds.Ticket n l) l tied i below t e in
           record { state = tickets.serves_state n (words_of kinds.Ticket n l) l tied i below t e; line = split_line i r.0 l.line.cpus r.1; kind = refl }
   ticket_goes kind h Idle e = record { state = (tickets.draws n (words_of kinds.Ticket n l) l record { kind_is = kind; state = h; words = refl } i below e).state; line = refl; kind = refl }
-  ticket_goes kind h (Mcs q) e = stays kinds.Ticket steps.Idle h refl
-  ticket_goes kind h Torn e = stays kinds.Ticket steps.Idle h refl
+  ticket_goes kind h q e = stays kinds.Ticket steps.Idle h refl
 
   enter_goes : IsLock kinds.Mcs n l → l.line.stage i ≡ Mcs Ready → (o : Option ℕ) → last l.line.cpus ≡ o → Goes kinds.Mcs n l i (enter l i o)
   enter_goes h e None f = record { state = queue.enters_first n l h i below e f; line = ap (λ cpus. cpus ++ i ∷ []) (sym (queue.no_last l.line.cpus f)); kind = refl }
@@ -97,8 +96,7 @@ module _ (n : ℕ) (l : Lock) (i : ℕ) (below : i < n) where
   mcs_goes h (Mcs Alone) e = empty_goes h e
   mcs_goes h (Mcs Leaving) e = see_goes h (Mcs Leaving) (ap holding e) (queue.still_none n l h i below e)
   mcs_goes h (Mcs (Passing j)) e = let r = queue.passes_to n l h i below j e in record { state = queue.passes n l h i below j e; line = split_line i (j ∷ r.0) l.line.cpus r.1; kind = refl }
-  mcs_goes h (Ticket q) e = stays kinds.Mcs steps.Idle h refl
-  mcs_goes h Torn e = stays kinds.Mcs steps.Idle h refl
+  mcs_goes h q e = stays kinds.Mcs steps.Idle h refl
 
   goes : (k : LockKind) → l.kind ≡ k → IsLock k n l → Goes k n l i (turn_of k l i)
   goes kinds.Ticket kind h = ticket_goes kind h (l.line.stage i) refl

@@ -1,6 +1,5 @@
 -- A word that a caller reads, and what it tells one that owns every number.
-use Rattle.std.proofs.Common.{◌≡◌, ◌||◌, ℕ, ◌<◌, true, List, [], ◌∷◌, get_or, sym, ap, ◌∙◌, subst, Option, Some}
-use Rattle.std.proofs.lemmas.Bool.Decides.{nat_tests}
+use Rattle.std.proofs.Common.{◌≡◌, ◌||◌, ℕ, ◌<◌, List, [], get_or, sym, ap, ◌∙◌, subst, Option, Some}
 use mathlib.Core.Option.{some}
 use lib.ListN.{get_elem?}
 use lib.Seq.{set-get_or}
@@ -10,7 +9,6 @@ use Rattle.event_log.specs.Distinct.{has}
 use Rattle.event_log.specs.History.{History}
 use Rattle.word_rule.specs.declared.lock_kind.LockKind.{LockKind}
 use Rattle.word_rule.specs.Cell.{Cell}
-use Rattle.word_rule.specs.LockWords.{lock_words}
 use Rattle.word_rule.specs.Rule.LockStates.{IsLockOf}
 use Rattle.word_rule.specs.Rule.CellInvariant.{Viewed, Table, CellInvariant}
 use Rattle.word_rule.specs.Rule.Seats.{noted}

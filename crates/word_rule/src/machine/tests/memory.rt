@@ -87,7 +87,11 @@ fn a_machine_without_memory(rt: HostRuntime) -> Result<(), Fail> {
     let mut machine = made(&rt, rt.alloc(), &setting, cells, scripts)?;
     let turns: [Turn<'_>; 3] = [
         (0, StepDone::Draw, &[&[8 * NEXT + 7], &[0, 0, 0, 0, 0]]),
-        (0, StepDone::Look(true), &[&[8 * NEXT + 7], &[0, 0, 0, 0, 0]]),
+        (
+            0,
+            StepDone::Look(true),
+            &[&[8 * NEXT + 7], &[0, 0, 0, 0, 0]],
+        ),
         (0, StepDone::Serve, &[&[8 * NEXT + 8], &[0, 0, 0, 0, 0]]),
     ];
     let left = Left {
