@@ -30,3 +30,4 @@ pub mod Sends
 pub mod Lenders
 pub mod TicketWords
 pub mod WordsRead
+pub mod TriesTurns
