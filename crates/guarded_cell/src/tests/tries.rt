@@ -85,20 +85,23 @@ fn try_all<O: SeqObject, C: LockCell<O>, R: Wait>(
 
 /// Two callers, who own every number of the cell together, do their calls on two threads, by tries and by calls that wait, and
 /// end the cell.
-fn two_try_their_calls<C: LockCell<ThreadQueue> + Sync, R: Threads + Wait + Sync>(
+fn two_try_their_calls<O: SeqObject + Send, C: LockCell<O> + Sync, R: Threads + Wait + Sync>(
     rt: &R,
     cell: C,
     passes: Pair<C::Pass>,
-    calls: Pair<&[Call]>,
-) -> Logged<ThreadQueue>
+    first_calls: &[O::Call],
+    second_calls: &[O::Call],
+) -> Logged<O>
 where
+    O::Params: Send,
+    O::Call: Send + Sync,
+    O::Reply: Send,
     C::Pass: Send,
     requires first { C.is_pass_of cell passes.0 }
     requires second { C.is_pass_of cell passes.1 }
     requires all { OwnTogether (C.pass_view passes.0).caller (C.pass_view passes.1).caller }
 {
     let (first, second) = passes;
-    let (first_calls, second_calls) = calls;
     let shared = &cell;
     let ((zero, _), (one, _)) = thread::join(
         rt,
@@ -123,8 +126,7 @@ fn two_threads_call_and_try(rt: HostRuntime) -> Result<(), Fail> {
     let second = calls_from(rt.alloc(), 3, 3000)?;
     for kind in KINDS {
         let (cell, passes) = cell_of_two(rt.alloc(), kind, 5000)?;
-        let calls = (first.as_slice(), second.as_slice());
-        let queue = two_try_their_calls(&rt, cell, passes, calls);
+        let queue = two_try_their_calls(&rt, cell, passes, first.as_slice(), second.as_slice());
         assert_eq!(rt; queue.log().len(), 5000);
         assert!(rt; are_calls_of(&queue, 0, first.as_slice()));
         assert!(rt; are_calls_of(&queue, 1, second.as_slice()));
