@@ -50,6 +50,7 @@ impl<'a> Lines<'a> {
     }
 
     /// The next line without its end, and the lines behind it.
+    #[inline(never)]
     pub(crate) fn next(&self) -> Result<(&'a [u8], Lines<'a>), RecordFault>
         ensures line { IfOk result (λ x. next_line self.now.bytes ≡ Some (x.0.now, x.1.bytes)) }
         ensures number { IfOk result (λ x. x.1.number ≡ self.now.number + 1) }
