@@ -1,22 +1,11 @@
 //! The tables of parameters, calls and replies.
 
-ghost use Rattle.std.specs.Prelude.{◌≡◌};
-ghost use Rattle.std.specs.Str.{bytes_eq};
-
 use crate::spelled::{first, second};
 use crate::{Field, KCall, KParams, KReply, Spelled, Spelling};
 use console_ring::{ConsoleCall, MOST_BYTES};
 use page_pool::{MOST_PAGES, PoolCall};
 use shared_queue::{MOST_THREADS, QueueCall};
 use wake_list::{MOST_CHANNELS, SchedCall, SchedParams};
-
-/// Whether it is that word.
-#[inline(always)]
-fn is(word: &[u8], name: &[u8]) -> bool
-    ensures { result ≡ bytes_eq name.now word.now }
-{
-    name == word
-}
 
 impl Spelled for KParams {
     ghost use Rattle.scripts.specs.Rows.{params_row, params_samples, params_filled};
@@ -57,21 +46,16 @@ impl Spelled for KParams {
     }
 
     #[inline(always)]
-    #[tactic(auto, unfolding(crate::specs::Row::sample_at))]
-    fn sample(word: &[u8]) -> Option<KParams> {
-        if is(word, b"queue") {
-            Some(KParams::Queue(0))
-        } else if is(word, b"pool") {
-            Some(KParams::Pool(0))
-        } else if is(word, b"console") {
-            Some(KParams::Console(0))
-        } else if is(word, b"sched") {
-            Some(KParams::Sched(SchedParams {
+    fn likely(word: &[u8]) -> KParams {
+        match word {
+            b"queue" => KParams::Queue(0),
+            b"pool" => KParams::Pool(0),
+            b"console" => KParams::Console(0),
+            b"sched" => KParams::Sched(SchedParams {
                 threads: 0,
                 channels: 0,
-            }))
-        } else {
-            None
+            }),
+            _ => KParams::Queue(0),
         }
     }
 
@@ -155,43 +139,27 @@ impl Spelled for KCall {
     }
 
     #[inline(always)]
-    #[tactic(auto, unfolding(crate::specs::Row::sample_at))]
-    fn sample(word: &[u8]) -> Option<KCall> {
-        if is(word, b"enq") {
-            Some(KCall::Queue(QueueCall::Enq(0)))
-        } else if is(word, b"deq") {
-            Some(KCall::Queue(QueueCall::Deq))
-        } else if is(word, b"remove") {
-            Some(KCall::Queue(QueueCall::Remove(0)))
-        } else if is(word, b"len") {
-            Some(KCall::Queue(QueueCall::Len))
-        } else if is(word, b"alloc") {
-            Some(KCall::Pool(PoolCall::Alloc(0)))
-        } else if is(word, b"free") {
-            Some(KCall::Pool(PoolCall::Free { owner: 0, page: 0 }))
-        } else if is(word, b"left") {
-            Some(KCall::Pool(PoolCall::Left))
-        } else if is(word, b"put") {
-            Some(KCall::Console(ConsoleCall::Put(0)))
-        } else if is(word, b"get") {
-            Some(KCall::Console(ConsoleCall::Get))
-        } else if is(word, b"level") {
-            Some(KCall::Console(ConsoleCall::Level))
-        } else if is(word, b"ready") {
-            Some(KCall::Sched(SchedCall::Ready(0)))
-        } else if is(word, b"next") {
-            Some(KCall::Sched(SchedCall::Next))
-        } else if is(word, b"sleep") {
-            Some(KCall::Sched(SchedCall::Sleep {
+    fn likely(word: &[u8]) -> KCall {
+        match word {
+            b"enq" => KCall::Queue(QueueCall::Enq(0)),
+            b"deq" => KCall::Queue(QueueCall::Deq),
+            b"remove" => KCall::Queue(QueueCall::Remove(0)),
+            b"len" => KCall::Queue(QueueCall::Len),
+            b"alloc" => KCall::Pool(PoolCall::Alloc(0)),
+            b"free" => KCall::Pool(PoolCall::Free { owner: 0, page: 0 }),
+            b"left" => KCall::Pool(PoolCall::Left),
+            b"put" => KCall::Console(ConsoleCall::Put(0)),
+            b"get" => KCall::Console(ConsoleCall::Get),
+            b"level" => KCall::Console(ConsoleCall::Level),
+            b"ready" => KCall::Sched(SchedCall::Ready(0)),
+            b"next" => KCall::Sched(SchedCall::Next),
+            b"sleep" => KCall::Sched(SchedCall::Sleep {
                 channel: 0,
                 thread: 0,
-            }))
-        } else if is(word, b"wake") {
-            Some(KCall::Sched(SchedCall::Wake(0)))
-        } else if is(word, b"wakeall") {
-            Some(KCall::Sched(SchedCall::WakeAll(0)))
-        } else {
-            None
+            }),
+            b"wake" => KCall::Sched(SchedCall::Wake(0)),
+            b"wakeall" => KCall::Sched(SchedCall::WakeAll(0)),
+            _ => KCall::Queue(QueueCall::Len),
         }
     }
 
@@ -288,44 +256,26 @@ impl Spelled for KReply {
     }
 
     #[inline(always)]
-    #[tactic(auto, unfolding(crate::specs::Row::sample_at))]
-    fn sample(word: &[u8]) -> Option<KReply> {
-        if is(word, b"ok") {
-            Some(KReply::Ok)
-        } else if is(word, b"already") {
-            Some(KReply::Already)
-        } else if is(word, b"badthread") {
-            Some(KReply::BadThread)
-        } else if is(word, b"thread") {
-            Some(KReply::Thread(0))
-        } else if is(word, b"empty") {
-            Some(KReply::Empty)
-        } else if is(word, b"absent") {
-            Some(KReply::Absent)
-        } else if is(word, b"count") {
-            Some(KReply::Count(0))
-        } else if is(word, b"page") {
-            Some(KReply::Page(0))
-        } else if is(word, b"none") {
-            Some(KReply::NoPage)
-        } else if is(word, b"badowner") {
-            Some(KReply::BadOwner)
-        } else if is(word, b"notyours") {
-            Some(KReply::NotYours)
-        } else if is(word, b"nottaken") {
-            Some(KReply::NotTaken)
-        } else if is(word, b"badpage") {
-            Some(KReply::BadPage)
-        } else if is(word, b"dropped") {
-            Some(KReply::Dropped(0))
-        } else if is(word, b"byte") {
-            Some(KReply::Byte(0))
-        } else if is(word, b"badchannel") {
-            Some(KReply::BadChannel)
-        } else if is(word, b"badcall") {
-            Some(KReply::BadCall)
-        } else {
-            None
+    fn likely(word: &[u8]) -> KReply {
+        match word {
+            b"ok" => KReply::Ok,
+            b"already" => KReply::Already,
+            b"badthread" => KReply::BadThread,
+            b"thread" => KReply::Thread(0),
+            b"empty" => KReply::Empty,
+            b"absent" => KReply::Absent,
+            b"count" => KReply::Count(0),
+            b"page" => KReply::Page(0),
+            b"none" => KReply::NoPage,
+            b"badowner" => KReply::BadOwner,
+            b"notyours" => KReply::NotYours,
+            b"nottaken" => KReply::NotTaken,
+            b"badpage" => KReply::BadPage,
+            b"dropped" => KReply::Dropped(0),
+            b"byte" => KReply::Byte(0),
+            b"badchannel" => KReply::BadChannel,
+            b"badcall" => KReply::BadCall,
+            _ => KReply::Ok,
         }
     }
 

@@ -17,7 +17,7 @@ pub struct Spelling {
 /// follow from it.
 pub trait Spelled: Copy + 'static {
     ghost use Rattle.std.specs.Prelude.{ℕ, List};
-    ghost use Rattle.scripts.specs.Row.{Row, IsTable, sample_at};
+    ghost use Rattle.scripts.specs.Row.{Row, IsTable};
 
     /// The row of a value.
     ghost row_of: { Self → Row };
@@ -37,9 +37,9 @@ pub trait Spelled: Copy + 'static {
     fn samples() -> &'static [Self]
         ensures { result.now ≡ table };
 
-    /// The value of the table that has the word.
-    fn sample(word: &[u8]) -> Option<Self>
-        ensures { result ≡ sample_at row_of table word.now };
+    /// A value with the numbers 0, which is the one of that word wherever there is one: a guess, to be compared.
+    fn likely(word: &[u8]) -> Self
+        ensures { filled result [] ≡ result };
 
     /// The value of the same word with these numbers, and with 0 where there are too few.
     fn fill(&self, numbers: &[u32]) -> Self
