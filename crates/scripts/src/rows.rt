@@ -46,16 +46,16 @@ impl Spelled for KParams {
     }
 
     #[inline(always)]
-    fn likely(word: &[u8]) -> KParams {
+    fn glance(word: &[u8]) -> Option<KParams> {
         match word {
-            b"queue" => KParams::Queue(0),
-            b"pool" => KParams::Pool(0),
-            b"console" => KParams::Console(0),
-            b"sched" => KParams::Sched(SchedParams {
+            b"queue" => Some(KParams::Queue(0)),
+            b"pool" => Some(KParams::Pool(0)),
+            b"console" => Some(KParams::Console(0)),
+            b"sched" => Some(KParams::Sched(SchedParams {
                 threads: 0,
                 channels: 0,
-            }),
-            _ => KParams::Queue(0),
+            })),
+            _ => None,
         }
     }
 
@@ -139,27 +139,27 @@ impl Spelled for KCall {
     }
 
     #[inline(always)]
-    fn likely(word: &[u8]) -> KCall {
+    fn glance(word: &[u8]) -> Option<KCall> {
         match word {
-            b"enq" => KCall::Queue(QueueCall::Enq(0)),
-            b"deq" => KCall::Queue(QueueCall::Deq),
-            b"remove" => KCall::Queue(QueueCall::Remove(0)),
-            b"len" => KCall::Queue(QueueCall::Len),
-            b"alloc" => KCall::Pool(PoolCall::Alloc(0)),
-            b"free" => KCall::Pool(PoolCall::Free { owner: 0, page: 0 }),
-            b"left" => KCall::Pool(PoolCall::Left),
-            b"put" => KCall::Console(ConsoleCall::Put(0)),
-            b"get" => KCall::Console(ConsoleCall::Get),
-            b"level" => KCall::Console(ConsoleCall::Level),
-            b"ready" => KCall::Sched(SchedCall::Ready(0)),
-            b"next" => KCall::Sched(SchedCall::Next),
-            b"sleep" => KCall::Sched(SchedCall::Sleep {
+            b"enq" => Some(KCall::Queue(QueueCall::Enq(0))),
+            b"deq" => Some(KCall::Queue(QueueCall::Deq)),
+            b"remove" => Some(KCall::Queue(QueueCall::Remove(0))),
+            b"len" => Some(KCall::Queue(QueueCall::Len)),
+            b"alloc" => Some(KCall::Pool(PoolCall::Alloc(0))),
+            b"free" => Some(KCall::Pool(PoolCall::Free { owner: 0, page: 0 })),
+            b"left" => Some(KCall::Pool(PoolCall::Left)),
+            b"put" => Some(KCall::Console(ConsoleCall::Put(0))),
+            b"get" => Some(KCall::Console(ConsoleCall::Get)),
+            b"level" => Some(KCall::Console(ConsoleCall::Level)),
+            b"ready" => Some(KCall::Sched(SchedCall::Ready(0))),
+            b"next" => Some(KCall::Sched(SchedCall::Next)),
+            b"sleep" => Some(KCall::Sched(SchedCall::Sleep {
                 channel: 0,
                 thread: 0,
-            }),
-            b"wake" => KCall::Sched(SchedCall::Wake(0)),
-            b"wakeall" => KCall::Sched(SchedCall::WakeAll(0)),
-            _ => KCall::Queue(QueueCall::Len),
+            })),
+            b"wake" => Some(KCall::Sched(SchedCall::Wake(0))),
+            b"wakeall" => Some(KCall::Sched(SchedCall::WakeAll(0))),
+            _ => None,
         }
     }
 
@@ -256,26 +256,26 @@ impl Spelled for KReply {
     }
 
     #[inline(always)]
-    fn likely(word: &[u8]) -> KReply {
+    fn glance(word: &[u8]) -> Option<KReply> {
         match word {
-            b"ok" => KReply::Ok,
-            b"already" => KReply::Already,
-            b"badthread" => KReply::BadThread,
-            b"thread" => KReply::Thread(0),
-            b"empty" => KReply::Empty,
-            b"absent" => KReply::Absent,
-            b"count" => KReply::Count(0),
-            b"page" => KReply::Page(0),
-            b"none" => KReply::NoPage,
-            b"badowner" => KReply::BadOwner,
-            b"notyours" => KReply::NotYours,
-            b"nottaken" => KReply::NotTaken,
-            b"badpage" => KReply::BadPage,
-            b"dropped" => KReply::Dropped(0),
-            b"byte" => KReply::Byte(0),
-            b"badchannel" => KReply::BadChannel,
-            b"badcall" => KReply::BadCall,
-            _ => KReply::Ok,
+            b"ok" => Some(KReply::Ok),
+            b"already" => Some(KReply::Already),
+            b"badthread" => Some(KReply::BadThread),
+            b"thread" => Some(KReply::Thread(0)),
+            b"empty" => Some(KReply::Empty),
+            b"absent" => Some(KReply::Absent),
+            b"count" => Some(KReply::Count(0)),
+            b"page" => Some(KReply::Page(0)),
+            b"none" => Some(KReply::NoPage),
+            b"badowner" => Some(KReply::BadOwner),
+            b"notyours" => Some(KReply::NotYours),
+            b"nottaken" => Some(KReply::NotTaken),
+            b"badpage" => Some(KReply::BadPage),
+            b"dropped" => Some(KReply::Dropped(0)),
+            b"byte" => Some(KReply::Byte(0)),
+            b"badchannel" => Some(KReply::BadChannel),
+            b"badcall" => Some(KReply::BadCall),
+            _ => None,
         }
     }
 
