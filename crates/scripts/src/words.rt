@@ -26,6 +26,7 @@ pub fn word<'a>(at: Words<'a>) -> Option<(&'a [u8], Words<'a>)>
 
 /// What follows the word, if it is next.
 #[tactic(auto, unfolding(crate::specs::Reading::key_at))]
+#[inline(always)]
 pub fn key<'a>(key: &[u8], at: Words<'a>) -> Option<Words<'a>>
     ensures { option_map left result ≡ key_at key.now (left at.entry) }
 {
