@@ -2,7 +2,7 @@
 use Rattle.std.proofs.Common.{◌≡◌, ℕ, zero, suc, ◌+◌, ◌^◌, ◌<◌, ◌≤◌, ◌==◌, decimal, subst, not, cond, nat_lt, Bool, true, false, Some, None, List, [], ◌∷◌, ◌++◌, length, take, drop, get_or, position, refl, sym, ◌∙◌, ap, arith}
 use Rattle.std.specs.List.{AllByRecursion, prefix_len, position_or_len, slice_split}
 use Rattle.std.proofs.lemmas.Bool.{eqb-true, ltb-false, and_parts, leb-true, le-leb}
-use Rattle.std.proofs.lemmas.List.{take-append-drop, drop_more}
+use Rattle.std.proofs.lemmas.List.{take-append-drop, drop_more, take_all}
 use Rattle.std.proofs.lemmas.List.Elements.{All-from_recursion}
 use Rattle.std.proofs.lemmas.List.Quantifiers.{position-Some}
 use Rattle.std.proofs.lemmas.List.Splits.{slice_split_none, slice_split_at}
@@ -12,6 +12,7 @@ use Rattle.std.proofs.lemmas.Slice.Eq.{bytes_eq-Decides}
 use Rattle.std.specs.Prelude.{nat_le, ◌&&◌}
 use Rattle.std.specs.Str.{bytes_eq}
 use Rattle.std.specs.Str.Parse.{digits_value}
+use Rattle.memchr.specs.Find.{IsFirstByte, is_byte}
 use Rattle.scripts.specs.Reading.{words, number_in}
 
 pub none_below : (test : ℕ → Bool) (xs : List ℕ) (i : ℕ) → ((k : ℕ) → k < i → test (get_or xs k 0) ≡ false) → AllByRecursion (λ b. test b ≡ false) (take i xs)
@@ -19,16 +20,35 @@ none_below test xs zero h = tt
 none_below test [] (suc i) h = tt
 none_below test (x ∷ xs) (suc i) h = (h 0 (omega arith), none_below test xs i (λ k less. h (suc k) (omega arith)))
 
+-- where the byte stands first
+cut_at : (bytes : List ℕ) (byte i : ℕ) → i < length bytes → (get_or bytes i 0 == byte) ≡ true → ((k : ℕ) → k < i → (get_or bytes k 0 == byte) ≡ false)
+    → AllByRecursion (λ b. (b == byte) ≡ false) (take i bytes) × (bytes ≡ take i bytes ++ byte ∷ drop 1 (drop i bytes))
+cut_at bytes byte i less is before =
+    let here : get_or bytes i 0 ≡ byte = eqb-true (get_or bytes i 0) byte is in
+    let rest : drop i bytes ≡ byte ∷ drop (i + 1) bytes = drop_more bytes i 0 less ∙ ap (λ b. b ∷ drop (i + 1) bytes) here in
+    let tail : drop 1 (drop i bytes) ≡ drop (i + 1) bytes = ap (λ l. drop 1 l) rest in (
+      none_below (λ b. b == byte) bytes i before,
+      sym (take-append-drop i bytes) ∙ ap (λ l. take i bytes ++ l) (rest ∙ ap (λ l. byte ∷ l) (sym tail)),
+    )
+
 pub cut_found : (bytes : List ℕ) (byte i : ℕ) → position (λ b. b == byte) bytes ≡ Some i
     → AllByRecursion (λ b. (b == byte) ≡ false) (take i bytes) × (bytes ≡ take i bytes ++ byte ∷ drop 1 (drop i bytes))
 cut_found bytes byte i e =
     let at = position-Some (λ b. b == byte) bytes i 0 e in
-    let here : get_or bytes i 0 ≡ byte = eqb-true (get_or bytes i 0) byte at.1 in
-    let rest : drop i bytes ≡ byte ∷ drop (i + 1) bytes = drop_more bytes i 0 at.0 ∙ ap (λ b. b ∷ drop (i + 1) bytes) here in
-    let tail : drop 1 (drop i bytes) ≡ drop (i + 1) bytes = ap (λ l. drop 1 l) rest in (
-      none_below (λ b. b == byte) bytes i at.2,
-      sym (take-append-drop i bytes) ∙ ap (λ l. take i bytes ++ l) (rest ∙ ap (λ l. byte ∷ l) (sym tail)),
-    )
+    cut_at bytes byte i at.0 at.1 at.2
+
+not_true : (b : Bool) → (b ≡ true → ⊥) → b ≡ false
+not_true true h = absurd (h refl)
+not_true false h = refl
+
+-- the first byte that a search found
+pub cut_first : (bytes : List ℕ) (byte i : ℕ) → IsFirstByte (is_byte byte) bytes (Some i)
+    → AllByRecursion (λ b. (b == byte) ≡ false) (take i bytes) × (bytes ≡ take i bytes ++ byte ∷ drop 1 (drop i bytes))
+cut_first bytes byte i h = cut_at bytes byte i h.0.high h.1 (λ k less. not_true (get_or bytes k 0 == byte) (h.0.before k (omega arith) less))
+
+-- a search that found none
+pub cut_none : (bytes : List ℕ) (byte : ℕ) → IsFirstByte (is_byte byte) bytes None → AllByRecursion (λ b. (b == byte) ≡ false) bytes
+cut_none bytes byte h = subst (λ (l : List ℕ). AllByRecursion (λ b. (b == byte) ≡ false) l) (take_all (length bytes) bytes (omega arith)) (none_below (λ b. b == byte) bytes (length bytes) (λ k less. not_true (get_or bytes k 0 == byte) (h k (omega arith) less)))
 
 all_before : (test : ℕ → Bool) (xs : List ℕ) → length xs ≤ prefix_len (λ b. not (test b)) xs → AllByRecursion (λ b. test b ≡ false) xs
 all_before test [] h = tt

@@ -27,6 +27,7 @@ impl Listed for KCall {
 
     ghost item_at = { call_at };
 
+    #[inline(always)]
     fn item(at: Words<'_>) -> Option<(KCall, Words<'_>)> {
         value(at)
     }
@@ -37,6 +38,7 @@ impl Listed for Step<KernelObject> {
 
     ghost item_at = { step_at };
 
+    #[inline(always)]
     #[tactic(auto, unfolding(crate::specs::RecordReading::step_at))]
     fn item(at: Words<'_>) -> Option<(Step<KernelObject>, Words<'_>)> {
         let (call, rest) = value(at)?;
@@ -47,6 +49,7 @@ impl Listed for Step<KernelObject> {
 }
 
 /// 1 to 8 items, each but the first behind a semicolon, and the words behind them.
+#[inline(always)]
 pub(crate) fn list<T: Listed>(at: Words<'_>) -> Option<(ArrayVec<T, MOST_CALLS>, Words<'_>)>
     ensures { option_map (λ x. (x.0.items, left x.1)) result ≡ list_at T.item_at (left at.entry) }
 {

@@ -31,6 +31,7 @@ fn place_of(settings: &Settings, name: &[u8]) -> Option<usize>
 
 /// The place of the object whose name is next, from 0.
 #[tactic(auto, unfolding(crate::specs::RecordReading::place_at))]
+#[inline(always)]
 pub(crate) fn place<'a>(settings: &Settings, at: Words<'a>) -> Option<(u8, Words<'a>)>
     ensures { option_map (λ x. (x.0, left x.1)) result ≡ place_at settings.now (left at.entry) }
 {

@@ -19,6 +19,7 @@ impl Spelled for KParams {
 
     ghost right = { params_table };
 
+    #[inline(always)]
     fn spelling(&self) -> Spelling {
         match *self {
             KParams::Queue(threads) => Spelling::one(b"queue", Field::limit(MOST_THREADS, threads)),
@@ -44,6 +45,21 @@ impl Spelled for KParams {
         ]
     }
 
+    #[inline(always)]
+    fn glance(word: &[u8]) -> Option<KParams> {
+        match word {
+            b"queue" => Some(KParams::Queue(0)),
+            b"pool" => Some(KParams::Pool(0)),
+            b"console" => Some(KParams::Console(0)),
+            b"sched" => Some(KParams::Sched(SchedParams {
+                threads: 0,
+                channels: 0,
+            })),
+            _ => None,
+        }
+    }
+
+    #[inline(always)]
     fn fill(&self, numbers: &[u32]) -> KParams {
         match *self {
             KParams::Queue(_) => KParams::Queue(first(numbers)),
@@ -69,6 +85,7 @@ impl Spelled for KCall {
 
     ghost right = { call_table };
 
+    #[inline(always)]
     fn spelling(&self) -> Spelling {
         match *self {
             KCall::Queue(QueueCall::Enq(thread)) => Spelling::one(b"enq", Field::wide(thread)),
@@ -121,6 +138,32 @@ impl Spelled for KCall {
         ]
     }
 
+    #[inline(always)]
+    fn glance(word: &[u8]) -> Option<KCall> {
+        match word {
+            b"enq" => Some(KCall::Queue(QueueCall::Enq(0))),
+            b"deq" => Some(KCall::Queue(QueueCall::Deq)),
+            b"remove" => Some(KCall::Queue(QueueCall::Remove(0))),
+            b"len" => Some(KCall::Queue(QueueCall::Len)),
+            b"alloc" => Some(KCall::Pool(PoolCall::Alloc(0))),
+            b"free" => Some(KCall::Pool(PoolCall::Free { owner: 0, page: 0 })),
+            b"left" => Some(KCall::Pool(PoolCall::Left)),
+            b"put" => Some(KCall::Console(ConsoleCall::Put(0))),
+            b"get" => Some(KCall::Console(ConsoleCall::Get)),
+            b"level" => Some(KCall::Console(ConsoleCall::Level)),
+            b"ready" => Some(KCall::Sched(SchedCall::Ready(0))),
+            b"next" => Some(KCall::Sched(SchedCall::Next)),
+            b"sleep" => Some(KCall::Sched(SchedCall::Sleep {
+                channel: 0,
+                thread: 0,
+            })),
+            b"wake" => Some(KCall::Sched(SchedCall::Wake(0))),
+            b"wakeall" => Some(KCall::Sched(SchedCall::WakeAll(0))),
+            _ => None,
+        }
+    }
+
+    #[inline(always)]
     fn fill(&self, numbers: &[u32]) -> KCall {
         match *self {
             KCall::Queue(QueueCall::Enq(_)) => KCall::Queue(QueueCall::Enq(first(numbers))),
@@ -167,6 +210,7 @@ impl Spelled for KReply {
 
     ghost right = { reply_table };
 
+    #[inline(always)]
     fn spelling(&self) -> Spelling {
         match *self {
             KReply::Ok => Spelling::word(b"ok"),
@@ -211,6 +255,31 @@ impl Spelled for KReply {
         ]
     }
 
+    #[inline(always)]
+    fn glance(word: &[u8]) -> Option<KReply> {
+        match word {
+            b"ok" => Some(KReply::Ok),
+            b"already" => Some(KReply::Already),
+            b"badthread" => Some(KReply::BadThread),
+            b"thread" => Some(KReply::Thread(0)),
+            b"empty" => Some(KReply::Empty),
+            b"absent" => Some(KReply::Absent),
+            b"count" => Some(KReply::Count(0)),
+            b"page" => Some(KReply::Page(0)),
+            b"none" => Some(KReply::NoPage),
+            b"badowner" => Some(KReply::BadOwner),
+            b"notyours" => Some(KReply::NotYours),
+            b"nottaken" => Some(KReply::NotTaken),
+            b"badpage" => Some(KReply::BadPage),
+            b"dropped" => Some(KReply::Dropped(0)),
+            b"byte" => Some(KReply::Byte(0)),
+            b"badchannel" => Some(KReply::BadChannel),
+            b"badcall" => Some(KReply::BadCall),
+            _ => None,
+        }
+    }
+
+    #[inline(always)]
     fn fill(&self, numbers: &[u32]) -> KReply {
         match *self {
             KReply::Thread(_) => KReply::Thread(first(numbers)),

@@ -20,7 +20,7 @@ pub fn read_all<S: Source>(alloc: Global, source: &mut S) -> Result<Vec<u8>, Rea
     ensures one_failed { result ≡ Err ReadFault.ReadFailed → S.failed source.new ≡ counted true (S.failed source.old) }
 {
     let mut bytes = Vec::new(alloc);
-    let mut buffer = [0u8; 4096];
+    let mut buffer = [0u8; 65536];
     for _ in 0..u64::MAX {
         let Ok(count) = source.read(&mut buffer) else {
             return Err(ReadFault::ReadFailed);

@@ -16,8 +16,8 @@ pub struct Spelling {
 /// Values that are spelled as a word and its numbers. Each type has one table: reading, writing and the test of ranges
 /// follow from it.
 pub trait Spelled: Copy + 'static {
-    ghost use Rattle.std.specs.Prelude.{ℕ, List};
-    ghost use Rattle.scripts.specs.Row.{Row, IsTable};
+    ghost use Rattle.std.specs.Prelude.{ℕ, List, Some, IfSome};
+    ghost use Rattle.scripts.specs.Row.{Row, IsTable, sample_at};
 
     /// The row of a value.
     ghost row_of: { Self → Row };
@@ -36,6 +36,10 @@ pub trait Spelled: Copy + 'static {
     /// A value of each word, with the numbers 0.
     fn samples() -> &'static [Self]
         ensures { result.now ≡ table };
+
+    /// The value of the table that has the word, without going through the table. Where it isn't found, it may be there.
+    fn glance(word: &[u8]) -> Option<Self>
+        ensures { IfSome result (λ x. sample_at row_of table word.now ≡ Some x) };
 
     /// The value of the same word with these numbers, and with 0 where there are too few.
     fn fill(&self, numbers: &[u32]) -> Self

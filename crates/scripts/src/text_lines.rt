@@ -3,7 +3,8 @@
 ghost use Rattle.std.specs.Prelude.{◌≡◌, ◌+◌, Some, None, IfOk, IfErr};
 ghost use Rattle.scripts.specs.RecordLines.{next_line};
 
-use crate::{RecordFault, split_once};
+use crate::RecordFault;
+use crate::split::split_line;
 use std::marker::Model;
 
 /// The lines that are left of a text, and the number of the first of them, from 1.
@@ -50,13 +51,14 @@ impl<'a> Lines<'a> {
     }
 
     /// The next line without its end, and the lines behind it.
+    #[inline(never)]
     pub(crate) fn next(&self) -> Result<(&'a [u8], Lines<'a>), RecordFault>
         ensures line { IfOk result (λ x. next_line self.now.bytes ≡ Some (x.0.now, x.1.bytes)) }
         ensures number { IfOk result (λ x. x.1.number ≡ self.now.number + 1) }
         ensures fault { IfErr result (λ f. f ≡ RecordFault.Line self.now.number) }
         ensures none { IfErr result (λ _. next_line self.now.bytes ≡ None) }
     {
-        match split_once(self.rest, b'\n') {
+        match split_line(self.rest) {
             Some((line, rest)) => Ok((
                 line,
                 Lines {

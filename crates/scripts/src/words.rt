@@ -13,6 +13,7 @@ pub type Words<'a> = Option<&'a [u8]>;
 
 /// The next word.
 #[tactic(auto, unfolding(crate::specs::Reading::word_at))]
+#[inline(always)]
 pub fn word<'a>(at: Words<'a>) -> Option<(&'a [u8], Words<'a>)>
     ensures { option_map (λ x. (x.0.now, left x.1)) result ≡ word_at (left at.entry) }
 {
@@ -25,6 +26,7 @@ pub fn word<'a>(at: Words<'a>) -> Option<(&'a [u8], Words<'a>)>
 
 /// What follows the word, if it is next.
 #[tactic(auto, unfolding(crate::specs::Reading::key_at))]
+#[inline(always)]
 pub fn key<'a>(key: &[u8], at: Words<'a>) -> Option<Words<'a>>
     ensures { option_map left result ≡ key_at key.now (left at.entry) }
 {
@@ -45,6 +47,7 @@ fn digit(byte: u8) -> Option<u64>
 }
 
 /// The value of digits, if it is at most `high`.
+#[inline(always)]
 fn digits(word: &[u8], high: u64) -> Option<u64>
     ensures digits { IfSome result (λ _. AreDigits word.now) }
     ensures value { IfSome result (λ n. n ≡ digits_value 10 word.now) }
@@ -63,6 +66,7 @@ fn digits(word: &[u8], high: u64) -> Option<u64>
 }
 
 /// The number of at most `high` whose decimal text the word is.
+#[inline(always)]
 pub fn number_of(word: &[u8], high: u64) -> Option<u64>
     ensures value { result ≡ number_in high word.now }
     ensures bound { IfSome result (λ n. n ≤ high) }
@@ -78,6 +82,7 @@ pub fn number_of(word: &[u8], high: u64) -> Option<u64>
 
 /// The number of at most `high` that is next.
 #[tactic(auto, unfolding(crate::specs::Reading::number_at))]
+#[inline(always)]
 pub fn number<'a>(high: u64, at: Words<'a>) -> Option<(u64, Words<'a>)>
     ensures value { option_map (λ x. (x.0, left x.1)) result ≡ number_at high (left at.entry) }
     ensures bound { IfSome result (λ x. x.0 ≤ high) }
