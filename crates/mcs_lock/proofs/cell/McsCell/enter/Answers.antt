@@ -1,7 +1,7 @@
 use Rattle.std.proofs.Common.{rules, refl, ℕ, ◌-◌, ◌∷◌, sym, ap, subst, ◌∙◌, arith, Some}
 use Rattle.atomic_table.specs.Table.{rest}
 use Rattle.word_rule.specs.declared.stage.Stage.TheVariants.{Mcs}
-use Rattle.word_rule.specs.declared.stage.McsStage.TheVariants.{Ready, Behind, Holding}
+use Rattle.word_rule.specs.declared.stage.McsStage.TheVariants.{Ready, Behind}
 use Rattle.word_rule.specs.Line.{holder}
 use Rattle.word_rule.specs.Rule.Callers.{IsWithout}
 use Rattle.word_rule.proofs.Acting.{took, takes_from, holds_from, moves_without}

@@ -3,7 +3,7 @@ use Rattle.atomic_table.specs.Table.{rest}
 use Rattle.word_rule.specs.declared.stage.Stage.TheVariants.{Ticket}
 use Rattle.word_rule.specs.declared.stage.TicketStage.TheVariants.{Served}
 use Rattle.word_rule.specs.Line.{holder}
-use Rattle.word_rule.proofs.Acting.{took, takes_from, holds_from, stays_without, misses_without}
+use Rattle.word_rule.proofs.Acting.{took, holds_from, misses_without}
 use Rattle.ticket_lock.proofs.TicketRule.{trying}
 use Rattle.ticket_lock.proofs.cell.TicketCell.exchange.Goals as goal
 
