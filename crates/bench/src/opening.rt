@@ -15,7 +15,7 @@ use ticket_lock::TicketCell;
 use word_rule::{LockKind, MOST_CPUS};
 
 /// The first ticket of a ticket lock.
-const FIRST_TICKET: u64 = 0;
+const FIRST_TICKET: u32 = 0;
 
 fn open_ticket(
     alloc: Global,
