@@ -14,127 +14,178 @@ use Rattle.event_log.specs.Log.{Begins, Legal, after, one_step, replay}
 use Rattle.event_log.specs.History.{History, IsKept, with_event}
 use Rattle.event_log.proofs.Each.{all_push}
 use Rattle.event_log.proofs.Beginnings.{begins_self, begins_more, begins_rest}
+use Rattle.word_rule.specs.declared.machine.step_done.StepDone.{StepDone}
 use Rattle.word_rule.specs.declared.stage.Stage.{Stage}
 use Rattle.word_rule.specs.declared.stage.Stage.TheVariants.{Idle}
+use Rattle.word_rule.specs.declared.view.Moment.{Moment}
 use Rattle.word_rule.specs.Answered.{IsBusy}
 use Rattle.word_rule.specs.Cell.{Cell, Grows, IsCaller, Lawful, OwnsAll, stored}
 use Rattle.word_rule.specs.CallerState.{CallerState, Moves, Takes, Gives, NeedsAnother}
+use Rattle.word_rule.specs.Line.{holding}
+use Rattle.word_rule.specs.LockRuns.{Extends, HasRun}
+use Rattle.word_rule.specs.OneHold.{silently}
 use Rattle.word_rule.specs.Rule.CellInvariant.{Viewed}
-use Rattle.word_rule.specs.Rule.Seats.{Seat, shown, at, with_stage, settled, taken_in, keeping, letting, merged}
-use Rattle.word_rule.specs.Rule.Announced.{Lacks, HasAll, Learns, Gets, Returns, any_has}
+use Rattle.word_rule.specs.Rule.Seats.{Seat, shown, at, settled, taken_in, keeping, letting, merged}
+use Rattle.word_rule.specs.Rule.Announced.{Lacks, HasAll, Learns, Goes, Lags, Gets, Left, Returns, any_has}
 use Rattle.word_rule.specs.Rule.Callers.{AddedBy, caller_of, state_without, state_with, StandsAt, IsWithout, IsWith}
+use Rattle.word_rule.proofs.Known.{value_of}
+use Rattle.word_rule.proofs.RunLists.{extends_self, extends_then, silently_append}
 use Rattle.word_rule.proofs.Lists.{has_append, of_push, grows_self, grows_then, or_none}
 
 module _ {O P C R : Type 0} where
   -- the seat after a step that its first caller did
-  stands_settled : (h : Cell O P C R) (cpu : ℕ) (p q : Stage) (log : List (Event O P C R)) (slots slots' : List (ℕ × Option (History O P C R))) (m : Seat O P C R) → StandsAt h cpu p slots m → StandsAt h cpu q slots' (settled m.0 q log, slots')
-  stands_settled h cpu p q log slots slots' m a = record { alone = ap (map (shown log)) a.alone; number = a.number; carries = refl; stands = refl; told = a.told }
+  stands_settled : (h : Cell O P C R) (cpu : ℕ) (p q : Stage) (log : List (Event O P C R)) (run : List (Moment (Event O P C R))) (slots slots' : List (ℕ × Option (History O P C R))) (m : Seat O P C R) → StandsAt h cpu p slots m → StandsAt h cpu q slots' (settled m.0 q log run, slots')
+  stands_settled h cpu p q log run slots slots' m a = record { alone = ap (map (shown log run)) a.alone; number = a.number; carries = refl; stands = refl; told = a.told }
 
 module _ {O P C R : Type 0} (meaning : Ghosts O P C R) where
-  -- it stands elsewhere
-  pub moves_without : (h : Cell O P C R) (cpu : ℕ) (p q : Stage) (m m' : Seat O P C R) → IsWithout meaning h cpu p m → m' ≡ (with_stage m.0 q, m.1) → Moves meaning p q (state_without h p m) (state_without h q m')
-  moves_without h cpu p q m m' w e = subst (λ z. Moves meaning p q (state_without h p m) (state_without h q z)) (sym e) record {
+  -- it has seen this log and this run
+  pub sees_without : (h : Cell O P C R) (cpu : ℕ) (p q : Stage) (log : List (Event O P C R)) (run : List (Moment (Event O P C R))) (m m' : Seat O P C R) → IsWithout meaning h cpu p m → Lawful meaning h log → HasRun h log run → m' ≡ (settled m.0 q log run, []) → IsWithout meaning h cpu q m'
+  sees_without h cpu p q log run m m' w lawful ran e = subst (IsWithout meaning h cpu q) (sym e) record {
+    at = stands_settled h cpu p q log run [] [] m w.at;
+    pass_view = record { caller = w.pass_view.caller; lawful = lawful };
+    ran = ran;
+  }
+
+  -- it stands elsewhere, by these steps
+  pub goes_without : (h : Cell O P C R) (cpu : ℕ) (p q : Stage) (done : List StepDone) (m m' : Seat O P C R) → IsWithout meaning h cpu p m → Goes meaning q done m m' → IsWithout meaning h cpu q m'
+  goes_without h cpu p q done m m' w g = sees_without h cpu p q g.log g.run m m' w (g.learns.lawful h w.at.told) (g.learns.ran h w.at.told) (g.seat ∙ (λ k. (settled m.0 q g.log g.run, w.at.carries k)))
+
+  pub moves_without : (h : Cell O P C R) (cpu : ℕ) (p q : Stage) (done : List StepDone) (m m' : Seat O P C R) → IsWithout meaning h cpu p m → Goes meaning q done m m' → Moves meaning p q done (state_without h p m) (state_without h q m')
+  moves_without h cpu p q done m m' w g = subst (λ z. Moves meaning p q done (state_without h p m) (state_without h q z)) (sym g.seat) record {
     caller = refl;
     from = refl;
     to = refl;
-    grows = grows_self (caller_of h m.0).owned m.0.main.seen;
-    lawful = w.pass_view.lawful;
+    grows = g.learns.grows;
+    extends = g.learns.extends;
+    lawful = g.learns.lawful h w.at.told;
     has = refl;
   }
 
-  -- it has seen this log
-  pub sees_without : (h : Cell O P C R) (cpu : ℕ) (p q : Stage) (log : List (Event O P C R)) (m m' : Seat O P C R) → IsWithout meaning h cpu p m → Lawful meaning h log → m' ≡ (settled m.0 q log, []) → IsWithout meaning h cpu q m'
-  sees_without h cpu p q log m m' w lawful e = subst (IsWithout meaning h cpu q) (sym e) record {
-    at = stands_settled h cpu p q log [] [] m w.at;
-    pass_view = record { caller = w.pass_view.caller; lawful = lawful };
+  -- so does one with the object
+  pub goes_with : (h : Cell O P C R) (cpu : ℕ) (p q : Stage) (done : List StepDone) (x : History O P C R) (m m' : Seat O P C R) → IsWith meaning h cpu p x m → holding p ≡ true → Goes meaning q done m m' → IsWith meaning h cpu q x m'
+  goes_with h cpu p q done x m m' w holds g = subst (IsWith meaning h cpu q x) (sym (g.seat ∙ (λ k. (settled m.0 q g.log g.run, w.at.carries k)))) record {
+    at = stands_settled h cpu p q g.log g.run ((0, None) ∷ []) ((0, None) ∷ []) m w.at;
+    added = subst (λ (l : List (Event O P C R)). AddedBy m.0.main.cpu l x.log) (sym (g.still (ap holding w.at.stands ∙ holds))) w.added;
+    hold_view = w.hold_view;
+    ran = g.learns.ran h w.at.told;
+  }
+
+  pub moves_with : (h : Cell O P C R) (cpu : ℕ) (p q : Stage) (done : List StepDone) (x : History O P C R) (m m' : Seat O P C R) → IsWith meaning h cpu p x m → Goes meaning q done m m' → Moves meaning p q done (state_with h p x m) (state_with h q x m')
+  moves_with h cpu p q done x m m' w g = subst (λ z. Moves meaning p q done (state_with h p x m) (state_with h q x z)) (sym g.seat) record {
+    caller = refl;
+    from = refl;
+    to = refl;
+    grows = g.learns.grows;
+    extends = g.learns.extends;
+    lawful = g.learns.lawful h w.at.told;
+    has = refl;
   }
 
   -- it has the object, and stands where its seat says
-  pub holds_now : (h : Cell O P C R) (cpu : ℕ) (p q : Stage) (x : History O P C R) (m m' : Seat O P C R) → IsWithout meaning h cpu p m → Lawful meaning h x.log → x ≡ stored meaning h x.log → m' ≡ (settled m.0 q x.log, (0, None) ∷ []) → IsWith meaning h cpu m'.0.main.stage x m'
-  holds_now h cpu p q x m m' w lawful is e = subst (λ z. IsWith meaning h cpu z.0.main.stage x z) (sym e) record {
-    at = stands_settled h cpu p q x.log [] ((0, None) ∷ []) m w.at;
+  pub holds_now : (h : Cell O P C R) (cpu : ℕ) (p q : Stage) (x : History O P C R) (run : List (Moment (Event O P C R))) (m m' : Seat O P C R) → IsWithout meaning h cpu p m → Lawful meaning h x.log → HasRun h x.log run → x ≡ stored meaning h x.log → m' ≡ (settled m.0 q x.log run, (0, None) ∷ []) → IsWith meaning h cpu m'.0.main.stage x m'
+  holds_now h cpu p q x run m m' w lawful ran is e = subst (λ z. IsWith meaning h cpu z.0.main.stage x z) (sym e) record {
+    at = stands_settled h cpu p q x.log run [] ((0, None) ∷ []) m w.at;
     added = record { begins = begins_self x.log; others = λ _ _. refl };
     hold_view = record { caller = w.pass_view.caller; lawful = lawful; replayed = is };
+    ran = ran;
   }
 
-  pub takes_now : (h : Cell O P C R) (p q : Stage) (x : History O P C R) (m m' : Seat O P C R) → Grows (caller_of h m.0).owned m.0.main.seen x.log → Lawful meaning h x.log → x ≡ stored meaning h x.log → m' ≡ (settled m.0 q x.log, (0, None) ∷ [])
-      → Takes meaning p q (state_without h p m) (state_with h m'.0.main.stage x m')
-  takes_now h p q x m m' grows lawful is e = subst (λ z. Takes meaning p q (state_without h p m) (state_with h z.0.main.stage x z)) (sym e) record {
+  pub takes_now : (h : Cell O P C R) (p q : Stage) (done : List StepDone) (x : History O P C R) (run : List (Moment (Event O P C R))) (m m' : Seat O P C R) → Grows (caller_of h m.0).owned m.0.main.seen x.log → Extends (caller_of h m.0).owned m.0.main.run (silently m.0.main.cpu done) run → Lawful meaning h x.log → x ≡ stored meaning h x.log
+      → m' ≡ (settled m.0 q x.log run, (0, None) ∷ []) → Takes meaning p q done (state_without h p m) (state_with h m'.0.main.stage x m')
+  takes_now h p q done x run m m' grows extends lawful is e = subst (λ z. Takes meaning p q done (state_without h p m) (state_with h z.0.main.stage x z)) (sym e) record {
     caller = refl;
     from = refl;
     to = refl;
     grows = grows;
+    extends = extends;
     lawful = lawful;
     had = refl;
     has = ap Some is;
   }
 
   -- it gave the object back
-  pub rests_now : (h : Cell O P C R) (cpu : ℕ) (p q : Stage) (x : History O P C R) (m m' : Seat O P C R) → IsWith meaning h cpu p x m → m' ≡ (settled m.0 q x.log, []) → IsWithout meaning h cpu q m'
-  rests_now h cpu p q x m m' w e = subst (IsWithout meaning h cpu q) (sym e) record {
-    at = stands_settled h cpu p q x.log ((0, None) ∷ []) [] m w.at;
+  pub rests_now : (h : Cell O P C R) (cpu : ℕ) (p q : Stage) (step : StepDone) (x : History O P C R) (m m' : Seat O P C R) → IsWith meaning h cpu p x m → Left q step m.0 m' x [] → IsWithout meaning h cpu q m'
+  rests_now h cpu p q step x m m' w t = subst (IsWithout meaning h cpu q) (sym t.seat) record {
+    at = stands_settled h cpu p q x.log t.run ((0, None) ∷ []) [] m w.at;
     pass_view = record { caller = w.hold_view.caller; lawful = w.hold_view.lawful };
+    ran = t.ran h w.at.told;
   }
 
-  pub gives_now : (h : Cell O P C R) (cpu : ℕ) (p q : Stage) (x : History O P C R) (m m' : Seat O P C R) → IsWith meaning h cpu p x m → m' ≡ (settled m.0 q x.log, []) → Gives meaning p q (state_with h p x m) (state_without h q m')
-  gives_now h cpu p q x m m' w e = subst (λ z. Gives meaning p q (state_with h p x m) (state_without h q z)) (sym e) record {
+  pub gives_now : (h : Cell O P C R) (cpu : ℕ) (p q : Stage) (step : StepDone) (x : History O P C R) (m m' : Seat O P C R) → IsWith meaning h cpu p x m → Left q step m.0 m' x [] → Gives meaning p q step (state_with h p x m) (state_without h q m')
+  gives_now h cpu p q step x m m' w t = subst (λ z. Gives meaning p q step (state_with h p x m) (state_without h q z)) (sym t.seat) record {
     caller = refl;
     from = refl;
     to = refl;
     lawful = w.hold_view.lawful;
+    events = t.events;
+    added = t.added;
+    extends = t.extends;
     had = ap Some w.hold_view.replayed;
     has = refl;
   }
 
   -- a step gave the object to the slot of the seat, and it was taken out of there
-  pub record Took (q : Stage) (m m' : Seat O P C R) (x : History O P C R) : Type 0 where
-    pub seat : m' ≡ (settled m.0 q x.log, (0, None) ∷ m.1)
-    pub learns : Learns meaning m.0 x.log
+  pub record Took (q : Stage) (done : List StepDone) (m m' : Seat O P C R) (x : History O P C R) : Type 0 where
+    pub run : List (Moment (Event O P C R))
+    pub seat : m' ≡ (settled m.0 q x.log run, (0, None) ∷ m.1)
+    pub learns : Learns meaning m.0 (silently m.0.main.cpu done) x.log run
     pub replayed : (k : Cell O P C R) → m.0.told ≡ k ∷ [] → x ≡ stored meaning k x.log
 
-  abbrev pub value_of : History O P C R → List (ℕ × Option (History O P C R)) → History O P C R
-  value_of d [] = d
-  value_of d ((n, Some x) ∷ cs) = x
-  value_of d ((n, None) ∷ cs) = d
-
-  pub took : (q : Stage) (m m' m'' : Seat O P C R) (r : Option (History O P C R)) (y : History O P C R) → Gets meaning q m m' → m'.1 ≡ (0, r) ∷ rest m'.1 → m'' ≡ (m'.0, (0, None) ∷ rest m'.1) → r ≡ Some y → Took q m m'' y
-  took q m m' m'' r y g slot out is =
+  pub took : (q : Stage) (done : List StepDone) (m m' m'' : Seat O P C R) (r : Option (History O P C R)) (y : History O P C R) → Gets meaning q done m m' → m'.1 ≡ (0, r) ∷ rest m'.1 → m'' ≡ (m'.0, (0, None) ∷ rest m'.1) → r ≡ Some y → Took q done m m'' y
+  took q done m m' m'' r y g slot out is =
       let same : g.object ≡ y = ap (value_of g.object) (sym (ap (λ (z : Seat O P C R). z.1) g.seat) ∙ (slot ∙ ap (λ (z : Option (History O P C R)). (0, z) ∷ rest m'.1) is)) in
-      let now : m'' ≡ (settled m.0 q g.object.log, (0, None) ∷ m.1) = out ∙ (λ k. ((g.seat k).0, (0, None) ∷ rest (g.seat k).1)) in
-      subst (Took q m m'') same record { seat = now; learns = g.learns; replayed = g.replayed }
+      let now : m'' ≡ (settled m.0 q g.object.log g.run, (0, None) ∷ m.1) = out ∙ (λ k. ((g.seat k).0, (0, None) ∷ rest (g.seat k).1)) in
+      subst (Took q done m m'') same record { run = g.run; seat = now; learns = g.learns; replayed = g.replayed }
 
   -- so it is the caller's
-  pub holds_from : (h : Cell O P C R) (cpu : ℕ) (p q : Stage) (x : History O P C R) (m m' : Seat O P C R) → IsWithout meaning h cpu p m → Took q m m' x → IsWith meaning h cpu m'.0.main.stage x m'
-  holds_from h cpu p q x m m' w t = holds_now h cpu p q x m m' w (t.learns.lawful h w.at.told) (t.replayed h w.at.told) (t.seat ∙ ap (λ cs. (settled m.0 q x.log, (0, None) ∷ cs)) w.at.carries)
+  pub holds_from : (h : Cell O P C R) (cpu : ℕ) (p q : Stage) (done : List StepDone) (x : History O P C R) (m m' : Seat O P C R) → IsWithout meaning h cpu p m → Took q done m m' x → IsWith meaning h cpu m'.0.main.stage x m'
+  holds_from h cpu p q done x m m' w t = holds_now h cpu p q x t.run m m' w (t.learns.lawful h w.at.told) (t.learns.ran h w.at.told) (t.replayed h w.at.told) (t.seat ∙ ap (λ cs. (settled m.0 q x.log t.run, (0, None) ∷ cs)) w.at.carries)
 
-  pub takes_from : (h : Cell O P C R) (cpu : ℕ) (p q : Stage) (x : History O P C R) (m m' : Seat O P C R) → IsWithout meaning h cpu p m → Took q m m' x → Takes meaning p q (state_without h p m) (state_with h m'.0.main.stage x m')
-  takes_from h cpu p q x m m' w t = takes_now h p q x m m' t.learns.grows (t.learns.lawful h w.at.told) (t.replayed h w.at.told) (t.seat ∙ ap (λ cs. (settled m.0 q x.log, (0, None) ∷ cs)) w.at.carries)
+  pub takes_from : (h : Cell O P C R) (cpu : ℕ) (p q : Stage) (done : List StepDone) (x : History O P C R) (m m' : Seat O P C R) → IsWithout meaning h cpu p m → Took q done m m' x → Takes meaning p q done (state_without h p m) (state_with h m'.0.main.stage x m')
+  takes_from h cpu p q done x m m' w t = takes_now h p q done x t.run m m' t.learns.grows t.learns.extends (t.learns.lawful h w.at.told) (t.replayed h w.at.told) (t.seat ∙ ap (λ cs. (settled m.0 q x.log t.run, (0, None) ∷ cs)) w.at.carries)
 
   -- the object was put into the slot, and the step sent it home
-  pub left : (q : Stage) (m m' m'' : Seat O P C R) (x : History O P C R) → m.1 ≡ (0, None) ∷ [] → m' ≡ (m.0, (0, Some x) ∷ rest m.1) → Returns meaning q m' m'' → m'' ≡ (settled m.0 q x.log, [])
-  left q m m' m'' x had filled told = told x (rest m.1) (ap (λ (z : Seat O P C R). z.1) filled) ∙ (λ k. (settled (filled k).0 q x.log, rest (had k)))
+  pub left : (q : Stage) (step : StepDone) (m m' m'' : Seat O P C R) (x : History O P C R) → m.1 ≡ (0, None) ∷ [] → m' ≡ (m.0, (0, Some x) ∷ rest m.1) → Returns q step m' m'' → Left q step m.0 m'' x []
+  left q step m m' m'' x had filled told = subst (λ (z : Viewed O P C R × List (ℕ × Option (History O P C R))). Left q step z.0 m'' x z.1) (λ k. ((filled k).0, rest (had k))) (told x (rest m.1) (ap (λ (z : Seat O P C R). z.1) filled))
 
   -- who owns every number has a seat with each
   pub not_all : (h : Cell O P C R) (m : Seat O P C R) → m.0.told ≡ h ∷ [] → Lacks m.0 → OwnsAll (caller_of h m.0) → ⊥
   not_all h m told lacks all = lacks h record { told = told; each = λ x below. ap (λ b. b || any_has x m.0.others) (all.each x below) }
 
-  -- nothing changed, and another CPU is the cause
+  -- nothing changed
   pub stays_without : (h : Cell O P C R) (cpu : ℕ) (p : Stage) (m m' : Seat O P C R) → IsWithout meaning h cpu p m → m' ≡ m → IsWithout meaning h cpu p m'
   stays_without h cpu p m m' w e = subst (IsWithout meaning h cpu p) (sym e) w
 
+  pub still_without : (h : Cell O P C R) (cpu : ℕ) (p : Stage) (m m' : Seat O P C R) → IsWithout meaning h cpu p m → m' ≡ m → Moves meaning p p [] (state_without h p m) (state_without h p m')
+  still_without h cpu p m m' w e = subst (λ z. Moves meaning p p [] (state_without h p m) (state_without h p z)) (sym e) record {
+    caller = refl;
+    from = refl;
+    to = refl;
+    grows = grows_self (caller_of h m.0).owned m.0.main.seen;
+    extends = extends_self (caller_of h m.0).owned m.0.main.run;
+    lawful = w.pass_view.lawful;
+    has = refl;
+  }
+
+  -- a step that another CPU has made so
+  pub lags_without : (h : Cell O P C R) (cpu : ℕ) (p q : Stage) (done : List StepDone) (m m' : Seat O P C R) → IsWithout meaning h cpu p m → Lags meaning q done m m' → NeedsAnother meaning (Moves meaning p q done) (state_without h p m) (state_without h q m')
+  lags_without h cpu p q done m m' w g = record { made = moves_without h cpu p q done m m' w g.goes; another = not_all h m w.at.told g.lacks }
+
+  pub lags_with : (h : Cell O P C R) (cpu : ℕ) (p q : Stage) (done : List StepDone) (x : History O P C R) (m m' : Seat O P C R) → IsWith meaning h cpu p x m → Lags meaning q done m m' → NeedsAnother meaning (Moves meaning p q done) (state_with h p x m) (state_with h q x m')
+  lags_with h cpu p q done x m m' w g = record { made = moves_with h cpu p q done x m m' w g.goes; another = not_all h m w.at.told g.lacks }
+
   -- a caller that goes without the object, a step later, finds it busy
-  pub busy_by : (p q r : Stage) (a b c : CallerState O P C R) → Moves meaning p q a b → NeedsAnother meaning (Moves meaning q r) b c → IsBusy {O = O} {P = P} {C = C} {R = R} record { caller = a.caller; seen = a.seen } record { caller = c.caller; seen = c.seen }
-  busy_by p q r a b c m n = record {
+  pub busy_by : (p q r : Stage) (done more : List StepDone) (a b c : CallerState O P C R) → Moves meaning p q done a b → NeedsAnother meaning (Moves meaning q r more) b c → IsBusy {O = O} {P = P} {C = C} {R = R} record { caller = a.caller; seen = a.seen } record { caller = c.caller; seen = c.seen }
+  busy_by p q r done more a b c m n = record {
     caller = n.made.caller ∙ m.caller;
     grows = grows_then a.caller.owned a.seen b.seen c.seen m.grows (subst (λ k. Grows k.owned b.seen c.seen) m.caller n.made.grows);
     another = λ all. n.another (subst OwnsAll (sym m.caller) all);
   }
 
-  pub misses_without : (h : Cell O P C R) (cpu : ℕ) (p : Stage) (m m' : Seat O P C R) → IsWithout meaning h cpu p m → m' ≡ m → Lacks m.0 → NeedsAnother meaning (Moves meaning p p) (state_without h p m) (state_without h p m')
-  misses_without h cpu p m m' w e lacks = subst (λ z. NeedsAnother meaning (Moves meaning p p) (state_without h p m) (state_without h p z)) (sym e) record {
-    made = record { caller = refl; from = refl; to = refl; grows = grows_self (caller_of h m.0).owned m.0.main.seen; lawful = w.pass_view.lawful; has = refl };
-    another = not_all h m w.at.told lacks;
-  }
+  -- two steps of one caller, one after the other
+  pub extends_by_both : (p q r t : Stage) (done more : List StepDone) (a b c : CallerState O P C R) → Moves meaning p q done a b → Extends b.caller.owned b.run (silently b.caller.acting more) c.run → Extends a.caller.owned a.run (silently a.caller.acting (done ++ more)) c.run
+  extends_by_both p q r t done more a b c m e = subst (λ l. Extends a.caller.owned a.run l c.run) (sym (silently_append a.caller.acting done more))
+      (extends_then a.caller.owned a.run (silently a.caller.acting done) b.run (silently a.caller.acting more) c.run m.extends (subst (λ k. Extends k.owned b.run (silently k.acting more) c.run) m.caller e))
 
 module _ {O P C R : Type 0} (meaning : Ghosts O P C R) where
   -- a lawful log stays so with one event more of a CPU of the cell, if it is legal and within the limit
@@ -175,6 +226,7 @@ module _ {O P C R : Type 0} (meaning : Ghosts O P C R) where
           lawful = lawful_push h x.log e y w.hold_view.lawful below kept params limit longer;
           replayed = λ i. record { params = params i; limit = limit i; log = y.log; state = (kept.replayed ∙ ap (λ q. replay meaning q y.log) params) i };
         };
+        ran = w.ran;
       }
 
   -- the same of one call
@@ -185,11 +237,11 @@ module _ {O P C R : Type 0} (meaning : Ghosts O P C R) where
 
 -- two seats, joined, at a step of the first, and split again
 module _ {O P C R : Type 0} where
-  pub halves : (q : Stage) (log : List (Event O P C R)) (slots : List (ℕ × Option (History O P C R))) (v w : Viewed O P C R) (m' first second : Seat O P C R) → v.others ≡ [] → w.others ≡ [] → w.told ≡ v.told
-      → m' ≡ (settled (taken_in v w) q log, slots) → first ≡ (keeping m'.0, m'.1) → second ≡ (letting m'.0, []) → (first ≡ (settled v q log, slots)) × (second ≡ (settled w w.main.stage log, []))
-  halves q log slots v w m' first second alone alone' told e f s = (
-    f ∙ ((λ i. (keeping (e i).0, (e i).1)) ∙ (λ i. (record { told = v.told; main = shown log (at q v.main); others = map (shown log) (sym alone i) }, slots))),
-    s ∙ ((λ i. (letting (e i).0, [])) ∙ (λ i. (record { told = sym told i; main = shown log w.main; others = map (shown log) (sym alone' i) }, []))),
+  pub halves : (q : Stage) (log : List (Event O P C R)) (run : List (Moment (Event O P C R))) (slots : List (ℕ × Option (History O P C R))) (v w : Viewed O P C R) (m' first second : Seat O P C R) → v.others ≡ [] → w.others ≡ [] → w.told ≡ v.told
+      → m' ≡ (settled (taken_in v w) q log run, slots) → first ≡ (keeping m'.0, m'.1) → second ≡ (letting m'.0, []) → (first ≡ (settled v q log run, slots)) × (second ≡ (settled w w.main.stage log run, []))
+  halves q log run slots v w m' first second alone alone' told e f s = (
+    f ∙ ((λ i. (keeping (e i).0, (e i).1)) ∙ (λ i. (record { told = v.told; main = shown log run (at q v.main); others = map (shown log run) (sym alone i) }, slots))),
+    s ∙ ((λ i. (letting (e i).0, [])) ∙ (λ i. (record { told = sym told i; main = shown log run w.main; others = map (shown log run) (sym alone' i) }, []))),
   )
 
 has_both : (xs ys : List ℕ) (k : ℕ) → has k (xs ++ ys) ≡ (has k xs || has k ys)
@@ -216,68 +268,72 @@ module _ {O P C R : Type 0} (meaning : Ghosts O P C R) where
   }
 
   -- the pass that two become
-  pub joined : (h : Cell O P C R) (p q r : ℕ) (log : List (Event O P C R)) (m w m' m'' : Seat O P C R) → r ≡ min p q → IsWithout meaning h p Idle m → IsWithout meaning h q Idle w → m' ≡ (taken_in m.0 w.0, []) → m'' ≡ (merged m'.0 log, m'.1) → Lawful meaning h log
-      → (m'' ≡ (merged (taken_in m.0 w.0) log, [])) × IsWithout meaning h r Idle m''
-  joined h p q r log m w m' m'' is one two e e' lawful =
-      let now : m'' ≡ (merged (taken_in m.0 w.0) log, []) = e' ∙ (λ i. (merged (e i).0 log, (e i).1)) in
+  pub joined : (h : Cell O P C R) (p q r : ℕ) (log : List (Event O P C R)) (run : List (Moment (Event O P C R))) (m w m' m'' : Seat O P C R) → r ≡ min p q → IsWithout meaning h p Idle m → IsWithout meaning h q Idle w → m' ≡ (taken_in m.0 w.0, []) → m'' ≡ (merged m'.0 log run, m'.1) → Lawful meaning h log → HasRun h log run
+      → (m'' ≡ (merged (taken_in m.0 w.0) log run, [])) × IsWithout meaning h r Idle m''
+  joined h p q r log run m w m' m'' is one two e e' lawful ran =
+      let now : m'' ≡ (merged (taken_in m.0 w.0) log run, []) = e' ∙ (λ i. (merged (e i).0 log run, (e i).1)) in
       let number : r ≡ min m.0.main.cpu w.0.main.cpu = is ∙ (λ i. min (sym one.at.number i) (sym two.at.number i)) in (
         now,
         subst (IsWithout meaning h r Idle) (sym now) record {
           at = record { alone = refl; number = sym number; carries = refl; stands = refl; told = one.at.told };
           pass_view = record { caller = both_callers h m.0.main.cpu w.0.main.cpu (min m.0.main.cpu w.0.main.cpu) m.0.main.owned w.0.main.owned refl one.pass_view.caller two.pass_view.caller; lawful = lawful };
+          ran = ran;
         },
       )
 
-  -- two passes that met
-  pub record Met (h : Cell O P C R) (m w m' w' : Seat O P C R) (log : List (Event O P C R)) : Type 0 where
-    pub first : m' ≡ (settled m.0 Idle log, [])
-    pub second : w' ≡ (settled w.0 Idle log, [])
-    pub first_grows : Grows (λ x. has x m.0.main.owned) m.0.main.seen log
-    pub second_grows : Grows (λ x. has x w.0.main.owned) w.0.main.seen log
+  -- what two callers have seen now, beside what they had
+  pub record BothSee (h : Cell O P C R) (m w : Seat O P C R) (done : List StepDone) (log : List (Event O P C R)) (run : List (Moment (Event O P C R))) : Type 0 where
+    pub first_grows : Grows (λ y. has y m.0.main.owned) m.0.main.seen log
+    pub second_grows : Grows (λ y. has y w.0.main.owned) w.0.main.seen log
+    pub first_run : Extends (λ y. has y m.0.main.owned) m.0.main.run (silently m.0.main.cpu done) run
+    pub second_run : Extends (λ y. has y w.0.main.owned) w.0.main.run [] run
     pub lawful : Lawful meaning h log
+    pub ran : HasRun h log run
 
-  pub met : (h : Cell O P C R) (p q : ℕ) (log : List (Event O P C R)) (m w m1 m2 m' w' : Seat O P C R) → IsWithout meaning h p Idle m → IsWithout meaning h q Idle w → m1 ≡ (taken_in m.0 w.0, m.1) → m2 ≡ (settled m1.0 m1.0.main.stage log, m1.1) → Learns meaning m1.0 log
-      → m' ≡ (keeping m2.0, m2.1) → w' ≡ (letting m2.0, []) → Met h m w m' w' log
-  met h p q log m w m1 m2 m' w' one two e e' learns f s =
-      let now : m2 ≡ (settled (taken_in m.0 w.0) Idle log, []) = e' ∙ ((λ i. (settled (e i).0 (e i).0.main.stage log, (e i).1)) ∙ (λ i. (settled (taken_in m.0 w.0) (one.at.stands i) log, one.at.carries i))) in
-      let both = halves Idle log [] m.0 w.0 m2 m' w' one.at.alone two.at.alone (two.at.told ∙ sym one.at.told) now f s in
-      let l : Learns meaning (taken_in m.0 w.0) log = subst (λ (z : Seat O P C R). Learns meaning z.0 log) e learns in
-      record {
-        first = both.0;
-        second = both.1 ∙ (λ i. (settled w.0 (two.at.stands i) log, []));
-        first_grows = l.grows;
-        second_grows = l.others.0;
-        lawful = l.lawful h one.at.told;
-      }
+  both_see : (h : Cell O P C R) (m w m1 : Seat O P C R) (done : List StepDone) (log : List (Event O P C R)) (run : List (Moment (Event O P C R))) → m.0.told ≡ h ∷ [] → m1 ≡ (taken_in m.0 w.0, m.1) → Learns meaning m1.0 (silently m1.0.main.cpu done) log run → BothSee h m w done log run
+  both_see h m w m1 done log run told e learns =
+      let l : Learns meaning (taken_in m.0 w.0) (silently m.0.main.cpu done) log run = subst (λ (z : Seat O P C R). Learns meaning z.0 (silently z.0.main.cpu done) log run) e learns in
+      record { first_grows = l.grows; second_grows = l.others.0.0; first_run = l.extends; second_run = l.others.0.1; lawful = l.lawful h told; ran = l.ran h told }
+
+  -- two passes that met
+  pub record Met (h : Cell O P C R) (m w m' w' : Seat O P C R) (log : List (Event O P C R)) (run : List (Moment (Event O P C R))) : Type 0 where
+    pub first : m' ≡ (settled m.0 Idle log run, [])
+    pub second : w' ≡ (settled w.0 Idle log run, [])
+    pub see : BothSee h m w [] log run
+
+  pub met : (h : Cell O P C R) (p q : ℕ) (log : List (Event O P C R)) (run : List (Moment (Event O P C R))) (m w m1 m2 m' w' : Seat O P C R) → IsWithout meaning h p Idle m → IsWithout meaning h q Idle w → m1 ≡ (taken_in m.0 w.0, m.1) → m2 ≡ (settled m1.0 m1.0.main.stage log run, m1.1) → Learns meaning m1.0 [] log run
+      → m' ≡ (keeping m2.0, m2.1) → w' ≡ (letting m2.0, []) → Met h m w m' w' log run
+  met h p q log run m w m1 m2 m' w' one two e e' learns f s =
+      let now : m2 ≡ (settled (taken_in m.0 w.0) Idle log run, []) = e' ∙ ((λ i. (settled (e i).0 (e i).0.main.stage log run, (e i).1)) ∙ (λ i. (settled (taken_in m.0 w.0) (one.at.stands i) log run, one.at.carries i))) in
+      let both = halves Idle log run [] m.0 w.0 m2 m' w' one.at.alone two.at.alone (two.at.told ∙ sym one.at.told) now f s in
+      record { first = both.0; second = both.1 ∙ (λ i. (settled w.0 (two.at.stands i) log run, [])); see = both_see h m w m1 [] log run one.at.told e learns }
 
   -- a look by two callers together that took the object
-  pub record TookLast (h : Cell O P C R) (q : Stage) (x : History O P C R) (m w m' w' : Seat O P C R) : Type 0 where
-    pub first : m' ≡ (settled m.0 q x.log, (0, None) ∷ [])
-    pub second : w' ≡ (settled w.0 Idle x.log, [])
-    pub first_grows : Grows (λ y. has y m.0.main.owned) m.0.main.seen x.log
-    pub second_grows : Grows (λ y. has y w.0.main.owned) w.0.main.seen x.log
-    pub lawful : Lawful meaning h x.log
+  pub record TookLast (h : Cell O P C R) (q : Stage) (done : List StepDone) (x : History O P C R) (m w m' w' : Seat O P C R) : Type 0 where
+    pub run : List (Moment (Event O P C R))
+    pub first : m' ≡ (settled m.0 q x.log run, (0, None) ∷ [])
+    pub second : w' ≡ (settled w.0 Idle x.log run, [])
+    pub see : BothSee h m w done x.log run
     pub replayed : x ≡ stored meaning h x.log
 
-  pub took_last : (h : Cell O P C R) (cpu other : ℕ) (p q : Stage) (x : History O P C R) (m w m1 m2 m' w' : Seat O P C R) → IsWithout meaning h cpu p m → IsWithout meaning h other Idle w → m1 ≡ (taken_in m.0 w.0, m.1) → Took meaning q m1 m2 x
-      → m' ≡ (keeping m2.0, m2.1) → w' ≡ (letting m2.0, []) → TookLast h q x m w m' w'
-  took_last h cpu other p q x m w m1 m2 m' w' one two e t f s =
-      let now : m2 ≡ (settled (taken_in m.0 w.0) q x.log, (0, None) ∷ []) = t.seat ∙ ((λ i. (settled (e i).0 q x.log, (0, None) ∷ (e i).1)) ∙ (λ i. (settled (taken_in m.0 w.0) q x.log, (0, None) ∷ one.at.carries i))) in
-      let both = halves q x.log ((0, None) ∷ []) m.0 w.0 m2 m' w' one.at.alone two.at.alone (two.at.told ∙ sym one.at.told) now f s in
-      let l : Learns meaning (taken_in m.0 w.0) x.log = subst (λ (z : Seat O P C R). Learns meaning z.0 x.log) e t.learns in
+  pub took_last : (h : Cell O P C R) (cpu other : ℕ) (p q : Stage) (done : List StepDone) (x : History O P C R) (m w m1 m2 m' w' : Seat O P C R) → IsWithout meaning h cpu p m → IsWithout meaning h other Idle w → m1 ≡ (taken_in m.0 w.0, m.1) → Took meaning q done m1 m2 x
+      → m' ≡ (keeping m2.0, m2.1) → w' ≡ (letting m2.0, []) → TookLast h q done x m w m' w'
+  took_last h cpu other p q done x m w m1 m2 m' w' one two e t f s =
+      let run = t.run in
+      let now : m2 ≡ (settled (taken_in m.0 w.0) q x.log run, (0, None) ∷ []) = t.seat ∙ ((λ i. (settled (e i).0 q x.log run, (0, None) ∷ (e i).1)) ∙ (λ i. (settled (taken_in m.0 w.0) q x.log run, (0, None) ∷ one.at.carries i))) in
+      let both = halves q x.log run ((0, None) ∷ []) m.0 w.0 m2 m' w' one.at.alone two.at.alone (two.at.told ∙ sym one.at.told) now f s in
       record {
+        run = run;
         first = both.0;
-        second = both.1 ∙ (λ i. (settled w.0 (two.at.stands i) x.log, []));
-        first_grows = l.grows;
-        second_grows = l.others.0;
-        lawful = l.lawful h one.at.told;
+        second = both.1 ∙ (λ i. (settled w.0 (two.at.stands i) x.log run, []));
+        see = both_see h m w m1 done x.log run one.at.told e t.learns;
         replayed = t.replayed h (ap (λ (z : Seat O P C R). z.0.told) e ∙ one.at.told);
       }
 
   -- the same, from what the step gave and what was taken out of the slot
-  pub last_taken : (h : Cell O P C R) (cpu other : ℕ) (p q : Stage) (r : Option (History O P C R)) (x : History O P C R) (m w m1 m2 m3 m' w' : Seat O P C R) → IsWithout meaning h cpu p m → IsWithout meaning h other Idle w → m1 ≡ (taken_in m.0 w.0, m.1) → Gets meaning q m1 m2
-      → m2.1 ≡ (0, r) ∷ rest m2.1 → m3 ≡ (m2.0, (0, None) ∷ rest m2.1) → r ≡ Some x → m' ≡ (keeping m3.0, m3.1) → w' ≡ (letting m3.0, []) → TookLast h q x m w m' w'
-  last_taken h cpu other p q r x m w m1 m2 m3 m' w' one two e got slot out is f s = took_last h cpu other p q x m w m1 m3 m' w' one two e (took meaning q m1 m2 m3 r x got slot out is) f s
+  pub last_taken : (h : Cell O P C R) (cpu other : ℕ) (p q : Stage) (done : List StepDone) (r : Option (History O P C R)) (x : History O P C R) (m w m1 m2 m3 m' w' : Seat O P C R) → IsWithout meaning h cpu p m → IsWithout meaning h other Idle w → m1 ≡ (taken_in m.0 w.0, m.1) → Gets meaning q done m1 m2
+      → m2.1 ≡ (0, r) ∷ rest m2.1 → m3 ≡ (m2.0, (0, None) ∷ rest m2.1) → r ≡ Some x → m' ≡ (keeping m3.0, m3.1) → w' ≡ (letting m3.0, []) → TookLast h q done x m w m' w'
+  last_taken h cpu other p q done r x m w m1 m2 m3 m' w' one two e got slot out is f s = took_last h cpu other p q done x m w m1 m3 m' w' one two e (took meaning q done m1 m2 m3 r x got slot out is) f s
 
   -- two callers that own every number together
   pub all_together : (h : Cell O P C R) (m w m1 : Seat O P C R) → m.0.told ≡ h ∷ [] → m1 ≡ (taken_in m.0 w.0, m.1) → ((k : ℕ) → k < h.numbers → (has k m.0.main.owned || has k w.0.main.owned) ≡ true) → HasAll m1.0 h
@@ -287,7 +343,7 @@ module _ {O P C R : Type 0} (meaning : Ghosts O P C R) where
   }
 
   -- the log of the object that a step gave
-  pub takes_log : (p q : Stage) (x : History O P C R) (before after : CallerState O P C R) → Takes meaning p q before after → after.has ≡ Some x → Grows before.caller.owned before.seen x.log
-  takes_log p q x before after t is =
+  pub takes_log : (p q : Stage) (done : List StepDone) (x : History O P C R) (before after : CallerState O P C R) → Takes meaning p q done before after → after.has ≡ Some x → Grows before.caller.owned before.seen x.log
+  takes_log p q done x before after t is =
       let same : x ≡ stored meaning before.caller.cell after.seen = cc (is, t.has) in
       subst (Grows before.caller.owned before.seen) (sym (ap (λ z. z.log) same)) t.grows

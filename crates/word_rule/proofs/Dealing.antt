@@ -10,24 +10,25 @@ use Rattle.word_rule.specs.Rule.CellInvariant.{Viewed}
 use Rattle.word_rule.specs.Rule.Seats.{Seat, idle, idle_from, keeping, letting}
 use Rattle.word_rule.specs.Rule.Callers.{pass_view_of, IsWithout}
 use Rattle.word_rule.proofs.Lists.{has_one, or_none}
+use Rattle.word_rule.proofs.Runs.{no_run}
 
 module _ {O P C R : Type 0} where
   -- the first seat, where the callers below k have gone
   abbrev pub undealt : Cell O P C R → ℕ → Viewed O P C R
-  undealt h k = record { told = h ∷ []; main = idle 0 [] []; others = idle_from k (h.numbers - k) h.opening }
+  undealt h k = record { told = h ∷ []; main = idle 0 [] [] []; others = idle_from k (h.numbers - k) h.opening }
 
   -- the seat of caller k
   abbrev pub one_of : Cell O P C R → ℕ → Viewed O P C R
-  one_of h k = record { told = h ∷ []; main = idle k (k ∷ []) h.opening; others = [] }
+  one_of h k = record { told = h ∷ []; main = idle k (k ∷ []) h.opening []; others = [] }
 
-  next : (h : Cell O P C R) (k : ℕ) → k < h.numbers → idle_from k (h.numbers - k) h.opening ≡ idle k (k ∷ []) h.opening ∷ idle_from (k + 1) (h.numbers - (k + 1)) h.opening
+  next : (h : Cell O P C R) (k : ℕ) → k < h.numbers → idle_from k (h.numbers - k) h.opening ≡ idle k (k ∷ []) h.opening [] ∷ idle_from (k + 1) (h.numbers - (k + 1)) h.opening
   next h k below = let e : h.numbers - k ≡ suc (h.numbers - (k + 1)) = omega arith in ap (λ m. idle_from k m h.opening) e
 
   pub goes_on : (h : Cell O P C R) (k : ℕ) (m m' : Seat O P C R) → k < h.numbers → m ≡ (undealt h k, []) → m' ≡ (keeping m.0, m.1) → m' ≡ (undealt h (k + 1), [])
-  goes_on h k m m' below e e' = e' ∙ ((λ i. (keeping (e i).0, (e i).1)) ∙ ap (λ l. (keeping record { told = h ∷ []; main = idle 0 [] []; others = l }, [])) (next h k below))
+  goes_on h k m m' below e e' = e' ∙ ((λ i. (keeping (e i).0, (e i).1)) ∙ ap (λ l. (keeping record { told = h ∷ []; main = idle 0 [] [] []; others = l }, [])) (next h k below))
 
   pub is_one : (h : Cell O P C R) (k : ℕ) (m m' : Seat O P C R) → k < h.numbers → m ≡ (undealt h k, []) → m' ≡ (letting m.0, []) → m' ≡ (one_of h k, [])
-  is_one h k m m' below e e' = e' ∙ ((λ i. (letting (e i).0, [])) ∙ ap (λ l. (letting record { told = h ∷ []; main = idle 0 [] []; others = l }, [])) (next h k below))
+  is_one h k m m' below e e' = e' ∙ ((λ i. (letting (e i).0, [])) ∙ ap (λ l. (letting record { told = h ∷ []; main = idle 0 [] [] []; others = l }, [])) (next h k below))
 
 has_one_is : (k : ℕ) → ◌≡◌ {A = ℕ → Bool} (λ j. has j (k ∷ [])) (λ j. k == j)
 has_one_is k = λ i j. or_none (k == j) i
@@ -43,6 +44,7 @@ module _ {O P C R : Type 0} (meaning : Ghosts O P C R) where
       caller = record { acts = grind (arith, nat_tests); least = λ x hx. let same = has_one x k hx in omega arith; below = λ x hx. let same = has_one x k hx in omega arith };
       lawful = lawful;
     };
+    ran = no_run h;
   }
 
   pub part_first : (h told : Cell O P C R) (k : ℕ) (m : Seat O P C R) → told ≡ h → m ≡ (one_of h k, []) → pass_view_of told m.0 ≡ opening_pass h k

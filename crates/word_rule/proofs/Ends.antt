@@ -13,20 +13,27 @@ use Rattle.event_log.specs.Distinct.{has}
 use Rattle.event_log.specs.History.{History, IsKept}
 use Rattle.event_log.proofs.Beginnings.{begins_self}
 use Rattle.word_rule.specs.declared.lock_kind.LockKind.{LockKind}
+use Rattle.word_rule.specs.declared.lock_kind.LockKind.TheVariants as kinds
 use Rattle.word_rule.specs.declared.stage.Stage.TheVariants.{Idle}
+use Rattle.word_rule.specs.declared.view.Moment.{Moment}
 use Rattle.word_rule.specs.Cell.{Cell, cell_of, Lawful, OwnsAll, IsPassView, stored}
-use Rattle.word_rule.specs.Locks.{opening_lock}
+use Rattle.word_rule.specs.LockRuns.{lock_after, arrivals_in, endings_in}
+use Rattle.word_rule.specs.Locks.{opening_lock, tickets}
 use Rattle.word_rule.specs.Rule.LockStates.{IsLockOf}
 use Rattle.word_rule.specs.Rule.CellInvariant.{GhostState, Viewed, Table, EachFrom, CallerInvariant, SeatInvariant, CellInvariant}
 use Rattle.word_rule.specs.Rule.Seats.{Seat, idle_from, first_view}
 use Rattle.word_rule.specs.Rule.Callers.{caller_of, pass_view_of, IsWithout}
 use Rattle.word_rule.proofs.Lists.{has_one, grows_self, same_log, of_opening}
 use Rattle.word_rule.proofs.Known.{all_idle}
-use Rattle.word_rule.proofs.LockLaws.{idle_home}
+use Rattle.word_rule.proofs.LockLaws.{idle_home, idle_empty, ticket_few}
+use Rattle.word_rule.proofs.PlainTurns.{opens_plainly}
+use Rattle.word_rule.proofs.RunLists.{extends_self, same_run, all_inside}
+use Rattle.word_rule.proofs.RunOrder.{all_ended}
+use Rattle.word_rule.proofs.Runs.{no_run}
 
 module _ {O P C R : Type 0} (h : Cell O P C R) (kind : LockKind) (first : ℕ) where
   abbrev start : GhostState O P C R
-  start = record { committed = h.opening; lock = opening_lock kind first; owner = λ x. (0, x + 1) }
+  start = record { committed = h.opening; run = []; lock = opening_lock kind first; owner = λ x. (0, x + 1) }
 
   known : (k m : ℕ) → k + m ≡ h.numbers → EachFrom (CallerInvariant h.numbers start 0) (k + 1) (idle_from k m h.opening)
   known k zero e = tt
@@ -34,6 +41,7 @@ module _ {O P C R : Type 0} (h : Cell O P C R) (kind : LockKind) (first : ℕ) w
     record {
       owns = λ x hx. let is = has_one x k hx in let below : x < h.numbers = omega arith in ((λ i. (0, is i + 1)), below);
       grows = grows_self (λ x. has x (k ∷ [])) h.opening;
+      extends = extends_self (λ x. has x (k ∷ [])) [];
       stands = λ _. refl;
       whole = λ _ _. refl;
       rests = λ x _ _. refl;
@@ -48,6 +56,7 @@ module _ {O P C R : Type 0} (h : Cell O P C R) (kind : LockKind) (first : ℕ) w
     main = record {
       owns = λ y hy. absurd (true≢false (sym hy));
       grows = record { begins = record { start = refl }; own = λ y hy. absurd (true≢false (sym hy)) };
+      extends = record { begins = record { start = refl }; own = λ y hy. absurd (true≢false (sym hy)) };
       stands = λ hy. absurd (true≢false (sym hy));
       whole = λ hy _. absurd (true≢false (sym hy));
       rests = λ y hy _. absurd (true≢false (sym hy));
@@ -79,26 +88,40 @@ module _ {O P C R : Type 0} (meaning : Ghosts O P C R) (kind : LockKind) where
   opens ws x n first kept tied = record {
     state = start (cell_of kind n x) kind first;
     tied = tied;
+    ran = no_run (cell_of kind n x);
+    made = λ f. opens_plainly kind first f;
     lawful = opens_lawful meaning kind x n kept;
     at_home = λ _. ap (λ z. some (some (Some z))) (opens_stored meaning kind x n kept);
     each = one (cell_of kind n x) kind first;
   }
 
-  -- where a pass has each number, the object is at home, and its log is what the pass has seen
-  pub closing : (h : Cell O P C R) (id : ℕ) (v : Viewed O P C R) (s : Table O P C R) → CellInvariant meaning kind h s → get_elem? s.views id ≡ some v → v.main.stage ≡ Idle → IsPassView meaning (pass_view_of h v) → OwnsAll (caller_of h v)
-      → get_elem? s.homes 0 ≡ some (some (Some (stored meaning h v.main.seen)))
-  closing h id v s r there rests part all =
+  -- what the end of a cell finds where a pass has each number: the object at home, the log and the run that the pass has seen,
+  -- and nobody in line
+  pub record IsDone (h : Cell O P C R) (v : Viewed O P C R) (s : Table O P C R) : Type 0 where
+    pub home : get_elem? s.homes 0 ≡ some (some (Some (stored meaning h v.main.seen)))
+    pub ended : endings_in v.main.run ≡ arrivals_in v.main.run
+
+  pub closing : (h : Cell O P C R) (id : ℕ) (v : Viewed O P C R) (s : Table O P C R) → CellInvariant meaning kind h s → get_elem? s.views id ≡ some v → v.main.stage ≡ Idle → IsPassView meaning (pass_view_of h v) → OwnsAll (caller_of h v) → h.kind ≡ kind → IsDone h v s
+  closing h id v s r there rests part all kind_is =
       let b = r.state in
       let know = r.each id v there in
-      let home = idle_home kind h.numbers b.lock r.tied.state (λ x below. all_idle h.numbers b id 0 v.main know.main rests x (all.each x below)) in
+      let idle : (x : ℕ) → x < h.numbers → b.lock.line.stage x ≡ Idle = λ x below. all_idle h.numbers b id 0 v.main know.main rests x (all.each x below) in
+      let home = idle_home kind h.numbers b.lock r.tied.state idle in
       let same = same_log v.main.seen b.committed know.main.grows.begins (λ z. dite (dec_lt z h.numbers)
       (λ below. know.main.grows.own z (all.each z below))
       (λ not. of_opening z h.numbers b.committed h.opening (omega arith) r.lawful.begins r.lawful.numbered ∙ sym (of_opening z h.numbers v.main.seen h.opening (omega arith) part.lawful.begins part.lawful.numbered))) in
-      r.at_home home ∙ ap (λ l. some (some (Some (stored meaning h l)))) same
+      let whole = same_run h.numbers (λ x. has x v.main.owned) v.main.run b.run know.main.extends all.each (all_inside h.numbers b.run r.ran.each) in
+      let none : (lock_after b.run (opening_lock h.kind 0)).line.cpus ≡ [] = sym (ap (λ z. z.line.cpus) (r.made 0)) ∙ idle_empty kind h.numbers b.lock r.tied.state idle in
+      let few : h.kind ≡ kinds.Ticket → h.numbers < tickets = λ is. ticket_few kind h.numbers b.lock r.tied.state (sym kind_is ∙ is) in
+      record {
+        home = r.at_home home ∙ ap (λ l. some (some (Some (stored meaning h l)))) same;
+        ended = subst (λ (run : List (Moment (Event O P C R))). endings_in run ≡ arrivals_in run) whole (all_ended h b.committed b.run r.ran few none);
+      }
 
-  pub ended : (h : Cell O P C R) (id cpu : ℕ) (m : Seat O P C R) (ws : List ℕ) (xs : List (Option (History O P C R))) (slot : Option (History O P C R)) → IsWithout meaning h cpu Idle m → OwnsAll (caller_of h m.0)
-      → Final (Seen (CellInvariant meaning kind h) id m.0) ws xs → get_elem? xs 0 ≡ some slot → slot ≡ Some (stored meaning h m.0.main.seen)
-  ended h id cpu m ws xs slot w all final first =
+  pub ended : (h : Cell O P C R) (id cpu : ℕ) (m : Seat O P C R) (ws : List ℕ) (xs : List (Option (History O P C R))) (slot : Option (History O P C R)) → IsWithout meaning h cpu Idle m → OwnsAll (caller_of h m.0) → h.kind ≡ kind
+      → Final (Seen (CellInvariant meaning kind h) id m.0) ws xs → get_elem? xs 0 ≡ some slot → (slot ≡ Some (stored meaning h m.0.main.seen)) × (endings_in m.0.main.run ≡ arrivals_in m.0.main.run)
+  ended h id cpu m ws xs slot w all kind_is final first =
       let object : History O P C R = stored meaning h m.0.main.seen in
-      let there = final.4 0 (Some object) (closing h id m.0 final.0 final.1.0 final.1.1 w.at.stands w.pass_view all) in
-      some-injective slot (Some object) (sym first ∙ there)
+      let done = closing h id m.0 final.0 final.1.0 final.1.1 w.at.stands w.pass_view all kind_is in
+      let there = final.4 0 (Some object) done.home in
+      (some-injective slot (Some object) (sym first ∙ there), done.ended)

@@ -9,7 +9,7 @@ use Rattle.word_rule.specs.declared.lock_kind.LockKind.TheVariants as kinds
 use Rattle.word_rule.specs.declared.machine.step_done.StepDone.{StepDone}
 use Rattle.word_rule.specs.declared.machine.step_done.StepDone.TheVariants as steps
 use Rattle.word_rule.specs.declared.stage.Stage.{Stage}
-use Rattle.word_rule.specs.declared.stage.Stage.TheVariants.{Idle, Ticket, Mcs, Torn}
+use Rattle.word_rule.specs.declared.stage.Stage.TheVariants.{Idle, Ticket, Mcs, Trying}
 use Rattle.word_rule.specs.declared.stage.TicketStage.TheVariants.{Drawn, Served}
 use Rattle.word_rule.specs.declared.stage.McsStage.TheVariants.{Ready, Behind, Armed, Waiting, Holding, Alone, Leaving, Passing}
 use Rattle.word_rule.specs.Line.{is_first, moved}
@@ -23,75 +23,16 @@ use Rattle.word_rule.proofs.Arrivals.{fresh}
 use Rattle.word_rule.proofs.Openings.{opening_sound}
 use Rattle.word_rule.proofs.Orders.{Keeps, AreLocks, IsCell, locks_run, same_cpus}
 use Rattle.word_rule.proofs.LockLaws.{stands_at}
+use Rattle.word_rule.proofs.PlainTurns.{is_trying, IsWhole, turn_whole}
 use Rattle.word_rule.proofs.Slices.{some_at}
 use Rattle.word_rule.proofs.SoundSteps.{sound_run}
 use Rattle.word_rule.proofs.TurnsKeep.{IsState, locks_keep}
-
-abbrev is_torn : Stage → Bool
-is_torn Torn = true
-is_torn q = false
 
 abbrev is_idle : StepDone → Bool
 is_idle steps.Idle = true
 is_idle s = false
 
--- no CPU stands where the rule of cells alone has one on the way to a contradiction
-abbrev IsWhole : Lock → Type 0
-IsWhole l = (x : ℕ) → is_torn (l.line.stage x) ≡ false
-
-moved_whole : (stage : ℕ → Stage) (p : ℕ) (q : Stage) → ((x : ℕ) → is_torn (stage x) ≡ false) → is_torn q ≡ false → (x : ℕ) → is_torn (moved stage p q x) ≡ false
-moved_whole stage p q others mine x = by (x == p)
-  where
-    by : (b : Bool) → is_torn (cond b q (stage x)) ≡ false
-    by true = mine
-    by false = others x
-
-module _ (l : Lock) (i : ℕ) (h : IsWhole l) where
-  look_whole : (q : Stage) → is_torn q ≡ false → IsWhole (look l i q).0
-  look_whole q mine = by (is_first i l.line.cpus)
-    where
-      by : (b : Bool) → let r : Lock × StepDone = cond b (record l { line = taking l.line i q }, steps.Look true) (l, steps.Look false) in IsWhole r.0
-      by true = moved_whole l.line.stage i q h mine
-      by false = h
-
-  ticket_whole : (q : Stage) → IsWhole (ticket_turn l i q).0
-  ticket_whole Idle = moved_whole l.line.stage i _ h refl
-  ticket_whole (Ticket (Drawn t)) = look_whole (Ticket (Served t)) refl
-  ticket_whole (Ticket (Served t)) = moved_whole l.line.stage i _ h refl
-  ticket_whole q = h
-
-  enter_whole : (o : Option ℕ) → IsWhole (enter l i o).0
-  enter_whole None = moved_whole l.line.stage i _ h refl
-  enter_whole (Some p) = moved_whole l.line.stage i _ h refl
-
-  see_whole : (q : Stage) → is_torn q ≡ false → (o : Option ℕ) → IsWhole (see l i q o).0
-  see_whole q mine None = moved_whole l.line.stage i q h mine
-  see_whole q mine (Some j) = moved_whole l.line.stage i _ h refl
-
-  empty_whole : IsWhole (empty l i).0
-  empty_whole = by (is_named i (last l.line.cpus))
-    where
-      by : (b : Bool) → let r : Lock × StepDone = cond b (record l { line = leaving l.line i }, steps.Empty true) (record l { line = going l.line i (Mcs Leaving) }, steps.Empty false) in IsWhole r.0
-      by true = moved_whole l.line.stage i _ h refl
-      by false = moved_whole l.line.stage i _ h refl
-
-  mcs_whole : (q : Stage) → IsWhole (mcs_turn l i q).0
-  mcs_whole Idle = moved_whole l.line.stage i _ h refl
-  mcs_whole (Mcs Ready) = enter_whole (last l.line.cpus)
-  mcs_whole (Mcs (Behind p)) = moved_whole l.line.stage i _ h refl
-  mcs_whole (Mcs (Armed p)) = moved_whole l.line.stage i _ h refl
-  mcs_whole (Mcs Waiting) = look_whole (Mcs Holding) refl
-  mcs_whole (Mcs Holding) = see_whole (Mcs Alone) refl (follower l.line)
-  mcs_whole (Mcs Alone) = empty_whole
-  mcs_whole (Mcs Leaving) = see_whole (Mcs Leaving) refl (follower l.line)
-  mcs_whole (Mcs (Passing j)) = moved_whole l.line.stage i _ h refl
-  mcs_whole q = h
-
-  turn_whole : (k : LockKind) → IsWhole (turn_of k l i).0
-  turn_whole kinds.Ticket = ticket_whole (l.line.stage i)
-  turn_whole kinds.Mcs = mcs_whole (l.line.stage i)
-
--- a lock for n CPUs, of which none is torn
+-- a lock for n CPUs, of which none is trying
 abbrev IsWholeLock : ℕ → Lock → Type 0
 IsWholeLock n l = IsState n l × IsWhole l
 
@@ -110,11 +51,11 @@ module _ (n : ℕ) (l : Lock) (i : ℕ) (below : i < n) where
       by true = refl
       by false = refl
 
-  ticket_acts : IsLock kinds.Ticket n l → (q : Stage) → l.line.stage i ≡ q → is_torn q ≡ false → is_idle (ticket_turn l i q).1 ≡ false
+  ticket_acts : IsLock kinds.Ticket n l → (q : Stage) → l.line.stage i ≡ q → is_trying q ≡ false → is_idle (ticket_turn l i q).1 ≡ false
   ticket_acts h Idle e whole = refl
   ticket_acts h (Ticket (Drawn t)) e whole = look_acts (Ticket (Served t))
   ticket_acts h (Ticket (Served t)) e whole = refl
-  ticket_acts h Torn e whole = absurd (true≢false whole)
+  ticket_acts h Trying e whole = absurd (true≢false whole)
   ticket_acts h q e whole = absurd (stands_at kinds.Ticket n l h i q below e)
 
   see_acts : (q : Stage) (o : Option ℕ) → is_idle (see l i q o).1 ≡ false
@@ -132,7 +73,7 @@ module _ (n : ℕ) (l : Lock) (i : ℕ) (below : i < n) where
       by true = refl
       by false = refl
 
-  mcs_acts : IsLock kinds.Mcs n l → (q : Stage) → l.line.stage i ≡ q → is_torn q ≡ false → is_idle (mcs_turn l i q).1 ≡ false
+  mcs_acts : IsLock kinds.Mcs n l → (q : Stage) → l.line.stage i ≡ q → is_trying q ≡ false → is_idle (mcs_turn l i q).1 ≡ false
   mcs_acts h Idle e whole = refl
   mcs_acts h (Mcs Ready) e whole = enter_acts (last l.line.cpus)
   mcs_acts h (Mcs (Behind p)) e whole = refl
@@ -142,10 +83,10 @@ module _ (n : ℕ) (l : Lock) (i : ℕ) (below : i < n) where
   mcs_acts h (Mcs Alone) e whole = empty_acts
   mcs_acts h (Mcs Leaving) e whole = see_acts (Mcs Leaving) (follower l.line)
   mcs_acts h (Mcs (Passing j)) e whole = refl
-  mcs_acts h Torn e whole = absurd (true≢false whole)
+  mcs_acts h Trying e whole = absurd (true≢false whole)
   mcs_acts h q e whole = absurd (stands_at kinds.Mcs n l h i q below e)
 
-  acts : (k : LockKind) → IsLock k n l → is_torn (l.line.stage i) ≡ false → is_idle (turn_of k l i).1 ≡ false
+  acts : (k : LockKind) → IsLock k n l → is_trying (l.line.stage i) ≡ false → is_idle (turn_of k l i).1 ≡ false
   acts kinds.Ticket h whole = ticket_acts h (l.line.stage i) refl whole
   acts kinds.Mcs h whole = mcs_acts h (l.line.stage i) refl whole
 

@@ -1,20 +1,32 @@
 -- What a step may tell of the object, and of numbers that aren't the seat's: the same at every lock.
-use Rattle.std.proofs.Common.{◌≡◌, ◌≢◌, ℕ, ◌+◌, ◌<◌, true, true≢false, List, [], ◌∷◌, refl, sym, ap, ◌∙◌, subst, arith, Some}
+use Rattle.std.proofs.Common.{◌≡◌, ◌≢◌, ℕ, ◌+◌, ◌<◌, ◌≤◌, Bool, true, true≢false, List, [], ◌∷◌, ◌++◌, length, drop, refl, sym, ap, ◌∙◌, subst, arith, Option, Some, None}
+use Rattle.std.specs.List.{AllByRecursion}
 use Rattle.std.proofs.lemmas.Bool.{false_from_ne_true}
 use Rattle.std.proofs.lemmas.Bool.Decides.{nat_tests}
 use Rattle.std.proofs.Math.Bool.{Bool-discrete}
 use mathlib.Core.Logic.{dite}
 use native.Mathlib.Decide.{ℕ_discrete}
 use Rattle.event_log.specs.declared.object.SeqObject.{Ghosts}
+use Rattle.atomic_table.specs.Table.{rest}
+use Rattle.event_log.specs.declared.event.Event.{Event}
 use Rattle.event_log.specs.Distinct.{has}
+use Rattle.event_log.specs.History.{History}
+use Rattle.event_log.specs.Log.{Begins}
+use Rattle.event_log.proofs.Beginnings.{begins_rest}
 use Rattle.word_rule.specs.declared.lock_kind.LockKind.{LockKind}
+use Rattle.word_rule.specs.declared.machine.step_done.StepDone.{StepDone}
 use Rattle.word_rule.specs.declared.stage.Stage.{Stage}
 use Rattle.word_rule.specs.declared.stage.Stage.TheVariants.{Idle}
+use Rattle.word_rule.specs.declared.view.Moment.{Moment}
 use Rattle.word_rule.specs.Cell.{Cell, Grows, Lawful, stored}
+use Rattle.word_rule.specs.LockRuns.{Extends, HasRun}
+use Rattle.word_rule.specs.OneHold.{leaving, silently}
 use Rattle.word_rule.specs.Rule.CellInvariant.{GhostState, Caller, Viewed, Table, EachFrom, CallerInvariant, SeatInvariant, CellInvariant}
 use Rattle.word_rule.specs.Rule.Seats.{Seat, settled}
-use Rattle.word_rule.specs.Rule.Announced.{any_has, Lacks, IsElse, Learns, Gets}
+use Rattle.word_rule.specs.Rule.Announced.{any_has, Lacks, IsElse, Learns, Goes, Gets, Left, Returns}
 use Rattle.word_rule.proofs.LockLaws.{in_line_below, idle_outside}
+use Rattle.word_rule.proofs.RunLists.{extends_after, extends_by, extends_beside, silent_own}
+use Rattle.word_rule.proofs.Stays.{not_mine, else_place}
 
 -- where a caller is idle, all its numbers are
 pub all_idle : {O P C R : Type 0} (n : ℕ) (b : GhostState O P C R) (j k : ℕ) (c : Caller O P C R) → CallerInvariant n b j k c → c.stage ≡ Idle → (x : ℕ) → has x c.owned ≡ true → b.lock.line.stage x ≡ Idle
@@ -28,6 +40,13 @@ module _ {O P C R : Type 0} where
   pub idle_alone : (cs : List (Caller O P C R)) → cs ≡ [] → AllIdle cs
   idle_alone cs is = subst AllIdle (sym is) tt
 
+module _ {O P C R : Type 0} where
+  -- the object in the slot that comes first, or this one
+  abbrev pub value_of : History O P C R → List (ℕ × Option (History O P C R)) → History O P C R
+  value_of d [] = d
+  value_of d ((n, Some x) ∷ cs) = x
+  value_of d ((n, None) ∷ cs) = d
+
 module _ {O P C R : Type 0} (meaning : Ghosts O P C R) (kind : LockKind) (h : Cell O P C R) where
   abbrev pub Rule : Table O P C R → Type 0
   Rule = CellInvariant meaning kind h
@@ -35,27 +54,86 @@ module _ {O P C R : Type 0} (meaning : Ghosts O P C R) (kind : LockKind) (h : Ce
   pub same_cell : (b : GhostState O P C R) (id : ℕ) (v : Viewed O P C R) (g : Cell O P C R) → SeatInvariant h b id v → v.told ≡ g ∷ [] → g ≡ h
   same_cell b id v g mine is = (subst (λ l. EachFrom (λ _ y. y ≡ h) 0 l) is mine.told).0
 
-  learn_each : (b : GhostState O P C R) (j k : ℕ) (cs : List (Caller O P C R)) → EachFrom (CallerInvariant h.numbers b j) k cs → EachFrom (λ _ c. Grows (λ x. has x c.owned) c.seen b.committed) k cs
+  learn_each : (b : GhostState O P C R) (j k : ℕ) (cs : List (Caller O P C R)) → EachFrom (CallerInvariant h.numbers b j) k cs → EachFrom (λ _ c. Grows (λ x. has x c.owned) c.seen b.committed × Extends (λ x. has x c.owned) c.run [] b.run) k cs
   learn_each b j k [] know = tt
-  learn_each b j k (c ∷ cs) know = (know.0.grows, learn_each b j (k + 1) cs know.1)
+  learn_each b j k (c ∷ cs) know = ((know.0.grows, know.0.extends), learn_each b j (k + 1) cs know.1)
 
-  -- all callers of a seat may see the committed log
-  pub learned : (b : GhostState O P C R) (id : ℕ) (v : Viewed O P C R) → Lawful meaning h b.committed → SeatInvariant h b id v → Learns meaning v b.committed
-  learned b id v lawful mine = record {
+  -- all callers of a seat may see the committed log and the run
+  pub learned : (b : GhostState O P C R) (id : ℕ) (v : Viewed O P C R) → Lawful meaning h b.committed → HasRun h b.committed b.run → SeatInvariant h b id v → Learns meaning v [] b.committed b.run
+  learned b id v lawful ran mine = record {
     grows = mine.main.grows;
+    extends = mine.main.extends;
     others = learn_each b id 1 v.others mine.others;
     lawful = λ g is. subst (λ (z : Cell O P C R). Lawful meaning z b.committed) (sym (same_cell b id v g mine is)) lawful;
+    ran = λ g is. subst (λ (z : Cell O P C R). HasRun z b.committed b.run) (sym (same_cell b id v g mine is)) ran;
   }
 
-  -- the object that is at home is one that a step may give
-  pub gets : (s : Table O P C R) (r : Rule s) (id : ℕ) (me : Seat O P C R) (stage : Stage) → SeatInvariant h r.state id me.0
-      → Gets meaning stage me (settled me.0 stage r.state.committed, (0, Some (stored meaning h r.state.committed)) ∷ me.1)
-  gets s r id me stage mine = record {
-    object = stored meaning h r.state.committed;
-    seat = refl;
-    learns = learned r.state id me.0 r.lawful mine;
-    replayed = λ g is. ap (λ (z : Cell O P C R). stored meaning z r.state.committed) (sym (same_cell r.state id me.0 g mine is));
-  }
+  learn_beside : (b : GhostState O P C R) (id p k : ℕ) (ms : List (Moment (Event O P C R))) (cs : List (Caller O P C R)) → b.owner p ≡ (id, 0) → 1 ≤ k → AllByRecursion (λ m. m.cpu ≡ p) ms → EachFrom (CallerInvariant h.numbers b id) k cs
+      → EachFrom (λ _ c. Grows (λ x. has x c.owned) c.seen b.committed × Extends (λ x. has x c.owned) c.run [] (b.run ++ ms)) k cs
+  learn_beside b id p k ms [] mine le own know = tt
+  learn_beside b id p k ms (c ∷ cs) mine le own know = (
+    (know.0.grows, extends_beside (λ x. has x c.owned) c.run b.run p ms know.0.extends own (λ x hx. not_mine b.owner p x mine (else_place id k id le) ((know.0.owns x hx).0))),
+    learn_beside b id p (k + 1) ms cs mine (omega arith) own know.1,
+  )
+
+  -- and the steps that the first of them has done
+  pub learned_by : (b : GhostState O P C R) (id : ℕ) (v : Viewed O P C R) (done : List StepDone) → has v.main.cpu v.main.owned ≡ true → Lawful meaning h b.committed → HasRun h b.committed (b.run ++ silently v.main.cpu done) → SeatInvariant h b id v
+      → Learns meaning v (silently v.main.cpu done) b.committed (b.run ++ silently v.main.cpu done)
+  learned_by b id v done acts lawful ran mine =
+      let ms : List (Moment (Event O P C R)) = silently v.main.cpu done in
+      let owned : ℕ → Bool = λ x. has x v.main.owned in
+      record {
+        grows = mine.main.grows;
+        extends = extends_after owned v.main.run b.run ms (b.run ++ ms) mine.main.extends (extends_by owned b.run ms);
+        others = learn_beside b id v.main.cpu 1 ms v.others ((mine.main.owns v.main.cpu acts).0) (omega arith) (silent_own (Event O P C R) v.main.cpu done) mine.others;
+        lawful = λ g is. subst (λ (z : Cell O P C R). Lawful meaning z b.committed) (sym (same_cell b id v g mine is)) lawful;
+        ran = λ g is. subst (λ (z : Cell O P C R). HasRun z b.committed (b.run ++ ms)) (sym (same_cell b id v g mine is)) ran;
+      }
+
+  module _ (s : Table O P C R) (r : Rule s) (id : ℕ) (me : Seat O P C R) (acts : has me.0.main.cpu me.0.main.owned ≡ true) (mine : SeatInvariant h r.state id me.0) where
+    abbrev run_by : List StepDone → List (Moment (Event O P C R))
+    run_by done = r.state.run ++ silently me.0.main.cpu done
+
+    -- the object that is at home is one that a step may give
+    pub gets : (stage : Stage) (done : List StepDone) → HasRun h r.state.committed (run_by done) → Gets meaning stage done me (settled me.0 stage r.state.committed (run_by done), (0, Some (stored meaning h r.state.committed)) ∷ me.1)
+    gets stage done ran = record {
+      object = stored meaning h r.state.committed;
+      run = run_by done;
+      seat = refl;
+      learns = learned_by r.state id me.0 done acts r.lawful ran mine;
+      replayed = λ g is. ap (λ (z : Cell O P C R). stored meaning z r.state.committed) (sym (same_cell r.state id me.0 g mine is));
+    }
+
+    -- what a step tells that moves its caller alone
+    pub goes : (stage : Stage) (done : List StepDone) → HasRun h r.state.committed (run_by done) → Goes meaning stage done me (settled me.0 stage r.state.committed (run_by done), me.1)
+    goes stage done ran = record {
+      log = r.state.committed;
+      run = run_by done;
+      seat = refl;
+      learns = learned_by r.state id me.0 done acts r.lawful ran mine;
+      still = λ holds. sym (mine.main.whole acts holds);
+    }
+
+    abbrev events_since : List (Event O P C R) → List (Event O P C R)
+    events_since log = drop (length me.0.main.seen) log
+
+    -- what a step tells that ends a hold on the object x
+    pub returns : (stage : Stage) (step : StepDone) (x : History O P C R) (more : List (ℕ × Option (History O P C R))) → me.1 ≡ (0, Some x) ∷ more → Begins me.0.main.seen x.log → HasRun h x.log (r.state.run ++ leaving me.0.main.cpu step (events_since x.log) ∷ [])
+        → Returns stage step me (settled me.0 stage x.log (r.state.run ++ leaving me.0.main.cpu step (events_since x.log) ∷ []), rest me.1)
+    returns stage step x more carries begins ran x' more' e =
+        let v = me.0 in
+        let owned : ℕ → Bool = λ y. has y v.main.owned in
+        let m : Moment (Event O P C R) = leaving v.main.cpu step (events_since x.log) in
+        let run = r.state.run ++ m ∷ [] in
+        let same = sym carries ∙ e in
+        subst (λ (z : History O P C R × List (ℕ × Option (History O P C R))). Left stage step v (settled v stage x.log run, rest me.1) z.0 z.1) (λ k. (value_of x (same k), rest (e k))) record {
+          run = run;
+          events = events_since x.log;
+          seat = refl;
+          added = begins_rest v.main.seen x.log begins;
+          extends = extends_after owned v.main.run r.state.run (m ∷ []) run mine.main.extends (extends_by owned r.state.run (m ∷ []));
+          ran = λ g is. subst (λ (z : Cell O P C R). HasRun z x.log run) (sym (same_cell r.state id v g mine is)) ran;
+        }
 
   -- one in line that isn't the one that the caller acts as isn't the caller's
   pub someone_else : (s : Table O P C R) (r : Rule s) (id : ℕ) (v : Viewed O P C R) (y : ℕ) → SeatInvariant h r.state id v → has y r.state.lock.line.cpus ≡ true → y ≢ v.main.cpu → IsElse v y

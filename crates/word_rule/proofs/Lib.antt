@@ -1,4 +1,8 @@
 pub mod Lists
+pub mod PlainTurns
+pub mod RunLists
+pub mod Runs
+pub mod RunOrder
 pub mod Stays
 pub mod Known
 pub mod Meetings

@@ -1,5 +1,5 @@
 -- What follows of where the CPUs stand at a lock, whichever lock it is.
-use Rattle.std.proofs.Common.{◌≡◌, ℕ, ◌<◌, ◌≤◌, Bool, true, false, true≢false, List, length, sym, ap, ◌∙◌, subst, Option}
+use Rattle.std.proofs.Common.{◌≡◌, ℕ, ◌<◌, ◌≤◌, Bool, true, false, true≢false, List, [], ◌∷◌, length, refl, sym, ap, ◌∙◌, subst, Option}
 use Rattle.std.proofs.lemmas.Bool.{false_from_ne_true}
 use mathlib.Core.Option.{some, some-injective}
 use lib.ListN.{get_elem?}
@@ -8,12 +8,12 @@ use Rattle.event_log.proofs.Distinct.{distinct_length}
 use Rattle.word_rule.specs.declared.lock_kind.LockKind.{LockKind}
 use Rattle.word_rule.specs.declared.lock_kind.LockKind.TheVariants as kinds
 use Rattle.word_rule.specs.declared.stage.Stage.{Stage}
-use Rattle.word_rule.specs.declared.stage.Stage.TheVariants.{Idle, Ticket, Mcs, Torn}
+use Rattle.word_rule.specs.declared.stage.Stage.TheVariants.{Idle, Ticket, Mcs, Trying}
 use Rattle.word_rule.specs.declared.stage.TicketStage.TheVariants.{Drawn, Served}
 use Rattle.word_rule.specs.declared.stage.McsStage.TheVariants.{Holding, Alone, Leaving, Passing}
 use Rattle.word_rule.specs.Line.{holding}
-use Rattle.word_rule.specs.Locks.{Lock, going}
-use Rattle.word_rule.specs.Rule.LockStates.{First, Stands, IsLock, IsLockOf}
+use Rattle.word_rule.specs.Locks.{Lock, going, tickets}
+use Rattle.word_rule.specs.Rule.LockStates.{First, Stands, KeepsOwn, IsLock, IsLockOf}
 use Rattle.word_rule.specs.LockWords.{words_of, lock_words}
 use Rattle.word_rule.proofs.Lists.{has_at, below_of, there_is}
 use Rattle.word_rule.proofs.Stays.{each_moved}
@@ -25,7 +25,6 @@ tied_words n k ws l h = h.words ∙ ap (λ z. words_of z n l) (sym h.kind_is)
 module _ (serving : ℕ) (next : ℕ → Option ℕ) (cpus : List ℕ) (out : Bool) (x : ℕ) where
   -- one that has the object is the first
   pub first_if : (k : LockKind) (q : Stage) → holding q ≡ true → Stands cpus out x k serving next q → First cpus out x true
-  first_if k Torn e s = s
   first_if kinds.Ticket (Ticket (Served t)) e s = s.0
   first_if kinds.Mcs (Mcs Holding) e s = s
   first_if kinds.Mcs (Mcs Alone) e s = s
@@ -34,6 +33,7 @@ module _ (serving : ℕ) (next : ℕ → Option ℕ) (cpus : List ℕ) (out : Bo
   first_if kinds.Ticket (Ticket (Drawn t)) e s = absurd (true≢false (sym e))
   first_if kinds.Mcs (Mcs q) e s = absurd (true≢false (sym e))
   first_if k Idle e s = absurd (true≢false (sym e))
+  first_if k Trying e s = absurd (true≢false (sym e))
   first_if k q e s = absurd s
 
 module _ (k : LockKind) (n : ℕ) (l : Lock) (h : IsLock k n l) where
@@ -70,6 +70,21 @@ module _ (k : LockKind) (n : ℕ) (l : Lock) (h : IsLock k n l) where
       let below = in_cell 0 t.0 t.1 in
       true≢false (sym (has_at l.line.cpus 0 t.0 t.1) ∙ idle_outside t.0 below (all t.0 below)))
 
+  -- and nobody is in line
+  pub idle_empty : ((x : ℕ) → x < n → l.line.stage x ≡ Idle) → l.line.cpus ≡ []
+  idle_empty all = by l.line.cpus refl
+    where
+      by : (cpus : List ℕ) → l.line.cpus ≡ cpus → l.line.cpus ≡ []
+      by [] is = is
+      by (y ∷ ys) is =
+          let there : get_elem? l.line.cpus 0 ≡ some y = ap (λ z. get_elem? z 0) is in
+          let below = in_cell 0 y there in
+          absurd (true≢false (sym (has_at l.line.cpus 0 y there) ∙ idle_outside y below (all y below)))
+
+  -- a ticket lock has fewer CPUs than tickets
+  pub ticket_few : k ≡ kinds.Ticket → n < tickets
+  ticket_few is = let own = subst (λ z. KeepsOwn z n l.serving l.next l.line.cpus) is h.own in own.1
+
   pub line_fits : length l.line.cpus ≤ n
   line_fits = distinct_length n l.line.cpus h.distinct
 
@@ -82,6 +97,3 @@ module _ (k : LockKind) (n : ℕ) (l : Lock) (h : IsLock k n l) where
       stood = each_moved l.line.stage (λ x q. Stands l.line.cpus l.line.out x k l.serving l.next q) n p q s (λ x in_it _. h.stood x in_it);
       own = h.own;
     }
-
-    pub torn : holding (l.line.stage p) ≡ true → IsLock k n (record l { line = going l.line p Torn })
-    torn has_it = restaged Torn (first_holds p below has_it)

@@ -7,16 +7,16 @@ use lib.ListN.{get_elem?}
 use Rattle.word_rule.specs.declared.lock_kind.LockKind.TheVariants as kinds
 use Rattle.word_rule.specs.declared.machine.step_done.StepDone.TheVariants as steps
 use Rattle.word_rule.specs.declared.stage.Stage.{Stage}
-use Rattle.word_rule.specs.declared.stage.Stage.TheVariants.{Idle, Mcs, Torn}
+use Rattle.word_rule.specs.declared.stage.Stage.TheVariants.{Idle, Mcs, Trying}
 use Rattle.word_rule.specs.declared.stage.McsStage.TheVariants.{Ready, Behind, Armed, Waiting, Holding, Alone, Leaving, Passing}
 use Rattle.word_rule.specs.Line.{Line, lined, moved, holding, is_first}
 use Rattle.word_rule.specs.Locks.{Lock, is_linked, last, behind, is_named, follower, going, joining, taking, leaving, opening_lock}
 use Rattle.word_rule.specs.Rule.LockStates.{IsLock, IsLockOf}
 use Rattle.word_rule.specs.LockWords.{word_of, is_armed, locked_by, locked_at}
-use Rattle.word_rule.specs.Tries.{is_empty, taken_by, attempt, attempt_at}
+use Rattle.word_rule.specs.Tries.{is_empty, taken_by, ready, attempt, attempt_at}
 use Rattle.word_rule.specs.Turns.{clear, arm, link, pass, turn, turn_of, mcs_turn}
 use Rattle.word_rule.proofs.Lists.{one_place, first_at}
-use Rattle.word_rule.proofs.LockLaws.{stands_at, in_cell, torn}
+use Rattle.word_rule.proofs.LockLaws.{stands_at, in_cell}
 use Rattle.word_rule.proofs.McsWords as words
 use Rattle.word_rule.proofs.QueueTurns as queue
 use Rattle.word_rule.proofs.Stays.{moved_same, each_moved}
@@ -97,20 +97,30 @@ module _ (n : ℕ) (ws : List ℕ) (l : Lock) (h : IsLockOf kinds.Mcs n ws l) wh
     pub clears : l.line.stage i ≡ Idle → IsLockOf kinds.Mcs n (set ws (1 + i) 0) (clear l i)
     clears e = record { kind_is = h.kind_is; state = queue.clears n l h.state i below e; words = words.next_stored n ws l h.words (clear l i) i None below refl refl (locked_going l.line n i Idle (Mcs Ready) e refl) }
 
-    pub enters_first : l.line.stage i ≡ Mcs Ready → last l.line.cpus ≡ None → IsLockOf kinds.Mcs n (set ws 0 (i + 1)) (record l { line = lined (i ∷ []) true l.line.stage i (Mcs Holding) })
-    enters_first e none =
+    pub readies : l.line.stage i ≡ Idle → IsLockOf kinds.Mcs n (set ws (1 + i) 0) (ready l i)
+    readies e = record { kind_is = h.kind_is; state = queue.readies n l h.state i below e; words = words.next_stored n ws l h.words (ready l i) i None below refl refl (locked_going l.line n i Idle Trying e refl) }
+
+    -- one that isn't armed enters an empty queue
+    enters_free : (q : Stage) → l.line.stage i ≡ q → 0 ≡ locked_by q i l.line.cpus → l.next i ≡ None → last l.line.cpus ≡ None → IsLockOf kinds.Mcs n (set ws 0 (i + 1)) (record l { line = lined (i ∷ []) true l.line.stage i (Mcs Holding) })
+    enters_free q e free clear none =
         let empty = queue.no_last l.line.cpus none in
         record {
           kind_is = h.kind_is;
-          state = queue.enters_first n l h.state i below e none;
+          state = queue.enters_first n l h.state i below clear none;
           words = words.tail_stored n ws l h.words (record l { line = lined (i ∷ []) true l.line.stage i (Mcs Holding) }) (i + 1) refl refl
-              (words.locked_moved l.line.stage n i (Mcs Holding) l.line.cpus (i ∷ []) (ap (λ z. locked_by z i l.line.cpus) (sym e))
+              (words.locked_moved l.line.stage n i (Mcs Holding) l.line.cpus (i ∷ []) (free ∙ ap (λ z. locked_by z i l.line.cpus) (sym e))
               (λ x _ ne. locked_alike (l.line.stage x) x (i ∷ []) l.line.cpus (ne_eqb i x (λ is. ne (sym is))) (ap (is_first x) empty)));
         }
 
+    pub enters_first : l.line.stage i ≡ Mcs Ready → last l.line.cpus ≡ None → IsLockOf kinds.Mcs n (set ws 0 (i + 1)) (record l { line = lined (i ∷ []) true l.line.stage i (Mcs Holding) })
+    enters_first e none = enters_free (Mcs Ready) e refl (queue.ready_clear n l h.state i below e) none
+
+    pub tries_enter : l.line.stage i ≡ Trying → last l.line.cpus ≡ None → IsLockOf kinds.Mcs n (set ws 0 (i + 1)) (taken_by l i (Mcs Holding))
+    tries_enter e none = enters_free Trying e refl (queue.trying_clear n l h.state i below e) none
+
     -- one that doesn't get the object by its try is idle again
-    pub gives_up : l.line.stage i ≡ Mcs Ready → IsLockOf kinds.Mcs n ws (record l { line = going l.line i Idle })
-    gives_up e = read (record l { line = going l.line i Idle }) refl (queue.gives_up n l h.state i below e) refl refl (locked_going l.line n i (Mcs Ready) Idle e refl)
+    pub gives_up : l.line.stage i ≡ Trying → IsLockOf kinds.Mcs n ws (record l { line = going l.line i Idle })
+    gives_up e = read (record l { line = going l.line i Idle }) refl (queue.gives_up n l h.state i below e) refl refl (locked_going l.line n i Trying Idle e refl)
 
     pub enters_behind : (p : ℕ) → l.line.stage i ≡ Mcs Ready → last l.line.cpus ≡ Some p → IsLockOf kinds.Mcs n (set ws 0 (i + 1)) (record l { line = joining l.line i (Mcs (Behind p)) })
     enters_behind p e there = record {
@@ -239,30 +249,20 @@ module _ (n : ℕ) (ws : List ℕ) (l : Lock) (h : IsLockOf kinds.Mcs n ws l) wh
               (λ x _ ne other. locked_alike (l.line.stage x) x (behind l.line.cpus) l.line.cpus (ap (λ c. is_first x (behind c)) r.1 ∙ ne_eqb j x (λ is. other (sym is))) (ap (is_first x) r.1 ∙ ne_eqb i x (λ is. ne (sym is)))));
         }
 
--- one that has the object isn't locked, so no word says where it stands
-pub mcs_torn : (n : ℕ) (ws : List ℕ) (l : Lock) → IsLockOf kinds.Mcs n ws l → (p : ℕ) → p < n → holding (l.line.stage p) ≡ true → IsLockOf kinds.Mcs n ws (record l { line = going l.line p Torn })
-mcs_torn n ws l h p below has_it = record {
-  kind_is = h.kind_is;
-  state = torn kinds.Mcs n l h.state p below has_it;
-  words = words.words_stay n ws l h.words (record l { line = going l.line p Torn }) refl refl (words.locked_moved l.line.stage n p Torn l.line.cpus l.line.cpus (by (l.line.stage p) has_it) (λ x _ _. refl));
-}
-  where
-    by : (q : Stage) → holding q ≡ true → 0 ≡ locked_by q p l.line.cpus
-    by (Mcs (Armed k)) e = absurd (true≢false (sym e))
-    by (Mcs Waiting) e = absurd (true≢false (sym e))
-    by q e = refl
-
 -- a try that finds nobody in the queue, and one that doesn't
 module _ (l : Lock) (i t : ℕ) (kind : l.kind ≡ kinds.Mcs) where
-  pub tries_first : last l.line.cpus ≡ None → attempt l i t ≡ taken_by l i (Mcs Holding)
-  tries_first none = ap (λ k. attempt_at k l i t) kind ∙ ap (λ cpus. cond (is_empty cpus) (taken_by l i (Mcs Holding)) (record l { line = going l.line i Idle })) (queue.no_last l.line.cpus none)
+  tried : (cpus : List ℕ) → l.line.cpus ≡ cpus → attempt l i t ≡ cond (is_empty cpus) (taken_by l i (Mcs Holding), steps.Clear ∷ steps.Enter true ∷ []) (record l { line = going l.line i Idle }, [])
+  tried cpus is = ap (λ k. attempt_at k l i t) kind ∙ ap (λ z. cond (is_empty z) (taken_by l i (Mcs Holding), steps.Clear ∷ steps.Enter true ∷ []) (record l { line = going l.line i Idle }, [])) is
 
-  pub tries_busy : (p : ℕ) → last l.line.cpus ≡ Some p → attempt l i t ≡ record l { line = going l.line i Idle }
-  tries_busy p there = ap (λ k. attempt_at k l i t) kind ∙ by l.line.cpus there
+  pub tries_first : last l.line.cpus ≡ None → attempt l i t ≡ (taken_by l i (Mcs Holding), steps.Clear ∷ steps.Enter true ∷ [])
+  tries_first none = tried [] (queue.no_last l.line.cpus none)
+
+  pub tries_busy : (p : ℕ) → last l.line.cpus ≡ Some p → attempt l i t ≡ (record l { line = going l.line i Idle }, [])
+  tries_busy p there = by l.line.cpus refl there
     where
-      by : (cpus : List ℕ) → last cpus ≡ Some p → cond (is_empty cpus) (taken_by l i (Mcs Holding)) (record l { line = going l.line i Idle }) ≡ record l { line = going l.line i Idle }
-      by [] e = cc
-      by (x ∷ xs) e = refl
+      by : (cpus : List ℕ) → l.line.cpus ≡ cpus → last cpus ≡ Some p → attempt l i t ≡ (record l { line = going l.line i Idle }, [])
+      by [] is e = cc
+      by (x ∷ xs) is e = tried (x ∷ xs) is
 
 -- an MCS lock before the first step, and its words
 pub starts_mcs : (n first : ℕ) (ws : List ℕ) → ws ≡ replicate (1 + 2 * n) 0 → IsLockOf kinds.Mcs n ws (opening_lock kinds.Mcs first)

@@ -8,18 +8,18 @@ use Rattle.atomic_table.proofs.Lists.{at_set}
 use Rattle.event_log.specs.declared.object.SeqObject.{Ghosts}
 use Rattle.event_log.specs.Distinct.{has}
 use Rattle.word_rule.specs.declared.lock_kind.LockKind.{LockKind}
-use Rattle.word_rule.specs.declared.stage.Stage.TheVariants.{Idle, Torn}
+use Rattle.word_rule.specs.declared.stage.Stage.TheVariants.{Idle}
 use Rattle.word_rule.specs.Cell.{Cell}
 use Rattle.word_rule.specs.Line.{holding}
-use Rattle.word_rule.specs.Locks.{Lock, going}
 use Rattle.word_rule.specs.Rule.LockStates.{IsLockOf}
 use Rattle.word_rule.specs.Rule.CellInvariant.{GhostState, Caller, Viewed, Table, EachFrom, CallerInvariant, SeatInvariant, CellInvariant}
-use Rattle.word_rule.specs.Rule.Seats.{Seat, with_stage, settled, taken_in, idle, behind_first, first_or_none, spent, keeping, letting, merged}
+use Rattle.word_rule.specs.Rule.Seats.{Seat, settled, taken_in, idle, behind_first, first_or_none, spent, keeping, letting, merged}
 use Rattle.word_rule.specs.Rule.Announced.{meets, joins, tears, clashes}
 use Rattle.word_rule.proofs.Lists.{each_map, has_append, at_snoc_at, grows_self}
 use Rattle.word_rule.proofs.Stays.{seats_stay, show_each, torn}
 use Rattle.word_rule.proofs.Known.{all_idle, learned}
 use Rattle.word_rule.proofs.LockLaws.{one_holds, object_out}
+use Rattle.word_rule.proofs.RunLists.{extends_self}
 
 -- a caller of the seat `other` is the second of the seat id
 abbrev into : ℕ → ℕ → ℕ × ℕ → ℕ × ℕ
@@ -59,7 +59,7 @@ together_there id k = let Q : Bool → Type 0 = λ t. ◌≡◌ {A = ℕ × ℕ}
 module _ {O P C R : Type 0} where
   -- the callers stand at other places of the seats
   abbrev pub renamed : GhostState O P C R → (ℕ × ℕ → ℕ × ℕ) → GhostState O P C R
-  renamed b f = record { committed = b.committed; lock = b.lock; owner = λ x. f (b.owner x) }
+  renamed b f = record { committed = b.committed; run = b.run; lock = b.lock; owner = λ x. f (b.owner x) }
 
 module _ {O P C R : Type 0} (meaning : Ghosts O P C R) (kind : LockKind) (h : Cell O P C R) where
   abbrev pub Rule : Table O P C R → Type 0
@@ -78,16 +78,18 @@ module _ {O P C R : Type 0} (meaning : Ghosts O P C R) (kind : LockKind) (h : Ce
   rename b f j k j' k' c e s = record {
     owns = λ x hx. let o = s.owns x hx in (ap f o.0 ∙ e, o.1);
     grows = s.grows;
+    extends = s.extends;
     stands = s.stands;
     whole = s.whole;
     rests = s.rests;
     finds = s.finds;
   }
 
-  blank_known : (b : GhostState O P C R) (j : ℕ) → K b j 0 (idle 0 [] [])
+  blank_known : (b : GhostState O P C R) (j : ℕ) → K b j 0 (idle 0 [] [] [])
   blank_known b j = record {
     owns = λ x hx. absurd (true≢false (sym hx));
     grows = record { begins = record { start = refl }; own = λ x hx. absurd (true≢false (sym hx)) };
+    extends = record { begins = record { start = refl }; own = λ x hx. absurd (true≢false (sym hx)) };
     stands = λ hx. absurd (true≢false (sym hx));
     whole = λ hx _. absurd (true≢false (sym hx));
     rests = λ x hx _. absurd (true≢false (sym hx));
@@ -114,6 +116,8 @@ module _ {O P C R : Type 0} (meaning : Ghosts O P C R) (kind : LockKind) (h : Ce
       record {
         state = b';
         tied = r.tied;
+        ran = r.ran;
+        made = r.made;
         lawful = r.lawful;
         at_home = r.at_home;
         each = λ j u e. ⊎_elim {0, 0, 0}
@@ -155,6 +159,8 @@ module _ {O P C R : Type 0} (meaning : Ghosts O P C R) (kind : LockKind) (h : Ce
       record {
         state = b';
         tied = r.tied;
+        ran = r.ran;
+        made = r.made;
         lawful = r.lawful;
         at_home = r.at_home;
         each = λ j u e. ⊎_elim {0, 0, 0}
@@ -179,15 +185,17 @@ module _ {O P C R : Type 0} (meaning : Ghosts O P C R) (kind : LockKind) (h : Ce
       let b = r.state in
       let v : V = me.0 in
       let mine = r.each id v there in (
-        settled v v.main.stage b.committed,
+        settled v v.main.stage b.committed b.run,
         keeps,
         tt,
         record {
           state = b;
           tied = subst (λ (ws : List ℕ). IsLockOf kind h.numbers ws b.lock) (sym (set-get_or s.words i 0)) r.tied;
+          ran = r.ran;
+          made = r.made;
           lawful = r.lawful;
           at_home = r.at_home;
-          each = seats_stay h b b s.views id (settled v v.main.stage b.committed)
+          each = seats_stay h b b s.views id (settled v v.main.stage b.committed b.run)
               record {
                 told = mine.told;
                 main = let k = show_each h b id 0 (v.main ∷ []) (mine.main, tt) in k.0;
@@ -195,12 +203,12 @@ module _ {O P C R : Type 0} (meaning : Ghosts O P C R) (kind : LockKind) (h : Ce
               }
               (λ j k c _ z. z) r.each;
         },
-        (b.committed, refl, learned meaning kind h b id v r.lawful mine),
+        record { log = b.committed; run = b.run; seat = refl; learns = learned meaning kind h b id v r.lawful r.ran mine },
       )
 
-  merged_known : (b : GhostState O P C R) (id : ℕ) (v : V) (c : Caller O P C R) → v.others ≡ c ∷ [] → v.main.stage ≡ Idle → c.stage ≡ Idle → All b id v → All (renamed b (together id)) id (merged v b.committed)
+  merged_known : (b : GhostState O P C R) (id : ℕ) (v : V) (c : Caller O P C R) → v.others ≡ c ∷ [] → v.main.stage ≡ Idle → c.stage ≡ Idle → All b id v → All (renamed b (together id)) id (merged v b.committed b.run)
   merged_known b id v c is rests c_rests mine =
-      let Q : List (Caller O P C R) → Type 0 = λ l. All (renamed b (together id)) id record { told = v.told; main = idle (min v.main.cpu (first_or_none l).cpu) (v.main.owned ++ (first_or_none l).owned) b.committed; others = [] } in
+      let Q : List (Caller O P C R) → Type 0 = λ l. All (renamed b (together id)) id record { told = v.told; main = idle (min v.main.cpu (first_or_none l).cpu) (v.main.owned ++ (first_or_none l).owned) b.committed b.run; others = [] } in
       let k = (subst (λ (l : List (Caller O P C R)). EachFrom (K b id) 1 l) is mine.others).0 in
       let all : (x : ℕ) → has x (v.main.owned ++ c.owned) ≡ true → b.lock.line.stage x ≡ Idle = λ x hx. ⊎_elim {0, 0, 0} (all_idle h.numbers b id 0 v.main mine.main rests x) (all_idle h.numbers b id 1 c k c_rests x) (has_append x v.main.owned c.owned hx) in
       subst Q (sym is) record {
@@ -211,6 +219,7 @@ module _ {O P C R : Type 0} (meaning : Ghosts O P C R) (kind : LockKind) (h : Ce
               (λ hc. let o = k.owns x hc in (ap (together id) o.0 ∙ together_there id 1, o.1))
               (has_append x v.main.owned c.owned hx);
           grows = grows_self (λ x. has x (v.main.owned ++ c.owned)) b.committed;
+          extends = extends_self (λ x. has x (v.main.owned ++ c.owned)) b.run;
           stands = λ acts. all (min v.main.cpu c.cpu) acts;
           whole = λ _ _. refl;
           rests = λ x hx _. all x hx;
@@ -231,39 +240,34 @@ module _ {O P C R : Type 0} (meaning : Ghosts O P C R) (kind : LockKind) (h : Ce
       let b = r.state in
       let v : V = me.0 in
       let mine = r.each id v there in (
-        merged v b.committed,
+        merged v b.committed b.run,
         keeps,
         tt,
         record {
           state = renamed b (together id);
           tied = subst (λ (ws : List ℕ). IsLockOf kind h.numbers ws b.lock) (sym (set-get_or s.words i 0)) r.tied;
+          ran = r.ran;
+          made = r.made;
           lawful = r.lawful;
           at_home = r.at_home;
-          each = others_stay b (renamed b (together id)) s.views id (merged v b.committed) (merged_known b id v c is rests c_rests mine)
+          each = others_stay b (renamed b (together id)) s.views id (merged v b.committed b.run) (merged_known b id v c is rests c_rests mine)
               (λ j u away. elsewhere b (together id) j u (λ k. together_else id j k away)) r.each;
         },
-        (b.committed, refl, learned meaning kind h b id v r.lawful mine),
+        record { log = b.committed; run = b.run; seat = refl; learns = learned meaning kind h b id v r.lawful r.ran mine },
       )
 
   -- a holder gives its slot back with no end of the hold
-  pub tearing : (slots id : ℕ) (me : Seat O P C R) (i : ℕ) → has me.0.main.cpu me.0.main.owned ≡ true → holding me.0.main.stage ≡ true → me.1 ≡ (0, None) ∷ []
-      → ((ws : List ℕ) (l : Lock) → IsLockOf kind h.numbers ws l → me.0.main.cpu < h.numbers → holding (l.line.stage me.0.main.cpu) ≡ true → IsLockOf kind h.numbers ws (record l { line = going l.line me.0.main.cpu Torn }))
-      → Allows Rule slots id me i (λ k. k) (tears (step slots i 0 0 none) me)
-  tearing slots id me i acts holds carries moves s r len there small =
-      let b = r.state in
-      let l = b.lock in
+  pub tearing : (slots id : ℕ) (me : Seat O P C R) (i : ℕ) → has me.0.main.cpu me.0.main.owned ≡ true → holding me.0.main.stage ≡ true → me.1 ≡ (0, None) ∷ [] → Allows Rule slots id me i (λ k. k) (tears (step slots i 0 0 none) me)
+  tearing slots id me i acts holds carries s r len there small =
       let v : V = me.0 in
-      let p : ℕ = v.main.cpu in
       let mine = r.each id v there in
-      let below = (mine.main.owns p acts).1 in
-      let has_it = ap holding (mine.main.stands acts) ∙ holds in
-      let l' : Lock = record l { line = going l.line p Torn } in
-      let tied = subst (λ (ws : List ℕ). IsLockOf kind h.numbers ws l') (sym (set-get_or s.words i 0)) (moves s.words l r.tied below has_it) in (
-        with_stage v Torn,
+      let below = (mine.main.owns v.main.cpu acts).1 in
+      let has_it = ap holding (mine.main.stands acts) ∙ holds in (
+        v,
         gives,
         tt,
-        torn meaning kind h s r i (get_or s.words i 0) id v me.1 l' Torn refl (object_out kind h.numbers l r.tied.state p below has_it) there acts (λ _. mine.main.whole acts holds) tied,
-        λ z. (with_stage v Torn, rest (carries z)),
+        torn meaning kind h s r i id v me.1 (object_out kind h.numbers r.state.lock r.tied.state v.main.cpu below has_it) there,
+        λ z. (v, rest (carries z)),
       )
 
   -- two holders of one cell can't be

@@ -31,7 +31,7 @@ LineAfter steps.Link i old new = new ≡ old
 LineAfter (steps.See b) i old new = new ≡ old
 
 -- one step at the front of a run
-order_here : (s : StepDone) (i : ℕ) (old new ended arrived line : List ℕ) → LineAfter s i old new → ended ++ line ≡ new ++ arrived
+pub order_here : (s : StepDone) (i : ℕ) (old new ended arrived line : List ℕ) → LineAfter s i old new → ended ++ line ≡ new ++ arrived
     → cond (ends_hold s && true) (i ∷ ended) ended ++ line ≡ old ++ cond (arrives s && true) (i ∷ arrived) arrived
 order_here steps.Draw i old new ended arrived line a e = e ∙ ap (λ l. l ++ arrived) a ∙ append_assoc old (i ∷ []) arrived
 order_here (steps.Enter b) i old new ended arrived line a e = e ∙ ap (λ l. l ++ arrived) a ∙ append_assoc old (i ∷ []) arrived

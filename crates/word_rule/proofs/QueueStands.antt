@@ -7,7 +7,7 @@ use Rattle.event_log.specs.Distinct.{has}
 use Rattle.event_log.proofs.Distinct.{has_push}
 use Rattle.word_rule.specs.declared.lock_kind.LockKind.TheVariants as kinds
 use Rattle.word_rule.specs.declared.stage.Stage.{Stage}
-use Rattle.word_rule.specs.declared.stage.Stage.TheVariants.{Idle, Mcs, Torn}
+use Rattle.word_rule.specs.declared.stage.Stage.TheVariants.{Idle, Mcs, Trying}
 use Rattle.word_rule.specs.declared.stage.McsStage.TheVariants.{Ready, Behind, Armed, Waiting, Holding, Alone, Leaving, Passing}
 use Rattle.word_rule.specs.Locks.{naming, is_linked}
 use Rattle.word_rule.specs.Rule.LockStates.{First, Follows, Stands}
@@ -44,7 +44,7 @@ module _ (next next' : ℕ → Option ℕ) (cpus cpus' : List ℕ) (out out' : B
   carried c serving (Mcs Alone) s = c.first true s
   carried c serving (Mcs Leaving) s = (c.first true s.0, c.longer s.0 s.1)
   carried c serving (Mcs (Passing j)) s = let t = c.second j s.0 s.1 s.2 in (c.first true s.0, t.0, t.1)
-  carried c serving Torn s = c.first true s
+  carried c serving Trying s = (c.apart s.0, c.ready s.0 ∙ s.1)
   carried c serving q s = absurd s
 
 -- a `next` changes, and none that says where x stands
@@ -165,5 +165,5 @@ module _ (next : ℕ → Option ℕ) (cpus : List ℕ) (out : Bool) (x : ℕ) wh
   stands_in serving (Mcs Alone) e s = inl (true, s)
   stands_in serving (Mcs Leaving) e s = inl (true, s.0)
   stands_in serving (Mcs (Passing j)) e s = inl (true, s.0)
-  stands_in serving Torn e s = inl (true, s)
+  stands_in serving Trying e s = absurd (true≢false (sym e ∙ s.0))
   stands_in serving q e s = absurd s

@@ -10,11 +10,12 @@ use Rattle.event_log.specs.Distinct.{has, AreDistinctBelow}
 use Rattle.event_log.proofs.Distinct.{distinct_push}
 use Rattle.word_rule.specs.declared.lock_kind.LockKind.TheVariants as kinds
 use Rattle.word_rule.specs.declared.stage.Stage.{Stage}
-use Rattle.word_rule.specs.declared.stage.Stage.TheVariants.{Idle, Mcs}
+use Rattle.word_rule.specs.declared.stage.Stage.TheVariants.{Idle, Mcs, Trying}
 use Rattle.word_rule.specs.declared.stage.McsStage.TheVariants.{Ready, Behind, Armed, Waiting, Holding, Alone, Leaving, Passing}
 use Rattle.word_rule.specs.Line.{holding, is_first, lined}
 use Rattle.word_rule.specs.Locks.{Lock, last, last_from, is_named, second, behind, if_linked, is_linked, follower, going, joining, taking, leaving, naming}
 use Rattle.word_rule.specs.Rule.LockStates.{First, Follows, Stands, IsLock}
+use Rattle.word_rule.specs.Tries.{ready}
 use Rattle.word_rule.specs.Turns.{clear, arm, link, pass}
 use Rattle.word_rule.proofs.Lists.{has_at, at_below, one_place, one_at, not_at, there_is, two_are, one_is, first_at, at_first}
 use Rattle.word_rule.proofs.LockLaws.{stands_at, first_holds, in_cell, idle_outside, restaged}
@@ -88,42 +89,59 @@ module _ (n : ℕ) (l : Lock) (h : IsLock kinds.Mcs n l) where
     abbrev here : (q : Stage) → l.line.stage i ≡ q → Stands l.line.cpus l.line.out i kinds.Mcs l.serving l.next q
     here q e = stands_at kinds.Mcs n l h i q below e
 
-    pub clears : l.line.stage i ≡ Idle → IsLock kinds.Mcs n (clear l i)
-    clears e =
+    -- one that is idle clears its `next`, and stands where only that is asked for
+    clears_to : (q : Stage) → ((next : ℕ → Option ℕ) → has i l.line.cpus ≡ false → next i ≡ None → Stands l.line.cpus l.line.out i kinds.Mcs l.serving next q) → l.line.stage i ≡ Idle → IsLock kinds.Mcs n (record l { line = going l.line i q; next = naming l.next i None })
+    clears_to to there e =
         let outside = idle_outside kinds.Mcs n l h i below e in
         let queued : (k y : ℕ) → get_elem? l.line.cpus k ≡ some y → naming l.next i None y ≡ l.next y = λ k y there. naming_else l.next i None y (λ is. not_at l.line.cpus k i y outside there (sym is)) in
         record {
           distinct = h.distinct;
           busy = h.busy;
-          stood = each_moved l.line.stage (λ x q. Stands l.line.cpus l.line.out x kinds.Mcs l.serving (naming l.next i None) q) n i (Mcs Ready)
-              (outside, naming_same l.next i None)
+          stood = each_moved l.line.stage (λ x q. Stands l.line.cpus l.line.out x kinds.Mcs l.serving (naming l.next i None) q) n i to
+              (there (naming l.next i None) outside (naming_same l.next i None))
               (λ x in_it ne. other_next l.next (naming l.next i None) l.line.cpus l.line.out x (λ k y there _. queued k y there) (λ _. naming_else l.next i None x ne) (λ _ _. naming_else l.next i None x ne) l.serving (l.line.stage x) (h.stood x in_it));
           own = λ p e. let t = last_at l.line.cpus p e in queued t.0 p t.1 ∙ h.own p e;
         }
+
+    pub clears : l.line.stage i ≡ Idle → IsLock kinds.Mcs n (clear l i)
+    clears = clears_to (Mcs Ready) (λ _ outside named. (outside, named))
+
+    pub readies : l.line.stage i ≡ Idle → IsLock kinds.Mcs n (ready l i)
+    readies = clears_to Trying (λ _ outside named. (outside, named))
 
     -- where nobody is last, the object is at home
     pub nobody_home : last l.line.cpus ≡ None → l.line.out ≡ false
     nobody_home none = false_from_ne_true l.line.out (λ o. let some_one = h.busy o in let long : length l.line.cpus ≡ 0 = ap length (no_last l.line.cpus none) in absurd (omega arith))
 
-    pub enters_first : l.line.stage i ≡ Mcs Ready → last l.line.cpus ≡ None → IsLock kinds.Mcs n (record l { line = lined (i ∷ []) true l.line.stage i (Mcs Holding) })
-    enters_first e none =
+    pub enters_first : l.next i ≡ None → last l.line.cpus ≡ None → IsLock kinds.Mcs n (record l { line = lined (i ∷ []) true l.line.stage i (Mcs Holding) })
+    enters_first clear none =
         let empty : l.line.cpus ≡ [] = no_last l.line.cpus none in
-        let s = here (Mcs Ready) e in
         record {
           distinct = (below, refl, tt);
           busy = λ _. omega arith;
           stood = each_moved l.line.stage (λ x q. Stands (i ∷ []) true x kinds.Mcs l.serving l.next q) n i (Mcs Holding)
               record { there = refl; object = refl }
               (λ x in_it ne. first_queue l.next l.line.out true x i ne l.serving (l.line.stage x) (subst (λ (cpus : List ℕ). Stands cpus l.line.out x kinds.Mcs l.serving l.next (l.line.stage x)) empty (h.stood x in_it)));
-          own = λ p e. let same : i ≡ p = cc in subst (λ (z : ℕ). l.next z ≡ None) same s.1;
+          own = λ p e. let same : i ≡ p = cc in subst (λ (z : ℕ). l.next z ≡ None) same clear;
         }
+
+    -- what one has cleared names nobody
+    pub ready_clear : l.line.stage i ≡ Mcs Ready → l.next i ≡ None
+    ready_clear e = let s = here (Mcs Ready) e in s.1
+
+    pub trying_clear : l.line.stage i ≡ Trying → l.next i ≡ None
+    trying_clear e = let s = here Trying e in s.1
+
+    -- the one that is last is another than one that readies a try
+    pub trying_last : (p : ℕ) → l.line.stage i ≡ Trying → last l.line.cpus ≡ Some p → p ≢ i
+    trying_last p e there is = let s = here Trying e in true≢false (sym (last_in p there).0 ∙ (ap (λ z. has z l.line.cpus) is ∙ s.0))
 
     -- the one that is last is another than one that isn't in the queue yet
     pub other_last : (p : ℕ) → l.line.stage i ≡ Mcs Ready → last l.line.cpus ≡ Some p → p ≢ i
     other_last p e there is = let s = here (Mcs Ready) e in true≢false (sym (last_in p there).0 ∙ (ap (λ z. has z l.line.cpus) is ∙ s.0))
 
-    pub gives_up : l.line.stage i ≡ Mcs Ready → IsLock kinds.Mcs n (record l { line = going l.line i Idle })
-    gives_up e = let s = stands_at kinds.Mcs n l h i (Mcs Ready) below e in restaged kinds.Mcs n l h i below Idle s.0
+    pub gives_up : l.line.stage i ≡ Trying → IsLock kinds.Mcs n (record l { line = going l.line i Idle })
+    gives_up e = let s = here Trying e in restaged kinds.Mcs n l h i below Idle s.0
 
     pub enters_behind : (p : ℕ) → l.line.stage i ≡ Mcs Ready → last l.line.cpus ≡ Some p → IsLock kinds.Mcs n (record l { line = joining l.line i (Mcs (Behind p)) })
     enters_behind p e there =

@@ -10,7 +10,7 @@ use Rattle.event_log.proofs.Distinct.{distinct_push, has_push}
 use Rattle.word_rule.specs.declared.lock_kind.LockKind.TheVariants as kinds
 use Rattle.word_rule.specs.declared.machine.step_done.StepDone.TheVariants as steps
 use Rattle.word_rule.specs.declared.stage.Stage.{Stage}
-use Rattle.word_rule.specs.declared.stage.Stage.TheVariants.{Idle, Ticket, Torn}
+use Rattle.word_rule.specs.declared.stage.Stage.TheVariants.{Idle, Ticket, Trying}
 use Rattle.word_rule.specs.declared.stage.TicketStage.TheVariants.{Drawn, Served}
 use Rattle.word_rule.specs.Line.{holding, is_first}
 use Rattle.word_rule.specs.LockWords.{ticket_word}
@@ -39,14 +39,14 @@ module _ (next : ℕ → Option ℕ) where
   stands_longer cpus out serving x p ne Idle s = has_push x p cpus s ne
   stands_longer cpus out serving x p ne (Ticket (Drawn t)) s = record { at = s.at; there = at_longer cpus (p ∷ []) s.at x s.there; drawn = s.drawn; home = s.home }
   stands_longer cpus out serving x p ne (Ticket (Served t)) s = (record { there = at_longer cpus (p ∷ []) 0 x s.0.there; object = s.0.object }, s.1)
-  stands_longer cpus out serving x p ne Torn s = record { there = at_longer cpus (p ∷ []) 0 x s.there; object = s.object }
+  stands_longer cpus out serving x p ne Trying s = (has_push x p cpus s.0 ne, s.1)
   stands_longer cpus out serving x p ne q s = absurd s
 
   stands_taken : (cpus : List ℕ) (serving x p : ℕ) → x ≢ p → get_elem? cpus 0 ≡ some p → (q : Stage) → Stands cpus false x kinds.Ticket serving next q → Stands cpus true x kinds.Ticket serving next q
   stands_taken cpus serving x p ne head Idle s = s
   stands_taken cpus serving x p ne head (Ticket (Drawn t)) s = record { at = s.at; there = s.there; drawn = s.drawn; home = λ e. absurd (ne (some-injective x p (sym (subst (λ (k : ℕ). get_elem? cpus k ≡ some x) e s.there) ∙ head))) }
   stands_taken cpus serving x p ne head (Ticket (Served t)) s = absurd (true≢false (sym s.0.object))
-  stands_taken cpus serving x p ne head Torn s = absurd (true≢false (sym s.object))
+  stands_taken cpus serving x p ne head Trying s = s
   stands_taken cpus serving x p ne head q s = absurd s
 
   further : (serving x p : ℕ) (rest : List ℕ) (t at : ℕ) → x ≢ p → get_elem? (p ∷ rest) at ≡ some x → t ≡ (serving + at) % tickets → Waits rest false x ((serving + 1) % tickets) t
@@ -57,7 +57,7 @@ module _ (next : ℕ → Option ℕ) where
   stands_served out serving x p rest ne Idle s = has_tail x p rest s
   stands_served out serving x p rest ne (Ticket (Drawn t)) s = further serving x p rest t s.at ne s.there s.drawn
   stands_served out serving x p rest ne (Ticket (Served t)) s = absurd (ne (sym (some-injective p x s.0.there)))
-  stands_served out serving x p rest ne Torn s = absurd (ne (sym (some-injective p x s.there)))
+  stands_served out serving x p rest ne Trying s = (has_tail x p rest s.0, s.1)
   stands_served out serving x p rest ne q s = absurd s
 
   -- with nobody in line all are idle, and stay so beside one that comes
@@ -65,7 +65,7 @@ module _ (next : ℕ → Option ℕ) where
   stands_beside out serving x p ne Idle s = ap (λ (b : Bool). b || false) (ne_eqb p x (λ is. ne (sym is)))
   stands_beside out serving x p ne (Ticket (Drawn t)) s = absurd (some-ne-none x (sym s.there))
   stands_beside out serving x p ne (Ticket (Served t)) s = absurd (some-ne-none x (sym s.0.there))
-  stands_beside out serving x p ne Torn s = absurd (some-ne-none x (sym s.there))
+  stands_beside out serving x p ne Trying s = (ap (λ (b : Bool). b || false) (ne_eqb p x (λ is. ne (sym is))), s.1)
   stands_beside out serving x p ne q s = absurd s
 
 none_there : (xs : List ℕ) → length xs ≡ 0 → xs ≡ []
@@ -259,13 +259,13 @@ module _ (n : ℕ) (ws : List ℕ) (l : Lock) (h : IsLockOf kinds.Ticket n ws l)
 
 -- a try that finds nobody in line and its ticket served, and one that doesn't
 module _ (l : Lock) (i t : ℕ) (kind : l.kind ≡ kinds.Ticket) where
-  tried : (b : Bool) → (is_empty l.line.cpus && l.serving == t) ≡ b → attempt l i t ≡ cond b (taken_by l i (Ticket (Served t))) l
-  tried b is = ap (λ k. attempt_at k l i t) kind ∙ ap (λ (c : Bool). cond c (taken_by l i (Ticket (Served t))) l) is
+  tried : (b : Bool) → (is_empty l.line.cpus && l.serving == t) ≡ b → attempt l i t ≡ cond b (taken_by l i (Ticket (Served t)), steps.Draw ∷ steps.Look true ∷ []) (l, [])
+  tried b is = ap (λ k. attempt_at k l i t) kind ∙ ap (λ (c : Bool). cond c (taken_by l i (Ticket (Served t)), steps.Draw ∷ steps.Look true ∷ []) (l, [])) is
 
-  pub succeeds : l.line.cpus ≡ [] → l.serving ≡ t → attempt l i t ≡ taken_by l i (Ticket (Served t))
+  pub succeeds : l.line.cpus ≡ [] → l.serving ≡ t → attempt l i t ≡ (taken_by l i (Ticket (Served t)), steps.Draw ∷ steps.Look true ∷ [])
   succeeds none served = tried true (ap (λ z. is_empty z && l.serving == t) none ∙ eq-eqb l.serving t served)
 
-  pub fails : (l.line.cpus ≡ [] → l.serving ≡ t → ⊥) → attempt l i t ≡ l
+  pub fails : (l.line.cpus ≡ [] → l.serving ≡ t → ⊥) → attempt l i t ≡ (l, [])
   fails not = tried false (false_from_ne_true (is_empty l.line.cpus && l.serving == t) (λ e. both l.line.cpus refl e))
     where
       both : (cpus : List ℕ) → l.line.cpus ≡ cpus → (is_empty l.line.cpus && l.serving == t) ≡ true → ⊥

@@ -52,7 +52,7 @@ module _ (n : ℕ) (l : Lock) (i : ℕ) (below : i < n) where
   ticket_goes kind h q e = stays kinds.Ticket steps.Idle h refl
 
   enter_goes : IsLock kinds.Mcs n l → l.line.stage i ≡ Mcs Ready → (o : Option ℕ) → last l.line.cpus ≡ o → Goes kinds.Mcs n l i (enter l i o)
-  enter_goes h e None f = record { state = queue.enters_first n l h i below e f; line = ap (λ cpus. cpus ++ i ∷ []) (sym (queue.no_last l.line.cpus f)); kind = refl }
+  enter_goes h e None f = record { state = queue.enters_first n l h i below (queue.ready_clear n l h i below e) f; line = ap (λ cpus. cpus ++ i ∷ []) (sym (queue.no_last l.line.cpus f)); kind = refl }
   enter_goes h e (Some p) f = record { state = queue.enters_behind n l h i below p e f; line = refl; kind = refl }
 
   look_goes : IsLock kinds.Mcs n l → l.line.stage i ≡ Mcs Waiting → Goes kinds.Mcs n l i (look l i (Mcs Holding))

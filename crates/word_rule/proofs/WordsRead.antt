@@ -31,6 +31,8 @@ module _ {O P C R : Type 0} (meaning : Ghosts O P C R) (kind : LockKind) (h : Ce
       record {
         state = b;
         tied = subst (λ (ws : List ℕ). IsLockOf kind h.numbers ws b.lock) (sym (set-get_or s.words 0 0)) r.tied;
+        ran = r.ran;
+        made = r.made;
         lawful = r.lawful;
         at_home = r.at_home;
         each = seats_stay h b b s.views id (noted v found)
@@ -39,6 +41,7 @@ module _ {O P C R : Type 0} (meaning : Ghosts O P C R) (kind : LockKind) (h : Ce
               main = record {
                 owns = mine.main.owns;
                 grows = mine.main.grows;
+                extends = mine.main.extends;
                 stands = mine.main.stands;
                 whole = mine.main.whole;
                 rests = mine.main.rests;

@@ -1,16 +1,21 @@
 -- Where a caller stands at a cell, and what each kind of step does with it.
-use Rattle.std.specs.Prelude.{◌≡◌, ℕ, ◌<◌, false, List, Option, Some, None}
+use Rattle.std.specs.Prelude.{◌≡◌, ℕ, ◌<◌, false, List, [], ◌∷◌, ◌++◌, Option, Some, None}
 use Rattle.event_log.specs.declared.object.SeqObject.{Ghosts}
 use Rattle.event_log.specs.declared.event.Event.{Event}
 use Rattle.event_log.specs.History.{History}
+use Rattle.word_rule.specs.declared.machine.step_done.StepDone.{StepDone}
 use Rattle.word_rule.specs.declared.stage.Stage.{Stage}
+use Rattle.word_rule.specs.declared.view.Moment.{Moment}
 use Rattle.word_rule.specs.Cell.{Caller, Grows, Lawful, OwnsAll, stored}
+use Rattle.word_rule.specs.LockRuns.{Extends}
+use Rattle.word_rule.specs.OneHold.{leaving, silently}
 
--- a caller, where it stands, the log that it has seen, and the stored history while it has the object
+-- a caller, where it stands, the log and the run that it has seen, and the stored history while it has the object
 pub record CallerState (O P C R : Type 0) : Type 0 where
   pub caller : Caller O P C R
   pub stage : Stage
   pub seen : List (Event O P C R)
+  pub run : List (Moment (Event O P C R))
   pub has : Option (History O P C R)
 
 module _ {O P C R : Type 0} where
@@ -20,31 +25,36 @@ module _ {O P C R : Type 0} where
     pub inside : p < caller.cell.numbers
 
 module _ {O P C R : Type 0} (meaning : Ghosts O P C R) where
-  -- the caller goes from p to q, and may see more; who has the object stays, and what is stored
-  pub record Moves (p q : Stage) (before after : CallerState O P C R) : Type 0 where
+  -- the caller goes from p to q by these steps, and may see more; who has the object stays, and what is stored
+  pub record Moves (p q : Stage) (done : List StepDone) (before after : CallerState O P C R) : Type 0 where
     pub caller : after.caller ≡ before.caller
     pub from : before.stage ≡ p
     pub to : after.stage ≡ q
     pub grows : Grows before.caller.owned before.seen after.seen
+    pub extends : Extends before.caller.owned before.run (silently before.caller.acting done) after.run
     pub lawful : Lawful meaning before.caller.cell after.seen
     pub has : after.has ≡ before.has
 
-  -- the object comes to the caller, with the log that it sees now
-  pub record Takes (p q : Stage) (before after : CallerState O P C R) : Type 0 where
+  -- the object comes to the caller by these steps, with the log that it sees now
+  pub record Takes (p q : Stage) (done : List StepDone) (before after : CallerState O P C R) : Type 0 where
     pub caller : after.caller ≡ before.caller
     pub from : before.stage ≡ p
     pub to : after.stage ≡ q
     pub grows : Grows before.caller.owned before.seen after.seen
+    pub extends : Extends before.caller.owned before.run (silently before.caller.acting done) after.run
     pub lawful : Lawful meaning before.caller.cell after.seen
     pub had : before.has ≡ None
     pub has : after.has ≡ Some (stored meaning before.caller.cell after.seen)
 
-  -- the object goes home, and the caller has seen the stored log
-  pub record Gives (p q : Stage) (before after : CallerState O P C R) : Type 0 where
+  -- the object goes home by this step, and the caller has seen the stored log, to which it had added these events
+  pub record Gives (p q : Stage) (step : StepDone) (before after : CallerState O P C R) : Type 0 where
     pub caller : after.caller ≡ before.caller
     pub from : before.stage ≡ p
     pub to : after.stage ≡ q
     pub lawful : Lawful meaning before.caller.cell after.seen
+    pub events : List (Event O P C R)
+    pub added : after.seen ≡ before.seen ++ events
+    pub extends : Extends before.caller.owned before.run (leaving before.caller.acting step events ∷ []) after.run
     pub had : before.has ≡ Some (stored meaning before.caller.cell after.seen)
     pub has : after.has ≡ None
 

@@ -3,7 +3,7 @@ use Rattle.std.specs.Prelude.{ℕ, Bool, true, false, ◌==◌, cond, List, [], 
 use Rattle.word_rule.specs.declared.lock_kind.LockKind.{LockKind}
 use Rattle.word_rule.specs.declared.lock_kind.LockKind.TheVariants as kinds
 use Rattle.word_rule.specs.declared.stage.Stage.{Stage}
-use Rattle.word_rule.specs.declared.stage.Stage.TheVariants.{Idle, Ticket, Mcs, Torn}
+use Rattle.word_rule.specs.declared.stage.Stage.TheVariants.{Idle, Ticket, Mcs, Trying}
 use Rattle.word_rule.specs.declared.stage.TicketStage.TheVariants.{Drawn, Served}
 use Rattle.word_rule.specs.declared.stage.McsStage.TheVariants.{Ready, Behind, Armed, Waiting, Holding, Alone, Leaving, Passing}
 
@@ -43,7 +43,7 @@ holding (Mcs Holding) = true
 holding (Mcs Alone) = true
 holding (Mcs Leaving) = true
 holding (Mcs (Passing j)) = true
-holding Torn = true
+holding Trying = false
 
 -- where a holder stands, which can still do calls, at such a lock: at a ticket lock with this ticket
 abbrev pub holder : LockKind → ℕ → Stage

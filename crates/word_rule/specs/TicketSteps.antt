@@ -1,6 +1,7 @@
 -- The steps of a ticket lock, one relation for each kind.
-use Rattle.std.specs.Prelude.{ℕ, Bool, true, false}
+use Rattle.std.specs.Prelude.{ℕ, Bool, true, false, [], ◌∷◌}
 use Rattle.event_log.specs.declared.object.SeqObject.{Ghosts}
+use Rattle.word_rule.specs.declared.machine.step_done.StepDone.TheVariants as steps
 use Rattle.word_rule.specs.declared.stage.Stage.TheVariants.{Idle, Ticket}
 use Rattle.word_rule.specs.declared.stage.TicketStage.TheVariants.{Drawn, Served}
 use Rattle.word_rule.specs.CallerState.{CallerState, Moves, Takes, Gives, NeedsAnother}
@@ -8,18 +9,18 @@ use Rattle.word_rule.specs.CallerState.{CallerState, Moves, Takes, Gives, NeedsA
 module _ {O P C R : Type 0} (meaning : Ghosts O P C R) (before after : CallerState O P C R) where
   -- the caller joins the line's end, and has a ticket
   abbrev pub IsDraw : Type 0
-  IsDraw = (ticket : ℕ) × Moves meaning Idle (Ticket (Drawn ticket)) before after
+  IsDraw = (ticket : ℕ) × Moves meaning Idle (Ticket (Drawn ticket)) (steps.Draw ∷ []) before after
 
   -- the caller looks whether its ticket is served: it gets the object, or nothing changes
   abbrev pub IsLook : Bool → Type 0
-  IsLook true = (ticket : ℕ) × Takes meaning (Ticket (Drawn ticket)) (Ticket (Served ticket)) before after
-  IsLook false = (ticket : ℕ) × NeedsAnother meaning (Moves meaning (Ticket (Drawn ticket)) (Ticket (Drawn ticket))) before after
+  IsLook true = (ticket : ℕ) × Takes meaning (Ticket (Drawn ticket)) (Ticket (Served ticket)) (steps.Look true ∷ []) before after
+  IsLook false = (ticket : ℕ) × NeedsAnother meaning (Moves meaning (Ticket (Drawn ticket)) (Ticket (Drawn ticket)) (steps.Look false ∷ [])) before after
 
-  -- the caller tries to be the only one in line: it gets the object, or nothing changes
+  -- the caller tries to be the only one in line: it gets the object, by a draw and a look at once, or does nothing
   abbrev pub IsTry : Bool → Type 0
-  IsTry true = (ticket : ℕ) × Takes meaning Idle (Ticket (Served ticket)) before after
-  IsTry false = NeedsAnother meaning (Moves meaning Idle Idle) before after
+  IsTry true = (ticket : ℕ) × Takes meaning Idle (Ticket (Served ticket)) (steps.Draw ∷ steps.Look true ∷ []) before after
+  IsTry false = NeedsAnother meaning (Moves meaning Idle Idle []) before after
 
   -- the caller gives the object back, and the next ticket is served
   abbrev pub IsServe : Type 0
-  IsServe = (ticket : ℕ) × Gives meaning (Ticket (Served ticket)) Idle before after
+  IsServe = (ticket : ℕ) × Gives meaning (Ticket (Served ticket)) Idle steps.Serve before after

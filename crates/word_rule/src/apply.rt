@@ -3,7 +3,7 @@
 ghost use Rattle.std.specs.Prelude.{◌≡◌, ◌≤◌, ◌<◌, ◌↔◌, length, IsErr, IfOk, OnErr};
 ghost use Rattle.event_log.specs.History.{with_event};
 ghost use Rattle.event_log.specs.Log.{answers, after, one_step, Fulfils};
-ghost use Rattle.word_rule.specs.Passes.{view_of_hold};
+ghost use Rattle.word_rule.specs.Passes.{view_of_hold, run_of_hold};
 
 use crate::Hold;
 use event_log::{MOST_CALLS, NoRoom, SeqObject, Steps};
@@ -15,6 +15,7 @@ impl<O: SeqObject> Hold<O> {
         requires few { length calls.now ≤ MOST_CALLS }
         ensures table { (self.new.seat.table_id ≡ self.old.seat.table_id) × (self.new.key.value ≡ self.old.key.value) }
         ensures stage { self.new.seat.me.0.main.stage ≡ self.old.seat.me.0.main.stage }
+        ensures run { run_of_hold self.new ≡ run_of_hold self.old }
         ensures caller { (view_of_hold self.new).caller ≡ (view_of_hold self.old).caller }
         ensures room { IsErr result ↔ (length (view_of_hold self.old).history.log ≡ (view_of_hold self.old).history.limit) }
         ensures steps { IfOk result (λ s. s.list.items ≡ answers O.SeqObject (view_of_hold self.old).history.state calls.now) }
@@ -30,6 +31,7 @@ impl<O: SeqObject> Hold<O> {
     pub fn apply_one(&mut self, call: &O::Call) -> Result<O::Reply, NoRoom>
         ensures table { (self.new.seat.table_id ≡ self.old.seat.table_id) × (self.new.key.value ≡ self.old.key.value) }
         ensures stage { self.new.seat.me.0.main.stage ≡ self.old.seat.me.0.main.stage }
+        ensures run { run_of_hold self.new ≡ run_of_hold self.old }
         ensures caller { (view_of_hold self.new).caller ≡ (view_of_hold self.old).caller }
         ensures room { IsErr result ↔ (length (view_of_hold self.old).history.log ≡ (view_of_hold self.old).history.limit) }
         ensures reply { IfOk result (λ r. r ≡ (O.answer (view_of_hold self.old).history.state call.now).1) }

@@ -2,9 +2,10 @@
 
 ghost use Rattle.std.specs.Prelude.{◌≡◌, ℕ, ◌<◌, ◌≤◌, [], length, IfOk, IfErr, vec_len, vec_capacity};
 ghost use Rattle.word_rule.specs.Cell.{Lawful, EachAt, OwnsAll, cell_of, opening_pass, first_pass, stored};
+ghost use Rattle.word_rule.specs.LockRuns.{endings_in, arrivals_in};
 ghost use Rattle.word_rule.specs.Locks.{opening_lock};
 ghost use Rattle.word_rule.specs.Rule.LockStates.{IsLockOf};
-ghost use Rattle.word_rule.specs.Passes.{IsPassAt, view_of_pass};
+ghost use Rattle.word_rule.specs.Passes.{IsPassAt, view_of_pass, run_of_pass};
 ghost use Rattle.word_rule.specs.Rule.Seats.{first_view};
 
 use crate::{Cpu, Key, LockKind, LockTable, Pass, Seat};
@@ -30,6 +31,7 @@ impl<O: SeqObject> LockTable<O> {
         ensures words { IfOk result (λ r. r.0.table.shared.table_id.words ≡ length words.now) }
         ensures count { IfOk result (λ r. vec_len r.1 ≡ cpus) }
         ensures passes { IfOk result (λ r. EachAt (λ k p. IsPassAt r.0 p × (view_of_pass p ≡ first_pass kind logged cpus k)) r.1.items) }
+        ensures runs { IfOk result (λ r. EachAt (λ k p. run_of_pass p ≡ []) r.1.items) }
         ensures unchanged { IfErr result (λ e. e.1 ≡ logged) }
     {
         let Ok(passes) = Vec::with_capacity(alloc, cpus as usize) else {
@@ -68,6 +70,7 @@ impl<O: SeqObject> LockTable<O> {
         requires room { (passes.items ≡ []) × (cpus ≤ vec_capacity passes) }
         requires lawful { Lawful O.SeqObject key.now key.now.opening }
         ensures passes { EachAt (λ k p. IsPassAt self.now p × (view_of_pass p ≡ opening_pass key.now k)) result.items }
+        ensures runs { EachAt (λ k p. run_of_pass p ≡ []) result.items }
         ensures count { vec_len result ≡ cpus }
     {
         for cpu in 0..cpus {
@@ -81,11 +84,13 @@ impl<O: SeqObject> LockTable<O> {
         passes
     }
 
-    /// A pass that owns every number ends the cell: the object is at home, and its log is what the pass has seen.
+    /// A pass that owns every number ends the cell: the object is at home, and its log is what the pass has seen. Each that has
+    /// arrived in line has ended its hold.
     pub fn close(self, pass: Pass<O>) -> Logged<O>
         requires pass { IsPassAt self pass }
         requires whole { OwnsAll (view_of_pass pass).caller }
-        ensures { result ≡ stored O.SeqObject (view_of_pass pass).caller.cell (view_of_pass pass).seen }
+        ensures log { result ≡ stored O.SeqObject (view_of_pass pass).caller.cell (view_of_pass pass).seen }
+        ensures ended { endings_in (run_of_pass pass) ≡ arrivals_in (run_of_pass pass) }
     {
         let LockTable { table } = self;
         let mut closed = table.close_with(pass.seat);

@@ -1,8 +1,9 @@
 //! Callers that meet, whichever lock their cell has.
 
-ghost use Rattle.std.specs.Prelude.{◌≡◌, ℕ, ◌<◌, ◌||◌, min};
+ghost use Rattle.std.specs.Prelude.{◌≡◌, ℕ, ◌<◌, ◌||◌, min, []};
 ghost use Rattle.word_rule.specs.Cell.{Grows};
-ghost use Rattle.word_rule.specs.Passes.{IsPassAt, IsHoldAt, view_of_pass};
+ghost use Rattle.word_rule.specs.LockRuns.{Extends};
+ghost use Rattle.word_rule.specs.Passes.{IsPassAt, IsHoldAt, view_of_pass, run_of_pass};
 
 use crate::{Beside, Clash, Cpu, Hold, LockTable, Meet, Merge, Pass, Tear};
 use event_log::SeqObject;
@@ -19,6 +20,8 @@ impl<O: SeqObject> LockTable<O> {
         ensures acting { (view_of_pass result).caller.acting ≡ min (view_of_pass one).caller.acting (view_of_pass two).caller.acting }
         ensures first_grows { Grows (view_of_pass one).caller.owned (view_of_pass one).seen (view_of_pass result).seen }
         ensures second_grows { Grows (view_of_pass two).caller.owned (view_of_pass two).seen (view_of_pass result).seen }
+        ensures first_run { Extends (view_of_pass one).caller.owned (run_of_pass one) [] (run_of_pass result) }
+        ensures second_run { Extends (view_of_pass two).caller.owned (run_of_pass two) [] (run_of_pass result) }
     {
         let Pass { cpu, key, mut seat } = one;
         let Pass {
@@ -35,7 +38,7 @@ impl<O: SeqObject> LockTable<O> {
         }
     }
 
-    /// Both have seen one log, which begins with what each had seen: one load of the two callers together.
+    /// Both have seen one log and one run, which begin with what each had seen: one load of the two callers together.
     pub fn meet(&self, one: Pass<O>, two: Pass<O>) -> (Pass<O>, Pass<O>)
         requires first { IsPassAt self.now one }
         requires second { IsPassAt self.now two }
@@ -46,6 +49,9 @@ impl<O: SeqObject> LockTable<O> {
         ensures one_log { (view_of_pass result.0).seen ≡ (view_of_pass result.1).seen }
         ensures first_grows { Grows (view_of_pass one).caller.owned (view_of_pass one).seen (view_of_pass result.0).seen }
         ensures second_grows { Grows (view_of_pass two).caller.owned (view_of_pass two).seen (view_of_pass result.1).seen }
+        ensures one_run { run_of_pass result.0 ≡ run_of_pass result.1 }
+        ensures first_run { Extends (view_of_pass one).caller.owned (run_of_pass one) [] (run_of_pass result.0) }
+        ensures second_run { Extends (view_of_pass two).caller.owned (run_of_pass two) [] (run_of_pass result.1) }
     {
         let Pass { cpu, key, mut seat } = one;
         let Pass {

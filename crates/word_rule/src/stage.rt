@@ -10,9 +10,8 @@ pub enum Stage {
     Ticket(TicketStage),
     /// It is at an MCS lock.
     Mcs(McsStage),
-    /// It is the holder still, but its slot went back. No caller of the public surface stands here: the proof that two
-    /// holds of one cell can't be leads one here on the way.
-    Torn,
+    /// It has cleared its `next` word for a try, and isn't in line. The step machine has no tries, so no CPU of it stands here.
+    Trying,
 }
 
 /// Where a caller stands at a ticket lock.

@@ -1,6 +1,6 @@
 //! What the seats at a cell's table know of their callers. Contracts read these types, and no value of them is made.
 
-use crate::Stage;
+use crate::{Stage, StepDone};
 use std::collections::LinkedList;
 use std::marker::Model;
 use std::snapshot::Snapshot;
@@ -18,13 +18,21 @@ impl<E> Model for Trace<E> {
     ghost view = { λ t. t.events.value.items };
 }
 
-/// A caller at its seat: the number that it acts as, the numbers that it owns, where it stands, the log of events that it
-/// has seen, and the word 0 that it has read for a try, if it has done nothing since.
+/// A step that a CPU has done on a cell's lock, and the events that it left in the log: those of the hold that it ended.
+pub struct Moment<E> {
+    pub cpu: u8,
+    pub step: StepDone,
+    pub events: Trace<E>,
+}
+
+/// A caller at its seat: the number that it acts as, the numbers that it owns, where it stands, the log of events and the run
+/// of steps that it has seen, and the word 0 that it has read for a try, if it has done nothing since.
 pub struct Seated<E> {
     pub cpu: u8,
     pub owned: LinkedList<u8>,
     pub stage: Stage,
     pub seen: Trace<E>,
+    pub run: Trace<Moment<E>>,
     pub read: Option<u64>,
 }
 

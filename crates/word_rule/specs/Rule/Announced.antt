@@ -1,16 +1,20 @@
 -- What a step tells the seat that does it, at every lock.
-use Rattle.std.specs.Prelude.{◌≡◌, ℕ, ◌<◌, Bool, true, false, ◌||◌, List, [], ◌∷◌, Option, Some}
+use Rattle.std.specs.Prelude.{◌≡◌, ℕ, ◌<◌, Bool, true, false, ◌||◌, List, [], ◌∷◌, ◌++◌, Option, Some}
 use Rattle.atomic_table.specs.Table.{Step}
 use Rattle.event_log.specs.declared.object.SeqObject.{Ghosts}
 use Rattle.event_log.specs.declared.event.Event.{Event}
 use Rattle.event_log.specs.Distinct.{has}
 use Rattle.event_log.specs.History.{History}
 use Rattle.word_rule.specs.declared.stage.Stage.{Stage}
-use Rattle.word_rule.specs.declared.stage.Stage.TheVariants.{Torn}
+use Rattle.word_rule.specs.declared.machine.step_done.StepDone.{StepDone}
+use Rattle.word_rule.specs.declared.view.Moment.{Moment}
 use Rattle.word_rule.specs.declared.view.Seated.{Seated}
 use Rattle.word_rule.specs.Cell.{Cell, Grows, Lawful, stored}
 use Rattle.word_rule.specs.Rule.CellInvariant.{EachFrom, Caller, Viewed}
-use Rattle.word_rule.specs.Rule.Seats.{Seat, with_stage, settled, merged}
+use Rattle.word_rule.specs.Line.{holding}
+use Rattle.word_rule.specs.LockRuns.{Extends, HasRun}
+use Rattle.word_rule.specs.OneHold.{leaving, silently}
+use Rattle.word_rule.specs.Rule.Seats.{Seat, settled, merged}
 
 -- one of the callers has the number
 abbrev pub any_has : {E : Type 0} → ℕ → List (Seated E) → Bool
@@ -33,36 +37,68 @@ module _ {O P C R : Type 0} where
     pub inside : (h : Cell O P C R) → v.told ≡ h ∷ [] → x < h.numbers
 
 module _ {O P C R : Type 0} (meaning : Ghosts O P C R) where
-  -- the log is lawful, and begins with all that the seat's callers have seen
-  pub record Learns (v : Viewed O P C R) (log : List (Event O P C R)) : Type 0 where
+  -- the log is lawful and the run left it; both begin with what the seat's callers have seen. The first has done these
+  -- moments, and its callers nothing else
+  pub record Learns (v : Viewed O P C R) (done : List (Moment (Event O P C R))) (log : List (Event O P C R)) (run : List (Moment (Event O P C R))) : Type 0 where
     pub grows : Grows (λ x. has x v.main.owned) v.main.seen log
-    pub others : EachFrom (λ _ (c : Caller O P C R). Grows (λ x. has x c.owned) c.seen log) 1 v.others
+    pub extends : Extends (λ x. has x v.main.owned) v.main.run done run
+    pub others : EachFrom (λ _ (c : Caller O P C R). Grows (λ x. has x c.owned) c.seen log × Extends (λ x. has x c.owned) c.run [] run) 1 v.others
     pub lawful : (h : Cell O P C R) → v.told ≡ h ∷ [] → Lawful meaning h log
+    pub ran : (h : Cell O P C R) → v.told ≡ h ∷ [] → HasRun h log run
 
-  -- the object comes to the first caller, which stands there now: it is the replay of a log that all callers of the seat
-  -- have seen now
-  pub record Gets (stage : Stage) (m m' : Seat O P C R) : Type 0 where
+  -- the first caller has done these steps and stands there now; while it has the object no event comes
+  pub record Goes (stage : Stage) (done : List StepDone) (m m' : Seat O P C R) : Type 0 where
+    pub log : List (Event O P C R)
+    pub run : List (Moment (Event O P C R))
+    pub seat : m' ≡ (settled m.0 stage log run, m.1)
+    pub learns : Learns m.0 (silently m.0.main.cpu done) log run
+    pub still : holding m.0.main.stage ≡ true → log ≡ m.0.main.seen
+
+  -- the same, and the seat doesn't have every number
+  pub record Lags (stage : Stage) (done : List StepDone) (m m' : Seat O P C R) : Type 0 where
+    pub goes : Goes stage done m m'
+    pub lacks : Lacks m.0
+
+  -- the object comes to the first caller by these steps, and it stands there now: it is the replay of a log that all callers
+  -- of the seat have seen now
+  pub record Gets (stage : Stage) (done : List StepDone) (m m' : Seat O P C R) : Type 0 where
     pub object : History O P C R
-    pub seat : m' ≡ (settled m.0 stage object.log, (0, Some object) ∷ m.1)
-    pub learns : Learns m.0 object.log
+    pub run : List (Moment (Event O P C R))
+    pub seat : m' ≡ (settled m.0 stage object.log run, (0, Some object) ∷ m.1)
+    pub learns : Learns m.0 (silently m.0.main.cpu done) object.log run
     pub replayed : (h : Cell O P C R) → m.0.told ≡ h ∷ [] → object ≡ stored meaning h object.log
 
-  -- the object goes home, and the first caller stands there now
-  abbrev pub Returns : Stage → Seat O P C R → Seat O P C R → Type 0
-  Returns stage m m' = (x : History O P C R) (more : List (ℕ × Option (History O P C R))) → m.1 ≡ (0, Some x) ∷ more → m' ≡ (settled m.0 stage x.log, more)
+  -- the callers of a seat learn one log and one run
+  pub record Meets (become : List (Event O P C R) → List (Moment (Event O P C R)) → Viewed O P C R) (m m' : Seat O P C R) : Type 0 where
+    pub log : List (Event O P C R)
+    pub run : List (Moment (Event O P C R))
+    pub seat : m' ≡ (become log run, m.1)
+    pub learns : Learns m.0 [] log run
 
-  -- the callers of a seat learn one log
   abbrev pub meets : Step (Option (History O P C R)) → Seat O P C R → ℕ → Seat O P C R → Type 0
-  meets st m n m' = (log : List (Event O P C R)) × (m' ≡ (settled m.0 m.0.main.stage log, m.1)) × Learns m.0 log
+  meets st m n m' = Meets (settled m.0 m.0.main.stage) m m'
 
-  -- the callers of a seat become one
+  -- and become one
   abbrev pub joins : Step (Option (History O P C R)) → Seat O P C R → ℕ → Seat O P C R → Type 0
-  joins st m n m' = (log : List (Event O P C R)) × (m' ≡ (merged m.0 log, m.1)) × Learns m.0 log
+  joins st m n m' = Meets (merged m.0) m m'
 
 module _ {O P C R : Type 0} where
+  -- the first caller has ended its hold by this step, and stands there now. The object x goes home, with the events that
+  -- were added to the log that it had seen
+  pub record Left (stage : Stage) (step : StepDone) (v : Viewed O P C R) (m' : Seat O P C R) (x : History O P C R) (more : List (ℕ × Option (History O P C R))) : Type 0 where
+    pub run : List (Moment (Event O P C R))
+    pub events : List (Event O P C R)
+    pub seat : m' ≡ (settled v stage x.log run, more)
+    pub added : x.log ≡ v.main.seen ++ events
+    pub extends : Extends (λ y. has y v.main.owned) v.main.run (leaving v.main.cpu step events ∷ []) run
+    pub ran : (h : Cell O P C R) → v.told ≡ h ∷ [] → HasRun h x.log run
+
+  abbrev pub Returns : Stage → StepDone → Seat O P C R → Seat O P C R → Type 0
+  Returns stage step m m' = (x : History O P C R) (more : List (ℕ × Option (History O P C R))) → m.1 ≡ (0, Some x) ∷ more → Left stage step m.0 m' x more
+
   -- the slot goes back, and the hold doesn't end
   abbrev pub tears : Step (Option (History O P C R)) → Seat O P C R → ℕ → Seat O P C R → Type 0
-  tears st m n m' = m' ≡ (with_stage m.0 Torn, [])
+  tears st m n m' = m' ≡ (m.0, [])
 
   -- there is no such seat
   abbrev pub clashes : Step (Option (History O P C R)) → Seat O P C R → ℕ → Seat O P C R → Type 0

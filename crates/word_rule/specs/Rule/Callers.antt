@@ -8,6 +8,7 @@ use Rattle.event_log.specs.Log.{Begins, of}
 use Rattle.word_rule.specs.declared.stage.Stage.{Stage}
 use Rattle.word_rule.specs.Cell.{Cell, Caller, PassView, HoldView, IsPassView, IsHoldView}
 use Rattle.word_rule.specs.CallerState.{CallerState}
+use Rattle.word_rule.specs.LockRuns.{HasRun}
 use Rattle.word_rule.specs.Rule.CellInvariant.{Viewed}
 use Rattle.word_rule.specs.Rule.Seats.{Seat}
 
@@ -31,10 +32,10 @@ module _ {O P C R : Type 0} where
 
   -- where it stands without the object, and with it
   abbrev pub state_without : Cell O P C R → Stage → Seat O P C R → CallerState O P C R
-  state_without h stage m = record { caller = caller_of h m.0; stage = stage; seen = m.0.main.seen; has = None }
+  state_without h stage m = record { caller = caller_of h m.0; stage = stage; seen = m.0.main.seen; run = m.0.main.run; has = None }
 
   abbrev pub state_with : Cell O P C R → Stage → History O P C R → Seat O P C R → CallerState O P C R
-  state_with h stage x m = record { caller = caller_of h m.0; stage = stage; seen = m.0.main.seen; has = Some x }
+  state_with h stage x m = record { caller = caller_of h m.0; stage = stage; seen = m.0.main.seen; run = m.0.main.run; has = Some x }
 
   -- a caller is of a cell: its seat is at the cell's table, and it was told what the table was told
   pub record IsAt {T : Type 0} (cell_table : T) (cell_key : Cell O P C R) (table_id : T) (key : Cell O P C R) : Type 0 where
@@ -54,9 +55,11 @@ module _ {O P C R : Type 0} (meaning : Ghosts O P C R) where
   pub record IsWithout (h : Cell O P C R) (cpu : ℕ) (stage : Stage) (m : Seat O P C R) : Type 0 where
     pub at : StandsAt h cpu stage [] m
     pub pass_view : IsPassView meaning (pass_view_of h m.0)
+    pub ran : HasRun h m.0.main.seen m.0.main.run
 
   -- a caller that has the object, to whose log it alone has added
   pub record IsWith (h : Cell O P C R) (cpu : ℕ) (stage : Stage) (x : History O P C R) (m : Seat O P C R) : Type 0 where
     pub at : StandsAt h cpu stage ((0, None) ∷ []) m
     pub added : AddedBy m.0.main.cpu m.0.main.seen x.log
     pub hold_view : IsHoldView meaning (hold_view_of h x m.0)
+    pub ran : HasRun h m.0.main.seen m.0.main.run

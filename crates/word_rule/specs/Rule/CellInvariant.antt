@@ -9,17 +9,22 @@ use Rattle.event_log.specs.Distinct.{has}
 use Rattle.event_log.specs.History.{History}
 use Rattle.word_rule.specs.declared.lock_kind.LockKind.{LockKind}
 use Rattle.word_rule.specs.declared.stage.Stage.TheVariants.{Idle}
+use Rattle.word_rule.specs.declared.view.Moment.{Moment}
 use Rattle.word_rule.specs.declared.view.Seated.{Seated}
 use Rattle.word_rule.specs.declared.view.View.{View}
 use Rattle.word_rule.specs.Cell.{Cell, Grows, Lawful, stored}
 use Rattle.word_rule.specs.Line.{holding}
-use Rattle.word_rule.specs.Locks.{Lock}
+use Rattle.word_rule.specs.LockRuns.{Extends, HasRun, lock_after}
+use Rattle.word_rule.specs.Locks.{Lock, opening_lock}
 use Rattle.word_rule.specs.LockWords.{lock_words}
 use Rattle.word_rule.specs.Rule.LockStates.{IsLockOf}
+use Rattle.word_rule.specs.Rule.Plain.{plain}
 
--- the committed log, the lock that the words are of, and whose each CPU number is: a seat, and a place among its callers
+-- the committed log, the run, the lock that the words are of, and whose each CPU number is: a seat, and a place among its
+-- callers
 pub record GhostState (O P C R : Type 0) : Type 0 where
   pub committed : List (Event O P C R)
+  pub run : List (Moment (Event O P C R))
   pub lock : Lock
   pub owner : ℕ → ℕ × ℕ
 
@@ -46,6 +51,7 @@ module _ {O P C R : Type 0} (n : ℕ) (b : GhostState O P C R) where
   pub record CallerInvariant (j k : ℕ) (c : Caller O P C R) : Type 0 where
     pub owns : (x : ℕ) → has x c.owned ≡ true → (b.owner x ≡ (j, k)) × (x < n)
     pub grows : Grows (λ x. has x c.owned) c.seen b.committed
+    pub extends : Extends (λ x. has x c.owned) c.run [] b.run
     pub stands : has c.cpu c.owned ≡ true → b.lock.line.stage c.cpu ≡ c.stage
     pub whole : has c.cpu c.owned ≡ true → holding c.stage ≡ true → c.seen ≡ b.committed
     pub rests : (x : ℕ) → has x c.owned ≡ true → x ≢ c.cpu → b.lock.line.stage x ≡ Idle
@@ -58,10 +64,13 @@ module _ {O P C R : Type 0} (h : Cell O P C R) (b : GhostState O P C R) where
     pub main : CallerInvariant h.numbers b j 0 v.main
     pub others : EachFrom (CallerInvariant h.numbers b j) 1 v.others
 
--- the rule, for such a lock: the words are those of a state of it, and at home the object is the replay of the committed log
+-- the rule, for such a lock: the words are those of a state of it, which is what the run makes of the lock before its first
+-- step; the run left the committed log, of which the object at home is the replay
 pub record CellInvariant {O P C R : Type 0} (meaning : Ghosts O P C R) (kind : LockKind) (h : Cell O P C R) (s : Table O P C R) : Type 0 where
   pub state : GhostState O P C R
   pub tied : IsLockOf kind h.numbers s.words state.lock
+  pub ran : HasRun h state.committed state.run
+  pub made : (first : ℕ) → plain state.lock ≡ plain (lock_after state.run (opening_lock h.kind first))
   pub lawful : Lawful meaning h state.committed
   pub at_home : state.lock.line.out ≡ false → get_elem? s.homes 0 ≡ some (some (Some (stored meaning h state.committed)))
   pub each : (j : ℕ) (v : Viewed O P C R) → get_elem? s.views j ≡ some v → SeatInvariant h state j v

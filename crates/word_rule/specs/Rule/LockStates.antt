@@ -6,7 +6,7 @@ use Rattle.event_log.specs.Distinct.{has, AreDistinctBelow}
 use Rattle.word_rule.specs.declared.lock_kind.LockKind.{LockKind}
 use Rattle.word_rule.specs.declared.lock_kind.LockKind.TheVariants as kinds
 use Rattle.word_rule.specs.declared.stage.Stage.{Stage}
-use Rattle.word_rule.specs.declared.stage.Stage.TheVariants.{Idle, Ticket, Mcs, Torn}
+use Rattle.word_rule.specs.declared.stage.Stage.TheVariants.{Idle, Ticket, Mcs, Trying}
 use Rattle.word_rule.specs.declared.stage.TicketStage.{TicketStage}
 use Rattle.word_rule.specs.declared.stage.TicketStage.TheVariants.{Drawn, Served}
 use Rattle.word_rule.specs.declared.stage.McsStage.{McsStage}
@@ -54,7 +54,7 @@ module _ (cpus : List ℕ) (out : Bool) (x : ℕ) where
   -- the CPU x stands there at a lock of that kind; at no lock does it stand at a place of the other
   abbrev pub Stands : LockKind → ℕ → (ℕ → Option ℕ) → Stage → Type 0
   Stands k serving next Idle = has x cpus ≡ false
-  Stands k serving next Torn = First true
+  Stands k serving next Trying = (has x cpus ≡ false) × (next x ≡ None)
   Stands kinds.Ticket serving next (Ticket q) = StandsInLine serving q
   Stands kinds.Mcs serving next (Mcs q) = StandsInQueue next q
   Stands k serving next q = ⊥

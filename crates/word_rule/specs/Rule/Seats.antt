@@ -4,6 +4,7 @@ use Rattle.atomic_table.specs.Table.{Me}
 use Rattle.event_log.specs.History.{History}
 use Rattle.word_rule.specs.declared.stage.Stage.{Stage}
 use Rattle.word_rule.specs.declared.stage.Stage.TheVariants.{Idle}
+use Rattle.word_rule.specs.declared.view.Moment.{Moment}
 use Rattle.word_rule.specs.declared.view.Seated.{Seated}
 use Rattle.word_rule.specs.declared.view.View.{View}
 use Rattle.word_rule.specs.Cell.{Cell}
@@ -14,26 +15,26 @@ abbrev pub Seat : Type 0 → Type 0 → Type 0 → Type 0 → Type 0
 Seat O P C R = Me (Option (History O P C R)) (Viewed O P C R)
 
 module _ {E : Type 0} where
-  -- the caller has seen this log, and has read no word since
-  abbrev pub shown : List E → Seated E → Seated E
-  shown log c = record { cpu = c.cpu; owned = c.owned; stage = c.stage; seen = log; read = None }
+  -- the caller has seen this log and this run, and has read no word since
+  abbrev pub shown : List E → List (Moment E) → Seated E → Seated E
+  shown log run c = record { cpu = c.cpu; owned = c.owned; stage = c.stage; seen = log; run = run; read = None }
 
   -- the caller stands there, and has read no word since
   abbrev pub at : Stage → Seated E → Seated E
-  at p c = record { cpu = c.cpu; owned = c.owned; stage = p; seen = c.seen; read = None }
+  at p c = record { cpu = c.cpu; owned = c.owned; stage = p; seen = c.seen; run = c.run; read = None }
 
   -- the caller has read this word
   abbrev pub reading : ℕ → Seated E → Seated E
-  reading w c = record { cpu = c.cpu; owned = c.owned; stage = c.stage; seen = c.seen; read = Some w }
+  reading w c = record { cpu = c.cpu; owned = c.owned; stage = c.stage; seen = c.seen; run = c.run; read = Some w }
 
   -- an idle caller
-  abbrev pub idle : ℕ → List ℕ → List E → Seated E
-  idle cpu owned seen = record { cpu = cpu; owned = owned; stage = Idle; seen = seen; read = None }
+  abbrev pub idle : ℕ → List ℕ → List E → List (Moment E) → Seated E
+  idle cpu owned seen run = record { cpu = cpu; owned = owned; stage = Idle; seen = seen; run = run; read = None }
 
-  -- n idle callers with the numbers from k on
+  -- n idle callers with the numbers from k on, before the first step
   abbrev pub idle_from : ℕ → ℕ → List E → List (Seated E)
   idle_from k zero seen = []
-  idle_from k (suc n) seen = idle k (k ∷ []) seen ∷ idle_from (k + 1) n seen
+  idle_from k (suc n) seen = idle k (k ∷ []) seen [] ∷ idle_from (k + 1) n seen
 
   abbrev pub behind_first : List (Seated E) → List (Seated E)
   behind_first [] = []
@@ -41,21 +42,17 @@ module _ {E : Type 0} where
 
   -- the first caller, or one without a number
   abbrev pub first_or_none : List (Seated E) → Seated E
-  first_or_none [] = idle 0 [] []
+  first_or_none [] = idle 0 [] [] []
   first_or_none (c ∷ cs) = c
 
 module _ {H E : Type 0} where
-  -- the first caller stands there
-  abbrev pub with_stage : View H E → Stage → View H E
-  with_stage v p = record { told = v.told; main = at p v.main; others = v.others }
-
   -- the first caller has read this word
   abbrev pub noted : View H E → ℕ → View H E
   noted v w = record { told = v.told; main = reading w v.main; others = v.others }
 
-  -- each caller of the seat has seen this log, and the first stands there
-  abbrev pub settled : View H E → Stage → List E → View H E
-  settled v p log = record { told = v.told; main = shown log (at p v.main); others = map (shown log) v.others }
+  -- each caller of the seat has seen this log and this run, and the first stands there
+  abbrev pub settled : View H E → Stage → List E → List (Moment E) → View H E
+  settled v p log run = record { told = v.told; main = shown log run (at p v.main); others = map (shown log run) v.others }
 
   -- the seat takes in the caller of another
   abbrev pub taken_in : View H E → View H E → View H E
@@ -63,7 +60,7 @@ module _ {H E : Type 0} where
 
   -- what a seat that was taken in is left with
   abbrev pub spent : View H E
-  spent = record { told = []; main = idle 0 [] []; others = [] }
+  spent = record { told = []; main = idle 0 [] [] []; others = [] }
 
   -- the seat without the first of the callers that it has taken in
   abbrev pub keeping : View H E → View H E
@@ -73,10 +70,10 @@ module _ {H E : Type 0} where
   abbrev pub letting : View H E → View H E
   letting v = record { told = v.told; main = first_or_none v.others; others = [] }
 
-  -- the first two callers are one, which has seen this log
-  abbrev pub merged : View H E → List E → View H E
-  merged v log = let c = first_or_none v.others in record { told = v.told; main = idle (min v.main.cpu c.cpu) (v.main.owned ++ c.owned) log; others = [] }
+  -- the first two callers are one, which has seen this log and this run
+  abbrev pub merged : View H E → List E → List (Moment E) → View H E
+  merged v log run = let c = first_or_none v.others in record { told = v.told; main = idle (min v.main.cpu c.cpu) (v.main.owned ++ c.owned) log run; others = [] }
 
 -- the first seat of a cell: it has a caller for each CPU
 abbrev pub first_view : {O P C R : Type 0} → Cell O P C R → Viewed O P C R
-first_view h = record { told = h ∷ []; main = idle 0 [] []; others = idle_from 0 h.numbers h.opening }
+first_view h = record { told = h ∷ []; main = idle 0 [] [] []; others = idle_from 0 h.numbers h.opening }

@@ -1,4 +1,4 @@
-use Rattle.std.proofs.Common.{rules, ◌<◌, sym, subst, ◌∙◌}
+use Rattle.std.proofs.Common.{rules, ◌<◌, sym, ap, subst, ◌∙◌}
 use Rattle.word_rule.specs.declared.stage.Stage.TheVariants.{Idle}
 use Rattle.word_rule.specs.Rule.Callers.{IsWithout}
 use Rattle.word_rule.proofs.Dealing.{goes_on, is_one, one_rests, part_first, each_push}
@@ -18,4 +18,5 @@ loop-cpu-preserved g c = let h = c.args.key.now in let i = c.loop-cpu.invariant 
     search rules,
     search rules,
   );
+  runs = each_push _ k c.loop-cpu.passes.items c.push_reserved.new.self.items _ i.runs (search rules) c.push_reserved.ensures.items (ap (λ z. z.0.main.run) (is_one h k c.loop-cpu.seat.me c.split_seat-theirs.result.me below i.seat.1 c.split_seat-theirs.ensures.4));
 }

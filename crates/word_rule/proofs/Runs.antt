@@ -1,0 +1,70 @@
+-- A run goes on by a step that is the CPU's turn at the lock that it has made.
+use Rattle.std.proofs.Common.{◌≡◌, ◌≢◌, ℕ, ◌<◌, Bool, true, false, List, [], ◌∷◌, ◌++◌, map, length, drop, refl, sym, ap, ◌∙◌, subst, append_assoc, append-nil}
+use Rattle.std.specs.List.{AllByRecursion}
+use Rattle.event_log.specs.declared.event.Event.{Event}
+use Rattle.event_log.proofs.Each.{all_push}
+use Rattle.word_rule.specs.declared.machine.step_done.StepDone.{StepDone}
+use Rattle.word_rule.specs.declared.view.Moment.{Moment}
+use Rattle.word_rule.specs.Cell.{Cell}
+use Rattle.word_rule.specs.LockRuns.{events_in, lock_after, turns_after, AreTurns, IsMoment, HasRun}
+use Rattle.word_rule.specs.Locks.{Lock, opening_lock}
+use Rattle.word_rule.specs.OneHold.{leaving}
+use Rattle.word_rule.specs.Rule.Plain.{plain}
+use Rattle.word_rule.specs.Turns.{turn, ends_hold}
+use Rattle.word_rule.proofs.PlainTurns.{is_trying, IsWhole, turn_whole, turn_plainly}
+use Rattle.word_rule.proofs.RunLists.{events_append}
+
+module _ {E : Type 0} where
+  pub after_push : (run : List (Moment E)) (m : Moment E) (l : Lock) → lock_after (run ++ m ∷ []) l ≡ (turn (lock_after run l) m.cpu).0
+  after_push [] m l = refl
+  after_push (x ∷ xs) m l = after_push xs m (turn l x.cpu).0
+
+  pub turns_push : (run : List (Moment E)) (m : Moment E) (l : Lock) → AreTurns run l → m.step ≡ (turn (lock_after run l) m.cpu).1 → AreTurns (run ++ m ∷ []) l
+  turns_push run m l are is = by run l are is
+    where
+      more : (run : List (Moment E)) (l : Lock) → turns_after (run ++ m ∷ []) l ≡ turns_after run l ++ (turn (lock_after run l) m.cpu).1 ∷ []
+      more [] l = refl
+      more (x ∷ xs) l = ap (λ z. (turn l x.cpu).1 ∷ z) (more xs (turn l x.cpu).0)
+
+      steps : (run : List (Moment E)) → map (λ x. x.step) (run ++ m ∷ []) ≡ map (λ x. x.step) run ++ m.step ∷ []
+      steps [] = refl
+      steps (x ∷ xs) = ap (λ z. x.step ∷ z) (steps xs)
+
+      by : (run : List (Moment E)) (l : Lock) → AreTurns run l → m.step ≡ (turn (lock_after run l) m.cpu).1 → AreTurns (run ++ m ∷ []) l
+      by run l are is = steps run ∙ ((λ k. are k ++ is k ∷ []) ∙ sym (more run l))
+
+  -- no CPU of a run has readied a try
+  pub never_trying : (run : List (Moment E)) (l : Lock) → IsWhole l → IsWhole (lock_after run l)
+  never_trying [] l h = h
+  never_trying (m ∷ ms) l h = never_trying ms (turn l m.cpu).0 (turn_whole l m.cpu h l.kind)
+
+module _ {O P C R : Type 0} (h : Cell O P C R) where
+  -- the lock is plainly what the run makes of the lock before its first step
+  abbrev pub IsMade : Lock → List (Moment (Event O P C R)) → Type 0
+  IsMade l run = (first : ℕ) → plain l ≡ plain (lock_after run (opening_lock h.kind first))
+
+  -- one step more, by one that has readied no try
+  pub made_push : (l : Lock) (run : List (Moment (Event O P C R))) (p : ℕ) (events : List (Event O P C R)) → IsMade l run → is_trying (l.line.stage p) ≡ false → IsMade (turn l p).0 (run ++ leaving p (turn l p).1 events ∷ [])
+  made_push l run p events made not first =
+      let l' : Lock = lock_after run (opening_lock h.kind first) in
+      let m : Moment (Event O P C R) = leaving p (turn l p).1 events in
+      (turn_plainly l l' p (made first) not (never_trying run (opening_lock h.kind first) (λ x. refl) p)).1 ∙ ap plain (sym (after_push run m (opening_lock h.kind first)))
+
+  pub run_push : (l : Lock) (log : List (Event O P C R)) (run : List (Moment (Event O P C R))) (p : ℕ) (events : List (Event O P C R)) → IsMade l run → HasRun h log run → is_trying (l.line.stage p) ≡ false → IsMoment h.numbers (leaving p (turn l p).1 events)
+      → HasRun h (log ++ events) (run ++ leaving p (turn l p).1 events ∷ [])
+  run_push l log run p events made ran not is =
+      let m : Moment (Event O P C R) = leaving p (turn l p).1 events in
+      record {
+        turns = λ first. let l' : Lock = lock_after run (opening_lock h.kind first) in
+            turns_push run m (opening_lock h.kind first) (ran.turns first) (turn_plainly l l' p (made first) not (never_trying run (opening_lock h.kind first) (λ x. refl) p)).0;
+        left = ap (λ z. z ++ events) ran.left ∙ (append_assoc h.opening (events_in run) events ∙ ap (λ z. h.opening ++ z) (sym (events_append run (m ∷ []) ∙ ap (λ z. events_in run ++ z) (append-nil events))));
+        each = all_push (IsMoment h.numbers) run m ran.each is;
+      }
+
+  -- a step that leaves no event
+  pub silent_push : (l : Lock) (log : List (Event O P C R)) (run : List (Moment (Event O P C R))) (p : ℕ) → IsMade l run → HasRun h log run → is_trying (l.line.stage p) ≡ false → p < h.numbers → HasRun h log (run ++ leaving p (turn l p).1 [] ∷ [])
+  silent_push l log run p made ran not below = subst (λ z. HasRun h z (run ++ leaving p (turn l p).1 [] ∷ [])) (append-nil log) (run_push l log run p [] made ran not record { inside = below; own = tt; silent = λ _. refl })
+
+  -- before the first step
+  pub no_run : HasRun h h.opening []
+  no_run = record { turns = λ first. refl; left = sym (append-nil h.opening); each = tt }

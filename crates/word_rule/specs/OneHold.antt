@@ -1,0 +1,84 @@
+-- The steps of one hold: those by which a CPU gets the object, and those by which it gives it back.
+use Rattle.std.specs.Prelude.{◌≡◌, ℕ, ◌-◌, ◌^◌, min, Bool, true, false, List, [], ◌∷◌, ◌++◌, map, length}
+use Rattle.std.specs.List.{filter}
+use Rattle.event_log.specs.declared.event.Event.{Event}
+use Rattle.event_log.specs.Log.{Begins}
+use Rattle.word_rule.specs.declared.machine.step_done.StepDone.{StepDone}
+use Rattle.word_rule.specs.declared.machine.step_done.StepDone.TheVariants as steps
+use Rattle.word_rule.specs.declared.view.Moment.{Moment}
+use Rattle.word_rule.specs.Cell.{Caller, HoldView}
+use Rattle.word_rule.specs.LockRuns.{Extends, HasRun, events_in}
+use Rattle.word_rule.specs.Turns.{arrives, ends_hold, is_look}
+
+-- the steps by which a CPU gets the object
+abbrev pub gets_object : StepDone → Bool
+gets_object (steps.Look got) = got
+gets_object (steps.Enter got) = got
+gets_object _ = false
+
+-- how many of the steps pass the test
+abbrev pub how_many : (StepDone → Bool) → List StepDone → ℕ
+how_many test done = length (filter test done)
+
+-- a CPU gets the object by these steps: it arrives once, the last step gets the object and no other does, and no hold ends
+pub record Acquires (done : List StepDone) : Type 0 where
+  pub before : List StepDone
+  pub last : StepDone
+  pub is : done ≡ before ++ last ∷ []
+  pub got : gets_object last ≡ true
+  pub once : how_many gets_object done ≡ 1
+  pub arrived : how_many arrives done ≡ 1
+  pub unended : how_many ends_hold done ≡ 0
+
+-- a CPU gives the object back by these steps: the last ends the hold and no other does, and it doesn't arrive or look
+pub record Releases (before : List StepDone) (last : StepDone) : Type 0 where
+  pub ended : ends_hold last ≡ true
+  pub unended : how_many ends_hold before ≡ 0
+  pub stays : how_many arrives (before ++ last ∷ []) ≡ 0
+  pub blind : how_many is_look (before ++ last ∷ []) ≡ 0
+
+-- so many looks, counted to 2^64 - 1
+abbrev pub looks_in : List StepDone → ℕ
+looks_in done = min (how_many is_look done) (2 ^ 64 - 1)
+
+module _ {E : Type 0} where
+  -- the CPU did this step, and left these events
+  abbrev pub leaving : ℕ → StepDone → List E → Moment E
+  leaving cpu s events = record { cpu = cpu; step = s; events = events }
+
+  -- the CPU did these steps, and left no event
+  abbrev pub silently : ℕ → List StepDone → List (Moment E)
+  silently cpu done = map (λ s. leaving cpu s []) done
+
+module _ {O P C R : Type 0} where
+  -- the holder has seen this run, and has added events of its own to the log that it left
+  pub record IsUnderHold (hold : HoldView O P C R) (run : List (Moment (Event O P C R))) : Type 0 where
+    pub log : List (Event O P C R)
+    pub ran : HasRun hold.caller.cell log run
+    pub added : Begins log hold.history.log
+
+  -- the caller has got the object, with so many looks, and has done nothing else
+  pub record HasAcquired (caller : Caller O P C R) (before : List (Moment (Event O P C R))) (looks : ℕ) (after : List (Moment (Event O P C R))) : Type 0 where
+    pub done : List StepDone
+    pub acquires : Acquires done
+    pub looked : looks ≡ looks_in done
+    pub extends : Extends caller.owned before (silently caller.acting done) after
+
+  -- the holder has given the object back, which left what it had added to the log, and has done nothing else
+  pub record HasReleased (hold : HoldView O P C R) (before after : List (Moment (Event O P C R))) : Type 0 where
+    pub done : List StepDone
+    pub last : StepDone
+    pub releases : Releases done last
+    pub events : List (Event O P C R)
+    pub added : hold.history.log ≡ (hold.caller.cell.opening ++ events_in before) ++ events
+    pub extends : Extends hold.caller.owned before (silently hold.caller.acting done ++ leaving hold.caller.acting last events ∷ []) after
+
+  -- the caller has had the object once, with so many looks, has left these events, and has done nothing else
+  pub record HasHeld (caller : Caller O P C R) (before : List (Moment (Event O P C R))) (looks : ℕ) (events : List (Event O P C R)) (after : List (Moment (Event O P C R))) : Type 0 where
+    pub got : List StepDone
+    pub acquires : Acquires got
+    pub looked : looks ≡ looks_in got
+    pub done : List StepDone
+    pub last : StepDone
+    pub releases : Releases done last
+    pub extends : Extends caller.owned before (silently caller.acting got ++ (silently caller.acting done ++ leaving caller.acting last events ∷ [])) after
