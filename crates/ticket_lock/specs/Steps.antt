@@ -1,24 +1,16 @@
 -- What the ticket lock's own steps tell the seat that does them.
-use Rattle.std.specs.Prelude.{◌≡◌, ◌≢◌, ℕ, ◌/◌, ◌%◌, Option, Some}
+use Rattle.std.specs.Prelude.{◌≡◌, ◌≢◌, ℕ, ◌/◌, ◌%◌, true, false, [], ◌∷◌, Option, Some}
 use Rattle.atomic_table.specs.Table.{Step}
 use Rattle.event_log.specs.declared.object.SeqObject.{Ghosts}
 use Rattle.event_log.specs.History.{History}
+use Rattle.word_rule.specs.declared.machine.step_done.StepDone.TheVariants as steps
 use Rattle.word_rule.specs.declared.stage.Stage.TheVariants.{Idle, Ticket}
 use Rattle.word_rule.specs.declared.stage.TicketStage.TheVariants.{Drawn, Served}
 use Rattle.word_rule.specs.Locks.{tickets}
-use Rattle.word_rule.specs.Rule.Seats.{Seat, with_stage, noted}
-use Rattle.word_rule.specs.Rule.Announced.{Lacks, Gets, Returns}
+use Rattle.word_rule.specs.Rule.Seats.{Seat, noted}
+use Rattle.word_rule.specs.Rule.Announced.{Lacks, Goes, Lags, Gets, Returns}
 
 module _ {O P C R : Type 0} where
-  -- the high half that was found is the ticket
-  abbrev pub draws : Step (Option (History O P C R)) → Seat O P C R → ℕ → Seat O P C R → Type 0
-  draws st m n m' = m' ≡ (with_stage m.0 (Ticket (Drawn (n / tickets))), m.1)
-
-  -- the served ticket isn't the caller's: nothing changes, and the seat doesn't have every number
-  pub record Misses (m m' : Seat O P C R) : Type 0 where
-    pub same : m' ≡ m
-    pub lacks : Lacks m.0
-
   -- the caller keeps the word that was found; where its halves differ the seat doesn't have every number
   pub record Reads (m : Seat O P C R) (n : ℕ) (m' : Seat O P C R) : Type 0 where
     pub seat : m' ≡ (noted m.0 n, m.1)
@@ -27,23 +19,27 @@ module _ {O P C R : Type 0} where
   abbrev pub reads : Step (Option (History O P C R)) → Seat O P C R → ℕ → Seat O P C R → Type 0
   reads st m n m' = Reads m n m'
 
+  -- the object goes home
+  abbrev pub serves : Step (Option (History O P C R)) → Seat O P C R → ℕ → Seat O P C R → Type 0
+  serves st m n m' = Returns Idle steps.Serve m m'
+
 module _ {O P C R : Type 0} (meaning : Ghosts O P C R) where
-  -- the object comes where the served ticket is the caller's, and only then
+  -- the high half that was found is the ticket
+  abbrev pub draws : Step (Option (History O P C R)) → Seat O P C R → ℕ → Seat O P C R → Type 0
+  draws st m n m' = Goes meaning (Ticket (Drawn (n / tickets))) (steps.Draw ∷ []) m m'
+
+  -- the object comes where the served ticket is the caller's, and only then; else the seat doesn't have every number
   pub record LookOutcome (t : ℕ) (m : Seat O P C R) (n : ℕ) (m' : Seat O P C R) : Type 0 where
-    pub hit : n % tickets ≡ t → Gets meaning (Ticket (Served t)) m m'
-    pub miss : n % tickets ≢ t → Misses m m'
+    pub hit : n % tickets ≡ t → Gets meaning (Ticket (Served t)) (steps.Look true ∷ []) m m'
+    pub miss : n % tickets ≢ t → Lags meaning (Ticket (Drawn t)) (steps.Look false ∷ []) m m'
 
   abbrev pub looks : Step (Option (History O P C R)) → Seat O P C R → ℕ → Seat O P C R → Type 0
   looks st m n m' = (t : ℕ) → m.0.main.stage ≡ Ticket (Drawn t) → LookOutcome t m n m'
 
-  -- the object goes home
-  abbrev pub serves : Step (Option (History O P C R)) → Seat O P C R → ℕ → Seat O P C R → Type 0
-  serves st m n m' = Returns meaning Idle m m'
-
   -- the object comes where the word is still the one that was read; else nothing changes, and the seat doesn't have every
   -- number
   pub record TryOutcome (old : ℕ) (m : Seat O P C R) (n : ℕ) (m' : Seat O P C R) : Type 0 where
-    pub hit : n ≡ old → Gets meaning (Ticket (Served (old % tickets))) m m'
+    pub hit : n ≡ old → Gets meaning (Ticket (Served (old % tickets))) (steps.Draw ∷ steps.Look true ∷ []) m m'
     pub same : n ≢ old → m' ≡ m
     pub lacks : n ≢ old → m.0.main.read ≡ Some old → Lacks m.0
 

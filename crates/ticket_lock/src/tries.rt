@@ -1,10 +1,12 @@
 //! A try of a ticket lock: it gets the object where nobody is in line, and doesn't wait.
 
-ghost use Rattle.std.specs.Prelude.{◌≡◌, true, false, IfOk, IfErr};
+ghost use Rattle.std.specs.Prelude.{◌≡◌, ℕ, [], true, false, IfOk, IfErr};
 ghost use Rattle.word_rule.specs.Answered.{IsBusy};
 ghost use Rattle.word_rule.specs.Cell.{Grows};
+ghost use Rattle.word_rule.specs.LockRuns.{Extends};
+ghost use Rattle.word_rule.specs.OneHold.{HasAcquired};
 ghost use Rattle.word_rule.specs.TicketSteps.{IsTry};
-ghost use Rattle.word_rule.specs.Passes.{view_of_pass, view_of_hold, state_of_pass, state_of_hold};
+ghost use Rattle.word_rule.specs.Passes.{view_of_pass, view_of_hold, run_of_pass, run_of_hold, state_of_pass, state_of_hold};
 ghost use Rattle.ticket_lock.specs.Passes.{IsPassOf, IsTryingOf, IsHoldOf, view_of_trying, state_of_trying};
 
 use crate::cell::TicketCell;
@@ -17,8 +19,8 @@ impl<O: SeqObject> TicketCell<O> {
     /// Reads the word: one load. Where its halves differ somebody is in line, and there is nothing to try.
     pub(crate) fn read(&self, pass: Pass<O>) -> Result<Trying<O>, Pass<O>>
         requires { IsPassOf self.now pass }
-        ensures trying { IfOk result (λ t. IsTryingOf self.now t × (view_of_trying t ≡ view_of_pass pass)) }
-        ensures busy { IfErr result (λ p. IsPassOf self.now p × IsBusy (view_of_pass pass) (view_of_pass p)) }
+        ensures trying { IfOk result (λ t. IsTryingOf self.now t × (view_of_trying t ≡ view_of_pass pass) × ((state_of_trying t).run ≡ run_of_pass pass)) }
+        ensures busy { IfErr result (λ p. IsPassOf self.now p × IsBusy (view_of_pass pass) (view_of_pass p) × (run_of_pass p ≡ run_of_pass pass)) }
     {
         let Pass { cpu, key, mut seat } = pass;
         let word = self.table.read::<Read>(&mut seat, 0);
@@ -73,6 +75,8 @@ impl<O: SeqObject> TicketCell<O> {
         ensures grows { IfOk result (λ h. Grows (view_of_pass pass).caller.owned (view_of_pass pass).seen (view_of_hold h).history.log) }
         ensures pass { IfErr result (λ p. IsPassOf self.now p) }
         ensures busy { IfErr result (λ p. IsBusy (view_of_pass pass) (view_of_pass p)) }
+        ensures run { IfOk result (λ h. (looks : ℕ) × HasAcquired (view_of_pass pass).caller (run_of_pass pass) looks (run_of_hold h)) }
+        ensures busy_run { IfErr result (λ p. Extends (view_of_pass pass).caller.owned (run_of_pass pass) [] (run_of_pass p)) }
     {
         match self.read(pass) {
             Ok(trying) => self.exchange(trying),

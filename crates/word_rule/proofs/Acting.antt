@@ -25,7 +25,7 @@ use Rattle.word_rule.specs.Line.{holding}
 use Rattle.word_rule.specs.LockRuns.{Extends, HasRun}
 use Rattle.word_rule.specs.OneHold.{silently}
 use Rattle.word_rule.specs.Rule.CellInvariant.{Viewed}
-use Rattle.word_rule.specs.Rule.Seats.{Seat, shown, at, settled, taken_in, keeping, letting, merged}
+use Rattle.word_rule.specs.Rule.Seats.{Seat, shown, at, moved_on, settled, taken_in, keeping, letting, merged}
 use Rattle.word_rule.specs.Rule.Announced.{Lacks, HasAll, Learns, Goes, Lags, Gets, Left, Returns, any_has}
 use Rattle.word_rule.specs.Rule.Callers.{AddedBy, caller_of, state_without, state_with, StandsAt, IsWithout, IsWith}
 use Rattle.word_rule.proofs.Known.{value_of}
@@ -36,6 +36,9 @@ module _ {O P C R : Type 0} where
   -- the seat after a step that its first caller did
   stands_settled : (h : Cell O P C R) (cpu : ℕ) (p q : Stage) (log : List (Event O P C R)) (run : List (Moment (Event O P C R))) (slots slots' : List (ℕ × Option (History O P C R))) (m : Seat O P C R) → StandsAt h cpu p slots m → StandsAt h cpu q slots' (settled m.0 q log run, slots')
   stands_settled h cpu p q log run slots slots' m a = record { alone = ap (map (shown log run)) a.alone; number = a.number; carries = refl; stands = refl; told = a.told }
+
+  stands_moved : (h : Cell O P C R) (cpu : ℕ) (p q : Stage) (log : List (Event O P C R)) (run : List (Moment (Event O P C R))) (slots : List (ℕ × Option (History O P C R))) (m : Seat O P C R) → StandsAt h cpu p slots m → StandsAt h cpu q slots (moved_on m.0 q log run, slots)
+  stands_moved h cpu p q log run slots m a = record { alone = a.alone; number = a.number; carries = refl; stands = refl; told = a.told }
 
 module _ {O P C R : Type 0} (meaning : Ghosts O P C R) where
   -- it has seen this log and this run
@@ -48,7 +51,11 @@ module _ {O P C R : Type 0} (meaning : Ghosts O P C R) where
 
   -- it stands elsewhere, by these steps
   pub goes_without : (h : Cell O P C R) (cpu : ℕ) (p q : Stage) (done : List StepDone) (m m' : Seat O P C R) → IsWithout meaning h cpu p m → Goes meaning q done m m' → IsWithout meaning h cpu q m'
-  goes_without h cpu p q done m m' w g = sees_without h cpu p q g.log g.run m m' w (g.learns.lawful h w.at.told) (g.learns.ran h w.at.told) (g.seat ∙ (λ k. (settled m.0 q g.log g.run, w.at.carries k)))
+  goes_without h cpu p q done m m' w g = subst (IsWithout meaning h cpu q) (sym (g.seat ∙ (λ k. (moved_on m.0 q g.log g.run, w.at.carries k)))) record {
+    at = stands_moved h cpu p q g.log g.run [] m w.at;
+    pass_view = record { caller = w.pass_view.caller; lawful = g.learns.lawful h w.at.told };
+    ran = g.learns.ran h w.at.told;
+  }
 
   pub moves_without : (h : Cell O P C R) (cpu : ℕ) (p q : Stage) (done : List StepDone) (m m' : Seat O P C R) → IsWithout meaning h cpu p m → Goes meaning q done m m' → Moves meaning p q done (state_without h p m) (state_without h q m')
   moves_without h cpu p q done m m' w g = subst (λ z. Moves meaning p q done (state_without h p m) (state_without h q z)) (sym g.seat) record {
@@ -56,6 +63,7 @@ module _ {O P C R : Type 0} (meaning : Ghosts O P C R) where
     from = refl;
     to = refl;
     grows = g.learns.grows;
+    still = λ e. g.still (ap holding w.at.stands ∙ e);
     extends = g.learns.extends;
     lawful = g.learns.lawful h w.at.told;
     has = refl;
@@ -63,8 +71,8 @@ module _ {O P C R : Type 0} (meaning : Ghosts O P C R) where
 
   -- so does one with the object
   pub goes_with : (h : Cell O P C R) (cpu : ℕ) (p q : Stage) (done : List StepDone) (x : History O P C R) (m m' : Seat O P C R) → IsWith meaning h cpu p x m → holding p ≡ true → Goes meaning q done m m' → IsWith meaning h cpu q x m'
-  goes_with h cpu p q done x m m' w holds g = subst (IsWith meaning h cpu q x) (sym (g.seat ∙ (λ k. (settled m.0 q g.log g.run, w.at.carries k)))) record {
-    at = stands_settled h cpu p q g.log g.run ((0, None) ∷ []) ((0, None) ∷ []) m w.at;
+  goes_with h cpu p q done x m m' w holds g = subst (IsWith meaning h cpu q x) (sym (g.seat ∙ (λ k. (moved_on m.0 q g.log g.run, w.at.carries k)))) record {
+    at = stands_moved h cpu p q g.log g.run ((0, None) ∷ []) m w.at;
     added = subst (λ (l : List (Event O P C R)). AddedBy m.0.main.cpu l x.log) (sym (g.still (ap holding w.at.stands ∙ holds))) w.added;
     hold_view = w.hold_view;
     ran = g.learns.ran h w.at.told;
@@ -76,6 +84,7 @@ module _ {O P C R : Type 0} (meaning : Ghosts O P C R) where
     from = refl;
     to = refl;
     grows = g.learns.grows;
+    still = λ e. g.still (ap holding w.at.stands ∙ e);
     extends = g.learns.extends;
     lawful = g.learns.lawful h w.at.told;
     has = refl;
@@ -162,6 +171,7 @@ module _ {O P C R : Type 0} (meaning : Ghosts O P C R) where
     from = refl;
     to = refl;
     grows = grows_self (caller_of h m.0).owned m.0.main.seen;
+    still = λ _. refl;
     extends = extends_self (caller_of h m.0).owned m.0.main.run;
     lawful = w.pass_view.lawful;
     has = refl;

@@ -22,7 +22,7 @@ use Rattle.word_rule.specs.Cell.{Cell, Grows, Lawful, stored}
 use Rattle.word_rule.specs.LockRuns.{Extends, HasRun}
 use Rattle.word_rule.specs.OneHold.{leaving, silently}
 use Rattle.word_rule.specs.Rule.CellInvariant.{GhostState, Caller, Viewed, Table, EachFrom, CallerInvariant, SeatInvariant, CellInvariant}
-use Rattle.word_rule.specs.Rule.Seats.{Seat, settled}
+use Rattle.word_rule.specs.Rule.Seats.{Seat, moved_on, settled}
 use Rattle.word_rule.specs.Rule.Announced.{any_has, Lacks, IsElse, Learns, Goes, Gets, Left, Returns}
 use Rattle.word_rule.proofs.LockLaws.{in_line_below, idle_outside}
 use Rattle.word_rule.proofs.RunLists.{extends_after, extends_by, extends_beside, silent_own}
@@ -105,7 +105,7 @@ module _ {O P C R : Type 0} (meaning : Ghosts O P C R) (kind : LockKind) (h : Ce
     }
 
     -- what a step tells that moves its caller alone
-    pub goes : (stage : Stage) (done : List StepDone) → HasRun h r.state.committed (run_by done) → Goes meaning stage done me (settled me.0 stage r.state.committed (run_by done), me.1)
+    pub goes : (stage : Stage) (done : List StepDone) → HasRun h r.state.committed (run_by done) → Goes meaning stage done me (moved_on me.0 stage r.state.committed (run_by done), me.1)
     goes stage done ran = record {
       log = r.state.committed;
       run = run_by done;

@@ -8,11 +8,12 @@ use Rattle.word_rule.specs.declared.view.Moment.{Moment}
 use Rattle.word_rule.specs.Cell.{Cell}
 use Rattle.word_rule.specs.LockRuns.{events_in, lock_after, turns_after, AreTurns, IsMoment, HasRun}
 use Rattle.word_rule.specs.Locks.{Lock, opening_lock}
-use Rattle.word_rule.specs.OneHold.{leaving}
+use Rattle.word_rule.specs.OneHold.{leaving, silently}
+use Rattle.word_rule.specs.Rule.Definition.{GoesOn}
 use Rattle.word_rule.specs.Rule.Plain.{plain}
 use Rattle.word_rule.specs.Turns.{turn, ends_hold}
 use Rattle.word_rule.proofs.PlainTurns.{is_trying, IsWhole, turn_whole, turn_plainly}
-use Rattle.word_rule.proofs.RunLists.{events_append}
+use Rattle.word_rule.proofs.RunLists.{events_append, silent_own}
 
 module _ {E : Type 0} where
   pub after_push : (run : List (Moment E)) (m : Moment E) (l : Lock) → lock_after (run ++ m ∷ []) l ≡ (turn (lock_after run l) m.cpu).0
@@ -68,3 +69,25 @@ module _ {O P C R : Type 0} (h : Cell O P C R) where
   -- before the first step
   pub no_run : HasRun h h.opening []
   no_run = record { turns = λ first. refl; left = sym (append-nil h.opening); each = tt }
+
+-- how the run goes on, by what the step says
+module _ {E : Type 0} (cpu : ℕ) (run : List (Moment E)) where
+  silent_steps : (done : List StepDone) → map (λ m. m.step) (silently {E = E} cpu done) ≡ done
+  silent_steps [] = refl
+  silent_steps (s ∷ ss) = ap (λ z. s ∷ z) (silent_steps ss)
+
+  pub goes_nowhere : GoesOn cpu [] run run
+  goes_nowhere = record { moments = []; is = sym (append-nil run); steps = refl; mine = tt }
+
+  pub goes_silently : (done : List StepDone) → GoesOn cpu done run (run ++ silently cpu done)
+  goes_silently done = record { moments = silently cpu done; is = refl; steps = silent_steps done; mine = silent_own E cpu done }
+
+  pub goes_leaving : (step : StepDone) (events : List E) → GoesOn cpu (step ∷ []) run (run ++ leaving cpu step events ∷ [])
+  goes_leaving step events = record { moments = leaving cpu step events ∷ []; is = refl; steps = refl; mine = (refl, tt) }
+
+  -- what was asked of a step, once it is known what it does
+  pub does_so : (next : Lock × List StepDone) (l : Lock) (done : List StepDone) (after : List (Moment E)) → next ≡ (l, done) → GoesOn cpu done run after → (l ≡ next.0) × GoesOn cpu next.1 run after
+  does_so next l done after is goes = subst (λ (z : Lock × List StepDone). (l ≡ z.0) × GoesOn cpu z.1 run after) (sym is) (refl, goes)
+
+  pub turns_so : (l l' : Lock) (step : StepDone) (after : List (Moment E)) → turn l cpu ≡ (l', step) → GoesOn cpu (step ∷ []) run after → (l' ≡ (turn l cpu).0) × GoesOn cpu ((turn l cpu).1 ∷ []) run after
+  turns_so l l' step after is goes = does_so ((turn l cpu).0, (turn l cpu).1 ∷ []) l' (step ∷ []) after (ap (λ (z : Lock × StepDone). (z.0, z.1 ∷ [])) is) goes

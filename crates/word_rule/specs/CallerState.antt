@@ -1,5 +1,5 @@
 -- Where a caller stands at a cell, and what each kind of step does with it.
-use Rattle.std.specs.Prelude.{◌≡◌, ℕ, ◌<◌, false, List, [], ◌∷◌, ◌++◌, Option, Some, None}
+use Rattle.std.specs.Prelude.{◌≡◌, ℕ, ◌<◌, true, false, List, [], ◌∷◌, ◌++◌, Option, Some, None}
 use Rattle.event_log.specs.declared.object.SeqObject.{Ghosts}
 use Rattle.event_log.specs.declared.event.Event.{Event}
 use Rattle.event_log.specs.History.{History}
@@ -7,6 +7,7 @@ use Rattle.word_rule.specs.declared.machine.step_done.StepDone.{StepDone}
 use Rattle.word_rule.specs.declared.stage.Stage.{Stage}
 use Rattle.word_rule.specs.declared.view.Moment.{Moment}
 use Rattle.word_rule.specs.Cell.{Caller, Grows, Lawful, OwnsAll, stored}
+use Rattle.word_rule.specs.Line.{holding}
 use Rattle.word_rule.specs.LockRuns.{Extends}
 use Rattle.word_rule.specs.OneHold.{leaving, silently}
 
@@ -25,12 +26,14 @@ module _ {O P C R : Type 0} where
     pub inside : p < caller.cell.numbers
 
 module _ {O P C R : Type 0} (meaning : Ghosts O P C R) where
-  -- the caller goes from p to q by these steps, and may see more; who has the object stays, and what is stored
+  -- the caller goes from p to q by these steps, and may see more, but no event while it has the object; who has the object
+  -- stays, and what is stored
   pub record Moves (p q : Stage) (done : List StepDone) (before after : CallerState O P C R) : Type 0 where
     pub caller : after.caller ≡ before.caller
     pub from : before.stage ≡ p
     pub to : after.stage ≡ q
     pub grows : Grows before.caller.owned before.seen after.seen
+    pub still : holding p ≡ true → after.seen ≡ before.seen
     pub extends : Extends before.caller.owned before.run (silently before.caller.acting done) after.run
     pub lawful : Lawful meaning before.caller.cell after.seen
     pub has : after.has ≡ before.has

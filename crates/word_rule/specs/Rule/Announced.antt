@@ -14,7 +14,7 @@ use Rattle.word_rule.specs.Rule.CellInvariant.{EachFrom, Caller, Viewed}
 use Rattle.word_rule.specs.Line.{holding}
 use Rattle.word_rule.specs.LockRuns.{Extends, HasRun}
 use Rattle.word_rule.specs.OneHold.{leaving, silently}
-use Rattle.word_rule.specs.Rule.Seats.{Seat, settled, merged}
+use Rattle.word_rule.specs.Rule.Seats.{Seat, moved_on, settled, merged}
 
 -- one of the callers has the number
 abbrev pub any_has : {E : Type 0} → ℕ → List (Seated E) → Bool
@@ -50,7 +50,7 @@ module _ {O P C R : Type 0} (meaning : Ghosts O P C R) where
   pub record Goes (stage : Stage) (done : List StepDone) (m m' : Seat O P C R) : Type 0 where
     pub log : List (Event O P C R)
     pub run : List (Moment (Event O P C R))
-    pub seat : m' ≡ (settled m.0 stage log run, m.1)
+    pub seat : m' ≡ (moved_on m.0 stage log run, m.1)
     pub learns : Learns m.0 (silently m.0.main.cpu done) log run
     pub still : holding m.0.main.stage ≡ true → log ≡ m.0.main.seen
 

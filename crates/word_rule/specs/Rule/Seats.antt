@@ -50,6 +50,10 @@ module _ {H E : Type 0} where
   abbrev pub noted : View H E → ℕ → View H E
   noted v w = record { told = v.told; main = reading w v.main; others = v.others }
 
+  -- the first caller has seen this log and this run, and stands there
+  abbrev pub moved_on : View H E → Stage → List E → List (Moment E) → View H E
+  moved_on v p log run = record { told = v.told; main = shown log run (at p v.main); others = v.others }
+
   -- each caller of the seat has seen this log and this run, and the first stands there
   abbrev pub settled : View H E → Stage → List E → List (Moment E) → View H E
   settled v p log run = record { told = v.told; main = shown log run (at p v.main); others = map (shown log run) v.others }

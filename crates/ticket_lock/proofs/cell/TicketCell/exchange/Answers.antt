@@ -3,7 +3,7 @@ use Rattle.atomic_table.specs.Table.{rest}
 use Rattle.word_rule.specs.declared.stage.Stage.TheVariants.{Ticket}
 use Rattle.word_rule.specs.declared.stage.TicketStage.TheVariants.{Served}
 use Rattle.word_rule.specs.Line.{holder}
-use Rattle.word_rule.proofs.Acting.{took, holds_from, misses_without}
+use Rattle.word_rule.proofs.Acting.{took, holds_from, still_without, not_all}
 use Rattle.ticket_lock.proofs.TicketRule.{trying}
 use Rattle.ticket_lock.proofs.cell.TicketCell.exchange.Goals as goal
 
@@ -17,11 +17,11 @@ take-logged-requires g c = let t = c.try_exchange-found.ensures.2.hit c.if-found
 
 pub invariant_of-result : goal.invariant_of-result
 invariant_of-result g c = let a = c.args.trying in let t = c.try_exchange-found.ensures.2.hit c.if-found-word.true in let y = c.take-logged.result.0 in let e = c.take-logged.ensures in
-    let got = took g.O.SeqObject _ a.seat.me c.try_exchange-found.new.seat.me c.take-logged.new.seat.me (Some y) y t e.2 e.3 refl in record {
-      holds = holds_from g.O.SeqObject a.key.value a.cpu.number _ _ y a.seat.me c.take-logged.new.seat.me a.idle got;
+    let got = took g.O.SeqObject _ _ a.seat.me c.try_exchange-found.new.seat.me c.take-logged.new.seat.me (Some y) y t e.2 e.3 refl in record {
+      holds = holds_from g.O.SeqObject a.key.value a.cpu.number _ _ _ y a.seat.me c.take-logged.new.seat.me a.idle got;
       there = ap (λ z. z.0.main.stage) got.seat ∙ ((λ k. Ticket (Served (sym c.served_ticket.ensures k))) ∙ ap (λ k. holder k c.served_ticket.result) (sym (ap (λ k. k.kind) c.requires.told ∙ c.args.self.now.kind)));
     }
 
 pub returns-else-found-word-clause-busy : goal.returns-else-found-word-clause-busy
 returns-else-found-word-clause-busy g c = let a = c.args.trying in let t = c.try_exchange-found.ensures.2 in
-    (search rules, misses_without g.O.SeqObject a.key.value a.cpu.number _ a.seat.me c.try_exchange-found.new.seat.me a.idle (t.same c.if-found-word.false) (t.lacks c.if-found-word.false a.read))
+    (search rules, record { made = still_without g.O.SeqObject a.key.value a.cpu.number _ a.seat.me c.try_exchange-found.new.seat.me a.idle (t.same c.if-found-word.false); another = not_all g.O.SeqObject a.key.value a.seat.me a.idle.at.told (t.lacks c.if-found-word.false a.read) })

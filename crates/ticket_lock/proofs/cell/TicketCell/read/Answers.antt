@@ -19,4 +19,5 @@ returns-else-next_ticket-served_ticket-clause-busy g c = let p = c.args.pass in 
         grows = subst (λ z. Grows (caller_of p.key.value m.0).owned m.0.main.seen z.0.main.seen) (sym e.seat) (grows_self (caller_of p.key.value m.0).owned m.0.main.seen);
         another = not_all g.O.SeqObject p.key.value m p.idle.at.told lacks;
       },
+      ap (λ z. z.0.main.run) e.seat,
     )

@@ -1,0 +1,104 @@
+-- From what single steps say of a run to what whole calls say.
+use Rattle.std.proofs.Common.{◌≡◌, ℕ, ◌+◌, ◌-◌, ◌^◌, ◌≤◌, min, Bool, true, false, cond, List, [], ◌∷◌, ◌++◌, length, refl, sym, ap, ◌∙◌, subst, arith, append_assoc, length-append, Some, Result, Ok, Err, IfOk}
+use Rattle.std.specs.List.{filter}
+use Rattle.std.proofs.lemmas.List.Elements.{filter-append}
+use Rattle.event_log.specs.declared.object.SeqObject.{Ghosts}
+use Rattle.event_log.specs.declared.event.Event.{Event}
+use Rattle.event_log.specs.History.{History}
+use Rattle.word_rule.specs.declared.machine.step_done.StepDone.{StepDone}
+use Rattle.word_rule.specs.declared.machine.step_done.StepDone.TheVariants as steps
+use Rattle.word_rule.specs.declared.stage.Stage.{Stage}
+use Rattle.word_rule.specs.declared.view.Moment.{Moment}
+use Rattle.word_rule.specs.Cell.{Caller, HoldView, stored}
+use Rattle.word_rule.specs.CallerState.{CallerState, Moves, Takes, Gives}
+use Rattle.word_rule.specs.LockRuns.{Extends, events_in}
+use Rattle.word_rule.specs.OneHold.{gets_object, how_many, Acquires, Releases, looks_in, leaving, silently, HasAcquired, HasReleased, HasHeld}
+use Rattle.word_rule.specs.Turns.{arrives, ends_hold, is_look}
+use Rattle.word_rule.proofs.RunLists.{extends_then, silently_append}
+
+pub count_append : (test : StepDone → Bool) (a b : List StepDone) → how_many test (a ++ b) ≡ how_many test a + how_many test b
+count_append test a b = ap length (filter-append test a b) ∙ length-append (filter test a) (filter test b)
+
+-- a CPU has arrived by these steps, with so many looks, and hasn't got the object
+pub record Waits (looks : ℕ) (done : List StepDone) : Type 0 where
+  pub arrived : how_many arrives done ≡ 1
+  pub got : how_many gets_object done ≡ 0
+  pub unended : how_many ends_hold done ≡ 0
+  pub looked : looks ≡ looks_in done
+
+-- one look more
+look_counted : (n m : ℕ) → min (min n (2 ^ 64 - 1) + 1) (2 ^ 64 - 1) ≡ min (n + 1) (2 ^ 64 - 1)
+look_counted n m = omega arith
+
+pub looks_more : (looks more : ℕ) (done : List StepDone) (hit : Bool) → looks ≡ looks_in done → more ≡ min (looks + 1) (2 ^ 64 - 1) → more ≡ looks_in (done ++ steps.Look hit ∷ [])
+looks_more looks more done hit is counted =
+    let n : ℕ = how_many is_look done in
+    let longer : how_many is_look (done ++ steps.Look hit ∷ []) ≡ n + 1 = count_append is_look done (steps.Look hit ∷ []) in
+    counted ∙ (ap (λ (z : ℕ). min (z + 1) (2 ^ 64 - 1)) is ∙ (look_counted n 0 ∙ ap (λ (z : ℕ). min z (2 ^ 64 - 1)) (sym longer)))
+
+pub waits_more : (looks more : ℕ) (done : List StepDone) → Waits looks done → more ≡ min (looks + 1) (2 ^ 64 - 1) → Waits more (done ++ steps.Look false ∷ [])
+waits_more looks more done w counted = record {
+  arrived = let c = count_append arrives done (steps.Look false ∷ []) in let a = w.arrived in omega (arith, a, c);
+  got = let c = count_append gets_object done (steps.Look false ∷ []) in let a = w.got in omega (arith, a, c);
+  unended = let c = count_append ends_hold done (steps.Look false ∷ []) in let a = w.unended in omega (arith, a, c);
+  looked = looks_more looks more done false w.looked counted;
+}
+
+-- the look that gets the object
+pub acquires_looking : (looks : ℕ) (done : List StepDone) → Waits looks done → Acquires (done ++ steps.Look true ∷ [])
+acquires_looking looks done w = record {
+  before = done;
+  last = steps.Look true;
+  is = refl;
+  got = refl;
+  once = let c = count_append gets_object done (steps.Look true ∷ []) in let a = w.got in omega (arith, a, c);
+  arrived = let c = count_append arrives done (steps.Look true ∷ []) in let a = w.arrived in omega (arith, a, c);
+  unended = let c = count_append ends_hold done (steps.Look true ∷ []) in let a = w.unended in omega (arith, a, c);
+}
+
+module _ {O P C R : Type 0} where
+  -- the steps that a caller has done since it was there
+  abbrev pub Since : Caller O P C R → List (Moment (Event O P C R)) → List StepDone → CallerState O P C R → Type 0
+  Since caller before done a = (a.caller ≡ caller) × Extends caller.owned before (silently caller.acting done) a.run
+
+  -- and what it does more
+  pub since_more : (caller : Caller O P C R) (before after : List (Moment (Event O P C R))) (done more : List StepDone) (a : CallerState O P C R) → Since caller before done a → Extends a.caller.owned a.run (silently a.caller.acting more) after → Extends caller.owned before (silently caller.acting (done ++ more)) after
+  since_more caller before after done more a s e = subst (λ l. Extends caller.owned before l after) (sym (silently_append caller.acting done more))
+      (extends_then caller.owned before (silently caller.acting done) a.run (silently caller.acting more) after s.1 (subst (λ (k : Caller O P C R). Extends k.owned a.run (silently k.acting more) after) s.0 e))
+
+module _ {O P C R : Type 0} (meaning : Ghosts O P C R) where
+  pub since_moved : (caller : Caller O P C R) (before : List (Moment (Event O P C R))) (done more : List StepDone) (p q : Stage) (a b : CallerState O P C R) → Since caller before done a → Moves meaning p q more a b → Since caller before (done ++ more) b
+  since_moved caller before done more p q a b s m = (m.caller ∙ s.0, since_more caller before b.run done more a s m.extends)
+
+  -- the look that gets the object, after others
+  pub acquired_looking : (caller : Caller O P C R) (before : List (Moment (Event O P C R))) (looks more : ℕ) (done : List StepDone) (p q : Stage) (a b : CallerState O P C R) → Waits looks done → more ≡ min (looks + 1) (2 ^ 64 - 1) → Since caller before done a → Takes meaning p q (steps.Look true ∷ []) a b
+      → HasAcquired caller before more b.run
+  acquired_looking caller before looks more done p q a b w counted s t = record {
+    done = done ++ steps.Look true ∷ [];
+    acquires = acquires_looking looks done w;
+    looked = looks_more looks more done true w.looked counted;
+    extends = since_more caller before b.run done (steps.Look true ∷ []) a s t.extends;
+  }
+
+  -- a hold ends by this step, after others of which none saw an event
+  pub released_by : (hold : HoldView O P C R) (before : List (Moment (Event O P C R))) (done : List StepDone) (last : StepDone) (p q : Stage) (a b : CallerState O P C R) → Releases done last → a.seen ≡ hold.caller.cell.opening ++ events_in before → Since hold.caller before done a
+      → a.has ≡ Some hold.history → Gives meaning p q last a b → HasReleased hold before b.run
+  released_by hold before done last p q a b r seen s has t =
+      let same : hold.history ≡ stored meaning a.caller.cell b.seen = cc (has, t.had) in
+      record {
+        done = done;
+        last = last;
+        releases = r;
+        events = t.events;
+        added = ap (λ z. z.log) same ∙ (t.added ∙ ap (λ l. l ++ t.events) seen);
+        extends = extends_then hold.caller.owned before (silently hold.caller.acting done) a.run (leaving hold.caller.acting last t.events ∷ []) b.run s.1 (subst (λ (k : Caller O P C R). Extends k.owned a.run (leaving k.acting last t.events ∷ []) b.run) s.0 t.extends);
+      }
+
+  -- a try that gets the object
+  pub acquired_at_once : (caller : Caller O P C R) (before : List (Moment (Event O P C R))) (looks : ℕ) (done now : List StepDone) (p q : Stage) (a b : CallerState O P C R) → Acquires (done ++ now) → looks ≡ looks_in (done ++ now) → Since caller before done a → Takes meaning p q now a b → HasAcquired caller before looks b.run
+  acquired_at_once caller before looks done now p q a b acquires looked s t = record { done = done ++ now; acquires = acquires; looked = looked; extends = since_more caller before b.run done now a s t.extends }
+
+-- what holds of an Ok holds of what follows from it
+pub if_ok : {A E : Type 0} {P Q : A → Type 0} (r : Result A E) → ((a : A) → P a → Q a) → IfOk r P → IfOk r Q
+if_ok (Ok a) f p = f a p
+if_ok (Err e) f p = tt
