@@ -1,5 +1,5 @@
 -- What each step of the code asks of an MCS lock's rule, and what it leaves with a caller.
-use Rattle.std.proofs.Common.{◌≡◌, ℕ, ◌+◌, ◌<◌, ◌==◌, true, true≢false, List, [], ◌∷◌, refl, sym, ap, ◌∙◌, subst, arith, Option, Some, None}
+use Rattle.std.proofs.Common.{◌≡◌, ℕ, ◌+◌, ◌<◌, ◌==◌, Bool, true, false, true≢false, List, [], ◌∷◌, ◌++◌, refl, sym, ap, ◌∙◌, subst, arith, Option, Some, None}
 use mathlib.Core.Option.{none}
 use prog.Atomic.{either}
 use Rattle.atomic_table.specs.Table.{step, rest}
@@ -7,48 +7,62 @@ use Rattle.event_log.specs.declared.object.SeqObject.{Ghosts}
 use Rattle.event_log.specs.declared.event.Event.{Event}
 use Rattle.event_log.specs.Distinct.{has}
 use Rattle.event_log.specs.History.{History}
+use Rattle.word_rule.specs.declared.machine.step_done.StepDone.{StepDone}
+use Rattle.word_rule.specs.declared.machine.step_done.StepDone.TheVariants as steps
 use Rattle.word_rule.specs.declared.stage.Stage.{Stage}
-use Rattle.word_rule.specs.declared.stage.Stage.TheVariants.{Idle, Mcs}
+use Rattle.word_rule.specs.declared.view.Moment.{Moment}
+use Rattle.word_rule.specs.Line.{holding}
+use Rattle.word_rule.specs.LockRuns.{Extends}
+use Rattle.word_rule.specs.OneHold.{gets_object, silently, Releases, HasAcquired}
+use Rattle.word_rule.specs.Turns.{arrives, ends_hold, is_look}
+use Rattle.word_rule.specs.declared.stage.Stage.TheVariants.{Idle, Mcs, Trying}
 use Rattle.word_rule.specs.declared.stage.McsStage.TheVariants.{Ready, Behind, Armed, Waiting, Holding, Alone, Leaving, Passing}
-use Rattle.word_rule.specs.Cell.{Cell, Grows, Lawful, OwnsAll}
+use Rattle.word_rule.specs.Cell.{Cell, Caller as CallerOf, HoldView, Grows, Lawful, OwnsAll}
 use Rattle.word_rule.specs.declared.lock_kind.LockKind.{LockKind}
 use Rattle.word_rule.specs.declared.lock_kind.LockKind.TheVariants as kinds
-use Rattle.word_rule.specs.Rule.Definition.{IsTurn, IsTry}
+use Rattle.word_rule.specs.Rule.Definition.{IsTurn, IsTry, IsReadying}
 use Rattle.word_rule.specs.CallerState.{CallerState, IsOther, Moves}
-use Rattle.word_rule.specs.Rule.CellInvariant.{Caller}
-use Rattle.word_rule.specs.Rule.Seats.{Seat, at, with_stage, taken_in, keeping, letting}
-use Rattle.word_rule.specs.Rule.Announced.{IsElse}
+use Rattle.word_rule.specs.Rule.CellInvariant.{Caller, EachFrom}
+use Rattle.word_rule.specs.Rule.Seats.{Seat, shown, at, moved_on, taken_in, keeping, letting}
+use Rattle.word_rule.specs.Rule.Announced.{IsElse, Lacks, Learns, Goes, Lags}
 use Rattle.word_rule.specs.Rule.Callers.{caller_of, hold_view_of, state_with, IsWithout, IsWith}
-use Rattle.word_rule.proofs.Lists.{grows_self, grows_then}
+use Rattle.word_rule.proofs.Lists.{grows_then}
 use Rattle.word_rule.proofs.Known.{AllIdle, idle_alone}
-use Rattle.word_rule.proofs.Acting.{value_of}
-use Rattle.mcs_lock.specs.Steps.{goes, arms, Names, enters, tries, looks, sees, sees_again, empties, passes}
-use Rattle.mcs_lock.proofs.McsRule.{clearing, entering, trying, arming, linking, looking, seeing, seeing_again, finding, emptying, passing}
+use Rattle.word_rule.proofs.Known.{value_of}
+use Rattle.word_rule.proofs.OneHolds.{Since, HeldSince, since_more, count_append}
+use Rattle.mcs_lock.specs.Queued.{IsQueued, IsSeen}
+use Rattle.mcs_lock.specs.Steps.{clears, readies, arms, links, Names, enters, tries, looks, sees, sees_again, empties, passes}
+use Rattle.mcs_lock.proofs.McsRule.{clearing, readying, entering, trying, arming, linking, looking, seeing, seeing_again, finding, emptying, passing}
 
 -- the words are those of the number that the code has, at a cell of the MCS lock
 module _ {O P C R : Type 0} (meaning : Ghosts O P C R) (h : Cell O P C R) (kind : h.kind ≡ kinds.Mcs) (slots id cpu : ℕ) where
   at_kind : (m : Seat O P C R) (i : ℕ) (f : ℕ → ℕ) (then : ℕ → Seat O P C R → Type 0) → IsTurn meaning kinds.Mcs h slots id m i f then → IsTurn meaning h.kind h slots id m i f then
   at_kind m i f then t = subst (λ k. IsTurn meaning k h slots id m i f then) (sym kind) t
 
-  pub clear_now : (m : Seat O P C R) → IsWithout meaning h cpu Idle m → IsTurn meaning h.kind h slots id m (1 + cpu) (λ _. 0) (λ _. goes (Mcs Ready) (step slots (1 + cpu) 0 0 none) m 0)
-  clear_now m w = at_kind m (1 + cpu) (λ _. 0) (λ _. goes (Mcs Ready) (step slots (1 + cpu) 0 0 none) m 0) (subst (λ (z : ℕ). IsTurn meaning kinds.Mcs h slots id m (1 + z) (λ _. 0) (λ _. goes (Mcs Ready) (step slots (1 + z) 0 0 none) m 0)) w.at.number
+  pub clear_now : (m : Seat O P C R) → IsWithout meaning h cpu Idle m → IsTurn meaning h.kind h slots id m (1 + cpu) (λ _. 0) (λ _. clears meaning (step slots (1 + cpu) 0 0 none) m 0)
+  clear_now m w = at_kind m (1 + cpu) (λ _. 0) (λ _. clears meaning (step slots (1 + cpu) 0 0 none) m 0) (subst (λ (z : ℕ). IsTurn meaning kinds.Mcs h slots id m (1 + z) (λ _. 0) (λ _. clears meaning (step slots (1 + z) 0 0 none) m 0)) w.at.number
       (clearing meaning h slots id m w.pass_view.caller.acts w.at.stands))
 
   pub enter_now : (m : Seat O P C R) → IsWithout meaning h cpu (Mcs Ready) m → IsTurn meaning h.kind h slots id m 0 (λ _. cpu + 1) (enters meaning (step slots 0 (cpu + 1) 0 none) m)
   enter_now m w = at_kind m 0 (λ _. cpu + 1) (enters meaning (step slots 0 (cpu + 1) 0 none) m) (subst (λ (z : ℕ). IsTurn meaning kinds.Mcs h slots id m 0 (λ _. z + 1) (enters meaning (step slots 0 (z + 1) 0 none) m)) w.at.number
       (entering meaning h slots id m w.pass_view.caller.acts w.at.stands))
 
-  pub try_now : (m : Seat O P C R) → IsWithout meaning h cpu (Mcs Ready) m → IsTry meaning h.kind h 0 slots id m 0 (λ k. either (k == 0) (cpu + 1) k) (tries meaning (step slots 0 0 (cpu + 1) none) m)
+  pub ready_now : (m : Seat O P C R) → IsWithout meaning h cpu Idle m → IsReadying meaning h.kind h slots id m (1 + cpu) (λ _. 0) (λ _. readies meaning (step slots (1 + cpu) 0 0 none) m 0)
+  ready_now m w =
+      let Goal : LockKind × ℕ → Type 0 = λ z. IsReadying meaning z.0 h slots id m (1 + z.1) (λ _. 0) (λ _. readies meaning (step slots (1 + z.1) 0 0 none) m 0) in
+      subst Goal (λ i. (sym kind i, w.at.number i)) (readying meaning h slots id m w.pass_view.caller.acts w.at.stands)
+
+  pub try_now : (m : Seat O P C R) → IsWithout meaning h cpu Trying m → IsTry meaning h.kind h 0 slots id m 0 (λ k. either (k == 0) (cpu + 1) k) (tries meaning (step slots 0 0 (cpu + 1) none) m)
   try_now m w =
       let Goal : LockKind × ℕ → Type 0 = λ z. IsTry meaning z.0 h 0 slots id m 0 (λ k. either (k == 0) (z.1 + 1) k) (tries meaning (step slots 0 0 (z.1 + 1) none) m) in
       subst Goal (λ i. (sym kind i, w.at.number i)) (trying meaning h slots id m w.pass_view.caller.acts w.at.stands (idle_alone m.0.others w.at.alone))
 
-  pub arm_now : (n q : ℕ) (m : Seat O P C R) → h.numbers ≡ n → IsWithout meaning h cpu (Mcs (Behind q)) m → IsTurn meaning h.kind h slots id m (1 + n + cpu) (λ _. 1) (λ _. arms (step slots (1 + n + cpu) 1 0 none) m 1)
-  arm_now n q m is w = at_kind m (1 + n + cpu) (λ _. 1) (λ _. arms (step slots (1 + n + cpu) 1 0 none) m 1) (subst (λ (z : ℕ × ℕ). IsTurn meaning kinds.Mcs h slots id m (1 + z.0 + z.1) (λ _. 1) (λ _. arms (step slots (1 + z.0 + z.1) 1 0 none) m 1)) (λ i. (is i, w.at.number i))
+  pub arm_now : (n q : ℕ) (m : Seat O P C R) → h.numbers ≡ n → IsWithout meaning h cpu (Mcs (Behind q)) m → IsTurn meaning h.kind h slots id m (1 + n + cpu) (λ _. 1) (λ _. arms meaning (step slots (1 + n + cpu) 1 0 none) m 1)
+  arm_now n q m is w = at_kind m (1 + n + cpu) (λ _. 1) (λ _. arms meaning (step slots (1 + n + cpu) 1 0 none) m 1) (subst (λ (z : ℕ × ℕ). IsTurn meaning kinds.Mcs h slots id m (1 + z.0 + z.1) (λ _. 1) (λ _. arms meaning (step slots (1 + z.0 + z.1) 1 0 none) m 1)) (λ i. (is i, w.at.number i))
       (arming meaning h slots id m w.pass_view.caller.acts q w.at.stands))
 
-  pub link_now : (q : ℕ) (m : Seat O P C R) → IsWithout meaning h cpu (Mcs (Armed q)) m → IsTurn meaning h.kind h slots id m (1 + q) (λ _. cpu + 1) (λ _. goes (Mcs Waiting) (step slots (1 + q) (cpu + 1) 0 none) m (cpu + 1))
-  link_now q m w = at_kind m (1 + q) (λ _. cpu + 1) (λ _. goes (Mcs Waiting) (step slots (1 + q) (cpu + 1) 0 none) m (cpu + 1)) (subst (λ (z : ℕ). IsTurn meaning kinds.Mcs h slots id m (1 + q) (λ _. z + 1) (λ _. goes (Mcs Waiting) (step slots (1 + q) (z + 1) 0 none) m (z + 1))) w.at.number
+  pub link_now : (q : ℕ) (m : Seat O P C R) → IsWithout meaning h cpu (Mcs (Armed q)) m → IsTurn meaning h.kind h slots id m (1 + q) (λ _. cpu + 1) (λ _. links meaning (step slots (1 + q) (cpu + 1) 0 none) m (cpu + 1))
+  link_now q m w = at_kind m (1 + q) (λ _. cpu + 1) (λ _. links meaning (step slots (1 + q) (cpu + 1) 0 none) m (cpu + 1)) (subst (λ (z : ℕ). IsTurn meaning kinds.Mcs h slots id m (1 + q) (λ _. z + 1) (λ _. links meaning (step slots (1 + q) (z + 1) 0 none) m (z + 1))) w.at.number
       (linking meaning h slots id m w.pass_view.caller.acts q w.at.stands))
 
   -- a look by a caller, also beside callers that are idle
@@ -76,10 +90,10 @@ module _ {O P C R : Type 0} (meaning : Ghosts O P C R) (h : Cell O P C R) (kind 
       at_kind me 0 (λ k. either (k == (cpu + 1)) 0 k) (empties meaning (step slots 0 (cpu + 1) 0 none) me) (subst Goal (λ i. (w.at.number i, sym filled i))
       (emptying meaning h slots id (m.0, (0, Some x) ∷ rest m.1) w.hold_view.caller.acts x (rest m.1) one refl w.added w.hold_view.lawful w.hold_view.replayed w.at.stands (idle_alone m.0.others w.at.alone)))
 
-  pub pass_now : (n j : ℕ) (x : History O P C R) (m me : Seat O P C R) → h.numbers ≡ n → IsWith meaning h cpu (Mcs (Passing j)) x m → slots ≡ 1 → me ≡ (m.0, (0, Some x) ∷ rest m.1) → IsTurn meaning h.kind h slots id me (1 + n + j) (λ _. 0) (λ _. passes meaning (step slots (1 + n + j) 0 0 none) me 0)
+  pub pass_now : (n j : ℕ) (x : History O P C R) (m me : Seat O P C R) → h.numbers ≡ n → IsWith meaning h cpu (Mcs (Passing j)) x m → slots ≡ 1 → me ≡ (m.0, (0, Some x) ∷ rest m.1) → IsTurn meaning h.kind h slots id me (1 + n + j) (λ _. 0) (λ _. passes (step slots (1 + n + j) 0 0 none) me 0)
   pass_now n j x m me is w one filled =
-      let Goal : ℕ × Seat O P C R → Type 0 = λ z. IsTurn meaning kinds.Mcs h slots id z.1 (1 + z.0 + j) (λ _. 0) (λ _. passes meaning (step slots (1 + z.0 + j) 0 0 none) z.1 0) in
-      at_kind me (1 + n + j) (λ _. 0) (λ _. passes meaning (step slots (1 + n + j) 0 0 none) me 0) (subst Goal (λ i. (is i, sym filled i))
+      let Goal : ℕ × Seat O P C R → Type 0 = λ z. IsTurn meaning kinds.Mcs h slots id z.1 (1 + z.0 + j) (λ _. 0) (λ _. passes (step slots (1 + z.0 + j) 0 0 none) z.1 0) in
+      at_kind me (1 + n + j) (λ _. 0) (λ _. passes (step slots (1 + n + j) 0 0 none) me 0) (subst Goal (λ i. (is i, sym filled i))
       (passing meaning h slots id (m.0, (0, Some x) ∷ rest m.1) w.hold_view.caller.acts x (rest m.1) one refl w.added w.hold_view.lawful w.hold_view.replayed j w.at.stands))
 
 module _ {O P C R : Type 0} where
@@ -94,42 +108,54 @@ module _ {O P C R : Type 0} where
   pub else_below : (h : Cell O P C R) (n j : ℕ) (m : Seat O P C R) → h.numbers ≡ n → m.0.told ≡ h ∷ [] → IsElse m.0 j → j < n
   else_below h n j m is told other = let below = other.inside h told in omega arith
 
-  pub else_now : (q : Stage) (m m' : Seat O P C R) (j : ℕ) → m' ≡ (with_stage m.0 q, m.1) → IsElse m.0 j → IsElse m'.0 j
-  else_now q m m' j e other = subst (λ (z : Seat O P C R). IsElse z.0 j) (sym e) record { other = other.other; inside = other.inside }
+  pub else_now : (meaning : Ghosts O P C R) (q : Stage) (done : List StepDone) (m m' : Seat O P C R) (j : ℕ) → Goes meaning q done m m' → IsElse m.0 j → IsElse m'.0 j
+  else_now meaning q done m m' j g other = subst (λ (z : Seat O P C R). IsElse z.0 j) (sym g.seat) record { other = other.other; inside = other.inside }
 
   -- a joined seat has the first caller of the first
   pub else_of : (m w m1 : Seat O P C R) (j : ℕ) → m1 ≡ (taken_in m.0 w.0, m.1) → IsElse m1.0 j → IsElse m.0 j
   else_of m w m1 j e other = let both = subst (λ (z : Seat O P C R). IsElse z.0 j) e other in record { other = both.other; inside = both.inside }
 
   -- two seats, joined, where the first caller moved, and split again
-  pub first_moved : (q : Stage) (m w m1 m2 m' : Seat O P C R) → m.0.others ≡ [] → m1 ≡ (taken_in m.0 w.0, m.1) → m2 ≡ (with_stage m1.0 q, m1.1) → m' ≡ (keeping m2.0, m2.1) → m' ≡ (with_stage m.0 q, m.1)
-  first_moved q m w m1 m2 m' alone e e' f =
-      let both : m2 ≡ (with_stage (taken_in m.0 w.0) q, m.1) = e' ∙ (λ i. (with_stage (e i).0 q, (e i).1)) in
-      f ∙ ((λ i. (keeping (both i).0, (both i).1)) ∙ (λ i. (record { told = m.0.told; main = at q m.0.main; others = sym alone i }, m.1)))
+  pub first_moved : (q : Stage) (log : List (Event O P C R)) (run : List (Moment (Event O P C R))) (m w m1 m2 m' : Seat O P C R) → m.0.others ≡ [] → m1 ≡ (taken_in m.0 w.0, m.1) → m2 ≡ (moved_on m1.0 q log run, m1.1) → m' ≡ (keeping m2.0, m2.1) → m' ≡ (moved_on m.0 q log run, m.1)
+  first_moved q log run m w m1 m2 m' alone e e' f =
+      let both : m2 ≡ (moved_on (taken_in m.0 w.0) q log run, m.1) = e' ∙ (λ i. (moved_on (e i).0 q log run, (e i).1)) in
+      f ∙ ((λ i. (keeping (both i).0, (both i).1)) ∙ (λ i. (record { told = m.0.told; main = shown log run (at q m.0.main); others = sym alone i }, m.1)))
 
-  pub second_same : (q : Stage) (m w m1 m2 w' : Seat O P C R) → w.0.others ≡ [] → w.1 ≡ [] → w.0.told ≡ m.0.told → m1 ≡ (taken_in m.0 w.0, m.1) → m2 ≡ (with_stage m1.0 q, m1.1) → w' ≡ (letting m2.0, []) → w' ≡ w
-  second_same q m w m1 m2 w' alone empty told e e' f =
-      let both : m2 ≡ (with_stage (taken_in m.0 w.0) q, m.1) = e' ∙ (λ i. (with_stage (e i).0 q, (e i).1)) in
+  pub second_same : (q : Stage) (log : List (Event O P C R)) (run : List (Moment (Event O P C R))) (m w m1 m2 w' : Seat O P C R) → w.0.others ≡ [] → w.1 ≡ [] → w.0.told ≡ m.0.told → m1 ≡ (taken_in m.0 w.0, m.1) → m2 ≡ (moved_on m1.0 q log run, m1.1) → w' ≡ (letting m2.0, []) → w' ≡ w
+  second_same q log run m w m1 m2 w' alone empty told e e' f =
+      let both : m2 ≡ (moved_on (taken_in m.0 w.0) q log run, m.1) = e' ∙ (λ i. (moved_on (e i).0 q log run, (e i).1)) in
       f ∙ ((λ i. (letting (both i).0, [])) ∙ (λ i. (record { told = sym told i; main = w.0.main; others = sym alone i }, sym empty i)))
+
+  -- and what the first learned there
+  pub first_goes : (meaning : Ghosts O P C R) (q : Stage) (done : List StepDone) (m w m1 m2 m' : Seat O P C R) → m.0.others ≡ [] → m1 ≡ (taken_in m.0 w.0, m.1) → Goes meaning q done m1 m2 → m' ≡ (keeping m2.0, m2.1) → Goes meaning q done m m'
+  first_goes meaning q done m w m1 m2 m' alone e g f =
+      let l = subst (λ (z : Seat O P C R). Learns meaning z.0 (silently z.0.main.cpu done) g.log g.run) e g.learns in
+      record {
+        log = g.log;
+        run = g.run;
+        seat = first_moved q g.log g.run m w m1 m2 m' alone e g.seat f;
+        learns = record { grows = l.grows; extends = l.extends; others = subst (λ cs. EachFrom (λ _ (c : Caller O P C R). Grows (λ x. has x c.owned) c.seen g.log × Extends (λ x. has x c.owned) c.run [] g.run) 1 cs) (sym alone) tt; lawful = l.lawful; ran = l.ran };
+        still = subst (λ (z : Seat O P C R). holding z.0.main.stage ≡ true → g.log ≡ z.0.main.seen) e g.still;
+      }
 
   abbrev history_in : History O P C R → Option (History O P C R) → History O P C R
   history_in d None = d
   history_in d (Some x) = x
 
   -- a holder that moves has the same numbers and the same object
-  pub same_held : (meaning : Ghosts O P C R) (h k : Cell O P C R) (p q s t : Stage) (x y : History O P C R) (m m' : Seat O P C R) → Moves meaning p q (state_with h s x m) (state_with k t y m') → hold_view_of k y m'.0 ≡ hold_view_of h x m.0
-  same_held meaning h k p q s t x y m m' moved = λ i. record { caller = moved.caller i; history = history_in x (moved.has i) }
+  pub same_held : (meaning : Ghosts O P C R) (h k : Cell O P C R) (p q s t : Stage) (done : List StepDone) (x y : History O P C R) (m m' : Seat O P C R) → Moves meaning p q done (state_with h s x m) (state_with k t y m') → hold_view_of k y m'.0 ≡ hold_view_of h x m.0
+  same_held meaning h k p q s t done x y m m' moved = λ i. record { caller = moved.caller i; history = history_in x (moved.has i) }
 
   -- what a caller has seen grows step by step
   pub grows_on : (before after : CallerState O P C R) (log : List (Event O P C R)) → after.caller ≡ before.caller → Grows before.caller.owned before.seen after.seen → Grows after.caller.owned after.seen log → Grows before.caller.owned before.seen log
   grows_on before after log same one two = grows_then before.caller.owned before.seen after.seen log one (subst (λ k. Grows k.owned after.seen log) same two)
 
   -- the CPU that a word named, by the number that the code has
-  pub named : (at : ℕ → Stage) (n k : ℕ) (m m' : Seat O P C R) → Names at m n m' → n ≡ k + 1 → (m' ≡ (with_stage m.0 (at k), m.1)) × IsElse m.0 k
-  named at n k m m' t is =
+  pub named : (meaning : Ghosts O P C R) (at : ℕ → Stage) (done : List StepDone) (n k : ℕ) (m m' : Seat O P C R) → Names meaning at done m n m' → n ≡ k + 1 → Goes meaning (at k) done m m' × IsElse m.0 k
+  named meaning at done n k m m' t is =
       let w = t.word in
       let same : t.cpu ≡ k = omega arith in
-      (t.seat ∙ ap (λ (z : ℕ). (with_stage m.0 (at z), m.1)) same, subst (IsElse m.0) same t.other)
+      (subst (λ (z : ℕ). Goes meaning (at z) done m m') same t.goes, subst (IsElse m.0) same t.other)
 
 module _ {O P C R : Type 0} (meaning : Ghosts O P C R) where
   -- a caller acts as a number of the cell
@@ -139,29 +165,67 @@ module _ {O P C R : Type 0} (meaning : Ghosts O P C R) where
   pub below_with : (h : Cell O P C R) (n cpu : ℕ) (p : Stage) (x : History O P C R) (m : Seat O P C R) → h.numbers ≡ n → IsWith meaning h cpu p x m → cpu < n
   below_with h n cpu p x m is w = let below = w.hold_view.caller.below m.0.main.cpu w.hold_view.caller.acts in let number = w.at.number in omega arith
 
-  -- a holder stands elsewhere
-  pub goes_with : (h : Cell O P C R) (cpu : ℕ) (p q : Stage) (x : History O P C R) (m m' : Seat O P C R) → IsWith meaning h cpu p x m → m' ≡ (with_stage m.0 q, m.1) → IsWith meaning h cpu q x m'
-  goes_with h cpu p q x m m' w e = subst (IsWith meaning h cpu q x) (sym e) record {
-    at = record { alone = w.at.alone; number = w.at.number; carries = w.at.carries; stands = refl; told = w.at.told };
-    added = w.added;
-    hold_view = w.hold_view;
-  }
-
-  pub moves_with : (h : Cell O P C R) (p q : Stage) (x : History O P C R) (m m' : Seat O P C R) → Lawful meaning h m.0.main.seen → m' ≡ (with_stage m.0 q, m.1) → Moves meaning p q (state_with h p x m) (state_with h q x m')
-  moves_with h p q x m m' lawful e = subst (λ z. Moves meaning p q (state_with h p x m) (state_with h q x z)) (sym e) record {
-    caller = refl;
-    from = refl;
-    to = refl;
-    grows = grows_self (caller_of h m.0).owned m.0.main.seen;
-    lawful = lawful;
-    has = refl;
-  }
-
   -- the object was put into the slot, the step left it there, and it was taken out again
-  pub came_back : (q : Stage) (m m1 m2 m3 : Seat O P C R) (x y : History O P C R) (r : Option (History O P C R)) → m.1 ≡ (0, None) ∷ [] → m1 ≡ (m.0, (0, Some x) ∷ rest m.1) → m2 ≡ (with_stage m1.0 q, m1.1)
-      → m2.1 ≡ (0, r) ∷ rest m2.1 → m3 ≡ (m2.0, (0, None) ∷ rest m2.1) → r ≡ Some y → (m3 ≡ (with_stage m.0 q, m.1)) × (x ≡ y)
-  came_back q m m1 m2 m3 x y r had filled went slot out is =
-      let there : m2 ≡ (with_stage m.0 q, (0, Some x) ∷ []) = went ∙ ((λ i. (with_stage (filled i).0 q, (filled i).1)) ∙ (λ i. (with_stage m.0 q, (0, Some x) ∷ rest (had i)))) in (
-        out ∙ ((λ i. ((there i).0, (0, None) ∷ rest (there i).1)) ∙ (λ i. (with_stage m.0 q, sym had i))),
-        ap (value_of meaning x) (sym (ap (λ (z : Seat O P C R). z.1) there) ∙ (slot ∙ ap (λ (z : Option (History O P C R)). (0, z) ∷ rest m2.1) is)),
+  pub came_back : (q : Stage) (done : List StepDone) (m m1 m2 m3 : Seat O P C R) (x y : History O P C R) (r : Option (History O P C R)) → m.1 ≡ (0, None) ∷ [] → m1 ≡ (m.0, (0, Some x) ∷ rest m.1) → Lags meaning q done m1 m2
+      → m2.1 ≡ (0, r) ∷ rest m2.1 → m3 ≡ (m2.0, (0, None) ∷ rest m2.1) → r ≡ Some y → Lags meaning q done m m3 × (x ≡ y)
+  came_back q done m m1 m2 m3 x y r had filled went slot out is =
+      let g = went.goes in
+      let there : m2 ≡ (moved_on m.0 q g.log g.run, (0, Some x) ∷ []) = g.seat ∙ ((λ i. (moved_on (filled i).0 q g.log g.run, (filled i).1)) ∙ (λ i. (moved_on m.0 q g.log g.run, (0, Some x) ∷ rest (had i)))) in (
+        record {
+          goes = record {
+            log = g.log;
+            run = g.run;
+            seat = out ∙ ((λ i. ((there i).0, (0, None) ∷ rest (there i).1)) ∙ (λ i. (moved_on m.0 q g.log g.run, sym had i)));
+            learns = subst (λ (z : Seat O P C R). Learns meaning z.0 (silently z.0.main.cpu done) g.log g.run) filled g.learns;
+            still = subst (λ (z : Seat O P C R). holding z.0.main.stage ≡ true → g.log ≡ z.0.main.seen) filled g.still;
+          };
+          lacks = subst (λ (z : Seat O P C R). Lacks z.0) filled went.lacks;
+        },
+        ap (value_of x) (sym (ap (λ (z : Seat O P C R). z.1) there) ∙ (slot ∙ ap (λ (z : Option (History O P C R)). (0, z) ∷ rest m2.1) is)),
       )
+
+module _ {O P C R : Type 0} where
+  -- one that has entered behind another, and then gets the object, has acquired it
+  pub acquired_queued : (caller : CallerOf O P C R) (before : List (Moment (Event O P C R))) (looks : ℕ) (after : List (Moment (Event O P C R))) (b : CallerState O P C R) → Since caller before (steps.Clear ∷ steps.Enter false ∷ []) b → IsQueued b looks after → HasAcquired caller before looks after
+  acquired_queued caller before looks after b s q =
+      let all : List StepDone = steps.Clear ∷ steps.Enter false ∷ (q.done ++ steps.Look true ∷ []) in
+      record {
+        done = all;
+        acquires = record {
+          before = steps.Clear ∷ steps.Enter false ∷ q.done;
+          last = steps.Look true;
+          is = refl;
+          got = refl;
+          once = let c = count_append gets_object q.done (steps.Look true ∷ []) in let a = q.got in omega (arith, a, c);
+          arrived = let c = count_append arrives q.done (steps.Look true ∷ []) in let a = q.arrived in omega (arith, a, c);
+          unended = let c = count_append ends_hold q.done (steps.Look true ∷ []) in let a = q.unended in omega (arith, a, c);
+        };
+        looked = q.looked;
+        extends = since_more caller before after (steps.Clear ∷ steps.Enter false ∷ []) (q.done ++ steps.Look true ∷ []) b s q.extends;
+      }
+
+module _ {O P C R : Type 0} (meaning : Ghosts O P C R) where
+  -- a holder has looked for its follower once more
+  pub seen_more : (found : Bool) (p q : Stage) (a b c : CallerState O P C R) → IsSeen a b → Moves meaning p q (steps.See found ∷ []) b c → holding p ≡ true → IsSeen a c
+  seen_more found p q a b c s m holds = record {
+    done = s.done ++ steps.See found ∷ [];
+    arrived = let n = count_append arrives s.done (steps.See found ∷ []) in let k = s.arrived in omega (arith, k, n);
+    blind = let n = count_append is_look s.done (steps.See found ∷ []) in let k = s.blind in omega (arith, k, n);
+    unended = let n = count_append ends_hold s.done (steps.See found ∷ []) in let k = s.unended in omega (arith, k, n);
+    caller = m.caller ∙ s.caller;
+    extends = since_more a.caller a.run c.run s.done (steps.See found ∷ []) b (s.caller, s.extends) m.extends;
+    still = m.still holds ∙ s.still;
+    has = m.has ∙ s.has;
+  }
+
+  -- and has seen it, after it had found that it isn't the last
+  pub held_seen : (hold : HoldView O P C R) (before : List (Moment (Event O P C R))) (done : List StepDone) (a b : CallerState O P C R) → HeldSince hold before done a → (s : IsSeen a b) → HeldSince hold before (done ++ s.done) b
+  held_seen hold before done a b h s = record { since = (s.caller ∙ h.since.0, since_more hold.caller before b.run done s.done a h.since s.extends); seen = s.still ∙ h.seen; has = s.has ∙ h.has }
+
+  pub releases_seen : (a b : CallerState O P C R) (s : IsSeen a b) → Releases (steps.See false ∷ steps.Empty false ∷ s.done) steps.Pass
+  releases_seen a b s = record {
+    ended = refl;
+    unended = s.unended;
+    stays = let n = count_append arrives s.done (steps.Pass ∷ []) in let k = s.arrived in omega (arith, k, n);
+    blind = let n = count_append is_look s.done (steps.Pass ∷ []) in let k = s.blind in omega (arith, k, n);
+  }

@@ -1,5 +1,5 @@
 -- Each step of an MCS lock is a turn of the lock's definition, and tells its play.
-use Rattle.std.proofs.Common.{◌≡◌, ◌≢◌, ℕ, ◌+◌, ◌<◌, ◌||◌, ◌==◌, true, false, true≢false, List, [], ◌∷◌, length, get_or, set, refl, sym, ap, ◌∙◌, subst, arith, Option, Some, None}
+use Rattle.std.proofs.Common.{◌≡◌, ◌≢◌, ℕ, ◌+◌, ◌<◌, ◌||◌, ◌==◌, true, false, true≢false, List, [], ◌∷◌, ◌++◌, drop, length, get_or, set, refl, sym, ap, ◌∙◌, subst, arith, Option, Some, None}
 use Rattle.std.proofs.lemmas.Bool.Decides.{nat_tests}
 use mathlib.Core.Logic.{dite}
 use mathlib.Core.Option.{some, none}
@@ -14,28 +14,34 @@ use Rattle.event_log.specs.Distinct.{has}
 use Rattle.event_log.specs.History.{History}
 use Rattle.word_rule.specs.declared.lock_kind.LockKind.TheVariants as kinds
 use Rattle.word_rule.specs.declared.machine.step_done.StepDone.{StepDone}
+use Rattle.event_log.specs.declared.event.Event.{Event}
+use Rattle.word_rule.specs.declared.machine.step_done.StepDone.TheVariants as steps
 use Rattle.word_rule.specs.declared.stage.Stage.{Stage}
-use Rattle.word_rule.specs.declared.stage.Stage.TheVariants.{Idle, Mcs}
+use Rattle.word_rule.specs.declared.view.Moment.{Moment}
+use Rattle.word_rule.specs.declared.stage.Stage.TheVariants.{Idle, Mcs, Trying}
 use Rattle.word_rule.specs.declared.stage.McsStage.TheVariants.{Ready, Behind, Armed, Waiting, Holding, Alone, Leaving, Passing}
 use Rattle.word_rule.specs.Cell.{Cell, Lawful, stored}
-use Rattle.word_rule.specs.Rule.CellInvariant.{Caller, EachFrom, Viewed, Table, CallerInvariant, CellInvariant}
-use Rattle.word_rule.specs.Rule.Definition.{IsTurn, IsTry}
+use Rattle.word_rule.specs.Rule.CellInvariant.{GhostState, Caller, EachFrom, Viewed, Table, CallerInvariant, CellInvariant}
+use Rattle.word_rule.specs.OneHold.{leaving, silently}
+use Rattle.word_rule.specs.Rule.Definition.{GoesOn, IsTurn, IsTry, IsReadying}
 use Rattle.word_rule.specs.Line.{holding}
 use Rattle.word_rule.specs.Locks.{Lock, follower, going, taking}
 use Rattle.word_rule.specs.Rule.LockStates.{IsLockOf}
-use Rattle.word_rule.specs.Rule.Seats.{Seat, with_stage, settled}
-use Rattle.word_rule.specs.Rule.Announced.{any_has, Lacks, Returns}
+use Rattle.word_rule.specs.Rule.Seats.{Seat, moved_on, settled}
+use Rattle.word_rule.specs.Rule.Announced.{any_has, Lacks, IsElse, Goes, Gets, Returns}
 use Rattle.word_rule.specs.Rule.Callers.{AddedBy}
-use Rattle.word_rule.specs.Tries.{taken_by, attempt}
-use Rattle.word_rule.specs.Turns.{turn, clear, enter, arm, link, see, pass, mcs_turn}
-use Rattle.word_rule.proofs.Acting.{value_of}
-use Rattle.word_rule.proofs.Known.{AllIdle, same_cell, gets, someone_else, lacks}
+use Rattle.word_rule.specs.Tries.{taken_by, ready, attempt}
+use Rattle.word_rule.specs.Turns.{turn, clear, enter, arm, link, see, pass, mcs_turn, ends_hold}
+use Rattle.word_rule.proofs.Known.{AllIdle, goes, gets, returns, someone_else, lacks}
 use Rattle.word_rule.proofs.Lists.{has_at}
 use Rattle.word_rule.proofs.LockLaws.{stands_at, in_cell, idle_outside, one_holds}
 use Rattle.word_rule.proofs.McsTurns as turns
+use Rattle.word_rule.proofs.PlainTurns.{Alike, is_trying, plain_going, plain_ready, unready, ready_again}
 use Rattle.word_rule.proofs.QueueTurns as queue
-use Rattle.word_rule.proofs.Stays.{kept, stood, taken, given}
-use Rattle.mcs_lock.specs.Steps.{goes, arms, Names, SawLawful, enters, TryOutcome, tries, looks, sees, sees_again, EmptyOutcome, empties, passes}
+use Rattle.word_rule.proofs.Runs.{goes_silently, goes_leaving, does_so, turns_so}
+use Rattle.word_rule.proofs.Stays.{moved_same, stays_put, kept, taken, given, turned_once, turned_twice, not_turned}
+use Rattle.word_rule.proofs.TriesTurns.{clears_and_enters}
+use Rattle.mcs_lock.specs.Steps.{clears, readies, arms, links, enters, TryOutcome, tries, looks, sees, sees_again, EmptyOutcome, empties, passes}
 
 abbrev cpu_of : Stage → ℕ
 cpu_of (Mcs (Behind p)) = p
@@ -55,34 +61,71 @@ module _ {O P C R : Type 0} (meaning : Ghosts O P C R) (h : Cell O P C R) where
     abbrev n : ℕ
     n = h.numbers
 
-    -- the lock that the words are of goes where the definition says
-    turns_to : (l : Lock) (q : Stage) (r : Lock × StepDone) → l.kind ≡ kinds.Mcs → l.line.stage p ≡ q → mcs_turn l p q ≡ r → r.0 ≡ (turn l p).0
-    turns_to l q r kind at is = sym (ap (λ z. z.0) (turns.turned l p q kind at ∙ is))
-
-    -- the caller stands elsewhere, and one word is another
-    abbrev goes_to : (s : Table O P C R) (r : Rule s) (i k : ℕ) (l : Lock) (q : Stage) → l.line.stage ≡ (going r.state.lock.line p q).stage → l.line.out ≡ r.state.lock.line.out → get_elem? s.views id ≡ some v → holding q ≡ false → IsLockOf kinds.Mcs n (set s.words i k) l → Rule (stepped s i k id me.1 (with_stage v q) keeps)
-    goes_to s r i k l q stage out there free tied = kept meaning kinds.Mcs h s r i k id v me.1 l q stage out there acts (λ e. absurd (true≢false (sym e ∙ free))) tied
-
-    -- a word was read, and the caller stands elsewhere
-    abbrev reads : (s : Table O P C R) (r : Rule s) (i : ℕ) (q : Stage) → get_elem? s.views id ≡ some v → (holding q ≡ true → holding v.main.stage ≡ true) → IsLockOf kinds.Mcs n s.words (record r.state.lock { line = going r.state.lock.line p q })
-        → Rule (stepped s i (get_or s.words i 0) id me.1 (with_stage v q) keeps)
-    reads s r i q there has_it tied =
+    -- a turn by which the caller stands elsewhere, and one word is another: the table afterwards, what the caller is told, the
+    -- lock and the run
+    goes_to : (s : Table O P C R) (r : Rule s) (i k : ℕ) (old : Stage) (l : Lock) (q : Stage) (step : StepDone) → l.line.stage ≡ (going r.state.lock.line p q).stage → l.line.out ≡ r.state.lock.line.out → get_elem? s.views id ≡ some v → is_trying old ≡ false → v.main.stage ≡ old → mcs_turn r.state.lock p old ≡ (l, step) → IsLockOf kinds.Mcs n (set s.words i k) l
+        → (r' : Rule (stepped s i k id me.1 (moved_on v q r.state.committed (r.state.run ++ silently p (step ∷ []))) keeps)) × Goes meaning q (step ∷ []) me (moved_on v q r.state.committed (r.state.run ++ silently p (step ∷ [])), me.1)
+        × (r'.state.lock ≡ (turn r.state.lock p).0) × GoesOn p ((turn r.state.lock p).1 ∷ []) r.state.run r'.state.run
+    goes_to s r i k old l q step stage out there untried is does tied =
         let mine = r.each id v there in
-        let l' : Lock = record r.state.lock { line = going r.state.lock.line p q } in
-        kept meaning kinds.Mcs h s r i (get_or s.words i 0) id v me.1 l' q refl refl there acts (λ e. mine.main.whole acts (has_it e)) (subst (λ (ws : List ℕ). IsLockOf kinds.Mcs n ws l') (sym (set-get_or s.words i 0)) tied)
+        let below = (mine.main.owns p acts).1 in
+        let at = mine.main.stands acts ∙ is in
+        let turned = turns.turned r.state.lock p old r.tied.kind_is at ∙ does in
+        let runs = turned_once meaning kinds.Mcs h s r p l step below (ap is_trying at ∙ untried) turned in
+        let so = turns_so p r.state.run r.state.lock l step (r.state.run ++ silently p (step ∷ [])) turned (goes_silently p r.state.run (step ∷ [])) in
+        (kept meaning kinds.Mcs h s r i k id v me.1 l q (step ∷ []) stage out there acts runs tied, goes meaning kinds.Mcs h s r id me acts mine q (step ∷ []) runs.ran, so.0, so.1)
 
-    pub clearing : v.main.stage ≡ Idle → IsTurn meaning kinds.Mcs h slots id me (1 + p) (λ _. 0) (λ _. goes (Mcs Ready) (step slots (1 + p) 0 0 none) me 0)
+    -- the same, where a word was read
+    reads : (s : Table O P C R) (r : Rule s) (i : ℕ) (old q : Stage) (step : StepDone) → get_elem? s.views id ≡ some v → is_trying old ≡ false → v.main.stage ≡ old → mcs_turn r.state.lock p old ≡ (record r.state.lock { line = going r.state.lock.line p q }, step) → IsLockOf kinds.Mcs n s.words (record r.state.lock { line = going r.state.lock.line p q })
+        → (r' : Rule (stepped s i (get_or s.words i 0) id me.1 (moved_on v q r.state.committed (r.state.run ++ silently p (step ∷ []))) keeps)) × Goes meaning q (step ∷ []) me (moved_on v q r.state.committed (r.state.run ++ silently p (step ∷ [])), me.1)
+        × (r'.state.lock ≡ (turn r.state.lock p).0) × GoesOn p ((turn r.state.lock p).1 ∷ []) r.state.run r'.state.run
+    reads s r i old q step there untried is does tied =
+        let l' : Lock = record r.state.lock { line = going r.state.lock.line p q } in
+        goes_to s r i (get_or s.words i 0) old l' q step refl refl there untried is does (subst (λ (ws : List ℕ). IsLockOf kinds.Mcs n ws l') (sym (set-get_or s.words i 0)) tied)
+
+    -- a turn that gets the object
+    gets_it : (s : Table O P C R) (r : Rule s) (i k : ℕ) (old : Stage) (l : Lock) (step : StepDone) → l.line.stage ≡ (going r.state.lock.line p (Mcs Holding)).stage → l.line.out ≡ true → get_elem? s.views id ≡ some v → is_trying old ≡ false → v.main.stage ≡ old → mcs_turn r.state.lock p old ≡ (l, step) → IsLockOf kinds.Mcs n (set s.words i k) l
+        → (r' : Rule (stepped s i k id me.1 (settled v (Mcs Holding) r.state.committed (r.state.run ++ silently p (step ∷ []))) (takes 0 (Some (stored meaning h r.state.committed)))))
+        × Gets meaning (Mcs Holding) (step ∷ []) me (settled v (Mcs Holding) r.state.committed (r.state.run ++ silently p (step ∷ [])), (0, Some (stored meaning h r.state.committed)) ∷ me.1)
+        × (r'.state.lock ≡ (turn r.state.lock p).0) × GoesOn p ((turn r.state.lock p).1 ∷ []) r.state.run r'.state.run
+    gets_it s r i k old l step stage out there untried is does tied =
+        let mine = r.each id v there in
+        let below = (mine.main.owns p acts).1 in
+        let at = mine.main.stands acts ∙ is in
+        let turned = turns.turned r.state.lock p old r.tied.kind_is at ∙ does in
+        let runs = turned_once meaning kinds.Mcs h s r p l step below (ap is_trying at ∙ untried) turned in
+        let so = turns_so p r.state.run r.state.lock l step (r.state.run ++ silently p (step ∷ [])) turned (goes_silently p r.state.run (step ∷ [])) in
+        (taken meaning kinds.Mcs h s r i k id v me.1 l (Mcs Holding) (step ∷ []) stage out there acts runs tied, gets meaning kinds.Mcs h s r id me acts mine (Mcs Holding) (step ∷ []) runs.ran, so.0, so.1)
+
+    abbrev on : GhostState O P C R → Stage → StepDone → Viewed O P C R
+    on b q step = moved_on v q b.committed (b.run ++ silently p (step ∷ []))
+
+    abbrev holds_on : GhostState O P C R → StepDone → Viewed O P C R
+    holds_on b step = settled v (Mcs Holding) b.committed (b.run ++ silently p (step ∷ []))
+
+    pub clearing : v.main.stage ≡ Idle → IsTurn meaning kinds.Mcs h slots id me (1 + p) (λ _. 0) (λ _. clears meaning (step slots (1 + p) 0 0 none) me 0)
     clearing is s r len there small =
         let l = r.state.lock in
         let mine = r.each id v there in
         let below = (mine.main.owns p acts).1 in
-        let at = mine.main.stands acts ∙ is in (
-          with_stage v (Mcs Ready),
+        let at = mine.main.stands acts ∙ is in
+        let t = goes_to s r (1 + p) 0 Idle (clear l p) (Mcs Ready) steps.Clear refl refl there refl is refl (turns.clears n s.words l r.tied p below at) in
+        (on r.state (Mcs Ready) steps.Clear, keeps, tt, t.0, t.1, t.2, t.3)
+
+    pub readying : v.main.stage ≡ Idle → IsReadying meaning kinds.Mcs h slots id me (1 + p) (λ _. 0) (λ _. readies meaning (step slots (1 + p) 0 0 none) me 0)
+    readying is s r len there small =
+        let l = r.state.lock in
+        let mine = r.each id v there in
+        let below = (mine.main.owns p acts).1 in
+        let at = mine.main.stands acts ∙ is in
+        let runs = not_turned meaning kinds.Mcs h s r p (ready l p) (plain_ready l p at) in (
+          moved_on v Trying r.state.committed (r.state.run ++ []),
           keeps,
           tt,
-          goes_to s r (1 + p) 0 (clear l p) (Mcs Ready) refl refl there refl (turns.clears n s.words l r.tied p below at),
+          kept meaning kinds.Mcs h s r (1 + p) 0 id v me.1 (ready l p) Trying [] refl refl there acts runs (turns.readies n s.words l r.tied p below at),
+          goes meaning kinds.Mcs h s r id me acts mine Trying [] runs.ran,
           refl,
-          turns_to l Idle _ r.tied.kind_is at refl,
+          goes_silently p r.state.run [],
         )
 
     pub entering : v.main.stage ≡ Mcs Ready → IsTurn meaning kinds.Mcs h slots id me 0 (λ _. p + 1) (enters meaning (step slots 0 (p + 1) 0 none) me)
@@ -92,82 +135,100 @@ module _ {O P C R : Type 0} (meaning : Ghosts O P C R) (h : Cell O P C R) where
         let below = (mine.main.owns p acts).1 in
         let at = mine.main.stands acts ∙ is in
         dite (ℕ_discrete (get_or s.words 0 0) 0)
-        (λ nobody. let none = turns.tail_none n s.words l r.tied nobody in (
-          settled v (Mcs Holding) r.state.committed,
+        (λ nobody. let none = turns.tail_none n s.words l r.tied nobody in
+        let t = gets_it s r 0 (p + 1) (Mcs Ready) (enter l p None).0 (steps.Enter true) refl refl there refl is (ap (enter l p) none) (turns.enters_first n s.words l r.tied p below at none) in (
+          holds_on r.state (steps.Enter true),
           takes 0 (Some (stored meaning h r.state.committed)),
           r.at_home (queue.nobody_home n l r.tied.state p below none),
-          taken meaning kinds.Mcs h s r 0 (p + 1) id v me.1 (enter l p None).0 (Mcs Holding) refl refl there acts (turns.enters_first n s.words l r.tied p below at none),
-          record { first = λ _. gets meaning kinds.Mcs h s r id me (Mcs Holding) mine; behind = λ some_one. absurd (some_one nobody) },
-          turns_to l (Mcs Ready) (enter l p None) r.tied.kind_is at (ap (enter l p) none),
+          t.0,
+          record { first = λ _. t.1; behind = λ some_one. absurd (some_one nobody) },
+          t.2,
+          t.3,
         ))
-        (λ some_one. let t = turns.tail_names n s.words l r.tied some_one in (
-          with_stage v (Mcs (Behind t.0)),
+        (λ some_one. let a = turns.tail_names n s.words l r.tied some_one in
+        let t = goes_to s r 0 (p + 1) (Mcs Ready) (enter l p (Some a.0)).0 (Mcs (Behind a.0)) (steps.Enter false) refl refl there refl is (ap (enter l p) a.1) (turns.enters_behind n s.words l r.tied p below a.0 at a.1) in (
+          on r.state (Mcs (Behind a.0)) (steps.Enter false),
           keeps,
           tt,
-          goes_to s r 0 (p + 1) (enter l p (Some t.0)).0 (Mcs (Behind t.0)) refl refl there refl (turns.enters_behind n s.words l r.tied p below t.0 at t.1),
+          t.0,
           record {
             first = λ nobody. absurd (some_one nobody);
-            behind = λ _. record { cpu = t.0; word = t.2; seat = refl; other = someone_else meaning kinds.Mcs h s r id v t.0 mine (queue.last_in n l r.tied.state t.0 t.1).0 (queue.other_last n l r.tied.state p below t.0 at t.1) };
+            behind = λ _. record { cpu = a.0; word = a.2; goes = t.1; other = someone_else meaning kinds.Mcs h s r id v a.0 mine (queue.last_in n l r.tied.state a.0 a.1).0 (queue.other_last n l r.tied.state p below a.0 at a.1) };
           },
-          turns_to l (Mcs Ready) (enter l p (Some t.0)) r.tied.kind_is at (ap (enter l p) t.1),
+          t.2,
+          t.3,
         ))
 
-    pub trying : v.main.stage ≡ Mcs Ready → AllIdle v.others → IsTry meaning kinds.Mcs h 0 slots id me 0 (λ k. either (k == 0) (p + 1) k) (tries meaning (step slots 0 0 (p + 1) none) me)
+    pub trying : v.main.stage ≡ Trying → AllIdle v.others → IsTry meaning kinds.Mcs h 0 slots id me 0 (λ k. either (k == 0) (p + 1) k) (tries meaning (step slots 0 0 (p + 1) none) me)
     trying is idle s r len there small =
         let l = r.state.lock in
         let mine = r.each id v there in
         let below = (mine.main.owns p acts).1 in
         let at = mine.main.stands acts ∙ is in
         let found : ℕ = get_or s.words 0 0 in
+        let q : Stage = Mcs Holding in
+        let done : List StepDone = steps.Clear ∷ steps.Enter true ∷ [] in
+        let run' = r.state.run ++ silently p done in
+        let clear_now = queue.trying_clear n l r.tied.state p below at in
+        let again = ready_again l p at clear_now in
+        let plainly = plain_going l p Idle (subst (λ (z : Stage). Alike z Idle (l.next p) (l.next p)) (sym at) record { stands = refl; names = refl }) in
+        let idle_there : (unready l p).line.stage p ≡ Idle = moved_same l.line.stage p Idle in
         exchanged found 0 (p + 1)
-        (λ (k : ℕ). (w : Viewed O P C R) × (a : Act (Option (History O P C R))) × Valid s.homes me.1 a × (r' : Rule (stepped s 0 k id me.1 w a)) × TryOutcome meaning me found (w, carried_after me.1 a) × (r'.state.lock ≡ attempt l p 0))
-        (λ nobody. let none = turns.tail_none n s.words l r.tied nobody in (
-          settled v (Mcs Holding) r.state.committed,
+        (λ (k : ℕ). (w : Viewed O P C R) × (a : Act (Option (History O P C R))) × Valid s.homes me.1 a × (r' : Rule (stepped s 0 k id me.1 w a)) × TryOutcome meaning me found (w, carried_after me.1 a) × (r'.state.lock ≡ (attempt l p 0).0) × GoesOn p (attempt l p 0).1 r.state.run r'.state.run)
+        (λ nobody. let none = turns.tail_none n s.words l r.tied nobody in
+        let l' : Lock = taken_by l p q in
+        let first = turns.tries_first l p 0 r.tied.kind_is none in
+        let two = ap (λ z. attempt z p 0) (sym again) ∙ clears_and_enters (unready l p) p 0 r.tied.kind_is idle_there (queue.no_last l.line.cpus none) in
+        let cleared : is_trying ((turn (unready l p) p).0.line.stage p) ≡ false = ap (λ z. is_trying (z.0.line.stage p)) (turns.turned (unready l p) p Idle r.tied.kind_is idle_there) ∙ ap is_trying (moved_same (unready l p).line.stage p (Mcs Ready)) in
+        let runs = turned_twice meaning kinds.Mcs h s r p (unready l p) l' steps.Clear (steps.Enter true) below plainly (ap is_trying idle_there) cleared (sym first ∙ two) in
+        let so = does_so p r.state.run (attempt l p 0) l' done run' first (goes_silently p r.state.run done) in (
+          settled v q r.state.committed run',
           takes 0 (Some (stored meaning h r.state.committed)),
           r.at_home (queue.nobody_home n l r.tied.state p below none),
-          taken meaning kinds.Mcs h s r 0 (p + 1) id v me.1 (taken_by l p (Mcs Holding)) (Mcs Holding) refl refl there acts (turns.enters_first n s.words l r.tied p below at none),
-          record { first = λ _. gets meaning kinds.Mcs h s r id me (Mcs Holding) mine; busy = λ some_one. absurd (some_one nobody) },
-          sym (turns.tries_first l p 0 r.tied.kind_is none),
+          taken meaning kinds.Mcs h s r 0 (p + 1) id v me.1 l' q done refl refl there acts runs (turns.tries_enter n s.words l r.tied p below at none),
+          record { first = λ _. gets meaning kinds.Mcs h s r id me acts mine q done runs.ran; busy = λ some_one. absurd (some_one nobody) },
+          so.0,
+          so.1,
         ))
-        (λ some_one. let t = turns.tail_names n s.words l r.tied some_one in (
-          with_stage v Idle,
+        (λ some_one. let t = turns.tail_names n s.words l r.tied some_one in
+        let runs = not_turned meaning kinds.Mcs h s r p (unready l p) plainly in
+        let so = does_so p r.state.run (attempt l p 0) (unready l p) [] (r.state.run ++ []) (turns.tries_busy l p 0 r.tied.kind_is t.0 t.1) (goes_silently p r.state.run []) in (
+          moved_on v Idle r.state.committed (r.state.run ++ []),
           keeps,
           tt,
-          reads s r 0 Idle there (λ e. absurd (true≢false (sym e))) (turns.gives_up n s.words l r.tied p below at),
+          kept meaning kinds.Mcs h s r 0 found id v me.1 (unready l p) Idle [] refl refl there acts runs (subst (λ (ws : List ℕ). IsLockOf kinds.Mcs n ws (unready l p)) (sym (set-get_or s.words 0 0)) (turns.gives_up n s.words l r.tied p below at)),
           record {
             first = λ nobody. absurd (some_one nobody);
-            busy = λ _. record { seat = refl; lacks = lacks meaning kinds.Mcs h s r id v t.0 mine idle (queue.last_in n l r.tied.state t.0 t.1).0 (queue.other_last n l r.tied.state p below t.0 at t.1) };
+            busy = λ _. record { goes = goes meaning kinds.Mcs h s r id me acts mine Idle [] runs.ran; lacks = lacks meaning kinds.Mcs h s r id v t.0 mine idle (queue.last_in n l r.tied.state t.0 t.1).0 (queue.trying_last n l r.tied.state p below t.0 at t.1) };
           },
-          sym (turns.tries_busy l p 0 r.tied.kind_is t.0 t.1),
+          so.0,
+          so.1,
         ))
 
-    pub arming : (q : ℕ) → v.main.stage ≡ Mcs (Behind q) → IsTurn meaning kinds.Mcs h slots id me (1 + n + p) (λ _. 1) (λ _. arms (step slots (1 + n + p) 1 0 none) me 1)
+    pub arming : (q : ℕ) → v.main.stage ≡ Mcs (Behind q) → IsTurn meaning kinds.Mcs h slots id me (1 + n + p) (λ _. 1) (λ _. arms meaning (step slots (1 + n + p) 1 0 none) me 1)
     arming q is s r len there small =
         let l = r.state.lock in
         let mine = r.each id v there in
         let below = (mine.main.owns p acts).1 in
-        let at = mine.main.stands acts ∙ is in (
-          with_stage v (Mcs (Armed q)),
+        let at = mine.main.stands acts ∙ is in
+        let t = goes_to s r (1 + n + p) 1 (Mcs (Behind q)) (arm l p q) (Mcs (Armed q)) steps.Arm refl refl there refl is refl (turns.arms n s.words l r.tied p below q at) in (
+          on r.state (Mcs (Armed q)) steps.Arm,
           keeps,
           tt,
-          goes_to s r (1 + n + p) 1 (arm l p q) (Mcs (Armed q)) refl refl there refl (turns.arms n s.words l r.tied p below q at),
-          λ u e. let same : q ≡ u = ap cpu_of (sym is ∙ e) in ap (λ (z : ℕ). (with_stage v (Mcs (Armed z)), me.1)) same,
-          turns_to l (Mcs (Behind q)) _ r.tied.kind_is at refl,
+          t.0,
+          λ u e. let same : q ≡ u = ap cpu_of (sym is ∙ e) in subst (λ (z : ℕ). Goes meaning (Mcs (Armed z)) (steps.Arm ∷ []) me (on r.state (Mcs (Armed q)) steps.Arm, me.1)) same t.1,
+          t.2,
+          t.3,
         )
 
-    pub linking : (q : ℕ) → v.main.stage ≡ Mcs (Armed q) → IsTurn meaning kinds.Mcs h slots id me (1 + q) (λ _. p + 1) (λ _. goes (Mcs Waiting) (step slots (1 + q) (p + 1) 0 none) me (p + 1))
+    pub linking : (q : ℕ) → v.main.stage ≡ Mcs (Armed q) → IsTurn meaning kinds.Mcs h slots id me (1 + q) (λ _. p + 1) (λ _. links meaning (step slots (1 + q) (p + 1) 0 none) me (p + 1))
     linking q is s r len there small =
         let l = r.state.lock in
         let mine = r.each id v there in
         let below = (mine.main.owns p acts).1 in
-        let at = mine.main.stands acts ∙ is in (
-          with_stage v (Mcs Waiting),
-          keeps,
-          tt,
-          goes_to s r (1 + q) (p + 1) (link l p q) (Mcs Waiting) refl refl there refl (turns.links n s.words l r.tied p below q at),
-          refl,
-          turns_to l (Mcs (Armed q)) _ r.tied.kind_is at refl,
-        )
+        let at = mine.main.stands acts ∙ is in
+        let t = goes_to s r (1 + q) (p + 1) (Mcs (Armed q)) (link l p q) (Mcs Waiting) steps.Link refl refl there refl is refl (turns.links n s.words l r.tied p below q at) in
+        (on r.state (Mcs Waiting) steps.Link, keeps, tt, t.0, t.1, t.2, t.3)
 
     pub looking : v.main.stage ≡ Mcs Waiting → AllIdle v.others → IsTurn meaning kinds.Mcs h slots id me (1 + n + p) (λ k. k) (looks meaning (step slots (1 + n + p) 0 0 none) me)
     looking is idle s r len there small =
@@ -180,43 +241,37 @@ module _ {O P C R : Type 0} (meaning : Ghosts O P C R) (h : Cell O P C R) where
         (λ hit.
         let first = turns.free_first n s.words l r.tied p below at hit in
         let f = queue.free n l r.tied.state p below at first in
-        let l' : Lock = record l { line = taking l.line p (Mcs Holding) } in (
-          settled v (Mcs Holding) r.state.committed,
+        let l' : Lock = record l { line = taking l.line p (Mcs Holding) } in
+        let t = gets_it s r w (get_or s.words w 0) (Mcs Waiting) l' (steps.Look true) refl refl there refl is (turns.hits l p first) (subst (λ (ws : List ℕ). IsLockOf kinds.Mcs n ws l') (sym (set-get_or s.words w 0)) (turns.gets n s.words l r.tied p below at first)) in (
+          holds_on r.state (steps.Look true),
           takes 0 (Some (stored meaning h r.state.committed)),
           r.at_home f.object,
-          taken meaning kinds.Mcs h s r w (get_or s.words w 0) id v me.1 l' (Mcs Holding) refl refl there acts (subst (λ (ws : List ℕ). IsLockOf kinds.Mcs n ws l') (sym (set-get_or s.words w 0)) (turns.gets n s.words l r.tied p below at first)),
-          record { hit = λ _. gets meaning kinds.Mcs h s r id me (Mcs Holding) mine; miss = λ miss. absurd (miss hit) },
-          turns_to l (Mcs Waiting) _ r.tied.kind_is at (turns.hits l p first),
+          t.0,
+          record { hit = λ _. t.1; miss = λ miss. absurd (miss hit) },
+          t.2,
+          t.3,
         ))
         (λ miss.
         let behind_one = turns.locked_behind n s.words l r.tied p below at miss in
-        let t = queue.ahead n l r.tied.state p below at behind_one in (
-          with_stage v v.main.stage,
+        let a = queue.ahead n l r.tied.state p below at behind_one in
+        let t = goes_to s r w (get_or s.words w 0) (Mcs Waiting) l (Mcs Waiting) (steps.Look false) (stays_put l.line.stage p (Mcs Waiting) at) refl there refl is (turns.misses l p behind_one) (subst (λ (ws : List ℕ). IsLockOf kinds.Mcs n ws l) (sym (set-get_or s.words w 0)) r.tied) in (
+          on r.state (Mcs Waiting) (steps.Look false),
           keeps,
           tt,
-          stood meaning kinds.Mcs h s r w id v me.1 there,
-          record {
-            hit = λ hit. absurd (miss hit);
-            miss = λ _. record { seat = ap (λ (q : Stage). (with_stage v q, me.1)) is; lacks = lacks meaning kinds.Mcs h s r id v t.0 mine idle t.1 t.2 };
-          },
-          turns_to l (Mcs Waiting) _ r.tied.kind_is at (turns.misses l p behind_one),
+          t.0,
+          record { hit = λ hit. absurd (miss hit); miss = λ _. record { goes = t.1; lacks = lacks meaning kinds.Mcs h s r id v a.0 mine idle a.1 a.2 } },
+          t.2,
+          t.3,
         ))
 
-    -- what a holder has seen is the committed log
-    saw_lawful : (s : Table O P C R) (r : Rule s) → get_elem? s.views id ≡ some v → holding v.main.stage ≡ true → SawLawful meaning v
-    saw_lawful s r there has_it g told =
-        let mine = r.each id v there in
-        subst (λ (z : Cell O P C R). Lawful meaning z v.main.seen) (sym (same_cell meaning kinds.Mcs h r.state id v g mine told)) (subst (Lawful meaning h) (sym (mine.main.whole acts has_it)) r.lawful)
-
     -- a holder's `next` that isn't 0 names the one behind it
-    finds : (s : Table O P C R) (r : Rule s) (below : p < n) → get_elem? s.views id ≡ some v → holding v.main.stage ≡ true → (j : ℕ) → follower r.state.lock.line ≡ Some j → get_or s.words (1 + p) 0 ≡ j + 1
-        → Names (λ p. Mcs (Passing p)) me (get_or s.words (1 + p) 0) (with_stage v (Mcs (Passing j)), me.1)
-    finds s r below there has_it j f word =
+    seen_behind : (s : Table O P C R) (r : Rule s) (below : p < n) → get_elem? s.views id ≡ some v → holding v.main.stage ≡ true → (j : ℕ) → follower r.state.lock.line ≡ Some j → IsElse v j
+    seen_behind s r below there has_it j f =
         let l = r.state.lock in
         let mine = r.each id v there in
         let at = queue.follower_at n l r.tied.state p below j f in
         let head = queue.holder_at n l r.tied.state p below (ap holding (mine.main.stands acts) ∙ has_it) in
-        record { cpu = j; word = word; seat = refl; other = someone_else meaning kinds.Mcs h s r id v j mine (has_at l.line.cpus 1 j at) (queue.not_both n l r.tied.state p j head at) }
+        someone_else meaning kinds.Mcs h s r id v j mine (has_at l.line.cpus 1 j at) (queue.not_both n l r.tied.state p j head at)
 
     pub seeing : v.main.stage ≡ Mcs Holding → IsTurn meaning kinds.Mcs h slots id me (1 + p) (λ k. k) (sees meaning (step slots (1 + p) 0 0 none) me)
     seeing is s r len there small =
@@ -226,21 +281,18 @@ module _ {O P C R : Type 0} (meaning : Ghosts O P C R) (h : Cell O P C R) where
         let at = mine.main.stands acts ∙ is in
         let has_it = ap holding is in
         dite (ℕ_discrete (get_or s.words (1 + p) 0) 0)
-        (λ nobody. (
-          with_stage v (Mcs Alone),
+        (λ nobody.
+        let t = reads s r (1 + p) (Mcs Holding) (Mcs Alone) (steps.See false) there refl is (ap (see l p (Mcs Alone)) (turns.sees_nobody n s.words l r.tied p below (ap holding at) nobody)) (turns.sees_none n s.words l r.tied p below at) in
+        (on r.state (Mcs Alone) (steps.See false), keeps, tt, t.0, record { found = λ some_one. absurd (some_one nobody); none = λ _. t.1 }, t.2, t.3))
+        (λ some_one. let a = turns.sees_one n s.words l r.tied p below (ap holding at) some_one in
+        let t = reads s r (1 + p) (Mcs Holding) (Mcs (Passing a.0)) (steps.See true) there refl is (ap (see l p (Mcs Alone)) a.1) (turns.saw n s.words l r.tied p below a.0 at a.1) in (
+          on r.state (Mcs (Passing a.0)) (steps.See true),
           keeps,
           tt,
-          reads s r (1 + p) (Mcs Alone) there (λ _. has_it) (turns.sees_none n s.words l r.tied p below at),
-          record { lawful = saw_lawful s r there has_it; found = λ some_one. absurd (some_one nobody); none = λ _. refl },
-          turns_to l (Mcs Holding) (see l p (Mcs Alone) None) r.tied.kind_is at (ap (see l p (Mcs Alone)) (turns.sees_nobody n s.words l r.tied p below (ap holding at) nobody)),
-        ))
-        (λ some_one. let t = turns.sees_one n s.words l r.tied p below (ap holding at) some_one in (
-          with_stage v (Mcs (Passing t.0)),
-          keeps,
-          tt,
-          reads s r (1 + p) (Mcs (Passing t.0)) there (λ _. has_it) (turns.saw n s.words l r.tied p below t.0 at t.1),
-          record { lawful = saw_lawful s r there has_it; found = λ _. finds s r below there has_it t.0 t.1 t.2; none = λ nobody. absurd (some_one nobody) },
-          turns_to l (Mcs Holding) (see l p (Mcs Alone) (Some t.0)) r.tied.kind_is at (ap (see l p (Mcs Alone)) t.1),
+          t.0,
+          record { found = λ _. record { cpu = a.0; word = a.2; goes = t.1; other = seen_behind s r below there has_it a.0 a.1 }; none = λ nobody. absurd (some_one nobody) },
+          t.2,
+          t.3,
         ))
 
     -- a caller that leaves sees one, or lacks a number
@@ -252,21 +304,18 @@ module _ {O P C R : Type 0} (meaning : Ghosts O P C R) (h : Cell O P C R) where
         let at = mine.main.stands acts ∙ is in
         let has_it = ap holding is in
         dite (ℕ_discrete (get_or s.words (1 + p) 0) 0)
-        (λ nobody. (
-          with_stage v (Mcs Leaving),
+        (λ nobody.
+        let t = reads s r (1 + p) (Mcs Leaving) (Mcs Leaving) (steps.See false) there refl is (ap (see l p (Mcs Leaving)) (turns.sees_nobody n s.words l r.tied p below (ap holding at) nobody)) (turns.still_none n s.words l r.tied p below at) in
+        (on r.state (Mcs Leaving) (steps.See false), keeps, tt, t.0, record { found = λ some_one. absurd (some_one nobody); none = λ _. record { goes = t.1; lacks = lacking s r there nobody } }, t.2, t.3))
+        (λ some_one. let a = turns.sees_one n s.words l r.tied p below (ap holding at) some_one in
+        let t = reads s r (1 + p) (Mcs Leaving) (Mcs (Passing a.0)) (steps.See true) there refl is (ap (see l p (Mcs Leaving)) a.1) (turns.saw_again n s.words l r.tied p below a.0 at a.1) in (
+          on r.state (Mcs (Passing a.0)) (steps.See true),
           keeps,
           tt,
-          reads s r (1 + p) (Mcs Leaving) there (λ _. has_it) (turns.still_none n s.words l r.tied p below at),
-          record { lawful = saw_lawful s r there has_it; found = λ some_one. absurd (some_one nobody); none = λ _. record { seat = refl; lacks = lacking s r there nobody } },
-          turns_to l (Mcs Leaving) (see l p (Mcs Leaving) None) r.tied.kind_is at (ap (see l p (Mcs Leaving)) (turns.sees_nobody n s.words l r.tied p below (ap holding at) nobody)),
-        ))
-        (λ some_one. let t = turns.sees_one n s.words l r.tied p below (ap holding at) some_one in (
-          with_stage v (Mcs (Passing t.0)),
-          keeps,
-          tt,
-          reads s r (1 + p) (Mcs (Passing t.0)) there (λ _. has_it) (turns.saw_again n s.words l r.tied p below t.0 at t.1),
-          record { lawful = saw_lawful s r there has_it; found = λ _. finds s r below there has_it t.0 t.1 t.2; none = λ nobody. absurd (some_one nobody) },
-          turns_to l (Mcs Leaving) (see l p (Mcs Leaving) (Some t.0)) r.tied.kind_is at (ap (see l p (Mcs Leaving)) t.1),
+          t.0,
+          record { found = λ _. record { cpu = a.0; word = a.2; goes = t.1; other = seen_behind s r below there has_it a.0 a.1 }; none = λ nobody. absurd (some_one nobody) },
+          t.2,
+          t.3,
         ))
 
     -- the one behind a caller that leaves
@@ -306,20 +355,25 @@ module _ {O P C R : Type 0} (meaning : Ghosts O P C R) (h : Cell O P C R) where
         (λ ne. absurd (true≢false (sym in_line ∙ idle_outside kinds.Mcs n l r.tied.state y (in_cell kinds.Mcs n l r.tied.state 1 y t.1) (know.rests y owned ne)))))
 
     module _ (x : History O P C R) (others : List (ℕ × Option (History O P C R))) (one : slots ≡ 1) (carries : me.1 ≡ (0, Some x) ∷ others) (added : AddedBy p v.main.seen x.log) (lawful : Lawful meaning h x.log) (is_stored : x ≡ stored meaning h x.log) where
+      abbrev run_ended : GhostState O P C R → StepDone → List (Moment (Event O P C R))
+      run_ended b step = b.run ++ leaving p step (drop (length v.main.seen) x.log) ∷ []
+
       -- the object goes home, and nobody has it
-      gave : (s : Table O P C R) (r : Rule s) (i k : ℕ) → length s.homes ≡ slots → get_elem? s.views id ≡ some v → holding v.main.stage ≡ true → IsLockOf kinds.Mcs n (set s.words i k) (pass r.state.lock p)
-          → (r' : Rule (stepped s i k id me.1 (settled v Idle x.log) gives)) × (r'.state.lock ≡ pass r.state.lock p)
-      gave s r i k len there has_it tied =
+      gave : (s : Table O P C R) (r : Rule s) (i k : ℕ) (old : Stage) (step : StepDone) → length s.homes ≡ slots → get_elem? s.views id ≡ some v → v.main.stage ≡ old → holding old ≡ true → mcs_turn r.state.lock p old ≡ (pass r.state.lock p, step) → ends_hold step ≡ true → IsLockOf kinds.Mcs n (set s.words i k) (pass r.state.lock p)
+          → (r' : Rule (stepped s i k id me.1 (settled v Idle x.log (run_ended r.state step)) gives)) × Returns Idle step me (settled v Idle x.log (run_ended r.state step), rest me.1) × (r'.state.lock ≡ (turn r.state.lock p).0) × GoesOn p ((turn r.state.lock p).1 ∷ []) r.state.run r'.state.run
+      gave s r i k old step len there is has_it does ends tied =
           let l = r.state.lock in
           let mine = r.each id v there in
           let below = (mine.main.owns p acts).1 in
-          let holds = ap holding (mine.main.stands acts) ∙ has_it in
+          let at = mine.main.stands acts ∙ is in
+          let holds = ap holding at ∙ has_it in
           let slot : me.1 ≡ (0, Some (stored meaning h x.log)) ∷ others = carries ∙ ap (λ z. (0, Some z) ∷ others) is_stored in
-          subst (λ (cs : List (ℕ × Option (History O P C R))). (r' : Rule (stepped s i k id cs (settled v Idle x.log) gives)) × (r'.state.lock ≡ pass l p)) (sym slot)
-          (given meaning kinds.Mcs h s r i k id v others x.log (pass l p) Idle refl (omega arith) there acts holds (λ y y_below y_has. one_holds kinds.Mcs n l r.tied.state y p y_below below y_has holds) added lawful tied, refl)
-
-      returned : Returns meaning Idle me (settled v Idle x.log, rest me.1)
-      returned x' others' e = let same = sym carries ∙ e in λ z. (settled v Idle (value_of meaning x (same z)).log, rest (e z))
+          let turned = turns.turned l p old r.tied.kind_is at ∙ does in
+          let run' = run_ended r.state step in
+          let ended = given meaning kinds.Mcs h s r i k id v others x.log (pass l p) Idle step refl (omega arith) there acts holds (λ y y_below y_has. one_holds kinds.Mcs n l r.tied.state y p y_below below y_has holds) added lawful turned ends tied in
+          let so = turns_so p r.state.run l (pass l p) step run' turned (goes_leaving p r.state.run step (drop (length v.main.seen) x.log)) in
+          let now = subst (λ (cs : List (ℕ × Option (History O P C R))). (r' : Rule (stepped s i k id cs (settled v Idle x.log run') gives)) × (r'.state.lock ≡ (turn l p).0) × GoesOn p ((turn l p).1 ∷ []) r.state.run r'.state.run) (sym slot) (ended, so.0, so.1) in
+          (now.0, returns meaning kinds.Mcs h s r id me acts mine Idle step x others carries added.begins ended.ran, now.1, now.2)
 
       pub emptying : v.main.stage ≡ Mcs Alone → AllIdle v.others → IsTurn meaning kinds.Mcs h slots id me 0 (λ k. either (k == (p + 1)) 0 k) (empties meaning (step slots 0 (p + 1) 0 none) me)
       emptying is idle s r len there small =
@@ -327,39 +381,31 @@ module _ {O P C R : Type 0} (meaning : Ghosts O P C R) (h : Cell O P C R) where
           let mine = r.each id v there in
           let below = (mine.main.owns p acts).1 in
           let at = mine.main.stands acts ∙ is in
-          let has_it = ap holding is in
           let found : ℕ = get_or s.words 0 0 in
           exchanged found (p + 1) 0
-          (λ (k : ℕ). (w : Viewed O P C R) × (a : Act (Option (History O P C R))) × Valid s.homes me.1 a × (r' : Rule (stepped s 0 k id me.1 w a)) × EmptyOutcome meaning (p + 1) me found (w, carried_after me.1 a) × (r'.state.lock ≡ (turn l p).0))
-          (λ hit. let now = gave s r 0 0 len there has_it (turns.empties n s.words l r.tied p below at (turns.tail_some n s.words l r.tied p hit)) in (
-            settled v Idle x.log,
-            gives,
-            tt,
-            now.0,
-            record { lawful = saw_lawful s r there has_it; hit = λ _. returned; miss = λ miss. absurd (miss hit) },
-            now.1 ∙ turns_to l (Mcs Alone) _ r.tied.kind_is at (turns.ends_queue l p (turns.last_is n s.words l r.tied p below hit)),
-          ))
+          (λ (k : ℕ). (w : Viewed O P C R) × (a : Act (Option (History O P C R))) × Valid s.homes me.1 a × (r' : Rule (stepped s 0 k id me.1 w a)) × EmptyOutcome meaning (p + 1) me found (w, carried_after me.1 a) × (r'.state.lock ≡ (turn l p).0) × GoesOn p ((turn l p).1 ∷ []) r.state.run r'.state.run)
+          (λ hit.
+          let t = gave s r 0 0 (Mcs Alone) (steps.Empty true) len there is refl (turns.ends_queue l p (turns.last_is n s.words l r.tied p below hit)) refl (turns.empties n s.words l r.tied p below at (turns.tail_some n s.words l r.tied p hit)) in
+          (settled v Idle x.log (run_ended r.state (steps.Empty true)), gives, tt, t.0, record { hit = λ _. t.1; miss = λ miss. absurd (miss hit) }, t.2, t.3))
           (λ miss.
           let other = turns.last_else n s.words l r.tied p below miss in
           let f = stands_at kinds.Mcs n l r.tied.state p (Mcs Alone) below at in
-          let t = queue.another n l r.tied.state p f.there (queue.more n l r.tied.state p below at other) in (
-            with_stage v (Mcs Leaving),
+          let a = queue.another n l r.tied.state p f.there (queue.more n l r.tied.state p below at other) in
+          let t = reads s r 0 (Mcs Alone) (Mcs Leaving) (steps.Empty false) there refl is (turns.stays_queued l p (turns.not_named n s.words l r.tied p below miss)) (turns.stays_on n s.words l r.tied p below at other) in (
+            on r.state (Mcs Leaving) (steps.Empty false),
             keeps,
             tt,
-            reads s r 0 (Mcs Leaving) there (λ _. has_it) (turns.stays_on n s.words l r.tied p below at other),
-            record {
-              lawful = saw_lawful s r there has_it;
-              hit = λ hit. absurd (miss hit);
-              miss = λ _. record { seat = refl; lacks = lacks meaning kinds.Mcs h s r id v t.0 mine idle (has_at l.line.cpus 1 t.0 t.1) t.2 };
-            },
-            turns_to l (Mcs Alone) _ r.tied.kind_is at (turns.stays_queued l p (turns.not_named n s.words l r.tied p below miss)),
+            t.0,
+            record { hit = λ hit. absurd (miss hit); miss = λ _. record { goes = t.1; lacks = lacks meaning kinds.Mcs h s r id v a.0 mine idle (has_at l.line.cpus 1 a.0 a.1) a.2 } },
+            t.2,
+            t.3,
           ))
 
-      pub passing : (j : ℕ) → v.main.stage ≡ Mcs (Passing j) → IsTurn meaning kinds.Mcs h slots id me (1 + n + j) (λ _. 0) (λ _. passes meaning (step slots (1 + n + j) 0 0 none) me 0)
+      pub passing : (j : ℕ) → v.main.stage ≡ Mcs (Passing j) → IsTurn meaning kinds.Mcs h slots id me (1 + n + j) (λ _. 0) (λ _. passes (step slots (1 + n + j) 0 0 none) me 0)
       passing j is s r len there small =
           let l = r.state.lock in
           let mine = r.each id v there in
           let below = (mine.main.owns p acts).1 in
           let at = mine.main.stands acts ∙ is in
-          let now = gave s r (1 + n + j) 0 len there (ap holding is) (turns.passes n s.words l r.tied p below j at) in
-          (settled v Idle x.log, gives, tt, now.0, returned, now.1 ∙ turns_to l (Mcs (Passing j)) _ r.tied.kind_is at refl)
+          let t = gave s r (1 + n + j) 0 (Mcs (Passing j)) steps.Pass len there is refl refl refl (turns.passes n s.words l r.tied p below j at) in
+          (settled v Idle x.log (run_ended r.state steps.Pass), gives, tt, t.0, t.1, t.2, t.3)

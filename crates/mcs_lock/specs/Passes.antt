@@ -2,7 +2,7 @@
 use Rattle.std.specs.declared.cmp.PartialEq.{Ghosts as Eq}
 use Rattle.std.specs.declared.default.Default.{Ghosts as Default}
 use Rattle.event_log.specs.declared.object.SeqObject.{Ghosts}
-use Rattle.word_rule.specs.declared.stage.Stage.TheVariants.{Mcs}
+use Rattle.word_rule.specs.declared.stage.Stage.TheVariants.{Mcs, Trying}
 use Rattle.word_rule.specs.declared.stage.McsStage.TheVariants.{Ready, Behind, Armed, Waiting, Alone, Leaving, Passing}
 use Rattle.word_rule.specs.Cell.{PassView, HoldView}
 use Rattle.word_rule.specs.CallerState.{CallerState}
@@ -11,6 +11,7 @@ use Rattle.word_rule.specs.Rule.Callers.{IsAt, pass_view_of, hold_view_of, state
 use Rattle.mcs_lock.specs.declared.cell.McsCell.{McsCell}
 use Rattle.word_rule.specs.declared.pass.Pass.{Pass}
 use Rattle.mcs_lock.specs.declared.states.Ready.{Ready as ReadyCaller}
+use Rattle.mcs_lock.specs.declared.states.Trying.{Trying as TryingCaller}
 use Rattle.mcs_lock.specs.declared.states.Behind.{Behind as BehindCaller}
 use Rattle.mcs_lock.specs.declared.states.Armed.{Armed as ArmedCaller}
 use Rattle.mcs_lock.specs.declared.states.Waiting.{Waiting as WaitingCaller}
@@ -29,6 +30,9 @@ module _ {O P C R : Type 0} {g : Ghosts O P C R} {call_eq : Eq C} {call_default 
 
   abbrev pub IsReadyOf : McsCell O P C R → ReadyCaller O P C R g call_eq call_default reply_eq reply_default → Type 0
   IsReadyOf c r = IsAt c.table.table.shared.table_id c.table.table.shared.key r.seat.table_id r.key.value
+
+  abbrev pub IsTryingOf : McsCell O P C R → TryingCaller O P C R g call_eq call_default reply_eq reply_default → Type 0
+  IsTryingOf c t = IsAt c.table.table.shared.table_id c.table.table.shared.key t.seat.table_id t.key.value
 
   abbrev pub IsBehindOf : McsCell O P C R → BehindCaller O P C R g call_eq call_default reply_eq reply_default → Type 0
   IsBehindOf c b = IsAt c.table.table.shared.table_id c.table.table.shared.key b.seat.table_id b.key.value
@@ -67,6 +71,9 @@ module _ {O P C R : Type 0} {g : Ghosts O P C R} {call_eq : Eq C} {call_default 
   -- where each stands
   abbrev pub state_of_ready : ReadyCaller O P C R g call_eq call_default reply_eq reply_default → CallerState O P C R
   state_of_ready r = state_without r.key.value (Mcs Ready) r.seat.me
+
+  abbrev pub state_of_trying : TryingCaller O P C R g call_eq call_default reply_eq reply_default → CallerState O P C R
+  state_of_trying t = state_without t.key.value Trying t.seat.me
 
   abbrev pub state_of_behind : BehindCaller O P C R g call_eq call_default reply_eq reply_default → CallerState O P C R
   state_of_behind b = state_without b.key.value (Mcs (Behind b.ahead)) b.seat.me

@@ -1,7 +1,7 @@
 //! The MCS lock meets the interface of all locks.
 
 ghost use Rattle.mcs_lock.specs.Passes.{IsPassOf, IsHoldOf};
-ghost use Rattle.word_rule.specs.Passes.{view_of_pass, view_of_hold};
+ghost use Rattle.word_rule.specs.Passes.{view_of_pass, view_of_hold, run_of_pass, run_of_hold};
 
 use crate::cell::McsCell;
 use event_log::{Logged, NoRoom, SeqObject, Steps};
@@ -20,6 +20,10 @@ impl<O: SeqObject> LockCell<O> for McsCell<O> {
     ghost pass_view = { view_of_pass };
 
     ghost hold_view = { view_of_hold };
+
+    ghost pass_run = { run_of_pass };
+
+    ghost hold_run = { run_of_hold };
 
     fn acquire<R: Wait>(&self, rt: &R, pass: Pass<O>) -> (Hold<O>, u64) {
         self.wait(rt, pass)
@@ -64,4 +68,8 @@ impl<O: SeqObject> LockCell<O> for McsCell<O> {
     ghost pass_is_lawful = { λ _ pass _. pass.idle.pass_view };
 
     ghost hold_is_lawful = { λ _ hold _. hold.holds.hold_view };
+
+    ghost pass_has_run = { λ _ pass _. pass.idle.ran };
+
+    ghost hold_has_run = { λ _ hold _. record { log = hold.seat.me.0.main.seen; ran = hold.holds.ran; added = hold.holds.added.begins } };
 }

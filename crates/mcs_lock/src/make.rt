@@ -1,9 +1,9 @@
 //! A new MCS lock, with a pass for each CPU.
 
-ghost use Rattle.std.specs.Prelude.{◌≡◌, ◌<◌, ◌≤◌, IfOk, IfErr, vec_len};
+ghost use Rattle.std.specs.Prelude.{◌≡◌, ◌<◌, ◌≤◌, [], IfOk, IfErr, vec_len};
 ghost use Rattle.word_rule.specs.declared.lock_kind.LockKind.TheVariants.{Mcs};
 ghost use Rattle.word_rule.specs.Cell.{EachAt, first_pass};
-ghost use Rattle.word_rule.specs.Passes.{view_of_pass};
+ghost use Rattle.word_rule.specs.Passes.{view_of_pass, run_of_pass};
 ghost use Rattle.mcs_lock.specs.Passes.{IsPassOf};
 
 use crate::cell::McsCell;
@@ -26,6 +26,7 @@ impl<O: SeqObject> McsCell<O> {
         requires few { cpus ≤ MOST_CPUS }
         ensures count { IfOk result (λ r. vec_len r.1 ≡ cpus) }
         ensures passes { IfOk result (λ r. EachAt (λ k p. IsPassOf r.0 p × (view_of_pass p ≡ first_pass Mcs logged cpus k)) r.1.items) }
+        ensures runs { IfOk result (λ r. EachAt (λ k p. run_of_pass p ≡ []) r.1.items) }
         ensures unchanged { IfErr result (λ e. e.1 ≡ logged) }
     {
         let zeros = [0u64; MOST_WORDS];

@@ -1,8 +1,6 @@
 //! The steps that are the MCS lock's own.
 
-ghost use Rattle.word_rule.specs.declared.stage.Stage.TheVariants.{Mcs};
-ghost use Rattle.word_rule.specs.declared.stage.McsStage.TheVariants.{Ready, Waiting};
-ghost use Rattle.mcs_lock.specs.Steps.{goes, arms, enters, tries, looks, sees, sees_again, empties, passes};
+ghost use Rattle.mcs_lock.specs.Steps.{clears, readies, arms, links, enters, tries, looks, sees, sees_again, empties, passes};
 
 use atomic_table::Play;
 use event_log::{Event, Logged, SeqObject};
@@ -12,7 +10,14 @@ use word_rule::{Key, View};
 pub struct Clear;
 
 impl<O: SeqObject> Play<Option<Logged<O>>, View<Key<O>, Event<O>>> for Clear {
-    ghost then = { goes (Mcs Ready) };
+    ghost then = { clears O.SeqObject };
+}
+
+/// A store to the caller's `next`, for a try.
+pub struct ReadyTry;
+
+impl<O: SeqObject> Play<Option<Logged<O>>, View<Key<O>, Event<O>>> for ReadyTry {
+    ghost then = { readies O.SeqObject };
 }
 
 /// A swap of the tail.
@@ -33,14 +38,14 @@ impl<O: SeqObject> Play<Option<Logged<O>>, View<Key<O>, Event<O>>> for Try {
 pub struct Arm;
 
 impl<O: SeqObject> Play<Option<Logged<O>>, View<Key<O>, Event<O>>> for Arm {
-    ghost then = { arms };
+    ghost then = { arms O.SeqObject };
 }
 
 /// A store to the `next` of the one before.
 pub struct Link;
 
 impl<O: SeqObject> Play<Option<Logged<O>>, View<Key<O>, Event<O>>> for Link {
-    ghost then = { goes (Mcs Waiting) };
+    ghost then = { links O.SeqObject };
 }
 
 /// A load of the caller's `locked`.
@@ -75,5 +80,5 @@ impl<O: SeqObject> Play<Option<Logged<O>>, View<Key<O>, Event<O>>> for Empty {
 pub struct PassOn;
 
 impl<O: SeqObject> Play<Option<Logged<O>>, View<Key<O>, Event<O>>> for PassOn {
-    ghost then = { passes O.SeqObject };
+    ghost then = { passes };
 }

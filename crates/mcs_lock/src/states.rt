@@ -1,7 +1,7 @@
 //! A caller of an MCS lock, by what it may do next.
 
 ghost use Rattle.event_log.proofs.Props.{legal_props};
-ghost use Rattle.word_rule.specs.declared.stage.Stage.TheVariants.{Mcs};
+ghost use Rattle.word_rule.specs.declared.stage.Stage.TheVariants.{Mcs, Trying};
 ghost use Rattle.word_rule.specs.declared.stage.McsStage.TheVariants.{Ready, Behind, Armed, Waiting, Alone, Leaving, Passing};
 ghost use Rattle.word_rule.specs.Rule.Announced.{IsElse};
 ghost use Rattle.word_rule.specs.Rule.Callers.{IsWithout, IsWith};
@@ -10,12 +10,20 @@ use event_log::{Logged, SeqObject};
 use std::snapshot::Snapshot;
 use word_rule::{Cpu, Hold, Key, Lent, Seat};
 
-/// A caller whose `next` is clear. It can't be dropped: it ends in `enter`, or in a try.
+/// A caller whose `next` is clear. It can't be dropped: it ends in `enter`.
 pub struct Ready<O: SeqObject> {
     pub(crate) cpu: Cpu,
     pub(crate) key: Snapshot<Key<O>>,
     pub(crate) seat: Seat<O>,
     pub ghost ready: { IsWithout O.SeqObject key.value cpu.number (Mcs Ready) seat.me } by { Prim.hlevel legal_props },
+}
+
+/// A caller whose `next` is clear for a try. It can't be dropped: it ends in `try_enter`.
+pub(crate) struct Trying<O: SeqObject> {
+    pub(crate) cpu: Cpu,
+    pub(crate) key: Snapshot<Key<O>>,
+    pub(crate) seat: Seat<O>,
+    pub(crate) ghost tries: { IsWithout O.SeqObject key.value cpu.number Trying seat.me } by { Prim.hlevel legal_props },
 }
 
 /// A caller in the queue behind the CPU `ahead`. It can't be dropped: it ends in `arm`.

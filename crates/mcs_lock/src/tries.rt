@@ -1,27 +1,41 @@
 //! A try of an MCS lock: it gets the object where nobody is in the queue, and doesn't wait.
 
-ghost use Rattle.std.specs.Prelude.{◌≡◌, true, false, IfOk, IfErr};
+ghost use Rattle.std.specs.Prelude.{◌≡◌, ℕ, [], true, false, IfOk, IfErr};
 ghost use Rattle.word_rule.specs.Answered.{IsBusy};
 ghost use Rattle.word_rule.specs.Cell.{Grows};
-ghost use Rattle.word_rule.specs.McsSteps.{IsTryEnter};
-ghost use Rattle.word_rule.specs.Passes.{view_of_pass, view_of_hold, state_of_pass, state_of_hold};
-ghost use Rattle.mcs_lock.specs.Passes.{IsPassOf, IsReadyOf, IsHoldOf, state_of_ready};
+ghost use Rattle.word_rule.specs.LockRuns.{Extends};
+ghost use Rattle.word_rule.specs.McsSteps.{IsReady, IsTryEnter};
+ghost use Rattle.word_rule.specs.OneHold.{HasAcquired};
+ghost use Rattle.word_rule.specs.Passes.{view_of_pass, view_of_hold, run_of_pass, run_of_hold, state_of_pass, state_of_hold};
+ghost use Rattle.mcs_lock.specs.Passes.{IsPassOf, IsTryingOf, IsHoldOf, state_of_trying};
 
 use crate::cell::McsCell;
-use crate::rule::Try;
-use crate::states::Ready;
+use crate::rule::{ReadyTry, Try};
+use crate::states::Trying;
 use event_log::SeqObject;
-use word_rule::{Hold, Pass};
+use word_rule::{Hold, Pass, next_index};
 
 impl<O: SeqObject> McsCell<O> {
+    /// Clears its `next` for a try: one store.
+    pub(crate) fn ready(&self, pass: Pass<O>) -> Trying<O>
+        requires { IsPassOf self.now pass }
+        ensures trying { IsTryingOf self.now result }
+        ensures step { IsReady O.SeqObject (state_of_pass pass) (state_of_trying result) }
+    {
+        let Pass { cpu, key, mut seat } = pass;
+        self.table
+            .ready::<ReadyTry>(&mut seat, next_index(cpu.number), 0);
+        Trying { cpu, key, seat }
+    }
+
     /// Puts itself into the tail if that names nobody: one compare-and-exchange. The object comes then; a caller that owns
     /// every number of the cell gets it.
-    pub(crate) fn try_enter(&self, ready: Ready<O>) -> Result<Hold<O>, Pass<O>>
-        requires { IsReadyOf self.now ready }
-        ensures got { IfOk result (λ h. IsHoldOf self.now h × IsTryEnter O.SeqObject (state_of_ready ready) (state_of_hold h) true) }
-        ensures busy { IfErr result (λ p. IsPassOf self.now p × IsTryEnter O.SeqObject (state_of_ready ready) (state_of_pass p) false) }
+    pub(crate) fn try_enter(&self, trying: Trying<O>) -> Result<Hold<O>, Pass<O>>
+        requires { IsTryingOf self.now trying }
+        ensures got { IfOk result (λ h. IsHoldOf self.now h × IsTryEnter O.SeqObject (state_of_trying trying) (state_of_hold h) true) }
+        ensures busy { IfErr result (λ p. IsPassOf self.now p × IsTryEnter O.SeqObject (state_of_trying trying) (state_of_pass p) false) }
     {
-        let Ready { cpu, key, mut seat } = ready;
+        let Trying { cpu, key, mut seat } = trying;
         let found = self
             .table
             .try_exchange::<Try>(&mut seat, 0, 0, cpu.number as u64 + 1);
@@ -48,8 +62,10 @@ impl<O: SeqObject> McsCell<O> {
         ensures grows { IfOk result (λ h. Grows (view_of_pass pass).caller.owned (view_of_pass pass).seen (view_of_hold h).history.log) }
         ensures pass { IfErr result (λ p. IsPassOf self.now p) }
         ensures busy { IfErr result (λ p. IsBusy (view_of_pass pass) (view_of_pass p)) }
+        ensures run { IfOk result (λ h. (looks : ℕ) × HasAcquired (view_of_pass pass).caller (run_of_pass pass) looks (run_of_hold h)) }
+        ensures busy_run { IfErr result (λ p. Extends (view_of_pass pass).caller.owned (run_of_pass pass) [] (run_of_pass p)) }
     {
-        let ready = self.clear(pass);
-        self.try_enter(ready)
+        let trying = self.ready(pass);
+        self.try_enter(trying)
     }
 }

@@ -1,10 +1,13 @@
 //! Whole calls of an MCS lock, and its end.
 
-ghost use Rattle.std.specs.Prelude.{◌≡◌, true};
+ghost use Rattle.std.specs.Prelude.{◌≡◌, true, []};
 ghost use Rattle.word_rule.specs.Cell.{Grows, OwnTogether};
+ghost use Rattle.word_rule.specs.LockRuns.{Extends};
 ghost use Rattle.word_rule.specs.McsSteps.{IsWaitingLook, IsSeeAgain};
-ghost use Rattle.mcs_lock.specs.Passes.{IsPassOf, IsBehindOf, IsWaitingOf, IsHoldOf, IsLeavingOf, IsPassingOf, view_of_behind, view_of_waiting, view_of_leaving, view_of_passing, state_of_waiting, state_of_leaving, state_of_passing};
-ghost use Rattle.word_rule.specs.Passes.{view_of_pass, view_of_hold, state_of_hold};
+ghost use Rattle.word_rule.specs.OneHold.{HasAcquired, HasReleased};
+ghost use Rattle.mcs_lock.specs.Queued.{IsQueued, IsSeen};
+ghost use Rattle.mcs_lock.specs.Passes.{IsPassOf, IsBehindOf, IsWaitingOf, IsHoldOf, IsLeavingOf, IsPassingOf, view_of_behind, view_of_waiting, view_of_leaving, view_of_passing, state_of_behind, state_of_waiting, state_of_leaving, state_of_passing};
+ghost use Rattle.word_rule.specs.Passes.{view_of_pass, view_of_hold, run_of_pass, run_of_hold, state_of_hold};
 
 use crate::cell::McsCell;
 use crate::rule::{Look, SeeAgain};
@@ -21,6 +24,7 @@ impl<O: SeqObject> McsCell<O> {
         ensures hold { IsHoldOf self.now result.0 }
         ensures caller { (view_of_hold result.0).caller ≡ (view_of_pass pass).caller }
         ensures grows { Grows (view_of_pass pass).caller.owned (view_of_pass pass).seen (view_of_hold result.0).history.log }
+        ensures run { HasAcquired (view_of_pass pass).caller (run_of_pass pass) result.1 (run_of_hold result.0) }
     {
         let ready = self.clear(pass);
         match self.enter(ready) {
@@ -35,6 +39,7 @@ impl<O: SeqObject> McsCell<O> {
         ensures hold { IsHoldOf self.now result.0 }
         ensures caller { (view_of_hold result.0).caller ≡ (view_of_behind behind).caller }
         ensures grows { Grows (view_of_behind behind).caller.owned (view_of_behind behind).seen (view_of_hold result.0).history.log }
+        ensures run { IsQueued (state_of_behind behind) result.1 (run_of_hold result.0) }
     {
         let armed = self.arm(behind);
         let mut waiting = self.link(armed);
@@ -57,6 +62,7 @@ impl<O: SeqObject> McsCell<O> {
         ensures pass { IsPassOf self.now result }
         ensures caller { (view_of_pass result).caller ≡ (view_of_hold hold).caller }
         ensures seen { (view_of_pass result).seen ≡ (view_of_hold hold).history.log }
+        ensures run { HasReleased (view_of_hold hold) (run_of_hold hold) (run_of_pass result) }
     {
         let alone = match self.see(hold) {
             Ok(passing) => return self.pass_on(passing),
@@ -76,6 +82,7 @@ impl<O: SeqObject> McsCell<O> {
         requires { IsLeavingOf self.now leaving }
         ensures passing { IsPassingOf self.now result }
         ensures held { view_of_passing result ≡ view_of_leaving leaving }
+        ensures run { IsSeen (state_of_leaving leaving) (state_of_passing result) }
     {
         let mut leaving = leaving;
         let backoff = Backoff::new();
@@ -101,6 +108,8 @@ impl<O: SeqObject> McsCell<O> {
         ensures caller { (view_of_pass result.1).caller ≡ (view_of_pass pass).caller }
         ensures seen { (view_of_pass result.1).seen ≡ (view_of_hold result.0).history.log }
         ensures grows { Grows (view_of_pass pass).caller.owned (view_of_pass pass).seen (view_of_hold result.0).history.log }
+        ensures one_run { run_of_pass result.1 ≡ run_of_hold result.0 }
+        ensures run { Extends (view_of_pass pass).caller.owned (run_of_pass pass) [] (run_of_pass result.1) }
     {
         let Waiting { cpu, key, mut seat } = waiting;
         let Pass {

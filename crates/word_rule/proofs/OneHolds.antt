@@ -11,6 +11,7 @@ use Rattle.word_rule.specs.declared.stage.Stage.{Stage}
 use Rattle.word_rule.specs.declared.view.Moment.{Moment}
 use Rattle.word_rule.specs.Cell.{Caller, HoldView, stored}
 use Rattle.word_rule.specs.CallerState.{CallerState, Moves, Takes, Gives}
+use Rattle.word_rule.specs.Line.{holding}
 use Rattle.word_rule.specs.LockRuns.{Extends, events_in}
 use Rattle.word_rule.specs.OneHold.{gets_object, how_many, Acquires, Releases, looks_in, leaving, silently, HasAcquired, HasReleased, HasHeld}
 use Rattle.word_rule.specs.Turns.{arrives, ends_hold, is_look}
@@ -19,9 +20,9 @@ use Rattle.word_rule.proofs.RunLists.{extends_then, silently_append}
 pub count_append : (test : StepDone → Bool) (a b : List StepDone) → how_many test (a ++ b) ≡ how_many test a + how_many test b
 count_append test a b = ap length (filter-append test a b) ∙ length-append (filter test a) (filter test b)
 
--- a CPU has arrived by these steps, with so many looks, and hasn't got the object
-pub record Waits (looks : ℕ) (done : List StepDone) : Type 0 where
-  pub arrived : how_many arrives done ≡ 1
+-- a CPU has arrived so often by these steps, with so many looks, and hasn't got the object
+pub record Waits (arrivals looks : ℕ) (done : List StepDone) : Type 0 where
+  pub arrived : how_many arrives done ≡ arrivals
   pub got : how_many gets_object done ≡ 0
   pub unended : how_many ends_hold done ≡ 0
   pub looked : looks ≡ looks_in done
@@ -36,8 +37,8 @@ looks_more looks more done hit is counted =
     let longer : how_many is_look (done ++ steps.Look hit ∷ []) ≡ n + 1 = count_append is_look done (steps.Look hit ∷ []) in
     counted ∙ (ap (λ (z : ℕ). min (z + 1) (2 ^ 64 - 1)) is ∙ (look_counted n 0 ∙ ap (λ (z : ℕ). min z (2 ^ 64 - 1)) (sym longer)))
 
-pub waits_more : (looks more : ℕ) (done : List StepDone) → Waits looks done → more ≡ min (looks + 1) (2 ^ 64 - 1) → Waits more (done ++ steps.Look false ∷ [])
-waits_more looks more done w counted = record {
+pub waits_more : (arrivals looks more : ℕ) (done : List StepDone) → Waits arrivals looks done → more ≡ min (looks + 1) (2 ^ 64 - 1) → Waits arrivals more (done ++ steps.Look false ∷ [])
+waits_more arrivals looks more done w counted = record {
   arrived = let c = count_append arrives done (steps.Look false ∷ []) in let a = w.arrived in omega (arith, a, c);
   got = let c = count_append gets_object done (steps.Look false ∷ []) in let a = w.got in omega (arith, a, c);
   unended = let c = count_append ends_hold done (steps.Look false ∷ []) in let a = w.unended in omega (arith, a, c);
@@ -45,7 +46,7 @@ waits_more looks more done w counted = record {
 }
 
 -- the look that gets the object
-pub acquires_looking : (looks : ℕ) (done : List StepDone) → Waits looks done → Acquires (done ++ steps.Look true ∷ [])
+pub acquires_looking : (looks : ℕ) (done : List StepDone) → Waits 1 looks done → Acquires (done ++ steps.Look true ∷ [])
 acquires_looking looks done w = record {
   before = done;
   last = steps.Look true;
@@ -66,12 +67,18 @@ module _ {O P C R : Type 0} where
   since_more caller before after done more a s e = subst (λ l. Extends caller.owned before l after) (sym (silently_append caller.acting done more))
       (extends_then caller.owned before (silently caller.acting done) a.run (silently caller.acting more) after s.1 (subst (λ (k : Caller O P C R). Extends k.owned a.run (silently k.acting more) after) s.0 e))
 
+  -- a holder that has done these steps since, and has seen no event
+  pub record HeldSince (hold : HoldView O P C R) (before : List (Moment (Event O P C R))) (done : List StepDone) (a : CallerState O P C R) : Type 0 where
+    pub since : Since hold.caller before done a
+    pub seen : a.seen ≡ hold.caller.cell.opening ++ events_in before
+    pub has : a.has ≡ Some hold.history
+
 module _ {O P C R : Type 0} (meaning : Ghosts O P C R) where
   pub since_moved : (caller : Caller O P C R) (before : List (Moment (Event O P C R))) (done more : List StepDone) (p q : Stage) (a b : CallerState O P C R) → Since caller before done a → Moves meaning p q more a b → Since caller before (done ++ more) b
   since_moved caller before done more p q a b s m = (m.caller ∙ s.0, since_more caller before b.run done more a s m.extends)
 
   -- the look that gets the object, after others
-  pub acquired_looking : (caller : Caller O P C R) (before : List (Moment (Event O P C R))) (looks more : ℕ) (done : List StepDone) (p q : Stage) (a b : CallerState O P C R) → Waits looks done → more ≡ min (looks + 1) (2 ^ 64 - 1) → Since caller before done a → Takes meaning p q (steps.Look true ∷ []) a b
+  pub acquired_looking : (caller : Caller O P C R) (before : List (Moment (Event O P C R))) (looks more : ℕ) (done : List StepDone) (p q : Stage) (a b : CallerState O P C R) → Waits 1 looks done → more ≡ min (looks + 1) (2 ^ 64 - 1) → Since caller before done a → Takes meaning p q (steps.Look true ∷ []) a b
       → HasAcquired caller before more b.run
   acquired_looking caller before looks more done p q a b w counted s t = record {
     done = done ++ steps.Look true ∷ [];
@@ -93,6 +100,12 @@ module _ {O P C R : Type 0} (meaning : Ghosts O P C R) where
         added = ap (λ z. z.log) same ∙ (t.added ∙ ap (λ l. l ++ t.events) seen);
         extends = extends_then hold.caller.owned before (silently hold.caller.acting done) a.run (leaving hold.caller.acting last t.events ∷ []) b.run s.1 (subst (λ (k : Caller O P C R). Extends k.owned a.run (leaving k.acting last t.events ∷ []) b.run) s.0 t.extends);
       }
+
+  pub held_moved : (hold : HoldView O P C R) (before : List (Moment (Event O P C R))) (done more : List StepDone) (p q : Stage) (a b : CallerState O P C R) → HeldSince hold before done a → Moves meaning p q more a b → holding p ≡ true → HeldSince hold before (done ++ more) b
+  held_moved hold before done more p q a b s m holds = record { since = since_moved hold.caller before done more p q a b s.since m; seen = m.still holds ∙ s.seen; has = m.has ∙ s.has }
+
+  pub held_given : (hold : HoldView O P C R) (before : List (Moment (Event O P C R))) (done : List StepDone) (last : StepDone) (p q : Stage) (a b : CallerState O P C R) → HeldSince hold before done a → Releases done last → Gives meaning p q last a b → HasReleased hold before b.run
+  held_given hold before done last p q a b s r t = released_by hold before done last p q a b r s.seen s.since s.has t
 
   -- a try that gets the object
   pub acquired_at_once : (caller : Caller O P C R) (before : List (Moment (Event O P C R))) (looks : ℕ) (done now : List StepDone) (p q : Stage) (a b : CallerState O P C R) → Acquires (done ++ now) → looks ≡ looks_in (done ++ now) → Since caller before done a → Takes meaning p q now a b → HasAcquired caller before looks b.run

@@ -1,7 +1,7 @@
 use Rattle.std.proofs.Common.{subst, arith}
 use Rattle.word_rule.specs.declared.stage.Stage.TheVariants.{Idle}
 use Rattle.word_rule.specs.Rule.Callers.{IsWithout}
-use Rattle.word_rule.proofs.Acting.{moves_without}
+use Rattle.word_rule.proofs.Acting.{goes_without, moves_without}
 use Rattle.mcs_lock.proofs.McsActing.{clear_now, below_without}
 use Rattle.mcs_lock.proofs.cell.McsCell.clear.Goals as goal
 
@@ -11,6 +11,9 @@ store-requires g c = let s = c.args.self.now in let a = c.args.pass in let key =
     let below = below_without g.O.SeqObject key s.cpus a.cpu.number Idle a.seat.me s.sized.1 w in
     (g.met.O.SeqObject.event_fits, (c.requires.table, omega (arith, c.next_index.ensures), rw c.next_index.ensures (clear_now g.O.SeqObject key c.args.self.now.kind _ _ a.cpu.number a.seat.me w)))
 
+pub invariant_of-result : goal.invariant_of-result
+invariant_of-result g c = let a = c.args.pass in record { ready = goes_without g.O.SeqObject a.key.value a.cpu.number _ _ _ a.seat.me c.store.new.seat.me a.idle c.store.ensures.2 }
+
 pub returns-clause-step : goal.returns-clause-step
 returns-clause-step g c = let a = c.args.pass in
-    moves_without g.O.SeqObject a.key.value a.cpu.number _ _ a.seat.me c.store.new.seat.me a.idle c.store.ensures.2
+    moves_without g.O.SeqObject a.key.value a.cpu.number _ _ _ a.seat.me c.store.new.seat.me a.idle c.store.ensures.2

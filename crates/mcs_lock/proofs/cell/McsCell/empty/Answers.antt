@@ -1,14 +1,13 @@
-use Rattle.std.proofs.Common.{rules, ◌∷◌, refl, sym, ap, subst, ◌∙◌, arith, Some}
+use Rattle.std.proofs.Common.{rules, false, [], ◌∷◌, refl, sym, ap, subst, ◌∙◌, arith, Some}
 use Rattle.atomic_table.specs.Table.{rest}
+use Rattle.word_rule.specs.declared.machine.step_done.StepDone.TheVariants as steps
 use Rattle.word_rule.specs.declared.stage.Stage.TheVariants.{Mcs}
 use Rattle.word_rule.specs.declared.stage.McsStage.TheVariants.{Alone, Leaving}
-use Rattle.word_rule.specs.CallerState.{Moves}
-use Rattle.word_rule.specs.Rule.Announced.{Lacks}
+use Rattle.word_rule.specs.CallerState.{Moves, NeedsAnother}
 use Rattle.word_rule.specs.Rule.Callers.{state_with, IsWith}
-use Rattle.word_rule.proofs.Acting.{left, rests_now, gives_now, not_all}
-use Rattle.mcs_lock.specs.Steps.{SawLawful}
+use Rattle.word_rule.proofs.Acting.{left, rests_now, gives_now, goes_with, lags_with}
 use Rattle.mcs_lock.specs.Passes.{state_of_alone}
-use Rattle.mcs_lock.proofs.McsActing.{empty_now, came_back, goes_with, moves_with}
+use Rattle.mcs_lock.proofs.McsActing.{empty_now, came_back}
 use Rattle.mcs_lock.proofs.cell.McsCell.empty.Goals as goal
 
 pub compare_exchange-found-requires : goal.compare_exchange-found-requires
@@ -17,29 +16,23 @@ compare_exchange-found-requires g c = let s = c.args.self.now in let a = c.args.
 
 pub invariant_of-result : goal.invariant_of-result
 invariant_of-result g c = let a = c.args.alone in
-    record { idle = rests_now g.O.SeqObject a.key.value a.cpu.number _ _ a.logged a.seat.me c.compare_exchange-found.new.seat.me a.alone (left g.O.SeqObject _ a.seat.me c.put_back.new.seat.me c.compare_exchange-found.new.seat.me a.logged a.alone.at.carries c.put_back.ensures.2 (c.compare_exchange-found.ensures.2.hit c.if-found-last.true)) }
+    record { idle = rests_now g.O.SeqObject a.key.value a.cpu.number _ _ _ a.logged a.seat.me c.compare_exchange-found.new.seat.me a.alone (left g.O.SeqObject _ _ a.seat.me c.put_back.new.seat.me c.compare_exchange-found.new.seat.me a.logged a.alone.at.carries c.put_back.ensures.2 (c.compare_exchange-found.ensures.2.hit c.if-found-last.true)) }
 
 pub returns-then-found-last-clause-home : goal.returns-then-found-last-clause-home
 returns-then-found-last-clause-home g c = let a = c.args.alone in
-    (search rules, gives_now g.O.SeqObject a.key.value a.cpu.number _ _ a.logged a.seat.me c.compare_exchange-found.new.seat.me a.alone (left g.O.SeqObject _ a.seat.me c.put_back.new.seat.me c.compare_exchange-found.new.seat.me a.logged a.alone.at.carries c.put_back.ensures.2 (c.compare_exchange-found.ensures.2.hit c.if-found-last.true)))
+    (search rules, gives_now g.O.SeqObject a.key.value a.cpu.number _ _ _ a.logged a.seat.me c.compare_exchange-found.new.seat.me a.alone (left g.O.SeqObject _ _ a.seat.me c.put_back.new.seat.me c.compare_exchange-found.new.seat.me a.logged a.alone.at.carries c.put_back.ensures.2 (c.compare_exchange-found.ensures.2.hit c.if-found-last.true)))
 
 pub take-logged-requires : goal.take-logged-requires
 take-logged-requires g c = let a = c.args.alone in let t = c.compare_exchange-found.ensures.2.miss c.if-found-last.false in
-    let is = ap (λ z. z.1) t.seat ∙ ap (λ z. z.1) c.put_back.ensures.2 in
+    let is = ap (λ z. z.1) t.goes.seat ∙ ap (λ z. z.1) c.put_back.ensures.2 in
     (g.met.O.SeqObject.event_fits, (search rules, (a.logged, is ∙ ap (λ z. (0, Some a.logged) ∷ rest z) (sym is))))
 
 pub invariant_of-result-else-found-last : goal.invariant_of-result-else-found-last
 invariant_of-result-else-found-last g c = let a = c.args.alone in let y = c.take-logged.result.0 in let t = c.compare_exchange-found.ensures.2.miss c.if-found-last.false in let e = c.take-logged.ensures in
-    let back = came_back g.O.SeqObject (Mcs Leaving) a.seat.me c.put_back.new.seat.me c.compare_exchange-found.new.seat.me c.take-logged.new.seat.me a.logged y (Some y) a.alone.at.carries c.put_back.ensures.2 t.seat e.2 e.3 refl in
-    record { leaves = subst (λ z. IsWith g.O.SeqObject a.key.value a.cpu.number (Mcs Leaving) z c.take-logged.new.seat.me) back.1 (goes_with g.O.SeqObject a.key.value a.cpu.number _ _ a.logged a.seat.me c.take-logged.new.seat.me a.alone back.0) }
+    let back = came_back g.O.SeqObject (Mcs Leaving) _ a.seat.me c.put_back.new.seat.me c.compare_exchange-found.new.seat.me c.take-logged.new.seat.me a.logged y (Some y) a.alone.at.carries c.put_back.ensures.2 t e.2 e.3 refl in
+    record { leaves = subst (λ z. IsWith g.O.SeqObject a.key.value a.cpu.number (Mcs Leaving) z c.take-logged.new.seat.me) back.1 (goes_with g.O.SeqObject a.key.value a.cpu.number _ _ _ a.logged a.seat.me c.take-logged.new.seat.me a.alone refl back.0.goes) }
 
 pub returns-else-found-last-clause-missed : goal.returns-else-found-last-clause-missed
 returns-else-found-last-clause-missed g c = let a = c.args.alone in let y = c.take-logged.result.0 in let told = c.compare_exchange-found.ensures.2 in let t = told.miss c.if-found-last.false in let e = c.take-logged.ensures in let filled = c.put_back.ensures.2 in
-    let back = came_back g.O.SeqObject (Mcs Leaving) a.seat.me c.put_back.new.seat.me c.compare_exchange-found.new.seat.me c.take-logged.new.seat.me a.logged y (Some y) a.alone.at.carries filled t.seat e.2 e.3 refl in
-    let lawful = subst (λ z. SawLawful g.O.SeqObject z.0) filled told.lawful a.key.value a.alone.at.told in (
-      search rules,
-      record {
-        made = subst (λ z. Moves g.O.SeqObject (Mcs Alone) (Mcs Leaving) (state_of_alone a) (state_with a.key.value (Mcs Leaving) z c.take-logged.new.seat.me)) back.1 (moves_with g.O.SeqObject a.key.value (Mcs Alone) (Mcs Leaving) a.logged a.seat.me c.take-logged.new.seat.me lawful back.0);
-        another = not_all g.O.SeqObject a.key.value a.seat.me a.alone.at.told (subst (λ z. Lacks z.0) filled t.lacks);
-      },
-    )
+    let back = came_back g.O.SeqObject (Mcs Leaving) _ a.seat.me c.put_back.new.seat.me c.compare_exchange-found.new.seat.me c.take-logged.new.seat.me a.logged y (Some y) a.alone.at.carries filled t e.2 e.3 refl in
+    (search rules, subst (λ z. NeedsAnother g.O.SeqObject (Moves g.O.SeqObject (Mcs Alone) (Mcs Leaving) (steps.Empty false ∷ [])) (state_of_alone a) (state_with a.key.value (Mcs Leaving) z c.take-logged.new.seat.me)) back.1 (lags_with g.O.SeqObject a.key.value a.cpu.number (Mcs Alone) (Mcs Leaving) _ a.logged a.seat.me c.take-logged.new.seat.me a.alone back.0))

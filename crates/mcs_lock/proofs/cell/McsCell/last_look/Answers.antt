@@ -1,9 +1,11 @@
-use Rattle.std.proofs.Common.{rules, refl, ◌≡◌, ◌<◌, true, ◌∷◌, sym, ap, subst, ◌∙◌, arith, Some}
+use Rattle.std.proofs.Common.{rules, refl, ◌≡◌, ◌<◌, true, [], ◌∷◌, sym, ap, subst, ◌∙◌, arith, Some}
 use Rattle.atomic_table.specs.Table.{rest}
 use Rattle.event_log.specs.Distinct.{has}
+use Rattle.word_rule.specs.declared.machine.step_done.StepDone.TheVariants as steps
 use Rattle.word_rule.specs.declared.stage.Stage.TheVariants.{Idle, Mcs}
 use Rattle.word_rule.specs.declared.stage.McsStage.TheVariants.{Waiting, Holding}
 use Rattle.word_rule.specs.Cell.{Lawful}
+use Rattle.word_rule.specs.LockRuns.{Extends, HasRun}
 use Rattle.word_rule.specs.Line.{holder}
 use Rattle.word_rule.specs.Rule.Callers.{IsWithout, caller_of}
 use Rattle.word_rule.proofs.Known.{AllIdle}
@@ -37,25 +39,25 @@ take-logged-requires g c = let t = c.load-found.ensures.2.hit c.if-prove.false i
 
 -- what the look gave, and what each of the two has seen
 last : (g : given.Over) (c : goal.After-split_seat-theirs g)
-    → TookLast g.O.SeqObject c.args.waiting.key.value (Mcs Holding) c.take-logged.result.0 c.args.waiting.seat.me c.args.pass.seat.me c.split_seat-theirs.new.seat.me c.split_seat-theirs.result.me
+    → TookLast g.O.SeqObject c.args.waiting.key.value (Mcs Holding) (steps.Look true ∷ []) c.take-logged.result.0 c.args.waiting.seat.me c.args.pass.seat.me c.split_seat-theirs.new.seat.me c.split_seat-theirs.result.me
 last g c = let a = c.args.waiting in let p = c.args.pass in let e = c.join_seat.ensures.2 in let y = c.take-logged.result.0 in let s = c.split_seat-theirs in let same = c.requires.pass.told ∙ sym c.requires.waiting.told in
     let got = c.load-found.ensures.2.hit c.if-prove.false in
-    last_taken g.O.SeqObject a.key.value a.cpu.number p.cpu.number (Mcs Waiting) (Mcs Holding) (Some y) y a.seat.me p.seat.me c.join_seat.new.seat.me c.load-found.new.seat.me c.take-logged.new.seat.me s.new.seat.me s.result.me a.waits
+    last_taken g.O.SeqObject a.key.value a.cpu.number p.cpu.number (Mcs Waiting) (Mcs Holding) (steps.Look true ∷ []) (Some y) y a.seat.me p.seat.me c.join_seat.new.seat.me c.load-found.new.seat.me c.take-logged.new.seat.me s.new.seat.me s.result.me a.waits
     (subst (λ k. IsWithout g.O.SeqObject k p.cpu.number Idle p.seat.me) same p.idle) e got c.take-logged.ensures.2 c.take-logged.ensures.3 refl s.ensures.2 s.ensures.4
 
 pub invariant_of-result : goal.invariant_of-result
 invariant_of-result g c = let a = c.args.waiting in let y = c.take-logged.result.0 in let l = last g c in record {
-  holds = holds_now g.O.SeqObject a.key.value a.cpu.number (Mcs Waiting) (Mcs Holding) y a.seat.me c.split_seat-theirs.new.seat.me a.waits l.lawful l.replayed l.first;
+  holds = holds_now g.O.SeqObject a.key.value a.cpu.number (Mcs Waiting) (Mcs Holding) y l.run a.seat.me c.split_seat-theirs.new.seat.me a.waits l.see.lawful l.see.ran l.replayed l.first;
   there = (ap (λ z. z.0.main.stage) l.first) ∙ ap (λ k. holder k 0) (sym (ap (λ k. k.kind) c.requires.waiting.told ∙ c.args.self.now.kind));
 }
 
 pub invariant_of-result-2 : goal.invariant_of-result-2
 invariant_of-result-2 g c = let p = c.args.pass in let y = c.take-logged.result.0 in let l = last g c.before in let same = c.requires.pass.told ∙ sym c.requires.waiting.told in
-    record { idle = sees_without g.O.SeqObject p.key.value p.cpu.number Idle Idle y.log p.seat.me c.split_seat-theirs.result.me p.idle (subst (λ k. Lawful g.O.SeqObject k y.log) (sym same) l.lawful) l.second }
+    record { idle = sees_without g.O.SeqObject p.key.value p.cpu.number Idle Idle y.log l.run p.seat.me c.split_seat-theirs.result.me p.idle (subst (λ k. Lawful g.O.SeqObject k y.log) (sym same) l.see.lawful) (subst (λ k. HasRun k y.log l.run) (sym same) l.see.ran) l.second }
 
 pub returns-clause-look : goal.returns-clause-look
 returns-clause-look g c = let a = c.args.waiting in let l = last g c.before.before in
-    takes_now g.O.SeqObject a.key.value (Mcs Waiting) (Mcs Holding) c.take-logged.result.0 a.seat.me c.split_seat-theirs.new.seat.me l.first_grows l.lawful l.replayed l.first
+    takes_now g.O.SeqObject a.key.value (Mcs Waiting) (Mcs Holding) (steps.Look true ∷ []) c.take-logged.result.0 l.run a.seat.me c.split_seat-theirs.new.seat.me l.see.first_grows l.see.first_run l.see.lawful l.replayed l.first
 
 pub returns-clause-caller : goal.returns-clause-caller
 returns-clause-caller g c = ap (λ z. caller_of c.args.pass.key.value z.0) (last g c.before.before).second
@@ -64,4 +66,10 @@ pub returns-clause-seen : goal.returns-clause-seen
 returns-clause-seen g c = ap (λ z. z.0.main.seen) (last g c.before.before).second
 
 pub returns-clause-grows : goal.returns-clause-grows
-returns-clause-grows g c = (last g c.before.before).second_grows
+returns-clause-grows g c = (last g c.before.before).see.second_grows
+
+pub returns-clause-one_run : goal.returns-clause-one_run
+returns-clause-one_run g c = let l = last g c.before.before in ap (λ z. z.0.main.run) l.second ∙ sym (ap (λ z. z.0.main.run) l.first)
+
+pub returns-clause-run : goal.returns-clause-run
+returns-clause-run g c = let l = last g c.before.before in subst (Extends (caller_of c.args.pass.key.value c.args.pass.seat.me.0).owned c.args.pass.seat.me.0.main.run []) (sym (ap (λ z. z.0.main.run) l.second)) l.see.second_run

@@ -1,13 +1,12 @@
-use Rattle.std.proofs.Common.{rules, ◌≡◌, ℕ, ◌-◌, ◌<◌, true, [], ◌∷◌, sym, ap, subst, ◌∙◌, arith}
+use Rattle.std.proofs.Common.{rules, ◌≡◌, ℕ, ◌-◌, ◌<◌, true, [], ◌∷◌, refl, sym, ap, subst, ◌∙◌, arith}
 use Rattle.event_log.specs.Distinct.{has}
+use Rattle.word_rule.specs.declared.machine.step_done.StepDone.TheVariants as steps
 use Rattle.word_rule.specs.declared.stage.Stage.TheVariants.{Mcs}
 use Rattle.word_rule.specs.declared.stage.McsStage.TheVariants.{Leaving, Waiting, Passing}
-use Rattle.word_rule.specs.Rule.Announced.{IsElse}
-use Rattle.word_rule.specs.Rule.Seats.{with_stage}
+use Rattle.word_rule.specs.Rule.Announced.{IsElse, Goes}
 use Rattle.word_rule.specs.Rule.Callers.{IsWith, IsWithout, hold_view_of, state_without}
-use Rattle.word_rule.proofs.Acting.{all_together}
-use Rattle.mcs_lock.specs.Steps.{SawLawful}
-use Rattle.mcs_lock.proofs.McsActing.{find_now, below_with, named, not_else, is_other, else_below, else_now, else_of, first_moved, second_same, goes_with, moves_with}
+use Rattle.word_rule.proofs.Acting.{all_together, goes_with, moves_with}
+use Rattle.mcs_lock.proofs.McsActing.{find_now, below_with, named, not_else, is_other, else_below, else_now, else_of, first_goes, second_same}
 use Rattle.mcs_lock.proofs.cell.McsCell.last_see.Goals as goal
 use Rattle.mcs_lock.proofs.cell.McsCell.last_see.Given as given
 
@@ -38,18 +37,18 @@ overflow_cast-follower g c = let s = c.args.self.now in let a = c.args.leaving i
 
 -- the first caller moved, the second is as it was, and the word named another CPU
 saw : (g : given.Over) (c : goal.After-split_seat-theirs g) → let a = c.args.leaving in let w = c.args.waiting in let s = c.split_seat-theirs in let k : ℕ = c.load-found.result - 1 in
-    (s.new.seat.me ≡ (with_stage a.seat.me.0 (Mcs (Passing k)), a.seat.me.1)) × (s.result.me ≡ w.seat.me) × IsElse a.seat.me.0 k
+    Goes g.O.SeqObject (Mcs (Passing k)) (steps.See true ∷ []) a.seat.me s.new.seat.me × (s.result.me ≡ w.seat.me) × IsElse a.seat.me.0 k
 saw g c = let a = c.args.leaving in let w = c.args.waiting in let e = c.join_seat.ensures.2 in let s = c.split_seat-theirs in let some_one = c.if-prove.false in let k : ℕ = c.load-found.result - 1 in
-    let t = named (λ p. Mcs (Passing p)) c.load-found.result k c.join_seat.new.seat.me c.load-found.new.seat.me (c.load-found.ensures.2.found some_one) (omega arith) in (
-      first_moved (Mcs (Passing k)) a.seat.me w.seat.me c.join_seat.new.seat.me c.load-found.new.seat.me s.new.seat.me a.leaves.at.alone e t.0 s.ensures.2,
-      second_same (Mcs (Passing k)) a.seat.me w.seat.me c.join_seat.new.seat.me c.load-found.new.seat.me s.result.me w.waits.at.alone w.waits.at.carries (w.waits.at.told ∙ (ap (λ z. z ∷ []) (c.requires.waiting.told ∙ sym c.requires.leaving.told) ∙ sym a.leaves.at.told)) e t.0 s.ensures.4,
+    let t = named g.O.SeqObject (λ p. Mcs (Passing p)) (steps.See true ∷ []) c.load-found.result k c.join_seat.new.seat.me c.load-found.new.seat.me (c.load-found.ensures.2.found some_one) (omega arith) in (
+      first_goes g.O.SeqObject (Mcs (Passing k)) (steps.See true ∷ []) a.seat.me w.seat.me c.join_seat.new.seat.me c.load-found.new.seat.me s.new.seat.me a.leaves.at.alone e t.0 s.ensures.2,
+      second_same (Mcs (Passing k)) t.0.log t.0.run a.seat.me w.seat.me c.join_seat.new.seat.me c.load-found.new.seat.me s.result.me w.waits.at.alone w.waits.at.carries (w.waits.at.told ∙ (ap (λ z. z ∷ []) (c.requires.waiting.told ∙ sym c.requires.leaving.told) ∙ sym a.leaves.at.told)) e t.0.seat s.ensures.4,
       else_of a.seat.me w.seat.me c.join_seat.new.seat.me k e t.1,
     )
 
 pub invariant_of-result : goal.invariant_of-result
 invariant_of-result g c = let a = c.args.leaving in let k : ℕ = c.load-found.result - 1 in let t = saw g c in record {
-  passes = goes_with g.O.SeqObject a.key.value a.cpu.number (Mcs Leaving) (Mcs (Passing k)) a.logged a.seat.me c.split_seat-theirs.new.seat.me a.leaves t.0;
-  other = else_now (Mcs (Passing k)) a.seat.me c.split_seat-theirs.new.seat.me k t.0 t.2;
+  passes = goes_with g.O.SeqObject a.key.value a.cpu.number (Mcs Leaving) (Mcs (Passing k)) _ a.logged a.seat.me c.split_seat-theirs.new.seat.me a.leaves refl t.0;
+  other = else_now g.O.SeqObject _ _ a.seat.me c.split_seat-theirs.new.seat.me k t.0 t.2;
 }
 
 pub invariant_of-result-2 : goal.invariant_of-result-2
@@ -57,11 +56,10 @@ invariant_of-result-2 g c = let w = c.args.waiting in record { waits = subst (Is
 
 pub returns-clause-see : goal.returns-clause-see
 returns-clause-see g c = let a = c.args.leaving in let k : ℕ = c.load-found.result - 1 in let t = saw g c.before.before in
-    let lawful = subst (λ z. SawLawful g.O.SeqObject z.0) c.join_seat.ensures.2 c.load-found.ensures.2.lawful a.key.value a.leaves.at.told in
-    (k, is_other a.key.value a.seat.me k a.leaves.at.told t.2, record { made = moves_with g.O.SeqObject a.key.value (Mcs Leaving) (Mcs (Passing k)) a.logged a.seat.me c.split_seat-theirs.new.seat.me lawful t.0; another = not_else a.key.value a.seat.me k a.leaves.at.told t.2 })
+    (k, is_other a.key.value a.seat.me k a.leaves.at.told t.2, record { made = moves_with g.O.SeqObject a.key.value a.cpu.number (Mcs Leaving) (Mcs (Passing k)) _ a.logged a.seat.me c.split_seat-theirs.new.seat.me a.leaves t.0; another = not_else a.key.value a.seat.me k a.leaves.at.told t.2 })
 
 pub returns-clause-held : goal.returns-clause-held
-returns-clause-held g c = ap (λ z. hold_view_of c.args.leaving.key.value c.args.leaving.logged z.0) (saw g c.before.before).0
+returns-clause-held g c = ap (λ z. hold_view_of c.args.leaving.key.value c.args.leaving.logged z.0) (saw g c.before.before).0.seat
 
 pub returns-clause-waits : goal.returns-clause-waits
 returns-clause-waits g c = ap (λ z. state_without c.args.waiting.key.value (Mcs Waiting) z) (saw g c.before.before).1

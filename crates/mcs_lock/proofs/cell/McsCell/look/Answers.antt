@@ -5,7 +5,7 @@ use Rattle.word_rule.specs.declared.stage.McsStage.TheVariants.{Waiting}
 use Rattle.word_rule.specs.Line.{holder}
 use Rattle.word_rule.specs.Rule.Callers.{IsWithout}
 use Rattle.word_rule.proofs.Known.{idle_alone}
-use Rattle.word_rule.proofs.Acting.{took, takes_from, holds_from, moves_without, not_all}
+use Rattle.word_rule.proofs.Acting.{took, takes_from, holds_from, goes_without, lags_without}
 use Rattle.mcs_lock.proofs.McsActing.{look_now, below_without}
 use Rattle.mcs_lock.proofs.cell.McsCell.look.Goals as goal
 
@@ -21,17 +21,18 @@ take-logged-requires g c = let t = c.load-found.ensures.2.hit c.if-found-eq0.tru
 
 pub invariant_of-result : goal.invariant_of-result
 invariant_of-result g c = let a = c.args.waiting in let t = c.load-found.ensures.2.hit c.if-found-eq0.true in let y = c.take-logged.result.0 in let e = c.take-logged.ensures in
-    record { holds = holds_from g.O.SeqObject a.key.value a.cpu.number _ _ y a.seat.me c.take-logged.new.seat.me a.waits (took g.O.SeqObject _ a.seat.me c.load-found.new.seat.me c.take-logged.new.seat.me (Some y) y t e.2 e.3 refl); there = (ap (λ z. z.0.main.stage) (took g.O.SeqObject _ a.seat.me c.load-found.new.seat.me c.take-logged.new.seat.me (Some y) y t e.2 e.3 refl).seat) ∙ ap (λ k. holder k 0) (sym (ap (λ k. k.kind) c.requires.told ∙ c.args.self.now.kind)) }
+    record { holds = holds_from g.O.SeqObject a.key.value a.cpu.number _ _ _ y a.seat.me c.take-logged.new.seat.me a.waits (took g.O.SeqObject _ _ a.seat.me c.load-found.new.seat.me c.take-logged.new.seat.me (Some y) y t e.2 e.3 refl); there = (ap (λ z. z.0.main.stage) (took g.O.SeqObject _ _ a.seat.me c.load-found.new.seat.me c.take-logged.new.seat.me (Some y) y t e.2 e.3 refl).seat) ∙ ap (λ k. holder k 0) (sym (ap (λ k. k.kind) c.requires.told ∙ c.args.self.now.kind)) }
 
 pub returns-then-found-eq0-clause-got : goal.returns-then-found-eq0-clause-got
 returns-then-found-eq0-clause-got g c = let a = c.args.waiting in let t = c.load-found.ensures.2.hit c.if-found-eq0.true in let y = c.take-logged.result.0 in let e = c.take-logged.ensures in
-    (search rules, takes_from g.O.SeqObject a.key.value a.cpu.number _ _ y a.seat.me c.take-logged.new.seat.me a.waits (took g.O.SeqObject _ a.seat.me c.load-found.new.seat.me c.take-logged.new.seat.me (Some y) y t e.2 e.3 refl))
+    (search rules, takes_from g.O.SeqObject a.key.value a.cpu.number _ _ _ y a.seat.me c.take-logged.new.seat.me a.waits (took g.O.SeqObject _ _ a.seat.me c.load-found.new.seat.me c.take-logged.new.seat.me (Some y) y t e.2 e.3 refl))
+
+pub invariant_of-result-else-found-eq0 : goal.invariant_of-result-else-found-eq0
+invariant_of-result-else-found-eq0 g c = let a = c.args.waiting in let t = c.load-found.ensures.2.miss c.if-found-eq0.false in
+    record { waits = goes_without g.O.SeqObject a.key.value a.cpu.number _ _ _ a.seat.me c.load-found.new.seat.me a.waits t.goes }
 
 pub returns-else-found-eq0-clause-missed : goal.returns-else-found-eq0-clause-missed
 returns-else-found-eq0-clause-missed g c = let a = c.args.waiting in let t = c.load-found.ensures.2.miss c.if-found-eq0.false in (
   search rules,
-  record {
-    made = moves_without g.O.SeqObject a.key.value a.cpu.number _ _ a.seat.me c.load-found.new.seat.me a.waits t.seat;
-    another = not_all g.O.SeqObject a.key.value a.seat.me a.waits.at.told t.lacks;
-  },
+  lags_without g.O.SeqObject a.key.value a.cpu.number _ _ _ a.seat.me c.load-found.new.seat.me a.waits t,
 )

@@ -14,8 +14,8 @@ store-requires g c = let s = c.args.self.now in let a = c.args.passing in let ke
 
 pub invariant_of-result : goal.invariant_of-result
 invariant_of-result g c = let a = c.args.passing in
-    record { idle = rests_now g.O.SeqObject a.key.value a.cpu.number _ _ a.logged a.seat.me c.store.new.seat.me a.passes (left g.O.SeqObject _ a.seat.me c.put_back.new.seat.me c.store.new.seat.me a.logged a.passes.at.carries c.put_back.ensures.2 c.store.ensures.2) }
+    record { idle = rests_now g.O.SeqObject a.key.value a.cpu.number _ _ _ a.logged a.seat.me c.store.new.seat.me a.passes (left g.O.SeqObject _ _ a.seat.me c.put_back.new.seat.me c.store.new.seat.me a.logged a.passes.at.carries c.put_back.ensures.2 c.store.ensures.2) }
 
 pub returns-clause-step : goal.returns-clause-step
 returns-clause-step g c = let a = c.args.passing in
-    (a.follower, is_other a.key.value a.seat.me a.follower a.passes.at.told a.other, gives_now g.O.SeqObject a.key.value a.cpu.number _ _ a.logged a.seat.me c.store.new.seat.me a.passes (left g.O.SeqObject _ a.seat.me c.put_back.new.seat.me c.store.new.seat.me a.logged a.passes.at.carries c.put_back.ensures.2 c.store.ensures.2))
+    (a.follower, is_other a.key.value a.seat.me a.follower a.passes.at.told a.other, gives_now g.O.SeqObject a.key.value a.cpu.number _ _ _ a.logged a.seat.me c.store.new.seat.me a.passes (left g.O.SeqObject _ _ a.seat.me c.put_back.new.seat.me c.store.new.seat.me a.logged a.passes.at.carries c.put_back.ensures.2 c.store.ensures.2))

@@ -1,9 +1,9 @@
-use Rattle.std.proofs.Common.{rules, ℕ, ◌-◌, ◌<◌, [], ◌∷◌, ap, subst, ◌∙◌, arith}
+use Rattle.std.proofs.Common.{rules, ℕ, ◌-◌, ◌<◌, [], ◌∷◌, refl, ap, subst, ◌∙◌, arith}
 use Rattle.word_rule.specs.declared.stage.Stage.TheVariants.{Mcs}
 use Rattle.word_rule.specs.declared.stage.McsStage.TheVariants.{Leaving, Passing}
 use Rattle.word_rule.specs.Rule.Callers.{IsWith}
-use Rattle.word_rule.proofs.Acting.{not_all}
-use Rattle.mcs_lock.proofs.McsActing.{see_again_now, below_with, named, not_else, is_other, else_below, else_now, goes_with, moves_with}
+use Rattle.word_rule.proofs.Acting.{goes_with, moves_with, lags_with}
+use Rattle.mcs_lock.proofs.McsActing.{see_again_now, below_with, named, not_else, is_other, else_below, else_now}
 use Rattle.mcs_lock.proofs.cell.McsCell.see_again.Goals as goal
 
 pub load-found-requires : goal.load-found-requires
@@ -14,7 +14,7 @@ load-found-requires g c = let s = c.args.self.now in let a = c.args.leaving in l
 
 pub invariant_of-result : goal.invariant_of-result
 invariant_of-result g c = let a = c.args.leaving in
-    record { leaves = goes_with g.O.SeqObject a.key.value a.cpu.number _ _ a.logged a.seat.me c.load-found.new.seat.me a.leaves ((c.load-found.ensures.2.none c.if-found-eq0.true).seat) }
+    record { leaves = goes_with g.O.SeqObject a.key.value a.cpu.number _ _ _ a.logged a.seat.me c.load-found.new.seat.me a.leaves refl ((c.load-found.ensures.2.none c.if-found-eq0.true).goes) }
 
 pub overflow_cast-follower : goal.overflow_cast-follower
 overflow_cast-follower g c = let s = c.args.self.now in let a = c.args.leaving in let few = s.few in let t = c.load-found.ensures.2.found c.if-found-eq0.false in let word = t.word in
@@ -23,29 +23,26 @@ overflow_cast-follower g c = let s = c.args.self.now in let a = c.args.leaving i
 
 pub invariant_of-result-else-found-eq0 : goal.invariant_of-result-else-found-eq0
 invariant_of-result-else-found-eq0 g c = let a = c.args.leaving in let some_one = c.if-found-eq0.false in let k : ℕ = c.load-found.result - 1 in
-    let t = named (λ p. Mcs (Passing p)) c.load-found.result k a.seat.me c.load-found.new.seat.me (c.load-found.ensures.2.found some_one) (omega arith) in record {
-      passes = goes_with g.O.SeqObject a.key.value a.cpu.number (Mcs Leaving) (Mcs (Passing k)) a.logged a.seat.me c.load-found.new.seat.me a.leaves t.0;
-      other = else_now (Mcs (Passing k)) a.seat.me c.load-found.new.seat.me k t.0 t.1;
+    let t = named g.O.SeqObject (λ p. Mcs (Passing p)) _ c.load-found.result k a.seat.me c.load-found.new.seat.me (c.load-found.ensures.2.found some_one) (omega arith) in record {
+      passes = goes_with g.O.SeqObject a.key.value a.cpu.number (Mcs Leaving) (Mcs (Passing k)) _ a.logged a.seat.me c.load-found.new.seat.me a.leaves refl t.0;
+      other = else_now g.O.SeqObject _ _ a.seat.me c.load-found.new.seat.me k t.0 t.1;
     }
 
 pub returns-then-found-eq0-clause-missed : goal.returns-then-found-eq0-clause-missed
-returns-then-found-eq0-clause-missed g c = let a = c.args.leaving in let t = c.load-found.ensures.2 in let miss = c.load-found.ensures.2.none c.if-found-eq0.true in (
+returns-then-found-eq0-clause-missed g c = let a = c.args.leaving in let miss = c.load-found.ensures.2.none c.if-found-eq0.true in (
   search rules,
-  record {
-    made = moves_with g.O.SeqObject a.key.value _ _ a.logged a.seat.me c.load-found.new.seat.me (t.lawful a.key.value a.leaves.at.told) miss.seat;
-    another = not_all g.O.SeqObject a.key.value a.seat.me a.leaves.at.told miss.lacks;
-  },
+  lags_with g.O.SeqObject a.key.value a.cpu.number _ _ _ a.logged a.seat.me c.load-found.new.seat.me a.leaves miss,
 )
 
 pub returns-else-found-eq0-clause-found : goal.returns-else-found-eq0-clause-found
 returns-else-found-eq0-clause-found g c = let a = c.args.leaving in let some_one = c.if-found-eq0.false in let k : ℕ = c.load-found.result - 1 in let s = c.load-found.ensures.2 in
-    let t = named (λ p. Mcs (Passing p)) c.load-found.result k a.seat.me c.load-found.new.seat.me (s.found some_one) (omega arith) in (
+    let t = named g.O.SeqObject (λ p. Mcs (Passing p)) _ c.load-found.result k a.seat.me c.load-found.new.seat.me (s.found some_one) (omega arith) in (
       search rules,
       (
         k,
         is_other a.key.value a.seat.me k a.leaves.at.told t.1,
         record {
-          made = moves_with g.O.SeqObject a.key.value (Mcs Leaving) (Mcs (Passing k)) a.logged a.seat.me c.load-found.new.seat.me (s.lawful a.key.value a.leaves.at.told) t.0;
+          made = moves_with g.O.SeqObject a.key.value a.cpu.number (Mcs Leaving) (Mcs (Passing k)) _ a.logged a.seat.me c.load-found.new.seat.me a.leaves t.0;
           another = not_else a.key.value a.seat.me k a.leaves.at.told t.1;
         },
       ),

@@ -37,7 +37,7 @@ loop-preserved g c = let i = c.loop.invariant in let d = c.loop.drawn in let aga
       grows = grows_then p.caller.owned p.seen (view_of_drawn d).seen (view_of_drawn again).seen i.grows (subst (λ k. Grows k.owned (view_of_drawn d).seen (view_of_drawn again).seen) i.caller made.grows);
       done = (
         i.done.0 ++ steps.Look false ∷ [],
-        waits_more c.loop.looks c.saturating_add-looks.result i.done.0 i.done.1 c.saturating_add-looks.ensures,
+        waits_more 1 c.loop.looks c.saturating_add-looks.result i.done.0 i.done.1 c.saturating_add-looks.ensures,
         since_moved g.O.SeqObject p.caller (run_of_pass c.args.pass) i.done.0 (steps.Look false ∷ []) _ _ (state_of_drawn d) (state_of_drawn again) i.done.2 made,
       );
     }

@@ -11,5 +11,5 @@ invariant-loop g l = record {
   drawn : IsDrawnOf l.self l.drawn;
   caller : (view_of_drawn l.drawn).caller ≡ (view_of_pass l.fn.pass).caller;
   grows : Grows (view_of_pass l.fn.pass).caller.owned (view_of_pass l.fn.pass).seen (view_of_drawn l.drawn).seen;
-  done : (done : List StepDone) × Waits l.looks done × Since (view_of_pass l.fn.pass).caller (run_of_pass l.fn.pass) done (state_of_drawn l.drawn);
+  done : (done : List StepDone) × Waits 1 l.looks done × Since (view_of_pass l.fn.pass).caller (run_of_pass l.fn.pass) done (state_of_drawn l.drawn);
 }
