@@ -12,7 +12,7 @@ use Rattle.word_rule.specs.declared.machine.step_done.StepDone.TheVariants as st
 use Rattle.word_rule.specs.declared.stage.Stage.{Stage}
 use Rattle.word_rule.specs.declared.view.Moment.{Moment}
 use Rattle.word_rule.specs.Line.{holding}
-use Rattle.word_rule.specs.LockRuns.{Extends}
+use Rattle.word_rule.specs.LockRuns.{Extends, events_in}
 use Rattle.word_rule.specs.OneHold.{gets_object, silently, Releases, HasAcquired}
 use Rattle.word_rule.specs.Turns.{arrives, ends_hold, is_look}
 use Rattle.word_rule.specs.declared.stage.Stage.TheVariants.{Idle, Mcs, Trying}
@@ -186,8 +186,8 @@ module _ {O P C R : Type 0} (meaning : Ghosts O P C R) where
 
 module _ {O P C R : Type 0} where
   -- one that has entered behind another, and then gets the object, has acquired it
-  pub acquired_queued : (caller : CallerOf O P C R) (before : List (Moment (Event O P C R))) (looks : ℕ) (after : List (Moment (Event O P C R))) (b : CallerState O P C R) → Since caller before (steps.Clear ∷ steps.Enter false ∷ []) b → IsQueued b looks after → HasAcquired caller before looks after
-  acquired_queued caller before looks after b s q =
+  pub acquired_queued : (caller : CallerOf O P C R) (before : List (Moment (Event O P C R))) (looks : ℕ) (found : List (Event O P C R)) (after : List (Moment (Event O P C R))) (b : CallerState O P C R) → Since caller before (steps.Clear ∷ steps.Enter false ∷ []) b → IsQueued b looks found after → HasAcquired caller before looks found after
+  acquired_queued caller before looks found after b s q =
       let all : List StepDone = steps.Clear ∷ steps.Enter false ∷ (q.done ++ steps.Look true ∷ []) in
       record {
         done = all;
@@ -201,6 +201,7 @@ module _ {O P C R : Type 0} where
           unended = let c = count_append ends_hold q.done (steps.Look true ∷ []) in let a = q.unended in omega (arith, a, c);
         };
         looked = q.looked;
+        left = q.left ∙ ap (λ (k : CallerOf O P C R). k.cell.opening ++ events_in after) s.0;
         extends = since_more caller before after (steps.Clear ∷ steps.Enter false ∷ []) (q.done ++ steps.Look true ∷ []) b s q.extends;
       }
 

@@ -24,7 +24,7 @@ impl<O: SeqObject> McsCell<O> {
         ensures hold { IsHoldOf self.now result.0 }
         ensures caller { (view_of_hold result.0).caller ≡ (view_of_pass pass).caller }
         ensures grows { Grows (view_of_pass pass).caller.owned (view_of_pass pass).seen (view_of_hold result.0).history.log }
-        ensures run { HasAcquired (view_of_pass pass).caller (run_of_pass pass) result.1 (run_of_hold result.0) }
+        ensures run { HasAcquired (view_of_pass pass).caller (run_of_pass pass) result.1 (view_of_hold result.0).history.log (run_of_hold result.0) }
     {
         let ready = self.clear(pass);
         match self.enter(ready) {
@@ -39,7 +39,7 @@ impl<O: SeqObject> McsCell<O> {
         ensures hold { IsHoldOf self.now result.0 }
         ensures caller { (view_of_hold result.0).caller ≡ (view_of_behind behind).caller }
         ensures grows { Grows (view_of_behind behind).caller.owned (view_of_behind behind).seen (view_of_hold result.0).history.log }
-        ensures run { IsQueued (state_of_behind behind) result.1 (run_of_hold result.0) }
+        ensures run { IsQueued (state_of_behind behind) result.1 (view_of_hold result.0).history.log (run_of_hold result.0) }
     {
         let armed = self.arm(behind);
         let mut waiting = self.link(armed);

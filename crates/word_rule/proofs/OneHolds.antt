@@ -77,13 +77,20 @@ module _ {O P C R : Type 0} (meaning : Ghosts O P C R) where
   pub since_moved : (caller : Caller O P C R) (before : List (Moment (Event O P C R))) (done more : List StepDone) (p q : Stage) (a b : CallerState O P C R) → Since caller before done a → Moves meaning p q more a b → Since caller before (done ++ more) b
   since_moved caller before done more p q a b s m = (m.caller ∙ s.0, since_more caller before b.run done more a s m.extends)
 
+  -- the object that came has the log that the run left
+  pub found_left : (caller : Caller O P C R) (x : History O P C R) (p q : Stage) (now : List StepDone) (a b : CallerState O P C R) → a.caller ≡ caller → Takes meaning p q now a b → b.has ≡ Some x → b.seen ≡ b.caller.cell.opening ++ events_in b.run → x.log ≡ caller.cell.opening ++ events_in b.run
+  found_left caller x p q now a b same t has left =
+      let is : x ≡ stored meaning a.caller.cell b.seen = cc (has, t.has) in
+      ap (λ z. z.log) is ∙ (left ∙ ap (λ (k : Caller O P C R). k.cell.opening ++ events_in b.run) (t.caller ∙ same))
+
   -- the look that gets the object, after others
-  pub acquired_looking : (caller : Caller O P C R) (before : List (Moment (Event O P C R))) (looks more : ℕ) (done : List StepDone) (p q : Stage) (a b : CallerState O P C R) → Waits 1 looks done → more ≡ min (looks + 1) (2 ^ 64 - 1) → Since caller before done a → Takes meaning p q (steps.Look true ∷ []) a b
-      → HasAcquired caller before more b.run
-  acquired_looking caller before looks more done p q a b w counted s t = record {
+  pub acquired_looking : (caller : Caller O P C R) (before : List (Moment (Event O P C R))) (looks more : ℕ) (x : History O P C R) (done : List StepDone) (p q : Stage) (a b : CallerState O P C R) → Waits 1 looks done → more ≡ min (looks + 1) (2 ^ 64 - 1) → Since caller before done a → Takes meaning p q (steps.Look true ∷ []) a b
+      → b.has ≡ Some x → b.seen ≡ b.caller.cell.opening ++ events_in b.run → HasAcquired caller before more x.log b.run
+  acquired_looking caller before looks more x done p q a b w counted s t has left = record {
     done = done ++ steps.Look true ∷ [];
     acquires = acquires_looking looks done w;
     looked = looks_more looks more done true w.looked counted;
+    left = found_left caller x p q (steps.Look true ∷ []) a b s.0 t has left;
     extends = since_more caller before b.run done (steps.Look true ∷ []) a s t.extends;
   }
 
@@ -108,8 +115,32 @@ module _ {O P C R : Type 0} (meaning : Ghosts O P C R) where
   held_given hold before done last p q a b s r t = released_by hold before done last p q a b r s.seen s.since s.has t
 
   -- a try that gets the object
-  pub acquired_at_once : (caller : Caller O P C R) (before : List (Moment (Event O P C R))) (looks : ℕ) (done now : List StepDone) (p q : Stage) (a b : CallerState O P C R) → Acquires (done ++ now) → looks ≡ looks_in (done ++ now) → Since caller before done a → Takes meaning p q now a b → HasAcquired caller before looks b.run
-  acquired_at_once caller before looks done now p q a b acquires looked s t = record { done = done ++ now; acquires = acquires; looked = looked; extends = since_more caller before b.run done now a s t.extends }
+  pub acquired_at_once : (caller : Caller O P C R) (before : List (Moment (Event O P C R))) (looks : ℕ) (x : History O P C R) (done now : List StepDone) (p q : Stage) (a b : CallerState O P C R) → Acquires (done ++ now) → looks ≡ looks_in (done ++ now) → Since caller before done a → Takes meaning p q now a b
+      → b.has ≡ Some x → b.seen ≡ b.caller.cell.opening ++ events_in b.run → HasAcquired caller before looks x.log b.run
+  acquired_at_once caller before looks x done now p q a b acquires looked s t has left = record { done = done ++ now; acquires = acquires; looked = looked; left = found_left caller x p q now a b s.0 t has left; extends = since_more caller before b.run done now a s t.extends }
+
+module _ {O P C R : Type 0} where
+  same_front : (a b c : List (Event O P C R)) → a ++ b ≡ a ++ c → b ≡ c
+  same_front [] b c e = e
+  same_front (x ∷ xs) b c e = same_front xs b c (cc)
+
+  -- a whole hold, which left these events
+  pub held_once : (caller : Caller O P C R) (before : List (Moment (Event O P C R))) (looks : ℕ) (h k : HoldView O P C R) (run run' after : List (Moment (Event O P C R))) (events : List (Event O P C R)) → HasAcquired caller before looks h.history.log run → h.caller ≡ caller → k.caller ≡ h.caller → run' ≡ run
+      → k.history.log ≡ h.history.log ++ events → HasReleased k run' after → HasHeld caller before looks events after
+  held_once caller before looks h k run run' after events a is same still longer r =
+      let who : k.caller ≡ caller = same ∙ is in
+      let front : k.caller.cell.opening ++ events_in run' ≡ h.history.log = (λ i. (who i).cell.opening ++ events_in (still i)) ∙ sym a.left in
+      let left : r.events ≡ events = same_front h.history.log r.events events (ap (λ l. l ++ r.events) (sym front) ∙ (sym r.added ∙ longer)) in
+      record {
+        got = a.done;
+        acquires = a.acquires;
+        looked = a.looked;
+        done = r.done;
+        last = r.last;
+        releases = r.releases;
+        extends = extends_then caller.owned before (silently caller.acting a.done) run (silently caller.acting r.done ++ leaving caller.acting r.last events ∷ []) after a.extends
+            (subst (λ (z : Caller O P C R × List (Moment (Event O P C R)) × List (Event O P C R)). Extends z.0.owned z.1 (silently z.0.acting r.done ++ leaving z.0.acting r.last z.2 ∷ []) after) (λ i. (who i, still i, left i)) r.extends);
+      }
 
 -- what holds of an Ok holds of what follows from it
 pub if_ok : {A E : Type 0} {P Q : A → Type 0} (r : Result A E) → ((a : A) → P a → Q a) → IfOk r P → IfOk r Q

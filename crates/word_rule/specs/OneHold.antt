@@ -57,11 +57,12 @@ module _ {O P C R : Type 0} where
     pub ran : HasRun hold.caller.cell log run
     pub added : Begins log hold.history.log
 
-  -- the caller has got the object, with so many looks, and has done nothing else
-  pub record HasAcquired (caller : Caller O P C R) (before : List (Moment (Event O P C R))) (looks : ℕ) (after : List (Moment (Event O P C R))) : Type 0 where
+  -- the caller has got the object, with so many looks, and has done nothing else; the log that it found is what the run left
+  pub record HasAcquired (caller : Caller O P C R) (before : List (Moment (Event O P C R))) (looks : ℕ) (found : List (Event O P C R)) (after : List (Moment (Event O P C R))) : Type 0 where
     pub done : List StepDone
     pub acquires : Acquires done
     pub looked : looks ≡ looks_in done
+    pub left : found ≡ caller.cell.opening ++ events_in after
     pub extends : Extends caller.owned before (silently caller.acting done) after
 
   -- the holder has given the object back, which left what it had added to the log, and has done nothing else

@@ -15,7 +15,7 @@ returns-in-Hold-clause-grows g c = let r = c.clear-ready.result in let h = c.in-
 
 pub returns-in-Hold-clause-run : goal.returns-in-Hold-clause-run
 returns-in-Hold-clause-run g c = let p = c.args.pass in let clear = c.clear-ready.ensures.step in
-    acquired_at_once g.O.SeqObject (view_of_pass p).caller (run_of_pass p) 0 (steps.Clear ∷ []) (steps.Enter true ∷ []) _ _ (state_of_ready c.clear-ready.result) (state_of_hold c.in-Hold.hold) record { before = steps.Clear ∷ []; last = steps.Enter true; is = refl; got = refl; once = refl; arrived = refl; unended = refl } (omega arith) (clear.caller, clear.extends) c.in-Hold.ensures.got.1
+    acquired_at_once g.O.SeqObject (view_of_pass p).caller (run_of_pass p) 0 c.in-Hold.hold.logged (steps.Clear ∷ []) (steps.Enter true ∷ []) _ _ (state_of_ready c.clear-ready.result) (state_of_hold c.in-Hold.hold) record { before = steps.Clear ∷ []; last = steps.Enter true; is = refl; got = refl; once = refl; arrived = refl; unended = refl } (omega arith) (clear.caller, clear.extends) c.in-Hold.ensures.got.1 refl c.in-Hold.hold.holds.ran.left
 
 pub returns-in-Behind-clause-grows : goal.returns-in-Behind-clause-grows
 returns-in-Behind-clause-grows g c = let r = c.clear-ready.result in let b = c.in-Behind.behind in let h = c.wait_behind.result.0 in let clear = c.clear-ready.ensures.step in let enter = c.in-Behind.ensures.queued.1.2.made in
@@ -23,4 +23,4 @@ returns-in-Behind-clause-grows g c = let r = c.clear-ready.result in let b = c.i
 
 pub returns-in-Behind-clause-run : goal.returns-in-Behind-clause-run
 returns-in-Behind-clause-run g c = let p = c.args.pass in let r = state_of_ready c.clear-ready.result in let b = state_of_behind c.in-Behind.behind in let clear = c.clear-ready.ensures.step in let enter = c.in-Behind.ensures.queued.1.2.made in
-    acquired_queued (view_of_pass p).caller (run_of_pass p) c.wait_behind.result.1 (run_of_hold c.wait_behind.result.0) b (since_moved g.O.SeqObject (view_of_pass p).caller (run_of_pass p) (steps.Clear ∷ []) (steps.Enter false ∷ []) _ _ r b (clear.caller, clear.extends) enter) c.wait_behind.ensures.run
+    acquired_queued (view_of_pass p).caller (run_of_pass p) c.wait_behind.result.1 c.wait_behind.result.0.logged.log (run_of_hold c.wait_behind.result.0) b (since_moved g.O.SeqObject (view_of_pass p).caller (run_of_pass p) (steps.Clear ∷ []) (steps.Enter false ∷ []) _ _ r b (clear.caller, clear.extends) enter) c.wait_behind.ensures.run

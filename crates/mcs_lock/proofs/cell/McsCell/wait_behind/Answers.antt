@@ -1,7 +1,7 @@
 use Rattle.std.proofs.Common.{refl, ◌∙◌, [], ◌∷◌, ◌++◌, true, false, arith}
 use Rattle.word_rule.specs.declared.machine.step_done.StepDone.TheVariants as steps
 use Rattle.word_rule.proofs.Acting.{takes_log}
-use Rattle.word_rule.proofs.OneHolds.{waits_more, looks_more, since_more, since_moved}
+use Rattle.word_rule.proofs.OneHolds.{waits_more, looks_more, found_left, since_more, since_moved}
 use Rattle.mcs_lock.specs.Passes.{view_of_behind, state_of_behind, state_of_armed, state_of_waiting}
 use Rattle.word_rule.specs.Passes.{run_of_hold, state_of_hold}
 use Rattle.mcs_lock.proofs.McsActing.{grows_on}
@@ -30,6 +30,7 @@ returns-in-Ok-clause-run g c = let i = c.loop.invariant in let w = c.loop.waitin
   got = waits.got;
   unended = waits.unended;
   looked = looks_more c.loop.looks c.saturating_add-looks.result done true waits.looked c.saturating_add-looks.ensures;
+  left = found_left g.O.SeqObject (view_of_behind b).caller h.logged _ _ (steps.Look true ∷ []) (state_of_waiting w) (state_of_hold h) i.done.2.0 c.in-Ok.ensures.got.1 refl h.holds.ran.left;
   extends = since_more (view_of_behind b).caller (state_of_behind b).run (run_of_hold h) done (steps.Look true ∷ []) (state_of_waiting w) i.done.2 c.in-Ok.ensures.got.1.extends;
 }
 

@@ -26,7 +26,7 @@ returns-in-Ok-clause-grows g c = let i = c.loop.invariant in let d = c.loop.draw
 
 pub returns-in-Ok-clause-run : goal.returns-in-Ok-clause-run
 returns-in-Ok-clause-run g c = let i = c.loop.invariant in let d = c.loop.drawn in let h = c.in-Ok.hold in
-    acquired_looking g.O.SeqObject (view_of_pass c.args.pass).caller (run_of_pass c.args.pass) c.loop.looks c.saturating_add-looks.result i.done.0 _ _ (state_of_drawn d) (state_of_hold h) i.done.1 c.saturating_add-looks.ensures i.done.2 c.in-Ok.ensures.got.1.1
+    acquired_looking g.O.SeqObject (view_of_pass c.args.pass).caller (run_of_pass c.args.pass) c.loop.looks c.saturating_add-looks.result h.logged i.done.0 _ _ (state_of_drawn d) (state_of_hold h) i.done.1 c.saturating_add-looks.ensures i.done.2 c.in-Ok.ensures.got.1.1 refl h.holds.ran.left
 
 pub loop-preserved : goal.loop-preserved
 loop-preserved g c = let i = c.loop.invariant in let d = c.loop.drawn in let again = c.in-Err.again in let p = view_of_pass c.args.pass in let e = c.in-Err.ensures.missed in
