@@ -35,3 +35,4 @@ pub mod Lenders
 pub mod TicketWords
 pub mod WordsRead
 pub mod TriesTurns
+pub mod Replays
