@@ -36,3 +36,4 @@ pub mod Lenders
 pub mod TicketWords
 pub mod WordsRead
 pub mod TriesTurns
+pub mod Replays

@@ -27,11 +27,11 @@ begins_state n first kinds.Ticket few = (starts_ticket n first (ticket_word (fir
 begins_state n first kinds.Mcs few = (starts_mcs n first (replicate (1 + 2 * n) 0) refl).state
 
 -- the first of the steps, if there is one
-abbrev first_of : StepDone → List StepDone → StepDone
+abbrev pub first_of : StepDone → List StepDone → StepDone
 first_of d [] = d
 first_of d (s ∷ ss) = s
 
-abbrev behind_of : List StepDone → List StepDone
+abbrev pub behind_of : List StepDone → List StepDone
 behind_of [] = []
 behind_of (s ∷ ss) = ss
 
