@@ -4,3 +4,4 @@ pub mod Calls
 pub mod Workers
 pub mod Runs
 pub mod Tries
+pub mod Held

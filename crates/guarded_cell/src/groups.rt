@@ -22,6 +22,7 @@ pub(crate) fn do_groups<O: SeqObject, C: LockCell<O>>(
     requires each { All (λ g. 0 < length g.items) groups.now }
     requires empty { done.old.items ≡ [] }
     ensures hold { (cell : C) → C.is_hold_of cell hold.old → C.is_hold_of cell hold.new }
+    ensures run { C.hold_run hold.new ≡ C.hold_run hold.old }
     ensures added { HasAdded (C.hold_view hold.old) done.new.items (C.hold_view hold.new) }
     ensures fulfils { FulfilFirst O.SeqObject groups.now done.new.items }
     ensures whole { OnOk result (length done.new.items ≡ length groups.now) }

@@ -1,7 +1,7 @@
 //! A cell of either kind meets the interface of all locks: it does what its lock does. A caller of the other kind isn't of
 //! the cell, since its key names its lock.
 
-ghost use Rattle.word_rule.specs.Passes.{view_of_pass, view_of_hold};
+ghost use Rattle.word_rule.specs.Passes.{view_of_pass, view_of_hold, run_of_pass, run_of_hold};
 ghost use Rattle.guarded_cell.specs.Kinds.{IsPassOf, IsHoldOf};
 
 use crate::cell::AnyCell;
@@ -21,6 +21,10 @@ impl<O: SeqObject> LockCell<O> for AnyCell<O> {
     ghost pass_view = { view_of_pass };
 
     ghost hold_view = { view_of_hold };
+
+    ghost pass_run = { run_of_pass };
+
+    ghost hold_run = { run_of_hold };
 
     fn acquire<R: Wait>(&self, rt: &R, pass: Pass<O>) -> (Hold<O>, u64) {
         match self {
@@ -86,4 +90,8 @@ impl<O: SeqObject> LockCell<O> for AnyCell<O> {
     ghost pass_is_lawful = { λ _ pass _. pass.idle.pass_view };
 
     ghost hold_is_lawful = { λ _ hold _. hold.holds.hold_view };
+
+    ghost pass_has_run = { λ _ pass _. pass.idle.ran };
+
+    ghost hold_has_run = { λ _ hold _. record { log = hold.seat.me.0.main.seen; ran = hold.holds.ran; added = hold.holds.added.begins } };
 }

@@ -1,8 +1,8 @@
 //! A new cell of the kind that is asked for, with a pass for each CPU.
 
-ghost use Rattle.std.specs.Prelude.{◌≡◌, ◌<◌, ◌≤◌, IfOk, IfErr, vec_len};
+ghost use Rattle.std.specs.Prelude.{◌≡◌, ◌<◌, ◌≤◌, [], IfOk, IfErr, vec_len};
 ghost use Rattle.word_rule.specs.Cell.{EachAt, first_pass};
-ghost use Rattle.word_rule.specs.Passes.{view_of_pass};
+ghost use Rattle.word_rule.specs.Passes.{view_of_pass, run_of_pass};
 ghost use Rattle.guarded_cell.specs.Kinds.{IsPassOf, kind_of};
 
 use crate::cell::AnyCell;
@@ -29,6 +29,7 @@ impl<O: SeqObject> AnyCell<O> {
         ensures kind { IfOk result (λ r. kind_of r.0 ≡ kind) }
         ensures count { IfOk result (λ r. vec_len r.1 ≡ cpus) }
         ensures passes { IfOk result (λ r. EachAt (λ k p. IsPassOf r.0 p × (view_of_pass p ≡ first_pass kind logged cpus k)) r.1.items) }
+        ensures runs { IfOk result (λ r. EachAt (λ k p. run_of_pass p ≡ []) r.1.items) }
         ensures unchanged { IfErr result (λ e. e.1 ≡ logged) }
     {
         match kind {

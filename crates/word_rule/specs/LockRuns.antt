@@ -57,6 +57,10 @@ module _ {O P C R : Type 0} where
     pub own : AllByRecursion (λ e. e.cpu ≡ m.cpu) m.events
     pub silent : ends_hold m.step ≡ false → m.events ≡ []
 
+  -- each step that ended a hold left one event
+  abbrev pub EachLeavesOne : List (Moment (Event O P C R)) → Type 0
+  EachLeavesOne run = AllByRecursion (λ m. ends_hold m.step ≡ true → length m.events ≡ 1) run
+
   -- a run of the cell's lock that left this log: the steps are the lock's, whatever its first ticket was
   pub record HasRun (cell : Cell O P C R) (log : List (Event O P C R)) (run : List (Moment (Event O P C R))) : Type 0 where
     pub turns : (first : ℕ) → AreTurns run (opening_lock cell.kind first)

@@ -1,5 +1,7 @@
-use Rattle.std.proofs.Common.{ap, ◌∙◌}
+use Rattle.std.proofs.Common.{sym, ap, subst, ◌∙◌}
 use Rattle.guarded_cell.proofs.Called.{called_met, ended, ended_full}
+use Rattle.word_rule.specs.LockRuns.{HasRun}
+use Rattle.guarded_cell.proofs.Turns.{taken_still}
 use Rattle.guarded_cell.proofs.callers.two_callers.Goals as goal
 
 pub returns-clause-ended : goal.returns-clause-ended
@@ -12,7 +14,7 @@ returns-clause-ended g c =
     let m = c.meet-first in
     let j = c.join-pass in
     let log = (pass_view j.result).seen in
-    ended g.O.SeqObject (pass_view j.result) c.close.result (is_lawful j.result j.ensures.pass) c.close.ensures (pass_view c.args.passes.0) (pass_view c.args.passes.1) _ _
+    ended g.O.SeqObject (pass_view j.result) c.close.result (is_lawful j.result j.ensures.pass) c.close.ensures.log (pass_view c.args.passes.0) (pass_view c.args.passes.1) _ _
     (j.ensures.first_cell ∙ ap (λ x. x.cell) (m.ensures.first_caller ∙ f.caller))
     (called_met (pass_view c.args.passes.0) (pass_view both.result.0.0) (pass_view m.result.0) _ log (is_lawful c.args.passes.0 c.requires.first).caller f.called f.caller m.ensures.first_caller m.ensures.first_grows j.ensures.first_grows)
     (called_met (pass_view c.args.passes.1) (pass_view both.result.1.0) (pass_view m.result.1) _ log (is_lawful c.args.passes.1 c.requires.second).caller s.called s.caller m.ensures.second_caller m.ensures.second_grows j.ensures.second_grows)
@@ -25,7 +27,7 @@ returns-clause-first_full g c less =
     let f = both.ensures.first in
     let m = c.meet-first in
     let j = c.join-pass in
-    ended_full g.O.SeqObject (pass_view j.result) c.close.result (is_lawful j.result j.ensures.pass) c.close.ensures (pass_view both.result.0.0).seen (pass_view c.args.passes.0) (pass_view m.result.0)
+    ended_full g.O.SeqObject (pass_view j.result) c.close.result (is_lawful j.result j.ensures.pass) c.close.ensures.log (pass_view both.result.0.0).seen (pass_view c.args.passes.0) (pass_view m.result.0)
     (j.ensures.first_cell ∙ ap (λ x. x.cell) (m.ensures.first_caller ∙ f.caller)) m.ensures.first_grows.begins j.ensures.first_grows.begins (f.full less)
 
 pub returns-clause-second_full : goal.returns-clause-second_full
@@ -36,5 +38,28 @@ returns-clause-second_full g c less =
     let s = both.ensures.second in
     let m = c.meet-first in
     let j = c.join-pass in
-    ended_full g.O.SeqObject (pass_view j.result) c.close.result (is_lawful j.result j.ensures.pass) c.close.ensures (pass_view both.result.1.0).seen (pass_view c.args.passes.1) (pass_view m.result.1)
+    ended_full g.O.SeqObject (pass_view j.result) c.close.result (is_lawful j.result j.ensures.pass) c.close.ensures.log (pass_view both.result.1.0).seen (pass_view c.args.passes.1) (pass_view m.result.1)
     (j.ensures.second_cell ∙ ap (λ x. x.cell) (m.ensures.second_caller ∙ s.caller)) m.ensures.second_grows.begins j.ensures.second_grows.begins (s.full less)
+
+pub returns-clause-order : goal.returns-clause-order
+returns-clause-order g c =
+    let pass_view = g.C.LockCell.pass_view in
+    let pass_run = g.C.LockCell.pass_run in
+    let has_run = (g.met.C.LockCell g.world.𝓛 g.world.𝓜 g.world.𝓡 ((λ s x. x), (λ x. x), (λ x. x), λ x. x)).pass_has_run c.args.cell in
+    let both = c.call_on_two_threads-first in
+    let f = both.ensures.first in
+    let s = both.ensures.second in
+    let m = c.meet-first in
+    let j = c.join-pass in
+    let first = pass_view c.args.passes.0 in
+    let second = pass_view c.args.passes.1 in
+    let cell = j.ensures.first_cell ∙ ap (λ x. x.cell) (m.ensures.first_caller ∙ f.caller) in
+    let log = ap (λ x. x.log) c.close.ensures.log in
+    let ran = subst (λ z. HasRun z (pass_view j.result).seen (pass_run j.result)) cell (has_run j.result j.ensures.pass) in
+    record {
+      run = pass_run j.result;
+      ran = subst (λ l. HasRun first.caller.cell l (pass_run j.result)) (sym log) ran;
+      in_order = c.close.ensures.run;
+      first_turns_taken = taken_still first.caller (pass_view m.result.0).caller (pass_run c.args.passes.0) (pass_run m.result.0) (pass_run j.result) _ (taken_still first.caller (pass_view both.result.0.0).caller (pass_run c.args.passes.0) (pass_run both.result.0.0) (pass_run m.result.0) _ both.ensures.first_run f.caller m.ensures.first_run) (m.ensures.first_caller ∙ f.caller) j.ensures.first_run;
+      second_turns_taken = taken_still second.caller (pass_view m.result.1).caller (pass_run c.args.passes.1) (pass_run m.result.1) (pass_run j.result) _ (taken_still second.caller (pass_view both.result.1.0).caller (pass_run c.args.passes.1) (pass_run both.result.1.0) (pass_run m.result.1) _ both.ensures.second_run s.caller m.ensures.second_run) (m.ensures.second_caller ∙ s.caller) j.ensures.second_run;
+    }

@@ -2,6 +2,9 @@ use Rattle.std.proofs.Common.{OnErr, [], ◌∷◌, subst}
 use Rattle.std.proofs.lemmas.Result.{IfOk-at_ok}
 use Rattle.event_log.specs.Log.{one_step}
 use Rattle.word_rule.specs.Answered.{IsAnswered, IsRefused}
+use Rattle.word_rule.specs.OneHold.{HasHeld}
+use Rattle.guarded_cell.specs.Held.{left_by_call}
+use Rattle.guarded_cell.proofs.Turns.{held_call}
 use Rattle.word_rule.proofs.MachineParts.{did_one}
 use Rattle.guarded_cell.proofs.tries.try_call.Goals as goal
 
@@ -22,3 +25,29 @@ returns-in-Err-done-clause-declined g c =
     subst (λ z. OnErr z (IsRefused g.O.SeqObject (g.C.LockCell.pass_view c.args.pass) (g.C.LockCell.pass_view r.result))) c.in-Err-done.is
     (did_one g.O.SeqObject (g.C.LockCell.pass_view c.args.pass) (g.C.LockCell.pass_view r.result) (g.C.LockCell.hold_view h.hold) (g.C.LockCell.hold_view a.new.hold) (g.met.C.LockCell.hold_is_lawful c.args.cell.now h.hold h.ensures.hold)
     h.ensures.caller h.ensures.grows a.ensures.caller r.ensures.caller r.ensures.seen (g.met.C.LockCell.pass_is_lawful c.args.cell.now r.result r.ensures.pass) c.args.call.now a.result a.ensures.room a.ensures.after a.ensures.full).1
+
+pub returns-in-Ok-done-clause-run : goal.returns-in-Ok-done-clause-run
+returns-in-Ok-done-clause-run g c =
+    let h = c.in-Ok in
+    let a = c.apply_one-done in
+    let r = c.release-pass in
+    let p = (g.C.LockCell.pass_view c.args.pass).caller in
+    let before = g.C.LockCell.pass_run c.args.pass in
+    let looks = h.ensures.run.0 in (
+      looks,
+      subst (λ z. HasHeld p before looks (left_by_call p.acting c.args.call.now z) (g.C.LockCell.pass_run r.result)) c.in-Ok-done.is
+          (held_call g.O.SeqObject p before (g.C.LockCell.hold_run h.hold) (g.C.LockCell.hold_run a.new.hold) (g.C.LockCell.pass_run r.result) looks (g.C.LockCell.hold_view h.hold) (g.C.LockCell.hold_view a.new.hold) h.ensures.run.1 h.ensures.caller a.ensures.caller a.ensures.run r.ensures.run c.args.call.now a.result a.ensures.after a.ensures.full),
+    )
+
+pub returns-in-Err-done-clause-declined_run : goal.returns-in-Err-done-clause-declined_run
+returns-in-Err-done-clause-declined_run g c =
+    let h = c.in-Ok in
+    let a = c.apply_one-done in
+    let r = c.release-pass in
+    let p = (g.C.LockCell.pass_view c.args.pass).caller in
+    let before = g.C.LockCell.pass_run c.args.pass in
+    let looks = h.ensures.run.0 in (
+      looks,
+      subst (λ z. HasHeld p before looks (left_by_call p.acting c.args.call.now z) (g.C.LockCell.pass_run r.result)) c.in-Err-done.is
+          (held_call g.O.SeqObject p before (g.C.LockCell.hold_run h.hold) (g.C.LockCell.hold_run a.new.hold) (g.C.LockCell.pass_run r.result) looks (g.C.LockCell.hold_view h.hold) (g.C.LockCell.hold_view a.new.hold) h.ensures.run.1 h.ensures.caller a.ensures.caller a.ensures.run r.ensures.run c.args.call.now a.result a.ensures.after a.ensures.full),
+    )
