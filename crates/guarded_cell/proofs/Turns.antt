@@ -1,5 +1,5 @@
 -- From what whole calls leave in a run to what many of them leave.
-use Rattle.std.proofs.Common.{◌≡◌, ℕ, suc, ◌+◌, ◌<◌, min, Bool, true, false, cond, List, [], ◌∷◌, ◌++◌, map, length, take, refl, sym, ap, ◌∙◌, subst, arith, append-nil, length-append, Result, Ok, Err, IfOk, OnErr}
+use Rattle.std.proofs.Common.{◌≡◌, ℕ, suc, ◌+◌, Bool, true, false, cond, List, [], ◌∷◌, ◌++◌, length, refl, sym, ap, ◌∙◌, subst, arith, append-nil, length-append, Result, Ok, Err, IfOk, OnErr}
 use Rattle.std.specs.List.{AllByRecursion, filter}
 use Rattle.event_log.specs.declared.object.SeqObject.{Ghosts}
 use Rattle.event_log.specs.declared.event.Event.{Event}
@@ -11,7 +11,7 @@ use Rattle.word_rule.specs.declared.machine.step_done.StepDone.{StepDone}
 use Rattle.word_rule.specs.declared.view.Moment.{Moment}
 use Rattle.word_rule.specs.Cell.{Caller, HoldView}
 use Rattle.word_rule.specs.LockRuns.{Extends, doers_in, arrivals_in, endings_in}
-use Rattle.word_rule.specs.OneHold.{how_many, Acquires, Releases, leaving, silently, HasAcquired, HasReleased, HasHeld}
+use Rattle.word_rule.specs.OneHold.{how_many, leaving, silently, HasAcquired, HasReleased, HasHeld}
 use Rattle.word_rule.specs.Turns.{arrives, ends_hold}
 use Rattle.word_rule.proofs.RunLists.{doers_append, extends_self, extends_then, extends_before, silent_own}
 use Rattle.word_rule.proofs.OneHolds.{count_append, held_once}

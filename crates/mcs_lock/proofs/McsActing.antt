@@ -17,7 +17,7 @@ use Rattle.word_rule.specs.OneHold.{gets_object, silently, Releases, HasAcquired
 use Rattle.word_rule.specs.Turns.{arrives, ends_hold, is_look}
 use Rattle.word_rule.specs.declared.stage.Stage.TheVariants.{Idle, Mcs, Trying}
 use Rattle.word_rule.specs.declared.stage.McsStage.TheVariants.{Ready, Behind, Armed, Waiting, Holding, Alone, Leaving, Passing}
-use Rattle.word_rule.specs.Cell.{Cell, Caller as CallerOf, HoldView, Grows, Lawful, OwnsAll}
+use Rattle.word_rule.specs.Cell.{Cell, Caller as CallerOf, HoldView, Grows, OwnsAll}
 use Rattle.word_rule.specs.declared.lock_kind.LockKind.{LockKind}
 use Rattle.word_rule.specs.declared.lock_kind.LockKind.TheVariants as kinds
 use Rattle.word_rule.specs.Rule.Definition.{IsTurn, IsTry, IsReadying}

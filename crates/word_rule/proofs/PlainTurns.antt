@@ -11,11 +11,11 @@ use Rattle.word_rule.specs.declared.stage.Stage.TheVariants.{Idle, Ticket, Mcs, 
 use Rattle.word_rule.specs.declared.stage.TicketStage.TheVariants.{Drawn, Served}
 use Rattle.word_rule.specs.declared.stage.McsStage.{McsStage}
 use Rattle.word_rule.specs.declared.stage.McsStage.TheVariants.{Ready, Behind, Armed, Waiting, Holding, Alone, Leaving, Passing}
-use Rattle.word_rule.specs.Line.{Line, is_first, moved, lined}
-use Rattle.word_rule.specs.Locks.{Lock, last, second, behind, is_named, is_linked, if_linked, follower, going, taking, leaving, joining, naming, tickets, opening_lock}
+use Rattle.word_rule.specs.Line.{is_first, moved, lined}
+use Rattle.word_rule.specs.Locks.{Lock, last, second, behind, is_named, is_linked, if_linked, follower, going, taking, leaving, naming, tickets, opening_lock}
 use Rattle.word_rule.specs.Rule.Plain.{plain_stage, plain_next, plain}
 use Rattle.word_rule.specs.Tries.{ready}
-use Rattle.word_rule.specs.Turns.{draw, look, serve, clear, enter, arm, link, see, empty, pass, ticket_turn, mcs_turn, turn_of, turn}
+use Rattle.word_rule.specs.Turns.{look, clear, enter, see, empty, ticket_turn, mcs_turn, turn_of, turn}
 
 abbrev pub is_trying : Stage → Bool
 is_trying Trying = true
@@ -76,7 +76,6 @@ module _ (l : Lock) (i : ℕ) (h : IsWhole l) where
   pub turn_whole : (k : LockKind) → IsWhole (turn_of k l i).0
   turn_whole kinds.Ticket = ticket_whole (l.line.stage i)
   turn_whole kinds.Mcs = mcs_whole (l.line.stage i)
-
 
 stage_twice : (q : Stage) → plain_stage (plain_stage q) ≡ plain_stage q
 stage_twice (Ticket (Drawn t)) = refl

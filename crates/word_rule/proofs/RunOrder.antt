@@ -1,10 +1,8 @@
 -- Who ends a hold does so in the order of arrival, in each run of a lock.
-use Rattle.std.proofs.Common.{◌≡◌, ℕ, ◌+◌, ◌*◌, ◌%◌, ◌<◌, ◌&&◌, true, false, true≢false, Bool, cond, List, [], ◌∷◌, ◌++◌, drop, length, map, replicate, refl, sym, ap, ◌∙◌, subst, arith, append-nil}
+use Rattle.std.proofs.Common.{◌≡◌, ℕ, ◌+◌, ◌*◌, ◌%◌, ◌<◌, ◌&&◌, true, false, Bool, cond, List, [], ◌∷◌, ◌++◌, drop, length, map, replicate, refl, sym, ap, ◌∙◌, subst, arith, append-nil}
 use Rattle.std.proofs.Math.Seq.{drop-append_seam}
 use Rattle.std.proofs.lemmas.List.{map-append}
 use Rattle.std.specs.List.{AllByRecursion}
-use mathlib.Core.Logic.{dite}
-use native.Mathlib.Decide.{dec_lt}
 use Rattle.event_log.specs.declared.event.Event.{Event}
 use Rattle.event_log.specs.Log.{Begins}
 use Rattle.event_log.proofs.Beginnings.{begins_append}
@@ -13,7 +11,7 @@ use Rattle.word_rule.specs.declared.lock_kind.LockKind.TheVariants as kinds
 use Rattle.word_rule.specs.declared.machine.step_done.StepDone.{StepDone}
 use Rattle.word_rule.specs.declared.view.Moment.{Moment}
 use Rattle.word_rule.specs.Cell.{Cell}
-use Rattle.word_rule.specs.LockRuns.{events_in, lock_after, turns_after, AreTurns, IsMoment, EachLeavesOne, HasRun, arrivals_in, endings_in}
+use Rattle.word_rule.specs.LockRuns.{events_in, lock_after, AreTurns, IsMoment, EachLeavesOne, HasRun, arrivals_in, endings_in}
 use Rattle.word_rule.specs.Locks.{Lock, opening_lock, tickets}
 use Rattle.word_rule.specs.LockWords.{ticket_word}
 use Rattle.word_rule.specs.Turns.{turn, arrives, ends_hold}

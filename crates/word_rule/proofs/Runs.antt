@@ -1,6 +1,5 @@
 -- A run goes on by a step that is the CPU's turn at the lock that it has made.
-use Rattle.std.proofs.Common.{◌≡◌, ◌≢◌, ℕ, ◌<◌, Bool, true, false, List, [], ◌∷◌, ◌++◌, map, length, drop, refl, sym, ap, ◌∙◌, subst, append_assoc, append-nil}
-use Rattle.std.specs.List.{AllByRecursion}
+use Rattle.std.proofs.Common.{◌≡◌, ℕ, ◌<◌, false, List, [], ◌∷◌, ◌++◌, map, refl, sym, ap, ◌∙◌, subst, append_assoc, append-nil}
 use Rattle.event_log.specs.declared.event.Event.{Event}
 use Rattle.event_log.proofs.Each.{all_push}
 use Rattle.word_rule.specs.declared.machine.step_done.StepDone.{StepDone}
@@ -11,7 +10,7 @@ use Rattle.word_rule.specs.Locks.{Lock, opening_lock}
 use Rattle.word_rule.specs.OneHold.{leaving, silently}
 use Rattle.word_rule.specs.Rule.Definition.{GoesOn}
 use Rattle.word_rule.specs.Rule.Plain.{plain}
-use Rattle.word_rule.specs.Turns.{turn, ends_hold}
+use Rattle.word_rule.specs.Turns.{turn}
 use Rattle.word_rule.proofs.PlainTurns.{is_trying, IsWhole, turn_whole, turn_plainly}
 use Rattle.word_rule.proofs.RunLists.{events_append, silent_own}
 

@@ -1,5 +1,5 @@
 -- A lock apart from what differs between a cell and the step machine, and changes no step.
-use Rattle.std.specs.Prelude.{◌≡◌, ℕ, Option, None}
+use Rattle.std.specs.Prelude.{ℕ, Option, None}
 use Rattle.word_rule.specs.declared.stage.Stage.{Stage}
 use Rattle.word_rule.specs.declared.stage.Stage.TheVariants.{Idle, Ticket, Mcs, Trying}
 use Rattle.word_rule.specs.declared.stage.TicketStage.TheVariants.{Drawn, Served}

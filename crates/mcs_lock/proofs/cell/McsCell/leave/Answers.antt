@@ -7,7 +7,6 @@ use Rattle.word_rule.proofs.RunLists.{extends_self}
 use Rattle.mcs_lock.specs.Passes.{state_of_alone, state_of_leaving, state_of_passing}
 use Rattle.mcs_lock.proofs.McsActing.{held_seen, releases_seen}
 use Rattle.mcs_lock.proofs.cell.McsCell.leave.Goals as goal
-use Rattle.mcs_lock.proofs.cell.McsCell.leave.Given as given
 
 pub returns-in-Ok-clause-run : goal.returns-in-Ok-clause-run
 returns-in-Ok-clause-run g c = let h = c.args.hold in let v = view_of_hold h in let run = run_of_hold h in let p = state_of_passing c.in-Ok.passing in

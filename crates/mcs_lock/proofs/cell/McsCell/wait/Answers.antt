@@ -1,7 +1,5 @@
-use Rattle.std.proofs.Common.{refl, ◌∙◌, subst, [], ◌∷◌, ◌++◌, true, false, arith}
+use Rattle.std.proofs.Common.{refl, [], ◌∷◌, true, false, arith}
 use Rattle.word_rule.specs.declared.machine.step_done.StepDone.TheVariants as steps
-use Rattle.word_rule.specs.OneHold.{silently}
-use Rattle.word_rule.specs.LockRuns.{Extends}
 use Rattle.word_rule.proofs.Acting.{takes_log}
 use Rattle.word_rule.proofs.OneHolds.{since_moved, acquired_at_once}
 use Rattle.mcs_lock.specs.Passes.{state_of_ready, state_of_behind}

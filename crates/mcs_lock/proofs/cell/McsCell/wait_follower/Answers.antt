@@ -1,5 +1,4 @@
-use Rattle.std.proofs.Common.{◌∙◌, refl, [], ◌∷◌, true, false}
-use Rattle.word_rule.specs.declared.machine.step_done.StepDone.TheVariants as steps
+use Rattle.std.proofs.Common.{◌∙◌, refl, [], true, false}
 use Rattle.word_rule.specs.declared.stage.Stage.TheVariants.{Mcs}
 use Rattle.word_rule.specs.declared.stage.McsStage.TheVariants.{Leaving}
 use Rattle.word_rule.proofs.RunLists.{extends_self}

@@ -1,4 +1,4 @@
-use Rattle.std.proofs.Common.{refl, subst, ◌∙◌, [], ◌∷◌, ◌++◌, true, false, arith}
+use Rattle.std.proofs.Common.{refl, subst, ◌∙◌, [], ◌∷◌, ◌++◌, false, arith}
 use Rattle.word_rule.specs.declared.machine.step_done.StepDone.TheVariants as steps
 use Rattle.word_rule.specs.Cell.{Grows}
 use Rattle.word_rule.proofs.Lists.{grows_then}

@@ -1,4 +1,4 @@
-use Rattle.std.proofs.Common.{refl, [], ◌∷◌}
+use Rattle.std.proofs.Common.{refl, []}
 use Rattle.word_rule.specs.declared.machine.step_done.StepDone.TheVariants as steps
 use Rattle.word_rule.specs.Passes.{view_of_hold, run_of_hold, state_of_pass, state_of_hold}
 use Rattle.word_rule.specs.Rule.Callers.{caller_of}
