@@ -22,7 +22,7 @@ loop-cell-preserved g c =
     let took : into_iter_items c.loop-cell.passes ≡ c.unwrap-pass.result ∷ into_iter_items c.next-in-loop-cell.new.self = c.next-in-loop-cell.ensures.items ∙ ap (λ o. option_to_list o ++ into_iter_items c.next-in-loop-cell.new.self) c.unwrap-pass.ensures in
     let left = rw (next, took) at i.left in
     let whole = rw took at i.whole in
-    let seen : c.from_vec.result ≡ (view c.unwrap-pass.result).seen = c.from_vec.ensures ∙ (c.into_log-log.ensures ∙ ap (λ h. h.log) c.close.ensures) in
+    let seen : c.from_vec.result ≡ (view c.unwrap-pass.result).seen = c.from_vec.ensures ∙ (c.into_log-log.ensures ∙ ap (λ h. h.log) c.close.ensures.log) in
     let rest = map (λ p. (view p).seen) (into_iter_items c.next-in-loop-cell.new.self) in
     let count = left.count in
     record {
