@@ -5,6 +5,7 @@ ghost use Rattle.word_rule.specs.Cell.{OwnsAll, OwnTogether};
 ghost use Rattle.guarded_cell.specs.Kinds.{IsPassOf};
 ghost use Rattle.word_rule.specs.Passes.{view_of_pass};
 
+mod machine;
 mod threads;
 mod tries;
 
