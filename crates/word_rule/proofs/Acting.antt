@@ -29,7 +29,7 @@ use Rattle.word_rule.specs.Rule.Seats.{Seat, shown, at, moved_on, settled, taken
 use Rattle.word_rule.specs.Rule.Announced.{Lacks, HasAll, Learns, Goes, Lags, Gets, Left, Returns, any_has}
 use Rattle.word_rule.specs.Rule.Callers.{AddedBy, caller_of, state_without, state_with, StandsAt, IsWithout, IsWith}
 use Rattle.word_rule.proofs.Known.{value_of}
-use Rattle.word_rule.proofs.RunLists.{extends_self, extends_then, silently_append}
+use Rattle.word_rule.proofs.RunLists.{extends_self}
 use Rattle.word_rule.proofs.Lists.{has_append, of_push, grows_self, grows_then, or_none}
 
 module _ {O P C R : Type 0} where
@@ -162,9 +162,6 @@ module _ {O P C R : Type 0} (meaning : Ghosts O P C R) where
   not_all h m told lacks all = lacks h record { told = told; each = λ x below. ap (λ b. b || any_has x m.0.others) (all.each x below) }
 
   -- nothing changed
-  pub stays_without : (h : Cell O P C R) (cpu : ℕ) (p : Stage) (m m' : Seat O P C R) → IsWithout meaning h cpu p m → m' ≡ m → IsWithout meaning h cpu p m'
-  stays_without h cpu p m m' w e = subst (IsWithout meaning h cpu p) (sym e) w
-
   pub still_without : (h : Cell O P C R) (cpu : ℕ) (p : Stage) (m m' : Seat O P C R) → IsWithout meaning h cpu p m → m' ≡ m → Moves meaning p p [] (state_without h p m) (state_without h p m')
   still_without h cpu p m m' w e = subst (λ z. Moves meaning p p [] (state_without h p m) (state_without h p z)) (sym e) record {
     caller = refl;
@@ -191,11 +188,6 @@ module _ {O P C R : Type 0} (meaning : Ghosts O P C R) where
     grows = grows_then a.caller.owned a.seen b.seen c.seen m.grows (subst (λ k. Grows k.owned b.seen c.seen) m.caller n.made.grows);
     another = λ all. n.another (subst OwnsAll (sym m.caller) all);
   }
-
-  -- two steps of one caller, one after the other
-  pub extends_by_both : (p q r t : Stage) (done more : List StepDone) (a b c : CallerState O P C R) → Moves meaning p q done a b → Extends b.caller.owned b.run (silently b.caller.acting more) c.run → Extends a.caller.owned a.run (silently a.caller.acting (done ++ more)) c.run
-  extends_by_both p q r t done more a b c m e = subst (λ l. Extends a.caller.owned a.run l c.run) (sym (silently_append a.caller.acting done more))
-      (extends_then a.caller.owned a.run (silently a.caller.acting done) b.run (silently a.caller.acting more) c.run m.extends (subst (λ k. Extends k.owned b.run (silently k.acting more) c.run) m.caller e))
 
 module _ {O P C R : Type 0} (meaning : Ghosts O P C R) where
   -- a lawful log stays so with one event more of a CPU of the cell, if it is legal and within the limit
