@@ -131,7 +131,7 @@ module _ {O P C R : Type 0} (meaning : Ghosts O P C R) (kind : LockKind) (h : Ce
           events = events_since x.log;
           seat = refl;
           added = begins_rest v.main.seen x.log begins;
-          extends = extends_after owned v.main.run r.state.run (m ∷ []) run mine.main.extends (extends_by owned r.state.run (m ∷ []));
+          extends = record { before = r.state.run; extends = mine.main.extends; is = refl };
           ran = λ g is. subst (λ (z : Cell O P C R). HasRun z x.log run) (sym (same_cell r.state id v g mine is)) ran;
         }
 

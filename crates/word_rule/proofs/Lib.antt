@@ -3,6 +3,7 @@ pub mod PlainTurns
 pub mod RunLists
 pub mod Runs
 pub mod RunOrder
+pub mod OneEvents
 pub mod OneHolds
 pub mod Stays
 pub mod Known

@@ -12,10 +12,10 @@ use Rattle.word_rule.specs.declared.view.Moment.{Moment}
 use Rattle.word_rule.specs.Cell.{Caller, HoldView, stored}
 use Rattle.word_rule.specs.CallerState.{CallerState, Moves, Takes, Gives}
 use Rattle.word_rule.specs.Line.{holding}
-use Rattle.word_rule.specs.LockRuns.{Extends, events_in}
+use Rattle.word_rule.specs.LockRuns.{Extends, ExtendsUntil, events_in}
 use Rattle.word_rule.specs.OneHold.{gets_object, how_many, Acquires, Releases, looks_in, leaving, silently, HasAcquired, HasReleased, HasHeld}
 use Rattle.word_rule.specs.Turns.{arrives, ends_hold, is_look}
-use Rattle.word_rule.proofs.RunLists.{extends_then, silently_append}
+use Rattle.word_rule.proofs.RunLists.{extends_then, until_then, until_since, silently_append, same_front}
 
 pub count_append : (test : StepDone → Bool) (a b : List StepDone) → how_many test (a ++ b) ≡ how_many test a + how_many test b
 count_append test a b = ap length (filter-append test a b) ∙ length-append (filter test a) (filter test b)
@@ -105,7 +105,7 @@ module _ {O P C R : Type 0} (meaning : Ghosts O P C R) where
         releases = r;
         events = t.events;
         added = ap (λ z. z.log) same ∙ (t.added ∙ ap (λ l. l ++ t.events) seen);
-        extends = extends_then hold.caller.owned before (silently hold.caller.acting done) a.run (leaving hold.caller.acting last t.events ∷ []) b.run s.1 (subst (λ (k : Caller O P C R). Extends k.owned a.run (leaving k.acting last t.events ∷ []) b.run) s.0 t.extends);
+        extends = until_since hold.caller.owned before (silently hold.caller.acting done) a.run (leaving hold.caller.acting last t.events) b.run s.1 (subst (λ (k : Caller O P C R). ExtendsUntil k.owned a.run [] (leaving k.acting last t.events) b.run) s.0 t.extends);
       }
 
   pub held_moved : (hold : HoldView O P C R) (before : List (Moment (Event O P C R))) (done more : List StepDone) (p q : Stage) (a b : CallerState O P C R) → HeldSince hold before done a → Moves meaning p q more a b → holding p ≡ true → HeldSince hold before (done ++ more) b
@@ -120,10 +120,6 @@ module _ {O P C R : Type 0} (meaning : Ghosts O P C R) where
   acquired_at_once caller before looks x done now p q a b acquires looked s t has left = record { done = done ++ now; acquires = acquires; looked = looked; left = found_left caller x p q now a b s.0 t has left; extends = since_more caller before b.run done now a s t.extends }
 
 module _ {O P C R : Type 0} where
-  same_front : (a b c : List (Event O P C R)) → a ++ b ≡ a ++ c → b ≡ c
-  same_front [] b c e = e
-  same_front (x ∷ xs) b c e = same_front xs b c (cc)
-
   -- a whole hold, which left these events
   pub held_once : (caller : Caller O P C R) (before : List (Moment (Event O P C R))) (looks : ℕ) (h k : HoldView O P C R) (run run' after : List (Moment (Event O P C R))) (events : List (Event O P C R)) → HasAcquired caller before looks h.history.log run → h.caller ≡ caller → k.caller ≡ h.caller → run' ≡ run
       → k.history.log ≡ h.history.log ++ events → HasReleased k run' after → HasHeld caller before looks events after
@@ -138,8 +134,9 @@ module _ {O P C R : Type 0} where
         done = r.done;
         last = r.last;
         releases = r.releases;
-        extends = extends_then caller.owned before (silently caller.acting a.done) run (silently caller.acting r.done ++ leaving caller.acting r.last events ∷ []) after a.extends
-            (subst (λ (z : Caller O P C R × List (Moment (Event O P C R)) × List (Event O P C R)). Extends z.0.owned z.1 (silently z.0.acting r.done ++ leaving z.0.acting r.last z.2 ∷ []) after) (λ i. (who i, still i, left i)) r.extends);
+        extends = subst (λ l. ExtendsUntil caller.owned before l (leaving caller.acting r.last events) after) (sym (silently_append caller.acting a.done r.done))
+            (until_then caller.owned before (silently caller.acting a.done) run (silently caller.acting r.done) (leaving caller.acting r.last events) after a.extends
+            (subst (λ (z : Caller O P C R × List (Moment (Event O P C R)) × List (Event O P C R)). ExtendsUntil z.0.owned z.1 (silently z.0.acting r.done) (leaving z.0.acting r.last z.2) after) (λ i. (who i, still i, left i)) r.extends));
       }
 
 -- what holds of an Ok holds of what follows from it

@@ -229,7 +229,7 @@ module _ {O P C R : Type 0} (meaning : Ghosts O P C R) (h : Cell O P C R) where
       let step_same : m.step ≡ (turn l m.cpu).1 = ap (first_of (turn l m.cpu).1) are in
       let total : length log + length (m.events ++ events_in ms) ≡ length whole = sym (length-append log (m.events ++ events_in ms)) ∙ ap length is in
       let within : length (log ++ m.events) ≤ h.limit = omega (arith, total, fits, length-append m.events (events_in ms), length-append log m.events) in
-      let next = steps_once w l log past m ms stands each.0 step_same (events_in ms) (legal_rest meaning (meaning.opening h.params) log (m.events ++ events_in ms) (subst (Legal meaning h.params) (sym is) legal)) within one.0 in
+      let next = steps_once w l log past m ms stands each.0 step_same (events_in ms) (legal_rest meaning (meaning.opening h.params) log (m.events ++ events_in ms) (subst (Legal meaning h.params) (sym is) legal)) within (one.0 refl) in
       let rest = replays ms (step meaning w m.cpu).0 (turn l m.cpu).0 (log ++ m.events) (past ++ m.events) whole next.1 each.1 (ap behind_of are) one.1 (append_assoc log m.events (events_in ms) ∙ is) legal fits in
       ((λ k. next.0 k ∷ rest.0 k), subst (λ z. Stands (lock_after ms (turn l m.cpu).0) whole z [] (run meaning (map (λ x. x.cpu) ms) (step meaning w m.cpu).0)) (append_assoc past m.events (events_in ms)) rest.1)
 

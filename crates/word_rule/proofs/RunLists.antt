@@ -7,7 +7,7 @@ use Rattle.event_log.specs.declared.event.Event.{Event}
 use Rattle.event_log.proofs.Beginnings.{begins_self, begins_then, begins_more, begins_append, begins_rest}
 use Rattle.word_rule.specs.declared.machine.step_done.StepDone.{StepDone}
 use Rattle.word_rule.specs.declared.view.Moment.{Moment}
-use Rattle.word_rule.specs.LockRuns.{by_cpu, events_in, doers_in, Extends, IsMoment}
+use Rattle.word_rule.specs.LockRuns.{by_cpu, events_in, doers_in, Extends, ExtendsUntil, IsMoment}
 use Rattle.word_rule.specs.OneHold.{leaving, silently}
 
 module _ {E : Type 0} where
@@ -51,10 +51,21 @@ module _ {E : Type 0} where
   pub extends_before : (owned : ℕ → Bool) (a xs b c : List (Moment E)) → Extends owned a xs b → Extends owned b [] c → Extends owned a xs c
   extends_before owned a xs b c p q = subst (λ l. Extends owned a l c) (append-nil xs) (extends_then owned a xs b [] c p q)
 
-  -- the moments at the end are the caller's own, or another CPU's
+  -- moments of the caller's own come at the end
   pub extends_by : (owned : ℕ → Bool) (a ms : List (Moment E)) → Extends owned a ms (a ++ ms)
   extends_by owned a ms = record { begins = begins_append a ms; own = λ _ _. refl }
 
+  -- a last step, after others
+  pub until_then : (owned : ℕ → Bool) (a xs b ys : List (Moment E)) (last : Moment E) (c : List (Moment E)) → Extends owned a xs b → ExtendsUntil owned b ys last c → ExtendsUntil owned a (xs ++ ys) last c
+  until_then owned a xs b ys last c p q = record { before = q.before; extends = extends_then owned a xs b ys q.before p q.extends; is = q.is }
+
+  pub until_since : (owned : ℕ → Bool) (a xs b : List (Moment E)) (last : Moment E) (c : List (Moment E)) → Extends owned a xs b → ExtendsUntil owned b [] last c → ExtendsUntil owned a xs last c
+  until_since owned a xs b last c p q = subst (λ l. ExtendsUntil owned a l last c) (append-nil xs) (until_then owned a xs b [] last c p q)
+
+  pub until_extends : (owned : ℕ → Bool) (a xs : List (Moment E)) (last : Moment E) (b : List (Moment E)) → ExtendsUntil owned a xs last b → Extends owned a (xs ++ last ∷ []) b
+  until_extends owned a xs last b u = subst (Extends owned a (xs ++ last ∷ [])) (sym u.is) (extends_then owned a xs u.before (last ∷ []) (u.before ++ last ∷ []) u.extends (extends_by owned u.before (last ∷ [])))
+
+  -- and moments of another CPU
   pub extends_beside : (owned : ℕ → Bool) (a b : List (Moment E)) (cpu : ℕ) (ms : List (Moment E)) → Extends owned a [] b → AllByRecursion (λ m. m.cpu ≡ cpu) ms → ((k : ℕ) → owned k ≡ true → k ≢ cpu) → Extends owned a [] (b ++ ms)
   extends_beside owned a b cpu ms p all apart = record {
     begins = begins_more a b ms p.begins;
@@ -63,6 +74,10 @@ module _ {E : Type 0} where
 
   pub silently_append : (cpu : ℕ) (a b : List StepDone) → silently {E = E} cpu (a ++ b) ≡ silently cpu a ++ silently cpu b
   silently_append cpu a b = map-append (λ s. leaving {E = E} cpu s []) a b
+
+pub same_front : {A : Type 0} (a b c : List A) → a ++ b ≡ a ++ c → b ≡ c
+same_front [] b c e = e
+same_front (x ∷ xs) b c e = same_front xs b c (cc)
 
 pub silent_own : (E : Type 0) (cpu : ℕ) (done : List StepDone) → AllByRecursion (λ (m : Moment E). m.cpu ≡ cpu) (silently {E = E} cpu done)
 silent_own E cpu [] = tt

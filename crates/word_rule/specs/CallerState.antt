@@ -1,5 +1,5 @@
 -- Where a caller stands at a cell, and what each kind of step does with it.
-use Rattle.std.specs.Prelude.{◌≡◌, ℕ, ◌<◌, true, false, List, [], ◌∷◌, ◌++◌, Option, Some, None}
+use Rattle.std.specs.Prelude.{◌≡◌, ℕ, ◌<◌, true, false, List, [], ◌++◌, Option, Some, None}
 use Rattle.event_log.specs.declared.object.SeqObject.{Ghosts}
 use Rattle.event_log.specs.declared.event.Event.{Event}
 use Rattle.event_log.specs.History.{History}
@@ -8,7 +8,7 @@ use Rattle.word_rule.specs.declared.stage.Stage.{Stage}
 use Rattle.word_rule.specs.declared.view.Moment.{Moment}
 use Rattle.word_rule.specs.Cell.{Caller, Grows, Lawful, OwnsAll, stored}
 use Rattle.word_rule.specs.Line.{holding}
-use Rattle.word_rule.specs.LockRuns.{Extends}
+use Rattle.word_rule.specs.LockRuns.{Extends, ExtendsUntil}
 use Rattle.word_rule.specs.OneHold.{leaving, silently}
 
 -- a caller, where it stands, the log and the run that it has seen, and the stored history while it has the object
@@ -49,7 +49,8 @@ module _ {O P C R : Type 0} (meaning : Ghosts O P C R) where
     pub had : before.has ≡ None
     pub has : after.has ≡ Some (stored meaning before.caller.cell after.seen)
 
-  -- the object goes home by this step, and the caller has seen the stored log, to which it had added these events
+  -- the object goes home by this step, the last of the run that the caller has seen now, and it has seen the stored log, to
+  -- which it had added these events
   pub record Gives (p q : Stage) (step : StepDone) (before after : CallerState O P C R) : Type 0 where
     pub caller : after.caller ≡ before.caller
     pub from : before.stage ≡ p
@@ -57,7 +58,7 @@ module _ {O P C R : Type 0} (meaning : Ghosts O P C R) where
     pub lawful : Lawful meaning before.caller.cell after.seen
     pub events : List (Event O P C R)
     pub added : after.seen ≡ before.seen ++ events
-    pub extends : Extends before.caller.owned before.run (leaving before.caller.acting step events ∷ []) after.run
+    pub extends : ExtendsUntil before.caller.owned before.run [] (leaving before.caller.acting step events) after.run
     pub had : before.has ≡ Some (stored meaning before.caller.cell after.seen)
     pub has : after.has ≡ None
 

@@ -36,6 +36,12 @@ module _ {E : Type 0} where
     pub begins : Begins a b
     pub own : (k : ℕ) → owned k ≡ true → by_cpu k b ≡ by_cpu k (a ++ added)
 
+  -- the same, and then came this moment, the last of run b
+  pub record ExtendsUntil (owned : ℕ → Bool) (a added : List (Moment E)) (last : Moment E) (b : List (Moment E)) : Type 0 where
+    pub before : List (Moment E)
+    pub extends : Extends owned a added before
+    pub is : b ≡ before ++ last ∷ []
+
   -- the lock after the CPUs' next steps, in this order
   abbrev pub lock_after : List (Moment E) → Lock → Lock
   lock_after [] l = l

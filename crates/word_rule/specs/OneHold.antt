@@ -7,7 +7,7 @@ use Rattle.word_rule.specs.declared.machine.step_done.StepDone.{StepDone}
 use Rattle.word_rule.specs.declared.machine.step_done.StepDone.TheVariants as steps
 use Rattle.word_rule.specs.declared.view.Moment.{Moment}
 use Rattle.word_rule.specs.Cell.{Caller, HoldView}
-use Rattle.word_rule.specs.LockRuns.{Extends, HasRun, events_in}
+use Rattle.word_rule.specs.LockRuns.{Extends, ExtendsUntil, HasRun, events_in}
 use Rattle.word_rule.specs.Turns.{arrives, ends_hold, is_look}
 
 -- the steps by which a CPU gets the object
@@ -65,16 +65,18 @@ module _ {O P C R : Type 0} where
     pub left : found ≡ caller.cell.opening ++ events_in after
     pub extends : Extends caller.owned before (silently caller.acting done) after
 
-  -- the holder has given the object back, which left what it had added to the log, and has done nothing else
+  -- the holder has given the object back, which left what it had added to the log, and has done nothing else; its last step is
+  -- the last that it has seen
   pub record HasReleased (hold : HoldView O P C R) (before after : List (Moment (Event O P C R))) : Type 0 where
     pub done : List StepDone
     pub last : StepDone
     pub releases : Releases done last
     pub events : List (Event O P C R)
     pub added : hold.history.log ≡ (hold.caller.cell.opening ++ events_in before) ++ events
-    pub extends : Extends hold.caller.owned before (silently hold.caller.acting done ++ leaving hold.caller.acting last events ∷ []) after
+    pub extends : ExtendsUntil hold.caller.owned before (silently hold.caller.acting done) (leaving hold.caller.acting last events) after
 
-  -- the caller has had the object once, with so many looks, has left these events, and has done nothing else
+  -- the caller has had the object once, with so many looks, has left these events, and has done nothing else; its last step is
+  -- the last that it has seen
   pub record HasHeld (caller : Caller O P C R) (before : List (Moment (Event O P C R))) (looks : ℕ) (events : List (Event O P C R)) (after : List (Moment (Event O P C R))) : Type 0 where
     pub got : List StepDone
     pub acquires : Acquires got
@@ -82,4 +84,4 @@ module _ {O P C R : Type 0} where
     pub done : List StepDone
     pub last : StepDone
     pub releases : Releases done last
-    pub extends : Extends caller.owned before (silently caller.acting got ++ (silently caller.acting done ++ leaving caller.acting last events ∷ [])) after
+    pub extends : ExtendsUntil caller.owned before (silently caller.acting (got ++ done)) (leaving caller.acting last events) after

@@ -18,10 +18,14 @@ module _ {O P C R : Type 0} where
   abbrev pub LeavesOne : ℕ → List (Event O P C R) → List (Event O P C R) → Type 0
   LeavesOne limit log events = ((e : Event O P C R) × (events ≡ e ∷ [])) ⊎ ((events ≡ []) × (length log ≡ limit))
 
-  -- each step that ends a hold left one event in the log so far, or none where that was full
+  -- each step of owned numbers that ends a hold left one event in the log so far, or none where that was full
+  abbrev pub OneEventOf : (ℕ → Bool) → ℕ → List (Event O P C R) → List (Moment (Event O P C R)) → Type 0
+  OneEventOf owned limit log [] = Unit {0}
+  OneEventOf owned limit log (m ∷ ms) = (owned m.cpu ≡ true → ends_hold m.step ≡ true → LeavesOne limit log m.events) × OneEventOf owned limit (log ++ m.events) ms
+
+  -- the same of all steps
   abbrev pub OneEventEach : ℕ → List (Event O P C R) → List (Moment (Event O P C R)) → Type 0
-  OneEventEach limit log [] = Unit {0}
-  OneEventEach limit log (m ∷ ms) = (ends_hold m.step ≡ true → LeavesOne limit log m.events) × OneEventEach limit (log ++ m.events) ms
+  OneEventEach limit log run = OneEventOf (λ _. true) limit log run
 
   -- an entry of a script: these calls on the one cell
   abbrev pub todo_of : List C → Todo O P C R

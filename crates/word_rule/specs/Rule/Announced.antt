@@ -12,7 +12,7 @@ use Rattle.word_rule.specs.declared.view.Seated.{Seated}
 use Rattle.word_rule.specs.Cell.{Cell, Grows, Lawful, stored}
 use Rattle.word_rule.specs.Rule.CellInvariant.{EachFrom, Caller, Viewed}
 use Rattle.word_rule.specs.Line.{holding}
-use Rattle.word_rule.specs.LockRuns.{Extends, HasRun}
+use Rattle.word_rule.specs.LockRuns.{Extends, ExtendsUntil, HasRun}
 use Rattle.word_rule.specs.OneHold.{leaving, silently}
 use Rattle.word_rule.specs.Rule.Seats.{Seat, moved_on, settled, merged}
 
@@ -83,14 +83,14 @@ module _ {O P C R : Type 0} (meaning : Ghosts O P C R) where
   joins st m n m' = Meets (merged m.0) m m'
 
 module _ {O P C R : Type 0} where
-  -- the first caller has ended its hold by this step, and stands there now. The object x goes home, with the events that
-  -- were added to the log that it had seen
+  -- the first caller has ended its hold by this step, the last of the run that it has seen now, and stands there. The object x
+  -- goes home, with the events that were added to the log that it had seen
   pub record Left (stage : Stage) (step : StepDone) (v : Viewed O P C R) (m' : Seat O P C R) (x : History O P C R) (more : List (ℕ × Option (History O P C R))) : Type 0 where
     pub run : List (Moment (Event O P C R))
     pub events : List (Event O P C R)
     pub seat : m' ≡ (settled v stage x.log run, more)
     pub added : x.log ≡ v.main.seen ++ events
-    pub extends : Extends (λ y. has y v.main.owned) v.main.run (leaving v.main.cpu step events ∷ []) run
+    pub extends : ExtendsUntil (λ y. has y v.main.owned) v.main.run [] (leaving v.main.cpu step events) run
     pub ran : (h : Cell O P C R) → v.told ≡ h ∷ [] → HasRun h x.log run
 
   abbrev pub Returns : Stage → StepDone → Seat O P C R → Seat O P C R → Type 0

@@ -1,7 +1,10 @@
-use Rattle.std.proofs.Common.{sym, ap, subst, ◌∙◌}
+use Rattle.std.proofs.Common.{◌<◌, sym, ap, subst, ◌∙◌}
 use Rattle.guarded_cell.proofs.Called.{called_met, ended, ended_full}
 use Rattle.word_rule.specs.LockRuns.{HasRun}
-use Rattle.guarded_cell.proofs.Turns.{taken_still}
+use Rattle.word_rule.specs.Replay.{OneEventOf}
+use Rattle.word_rule.proofs.OneEvents.{one_each}
+use Rattle.word_rule.proofs.RunLists.{all_inside}
+use Rattle.guarded_cell.proofs.Turns.{taken_still, taken_left_one}
 use Rattle.guarded_cell.proofs.callers.two_callers.Goals as goal
 
 pub returns-clause-ended : goal.returns-clause-ended
@@ -56,10 +59,19 @@ returns-clause-order g c =
     let cell = j.ensures.first_cell ∙ ap (λ x. x.cell) (m.ensures.first_caller ∙ f.caller) in
     let log = ap (λ x. x.log) c.close.ensures.log in
     let ran = subst (λ z. HasRun z (pass_view j.result).seen (pass_run j.result)) cell (has_run j.result j.ensures.pass) in
+    let run = pass_run j.result in
+    let second_cell = j.ensures.second_cell ∙ ap (λ x. x.cell) (m.ensures.second_caller ∙ s.caller) in
+    let same_cell = sym second_cell ∙ cell in
+    let first_turns = taken_still first.caller (pass_view m.result.0).caller (pass_run c.args.passes.0) (pass_run m.result.0) run _ _ (taken_still first.caller (pass_view both.result.0.0).caller (pass_run c.args.passes.0) (pass_run both.result.0.0) (pass_run m.result.0) _ _ both.ensures.first_run f.caller m.ensures.first_run) (m.ensures.first_caller ∙ f.caller) j.ensures.first_run in
+    let second_turns = taken_still second.caller (pass_view m.result.1).caller (pass_run c.args.passes.1) (pass_run m.result.1) run _ _ (taken_still second.caller (pass_view both.result.1.0).caller (pass_run c.args.passes.1) (pass_run both.result.1.0) (pass_run m.result.1) _ _ both.ensures.second_run s.caller m.ensures.second_run) (m.ensures.second_caller ∙ s.caller) j.ensures.second_run in
+    let second_one = subst (λ z. OneEventOf second.caller.owned z.limit z.opening (pass_run c.args.passes.1) → OneEventOf second.caller.owned z.limit z.opening run) same_cell (taken_left_one second.caller (pass_run c.args.passes.1) run _ _ second_turns) in
     record {
-      run = pass_run j.result;
-      ran = subst (λ l. HasRun first.caller.cell l (pass_run j.result)) (sym log) ran;
+      run = run;
+      ran = subst (λ l. HasRun first.caller.cell l run) (sym log) ran;
       in_order = c.close.ensures.run;
-      first_turns_taken = taken_still first.caller (pass_view m.result.0).caller (pass_run c.args.passes.0) (pass_run m.result.0) (pass_run j.result) _ (taken_still first.caller (pass_view both.result.0.0).caller (pass_run c.args.passes.0) (pass_run both.result.0.0) (pass_run m.result.0) _ both.ensures.first_run f.caller m.ensures.first_run) (m.ensures.first_caller ∙ f.caller) j.ensures.first_run;
-      second_turns_taken = taken_still second.caller (pass_view m.result.1).caller (pass_run c.args.passes.1) (pass_run m.result.1) (pass_run j.result) _ (taken_still second.caller (pass_view both.result.1.0).caller (pass_run c.args.passes.1) (pass_run both.result.1.0) (pass_run m.result.1) _ both.ensures.second_run s.caller m.ensures.second_run) (m.ensures.second_caller ∙ s.caller) j.ensures.second_run;
+      first_turns = first_turns;
+      second_turns = second_turns;
+      one_each = λ first_had second_had. one_each first.caller.owned second.caller.owned first.caller.cell.limit first.caller.cell.numbers first.caller.cell.opening run
+          (λ k lt. c.requires.all k (subst (λ z. k < z.numbers) (sym same_cell) lt)) (all_inside first.caller.cell.numbers run ran.each)
+          (taken_left_one first.caller (pass_run c.args.passes.0) run _ _ first_turns first_had) (second_one second_had);
     }
