@@ -78,7 +78,7 @@ module _ {O P C R : Type 0} where
       let done = h.releases.unended in
       let none : how_many ends_hold (h.got ++ h.done) ≡ 0 = omega (arith, unended, got, done) in
       each_left_one caller t.1 left after t.4
-          (one_more caller.owned caller.cell.limit caller.cell.opening before (silently caller.acting (h.got ++ h.done)) (leaving caller.acting h.last events) t.1 h.extends (none_ends (Event O P C R) caller.acting (h.got ++ h.done) none) t.3 one)
+      (one_more caller.owned caller.cell.limit caller.cell.opening before (silently caller.acting (h.got ++ h.done)) (leaving caller.acting h.last events) t.1 h.extends (none_ends (Event O P C R) caller.acting (h.got ++ h.done) none) t.3 one)
 
   -- a hold that left an event, and one that left none in the full log that the caller saw then
   pub leaves_call : (caller : Caller O P C R) (log : List (Event O P C R)) (call : C) (v : R) → LeavesOne caller.cell.limit log (left_by_call caller.acting call (Ok v))

@@ -3,9 +3,10 @@
 ghost use Rattle.std.specs.Prelude.{◌≡◌, [], ◌∷◌, IfOk};
 ghost use Rattle.word_rule.specs.Cell.{OwnsAll, OwnTogether};
 ghost use Rattle.guarded_cell.specs.Kinds.{IsPassOf};
-ghost use Rattle.word_rule.specs.Passes.{view_of_pass};
+ghost use Rattle.word_rule.specs.Passes.{view_of_pass, run_of_pass};
 
 mod machine;
+mod replays;
 mod threads;
 mod tries;
 
@@ -54,6 +55,7 @@ fn cell_of_two(
     ensures zero { IfOk result (λ r. IsPassOf r.0 r.1.0) }
     ensures one { IfOk result (λ r. IsPassOf r.0 r.1.1) }
     ensures all { IfOk result (λ r. OwnTogether (view_of_pass r.1.0).caller (view_of_pass r.1.1).caller) }
+    ensures new { IfOk result (λ r. (run_of_pass r.1.0 ≡ []) × (run_of_pass r.1.1 ≡ [])) }
 {
     let queue = Logged::<ThreadQueue>::open(alloc, 8, limit)?;
     let Ok((cell, mut passes)) = AnyCell::open(alloc, kind, queue, 2) else {

@@ -61,9 +61,9 @@ module _ {O P C R : Type 0} (owned : ℕ → Bool) (limit : ℕ) where
       let more : List (Moment (Event O P C R)) = drop (length a) b in
       let is : b ≡ a ++ more = begins_rest a b e.begins in
       let own : (k : ℕ) → owned k ≡ true → by_cpu k added ≡ by_cpu k more = λ k o.
-          same_front (by_cpu k a) (by_cpu k added) (by_cpu k more) (sym (by_append k a added) ∙ (sym (e.own k o) ∙ (ap (by_cpu k) is ∙ by_append k a more))) in
+      same_front (by_cpu k a) (by_cpu k added) (by_cpu k more) (sym (by_append k a added) ∙ (sym (e.own k o) ∙ (ap (by_cpu k) is ∙ by_append k a more))) in
       subst (OneEventOf owned limit log) (sym is) (one_append log a more one (one_of_none (log ++ events_in a) more
-          (all_owned EndsNone owned more (λ k o. subst (AllByRecursion EndsNone) (own k o) (all_by EndsNone k added none)))))
+      (all_owned EndsNone owned more (λ k o. subst (AllByRecursion EndsNone) (own k o) (all_by EndsNone k added none)))))
 
   -- their last step ends one, and leaves one event, or none in a full log
   pub one_more : (log : List (Event O P C R)) (a added : List (Moment (Event O P C R))) (last : Moment (Event O P C R)) (b : List (Moment (Event O P C R))) → (u : ExtendsUntil owned a added last b) → AllByRecursion EndsNone added → LeavesOne limit (log ++ events_in u.before) last.events
