@@ -5,4 +5,4 @@ pub mod Stays
 pub mod Workers
 pub mod SoundRuns
 pub mod Joins
-pub mod Turns
+pub mod HeldCalls

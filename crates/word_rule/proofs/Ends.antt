@@ -18,7 +18,7 @@ use Rattle.word_rule.specs.declared.stage.Stage.TheVariants.{Idle}
 use Rattle.word_rule.specs.declared.view.Moment.{Moment}
 use Rattle.word_rule.specs.Cell.{Cell, cell_of, Lawful, OwnsAll, IsPassView, stored}
 use Rattle.word_rule.specs.LockRuns.{lock_after, arrivals_in, endings_in}
-use Rattle.word_rule.specs.Locks.{opening_lock, tickets}
+use Rattle.word_rule.specs.Locks.{opening_lock}
 use Rattle.word_rule.specs.Rule.LockStates.{IsLockOf}
 use Rattle.word_rule.specs.Rule.CellInvariant.{GhostState, Viewed, Table, EachFrom, CallerInvariant, SeatInvariant, CellInvariant}
 use Rattle.word_rule.specs.Rule.Seats.{Seat, idle_from, first_view}
@@ -88,7 +88,7 @@ module _ {O P C R : Type 0} (meaning : Ghosts O P C R) (kind : LockKind) where
   opens ws x n first kept tied = record {
     state = start (cell_of kind n x) kind first;
     tied = tied;
-    ran = no_run (cell_of kind n x);
+    ran = no_run (cell_of kind n x) (λ is. ticket_few kind n (opening_lock kind first) tied.state is);
     made = λ f. opens_plainly kind first f;
     lawful = opens_lawful meaning kind x n kept;
     at_home = λ _. ap (λ z. some (some (Some z))) (opens_stored meaning kind x n kept);
@@ -112,10 +112,9 @@ module _ {O P C R : Type 0} (meaning : Ghosts O P C R) (kind : LockKind) where
       (λ not. of_opening z h.numbers b.committed h.opening (omega arith) r.lawful.begins r.lawful.numbered ∙ sym (of_opening z h.numbers v.main.seen h.opening (omega arith) part.lawful.begins part.lawful.numbered))) in
       let whole = same_run h.numbers (λ x. has x v.main.owned) v.main.run b.run know.main.extends all.each (all_inside h.numbers b.run r.ran.each) in
       let none : (lock_after b.run (opening_lock h.kind 0)).line.cpus ≡ [] = sym (ap (λ z. z.line.cpus) (r.made 0)) ∙ idle_empty kind h.numbers b.lock r.tied.state idle in
-      let few : h.kind ≡ kinds.Ticket → h.numbers < tickets = λ is. ticket_few kind h.numbers b.lock r.tied.state (sym kind_is ∙ is) in
       record {
         home = r.at_home home ∙ ap (λ l. some (some (Some (stored meaning h l)))) same;
-        ended = subst (λ (run : List (Moment (Event O P C R))). endings_in run ≡ arrivals_in run) whole (all_ended h b.committed b.run r.ran few none);
+        ended = subst (λ (run : List (Moment (Event O P C R))). endings_in run ≡ arrivals_in run) whole (all_ended h b.committed b.run r.ran none);
       }
 
   pub ended : (h : Cell O P C R) (id cpu : ℕ) (m : Seat O P C R) (ws : List ℕ) (xs : List (Option (History O P C R))) (slot : Option (History O P C R)) → IsWithout meaning h cpu Idle m → OwnsAll (caller_of h m.0) → h.kind ≡ kind

@@ -3,7 +3,6 @@ pub mod PlainTurns
 pub mod RunLists
 pub mod Runs
 pub mod RunOrder
-pub mod OneEvents
 pub mod OneHolds
 pub mod Stays
 pub mod Known
@@ -38,3 +37,6 @@ pub mod TicketWords
 pub mod WordsRead
 pub mod TriesTurns
 pub mod Replays
+pub mod HoldsPlayed
+pub mod ManyHolds
+pub mod EventOrder

@@ -1,5 +1,5 @@
 -- A cell's run is a run of the step machine: step by step the machine does what the run says.
-use Rattle.std.proofs.Common.{◌≡◌, ◌≢◌, ⊎_elim, ℕ, zero, suc, ◌+◌, ◌<◌, ◌≤◌, ◌==◌, ◌&&◌, Bool, true, false, cond, List, [], ◌∷◌, ◌++◌, map, length, slice_get, slice_set, Option, Some, refl, sym, ap, ◌∙◌, subst, arith, append_assoc, append-nil, length-append, eq-eqb, ne_eqb}
+use Rattle.std.proofs.Common.{◌≡◌, ◌≢◌, ⊎_elim, ℕ, zero, suc, ◌+◌, ◌<◌, ◌≤◌, ◌==◌, Bool, true, false, cond, List, [], ◌∷◌, ◌++◌, map, length, drop, slice_get, slice_set, Option, Some, refl, sym, ap, ◌∙◌, subst, arith, append_assoc, append-nil, length-append, eq-eqb, ne_eqb}
 use Rattle.std.specs.List.{AllByRecursion, range_with_len}
 use Rattle.std.proofs.lemmas.List.{map-append}
 use Rattle.std.proofs.lemmas.List.Elements.{filter-append}
@@ -12,34 +12,57 @@ use Rattle.event_log.specs.declared.entry.Done.{Done}
 use Rattle.event_log.specs.declared.entry.Done.TheVariants as done
 use Rattle.event_log.specs.declared.entry.Entry.{Entry}
 use Rattle.event_log.specs.declared.entry.Todo.{Todo}
-use Rattle.event_log.specs.Log.{answers, after, AreAnswers, LegalFrom, Legal, calls_of, of, replay, replay_from, steps_of}
+use Rattle.event_log.proofs.Beginnings.{begins_rest}
+use Rattle.event_log.specs.Log.{Begins, answers, after, AreAnswers, Fulfils, LegalFrom, Legal, calls_of, of, replay, replay_from}
 use Rattle.word_rule.specs.declared.machine.step_done.StepDone.{StepDone}
 use Rattle.word_rule.specs.declared.view.Moment.{Moment}
 use Rattle.word_rule.specs.Cell.{Cell}
+use Rattle.word_rule.specs.Holds.{Leaves}
 use Rattle.word_rule.specs.LockRuns.{events_in, lock_after, AreTurns, IsMoment, HasRun}
 use Rattle.word_rule.specs.Locks.{Lock, opening_lock}
 use Rattle.word_rule.specs.Machine.Opening.{opening_cpu}
-use Rattle.word_rule.specs.Machine.SoundWorld.{entries_of, entries_by}
+use Rattle.word_rule.specs.Machine.SoundWorld.{entries_of}
 use Rattle.word_rule.specs.Machine.World.{World, CellState, CpuState, with_done, entry_of, left, finished, counted, outcome, cell_after, cpu_after, world_after, step_on, step_of, step_by, step, run}
-use Rattle.word_rule.specs.Replay.{LeavesOne, OneEventEach, todo_of, script_of, cell_with, replay_world, steps_done, replayed}
+use Rattle.word_rule.specs.Replay.{todo_of, cell_with, replay_world, entries_left, DoesStep, DoesRun, AllDoRun, steps_done, replayed, IsReplay}
 use Rattle.word_rule.specs.Sound.{Opened, done_on, steps_by}
 use Rattle.word_rule.specs.Turns.{turn, ends_hold}
 use Rattle.word_rule.proofs.Entries.{done_append, done_here, done_without}
 use Rattle.word_rule.proofs.RunOrder.{first_of, behind_of}
 use Rattle.word_rule.proofs.Slices.{get_set_same, get_set_other}
 
+begins_head : {A : Type 0} (x : A) (a b : List A) → Begins (x ∷ a) b → b ≡ x ∷ drop 1 b
+begins_head {A = A} x a b h = by b (begins_rest (x ∷ a) b h)
+  where
+    by : (b : List A) → b ≡ x ∷ (a ++ drop (suc (length a)) b) → b ≡ x ∷ drop 1 b
+    by b is = is ∙ ap (λ l. x ∷ drop 1 l) (sym is)
+
+begins_tail : {A : Type 0} (x : A) (a b : List A) → Begins (x ∷ a) (x ∷ b) → Begins a b
+begins_tail x a b h = record { start = ap (drop 1) h.start }
+
 module _ {O P C R : Type 0} (meaning : Ghosts O P C R) where
-  -- steps that are the object's answers are what their calls are answered
-  answered_again : (s : O) (xs : List (Step O P C R)) → AreAnswers meaning s xs → answers meaning s (calls_of xs) ≡ xs
-  answered_again s [] h = refl
-  answered_again s (x ∷ []) h =
+  -- steps that are the object's answers, and fulfil the calls, are what the calls are answered
+  answered_again : (s : O) (xs : List (Step O P C R)) (calls : List C) → AreAnswers meaning s xs → Fulfils meaning calls xs → answers meaning s calls ≡ xs
+  answered_again s [] calls h f = ap (answers meaning s) (sym (f.whole refl))
+  answered_again s (x ∷ []) calls h f =
+      let more : List C = drop 1 calls in
+      let is : calls ≡ x.call ∷ more = begins_rest (x.call ∷ []) calls f.beginning in
       let here : (let y : Step O P C R = record { call = x.call; reply = (meaning.answer s x.call).1 } in y) ≡ x = ap (λ r. record { call = x.call; reply = r }) (sym h) in
-      elim (meaning.refusing (meaning.answer s x.call).1) as (λ b. (let y : Step O P C R = record { call = x.call; reply = (meaning.answer s x.call).1 } in y) ∷ cond b [] [] ≡ x ∷ []) [ true ↦ ap (λ y. y ∷ []) here | false ↦ ap (λ y. y ∷ []) here ]
-  answered_again s (x ∷ y ∷ ys) h =
+      ap (answers meaning s) is ∙ λ k. here k ∷ only more is f.whole k
+    where
+      only : (more : List C) → calls ≡ x.call ∷ more → (meaning.refusing x.reply ≡ false → x.call ∷ [] ≡ calls) → cond (meaning.refusing (meaning.answer s x.call).1) [] (answers meaning (meaning.answer s x.call).0 more) ≡ []
+      only more is whole = by (meaning.refusing x.reply) refl
+        where
+          by : (b : Bool) → meaning.refusing x.reply ≡ b → cond (meaning.refusing (meaning.answer s x.call).1) [] (answers meaning (meaning.answer s x.call).0 more) ≡ []
+          by true e = ap (λ b. cond b [] (answers meaning (meaning.answer s x.call).0 more)) (ap meaning.refusing (sym h) ∙ e)
+          by false e = let none : [] ≡ more = ap (drop 1) (whole e ∙ is) in
+              ap (λ b. cond b [] (answers meaning (meaning.answer s x.call).0 more)) (ap meaning.refusing (sym h) ∙ e) ∙ ap (answers meaning (meaning.answer s x.call).0) (sym none)
+  answered_again s (x ∷ y ∷ ys) calls h f =
+      let more : List C = drop 1 calls in
+      let is : calls ≡ x.call ∷ more = begins_head x.call (calls_of (y ∷ ys)) calls f.beginning in
       let here : (let z : Step O P C R = record { call = x.call; reply = (meaning.answer s x.call).1 } in z) ≡ x = ap (λ r. record { call = x.call; reply = r }) (sym h.0) in
-      let rest = answered_again (meaning.answer s x.call).0 (y ∷ ys) h.2 in
+      let rest = answered_again (meaning.answer s x.call).0 (y ∷ ys) more h.2 record { beginning = begins_tail x.call (calls_of (y ∷ ys)) more (subst (Begins (x.call ∷ calls_of (y ∷ ys))) is f.beginning); whole = λ e. ap (drop 1) (f.whole e ∙ is) } in
       let goes : meaning.refusing (meaning.answer s x.call).1 ≡ false = ap meaning.refusing (sym h.0) ∙ h.1 in
-      λ k. here k ∷ (ap (λ b. cond b [] (answers meaning (meaning.answer s x.call).0 (calls_of (y ∷ ys)))) goes ∙ rest) k
+      ap (answers meaning s) is ∙ λ k. here k ∷ (ap (λ b. cond b [] (answers meaning (meaning.answer s x.call).0 more)) goes ∙ rest) k
 
   -- the end of a legal log is legal from the replay of its beginning on
   legal_rest : (s : O) (xs ys : List (Event O P C R)) → LegalFrom meaning s (xs ++ ys) → LegalFrom meaning (replay_from meaning s xs) ys
@@ -47,22 +70,6 @@ module _ {O P C R : Type 0} (meaning : Ghosts O P C R) where
   legal_rest s (x ∷ xs) ys h = legal_rest (after meaning s x.steps.list.items) xs ys h.1
 
 module _ {O P C R : Type 0} where
-  -- a script has an entry at least, and each is on the one cell
-  script_goes_on : (cpu : ℕ) (ms : List (Moment (Event O P C R))) → (calls : List C) × (more : List (Todo O P C R)) × (script_of cpu ms ≡ todo_of calls ∷ more)
-  script_goes_on cpu [] = ([], [], refl)
-  script_goes_on cpu (m ∷ ms) = by (m.cpu == cpu && ends_hold m.step) (script_goes_on cpu ms)
-    where
-      by : (b : Bool) → ((calls : List C) × (more : List (Todo O P C R)) × (script_of cpu ms ≡ todo_of calls ∷ more))
-          → (calls : List C) × (more : List (Todo O P C R)) × (cond b (todo_of (calls_of (steps_of m.events)) ∷ script_of cpu ms) (script_of cpu ms) ≡ todo_of calls ∷ more)
-      by true rest = (calls_of (steps_of m.events), script_of cpu ms, refl)
-      by false rest = rest
-
-  script_own : (m : Moment (Event O P C R)) (ms : List (Moment (Event O P C R))) → script_of m.cpu (m ∷ ms) ≡ cond (ends_hold m.step) (todo_of (calls_of (steps_of m.events)) ∷ script_of m.cpu ms) (script_of m.cpu ms)
-  script_own m ms = ap (λ b. cond (b && ends_hold m.step) (todo_of (calls_of (steps_of m.events)) ∷ script_of m.cpu ms) (script_of m.cpu ms)) (eq-eqb m.cpu m.cpu refl)
-
-  script_other : (cpu : ℕ) (m : Moment (Event O P C R)) (ms : List (Moment (Event O P C R))) → m.cpu ≢ cpu → script_of cpu (m ∷ ms) ≡ script_of cpu ms
-  script_other cpu m ms ne = ap (λ b. cond (b && ends_hold m.step) (todo_of (calls_of (steps_of m.events)) ∷ script_of cpu ms) (script_of cpu ms)) (ne_eqb m.cpu cpu ne)
-
   -- events of one CPU are no other's
   of_others : (j cpu : ℕ) (es : List (Event O P C R)) → AllByRecursion (λ e. e.cpu ≡ cpu) es → cpu ≢ j → of j es ≡ []
   of_others j cpu [] all ne = refl
@@ -77,18 +84,18 @@ get_range f a zero i lt = absurd (omega (arith, lt))
 get_range f a (suc n) zero lt = let here : a ≡ a + 0 = omega arith in ap (λ k. Some (f k)) here
 get_range f a (suc n) (suc i) lt = let here : a + 1 + i ≡ a + suc i = omega arith in get_range f (a + 1) n i (omega (arith, lt)) ∙ ap (λ k. Some (f k)) here
 
-module _ {O P C R : Type 0} (meaning : Ghosts O P C R) (h : Cell O P C R) where
+module _ {O P C R : Type 0} (meaning : Ghosts O P C R) (h : Cell O P C R) (rest : ℕ → List (Todo O P C R)) where
   -- a CPU in the middle of the replay: what it has still to do, and what it has done
-  pub record CpuStands (past : List (Event O P C R)) (ms : List (Moment (Event O P C R))) (i : ℕ) (o : Option (CpuState O P C R)) : Type 0 where
+  pub record CpuStands (log past : List (Event O P C R)) (ms : List (Moment (Event O P C R))) (i : ℕ) (o : Option (CpuState O P C R)) : Type 0 where
     pub cpu : CpuState O P C R
     pub there : o ≡ Some cpu
-    pub todo : cpu.todo ≡ script_of i ms
+    pub does : DoesRun meaning i h.limit log ms cpu.todo (rest i)
     pub did : done_on 0 cpu.transcript ≡ steps_by i past
 
   -- the world in the middle of the replay
   pub record Stands (l : Lock) (log past : List (Event O P C R)) (ms : List (Moment (Event O P C R))) (w : World O P C R) : Type 0 where
     pub cells : w.cells ≡ cell_with h l log ∷ []
-    pub cpus : (i : ℕ) → i < h.numbers → CpuStands past ms i (slice_get w.cpus i)
+    pub cpus : (i : ℕ) → i < h.numbers → CpuStands log past ms i (slice_get w.cpus i)
 
   -- the step of a CPU that has an entry on the one cell
   step_is : (w : World O P C R) (i : ℕ) (l : Lock) (log : List (Event O P C R)) (cpu : CpuState O P C R) (calls : List C) (more : List (Todo O P C R)) → w.cells ≡ cell_with h l log ∷ [] → slice_get w.cpus i ≡ Some cpu → cpu.todo ≡ todo_of calls ∷ more
@@ -103,24 +110,24 @@ module _ {O P C R : Type 0} (meaning : Ghosts O P C R) (h : Cell O P C R) where
     opened = record { params = h.params; limit = h.limit }
 
     -- the log and the CPU after the step are what it takes
-    next_stands : (t : Lock × StepDone) (calls : List C) (mine : CpuStands past (m ∷ ms) m.cpu (slice_get w.cpus m.cpu)) → (cell_after meaning (cell_with h l log) m.cpu (todo_of calls) t).log ≡ log ++ m.events
-        → CpuStands (past ++ m.events) ms m.cpu (Some (cpu_after mine.cpu (todo_of calls) t.1 (outcome meaning opened log calls)))
+    next_stands : (t : Lock × StepDone) (calls : List C) (mine : CpuStands log past (m ∷ ms) m.cpu (slice_get w.cpus m.cpu)) → (cell_after meaning (cell_with h l log) m.cpu (todo_of calls) t).log ≡ log ++ m.events
+        → CpuStands (log ++ m.events) (past ++ m.events) ms m.cpu (Some (cpu_after mine.cpu (todo_of calls) t.1 (outcome meaning opened log calls)))
         → Stands t.0 (log ++ m.events) (past ++ m.events) ms (world_after meaning w m.cpu (cell_with h l log) mine.cpu (todo_of calls) t)
     next_stands t calls mine grows goes =
         let new : CpuState O P C R = cpu_after mine.cpu (todo_of calls) t.1 (outcome meaning opened log calls) in
         record {
           cells = ap (λ (cs : List (CellState O P C R)). slice_set cs 0 (cell_after meaning (cell_with h l log) m.cpu (todo_of calls) t)) stands.cells ∙ ap (λ z. cell_with h t.0 z ∷ []) grows;
           cpus = λ j lt. dite (ℕ_discrete m.cpu j)
-              (λ is. subst (λ k. CpuStands (past ++ m.events) ms k (slice_get (slice_set w.cpus m.cpu new) k)) is (subst (CpuStands (past ++ m.events) ms m.cpu) (sym (get_set_same w.cpus m.cpu new mine.cpu mine.there)) goes))
+              (λ is. subst (λ k. CpuStands (log ++ m.events) (past ++ m.events) ms k (slice_get (slice_set w.cpus m.cpu new) k)) is (subst (CpuStands (log ++ m.events) (past ++ m.events) ms m.cpu) (sym (get_set_same w.cpus m.cpu new mine.cpu mine.there)) goes))
               (λ ne. let old = stands.cpus j lt in record {
                 cpu = old.cpu;
                 there = get_set_other w.cpus m.cpu j new ne ∙ old.there;
-                todo = old.todo ∙ script_other j m ms ne;
+                does = subst (λ t. DoesRun meaning j h.limit (log ++ m.events) ms t (rest j)) (old.does.2 ne) old.does.3;
                 did = old.did ∙ sym (steps_others j m.cpu past m.events is_moment.own ne);
               });
         }
 
-    abbrev mine : CpuStands past (m ∷ ms) m.cpu (slice_get w.cpus m.cpu)
+    abbrev mine : CpuStands log past (m ∷ ms) m.cpu (slice_get w.cpus m.cpu)
     mine = stands.cpus m.cpu is_moment.inside
 
     -- an outcome that leaves the moment's events
@@ -144,118 +151,117 @@ module _ {O P C R : Type 0} (meaning : Ghosts O P C R) (h : Cell O P C R) where
               ∙ (ap (λ b. map (λ (x : Event O P C R). x.steps) (cond b (e ∷ []) [])) (sym (eq-eqb e.cpu m.cpu own)) ∙ ap (steps_by m.cpu) (sym one));
         }
 
-    -- what becomes of the calls of the hold's event is that event, as the log is legal and has room; or nothing, where the log is full
-    becomes : (rest : List (Event O P C R)) → LegalFrom meaning (replay meaning h.params log) (m.events ++ rest) → length (log ++ m.events) ≤ h.limit → LeavesOne h.limit log m.events → Becomes (outcome meaning opened log (calls_of (steps_of m.events)))
-    becomes rest legal fits = ⊎_elim
-        (λ (one : (e : Event O P C R) × (m.events ≡ e ∷ [])).
+    -- what becomes of the calls that left the hold's events is these, as the log is legal and has room; or nothing, where the log is full
+    becomes : (calls : List C) (more : List (Event O P C R)) → LegalFrom meaning (replay meaning h.params log) (m.events ++ more) → length (log ++ m.events) ≤ h.limit → Leaves meaning h.limit log calls m.events → Becomes (outcome meaning opened log calls)
+    becomes calls more legal fits = ⊎_elim
+        (λ (one : (e : Event O P C R) × (m.events ≡ e ∷ []) × Fulfils meaning calls e.steps.list.items).
         let s : O = replay meaning h.params log in
         let e : Event O P C R = one.0 in
-        let from : LegalFrom meaning s (e ∷ rest) = subst (λ es. LegalFrom meaning s (es ++ rest)) one.1 legal in
+        let from : LegalFrom meaning s (e ∷ more) = subst (λ es. LegalFrom meaning s (es ++ more)) one.1 legal in
         let long : length m.events ≡ 1 = ap length one.1 in
         let room : length log ≢ h.limit = λ full. absurd (omega (arith, long, fits, full, length-append log m.events)) in
-        let same : answers meaning s (calls_of (steps_of m.events)) ≡ e.steps.list.items = ap (λ es. answers meaning s (calls_of (steps_of es))) one.1 ∙ (ap (λ xs. answers meaning s (calls_of xs)) (append-nil e.steps.list.items) ∙ answered_again meaning s e.steps.list.items from.0.answered) in
+        let same : answers meaning s calls ≡ e.steps.list.items = answered_again meaning s e.steps.list.items calls from.0.answered one.2 in
         let made : List (Step O P C R) → Done O P C R = λ xs. done.Steps record { list = record { items = xs } } in
-        let is : outcome meaning opened log (calls_of (steps_of m.events)) ≡ done.Steps e.steps = ap (λ b. cond b done.NoRoom (made (answers meaning s (calls_of (steps_of m.events))))) (ne_eqb (length log) h.limit room) ∙ ap made same in
+        let is : outcome meaning opened log calls ≡ done.Steps e.steps = ap (λ b. cond b done.NoRoom (made (answers meaning s calls))) (ne_eqb (length log) h.limit room) ∙ ap made same in
         subst Becomes (sym is) (becomes_one e one.1))
         (λ (none : (m.events ≡ []) × (length log ≡ h.limit)).
-        let is : outcome meaning opened log (calls_of (steps_of m.events)) ≡ done.NoRoom = ap (λ b. cond b done.NoRoom (done.Steps record { list = record { items = answers meaning (replay meaning h.params log) (calls_of (steps_of m.events)) } })) (eq-eqb (length log) h.limit none.1) in
+        let is : outcome meaning opened log calls ≡ done.NoRoom = ap (λ b. cond b done.NoRoom (done.Steps record { list = record { items = answers meaning (replay meaning h.params log) calls } })) (eq-eqb (length log) h.limit none.1) in
         subst Becomes (sym is) (becomes_none none.0))
+
+    -- the entry that the CPU does
+    abbrev does : DoesStep meaning h.limit log m mine.cpu.todo mine.does.0
+    does = mine.does.1 refl
 
     module _ (step_same : m.step ≡ (turn l m.cpu).1) where
       -- a step that ends no hold
       goes_on : ends_hold m.step ≡ false → (step meaning w m.cpu).1 ≡ m.step × Stands (turn l m.cpu).0 (log ++ m.events) (past ++ m.events) ms (step meaning w m.cpu).0
       goes_on not =
           let t : Lock × StepDone = turn l m.cpu in
-          let script = script_goes_on m.cpu ms in
-          let calls : List C = script.0 in
+          let calls : List C = does.calls in
           let d : Done O P C R = outcome meaning opened log calls in
-          let todo : mine.cpu.todo ≡ script_of m.cpu ms = mine.todo ∙ (script_own m ms ∙ ap (λ b. cond b (todo_of (calls_of (steps_of m.events)) ∷ script_of m.cpu ms) (script_of m.cpu ms)) not) in
           let none : m.events ≡ [] = is_moment.silent not in
-          let is = step_is w m.cpu l log mine.cpu calls script.1 stands.cells mine.there (todo ∙ script.2) in
+          let is = step_is w m.cpu l log mine.cpu calls does.more stands.cells mine.there does.is in
           let ends : ends_hold t.1 ≡ false = ap ends_hold (sym step_same) ∙ not in (
             ap (λ (r : World O P C R × StepDone). r.1) is ∙ sym step_same,
             subst (λ (r : World O P C R × StepDone). Stands t.0 (log ++ m.events) (past ++ m.events) ms r.0) (sym is)
                 (next_stands t calls mine
                 (ap (λ b. cond b (with_done m.cpu log d) log) ends ∙ (sym (append-nil log) ∙ ap (λ z. log ++ z) (sym none)))
-                (subst (λ b. CpuStands (past ++ m.events) ms m.cpu (Some (cond b (finished mine.cpu (todo_of calls) d) (record { todo = mine.cpu.todo; transcript = mine.cpu.transcript; looks = counted mine.cpu.looks t.1 })))) (sym ends)
+                (subst (λ b. CpuStands (log ++ m.events) (past ++ m.events) ms m.cpu (Some (cond b (finished mine.cpu (todo_of calls) d) (record { todo = mine.cpu.todo; transcript = mine.cpu.transcript; looks = counted mine.cpu.looks t.1 })))) (sym ends)
                 record {
                   cpu = record { todo = mine.cpu.todo; transcript = mine.cpu.transcript; looks = counted mine.cpu.looks t.1 };
                   there = refl;
-                  todo = todo;
+                  does = subst (λ z. DoesRun meaning m.cpu h.limit (log ++ m.events) ms z (rest m.cpu)) (does.goes not) mine.does.3;
                   did = mine.did ∙ ap (steps_by m.cpu) (sym (append-nil past) ∙ ap (λ z. past ++ z) (sym none));
                 })),
           )
 
       -- a step that ends one
-      ends_one : (rest : List (Event O P C R)) → LegalFrom meaning (replay meaning h.params log) (m.events ++ rest) → length (log ++ m.events) ≤ h.limit → LeavesOne h.limit log m.events → ends_hold m.step ≡ true
+      ends_one : (more : List (Event O P C R)) → LegalFrom meaning (replay meaning h.params log) (m.events ++ more) → length (log ++ m.events) ≤ h.limit → ends_hold m.step ≡ true
           → (step meaning w m.cpu).1 ≡ m.step × Stands (turn l m.cpu).0 (log ++ m.events) (past ++ m.events) ms (step meaning w m.cpu).0
-      ends_one rest legal fits leaves ending =
+      ends_one more legal fits ending =
           let t : Lock × StepDone = turn l m.cpu in
-          let calls : List C = calls_of (steps_of m.events) in
+          let calls : List C = does.calls in
+          let left_by = does.ended ending in
           let d : Done O P C R = outcome meaning opened log calls in
-          let todo : mine.cpu.todo ≡ todo_of calls ∷ script_of m.cpu ms = mine.todo ∙ (script_own m ms ∙ ap (λ b. cond b (todo_of calls ∷ script_of m.cpu ms) (script_of m.cpu ms)) ending) in
-          let is = step_is w m.cpu l log mine.cpu calls (script_of m.cpu ms) stands.cells mine.there todo in
+          let is = step_is w m.cpu l log mine.cpu calls does.more stands.cells mine.there does.is in
           let ends : ends_hold t.1 ≡ true = ap ends_hold (sym step_same) ∙ ending in
-          let b : Becomes d = becomes rest legal fits leaves in
+          let b : Becomes d = becomes calls more legal fits left_by.0 in
           let e : Entry O P C R = entry_of (todo_of calls) d mine.cpu.looks in (
             ap (λ (r : World O P C R × StepDone). r.1) is ∙ sym step_same,
             subst (λ (r : World O P C R × StepDone). Stands t.0 (log ++ m.events) (past ++ m.events) ms r.0) (sym is)
                 (next_stands t calls mine
                 (ap (λ x. cond x (with_done m.cpu log d) log) ends ∙ b.grows)
-                (subst (λ x. CpuStands (past ++ m.events) ms m.cpu (Some (cond x (finished mine.cpu (todo_of calls) d) (record { todo = mine.cpu.todo; transcript = mine.cpu.transcript; looks = counted mine.cpu.looks t.1 })))) (sym ends)
+                (subst (λ x. CpuStands (log ++ m.events) (past ++ m.events) ms m.cpu (Some (cond x (finished mine.cpu (todo_of calls) d) (record { todo = mine.cpu.todo; transcript = mine.cpu.transcript; looks = counted mine.cpu.looks t.1 })))) (sym ends)
                 record {
                   cpu = finished mine.cpu (todo_of calls) d;
                   there = refl;
-                  todo = ap left todo;
+                  does = subst (λ z. DoesRun meaning m.cpu h.limit (log ++ m.events) ms z (rest m.cpu)) (left_by.1 ∙ sym (ap left does.is)) mine.does.3;
                   did = done_append 0 mine.cpu.transcript (e ∷ []) ∙ ((λ k. mine.did k ++ b.did calls mine.cpu.looks k)
                       ∙ sym (ap (map (λ (x : Event O P C R). x.steps)) (filter-append (λ (x : Event O P C R). x.cpu == m.cpu) past m.events) ∙ map-append (λ (x : Event O P C R). x.steps) (of m.cpu past) (of m.cpu m.events)));
                 })),
           )
 
-      steps_once : (rest : List (Event O P C R)) → LegalFrom meaning (replay meaning h.params log) (m.events ++ rest) → length (log ++ m.events) ≤ h.limit → (ends_hold m.step ≡ true → LeavesOne h.limit log m.events)
+      steps_once : (more : List (Event O P C R)) → LegalFrom meaning (replay meaning h.params log) (m.events ++ more) → length (log ++ m.events) ≤ h.limit
           → (step meaning w m.cpu).1 ≡ m.step × Stands (turn l m.cpu).0 (log ++ m.events) (past ++ m.events) ms (step meaning w m.cpu).0
-      steps_once rest legal fits leaves = by (ends_hold m.step) refl
+      steps_once more legal fits = by (ends_hold m.step) refl
         where
           by : (b : Bool) → ends_hold m.step ≡ b → (step meaning w m.cpu).1 ≡ m.step × Stands (turn l m.cpu).0 (log ++ m.events) (past ++ m.events) ms (step meaning w m.cpu).0
-          by true e = ends_one rest legal fits (leaves e) e
+          by true e = ends_one more legal fits e
           by false e = goes_on e
 
   -- step by step the machine does what is left of the run
-  replays : (ms : List (Moment (Event O P C R))) (w : World O P C R) (l : Lock) (log past whole : List (Event O P C R)) → Stands l log past ms w → AllByRecursion (IsMoment h.numbers) ms → AreTurns ms l → OneEventEach h.limit log ms
+  replays : (ms : List (Moment (Event O P C R))) (w : World O P C R) (l : Lock) (log past whole : List (Event O P C R)) → Stands l log past ms w → AllByRecursion (IsMoment h.numbers) ms → AreTurns ms l
       → log ++ events_in ms ≡ whole → Legal meaning h.params whole → length whole ≤ h.limit
       → (steps_done meaning (map (λ m. m.cpu) ms) w ≡ map (λ m. m.step) ms) × Stands (lock_after ms l) whole (past ++ events_in ms) [] (run meaning (map (λ m. m.cpu) ms) w)
-  replays [] w l log past whole stands each are one is legal fits = (refl, subst (λ (z : _ × _). Stands l z.0 z.1 [] w) (λ k. ((sym (append-nil log) ∙ is) k, sym (append-nil past) k)) stands)
-  replays (m ∷ ms) w l log past whole stands each are one is legal fits =
+  replays [] w l log past whole stands each are is legal fits = (refl, subst (λ (z : _ × _). Stands l z.0 z.1 [] w) (λ k. ((sym (append-nil log) ∙ is) k, sym (append-nil past) k)) stands)
+  replays (m ∷ ms) w l log past whole stands each are is legal fits =
       let step_same : m.step ≡ (turn l m.cpu).1 = ap (first_of (turn l m.cpu).1) are in
       let total : length log + length (m.events ++ events_in ms) ≡ length whole = sym (length-append log (m.events ++ events_in ms)) ∙ ap length is in
       let within : length (log ++ m.events) ≤ h.limit = omega (arith, total, fits, length-append m.events (events_in ms), length-append log m.events) in
-      let next = steps_once w l log past m ms stands each.0 step_same (events_in ms) (legal_rest meaning (meaning.opening h.params) log (m.events ++ events_in ms) (subst (Legal meaning h.params) (sym is) legal)) within (one.0 refl) in
-      let rest = replays ms (step meaning w m.cpu).0 (turn l m.cpu).0 (log ++ m.events) (past ++ m.events) whole next.1 each.1 (ap behind_of are) one.1 (append_assoc log m.events (events_in ms) ∙ is) legal fits in
-      ((λ k. next.0 k ∷ rest.0 k), subst (λ z. Stands (lock_after ms (turn l m.cpu).0) whole z [] (run meaning (map (λ x. x.cpu) ms) (step meaning w m.cpu).0)) (append_assoc past m.events (events_in ms)) rest.1)
+      let next = steps_once w l log past m ms stands each.0 step_same (events_in ms) (legal_rest meaning (meaning.opening h.params) log (m.events ++ events_in ms) (subst (Legal meaning h.params) (sym is) legal)) within in
+      let more = replays ms (step meaning w m.cpu).0 (turn l m.cpu).0 (log ++ m.events) (past ++ m.events) whole next.1 each.1 (ap behind_of are) (append_assoc log m.events (events_in ms) ∙ is) legal fits in
+      ((λ k. next.0 k ∷ more.0 k), subst (λ z. Stands (lock_after ms (turn l m.cpu).0) whole z [] (run meaning (map (λ x. x.cpu) ms) (step meaning w m.cpu).0)) (append_assoc past m.events (events_in ms)) more.1)
 
-  module _ (log : List (Event O P C R)) (done : List (Moment (Event O P C R))) (ran : HasRun h log done) (legal : Legal meaning h.params log) (fits : length log ≤ h.limit) (one : OneEventEach h.limit h.opening done) (first : ℕ) where
+  module _ (script : ℕ → List (Todo O P C R)) (log : List (Event O P C R)) (done : List (Moment (Event O P C R))) (ran : HasRun h log done) (legal : Legal meaning h.params log) (fits : length log ≤ h.limit) (all : AllDoRun meaning h done script rest) (first : ℕ) where
     -- before the first step
-    begins : Stands (opening_lock h.kind first) h.opening [] done (replay_world h first done)
+    begins : Stands (opening_lock h.kind first) h.opening [] done (replay_world h script first)
     begins = record {
       cells = refl;
       cpus = λ i lt. let here : 0 + i ≡ i = omega arith in record {
-        cpu = opening_cpu (script_of i done);
-        there = get_range (λ k. opening_cpu (script_of k done)) 0 h.numbers i lt ∙ ap (λ k. Some (opening_cpu (script_of k done))) here;
-        todo = refl;
+        cpu = opening_cpu (script i);
+        there = get_range (λ k. opening_cpu (script k)) 0 h.numbers i lt ∙ ap (λ k. Some (opening_cpu (script k))) here;
+        does = all i lt;
         did = refl;
       };
     }
 
-    all_replays : (steps_done meaning (map (λ m. m.cpu) done) (replay_world h first done) ≡ map (λ m. m.step) done) × Stands (lock_after done (opening_lock h.kind first)) log (events_in done) [] (replayed meaning h first done)
-    all_replays = replays done (replay_world h first done) (opening_lock h.kind first) h.opening [] log begins ran.each (ran.turns first) one (sym ran.left) legal fits
+    all_replays : (steps_done meaning (map (λ m. m.cpu) done) (replay_world h script first) ≡ map (λ m. m.step) done) × Stands (lock_after done (opening_lock h.kind first)) log (events_in done) [] (replayed meaning h script first done)
+    all_replays = replays done (replay_world h script first) (opening_lock h.kind first) h.opening [] log begins ran.each (ran.turns first) (sym ran.left) legal fits
 
-    -- the machine ends with the run's lock and log
-    pub cell_replays : (replayed meaning h first done).cells ≡ cell_with h (lock_after done (opening_lock h.kind first)) log ∷ []
-    cell_replays = all_replays.1.cells
-
-    pub steps_replay : steps_done meaning (map (λ m. m.cpu) done) (replay_world h first done) ≡ map (λ m. m.step) done
-    steps_replay = all_replays.0
-
-    -- a transcript has the steps of its CPU's events
-    pub transcripts_replay : (i : ℕ) → i < h.numbers → done_on 0 (entries_by i (replayed meaning h first done)) ≡ steps_by i (events_in done)
-    transcripts_replay i lt = let s = all_replays.1.cpus i lt in ap (λ (o : Option (CpuState O P C R)). done_on 0 (entries_of o)) s.there ∙ s.did
+    pub is_replay : IsReplay meaning h script rest first log done
+    is_replay = record {
+      steps = all_replays.0;
+      cells = all_replays.1.cells;
+      transcripts = λ i lt. let s = all_replays.1.cpus i lt in ap (λ (o : Option (CpuState O P C R)). done_on 0 (entries_of o)) s.there ∙ s.did;
+      left = λ i lt. let s = all_replays.1.cpus i lt in ap entries_left s.there ∙ s.does;
+    }

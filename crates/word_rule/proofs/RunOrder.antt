@@ -1,7 +1,5 @@
 -- Who ends a hold does so in the order of arrival, in each run of a lock.
-use Rattle.std.proofs.Common.{◌≡◌, ℕ, ◌+◌, ◌*◌, ◌%◌, ◌<◌, ◌&&◌, true, false, Bool, cond, List, [], ◌∷◌, ◌++◌, drop, length, map, replicate, refl, sym, ap, ◌∙◌, subst, arith, append-nil}
-use Rattle.std.proofs.Math.Seq.{drop-append_seam}
-use Rattle.std.proofs.lemmas.List.{map-append}
+use Rattle.std.proofs.Common.{◌≡◌, ℕ, ◌+◌, ◌*◌, ◌%◌, ◌<◌, ◌&&◌, true, false, Bool, cond, List, [], ◌∷◌, ◌++◌, replicate, refl, sym, ap, ◌∙◌, subst, arith, append-nil}
 use Rattle.std.specs.List.{AllByRecursion}
 use Rattle.event_log.specs.declared.event.Event.{Event}
 use Rattle.event_log.specs.Log.{Begins}
@@ -11,7 +9,7 @@ use Rattle.word_rule.specs.declared.lock_kind.LockKind.TheVariants as kinds
 use Rattle.word_rule.specs.declared.machine.step_done.StepDone.{StepDone}
 use Rattle.word_rule.specs.declared.view.Moment.{Moment}
 use Rattle.word_rule.specs.Cell.{Cell}
-use Rattle.word_rule.specs.LockRuns.{events_in, lock_after, AreTurns, IsMoment, EachLeavesOne, HasRun, arrivals_in, endings_in}
+use Rattle.word_rule.specs.LockRuns.{lock_after, AreTurns, HasRun, arrivals_in, endings_in}
 use Rattle.word_rule.specs.Locks.{Lock, opening_lock, tickets}
 use Rattle.word_rule.specs.LockWords.{ticket_word}
 use Rattle.word_rule.specs.Turns.{turn, arrives, ends_hold}
@@ -56,33 +54,12 @@ module _ {E : Type 0} (n : ℕ) where
 
 module _ {O P C R : Type 0} (h : Cell O P C R) (log : List (Event O P C R)) (run : List (Moment (Event O P C R))) (ran : HasRun h log run) where
   -- the line that the run leaves, behind those who have ended a hold
-  pub line_left : (h.kind ≡ kinds.Ticket → h.numbers < tickets) → endings_in run ++ (lock_after run (opening_lock h.kind 0)).line.cpus ≡ arrivals_in run
-  line_left few = in_order h.numbers run (opening_lock h.kind 0) (begins_state h.numbers 0 h.kind few) (all_inside h.numbers run ran.each) (ran.turns 0)
+  pub line_left : endings_in run ++ (lock_after run (opening_lock h.kind 0)).line.cpus ≡ arrivals_in run
+  line_left = in_order h.numbers run (opening_lock h.kind 0) (begins_state h.numbers 0 h.kind ran.few) (all_inside h.numbers run ran.each) (ran.turns 0)
 
-  pub ends_in_order : h.numbers < tickets → Begins (endings_in run) (arrivals_in run)
-  ends_in_order few = subst (Begins (endings_in run)) (line_left (λ _. few)) (begins_append (endings_in run) (lock_after run (opening_lock h.kind 0)).line.cpus)
+  pub ends_in_order : Begins (endings_in run) (arrivals_in run)
+  ends_in_order = subst (Begins (endings_in run)) line_left (begins_append (endings_in run) (lock_after run (opening_lock h.kind 0)).line.cpus)
 
   -- with nobody in line, all who have arrived have ended a hold
-  pub all_ended : (h.kind ≡ kinds.Ticket → h.numbers < tickets) → (lock_after run (opening_lock h.kind 0)).line.cpus ≡ [] → endings_in run ≡ arrivals_in run
-  all_ended few none = sym (append-nil (endings_in run)) ∙ (ap (λ l. endings_in run ++ l) (sym none) ∙ line_left few)
-
-  ended_by : (ms : List (Moment (Event O P C R))) → AllByRecursion (IsMoment h.numbers) ms → EachLeavesOne ms → map (λ e. e.cpu) (events_in ms) ≡ endings_in ms
-  ended_by [] each one = refl
-  ended_by (m ∷ ms) each one = map-append (λ (e : Event O P C R). e.cpu) m.events (events_in ms) ∙ ((λ i. here (ends_hold m.step) refl i ++ ended_by ms each.1 one.1 i) ∙ front (ends_hold m.step))
-    where
-      alone : (es : List (Event O P C R)) → length es ≡ 1 → AllByRecursion (λ e. e.cpu ≡ m.cpu) es → map (λ e. e.cpu) es ≡ m.cpu ∷ []
-      alone [] long own = absurd (omega arith)
-      alone (e ∷ []) long own = ap (λ (z : ℕ). z ∷ []) own.0
-      alone (e ∷ d ∷ es) long own = absurd (omega arith)
-
-      here : (b : Bool) → ends_hold m.step ≡ b → map (λ e. e.cpu) m.events ≡ cond b (m.cpu ∷ []) []
-      here true is = alone m.events (one.0 is) each.0.own
-      here false is = ap (map (λ (e : Event O P C R). e.cpu)) (each.0.silent is)
-
-      front : (b : Bool) → cond b (m.cpu ∷ []) [] ++ endings_in ms ≡ cond b (m.cpu ∷ endings_in ms) (endings_in ms)
-      front true = refl
-      front false = refl
-
-  -- where each hold left one event, the events stand in the order in which the holds ended
-  pub events_by_ends : EachLeavesOne run → map (λ e. e.cpu) (drop (length h.opening) log) ≡ endings_in run
-  events_by_ends one = ap (λ l. map (λ (e : Event O P C R). e.cpu) (drop (length h.opening) l)) ran.left ∙ (ap (map (λ (e : Event O P C R). e.cpu)) (drop-append_seam h.opening (events_in run)) ∙ ended_by run ran.each one)
+  pub all_ended : (lock_after run (opening_lock h.kind 0)).line.cpus ≡ [] → endings_in run ≡ arrivals_in run
+  all_ended none = sym (append-nil (endings_in run)) ∙ (ap (λ l. endings_in run ++ l) (sym none) ∙ line_left)

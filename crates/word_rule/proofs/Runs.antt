@@ -2,11 +2,12 @@
 use Rattle.std.proofs.Common.{◌≡◌, ℕ, ◌<◌, false, List, [], ◌∷◌, ◌++◌, map, refl, sym, ap, ◌∙◌, subst, append_assoc, append-nil}
 use Rattle.event_log.specs.declared.event.Event.{Event}
 use Rattle.event_log.proofs.Each.{all_push}
+use Rattle.word_rule.specs.declared.lock_kind.LockKind.TheVariants as kinds
 use Rattle.word_rule.specs.declared.machine.step_done.StepDone.{StepDone}
 use Rattle.word_rule.specs.declared.view.Moment.{Moment}
 use Rattle.word_rule.specs.Cell.{Cell}
 use Rattle.word_rule.specs.LockRuns.{events_in, lock_after, turns_after, AreTurns, IsMoment, HasRun}
-use Rattle.word_rule.specs.Locks.{Lock, opening_lock}
+use Rattle.word_rule.specs.Locks.{Lock, opening_lock, tickets}
 use Rattle.word_rule.specs.OneHold.{leaving, silently}
 use Rattle.word_rule.specs.Rule.Definition.{GoesOn}
 use Rattle.word_rule.specs.Rule.Plain.{plain}
@@ -59,6 +60,7 @@ module _ {O P C R : Type 0} (h : Cell O P C R) where
             turns_push run m (opening_lock h.kind first) (ran.turns first) (turn_plainly l l' p (made first) not (never_trying run (opening_lock h.kind first) (λ x. refl) p)).0;
         left = ap (λ z. z ++ events) ran.left ∙ (append_assoc h.opening (events_in run) events ∙ ap (λ z. h.opening ++ z) (sym (events_append run (m ∷ []) ∙ ap (λ z. events_in run ++ z) (append-nil events))));
         each = all_push (IsMoment h.numbers) run m ran.each is;
+        few = ran.few;
       }
 
   -- a step that leaves no event
@@ -66,8 +68,8 @@ module _ {O P C R : Type 0} (h : Cell O P C R) where
   silent_push l log run p made ran not below = subst (λ z. HasRun h z (run ++ leaving p (turn l p).1 [] ∷ [])) (append-nil log) (run_push l log run p [] made ran not record { inside = below; own = tt; silent = λ _. refl })
 
   -- before the first step
-  pub no_run : HasRun h h.opening []
-  no_run = record { turns = λ first. refl; left = sym (append-nil h.opening); each = tt }
+  pub no_run : (h.kind ≡ kinds.Ticket → h.numbers < tickets) → HasRun h h.opening []
+  no_run few = record { turns = λ first. refl; left = sym (append-nil h.opening); each = tt; few = few }
 
 -- how the run goes on, by what the step says
 module _ {E : Type 0} (cpu : ℕ) (run : List (Moment E)) where

@@ -1,63 +1,77 @@
--- A cell's run, done once more by the step machine, with one cell and for each CPU the calls of the holds that it ended.
-use Rattle.std.specs.Prelude.{◌≡◌, ◌⊎◌, ℕ, Bool, true, ◌==◌, ◌&&◌, if◌then◌else◌, List, [], ◌∷◌, ◌++◌, map, length}
+-- A cell's run, done once more by the step machine, with one cell and for each CPU the calls that it did as its script.
+use Rattle.std.specs.Prelude.{◌≡◌, ◌≢◌, ℕ, ◌<◌, true, false, ◌==◌, if◌then◌else◌, List, [], ◌∷◌, ◌++◌, map, Option, Some, None, slice_get}
 use Rattle.std.specs.List.{range_with_len}
 use Rattle.event_log.specs.declared.object.SeqObject.{Ghosts}
 use Rattle.event_log.specs.declared.event.Event.{Event}
 use Rattle.event_log.specs.declared.entry.Todo.{Todo}
-use Rattle.event_log.specs.Log.{calls_of, steps_of}
 use Rattle.word_rule.specs.declared.machine.step_done.StepDone.{StepDone}
 use Rattle.word_rule.specs.declared.view.Moment.{Moment}
-use Rattle.word_rule.specs.Cell.{Cell}
+use Rattle.word_rule.specs.Cell.{Cell, Caller}
+use Rattle.word_rule.specs.Holds.{Leaves}
+use Rattle.word_rule.specs.LockRuns.{events_in, lock_after}
 use Rattle.word_rule.specs.Locks.{Lock, opening_lock}
 use Rattle.word_rule.specs.Turns.{ends_hold}
+use Rattle.word_rule.specs.Sound.{done_on, steps_by}
 use Rattle.word_rule.specs.Machine.Opening.{opening_cpu}
-use Rattle.word_rule.specs.Machine.World.{World, CellState, step, run}
+use Rattle.word_rule.specs.Machine.SoundWorld.{entries_by}
+use Rattle.word_rule.specs.Machine.World.{World, CellState, CpuState, step, run}
 
 module _ {O P C R : Type 0} where
-  -- one event, or none where the log was full
-  abbrev pub LeavesOne : ℕ → List (Event O P C R) → List (Event O P C R) → Type 0
-  LeavesOne limit log events = ((e : Event O P C R) × (events ≡ e ∷ [])) ⊎ ((events ≡ []) × (length log ≡ limit))
-
-  -- each step of owned numbers that ends a hold left one event in the log so far, or none where that was full
-  abbrev pub OneEventOf : (ℕ → Bool) → ℕ → List (Event O P C R) → List (Moment (Event O P C R)) → Type 0
-  OneEventOf owned limit log [] = Unit {0}
-  OneEventOf owned limit log (m ∷ ms) = (owned m.cpu ≡ true → ends_hold m.step ≡ true → LeavesOne limit log m.events) × OneEventOf owned limit (log ++ m.events) ms
-
-  -- the same of all steps
-  abbrev pub OneEventEach : ℕ → List (Event O P C R) → List (Moment (Event O P C R)) → Type 0
-  OneEventEach limit log run = OneEventOf (λ _. true) limit log run
-
   -- an entry of a script: these calls on the one cell
   abbrev pub todo_of : List C → Todo O P C R
   todo_of calls = record { object = 0; calls = record { items = calls } }
 
-  -- whether the step ended a hold of that CPU
-  abbrev pub ends_hold_of : ℕ → Moment (Event O P C R) → Bool
-  ends_hold_of cpu m = m.cpu == cpu && ends_hold m.step
-
-  -- the calls of each hold that the CPU ended, as the events tell them, and none where the log was full; at last an entry that isn't
-  -- done in the run, for a call that the CPU may be in
-  abbrev pub script_of : ℕ → List (Moment (Event O P C R)) → List (Todo O P C R)
-  script_of cpu [] = todo_of [] ∷ []
-  script_of cpu (m ∷ ms) = if ends_hold_of cpu m then todo_of (calls_of (steps_of m.events)) ∷ script_of cpu ms else script_of cpu ms
+  -- the entries that a caller's CPU does for these lists of calls: the caller does them as the CPU that it acts as
+  abbrev pub entries_for : Caller O P C R → ℕ → List (List C) → List (Todo O P C R)
+  entries_for caller cpu groups = if cpu == caller.acting then map todo_of groups else []
 
   -- the cell with that lock and that log, as the machine has it
   abbrev pub cell_with : Cell O P C R → Lock → List (Event O P C R) → CellState O P C R
   cell_with cell lock log = record { opened = record { params = cell.params; limit = cell.limit }; lock = lock; log = log }
 
   -- the machine before its first step: the cell as it was opened, with this first ticket, and a script for each CPU
-  abbrev pub replay_world : Cell O P C R → ℕ → List (Moment (Event O P C R)) → World O P C R
-  replay_world cell first done = record {
+  abbrev pub replay_world : Cell O P C R → (ℕ → List (Todo O P C R)) → ℕ → World O P C R
+  replay_world cell script first = record {
     cells = cell_with cell (opening_lock cell.kind first) cell.opening ∷ [];
-    cpus = map (λ i. opening_cpu (script_of i done)) (range_with_len 0 cell.numbers);
+    cpus = map (λ i. opening_cpu (script i)) (range_with_len 0 cell.numbers);
   }
 
+  -- the entries that a CPU has still to do
+  abbrev pub entries_left : Option (CpuState O P C R) → List (Todo O P C R)
+  entries_left None = []
+  entries_left (Some cpu) = cpu.todo
+
 module _ {O P C R : Type 0} (meaning : Ghosts O P C R) where
+  -- a CPU does this step by its script's first entry; where the step ends a hold, the entry's calls left the events, and it is done
+  pub record DoesStep (limit : ℕ) (log : List (Event O P C R)) (m : Moment (Event O P C R)) (script rest : List (Todo O P C R)) : Type 0 where
+    pub calls : List C
+    pub more : List (Todo O P C R)
+    pub is : script ≡ todo_of calls ∷ more
+    pub ended : ends_hold m.step ≡ true → Leaves meaning limit log calls m.events × (rest ≡ more)
+    pub goes : ends_hold m.step ≡ false → rest ≡ script
+
+  -- a CPU does its steps of a run by its script, of which the rest isn't begun
+  abbrev pub DoesRun : ℕ → ℕ → List (Event O P C R) → List (Moment (Event O P C R)) → List (Todo O P C R) → List (Todo O P C R) → Type 0
+  DoesRun cpu limit log [] script rest = script ≡ rest
+  DoesRun cpu limit log (m ∷ ms) script rest = (left : List (Todo O P C R)) × (m.cpu ≡ cpu → DoesStep limit log m script left) × (m.cpu ≢ cpu → left ≡ script) × DoesRun cpu limit (log ++ m.events) ms left rest
+
+  -- each CPU of the cell does so, whatever its script and its rest are
+  abbrev pub AllDoRun : Cell O P C R → List (Moment (Event O P C R)) → (ℕ → List (Todo O P C R)) → (ℕ → List (Todo O P C R)) → Type 0
+  AllDoRun cell run script rest = (i : ℕ) → i < cell.numbers → DoesRun i cell.limit cell.opening run (script i) (rest i)
+
   -- what the machine's steps are, by a schedule
   abbrev pub steps_done : List ℕ → World O P C R → List StepDone
   steps_done [] w = []
   steps_done (i ∷ is) w = (step meaning w i).1 ∷ steps_done is (step meaning w i).0
 
   -- the machine once the CPUs of the run have done their next steps, in the run's order
-  abbrev pub replayed : Cell O P C R → ℕ → List (Moment (Event O P C R)) → World O P C R
-  replayed cell first done = run meaning (map (λ m. m.cpu) done) (replay_world cell first done)
+  abbrev pub replayed : Cell O P C R → (ℕ → List (Todo O P C R)) → ℕ → List (Moment (Event O P C R)) → World O P C R
+  replayed cell script first done = run meaning (map (λ m. m.cpu) done) (replay_world cell script first)
+
+  -- the machine has done the run: the same steps, with the run's lock and log at the end; each transcript has the steps of its
+  -- CPU's events, and the rest of each script isn't begun
+  pub record IsReplay (cell : Cell O P C R) (script rest : ℕ → List (Todo O P C R)) (first : ℕ) (log : List (Event O P C R)) (done : List (Moment (Event O P C R))) : Type 0 where
+    pub steps : steps_done (map (λ m. m.cpu) done) (replay_world cell script first) ≡ map (λ m. m.step) done
+    pub cells : (replayed cell script first done).cells ≡ cell_with cell (lock_after done (opening_lock cell.kind first)) log ∷ []
+    pub transcripts : (i : ℕ) → i < cell.numbers → done_on 0 (entries_by i (replayed cell script first done)) ≡ steps_by i (events_in done)
+    pub left : (i : ℕ) → i < cell.numbers → entries_left (slice_get (replayed cell script first done).cpus i) ≡ rest i

@@ -1,6 +1,6 @@
-use Rattle.std.proofs.Common.{◌≡◌, take}
+use Rattle.std.proofs.Common.{◌≡◌, [], ◌∷◌, map, take}
 use Rattle.guarded_cell.specs.Calls.{HasCalled}
-use Rattle.guarded_cell.proofs.Turns.{HasDoneSome}
+use Rattle.word_rule.specs.Holds.{HasHeldEach}
 use Rattle.guarded_cell.proofs.callers.call_all.Given as goal
 
 abbrev pub invariant-loop-asked : goal.invariant-loop-asked
@@ -9,5 +9,5 @@ invariant-loop-asked g l = record {
   caller : (g.C.LockCell.pass_view l.pass).caller ≡ (g.C.LockCell.pass_view l.fn.pass).caller;
   called : HasCalled (g.C.LockCell.pass_view l.fn.pass) (take l.asked-index l.calls) (g.C.LockCell.pass_view l.pass).seen;
   count : l.done ≡ l.asked-index;
-  run : HasDoneSome (g.C.LockCell.pass_view l.fn.pass).caller (g.C.LockCell.pass_run l.fn.pass) l.asked-index (g.C.LockCell.pass_run l.pass);
+  run : HasHeldEach g.O.SeqObject (g.C.LockCell.pass_view l.fn.pass).caller (g.C.LockCell.pass_run l.fn.pass) (map (λ c. c ∷ []) (take l.asked-index l.calls)) (g.C.LockCell.pass_run l.pass);
 }

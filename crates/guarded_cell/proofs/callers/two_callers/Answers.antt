@@ -1,10 +1,7 @@
-use Rattle.std.proofs.Common.{◌<◌, sym, ap, subst, ◌∙◌}
+use Rattle.std.proofs.Common.{sym, ap, subst, ◌∙◌}
 use Rattle.guarded_cell.proofs.Called.{called_met, ended, ended_full}
 use Rattle.word_rule.specs.LockRuns.{HasRun}
-use Rattle.word_rule.specs.Replay.{OneEventOf}
-use Rattle.word_rule.proofs.OneEvents.{one_each}
-use Rattle.word_rule.proofs.RunLists.{all_inside}
-use Rattle.guarded_cell.proofs.Turns.{taken_still, taken_left_one}
+use Rattle.guarded_cell.proofs.HeldCalls.{held_still}
 use Rattle.guarded_cell.proofs.callers.two_callers.Goals as goal
 
 pub returns-clause-ended : goal.returns-clause-ended
@@ -44,8 +41,8 @@ returns-clause-second_full g c less =
     ended_full g.O.SeqObject (pass_view j.result) c.close.result (is_lawful j.result j.ensures.pass) c.close.ensures.log (pass_view both.result.1.0).seen (pass_view c.args.passes.1) (pass_view m.result.1)
     (j.ensures.second_cell ∙ ap (λ x. x.cell) (m.ensures.second_caller ∙ s.caller)) m.ensures.second_grows.begins j.ensures.second_grows.begins (s.full less)
 
-pub returns-clause-order : goal.returns-clause-order
-returns-clause-order g c =
+pub returns-clause-order_run : goal.returns-clause-order_run
+returns-clause-order_run g c =
     let pass_view = g.C.LockCell.pass_view in
     let pass_run = g.C.LockCell.pass_run in
     let has_run = (g.met.C.LockCell g.world.𝓛 g.world.𝓜 g.world.𝓡 ((λ s x. x), (λ x. x), (λ x. x), λ x. x)).pass_has_run c.args.cell in
@@ -62,16 +59,13 @@ returns-clause-order g c =
     let run = pass_run j.result in
     let second_cell = j.ensures.second_cell ∙ ap (λ x. x.cell) (m.ensures.second_caller ∙ s.caller) in
     let same_cell = sym second_cell ∙ cell in
-    let first_turns = taken_still first.caller (pass_view m.result.0).caller (pass_run c.args.passes.0) (pass_run m.result.0) run _ _ (taken_still first.caller (pass_view both.result.0.0).caller (pass_run c.args.passes.0) (pass_run both.result.0.0) (pass_run m.result.0) _ _ both.ensures.first_run f.caller m.ensures.first_run) (m.ensures.first_caller ∙ f.caller) j.ensures.first_run in
-    let second_turns = taken_still second.caller (pass_view m.result.1).caller (pass_run c.args.passes.1) (pass_run m.result.1) run _ _ (taken_still second.caller (pass_view both.result.1.0).caller (pass_run c.args.passes.1) (pass_run both.result.1.0) (pass_run m.result.1) _ _ both.ensures.second_run s.caller m.ensures.second_run) (m.ensures.second_caller ∙ s.caller) j.ensures.second_run in
-    let second_one = subst (λ z. OneEventOf second.caller.owned z.limit z.opening (pass_run c.args.passes.1) → OneEventOf second.caller.owned z.limit z.opening run) same_cell (taken_left_one second.caller (pass_run c.args.passes.1) run _ _ second_turns) in
     record {
       run = run;
       ran = subst (λ l. HasRun first.caller.cell l run) (sym log) ran;
+      one_cell = same_cell;
       in_order = c.close.ensures.run;
-      first_turns = first_turns;
-      second_turns = second_turns;
-      one_each = λ first_had second_had. one_each first.caller.owned second.caller.owned first.caller.cell.limit first.caller.cell.numbers first.caller.cell.opening run
-          (λ k lt. c.requires.all k (subst (λ z. k < z.numbers) (sym same_cell) lt)) (all_inside first.caller.cell.numbers run ran.each)
-          (taken_left_one first.caller (pass_run c.args.passes.0) run _ _ first_turns first_had) (second_one second_had);
+      first_held = held_still g.O.SeqObject first.caller (pass_view m.result.0).caller (pass_run c.args.passes.0) (pass_run m.result.0) run _
+          (held_still g.O.SeqObject first.caller (pass_view both.result.0.0).caller (pass_run c.args.passes.0) (pass_run both.result.0.0) (pass_run m.result.0) _ both.ensures.first_run f.caller m.ensures.first_run) (m.ensures.first_caller ∙ f.caller) j.ensures.first_run;
+      second_held = held_still g.O.SeqObject second.caller (pass_view m.result.1).caller (pass_run c.args.passes.1) (pass_run m.result.1) run _
+          (held_still g.O.SeqObject second.caller (pass_view both.result.1.0).caller (pass_run c.args.passes.1) (pass_run both.result.1.0) (pass_run m.result.1) _ both.ensures.second_run s.caller m.ensures.second_run) (m.ensures.second_caller ∙ s.caller) j.ensures.second_run;
     }

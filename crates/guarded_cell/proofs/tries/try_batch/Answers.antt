@@ -3,7 +3,7 @@ use Rattle.std.proofs.lemmas.Result.{IfOk-at_ok}
 use Rattle.word_rule.specs.Answered.{IsAnswered, IsRefused}
 use Rattle.word_rule.specs.OneHold.{HasHeld}
 use Rattle.guarded_cell.specs.Held.{left_by_batch}
-use Rattle.guarded_cell.proofs.Turns.{held_batch}
+use Rattle.guarded_cell.proofs.HeldCalls.{held_batch}
 use Rattle.word_rule.proofs.MachineParts.{did}
 use Rattle.guarded_cell.proofs.tries.try_batch.Goals as goal
 

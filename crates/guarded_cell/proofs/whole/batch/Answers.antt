@@ -1,4 +1,4 @@
-use Rattle.guarded_cell.proofs.Turns.{held_batch}
+use Rattle.guarded_cell.proofs.HeldCalls.{held_batch}
 use Rattle.word_rule.proofs.MachineParts.{did}
 use Rattle.guarded_cell.proofs.whole.batch.Goals as goal
 

@@ -1,4 +1,4 @@
-use Rattle.guarded_cell.proofs.Turns.{held_call}
+use Rattle.guarded_cell.proofs.HeldCalls.{held_call}
 use Rattle.word_rule.proofs.MachineParts.{did_one}
 use Rattle.guarded_cell.proofs.whole.call.Goals as goal
 
