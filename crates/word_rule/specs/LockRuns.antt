@@ -58,7 +58,7 @@ module _ {E : Type 0} where
   AreTurns run l = map (λ m. m.step) run ≡ turns_after run l
 
 module _ {O P C R : Type 0} where
-  -- the events are of the CPU that did the step, one of n, and none where the step didn't end a hold
+  -- the CPU is one of n; the events are its own, and there are none where its step ends no hold
   pub record IsMoment (n : ℕ) (m : Moment (Event O P C R)) : Type 0 where
     pub inside : m.cpu < n
     pub own : AllByRecursion (λ e. e.cpu ≡ m.cpu) m.events

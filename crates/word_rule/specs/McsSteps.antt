@@ -34,7 +34,7 @@ module _ {O P C R : Type 0} (meaning : Ghosts O P C R) (before after : CallerSta
   abbrev pub IsLink : Type 0
   IsLink = (p : ℕ) × IsOther before.caller p × Moves meaning (Mcs (Armed p)) (Mcs Waiting) (steps.Link ∷ []) before after
 
-  -- the caller looks whether its `locked` is clear: it gets the object, or nothing changes
+  -- the caller looks whether its `locked` is clear: it gets the object, or has looked in vain
   abbrev pub IsWaitingLook : Bool → Type 0
   IsWaitingLook true = Takes meaning (Mcs Waiting) (Mcs Holding) (steps.Look true ∷ []) before after
   IsWaitingLook false = NeedsAnother meaning (Moves meaning (Mcs Waiting) (Mcs Waiting) (steps.Look false ∷ [])) before after

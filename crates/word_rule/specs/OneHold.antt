@@ -51,7 +51,7 @@ module _ {E : Type 0} where
   silently cpu done = map (λ s. leaving cpu s []) done
 
 module _ {O P C R : Type 0} where
-  -- the holder has seen this run, and has added events of its own to the log that it left
+  -- the holder has seen this run, and its log begins with the log that the run left
   pub record IsUnderHold (hold : HoldView O P C R) (run : List (Moment (Event O P C R))) : Type 0 where
     pub log : List (Event O P C R)
     pub ran : HasRun hold.caller.cell log run

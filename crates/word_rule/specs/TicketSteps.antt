@@ -11,7 +11,7 @@ module _ {O P C R : Type 0} (meaning : Ghosts O P C R) (before after : CallerSta
   abbrev pub IsDraw : Type 0
   IsDraw = (ticket : ℕ) × Moves meaning Idle (Ticket (Drawn ticket)) (steps.Draw ∷ []) before after
 
-  -- the caller looks whether its ticket is served: it gets the object, or nothing changes
+  -- the caller looks whether its ticket is served: it gets the object, or has looked in vain
   abbrev pub IsLook : Bool → Type 0
   IsLook true = (ticket : ℕ) × Takes meaning (Ticket (Drawn ticket)) (Ticket (Served ticket)) (steps.Look true ∷ []) before after
   IsLook false = (ticket : ℕ) × NeedsAnother meaning (Moves meaning (Ticket (Drawn ticket)) (Ticket (Drawn ticket)) (steps.Look false ∷ [])) before after

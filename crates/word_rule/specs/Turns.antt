@@ -93,6 +93,7 @@ arrives steps.Draw = true
 arrives (steps.Enter got) = true
 arrives _ = false
 
+-- whether the step is a look
 abbrev pub is_look : StepDone → Bool
 is_look (steps.Look got) = true
 is_look _ = false

@@ -90,7 +90,7 @@ impl<O: SeqObject> LockTable<O> {
         requires pass { IsPassAt self pass }
         requires whole { OwnsAll (view_of_pass pass).caller }
         ensures log { result ≡ stored O.SeqObject (view_of_pass pass).caller.cell (view_of_pass pass).seen }
-        ensures ended { endings_in (run_of_pass pass) ≡ arrivals_in (run_of_pass pass) }
+        ensures run { endings_in (run_of_pass pass) ≡ arrivals_in (run_of_pass pass) }
     {
         let LockTable { table } = self;
         let mut closed = table.close_with(pass.seat);

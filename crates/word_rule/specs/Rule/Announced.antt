@@ -38,7 +38,7 @@ module _ {O P C R : Type 0} where
 
 module _ {O P C R : Type 0} (meaning : Ghosts O P C R) where
   -- the log is lawful and the run left it; both begin with what the seat's callers have seen. The first has done these
-  -- moments, and its callers nothing else
+  -- moments, and the others nothing
   pub record Learns (v : Viewed O P C R) (done : List (Moment (Event O P C R))) (log : List (Event O P C R)) (run : List (Moment (Event O P C R))) : Type 0 where
     pub grows : Grows (λ x. has x v.main.owned) v.main.seen log
     pub extends : Extends (λ x. has x v.main.owned) v.main.run done run

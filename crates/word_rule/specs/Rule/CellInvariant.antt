@@ -64,8 +64,8 @@ module _ {O P C R : Type 0} (h : Cell O P C R) (b : GhostState O P C R) where
     pub main : CallerInvariant h.numbers b j 0 v.main
     pub others : EachFrom (CallerInvariant h.numbers b j) 1 v.others
 
--- the rule, for such a lock: the words are those of a state of it, which is what the run makes of the lock before its first
--- step; the run left the committed log, of which the object at home is the replay
+-- the rule, for such a lock: the words are those of a state of it, which is, but for what `plain` leaves out, what the run makes of
+-- the lock before its first step; the run left the committed log, of which the object at home is the replay
 pub record CellInvariant {O P C R : Type 0} (meaning : Ghosts O P C R) (kind : LockKind) (h : Cell O P C R) (s : Table O P C R) : Type 0 where
   pub state : GhostState O P C R
   pub tied : IsLockOf kind h.numbers s.words state.lock

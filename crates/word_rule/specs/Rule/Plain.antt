@@ -1,4 +1,5 @@
--- A lock apart from what differs between a cell and the step machine, and changes no step.
+-- A lock apart from what a cell's may have otherwise than the one that its run makes: tickets, tries that are readied, and the
+-- `next` of who is idle. A step of a CPU that has readied no try goes by none of these.
 use Rattle.std.specs.Prelude.{ℕ, Option, None}
 use Rattle.word_rule.specs.declared.stage.Stage.{Stage}
 use Rattle.word_rule.specs.declared.stage.Stage.TheVariants.{Idle, Ticket, Mcs, Trying}
