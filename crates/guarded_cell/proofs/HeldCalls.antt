@@ -46,7 +46,7 @@ module _ {O P C R : Type 0} (meaning : Ghosts O P C R) where
       let taken : take (n + 1) calls ≡ take n calls ++ c ∷ [] = take_more calls n c lt ∙ ap (λ x. take n calls ++ x ∷ []) (sym at) in
       let g = subst (λ (z : Caller O P C R). (g : HasHeld z mid looks events after) × Leaves meaning z.cell.limit (z.cell.opening ++ events_in g.extends.before) (c ∷ []) events) same (h, leaves) in
       subst (λ l. HasHeldEach meaning caller before l after) (sym (ap (map (λ x. x ∷ [])) taken ∙ map-append (λ x. x ∷ []) (take n calls) (c ∷ [])))
-          (one_held meaning caller before (map (λ x. x ∷ []) (take n calls)) mid after looks (c ∷ []) events t g.0 g.1)
+      (one_held meaning caller before (map (λ x. x ∷ []) (take n calls)) mid after looks (c ∷ []) events t g.0 g.1)
 
   -- the holds of all calls, and of some
   pub held_all : (caller : Caller O P C R) (before after : List (Moment (Event O P C R))) (calls : List C) (n done : ℕ) → done ≡ n → length calls ≤ n → HasHeldEach meaning caller before (map (λ x. x ∷ []) (take n calls)) after → HasHeldEach meaning caller before (holds_of calls done) after

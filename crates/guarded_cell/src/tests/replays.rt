@@ -23,7 +23,8 @@ fn two_are_replayed<O: SeqObject + Send, C: LockCell<O> + Sync, R: Threads + Wai
     rt: &R,
     cell: C,
     passes: Pair<C::Pass>,
-    calls: Pair<&[O::Call]>,
+    first_calls: &[O::Call],
+    second_calls: &[O::Call],
 ) -> (Logged<O>, usize, usize)
 where
     O::Params: Send,
@@ -35,11 +36,11 @@ where
     requires all { OwnTogether (C.pass_view passes.0).caller (C.pass_view passes.1).caller }
     requires new { (C.pass_run passes.0 ≡ []) × (C.pass_run passes.1 ≡ []) }
     ensures replayed { (run : List (Moment (Event O O.Params O.Call O.Reply))) × HasRun (C.pass_view passes.0).caller.cell result.0.log run
-        × ((ticket : ℕ) → IsReplay O.SeqObject (C.pass_view passes.0).caller.cell (λ k. if (C.pass_view passes.0).caller.owned k then entries_for (C.pass_view passes.0).caller k (holds_of calls.0.now result.1) else entries_for (C.pass_view passes.1).caller k (holds_of calls.1.now result.2)) (λ _. []) ticket result.0.log run) }
+        × ((ticket : ℕ) → IsReplay O.SeqObject (C.pass_view passes.0).caller.cell (λ k. if (C.pass_view passes.0).caller.owned k then entries_for (C.pass_view passes.0).caller k (holds_of first_calls.now result.1) else entries_for (C.pass_view passes.1).caller k (holds_of second_calls.now result.2)) (λ _. []) ticket result.0.log run) }
 {
     runs_replay::<O>();
     holds_are_scripts::<O>();
-    two_callers(rt, cell, passes, calls.0, calls.1)
+    two_callers(rt, cell, passes, first_calls, second_calls)
 }
 
 #[test]
@@ -49,9 +50,9 @@ fn what_two_threads_did_is_replayed(rt: HostRuntime) -> Result<(), Fail> {
     for kind in KINDS {
         for (room, left) in [(60, 50), (40, 40)] {
             let (cell, passes) = cell_of_two(rt.alloc(), kind, room)?;
-            let calls = (first.as_slice(), second.as_slice());
-            let (queue, first, second) = two_are_replayed(&rt, cell, passes, calls);
-            assert_eq!(rt; (queue.log().len(), first + second), (left, left));
+            let (queue, done, more) = two_are_replayed(&rt, cell, passes, &first, &second);
+            assert_eq!(rt; queue.log().len(), left);
+            assert_eq!(rt; done.checked_add(more), Some(left));
         }
     }
     Ok(())
