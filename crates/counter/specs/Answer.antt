@@ -1,5 +1,5 @@
 -- What a counter answers.
-use Rattle.std.specs.Prelude.{ℕ, ◌+◌, nat_lt, Bool, true, false, if◌then◌else◌}
+use Rattle.std.specs.Prelude.{◌+◌, nat_lt, Bool, true, false, if◌then◌else◌}
 use Rattle.counter.specs.State.{CounterState}
 use Rattle.counter.specs.declared.call.CounterCall.{CounterCall}
 use Rattle.counter.specs.declared.call.CounterCall.TheVariants.{Increase, Read}

@@ -6,7 +6,6 @@ ghost use Rattle.event_log.specs.History.{IsKept};
 ghost use Rattle.counter.specs.State.{CounterState, opening_state, IsCounterOf};
 ghost use Rattle.counter.specs.Answer.{counter_answer};
 ghost use Rattle.counter.specs.Counting.{ok_count};
-ghost use Rattle.counter.specs.declared.call.CounterCall.{CounterCall};
 
 use crate::BoundedCounter;
 use event_log::SeqObject;
@@ -15,14 +14,16 @@ use event_log::SeqObject;
 /// opened, after each call, at the end of each log, and in every `Logged`.
 pub fn stays_within()
     ensures opening { (n : ℕ) → IsCounterOf n (opening_state n) }
-    ensures call { (n : ℕ) (c : CounterState) (call : CounterCall) → IsCounterOf n c → IsCounterOf n (counter_answer c call).0 }
+    ensures call { (n : ℕ) (c : CounterState) (call : _) → IsCounterOf n c → IsCounterOf n (counter_answer c call).0 }
     ensures log { (n : ℕ) (log : _) → IsCounterOf n (replay ⟦<BoundedCounter as SeqObject>⟧ n log) }
     ensures logged { (h : _) → IsKept ⟦<BoundedCounter as SeqObject>⟧ h → IsCounterOf h.params h.state }
 {}
 
 /// The law of counting, without effect: at the end of a legal log a counter's value is the number of the calls in it that
 /// were answered Ok. So it is in every `Logged`.
-pub fn counts_what_it_answers()
-    ensures log { (n : ℕ) (log : _) → Legal ⟦<BoundedCounter as SeqObject>⟧ n log → (replay ⟦<BoundedCounter as SeqObject>⟧ n log).value ≡ ok_count (steps_of log) }
-    ensures logged { (h : _) → IsKept ⟦<BoundedCounter as SeqObject>⟧ h → h.state.value ≡ ok_count (steps_of h.log) }
+pub fn counts_each_once()
+    ensures log { (n : ℕ) (log : _) → Legal ⟦<BoundedCounter as SeqObject>⟧ n log
+        → (replay ⟦<BoundedCounter as SeqObject>⟧ n log).value ≡ ok_count (steps_of log) }
+    ensures logged { (h : _) → IsKept ⟦<BoundedCounter as SeqObject>⟧ h
+        → h.state.value ≡ ok_count (steps_of h.log) }
 {}

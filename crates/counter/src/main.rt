@@ -13,7 +13,7 @@ pub use call::{CounterCall, CounterReply};
 pub use counter::{BoundedCounter, MOST_COUNT};
 use event_log::Logged;
 use guarded_cell::{AnyCell, two_callers};
-pub use law::{counts_what_it_answers, stays_within};
+pub use law::{counts_each_once, stays_within};
 use std::alloc::Global;
 use std::process::ExitCode;
 use std::sync::Wait;
@@ -26,11 +26,19 @@ fn counted_by_two<R: Threads + Wait + Sync>(
     alloc: Global,
     kind: LockKind,
 ) -> Option<Logged<BoundedCounter>> {
-    let counter = Logged::<BoundedCounter>::open(alloc, 3, 100).ok()?;
-    let (cell, mut passes) = AnyCell::open(alloc, kind, counter, 2).ok()?;
+    let Ok(counter) = Logged::<BoundedCounter>::open(alloc, 3, 100) else {
+        return None;
+    };
+    let Ok((cell, mut passes)) = AnyCell::open(alloc, kind, counter, 2) else {
+        return None;
+    };
     let one = passes.pop().unwrap();
     let zero = passes.pop().unwrap();
-    let calls = [CounterCall::Increase, CounterCall::Increase];
+    let calls = [
+        CounterCall::Increase,
+        CounterCall::Increase,
+        CounterCall::Read,
+    ];
     let (counter, _, _) = two_callers(rt, cell, (zero, one), &calls, &calls);
     Some(counter)
 }
@@ -41,7 +49,7 @@ fn total_count(counter: &Logged<BoundedCounter>) -> u32
     ensures within { result ≤ counter.now.params }
 {
     stays_within();
-    counts_what_it_answers();
+    counts_each_once();
     counter.state().value()
 }
 

@@ -23,4 +23,5 @@ pub two_callers-queue-requires-clause-all : goal.two_callers-queue-requires-clau
 two_callers-queue-requires-clause-all g c κs =
     let zero : slice_get c.in-Ok-open.passes.items 0 ≡ Some c.unwrap-zero.result = search rules in
     let one : slice_get c.in-Ok-open.passes.items 1 ≡ Some c.unwrap-one.result = search rules in
-    own_both c.in-Ok.queue (view_of_pass c.unwrap-zero.result) (view_of_pass c.unwrap-one.result) (c.in-Ok-open.ensures.passes 0 c.unwrap-zero.result zero).1 (c.in-Ok-open.ensures.passes 1 c.unwrap-one.result one).1
+    own_both c.in-Ok.queue (view_of_pass c.unwrap-zero.result) (view_of_pass c.unwrap-one.result)
+    (c.in-Ok-open.ensures.passes 0 c.unwrap-zero.result zero).1 (c.in-Ok-open.ensures.passes 1 c.unwrap-one.result one).1
