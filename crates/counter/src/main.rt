@@ -1,7 +1,7 @@
 //! Two CPUs count on one counter, each on a thread of its own, behind a lock of either kind.
 #![tactic(auto)]
 
-ghost use Rattle.std.specs.Prelude.{◌≡◌, ◌≤◌};
+ghost use Rattle.std.specs.Prelude.{◌≡◌, ◌≤◌, IfSome};
 ghost use Rattle.event_log.specs.Log.{steps_of};
 ghost use Rattle.counter.specs.Counting.{ok_count};
 
@@ -25,7 +25,9 @@ fn counted_by_two<R: Threads + Wait + Sync>(
     rt: &R,
     alloc: Global,
     kind: LockKind,
-) -> Option<Logged<BoundedCounter>> {
+) -> Option<Logged<BoundedCounter>>
+    ensures { IfSome result (λ l. l.params ≡ 3) }
+{
     let Ok(counter) = Logged::<BoundedCounter>::open(alloc, 3, 100) else {
         return None;
     };
