@@ -56,7 +56,7 @@ class Sources:
         path = os.path.normpath(pattern)
         if "*" in path:
             return fnmatch.filter(self.files_and_folders, path)
-        return [path] if (self.top / path).exists() else []
+        return [path] if not path.startswith("..") and (self.top / path).exists() else []
 
     def add(self, name, *owners):
         self.names.add(name)
