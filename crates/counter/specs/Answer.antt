@@ -6,7 +6,7 @@ use Rattle.counter.specs.declared.call.CounterCall.TheVariants.{Increase, Read}
 use Rattle.counter.specs.declared.call.CounterReply.{CounterReply}
 use Rattle.counter.specs.declared.call.CounterReply.TheVariants.{Ok, Full, Value}
 
--- the state after a call, and the reply: one more is counted below the most, and none else
+-- the state after a call, and the reply: below the bound one more is counted, and at the bound that is refused
 abbrev pub counter_answer : CounterState → CounterCall → CounterState × CounterReply
 counter_answer c Increase = if nat_lt c.value c.most then (record c { value = c.value + 1 }, Ok) else (c, Full)
 counter_answer c Read = (c, Value c.value)

@@ -1,7 +1,7 @@
 -- The states of a counter.
 use Rattle.std.specs.Prelude.{◌≡◌, ℕ, ◌≤◌, nat_le, ◌&&◌, Bool}
 
--- how many it has counted, of at most `most`
+-- the bound, and how many were counted
 pub record CounterState : Type 0 where
   pub most : ℕ
   pub value : ℕ

@@ -9,6 +9,7 @@ mod call;
 mod counter;
 mod law;
 
+use CounterCall::{Increase, Read};
 pub use call::{CounterCall, CounterReply};
 pub use counter::{BoundedCounter, MOST_COUNT};
 use event_log::Logged;
@@ -36,11 +37,7 @@ fn counted_by_two<R: Threads + Wait + Sync>(
     };
     let one = passes.pop().unwrap();
     let zero = passes.pop().unwrap();
-    let calls = [
-        CounterCall::Increase,
-        CounterCall::Increase,
-        CounterCall::Read,
-    ];
+    let calls = [Increase, Increase, Read];
     let (counter, _, _) = two_callers(rt, cell, (zero, one), &calls, &calls);
     Some(counter)
 }
