@@ -1,5 +1,5 @@
 -- What whole calls add to the run of a cell's lock.
-use Rattle.std.specs.Prelude.{◌≡◌, ℕ, ◌+◌, List, [], ◌∷◌, map, take, Result, Ok, Err}
+use Rattle.std.specs.Prelude.{◌≡◌, ℕ, ◌+◌, ◌≤◌, List, [], ◌∷◌, map, take, Result, Ok, Err}
 use Rattle.event_log.specs.declared.object.SeqObject.{Ghosts}
 use Rattle.event_log.specs.declared.event.Event.{Event}
 use Rattle.event_log.specs.declared.event.Steps.{Steps}
@@ -24,10 +24,10 @@ module _ {O P C R : Type 0} where
   left_by_batch cpu (Ok steps) = events_by cpu (steps ∷ [])
   left_by_batch cpu (Err full) = []
 
-  -- a try did nothing, or found the log full in one hold
+  -- a try did nothing, or found the log full in one hold, got by at most one look
   abbrev pub HasDeclined : Declined → Caller O P C R → List (Moment (Event O P C R)) → List (Moment (Event O P C R)) → Type 0
   HasDeclined declined.Busy caller before after = Extends caller.owned before [] after
-  HasDeclined declined.NoRoom caller before after = (looks : ℕ) × HasHeld caller before looks [] after
+  HasDeclined declined.NoRoom caller before after = (looks : ℕ) × (looks ≤ 1) × HasHeld caller before looks [] after
 
 -- the holds of calls of which so many were done: one for each call, in order, and where that isn't all one more, for the call that
 -- found the log full

@@ -1,7 +1,10 @@
 -- The law of arrival, from an opening world on.
-use Rattle.std.proofs.Common.{◌≡◌, ℕ, ◌+◌, ◌*◌, ◌%◌, ◌<◌, true, List, [], ◌∷◌, ◌++◌, length, replicate, slice_get, Option, Some, None, refl, sym, ap, ◌∙◌, subst, arith}
+use Rattle.std.proofs.Common.{◌≡◌, ℕ, ◌+◌, ◌*◌, ◌%◌, ◌<◌, ◌≤◌, Bool, true, false, ◌&&◌, List, [], ◌∷◌, ◌++◌, length, replicate, slice_get, Option, Some, None, refl, sym, ap, ◌∙◌, subst, arith}
+use Rattle.std.proofs.lemmas.Bool.{false≢true}
+use Rattle.std.proofs.lemmas.Bool.Decides.{nat_tests}
 use Rattle.std.proofs.lemmas.List.{length-append}
 use Rattle.event_log.specs.declared.object.SeqObject.{Ghosts}
+use Rattle.event_log.specs.Distinct.{has}
 use Rattle.event_log.specs.Log.{Begins}
 use Rattle.event_log.proofs.Beginnings.{begins_self, begins_more}
 use Rattle.word_rule.specs.declared.lock_kind.LockKind.{LockKind}
@@ -10,10 +13,11 @@ use Rattle.word_rule.specs.Line.{holding}
 use Rattle.word_rule.specs.Locks.{Lock, opening_lock, tickets}
 use Rattle.word_rule.specs.LockWords.{ticket_word}
 use Rattle.word_rule.specs.Machine.Opening.{IsOpening}
-use Rattle.word_rule.specs.Machine.Orders.{is_at, arrivals, endings}
+use Rattle.word_rule.specs.Machine.Orders.{is_at, arrivals, endings, arrives_at, ends_within}
 use Rattle.word_rule.specs.Turns.{arrives}
 use Rattle.word_rule.specs.Machine.World.{World, CellState, run, step}
-use Rattle.word_rule.proofs.Orders.{AreLocks, IsCell, line_in, in_order, locks_run, same_cpus, room_to_arrive}
+use Rattle.word_rule.proofs.Lists.{has_tail}
+use Rattle.word_rule.proofs.Orders.{AreLocks, IsCell, line_in, in_order, locks_stay, locks_run, same_cpus, room_to_arrive, arrives_last, run_append}
 use Rattle.word_rule.proofs.LockLaws.{one_holds}
 use Rattle.word_rule.proofs.McsTurns.{starts_mcs}
 use Rattle.word_rule.proofs.TicketTurns.{starts_ticket}
@@ -23,6 +27,12 @@ use Rattle.word_rule.proofs.TurnsKeep.{IsState, locks_keep}
 pub fresh : (n first : ℕ) (k : LockKind) → n < tickets → IsState n (opening_lock k first)
 fresh n first kinds.Ticket few = (starts_ticket n first (ticket_word (first % tickets) (first % tickets) ∷ []) few refl).state
 fresh n first kinds.Mcs few = (starts_mcs n first (replicate (1 + 2 * n) 0) refl).state
+
+-- numbers that are a beginning of a list are no more than those before i there, if i isn't among them
+before_it : (ended rest line more : List ℕ) (i : ℕ) → ended ++ rest ≡ (line ++ i ∷ []) ++ more → has i ended ≡ false → length ended ≤ length line
+before_it [] rest line more i e not = omega arith
+before_it (y ∷ ended) rest [] more i e not = absurd (let is : y ≡ i = cc in grind (arith, nat_tests))
+before_it (y ∷ ended) rest (z ∷ line) more i e not = let tail : ended ++ rest ≡ (line ++ i ∷ []) ++ more = cc in let fewer = before_it ended rest line more i tail (has_tail i y ended not) in omega arith
 
 module _ {O P C R : Type 0} (meaning : Ghosts O P C R) (w : World O P C R) (o : IsOpening w) where
   free : AreLocks IsState locks_keep meaning w
@@ -51,6 +61,27 @@ module _ {O P C R : Type 0} (meaning : Ghosts O P C R) (w : World O P C R) (o : 
       let room = room_to_arrive IsState locks_keep meaning (run meaning is w) i x (locks_run IsState locks_keep meaning is w free) a t in
       let so = ap length (sym (so_far is x)) ∙ length-append (endings meaning x is w) line in
       omega (arith, so, room, same_cpus IsState locks_keep meaning is w free)
+
+  pub until_lem : (is more : List ℕ) (i x : ℕ) → arrives_at meaning (run meaning is w) i x ≡ true → ends_within meaning i x more (run meaning (is ++ i ∷ []) w) ≡ false
+      → length (endings meaning x more (run meaning (is ++ i ∷ []) w)) < length w.cpus
+  until_lem is more i x arrived not =
+      let w1 : World O P C R = run meaning is w in
+      let w2 : World O P C R = (step meaning w1 i).0 in
+      let good = locks_run IsState locks_keep meaning is w free in
+      let there = both (arrives (step meaning w1 i).1) (is_at w1 i x) arrived in
+      let a : arrives (step meaning w1 i).1 ≡ true = there.0 in
+      let t : is_at w1 i x ≡ true = there.1 in
+      let then : run meaning (is ++ i ∷ []) w ≡ w2 = run_append IsState locks_keep meaning is (i ∷ []) w in
+      let line : List ℕ = line_in (slice_get w1.cells x) in
+      let room = room_to_arrive IsState locks_keep meaning w1 i x good a t in
+      let order = in_order IsState locks_keep meaning more w2 x (locks_stay IsState locks_keep meaning w1 i good) ∙ ap (λ l. l ++ arrivals meaning x more w2) (arrives_last IsState locks_keep meaning w1 i x good a t) in
+      let fewer = before_it (endings meaning x more w2) (line_in (slice_get (run meaning more w2).cells x)) line (arrivals meaning x more w2) i order (subst (λ z. ends_within meaning i x more z ≡ false) then not) in
+      let same : length (endings meaning x more (run meaning (is ++ i ∷ []) w)) ≡ length (endings meaning x more w2) = ap (λ z. length (endings meaning x more z)) then in
+      omega (arith, fewer, room, same, same_cpus IsState locks_keep meaning is w free)
+    where
+      both : (b c : Bool) → (b && c) ≡ true → (b ≡ true) × (c ≡ true)
+      both true c e = (refl, e)
+      both false c e = absurd (false≢true e)
 
   pub one_lem : (is : List ℕ) (x i j : ℕ) (c : CellState O P C R) → slice_get (run meaning is w).cells x ≡ Some c → i < length w.cpus → j < length w.cpus → holding (c.lock.line.stage i) ≡ true → holding (c.lock.line.stage j) ≡ true → i ≡ j
   one_lem is x i j c there below below' a b =

@@ -5,7 +5,9 @@ use Rattle.std.proofs.lemmas.Bool.{false_from_ne_true}
 use Rattle.std.proofs.lemmas.Bool.Decides.{nat_tests}
 use Rattle.std.proofs.Math.Bool.{Bool-discrete}
 use mathlib.Core.Logic.{dite}
+use mathlib.Core.Option.{some}
 use native.Mathlib.Decide.{ℕ_discrete}
+use lib.ListN.{get_elem?}
 use Rattle.event_log.specs.declared.object.SeqObject.{Ghosts}
 use Rattle.atomic_table.specs.Table.{rest}
 use Rattle.event_log.specs.declared.event.Event.{Event}
@@ -21,9 +23,10 @@ use Rattle.word_rule.specs.declared.view.Moment.{Moment}
 use Rattle.word_rule.specs.Cell.{Cell, Grows, Lawful, stored}
 use Rattle.word_rule.specs.LockRuns.{Extends, HasRun}
 use Rattle.word_rule.specs.OneHold.{leaving, silently}
-use Rattle.word_rule.specs.Rule.CellInvariant.{GhostState, Caller, Viewed, Table, EachFrom, CallerInvariant, SeatInvariant, CellInvariant}
+use Rattle.word_rule.specs.Rule.CellInvariant.{GhostState, Caller, Viewed, Table, EachFrom, CallerInvariant, SeatInvariant, CellInvariant, callers_in}
 use Rattle.word_rule.specs.Rule.Seats.{Seat, moved_on, settled}
 use Rattle.word_rule.specs.Rule.Announced.{any_has, Lacks, IsElse, Learns, Goes, Gets, Left, Returns}
+use Rattle.word_rule.proofs.Lists.{each_at}
 use Rattle.word_rule.proofs.LockLaws.{in_line_below, idle_outside}
 use Rattle.word_rule.proofs.RunLists.{extends_after, extends_by, extends_beside, silent_own}
 use Rattle.word_rule.proofs.Stays.{not_mine, else_place}
@@ -31,6 +34,10 @@ use Rattle.word_rule.proofs.Stays.{not_mine, else_place}
 -- where a caller is idle, all its numbers are
 pub all_idle : {O P C R : Type 0} (n : ℕ) (b : GhostState O P C R) (j k : ℕ) (c : Caller O P C R) → CallerInvariant n b j k c → c.stage ≡ Idle → (x : ℕ) → has x c.owned ≡ true → b.lock.line.stage x ≡ Idle
 all_idle n b j k c s is x hx = dite (ℕ_discrete x c.cpu) (λ e. ap b.lock.line.stage e ∙ (s.stands (subst (λ (z : ℕ). has z c.owned ≡ true) e hx) ∙ is)) (λ ne. s.rests x hx ne)
+
+-- what the rule says of a seat it says of each of its callers
+pub caller_known : {O P C R : Type 0} (h : Cell O P C R) (b : GhostState O P C R) (j k : ℕ) (v : Viewed O P C R) (c : Caller O P C R) → SeatInvariant h b j v → get_elem? (callers_in v) k ≡ some c → CallerInvariant h.numbers b j k c
+caller_known h b j k v c mine there = let same : 0 + k ≡ k = omega arith in subst (λ z. CallerInvariant h.numbers b j z c) same (each_at (CallerInvariant h.numbers b j) 0 (callers_in v) k c (mine.main, mine.others) there)
 
 module _ {O P C R : Type 0} where
   -- the callers that a seat has taken in are idle

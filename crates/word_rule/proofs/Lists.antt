@@ -1,5 +1,5 @@
 -- Lists of numbers, and logs.
-use Rattle.std.proofs.Common.{◌≡◌, ◌||◌, ◌≢◌, ◌⊎◌, inl, inr, ⊎_elim, ℕ, zero, suc, ◌+◌, ◌<◌, ◌≤◌, Bool, true, false, true≢false, List, [], ◌∷◌, ◌++◌, ◌==◌, eqb, ne_eqb, length, drop, refl, sym, ap, ◌∙◌, arith, append-nil}
+use Rattle.std.proofs.Common.{◌≡◌, ◌||◌, ◌≢◌, ◌⊎◌, inl, inr, ⊎_elim, ℕ, zero, suc, ◌+◌, ◌<◌, ◌≤◌, Bool, true, false, true≢false, List, [], ◌∷◌, ◌++◌, ◌==◌, eqb, ne_eqb, length, drop, refl, sym, ap, ◌∙◌, subst, arith, append-nil}
 use Rattle.std.proofs.lemmas.Bool.{eq-eqb, eqb-true}
 use Rattle.std.proofs.lemmas.Bool.Decides.{nat_tests}
 use Rattle.std.proofs.lemmas.List.Elements.{filter-append}
@@ -112,6 +112,12 @@ module _ {A : Type 0} where
   pub each_map : {P Q : ℕ → A → Type 0} (from : ℕ) → ((k : ℕ) (x : A) → from ≤ k → P k x → Q k x) → (k : ℕ) → from ≤ k → (xs : List A) → EachFrom P k xs → EachFrom Q k xs
   each_map from f k le [] e = tt
   each_map from f k le (x ∷ xs) e = (f k x le e.0, each_map from f (k + 1) (omega arith) xs e.1)
+
+  -- what holds of each element holds of one of them, with its place
+  pub each_at : (P : ℕ → A → Type 0) (k : ℕ) (xs : List A) (i : ℕ) (x : A) → EachFrom P k xs → get_elem? xs i ≡ some x → P (k + i) x
+  each_at P k [] i x e there = absurd (some-ne-none x (sym there))
+  each_at P k (y ∷ ys) zero x e there = let same : k ≡ k + 0 = omega arith in subst (P (k + 0)) (some-injective y x there) (subst (λ z. P z y) same e.0)
+  each_at P k (y ∷ ys) (suc i) x e there = let same : k + 1 + i ≡ k + suc i = omega arith in subst (λ z. P z x) same (each_at P (k + 1) ys i x e.1 there)
 
 module _ {O P C R : Type 0} where
   pub grows_self : (owned : ℕ → Bool) (a : List (Event O P C R)) → Grows owned a a

@@ -186,6 +186,10 @@ module _ (IsLock : ℕ → Lock → Type 0) (keeps : Keeps IsLock) {O P C R : Ty
       let few = few_in (length w.cpus) (slice_get (step meaning w i).0.cells x) r.good in
       omega (arith, ap length longer ∙ length-append (line_in (slice_get w.cells x)) (i ∷ []), few)
 
+  -- who arrives is then the last of the line
+  pub arrives_last : (w : World O P C R) (i x : ℕ) → AreLocks w → arrives (step meaning w i).1 ≡ true → is_at w i x ≡ true → line_in (slice_get (step meaning w i).0.cells x) ≡ line_in (slice_get w.cells x) ++ i ∷ []
+  arrives_last w i x h a t = arrived_longer (step meaning w i).1 i _ _ a ((stepped w i x h).here t)
+
   -- a schedule in two parts
   pub run_append : (is js : List ℕ) (w : World O P C R) → run meaning (is ++ js) w ≡ run meaning js (run meaning is w)
   run_append [] js w = refl

@@ -15,7 +15,8 @@ use Rattle.word_rule.specs.Locks.{Lock, last, going, taking, naming, tickets}
 use Rattle.word_rule.specs.Tries.{is_empty, taken_by, ready, attempt, attempt_at}
 use Rattle.word_rule.specs.Turns.{draw, clear, enter, turn}
 use Rattle.word_rule.proofs.McsTurns as mcs
-use Rattle.word_rule.proofs.Stays.{moved_same}
+use Rattle.word_rule.proofs.QueueStands.{naming_else}
+use Rattle.word_rule.proofs.Stays.{moved_same, moved_else}
 use Rattle.word_rule.proofs.TicketTurns as ticket
 
 -- of two moves of one CPU the second counts
@@ -58,3 +59,25 @@ module _ (l : Lock) (i t : ℕ) where
       by : (k : LockKind) → ((attempt_at k l i t).0.line.cpus ≡ l.line.cpus) × ((attempt_at k l i t).0.line.out ≡ l.line.out) × ((attempt_at k l i t).1 ≡ [])
       by kinds.Ticket = let same = ap {B = Lock × List StepDone} (λ (b : Bool). cond (b && l.serving == t) (taken_by l i (Ticket (Served t)), steps.Draw ∷ steps.Look true ∷ []) (l, [])) (not_empty l.line.cpus some_one) in (ap (λ z. z.0.line.cpus) same, ap (λ z. z.0.line.out) same, ap (λ z. z.1) same)
       by kinds.Mcs = let same = ap {B = Lock × List StepDone} (λ (b : Bool). cond b (taken_by l i (Mcs Holding), steps.Clear ∷ steps.Enter true ∷ []) (record l { line = going l.line i Idle }, [])) (not_empty l.line.cpus some_one) in (ap (λ z. z.0.line.cpus) same, ap (λ z. z.0.line.out) same, ap (λ z. z.1) same)
+
+  -- no try moves another CPU
+  pub leaves_others : (x : ℕ) → x ≢ i → ((attempt l i t).0.line.stage x ≡ l.line.stage x) × ((attempt l i t).0.next x ≡ l.next x)
+  leaves_others x ne = by l.kind
+    where
+      Same : Lock × List StepDone → Type 0
+      Same z = (z.0.line.stage x ≡ l.line.stage x) × (z.0.next x ≡ l.next x)
+
+      tried : (b : Bool) → Same (cond b (taken_by l i (Ticket (Served t)), steps.Draw ∷ steps.Look true ∷ []) (l, []))
+      tried true = (moved_else l.line.stage i (Ticket (Served t)) x ne, refl)
+      tried false = (refl, refl)
+
+      queued : (b : Bool) → Same (cond b (taken_by l i (Mcs Holding), steps.Clear ∷ steps.Enter true ∷ []) (record l { line = going l.line i Idle }, []))
+      queued true = (moved_else l.line.stage i (Mcs Holding) x ne, refl)
+      queued false = (moved_else l.line.stage i Idle x ne, refl)
+
+      by : (k : LockKind) → Same (attempt_at k l i t)
+      by kinds.Ticket = tried (is_empty l.line.cpus && l.serving == t)
+      by kinds.Mcs = queued (is_empty l.line.cpus)
+
+pub readies_no_other : (l : Lock) (i x : ℕ) → x ≢ i → ((ready l i).line.stage x ≡ l.line.stage x) × ((ready l i).next x ≡ l.next x)
+readies_no_other l i x ne = (moved_else l.line.stage i Trying x ne, naming_else l.next i None x ne)

@@ -50,8 +50,8 @@ pub trait LockCell<O: SeqObject> {
         ensures grows { Grows (pass_view pass).caller.owned (pass_view pass).seen (hold_view result.0).history.log }
         ensures run { HasAcquired (pass_view pass).caller (pass_run pass) result.1 (hold_view result.0).history.log (hold_run result.0) };
 
-    /// Gets the object if nobody has it or is in line for it, and doesn't wait. Else it is busy, and the pass comes back: a
-    /// pass that owns every number of the cell always gets the object.
+    /// Gets the object if nobody has it or is in line for it, by at most one look, and doesn't wait. Else it is busy, and the
+    /// pass comes back: a pass that owns every number of the cell always gets the object.
     fn try_acquire(&self, pass: Self::Pass) -> Result<Self::Hold, Self::Pass>
         requires { is_pass_of self.now pass }
         ensures hold { IfOk result (λ h. is_hold_of self.now h) }
@@ -59,7 +59,7 @@ pub trait LockCell<O: SeqObject> {
         ensures grows { IfOk result (λ h. Grows (pass_view pass).caller.owned (pass_view pass).seen (hold_view h).history.log) }
         ensures pass { IfErr result (λ p. is_pass_of self.now p) }
         ensures busy { IfErr result (λ p. IsBusy (pass_view pass) (pass_view p)) }
-        ensures run { IfOk result (λ h. (looks : ℕ) × HasAcquired (pass_view pass).caller (pass_run pass) looks (hold_view h).history.log (hold_run h)) }
+        ensures run { IfOk result (λ h. (looks : ℕ) × (looks ≤ 1) × HasAcquired (pass_view pass).caller (pass_run pass) looks (hold_view h).history.log (hold_run h)) }
         ensures busy_run { IfErr result (λ p. Extends (pass_view pass).caller.owned (pass_run pass) [] (pass_run p)) };
 
     /// Does 1 to 8 calls as one event of the acting CPU, up to and with the first that is refused. It takes no memory.

@@ -2,6 +2,7 @@
 use Rattle.std.specs.Prelude.{ℕ, Bool, false, ◌==◌, ◌&&◌, if◌then◌else◌, List, [], ◌∷◌, Option, Some, None, slice_get}
 use Rattle.event_log.specs.declared.object.SeqObject.{Ghosts}
 use Rattle.event_log.specs.declared.entry.Todo.{Todo}
+use Rattle.event_log.specs.Distinct.{has}
 use Rattle.word_rule.specs.declared.machine.step_done.StepDone.{StepDone}
 use Rattle.word_rule.specs.Turns.{ends_hold, arrives}
 use Rattle.word_rule.specs.Machine.World.{World, CpuState, step}
@@ -38,3 +39,11 @@ module _ {O P C R : Type 0} (meaning : Ghosts O P C R) where
   -- who ends a hold there: the CPUs of its serve and pass steps, and of the empty steps that succeed
   abbrev pub endings : ℕ → List ℕ → World O P C R → List ℕ
   endings = doers ends_hold
+
+  -- whether CPU i arrives there by its next step
+  abbrev pub arrives_at : World O P C R → ℕ → ℕ → Bool
+  arrives_at w i x = arrives (step meaning w i).1 && is_at w i x
+
+  -- whether CPU i ends a hold there by one of these steps
+  abbrev pub ends_within : ℕ → ℕ → List ℕ → World O P C R → Bool
+  ends_within i x is w = has i (endings x is w)

@@ -41,6 +41,10 @@ Caller O P C R = Seated (Event O P C R)
 abbrev pub Viewed : Type 0 → Type 0 → Type 0 → Type 0 → Type 0
 Viewed O P C R = View (Cell O P C R) (Event O P C R)
 
+-- the callers of a seat: its own, and those that it has taken in
+abbrev pub callers_in : {O P C R : Type 0} → Viewed O P C R → List (Caller O P C R)
+callers_in v = v.main ∷ v.others
+
 -- the words of a cell's table, the slot through which the object moves, and the views of all seats
 abbrev pub Table : Type 0 → Type 0 → Type 0 → Type 0 → Type 0
 Table O P C R = State (Option (History O P C R)) (Viewed O P C R)

@@ -1,26 +1,29 @@
 //! Laws of every run of the step machine, each on a function without effect.
 
-ghost use Rattle.std.specs.Prelude.{◌≡◌, ◌↔◌, ℕ, ◌+◌, ◌<◌, true, List, [], length, Some, slice_get};
+ghost use Rattle.std.specs.Prelude.{◌≡◌, ◌↔◌, ℕ, ◌+◌, ◌<◌, true, false, List, [], ◌∷◌, ◌++◌, length, Some, slice_get};
 ghost use Rattle.event_log.specs.Log.{Begins};
 ghost use Rattle.word_rule.specs.declared.machine.step_done.StepDone.TheVariants.{Idle};
 ghost use Rattle.word_rule.specs.Line.{holding};
 ghost use Rattle.word_rule.specs.Machine.Opening.{IsOpening};
-ghost use Rattle.word_rule.specs.Machine.Orders.{is_at, arrivals, endings};
+ghost use Rattle.word_rule.specs.Machine.Orders.{is_at, arrivals, endings, arrives_at, ends_within};
 ghost use Rattle.word_rule.specs.Sound.{Sound};
 ghost use Rattle.word_rule.specs.Turns.{arrives};
 ghost use Rattle.word_rule.specs.Machine.World.{World, CellState, CpuState, run, step, run_of, opened_in};
 
 use event_log::SeqObject;
 
-/// The law of arrival. Whoever ends a hold on a cell does so in the order of arrival there. And whenever a call arrives,
-/// fewer calls have arrived there than have ended and there are CPUs: so until its own end fewer other calls end there than
-/// there are CPUs.
+/// The law of arrival. Whoever ends a hold on a cell does so in the order of arrival there. Whenever a call arrives, fewer
+/// calls have arrived there than have ended and there are CPUs. And after it has arrived, until its own end, fewer other calls
+/// end there than there are CPUs.
 pub fn first_come<O: SeqObject>()
     ensures order { (w : World O O.Params O.Call O.Reply) → IsOpening w → (schedule : List ℕ) (x : ℕ) →
         Begins (endings O.SeqObject x schedule w) (arrivals O.SeqObject x schedule w) }
     ensures few { (w : World O O.Params O.Call O.Reply) → IsOpening w → (schedule : List ℕ) (i x : ℕ) →
         arrives (step O.SeqObject (run O.SeqObject schedule w) i).1 ≡ true → is_at (run O.SeqObject schedule w) i x ≡ true →
         length (arrivals O.SeqObject x schedule w) < length (endings O.SeqObject x schedule w) + length w.cpus }
+    ensures until_its_end { (w : World O O.Params O.Call O.Reply) → IsOpening w → (schedule more : List ℕ) (i x : ℕ) →
+        arrives_at O.SeqObject (run O.SeqObject schedule w) i x ≡ true → ends_within O.SeqObject i x more (run O.SeqObject (schedule ++ i ∷ []) w) ≡ false →
+        length (endings O.SeqObject x more (run O.SeqObject (schedule ++ i ∷ []) w)) < length w.cpus }
 {}
 
 /// A CPU's step is idle exactly where its script is done.

@@ -34,8 +34,9 @@ returns-in-Ok-done-clause-run g c =
     let before = g.C.LockCell.pass_run c.args.pass in
     let looks = h.ensures.run.0 in (
       looks,
+      h.ensures.run.1,
       subst (λ z. HasHeld p before looks (left_by_batch p.acting z) (g.C.LockCell.pass_run r.result)) c.in-Ok-done.is
-          (held_batch g.O.SeqObject p before (g.C.LockCell.hold_run h.hold) (g.C.LockCell.hold_run a.new.hold) (g.C.LockCell.pass_run r.result) looks (g.C.LockCell.hold_view h.hold) (g.C.LockCell.hold_view a.new.hold) h.ensures.run.1 h.ensures.caller a.ensures.caller a.ensures.run r.ensures.run a.result a.ensures.after a.ensures.full),
+          (held_batch g.O.SeqObject p before (g.C.LockCell.hold_run h.hold) (g.C.LockCell.hold_run a.new.hold) (g.C.LockCell.pass_run r.result) looks (g.C.LockCell.hold_view h.hold) (g.C.LockCell.hold_view a.new.hold) h.ensures.run.2 h.ensures.caller a.ensures.caller a.ensures.run r.ensures.run a.result a.ensures.after a.ensures.full),
     )
 
 pub returns-in-Err-done-clause-declined_run : goal.returns-in-Err-done-clause-declined_run
@@ -47,6 +48,7 @@ returns-in-Err-done-clause-declined_run g c =
     let before = g.C.LockCell.pass_run c.args.pass in
     let looks = h.ensures.run.0 in (
       looks,
+      h.ensures.run.1,
       subst (λ z. HasHeld p before looks (left_by_batch p.acting z) (g.C.LockCell.pass_run r.result)) c.in-Err-done.is
-          (held_batch g.O.SeqObject p before (g.C.LockCell.hold_run h.hold) (g.C.LockCell.hold_run a.new.hold) (g.C.LockCell.pass_run r.result) looks (g.C.LockCell.hold_view h.hold) (g.C.LockCell.hold_view a.new.hold) h.ensures.run.1 h.ensures.caller a.ensures.caller a.ensures.run r.ensures.run a.result a.ensures.after a.ensures.full),
+          (held_batch g.O.SeqObject p before (g.C.LockCell.hold_run h.hold) (g.C.LockCell.hold_run a.new.hold) (g.C.LockCell.pass_run r.result) looks (g.C.LockCell.hold_view h.hold) (g.C.LockCell.hold_view a.new.hold) h.ensures.run.2 h.ensures.caller a.ensures.caller a.ensures.run r.ensures.run a.result a.ensures.after a.ensures.full),
     )

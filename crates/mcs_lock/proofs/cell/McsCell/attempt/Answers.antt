@@ -26,6 +26,7 @@ returns-clause-run g c = let p = c.args.pass in let t = state_of_trying c.ready-
     IfOk-weaker c.try_enter.result _ _
     (λ h e. (
       0,
+      omega arith,
       acquired_at_once g.O.SeqObject (view_of_pass p).caller (run_of_pass p) 0 h.logged [] (steps.Clear ∷ steps.Enter true ∷ []) _ _ t (state_of_hold h) record { before = steps.Clear ∷ []; last = steps.Enter true; is = refl; got = refl; once = refl; arrived = refl; unended = refl } (omega arith) (m.caller, m.extends) e.1 refl h.holds.ran.left,
     ))
     c.try_enter.ensures.got

@@ -12,6 +12,7 @@ returns-in-Ok-clause-run g c = let p = c.args.pass in let t = c.in-Ok.trying in 
     if_ok c.exchange.result
     (λ h x. (
       1,
+      omega arith,
       acquired_at_once g.O.SeqObject (view_of_pass p).caller (run_of_pass p) 1 h.logged [] (steps.Draw ∷ steps.Look true ∷ []) _ _ (state_of_trying t) (state_of_hold h) record { before = steps.Draw ∷ []; last = steps.Look true; is = refl; got = refl; once = refl; arrived = refl; unended = refl } (omega arith)
           (ap (λ z. z.caller) e.1, subst (Extends owned (run_of_pass p) []) (sym e.2) (extends_self owned (run_of_pass p))) x.1.1 refl h.holds.ran.left,
     ))
