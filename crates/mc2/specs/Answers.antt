@@ -59,6 +59,10 @@ module _ (held : Option (List ℕ) → Option (List ℕ)) where
   ReadsSettings None given = given ≡ built_in_settings
   ReadsSettings (Some name) given = (text : List ℕ) × Reads held (Some name) text × SpellsSettings text given
 
+  -- scripts, under that name, on the objects of these settings
+  abbrev pub ReadsScripts : Option (List ℕ) → Settings → Type 0
+  ReadsScripts name given = (text : List ℕ) × Reads held name text × (asked : List (List KernelTodo)) × AreScripts given text asked
+
   -- what `run` answers: a run of the scripts under that name, on the objects of the settings
   pub record AnswersRun (settings scripts : Option (List ℕ)) (r : Record) : Type 0 where
     pub given : Settings

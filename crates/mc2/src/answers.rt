@@ -1,7 +1,7 @@
 //! What the program answers: the record of a run or of a simulation, and the report on a record, its verdict or its order.
 
 ghost use Rattle.std.specs.Prelude.{◌≡◌, ◌<◌, ℕ, List, Some, IfOk, IfErr, string_bytes};
-ghost use Rattle.mc2.specs.Answers.{Reads, ReadsSettings, AnswersRun, AnswersSim, AnswersReport, AnswersAudit, AnswersMerge, RefusesUnsound, RefusesCycle, bytes_of};
+ghost use Rattle.mc2.specs.Answers.{Reads, ReadsSettings, ReadsScripts, AnswersRun, AnswersSim, AnswersReport, AnswersAudit, AnswersMerge, RefusesUnsound, RefusesCycle, bytes_of};
 ghost use Rattle.mc2.specs.Faults.{IsRefusal};
 ghost use Rattle.scripts.specs.RecordFaults.{IsBadLine};
 ghost use Rattle.scripts.specs.ScheduleText.{IsFirstBadWord};
@@ -33,7 +33,7 @@ pub fn run_answer<R: Threads + Wait + Sync, I: Inputs>(
     ensures answer { IfOk result (AnswersRun (I.held inputs.old) (bytes_of settings.entry) (bytes_of scripts.entry)) }
     ensures bad_settings { (bad : BadSettings) → result ≡ Err (Fault.BadSettings bad) → (text : List ℕ) × Reads (I.held inputs.old) (bytes_of settings.entry) text × IsSettingsFault text bad }
     ensures bad_scripts { (n : ℕ) → result ≡ Err (Fault.BadScripts n) → (given : Settings) × ReadsSettings (I.held inputs.old) (bytes_of settings.entry) given × (text : List ℕ) × Reads (I.held inputs.old) (bytes_of scripts.entry) text × IsFirstBad given text n }
-    ensures cpu { (cpu : ℕ) → result ≡ Err (Fault.NoThreadStarted cpu) → (given : Settings) × ReadsSettings (I.held inputs.old) (bytes_of settings.entry) given × (cpu < given.cpus) }
+    ensures cpu { (cpu : ℕ) → result ≡ Err (Fault.NoThreadStarted cpu) → (given : Settings) × ReadsSettings (I.held inputs.old) (bytes_of settings.entry) given × ReadsScripts (I.held inputs.old) (bytes_of scripts.entry) given × (cpu < given.cpus) }
     ensures refusal { IfErr result IsRefusal }
 {
     let settings = read_settings(alloc, inputs, settings)?;
@@ -54,7 +54,7 @@ pub fn sim_answer<I: Inputs>(
     ensures answer { IfOk result (AnswersSim (I.held inputs.old) settings.now scripts.now schedule.now) }
     ensures bad_settings { (bad : BadSettings) → result ≡ Err (Fault.BadSettings bad) → (text : List ℕ) × Reads (I.held inputs.old) (Some settings.now) text × IsSettingsFault text bad }
     ensures bad_scripts { (n : ℕ) → result ≡ Err (Fault.BadScripts n) → (given : Settings) × ReadsSettings (I.held inputs.old) (Some settings.now) given × (text : List ℕ) × Reads (I.held inputs.old) (Some scripts.now) text × IsFirstBad given text n }
-    ensures bad_schedule { (n : ℕ) → result ≡ Err (Fault.BadSchedule n) → (given : Settings) × ReadsSettings (I.held inputs.old) (Some settings.now) given × (text : List ℕ) × Reads (I.held inputs.old) (Some schedule.now) text × IsFirstBadWord given.cpus text n }
+    ensures bad_schedule { (n : ℕ) → result ≡ Err (Fault.BadSchedule n) → (given : Settings) × ReadsSettings (I.held inputs.old) (Some settings.now) given × ReadsScripts (I.held inputs.old) (Some scripts.now) given × (text : List ℕ) × Reads (I.held inputs.old) (Some schedule.now) text × IsFirstBadWord given.cpus text n }
     ensures refusal { IfErr result IsRefusal }
 {
     let settings = read_settings(alloc, inputs, Some(settings))?;
