@@ -21,7 +21,7 @@ use std::sync::Wait;
 use std::thread::Threads;
 use word_rule::LockKind;
 
-/// A new counter for at most 3, once two CPUs have called it behind a lock of that kind; none where memory is refused.
+/// A new counter for at most 3, once two CPUs have called it behind a lock of that kind; none if memory is refused.
 fn counted_by_two<R: Threads + Wait + Sync>(
     rt: &R,
     alloc: Global,
