@@ -7,7 +7,7 @@ use Rattle.cpu_worker.specs.Work.{FixedCell, KernelView}
 
 -- the cell around an object of the settings, for so many CPUs
 abbrev pub cell_for : ℕ → ObjectSettings → FixedCell
-cell_for cpus o = record { kind = o.lock; params = o.params; limit = o.events; numbers = cpus; opening = [] }
+cell_for cpus o = record { kind = o.lock; first = 0; params = o.params; limit = o.events; numbers = cpus; opening = [] }
 
 -- a cell for each object
 abbrev pub cells_for : Settings → List FixedCell

@@ -28,7 +28,7 @@ impl<O: SeqObject> AnyCell<O> {
         requires few { cpus ≤ MOST_CPUS }
         ensures kind { IfOk result (λ r. kind_of r.0 ≡ kind) }
         ensures count { IfOk result (λ r. vec_len r.1 ≡ cpus) }
-        ensures passes { IfOk result (λ r. EachAt (λ k p. IsPassOf r.0 p × (view_of_pass p ≡ first_pass kind logged cpus k)) r.1.items) }
+        ensures passes { IfOk result (λ r. EachAt (λ k p. IsPassOf r.0 p × (view_of_pass p ≡ first_pass kind 0 logged cpus k)) r.1.items) }
         ensures runs { IfOk result (λ r. EachAt (λ k p. run_of_pass p ≡ []) r.1.items) }
         ensures unchanged { IfErr result (λ e. e.1 ≡ logged) }
     {

@@ -118,7 +118,7 @@ module _ {O P C R : Type 0} (meaning : Ghosts O P C R) (h : Cell O P C R) where
         let mine = r.each id v there in
         let below = (mine.main.owns p acts).1 in
         let at = mine.main.stands acts ∙ is in
-        let runs = not_turned meaning kinds.Mcs h s r p (ready l p) (plain_ready l p at) in (
+        let runs = not_turned meaning kinds.Mcs h s r p (ready l p) (plain_ready l p at) refl in (
           moved_on v Trying r.state.committed (r.state.run ++ []),
           keeps,
           tt,
@@ -180,7 +180,7 @@ module _ {O P C R : Type 0} (meaning : Ghosts O P C R) (h : Cell O P C R) where
         let first = turns.tries_first l p 0 r.tied.kind_is none in
         let two = ap (λ z. attempt z p 0) (sym again) ∙ clears_and_enters (unready l p) p 0 r.tied.kind_is idle_there (queue.no_last l.line.cpus none) in
         let cleared : is_trying ((turn (unready l p) p).0.line.stage p) ≡ false = ap (λ z. is_trying (z.0.line.stage p)) (turns.turned (unready l p) p Idle r.tied.kind_is idle_there) ∙ ap is_trying (moved_same (unready l p).line.stage p (Mcs Ready)) in
-        let runs = turned_twice meaning kinds.Mcs h s r p (unready l p) l' steps.Clear (steps.Enter true) below plainly (ap is_trying idle_there) cleared (sym first ∙ two) in
+        let runs = turned_twice meaning kinds.Mcs h s r p (unready l p) l' steps.Clear (steps.Enter true) below plainly refl (ap is_trying idle_there) cleared (sym first ∙ two) in
         let so = does_so p r.state.run (attempt l p 0) l' done run' first (goes_silently p r.state.run done) in (
           settled v q r.state.committed run',
           takes 0 (Some (stored meaning h r.state.committed)),
@@ -191,7 +191,7 @@ module _ {O P C R : Type 0} (meaning : Ghosts O P C R) (h : Cell O P C R) where
           so.1,
         ))
         (λ some_one. let t = turns.tail_names n s.words l r.tied some_one in
-        let runs = not_turned meaning kinds.Mcs h s r p (unready l p) plainly in
+        let runs = not_turned meaning kinds.Mcs h s r p (unready l p) plainly refl in
         let so = does_so p r.state.run (attempt l p 0) (unready l p) [] (r.state.run ++ []) (turns.tries_busy l p 0 r.tied.kind_is t.0 t.1) (goes_silently p r.state.run []) in (
           moved_on v Idle r.state.committed (r.state.run ++ []),
           keeps,

@@ -25,13 +25,13 @@ impl<O: SeqObject> McsCell<O> {
         requires some { 0 < cpus }
         requires few { cpus ≤ MOST_CPUS }
         ensures count { IfOk result (λ r. vec_len r.1 ≡ cpus) }
-        ensures passes { IfOk result (λ r. EachAt (λ k p. IsPassOf r.0 p × (view_of_pass p ≡ first_pass Mcs logged cpus k)) r.1.items) }
+        ensures passes { IfOk result (λ r. EachAt (λ k p. IsPassOf r.0 p × (view_of_pass p ≡ first_pass Mcs 0 logged cpus k)) r.1.items) }
         ensures runs { IfOk result (λ r. EachAt (λ k p. run_of_pass p ≡ []) r.1.items) }
         ensures unchanged { IfErr result (λ e. e.1 ≡ logged) }
     {
         let zeros = [0u64; MOST_WORDS];
         let words = &zeros[..1 + 2 * cpus as usize];
-        let (table, passes) = LockTable::open(alloc, LockKind::Mcs, words, logged, cpus)?;
+        let (table, passes) = LockTable::open(alloc, LockKind::Mcs, 0, words, logged, cpus)?;
         Ok((McsCell { table, cpus }, passes))
     }
 }

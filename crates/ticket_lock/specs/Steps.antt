@@ -6,9 +6,12 @@ use Rattle.event_log.specs.History.{History}
 use Rattle.word_rule.specs.declared.machine.step_done.StepDone.TheVariants as steps
 use Rattle.word_rule.specs.declared.stage.Stage.TheVariants.{Idle, Ticket}
 use Rattle.word_rule.specs.declared.stage.TicketStage.TheVariants.{Drawn, Served}
+use Rattle.word_rule.specs.Cell.{Cell}
 use Rattle.word_rule.specs.Locks.{tickets}
+use Rattle.word_rule.specs.Rule.Callers.{caller_of}
 use Rattle.word_rule.specs.Rule.Seats.{Seat, noted}
 use Rattle.word_rule.specs.Rule.Announced.{Lacks, Goes, Lags, Gets, Returns}
+use Rattle.word_rule.specs.TicketSteps.{HasDrawn}
 
 module _ {O P C R : Type 0} where
   -- the caller keeps the word that was found; where its halves differ the seat doesn't have every number
@@ -24,9 +27,13 @@ module _ {O P C R : Type 0} where
   serves st m n m' = Returns Idle steps.Serve m m'
 
 module _ {O P C R : Type 0} (meaning : Ghosts O P C R) where
-  -- the high half that was found is the ticket
+  -- the high half that was found is the ticket, which is the next one
+  pub record Draws (m : Seat O P C R) (n : ℕ) (m' : Seat O P C R) : Type 0 where
+    pub goes : Goes meaning (Ticket (Drawn (n / tickets))) (steps.Draw ∷ []) m m'
+    pub drawn : (h : Cell O P C R) → m.0.told ≡ h ∷ [] → HasDrawn (caller_of h m.0) (n / tickets) m'.0.main.run
+
   abbrev pub draws : Step (Option (History O P C R)) → Seat O P C R → ℕ → Seat O P C R → Type 0
-  draws st m n m' = Goes meaning (Ticket (Drawn (n / tickets))) (steps.Draw ∷ []) m m'
+  draws st m n m' = Draws m n m'
 
   -- the object comes where the served ticket is the caller's, and only then; else the seat doesn't have every number
   pub record LookOutcome (t : ℕ) (m : Seat O P C R) (n : ℕ) (m' : Seat O P C R) : Type 0 where

@@ -70,8 +70,8 @@ module _ {O P C R : Type 0} (h : Cell O P C R) (kind : LockKind) (first : ℕ) w
 
 module _ {O P C R : Type 0} (meaning : Ghosts O P C R) where
   -- the opening log is lawful for the cell
-  pub opens_lawful : (k : LockKind) (x : History O P C R) (n : ℕ) → IsKept meaning x → Lawful meaning (cell_of k n x) x.log
-  opens_lawful k x n kept = record {
+  pub opens_lawful : (k : LockKind) (f : ℕ) (x : History O P C R) (n : ℕ) → IsKept meaning x → Lawful meaning (cell_of k f n x) x.log
+  opens_lawful k f x n kept = record {
     begins = begins_self x.log;
     legal = kept.legal;
     within = kept.within;
@@ -79,19 +79,19 @@ module _ {O P C R : Type 0} (meaning : Ghosts O P C R) where
   }
 
   -- and what it is made of is what it stores
-  pub opens_stored : (k : LockKind) (x : History O P C R) (n : ℕ) → IsKept meaning x → x ≡ stored meaning (cell_of k n x) x.log
-  opens_stored k x n kept i = record { params = x.params; limit = x.limit; log = x.log; state = kept.replayed i }
+  pub opens_stored : (k : LockKind) (f : ℕ) (x : History O P C R) (n : ℕ) → IsKept meaning x → x ≡ stored meaning (cell_of k f n x) x.log
+  opens_stored k f x n kept i = record { params = x.params; limit = x.limit; log = x.log; state = kept.replayed i }
 
 module _ {O P C R : Type 0} (meaning : Ghosts O P C R) (kind : LockKind) where
-  pub opens : (ws : List ℕ) (x : History O P C R) (n first : ℕ) → IsKept meaning x → IsLockOf kind n ws (opening_lock kind first) → CellInvariant meaning kind (cell_of kind n x) (opening ws (Some x ∷ []) (first_view (cell_of kind n x)))
+  pub opens : (ws : List ℕ) (x : History O P C R) (n first : ℕ) → IsKept meaning x → IsLockOf kind n ws (opening_lock kind first) → CellInvariant meaning kind (cell_of kind first n x) (opening ws (Some x ∷ []) (first_view (cell_of kind first n x)))
   opens ws x n first kept tied = record {
-    state = start (cell_of kind n x) kind first;
+    state = start (cell_of kind first n x) kind first;
     tied = tied;
-    ran = no_run (cell_of kind n x) (λ is. ticket_few kind n (opening_lock kind first) tied.state is);
-    made = λ f. opens_plainly kind first f;
-    lawful = opens_lawful meaning kind x n kept;
-    at_home = λ _. ap (λ z. some (some (Some z))) (opens_stored meaning kind x n kept);
-    each = one (cell_of kind n x) kind first;
+    ran = no_run (cell_of kind first n x) (λ is. ticket_few kind n (opening_lock kind first) tied.state is);
+    made = record { plainly = λ f. opens_plainly kind first f; serves = refl };
+    lawful = opens_lawful meaning kind first x n kept;
+    at_home = λ _. ap (λ z. some (some (Some z))) (opens_stored meaning kind first x n kept);
+    each = one (cell_of kind first n x) kind first;
   }
 
   -- what the end of a cell finds where a pass has each number: the object at home, the log and the run that the pass has seen,
@@ -110,7 +110,7 @@ module _ {O P C R : Type 0} (meaning : Ghosts O P C R) (kind : LockKind) where
       (λ below. know.main.grows.own z (all.each z below))
       (λ not. of_opening z h.numbers b.committed h.opening (omega arith) r.lawful.begins r.lawful.numbered ∙ sym (of_opening z h.numbers v.main.seen h.opening (omega arith) part.lawful.begins part.lawful.numbered))) in
       let whole = same_run h.numbers (λ x. has x v.main.owned) v.main.run b.run know.main.extends all.each (all_inside h.numbers b.run r.ran.each) in
-      let none : (lock_after b.run (opening_lock h.kind 0)).line.cpus ≡ [] = sym (ap (λ z. z.line.cpus) (r.made 0)) ∙ idle_empty kind h.numbers b.lock r.tied.state idle in
+      let none : (lock_after b.run (opening_lock h.kind 0)).line.cpus ≡ [] = sym (ap (λ z. z.line.cpus) (r.made.plainly 0)) ∙ idle_empty kind h.numbers b.lock r.tied.state idle in
       record {
         home = r.at_home home ∙ ap (λ l. some (some (Some (stored meaning h l)))) same;
         ended = subst (λ (run : List (Moment (Event O P C R))). endings_in run ≡ arrivals_in run) whole (all_ended h b.committed b.run r.ran none);

@@ -1,8 +1,10 @@
 pub mod Lists
 pub mod PlainTurns
 pub mod RunLists
+pub mod Serving
 pub mod Runs
 pub mod RunOrder
+pub mod TicketsServed
 pub mod OneHolds
 pub mod Stays
 pub mod Known

@@ -21,9 +21,9 @@ module _ {O P C R : Type 0} where
     each = λ k below. both k ∙ ((λ i. two k i || other k i) ∙ ((λ i. ((is_a i).owned k || (is_b i).owned k) || ((is_c i).owned k || (is_d i).owned k)) ∙ all k (subst (λ (z : Cell O P C R). k < z.numbers) (cell ∙ (front ∙ ap (λ z. z.cell) is_a)) below)));
   }
 
-module _ {O P C R : Type 0} {kind : LockKind} where
+module _ {O P C R : Type 0} {kind : LockKind} {ticket : ℕ} where
   -- the only pass of a cell of one CPU
-  pub owns_alone : (x : History O P C R) (p : PassView O P C R) → p ≡ first_pass kind x 1 0 → OwnsAll p.caller
+  pub owns_alone : (x : History O P C R) (p : PassView O P C R) → p ≡ first_pass kind ticket x 1 0 → OwnsAll p.caller
   owns_alone x p is = subst (λ (z : PassView O P C R). OwnsAll z.caller) (sym is) (record { each = alone })
     where
       alone : (k : ℕ) → k < 1 → (k == 0) ≡ true
@@ -31,24 +31,24 @@ module _ {O P C R : Type 0} {kind : LockKind} where
       alone (suc k) lt = absurd (omega arith)
 
   -- the two passes of a cell of two CPUs, in either order
-  pub own_both : (x : History O P C R) (p q : PassView O P C R) → p ≡ first_pass kind x 2 0 → q ≡ first_pass kind x 2 1 → OwnTogether p.caller q.caller
-  own_both x p q first second = still_together (first_pass kind x 2 0).caller p.caller (first_pass kind x 2 1).caller q.caller (ap (λ z. z.caller) first) (ap (λ z. z.caller) second) each
+  pub own_both : (x : History O P C R) (p q : PassView O P C R) → p ≡ first_pass kind ticket x 2 0 → q ≡ first_pass kind ticket x 2 1 → OwnTogether p.caller q.caller
+  own_both x p q first second = still_together (first_pass kind ticket x 2 0).caller p.caller (first_pass kind ticket x 2 1).caller q.caller (ap (λ z. z.caller) first) (ap (λ z. z.caller) second) each
     where
-      each : OwnTogether (first_pass kind x 2 0).caller (first_pass kind x 2 1).caller
+      each : OwnTogether (first_pass kind ticket x 2 0).caller (first_pass kind ticket x 2 1).caller
       each zero lt = refl
       each (suc zero) lt = refl
       each (suc (suc k)) lt = absurd (omega arith)
 
-  pub own_both_turned : (x : History O P C R) (p q : PassView O P C R) → p ≡ first_pass kind x 2 0 → q ≡ first_pass kind x 2 1 → OwnTogether q.caller p.caller
-  own_both_turned x p q first second = still_together (first_pass kind x 2 1).caller q.caller (first_pass kind x 2 0).caller p.caller (ap (λ z. z.caller) second) (ap (λ z. z.caller) first) each
+  pub own_both_turned : (x : History O P C R) (p q : PassView O P C R) → p ≡ first_pass kind ticket x 2 0 → q ≡ first_pass kind ticket x 2 1 → OwnTogether q.caller p.caller
+  own_both_turned x p q first second = still_together (first_pass kind ticket x 2 1).caller q.caller (first_pass kind ticket x 2 0).caller p.caller (ap (λ z. z.caller) second) (ap (λ z. z.caller) first) each
     where
-      each : OwnTogether (first_pass kind x 2 1).caller (first_pass kind x 2 0).caller
+      each : OwnTogether (first_pass kind ticket x 2 1).caller (first_pass kind ticket x 2 0).caller
       each zero lt = refl
       each (suc zero) lt = refl
       each (suc (suc k)) lt = absurd (omega arith)
 
   -- the four passes of a cell of four CPUs
-  pub own_four : (x : History O P C R) (p q r s : PassView O P C R) → p ≡ first_pass kind x 4 0 → q ≡ first_pass kind x 4 1 → r ≡ first_pass kind x 4 2 → s ≡ first_pass kind x 4 3 →
+  pub own_four : (x : History O P C R) (p q r s : PassView O P C R) → p ≡ first_pass kind ticket x 4 0 → q ≡ first_pass kind ticket x 4 1 → r ≡ first_pass kind ticket x 4 2 → s ≡ first_pass kind ticket x 4 3 →
       (k : ℕ) → k < p.caller.cell.numbers → ((p.caller.owned k || q.caller.owned k) || (r.caller.owned k || s.caller.owned k)) ≡ true
   own_four x p q r s first second third fourth k lt =
       subst (λ (z : PassView O P C R). ((z.caller.owned k || q.caller.owned k) || (r.caller.owned k || s.caller.owned k)) ≡ true) (sym first)

@@ -9,11 +9,13 @@ use Rattle.word_rule.specs.Cell.{Cell}
 use Rattle.word_rule.specs.LockRuns.{events_in, lock_after, turns_after, AreTurns, IsMoment, HasRun}
 use Rattle.word_rule.specs.Locks.{Lock, opening_lock, tickets}
 use Rattle.word_rule.specs.OneHold.{leaving, silently}
+use Rattle.word_rule.specs.Rule.CellInvariant.{IsMade}
 use Rattle.word_rule.specs.Rule.Definition.{GoesOn}
 use Rattle.word_rule.specs.Rule.Plain.{plain}
 use Rattle.word_rule.specs.Turns.{turn}
 use Rattle.word_rule.proofs.PlainTurns.{is_trying, IsWhole, turn_whole, turn_plainly}
 use Rattle.word_rule.proofs.RunLists.{events_append, silent_own}
+use Rattle.word_rule.proofs.Serving.{serve_alike}
 
 module _ {E : Type 0} where
   pub after_push : (run : List (Moment E)) (m : Moment E) (l : Lock) → lock_after (run ++ m ∷ []) l ≡ (turn (lock_after run l) m.cpu).0
@@ -40,31 +42,34 @@ module _ {E : Type 0} where
   never_trying (m ∷ ms) l h = never_trying ms (turn l m.cpu).0 (turn_whole l m.cpu h l.kind)
 
 module _ {O P C R : Type 0} (h : Cell O P C R) where
-  -- the lock is plainly what the run makes of the lock before its first step
-  abbrev pub IsMade : Lock → List (Moment (Event O P C R)) → Type 0
-  IsMade l run = (first : ℕ) → plain l ≡ plain (lock_after run (opening_lock h.kind first))
+  -- the lock, and the one that the run comes to: one that has readied no try does the same step at both
+  one_turn : (l : Lock) (run : List (Moment (Event O P C R))) (p first : ℕ) → IsMade h l run → is_trying (l.line.stage p) ≡ false
+      → let l' : Lock = lock_after run (opening_lock h.kind first) in ((turn l p).1 ≡ (turn l' p).1) × (plain (turn l p).0 ≡ plain (turn l' p).0)
+  one_turn l run p first made not = turn_plainly l (lock_after run (opening_lock h.kind first)) p (made.plainly first) not (never_trying run (opening_lock h.kind first) (λ x. refl) p)
 
   -- one step more, by one that has readied no try
-  pub made_push : (l : Lock) (run : List (Moment (Event O P C R))) (p : ℕ) (events : List (Event O P C R)) → IsMade l run → is_trying (l.line.stage p) ≡ false → IsMade (turn l p).0 (run ++ leaving p (turn l p).1 events ∷ [])
-  made_push l run p events made not first =
-      let l' : Lock = lock_after run (opening_lock h.kind first) in
+  pub made_push : (l : Lock) (run : List (Moment (Event O P C R))) (p : ℕ) (events : List (Event O P C R)) → IsMade h l run → is_trying (l.line.stage p) ≡ false → IsMade h (turn l p).0 (run ++ leaving p (turn l p).1 events ∷ [])
+  made_push l run p events made not =
       let m : Moment (Event O P C R) = leaving p (turn l p).1 events in
-      (turn_plainly l l' p (made first) not (never_trying run (opening_lock h.kind first) (λ x. refl) p)).1 ∙ ap plain (sym (after_push run m (opening_lock h.kind first)))
+      let l' : Lock = lock_after run (opening_lock h.kind h.first) in
+      record {
+        plainly = λ first. (one_turn l run p first made not).1 ∙ ap plain (sym (after_push run m (opening_lock h.kind first)));
+        serves = serve_alike l l' p (ap (λ z. z.kind) (made.plainly h.first)) (one_turn l run p h.first made not).0 made.serves ∙ ap (λ z. z.serving) (sym (after_push run m (opening_lock h.kind h.first)));
+      }
 
-  pub run_push : (l : Lock) (log : List (Event O P C R)) (run : List (Moment (Event O P C R))) (p : ℕ) (events : List (Event O P C R)) → IsMade l run → HasRun h log run → is_trying (l.line.stage p) ≡ false → IsMoment h.numbers (leaving p (turn l p).1 events)
+  pub run_push : (l : Lock) (log : List (Event O P C R)) (run : List (Moment (Event O P C R))) (p : ℕ) (events : List (Event O P C R)) → IsMade h l run → HasRun h log run → is_trying (l.line.stage p) ≡ false → IsMoment h.numbers (leaving p (turn l p).1 events)
       → HasRun h (log ++ events) (run ++ leaving p (turn l p).1 events ∷ [])
   run_push l log run p events made ran not is =
       let m : Moment (Event O P C R) = leaving p (turn l p).1 events in
       record {
-        turns = λ first. let l' : Lock = lock_after run (opening_lock h.kind first) in
-            turns_push run m (opening_lock h.kind first) (ran.turns first) (turn_plainly l l' p (made first) not (never_trying run (opening_lock h.kind first) (λ x. refl) p)).0;
+        turns = λ first. turns_push run m (opening_lock h.kind first) (ran.turns first) (one_turn l run p first made not).0;
         left = ap (λ z. z ++ events) ran.left ∙ (append_assoc h.opening (events_in run) events ∙ ap (λ z. h.opening ++ z) (sym (events_append run (m ∷ []) ∙ ap (λ z. events_in run ++ z) (append-nil events))));
         each = all_push (IsMoment h.numbers) run m ran.each is;
         few = ran.few;
       }
 
   -- a step that leaves no event
-  pub silent_push : (l : Lock) (log : List (Event O P C R)) (run : List (Moment (Event O P C R))) (p : ℕ) → IsMade l run → HasRun h log run → is_trying (l.line.stage p) ≡ false → p < h.numbers → HasRun h log (run ++ leaving p (turn l p).1 [] ∷ [])
+  pub silent_push : (l : Lock) (log : List (Event O P C R)) (run : List (Moment (Event O P C R))) (p : ℕ) → IsMade h l run → HasRun h log run → is_trying (l.line.stage p) ≡ false → p < h.numbers → HasRun h log (run ++ leaving p (turn l p).1 [] ∷ [])
   silent_push l log run p made ran not below = subst (λ z. HasRun h z (run ++ leaving p (turn l p).1 [] ∷ [])) (append-nil log) (run_push l log run p [] made ran not record { inside = below; own = tt; silent = λ _. refl })
 
   -- before the first step

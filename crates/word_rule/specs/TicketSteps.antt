@@ -1,15 +1,27 @@
 -- The steps of a ticket lock, one relation for each kind.
-use Rattle.std.specs.Prelude.{ℕ, Bool, true, false, [], ◌∷◌}
+use Rattle.std.specs.Prelude.{◌≡◌, ℕ, ◌+◌, ◌%◌, Bool, true, false, List, [], ◌∷◌, ◌++◌, length}
 use Rattle.event_log.specs.declared.object.SeqObject.{Ghosts}
+use Rattle.event_log.specs.declared.event.Event.{Event}
 use Rattle.word_rule.specs.declared.machine.step_done.StepDone.TheVariants as steps
 use Rattle.word_rule.specs.declared.stage.Stage.TheVariants.{Idle, Ticket}
 use Rattle.word_rule.specs.declared.stage.TicketStage.TheVariants.{Drawn, Served}
+use Rattle.word_rule.specs.declared.view.Moment.{Moment}
 use Rattle.word_rule.specs.CallerState.{CallerState, Moves, Takes, Gives, NeedsAnother}
+use Rattle.word_rule.specs.Cell.{Caller}
+use Rattle.word_rule.specs.LockRuns.{arrivals_in}
+use Rattle.word_rule.specs.Locks.{tickets}
+use Rattle.word_rule.specs.OneHold.{leaving}
+
+-- the run ends with the caller's draw, and the ticket is the cell's first one and as many more as had arrived in line before
+pub record HasDrawn {O P C R : Type 0} (caller : Caller O P C R) (ticket : ℕ) (run : List (Moment (Event O P C R))) : Type 0 where
+  pub before : List (Moment (Event O P C R))
+  pub is : run ≡ before ++ leaving caller.acting steps.Draw [] ∷ []
+  pub number : ticket ≡ (caller.cell.first + length (arrivals_in before)) % tickets
 
 module _ {O P C R : Type 0} (meaning : Ghosts O P C R) (before after : CallerState O P C R) where
-  -- the caller joins the line's end, and has a ticket
+  -- the caller joins the line's end, and has the next ticket
   abbrev pub IsDraw : Type 0
-  IsDraw = (ticket : ℕ) × Moves meaning Idle (Ticket (Drawn ticket)) (steps.Draw ∷ []) before after
+  IsDraw = (ticket : ℕ) × Moves meaning Idle (Ticket (Drawn ticket)) (steps.Draw ∷ []) before after × HasDrawn before.caller ticket after.run
 
   -- the caller looks whether its ticket is served: it gets the object, or has looked in vain
   abbrev pub IsLook : Bool → Type 0

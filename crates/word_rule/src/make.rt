@@ -1,6 +1,6 @@
 //! The opening of a cell and its end, whichever lock it has.
 
-ghost use Rattle.std.specs.Prelude.{◌≡◌, ℕ, ◌<◌, ◌≤◌, [], length, IfOk, IfErr, vec_len, vec_capacity};
+ghost use Rattle.std.specs.Prelude.{◌≡◌, ◌<◌, ◌≤◌, [], length, IfOk, IfErr, vec_len, vec_capacity};
 ghost use Rattle.word_rule.specs.Cell.{Lawful, EachAt, OwnsAll, cell_of, opening_pass, first_pass, stored};
 ghost use Rattle.word_rule.specs.LockRuns.{endings_in, arrivals_in};
 ghost use Rattle.word_rule.specs.Locks.{opening_lock};
@@ -15,22 +15,23 @@ use std::alloc::Global;
 use std::snapshot::Snapshot;
 
 impl<O: SeqObject> LockTable<O> {
-    /// The table of a new cell, whose words are those of its lock before the first step, and a pass for each CPU, in
-    /// order: pass k owns the CPU k and has seen the log of the given object. Where there is no memory the object comes
-    /// back as it was.
+    /// The table of a new cell, whose words are those of its lock before the first step, with this first ticket, and a pass for
+    /// each CPU, in order: pass k owns the CPU k and has seen the log of the given object. Where there is no memory the object
+    /// comes back as it was.
     pub fn open(
         alloc: Global,
         kind: LockKind,
+        first: u32,
         words: &[u64],
         logged: Logged<O>,
         cpus: u8,
     ) -> Result<(LockTable<O>, Vec<Pass<O>>), (OutOfMemory, Logged<O>)>
         requires some { 0 < length words.now }
-        requires defined { (first : ℕ) × IsLockOf kind cpus words.now (opening_lock kind first) }
-        ensures key { IfOk result (λ r. r.0.table.shared.key ≡ cell_of kind cpus logged) }
+        requires defined { IsLockOf kind cpus words.now (opening_lock kind first) }
+        ensures key { IfOk result (λ r. r.0.table.shared.key ≡ cell_of kind first cpus logged) }
         ensures words { IfOk result (λ r. r.0.table.shared.table_id.words ≡ length words.now) }
         ensures count { IfOk result (λ r. vec_len r.1 ≡ cpus) }
-        ensures passes { IfOk result (λ r. EachAt (λ k p. IsPassAt r.0 p × (view_of_pass p ≡ first_pass kind logged cpus k)) r.1.items) }
+        ensures passes { IfOk result (λ r. EachAt (λ k p. IsPassAt r.0 p × (view_of_pass p ≡ first_pass kind first logged cpus k)) r.1.items) }
         ensures runs { IfOk result (λ r. EachAt (λ k p. run_of_pass p ≡ []) r.1.items) }
         ensures unchanged { IfErr result (λ e. e.1 ≡ logged) }
     {
@@ -40,7 +41,7 @@ impl<O: SeqObject> LockTable<O> {
         let Ok(mut slots) = Vec::with_capacity(alloc, 1) else {
             return Err((OutOfMemory, logged));
         };
-        let key = Key::of(kind, cpus, &logged);
+        let key = Key::of(kind, first, cpus, &logged);
         slots.push_reserved(Some(logged));
         match Table::new(alloc, words, slots, &key) {
             Ok((table, seat)) => {

@@ -68,13 +68,19 @@ module _ {O P C R : Type 0} (h : Cell O P C R) (b : GhostState O P C R) where
     pub main : CallerInvariant h.numbers b j 0 v.main
     pub others : EachFrom (CallerInvariant h.numbers b j) 1 v.others
 
--- the rule, for such a lock: the words are those of a state of it, which is, but for what `plain` leaves out, what the run makes of
--- the lock before its first step; the run left the committed log, of which the object at home is the replay
+-- the lock that the run makes of the cell's lock before its first step: it is that one but for what `plain` leaves out, and would
+-- be with any first ticket; and it serves the ticket that the run comes to from the cell's first one
+pub record IsMade {O P C R : Type 0} (h : Cell O P C R) (l : Lock) (run : List (Moment (Event O P C R))) : Type 0 where
+  pub plainly : (first : ℕ) → plain l ≡ plain (lock_after run (opening_lock h.kind first))
+  pub serves : l.serving ≡ (lock_after run (opening_lock h.kind h.first)).serving
+
+-- the rule, for such a lock: the words are those of a state of it, which is the one that the run makes; the run left the committed
+-- log, of which the object at home is the replay
 pub record CellInvariant {O P C R : Type 0} (meaning : Ghosts O P C R) (kind : LockKind) (h : Cell O P C R) (s : Table O P C R) : Type 0 where
   pub state : GhostState O P C R
   pub tied : IsLockOf kind h.numbers s.words state.lock
   pub ran : HasRun h state.committed state.run
-  pub made : (first : ℕ) → plain state.lock ≡ plain (lock_after state.run (opening_lock h.kind first))
+  pub made : IsMade h state.lock state.run
   pub lawful : Lawful meaning h state.committed
   pub at_home : state.lock.line.out ≡ false → get_elem? s.homes 0 ≡ some (some (Some (stored meaning h state.committed)))
   pub each : (j : ℕ) (v : Viewed O P C R) → get_elem? s.views j ≡ some v → SeatInvariant h state j v

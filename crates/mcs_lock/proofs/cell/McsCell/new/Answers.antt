@@ -5,4 +5,4 @@ use Rattle.mcs_lock.proofs.cell.McsCell.new.Goals as goal
 
 pub open-requires : goal.open-requires
 open-requires g c = let n = c.args.cpus in let few = c.requires.few in
-    record { some = search rules; defined = (0, starts_mcs n 0 _ (take-replicate (1 + 2 * n) 17 0 (omega arith))) }
+    record { some = search rules; defined = starts_mcs n 0 _ (take-replicate (1 + 2 * n) 17 0 (omega arith)) }

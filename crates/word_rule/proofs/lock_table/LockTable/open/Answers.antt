@@ -14,7 +14,7 @@ new-requires g c = let kind = c.args.kind in
     let M = Option (History g.row.O.Denot g.row.O-Params.Denot g.row.O-Call.Denot g.row.O-Reply.Denot) in
     let K = Cell g.row.O.Denot g.row.O-Params.Denot g.row.O-Call.Denot g.row.O-Reply.Denot in
     subst (λ (z : K × List M). CellInvariant g.O.SeqObject z.0.kind z.0 (opening c.args.words.now z.1 (first_view z.0))) (λ i. (sym k i, sym e i))
-    (opens g.O.SeqObject kind c.args.words.now c.args.logged c.args.cpus c.requires.defined.0 c.of-key.ensures.kept c.requires.defined.1)
+    (opens g.O.SeqObject kind c.args.words.now c.args.logged c.args.cpus c.args.first c.of-key.ensures.kept c.requires.defined)
 
 pub deal-passes-requires : goal.deal-passes-requires
 deal-passes-requires g c = let o = c.in-Ok-new.ensures.ok in let k = c.of-key.ensures.value in (
@@ -27,7 +27,7 @@ deal-passes-requires g c = let o = c.in-Ok-new.ensures.ok in let k = c.of-key.en
         (o.2, o.4, ap (λ z. z.numbers) k),
         (
           search rules,
-          subst (λ z. Lawful g.O.SeqObject z z.opening) (sym k) (opens_lawful g.O.SeqObject c.args.kind c.args.logged c.args.cpus c.of-key.ensures.kept),
+          subst (λ z. Lawful g.O.SeqObject z z.opening) (sym k) (opens_lawful g.O.SeqObject c.args.kind c.args.first c.args.logged c.args.cpus c.of-key.ensures.kept),
         ),
       ),
     ),

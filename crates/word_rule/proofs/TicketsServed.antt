@@ -1,0 +1,73 @@
+-- A ticket lock serves the first ticket and as many more as holds have ended in its run, and its word goes by what the run makes.
+use Rattle.std.proofs.Common.{◌≡◌, ℕ, ◌+◌, ◌%◌, ◌<◌, Bool, true, false, cond, List, [], ◌∷◌, ◌++◌, length, length-append, refl, sym, ap, ◌∙◌, subst, arith}
+use Rattle.std.proofs.Math.Nat.{mod-add-mod, mod-lt, mod-eq_of_lt}
+use Rattle.event_log.specs.declared.object.SeqObject.{Ghosts}
+use Rattle.word_rule.specs.declared.lock_kind.LockKind.{LockKind}
+use Rattle.word_rule.specs.declared.lock_kind.LockKind.TheVariants as kinds
+use Rattle.word_rule.specs.declared.machine.step_done.StepDone.TheVariants as steps
+use Rattle.word_rule.specs.declared.view.Moment.{Moment}
+use Rattle.word_rule.specs.Cell.{Cell}
+use Rattle.word_rule.specs.LockRuns.{lock_after, AreTurns, arrivals_in, endings_in}
+use Rattle.word_rule.specs.Locks.{Lock, opening_lock, tickets}
+use Rattle.word_rule.specs.LockWords.{ticket_word, words_of, lock_words}
+use Rattle.word_rule.specs.OneHold.{leaving}
+use Rattle.word_rule.specs.Rule.Callers.{caller_of}
+use Rattle.word_rule.specs.Rule.CellInvariant.{Viewed, Table, SeatInvariant, CellInvariant}
+use Rattle.word_rule.specs.TicketSteps.{HasDrawn}
+use Rattle.word_rule.specs.Turns.{turn, ends_hold}
+use Rattle.word_rule.proofs.Known.{same_cell}
+use Rattle.word_rule.proofs.RunOrder.{first_of, behind_of, line_left}
+use Rattle.word_rule.proofs.Serving.{served_after, turn_serves}
+
+-- one step, which may end a hold, and then so many endings
+one_end : (b : Bool) (s i : ℕ) (ended : List ℕ) → (cond b ((s + 1) % tickets) s + length ended) % tickets ≡ (s + length (cond b (i ∷ ended) ended)) % tickets
+one_end true s i ended = mod-add-mod (s + 1) tickets (length ended) ∙ ap (λ (k : ℕ). k % tickets) (omega arith)
+one_end false s i ended = refl
+
+still_small : (b : Bool) (s : ℕ) → s < tickets → cond b ((s + 1) % tickets) s < tickets
+still_small true s small = mod-lt (s + 1) (omega arith)
+still_small false s small = small
+
+module _ {E : Type 0} where
+  run_serves : (run : List (Moment E)) (l : Lock) → l.kind ≡ kinds.Ticket → l.serving < tickets → AreTurns run l → (lock_after run l).serving ≡ (l.serving + length (endings_in run)) % tickets
+  run_serves [] l kind small are = sym (ap (λ (k : ℕ). k % tickets) (omega arith) ∙ mod-eq_of_lt small)
+  run_serves (m ∷ ms) l kind small are =
+      let t = turn_serves l m.cpu l.kind in
+      let step : m.step ≡ (turn l m.cpu).1 = ap (first_of (turn l m.cpu).1) are in
+      let now : (turn l m.cpu).0.serving ≡ cond (ends_hold m.step) ((l.serving + 1) % tickets) l.serving = t.serving ∙ (λ j. served_after (kind j) l.serving (sym step j)) in
+      let below : (turn l m.cpu).0.serving < tickets = subst (λ (k : ℕ). k < tickets) (sym now) (still_small (ends_hold m.step) l.serving small) in
+      run_serves ms (turn l m.cpu).0 (t.kind ∙ kind) below (ap behind_of are)
+      ∙ (ap (λ (k : ℕ). (k + length (endings_in ms)) % tickets) now ∙ one_end (ends_hold m.step) l.serving m.cpu (endings_in ms))
+
+module _ {O P C R : Type 0} (meaning : Ghosts O P C R) (k : LockKind) (h : Cell O P C R) (s : Table O P C R) (r : CellInvariant meaning k h s) (kind : h.kind ≡ kinds.Ticket) where
+  pub serves_next : r.state.lock.serving ≡ (h.first + length (endings_in r.state.run)) % tickets
+  serves_next = r.made.serves ∙ (run_serves r.state.run (opening_lock h.kind h.first) kind (mod-lt h.first (omega arith)) (r.ran.turns h.first) ∙ mod-add-mod h.first tickets (length (endings_in r.state.run)))
+
+  -- those who have ended a hold, and those in line, are those who have arrived
+  draws_next : (r.state.lock.serving + length r.state.lock.line.cpus) % tickets ≡ (h.first + length (arrivals_in r.state.run)) % tickets
+  draws_next =
+      let l : Lock = r.state.lock in
+      let ended : List ℕ = endings_in r.state.run in
+      let line : l.line.cpus ≡ (lock_after r.state.run (opening_lock h.kind 0)).line.cpus = ap (λ z. z.line.cpus) (r.made.plainly 0) in
+      let all : length ended + length l.line.cpus ≡ length (arrivals_in r.state.run) = sym (length-append ended l.line.cpus) ∙ (ap (λ z. length (ended ++ z)) line ∙ ap length (line_left h r.state.committed r.state.run r.ran)) in
+      ap (λ (n : ℕ). (n + length l.line.cpus) % tickets) serves_next ∙ (mod-add-mod (h.first + length ended) tickets (length l.line.cpus) ∙ ap (λ (n : ℕ). n % tickets) (omega (arith, all)))
+
+  -- whose draw is the next step of the run has that ticket
+  pub has_drawn : (b : ℕ) (v : Viewed O P C R) (g : Cell O P C R) → SeatInvariant h r.state b v → v.told ≡ g ∷ [] → (ticket : ℕ) → (r.state.lock.serving + length r.state.lock.line.cpus) % tickets ≡ ticket
+      → HasDrawn (caller_of g v) ticket (r.state.run ++ leaving v.main.cpu steps.Draw [] ∷ [])
+  has_drawn b v g mine told ticket same = subst (λ (z : Cell O P C R). HasDrawn (caller_of z v) ticket (r.state.run ++ leaving v.main.cpu steps.Draw [] ∷ [])) (sym (same_cell meaning k h r.state b v g mine told)) record {
+    before = r.state.run;
+    is = refl;
+    number = sym same ∙ draws_next;
+  }
+
+module _ {O P C R : Type 0} (meaning : Ghosts O P C R) (h : Cell O P C R) (s : Table O P C R) (r : CellInvariant meaning h.kind h s) (kind : h.kind ≡ kinds.Ticket) where
+  -- the lock that the run makes has the word that the table has
+  pub shows_word : s.words ≡ lock_words h.numbers (lock_after r.state.run (opening_lock h.kind h.first))
+  shows_word =
+      let l : Lock = r.state.lock in
+      let l' : Lock = lock_after r.state.run (opening_lock h.kind h.first) in
+      let same = r.made.plainly h.first in
+      let kind' : l'.kind ≡ kinds.Ticket = sym (ap (λ z. z.kind) same) ∙ (r.tied.kind_is ∙ kind) in
+      let word : words_of kinds.Ticket h.numbers l ≡ words_of kinds.Ticket h.numbers l' = λ j. ticket_word ((r.made.serves j + length ((same j).line.cpus)) % tickets) (r.made.serves j) ∷ [] in
+      r.tied.words ∙ ((λ j. words_of (kind j) h.numbers l) ∙ (word ∙ (λ j. words_of (sym kind' j) h.numbers l')))
