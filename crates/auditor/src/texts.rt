@@ -1,6 +1,6 @@
 //! Texts of records, from a source.
 
-ghost use Rattle.std.specs.Prelude.{◌≡◌, true, Some, IfOk, OnOk, IfErr};
+ghost use Rattle.std.specs.Prelude.{◌≡◌, true, Some, Err, IfOk, OnOk, IfErr};
 ghost use Rattle.event_log.specs.Stream.{counted};
 ghost use Rattle.scripts.specs.RecordFaults.{text_of};
 ghost use Rattle.scripts.specs.RecordRanges.{RecordFits, Record as Shown};
@@ -63,6 +63,7 @@ pub fn audit_text<R: Source>(alloc: Global, source: &mut R) -> Result<Verdict, T
     ensures only { (r : Shown) → RecordFits r → R.remaining source.old ≡ Some (text_of r) → IsAudited r result }
     ensures none_failed { OnOk result (R.failed source.new ≡ R.failed source.old) }
     ensures one_failed { result ≡ Err TextFault.ReadFailed → R.failed source.new ≡ counted true (R.failed source.old) }
+    ensures no_other { (result ≡ Err TextFault.ReadFailed → ⊥) → R.failed source.new ≡ R.failed source.old }
 {
     let bytes = read_all(alloc, source)?;
     let record = Record::read(alloc, bytes.as_slice())?;

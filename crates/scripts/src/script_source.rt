@@ -80,6 +80,7 @@ impl Scripts {
         ensures fault { IfErr result (NamesFirstBadOfRest settings.now (S.remaining source.old)) }
         ensures none_failed { OnOk result (S.failed source.new ≡ S.failed source.old) }
         ensures one_failed { result ≡ Err ScriptsReadFault.ReadFailed → S.failed source.new ≡ counted true (S.failed source.old) }
+        ensures no_other { (result ≡ Err ScriptsReadFault.ReadFailed → ⊥) → S.failed source.new ≡ S.failed source.old }
     {
         let mut lists = empty_lists(alloc, settings.cpus())?;
         let mut pending: Vec<u8> = Vec::new(alloc);

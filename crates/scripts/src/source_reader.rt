@@ -1,6 +1,6 @@
 //! Reading a source to its end.
 
-ghost use Rattle.std.specs.Prelude.{◌≡◌, true, ℕ, List, Some, IfOk, OnOk};
+ghost use Rattle.std.specs.Prelude.{◌≡◌, true, ℕ, List, Some, Err, IfOk, OnOk};
 ghost use Rattle.event_log.specs.Stream.{counted};
 
 use event_log::Source;
@@ -18,6 +18,7 @@ pub fn read_all<S: Source>(alloc: Global, source: &mut S) -> Result<Vec<u8>, Rea
     ensures whole { IfOk result (λ bytes. (all : List ℕ) → S.remaining source.old ≡ Some all → bytes.items ≡ all) }
     ensures none_failed { OnOk result (S.failed source.new ≡ S.failed source.old) }
     ensures one_failed { result ≡ Err ReadFault.ReadFailed → S.failed source.new ≡ counted true (S.failed source.old) }
+    ensures no_other { (result ≡ Err ReadFault.ReadFailed → ⊥) → S.failed source.new ≡ S.failed source.old }
 {
     let mut bytes = Vec::new(alloc);
     let mut buffer = [0u8; 65536];

@@ -1,0 +1,135 @@
+"""Many edits of a crate in one check: which of them the prover refuses, told by the functions that they touch.
+
+A function is checked against the contracts of those that it calls, and not against their bodies. So edits in the bodies of
+different functions don't meet, and one check that goes on past each refusal tells of each function by itself.
+"""
+import re
+from collections import defaultdict
+from typing import NamedTuple
+
+FN = re.compile(r"( *)(?:pub(?:\([a-z]+\))? )?(?:const )?fn (\w+)")
+IMPL = re.compile(r"impl(?:<.*?>)? (?:(\w+)(?:<.*>)? for )?(\w+)")
+TOLD = re.compile(r"fn (\S+): (.*)")
+# What a check says of a function that it refuses for a goal of its own, and not for a function that it calls.
+UNPROVED = "`search` did not prove"
+
+
+class Body(NamedTuple):
+    """The body of a function: its file and lines, and how its path ends."""
+
+    file: str
+    first: int
+    last: int
+    path: str
+
+
+def bodies(file, text):
+    """The bodies in a formatted file: each ends with a brace that stands as far in as its `fn`."""
+    lines, found, owner = text.splitlines(), [], ""
+    for at, line in enumerate(lines):
+        if line == "}":
+            owner = ""
+        if impl := IMPL.match(line):
+            owner = f"::{impl[2]}{impl[1] or ''}"
+        if fn := FN.match(line):
+            ends = [it for it in range(at, len(lines)) if lines[it] == f"{fn[1]}}}"]
+            opens = [it for it in range(at, len(lines)) if re.match(rf"{fn[1]}(\S.*)?{{$", lines[it])]
+            if ends and opens and opens[0] < ends[0]:
+                found.append(Body(file, opens[0] + 1, ends[0], f"{owner}::{fn[2]}"))
+    return found
+
+
+def read_edit(edit):
+    """The edit's changes: for each the file, the old text and the new one."""
+    file, old, changes = "", "", []
+    for line in edit.read_text(encoding="utf-8").splitlines():
+        kind, _, text = line.partition(": ") if not line.startswith("new:") else ("new", "", line[5:])
+        if kind == "file":
+            file = text
+        elif kind == "old":
+            old = text
+        elif kind == "new":
+            changes.append((file, old, text))
+    return changes
+
+
+def touched(crate, changes):
+    """The bodies in which the changes lie, or None if one lies elsewhere."""
+    found = set()
+    for file, old, _ in changes:
+        text = (crate / file).read_text(encoding="utf-8")
+        line = text[: text.find(old)].count("\n")
+        within = [it for it in bodies(file, text) if it.first <= line < it.last] if file.startswith("src/") else []
+        if text.count(old) != 1 or not within:
+            return None
+        found.add(within[-1])
+    return found
+
+
+def in_rounds(edits):
+    """Rounds of edits, each a name, its changes and its bodies. No two edits of a round touch one body."""
+    rounds = []
+    for edit in edits:
+        free = (it for it in rounds if not any(edit[2] & other[2] for other in it))
+        into = next(free, None)
+        if into is None:
+            rounds.append([edit])
+        else:
+            into.append(edit)
+    return rounds
+
+
+def refused_functions(crate, told):
+    """The paths of the functions that a check refuses for goals of their own, and those of all."""
+    states = dict(TOLD.match(line).groups() for line in told.splitlines() if TOLD.match(line))
+    refused = set()
+    for path, state in states.items():
+        own = f"`Rattle.{path.replace('::', '.').replace(crate + '.', crate + '.proofs.', 1)}."
+        if UNPROVED in state or own in state:
+            refused.add(path)
+    return refused, set(states)
+
+
+def judged(crate, edits, told):
+    """The names of those edits that the check refused. One whose function it doesn't name, or not alone, isn't among them."""
+    refused, all_paths = refused_functions(crate, told)
+    paths = defaultdict(list)
+    for path in all_paths:
+        for body in {it for edit in edits for it in edit[2]}:
+            if f"::{path.removeprefix(crate + '::')}".endswith(body.path):
+                paths[body].append(path)
+    return [name for name, _, where in edits if any(paths[it] in [[path] for path in refused] for it in where)]
+
+
+class Changed:
+    """The crate's files with these changes, until it is left."""
+
+    def __init__(self, crate, edits):
+        self.crate, self.edits, self.kept = crate, edits, {}
+
+    def __enter__(self):
+        for _, changes, _ in self.edits:
+            for file, old, new in changes:
+                path = self.crate / file
+                text = path.read_text(encoding="utf-8")
+                self.kept.setdefault(path, text)
+                path.write_text(text.replace(old, new), encoding="utf-8")
+
+    def __exit__(self, *_):
+        for path, text in self.kept.items():
+            path.write_text(text, encoding="utf-8")
+
+
+def try_together(rt, crate):
+    """Tries the crate's edits in rounds, by that way of running rt, and returns the names of those that were refused."""
+    edits = []
+    for edit in sorted(crate.glob("must-fail/*.edit")):
+        changes = read_edit(edit)
+        where = touched(crate, changes)
+        if where:
+            edits.append((edit.name, changes, where))
+    found = []
+    for edits_of_round in in_rounds(edits):
+        with Changed(crate, edits_of_round):
+            found += judged(crate.name, edits_of_round, rt(["check", "--allow-holes"], crate)[1])
+    return found
