@@ -101,19 +101,26 @@ def judged(crate, edits, told):
     return [name for name, _, where in edits if any(paths[it] in [[path] for path in refused] for it in where)]
 
 
+def changed(text, changes):
+    """The text with the changes, each an old text, which stands there once, and a new one. None reads what another writes."""
+    for at, old, new in sorted(((text.find(old), old, new) for old, new in changes), reverse=True):
+        text = text[:at] + new + text[at + len(old) :]
+    return text
+
+
 class Changed:
-    """The crate's files with these changes, until it is left."""
+    """The crate's files with the edits, until it is left."""
 
     def __init__(self, crate, edits):
-        self.crate, self.edits, self.kept = crate, edits, {}
+        self.edits_of = defaultdict(list)
+        for _, changes, _ in edits:
+            for file, old, new in changes:
+                self.edits_of[crate / file].append((old, new))
 
     def __enter__(self):
-        for _, changes, _ in self.edits:
-            for file, old, new in changes:
-                path = self.crate / file
-                text = path.read_text(encoding="utf-8")
-                self.kept.setdefault(path, text)
-                path.write_text(text.replace(old, new), encoding="utf-8")
+        self.kept = {path: path.read_text(encoding="utf-8") for path in self.edits_of}
+        for path, changes in self.edits_of.items():
+            path.write_text(changed(self.kept[path], changes), encoding="utf-8")
 
     def __exit__(self, *_):
         for path, text in self.kept.items():
