@@ -12,6 +12,8 @@ IMPL = re.compile(r"impl(?:<.*?>)? (?:(\w+)(?:<.*>)? for )?(\w+)")
 TOLD = re.compile(r"fn (\S+): (.*)")
 # What a check says of a function that it refuses for a goal of its own, and not for a function that it calls.
 UNPROVED = "`search` did not prove"
+# What it says of a proof file that names a goal, or a step of the code, that isn't there.
+GONE = re.compile(r"^\./proofs/(\S+)/\w+\.antt:\d+:\d+: error: .*has no (?:field `|`\S+` that can be named)", re.MULTILINE)
 
 
 class Body(NamedTuple):
@@ -80,12 +82,15 @@ def in_rounds(edits):
 
 
 def refused_functions(crate, told):
-    """The paths of the functions that a check refuses for goals of their own, and those of all."""
+    """The paths of the functions that a check refuses for goals of their own, and those of all. A function isn't among the
+    first if a proof file of its own names what is gone, for that may be all that is wrong."""
     states = dict(TOLD.match(line).groups() for line in told.splitlines() if TOLD.match(line))
+    gone = {found[1].replace("/", "::") for found in GONE.finditer(told)}
     refused = set()
     for path, state in states.items():
-        own = f"`Rattle.{path.replace('::', '.').replace(crate + '.', crate + '.proofs.', 1)}."
-        if UNPROVED in state or own in state:
+        name = path.removeprefix(f"{crate}::")
+        own = f"`Rattle.{crate}.proofs.{name.replace('::', '.')}."
+        if (UNPROVED in state or own in state) and name not in gone:
             refused.add(path)
     return refused, set(states)
 
@@ -127,6 +132,16 @@ class Changed:
             path.write_text(text, encoding="utf-8")
 
 
+def try_round(rt, crate, edits):
+    """Tries these edits in one check, or by halves if one of them leaves nothing that can be checked."""
+    with Changed(crate, edits):
+        told = rt(["check", "--allow-holes"], crate)[1]
+    half = len(edits) // 2
+    if half and not refused_functions(crate.name, told)[1]:
+        return try_round(rt, crate, edits[:half]) + try_round(rt, crate, edits[half:])
+    return judged(crate.name, edits, told)
+
+
 def try_together(rt, crate):
     """Tries the crate's edits in rounds, by that way of running rt, and returns the names of those that were refused."""
     edits = []
@@ -135,8 +150,4 @@ def try_together(rt, crate):
         where = touched(crate, changes)
         if where:
             edits.append((edit.name, changes, where))
-    found = []
-    for edits_of_round in in_rounds(edits):
-        with Changed(crate, edits_of_round):
-            found += judged(crate.name, edits_of_round, rt(["check", "--allow-holes"], crate)[1])
-    return found
+    return [name for edits_of_round in in_rounds(edits) for name in try_round(rt, crate, edits_of_round)]
