@@ -27,10 +27,12 @@ class Body(NamedTuple):
 
 def bodies(file, text):
     """The bodies in a formatted file: each ends with a brace that stands as far in as its `fn`."""
-    lines, found, owner = text.splitlines(), [], ""
+    module = file.removeprefix("src/").removesuffix(".rt")
+    free = "" if module in ("lib", "main") else f"::{module.replace('/', '::')}"
+    lines, found, owner = text.splitlines(), [], free
     for at, line in enumerate(lines):
         if line == "}":
-            owner = ""
+            owner = free
         if impl := IMPL.match(line):
             owner = f"::{impl[2]}{impl[1] or ''}"
         if fn := FN.match(line):
