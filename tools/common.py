@@ -17,9 +17,11 @@ ROOT = Path(__file__).resolve().parent.parent
 TOOL = f"tools/{Path(sys.argv[0]).resolve().name}"
 MC2 = ROOT / "crates/mc2/out/mc2"
 BENCH = ROOT / "crates/bench/out/bench"
+COSTS = ROOT / "crates/costs/out/costs"
 HOW_TO_BUILD = {
     MC2: "`rt run` in crates/mc2 builds crates/mc2/out/mc2, and so does `rt ci`",
     BENCH: "`rt run` in crates/bench builds crates/bench/out/bench",
+    COSTS: "`rt run` in crates/costs builds crates/costs/out/costs",
 }
 HOW_TO_GET = {
     "rt": "it is the command of the kit that README.md names",

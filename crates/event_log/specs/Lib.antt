@@ -3,3 +3,5 @@ pub mod Log
 pub mod History
 pub mod Stream
 pub mod Entries
+pub mod Chain
+pub mod Links

@@ -1,9 +1,10 @@
-//! The pool over a plain table.
+//! The pool: a table of owners, and the free pages as a set of bits.
 
 ghost use Rattle.std.specs.Prelude.{◌≡◌};
 ghost use Rattle.page_pool.specs.Table.{left_of};
 ghost use Rattle.page_pool.specs.Answer.{alloc_answer, free_answer};
 
+use crate::pages::PageSet;
 use crate::{PoolCall, PoolReply};
 use event_log::{OpenFault, SeqObject};
 use std::alloc::Global;
@@ -15,23 +16,26 @@ pub const MOST_PAGES: u32 = 4096;
 /// Owners are 0 to this number.
 pub const LAST_OWNER: u32 = 15;
 
-/// A pool of the pages 0 to `pages - 1`: entry p of the table is the owner of page p. The table is made when the pool is
-/// opened.
+/// A pool of the pages 0 to `pages - 1`: entry p of the table is the owner of page p. The pages without an owner are kept
+/// as a set too, and so is their number. All is made when the pool is opened.
 #[derive(Drop)]
 pub struct PagePool {
     pages: u32,
     owners: Vec<Option<u32>>,
+    free: PageSet,
+    left: u32,
 }
 
 impl Model for PagePool {
     ghost use Rattle.std.specs.Prelude.{◌≡◌, ◌≤◌, length};
     ghost use Rattle.page_pool.specs.State.{PoolState};
+    ghost use Rattle.page_pool.specs.Agreeing.{IsAgreed};
 
     ghost Value = { PoolState };
 
     ghost view = { λ s. record { pages = s.pages; owners = s.owners.items } };
 
-    ghost invariant = { λ s. (length s.owners.items ≡ s.pages) × (s.pages ≤ 4096) };
+    ghost invariant = { λ s. IsAgreed s.pages s.owners.items s.free s.left };
 }
 
 impl PagePool {
@@ -41,10 +45,12 @@ impl PagePool {
         if owner > LAST_OWNER {
             return PoolReply::BadOwner;
         }
-        match self.owners.iter().position(|entry| entry.is_none()) {
+        match self.free.least() {
             Some(page) => {
-                self.owners[page] = Some(owner);
-                PoolReply::Page(page as u32)
+                self.owners[page as usize] = Some(owner);
+                self.free.remove(page);
+                self.left -= 1;
+                PoolReply::Page(page)
             }
             None => PoolReply::NoPage,
         }
@@ -64,6 +70,8 @@ impl PagePool {
             Some(other) if other != owner => PoolReply::NotYours,
             Some(_) => {
                 self.owners[page as usize] = None;
+                self.free.add(page);
+                self.left += 1;
                 PoolReply::Ok
             }
         }
@@ -72,7 +80,7 @@ impl PagePool {
     fn count(&self) -> u32
         ensures { result ≡ left_of self.now.owners }
     {
-        self.owners.iter().filter(|entry| entry.is_none()).count() as u32
+        self.left
     }
 }
 
@@ -116,8 +124,16 @@ impl SeqObject for PagePool {
         if pages == 0 || pages > MOST_PAGES {
             return Err(OpenFault::BadLimit);
         }
-        match vec![in alloc; None; pages as usize] {
-            Ok(owners) => Ok(PagePool { pages, owners }),
+        let Ok(owners) = vec![in alloc; None; pages as usize] else {
+            return Err(OpenFault::OutOfMemory);
+        };
+        match PageSet::all(alloc, pages) {
+            Ok(free) => Ok(PagePool {
+                pages,
+                owners,
+                free,
+                left: pages,
+            }),
             Err(_) => Err(OpenFault::OutOfMemory),
         }
     }

@@ -11,7 +11,9 @@ use crate::{
     MOST_PAGES, PagePool, PoolCall as Call, PoolReply as Reply, frees_its_own, gives_the_least,
     stays_whole,
 };
-use event_log::{Logged, OpenFault, Step};
+use event_log::{Logged, OpenFault, SeqObject, Step};
+use std::alloc::Global;
+use std::process::Abort;
 use std::test::Fail;
 
 /// What the laws say of any pool with its log: which page is given next, and which can be freed.
@@ -187,62 +189,119 @@ fn a_pool_with_no_page_left(rt: HostRuntime) -> Result<(), Fail> {
     Ok(())
 }
 
-/// The answer of a pool of 5 pages that is a plain list of the taken pages, each with its owner, in no order.
-fn plain_answer(taken: &mut Vec<(u32, u32)>, call: Call) -> Result<Reply, Fail> {
+/// The answer of a pool that is a plain table of owners, which is searched from the front.
+fn plain_answer(owners: &mut [Option<u32>], call: Call) -> Result<Reply, Fail> {
     match call {
         Call::Alloc(owner) | Call::Free { owner, .. } if owner > 15 => Ok(Reply::BadOwner),
-        Call::Alloc(owner) => {
-            for page in 0..5 {
-                if !taken.iter().any(|entry| entry.0 == page) {
-                    taken.push((page, owner))?;
-                    return Ok(Reply::Page(page));
-                }
+        Call::Alloc(owner) => match owners.iter().position(|entry| entry.is_none()) {
+            Some(page) => {
+                owners[page] = Some(owner);
+                Ok(Reply::Page(u32::try_from(page)?))
             }
-            Ok(Reply::NoPage)
-        }
-        Call::Free { page, .. } if page >= 5 => Ok(Reply::BadPage),
-        Call::Free { owner, page } => match taken.iter().position(|entry| entry.0 == page) {
-            None => Ok(Reply::NotTaken),
-            Some(place) if taken[place].1 != owner => Ok(Reply::NotYours),
-            Some(place) => {
-                taken.remove(place);
-                Ok(Reply::Ok)
-            }
+            None => Ok(Reply::NoPage),
         },
-        Call::Left => Ok(Reply::Count(5u32.saturating_sub(u32::try_from(taken.len())?))),
+        Call::Free { owner, page } => match owners.get_mut(page as usize) {
+            None => Ok(Reply::BadPage),
+            Some(entry) => match *entry {
+                None => Ok(Reply::NotTaken),
+                Some(other) if other != owner => Ok(Reply::NotYours),
+                Some(_) => {
+                    *entry = None;
+                    Ok(Reply::Ok)
+                }
+            },
+        },
+        Call::Left => {
+            let left = owners.iter().filter(|entry| entry.is_none()).count();
+            Ok(Reply::Count(u32::try_from(left)?))
+        }
     }
 }
 
-/// A call that the number stands for, of the owners 0, 1 and 16, on one of the pages 0 to 5.
-fn call_of(number: u64) -> Call {
-    let owner = match (number >> 48) % 8 {
-        0..=3 => 0,
-        4..=6 => 1,
+/// A call that the number stands for, of the owners 0, 1 and 16, on one of the pages 0 to `pages`. While the pool is to
+/// be filled, more of them take a page, and else more give one back.
+fn call_of(number: u64, pages: u32, fills: bool) -> Call {
+    let owner = match (number >> 60) % 16 {
+        0..=11 => 0,
+        12..=14 => 1,
         _ => 16,
     };
-    match (number >> 40) % 8 {
-        0..=2 => Call::Alloc(owner),
-        3..=6 => Call::Free {
-            owner,
-            page: (number >> 56) as u32 % 6,
-        },
-        _ => Call::Left,
+    let page = (number >> 40) as u32 % pages.saturating_add(1);
+    match (number >> 36) % 16 {
+        0 => Call::Left,
+        1..=3 => Call::Free { owner, page },
+        4..=6 => Call::Alloc(owner),
+        _ if fills => Call::Alloc(owner),
+        _ => Call::Free { owner, page },
     }
 }
 
-#[test]
-fn answers_as_a_plain_program(rt: HostRuntime) -> Result<(), Fail> {
-    let mut pool = Logged::<PagePool>::open(rt.alloc(), 5, 5000)?;
-    let mut taken = Vec::new(rt.alloc());
+/// Makes that many calls on a pool of the pages, which fill it and empty it in turn, and holds each reply to that of the
+/// plain program.
+fn compare<R: Abort>(rt: &R, alloc: Global, pages: u32, turns: u32) -> Result<(), Fail> {
+    let mut pool = PagePool::open(alloc, &pages)?;
+    let mut owners = vec![in alloc; None; pages as usize]?;
     let mut number = 1u64;
-    for turn in 0..5000 {
+    for turn in 0..turns {
         // Knuth's numbers for a linear congruential generator.
         number = number
             .wrapping_mul(6364136223846793005)
             .wrapping_add(1442695040888963407);
-        let call = call_of(number);
-        let wanted = plain_answer(&mut taken, call)?;
-        assert_eq!(rt; pool.call(0, &call)?, wanted, "to {call:?}, turn {turn}");
+        let fills = turn / pages.saturating_mul(2).max(1) % 2 == 0;
+        let call = call_of(number, pages, fills);
+        let wanted = plain_answer(owners.as_mut_slice(), call)?;
+        assert_eq!(rt; pool.apply(&call), wanted, "to {call:?}, turn {turn} of {pages} pages");
+    }
+    Ok(())
+}
+
+#[test]
+fn answers_as_a_plain_program(rt: HostRuntime) -> Result<(), Fail> {
+    for pages in [1, 5, 63, 64, 65] {
+        compare(&rt, rt.alloc(), pages, 5000)?;
+    }
+    Ok(())
+}
+
+#[test]
+fn answers_as_a_plain_program_of_all_pages(rt: HostRuntime) -> Result<(), Fail> {
+    compare(&rt, rt.alloc(), MOST_PAGES - 1, 50_000)?;
+    compare(&rt, rt.alloc(), MOST_PAGES, 100_000)
+}
+
+/// A word of the free pages and a page more.
+#[test]
+fn a_page_past_a_word(rt: HostRuntime) -> Result<(), Fail> {
+    let mut pool = Logged::<PagePool>::open(rt.alloc(), 65, 100)?;
+    for page in 0..65 {
+        assert_eq!(rt; pool.call(0, &Call::Alloc(1))?, Reply::Page(page));
+    }
+    assert_eq!(rt; pool.call(0, &Call::Alloc(1))?, Reply::NoPage);
+    Ok(())
+}
+
+#[test]
+fn freed_pages_of_the_greatest_pool(rt: HostRuntime) -> Result<(), Fail> {
+    let mut pool = Logged::<PagePool>::open(rt.alloc(), MOST_PAGES, 65536)?;
+    for page in 0..MOST_PAGES {
+        assert_eq!(rt; pool.call(0, &Call::Alloc(1))?, Reply::Page(page));
+    }
+    let rows = [
+        (Call::Alloc(1), Reply::NoPage),
+        (
+            Call::Free {
+                owner: 1,
+                page: 4095,
+            },
+            Reply::Ok,
+        ),
+        (Call::Free { owner: 1, page: 64 }, Reply::Ok),
+        (Call::Alloc(2), Reply::Page(64)),
+        (Call::Alloc(2), Reply::Page(4095)),
+        (Call::Alloc(2), Reply::NoPage),
+    ];
+    for (call, reply) in rows {
+        assert_eq!(rt; pool.call(0, &call)?, reply, "to {call:?}");
     }
     Ok(())
 }
