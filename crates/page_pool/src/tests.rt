@@ -250,7 +250,11 @@ fn compare<R: Abort>(rt: &R, alloc: Global, pages: u32, turns: u32) -> Result<()
         let fills = turn / pages.saturating_mul(2).max(1) % 2 == 0;
         let call = call_of(number, pages, fills);
         let wanted = plain_answer(owners.as_mut_slice(), call)?;
-        assert_eq!(rt; pool.apply(&call), wanted, "to {call:?}, turn {turn} of {pages} pages");
+        assert_eq!(rt;
+            pool.apply(&call),
+            wanted,
+            "to {call:?}, turn {turn} of {pages} pages"
+        );
     }
     Ok(())
 }
