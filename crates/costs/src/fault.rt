@@ -1,7 +1,7 @@
 //! Why there is no sum.
 
 use event_log::OpenFault;
-use std::alloc::AllocError;
+use std::alloc::{AllocError, AllocFailed};
 use std::fmt;
 
 #[derive(Clone, Copy, Debug, PartialEq, Eq, Drop)]
@@ -25,6 +25,12 @@ impl fmt::Display for Fault {
 impl From<AllocError> for Fault {
     fn from(fault: AllocError) -> Fault {
         let _ = fault;
+        Fault::OutOfMemory
+    }
+}
+
+impl<T: Drop> From<AllocFailed<T>> for Fault {
+    fn from(_failed: AllocFailed<T>) -> Fault {
         Fault::OutOfMemory
     }
 }

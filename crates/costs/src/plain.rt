@@ -8,3 +8,8 @@ mod sched;
 pub use pool::PlainPool;
 pub use queue::PlainQueue;
 pub use sched::PlainSched;
+
+/// The number of a short list's elements, or of a place in it.
+fn short(number: usize) -> u32 {
+    u32::try_from(number).unwrap_or(u32::MAX)
+}

@@ -99,7 +99,7 @@ impl Subject for PlainPool {
 }
 
 /// Makes that many calls.
-fn make_calls<S: Subject>(mut subject: S, size: u32, calls: u32) -> Result<Sum, Fault> {
+fn make_calls<S: Subject + Drop>(mut subject: S, size: u32, calls: u32) -> Result<Sum, Fault> {
     let mut random = Random::START;
     let mut sum = Sum::default();
     for _ in 0..calls {

@@ -24,10 +24,8 @@ impl Sum {
         self.add(match reply {
             QueueReply::Ok => Some(0),
             QueueReply::Thread(number) | QueueReply::Count(number) => Some(number),
-            QueueReply::BadThread
-            | QueueReply::Already
-            | QueueReply::Empty
-            | QueueReply::Absent => None,
+            QueueReply::BadThread | QueueReply::Already | QueueReply::Empty | QueueReply::Absent =>
+                None,
         });
     }
 

@@ -1,6 +1,7 @@
 //! The pool as a plain table of owners.
 
 use crate::fault::Fault;
+use crate::plain::short;
 use page_pool::{LAST_OWNER, PoolCall, PoolReply};
 use std::alloc::Global;
 
@@ -22,7 +23,7 @@ impl PlainPool {
         match self.owners.iter().position(|entry| entry.is_none()) {
             Some(page) => {
                 self.owners[page] = Some(owner);
-                PoolReply::Page(page as u32)
+                PoolReply::Page(short(page))
             }
             None => PoolReply::NoPage,
         }
@@ -46,7 +47,7 @@ impl PlainPool {
     }
 
     fn count(&self) -> u32 {
-        self.owners.iter().filter(|entry| entry.is_none()).count() as u32
+        short(self.owners.iter().filter(|entry| entry.is_none()).count())
     }
 
     pub fn apply(&mut self, call: &PoolCall) -> PoolReply {

@@ -1,6 +1,7 @@
 //! The queue as one plain list.
 
 use crate::fault::Fault;
+use crate::plain::short;
 use shared_queue::{QueueCall, QueueReply};
 use std::alloc::Global;
 
@@ -50,7 +51,7 @@ impl PlainQueue {
             QueueCall::Enq(thread) => self.enq(thread),
             QueueCall::Deq => Ok(self.deq()),
             QueueCall::Remove(thread) => Ok(self.take_out(thread)),
-            QueueCall::Len => Ok(QueueReply::Count(self.list.len() as u32)),
+            QueueCall::Len => Ok(QueueReply::Count(short(self.list.len()))),
         }
     }
 }

@@ -1,6 +1,7 @@
 //! The scheduler as plain lists: the ready threads, and those that sleep in each channel.
 
 use crate::fault::Fault;
+use crate::plain::short;
 use std::alloc::Global;
 use wake_list::{SchedCall, SchedReply};
 
@@ -82,7 +83,7 @@ impl PlainSched {
         let Some(sleepers) = self.channels.get_mut(channel as usize) else {
             return Ok(SchedReply::BadChannel);
         };
-        let count = sleepers.len() as u32;
+        let count = short(sleepers.len());
         self.ready.append(sleepers)?;
         Ok(SchedReply::Count(count))
     }
