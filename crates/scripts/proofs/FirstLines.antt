@@ -1,13 +1,17 @@
 -- The lines of a text, one by one, and its first lines.
-use Rattle.std.proofs.Common.{◌≡◌, ℕ, zero, suc, ◌+◌, ◌≤◌, ◌==◌, Bool, true, false, cond, Option, Some, None, List, [], ◌∷◌, ◌++◌, length, refl, sym, ◌∙◌, ap, subst, append_assoc, arith}
+use Rattle.std.proofs.Common.{if◌then◌else◌, ◌≡◌, ℕ, zero, suc, ◌+◌, ◌≤◌, ◌==◌, Bool, true, false, cond, Option, Some, None, List, [], ◌∷◌, ◌++◌, length, refl, sym, ◌∙◌, ap, subst, append_assoc, arith}
 use Rattle.std.proofs.lemmas.Bool.{eqb-true}
 use Rattle.std.proofs.lemmas.Grind.{flat_map-append}
 use Rattle.std.proofs.lemmas.Option.{some_pair_parts}
 use Rattle.std.specs.List.{AllByRecursion}
 use Rattle.std.specs.Option.{option_map}
 use Rattle.scripts.specs.RecordFaults.{first_lines}
-use Rattle.scripts.specs.RecordLines.{next_line}
 use Rattle.scripts.specs.Words.{text_of_lines, NoEnd}
+
+-- the first line without its end, and what follows it
+pub next_line : List ℕ → Option (List ℕ × List ℕ)
+next_line [] = None
+next_line (b ∷ bytes) = if b == 10 then Some ([], bytes) else option_map (λ r. (b ∷ r.0, r.1)) (next_line bytes)
 
 -- the text of lines and others behind them is the text of both
 pub text_append : (a b : List (List ℕ)) → text_of_lines (a ++ b) ≡ text_of_lines a ++ text_of_lines b

@@ -42,13 +42,13 @@ name_plain (b ∷ bs) e =
     (letter_plain b first.0, name_bytes_plain bs first.1)
 
 -- the object at a place
-object_there : (settings : Settings) (i : ℕ) → i < length settings.objects → (o : ObjectSettings) × (slice_get settings.objects i ≡ Some o)
+pub object_there : (settings : Settings) (i : ℕ) → i < length settings.objects → (o : ObjectSettings) × (slice_get settings.objects i ≡ Some o)
 object_there settings i less = elim (slice_get_cases settings.objects i).1 [
   | inl h ↦ (h.0, h.2)
   | inr h ↦ absurd (let past = h.0 in omega (arith, past, less))
 ]
 
-each_at : {X : Type 0} (P : X → Type 0) (xs : List X) (i : ℕ) (x : X) → AllByRecursion P xs → slice_get xs i ≡ Some x → P x
+pub each_at : {X : Type 0} (P : X → Type 0) (xs : List X) (i : ℕ) (x : X) → AllByRecursion P xs → slice_get xs i ≡ Some x → P x
 each_at P [] i x all e = absurd cc
 each_at P (y ∷ ys) zero x all e = let is : y ≡ x = cc in subst P is all.0
 each_at P (y ∷ ys) (suc i) x all e = each_at P ys i x all.1 e
@@ -78,7 +78,7 @@ pub record IsNamed (settings : Settings) (ws : List (List ℕ)) (read : ℕ × L
   pub text : ws ≡ name_at settings read.0 ∷ read.1
   pub bound : read.0 < length settings.objects
 
-pub place_takes : (settings : Settings) (ws : List (List ℕ)) (read : ℕ × List (List ℕ)) → place_at settings ws ≡ Some read → IsNamed settings ws read
+pub place_takes : (settings : Settings) (ws : List (List ℕ)) (read : ℕ × List (List ℕ)) → place_at settings.objects ws ≡ Some read → IsNamed settings ws read
 unfolding place_at word_at
 place_takes settings [] read e = absurd cc
 place_takes settings (w ∷ ws) read e = bind_some (position (λ o. bytes_eq o.name w) settings.objects) _ read e (λ i found last.
@@ -87,7 +87,7 @@ place_takes settings (w ∷ ws) read e = bind_some (position (λ o. bytes_eq o.n
     let name : name_at settings i ≡ w = ap (λ o. option_map_or (λ v. v.name) o []) at.1 ∙ same at.0.name w at.2 in
     subst (λ p. IsNamed settings (w ∷ ws) p) is (record { text = ap (λ v. v ∷ ws) (sym name); bound = at.3 }))
 
-pub place_again : (settings : Settings) (i : ℕ) (rest : List (List ℕ)) → NamesDiffer settings → i < length settings.objects → place_at settings (name_at settings i ∷ rest) ≡ Some (i, rest)
+pub place_again : (settings : Settings) (i : ℕ) (rest : List (List ℕ)) → NamesDiffer settings → i < length settings.objects → place_at settings.objects (name_at settings i ∷ rest) ≡ Some (i, rest)
 unfolding place_at word_at
 place_again settings i rest names less =
     let named : (k : ℕ) (o : ObjectSettings) → slice_get settings.objects k ≡ Some o → name_at settings k ≡ o.name = λ k o at. ap (λ v. option_map_or (λ u. u.name) v []) at in

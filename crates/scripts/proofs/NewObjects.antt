@@ -9,13 +9,9 @@ use Rattle.std.specs.Option.{option_map_or}
 use Rattle.std.specs.Str.{bytes_eq}
 use Rattle.word_rule.specs.declared.lock_kind.LockKind.TheVariants.{Ticket}
 use Rattle.scripts.specs.declared.kernel_call.KParams.TheVariants.{Queue}
-use Rattle.scripts.specs.Answers.{◌>>=◌}
-use Rattle.scripts.specs.RecordLines.{At, Outcome, line_at, new_object_at, objects_at}
-use Rattle.scripts.specs.RecordReading.{object_at}
+use Rattle.scripts.specs.RecordReading.{object_at, new_object_at}
 use Rattle.scripts.specs.RecordText.{object_words}
 use Rattle.scripts.specs.Settings.{ObjectSettings, ObjectFits, is_name}
-use Rattle.scripts.proofs.ExactReaders.{IsExact, line_exact, pure_exact, same_exact}
-use Rattle.scripts.proofs.ExactLists.{onto, cons_lines, cons_fits, cons_exact, behind_step, behind_none}
 use Rattle.scripts.proofs.RecordLineLaws.{ReadsLines, reads_object}
 use Rattle.scripts.proofs.SettingsFits.{Joins, Differ, name_in, differ_more}
 
@@ -33,7 +29,7 @@ new_some : (earlier : List ObjectSettings) (x : Option ObjectSettings) (o : Obje
 new_some earlier None o e = absurd cc
 new_some earlier (Some p) o e = let free = if_free (is_taken p.name earlier) p o e in (ap Some free.1, sym (ap (λ q. is_taken q.name earlier) free.1) ∙ free.0)
 
-reads_new : (earlier : List ObjectSettings) → ReadsLines object_words (Joins earlier) (new_object_at earlier)
+pub reads_new : (earlier : List ObjectSettings) → ReadsLines object_words (Joins earlier) (new_object_at earlier)
 unfolding new_object_at
 reads_new earlier = record {
   takes = λ ws o e.
@@ -106,7 +102,7 @@ fresh (suc n) os less = elim (which (is_taken (letter n) os)) [
 ]
 
 -- an object with a new name
-shown_new : (earlier : List ObjectSettings) → length earlier < 26 → (o : ObjectSettings) × Joins earlier o
+pub shown_new : (earlier : List ObjectSettings) → length earlier < 26 → (o : ObjectSettings) × Joins earlier o
 shown_new earlier few =
     let free = fresh 26 earlier few in
     (record { name = letter free.0; lock = Ticket; events = 1; params = Queue 1 }, (record { name = is_letter_name free.0 free.1; events = (omega arith, omega arith); params = refl }, free.2))
@@ -117,58 +113,6 @@ shown_new earlier few =
 abbrev pub AllNew : List ObjectSettings → List ObjectSettings → Type 0
 AllNew earlier [] = Unit {0}
 AllNew earlier (o ∷ os) = Joins earlier o × AllNew (earlier ++ o ∷ []) os
-
--- so many objects, of new names
-abbrev pub AreNew : List ObjectSettings → ℕ → List ObjectSettings → Type 0
-AreNew earlier n os = (length os ≡ n) × AllNew earlier os
-
-objects_alone : List ObjectSettings → ℕ → At → Outcome (List ObjectSettings)
-objects_alone earlier zero at = Ok ([], at)
-objects_alone earlier (suc n) at = line_at (new_object_at earlier) at >>= λ v. objects_alone (earlier ++ v.0 ∷ []) n v.1 >>= onto (v.0 ∷ [])
-
-objects_same : (n : ℕ) (front : List ObjectSettings) (at : At) → objects_at front n at ≡ (objects_alone front n at >>= onto front)
-unfolding objects_at objects_alone
-objects_same zero front at = ap {A = List ObjectSettings} {B = Outcome (List ObjectSettings)} (λ l. Ok (l, at)) (sym (append-nil front))
-objects_same (suc n) front at = behind_step (line_at (new_object_at front) at) (λ v. objects_alone (front ++ v.0 ∷ []) n v.1) (λ v. objects_at (front ++ v.0 ∷ []) n v.1) front (λ v. objects_same n (front ++ v.0 ∷ []) v.1)
-
-none_new : (earlier os : List ObjectSettings) → AreNew earlier 0 os → os ≡ []
-none_new earlier [] are = refl
-none_new earlier (o ∷ os) are = absurd (let count = are.0 in omega (arith, count))
-
-no_lines : (os : List ObjectSettings) → os ≡ [] → [] ≡ map object_words os
-no_lines os e = rw e refl
-
-as_objects : (os : List ObjectSettings) → cons_lines (λ o. object_words o ∷ []) (map object_words) os ≡ map object_words os
-as_objects [] = refl
-as_objects (o ∷ os) = refl
-
-module _ (earlier : List ObjectSettings) (n : ℕ) where
-  abbrev Others : ObjectSettings → List ObjectSettings → Type 0
-  Others o os = AreNew (earlier ++ o ∷ []) n os
-
-  cons_new : (os : List ObjectSettings) → cons_fits (Joins earlier) Others os → AreNew earlier (suc n) os
-  cons_new [] are = absurd are
-  cons_new (o ∷ os) are = (ap suc are.1.0, (are.0, are.1.1))
-
-  new_cons : (os : List ObjectSettings) → AreNew earlier (suc n) os → cons_fits (Joins earlier) Others os
-  new_cons [] are = absurd (let count = are.0 in omega (arith, count))
-  new_cons (o ∷ os) are = (are.1.0, ((let count = are.0 in omega (arith, count)), are.1.1))
-
-new_exact : (n : ℕ) (earlier : List ObjectSettings) → length earlier + n ≤ 26 → IsExact (map object_words) (AreNew earlier n) (objects_alone earlier n)
-unfolding objects_alone
-new_exact zero earlier few = same_exact (λ os. []) (map object_words) (λ os. os ≡ []) (AreNew earlier 0) (λ at. Ok ([], at)) (objects_alone earlier 0) (λ at. refl) no_lines (λ os e. subst (AreNew earlier 0) (sym e) (refl, tt)) (none_new earlier) (pure_exact [])
-new_exact (suc n) earlier few =
-    let shown = shown_new earlier (omega (arith, few)) in
-    same_exact (cons_lines (λ o. object_words o ∷ []) (map object_words)) (map object_words) (cons_fits (Joins earlier) (Others earlier n)) (AreNew earlier (suc n)) (objects_alone earlier (suc n)) (objects_alone earlier (suc n))
-    (λ at. refl) (λ os are. as_objects os) (cons_new earlier n) (new_cons earlier n)
-    (cons_exact (λ o. object_words o ∷ []) (Joins earlier) (line_at (new_object_at earlier)) (map object_words) (Others earlier n) (λ v. objects_alone (earlier ++ v.0 ∷ []) n v.1)
-    (line_exact object_words (Joins earlier) (new_object_at earlier) (reads_new earlier) shown.0 shown.1)
-    (λ o joins. new_exact n (earlier ++ o ∷ []) (omega (arith, few, length-append earlier (o ∷ [])))))
-
--- so many objects, of different names
-pub objects_exact : (n : ℕ) → n ≤ 26 → IsExact (map object_words) (AreNew [] n) (objects_at [] n)
-objects_exact n few = same_exact (map object_words) (map object_words) (AreNew [] n) (AreNew [] n) (objects_alone [] n) (objects_at [] n)
-    (λ at. behind_none (objects_alone [] n at) ∙ sym (objects_same n [] at)) (λ os are. refl) (λ os are. are) (λ os are. are) (new_exact n [] (omega (arith, few)))
 
 -- ---- names that differ
 

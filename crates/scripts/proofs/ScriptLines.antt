@@ -1,6 +1,5 @@
 -- Scripts, line by line.
 use Rattle.std.proofs.Common.{◌≡◌, ℕ, ◌+◌, ◌<◌, ◌≤◌, ◌==◌, Bool, true, false, List, [], ◌∷◌, ◌++◌, length, refl, sym, ◌∙◌, ap, subst, append_assoc, arith, length-append, cond, inl, inr}
-use Rattle.std.proofs.lemmas.Grind.{flat_map-append}
 use Rattle.std.proofs.lemmas.List.{append-nil}
 use Rattle.std.proofs.lemmas.Bool.{eqb-true}
 use Rattle.std.proofs.lemmas.List.FromFn.{length-map-range_with_len}
@@ -14,11 +13,9 @@ use Rattle.scripts.specs.ScriptText.{IsBlank, IsRequest, AskFor, AreRequests, Is
 use Rattle.scripts.specs.ScriptFaults.{TakesLine, IsNotTaken}
 use Rattle.scripts.specs.KernelTypes.{KernelTodo}
 use Rattle.scripts.specs.Settings.{Settings}
-use Rattle.scripts.specs.Words.{text_of_lines, NoEnd}
+use Rattle.scripts.specs.Words.{NoEnd}
+use Rattle.scripts.proofs.LineMachine.{text_more}
 use Rattle.scripts.proofs.Dealt.{dealt_push, dealt_get, dealt_all, script_length}
-
-pub text_more : (lines : List (List ℕ)) (line : List ℕ) → text_of_lines (lines ++ line ∷ []) ≡ text_of_lines lines ++ (line ++ 10 ∷ [])
-text_more lines line = flat_map-append (λ l. l ++ 10 ∷ []) lines (line ∷ []) ∙ ap (λ t. text_of_lines lines ++ t) (append-nil (line ++ 10 ∷ []))
 
 count_by_more : (cpu : ℕ) (requests : List Request) (r : Request) → count_of cpu (requests ++ r ∷ []) ≡ count_of cpu requests + cond (r.cpu == cpu) 1 0
 count_by_more cpu requests r = fold-append (λ (n : ℕ) (q : Request). n + cond (q.cpu == cpu) 1 0) 0 requests (r ∷ [])
@@ -57,10 +54,6 @@ module _ (settings : Settings) where
 
   pub starts : (text : List ℕ) (scripts : List (List KernelTodo)) → scripts ≡ dealt settings.cpus [] → SoFar text text scripts 1
   starts text scripts is = record { before = []; requests = []; good = record { lines = []; text = refl; each = tt; asked = refl; within = λ cpu. omega arith }; each = is; parts = refl; number = refl; few = omega arith }
-
-  -- one script for each CPU
-  pub counted : (text rest : List ℕ) (scripts : List (List KernelTodo)) (n : ℕ) → SoFar text rest scripts n → length scripts ≡ settings.cpus
-  counted text rest scripts n so_far = ap length so_far.each ∙ length-map-range_with_len (λ cpu. script_of cpu so_far.requests) 0 settings.cpus
 
   -- what a line more makes of good lines
   pub line_taken : (text rest after line : List ℕ) (old new : List (List KernelTodo)) (n : ℕ) → SoFar text rest old n → NoEnd line → rest ≡ line ++ 10 ∷ after → TakesLine settings line old new → SoFar text after new (n + 1)

@@ -1,18 +1,18 @@
 -- Scripts, piece by piece.
-use Rattle.std.proofs.Common.{◌≡◌, ℕ, ◌<◌, List, [], ◌++◌, length, take, append_assoc, Option, Some, None, Result, Ok, Err, refl, sym, ◌∙◌, ap, subst, arith, length-append}
+use Rattle.std.proofs.Common.{◌≡◌, ℕ, Bool, List, [], ◌++◌, take, append_assoc, Option, Some, None, Result, Ok, Err, refl, sym, ◌∙◌, ap, subst}
 use Rattle.std.proofs.lemmas.List.{append-nil}
 use Rattle.std.specs.Io.KnownBytes.{Consumes, IsAtEnd}
 use Rattle.std.specs.Result.{IsErrAnd, IfErr}
+use Rattle.scripts.specs.declared.line_machine.PieceFault.{PieceFault}
+use Rattle.scripts.specs.declared.line_machine.PieceFault.TheVariants as piece
 use Rattle.scripts.specs.declared.script_reader.ScriptsFault.{ScriptsFault}
 use Rattle.scripts.specs.declared.script_reader.ScriptsFault.TheVariants.{OutOfMemory, Line}
 use Rattle.scripts.specs.declared.script_source.ScriptsReadFault.{ScriptsReadFault}
-use Rattle.scripts.specs.KernelTypes.{KernelTodo}
-use Rattle.scripts.specs.ScriptFaults.{TakesText, RefusesText, IsRest, SpellsRest, IsFirstBadOfRest, NamesFirstBadOfRest, of_text}
-use Rattle.scripts.specs.ScriptText.{IsFirstBad, dealt}
+use Rattle.scripts.specs.LineMachine.{HasTaken, RefusesLine}
+use Rattle.scripts.specs.ScriptFaults.{ScriptState, TakesScriptLine, RefusesScriptLine, HasRead, no_entries, IsRest, IsFirstBadOfRest, NamesFirstBad, NamesFirstBadOfRest, of_piece, of_text}
+use Rattle.scripts.specs.ScriptText.{IsFirstBad}
 use Rattle.scripts.specs.Settings.{Settings}
-use Rattle.scripts.specs.Words.{NoEnd}
-use Rattle.scripts.proofs.ScriptLines.{SoFar, starts, whole, bad_end}
-use Rattle.scripts.proofs.ScriptTexts.{text_taken, text_refused}
+use Rattle.scripts.proofs.ScriptTexts.{line_refused}
 
 -- known bytes that were consumed in two steps
 pub consumes_then : (a b c : Option (List ℕ)) (s t : List ℕ) → Consumes a b s → Consumes b c t → Consumes a c (s ++ t)
@@ -31,6 +31,11 @@ all_consumed None b seen c end = λ all e. absurd cc
 all_consumed (Some xs) None seen c end = absurd c
 all_consumed (Some xs) (Some ys) seen c end = λ all e. let same : xs ≡ all = cc in sym (append-nil seen) ∙ (ap (λ l. seen ++ l) (sym end) ∙ (sym c ∙ same))
 
+-- a read that gave nothing consumed nothing, and all was read
+pub all_read : (old between now : Option (List ℕ)) (seen buffer : List ℕ) (count : ℕ) → Consumes old between seen → count ≡ 0 → Consumes between now (take count buffer) → IsAtEnd now → IsRest old seen
+all_read old between now seen buffer count before none consumed end =
+    all_consumed old now seen (subst (λ (s : List ℕ). Consumes old now s) (append-nil seen) (consumes_then old between now seen [] before (subst (λ (n : ℕ). Consumes between now (take n buffer)) none consumed))) end
+
 -- what is so whatever follows is so of the rest of the source
 pub of_rest : (P : List ℕ → Type 0) (a b : Option (List ℕ)) (seen : List ℕ) → Consumes a b seen → ((more : List ℕ) → P (seen ++ more)) → (text : List ℕ) × IsRest a text × P text
 of_rest P None b seen c h = (seen ++ [], (λ all e. absurd cc), h [])
@@ -38,65 +43,44 @@ of_rest P (Some xs) None seen c h = absurd c
 of_rest P (Some xs) (Some ys) seen c h = (seen ++ ys, (λ all e. let same : xs ≡ all = cc in sym c ∙ same), h ys)
 
 module _ (settings : Settings) where
-  -- what was read so far: whole lines, which made these scripts, and a line without an end, which has that number
-  pub record HasRead (old now : Option (List ℕ)) (pending : List ℕ) (scripts : List (List KernelTodo)) (n : ℕ) : Type 0 where
+  -- what was read so far of a source
+  pub record HasReadOf (old now : Option (List ℕ)) (state : ScriptState) (number : ℕ) (passing : Bool) (pending : List ℕ) : Type 0 where
     pub seen : List ℕ
     pub consumed : Consumes old now seen
-    pub so_far : SoFar settings seen pending scripts n
-    pub no_end : NoEnd pending
+    pub read : HasRead settings seen state number passing pending
 
-  pub read_starts : (old : Option (List ℕ)) (pending : List ℕ) (scripts : List (List KernelTodo)) → pending ≡ [] → scripts ≡ dealt settings.cpus [] → HasRead old old pending scripts 1
-  read_starts old pending scripts none is = subst (λ (p : List ℕ). HasRead old old p scripts 1) (sym none) (record { seen = []; consumed = consumes_none old; so_far = starts settings [] scripts is; no_end = tt })
+  pub read_starts : (old : Option (List ℕ)) (start state : ScriptState) (number : ℕ) (passing : Bool) (pending : List ℕ) → HasTaken TakesScriptLine start [] state number passing pending → start ≡ no_entries settings → HasReadOf old old state number passing pending
+  read_starts old start state number passing pending taken is = record { seen = []; consumed = consumes_none old; read = subst (λ (s : ScriptState). HasTaken TakesScriptLine s [] state number passing pending) is taken }
 
-  -- as much more text behind what was read
-  longer : (text rest more : List ℕ) (scripts : List (List KernelTodo)) (n : ℕ) → SoFar settings text rest scripts n → SoFar settings (text ++ more) (rest ++ more) scripts n
-  longer text rest more scripts n so_far = record {
-    before = so_far.before;
-    requests = so_far.requests;
-    good = so_far.good;
-    each = so_far.each;
-    parts = ap (λ t. t ++ more) so_far.parts ∙ append_assoc so_far.before rest more;
-    number = so_far.number;
-    few = omega (arith, so_far.few, length-append text more, length-append rest more);
-  }
+  module _ (old between now : Option (List ℕ)) (piece : List ℕ) (state : ScriptState) (number : ℕ) (passing : Bool) (pending : List ℕ) (read : HasReadOf old between state number passing pending) (consumed : Consumes between now piece) where
+    -- a piece more
+    pub read_piece : (new : ScriptState) (next : ℕ) (passes : Bool) (after : List ℕ) → ((start : ScriptState) (text : List ℕ) → HasTaken TakesScriptLine start text state number passing pending → HasTaken TakesScriptLine start (text ++ piece) new next passes after) → HasReadOf old now new next passes after
+    read_piece new next passes after takes = record {
+      seen = read.seen ++ piece;
+      consumed = consumes_then old between now read.seen piece read.consumed consumed;
+      read = takes (no_entries settings) read.seen read.read;
+    }
 
-  -- a piece more
-  pub read_piece : (old between now : Option (List ℕ)) (pending piece left : List ℕ) (scripts new : List (List KernelTodo)) (n m : ℕ) → HasRead old between pending scripts n → Consumes between now piece → TakesText settings (pending ++ piece) scripts n left new m → NoEnd left → HasRead old now left new m
-  read_piece old between now pending piece left scripts new n m read consumed takes no_end = record {
-    seen = read.seen ++ piece;
-    consumed = consumes_then old between now read.seen piece read.consumed consumed;
-    so_far =
-        let long = longer read.seen pending piece scripts n read.so_far in
-        let more = subst (λ (r : List ℕ). SoFar settings (read.seen ++ piece) r scripts n) (sym (append-nil (pending ++ piece))) long in
-        subst (λ (r : List ℕ). SoFar settings (read.seen ++ piece) r new m) (append-nil left) (text_taken settings (read.seen ++ piece) (pending ++ piece) left [] scripts new n m more takes);
-    no_end = no_end;
-  }
+    -- a piece with a bad line
+    pub piece_refused : (m : ℕ) → ((start : ScriptState) (text : List ℕ) → HasTaken TakesScriptLine start text state number passing pending → RefusesLine TakesScriptLine RefusesScriptLine (text ++ piece) start 1 m) → IsFirstBadOfRest settings old m
+    piece_refused m refuses =
+        of_rest (λ text. IsFirstBad settings text m) old now (read.seen ++ piece) (consumes_then old between now read.seen piece read.consumed consumed)
+        (λ more. line_refused settings (read.seen ++ piece) more m (refuses (no_entries settings) read.seen read.read))
 
-  -- a piece with a bad line
-  pub piece_refused : (old between now : Option (List ℕ)) (pending piece : List ℕ) (scripts : List (List KernelTodo)) (n m : ℕ) → HasRead old between pending scripts n → Consumes between now piece → RefusesText settings (pending ++ piece) scripts n m → IsFirstBadOfRest settings old m
-  piece_refused old between now pending piece scripts n m read consumed refuses =
-      of_rest (λ text. IsFirstBad settings text m) old now (read.seen ++ piece) (consumes_then old between now read.seen piece read.consumed consumed)
-      (λ more. text_refused settings ((read.seen ++ piece) ++ more) (pending ++ piece) more scripts n m (longer (read.seen ++ piece) (pending ++ piece) more scripts n (longer read.seen pending piece scripts n read.so_far)) refuses)
+  piece_names : (old : Option (List ℕ)) (fault : PieceFault) → ((m : ℕ) → fault ≡ piece.Line m → IsFirstBadOfRest settings old m) → NamesFirstBadOfRest settings old (of_text (of_piece fault))
+  piece_names old piece.OutOfMemory first = tt
+  piece_names old (piece.Line m) first = first m refl
 
-  -- a read that gave nothing consumed nothing
-  all_seen : (old between now : Option (List ℕ)) (seen buffer : List ℕ) (count : ℕ) → Consumes old between seen → count ≡ 0 → Consumes between now (take count buffer) → Consumes old now seen
-  all_seen old between now seen buffer count before none consumed =
-      subst (λ (s : List ℕ). Consumes old now s) (append-nil seen) (consumes_then old between now seen [] before (subst (λ (n : ℕ). Consumes between now (take n buffer)) none consumed))
-
-  module _ (old between now : Option (List ℕ)) (buffer pending : List ℕ) (scripts : List (List KernelTodo)) (count n : ℕ) (read : HasRead old between pending scripts n) (none : count ≡ 0) (consumed : Consumes between now (take count buffer)) (end : IsAtEnd now) where
-    -- the end, with nothing pending
-    pub read_whole : pending ≡ [] → SpellsRest settings old scripts
-    read_whole empty = (read.seen, all_consumed old now read.seen (all_seen old between now read.seen buffer count read.consumed none consumed) end, whole settings read.seen scripts n pending empty read.so_far)
-
-    -- the end, with a line without an end
-    pub read_no_end : 0 < length pending → IsFirstBadOfRest settings old n
-    read_no_end some = (read.seen, all_consumed old now read.seen (all_seen old between now read.seen buffer count read.consumed none consumed) end, bad_end settings read.seen pending scripts n read.so_far read.no_end some)
-
-  refused_by : (old : Option (List ℕ)) (fault : ScriptsFault) → ((m : ℕ) → fault ≡ Line m → IsFirstBadOfRest settings old m) → NamesFirstBadOfRest settings old (of_text fault)
-  refused_by old OutOfMemory first = tt
-  refused_by old (Line m) first = first m refl
-
-  -- a refusal that is handed on
-  pub read_refused : {X : Type 0} (old : Option (List ℕ)) (fault : ScriptsFault) (r : Result X ScriptsReadFault) → IsErrAnd r (λ f. f ≡ of_text fault) → ((m : ℕ) → fault ≡ Line m → IsFirstBadOfRest settings old m) → IfErr r (NamesFirstBadOfRest settings old)
+  -- a piece's refusal that is handed on
+  pub read_refused : {X : Type 0} (old : Option (List ℕ)) (fault : PieceFault) (r : Result X ScriptsReadFault) → IsErrAnd r (λ f. f ≡ of_text (of_piece fault)) → ((m : ℕ) → fault ≡ piece.Line m → IsFirstBadOfRest settings old m) → IfErr r (NamesFirstBadOfRest settings old)
   read_refused old fault (Ok x) is first = tt
-  read_refused old fault (Err f) is first = subst (NamesFirstBadOfRest settings old) (sym is) (refused_by old fault first)
+  read_refused old fault (Err f) is first = subst (NamesFirstBadOfRest settings old) (sym is) (piece_names old fault first)
+
+  text_names : (old : Option (List ℕ)) (text : List ℕ) (fault : ScriptsFault) → IsRest old text → NamesFirstBad settings text fault → NamesFirstBadOfRest settings old (of_text fault)
+  text_names old text OutOfMemory rest names = tt
+  text_names old text (Line m) rest names = (text, rest, names)
+
+  -- a text's refusal that is handed on
+  pub end_refused : {X : Type 0} (old : Option (List ℕ)) (text : List ℕ) (fault : ScriptsFault) (r : Result X ScriptsReadFault) → IsErrAnd r (λ f. f ≡ of_text fault) → IsRest old text → NamesFirstBad settings text fault → IfErr r (NamesFirstBadOfRest settings old)
+  end_refused old text fault (Ok x) is rest names = tt
+  end_refused old text fault (Err f) is rest names = subst (NamesFirstBadOfRest settings old) (sym is) (text_names old text fault rest names)

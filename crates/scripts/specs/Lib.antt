@@ -16,6 +16,8 @@ pub mod ScheduleText
 pub mod ScriptFaults
 pub mod RecordReading
 pub mod Answers
-pub mod RecordLines
+pub mod LineMachine
+pub mod RecordStates
+pub mod RecordPieces
 pub mod RecordFaults
 pub mod Runs

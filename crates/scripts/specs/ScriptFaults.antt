@@ -1,6 +1,7 @@
 -- What a line of the scripts does, and what reading them answers.
-use Rattle.std.specs.Prelude.{ℕ, ◌≡◌, ◌<◌, ◌≤◌, ◌⊎◌, ◌+◌, List, [], ◌∷◌, ◌++◌, length, Option, Some, slice_get, slice_set}
-use Rattle.std.specs.List.{AllByRecursion}
+use Rattle.std.specs.Prelude.{ℕ, ◌≡◌, ◌<◌, ◌≤◌, ◌⊎◌, Bool, List, [], ◌∷◌, ◌++◌, length, Option, Some, slice_get, slice_set}
+use Rattle.scripts.specs.declared.line_machine.PieceFault.{PieceFault}
+use Rattle.scripts.specs.declared.line_machine.PieceFault.TheVariants as piece
 use Rattle.scripts.specs.declared.request.Request.{Request}
 use Rattle.scripts.specs.declared.script_list.TheConstants.{MOST_ENTRIES}
 use Rattle.scripts.specs.declared.script_reader.ScriptsFault.{ScriptsFault}
@@ -8,9 +9,9 @@ use Rattle.scripts.specs.declared.script_reader.ScriptsFault.TheVariants.{OutOfM
 use Rattle.scripts.specs.declared.script_source.ScriptsReadFault.{ScriptsReadFault}
 use Rattle.scripts.specs.declared.script_source.ScriptsReadFault.TheVariants as stream
 use Rattle.scripts.specs.KernelTypes.{KernelTodo}
-use Rattle.scripts.specs.ScriptText.{IsBlank, IsRequest, IsFirstBad, AreScripts}
+use Rattle.scripts.specs.LineMachine.{HasTaken}
+use Rattle.scripts.specs.ScriptText.{IsBlank, IsRequest, IsFirstBad, AreScripts, dealt}
 use Rattle.scripts.specs.Settings.{Settings}
-use Rattle.scripts.specs.Words.{NoEnd, text_of_lines}
 
 -- an entry is added to its CPU's script, which has room for it
 pub record Adds (old new : List (List KernelTodo)) (r : Request) : Type 0 where
@@ -38,28 +39,27 @@ abbrev pub NamesFirstBad : Settings → List ℕ → ScriptsFault → Type 0
 NamesFirstBad settings text OutOfMemory = Unit {0}
 NamesFirstBad settings text (Line n) = IsFirstBad settings text n
 
-module _ (settings : Settings) where
-  -- the lines, one after the other, take scripts to scripts
-  abbrev pub TakesEach : List (List ℕ) → List (List KernelTodo) → List (List KernelTodo) → Type 0
-  TakesEach [] old new = new ≡ old
-  TakesEach (line ∷ lines) old new = (between : List (List KernelTodo)) × TakesLine settings line old between × TakesEach lines between new
+-- what was read: the scripts, under these settings
+pub record ScriptState : Type 0 where
+  pub settings : Settings
+  pub lists : List (List KernelTodo)
 
-  -- the text is whole lines, which take scripts to scripts, and a rest without an end; m is the number of the line after them
-  pub record TakesText (text : List ℕ) (old : List (List KernelTodo)) (n : ℕ) (rest : List ℕ) (new : List (List KernelTodo)) (m : ℕ) : Type 0 where
-    pub lines : List (List ℕ)
-    pub each : AllByRecursion NoEnd lines
-    pub parts : text ≡ text_of_lines lines ++ rest
-    pub takes : TakesEach lines old new
-    pub number : m ≡ n + length lines
+-- the line adds nothing, or the entry that it asks for
+pub record TakesScriptLine (line : List ℕ) (old new : ScriptState) : Type 0 where
+  pub same : new.settings ≡ old.settings
+  pub takes : TakesLine old.settings line old.lists new.lists
 
-  -- line m of the text, where the first has number n, is the first that isn't taken
-  pub record RefusesText (text : List ℕ) (old : List (List KernelTodo)) (n m : ℕ) : Type 0 where
-    pub line : List ℕ
-    pub after : List ℕ
-    pub new : List (List KernelTodo)
-    pub before : TakesText text old n (line ++ 10 ∷ after) new m
-    pub no_end : NoEnd line
-    pub bad : IsNotTaken settings line new
+-- the line adds nothing that could come there
+abbrev pub RefusesScriptLine : List ℕ → ScriptState → Type 0
+RefusesScriptLine line state = IsNotTaken state.settings line state.lists
+
+-- nothing was read
+abbrev pub no_entries : Settings → ScriptState
+no_entries settings = record { settings = settings; lists = dealt settings.cpus [] }
+
+-- the whole lines of the text were taken, and what follows them is kept
+abbrev pub HasRead : Settings → List ℕ → ScriptState → ℕ → Bool → List ℕ → Type 0
+HasRead settings text state number passing pending = HasTaken TakesScriptLine (no_entries settings) text state number passing pending
 
 -- what is read is a source's rest, where it tells it
 abbrev pub IsRest : Option (List ℕ) → List ℕ → Type 0
@@ -83,3 +83,8 @@ NamesFirstBadOfRest settings remaining (stream.Line n) = IsFirstBadOfRest settin
 abbrev pub of_text : ScriptsFault → ScriptsReadFault
 of_text OutOfMemory = stream.OutOfMemory
 of_text (Line n) = stream.Line n
+
+-- the same refusal of a piece and of a text
+abbrev pub of_piece : PieceFault → ScriptsFault
+of_piece piece.OutOfMemory = OutOfMemory
+of_piece (piece.Line n) = Line n

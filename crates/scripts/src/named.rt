@@ -1,6 +1,6 @@
 //! Finding an object by its name.
 
-ghost use Rattle.std.specs.Prelude.{◌≡◌, ◌<◌, position, IfSome};
+ghost use Rattle.std.specs.Prelude.{◌≡◌, ◌<◌, ◌≤◌, length, position, IfSome};
 ghost use Rattle.std.specs.List.{list_any};
 ghost use Rattle.std.specs.Option.{option_map};
 ghost use Rattle.std.specs.Str.{bytes_eq};
@@ -8,7 +8,7 @@ ghost use Rattle.scripts.specs.Reading.{left};
 ghost use Rattle.scripts.specs.RecordReading.{place_at};
 
 use crate::words::{Words, word};
-use crate::{ObjectSettings, Settings};
+use crate::ObjectSettings;
 use word_rule::MOST_CELLS;
 
 /// Whether one of the objects has the name.
@@ -19,23 +19,21 @@ pub(crate) fn is_taken(objects: &[ObjectSettings], name: &[u8]) -> bool
 }
 
 /// The place of the object of that name, from 0.
-fn place_of(settings: &Settings, name: &[u8]) -> Option<usize>
-    ensures place { result ≡ position (λ o. bytes_eq o.name name.now) settings.now.objects }
-    ensures bound { IfSome result (λ i. i < MOST_CELLS) }
+fn place_of(objects: &[ObjectSettings], name: &[u8]) -> Option<usize>
+    ensures place { result ≡ position (λ o. bytes_eq o.name name.now) objects.now }
+    ensures bound { IfSome result (λ i. i < length objects.now) }
 {
-    settings
-        .objects()
-        .iter()
-        .position(|object| object.name() == name)
+    objects.iter().position(|object| object.name() == name)
 }
 
 /// The place of the object whose name is next, from 0.
 #[tactic(auto, unfolding(crate::specs::RecordReading::place_at))]
 #[inline(always)]
-pub(crate) fn place<'a>(settings: &Settings, at: Words<'a>) -> Option<(u8, Words<'a>)>
-    ensures { option_map (λ x. (x.0, left x.1)) result ≡ place_at settings.now (left at.entry) }
+pub(crate) fn place<'a>(objects: &[ObjectSettings], at: Words<'a>) -> Option<(u8, Words<'a>)>
+    requires { length objects.now ≤ MOST_CELLS }
+    ensures { option_map (λ x. (x.0, left x.1)) result ≡ place_at objects.now (left at.entry) }
 {
     let (name, rest) = word(at)?;
-    let place = place_of(settings, name)?;
+    let place = place_of(objects, name)?;
     Some((place as u8, rest))
 }

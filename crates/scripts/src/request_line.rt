@@ -20,7 +20,7 @@ fn read(settings: &Settings, line: &[u8]) -> Option<Request>
 {
     let cpus = settings.cpus();
     let (cpu, rest) = number(u64::from(u8::MAX), Some(line))?;
-    let (object, rest) = place(settings, rest)?;
+    let (object, rest) = place(settings.objects(), rest)?;
     let (calls, rest) = list::<KCall>(rest)?;
     if cpu < u64::from(cpus) && rest.is_none() {
         Some(Request {

@@ -1,14 +1,14 @@
 //! Reading scripts from a source, piece by piece.
 
-ghost use Rattle.std.specs.Prelude.{◌≡◌, ◌++◌, ℕ, true, length, map, Err, IfOk, IfErr, OnOk};
+ghost use Rattle.std.specs.Prelude.{◌≡◌, true, length, Err, IfOk, IfErr, OnOk};
 ghost use Rattle.event_log.specs.Stream.{counted};
-ghost use Rattle.scripts.specs.ScriptFaults.{TakesText, RefusesText, SpellsRest, NamesFirstBadOfRest};
+ghost use Rattle.scripts.specs.ScriptFaults.{SpellsRest, NamesFirstBadOfRest};
 ghost use Rattle.scripts.specs.ScriptText.{ScriptsFit};
-ghost use Rattle.scripts.specs.Words.{NoEnd};
 
-use crate::script_reader::{empty_lists, take_text};
-use crate::{KernelObject, Scripts, ScriptsFault, Settings};
-use event_log::{Source, Todo};
+use crate::line_machine::{PieceFault, Pieces};
+use crate::script_lines::{ScriptLists, whole_scripts};
+use crate::{Scripts, ScriptsFault, Settings};
+use event_log::Source;
 use std::alloc::Global;
 
 /// Why scripts were not read from a source.
@@ -33,37 +33,16 @@ impl From<ScriptsFault> for ScriptsReadFault {
     }
 }
 
-/// Adds a piece to the line without an end that is left of the text before it, takes the whole lines of both, of which the
-/// first has that number, and answers the number of the line that is left now.
-fn take_piece(
-    settings: &Settings,
-    piece: &[u8],
-    pending: &mut Vec<u8>,
-    number: usize,
-    lists: &mut Vec<Vec<Todo<KernelObject>>>,
-) -> Result<usize, ScriptsFault>
-    requires count { length lists.old.items ≡ settings.now.cpus }
-    requires no_end { NoEnd pending.old.items }
-    ensures count { IfOk result (λ _. length lists.new.items ≡ settings.now.cpus) }
-    ensures ok { IfOk result (λ m. TakesText settings.now (pending.old.items ++ piece.now) (map (λ l. l.items) lists.old.items) number pending.new.items (map (λ l. l.items) lists.new.items) m) }
-    ensures no_end { IfOk result (λ _. NoEnd pending.new.items) }
-    ensures refused { (m : ℕ) → result ≡ Err (ScriptsFault.Line m) → RefusesText settings.now (pending.old.items ++ piece.now) (map (λ l. l.items) lists.old.items) number m }
-{
-    match pending.extend_from_slice(piece) {
-        Ok(()) => {}
-        Err(_) => return Err(ScriptsFault::OutOfMemory),
-    }
-    if !piece.contains(&b'\n') {
-        return Ok(number);
-    }
-    let (rest, number) = take_text(settings, pending.as_slice(), number, lists)?;
-    let taken = pending.len() - rest.len();
-    match pending.split_off(taken) {
-        Ok(left) => {
-            *pending = left;
-            Ok(number)
+impl From<PieceFault> for ScriptsReadFault {
+    ghost use Rattle.scripts.specs.ScriptFaults.{of_piece, of_text};
+
+    ghost from_gives = { λ cause fault. fault ≡ of_text (of_piece cause) };
+
+    fn from(cause: PieceFault) -> ScriptsReadFault {
+        match cause {
+            PieceFault::OutOfMemory => ScriptsReadFault::OutOfMemory,
+            PieceFault::Line(number) => ScriptsReadFault::Line(number),
         }
-        Err(_) => Err(ScriptsFault::OutOfMemory),
     }
 }
 
@@ -82,22 +61,17 @@ impl Scripts {
         ensures one_failed { result ≡ Err ScriptsReadFault.ReadFailed → S.failed source.new ≡ counted true (S.failed source.old) }
         ensures no_other { (result ≡ Err ScriptsReadFault.ReadFailed → ⊥) → S.failed source.new ≡ S.failed source.old }
     {
-        let mut lists = empty_lists(alloc, settings.cpus())?;
-        let mut pending: Vec<u8> = Vec::new(alloc);
-        let mut number = 1;
+        let lists = ScriptLists::new(alloc, settings)?;
+        let mut pieces = Pieces::new(alloc, lists);
         let mut buffer = [0u8; 4096];
         for _ in 0..u64::MAX {
             let Ok(count) = source.read(&mut buffer) else {
                 return Err(ScriptsReadFault::ReadFailed);
             };
             if count == 0 {
-                return if pending.as_slice().is_empty() {
-                    Ok(Scripts::of(lists))
-                } else {
-                    Err(ScriptsReadFault::Line(number))
-                };
+                return Ok(whole_scripts(pieces)?);
             }
-            number = take_piece(settings, &buffer[..count], &mut pending, number, &mut lists)?;
+            pieces.feed(&buffer[..count])?;
         }
         Err(ScriptsReadFault::OutOfMemory)
     }

@@ -1,27 +1,36 @@
-use Rattle.std.proofs.Common.{◌≡◌, List, length, sym, subst, arith}
-use Rattle.scripts.specs.declared.script_reader.ScriptsFault.TheVariants.{Line}
-use Rattle.scripts.specs.ScriptFaults.{NamesFirstBad}
-use Rattle.scripts.specs.KernelTypes.{KernelTodo}
-use Rattle.scripts.specs.ScriptText.{ScriptsFit, IsFirstBad}
-use Rattle.scripts.proofs.ScriptLines.{scripts_fit}
-use Rattle.scripts.proofs.ScriptRanges.{scripts_within}
-use Rattle.scripts.proofs.ScriptVerdicts.{bad_is_not_good}
+use Rattle.std.proofs.Common.{[], Err, ap, ◌∙◌}
+use Rattle.scripts.specs.ScriptFaults.{TakesScriptLine}
+use Rattle.scripts.proofs.LineMachine.{pending_no_end}
+use Rattle.scripts.proofs.ScriptTexts.{has_read, text_is_bad, refusal_names, no_scripts, fit_by}
 use Rattle.scripts.proofs.script_list.Scripts.read.Goals as goal
 
-pub returns-in-Err-clause-no_scripts : goal.returns-in-Err-clause-no_scripts
-returns-in-Err-clause-no_scripts c = λ n scripts is are.
-    let line : c.in-Err.fault ≡ Line n = cc in
-    let first : IsFirstBad c.args.settings.now c.args.text.now n = subst (NamesFirstBad c.args.settings.now c.args.text.now) line c.in-Err.ensures.fault in
-    bad_is_not_good c.args.settings.now c.in-Err.ensures.settings_fit c.args.text.now n scripts are first
+pub feed-requires : goal.feed-requires
+feed-requires c = pending_no_end TakesScriptLine c.in_ok-lists.lists [] _ _ _ _ c.new-pieces.ensures
 
-pub of-requires : goal.of-requires
-of-requires c =
-    let settings = c.args.settings.now in
-    let fit = scripts_fit settings c.args.text.now _ c.in-Ok.ensures.found in
-    let limits = c.in-Ok.ensures.settings_fit in
-    (omega (arith, fit.0, limits.cpus.1), scripts_within (length settings.objects) _ limits.count.1 _ fit.1)
+pub returns-in_err-feed-clause-fault : goal.returns-in_err-feed-clause-fault
+returns-in_err-feed-clause-fault c =
+    refusal_names c.args.settings.now c.args.text.now c.in_err-feed.field-0.0 c.from_residual-in_err-feed.result c.from_residual-in_err-feed.ensures.1
+    (λ m e. text_is_bad c.args.settings.now c.args.text.now c.in_ok-lists.lists m c.in_ok-lists.ensures.lists (c.feed.ensures.refused c.in_ok-lists.lists [] m c.new-pieces.ensures (c.in_err-feed.was ∙ ap Err e)))
 
-pub returns-in-Ok-clause-fit : goal.returns-in-Ok-clause-fit
-returns-in-Ok-clause-fit c =
-    let settings = c.args.settings.now in
-    subst (λ (l : List (List KernelTodo)). ScriptsFit settings.cpus (length settings.objects) l) (sym c.of.ensures) (scripts_fit settings c.args.text.now _ c.in-Ok.ensures.found)
+pub returns-in_err-feed-clause-no_scripts : goal.returns-in_err-feed-clause-no_scripts
+returns-in_err-feed-clause-no_scripts c =
+    no_scripts c.args.settings.now c.args.text.now c.from_residual-in_err-feed.result c.in_ok-lists.ensures.fit
+    (refusal_names c.args.settings.now c.args.text.now c.in_err-feed.field-0.0 c.from_residual-in_err-feed.result c.from_residual-in_err-feed.ensures.1
+    (λ m e. text_is_bad c.args.settings.now c.args.text.now c.in_ok-lists.lists m c.in_ok-lists.ensures.lists (c.feed.ensures.refused c.in_ok-lists.lists [] m c.new-pieces.ensures (c.in_err-feed.was ∙ ap Err e))))
+
+pub whole_scripts-requires : goal.whole_scripts-requires
+whole_scripts-requires c = (c.args.settings.now, c.args.text.now, has_read c.args.settings.now c.args.text.now c.in_ok-lists.lists _ _ _ _ c.in_ok-lists.ensures.lists (c.in_ok-feed.ensures.ok c.in_ok-lists.lists [] c.new-pieces.ensures))
+
+pub returns-clause-found : goal.returns-clause-found
+returns-clause-found c = c.whole_scripts.ensures.found c.args.settings.now c.args.text.now (has_read c.args.settings.now c.args.text.now c.in_ok-lists.lists _ _ _ _ c.in_ok-lists.ensures.lists (c.in_ok-feed.ensures.ok c.in_ok-lists.lists [] c.new-pieces.ensures))
+
+pub returns-clause-fit : goal.returns-clause-fit
+returns-clause-fit c = fit_by c.args.settings.now c.args.text.now c.whole_scripts.result (c.whole_scripts.ensures.found c.args.settings.now c.args.text.now (has_read c.args.settings.now c.args.text.now c.in_ok-lists.lists _ _ _ _ c.in_ok-lists.ensures.lists (c.in_ok-feed.ensures.ok c.in_ok-lists.lists [] c.new-pieces.ensures)))
+
+pub returns-clause-fault : goal.returns-clause-fault
+returns-clause-fault c = c.whole_scripts.ensures.fault c.args.settings.now c.args.text.now (has_read c.args.settings.now c.args.text.now c.in_ok-lists.lists _ _ _ _ c.in_ok-lists.ensures.lists (c.in_ok-feed.ensures.ok c.in_ok-lists.lists [] c.new-pieces.ensures))
+
+pub returns-clause-no_scripts : goal.returns-clause-no_scripts
+returns-clause-no_scripts c =
+    no_scripts c.args.settings.now c.args.text.now c.whole_scripts.result c.in_ok-lists.ensures.fit
+    (c.whole_scripts.ensures.fault c.args.settings.now c.args.text.now (has_read c.args.settings.now c.args.text.now c.in_ok-lists.lists _ _ _ _ c.in_ok-lists.ensures.lists (c.in_ok-feed.ensures.ok c.in_ok-lists.lists [] c.new-pieces.ensures)))

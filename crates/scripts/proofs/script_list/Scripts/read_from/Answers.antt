@@ -1,48 +1,52 @@
-use Rattle.std.proofs.Common.{◌<◌, ℕ, [], List, Err, length, sym, refl, ap, subst, ◌∙◌, arith}
-use Rattle.std.proofs.lemmas.List.{length-map, length-replicate}
-use Rattle.scripts.specs.KernelTypes.{KernelTodo}
-use Rattle.scripts.specs.ScriptText.{ScriptsFit, dealt}
-use Rattle.scripts.proofs.Cuts.{is_nothing, is_something}
-use Rattle.scripts.proofs.ScriptLines.{starts, counted, scripts_fit}
-use Rattle.scripts.proofs.ScriptRanges.{scripts_within}
-use Rattle.scripts.proofs.ScriptSources.{read_starts, read_piece, piece_refused, read_whole, read_no_end, read_refused}
+use Rattle.std.proofs.Common.{ℕ, Err, refl, ap, ◌∙◌, arith}
+use Rattle.std.proofs.lemmas.List.{length-replicate}
+use Rattle.scripts.specs.ScriptFaults.{TakesScriptLine, no_entries}
+use Rattle.scripts.proofs.LineMachine.{pending_no_end}
+use Rattle.scripts.proofs.ScriptLines.{scripts_fit}
+use Rattle.scripts.proofs.ScriptSources.{read_starts, read_piece, piece_refused, all_read, read_refused, end_refused}
 use Rattle.scripts.proofs.script_list.Scripts.read_from.Goals as goal
 
 pub loop-init : goal.loop-init
-loop-init g c =
-    let empty = c.in_ok-lists.ensures.lists ∙ ap (λ n. dealt n []) c.cpus.ensures.cpus in
-    record {
-      read = read_starts c.args.settings.now _ c.new-pending.result.items _ c.new-pending.ensures.items empty;
-      count = sym (length-map c.in_ok-lists.lists.items (λ l. l.items)) ∙ counted c.args.settings.now [] [] _ 1 (starts c.args.settings.now [] _ empty);
-      failed = refl;
-      room = length-replicate {A = ℕ} 4096 0;
-    }
+loop-init g c = record {
+  read = read_starts c.args.settings.now _ c.in_ok-lists.lists _ _ _ _ c.new-pieces.ensures c.in_ok-lists.ensures.lists;
+  failed = refl;
+  room = length-replicate {A = ℕ} 4096 0;
+}
 
-pub of-requires : goal.of-requires
-of-requires g c =
-    let settings = c.args.settings.now in
-    let limits = c.cpus.ensures.fit in
-    let spelled = read_whole settings _ _ _ c.read.new.buffer c.loop.pending.items _ c.in-Ok.count c.loop.number c.loop.invariant.read c.if-count-eq0.true c.in-Ok.ensures.bytes.0 (c.in-Ok.ensures.bytes.1 c.if-count-eq0.true (omega (arith, c.read.auto.buffer, c.loop.invariant.room))) (sym c.as_slice.ensures.value ∙ is_nothing c.as_slice.result.now c.if-is_empty.ensures) in
-    let fit = scripts_fit settings spelled.0 _ spelled.2 in
-    (omega (arith, fit.0, limits.cpus.1), scripts_within (length settings.objects) _ limits.count.1 _ fit.1)
+pub whole_scripts-requires : goal.whole_scripts-requires
+whole_scripts-requires g c = (c.args.settings.now, c.loop.invariant.read.seen, c.loop.invariant.read.read)
 
-pub returns-then-is_empty-clause-fit : goal.returns-then-is_empty-clause-fit
-returns-then-is_empty-clause-fit g c =
-    let settings = c.args.settings.now in
-    let spelled = read_whole settings _ _ _ c.read.new.buffer c.loop.pending.items _ c.in-Ok.count c.loop.number c.loop.invariant.read c.if-count-eq0.true c.in-Ok.ensures.bytes.0 (c.in-Ok.ensures.bytes.1 c.if-count-eq0.true (omega (arith, c.read.auto.buffer, c.loop.invariant.room))) (sym c.as_slice.ensures.value ∙ is_nothing c.as_slice.result.now c.if-is_empty.ensures) in
-    subst (λ (l : List (List KernelTodo)). ScriptsFit settings.cpus (length settings.objects) l) (sym c.of.ensures) (scripts_fit settings spelled.0 _ spelled.2)
+pub returns-then-count-eq0-clause-found : goal.returns-then-count-eq0-clause-found
+returns-then-count-eq0-clause-found g c =
+    let read = c.loop.invariant.read in (
+      read.seen,
+      all_read _ _ _ read.seen c.read.new.buffer c.in-Ok.count read.consumed c.if-count-eq0.true c.in-Ok.ensures.bytes.0 (c.in-Ok.ensures.bytes.1 c.if-count-eq0.true (omega (arith, c.read.auto.buffer, c.loop.invariant.room))),
+      c.in_ok-whole_scripts.ensures.found c.args.settings.now read.seen read.read,
+    )
 
-pub returns-else-is_empty-clause-fault : goal.returns-else-is_empty-clause-fault
-returns-else-is_empty-clause-fault g c = read_no_end c.args.settings.now _ _ _ c.read.new.buffer c.loop.pending.items _ c.in-Ok.count c.loop.number c.loop.invariant.read c.if-count-eq0.true c.in-Ok.ensures.bytes.0 (c.in-Ok.ensures.bytes.1 c.if-count-eq0.true (omega (arith, c.read.auto.buffer, c.loop.invariant.room))) (subst (λ l. 0 < length l) c.as_slice.ensures.value (is_something c.as_slice.result.now c.if-is_empty.ensures))
+pub returns-then-count-eq0-clause-fit : goal.returns-then-count-eq0-clause-fit
+returns-then-count-eq0-clause-fit g c =
+    let read = c.loop.invariant.read in
+    scripts_fit c.args.settings.now read.seen _ (c.in_ok-whole_scripts.ensures.found c.args.settings.now read.seen read.read)
 
-pub returns-in_err-number-clause-fault : goal.returns-in_err-number-clause-fault
-returns-in_err-number-clause-fault g c = read_refused c.args.settings.now _ c.in_err-number.field-0.0 c.from_residual-in_err-number.result c.from_residual-in_err-number.ensures.1
-    (λ m e. piece_refused c.args.settings.now _ _ _ c.loop.pending.items _ _ c.loop.number m c.loop.invariant.read c.in-Ok.ensures.bytes.0 (c.take_piece.ensures.refused m (c.in_err-number.was ∙ ap Err e)))
+pub returns-in_err-whole_scripts-clause-fault : goal.returns-in_err-whole_scripts-clause-fault
+returns-in_err-whole_scripts-clause-fault g c =
+    let read = c.loop.invariant.read in
+    let rest = all_read _ _ _ read.seen c.read.new.buffer c.in-Ok.count read.consumed c.if-count-eq0.true c.in-Ok.ensures.bytes.0 (c.in-Ok.ensures.bytes.1 c.if-count-eq0.true (omega (arith, c.read.auto.buffer, c.loop.invariant.room))) in
+    end_refused c.args.settings.now _ read.seen c.in_err-whole_scripts.field-0.0 c.from_residual-in_err-whole_scripts.result c.from_residual-in_err-whole_scripts.ensures.1 rest
+    (c.in_err-whole_scripts.ensures.fault c.args.settings.now read.seen read.read)
+
+pub feed-requires : goal.feed-requires
+feed-requires g c = pending_no_end TakesScriptLine (no_entries c.args.settings.now) c.loop.invariant.read.seen _ _ _ _ c.loop.invariant.read.read
+
+pub returns-in_err-feed-clause-fault : goal.returns-in_err-feed-clause-fault
+returns-in_err-feed-clause-fault g c =
+    read_refused c.args.settings.now _ c.in_err-feed.field-0.0 c.from_residual-in_err-feed.result c.from_residual-in_err-feed.ensures.1
+    (λ m e. piece_refused c.args.settings.now _ _ _ _ _ _ _ _ c.loop.invariant.read c.in-Ok.ensures.bytes.0 m (λ start text h. c.feed.ensures.refused start text m h (c.in_err-feed.was ∙ ap Err e)))
 
 pub loop-preserved : goal.loop-preserved
 loop-preserved g c = record {
-  read = read_piece c.args.settings.now _ _ _ c.loop.pending.items _ _ _ _ c.loop.number c.in_ok-number.number c.loop.invariant.read c.in-Ok.ensures.bytes.0 c.in_ok-number.ensures.ok c.in_ok-number.ensures.no_end;
-  count = c.in_ok-number.ensures.count;
+  read = read_piece c.args.settings.now _ _ _ _ _ _ _ _ c.loop.invariant.read c.in-Ok.ensures.bytes.0 _ _ _ _ c.in_ok-feed.ensures.ok;
   failed = c.in-Ok.ensures.failures ∙ c.loop.invariant.failed;
   room = c.read.auto.buffer ∙ c.loop.invariant.room;
 }
