@@ -18,7 +18,7 @@ pub text_append : (a b : List (List ℕ)) → text_of_lines (a ++ b) ≡ text_of
 text_append a b = flat_map-append (λ line. line ++ 10 ∷ []) a b
 
 -- a text begins with its first line, and with that line's end
-line_behind : (line : List ℕ) (ls : List (List ℕ)) (rest : List ℕ) → text_of_lines (line ∷ ls) ++ rest ≡ line ++ 10 ∷ (text_of_lines ls ++ rest)
+pub line_behind : (line : List ℕ) (ls : List (List ℕ)) (rest : List ℕ) → text_of_lines (line ∷ ls) ++ rest ≡ line ++ 10 ∷ (text_of_lines ls ++ rest)
 line_behind line ls rest = append_assoc (line ++ 10 ∷ []) (text_of_lines ls) rest ∙ append_assoc line (10 ∷ []) (text_of_lines ls ++ rest)
 
 -- the first line end of two equal texts is one place

@@ -28,9 +28,11 @@ pub mod RecordRuns
 pub mod RecordSpells
 pub mod RecordEnds
 pub mod RecordTexts
+pub mod RecordPieces
 pub mod RecordLengths
 pub mod RecordSteps
 pub mod RecordWords
 pub mod Digits
 pub mod ScriptTexts
 pub mod ScriptSources
+pub mod RecordSources

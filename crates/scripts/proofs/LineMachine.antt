@@ -4,7 +4,7 @@ use Rattle.std.proofs.lemmas.Grind.{flat_map-append}
 use Rattle.std.proofs.lemmas.List.{append-nil}
 use Rattle.std.specs.Result.{IsErrAnd}
 use Rattle.event_log.proofs.Each.{all_append, all_push}
-use Rattle.scripts.specs.LineMachine.{TakesEach, TakesText, RefusesText, RefusesRest, Passes, IsKept, HasTaken}
+use Rattle.scripts.specs.LineMachine.{TakesEach, TakesText, RefusesText, RefusesRest, Passes, IsKept, IsShort, HasTaken}
 use Rattle.scripts.specs.Words.{NoEnd, text_of_lines}
 
 pub text_more : (lines : List (List ℕ)) (line : List ℕ) → text_of_lines (lines ++ line ∷ []) ≡ text_of_lines lines ++ (line ++ 10 ∷ [])
@@ -23,6 +23,11 @@ pub first_in_back : (xs ys : List ℕ) → length xs < 1 → 1 ≤ length ys →
 first_in_back [] [] none some = absurd (omega arith)
 first_in_back [] (y ∷ ys) none some = (ys, refl)
 first_in_back (x ∷ xs) ys none some = absurd (omega arith)
+
+-- what is too long has some bytes
+pub long_is_some : (fits : ℕ → ℕ → Type 0) (bytes : List ℕ) → (IsShort fits bytes → ⊥) → 0 < length bytes
+long_is_some fits [] long = absurd (long tt)
+long_is_some fits (b ∷ bytes) long = omega arith
 
 -- a fault that is handed on
 pub handed_on : {X E : Type 0} (r : Result X E) (fault e : E) → IsErrAnd r (λ f. f ≡ fault) → r ≡ Err e → fault ≡ e
@@ -109,7 +114,7 @@ module _ {S : Type 0} (act : List ℕ → S → S → Type 0) where
       kept = kept;
     }
 
-  module _ (refuses : List ℕ → S → Type 0) where
+  module _ (refuses : List ℕ → S → Type 0) (fits : ℕ → ℕ → Type 0) where
     -- a line that isn't taken
     pub text_bad_line : (text rest after line : List ℕ) (old new : S) (n m : ℕ) → TakesText act text old n rest new m → NoEnd line → rest ≡ line ++ 10 ∷ after → refuses line new → RefusesText act refuses text old n m
     text_bad_line text rest after line old new n m so_far no_end is bad = record {
@@ -129,9 +134,9 @@ module _ {S : Type 0} (act : List ℕ → S → S → Type 0) where
           (all_append (λ b. (b == 10) ≡ false) taken.unended end taken.no_end no_end) (sym (append_assoc taken.unended end (10 ∷ after))) bad
 
       -- the line without an end isn't taken, however it goes on
-      pub more_refused : (bytes : List ℕ) → NoEnd bytes → 0 < length (taken.unended ++ bytes) → ((more : List ℕ) → refuses ((taken.unended ++ bytes) ++ more) state) → RefusesRest act refuses (text ++ bytes) start 1 number
-      more_refused bytes no_end some bad = record {
-        some = some;
+      pub more_refused : (bytes : List ℕ) → NoEnd bytes → (IsShort fits (taken.unended ++ bytes) → ⊥) → ((more : List ℕ) → refuses ((taken.unended ++ bytes) ++ more) state) → RefusesRest act refuses fits (text ++ bytes) start 1 number
+      more_refused bytes no_end long bad = record {
+        long = long;
         rest = taken.unended ++ bytes;
         new = state;
         before = text_longer bytes text start 1 taken.unended state number taken.taken;

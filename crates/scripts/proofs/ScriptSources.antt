@@ -9,7 +9,7 @@ use Rattle.scripts.specs.declared.script_reader.ScriptsFault.{ScriptsFault}
 use Rattle.scripts.specs.declared.script_reader.ScriptsFault.TheVariants.{OutOfMemory, Line}
 use Rattle.scripts.specs.declared.script_source.ScriptsReadFault.{ScriptsReadFault}
 use Rattle.scripts.specs.LineMachine.{HasTaken, RefusesLine}
-use Rattle.scripts.specs.ScriptFaults.{ScriptState, TakesScriptLine, RefusesScriptLine, HasRead, no_entries, IsRest, IsFirstBadOfRest, NamesFirstBad, NamesFirstBadOfRest, of_piece, of_text}
+use Rattle.scripts.specs.ScriptFaults.{ScriptState, TakesScriptLine, RefusesScriptLine, FitsScriptLine, HasRead, no_entries, IsRest, IsFirstBadOfRest, NamesFirstBad, NamesFirstBadOfRest, of_piece, of_text}
 use Rattle.scripts.specs.ScriptText.{IsFirstBad}
 use Rattle.scripts.specs.Settings.{Settings}
 use Rattle.scripts.proofs.ScriptTexts.{line_refused}
@@ -62,7 +62,7 @@ module _ (settings : Settings) where
     }
 
     -- a piece with a bad line
-    pub piece_refused : (m : ℕ) → ((start : ScriptState) (text : List ℕ) → HasTaken TakesScriptLine start text state number passing pending → RefusesLine TakesScriptLine RefusesScriptLine (text ++ piece) start 1 m) → IsFirstBadOfRest settings old m
+    pub piece_refused : (m : ℕ) → ((start : ScriptState) (text : List ℕ) → HasTaken TakesScriptLine start text state number passing pending → RefusesLine TakesScriptLine RefusesScriptLine FitsScriptLine (text ++ piece) start 1 m) → IsFirstBadOfRest settings old m
     piece_refused m refuses =
         of_rest (λ text. IsFirstBad settings text m) old now (read.seen ++ piece) (consumes_then old between now read.seen piece read.consumed consumed)
         (λ more. line_refused settings (read.seen ++ piece) more m (refuses (no_entries settings) read.seen read.read))

@@ -11,7 +11,7 @@ use Rattle.scripts.specs.declared.script_reader.ScriptsFault.{ScriptsFault}
 use Rattle.scripts.specs.declared.script_reader.ScriptsFault.TheVariants.{OutOfMemory, Line}
 use Rattle.scripts.specs.KernelTypes.{KernelTodo}
 use Rattle.scripts.specs.LineMachine.{TakesEach, TakesText, RefusesText, RefusesRest, RefusesLine, HasTaken}
-use Rattle.scripts.specs.ScriptFaults.{ScriptState, TakesLine, TakesScriptLine, RefusesScriptLine, IsNotTaken, NamesFirstBad, HasRead, no_entries, of_piece}
+use Rattle.scripts.specs.ScriptFaults.{ScriptState, TakesLine, TakesScriptLine, RefusesScriptLine, FitsScriptLine, IsNotTaken, NamesFirstBad, HasRead, no_entries, of_piece}
 use Rattle.scripts.specs.ScriptText.{IsBlank, IsFirstBad, AreScripts, ScriptsFit, ScriptsWithin}
 use Rattle.scripts.specs.Settings.{Settings, SettingsFit}
 use Rattle.scripts.specs.Words.{NoEnd, text_of_lines}
@@ -65,7 +65,7 @@ module _ (settings : Settings) where
       bad_line settings (text ++ more) ((refuses.line ++ 10 ∷ refuses.after) ++ more) (refuses.after ++ more) refuses.line refuses.new.lists m so_far.1 refuses.no_end (append_assoc refuses.line (10 ∷ refuses.after) more) (subst (λ (s : Settings). IsNotTaken s refuses.line refuses.new.lists) so_far.0 refuses.bad)
 
   -- so is a line without an end that isn't taken however it goes on
-  rest_refused : (text more : List ℕ) (m : ℕ) → RefusesRest TakesScriptLine RefusesScriptLine text (no_entries settings) 1 m → IsFirstBad settings (text ++ more) m
+  rest_refused : (text more : List ℕ) (m : ℕ) → RefusesRest TakesScriptLine RefusesScriptLine FitsScriptLine text (no_entries settings) 1 m → IsFirstBad settings (text ++ more) m
   rest_refused text more m refuses =
       let so_far = text_taken (text ++ more) (refuses.rest ++ more) refuses.new m (text_longer TakesScriptLine more text (no_entries settings) 1 refuses.rest refuses.new m refuses.before) in
       elim (first_line more) [
@@ -75,7 +75,7 @@ module _ (settings : Settings) where
       ]
 
   -- a line that isn't taken, whatever follows, is the first bad one
-  pub line_refused : (text more : List ℕ) (m : ℕ) → RefusesLine TakesScriptLine RefusesScriptLine text (no_entries settings) 1 m → IsFirstBad settings (text ++ more) m
+  pub line_refused : (text more : List ℕ) (m : ℕ) → RefusesLine TakesScriptLine RefusesScriptLine FitsScriptLine text (no_entries settings) 1 m → IsFirstBad settings (text ++ more) m
   line_refused text more m refuses = elim refuses [ inl of_text ↦ text_refused text more m of_text | inr of_rest ↦ rest_refused text more m of_rest ]
 
   -- a text of whole lines spells the scripts
@@ -118,9 +118,9 @@ module _ (settings : Settings) where
   has_read text start state number passing pending is taken = subst (λ (s : ScriptState). HasTaken TakesScriptLine s text state number passing pending) is taken
 
   -- a line of a text that is there whole
-  pub text_is_bad : (text : List ℕ) (start : ScriptState) (m : ℕ) → start ≡ no_entries settings → RefusesLine TakesScriptLine RefusesScriptLine text start 1 m → IsFirstBad settings text m
+  pub text_is_bad : (text : List ℕ) (start : ScriptState) (m : ℕ) → start ≡ no_entries settings → RefusesLine TakesScriptLine RefusesScriptLine FitsScriptLine text start 1 m → IsFirstBad settings text m
   text_is_bad text start m is refuses =
-      subst (λ (t : List ℕ). IsFirstBad settings t m) (append-nil text) (line_refused text [] m (subst (λ (s : ScriptState). RefusesLine TakesScriptLine RefusesScriptLine text s 1 m) is refuses))
+      subst (λ (t : List ℕ). IsFirstBad settings t m) (append-nil text) (line_refused text [] m (subst (λ (s : ScriptState). RefusesLine TakesScriptLine RefusesScriptLine FitsScriptLine text s 1 m) is refuses))
 
 -- a line of more than 1,024 bytes that is no comment isn't taken
 pub long_refused : (state : ScriptState) → SettingsFit state.settings → (first : ℕ) (rest : List ℕ) → (first ≡ 35 → ⊥) → 1024 < length (first ∷ rest) → RefusesScriptLine (first ∷ rest) state

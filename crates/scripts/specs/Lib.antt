@@ -20,4 +20,5 @@ pub mod LineMachine
 pub mod RecordStates
 pub mod RecordPieces
 pub mod RecordFaults
+pub mod RecordSources
 pub mod Runs

@@ -8,6 +8,11 @@ abbrev pub TakesEach : {L S : Type 0} → (L → S → S → Type 0) → List L 
 TakesEach act [] old new = new ≡ old
 TakesEach {L} {S} act (line ∷ lines) old new = (between : S) × act line old between × TakesEach act lines between new
 
+-- a line that begins with these bytes may go on: there are none yet, or so many are allowed behind the first of them
+abbrev pub IsShort : (ℕ → ℕ → Type 0) → List ℕ → Type 0
+IsShort fits [] = Unit {0}
+IsShort fits (b ∷ bytes) = fits b (length (b ∷ bytes))
+
 module _ {S : Type 0} (act : List ℕ → S → S → Type 0) where
   -- the text is whole lines, which take the one state to the other, and a rest; m is the number of the line after them
   pub record TakesText (text : List ℕ) (old : S) (n : ℕ) (rest : List ℕ) (new : S) (m : ℕ) : Type 0 where
@@ -26,18 +31,18 @@ module _ {S : Type 0} (act : List ℕ → S → S → Type 0) where
     pub no_end : NoEnd line
     pub bad : refuses line new
 
-  -- line m, at the end of the text, has no end yet, and isn't taken however it goes on
-  pub record RefusesRest (refuses : List ℕ → S → Type 0) (text : List ℕ) (old : S) (n m : ℕ) : Type 0 where
+  -- line m, at the end of the text, has no end yet, is too long already, and isn't taken however it goes on
+  pub record RefusesRest (refuses : List ℕ → S → Type 0) (fits : ℕ → ℕ → Type 0) (text : List ℕ) (old : S) (n m : ℕ) : Type 0 where
     pub rest : List ℕ
     pub new : S
     pub before : TakesText text old n rest new m
-    pub some : 0 < length rest
+    pub long : IsShort fits rest → ⊥
     pub no_end : NoEnd rest
     pub bad : (more : List ℕ) → refuses (rest ++ more) new
 
   -- line m isn't taken, whatever follows the text
-  abbrev pub RefusesLine : (List ℕ → S → Type 0) → List ℕ → S → ℕ → ℕ → Type 0
-  RefusesLine refuses text old n m = RefusesText refuses text old n m ⊎ RefusesRest refuses text old n m
+  abbrev pub RefusesLine : (List ℕ → S → Type 0) → (ℕ → ℕ → Type 0) → List ℕ → S → ℕ → ℕ → Type 0
+  RefusesLine refuses fits text old n m = RefusesText refuses text old n m ⊎ RefusesRest refuses fits text old n m
 
   -- lines that begin so change nothing
   pub record Passes (state : S) (front : List ℕ) : Type 0 where

@@ -2,6 +2,7 @@
 use Rattle.std.specs.Prelude.{ℕ, ◌≡◌, ◌<◌, ◌≤◌, ◌⊎◌, Bool, List, [], ◌∷◌, ◌++◌, length, Option, Some, slice_get, slice_set}
 use Rattle.scripts.specs.declared.line_machine.PieceFault.{PieceFault}
 use Rattle.scripts.specs.declared.line_machine.PieceFault.TheVariants as piece
+use Rattle.scripts.specs.declared.line_machine.TheConstants.{MOST_BYTES}
 use Rattle.scripts.specs.declared.request.Request.{Request}
 use Rattle.scripts.specs.declared.script_list.TheConstants.{MOST_ENTRIES}
 use Rattle.scripts.specs.declared.script_reader.ScriptsFault.{ScriptsFault}
@@ -52,6 +53,10 @@ pub record TakesScriptLine (line : List ℕ) (old new : ScriptState) : Type 0 wh
 -- the line adds nothing that could come there
 abbrev pub RefusesScriptLine : List ℕ → ScriptState → Type 0
 RefusesScriptLine line state = IsNotTaken state.settings line state.lists
+
+-- a line may have so many bytes, unless it is a comment
+abbrev pub FitsScriptLine : ℕ → ℕ → Type 0
+FitsScriptLine first count = (first ≡ 35 → ⊥) → count ≤ MOST_BYTES
 
 -- nothing was read
 abbrev pub no_entries : Settings → ScriptState

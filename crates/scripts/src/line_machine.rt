@@ -1,11 +1,14 @@
 //! Reading a text line by line, piece by piece.
 
-ghost use Rattle.std.specs.Prelude.{◌≡◌, ◌<◌, ◌≤◌, ◌++◌, ◌∷◌, ℕ, List, [], true, false, length, Ok, Err, IfSome, OnOk};
-ghost use Rattle.scripts.specs.LineMachine.{RefusesText, RefusesLine, Passes, IsKept, HasTaken, TakesText};
+ghost use Rattle.std.specs.Prelude.{◌≡◌, ◌<◌, ◌≤◌, ◌++◌, ◌∷◌, ℕ, List, [], true, false, length, None, Ok, Err, IfSome, OnOk};
+ghost use Rattle.scripts.specs.LineMachine.{RefusesText, RefusesLine, Passes, IsKept, IsShort, HasTaken, TakesText};
 ghost use Rattle.scripts.specs.Words.{NoEnd};
 
 use crate::split::split_line;
 use std::alloc::{AllocFailed, Global};
+
+/// No line of a record has more bytes, and no entry of scripts.
+pub const MOST_BYTES: usize = 1024;
 
 /// Why a line was not taken.
 #[derive(Clone, Copy, Debug, PartialEq, Eq, Drop)]
@@ -40,6 +43,9 @@ pub(crate) trait TakesLines: Drop {
     /// The line can't come there.
     ghost refuses: { List ℕ → Self → Type 0 };
 
+    /// A line that begins with the byte may have so many bytes.
+    ghost fits: { ℕ → ℕ → Type 0 };
+
     /// Takes a line, which has no end in it.
     fn take_line(&mut self, line: &[u8]) -> Result<(), LineFault>
         requires { NoEnd line.now }
@@ -52,7 +58,9 @@ pub(crate) trait TakesLines: Drop {
 
     /// Whether no line can come that begins with the byte and has so many bytes or more.
     fn is_too_long(&self, first: u8, count: usize) -> bool
-        ensures { result ≡ true → (rest : List ℕ) → count ≤ length (first ∷ rest) → refuses (first ∷ rest) self.now };
+        ensures refused { result ≡ true → (rest : List ℕ) → count ≤ length (first ∷ rest) → refuses (first ∷ rest) self.now }
+        ensures long { result ≡ true → fits first count → ⊥ }
+        ensures short { result ≡ false → fits first count };
 }
 
 /// Takes the lines of a text that comes in pieces. Of the text no more is held than a line without an end, and of that
@@ -69,7 +77,8 @@ pub(crate) struct Pieces<L: TakesLines> {
 impl<L: TakesLines> Pieces<L> {
     /// Nothing was taken yet.
     pub(crate) fn new(alloc: Global, lines: L) -> Pieces<L>
-        ensures { HasTaken L.takes lines [] result.lines result.number result.passing result.pending.items }
+        ensures taken { HasTaken L.takes lines [] result.lines result.number result.passing result.pending.items }
+        ensures empty { result.pending.items ≡ [] }
     {
         Pieces {
             lines,
@@ -107,7 +116,8 @@ impl<L: TakesLines> Pieces<L> {
         requires { NoEnd self.old.pending.items }
         ensures no_end { OnOk result (NoEnd self.new.pending.items) }
         ensures ok { (start : L) (text : List ℕ) → HasTaken L.takes start text self.old.lines self.old.number self.old.passing self.old.pending.items → OnOk result (HasTaken L.takes start (text ++ piece.now) self.new.lines self.new.number self.new.passing self.new.pending.items) }
-        ensures refused { (start : L) (text : List ℕ) (n : ℕ) → HasTaken L.takes start text self.old.lines self.old.number self.old.passing self.old.pending.items → result ≡ Err (PieceFault.Line n) → RefusesLine L.takes L.refuses (text ++ piece.now) start 1 n }
+        ensures refused { (start : L) (text : List ℕ) (n : ℕ) → HasTaken L.takes start text self.old.lines self.old.number self.old.passing self.old.pending.items → result ≡ Err (PieceFault.Line n) → RefusesLine L.takes L.refuses L.fits (text ++ piece.now) start 1 n }
+        ensures short { IsShort L.fits self.old.pending.items → OnOk result (IsShort L.fits self.new.pending.items) }
     {
         let mut rest = piece;
         while let Some((end, after)) = split_line(rest) {
@@ -127,6 +137,7 @@ impl<L: TakesLines> Pieces<L> {
         ensures no_end { OnOk result (NoEnd self.new.pending.items) }
         ensures ok { (start : L) (text : List ℕ) → HasTaken L.takes start text self.old.lines self.old.number self.old.passing self.old.pending.items → OnOk result (HasTaken L.takes start (text ++ (end.now ++ 10 ∷ [])) self.new.lines self.new.number self.new.passing self.new.pending.items) }
         ensures refused { (start : L) (text after : List ℕ) (n : ℕ) → HasTaken L.takes start text self.old.lines self.old.number self.old.passing self.old.pending.items → result ≡ Err (PieceFault.Line n) → RefusesText L.takes L.refuses (text ++ (end.now ++ 10 ∷ after)) start 1 n }
+        ensures short { IsShort L.fits self.old.pending.items → OnOk result (IsShort L.fits self.new.pending.items) }
     {
         match self.take(end) {
             Ok(()) => {}
@@ -150,6 +161,7 @@ impl<L: TakesLines> Pieces<L> {
         ensures no_end { OnOk result (NoEnd self.new.pending.items) }
         ensures ok { (unended : List ℕ) → IsKept L.takes self.old.lines unended self.old.passing self.old.pending.items → OnOk result (L.takes (unended ++ end.now) self.old.lines self.new.lines) }
         ensures refused { (unended : List ℕ) → IsKept L.takes self.old.lines unended self.old.passing self.old.pending.items → result ≡ Err LineFault.Refused → L.refuses (unended ++ end.now) self.old.lines }
+        ensures short { IsShort L.fits self.old.pending.items → OnOk result (IsShort L.fits self.new.pending.items) }
     {
         if self.passing {
             self.passing = false;
@@ -173,7 +185,8 @@ impl<L: TakesLines> Pieces<L> {
         ensures no_end { OnOk result (NoEnd self.new.pending.items) }
         ensures ok { (unended : List ℕ) → IsKept L.takes self.old.lines unended self.old.passing self.old.pending.items → OnOk result (IsKept L.takes self.new.lines (unended ++ bytes.now) self.new.passing self.new.pending.items) }
         ensures refused { (unended : List ℕ) → IsKept L.takes self.old.lines unended self.old.passing self.old.pending.items → result ≡ Err LineFault.Refused → (more : List ℕ) → L.refuses ((unended ++ bytes.now) ++ more) self.old.lines }
-        ensures some { (unended : List ℕ) → IsKept L.takes self.old.lines unended self.old.passing self.old.pending.items → result ≡ Err LineFault.Refused → 0 < length (unended ++ bytes.now) }
+        ensures long { (unended : List ℕ) → IsKept L.takes self.old.lines unended self.old.passing self.old.pending.items → result ≡ Err LineFault.Refused → IsShort L.fits (unended ++ bytes.now) → ⊥ }
+        ensures short { IsShort L.fits self.old.pending.items → OnOk result (IsShort L.fits self.new.pending.items) }
     {
         if self.passing {
             return Ok(());
@@ -192,7 +205,8 @@ impl<L: TakesLines> Pieces<L> {
         ensures passing { self.new.passing ≡ self.old.passing }
         ensures ok { OnOk result (self.new.pending.items ≡ self.old.pending.items ++ bytes.now) }
         ensures refused { result ≡ Err LineFault.Refused → (more : List ℕ) → L.refuses ((self.old.pending.items ++ bytes.now) ++ more) self.old.lines }
-        ensures some { result ≡ Err LineFault.Refused → 0 < length (self.old.pending.items ++ bytes.now) }
+        ensures long { result ≡ Err LineFault.Refused → IsShort L.fits (self.old.pending.items ++ bytes.now) → ⊥ }
+        ensures short { OnOk result (IsShort L.fits self.new.pending.items) }
     {
         if self.is_too_long(bytes) {
             return Err(LineFault::Refused);
@@ -216,9 +230,10 @@ impl<L: TakesLines> Pieces<L> {
     /// Whether no line can begin with what is pending and these bytes.
     fn is_too_long(&self, bytes: &[u8]) -> bool
         ensures refused { result ≡ true → (more : List ℕ) → L.refuses ((self.now.pending.items ++ bytes.now) ++ more) self.now.lines }
-        ensures some { result ≡ true → 0 < length (self.now.pending.items ++ bytes.now) }
+        ensures long { result ≡ true → IsShort L.fits (self.now.pending.items ++ bytes.now) → ⊥ }
+        ensures short { result ≡ false → IsShort L.fits (self.now.pending.items ++ bytes.now) }
     {
-        let count = self.pending.len().saturating_add(bytes.len());
+        let count = self.pending.len() + bytes.len();
         match first_of(self.pending.as_slice(), bytes) {
             Some(first) => self.lines.is_too_long(first, count),
             None => false,
@@ -228,7 +243,8 @@ impl<L: TakesLines> Pieces<L> {
 
 /// The first byte of both.
 fn first_of(front: &[u8], back: &[u8]) -> Option<u8>
-    ensures { IfSome result (λ first. (rest : List ℕ) × (front.now ++ back.now ≡ first ∷ rest)) }
+    ensures first { IfSome result (λ first. (rest : List ℕ) × (front.now ++ back.now ≡ first ∷ rest)) }
+    ensures none { result ≡ None → front.now ++ back.now ≡ [] }
 {
     match front {
         [first, ..] => Some(*first),

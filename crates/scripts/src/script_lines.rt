@@ -5,7 +5,7 @@ ghost use Rattle.scripts.specs.ScriptFaults.{Adds, IsFull, HasRead, NamesFirstBa
 ghost use Rattle.scripts.specs.ScriptText.{IsBlank, AreScripts, dealt};
 ghost use Rattle.scripts.specs.Settings.{Settings as Shown, SettingsFit};
 
-use crate::line_machine::{LineFault, Pieces, TakesLines};
+use crate::line_machine::{LineFault, MOST_BYTES, Pieces, TakesLines};
 use crate::request_line::request;
 use crate::script_list::MOST_ENTRIES;
 use crate::{KernelObject, Request, Scripts, ScriptsFault, Settings};
@@ -57,11 +57,13 @@ impl<'s> ScriptLists<'s> {
 }
 
 impl TakesLines for ScriptLists<'_> {
-    ghost use Rattle.scripts.specs.ScriptFaults.{TakesScriptLine, RefusesScriptLine};
+    ghost use Rattle.scripts.specs.ScriptFaults.{TakesScriptLine, RefusesScriptLine, FitsScriptLine};
 
     ghost takes = { TakesScriptLine };
 
     ghost refuses = { RefusesScriptLine };
+
+    ghost fits = { FitsScriptLine };
 
     fn take_line(&mut self, line: &[u8]) -> Result<(), LineFault> {
         if is_blank(line) {
@@ -81,7 +83,7 @@ impl TakesLines for ScriptLists<'_> {
 
     fn is_too_long(&self, first: u8, count: usize) -> bool {
         let _settings = self.settings;
-        first != b'#' && count > 1024
+        first != b'#' && count > MOST_BYTES
     }
 }
 

@@ -6,7 +6,7 @@ use Rattle.scripts.proofs.LineMachine.{handed_on, line_behind, more_kept, more_r
 use Rattle.scripts.proofs.line_machine.Pieces.feed.Goals as goal
 
 pub loop-end-init : goal.loop-end-init
-loop-end-init g c = record { no_end = c.requires; taken = λ start text h. (text, refl, h) }
+loop-end-init g c = record { no_end = c.requires; short = λ short. short; taken = λ start text h. (text, refl, h) }
 
 pub returns-in_err-end_line-clause-refused : goal.returns-in_err-end_line-clause-refused
 returns-in_err-end_line-clause-refused g c = λ start text n h e.
@@ -18,6 +18,7 @@ returns-in_err-end_line-clause-refused g c = λ start text n h e.
 pub loop-end-preserved : goal.loop-end-preserved
 loop-end-preserved g c = record {
   no_end = c.in_ok-end_line.ensures.no_end;
+  short = λ short. c.in_ok-end_line.ensures.short (c.loop-end.invariant.short short);
   taken = λ start text h.
       let before = c.loop-end.invariant.taken start text h in (
         before.0 ++ (c.in-Some.end.now ++ 10 ∷ []),
@@ -39,6 +40,9 @@ returns-in-Err-clause-refused g c = λ start text n h e.
     let no_end : NoEnd c.loop-end.rest.now = search rules in
     let at : c.fault_at.result ≡ Line n = cc in
     let told = c.fault_at.ensures n at in
-    let bad = more_refused g.L.TakesLines.takes g.L.TakesLines.refuses start before.0 c.loop-end.self.lines c.loop-end.self.number c.loop-end.self.passing c.loop-end.self.pending.items before.2 c.loop-end.rest.now no_end (c.keep.ensures.some before.2.unended before.2.kept (c.in-Err.is ∙ ap Err told.0)) (c.keep.ensures.refused before.2.unended before.2.kept (c.in-Err.is ∙ ap Err told.0)) in
-    inr (subst (λ (t : List ℕ). RefusesRest g.L.TakesLines.takes g.L.TakesLines.refuses t start 1 n) before.1
-    (subst (λ (m : ℕ). RefusesRest g.L.TakesLines.takes g.L.TakesLines.refuses (before.0 ++ c.loop-end.rest.now) start 1 m) (sym (told.1 ∙ c.keep.ensures.number)) bad))
+    let bad = more_refused g.L.TakesLines.takes g.L.TakesLines.refuses g.L.TakesLines.fits start before.0 c.loop-end.self.lines c.loop-end.self.number c.loop-end.self.passing c.loop-end.self.pending.items before.2 c.loop-end.rest.now no_end (c.keep.ensures.long before.2.unended before.2.kept (c.in-Err.is ∙ ap Err told.0)) (c.keep.ensures.refused before.2.unended before.2.kept (c.in-Err.is ∙ ap Err told.0)) in
+    inr (subst (λ (t : List ℕ). RefusesRest g.L.TakesLines.takes g.L.TakesLines.refuses g.L.TakesLines.fits t start 1 n) before.1
+    (subst (λ (m : ℕ). RefusesRest g.L.TakesLines.takes g.L.TakesLines.refuses g.L.TakesLines.fits (before.0 ++ c.loop-end.rest.now) start 1 m) (sym (told.1 ∙ c.keep.ensures.number)) bad))
+
+pub returns-in-Ok-clause-short : goal.returns-in-Ok-clause-short
+returns-in-Ok-clause-short g c = λ short. c.in-Ok.ensures.short (c.loop-end.invariant.short short)

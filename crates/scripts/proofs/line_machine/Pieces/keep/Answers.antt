@@ -1,4 +1,5 @@
-use Rattle.std.proofs.Common.{◌++◌, ◌<◌, ℕ, List, length, subst}
+use Rattle.std.proofs.Common.{◌++◌, ℕ, List, subst}
+use Rattle.scripts.specs.LineMachine.{IsShort}
 use Rattle.scripts.proofs.LineMachine.{goes_on_passing, begins_passing}
 use Rattle.scripts.proofs.line_machine.Pieces.keep.Goals as goal
 
@@ -10,8 +11,8 @@ returns-then-begins_passing-clause-ok g c = λ unended kept.
     let begins = c.begins_passing.ensures c.if-begins_passing.true in
     begins_passing g.L.TakesLines.takes c.args.self.now.lines unended c.args.self.now.passing c.args.self.now.pending.items kept c.args.bytes.now c.if-self.false begins.0 begins.1
 
-pub returns-clause-some : goal.returns-clause-some
-returns-clause-some g c = λ unended kept e. subst (λ (u : List ℕ). 0 < length (u ++ c.args.bytes.now)) (kept.whole c.if-self.false) (c.put.ensures.some e)
+pub returns-clause-long : goal.returns-clause-long
+returns-clause-long g c = λ unended kept e. subst (λ (u : List ℕ). IsShort g.L.TakesLines.fits (u ++ c.args.bytes.now) → ⊥) (kept.whole c.if-self.false) (c.put.ensures.long e)
 
 pub returns-clause-refused : goal.returns-clause-refused
 returns-clause-refused g c = λ unended kept e more.

@@ -8,7 +8,7 @@ use Rattle.scripts.proofs.script_list.Scripts.read_from.Goals as goal
 
 pub loop-init : goal.loop-init
 loop-init g c = record {
-  read = read_starts c.args.settings.now _ c.in_ok-lists.lists _ _ _ _ c.new-pieces.ensures c.in_ok-lists.ensures.lists;
+  read = read_starts c.args.settings.now _ c.in_ok-lists.lists _ _ _ _ c.new-pieces.ensures.taken c.in_ok-lists.ensures.lists;
   failed = refl;
   room = length-replicate {A = ℕ} 4096 0;
 }
