@@ -19,3 +19,4 @@ pub mod MarkedLists
 pub mod FreePages
 pub mod FaultNumbers
 pub mod Unrefused
+pub mod TextFaults

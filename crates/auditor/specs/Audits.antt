@@ -1,10 +1,8 @@
 -- What is said of a record, and of a text.
 use Rattle.std.specs.Prelude.{◌≡◌, ◌↔◌, ℕ, List, Option, Some, Result, Ok, Err}
 use Rattle.scripts.specs.contracts.kernel_object.KernelObjectSeqObject.TheImpl.{ghosts as kernel}
-use Rattle.scripts.specs.declared.record_fault.RecordFault.{RecordFault}
-use Rattle.scripts.specs.declared.record_fault.RecordFault.TheVariants as record_fault
-use Rattle.scripts.specs.declared.source_reader.ReadFault.{ReadFault}
-use Rattle.scripts.specs.declared.source_reader.ReadFault.TheVariants as read_fault
+use Rattle.scripts.specs.declared.record_source.RecordReadFault.{RecordReadFault}
+use Rattle.scripts.specs.declared.record_source.RecordReadFault.TheVariants as read_fault
 use Rattle.scripts.specs.RecordFaults.{IsWhole, IsBadLine}
 use Rattle.scripts.specs.RecordRanges.{Record}
 use Rattle.scripts.specs.Runs.{opened_of}
@@ -17,14 +15,10 @@ use Rattle.auditor.specs.declared.fault.Verdict.TheVariants as verdict
 use Rattle.auditor.specs.Faults.{IsFirstFault}
 
 -- why it wasn't read, as why it wasn't judged
-abbrev pub of_read : ReadFault → TextFault
-of_read read_fault.OutOfMemory = text_fault.OutOfMemory
-of_read read_fault.ReadFailed = text_fault.ReadFailed
-
--- the same of a text that is no record's
-abbrev pub of_record : RecordFault → TextFault
-of_record record_fault.OutOfMemory = text_fault.OutOfMemory
-of_record (record_fault.Line n) = text_fault.BadLine n
+abbrev pub of_record : RecordReadFault → TextFault
+of_record read_fault.OutOfMemory = text_fault.OutOfMemory
+of_record read_fault.ReadFailed = text_fault.ReadFailed
+of_record (read_fault.Line n) = text_fault.BadLine n
 
 -- a sound record is called so, and an unsound one by its first fault
 pub record IsVerdict (r : Record) (v : Verdict) : Type 0 where

@@ -4,11 +4,12 @@ ghost use Rattle.std.specs.Prelude.{◌≡◌, true, Some, Err, IfOk, OnOk, IfEr
 ghost use Rattle.event_log.specs.Stream.{counted};
 ghost use Rattle.scripts.specs.RecordFaults.{text_of};
 ghost use Rattle.scripts.specs.RecordRanges.{RecordFits, Record as Shown};
+ghost use Rattle.scripts.specs.RecordSources.{IsReadOut};
 ghost use Rattle.auditor.specs.Audits.{IsVerdictOnText, IsTextFault, IsAudited};
 
 use crate::{Verdict, audit};
 use event_log::{OutOfMemory, Source};
-use scripts::{ReadFault, Record, RecordFault, read_all};
+use scripts::{Record, RecordReadFault};
 use std::alloc::Global;
 
 /// Why a text was not judged.
@@ -30,42 +31,31 @@ impl From<OutOfMemory> for TextFault {
     }
 }
 
-impl From<ReadFault> for TextFault {
-    ghost use Rattle.auditor.specs.Audits.{of_read};
-
-    ghost from_gives = { λ cause fault. fault ≡ of_read cause };
-
-    fn from(fault: ReadFault) -> TextFault {
-        match fault {
-            ReadFault::OutOfMemory => TextFault::OutOfMemory,
-            ReadFault::ReadFailed => TextFault::ReadFailed,
-        }
-    }
-}
-
-impl From<RecordFault> for TextFault {
+impl From<RecordReadFault> for TextFault {
     ghost use Rattle.auditor.specs.Audits.{of_record};
 
     ghost from_gives = { λ cause fault. fault ≡ of_record cause };
 
-    fn from(fault: RecordFault) -> TextFault {
+    fn from(fault: RecordReadFault) -> TextFault {
         match fault {
-            RecordFault::OutOfMemory => TextFault::OutOfMemory,
-            RecordFault::Line(line) => TextFault::BadLine(line),
+            RecordReadFault::OutOfMemory => TextFault::OutOfMemory,
+            RecordReadFault::ReadFailed => TextFault::ReadFailed,
+            RecordReadFault::Line(line) => TextFault::BadLine(line),
         }
     }
 }
 
-/// Reads the source to its end, and judges the record that its bytes spell.
+/// Reads the source to its end, in pieces of 4,096 bytes at most, and judges the record that its bytes spell. A bad line
+/// never hides that reading failed behind it.
 pub fn audit_text<R: Source>(alloc: Global, source: &mut R) -> Result<Verdict, TextFault>
     ensures verdict { IfOk result (IsVerdictOnText (R.remaining source.old)) }
     ensures fault { IfErr result (IsTextFault (R.remaining source.old)) }
     ensures only { (r : Shown) → RecordFits r → R.remaining source.old ≡ Some (text_of r) → IsAudited r result }
+    ensures to_end { (result ≡ Err TextFault.OutOfMemory → ⊥) → (result ≡ Err TextFault.ReadFailed → ⊥) → IsReadOut (R.remaining source.old) (R.remaining source.new) }
     ensures none_failed { OnOk result (R.failed source.new ≡ R.failed source.old) }
     ensures one_failed { result ≡ Err TextFault.ReadFailed → R.failed source.new ≡ counted true (R.failed source.old) }
     ensures no_other { (result ≡ Err TextFault.ReadFailed → ⊥) → R.failed source.new ≡ R.failed source.old }
 {
-    let bytes = read_all(alloc, source)?;
-    let record = Record::read(alloc, bytes.as_slice())?;
+    let record = Record::read_from(alloc, source)?;
     Ok(audit(alloc, &record)?)
 }

@@ -3,8 +3,8 @@ use Rattle.std.specs.Prelude.{ℕ}
 use Rattle.cpu_worker.specs.declared.threads.RunFault.{RunFault}
 use Rattle.cpu_worker.specs.declared.threads.RunFault.TheVariants as run
 use Rattle.event_log.specs.declared.object.OutOfMemory.{OutOfMemory}
-use Rattle.scripts.specs.declared.record_fault.RecordFault.{RecordFault}
-use Rattle.scripts.specs.declared.record_fault.RecordFault.TheVariants as records
+use Rattle.scripts.specs.declared.record_source.RecordReadFault.{RecordReadFault}
+use Rattle.scripts.specs.declared.record_source.RecordReadFault.TheVariants as records
 use Rattle.scripts.specs.declared.schedule.ScheduleFault.{ScheduleFault}
 use Rattle.scripts.specs.declared.schedule.ScheduleFault.TheVariants as schedule
 use Rattle.scripts.specs.declared.script_source.ScriptsReadFault.{ScriptsReadFault}
@@ -41,8 +41,9 @@ abbrev pub of_schedule : ScheduleFault → Fault
 of_schedule schedule.OutOfMemory = fault.OutOfMemory
 of_schedule (schedule.Word n) = fault.BadSchedule n
 
-abbrev pub of_record : RecordFault → Fault
+abbrev pub of_record : RecordReadFault → Fault
 of_record records.OutOfMemory = fault.OutOfMemory
+of_record records.ReadFailed = fault.ReadFailed
 of_record (records.Line n) = fault.BadRecord n
 
 abbrev pub of_write : WriteFailed → Fault

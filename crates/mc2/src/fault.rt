@@ -6,7 +6,7 @@ ghost use Rattle.mc2.specs.Faults.{of_memory, of_run, of_settings, of_scripts, o
 use cpu_worker::RunFault;
 use event_log::OutOfMemory;
 use scripts::{
-    BadSettings, ReadFault, RecordFault, ScheduleFault, ScriptsReadFault, SettingsFault,
+    BadSettings, ReadFault, RecordReadFault, ScheduleFault, ScriptsReadFault, SettingsFault,
     WriteFailed,
 };
 use thiserror::Error;
@@ -132,13 +132,14 @@ impl From<ScheduleFault> for Fault {
     }
 }
 
-impl From<RecordFault> for Fault {
+impl From<RecordReadFault> for Fault {
     ghost from_gives = { λ cause fault. fault ≡ of_record cause };
 
-    fn from(fault: RecordFault) -> Fault {
+    fn from(fault: RecordReadFault) -> Fault {
         match fault {
-            RecordFault::OutOfMemory => Fault::OutOfMemory,
-            RecordFault::Line(number) => Fault::BadRecord(number),
+            RecordReadFault::OutOfMemory => Fault::OutOfMemory,
+            RecordReadFault::ReadFailed => Fault::ReadFailed,
+            RecordReadFault::Line(number) => Fault::BadRecord(number),
         }
     }
 }

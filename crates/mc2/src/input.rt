@@ -83,7 +83,7 @@ pub fn read_scripts<I: Inputs>(
     }
 }
 
-/// The record that the input of that name spells.
+/// The record that the input of that name spells. Of its text no more is held than a line and a piece.
 pub fn read_record<I: Inputs>(
     alloc: Global,
     inputs: &mut I,
@@ -93,6 +93,8 @@ pub fn read_record<I: Inputs>(
     ensures bad { (n : ℕ) → result ≡ Err (Fault.BadRecord n) → (bytes : List ℕ) × Reads (I.held inputs.old) (bytes_of name.entry) bytes × IsBadLine bytes n }
     ensures fault { IfErr result IsOfRecord }
 {
-    let bytes = read_input(alloc, inputs, name)?;
-    Ok(Record::read(alloc, bytes.as_slice())?)
+    match inputs.input(name) {
+        Ok(mut input) => Ok(Record::read_from(alloc, &mut input)?),
+        Err(StreamFailed) => Err(Fault::ReadFailed),
+    }
 }

@@ -1,0 +1,40 @@
+-- Why a text was not judged, by why its record was not read.
+use Rattle.std.proofs.Common.{◌≡◌, ℕ, List, Option, Result, Ok, Err, sym, ap, subst}
+use Rattle.std.specs.Result.{IsErrAnd, IfErr}
+use Rattle.scripts.specs.declared.record_source.RecordReadFault.{RecordReadFault}
+use Rattle.scripts.specs.declared.record_source.RecordReadFault.TheVariants as read_fault
+use Rattle.scripts.specs.RecordRanges.{Record}
+use Rattle.scripts.specs.RecordSources.{NamesBadLineOfRest, IsReadFrom, IsReadOut}
+use Rattle.auditor.specs.declared.fault.Verdict.{Verdict}
+use Rattle.auditor.specs.declared.texts.TextFault.{TextFault}
+use Rattle.auditor.specs.declared.texts.TextFault.TheVariants as text_fault
+use Rattle.auditor.specs.Audits.{IsTextFault, IsAudited, of_record}
+
+named : (remaining : Option (List ℕ)) (cause : RecordReadFault) → NamesBadLineOfRest remaining cause → IsTextFault remaining (of_record cause)
+named remaining read_fault.OutOfMemory names = tt
+named remaining read_fault.ReadFailed names = tt
+named remaining (read_fault.Line n) names = names
+
+-- the bad line is that of the reading
+pub text_named : {X : Type 0} (remaining : Option (List ℕ)) (cause : RecordReadFault) (result : Result X TextFault) → IsErrAnd result (λ f. f ≡ of_record cause) → NamesBadLineOfRest remaining cause → IfErr result (IsTextFault remaining)
+text_named remaining cause (Ok x) is names = tt
+text_named remaining cause (Err f) is names = subst (IsTextFault remaining) (sym is) (named remaining cause names)
+
+judged : (r : Record) (cause : RecordReadFault) → IsReadFrom r (Err cause) → IsAudited r (Err (of_record cause))
+judged r read_fault.OutOfMemory read = tt
+judged r read_fault.ReadFailed read = tt
+judged r (read_fault.Line n) read = read
+
+-- a record's text isn't refused
+pub text_judged : (r : Record) (cause : RecordReadFault) (result : Result Verdict TextFault) → IsErrAnd result (λ f. f ≡ of_record cause) → IsReadFrom r (Err cause) → IsAudited r result
+text_judged r cause (Ok v) is read = absurd is
+text_judged r cause (Err f) is read = subst (λ g. IsAudited r (Err g)) (sym is) (judged r cause read)
+
+-- where neither memory ran out nor reading failed, the source was read to its end
+pub text_read_out : {X Y : Type 0} (old new : Option (List ℕ)) (cause : RecordReadFault) (result : Result X TextFault) → IsErrAnd result (λ f. f ≡ of_record cause)
+    → ((◌≡◌ {A = Result Y RecordReadFault} (Err cause) (Err read_fault.OutOfMemory) → ⊥) → (◌≡◌ {A = Result Y RecordReadFault} (Err cause) (Err read_fault.ReadFailed) → ⊥) → IsReadOut old new)
+    → (result ≡ Err text_fault.OutOfMemory → ⊥) → (result ≡ Err text_fault.ReadFailed → ⊥) → IsReadOut old new
+text_read_out old new cause (Ok x) is out no_memory no_failure = absurd is
+text_read_out old new read_fault.OutOfMemory (Err f) is out no_memory no_failure = absurd (no_memory (ap Err is))
+text_read_out old new read_fault.ReadFailed (Err f) is out no_memory no_failure = absurd (no_failure (ap Err is))
+text_read_out old new (read_fault.Line n) (Err f) is out no_memory no_failure = out (λ e. absurd cc) (λ e. absurd cc)
