@@ -20,10 +20,12 @@ struct Counts {
 /// Judges and merges the record.
 fn count_record(alloc: Global, record: &Record, counts: &mut Counts) -> Result<(), Fail> {
     let verdict = audit(alloc, record)?;
-    let count = match (verdict, merge(alloc, record)) {
-        (Verdict::Sound, Ok(_)) => &mut counts.orders,
-        (Verdict::Sound, Err(MergeFault::Cycle(_))) => &mut counts.cycles,
-        (Verdict::Unsound(one), Err(MergeFault::Unsound(other))) if one == other => {
+    let is_sound = verdict == Verdict::Sound;
+    let merged = merge(alloc, record);
+    let count = match &merged {
+        Ok(_) if is_sound => &mut counts.orders,
+        Err(MergeFault::Cycle(_)) if is_sound => &mut counts.cycles,
+        Err(MergeFault::Unsound(fault)) if verdict == Verdict::Unsound(*fault) => {
             &mut counts.unsound
         }
         _ => return Err(Fail::new("two verdicts")),
