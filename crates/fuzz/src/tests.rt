@@ -6,6 +6,7 @@ mod fronts;
 mod judges;
 mod limits;
 mod pieces;
+mod record_sources;
 mod sinks;
 mod sources;
 mod streams;

@@ -4,7 +4,8 @@ use super::line_of;
 use super::streams::FailingSource;
 use auditor::{TextFault, audit_text};
 use scripts::{
-    BadSettings, Record, RecordReader, Schedule, ScheduleFault, Settings, SettingsFault,
+    BadSettings, Record, RecordReader, Schedule, ScheduleFault, Scripts, ScriptsReadFault,
+    Settings, SettingsFault,
 };
 use std::test::Fail;
 
@@ -20,6 +21,30 @@ fn one_endless_line(rt: HostRuntime) -> Result<(), Fail> {
     let mut source = FailingSource::new(text, 1000, usize::MAX);
     let verdict = audit_text(rt.alloc(), &mut source);
     assert_eq!(rt; verdict, Err(TextFault::BadLine(1)));
+    Ok(())
+}
+
+/// An entry of scripts that is too long is refused, and a comment of any length is passed over, if it has an end.
+#[test]
+fn long_lines_of_scripts(rt: HostRuntime) -> Result<(), Fail> {
+    let settings = Settings::built_in(rt.alloc())?;
+    for (first, end, wanted) in [
+        ("0", "\n", Some(ScriptsReadFault::Line(2))),
+        ("0", "", Some(ScriptsReadFault::Line(2))),
+        ("#", "", Some(ScriptsReadFault::Line(2))),
+        ("#", "\n0 q0 deq\n", None),
+        ("#", "\nx\n", Some(ScriptsReadFault::Line(3))),
+    ] {
+        let mut text = String::new(rt.alloc());
+        text.push_str("0 q0 enq 3\n")?;
+        for _ in 0..100_000 {
+            text.push_str(first)?;
+        }
+        text.push_str(end)?;
+        let mut source = FailingSource::new(text.as_bytes(), 1000, usize::MAX);
+        let fault = Scripts::read_from(rt.alloc(), &mut source, &settings).err();
+        assert_eq!(rt; fault, wanted, "{first} {end:?}");
+    }
     Ok(())
 }
 
