@@ -24,6 +24,7 @@ pub mod FirstLines
 pub mod RecordLineLaws
 pub mod NewObjects
 pub mod LineMachine
+pub mod RecordParts
 pub mod RecordRuns
 pub mod RecordSpells
 pub mod RecordEnds
