@@ -54,6 +54,15 @@ no_such_end [] (c ∷ b) x q e = let is : 10 ≡ c = cc in absurd (grind (arith,
 no_such_end (c ∷ a) [] x q e = absurd cc
 no_such_end (c ∷ a) (d ∷ b) x q e = let tail : a ++ 10 ∷ x ≡ b = cc in no_such_end a b x q.1 tail
 
+-- lines whose text begins with that of others begin with those
+pub lines_front : (xs ls : List (List ℕ)) (rest : List ℕ) → AllByRecursion NoEnd xs → AllByRecursion NoEnd ls → text_of_lines xs ≡ text_of_lines ls ++ rest → (more : List (List ℕ)) × (xs ≡ ls ++ more) × (text_of_lines more ≡ rest) × AllByRecursion NoEnd more
+lines_front xs [] rest p q e = (xs, refl, e, p)
+lines_front [] (l ∷ ls) rest p q e = absurd (no_such_end l [] (text_of_lines ls ++ rest) tt (sym (e ∙ line_behind l ls rest)))
+lines_front (x ∷ xs) (l ∷ ls) rest p q e =
+    let cut = same_line x l (text_of_lines xs) (text_of_lines ls ++ rest) p.0 q.0 (sym (line_first x xs) ∙ (e ∙ line_behind l ls rest)) in
+    let more = lines_front xs ls rest p.1 q.1 cut.1 in
+    (more.0, (λ i. cut.0 i ∷ more.1 i), more.2, more.3)
+
 -- a line is the first of the first lines
 first_of_line : (n : ℕ) (line rest : List ℕ) → NoEnd line → first_lines (suc n) (line ++ 10 ∷ rest) ≡ line ++ 10 ∷ first_lines n rest
 unfolding first_lines
