@@ -103,12 +103,3 @@ again_by v high n hi e = rw (e, (bytes_eq-Decides (decimal n) (decimal n)).1 ref
 pub number_again : (high n : ℕ) → n ≤ high → n < 2 ^ 64 → number_in high (decimal n) ≡ Some n
 unfolding number_in
 number_again high n hi fits = again_by (digits_value 10 (decimal n)) high n hi (decimal_is_IsNumeral n fits).1
-
--- what a test for nothing says
-pub is_nothing : (xs : List ℕ) → true ≡ (length xs == 0) → xs ≡ []
-is_nothing [] h = refl
-is_nothing (x ∷ xs) h = absurd (let none = eqb-true (suc (length xs)) 0 (sym h) in omega (arith, none))
-
-pub is_something : (xs : List ℕ) → false ≡ (length xs == 0) → 0 < length xs
-is_something [] h = absurd cc
-is_something (x ∷ xs) h = omega arith

@@ -4,6 +4,7 @@ pub mod Cuts
 pub mod Readings
 pub mod Lookups
 pub mod Spellings
+pub mod Samples
 pub mod Outputs
 pub mod Lines
 pub mod RunLines

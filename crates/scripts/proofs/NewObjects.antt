@@ -14,7 +14,7 @@ use Rattle.scripts.specs.RecordReading.{object_at, new_object_at}
 use Rattle.scripts.specs.RecordText.{object_words}
 use Rattle.scripts.specs.Settings.{ObjectSettings, ObjectFits, is_name, is_letter, is_digit}
 use Rattle.scripts.proofs.RecordLineLaws.{ReadsLines, reads_object}
-use Rattle.scripts.proofs.SettingsFits.{Joins, Differ, name_in, differ_more}
+use Rattle.scripts.proofs.SettingsFits.{Joins, Differ, name_in, name_before, name_here, differ_more}
 
 -- the name is one of theirs
 abbrev is_taken : List ℕ → List ObjectSettings → Bool
@@ -114,15 +114,6 @@ taken_at (o ∷ os) name e = elim (or_true (bytes_eq o.name name) (is_taken name
   | inl here ↦ (0, omega arith, (bytes_eq-Decides o.name name).0 here)
   | inr later ↦ (let at = taken_at os name later in (suc at.0, omega (arith, at.1), at.2))
 ]
-
-name_before : (front os : List ObjectSettings) (i : ℕ) → i < length front → name_in (front ++ os) i ≡ name_in front i
-name_before [] os i less = absurd (omega (arith, less))
-name_before (x ∷ front) os zero less = refl
-name_before (x ∷ front) os (suc i) less = name_before front os i (omega (arith, less))
-
-name_here : (front os : List ObjectSettings) (o : ObjectSettings) → name_in (front ++ o ∷ os) (length front) ≡ o.name
-name_here [] os o = refl
-name_here (x ∷ front) os o = name_here front os o
 
 -- objects whose names differ are new one after the other
 pub all_new : (front os : List ObjectSettings) → Differ (front ++ os) → AllByRecursion ObjectFits os → AllNew front os
