@@ -88,18 +88,11 @@ fresh front (o ∷ os) i at =
     ap (λ b. b || is_taken (front ++ x ∷ rest) os) here ∙ later
 
 -- an object with a new name
-pub shown_new : (earlier : List ObjectSettings) → length earlier < 16 → (o : ObjectSettings) × Joins earlier o
+shown_new : (earlier : List ObjectSettings) → length earlier < 16 → (o : ObjectSettings) × Joins earlier o
 shown_new earlier few =
     let letters = diagonal_letters 1 earlier in
     let name : is_name (97 ∷ diagonal 1 earlier) ≡ true = rw (letters.0, le-leb (length (diagonal 1 earlier)) 15 (omega (arith, letters.1, few))) refl in
     (record { name = 97 ∷ diagonal 1 earlier; lock = Ticket; events = 1; params = Queue 1 }, (record { name = name; events = (omega arith, omega arith); params = refl }, fresh (97 ∷ []) earlier 1 refl))
-
--- ---- all objects
-
--- each object's name is none of the earlier
-abbrev pub AllNew : List ObjectSettings → List ObjectSettings → Type 0
-AllNew earlier [] = Unit {0}
-AllNew earlier (o ∷ os) = Joins earlier o × AllNew (earlier ++ o ∷ []) os
 
 -- ---- names that differ
 
@@ -115,24 +108,19 @@ taken_at (o ∷ os) name e = elim (or_true (bytes_eq o.name name) (is_taken name
   | inr later ↦ (let at = taken_at os name later in (suc at.0, omega (arith, at.1), at.2))
 ]
 
--- objects whose names differ are new one after the other
-pub all_new : (front os : List ObjectSettings) → Differ (front ++ os) → AllByRecursion ObjectFits os → AllNew front os
-all_new front [] differ fit = tt
-all_new front (o ∷ os) differ fit =
+-- of objects whose names differ, one's name is none of the earlier
+pub free : (front os : List ObjectSettings) (o : ObjectSettings) → Differ (front ++ o ∷ os) → is_taken o.name front ≡ false
+free front os o differ = false_from_ne_true (is_taken o.name front) (λ e.
     let longer = length-append front (o ∷ os) in
-    let free : is_taken o.name front ≡ false = false_from_ne_true (is_taken o.name front) (λ e.
     let at = taken_at front o.name e in
     let less = at.1 in
     let one : at.0 ≡ length front = differ at.0 (length front) (omega (arith, less, longer)) (omega (arith, longer)) (name_before front (o ∷ os) at.0 less ∙ (at.2 ∙ sym (name_here front os o))) in
-    omega (arith, one, less)) in
-    ((fit.0, free), all_new (front ++ o ∷ []) os (subst Differ (sym (append_assoc front (o ∷ []) os)) differ) fit.1)
+    omega (arith, one, less))
 
--- objects that are new one after the other differ in their names
-pub new_differ : (front os : List ObjectSettings) → Differ front → AllNew front os → Differ (front ++ os)
-new_differ front [] differ new = subst Differ (sym (append-nil front)) differ
-new_differ front (o ∷ os) differ new = subst Differ (append_assoc front (o ∷ []) os) (new_differ (front ++ o ∷ []) os (differ_more front o differ new.0.1) new.1)
-
--- each of them is within its limits
-pub new_fit : (front os : List ObjectSettings) → AllNew front os → AllByRecursion ObjectFits os
-new_fit front [] new = tt
-new_fit front (o ∷ os) new = (new.0.0, new_fit (front ++ o ∷ []) os new.1)
+-- so many objects more, each with a new name
+pub more_new : (n : ℕ) (front : List ObjectSettings) → length front + n ≤ 16 → Differ front → (os : List ObjectSettings) × (length os ≡ n) × Differ (front ++ os) × AllByRecursion ObjectFits os
+more_new zero front few differ = ([], refl, subst Differ (sym (append-nil front)) differ, tt)
+more_new (suc n) front few differ =
+    let one = shown_new front (omega (arith, few)) in
+    let rest = more_new n (front ++ one.0 ∷ []) (omega (arith, few, length-append front (one.0 ∷ []))) (differ_more front one.0 differ one.1.1) in
+    (one.0 ∷ rest.0, ap suc rest.1, subst Differ (append_assoc front (one.0 ∷ []) rest.0) rest.2, (one.1.0, rest.3))
