@@ -1,7 +1,6 @@
 -- Reading items one after another, each but the first behind a semicolon.
 use Rattle.std.proofs.Common.{◌≡◌, ℕ, suc, ◌-◌, Option, Some, None, List, [], ◌∷◌, ◌++◌, sym, ◌∙◌, ap, append_assoc, codes}
 use Rattle.std.proofs.lemmas.List.{append-nil}
-use Rattle.std.specs.Option.{option_map_or}
 use Rattle.event_log.specs.declared.event.TheConstants.{MOST_CALLS}
 use Rattle.scripts.specs.Reading.{◌>>=◌, key_at}
 use Rattle.scripts.specs.RecordReading.{more_at, list_at}

@@ -1,7 +1,6 @@
 -- What the loops of the reader have found so far.
-use Rattle.std.proofs.Common.{◌≡◌, ℕ, ◌<◌, ◌≤◌, ◌+◌, true, false, Option, Some, None, List, [], ◌∷◌, ◌++◌, length, get_or, drop, refl, sym, ◌∙◌, ap, cond, append_assoc}
+use Rattle.std.proofs.Common.{◌≡◌, ℕ, ◌<◌, ◌≤◌, ◌+◌, true, false, Option, Some, None, List, [], ◌∷◌, ◌++◌, length, get_or, drop, refl, sym, ◌∙◌, ap, cond, append_assoc, bytes_eq}
 use Rattle.std.proofs.lemmas.List.{append-nil, at_drop_more, drop_all}
-use Rattle.std.specs.Str.{bytes_eq}
 use Rattle.scripts.specs.declared.field.Field.{Field}
 use Rattle.scripts.specs.Reading.{◌>>=◌}
 use Rattle.scripts.proofs.Readings.{bind_bind, bind_same}

@@ -1,16 +1,13 @@
 -- Names, and the objects that they name.
+use Rattle.std.proofs.Common.{IsUtf8, Option, if◌then◌else◌, ◌≡◌, ℕ, zero, suc, ◌<◌, Bool, true, false, Some, None, List, [], ◌∷◌, length, refl, sym, ◌∙◌, ap, subst, cond, arith, position, get_or, inl, inr, nat_le, nat_lt, ◌&&◌, ◌||◌, bytes_eq}
 use Rattle.std.proofs.lemmas.Str.{IsUtf8-from_ascii}
-use Rattle.std.specs.Str.{IsUtf8}
-use Rattle.std.proofs.Common.{Option, if◌then◌else◌, ◌≡◌, ℕ, zero, suc, ◌<◌, Bool, true, false, Some, None, List, [], ◌∷◌, length, refl, sym, ◌∙◌, ap, subst, cond, arith, position, get_or, inl, inr}
 use Rattle.std.proofs.lemmas.List.Quantifiers.{position-Some}
 use Rattle.std.proofs.lemmas.Bool.{and_parts, false_from_ne_true, leb-true, lt-ltb}
 use Rattle.std.proofs.lemmas.Option.{slice_get-get_or, slice_get_cases}
 use Rattle.std.proofs.lemmas.List.Sums.{position_or_len_is}
 use Rattle.std.proofs.lemmas.Slice.Eq.{bytes_eq-Decides}
-use Rattle.std.specs.Prelude.{nat_le, nat_lt, ◌&&◌, ◌||◌}
 use Rattle.std.specs.List.{AllByRecursion, list_all, slice_get, position_or_len}
 use Rattle.std.specs.Option.{option_map_or}
-use Rattle.std.specs.Str.{bytes_eq}
 use Rattle.scripts.specs.Reading.{◌>>=◌, word_at}
 use Rattle.scripts.specs.Row.{IsPlain}
 use Rattle.scripts.specs.Settings.{Settings, ObjectSettings, SettingsFit, ObjectFits, NamesDiffer, name_at, is_name, is_letter, is_digit}

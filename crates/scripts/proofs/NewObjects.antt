@@ -1,13 +1,11 @@
 -- Objects of different names are read as what they spell, and nothing else is.
-use Rattle.std.proofs.Common.{◌≡◌, ℕ, zero, suc, ◌+◌, ◌≤◌, ◌<◌, ◌==◌, ◌⊎◌, get_or, inl, inr, Bool, true, false, List, [], ◌∷◌, ◌++◌, length, length-append, map, append_assoc, Option, Some, None, Ok, refl, sym, ap, ◌∙◌, subst, cond, arith}
+use Rattle.std.proofs.Common.{◌≡◌, ℕ, zero, suc, ◌+◌, ◌≤◌, ◌<◌, ◌==◌, ◌⊎◌, get_or, inl, inr, Bool, true, false, List, [], ◌∷◌, ◌++◌, length, length-append, append_assoc, Option, Some, None, refl, sym, ap, ◌∙◌, subst, cond, arith, ◌||◌, bytes_eq}
 use Rattle.std.proofs.lemmas.Bool.{le-leb, eq-eqb, eqb-true, cond_both, false_from_ne_true}
 use Rattle.std.specs.Cmp.Derive.{both_true}
 use Rattle.std.proofs.lemmas.List.{append-nil}
 use Rattle.std.proofs.lemmas.Slice.Eq.{bytes_eq-Decides}
-use Rattle.std.specs.Prelude.{◌||◌}
 use Rattle.std.specs.List.{AllByRecursion, list_all, list_any}
 use Rattle.std.specs.Option.{option_map_or}
-use Rattle.std.specs.Str.{bytes_eq}
 use Rattle.word_rule.specs.declared.lock_kind.LockKind.TheVariants.{Ticket}
 use Rattle.scripts.specs.declared.kernel_call.KParams.TheVariants.{Queue}
 use Rattle.scripts.specs.RecordReading.{object_at, new_object_at}

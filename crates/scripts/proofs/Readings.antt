@@ -1,9 +1,7 @@
 -- Words and numbers are read as what they are, and nothing else is.
-use Rattle.std.proofs.Common.{◌≡◌, ℕ, ◌<◌, ◌≤◌, ◌^◌, true, Option, Some, None, List, [], ◌∷◌, ◌++◌, refl, ◌∙◌, ap, subst, arith, decimal}
+use Rattle.std.proofs.Common.{◌≡◌, ℕ, ◌<◌, ◌≤◌, ◌^◌, true, Option, Some, None, List, [], ◌∷◌, ◌++◌, refl, ◌∙◌, ap, subst, arith, decimal, IfSome, IfNone, bytes_eq}
 use Rattle.std.proofs.lemmas.Fmt.{decimal_by_steps}
 use Rattle.std.proofs.lemmas.Slice.Eq.{bytes_eq-Decides}
-use Rattle.std.specs.Option.{IfSome, IfNone}
-use Rattle.std.specs.Str.{bytes_eq}
 use Rattle.scripts.specs.Reading.{◌>>=◌, number_in, word_at, number_at}
 use Rattle.scripts.specs.Row.{IsPlain}
 use Rattle.scripts.proofs.Cuts.{number_takes, number_again}

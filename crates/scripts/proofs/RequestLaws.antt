@@ -1,14 +1,13 @@
 -- A line of the scripts is read as what it spells, and nothing else is.
-use Rattle.std.proofs.Common.{◌≡◌, ℕ, true, Option, Some, None, List, [], ◌∷◌, ◌++◌, map, sym, ◌∙◌, ap, subst, cond, arith, decimal}
+use Rattle.std.proofs.Common.{◌≡◌, ℕ, Some, List, [], ◌∷◌, ◌++◌, map, sym, ◌∙◌, ap, subst, arith, decimal, nat_lt, ◌&&◌}
 use Rattle.std.proofs.lemmas.Bool.{and_parts, lt-ltb, ltb-true}
 use Rattle.std.proofs.lemmas.List.{append-nil}
 use Rattle.std.proofs.lemmas.Option.{cond_some}
-use Rattle.std.specs.Prelude.{nat_lt, ◌&&◌}
 use Rattle.std.specs.List.{AllByRecursion}
 use Rattle.scripts.specs.declared.kernel_call.KCall.{KCall}
 use Rattle.scripts.specs.declared.request.Request.{Request}
 use Rattle.scripts.specs.Ranges.{call_fits}
-use Rattle.scripts.specs.Reading.{◌>>=◌, words, number_at}
+use Rattle.scripts.specs.Reading.{words, number_at}
 use Rattle.scripts.specs.Row.{IsPlain, spelled}
 use Rattle.scripts.specs.Rows.{call_row, call_samples, call_filled}
 use Rattle.scripts.specs.ScriptText.{IsRequest, request_words}

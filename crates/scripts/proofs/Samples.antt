@@ -1,7 +1,6 @@
 -- The sample that a word names.
-use Rattle.std.proofs.Common.{◌≡◌, ℕ, List, [], ◌∷◌, length, Option, Some, None, if◌then◌else◌, refl, sym, ap, ◌∙◌}
+use Rattle.std.proofs.Common.{◌≡◌, ℕ, List, [], ◌∷◌, length, Option, Some, None, if◌then◌else◌, refl, ap, ◌∙◌, bytes_eq}
 use Rattle.std.proofs.lemmas.Slice.Eq.{HasBytesAt, text_from_reads}
-use Rattle.std.specs.Str.{bytes_eq}
 use Rattle.scripts.specs.Row.{Row, sample_at}
 
 -- the first of the samples that has the word, as it computes at a word that is known

@@ -1,14 +1,13 @@
 -- Scripts, line by line.
-use Rattle.std.proofs.Common.{◌≡◌, ℕ, ◌+◌, ◌<◌, ◌≤◌, ◌==◌, Bool, true, false, List, [], ◌∷◌, ◌++◌, length, refl, sym, ◌∙◌, ap, subst, append_assoc, arith, cond, inl, inr}
+use Rattle.std.proofs.Common.{◌≡◌, ℕ, ◌+◌, ◌<◌, ◌≤◌, ◌==◌, Bool, true, false, List, [], ◌∷◌, ◌++◌, length, refl, sym, ◌∙◌, ap, subst, append_assoc, arith, cond, inl, inr, Some, slice_get, slice_set}
 use Rattle.std.proofs.lemmas.List.{append-nil}
 use Rattle.std.proofs.lemmas.Bool.{eqb-true}
 use Rattle.std.proofs.lemmas.List.FromFn.{length-map-range_with_len}
 use Rattle.std.proofs.lemmas.List.Sums.{fold-append}
-use Rattle.std.specs.Prelude.{Some, slice_get, slice_set}
 use Rattle.std.specs.List.{AllByRecursion}
 use Rattle.scripts.specs.declared.request.Request.{Request}
 use Rattle.scripts.specs.declared.script_list.TheConstants.{MOST_ENTRIES}
-use Rattle.scripts.specs.ScriptText.{IsBlank, IsRequest, AskFor, IsRefused, AreScripts, TodoFits, ScriptFits, ScriptsFit, count_of, script_of, dealt}
+use Rattle.scripts.specs.ScriptText.{IsBlank, AskFor, IsRefused, AreScripts, TodoFits, ScriptFits, ScriptsFit, count_of, script_of, dealt}
 use Rattle.scripts.specs.LineMachine.{TakesEach}
 use Rattle.scripts.specs.ScriptFaults.{ScriptState, TakesLine, TakesScriptLine, IsNotTaken}
 use Rattle.scripts.specs.KernelTypes.{KernelTodo}

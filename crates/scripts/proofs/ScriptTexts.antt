@@ -1,7 +1,6 @@
 -- Scripts, text by text.
-use Rattle.std.proofs.Common.{◌≡◌, ℕ, ◌<◌, Bool, List, [], ◌∷◌, ◌++◌, length, inl, inr, Result, Ok, Err, refl, sym, ◌∙◌, ap, subst, arith}
+use Rattle.std.proofs.Common.{◌≡◌, ℕ, ◌<◌, Bool, List, [], ◌∷◌, ◌++◌, length, inl, inr, Result, Ok, Err, refl, sym, ◌∙◌, subst, arith, IsErrAnd, IfOk, IfErr}
 use Rattle.std.proofs.lemmas.List.{append-nil}
-use Rattle.std.specs.Result.{IsErrAnd, IfOk, IfErr}
 use Rattle.scripts.specs.declared.line_machine.PieceFault.{PieceFault}
 use Rattle.scripts.specs.declared.line_machine.PieceFault.TheVariants as piece
 use Rattle.scripts.specs.declared.script_reader.ScriptsFault.{ScriptsFault}
