@@ -1,10 +1,10 @@
 -- Reading items one after another, each but the first behind a semicolon.
-use Rattle.std.proofs.Common.{◌≡◌, ℕ, suc, ◌-◌, Option, Some, None, List, [], ◌∷◌, ◌++◌, sym, ◌∙◌, ap, append_assoc, codes}
+use Rattle.std.proofs.Common.{◌≡◌, ℕ, suc, ◌-◌, Option, Some, None, List, [], ◌∷◌, ◌++◌, ap, codes}
 use Rattle.std.proofs.lemmas.List.{append-nil}
 use Rattle.event_log.specs.declared.event.TheConstants.{MOST_CALLS}
 use Rattle.scripts.specs.Reading.{◌>>=◌, key_at}
 use Rattle.scripts.specs.RecordReading.{more_at, list_at}
-use Rattle.scripts.proofs.Readings.{bind_bind, bind_same}
+use Rattle.scripts.proofs.Readings.{bind_grown}
 
 module _ {T : Type 0} (item_at : List (List ℕ) → Option (T × List (List ℕ))) where
   -- the items that were read, and then up to n of those that follow
@@ -21,9 +21,7 @@ module _ {T : Type 0} (item_at : List (List ℕ) → Option (T × List (List ℕ
 
   pub more_step : (n : ℕ) (front longer : List T) (ws rest last : List (List ℕ)) (x : T) → longer ≡ front ++ x ∷ [] → key_at (codes ";") ws ≡ Some rest → item_at rest ≡ Some (x, last) → behind front (suc n) ws ≡ behind longer n last
   unfolding more_at
-  more_step n front longer ws rest last x grown key read = rw (key, read)
-      (bind_bind (more_at item_at n last) (λ more. Some (x ∷ more.0, more.1)) (λ more. Some (front ++ more.0, more.1))
-      ∙ bind_same (more_at item_at n last) _ _ (λ more. ap (λ l. Some (l, more.1)) (sym (append_assoc front (x ∷ []) more.0) ∙ ap (λ l. l ++ more.0) (sym grown))))
+  more_step n front longer ws rest last x grown key read = rw (key, read) (bind_grown (more_at item_at n last) front longer x grown)
 
   pub more_none : (n : ℕ) (front : List T) (ws rest : List (List ℕ)) → key_at (codes ";") ws ≡ Some rest → item_at rest ≡ None → behind front (suc n) ws ≡ None
   unfolding more_at
