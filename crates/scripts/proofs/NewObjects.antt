@@ -80,8 +80,8 @@ fresh front (o ∷ os) i at =
     let x : ℕ = other (get_or o.name i 0) in
     let rest : List ℕ = diagonal (i + 1) os in
     let here : bytes_eq o.name (front ++ x ∷ rest) ≡ false = false_from_ne_true _ (λ e.
-        let same : o.name ≡ front ++ x ∷ rest = (bytes_eq-Decides o.name (front ++ x ∷ rest)).0 e in
-        other_differs (get_or o.name i 0) (sym (ap (λ l. get_or l i 0) same ∙ (ap (λ k. get_or (front ++ x ∷ rest) k 0) at ∙ get_here front x rest)))) in
+    let same : o.name ≡ front ++ x ∷ rest = (bytes_eq-Decides o.name (front ++ x ∷ rest)).0 e in
+    other_differs (get_or o.name i 0) (sym (ap (λ l. get_or l i 0) same ∙ (ap (λ k. get_or (front ++ x ∷ rest) k 0) at ∙ get_here front x rest)))) in
     let later : is_taken (front ++ x ∷ rest) os ≡ false = ap (λ l. is_taken l os) (sym (append_assoc front (x ∷ []) rest)) ∙ fresh (front ++ x ∷ []) os (i + 1) (omega (arith, at, length-append front (x ∷ []))) in
     ap (λ b. b || is_taken (front ++ x ∷ rest) os) here ∙ later
 
