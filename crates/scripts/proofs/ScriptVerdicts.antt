@@ -2,14 +2,15 @@
 use Rattle.std.proofs.Common.{◌≡◌, ℕ, ◌+◌, ◌<◌, ◌≤◌, ◌^◌, ◌==◌, List, [], ◌∷◌, ◌++◌, length, fold, refl, sym, ◌∙◌, ap, subst, arith, cond, decimal, inl, inr}
 use Rattle.std.specs.List.{AllByRecursion}
 use Rattle.std.proofs.lemmas.Bool.{eq-eqb}
-use Rattle.std.proofs.lemmas.Fmt.{decimal_by_steps}
 use Rattle.std.proofs.lemmas.List.Sums.{fold-append}
 use Rattle.scripts.specs.declared.request.Request.{Request}
 use Rattle.scripts.specs.declared.script_list.TheConstants.{MOST_ENTRIES}
+use Rattle.scripts.specs.Reading.{AreDigits}
 use Rattle.scripts.specs.ScriptText.{IsBlank, IsRequest, AskFor, AreRequests, AreScripts, IsRefused, IsFirstBad, count_of, request_words}
 use Rattle.scripts.specs.KernelTypes.{KernelTodo}
 use Rattle.scripts.specs.Settings.{Settings, SettingsFit}
 use Rattle.scripts.specs.Words.{sentence, text_of_lines, NoEnd}
+use Rattle.scripts.proofs.Digits.{decimal_digits, decimal_some}
 use Rattle.scripts.proofs.FirstLines.{line_first, same_line, no_such_end, lines_front}
 use Rattle.scripts.proofs.RequestLaws.{request_again}
 
@@ -87,21 +88,10 @@ module _ (settings : Settings)
         refused_line front.0 asks.0 bad.requests bad.line line.0 front.3 asks.2 bad.no_end front.2 line.2 (λ cpu. subst (λ (l : List Request). count_of cpu l ≤ MOST_ENTRIES) asks.1 (good.within cpu))
   ]
 
--- the first byte is a digit, or a letter
-abbrev IsWordy : List ℕ → Type 0
-IsWordy [] = ⊥
-IsWordy (b ∷ bytes) = 47 < b
-
-wordy_more : (a b : List ℕ) → IsWordy a → IsWordy (a ++ b)
-wordy_more [] b h = absurd h
-wordy_more (x ∷ a) b h = h
-
-wordy_decimal : (n : ℕ) → n < 2 ^ 64 → IsWordy (decimal n)
-wordy_decimal n fits = decimal_by_steps (λ n ds. IsWordy ds) (λ n h. omega arith) (λ n ds h p. wordy_more ds _ p) n fits
-
-not_blank : (line : List ℕ) → IsWordy line → IsBlank line → ⊥
-not_blank [] h k = h
-not_blank (b ∷ line) h k = absurd (omega (arith, h, k))
+-- a line that begins with a number is neither empty nor a comment
+digits_first : (word rest : List ℕ) → AreDigits word → 0 < length word → IsBlank (word ++ rest) → ⊥
+digits_first [] rest are some blank = omega (arith, some)
+digits_first (b ∷ word) rest are some blank = let digit = are 0 some in omega (arith, digit.0, blank)
 
 module _ (settings : Settings) (fit : SettingsFit settings) where
   one_request : (line : List ℕ) (q r : Request) → IsRequest settings line q → IsRequest settings line r → q ≡ r
@@ -114,8 +104,8 @@ module _ (settings : Settings) (fit : SettingsFit settings) where
   request_no_blank line r h blank =
       let cpus = fit.cpus in
       let cpu = h.cpu in
-      let wordy : IsWordy (sentence (request_words settings r)) = wordy_more (decimal r.cpu) _ (wordy_decimal r.cpu (omega (arith, cpu, cpus.1))) in
-      not_blank line (subst IsWordy (sym h.text) wordy) blank
+      let small : r.cpu < 2 ^ 64 = omega (arith, cpu, cpus.1) in
+      digits_first (decimal r.cpu) _ (decimal_digits (decimal r.cpu) r.cpu small refl) (decimal_some (decimal r.cpu) r.cpu small refl) (subst IsBlank h.text blank)
 
   -- a text with a first bad line is no scripts
   pub bad_is_not_good : (bytes : List ℕ) (n : ℕ) (scripts : List (List KernelTodo)) → AreScripts settings bytes scripts → IsFirstBad settings bytes n → ⊥
