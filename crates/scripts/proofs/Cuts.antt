@@ -1,5 +1,5 @@
 -- Cutting a list at the first member that passes a test.
-use Rattle.std.proofs.Common.{◌≡◌, ℕ, zero, suc, ◌+◌, ◌^◌, ◌<◌, ◌≤◌, ◌==◌, decimal, subst, not, cond, nat_lt, Bool, true, false, Some, None, List, [], ◌∷◌, ◌++◌, length, take, drop, get_or, position, refl, sym, ◌∙◌, ap, arith}
+use Rattle.std.proofs.Common.{◌≡◌, ℕ, zero, suc, ◌+◌, ◌^◌, ◌<◌, ◌≤◌, ◌==◌, decimal, subst, not, cond, nat_lt, Bool, true, false, Some, None, List, [], ◌∷◌, ◌++◌, length, take, drop, get_or, position, refl, sym, ◌∙◌, ap, arith, nat_le, ◌&&◌, bytes_eq}
 use Rattle.std.specs.List.{AllByRecursion, prefix_len, position_or_len, slice_split}
 use Rattle.std.proofs.lemmas.Bool.{eqb-true, ltb-false, and_parts, leb-true, le-leb}
 use Rattle.std.proofs.lemmas.List.{take-append-drop, drop_more, take_all}
@@ -9,8 +9,6 @@ use Rattle.std.proofs.lemmas.List.Splits.{slice_split_none, slice_split_at}
 use Rattle.std.proofs.lemmas.Option.{cond_some}
 use Rattle.std.proofs.lemmas.Fmt.{decimal_is_IsNumeral}
 use Rattle.std.proofs.lemmas.Slice.Eq.{bytes_eq-Decides}
-use Rattle.std.specs.Prelude.{nat_le, ◌&&◌}
-use Rattle.std.specs.Str.{bytes_eq}
 use Rattle.std.specs.Str.Parse.{digits_value}
 use Rattle.memchr.specs.Find.{IsFirstByte, is_byte}
 use Rattle.scripts.specs.Reading.{words, number_in}
@@ -103,12 +101,3 @@ again_by v high n hi e = rw (e, (bytes_eq-Decides (decimal n) (decimal n)).1 ref
 pub number_again : (high n : ℕ) → n ≤ high → n < 2 ^ 64 → number_in high (decimal n) ≡ Some n
 unfolding number_in
 number_again high n hi fits = again_by (digits_value 10 (decimal n)) high n hi (decimal_is_IsNumeral n fits).1
-
--- what a test for nothing says
-pub is_nothing : (xs : List ℕ) → true ≡ (length xs == 0) → xs ≡ []
-is_nothing [] h = refl
-is_nothing (x ∷ xs) h = absurd (let none = eqb-true (suc (length xs)) 0 (sym h) in omega (arith, none))
-
-pub is_something : (xs : List ℕ) → false ≡ (length xs == 0) → 0 < length xs
-is_something [] h = absurd cc
-is_something (x ∷ xs) h = omega arith

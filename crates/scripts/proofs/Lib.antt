@@ -4,6 +4,7 @@ pub mod Cuts
 pub mod Readings
 pub mod Lookups
 pub mod Spellings
+pub mod Samples
 pub mod Outputs
 pub mod Lines
 pub mod RunLines
@@ -24,6 +25,7 @@ pub mod FirstLines
 pub mod RecordLineLaws
 pub mod NewObjects
 pub mod LineMachine
+pub mod RecordParts
 pub mod RecordRuns
 pub mod RecordSpells
 pub mod RecordEnds

@@ -1,12 +1,11 @@
 -- A list of items is read as what it spells, and nothing else is.
+use Rattle.std.proofs.Common.{◌≡◌, ℕ, zero, suc, ◌-◌, ◌<◌, ◌≤◌, Bool, true, false, Option, Some, None, List, [], ◌∷◌, ◌++◌, length, map, refl, sym, ◌∙◌, ap, subst, cond, append_assoc, arith, codes, bytes_eq}
 use Rattle.std.specs.Cmp.Derive.{both_true}
-use Rattle.std.proofs.Common.{◌≡◌, ℕ, zero, suc, ◌-◌, ◌<◌, ◌≤◌, Bool, true, false, Option, Some, None, List, [], ◌∷◌, ◌++◌, length, map, refl, sym, ◌∙◌, ap, subst, cond, append_assoc, arith, codes}
 use Rattle.std.proofs.lemmas.Bool.{and_parts}
 use Rattle.std.proofs.lemmas.Option.{cond_some}
 use Rattle.std.proofs.lemmas.Slice.Eq.{bytes_eq-Decides}
 use Rattle.std.specs.List.{AllByRecursion, list_all, flat_map}
 use Rattle.std.specs.Option.{option_map_or}
-use Rattle.std.specs.Str.{bytes_eq}
 use Rattle.event_log.specs.declared.event.TheConstants.{MOST_CALLS}
 use Rattle.event_log.proofs.Each.{all_append}
 use Rattle.scripts.specs.Reading.{◌>>=◌, word_at, key_at}
@@ -92,14 +91,11 @@ module _ {T : Type 0} (words_of : T → List (List ℕ)) (fits : T → Bool) (it
     unfolding more_at
     more_again zero [] rest few fit ended = refl
     more_again zero (x ∷ xs) rest few fit ended = absurd (omega (arith, few))
-    more_again (suc n) [] rest few fit ended = ap (λ o. option_map_or (next_of n) o (Some ([], rest))) ended
+    more_again (suc n) [] rest few fit ended = rw ended
     more_again (suc n) (x ∷ xs) rest few fit ended =
         let parts = and_parts (fits x) (list_all fits xs) fit in
         let left : List (List ℕ) = each_behind xs ++ rest in
-        ap (λ o. option_map_or (next_of n) o (Some ([], each_behind (x ∷ xs) ++ rest))) (key_again (codes ";") ((words_of x ++ each_behind xs) ++ rest))
-        ∙ (ap (next_of n) (append_assoc (words_of x) (each_behind xs) rest)
-        ∙ (ap (λ o. o >>= λ next. more_at item_at n next.1 >>= λ more. Some (next.0 ∷ more.0, more.1)) (reads.again x left parts.0)
-        ∙ ap (λ o. o >>= λ more. Some (x ∷ more.0, more.1)) (more_again n xs rest (omega (arith, few)) parts.1 ended)))
+        rw (key_again (codes ";") ((words_of x ++ each_behind xs) ++ rest), append_assoc (words_of x) (each_behind xs) rest, reads.again x left parts.0, more_again n xs rest (omega (arith, few)) parts.1 ended)
 
     -- the words are 1 to 8 items with semicolons between them, and those behind
     pub record AreItems (ws : List (List ℕ)) (read : List T × List (List ℕ)) : Type 0 where
@@ -128,9 +124,7 @@ module _ {T : Type 0} (words_of : T → List (List ℕ)) (fits : T → Bool) (it
     list_again [] rest some few fit ended = absurd (omega (arith, some))
     list_again (x ∷ xs) rest some few fit ended =
         let parts = and_parts (fits x) (list_all fits xs) fit in
-        ap (next_of (MOST_CALLS - 1)) (append_assoc (words_of x) (each_behind xs) rest)
-        ∙ (ap (λ o. o >>= λ next. more_at item_at (MOST_CALLS - 1) next.1 >>= λ more. Some (next.0 ∷ more.0, more.1)) (reads.again x (each_behind xs ++ rest) parts.0)
-        ∙ ap (λ o. o >>= λ more. Some (x ∷ more.0, more.1)) (more_again (MOST_CALLS - 1) xs rest (omega (arith, few)) parts.1 ended))
+        rw (append_assoc (words_of x) (each_behind xs) rest, reads.again x (each_behind xs ++ rest) parts.0, more_again (MOST_CALLS - 1) xs rest (omega (arith, few)) parts.1 ended)
 
     behind_plain : (xs : List T) → list_all fits xs ≡ true → AllByRecursion IsPlain (each_behind xs)
     behind_plain [] fit = tt

@@ -1,11 +1,10 @@
 -- Reading items one after another, each but the first behind a semicolon.
-use Rattle.std.proofs.Common.{◌≡◌, ℕ, suc, ◌-◌, Option, Some, None, List, [], ◌∷◌, ◌++◌, sym, ◌∙◌, ap, append_assoc, codes}
+use Rattle.std.proofs.Common.{◌≡◌, ℕ, suc, ◌-◌, Option, Some, None, List, [], ◌∷◌, ◌++◌, ap, codes}
 use Rattle.std.proofs.lemmas.List.{append-nil}
-use Rattle.std.specs.Option.{option_map_or}
 use Rattle.event_log.specs.declared.event.TheConstants.{MOST_CALLS}
 use Rattle.scripts.specs.Reading.{◌>>=◌, key_at}
 use Rattle.scripts.specs.RecordReading.{more_at, list_at}
-use Rattle.scripts.proofs.Readings.{bind_bind, bind_same}
+use Rattle.scripts.proofs.Readings.{bind_grown}
 
 module _ {T : Type 0} (item_at : List (List ℕ) → Option (T × List (List ℕ))) where
   -- the items that were read, and then up to n of those that follow
@@ -14,31 +13,23 @@ module _ {T : Type 0} (item_at : List (List ℕ) → Option (T × List (List ℕ
 
   pub list_first : (ws rest : List (List ℕ)) (x : T) → item_at ws ≡ Some (x, rest) → list_at item_at ws ≡ behind (x ∷ []) (MOST_CALLS - 1) rest
   unfolding list_at
-  list_first ws rest x e = ap (λ o. o >>= λ next. more_at item_at (MOST_CALLS - 1) next.1 >>= λ more. Some (next.0 ∷ more.0, more.1)) e
+  list_first ws rest x e = rw e
 
   pub list_none : (ws : List (List ℕ)) → item_at ws ≡ None → list_at item_at ws ≡ None
   unfolding list_at
-  list_none ws e = ap (λ o. o >>= λ next. more_at item_at (MOST_CALLS - 1) next.1 >>= λ more. Some (next.0 ∷ more.0, more.1)) e
-
-  -- what one item more, or none, makes of what follows a semicolon
-  abbrev next_of : ℕ → Option (T × List (List ℕ)) → Option (List T × List (List ℕ))
-  next_of n o = o >>= λ next. more_at item_at n next.1 >>= λ more. Some (next.0 ∷ more.0, more.1)
-
-  opened : (n : ℕ) (ws : List (List ℕ)) (o : Option (List (List ℕ))) → key_at (codes ";") ws ≡ o → more_at item_at (suc n) ws ≡ option_map_or (λ rest. next_of n (item_at rest)) o (Some ([], ws))
-  unfolding more_at
-  opened n ws o e = ap (λ k. option_map_or (λ rest. next_of n (item_at rest)) k (Some ([], ws))) e
+  list_none ws e = rw e
 
   pub more_step : (n : ℕ) (front longer : List T) (ws rest last : List (List ℕ)) (x : T) → longer ≡ front ++ x ∷ [] → key_at (codes ";") ws ≡ Some rest → item_at rest ≡ Some (x, last) → behind front (suc n) ws ≡ behind longer n last
-  more_step n front longer ws rest last x grown key read =
-      ap (λ o. o >>= λ more. Some (front ++ more.0, more.1)) (opened n ws (Some rest) key ∙ ap (next_of n) read)
-      ∙ (bind_bind (more_at item_at n last) (λ more. Some (x ∷ more.0, more.1)) (λ more. Some (front ++ more.0, more.1))
-      ∙ bind_same (more_at item_at n last) _ _ (λ more. ap (λ l. Some (l, more.1)) (sym (append_assoc front (x ∷ []) more.0) ∙ ap (λ l. l ++ more.0) (sym grown))))
+  unfolding more_at
+  more_step n front longer ws rest last x grown key read = rw (key, read) (bind_grown (more_at item_at n last) front longer x grown)
 
   pub more_none : (n : ℕ) (front : List T) (ws rest : List (List ℕ)) → key_at (codes ";") ws ≡ Some rest → item_at rest ≡ None → behind front (suc n) ws ≡ None
-  more_none n front ws rest key read = ap (λ o. o >>= λ more. Some (front ++ more.0, more.1)) (opened n ws (Some rest) key ∙ ap (next_of n) read)
+  unfolding more_at
+  more_none n front ws rest key read = rw (key, read)
 
   pub more_end : (n : ℕ) (front : List T) (ws : List (List ℕ)) → key_at (codes ";") ws ≡ None → behind front (suc n) ws ≡ Some (front, ws)
-  more_end n front ws key = ap (λ o. o >>= λ more. Some (front ++ more.0, more.1)) (opened n ws None key) ∙ ap (λ l. Some (l, ws)) (append-nil front)
+  unfolding more_at
+  more_end n front ws key = rw (key, append-nil front)
 
   pub more_full : (front : List T) (ws : List (List ℕ)) → behind front 0 ws ≡ Some (front, ws)
   unfolding more_at

@@ -1,10 +1,9 @@
 -- What the loops of the reader have found so far.
-use Rattle.std.proofs.Common.{◌≡◌, ℕ, ◌<◌, ◌≤◌, ◌+◌, true, false, Option, Some, None, List, [], ◌∷◌, ◌++◌, length, get_or, drop, refl, sym, ◌∙◌, ap, cond, append_assoc}
+use Rattle.std.proofs.Common.{◌≡◌, ℕ, ◌<◌, ◌≤◌, ◌+◌, true, false, Option, Some, None, List, [], ◌∷◌, ◌++◌, length, get_or, drop, refl, sym, ◌∙◌, ap, cond, bytes_eq}
 use Rattle.std.proofs.lemmas.List.{append-nil, at_drop_more, drop_all}
-use Rattle.std.specs.Str.{bytes_eq}
 use Rattle.scripts.specs.declared.field.Field.{Field}
 use Rattle.scripts.specs.Reading.{◌>>=◌}
-use Rattle.scripts.proofs.Readings.{bind_bind, bind_same}
+use Rattle.scripts.proofs.Readings.{bind_grown}
 use Rattle.scripts.specs.Row.{Row, field_at, numbers_at, sample_at}
 
 bind_pair : {A B : Type 0} (o : Option (A × B)) → o ≡ (o >>= λ x. Some (x.0, x.1))
@@ -15,29 +14,20 @@ bind_pair (Some x) = refl
 abbrev pub behind : List ℕ → List Field → List (List ℕ) → Option (List ℕ × List (List ℕ))
 behind front fs ws = numbers_at fs ws >>= λ more. Some (front ++ more.0, more.1)
 
-abbrev one_more : List Field → ℕ × List (List ℕ) → Option (List ℕ × List (List ℕ))
-one_more fs n = numbers_at fs n.1 >>= λ more. Some (n.0 ∷ more.0, more.1)
-
--- what follows a number that was read, or none
-abbrev stepped : List ℕ → List Field → Option (ℕ × List (List ℕ)) → Option (List ℕ × List (List ℕ))
-stepped front fs o = (o >>= one_more fs) >>= λ more. Some (front ++ more.0, more.1)
-
 pub numbers_start : (front : List ℕ) (fs : List Field) (ws : List (List ℕ)) → front ≡ [] → numbers_at fs ws ≡ behind front fs ws
 numbers_start front fs ws e = rw e (bind_pair (numbers_at fs ws))
 
 pub numbers_step : (front longer : List ℕ) (fs : List Field) (i : ℕ) (d : Field) (ws rest : List (List ℕ)) (n : ℕ) → longer ≡ front ++ n ∷ [] → i < length fs → field_at (get_or fs i d) ws ≡ Some (n, rest) → behind front (drop i fs) ws ≡ behind longer (drop (i + 1) fs) rest
 unfolding numbers_at
 numbers_step front longer fs i d ws rest n grown lt e =
-    at_drop_more (λ l. behind front l ws) fs i d lt
-    ∙ (ap (stepped front (drop (i + 1) fs)) e
-    ∙ (bind_bind (numbers_at (drop (i + 1) fs) rest) (λ more. Some (n ∷ more.0, more.1)) (λ more. Some (front ++ more.0, more.1))
-    ∙ bind_same (numbers_at (drop (i + 1) fs) rest) _ _ (λ more. ap (λ l. Some (l, more.1)) (sym (append_assoc front (n ∷ []) more.0) ∙ ap (λ l. l ++ more.0) (sym grown)))))
+    let next : behind front (get_or fs i d ∷ drop (i + 1) fs) ws ≡ behind longer (drop (i + 1) fs) rest = rw e (bind_grown (numbers_at (drop (i + 1) fs) rest) front longer n grown) in
+    at_drop_more (λ l. behind front l ws) fs i d lt ∙ next
 
 pub numbers_stop : (front : List ℕ) (fs : List Field) (i : ℕ) (d : Field) (ws : List (List ℕ)) → i < length fs → field_at (get_or fs i d) ws ≡ None → behind front (drop i fs) ws ≡ None
 unfolding numbers_at
 numbers_stop front fs i d ws lt e =
-    at_drop_more (λ l. behind front l ws) fs i d lt
-    ∙ ap (stepped front (drop (i + 1) fs)) e
+    let next : behind front (get_or fs i d ∷ drop (i + 1) fs) ws ≡ None = rw e in
+    at_drop_more (λ l. behind front l ws) fs i d lt ∙ next
 
 pub numbers_end : (front : List ℕ) (fs : List Field) (i : ℕ) (ws : List (List ℕ)) → length fs ≤ i → behind front (drop i fs) ws ≡ Some (front, ws)
 unfolding numbers_at

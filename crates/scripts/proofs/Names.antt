@@ -1,45 +1,58 @@
 -- Names, and the objects that they name.
+use Rattle.std.proofs.Common.{IsUtf8, Option, if◌then◌else◌, ◌≡◌, ℕ, zero, suc, ◌<◌, Bool, true, false, Some, None, List, [], ◌∷◌, length, refl, sym, ◌∙◌, ap, subst, cond, arith, position, get_or, inl, inr, nat_le, nat_lt, ◌&&◌, ◌||◌, bytes_eq}
 use Rattle.std.proofs.lemmas.Str.{IsUtf8-from_ascii}
-use Rattle.std.specs.Str.{IsUtf8}
-use Rattle.std.proofs.Common.{Option, if◌then◌else◌, ◌≡◌, ℕ, zero, suc, ◌<◌, Bool, true, false, Some, None, List, [], ◌∷◌, length, refl, sym, ◌∙◌, ap, subst, cond, arith, position, get_or, inl, inr}
 use Rattle.std.proofs.lemmas.List.Quantifiers.{position-Some}
 use Rattle.std.proofs.lemmas.Bool.{and_parts, false_from_ne_true, leb-true, lt-ltb}
 use Rattle.std.proofs.lemmas.Option.{slice_get-get_or, slice_get_cases}
 use Rattle.std.proofs.lemmas.List.Sums.{position_or_len_is}
 use Rattle.std.proofs.lemmas.Slice.Eq.{bytes_eq-Decides}
-use Rattle.std.specs.Prelude.{nat_le, nat_lt, ◌&&◌, ◌||◌}
 use Rattle.std.specs.List.{AllByRecursion, list_all, slice_get, position_or_len}
 use Rattle.std.specs.Option.{option_map_or}
-use Rattle.std.specs.Str.{bytes_eq}
-use Rattle.scripts.specs.Reading.{◌>>=◌, word_at}
+use Rattle.event_log.proofs.Each.{all_map}
+use Rattle.scripts.specs.Reading.{word_at}
 use Rattle.scripts.specs.Row.{IsPlain}
 use Rattle.scripts.specs.Settings.{Settings, ObjectSettings, SettingsFit, ObjectFits, NamesDiffer, name_at, is_name, is_letter, is_digit}
 use Rattle.scripts.specs.RecordReading.{place_at}
 use Rattle.scripts.proofs.Readings.{bind_some, same}
 
-letter_plain : (b : ℕ) → is_letter b ≡ true → 32 < b
-letter_plain b e = let low = leb-true 97 b (and_parts (nat_le 97 b) (nat_le b 122) e).0 in omega (arith, low)
+-- a byte of a name is neither a line end nor a space, and below 128
+abbrev IsWithin : ℕ → Type 0
+IsWithin b = (32 < b) × (b < 128)
 
-digit_plain : (b : ℕ) → is_digit b ≡ true → 32 < b
-digit_plain b e = let low = leb-true 48 b (and_parts (nat_le 48 b) (nat_le b 57) e).0 in omega (arith, low)
+letter_within : (b : ℕ) → is_letter b ≡ true → IsWithin b
+letter_within b e =
+    let ends = and_parts (nat_le 97 b) (nat_le b 122) e in
+    let low = leb-true 97 b ends.0 in
+    let high = leb-true b 122 ends.1 in
+    (omega (arith, low), omega (arith, high))
 
-either_plain : (c d : Bool) (b : ℕ) → (c || d) ≡ true → (c ≡ true → 32 < b) → (d ≡ true → 32 < b) → 32 < b
-either_plain true d b e f g = f refl
-either_plain false d b e f g = g e
+digit_within : (b : ℕ) → is_digit b ≡ true → IsWithin b
+digit_within b e =
+    let ends = and_parts (nat_le 48 b) (nat_le b 57) e in
+    let low = leb-true 48 b ends.0 in
+    let high = leb-true b 57 ends.1 in
+    (omega (arith, low), omega (arith, high))
 
-name_bytes_plain : (bs : List ℕ) → list_all (λ c. is_letter c || is_digit c) bs ≡ true → IsPlain bs
-name_bytes_plain [] e = tt
-name_bytes_plain (b ∷ bs) e =
+either_within : (c d : Bool) (b : ℕ) → (c || d) ≡ true → (c ≡ true → IsWithin b) → (d ≡ true → IsWithin b) → IsWithin b
+either_within true d b e f g = f refl
+either_within false d b e f g = g e
+
+bytes_within : (bs : List ℕ) → list_all (λ c. is_letter c || is_digit c) bs ≡ true → AllByRecursion IsWithin bs
+bytes_within [] e = tt
+bytes_within (b ∷ bs) e =
     let parts = and_parts (is_letter b || is_digit b) (list_all (λ c. is_letter c || is_digit c) bs) e in
-    (either_plain (is_letter b) (is_digit b) b parts.0 (letter_plain b) (digit_plain b), name_bytes_plain bs parts.1)
+    (either_within (is_letter b) (is_digit b) b parts.0 (letter_within b) (digit_within b), bytes_within bs parts.1)
+
+name_within : (name : List ℕ) → is_name name ≡ true → AllByRecursion IsWithin name
+name_within [] e = absurd cc
+name_within (b ∷ bs) e =
+    let parts = and_parts (is_letter b && list_all (λ c. is_letter c || is_digit c) bs) (nat_le (length bs) 15) e in
+    let first = and_parts (is_letter b) (list_all (λ c. is_letter c || is_digit c) bs) parts.0 in
+    (letter_within b first.0, bytes_within bs first.1)
 
 -- neither a line end nor a space is in a name
 pub name_plain : (name : List ℕ) → is_name name ≡ true → IsPlain name
-name_plain [] e = absurd cc
-name_plain (b ∷ bs) e =
-    let parts = and_parts (is_letter b && list_all (λ c. is_letter c || is_digit c) bs) (nat_le (length bs) 15) e in
-    let first = and_parts (is_letter b) (list_all (λ c. is_letter c || is_digit c) bs) parts.0 in
-    (letter_plain b first.0, name_bytes_plain bs first.1)
+name_plain name e = all_map (λ b within. within.0) name (name_within name e)
 
 -- the object at a place
 pub object_there : (settings : Settings) (i : ℕ) → i < length settings.objects → (o : ObjectSettings) × (slice_get settings.objects i ≡ Some o)
@@ -96,31 +109,16 @@ place_again settings i rest names less =
     let one : k ≡ i = names k i (omega (arith, lower, less)) less (named k o at ∙ same o.name (name_at settings i) e) in
     omega (arith, one, lower)))
     (λ o at. (bytes_eq-Decides o.name (name_at settings i)).1 (sym (named i o at))) in
-    ap (λ o. o >>= λ j. Some (j, rest)) found
+    rw found
 
-letter_small : (b : ℕ) → is_letter b ≡ true → b < 128
-letter_small b e = let high = leb-true b 122 (and_parts (nat_le 97 b) (nat_le b 122) e).1 in omega (arith, high)
-
-digit_small : (b : ℕ) → is_digit b ≡ true → b < 128
-digit_small b e = let high = leb-true b 57 (and_parts (nat_le 48 b) (nat_le b 57) e).1 in omega (arith, high)
-
-either_small : (c d : Bool) (b : ℕ) → (c || d) ≡ true → (c ≡ true → b < 128) → (d ≡ true → b < 128) → b < 128
-either_small true d b e f g = f refl
-either_small false d b e f g = g e
-
-name_bytes_small : (bs : List ℕ) → list_all (λ c. is_letter c || is_digit c) bs ≡ true → (i : ℕ) → get_or bs i 0 < 128
-name_bytes_small [] e i = omega arith
-name_bytes_small (b ∷ bs) e zero = either_small (is_letter b) (is_digit b) b (and_parts (is_letter b || is_digit b) (list_all (λ c. is_letter c || is_digit c) bs) e).0 (letter_small b) (digit_small b)
-name_bytes_small (b ∷ bs) e (suc i) = name_bytes_small bs (and_parts (is_letter b || is_digit b) (list_all (λ c. is_letter c || is_digit c) bs) e).1 i
-
-name_ascii : (name : List ℕ) → is_name name ≡ true → (i : ℕ) → get_or name i 0 < 128
-name_ascii [] e i = absurd cc
-name_ascii (b ∷ bs) e zero = letter_small b (and_parts (is_letter b) (list_all (λ c. is_letter c || is_digit c) bs) (and_parts (is_letter b && list_all (λ c. is_letter c || is_digit c) bs) (nat_le (length bs) 15) e).0).0
-name_ascii (b ∷ bs) e (suc i) = name_bytes_small bs (and_parts (is_letter b) (list_all (λ c. is_letter c || is_digit c) bs) (and_parts (is_letter b && list_all (λ c. is_letter c || is_digit c) bs) (nat_le (length bs) 15) e).0).1 i
+ascii_at : (bs : List ℕ) → AllByRecursion IsWithin bs → (i : ℕ) → get_or bs i 0 < 128
+ascii_at [] all i = omega arith
+ascii_at (b ∷ bs) all zero = all.0.1
+ascii_at (b ∷ bs) all (suc i) = ascii_at bs all.1 i
 
 -- a name is UTF-8
 pub name_utf8 : (name : List ℕ) → is_name name ≡ true → IsUtf8 name
-name_utf8 name e = IsUtf8-from_ascii name (name_ascii name e)
+name_utf8 name e = IsUtf8-from_ascii name (ascii_at name (name_within name e))
 
 -- bytes that are no UTF-8 are no name
 pub no_name : (b : Bool) (bytes : List ℕ) → (b ≡ true → ⊥) → ◌≡◌ {A = Option (List ℕ)} None (if b then Some bytes else None)

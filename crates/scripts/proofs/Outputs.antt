@@ -109,34 +109,25 @@ module _ {W : Type 0} (sink : Ghosts W) where
 
   -- a text that was put into an empty buffer, and written to the end
   finish_ok : (a b c : Buffered W) (text : List ℕ) → a.failed ≡ false → a.waiting.items ≡ [] → Puts sink a b text → Puts sink b c [] → c.failed ≡ false → c.waiting.items ≡ []
-      → Appends (sink.contents a.sink.now) (sink.contents c.sink.now) text × (sink.failed c.sink.now ≡ sink.failed a.sink.now)
-  finish_ok a b c text before empty p q after none_waits =
-      let all = (puts_then a b c text [] p q).ok before after in (
-        appends_known (sink.contents a.sink.now) (sink.contents c.sink.now) text (λ xs e.
-            let sent = all.bytes xs e in
-            let whole : sent.0 ≡ text = sym (append-nil sent.0) ∙ (ap (λ l. sent.0 ++ l) (sym none_waits) ∙ (sent.2 ∙ (ap (λ l. l ++ (text ++ [])) empty ∙ append-nil text))) in
-            sent.1 ∙ ap (λ l. Some (xs ++ l)) whole),
-        all.failed,
-      )
+      → Appends (sink.contents a.sink.now) (sink.contents c.sink.now) text
+  finish_ok a b c text before empty p q after none_waits = appends_known (sink.contents a.sink.now) (sink.contents c.sink.now) text (λ xs e.
+      let sent = ((puts_then a b c text [] p q).ok before after).bytes xs e in
+      let whole : sent.0 ≡ text = sym (append-nil sent.0) ∙ (ap (λ l. sent.0 ++ l) (sym none_waits) ∙ (sent.2 ∙ (ap (λ l. l ++ (text ++ [])) empty ∙ append-nil text))) in
+      sent.1 ∙ ap (λ l. Some (xs ++ l)) whole)
 
   -- a text that was put into an empty buffer, until a write failed
   finish_err : (a b c : Buffered W) (text : List ℕ) → a.failed ≡ false → a.waiting.items ≡ [] → Puts sink a b text → Puts sink b c [] → c.failed ≡ true
-      → AppendsBeginning (sink.contents a.sink.now) (sink.contents c.sink.now) text × (sink.failed c.sink.now ≡ counted true (sink.failed a.sink.now))
+      → AppendsBeginning (sink.contents a.sink.now) (sink.contents c.sink.now) text
   finish_err a b c text before empty p q after =
-      let some = (puts_then a b c text [] p q).err before after in
       let whole : a.waiting.items ++ (text ++ []) ≡ text = ap (λ l. l ++ (text ++ [])) empty ∙ append-nil text in
-      (subst (λ (l : List ℕ). AppendsBeginning (sink.contents a.sink.now) (sink.contents c.sink.now) l) whole some.bytes, some.failed)
+      subst (λ (l : List ℕ). AppendsBeginning (sink.contents a.sink.now) (sink.contents c.sink.now) l) whole ((puts_then a b c text [] p q).err before after).bytes
 
   -- both outcomes of a text that was put into an empty buffer, and finished
   module _ {T E : Type 0} (a b c : Buffered W) (text : List ℕ) (before : a.failed ≡ false) (empty : a.waiting.items ≡ []) (p : Puts sink a b text) (q : Puts sink b c []) (none_waits : c.waiting.items ≡ []) where
     pub finished_ok : (r : Result T E) → OnOk r (c.failed ≡ false) → OnOk r (Appends (sink.contents a.sink.now) (sink.contents c.sink.now) text)
-    finished_ok (Ok x) after = (finish_ok a b c text before empty p q after none_waits).0
+    finished_ok (Ok x) after = finish_ok a b c text before empty p q after none_waits
     finished_ok (Err e) after = tt
-
-    pub finished_none_failed : (r : Result T E) → OnOk r (c.failed ≡ false) → OnOk r (sink.failed c.sink.now ≡ sink.failed a.sink.now)
-    finished_none_failed (Ok x) after = (finish_ok a b c text before empty p q after none_waits).1
-    finished_none_failed (Err e) after = tt
 
     pub finished_err : (r : Result T E) → OnErr r (c.failed ≡ true) → OnErr r (AppendsBeginning (sink.contents a.sink.now) (sink.contents c.sink.now) text)
     finished_err (Ok x) after = tt
-    finished_err (Err e) after = (finish_err a b c text before empty p q after).0
+    finished_err (Err e) after = finish_err a b c text before empty p q after

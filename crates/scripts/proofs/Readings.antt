@@ -1,9 +1,7 @@
 -- Words and numbers are read as what they are, and nothing else is.
-use Rattle.std.proofs.Common.{◌≡◌, ℕ, ◌<◌, ◌≤◌, ◌^◌, true, Option, Some, None, List, [], ◌∷◌, ◌++◌, refl, ◌∙◌, ap, subst, arith, decimal}
+use Rattle.std.proofs.Common.{◌≡◌, ℕ, ◌<◌, ◌≤◌, ◌^◌, true, Option, Some, None, List, [], ◌∷◌, ◌++◌, refl, sym, append_assoc, ◌∙◌, ap, subst, arith, decimal, IfSome, IfNone, bytes_eq}
 use Rattle.std.proofs.lemmas.Fmt.{decimal_by_steps}
 use Rattle.std.proofs.lemmas.Slice.Eq.{bytes_eq-Decides}
-use Rattle.std.specs.Option.{IfSome, IfNone}
-use Rattle.std.specs.Str.{bytes_eq}
 use Rattle.scripts.specs.Reading.{◌>>=◌, number_in, word_at, number_at}
 use Rattle.scripts.specs.Row.{IsPlain}
 use Rattle.scripts.proofs.Cuts.{number_takes, number_again}
@@ -23,13 +21,11 @@ pub bind_some : {A B P : Type 0} (o : Option A) (f : A → Option B) (y : B) →
 bind_some None f y e k = absurd cc
 bind_some (Some x) f y e k = k x refl e
 
-pub bind_bind : {A B C : Type 0} (o : Option A) (f : A → Option B) (g : B → Option C) → ((o >>= f) >>= g) ≡ (o >>= λ x. f x >>= g)
-bind_bind None f g = refl
-bind_bind (Some x) f g = refl
-
-pub bind_same : {A B : Type 0} (o : Option A) (f g : A → Option B) → ((x : A) → f x ≡ g x) → (o >>= f) ≡ (o >>= g)
-bind_same None f g same = refl
-bind_same (Some x) f g same = same x
+-- one value more in front of those that are read
+pub bind_grown : {T R : Type 0} (o : Option (List T × R)) (front longer : List T) (x : T) → longer ≡ front ++ x ∷ [] → let put : List T → List T × R → Option (List T × R) = λ xs more. Some (xs ++ more.0, more.1) in
+    ◌≡◌ {A = Option (List T × R)} (◌>>=◌ {A = List T × R} {B = List T × R} (◌>>=◌ {A = List T × R} {B = List T × R} o (put (x ∷ []))) (put front)) (◌>>=◌ {A = List T × R} {B = List T × R} o (put longer))
+bind_grown None front longer x grown = refl
+bind_grown (Some more) front longer x grown = ap (λ l. Some (l, more.1)) (sym (append_assoc front (x ∷ []) more.0) ∙ ap (λ l. l ++ more.0) (sym grown))
 
 pub plain_both : (a b : List ℕ) → IsPlain a → IsPlain b → IsPlain (a ++ b)
 plain_both [] b p q = q

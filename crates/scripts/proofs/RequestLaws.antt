@@ -1,14 +1,13 @@
 -- A line of the scripts is read as what it spells, and nothing else is.
-use Rattle.std.proofs.Common.{◌≡◌, ℕ, true, Option, Some, None, List, [], ◌∷◌, ◌++◌, map, sym, ◌∙◌, ap, subst, cond, arith, decimal}
+use Rattle.std.proofs.Common.{◌≡◌, ℕ, Some, List, [], ◌∷◌, ◌++◌, map, sym, ◌∙◌, ap, subst, arith, decimal, nat_lt, ◌&&◌}
 use Rattle.std.proofs.lemmas.Bool.{and_parts, lt-ltb, ltb-true}
 use Rattle.std.proofs.lemmas.List.{append-nil}
 use Rattle.std.proofs.lemmas.Option.{cond_some}
-use Rattle.std.specs.Prelude.{nat_lt, ◌&&◌}
 use Rattle.std.specs.List.{AllByRecursion}
 use Rattle.scripts.specs.declared.kernel_call.KCall.{KCall}
 use Rattle.scripts.specs.declared.request.Request.{Request}
 use Rattle.scripts.specs.Ranges.{call_fits}
-use Rattle.scripts.specs.Reading.{◌>>=◌, words, number_at}
+use Rattle.scripts.specs.Reading.{words, number_at}
 use Rattle.scripts.specs.Row.{IsPlain, spelled}
 use Rattle.scripts.specs.Rows.{call_row, call_samples, call_filled}
 use Rattle.scripts.specs.ScriptText.{IsRequest, request_words}
@@ -34,17 +33,13 @@ reads_calls = record {
 }
 
 module _ (settings : Settings) (fit : SettingsFit settings) where
-  -- the request of these numbers and calls, where the CPU is one of the settings and no word is left
-  abbrev made : ℕ → ℕ → List KCall × List (List ℕ) → Option Request
-  made cpu object calls = cond (nat_lt cpu settings.cpus && is_nil calls.1) (Some (record { cpu = cpu; todo = record { object = object; calls = record { items = calls.0 } } })) None
-
   -- what is read of a line is what it asks for
   pub request_takes : (line : List ℕ) (r : Request) → request_at settings (words line) ≡ Some r → IsRequest settings line r
   unfolding request_at
   request_takes line r e =
-      bind_some (number_at 255 (words line)) (λ cpu. place_at settings.objects cpu.1 >>= λ object. list_at call_at object.1 >>= λ calls. made cpu.0 object.0 calls) r e (λ cpu found_cpu read_cpu.
-      bind_some (place_at settings.objects cpu.1) (λ object. list_at call_at object.1 >>= λ calls. made cpu.0 object.0 calls) r read_cpu (λ object found_object read_object.
-      bind_some (list_at call_at object.1) (λ calls. made cpu.0 object.0 calls) r read_object (λ calls found_calls last.
+      bind_some (number_at 255 (words line)) _ r e (λ cpu found_cpu read_cpu.
+      bind_some (place_at settings.objects cpu.1) _ r read_cpu (λ object found_object read_object.
+      bind_some (list_at call_at object.1) _ r read_object (λ calls found_calls last.
       let whole = cond_some (nat_lt cpu.0 settings.cpus && is_nil calls.1) (record { cpu = cpu.0; todo = record { object = object.0; calls = record { items = calls.0 } } }) r last in
       let tests = and_parts (nat_lt cpu.0 settings.cpus) (is_nil calls.1) whole.0 in
       let number = number_at_takes 255 cpu.0 (words line) cpu.1 found_cpu in
@@ -72,8 +67,5 @@ module _ (settings : Settings) (fit : SettingsFit settings) where
       let text : words line ≡ request_words settings r = ap words asked.text ∙ words_sentence (request_words settings r) (omega arith) (request_plain line r asked) in
       let cpus = fit.cpus in
       let cpu = asked.cpu in
-      ap (λ ws. number_at 255 ws >>= λ n. place_at settings.objects n.1 >>= λ object. list_at call_at object.1 >>= λ cs. made n.0 object.0 cs) text
-      ∙ (ap (λ o. o >>= λ n. place_at settings.objects n.1 >>= λ object. list_at call_at object.1 >>= λ cs. made n.0 object.0 cs) (number_at_again 255 r.cpu (name_at settings r.todo.object ∷ calls) (omega (arith, cpu, cpus.1)) (omega (arith, cpu, cpus.1)))
-      ∙ (ap (λ o. o >>= λ object. list_at call_at object.1 >>= λ cs. made r.cpu object.0 cs) (place_again settings r.todo.object calls fit.names asked.todo.object)
-      ∙ (ap (λ o. o >>= λ cs. made r.cpu r.todo.object cs) (ap (λ l. list_at call_at l) (sym (append-nil calls)) ∙ list_again call_words call_fits call_at reads_calls r.todo.calls.items [] asked.todo.some asked.todo.few asked.todo.calls (key_end _))
-      ∙ ap (λ b. cond (b && true) (Some r) None) (lt-ltb r.cpu settings.cpus asked.cpu))))
+      let read : list_at call_at calls ≡ Some (r.todo.calls.items, []) = ap (list_at call_at) (sym (append-nil calls)) ∙ list_again call_words call_fits call_at reads_calls r.todo.calls.items [] asked.todo.some asked.todo.few asked.todo.calls (key_end _) in
+      rw (text, number_at_again 255 r.cpu (name_at settings r.todo.object ∷ calls) (omega (arith, cpu, cpus.1)) (omega (arith, cpu, cpus.1)), place_again settings r.todo.object calls fit.names asked.todo.object, read, lt-ltb r.cpu settings.cpus asked.cpu)

@@ -1,90 +1,61 @@
 -- Scripts, text by text.
-use Rattle.std.proofs.Common.{◌≡◌, ℕ, ◌+◌, ◌<◌, ◌⊎◌, List, [], ◌∷◌, ◌++◌, length, inl, inr, ◌==◌, Bool, true, false, Result, Ok, Err, append_assoc, refl, sym, ◌∙◌, ap, subst, arith}
-use Rattle.std.proofs.lemmas.Bool.{eqb-true}
+use Rattle.std.proofs.Common.{◌≡◌, ℕ, ◌<◌, Bool, List, [], ◌∷◌, ◌++◌, length, inl, inr, Result, Ok, Err, refl, sym, ◌∙◌, subst, arith, IsErrAnd, IfOk, IfErr}
 use Rattle.std.proofs.lemmas.List.{append-nil}
-use Rattle.std.specs.List.{AllByRecursion}
-use Rattle.std.specs.Result.{IsErrAnd, IfOk, IfErr}
-use Rattle.event_log.proofs.Each.{all_append}
 use Rattle.scripts.specs.declared.line_machine.PieceFault.{PieceFault}
 use Rattle.scripts.specs.declared.line_machine.PieceFault.TheVariants as piece
 use Rattle.scripts.specs.declared.script_reader.ScriptsFault.{ScriptsFault}
 use Rattle.scripts.specs.declared.script_reader.ScriptsFault.TheVariants.{OutOfMemory, Line}
 use Rattle.scripts.specs.KernelTypes.{KernelTodo}
-use Rattle.scripts.specs.LineMachine.{TakesEach, TakesText, RefusesText, RefusesRest, RefusesLine, HasTaken}
-use Rattle.scripts.specs.ScriptFaults.{ScriptState, TakesLine, TakesScriptLine, RefusesScriptLine, FitsScriptLine, IsNotTaken, NamesFirstBad, HasRead, no_entries, of_piece}
-use Rattle.scripts.specs.ScriptText.{IsBlank, IsFirstBad, AreScripts, ScriptsFit, ScriptsWithin}
+use Rattle.scripts.specs.LineMachine.{TakesText, RefusesText, RefusesLine, HasTaken}
+use Rattle.scripts.specs.ScriptFaults.{ScriptState, TakesScriptLine, RefusesScriptLine, FitsScriptLine, IsNotTaken, NamesFirstBad, HasRead, no_entries, of_piece}
+use Rattle.scripts.specs.ScriptText.{AreRequests, IsFirstBad, AreScripts, ScriptsFit, ScriptsWithin}
 use Rattle.scripts.specs.Settings.{Settings, SettingsFit}
 use Rattle.scripts.specs.Words.{NoEnd, text_of_lines}
-use Rattle.scripts.proofs.LineMachine.{text_longer}
-use Rattle.scripts.proofs.ScriptLines.{SoFar, starts, line_taken, bad_line, bad_end, whole, scripts_fit}
+use Rattle.scripts.proofs.FirstLines.{refused_on}
+use Rattle.scripts.proofs.ScriptLines.{Asked, each_taken, refused, scripts_fit}
 use Rattle.scripts.proofs.ScriptRanges.{scripts_within}
 use Rattle.scripts.proofs.RecordLengths.{long_no_request}
-use Rattle.scripts.proofs.ScriptVerdicts.{line_first, bad_is_not_good}
-
--- the first line of a text, if it has a whole one
-first_line : (text : List ℕ) → NoEnd text ⊎ ((line : List ℕ) × (after : List ℕ) × NoEnd line × (text ≡ line ++ 10 ∷ after))
-first_line [] = inl tt
-first_line (b ∷ text) =
-    let go : (e : Bool) → (b == 10) ≡ e → NoEnd (b ∷ text) ⊎ ((line : List ℕ) × (after : List ℕ) × NoEnd line × (b ∷ text ≡ line ++ 10 ∷ after))
-    = λ e. elim e as (λ v. (b == 10) ≡ v → NoEnd (b ∷ text) ⊎ ((line : List ℕ) × (after : List ℕ) × NoEnd line × (b ∷ text ≡ line ++ 10 ∷ after))) [
-      | true ↦ (λ is. inr ([], text, tt, ap (λ c. c ∷ text) (eqb-true b 10 is)))
-      | false ↦ (λ is. elim (first_line text) [
-        | inl none ↦ inl (is, none)
-        | inr more ↦ inr (b ∷ more.0, more.1, (is, more.2), ap (λ l. b ∷ l) more.3)
-      ])
-    ] in
-    go (b == 10) refl
-
-some_byte : (line : List ℕ) → (IsBlank line → ⊥) → 0 < length line
-some_byte [] no_blank = absurd (no_blank tt)
-some_byte (b ∷ line) no_blank = omega arith
+use Rattle.scripts.proofs.ScriptVerdicts.{bad_is_not_good}
 
 module _ (settings : Settings) where
-  -- what lines make of what was read before them
-  each_taken : (lines : List (List ℕ)) (text rest : List ℕ) (old new : ScriptState) (n : ℕ) → old.settings ≡ settings → SoFar settings text (text_of_lines lines ++ rest) old.lists n → AllByRecursion NoEnd lines → TakesEach TakesScriptLine lines old new → (new.settings ≡ settings) × SoFar settings text rest new.lists (n + length lines)
-  each_taken [] text rest old new n is so_far each takes = (
-    ap (λ (s : ScriptState). s.settings) takes ∙ is,
-    subst (λ (s : ScriptState). SoFar settings text rest s.lists (n + 0)) (sym takes) (subst (λ (k : ℕ). SoFar settings text rest old.lists k) (omega arith) so_far),
-  )
-  each_taken (line ∷ lines) text rest old new n is so_far each takes =
-      let next = line_taken settings text (text_of_lines (line ∷ lines) ++ rest) (text_of_lines lines ++ rest) line old.lists takes.0.lists n so_far each.0 (ap (λ t. t ++ rest) (line_first line lines) ∙ append_assoc line (10 ∷ text_of_lines lines) rest) (subst (λ (s : Settings). TakesLine s line old.lists takes.0.lists) is takes.1.takes) in
-      let last = each_taken lines text rest takes.0 new (n + 1) (takes.1.same ∙ is) next each.1 takes.2 in
-      (last.0, subst (λ (k : ℕ). SoFar settings text rest new.lists k) (omega arith) last.1)
+  module _ (text rest : List ℕ) (state : ScriptState) (m : ℕ) (takes : TakesText TakesScriptLine text (no_entries settings) 1 rest state m) where
+    -- what the lines that were taken ask for
+    taken : Asked settings [] takes.lines state
+    taken = each_taken settings takes.lines [] (no_entries settings) state refl refl (λ cpu. omega arith) takes.takes
 
-  -- what was read of a text
-  pub text_taken : (text rest : List ℕ) (state : ScriptState) (m : ℕ) → TakesText TakesScriptLine text (no_entries settings) 1 rest state m → (state.settings ≡ settings) × SoFar settings text rest state.lists m
-  text_taken text rest state m takes =
-      let all : SoFar settings text (text_of_lines takes.lines ++ rest) (no_entries settings).lists 1 = subst (λ (r : List ℕ). SoFar settings text r (no_entries settings).lists 1) takes.parts (starts settings text (no_entries settings).lists refl) in
-      let taken = each_taken takes.lines text rest (no_entries settings) state 1 refl all takes.each takes.takes in
-      (taken.0, subst (λ (k : ℕ). SoFar settings text rest state.lists k) (sym takes.number) taken.1)
+    abbrev good : AreRequests settings (text_of_lines takes.lines) taken.requests
+    good = record { lines = takes.lines; text = refl; each = takes.each; asked = taken.asked; within = taken.within }
 
-  -- a whole line that isn't taken is the first bad one, whatever follows
-  text_refused : (text more : List ℕ) (m : ℕ) → RefusesText TakesScriptLine RefusesScriptLine text (no_entries settings) 1 m → IsFirstBad settings (text ++ more) m
-  text_refused text more m refuses =
-      let so_far = text_taken (text ++ more) ((refuses.line ++ 10 ∷ refuses.after) ++ more) refuses.new m (text_longer TakesScriptLine more text (no_entries settings) 1 (refuses.line ++ 10 ∷ refuses.after) refuses.new m refuses.before) in
-      bad_line settings (text ++ more) ((refuses.line ++ 10 ∷ refuses.after) ++ more) (refuses.after ++ more) refuses.line refuses.new.lists m so_far.1 refuses.no_end (append_assoc refuses.line (10 ∷ refuses.after) more) (subst (λ (s : Settings). IsNotTaken s refuses.line refuses.new.lists) so_far.0 refuses.bad)
+    -- a text with a line without an end is bad
+    pub rest_is_bad : NoEnd rest → 0 < length rest → IsFirstBad settings text m
+    rest_is_bad no_end some = record { before = text_of_lines takes.lines; requests = taken.requests; good = good; number = (let count = takes.number in omega (arith, count)); line = rest; no_end = no_end; bad = inl (takes.parts, some) }
 
-  -- so is a line without an end that isn't taken however it goes on
-  rest_refused : (text more : List ℕ) (m : ℕ) → RefusesRest TakesScriptLine RefusesScriptLine FitsScriptLine text (no_entries settings) 1 m → IsFirstBad settings (text ++ more) m
-  rest_refused text more m refuses =
-      let so_far = text_taken (text ++ more) (refuses.rest ++ more) refuses.new m (text_longer TakesScriptLine more text (no_entries settings) 1 refuses.rest refuses.new m refuses.before) in
-      elim (first_line more) [
-        | inl none ↦ bad_end settings (text ++ more) (refuses.rest ++ more) refuses.new.lists m so_far.1 (all_append (λ b. (b == 10) ≡ false) refuses.rest more refuses.no_end none) (some_byte (refuses.rest ++ more) (refuses.bad more).no_blank)
-        | inr cut ↦ bad_line settings (text ++ more) (refuses.rest ++ more) cut.1 (refuses.rest ++ cut.0) refuses.new.lists m so_far.1 (all_append (λ b. (b == 10) ≡ false) refuses.rest cut.0 refuses.no_end cut.2)
-            (ap (λ l. refuses.rest ++ l) cut.3 ∙ sym (append_assoc refuses.rest cut.0 (10 ∷ cut.1))) (subst (λ (s : Settings). IsNotTaken s (refuses.rest ++ cut.0) refuses.new.lists) so_far.0 (refuses.bad cut.0))
-      ]
+  -- so is one with a line that isn't taken
+  line_is_bad : (text : List ℕ) (m : ℕ) → RefusesText TakesScriptLine RefusesScriptLine text (no_entries settings) 1 m → IsFirstBad settings text m
+  line_is_bad text m r =
+      let is = taken text (r.line ++ 10 ∷ r.after) r.new m r.before in
+      record {
+        before = text_of_lines r.before.lines;
+        requests = is.requests;
+        good = good text (r.line ++ 10 ∷ r.after) r.new m r.before;
+        number = (let count = r.before.number in omega (arith, count));
+        line = r.line;
+        no_end = r.no_end;
+        bad = inr (r.after, r.before.parts, refused settings r.line r.new.lists is.requests is.each is.within (subst (λ (s : Settings). IsNotTaken s r.line r.new.lists) is.same r.bad));
+      }
 
   -- a line that isn't taken, whatever follows, is the first bad one
   pub line_refused : (text more : List ℕ) (m : ℕ) → RefusesLine TakesScriptLine RefusesScriptLine FitsScriptLine text (no_entries settings) 1 m → IsFirstBad settings (text ++ more) m
-  line_refused text more m refuses = elim refuses [ inl of_text ↦ text_refused text more m of_text | inr of_rest ↦ rest_refused text more m of_rest ]
+  line_refused text more m refuses = elim (refused_on TakesScriptLine RefusesScriptLine FitsScriptLine text more (no_entries settings) 1 m refuses) [
+    | inl r ↦ line_is_bad (text ++ more) m r
+    | inr r ↦ rest_is_bad (text ++ more) r.0 r.1 m r.2 r.3 r.4
+  ]
 
   -- a text of whole lines spells the scripts
   pub whole_taken : (text : List ℕ) (state : ScriptState) (m : ℕ) → TakesText TakesScriptLine text (no_entries settings) 1 [] state m → AreScripts settings text state.lists
-  whole_taken text state m takes = whole settings text state.lists m [] refl (text_taken text [] state m takes).1
-
-  -- a text with a line without an end is bad
-  pub rest_is_bad : (text rest : List ℕ) (state : ScriptState) (m : ℕ) → TakesText TakesScriptLine text (no_entries settings) 1 rest state m → NoEnd rest → 0 < length rest → IsFirstBad settings text m
-  rest_is_bad text rest state m takes no_end some = bad_end settings text rest state.lists m (text_taken text rest state m takes).1 no_end some
+  whole_taken text state m takes =
+      let is = taken text [] state m takes in
+      record { requests = is.requests; spelled = subst (λ t. AreRequests settings t is.requests) (sym (takes.parts ∙ append-nil (text_of_lines takes.lines))) (good text [] state m takes); each = is.each }
 
   names_by : (text : List ℕ) (fault : PieceFault) → ((m : ℕ) → fault ≡ piece.Line m → IsFirstBad settings text m) → NamesFirstBad settings text (of_piece fault)
   names_by text piece.OutOfMemory first = tt
@@ -109,7 +80,7 @@ module _ (settings : Settings) where
   -- they are within all limits
   pub within_all : (text : List ℕ) (state : ScriptState) (m : ℕ) → SettingsFit state.settings → TakesText TakesScriptLine text (no_entries settings) 1 [] state m → ScriptsWithin state.lists
   within_all text state m fits takes =
-      let limits = subst SettingsFit (text_taken text [] state m takes).0 fits in
+      let limits = subst SettingsFit (taken text [] state m takes).same fits in
       let fit = scripts_fit settings text state.lists (whole_taken text state m takes) in
       (omega (arith, fit.0, limits.cpus.1), scripts_within (length settings.objects) _ limits.count.1 _ fit.1)
 

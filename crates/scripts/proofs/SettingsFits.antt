@@ -1,9 +1,7 @@
 -- What settings of a TOML table are: within all limits.
-use Rattle.std.proofs.Common.{◌≡◌, ℕ, ℤ, pos, negsuc, zero, suc, ◌+◌, ◌<◌, ◌≤◌, Bool, true, false, ◌&&◌, nat_le, List, [], ◌∷◌, ◌++◌, length, length-append, Option, Some, None, Ok, Err, Result, refl, ap, sym, ◌∙◌, subst, arith, inl, inr, if◌then◌else◌}
-use Rattle.std.specs.Prelude.{int_le, nat_abs, ◌||◌}
+use Rattle.std.proofs.Common.{◌≡◌, ℕ, ℤ, pos, negsuc, zero, suc, ◌+◌, ◌<◌, ◌≤◌, Bool, true, false, ◌&&◌, nat_le, List, [], ◌∷◌, ◌++◌, length, length-append, Option, Some, None, Ok, Err, Result, refl, ap, sym, ◌∙◌, subst, arith, inl, inr, if◌then◌else◌, int_le, nat_abs, ◌||◌, bytes_eq}
 use Rattle.std.specs.List.{list_any, slice_get, AllByRecursion}
 use Rattle.std.specs.Option.{option_map_or}
-use Rattle.std.specs.Str.{bytes_eq}
 use Rattle.std.proofs.Math.Nat.{eq-or-lt_of_le}
 use Rattle.std.proofs.lemmas.Bool.{and_parts, leb-true, le-leb, false≢true}
 use Rattle.std.proofs.lemmas.Slice.Eq.{bytes_eq-Decides}
@@ -154,14 +152,14 @@ name_in os i = option_map_or (λ o. o.name) (slice_get os i) []
 abbrev pub Differ : List ObjectSettings → Type 0
 Differ os = (i j : ℕ) → i < length os → j < length os → name_in os i ≡ name_in os j → i ≡ j
 
-name_left : (os : List ObjectSettings) (o : ObjectSettings) (i : ℕ) → i < length os → name_in (os ++ o ∷ []) i ≡ name_in os i
-name_left [] o i less = absurd (omega (arith, less))
-name_left (x ∷ os) o zero less = refl
-name_left (x ∷ os) o (suc i) less = name_left os o i (omega (arith, less))
+pub name_before : (front os : List ObjectSettings) (i : ℕ) → i < length front → name_in (front ++ os) i ≡ name_in front i
+name_before [] os i less = absurd (omega (arith, less))
+name_before (x ∷ front) os zero less = refl
+name_before (x ∷ front) os (suc i) less = name_before front os i (omega (arith, less))
 
-name_last : (os : List ObjectSettings) (o : ObjectSettings) → name_in (os ++ o ∷ []) (length os) ≡ o.name
-name_last [] o = refl
-name_last (x ∷ os) o = name_last os o
+pub name_here : (front os : List ObjectSettings) (o : ObjectSettings) → name_in (front ++ o ∷ os) (length front) ≡ o.name
+name_here [] os o = refl
+name_here (x ∷ front) os o = name_here front os o
 
 or_true : (b c : Bool) → c ≡ true → (b || c) ≡ true
 or_true true c e = refl
@@ -182,11 +180,11 @@ differ_more os o differ fresh i j li lj same =
     elim (eq-or-lt_of_le i_end) [
       | inl a ↦ elim (eq-or-lt_of_le j_end) [
         | inl b ↦ a ∙ sym b
-        | inr b ↦ absurd (apart j b (sym (name_left os o j b) ∙ (sym same ∙ (ap (name_in (os ++ o ∷ [])) a ∙ name_last os o))))
+        | inr b ↦ absurd (apart j b (sym (name_before os (o ∷ []) j b) ∙ (sym same ∙ (ap (name_in (os ++ o ∷ [])) a ∙ name_here os [] o))))
       ]
       | inr a ↦ elim (eq-or-lt_of_le j_end) [
-        | inl b ↦ absurd (apart i a (sym (name_left os o i a) ∙ (same ∙ (ap (name_in (os ++ o ∷ [])) b ∙ name_last os o))))
-        | inr b ↦ differ i j a b (sym (name_left os o i a) ∙ (same ∙ name_left os o j b))
+        | inl b ↦ absurd (apart i a (sym (name_before os (o ∷ []) i a) ∙ (same ∙ (ap (name_in (os ++ o ∷ [])) b ∙ name_here os [] o))))
+        | inr b ↦ differ i j a b (sym (name_before os (o ∷ []) i a) ∙ (same ∙ name_before os (o ∷ []) j b))
       ]
     ]
 

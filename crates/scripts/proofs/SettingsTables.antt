@@ -1,8 +1,6 @@
 -- Values of settings, as they are seen in a TOML table.
-use Rattle.std.proofs.Common.{◌≡◌, ℕ, suc, ◌+◌, ◌<◌, Bool, true, false, List, [], ◌∷◌, ◌++◌, length, drop, get_or, Ok, Err, IfOk, IfErr, IsUtf8, Result, String, Global, string_bytes, refl, ap, sym, ◌∙◌, ◌&&◌, if◌then◌else◌}
-use Rattle.std.specs.Result.{IsErrAnd}
+use Rattle.std.proofs.Common.{◌≡◌, ℕ, suc, ◌+◌, ◌<◌, Bool, true, false, List, [], ◌∷◌, ◌++◌, length, drop, get_or, Ok, Err, IfOk, IfErr, IsUtf8, Result, String, Global, string_bytes, refl, ap, sym, ◌∙◌, ◌&&◌, if◌then◌else◌, IsErrAnd, bytes_eq}
 use Rattle.std.specs.List.{list_all, list_any}
-use Rattle.std.specs.Str.{bytes_eq}
 use Rattle.std.specs.Map.{keys_of}
 use Rattle.toml.proofs.Views.{items_view-drop, Entry}
 use Rattle.toml.specs.Data.{Data, Items, no_items, item}

@@ -1,7 +1,6 @@
 -- A sound run of entries in their ranges is in its ranges as a whole.
+use Rattle.std.proofs.Common.{◌≡◌, ℕ, zero, suc, ◌<◌, ◌≤◌, ◌==◌, Bool, true, false, cond, Option, Some, None, List, [], ◌∷◌, map, length, take, refl, sym, ◌∙◌, ap, subst, arith, slice_get, unwrap_or, nat_lt, ◌&&◌}
 use Rattle.std.specs.Cmp.Derive.{both_true}
-use Rattle.std.proofs.Common.{◌≡◌, ℕ, zero, suc, ◌<◌, ◌≤◌, ◌==◌, Bool, true, false, cond, Option, Some, None, List, [], ◌∷◌, map, length, take, refl, sym, ◌∙◌, ap, subst, arith}
-use Rattle.std.specs.Prelude.{slice_get, unwrap_or, nat_lt, ◌&&◌}
 use Rattle.std.specs.List.{list_all, AllByRecursion}
 use Rattle.std.proofs.lemmas.Bool.{and_parts, eq-eqb, ltb-true, ltb-false}
 use Rattle.std.proofs.lemmas.List.{length-map}
@@ -24,19 +23,12 @@ use Rattle.scripts.specs.Row.{row_fits}
 use Rattle.scripts.specs.Rows.{params_row}
 use Rattle.scripts.specs.Runs.{opened_of, EntryAsks, TranscriptAsks}
 use Rattle.scripts.specs.Settings.{Settings, ObjectSettings, SettingsFit, ObjectFits}
+use Rattle.scripts.proofs.Names.{each_at}
 
--- ---- lists
-
-module _ {X : Type 0} (P : X → Type 0) where
-  -- what holds at each place holds of each member
-  pub all_at : (xs : List X) → ((i : ℕ) (x : X) → slice_get xs i ≡ Some x → P x) → AllByRecursion P xs
-  all_at [] h = tt
-  all_at (x ∷ xs) h = (h 0 x refl, all_at xs (λ i y e. h (suc i) y e))
-
-  at_all : (xs : List X) (i : ℕ) (x : X) → AllByRecursion P xs → slice_get xs i ≡ Some x → P x
-  at_all [] i x all e = absurd cc
-  at_all (y ∷ ys) zero x all e = let same : y ≡ x = cc in subst P same all.0
-  at_all (y ∷ ys) (suc i) x all e = at_all ys i x all.1 e
+-- what holds at each place holds of each member
+pub all_at : {X : Type 0} (P : X → Type 0) (xs : List X) → ((i : ℕ) (x : X) → slice_get xs i ≡ Some x → P x) → AllByRecursion P xs
+all_at P [] h = tt
+all_at P (x ∷ xs) h = (h 0 x refl, all_at P xs (λ i y e. h (suc i) y e))
 
 -- ---- the steps of a log, by who did them, and those of a transcript, by the object
 
@@ -157,7 +149,7 @@ module _ (settings : Settings) (fit : SettingsFit settings) (run : KernelRun) (s
     where
       go : (o : Option (List KernelEntry)) → slice_get run.transcripts cpu ≡ o → AllByRecursion (EntryAsks objects) (unwrap_or o [])
       go None e = tt
-      go (Some t) e = (at_all (TranscriptAsks objects) run.transcripts cpu t asks e).1
+      go (Some t) e = (each_at (TranscriptAsks objects) run.transcripts cpu t asks e).1
 
   done_asks : (cpu x : ℕ) → AllByRecursion Asked (done_on x (transcript_of cpu run))
   done_asks cpu x = done_all Asked x (transcript_of cpu run) (all_both entry_asks (transcript_of cpu run) (transcript_asks cpu) (sound.entries cpu))
@@ -179,7 +171,7 @@ module _ (settings : Settings) (fit : SettingsFit settings) (run : KernelRun) (s
       let object = some_at settings.objects x within in
       let o = object.0 in
       let is = sound.logs x _ log (map_get one_opened settings.objects x o object.1) at in
-      let good = at_all ObjectFits settings.objects x o fit.each object.1 in
+      let good = each_at ObjectFits settings.objects x o fit.each object.1 in
       let events = each_event (λ cpu s. Asked s × (cpu < settings.cpus)) log (λ cpu. cpu_steps cpu x log at) in
       let asked = asks_all log (all_map (λ e h. h.0) log events) in
       let replied = answers_all log (replies o.params log (sym (ranges o.params) ∙ good.params) is.legal asked) in
@@ -206,7 +198,7 @@ module _ (settings : Settings) (fit : SettingsFit settings) (run : KernelRun) (s
   transcript_fits : (cpu : ℕ) (entries : List KernelEntry) → slice_get run.transcripts cpu ≡ Some entries → TranscriptFits objects entries
   transcript_fits cpu entries at =
       let same : transcript_of cpu run ≡ entries = ap (λ o. unwrap_or o []) at in
-      let asked = at_all (TranscriptAsks objects) run.transcripts cpu entries asks at in
+      let asked = each_at (TranscriptAsks objects) run.transcripts cpu entries asks at in
       let done = each_entry InRange objects entries (all_map (λ e h. h.todo.object) entries asked.1) (λ x less. subst (λ (l : List KernelEntry). AllByRecursion InRange (done_on x l)) same (steps_fit cpu x less)) in
       (asked.0, all_both (λ e h. record { object = h.0.todo.object; looks = h.0.looks; some = h.0.todo.some; few = h.0.todo.few; calls = h.0.todo.calls; done = done_fits e.done h.1 }) entries asked.1 done)
 

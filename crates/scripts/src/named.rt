@@ -7,8 +7,8 @@ ghost use Rattle.std.specs.Str.{bytes_eq};
 ghost use Rattle.scripts.specs.Reading.{left};
 ghost use Rattle.scripts.specs.RecordReading.{place_at};
 
-use crate::words::{Words, word};
 use crate::ObjectSettings;
+use crate::words::{Words, word};
 use word_rule::MOST_CELLS;
 
 /// Whether one of the objects has the name.

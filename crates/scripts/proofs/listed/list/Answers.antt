@@ -1,5 +1,4 @@
-use Rattle.std.proofs.Common.{◌≡◌, suc, ◌+◌, ◌-◌, length, length-append, [], ◌∷◌, sym, ◌∙◌, ap, arith}
-use Rattle.std.specs.Option.{option_map}
+use Rattle.std.proofs.Common.{◌≡◌, suc, ◌+◌, ◌-◌, length, length-append, [], ◌∷◌, sym, ◌∙◌, ap, arith, option_map}
 use Rattle.event_log.specs.declared.event.TheConstants.{MOST_CALLS}
 use Rattle.scripts.specs.Reading.{left}
 use Rattle.scripts.proofs.Lists.{behind, list_first, list_none, more_step, more_none, more_end, more_full}

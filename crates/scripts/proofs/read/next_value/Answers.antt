@@ -1,6 +1,5 @@
-use Rattle.std.proofs.Common.{◌≡◌, Some, sym, ◌∙◌, ap}
+use Rattle.std.proofs.Common.{◌≡◌, Some, sym, ◌∙◌, ap, option_map}
 use Rattle.std.specs.List.{list_all}
-use Rattle.std.specs.Option.{option_map}
 use Rattle.scripts.specs.Reading.{left}
 use Rattle.scripts.specs.Row.{in_range, refill, numbers_at}
 use Rattle.scripts.proofs.Spellings.{numbers_take}
