@@ -6,6 +6,7 @@ use Rattle.std.proofs.lemmas.List.Elements.{All-from_recursion}
 use Rattle.std.proofs.lemmas.List.Quantifiers.{position-Some}
 use Rattle.std.proofs.lemmas.List.Splits.{slice_split-cons_yes, slice_split_none, slice_split_at}
 use Rattle.std.specs.List.{AllByRecursion, filter, slice_split}
+use Rattle.event_log.proofs.Each.{all_map}
 use Rattle.scripts.specs.declared.schedule.TheConstants.{MOST_STEPS}
 use Rattle.scripts.specs.ScheduleText.{is_gap, schedule_words, IsSchedule, NamesNoCpu, IsFirstBadWord}
 use Rattle.scripts.proofs.Cuts.{none_below, none_passes}
@@ -142,5 +143,4 @@ module _ (cpus : ℕ) where
 
 -- CPUs of the settings are CPUs
 pub few_cpus : (cpus most : ℕ) (steps : List ℕ) → cpus ≤ most → AllByRecursion (λ cpu. cpu < cpus) steps → AllByRecursion (λ cpu. cpu < most) steps
-few_cpus cpus most [] le all = tt
-few_cpus cpus most (s ∷ steps) le all = (omega (arith, le, all.0), few_cpus cpus most steps le all.1)
+few_cpus cpus most steps le all = all_map (λ cpu less. omega (arith, le, less)) steps all

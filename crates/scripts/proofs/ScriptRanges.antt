@@ -3,6 +3,7 @@ use Rattle.std.specs.Cmp.Derive.{both_true}
 use Rattle.std.proofs.Common.{◌≡◌, ◌≤◌, ℕ, true, nat_lt, List, [], ◌∷◌, refl, arith}
 use Rattle.std.proofs.lemmas.Bool.{and_parts, ltb-true, lt-ltb}
 use Rattle.std.specs.List.{list_all, AllByRecursion}
+use Rattle.event_log.proofs.Each.{all_map}
 use Rattle.scripts.specs.KernelTypes.{KernelTodo}
 use Rattle.scripts.specs.ScriptText.{TodoFits, ScriptFits}
 
@@ -30,9 +31,7 @@ module _ (n : ℕ) where
 -- what is within the settings is within all limits
 module _ (n m : ℕ) (le : n ≤ m) where
   todos_within : (script : List KernelTodo) → AllByRecursion (TodoFits n) script → AllByRecursion (TodoFits m) script
-  todos_within [] all = tt
-  todos_within (t ∷ script) all = (record { object = omega (arith, all.0.object, le); some = all.0.some; few = all.0.few; calls = all.0.calls }, todos_within script all.1)
+  todos_within script all = all_map (λ t h. record { object = omega (arith, h.object, le); some = h.some; few = h.few; calls = h.calls }) script all
 
   pub scripts_within : (scripts : List (List KernelTodo)) → AllByRecursion (ScriptFits n) scripts → AllByRecursion (ScriptFits m) scripts
-  scripts_within [] all = tt
-  scripts_within (s ∷ scripts) all = ((all.0.0, todos_within s all.0.1), scripts_within scripts all.1)
+  scripts_within scripts all = all_map (λ s h. (h.0, todos_within s h.1)) scripts all

@@ -1,32 +1,25 @@
 -- No text is both scripts and one with a first bad line.
-use Rattle.std.proofs.Common.{◌≡◌, ℕ, ◌+◌, ◌<◌, ◌≤◌, ◌^◌, ◌==◌, List, [], ◌∷◌, ◌++◌, length, fold, refl, sym, ◌∙◌, ap, subst, arith, cond, decimal, inl, inr}
+use Rattle.std.proofs.Common.{◌≡◌, ℕ, ◌<◌, ◌≤◌, ◌^◌, ◌==◌, List, [], ◌∷◌, ◌++◌, length, refl, sym, ◌∙◌, ap, subst, arith, cond, decimal, inl, inr}
 use Rattle.std.specs.List.{AllByRecursion}
 use Rattle.std.proofs.lemmas.Bool.{eq-eqb}
-use Rattle.std.proofs.lemmas.List.Sums.{fold-append}
+use Rattle.std.proofs.lemmas.List.Sums.{sum_by-append, sum_by-cons}
 use Rattle.scripts.specs.declared.request.Request.{Request}
 use Rattle.scripts.specs.declared.script_list.TheConstants.{MOST_ENTRIES}
 use Rattle.scripts.specs.Reading.{AreDigits}
-use Rattle.scripts.specs.ScriptText.{IsBlank, IsRequest, AskFor, AreRequests, AreScripts, IsRefused, IsFirstBad, count_of, request_words}
+use Rattle.scripts.specs.ScriptText.{IsBlank, IsRequest, AskFor, AreRequests, AreScripts, IsRefused, IsFirstBad, count_of}
 use Rattle.scripts.specs.KernelTypes.{KernelTodo}
 use Rattle.scripts.specs.Settings.{Settings, SettingsFit}
-use Rattle.scripts.specs.Words.{sentence, text_of_lines, NoEnd}
+use Rattle.scripts.specs.Words.{text_of_lines, NoEnd}
 use Rattle.scripts.proofs.Digits.{decimal_digits, decimal_some}
 use Rattle.scripts.proofs.FirstLines.{line_first, same_line, no_such_end, lines_front}
 use Rattle.scripts.proofs.RequestLaws.{request_again}
 
--- counting on never counts less
-counts_up : (cpu n : ℕ) (requests : List Request) → n ≤ fold (λ (k : ℕ) (q : Request). k + cond (q.cpu == cpu) 1 0) n requests
-counts_up cpu n [] = omega arith
-counts_up cpu n (q ∷ requests) = let rest = counts_up cpu (n + cond (q.cpu == cpu) 1 0) requests in omega (arith, rest)
-
 -- a request after others is counted too
 counted_after : (before after : List Request) (r : Request) → count_of r.cpu before < count_of r.cpu (before ++ r ∷ after)
 counted_after before after r =
-    let f : ℕ → Request → ℕ = λ k q. k + cond (q.cpu == r.cpu) 1 0 in
-    let whole : count_of r.cpu (before ++ r ∷ after) ≡ fold f (f (count_of r.cpu before) r) after = fold-append f 0 before (r ∷ after) in
-    let here : f (count_of r.cpu before) r ≡ count_of r.cpu before + 1 = rw (eq-eqb r.cpu r.cpu refl) refl in
-    let rest = counts_up r.cpu (f (count_of r.cpu before) r) after in
-    omega (arith, whole, here, rest)
+    let f : Request → ℕ = λ q. cond (q.cpu == r.cpu) 1 0 in
+    let here : f r ≡ 1 = rw (eq-eqb r.cpu r.cpu refl) refl in
+    omega (arith, sum_by-append f before (r ∷ after), sum_by-cons f r after, here)
 
 module _ (settings : Settings)
     (one : (line : List ℕ) (q r : Request) → IsRequest settings line q → IsRequest settings line r → q ≡ r)
