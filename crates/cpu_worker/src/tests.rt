@@ -1,7 +1,10 @@
-//! Whole runs: worked ones, gates, and a long run.
+//! Whole runs: worked ones, gates, starters, a long run, and what stands where memory or a thread is refused.
 
+mod calls;
 mod gates;
 mod long_run;
+mod refused;
+mod starters;
 mod worked;
 
 use crate::{Gate, run};

@@ -6,9 +6,11 @@ ghost use Rattle.std.specs.Thread.{IsSync};
 ghost use Rattle.word_rule.specs.declared.key.TheConstants.{MOST_CPUS};
 ghost use Rattle.word_rule.specs.Passes.{view_of_pass};
 ghost use Rattle.guarded_cell.specs.Kinds.{IsPassOf};
+ghost use Rattle.cpu_worker.specs.Starts.{AllowedBelow};
 ghost use Rattle.cpu_worker.specs.Work.{IsReady, IsDone};
 
 use crate::gate::Gate;
+use crate::starter::Starter;
 use crate::worker::do_script;
 use event_log::{Entry, OutOfMemory, Todo};
 use guarded_cell::{AnyCell, AnyPass};
@@ -23,7 +25,7 @@ use std::thread::{Promise, PromisedHandle, Threads};
 pub enum RunFault {
     /// No thread was started.
     OutOfMemory,
-    /// The least CPU whose thread wasn't started. The workers that ran have ended.
+    /// The least CPU whose thread wasn't started, as it wasn't allowed or the system refused. The workers that ran have ended.
     NoThreadStarted(u8),
 }
 
@@ -97,11 +99,12 @@ fn join_all<R: Threads>(rt: &R, handles: Vec<Handle>, finished: Vec<Finished>) -
     finished
 }
 
-/// Starts a thread for each job, CPU by CPU, and waits for all. At the first thread that isn't started no further one is
-/// started, and the workers that run end their scripts.
-pub fn on_threads<G: Gate + Sync, R: Threads + Wait + Sync>(
+/// Starts a thread for each job, CPU by CPU, and waits for all. At the first CPU that isn't allowed, or whose thread is
+/// refused, no further one is started, and the workers that run end their scripts.
+pub fn on_threads<G: Gate + Sync, S: Starter, R: Threads + Wait + Sync>(
     rt: &R,
     gate: &G,
+    starter: &S,
     cells: &Vec<KernelCell>,
     jobs: Vec<Job>,
     handles: Vec<Handle>,
@@ -113,6 +116,8 @@ pub fn on_threads<G: Gate + Sync, R: Threads + Wait + Sync>(
     requires finished { (finished.items ≡ []) × (vec_len jobs ≤ vec_capacity finished) }
     ensures done { IfOk result (λ r. AllZip (λ j f. IsDone IsPassOf view_of_pass cells.now.items j.passes.items j.todos.items f.0.items f.1.items) jobs.items r.items) }
     ensures cpu { (cpu : ℕ) → result ≡ Err (RunFault.NoThreadStarted cpu) → cpu < length jobs.items }
+    ensures allowed { IfOk result (λ _. AllowedBelow (S.allows starter.now) (length jobs.items)) }
+    ensures least { (cpu : ℕ) → result ≡ Err (RunFault.NoThreadStarted cpu) → AllowedBelow (S.allows starter.now) cpu }
 {
     thread::scope(
         thread::scope_env(),
@@ -126,10 +131,16 @@ pub fn on_threads<G: Gate + Sync, R: Threads + Wait + Sync>(
             requires finished { (finished.items ≡ []) × (vec_len jobs ≤ vec_capacity finished) }
             ensures done { IfOk result (λ r. AllZip (λ j f. IsDone IsPassOf view_of_pass cells.entry.now.items j.passes.items j.todos.items f.0.items f.1.items) jobs.items r.items) }
             ensures cpu { (cpu : ℕ) → result ≡ Err (RunFault.NoThreadStarted cpu) → cpu < length jobs.items }
+            ensures allowed { IfOk result (λ _. AllowedBelow (S.allows starter.entry.now) (length jobs.items)) }
+            ensures least { (cpu : ℕ) → result ≡ Err (RunFault.NoThreadStarted cpu) → AllowedBelow (S.allows starter.entry.now) cpu }
         {
             let mut handles = handles;
             let mut cpu = 0;
             for job in jobs {
+                let fault = RunFault::NoThreadStarted(cpu);
+                if !starter.allow(cpu) {
+                    return Err(fault);
+                }
                 let promise = DoesScript {
                     cells: Snapshot::of(cells),
                     job: Snapshot::of(&job),
@@ -146,7 +157,7 @@ pub fn on_threads<G: Gate + Sync, R: Threads + Wait + Sync>(
                         ensures { IsDone IsPassOf view_of_pass cells.entry.now.items passes.items todos.items result.0.items result.1.items }
                     { do_job(rt, gate, cpu, cells, passes, todos, transcript) },
                 ) else {
-                    return Err(RunFault::NoThreadStarted(cpu));
+                    return Err(fault);
                 };
                 handles.push_reserved(handle);
                 cpu += 1;
