@@ -303,7 +303,7 @@ fn a_queue_goes_in_and_comes_out(rt: HostRuntime) -> Result<(), Fail> {
             Err(_) => Logged::<ThreadQueue>::open(rt.alloc(), 8, 100)?,
         };
         queue.apply(5, &[Call::Enq(3)])?;
-        let queue = match cell_of_one(rt.alloc(), kind, queue) {
+        let mut queue = match cell_of_one(rt.alloc(), kind, queue) {
             Ok((cell, pass)) => cell.close(pass),
             Err(queue) => queue,
         };
@@ -313,6 +313,7 @@ fn a_queue_goes_in_and_comes_out(rt: HostRuntime) -> Result<(), Fail> {
         };
         assert_eq!(rt; event.cpu, 5);
         assert!(rt; are_steps(&event.steps, &[(Call::Enq(3), Reply::Ok)]));
+        assert_eq!(rt; queue.call(5, &Call::Deq)?, Reply::Thread(3));
     }
     Ok(())
 }
