@@ -52,11 +52,7 @@ pub fn call_behind_both<O: SeqObject, R: Wait>(
 }
 
 /// Does 8 calls at once, the most that there can be.
-pub fn eight_calls<O: SeqObject, R: Wait>(
-    rt: &R,
-    cell: &AnyCell<O>,
-    pass: AnyPass<O>,
-) -> AnyPass<O>
+pub fn eight_calls<O: SeqObject, R: Wait>(rt: &R, cell: &AnyCell<O>, pass: AnyPass<O>) -> AnyPass<O>
     requires { IsPassOf cell.now pass }
     ensures pass { IsPassOf cell.now result }
     ensures caller { (view_of_pass result).caller ≡ (view_of_pass pass).caller }

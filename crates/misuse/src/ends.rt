@@ -11,12 +11,8 @@ use guarded_cell::{AnyCell, AnyPass};
 use word_rule::LockCell;
 
 /// Two callers, who own every number of the cell together, end it: its log begins with what the first had seen.
-#[tactic(auto, using(Rattle::word_rule::proofs::Owners::together_joined))]
-pub fn end_of_two<O: SeqObject>(
-    cell: AnyCell<O>,
-    one: AnyPass<O>,
-    other: AnyPass<O>,
-) -> Logged<O>
+#[tactic(auto, using(word_rule::proofs::Owners::together_joined))]
+pub fn end_of_two<O: SeqObject>(cell: AnyCell<O>, one: AnyPass<O>, other: AnyPass<O>) -> Logged<O>
     requires one { IsPassOf cell one }
     requires other { IsPassOf cell other }
     requires all { OwnTogether (view_of_pass one).caller (view_of_pass other).caller }
