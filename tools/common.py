@@ -5,6 +5,7 @@ is missing, and 130 after an interrupt. What went wrong is a line on standard er
 """
 import argparse
 import os
+import re
 import shlex
 import shutil
 import signal
@@ -121,6 +122,15 @@ def run(words, wanted=(0,), **how):
     if wanted is not None and ran.returncode not in wanted:
         raise Stop(f"{shown(words)} {ending(ran.returncode)}: {last_line(ran.stderr, ran.stdout)}")
     return ran
+
+
+def instructions(words, **how):
+    """All instructions of a run, counted by valgrind, and what it printed."""
+    ran = run(["valgrind", "--tool=callgrind", "--callgrind-out-file=/dev/null", *words], text=True, errors="replace", **how)
+    count = re.search(r"Collected : (\d+)", ran.stderr)
+    if not count:
+        raise Stop(f"valgrind told no count: {last_line(ran.stderr)}")
+    return int(count[1]), ran.stdout
 
 
 def record_of(words, **how):

@@ -1,0 +1,65 @@
+// Calls and replies as values. A number that a word doesn't have is 0.
+#pragma once
+#include <cstdint>
+
+enum CallWord : uint8_t {
+    ENQ,
+    DEQ,
+    REMOVE,
+    LEN,
+    ALLOC,
+    FREE,
+    LEFT,
+    PUT,
+    GET,
+    LEVEL,
+    READY,
+    NEXT,
+    SLEEP,
+    WAKE,
+    WAKEALL
+};
+
+// Those from ALREADY on refuse.
+enum ReplyWord : uint8_t {
+    OK,
+    THREAD,
+    COUNT,
+    PAGE,
+    DROPPED,
+    BYTE,
+    ALREADY,
+    BADTHREAD,
+    EMPTY,
+    ABSENT,
+    NONE,
+    BADOWNER,
+    NOTYOURS,
+    NOTTAKEN,
+    BADPAGE,
+    BADCHANNEL,
+    BADCALL
+};
+
+struct Call {
+    CallWord word;
+    uint32_t a, b;
+};
+
+struct Reply {
+    ReplyWord word;
+    uint32_t n;
+};
+
+struct Step {
+    Call call;
+    Reply reply;
+};
+
+constexpr int MOST_STEPS = 8;
+
+inline bool operator==(const Call &x, const Call &y) { return x.word == y.word && x.a == y.a && x.b == y.b; }
+inline bool operator==(const Reply &x, const Reply &y) { return x.word == y.word && x.n == y.n; }
+inline bool operator==(const Step &x, const Step &y) { return x.call == y.call && x.reply == y.reply; }
+
+inline bool refuses(const Reply &reply) { return reply.word >= ALREADY; }
