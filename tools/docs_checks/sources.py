@@ -44,7 +44,7 @@ class Sources:
         stem, dot, kind = parts[-1].rpartition(".")
         if parts[0] != "crates" or not dot:
             return
-        if kind == "edit":
+        if kind in ("edit", "misuse"):
             self.names.add(stem)
         elif kind == "rt":
             self.read_rattle((self.top / name).read_text(encoding="utf-8"), parts[1])
