@@ -52,6 +52,7 @@ impl<O: SeqObject> LockCell<O> for AnyCell<O> {
         &hold.logged
     }
 
+    #[inline]
     fn release<R: Wait>(&self, rt: &R, hold: Hold<O>) -> Pass<O> {
         match self {
             AnyCell::Ticket(cell) => cell.release(rt, hold),

@@ -4,6 +4,7 @@ ghost use Rattle.std.specs.Prelude.{◌≡◌, ◌≤◌, ◌+◌, ◌*◌};
 ghost use Rattle.word_rule.specs.declared.key.TheConstants.{MOST_CPUS};
 ghost use Rattle.word_rule.specs.declared.lock_kind.LockKind.TheVariants.{Mcs};
 
+use crate::waiters::Waiters;
 use event_log::SeqObject;
 use word_rule::LockTable;
 
@@ -11,6 +12,7 @@ use word_rule::LockTable;
 #[derive(Drop)]
 pub struct McsCell<O: SeqObject> {
     pub(crate) table: LockTable<O>,
+    pub(crate) waiters: Waiters,
     pub(crate) cpus: u8,
     ghost few: { cpus ≤ MOST_CPUS },
     ghost kind: { table.table.shared.key.kind ≡ Mcs },

@@ -18,6 +18,7 @@ mod steps;
 #[cfg(test)]
 mod tests;
 mod tries;
+mod waiters;
 mod whole;
 
 pub use cell::McsCell;

@@ -7,6 +7,7 @@ ghost use Rattle.word_rule.specs.Passes.{view_of_pass, run_of_pass};
 ghost use Rattle.mcs_lock.specs.Passes.{IsPassOf};
 
 use crate::cell::McsCell;
+use crate::waiters::Waiters;
 use event_log::{Logged, OutOfMemory, SeqObject};
 use std::alloc::Global;
 use word_rule::{LockKind, LockTable, MOST_CPUS, Pass};
@@ -32,6 +33,14 @@ impl<O: SeqObject> McsCell<O> {
         let zeros = [0u64; MOST_WORDS];
         let words = &zeros[..1 + 2 * cpus as usize];
         let (table, passes) = LockTable::open(alloc, LockKind::Mcs, 0, words, logged, cpus)?;
-        Ok((McsCell { table, cpus }, passes))
+        let waiters = Waiters::new();
+        Ok((
+            McsCell {
+                table,
+                waiters,
+                cpus,
+            },
+            passes,
+        ))
     }
 }

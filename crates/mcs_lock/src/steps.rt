@@ -241,6 +241,7 @@ impl<O: SeqObject> McsCell<O> {
         self.table.put_back(&mut seat, logged, lent);
         self.table
             .store::<PassOn>(&mut seat, locked_index(self.cpus, follower), 0);
+        self.waiters.serve(follower);
         Pass { cpu, key, seat }
     }
 }

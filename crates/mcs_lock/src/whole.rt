@@ -45,13 +45,16 @@ impl<O: SeqObject> McsCell<O> {
         let mut waiting = self.link(armed);
         let mut looks = 0u64;
         let backoff = Backoff::new();
+        let mut number = 0u64;
         for _ in rt.forever() {
             looks = looks.saturating_add(1);
             match self.look(waiting) {
                 Ok(hold) => return (hold, looks),
                 Err(again) => waiting = again,
             }
-            backoff.snooze();
+            number = self
+                .waiters
+                .rest(rt, &backoff, looks, waiting.cpu.number, number);
         }
         unreachable!()
     }

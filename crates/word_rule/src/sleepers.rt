@@ -1,0 +1,94 @@
+//! Where callers of a cell sleep while they wait for their turn.
+
+use crossbeam_utils::Backoff;
+use std::sync::Wait;
+use std::sync::atomic::{AtomicU64, Ordering};
+use std::time::Duration;
+
+/// At this look in vain a caller that has four or more before it takes its bed.
+pub const SHORT_WAIT: u64 = 12;
+
+// At this look, and behind it, everyone takes its bed.
+const LONG_WAIT: u64 = 120;
+
+// After so many looks a caller that is awake looks often again.
+const ROUND: u64 = 6;
+
+// As many as processors are mostly there. A release sees that the next so many are awake.
+const NEAR: u64 = 4;
+
+// As many as a cell has CPUs, at most.
+const BEDS: u64 = 8;
+
+// What a bed is: empty, or its caller sleeps, or will if it looks once more in vain.
+const EMPTY: u64 = 0;
+
+const TAKEN: u64 = 1;
+
+/// A bed for each of 8 numbers, which callers have in the order of their turns; another number is the one of its last three
+/// bits. It lies in a cell beside the table, takes no memory, and no clause speaks of it.
+///
+/// Nobody yields: beside other programs a thread that yields stands back for a whole slice of each. A caller takes its bed,
+/// looks once more, and sleeps then; who releases empties the bed after its last step. So either that look finds the turn,
+/// or the release finds the bed taken: no wake is lost. And each sleep ends by itself after a millisecond.
+#[derive(Drop)]
+pub struct Sleepers {
+    beds: [AtomicU64; 8],
+}
+
+impl Sleepers {
+    /// Nobody sleeps.
+    pub const fn new() -> Sleepers {
+        Sleepers {
+            beds: [
+                AtomicU64::new(EMPTY),
+                AtomicU64::new(EMPTY),
+                AtomicU64::new(EMPTY),
+                AtomicU64::new(EMPTY),
+                AtomicU64::new(EMPTY),
+                AtomicU64::new(EMPTY),
+                AtomicU64::new(EMPTY),
+                AtomicU64::new(EMPTY),
+            ],
+        }
+    }
+
+    /// What a caller with this number does after so many looks in vain, the last of which found so many before it: it pauses,
+    /// takes its bed, or sleeps if it has one.
+    #[inline(never)]
+    pub fn rest<R: Wait>(&self, rt: &R, backoff: &Backoff, looks: u64, number: u64, before: u64) {
+        let bed = self.bed(number);
+        let is_far = NEAR <= before && before < BEDS;
+        if looks >= SHORT_WAIT && bed.load(Ordering::SeqCst) == TAKEN {
+            bed.park_timeout(rt, TAKEN as u32, Duration::from_millis(1));
+        } else if looks >= LONG_WAIT || looks == SHORT_WAIT && is_far {
+            bed.store(TAKEN, Ordering::SeqCst);
+        } else {
+            pause(backoff, looks);
+        }
+    }
+
+    /// Wakes who sleeps with this number, whose turn it is, or with one of the next ones.
+    #[inline(never)]
+    pub fn wake(&self, number: u64) {
+        for behind in 0..NEAR {
+            let bed = self.bed(number.wrapping_add(behind));
+            if bed.load(Ordering::SeqCst) == TAKEN {
+                bed.store(EMPTY, Ordering::SeqCst);
+                bed.wake_one();
+            }
+        }
+    }
+
+    fn bed(&self, number: u64) -> &AtomicU64 {
+        &self.beds[(number % BEDS) as usize]
+    }
+}
+
+// Pauses for longer from look to look of a round.
+fn pause(backoff: &Backoff, looks: u64) {
+    if looks % ROUND == 0 {
+        backoff.reset();
+    }
+    backoff.spin();
+}
