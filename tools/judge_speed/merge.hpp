@@ -27,7 +27,7 @@ class Merger {
 
     void place(uint32_t cpu) {
         Entry entry = record.entries[cpu][front.at[cpu]++];
-        auto &events = record.object[entry.object].log.events;
+        auto &events = record.log[entry.object].events;
         uint32_t next = front.placed[entry.object] += entry.is_done;
         look(cpu);
         if (next == events.size())
@@ -51,7 +51,7 @@ class Merger {
     // The CPU that this CPU's next entry waits for, if there is one.
     uint32_t waits_for(uint32_t cpu) const {
         Entry entry = record.entries[cpu][front.at[cpu]];
-        auto &events = record.object[entry.object].log.events;
+        auto &events = record.log[entry.object].events;
         uint32_t next = front.placed[entry.object];
         if (next == events.size() || (entry.is_done && events[next].cpu == cpu))
             return NOWHERE;

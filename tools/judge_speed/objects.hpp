@@ -1,9 +1,9 @@
 // The four objects, which answer calls.
 #pragma once
-#include "values.hpp"
+#include "../record_speed/values.hpp"
 #include <cstddef>
 
-constexpr uint32_t MOST_THREADS = 1024, MOST_CHANNELS = 64, MOST_PAGES = 4096, MOST_BYTES = 4096, MOST_OWNER = 15;
+constexpr uint32_t MOST_OWNER = 15;
 
 // Threads in lists, each in one of them at most. The places behind the threads are the heads of the lists.
 template <size_t LISTS> class Lists {

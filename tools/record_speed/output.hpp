@@ -38,6 +38,8 @@ class Output {
 
     void put(uint32_t number) { at = std::to_chars(at, at + 10, number).ptr; }
 
+    void put(uint64_t number) { at = std::to_chars(at, at + 20, number).ptr; }
+
     // Puts a word that lies in 16 bytes: that many are copied always, since a fixed number is copied faster.
     void put_word(const char (&word)[LONGEST_WORD], size_t length) {
         memcpy(at, word, LONGEST_WORD);

@@ -2,6 +2,10 @@
 #pragma once
 #include <cstdint>
 
+constexpr uint32_t MOST_CPUS = 8, MOST_OBJECTS = 16, MOST_EVENTS = 65536, MOST_ENTRIES = 10000;
+constexpr uint32_t MOST_THREADS = 1024, MOST_CHANNELS = 64, MOST_PAGES = 4096, MOST_BYTES = 4096;
+constexpr int MOST_STEPS = 8;
+
 enum CallWord : uint8_t {
     ENQ,
     DEQ,
@@ -55,8 +59,6 @@ struct Step {
     Call call;
     Reply reply;
 };
-
-constexpr int MOST_STEPS = 8;
 
 inline bool operator==(const Call &x, const Call &y) { return x.word == y.word && x.a == y.a && x.b == y.b; }
 inline bool operator==(const Reply &x, const Reply &y) { return x.word == y.word && x.n == y.n; }
