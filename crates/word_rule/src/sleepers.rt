@@ -29,11 +29,13 @@ const TAKEN: u64 = 1;
 /// bits. It lies in a cell beside the table, takes no memory, and no clause speaks of it.
 ///
 /// Nobody yields: beside other programs a thread that yields stands back for a whole slice of each. A caller takes its bed,
-/// looks once more, and sleeps then; who releases empties the bed after its last step. So either that look finds the turn,
-/// or the release finds the bed taken: no wake is lost. And each sleep ends by itself after a millisecond.
+/// looks once more, and sleeps then; who releases looks for taken beds after its last step, and empties them. So either that
+/// look finds the turn, or the release finds the bed taken: no wake is lost. And each sleep ends by itself after a millisecond.
 #[derive(Drop)]
 pub struct Sleepers {
     beds: [AtomicU64; 8],
+    // How many beds are taken.
+    taken: AtomicU64,
 }
 
 impl Sleepers {
@@ -50,6 +52,7 @@ impl Sleepers {
                 AtomicU64::new(EMPTY),
                 AtomicU64::new(EMPTY),
             ],
+            taken: AtomicU64::new(0),
         }
     }
 
@@ -62,19 +65,28 @@ impl Sleepers {
         if looks >= SHORT_WAIT && bed.load(Ordering::SeqCst) == TAKEN {
             bed.park_timeout(rt, TAKEN as u32, Duration::from_millis(1));
         } else if looks >= LONG_WAIT || looks == SHORT_WAIT && is_far {
-            bed.store(TAKEN, Ordering::SeqCst);
+            if bed.swap(TAKEN, Ordering::SeqCst) == EMPTY {
+                self.taken.fetch_add(1, Ordering::SeqCst);
+            }
         } else {
             pause(backoff, looks);
         }
     }
 
     /// Wakes who sleeps with this number, whose turn it is, or with one of the next ones.
-    #[inline(never)]
+    #[inline]
     pub fn wake(&self, number: u64) {
+        if self.taken.load(Ordering::SeqCst) != 0 {
+            self.wake_near(number);
+        }
+    }
+
+    #[inline(never)]
+    fn wake_near(&self, number: u64) {
         for behind in 0..NEAR {
             let bed = self.bed(number.wrapping_add(behind));
-            if bed.load(Ordering::SeqCst) == TAKEN {
-                bed.store(EMPTY, Ordering::SeqCst);
+            if bed.load(Ordering::SeqCst) == TAKEN && bed.swap(EMPTY, Ordering::SeqCst) == TAKEN {
+                self.taken.fetch_sub(1, Ordering::SeqCst);
                 bed.wake_one();
             }
         }
