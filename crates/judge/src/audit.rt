@@ -1,0 +1,32 @@
+//! Verdicts for callers in C.
+
+ghost use Rattle.judge.specs.Told.{IsVerdictTold};
+
+use crate::Told;
+use crate::told::{BAD_LINE, OUT_OF_MEMORY};
+use auditor::audit;
+use scripts::{Record, RecordFault};
+use std::alloc::Global;
+
+/// What is told of the record that the bytes spell.
+fn verdict_of(alloc: Global, text: &[u8]) -> Told
+    ensures { IsVerdictTold text.now result }
+{
+    let record = match Record::read(alloc, text) {
+        Ok(record) => record,
+        Err(RecordFault::OutOfMemory) => return Told::new(OUT_OF_MEMORY, 0, 0, 0),
+        Err(RecordFault::Line(line)) => return Told::new(BAD_LINE, line, 0, 0),
+    };
+    match audit(alloc, &record) {
+        Ok(verdict) => Told::of_verdict(verdict),
+        Err(_) => Told::new(OUT_OF_MEMORY, 0, 0, 0),
+    }
+}
+
+/// Judges the record that the bytes spell, and tells whether it is sound, or its first fault.
+#[unsafe(no_mangle)]
+pub extern "C" fn mc2_audit(alloc: Global, text: &[u8], told: &mut Told)
+    ensures { IsVerdictTold text.now told.new }
+{
+    *told = verdict_of(alloc, text);
+}

@@ -1,0 +1,66 @@
+//! Orders for callers in C.
+
+ghost use Rattle.std.specs.Prelude.{◌≡◌, ◌≤◌, ◌++◌, length, map, drop};
+ghost use Rattle.judge.specs.Orders.{IsOrderTold, turn_of};
+
+use crate::Told;
+use crate::told::{BAD_LINE, CYCLE, NO_ROOM, OUT_OF_MEMORY, SOUND};
+use log_merge::{MergeFault, Place, merge};
+use scripts::{Record, RecordFault};
+use std::alloc::Global;
+
+/// An entry by its place: a CPU and the index of one of its entries, both from 0.
+#[derive(Clone, Copy, Debug, PartialEq, Eq, Drop)]
+#[repr(C)]
+pub struct Turn {
+    pub cpu: u64,
+    pub entry: u64,
+}
+
+/// Writes the places at the front of the room.
+fn put_turns(places: &[Place], room: &mut [Turn])
+    requires { length places.now ≤ length room.old }
+    ensures { room.new ≡ map turn_of places.now ++ drop (length places.now) room.old }
+{
+    for i in 0..places.len() {
+        room[i] = Turn {
+            cpu: places[i].cpu as u64,
+            entry: places[i].entry as u64,
+        };
+    }
+}
+
+/// Tells the places under that kind, if there is room for them.
+fn tell_turns(kind: u32, places: &[Place], room: &mut [Turn]) -> Told {
+    if places.len() > room.len() {
+        return Told::new(NO_ROOM, places.len(), 0, 0);
+    }
+    put_turns(places, room);
+    Told::new(kind, places.len(), 0, 0)
+}
+
+/// What is told of the record that the bytes spell.
+fn order_of(alloc: Global, text: &[u8], room: &mut [Turn]) -> Told
+    ensures { IsOrderTold text.now room.old room.new result }
+{
+    let record = match Record::read(alloc, text) {
+        Ok(record) => record,
+        Err(RecordFault::OutOfMemory) => return Told::new(OUT_OF_MEMORY, 0, 0, 0),
+        Err(RecordFault::Line(line)) => return Told::new(BAD_LINE, line, 0, 0),
+    };
+    match merge(alloc, &record) {
+        Ok(merged) => tell_turns(SOUND, merged.places.as_slice(), room),
+        Err(MergeFault::Cycle(cycle)) => tell_turns(CYCLE, cycle.as_slice(), room),
+        Err(MergeFault::Unsound(fault)) => Told::of_fault(fault),
+        Err(MergeFault::OutOfMemory) => Told::new(OUT_OF_MEMORY, 0, 0, 0),
+    }
+}
+
+/// Puts the entries of the record that the bytes spell in one order, and writes it at the front of the room; or the cycle that
+/// excludes one.
+#[unsafe(no_mangle)]
+pub extern "C" fn mc2_merge(alloc: Global, text: &[u8], room: &mut [Turn], told: &mut Told)
+    ensures { IsOrderTold text.now room.old room.new told.new }
+{
+    *told = order_of(alloc, text, room);
+}

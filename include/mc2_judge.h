@@ -1,0 +1,70 @@
+/* Judging the text of a record from C or C++, by the static library libjudge.a.
+
+   `rt lib` in crates/judge proves and builds the library, and leaves it at crates/judge/out/libjudge.a. A program links it, and
+   behind it the kit's heap, liblibc_c.a in the folder c of the kit, which takes memory by malloc and gives it back by free:
+
+       gcc -Iinclude examples/judge/judge.c crates/judge/out/libjudge.a KIT/c/liblibc_c.a -pthread
+
+   What is proved of both functions is told in crates/judge/README.md. It holds if the caller gives what is said here: text is
+   `length` bytes, which nobody writes to meanwhile; `room` is `turns` places, and `told` one, which nobody else touches
+   meanwhile. No pointer is NULL, not even where it points to nothing. The functions keep nothing between two calls, so several
+   threads may call them at once. */
+#ifndef MC2_JUDGE_H
+#define MC2_JUDGE_H
+
+#include <stddef.h>
+#include <stdint.h>
+
+#ifdef __cplusplus
+extern "C" {
+#endif
+
+/* What is told, and what its numbers are. Objects, events, steps, CPUs and entries are numbered from 0, in the order of the
+   record. */
+enum mc2_kind {
+    /* The record is sound. From mc2_merge: how many entries it has, all of which lie in the room, in order. */
+    MC2_SOUND = 0,
+    /* A log has more events than its limit: the object. */
+    MC2_TOO_LONG = 1,
+    /* A step has a wrong reply, or stands behind one that refused: the object, the event and the step. */
+    MC2_WRONG_STEP = 2,
+    /* An entry found no room, though there was some: the CPU and the entry. */
+    MC2_ROOM_WAS_LEFT = 3,
+    /* An entry's steps aren't those of the CPU's next event on that object, or there is none: the CPU and the entry. */
+    MC2_NOT_ITS_EVENT = 4,
+    /* An entry's steps aren't what was asked: the CPU and the entry. */
+    MC2_NOT_ASKED = 5,
+    /* No entry took an event: the object and the event. */
+    MC2_UNCLAIMED = 6,
+    /* The record is sound, but its entries have no order: how many entries, which lie in the room, wait for one another. */
+    MC2_CYCLE = 7,
+    /* The text is no record: the first line, from 1, with which no record goes on. */
+    MC2_BAD_LINE = 8,
+    MC2_OUT_OF_MEMORY = 9,
+    /* The order, or the cycle, has no room, and nothing was written to it: how many places are needed. */
+    MC2_NO_ROOM = 10
+};
+
+/* One of mc2_kind, and its numbers. Those that it has not are 0. */
+struct mc2_told {
+    uint32_t kind;
+    uint64_t first, second, third;
+};
+
+/* An entry: its CPU, and its place among that CPU's. */
+struct mc2_turn {
+    uint64_t cpu, entry;
+};
+
+/* Tells whether the record of this text is sound, or else its first fault. */
+void mc2_audit(const uint8_t *text, size_t length, struct mc2_told *told);
+
+/* Puts the entries of the record of this text in one order: each CPU's in theirs, those done on an object in its log's. A record
+   has at most 80,000. */
+void mc2_merge(const uint8_t *text, size_t length, struct mc2_turn *room, size_t turns, struct mc2_told *told);
+
+#ifdef __cplusplus
+}
+#endif
+
+#endif
