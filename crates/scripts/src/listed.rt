@@ -5,7 +5,7 @@ ghost use Rattle.std.specs.Option.{option_map};
 ghost use Rattle.scripts.specs.Reading.{left};
 ghost use Rattle.scripts.specs.RecordReading.{list_at};
 
-use crate::words::{Words, key};
+use crate::words::{Words, mark};
 use crate::{KCall, KernelObject, value};
 use arrayvec::ArrayVec;
 use event_log::{MOST_CALLS, Step};
@@ -42,7 +42,7 @@ impl Listed for Step<KernelObject> {
     #[tactic(auto, unfolding(crate::specs::RecordReading::step_at))]
     fn item(at: Words<'_>) -> Option<(Step<KernelObject>, Words<'_>)> {
         let (call, rest) = value(at)?;
-        let rest = key(b"=", rest)?;
+        let rest = mark(b'=', rest)?;
         let (reply, rest) = value(rest)?;
         Some((Step { call, reply }, rest))
     }
@@ -58,7 +58,7 @@ pub(crate) fn list<T: Listed>(at: Words<'_>) -> Option<(ArrayVec<T, MOST_CALLS>,
     items.push(first);
     let mut left = rest;
     for _ in 1..MOST_CALLS {
-        let Some(rest) = key(b";", left) else {
+        let Some(rest) = mark(b';', left) else {
             break;
         };
         let (next, rest) = T::item(rest)?;

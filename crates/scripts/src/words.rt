@@ -34,6 +34,19 @@ pub fn key<'a>(key: &[u8], at: Words<'a>) -> Option<Words<'a>>
     if word == key { Some(rest) } else { None }
 }
 
+/// What follows the byte, if a word of it alone is next.
+#[tactic(auto, unfolding(crate::specs::Reading::key_at))]
+#[inline(always)]
+pub(crate) fn mark(mark: u8, at: Words<'_>) -> Option<Words<'_>>
+    ensures { option_map left result ≡ key_at (mark ∷ []) (left at.entry) }
+{
+    let (word, rest) = word(at)?;
+    match word {
+        [byte] if *byte == mark => Some(rest),
+        _ => None,
+    }
+}
+
 /// The value of a digit.
 fn digit(byte: u8) -> Option<u64>
     ensures found { IfSome result (λ d. (byte ≡ 48 + d) × (d < 10)) }
