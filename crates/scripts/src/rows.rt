@@ -1,6 +1,6 @@
 //! The tables of parameters, calls and replies.
 
-use crate::read::field;
+use crate::read::{byte, limited, wide};
 use crate::spelled::{first, second};
 use crate::words::{Words, word};
 use crate::{Field, KCall, KParams, KReply, Spelled, Spelling};
@@ -52,20 +52,20 @@ impl Spelled for KParams {
         let (word, rest) = word(at)?;
         match word {
             b"queue" => {
-                let (number, rest) = field(&Field::limit(MOST_THREADS, 0), rest)?;
+                let (number, rest) = limited(MOST_THREADS, rest)?;
                 Some((KParams::Queue(number), rest))
             }
             b"pool" => {
-                let (number, rest) = field(&Field::limit(MOST_PAGES, 0), rest)?;
+                let (number, rest) = limited(MOST_PAGES, rest)?;
                 Some((KParams::Pool(number), rest))
             }
             b"console" => {
-                let (number, rest) = field(&Field::limit(MOST_BYTES, 0), rest)?;
+                let (number, rest) = limited(MOST_BYTES, rest)?;
                 Some((KParams::Console(number), rest))
             }
             b"sched" => {
-                let (threads, rest) = field(&Field::limit(wake_list::MOST_THREADS, 0), rest)?;
-                let (channels, rest) = field(&Field::limit(MOST_CHANNELS, 0), rest)?;
+                let (threads, rest) = limited(wake_list::MOST_THREADS, rest)?;
+                let (channels, rest) = limited(MOST_CHANNELS, rest)?;
                 Some((KParams::Sched(SchedParams { threads, channels }), rest))
             }
             _ => None,
@@ -156,47 +156,47 @@ impl Spelled for KCall {
         let (word, rest) = word(at)?;
         match word {
             b"enq" => {
-                let (number, rest) = field(&Field::wide(0), rest)?;
+                let (number, rest) = wide(rest)?;
                 Some((KCall::Queue(QueueCall::Enq(number)), rest))
             }
             b"deq" => Some((KCall::Queue(QueueCall::Deq), rest)),
             b"remove" => {
-                let (number, rest) = field(&Field::wide(0), rest)?;
+                let (number, rest) = wide(rest)?;
                 Some((KCall::Queue(QueueCall::Remove(number)), rest))
             }
             b"len" => Some((KCall::Queue(QueueCall::Len), rest)),
             b"alloc" => {
-                let (number, rest) = field(&Field::wide(0), rest)?;
+                let (number, rest) = wide(rest)?;
                 Some((KCall::Pool(PoolCall::Alloc(number)), rest))
             }
             b"free" => {
-                let (owner, rest) = field(&Field::wide(0), rest)?;
-                let (page, rest) = field(&Field::wide(0), rest)?;
+                let (owner, rest) = wide(rest)?;
+                let (page, rest) = wide(rest)?;
                 Some((KCall::Pool(PoolCall::Free { owner, page }), rest))
             }
             b"left" => Some((KCall::Pool(PoolCall::Left), rest)),
             b"put" => {
-                let (number, rest) = field(&Field::byte(0), rest)?;
-                Some((KCall::Console(ConsoleCall::Put(number as u8)), rest))
+                let (number, rest) = byte(rest)?;
+                Some((KCall::Console(ConsoleCall::Put(number)), rest))
             }
             b"get" => Some((KCall::Console(ConsoleCall::Get), rest)),
             b"level" => Some((KCall::Console(ConsoleCall::Level), rest)),
             b"ready" => {
-                let (number, rest) = field(&Field::wide(0), rest)?;
+                let (number, rest) = wide(rest)?;
                 Some((KCall::Sched(SchedCall::Ready(number)), rest))
             }
             b"next" => Some((KCall::Sched(SchedCall::Next), rest)),
             b"sleep" => {
-                let (channel, rest) = field(&Field::wide(0), rest)?;
-                let (thread, rest) = field(&Field::wide(0), rest)?;
+                let (channel, rest) = wide(rest)?;
+                let (thread, rest) = wide(rest)?;
                 Some((KCall::Sched(SchedCall::Sleep { channel, thread }), rest))
             }
             b"wake" => {
-                let (number, rest) = field(&Field::wide(0), rest)?;
+                let (number, rest) = wide(rest)?;
                 Some((KCall::Sched(SchedCall::Wake(number)), rest))
             }
             b"wakeall" => {
-                let (number, rest) = field(&Field::wide(0), rest)?;
+                let (number, rest) = wide(rest)?;
                 Some((KCall::Sched(SchedCall::WakeAll(number)), rest))
             }
             _ => None,
@@ -303,17 +303,17 @@ impl Spelled for KReply {
             b"already" => Some((KReply::Already, rest)),
             b"badthread" => Some((KReply::BadThread, rest)),
             b"thread" => {
-                let (number, rest) = field(&Field::wide(0), rest)?;
+                let (number, rest) = wide(rest)?;
                 Some((KReply::Thread(number), rest))
             }
             b"empty" => Some((KReply::Empty, rest)),
             b"absent" => Some((KReply::Absent, rest)),
             b"count" => {
-                let (number, rest) = field(&Field::wide(0), rest)?;
+                let (number, rest) = wide(rest)?;
                 Some((KReply::Count(number), rest))
             }
             b"page" => {
-                let (number, rest) = field(&Field::wide(0), rest)?;
+                let (number, rest) = wide(rest)?;
                 Some((KReply::Page(number), rest))
             }
             b"none" => Some((KReply::NoPage, rest)),
@@ -322,12 +322,12 @@ impl Spelled for KReply {
             b"nottaken" => Some((KReply::NotTaken, rest)),
             b"badpage" => Some((KReply::BadPage, rest)),
             b"dropped" => {
-                let (number, rest) = field(&Field::byte(0), rest)?;
-                Some((KReply::Dropped(number as u8), rest))
+                let (number, rest) = byte(rest)?;
+                Some((KReply::Dropped(number), rest))
             }
             b"byte" => {
-                let (number, rest) = field(&Field::byte(0), rest)?;
-                Some((KReply::Byte(number as u8), rest))
+                let (number, rest) = byte(rest)?;
+                Some((KReply::Byte(number), rest))
             }
             b"badchannel" => Some((KReply::BadChannel, rest)),
             b"badcall" => Some((KReply::BadCall, rest)),
