@@ -1,8 +1,14 @@
 -- A value that is read at a glance is the one of the table.
-use Rattle.std.proofs.Common.{◌≡◌, ℕ, Some, List, [], ◌∷◌, refl}
+use Rattle.std.proofs.Common.{◌≡◌, ℕ, Some, List, [], ◌∷◌, refl, sym}
+use Rattle.std.proofs.lemmas.Slice.Eq.{bytes_eq-Decides}
 use Rattle.scripts.specs.declared.field.Field.{Field}
-use Rattle.scripts.specs.Reading.{word_at}
+use Rattle.scripts.specs.Reading.{word_at, key_at}
 use Rattle.scripts.specs.Row.{Row, field_at, numbers_at, sample_at, value_at}
+
+-- the word that is next is the key
+pub key_is : (key : List ℕ) (ws rest : List (List ℕ)) (word : List ℕ) → word_at ws ≡ Some (word, rest) → word ≡ key → Some rest ≡ key_at key ws
+unfolding key_at
+key_is key ws rest word next same = sym (rw (next, (bytes_eq-Decides word key).1 same) refl)
 
 module _ {T : Type 0} (row : T → Row) (samples : List T) (filled : T → List ℕ → T) (ws : List (List ℕ)) (word : List ℕ) (rest : List (List ℕ)) (x : T) (next : word_at ws ≡ Some (word, rest)) (named : sample_at row samples word ≡ Some x) where
   -- a word alone

@@ -14,8 +14,8 @@ returns-in-already c = no_number reply_row reply_samples reply_filled (left c.ar
 pub returns-in-badthread : goal.returns-in-badthread
 returns-in-badthread c = no_number reply_row reply_samples reply_filled (left c.args.at) c.in_ok-word.word.now (left c.in_ok-word.rest) _ (sym c.word.ensures ∙ ap (option_map _) c.in_ok-word.was) (at_word reply_row reply_samples c.in_ok-word.word.now (codes "badthread") (omega arith) (omega arith, (omega arith, (omega arith, (omega arith, (omega arith, (omega arith, (omega arith, (omega arith, (omega arith, tt)))))))))) refl
 
-pub returns-in-thread : goal.returns-in-thread
-returns-in-thread c = one_number reply_row reply_samples reply_filled (left c.args.at) c.in_ok-word.word.now (left c.in_ok-word.rest) _ (sym c.word.ensures ∙ ap (option_map _) c.in_ok-word.was) (at_word reply_row reply_samples c.in_ok-word.word.now (codes "thread") (omega arith) (omega arith, (omega arith, (omega arith, (omega arith, (omega arith, (omega arith, tt))))))) _ c.in_ok-number.number (left c.in_ok-number.rest) refl (sym c.wide.ensures ∙ ap (option_map _) c.in_ok-number.was)
+pub returns-in_ok-number-in-thread : goal.returns-in_ok-number-in-thread
+returns-in_ok-number-in-thread c = one_number reply_row reply_samples reply_filled (left c.args.at) c.in_ok-word.word.now (left c.in_ok-word.rest) _ (sym c.word.ensures ∙ ap (option_map _) c.in_ok-word.was) (at_word reply_row reply_samples c.in_ok-word.word.now (codes "thread") (omega arith) (omega arith, (omega arith, (omega arith, (omega arith, (omega arith, (omega arith, tt))))))) _ c.in_ok-number-in-thread.number (left c.in_ok-number-in-thread.rest) refl (sym c.in_ok-number-in-thread.ensures)
 
 pub returns-in-empty : goal.returns-in-empty
 returns-in-empty c = no_number reply_row reply_samples reply_filled (left c.args.at) c.in_ok-word.word.now (left c.in_ok-word.rest) _ (sym c.word.ensures ∙ ap (option_map _) c.in_ok-word.was) (at_word reply_row reply_samples c.in_ok-word.word.now (codes "empty") (omega arith) (omega arith, (omega arith, (omega arith, (omega arith, (omega arith, tt)))))) refl
@@ -23,11 +23,11 @@ returns-in-empty c = no_number reply_row reply_samples reply_filled (left c.args
 pub returns-in-absent : goal.returns-in-absent
 returns-in-absent c = no_number reply_row reply_samples reply_filled (left c.args.at) c.in_ok-word.word.now (left c.in_ok-word.rest) _ (sym c.word.ensures ∙ ap (option_map _) c.in_ok-word.was) (at_word reply_row reply_samples c.in_ok-word.word.now (codes "absent") (omega arith) (omega arith, (omega arith, (omega arith, (omega arith, (omega arith, (omega arith, tt))))))) refl
 
-pub returns-in-count : goal.returns-in-count
-returns-in-count c = one_number reply_row reply_samples reply_filled (left c.args.at) c.in_ok-word.word.now (left c.in_ok-word.rest) _ (sym c.word.ensures ∙ ap (option_map _) c.in_ok-word.was) (at_word reply_row reply_samples c.in_ok-word.word.now (codes "count") (omega arith) (omega arith, (omega arith, (omega arith, (omega arith, (omega arith, tt)))))) _ c.in_ok-number.number (left c.in_ok-number.rest) refl (sym c.wide.ensures ∙ ap (option_map _) c.in_ok-number.was)
+pub returns-in_ok-number-in-count : goal.returns-in_ok-number-in-count
+returns-in_ok-number-in-count c = one_number reply_row reply_samples reply_filled (left c.args.at) c.in_ok-word.word.now (left c.in_ok-word.rest) _ (sym c.word.ensures ∙ ap (option_map _) c.in_ok-word.was) (at_word reply_row reply_samples c.in_ok-word.word.now (codes "count") (omega arith) (omega arith, (omega arith, (omega arith, (omega arith, (omega arith, tt)))))) _ c.in_ok-number-in-count.number (left c.in_ok-number-in-count.rest) refl (sym c.in_ok-number-in-count.ensures)
 
-pub returns-in-page : goal.returns-in-page
-returns-in-page c = one_number reply_row reply_samples reply_filled (left c.args.at) c.in_ok-word.word.now (left c.in_ok-word.rest) _ (sym c.word.ensures ∙ ap (option_map _) c.in_ok-word.was) (at_word reply_row reply_samples c.in_ok-word.word.now (codes "page") (omega arith) (omega arith, (omega arith, (omega arith, (omega arith, tt))))) _ c.in_ok-number.number (left c.in_ok-number.rest) refl (sym c.wide.ensures ∙ ap (option_map _) c.in_ok-number.was)
+pub returns-in_ok-number-in-page : goal.returns-in_ok-number-in-page
+returns-in_ok-number-in-page c = one_number reply_row reply_samples reply_filled (left c.args.at) c.in_ok-word.word.now (left c.in_ok-word.rest) _ (sym c.word.ensures ∙ ap (option_map _) c.in_ok-word.was) (at_word reply_row reply_samples c.in_ok-word.word.now (codes "page") (omega arith) (omega arith, (omega arith, (omega arith, (omega arith, tt))))) _ c.in_ok-number-in-page.number (left c.in_ok-number-in-page.rest) refl (sym c.in_ok-number-in-page.ensures)
 
 pub returns-in-none : goal.returns-in-none
 returns-in-none c = no_number reply_row reply_samples reply_filled (left c.args.at) c.in_ok-word.word.now (left c.in_ok-word.rest) _ (sym c.word.ensures ∙ ap (option_map _) c.in_ok-word.was) (at_word reply_row reply_samples c.in_ok-word.word.now (codes "none") (omega arith) (omega arith, (omega arith, (omega arith, (omega arith, tt))))) refl
@@ -44,11 +44,11 @@ returns-in-nottaken c = no_number reply_row reply_samples reply_filled (left c.a
 pub returns-in-badpage : goal.returns-in-badpage
 returns-in-badpage c = no_number reply_row reply_samples reply_filled (left c.args.at) c.in_ok-word.word.now (left c.in_ok-word.rest) _ (sym c.word.ensures ∙ ap (option_map _) c.in_ok-word.was) (at_word reply_row reply_samples c.in_ok-word.word.now (codes "badpage") (omega arith) (omega arith, (omega arith, (omega arith, (omega arith, (omega arith, (omega arith, (omega arith, tt)))))))) refl
 
-pub returns-in-dropped : goal.returns-in-dropped
-returns-in-dropped c = one_number reply_row reply_samples reply_filled (left c.args.at) c.in_ok-word.word.now (left c.in_ok-word.rest) _ (sym c.word.ensures ∙ ap (option_map _) c.in_ok-word.was) (at_word reply_row reply_samples c.in_ok-word.word.now (codes "dropped") (omega arith) (omega arith, (omega arith, (omega arith, (omega arith, (omega arith, (omega arith, (omega arith, tt)))))))) _ c.in_ok-number.number (left c.in_ok-number.rest) refl (sym c.byte.ensures ∙ ap (option_map _) c.in_ok-number.was)
+pub returns-in_ok-number-in-dropped : goal.returns-in_ok-number-in-dropped
+returns-in_ok-number-in-dropped c = one_number reply_row reply_samples reply_filled (left c.args.at) c.in_ok-word.word.now (left c.in_ok-word.rest) _ (sym c.word.ensures ∙ ap (option_map _) c.in_ok-word.was) (at_word reply_row reply_samples c.in_ok-word.word.now (codes "dropped") (omega arith) (omega arith, (omega arith, (omega arith, (omega arith, (omega arith, (omega arith, (omega arith, tt)))))))) _ c.in_ok-number-in-dropped.number (left c.in_ok-number-in-dropped.rest) refl (sym c.in_ok-number-in-dropped.ensures)
 
-pub returns-in-byte : goal.returns-in-byte
-returns-in-byte c = one_number reply_row reply_samples reply_filled (left c.args.at) c.in_ok-word.word.now (left c.in_ok-word.rest) _ (sym c.word.ensures ∙ ap (option_map _) c.in_ok-word.was) (at_word reply_row reply_samples c.in_ok-word.word.now (codes "byte") (omega arith) (omega arith, (omega arith, (omega arith, (omega arith, tt))))) _ c.in_ok-number.number (left c.in_ok-number.rest) refl (sym c.byte.ensures ∙ ap (option_map _) c.in_ok-number.was)
+pub returns-in_ok-number-in-byte : goal.returns-in_ok-number-in-byte
+returns-in_ok-number-in-byte c = one_number reply_row reply_samples reply_filled (left c.args.at) c.in_ok-word.word.now (left c.in_ok-word.rest) _ (sym c.word.ensures ∙ ap (option_map _) c.in_ok-word.was) (at_word reply_row reply_samples c.in_ok-word.word.now (codes "byte") (omega arith) (omega arith, (omega arith, (omega arith, (omega arith, tt))))) _ c.in_ok-number-in-byte.number (left c.in_ok-number-in-byte.rest) refl (sym c.in_ok-number-in-byte.ensures)
 
 pub returns-in-badchannel : goal.returns-in-badchannel
 returns-in-badchannel c = no_number reply_row reply_samples reply_filled (left c.args.at) c.in_ok-word.word.now (left c.in_ok-word.rest) _ (sym c.word.ensures ∙ ap (option_map _) c.in_ok-word.was) (at_word reply_row reply_samples c.in_ok-word.word.now (codes "badchannel") (omega arith) (omega arith, (omega arith, (omega arith, (omega arith, (omega arith, (omega arith, (omega arith, (omega arith, (omega arith, (omega arith, tt))))))))))) refl
