@@ -1,12 +1,14 @@
 -- What is told of a text that was judged.
-use Rattle.std.specs.Prelude.{◌≡◌, ℕ, List}
+use Rattle.std.specs.Prelude.{◌≡◌, ℕ, List, Result, Ok, Err}
 use Rattle.auditor.specs.Audits.{IsVerdict}
 use Rattle.auditor.specs.declared.fault.Fault.{Fault}
 use Rattle.auditor.specs.declared.fault.Fault.TheVariants.{TooLong, WrongStep, RoomWasLeft, NotItsEvent, NotAsked, Unclaimed}
 use Rattle.auditor.specs.declared.fault.Verdict.{Verdict}
 use Rattle.auditor.specs.declared.fault.Verdict.TheVariants.{Sound, Unsound}
-use Rattle.scripts.specs.RecordFaults.{IsWhole, IsBadLine}
+use Rattle.scripts.specs.RecordFaults.{IsWhole, NamesBadLine}
 use Rattle.scripts.specs.RecordRanges.{Record}
+use Rattle.scripts.specs.declared.record_fault.RecordFault.{RecordFault}
+use Rattle.scripts.specs.declared.record_fault.RecordFault.TheVariants.{OutOfMemory, Line}
 use Rattle.judge.specs.declared.told.Told.{Told}
 
 -- a kind with its numbers
@@ -27,8 +29,19 @@ abbrev pub told_verdict : Verdict → Told
 told_verdict Sound = told 0 0 0 0
 told_verdict (Unsound fault) = told_fault fault
 
--- the verdict on the record that the bytes spell, or the first line with which no record goes on, or that memory was refused
-data pub IsVerdictTold (bytes : List ℕ) : Told → Type 0 where
-  judged : (r : Record) → IsWhole bytes r → (v : Verdict) → IsVerdict r v → IsVerdictTold bytes (told_verdict v)
-  bad_line : (n : ℕ) → IsBadLine bytes n → IsVerdictTold bytes (told 8 n 0 0)
-  out_of_memory : IsVerdictTold bytes (told 9 0 0 0)
+-- a verdict, or why there is none
+abbrev pub told_answer : Result Verdict RecordFault → Told
+told_answer (Ok v) = told_verdict v
+told_answer (Err (Line n)) = told 8 n 0 0
+told_answer (Err OutOfMemory) = told 9 0 0 0
+
+-- the verdict on the record that the bytes spell, or the first line with which no record goes on
+abbrev pub IsVerdictOn : List ℕ → Result Verdict RecordFault → Type 0
+IsVerdictOn bytes (Ok v) = (r : Record) × IsWhole bytes r × IsVerdict r v
+IsVerdictOn bytes (Err fault) = NamesBadLine bytes fault
+
+-- what is told is the verdict, or why there is none
+pub record IsVerdictTold (bytes : List ℕ) (t : Told) : Type 0 where
+  pub answer : Result Verdict RecordFault
+  pub right : IsVerdictOn bytes answer
+  pub same : t ≡ told_answer answer

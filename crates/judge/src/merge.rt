@@ -1,7 +1,7 @@
 //! Orders for callers in C.
 
 ghost use Rattle.std.specs.Prelude.{◌≡◌, ◌≤◌, ◌++◌, length, map, drop};
-ghost use Rattle.judge.specs.Orders.{IsOrderTold, turn_of};
+ghost use Rattle.judge.specs.Orders.{IsOrderTold, turn_of, told_places, room_with};
 
 use crate::Told;
 use crate::told::{BAD_LINE, CYCLE, NO_ROOM, OUT_OF_MEMORY, SOUND};
@@ -31,7 +31,10 @@ fn put_turns(places: &[Place], room: &mut [Turn])
 }
 
 /// Tells the places under that kind, if there is room for them.
-fn tell_turns(kind: u32, places: &[Place], room: &mut [Turn]) -> Told {
+fn tell_turns(kind: u32, places: &[Place], room: &mut [Turn]) -> Told
+    ensures told { result ≡ told_places kind (length room.old) places.now }
+    ensures room { room.new ≡ room_with places.now room.old }
+{
     if places.len() > room.len() {
         return Told::new(NO_ROOM, places.len(), 0, 0);
     }
