@@ -8,7 +8,6 @@ from common import ROOT, record_of, run
 
 BASELINE = ROOT / "tools/run_speed/mutex.rs"
 LOCKS = ["ticket", "mcs"]
-KINDS = ["mutex", *LOCKS]
 
 
 def build_baseline(folder):
@@ -29,13 +28,16 @@ def scripts_of(cpus, entries, objects):
     return "".join(lines).encode()
 
 
-def commands(folder, program, baseline, cpus, objects):
-    """The command of each kind. The settings that it reads lie in that folder."""
+def commands(folder, programs, baseline, cpus, objects):
+    """The command of the mutex's program, and for each lock that of each program, under the lock's name and the program's.
+
+    The settings that they read lie in that folder."""
     words = {"mutex": [baseline, str(cpus), str(objects)]}
     for lock in LOCKS:
         file = folder / f"{lock}-{cpus}-{objects}.toml"
         file.write_text(settings_of(cpus, objects, lock))
-        words[lock] = [program, "run", "--settings", file]
+        for name, program in programs.items():
+            words[lock + name] = [program, "run", "--settings", file]
     return words
 
 

@@ -5,6 +5,7 @@ pub mod Readings
 pub mod Lookups
 pub mod Spellings
 pub mod Samples
+pub mod Glances
 pub mod Outputs
 pub mod Lines
 pub mod RunLines

@@ -1,11 +1,11 @@
 //! Reading a list whose items have semicolons between them.
 
-ghost use Rattle.std.specs.Prelude.{◌≡◌};
+ghost use Rattle.std.specs.Prelude.{◌≡◌, []};
 ghost use Rattle.std.specs.Option.{option_map};
 ghost use Rattle.scripts.specs.Reading.{left};
 ghost use Rattle.scripts.specs.RecordReading.{list_at};
 
-use crate::words::{Words, key};
+use crate::words::{Words, mark};
 use crate::{KCall, KernelObject, value};
 use arrayvec::ArrayVec;
 use event_log::{MOST_CALLS, Step};
@@ -42,28 +42,31 @@ impl Listed for Step<KernelObject> {
     #[tactic(auto, unfolding(crate::specs::RecordReading::step_at))]
     fn item(at: Words<'_>) -> Option<(Step<KernelObject>, Words<'_>)> {
         let (call, rest) = value(at)?;
-        let rest = key(b"=", rest)?;
+        let rest = mark(b'=', rest)?;
         let (reply, rest) = value(rest)?;
         Some((Step { call, reply }, rest))
     }
 }
 
-/// 1 to 8 items, each but the first behind a semicolon, and the words behind them.
+/// Puts 1 to 8 items, each but the first behind a semicolon, into an empty list, and answers the words behind them.
 #[inline(always)]
-pub(crate) fn list<T: Listed>(at: Words<'_>) -> Option<(ArrayVec<T, MOST_CALLS>, Words<'_>)>
-    ensures { option_map (λ x. (x.0.items, left x.1)) result ≡ list_at T.item_at (left at.entry) }
+pub(crate) fn list<'a, T: Listed>(
+    at: Words<'a>,
+    items: &mut ArrayVec<T, MOST_CALLS>,
+) -> Option<Words<'a>>
+    requires { items.old.items ≡ [] }
+    ensures { option_map (λ rest. (items.new.items, left rest)) result ≡ list_at T.item_at (left at.entry) }
 {
     let (first, rest) = T::item(at)?;
-    let mut items = ArrayVec::new();
     items.push(first);
     let mut left = rest;
     for _ in 1..MOST_CALLS {
-        let Some(rest) = key(b";", left) else {
+        let Some(rest) = mark(b';', left) else {
             break;
         };
         let (next, rest) = T::item(rest)?;
         items.push(next);
         left = rest;
     }
-    Some((items, left))
+    Some(left)
 }

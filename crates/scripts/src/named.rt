@@ -18,12 +18,21 @@ pub(crate) fn is_taken(objects: &[ObjectSettings], name: &[u8]) -> bool
     objects.iter().any(|object| object.name() == name)
 }
 
+/// Whether it is the object's name. Names that differ mostly have another length, or end otherwise.
+#[inline(always)]
+fn is_named(object: &ObjectSettings, name: &[u8]) -> bool
+    ensures { result ≡ bytes_eq object.now.name name.now }
+{
+    let own = object.name();
+    own.len() == name.len() && own.last() == name.last() && own == name
+}
+
 /// The place of the object of that name, from 0.
 fn place_of(objects: &[ObjectSettings], name: &[u8]) -> Option<usize>
     ensures place { result ≡ position (λ o. bytes_eq o.name name.now) objects.now }
     ensures bound { IfSome result (λ i. i < length objects.now) }
 {
-    objects.iter().position(|object| object.name() == name)
+    objects.iter().position(|object| is_named(object, name))
 }
 
 /// The place of the object whose name is next, from 0.

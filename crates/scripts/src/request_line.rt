@@ -10,6 +10,7 @@ use crate::listed::list;
 use crate::named::place;
 use crate::words::number;
 use crate::{KCall, Request, Settings};
+use arrayvec::ArrayVec;
 use event_log::Todo;
 
 /// What the words of the line spell, read from left to right.
@@ -21,7 +22,8 @@ fn read(settings: &Settings, line: &[u8]) -> Option<Request>
     let cpus = settings.cpus();
     let (cpu, rest) = number(u64::from(u8::MAX), Some(line))?;
     let (object, rest) = place(settings.objects(), rest)?;
-    let (calls, rest) = list::<KCall>(rest)?;
+    let mut calls = ArrayVec::new();
+    let rest = list::<KCall>(rest, &mut calls)?;
     if cpu < u64::from(cpus) && rest.is_none() {
         Some(Request {
             cpu: cpu as u8,

@@ -1,6 +1,8 @@
 //! The tables of parameters, calls and replies.
 
+use crate::read::{byte, limited, wide};
 use crate::spelled::{first, second};
+use crate::words::{Words, word};
 use crate::{Field, KCall, KParams, KReply, Spelled, Spelling};
 use console_ring::{ConsoleCall, MOST_BYTES};
 use page_pool::{MOST_PAGES, PoolCall};
@@ -46,15 +48,26 @@ impl Spelled for KParams {
     }
 
     #[inline(always)]
-    fn glance(word: &[u8]) -> Option<KParams> {
+    fn glance(at: Words<'_>) -> Option<(KParams, Words<'_>)> {
+        let (word, rest) = word(at)?;
         match word {
-            b"queue" => Some(KParams::Queue(0)),
-            b"pool" => Some(KParams::Pool(0)),
-            b"console" => Some(KParams::Console(0)),
-            b"sched" => Some(KParams::Sched(SchedParams {
-                threads: 0,
-                channels: 0,
-            })),
+            b"queue" => {
+                let (number, rest) = limited(MOST_THREADS, rest)?;
+                Some((KParams::Queue(number), rest))
+            }
+            b"pool" => {
+                let (number, rest) = limited(MOST_PAGES, rest)?;
+                Some((KParams::Pool(number), rest))
+            }
+            b"console" => {
+                let (number, rest) = limited(MOST_BYTES, rest)?;
+                Some((KParams::Console(number), rest))
+            }
+            b"sched" => {
+                let (threads, rest) = limited(wake_list::MOST_THREADS, rest)?;
+                let (channels, rest) = limited(MOST_CHANNELS, rest)?;
+                Some((KParams::Sched(SchedParams { threads, channels }), rest))
+            }
             _ => None,
         }
     }
@@ -139,26 +152,53 @@ impl Spelled for KCall {
     }
 
     #[inline(always)]
-    fn glance(word: &[u8]) -> Option<KCall> {
+    fn glance(at: Words<'_>) -> Option<(KCall, Words<'_>)> {
+        let (word, rest) = word(at)?;
         match word {
-            b"enq" => Some(KCall::Queue(QueueCall::Enq(0))),
-            b"deq" => Some(KCall::Queue(QueueCall::Deq)),
-            b"remove" => Some(KCall::Queue(QueueCall::Remove(0))),
-            b"len" => Some(KCall::Queue(QueueCall::Len)),
-            b"alloc" => Some(KCall::Pool(PoolCall::Alloc(0))),
-            b"free" => Some(KCall::Pool(PoolCall::Free { owner: 0, page: 0 })),
-            b"left" => Some(KCall::Pool(PoolCall::Left)),
-            b"put" => Some(KCall::Console(ConsoleCall::Put(0))),
-            b"get" => Some(KCall::Console(ConsoleCall::Get)),
-            b"level" => Some(KCall::Console(ConsoleCall::Level)),
-            b"ready" => Some(KCall::Sched(SchedCall::Ready(0))),
-            b"next" => Some(KCall::Sched(SchedCall::Next)),
-            b"sleep" => Some(KCall::Sched(SchedCall::Sleep {
-                channel: 0,
-                thread: 0,
-            })),
-            b"wake" => Some(KCall::Sched(SchedCall::Wake(0))),
-            b"wakeall" => Some(KCall::Sched(SchedCall::WakeAll(0))),
+            b"enq" => {
+                let (number, rest) = wide(rest)?;
+                Some((KCall::Queue(QueueCall::Enq(number)), rest))
+            }
+            b"deq" => Some((KCall::Queue(QueueCall::Deq), rest)),
+            b"remove" => {
+                let (number, rest) = wide(rest)?;
+                Some((KCall::Queue(QueueCall::Remove(number)), rest))
+            }
+            b"len" => Some((KCall::Queue(QueueCall::Len), rest)),
+            b"alloc" => {
+                let (number, rest) = wide(rest)?;
+                Some((KCall::Pool(PoolCall::Alloc(number)), rest))
+            }
+            b"free" => {
+                let (owner, rest) = wide(rest)?;
+                let (page, rest) = wide(rest)?;
+                Some((KCall::Pool(PoolCall::Free { owner, page }), rest))
+            }
+            b"left" => Some((KCall::Pool(PoolCall::Left), rest)),
+            b"put" => {
+                let (number, rest) = byte(rest)?;
+                Some((KCall::Console(ConsoleCall::Put(number)), rest))
+            }
+            b"get" => Some((KCall::Console(ConsoleCall::Get), rest)),
+            b"level" => Some((KCall::Console(ConsoleCall::Level), rest)),
+            b"ready" => {
+                let (number, rest) = wide(rest)?;
+                Some((KCall::Sched(SchedCall::Ready(number)), rest))
+            }
+            b"next" => Some((KCall::Sched(SchedCall::Next), rest)),
+            b"sleep" => {
+                let (channel, rest) = wide(rest)?;
+                let (thread, rest) = wide(rest)?;
+                Some((KCall::Sched(SchedCall::Sleep { channel, thread }), rest))
+            }
+            b"wake" => {
+                let (number, rest) = wide(rest)?;
+                Some((KCall::Sched(SchedCall::Wake(number)), rest))
+            }
+            b"wakeall" => {
+                let (number, rest) = wide(rest)?;
+                Some((KCall::Sched(SchedCall::WakeAll(number)), rest))
+            }
             _ => None,
         }
     }
@@ -256,25 +296,41 @@ impl Spelled for KReply {
     }
 
     #[inline(always)]
-    fn glance(word: &[u8]) -> Option<KReply> {
+    fn glance(at: Words<'_>) -> Option<(KReply, Words<'_>)> {
+        let (word, rest) = word(at)?;
         match word {
-            b"ok" => Some(KReply::Ok),
-            b"already" => Some(KReply::Already),
-            b"badthread" => Some(KReply::BadThread),
-            b"thread" => Some(KReply::Thread(0)),
-            b"empty" => Some(KReply::Empty),
-            b"absent" => Some(KReply::Absent),
-            b"count" => Some(KReply::Count(0)),
-            b"page" => Some(KReply::Page(0)),
-            b"none" => Some(KReply::NoPage),
-            b"badowner" => Some(KReply::BadOwner),
-            b"notyours" => Some(KReply::NotYours),
-            b"nottaken" => Some(KReply::NotTaken),
-            b"badpage" => Some(KReply::BadPage),
-            b"dropped" => Some(KReply::Dropped(0)),
-            b"byte" => Some(KReply::Byte(0)),
-            b"badchannel" => Some(KReply::BadChannel),
-            b"badcall" => Some(KReply::BadCall),
+            b"ok" => Some((KReply::Ok, rest)),
+            b"already" => Some((KReply::Already, rest)),
+            b"badthread" => Some((KReply::BadThread, rest)),
+            b"thread" => {
+                let (number, rest) = wide(rest)?;
+                Some((KReply::Thread(number), rest))
+            }
+            b"empty" => Some((KReply::Empty, rest)),
+            b"absent" => Some((KReply::Absent, rest)),
+            b"count" => {
+                let (number, rest) = wide(rest)?;
+                Some((KReply::Count(number), rest))
+            }
+            b"page" => {
+                let (number, rest) = wide(rest)?;
+                Some((KReply::Page(number), rest))
+            }
+            b"none" => Some((KReply::NoPage, rest)),
+            b"badowner" => Some((KReply::BadOwner, rest)),
+            b"notyours" => Some((KReply::NotYours, rest)),
+            b"nottaken" => Some((KReply::NotTaken, rest)),
+            b"badpage" => Some((KReply::BadPage, rest)),
+            b"dropped" => {
+                let (number, rest) = byte(rest)?;
+                Some((KReply::Dropped(number), rest))
+            }
+            b"byte" => {
+                let (number, rest) = byte(rest)?;
+                Some((KReply::Byte(number), rest))
+            }
+            b"badchannel" => Some((KReply::BadChannel, rest)),
+            b"badcall" => Some((KReply::BadCall, rest)),
             _ => None,
         }
     }

@@ -4,6 +4,7 @@ ghost use Rattle.std.specs.Prelude.{◌≡◌, true, [], ◌∷◌};
 ghost use Rattle.scripts.specs.Row.{row_fits, refilled_row, first, others};
 
 use crate::Field;
+use crate::words::Words;
 use arrayvec::ArrayVec;
 
 /// A word, and then its numbers.
@@ -17,7 +18,8 @@ pub struct Spelling {
 /// follow from it.
 pub trait Spelled: Copy + 'static {
     ghost use Rattle.std.specs.Prelude.{ℕ, List, Some, IfSome};
-    ghost use Rattle.scripts.specs.Row.{Row, IsTable, sample_at};
+    ghost use Rattle.scripts.specs.Row.{Row, IsTable, value_at};
+    ghost use Rattle.scripts.specs.Reading.{left};
 
     /// The row of a value.
     ghost row_of: { Self → Row };
@@ -37,9 +39,10 @@ pub trait Spelled: Copy + 'static {
     fn samples() -> &'static [Self]
         ensures { result.now ≡ table };
 
-    /// The value of the table that has the word, without going through the table. Where it isn't found, it may be there.
-    fn glance(word: &[u8]) -> Option<Self>
-        ensures { IfSome result (λ x. sample_at row_of table word.now ≡ Some x) };
+    /// The value that is next and the words behind it, without going through the table. Where none is found, one may be
+    /// there.
+    fn glance(at: Words<'_>) -> Option<(Self, Words<'_>)>
+        ensures { IfSome result (λ x. value_at row_of table filled (left at.entry) ≡ Some (x.0, left x.1)) };
 
     /// The value of the same word with these numbers, and with 0 where there are too few.
     fn fill(&self, numbers: &[u32]) -> Self

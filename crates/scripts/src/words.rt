@@ -1,6 +1,6 @@
 //! The words of a line, from left to right.
 
-ghost use Rattle.std.specs.Prelude.{◌≡◌, ◌≤◌, ◌<◌, ◌+◌, ℕ, Some, IfSome, IfNone, decimal};
+ghost use Rattle.std.specs.Prelude.{◌≡◌, ◌∷◌, [], ◌≤◌, ◌<◌, ◌+◌, ℕ, Some, IfSome, IfNone, decimal};
 ghost use Rattle.std.specs.Int.{IsInRange};
 ghost use Rattle.std.specs.Option.{option_map};
 ghost use Rattle.std.specs.Str.Parse.{digits_value};
@@ -32,6 +32,19 @@ pub fn key<'a>(key: &[u8], at: Words<'a>) -> Option<Words<'a>>
 {
     let (word, rest) = word(at)?;
     if word == key { Some(rest) } else { None }
+}
+
+/// What follows the byte, if a word of it alone is next.
+#[tactic(auto, unfolding(crate::specs::Reading::key_at))]
+#[inline(always)]
+pub(crate) fn mark(mark: u8, at: Words<'_>) -> Option<Words<'_>>
+    ensures { option_map left result ≡ key_at (mark ∷ []) (left at.entry) }
+{
+    let (word, rest) = word(at)?;
+    match word {
+        [byte] if *byte == mark => Some(rest),
+        _ => None,
+    }
 }
 
 /// The value of a digit.

@@ -10,7 +10,7 @@ returns-in_err-first g c = ap (option_map _) c.from_residual.ensures ∙ sym (li
 
 pub loop-init : goal.loop-init
 loop-init g c =
-    let items : c.push.new.self.items ≡ c.in_ok-first.first ∷ [] = rw c.new-items.ensures at c.push.ensures.items in
+    let items : c.push.new.self.items ≡ c.in_ok-first.first ∷ [] = rw c.requires at c.push.ensures.items in
     record {
       count = ap length items;
       reads = list_first g.T.Listed.item_at (left c.args.at) (left c.in_ok-first.rest) c.in_ok-first.first (sym c.item.ensures ∙ ap (option_map _) c.in_ok-first.was)
@@ -22,7 +22,7 @@ returns-in_err-next g c =
     let turn : MOST_CALLS - c.loop.counter ≡ suc (MOST_CALLS - (c.loop.counter + 1)) = omega (arith, c.loop-test.true) in
     let so_far = rw turn at c.loop.invariant.reads in
     ap (option_map _) c.from_residual-in_err-next.ensures
-    ∙ sym (so_far ∙ more_none g.T.Listed.item_at (MOST_CALLS - (c.loop.counter + 1)) c.loop.items.items (left c.loop.left) (left c.in-Some.rest) (sym c.key.ensures ∙ ap (option_map left) c.in-Some.is) (sym c.item-in-loop.ensures ∙ ap (option_map _) c.in_err-next.was))
+    ∙ sym (so_far ∙ more_none g.T.Listed.item_at (MOST_CALLS - (c.loop.counter + 1)) c.loop.items.items (left c.loop.left) (left c.in-Some.rest) (sym c.mark.ensures ∙ ap (option_map left) c.in-Some.is) (sym c.item-in-loop.ensures ∙ ap (option_map _) c.in_err-next.was))
 
 pub loop-preserved : goal.loop-preserved
 loop-preserved g c =
@@ -31,7 +31,7 @@ loop-preserved g c =
     record {
       count = omega (arith, ap length c.push-in-loop.ensures.items, length-append c.loop.items.items (c.in_ok-next.next ∷ []), c.loop.invariant.count);
       reads = so_far ∙ more_step g.T.Listed.item_at (MOST_CALLS - (c.loop.counter + 1)) c.loop.items.items c.push-in-loop.new.self.items (left c.loop.left) (left c.in-Some.rest) (left c.in_ok-next.rest) c.in_ok-next.next
-          c.push-in-loop.ensures.items (sym c.key.ensures ∙ ap (option_map left) c.in-Some.is) (sym c.item-in-loop.ensures ∙ ap (option_map _) c.in_ok-next.was);
+          c.push-in-loop.ensures.items (sym c.mark.ensures ∙ ap (option_map left) c.in-Some.is) (sym c.item-in-loop.ensures ∙ ap (option_map _) c.in_ok-next.was);
     }
 
 pub returns : goal.returns
@@ -43,5 +43,5 @@ returns g c = elim c.loop-test.branch [
   | then-loop-test+in_default w ↦ (
       let turn : MOST_CALLS - c.loop.counter ≡ suc (MOST_CALLS - (c.loop.counter + 1)) = omega (arith, w.loop-test) in
       let so_far = rw turn at c.loop.invariant.reads in
-      sym (so_far ∙ more_end g.T.Listed.item_at (MOST_CALLS - (c.loop.counter + 1)) c.loop.items.items (left c.loop.left) (sym w.key.ensures ∙ ap (option_map left) w.in_default.is)))
+      sym (so_far ∙ more_end g.T.Listed.item_at (MOST_CALLS - (c.loop.counter + 1)) c.loop.items.items (left c.loop.left) (sym w.mark.ensures ∙ ap (option_map left) w.in_default.is)))
 ]

@@ -3,7 +3,7 @@ use Rattle.std.specs.List.{list_all}
 use Rattle.scripts.specs.Reading.{left}
 use Rattle.scripts.specs.Row.{in_range, refill, numbers_at}
 use Rattle.scripts.proofs.Spellings.{numbers_take}
-use Rattle.scripts.proofs.read.next_value.Goals as goal
+use Rattle.scripts.proofs.read.by_table.Goals as goal
 
 pub fill-requires-after_bounds : goal.fill-requires-after_bounds
 fill-requires-after_bounds g c κs within =
