@@ -138,6 +138,7 @@ static void check_events(struct mc2_recorder *recorder) {
     struct mc2_step no_reply = mc2_answer(mc2_ask(MC2_LEN, 0, 0), MC2_REPLY_WORDS, 0);
     struct mc2_step call_byte = mc2_answer(mc2_ask(MC2_PUT, 256, 0), MC2_OK, 0);
     struct mc2_step reply_byte = mc2_answer(mc2_ask(MC2_GET, 0, 0), MC2_BYTE, 256);
+    struct mc2_step dropped_byte = mc2_answer(mc2_ask(MC2_PUT, 0, 0), MC2_DROPPED, 256);
     for (unsigned at = 0; at < 9; at++)
         steps[at] = mc2_answer(mc2_ask(MC2_LEN, 0, 0), MC2_COUNT, 0);
     GIVES(mc2_room(NULL, 0, 0), MC2_BAD_POINTER);
@@ -155,6 +156,7 @@ static void check_events(struct mc2_recorder *recorder) {
     GIVES(mc2_event(recorder, 0, 0, &no_reply, 1), MC2_BAD_STEP);
     GIVES(mc2_event(recorder, 0, 0, &call_byte, 1), MC2_BAD_STEP);
     GIVES(mc2_event(recorder, 0, 0, &reply_byte, 1), MC2_BAD_STEP);
+    GIVES(mc2_event(recorder, 0, 0, &dropped_byte, 1), MC2_BAD_STEP);
     steps[7].reply = MC2_REPLY_WORDS;
     GIVES(mc2_event(recorder, 0, 0, steps, 8), MC2_BAD_STEP);
 }
@@ -180,9 +182,10 @@ static void check_entries(struct mc2_recorder *recorder) {
 
 static const char full_text[] = "record 1\ncpus 2\nobjects 2\n"
                                 "object abcdefghijklmno9 mcs 1 queue 1024\nobject s mcs 2 sched 3 4\n"
-                                "log abcdefghijklmno9 1\n0 len = count 0\nlog s 0\ncpu 0 2\n"
+                                "log abcdefghijklmno9 1\n0 len = count 0\nlog s 1\n1 len = count 0\ncpu 0 2\n"
                                 "abcdefghijklmno9 18446744073709551615 len | noroom\n"
-                                "abcdefghijklmno9 0 len | len = count 0\ncpu 1 0\nend\n";
+                                "abcdefghijklmno9 0 len | len = count 0\ncpu 1 2\n"
+                                "s 7 len | len = count 0\ns 8 len | len = count 0\nend\n";
 
 // Fills a log and a transcript of a small recorder, and tries to go on.
 static void check_full(struct mc2_recorder *recorder) {
@@ -199,7 +202,12 @@ static void check_full(struct mc2_recorder *recorder) {
     GIVES(mc2_entry(recorder, 0, 0, 1, &call, 1, NULL, 0), MC2_TRANSCRIPT_FULL);
     GIVES(mc2_entry(recorder, 0, 0, 0, &call, 1, &step, 1), MC2_DONE);
     GIVES(mc2_entry(recorder, 0, 0, 0, &call, 1, &step, 1), MC2_TRANSCRIPT_FULL);
+    // The other CPU has its own room, and the last of its entries is of no event.
+    GIVES(mc2_event(recorder, 1, 1, &step, 1), MC2_DONE);
+    GIVES(mc2_entry(recorder, 1, 1, 7, &call, 1, &step, 1), MC2_DONE);
     GIVES(mc2_room(recorder, 1, 1), MC2_DONE);
+    GIVES(mc2_entry(recorder, 1, 1, 8, &call, 1, &step, 1), MC2_DONE);
+    GIVES(mc2_room(recorder, 1, 1), MC2_TRANSCRIPT_FULL);
     CHECK(strcmp(text_of(recorder), full_text) == 0);
 }
 
