@@ -1,8 +1,8 @@
 // A small kernel that isn't ours, with a queue, a page pool and a console behind locks of its own. Threads stand for its CPUs.
 // It notes what they do by include/mc2_record.h and prints the record; docs/RECORDS.md goes through it. Nothing here is proved.
 //
-//     cc -std=c11 -O2 -pthread -o foreign examples/foreign/foreign.c
-//     ./foreign LOCK [FAULT [CPUS [SECTIONS [EVENTS]]]]
+//     cc -std=c11 -O2 -pthread -o /tmp/foreign examples/foreign/foreign.c
+//     /tmp/foreign LOCK [FAULT [CPUS [SECTIONS [EVENTS]]]]
 //
 // LOCK is mutex, ticket or mcs. FAULT is right, which is none (the default), or what is planted:
 //     unlocked  nobody takes the lock
@@ -191,17 +191,29 @@ static struct mc2_call any_call(unsigned object, uint64_t *seed) {
     return mc2_ask(word, below(bound, seed), below(PAGES + 1, seed));
 }
 
+static struct work any_work(unsigned cpu, uint64_t *seed) {
+    struct work work = {.cpu = cpu, .object = below(OBJECTS, seed), .asked = 1 + below(MOST_ASKED, seed)};
+    for (unsigned at = 0; at < work.asked; at++)
+        work.calls[at] = any_call(work.object, seed);
+    return work;
+}
+
 static void *run_cpu(void *argument) {
     unsigned cpu = *(const unsigned *)argument;
     uint64_t seed = 88172645463325252u + 1000003u * cpu;
     do_opening(cpu);
     for (unsigned section = 0; section < sections; section++) {
-        struct work work = {.cpu = cpu, .object = below(OBJECTS, &seed), .asked = 1 + below(MOST_ASKED, &seed)};
-        for (unsigned at = 0; at < work.asked; at++)
-            work.calls[at] = any_call(work.object, &seed);
+        struct work work = any_work(cpu, &seed);
         do_and_note(&work);
     }
     return NULL;
+}
+
+static void start_cpus(pthread_t *threads) {
+    static const unsigned numbers[MC2_MOST_CPUS] = {0, 1, 2, 3, 4, 5, 6, 7};
+    for (unsigned cpu = 0; cpu < cpus; cpu++)
+        if (pthread_create(&threads[cpu], NULL, run_cpu, (void *)&numbers[cpu]) != 0)
+            refuse("a thread wasn't started", 3);
 }
 
 static unsigned word_of(const char *word, const char *const *words, unsigned count, const char *what) {
@@ -254,11 +266,8 @@ static void open_objects(enum lock_kind kind) {
 
 int main(int count, char **words) {
     pthread_t threads[MC2_MOST_CPUS];
-    unsigned numbers[MC2_MOST_CPUS] = {0, 1, 2, 3, 4, 5, 6, 7};
     open_objects(read_words(count, words));
-    for (unsigned cpu = 0; cpu < cpus; cpu++)
-        if (pthread_create(&threads[cpu], NULL, run_cpu, &numbers[cpu]) != 0)
-            refuse("a thread wasn't started", 3);
+    start_cpus(threads);
     for (unsigned cpu = 0; cpu < cpus; cpu++)
         pthread_join(threads[cpu], NULL);
     // What enqs have lost shows here at the latest.
