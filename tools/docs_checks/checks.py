@@ -3,7 +3,7 @@ import re
 
 from docs_checks.document import SPAN, read
 
-KINDS_OF_FILES = "rt|antt|md|toml|txt|py|rs|c|cpp|hpp|edit"
+KINDS_OF_FILES = "rt|antt|md|toml|txt|py|rs|c|h|cpp|hpp|edit"
 PATH = re.compile(rf"(?:[\w.-]+/)+(?:[\w.-]*\w)?|\w[\w-]*\.(?:{KINDS_OF_FILES})")
 SOURCE = re.compile(r"[\w./-]*\w\.(?:rt|antt)\b")
 BOTH_LOCKS = re.compile(r"\b(?:(?:both|either|each|every) locks?|the locks)\b")

@@ -14,6 +14,10 @@ IMPL = re.compile(r"impl(?:<.*?>)? (?:(?P<trait>[\w:]+)(?:<.*>)? for )?(?P<type>
 MEMBER = re.compile(rf"    {PUB}({WORD})(?=[:,(]| {{|$)")
 RENAMED = re.compile(rf"\bas ({WORD})")
 CLAUSE = re.compile(rf"\b(?:ensures|requires) ({WORD}) \{{|\bghost ({WORD}):")
+# In C.
+C_FUNCTION = re.compile(rf"^static inline [\w ]+[ *]({WORD})\(", re.MULTILINE)
+C_TYPE = re.compile(rf"^(?:struct|enum) ({WORD}) {{", re.MULTILINE)
+C_WORDS = re.compile(r"^enum \w+ {([^}]*)}", re.MULTILINE)
 # In the logic: a definition or a lemma, and a record, whose lines with a deeper indent are its fields.
 DEFINITION = re.compile(rf"(\s*)(?:(?:abbrev|unfolding|unfoldable|pub) )*(?:record ({WORD})|({WORD}) :)")
 
@@ -42,6 +46,8 @@ class Sources:
     def read(self, name):
         parts = name.split("/")
         stem, dot, kind = parts[-1].rpartition(".")
+        if parts[0] == "include":
+            self.read_header((self.top / name).read_text(encoding="utf-8"))
         if parts[0] != "crates" or not dot:
             return
         if kind in ("edit", "misuse"):
@@ -62,6 +68,12 @@ class Sources:
         self.names.add(name)
         for owner in owners:
             self.members[owner].add(name)
+
+    def read_header(self, text):
+        """Functions, structs and enumerations of C, with the words of these."""
+        self.names.update(C_FUNCTION.findall(text), C_TYPE.findall(text))
+        bodies = C_WORDS.findall(re.sub("//.*", "", text))
+        self.names.update(word for body in bodies for word in re.findall(WORD, body))
 
     def read_rattle(self, text, crate):
         """Items begin at the front of a line, their members with an indent of 4, and a brace at the front ends them."""

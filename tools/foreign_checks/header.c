@@ -1,0 +1,321 @@
+// Checks include/mc2_record.h, as C11 and as C++17: that each bad use is refused by what is returned, and changes nothing, and
+// that limits are those of docs/FORMATS.md. Then it prints a record in which each call and each reply stands.
+//
+// The status is 0, or 1 at the first check that fails, which a line on standard error names.
+#include <stdbool.h>
+#include <stdlib.h>
+
+static bool is_memory_refused;
+
+static void *calloc_or_not(size_t count, size_t size) { return is_memory_refused ? NULL : calloc(count, size); }
+
+#define calloc calloc_or_not
+#include "../../include/mc2_record.h"
+#undef calloc
+
+#define CHECK(what) check(what, #what, __LINE__)
+#define GIVES(call, result) CHECK((call) == (result))
+
+static void check(bool is_so, const char *what, int line) {
+    if (!is_so) {
+        fprintf(stderr, "header.c:%d: not so: %s\n", line, what);
+        exit(1);
+    }
+}
+
+static struct mc2_object object_of(const char *name, uint32_t kind, uint32_t events, uint32_t size, uint32_t channels) {
+    struct mc2_object object = {name, kind, MC2_MCS, events, size, channels};
+    return object;
+}
+
+// What mc2_open answers for the object alone.
+static int opened(const char *name, uint32_t kind, uint32_t events, uint32_t size, uint32_t channels) {
+    struct mc2_recorder recorder;
+    struct mc2_object object = object_of(name, kind, events, size, channels);
+    int result = mc2_open(&recorder, &object, 1, 1, 1);
+    mc2_close(&recorder);
+    return result;
+}
+
+static void check_names(void) {
+    GIVES(opened("q", MC2_QUEUE, 1, 1, 0), MC2_DONE);
+    GIVES(opened("abcdefghijklmno9", MC2_QUEUE, 1, 1, 0), MC2_DONE);
+    GIVES(opened("abcdefghijklmnop9", MC2_QUEUE, 1, 1, 0), MC2_BAD_OBJECT);
+    GIVES(opened(NULL, MC2_QUEUE, 1, 1, 0), MC2_BAD_OBJECT);
+    GIVES(opened("", MC2_QUEUE, 1, 1, 0), MC2_BAD_OBJECT);
+    GIVES(opened("9q", MC2_QUEUE, 1, 1, 0), MC2_BAD_OBJECT);
+    GIVES(opened("qQ", MC2_QUEUE, 1, 1, 0), MC2_BAD_OBJECT);
+    GIVES(opened("q q", MC2_QUEUE, 1, 1, 0), MC2_BAD_OBJECT);
+    GIVES(opened("q\n", MC2_QUEUE, 1, 1, 0), MC2_BAD_OBJECT);
+}
+
+static void check_sizes(void) {
+    GIVES(opened("q", MC2_KINDS, 1, 1, 0), MC2_BAD_OBJECT);
+    GIVES(opened("q", MC2_QUEUE, 0, 1, 0), MC2_BAD_OBJECT);
+    GIVES(opened("q", MC2_QUEUE, 65536, 1024, 0), MC2_DONE);
+    GIVES(opened("q", MC2_QUEUE, 65537, 1, 0), MC2_BAD_OBJECT);
+    GIVES(opened("q", MC2_QUEUE, 1, 0, 0), MC2_BAD_OBJECT);
+    GIVES(opened("q", MC2_QUEUE, 1, 1025, 0), MC2_BAD_OBJECT);
+    GIVES(opened("q", MC2_QUEUE, 1, 1, 1), MC2_BAD_OBJECT);
+    GIVES(opened("p", MC2_POOL, 1, 4096, 0), MC2_DONE);
+    GIVES(opened("p", MC2_POOL, 1, 4097, 0), MC2_BAD_OBJECT);
+    GIVES(opened("c", MC2_CONSOLE, 1, 4096, 0), MC2_DONE);
+    GIVES(opened("c", MC2_CONSOLE, 1, 4097, 0), MC2_BAD_OBJECT);
+    GIVES(opened("s", MC2_SCHED, 1, 1024, 64), MC2_DONE);
+    GIVES(opened("s", MC2_SCHED, 1, 1025, 1), MC2_BAD_OBJECT);
+    GIVES(opened("s", MC2_SCHED, 1, 1, 0), MC2_BAD_OBJECT);
+    GIVES(opened("s", MC2_SCHED, 1, 1, 65), MC2_BAD_OBJECT);
+    CHECK(sizeof(struct mc2_event_line) == 164 && sizeof(struct mc2_entry_line) == 272);
+}
+
+static void check_counts(void) {
+    struct mc2_recorder recorder;
+    struct mc2_object objects[17];
+    static const char *const names[17] = {"a", "b", "c", "d", "e", "f", "g", "h", "i", "j", "k", "l", "m", "n", "o", "p", "q"};
+    for (unsigned at = 0; at < 17; at++)
+        objects[at] = object_of(names[at], MC2_QUEUE, 1, 1, 0);
+    GIVES(mc2_open(&recorder, objects, 0, 1, 1), MC2_BAD_COUNT);
+    GIVES(mc2_open(&recorder, objects, 17, 1, 1), MC2_BAD_COUNT);
+    GIVES(mc2_open(&recorder, objects, 1, 0, 1), MC2_BAD_COUNT);
+    GIVES(mc2_open(&recorder, objects, 1, 9, 1), MC2_BAD_COUNT);
+    GIVES(mc2_open(&recorder, objects, 1, 1, 0), MC2_BAD_COUNT);
+    GIVES(mc2_open(&recorder, objects, 1, 1, 10001), MC2_BAD_COUNT);
+    GIVES(mc2_open(&recorder, objects, 1, UINT32_MAX, UINT32_MAX), MC2_BAD_COUNT);
+    GIVES(mc2_open(&recorder, NULL, 1, 1, 1), MC2_BAD_POINTER);
+    GIVES(mc2_open(NULL, objects, 1, 1, 1), MC2_BAD_POINTER);
+    GIVES(mc2_open(&recorder, objects, 16, 8, 10000), MC2_DONE);
+    mc2_close(&recorder);
+    objects[16].name = "a";
+    GIVES(mc2_open(&recorder, &objects[15], 2, 1, 1), MC2_DONE);
+    mc2_close(&recorder);
+    objects[15].name = "a";
+    GIVES(mc2_open(&recorder, &objects[15], 2, 1, 1), MC2_BAD_OBJECT);
+    objects[0].lock = MC2_LOCKS;
+    GIVES(mc2_open(&recorder, objects, 1, 1, 1), MC2_BAD_OBJECT);
+    mc2_close(NULL);
+}
+
+// A recorder that was never opened, or not with success, or that is closed, refuses all.
+static void check_unopened(struct mc2_recorder *recorder) {
+    struct mc2_call call = mc2_ask(MC2_LEN, 0, 0);
+    struct mc2_step step = mc2_answer(call, MC2_COUNT, 0);
+    GIVES(mc2_room(recorder, 0, 0), MC2_BAD_OBJECT);
+    GIVES(mc2_event(recorder, 0, 0, &step, 1), MC2_BAD_OBJECT);
+    GIVES(mc2_entry(recorder, 0, 0, 1, &call, 1, &step, 1), MC2_BAD_OBJECT);
+    GIVES(mc2_write(recorder, stdout), MC2_BAD_COUNT);
+}
+
+static void check_memory(void) {
+    struct mc2_object object = object_of("q", MC2_QUEUE, 1, 1, 0);
+    static struct mc2_recorder recorder;
+    check_unopened(&recorder);
+    is_memory_refused = true;
+    GIVES(mc2_open(&recorder, &object, 1, 1, 1), MC2_NO_MEMORY);
+    check_unopened(&recorder);
+    is_memory_refused = false;
+    GIVES(mc2_open(&recorder, &object, 1, 1, 1), MC2_DONE);
+    mc2_close(&recorder);
+    check_unopened(&recorder);
+}
+
+// The text of the record. It stays until the second call from here.
+static const char *text_of(const struct mc2_recorder *recorder) {
+    static char texts[2][4096];
+    static unsigned turn;
+    FILE *file = tmpfile();
+    CHECK(file != NULL);
+    GIVES(mc2_write(recorder, file), MC2_DONE);
+    rewind(file);
+    char *text = texts[turn++ % 2];
+    size_t length = fread(text, 1, sizeof texts[0] - 1, file);
+    fclose(file);
+    text[length] = 0;
+    return text;
+}
+
+static void check_events(struct mc2_recorder *recorder) {
+    struct mc2_step steps[9], none = mc2_answer(mc2_ask(MC2_CALL_WORDS, 0, 0), MC2_OK, 0);
+    struct mc2_step no_reply = mc2_answer(mc2_ask(MC2_LEN, 0, 0), MC2_REPLY_WORDS, 0);
+    struct mc2_step call_byte = mc2_answer(mc2_ask(MC2_PUT, 256, 0), MC2_OK, 0);
+    struct mc2_step reply_byte = mc2_answer(mc2_ask(MC2_GET, 0, 0), MC2_BYTE, 256);
+    struct mc2_step dropped_byte = mc2_answer(mc2_ask(MC2_PUT, 0, 0), MC2_DROPPED, 256);
+    for (unsigned at = 0; at < 9; at++)
+        steps[at] = mc2_answer(mc2_ask(MC2_LEN, 0, 0), MC2_COUNT, 0);
+    GIVES(mc2_room(NULL, 0, 0), MC2_BAD_POINTER);
+    GIVES(mc2_room(recorder, 2, 0), MC2_BAD_OBJECT);
+    GIVES(mc2_room(recorder, 0, 2), MC2_BAD_CPU);
+    GIVES(mc2_event(NULL, 0, 0, steps, 1), MC2_BAD_POINTER);
+    GIVES(mc2_event(recorder, 0, 0, NULL, 1), MC2_BAD_POINTER);
+    GIVES(mc2_event(recorder, 2, 0, steps, 1), MC2_BAD_OBJECT);
+    GIVES(mc2_event(recorder, UINT32_MAX, 0, steps, 1), MC2_BAD_OBJECT);
+    GIVES(mc2_event(recorder, 0, 2, steps, 1), MC2_BAD_CPU);
+    GIVES(mc2_event(recorder, 0, UINT32_MAX, steps, 1), MC2_BAD_CPU);
+    GIVES(mc2_event(recorder, 0, 0, steps, 0), MC2_BAD_COUNT);
+    GIVES(mc2_event(recorder, 0, 0, steps, 9), MC2_BAD_COUNT);
+    GIVES(mc2_event(recorder, 0, 0, &none, 1), MC2_BAD_STEP);
+    GIVES(mc2_event(recorder, 0, 0, &no_reply, 1), MC2_BAD_STEP);
+    GIVES(mc2_event(recorder, 0, 0, &call_byte, 1), MC2_BAD_STEP);
+    GIVES(mc2_event(recorder, 0, 0, &reply_byte, 1), MC2_BAD_STEP);
+    GIVES(mc2_event(recorder, 0, 0, &dropped_byte, 1), MC2_BAD_STEP);
+    steps[7].reply = MC2_REPLY_WORDS;
+    GIVES(mc2_event(recorder, 0, 0, steps, 8), MC2_BAD_STEP);
+}
+
+static void check_entries(struct mc2_recorder *recorder) {
+    struct mc2_call calls[9], none = mc2_ask(MC2_CALL_WORDS, 0, 0);
+    struct mc2_step steps[9], no_reply = mc2_answer(mc2_ask(MC2_LEN, 0, 0), UINT32_MAX, 0);
+    for (unsigned at = 0; at < 9; at++) {
+        calls[at] = mc2_ask(MC2_LEN, 0, 0);
+        steps[at] = mc2_answer(calls[at], MC2_COUNT, 0);
+    }
+    GIVES(mc2_entry(NULL, 0, 0, 1, calls, 1, steps, 1), MC2_BAD_POINTER);
+    GIVES(mc2_entry(recorder, 0, 0, 1, NULL, 1, steps, 1), MC2_BAD_POINTER);
+    GIVES(mc2_entry(recorder, 0, 0, 1, calls, 1, NULL, 1), MC2_BAD_POINTER);
+    GIVES(mc2_entry(recorder, 2, 0, 1, calls, 1, steps, 1), MC2_BAD_OBJECT);
+    GIVES(mc2_entry(recorder, 0, 2, 1, calls, 1, steps, 1), MC2_BAD_CPU);
+    GIVES(mc2_entry(recorder, 0, 0, 1, calls, 0, steps, 1), MC2_BAD_COUNT);
+    GIVES(mc2_entry(recorder, 0, 0, 1, calls, 9, steps, 1), MC2_BAD_COUNT);
+    GIVES(mc2_entry(recorder, 0, 0, 1, calls, 8, steps, 9), MC2_BAD_COUNT);
+    GIVES(mc2_entry(recorder, 0, 0, 1, &none, 1, steps, 1), MC2_BAD_STEP);
+    GIVES(mc2_entry(recorder, 0, 0, 1, calls, 1, &no_reply, 1), MC2_BAD_STEP);
+}
+
+static const char full_text[] = "record 1\ncpus 2\nobjects 2\n"
+                                "object abcdefghijklmno9 mcs 1 queue 1024\nobject s mcs 2 sched 3 4\n"
+                                "log abcdefghijklmno9 1\n0 len = count 0\nlog s 1\n1 len = count 0\ncpu 0 2\n"
+                                "abcdefghijklmno9 18446744073709551615 len | noroom\n"
+                                "abcdefghijklmno9 0 len | len = count 0\ncpu 1 2\n"
+                                "s 7 len | len = count 0\ns 8 len | len = count 0\nend\n";
+
+// Fills a log and a transcript of a small recorder, and tries to go on.
+static void check_full(struct mc2_recorder *recorder) {
+    struct mc2_call call = mc2_ask(MC2_LEN, 0, 0);
+    struct mc2_step step = mc2_answer(call, MC2_COUNT, 0);
+    GIVES(mc2_room(recorder, 0, 0), MC2_DONE);
+    GIVES(mc2_event(recorder, 0, 0, &step, 1), MC2_DONE);
+    GIVES(mc2_room(recorder, 0, 0), MC2_LOG_FULL);
+    GIVES(mc2_event(recorder, 0, 0, &step, 1), MC2_LOG_FULL);
+    GIVES(mc2_entry(recorder, 0, 0, UINT64_MAX, &call, 1, NULL, 0), MC2_DONE);
+    // One event waits for its entry, for which alone there is room.
+    GIVES(mc2_room(recorder, 1, 0), MC2_TRANSCRIPT_FULL);
+    GIVES(mc2_event(recorder, 1, 0, &step, 1), MC2_TRANSCRIPT_FULL);
+    GIVES(mc2_entry(recorder, 0, 0, 1, &call, 1, NULL, 0), MC2_TRANSCRIPT_FULL);
+    GIVES(mc2_entry(recorder, 0, 0, 0, &call, 1, &step, 1), MC2_DONE);
+    GIVES(mc2_entry(recorder, 0, 0, 0, &call, 1, &step, 1), MC2_TRANSCRIPT_FULL);
+    // The other CPU has its own room, and the last of its entries is of no event.
+    GIVES(mc2_event(recorder, 1, 1, &step, 1), MC2_DONE);
+    GIVES(mc2_entry(recorder, 1, 1, 7, &call, 1, &step, 1), MC2_DONE);
+    GIVES(mc2_room(recorder, 1, 1), MC2_DONE);
+    GIVES(mc2_entry(recorder, 1, 1, 8, &call, 1, &step, 1), MC2_DONE);
+    GIVES(mc2_room(recorder, 1, 1), MC2_TRANSCRIPT_FULL);
+    CHECK(strcmp(text_of(recorder), full_text) == 0);
+}
+
+// Writes where nothing can be written, and what two CPUs at one time may leave.
+static void check_writing(struct mc2_recorder *recorder) {
+    FILE *full = fopen("/dev/full", "w"), *nowhere = fopen("/dev/null", "w");
+    CHECK(full != NULL && nowhere != NULL);
+    GIVES(mc2_write(recorder, NULL), MC2_BAD_POINTER);
+    GIVES(mc2_write(NULL, stdout), MC2_BAD_POINTER);
+    GIVES(mc2_write(recorder, full), MC2_WRITE_FAILED);
+    recorder->logs[0].events[0].cpu = 2;
+    GIVES(mc2_write(recorder, nowhere), MC2_MIXED);
+    recorder->logs[0].events[0].cpu = 0;
+    recorder->logs[0].events[0].count = 9;
+    GIVES(mc2_write(recorder, nowhere), MC2_MIXED);
+    recorder->logs[0].events[0].count = 1;
+    recorder->logs[0].events[0].steps[0].reply = MC2_REPLY_WORDS;
+    GIVES(mc2_write(recorder, nowhere), MC2_MIXED);
+    fclose(full);
+    fclose(nowhere);
+    CHECK(strcmp(mc2_says(MC2_WRITE_FAILED), "write failed") == 0 && strcmp(mc2_says(-1), mc2_says(99)) == 0);
+}
+
+static void check_notes(void) {
+    struct mc2_recorder recorder;
+    char name[] = "abcdefghijklmno9";
+    struct mc2_object objects[2] = {object_of(name, MC2_QUEUE, 1, 1024, 0), object_of("s", MC2_SCHED, 2, 3, 4)};
+    GIVES(mc2_open(&recorder, objects, 2, 2, 2), MC2_DONE);
+    // The recorder has names of its own.
+    name[0] = 'X';
+    const char *before = text_of(&recorder);
+    check_events(&recorder);
+    check_entries(&recorder);
+    CHECK(strcmp(before, text_of(&recorder)) == 0);
+    check_full(&recorder);
+    check_writing(&recorder);
+    mc2_close(&recorder);
+}
+
+// The steps of the record that is printed: the object, a call with its numbers, and its reply with its number.
+enum { Q, P, C, S };
+static const struct {
+    uint32_t object, word, first, second, reply, number;
+} told[] = {
+    {Q, MC2_ENQ, 0, 0, MC2_OK, 0},           {Q, MC2_ENQ, 0, 0, MC2_ALREADY, 0},        {Q, MC2_ENQ, 2, 0, MC2_BADTHREAD, 0},
+    {Q, MC2_REMOVE, 1, 0, MC2_ABSENT, 0},    {Q, MC2_REMOVE, 0, 0, MC2_OK, 0},          {Q, MC2_DEQ, 0, 0, MC2_EMPTY, 0},
+    {Q, MC2_ENQ, 1, 0, MC2_OK, 0},           {Q, MC2_LEN, 0, 0, MC2_COUNT, 1},          {Q, MC2_DEQ, 0, 0, MC2_THREAD, 1},
+    {Q, MC2_ALLOC, UINT32_MAX, 0, MC2_BADCALL, 0},
+    {P, MC2_ALLOC, 16, 0, MC2_BADOWNER, 0},  {P, MC2_FREE, 0, 2, MC2_BADPAGE, 0},       {P, MC2_FREE, 0, 0, MC2_NOTTAKEN, 0},
+    {P, MC2_ALLOC, 15, 0, MC2_PAGE, 0},      {P, MC2_FREE, 0, 0, MC2_NOTYOURS, 0},      {P, MC2_ALLOC, 0, 0, MC2_PAGE, 1},
+    {P, MC2_ALLOC, 0, 0, MC2_NONE, 0},       {P, MC2_LEFT, 0, 0, MC2_COUNT, 0},         {P, MC2_FREE, 15, 0, MC2_OK, 0},
+    {C, MC2_GET, 0, 0, MC2_EMPTY, 0},        {C, MC2_PUT, 255, 0, MC2_OK, 0},           {C, MC2_PUT, 0, 0, MC2_DROPPED, 255},
+    {C, MC2_LEVEL, 0, 0, MC2_COUNT, 1},      {C, MC2_GET, 0, 0, MC2_BYTE, 0},
+    {S, MC2_NEXT, 0, 0, MC2_EMPTY, 0},       {S, MC2_READY, 0, 0, MC2_OK, 0},           {S, MC2_NEXT, 0, 0, MC2_THREAD, 0},
+    {S, MC2_SLEEP, 1, 0, MC2_BADCHANNEL, 0}, {S, MC2_SLEEP, 0, 1, MC2_OK, 0},           {S, MC2_SLEEP, 0, 0, MC2_OK, 0},
+    {S, MC2_WAKE, 0, 0, MC2_THREAD, 1},      {S, MC2_WAKEALL, 0, 0, MC2_COUNT, 1},      {S, MC2_WAKE, 0, 0, MC2_EMPTY, 0},
+    {S, MC2_NEXT, 0, 0, MC2_THREAD, 1}};
+enum { TOLD = sizeof told / sizeof told[0], OF_THE_POOL = 9 };
+
+// Who is alone looks once at a ticket lock, and never at an MCS lock.
+static void note(struct mc2_recorder *recorder, uint32_t object, const struct mc2_call *calls, uint32_t asked,
+                 const struct mc2_step *steps, uint32_t done) {
+    uint64_t looks = object == Q || object == C ? 1 : 0;
+    if (done > 0)
+        GIVES(mc2_event(recorder, object, 0, steps, done), MC2_DONE);
+    GIVES(mc2_entry(recorder, object, 0, looks, calls, asked, steps, done), MC2_DONE);
+}
+
+static void note_groups(struct mc2_recorder *recorder) {
+    struct mc2_call calls[8], left = mc2_ask(MC2_LEFT, 0, 0);
+    struct mc2_step steps[8];
+    for (unsigned at = 0; at < 8; at++) {
+        calls[at] = mc2_ask(MC2_LEN, 0, 0);
+        steps[at] = mc2_answer(calls[at], MC2_COUNT, 0);
+    }
+    note(recorder, Q, calls, 8, steps, 8);
+    calls[0] = calls[1] = mc2_ask(MC2_ENQ, 1, 0);
+    steps[0] = mc2_answer(calls[0], MC2_OK, 0);
+    steps[1] = mc2_answer(calls[1], MC2_ALREADY, 0);
+    note(recorder, Q, calls, 3, steps, 2);
+    GIVES(mc2_room(recorder, P, 0), MC2_LOG_FULL);
+    note(recorder, P, &left, 1, NULL, 0);
+}
+
+static void print_record(void) {
+    struct mc2_recorder recorder;
+    const struct mc2_object objects[4] = {{"threads", MC2_QUEUE, MC2_TICKET, 100, 2, 0},
+                                          {"pages", MC2_POOL, MC2_MCS, OF_THE_POOL, 2, 0},
+                                          {"c", MC2_CONSOLE, MC2_TICKET, 65536, 1, 0},
+                                          {"s9", MC2_SCHED, MC2_MCS, 10, 2, 1}};
+    GIVES(mc2_open(&recorder, objects, 4, 2, TOLD + 3), MC2_DONE);
+    for (unsigned at = 0; at < TOLD; at++) {
+        struct mc2_call call = mc2_ask(told[at].word, told[at].first, told[at].second);
+        struct mc2_step step = mc2_answer(call, told[at].reply, told[at].number);
+        CHECK(mc2_refuses(step.reply) == (step.reply >= MC2_BADTHREAD));
+        note(&recorder, told[at].object, &call, 1, &step, 1);
+    }
+    note_groups(&recorder);
+    GIVES(mc2_write(&recorder, stdout), MC2_DONE);
+    mc2_close(&recorder);
+}
+
+int main(void) {
+    check_names();
+    check_sizes();
+    check_counts();
+    check_memory();
+    check_notes();
+    print_record();
+    return 0;
+}
