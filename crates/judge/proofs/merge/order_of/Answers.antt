@@ -1,0 +1,40 @@
+use Rattle.std.proofs.Common.{◌≡◌, refl, subst, length, ◌∙◌, ap}
+use Rattle.scripts.specs.RecordFaults.{NamesBadLine}
+use Rattle.scripts.specs.declared.record_fault.RecordFault.TheVariants.{Line}
+use Rattle.judge.specs.Orders.{order, cycle, unsound, bad_line, told_places, room_with}
+use Rattle.judge.proofs.merge.order_of.Goals as goal
+
+pub returns-in-Err-Line : goal.returns-in-Err-Line
+returns-in-Err-Line c =
+    let is : c.in-Err-Line.field-0 ≡ Line c.in-Err-Line.line = cc in record {
+      outcome = bad_line c.in-Err-Line.line;
+      right = subst (NamesBadLine c.args.text.now) is c.in-Err-Line.ensures.fault;
+      same = cc;
+      room = refl;
+    }
+
+pub returns-in-Ok-merge : goal.returns-in-Ok-merge
+returns-in-Ok-merge c =
+    let same_places : c.as_slice.result.now ≡ c.in-Ok-merge.merged.places = c.as_slice.ensures in record {
+      outcome = order c.in-Ok-merge.merged.places;
+      right = (c.in-Ok.record, c.in-Ok.ensures.found, c.in-Ok-merge.ensures.order);
+      same = c.tell_turns.ensures.told ∙ ap (λ p. told_places 0 (length c.args.room.now) p) same_places;
+      room = c.tell_turns.ensures.room ∙ ap (λ p. room_with p c.args.room.now) same_places;
+    }
+
+pub returns-in-Err-Cycle : goal.returns-in-Err-Cycle
+returns-in-Err-Cycle c =
+    let same_places : c.as_slice-in-Err-Cycle.result.now ≡ c.in-Err-Cycle.cycle = c.as_slice-in-Err-Cycle.ensures in record {
+      outcome = cycle c.in-Err-Cycle.cycle;
+      right = (c.in-Ok.record, c.in-Ok.ensures.found, c.in-Err-Cycle.ensures.cycle c.in-Err-Cycle.cycle cc);
+      same = c.tell_turns-in-Err-Cycle.ensures.told ∙ ap (λ p. told_places 7 (length c.args.room.now) p) same_places;
+      room = c.tell_turns-in-Err-Cycle.ensures.room ∙ ap (λ p. room_with p c.args.room.now) same_places;
+    }
+
+pub returns-in-Err-Unsound : goal.returns-in-Err-Unsound
+returns-in-Err-Unsound c = record {
+  outcome = unsound c.in-Err-Unsound.fault;
+  right = (c.in-Ok.record, c.in-Ok.ensures.found, c.in-Err-Unsound.ensures.unsound c.in-Err-Unsound.fault cc);
+  same = c.of_fault.ensures;
+  room = refl;
+}
