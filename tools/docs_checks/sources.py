@@ -9,7 +9,7 @@ PASSED_OVER = {".git", "out", "__pycache__"}
 WORD = r"[A-Za-z_]\w*"
 # In Rattle: an item, the head of what has members, a member, another name of an item, and a clause.
 PUB = r"(?:pub(?:\([a-z]+\))? )?"
-ITEM = re.compile(rf"\s*{PUB}(?:const |unsafe )?(fn|struct|enum|trait|type|const|static|mod|ghost) (?!use\b)({WORD})")
+ITEM = re.compile(rf"\s*{PUB}(?:const |unsafe |extern \"C\" )?(fn|struct|enum|trait|type|const|static|mod|ghost) (?!use\b)({WORD})")
 IMPL = re.compile(r"impl(?:<.*?>)? (?:(?P<trait>[\w:]+)(?:<.*>)? for )?(?P<type>[\w:]+)")
 MEMBER = re.compile(rf"    {PUB}({WORD})(?=[:,(]| {{|$)")
 RENAMED = re.compile(rf"\bas ({WORD})")
