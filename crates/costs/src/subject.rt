@@ -6,7 +6,7 @@ use crate::random::{Random, up_to, way};
 use crate::sum::Sum;
 use crate::words::{Asked, Form, Object};
 use event_log::SeqObject;
-use page_pool::{MOST_PAGES, PagePool, PoolCall};
+use page_pool::{MOST_PAGES, PagePool, PoolCall, PoolParams};
 use shared_queue::{MOST_THREADS, QueueCall, ThreadQueue};
 use std::alloc::Global;
 use wake_list::{Sched, SchedCall, SchedParams};
@@ -138,7 +138,11 @@ pub fn sum_of(alloc: Global, asked: &Asked) -> Result<Sum, Fault> {
         (Object::Sched, Form::Plain) => {
             make_calls(PlainSched::open(alloc, size, CHANNELS)?, size, calls)
         }
-        (Object::Pool, Form::Own) => make_calls(PagePool::open(alloc, &size)?, size, calls),
+        (Object::Pool, Form::Own) => make_calls(
+            PagePool::open(alloc, &PoolParams::unlimited(size))?,
+            size,
+            calls,
+        ),
         (Object::Pool, Form::Plain) => make_calls(PlainPool::open(alloc, size)?, size, calls),
     }
 }

@@ -45,6 +45,7 @@ impl Sum {
             PoolReply::Ok => Some(0),
             PoolReply::Page(number) | PoolReply::Count(number) => Some(number),
             PoolReply::NoPage
+            | PoolReply::OverQuota
             | PoolReply::BadOwner
             | PoolReply::BadPage
             | PoolReply::NotTaken

@@ -5,25 +5,22 @@ ghost use Rattle.page_pool.specs.Table.{left_of};
 ghost use Rattle.page_pool.specs.Answer.{alloc_answer, free_answer};
 
 use crate::pages::PageSet;
+use crate::params::{LAST_OWNER, OWNERS, PoolParams};
 use crate::{PoolCall, PoolReply};
 use event_log::{OpenFault, SeqObject};
 use std::alloc::Global;
 use std::marker::Model;
 
-/// The most pages that a pool can be opened for.
-pub const MOST_PAGES: u32 = 4096;
-
-/// Owners are 0 to this number.
-pub const LAST_OWNER: u32 = 15;
-
 /// A pool of the pages 0 to `pages - 1`: entry p of the table is the owner of page p. The pages without an owner are kept
-/// as a set too, and so is their number. All is made when the pool is opened.
+/// as a set too, and so are their number and the number of pages of each owner. All is made when the pool is opened.
 #[derive(Drop)]
 pub struct PagePool {
     pages: u32,
+    quotas: [u32; OWNERS],
     owners: Vec<Option<u32>>,
     free: PageSet,
     left: u32,
+    counts: [u32; OWNERS],
 }
 
 impl Model for PagePool {
@@ -33,9 +30,9 @@ impl Model for PagePool {
 
     ghost Value = { PoolState };
 
-    ghost view = { λ s. record { pages = s.pages; owners = s.owners.items } };
+    ghost view = { λ s. record { pages = s.pages; quotas = s.quotas; owners = s.owners.items } };
 
-    ghost invariant = { λ s. IsAgreed s.pages s.owners.items s.free s.left };
+    ghost invariant = { λ s. IsAgreed s.pages s.owners.items s.free s.left s.counts };
 }
 
 impl PagePool {
@@ -45,15 +42,17 @@ impl PagePool {
         if owner > LAST_OWNER {
             return PoolReply::BadOwner;
         }
-        match self.free.least() {
-            Some(page) => {
-                self.owners[page as usize] = Some(owner);
-                self.free.remove(page);
-                self.left -= 1;
-                PoolReply::Page(page)
-            }
-            None => PoolReply::NoPage,
+        let Some(page) = self.free.least() else {
+            return PoolReply::NoPage;
+        };
+        if self.counts[owner as usize] >= self.quotas[owner as usize] {
+            return PoolReply::OverQuota;
         }
+        self.owners[page as usize] = Some(owner);
+        self.free.remove(page);
+        self.left -= 1;
+        self.counts[owner as usize] += 1;
+        PoolReply::Page(page)
     }
 
     fn take_back(&mut self, owner: u32, page: u32) -> PoolReply
@@ -72,6 +71,7 @@ impl PagePool {
                 self.owners[page as usize] = None;
                 self.free.add(page);
                 self.left += 1;
+                self.counts[owner as usize] -= 1;
                 PoolReply::Ok
             }
         }
@@ -89,7 +89,7 @@ impl SeqObject for PagePool {
     ghost use Rattle.page_pool.specs.Answer.{pool_answer, is_refusing};
     ghost use Rattle.std.proofs.Common.{lit<, rules};
 
-    type Params = u32;
+    type Params = PoolParams;
 
     type Call = PoolCall;
 
@@ -119,20 +119,22 @@ impl SeqObject for PagePool {
 
     ghost entry_fits = { lit< tt };
 
-    fn open(alloc: Global, params: &u32) -> Result<PagePool, OpenFault> {
-        let pages = *params;
-        if pages == 0 || pages > MOST_PAGES {
+    fn open(alloc: Global, params: &PoolParams) -> Result<PagePool, OpenFault> {
+        if !params.is_in_range() {
             return Err(OpenFault::BadLimit);
         }
+        let PoolParams { pages, quotas } = *params;
         let Ok(owners) = vec![in alloc; None; pages as usize] else {
             return Err(OpenFault::OutOfMemory);
         };
         match PageSet::all(alloc, pages) {
             Ok(free) => Ok(PagePool {
                 pages,
+                quotas,
                 owners,
                 free,
                 left: pages,
+                counts: [0; OWNERS],
             }),
             Err(_) => Err(OpenFault::OutOfMemory),
         }
@@ -149,6 +151,7 @@ impl SeqObject for PagePool {
     fn refuses(reply: &PoolReply) -> bool {
         match *reply {
             PoolReply::NoPage
+            | PoolReply::OverQuota
             | PoolReply::BadOwner
             | PoolReply::NotYours
             | PoolReply::NotTaken

@@ -8,8 +8,8 @@ ghost use Rattle.page_pool.specs.declared.call.PoolCall.TheVariants.{Alloc, Free
 ghost use Rattle.page_pool.specs.declared.call.PoolReply.TheVariants.{Ok, Page};
 
 use crate::{
-    MOST_PAGES, PagePool, PoolCall as Call, PoolReply as Reply, frees_its_own, gives_the_least,
-    stays_whole,
+    MOST_PAGES, PagePool, PoolCall as Call, PoolParams, PoolReply as Reply, frees_its_own,
+    gives_the_least, stays_whole,
 };
 use event_log::{Logged, OpenFault, SeqObject, Step};
 use std::alloc::Global;
@@ -29,7 +29,7 @@ fn laws_of(pool: &Logged<PagePool>)
 
 #[test]
 fn the_laws_are_of_a_logged_pool(rt: HostRuntime) -> Result<(), Fail> {
-    let mut pool = Logged::<PagePool>::open(rt.alloc(), 3, 10)?;
+    let mut pool = Logged::<PagePool>::open(rt.alloc(), PoolParams::unlimited(3), 10)?;
     assert_eq!(rt; pool.call(0, &Call::Alloc(2))?, Reply::Page(0));
     laws_of(&pool);
     assert_eq!(rt; pool.call(0, &Call::Alloc(2))?, Reply::Page(1));
@@ -93,7 +93,7 @@ fn worked_answers(rt: HostRuntime) -> Result<(), Fail> {
         ),
     ];
     for (pages, row) in rows {
-        let mut pool = Logged::<PagePool>::open(rt.alloc(), pages, 100)?;
+        let mut pool = Logged::<PagePool>::open(rt.alloc(), PoolParams::unlimited(pages), 100)?;
         for (call, reply) in row {
             assert_eq!(rt; pool.call(0, call)?, *reply, "to {call:?} of {row:?}");
         }
@@ -103,7 +103,7 @@ fn worked_answers(rt: HostRuntime) -> Result<(), Fail> {
 
 #[test]
 fn a_batch_ends_with_a_refusal(rt: HostRuntime) -> Result<(), Fail> {
-    let mut pool = Logged::<PagePool>::open(rt.alloc(), 1, 100)?;
+    let mut pool = Logged::<PagePool>::open(rt.alloc(), PoolParams::unlimited(1), 100)?;
     let steps = pool.apply(0, &[Call::Alloc(3), Call::Alloc(3), Call::Left])?;
     let wanted = [
         Step {
@@ -129,7 +129,7 @@ fn limits_of_an_opening(rt: HostRuntime) {
         (4097, Some(OpenFault::BadLimit)),
     ];
     for (pages, fault) in rows {
-        let opened = Logged::<PagePool>::open(rt.alloc(), pages, 1);
+        let opened = Logged::<PagePool>::open(rt.alloc(), PoolParams::unlimited(pages), 1);
         assert_eq!(rt; opened.err(), fault, "for {pages} pages");
     }
 }
@@ -137,10 +137,10 @@ fn limits_of_an_opening(rt: HostRuntime) {
 /// To be run with each allocation refused in turn: the opening that lacks memory says so, and the next one is as ever.
 #[test]
 fn an_opening_without_memory(rt: HostRuntime) -> Result<(), Fail> {
-    if let Err(fault) = Logged::<PagePool>::open(rt.alloc(), 8, 100) {
+    if let Err(fault) = Logged::<PagePool>::open(rt.alloc(), PoolParams::unlimited(8), 100) {
         assert_eq!(rt; fault, OpenFault::OutOfMemory);
     }
-    let mut pool = Logged::<PagePool>::open(rt.alloc(), 8, 100)?;
+    let mut pool = Logged::<PagePool>::open(rt.alloc(), PoolParams::unlimited(8), 100)?;
     assert_eq!(rt; pool.call(0, &Call::Alloc(3))?, Reply::Page(0));
     assert_eq!(rt; pool.call(0, &Call::Left)?, Reply::Count(7));
     Ok(())
@@ -148,7 +148,7 @@ fn an_opening_without_memory(rt: HostRuntime) -> Result<(), Fail> {
 
 #[test]
 fn a_pool_with_no_page_left(rt: HostRuntime) -> Result<(), Fail> {
-    let mut pool = Logged::<PagePool>::open(rt.alloc(), MOST_PAGES, 5000)?;
+    let mut pool = Logged::<PagePool>::open(rt.alloc(), PoolParams::unlimited(MOST_PAGES), 5000)?;
     for page in 0..MOST_PAGES {
         assert_eq!(rt;
             pool.call(0, &Call::Alloc(page % 16))?,
@@ -239,7 +239,7 @@ fn call_of(number: u64, pages: u32, fills: bool) -> Call {
 /// Makes that many calls on a pool of the pages, which fill it and empty it in turn, and holds each reply to that of the
 /// plain program.
 fn compare<R: Abort>(rt: &R, alloc: Global, pages: u32, turns: u32) -> Result<(), Fail> {
-    let mut pool = PagePool::open(alloc, &pages)?;
+    let mut pool = PagePool::open(alloc, &PoolParams::unlimited(pages))?;
     let mut owners = vec![in alloc; None; pages as usize]?;
     let mut number = 1u64;
     for turn in 0..turns {
@@ -276,7 +276,7 @@ fn answers_as_a_plain_program_of_all_pages(rt: HostRuntime) -> Result<(), Fail> 
 /// A word of the free pages and a page more.
 #[test]
 fn a_page_past_a_word(rt: HostRuntime) -> Result<(), Fail> {
-    let mut pool = Logged::<PagePool>::open(rt.alloc(), 65, 100)?;
+    let mut pool = Logged::<PagePool>::open(rt.alloc(), PoolParams::unlimited(65), 100)?;
     for page in 0..65 {
         assert_eq!(rt; pool.call(0, &Call::Alloc(1))?, Reply::Page(page));
     }
@@ -286,7 +286,7 @@ fn a_page_past_a_word(rt: HostRuntime) -> Result<(), Fail> {
 
 #[test]
 fn freed_pages_of_the_greatest_pool(rt: HostRuntime) -> Result<(), Fail> {
-    let mut pool = Logged::<PagePool>::open(rt.alloc(), MOST_PAGES, 65536)?;
+    let mut pool = Logged::<PagePool>::open(rt.alloc(), PoolParams::unlimited(MOST_PAGES), 65536)?;
     for page in 0..MOST_PAGES {
         assert_eq!(rt; pool.call(0, &Call::Alloc(1))?, Reply::Page(page));
     }
@@ -308,4 +308,69 @@ fn freed_pages_of_the_greatest_pool(rt: HostRuntime) -> Result<(), Fail> {
         assert_eq!(rt; pool.call(0, &call)?, reply, "to {call:?}");
     }
     Ok(())
+}
+
+/// A pool whose owners may each have 3 pages, and one of them another number.
+fn quota_for(pages: u32, owner: usize, quota: u32) -> PoolParams {
+    let mut quotas = [3; 16];
+    if owner < 16 {
+        quotas[owner] = quota;
+    }
+    PoolParams { pages, quotas }
+}
+
+#[test]
+fn answers_with_quotas(rt: HostRuntime) -> Result<(), Fail> {
+    let rows: [(PoolParams, &[(Call, Reply)]); 5] = [
+        (
+            quota_for(3, 1, 1),
+            &[
+                (Call::Alloc(1), Reply::Page(0)),
+                (Call::Alloc(1), Reply::OverQuota),
+                (Call::Alloc(2), Reply::Page(1)),
+            ],
+        ),
+        (
+            quota_for(3, 1, 1),
+            &[
+                (Call::Alloc(1), Reply::Page(0)),
+                (Call::Alloc(1), Reply::OverQuota),
+                (Call::Free { owner: 1, page: 0 }, Reply::Ok),
+                (Call::Alloc(1), Reply::Page(0)),
+            ],
+        ),
+        (
+            quota_for(1, 1, 1),
+            &[
+                (Call::Alloc(1), Reply::Page(0)),
+                (Call::Alloc(1), Reply::NoPage),
+            ],
+        ),
+        (quota_for(3, 2, 0), &[(Call::Alloc(2), Reply::OverQuota)]),
+        (
+            quota_for(3, 15, 0),
+            &[
+                (Call::Alloc(16), Reply::BadOwner),
+                (Call::Alloc(15), Reply::OverQuota),
+            ],
+        ),
+    ];
+    for (params, row) in rows {
+        let mut pool = Logged::<PagePool>::open(rt.alloc(), params, 100)?;
+        for (call, reply) in row {
+            assert_eq!(rt; pool.call(0, call)?, *reply, "to {call:?} of {row:?}");
+        }
+    }
+    Ok(())
+}
+
+#[test]
+fn limits_of_quotas(rt: HostRuntime) {
+    for owner in 0..16 {
+        let rows = [(4096, None), (4097, Some(OpenFault::BadLimit))];
+        for (quota, fault) in rows {
+            let opened = Logged::<PagePool>::open(rt.alloc(), quota_for(8, owner, quota), 1);
+            assert_eq!(rt; opened.err(), fault, "for {quota} of {owner}");
+        }
+    }
 }
