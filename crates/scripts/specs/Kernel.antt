@@ -21,21 +21,21 @@ use Rattle.scripts.specs.declared.kernel_call.KParams.TheVariants.{Queue as Queu
 use Rattle.scripts.specs.declared.kernel_call.KCall.{KCall}
 use Rattle.scripts.specs.declared.kernel_call.KCall.TheVariants.{Queue as QueueCalled, Pool as PoolCalled, Console as ConsoleCalled, Sched as SchedCalled}
 use Rattle.scripts.specs.declared.kernel_call.KReply.{KReply}
-use Rattle.scripts.specs.declared.kernel_call.KReply.TheVariants.{Ok, Already, BadThread, Thread, Empty, Absent, Count, Page, NoPage, BadOwner, NotYours, NotTaken, BadPage, Dropped, Byte, BadChannel, BadCall}
+use Rattle.scripts.specs.declared.kernel_call.KReply.TheVariants.{Ok, Already, BadThread, Thread, Empty, Absent, Count, Page, NoPage, OverQuota, BadOwner, NotYours, NotTaken, BadPage, Dropped, Byte, BadChannel, BadCall}
 use Rattle.scripts.specs.declared.kernel_object.KernelObject.{KernelObject}
 use Rattle.scripts.specs.declared.kernel_object.KernelObject.TheVariants.{Queue as QueueObject, Pool as PoolObject, Console as ConsoleObject, Sched as SchedObject}
 
 -- whether an object can be opened with the parameters
 abbrev pub kernel_in_range : KParams → Bool
 kernel_in_range (QueueParams n) = queue.is_in_range n
-kernel_in_range (PoolParams n) = pool.is_in_range n
+kernel_in_range (PoolParams p) = pool.is_in_range p
 kernel_in_range (ConsoleParams n) = console.is_in_range n
 kernel_in_range (SchedParams p) = sched.is_in_range p
 
 -- a new object of the kind
 abbrev pub kernel_opening : KParams → KernelObject
 kernel_opening (QueueParams n) = QueueObject (queue.opening_state n)
-kernel_opening (PoolParams n) = PoolObject (pool.opening_state n)
+kernel_opening (PoolParams p) = PoolObject (pool.opening_state p)
 kernel_opening (ConsoleParams n) = ConsoleObject (console.opening_state n)
 kernel_opening (SchedParams p) = SchedObject (sched.opening_state p)
 
@@ -54,6 +54,7 @@ abbrev pub of_pool : PoolReply → KReply
 of_pool Pool.Ok = Ok
 of_pool (Pool.Page p) = Page p
 of_pool Pool.NoPage = NoPage
+of_pool Pool.OverQuota = OverQuota
 of_pool Pool.BadOwner = BadOwner
 of_pool Pool.NotYours = NotYours
 of_pool Pool.NotTaken = NotTaken
@@ -97,6 +98,7 @@ kernel_refusing Absent = true
 kernel_refusing (Count n) = false
 kernel_refusing (Page p) = false
 kernel_refusing NoPage = true
+kernel_refusing OverQuota = true
 kernel_refusing BadOwner = true
 kernel_refusing NotYours = true
 kernel_refusing NotTaken = true

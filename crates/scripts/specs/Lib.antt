@@ -1,3 +1,5 @@
+pub mod Forms
+pub mod Parameters
 pub mod Kernel
 pub mod Ranges
 pub mod Row

@@ -57,6 +57,10 @@ byte n = record { low = 0; high = 255; value = n }
 abbrev pub limit : ℕ → ℕ → Field
 limit high n = record { low = 1; high = high; value = n }
 
+-- a number from 0 to that limit
+abbrev pub up_to : ℕ → ℕ → Field
+up_to high n = record { low = 0; high = high; value = n }
+
 -- neither a line end nor a space is in the word
 abbrev pub IsPlain : List ℕ → Type 0
 IsPlain word = AllByRecursion (λ b. 32 < b) word

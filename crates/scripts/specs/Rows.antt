@@ -1,39 +1,15 @@
--- How parameters, calls and replies are spelled: of each type the rows, a value of each word, and the value of the same word
+-- How calls and replies are spelled: of each type the rows, a value of each word, and the value of the same word
 -- with other numbers.
 use Rattle.std.specs.Prelude.{ℕ, List, [], ◌∷◌, codes}
-use Rattle.shared_queue.specs.declared.queue.TheConstants.{MOST_THREADS}
 use Rattle.shared_queue.specs.declared.call.QueueCall.TheVariants.{Enq, Deq, Remove, Len}
-use Rattle.page_pool.specs.declared.pool.TheConstants.{MOST_PAGES}
 use Rattle.page_pool.specs.declared.call.PoolCall.TheVariants.{Alloc, Free, Left}
-use Rattle.console_ring.specs.declared.console.TheConstants.{MOST_BYTES}
 use Rattle.console_ring.specs.declared.call.ConsoleCall.TheVariants.{Put, Get, Level}
-use Rattle.wake_list.specs.declared.sched.TheConstants.{MOST_THREADS as MOST_SCHEDULED, MOST_CHANNELS}
 use Rattle.wake_list.specs.declared.call.SchedCall.TheVariants.{Ready, Next, Sleep, Wake, WakeAll}
-use Rattle.scripts.specs.declared.kernel_call.KParams.{KParams}
-use Rattle.scripts.specs.declared.kernel_call.KParams.TheVariants as Params
 use Rattle.scripts.specs.declared.kernel_call.KCall.{KCall}
 use Rattle.scripts.specs.declared.kernel_call.KCall.TheVariants.{Queue, Pool, Console, Sched}
 use Rattle.scripts.specs.declared.kernel_call.KReply.{KReply}
-use Rattle.scripts.specs.declared.kernel_call.KReply.TheVariants.{Ok, Already, BadThread, Thread, Empty, Absent, Count, Page, NoPage, BadOwner, NotYours, NotTaken, BadPage, Dropped, Byte, BadChannel, BadCall}
-use Rattle.scripts.specs.Row.{Row, first, others, wide, byte, limit}
-
--- how parameters are spelled
-abbrev pub params_row : KParams → Row
-params_row (Params.Queue t) = record { word = codes "queue"; fields = limit MOST_THREADS t ∷ [] }
-params_row (Params.Pool p) = record { word = codes "pool"; fields = limit MOST_PAGES p ∷ [] }
-params_row (Params.Console b) = record { word = codes "console"; fields = limit MOST_BYTES b ∷ [] }
-params_row (Params.Sched p) = record { word = codes "sched"; fields = limit MOST_SCHEDULED p.threads ∷ limit MOST_CHANNELS p.channels ∷ [] }
-
--- parameters of the same word with these numbers
-abbrev pub params_filled : KParams → List ℕ → KParams
-params_filled (Params.Queue _) ns = Params.Queue (first ns)
-params_filled (Params.Pool _) ns = Params.Pool (first ns)
-params_filled (Params.Console _) ns = Params.Console (first ns)
-params_filled (Params.Sched _) ns = Params.Sched (record { threads = first ns; channels = first (others ns) })
-
--- parameters of each word
-abbrev pub params_samples : List KParams
-params_samples = Params.Queue 0 ∷ Params.Pool 0 ∷ Params.Console 0 ∷ Params.Sched (record { threads = 0; channels = 0 }) ∷ []
+use Rattle.scripts.specs.declared.kernel_call.KReply.TheVariants.{Ok, Already, BadThread, Thread, Empty, Absent, Count, Page, NoPage, OverQuota, BadOwner, NotYours, NotTaken, BadPage, Dropped, Byte, BadChannel, BadCall}
+use Rattle.scripts.specs.Row.{Row, first, others, wide, byte}
 
 -- how a call is spelled
 abbrev pub call_row : KCall → Row
@@ -86,6 +62,7 @@ reply_row Absent = record { word = codes "absent"; fields = [] }
 reply_row (Count n) = record { word = codes "count"; fields = wide n ∷ [] }
 reply_row (Page p) = record { word = codes "page"; fields = wide p ∷ [] }
 reply_row NoPage = record { word = codes "none"; fields = [] }
+reply_row OverQuota = record { word = codes "overquota"; fields = [] }
 reply_row BadOwner = record { word = codes "badowner"; fields = [] }
 reply_row NotYours = record { word = codes "notyours"; fields = [] }
 reply_row NotTaken = record { word = codes "nottaken"; fields = [] }
@@ -106,4 +83,4 @@ reply_filled r ns = r
 
 -- a reply of each word
 abbrev pub reply_samples : List KReply
-reply_samples = Ok ∷ Already ∷ BadThread ∷ Thread 0 ∷ Empty ∷ Absent ∷ Count 0 ∷ Page 0 ∷ NoPage ∷ BadOwner ∷ NotYours ∷ NotTaken ∷ BadPage ∷ Dropped 0 ∷ Byte 0 ∷ BadChannel ∷ BadCall ∷ []
+reply_samples = Ok ∷ Already ∷ BadThread ∷ Thread 0 ∷ Empty ∷ Absent ∷ Count 0 ∷ Page 0 ∷ NoPage ∷ OverQuota ∷ BadOwner ∷ NotYours ∷ NotTaken ∷ BadPage ∷ Dropped 0 ∷ Byte 0 ∷ BadChannel ∷ BadCall ∷ []

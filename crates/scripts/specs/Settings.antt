@@ -3,14 +3,15 @@ use Rattle.std.specs.Prelude.{ℕ, ◌≡◌, ◌≤◌, ◌<◌, ◌&&◌, ◌|
 use Rattle.std.specs.List.{slice_get, list_all, AllByRecursion}
 use Rattle.std.specs.Option.{option_map_or}
 use Rattle.event_log.specs.declared.logged.TheConstants.{MOST_EVENTS}
-use Rattle.word_rule.specs.declared.key.TheConstants.{MOST_CPUS}
 use Rattle.word_rule.specs.declared.lock_kind.LockKind.{LockKind}
 use Rattle.word_rule.specs.declared.lock_kind.LockKind.TheVariants.{Ticket}
 use Rattle.word_rule.specs.declared.machine.TheConstants.{MOST_CELLS}
 use Rattle.scripts.specs.declared.kernel_call.KParams.{KParams}
 use Rattle.scripts.specs.declared.kernel_call.KParams.TheVariants.{Queue}
-use Rattle.scripts.specs.Row.{row_fits}
-use Rattle.scripts.specs.Rows.{params_row}
+use Rattle.scripts.specs.declared.form.Form.{Form}
+use Rattle.scripts.specs.declared.form.Form.TheVariants.{Two}
+use Rattle.scripts.specs.Forms.{most_cpus, TellsParams}
+use Rattle.scripts.specs.Kernel.{kernel_in_range}
 
 -- an object's name, its lock, the most events of its log, and what it is opened with
 pub record ObjectSettings : Type 0 where
@@ -43,18 +44,23 @@ is_name (b ∷ bs) = is_letter b && list_all (λ c. is_letter c || is_digit c) b
 abbrev pub NamesDiffer : Settings → Type 0
 NamesDiffer settings = (i j : ℕ) → i < length settings.objects → j < length settings.objects → name_at settings i ≡ name_at settings j → i ≡ j
 
--- the object is within all limits
-pub record ObjectFits (o : ObjectSettings) : Type 0 where
+-- the object is within all limits, and the form tells its parameters
+pub record ObjectFits (form : Form) (o : ObjectSettings) : Type 0 where
   pub name : is_name o.name ≡ true
   pub events : (1 ≤ o.events) × (o.events ≤ MOST_EVENTS)
-  pub params : row_fits (params_row o.params) ≡ true
+  pub params : kernel_in_range o.params ≡ true
+  pub told : TellsParams form o.params
 
--- settings within all limits
-pub record SettingsFit (s : Settings) : Type 0 where
-  pub cpus : (1 ≤ s.cpus) × (s.cpus ≤ MOST_CPUS)
+-- settings within all limits of the form
+pub record SettingsFitIn (form : Form) (s : Settings) : Type 0 where
+  pub cpus : (1 ≤ s.cpus) × (s.cpus ≤ most_cpus form)
   pub count : (1 ≤ length s.objects) × (length s.objects ≤ MOST_CELLS)
-  pub each : AllByRecursion ObjectFits s.objects
+  pub each : AllByRecursion (ObjectFits form) s.objects
   pub names : NamesDiffer s
+
+-- settings within all limits: those of record 2, which tells all
+abbrev pub SettingsFit : Settings → Type 0
+SettingsFit s = SettingsFitIn Two s
 
 -- two CPUs, and one queue of 8 threads behind a ticket lock, with at most 100 events
 abbrev pub built_in_settings : Settings

@@ -1,5 +1,5 @@
 -- Which settings a TOML text spells, and the first fault of one that spells none.
-use Rattle.std.specs.Prelude.{◌≡◌, ℕ, pos, nat_abs, int_le, suc, ◌+◌, ◌&&◌, nat_le, if◌then◌else◌, Bool, true, List, [], ◌∷◌, ◌++◌, length, Option, None, Result, Ok, Err, codes, IsUtf8}
+use Rattle.std.specs.Prelude.{◌≡◌, ℕ, pos, nat_abs, int_le, suc, false, ◌+◌, ◌&&◌, ◌==◌, nat_le, replicate, if◌then◌else◌, Bool, true, List, [], ◌∷◌, ◌++◌, length, Option, None, Result, Ok, Err, codes, IsUtf8}
 use Rattle.std.specs.List.{list_any}
 use Rattle.std.specs.Option.{option_map_or}
 use Rattle.std.specs.Str.{bytes_eq}
@@ -7,7 +7,7 @@ use Rattle.toml.specs.Parse.{parse_document}
 use Rattle.toml.specs.Data.{Data, Items, no_items, item, Members, no_members, member, get_member, as_str, as_integer, as_array, as_table}
 use Rattle.event_log.specs.declared.logged.TheConstants.{MOST_EVENTS}
 use Rattle.shared_queue.specs.declared.queue.TheConstants.{MOST_THREADS}
-use Rattle.page_pool.specs.declared.pool.TheConstants.{MOST_PAGES}
+use Rattle.page_pool.specs.declared.params.TheConstants.{MOST_PAGES, OWNERS}
 use Rattle.console_ring.specs.declared.console.TheConstants.{MOST_BYTES}
 use Rattle.wake_list.specs.declared.sched.TheConstants.{MOST_THREADS as MOST_SCHEDULED, MOST_CHANNELS}
 use Rattle.word_rule.specs.declared.key.TheConstants.{MOST_CPUS}
@@ -26,8 +26,9 @@ use Rattle.scripts.specs.declared.settings_fault.Place.TheVariants.{Top, Object}
 use Rattle.scripts.specs.declared.settings_fault.SettingsKey.{SettingsKey}
 use Rattle.scripts.specs.declared.settings_fault.SettingsKey.TheVariants as Key
 use Rattle.scripts.specs.Answers.{◌>>=◌}
-use Rattle.scripts.specs.Row.{sample_at}
-use Rattle.scripts.specs.Rows.{params_row, params_samples}
+use Rattle.scripts.specs.declared.kind.Kind.{Kind}
+use Rattle.scripts.specs.declared.kind.Kind.TheVariants as Kind
+use Rattle.scripts.specs.Parameters.{kind_of}
 use Rattle.scripts.specs.Settings.{Settings, ObjectSettings, is_name}
 
 -- ---- values
@@ -41,8 +42,8 @@ unfoldable pub name_from : List ObjectSettings → Data → Result (List ℕ) Ca
 name_from earlier d = option_map_or (λ s. if is_name s then (if list_any (λ o. bytes_eq o.name s) earlier then Err Repeated else Ok s) else Err BadWord) (as_str d) (Err WrongType)
 
 -- the kind of an object, as parameters whose numbers are 0
-unfoldable pub kind_from : Data → Result KParams Cause
-kind_from d = option_map_or (λ s. option_map_or Ok (sample_at params_row params_samples s) (Err BadWord)) (as_str d) (Err WrongType)
+unfoldable pub kind_from : Data → Result Kind Cause
+kind_from d = option_map_or (λ s. option_map_or Ok (kind_of s) (Err BadWord)) (as_str d) (Err WrongType)
 
 -- the kind of a lock
 unfoldable pub lock_from : Data → Result LockKind Cause
@@ -56,6 +57,27 @@ count_items (item d ds) = suc (count_items ds)
 -- 1 to 16 items
 unfoldable pub items_from : Data → Result Items Cause
 items_from d = option_map_or (λ ds. if nat_le 1 (count_items ds) && nat_le (count_items ds) MOST_CELLS then Ok ds else Err OutOfRange) (as_array d) (Err WrongType)
+
+-- each item is an integer
+unfoldable pub are_integers : Items → Bool
+are_integers no_items = true
+are_integers (item d ds) = option_map_or (λ z. true) (as_integer d) false && are_integers ds
+
+-- a quota: a whole number from 0 to the most pages
+unfoldable pub quota_from : Data → Result ℕ Cause
+quota_from d = option_map_or (λ z. if int_le (pos 0) z && int_le z (pos MOST_PAGES) then Ok (nat_abs z) else Err OutOfRange) (as_integer d) (Err WrongType)
+
+-- a quota of each item
+unfoldable pub each_quota : Items → Result (List ℕ) Cause
+each_quota no_items = Ok []
+each_quota (item d ds) = do
+  quota ← quota_from d
+  more ← each_quota ds
+  Ok (quota ∷ more)
+
+-- a quota for each of the 16 owners
+unfoldable pub quotas_from : Data → Result (List ℕ) Cause
+quotas_from d = option_map_or (λ ds. if are_integers ds then (if count_items ds == OWNERS then each_quota ds else Err OutOfRange) else Err WrongType) (as_array d) (Err WrongType)
 
 -- ---- keys
 
@@ -71,6 +93,7 @@ key_word Key.Events = codes "events"
 key_word Key.Threads = codes "threads"
 key_word Key.Channels = codes "channels"
 key_word Key.Pages = codes "pages"
+key_word Key.Quotas = codes "quotas"
 key_word Key.Bytes = codes "bytes"
 key_word Key.Other = codes "other"
 
@@ -87,6 +110,10 @@ find_key place key ms = at_key place key (option_map_or Ok (get_member (key_word
 unfoldable pub key_in : {X : Type 0} → Place → SettingsKey → (Data → Result X Cause) → Members → Result X BadSettings
 key_in place key read ms = find_key place key ms >>= λ d. at_key place key (read d)
 
+-- the value of the key, read so, or another value where there is no such key
+unfoldable pub key_or : {X : Type 0} → Place → SettingsKey → (Data → Result X Cause) → X → Members → Result X BadSettings
+key_or place key read other ms = option_map_or (λ d. at_key place key (read d)) (get_member (key_word key) ms) (Ok other)
+
 -- each key is one of these
 unfoldable pub has_only : List SettingsKey → Members → Bool
 has_only keys no_members = true
@@ -99,27 +126,28 @@ unknown_key place = record { place = place; key = Key.Other; cause = Unknown }
 -- ---- objects
 
 -- the parameters of that kind
-unfoldable pub params_in : Place → KParams → Members → Result KParams BadSettings
-params_in place (Queue _) ms = do
+unfoldable pub params_in : Place → Kind → Members → Result KParams BadSettings
+params_in place Kind.Queue ms = do
   threads ← key_in place Key.Threads (number_from MOST_THREADS) ms
   Ok (Queue threads)
-params_in place (Pool _) ms = do
+params_in place Kind.Pool ms = do
   pages ← key_in place Key.Pages (number_from MOST_PAGES) ms
-  Ok (Pool pages)
-params_in place (Console _) ms = do
+  quotas ← key_or place Key.Quotas quotas_from (replicate OWNERS pages) ms
+  Ok (Pool (record { pages = pages; quotas = quotas }))
+params_in place Kind.Console ms = do
   bytes ← key_in place Key.Bytes (number_from MOST_BYTES) ms
   Ok (Console bytes)
-params_in place (Sched _) ms = do
+params_in place Kind.Sched ms = do
   threads ← key_in place Key.Threads (number_from MOST_SCHEDULED) ms
   channels ← key_in place Key.Channels (number_from MOST_CHANNELS) ms
   Ok (Sched (record { threads = threads; channels = channels }))
 
 -- the keys of every object, and those of its kind
-abbrev pub keys_of : KParams → List SettingsKey
-keys_of (Queue _) = Key.Name ∷ Key.Kind ∷ Key.Lock ∷ Key.Events ∷ Key.Threads ∷ []
-keys_of (Pool _) = Key.Name ∷ Key.Kind ∷ Key.Lock ∷ Key.Events ∷ Key.Pages ∷ []
-keys_of (Console _) = Key.Name ∷ Key.Kind ∷ Key.Lock ∷ Key.Events ∷ Key.Bytes ∷ []
-keys_of (Sched _) = Key.Name ∷ Key.Kind ∷ Key.Lock ∷ Key.Events ∷ Key.Threads ∷ Key.Channels ∷ []
+abbrev pub keys_of : Kind → List SettingsKey
+keys_of Kind.Queue = Key.Name ∷ Key.Kind ∷ Key.Lock ∷ Key.Events ∷ Key.Threads ∷ []
+keys_of Kind.Pool = Key.Name ∷ Key.Kind ∷ Key.Lock ∷ Key.Events ∷ Key.Pages ∷ Key.Quotas ∷ []
+keys_of Kind.Console = Key.Name ∷ Key.Kind ∷ Key.Lock ∷ Key.Events ∷ Key.Bytes ∷ []
+keys_of Kind.Sched = Key.Name ∷ Key.Kind ∷ Key.Lock ∷ Key.Events ∷ Key.Threads ∷ Key.Channels ∷ []
 
 -- an object's table, behind earlier objects
 unfoldable pub object_in : Place → List ObjectSettings → Members → Result ObjectSettings BadSettings

@@ -1,7 +1,7 @@
 //! A number of a spelling.
 
 ghost use Rattle.std.specs.Prelude.{◌≡◌};
-ghost use Rattle.scripts.specs.Row.{wide, byte, limit};
+ghost use Rattle.scripts.specs.Row.{wide, byte, limit, up_to};
 
 /// The range of a number, and the number.
 #[derive(Clone, Copy, Debug, Default, PartialEq, Eq, Drop)]
@@ -31,6 +31,17 @@ impl Field {
             low: 0,
             high: 255,
             value: value as u32,
+        }
+    }
+
+    /// A number from 0 to that limit.
+    pub fn up_to(high: u32, value: u32) -> Field
+        ensures { result ≡ up_to high value }
+    {
+        Field {
+            low: 0,
+            high,
+            value,
         }
     }
 

@@ -4,7 +4,7 @@ ghost use Rattle.std.specs.Prelude.{◌≡◌};
 ghost use Rattle.scripts.specs.Kernel.{of_queue, of_pool, of_console, of_sched};
 
 use console_ring::{ConsoleCall, ConsoleReply};
-use page_pool::{PoolCall, PoolReply};
+use page_pool::{PoolCall, PoolParams, PoolReply};
 use shared_queue::{QueueCall, QueueReply};
 use wake_list::{SchedCall, SchedParams, SchedReply};
 
@@ -13,8 +13,8 @@ use wake_list::{SchedCall, SchedParams, SchedReply};
 pub enum KParams {
     /// The number of threads.
     Queue(u32),
-    /// The number of pages.
-    Pool(u32),
+    /// The number of pages, and the quota of each owner.
+    Pool(PoolParams),
     /// The number of bytes.
     Console(u32),
     Sched(SchedParams),
@@ -48,6 +48,7 @@ pub enum KReply {
     Count(u32),
     Page(u32),
     NoPage,
+    OverQuota,
     BadOwner,
     NotYours,
     NotTaken,
@@ -83,6 +84,7 @@ impl KReply {
             PoolReply::Ok => KReply::Ok,
             PoolReply::Page(page) => KReply::Page(page),
             PoolReply::NoPage => KReply::NoPage,
+            PoolReply::OverQuota => KReply::OverQuota,
             PoolReply::BadOwner => KReply::BadOwner,
             PoolReply::NotYours => KReply::NotYours,
             PoolReply::NotTaken => KReply::NotTaken,

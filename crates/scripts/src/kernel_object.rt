@@ -54,7 +54,7 @@ impl SeqObject for KernelObject {
     fn open(alloc: Global, params: &KParams) -> Result<KernelObject, OpenFault> {
         Ok(match params {
             KParams::Queue(threads) => KernelObject::Queue(ThreadQueue::open(alloc, threads)?),
-            KParams::Pool(pages) => KernelObject::Pool(PagePool::open(alloc, pages)?),
+            KParams::Pool(params) => KernelObject::Pool(PagePool::open(alloc, params)?),
             KParams::Console(bytes) => KernelObject::Console(Console::open(alloc, bytes)?),
             KParams::Sched(params) => KernelObject::Sched(Sched::open(alloc, params)?),
         })
@@ -81,6 +81,7 @@ impl SeqObject for KernelObject {
             | KReply::Empty
             | KReply::Absent
             | KReply::NoPage
+            | KReply::OverQuota
             | KReply::BadOwner
             | KReply::NotYours
             | KReply::NotTaken

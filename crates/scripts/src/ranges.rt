@@ -8,7 +8,6 @@ ghost use Rattle.event_log.specs.Log.{Legal};
 ghost use Rattle.scripts.specs.KernelTypes.{KernelRun};
 ghost use Rattle.scripts.specs.RecordRanges.{RunFits};
 ghost use Rattle.scripts.specs.Row.{row_fits, spelled};
-ghost use Rattle.scripts.specs.Rows.{params_row};
 ghost use Rattle.scripts.specs.Runs.{opened_of, TranscriptAsks};
 ghost use Rattle.scripts.specs.Settings.{Settings, SettingsFit};
 ghost use Rattle.scripts.specs.Kernel.{kernel_in_range};
@@ -38,11 +37,6 @@ pub fn spelled_once<T: Spelled>()
     ensures { (x y : T) (a b : List (List ℕ)) → row_fits (T.row_of x) ≡ true → row_fits (T.row_of y) ≡ true → spelled (T.row_of x) ++ a ≡ spelled (T.row_of y) ++ b → (x ≡ y) × (a ≡ b) }
 {}
 
-/// A law of parameters, without effect: each of their numbers is in its range exactly where an object can be opened with them.
-pub fn parameters_fit()
-    ensures { (p : KParams) → row_fits (params_row p) ≡ kernel_in_range p }
-{}
-
 /// A law of all objects of the kernel, without effect: a legal log whose calls are in range has replies in range.
 pub fn replies_fit()
     ensures { (p : KParams) (log : List (Event KernelObject KParams KCall KReply)) → kernel_in_range p ≡ true → Legal ⟦<KernelObject as SeqObject>⟧ p log → log_asks call_fits log ≡ true → log_answers reply_fits log ≡ true }
@@ -58,6 +52,5 @@ pub fn replies_fit()
 pub fn sound_runs_fit()
     ensures { (settings : Settings) (run : KernelRun) → SettingsFit settings → Sound ⟦<KernelObject as SeqObject>⟧ (opened_of settings) run → length run.transcripts ≡ settings.cpus → AllByRecursion (TranscriptAsks (length settings.objects)) run.transcripts → RunFits settings run }
 {
-    parameters_fit();
     replies_fit();
 }

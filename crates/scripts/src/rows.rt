@@ -1,90 +1,13 @@
-//! The tables of parameters, calls and replies.
+//! The tables of calls and replies.
 
-use crate::read::{byte, limited, wide};
+use crate::read::{byte, wide};
 use crate::spelled::{first, second};
 use crate::words::{Words, word};
-use crate::{Field, KCall, KParams, KReply, Spelled, Spelling};
-use console_ring::{ConsoleCall, MOST_BYTES};
-use page_pool::{MOST_PAGES, PoolCall};
-use shared_queue::{MOST_THREADS, QueueCall};
-use wake_list::{MOST_CHANNELS, SchedCall, SchedParams};
-
-impl Spelled for KParams {
-    ghost use Rattle.scripts.specs.Rows.{params_row, params_samples, params_filled};
-    ghost use Rattle.scripts.specs.Tables.{params_table};
-
-    ghost row_of = { params_row };
-
-    ghost table = { params_samples };
-
-    ghost filled = { params_filled };
-
-    ghost right = { params_table };
-
-    #[inline(always)]
-    fn spelling(&self) -> Spelling {
-        match *self {
-            KParams::Queue(threads) => Spelling::one(b"queue", Field::limit(MOST_THREADS, threads)),
-            KParams::Pool(pages) => Spelling::one(b"pool", Field::limit(MOST_PAGES, pages)),
-            KParams::Console(bytes) => Spelling::one(b"console", Field::limit(MOST_BYTES, bytes)),
-            KParams::Sched(params) => Spelling::two(
-                b"sched",
-                Field::limit(wake_list::MOST_THREADS, params.threads),
-                Field::limit(MOST_CHANNELS, params.channels),
-            ),
-        }
-    }
-
-    fn samples() -> &'static [KParams] {
-        &[
-            KParams::Queue(0),
-            KParams::Pool(0),
-            KParams::Console(0),
-            KParams::Sched(SchedParams {
-                threads: 0,
-                channels: 0,
-            }),
-        ]
-    }
-
-    #[inline(always)]
-    fn glance(at: Words<'_>) -> Option<(KParams, Words<'_>)> {
-        let (word, rest) = word(at)?;
-        match word {
-            b"queue" => {
-                let (number, rest) = limited(MOST_THREADS, rest)?;
-                Some((KParams::Queue(number), rest))
-            }
-            b"pool" => {
-                let (number, rest) = limited(MOST_PAGES, rest)?;
-                Some((KParams::Pool(number), rest))
-            }
-            b"console" => {
-                let (number, rest) = limited(MOST_BYTES, rest)?;
-                Some((KParams::Console(number), rest))
-            }
-            b"sched" => {
-                let (threads, rest) = limited(wake_list::MOST_THREADS, rest)?;
-                let (channels, rest) = limited(MOST_CHANNELS, rest)?;
-                Some((KParams::Sched(SchedParams { threads, channels }), rest))
-            }
-            _ => None,
-        }
-    }
-
-    #[inline(always)]
-    fn fill(&self, numbers: &[u32]) -> KParams {
-        match *self {
-            KParams::Queue(_) => KParams::Queue(first(numbers)),
-            KParams::Pool(_) => KParams::Pool(first(numbers)),
-            KParams::Console(_) => KParams::Console(first(numbers)),
-            KParams::Sched(_) => KParams::Sched(SchedParams {
-                threads: first(numbers),
-                channels: second(numbers),
-            }),
-        }
-    }
-}
+use crate::{Field, KCall, KReply, Spelled, Spelling};
+use console_ring::ConsoleCall;
+use page_pool::PoolCall;
+use shared_queue::QueueCall;
+use wake_list::SchedCall;
 
 impl Spelled for KCall {
     ghost use Rattle.scripts.specs.Rows.{call_row, call_samples, call_filled};
@@ -262,6 +185,7 @@ impl Spelled for KReply {
             KReply::Count(count) => Spelling::one(b"count", Field::wide(count)),
             KReply::Page(page) => Spelling::one(b"page", Field::wide(page)),
             KReply::NoPage => Spelling::word(b"none"),
+            KReply::OverQuota => Spelling::word(b"overquota"),
             KReply::BadOwner => Spelling::word(b"badowner"),
             KReply::NotYours => Spelling::word(b"notyours"),
             KReply::NotTaken => Spelling::word(b"nottaken"),
@@ -284,6 +208,7 @@ impl Spelled for KReply {
             KReply::Count(0),
             KReply::Page(0),
             KReply::NoPage,
+            KReply::OverQuota,
             KReply::BadOwner,
             KReply::NotYours,
             KReply::NotTaken,
@@ -317,6 +242,7 @@ impl Spelled for KReply {
                 Some((KReply::Page(number), rest))
             }
             b"none" => Some((KReply::NoPage, rest)),
+            b"overquota" => Some((KReply::OverQuota, rest)),
             b"badowner" => Some((KReply::BadOwner, rest)),
             b"notyours" => Some((KReply::NotYours, rest)),
             b"nottaken" => Some((KReply::NotTaken, rest)),

@@ -27,6 +27,7 @@ pub enum SettingsKey {
     Threads,
     Channels,
     Pages,
+    Quotas,
     Bytes,
     /// A key that isn't of this place.
     Other,
@@ -86,6 +87,7 @@ impl SettingsKey {
             SettingsKey::Threads => "threads",
             SettingsKey::Channels => "channels",
             SettingsKey::Pages => "pages",
+            SettingsKey::Quotas => "quotas",
             SettingsKey::Bytes => "bytes",
             SettingsKey::Other => "other",
         }

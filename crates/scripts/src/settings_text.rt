@@ -1,24 +1,23 @@
 //! Reading settings, a TOML text.
 
-ghost use Rattle.std.specs.Prelude.{◌≡◌, ◌≤◌, ◌∷◌, [], map, length, None, if◌then◌else◌, IsUtf8, IfOk, IfErr};
+ghost use Rattle.std.specs.Prelude.{◌≡◌, ◌≤◌, ◌∷◌, [], map, length, replicate, None, if◌then◌else◌, IsUtf8, IfOk, IfErr};
 ghost use Rattle.toml.specs.Parse.{parse_document};
 ghost use Rattle.toml.specs.View.{view, table_view, items_view};
 ghost use Rattle.scripts.specs.Settings.{SettingsFit};
 ghost use Rattle.std.specs.List.{list_any};
 ghost use Rattle.std.specs.Str.{bytes_eq};
 ghost use Rattle.scripts.specs.Answers.{ok_map};
-ghost use Rattle.scripts.specs.SettingsText.{key_word, Settles, SpellsSettings, NamesFirstFault, key_in, at_key, find_key, number_from, name_from, kind_from, lock_from, items_from, has_only, keys_of, params_in, object_in, object_from, objects_from, settings_in, settings_of, unknown_key};
+ghost use Rattle.scripts.specs.SettingsText.{key_word, Settles, SpellsSettings, NamesFirstFault, key_in, key_or, at_key, find_key, number_from, are_integers, quota_from, each_quota, quotas_from, name_from, kind_from, lock_from, items_from, has_only, keys_of, params_in, object_in, object_from, objects_from, settings_in, settings_of, unknown_key};
 
 use crate::name::name_of;
 use crate::named::is_taken;
-use crate::read::sample;
 use crate::{
-    BadSettings, Cause, KParams, ObjectSettings, Place, Settings, SettingsFault, SettingsKey,
+    BadSettings, Cause, KParams, Kind, ObjectSettings, Place, Settings, SettingsFault, SettingsKey,
 };
 use arrayvec::ArrayString;
 use console_ring::MOST_BYTES;
 use event_log::{MOST_EVENTS, Series};
-use page_pool::MOST_PAGES;
+use page_pool::{MOST_PAGES, OWNERS, PoolParams};
 use shared_queue::MOST_THREADS;
 use std::alloc::Global;
 use toml::{Table, Value};
@@ -101,15 +100,15 @@ fn name(value: &Value, earlier: &[ObjectSettings]) -> Result<ArrayString<16>, Ca
     Ok(name)
 }
 
-/// The kind of an object, as parameters whose numbers are 0.
+/// The kind of an object.
 #[tactic(auto, unfolding(crate::specs::SettingsText::kind_from))]
-fn kind(value: &Value) -> Result<KParams, Cause>
+fn kind(value: &Value) -> Result<Kind, Cause>
     ensures { result ≡ kind_from (view value.now) }
 {
     let Some(word) = value.as_str() else {
         return Err(Cause::WrongType);
     };
-    match sample::<KParams>(word.as_bytes()) {
+    match Kind::of_word(word.as_bytes()) {
         Some(kind) => Ok(kind),
         None => Err(Cause::BadWord),
     }
@@ -127,6 +126,69 @@ fn lock(value: &Value) -> Result<LockKind, Cause>
         b"ticket" => Ok(LockKind::Ticket),
         b"mcs" => Ok(LockKind::Mcs),
         _ => Err(Cause::BadWord),
+    }
+}
+
+/// Whether each value is an integer.
+fn are_integers(values: &[Value]) -> bool
+    ensures { result ≡ are_integers (items_view values.now) }
+{
+    values.iter().all(|value| value.as_integer().is_some())
+}
+
+/// A quota.
+#[tactic(auto, unfolding(crate::specs::SettingsText::quota_from))]
+fn quota(value: &Value) -> Result<u32, Cause>
+    ensures { result ≡ quota_from (view value.now) }
+{
+    let Some(number) = value.as_integer() else {
+        return Err(Cause::WrongType);
+    };
+    if 0 <= number && number <= i64::from(MOST_PAGES) {
+        Ok(number as u32)
+    } else {
+        Err(Cause::OutOfRange)
+    }
+}
+
+/// A quota of each value.
+fn each_quota(values: &[Value]) -> Result<[u32; OWNERS], Cause>
+    requires { length values.now ≡ OWNERS }
+    ensures { result ≡ each_quota (items_view values.now) }
+{
+    let mut quotas = [0; OWNERS];
+    for owner in 0..OWNERS {
+        quotas[owner] = quota(&values[owner])?;
+    }
+    Ok(quotas)
+}
+
+/// A quota for each owner.
+#[tactic(auto, using(crate::proofs::SettingsTables::items_counted), unfolding(crate::specs::SettingsText::quotas_from))]
+fn quotas(value: &Value) -> Result<[u32; OWNERS], Cause>
+    ensures { result ≡ quotas_from (view value.now) }
+{
+    let Some(array) = value.as_array() else {
+        return Err(Cause::WrongType);
+    };
+    let values = array.as_slice();
+    if !are_integers(values) {
+        return Err(Cause::WrongType);
+    }
+    if values.len() != OWNERS {
+        return Err(Cause::OutOfRange);
+    }
+    each_quota(values)
+}
+
+/// The quotas of a pool of so many pages: as many for each owner, where the table has none.
+#[tactic(auto, unfolding(crate::specs::SettingsText::key_or, crate::specs::SettingsText::at_key))]
+fn quotas_of(table: &Table, place: Place, pages: u32) -> Result<[u32; OWNERS], BadSettings>
+    ensures { result ≡ key_or place SettingsKey.Quotas quotas_from (replicate OWNERS pages) (table_view table.now) }
+{
+    match table.get(SettingsKey::Quotas.word()) {
+        Some(value) => at(place, SettingsKey::Quotas, quotas(value)),
+        None => Ok([pages; OWNERS]),
     }
 }
 
@@ -150,32 +212,33 @@ fn has_only(table: &Table, keys: &[SettingsKey]) -> bool
 }
 
 /// The keys of every object, and those of its kind.
-fn keys_of(kind: &KParams) -> &'static [SettingsKey]
-    ensures { result.now ≡ keys_of kind.now }
+fn keys_of(kind: Kind) -> &'static [SettingsKey]
+    ensures { result.now ≡ keys_of kind }
 {
     match kind {
-        KParams::Queue(_) => &[
+        Kind::Queue => &[
             SettingsKey::Name,
             SettingsKey::Kind,
             SettingsKey::Lock,
             SettingsKey::Events,
             SettingsKey::Threads,
         ],
-        KParams::Pool(_) => &[
+        Kind::Pool => &[
             SettingsKey::Name,
             SettingsKey::Kind,
             SettingsKey::Lock,
             SettingsKey::Events,
             SettingsKey::Pages,
+            SettingsKey::Quotas,
         ],
-        KParams::Console(_) => &[
+        Kind::Console => &[
             SettingsKey::Name,
             SettingsKey::Kind,
             SettingsKey::Lock,
             SettingsKey::Events,
             SettingsKey::Bytes,
         ],
-        KParams::Sched(_) => &[
+        Kind::Sched => &[
             SettingsKey::Name,
             SettingsKey::Kind,
             SettingsKey::Lock,
@@ -188,23 +251,24 @@ fn keys_of(kind: &KParams) -> &'static [SettingsKey]
 
 /// The parameters of that kind.
 #[tactic(auto, unfolding(crate::specs::SettingsText::params_in))]
-fn params(table: &Table, place: Place, kind: &KParams) -> Result<KParams, BadSettings>
-    ensures { result ≡ params_in place kind.now (table_view table.now) }
+fn params(table: &Table, place: Place, kind: Kind) -> Result<KParams, BadSettings>
+    ensures { result ≡ params_in place kind (table_view table.now) }
 {
     match kind {
-        KParams::Queue(_) => {
+        Kind::Queue => {
             let threads = number_of(table, place, SettingsKey::Threads, MOST_THREADS)?;
             Ok(KParams::Queue(threads))
         }
-        KParams::Pool(_) => {
+        Kind::Pool => {
             let pages = number_of(table, place, SettingsKey::Pages, MOST_PAGES)?;
-            Ok(KParams::Pool(pages))
+            let quotas = quotas_of(table, place, pages)?;
+            Ok(KParams::Pool(PoolParams { pages, quotas }))
         }
-        KParams::Console(_) => {
+        Kind::Console => {
             let bytes = number_of(table, place, SettingsKey::Bytes, MOST_BYTES)?;
             Ok(KParams::Console(bytes))
         }
-        KParams::Sched(_) => {
+        Kind::Sched => {
             let threads = number_of(table, place, SettingsKey::Threads, MOST_SCHEDULED)?;
             let channels = number_of(table, place, SettingsKey::Channels, MOST_CHANNELS)?;
             Ok(KParams::Sched(SchedParams { threads, channels }))
@@ -227,7 +291,7 @@ fn name_of_object(
 
 /// The kind of the object.
 #[tactic(auto, unfolding(crate::specs::SettingsText::key_in))]
-fn kind_of_object(table: &Table, place: Place) -> Result<KParams, BadSettings>
+fn kind_of_object(table: &Table, place: Place) -> Result<Kind, BadSettings>
     ensures { result ≡ key_in place SettingsKey.Kind kind_from (table_view table.now) }
 {
     let value = find(table, place, SettingsKey::Kind)?;
@@ -271,8 +335,8 @@ fn object_of(
     let kind = kind_of_object(table, place)?;
     let lock = lock_of_object(table, place)?;
     let events = number_of(table, place, SettingsKey::Events, MOST_EVENTS)?;
-    let params = params(table, place, &kind)?;
-    refuse_others(table, place, keys_of(&kind))?;
+    let params = params(table, place, kind)?;
+    refuse_others(table, place, keys_of(kind))?;
     Ok(ObjectSettings::new(name, lock, events, params))
 }
 
