@@ -24,3 +24,4 @@ pub mod RecordPieces
 pub mod RecordFaults
 pub mod RecordSources
 pub mod Runs
+pub mod Unlimited

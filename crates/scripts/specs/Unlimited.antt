@@ -1,0 +1,26 @@
+-- What records were judged by before owners of pages had quotas.
+use Rattle.event_log.specs.declared.object.SeqObject.{Ghosts}
+use Rattle.page_pool.specs.Unlimited.{unlimited_answer}
+use Rattle.word_rule.specs.Sound.{Sound}
+use Rattle.scripts.specs.declared.kernel_call.KParams.{KParams}
+use Rattle.scripts.specs.declared.kernel_call.KCall.{KCall}
+use Rattle.scripts.specs.declared.kernel_call.KCall.TheVariants.{Pool as PoolCalled}
+use Rattle.scripts.specs.declared.kernel_call.KReply.{KReply}
+use Rattle.scripts.specs.declared.kernel_object.KernelObject.{KernelObject}
+use Rattle.scripts.specs.declared.kernel_object.KernelObject.TheVariants.{Pool as PoolObject}
+use Rattle.scripts.specs.Kernel.{kernel_answer, of_pool}
+use Rattle.scripts.specs.RecordRanges.{Record}
+use Rattle.scripts.specs.Runs.{opened_of}
+
+-- what the kind answered, where pools had no quotas
+abbrev pub unlimited_kernel_answer : KernelObject → KCall → KernelObject × KReply
+unlimited_kernel_answer (PoolObject s) (PoolCalled c) = (PoolObject (unlimited_answer s c).0, of_pool (unlimited_answer s c).1)
+unlimited_kernel_answer o c = kernel_answer o c
+
+-- the meaning of the kernel's objects, with these answers
+abbrev pub without_quotas : Ghosts KernelObject KParams KCall KReply → Ghosts KernelObject KParams KCall KReply
+without_quotas meaning = record meaning { answer = unlimited_kernel_answer }
+
+-- the record was sound by the definitions from before quotas
+abbrev pub WasSound : Ghosts KernelObject KParams KCall KReply → Record → Type 0
+WasSound meaning r = Sound (without_quotas meaning) (opened_of r.settings) r.run
