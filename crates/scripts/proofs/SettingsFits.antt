@@ -10,6 +10,8 @@ use Rattle.toml.specs.Data.{Data, Items, no_items, item, Members, as_integer, as
 use Rattle.word_rule.specs.declared.key.TheConstants.{MOST_CPUS}
 use Rattle.word_rule.specs.declared.machine.TheConstants.{MOST_CELLS}
 use Rattle.event_log.specs.declared.logged.TheConstants.{MOST_EVENTS}
+use Rattle.scripts.specs.declared.form.Form.{Form}
+use Rattle.scripts.specs.declared.form.Form.TheVariants.{Two}
 use Rattle.scripts.specs.declared.kernel_call.KParams.{KParams}
 use Rattle.scripts.specs.declared.kernel_call.KParams.TheVariants.{Queue, Pool, Console, Sched}
 use Rattle.scripts.specs.declared.settings_fault.Cause.{Cause}
@@ -122,11 +124,11 @@ params_ok place (Sched x) ms p e =
 
 -- ---- objects
 
--- an object within its limits, and of a new name
-abbrev pub Joins : List ObjectSettings → ObjectSettings → Type 0
-Joins earlier o = ObjectFits o × (list_any (λ x. bytes_eq x.name o.name) earlier ≡ false)
+-- an object within the limits of the form, and of a new name
+abbrev pub Joins : Form → List ObjectSettings → ObjectSettings → Type 0
+Joins form earlier o = ObjectFits form o × (list_any (λ x. bytes_eq x.name o.name) earlier ≡ false)
 
-object_in_ok : (place : Place) (earlier : List ObjectSettings) (ms : Members) (o : ObjectSettings) → object_in place earlier ms ≡ Ok o → Joins earlier o
+object_in_ok : (place : Place) (earlier : List ObjectSettings) (ms : Members) (o : ObjectSettings) → object_in place earlier ms ≡ Ok o → Joins Two earlier o
 unfolding object_in
 object_in_ok place earlier ms o e =
     let name = bind_ok (key_in place Key.Name (name_from earlier) ms) _ o e in
@@ -138,9 +140,9 @@ object_in_ok place earlier ms o e =
     let same : record { name = name.0; lock = lock.0; events = events.0; params = params.0 } ≡ o = cc in
     let read = key_ok place Key.Name (name_from earlier) ms name.0 name.1 in
     let named = name_ok earlier read.0 name.0 read.1 in
-    subst (Joins earlier) same (record { name = named.0; events = number_in place Key.Events MOST_EVENTS ms events.0 events.1; params = params_ok place kind.0 ms params.0 params.1 }, named.1)
+    subst (Joins Two earlier) same (record { name = named.0; events = number_in place Key.Events MOST_EVENTS ms events.0 events.1; params = params_ok place kind.0 ms params.0 params.1; told = tt }, named.1)
 
-object_ok : (earlier : List ObjectSettings) (d : Data) (o : ObjectSettings) → object_from earlier d ≡ Ok o → Joins earlier o
+object_ok : (earlier : List ObjectSettings) (d : Data) (o : ObjectSettings) → object_from earlier d ≡ Ok o → Joins Two earlier o
 unfolding object_from
 object_ok earlier d o e = let there = map_or_ok (as_table d) _ _ o e in object_in_ok (Object (length earlier + 1)) earlier there.0 o there.2
 
@@ -191,7 +193,7 @@ differ_more os o differ fresh i j li lj same =
 -- the objects, as many as items
 pub record AreObjects (count : ℕ) (os : List ObjectSettings) : Type 0 where
   pub count_is : length os ≡ count
-  pub each : AllByRecursion ObjectFits os
+  pub each : AllByRecursion (ObjectFits Two) os
   pub names : Differ os
 
 objects_ok : (ds : Items) (earlier os : List ObjectSettings) (n : ℕ) → AreObjects n earlier → objects_from earlier ds ≡ Ok os → AreObjects (n + count_items ds) os
@@ -202,7 +204,7 @@ objects_ok no_items earlier os n are e =
 objects_ok (item d ds) earlier os n are e =
     let there = bind_ok (object_from earlier d) _ os e in
     let joins = object_ok earlier d there.0 there.1 in
-    let more : AreObjects (n + 1) (earlier ++ there.0 ∷ []) = record { count_is = omega (arith, length-append earlier (there.0 ∷ []), are.count_is); each = all_push ObjectFits earlier there.0 are.each joins.0; names = differ_more earlier there.0 are.names joins.1 } in
+    let more : AreObjects (n + 1) (earlier ++ there.0 ∷ []) = record { count_is = omega (arith, length-append earlier (there.0 ∷ []), are.count_is); each = all_push (ObjectFits Two) earlier there.0 are.each joins.0; names = differ_more earlier there.0 are.names joins.1 } in
     let all = objects_ok ds (earlier ++ there.0 ∷ []) os (n + 1) more there.2 in
     subst (λ m. AreObjects m os) (omega arith) all
 
