@@ -1,13 +1,14 @@
 //! Settings that are read, and each fault of those that are not.
 
+use page_pool::PoolParams;
 use scripts::{BadSettings, KParams, ObjectSettings, Settings, SettingsFault};
 use std::test::Fail;
 use wake_list::SchedParams;
 use word_rule::LockKind;
 
-/// Settings of an object of each kind.
+/// Settings of an object of each kind, and of a pool with quotas.
 const ALL: &str = r#"
-# An object of each kind.
+# An object of each kind, and a pool with quotas.
 cpus = 8
 [[object]]
 name = "q0"
@@ -34,7 +35,28 @@ events = 1_00
 lock = 'ticket'
 kind = "sched"
 name = "s0"
+[[object]]
+quotas = [0, 1, 2, 3, 4, 5, 6, 7, 8, 9, 10, 11, 12, 13,
+  0xe, 4_096, # of owner 15
+]
+name = "p1"
+kind = "pool"
+lock = "ticket"
+events = 9
+pages = 3
 "#;
+
+/// The quotas of the pool that has some, and those of the one that has none.
+const POOLS: [PoolParams; 2] = [
+    PoolParams {
+        pages: 3,
+        quotas: [0, 1, 2, 3, 4, 5, 6, 7, 8, 9, 10, 11, 12, 13, 14, 4096],
+    },
+    PoolParams {
+        pages: 4096,
+        quotas: [4096; 16],
+    },
+];
 
 /// Whether the object has the name, the lock, the number of events and the parameters.
 fn is_object(
@@ -51,34 +73,26 @@ fn is_object(
 }
 
 #[test]
-fn an_object_of_each_kind(rt: HostRuntime) {
-    let read = Settings::read(rt.alloc(), ALL.as_bytes());
-    let is_all = match &read {
-        Ok(settings) => {
-            let sched = SchedParams {
-                threads: 1,
-                channels: 64,
-            };
-            match settings.objects() {
-                [queue, pool, console, list] => {
-                    settings.cpus() == 8
-                        && is_object(queue, "q0", LockKind::Ticket, 65_536, KParams::Queue(1024))
-                        && is_object(
-                            pool,
-                            "abcdefghijklmn09",
-                            LockKind::Mcs,
-                            1,
-                            KParams::Pool(4096),
-                        )
-                        && is_object(console, "c", LockKind::Mcs, 100, KParams::Console(4096))
-                        && is_object(list, "s0", LockKind::Ticket, 100, KParams::Sched(sched))
-                }
-                _ => false,
-            }
-        }
-        Err(_) => false,
+fn an_object_of_each_kind(rt: HostRuntime) -> Result<(), Fail> {
+    let settings = Settings::read(rt.alloc(), ALL.as_bytes())?;
+    assert_eq!(rt; settings.cpus(), 8);
+    let sched = SchedParams {
+        threads: 1,
+        channels: 64,
     };
-    assert!(rt; is_all);
+    let [with_quotas, without] = POOLS;
+    let wanted = [
+        ("q0", LockKind::Ticket, 65_536, KParams::Queue(1024)),
+        ("abcdefghijklmn09", LockKind::Mcs, 1, KParams::Pool(without)),
+        ("c", LockKind::Mcs, 100, KParams::Console(4096)),
+        ("s0", LockKind::Ticket, 100, KParams::Sched(sched)),
+        ("p1", LockKind::Ticket, 9, KParams::Pool(with_quotas)),
+    ];
+    assert_eq!(rt; settings.objects().len(), wanted.len());
+    for (object, (name, lock, events, params)) in settings.objects().iter().zip(wanted) {
+        assert!(rt; is_object(object, name, lock, events, params), "{name}");
+    }
+    Ok(())
 }
 
 /// The fault of the text, as users see it.
@@ -149,6 +163,11 @@ fn faults_of_an_object(rt: HostRuntime) -> Result<(), Fail> {
         ("threads = 1024", "none"),
         ("threads = 1025", "object 1: threads: out of range"),
         ("pages = 1", "object 1: other: unknown"),
+        ("quotas = []", "object 1: other: unknown"),
+        (
+            "quotas = [8, 8, 8, 8, 8, 8, 8, 8, 8, 8, 8, 8, 8, 8, 8, 8]",
+            "object 1: other: unknown",
+        ),
         ("threads", "top: text: not toml"),
     ];
     for (line, fault) in rows {
@@ -156,6 +175,165 @@ fn faults_of_an_object(rt: HostRuntime) -> Result<(), Fail> {
         let found = fault_of(&rt, text.as_bytes())?;
         assert!(rt; found.as_str() == fault, "{line:?}: {found}");
     }
+    Ok(())
+}
+
+/// A pool but for its pages and its quotas.
+const POOL: &str =
+    "cpus = 1\n[[object]]\nname = \"q0\"\nkind = \"pool\"\nlock = \"mcs\"\nevents = 9\n";
+
+/// Quotas, and their fault.
+const QUOTAS: [(&str, &str); 27] = [
+    ("[3, 3, 3, 3, 3, 3, 3, 3, 3, 3, 3, 3, 3, 3, 3, 3]", "none"),
+    ("[0, 0, 0, 0, 0, 0, 0, 0, 0, 0, 0, 0, 0, 0, 0, 0]", "none"),
+    (
+        "[4096, 4096, 4096, 4096, 4096, 4096, 4096, 4096, 4096, 4096, 4096, 4096, 4096, 4096, 4096, 4096]",
+        "none",
+    ),
+    (
+        "[0, 3, 3, 3, 3, 3, 3, 3, 3, 3, 3, 3, 3, 3, 3, 4096]",
+        "none",
+    ),
+    ("[]", "out of range"),
+    ("[3]", "out of range"),
+    (
+        "[3, 3, 3, 3, 3, 3, 3, 3, 3, 3, 3, 3, 3, 3, 3]",
+        "out of range",
+    ),
+    (
+        "[3, 3, 3, 3, 3, 3, 3, 3, 3, 3, 3, 3, 3, 3, 3, 3, 3]",
+        "out of range",
+    ),
+    (
+        "[-1, 3, 3, 3, 3, 3, 3, 3, 3, 3, 3, 3, 3, 3, 3, 3]",
+        "out of range",
+    ),
+    (
+        "[3, 3, 3, 3, 3, 3, 3, 3, 3, 3, 3, 3, 3, 3, 3, -1]",
+        "out of range",
+    ),
+    (
+        "[4097, 3, 3, 3, 3, 3, 3, 3, 3, 3, 3, 3, 3, 3, 3, 3]",
+        "out of range",
+    ),
+    (
+        "[3, 3, 3, 3, 3, 3, 3, 3, 3, 3, 3, 3, 3, 3, 3, 4097]",
+        "out of range",
+    ),
+    (
+        "[3, 3, 3, 3, 3, 3, 3, 3, 3, 3, 3, 3, 3, 3, 3, 4294967296]",
+        "out of range",
+    ),
+    (
+        "[3, 3, 3, 3, 3, 3, 3, 3, 3, 3, 3, 3, 3, 3, 3, -9223372036854775808]",
+        "out of range",
+    ),
+    (
+        "[\"3\", 3, 3, 3, 3, 3, 3, 3, 3, 3, 3, 3, 3, 3, 3, 3]",
+        "wrong type",
+    ),
+    (
+        "[\"3\", 4097, 3, 3, 3, 3, 3, 3, 3, 3, 3, 3, 3, 3, 3, 3]",
+        "wrong type",
+    ),
+    (
+        "[4097, 3, 3, 3, 3, 3, 3, 3, 3, 3, 3, 3, 3, 3, 3, \"3\"]",
+        "wrong type",
+    ),
+    ("[\"3\"]", "wrong type"),
+    (
+        "[3, 3, 3, 3, 3, 3, 3, 3, 3, 3, 3, 3, 3, 3, 3, 3, \"3\"]",
+        "wrong type",
+    ),
+    (
+        "[3, 3, 3, 3, 3, 3, 3, 3, 3, 3, 3, 3, 3, 3, 3, 3.0]",
+        "wrong type",
+    ),
+    (
+        "[true, 3, 3, 3, 3, 3, 3, 3, 3, 3, 3, 3, 3, 3, 3, 3]",
+        "wrong type",
+    ),
+    (
+        "[[3, 3, 3, 3, 3, 3, 3, 3, 3, 3, 3, 3, 3, 3, 3, 3]]",
+        "wrong type",
+    ),
+    (
+        "[3, 3, 3, 3, 3, 3, 3, 3, 3, 3, 3, 3, 3, 3, 3, [3]]",
+        "wrong type",
+    ),
+    ("3", "wrong type"),
+    ("\"3\"", "wrong type"),
+    ("true", "wrong type"),
+    ("{}", "wrong type"),
+];
+
+#[test]
+fn faults_of_quotas(rt: HostRuntime) -> Result<(), Fail> {
+    for (quotas, cause) in QUOTAS {
+        let text = format!(in rt.alloc(); "{POOL}pages = 3\nquotas = {quotas}\n")?;
+        let found = fault_of(&rt, text.as_bytes())?;
+        let fault = found.as_str();
+        let fault = fault.strip_prefix("object 1: quotas: ").unwrap_or(fault);
+        assert!(rt; fault == cause, "{quotas}: {found}");
+    }
+    Ok(())
+}
+
+/// Pages are judged before quotas, and both before other keys.
+#[test]
+fn faults_of_a_pool(rt: HostRuntime) -> Result<(), Fail> {
+    let rows = [
+        ("", "object 1: pages: missing"),
+        ("quotas = []\n", "object 1: pages: missing"),
+        ("quotas = 3\nx = 1\n", "object 1: pages: missing"),
+        ("pages = 3\n", "none"),
+        ("pages = 0\nquotas = 3\n", "object 1: pages: out of range"),
+        ("quotas = 3\npages = true\n", "object 1: pages: wrong type"),
+        (
+            "x = 1\npages = 3\nquotas = 3\n",
+            "object 1: quotas: wrong type",
+        ),
+        (
+            "quotas = []\npages = 3\nx = 1\n",
+            "object 1: quotas: out of range",
+        ),
+        ("pages = 3\nthreads = 1\n", "object 1: other: unknown"),
+        ("pages = 3\nquota = 3\n", "object 1: other: unknown"),
+        ("pages = 3\nquotas = 3\nquotas = 3\n", "top: text: not toml"),
+        ("pages = 3\nquotas = [3\n", "top: text: not toml"),
+        (
+            "pages = 3\n[[object.quotas]]\n",
+            "object 1: quotas: wrong type",
+        ),
+    ];
+    for (rest, fault) in rows {
+        let text = format!(in rt.alloc(); "{POOL}{rest}")?;
+        let found = fault_of(&rt, text.as_bytes())?;
+        assert!(rt; found.as_str() == fault, "{rest:?}: {found}");
+    }
+    Ok(())
+}
+
+/// Only pools have quotas.
+#[test]
+fn quotas_of_no_pool(rt: HostRuntime) -> Result<(), Fail> {
+    let rows = [
+        ("console", "bytes = 3"),
+        ("sched", "threads = 3\nchannels = 3"),
+    ];
+    for (kind, numbers) in rows {
+        let text = format!(in rt.alloc();
+            "cpus = 1\n[[object]]\nname = \"q0\"\nkind = \"{kind}\"\nlock = \"mcs\"\nevents = 9\n{numbers}\nquotas = []\n"
+        )?;
+        let found = fault_of(&rt, text.as_bytes())?;
+        assert!(rt;
+            found.as_str() == "object 1: other: unknown",
+            "{kind}: {found}"
+        );
+    }
+    let top = format!(in rt.alloc(); "quotas = []\n{POOL}pages = 3\n")?;
+    let found = fault_of(&rt, top.as_bytes())?;
+    assert!(rt; found.as_str() == "top: other: unknown", "{found}");
     Ok(())
 }
 
