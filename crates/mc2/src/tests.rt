@@ -13,7 +13,7 @@ use std::test::Fail;
 use std::thread::Threads;
 
 /// What is printed before the log where the built-in queue has been opened.
-pub const HEAD: &str = "record 1\ncpus 2\nobjects 1\nobject q0 ticket 100 queue 8\n";
+pub const HEAD: &str = "record 2\ncpus 2\nobjects 1\nobject q0 ticket 100 queue 8\n";
 
 /// Scripts, and what their runs print after the head.
 pub const WORKED: [(&str, &str); 6] = [

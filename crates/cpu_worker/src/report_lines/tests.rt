@@ -5,7 +5,7 @@ use scripts::Record;
 use std::test::Fail;
 
 /// Two entries behind a ticket lock, with one look and three.
-const TICKET: &str = "record 1
+const TICKET: &str = "record 2
 cpus 2
 objects 1
 object q0 ticket 100 queue 8
@@ -24,7 +24,7 @@ cpus 2 entries 2
 ";
 
 /// The same behind an MCS lock, with no look and one.
-const MCS: &str = "record 1
+const MCS: &str = "record 2
 cpus 2
 objects 1
 object q0 mcs 100 queue 8
@@ -42,7 +42,7 @@ const MCS_REPORT: &str = "q0 mcs entries 2 noroom 0 looks 1 most 1
 cpus 2 entries 2
 ";
 
-/// An entry that finds its log full.
+/// An entry that finds its log full, in the form from before quotas.
 const FULL: &str = "record 1
 cpus 1
 objects 1
@@ -59,7 +59,7 @@ const FULL_REPORT: &str = "q0 ticket entries 2 noroom 1 looks 2 most 1
 cpus 1 entries 2
 ";
 
-/// Two objects of different kinds, one without entries.
+/// Two objects of different kinds, one without entries, in the form from before quotas.
 const TWO_OBJECTS: &str = "record 1
 cpus 2
 objects 2
@@ -81,8 +81,26 @@ tty ticket entries 2 noroom 0 looks 2 most 2
 cpus 2 entries 2
 ";
 
+/// An owner that has its quota at its second entry.
+const OVER_QUOTA: &str = "record 2
+cpus 1
+objects 1
+object p1 mcs 100 pool 2 2 1 2 2 2 2 2 2 2 2 2 2 2 2 2 2
+log p1 2
+0 alloc 1 = page 0
+0 alloc 1 = overquota
+cpu 0 2
+p1 0 alloc 1 | alloc 1 = page 0
+p1 0 alloc 1 | alloc 1 = overquota
+end
+";
+
+const OVER_QUOTA_REPORT: &str = "p1 mcs entries 2 noroom 0 looks 0 most 0
+cpus 1 entries 2
+";
+
 /// Looks whose sum is past 2^64 - 1, where it stays. The greatest is not the last.
-const GREATEST: &str = "record 1
+const GREATEST: &str = "record 2
 cpus 1
 objects 1
 object q0 ticket 100 queue 8
@@ -108,6 +126,7 @@ fn reports_of_records(rt: HostRuntime) -> Result<(), Fail> {
         (MCS, MCS_REPORT),
         (FULL, FULL_REPORT),
         (TWO_OBJECTS, TWO_OBJECTS_REPORT),
+        (OVER_QUOTA, OVER_QUOTA_REPORT),
         (GREATEST, GREATEST_REPORT),
     ] {
         let record = Record::read(rt.alloc(), text.as_bytes())?;

@@ -24,7 +24,7 @@ const SCRIPTS: &str = "0 q0 enq 3\n1 q0 enq 4\n";
 const SCHEDULE: &str = "0 1 1 1 0 0 1 1";
 
 /// What the simulation in that order has done.
-const RECORD: &str = "record 1
+const RECORD: &str = "record 2
 cpus 2
 objects 1
 object q0 ticket 100 queue 8
@@ -39,7 +39,7 @@ end
 ";
 
 /// What is done as long as CPU 0 holds the lock.
-const NOTHING: &str = "record 1
+const NOTHING: &str = "record 2
 cpus 2
 objects 1
 object q0 ticket 100 queue 8

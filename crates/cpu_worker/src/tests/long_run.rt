@@ -19,7 +19,10 @@ const LOCKS: [&str; 2] = ["ticket", "mcs"];
 /// Each kind, and what it is opened with.
 const KINDS: [(&str, &str); 4] = [
     ("queue", "threads = 8"),
-    ("pool", "pages = 4"),
+    (
+        "pool",
+        "pages = 4\nquotas = [4, 2, 1, 0, 4, 4, 4, 4, 4, 4, 4, 4, 4, 4, 4, 4]",
+    ),
     ("console", "bytes = 3"),
     ("sched", "threads = 8\nchannels = 2"),
 ];

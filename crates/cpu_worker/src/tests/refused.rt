@@ -88,11 +88,11 @@ const EACH_ITS_OWN: &str = "0 q0 enq 3 ; deq
 3 s0 next
 ";
 
-const OF_FOUR_CPUS: &str = "record 1
+const OF_FOUR_CPUS: &str = "record 2
 cpus 4
 objects 4
 object q0 ticket 100 queue 8
-object p0 mcs 1 pool 3
+object p0 mcs 1 pool 3 3 3 3 3 3 3 3 3 3 3 3 3 3 3 3 3
 object c0 ticket 100 console 1
 object s0 mcs 100 sched 8 1
 log q0 1
@@ -163,7 +163,7 @@ events = 100
 threads = 8
 "#;
 
-const OF_TWO_CPUS: &str = "record 1
+const OF_TWO_CPUS: &str = "record 2
 cpus 2
 objects 1
 object q0 ticket 100 queue 8

@@ -1,8 +1,8 @@
 //! Runs whose whole records are known: one CPU alone does something in each.
 
 use super::{run_texts, written};
-use crate::{OpenGate, run};
-use scripts::{Scripts, Settings};
+use crate::{OpenGate, run, simulate};
+use scripts::{Schedule, Scripts, Settings};
 use std::test::Fail;
 
 /// A run: the text of its settings, of its scripts, and of its record.
@@ -20,7 +20,7 @@ threads = 8
 const NOTHING: Worked = (
     ONE_QUEUE,
     "",
-    "record 1
+    "record 2
 cpus 1
 objects 1
 object q0 ticket 100 queue 8
@@ -42,7 +42,7 @@ threads = 8
 
 const IN_AND_OUT: &str = "0 q0 enq 3\n0 q0 deq\n";
 
-const IN_AND_OUT_TICKET: &str = "record 1
+const IN_AND_OUT_TICKET: &str = "record 2
 cpus 2
 objects 1
 object q0 ticket 100 queue 8
@@ -60,7 +60,7 @@ end
 const IN_AND_OUT_MCS: Worked = (
     TWO_CPUS_MCS,
     IN_AND_OUT,
-    "record 1
+    "record 2
 cpus 2
 objects 1
 object q0 mcs 100 queue 8
@@ -86,7 +86,7 @@ events = 1
 threads = 8
 "#,
     IN_AND_OUT,
-    "record 1
+    "record 2
 cpus 1
 objects 1
 object q0 ticket 1 queue 8
@@ -116,10 +116,10 @@ pages = 3
 0 q0 alloc 1
 0 q0 free 2 0
 ",
-    "record 1
+    "record 2
 cpus 1
 objects 1
-object q0 mcs 100 pool 3
+object q0 mcs 100 pool 3 3 3 3 3 3 3 3 3 3 3 3 3 3 3 3 3
 log q0 7
 0 alloc 1 = page 0
 0 alloc 1 = page 1
@@ -140,6 +140,116 @@ end
 ",
 );
 
+/// A pool whose owner 1 may have one page.
+const ONE_PAGE: &str = r#"cpus = 1
+[[object]]
+name = "q0"
+kind = "pool"
+lock = "mcs"
+events = 100
+pages = 3
+quotas = [3, 1, 3, 3, 3, 3, 3, 3, 3, 3, 3, 3, 3, 3, 3, 3]
+"#;
+
+/// The owner asks for two.
+const OVER_QUOTA: Worked = (
+    ONE_PAGE,
+    "0 q0 alloc 1
+0 q0 alloc 1
+",
+    "record 2
+cpus 1
+objects 1
+object q0 mcs 100 pool 3 3 1 3 3 3 3 3 3 3 3 3 3 3 3 3 3
+log q0 2
+0 alloc 1 = page 0
+0 alloc 1 = overquota
+cpu 0 2
+q0 0 alloc 1 | alloc 1 = page 0
+q0 0 alloc 1 | alloc 1 = overquota
+end
+",
+);
+
+/// The owner gives its page back, and gets it again.
+const ONE_AFTER_THE_OTHER: Worked = (
+    ONE_PAGE,
+    "0 q0 alloc 1
+0 q0 alloc 1
+0 q0 free 1 0
+0 q0 alloc 1
+",
+    "record 2
+cpus 1
+objects 1
+object q0 mcs 100 pool 3 3 1 3 3 3 3 3 3 3 3 3 3 3 3 3 3
+log q0 4
+0 alloc 1 = page 0
+0 alloc 1 = overquota
+0 free 1 0 = ok
+0 alloc 1 = page 0
+cpu 0 4
+q0 0 alloc 1 | alloc 1 = page 0
+q0 0 alloc 1 | alloc 1 = overquota
+q0 0 free 1 0 | free 1 0 = ok
+q0 0 alloc 1 | alloc 1 = page 0
+end
+",
+);
+
+/// The owner has its quota, but no page is left, and that comes first.
+const NO_PAGE_LEFT: Worked = (
+    r#"cpus = 1
+[[object]]
+name = "q0"
+kind = "pool"
+lock = "ticket"
+events = 100
+pages = 1
+quotas = [1, 1, 1, 1, 1, 1, 1, 1, 1, 1, 1, 1, 1, 1, 1, 1]
+"#,
+    "0 q0 alloc 1
+0 q0 alloc 1
+",
+    "record 2
+cpus 1
+objects 1
+object q0 ticket 100 pool 1 1 1 1 1 1 1 1 1 1 1 1 1 1 1 1 1
+log q0 2
+0 alloc 1 = page 0
+0 alloc 1 = none
+cpu 0 2
+q0 1 alloc 1 | alloc 1 = page 0
+q0 1 alloc 1 | alloc 1 = none
+end
+",
+);
+
+/// An owner that may have no page.
+const NO_QUOTA: Worked = (
+    r#"cpus = 1
+[[object]]
+name = "q0"
+kind = "pool"
+lock = "ticket"
+events = 100
+pages = 3
+quotas = [3, 3, 0, 3, 3, 3, 3, 3, 3, 3, 3, 3, 3, 3, 3, 3]
+"#,
+    "0 q0 alloc 2
+",
+    "record 2
+cpus 1
+objects 1
+object q0 ticket 100 pool 3 3 3 0 3 3 3 3 3 3 3 3 3 3 3 3 3
+log q0 1
+0 alloc 2 = overquota
+cpu 0 1
+q0 1 alloc 2 | alloc 2 = overquota
+end
+",
+);
+
 const CONSOLE: Worked = (
     r#"cpus = 1
 [[object]]
@@ -154,7 +264,7 @@ bytes = 1
 0 q0 get
 0 q0 get
 ",
-    "record 1
+    "record 2
 cpus 1
 objects 1
 object q0 mcs 100 console 1
@@ -190,7 +300,7 @@ channels = 1
 0 q0 next
 0 q0 wakeall 0
 ",
-    "record 1
+    "record 2
 cpus 1
 objects 1
 object q0 ticket 100 sched 8 1
@@ -231,7 +341,7 @@ bytes = 1
 0 b put 65
 0 a deq
 ",
-    "record 1
+    "record 2
 cpus 1
 objects 2
 object a ticket 100 queue 8
@@ -249,18 +359,42 @@ end
 ",
 );
 
+const WORKED: [Worked; 11] = [
+    NOTHING,
+    IN_AND_OUT_MCS,
+    FULL_LOG,
+    POOL,
+    OVER_QUOTA,
+    ONE_AFTER_THE_OTHER,
+    NO_PAGE_LEFT,
+    NO_QUOTA,
+    CONSOLE,
+    SCHED,
+    TWO_OBJECTS,
+];
+
 #[test]
 fn worked_runs(rt: HostRuntime) -> Result<(), Fail> {
-    for (settings, scripts, wanted) in [
-        NOTHING,
-        IN_AND_OUT_MCS,
-        FULL_LOG,
-        POOL,
-        CONSOLE,
-        SCHED,
-        TWO_OBJECTS,
-    ] {
+    for (settings, scripts, wanted) in WORKED {
         let record = run_texts(&rt, settings, scripts, &OpenGate)?;
+        let text = written(rt.alloc(), &record)?;
+        assert!(rt; text.as_slice() == wanted.as_bytes(), "{wanted}");
+    }
+    Ok(())
+}
+
+/// As many steps as the longest of these runs has, and some with nothing left to do.
+const STEPS: &str =
+    "0 0 0 0 0 0 0 0 0 0 0 0 0 0 0 0 0 0 0 0 0 0 0 0 0 0 0 0 0 0 0 0 0 0 0 0 0 0 0 0";
+
+/// The same step by step.
+#[test]
+fn worked_simulations(rt: HostRuntime) -> Result<(), Fail> {
+    for (settings, scripts, wanted) in WORKED {
+        let settings = Settings::read(rt.alloc(), settings.as_bytes())?;
+        let scripts = Scripts::read(rt.alloc(), scripts.as_bytes(), &settings)?;
+        let schedule = Schedule::read(rt.alloc(), STEPS.as_bytes(), &settings)?;
+        let record = simulate(rt.alloc(), &settings, &scripts, &schedule)?;
         let text = written(rt.alloc(), &record)?;
         assert!(rt; text.as_slice() == wanted.as_bytes(), "{wanted}");
     }

@@ -37,6 +37,31 @@ fn words_that_are_taken(rt: HostRuntime) -> Result<(), Fail> {
     Ok(())
 }
 
+/// What the command on a record of that file asks for.
+fn on_record<'a>(name: &str, record: Option<&'a str>) -> Option<Arguments<'a>> {
+    match name {
+        "report" => Some(Arguments::Report { record }),
+        "audit" => Some(Arguments::Audit { record }),
+        "merge" => Some(Arguments::Merge { record }),
+        "upgrade" => Some(Arguments::Upgrade { record }),
+        _ => None,
+    }
+}
+
+#[test]
+fn words_on_a_record(rt: HostRuntime) -> Result<(), Fail> {
+    for name in ["report", "audit", "merge", "upgrade"] {
+        let mut words = Vec::new(rt.alloc());
+        words.push(format!(in rt.alloc(); "{name}")?)?;
+        let standard = read_words(rt.alloc(), words.as_slice())?;
+        assert!(rt; Some(standard) == on_record(name, None), "{name}");
+        words.push(format!(in rt.alloc(); "a file")?)?;
+        let file = read_words(rt.alloc(), words.as_slice())?;
+        assert!(rt; Some(file) == on_record(name, Some("a file")), "{name}");
+    }
+    Ok(())
+}
+
 #[test]
 fn words_that_are_refused(rt: HostRuntime) -> Result<(), Fail> {
     let rows = [
@@ -60,6 +85,18 @@ fn words_that_are_refused(rt: HostRuntime) -> Result<(), Fail> {
         "audit --settings a",
         "merge a b",
         "merge ",
+        "upgrade a b",
+        "upgrade -",
+        "upgrade -a",
+        "upgrade --",
+        "upgrade -- a",
+        "upgrade ",
+        "upgrade --settings a",
+        "upgrade --settings a b",
+        "upgrade --settings=a",
+        "upgrade upgrade upgrade",
+        "upgraded",
+        "Upgrade",
         "run --help",
         "--help",
         "help",

@@ -1,7 +1,10 @@
 //! Whole commands: the status, what was written, and the line of each refusal.
 
+mod before;
 mod judging;
+mod upgrading;
 
+use self::before::SOUND;
 use super::command;
 use crate::Inputs;
 use crate::tests::{Failing, Failure, HEAD, REFUSED, WORKED};
@@ -25,7 +28,15 @@ const MCS: &str =
 
 /// A record of two CPUs, one of which waited.
 const RECORD: &str =
-    "record 1\ncpus 2\nobjects 1\nobject q0 ticket 100 queue 8\nlog q0 2\n0 enq 3 = ok\n1 enq 4 = ok\ncpu 0 1\nq0 1 enq 3 | enq 3 = ok\ncpu 1 1\nq0 3 enq 4 | enq 4 = ok\nend\n";
+    "record 2\ncpus 2\nobjects 1\nobject q0 ticket 100 queue 8\nlog q0 2\n0 enq 3 = ok\n1 enq 4 = ok\ncpu 0 1\nq0 1 enq 3 | enq 3 = ok\ncpu 1 1\nq0 3 enq 4 | enq 4 = ok\nend\n";
+
+/// Settings of a pool whose owner 1 may have one page.
+const QUOTAS: &str =
+    "cpus = 1\n[[object]]\nname = \"q0\"\nkind = \"pool\"\nlock = \"mcs\"\nevents = 9\npages = 3\nquotas = [3, 1, 3, 3, 3, 3, 3, 3, 3, 3, 3, 3, 3, 3, 3, 3]\n";
+
+/// The record of an owner of that pool that asks for two.
+const OVER_QUOTA: &str =
+    "record 2\ncpus 1\nobjects 1\nobject q0 mcs 9 pool 3 3 1 3 3 3 3 3 3 3 3 3 3 3 3 3 3\nlog q0 2\n0 alloc 1 = page 0\n0 alloc 1 = overquota\ncpu 0 2\nq0 0 alloc 1 | alloc 1 = page 0\nq0 0 alloc 1 | alloc 1 = overquota\nend\n";
 
 /// Settings of two objects of one name.
 const TWICE: &str =
@@ -87,21 +98,29 @@ impl<'a> Inputs for Named<'a> {
 }
 
 /// The files that there are.
-const FILES: [(&str, &str); 14] = [
+const FILES: [(&str, &str); 19] = [
     ("settings", SETTINGS),
     ("twice", TWICE),
     ("pool", POOL),
+    ("quotas", QUOTAS),
+    (
+        "few",
+        "cpus = 1\n[[object]]\nname = \"q0\"\nkind = \"pool\"\nlock = \"mcs\"\nevents = 9\npages = 3\nquotas = [3]\n",
+    ),
     ("mcs", MCS),
     ("record", RECORD),
+    ("old", SOUND),
     ("scripts", SCRIPTS),
     ("bad", "0 q0 enq 3\n0 q1 deq\n"),
     ("broken", SCRIPTS),
     ("both", "0 q0 enq 3\n1 q0 enq 4\n"),
     ("alone", "0 q0 enq 3\n"),
+    ("taken", "0 q0 alloc 1\n0 q0 alloc 1\n"),
     ("turns", "0 1 1 1 0 0 1 1\n"),
     ("held", "0 1 0"),
     ("idle", "0 0 0 0 1"),
     ("steps", "0 2"),
+    ("long", "0 0 0 0 0 0 0 0 0 0 0 0 0 0 0 0 0 0 0 0"),
 ];
 
 /// Does the command of these words, and answers the status and how many inputs were opened.
@@ -123,6 +142,20 @@ fn told<R: Threads + Wait + Sync + AllocGlobal, W: Sink, F: Sink>(
     };
     let status = command(rt, rt.alloc(), words.as_slice(), &mut inputs, out, faults);
     Ok((status, inputs.opened))
+}
+
+/// What the program answers to the text on standard input: the status, the output and the line.
+fn judged<R: Threads + Wait + Sync + AllocGlobal>(
+    rt: &R,
+    line: &str,
+    standard: &str,
+) -> Result<(u8, String, String), Fail> {
+    let mut out = Plain::new(Vec::new(rt.alloc()));
+    let mut faults = Plain::new(Vec::new(rt.alloc()));
+    let (status, _) = told(rt, line, standard, &mut out, &mut faults)?;
+    let out = String::from_utf8(out.inner).unwrap_or(String::new(rt.alloc()));
+    let faults = String::from_utf8(faults.inner).unwrap_or(String::new(rt.alloc()));
+    Ok((status, out, faults))
 }
 
 #[test]
@@ -183,7 +216,7 @@ fn worked_simulations(rt: HostRuntime) -> Result<(), Fail> {
 #[test]
 fn a_run_on_other_settings(rt: HostRuntime) -> Result<(), Fail> {
     let wanted =
-        "record 1\ncpus 2\nobjects 1\nobject q0 mcs 100 queue 8\nlog q0 2\n0 enq 3 = ok\n0 deq = thread 3\ncpu 0 2\nq0 0 enq 3 | enq 3 = ok\nq0 0 deq | deq = thread 3\ncpu 1 0\nend\n";
+        "record 2\ncpus 2\nobjects 1\nobject q0 mcs 100 queue 8\nlog q0 2\n0 enq 3 = ok\n0 deq = thread 3\ncpu 0 2\nq0 0 enq 3 | enq 3 = ok\nq0 0 deq | deq = thread 3\ncpu 1 0\nend\n";
     for (line, opened) in [
         ("run --settings mcs scripts", 2),
         ("run scripts --settings mcs", 2),
@@ -195,6 +228,21 @@ fn a_run_on_other_settings(rt: HostRuntime) -> Result<(), Fail> {
         assert!(rt; status == (0, opened), "{line:?}");
         assert!(rt; out.inner.as_slice() == wanted.as_bytes(), "{line:?}");
         assert!(rt; faults.inner.is_empty(), "{line:?}");
+    }
+    Ok(())
+}
+
+/// A run and a simulation on a pool with quotas.
+#[test]
+fn an_owner_over_its_quota(rt: HostRuntime) -> Result<(), Fail> {
+    for line in [
+        "run --settings quotas",
+        "run --settings quotas taken",
+        "sim --settings quotas taken long",
+    ] {
+        let (status, out, faults) = judged(&rt, line, "0 q0 alloc 1\n0 q0 alloc 1\n")?;
+        assert!(rt; status == 0 && faults.is_empty(), "{line:?}");
+        assert!(rt; out.as_str() == OVER_QUOTA, "{line:?}");
     }
     Ok(())
 }
@@ -250,6 +298,26 @@ fn refused_commands(rt: HostRuntime) -> Result<(), Fail> {
         ("report scripts", 2, "mc2: E9 record: line 1\n", 1),
         ("report none", 3, "mc2: E12 read failed\n", 1),
         ("report record record", 2, "mc2: E14 bad words\n", 0),
+        ("upgrade", 2, "mc2: E9 record: line 1\n", 1),
+        ("upgrade scripts", 2, "mc2: E9 record: line 1\n", 1),
+        ("upgrade none", 3, "mc2: E12 read failed\n", 1),
+        ("upgrade broken", 3, "mc2: E12 read failed\n", 1),
+        ("upgrade record record", 2, "mc2: E14 bad words\n", 0),
+        ("upgrade -record", 2, "mc2: E14 bad words\n", 0),
+        ("upgrade ", 2, "mc2: E14 bad words\n", 0),
+        ("upgrade --settings settings", 2, "mc2: E14 bad words\n", 0),
+        (
+            "upgrade --settings settings record",
+            2,
+            "mc2: E14 bad words\n",
+            0,
+        ),
+        (
+            "run --settings few scripts",
+            2,
+            "mc2: E6 settings: object 1: quotas: out of range\n",
+            1,
+        ),
         ("run broken", 3, "mc2: E12 read failed\n", 1),
         (
             "sim --settings settings both steps",

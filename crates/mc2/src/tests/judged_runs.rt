@@ -13,8 +13,8 @@ const OBJECTS: usize = 16;
 
 const ENTRIES: usize = 300;
 
-/// Each kind, what it is opened with, and what is asked of it.
-const KINDS: [(&str, &str, [&str; 4]); 4] = [
+/// Each kind, and a pool with quotas too: what it is opened with, and what is asked of it.
+const KINDS: [(&str, &str, [&str; 4]); 5] = [
     (
         "queue",
         "threads = 8",
@@ -24,6 +24,11 @@ const KINDS: [(&str, &str, [&str; 4]); 4] = [
         "pool",
         "pages = 4",
         ["alloc 1", "alloc 2 ; left", "free 1 0", "free 2 4"],
+    ),
+    (
+        "pool",
+        "pages = 4\nquotas = [4, 1, 2, 0, 4, 4, 4, 4, 4, 4, 4, 4, 4, 4, 4, 4]",
+        ["alloc 1", "alloc 2 ; left", "free 1 0", "alloc 3"],
     ),
     (
         "console",
@@ -42,8 +47,8 @@ fn settings_text(alloc: Global, lock: &str) -> Result<String, Fail> {
     let mut text = String::new(alloc);
     writeln!(text, "cpus = {CPUS}")?;
     for place in 0..OBJECTS {
-        let (kind, numbers, _) = KINDS[place % 4];
-        let events = if place < 4 { 40 } else { 1000 };
+        let (kind, numbers, _) = KINDS[place % 5];
+        let events = if place < 5 { 40 } else { 1000 };
         writeln!(
             text,
             "[[object]]\nname = \"o{place}\"\nkind = \"{kind}\"\nlock = \"{lock}\"\nevents = {events}\n{numbers}"
@@ -57,7 +62,7 @@ fn put_script(text: &mut String, cpu: u8) -> Result<(), Fail> {
     let first = cpu as usize;
     for index in 0..ENTRIES {
         let place = (index + first) % OBJECTS;
-        let (_, _, asked) = KINDS[place % 4];
+        let (_, _, asked) = KINDS[place % 5];
         let call = asked[(index / OBJECTS + first) % 4];
         writeln!(text, "{cpu} o{place} {call}")?;
     }
