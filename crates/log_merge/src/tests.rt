@@ -48,6 +48,14 @@ fn worked_orders(rt: HostRuntime) -> Result<(), Fail> {
             "1 q0 enq 4 = ok\n0 q0 enq 3 = ok ; len = count 2\n",
         ),
         (FULL_BEHIND, "1 q0 enq 4 = ok\n0 q0 noroom\n1 q0 noroom\n"),
+        (
+            OVER_QUOTA,
+            "1 p alloc 1 = page 0\n0 p alloc 1 = overquota\n1 p free 1 0 = ok\n0 p alloc 1 = page 0 ; alloc 1 = overquota\n",
+        ),
+        (
+            BEFORE_QUOTAS,
+            "1 p alloc 1 = page 0\n0 p alloc 1 = page 1\n1 p alloc 1 = none\n",
+        ),
     ] {
         let text = lines(rt.alloc(), record)?;
         assert!(rt; text.as_slice() == wanted.as_bytes(), "{wanted}");

@@ -1,6 +1,6 @@
 //! Records to merge.
 
-pub const NOTHING: &str = "record 1
+pub const NOTHING: &str = "record 2
 cpus 1
 objects 1
 object q0 ticket 100 queue 8
@@ -9,7 +9,7 @@ cpu 0 0
 end
 ";
 
-pub const ONE_AFTER_THE_OTHER: &str = "record 1
+pub const ONE_AFTER_THE_OTHER: &str = "record 2
 cpus 2
 objects 1
 object q0 ticket 100 queue 8
@@ -23,7 +23,7 @@ q0 3 enq 4 | enq 4 = ok
 end
 ";
 
-pub const TWO_OBJECTS: &str = "record 1
+pub const TWO_OBJECTS: &str = "record 2
 cpus 1
 objects 2
 object a ticket 100 queue 8
@@ -40,7 +40,7 @@ a 1 deq | deq = thread 3
 end
 ";
 
-/// CPU 0's event comes behind CPU 1's.
+/// CPU 0's event comes behind CPU 1's. This record is in the form from before quotas.
 pub const THE_LEAST_WAITS: &str = "record 1
 cpus 2
 objects 1
@@ -56,7 +56,7 @@ end
 ";
 
 /// Two entries find a log full.
-pub const FULL_BEHIND: &str = "record 1
+pub const FULL_BEHIND: &str = "record 2
 cpus 2
 objects 1
 object q0 ticket 1 queue 8
@@ -70,8 +70,44 @@ q0 1 deq | noroom
 end
 ";
 
+/// An owner of pages asks for two on either CPU, and may have one.
+pub const OVER_QUOTA: &str = "record 2
+cpus 2
+objects 1
+object p mcs 9 pool 3 3 1 3 3 3 3 3 3 3 3 3 3 3 3 3 3
+log p 4
+1 alloc 1 = page 0
+0 alloc 1 = overquota
+1 free 1 0 = ok
+0 alloc 1 = page 0 ; alloc 1 = overquota
+cpu 0 2
+p 1 alloc 1 ; left | alloc 1 = overquota
+p 0 alloc 1 ; alloc 1 ; left | alloc 1 = page 0 ; alloc 1 = overquota
+cpu 1 2
+p 0 alloc 1 | alloc 1 = page 0
+p 1 free 1 0 | free 1 0 = ok
+end
+";
+
+/// A pool in the form from before quotas: the owner gets both pages.
+pub const BEFORE_QUOTAS: &str = "record 1
+cpus 2
+objects 1
+object p mcs 9 pool 2
+log p 3
+1 alloc 1 = page 0
+0 alloc 1 = page 1
+1 alloc 1 = none
+cpu 0 1
+p 1 alloc 1 | alloc 1 = page 1
+cpu 1 2
+p 0 alloc 1 | alloc 1 = page 0
+p 0 alloc 1 | alloc 1 = none
+end
+";
+
 /// Each CPU's first entry comes behind the other's second.
-pub const CROSSED: &str = "record 1
+pub const CROSSED: &str = "record 2
 cpus 2
 objects 2
 object a ticket 10 queue 8
@@ -91,7 +127,7 @@ a 1 enq 1 | enq 1 = ok
 end
 ";
 
-/// Each CPU's first entry finds a log full that is full of the other's second.
+/// Each CPU's first entry finds a log full that is full of the other's second. This record is in the form from before quotas.
 pub const CROSSED_FULL: &str = "record 1
 cpus 2
 objects 2
@@ -111,7 +147,7 @@ end
 ";
 
 /// CPU 0 waits for CPU 1, that for CPU 2, and that for CPU 0.
-pub const ROUND_OF_THREE: &str = "record 1
+pub const ROUND_OF_THREE: &str = "record 2
 cpus 3
 objects 3
 object a ticket 10 queue 8
@@ -139,7 +175,7 @@ end
 ";
 
 /// CPUs 1 and 2 wait for each other, CPU 2 with its second entry, and CPU 0 waits for CPU 2.
-pub const WAY_IN: &str = "record 1
+pub const WAY_IN: &str = "record 2
 cpus 3
 objects 3
 object a ticket 10 queue 8
@@ -169,7 +205,7 @@ end
 ";
 
 /// Thread 3 was queued, and thread 4 is taken.
-pub const WRONG_REPLY: &str = "record 1
+pub const WRONG_REPLY: &str = "record 2
 cpus 2
 objects 1
 object q0 ticket 100 queue 8
