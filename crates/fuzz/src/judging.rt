@@ -4,6 +4,7 @@ use crate::fault::Fault;
 use crate::pieces::read_in_pieces;
 use crate::random::Random;
 use crate::reading::{Reading, written};
+use crate::upgraded::upgraded;
 use scripts::Record;
 use std::alloc::Global;
 use std::fmt;
@@ -21,7 +22,8 @@ impl fmt::Display for Disagreement {
         f.write_str(match self {
             Disagreement::Pieces => "read in pieces it is something else than as a whole",
             Disagreement::Front => "its front is read as something else than the whole",
-            Disagreement::Written => "its record is written as another text",
+            Disagreement::Written =>
+                "its record is written as another text, or as one that is read as another",
         })
     }
 }
@@ -54,13 +56,20 @@ pub fn front_agrees(alloc: Global, text: &[u8], whole: &Reading) -> Result<bool,
         return Ok(false);
     }
     let (front, behind) = text.split_at(count);
-    if written(alloc, &record)?.as_slice() != front {
+    if written(alloc, &record)?.as_slice() != upgraded(alloc, front)?.as_slice() {
         return Ok(false);
     }
     Ok(match whole {
         Reading::Record(_) => behind.is_empty(),
         Reading::BadLine(number) => !behind.is_empty() && *number == line_behind(front),
     })
+}
+
+/// Whether this is what has to be written of the text's record, and is read as the same record.
+pub fn is_kept(alloc: Global, text: &[u8], written: &[u8]) -> Result<bool, Fault> {
+    let wanted = upgraded(alloc, text)?;
+    let again = Reading::of(alloc, Record::read(alloc, written))?;
+    Ok(written == wanted.as_slice() && again == Reading::Record(wanted))
 }
 
 /// Reads the text in each way.
@@ -72,9 +81,12 @@ pub fn judge(alloc: Global, random: &mut Random, text: &[u8]) -> Result<Judged, 
     if !front_agrees(alloc, text, &whole)? {
         return Ok(Judged::Disagrees(Disagreement::Front));
     }
-    Ok(match whole {
-        Reading::Record(written) if written.as_slice() == text => Judged::Record,
-        Reading::Record(_) => Judged::Disagrees(Disagreement::Written),
-        Reading::BadLine(_) => Judged::NoRecord,
-    })
+    let Reading::Record(written) = whole else {
+        return Ok(Judged::NoRecord);
+    };
+    if is_kept(alloc, text, written.as_slice())? {
+        Ok(Judged::Record)
+    } else {
+        Ok(Judged::Disagrees(Disagreement::Written))
+    }
 }

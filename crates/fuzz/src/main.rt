@@ -14,6 +14,7 @@ mod reading;
 mod splice;
 #[cfg(test)]
 mod tests;
+mod upgraded;
 mod words;
 mod worked;
 

@@ -13,11 +13,15 @@ mod streams;
 mod words;
 
 pub use crate::worked::IN_AND_OUT;
+use crate::worked::IN_AND_OUT_BEFORE;
 use scripts::RecordFault;
 use std::alloc::Global;
 use std::test::Fail;
 
-/// How many lines the record `IN_AND_OUT` has.
+/// The worked record in both forms.
+pub const FORMS: [&str; 2] = [IN_AND_OUT_BEFORE, IN_AND_OUT];
+
+/// How many lines it has.
 pub const LINES: usize = 12;
 
 /// The line that is named, or none where something was read.

@@ -1,13 +1,18 @@
 //! That the program would find a disagreement, and makes the same texts of the same seed.
 
-use super::IN_AND_OUT;
-use crate::judging::{Judged, front_agrees, judge};
+use super::FORMS;
+use crate::judging::{Judged, front_agrees, is_kept, judge};
 use crate::mutation::mutated;
 use crate::outcome::{Outcome, fuzz};
 use crate::random::Random;
 use crate::reading::Reading;
+use crate::upgraded::upgraded;
 use crate::words::Asked;
-use crate::worked::WORKED;
+use crate::worked::{
+    CROSSED, CROSSED_BEFORE, EACH_KIND, EACH_KIND_BEFORE, IN_AND_OUT, IN_AND_OUT_BEFORE, WORKED,
+};
+use std::alloc::Global;
+use std::process::Abort;
 use std::test::Fail;
 
 #[test]
@@ -23,12 +28,11 @@ fn worked_records(rt: HostRuntime) -> Result<(), Fail> {
     Ok(())
 }
 
-/// What a reader of the whole text might have answered, and whether it agrees with the front of the text.
-#[test]
-fn wrong_answers(rt: HostRuntime) -> Result<(), Fail> {
-    let whole = IN_AND_OUT.as_bytes();
-    let more = format!(in rt.alloc(); "{IN_AND_OUT}x\n")?;
-    let less = IN_AND_OUT.strip_suffix("end\n").ok_or("another end")?;
+/// What a reader of the whole text might have answered, and whether it agrees with the front of the record.
+fn wrong_answers_of<R: Abort>(rt: &R, alloc: Global, record: &str) -> Result<(), Fail> {
+    let whole = record.as_bytes();
+    let more = format!(in alloc; "{record}x\n")?;
+    let less = record.strip_suffix("end\n").ok_or("another end")?;
     for (text, line, agrees) in [
         (whole, 12, false),
         (whole, 13, false),
@@ -38,13 +42,54 @@ fn wrong_answers(rt: HostRuntime) -> Result<(), Fail> {
         (less.as_bytes(), 12, true),
         (less.as_bytes(), 11, false),
     ] {
-        let found = front_agrees(rt.alloc(), text, &Reading::BadLine(line))?;
+        let found = front_agrees(alloc, text, &Reading::BadLine(line))?;
         assert_eq!(rt; found, agrees, "line {line}");
     }
-    for (text, agrees) in [(whole, true), (more.as_bytes(), false)] {
-        let record = Reading::Record(text.to_vec(rt.alloc())?);
-        assert_eq!(rt; front_agrees(rt.alloc(), text, &record)?, agrees);
+    let written = Reading::Record(whole.to_vec(alloc)?);
+    assert!(rt; front_agrees(alloc, whole, &written)?);
+    assert!(rt; !front_agrees(alloc, more.as_bytes(), &written)?);
+    Ok(())
+}
+
+#[test]
+fn wrong_answers(rt: HostRuntime) -> Result<(), Fail> {
+    for record in FORMS {
+        wrong_answers_of(&rt, rt.alloc(), record)?;
     }
+    Ok(())
+}
+
+/// A record, what might have been written of it, and whether that is it.
+#[test]
+fn wrong_writings(rt: HostRuntime) -> Result<(), Fail> {
+    for (record, written, is_it) in [
+        (IN_AND_OUT, IN_AND_OUT, true),
+        (IN_AND_OUT_BEFORE, IN_AND_OUT, true),
+        (IN_AND_OUT_BEFORE, IN_AND_OUT_BEFORE, false),
+        (IN_AND_OUT, IN_AND_OUT_BEFORE, false),
+        (CROSSED_BEFORE, CROSSED, true),
+        (CROSSED_BEFORE, IN_AND_OUT, false),
+        (EACH_KIND, EACH_KIND, true),
+        (EACH_KIND_BEFORE, EACH_KIND, false),
+        (EACH_KIND_BEFORE, EACH_KIND_BEFORE, false),
+    ] {
+        let found = is_kept(rt.alloc(), record.as_bytes(), written.as_bytes())?;
+        assert_eq!(rt; found, is_it, "{written} of {record}");
+    }
+    Ok(())
+}
+
+/// The line of a pool gets its pages as each quota, and all lines behind it stay.
+#[test]
+fn the_record_2_of_a_record_1(rt: HostRuntime) -> Result<(), Fail> {
+    let head = "record 2\ncpus 2\nobjects 4\nobject q mcs 9 queue 4\n";
+    let pool = "object p ticket 9 pool 2 2 2 2 2 2 2 2 2 2 2 2 2 2 2 2 2\n";
+    let (_, rest) = EACH_KIND_BEFORE.split_once("pool 2\n").ok_or("no pool")?;
+    let wanted = format!(in rt.alloc(); "{head}{pool}{rest}")?;
+    let found = upgraded(rt.alloc(), EACH_KIND_BEFORE.as_bytes())?;
+    assert!(rt; found.as_slice() == wanted.as_bytes());
+    let kept = is_kept(rt.alloc(), EACH_KIND_BEFORE.as_bytes(), wanted.as_bytes())?;
+    assert!(rt; kept);
     Ok(())
 }
 

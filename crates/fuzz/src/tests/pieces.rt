@@ -3,9 +3,11 @@
 use super::{IN_AND_OUT, line_of};
 use crate::judging::line_behind;
 use crate::reading::written;
-use crate::worked::EACH_KIND;
+use crate::upgraded::upgraded;
+use crate::worked::{EACH_KIND, EACH_KIND_BEFORE, IN_AND_OUT_BEFORE};
 use scripts::{Record, RecordFault, RecordReader};
 use std::alloc::Global;
+use std::process::Abort;
 use std::test::Fail;
 
 /// Feeds the reader with the text in pieces of so many bytes.
@@ -21,19 +23,25 @@ fn feed_pieces(
     Ok(reader)
 }
 
+/// Reads the record in pieces of each length, and then as a whole.
+fn is_read_in_pieces<R: Abort>(rt: &R, alloc: Global, text: &[u8]) -> Result<(), Fail> {
+    let wanted = upgraded(alloc, text)?;
+    for count in 1..=text.len() {
+        let reader = feed_pieces(RecordReader::new(alloc), text, count)?;
+        let record = reader.finish()?;
+        let again = written(alloc, &record)?;
+        assert!(rt; again.as_slice() == wanted.as_slice(), "{count} bytes");
+    }
+    let whole = Record::read(alloc, text)?;
+    let whole = written(alloc, &whole)?;
+    assert!(rt; whole.as_slice() == wanted.as_slice());
+    Ok(())
+}
+
 #[test]
 fn pieces_of_each_length(rt: HostRuntime) -> Result<(), Fail> {
-    for text in [IN_AND_OUT, EACH_KIND] {
-        let whole = Record::read(rt.alloc(), text.as_bytes())?;
-        let whole = written(rt.alloc(), &whole)?;
-        assert!(rt; whole.as_slice() == text.as_bytes());
-        for count in 1..=text.len() {
-            let reader = RecordReader::new(rt.alloc());
-            let reader = feed_pieces(reader, text.as_bytes(), count)?;
-            let record = reader.finish()?;
-            let again = written(rt.alloc(), &record)?;
-            assert!(rt; again.as_slice() == text.as_bytes(), "{count} bytes");
-        }
+    for text in [IN_AND_OUT_BEFORE, IN_AND_OUT, EACH_KIND_BEFORE, EACH_KIND] {
+        is_read_in_pieces(&rt, rt.alloc(), text.as_bytes())?;
     }
     Ok(())
 }

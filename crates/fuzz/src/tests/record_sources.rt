@@ -1,9 +1,10 @@
 //! Records from a source of which each call in turn fails: no record and no line comes in place of that.
 
 use super::streams::FailingSource;
-use super::{IN_AND_OUT, with_line};
+use super::{FORMS, IN_AND_OUT, with_line};
 use crate::judging::line_behind;
 use crate::reading::written;
+use crate::upgraded::upgraded;
 use scripts::{Record, RecordReadFault};
 use std::alloc::Global;
 use std::process::Abort;
@@ -18,10 +19,15 @@ fn fault_of(
     source: &mut FailingSource<'_>,
     text: &[u8],
 ) -> Result<Option<RecordReadFault>, Fail> {
-    match Record::read_from(alloc, source) {
-        Ok(record) if written(alloc, &record)?.as_slice() == text => Ok(None),
-        Ok(_) => Err(Fail::new("another record was read")),
-        Err(fault) => Ok(Some(fault)),
+    let record = match Record::read_from(alloc, source) {
+        Ok(record) => record,
+        Err(fault) => return Ok(Some(fault)),
+    };
+    let wanted = upgraded(alloc, text)?;
+    if written(alloc, &record)?.as_slice() == wanted.as_slice() {
+        Ok(None)
+    } else {
+        Err(Fail::new("another record was read"))
     }
 }
 
@@ -50,8 +56,10 @@ fn fail_each_call<R: Abort>(
 
 #[test]
 fn of_a_record(rt: HostRuntime) -> Result<(), Fail> {
-    for most in [1, 7, 100, MOST] {
-        fail_each_call(&rt, rt.alloc(), IN_AND_OUT.as_bytes(), most, None)?;
+    for text in FORMS {
+        for most in [1, 7, 100, MOST] {
+            fail_each_call(&rt, rt.alloc(), text.as_bytes(), most, None)?;
+        }
     }
     Ok(())
 }
@@ -80,16 +88,22 @@ fn of_one_long_line(rt: HostRuntime) -> Result<(), Fail> {
     Ok(())
 }
 
-/// Each front is bad in the line where it ends.
-#[test]
-fn of_each_front(rt: HostRuntime) -> Result<(), Fail> {
-    let text = IN_AND_OUT.as_bytes();
+/// Each front of the text is bad in the line where it ends.
+fn fronts_are_bad<R: Abort>(rt: &R, alloc: Global, text: &[u8]) -> Result<(), Fail> {
     for count in 0..text.len() {
         let (front, _) = text.split_at(count);
         let mut source = FailingSource::new(front, 30, usize::MAX);
-        let fault = fault_of(rt.alloc(), &mut source, front)?;
+        let fault = fault_of(alloc, &mut source, front)?;
         let wanted = Some(RecordReadFault::Line(line_behind(front)));
         assert_eq!(rt; fault, wanted, "{count} bytes");
+    }
+    Ok(())
+}
+
+#[test]
+fn of_each_front(rt: HostRuntime) -> Result<(), Fail> {
+    for text in FORMS {
+        fronts_are_bad(&rt, rt.alloc(), text.as_bytes())?;
     }
     Ok(())
 }

@@ -109,7 +109,7 @@ fn put_lines(text: &mut String, line: &str, count: usize) -> Result<(), Fail> {
 /// A record of so many entries.
 fn long_record(alloc: Global, count: usize) -> Result<String, Fail> {
     let mut text = String::new(alloc);
-    text.push_str("record 1\ncpus 1\nobjects 1\nobject q0 mcs 65536 queue 8\n")?;
+    text.push_str("record 2\ncpus 1\nobjects 1\nobject q0 mcs 65536 queue 8\n")?;
     writeln!(text, "log q0 {count}")?;
     put_lines(&mut text, "0 len = count 0\n", count)?;
     writeln!(text, "cpu 0 {count}")?;

@@ -1,7 +1,7 @@
 //! Texts from a source of which each call in turn fails: no verdict and no line comes in place of that.
 
 use super::streams::FailingSource;
-use super::{IN_AND_OUT, with_line};
+use super::{FORMS, IN_AND_OUT, with_line};
 use auditor::{TextFault, Verdict, audit_text};
 use std::alloc::Global;
 use std::process::Abort;
@@ -29,9 +29,11 @@ fn fail_each_call<R: Abort>(
 
 #[test]
 fn of_a_record(rt: HostRuntime) {
-    for most in [1, 7, 100, 4096] {
-        let wanted = Ok(Verdict::Sound);
-        fail_each_call(&rt, rt.alloc(), IN_AND_OUT.as_bytes(), most, wanted);
+    for text in FORMS {
+        for most in [1, 7, 100, 4096] {
+            let wanted = Ok(Verdict::Sound);
+            fail_each_call(&rt, rt.alloc(), text.as_bytes(), most, wanted);
+        }
     }
 }
 
