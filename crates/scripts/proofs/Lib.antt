@@ -33,7 +33,7 @@ pub mod RecordEnds
 pub mod RecordTexts
 pub mod RecordPieces
 pub mod RecordLengths
-pub mod Params
+pub mod ParameterLaws
 pub mod Forms
 pub mod RecordSteps
 pub mod RecordWords
