@@ -1,4 +1,4 @@
--- What the program prints: the record of a run, or of a simulation, and the report, the verdict or the order of a record.
+-- What the program prints: the record of a run or of a simulation, a record that was read, and its report, verdict or order.
 use Rattle.std.specs.Prelude.{◌≡◌, ◌⊎◌, ℕ, List, Option, Some, None}
 use Rattle.std.specs.Borrow.{Bor}
 use Rattle.std.specs.Io.KnownBytes.{Appends}
@@ -121,9 +121,9 @@ module _ (held : Option (List ℕ) → Option (List ℕ)) where
     pub has : HasCycle kernel (opened_of of.settings) of.run cycle
     pub is : answer ≡ cycle_text cycle
 
-  -- a record that words of some form answer
+  -- a record that words of some form answer: of a run or a simulation, or the one under a name
   abbrev pub AnswersRecord : Record → Type 0
-  AnswersRecord r = ((settings scripts : Option (List ℕ)) × AnswersRun settings scripts r) ⊎ ((settings scripts schedule : List ℕ) × AnswersSim settings scripts schedule r)
+  AnswersRecord r = ((settings scripts : Option (List ℕ)) × AnswersRun settings scripts r) ⊎ (((settings scripts schedule : List ℕ) × AnswersSim settings scripts schedule r) ⊎ ((name : Option (List ℕ)) × ReadsRecord name r))
 
   -- the lines of an order that words of some form answer
   pub record AnswersLines (answer : List ℕ) : Type 0 where

@@ -1,7 +1,8 @@
-//! What the program answers: the record of a run or of a simulation, and the report on a record, its verdict or its order.
+//! What the program answers: the record of a run or of a simulation, a record that is read, and the report on it, its verdict
+//! or its order.
 
 ghost use Rattle.std.specs.Prelude.{◌≡◌, ◌<◌, ℕ, List, Some, IfOk, IfErr, string_bytes};
-ghost use Rattle.mc2.specs.Answers.{Reads, ReadsSettings, ReadsScripts, AnswersRun, AnswersSim, AnswersReport, AnswersAudit, AnswersMerge, RefusesUnsound, RefusesCycle, bytes_of};
+ghost use Rattle.mc2.specs.Answers.{Reads, ReadsSettings, ReadsScripts, ReadsRecord, AnswersRun, AnswersSim, AnswersReport, AnswersAudit, AnswersMerge, RefusesUnsound, RefusesCycle, bytes_of};
 ghost use Rattle.mc2.specs.Faults.{IsRefusal};
 ghost use Rattle.scripts.specs.RecordFaults.{IsBadLine};
 ghost use Rattle.scripts.specs.ScheduleText.{IsFirstBadWord};
@@ -78,6 +79,19 @@ pub fn report_answer<I: Inputs>(
     let record = read_record(alloc, inputs, record)?;
     let text = report(alloc, &record)?;
     Ok(text)
+}
+
+/// The record of that name, or that of standard input, in whichever form its text is.
+pub fn upgrade_answer<I: Inputs>(
+    alloc: Global,
+    inputs: &mut I,
+    record: Option<&str>,
+) -> Result<Record, Fault>
+    ensures answer { IfOk result (ReadsRecord (I.held inputs.old) (bytes_of «record».entry)) }
+    ensures bad_record { (n : ℕ) → result ≡ Err (Fault.BadRecord n) → (bytes : List ℕ) × Reads (I.held inputs.old) (bytes_of «record».entry) bytes × IsBadLine bytes n }
+    ensures refusal { IfErr result IsRefusal }
+{
+    read_record(alloc, inputs, record)
 }
 
 /// The verdict on the record of that name, or on that of standard input, and its line.

@@ -30,6 +30,9 @@ pub enum Arguments<'a> {
     Merge {
         record: Option<&'a str>,
     },
+    Upgrade {
+        record: Option<&'a str>,
+    },
 }
 
 /// A command without help and version.
@@ -73,7 +76,8 @@ fn forms<'a>(alloc: Global) -> Result<Command<'a>, AllocError> {
         .subcommand(sim)?
         .subcommand(on_record(alloc, "report")?)?
         .subcommand(on_record(alloc, "audit")?)?
-        .subcommand(on_record(alloc, "merge")?)
+        .subcommand(on_record(alloc, "merge")?)?
+        .subcommand(on_record(alloc, "upgrade")?)
 }
 
 /// A word that is refused is no form, unless memory was wanting.
@@ -159,6 +163,9 @@ pub fn read_words<'a>(alloc: Global, words: &'a [String]) -> Result<Arguments<'a
             record: file(found, "record")?,
         }),
         "merge" => Ok(Arguments::Merge {
+            record: file(found, "record")?,
+        }),
+        "upgrade" => Ok(Arguments::Upgrade {
             record: file(found, "record")?,
         }),
         _ => Err(Fault::BadWords),

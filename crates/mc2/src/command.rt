@@ -12,7 +12,7 @@ ghost use Rattle.scripts.specs.Output.{AppendsBeginning};
 mod tests;
 
 use crate::Inputs;
-use crate::answers::{audit_answer, merge_answer, report_answer, run_answer, sim_answer};
+use crate::answers::{audit_answer, merge_answer, report_answer, run_answer, sim_answer, upgrade_answer};
 use crate::arguments::{Arguments, read_words};
 use crate::fault::Fault;
 use auditor::Verdict;
@@ -106,6 +106,10 @@ fn answered<R: Threads + Wait + Sync, I: Inputs>(
         Arguments::Merge { record } => {
             let (record, merged) = merge_answer(alloc, inputs, record)?;
             Ok(Answer::Merged(record, merged))
+        }
+        Arguments::Upgrade { record } => {
+            let record = upgrade_answer(alloc, inputs, record)?;
+            Ok(Answer::Record(record))
         }
     }
 }

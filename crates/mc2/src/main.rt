@@ -13,7 +13,7 @@ mod words_given;
 pub use crate::command::command;
 use crate::command::refuse;
 use crate::words_given::words_given;
-pub use answers::{report_answer, run_answer, sim_answer};
+pub use answers::{report_answer, run_answer, sim_answer, upgrade_answer};
 use event_log::{Plain, StreamFailed};
 pub use input::Inputs;
 use std::fs::{File, Files};

@@ -33,6 +33,8 @@ pub mod RecordEnds
 pub mod RecordTexts
 pub mod RecordPieces
 pub mod RecordLengths
+pub mod ParameterLaws
+pub mod Forms
 pub mod RecordSteps
 pub mod RecordWords
 pub mod Digits

@@ -11,7 +11,8 @@ use Rattle.std.specs.Option.{option_map_or}
 use Rattle.event_log.proofs.Each.{all_map}
 use Rattle.scripts.specs.Reading.{word_at}
 use Rattle.scripts.specs.Row.{IsPlain}
-use Rattle.scripts.specs.Settings.{Settings, ObjectSettings, SettingsFit, ObjectFits, NamesDiffer, name_at, is_name, is_letter, is_digit}
+use Rattle.scripts.specs.declared.form.Form.{Form}
+use Rattle.scripts.specs.Settings.{Settings, ObjectSettings, SettingsFitIn, ObjectFits, NamesDiffer, name_at, is_name, is_letter, is_digit}
 use Rattle.scripts.specs.RecordReading.{place_at}
 use Rattle.scripts.proofs.Readings.{bind_some, same}
 
@@ -66,10 +67,10 @@ each_at P [] i x all e = absurd cc
 each_at P (y ∷ ys) zero x all e = let is : y ≡ x = cc in subst P is all.0
 each_at P (y ∷ ys) (suc i) x all e = each_at P ys i x all.1 e
 
-pub name_at_plain : (settings : Settings) → SettingsFit settings → (i : ℕ) → i < length settings.objects → IsPlain (name_at settings i)
-name_at_plain settings fit i less =
+pub name_at_plain : {form : Form} (settings : Settings) → SettingsFitIn form settings → (i : ℕ) → i < length settings.objects → IsPlain (name_at settings i)
+name_at_plain {form} settings fit i less =
     let there = object_there settings i less in
-    let fits : ObjectFits there.0 = each_at ObjectFits settings.objects i there.0 fit.each there.1 in
+    let fits : ObjectFits form there.0 = each_at (ObjectFits form) settings.objects i there.0 fit.each there.1 in
     subst IsPlain (sym (ap (λ o. option_map_or (λ v. v.name) o []) there.1)) (name_plain there.0.name fits.name)
 
 named_by : {X : Type 0} (test : X → Bool) (xs : List X) (i : ℕ) → position test xs ≡ Some i → (x : X) × (slice_get xs i ≡ Some x) × (test x ≡ true) × (i < length xs)

@@ -8,10 +8,12 @@ use Rattle.std.specs.List.{AllByRecursion, list_all, list_any}
 use Rattle.std.specs.Option.{option_map_or}
 use Rattle.word_rule.specs.declared.lock_kind.LockKind.TheVariants.{Ticket}
 use Rattle.scripts.specs.declared.kernel_call.KParams.TheVariants.{Queue}
+use Rattle.scripts.specs.declared.form.Form.{Form}
 use Rattle.scripts.specs.RecordReading.{object_at, new_object_at}
 use Rattle.scripts.specs.RecordText.{object_words}
 use Rattle.scripts.specs.Settings.{ObjectSettings, ObjectFits, is_name, is_letter, is_digit}
 use Rattle.scripts.proofs.RecordLineLaws.{ReadsLines, reads_object}
+use Rattle.scripts.proofs.ParameterLaws.{tells_queue}
 use Rattle.scripts.proofs.SettingsFits.{Joins, Differ, name_in, name_before, name_here, differ_more}
 
 -- the name is one of theirs
@@ -28,16 +30,16 @@ new_some : (earlier : List ObjectSettings) (x : Option ObjectSettings) (o : Obje
 new_some earlier None o e = absurd cc
 new_some earlier (Some p) o e = let free = if_free (is_taken p.name earlier) p o e in (ap Some free.1, sym (ap (λ q. is_taken q.name earlier) free.1) ∙ free.0)
 
-pub reads_new : (earlier : List ObjectSettings) → ReadsLines object_words (Joins earlier) (new_object_at earlier)
+pub reads_new : (form : Form) (earlier : List ObjectSettings) → ReadsLines (object_words form) (Joins form earlier) (new_object_at form earlier)
 unfolding new_object_at
-reads_new earlier = record {
+reads_new form earlier = record {
   takes = λ ws o e.
-      let new = new_some earlier (object_at ws) o e in
-      let is = reads_object.takes ws o new.0 in
+      let new = new_some earlier (object_at form ws) o e in
+      let is = (reads_object form).takes ws o new.0 in
       (is.0, (is.1, new.1));
   again = λ o joins.
-      ap (λ x. option_map_or (λ p. cond (is_taken p.name earlier) None (Some p)) x None) (reads_object.again o joins.0) ∙ ap (λ b. cond b None (Some o)) joins.1;
-  plain = λ o joins. reads_object.plain o joins.0;
+      ap (λ x. option_map_or (λ p. cond (is_taken p.name earlier) None (Some p)) x None) ((reads_object form).again o joins.0) ∙ ap (λ b. cond b None (Some o)) joins.1;
+  plain = λ o joins. (reads_object form).plain o joins.0;
 }
 
 -- ---- a name that no object has
@@ -86,11 +88,11 @@ fresh front (o ∷ os) i at =
     ap (λ b. b || is_taken (front ++ x ∷ rest) os) here ∙ later
 
 -- an object with a new name
-shown_new : (earlier : List ObjectSettings) → length earlier < 16 → (o : ObjectSettings) × Joins earlier o
-shown_new earlier few =
+shown_new : (form : Form) (earlier : List ObjectSettings) → length earlier < 16 → (o : ObjectSettings) × Joins form earlier o
+shown_new form earlier few =
     let letters = diagonal_letters 1 earlier in
     let name : is_name (97 ∷ diagonal 1 earlier) ≡ true = rw (letters.0, le-leb (length (diagonal 1 earlier)) 15 (omega (arith, letters.1, few))) refl in
-    (record { name = 97 ∷ diagonal 1 earlier; lock = Ticket; events = 1; params = Queue 1 }, (record { name = name; events = (omega arith, omega arith); params = refl }, fresh (97 ∷ []) earlier 1 refl))
+    (record { name = 97 ∷ diagonal 1 earlier; lock = Ticket; events = 1; params = Queue 1 }, (record { name = name; events = (omega arith, omega arith); params = refl; told = tells_queue form 1 }, fresh (97 ∷ []) earlier 1 refl))
 
 -- ---- names that differ
 
@@ -116,9 +118,9 @@ free front os o differ = false_from_ne_true (is_taken o.name front) (λ e.
     omega (arith, one, less))
 
 -- so many objects more, each with a new name
-pub more_new : (n : ℕ) (front : List ObjectSettings) → length front + n ≤ 16 → Differ front → (os : List ObjectSettings) × (length os ≡ n) × Differ (front ++ os) × AllByRecursion ObjectFits os
-more_new zero front few differ = ([], refl, subst Differ (sym (append-nil front)) differ, tt)
-more_new (suc n) front few differ =
-    let one = shown_new front (omega (arith, few)) in
-    let rest = more_new n (front ++ one.0 ∷ []) (omega (arith, few, length-append front (one.0 ∷ []))) (differ_more front one.0 differ one.1.1) in
+pub more_new : (form : Form) (n : ℕ) (front : List ObjectSettings) → length front + n ≤ 16 → Differ front → (os : List ObjectSettings) × (length os ≡ n) × Differ (front ++ os) × AllByRecursion (ObjectFits form) os
+more_new form zero front few differ = ([], refl, subst Differ (sym (append-nil front)) differ, tt)
+more_new form (suc n) front few differ =
+    let one = shown_new form front (omega (arith, few)) in
+    let rest = more_new form n (front ++ one.0 ∷ []) (omega (arith, few, length-append front (one.0 ∷ []))) (differ_more front one.0 differ one.1.1) in
     (one.0 ∷ rest.0, ap suc rest.1, subst Differ (append_assoc front (one.0 ∷ []) rest.0) rest.2, (one.1.0, rest.3))

@@ -5,7 +5,7 @@ use Rattle.mc2.proofs.command.answered.Goals as goal
 pub returns-in_ok-record-in-Sim-clause-answer : goal.returns-in_ok-record-in-Sim-clause-answer
 returns-in_ok-record-in-Sim-clause-answer g c =
     let r = c.in_ok-record-in-Sim in
-    inl (refl, inl (r.record, inr (c.in-Sim.settings.now, c.in-Sim.scripts.now, c.in-Sim.schedule.now, r.ensures.answer), refl))
+    inl (refl, inl (r.record, inr (inl (c.in-Sim.settings.now, c.in-Sim.scripts.now, c.in-Sim.schedule.now, r.ensures.answer)), refl))
 
 pub returns-in_err-record-in-Merge-clause-found : goal.returns-in_err-record-in-Merge-clause-found
 returns-in_err-record-in-Merge-clause-found g c =
