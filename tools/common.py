@@ -134,9 +134,9 @@ def instructions(words, **how):
 
 
 def record_of(words, **how):
-    """The record that a run of mc2 writes."""
+    """The record that a run of mc2 writes. An earlier program writes one of the first form."""
     record = run(words, **how).stdout
-    if not record.startswith(b"record 1\n") or not record.endswith(b"\nend\n"):
+    if not record.startswith((b"record 1\n", b"record 2\n")) or not record.endswith(b"\nend\n"):
         raise Stop(f"{shown(words)} wrote no record")
     return record
 

@@ -253,9 +253,9 @@ static enum lock_kind read_words(int count, char **words) {
 
 static void open_objects(enum lock_kind kind) {
     unsigned told = kind == MCS ? MC2_MCS : MC2_TICKET;
-    const struct mc2_object objects[OBJECTS] = {{"threads", MC2_QUEUE, told, events, THREADS, 0},
-                                                {"pages", MC2_POOL, told, events, PAGES, 0},
-                                                {"console", MC2_CONSOLE, told, events, BYTES, 0}};
+    const struct mc2_object objects[OBJECTS] = {{"threads", MC2_QUEUE, told, events, THREADS, 0, NULL},
+                                                {"pages", MC2_POOL, told, events, PAGES, 0, NULL},
+                                                {"console", MC2_CONSOLE, told, events, BYTES, 0, NULL}};
     for (unsigned at = 0; at < OBJECTS; at++)
         if (!lock_open(&locks[at], kind))
             refuse("no mutex", 3);

@@ -24,7 +24,7 @@ static void check(bool is_so, const char *what, int line) {
 }
 
 static struct mc2_object object_of(const char *name, uint32_t kind, uint32_t events, uint32_t size, uint32_t channels) {
-    struct mc2_object object = {name, kind, MC2_MCS, events, size, channels};
+    struct mc2_object object = {name, kind, MC2_MCS, events, size, channels, NULL};
     return object;
 }
 
@@ -133,6 +133,35 @@ static const char *text_of(const struct mc2_recorder *recorder) {
     return text;
 }
 
+static int opened_with(uint32_t kind, const uint32_t *quotas) {
+    struct mc2_recorder recorder;
+    struct mc2_object object = object_of("p", kind, 1, 7, kind == MC2_SCHED ? 1 : 0);
+    object.quotas = quotas;
+    int result = mc2_open(&recorder, &object, 1, 1, 1);
+    mc2_close(&recorder);
+    return result;
+}
+
+static void check_quotas(void) {
+    uint32_t quotas[MC2_OWNERS] = {0};
+    struct mc2_recorder recorder;
+    struct mc2_object pool = object_of("p", MC2_POOL, 1, 7, 0);
+    for (unsigned owner = 0; owner < MC2_OWNERS; owner++) {
+        quotas[owner] = 4097;
+        GIVES(opened_with(MC2_POOL, quotas), MC2_BAD_OBJECT);
+        quotas[owner] = 4096;
+        GIVES(opened_with(MC2_POOL, quotas), MC2_DONE);
+    }
+    GIVES(opened_with(MC2_QUEUE, quotas), MC2_BAD_OBJECT);
+    GIVES(opened_with(MC2_CONSOLE, quotas), MC2_BAD_OBJECT);
+    GIVES(opened_with(MC2_SCHED, quotas), MC2_BAD_OBJECT);
+    GIVES(opened_with(MC2_SCHED, NULL), MC2_DONE);
+    GIVES(mc2_open(&recorder, &pool, 1, 1, 1), MC2_DONE);
+    CHECK(strcmp(text_of(&recorder), "record 2\ncpus 1\nobjects 1\nobject p mcs 1 pool 7 7 7 7 7 7 7 7 7 7 7 7 7 7 7 7 7\n"
+                                     "log p 0\ncpu 0 0\nend\n") == 0);
+    mc2_close(&recorder);
+}
+
 static void check_events(struct mc2_recorder *recorder) {
     struct mc2_step steps[9], none = mc2_answer(mc2_ask(MC2_CALL_WORDS, 0, 0), MC2_OK, 0);
     struct mc2_step no_reply = mc2_answer(mc2_ask(MC2_LEN, 0, 0), MC2_REPLY_WORDS, 0);
@@ -180,7 +209,7 @@ static void check_entries(struct mc2_recorder *recorder) {
     GIVES(mc2_entry(recorder, 0, 0, 1, calls, 1, &no_reply, 1), MC2_BAD_STEP);
 }
 
-static const char full_text[] = "record 1\ncpus 2\nobjects 2\n"
+static const char full_text[] = "record 2\ncpus 2\nobjects 2\n"
                                 "object abcdefghijklmno9 mcs 1 queue 1024\nobject s mcs 2 sched 3 4\n"
                                 "log abcdefghijklmno9 1\n0 len = count 0\nlog s 1\n1 len = count 0\ncpu 0 2\n"
                                 "abcdefghijklmno9 18446744073709551615 len | noroom\n"
@@ -257,15 +286,16 @@ static const struct {
     {Q, MC2_ENQ, 1, 0, MC2_OK, 0},           {Q, MC2_LEN, 0, 0, MC2_COUNT, 1},          {Q, MC2_DEQ, 0, 0, MC2_THREAD, 1},
     {Q, MC2_ALLOC, UINT32_MAX, 0, MC2_BADCALL, 0},
     {P, MC2_ALLOC, 16, 0, MC2_BADOWNER, 0},  {P, MC2_FREE, 0, 2, MC2_BADPAGE, 0},       {P, MC2_FREE, 0, 0, MC2_NOTTAKEN, 0},
-    {P, MC2_ALLOC, 15, 0, MC2_PAGE, 0},      {P, MC2_FREE, 0, 0, MC2_NOTYOURS, 0},      {P, MC2_ALLOC, 0, 0, MC2_PAGE, 1},
-    {P, MC2_ALLOC, 0, 0, MC2_NONE, 0},       {P, MC2_LEFT, 0, 0, MC2_COUNT, 0},         {P, MC2_FREE, 15, 0, MC2_OK, 0},
+    {P, MC2_ALLOC, 15, 0, MC2_PAGE, 0},      {P, MC2_FREE, 0, 0, MC2_NOTYOURS, 0},      {P, MC2_ALLOC, 15, 0, MC2_OVERQUOTA, 0},
+    {P, MC2_ALLOC, 0, 0, MC2_PAGE, 1},       {P, MC2_ALLOC, 0, 0, MC2_NONE, 0},         {P, MC2_LEFT, 0, 0, MC2_COUNT, 0},
+    {P, MC2_FREE, 15, 0, MC2_OK, 0},
     {C, MC2_GET, 0, 0, MC2_EMPTY, 0},        {C, MC2_PUT, 255, 0, MC2_OK, 0},           {C, MC2_PUT, 0, 0, MC2_DROPPED, 255},
     {C, MC2_LEVEL, 0, 0, MC2_COUNT, 1},      {C, MC2_GET, 0, 0, MC2_BYTE, 0},
     {S, MC2_NEXT, 0, 0, MC2_EMPTY, 0},       {S, MC2_READY, 0, 0, MC2_OK, 0},           {S, MC2_NEXT, 0, 0, MC2_THREAD, 0},
     {S, MC2_SLEEP, 1, 0, MC2_BADCHANNEL, 0}, {S, MC2_SLEEP, 0, 1, MC2_OK, 0},           {S, MC2_SLEEP, 0, 0, MC2_OK, 0},
     {S, MC2_WAKE, 0, 0, MC2_THREAD, 1},      {S, MC2_WAKEALL, 0, 0, MC2_COUNT, 1},      {S, MC2_WAKE, 0, 0, MC2_EMPTY, 0},
     {S, MC2_NEXT, 0, 0, MC2_THREAD, 1}};
-enum { TOLD = sizeof told / sizeof told[0], OF_THE_POOL = 9 };
+enum { TOLD = sizeof told / sizeof told[0], OF_THE_POOL = 10 };
 
 // Who is alone looks once at a ticket lock, and never at an MCS lock.
 static void note(struct mc2_recorder *recorder, uint32_t object, const struct mc2_call *calls, uint32_t asked,
@@ -294,11 +324,14 @@ static void note_groups(struct mc2_recorder *recorder) {
 
 static void print_record(void) {
     struct mc2_recorder recorder;
-    const struct mc2_object objects[4] = {{"threads", MC2_QUEUE, MC2_TICKET, 100, 2, 0},
-                                          {"pages", MC2_POOL, MC2_MCS, OF_THE_POOL, 2, 0},
-                                          {"c", MC2_CONSOLE, MC2_TICKET, 65536, 1, 0},
-                                          {"s9", MC2_SCHED, MC2_MCS, 10, 2, 1}};
+    uint32_t quotas[MC2_OWNERS] = {1, 0, 4096, 2, 2, 2, 2, 2, 2, 2, 2, 2, 2, 2, 2, 1};
+    const struct mc2_object objects[4] = {{"threads", MC2_QUEUE, MC2_TICKET, 100, 2, 0, NULL},
+                                          {"pages", MC2_POOL, MC2_MCS, OF_THE_POOL, 2, 0, quotas},
+                                          {"c", MC2_CONSOLE, MC2_TICKET, 65536, 1, 0, NULL},
+                                          {"s9", MC2_SCHED, MC2_MCS, 10, 2, 1, NULL}};
     GIVES(mc2_open(&recorder, objects, 4, 2, TOLD + 3), MC2_DONE);
+    // The recorder has quotas of its own.
+    quotas[15] = 9;
     for (unsigned at = 0; at < TOLD; at++) {
         struct mc2_call call = mc2_ask(told[at].word, told[at].first, told[at].second);
         struct mc2_step step = mc2_answer(call, told[at].reply, told[at].number);
@@ -315,6 +348,7 @@ int main(void) {
     check_sizes();
     check_counts();
     check_memory();
+    check_quotas();
     check_notes();
     print_record();
     return 0;

@@ -1,9 +1,8 @@
 // The four objects, which answer calls.
 #pragma once
 #include "../record_speed/values.hpp"
+#include <algorithm>
 #include <cstddef>
-
-constexpr uint32_t MOST_OWNER = 15;
 
 // Threads in lists, each in one of them at most. The places behind the threads are the heads of the lists.
 template <size_t LISTS> class Lists {
@@ -103,21 +102,26 @@ class Pool {
     uint8_t owners[MOST_PAGES];
     // How many pages there are, how many are free, and a page below which none is.
     uint32_t pages, left, lowest = 0;
+    // How many more each owner may have.
+    uint32_t more[OWNERS];
 
     Reply alloc(uint32_t owner) {
-        if (owner > MOST_OWNER)
+        if (owner >= OWNERS)
             return {BADOWNER, 0};
         if (left == 0)
             return {NONE, 0};
+        if (more[owner] == 0)
+            return {OVERQUOTA, 0};
         while (owners[lowest] != FREE_PAGE)
             ++lowest;
         owners[lowest] = owner;
         --left;
+        --more[owner];
         return {PAGE, lowest++};
     }
 
     Reply free(uint32_t owner, uint32_t page) {
-        if (owner > MOST_OWNER)
+        if (owner >= OWNERS)
             return {BADOWNER, 0};
         if (page >= pages)
             return {BADPAGE, 0};
@@ -127,15 +131,17 @@ class Pool {
             return {NOTYOURS, 0};
         owners[page] = FREE_PAGE;
         ++left;
+        ++more[owner];
         if (page < lowest)
             lowest = page;
         return {OK, 0};
     }
 
   public:
-    explicit Pool(uint32_t pages) : pages(pages), left(pages) {
+    Pool(uint32_t pages, const uint32_t *quotas) : pages(pages), left(pages) {
         for (auto &it : owners)
             it = FREE_PAGE;
+        std::copy_n(quotas, OWNERS, more);
     }
 
     Reply answer(const Call &call) {

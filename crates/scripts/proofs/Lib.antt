@@ -22,6 +22,7 @@ pub mod Names
 pub mod ListLaws
 pub mod RequestLaws
 pub mod SoundRanges
+pub mod SoundBefore
 pub mod FirstLines
 pub mod RecordLineLaws
 pub mod NewObjects
@@ -33,7 +34,7 @@ pub mod RecordEnds
 pub mod RecordTexts
 pub mod RecordPieces
 pub mod RecordLengths
-pub mod Params
+pub mod ParameterLaws
 pub mod Forms
 pub mod RecordSteps
 pub mod RecordWords

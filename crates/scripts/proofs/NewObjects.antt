@@ -13,7 +13,7 @@ use Rattle.scripts.specs.RecordReading.{object_at, new_object_at}
 use Rattle.scripts.specs.RecordText.{object_words}
 use Rattle.scripts.specs.Settings.{ObjectSettings, ObjectFits, is_name, is_letter, is_digit}
 use Rattle.scripts.proofs.RecordLineLaws.{ReadsLines, reads_object}
-use Rattle.scripts.proofs.Params.{tells_queue}
+use Rattle.scripts.proofs.ParameterLaws.{tells_queue}
 use Rattle.scripts.proofs.SettingsFits.{Joins, Differ, name_in, name_before, name_here, differ_more}
 
 -- the name is one of theirs

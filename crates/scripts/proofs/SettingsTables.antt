@@ -1,9 +1,10 @@
 -- Values of settings, as they are seen in a TOML table.
-use Rattle.std.proofs.Common.{◌≡◌, ℕ, suc, ◌+◌, ◌<◌, Bool, true, false, List, [], ◌∷◌, ◌++◌, length, drop, get_or, Ok, Err, IfOk, IfErr, IsUtf8, Result, String, Global, string_bytes, refl, ap, sym, ◌∙◌, ◌&&◌, if◌then◌else◌, IsErrAnd, bytes_eq}
+use Rattle.std.proofs.Common.{◌≡◌, ℕ, suc, ◌+◌, ◌<◌, Bool, true, false, List, [], ◌∷◌, ◌++◌, append_assoc, append-nil, length, Option, Some, None, drop, get_or, Ok, Err, IfOk, IfErr, IsUtf8, Result, String, Global, string_bytes, refl, ap, sym, ◌∙◌, ◌&&◌, if◌then◌else◌, IsErrAnd, bytes_eq}
 use Rattle.std.specs.List.{list_all, list_any}
 use Rattle.std.specs.Map.{keys_of}
+use Rattle.std.specs.Option.{is_some, option_map_or}
 use Rattle.toml.proofs.Views.{items_view-drop, Entry}
-use Rattle.toml.specs.Data.{Data, Items, no_items, item}
+use Rattle.toml.specs.Data.{Data, Items, no_items, item, as_integer}
 use Rattle.toml.specs.Parse.{parse_document}
 use Rattle.toml.specs.View.{view, items_view, members_view}
 use Rattle.toml.specs.declared.value.Value.{Value}
@@ -15,12 +16,26 @@ use Rattle.scripts.specs.declared.settings_fault.SettingsFault.{SettingsFault}
 use Rattle.scripts.specs.declared.settings_fault.SettingsFault.TheVariants.{OutOfMemory, Refused}
 use Rattle.scripts.specs.declared.settings_fault.SettingsKey.{SettingsKey}
 use Rattle.scripts.specs.Answers.{◌>>=◌, ok_map}
-use Rattle.scripts.specs.SettingsText.{count_items, at_key, key_word, has_only, object_from, objects_from, settings_of, Settles, NamesFirstFault}
+use Rattle.scripts.specs.SettingsText.{count_items, are_integers, quota_from, each_quota, at_key, key_word, has_only, object_from, objects_from, settings_of, Settles, NamesFirstFault}
 
 -- an array has as many items as values
 pub items_counted : (vs : List Value) → count_items (items_view vs) ≡ length vs
 items_counted [] = refl
 items_counted (v ∷ vs) = ap suc (items_counted vs)
+
+-- whether it is seen as an integer
+abbrev pub is_integer : Value → Bool
+is_integer v = is_some (as_integer (view v))
+
+is_some_is : {X : Type 0} (o : Option X) → is_some o ≡ option_map_or (λ x. true) o false
+is_some_is (Some x) = refl
+is_some_is None = refl
+
+-- an array of integers, value by value
+pub integers_all : (vs : List Value) → list_all is_integer vs ≡ are_integers (items_view vs)
+unfolding are_integers
+integers_all [] = refl
+integers_all (v ∷ vs) = rw (is_some_is (as_integer (view v)), integers_all vs) refl
 
 pub at_map : {A B : Type 0} (f : A → B) (place : Place) (key : SettingsKey) (r : Result A Cause) → ok_map f (at_key place key r) ≡ at_key place key (ok_map f r)
 unfolding at_key
@@ -70,6 +85,34 @@ objects_none os d ds fault e = rw e
 pub objects_end : (os : List ObjectSettings) → objects_from os no_items ≡ Ok os
 unfolding objects_from
 objects_end os = refl
+
+bind_longer : (front longer : List ℕ) (quota : ℕ) (r : Result (List ℕ) Cause) → longer ≡ front ++ quota ∷ [] → ((r >>= λ more. Ok (quota ∷ more)) >>= λ more. Ok (front ++ more)) ≡ (r >>= λ more. Ok (longer ++ more))
+bind_longer front longer quota (Ok more) same = ap Ok (sym (ap (λ l. l ++ more) same ∙ append_assoc front (quota ∷ []) more))
+bind_longer front longer quota (Err e) same = refl
+
+-- the quotas of the items, behind those in front
+abbrev pub quotas_behind : List ℕ → Items → Result (List ℕ) Cause
+quotas_behind front ds = each_quota ds >>= λ more. Ok (front ++ more)
+
+-- a quota more
+pub quotas_more : (front longer : List ℕ) (d : Data) (ds : Items) (quota : ℕ) → longer ≡ front ++ quota ∷ [] → quota_from d ≡ Ok quota → quotas_behind front (item d ds) ≡ quotas_behind longer ds
+unfolding each_quota
+quotas_more front longer d ds quota same e = rw e (bind_longer front longer quota (each_quota ds) same)
+
+-- a cause ends the reading
+pub quotas_none : (front : List ℕ) (d : Data) (ds : Items) (cause : Cause) → quota_from d ≡ Err cause → quotas_behind front (item d ds) ≡ Err cause
+unfolding each_quota
+quotas_none front d ds cause e = rw e refl
+
+-- no value is left
+pub quotas_end : (front : List ℕ) → quotas_behind front no_items ≡ Ok front
+unfolding each_quota
+quotas_end front = ap Ok (append-nil front)
+
+-- the answer is that error
+pub error_is : {X E : Type 0} (r : Result X E) (e : E) → IsErrAnd r (λ x. x ≡ e) → r ≡ Err e
+error_is (Ok x) e is = absurd is
+error_is (Err x) e is = ap Err is
 
 -- a refusal says what was expected
 pub refused : {X : Type 0} (r : Result X SettingsFault) (fault : BadSettings) (expected : Result X BadSettings) → IsErrAnd r (λ f. f ≡ Refused fault) → expected ≡ Err fault → Settles r expected

@@ -1,10 +1,12 @@
 //! Reading settings, a TOML text.
 
 ghost use Rattle.std.specs.Prelude.{◌≡◌, ◌≤◌, ◌∷◌, [], map, length, replicate, None, if◌then◌else◌, IsUtf8, IfOk, IfErr};
+ghost use Rattle.toml.specs.Data.{get_member};
 ghost use Rattle.toml.specs.Parse.{parse_document};
 ghost use Rattle.toml.specs.View.{view, table_view, items_view};
 ghost use Rattle.scripts.specs.Settings.{SettingsFit};
 ghost use Rattle.std.specs.List.{list_any};
+ghost use Rattle.std.specs.Option.{option_map};
 ghost use Rattle.std.specs.Str.{bytes_eq};
 ghost use Rattle.scripts.specs.Answers.{ok_map};
 ghost use Rattle.scripts.specs.SettingsText.{key_word, Settles, SpellsSettings, NamesFirstFault, key_in, key_or, at_key, find_key, number_from, are_integers, quota_from, each_quota, quotas_from, name_from, kind_from, lock_from, items_from, has_only, keys_of, params_in, object_in, object_from, objects_from, settings_in, settings_of, unknown_key};
@@ -35,12 +37,19 @@ fn at<T>(place: Place, key: SettingsKey, found: Result<T, Cause>) -> Result<T, B
     }
 }
 
+/// The value of the key, if the table has one.
+fn get<'a>(table: &'a Table, key: SettingsKey) -> Option<&'a Value>
+    ensures { option_map (λ v. view v.now) result ≡ get_member (key_word key) (table_view table.now) }
+{
+    table.get(key.word())
+}
+
 /// The value of the key.
 #[tactic(auto, unfolding(crate::specs::SettingsText::find_key, crate::specs::SettingsText::at_key))]
 fn find<'a>(table: &'a Table, place: Place, key: SettingsKey) -> Result<&'a Value, BadSettings>
     ensures { ok_map (λ v. view v.now) result ≡ find_key place key (table_view table.now) }
 {
-    match table.get(key.word()) {
+    match get(table, key) {
         Some(value) => Ok(value),
         None => Err(BadSettings {
             place,
@@ -133,7 +142,7 @@ fn lock(value: &Value) -> Result<LockKind, Cause>
 fn are_integers(values: &[Value]) -> bool
     ensures { result ≡ are_integers (items_view values.now) }
 {
-    values.iter().all(|value| value.as_integer().is_some())
+    values.iter().all(|value| value.is_integer())
 }
 
 /// A quota.
@@ -186,7 +195,7 @@ fn quotas(value: &Value) -> Result<[u32; OWNERS], Cause>
 fn quotas_of(table: &Table, place: Place, pages: u32) -> Result<[u32; OWNERS], BadSettings>
     ensures { result ≡ key_or place SettingsKey.Quotas quotas_from (replicate OWNERS pages) (table_view table.now) }
 {
-    match table.get(SettingsKey::Quotas.word()) {
+    match get(table, SettingsKey::Quotas) {
         Some(value) => at(place, SettingsKey::Quotas, quotas(value)),
         None => Ok([pages; OWNERS]),
     }
