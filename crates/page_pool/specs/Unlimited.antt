@@ -19,6 +19,7 @@ unlimited_give s o (Some p) = (record s { owners = given s.owners p o }, Page p)
 abbrev pub unlimited_alloc : PoolState → ℕ → PoolState × PoolReply
 unlimited_alloc s o = if nat_lt 15 o then (s, BadOwner) else unlimited_give s o (least_free s.owners)
 
+-- the pool after the call, and the reply
 abbrev pub unlimited_answer : PoolState → PoolCall → PoolState × PoolReply
 unlimited_answer s (Alloc o) = unlimited_alloc s o
 unlimited_answer s (Free o p) = free_answer s o p

@@ -1,6 +1,6 @@
 //! Worked answers, the limits of an opening, and a plain program that answers the same.
 
-ghost use Rattle.std.specs.Prelude.{◌≡◌, ℕ, Some};
+ghost use Rattle.std.specs.Prelude.{◌≡◌, ◌<◌, ℕ, Some};
 ghost use Rattle.page_pool.specs.Table.{owner_of};
 ghost use Rattle.page_pool.specs.Answer.{pool_answer};
 ghost use Rattle.page_pool.specs.Owning.{IsLeastFree};
@@ -8,7 +8,7 @@ ghost use Rattle.page_pool.specs.declared.call.PoolCall.TheVariants.{Alloc, Free
 ghost use Rattle.page_pool.specs.declared.call.PoolReply.TheVariants.{Ok, Page};
 
 use crate::{
-    MOST_PAGES, PagePool, PoolCall as Call, PoolParams, PoolReply as Reply, frees_its_own,
+    MOST_PAGES, OWNERS, PagePool, PoolCall as Call, PoolParams, PoolReply as Reply, frees_its_own,
     gives_the_least, stays_whole,
 };
 use event_log::{Logged, OpenFault, SeqObject, Step};
@@ -189,17 +189,32 @@ fn a_pool_with_no_page_left(rt: HostRuntime) -> Result<(), Fail> {
     Ok(())
 }
 
-/// The answer of a pool that is a plain table of owners, which is searched from the front.
-fn plain_answer(owners: &mut [Option<u32>], call: Call) -> Result<Reply, Fail> {
+/// The answer to `Alloc` of a pool that is a plain table of owners, which is searched from the front. `None` as quota is
+/// that of no owner.
+fn plain_alloc(owners: &mut [Option<u32>], quota: Option<u32>, owner: u32) -> Result<Reply, Fail> {
+    let Some(quota) = quota else {
+        return Ok(Reply::BadOwner);
+    };
+    let Some(page) = owners.iter().position(|entry| entry.is_none()) else {
+        return Ok(Reply::NoPage);
+    };
+    let held = owners.iter().filter(|entry| **entry == Some(owner)).count();
+    if held >= quota as usize {
+        return Ok(Reply::OverQuota);
+    }
+    owners[page] = Some(owner);
+    Ok(Reply::Page(u32::try_from(page)?))
+}
+
+/// The answer of such a pool, with the quotas.
+fn plain_answer(
+    owners: &mut [Option<u32>],
+    quotas: &[u32; OWNERS],
+    call: Call,
+) -> Result<Reply, Fail> {
     match call {
-        Call::Alloc(owner) | Call::Free { owner, .. } if owner > 15 => Ok(Reply::BadOwner),
-        Call::Alloc(owner) => match owners.iter().position(|entry| entry.is_none()) {
-            Some(page) => {
-                owners[page] = Some(owner);
-                Ok(Reply::Page(u32::try_from(page)?))
-            }
-            None => Ok(Reply::NoPage),
-        },
+        Call::Alloc(owner) => plain_alloc(owners, quotas.get(owner as usize).copied(), owner),
+        Call::Free { owner, .. } if owner > 15 => Ok(Reply::BadOwner),
         Call::Free { owner, page } => match owners.get_mut(page as usize) {
             None => Ok(Reply::BadPage),
             Some(entry) => match *entry {
@@ -222,8 +237,8 @@ fn plain_answer(owners: &mut [Option<u32>], call: Call) -> Result<Reply, Fail> {
 /// be filled, more of them take a page, and else more give one back.
 fn call_of(number: u64, pages: u32, fills: bool) -> Call {
     let owner = match (number >> 60) % 16 {
-        0..=11 => 0,
-        12..=14 => 1,
+        0..=7 => 0,
+        8..=14 => 1,
         _ => 16,
     };
     let page = (number >> 40) as u32 % pages.saturating_add(1);
@@ -236,10 +251,19 @@ fn call_of(number: u64, pages: u32, fills: bool) -> Call {
     }
 }
 
-/// Makes that many calls on a pool of the pages, which fill it and empty it in turn, and holds each reply to that of the
-/// plain program.
-fn compare<R: Abort>(rt: &R, alloc: Global, pages: u32, turns: u32) -> Result<(), Fail> {
-    let mut pool = PagePool::open(alloc, &PoolParams::unlimited(pages))?;
+/// Quotas by which one owner is kept from filling the pool, and two owners can fill it together.
+fn for_two(pages: u32) -> PoolParams {
+    let mut params = PoolParams::unlimited(pages);
+    params.quotas[0] = pages.div_ceil(2);
+    params.quotas[1] = pages.div_ceil(2);
+    params
+}
+
+/// Makes that many calls on a pool that was opened so, which fill it and empty it in turn, and holds each reply to that of
+/// the plain program.
+fn compare<R: Abort>(rt: &R, alloc: Global, params: PoolParams, turns: u32) -> Result<(), Fail> {
+    let PoolParams { pages, quotas } = params;
+    let mut pool = PagePool::open(alloc, &params)?;
     let mut owners = vec![in alloc; None; pages as usize]?;
     let mut number = 1u64;
     for turn in 0..turns {
@@ -249,11 +273,11 @@ fn compare<R: Abort>(rt: &R, alloc: Global, pages: u32, turns: u32) -> Result<()
             .wrapping_add(1442695040888963407);
         let fills = turn / pages.saturating_mul(2).max(1) % 2 == 0;
         let call = call_of(number, pages, fills);
-        let wanted = plain_answer(owners.as_mut_slice(), call)?;
+        let wanted = plain_answer(owners.as_mut_slice(), &quotas, call)?;
         assert_eq!(rt;
             pool.apply(&call),
             wanted,
-            "to {call:?}, turn {turn} of {pages} pages"
+            "to {call:?}, turn {turn} of {params:?}"
         );
     }
     Ok(())
@@ -262,15 +286,22 @@ fn compare<R: Abort>(rt: &R, alloc: Global, pages: u32, turns: u32) -> Result<()
 #[test]
 fn answers_as_a_plain_program(rt: HostRuntime) -> Result<(), Fail> {
     for pages in [1, 5, 63, 64, 65] {
-        compare(&rt, rt.alloc(), pages, 5000)?;
+        compare(&rt, rt.alloc(), PoolParams::unlimited(pages), 5000)?;
+        compare(&rt, rt.alloc(), for_two(pages), 5000)?;
     }
     Ok(())
 }
 
 #[test]
 fn answers_as_a_plain_program_of_all_pages(rt: HostRuntime) -> Result<(), Fail> {
-    compare(&rt, rt.alloc(), MOST_PAGES - 1, 50_000)?;
-    compare(&rt, rt.alloc(), MOST_PAGES, 100_000)
+    compare(
+        &rt,
+        rt.alloc(),
+        PoolParams::unlimited(MOST_PAGES - 1),
+        50_000,
+    )?;
+    compare(&rt, rt.alloc(), PoolParams::unlimited(MOST_PAGES), 50_000)?;
+    compare(&rt, rt.alloc(), for_two(MOST_PAGES), 50_000)
 }
 
 /// A word of the free pages and a page more.
@@ -310,28 +341,27 @@ fn freed_pages_of_the_greatest_pool(rt: HostRuntime) -> Result<(), Fail> {
     Ok(())
 }
 
-/// A pool whose owners may each have 3 pages, and one of them another number.
-fn quota_for(pages: u32, owner: usize, quota: u32) -> PoolParams {
-    let mut quotas = [3; 16];
-    if owner < 16 {
-        quotas[owner] = quota;
-    }
+/// A pool whose owners may each have 3 pages, but for one owner with a quota of its own.
+fn with_quota(pages: u32, owner: usize, quota: u32) -> PoolParams
+    requires { owner < 16 }
+{
+    let mut quotas = [3; OWNERS];
+    quotas[owner] = quota;
     PoolParams { pages, quotas }
 }
 
 #[test]
-fn answers_with_quotas(rt: HostRuntime) -> Result<(), Fail> {
-    let rows: [(PoolParams, &[(Call, Reply)]); 5] = [
+fn worked_answers_with_quotas(rt: HostRuntime) -> Result<(), Fail> {
+    let rows: [(PoolParams, &[(Call, Reply)]); 6] = [
         (
-            quota_for(3, 1, 1),
+            with_quota(3, 1, 1),
             &[
                 (Call::Alloc(1), Reply::Page(0)),
                 (Call::Alloc(1), Reply::OverQuota),
-                (Call::Alloc(2), Reply::Page(1)),
             ],
         ),
         (
-            quota_for(3, 1, 1),
+            with_quota(3, 1, 1),
             &[
                 (Call::Alloc(1), Reply::Page(0)),
                 (Call::Alloc(1), Reply::OverQuota),
@@ -340,18 +370,35 @@ fn answers_with_quotas(rt: HostRuntime) -> Result<(), Fail> {
             ],
         ),
         (
-            quota_for(1, 1, 1),
+            with_quota(1, 1, 1),
             &[
                 (Call::Alloc(1), Reply::Page(0)),
                 (Call::Alloc(1), Reply::NoPage),
             ],
         ),
-        (quota_for(3, 2, 0), &[(Call::Alloc(2), Reply::OverQuota)]),
+        (with_quota(3, 2, 0), &[(Call::Alloc(2), Reply::OverQuota)]),
         (
-            quota_for(3, 15, 0),
+            with_quota(3, 15, 0),
             &[
                 (Call::Alloc(16), Reply::BadOwner),
                 (Call::Alloc(15), Reply::OverQuota),
+                (Call::Left, Reply::Count(3)),
+            ],
+        ),
+        (
+            with_quota(4, 1, 1),
+            &[
+                (Call::Alloc(1), Reply::Page(0)),
+                (Call::Alloc(1), Reply::OverQuota),
+                (Call::Free { owner: 2, page: 0 }, Reply::NotYours),
+                (Call::Alloc(1), Reply::OverQuota),
+                (Call::Alloc(2), Reply::Page(1)),
+                (Call::Alloc(2), Reply::Page(2)),
+                (Call::Alloc(2), Reply::Page(3)),
+                (Call::Alloc(1), Reply::NoPage),
+                (Call::Free { owner: 2, page: 2 }, Reply::Ok),
+                (Call::Alloc(1), Reply::OverQuota),
+                (Call::Alloc(3), Reply::Page(2)),
             ],
         ),
     ];
@@ -365,12 +412,30 @@ fn answers_with_quotas(rt: HostRuntime) -> Result<(), Fail> {
 }
 
 #[test]
+fn a_batch_ends_at_a_quota(rt: HostRuntime) -> Result<(), Fail> {
+    let mut pool = Logged::<PagePool>::open(rt.alloc(), with_quota(3, 1, 1), 100)?;
+    let steps = pool.apply(0, &[Call::Alloc(1), Call::Alloc(1), Call::Left])?;
+    let wanted = [
+        Step {
+            call: Call::Alloc(1),
+            reply: Reply::Page(0),
+        },
+        Step {
+            call: Call::Alloc(1),
+            reply: Reply::OverQuota,
+        },
+    ];
+    assert!(rt; steps.list.as_slice() == wanted.as_slice());
+    assert_eq!(rt; pool.call(0, &Call::Left)?, Reply::Count(2));
+    Ok(())
+}
+
+#[test]
 fn limits_of_quotas(rt: HostRuntime) {
-    for owner in 0..16 {
-        let rows = [(4096, None), (4097, Some(OpenFault::BadLimit))];
-        for (quota, fault) in rows {
-            let opened = Logged::<PagePool>::open(rt.alloc(), quota_for(8, owner, quota), 1);
-            assert_eq!(rt; opened.err(), fault, "for {quota} of {owner}");
+    for owner in 0..OWNERS {
+        for (quota, fault) in [(0, None), (4096, None), (4097, Some(OpenFault::BadLimit))] {
+            let opened = Logged::<PagePool>::open(rt.alloc(), with_quota(2, owner, quota), 1);
+            assert_eq!(rt; opened.err(), fault, "for {quota} as quota of {owner}");
         }
     }
 }

@@ -15,6 +15,7 @@ use Rattle.page_pool.specs.State.{PoolState, opening_state as opening_pool}
 use Rattle.page_pool.specs.Owning.{IsPoolOf}
 use Rattle.page_pool.specs.Answer.{pool_answer}
 use Rattle.page_pool.specs.declared.call.PoolCall.{PoolCall}
+use Rattle.page_pool.specs.declared.params.PoolParams.{PoolParams}
 use Rattle.console_ring.specs.State.{ConsoleState, IsConsoleOf, is_in_range as console_in_range, opening_state as opening_console}
 use Rattle.console_ring.specs.Answer.{console_answer}
 use Rattle.console_ring.specs.declared.call.ConsoleCall.{ConsoleCall}
@@ -49,7 +50,7 @@ byte_fits n lt = rw (le-leb 0 n (omega arith), le-leb n 255 (omega (arith, lt)))
 queue_fits : (n : ℕ) (q : QueueState) (c : QueueCall) → n ≤ 1024 → IsQueueOf n q → reply_fits (of_queue (queue_answer q c).1) ≡ true
 queue_fits = search (rules, distinct_length, wide_fits)
 
-pool_fits : (n : ℕ) (s : PoolState) (c : PoolCall) → n ≤ 4096 → IsPoolOf n s → reply_fits (of_pool (pool_answer s c).1) ≡ true
+pool_fits : (p : PoolParams) (s : PoolState) (c : PoolCall) → p.pages ≤ 4096 → IsPoolOf p s → reply_fits (of_pool (pool_answer s c).1) ≡ true
 pool_fits = search (rules, position-Some, count_by-le-length, wide_fits)
 
 abbrev AreBytes : List ℕ → Type 0
@@ -108,21 +109,21 @@ answer_fits n s (WakeAll c) few had once = search (rules, distinct_length, lengt
 -- a state of an object that was opened with these parameters, which are in range
 abbrev Good : KParams → KernelObject → Type 0
 Good (Params.Queue n) (Object.Queue q) = (n ≤ 1024) × IsQueueOf n q
-Good (Params.Pool n) (Object.Pool s) = (n ≤ 4096) × IsPoolOf n s
+Good (Params.Pool p) (Object.Pool s) = (p.pages ≤ 4096) × IsPoolOf p s
 Good (Params.Console n) (Object.Console s) = (n ≤ 4096) × GoodConsole n s
 Good (Params.Sched p) (Object.Sched s) = (p.threads ≤ 1024) × IsSchedOf p s
 Good p o = ⊥
 
 -- what each kind's law of states says of a call, and of the opening state
 module _ (queue_opens : (n : ℕ) → IsQueueOf n (opening_queue n)) (queue_stays : (n : ℕ) (q : QueueState) (c : QueueCall) → IsQueueOf n q → IsQueueOf n (queue_answer q c).0)
-    (pool_opens : (n : ℕ) → IsPoolOf n (opening_pool n)) (pool_stays : (n : ℕ) (s : PoolState) (c : PoolCall) → IsPoolOf n s → IsPoolOf n (pool_answer s c).0)
+    (pool_opens : (p : PoolParams) → IsPoolOf p (opening_pool p)) (pool_stays : (p : PoolParams) (s : PoolState) (c : PoolCall) → IsPoolOf p s → IsPoolOf p (pool_answer s c).0)
     (console_opens : (n : ℕ) → console_in_range n ≡ true → IsConsoleOf n (opening_console n)) (console_stays : (n : ℕ) (s : ConsoleState) (c : ConsoleCall) → IsConsoleOf n s → IsConsoleOf n (console_answer s c).0)
     (sched_opens : (p : SchedParams) → IsSchedOf p (opening_sched p)) (sched_stays : (p : SchedParams) (s : SchedState) (c : SchedCall) → IsSchedOf p s → IsSchedOf p (sched_answer s c).0) where
   kernel_keeps : (p : KParams) (o : KernelObject) (c : KCall) → Good p o → call_fits c ≡ true → Keeps (Good p) reply_fits (kernel_answer o c)
   kernel_keeps (Params.Queue n) (Object.Queue q) (Call.Queue c) good fits = record { good = (good.0, queue_stays n q c good.1); fits = queue_fits n q c good.0 good.1 }
   kernel_keeps (Params.Queue n) (Object.Queue q) c good fits = record { good = good; fits = refl }
-  kernel_keeps (Params.Pool n) (Object.Pool s) (Call.Pool c) good fits = record { good = (good.0, pool_stays n s c good.1); fits = pool_fits n s c good.0 good.1 }
-  kernel_keeps (Params.Pool n) (Object.Pool s) c good fits = record { good = good; fits = refl }
+  kernel_keeps (Params.Pool p) (Object.Pool s) (Call.Pool c) good fits = record { good = (good.0, pool_stays p s c good.1); fits = pool_fits p s c good.0 good.1 }
+  kernel_keeps (Params.Pool p) (Object.Pool s) c good fits = record { good = good; fits = refl }
   kernel_keeps (Params.Console n) (Object.Console s) (Call.Console c) good fits =
       let k = console_keeps n s c good.0 fits good.1 in record { good = (good.0, record { is = console_stays n s c good.1.is; bytes = k.good }); fits = k.fits }
   kernel_keeps (Params.Console n) (Object.Console s) c good fits = record { good = good; fits = refl }
@@ -134,7 +135,7 @@ module _ (queue_opens : (n : ℕ) → IsQueueOf n (opening_queue n)) (queue_stay
 
   opening_good : (p : KParams) → kernel_in_range p ≡ true → Good p (kernel_opening p)
   opening_good (Params.Queue n) range = (leb-true n 1024 (and_parts (nat_le 1 n) (nat_le n 1024) range).1, queue_opens n)
-  opening_good (Params.Pool n) range = (leb-true n 4096 (and_parts (nat_le 1 n) (nat_le n 4096) range).1, pool_opens n)
+  opening_good (Params.Pool p) range = (search rules, pool_opens p)
   opening_good (Params.Console n) range = (leb-true n 4096 (and_parts (nat_le 1 n) (nat_le n 4096) range).1, record { is = console_opens n range; bytes = tt })
   opening_good (Params.Sched p) range = (search rules, sched_opens p)
 

@@ -22,6 +22,7 @@ pub mod Names
 pub mod ListLaws
 pub mod RequestLaws
 pub mod SoundRanges
+pub mod SoundBefore
 pub mod FirstLines
 pub mod RecordLineLaws
 pub mod NewObjects

@@ -12,6 +12,7 @@ use Rattle.event_log.specs.Log.{Begins, calls_of, LegalFrom, Legal, after, of}
 use Rattle.word_rule.specs.Sound.{Opened, Sound, Answers, EntryIsSound, done_on, with_steps, steps_by, transcript_of}
 use Rattle.word_rule.proofs.Slices.{some_at, map_get}
 use Rattle.scripts.specs.contracts.kernel_object.KernelObjectSeqObject.TheImpl.{ghosts as kernel}
+use Rattle.scripts.specs.declared.form.Form.TheVariants.{Two}
 use Rattle.scripts.specs.declared.kernel_call.KParams.{KParams}
 use Rattle.scripts.specs.declared.kernel_call.KCall.{KCall}
 use Rattle.scripts.specs.declared.kernel_object.KernelObject.{KernelObject}
@@ -19,8 +20,6 @@ use Rattle.scripts.specs.Kernel.{kernel_in_range}
 use Rattle.scripts.specs.KernelTypes.{KernelStep, KernelSteps, KernelEvent, KernelDone, KernelEntry, KernelRun}
 use Rattle.scripts.specs.Ranges.{call_fits, reply_fits, steps_ask, steps_answer, log_asks, log_answers}
 use Rattle.scripts.specs.RecordRanges.{StepsFit, DoneFits, LogFits, TranscriptFits, RunFits}
-use Rattle.scripts.specs.Row.{row_fits}
-use Rattle.scripts.specs.Rows.{params_row}
 use Rattle.scripts.specs.Runs.{opened_of, EntryAsks, TranscriptAsks}
 use Rattle.scripts.specs.Settings.{Settings, ObjectSettings, SettingsFit, ObjectFits}
 use Rattle.scripts.proofs.Names.{each_at}
@@ -122,7 +121,6 @@ answers_all (x ∷ log) e = let parts = and_parts (steps_answer reply_fits x.ste
 
 module _ (settings : Settings) (fit : SettingsFit settings) (run : KernelRun) (sound : Sound kernel (opened_of settings) run) (count : length run.transcripts ≡ settings.cpus)
     (asks : AllByRecursion (TranscriptAsks (length settings.objects)) run.transcripts)
-    (ranges : (p : KParams) → row_fits (params_row p) ≡ kernel_in_range p)
     (replies : (p : KParams) (log : List KernelEvent) → kernel_in_range p ≡ true → Legal kernel p log → log_asks call_fits log ≡ true → log_answers reply_fits log ≡ true) where
   abbrev objects : ℕ
   objects = length settings.objects
@@ -165,20 +163,20 @@ module _ (settings : Settings) (fit : SettingsFit settings) (run : KernelRun) (s
           let none : [] ≡ steps_by cpu log = sym (ap (λ o. done_on x (unwrap_or o [])) (slice_get_past run.transcripts cpu past)) ∙ sound.taken cpu x log at in
           subst (λ (l : List KernelSteps). AllByRecursion (λ s. Asked s × (cpu < settings.cpus)) l) none tt
 
-  log_fits : (x : ℕ) (log : List KernelEvent) → slice_get run.logs x ≡ Some log → LogFits settings.cpus log
+  log_fits : (x : ℕ) (log : List KernelEvent) → slice_get run.logs x ≡ Some log → LogFits Two settings.cpus log
   log_fits x log at =
       let within : x < objects = omega (arith, slice_get_within run.logs x log at, sound.counted, opened_count) in
       let object = some_at settings.objects x within in
       let o = object.0 in
       let is = sound.logs x _ log (map_get one_opened settings.objects x o object.1) at in
-      let good = each_at ObjectFits settings.objects x o fit.each object.1 in
+      let good = each_at (ObjectFits Two) settings.objects x o fit.each object.1 in
       let events = each_event (λ cpu s. Asked s × (cpu < settings.cpus)) log (λ cpu. cpu_steps cpu x log at) in
       let asked = asks_all log (all_map (λ e h. h.0) log events) in
-      let replied = answers_all log (replies o.params log (sym (ranges o.params) ∙ good.params) is.legal asked) in
+      let replied = answers_all log (replies o.params log good.params is.legal asked) in
       let sizes = legal_sizes (kernel.opening o.params) log is.legal in
       let sized = all_both (λ e (h : ((0 < length e.steps.list.items) × (length e.steps.list.items ≤ MOST_CALLS)) × (steps_answer reply_fits e.steps.list.items ≡ true)). h) log sizes replied in (
         omega (arith, is.within, good.events.1),
-        all_both (λ e h. record { cpu = h.0.1; steps = record { some = h.1.0.0; few = h.1.0.1; calls = h.0.0; replies = h.1.1 } }) log events sized,
+        all_both (λ e h. record { cpu = h.0.1; steps = record { some = h.1.0.0; few = h.1.0.1; calls = h.0.0; replies = h.1.1 }; told = refl }) log events sized,
       )
 
   -- the steps of a transcript on an object are in range, since they stand in its log
@@ -195,17 +193,17 @@ module _ (settings : Settings) (fit : SettingsFit settings) (run : KernelRun) (s
   done_fits (Steps s) h = h
   done_fits NoRoom h = tt
 
-  transcript_fits : (cpu : ℕ) (entries : List KernelEntry) → slice_get run.transcripts cpu ≡ Some entries → TranscriptFits objects entries
+  transcript_fits : (cpu : ℕ) (entries : List KernelEntry) → slice_get run.transcripts cpu ≡ Some entries → TranscriptFits Two objects entries
   transcript_fits cpu entries at =
       let same : transcript_of cpu run ≡ entries = ap (λ o. unwrap_or o []) at in
       let asked = each_at (TranscriptAsks objects) run.transcripts cpu entries asks at in
       let done = each_entry InRange objects entries (all_map (λ e h. h.todo.object) entries asked.1) (λ x less. subst (λ (l : List KernelEntry). AllByRecursion InRange (done_on x l)) same (steps_fit cpu x less)) in
-      (asked.0, all_both (λ e h. record { object = h.0.todo.object; looks = h.0.looks; some = h.0.todo.some; few = h.0.todo.few; calls = h.0.todo.calls; done = done_fits e.done h.1 }) entries asked.1 done)
+      (asked.0, all_both (λ e h. record { object = h.0.todo.object; looks = h.0.looks; some = h.0.todo.some; few = h.0.todo.few; calls = h.0.todo.calls; done = done_fits e.done h.1; told = refl }) entries asked.1 done)
 
   pub run_fits : RunFits settings run
   run_fits = record {
     log_count = sound.counted ∙ opened_count;
-    logs = all_at (LogFits settings.cpus) run.logs log_fits;
+    logs = all_at (LogFits Two settings.cpus) run.logs log_fits;
     transcript_count = count;
-    transcripts = all_at (TranscriptFits objects) run.transcripts transcript_fits;
+    transcripts = all_at (TranscriptFits Two objects) run.transcripts transcript_fits;
   }

@@ -23,7 +23,7 @@ impl Replays<KernelObject> for PlainObject {
     fn open(alloc: Global, params: &KParams) -> Result<PlainObject, OutOfMemory> {
         Ok(match params {
             KParams::Queue(threads) => PlainObject::Queue(PlainQueue::open(alloc, threads)?),
-            KParams::Pool(pages) => PlainObject::Pool(PlainPool::open(alloc, pages)?),
+            KParams::Pool(params) => PlainObject::Pool(PlainPool::open(alloc, params)?),
             KParams::Console(bytes) => PlainObject::Console(PlainConsole::open(alloc, bytes)?),
             KParams::Sched(params) => PlainObject::Sched(PlainSched::open(alloc, params)?),
         })

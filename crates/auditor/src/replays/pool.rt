@@ -1,18 +1,20 @@
 //! A page pool, once more.
 
 ghost use Rattle.std.specs.Prelude.{◌≡◌};
-ghost use Rattle.page_pool.specs.Table.{left_of, least_free};
+ghost use Rattle.page_pool.specs.Table.{left_of, least_free, held_by};
 ghost use Rattle.page_pool.specs.Answer.{alloc_answer, free_answer};
 
 use crate::Replays;
 use event_log::OutOfMemory;
-use page_pool::{PagePool, PoolCall, PoolReply};
+use page_pool::{OWNERS, PagePool, PoolCall, PoolParams, PoolReply};
 use std::alloc::Global;
 use std::marker::Model;
 
-/// The owner of each page, or none; how many have none; and a page below which every one has an owner.
+/// The quota of each owner; the owner of each page, or none; how many have none; and a page below which every one has an
+/// owner. How many pages an owner has is counted in the table.
 #[derive(Drop)]
 pub struct PlainPool {
+    quotas: [u32; OWNERS],
     owners: Vec<Option<u8>>,
     free: u32,
     full_below: usize,
@@ -26,7 +28,7 @@ impl Model for PlainPool {
 
     ghost Value = { PoolState };
 
-    ghost view = { λ s. record { pages = length s.owners.items; owners = s.owners.items } };
+    ghost view = { λ s. record { pages = length s.owners.items; quotas = s.quotas; owners = s.owners.items } };
 
     ghost invariant = { λ s. AreTakenBelow s.full_below s.owners.items × (s.full_below ≤ length s.owners.items) × (s.free ≡ left_of s.owners.items) × (length s.owners.items < 2 ^ 32) };
 }
@@ -44,21 +46,30 @@ impl PlainPool {
         None
     }
 
+    /// How many pages the owner has.
+    fn held(&self, owner: u8) -> u32
+        ensures { result ≡ held_by self.now.owners owner }
+    {
+        let owned = self.owners.iter().filter(|other| **other == Some(owner));
+        owned.count() as u32
+    }
+
     fn give(&mut self, owner: u32) -> PoolReply
         ensures { (self.new, result) ≡ alloc_answer self.old owner }
     {
         if owner > 15 {
             return PoolReply::BadOwner;
         }
-        match self.least_free() {
-            Some(page) => {
-                self.owners[page] = Some(owner as u8);
-                self.free -= 1;
-                self.full_below = page + 1;
-                PoolReply::Page(page as u32)
-            }
-            None => PoolReply::NoPage,
+        let Some(page) = self.least_free() else {
+            return PoolReply::NoPage;
+        };
+        if self.held(owner as u8) >= self.quotas[owner as usize] {
+            return PoolReply::OverQuota;
         }
+        self.owners[page] = Some(owner as u8);
+        self.free -= 1;
+        self.full_below = page + 1;
+        PoolReply::Page(page as u32)
     }
 
     fn take_back(&mut self, owner: u32, page: u32) -> PoolReply
@@ -93,12 +104,12 @@ impl PlainPool {
 impl Replays<PagePool> for PlainPool {
     ghost shows = { λ s. s };
 
-    fn open(alloc: Global, params: &u32) -> Result<PlainPool, OutOfMemory> {
-        let pages = *params;
-        match vec![in alloc; None; pages as usize] {
+    fn open(alloc: Global, params: &PoolParams) -> Result<PlainPool, OutOfMemory> {
+        match vec![in alloc; None; params.pages as usize] {
             Ok(owners) => Ok(PlainPool {
+                quotas: params.quotas,
                 owners,
-                free: pages,
+                free: params.pages,
                 full_below: 0,
             }),
             Err(_) => Err(OutOfMemory),

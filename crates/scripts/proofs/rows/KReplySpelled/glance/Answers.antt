@@ -32,6 +32,9 @@ returns-in_ok-number-in-page c = one_number reply_row reply_samples reply_filled
 pub returns-in-none : goal.returns-in-none
 returns-in-none c = no_number reply_row reply_samples reply_filled (left c.args.at) c.in_ok-word.word.now (left c.in_ok-word.rest) _ (sym c.word.ensures ∙ ap (option_map _) c.in_ok-word.was) (at_word reply_row reply_samples c.in_ok-word.word.now (codes "none") (omega arith) (omega arith, (omega arith, (omega arith, (omega arith, tt))))) refl
 
+pub returns-in-overquota : goal.returns-in-overquota
+returns-in-overquota c = no_number reply_row reply_samples reply_filled (left c.args.at) c.in_ok-word.word.now (left c.in_ok-word.rest) _ (sym c.word.ensures ∙ ap (option_map _) c.in_ok-word.was) (at_word reply_row reply_samples c.in_ok-word.word.now (codes "overquota") (omega arith) (omega arith, (omega arith, (omega arith, (omega arith, (omega arith, (omega arith, (omega arith, (omega arith, (omega arith, tt)))))))))) refl
+
 pub returns-in-badowner : goal.returns-in-badowner
 returns-in-badowner c = no_number reply_row reply_samples reply_filled (left c.args.at) c.in_ok-word.word.now (left c.in_ok-word.rest) _ (sym c.word.ensures ∙ ap (option_map _) c.in_ok-word.was) (at_word reply_row reply_samples c.in_ok-word.word.now (codes "badowner") (omega arith) (omega arith, (omega arith, (omega arith, (omega arith, (omega arith, (omega arith, (omega arith, (omega arith, tt))))))))) refl
 
