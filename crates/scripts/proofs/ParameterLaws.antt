@@ -1,31 +1,29 @@
 -- What objects are opened with is read as what it spells, and nothing else is.
-use Rattle.std.proofs.Common.{◌≡◌, ℕ, zero, suc, ◌+◌, ◌*◌, ◌<◌, ◌≤◌, ◌^◌, ◌==◌, Bool, true, false, cond, Option, Some, None, List, [], ◌∷◌, ◌++◌, length, map, replicate, refl, sym, ◌∙◌, ap, subst, arith, rules, codes, decimal, nat_le, ◌&&◌, bytes_eq}
+use Rattle.std.proofs.Common.{◌≡◌, ℕ, zero, suc, ◌*◌, ◌<◌, ◌≤◌, ◌^◌, ◌==◌, Bool, true, false, cond, Option, Some, List, [], ◌∷◌, ◌++◌, length, map, replicate, refl, sym, ◌∙◌, ap, subst, arith, rules, codes, decimal, nat_le, ◌&&◌, bytes_eq}
 use Rattle.std.proofs.lemmas.Bool.{and_parts, leb-true, le-leb, eqb-true}
-use Rattle.std.proofs.lemmas.Option.{cond_some}
 use Rattle.std.specs.Cmp.Derive.{both_true}
 use Rattle.std.specs.List.{AllByRecursion, list_all}
-use Rattle.page_pool.specs.Unlimited.{full_quotas}
 use Rattle.page_pool.specs.declared.params.TheConstants.{MOST_PAGES, OWNERS}
 use Rattle.page_pool.specs.declared.params.PoolParams.{PoolParams}
 use Rattle.shared_queue.specs.declared.queue.TheConstants.{MOST_THREADS}
 use Rattle.console_ring.specs.declared.console.TheConstants.{MOST_BYTES}
+use Rattle.wake_list.specs.declared.sched.SchedParams.{SchedParams}
 use Rattle.wake_list.specs.declared.sched.TheConstants.{MOST_THREADS as MOST_SCHEDULED, MOST_CHANNELS}
 use Rattle.scripts.specs.declared.field.Field.{Field}
 use Rattle.scripts.specs.declared.form.Form.{Form}
 use Rattle.scripts.specs.declared.form.Form.TheVariants.{One, Two}
 use Rattle.scripts.specs.declared.kind.Kind.{Kind}
-use Rattle.scripts.specs.declared.kind.Kind.TheVariants as Kind
 use Rattle.scripts.specs.declared.kernel_call.KParams.{KParams}
 use Rattle.scripts.specs.declared.kernel_call.KParams.TheVariants.{Queue, Pool, Console, Sched}
 use Rattle.scripts.specs.Forms.{TellsParams}
 use Rattle.scripts.specs.Kernel.{kernel_in_range}
 use Rattle.scripts.specs.Parameters.{kind_word, kind_of, quota_words, params_words}
-use Rattle.scripts.specs.Reading.{word_at, number_at}
+use Rattle.scripts.specs.Reading.{word_at}
 use Rattle.scripts.specs.RecordReading.{all_quotas_at, quotas_at, params_behind, params_at}
-use Rattle.scripts.specs.Row.{IsPlain, in_range, refill, first, others, limit, up_to, field_at, numbers_at}
+use Rattle.scripts.specs.Row.{IsPlain, in_range, refill, limit, up_to, field_at, numbers_at}
 use Rattle.scripts.proofs.Readings.{bind_some, same, plain_decimal, number_at_again}
-use Rattle.scripts.proofs.RecordLengths.{long, long_append, number_le}
-use Rattle.scripts.proofs.Spellings.{texts, are_bounded, IsNumber, field_takes, AreFilled, numbers_take, numbers_again}
+use Rattle.scripts.proofs.RecordLengths.{long, number_le}
+use Rattle.scripts.proofs.Spellings.{texts, are_bounded, field_takes, numbers_take, numbers_again}
 
 -- ---- quotas
 
@@ -47,7 +45,7 @@ values_are (q ∷ qs) = ap (λ l. q ∷ l) (values_are qs)
 
 ranges_are : (qs : List ℕ) → list_all in_range (fields qs) ≡ list_all is_quota qs
 ranges_are [] = refl
-ranges_are (q ∷ qs) = ap (λ b. is_quota q && b) (ranges_are qs)
+ranges_are (q ∷ qs) = rw (le-leb 0 q (omega arith), ranges_are qs) refl
 
 bounded : (qs : List ℕ) → are_bounded (fields qs) ≡ true
 bounded [] = refl
@@ -171,9 +169,19 @@ tells_console : (form : Form) (b : ℕ) → TellsParams form (Console b)
 tells_console One b = tt
 tells_console Two b = tt
 
-tells_sched : (form : Form) (p : _) → TellsParams form (Sched p)
+tells_sched : (form : Form) (p : SchedParams) → TellsParams form (Sched p)
 tells_sched One p = tt
 tells_sched Two p = tt
+
+-- the parts of a scheduler's range
+sched_parts : (p : SchedParams) → kernel_in_range (Sched p) ≡ true → ((nat_le 1 p.threads && nat_le p.threads MOST_SCHEDULED) ≡ true) × ((nat_le 1 p.channels && nat_le p.channels MOST_CHANNELS) ≡ true)
+sched_parts p range =
+    let outer = and_parts (nat_le 1 p.threads && nat_le p.threads 1024 && nat_le 1 p.channels) (nat_le p.channels 64) range in
+    let inner = and_parts (nat_le 1 p.threads && nat_le p.threads 1024) (nat_le 1 p.channels) outer.0 in
+    (inner.0, both_true inner.1 outer.1)
+
+sched_range : (p : SchedParams) → (nat_le 1 p.threads && nat_le p.threads MOST_SCHEDULED) ≡ true → (nat_le 1 p.channels && nat_le p.channels MOST_CHANNELS) ≡ true → kernel_in_range (Sched p) ≡ true
+sched_range p threads channels = let both = and_parts (nat_le 1 p.channels) (nat_le p.channels 64) channels in both_true (both_true threads both.0) both.1
 
 -- the words are those of parameters in their ranges, which the form tells
 pub record IsParams (form : Form) (ws : List (List ℕ)) (read : KParams × List (List ℕ)) : Type 0 where
@@ -206,7 +214,7 @@ behind_takes form Kind.Sched ws read e = bind_some (field_at (limit MOST_SCHEDUL
     let channels = field_takes (limit MOST_CHANNELS 0) n.1 m more in
     subst (IsParams form (kind_word Kind.Sched ∷ ws)) is (record {
       text = ap (λ l. kind_word Kind.Sched ∷ l) (threads.text ∙ ap (λ l. decimal n.0 ∷ l) channels.text);
-      fits = both_true threads.fit channels.fit;
+      fits = sched_range (record { threads = n.0; channels = m.0 }) threads.fit channels.fit;
       told = tells_sched form (record { threads = n.0; channels = m.0 });
     })))
 
@@ -233,7 +241,7 @@ params_again form (Pool p) rest fits told =
     rw (kind_again Kind.Pool, limit_again MOST_PAGES p.pages (quota_words form p.quotas ++ rest) (omega arith) parts.0, quotas_again form p rest parts.1 told) refl
 params_again form (Console b) rest fits told = rw (kind_again Kind.Console, limit_again MOST_BYTES b rest (omega arith) fits) refl
 params_again form (Sched p) rest fits told =
-    let both = and_parts (nat_le 1 p.threads && nat_le p.threads MOST_SCHEDULED) (nat_le 1 p.channels && nat_le p.channels MOST_CHANNELS) fits in
+    let both = sched_parts p fits in
     rw (kind_again Kind.Sched, limit_again MOST_SCHEDULED p.threads (decimal p.channels ∷ rest) (omega arith) both.0, limit_again MOST_CHANNELS p.channels rest (omega arith) both.1) refl
 
 -- ---- their words
@@ -267,7 +275,7 @@ params_plain form (Queue t) fits = (kind_plain Kind.Queue, (plain_decimal t (sma
 params_plain form (Pool p) fits = let parts = pool_parts p fits in (kind_plain Kind.Pool, (plain_decimal p.pages (small_number p.pages 4096 (omega arith) parts.0), quotas_plain form p.quotas parts.1))
 params_plain form (Console b) fits = (kind_plain Kind.Console, (plain_decimal b (small_number b MOST_BYTES (omega arith) fits), tt))
 params_plain form (Sched p) fits =
-    let both = and_parts (nat_le 1 p.threads && nat_le p.threads MOST_SCHEDULED) (nat_le 1 p.channels && nat_le p.channels MOST_CHANNELS) fits in
+    let both = sched_parts p fits in
     (kind_plain Kind.Sched, (plain_decimal p.threads (small_number p.threads MOST_SCHEDULED (omega arith) both.0), (plain_decimal p.channels (small_number p.channels MOST_CHANNELS (omega arith) both.1), tt)))
 
 -- they are short
@@ -276,5 +284,5 @@ params_le form (Queue t) fits = omega (arith, number_le t (small_number t MOST_T
 params_le form (Pool p) fits = let parts = pool_parts p fits in omega (arith, number_le p.pages (small_number p.pages 4096 (omega arith) parts.0), quotas_le form p.quotas parts.1)
 params_le form (Console b) fits = omega (arith, number_le b (small_number b MOST_BYTES (omega arith) fits))
 params_le form (Sched p) fits =
-    let both = and_parts (nat_le 1 p.threads && nat_le p.threads MOST_SCHEDULED) (nat_le 1 p.channels && nat_le p.channels MOST_CHANNELS) fits in
+    let both = sched_parts p fits in
     omega (arith, number_le p.threads (small_number p.threads MOST_SCHEDULED (omega arith) both.0), number_le p.channels (small_number p.channels MOST_CHANNELS (omega arith) both.1))

@@ -24,7 +24,6 @@ use Rattle.page_pool.specs.declared.params.TheConstants.{MOST_PAGES, OWNERS}
 use Rattle.console_ring.specs.declared.console.TheConstants.{MOST_BYTES}
 use Rattle.wake_list.specs.declared.sched.TheConstants.{MOST_THREADS as MOST_SCHEDULED, MOST_CHANNELS}
 use Rattle.scripts.specs.declared.kind.Kind.{Kind}
-use Rattle.scripts.specs.declared.kind.Kind.TheVariants as Kind
 use Rattle.scripts.specs.Kernel.{kernel_in_range}
 use Rattle.scripts.specs.Settings.{Settings, ObjectSettings, ObjectFits, SettingsFit, is_name}
 use Rattle.scripts.specs.Answers.{◌>>=◌}
@@ -173,7 +172,7 @@ params_ok place Kind.Pool ms p e =
     let same : Pool (record { pages = pages.0; quotas = quotas.0 }) ≡ p = cc in
     let number = number_in place Key.Pages MOST_PAGES ms pages.0 pages.1 in
     let all = quotas_in place ms pages.0 quotas.0 number.1 quotas.1 in
-    subst (λ q. kernel_in_range q ≡ true) same (rw (le-leb 1 pages.0 number.0, le-leb pages.0 MOST_PAGES number.1, all.each) refl)
+    subst (λ q. kernel_in_range q ≡ true) same (rw (le-leb 1 pages.0 number.0, le-leb pages.0 MOST_PAGES number.1, all.count, all.each) refl)
 params_ok place Kind.Console ms p e =
     let there = bind_ok (key_in place Key.Bytes (number_from MOST_BYTES) ms) _ p e in
     let same : Console there.0 ≡ p = cc in
