@@ -26,8 +26,8 @@ fn a_record_1(rt: HostRuntime) -> Result<(), Fail> {
         let wanted = upgraded(rt.alloc(), record)?;
         for text in [record, wanted.as_str()] {
             let (status, out, faults) = judged(&rt, "upgrade", text)?;
-            assert!(rt; status == 0 && faults.is_empty(), "{text}");
-            assert!(rt; out.as_str() == wanted.as_str(), "{text}");
+            assert!(rt; status == 0 && faults.is_empty(), "{text:?}");
+            assert!(rt; out.as_str() == wanted.as_str(), "{text:?}");
         }
     }
     Ok(())
@@ -79,13 +79,13 @@ fn texts_of_no_record(rt: HostRuntime) -> Result<(), Fail> {
         (quotas.as_str(), 4),
         (pages.as_str(), 4),
         (BAD, 9),
-        (more.as_str(), 27),
+        (more.as_str(), 26),
     ];
     for (text, number) in rows {
         let (status, out, faults) = judged(&rt, "upgrade", text)?;
         let wanted = format!(in rt.alloc(); "mc2: E9 record: line {number}\n")?;
-        assert!(rt; status == 2 && out.is_empty(), "{text}");
-        assert!(rt; faults.as_str() == wanted.as_str(), "{text}");
+        assert!(rt; status == 2 && out.is_empty(), "line {number}");
+        assert!(rt; faults.as_str() == wanted.as_str(), "line {number}");
     }
     Ok(())
 }
