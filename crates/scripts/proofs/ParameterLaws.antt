@@ -1,10 +1,8 @@
 -- What objects are opened with is read as what it spells, and nothing else is.
-use Rattle.std.proofs.Common.{◌≡◌, ℕ, zero, suc, ◌+◌, ◌*◌, ◌<◌, ◌≤◌, ◌^◌, ◌==◌, Bool, true, false, cond, Option, Some, None, List, [], ◌∷◌, ◌++◌, length, map, replicate, refl, sym, ◌∙◌, ap, subst, arith, rules, codes, decimal, nat_le, ◌&&◌, bytes_eq}
+use Rattle.std.proofs.Common.{◌≡◌, ℕ, zero, suc, ◌*◌, ◌<◌, ◌≤◌, ◌^◌, ◌==◌, Bool, true, false, cond, Option, Some, List, [], ◌∷◌, ◌++◌, length, map, replicate, refl, sym, ◌∙◌, ap, subst, arith, rules, codes, decimal, nat_le, ◌&&◌, bytes_eq}
 use Rattle.std.proofs.lemmas.Bool.{and_parts, leb-true, le-leb, eqb-true}
-use Rattle.std.proofs.lemmas.Option.{cond_some}
 use Rattle.std.specs.Cmp.Derive.{both_true}
 use Rattle.std.specs.List.{AllByRecursion, list_all}
-use Rattle.page_pool.specs.Unlimited.{full_quotas}
 use Rattle.page_pool.specs.declared.params.TheConstants.{MOST_PAGES, OWNERS}
 use Rattle.page_pool.specs.declared.params.PoolParams.{PoolParams}
 use Rattle.shared_queue.specs.declared.queue.TheConstants.{MOST_THREADS}
@@ -15,18 +13,17 @@ use Rattle.scripts.specs.declared.field.Field.{Field}
 use Rattle.scripts.specs.declared.form.Form.{Form}
 use Rattle.scripts.specs.declared.form.Form.TheVariants.{One, Two}
 use Rattle.scripts.specs.declared.kind.Kind.{Kind}
-use Rattle.scripts.specs.declared.kind.Kind.TheVariants as Kind
 use Rattle.scripts.specs.declared.kernel_call.KParams.{KParams}
 use Rattle.scripts.specs.declared.kernel_call.KParams.TheVariants.{Queue, Pool, Console, Sched}
 use Rattle.scripts.specs.Forms.{TellsParams}
 use Rattle.scripts.specs.Kernel.{kernel_in_range}
 use Rattle.scripts.specs.Parameters.{kind_word, kind_of, quota_words, params_words}
-use Rattle.scripts.specs.Reading.{word_at, number_at}
+use Rattle.scripts.specs.Reading.{word_at}
 use Rattle.scripts.specs.RecordReading.{all_quotas_at, quotas_at, params_behind, params_at}
-use Rattle.scripts.specs.Row.{IsPlain, in_range, refill, first, others, limit, up_to, field_at, numbers_at}
+use Rattle.scripts.specs.Row.{IsPlain, in_range, refill, limit, up_to, field_at, numbers_at}
 use Rattle.scripts.proofs.Readings.{bind_some, same, plain_decimal, number_at_again}
-use Rattle.scripts.proofs.RecordLengths.{long, long_append, number_le}
-use Rattle.scripts.proofs.Spellings.{texts, are_bounded, IsNumber, field_takes, AreFilled, numbers_take, numbers_again}
+use Rattle.scripts.proofs.RecordLengths.{long, number_le}
+use Rattle.scripts.proofs.Spellings.{texts, are_bounded, field_takes, numbers_take, numbers_again}
 
 -- ---- quotas
 

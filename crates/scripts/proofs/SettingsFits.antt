@@ -24,7 +24,6 @@ use Rattle.page_pool.specs.declared.params.TheConstants.{MOST_PAGES, OWNERS}
 use Rattle.console_ring.specs.declared.console.TheConstants.{MOST_BYTES}
 use Rattle.wake_list.specs.declared.sched.TheConstants.{MOST_THREADS as MOST_SCHEDULED, MOST_CHANNELS}
 use Rattle.scripts.specs.declared.kind.Kind.{Kind}
-use Rattle.scripts.specs.declared.kind.Kind.TheVariants as Kind
 use Rattle.scripts.specs.Kernel.{kernel_in_range}
 use Rattle.scripts.specs.Settings.{Settings, ObjectSettings, ObjectFits, SettingsFit, is_name}
 use Rattle.scripts.specs.Answers.{◌>>=◌}

@@ -4,7 +4,6 @@ use Rattle.std.specs.Str.{bytes_eq}
 use Rattle.scripts.specs.declared.form.Form.{Form}
 use Rattle.scripts.specs.declared.form.Form.TheVariants.{One, Two}
 use Rattle.scripts.specs.declared.kind.Kind.{Kind}
-use Rattle.scripts.specs.declared.kind.Kind.TheVariants as Kind
 use Rattle.scripts.specs.declared.kernel_call.KParams.{KParams}
 use Rattle.scripts.specs.declared.kernel_call.KParams.TheVariants.{Queue, Pool, Console, Sched}
 

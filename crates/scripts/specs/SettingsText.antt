@@ -27,7 +27,6 @@ use Rattle.scripts.specs.declared.settings_fault.SettingsKey.{SettingsKey}
 use Rattle.scripts.specs.declared.settings_fault.SettingsKey.TheVariants as Key
 use Rattle.scripts.specs.Answers.{◌>>=◌}
 use Rattle.scripts.specs.declared.kind.Kind.{Kind}
-use Rattle.scripts.specs.declared.kind.Kind.TheVariants as Kind
 use Rattle.scripts.specs.Parameters.{kind_of}
 use Rattle.scripts.specs.Settings.{Settings, ObjectSettings, is_name}
 

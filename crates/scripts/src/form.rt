@@ -1,6 +1,8 @@
 //! The two forms of a record's text.
 
 ghost use Rattle.std.specs.Prelude.{◌≡◌};
+ghost use Rattle.std.specs.List.{list_all};
+ghost use Rattle.scripts.specs.declared.form.Form.TheVariants.{One};
 ghost use Rattle.scripts.specs.Forms.{version, most_cpus, has_reply, has_steps, has_done};
 
 use crate::{KReply, KernelObject};
@@ -16,6 +18,13 @@ pub const FIRST_MOST_CPUS: u8 = 8;
 pub enum Form {
     One,
     Two,
+}
+
+/// Whether record 1 has words for the replies of all steps.
+fn are_old(steps: &[Step<KernelObject>]) -> bool
+    ensures { result ≡ list_all (λ step. has_reply One step.reply) steps.now }
+{
+    steps.iter().all(|step| Form::One.has_reply(&step.reply))
 }
 
 impl Form {
@@ -54,7 +63,7 @@ impl Form {
         ensures { result ≡ has_steps self steps.now }
     {
         match self {
-            Form::One => steps.iter().all(|step| self.has_reply(&step.reply)),
+            Form::One => are_old(steps),
             Form::Two => true,
         }
     }

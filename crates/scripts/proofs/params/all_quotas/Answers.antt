@@ -1,5 +1,5 @@
-use Rattle.std.proofs.Common.{◌≡◌, ℕ, ◌<◌, ◌∙◌, ◌∷◌, [], List, Some, None, Option, replicate, take, length, get_or, sym, ap, refl, arith, option_map}
-use Rattle.std.proofs.lemmas.List.{take_more_set, take_all, length-set, get_or-replicate, length-replicate}
+use Rattle.std.proofs.Common.{◌≡◌, ℕ, ◌<◌, ◌∙◌, [], List, Some, None, Option, replicate, take, get_or, sym, ap, refl, arith, option_map}
+use Rattle.std.proofs.lemmas.List.{take_more_set, take_all, length-set, get_or-replicate}
 use Rattle.page_pool.specs.declared.params.TheConstants.{MOST_PAGES, OWNERS}
 use Rattle.scripts.specs.declared.field.Field.{Field}
 use Rattle.scripts.specs.Reading.{left}
