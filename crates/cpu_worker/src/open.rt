@@ -3,9 +3,10 @@
 ghost use Rattle.std.specs.Prelude.{◌≡◌, IfOk};
 ghost use Rattle.event_log.specs.History.{IsKept, opened_history};
 ghost use Rattle.scripts.specs.Settings.{ObjectFits};
+ghost use Rattle.scripts.specs.declared.form.Form.TheVariants.{Two};
 
 use event_log::{Logged, OpenFault, OutOfMemory, SeqObject};
-use scripts::{KernelObject, ObjectSettings, parameters_fit};
+use scripts::{KernelObject, ObjectSettings};
 use std::alloc::Global;
 
 /// Opens an object of settings, which are within its limits.
@@ -13,11 +14,10 @@ pub fn open_object(
     alloc: Global,
     object: &ObjectSettings,
 ) -> Result<Logged<KernelObject>, OutOfMemory>
-    requires { ObjectFits object.now }
+    requires { ObjectFits Two object.now }
     ensures opened { IfOk result (λ l. l ≡ opened_history object.now.params object.now.events (⟦<KernelObject as SeqObject>⟧.opening object.now.params)) }
     ensures kept { IfOk result (λ l. IsKept ⟦<KernelObject as SeqObject>⟧ l) }
 {
-    parameters_fit();
     match Logged::open(alloc, object.params(), object.events()) {
         Ok(logged) => Ok(logged),
         Err(OpenFault::OutOfMemory) => Err(OutOfMemory),

@@ -12,7 +12,9 @@ ghost use Rattle.scripts.specs.Output.{AppendsBeginning};
 mod tests;
 
 use crate::Inputs;
-use crate::answers::{audit_answer, merge_answer, report_answer, run_answer, sim_answer, upgrade_answer};
+use crate::answers::{
+    audit_answer, merge_answer, report_answer, run_answer, sim_answer, upgrade_answer,
+};
 use crate::arguments::{Arguments, read_words};
 use crate::fault::Fault;
 use auditor::Verdict;

@@ -144,7 +144,7 @@ alike_ok pages few = record { count = refl; each = rw (le-leb pages MOST_PAGES f
 
 -- what was read is of a value, or the other one
 key_or_ok : {X : Type 0} (P : X → Type 0) (place : Place) (key : SettingsKey) (read : Data → Result X Cause) (other : X) (ms : Members) (x : X)
-  → ((d : Data) → read d ≡ Ok x → P x) → P other → key_or place key read other ms ≡ Ok x → P x
+    → ((d : Data) → read d ≡ Ok x → P x) → P other → key_or place key read other ms ≡ Ok x → P x
 unfolding key_or
 key_or_ok P place key read other ms x found missing e = elim (map_or_other (get_member (key_word key) ms) (λ d. at_key place key (read d)) other x e) [
   | inl there ↦ found there.0 (at_key_ok place key (read there.0) x there.1)

@@ -40,7 +40,7 @@ number_from high d = option_map_or (λ z. if int_le (pos 1) z && int_le z (pos h
 unfoldable pub name_from : List ObjectSettings → Data → Result (List ℕ) Cause
 name_from earlier d = option_map_or (λ s. if is_name s then (if list_any (λ o. bytes_eq o.name s) earlier then Err Repeated else Ok s) else Err BadWord) (as_str d) (Err WrongType)
 
--- the kind of an object, as parameters whose numbers are 0
+-- the kind of an object
 unfoldable pub kind_from : Data → Result Kind Cause
 kind_from d = option_map_or (λ s. option_map_or Ok (kind_of s) (Err BadWord)) (as_str d) (Err WrongType)
 
