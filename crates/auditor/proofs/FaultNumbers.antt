@@ -1,5 +1,5 @@
 -- A fault that is in a record names an object of its settings, and its other numbers are small.
-use Rattle.std.proofs.Common.{◌≡◌, ℕ, zero, suc, ◌<◌, ◌^◌, List, [], ◌∷◌, length, Some, slice_get, refl, inl, inr, subst, arith}
+use Rattle.std.proofs.Common.{◌≡◌, ℕ, zero, suc, ◌<◌, ◌^◌, List, [], ◌∷◌, length, Some, slice_get, refl, inl, inr, arith}
 use Rattle.std.specs.Prelude.{◌↔◌, Result, Ok, Err, IfOk}
 use Rattle.std.proofs.lemmas.List.{length-map}
 use Rattle.std.proofs.lemmas.Option.{slice_get_within}
@@ -11,7 +11,8 @@ use Rattle.word_rule.specs.Sound.{Opened, transcript_of}
 use Rattle.scripts.specs.contracts.kernel_object.KernelObjectSeqObject.TheImpl.{ghosts as kernel}
 use Rattle.scripts.specs.Runs.{opened_of}
 use Rattle.scripts.specs.KernelTypes.{KernelEvent, KernelEntry}
-use Rattle.scripts.specs.RecordRanges.{Record, RecordFits, EventFits, LogFits, TranscriptFits}
+use Rattle.scripts.specs.RecordRanges.{Record, RecordFits, EventFits}
+use Rattle.scripts.specs.declared.form.Form.TheVariants.{Two}
 use Rattle.scripts.specs.declared.kernel_call.KParams.{KParams}
 use Rattle.scripts.specs.declared.kernel_call.KCall.{KCall}
 use Rattle.scripts.specs.declared.kernel_call.KReply.{KReply}
@@ -50,7 +51,7 @@ module _ (r : Record) (fits : RecordFits r) where
 
   step_small : (x n i : ℕ) (e : KernelEvent) → slice_get (log_of x r.run) n ≡ Some e → i < length e.steps.list.items → i < 2 ^ 63
   step_small x n i e there lt =
-      let fit = all_at (EventFits r.settings.cpus) (log_of x r.run) (log_fits r fits x).1 n e there in
+      let fit = all_at (EventFits Two r.settings.cpus) (log_of x r.run) (log_fits r fits x).1 n e there in
       omega (arith, fit.steps.few, lt)
 
   -- a fault that is there can be told

@@ -1,19 +1,18 @@
 -- The run of a record is one over the objects of its settings.
-use Rattle.std.proofs.Common.{◌≡◌, ℕ, zero, suc, ◌≤◌, List, [], ◌∷◌, length, Some, slice_get, refl, sym, ap, ◌∙◌, arith}
+use Rattle.std.proofs.Common.{◌≡◌, ℕ, zero, suc, List, [], ◌∷◌, length, slice_get, sym, ap, ◌∙◌, arith}
 use Rattle.std.specs.Prelude.{unwrap_or}
 use Rattle.std.specs.List.{AllByRecursion}
 use Rattle.std.proofs.lemmas.List.{length-map}
 use Rattle.word_rule.specs.Sound.{Opened, transcript_of}
 use Rattle.word_rule.proofs.Slices.{map_get, get_map}
 use Rattle.scripts.specs.contracts.kernel_object.KernelObjectSeqObject.TheImpl.{ghosts as kernel}
+use Rattle.scripts.specs.declared.form.Form.TheVariants.{Two}
 use Rattle.scripts.specs.declared.kernel_call.KParams.{KParams}
 use Rattle.scripts.specs.declared.kernel_call.KCall.{KCall}
 use Rattle.scripts.specs.declared.kernel_call.KReply.{KReply}
 use Rattle.scripts.specs.declared.kernel_object.KernelObject.{KernelObject}
 use Rattle.scripts.specs.Kernel.{kernel_in_range}
 use Rattle.scripts.specs.RecordRanges.{Record, RecordFits, EventFits, EntryFits, LogFits, TranscriptFits}
-use Rattle.scripts.specs.Row.{row_fits}
-use Rattle.scripts.specs.Rows.{params_row}
 use Rattle.scripts.specs.Runs.{opened_of}
 use Rattle.scripts.specs.Settings.{ObjectSettings, ObjectFits}
 use Rattle.auditor.specs.declared.terms.Terms.{Terms}
@@ -34,14 +33,14 @@ list_at Q [] i all none = none
 list_at Q (l ∷ lists) zero all none = all.0
 list_at Q (l ∷ lists) (suc i) all none = list_at Q lists i all.1 none
 
-pub log_fits : (r : Record) → RecordFits r → (x : ℕ) → LogFits r.settings.cpus (log_of x r.run)
-log_fits r fits x = list_at (LogFits r.settings.cpus) r.run.logs x fits.1.logs (omega arith, tt)
+pub log_fits : (r : Record) → RecordFits r → (x : ℕ) → LogFits Two r.settings.cpus (log_of x r.run)
+log_fits r fits x = list_at (LogFits Two r.settings.cpus) r.run.logs x fits.1.logs (omega arith, tt)
 
-pub transcript_fits : (r : Record) → RecordFits r → (cpu : ℕ) → TranscriptFits (length r.settings.objects) (transcript_of cpu r.run)
-transcript_fits r fits cpu = list_at (TranscriptFits (length r.settings.objects)) r.run.transcripts cpu fits.1.transcripts (omega arith, tt)
+pub transcript_fits : (r : Record) → RecordFits r → (cpu : ℕ) → TranscriptFits Two (length r.settings.objects) (transcript_of cpu r.run)
+transcript_fits r fits cpu = list_at (TranscriptFits Two (length r.settings.objects)) r.run.transcripts cpu fits.1.transcripts (omega arith, tt)
 
-pub record_run : (r : Record) (terms : List KernelTerms) → RecordFits r → opened_by terms ≡ opened_of r.settings → ((p : KParams) → row_fits (params_row p) ≡ kernel_in_range p) → IsRunOf kernel terms r.run
-record_run r terms fit same ranges =
+pub record_run : (r : Record) (terms : List KernelTerms) → RecordFits r → opened_by terms ≡ opened_of r.settings → IsRunOf kernel terms r.run
+record_run r terms fit same =
     let n = ap length same in
     let a = length-map terms judged_by in
     let b = length-map r.settings.objects object_opened in
@@ -53,14 +52,14 @@ record_run r terms fit same ranges =
       able = λ x t e.
           let o = get_map object_opened r.settings.objects x (judged_by t) (ap (λ l. slice_get l x) (sym same) ∙ map_get judged_by terms x t e) in
           let params : o.0.params ≡ t.params = ap (λ (v : Opened KParams). v.params) o.2 in
-          let fits = (all_at ObjectFits r.settings.objects fit.0.each x o.0 o.1).params in
-          ap kernel_in_range (sym params) ∙ (sym (ranges o.0.params) ∙ fits);
+          let fits = (all_at (ObjectFits Two) r.settings.objects fit.0.each x o.0 o.1).params in
+          ap kernel_in_range (sym params) ∙ fits;
       events = λ x k e at.
-          let f = all_at (EventFits r.settings.cpus) (log_of x r.run) (log_fits r fit x).1 k e at in
+          let f = all_at (EventFits Two r.settings.cpus) (log_of x r.run) (log_fits r fit x).1 k e at in
           let c = f.cpu in
           (omega (arith, c, cpus), record { some = f.steps.some; few = f.steps.few });
       entries = λ cpu k e at.
-          let f = all_at (EntryFits (length r.settings.objects)) (transcript_of cpu r.run) (transcript_fits r fit cpu).1 k e at in
+          let f = all_at (EntryFits Two (length r.settings.objects)) (transcript_of cpu r.run) (transcript_fits r fit cpu).1 k e at in
           let c = f.object in
           omega (arith, c, logs);
     }

@@ -11,7 +11,7 @@ use crate::judge::judge_run;
 use crate::replays::PlainObject;
 use crate::{Fault, Replays, Terms, Verdict};
 use event_log::{OutOfMemory, SeqObject};
-use scripts::{KernelObject, Record, Settings, parameters_fit};
+use scripts::{KernelObject, Record, Settings};
 use std::alloc::Global;
 
 /// What the objects of the settings are judged by.
@@ -40,7 +40,6 @@ fn audit_by<J: Replays<KernelObject>>(
     ensures fault { (f : Fault) → IfOk result (λ v. (v ≡ Verdict.Unsound f) ↔ IsFirstFault ⟦<KernelObject as SeqObject>⟧ (opened_of «record».now.settings) «record».now.run f) }
     ensures told { IfOk result (CanBeTold «record».now.settings) }
 {
-    parameters_fit();
     let terms = terms_of(alloc, record.settings())?;
     judge_run::<KernelObject, J>(alloc, terms.as_slice(), record.run())
 }

@@ -13,7 +13,7 @@ use std::alloc::Global;
 use std::test::Fail;
 
 /// A run on the built-in settings: a thread is put in, and taken out.
-pub const IN_AND_OUT: &str = "record 1
+pub const IN_AND_OUT: &str = "record 2
 cpus 2
 objects 1
 object q0 ticket 100 queue 8
@@ -28,7 +28,7 @@ end
 ";
 
 /// Two CPUs on two objects: no one order keeps both transcripts and both logs, and yet the record is sound.
-pub const CROSSED: &str = "record 1
+pub const CROSSED: &str = "record 2
 cpus 2
 objects 2
 object a ticket 10 queue 8

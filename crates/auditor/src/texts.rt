@@ -2,8 +2,9 @@
 
 ghost use Rattle.std.specs.Prelude.{◌≡◌, true, Some, Err, IfOk, OnOk, IfErr};
 ghost use Rattle.event_log.specs.Stream.{counted};
-ghost use Rattle.scripts.specs.RecordFaults.{text_of};
-ghost use Rattle.scripts.specs.RecordRanges.{RecordFits, Record as Shown};
+ghost use Rattle.scripts.specs.declared.form.Form.{Form};
+ghost use Rattle.scripts.specs.RecordFaults.{text_in};
+ghost use Rattle.scripts.specs.RecordRanges.{RecordFitsIn, Record as Shown};
 ghost use Rattle.scripts.specs.RecordSources.{IsReadOut};
 ghost use Rattle.auditor.specs.Audits.{IsVerdictOnText, IsTextFault, IsAudited};
 
@@ -50,7 +51,7 @@ impl From<RecordReadFault> for TextFault {
 pub fn audit_text<R: Source>(alloc: Global, source: &mut R) -> Result<Verdict, TextFault>
     ensures verdict { IfOk result (IsVerdictOnText (R.remaining source.old)) }
     ensures fault { IfErr result (IsTextFault (R.remaining source.old)) }
-    ensures only { (r : Shown) → RecordFits r → R.remaining source.old ≡ Some (text_of r) → IsAudited r result }
+    ensures only { (form : Form) (r : Shown) → RecordFitsIn form r → R.remaining source.old ≡ Some (text_in form r) → IsAudited r result }
     ensures to_end { (result ≡ Err TextFault.OutOfMemory → ⊥) → (result ≡ Err TextFault.ReadFailed → ⊥) → IsReadOut (R.remaining source.old) (R.remaining source.new) }
     ensures none_failed { OnOk result (R.failed source.new ≡ R.failed source.old) }
     ensures one_failed { result ≡ Err TextFault.ReadFailed → R.failed source.new ≡ counted true (R.failed source.old) }

@@ -1,7 +1,7 @@
 //! A page pool, once more.
 
-ghost use Rattle.std.specs.Prelude.{◌≡◌};
-ghost use Rattle.page_pool.specs.Table.{left_of, least_free, held_by};
+ghost use Rattle.std.specs.Prelude.{◌≡◌, ◌≤◌, nat_le};
+ghost use Rattle.page_pool.specs.Table.{left_of, least_free, held_by, quota_of};
 ghost use Rattle.page_pool.specs.Answer.{alloc_answer, free_answer};
 
 use crate::Replays;
@@ -54,6 +54,16 @@ impl PlainPool {
         owned.count() as u32
     }
 
+    /// Whether the owner has as many pages as its quota. They are counted only where so many pages have an owner at all.
+    fn is_over(&self, owner: u32) -> bool
+        requires { owner ≤ 15 }
+        ensures { result ≡ nat_le (quota_of self.now.quotas owner) (held_by self.now.owners owner) }
+    {
+        let quota = self.quotas[owner as usize];
+        let taken = self.owners.len() as u32 - self.free;
+        taken >= quota && self.held(owner as u8) >= quota
+    }
+
     fn give(&mut self, owner: u32) -> PoolReply
         ensures { (self.new, result) ≡ alloc_answer self.old owner }
     {
@@ -63,7 +73,7 @@ impl PlainPool {
         let Some(page) = self.least_free() else {
             return PoolReply::NoPage;
         };
-        if self.held(owner as u8) >= self.quotas[owner as usize] {
+        if self.is_over(owner) {
             return PoolReply::OverQuota;
         }
         self.owners[page] = Some(owner as u8);

@@ -3,7 +3,7 @@
 use crate::{PlainObject, Replays};
 use console_ring::ConsoleCall;
 use event_log::{OutOfMemory, SeqObject};
-use page_pool::PoolCall;
+use page_pool::{PoolCall, PoolParams};
 use scripts::{KCall, KParams, KernelObject};
 use shared_queue::QueueCall;
 use std::alloc::Global;
@@ -78,7 +78,7 @@ fn call_of(numbers: &mut Numbers, params: KParams) -> KCall {
     }
     match params {
         KParams::Queue(threads) => KCall::Queue(queue_call(numbers, threads)),
-        KParams::Pool(pages) => KCall::Pool(pool_call(numbers, pages)),
+        KParams::Pool(params) => KCall::Pool(pool_call(numbers, params.pages)),
         KParams::Console(_) => KCall::Console(console_call(numbers)),
         KParams::Sched(params) => KCall::Sched(sched_call(numbers, params)),
     }
@@ -104,14 +104,35 @@ fn answers_as_the_objects(rt: HostRuntime) -> Result<(), Fail> {
         KParams::Queue(1),
         KParams::Queue(7),
         KParams::Queue(1024),
-        KParams::Pool(1),
-        KParams::Pool(5),
-        KParams::Pool(4096),
+        KParams::Pool(PoolParams::unlimited(1)),
+        KParams::Pool(PoolParams::unlimited(5)),
+        KParams::Pool(PoolParams::unlimited(4096)),
         KParams::Console(1),
         KParams::Console(6),
         KParams::Console(4096),
     ];
     for params in rows {
+        assert!(rt; agree(rt.alloc(), params, 4000)?, "{params:?}");
+    }
+    Ok(())
+}
+
+/// Quotas that are all alike, each another, and none but one owner's.
+#[test]
+fn answers_as_pools_with_quotas(rt: HostRuntime) -> Result<(), Fail> {
+    let each_another = [0, 1, 2, 3, 4, 5, 6, 7, 8, 9, 10, 11, 12, 13, 14, 4096];
+    let mut one_alone = [0; 16];
+    one_alone[15] = 2;
+    let rows = [
+        (1, [0; 16]),
+        (5, [1; 16]),
+        (40, [3; 16]),
+        (40, each_another),
+        (40, one_alone),
+        (4096, each_another),
+    ];
+    for (pages, quotas) in rows {
+        let params = KParams::Pool(PoolParams { pages, quotas });
         assert!(rt; agree(rt.alloc(), params, 4000)?, "{params:?}");
     }
     Ok(())
@@ -131,7 +152,10 @@ fn answers_as_the_schedulers(rt: HostRuntime) -> Result<(), Fail> {
 fn answers_of_full_objects(rt: HostRuntime) -> Result<(), Fail> {
     let rows = [
         (KParams::Queue(1024), KCall::Queue(QueueCall::Enq(1023))),
-        (KParams::Pool(4096), KCall::Pool(PoolCall::Alloc(15))),
+        (
+            KParams::Pool(PoolParams::unlimited(4096)),
+            KCall::Pool(PoolCall::Alloc(15)),
+        ),
         (
             KParams::Console(4096),
             KCall::Console(ConsoleCall::Put(255)),

@@ -7,11 +7,11 @@ use scripts::Record;
 use std::alloc::Global;
 use std::test::Fail;
 
-const RECORD: &str = "record 1
+const RECORD: &str = "record 2
 cpus 1
 objects 2
 object q0 ticket 100 queue 8
-object p1 mcs 9 pool 4
+object p1 mcs 9 pool 4 4 4 4 4 4 4 4 4 4 4 4 4 4 4 4 4
 log q0 0
 log p1 0
 cpu 0 0

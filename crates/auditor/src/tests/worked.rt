@@ -6,7 +6,7 @@ use std::alloc::Global;
 use std::test::Fail;
 
 /// The second step refuses, and the third isn't done.
-const REFUSED: &str = "record 1
+const REFUSED: &str = "record 2
 cpus 2
 objects 1
 object q0 ticket 100 queue 8
@@ -19,7 +19,7 @@ end
 ";
 
 /// The second entry finds the log full.
-const FULL: &str = "record 1
+const FULL: &str = "record 2
 cpus 1
 objects 1
 object q0 ticket 1 queue 8
@@ -32,7 +32,7 @@ end
 ";
 
 /// The crossed record with room for one event in each log.
-const CROSSED_AND_FULL: &str = "record 1
+const CROSSED_AND_FULL: &str = "record 2
 cpus 2
 objects 2
 object a ticket 1 queue 8
@@ -51,11 +51,11 @@ end
 ";
 
 /// A step of each kind of object, and a call of another kind.
-const EACH_KIND: &str = "record 1
+const EACH_KIND: &str = "record 2
 cpus 2
 objects 4
 object q mcs 9 queue 4
-object p ticket 9 pool 2
+object p ticket 9 pool 2 2 2 2 2 2 2 2 2 2 2 2 2 2 2 2 2
 object c mcs 9 console 1
 object s ticket 9 sched 8 1
 log q 2
@@ -79,6 +79,32 @@ s 7 ready 2 | ready 2 = already
 end
 ";
 
+/// Of three pages owner 1 may have one.
+const OVER_QUOTA: &str = "record 2
+cpus 1
+objects 1
+object q0 mcs 100 pool 3 3 1 3 3 3 3 3 3 3 3 3 3 3 3 3 3
+log q0 2
+0 alloc 1 = page 0
+0 alloc 1 = overquota
+cpu 0 2
+q0 1 alloc 1 | alloc 1 = page 0
+q0 1 alloc 1 | alloc 1 = overquota
+end
+";
+
+/// A record from before there were quotas: owner 1 has all three pages.
+const WITHOUT_QUOTAS: &str = "record 1
+cpus 1
+objects 1
+object q0 mcs 100 pool 3
+log q0 1
+0 alloc 1 = page 0 ; alloc 1 = page 1 ; alloc 1 = page 2 ; alloc 1 = none
+cpu 0 1
+q0 1 alloc 1 ; alloc 1 ; alloc 1 ; alloc 1 | alloc 1 = page 0 ; alloc 1 = page 1 ; alloc 1 = page 2 ; alloc 1 = none
+end
+";
+
 /// The verdict on the text, of which one part is replaced where it stands first.
 fn changed(alloc: Global, text: &str, old: &str, new: &str) -> Result<Option<Verdict>, Fail> {
     let (front, back) = text.split_once(old).ok_or("no such part")?;
@@ -95,6 +121,8 @@ fn sound_records(rt: HostRuntime) -> Result<(), Fail> {
         FULL,
         CROSSED_AND_FULL,
         EACH_KIND,
+        OVER_QUOTA,
+        WITHOUT_QUOTAS,
     ] {
         let verdict = verdict_on(rt.alloc(), text.as_bytes())?;
         assert_eq!(rt; verdict, Some(Verdict::Sound), "{text}");
@@ -120,6 +148,54 @@ fn faults_of_logs(rt: HostRuntime) -> Result<(), Fail> {
     let found = changed(rt.alloc(), IN_AND_OUT, "ticket 100", "ticket 1")?;
     let long = Fault::TooLong { object: 0 };
     assert_eq!(rt; found, Some(Verdict::Unsound(long)));
+    Ok(())
+}
+
+/// An owner gets a page above its quota, and one is refused that has its quota's room.
+#[test]
+fn faults_of_quotas(rt: HostRuntime) -> Result<(), Fail> {
+    let rows = [
+        (
+            "0 alloc 1 = overquota\ncpu",
+            "0 alloc 1 = page 1\ncpu",
+            1,
+        ),
+        (
+            "0 alloc 1 = overquota\ncpu",
+            "0 alloc 1 = none\ncpu",
+            1,
+        ),
+        ("log q0 2\n0 alloc 1 = page 0", "log q0 2\n0 alloc 1 = overquota", 0),
+        ("pool 3 3 1", "pool 3 1 3", 1),
+        ("pool 3 3 1", "pool 3 3 2", 1),
+        ("pool 3 3 1", "pool 3 3 0", 0),
+    ];
+    for (old, new, event) in rows {
+        let found = changed(rt.alloc(), OVER_QUOTA, old, new)?;
+        let step = Fault::WrongStep {
+            object: 0,
+            event,
+            step: 0,
+        };
+        assert_eq!(rt; found, Some(Verdict::Unsound(step)), "with {new}");
+    }
+    Ok(())
+}
+
+/// A record from before there were quotas has none, and no reply in it says so; another page is as wrong as ever.
+#[test]
+fn faults_of_the_first_form(rt: HostRuntime) -> Result<(), Fail> {
+    let none = changed(rt.alloc(), WITHOUT_QUOTAS, "record 1", "record 2")?;
+    assert_eq!(rt; none, None);
+    let none = changed(rt.alloc(), WITHOUT_QUOTAS, "alloc 1 = none\ncpu", "alloc 1 = overquota\ncpu")?;
+    assert_eq!(rt; none, None);
+    let found = changed(rt.alloc(), WITHOUT_QUOTAS, "alloc 1 = none\ncpu", "alloc 1 = page 3\ncpu")?;
+    let step = Fault::WrongStep {
+        object: 0,
+        event: 0,
+        step: 3,
+    };
+    assert_eq!(rt; found, Some(Verdict::Unsound(step)));
     Ok(())
 }
 

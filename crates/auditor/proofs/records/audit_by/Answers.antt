@@ -16,7 +16,7 @@ use Rattle.auditor.proofs.records.audit_by.Goals as goal
 pub judge_run-requires : goal.judge_run-requires
 judge_run-requires g c =
     let same = c.in_ok-terms.ensures ∙ ap opened_of c.settings.ensures.settings in
-    let run = record_run c.args.record.now c.in_ok-terms.terms.items c.run.ensures.fit same c.parameters_fit.ensures in
+    let run = record_run c.args.record.now c.in_ok-terms.terms.items c.run.ensures.fit same in
     subst (λ (z : List KernelTerms × KernelRun). IsRunOf kernel z.0 z.1) (λ j. (sym c.as_slice.ensures.value j, sym c.run.ensures.run j)) run
 
 pub returns-clause-fault : goal.returns-clause-fault
