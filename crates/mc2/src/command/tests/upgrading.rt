@@ -33,6 +33,20 @@ fn a_record_1(rt: HostRuntime) -> Result<(), Fail> {
     Ok(())
 }
 
+/// The other commands answer the same to a record 1 and to its record 2.
+#[test]
+fn answers_to_either_form(rt: HostRuntime) -> Result<(), Fail> {
+    for record in [SOUND, UNSOUND] {
+        let two = upgraded(rt.alloc(), record)?;
+        for line in ["audit", "merge", "report"] {
+            let first = judged(&rt, line, record)?;
+            let second = judged(&rt, line, two.as_str())?;
+            assert!(rt; first == second, "{line:?}");
+        }
+    }
+    Ok(())
+}
+
 /// A record in a file, and one without a pool.
 #[test]
 fn files_of_records(rt: HostRuntime) -> Result<(), Fail> {
