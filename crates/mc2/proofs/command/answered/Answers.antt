@@ -7,6 +7,11 @@ returns-in_ok-record-in-Sim-clause-answer g c =
     let r = c.in_ok-record-in-Sim in
     inl (refl, inl (r.record, inr (inl (c.in-Sim.settings.now, c.in-Sim.scripts.now, c.in-Sim.schedule.now, r.ensures.answer)), refl))
 
+pub returns-in_ok-record-in-Upgrade-clause-answer : goal.returns-in_ok-record-in-Upgrade-clause-answer
+returns-in_ok-record-in-Upgrade-clause-answer g c =
+    let r = c.in_ok-record-in-Upgrade in
+    inl (refl, inl (r.record, inr (inr (_, r.ensures.answer)), refl))
+
 pub returns-in_err-record-in-Merge-clause-found : goal.returns-in_err-record-in-Merge-clause-found
 returns-in_err-record-in-Merge-clause-found g c =
     let merging = c.in_err-record-in-Merge in
