@@ -151,21 +151,18 @@ fn faults_of_logs(rt: HostRuntime) -> Result<(), Fail> {
     Ok(())
 }
 
-/// An owner gets a page above its quota, and one is refused that has its quota's room.
+/// A page above the quota, other refusals in place of this one, a refusal below the quota; and quotas by which the replies are
+/// wrong.
 #[test]
 fn faults_of_quotas(rt: HostRuntime) -> Result<(), Fail> {
     let rows = [
+        ("0 alloc 1 = overquota\ncpu", "0 alloc 1 = page 1\ncpu", 1),
+        ("0 alloc 1 = overquota\ncpu", "0 alloc 1 = none\ncpu", 1),
         (
-            "0 alloc 1 = overquota\ncpu",
-            "0 alloc 1 = page 1\ncpu",
-            1,
+            "log q0 2\n0 alloc 1 = page 0",
+            "log q0 2\n0 alloc 1 = overquota",
+            0,
         ),
-        (
-            "0 alloc 1 = overquota\ncpu",
-            "0 alloc 1 = none\ncpu",
-            1,
-        ),
-        ("log q0 2\n0 alloc 1 = page 0", "log q0 2\n0 alloc 1 = overquota", 0),
         ("pool 3 3 1", "pool 3 1 3", 1),
         ("pool 3 3 1", "pool 3 3 2", 1),
         ("pool 3 3 1", "pool 3 3 0", 0),
@@ -187,9 +184,19 @@ fn faults_of_quotas(rt: HostRuntime) -> Result<(), Fail> {
 fn faults_of_the_first_form(rt: HostRuntime) -> Result<(), Fail> {
     let none = changed(rt.alloc(), WITHOUT_QUOTAS, "record 1", "record 2")?;
     assert_eq!(rt; none, None);
-    let none = changed(rt.alloc(), WITHOUT_QUOTAS, "alloc 1 = none\ncpu", "alloc 1 = overquota\ncpu")?;
+    let none = changed(
+        rt.alloc(),
+        WITHOUT_QUOTAS,
+        "alloc 1 = none\ncpu",
+        "alloc 1 = overquota\ncpu",
+    )?;
     assert_eq!(rt; none, None);
-    let found = changed(rt.alloc(), WITHOUT_QUOTAS, "alloc 1 = none\ncpu", "alloc 1 = page 3\ncpu")?;
+    let found = changed(
+        rt.alloc(),
+        WITHOUT_QUOTAS,
+        "alloc 1 = none\ncpu",
+        "alloc 1 = page 3\ncpu",
+    )?;
     let step = Fault::WrongStep {
         object: 0,
         event: 0,
