@@ -17,7 +17,7 @@ use Rattle.word_rule.proofs.Entries.{done_append, done_without}
 use Rattle.auditor.specs.declared.fault.Fault.{Fault}
 use Rattle.auditor.specs.declared.fault.Fault.TheVariants as fault
 use Rattle.auditor.specs.declared.terms.Terms.{Terms}
-use Rattle.auditor.specs.Faults.{log_of, done_before, events_before, EventIsWrong, IsTooLong, HasWrongStep, HadRoom, IsNotItsEvent, IsNotAsked, IsUnclaimed, IsFault}
+use Rattle.auditor.specs.Faults.{log_of, done_before, events_before, HadRoom, IsNotItsEvent, IsNotAsked, IsUnclaimed, IsFault}
 use Rattle.auditor.specs.Claims.{IsRight}
 use Rattle.auditor.specs.Passes.{AreSoundBefore}
 use Rattle.auditor.specs.Transcripts.{judged_by, opened_by, IsRightAt}

@@ -1,7 +1,8 @@
 //! Records whose verdicts are known.
 
 use super::{CROSSED, IN_AND_OUT, verdict_on};
-use crate::{Fault, Verdict};
+use crate::{Fault, Verdict, audit, verdict_line};
+use scripts::Record;
 use std::alloc::Global;
 use std::test::Fail;
 
@@ -105,10 +106,15 @@ q0 1 alloc 1 ; alloc 1 ; alloc 1 ; alloc 1 | alloc 1 = page 0 ; alloc 1 = page 1
 end
 ";
 
-/// The verdict on the text, of which one part is replaced where it stands first.
-fn changed(alloc: Global, text: &str, old: &str, new: &str) -> Result<Option<Verdict>, Fail> {
+/// The text, of which one part is replaced where it stands first.
+fn replaced(alloc: Global, text: &str, old: &str, new: &str) -> Result<String, Fail> {
     let (front, back) = text.split_once(old).ok_or("no such part")?;
-    let text = format!(in alloc; "{front}{new}{back}")?;
+    Ok(format!(in alloc; "{front}{new}{back}")?)
+}
+
+/// The verdict on the text with such a part.
+fn changed(alloc: Global, text: &str, old: &str, new: &str) -> Result<Option<Verdict>, Fail> {
+    let text = replaced(alloc, text, old, new)?;
     verdict_on(alloc, text.as_bytes())
 }
 
@@ -176,6 +182,21 @@ fn faults_of_quotas(rt: HostRuntime) -> Result<(), Fail> {
         };
         assert_eq!(rt; found, Some(Verdict::Unsound(step)), "with {new}");
     }
+    Ok(())
+}
+
+/// The line that is printed of a page above the quota.
+#[test]
+fn the_line_of_a_page_too_many(rt: HostRuntime) -> Result<(), Fail> {
+    let alloc = rt.alloc();
+    let text = replaced(alloc, OVER_QUOTA, "overquota\ncpu", "page 1\ncpu")?;
+    let record = Record::read(alloc, text.as_bytes())?;
+    let verdict = audit(alloc, &record)?;
+    let line = verdict_line(alloc, &record, verdict)?;
+    assert_eq!(rt;
+        line.as_str(),
+        "unsound: log q0 event 2 step 1: wrong step\n"
+    );
     Ok(())
 }
 

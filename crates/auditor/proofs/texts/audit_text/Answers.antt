@@ -1,4 +1,4 @@
-use Rattle.std.proofs.Common.{◌≡◌, ◌∙◌, subst}
+use Rattle.std.proofs.Common.{◌≡◌, subst}
 use Rattle.scripts.specs.RecordRanges.{Record}
 use Rattle.auditor.specs.Audits.{IsVerdict}
 use Rattle.auditor.proofs.TextFaults.{text_named, text_judged, text_read_out}
