@@ -60,7 +60,7 @@ struct mc2_turn {
 void mc2_audit(const uint8_t *text, size_t length, struct mc2_told *told);
 
 /* Puts the entries of the record of this text in one order: each CPU's in theirs, those done on an object in its log's. A record
-   has at most 80,000. */
+   has at most 640,000. */
 void mc2_merge(const uint8_t *text, size_t length, struct mc2_turn *room, size_t turns, struct mc2_told *told);
 
 #ifdef __cplusplus

@@ -19,6 +19,8 @@ TOOL = f"tools/{Path(sys.argv[0]).resolve().name}"
 MC2 = ROOT / "crates/mc2/out/mc2"
 BENCH = ROOT / "crates/bench/out/bench"
 COSTS = ROOT / "crates/costs/out/costs"
+# The most CPUs of a cell.
+MOST_CPUS = 64
 HOW_TO_BUILD = {
     MC2: "`rt run` in crates/mc2 builds crates/mc2/out/mc2, and so does `rt ci`",
     BENCH: "`rt run` in crates/bench builds crates/bench/out/bench",

@@ -11,7 +11,7 @@
 //     drops     each hundredth enq is answered, and its thread is lost
 //     twice     a deq is told twice
 //     swapped   a CPU notes two entries the wrong way round
-// CPUS are 1 to 8 (4), with a fault 2 to 8; SECTIONS each CPU's critical sections of 1 to 3 calls, 1 to 9,000 (1,000); EVENTS
+// CPUS are 1 to 64 (4), with a fault 2 to 64; SECTIONS each CPU's critical sections of 1 to 3 calls, 1 to 9,000 (1,000); EVENTS
 // the most of each log, 1 to 65,536 (65,536). The status is 0, 2 for wrong words, and 3 where something is refused.
 #define _POSIX_C_SOURCE 200809L
 #include "locks.h"
@@ -210,10 +210,12 @@ static void *run_cpu(void *argument) {
 }
 
 static void start_cpus(pthread_t *threads) {
-    static const unsigned numbers[MC2_MOST_CPUS] = {0, 1, 2, 3, 4, 5, 6, 7};
-    for (unsigned cpu = 0; cpu < cpus; cpu++)
-        if (pthread_create(&threads[cpu], NULL, run_cpu, (void *)&numbers[cpu]) != 0)
+    static unsigned numbers[MC2_MOST_CPUS];
+    for (unsigned cpu = 0; cpu < cpus; cpu++) {
+        numbers[cpu] = cpu;
+        if (pthread_create(&threads[cpu], NULL, run_cpu, &numbers[cpu]) != 0)
             refuse("a thread wasn't started", 3);
+    }
 }
 
 static unsigned word_of(const char *word, const char *const *words, unsigned count, const char *what) {
@@ -243,7 +245,7 @@ static enum lock_kind read_words(int count, char **words) {
         fault = (enum fault)word_of(words[2], fault_words, FAULTS,
                                     "FAULT is right, unlocked, early, outside, drops, twice or swapped");
     if (count > 3)
-        cpus = number_of(words[3], fault == RIGHT ? 1 : 2, MC2_MOST_CPUS, "CPUS is 1 to 8, with a fault 2 to 8");
+        cpus = number_of(words[3], fault == RIGHT ? 1 : 2, MC2_MOST_CPUS, "CPUS is 1 to 64, with a fault 2 to 64");
     if (count > 4)
         sections = number_of(words[4], 1, 9000, "SECTIONS is 1 to 9,000");
     if (count > 5)

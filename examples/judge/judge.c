@@ -10,8 +10,8 @@
 #include <stdlib.h>
 #include <string.h>
 
-/* 8 CPUs of 10,000 entries. */
-#define MOST_TURNS 80000
+/* 64 CPUs of 10,000 entries. */
+#define MOST_TURNS 640000
 
 struct job {
     const char *file;

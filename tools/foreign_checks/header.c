@@ -77,7 +77,7 @@ static void check_counts(void) {
     GIVES(mc2_open(&recorder, objects, 0, 1, 1), MC2_BAD_COUNT);
     GIVES(mc2_open(&recorder, objects, 17, 1, 1), MC2_BAD_COUNT);
     GIVES(mc2_open(&recorder, objects, 1, 0, 1), MC2_BAD_COUNT);
-    GIVES(mc2_open(&recorder, objects, 1, 9, 1), MC2_BAD_COUNT);
+    GIVES(mc2_open(&recorder, objects, 1, 65, 1), MC2_BAD_COUNT);
     GIVES(mc2_open(&recorder, objects, 1, 1, 0), MC2_BAD_COUNT);
     GIVES(mc2_open(&recorder, objects, 1, 1, 10001), MC2_BAD_COUNT);
     GIVES(mc2_open(&recorder, objects, 1, UINT32_MAX, UINT32_MAX), MC2_BAD_COUNT);

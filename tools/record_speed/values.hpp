@@ -2,7 +2,7 @@
 #pragma once
 #include <cstdint>
 
-constexpr uint32_t MOST_CPUS = 8, MOST_OBJECTS = 16, MOST_EVENTS = 65536, MOST_ENTRIES = 10000;
+constexpr uint32_t MOST_CPUS = 64, FIRST_MOST_CPUS = 8, MOST_OBJECTS = 16, MOST_EVENTS = 65536, MOST_ENTRIES = 10000;
 constexpr uint32_t MOST_THREADS = 1024, MOST_CHANNELS = 64, MOST_PAGES = 4096, MOST_BYTES = 4096;
 constexpr uint32_t OWNERS = 16;
 constexpr int MOST_STEPS = 8;

@@ -7,7 +7,7 @@ use Rattle.event_log.specs.declared.object.SeqObject.{Ghosts}
 use Rattle.event_log.specs.declared.event.Step.{Step}
 use Rattle.event_log.specs.declared.event.Event.{Event}
 use Rattle.event_log.specs.Log.{after}
-use Rattle.word_rule.specs.Sound.{Opened, transcript_of}
+use Rattle.word_rule.specs.Sound.{Opened, transcript_of, log_of}
 use Rattle.scripts.specs.contracts.kernel_object.KernelObjectSeqObject.TheImpl.{ghosts as kernel}
 use Rattle.scripts.specs.Runs.{opened_of}
 use Rattle.scripts.specs.KernelTypes.{KernelEvent, KernelEntry}
@@ -17,7 +17,7 @@ use Rattle.scripts.specs.declared.kernel_call.KParams.{KParams}
 use Rattle.scripts.specs.declared.kernel_call.KCall.{KCall}
 use Rattle.scripts.specs.declared.kernel_call.KReply.{KReply}
 use Rattle.scripts.specs.declared.kernel_object.KernelObject.{KernelObject}
-use Rattle.auditor.specs.Faults.{log_of, StepIsWrong, EventIsWrong, IsFault, IsFirstFault}
+use Rattle.auditor.specs.Faults.{StepIsWrong, EventIsWrong, IsFault, IsFirstFault}
 use Rattle.auditor.specs.VerdictText.{IsNamed, CanBeTold}
 use Rattle.auditor.specs.declared.fault.Fault.{Fault}
 use Rattle.auditor.specs.declared.fault.Verdict.{Verdict}

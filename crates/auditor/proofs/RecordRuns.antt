@@ -3,7 +3,7 @@ use Rattle.std.proofs.Common.{◌≡◌, ℕ, zero, suc, List, [], ◌∷◌, le
 use Rattle.std.specs.Prelude.{unwrap_or}
 use Rattle.std.specs.List.{AllByRecursion}
 use Rattle.std.proofs.lemmas.List.{length-map}
-use Rattle.word_rule.specs.Sound.{Opened, transcript_of}
+use Rattle.word_rule.specs.Sound.{Opened, transcript_of, log_of}
 use Rattle.word_rule.proofs.Slices.{map_get, get_map}
 use Rattle.scripts.specs.contracts.kernel_object.KernelObjectSeqObject.TheImpl.{ghosts as kernel}
 use Rattle.scripts.specs.declared.form.Form.TheVariants.{Two}
@@ -16,7 +16,6 @@ use Rattle.scripts.specs.RecordRanges.{Record, RecordFits, EventFits, EntryFits,
 use Rattle.scripts.specs.Runs.{opened_of}
 use Rattle.scripts.specs.Settings.{ObjectSettings, ObjectFits}
 use Rattle.auditor.specs.declared.terms.Terms.{Terms}
-use Rattle.auditor.specs.Faults.{log_of}
 use Rattle.auditor.specs.Passes.{IsRunOf}
 use Rattle.auditor.specs.Transcripts.{judged_by, opened_by}
 use Rattle.auditor.proofs.Verdicts.{all_at}

@@ -11,13 +11,13 @@ use Rattle.event_log.specs.declared.entry.Done.{Done}
 use Rattle.event_log.specs.declared.entry.Done.TheVariants as done
 use Rattle.event_log.specs.declared.entry.Entry.{Entry}
 use Rattle.event_log.specs.declared.entry.Run.{Run}
-use Rattle.word_rule.specs.Sound.{Opened, Sound, LogIsSound, EntryIsSound, Answers, NoneAfterFull, transcript_of, done_on, steps_by}
+use Rattle.word_rule.specs.Sound.{Opened, Sound, LogIsSound, EntryIsSound, Answers, NoneAfterFull, transcript_of, log_of, done_on, steps_by}
 use Rattle.word_rule.proofs.Slices.{some_at, one_of, map_get, get_map}
 use Rattle.word_rule.proofs.Entries.{done_append, done_without}
 use Rattle.auditor.specs.declared.fault.Fault.{Fault}
 use Rattle.auditor.specs.declared.fault.Fault.TheVariants as fault
 use Rattle.auditor.specs.declared.terms.Terms.{Terms}
-use Rattle.auditor.specs.Faults.{log_of, done_before, events_before, HadRoom, IsNotItsEvent, IsNotAsked, IsUnclaimed, IsFault}
+use Rattle.auditor.specs.Faults.{done_before, events_before, HadRoom, IsNotItsEvent, IsNotAsked, IsUnclaimed, IsFault}
 use Rattle.auditor.specs.Claims.{IsRight}
 use Rattle.auditor.specs.Passes.{AreSoundBefore}
 use Rattle.auditor.specs.Transcripts.{judged_by, opened_by, IsRightAt}

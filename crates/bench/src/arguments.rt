@@ -8,7 +8,7 @@ use std::{env, io};
 
 pub const USAGE: &str = "usage: bench KIND[,KIND..] CPUS CALLS ROUNDS
   KIND    ticket, mcs, any-ticket, any-mcs or mutex
-  CPUS    1 to 8, a thread for each
+  CPUS    1 to 64, a thread for each
   CALLS   of each CPU in a round; a round has at most 8388608 events
   ROUNDS  of each kind
 A line is `KIND NANOSECONDS EVENTS TURNS`.";

@@ -34,12 +34,12 @@ fn settings(alloc: Global, line: &str) -> Result<Result<Settings, WordsFault>, F
 
 #[test]
 fn words_are_read(rt: HostRuntime) -> Result<(), Fail> {
-    let Ok(found) = settings(rt.alloc(), "ticket,mutex,any-mcs 8 1048576 7")? else {
+    let Ok(found) = settings(rt.alloc(), "ticket,mutex,any-mcs 64 131072 7")? else {
         return Err(Fail::new("refused"));
     };
     let kinds = [Kind::Ticket, Kind::Mutex, Kind::AnyMcs];
     assert!(rt; found.kinds.as_slice() == kinds.as_slice());
-    assert_eq!(rt; (found.load.cpus, found.load.calls), (8, 1048576));
+    assert_eq!(rt; (found.load.cpus, found.load.calls), (64, 131072));
     assert_eq!(rt; found.rounds, 7);
     Ok(())
 }
@@ -65,7 +65,7 @@ fn other_words_are_refused(rt: HostRuntime) -> Result<(), Fail> {
         "ticket, 1 10 1",
         "ticket,,mcs 1 10 1",
         "ticket 0 10 1",
-        "ticket 9 1 1",
+        "ticket 65 1 1",
         "ticket -1 10 1",
         "ticket 257 10 1",
         "ticket one 10 1",

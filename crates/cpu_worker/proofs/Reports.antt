@@ -10,6 +10,7 @@ use Rattle.scripts.specs.declared.form.Form.TheVariants.{Two}
 use Rattle.scripts.specs.RecordRanges.{Record, RecordFits, TranscriptFits}
 use Rattle.scripts.specs.Settings.{ObjectSettings}
 use Rattle.scripts.specs.Words.{sentence, text_of_lines}
+use Rattle.word_rule.specs.declared.key.TheConstants.{MOST_CPUS}
 use Rattle.cpu_worker.specs.declared.sums.Sums.{Sums}
 use Rattle.cpu_worker.specs.Report.{all_entries, entries_on, lacks_room, greatest, sums_of, joined, object_words, objects_words, run_words, report_text}
 
@@ -108,7 +109,7 @@ pub few_entries : (r : Record) → RecordFits r → length (all_entries r.run.tr
 few_entries r fit =
     let few = few_of (length r.settings.objects) r.run.transcripts fit.1.transcripts in
     let count : length r.run.transcripts ≡ r.settings.cpus = fit.1.transcript_count in
-    let cpus : r.settings.cpus ≤ 8 = fit.0.cpus.1 in
+    let cpus : r.settings.cpus ≤ MOST_CPUS = fit.0.cpus.1 in
     omega (arith, few, count, cpus)
 
 -- ---- the lines

@@ -16,7 +16,7 @@ use word_rule::{LockKind, MOST_CPUS, Pass};
 const FIRST_TICKET: u32 = 0;
 
 impl<O: SeqObject> AnyCell<O> {
-    /// A cell of the kind, of 1 to 8 CPUs, and a pass for each CPU, in order: pass k owns the CPU k and has seen the log
+    /// A cell of the kind, of 1 to 64 CPUs, and a pass for each CPU, in order: pass k owns the CPU k and has seen the log
     /// of the given object. The first ticket of a ticket lock is 0. Where there is no memory the object comes back as it
     /// was.
     pub fn open(

@@ -9,7 +9,7 @@ use Rattle.scripts.specs.KernelTypes.{KernelRun}
 use Rattle.scripts.specs.declared.form.Form.TheVariants.{Two}
 use Rattle.scripts.specs.RecordRanges.{EntryFits, LogFits, TranscriptFits, RunFits}
 use Rattle.scripts.specs.Settings.{Settings}
-use Rattle.log_merge.specs.declared.place.Place.{Place}
+use Rattle.word_rule.specs.declared.place.Place.{Place}
 use Rattle.log_merge.specs.Chains.{Chain, Cyclic}
 use Rattle.log_merge.specs.Nexts.{IsWhole}
 use Rattle.log_merge.specs.Tangles.{WaitsFor}

@@ -11,10 +11,11 @@ use Rattle.auditor.specs.Faults.{IsFirstFault}
 use Rattle.auditor.specs.VerdictText.{fault_text, verdict_text}
 use Rattle.cpu_worker.specs.Report.{report_text}
 use Rattle.cpu_worker.specs.Simulation.{simulated}
-use Rattle.log_merge.specs.declared.place.Place.{Place}
+use Rattle.word_rule.specs.declared.place.Place.{Place}
 use Rattle.log_merge.specs.CycleText.{cycle_text}
 use Rattle.log_merge.specs.MergedRecords.{IsMerged, HasCycle}
 use Rattle.log_merge.specs.MergedText.{merged_text}
+use Rattle.word_rule.specs.Orders.{HasOrder}
 use Rattle.word_rule.specs.Sound.{Sound}
 use Rattle.scripts.specs.contracts.kernel_object.KernelObjectSeqObject.TheImpl.{ghosts as kernel}
 use Rattle.scripts.specs.KernelTypes.{KernelTodo}
@@ -43,7 +44,7 @@ pub record IsRunOf (settings : Settings) (text : List ℕ) (r : Record) : Type 0
   pub asks : AsksFor asked r.run
   pub sound : Sound kernel (opened_of settings) r.run
 
--- the run of those scripts whose steps are done in the order of the schedule
+-- the run of those scripts whose steps are done in the order of the schedule; its entries have one order
 pub record IsSimulationOf (settings : Settings) (text turns : List ℕ) (r : Record) : Type 0 where
   pub under : r.settings ≡ settings
   pub asked : List (List KernelTodo)
@@ -52,6 +53,7 @@ pub record IsSimulationOf (settings : Settings) (text turns : List ℕ) (r : Rec
   pub scheduled : IsSchedule settings.cpus turns steps
   pub is : r.run ≡ simulated settings asked steps
   pub sound : Sound kernel (opened_of settings) r.run
+  pub ordered : HasOrder r.run
 
 module _ (held : Option (List ℕ) → Option (List ℕ)) where
   -- the settings under that name, or the built-in ones

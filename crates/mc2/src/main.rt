@@ -6,6 +6,7 @@ mod arguments;
 mod command;
 mod fault;
 mod input;
+mod law;
 #[cfg(test)]
 mod tests;
 mod words_given;
@@ -16,6 +17,7 @@ use crate::words_given::words_given;
 pub use answers::{report_answer, run_answer, sim_answer, upgrade_answer};
 use event_log::{Plain, StreamFailed};
 pub use input::Inputs;
+pub use law::simulations_have_no_cycle;
 use std::fs::{File, Files};
 use std::io;
 use std::io::{Input, Read};

@@ -1,6 +1,7 @@
 //! The worked runs, refused scripts, and sinks that fail.
 
 mod judged_runs;
+mod many_cpus;
 mod texts;
 
 use crate::fault::Fault;

@@ -16,7 +16,7 @@ use word_rule::{LockKind, LockTable, MOST_CPUS, Pass};
 const MOST_WORDS: usize = 1 + 2 * MOST_CPUS as usize;
 
 impl<O: SeqObject> McsCell<O> {
-    /// A cell of 1 to 8 CPUs, and a pass for each CPU, in order: pass k owns the CPU k and has seen the log of the given
+    /// A cell of 1 to 64 CPUs, and a pass for each CPU, in order: pass k owns the CPU k and has seen the log of the given
     /// object. Where there is no memory the object comes back as it was.
     pub fn new(
         alloc: Global,

@@ -224,7 +224,8 @@ impl<O: SeqObject> McsCell<O> {
         }
     }
 
-    /// Gives the object back, and clears the `locked` of the one behind it: one store.
+    /// Gives the object back, and clears the `locked` of the one behind it: one store. It wakes nobody: who sleeps in `acquire`
+    /// looks again by itself, within a millisecond.
     pub fn pass_on(&self, passing: Passing<O>) -> Pass<O>
         requires { IsPassingOf self.now passing }
         ensures pass { IsPassOf self.now result }
@@ -241,7 +242,6 @@ impl<O: SeqObject> McsCell<O> {
         self.table.put_back(&mut seat, logged, lent);
         self.table
             .store::<PassOn>(&mut seat, locked_index(self.cpus, follower), 0);
-        self.waiters.serve(follower);
         Pass { cpu, key, seat }
     }
 }

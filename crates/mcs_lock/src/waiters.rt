@@ -1,9 +1,13 @@
 //! Where callers of an MCS lock sleep, who know nobody but the one before them.
 
 use crossbeam_utils::Backoff;
+use std::array;
 use std::sync::Wait;
 use std::sync::atomic::{AtomicU64, Ordering};
-use word_rule::{SHORT_WAIT, Sleepers};
+use word_rule::{MOST_CPUS, SHORT_WAIT, Sleepers};
+
+// The CPUs of the greatest cell.
+const CPUS: usize = MOST_CPUS as usize;
 
 /// Numbers for the CPUs that have waited for a short time, in about the order of the queue: each takes the next one then, so
 /// it knows about how many are before it. Nothing rests on them but who sleeps for how long, and no clause speaks of them.
@@ -17,26 +21,17 @@ pub(crate) struct Waiters {
     taken: AtomicU64,
     served: AtomicU64,
     // The last number of each CPU.
-    numbers: [AtomicU64; 8],
+    numbers: [AtomicU64; CPUS],
 }
 
 impl Waiters {
     /// Nobody waits.
-    pub(crate) const fn new() -> Waiters {
+    pub(crate) fn new() -> Waiters {
         Waiters {
             sleepers: Sleepers::new(),
             taken: AtomicU64::new(0),
             served: AtomicU64::new(0),
-            numbers: [
-                AtomicU64::new(0),
-                AtomicU64::new(0),
-                AtomicU64::new(0),
-                AtomicU64::new(0),
-                AtomicU64::new(0),
-                AtomicU64::new(0),
-                AtomicU64::new(0),
-                AtomicU64::new(0),
-            ],
+            numbers: array::from_fn(|_| AtomicU64::new(0)),
         }
     }
 
@@ -72,6 +67,6 @@ impl Waiters {
     }
 
     fn number(&self, cpu: u8) -> &AtomicU64 {
-        &self.numbers[(cpu % 8) as usize]
+        &self.numbers[(cpu % MOST_CPUS) as usize]
     }
 }

@@ -3,11 +3,11 @@
 ghost use Rattle.std.specs.Prelude.{◌≡◌, true, []};
 ghost use Rattle.word_rule.specs.Cell.{Grows, OwnTogether};
 ghost use Rattle.word_rule.specs.LockRuns.{Extends};
-ghost use Rattle.word_rule.specs.McsSteps.{IsWaitingLook, IsSeeAgain};
+ghost use Rattle.word_rule.specs.McsSteps.{IsWaitingLook, IsPass, IsSeeAgain};
 ghost use Rattle.word_rule.specs.OneHold.{HasAcquired, HasReleased};
 ghost use Rattle.mcs_lock.specs.Queued.{IsQueued, IsSeen};
 ghost use Rattle.mcs_lock.specs.Passes.{IsPassOf, IsBehindOf, IsWaitingOf, IsHoldOf, IsLeavingOf, IsPassingOf, view_of_behind, view_of_waiting, view_of_leaving, view_of_passing, state_of_behind, state_of_waiting, state_of_leaving, state_of_passing};
-ghost use Rattle.word_rule.specs.Passes.{view_of_pass, view_of_hold, run_of_pass, run_of_hold, state_of_hold};
+ghost use Rattle.word_rule.specs.Passes.{view_of_pass, view_of_hold, run_of_pass, run_of_hold, state_of_pass, state_of_hold};
 
 use crate::cell::McsCell;
 use crate::rule::{Look, SeeAgain};
@@ -68,16 +68,28 @@ impl<O: SeqObject> McsCell<O> {
         ensures run { HasReleased (view_of_hold hold) (run_of_hold hold) (run_of_pass result) }
     {
         let alone = match self.see(hold) {
-            Ok(passing) => return self.pass_on(passing),
+            Ok(passing) => return self.wake_next(passing),
             Err(alone) => alone,
         };
         match self.empty(alone) {
             Ok(pass) => pass,
             Err(leaving) => {
                 let passing = self.wait_follower(rt, leaving);
-                self.pass_on(passing)
+                self.wake_next(passing)
             }
         }
+    }
+
+    // Gives the object back, and wakes the one behind it.
+    fn wake_next(&self, passing: Passing<O>) -> Pass<O>
+        requires { IsPassingOf self.now passing }
+        ensures pass { IsPassOf self.now result }
+        ensures step { IsPass O.SeqObject (state_of_passing passing) (state_of_pass result) }
+    {
+        let follower = passing.follower;
+        let pass = self.pass_on(passing);
+        self.waiters.serve(follower);
+        pass
     }
 
     // Looks who is behind it until it sees one, with a pause between two looks.

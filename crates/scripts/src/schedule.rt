@@ -20,7 +20,7 @@ pub enum ScheduleFault {
     Word(usize),
 }
 
-/// A CPU for each step: at most 100,000 steps of at most 8 CPUs.
+/// A CPU for each step: at most 100,000 steps of at most 64 CPUs.
 #[derive(Drop)]
 pub struct Schedule {
     steps: Vec<u8>,

@@ -13,7 +13,7 @@ use std::marker::Model;
 /// The most entries of one CPU.
 pub const MOST_ENTRIES: usize = 10_000;
 
-/// For each CPU its entries in order: at most 8 CPUs and 10,000 entries of each, every entry with 1 to 8 calls on one
+/// For each CPU its entries in order: at most 64 CPUs and 10,000 entries of each, every entry with 1 to 8 calls on one
 /// of at most 16 objects.
 #[derive(Drop)]
 pub struct Scripts {

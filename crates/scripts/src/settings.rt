@@ -28,7 +28,7 @@ impl Model for ObjectSettings {
     ghost view = { λ o. record { name = o.name.bytes; lock = o.lock; events = o.events; params = o.params } };
 }
 
-/// The number of CPUs, and the objects: 1 to 8 CPUs and 1 to 16 objects of different names, each within its limits.
+/// The number of CPUs, and the objects: 1 to 64 CPUs and 1 to 16 objects of different names, each within its limits.
 #[derive(Drop)]
 pub struct Settings {
     cpus: u8,
@@ -142,7 +142,7 @@ impl Settings {
         }
     }
 
-    /// The number of CPUs, 1 to 8.
+    /// The number of CPUs, 1 to 64.
     pub fn cpus(&self) -> u8
         ensures cpus { result ≡ self.now.cpus }
         ensures fit { SettingsFit self.now }

@@ -19,6 +19,9 @@ pub mod Dealing
 pub mod MachineParts
 pub mod Slices
 pub mod Entries
+pub mod OrderLists
+pub mod OrderedRuns
+pub mod WorldOrders
 pub mod SoundSteps
 pub mod Orders
 pub mod TicketTurns

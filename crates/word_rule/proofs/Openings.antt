@@ -1,6 +1,7 @@
 -- What a machine keeps before its first step shows the opening world, which is sound.
 use Rattle.std.proofs.Common.{◌≡◌, ℕ, zero, suc, ◌+◌, ◌<◌, ◌≤◌, List, [], ◌∷◌, ◌++◌, length, drop, take, get_or, slice_get, Vec, Option, Some, None, refl, sym, ap, ◌∙◌, subst, arith}
 use Rattle.std.specs.List.{AllByRecursion, AllZip}
+use Rattle.std.specs.Prelude.{unwrap_or}
 use Rattle.std.specs.declared.alloc.Global.{Global}
 use Rattle.std.proofs.lemmas.List.{length-map, take_more as one_more}
 use Rattle.std.proofs.lemmas.Slice.Zip.{AllZip-long}
@@ -9,13 +10,16 @@ use Rattle.event_log.specs.declared.entry.Todo.{Todo}
 use Rattle.word_rule.specs.declared.machine.cell_spec.CellSpec.{CellSpec}
 use Rattle.word_rule.specs.declared.machine.lock_words.LockWords.{LockWords}
 use Rattle.word_rule.specs.declared.machine.progress.Progress.{Progress}
+use Rattle.word_rule.specs.declared.key.TheConstants.{MOST_CPUS}
 use Rattle.word_rule.specs.Rule.LockStates.{RepresentsLock}
 use Rattle.word_rule.specs.Machine.Opening.{opening_cell, opening_cpu, opening_world, IsOpening, IsOpeningCell}
 use Rattle.word_rule.specs.Machine.Shown.{MachineParts, RepresentsCell, ShowsCpu, Represents, Runs, IsRoomy, FreshCpu, FreshDone, FreshLock, FreshLocks}
-use Rattle.word_rule.specs.Sound.{LogIsSound, done_on, steps_by, NoneAfterFull}
+use Rattle.word_rule.specs.Orders.{numbers, IsOrder}
+use Rattle.word_rule.specs.Sound.{LogIsSound, log_of, done_on, steps_by, NoneAfterFull}
 use Rattle.word_rule.specs.Machine.SoundWorld.{SoundWorld, IsTodo, IsAnswer, entries_of, entries_by}
-use Rattle.word_rule.specs.Machine.World.{World, CellState, CpuState}
-use Rattle.word_rule.proofs.Slices.{get_map, one_of}
+use Rattle.word_rule.specs.Machine.World.{World, CellState, CpuState, run_of}
+use Rattle.word_rule.proofs.Slices.{get_map, map_get, map_none, one_of}
+use Rattle.word_rule.proofs.SoundRuns.{transcript_is}
 
 pub zip_at : {X Y : Type 0} (R : X → Y → Type 0) (xs : List X) (ys : List Y) (k : ℕ) (x : X) (y : Y) → AllZip R xs ys → slice_get xs k ≡ Some x → slice_get ys k ≡ Some y → R x y
 zip_at R [] ys k x y z e f = cc
@@ -46,6 +50,21 @@ module _ {O P C R : Type 0} (meaning : Ghosts O P C R) (w : World O P C R) (o : 
     able = o.able;
   }
 
+  no_log : (x : ℕ) → log_of x (run_of w) ≡ []
+  no_log x = by (slice_get w.cells x) refl
+    where
+      by : (q : Option (CellState O P C R)) → slice_get w.cells x ≡ q → log_of x (run_of w) ≡ []
+      by None e = ap (λ o. unwrap_or o []) (map_none (λ (c : CellState O P C R). c.log) w.cells x e)
+      by (Some c) e = ap (λ o. unwrap_or o []) (map_get (λ (c : CellState O P C R). c.log) w.cells x c e) ∙ (o.cells x c e).empty
+
+  -- and none of its entries are in order
+  pub opening_order : IsOrder (run_of w) []
+  opening_order = record {
+    entries = λ cpu. ap (λ l. numbers 0 (length l)) (sym (transcript_is meaning w opening_sound cpu ∙ no_entries cpu));
+    events = λ x. sym (no_log x);
+    full = tt;
+  }
+
 module _ {O P C R : Type 0} (cells : List (CellSpec O P C R)) (scripts : List (Vec (Todo O P C R) Global)) where
   abbrev W : World O P C R
   W = opening_world cells scripts
@@ -62,7 +81,7 @@ module _ {O P C R : Type 0} (cells : List (CellSpec O P C R)) (scripts : List (V
   cpu_at : (i : ℕ) (c : CpuState O P C R) → slice_get W.cpus i ≡ Some c → (s : Vec (Todo O P C R) Global) × (slice_get scripts i ≡ Some s) × (opening_cpu s.items ≡ c)
   cpu_at i c e = get_map (λ (s : Vec (Todo O P C R) Global). opening_cpu s.items) scripts i c e
 
-  pub opening_is : length scripts ≤ 8 → AllByRecursion (λ (c : CellSpec O P C R). c.logged.log ≡ []) cells → AllByRecursion (λ (s : Vec (Todo O P C R) Global). AllByRecursion (λ t. IsTodo (length cells) t) s.items) scripts → IsOpening W
+  pub opening_is : length scripts ≤ MOST_CPUS → AllByRecursion (λ (c : CellSpec O P C R). c.logged.log ≡ []) cells → AllByRecursion (λ (s : Vec (Todo O P C R) Global). AllByRecursion (λ t. IsTodo (length cells) t) s.items) scripts → IsOpening W
   opening_is few empty able = record {
     few = omega (arith, cpus_are, few);
     cells = λ x c e. let a = cell_at x c e in subst (λ k. IsOpeningCell k) a.2 record { first = a.0.first; free = refl; empty = all_at (λ (c : CellSpec O P C R). c.logged.log ≡ []) cells x a.0 empty a.1 };
@@ -102,7 +121,7 @@ module _ {O P C R : Type 0} (cells : List (CellSpec O P C R)) (scripts : List (V
           subst (λ k. ShowsCpu script p k) is record { todo = ap (λ n. drop n script.items) f.at; transcript = f.transcript; looks = f.looks };
     }
 
-    pub opening_roomy : (logs transcripts : ℕ) → length cells ≤ 16 → length scripts ≤ 8 → length cells ≤ logs → length scripts ≤ transcripts → IsRoomy M logs transcripts
+    pub opening_roomy : (logs transcripts : ℕ) → length cells ≤ 16 → length scripts ≤ MOST_CPUS → length cells ≤ logs → length scripts ≤ transcripts → IsRoomy M logs transcripts
     opening_roomy logs transcripts few_cells few logs_fit transcripts_fit = record {
       cells = few_cells;
       cpus = few;
@@ -115,7 +134,7 @@ module _ {O P C R : Type 0} (cells : List (CellSpec O P C R)) (scripts : List (V
     }
 
     pub opening_runs : IsOpening W → Runs meaning M
-    opening_runs o = record { world = W; shows = opening_shows; sound = opening_sound meaning W o }
+    opening_runs o = record { world = W; shows = opening_shows; sound = opening_sound meaning W o; ordered = record { places = []; order = opening_order meaning W o } }
 
 -- two lists related place by place grow by one on each side
 pub zip_push : {X Y : Type 0} (R : X → Y → Type 0) (xs : List X) (ys : List Y) (x : X) (y : Y) → AllZip R xs ys → R x y → AllZip R (xs ++ x ∷ []) (ys ++ y ∷ [])

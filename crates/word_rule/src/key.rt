@@ -10,7 +10,7 @@ use std::marker::Model;
 use std::snapshot::Snapshot;
 
 /// The most CPUs of one cell.
-pub const MOST_CPUS: u8 = 8;
+pub const MOST_CPUS: u8 = 64;
 
 /// The constants of a cell, for contracts: which lock it has and its first ticket, what the object was opened with, its limit,
 /// its opening log and the number of CPUs. It carries no log of its own.

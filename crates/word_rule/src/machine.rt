@@ -5,6 +5,7 @@ ghost use Rattle.std.specs.List.{AllByRecursion};
 ghost use Rattle.word_rule.specs.LockWords.{lock_words};
 ghost use Rattle.word_rule.specs.Machine.Opening.{opening_world, IsOpening};
 ghost use Rattle.word_rule.specs.Machine.Shown.{Represents, Runs, opened_by};
+ghost use Rattle.word_rule.specs.Orders.{HasOrder};
 ghost use Rattle.word_rule.specs.Sound.{Sound};
 ghost use Rattle.word_rule.specs.Machine.SoundWorld.{IsTodo};
 ghost use Rattle.word_rule.specs.Machine.World.{World, CellState, step, run, run_of};
@@ -30,7 +31,7 @@ use crate::machine::recorded::{all_logs, all_transcripts};
 use crate::machine::room::{Room, make_room};
 pub use cell_spec::CellSpec;
 use event_log::{Entry, Event, OutOfMemory, Run, SeqObject, Series, Todo};
-pub use law::{first_come, idle_when_done, one_holder, sound_runs};
+pub use law::{ends_are_an_order, first_come, idle_when_done, one_holder, sound_runs};
 use std::alloc::Global;
 use std::marker::Model;
 pub use step_done::StepDone;
@@ -63,7 +64,7 @@ impl<O: SeqObject> Model for Machine<O> {
 }
 
 impl<O: SeqObject> Machine<O> {
-    /// A machine of 1 to 16 cells with empty logs and of 1 to 8 CPUs, each with its script, before the first step. Each
+    /// A machine of 1 to 16 cells with empty logs and of 1 to 64 CPUs, each with its script, before the first step. Each
     /// entry has 1 to 8 calls on one of the cells. Where memory is refused both lists come back.
     pub fn new(
         alloc: Global,
@@ -101,7 +102,7 @@ impl<O: SeqObject> Machine<O> {
     }
 
     /// What every machine is, whoever made it: it keeps a world, whose logs and transcripts are sound, of at most 16 cells
-    /// and 8 CPUs. It has no effect.
+    /// and 64 CPUs. It has no effect.
     pub fn keeps_a_world(&self)
         ensures world { Runs O.SeqObject self.now }
         ensures cells { length self.now.cells ≤ MOST_CELLS }
@@ -157,10 +158,11 @@ impl<O: SeqObject> Machine<O> {
     }
 
     /// The committed logs, and the transcripts so far. An entry stands in a transcript once the step that ended its hold
-    /// was done.
+    /// was done. All entries have one order.
     pub fn record(self) -> Run<O>
         ensures shows { (w : World O O.Params O.Call O.Reply) → Represents O.SeqObject self w → result ≡ run_of w }
         ensures sound { Sound O.SeqObject (opened_by self) result }
+        ensures ordered { HasOrder result }
     {
         let Machine {
             cells,

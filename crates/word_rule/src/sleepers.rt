@@ -1,6 +1,8 @@
 //! Where callers of a cell sleep while they wait for their turn.
 
+use crate::MOST_CPUS;
 use crossbeam_utils::Backoff;
+use std::array;
 use std::sync::Wait;
 use std::sync::atomic::{AtomicU64, Ordering};
 use std::time::Duration;
@@ -18,40 +20,31 @@ const ROUND: u64 = 6;
 const NEAR: u64 = 4;
 
 // As many as a cell has CPUs, at most.
-const BEDS: u64 = 8;
+const BEDS: usize = MOST_CPUS as usize;
 
 // What a bed is: empty, or its caller sleeps, or will if it looks once more in vain.
 const EMPTY: u64 = 0;
 
 const TAKEN: u64 = 1;
 
-/// A bed for each of 8 numbers, which callers have in the order of their turns; another number is the one of its last three
-/// bits. It lies in a cell beside the table, takes no memory, and no clause speaks of it.
+/// As many beds as a cell has CPUs at most. Callers have numbers in the order of their turns, and numbers that are as far apart
+/// as there are beds have one bed. It lies in a cell beside the table, takes no memory, and no clause speaks of it.
 ///
 /// Nobody yields: beside other programs a thread that yields stands back for a whole slice of each. A caller takes its bed,
 /// looks once more, and sleeps then; who releases looks for taken beds after its last step, and empties them. So either that
 /// look finds the turn, or the release finds the bed taken: no wake is lost. And each sleep ends by itself after a millisecond.
 #[derive(Drop)]
 pub struct Sleepers {
-    beds: [AtomicU64; 8],
+    beds: [AtomicU64; BEDS],
     // How many beds are taken.
     taken: AtomicU64,
 }
 
 impl Sleepers {
     /// Nobody sleeps.
-    pub const fn new() -> Sleepers {
+    pub fn new() -> Sleepers {
         Sleepers {
-            beds: [
-                AtomicU64::new(EMPTY),
-                AtomicU64::new(EMPTY),
-                AtomicU64::new(EMPTY),
-                AtomicU64::new(EMPTY),
-                AtomicU64::new(EMPTY),
-                AtomicU64::new(EMPTY),
-                AtomicU64::new(EMPTY),
-                AtomicU64::new(EMPTY),
-            ],
+            beds: array::from_fn(|_| AtomicU64::new(EMPTY)),
             taken: AtomicU64::new(0),
         }
     }
@@ -61,7 +54,7 @@ impl Sleepers {
     #[inline(never)]
     pub fn rest<R: Wait>(&self, rt: &R, backoff: &Backoff, looks: u64, number: u64, before: u64) {
         let bed = self.bed(number);
-        let is_far = NEAR <= before && before < BEDS;
+        let is_far = NEAR <= before && before < BEDS as u64;
         if looks >= SHORT_WAIT && bed.load(Ordering::SeqCst) == TAKEN {
             bed.park_timeout(rt, TAKEN as u32, Duration::from_millis(1));
         } else if looks >= LONG_WAIT || looks == SHORT_WAIT && is_far {
@@ -93,7 +86,7 @@ impl Sleepers {
     }
 
     fn bed(&self, number: u64) -> &AtomicU64 {
-        &self.beds[(number % BEDS) as usize]
+        &self.beds[(number % BEDS as u64) as usize]
     }
 }
 

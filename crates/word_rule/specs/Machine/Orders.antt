@@ -1,10 +1,12 @@
 -- Who does which steps on a cell, in a run.
-use Rattle.std.specs.Prelude.{ℕ, Bool, false, ◌==◌, ◌&&◌, if◌then◌else◌, List, [], ◌∷◌, Option, Some, None, slice_get}
+use Rattle.std.specs.Prelude.{ℕ, Bool, false, ◌==◌, ◌&&◌, if◌then◌else◌, List, [], ◌∷◌, ◌++◌, length, Option, Some, None, slice_get}
 use Rattle.event_log.specs.declared.object.SeqObject.{Ghosts}
 use Rattle.event_log.specs.declared.entry.Todo.{Todo}
 use Rattle.event_log.specs.Distinct.{has}
 use Rattle.word_rule.specs.declared.machine.step_done.StepDone.{StepDone}
+use Rattle.word_rule.specs.declared.place.Place.{Place}
 use Rattle.word_rule.specs.Turns.{ends_hold, arrives}
+use Rattle.word_rule.specs.Machine.SoundWorld.{entries_by}
 use Rattle.word_rule.specs.Machine.World.{World, CpuState, step}
 
 abbrev pub is_that : Option ℕ → ℕ → Bool
@@ -47,3 +49,12 @@ module _ {O P C R : Type 0} (meaning : Ghosts O P C R) where
   -- whether CPU i ends a hold there by one of these steps
   abbrev pub ends_within : ℕ → ℕ → List ℕ → World O P C R → Bool
   ends_within i x is w = has i (endings x is w)
+
+  -- the entry whose hold ends by the next step of CPU i, if one does: the next of its transcript
+  abbrev pub ended_by : World O P C R → ℕ → List Place
+  ended_by w i = if ends_hold (step meaning w i).1 then record { cpu = i; entry = length (entries_by i w) } ∷ [] else []
+
+  -- the entries that come to an end, in the order of the schedule
+  abbrev pub ended : List ℕ → World O P C R → List Place
+  ended [] w = []
+  ended (i ∷ is) w = ended_by w i ++ ended is (step meaning w i).0

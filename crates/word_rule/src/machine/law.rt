@@ -5,7 +5,8 @@ ghost use Rattle.event_log.specs.Log.{Begins};
 ghost use Rattle.word_rule.specs.declared.machine.step_done.StepDone.TheVariants.{Idle};
 ghost use Rattle.word_rule.specs.Line.{holding};
 ghost use Rattle.word_rule.specs.Machine.Opening.{IsOpening};
-ghost use Rattle.word_rule.specs.Machine.Orders.{is_at, arrivals, endings, arrives_at, ends_within};
+ghost use Rattle.word_rule.specs.Machine.Orders.{is_at, arrivals, endings, arrives_at, ends_within, ended};
+ghost use Rattle.word_rule.specs.Orders.{IsOrder};
 ghost use Rattle.word_rule.specs.Sound.{Sound};
 ghost use Rattle.word_rule.specs.Turns.{arrives};
 ghost use Rattle.word_rule.specs.Machine.World.{World, CellState, CpuState, run, step, run_of, opened_in};
@@ -45,4 +46,11 @@ pub fn one_holder<O: SeqObject>()
 pub fn sound_runs<O: SeqObject>()
     ensures { (w : World O O.Params O.Call O.Reply) → IsOpening w → (schedule : List ℕ) →
         Sound O.SeqObject (opened_in w) (run_of (run O.SeqObject schedule w)) }
+{}
+
+/// Under every schedule, over cells of either kind, all entries have one order: that in which their holds came to an end. Each
+/// CPU's entries stand in theirs, those done on a cell in its log's, and those without room behind all that were done there.
+pub fn ends_are_an_order<O: SeqObject>()
+    ensures { (w : World O O.Params O.Call O.Reply) → IsOpening w → (schedule : List ℕ) →
+        IsOrder (run_of (run O.SeqObject schedule w)) (ended O.SeqObject schedule w) }
 {}

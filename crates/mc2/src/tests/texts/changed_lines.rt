@@ -50,7 +50,7 @@ const HEAD_CHANGES: [Change; 17] = [
     ("\ncpus 2", "\nrecord 1\ncpus 2", Some(2)),
     ("\ncpus 2", "\nrecord 2\ncpus 2", Some(2)),
     ("cpus 2", "cpus 0", Some(2)),
-    ("cpus 2", "cpus 9", Some(2)),
+    ("cpus 2", "cpus 65", Some(2)),
     ("cpus 2", "cpus 02", Some(2)),
     ("cpus 2", "cpus 3", Some(12)),
     ("objects 1", "objects 0", Some(3)),
@@ -62,6 +62,13 @@ const HEAD_CHANGES: [Change; 17] = [
     (OBJECT, "object q0 spin 100 queue 8", Some(4)),
     (OBJECT, "object Q0 ticket 100 queue 8", Some(4)),
     (OBJECT, "object q0 ticket 100 sched 8", Some(4)),
+];
+
+/// How many CPUs there are: record 1 has at most 8.
+const CPU_CHANGES: [ChangeInEach; 3] = [
+    ("cpus 2", "cpus 8", [Some(12), Some(12)]),
+    ("cpus 2", "cpus 9", [Some(2), Some(12)]),
+    ("cpus 2", "cpus 64", [Some(2), Some(12)]),
 ];
 
 /// Lines of pools: record 1 tells their pages alone, and record 2 a quota for each owner too.
@@ -328,6 +335,13 @@ fn changes_of_the_head(rt: HostRuntime) -> Result<(), Fail> {
         let wrong = first_wrong(rt.alloc(), form, &HEAD_CHANGES)?;
         assert_eq!(rt; wrong, None, "{form:?}");
     }
+    Ok(())
+}
+
+/// Another number of CPUs.
+#[test]
+fn changes_of_the_cpus(rt: HostRuntime) -> Result<(), Fail> {
+    assert_eq!(rt; first_wrong_in_each(rt.alloc(), &CPU_CHANGES)?, None);
     Ok(())
 }
 

@@ -342,7 +342,8 @@ fn faults_of_the_whole(rt: HostRuntime) -> Result<(), Fail> {
     let rows = [
         ("", "top: cpus: missing"),
         ("cpus = 0", "top: cpus: out of range"),
-        ("cpus = 9\nobject = 1", "top: cpus: out of range"),
+        ("cpus = 65\nobject = 1", "top: cpus: out of range"),
+        ("cpus = 64\nobject = 1", "top: object: wrong type"),
         ("cpus = \"1\"", "top: cpus: wrong type"),
         ("cpus = 1", "top: object: missing"),
         ("cpus = 1\nobject = 1", "top: object: wrong type"),

@@ -1,0 +1,104 @@
+//! Simulations of 64 CPUs on sixteen objects of all kinds behind both locks, by random schedules: all entries have one order.
+
+use cpu_worker::simulate;
+use log_merge::merge;
+use scripts::{Record, Schedule, Scripts, Settings};
+use std::alloc::Global;
+use std::test::Fail;
+
+const CPUS: u8 = 64;
+
+const OBJECTS: usize = 16;
+
+const ENTRIES: usize = 20;
+
+const STEPS: usize = 20_000;
+
+/// The locks, each of four objects in turn.
+const LOCKS: [&str; 2] = ["ticket", "mcs"];
+
+/// Each kind, what it is opened with, and what is asked of it.
+const KINDS: [(&str, &str, &str); 4] = [
+    ("queue", "threads = 8", "enq 1 ; deq"),
+    ("pool", "pages = 4", "alloc 1 ; left"),
+    ("console", "bytes = 3", "put 65 ; get"),
+    ("sched", "threads = 8\nchannels = 2", "ready 1 ; next"),
+];
+
+/// Sixteen objects. The logs of four behind each lock are soon full.
+fn settings_text(alloc: Global) -> Result<String, Fail> {
+    let mut text = String::new(alloc);
+    writeln!(text, "cpus = {CPUS}")?;
+    for place in 0..OBJECTS {
+        let (kind, numbers, _) = KINDS[place % 4];
+        let lock = LOCKS[place / 4 % 2];
+        let events = if place < 8 { 6 } else { 1000 };
+        writeln!(
+            text,
+            "[[object]]\nname = \"o{place}\"\nkind = \"{kind}\"\nlock = \"{lock}\"\nevents = {events}\n{numbers}"
+        )?;
+    }
+    Ok(text)
+}
+
+/// Each CPU goes over all objects.
+fn put_script(text: &mut String, cpu: u8) -> Result<(), Fail> {
+    let first = cpu as usize;
+    for index in 0..ENTRIES {
+        let place = (index + first) % OBJECTS;
+        let (_, _, asked) = KINDS[place % 4];
+        writeln!(text, "{cpu} o{place} {asked}")?;
+    }
+    Ok(())
+}
+
+fn scripts_text(alloc: Global) -> Result<String, Fail> {
+    let mut text = String::new(alloc);
+    for cpu in 0..CPUS {
+        put_script(&mut text, cpu)?;
+    }
+    Ok(text)
+}
+
+/// A CPU for each step, from that number on.
+fn schedule_text(alloc: Global, seed: u64) -> Result<String, Fail> {
+    let mut text = String::new(alloc);
+    let mut number = seed;
+    for _ in 0..STEPS {
+        number = number
+            .wrapping_mul(6_364_136_223_846_793_005)
+            .wrapping_add(1_442_695_040_888_963_407);
+        let cpu = (number >> 33) % CPUS as u64;
+        writeln!(text, "{cpu}")?;
+    }
+    Ok(text)
+}
+
+/// How many entries the record has.
+fn entries_of(record: &Record) -> usize {
+    let mut count = 0usize;
+    for transcript in record.run().transcripts.as_slice() {
+        count = count.saturating_add(transcript.as_slice().len());
+    }
+    count
+}
+
+#[test]
+fn random_schedules_have_an_order(rt: HostRuntime) -> Result<(), Fail> {
+    let settings = settings_text(rt.alloc())?;
+    let settings = Settings::read(rt.alloc(), settings.as_bytes())?;
+    let scripts = scripts_text(rt.alloc())?;
+    let scripts = Scripts::read(rt.alloc(), scripts.as_bytes(), &settings)?;
+    for seed in [1u64, 2, 3, 5, 8, 13] {
+        let schedule = schedule_text(rt.alloc(), seed)?;
+        let schedule = Schedule::read(rt.alloc(), schedule.as_bytes(), &settings)?;
+        let record = simulate(rt.alloc(), &settings, &scripts, &schedule)?;
+        let Ok(merged) = merge(rt.alloc(), &record) else {
+            return Err(Fail::new("a simulation without an order"));
+        };
+        let count = entries_of(&record);
+        assert!(rt; count > 0, "{seed}");
+        assert_eq!(rt; merged.places.as_slice().len(), count, "{seed}");
+    }
+    Ok(())
+}
