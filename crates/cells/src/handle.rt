@@ -14,7 +14,8 @@ use std::mem::ManuallyDrop;
 /// Owns what lies at its pointer. It can't be dropped.
 #[repr(C)]
 pub struct Handle {
-    ptr: *mut ManuallyDrop<Body>,
+    // C is shown no type that has an atomic word.
+    ptr: *mut u8,
     alloc: Global,
     pub ghost slot: { Slot } by { slot_coded },
 }
@@ -28,14 +29,20 @@ impl Handle {
         ensures { result.slot ≡ parts.value }
     {
         let Parts { ptr, alloc } = parts;
-        Handle { ptr, alloc }
+        Handle {
+            ptr: ptr as *mut u8,
+            alloc,
+        }
     }
 
     pub(crate) fn into_parts(self) -> Parts<ManuallyDrop<Body>, Global>
         ensures { result.value ≡ self.slot }
     {
         let Handle { ptr, alloc } = self;
-        Parts { ptr, alloc }
+        Parts {
+            ptr: ptr as *mut ManuallyDrop<Body>,
+            alloc,
+        }
     }
 }
 

@@ -61,12 +61,12 @@ fn drop_caller(caller: Caller<KernelObject>) {
 
 /// Makes a handle that has nothing, and writes its pointer.
 #[unsafe(no_mangle)]
-pub extern "C" fn mc2_handle_new(alloc: Global, own: &mut *mut ManuallyDrop<Body>) -> u32 {
+pub extern "C" fn mc2_handle_new(alloc: Global, own: &mut *mut u8) -> u32 {
     let slot = unsafe { ManuallyDrop::new_unchecked(Body::Empty) };
     let Ok(block) = Box::new(alloc, slot) else {
         return NO_MEMORY;
     };
-    *own = Box::into_raw(block);
+    *own = Box::into_raw(block) as *mut u8;
     DONE
 }
 
