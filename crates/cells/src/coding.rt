@@ -52,7 +52,7 @@ pub fn called_of(asked: &Asked) -> Option<KCall>
             page: second,
         }),
         KCall::Pool(PoolCall::Left),
-        KCall::Console(ConsoleCall::Put(first as u8)),
+        KCall::Console(ConsoleCall::Put((first % 256) as u8)),
         KCall::Console(ConsoleCall::Get),
         KCall::Console(ConsoleCall::Level),
         KCall::Sched(SchedCall::Ready(first)),
