@@ -73,8 +73,8 @@ module _ {O P C R : Type 0} {g : Ghosts O P C R} {call_eq : Eq C} {call_default 
     where
       each : (k : ℕ) → k < n + 1 → (view_of_pass j).caller.owned k ≡ true
       each k below = dite (ℕ_discrete k n)
-        (λ e. let number = home.number in owned k ∙ or_right ((view_of_pass a).caller.owned k) ((view_of_pass p).caller.owned k) (home.one.each k ∙ same_number k (view_of_pass p).caller.acting (omega (arith, e, number))))
-        (λ ne. owned k ∙ or_left ((view_of_pass a).caller.owned k) ((view_of_pass p).caller.owned k) (first.owned k (omega (arith, below, ne))))
+          (λ e. let number = home.number in owned k ∙ or_right ((view_of_pass a).caller.owned k) ((view_of_pass p).caller.owned k) (home.one.each k ∙ same_number k (view_of_pass p).caller.acting (omega (arith, e, number))))
+          (λ ne. owned k ∙ or_left ((view_of_pass a).caller.owned k) ((view_of_pass p).caller.owned k) (first.owned k (omega (arith, below, ne))))
 
   -- who owns the first CPUs, and all if these are all
   pub owns_all : (cell : AnyCell O P C R) (n : ℕ) (p : Pass O P C R g call_eq call_default reply_eq reply_default) → OwnsFirst cell n p → ((k : ℕ) → k < (fixed_of cell).numbers → k < n) → OwnsAll (view_of_pass p).caller

@@ -37,10 +37,7 @@ impl Body {
     }
 
     /// A caller comes back to its cell.
-    pub fn take_back(
-        self,
-        caller: Caller<KernelObject>,
-    ) -> (Body, Option<Caller<KernelObject>>)
+    pub fn take_back(self, caller: Caller<KernelObject>) -> (Body, Option<Caller<KernelObject>>)
         requires { IsOwn self caller }
         ensures { IsGivenBackTo self caller result.1 result.0 }
     {

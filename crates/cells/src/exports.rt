@@ -11,9 +11,13 @@ use event_log::NoRoom;
 
 /// What a step has told: a number for each.
 pub const STEPPED: u32 = 0;
+
 pub const LOOKED: u32 = 1;
+
 pub const ENTERED: u32 = 2;
+
 pub const FOUND: u32 = 3;
+
 pub const LEFT: u32 = 4;
 
 /// Nothing was done: the handle isn't at a place where this can be done.
@@ -24,7 +28,9 @@ pub const BUSY: u32 = 6;
 
 /// It was done; the log is full, and nothing was done; there is no such call, or no such step.
 pub const DONE: u32 = 7;
+
 pub const FULL: u32 = 8;
+
 pub const NOT_THERE: u32 = 9;
 
 fn told_progress(told: Option<Progress>) -> u32

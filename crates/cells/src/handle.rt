@@ -68,11 +68,7 @@ fn in_handle<X, R, F: FnOnce(Body, X) -> (Body, R)>(handle: Handle, x: X, f: F) 
 }
 
 /// Takes out what the handle has, and puts back what f makes of it.
-pub(crate) fn with_body<X, R, F: FnOnce(Body, X) -> (Body, R)>(
-    handle: &mut Handle,
-    x: X,
-    f: F,
-) -> R
+pub(crate) fn with_body<X, R, F: FnOnce(Body, X) -> (Body, R)>(handle: &mut Handle, x: X, f: F) -> R
     requires { F.pre f (manually_drop_value handle.old.slot) x }
     ensures { F.post f (manually_drop_value handle.old.slot) x (manually_drop_value handle.new.slot, result) }
 {

@@ -7,9 +7,9 @@ ghost use Rattle.cells.specs.declared.body.Body.TheVariants.{Empty};
 
 use crate::exports::{DONE, NOT_THERE, REFUSED};
 use crate::handle::with_body;
+use crate::logged_step::LoggedStep;
 use crate::opening::{NotOpened, Opening};
 use crate::parts::Parts;
-use crate::logged_step::LoggedStep;
 use crate::{Body, Caller, Handle, Position};
 use scripts::KernelObject;
 use std::alloc::Global;
@@ -17,6 +17,7 @@ use std::mem::ManuallyDrop;
 
 /// Of an opening: memory was refused, or a number is none of those that fit.
 pub const NO_MEMORY: u32 = 10;
+
 pub const BAD_OPENING: u32 = 11;
 
 /// Takes out what the handle has.

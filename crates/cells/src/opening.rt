@@ -64,10 +64,7 @@ fn lock_of(opening: &Opening) -> Option<LockKind>
 }
 
 /// A new cell.
-pub fn open_cell(
-    alloc: Global,
-    opening: &Opening,
-) -> Result<OpenCell<KernelObject>, NotOpened>
+pub fn open_cell(alloc: Global, opening: &Opening) -> Result<OpenCell<KernelObject>, NotOpened>
     ensures { IfOk result (λ c. IsOpened opening.now c) }
 {
     let Some(kind) = lock_of(opening) else {
