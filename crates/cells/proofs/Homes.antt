@@ -1,5 +1,5 @@
 -- The passes of a cell that C has opened: which CPUs they own.
-use Rattle.std.proofs.Common.{◌≡◌, ℕ, zero, suc, ◌+◌, ◌<◌, ◌==◌, ◌||◌, Bool, true, false, List, [], ◌∷◌, ◌++◌, length, refl, sym, ap, subst, ◌∙◌, arith, slice_get, Option, Some, None}
+use Rattle.std.proofs.Common.{◌≡◌, ℕ, zero, suc, ◌+◌, ◌<◌, ◌==◌, ◌||◌, Bool, true, false, List, [], ◌∷◌, ◌++◌, length, refl, sym, ap, subst, ◌∙◌, arith, slice_get, Some, None}
 use Rattle.std.specs.declared.cmp.PartialEq.{Ghosts as Eq}
 use Rattle.std.specs.declared.default.Default.{Ghosts as Default}
 use Rattle.std.proofs.lemmas.Bool.{eq-eqb}
@@ -15,8 +15,7 @@ use Rattle.word_rule.proofs.Slices.{some_at}
 use Rattle.guarded_cell.specs.declared.cell.AnyCell.{AnyCell}
 use Rattle.guarded_cell.specs.declared.cell.AnyCell.TheVariants as cells
 use Rattle.guarded_cell.specs.Kinds.{IsPassOf}
-use Rattle.cells.specs.declared.position.Position.TheVariants as at
-use Rattle.cells.specs.Positions.{IsOf, fixed_of}
+use Rattle.cells.specs.Positions.{fixed_of}
 use Rattle.cells.specs.OpenCells.{IsHome, AreHome, OwnsFirst, IsBack}
 
 get_front : {A : Type 0} (xs ys : List A) (k : ℕ) (x : A) → slice_get xs k ≡ Some x → slice_get (xs ++ ys) k ≡ Some x

@@ -1,7 +1,7 @@
 -- A call under a hold.
 use Rattle.std.specs.declared.cmp.PartialEq.{Ghosts as Eq}
 use Rattle.std.specs.declared.default.Default.{Ghosts as Default}
-use Rattle.std.specs.Prelude.{◌≡◌, ◌<◌, false, length, Option, Some, None, Result, Ok, Err}
+use Rattle.std.specs.Prelude.{◌≡◌, false, length, Option, Some, None, Result, Ok, Err}
 use Rattle.event_log.specs.declared.object.SeqObject.{Ghosts}
 use Rattle.event_log.specs.declared.logged.NoRoom.{NoRoom}
 use Rattle.event_log.specs.History.{with_event}

@@ -1,5 +1,5 @@
 -- What is done with what a handle has: a caller's step, or nothing.
-use Rattle.std.specs.Prelude.{◌≡◌, Bool, Option, Some, None, Result}
+use Rattle.std.specs.Prelude.{◌≡◌, Bool, Option, None, Result}
 use Rattle.std_alloc.specs.Arc.{arc_value}
 use Rattle.event_log.specs.declared.logged.NoRoom.{NoRoom}
 use Rattle.scripts.specs.declared.kernel_call.KCall.{KCall}
@@ -13,7 +13,7 @@ use Rattle.scripts.specs.contracts.kernel_call.KReplyPartialEq.TheImpl.{ghosts a
 use Rattle.scripts.specs.contracts.kernel_call.KReplyDefault.TheImpl.{ghosts as reply_defaults}
 use Rattle.cells.specs.declared.caller.Caller.{Caller as CallerOf}
 use Rattle.cells.specs.declared.body.Body.{Body}
-use Rattle.cells.specs.declared.body.Body.TheVariants.{Empty, Cell, Caller, Ended}
+use Rattle.cells.specs.declared.body.Body.TheVariants.{Caller}
 use Rattle.cells.specs.declared.progress.Progress.{Progress}
 use Rattle.cells.specs.Steps.{IsAdvance, IsLeave}
 use Rattle.cells.specs.Tries.{IsTried}

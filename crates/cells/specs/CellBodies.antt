@@ -2,7 +2,7 @@
 use Rattle.std.specs.Prelude.{◌≡◌, ℕ, Bool, true, false, Option, Some, None, Result, Ok, Err}
 use Rattle.std_alloc.specs.Arc.{arc_value}
 use Rattle.cells.specs.declared.body.Body.{Body}
-use Rattle.cells.specs.declared.body.Body.TheVariants.{Empty, Cell, Caller, Ended}
+use Rattle.cells.specs.declared.body.Body.TheVariants.{Empty, Cell, Ended}
 use Rattle.cells.specs.declared.opening.Opening.{Opening}
 use Rattle.cells.specs.declared.opening.NotOpened.{NotOpened}
 use Rattle.cells.specs.declared.logged_step.LoggedStep.{LoggedStep}

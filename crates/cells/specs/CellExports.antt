@@ -1,7 +1,7 @@
 -- What each call from C on a cell does, and tells.
 use Rattle.std.specs.Prelude.{◌≡◌, ℕ, Bool, true, false, Option, Some, None, Result, Ok, Err}
 use Rattle.cells.specs.declared.body.Body.{Body}
-use Rattle.cells.specs.declared.body.Body.TheVariants.{Empty, Cell, Caller, Ended}
+use Rattle.cells.specs.declared.body.Body.TheVariants.{Empty, Caller}
 use Rattle.cells.specs.declared.opening.Opening.{Opening}
 use Rattle.cells.specs.declared.opening.NotOpened.{NotOpened}
 use Rattle.cells.specs.declared.opening.NotOpened.TheVariants.{NotEmpty, BadOpening, OutOfMemory}

@@ -1,5 +1,4 @@
 -- That a caller is of a cell is so in one way at most.
-use Rattle.std.proofs.Props.{props}
 use Rattle.std.specs.declared.cmp.PartialEq.{Ghosts as Eq}
 use Rattle.std.specs.declared.default.Default.{Ghosts as Default}
 use Rattle.event_log.specs.declared.object.SeqObject.{Ghosts}

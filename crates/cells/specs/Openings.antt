@@ -1,7 +1,7 @@
 -- What C opens a cell with, by its numbers.
 use Rattle.std.specs.declared.cmp.PartialEq.{Ghosts as Eq}
 use Rattle.std.specs.declared.default.Default.{Ghosts as Default}
-use Rattle.std.specs.Prelude.{◌≡◌, ℕ, [], ◌∷◌, Option, Some, slice_get, vec_len}
+use Rattle.std.specs.Prelude.{◌≡◌, [], ◌∷◌, Option, Some, slice_get, vec_len}
 use Rattle.event_log.specs.History.{opened_history}
 use Rattle.word_rule.specs.declared.lock_kind.LockKind.{LockKind}
 use Rattle.word_rule.specs.declared.lock_kind.LockKind.TheVariants.{Ticket, Mcs}

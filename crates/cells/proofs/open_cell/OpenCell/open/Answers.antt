@@ -1,4 +1,4 @@
-use Rattle.std.proofs.Common.{◌≡◌, sym, ap, subst, ◌∙◌, arith}
+use Rattle.std.proofs.Common.{sym, ap, subst, ◌∙◌, arith}
 use Rattle.std_alloc.specs.Arc.{arc_value}
 use Rattle.cells.specs.Positions.{fixed_of}
 use Rattle.cells.specs.OpenCells.{AreHome}

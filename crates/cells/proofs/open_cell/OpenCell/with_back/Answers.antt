@@ -1,4 +1,4 @@
-use Rattle.std.proofs.Common.{◌≡◌, ◌+◌, sym, subst}
+use Rattle.std.proofs.Common.{◌+◌, sym, subst}
 use Rattle.std_alloc.specs.Arc.{arc_value}
 use Rattle.guarded_cell.specs.Kinds.{IsPassOf}
 use Rattle.cells.specs.OpenCells.{OwnsFirst}
