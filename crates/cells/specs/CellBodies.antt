@@ -1,0 +1,45 @@
+-- What is done with what a handle has: a cell is opened, gives passes out, takes callers back and ends, or nothing is done.
+use Rattle.std.specs.Prelude.{◌≡◌, ℕ, Bool, true, false, Option, Some, None, Result, Ok, Err}
+use Rattle.std_alloc.specs.Arc.{arc_value}
+use Rattle.cells.specs.declared.body.Body.{Body}
+use Rattle.cells.specs.declared.body.Body.TheVariants.{Empty, Cell, Ended}
+use Rattle.cells.specs.declared.opening.Opening.{Opening}
+use Rattle.cells.specs.declared.opening.NotOpened.{NotOpened}
+use Rattle.cells.specs.declared.logged_step.LoggedStep.{LoggedStep}
+use Rattle.cells.specs.Bodies.{KernelCaller}
+use Rattle.cells.specs.LoggedSteps.{step_told}
+use Rattle.cells.specs.Ends.{IsSame, IsDealt, IsGivenBack, HasClosed}
+use Rattle.cells.specs.Openings.{IsOpened}
+
+-- what had nothing has a new cell, or all is as it was
+abbrev pub IsOpenedBy : Body → Opening → Result (Unit {0}) NotOpened → Body → Type 0
+IsOpenedBy Empty o (Ok u) (Cell c) = IsOpened o c
+IsOpenedBy before o (Ok u) after = ⊥
+IsOpenedBy before o (Err why) after = after ≡ before
+
+-- a cell gave a pass out, or all is as it was
+abbrev pub IsDealtBy : Body → Option KernelCaller → Body → Type 0
+IsDealtBy (Cell c) told (Cell d) = IsDealt c told d
+IsDealtBy before told after = (told ≡ None) × (after ≡ before)
+
+-- a caller that comes back to a cell is of it
+abbrev pub IsOwn : Body → KernelCaller → Type 0
+IsOwn (Cell o) c = arc_value c.cell ≡ arc_value o.cell
+IsOwn before c = Unit {0}
+
+-- a cell took the caller back, or all is as it was
+abbrev pub IsGivenBackTo : Body → KernelCaller → Option KernelCaller → Body → Type 0
+IsGivenBackTo (Cell o) c told (Cell p) = IsGivenBack o c told p
+IsGivenBackTo before c told after = (told ≡ Some c) × (after ≡ before)
+
+-- a cell has ended, or all is as it was
+abbrev pub IsClosedBy : Body → Bool → Body → Type 0
+IsClosedBy (Cell o) true (Ended h) = HasClosed o h
+IsClosedBy (Cell o) false (Cell p) = IsSame o p
+IsClosedBy before true after = ⊥
+IsClosedBy before false after = after ≡ before
+
+-- a step of the log that an ended cell has left
+abbrev pub step_of : Body → ℕ → ℕ → Option LoggedStep
+step_of (Ended h) i j = step_told h.log i j
+step_of before i j = None

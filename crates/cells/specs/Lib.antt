@@ -1,0 +1,16 @@
+pub mod Positions
+pub mod Steps
+pub mod Tries
+pub mod Applies
+pub mod Facts
+pub mod OpenCells
+pub mod Ends
+pub mod Handles
+pub mod Bodies
+pub mod Coding
+pub mod Told
+pub mod Exports
+pub mod Openings
+pub mod LoggedSteps
+pub mod CellBodies
+pub mod CellExports

@@ -1,0 +1,38 @@
+-- What C opens a cell with, by its numbers.
+use Rattle.std.specs.declared.cmp.PartialEq.{Ghosts as Eq}
+use Rattle.std.specs.declared.default.Default.{Ghosts as Default}
+use Rattle.std.specs.Prelude.{◌≡◌, [], ◌∷◌, Option, Some, slice_get, vec_len}
+use Rattle.event_log.specs.History.{opened_history}
+use Rattle.word_rule.specs.declared.lock_kind.LockKind.{LockKind}
+use Rattle.word_rule.specs.declared.lock_kind.LockKind.TheVariants.{Ticket, Mcs}
+use Rattle.word_rule.specs.Cell.{EachAt, first_pass}
+use Rattle.word_rule.specs.Passes.{view_of_pass}
+use Rattle.scripts.specs.declared.kernel_call.KParams.{KParams}
+use Rattle.scripts.specs.declared.kernel_call.KParams.TheVariants.{Queue, Pool, Console, Sched}
+use Rattle.scripts.specs.declared.kernel_call.KCall.{KCall}
+use Rattle.scripts.specs.declared.kernel_call.KReply.{KReply}
+use Rattle.scripts.specs.declared.kernel_object.KernelObject.{KernelObject}
+use Rattle.scripts.specs.contracts.kernel_object.KernelObjectSeqObject.TheImpl.{ghosts}
+use Rattle.scripts.specs.Kernel.{kernel_opening}
+use Rattle.guarded_cell.specs.Kinds.{kind_of}
+use Rattle.std_alloc.specs.Arc.{arc_value}
+use Rattle.cells.specs.declared.opening.Opening.{Opening}
+use Rattle.cells.specs.declared.open_cell.OpenCell.{OpenCell}
+
+-- the parameters of an object of that kind, and the lock
+abbrev pub params_of : Opening → Option KParams
+params_of o = slice_get (Queue o.size ∷ Pool (record { pages = o.size; quotas = o.quotas }) ∷ Console o.size ∷ Sched (record { threads = o.size; channels = o.channels }) ∷ []) o.kind
+
+abbrev pub lock_of : Opening → Option LockKind
+lock_of o = slice_get (Ticket ∷ Mcs ∷ []) o.lock
+
+module _ {call_eq : Eq KCall} {call_default : Default KCall} {reply_eq : Eq KReply} {reply_default : Default KReply} where
+  -- a new cell of so many CPUs, behind that lock, around a new object with such parameters and an empty log with that limit
+  pub record IsOpened (o : Opening) (c : OpenCell KernelObject KParams KCall KReply ghosts call_eq call_default reply_eq reply_default) : Type 0 where
+    pub params : KParams
+    pub is_params : params_of o ≡ Some params
+    pub lock : LockKind
+    pub is_lock : lock_of o ≡ Some lock
+    pub kind : kind_of (arc_value c.cell) ≡ lock
+    pub count : vec_len c.passes ≡ o.cpus
+    pub passes : EachAt (λ k p. view_of_pass p ≡ first_pass lock 0 (opened_history params o.events (kernel_opening params)) o.cpus k) c.passes.items

@@ -1,0 +1,156 @@
+//! A cell is opened, its passes are given out and come back, and it ends.
+
+ghost use Rattle.std.specs.Prelude.{◌≡◌, ◌≤◌, ◌<◌, ◌+◌, IfSome, vec_len};
+ghost use Rattle.std_alloc.specs.Arc.{arc_value};
+ghost use Rattle.word_rule.specs.declared.key.TheConstants.{MOST_CPUS};
+ghost use Rattle.word_rule.specs.Cell.{EachAt, first_pass};
+ghost use Rattle.word_rule.specs.Passes.{view_of_pass};
+ghost use Rattle.guarded_cell.specs.Kinds.{kind_of};
+ghost use Rattle.cells.specs.OpenCells.{IsHome, TakesIn};
+ghost use Rattle.cells.specs.Ends.{IsDealt, IsGivenBack, IsClosed};
+
+use crate::{Caller, OpenCell, Position};
+use event_log::{Logged, SeqObject};
+use guarded_cell::AnyCell;
+use std::alloc::Global;
+use std::sync::Arc;
+use word_rule::{LockCell, LockKind, MOST_CPUS, Pass};
+
+impl<O: SeqObject> OpenCell<O> {
+    /// A new cell of the kind, of 1 to 64 CPUs. There is none if memory is refused.
+    pub fn open(alloc: Global, kind: LockKind, logged: Logged<O>, cpus: u8) -> Option<OpenCell<O>>
+        requires some { 0 < cpus }
+        requires few { cpus ≤ MOST_CPUS }
+        ensures kind { IfSome result (λ c. kind_of (arc_value c.cell) ≡ kind) }
+        ensures count { IfSome result (λ c. vec_len c.passes ≡ cpus) }
+        ensures passes { IfSome result (λ c. EachAt (λ k p. view_of_pass p ≡ first_pass kind 0 logged cpus k) c.passes.items) }
+    {
+        let Ok((cell, passes)) = AnyCell::open(alloc, kind, logged, cpus) else {
+            return None;
+        };
+        let Ok(cell) = Arc::new(alloc, cell) else {
+            return None;
+        };
+        Some(OpenCell {
+            cell,
+            passes,
+            home: None,
+            back: 0,
+            cpus,
+        })
+    }
+
+    /// Gives out the pass of the greatest CPU that has no caller yet. There is none if all have one.
+    pub fn deal(self) -> (OpenCell<O>, Option<Caller<O>>)
+        ensures { IsDealt self result.1 result.0 }
+    {
+        let Ok(shared) = Arc::try_clone(&self.cell) else {
+            return (self, None);
+        };
+        let OpenCell {
+            cell,
+            mut passes,
+            home,
+            back,
+            cpus,
+        } = self;
+        let dealt = passes.pop();
+        let rest = OpenCell {
+            cell,
+            passes,
+            home,
+            back,
+            cpus,
+        };
+        let Some(pass) = dealt else {
+            return (rest, None);
+        };
+        let caller = Caller {
+            cell: shared,
+            position: Position::Idle(pass),
+        };
+        (rest, Some(caller))
+    }
+
+    // The pass of the next CPU, beside those that were given back.
+    fn with_back(self, pass: Pass<O>) -> OpenCell<O>
+        requires pass { IsHome (arc_value self.cell) self.back pass }
+        requires few { self.back < self.cpus }
+        ensures cell { arc_value result.cell ≡ arc_value self.cell }
+        ensures passes { result.passes.items ≡ self.passes.items }
+        ensures home { TakesIn self.home pass result.home }
+        ensures back { result.back ≡ self.back + 1 }
+    {
+        let OpenCell {
+            cell,
+            passes,
+            home,
+            back,
+            cpus,
+        } = self;
+        let home = match home {
+            None => pass,
+            Some(first) => cell.join(first, pass),
+        };
+        OpenCell {
+            cell,
+            passes,
+            home: Some(home),
+            back: back + 1,
+            cpus,
+        }
+    }
+
+    /// Takes back an idle caller of the least CPU that wasn't given back yet. Any other comes back.
+    pub fn take_back(self, caller: Caller<O>) -> (OpenCell<O>, Option<Caller<O>>)
+        requires { arc_value caller.cell ≡ arc_value self.cell }
+        ensures { IsGivenBack self caller result.1 result.0 }
+    {
+        let Caller { cell, position } = caller;
+        match position {
+            Position::Idle(pass) => {
+                if self.back < self.cpus && pass.cpu.number == self.back {
+                    return (self.with_back(pass), None);
+                }
+                let position = Position::Idle(pass);
+                (self, Some(Caller { cell, position }))
+            }
+            position => (self, Some(Caller { cell, position })),
+        }
+    }
+
+    /// Ends the cell, if each CPU's caller was given back, and gives the object back with its log.
+    pub fn close(self) -> Result<Logged<O>, OpenCell<O>>
+        ensures { IsClosed self result }
+    {
+        if self.back < self.cpus {
+            return Err(self);
+        }
+        let OpenCell {
+            cell,
+            passes,
+            home,
+            back,
+            cpus,
+        } = self;
+        let Some(pass) = home else {
+            return Err(OpenCell {
+                cell,
+                passes,
+                home: None,
+                back,
+                cpus,
+            });
+        };
+        match Arc::try_unwrap(cell) {
+            Ok(cell) => Ok(cell.close(pass)),
+            Err(cell) => Err(OpenCell {
+                cell,
+                passes,
+                home: Some(pass),
+                back,
+                cpus,
+            }),
+        }
+    }
+}

@@ -1,0 +1,155 @@
+/* use: c_cells ticket|mcs queue|pool|console|sched [THREADS [CALLS]]
+
+   THREADS threads, 8 if none are named, each a caller of one cell, call its object CALLS times each, 10,000 if none are named;
+   one call of eight is a try, which is followed by a call that waits where the object was busy. Prints the record, which
+   `mc2 audit` judges.
+
+   Status: 0; 1 if a call is told what it can't be; 2 for wrong words; 3 if memory or a thread is refused. */
+#include <sched.h>
+#define MC2_PAUSE(looks) ((looks) % 4 ? (void)__builtin_ia32_pause() : (void)sched_yield())
+#include "mc2_cells.h"
+#include <pthread.h>
+
+enum { MOST_THREADS = MC2_MOST_CPUS, MOST_CALLS = MC2_MOST_ENTRIES };
+
+/* What a caller asked, and what it was told. */
+struct note {
+    uint64_t looks;
+    struct mc2_call call;
+    struct mc2_reply reply;
+    uint32_t told;
+};
+
+struct worker {
+    pthread_t thread;
+    struct mc2_caller caller;
+    uint32_t cpu, kind, calls, random;
+    struct note *notes;
+};
+
+static void must(uint32_t told, uint32_t wanted, const char *what) {
+    if (told == wanted)
+        return;
+    fprintf(stderr, "c_cells: %s: told %u\n", what, (unsigned)told);
+    exit(told == MC2_CELL_NO_MEMORY ? 3 : 1);
+}
+
+static uint32_t draw(struct worker *worker, uint32_t below) {
+    worker->random = worker->random * 1664525u + 1013904223u;
+    return (worker->random >> 8) % below;
+}
+
+static struct mc2_call any_call(struct worker *worker) {
+    static const uint32_t first[] = {MC2_ENQ, MC2_ALLOC, MC2_PUT, MC2_READY}, words[] = {4, 3, 3, 5};
+    uint32_t word = first[worker->kind] + draw(worker, words[worker->kind]);
+    return mc2_ask(word, draw(worker, 16), draw(worker, 16));
+}
+
+/* A call under a hold, which was got by so many looks. */
+static void call_held(struct worker *worker, struct note *note) {
+    note->told = mc2_caller_apply(&worker->caller, &note->call, &note->reply);
+    must(mc2_release(&worker->caller), MC2_CELL_LEFT, "release");
+}
+
+static void call(struct worker *worker, struct note *note, int tries) {
+    note->call = any_call(worker);
+    uint32_t tried = tries ? mc2_caller_try(&worker->caller) : (uint32_t)MC2_CELL_BUSY;
+    if (tried == MC2_CELL_FOUND) {
+        note->looks = 1;
+        call_held(worker, note);
+    } else {
+        must(tried, MC2_CELL_BUSY, "try");
+        note->told = mc2_cell_call(&worker->caller, &note->call, &note->reply, &note->looks);
+    }
+    if (note->told != MC2_CELL_FULL)
+        must(note->told, MC2_CELL_DONE, "call");
+}
+
+static void *work(void *given) {
+    struct worker *worker = given;
+    for (uint32_t at = 0; at < worker->calls; at++)
+        call(worker, &worker->notes[at], at % 8 == 7);
+    return NULL;
+}
+
+static void run(struct mc2_cell *cell, struct worker *workers, uint32_t threads) {
+    for (uint32_t at = threads; at-- > 0;)
+        must(mc2_caller_open(cell, &workers[at].caller), MC2_CELL_DONE, "a caller");
+    must(mc2_cell_close(cell), MC2_CELL_REFUSED, "closing too early");
+    for (uint32_t at = 0; at < threads; at++)
+        if (pthread_create(&workers[at].thread, NULL, work, &workers[at]) != 0)
+            must(MC2_CELL_NO_MEMORY, MC2_CELL_DONE, "a thread");
+    for (uint32_t at = 0; at < threads; at++)
+        pthread_join(workers[at].thread, NULL);
+    for (uint32_t at = 0; at < threads; at++) {
+        must(mc2_caller_leave(&workers[at].caller), MC2_CELL_REFUSED, "leaving without the object");
+        must(mc2_cell_take_back(cell, &workers[at].caller), MC2_CELL_DONE, "taking back");
+        must(mc2_caller_advance(&workers[at].caller), MC2_CELL_REFUSED, "a step of a caller that is back");
+        must(mc2_caller_free(&workers[at].caller), MC2_CELL_DONE, "freeing a caller");
+    }
+    must(mc2_cell_close(cell), MC2_CELL_DONE, "closing");
+}
+
+static void note_events(struct mc2_recorder *recorder, struct mc2_cell *cell) {
+    struct mc2_logged_step told;
+    for (size_t event = 0; mc2_cell_step(cell, event, 0, &told) == MC2_CELL_DONE; event++) {
+        struct mc2_step steps[MC2_MOST_CALLS];
+        uint32_t count = 0;
+        while (mc2_cell_step(cell, event, count, &told) == MC2_CELL_DONE)
+            steps[count++] = told.step;
+        must((uint32_t)mc2_event(recorder, 0, told.cpu, steps, count), MC2_DONE, "noting an event");
+    }
+}
+
+static void note_entries(struct mc2_recorder *recorder, const struct worker *worker) {
+    for (uint32_t at = 0; at < worker->calls; at++) {
+        const struct note *note = &worker->notes[at];
+        struct mc2_step step = mc2_answer(note->call, note->reply.word, note->reply.number);
+        must((uint32_t)mc2_entry(recorder, 0, worker->cpu, note->looks, &note->call, 1, &step, note->told == MC2_CELL_DONE),
+             MC2_DONE, "noting an entry");
+    }
+}
+
+static void print_record(const struct mc2_object *object, struct mc2_cell *cell, const struct worker *workers,
+                         uint32_t threads) {
+    static struct mc2_recorder recorder;
+    if (mc2_open(&recorder, object, 1, threads, workers[0].calls) != MC2_DONE)
+        must(MC2_CELL_NO_MEMORY, MC2_CELL_DONE, "the record");
+    note_events(&recorder, cell);
+    for (uint32_t at = 0; at < threads; at++)
+        note_entries(&recorder, &workers[at]);
+    must((uint32_t)mc2_write(&recorder, stdout), MC2_DONE, "writing");
+    mc2_close(&recorder);
+}
+
+static int place_of(const char *word, const char *const *words, int count) {
+    int at = 0;
+    while (at < count && strcmp(word, words[at]) != 0)
+        at++;
+    return at;
+}
+
+int main(int count, char **words) {
+    static const char *const locks[] = {"ticket", "mcs"}, *const kinds[] = {"queue", "pool", "console", "sched"};
+    static struct worker workers[MOST_THREADS];
+    int lock = count > 2 ? place_of(words[1], locks, 2) : 2, kind = count > 2 ? place_of(words[2], kinds, 4) : 4;
+    long threads = count > 3 ? atol(words[3]) : 8, calls = count > 4 ? atol(words[4]) : 10000;
+    if (lock == 2 || kind == 4 || count > 5 || threads < 1 || threads > MOST_THREADS || calls < 1 || calls > MOST_CALLS) {
+        fputs("use: c_cells ticket|mcs queue|pool|console|sched [THREADS [CALLS]]\n", stderr);
+        return 2;
+    }
+    struct mc2_object object = {"shared", (uint32_t)kind, (uint32_t)lock, MC2_MOST_EVENTS, 12, kind == MC2_SCHED ? 4 : 0, NULL};
+    for (uint32_t at = 0; at < (uint32_t)threads; at++) {
+        struct note *notes = calloc((size_t)calls, sizeof *notes);
+        must(notes ? MC2_CELL_DONE : MC2_CELL_NO_MEMORY, MC2_CELL_DONE, "memory");
+        workers[at] = (struct worker){.cpu = at, .kind = (uint32_t)kind, .calls = (uint32_t)calls, .random = at, .notes = notes};
+    }
+    struct mc2_cell cell;
+    must(mc2_cell_open(&cell, &object, (uint32_t)threads), MC2_CELL_DONE, "opening");
+    run(&cell, workers, (uint32_t)threads);
+    print_record(&object, &cell, workers, (uint32_t)threads);
+    must(mc2_cell_free(&cell), MC2_CELL_DONE, "freeing the cell");
+    for (uint32_t at = 0; at < (uint32_t)threads; at++)
+        free(workers[at].notes);
+    return 0;
+}

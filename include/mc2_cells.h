@@ -1,0 +1,173 @@
+// Cells from C or C++: an object behind a lock, and callers of it, by the static library libcells.a.
+//
+// `rt lib` in crates/cells proves and builds the library, and leaves it at crates/cells/out/libcells.a. A program links it, and
+// behind it the kit's heap, liblibc_c.a in the folder c of the kit, which takes memory by malloc and gives it back by free:
+//
+//     gcc -Iinclude examples/c_cells/c_cells.c crates/cells/out/libcells.a KIT/c/liblibc_c.a -pthread
+//
+// A cell has 1 to 64 CPUs, and each may have a caller. A caller gets the object step by step, each step one operation on one
+// word of the lock, and none waits: the loops around the steps are the inline functions below, or yours. What is proved of each
+// function of the library is told in crates/cells/README.md; nothing of the inline functions is.
+//
+// What you owe, and nobody checks:
+// - `own` of a cell or a caller is read and written by the library alone, and neither is copied while it is used.
+// - A cell, and a caller, is used by one call at a time. Different callers of one cell may be used at once, by different
+//   threads. What one thread does before another uses the same cell or caller happens before it: by a lock, by the thread's
+//   start or end, or by a seq_cst atomic.
+// - A caller is given back to the cell that it is of.
+// - What pointers point to is there, nobody else touches it meanwhile, and no pointer is NULL.
+// - No call comes from a signal handler or from a child that was forked from a process with threads.
+//
+// All else is refused: a cell or a caller that isn't at a place where a call fits is told MC2_CELL_REFUSED, and stays as it was.
+#ifndef MC2_CELLS_H
+#define MC2_CELLS_H
+
+#include "mc2_record.h"
+
+// What pauses between two looks in vain, of which there were so many one after another. Define it to yield, if there may be
+// more callers than processors.
+#ifndef MC2_PAUSE
+#if defined __x86_64__ || defined __i386__
+#define MC2_PAUSE(looks) ((void)(looks), __builtin_ia32_pause())
+#else
+#define MC2_PAUSE(looks) ((void)(looks))
+#endif
+#endif
+
+#ifdef __cplusplus
+extern "C" {
+#endif
+
+// A cell, and a caller: each is what the library has made for it. The first is for the library's own functions.
+struct mc2_handle { void *own; };
+struct mc2_cell { void *own; };
+struct mc2_caller { void *own; };
+
+enum mc2_cell_told {
+    // Of a step: it is done, and looked at nothing that another has to do; or it looked in vain, so pause before the next.
+    MC2_CELL_STEPPED = 0, MC2_CELL_LOOKED = 1,
+    // The caller has the object: without a look, or by one.
+    MC2_CELL_ENTERED = 2, MC2_CELL_FOUND = 3,
+    // The object is given back, and the caller idle.
+    MC2_CELL_LEFT = 4,
+    // Nothing was done, as the cell or the caller isn't at a place where this fits.
+    MC2_CELL_REFUSED = 5,
+    // Of a try: another has the object, or is in line for it.
+    MC2_CELL_BUSY = 6,
+    // All went well; the log is full, and nothing was done; there is no such call, or no such step.
+    MC2_CELL_DONE = 7, MC2_CELL_FULL = 8, MC2_CELL_NOT_THERE = 9,
+    // Of an opening: memory was refused; or a number is none of those that mc2_object names, or there aren't 1 to 64 CPUs.
+    MC2_CELL_NO_MEMORY = 10, MC2_CELL_BAD_OPENING = 11
+};
+
+// What a cell is opened with: numbers of mc2_lock and mc2_kind, the most events of its log, the CPUs, and the size, the channels
+// and the quotas as mc2_object explains them. A number that the kind hasn't isn't looked at.
+struct mc2_cell_opening {
+    uint32_t lock, kind, events, cpus, size, channels;
+    uint32_t quotas[MC2_OWNERS];
+};
+
+// A reply: one of mc2_reply_word, and its number, or 0.
+struct mc2_reply { uint32_t word, number; };
+
+// A step of a log: the CPU whose event it is in, the call, and the reply.
+struct mc2_logged_step {
+    uint32_t cpu;
+    struct mc2_step step;
+};
+
+// The functions of the library. The first makes what has nothing, and the second frees it; it refuses a caller that is in line
+// or has the object.
+uint32_t mc2_handle_new(void **own);
+uint32_t mc2_handle_free(struct mc2_handle handle);
+uint32_t mc2_handle_open(struct mc2_cell *cell, const struct mc2_cell_opening *opening);
+uint32_t mc2_handle_deal(struct mc2_cell *cell, struct mc2_caller *caller);
+
+// The caller's next step towards the object.
+uint32_t mc2_caller_advance(struct mc2_caller *caller);
+
+// The caller's next step to give the object back.
+uint32_t mc2_caller_leave(struct mc2_caller *caller);
+
+// Gets the object by at most one look, if nobody has it or is in line for it: MC2_CELL_FOUND, or MC2_CELL_BUSY.
+uint32_t mc2_caller_try(struct mc2_caller *caller);
+
+// Does the call as one event of the log, by a caller that has the object. The reply is written where that is done.
+uint32_t mc2_caller_apply(struct mc2_caller *caller, const struct mc2_call *call, struct mc2_reply *reply);
+
+// Takes an idle caller back, whose CPU has to be the least that wasn't taken back yet. The caller has nothing then.
+uint32_t mc2_cell_take_back(struct mc2_cell *cell, struct mc2_caller *caller);
+
+// Ends the cell, once all callers were taken back. What is left is the log.
+uint32_t mc2_cell_close(struct mc2_cell *cell);
+
+// The step at that place of an event of the log of a cell that was closed, both from 0: an event has a step for each of its 1
+// to 8 calls. It is written where it is there, and else MC2_CELL_NOT_THERE is told.
+uint32_t mc2_cell_step(struct mc2_cell *cell, size_t event, size_t step, struct mc2_logged_step *told);
+
+#ifdef __cplusplus
+}
+#endif
+
+// Opens a cell around such an object, for so many CPUs. The object's name isn't looked at.
+static inline uint32_t mc2_cell_open(struct mc2_cell *cell, const struct mc2_object *object, uint32_t cpus) {
+    struct mc2_cell_opening opening = {object->lock, object->kind, object->events, cpus, object->size, object->channels, {0}};
+    for (uint32_t owner = 0; owner < MC2_OWNERS; owner++)
+        opening.quotas[owner] = object->quotas ? object->quotas[owner] : object->size;
+    uint32_t told = mc2_handle_new(&cell->own);
+    return told == MC2_CELL_DONE ? mc2_handle_open(cell, &opening) : told;
+}
+
+// Makes a caller of the greatest CPU of the cell that has none yet.
+static inline uint32_t mc2_caller_open(struct mc2_cell *cell, struct mc2_caller *caller) {
+    uint32_t told = mc2_handle_new(&caller->own);
+    return told == MC2_CELL_DONE ? mc2_handle_deal(cell, caller) : told;
+}
+
+// Gives the memory back: of a cell at any time, after which its callers are still right, but it can't be closed any more; of a
+// caller that is idle or has nothing.
+static inline uint32_t mc2_cell_free(struct mc2_cell *cell) {
+    struct mc2_handle handle = {cell->own};
+    return mc2_handle_free(handle);
+}
+
+static inline uint32_t mc2_caller_free(struct mc2_caller *caller) {
+    struct mc2_handle handle = {caller->own};
+    return mc2_handle_free(handle);
+}
+
+// Waits for the object, and counts the looks.
+static inline uint32_t mc2_acquire(struct mc2_caller *caller, uint64_t *looks) {
+    for (*looks = 0;;) {
+        uint32_t told = mc2_caller_advance(caller);
+        *looks += told == MC2_CELL_LOOKED || told == MC2_CELL_FOUND;
+        if (told != MC2_CELL_STEPPED && told != MC2_CELL_LOOKED)
+            return told;
+        if (told == MC2_CELL_LOOKED)
+            MC2_PAUSE(*looks);
+    }
+}
+
+// Gives the object back. It may wait until a caller that has just come has linked itself.
+static inline uint32_t mc2_release(struct mc2_caller *caller) {
+    for (uint64_t looks = 0;;) {
+        uint32_t told = mc2_caller_leave(caller);
+        if (told != MC2_CELL_STEPPED && told != MC2_CELL_LOOKED)
+            return told;
+        if (told == MC2_CELL_LOOKED)
+            MC2_PAUSE(++looks);
+    }
+}
+
+// Waits for the object, does the call, and gives the object back: MC2_CELL_DONE, or why it wasn't done.
+static inline uint32_t mc2_cell_call(struct mc2_caller *caller, const struct mc2_call *call, struct mc2_reply *reply,
+                                     uint64_t *looks) {
+    uint32_t got = mc2_acquire(caller, looks);
+    if (got != MC2_CELL_ENTERED && got != MC2_CELL_FOUND)
+        return got;
+    uint32_t told = mc2_caller_apply(caller, call, reply);
+    uint32_t left = mc2_release(caller);
+    return left == MC2_CELL_LEFT ? told : left;
+}
+
+#endif
