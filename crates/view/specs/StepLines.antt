@@ -1,0 +1,71 @@
+-- The line of a step: in words, or as a JSON object.
+use Rattle.std.specs.Prelude.{ℕ, ◌/◌, ◌%◌, List, [], ◌∷◌, ◌++◌, take, drop, codes, decimal, Option, Some, None}
+use Rattle.std.specs.List.{flat_map}
+use Rattle.word_rule.specs.declared.lock_kind.LockKind.{LockKind}
+use Rattle.word_rule.specs.declared.lock_kind.LockKind.TheVariants as kinds
+use Rattle.word_rule.specs.Locks.{tickets}
+use Rattle.scripts.specs.Settings.{Settings, ObjectSettings}
+use Rattle.view.specs.declared.step_names.LineForm.{LineForm}
+use Rattle.view.specs.declared.step_names.LineForm.TheVariants as forms
+use Rattle.view.specs.declared.watched.Seen.{Seen}
+use Rattle.view.specs.StepNames.{kind_of, outcome_of, object_at}
+
+-- ---- in words
+
+-- the numbers, each behind the mark
+abbrev pub after_each : List ℕ → List ℕ → List ℕ
+after_each mark numbers = flat_map (λ n. mark ++ decimal n) numbers
+
+-- ` next N serving S` at a ticket lock, and ` tail T next N .. locked L ..` at an MCS lock, a number for each CPU
+abbrev pub lock_text : LockKind → ℕ → List ℕ → List ℕ
+lock_text kind cpus [] = []
+lock_text kinds.Ticket cpus (w ∷ ws) = codes " next " ++ (decimal (w / tickets) ++ (codes " serving " ++ decimal (w % tickets)))
+lock_text kinds.Mcs cpus (w ∷ ws) = codes " tail " ++ (decimal w ++ (codes " next" ++ (after_each (codes " ") (take cpus ws) ++ (codes " locked" ++ after_each (codes " ") (drop cpus ws)))))
+
+-- the outcome behind a space, if there is one
+abbrev pub outcome_text : List ℕ → List ℕ
+outcome_text [] = []
+outcome_text (b ∷ bs) = 32 ∷ b ∷ bs
+
+-- ` NAME KIND OUTCOME | WORDS`, or ` idle`
+abbrev pub step_text : ℕ → Seen → List ℕ → Option ObjectSettings → List ℕ
+step_text cpus seen words None = codes " " ++ kind_of seen.done
+step_text cpus seen words (Some o) = codes " " ++ (o.name ++ (codes " " ++ (kind_of seen.done ++ (outcome_text (outcome_of seen.done) ++ (codes " |" ++ lock_text o.lock cpus words)))))
+
+-- `N cpu C` and what the step was
+abbrev pub words_line : Settings → ℕ → ℕ → Seen → List ℕ → List ℕ
+words_line settings n cpu seen words = decimal n ++ (codes " cpu " ++ (decimal cpu ++ (step_text settings.cpus seen words (object_at settings seen.object) ++ codes "\n")))
+
+-- ---- as a JSON object
+
+-- the numbers as an array
+abbrev pub json_list : List ℕ → List ℕ
+json_list [] = codes "[]"
+json_list (n ∷ ns) = codes "[" ++ (decimal n ++ (after_each (codes ",") ns ++ codes "]"))
+
+-- the words of a lock, by the same names
+abbrev pub json_lock : LockKind → ℕ → List ℕ → List ℕ
+json_lock kind cpus [] = []
+json_lock kinds.Ticket cpus (w ∷ ws) = codes ",\"next\":" ++ (decimal (w / tickets) ++ (codes ",\"serving\":" ++ decimal (w % tickets)))
+json_lock kinds.Mcs cpus (w ∷ ws) = codes ",\"tail\":" ++ (decimal w ++ (codes ",\"next\":" ++ (json_list (take cpus ws) ++ (codes ",\"locked\":" ++ json_list (drop cpus ws)))))
+
+-- the outcome, if there is one
+abbrev pub json_outcome : List ℕ → List ℕ
+json_outcome [] = []
+json_outcome (b ∷ bs) = codes ",\"outcome\":\"" ++ ((b ∷ bs) ++ codes "\"")
+
+-- what the step was
+abbrev pub step_json : ℕ → Seen → List ℕ → Option ObjectSettings → List ℕ
+step_json cpus seen words None = codes ",\"kind\":\"" ++ (kind_of seen.done ++ codes "\"")
+step_json cpus seen words (Some o) = codes ",\"object\":\"" ++ (o.name ++ (codes "\",\"kind\":\"" ++ (kind_of seen.done ++ (codes "\"" ++ (json_outcome (outcome_of seen.done) ++ json_lock o.lock cpus words)))))
+
+-- the object of a step
+abbrev pub json_line : Settings → ℕ → ℕ → Seen → List ℕ → List ℕ
+json_line settings n cpu seen words = codes "{\"step\":" ++ (decimal n ++ (codes ",\"cpu\":" ++ (decimal cpu ++ (step_json settings.cpus seen words (object_at settings seen.object) ++ codes "}\n"))))
+
+-- ---- either
+
+-- the line of a step in that form
+abbrev pub line_of : LineForm → Settings → ℕ → ℕ → Seen → List ℕ → List ℕ
+line_of forms.Words = words_line
+line_of forms.Json = json_line

@@ -1,0 +1,89 @@
+//! A step as a line that is a JSON object.
+//!
+//! Nothing in it has to be escaped: names of objects are letters and digits, and all else is numbers and fixed words.
+
+ghost use Rattle.std.specs.Prelude.{◌≡◌, ◌++◌, string_bytes, OnOk};
+ghost use Rattle.view.specs.StepLines.{json_line, json_list, json_lock, json_outcome};
+
+use crate::step_names::{kind_of, object_at, outcome_of};
+use crate::step_text::{TICKETS, put_each};
+use crate::watched::Seen;
+use scripts::Settings;
+use std::alloc::AllocError;
+use word_rule::{LockKind, StepDone};
+
+/// Puts the numbers as an array.
+fn put_list(text: &mut String, numbers: &[u64]) -> Result<(), AllocError>
+    ensures { OnOk result (string_bytes text.new ≡ string_bytes text.old ++ json_list numbers.now) }
+{
+    match numbers.split_first() {
+        Some((first, others)) => {
+            write!(text, "[{first}")?;
+            put_each(text, ",", others)?;
+            text.push_str("]")
+        }
+        None => text.push_str("[]"),
+    }
+}
+
+/// Puts the words of a lock for so many CPUs, by name.
+fn put_lock(
+    text: &mut String,
+    kind: LockKind,
+    cpus: usize,
+    words: &[u64],
+) -> Result<(), AllocError>
+    ensures { OnOk result (string_bytes text.new ≡ string_bytes text.old ++ json_lock kind cpus words.now) }
+{
+    let Some((first, others)) = words.split_first() else {
+        return Ok(());
+    };
+    match kind {
+        LockKind::Ticket => {
+            let (next, serving) = (*first / TICKETS, *first % TICKETS);
+            write!(text, ",\"next\":{next},\"serving\":{serving}")
+        }
+        LockKind::Mcs => {
+            let (next, locked) = others.split_at(cpus.min(others.len()));
+            write!(text, ",\"tail\":{first},\"next\":")?;
+            put_list(text, next)?;
+            text.push_str(",\"locked\":")?;
+            put_list(text, locked)
+        }
+    }
+}
+
+/// Puts what came of a step, if it can come out in two ways.
+fn put_outcome(text: &mut String, done: StepDone) -> Result<(), AllocError>
+    ensures { OnOk result (string_bytes text.new ≡ string_bytes text.old ++ json_outcome (outcome_of done)) }
+{
+    let outcome = outcome_of(done);
+    if outcome.is_empty() {
+        return Ok(());
+    }
+    write!(text, ",\"outcome\":\"{outcome}\"")
+}
+
+/// Puts the line of a step, as `put_words_line` does in words.
+pub fn put_json_line(
+    text: &mut String,
+    settings: &Settings,
+    number: usize,
+    cpu: u8,
+    seen: Seen,
+    words: &[u64],
+) -> Result<(), AllocError>
+    ensures { OnOk result (string_bytes text.new ≡ string_bytes text.old ++ json_line settings.now number cpu seen words.now) }
+{
+    write!(text, "{{\"step\":{number},\"cpu\":{cpu}")?;
+    let kind = kind_of(seen.done);
+    if let Some(object) = object_at(settings, seen.object) {
+        let name = object.name_str();
+        write!(text, ",\"object\":\"{name}\",\"kind\":\"{kind}\"")?;
+        put_outcome(text, seen.done)?;
+        put_lock(text, object.lock(), settings.cpus() as usize, words)?;
+    } else {
+        write!(text, ",\"kind\":\"{kind}\"")?;
+    }
+    text.push_str("}\n")
+}
