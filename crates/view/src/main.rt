@@ -14,8 +14,6 @@ mod step_json;
 mod step_names;
 mod step_text;
 mod steps;
-#[cfg(test)]
-mod tests;
 mod timeline;
 mod trace;
 mod watched;

@@ -3,6 +3,7 @@
 //! Nothing in it has to be escaped: names of objects are letters and digits, and all else is numbers and fixed words.
 
 ghost use Rattle.std.specs.Prelude.{◌≡◌, ◌++◌, string_bytes, OnOk};
+ghost use Rattle.view.specs.StepNames.{outcome_of};
 ghost use Rattle.view.specs.StepLines.{json_line, json_list, json_lock, json_outcome};
 
 use crate::step_names::{kind_of, object_at, outcome_of};

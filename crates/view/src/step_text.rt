@@ -1,6 +1,7 @@
 //! A step as a line of words.
 
 ghost use Rattle.std.specs.Prelude.{◌≡◌, ◌++◌, ◌/◌, ◌%◌, string_bytes, OnOk};
+ghost use Rattle.view.specs.StepNames.{outcome_of};
 ghost use Rattle.view.specs.StepLines.{after_each, lock_text, outcome_text, words_line};
 
 use crate::step_names::{kind_of, object_at, outcome_of};
