@@ -1,20 +1,53 @@
 -- What is left of each script, step by step.
-use Rattle.std.proofs.Common.{◌≡◌, ℕ, zero, suc, Bool, true, false, cond, List, [], ◌∷◌, map, slice_get, Option, Some, None, refl, sym, ap, ◌∙◌, subst}
+use Rattle.std.proofs.Common.{◌≡◌, ℕ, zero, suc, ◌<◌, ◌==◌, not, Bool, true, false, cond, List, [], ◌∷◌, ◌++◌, map, length, get_or, slice_get, take, position, nat_lt, ◌≤◌, ◌+◌, Result, Ok, Err, IfOk, Option, Some, None, refl, sym, ap, ◌∙◌, subst, arith}
+use Rattle.std.proofs.lemmas.Bool.{ltb-false}
+use Rattle.std.proofs.lemmas.List.{length-map, map-append, take_more}
 use Rattle.std.proofs.Math.ListN.{set}
-use Rattle.std.specs.List.{AllByRecursion}
+use Rattle.std.specs.List.{AllByRecursion, prefix_len, position_or_len}
 use Rattle.event_log.specs.declared.object.SeqObject.{Ghosts}
 use Rattle.event_log.specs.declared.entry.Todo.{Todo}
 use Rattle.word_rule.specs.declared.machine.step_done.StepDone.{StepDone}
 use Rattle.word_rule.specs.Turns.{turn, ends_hold}
 use Rattle.word_rule.specs.Machine.Orders.{first_cell, works_on}
 use Rattle.word_rule.specs.Machine.World.{World, CellState, CpuState, left, finished, counted, outcome, step_on, step_of, step_by, step}
-use Rattle.word_rule.proofs.Slices.{get_map, map_set, one_of}
+use Rattle.word_rule.proofs.Slices.{get_map, map_get, map_set, read_get}
 
 -- the images of a list in which one element was written
 map_put : {X Y : Type 0} (f : X → Y) (xs : List X) (i : ℕ) (x : X) → map f (set xs i x) ≡ set (map f xs) i (f x)
 map_put f [] i x = refl
 map_put f (y ∷ ys) zero x = refl
 map_put f (y ∷ ys) (suc i) x = ap (λ l. f y ∷ l) (map_put f ys i x)
+
+-- one more of two lists with the same images
+pub pushed : {X Y L : Type 0} (f : X → L) (g : Y → L) (xs : List X) (ys : List Y) (i : ℕ) (x : X) (y : Y) → map f xs ≡ map g (take i ys) → i < length ys → y ≡ get_or ys i y → f x ≡ g y → map f (xs ++ x ∷ []) ≡ map g (take (i + 1) ys)
+pushed f g xs ys i x y so_far less is same =
+    map-append f xs (x ∷ [])
+    ∙ (ap (λ l. l ++ f x ∷ []) so_far
+    ∙ (ap (λ v. map g (take i ys) ++ v ∷ []) (same ∙ ap g is)
+    ∙ sym (ap (map g) (take_more ys i y less) ∙ map-append g (take i ys) (get_or ys i y ∷ []))))
+
+-- two facts of a result
+pub both : {X E : Type 0} (P Q R : X → Type 0) (r : Result X E) → IfOk r P → IfOk r Q → ((x : X) → P x → Q x → R x) → IfOk r R
+both P Q R (Ok x) p q f = f x p q
+both P Q R (Err e) p q f = tt
+
+none_before : {X : Type 0} (test : X → Bool) (xs : List X) → length xs ≤ prefix_len (λ b. not (test b)) xs → AllByRecursion (λ b. test b ≡ false) xs
+none_before test [] h = tt
+none_before test (x ∷ xs) h =
+    let go : (b : Bool) → test x ≡ b → suc (length xs) ≤ cond (not b) (1 + prefix_len (λ c. not (test c)) xs) 0 → AllByRecursion (λ c. test c ≡ false) (x ∷ xs)
+    = λ b. elim b as (λ v. test x ≡ v → suc (length xs) ≤ cond (not v) (1 + prefix_len (λ c. not (test c)) xs) 0 → AllByRecursion (λ c. test c ≡ false) (x ∷ xs)) [
+      | true ↦ (λ e k. absurd (omega (arith, k)))
+      | false ↦ (λ e k. (e, none_before test xs (omega (arith, k))))
+    ] in
+    go (test x) refl h
+
+-- where a search finds nothing, no member passes
+pub none_at : {X : Type 0} (test : X → Bool) (xs : List X) → position test xs ≡ None → AllByRecursion (λ b. test b ≡ false) xs
+none_at test xs e =
+    let n : ℕ = position_or_len test xs in
+    let go : (b : Bool) → nat_lt n (length xs) ≡ b → cond b (Some n) None ≡ None → length xs ≤ n
+    = λ b. elim b as (λ v. nat_lt n (length xs) ≡ v → cond v (Some n) None ≡ None → length xs ≤ n) [ true ↦ (λ less k. absurd (cc)) | false ↦ (λ less k. ltb-false n (length xs) less) ] in
+    none_before test xs (go (nat_lt n (length xs)) refl e)
 
 module _ {O P C R : Type 0} where
   -- what each CPU hasn't done
@@ -44,6 +77,25 @@ module _ {O P C R : Type 0} where
       let tail : lists ≡ map (λ c. c.todo) cpus = cc in
       (sym head ∙ none.0, all_done lists cpus tail none.1)
 
+  none_in : (l : List (Todo O P C R)) → not (length l == 0) ≡ false → l ≡ []
+  none_in [] e = refl
+  none_in (t ∷ l) e = absurd (let some : (length (t ∷ l) == 0) ≡ false = grind arith in cc)
+
+  module _ {X : Type 0} (f : X → List (Todo O P C R)) where
+    none_in_each : (xs : List X) → AllByRecursion (λ x. not (length (f x) == 0) ≡ false) xs → AllByRecursion (λ l. l ≡ []) (map f xs)
+    none_in_each [] none = tt
+    none_in_each (x ∷ xs) none = (none_in (f x) none.0, none_in_each xs none.1)
+
+    -- where nothing is left of each script, nobody has anything to do
+    pub nothing_left : (xs : List X) (w : World O P C R) → AllByRecursion (λ x. not (length (f x) == 0) ≡ false) xs → map f xs ≡ todos w → AllByRecursion (λ c. c.todo ≡ []) w.cpus
+    nothing_left xs w none same = all_done (map f xs) w.cpus same (none_in_each xs none)
+
+    -- what is left of a script
+    pub left_at : (xs : List X) (shown : List (List (Todo O P C R))) (w : World O P C R) (i : ℕ) (x : X) → map f xs ≡ shown → i < length shown → shown ≡ todos w → x ≡ get_or xs i x → slice_get (todos w) i ≡ Some (f x)
+    left_at xs shown w i x same less is here =
+        let within : i < length xs = omega (arith, less, ap length same, length-map xs f) in
+        ap (λ l. slice_get l i) (sym (same ∙ is)) ∙ map_get f xs i x (read_get xs i x within here)
+
   module _ (meaning : Ghosts O P C R) where
     abbrev After : World O P C R → ℕ → List (Todo O P C R) → World O P C R × StepDone → Type 0
     After w i script r = todos r.0 ≡ cond (ends_hold r.1) (set (todos w) i (left script)) (todos w)
@@ -64,3 +116,19 @@ module _ {O P C R : Type 0} where
         let cpu = cpu_of w i script e in
         subst (λ (o : Option (CpuState O P C R)). After w i script (step_by meaning w i o)) (sym cpu.1)
         (subst (λ (t : List (Todo O P C R)). After w i t (step_of meaning w i cpu.0 cpu.0.todo)) cpu.2 (after_of w i cpu.0 cpu.1 cpu.0.todo))
+
+    module _ {X : Type 0} (f : X → List (Todo O P C R)) (xs : List X) (shown : List (List (Todo O P C R))) (same : map f xs ≡ shown) (w : World O P C R) (is : shown ≡ todos w) (i : ℕ) (less : i < length shown) (x : X) (here : x ≡ get_or xs i x) (s : StepDone) (does : s ≡ (step meaning w i).1) where
+      left_now : slice_get (todos w) i ≡ Some (f x)
+      left_now = left_at f xs shown w i x same less is here
+
+      -- a step that ends a hold leaves the rest of the script
+      pub ended : (y : X) → f y ≡ left (f x) → ends_hold s ≡ true → map f (set xs i y) ≡ todos (step meaning w i).0
+      ended y rest ends =
+          map_put f xs i y
+          ∙ (ap (λ l. set l i (f y)) (same ∙ is)
+          ∙ (ap (λ l. set (todos w) i l) rest
+          ∙ sym (after_step w i (f x) left_now ∙ ap (λ v. cond v (set (todos w) i (left (f x))) (todos w)) (ap ends_hold (sym does) ∙ ends))))
+
+      -- another leaves all that was left
+      pub goes_on : ends_hold s ≡ false → map f xs ≡ todos (step meaning w i).0
+      goes_on ends = same ∙ (is ∙ sym (after_step w i (f x) left_now ∙ ap (λ v. cond v (set (todos w) i (left (f x))) (todos w)) (ap ends_hold (sym does) ∙ ends)))

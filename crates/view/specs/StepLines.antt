@@ -4,6 +4,7 @@ use Rattle.std.specs.List.{flat_map}
 use Rattle.word_rule.specs.declared.lock_kind.LockKind.{LockKind}
 use Rattle.word_rule.specs.declared.lock_kind.LockKind.TheVariants as kinds
 use Rattle.word_rule.specs.Locks.{tickets}
+use Rattle.word_rule.specs.declared.machine.step_done.StepDone.{StepDone}
 use Rattle.scripts.specs.Settings.{Settings, ObjectSettings}
 use Rattle.view.specs.declared.step_names.LineForm.{LineForm}
 use Rattle.view.specs.declared.step_names.LineForm.TheVariants as forms
@@ -27,14 +28,18 @@ abbrev pub outcome_text : List ℕ → List ℕ
 outcome_text [] = []
 outcome_text (b ∷ bs) = 32 ∷ b ∷ bs
 
--- ` NAME KIND OUTCOME | WORDS`, or ` idle`
-abbrev pub step_text : ℕ → Seen → List ℕ → Option ObjectSettings → List ℕ
-step_text cpus seen words None = codes " " ++ kind_of seen.done
-step_text cpus seen words (Some o) = codes " " ++ (o.name ++ (codes " " ++ (kind_of seen.done ++ (outcome_text (outcome_of seen.done) ++ (codes " |" ++ lock_text o.lock cpus words)))))
+-- `N cpu C NAME KIND OUTCOME | WORDS`
+abbrev pub words_on_object : ℕ → ℕ → ℕ → StepDone → List ℕ → ObjectSettings → List ℕ
+words_on_object cpus n cpu done words o = decimal n ++ (codes " cpu " ++ (decimal cpu ++ (codes " " ++ (o.name ++ (codes " " ++ (kind_of done ++ (outcome_text (outcome_of done) ++ (codes " |" ++ (lock_text o.lock cpus words ++ codes "\n")))))))))
 
--- `N cpu C` and what the step was
+-- that line, or `N cpu C idle`
+abbrev pub words_if : ℕ → ℕ → ℕ → StepDone → List ℕ → Option ObjectSettings → List ℕ
+words_if cpus n cpu done words None = decimal n ++ (codes " cpu " ++ (decimal cpu ++ (codes " " ++ (kind_of done ++ codes "\n"))))
+words_if cpus n cpu done words (Some o) = words_on_object cpus n cpu done words o
+
+-- the line of what is seen of step n
 abbrev pub words_line : Settings → ℕ → ℕ → Seen → List ℕ → List ℕ
-words_line settings n cpu seen words = decimal n ++ (codes " cpu " ++ (decimal cpu ++ (step_text settings.cpus seen words (object_at settings seen.object) ++ codes "\n")))
+words_line settings n cpu seen words = words_if settings.cpus n cpu seen.done words (object_at settings seen.object)
 
 -- ---- as a JSON object
 
@@ -54,14 +59,18 @@ abbrev pub json_outcome : List ℕ → List ℕ
 json_outcome [] = []
 json_outcome (b ∷ bs) = codes ",\"outcome\":\"" ++ ((b ∷ bs) ++ codes "\"")
 
--- what the step was
-abbrev pub step_json : ℕ → Seen → List ℕ → Option ObjectSettings → List ℕ
-step_json cpus seen words None = codes ",\"kind\":\"" ++ (kind_of seen.done ++ codes "\"")
-step_json cpus seen words (Some o) = codes ",\"object\":\"" ++ (o.name ++ (codes "\",\"kind\":\"" ++ (kind_of seen.done ++ (codes "\"" ++ (json_outcome (outcome_of seen.done) ++ json_lock o.lock cpus words)))))
+-- the members of a step on an object
+abbrev pub json_on_object : ℕ → ℕ → ℕ → StepDone → List ℕ → ObjectSettings → List ℕ
+json_on_object cpus n cpu done words o = codes "{\"step\":" ++ (decimal n ++ (codes ",\"cpu\":" ++ (decimal cpu ++ (codes ",\"object\":\"" ++ (o.name ++ (codes "\",\"kind\":\"" ++ (kind_of done ++ (codes "\"" ++ (json_outcome (outcome_of done) ++ (json_lock o.lock cpus words ++ codes "}\n"))))))))))
 
--- the object of a step
+-- those, or the members of an idle step
+abbrev pub json_if : ℕ → ℕ → ℕ → StepDone → List ℕ → Option ObjectSettings → List ℕ
+json_if cpus n cpu done words None = codes "{\"step\":" ++ (decimal n ++ (codes ",\"cpu\":" ++ (decimal cpu ++ (codes ",\"kind\":\"" ++ (kind_of done ++ codes "\"}\n")))))
+json_if cpus n cpu done words (Some o) = json_on_object cpus n cpu done words o
+
+-- the object of what is seen of step n
 abbrev pub json_line : Settings → ℕ → ℕ → Seen → List ℕ → List ℕ
-json_line settings n cpu seen words = codes "{\"step\":" ++ (decimal n ++ (codes ",\"cpu\":" ++ (decimal cpu ++ (step_json settings.cpus seen words (object_at settings seen.object) ++ codes "}\n"))))
+json_line settings n cpu seen words = json_if settings.cpus n cpu seen.done words (object_at settings seen.object)
 
 -- ---- either
 

@@ -1,6 +1,6 @@
 //! A schedule that is drawn, and ends all scripts.
 
-ghost use Rattle.std.specs.Prelude.{◌≡◌, ◌<◌, [], length, map, string_bytes, decimal, IfOk, IfSome, IfNone};
+ghost use Rattle.std.specs.Prelude.{◌≡◌, ◌<◌, ◌≤◌, [], length, map, string_bytes, decimal, IfOk, IfSome, IfNone};
 ghost use Rattle.std.specs.List.{AllByRecursion};
 ghost use Rattle.scripts.specs.Words.{text_of_lines};
 ghost use Rattle.scripts.specs.ScriptText.{ScriptsFit};
@@ -76,7 +76,8 @@ pub fn random_schedule(
     seed: u64,
 ) -> Result<Vec<u8>, RandomFault>
     requires { ScriptsFit settings.now.cpus (length settings.now.objects) scripts.now }
-    ensures { IfOk result (λ steps. EndsAll settings.now scripts.now steps.items) }
+    ensures ends { IfOk result (λ steps. EndsAll settings.now scripts.now steps.items) }
+    ensures few { IfOk result (λ _. settings.now.cpus ≤ 64) }
 {
     let mut watched = opened(alloc, settings, scripts)?;
     let mut random = Random::new(seed);

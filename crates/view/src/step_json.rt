@@ -4,12 +4,12 @@
 
 ghost use Rattle.std.specs.Prelude.{◌≡◌, ◌++◌, string_bytes, OnOk};
 ghost use Rattle.view.specs.StepNames.{outcome_of};
-ghost use Rattle.view.specs.StepLines.{json_line, json_list, json_lock, json_outcome};
+ghost use Rattle.view.specs.StepLines.{json_line, json_list, json_lock, json_on_object, json_outcome};
 
 use crate::step_names::{kind_of, object_at, outcome_of};
 use crate::step_text::{TICKETS, put_each};
 use crate::watched::Seen;
-use scripts::Settings;
+use scripts::{ObjectSettings, Settings};
 use std::alloc::AllocError;
 use word_rule::{LockKind, StepDone};
 
@@ -65,6 +65,28 @@ fn put_outcome(text: &mut String, done: StepDone) -> Result<(), AllocError>
     write!(text, ",\"outcome\":\"{outcome}\"")
 }
 
+/// Puts the line of a step on an object.
+fn put_on_object(
+    text: &mut String,
+    cpus: usize,
+    number: usize,
+    cpu: u8,
+    object: &ObjectSettings,
+    done: StepDone,
+    words: &[u64],
+) -> Result<(), AllocError>
+    ensures { OnOk result (string_bytes text.new ≡ string_bytes text.old ++ json_on_object cpus number cpu done words.now object.now) }
+{
+    let (name, kind) = (object.name_str(), kind_of(done));
+    write!(
+        text,
+        "{{\"step\":{number},\"cpu\":{cpu},\"object\":\"{name}\",\"kind\":\"{kind}\""
+    )?;
+    put_outcome(text, done)?;
+    put_lock(text, object.lock(), cpus, words)?;
+    text.push_str("}\n")
+}
+
 /// Puts the line of a step, as `put_words_line` does in words.
 pub fn put_json_line(
     text: &mut String,
@@ -76,15 +98,15 @@ pub fn put_json_line(
 ) -> Result<(), AllocError>
     ensures { OnOk result (string_bytes text.new ≡ string_bytes text.old ++ json_line settings.now number cpu seen words.now) }
 {
-    write!(text, "{{\"step\":{number},\"cpu\":{cpu}")?;
-    let kind = kind_of(seen.done);
-    if let Some(object) = object_at(settings, seen.object) {
-        let name = object.name_str();
-        write!(text, ",\"object\":\"{name}\",\"kind\":\"{kind}\"")?;
-        put_outcome(text, seen.done)?;
-        put_lock(text, object.lock(), settings.cpus() as usize, words)?;
-    } else {
-        write!(text, ",\"kind\":\"{kind}\"")?;
+    let done = seen.done;
+    match object_at(settings, seen.object) {
+        Some(object) => {
+            let cpus = settings.cpus() as usize;
+            put_on_object(text, cpus, number, cpu, object, done, words)
+        }
+        None => {
+            let kind = kind_of(done);
+            writeln!(text, "{{\"step\":{number},\"cpu\":{cpu},\"kind\":\"{kind}\"}}")
+        }
     }
-    text.push_str("}\n")
 }

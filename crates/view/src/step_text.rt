@@ -2,11 +2,11 @@
 
 ghost use Rattle.std.specs.Prelude.{◌≡◌, ◌++◌, ◌/◌, ◌%◌, string_bytes, OnOk};
 ghost use Rattle.view.specs.StepNames.{outcome_of};
-ghost use Rattle.view.specs.StepLines.{after_each, lock_text, outcome_text, words_line};
+ghost use Rattle.view.specs.StepLines.{after_each, lock_text, outcome_text, words_on_object, words_line};
 
 use crate::step_names::{kind_of, object_at, outcome_of};
 use crate::watched::Seen;
-use scripts::Settings;
+use scripts::{ObjectSettings, Settings};
 use std::alloc::AllocError;
 use word_rule::{LockKind, StepDone};
 
@@ -61,6 +61,26 @@ fn put_outcome(text: &mut String, done: StepDone) -> Result<(), AllocError>
     write!(text, " {outcome}")
 }
 
+/// Puts the line of a step on an object.
+fn put_on_object(
+    text: &mut String,
+    cpus: usize,
+    number: usize,
+    cpu: u8,
+    object: &ObjectSettings,
+    done: StepDone,
+    words: &[u64],
+) -> Result<(), AllocError>
+    ensures { OnOk result (string_bytes text.new ≡ string_bytes text.old ++ words_on_object cpus number cpu done words.now object.now) }
+{
+    let (name, kind) = (object.name_str(), kind_of(done));
+    write!(text, "{number} cpu {cpu} {name} {kind}")?;
+    put_outcome(text, done)?;
+    text.push_str(" |")?;
+    put_lock(text, object.lock(), cpus, words)?;
+    text.push_str("\n")
+}
+
 /// Puts the line of a step: its number, its CPU, its object, its name and outcome, and the words of the object's lock behind
 /// it.
 pub fn put_words_line(
@@ -73,16 +93,15 @@ pub fn put_words_line(
 ) -> Result<(), AllocError>
     ensures { OnOk result (string_bytes text.new ≡ string_bytes text.old ++ words_line settings.now number cpu seen words.now) }
 {
-    write!(text, "{number} cpu {cpu}")?;
-    let kind = kind_of(seen.done);
-    if let Some(object) = object_at(settings, seen.object) {
-        let name = object.name_str();
-        write!(text, " {name} {kind}")?;
-        put_outcome(text, seen.done)?;
-        text.push_str(" |")?;
-        put_lock(text, object.lock(), settings.cpus() as usize, words)?;
-    } else {
-        write!(text, " {kind}")?;
+    let done = seen.done;
+    match object_at(settings, seen.object) {
+        Some(object) => {
+            let cpus = settings.cpus() as usize;
+            put_on_object(text, cpus, number, cpu, object, done, words)
+        }
+        None => {
+            let kind = kind_of(done);
+            writeln!(text, "{number} cpu {cpu} {kind}")
+        }
     }
-    text.push_str("\n")
 }

@@ -129,13 +129,16 @@ impl<'a, O: SeqObject> Watched<'a, O> {
         ensures none { IfNone result ((w : World O O.Params O.Call O.Reply) → Watches O.SeqObject self.now w → AllByRecursion (λ c. c.todo ≡ []) w.cpus) }
     {
         self.machine.keeps_a_world();
-        let start = from.min(self.left.len());
-        let (before, behind) = self.left.as_slice().split_at(start);
-        if let Some(place) = first_some(behind) {
-            return Some((start + place) as u8);
+        let all = self.left.as_slice();
+        let start = from.min(all.len());
+        let (_, behind) = all.split_at(start);
+        match first_some(behind) {
+            Some(place) => Some((start + place) as u8),
+            None => match first_some(all) {
+                Some(place) => Some(place as u8),
+                None => None,
+            },
         }
-        let place = first_some(before)?;
-        Some(place as u8)
     }
 }
 
