@@ -18,7 +18,7 @@ const ROW: usize = 36;
 const BOX: usize = 26;
 
 /// The least width of a picture.
-const LEAST_WIDTH: usize = 640;
+const LEAST_WIDTH: usize = 800;
 
 const SIGNS: [&str; 3] = [
     "A box is an entry that was done; from left to right they stand in the one order of all. Point at one to read it.",
@@ -37,7 +37,7 @@ struct Scale {
 
 impl Scale {
     fn of(entries: usize) -> Scale {
-        if entries <= 12 {
+        if entries <= 8 {
             Scale {
                 pitch: 148,
                 width: 124,

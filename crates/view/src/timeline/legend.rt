@@ -1,5 +1,7 @@
 //! What the colours and signs of a picture mean.
 
+ghost use Rattle.std.specs.Prelude.{◌<◌};
+
 use crate::picture::{Anchor, Area, GREY, INK, Picture};
 use crate::timeline::colours::colours_of;
 use scripts::{KParams, Settings};
@@ -11,15 +13,17 @@ const ITEM_WIDTH: usize = 290;
 const ITEM_HEIGHT: usize = 24;
 
 /// How many items stand side by side.
-fn columns_in(width: usize) -> usize {
+fn columns_in(width: usize) -> usize
+    ensures { 0 < result }
+{
     (width.saturating_sub(32) / ITEM_WIDTH).max(1)
 }
 
 /// The height of a legend of so many objects and signs.
 pub fn legend_height(width: usize, objects: usize, signs: usize) -> usize {
     let columns = columns_in(width);
-    let rows = (objects / columns).saturating_add(signs).saturating_add(2);
-    rows.saturating_mul(ITEM_HEIGHT)
+    let rows = objects.div_ceil(columns).saturating_add(signs);
+    rows.saturating_mul(ITEM_HEIGHT).saturating_add(16)
 }
 
 fn kind_word(params: KParams) -> &'static str {
