@@ -1,40 +1,17 @@
 -- Lines of steps, one after another.
-use Rattle.std.proofs.Common.{◌≡◌, ◌≢◌, ℕ, suc, codes, ◌+◌, ◌<◌, List, [], ◌∷◌, ◌++◌, length, take, drop, map, get_or, decimal, refl, sym, ◌∙◌, ap, subst, arith, append_assoc, flat_map, slice_get}
-use Rattle.std.proofs.lemmas.Grind.{flat_map-append}
-use Rattle.std.proofs.lemmas.List.{append-nil, take_more, drop_more, map-append}
-use Rattle.std.specs.List.{AllByRecursion}
+use Rattle.std.proofs.Common.{◌≡◌, ℕ, ◌+◌, ◌<◌, List, [], ◌∷◌, ◌++◌, length, drop, get_or, refl, sym, ◌∙◌, ap, append_assoc, slice_get}
+use Rattle.std.proofs.lemmas.List.{drop_more}
 use Rattle.event_log.specs.declared.object.SeqObject.{Ghosts}
 use Rattle.scripts.specs.contracts.kernel_object.KernelObjectSeqObject.TheImpl.{ghosts as kernel}
 use Rattle.scripts.specs.Settings.{Settings}
-use Rattle.scripts.specs.Words.{text_of_lines}
 use Rattle.cpu_worker.specs.Simulation.{KernelWorld}
 use Rattle.word_rule.specs.Machine.World.{World, run, step}
 use Rattle.view.specs.declared.step_names.LineForm.{LineForm}
-use Rattle.view.specs.StepLines.{after_each, json_outcome, line_of}
+use Rattle.view.specs.StepLines.{line_of}
 use Rattle.view.specs.Steps.{seen_of, step_line, lines_from}
 use Rattle.view.specs.Watching.{words_on}
 use Rattle.view.specs.declared.watched.Seen.{Seen}
 use Rattle.word_rule.specs.Machine.Orders.{works_on}
-
--- one number more
-pub each_more : (mark ns : List ℕ) (i : ℕ) → i < length ns → after_each mark (take (i + 1) ns) ≡ after_each mark (take i ns) ++ (mark ++ decimal (get_or ns i 0))
-each_more mark ns i less =
-    ap (after_each mark) (take_more ns i 0 less)
-    ∙ (flat_map-append (λ n. mark ++ decimal n) (take i ns) (get_or ns i 0 ∷ [])
-    ∙ ap (λ l. after_each mark (take i ns) ++ l) (append-nil (mark ++ decimal (get_or ns i 0))))
-
--- an outcome that isn't empty
-pub outcome_some : (o : List ℕ) → length o ≢ 0 → json_outcome o ≡ codes ",\"outcome\":\"" ++ (o ++ codes "\"")
-outcome_some [] some = absurd (some refl)
-outcome_some (b ∷ bs) some = refl
-
--- one line of a number more
-pub line_more : (ns : List ℕ) (i : ℕ) → i < length ns → text_of_lines (map decimal (take (i + 1) ns)) ≡ text_of_lines (map decimal (take i ns)) ++ (decimal (get_or ns i 0) ++ 10 ∷ [])
-line_more ns i less =
-    ap (λ l. text_of_lines (map decimal l)) (take_more ns i 0 less)
-    ∙ (ap text_of_lines (map-append decimal (take i ns) (get_or ns i 0 ∷ []))
-    ∙ (flat_map-append (λ line. line ++ 10 ∷ []) (map decimal (take i ns)) (decimal (get_or ns i 0) ∷ [])
-    ∙ ap (λ l. text_of_lines (map decimal (take i ns)) ++ l) (append-nil (decimal (get_or ns i 0) ++ 10 ∷ []))))
 
 -- the line of what is seen of a step
 pub line_is : (form : LineForm) (settings : Settings) (n i : ℕ) (w : KernelWorld) (seen : Seen) (words : List ℕ) → seen.object ≡ works_on (slice_get w.cpus i) → seen.done ≡ (step kernel w i).1 → words ≡ words_on (step kernel w i).0 seen.object

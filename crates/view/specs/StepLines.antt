@@ -59,13 +59,21 @@ abbrev pub json_outcome : List ℕ → List ℕ
 json_outcome [] = []
 json_outcome (b ∷ bs) = codes ",\"outcome\":\"" ++ ((b ∷ bs) ++ codes "\"")
 
--- the members of a step on an object
-abbrev pub json_on_object : ℕ → ℕ → ℕ → StepDone → List ℕ → ObjectSettings → List ℕ
-json_on_object cpus n cpu done words o = codes "{\"step\":" ++ (decimal n ++ (codes ",\"cpu\":" ++ (decimal cpu ++ (codes ",\"object\":\"" ++ (o.name ++ (codes "\",\"kind\":\"" ++ (kind_of done ++ (codes "\"" ++ (json_outcome (outcome_of done) ++ (json_lock o.lock cpus words ++ codes "}\n"))))))))))
+-- the number of a step and its CPU
+unfoldable pub json_start : ℕ → ℕ → List ℕ
+json_start n cpu = codes "{\"step\":" ++ (decimal n ++ (codes ",\"cpu\":" ++ decimal cpu))
 
--- those, or the members of an idle step
+-- the object of a step and its name
+unfoldable pub json_named : List ℕ → List ℕ → List ℕ
+json_named name kind = codes ",\"object\":\"" ++ (name ++ (codes "\",\"kind\":\"" ++ (kind ++ codes "\"")))
+
+-- a step on an object
+abbrev pub json_on_object : ℕ → ℕ → ℕ → StepDone → List ℕ → ObjectSettings → List ℕ
+json_on_object cpus n cpu done words o = json_start n cpu ++ (json_named o.name (kind_of done) ++ (json_outcome (outcome_of done) ++ (json_lock o.lock cpus words ++ codes "}\n")))
+
+-- that, or an idle step
 abbrev pub json_if : ℕ → ℕ → ℕ → StepDone → List ℕ → Option ObjectSettings → List ℕ
-json_if cpus n cpu done words None = codes "{\"step\":" ++ (decimal n ++ (codes ",\"cpu\":" ++ (decimal cpu ++ (codes ",\"kind\":\"" ++ (kind_of done ++ codes "\"}\n")))))
+json_if cpus n cpu done words None = json_start n cpu ++ (codes ",\"kind\":\"" ++ (kind_of done ++ codes "\"}\n"))
 json_if cpus n cpu done words (Some o) = json_on_object cpus n cpu done words o
 
 -- the object of what is seen of step n

@@ -3,8 +3,7 @@
 //! Nothing in it has to be escaped: names of objects are letters and digits, and all else is numbers and fixed words.
 
 ghost use Rattle.std.specs.Prelude.{◌≡◌, ◌++◌, string_bytes, OnOk};
-ghost use Rattle.view.specs.StepNames.{outcome_of};
-ghost use Rattle.view.specs.StepLines.{json_line, json_list, json_lock, json_on_object, json_outcome};
+ghost use Rattle.view.specs.StepLines.{json_line, json_list, json_lock, json_named, json_on_object, json_outcome, json_start};
 
 use crate::step_names::{kind_of, object_at, outcome_of};
 use crate::step_text::{TICKETS, put_each};
@@ -54,15 +53,30 @@ fn put_lock(
     }
 }
 
-/// Puts what came of a step, if it can come out in two ways.
-fn put_outcome(text: &mut String, done: StepDone) -> Result<(), AllocError>
-    ensures { OnOk result (string_bytes text.new ≡ string_bytes text.old ++ json_outcome (outcome_of done)) }
+/// Puts an outcome, if there is one.
+fn put_outcome(text: &mut String, outcome: &str) -> Result<(), AllocError>
+    ensures { OnOk result (string_bytes text.new ≡ string_bytes text.old ++ json_outcome outcome.now) }
 {
-    let outcome = outcome_of(done);
     if outcome.is_empty() {
         return Ok(());
     }
     write!(text, ",\"outcome\":\"{outcome}\"")
+}
+
+/// Puts the first members of a step.
+#[tactic(auto, unfolding(crate::specs::StepLines::json_start))]
+fn put_start(text: &mut String, number: usize, cpu: u8) -> Result<(), AllocError>
+    ensures { OnOk result (string_bytes text.new ≡ string_bytes text.old ++ json_start number cpu) }
+{
+    write!(text, "{{\"step\":{number},\"cpu\":{cpu}")
+}
+
+/// Puts the object and the name of a step.
+#[tactic(auto, unfolding(crate::specs::StepLines::json_named))]
+fn put_named(text: &mut String, name: &str, kind: &str) -> Result<(), AllocError>
+    ensures { OnOk result (string_bytes text.new ≡ string_bytes text.old ++ json_named name.now kind.now) }
+{
+    write!(text, ",\"object\":\"{name}\",\"kind\":\"{kind}\"")
 }
 
 /// Puts the line of a step on an object.
@@ -77,12 +91,9 @@ fn put_on_object(
 ) -> Result<(), AllocError>
     ensures { OnOk result (string_bytes text.new ≡ string_bytes text.old ++ json_on_object cpus number cpu done words.now object.now) }
 {
-    let (name, kind) = (object.name_str(), kind_of(done));
-    write!(
-        text,
-        "{{\"step\":{number},\"cpu\":{cpu},\"object\":\"{name}\",\"kind\":\"{kind}\""
-    )?;
-    put_outcome(text, done)?;
+    put_start(text, number, cpu)?;
+    put_named(text, object.name_str(), kind_of(done))?;
+    put_outcome(text, outcome_of(done))?;
     put_lock(text, object.lock(), cpus, words)?;
     text.push_str("}\n")
 }
@@ -105,8 +116,9 @@ pub fn put_json_line(
             put_on_object(text, cpus, number, cpu, object, done, words)
         }
         None => {
+            put_start(text, number, cpu)?;
             let kind = kind_of(done);
-            writeln!(text, "{{\"step\":{number},\"cpu\":{cpu},\"kind\":\"{kind}\"}}")
+            writeln!(text, ",\"kind\":\"{kind}\"}}")
         }
     }
 }
