@@ -1,5 +1,7 @@
 //! Many entries, folded: the order is cut into parts of one length, and of each part each CPU has one box.
 
+ghost use Rattle.std.specs.Prelude.{◌<◌};
+
 use crate::picture::{Anchor, Area, GREY, INK, Picture};
 use crate::timeline::colours::{fill_of, put_hatchings};
 use crate::timeline::entry_words::{entry_at, had_room, name_of};
@@ -106,11 +108,19 @@ impl Cut {
         let cpus = (record.settings().cpus() as usize).max(1);
         let parts = (MOST_BOXES / cpus).min(MOST_PARTS).max(1);
         let length = places.len().div_ceil(parts).max(1);
+        let used = places.len().div_ceil(length).max(1);
         Cut {
             length,
-            width: (WIDTH / parts).max(1),
+            width: (WIDTH / used).max(1),
             most: most_of_all(record, places, length),
         }
+    }
+
+    /// Of how many parts one has its first place written above it: so many that the numbers don't meet.
+    fn numbered(&self) -> usize
+        ensures { 0 < result }
+    {
+        (80 / self.width.max(1)).max(1)
     }
 
     /// How high the box of so many entries is.
@@ -171,7 +181,7 @@ fn put_parts(
         for (cpu, count) in counts_of(record, entries).iter().enumerate() {
             put_box(alloc, picture, record.settings(), cut, (part, cpu), count)?;
         }
-        if part.saturating_mul(cut.width) % 80 == 0 {
+        if part % cut.numbered() == 0 {
             let first = part.saturating_mul(cut.length).saturating_add(1);
             let words = format!(in alloc; "{first}")?;
             let x = part.saturating_mul(cut.width).saturating_add(LEFT);
