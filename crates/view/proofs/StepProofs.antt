@@ -1,5 +1,5 @@
 -- Lines of steps, one after another.
-use Rattle.std.proofs.Common.{◌≡◌, ℕ, ◌+◌, ◌<◌, List, [], ◌∷◌, ◌++◌, length, drop, get_or, refl, sym, ◌∙◌, ap, append_assoc, slice_get}
+use Rattle.std.proofs.Common.{◌≡◌, ◌≢◌, ℕ, codes, ◌+◌, ◌<◌, List, [], ◌∷◌, ◌++◌, length, drop, get_or, refl, sym, ◌∙◌, ap, append_assoc, slice_get}
 use Rattle.std.proofs.lemmas.List.{drop_more}
 use Rattle.event_log.specs.declared.object.SeqObject.{Ghosts}
 use Rattle.scripts.specs.contracts.kernel_object.KernelObjectSeqObject.TheImpl.{ghosts as kernel}
@@ -7,11 +7,16 @@ use Rattle.scripts.specs.Settings.{Settings}
 use Rattle.cpu_worker.specs.Simulation.{KernelWorld}
 use Rattle.word_rule.specs.Machine.World.{World, run, step}
 use Rattle.view.specs.declared.step_names.LineForm.{LineForm}
-use Rattle.view.specs.StepLines.{line_of}
+use Rattle.view.specs.StepLines.{json_outcome, line_of}
 use Rattle.view.specs.Steps.{seen_of, step_line, lines_from}
 use Rattle.view.specs.Watching.{words_on}
 use Rattle.view.specs.declared.watched.Seen.{Seen}
 use Rattle.word_rule.specs.Machine.Orders.{works_on}
+
+-- an outcome that isn't empty
+pub outcome_some : (o : List ℕ) → length o ≢ 0 → json_outcome o ≡ codes ",\"outcome\":\"" ++ (o ++ codes "\"")
+outcome_some [] some = absurd (some refl)
+outcome_some (b ∷ bs) some = refl
 
 -- the line of what is seen of a step
 pub line_is : (form : LineForm) (settings : Settings) (n i : ℕ) (w : KernelWorld) (seen : Seen) (words : List ℕ) → seen.object ≡ works_on (slice_get w.cpus i) → seen.done ≡ (step kernel w i).1 → words ≡ words_on (step kernel w i).0 seen.object

@@ -88,6 +88,9 @@ pub fn random_schedule(
         let Some(cpu) = drawn(&mut random, &watched, last, &in_vain) else {
             return Ok(steps);
         };
+        if steps.len() == MOST_STEPS {
+            return Err(RandomFault::TooLong);
+        }
         if steps.push(cpu).is_err() {
             return Err(RandomFault::OutOfMemory);
         }
