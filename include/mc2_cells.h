@@ -18,7 +18,7 @@
 // - What pointers point to is there, nobody else touches it meanwhile, and no pointer is NULL.
 // - No call comes from a signal handler or from a child that was forked from a process with threads.
 //
-// All else is refused: a cell or a caller that isn't at a place where a call fits is told MC2_CELL_REFUSED, and stays as it was.
+// All else is refused: what isn't at a place where a call fits is told MC2_CELL_REFUSED, and stays as it was.
 #ifndef MC2_CELLS_H
 #define MC2_CELLS_H
 
@@ -60,8 +60,8 @@ enum mc2_cell_told {
     MC2_CELL_NO_MEMORY = 10, MC2_CELL_BAD_OPENING = 11
 };
 
-// What a cell is opened with: numbers of mc2_lock and mc2_kind, the most events of its log, the CPUs, and the size, the channels
-// and the quotas as mc2_object explains them. A number that the kind hasn't isn't looked at.
+// What a cell is opened with: numbers of mc2_lock and mc2_kind, the most events of its log, the CPUs, and the size, the
+// channels and the quotas as mc2_object explains them. A number that the kind hasn't isn't looked at.
 struct mc2_cell_opening {
     uint32_t lock, kind, events, cpus, size, channels;
     uint32_t quotas[MC2_OWNERS];

@@ -19,12 +19,14 @@ TOOL = f"tools/{Path(sys.argv[0]).resolve().name}"
 MC2 = ROOT / "crates/mc2/out/mc2"
 BENCH = ROOT / "crates/bench/out/bench"
 COSTS = ROOT / "crates/costs/out/costs"
+VIEW = ROOT / "crates/view/out/view"
 # The most CPUs of a cell.
 MOST_CPUS = 64
 HOW_TO_BUILD = {
     MC2: "`rt run` in crates/mc2 builds crates/mc2/out/mc2, and so does `rt ci`",
     BENCH: "`rt run` in crates/bench builds crates/bench/out/bench",
     COSTS: "`rt run` in crates/costs builds crates/costs/out/costs",
+    VIEW: "`rt run` in crates/view builds crates/view/out/view, and so does `rt ci`",
 }
 HOW_TO_GET = {
     "rt": "it is the command of the kit that README.md names",

@@ -1,0 +1,3 @@
+pub mod DrawnWords
+pub mod StepProofs
+pub mod Watchings

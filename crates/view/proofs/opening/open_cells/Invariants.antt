@@ -1,0 +1,12 @@
+use Rattle.std.proofs.Common.{◌≡◌, [], map, take}
+use Rattle.std.specs.List.{AllByRecursion}
+use Rattle.word_rule.specs.Machine.Opening.{opening_cell}
+use Rattle.cpu_worker.specs.Simulation.{new_cell}
+use Rattle.view.proofs.opening.open_cells.Given as goal
+
+abbrev pub invariant-loop-object : goal.invariant-loop-object
+invariant-loop-object l = record {
+  objects : l.object-items ≡ l.settings.objects;
+  cells : map (λ c. opening_cell c.kind c.first c.logged) l.cells.items ≡ map new_cell (take l.object-index l.object-items);
+  empty : AllByRecursion (λ c. c.logged.log ≡ []) l.cells.items;
+}

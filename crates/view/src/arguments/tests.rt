@@ -1,0 +1,125 @@
+//! Words that are taken and words that are refused, and the texts of help and of the version.
+
+use super::{Arguments, Asked, read_words};
+use crate::fault::Fault;
+use crate::step_names::LineForm;
+use std::test::Fail;
+
+/// The words of a line.
+fn words_in<R: AllocGlobal>(rt: &R, line: &str) -> Result<Vec<String>, Fail> {
+    let mut words = Vec::new(rt.alloc());
+    for word in line.split(' ') {
+        words.push(format!(in rt.alloc(); "{word}")?)?;
+    }
+    Ok(words)
+}
+
+fn steps(form: LineForm) -> Arguments<'static> {
+    Arguments::Steps {
+        form,
+        settings: "s",
+        scripts: "a",
+        schedule: "b",
+    }
+}
+
+fn schedule(seed: u64) -> Arguments<'static> {
+    Arguments::Schedule {
+        settings: "s",
+        scripts: "a",
+        seed,
+    }
+}
+
+#[test]
+fn words_that_are_taken(rt: HostRuntime) -> Result<(), Fail> {
+    let rows = [
+        ("steps --settings s a b", steps(LineForm::Words)),
+        ("steps a b --settings s --json", steps(LineForm::Json)),
+        ("timeline", Arguments::Timeline { record: None }),
+        ("timeline r", Arguments::Timeline { record: Some("r") }),
+        ("trace", Arguments::Trace { record: None }),
+        ("trace r", Arguments::Trace { record: Some("r") }),
+        ("schedule --settings s a", schedule(0)),
+        ("schedule --seed 7 a --settings s", schedule(7)),
+        (
+            "schedule --settings s a --seed 18446744073709551615",
+            schedule(u64::MAX),
+        ),
+    ];
+    for (line, wanted) in rows {
+        let words = words_in(&rt, line)?;
+        match read_words(rt.alloc(), words.as_slice()) {
+            Ok(Asked::For(found)) => assert!(rt; found == wanted, "{line:?}"),
+            _ => assert!(rt; false, "{line:?}"),
+        }
+    }
+    Ok(())
+}
+
+#[test]
+fn words_that_are_refused(rt: HostRuntime) -> Result<(), Fail> {
+    let rows = [
+        "",
+        "walk",
+        "help",
+        "steps",
+        "steps a b",
+        "steps --settings s a",
+        "steps --settings s a b c",
+        "steps --settings=s a b",
+        "steps --settings s --settings s a b",
+        "steps --settings s a -b",
+        "steps --settings - a b",
+        "steps --settings s a b --json --json",
+        "steps --settings s a b --seed 1",
+        "timeline r r",
+        "timeline -r",
+        "timeline ",
+        "timeline -- r",
+        "timeline --json",
+        "trace r r",
+        "trace --settings s",
+        "schedule a",
+        "schedule --settings s",
+        "schedule --settings s a b",
+        "schedule --settings s a --seed",
+        "schedule --settings s a --seed=1",
+        "schedule --settings s a --seed 01",
+        "schedule --settings s a --seed -1",
+        "schedule --settings s a --seed x",
+        "schedule --settings s a --seed 18446744073709551616",
+        "schedule --settings s a --json",
+    ];
+    for line in rows {
+        let words = words_in(&rt, line)?;
+        let refused = matches!(
+            read_words(rt.alloc(), words.as_slice()),
+            Err(Fault::BadWords)
+        );
+        assert!(rt; refused, "{line:?}");
+    }
+    Ok(())
+}
+
+#[test]
+fn help_and_version(rt: HostRuntime) -> Result<(), Fail> {
+    let rows = [
+        ("--help", "Usage: <COMMAND>"),
+        ("-h", "Usage: <COMMAND>"),
+        ("--version", "view 1"),
+        ("-V", "view 1"),
+        ("steps --help", "--json"),
+        ("schedule -h", "--seed <N>"),
+        ("timeline --help", "[RECORD]"),
+        ("trace --help", "[RECORD]"),
+    ];
+    for (line, part) in rows {
+        let words = words_in(&rt, line)?;
+        match read_words(rt.alloc(), words.as_slice()) {
+            Ok(Asked::Help(text)) => assert!(rt; text.contains(part), "{line:?} {text}"),
+            _ => assert!(rt; false, "{line:?}"),
+        }
+    }
+    Ok(())
+}
