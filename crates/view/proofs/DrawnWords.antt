@@ -5,6 +5,7 @@ use Rattle.std.proofs.lemmas.List.Elements.{All-from_recursion}
 use Rattle.std.proofs.lemmas.List.Splits.{slice_split-cons_yes, slice_split_at}
 use Rattle.std.specs.List.{AllByRecursion, filter, slice_split}
 use Rattle.scripts.proofs.Readings.{plain_decimal}
+use Rattle.word_rule.specs.declared.key.TheConstants.{MOST_CPUS}
 use Rattle.scripts.specs.Row.{IsPlain}
 use Rattle.scripts.specs.ScheduleText.{is_gap, schedule_words, IsSchedule}
 use Rattle.scripts.specs.declared.schedule.TheConstants.{MOST_STEPS}
@@ -47,10 +48,10 @@ words_of_lines (n ∷ steps) fit =
     ∙ (word_first (decimal n) (text_of_lines (map decimal steps)) (no_gaps (decimal n) (plain_decimal n fit.0)) (decimal_nonempty n fit.0)
     ∙ ap (λ l. decimal n ∷ l) (words_of_lines steps fit.1))
 
-small : (cpus : ℕ) (steps : List ℕ) → cpus ≤ 64 → AllByRecursion (λ cpu. cpu < cpus) steps → AllByRecursion (λ n. n < 2 ^ 64) steps
+small : (cpus : ℕ) (steps : List ℕ) → cpus ≤ MOST_CPUS → AllByRecursion (λ cpu. cpu < cpus) steps → AllByRecursion (λ n. n < 2 ^ 64) steps
 small cpus [] few each = tt
 small cpus (n ∷ steps) few each = (omega (arith, few, each.0), small cpus steps few each.1)
 
 -- the reader takes such lines
-pub reads_back : (cpus : ℕ) (steps text : List ℕ) → cpus ≤ 64 → text ≡ text_of_lines (map decimal steps) → AllByRecursion (λ cpu. cpu < cpus) steps → length steps ≤ MOST_STEPS → IsSchedule cpus text steps
+pub reads_back : (cpus : ℕ) (steps text : List ℕ) → cpus ≤ MOST_CPUS → text ≡ text_of_lines (map decimal steps) → AllByRecursion (λ cpu. cpu < cpus) steps → length steps ≤ MOST_STEPS → IsSchedule cpus text steps
 reads_back cpus steps text few is each most = record { words = ap schedule_words is ∙ words_of_lines steps (small cpus steps few each); each = each; few = most }

@@ -63,11 +63,7 @@ fn scripts_file<'a>(alloc: Global) -> Arg<'a> {
 }
 
 /// A command on a record.
-fn on_record<'a>(
-    alloc: Global,
-    name: &'a str,
-    about: &'a str,
-) -> Result<Command<'a>, AllocError> {
+fn on_record<'a>(alloc: Global, name: &'a str, about: &'a str) -> Result<Command<'a>, AllocError> {
     let record = file_at(
         alloc,
         "RECORD",

@@ -42,26 +42,26 @@ pub fn command<I: Inputs, W: Sink, F: Sink>(
 }
 
 /// The text that the words ask for.
-fn answered<I: Inputs>(
-    alloc: Global,
-    words: &[String],
-    inputs: &mut I,
-) -> Result<String, Fault> {
+fn answered<I: Inputs>(alloc: Global, words: &[String], inputs: &mut I) -> Result<String, Fault> {
     match read_words(alloc, words)? {
         Asked::Help(text) => Ok(text),
-        Asked::For(Arguments::Steps {
-            form,
-            settings,
-            scripts,
-            schedule,
-        }) => steps_answer(alloc, inputs, form, settings, scripts, schedule),
+        Asked::For(
+            Arguments::Steps {
+                form,
+                settings,
+                scripts,
+                schedule,
+            },
+        ) => steps_answer(alloc, inputs, form, settings, scripts, schedule),
         Asked::For(Arguments::Timeline { record }) => timeline_answer(alloc, inputs, record),
         Asked::For(Arguments::Trace { record }) => trace_answer(alloc, inputs, record),
-        Asked::For(Arguments::Schedule {
-            settings,
-            scripts,
-            seed,
-        }) => schedule_answer(alloc, inputs, settings, scripts, seed),
+        Asked::For(
+            Arguments::Schedule {
+                settings,
+                scripts,
+                seed,
+            },
+        ) => schedule_answer(alloc, inputs, settings, scripts, seed),
     }
 }
 

@@ -17,10 +17,7 @@ use std::alloc::Global;
 use word_rule::{CellSpec, Machine};
 
 /// Opens an object of settings, which are within its limits.
-fn open_object(
-    alloc: Global,
-    object: &ObjectSettings,
-) -> Result<Logged<KernelObject>, OutOfMemory>
+fn open_object(alloc: Global, object: &ObjectSettings) -> Result<Logged<KernelObject>, OutOfMemory>
     requires { ObjectFits Two object.now }
     ensures opened { IfOk result (λ l. l ≡ opened_history object.now.params object.now.events (⟦<KernelObject as SeqObject>⟧.opening object.now.params)) }
     ensures kept { IfOk result (λ l. IsKept ⟦<KernelObject as SeqObject>⟧ l) }

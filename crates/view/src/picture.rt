@@ -8,11 +8,17 @@ use std::alloc::{AllocError, Global};
 /// The colours of texts, of lines, of what isn't done by an entry, of what is wrong, and of the paper. A picture has its own
 /// paper, so that it looks the same in light and in dark surroundings.
 pub const INK: &str = "#1f2328";
+
 pub const GREY: &str = "#57606a";
+
 pub const PALE: &str = "#d0d7de";
+
 pub const RED: &str = "#cf222e";
+
 pub const BLUE: &str = "#0757a8";
+
 pub const PAPER: &str = "#f6f8fa";
+
 pub const WHITE: &str = "#ffffff";
 
 /// What a text stands by.

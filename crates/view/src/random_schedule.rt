@@ -2,6 +2,7 @@
 
 ghost use Rattle.std.specs.Prelude.{◌≡◌, ◌<◌, ◌≤◌, [], length, map, string_bytes, decimal, IfOk, IfSome, IfNone};
 ghost use Rattle.std.specs.List.{AllByRecursion};
+ghost use Rattle.word_rule.specs.declared.key.TheConstants.{MOST_CPUS};
 ghost use Rattle.scripts.specs.Words.{text_of_lines};
 ghost use Rattle.scripts.specs.ScriptText.{ScriptsFit};
 ghost use Rattle.cpu_worker.specs.Simulation.{KernelWorld};
@@ -14,7 +15,7 @@ use crate::watched::Watched;
 use event_log::{OutOfMemory, SeqObject};
 use scripts::{KernelObject, MOST_STEPS, Scripts, Settings};
 use std::alloc::{AllocError, Global};
-use word_rule::StepDone;
+use word_rule::{MOST_CPUS, StepDone};
 
 /// Why no schedule was drawn.
 #[derive(Clone, Copy, Debug, PartialEq, Eq, Drop)]
@@ -38,8 +39,10 @@ impl From<OutOfMemory> for RandomFault {
 /// How often another CPU is drawn for one that has just looked in vain, which can seldom go on.
 const REDRAWS: usize = 8;
 
+const CPUS: usize = MOST_CPUS as usize;
+
 /// Which CPUs have looked in vain by their last step.
-type InVain = [bool; 64];
+type InVain = [bool; CPUS];
 
 /// A CPU whose script isn't done, if there is one.
 fn drawn(
@@ -77,12 +80,12 @@ pub fn random_schedule(
 ) -> Result<Vec<u8>, RandomFault>
     requires { ScriptsFit settings.now.cpus (length settings.now.objects) scripts.now }
     ensures ends { IfOk result (λ steps. EndsAll settings.now scripts.now steps.items) }
-    ensures few { IfOk result (λ _. settings.now.cpus ≤ 64) }
+    ensures few { IfOk result (λ _. settings.now.cpus ≤ MOST_CPUS) }
 {
     let mut watched = opened(alloc, settings, scripts)?;
     let mut random = Random::new(seed);
     let last = (settings.cpus() as usize).saturating_sub(1);
-    let mut in_vain = [false; 64];
+    let mut in_vain = [false; CPUS];
     let mut steps = Vec::new(alloc);
     for _ in 0..MOST_STEPS + 1 {
         let Some(cpu) = drawn(&mut random, &watched, last, &in_vain) else {

@@ -27,12 +27,7 @@ fn put_list(text: &mut String, numbers: &[u64]) -> Result<(), AllocError>
 }
 
 /// Puts the words of a lock for so many CPUs, by name.
-fn put_lock(
-    text: &mut String,
-    kind: LockKind,
-    cpus: usize,
-    words: &[u64],
-) -> Result<(), AllocError>
+fn put_lock(text: &mut String, kind: LockKind, cpus: usize, words: &[u64]) -> Result<(), AllocError>
     ensures { OnOk result (string_bytes text.new ≡ string_bytes text.old ++ json_lock kind cpus words.now) }
 {
     let Some((first, others)) = words.split_first() else {

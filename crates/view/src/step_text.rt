@@ -24,12 +24,7 @@ pub fn put_each(text: &mut String, mark: &str, numbers: &[u64]) -> Result<(), Al
 }
 
 /// Puts the words of a lock for so many CPUs, by name.
-fn put_lock(
-    text: &mut String,
-    kind: LockKind,
-    cpus: usize,
-    words: &[u64],
-) -> Result<(), AllocError>
+fn put_lock(text: &mut String, kind: LockKind, cpus: usize, words: &[u64]) -> Result<(), AllocError>
     ensures { OnOk result (string_bytes text.new ≡ string_bytes text.old ++ lock_text kind cpus words.now) }
 {
     let Some((first, others)) = words.split_first() else {

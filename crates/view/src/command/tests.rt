@@ -156,20 +156,55 @@ fn answer<R: AllocGlobal>(
 #[test]
 fn refused_commands(rt: HostRuntime) -> Result<(), Fail> {
     let rows = [
-        ("steps --settings none both turns", 3, "view: E12 read failed\n", 1),
+        (
+            "steps --settings none both turns",
+            3,
+            "view: E12 read failed\n",
+            1,
+        ),
         (
             "steps --settings both none none",
             2,
             "view: E6 settings: top: text: not toml\n",
             1,
         ),
-        ("steps --settings ticket bad none", 2, "view: E7 scripts: line 2\n", 2),
-        ("steps --settings ticket broken turns", 3, "view: E12 read failed\n", 2),
-        ("steps --settings ticket both none", 3, "view: E12 read failed\n", 3),
-        ("steps --settings ticket both far", 2, "view: E8 schedule: word 2\n", 3),
+        (
+            "steps --settings ticket bad none",
+            2,
+            "view: E7 scripts: line 2\n",
+            2,
+        ),
+        (
+            "steps --settings ticket broken turns",
+            3,
+            "view: E12 read failed\n",
+            2,
+        ),
+        (
+            "steps --settings ticket both none",
+            3,
+            "view: E12 read failed\n",
+            3,
+        ),
+        (
+            "steps --settings ticket both far",
+            2,
+            "view: E8 schedule: word 2\n",
+            3,
+        ),
         ("steps both turns", 2, "view: E14 bad words\n", 0),
-        ("schedule --settings ticket bad", 2, "view: E7 scripts: line 2\n", 2),
-        ("schedule --settings ticket none", 3, "view: E12 read failed\n", 2),
+        (
+            "schedule --settings ticket bad",
+            2,
+            "view: E7 scripts: line 2\n",
+            2,
+        ),
+        (
+            "schedule --settings ticket none",
+            3,
+            "view: E12 read failed\n",
+            2,
+        ),
         ("timeline none", 3, "view: E12 read failed\n", 1),
         ("timeline both", 2, "view: E9 record: line 1\n", 1),
         ("timeline", 2, "view: E9 record: line 1\n", 1),
@@ -206,7 +241,10 @@ fn sinks_that_fail(rt: HostRuntime) -> Result<(), Fail> {
         let mut faults = Plain::new(Vec::new(rt.alloc()));
         let (status, _) = told(&rt, "timeline record", "", &mut out, &mut faults)?;
         assert!(rt; status == 3 && out.inner.calls == 0, "{calls}");
-        assert!(rt; faults.inner.as_slice() == b"view: E13 write failed\n", "{calls}");
+        assert!(rt;
+            faults.inner.as_slice() == b"view: E13 write failed\n",
+            "{calls}"
+        );
     }
     Ok(())
 }
@@ -215,7 +253,10 @@ fn sinks_that_fail(rt: HostRuntime) -> Result<(), Fail> {
 fn help_goes_to_standard_output(rt: HostRuntime) -> Result<(), Fail> {
     for line in ["--help", "--version", "steps --help"] {
         let (status, out, faults) = answer(&rt, line, "")?;
-        assert!(rt; status == 0 && faults.is_empty() && !out.is_empty(), "{line:?}");
+        assert!(rt;
+            status == 0 && faults.is_empty() && !out.is_empty(),
+            "{line:?}"
+        );
     }
     Ok(())
 }

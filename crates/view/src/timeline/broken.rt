@@ -12,9 +12,13 @@ use std::alloc::{AllocError, Global};
 
 /// Where the boxes begin, how large they are, and how far apart.
 const LEFT: usize = 32;
+
 const TOP: usize = 92;
+
 const PITCH: usize = 136;
+
 const BOX_WIDTH: usize = 124;
+
 const BOX: usize = 30;
 
 /// How many boxes are drawn before the fault and behind it.
@@ -76,14 +80,12 @@ fn event_box(
         return Ok(None);
     };
     let cpu = event.cpu;
-    Ok(
-        Some(Shown {
-            object,
-            had_room: true,
-            words: event_words(alloc, event)?,
-            below: format!(in alloc; "by CPU {cpu}")?,
-        }),
-    )
+    Ok(Some(Shown {
+        object,
+        had_room: true,
+        words: event_words(alloc, event)?,
+        below: format!(in alloc; "by CPU {cpu}")?,
+    }))
 }
 
 /// The box of an entry of a CPU.
@@ -100,14 +102,12 @@ fn entry_box(
         return Ok(None);
     };
     let name = name_of(record.settings(), entry.object as usize);
-    Ok(
-        Some(Shown {
-            object: entry.object as usize,
-            had_room: had_room(entry),
-            words: done_words(alloc, &entry.done)?,
-            below: format!(in alloc; "on {name}")?,
-        }),
-    )
+    Ok(Some(Shown {
+        object: entry.object as usize,
+        had_room: had_room(entry),
+        words: done_words(alloc, &entry.done)?,
+        below: format!(in alloc; "on {name}")?,
+    }))
 }
 
 /// What stands at a place of the line, if there is something.
@@ -154,7 +154,13 @@ fn put_shown(
     let above = format!(in alloc; "{number}")?;
     let colour = if is_fault { RED } else { GREY };
     picture.words(middle, TOP - 12, Anchor::Middle, colour, above.as_str())?;
-    picture.words(middle, TOP + BOX + 22, Anchor::Middle, GREY, shown.below.as_str())?;
+    picture.words(
+        middle,
+        TOP + BOX + 22,
+        Anchor::Middle,
+        GREY,
+        shown.below.as_str(),
+    )?;
     if is_fault {
         let frame = Area {
             x: x.saturating_sub(4),

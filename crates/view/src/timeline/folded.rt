@@ -12,13 +12,18 @@ use std::alloc::{AllocError, Global};
 
 /// Where the boxes begin, how wide all parts are together, and how high a row and its highest box are.
 const LEFT: usize = 76;
+
 const TOP: usize = 64;
+
 const WIDTH: usize = 800;
+
 const ROW: usize = 28;
+
 const BOX: usize = 24;
 
 /// The most parts, and the most boxes: so a picture stays below a megabyte.
 const MOST_PARTS: usize = 200;
+
 const MOST_BOXES: usize = 5_000;
 
 const SIGNS: [&str; 3] = [
@@ -144,7 +149,10 @@ fn put_box(
     if all == 0 {
         return Ok(());
     }
-    let bottom = cpu.saturating_add(1).saturating_mul(ROW).saturating_add(TOP);
+    let bottom = cpu
+        .saturating_add(1)
+        .saturating_mul(ROW)
+        .saturating_add(TOP);
     let height = cut.height(all);
     let area = Area {
         x: part.saturating_mul(cut.width).saturating_add(LEFT),
@@ -161,10 +169,19 @@ fn put_box(
 /// Puts a line for each CPU.
 fn put_rows(alloc: Global, picture: &mut Picture, cpus: usize) -> Result<(), AllocError> {
     for cpu in 0..cpus {
-        let bottom = cpu.saturating_add(1).saturating_mul(ROW).saturating_add(TOP);
+        let bottom = cpu
+            .saturating_add(1)
+            .saturating_mul(ROW)
+            .saturating_add(TOP);
         picture.level(LEFT, LEFT + WIDTH, bottom)?;
         let words = format!(in alloc; "CPU {cpu}")?;
-        picture.words(16, bottom.saturating_sub(6), Anchor::Start, INK, words.as_str())?;
+        picture.words(
+            16,
+            bottom.saturating_sub(6),
+            Anchor::Start,
+            INK,
+            words.as_str(),
+        )?;
     }
     Ok(())
 }
@@ -192,11 +209,7 @@ fn put_parts(
 }
 
 /// The picture of many entries in their one order.
-pub fn draw_folded(
-    alloc: Global,
-    record: &Record,
-    places: &[Place],
-) -> Result<String, AllocError> {
+pub fn draw_folded(alloc: Global, record: &Record, places: &[Place]) -> Result<String, AllocError> {
     let settings = record.settings();
     let (cpus, objects) = (settings.cpus() as usize, settings.objects().len());
     let cut = Cut::of(record, places);
@@ -204,8 +217,9 @@ pub fn draw_folded(
     let legend_top = cpus.saturating_mul(ROW).saturating_add(TOP + 20);
     let height = legend_top.saturating_add(legend_height(width, objects, SIGNS.len()));
     let (entries, length) = (places.len(), cut.length);
-    let heading =
-        format!(in alloc; "A run of {cpus} CPUs: {entries} entries, in parts of {length}")?;
+    let heading = format!(in alloc;
+        "A run of {cpus} CPUs: {entries} entries, in parts of {length}"
+    )?;
     let mut picture = Picture::new(alloc, width, height, heading.as_str())?;
     put_hatchings(&mut picture, objects)?;
     put_rows(alloc, &mut picture, cpus)?;

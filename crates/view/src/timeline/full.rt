@@ -11,10 +11,12 @@ use std::alloc::{AllocError, Global};
 
 /// Where the boxes begin.
 const LEFT: usize = 76;
+
 const TOP: usize = 64;
 
 /// How high a row and a box are.
 const ROW: usize = 36;
+
 const BOX: usize = 26;
 
 /// The least width of a picture.
@@ -106,7 +108,13 @@ fn put_rows(
         let middle = row_top(cpu).saturating_add(ROW / 2);
         picture.level(LEFT, end, middle)?;
         let words = format!(in alloc; "CPU {cpu}")?;
-        picture.words(16, middle.saturating_add(5), Anchor::Start, INK, words.as_str())?;
+        picture.words(
+            16,
+            middle.saturating_add(5),
+            Anchor::Start,
+            INK,
+            words.as_str(),
+        )?;
     }
     Ok(())
 }
@@ -128,7 +136,10 @@ fn put_entry(
     names: (&str, usize),
 ) -> Result<(), AllocError> {
     let (name, free_from) = names;
-    let (x, y) = (scale.start(number), row_top(place.cpu).saturating_add((ROW - BOX) / 2));
+    let (x, y) = (
+        scale.start(number),
+        row_top(place.cpu).saturating_add((ROW - BOX) / 2),
+    );
     let object = entry.object as usize;
     let (colour, ink) = colours_of(object);
     let tail = tail_length(entry.looks, x.saturating_sub(free_from));
@@ -153,8 +164,9 @@ fn put_entry(
         place.cpu,
         entry.looks,
     );
-    let told =
-        format!(in alloc; "{order}: CPU {cpu}, entry {own}, on {name}, looks {looks}: {done}")?;
+    let told = format!(in alloc;
+        "{order}: CPU {cpu}, entry {own}, on {name}, looks {looks}: {done}"
+    )?;
     picture.told_area(area, fill.as_str(), told.as_str())?;
     if scale.labelled {
         let label = label_of(alloc, done.as_str())?;
@@ -202,7 +214,10 @@ pub fn draw_full(alloc: Global, record: &Record, places: &[Place]) -> Result<Str
     let settings = record.settings();
     let (cpus, objects) = (settings.cpus() as usize, settings.objects().len());
     let scale = Scale::of(places.len());
-    let width = scale.start(places.len()).saturating_add(24).max(LEAST_WIDTH);
+    let width = scale
+        .start(places.len())
+        .saturating_add(24)
+        .max(LEAST_WIDTH);
     let legend_top = row_top(cpus).saturating_add(20);
     let height = legend_top.saturating_add(legend_height(width, objects, SIGNS.len()));
     let entries = places.len();

@@ -10,9 +10,13 @@ use std::alloc::{AllocError, Global};
 
 /// Where the boxes begin, how large they are, and how far apart.
 const LEFT: usize = 32;
+
 const TOP: usize = 52;
+
 const WIDTH: usize = 900;
+
 const BOX: usize = 30;
+
 const PITCH: usize = 66;
 
 const SIGNS: [&str; 2] = [
@@ -91,7 +95,10 @@ fn put_arrows(picture: &mut Picture, entries: usize) -> Result<(), AllocError> {
             "has to come behind",
         )?;
     }
-    let last = entries.saturating_sub(1).saturating_mul(PITCH).saturating_add(TOP + BOX / 2);
+    let last = entries
+        .saturating_sub(1)
+        .saturating_mul(PITCH)
+        .saturating_add(TOP + BOX / 2);
     picture.arrow_back(LEFT + WIDTH, LEFT + WIDTH + 36, last, TOP + BOX / 2)
 }
 

@@ -10,6 +10,7 @@ use word_rule::LockKind;
 
 /// How wide an item is, and how high.
 const ITEM_WIDTH: usize = 290;
+
 const ITEM_HEIGHT: usize = 24;
 
 /// How many items stand side by side.
@@ -53,8 +54,12 @@ pub fn put_legend(
 ) -> Result<(), AllocError> {
     let columns = columns_in(width);
     for (number, object) in settings.objects().iter().enumerate() {
-        let x = (number % columns).saturating_mul(ITEM_WIDTH).saturating_add(16);
-        let y = (number / columns).saturating_mul(ITEM_HEIGHT).saturating_add(top);
+        let x = (number % columns)
+            .saturating_mul(ITEM_WIDTH)
+            .saturating_add(16);
+        let y = (number / columns)
+            .saturating_mul(ITEM_HEIGHT)
+            .saturating_add(top);
         let (colour, _) = colours_of(number);
         let area = Area {
             x,
@@ -80,7 +85,9 @@ pub fn put_legend(
     let rows = settings.objects().len().saturating_sub(1) / columns;
     put_signs(
         picture,
-        rows.saturating_add(1).saturating_mul(ITEM_HEIGHT).saturating_add(top),
+        rows.saturating_add(1)
+            .saturating_mul(ITEM_HEIGHT)
+            .saturating_add(top),
         signs,
     )
 }
@@ -88,7 +95,10 @@ pub fn put_legend(
 /// Puts a line for each sign.
 fn put_signs(picture: &mut Picture, top: usize, signs: &[&str]) -> Result<(), AllocError> {
     for (number, sign) in signs.iter().enumerate() {
-        let y = number.saturating_mul(ITEM_HEIGHT).saturating_add(top).saturating_add(13);
+        let y = number
+            .saturating_mul(ITEM_HEIGHT)
+            .saturating_add(top)
+            .saturating_add(13);
         picture.words(16, y, Anchor::Start, GREY, sign)?;
     }
     Ok(())

@@ -25,10 +25,22 @@ fn a_box_for_each_entry(rt: HostRuntime) -> Result<(), Fail> {
 fn a_cycle_with_its_arrows(rt: HostRuntime) -> Result<(), Fail> {
     let (status, out, _) = answer(&rt, "timeline cycle", "")?;
     assert!(rt; status == 0);
-    assert!(rt; out.contains("A cycle of 2 entries: this record has no order"), "{out}");
-    assert!(rt; out.contains("CPU 0, entry 1, on b: len = count 0"), "{out}");
-    assert!(rt; out.contains("CPU 1, entry 1, on a: len = count 0"), "{out}");
-    assert!(rt; count_of(out.as_str(), "has to come behind</text>") == 1, "{out}");
+    assert!(rt;
+        out.contains("A cycle of 2 entries: this record has no order"),
+        "{out}"
+    );
+    assert!(rt;
+        out.contains("CPU 0, entry 1, on b: len = count 0"),
+        "{out}"
+    );
+    assert!(rt;
+        out.contains("CPU 1, entry 1, on a: len = count 0"),
+        "{out}"
+    );
+    assert!(rt;
+        count_of(out.as_str(), "has to come behind</text>") == 1,
+        "{out}"
+    );
     Ok(())
 }
 
@@ -36,7 +48,10 @@ fn a_cycle_with_its_arrows(rt: HostRuntime) -> Result<(), Fail> {
 fn a_fault_in_its_frame(rt: HostRuntime) -> Result<(), Fail> {
     let (status, out, _) = answer(&rt, "timeline unsound", "")?;
     assert!(rt; status == 0);
-    assert!(rt; out.contains("unsound: log q0 event 2 step 1: wrong step"), "{out}");
+    assert!(rt;
+        out.contains("unsound: log q0 event 2 step 1: wrong step"),
+        "{out}"
+    );
     assert!(rt; out.contains("by CPU 1"), "{out}");
     assert!(rt; count_of(out.as_str(), "stroke=\"#cf222e\"") == 1, "{out}");
     Ok(())
@@ -51,10 +66,19 @@ fn a_trace_that_is_json(rt: HostRuntime) -> Result<(), Fail> {
         return Ok(());
     };
     let last = value.pointer("/traceEvents/4");
-    let name = last.and_then(|event| event.get("name")).and_then(Value::as_str);
-    let at = last.and_then(|event| event.get("ts")).and_then(Value::as_u64);
-    let looks = last.and_then(|event| event.pointer("/args/looks")).and_then(Value::as_u64);
-    assert!(rt; name == Some("enq 4 = ok") && at == Some(1) && looks == Some(3), "{out}");
+    let name = last
+        .and_then(|event| event.get("name"))
+        .and_then(Value::as_str);
+    let at = last
+        .and_then(|event| event.get("ts"))
+        .and_then(Value::as_u64);
+    let looks = last
+        .and_then(|event| event.pointer("/args/looks"))
+        .and_then(Value::as_u64);
+    assert!(rt;
+        name == Some("enq 4 = ok") && at == Some(1) && looks == Some(3),
+        "{out}"
+    );
     assert!(rt; value.pointer("/traceEvents/5").is_none(), "{out}");
     Ok(())
 }

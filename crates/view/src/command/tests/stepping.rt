@@ -56,7 +56,10 @@ fn lines_that_are_objects(rt: HostRuntime) -> Result<(), Fail> {
     let third =
         "\n{\"step\":3,\"cpu\":1,\"object\":\"q0\",\"kind\":\"look\",\"outcome\":\"in vain\",\"next\":2,\"serving\":0}\n";
     assert!(rt; out.contains(third), "{out}");
-    assert!(rt; out.ends_with("\n{\"step\":8,\"cpu\":0,\"kind\":\"idle\"}\n"), "{out}");
+    assert!(rt;
+        out.ends_with("\n{\"step\":8,\"cpu\":0,\"kind\":\"idle\"}\n"),
+        "{out}"
+    );
     Ok(())
 }
 

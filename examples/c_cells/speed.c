@@ -1,0 +1,164 @@
+/* use: speed KIND THREADS CALLS
+
+   THREADS threads call one queue of 8 threads CALLS times each, `enq` and `deq` in turn, and each call is an event of a log.
+   Prints the nanoseconds from the first thread's start to the last one's end.
+
+   KIND  cell-ticket, cell-mcs: a cell of crates/cells, by the loops of mc2_cells.h
+         mutex: a queue in C with a log, the least that one would write, behind a pthread_mutex_t
+         ck-ticket, ck-mcs: the same queue behind a lock of Concurrency Kit, with WITH_CK
+
+   Status: 0; 1 if a call is told what it can't be; 2 for wrong words. */
+#include "mc2_cells.h"
+#include <pthread.h>
+#include <time.h>
+#ifdef WITH_CK
+#include <ck_spinlock.h>
+#endif
+
+enum { MOST_THREADS = 8, QUEUE = 8 };
+
+/* ---- the baseline: a queue with its log */
+
+struct event { uint32_t cpu; struct mc2_call call; struct mc2_reply reply; };
+
+static struct {
+    uint32_t ring[QUEUE], first, count;
+    unsigned char in[QUEUE];
+    struct event log[MC2_MOST_EVENTS];
+    size_t events;
+} plain;
+
+static struct mc2_reply queue_call(const struct mc2_call *call) {
+    struct mc2_reply reply = {MC2_OK, 0};
+    uint32_t thread = call->first;
+    if (call->word == MC2_DEQ) {
+        if (plain.count == 0) {
+            reply.word = MC2_EMPTY;
+            return reply;
+        }
+        reply.word = MC2_THREAD;
+        reply.number = plain.ring[plain.first];
+        plain.first = (plain.first + 1) % QUEUE;
+        plain.count--;
+        plain.in[reply.number] = 0;
+    } else if (thread >= QUEUE) {
+        reply.word = MC2_BADTHREAD;
+    } else if (plain.in[thread]) {
+        reply.word = MC2_ALREADY;
+    } else {
+        plain.ring[(plain.first + plain.count++) % QUEUE] = thread;
+        plain.in[thread] = 1;
+    }
+    return reply;
+}
+
+static void call_plain(uint32_t cpu, const struct mc2_call *call, struct mc2_reply *reply) {
+    *reply = queue_call(call);
+    plain.log[plain.events++] = (struct event){cpu, *call, *reply};
+}
+
+/* ---- the kinds */
+
+static struct mc2_cell cell;
+static struct mc2_caller callers[MOST_THREADS];
+static pthread_mutex_t mutex = PTHREAD_MUTEX_INITIALIZER;
+#ifdef WITH_CK
+static ck_spinlock_ticket_t ck_ticket = CK_SPINLOCK_TICKET_INITIALIZER;
+static ck_spinlock_mcs_t ck_mcs = CK_SPINLOCK_MCS_INITIALIZER;
+#endif
+
+typedef int (*caller_t)(uint32_t cpu, const struct mc2_call *call, struct mc2_reply *reply);
+
+static int by_cell(uint32_t cpu, const struct mc2_call *call, struct mc2_reply *reply) {
+    uint64_t looks;
+    return mc2_cell_call(&callers[cpu], call, reply, &looks) == MC2_CELL_DONE;
+}
+
+static int by_mutex(uint32_t cpu, const struct mc2_call *call, struct mc2_reply *reply) {
+    pthread_mutex_lock(&mutex);
+    call_plain(cpu, call, reply);
+    pthread_mutex_unlock(&mutex);
+    return 1;
+}
+
+#ifdef WITH_CK
+static int by_ck_ticket(uint32_t cpu, const struct mc2_call *call, struct mc2_reply *reply) {
+    ck_spinlock_ticket_lock(&ck_ticket);
+    call_plain(cpu, call, reply);
+    ck_spinlock_ticket_unlock(&ck_ticket);
+    return 1;
+}
+
+static int by_ck_mcs(uint32_t cpu, const struct mc2_call *call, struct mc2_reply *reply) {
+    ck_spinlock_mcs_context_t context;
+    ck_spinlock_mcs_lock(&ck_mcs, &context);
+    call_plain(cpu, call, reply);
+    ck_spinlock_mcs_unlock(&ck_mcs, &context);
+    return 1;
+}
+#endif
+
+static const struct { const char *name; caller_t call; int lock; } KINDS[] = {
+    {"cell-ticket", by_cell, MC2_TICKET}, {"cell-mcs", by_cell, MC2_MCS}, {"mutex", by_mutex, -1},
+#ifdef WITH_CK
+    {"ck-ticket", by_ck_ticket, -1}, {"ck-mcs", by_ck_mcs, -1},
+#endif
+};
+
+/* ---- the run */
+
+static caller_t call;
+static long calls;
+static pthread_barrier_t start;
+
+static void *work(void *given) {
+    uint32_t cpu = (uint32_t)(size_t)given;
+    pthread_barrier_wait(&start);
+    for (long at = 0; at < calls; at++) {
+        struct mc2_call asked = mc2_ask(at % 2 ? MC2_DEQ : MC2_ENQ, at % 2 ? 0 : cpu, 0);
+        struct mc2_reply reply;
+        if (!call(cpu, &asked, &reply))
+            exit(1);
+    }
+    return NULL;
+}
+
+static void open_cell(int lock, uint32_t threads) {
+    struct mc2_object object = {"shared", MC2_QUEUE, (uint32_t)lock, MC2_MOST_EVENTS, QUEUE, 0, NULL};
+    if (mc2_cell_open(&cell, &object, threads) != MC2_CELL_DONE)
+        exit(1);
+    for (uint32_t cpu = threads; cpu-- > 0;)
+        if (mc2_caller_open(&cell, &callers[cpu]) != MC2_CELL_DONE)
+            exit(1);
+}
+
+static long long now(void) {
+    struct timespec time;
+    clock_gettime(CLOCK_MONOTONIC, &time);
+    return time.tv_sec * 1000000000LL + time.tv_nsec;
+}
+
+int main(int count, char **words) {
+    size_t kind = 0, kinds = sizeof KINDS / sizeof *KINDS;
+    while (count > 3 && kind < kinds && strcmp(words[1], KINDS[kind].name) != 0)
+        kind++;
+    long threads = count > 3 ? atol(words[2]) : 0;
+    calls = count > 3 ? atol(words[3]) : 0;
+    if (count != 4 || kind == kinds || threads < 1 || threads > MOST_THREADS || calls < 1 || threads * calls > MC2_MOST_EVENTS)
+        return 2;
+    call = KINDS[kind].call;
+    if (KINDS[kind].lock >= 0)
+        open_cell(KINDS[kind].lock, (uint32_t)threads);
+    memset(plain.log, 1, sizeof plain.log);
+    pthread_t started[MOST_THREADS];
+    pthread_barrier_init(&start, NULL, (unsigned)threads + 1);
+    for (long at = 0; at < threads; at++)
+        if (pthread_create(&started[at], NULL, work, (void *)(size_t)at) != 0)
+            return 1;
+    long long began = now();
+    pthread_barrier_wait(&start);
+    for (long at = 0; at < threads; at++)
+        pthread_join(started[at], NULL);
+    printf("%lld\n", now() - began);
+    return 0;
+}
