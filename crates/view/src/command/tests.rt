@@ -242,7 +242,7 @@ fn sinks_that_fail(rt: HostRuntime) -> Result<(), Fail> {
         let (status, _) = told(&rt, "timeline record", "", &mut out, &mut faults)?;
         assert!(rt; status == 3 && out.inner.calls == 0, "{calls}");
         assert!(rt;
-            faults.inner.as_slice() == b"view: E13 write failed\n",
+            faults.inner.as_slice() == b"view: E13 write failed\n".as_slice(),
             "{calls}"
         );
     }
