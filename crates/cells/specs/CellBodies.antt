@@ -2,12 +2,13 @@
 use Rattle.std.specs.Prelude.{◌≡◌, ℕ, Bool, true, false, Option, Some, None, Result, Ok, Err}
 use Rattle.std_alloc.specs.Arc.{arc_value}
 use Rattle.cells.specs.declared.body.Body.{Body}
-use Rattle.cells.specs.declared.body.Body.TheVariants.{Empty, Cell, Ended}
+use Rattle.cells.specs.declared.body.Body.TheVariants.{Empty, Cell, Caller, Ended}
 use Rattle.cells.specs.declared.opening.Opening.{Opening}
 use Rattle.cells.specs.declared.opening.NotOpened.{NotOpened}
 use Rattle.cells.specs.declared.logged_step.LoggedStep.{LoggedStep}
 use Rattle.cells.specs.Bodies.{KernelCaller}
 use Rattle.cells.specs.LoggedSteps.{step_told}
+use Rattle.cells.specs.Positions.{is_idle}
 use Rattle.cells.specs.Ends.{IsSame, IsDealt, IsGivenBack, HasClosed}
 use Rattle.cells.specs.Openings.{IsOpened}
 
@@ -43,3 +44,8 @@ IsClosedBy before false after = after ≡ before
 abbrev pub step_of : Body → ℕ → ℕ → Option LoggedStep
 step_of (Ended h) i j = step_told h.log i j
 step_of before i j = None
+
+-- all but a caller that isn't idle
+abbrev pub may_be_freed : Body → Bool
+may_be_freed (Caller c) = is_idle c.position
+may_be_freed body = true

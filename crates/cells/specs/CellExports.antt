@@ -1,5 +1,7 @@
 -- What each call from C on a cell does, and tells.
 use Rattle.std.specs.Prelude.{◌≡◌, ℕ, Bool, true, false, Option, Some, None, Result, Ok, Err}
+use Rattle.cells.specs.declared.exports.TheConstants.{REFUSED, DONE, NOT_THERE}
+use Rattle.cells.specs.declared.handles.TheConstants.{NO_MEMORY, BAD_OPENING}
 use Rattle.cells.specs.declared.body.Body.{Body}
 use Rattle.cells.specs.declared.body.Body.TheVariants.{Empty, Caller}
 use Rattle.cells.specs.declared.opening.Opening.{Opening}
@@ -7,13 +9,13 @@ use Rattle.cells.specs.declared.opening.NotOpened.{NotOpened}
 use Rattle.cells.specs.declared.opening.NotOpened.TheVariants.{NotEmpty, BadOpening, OutOfMemory}
 use Rattle.cells.specs.Bodies.{KernelCaller}
 use Rattle.cells.specs.declared.logged_step.LoggedStep.{LoggedStep}
-use Rattle.cells.specs.CellBodies.{IsOpenedBy, IsDealtBy, IsOwn, IsGivenBackTo, IsClosedBy, step_of}
+use Rattle.cells.specs.CellBodies.{IsOpenedBy, IsDealtBy, IsOwn, IsGivenBackTo, IsClosedBy, step_of, may_be_freed}
 
 abbrev pub told_opening : Result (Unit {0}) NotOpened → ℕ
-told_opening (Ok u) = 7
-told_opening (Err NotEmpty) = 5
-told_opening (Err OutOfMemory) = 10
-told_opening (Err BadOpening) = 11
+told_opening (Ok u) = DONE
+told_opening (Err NotEmpty) = REFUSED
+told_opening (Err OutOfMemory) = NO_MEMORY
+told_opening (Err BadOpening) = BAD_OPENING
 
 abbrev pub IsOpenTold : Body → Opening → ℕ → Body → Type 0
 IsOpenTold before o n after = (told : Result (Unit {0}) NotOpened) × (n ≡ told_opening told) × IsOpenedBy before o told after
@@ -25,11 +27,11 @@ body_from None = Empty
 
 -- nothing was done with a cell and a caller
 abbrev pub IsNoneTold : Body → Body → ℕ → Body → Body → Type 0
-IsNoneTold cell caller n cell' caller' = (n ≡ 5) × (cell' ≡ cell) × (caller' ≡ caller)
+IsNoneTold cell caller n cell' caller' = (n ≡ REFUSED) × (cell' ≡ cell) × (caller' ≡ caller)
 
 abbrev pub told_dealt : Option KernelCaller → ℕ
-told_dealt (Some c) = 7
-told_dealt None = 5
+told_dealt (Some c) = DONE
+told_dealt None = REFUSED
 
 -- what had nothing has a new caller of the cell, or all is as it was
 abbrev pub IsDealTold : Body → Body → ℕ → Body → Body → Type 0
@@ -42,8 +44,8 @@ owns_back cell (Caller c) = IsOwn cell c
 owns_back cell caller = Unit {0}
 
 abbrev pub told_back : Option KernelCaller → ℕ
-told_back (Some c) = 5
-told_back None = 7
+told_back (Some c) = REFUSED
+told_back None = DONE
 
 -- the caller was taken back, and has nothing then, or all is as it was
 abbrev pub IsBackTold : Body → Body → ℕ → Body → Body → Type 0
@@ -51,17 +53,25 @@ IsBackTold cell (Caller c) n cell' caller' = (told : Option KernelCaller) × (n 
 IsBackTold cell caller n cell' caller' = IsNoneTold cell caller n cell' caller'
 
 abbrev pub told_closed : Bool → ℕ
-told_closed true = 7
-told_closed false = 5
+told_closed true = DONE
+told_closed false = REFUSED
 
 -- the cell has ended, and has its log, or is as it was
 abbrev pub IsCloseTold : Body → ℕ → Body → Type 0
 IsCloseTold before n after = (told : Bool) × (n ≡ told_closed told) × IsClosedBy before told after
 
+-- a handle that is given to be freed is refused exactly if it has a caller that isn't idle
+abbrev pub told_freed : Bool → ℕ
+told_freed true = DONE
+told_freed false = REFUSED
+
+abbrev pub IsFreeTold : Body → ℕ → Type 0
+IsFreeTold body n = n ≡ told_freed (may_be_freed body)
+
 -- what is told of a step, which is written where there is one
 abbrev pub told_step : LoggedStep → Option LoggedStep → ℕ × LoggedStep
-told_step old (Some s) = (7, s)
-told_step old None = (9, old)
+told_step old (Some s) = (DONE, s)
+told_step old None = (NOT_THERE, old)
 
 abbrev pub IsStepTold : Body → ℕ → ℕ → LoggedStep → ℕ → Body → LoggedStep → Type 0
 IsStepTold before i j old n after new = ((n, new) ≡ told_step old (step_of before i j)) × (after ≡ before)

@@ -7,6 +7,7 @@ use Rattle.scripts.specs.declared.kernel_call.KReply.{KReply}
 use Rattle.cells.specs.declared.body.Body.{Body}
 use Rattle.cells.specs.declared.coding.Asked.{Asked}
 use Rattle.cells.specs.declared.coding.Answered.{Answered}
+use Rattle.cells.specs.declared.exports.TheConstants.{REFUSED, DONE, FULL, NOT_THERE}
 use Rattle.cells.specs.declared.handle.Handle.{Handle}
 use Rattle.cells.specs.declared.progress.Progress.{Progress}
 use Rattle.cells.specs.Bodies.{IsAdvanced, IsLeft, IsTriedBy, IsAppliedBy}
@@ -29,14 +30,14 @@ IsTryTold before n after = (told : Option Bool) × (n ≡ told_try told) × IsTr
 
 -- what is told of a call, and the answer, which is written where the call was done
 abbrev pub told_call : Answered → Option (Result KReply NoRoom) → ℕ × Answered
-told_call old (Some (Ok reply)) = (7, told_reply reply)
-told_call old (Some (Err full)) = (8, old)
-told_call old None = (5, old)
+told_call old (Some (Ok reply)) = (DONE, told_reply reply)
+told_call old (Some (Err full)) = (FULL, old)
+told_call old None = (REFUSED, old)
 
 -- a call of these numbers; where there is none, nothing is done
 abbrev pub IsCallOf : Option KCall → Body → Answered → ℕ → Body → Answered → Type 0
 IsCallOf (Some call) before old n after new = (told : Option (Result KReply NoRoom)) × ((n, new) ≡ told_call old told) × IsAppliedBy before call told after
-IsCallOf None before old n after new = (n ≡ 9) × (after ≡ before) × (new ≡ old)
+IsCallOf None before old n after new = (n ≡ NOT_THERE) × (after ≡ before) × (new ≡ old)
 
 abbrev pub IsCallTold : Body → Asked → Answered → ℕ → Body → Answered → Type 0
 IsCallTold before asked old n after new = IsCallOf (called_of asked) before old n after new

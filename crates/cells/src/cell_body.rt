@@ -1,7 +1,7 @@
 //! What is done with what a handle has, of cells.
 
 ghost use Rattle.std.specs.Prelude.{◌≡◌};
-ghost use Rattle.cells.specs.CellBodies.{IsOpenedBy, IsDealtBy, IsOwn, IsGivenBackTo, IsClosedBy, step_of};
+ghost use Rattle.cells.specs.CellBodies.{IsOpenedBy, IsDealtBy, IsOwn, IsGivenBackTo, IsClosedBy, step_of, may_be_freed};
 
 use crate::logged_step::{LoggedStep, step_at};
 use crate::opening::{NotOpened, Opening, open_cell};
@@ -74,7 +74,9 @@ impl Body {
     }
 
     /// Whether it may be dropped: all but a caller that isn't idle.
-    pub fn is_free(&self) -> bool {
+    pub fn is_free(&self) -> bool
+        ensures { result ≡ may_be_freed self.now }
+    {
         match self {
             Body::Caller(caller) => match &caller.position {
                 Position::Idle(_) => true,

@@ -74,3 +74,5 @@ pub(crate) fn with_body<X, R, F: FnOnce(Body, X) -> (Body, R)>(handle: &mut Hand
 {
     replace_with(handle, (x, f), |handle, (x, f)| in_handle(handle, x, f))
 }
+
+unsafe impl Send for Handle {}

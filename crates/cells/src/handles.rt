@@ -2,7 +2,7 @@
 
 ghost use Rattle.std.specs.Prelude.{◌≡◌};
 ghost use Rattle.cells.specs.Exports.{body_of};
-ghost use Rattle.cells.specs.CellExports.{IsOpenTold, IsDealTold, IsBackTold, IsCloseTold, IsStepTold, told_opening, owns_back};
+ghost use Rattle.cells.specs.CellExports.{IsOpenTold, IsDealTold, IsBackTold, IsCloseTold, IsFreeTold, IsStepTold, told_opening, owns_back};
 ghost use Rattle.cells.specs.declared.body.Body.TheVariants.{Empty};
 
 use crate::exports::{DONE, NOT_THERE, REFUSED};
@@ -73,7 +73,9 @@ pub extern "C" fn mc2_handle_new(alloc: Global, own: &mut *mut u8) -> u32 {
 
 /// Frees the handle with what it has, unless that is a caller that isn't idle.
 #[unsafe(no_mangle)]
-pub extern "C" fn mc2_handle_free(handle: Handle) -> u32 {
+pub extern "C" fn mc2_handle_free(handle: Handle) -> u32
+    ensures { IsFreeTold (body_of handle) result }
+{
     let block = handle.into_parts().into_box();
     if !(**block).is_free() {
         let kept = Handle::of_parts(Parts::of(block));

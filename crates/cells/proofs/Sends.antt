@@ -1,0 +1,114 @@
+-- What a handle has may go to another thread: an open cell, a caller wherever it stands, and the log of a cell that has ended.
+use denote.RattleType.{RattleType}
+use denote.Param.Send.{IsSend, IsSync, sendable, recorded_send, enum_send, struct_send}
+use denote.Enum.Declared.{shape}
+use denote.Struct.Declared.{shape as fields}
+use Rattle.std.proofs.Crossing.{crosses, Arc-send, Vec-send}
+use Rattle.std.specs.declared.cmp.PartialEq.{Ghosts as Compares}
+use Rattle.std.specs.declared.default.Default.{Ghosts as Defaults}
+use Rattle.std.below.core.specs.contracts.clone.Clone+copy.TheImpl.{ghosts as copied}
+use Rattle.core.proofs.mem.manually_drop.ManuallyDrop.TheSendSync as manual
+use Rattle.event_log.specs.declared.object.SeqObject.{Ghosts}
+use Rattle.event_log.proofs.logged.Logged.TheSendSync as logged
+use Rattle.atomic_table.proofs.shared.Seat.TheSendSync.{the_send as seat_send}
+use Rattle.scripts.specs.contracts.kernel_object.KernelObject as Object
+use Rattle.scripts.specs.contracts.kernel_call.KParams as Params
+use Rattle.scripts.specs.contracts.kernel_call.KCall as Call
+use Rattle.scripts.specs.contracts.kernel_call.KReply as Reply
+use Rattle.scripts.specs.contracts.kernel_object.KernelObjectSeqObject.TheImpl.{ghosts as kernel}
+use Rattle.scripts.specs.contracts.kernel_call.KCallEq.TheImpl.{ghosts as call_eq}
+use Rattle.scripts.specs.contracts.kernel_call.KCallPartialEq.TheImpl.{ghosts as call_compares}
+use Rattle.scripts.specs.contracts.kernel_call.KCallDefault.TheImpl.{ghosts as call_defaults}
+use Rattle.scripts.specs.contracts.kernel_call.KReplyEq.TheImpl.{ghosts as reply_eq}
+use Rattle.scripts.specs.contracts.kernel_call.KReplyPartialEq.TheImpl.{ghosts as reply_compares}
+use Rattle.scripts.specs.contracts.kernel_call.KReplyDefault.TheImpl.{ghosts as reply_defaults}
+use Rattle.scripts.proofs.kernel_object.KernelObject.TheSendSync.{the_send as object_send}
+use Rattle.scripts.proofs.kernel_call.KParams.TheSendSync.{the_send as params_send}
+use Rattle.scripts.proofs.kernel_call.KCall.TheSendSync.{the_send as call_send}
+use Rattle.scripts.proofs.kernel_call.KReply.TheSendSync.{the_send as reply_send}
+use Rattle.word_rule.specs.contracts.pass.Pass as Pass
+use Rattle.word_rule.specs.contracts.hold.Hold as Hold
+use Rattle.word_rule.proofs.cpu.Cpu.TheSendSync as cpu
+use Rattle.word_rule.proofs.lent.Lent.TheSendSync as lent
+use Rattle.word_rule.proofs.Sends.{slot_send, pass_send, pass_field_send}
+use Rattle.ticket_lock.specs.contracts.states.Drawn as Drawn
+use Rattle.mcs_lock.specs.contracts.states.Ready as Ready
+use Rattle.mcs_lock.specs.contracts.states.Behind as Behind
+use Rattle.mcs_lock.specs.contracts.states.Armed as Armed
+use Rattle.mcs_lock.specs.contracts.states.Waiting as Waiting
+use Rattle.mcs_lock.specs.contracts.states.Alone as Alone
+use Rattle.mcs_lock.specs.contracts.states.Leaving as Leaving
+use Rattle.mcs_lock.specs.contracts.states.Passing as Passing
+use Rattle.guarded_cell.specs.contracts.cell.AnyCell as AnyCell
+use Rattle.guarded_cell.proofs.cell.AnyCell.TheSendSync.{the_send as any_send, the_sync as any_sync}
+use Rattle.cells.specs.contracts.position.Position as Position
+use Rattle.cells.specs.contracts.caller.Caller as Caller
+use Rattle.cells.specs.contracts.open_cell.OpenCell as OpenCell
+use Rattle.cells.specs.contracts.body.Body as Body
+use Rattle.cells.specs.Handles.{row}
+
+-- a caller goes where its object, the object's parameters, calls and replies go
+module _ (O P C R : RattleType) (g : Ghosts O.Denot P.Denot C.Denot R.Denot) (ce : Compares C.Denot) (cd : Defaults C.Denot) (re : Compares R.Denot) (rd : Defaults R.Denot) (o : IsSend O) (p : IsSend P) (c : IsSend C) (r : IsSend R) where
+  drawn_send : IsSend (Drawn.the_field O P C R g ce cd re rd).row
+  drawn_send = struct_send (fields (Drawn.the_type O P C R g ce cd re rd)) (cpu.the_field_send, (search sendable, (search sendable, (search crosses, (seat_send _ _ (slot_send O P C R g ce cd re rd o p c r), tt)))))
+
+  ready_send : IsSend (Ready.the_field O P C R g ce cd re rd).row
+  ready_send = struct_send (fields (Ready.the_type O P C R g ce cd re rd)) (cpu.the_field_send, (search crosses, (seat_send _ _ (slot_send O P C R g ce cd re rd o p c r), tt)))
+
+  behind_send : IsSend (Behind.the_field O P C R g ce cd re rd).row
+  behind_send = struct_send (fields (Behind.the_type O P C R g ce cd re rd)) (cpu.the_field_send, (search sendable, (search crosses, (seat_send _ _ (slot_send O P C R g ce cd re rd o p c r), tt))))
+
+  armed_send : IsSend (Armed.the_field O P C R g ce cd re rd).row
+  armed_send = struct_send (fields (Armed.the_type O P C R g ce cd re rd)) (cpu.the_field_send, (search sendable, (search crosses, (seat_send _ _ (slot_send O P C R g ce cd re rd o p c r), tt))))
+
+  waiting_send : IsSend (Waiting.the_field O P C R g ce cd re rd).row
+  waiting_send = struct_send (fields (Waiting.the_type O P C R g ce cd re rd)) (cpu.the_field_send, (search crosses, (seat_send _ _ (slot_send O P C R g ce cd re rd o p c r), tt)))
+
+  hold_send : IsSend (Hold.the_field O P C R g ce cd re rd).row
+  hold_send = struct_send (fields (Hold.the_type O P C R g ce cd re rd)) (cpu.the_field_send, (search sendable, (logged.the_send O P C R g ce cd re rd o p c r, (lent.the_field_send, (search crosses, (seat_send _ _ (slot_send O P C R g ce cd re rd o p c r), tt))))))
+
+  alone_send : IsSend (Alone.the_field O P C R g ce cd re rd).row
+  alone_send = struct_send (fields (Alone.the_type O P C R g ce cd re rd)) (cpu.the_field_send, (logged.the_send O P C R g ce cd re rd o p c r, (lent.the_field_send, (search crosses, (seat_send _ _ (slot_send O P C R g ce cd re rd o p c r), tt)))))
+
+  leaving_send : IsSend (Leaving.the_field O P C R g ce cd re rd).row
+  leaving_send = struct_send (fields (Leaving.the_type O P C R g ce cd re rd)) (cpu.the_field_send, (logged.the_send O P C R g ce cd re rd o p c r, (lent.the_field_send, (search crosses, (seat_send _ _ (slot_send O P C R g ce cd re rd o p c r), tt)))))
+
+  passing_send : IsSend (Passing.the_field O P C R g ce cd re rd).row
+  passing_send = struct_send (fields (Passing.the_type O P C R g ce cd re rd)) (cpu.the_field_send, (search sendable, (logged.the_send O P C R g ce cd re rd o p c r, (lent.the_field_send, (search crosses, (seat_send _ _ (slot_send O P C R g ce cd re rd o p c r), tt))))))
+
+  position_send : IsSend (Position.the_field O P C R g ce cd re rd).row
+  position_send = enum_send (shape (Position.the_type O P C R g ce cd re rd))
+      ((pass_field_send O P C R g ce cd re rd o p c r, tt), ((drawn_send, tt), ((ready_send, tt), ((behind_send, tt), ((armed_send, tt), ((waiting_send, tt), ((hold_send, tt), ((alone_send, tt), ((leaving_send, tt), ((passing_send, tt), tt))))))))))
+
+-- a cell around an object of the kernel, and its passes
+abbrev cell : RattleType
+cell = AnyCell.the_row Object.the_row Params.the_row Call.the_row Reply.the_row kernel (copied Call.the_row) call_eq call_compares call_defaults (copied Reply.the_row) reply_eq reply_compares reply_defaults
+
+cell_send : IsSend cell
+cell_send = any_send Object.the_row Params.the_row Call.the_row Reply.the_row kernel (copied Call.the_row) call_eq call_compares call_defaults (copied Reply.the_row) reply_eq reply_compares reply_defaults object_send params_send call_send reply_send
+
+cell_sync : IsSync cell
+cell_sync = any_sync Object.the_row Params.the_row Call.the_row Reply.the_row kernel (copied Call.the_row) call_eq call_compares call_defaults (copied Reply.the_row) reply_eq reply_compares reply_defaults object_send params_send call_send reply_send
+
+abbrev pass : RattleType
+pass = Pass.the_row Object.the_row Params.the_row Call.the_row Reply.the_row kernel call_compares call_defaults reply_compares reply_defaults
+
+kernel_pass_send : IsSend pass
+kernel_pass_send = pass_send Object.the_row Params.the_row Call.the_row Reply.the_row kernel call_compares call_defaults reply_compares reply_defaults object_send params_send call_send reply_send
+
+caller_send : IsSend (Caller.the_field Object.the_row Params.the_row Call.the_row Reply.the_row kernel call_compares call_defaults reply_compares reply_defaults (copied Call.the_row) call_eq (copied Reply.the_row) reply_eq).row
+caller_send = struct_send (fields (Caller.the_type Object.the_row Params.the_row Call.the_row Reply.the_row kernel call_compares call_defaults reply_compares reply_defaults (copied Call.the_row) call_eq (copied Reply.the_row) reply_eq))
+    (Arc-send cell cell_send cell_sync, (position_send Object.the_row Params.the_row Call.the_row Reply.the_row kernel call_compares call_defaults reply_compares reply_defaults object_send params_send call_send reply_send, tt))
+
+open_cell_send : IsSend (OpenCell.the_field Object.the_row Params.the_row Call.the_row Reply.the_row kernel call_compares call_defaults reply_compares reply_defaults (copied Call.the_row) call_eq (copied Reply.the_row) reply_eq).row
+open_cell_send = struct_send (fields (OpenCell.the_type Object.the_row Params.the_row Call.the_row Reply.the_row kernel call_compares call_defaults reply_compares reply_defaults (copied Call.the_row) call_eq (copied Reply.the_row) reply_eq))
+    (Arc-send cell cell_send cell_sync, (Vec-send pass kernel_pass_send, (search (sendable, kernel_pass_send) depth 40, (search sendable, (search sendable, tt)))))
+
+-- what a handle has
+body_send : IsSend Body.the_row
+body_send = recorded_send _ _ _ Body.the_type.to_one (enum_send (shape Body.the_type)
+    (tt, ((open_cell_send, tt), ((caller_send, tt), ((logged.the_send Object.the_row Params.the_row Call.the_row Reply.the_row kernel call_compares call_defaults reply_compares reply_defaults object_send params_send call_send reply_send, tt), tt)))))
+
+-- that is kept from being dropped
+pub row_send : IsSend row
+row_send = manual.the_send Body.the_row body_send
