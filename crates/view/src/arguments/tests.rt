@@ -113,8 +113,8 @@ fn is_help(asked: &Result<Asked<'_>, Fault>, part: &str) -> bool {
 #[test]
 fn help_and_version(rt: HostRuntime) -> Result<(), Fail> {
     let rows = [
-        ("--help", "Usage: <COMMAND>"),
-        ("-h", "Usage: <COMMAND>"),
+        ("--help", "<COMMAND>"),
+        ("-h", "<COMMAND>"),
         ("--version", "view 1"),
         ("-V", "view 1"),
         ("steps --help", "--json"),
