@@ -36,15 +36,13 @@ impl From<OutOfMemory> for RandomFault {
     }
 }
 
-/// How often another CPU is drawn for one that has just looked in vain, which can seldom go on.
-const REDRAWS: usize = 8;
-
 const CPUS: usize = MOST_CPUS as usize;
 
 /// Which CPUs have looked in vain by their last step.
 type InVain = [bool; CPUS];
 
-/// A CPU whose script isn't done, if there is one.
+/// A CPU whose script isn't done, if there is one. One that has just looked in vain can seldom go on: then another is drawn, at
+/// most as often as there are other CPUs.
 fn drawn(
     random: &mut Random,
     watched: &Watched<'_, KernelObject>,
@@ -55,7 +53,7 @@ fn drawn(
     ensures none { IfNone result ((w : KernelWorld) → Watches ⟦<KernelObject as SeqObject>⟧ watched.now w → AllByRecursion (λ c. c.todo ≡ []) w.cpus) }
 {
     let mut cpu = watched.next_busy(random.up_to(last))?;
-    for _ in 0..REDRAWS {
+    for _ in 0..last {
         match in_vain.get(cpu as usize) {
             Some(true) => cpu = watched.next_busy(random.up_to(last))?,
             _ => break,
