@@ -4,8 +4,8 @@ use Rattle.std.specs.declared.default.Default.{Ghosts as Default}
 use Rattle.std.specs.Prelude.{◌≡◌, ◌⊎◌, true, false, Option, Some, None}
 use Rattle.event_log.specs.declared.object.SeqObject.{Ghosts}
 use Rattle.word_rule.specs.CallerState.{CallerState}
-use Rattle.word_rule.specs.TicketSteps.{IsDraw, IsLook, IsServe}
-use Rattle.word_rule.specs.McsSteps.{IsClear, IsEnter, IsArm, IsLink, IsWaitingLook, IsSee, IsSeeAgain, IsEmpty, IsPass}
+use Rattle.word_rule.specs.Ticket.Steps.{IsDraw, IsLook, IsServe}
+use Rattle.word_rule.specs.Mcs.Steps.{IsClear, IsEnter, IsArm, IsLink, IsWaitingLook, IsSee, IsSeeAgain, IsEmpty, IsPass}
 use Rattle.guarded_cell.specs.declared.cell.AnyCell.{AnyCell}
 use Rattle.guarded_cell.specs.declared.cell.AnyCell.TheVariants as cells
 use Rattle.cells.specs.declared.position.Position.{Position}

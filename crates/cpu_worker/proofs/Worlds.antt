@@ -12,8 +12,8 @@ use Rattle.event_log.specs.declared.entry.Todo.{Todo}
 use Rattle.event_log.specs.Entries.{asked_of}
 use Rattle.word_rule.proofs.Slices.{get_set_same, get_set_other}
 use Rattle.word_rule.specs.declared.machine.step_done.StepDone.{StepDone}
-use Rattle.word_rule.specs.Locks.{Lock}
-use Rattle.word_rule.specs.Turns.{turn, ends_hold, is_look}
+use Rattle.word_rule.specs.Locks.{Lock, turn}
+use Rattle.word_rule.specs.StepKinds.{ends_hold, is_look}
 use Rattle.word_rule.specs.Machine.World.{World, CellState, CpuState, counted, entry_of, finished, cpu_after, outcome, world_after, step_on, step_of, step_by, step, run}
 
 looks_fit : (looks : ℕ) (s : StepDone) → looks < 2 ^ 64 → counted looks s < 2 ^ 64

@@ -11,10 +11,10 @@ use Rattle.word_rule.specs.declared.machine.step_done.StepDone.{StepDone}
 use Rattle.word_rule.specs.declared.machine.step_done.StepDone.TheVariants as steps
 use Rattle.word_rule.specs.declared.stage.Stage.{Stage}
 use Rattle.word_rule.specs.declared.view.Moment.{Moment}
-use Rattle.word_rule.specs.Line.{holding}
+use Rattle.word_rule.specs.Locks.{holding}
 use Rattle.word_rule.specs.LockRuns.{Extends, events_in}
 use Rattle.word_rule.specs.OneHold.{gets_object, silently, Releases, HasAcquired}
-use Rattle.word_rule.specs.Turns.{arrives, ends_hold, is_look}
+use Rattle.word_rule.specs.StepKinds.{arrives, ends_hold, is_look}
 use Rattle.word_rule.specs.declared.stage.Stage.TheVariants.{Idle, Mcs, Trying}
 use Rattle.word_rule.specs.declared.stage.McsStage.TheVariants.{Ready, Behind, Armed, Waiting, Holding, Alone, Leaving, Passing}
 use Rattle.word_rule.specs.Cell.{Cell, Caller as CallerOf, HoldView, Grows, OwnsAll}

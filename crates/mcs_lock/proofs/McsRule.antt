@@ -24,14 +24,18 @@ use Rattle.word_rule.specs.Cell.{Cell, Lawful, stored}
 use Rattle.word_rule.specs.Rule.CellInvariant.{GhostState, Caller, EachFrom, Viewed, Table, CallerInvariant, CellInvariant}
 use Rattle.word_rule.specs.OneHold.{leaving, silently}
 use Rattle.word_rule.specs.Rule.Definition.{GoesOn, IsTurn, IsTry, IsReadying}
-use Rattle.word_rule.specs.Line.{holding}
-use Rattle.word_rule.specs.Locks.{Lock, follower, going, taking}
+use Rattle.word_rule.specs.Locks.{holding, Lock, ready, attempt, turn}
+use Rattle.word_rule.specs.Mcs.State.{follower}
+use Rattle.word_rule.specs.Line.{going, taking}
 use Rattle.word_rule.specs.Rule.LockStates.{IsLockOf}
 use Rattle.word_rule.specs.Rule.Seats.{Seat, moved_on, settled}
 use Rattle.word_rule.specs.Rule.Announced.{any_has, Lacks, IsElse, Goes, Gets, Returns}
 use Rattle.word_rule.specs.Rule.Callers.{AddedBy}
-use Rattle.word_rule.specs.Tries.{taken_by, ready, attempt}
-use Rattle.word_rule.specs.Turns.{turn, clear, enter, arm, link, see, pass, mcs_turn, ends_hold}
+use Rattle.word_rule.specs.Tries.{taken_by}
+use Rattle.word_rule.specs.Mcs.Acquire.{clear, enter, arm, link}
+use Rattle.word_rule.specs.Mcs.Release.{see, pass}
+use Rattle.word_rule.specs.Mcs.Definition.{mcs_turn}
+use Rattle.word_rule.specs.StepKinds.{ends_hold}
 use Rattle.word_rule.proofs.Known.{AllIdle, goes, gets, returns, someone_else, lacks}
 use Rattle.word_rule.proofs.Lists.{has_at}
 use Rattle.word_rule.proofs.LockLaws.{stands_at, in_cell, idle_outside, one_holds}

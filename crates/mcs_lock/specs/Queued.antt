@@ -7,7 +7,7 @@ use Rattle.word_rule.specs.declared.view.Moment.{Moment}
 use Rattle.word_rule.specs.CallerState.{CallerState}
 use Rattle.word_rule.specs.LockRuns.{Extends, events_in}
 use Rattle.word_rule.specs.OneHold.{gets_object, how_many, looks_in, silently}
-use Rattle.word_rule.specs.Turns.{arrives, ends_hold, is_look}
+use Rattle.word_rule.specs.StepKinds.{arrives, ends_hold, is_look}
 
 module _ {O P C R : Type 0} where
   -- one that was behind another gets the object by a look, after steps by which it doesn't get it, nor arrives or ends a hold

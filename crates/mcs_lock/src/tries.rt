@@ -4,7 +4,7 @@ ghost use Rattle.std.specs.Prelude.{◌≡◌, ◌≤◌, ℕ, [], true, false, 
 ghost use Rattle.word_rule.specs.Answered.{IsBusy};
 ghost use Rattle.word_rule.specs.Cell.{Grows};
 ghost use Rattle.word_rule.specs.LockRuns.{Extends};
-ghost use Rattle.word_rule.specs.McsSteps.{IsReady, IsTryEnter};
+ghost use Rattle.word_rule.specs.Mcs.Steps.{IsReady, IsTryEnter};
 ghost use Rattle.word_rule.specs.OneHold.{HasAcquired};
 ghost use Rattle.word_rule.specs.Passes.{view_of_pass, view_of_hold, run_of_pass, run_of_hold, state_of_pass, state_of_hold};
 ghost use Rattle.mcs_lock.specs.Passes.{IsPassOf, IsTryingOf, IsHoldOf, state_of_trying};

@@ -3,7 +3,7 @@
 ghost use Rattle.std.specs.Prelude.{◌≡◌, true, []};
 ghost use Rattle.word_rule.specs.Cell.{Grows, OwnTogether};
 ghost use Rattle.word_rule.specs.LockRuns.{Extends};
-ghost use Rattle.word_rule.specs.McsSteps.{IsWaitingLook, IsPass, IsSeeAgain};
+ghost use Rattle.word_rule.specs.Mcs.Steps.{IsWaitingLook, IsPass, IsSeeAgain};
 ghost use Rattle.word_rule.specs.OneHold.{HasAcquired, HasReleased};
 ghost use Rattle.mcs_lock.specs.Queued.{IsQueued, IsSeen};
 ghost use Rattle.mcs_lock.specs.Passes.{IsPassOf, IsBehindOf, IsWaitingOf, IsHoldOf, IsLeavingOf, IsPassingOf, view_of_behind, view_of_waiting, view_of_leaving, view_of_passing, state_of_behind, state_of_waiting, state_of_leaving, state_of_passing};

@@ -7,11 +7,11 @@ use Rattle.word_rule.specs.declared.machine.step_done.StepDone.TheVariants as st
 use Rattle.word_rule.specs.declared.stage.Stage.TheVariants.{Idle, Ticket}
 use Rattle.word_rule.specs.declared.stage.TicketStage.TheVariants.{Drawn, Served}
 use Rattle.word_rule.specs.Cell.{Cell}
-use Rattle.word_rule.specs.Locks.{tickets}
+use Rattle.word_rule.specs.Ticket.State.{tickets}
 use Rattle.word_rule.specs.Rule.Callers.{caller_of}
 use Rattle.word_rule.specs.Rule.Seats.{Seat, noted}
 use Rattle.word_rule.specs.Rule.Announced.{Lacks, Goes, Lags, Gets, Returns}
-use Rattle.word_rule.specs.TicketSteps.{HasDrawn}
+use Rattle.word_rule.specs.Ticket.Steps.{HasDrawn}
 
 module _ {O P C R : Type 0} where
   -- the caller keeps the word that was found; where its halves differ the seat doesn't have every number

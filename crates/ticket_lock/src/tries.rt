@@ -5,7 +5,7 @@ ghost use Rattle.word_rule.specs.Answered.{IsBusy};
 ghost use Rattle.word_rule.specs.Cell.{Grows};
 ghost use Rattle.word_rule.specs.LockRuns.{Extends};
 ghost use Rattle.word_rule.specs.OneHold.{HasAcquired};
-ghost use Rattle.word_rule.specs.TicketSteps.{IsTry};
+ghost use Rattle.word_rule.specs.Ticket.Steps.{IsTry};
 ghost use Rattle.word_rule.specs.Passes.{view_of_pass, view_of_hold, run_of_pass, run_of_hold, state_of_pass, state_of_hold};
 ghost use Rattle.ticket_lock.specs.Passes.{IsPassOf, IsTryingOf, IsHoldOf, view_of_trying, state_of_trying};
 

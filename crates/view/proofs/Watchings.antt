@@ -7,7 +7,8 @@ use Rattle.std.specs.List.{AllByRecursion, prefix_len, position_or_len}
 use Rattle.event_log.specs.declared.object.SeqObject.{Ghosts}
 use Rattle.event_log.specs.declared.entry.Todo.{Todo}
 use Rattle.word_rule.specs.declared.machine.step_done.StepDone.{StepDone}
-use Rattle.word_rule.specs.Turns.{turn, ends_hold}
+use Rattle.word_rule.specs.Locks.{turn}
+use Rattle.word_rule.specs.StepKinds.{ends_hold}
 use Rattle.word_rule.specs.Machine.Orders.{first_cell, works_on}
 use Rattle.word_rule.specs.Machine.World.{World, CellState, CpuState, left, finished, counted, outcome, step_on, step_of, step_by, step}
 use Rattle.word_rule.proofs.Slices.{get_map, map_get, map_set, read_get}

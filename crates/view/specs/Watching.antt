@@ -1,7 +1,7 @@
 -- What a machine that is watched shows.
 use Rattle.std.specs.Prelude.{◌≡◌, ℕ, List, [], length, map, slice_get, Option, Some, None}
 use Rattle.event_log.specs.declared.object.SeqObject.{Ghosts}
-use Rattle.word_rule.specs.LockWords.{lock_words}
+use Rattle.word_rule.specs.Locks.{lock_words}
 use Rattle.event_log.specs.declared.entry.Todo.{Todo}
 use Rattle.word_rule.specs.Machine.Shown.{MachineParts, Represents}
 use Rattle.word_rule.specs.Machine.World.{World, CellState}

@@ -4,7 +4,7 @@ ghost use Rattle.std.specs.Prelude.{◌≡◌, ◌<◌, [], length, map, IfOk, s
 ghost use Rattle.std.specs.List.{AllByRecursion};
 ghost use Rattle.word_rule.specs.Machine.Orders.{first_cell, works_on};
 ghost use Rattle.word_rule.specs.Machine.World.{World, left, step};
-ghost use Rattle.word_rule.specs.Turns.{ends_hold};
+ghost use Rattle.word_rule.specs.StepKinds.{ends_hold};
 ghost use Rattle.view.specs.Watching.{Watches, words_on};
 
 use event_log::{OutOfMemory, SeqObject, Todo};

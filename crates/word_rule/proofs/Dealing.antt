@@ -4,10 +4,9 @@ use Rattle.std.specs.Prelude.{slice_get}
 use Rattle.std.proofs.lemmas.Bool.Decides.{nat_tests}
 use Rattle.event_log.specs.declared.object.SeqObject.{Ghosts}
 use Rattle.event_log.specs.Distinct.{has}
-use Rattle.word_rule.specs.declared.lock_kind.LockKind.TheVariants as kinds
-use Rattle.word_rule.specs.Locks.{tickets}
 use Rattle.word_rule.specs.declared.stage.Stage.TheVariants.{Idle}
 use Rattle.word_rule.specs.Cell.{Cell, Lawful, EachAt, opening_pass}
+use Rattle.word_rule.specs.Locks.{Fits}
 use Rattle.word_rule.specs.Rule.CellInvariant.{Viewed}
 use Rattle.word_rule.specs.Rule.Seats.{Seat, idle, idle_from, keeping, letting}
 use Rattle.word_rule.specs.Rule.Callers.{pass_view_of, IsWithout}
@@ -39,14 +38,14 @@ swap : (k j : ℕ) → (k == j) ≡ (j == k)
 swap k j = grind (arith, nat_tests)
 
 module _ {O P C R : Type 0} (meaning : Ghosts O P C R) where
-  pub one_rests : (h told : Cell O P C R) (k : ℕ) (m : Seat O P C R) → told ≡ h → k < h.numbers → (h.kind ≡ kinds.Ticket → h.numbers < tickets) → Lawful meaning h h.opening → m ≡ (one_of h k, []) → IsWithout meaning told k Idle m
-  one_rests h told k m is below few lawful e = subst (λ (z : Cell O P C R × Seat O P C R). IsWithout meaning z.0 k Idle z.1) (λ i. (sym is i, sym e i)) record {
+  pub one_rests : (h told : Cell O P C R) (k : ℕ) (m : Seat O P C R) → told ≡ h → k < h.numbers → Fits h.kind h.numbers → Lawful meaning h h.opening → m ≡ (one_of h k, []) → IsWithout meaning told k Idle m
+  one_rests h told k m is below fits lawful e = subst (λ (z : Cell O P C R × Seat O P C R). IsWithout meaning z.0 k Idle z.1) (λ i. (sym is i, sym e i)) record {
     at = record { alone = refl; number = refl; carries = refl; stands = refl; told = refl };
     pass_view = record {
       caller = record { acts = grind (arith, nat_tests); least = λ x hx. let same = has_one x k hx in omega arith; below = λ x hx. let same = has_one x k hx in omega arith };
       lawful = lawful;
     };
-    ran = no_run h few;
+    ran = no_run h fits;
   }
 
   pub part_first : (h told : Cell O P C R) (k : ℕ) (m : Seat O P C R) → told ≡ h → m ≡ (one_of h k, []) → pass_view_of told m.0 ≡ opening_pass h k

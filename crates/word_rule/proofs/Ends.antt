@@ -24,8 +24,7 @@ use Rattle.word_rule.specs.Rule.Seats.{Seat, idle_from, first_view}
 use Rattle.word_rule.specs.Rule.Callers.{caller_of, pass_view_of, IsWithout}
 use Rattle.word_rule.proofs.Lists.{has_one, grows_self, same_log, of_opening}
 use Rattle.word_rule.proofs.Known.{all_idle}
-use Rattle.word_rule.proofs.LockLaws.{idle_home, idle_empty, ticket_few}
-use Rattle.word_rule.proofs.PlainTurns.{opens_plainly}
+use Rattle.word_rule.proofs.LockLaws.{fits, idle_home, idle_empty, opens_plainly, plain_cpus}
 use Rattle.word_rule.proofs.RunLists.{extends_self, same_run, all_inside}
 use Rattle.word_rule.proofs.RunOrder.{all_ended}
 use Rattle.word_rule.proofs.Runs.{no_run}
@@ -87,8 +86,8 @@ module _ {O P C R : Type 0} (meaning : Ghosts O P C R) (kind : LockKind) where
   opens ws x n first kept tied = record {
     state = start (cell_of kind first n x) kind first;
     tied = tied;
-    ran = no_run (cell_of kind first n x) (λ is. ticket_few kind n (opening_lock kind first) tied.state is);
-    made = record { plainly = λ f. opens_plainly kind first f; serves = refl };
+    ran = no_run (cell_of kind first n x) (fits n (opening_lock kind first) tied.state);
+    made = record { plainly = λ f. opens_plainly kind first f; counts = refl };
     lawful = opens_lawful meaning kind first x n kept;
     at_home = λ _. ap (λ z. some (some (Some z))) (opens_stored meaning kind first x n kept);
     each = one (cell_of kind first n x) kind first;
@@ -105,12 +104,12 @@ module _ {O P C R : Type 0} (meaning : Ghosts O P C R) (kind : LockKind) where
       let b = r.state in
       let know = r.each id v there in
       let idle : (x : ℕ) → x < h.numbers → b.lock.line.stage x ≡ Idle = λ x below. all_idle h.numbers b id 0 v.main know.main rests x (all.each x below) in
-      let home = idle_home kind h.numbers b.lock r.tied.state idle in
+      let home = idle_home h.numbers b.lock r.tied.state idle in
       let same = same_log v.main.seen b.committed know.main.grows.begins (λ z. dite (dec_lt z h.numbers)
       (λ below. know.main.grows.own z (all.each z below))
       (λ not. of_opening z h.numbers b.committed h.opening (omega arith) r.lawful.begins r.lawful.numbered ∙ sym (of_opening z h.numbers v.main.seen h.opening (omega arith) part.lawful.begins part.lawful.numbered))) in
       let whole = same_run h.numbers (λ x. has x v.main.owned) v.main.run b.run know.main.extends all.each (all_inside h.numbers b.run r.ran.each) in
-      let none : (lock_after b.run (opening_lock h.kind 0)).line.cpus ≡ [] = sym (ap (λ z. z.line.cpus) (r.made.plainly 0)) ∙ idle_empty kind h.numbers b.lock r.tied.state idle in
+      let none : (lock_after b.run (opening_lock h.kind 0)).line.cpus ≡ [] = sym (plain_cpus b.lock (lock_after b.run (opening_lock h.kind 0)) (r.made.plainly 0)) ∙ idle_empty h.numbers b.lock r.tied.state idle in
       record {
         home = r.at_home home ∙ ap (λ l. some (some (Some (stored meaning h l)))) same;
         ended = subst (λ (run : List (Moment (Event O P C R))). endings_in run ≡ arrivals_in run) whole (all_ended h b.committed b.run r.ran none);

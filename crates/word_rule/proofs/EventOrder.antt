@@ -11,7 +11,7 @@ use Rattle.word_rule.specs.declared.view.Moment.{Moment}
 use Rattle.word_rule.specs.Cell.{Cell}
 use Rattle.word_rule.specs.LockRuns.{events_in, IsMoment, HasRun, endings_in}
 use Rattle.word_rule.specs.Replay.{DoesRun, AllDoRun}
-use Rattle.word_rule.specs.Turns.{ends_hold}
+use Rattle.word_rule.specs.StepKinds.{ends_hold}
 
 module _ {O P C R : Type 0} (n limit : ℕ) where
   -- one event, or none in a full log

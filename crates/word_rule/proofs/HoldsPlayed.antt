@@ -14,7 +14,7 @@ use Rattle.word_rule.specs.Holds.{Leaves, HasHeldEach}
 use Rattle.word_rule.specs.LockRuns.{by_cpu, events_in, Extends}
 use Rattle.word_rule.specs.OneHold.{how_many, leaving, silently, HasHeld}
 use Rattle.word_rule.specs.Replay.{todo_of, entries_for, DoesStep, DoesRun}
-use Rattle.word_rule.specs.Turns.{ends_hold}
+use Rattle.word_rule.specs.StepKinds.{ends_hold}
 use Rattle.word_rule.proofs.OneHolds.{count_append}
 use Rattle.word_rule.proofs.RunLists.{by_append, by_other, same_front, silent_own}
 

@@ -146,9 +146,9 @@ module _ {O P C R : Type 0} (meaning : Ghosts O P C R) (kind : LockKind) (h : Ce
   pub someone_else : (s : Table O P C R) (r : Rule s) (id : ℕ) (v : Viewed O P C R) (y : ℕ) → SeatInvariant h r.state id v → has y r.state.lock.line.cpus ≡ true → y ≢ v.main.cpu → IsElse v y
   someone_else s r id v y mine in_line ne =
       let l = r.state.lock in
-      let below = in_line_below kind h.numbers l r.tied.state y in_line in
+      let below = in_line_below h.numbers l r.tied.state y in_line in
       record {
-        other = false_from_ne_true (has y v.main.owned) (λ hy. true≢false (sym in_line ∙ idle_outside kind h.numbers l r.tied.state y below (mine.main.rests y hy ne)));
+        other = false_from_ne_true (has y v.main.owned) (λ hy. true≢false (sym in_line ∙ idle_outside h.numbers l r.tied.state y below (mine.main.rests y hy ne)));
         inside = λ g is. subst (λ (z : Cell O P C R). y < z.numbers) (sym (same_cell r.state id v g mine is)) below;
       }
 
@@ -162,8 +162,8 @@ module _ {O P C R : Type 0} (meaning : Ghosts O P C R) (kind : LockKind) (h : Ce
   pub lacks : (s : Table O P C R) (r : Rule s) (id : ℕ) (v : Viewed O P C R) (y : ℕ) → SeatInvariant h r.state id v → AllIdle v.others → has y r.state.lock.line.cpus ≡ true → y ≢ v.main.cpu → Lacks v
   lacks s r id v y mine out in_line ne g has_all =
       let b = r.state in
-      let below = in_line_below kind h.numbers b.lock r.tied.state y in_line in
+      let below = in_line_below h.numbers b.lock r.tied.state y in_line in
       let other = someone_else s r id v y mine in_line ne in
       let cover = has_all.each y (other.inside g has_all.told) in
       let no_mine = other.other in
-      true≢false (sym in_line ∙ idle_outside kind h.numbers b.lock r.tied.state y below (outs b id 1 v.others y mine.others out (grind (arith, nat_tests))))
+      true≢false (sym in_line ∙ idle_outside h.numbers b.lock r.tied.state y below (outs b id 1 v.others y mine.others out (grind (arith, nat_tests))))

@@ -1,48 +1,62 @@
--- What follows of where the CPUs stand at a lock, whichever lock it is.
-use Rattle.std.proofs.Common.{◌≡◌, ℕ, ◌<◌, ◌≤◌, Bool, true, false, true≢false, List, [], ◌∷◌, length, refl, sym, ap, ◌∙◌, subst, Option}
+-- What follows of a lock, whichever it is, from what its definition proves.
+use Rattle.std.proofs.Common.{◌≡◌, ◌≢◌, ℕ, ◌^◌, ◌<◌, ◌≤◌, Bool, true, false, true≢false, List, [], ◌∷◌, length, refl, sym, ap, ◌∙◌, subst}
 use Rattle.std.proofs.lemmas.Bool.{false_from_ne_true}
 use mathlib.Core.Option.{some, some-injective}
 use lib.ListN.{get_elem?}
 use Rattle.event_log.specs.Distinct.{has}
-use Rattle.event_log.proofs.Distinct.{distinct_length}
 use Rattle.word_rule.specs.declared.lock_kind.LockKind.{LockKind}
 use Rattle.word_rule.specs.declared.lock_kind.LockKind.TheVariants as kinds
+use Rattle.word_rule.specs.declared.machine.step_done.StepDone.{StepDone}
 use Rattle.word_rule.specs.declared.stage.Stage.{Stage}
-use Rattle.word_rule.specs.declared.stage.Stage.TheVariants.{Idle, Ticket, Mcs, Trying}
-use Rattle.word_rule.specs.declared.stage.TicketStage.TheVariants.{Drawn, Served}
-use Rattle.word_rule.specs.declared.stage.McsStage.TheVariants.{Holding, Alone, Leaving, Passing}
-use Rattle.word_rule.specs.Line.{holding}
-use Rattle.word_rule.specs.Locks.{Lock, going, tickets}
-use Rattle.word_rule.specs.Rule.LockStates.{First, Stands, KeepsOwn, IsLock, IsLockOf}
-use Rattle.word_rule.specs.LockWords.{words_of, lock_words}
-use Rattle.word_rule.proofs.Lists.{has_at, below_of, there_is}
-use Rattle.word_rule.proofs.Stays.{each_moved}
+use Rattle.word_rule.specs.declared.stage.Stage.TheVariants.{Idle, Trying}
+use Rattle.word_rule.specs.Line.{First}
+use Rattle.word_rule.specs.LockDefinition.{LockState}
+use Rattle.word_rule.specs.Locks.{Fits, IsLock, Lock, definition_of, holder, holding, lock_of, number, opening_lock, plain, ready, state_of, turn}
+use Rattle.word_rule.proofs.LineAfter.{LineAfter}
+use Rattle.word_rule.proofs.Lists.{has_at, there_is}
+use Rattle.word_rule.proofs.LockInterface.{LockLaws, NoneTries, Tries, is_idle, is_trying}
+use Rattle.word_rule.proofs.LockStates as states
+use Rattle.word_rule.proofs.Mcs.Laws.{mcs_laws}
+use Rattle.word_rule.proofs.Ticket.Laws.{ticket_laws}
 
--- the words of a lock are its words, whichever way its kind is told
-pub tied_words : (n : ℕ) (k : LockKind) (ws : List ℕ) (l : Lock) → IsLockOf k n ws l → ws ≡ lock_words n l
-tied_words n k ws l h = h.words ∙ ap (λ z. words_of z n l) (sym h.kind_is)
+-- one line for each lock
+pub laws_of : (kind : LockKind) → LockLaws (definition_of kind)
+laws_of kinds.Ticket = ticket_laws
+laws_of kinds.Mcs = mcs_laws
 
-module _ (serving : ℕ) (next : ℕ → Option ℕ) (cpus : List ℕ) (out : Bool) (x : ℕ) where
-  -- one that has the object is the first
-  pub first_if : (k : LockKind) (q : Stage) → holding q ≡ true → Stands cpus out x k serving next q → First cpus out x true
-  first_if kinds.Ticket (Ticket (Served t)) e s = s.0
-  first_if kinds.Mcs (Mcs Holding) e s = s
-  first_if kinds.Mcs (Mcs Alone) e s = s
-  first_if kinds.Mcs (Mcs Leaving) e s = s.0
-  first_if kinds.Mcs (Mcs (Passing j)) e s = s.0
-  first_if kinds.Ticket (Ticket (Drawn t)) e s = absurd (true≢false (sym e))
-  first_if kinds.Mcs (Mcs q) e s = absurd (true≢false (sym e))
-  first_if k Idle e s = absurd (true≢false (sym e))
-  first_if k Trying e s = absurd (true≢false (sym e))
-  first_if k q e s = absurd s
+-- what is shown of each state of a definition is shown of each lock of its kind
+pub at_kind : (kind : LockKind) (P : Lock → Type 0) → ((s : LockState (definition_of kind).Own) → P (lock_of kind s)) → (l : Lock) → l.kind ≡ kind → P l
+at_kind kind P each l is = subst (λ k. ((s : LockState (definition_of k).Own) → P (lock_of k s)) → P l) is (λ each. each (state_of l)) each
 
-module _ (k : LockKind) (n : ℕ) (l : Lock) (h : IsLock k n l) where
-  -- where a CPU stands, by its stage
-  pub stands_at : (x : ℕ) (q : Stage) → x < n → l.line.stage x ≡ q → Stands l.line.cpus l.line.out x k l.serving l.next q
-  stands_at x q below is = subst (Stands l.line.cpus l.line.out x k l.serving l.next) is (h.stood x below)
+-- a lock before its first step
+pub begins : (n first : ℕ) (kind : LockKind) → Fits kind n → IsLock n (opening_lock kind first)
+begins n first kind fits = (laws_of kind).begins n first fits
+
+-- each lock is for as many CPUs as a byte can count
+pub few_fit : (kind : LockKind) (n : ℕ) → n < 2 ^ 8 → Fits kind n
+few_fit kind n few = (laws_of kind).few_fit n few
+
+pub opens_plainly : (kind : LockKind) (first first' : ℕ) → plain (opening_lock kind first) ≡ plain (opening_lock kind first')
+opens_plainly kind first first' = ap (lock_of kind) ((laws_of kind).opens_plainly first first')
+
+-- a holder that can still do calls has the object
+pub holds : (kind : LockKind) (ticket : ℕ) → holding (holder kind ticket) ≡ true
+holds kind ticket = (laws_of kind).holds ticket
+
+-- one that has the object has readied no try
+pub held_untried : (q : Stage) → holding q ≡ true → is_trying q ≡ false
+held_untried Trying e = absurd (true≢false (sym e))
+held_untried q e = refl
+
+module _ (n : ℕ) (l : Lock) (h : IsLock n l) where
+  laws : LockLaws (definition_of l.kind)
+  laws = laws_of l.kind
+
+  pub fits : Fits l.kind n
+  fits = laws.fits n (state_of l) h
 
   pub first_holds : (x : ℕ) → x < n → holding (l.line.stage x) ≡ true → First l.line.cpus l.line.out x true
-  first_holds x below has_it = first_if l.serving l.next l.line.cpus l.line.out x k (l.line.stage x) has_it (h.stood x below)
+  first_holds x below has_it = laws.first l.line.cpus l.line.out x l.own (l.line.stage x) has_it (h.stood x below)
 
   -- there is one holder
   pub one_holds : (x y : ℕ) → x < n → y < n → holding (l.line.stage x) ≡ true → holding (l.line.stage y) ≡ true → x ≡ y
@@ -52,16 +66,18 @@ module _ (k : LockKind) (n : ℕ) (l : Lock) (h : IsLock k n l) where
   pub object_out : (x : ℕ) → x < n → holding (l.line.stage x) ≡ true → l.line.out ≡ true
   object_out x below has_it = let f = first_holds x below has_it in f.object
 
-  -- only the lock's CPUs are in line
   pub in_line_below : (x : ℕ) → has x l.line.cpus ≡ true → x < n
-  in_line_below = below_of n l.line.cpus h.distinct
+  in_line_below = states.in_line_below (definition_of l.kind) n (state_of l) h
 
   pub in_cell : (i x : ℕ) → get_elem? l.line.cpus i ≡ some x → x < n
-  in_cell i x there = in_line_below x (has_at l.line.cpus i x there)
+  in_cell = states.in_cell (definition_of l.kind) n (state_of l) h
+
+  pub line_fits : length l.line.cpus ≤ n
+  line_fits = states.line_fits (definition_of l.kind) n (state_of l) h
 
   -- who is idle isn't in line
   pub idle_outside : (x : ℕ) → x < n → l.line.stage x ≡ Idle → has x l.line.cpus ≡ false
-  idle_outside x below is = stands_at x Idle below is
+  idle_outside x below is = laws.outside l.line.cpus l.line.out x l.own (states.stands_at (definition_of l.kind) n (state_of l) h x Idle below is)
 
   -- where all are idle the object is at home
   pub idle_home : ((x : ℕ) → x < n → l.line.stage x ≡ Idle) → l.line.out ≡ false
@@ -81,19 +97,34 @@ module _ (k : LockKind) (n : ℕ) (l : Lock) (h : IsLock k n l) where
           let below = in_cell 0 y there in
           absurd (true≢false (sym (has_at l.line.cpus 0 y there) ∙ idle_outside y below (all y below)))
 
-  -- a ticket lock has fewer CPUs than tickets
-  pub ticket_few : k ≡ kinds.Ticket → n < tickets
-  ticket_few is = let own = subst (λ z. KeepsOwn z n l.serving l.next l.line.cpus) is h.own in own.1
+  -- each turn keeps the lock, and the line changes as the step says
+  pub turn_keeps : (i : ℕ) → i < n → IsLock n (turn l i).0 × LineAfter (turn l i).1 i l.line.cpus (turn l i).0.line.cpus
+  turn_keeps i below = let g = laws.goes n (state_of l) i h below in (g.state, g.line)
 
-  pub line_fits : length l.line.cpus ≤ n
-  line_fits = distinct_length n l.line.cpus h.distinct
+  pub turn_acts : (i : ℕ) → i < n → is_trying (l.line.stage i) ≡ false → is_idle (turn l i).1 ≡ false
+  turn_acts i below not = laws.acts n (state_of l) i h below not
 
-  module _ (p : ℕ) (below : p < n) where
-    -- only the stage of p changes
-    pub restaged : (q : Stage) → Stands l.line.cpus l.line.out p k l.serving l.next q → IsLock k n (record l { line = going l.line p q })
-    restaged q s = record {
-      distinct = h.distinct;
-      busy = h.busy;
-      stood = each_moved l.line.stage (λ x q. Stands l.line.cpus l.line.out x k l.serving l.next q) n p q s (λ x in_it _. h.stood x in_it);
-      own = h.own;
-    }
+pub turn_whole : (l : Lock) (i : ℕ) → NoneTries l.line.stage → NoneTries (turn l i).0.line.stage
+turn_whole l i h = (laws_of l.kind).whole (state_of l) i h
+
+-- the step of a CPU that has readied no try goes by what is plain of the lock
+pub turn_plainly : (l l' : Lock) (i : ℕ) → plain l ≡ plain l' → is_trying (l.line.stage i) ≡ false → is_trying (l'.line.stage i) ≡ false → ((turn l i).1 ≡ (turn l' i).1) × (plain (turn l i).0 ≡ plain (turn l' i).0)
+turn_plainly l l' i e not not' =
+    let a = (laws_of l.kind).plainly (state_of l) i not in
+    let b = (laws_of l'.kind).plainly (state_of l') i not' in
+    (sym a.step ∙ (ap (λ z. (turn z i).1) e ∙ b.step), sym (ap (lock_of l.kind) a.lock) ∙ (ap (λ z. plain (turn z i).0) e ∙ ap (lock_of l'.kind) b.lock))
+
+-- no try, and no readying of one, moves another CPU; nor does one that finds somebody change the line
+pub tries : (l : Lock) (i ticket : ℕ) → Tries (definition_of l.kind) (state_of l) i ((definition_of l.kind).attempt (state_of l) i ticket)
+tries l i ticket = (laws_of l.kind).tries (state_of l) i ticket
+
+pub readies : (l : Lock) (i x : ℕ) → x ≢ i → (ready l i).line.stage x ≡ l.line.stage x
+readies l i x ne = (laws_of l.kind).readies (state_of l) i x ne
+
+-- the line is plain
+pub plain_cpus : (l l' : Lock) → plain l ≡ plain l' → l.line.cpus ≡ l'.line.cpus
+plain_cpus l l' e = sym ((laws_of l.kind).plain_line (state_of l)).0 ∙ (ap (λ z. z.line.cpus) e ∙ ((laws_of l'.kind).plain_line (state_of l')).0)
+
+-- two locks of one kind that go by one number do so after one step of both
+pub count_alike : (l l' : Lock) (i : ℕ) → l.kind ≡ l'.kind → (turn l i).1 ≡ (turn l' i).1 → number l ≡ number l' → number (turn l i).0 ≡ number (turn l' i).0
+count_alike l l' i same = at_kind l.kind (λ m. (turn l i).1 ≡ (turn m i).1 → number l ≡ number m → number (turn l i).0 ≡ number (turn m i).0) (λ s. (laws_of l.kind).counts (state_of l) s i) l' (sym same)

@@ -14,12 +14,12 @@ use Rattle.word_rule.specs.declared.machine.lock_words.LockWords.{LockWords}
 use Rattle.word_rule.specs.declared.machine.progress.Progress.{Progress}
 use Rattle.word_rule.specs.declared.machine.step_done.StepDone.{StepDone}
 use Rattle.word_rule.specs.declared.machine.step_done.StepDone.TheVariants as steps
-use Rattle.word_rule.specs.Locks.{Lock}
+use Rattle.word_rule.specs.Locks.{Lock, turn}
 use Rattle.word_rule.specs.Rule.LockStates.{RepresentsLock}
 use Rattle.word_rule.specs.Machine.Shown.{MachineParts, RepresentsCell, ShowsCpu, Represents, Runs}
 use Rattle.word_rule.specs.Sound.{Opened}
 use Rattle.word_rule.specs.Machine.SoundWorld.{IsTodo}
-use Rattle.word_rule.specs.Turns.{turn, ends_hold}
+use Rattle.word_rule.specs.StepKinds.{ends_hold}
 use Rattle.word_rule.specs.Machine.World.{World, CellState, CpuState, with_done, entry_of, left, finished, counted, outcome, cell_after, cpu_after, world_after, step_on, step_of, step_by, step}
 use Rattle.word_rule.proofs.Slices.{get_set_same, get_set_other, read_get, some_at, one_of}
 

@@ -10,7 +10,7 @@ use Rattle.event_log.specs.Distinct.{has}
 use Rattle.word_rule.specs.declared.lock_kind.LockKind.{LockKind}
 use Rattle.word_rule.specs.declared.stage.Stage.TheVariants.{Idle}
 use Rattle.word_rule.specs.Cell.{Cell}
-use Rattle.word_rule.specs.Line.{holding}
+use Rattle.word_rule.specs.Locks.{holding}
 use Rattle.word_rule.specs.Rule.LockStates.{IsLockOf}
 use Rattle.word_rule.specs.Rule.CellInvariant.{GhostState, Caller, Viewed, Table, EachFrom, CallerInvariant, SeatInvariant, CellInvariant}
 use Rattle.word_rule.specs.Rule.Seats.{Seat, settled, taken_in, idle, behind_first, first_or_none, spent, keeping, letting, merged}
@@ -266,7 +266,7 @@ module _ {O P C R : Type 0} (meaning : Ghosts O P C R) (kind : LockKind) (h : Ce
         v,
         gives,
         tt,
-        torn meaning kind h s r i id v me.1 (object_out kind h.numbers r.state.lock r.tied.state v.main.cpu below has_it) there,
+        torn meaning kind h s r i id v me.1 (object_out h.numbers r.state.lock r.tied.state v.main.cpu below has_it) there,
         λ z. (v, rest (carries z)),
       )
 
@@ -280,6 +280,6 @@ module _ {O P C R : Type 0} (meaning : Ghosts O P C R) (kind : LockKind) (h : Ce
       let k = (subst (λ (l : List (Caller O P C R)). EachFrom (K b id) 1 l) is mine.others).0 in
       let one = mine.main.owns v.main.cpu acts in
       let two = k.owns c.cpu c_acts in
-      let same : v.main.cpu ≡ c.cpu = one_holds kind h.numbers b.lock r.tied.state v.main.cpu c.cpu one.1 two.1 (ap holding (mine.main.stands acts) ∙ holds) (ap holding (k.stands c_acts) ∙ c_holds) in
+      let same : v.main.cpu ≡ c.cpu = one_holds h.numbers b.lock r.tied.state v.main.cpu c.cpu one.1 two.1 (ap holding (mine.main.stands acts) ∙ holds) (ap holding (k.stands c_acts) ∙ c_holds) in
       let both : ◌≡◌ {A = ℕ} 0 1 = ap (λ (z : ℕ × ℕ). z.1) (sym one.0 ∙ (ap b.owner same ∙ two.0)) in
       absurd (omega arith)

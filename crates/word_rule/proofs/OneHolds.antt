@@ -11,10 +11,10 @@ use Rattle.word_rule.specs.declared.stage.Stage.{Stage}
 use Rattle.word_rule.specs.declared.view.Moment.{Moment}
 use Rattle.word_rule.specs.Cell.{Caller, HoldView, stored}
 use Rattle.word_rule.specs.CallerState.{CallerState, Moves, Takes, Gives}
-use Rattle.word_rule.specs.Line.{holding}
+use Rattle.word_rule.specs.Locks.{holding}
 use Rattle.word_rule.specs.LockRuns.{Extends, ExtendsUntil, events_in}
 use Rattle.word_rule.specs.OneHold.{gets_object, how_many, Acquires, Releases, looks_in, leaving, silently, HasAcquired, HasReleased, HasHeld}
-use Rattle.word_rule.specs.Turns.{arrives, ends_hold, is_look}
+use Rattle.word_rule.specs.StepKinds.{arrives, ends_hold, is_look}
 use Rattle.word_rule.proofs.RunLists.{extends_then, until_then, until_since, silently_append, same_front}
 
 pub count_append : (test : StepDone → Bool) (a b : List StepDone) → how_many test (a ++ b) ≡ how_many test a + how_many test b

@@ -18,6 +18,7 @@ use Rattle.word_rule.specs.Orders.{numbers, IsOrder}
 use Rattle.word_rule.specs.Sound.{LogIsSound, log_of, done_on, steps_by, NoneAfterFull}
 use Rattle.word_rule.specs.Machine.SoundWorld.{SoundWorld, IsTodo, IsAnswer, entries_of, entries_by}
 use Rattle.word_rule.specs.Machine.World.{World, CellState, CpuState, run_of}
+use Rattle.word_rule.proofs.LockLaws.{few_fit}
 use Rattle.word_rule.proofs.Slices.{get_map, map_get, map_none, one_of}
 use Rattle.word_rule.proofs.SoundRuns.{transcript_is}
 
@@ -83,8 +84,7 @@ module _ {O P C R : Type 0} (cells : List (CellSpec O P C R)) (scripts : List (V
 
   pub opening_is : length scripts ≤ MOST_CPUS → AllByRecursion (λ (c : CellSpec O P C R). c.logged.log ≡ []) cells → AllByRecursion (λ (s : Vec (Todo O P C R) Global). AllByRecursion (λ t. IsTodo (length cells) t) s.items) scripts → IsOpening W
   opening_is few empty able = record {
-    few = omega (arith, cpus_are, few);
-    cells = λ x c e. let a = cell_at x c e in subst (λ k. IsOpeningCell k) a.2 record { first = a.0.first; free = refl; empty = all_at (λ (c : CellSpec O P C R). c.logged.log ≡ []) cells x a.0 empty a.1 };
+    cells = λ x c e. let a = cell_at x c e in subst (λ k. IsOpeningCell (length W.cpus) k) a.2 record { first = a.0.first; fits = few_fit a.0.kind (length W.cpus) (omega (arith, cpus_are, few)); free = refl; empty = all_at (λ (c : CellSpec O P C R). c.logged.log ≡ []) cells x a.0 empty a.1 };
     cpus = λ i c e. let a = cpu_at i c e in subst (λ (k : CpuState O P C R). k ≡ opening_cpu k.todo) a.2 refl;
     able = λ i c e. let a = cpu_at i c e in
         subst (λ (k : CpuState O P C R). AllByRecursion (λ t. IsTodo (length W.cells) t) k.todo) a.2

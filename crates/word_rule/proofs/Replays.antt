@@ -19,13 +19,13 @@ use Rattle.word_rule.specs.declared.view.Moment.{Moment}
 use Rattle.word_rule.specs.Cell.{Cell}
 use Rattle.word_rule.specs.Holds.{Leaves}
 use Rattle.word_rule.specs.LockRuns.{events_in, lock_after, AreTurns, IsMoment, HasRun}
-use Rattle.word_rule.specs.Locks.{Lock, opening_lock}
+use Rattle.word_rule.specs.Locks.{Lock, opening_lock, turn}
 use Rattle.word_rule.specs.Machine.Opening.{opening_cpu}
 use Rattle.word_rule.specs.Machine.SoundWorld.{entries_of}
 use Rattle.word_rule.specs.Machine.World.{World, CellState, CpuState, with_done, entry_of, left, finished, counted, outcome, cell_after, cpu_after, world_after, step_on, step_of, step_by, step, run}
 use Rattle.word_rule.specs.Replay.{todo_of, cell_with, replay_world, entries_left, DoesStep, DoesRun, AllDoRun, steps_done, replayed, IsReplay}
 use Rattle.word_rule.specs.Sound.{Opened, done_on, steps_by}
-use Rattle.word_rule.specs.Turns.{turn, ends_hold}
+use Rattle.word_rule.specs.StepKinds.{ends_hold}
 use Rattle.word_rule.proofs.Entries.{done_append, done_here, done_without}
 use Rattle.word_rule.proofs.RunOrder.{first_of, behind_of}
 use Rattle.word_rule.proofs.Slices.{get_set_same, get_set_other}

@@ -4,25 +4,16 @@ use Rattle.std.specs.List.{AllByRecursion}
 use Rattle.event_log.specs.declared.event.Event.{Event}
 use Rattle.event_log.specs.Log.{Begins}
 use Rattle.event_log.proofs.Beginnings.{begins_append}
-use Rattle.word_rule.specs.declared.lock_kind.LockKind.{LockKind}
-use Rattle.word_rule.specs.declared.lock_kind.LockKind.TheVariants as kinds
 use Rattle.word_rule.specs.declared.machine.step_done.StepDone.{StepDone}
 use Rattle.word_rule.specs.declared.view.Moment.{Moment}
 use Rattle.word_rule.specs.Cell.{Cell}
 use Rattle.word_rule.specs.LockRuns.{lock_after, AreTurns, HasRun, arrivals_in, endings_in}
-use Rattle.word_rule.specs.Locks.{Lock, opening_lock, tickets}
-use Rattle.word_rule.specs.LockWords.{ticket_word}
-use Rattle.word_rule.specs.Turns.{turn, arrives, ends_hold}
-use Rattle.word_rule.proofs.McsTurns.{starts_mcs}
-use Rattle.word_rule.proofs.Orders.{LineAfter, order_here}
+use Rattle.word_rule.specs.Locks.{IsLock, Lock, opening_lock, turn}
+use Rattle.word_rule.specs.StepKinds.{arrives, ends_hold}
+use Rattle.word_rule.proofs.LockLaws.{begins}
+use Rattle.word_rule.proofs.LineAfter.{LineAfter, order_here}
 use Rattle.word_rule.proofs.RunLists.{all_inside}
-use Rattle.word_rule.proofs.TicketTurns.{starts_ticket}
-use Rattle.word_rule.proofs.TurnsKeep.{IsState, locks_keep}
-
--- a lock before its first step, of as many CPUs as its kind allows
-pub begins_state : (n first : ℕ) (k : LockKind) → (k ≡ kinds.Ticket → n < tickets) → IsState n (opening_lock k first)
-begins_state n first kinds.Ticket few = (starts_ticket n first (ticket_word (first % tickets) (first % tickets) ∷ []) (few refl) refl).state
-begins_state n first kinds.Mcs few = (starts_mcs n first (replicate (1 + 2 * n) 0) refl).state
+use Rattle.word_rule.proofs.TurnsKeep.{locks_keep}
 
 -- the first of the steps, if there is one
 abbrev pub first_of : StepDone → List StepDone → StepDone
@@ -44,7 +35,7 @@ one_more s i old new ended arrived line a e = by (ends_hold s) (arrives s) (orde
 
 module _ {E : Type 0} (n : ℕ) where
   -- those who have ended a hold, and then the line, are the line before, and then those who have arrived
-  pub in_order : (run : List (Moment E)) (l : Lock) → IsState n l → AllByRecursion (λ m. m.cpu < n) run → AreTurns run l → endings_in run ++ (lock_after run l).line.cpus ≡ l.line.cpus ++ arrivals_in run
+  pub in_order : (run : List (Moment E)) (l : Lock) → IsLock n l → AllByRecursion (λ m. m.cpu < n) run → AreTurns run l → endings_in run ++ (lock_after run l).line.cpus ≡ l.line.cpus ++ arrivals_in run
   in_order [] l h inside are = sym (append-nil l.line.cpus)
   in_order (m ∷ ms) l h inside are =
       let t = locks_keep.turned n l m.cpu h inside.0 in
@@ -55,7 +46,7 @@ module _ {E : Type 0} (n : ℕ) where
 module _ {O P C R : Type 0} (h : Cell O P C R) (log : List (Event O P C R)) (run : List (Moment (Event O P C R))) (ran : HasRun h log run) where
   -- the line that the run leaves, behind those who have ended a hold
   pub line_left : endings_in run ++ (lock_after run (opening_lock h.kind 0)).line.cpus ≡ arrivals_in run
-  line_left = in_order h.numbers run (opening_lock h.kind 0) (begins_state h.numbers 0 h.kind ran.few) (all_inside h.numbers run ran.each) (ran.turns 0)
+  line_left = in_order h.numbers run (opening_lock h.kind 0) (begins h.numbers 0 h.kind ran.fits) (all_inside h.numbers run ran.each) (ran.turns 0)
 
   pub ends_in_order : Begins (endings_in run) (arrivals_in run)
   ends_in_order = subst (Begins (endings_in run)) line_left (begins_append (endings_in run) (lock_after run (opening_lock h.kind 0)).line.cpus)

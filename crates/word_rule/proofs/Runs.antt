@@ -2,20 +2,17 @@
 use Rattle.std.proofs.Common.{◌≡◌, ℕ, ◌<◌, false, List, [], ◌∷◌, ◌++◌, map, refl, sym, ap, ◌∙◌, subst, append_assoc, append-nil}
 use Rattle.event_log.specs.declared.event.Event.{Event}
 use Rattle.event_log.proofs.Each.{all_push}
-use Rattle.word_rule.specs.declared.lock_kind.LockKind.TheVariants as kinds
 use Rattle.word_rule.specs.declared.machine.step_done.StepDone.{StepDone}
 use Rattle.word_rule.specs.declared.view.Moment.{Moment}
 use Rattle.word_rule.specs.Cell.{Cell}
 use Rattle.word_rule.specs.LockRuns.{events_in, lock_after, turns_after, AreTurns, IsMoment, HasRun}
-use Rattle.word_rule.specs.Locks.{Lock, opening_lock, tickets}
+use Rattle.word_rule.specs.Locks.{Fits, Lock, number, opening_lock, plain, turn}
 use Rattle.word_rule.specs.OneHold.{leaving, silently}
 use Rattle.word_rule.specs.Rule.CellInvariant.{IsMade}
 use Rattle.word_rule.specs.Rule.Definition.{GoesOn}
-use Rattle.word_rule.specs.Rule.Plain.{plain}
-use Rattle.word_rule.specs.Turns.{turn}
-use Rattle.word_rule.proofs.PlainTurns.{is_trying, IsWhole, turn_whole, turn_plainly}
+use Rattle.word_rule.proofs.LockInterface.{is_trying, NoneTries}
+use Rattle.word_rule.proofs.LockLaws.{count_alike, turn_plainly, turn_whole}
 use Rattle.word_rule.proofs.RunLists.{events_append, silent_own}
-use Rattle.word_rule.proofs.Serving.{serve_alike}
 
 module _ {E : Type 0} where
   pub after_push : (run : List (Moment E)) (m : Moment E) (l : Lock) → lock_after (run ++ m ∷ []) l ≡ (turn (lock_after run l) m.cpu).0
@@ -37,9 +34,9 @@ module _ {E : Type 0} where
       by run l are is = steps run ∙ ((λ k. are k ++ is k ∷ []) ∙ sym (more run l))
 
   -- no CPU of a run has readied a try
-  pub never_trying : (run : List (Moment E)) (l : Lock) → IsWhole l → IsWhole (lock_after run l)
+  pub never_trying : (run : List (Moment E)) (l : Lock) → NoneTries l.line.stage → NoneTries (lock_after run l).line.stage
   never_trying [] l h = h
-  never_trying (m ∷ ms) l h = never_trying ms (turn l m.cpu).0 (turn_whole l m.cpu h l.kind)
+  never_trying (m ∷ ms) l h = never_trying ms (turn l m.cpu).0 (turn_whole l m.cpu h)
 
 module _ {O P C R : Type 0} (h : Cell O P C R) where
   -- the lock, and the one that the run comes to: one that has readied no try does the same step at both
@@ -54,7 +51,7 @@ module _ {O P C R : Type 0} (h : Cell O P C R) where
       let l' : Lock = lock_after run (opening_lock h.kind h.first) in
       record {
         plainly = λ first. (one_turn l run p first made not).1 ∙ ap plain (sym (after_push run m (opening_lock h.kind first)));
-        serves = serve_alike l l' p (ap (λ z. z.kind) (made.plainly h.first)) (one_turn l run p h.first made not).0 made.serves ∙ ap (λ z. z.serving) (sym (after_push run m (opening_lock h.kind h.first)));
+        counts = count_alike l l' p (ap (λ z. z.kind) (made.plainly h.first)) (one_turn l run p h.first made not).0 made.counts ∙ ap number (sym (after_push run m (opening_lock h.kind h.first)));
       }
 
   pub run_push : (l : Lock) (log : List (Event O P C R)) (run : List (Moment (Event O P C R))) (p : ℕ) (events : List (Event O P C R)) → IsMade h l run → HasRun h log run → is_trying (l.line.stage p) ≡ false → IsMoment h.numbers (leaving p (turn l p).1 events)
@@ -65,7 +62,7 @@ module _ {O P C R : Type 0} (h : Cell O P C R) where
         turns = λ first. turns_push run m (opening_lock h.kind first) (ran.turns first) (one_turn l run p first made not).0;
         left = ap (λ z. z ++ events) ran.left ∙ (append_assoc h.opening (events_in run) events ∙ ap (λ z. h.opening ++ z) (sym (events_append run (m ∷ []) ∙ ap (λ z. events_in run ++ z) (append-nil events))));
         each = all_push (IsMoment h.numbers) run m ran.each is;
-        few = ran.few;
+        fits = ran.fits;
       }
 
   -- a step that leaves no event
@@ -73,8 +70,8 @@ module _ {O P C R : Type 0} (h : Cell O P C R) where
   silent_push l log run p made ran not below = subst (λ z. HasRun h z (run ++ leaving p (turn l p).1 [] ∷ [])) (append-nil log) (run_push l log run p [] made ran not record { inside = below; own = tt; silent = λ _. refl })
 
   -- before the first step
-  pub no_run : (h.kind ≡ kinds.Ticket → h.numbers < tickets) → HasRun h h.opening []
-  no_run few = record { turns = λ first. refl; left = sym (append-nil h.opening); each = tt; few = few }
+  pub no_run : Fits h.kind h.numbers → HasRun h h.opening []
+  no_run fits = record { turns = λ first. refl; left = sym (append-nil h.opening); each = tt; fits = fits }
 
 -- how the run goes on, by what the step says
 module _ {E : Type 0} (cpu : ℕ) (run : List (Moment E)) where

@@ -18,8 +18,8 @@ use Rattle.event_log.specs.Log.{answers, replay}
 use Rattle.event_log.proofs.Logs.{legal_append}
 use Rattle.event_log.proofs.Batches.{next_answers, answers_fulfil}
 use Rattle.word_rule.specs.declared.machine.step_done.StepDone.{StepDone}
-use Rattle.word_rule.specs.Locks.{Lock}
-use Rattle.word_rule.specs.Turns.{turn, ends_hold}
+use Rattle.word_rule.specs.Locks.{Lock, turn}
+use Rattle.word_rule.specs.StepKinds.{ends_hold}
 use Rattle.word_rule.specs.Sound.{LogIsSound, Answers, NoneAfterFull, done_on, steps_by}
 use Rattle.word_rule.specs.Machine.World.{World, CellState, CpuState, with_done, entry_of, left, finished, counted, outcome, world_after, step_on, step_of, step_by, step, run}
 use Rattle.word_rule.specs.Machine.SoundWorld.{IsTodo, entries_of, entries_by, IsAnswer, SoundWorld}

@@ -14,7 +14,6 @@ use Rattle.word_rule.specs.Rule.CellInvariant.{Viewed, Table, CellInvariant}
 use Rattle.word_rule.specs.Rule.Seats.{noted}
 use Rattle.word_rule.specs.Rule.Announced.{HasAll, any_has}
 use Rattle.word_rule.proofs.Lists.{or_none}
-use Rattle.word_rule.proofs.LockLaws.{tied_words}
 use Rattle.word_rule.proofs.Known.{same_cell}
 use Rattle.word_rule.proofs.Stays.{seats_stay}
 
@@ -45,7 +44,7 @@ module _ {O P C R : Type 0} (meaning : Ghosts O P C R) (kind : LockKind) (h : Ce
                 stands = mine.main.stands;
                 whole = mine.main.whole;
                 rests = mine.main.rests;
-                finds = λ w e _. ap (λ (z : List ℕ). get_or z 0 0) (sym (tied_words h.numbers kind s.words b.lock r.tied)) ∙ one_word found w e;
+                finds = λ w e _. ap (λ (z : List ℕ). get_or z 0 0) (sym r.tied.words) ∙ one_word found w e;
               };
               others = mine.others;
             }
@@ -58,5 +57,5 @@ module _ {O P C R : Type 0} (meaning : Ghosts O P C R) (kind : LockKind) (h : Ce
       let b = r.state in
       let mine = r.each id v there in
       let same = same_cell meaning kind h b id v g mine all.told in
-      ap (λ (z : List ℕ). get_or z 0 0) (tied_words h.numbers kind s.words b.lock r.tied)
+      ap (λ (z : List ℕ). get_or z 0 0) r.tied.words
       ∙ mine.main.finds w is (λ x below. sym (or_none (has x v.main.owned)) ∙ (ap (λ cs. has x v.main.owned || any_has x cs) (sym alone) ∙ all.each x (subst (λ z. x < z.numbers) (sym same) below)))

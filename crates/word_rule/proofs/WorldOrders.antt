@@ -14,8 +14,8 @@ use Rattle.event_log.specs.declared.entry.Run.{Run}
 use Rattle.event_log.specs.Log.{answers, replay}
 use Rattle.word_rule.specs.declared.machine.step_done.StepDone.{StepDone}
 use Rattle.word_rule.specs.declared.place.Place.{Place}
-use Rattle.word_rule.specs.Locks.{Lock}
-use Rattle.word_rule.specs.Turns.{turn, ends_hold}
+use Rattle.word_rule.specs.Locks.{Lock, turn}
+use Rattle.word_rule.specs.StepKinds.{ends_hold}
 use Rattle.word_rule.specs.Orders.{entry_at, IsOrder}
 use Rattle.word_rule.specs.Sound.{Answers}
 use Rattle.word_rule.specs.Machine.Opening.{IsOpening}

@@ -7,7 +7,7 @@ use Rattle.word_rule.specs.declared.machine.step_done.StepDone.{StepDone}
 use Rattle.word_rule.specs.declared.stage.Stage.{Stage}
 use Rattle.word_rule.specs.declared.view.Moment.{Moment}
 use Rattle.word_rule.specs.Cell.{Caller, Grows, Lawful, OwnsAll, stored}
-use Rattle.word_rule.specs.Line.{holding}
+use Rattle.word_rule.specs.Locks.{holding}
 use Rattle.word_rule.specs.LockRuns.{Extends, ExtendsUntil}
 use Rattle.word_rule.specs.OneHold.{leaving, silently}
 

@@ -1,11 +1,9 @@
 -- The line of CPUs at a lock, whichever lock it is.
-use Rattle.std.specs.Prelude.{ℕ, Bool, true, false, ◌==◌, cond, List, [], ◌∷◌}
-use Rattle.word_rule.specs.declared.lock_kind.LockKind.{LockKind}
-use Rattle.word_rule.specs.declared.lock_kind.LockKind.TheVariants as kinds
+use Rattle.std.specs.Prelude.{◌≡◌, ℕ, Bool, true, false, ◌==◌, cond, List, [], ◌∷◌, ◌++◌, Option, Some, None}
+use mathlib.Core.Option.{some}
+use lib.ListN.{get_elem?}
 use Rattle.word_rule.specs.declared.stage.Stage.{Stage}
-use Rattle.word_rule.specs.declared.stage.Stage.TheVariants.{Idle, Ticket, Mcs, Trying}
-use Rattle.word_rule.specs.declared.stage.TicketStage.TheVariants.{Drawn, Served}
-use Rattle.word_rule.specs.declared.stage.McsStage.TheVariants.{Ready, Behind, Armed, Waiting, Holding, Alone, Leaving, Passing}
+use Rattle.word_rule.specs.declared.stage.Stage.TheVariants.{Idle}
 
 -- the CPUs in line, whether the object is out with the first of them, and where each CPU stands
 pub record Line : Type 0 where
@@ -25,27 +23,62 @@ lined cpus out stage p q = record { cpus = cpus; out = out; stage = moved stage 
 abbrev pub empty_line : Line
 empty_line = record { cpus = []; out = false; stage = λ _. Idle }
 
+-- i stands there now
+abbrev pub going : Line → ℕ → Stage → Line
+going l i q = lined l.cpus l.out l.stage i q
+
+-- i joins the end of the line, and stands there
+abbrev pub joining : Line → ℕ → Stage → Line
+joining l i q = lined (l.cpus ++ i ∷ []) l.out l.stage i q
+
+-- the object goes to i, which stands there
+abbrev pub taking : Line → ℕ → Stage → Line
+taking l i q = lined l.cpus true l.stage i q
+
+-- i is alone in line, and has the object
+abbrev pub alone_with_it : Line → ℕ → Stage → Line
+alone_with_it l i q = lined (i ∷ []) true l.stage i q
+
+-- the line without its first
+abbrev pub behind : List ℕ → List ℕ
+behind [] = []
+behind (k ∷ ks) = ks
+
+-- i, the first, leaves the line, and the object is at home
+abbrev pub leaving : Line → ℕ → Line
+leaving l i = lined (behind l.cpus) false l.stage i Idle
+
+-- whether nobody is in line
+abbrev pub is_empty : List ℕ → Bool
+is_empty [] = true
+is_empty (x ∷ xs) = false
+
 -- whether x is the first of the line
 abbrev pub is_first : ℕ → List ℕ → Bool
 is_first x [] = false
 is_first x (y ∷ ys) = y == x
 
--- whether a caller that stands there has the object
-abbrev pub holding : Stage → Bool
-holding Idle = false
-holding (Ticket (Drawn t)) = false
-holding (Ticket (Served t)) = true
-holding (Mcs Ready) = false
-holding (Mcs (Behind p)) = false
-holding (Mcs (Armed p)) = false
-holding (Mcs Waiting) = false
-holding (Mcs Holding) = true
-holding (Mcs Alone) = true
-holding (Mcs Leaving) = true
-holding (Mcs (Passing j)) = true
-holding Trying = false
+-- the last of k ∷ ks
+abbrev pub last_from : ℕ → List ℕ → ℕ
+last_from k [] = k
+last_from k (j ∷ js) = last_from j js
 
--- where a holder stands, which can still do calls, at such a lock: at a ticket lock with this ticket
-abbrev pub holder : LockKind → ℕ → Stage
-holder kinds.Ticket ticket = Ticket (Served ticket)
-holder kinds.Mcs ticket = Mcs Holding
+abbrev pub last : List ℕ → Option ℕ
+last [] = None
+last (k ∷ ks) = Some (last_from k ks)
+
+-- who stands behind the first
+abbrev pub second : List ℕ → Option ℕ
+second [] = None
+second (k ∷ []) = None
+second (k ∷ j ∷ js) = Some j
+
+-- whether the CPU is the one that is named
+abbrev pub is_named : ℕ → Option ℕ → Bool
+is_named i None = false
+is_named i (Some k) = k == i
+
+-- x is the first in line, and may have the object or has it
+pub record First (cpus : List ℕ) (out : Bool) (x : ℕ) (away : Bool) : Type 0 where
+  pub there : get_elem? cpus 0 ≡ some x
+  pub object : out ≡ away

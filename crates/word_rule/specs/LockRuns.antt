@@ -3,12 +3,11 @@ use Rattle.std.specs.Prelude.{◌≡◌, ℕ, ◌<◌, Bool, true, false, cond, 
 use Rattle.std.specs.List.{AllByRecursion, filter}
 use Rattle.event_log.specs.declared.event.Event.{Event}
 use Rattle.event_log.specs.Log.{Begins}
-use Rattle.word_rule.specs.declared.lock_kind.LockKind.TheVariants as kinds
 use Rattle.word_rule.specs.declared.machine.step_done.StepDone.{StepDone}
 use Rattle.word_rule.specs.declared.view.Moment.{Moment}
 use Rattle.word_rule.specs.Cell.{Cell}
-use Rattle.word_rule.specs.Locks.{Lock, opening_lock, tickets}
-use Rattle.word_rule.specs.Turns.{turn, ends_hold, arrives}
+use Rattle.word_rule.specs.Locks.{Lock, Fits, opening_lock, turn}
+use Rattle.word_rule.specs.StepKinds.{ends_hold, arrives}
 
 module _ {E : Type 0} where
   -- the moments of that CPU, in order
@@ -64,10 +63,10 @@ module _ {O P C R : Type 0} where
     pub own : AllByRecursion (λ e. e.cpu ≡ m.cpu) m.events
     pub silent : ends_hold m.step ≡ false → m.events ≡ []
 
-  -- a run of the cell's lock that left this log: the steps are the lock's, whatever its first ticket was, and there are fewer CPUs
-  -- than tickets
+  -- a run of the cell's lock that left this log: the steps are the lock's, whatever its first ticket was, and it is for so
+  -- many CPUs
   pub record HasRun (cell : Cell O P C R) (log : List (Event O P C R)) (run : List (Moment (Event O P C R))) : Type 0 where
     pub turns : (first : ℕ) → AreTurns run (opening_lock cell.kind first)
     pub left : log ≡ cell.opening ++ events_in run
     pub each : AllByRecursion (IsMoment cell.numbers) run
-    pub few : cell.kind ≡ kinds.Ticket → cell.numbers < tickets
+    pub fits : Fits cell.kind cell.numbers

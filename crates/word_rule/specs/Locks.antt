@@ -1,81 +1,73 @@
--- A lock of either kind, apart from its words, and what its line does.
-use Rattle.std.specs.Prelude.{ℕ, ◌%◌, ◌^◌, Bool, true, false, ◌==◌, cond, List, [], ◌∷◌, ◌++◌, Option, Some, None}
+-- Which locks there are, and what all else takes of a lock.
+use Rattle.std.specs.Prelude.{◌≡◌, ℕ, ◌||◌, Bool, true, List}
 use Rattle.word_rule.specs.declared.lock_kind.LockKind.{LockKind}
+use Rattle.word_rule.specs.declared.lock_kind.LockKind.TheVariants as kinds
+use Rattle.word_rule.specs.declared.machine.step_done.StepDone.{StepDone}
 use Rattle.word_rule.specs.declared.stage.Stage.{Stage}
-use Rattle.word_rule.specs.declared.stage.Stage.TheVariants.{Idle, Mcs}
-use Rattle.word_rule.specs.declared.stage.McsStage.TheVariants.{Waiting}
-use Rattle.word_rule.specs.Line.{Line, lined, empty_line}
+use Rattle.word_rule.specs.Line.{Line}
+use Rattle.word_rule.specs.LockDefinition.{LockDefinition, LockState, IsState, opening_state}
+use Rattle.word_rule.specs.Mcs.Definition.{mcs_lock}
+use Rattle.word_rule.specs.Ticket.Definition.{ticket_lock}
 
--- the line; of a ticket lock the ticket that is served; of an MCS lock the CPU that each CPU's `next` names
+-- one line for each lock
+abbrev pub definition_of : LockKind → LockDefinition
+definition_of kinds.Ticket = ticket_lock
+definition_of kinds.Mcs = mcs_lock
+
+-- whether a caller that stands there has the object, at some lock
+abbrev pub holding : Stage → Bool
+holding q = ticket_lock.holding q || mcs_lock.holding q
+
+-- a lock of some kind: its line, and what that kind has beside
 pub record Lock : Type 0 where
   pub kind : LockKind
   pub line : Line
-  pub serving : ℕ
-  pub next : ℕ → Option ℕ
+  pub own : (definition_of kind).Own
 
--- how many tickets there are: as many as half of a word can tell apart
-abbrev pub tickets : ℕ
-tickets = 2 ^ 32
+-- the lock as its definition takes it
+abbrev pub state_of : (l : Lock) → LockState (definition_of l.kind).Own
+state_of l = record { line = l.line; own = l.own }
 
--- a lock before the first step: nobody is in line, and a ticket lock serves the first ticket
+-- the lock of that kind with this state
+abbrev pub lock_of : (kind : LockKind) → LockState (definition_of kind).Own → Lock
+lock_of kind s = record { kind = kind; line = s.line; own = s.own }
+
+-- a lock before its first step
 abbrev pub opening_lock : LockKind → ℕ → Lock
-opening_lock kind first = record { kind = kind; line = empty_line; serving = first % tickets; next = λ _. None }
+opening_lock kind first = lock_of kind (opening_state (definition_of kind) first)
 
--- the last of k ∷ ks
-abbrev pub last_from : ℕ → List ℕ → ℕ
-last_from k [] = k
-last_from k (j ∷ js) = last_from j js
+-- a CPU's next step on the lock
+abbrev pub turn : Lock → ℕ → Lock × StepDone
+turn l i = let t = (definition_of l.kind).turn (state_of l) i in (lock_of l.kind t.0, t.1)
 
-abbrev pub last : List ℕ → Option ℕ
-last [] = None
-last (k ∷ ks) = Some (last_from k ks)
+-- a CPU's try at the lock, which found that ticket served: the lock afterwards, and the steps that it has done
+abbrev pub attempt : Lock → ℕ → ℕ → Lock × List StepDone
+attempt l i ticket = let t = (definition_of l.kind).attempt (state_of l) i ticket in (lock_of l.kind t.0, t.1)
 
--- who stands behind the first
-abbrev pub second : List ℕ → Option ℕ
-second [] = None
-second (k ∷ []) = None
-second (k ∷ j ∷ js) = Some j
+-- what readies a CPU's try
+abbrev pub ready : Lock → ℕ → Lock
+ready l i = lock_of l.kind ((definition_of l.kind).ready (state_of l) i)
 
--- the line without its first
-abbrev pub behind : List ℕ → List ℕ
-behind [] = []
-behind (k ∷ ks) = ks
+-- the words of a lock for n CPUs
+abbrev pub lock_words : ℕ → Lock → List ℕ
+lock_words n l = (definition_of l.kind).words n (state_of l)
 
--- whether the CPU is the one that is named
-abbrev pub is_named : ℕ → Option ℕ → Bool
-is_named i None = false
-is_named i (Some k) = k == i
+-- the lock apart from what a cell's may have otherwise than the one that its run makes
+abbrev pub plain : Lock → Lock
+plain l = lock_of l.kind ((definition_of l.kind).plain (state_of l))
 
--- i stands there now
-abbrev pub going : Line → ℕ → Stage → Line
-going l i q = lined l.cpus l.out l.stage i q
+-- the number that its words go by beside the line
+abbrev pub number : Lock → ℕ
+number l = (definition_of l.kind).number l.own
 
--- i joins the end of the line, and stands there
-abbrev pub joining : Line → ℕ → Stage → Line
-joining l i q = lined (l.cpus ++ i ∷ []) l.out l.stage i q
+-- whether a lock of that kind is for so many CPUs
+abbrev pub Fits : LockKind → ℕ → Type 0
+Fits kind n = (definition_of kind).fits n ≡ true
 
--- the object goes to i, which stands there
-abbrev pub taking : Line → ℕ → Stage → Line
-taking l i q = lined l.cpus true l.stage i q
+-- where a holder stands, which can still do calls, at such a lock: where there are tickets, with this one
+abbrev pub holder : LockKind → ℕ → Stage
+holder kind ticket = (definition_of kind).holder ticket
 
--- i, the first, leaves the line, and the object is at home
-abbrev pub leaving : Line → ℕ → Line
-leaving l i = lined (behind l.cpus) false l.stage i Idle
-
--- the `next` of p names this now
-abbrev pub naming : (ℕ → Option ℕ) → ℕ → Option ℕ → ℕ → Option ℕ
-naming next p named k = cond (k == p) named (next k)
-
--- whether one that stands there has linked itself, and hasn't had the object since
-abbrev pub is_linked : Stage → Bool
-is_linked (Mcs Waiting) = true
-is_linked q = false
-
--- the one that is named, if it has linked itself
-abbrev pub if_linked : Line → Option ℕ → Option ℕ
-if_linked l None = None
-if_linked l (Some j) = cond (is_linked (l.stage j)) (Some j) None
-
--- the follower of the first, once it has linked itself
-abbrev pub follower : Line → Option ℕ
-follower l = if_linked l (second l.cpus)
+-- a state of a lock for n CPUs
+abbrev pub IsLock : ℕ → Lock → Type 0
+IsLock n l = IsState (definition_of l.kind) n (state_of l)

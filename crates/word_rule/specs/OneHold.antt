@@ -8,7 +8,7 @@ use Rattle.word_rule.specs.declared.machine.step_done.StepDone.TheVariants as st
 use Rattle.word_rule.specs.declared.view.Moment.{Moment}
 use Rattle.word_rule.specs.Cell.{Caller, HoldView}
 use Rattle.word_rule.specs.LockRuns.{Extends, ExtendsUntil, HasRun, events_in}
-use Rattle.word_rule.specs.Turns.{arrives, ends_hold, is_look}
+use Rattle.word_rule.specs.StepKinds.{arrives, ends_hold, is_look}
 
 -- the steps by which a CPU gets the object
 abbrev pub gets_object : StepDone → Bool

@@ -4,5 +4,4 @@ pub mod Callers
 pub mod CellInvariant
 pub mod Definition
 pub mod LockStates
-pub mod Plain
 pub mod Seats

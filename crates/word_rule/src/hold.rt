@@ -3,7 +3,7 @@
 ghost use Rattle.std.specs.Prelude.{◌≡◌};
 ghost use Rattle.event_log.proofs.Props.{legal_props};
 ghost use Rattle.word_rule.specs.Rule.Callers.{IsWith};
-ghost use Rattle.word_rule.specs.Line.{holder};
+ghost use Rattle.word_rule.specs.Locks.{holder};
 
 use crate::{Cpu, Key, Lent, Seat};
 use event_log::{Logged, SeqObject};

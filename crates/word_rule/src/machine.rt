@@ -2,7 +2,7 @@
 
 ghost use Rattle.std.specs.Prelude.{◌≡◌, ◌<◌, ◌≤◌, [], All, length, map, vec_len, Some, slice_get, IfOk, IfErr};
 ghost use Rattle.std.specs.List.{AllByRecursion};
-ghost use Rattle.word_rule.specs.LockWords.{lock_words};
+ghost use Rattle.word_rule.specs.Locks.{lock_words};
 ghost use Rattle.word_rule.specs.Machine.Opening.{opening_world, IsOpening};
 ghost use Rattle.word_rule.specs.Machine.Shown.{Represents, Runs, opened_by};
 ghost use Rattle.word_rule.specs.Orders.{HasOrder};

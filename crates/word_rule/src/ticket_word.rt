@@ -1,8 +1,7 @@
 //! The word of a ticket lock: the next ticket in its high half, the ticket that is served in its low half.
 
 ghost use Rattle.std.specs.Prelude.{◌≡◌, ◌/◌, ◌%◌};
-ghost use Rattle.word_rule.specs.Locks.{tickets};
-ghost use Rattle.word_rule.specs.LockWords.{ticket_word};
+ghost use Rattle.word_rule.specs.Ticket.State.{tickets, ticket_word};
 
 /// How many tickets there are: added to the word, the next ticket is the one behind.
 pub const TICKETS: u64 = 1 << 32;

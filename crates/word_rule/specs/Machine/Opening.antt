@@ -5,7 +5,7 @@ use Rattle.std.specs.declared.alloc.Global.{Global}
 use Rattle.event_log.specs.declared.entry.Todo.{Todo}
 use Rattle.event_log.specs.History.{History}
 use Rattle.word_rule.specs.declared.lock_kind.LockKind.{LockKind}
-use Rattle.word_rule.specs.Locks.{opening_lock, tickets}
+use Rattle.word_rule.specs.Locks.{Fits, opening_lock}
 use Rattle.word_rule.specs.declared.machine.cell_spec.CellSpec.{CellSpec}
 use Rattle.word_rule.specs.Machine.SoundWorld.{IsTodo}
 use Rattle.word_rule.specs.Machine.World.{World, CellState, CpuState}
@@ -23,15 +23,15 @@ module _ {O P C R : Type 0} where
   abbrev pub opening_world : List (CellSpec O P C R) → List (Vec (Todo O P C R) Global) → World O P C R
   opening_world cells scripts = record { cells = map (λ c. opening_cell c.kind c.first c.logged) cells; cpus = map (λ s. opening_cpu s.items) scripts }
 
-  -- the lock is free, and the log is empty
-  pub record IsOpeningCell (c : CellState O P C R) : Type 0 where
+  -- the lock is free and for n CPUs, and the log is empty
+  pub record IsOpeningCell (n : ℕ) (c : CellState O P C R) : Type 0 where
+    pub fits : Fits c.lock.kind n
     pub first : ℕ
     pub free : c.lock ≡ opening_lock c.lock.kind first
     pub empty : c.log ≡ []
 
   -- each lock is free and each log empty, and each CPU is idle, with an empty transcript and entries that can be done
   pub record IsOpening (w : World O P C R) : Type 0 where
-    pub few : length w.cpus < tickets
-    pub cells : (x : ℕ) (c : CellState O P C R) → slice_get w.cells x ≡ Some c → IsOpeningCell c
+    pub cells : (x : ℕ) (c : CellState O P C R) → slice_get w.cells x ≡ Some c → IsOpeningCell (length w.cpus) c
     pub cpus : (i : ℕ) (cpu : CpuState O P C R) → slice_get w.cpus i ≡ Some cpu → cpu ≡ opening_cpu cpu.todo
     pub able : (i : ℕ) (cpu : CpuState O P C R) → slice_get w.cpus i ≡ Some cpu → AllByRecursion (λ t. IsTodo (length w.cells) t) cpu.todo

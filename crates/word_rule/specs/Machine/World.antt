@@ -10,8 +10,8 @@ use Rattle.event_log.specs.declared.entry.Run.{Run}
 use Rattle.event_log.specs.Log.{answers, replay}
 use Rattle.word_rule.specs.declared.machine.step_done.StepDone.{StepDone}
 use Rattle.word_rule.specs.declared.machine.step_done.StepDone.TheVariants as steps
-use Rattle.word_rule.specs.Locks.{Lock}
-use Rattle.word_rule.specs.Turns.{turn, ends_hold, is_look}
+use Rattle.word_rule.specs.Locks.{Lock, turn}
+use Rattle.word_rule.specs.StepKinds.{ends_hold, is_look}
 use Rattle.word_rule.specs.Sound.{Opened}
 
 -- an object behind its lock: what it was opened with, the lock, and the committed log

@@ -11,7 +11,7 @@ use Rattle.word_rule.specs.declared.view.Moment.{Moment}
 use Rattle.word_rule.specs.declared.view.Seated.{Seated}
 use Rattle.word_rule.specs.Cell.{Cell, Grows, Lawful, stored}
 use Rattle.word_rule.specs.Rule.CellInvariant.{EachFrom, Caller, Viewed}
-use Rattle.word_rule.specs.Line.{holding}
+use Rattle.word_rule.specs.Locks.{holding}
 use Rattle.word_rule.specs.LockRuns.{Extends, ExtendsUntil, HasRun}
 use Rattle.word_rule.specs.OneHold.{leaving, silently}
 use Rattle.word_rule.specs.Rule.Seats.{Seat, moved_on, settled, merged}

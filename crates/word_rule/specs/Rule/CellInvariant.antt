@@ -13,12 +13,9 @@ use Rattle.word_rule.specs.declared.view.Moment.{Moment}
 use Rattle.word_rule.specs.declared.view.Seated.{Seated}
 use Rattle.word_rule.specs.declared.view.View.{View}
 use Rattle.word_rule.specs.Cell.{Cell, Grows, Lawful, stored}
-use Rattle.word_rule.specs.Line.{holding}
+use Rattle.word_rule.specs.Locks.{holding, Lock, opening_lock, lock_words, number, plain}
 use Rattle.word_rule.specs.LockRuns.{Extends, HasRun, lock_after}
-use Rattle.word_rule.specs.Locks.{Lock, opening_lock}
-use Rattle.word_rule.specs.LockWords.{lock_words}
 use Rattle.word_rule.specs.Rule.LockStates.{IsLockOf}
-use Rattle.word_rule.specs.Rule.Plain.{plain}
 
 -- the committed log, the run, the lock that the words are of, and whose each CPU number is: a seat, and a place among its
 -- callers
@@ -69,10 +66,10 @@ module _ {O P C R : Type 0} (h : Cell O P C R) (b : GhostState O P C R) where
     pub others : EachFrom (CallerInvariant h.numbers b j) 1 v.others
 
 -- the lock that the run makes of the cell's lock before its first step: it is that one but for what `plain` leaves out, and would
--- be with any first ticket; and it serves the ticket that the run comes to from the cell's first one
+-- be with any first ticket; and its words go by the number that the run comes to from the cell's first ticket
 pub record IsMade {O P C R : Type 0} (h : Cell O P C R) (l : Lock) (run : List (Moment (Event O P C R))) : Type 0 where
   pub plainly : (first : ℕ) → plain l ≡ plain (lock_after run (opening_lock h.kind first))
-  pub serves : l.serving ≡ (lock_after run (opening_lock h.kind h.first)).serving
+  pub counts : number l ≡ number (lock_after run (opening_lock h.kind h.first))
 
 -- the rule, for such a lock: the words are those of a state of it, which is the one that the run makes; the run left the committed
 -- log, of which the object at home is the replay

@@ -2,7 +2,7 @@
 
 ghost use Rattle.std.specs.Prelude.{◌≡◌, ◌+◌, ◌^◌, ◌<◌, ◌≤◌, ◌++◌, ◌∷◌, [], if◌then◌else◌, length, vec_len, vec_capacity};
 ghost use Rattle.event_log.specs.History.{IsKept};
-ghost use Rattle.word_rule.specs.Turns.{ends_hold};
+ghost use Rattle.word_rule.specs.StepKinds.{ends_hold};
 ghost use Rattle.word_rule.specs.Machine.World.{outcome, with_done, entry_of, counted};
 
 use crate::machine::progress::Progress;

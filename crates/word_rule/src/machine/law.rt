@@ -3,12 +3,12 @@
 ghost use Rattle.std.specs.Prelude.{◌≡◌, ◌↔◌, ℕ, ◌+◌, ◌<◌, true, false, List, [], ◌∷◌, ◌++◌, length, Some, slice_get};
 ghost use Rattle.event_log.specs.Log.{Begins};
 ghost use Rattle.word_rule.specs.declared.machine.step_done.StepDone.TheVariants.{Idle};
-ghost use Rattle.word_rule.specs.Line.{holding};
+ghost use Rattle.word_rule.specs.Locks.{holding};
 ghost use Rattle.word_rule.specs.Machine.Opening.{IsOpening};
 ghost use Rattle.word_rule.specs.Machine.Orders.{is_at, arrivals, endings, arrives_at, ends_within, ended};
 ghost use Rattle.word_rule.specs.Orders.{IsOrder};
 ghost use Rattle.word_rule.specs.Sound.{Sound};
-ghost use Rattle.word_rule.specs.Turns.{arrives};
+ghost use Rattle.word_rule.specs.StepKinds.{arrives};
 ghost use Rattle.word_rule.specs.Machine.World.{World, CellState, CpuState, run, step, run_of, opened_in};
 
 use event_log::SeqObject;

@@ -1,9 +1,8 @@
 //! The words of a lock.
 
 ghost use Rattle.std.specs.Prelude.{◌≡◌, ◌<◌, ◌≤◌, vec_len, IfOk};
-ghost use Rattle.word_rule.specs.Locks.{Lock, opening_lock};
+ghost use Rattle.word_rule.specs.Locks.{Lock, opening_lock, turn};
 ghost use Rattle.word_rule.specs.Rule.LockStates.{RepresentsLock, IsLockOf};
-ghost use Rattle.word_rule.specs.Turns.{turn};
 
 use crate::machine::mcs::turn_mcs;
 use crate::machine::step_done::StepDone;

@@ -2,19 +2,19 @@
 //! CPU j.
 
 ghost use Rattle.std.specs.Prelude.{◌≡◌, ℕ, ◌+◌, ◌<◌, ◌≤◌, true, false, length, slice_index_or};
-ghost use Rattle.word_rule.specs.Locks.{Lock};
-ghost use Rattle.word_rule.specs.Rule.LockStates.{RepresentsLock};
-ghost use Rattle.word_rule.specs.Turns.{turn};
+ghost use Rattle.word_rule.specs.Mcs.Definition.{mcs_lock};
+ghost use Rattle.word_rule.specs.Mcs.State.{McsLock};
+ghost use Rattle.word_rule.specs.Rule.LockStates.{RepresentsState};
 
 use crate::machine::step_done::StepDone;
-use crate::{LockKind, MOST_CPUS, McsStage, Stage, locked_index, next_index};
+use crate::{MOST_CPUS, McsStage, Stage, locked_index, next_index};
 
 /// The next step of a CPU.
 pub fn turn_mcs(words: &mut [u64], stages: &mut [Stage], cpu: u8) -> StepDone
-    requires shows { (l : Lock) × RepresentsLock (length stages.old) LockKind.Mcs words.old stages.old l }
+    requires shows { (l : McsLock) × RepresentsState mcs_lock (length stages.old) words.old stages.old l }
     requires exists { cpu < length stages.old }
     requires few { length stages.old ≤ MOST_CPUS }
-    ensures { (l : Lock) → RepresentsLock (length stages.old) LockKind.Mcs words.old stages.old l → (result ≡ (turn l cpu).1) × RepresentsLock (length stages.old) LockKind.Mcs words.new stages.new (turn l cpu).0 }
+    ensures { (l : McsLock) → RepresentsState mcs_lock (length stages.old) words.old stages.old l → (result ≡ (mcs_lock.turn l cpu).1) × RepresentsState mcs_lock (length stages.old) words.new stages.new (mcs_lock.turn l cpu).0 }
 {
     let i = cpu as usize;
     match stages[i] {
@@ -30,11 +30,11 @@ pub fn turn_mcs(words: &mut [u64], stages: &mut [Stage], cpu: u8) -> StepDone
 
 /// The next step of a CPU that has begun.
 fn turn_in_queue(words: &mut [u64], stages: &mut [Stage], cpu: u8, stage: McsStage) -> StepDone
-    requires shows { (l : Lock) × RepresentsLock (length stages.old) LockKind.Mcs words.old stages.old l }
+    requires shows { (l : McsLock) × RepresentsState mcs_lock (length stages.old) words.old stages.old l }
     requires exists { cpu < length stages.old }
     requires few { length stages.old ≤ MOST_CPUS }
     requires stands { slice_index_or stages.old cpu Stage.Idle ≡ Stage.Mcs stage }
-    ensures { (l : Lock) → RepresentsLock (length stages.old) LockKind.Mcs words.old stages.old l → (result ≡ (turn l cpu).1) × RepresentsLock (length stages.old) LockKind.Mcs words.new stages.new (turn l cpu).0 }
+    ensures { (l : McsLock) → RepresentsState mcs_lock (length stages.old) words.old stages.old l → (result ≡ (mcs_lock.turn l cpu).1) × RepresentsState mcs_lock (length stages.old) words.new stages.new (mcs_lock.turn l cpu).0 }
 {
     let n = stages.len() as u8;
     let i = cpu as usize;

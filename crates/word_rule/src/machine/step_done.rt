@@ -1,7 +1,7 @@
 //! What an atomic step was.
 
 ghost use Rattle.std.specs.Prelude.{◌≡◌};
-ghost use Rattle.word_rule.specs.Turns.{ends_hold, is_look};
+ghost use Rattle.word_rule.specs.StepKinds.{ends_hold, is_look};
 
 /// The atomic step that was done. True means: got the object, found a successor, or emptied the tail.
 #[derive(Clone, Copy, Debug, PartialEq, Eq, Drop)]

@@ -1,18 +1,18 @@
 //! A ticket lock's steps, each on its one word.
 
 ghost use Rattle.std.specs.Prelude.{◌≡◌, ◌+◌, ◌-◌, ◌%◌, ◌^◌, ◌<◌, length, slice_index_or};
-ghost use Rattle.word_rule.specs.Locks.{Lock, tickets};
-ghost use Rattle.word_rule.specs.Rule.LockStates.{RepresentsLock};
-ghost use Rattle.word_rule.specs.Turns.{turn};
+ghost use Rattle.word_rule.specs.Ticket.Definition.{ticket_lock};
+ghost use Rattle.word_rule.specs.Ticket.State.{TicketLock, tickets};
+ghost use Rattle.word_rule.specs.Rule.LockStates.{RepresentsState};
 
 use crate::machine::step_done::StepDone;
-use crate::{LAST_TICKET, LockKind, Stage, TICKETS, TicketStage, next_ticket, served_ticket};
+use crate::{LAST_TICKET, Stage, TICKETS, TicketStage, next_ticket, served_ticket};
 
 /// The next step of a CPU.
 pub fn turn_ticket(words: &mut [u64], stages: &mut [Stage], cpu: u8) -> StepDone
-    requires shows { (l : Lock) × RepresentsLock (length stages.old) LockKind.Ticket words.old stages.old l }
+    requires shows { (l : TicketLock) × RepresentsState ticket_lock (length stages.old) words.old stages.old l }
     requires exists { cpu < length stages.old }
-    ensures { (l : Lock) → RepresentsLock (length stages.old) LockKind.Ticket words.old stages.old l → (result ≡ (turn l cpu).1) × RepresentsLock (length stages.old) LockKind.Ticket words.new stages.new (turn l cpu).0 }
+    ensures { (l : TicketLock) → RepresentsState ticket_lock (length stages.old) words.old stages.old l → (result ≡ (ticket_lock.turn l cpu).1) × RepresentsState ticket_lock (length stages.old) words.new stages.new (ticket_lock.turn l cpu).0 }
 {
     let i = cpu as usize;
     match stages[i] {
@@ -29,10 +29,10 @@ pub fn turn_ticket(words: &mut [u64], stages: &mut [Stage], cpu: u8) -> StepDone
 
 /// The next step of a CPU that has a ticket.
 fn turn_in_line(words: &mut [u64], stages: &mut [Stage], cpu: u8, stage: TicketStage) -> StepDone
-    requires shows { (l : Lock) × RepresentsLock (length stages.old) LockKind.Ticket words.old stages.old l }
+    requires shows { (l : TicketLock) × RepresentsState ticket_lock (length stages.old) words.old stages.old l }
     requires exists { cpu < length stages.old }
     requires stands { slice_index_or stages.old cpu Stage.Idle ≡ Stage.Ticket stage }
-    ensures { (l : Lock) → RepresentsLock (length stages.old) LockKind.Ticket words.old stages.old l → (result ≡ (turn l cpu).1) × RepresentsLock (length stages.old) LockKind.Ticket words.new stages.new (turn l cpu).0 }
+    ensures { (l : TicketLock) → RepresentsState ticket_lock (length stages.old) words.old stages.old l → (result ≡ (ticket_lock.turn l cpu).1) × RepresentsState ticket_lock (length stages.old) words.new stages.new (ticket_lock.turn l cpu).0 }
 {
     let i = cpu as usize;
     match stage {

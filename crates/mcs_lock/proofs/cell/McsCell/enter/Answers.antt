@@ -2,7 +2,7 @@ use Rattle.std.proofs.Common.{rules, refl, ℕ, ◌-◌, ◌∷◌, sym, ap, sub
 use Rattle.atomic_table.specs.Table.{rest}
 use Rattle.word_rule.specs.declared.stage.Stage.TheVariants.{Mcs}
 use Rattle.word_rule.specs.declared.stage.McsStage.TheVariants.{Ready, Behind}
-use Rattle.word_rule.specs.Line.{holder}
+use Rattle.word_rule.specs.Locks.{holder}
 use Rattle.word_rule.specs.Rule.Callers.{IsWithout}
 use Rattle.word_rule.proofs.Acting.{took, takes_from, holds_from, goes_without, moves_without}
 use Rattle.mcs_lock.proofs.McsActing.{enter_now, named, not_else, is_other, else_now}

@@ -6,7 +6,7 @@ use Rattle.word_rule.specs.declared.stage.Stage.TheVariants.{Idle, Mcs}
 use Rattle.word_rule.specs.declared.stage.McsStage.TheVariants.{Waiting, Holding}
 use Rattle.word_rule.specs.Cell.{Lawful}
 use Rattle.word_rule.specs.LockRuns.{Extends, HasRun}
-use Rattle.word_rule.specs.Line.{holder}
+use Rattle.word_rule.specs.Locks.{holder}
 use Rattle.word_rule.specs.Rule.Callers.{IsWithout, caller_of}
 use Rattle.word_rule.proofs.Known.{AllIdle}
 use Rattle.word_rule.proofs.Acting.{TookLast, last_taken, all_together, holds_now, takes_now, sees_without}

@@ -2,7 +2,7 @@ use Rattle.std.proofs.Common.{rules, refl, ◌∷◌, sym, ap, subst, ◌∙◌,
 use Rattle.atomic_table.specs.Table.{rest}
 use Rattle.word_rule.specs.declared.stage.Stage.TheVariants.{Mcs}
 use Rattle.word_rule.specs.declared.stage.McsStage.TheVariants.{Waiting}
-use Rattle.word_rule.specs.Line.{holder}
+use Rattle.word_rule.specs.Locks.{holder}
 use Rattle.word_rule.specs.Rule.Callers.{IsWithout}
 use Rattle.word_rule.proofs.Known.{idle_alone}
 use Rattle.word_rule.proofs.Acting.{took, takes_from, holds_from, goes_without, lags_without}

@@ -4,7 +4,7 @@ use Rattle.word_rule.specs.declared.stage.Stage.TheVariants.{Mcs}
 use Rattle.word_rule.specs.declared.stage.McsStage.TheVariants.{Holding, Alone, Passing}
 use Rattle.word_rule.specs.CallerState.{Moves}
 use Rattle.word_rule.specs.Rule.Callers.{IsWith, state_with}
-use Rattle.word_rule.specs.Line.{holder}
+use Rattle.word_rule.specs.Locks.{holder}
 use Rattle.mcs_lock.proofs.McsActing.{see_now, below_with, named, not_else, is_other, else_below, else_now}
 use Rattle.word_rule.proofs.Acting.{goes_with, moves_with}
 use Rattle.word_rule.proofs.Lenders.{holder_holds}

@@ -1,6 +1,6 @@
 use Rattle.std.proofs.Common.{rules, ◌≡◌, sym, ap, subst, ◌∙◌, true}
 use Rattle.event_log.specs.Distinct.{has}
-use Rattle.word_rule.specs.Line.{holding}
+use Rattle.word_rule.specs.Locks.{holding}
 use Rattle.word_rule.proofs.Meetings.{joining, tearing, clashing}
 use Rattle.word_rule.proofs.Lenders.{holder_holds}
 use Rattle.word_rule.proofs.lock_table.LockTable.apart.Goals as goal

@@ -1,5 +1,5 @@
 use Rattle.std.proofs.Common.{arith}
-use Rattle.word_rule.proofs.ShownTurns.{cleared, wide}
+use Rattle.word_rule.proofs.Mcs.Shown.{cleared, wide}
 use Rattle.word_rule.proofs.machine.mcs.turn_mcs.Goals as goal
 
 pub bounds-words-next_index : goal.bounds-words-next_index

@@ -1,6 +1,6 @@
 use Rattle.std.proofs.Common.{ap, ◌∙◌, sym}
 use Rattle.word_rule.specs.declared.stage.Stage.TheVariants.{Ticket}
-use Rattle.word_rule.proofs.ShownTurns.{won, lost}
+use Rattle.word_rule.proofs.Ticket.Shown.{won, lost}
 use Rattle.word_rule.proofs.machine.ticket.turn_in_line.Goals as goal
 
 pub returns-then-served_ticket-ticket : goal.returns-then-served_ticket-ticket

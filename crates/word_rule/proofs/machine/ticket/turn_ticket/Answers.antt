@@ -1,4 +1,4 @@
-use Rattle.word_rule.proofs.ShownTurns.{drew}
+use Rattle.word_rule.proofs.Ticket.Shown.{drew}
 use Rattle.word_rule.proofs.machine.ticket.turn_ticket.Goals as goal
 
 pub returns-in-Idle : goal.returns-in-Idle

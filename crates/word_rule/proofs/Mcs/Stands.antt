@@ -5,13 +5,28 @@ use lib.ListN.{get_elem?}
 use Rattle.atomic_table.proofs.Lists.{at_longer}
 use Rattle.event_log.specs.Distinct.{has}
 use Rattle.event_log.proofs.Distinct.{has_push}
-use Rattle.word_rule.specs.declared.lock_kind.LockKind.TheVariants as kinds
 use Rattle.word_rule.specs.declared.stage.Stage.{Stage}
 use Rattle.word_rule.specs.declared.stage.Stage.TheVariants.{Idle, Mcs, Trying}
 use Rattle.word_rule.specs.declared.stage.McsStage.TheVariants.{Ready, Behind, Armed, Waiting, Holding, Alone, Leaving, Passing}
-use Rattle.word_rule.specs.Locks.{naming, is_linked}
-use Rattle.word_rule.specs.Rule.LockStates.{First, Follows, Stands}
+use Rattle.word_rule.specs.Line.{First}
+use Rattle.word_rule.specs.Locks.{holding}
+use Rattle.word_rule.specs.Mcs.State.{naming, is_linked, Follows, StandsInQueue}
 use Rattle.word_rule.proofs.Lists.{has_tail}
+
+-- who is idle isn't in line
+pub outside : (cpus : List ℕ) (out : Bool) (x : ℕ) (next : ℕ → Option ℕ) → StandsInQueue cpus out x next Idle → has x cpus ≡ false
+outside cpus out x next s = s
+
+-- one that has the object is the first
+pub first_if : (cpus : List ℕ) (out : Bool) (x : ℕ) (next : ℕ → Option ℕ) (q : Stage) → holding q ≡ true → StandsInQueue cpus out x next q → First cpus out x true
+first_if cpus out x next (Mcs Holding) e s = s
+first_if cpus out x next (Mcs Alone) e s = s
+first_if cpus out x next (Mcs Leaving) e s = s.0
+first_if cpus out x next (Mcs (Passing j)) e s = s.0
+first_if cpus out x next (Mcs q) e s = absurd (true≢false (sym e))
+first_if cpus out x next Idle e s = absurd (true≢false (sym e))
+first_if cpus out x next Trying e s = absurd (true≢false (sym e))
+first_if cpus out x next q e s = absurd s
 
 -- the `next` of p names this now, and every other `next` what it named
 pub naming_same : (next : ℕ → Option ℕ) (p : ℕ) (named : Option ℕ) → naming next p named p ≡ named
@@ -34,22 +49,22 @@ module _ (next next' : ℕ → Option ℕ) (cpus cpus' : List ℕ) (out out' : B
     longer : First cpus out x true → 1 < length cpus → 1 < length cpus'
     second : (j : ℕ) → First cpus out x true → get_elem? cpus 1 ≡ some j → next x ≡ Some j → (get_elem? cpus' 1 ≡ some j) × (next' x ≡ Some j)
 
-  carried : Carries → (serving : ℕ) (q : Stage) → Stands cpus out x kinds.Mcs serving next q → Stands cpus' out' x kinds.Mcs serving next' q
-  carried c serving Idle s = c.apart s
-  carried c serving (Mcs Ready) s = (c.apart s.0, c.ready s.0 ∙ s.1)
-  carried c serving (Mcs (Behind p)) s = c.unlinked p s
-  carried c serving (Mcs (Armed p)) s = c.unlinked p s
-  carried c serving (Mcs Waiting) s = ⊎_elim {0, 0, 0} (λ t. c.linked t.0 t.1) (λ f. inr (c.first false f)) s
-  carried c serving (Mcs Holding) s = c.first true s
-  carried c serving (Mcs Alone) s = c.first true s
-  carried c serving (Mcs Leaving) s = (c.first true s.0, c.longer s.0 s.1)
-  carried c serving (Mcs (Passing j)) s = let t = c.second j s.0 s.1 s.2 in (c.first true s.0, t.0, t.1)
-  carried c serving Trying s = (c.apart s.0, c.ready s.0 ∙ s.1)
-  carried c serving q s = absurd s
+  carried : Carries → (q : Stage) → StandsInQueue cpus out x next q → StandsInQueue cpus' out' x next' q
+  carried c Idle s = c.apart s
+  carried c (Mcs Ready) s = (c.apart s.0, c.ready s.0 ∙ s.1)
+  carried c (Mcs (Behind p)) s = c.unlinked p s
+  carried c (Mcs (Armed p)) s = c.unlinked p s
+  carried c (Mcs Waiting) s = ⊎_elim {0, 0, 0} (λ t. c.linked t.0 t.1) (λ f. inr (c.first false f)) s
+  carried c (Mcs Holding) s = c.first true s
+  carried c (Mcs Alone) s = c.first true s
+  carried c (Mcs Leaving) s = (c.first true s.0, c.longer s.0 s.1)
+  carried c (Mcs (Passing j)) s = let t = c.second j s.0 s.1 s.2 in (c.first true s.0, t.0, t.1)
+  carried c Trying s = (c.apart s.0, c.ready s.0 ∙ s.1)
+  carried c q s = absurd s
 
 -- a `next` changes, and none that says where x stands
 pub other_next : (next next' : ℕ → Option ℕ) (cpus : List ℕ) (out : Bool) (x : ℕ) → ((i p : ℕ) → get_elem? cpus i ≡ some p → get_elem? cpus (suc i) ≡ some x → next' p ≡ next p) → (has x cpus ≡ false → next' x ≡ next x)
-    → ((j : ℕ) → next x ≡ Some j → next' x ≡ next x) → (serving : ℕ) (q : Stage) → Stands cpus out x kinds.Mcs serving next q → Stands cpus out x kinds.Mcs serving next' q
+    → ((j : ℕ) → next x ≡ Some j → next' x ≡ next x) → (q : Stage) → StandsInQueue cpus out x next q → StandsInQueue cpus out x next' q
 other_next next next' cpus out x links free named = carried next next' cpus cpus out out x record {
   apart = λ s. s;
   ready = free;
@@ -64,7 +79,7 @@ other_next next next' cpus out x links free named = carried next next' cpus cpus
     follows p a s = record { at = s.at; ahead = s.ahead; there = s.there; link = links s.at p s.ahead s.there ∙ s.link }
 
 -- the queue grows at its end by another
-pub longer_queue : (next : ℕ → Option ℕ) (cpus : List ℕ) (out : Bool) (x p : ℕ) → x ≢ p → (serving : ℕ) (q : Stage) → Stands cpus out x kinds.Mcs serving next q → Stands (cpus ++ p ∷ []) out x kinds.Mcs serving next q
+pub longer_queue : (next : ℕ → Option ℕ) (cpus : List ℕ) (out : Bool) (x p : ℕ) → x ≢ p → (q : Stage) → StandsInQueue cpus out x next q → StandsInQueue (cpus ++ p ∷ []) out x next q
 longer_queue next cpus out x p ne = carried next next cpus (cpus ++ p ∷ []) out out x record {
   apart = λ s. has_push x p cpus s ne;
   ready = λ _. refl;
@@ -79,7 +94,7 @@ longer_queue next cpus out x p ne = carried next next cpus (cpus ++ p ∷ []) ou
     follows q a s = record { at = s.at; ahead = at_longer cpus (p ∷ []) s.at q s.ahead; there = at_longer cpus (p ∷ []) (suc s.at) x s.there; link = s.link }
 
 -- p enters an empty queue
-pub first_queue : (next : ℕ → Option ℕ) (out out' : Bool) (x p : ℕ) → x ≢ p → (serving : ℕ) (q : Stage) → Stands [] out x kinds.Mcs serving next q → Stands (p ∷ []) out' x kinds.Mcs serving next q
+pub first_queue : (next : ℕ → Option ℕ) (out out' : Bool) (x p : ℕ) → x ≢ p → (q : Stage) → StandsInQueue [] out x next q → StandsInQueue (p ∷ []) out' x next q
 first_queue next out out' x p ne = carried next next [] (p ∷ []) out out' x record {
   apart = λ s. has_push x p [] refl ne;
   ready = λ _. refl;
@@ -94,7 +109,7 @@ first_queue next out out' x p ne = carried next next [] (p ∷ []) out out' x re
     nobody i y there = absurd (some-ne-none y (sym there))
 
 -- the object goes to p, the first
-pub taken_by : (next : ℕ → Option ℕ) (cpus : List ℕ) (x p : ℕ) → x ≢ p → get_elem? cpus 0 ≡ some p → (serving : ℕ) (q : Stage) → Stands cpus false x kinds.Mcs serving next q → Stands cpus true x kinds.Mcs serving next q
+pub taken_by : (next : ℕ → Option ℕ) (cpus : List ℕ) (x p : ℕ) → x ≢ p → get_elem? cpus 0 ≡ some p → (q : Stage) → StandsInQueue cpus false x next q → StandsInQueue cpus true x next q
 taken_by next cpus x p ne head = carried next next cpus cpus false true x record {
   apart = λ s. s;
   ready = λ _. refl;
@@ -106,7 +121,7 @@ taken_by next cpus x p ne head = carried next next cpus cpus false true x record
 }
 
 -- p, alone in the queue, leaves it
-pub emptied_by : (next : ℕ → Option ℕ) (out : Bool) (x p : ℕ) → x ≢ p → (serving : ℕ) (q : Stage) → Stands (p ∷ []) out x kinds.Mcs serving next q → Stands [] false x kinds.Mcs serving next q
+pub emptied_by : (next : ℕ → Option ℕ) (out : Bool) (x p : ℕ) → x ≢ p → (q : Stage) → StandsInQueue (p ∷ []) out x next q → StandsInQueue [] false x next q
 emptied_by next out x p ne = carried next next (p ∷ []) [] out false x record {
   apart = λ s. refl;
   ready = λ _. refl;
@@ -125,7 +140,7 @@ emptied_by next out x p ne = carried next next (p ∷ []) [] out false x record 
 
 -- p, the first, passes to j, the second
 pub passed_by : (next : ℕ → Option ℕ) (out : Bool) (p j : ℕ) (rest : List ℕ) (x : ℕ) → x ≢ p → next p ≡ Some j
-    → (serving : ℕ) (q : Stage) → Stands (p ∷ j ∷ rest) out x kinds.Mcs serving next q → Stands (j ∷ rest) false x kinds.Mcs serving next q
+    → (q : Stage) → StandsInQueue (p ∷ j ∷ rest) out x next q → StandsInQueue (j ∷ rest) false x next q
 passed_by next out p j rest x ne named = carried next next line (j ∷ rest) out false x record {
   apart = λ s. has_tail x p (j ∷ rest) s;
   ready = λ _. refl;
@@ -155,15 +170,15 @@ module _ (next : ℕ → Option ℕ) (cpus : List ℕ) (out : Bool) (x : ℕ) wh
   abbrev pub StandsIn : Stage → Type 0
   StandsIn q = ((o : Bool) × First cpus out x o) ⊎ ((p : ℕ) × Follows cpus x next p (cond (is_linked q) (Some x) None))
 
-  pub stands_in : (serving : ℕ) (q : Stage) → has x cpus ≡ true → Stands cpus out x kinds.Mcs serving next q → StandsIn q
-  stands_in serving Idle e s = absurd (true≢false (sym e ∙ s))
-  stands_in serving (Mcs Ready) e s = absurd (true≢false (sym e ∙ s.0))
-  stands_in serving (Mcs (Behind p)) e s = inr (p, s)
-  stands_in serving (Mcs (Armed p)) e s = inr (p, s)
-  stands_in serving (Mcs Waiting) e s = ⊎_elim {0, 0, 0} (λ t. inr t) (λ f. inl (false, f)) s
-  stands_in serving (Mcs Holding) e s = inl (true, s)
-  stands_in serving (Mcs Alone) e s = inl (true, s)
-  stands_in serving (Mcs Leaving) e s = inl (true, s.0)
-  stands_in serving (Mcs (Passing j)) e s = inl (true, s.0)
-  stands_in serving Trying e s = absurd (true≢false (sym e ∙ s.0))
-  stands_in serving q e s = absurd s
+  pub stands_in : (q : Stage) → has x cpus ≡ true → StandsInQueue cpus out x next q → StandsIn q
+  stands_in Idle e s = absurd (true≢false (sym e ∙ s))
+  stands_in (Mcs Ready) e s = absurd (true≢false (sym e ∙ s.0))
+  stands_in (Mcs (Behind p)) e s = inr (p, s)
+  stands_in (Mcs (Armed p)) e s = inr (p, s)
+  stands_in (Mcs Waiting) e s = ⊎_elim {0, 0, 0} (λ t. inr t) (λ f. inl (false, f)) s
+  stands_in (Mcs Holding) e s = inl (true, s)
+  stands_in (Mcs Alone) e s = inl (true, s)
+  stands_in (Mcs Leaving) e s = inl (true, s.0)
+  stands_in (Mcs (Passing j)) e s = inl (true, s.0)
+  stands_in Trying e s = absurd (true≢false (sym e ∙ s.0))
+  stands_in q e s = absurd s

@@ -4,22 +4,27 @@ use Rattle.std.proofs.lemmas.Bool.{false_from_ne_true}
 use Rattle.std.proofs.lemmas.List.{get_or-replicate, length-replicate}
 use mathlib.Core.Option.{some}
 use lib.ListN.{get_elem?}
-use Rattle.word_rule.specs.declared.lock_kind.LockKind.TheVariants as kinds
 use Rattle.word_rule.specs.declared.machine.step_done.StepDone.TheVariants as steps
 use Rattle.word_rule.specs.declared.stage.Stage.{Stage}
 use Rattle.word_rule.specs.declared.stage.Stage.TheVariants.{Idle, Mcs, Trying}
 use Rattle.word_rule.specs.declared.stage.McsStage.TheVariants.{Ready, Behind, Armed, Waiting, Holding, Alone, Leaving, Passing}
-use Rattle.word_rule.specs.Line.{Line, lined, moved, holding, is_first}
-use Rattle.word_rule.specs.Locks.{Lock, is_linked, last, behind, is_named, follower, going, joining, taking, leaving, opening_lock}
-use Rattle.word_rule.specs.Rule.LockStates.{IsLock, IsLockOf}
-use Rattle.word_rule.specs.LockWords.{word_of, is_armed, locked_by, locked_at}
-use Rattle.word_rule.specs.Tries.{is_empty, taken_by, ready, attempt, attempt_at}
-use Rattle.word_rule.specs.Turns.{clear, arm, link, pass, turn, turn_of, mcs_turn}
+use Rattle.word_rule.specs.Line.{Line, alone_with_it, lined, moved, is_empty, is_first, is_named, last, behind, going, joining, taking, leaving}
+use Rattle.word_rule.specs.LockDefinition.{IsState, IsTied, opening_state}
+use Rattle.word_rule.specs.Locks.{holding}
+use Rattle.word_rule.specs.Mcs.Acquire.{clear, arm, link}
+use Rattle.word_rule.specs.Mcs.Definition.{mcs_lock, mcs_turn}
+use Rattle.word_rule.specs.Mcs.Release.{pass}
+use Rattle.word_rule.specs.Mcs.State.{McsLock, word_of, is_armed, is_linked, follower, locked_by, locked_at}
+use Rattle.word_rule.specs.Mcs.Try.{ready, try_queue}
 use Rattle.word_rule.proofs.Lists.{one_place, first_at}
-use Rattle.word_rule.proofs.LockLaws.{stands_at, in_cell}
-use Rattle.word_rule.proofs.McsWords as words
-use Rattle.word_rule.proofs.QueueTurns as queue
-use Rattle.word_rule.proofs.Stays.{moved_same, each_moved}
+use Rattle.word_rule.proofs.LockStates.{stands_at, in_cell}
+use Rattle.word_rule.proofs.Mcs.States as queue
+use Rattle.word_rule.proofs.Mcs.Words as words
+use Rattle.word_rule.proofs.Moves.{moved_same, each_moved}
+
+-- i is alone in the queue, and has the object by its try
+abbrev pub tried_by : McsLock → ℕ → McsLock
+tried_by l i = record l { line = alone_with_it l.line i (Mcs Holding) }
 
 -- a word names nobody, or one CPU
 pub word_none : (o : Option ℕ) → word_of o ≡ 0 → o ≡ None
@@ -35,21 +40,21 @@ some_word None ne = absurd (ne refl)
 some_word (Some q) ne = (q, refl, refl)
 
 -- the turn of a CPU that stands there
-pub turned : (l : Lock) (i : ℕ) (q : Stage) → l.kind ≡ kinds.Mcs → l.line.stage i ≡ q → turn l i ≡ mcs_turn l i q
-turned l i q kind there = ap (λ k. turn_of k l i) kind ∙ ap (λ z. mcs_turn l i z) there
+pub turned : (l : McsLock) (i : ℕ) (q : Stage) → l.line.stage i ≡ q → mcs_lock.turn l i ≡ mcs_turn l i q
+turned l i q there = ap (λ z. mcs_turn l i z) there
 
 -- a look of one that waits: it gets the object where it is the first
-pub hits : (l : Lock) (i : ℕ) → is_first i l.line.cpus ≡ true → mcs_turn l i (Mcs Waiting) ≡ (record l { line = taking l.line i (Mcs Holding) }, steps.Look true)
+pub hits : (l : McsLock) (i : ℕ) → is_first i l.line.cpus ≡ true → mcs_turn l i (Mcs Waiting) ≡ (record l { line = taking l.line i (Mcs Holding) }, steps.Look true)
 hits l i is = ap (λ (b : Bool). cond b (record l { line = taking l.line i (Mcs Holding) }, steps.Look true) (l, steps.Look false)) is
 
-pub misses : (l : Lock) (i : ℕ) → is_first i l.line.cpus ≡ false → mcs_turn l i (Mcs Waiting) ≡ (l, steps.Look false)
+pub misses : (l : McsLock) (i : ℕ) → is_first i l.line.cpus ≡ false → mcs_turn l i (Mcs Waiting) ≡ (l, steps.Look false)
 misses l i is = ap (λ (b : Bool). cond b (record l { line = taking l.line i (Mcs Holding) }, steps.Look true) (l, steps.Look false)) is
 
 -- an attempt to empty the queue: it succeeds where the last is the one that tries
-pub ends_queue : (l : Lock) (i : ℕ) → is_named i (last l.line.cpus) ≡ true → mcs_turn l i (Mcs Alone) ≡ (record l { line = leaving l.line i }, steps.Empty true)
+pub ends_queue : (l : McsLock) (i : ℕ) → is_named i (last l.line.cpus) ≡ true → mcs_turn l i (Mcs Alone) ≡ (record l { line = leaving l.line i }, steps.Empty true)
 ends_queue l i is = ap (λ (b : Bool). cond b (record l { line = leaving l.line i }, steps.Empty true) (record l { line = going l.line i (Mcs Leaving) }, steps.Empty false)) is
 
-pub stays_queued : (l : Lock) (i : ℕ) → is_named i (last l.line.cpus) ≡ false → mcs_turn l i (Mcs Alone) ≡ (record l { line = going l.line i (Mcs Leaving) }, steps.Empty false)
+pub stays_queued : (l : McsLock) (i : ℕ) → is_named i (last l.line.cpus) ≡ false → mcs_turn l i (Mcs Alone) ≡ (record l { line = going l.line i (Mcs Leaving) }, steps.Empty false)
 stays_queued l i is = ap (λ (b : Bool). cond b (record l { line = leaving l.line i }, steps.Empty true) (record l { line = going l.line i (Mcs Leaving) }, steps.Empty false)) is
 
 -- where one stands elsewhere, and is as little armed there
@@ -68,10 +73,10 @@ free_first_word : (b : Bool) → ◌≡◌ {A = ℕ} (cond (b && not true) 1 0) 
 free_first_word true = refl
 free_first_word false = refl
 
-module _ (n : ℕ) (ws : List ℕ) (l : Lock) (h : IsLockOf kinds.Mcs n ws l) where
+module _ (n : ℕ) (ws : List ℕ) (l : McsLock) (h : IsTied mcs_lock n ws l) where
   -- a step that leaves each word as it was
-  read : (l' : Lock) → l'.kind ≡ l.kind → IsLock kinds.Mcs n l' → l'.next ≡ l.next → last l'.line.cpus ≡ last l.line.cpus → ((x : ℕ) → x < n → locked_at l'.line x ≡ locked_at l.line x) → IsLockOf kinds.Mcs n ws l'
-  read l' kind state next tail locked = record { kind_is = kind ∙ h.kind_is; state = state; words = words.words_stay n ws l h.words l' next tail locked }
+  read : (l' : McsLock) → IsState mcs_lock n l' → l'.own ≡ l.own → last l'.line.cpus ≡ last l.line.cpus → ((x : ℕ) → x < n → locked_at l'.line x ≡ locked_at l.line x) → IsTied mcs_lock n ws l'
+  read l' state next tail locked = record { state = state; words = words.words_stay n ws l h.words l' next tail locked }
 
   pub wide : length ws ≡ 1 + 2 * n
   wide = words.wide n ws l h.words
@@ -94,37 +99,35 @@ module _ (n : ℕ) (ws : List ℕ) (l : Lock) (h : IsLockOf kinds.Mcs n ws l) wh
       by (Some p) e = let lt = (queue.last_in n l h.state p e).1 in omega (arith, lt)
 
   module _ (i : ℕ) (below : i < n) where
-    pub clears : l.line.stage i ≡ Idle → IsLockOf kinds.Mcs n (set ws (1 + i) 0) (clear l i)
-    clears e = record { kind_is = h.kind_is; state = queue.clears n l h.state i below e; words = words.next_stored n ws l h.words (clear l i) i None below refl refl (locked_going l.line n i Idle (Mcs Ready) e refl) }
+    pub clears : l.line.stage i ≡ Idle → IsTied mcs_lock n (set ws (1 + i) 0) (clear l i)
+    clears e = record { state = queue.clears n l h.state i below e; words = words.next_stored n ws l h.words (clear l i) i None below refl refl (locked_going l.line n i Idle (Mcs Ready) e refl) }
 
-    pub readies : l.line.stage i ≡ Idle → IsLockOf kinds.Mcs n (set ws (1 + i) 0) (ready l i)
-    readies e = record { kind_is = h.kind_is; state = queue.readies n l h.state i below e; words = words.next_stored n ws l h.words (ready l i) i None below refl refl (locked_going l.line n i Idle Trying e refl) }
+    pub readies : l.line.stage i ≡ Idle → IsTied mcs_lock n (set ws (1 + i) 0) (ready l i)
+    readies e = record { state = queue.readies n l h.state i below e; words = words.next_stored n ws l h.words (ready l i) i None below refl refl (locked_going l.line n i Idle Trying e refl) }
 
     -- one that isn't armed enters an empty queue
-    enters_free : (q : Stage) → l.line.stage i ≡ q → 0 ≡ locked_by q i l.line.cpus → l.next i ≡ None → last l.line.cpus ≡ None → IsLockOf kinds.Mcs n (set ws 0 (i + 1)) (record l { line = lined (i ∷ []) true l.line.stage i (Mcs Holding) })
+    enters_free : (q : Stage) → l.line.stage i ≡ q → 0 ≡ locked_by q i l.line.cpus → l.own i ≡ None → last l.line.cpus ≡ None → IsTied mcs_lock n (set ws 0 (i + 1)) (record l { line = lined (i ∷ []) true l.line.stage i (Mcs Holding) })
     enters_free q e free clear none =
         let empty = queue.no_last l.line.cpus none in
         record {
-          kind_is = h.kind_is;
           state = queue.enters_first n l h.state i below clear none;
           words = words.tail_stored n ws l h.words (record l { line = lined (i ∷ []) true l.line.stage i (Mcs Holding) }) (i + 1) refl refl
               (words.locked_moved l.line.stage n i (Mcs Holding) l.line.cpus (i ∷ []) (free ∙ ap (λ z. locked_by z i l.line.cpus) (sym e))
               (λ x _ ne. locked_alike (l.line.stage x) x (i ∷ []) l.line.cpus (ne_eqb i x (λ is. ne (sym is))) (ap (is_first x) empty)));
         }
 
-    pub enters_first : l.line.stage i ≡ Mcs Ready → last l.line.cpus ≡ None → IsLockOf kinds.Mcs n (set ws 0 (i + 1)) (record l { line = lined (i ∷ []) true l.line.stage i (Mcs Holding) })
+    pub enters_first : l.line.stage i ≡ Mcs Ready → last l.line.cpus ≡ None → IsTied mcs_lock n (set ws 0 (i + 1)) (record l { line = lined (i ∷ []) true l.line.stage i (Mcs Holding) })
     enters_first e none = enters_free (Mcs Ready) e refl (queue.ready_clear n l h.state i below e) none
 
-    pub tries_enter : l.line.stage i ≡ Trying → last l.line.cpus ≡ None → IsLockOf kinds.Mcs n (set ws 0 (i + 1)) (taken_by l i (Mcs Holding))
+    pub tries_enter : l.line.stage i ≡ Trying → last l.line.cpus ≡ None → IsTied mcs_lock n (set ws 0 (i + 1)) (tried_by l i)
     tries_enter e none = enters_free Trying e refl (queue.trying_clear n l h.state i below e) none
 
     -- one that doesn't get the object by its try is idle again
-    pub gives_up : l.line.stage i ≡ Trying → IsLockOf kinds.Mcs n ws (record l { line = going l.line i Idle })
-    gives_up e = read (record l { line = going l.line i Idle }) refl (queue.gives_up n l h.state i below e) refl refl (locked_going l.line n i Trying Idle e refl)
+    pub gives_up : l.line.stage i ≡ Trying → IsTied mcs_lock n ws (record l { line = going l.line i Idle })
+    gives_up e = read (record l { line = going l.line i Idle }) (queue.gives_up n l h.state i below e) refl refl (locked_going l.line n i Trying Idle e refl)
 
-    pub enters_behind : (p : ℕ) → l.line.stage i ≡ Mcs Ready → last l.line.cpus ≡ Some p → IsLockOf kinds.Mcs n (set ws 0 (i + 1)) (record l { line = joining l.line i (Mcs (Behind p)) })
+    pub enters_behind : (p : ℕ) → l.line.stage i ≡ Mcs Ready → last l.line.cpus ≡ Some p → IsTied mcs_lock n (set ws 0 (i + 1)) (record l { line = joining l.line i (Mcs (Behind p)) })
     enters_behind p e there = record {
-      kind_is = h.kind_is;
       state = queue.enters_behind n l h.state i below p e there;
       words = words.tail_stored n ws l h.words (record l { line = joining l.line i (Mcs (Behind p)) }) (i + 1) refl (ap word_of (queue.last_push l.line.cpus i))
           (words.locked_moved l.line.stage n i (Mcs (Behind p)) l.line.cpus (l.line.cpus ++ i ∷ []) (ap (λ z. locked_by z i l.line.cpus) (sym e))
@@ -135,11 +138,10 @@ module _ (n : ℕ) (ws : List ℕ) (l : Lock) (h : IsLockOf kinds.Mcs n ws l) wh
     not_first : (p at : ℕ) → get_elem? l.line.cpus (suc at) ≡ some i → is_first i l.line.cpus ≡ false
     not_first p at there = false_from_ne_true (is_first i l.line.cpus) (λ first. let k = one_place n l.line.cpus h.state.distinct (suc at) 0 i there (first_at i l.line.cpus first) in absurd (omega (arith, k)))
 
-    pub arms : (p : ℕ) → l.line.stage i ≡ Mcs (Behind p) → IsLockOf kinds.Mcs n (set ws (1 + n + i) 1) (arm l i p)
+    pub arms : (p : ℕ) → l.line.stage i ≡ Mcs (Behind p) → IsTied mcs_lock n (set ws (1 + n + i) 1) (arm l i p)
     arms p e =
-        let s = stands_at kinds.Mcs n l h.state i (Mcs (Behind p)) below e in
+        let s = stands_at mcs_lock n l h.state i (Mcs (Behind p)) below e in
         record {
-          kind_is = h.kind_is;
           state = queue.arms n l h.state i below p e;
           words = words.locked_stored n ws l h.words (arm l i p) i 1 below refl refl
               (ap (λ z. locked_by z i l.line.cpus) (moved_same l.line.stage i (Mcs (Armed p))) ∙ ap (λ z. cond (not z) 1 0) (not_first p s.at s.there))
@@ -147,10 +149,10 @@ module _ (n : ℕ) (ws : List ℕ) (l : Lock) (h : IsLockOf kinds.Mcs n ws l) wh
         }
 
     pub ahead_below : (p : ℕ) → l.line.stage i ≡ Mcs (Armed p) → p < n
-    ahead_below p e = (queue.ahead_of n l h.state i below p None (stands_at kinds.Mcs n l h.state i (Mcs (Armed p)) below e)).2
+    ahead_below p e = (queue.ahead_of n l h.state i below p None (stands_at mcs_lock n l h.state i (Mcs (Armed p)) below e)).2
 
-    pub links : (p : ℕ) → l.line.stage i ≡ Mcs (Armed p) → IsLockOf kinds.Mcs n (set ws (1 + p) (i + 1)) (link l i p)
-    links p e = record { kind_is = h.kind_is; state = queue.links n l h.state i below p e; words = words.next_stored n ws l h.words (link l i p) p (Some i) (ahead_below p e) refl refl (locked_going l.line n i (Mcs (Armed p)) (Mcs Waiting) e refl) }
+    pub links : (p : ℕ) → l.line.stage i ≡ Mcs (Armed p) → IsTied mcs_lock n (set ws (1 + p) (i + 1)) (link l i p)
+    links p e = record { state = queue.links n l h.state i below p e; words = words.next_stored n ws l h.words (link l i p) p (Some i) (ahead_below p e) refl refl (locked_going l.line n i (Mcs (Armed p)) (Mcs Waiting) e refl) }
 
     -- `locked` is 0 exactly where i is the first
     waits_word : l.line.stage i ≡ Mcs Waiting → get_or ws (1 + n + i) 0 ≡ cond (not (is_first i l.line.cpus)) 1 0
@@ -166,8 +168,8 @@ module _ (n : ℕ) (ws : List ℕ) (l : Lock) (h : IsLockOf kinds.Mcs n ws l) wh
     pub locked_behind : l.line.stage i ≡ Mcs Waiting → get_or ws (1 + n + i) 0 ≢ 0 → is_first i l.line.cpus ≡ false
     locked_behind e some_one = false_from_ne_true (is_first i l.line.cpus) (λ first. some_one (waits_word e ∙ ap (λ z. cond (not z) 1 0) first))
 
-    pub gets : l.line.stage i ≡ Mcs Waiting → is_first i l.line.cpus ≡ true → IsLockOf kinds.Mcs n ws (record l { line = taking l.line i (Mcs Holding) })
-    gets e first = read (record l { line = taking l.line i (Mcs Holding) }) refl (queue.gets n l h.state i below e first) refl refl
+    pub gets : l.line.stage i ≡ Mcs Waiting → is_first i l.line.cpus ≡ true → IsTied mcs_lock n ws (record l { line = taking l.line i (Mcs Holding) })
+    gets e first = read (record l { line = taking l.line i (Mcs Holding) }) (queue.gets n l h.state i below e first) refl refl
         (locked_going l.line n i (Mcs Waiting) (Mcs Holding) e (sym (ap (λ z. cond (not z) 1 0) first)))
 
     -- the holder's `next` names its follower
@@ -185,26 +187,26 @@ module _ (n : ℕ) (ws : List ℕ) (l : Lock) (h : IsLockOf kinds.Mcs n ws l) wh
       where
         by : (o : Option ℕ) → follower l.line ≡ o → word_of o ≤ n
         by None e = omega arith
-        by (Some j) e = let lt = in_cell kinds.Mcs n l h.state 1 j (queue.follower_at n l h.state i below j e) in omega (arith, lt)
+        by (Some j) e = let lt = in_cell mcs_lock n l h.state 1 j (queue.follower_at n l h.state i below j e) in omega (arith, lt)
 
     -- one that waits in the second place has linked itself to the holder
     pub waits_linked : (y : ℕ) → holding (l.line.stage i) ≡ true → get_elem? l.line.cpus 1 ≡ some y → l.line.stage y ≡ Mcs Waiting → get_or ws (1 + i) 0 ≡ y + 1
     waits_linked y has_it there waits = words.next_word n ws l h.words i below ∙ ap word_of (queue.next_is n l h.state 0 i y (queue.holder_at n l h.state i below has_it) there ∙ ap (λ q. cond (is_linked q) (Some y) None) waits)
 
     -- one that has the object goes on, and no word changes
-    reads_on : (p q : Stage) → l.line.stage i ≡ p → locked_by q i l.line.cpus ≡ locked_by p i l.line.cpus → IsLock kinds.Mcs n (record l { line = going l.line i q }) → IsLockOf kinds.Mcs n ws (record l { line = going l.line i q })
-    reads_on p q e same state = read (record l { line = going l.line i q }) refl state refl refl (locked_going l.line n i p q e same)
+    reads_on : (p q : Stage) → l.line.stage i ≡ p → locked_by q i l.line.cpus ≡ locked_by p i l.line.cpus → IsState mcs_lock n (record l { line = going l.line i q }) → IsTied mcs_lock n ws (record l { line = going l.line i q })
+    reads_on p q e same state = read (record l { line = going l.line i q }) state refl refl (locked_going l.line n i p q e same)
 
-    pub saw : (j : ℕ) → l.line.stage i ≡ Mcs Holding → follower l.line ≡ Some j → IsLockOf kinds.Mcs n ws (record l { line = going l.line i (Mcs (Passing j)) })
+    pub saw : (j : ℕ) → l.line.stage i ≡ Mcs Holding → follower l.line ≡ Some j → IsTied mcs_lock n ws (record l { line = going l.line i (Mcs (Passing j)) })
     saw j e f = reads_on (Mcs Holding) (Mcs (Passing j)) e refl (queue.sees n l h.state i below j (ap holding e) f)
 
-    pub saw_again : (j : ℕ) → l.line.stage i ≡ Mcs Leaving → follower l.line ≡ Some j → IsLockOf kinds.Mcs n ws (record l { line = going l.line i (Mcs (Passing j)) })
+    pub saw_again : (j : ℕ) → l.line.stage i ≡ Mcs Leaving → follower l.line ≡ Some j → IsTied mcs_lock n ws (record l { line = going l.line i (Mcs (Passing j)) })
     saw_again j e f = reads_on (Mcs Leaving) (Mcs (Passing j)) e refl (queue.sees n l h.state i below j (ap holding e) f)
 
-    pub sees_none : l.line.stage i ≡ Mcs Holding → IsLockOf kinds.Mcs n ws (record l { line = going l.line i (Mcs Alone) })
+    pub sees_none : l.line.stage i ≡ Mcs Holding → IsTied mcs_lock n ws (record l { line = going l.line i (Mcs Alone) })
     sees_none e = reads_on (Mcs Holding) (Mcs Alone) e refl (queue.sees_none n l h.state i below e)
 
-    pub still_none : l.line.stage i ≡ Mcs Leaving → IsLockOf kinds.Mcs n ws (record l { line = going l.line i (Mcs Leaving) })
+    pub still_none : l.line.stage i ≡ Mcs Leaving → IsTied mcs_lock n ws (record l { line = going l.line i (Mcs Leaving) })
     still_none e = reads_on (Mcs Leaving) (Mcs Leaving) e refl (queue.still_none n l h.state i below e)
 
     -- the tail names i exactly where i is the last
@@ -221,26 +223,24 @@ module _ (n : ℕ) (ws : List ℕ) (l : Lock) (h : IsLockOf kinds.Mcs n ws l) wh
         by None ne = refl
         by (Some k) ne = ne_eqb k i (λ e. ne (ap Some e))
 
-    pub empties : l.line.stage i ≡ Mcs Alone → last l.line.cpus ≡ Some i → IsLockOf kinds.Mcs n (set ws 0 0) (record l { line = leaving l.line i })
+    pub empties : l.line.stage i ≡ Mcs Alone → last l.line.cpus ≡ Some i → IsTied mcs_lock n (set ws 0 0) (record l { line = leaving l.line i })
     empties e there =
         let one = queue.alone_is n l h.state i below e there in
         record {
-          kind_is = h.kind_is;
           state = queue.empties n l h.state i below e there;
           words = words.tail_stored n ws l h.words (record l { line = leaving l.line i }) 0 refl (ap (λ c. word_of (last (behind c))) one)
               (words.locked_moved l.line.stage n i Idle l.line.cpus (behind l.line.cpus) (ap (λ z. locked_by z i l.line.cpus) (sym e))
               (λ x _ ne. locked_alike (l.line.stage x) x (behind l.line.cpus) l.line.cpus (ap (λ c. is_first x (behind c)) one) (ap (is_first x) one ∙ ne_eqb i x (λ is. ne (sym is)))));
         }
 
-    pub stays_on : l.line.stage i ≡ Mcs Alone → last l.line.cpus ≢ Some i → IsLockOf kinds.Mcs n ws (record l { line = going l.line i (Mcs Leaving) })
+    pub stays_on : l.line.stage i ≡ Mcs Alone → last l.line.cpus ≢ Some i → IsTied mcs_lock n ws (record l { line = going l.line i (Mcs Leaving) })
     stays_on e other = reads_on (Mcs Alone) (Mcs Leaving) e refl (queue.stays_on n l h.state i below e other)
 
-    pub passes : (j : ℕ) → l.line.stage i ≡ Mcs (Passing j) → IsLockOf kinds.Mcs n (set ws (1 + n + j) 0) (pass l i)
+    pub passes : (j : ℕ) → l.line.stage i ≡ Mcs (Passing j) → IsTied mcs_lock n (set ws (1 + n + j) 0) (pass l i)
     passes j e =
         let r = queue.passes_to n l h.state i below j e in
         let gone : is_first j (behind l.line.cpus) ≡ true = ap (λ c. is_first j (behind c)) r.1 ∙ eq-eqb j j refl in
         record {
-          kind_is = h.kind_is;
           state = queue.passes n l h.state i below j e;
           words = words.locked_stored n ws l h.words (pass l i) j 0 (queue.passing_below n l h.state i below j e) refl (ap (λ c. last (behind c)) r.1 ∙ sym (ap last r.1))
               (ap (λ z. cond (is_armed (moved l.line.stage i Idle j) && not z) 1 0) gone ∙ free_first_word (is_armed (moved l.line.stage i Idle j)))
@@ -250,26 +250,25 @@ module _ (n : ℕ) (ws : List ℕ) (l : Lock) (h : IsLockOf kinds.Mcs n ws l) wh
         }
 
 -- a try that finds nobody in the queue, and one that doesn't
-module _ (l : Lock) (i t : ℕ) (kind : l.kind ≡ kinds.Mcs) where
-  tried : (cpus : List ℕ) → l.line.cpus ≡ cpus → attempt l i t ≡ cond (is_empty cpus) (taken_by l i (Mcs Holding), steps.Clear ∷ steps.Enter true ∷ []) (record l { line = going l.line i Idle }, [])
-  tried cpus is = ap (λ k. attempt_at k l i t) kind ∙ ap (λ z. cond (is_empty z) (taken_by l i (Mcs Holding), steps.Clear ∷ steps.Enter true ∷ []) (record l { line = going l.line i Idle }, [])) is
+module _ (l : McsLock) (i : ℕ) where
+  tried : (cpus : List ℕ) → l.line.cpus ≡ cpus → try_queue l i ≡ cond (is_empty cpus) (tried_by l i, steps.Clear ∷ steps.Enter true ∷ []) (record l { line = going l.line i Idle }, [])
+  tried cpus is = ap (λ z. cond (is_empty z) (tried_by l i, steps.Clear ∷ steps.Enter true ∷ []) (record l { line = going l.line i Idle }, [])) is
 
-  pub tries_first : last l.line.cpus ≡ None → attempt l i t ≡ (taken_by l i (Mcs Holding), steps.Clear ∷ steps.Enter true ∷ [])
+  pub tries_first : last l.line.cpus ≡ None → try_queue l i ≡ (tried_by l i, steps.Clear ∷ steps.Enter true ∷ [])
   tries_first none = tried [] (queue.no_last l.line.cpus none)
 
-  pub tries_busy : (p : ℕ) → last l.line.cpus ≡ Some p → attempt l i t ≡ (record l { line = going l.line i Idle }, [])
+  pub tries_busy : (p : ℕ) → last l.line.cpus ≡ Some p → try_queue l i ≡ (record l { line = going l.line i Idle }, [])
   tries_busy p there = by l.line.cpus refl there
     where
-      by : (cpus : List ℕ) → l.line.cpus ≡ cpus → last cpus ≡ Some p → attempt l i t ≡ (record l { line = going l.line i Idle }, [])
+      by : (cpus : List ℕ) → l.line.cpus ≡ cpus → last cpus ≡ Some p → try_queue l i ≡ (record l { line = going l.line i Idle }, [])
       by [] is e = cc
       by (x ∷ xs) is e = tried (x ∷ xs) is
 
 -- an MCS lock before the first step, and its words
-pub starts_mcs : (n first : ℕ) (ws : List ℕ) → ws ≡ replicate (1 + 2 * n) 0 → IsLockOf kinds.Mcs n ws (opening_lock kinds.Mcs first)
+pub starts_mcs : (n first : ℕ) (ws : List ℕ) → ws ≡ replicate (1 + 2 * n) 0 → IsTied mcs_lock n ws (opening_state mcs_lock first)
 starts_mcs n first ws is = record {
-  kind_is = refl;
   state = record { distinct = tt; busy = λ e. absurd (true≢false (sym e)); stood = λ x below. refl; own = λ p _. refl };
-  words = words.are n (opening_lock kinds.Mcs first) ws (ap length is ∙ length-replicate (1 + 2 * n) 0) (zeros 0 (omega arith)) (λ x lt. zeros (1 + x) (omega (arith, lt))) (λ x lt. zeros (1 + n + x) (omega (arith, lt)));
+  words = words.are n (opening_state mcs_lock first) ws (ap length is ∙ length-replicate (1 + 2 * n) 0) (zeros 0 (omega arith)) (λ x lt. zeros (1 + x) (omega (arith, lt))) (λ x lt. zeros (1 + n + x) (omega (arith, lt)));
 }
   where
     zeros : (i : ℕ) → i < 1 + 2 * n → get_or ws i 0 ≡ 0

@@ -9,7 +9,7 @@ use Rattle.word_rule.specs.declared.view.Moment.{Moment}
 use Rattle.word_rule.specs.CallerState.{CallerState, Moves, Takes, Gives, NeedsAnother}
 use Rattle.word_rule.specs.Cell.{Caller}
 use Rattle.word_rule.specs.LockRuns.{arrivals_in}
-use Rattle.word_rule.specs.Locks.{tickets}
+use Rattle.word_rule.specs.Ticket.State.{tickets}
 use Rattle.word_rule.specs.OneHold.{leaving}
 
 -- the run ends with the caller's draw, and the ticket is the cell's first one and as many more as had arrived in line before

@@ -4,8 +4,7 @@ use Rattle.std.proofs.lemmas.Nat.{div-mul-add, mod-mul-add}
 use Rattle.std.proofs.Math.Nat.{add-mod_left, mod-eq_of_lt, mod_self}
 use mathlib.Core.Logic.{dite}
 use native.Mathlib.Decide.{dec_lt}
-use Rattle.word_rule.specs.Locks.{tickets}
-use Rattle.word_rule.specs.LockWords.{ticket_word}
+use Rattle.word_rule.specs.Ticket.State.{tickets, ticket_word}
 
 module _ (next serving : ℕ) (next_small : next < tickets) (small : serving < tickets) where
   pub high_half : ticket_word next serving / tickets ≡ next

@@ -1,0 +1,75 @@
+-- What each lock proves of its definition: all else is proved from this.
+use Rattle.std.proofs.Common.{◌≡◌, ◌≢◌, ℕ, ◌<◌, ◌^◌, ◌==◌, Bool, true, false, cond, List, []}
+use Rattle.event_log.specs.Distinct.{has}
+use Rattle.word_rule.specs.declared.machine.step_done.StepDone.{StepDone}
+use Rattle.word_rule.specs.declared.machine.step_done.StepDone.TheVariants as steps
+use Rattle.word_rule.specs.declared.stage.Stage.{Stage}
+use Rattle.word_rule.specs.declared.stage.Stage.TheVariants.{Idle, Trying}
+use Rattle.word_rule.specs.Line.{First, moved}
+use Rattle.word_rule.specs.LockDefinition.{LockDefinition, LockState, IsState, opening_state}
+use Rattle.word_rule.specs.Locks.{holding}
+use Rattle.word_rule.proofs.LineAfter.{LineAfter}
+
+-- whether one that stands there has readied a try
+abbrev pub is_trying : Stage → Bool
+is_trying Trying = true
+is_trying q = false
+
+-- no CPU stands at such a place
+abbrev pub NoneTries : (ℕ → Stage) → Type 0
+NoneTries stage = (x : ℕ) → is_trying (stage x) ≡ false
+
+pub moved_whole : (stage : ℕ → Stage) (p : ℕ) (q : Stage) → NoneTries stage → is_trying q ≡ false → NoneTries (moved stage p q)
+moved_whole stage p q others mine x = by (x == p)
+  where
+    by : (b : Bool) → is_trying (cond b q (stage x)) ≡ false
+    by true = mine
+    by false = others x
+
+abbrev pub is_idle : StepDone → Bool
+is_idle steps.Idle = true
+is_idle s = false
+
+module _ (d : LockDefinition) where
+  -- what a turn leaves: a state of the lock, and a line that has changed as the step says
+  pub record Goes (n : ℕ) (l : LockState d.Own) (i : ℕ) (r : LockState d.Own × StepDone) : Type 0 where
+    pub state : IsState d n r.0
+    pub line : LineAfter r.1 i l.line.cpus r.0.line.cpus
+
+  -- what a turn does at a lock and at what is plain of it
+  pub record SameTurn (r r' : LockState d.Own × StepDone) : Type 0 where
+    pub step : r'.1 ≡ r.1
+    pub lock : d.plain r'.0 ≡ d.plain r.0
+
+  -- what a try leaves as it was: the line where somebody is there, and the places of others
+  pub record Tries (l : LockState d.Own) (i : ℕ) (r : LockState d.Own × List StepDone) : Type 0 where
+    pub busy : l.line.cpus ≢ [] → (r.0.line.cpus ≡ l.line.cpus) × (r.0.line.out ≡ l.line.out) × (r.1 ≡ [])
+    pub others : (x : ℕ) → x ≢ i → r.0.line.stage x ≡ l.line.stage x
+
+  pub record LockLaws : Type 0 where
+    -- a lock before its first step is a state of it, and plainly alike whatever its first ticket
+    pub begins : (n first : ℕ) → d.fits n ≡ true → IsState d n (opening_state d first)
+    pub opens_plainly : (first first' : ℕ) → d.plain (opening_state d first) ≡ d.plain (opening_state d first')
+    -- it is for as many CPUs as a byte can count; a state of it is one for as many as it fits
+    pub few_fit : (n : ℕ) → n < 2 ^ 8 → d.fits n ≡ true
+    pub fits : (n : ℕ) (l : LockState d.Own) → IsState d n l → d.fits n ≡ true
+    -- who is idle isn't in line; who has the object is the first
+    pub outside : (cpus : List ℕ) (out : Bool) (x : ℕ) (own : d.Own) → d.Stands cpus out x own Idle → has x cpus ≡ false
+    pub first : (cpus : List ℕ) (out : Bool) (x : ℕ) (own : d.Own) (q : Stage) → holding q ≡ true → d.Stands cpus out x own q → First cpus out x true
+    -- a holder stands where it has the object
+    pub holds : (ticket : ℕ) → holding (d.holder ticket) ≡ true
+    -- each turn keeps the lock
+    pub goes : (n : ℕ) (l : LockState d.Own) (i : ℕ) → IsState d n l → i < n → Goes n l i (d.turn l i)
+    -- no turn readies a try
+    pub whole : (l : LockState d.Own) (i : ℕ) → NoneTries l.line.stage → NoneTries (d.turn l i).0.line.stage
+    -- no turn of a CPU that stands at the lock, and has readied no try, is idle
+    pub acts : (n : ℕ) (l : LockState d.Own) (i : ℕ) → IsState d n l → i < n → is_trying (l.line.stage i) ≡ false → is_idle (d.turn l i).1 ≡ false
+    -- a turn of a CPU that has readied no try goes by what is plain of the lock
+    pub plain_twice : (l : LockState d.Own) → d.plain (d.plain l) ≡ d.plain l
+    pub plain_line : (l : LockState d.Own) → ((d.plain l).line.cpus ≡ l.line.cpus) × ((d.plain l).line.out ≡ l.line.out)
+    pub plainly : (l : LockState d.Own) (i : ℕ) → is_trying (l.line.stage i) ≡ false → SameTurn (d.turn l i) (d.turn (d.plain l) i)
+    -- two locks that go by one number do so after one step of both
+    pub counts : (l l' : LockState d.Own) (i : ℕ) → (d.turn l i).1 ≡ (d.turn l' i).1 → d.number l.own ≡ d.number l'.own → d.number (d.turn l i).0.own ≡ d.number (d.turn l' i).0.own
+    -- no try, and no readying of one, moves another CPU; nor does one that finds somebody change the line
+    pub tries : (l : LockState d.Own) (i ticket : ℕ) → Tries l i (d.attempt l i ticket)
+    pub readies : (l : LockState d.Own) (i x : ℕ) → x ≢ i → (d.ready l i).line.stage x ≡ l.line.stage x

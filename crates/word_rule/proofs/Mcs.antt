@@ -1,0 +1,9 @@
+-- The MCS lock.
+pub mod Stands
+pub mod States
+pub mod Words
+pub mod Turns
+pub mod Tries
+pub mod Plain
+pub mod Laws
+pub mod Shown

@@ -1,0 +1,7 @@
+-- The ticket lock.
+pub mod Words
+pub mod Turns
+pub mod Tries
+pub mod Laws
+pub mod Served
+pub mod Shown

@@ -1,0 +1,50 @@
+-- What the step machine keeps of a ticket lock shows it after each turn.
+use Rattle.std.proofs.Common.{◌≡◌, ◌≢◌, ℕ, ◌+◌, ◌-◌, ◌/◌, ◌%◌, ◌^◌, ◌<◌, true, false, List, length, get_or, set, refl, ap, ◌∙◌}
+use Rattle.std.proofs.lemmas.Bool.{false_from_ne_true}
+use Rattle.word_rule.specs.declared.machine.step_done.StepDone.{StepDone}
+use Rattle.word_rule.specs.declared.machine.step_done.StepDone.TheVariants as steps
+use Rattle.word_rule.specs.declared.stage.Stage.{Stage}
+use Rattle.word_rule.specs.declared.stage.Stage.TheVariants.{Idle, Ticket}
+use Rattle.word_rule.specs.declared.stage.TicketStage.TheVariants.{Drawn, Served}
+use Rattle.word_rule.specs.Line.{is_first, taking}
+use Rattle.word_rule.specs.LockDefinition.{IsTied}
+use Rattle.word_rule.specs.Rule.LockStates.{RepresentsState}
+use Rattle.word_rule.specs.Ticket.Acquire.{draw}
+use Rattle.word_rule.specs.Ticket.Definition.{ticket_lock, ticket_turn}
+use Rattle.word_rule.specs.Ticket.Release.{serve}
+use Rattle.word_rule.specs.Ticket.State.{TicketLock, tickets}
+use Rattle.word_rule.proofs.ShownTurns.{After, at, became, same}
+use Rattle.word_rule.proofs.Ticket.Turns as ticket
+
+module _ (n : ℕ) (ws : List ℕ) (stages : List Stage) (l : TicketLock) (h : RepresentsState ticket_lock n ws stages l) (i : ℕ) (below : i < n) where
+  abbrev AfterTicket : List ℕ → List Stage → StepDone → Type 0
+  AfterTicket = After ticket_lock n ws stages l h i below
+
+  abbrev stood : (q : Stage) → get_or stages i Idle ≡ q → l.line.stage i ≡ q
+  stood = at ticket_lock n ws stages l h i below
+
+  turn_at : (q : Stage) → get_or stages i Idle ≡ q → ticket_lock.turn l i ≡ ticket_turn l i q
+  turn_at q e = ticket.turned l i q (stood q e)
+
+  pub drew : (t : ℕ) → get_or stages i Idle ≡ Idle → t ≡ get_or ws 0 0 / tickets → AfterTicket (set ws 0 ((get_or ws 0 0 + tickets) % 2 ^ 64)) (set stages i (Ticket (Drawn t))) steps.Draw
+  drew t e is = became ticket_lock n ws stages l h i below _ _ (Ticket (Drawn ((l.own + length l.line.cpus) % tickets))) (draw l i, steps.Draw) (turn_at Idle e) (ticket.draws n ws l h.tied i below (stood Idle e)) refl (ap (λ t. Ticket (Drawn t)) (is ∙ ticket.ticket_is n ws l h.tied i below))
+
+  pub won : (t : ℕ) → get_or stages i Idle ≡ Ticket (Drawn t) → get_or ws 0 0 % tickets ≡ t → AfterTicket ws (set stages i (Ticket (Served t))) (steps.Look true)
+  won t e hit =
+      let p = stood (Ticket (Drawn t)) e in
+      let f = ticket.hit_first n ws l h.tied i below t p hit in
+      became ticket_lock n ws stages l h i below ws (Ticket (Served t)) (Ticket (Served t)) (record l { line = taking l.line i (Ticket (Served t)) }, steps.Look true) (turn_at (Ticket (Drawn t)) e ∙ ticket.hits l i t f) (ticket.takes n ws l h.tied i below t p f) refl refl
+
+  pub lost : (t : ℕ) → get_or stages i Idle ≡ Ticket (Drawn t) → get_or ws 0 0 % tickets ≢ t → AfterTicket ws stages (steps.Look false)
+  lost t e other =
+      let p = stood (Ticket (Drawn t)) e in
+      same ticket_lock n ws stages l h i below (steps.Look false) (turn_at (Ticket (Drawn t)) e ∙ ticket.misses l i t (false_from_ne_true (is_first i l.line.cpus) (λ f. other (ticket.first_hit n ws l h.tied i below t p f))))
+
+  served_by : (t : ℕ) → get_or stages i Idle ≡ Ticket (Served t) → (ws' : List ℕ) → IsTied ticket_lock n ws' (serve l i) → AfterTicket ws' (set stages i Idle) steps.Serve
+  served_by t e ws' tied = became ticket_lock n ws stages l h i below ws' Idle Idle (serve l i, steps.Serve) (turn_at (Ticket (Served t)) e) tied refl refl
+
+  pub served_adding : (t : ℕ) → get_or stages i Idle ≡ Ticket (Served t) → t + 1 < tickets → AfterTicket (set ws 0 ((get_or ws 0 0 + 1) % 2 ^ 64)) (set stages i Idle) steps.Serve
+  served_adding t e fits = served_by t e _ (ticket.serves_adding n ws l h.tied i below t (stood (Ticket (Served t)) e) fits)
+
+  pub served_subtracting : (t : ℕ) → get_or stages i Idle ≡ Ticket (Served t) → t + 1 ≡ tickets → AfterTicket (set ws 0 ((get_or ws 0 0 + (2 ^ 64 - (tickets - 1))) % 2 ^ 64)) (set stages i Idle) steps.Serve
+  served_subtracting t e last = served_by t e _ (ticket.serves_subtracting n ws l h.tied i below t (stood (Ticket (Served t)) e) last)

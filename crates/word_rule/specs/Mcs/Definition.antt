@@ -1,0 +1,44 @@
+-- The MCS lock, as one record.
+use Rattle.std.specs.Prelude.{◌≡◌, ℕ, true, List, Option, Some, None}
+use Rattle.word_rule.specs.declared.machine.step_done.StepDone.{StepDone}
+use Rattle.word_rule.specs.declared.machine.step_done.StepDone.TheVariants as steps
+use Rattle.word_rule.specs.declared.stage.Stage.{Stage}
+use Rattle.word_rule.specs.declared.stage.Stage.TheVariants.{Idle, Mcs}
+use Rattle.word_rule.specs.declared.stage.McsStage.TheVariants.{Ready, Behind, Armed, Waiting, Holding, Alone, Leaving, Passing}
+use Rattle.word_rule.specs.Line.{last}
+use Rattle.word_rule.specs.LockDefinition.{LockDefinition}
+use Rattle.word_rule.specs.Mcs.Acquire.{clear, enter, arm, link, look}
+use Rattle.word_rule.specs.Mcs.Release.{see, empty, pass}
+use Rattle.word_rule.specs.Mcs.State.{McsLock, follower, mcs_words, StandsInQueue, is_at_head, without_tries}
+use Rattle.word_rule.specs.Mcs.Try.{ready, try_queue}
+
+-- an MCS lock's next step, of a CPU that stands there
+abbrev pub mcs_turn : McsLock → ℕ → Stage → McsLock × StepDone
+mcs_turn l i Idle = (clear l i, steps.Clear)
+mcs_turn l i (Mcs Ready) = enter l i (last l.line.cpus)
+mcs_turn l i (Mcs (Behind p)) = (arm l i p, steps.Arm)
+mcs_turn l i (Mcs (Armed p)) = (link l i p, steps.Link)
+mcs_turn l i (Mcs Waiting) = look l i
+mcs_turn l i (Mcs Holding) = see l i (Mcs Alone) (follower l.line)
+mcs_turn l i (Mcs Alone) = empty l i
+mcs_turn l i (Mcs Leaving) = see l i (Mcs Leaving) (follower l.line)
+mcs_turn l i (Mcs (Passing j)) = (pass l i, steps.Pass)
+mcs_turn l i _ = (l, steps.Idle)
+
+abbrev pub mcs_lock : LockDefinition
+mcs_lock = record {
+  Own = ℕ → Option ℕ;
+  opening = λ first x. None;
+  turn = λ l i. mcs_turn l i (l.line.stage i);
+  attempt = λ l i ticket. try_queue l i;
+  ready = ready;
+  words = mcs_words;
+  fits = λ n. true;
+  Stands = StandsInQueue;
+  -- nobody has linked itself to the last of the queue
+  KeepsOwn = λ n next cpus. (p : ℕ) → last cpus ≡ Some p → next p ≡ None;
+  plain = without_tries;
+  number = λ next. 0;
+  holding = is_at_head;
+  holder = λ ticket. Mcs Holding;
+}

@@ -1,0 +1,36 @@
+-- The ticket lock, as one record.
+use Rattle.std.specs.Prelude.{ℕ, ◌%◌, ◌<◌, nat_lt, List}
+use Rattle.word_rule.specs.declared.machine.step_done.StepDone.{StepDone}
+use Rattle.word_rule.specs.declared.machine.step_done.StepDone.TheVariants as steps
+use Rattle.word_rule.specs.declared.stage.Stage.{Stage}
+use Rattle.word_rule.specs.declared.stage.Stage.TheVariants.{Idle, Ticket}
+use Rattle.word_rule.specs.declared.stage.TicketStage.TheVariants.{Drawn, Served}
+use Rattle.word_rule.specs.LockDefinition.{LockDefinition}
+use Rattle.word_rule.specs.Ticket.Acquire.{draw, look}
+use Rattle.word_rule.specs.Ticket.Release.{serve}
+use Rattle.word_rule.specs.Ticket.State.{TicketLock, tickets, ticket_words, StandsInLine, is_served, without_tickets}
+use Rattle.word_rule.specs.Ticket.Try.{try_ticket}
+
+-- a ticket lock's next step, of a CPU that stands there
+abbrev pub ticket_turn : TicketLock → ℕ → Stage → TicketLock × StepDone
+ticket_turn l i Idle = (draw l i, steps.Draw)
+ticket_turn l i (Ticket (Drawn t)) = look l i t
+ticket_turn l i (Ticket (Served t)) = (serve l i, steps.Serve)
+ticket_turn l i _ = (l, steps.Idle)
+
+abbrev pub ticket_lock : LockDefinition
+ticket_lock = record {
+  Own = ℕ;
+  opening = λ first. first % tickets;
+  turn = λ l i. ticket_turn l i (l.line.stage i);
+  attempt = try_ticket;
+  ready = λ l i. l;
+  words = λ n l. ticket_words l;
+  fits = λ n. nat_lt n tickets;
+  Stands = StandsInLine;
+  KeepsOwn = λ n serving cpus. (serving < tickets) × (n < tickets);
+  plain = without_tickets;
+  number = λ serving. serving;
+  holding = is_served;
+  holder = λ ticket. Ticket (Served ticket);
+}
