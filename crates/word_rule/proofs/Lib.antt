@@ -28,6 +28,7 @@ pub mod TurnsKeep
 pub mod Arrivals
 pub mod ShownTurns
 pub mod ShownLocks
+pub mod RuleStates
 pub mod Outcomes
 pub mod MachineSteps
 pub mod MachineKeeps
