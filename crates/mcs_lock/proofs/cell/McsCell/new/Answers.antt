@@ -1,9 +1,13 @@
 use Rattle.std.proofs.Common.{rules, ◌+◌, ◌*◌, arith}
 use Rattle.std.proofs.lemmas.List.{take-replicate}
 use Rattle.word_rule.specs.declared.key.TheConstants.{MOST_CPUS}
-use Rattle.word_rule.proofs.McsTurns.{starts_mcs}
+use Rattle.word_rule.specs.declared.lock_kind.LockKind.TheVariants as kinds
+use Rattle.word_rule.specs.LockDefinition.{opening_state}
+use Rattle.word_rule.specs.Mcs.Definition.{mcs_lock}
+use Rattle.word_rule.proofs.Mcs.Turns.{starts_mcs}
+use Rattle.word_rule.proofs.ShownLocks.{tied_lock}
 use Rattle.mcs_lock.proofs.cell.McsCell.new.Goals as goal
 
 pub open-requires : goal.open-requires
 open-requires g c = let n = c.args.cpus in let few = c.requires.few in
-    record { some = search rules; defined = starts_mcs n 0 _ (take-replicate (1 + 2 * n) (1 + 2 * MOST_CPUS) 0 (omega arith)) }
+    record { some = search rules; defined = tied_lock kinds.Mcs n _ (opening_state mcs_lock 0) (starts_mcs n 0 _ (take-replicate (1 + 2 * n) (1 + 2 * MOST_CPUS) 0 (omega arith))) }
