@@ -1,8 +1,8 @@
 //! A caller of an MCS lock, by what it may do next.
 
 ghost use Rattle.event_log.proofs.Props.{legal_props};
-ghost use Rattle.word_rule.specs.declared.stage.Stage.TheVariants.{Mcs, Trying};
-ghost use Rattle.word_rule.specs.declared.stage.McsStage.TheVariants.{Ready, Behind, Armed, Waiting, Alone, Leaving, Passing};
+ghost use Rattle.word_rule.specs.declared.lock_kind.Stage.TheVariants.{Mcs, Trying};
+ghost use Rattle.word_rule.specs.declared.lock_kind.McsStage.TheVariants.{Ready, Behind, Armed, Waiting, Alone, Leaving, Passing};
 ghost use Rattle.word_rule.specs.Rule.Announced.{IsElse};
 ghost use Rattle.word_rule.specs.Rule.Callers.{IsWithout, IsWith};
 

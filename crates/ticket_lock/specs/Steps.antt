@@ -4,8 +4,8 @@ use Rattle.atomic_table.specs.Table.{Step}
 use Rattle.event_log.specs.declared.object.SeqObject.{Ghosts}
 use Rattle.event_log.specs.History.{History}
 use Rattle.word_rule.specs.declared.machine.step_done.StepDone.TheVariants as steps
-use Rattle.word_rule.specs.declared.stage.Stage.TheVariants.{Idle, Ticket}
-use Rattle.word_rule.specs.declared.stage.TicketStage.TheVariants.{Drawn, Served}
+use Rattle.word_rule.specs.declared.lock_kind.Stage.TheVariants.{Idle, Ticket}
+use Rattle.word_rule.specs.declared.lock_kind.TicketStage.TheVariants.{Drawn, Served}
 use Rattle.word_rule.specs.Cell.{Cell}
 use Rattle.word_rule.specs.Ticket.State.{tickets}
 use Rattle.word_rule.specs.Rule.Callers.{caller_of}

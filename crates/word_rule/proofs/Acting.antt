@@ -15,8 +15,8 @@ use Rattle.event_log.specs.History.{History, IsKept, with_event}
 use Rattle.event_log.proofs.Each.{all_push}
 use Rattle.event_log.proofs.Beginnings.{begins_self, begins_more, begins_rest}
 use Rattle.word_rule.specs.declared.machine.step_done.StepDone.{StepDone}
-use Rattle.word_rule.specs.declared.stage.Stage.{Stage}
-use Rattle.word_rule.specs.declared.stage.Stage.TheVariants.{Idle}
+use Rattle.word_rule.specs.declared.lock_kind.Stage.{Stage}
+use Rattle.word_rule.specs.declared.lock_kind.Stage.TheVariants.{Idle}
 use Rattle.word_rule.specs.declared.view.Moment.{Moment}
 use Rattle.word_rule.specs.Answered.{IsBusy}
 use Rattle.word_rule.specs.Cell.{Cell, Grows, IsCaller, Lawful, OwnsAll, stored}

@@ -7,8 +7,8 @@ use Rattle.event_log.specs.Distinct.{has}
 use Rattle.word_rule.specs.declared.lock_kind.LockKind.{LockKind}
 use Rattle.word_rule.specs.declared.lock_kind.LockKind.TheVariants as kinds
 use Rattle.word_rule.specs.declared.machine.step_done.StepDone.{StepDone}
-use Rattle.word_rule.specs.declared.stage.Stage.{Stage}
-use Rattle.word_rule.specs.declared.stage.Stage.TheVariants.{Idle, Trying}
+use Rattle.word_rule.specs.declared.lock_kind.Stage.{Stage}
+use Rattle.word_rule.specs.declared.lock_kind.Stage.TheVariants.{Idle, Trying}
 use Rattle.word_rule.specs.Line.{First}
 use Rattle.word_rule.specs.LockDefinition.{LockState}
 use Rattle.word_rule.specs.Locks.{Fits, IsLock, Lock, definition_of, holder, holding, lock_of, number, opening_lock, plain, ready, state_of, turn}

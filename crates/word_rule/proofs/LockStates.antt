@@ -4,7 +4,7 @@ use mathlib.Core.Option.{some}
 use lib.ListN.{get_elem?}
 use Rattle.event_log.specs.Distinct.{has}
 use Rattle.event_log.proofs.Distinct.{distinct_length}
-use Rattle.word_rule.specs.declared.stage.Stage.{Stage}
+use Rattle.word_rule.specs.declared.lock_kind.Stage.{Stage}
 use Rattle.word_rule.specs.Line.{going}
 use Rattle.word_rule.specs.LockDefinition.{LockDefinition, LockState, IsState}
 use Rattle.word_rule.proofs.Lists.{has_at, below_of}

@@ -2,7 +2,7 @@
 use Rattle.std.proofs.Common.{◌≡◌, ℕ, List, refl, sym, subst}
 use Rattle.word_rule.specs.declared.lock_kind.LockKind.{LockKind}
 use Rattle.word_rule.specs.declared.machine.step_done.StepDone.{StepDone}
-use Rattle.word_rule.specs.declared.stage.Stage.{Stage}
+use Rattle.word_rule.specs.declared.lock_kind.Stage.{Stage}
 use Rattle.word_rule.specs.LockDefinition.{IsTied, LockState}
 use Rattle.word_rule.specs.Locks.{Lock, definition_of, lock_of, turn}
 use Rattle.word_rule.specs.Rule.LockStates.{IsLockOf, RepresentsLock, RepresentsState}

@@ -3,8 +3,8 @@ use Rattle.std.proofs.Common.{◌≡◌, ◌≢◌, ℕ, ◌<◌, List, length, 
 use mathlib.Core.Logic.{dite}
 use native.Mathlib.Decide.{ℕ_discrete}
 use Rattle.word_rule.specs.declared.machine.step_done.StepDone.{StepDone}
-use Rattle.word_rule.specs.declared.stage.Stage.{Stage}
-use Rattle.word_rule.specs.declared.stage.Stage.TheVariants.{Idle}
+use Rattle.word_rule.specs.declared.lock_kind.Stage.{Stage}
+use Rattle.word_rule.specs.declared.lock_kind.Stage.TheVariants.{Idle}
 use Rattle.word_rule.specs.Line.{moved}
 use Rattle.word_rule.specs.LockDefinition.{IsTied, LockDefinition, LockState}
 use Rattle.word_rule.specs.Rule.LockStates.{RepresentsState}

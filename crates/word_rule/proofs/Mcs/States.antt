@@ -8,9 +8,9 @@ use lib.ListN.{get_elem?}
 use Rattle.atomic_table.proofs.Lists.{at_longer, at_last}
 use Rattle.event_log.specs.Distinct.{has, AreDistinctBelow}
 use Rattle.event_log.proofs.Distinct.{distinct_push}
-use Rattle.word_rule.specs.declared.stage.Stage.{Stage}
-use Rattle.word_rule.specs.declared.stage.Stage.TheVariants.{Idle, Mcs, Trying}
-use Rattle.word_rule.specs.declared.stage.McsStage.TheVariants.{Ready, Behind, Armed, Waiting, Holding, Alone, Leaving, Passing}
+use Rattle.word_rule.specs.declared.lock_kind.Stage.{Stage}
+use Rattle.word_rule.specs.declared.lock_kind.Stage.TheVariants.{Idle, Mcs, Trying}
+use Rattle.word_rule.specs.declared.lock_kind.McsStage.TheVariants.{Ready, Behind, Armed, Waiting, Holding, Alone, Leaving, Passing}
 use Rattle.word_rule.specs.Line.{is_first, lined, last, last_from, is_named, second, behind, going, joining, taking, leaving, First}
 use Rattle.word_rule.specs.LockDefinition.{IsState}
 use Rattle.word_rule.specs.Locks.{holding}

@@ -6,7 +6,7 @@ use Rattle.std.proofs.lemmas.List.{ext_get_or, get_or_append_left, get_or-append
 use Rattle.std.proofs.lemmas.List.FromFn.{get_or-map-range_with_len, length-map-range_with_len}
 use mathlib.Core.Logic.{dite}
 use native.Mathlib.Decide.{ℕ_discrete}
-use Rattle.word_rule.specs.declared.stage.Stage.{Stage}
+use Rattle.word_rule.specs.declared.lock_kind.Stage.{Stage}
 use Rattle.word_rule.specs.Line.{moved, last}
 use Rattle.word_rule.specs.Mcs.State.{McsLock, naming, word_of, locked_by, locked_at, mcs_words}
 use Rattle.word_rule.proofs.Mcs.Stands.{naming_same, naming_else}

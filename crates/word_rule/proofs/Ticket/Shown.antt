@@ -3,9 +3,9 @@ use Rattle.std.proofs.Common.{◌≡◌, ◌≢◌, ℕ, ◌+◌, ◌-◌, ◌/�
 use Rattle.std.proofs.lemmas.Bool.{false_from_ne_true}
 use Rattle.word_rule.specs.declared.machine.step_done.StepDone.{StepDone}
 use Rattle.word_rule.specs.declared.machine.step_done.StepDone.TheVariants as steps
-use Rattle.word_rule.specs.declared.stage.Stage.{Stage}
-use Rattle.word_rule.specs.declared.stage.Stage.TheVariants.{Idle, Ticket}
-use Rattle.word_rule.specs.declared.stage.TicketStage.TheVariants.{Drawn, Served}
+use Rattle.word_rule.specs.declared.lock_kind.Stage.{Stage}
+use Rattle.word_rule.specs.declared.lock_kind.Stage.TheVariants.{Idle, Ticket}
+use Rattle.word_rule.specs.declared.lock_kind.TicketStage.TheVariants.{Drawn, Served}
 use Rattle.word_rule.specs.Line.{is_first, taking}
 use Rattle.word_rule.specs.LockDefinition.{IsTied}
 use Rattle.word_rule.specs.Rule.LockStates.{RepresentsState}

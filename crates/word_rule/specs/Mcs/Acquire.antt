@@ -3,8 +3,8 @@
 use Rattle.std.specs.Prelude.{ℕ, true, false, if◌then◌else◌, [], ◌∷◌, Option, Some, None}
 use Rattle.word_rule.specs.declared.machine.step_done.StepDone.{StepDone}
 use Rattle.word_rule.specs.declared.machine.step_done.StepDone.TheVariants as steps
-use Rattle.word_rule.specs.declared.stage.Stage.TheVariants.{Mcs}
-use Rattle.word_rule.specs.declared.stage.McsStage.TheVariants.{Ready, Behind, Armed, Waiting, Holding}
+use Rattle.word_rule.specs.declared.lock_kind.Stage.TheVariants.{Mcs}
+use Rattle.word_rule.specs.declared.lock_kind.McsStage.TheVariants.{Ready, Behind, Armed, Waiting, Holding}
 use Rattle.word_rule.specs.Line.{alone_with_it, is_first, going, joining, taking}
 use Rattle.word_rule.specs.Mcs.State.{McsLock, naming}
 

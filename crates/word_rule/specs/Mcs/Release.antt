@@ -3,9 +3,9 @@
 use Rattle.std.specs.Prelude.{ℕ, true, false, if◌then◌else◌, Option, Some, None}
 use Rattle.word_rule.specs.declared.machine.step_done.StepDone.{StepDone}
 use Rattle.word_rule.specs.declared.machine.step_done.StepDone.TheVariants as steps
-use Rattle.word_rule.specs.declared.stage.Stage.{Stage}
-use Rattle.word_rule.specs.declared.stage.Stage.TheVariants.{Mcs}
-use Rattle.word_rule.specs.declared.stage.McsStage.TheVariants.{Leaving, Passing}
+use Rattle.word_rule.specs.declared.lock_kind.Stage.{Stage}
+use Rattle.word_rule.specs.declared.lock_kind.Stage.TheVariants.{Mcs}
+use Rattle.word_rule.specs.declared.lock_kind.McsStage.TheVariants.{Leaving, Passing}
 use Rattle.word_rule.specs.Line.{last, is_named, going, leaving}
 use Rattle.word_rule.specs.Mcs.State.{McsLock}
 

@@ -4,9 +4,9 @@ use Rattle.std.specs.List.{range_with_len}
 use mathlib.Core.Option.{some}
 use lib.ListN.{get_elem?}
 use Rattle.event_log.specs.Distinct.{has}
-use Rattle.word_rule.specs.declared.stage.Stage.{Stage}
-use Rattle.word_rule.specs.declared.stage.Stage.TheVariants.{Idle, Mcs, Trying}
-use Rattle.word_rule.specs.declared.stage.McsStage.TheVariants.{Ready, Behind, Armed, Waiting, Holding, Alone, Leaving, Passing}
+use Rattle.word_rule.specs.declared.lock_kind.Stage.{Stage}
+use Rattle.word_rule.specs.declared.lock_kind.Stage.TheVariants.{Idle, Mcs, Trying}
+use Rattle.word_rule.specs.declared.lock_kind.McsStage.TheVariants.{Ready, Behind, Armed, Waiting, Holding, Alone, Leaving, Passing}
 use Rattle.word_rule.specs.Line.{Line, First, is_first, last, second}
 use Rattle.word_rule.specs.LockDefinition.{LockState}
 

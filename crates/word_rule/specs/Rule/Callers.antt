@@ -5,7 +5,7 @@ use Rattle.event_log.specs.declared.event.Event.{Event}
 use Rattle.event_log.specs.Distinct.{has}
 use Rattle.event_log.specs.History.{History}
 use Rattle.event_log.specs.Log.{Begins, of}
-use Rattle.word_rule.specs.declared.stage.Stage.{Stage}
+use Rattle.word_rule.specs.declared.lock_kind.Stage.{Stage}
 use Rattle.word_rule.specs.Cell.{Cell, Caller, PassView, HoldView, IsPassView, IsHoldView}
 use Rattle.word_rule.specs.CallerState.{CallerState}
 use Rattle.word_rule.specs.LockRuns.{HasRun}

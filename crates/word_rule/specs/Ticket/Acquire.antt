@@ -2,8 +2,8 @@
 use Rattle.std.specs.Prelude.{ℕ, ◌+◌, ◌%◌, true, false, if◌then◌else◌, length}
 use Rattle.word_rule.specs.declared.machine.step_done.StepDone.{StepDone}
 use Rattle.word_rule.specs.declared.machine.step_done.StepDone.TheVariants as steps
-use Rattle.word_rule.specs.declared.stage.Stage.TheVariants.{Ticket}
-use Rattle.word_rule.specs.declared.stage.TicketStage.TheVariants.{Drawn, Served}
+use Rattle.word_rule.specs.declared.lock_kind.Stage.TheVariants.{Ticket}
+use Rattle.word_rule.specs.declared.lock_kind.TicketStage.TheVariants.{Drawn, Served}
 use Rattle.word_rule.specs.Line.{is_first, joining, taking}
 use Rattle.word_rule.specs.Ticket.State.{TicketLock, tickets}
 

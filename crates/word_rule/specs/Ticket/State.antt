@@ -3,9 +3,9 @@ use Rattle.std.specs.Prelude.{◌≡◌, ℕ, ◌+◌, ◌*◌, ◌%◌, ◌^◌
 use mathlib.Core.Option.{some}
 use lib.ListN.{get_elem?}
 use Rattle.event_log.specs.Distinct.{has}
-use Rattle.word_rule.specs.declared.stage.Stage.{Stage}
-use Rattle.word_rule.specs.declared.stage.Stage.TheVariants.{Idle, Ticket}
-use Rattle.word_rule.specs.declared.stage.TicketStage.TheVariants.{Drawn, Served}
+use Rattle.word_rule.specs.declared.lock_kind.Stage.{Stage}
+use Rattle.word_rule.specs.declared.lock_kind.Stage.TheVariants.{Idle, Ticket}
+use Rattle.word_rule.specs.declared.lock_kind.TicketStage.TheVariants.{Drawn, Served}
 use Rattle.word_rule.specs.Line.{First}
 use Rattle.word_rule.specs.LockDefinition.{LockState}
 

@@ -1,6 +1,6 @@
 use Rattle.std.proofs.Common.{◌≡◌, ◌≢◌, ◌<◌, [], ◌∷◌, ap}
 use Rattle.word_rule.specs.declared.lock_kind.LockKind.TheVariants as kinds
-use Rattle.word_rule.specs.declared.stage.Stage.TheVariants.{Idle}
+use Rattle.word_rule.specs.declared.lock_kind.Stage.TheVariants.{Idle}
 use Rattle.word_rule.specs.Locks.{Lock, attempt, lock_of, number, ready, turn}
 use Rattle.word_rule.specs.Ticket.State.{tickets}
 use Rattle.word_rule.proofs.LockLaws.{at_kind, readies, tries}

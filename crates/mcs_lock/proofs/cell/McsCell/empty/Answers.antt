@@ -1,8 +1,8 @@
 use Rattle.std.proofs.Common.{rules, false, [], ◌∷◌, refl, sym, ap, subst, ◌∙◌, arith, Some}
 use Rattle.atomic_table.specs.Table.{rest}
 use Rattle.word_rule.specs.declared.machine.step_done.StepDone.TheVariants as steps
-use Rattle.word_rule.specs.declared.stage.Stage.TheVariants.{Mcs}
-use Rattle.word_rule.specs.declared.stage.McsStage.TheVariants.{Alone, Leaving}
+use Rattle.word_rule.specs.declared.lock_kind.Stage.TheVariants.{Mcs}
+use Rattle.word_rule.specs.declared.lock_kind.McsStage.TheVariants.{Alone, Leaving}
 use Rattle.word_rule.specs.CallerState.{Moves, NeedsAnother}
 use Rattle.word_rule.specs.Rule.Callers.{state_with, IsWith}
 use Rattle.word_rule.proofs.Acting.{left, rests_now, gives_now, goes_with, lags_with}

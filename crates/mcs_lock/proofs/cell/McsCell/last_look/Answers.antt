@@ -2,8 +2,8 @@ use Rattle.std.proofs.Common.{rules, refl, ◌≡◌, ◌<◌, true, [], ◌∷�
 use Rattle.atomic_table.specs.Table.{rest}
 use Rattle.event_log.specs.Distinct.{has}
 use Rattle.word_rule.specs.declared.machine.step_done.StepDone.TheVariants as steps
-use Rattle.word_rule.specs.declared.stage.Stage.TheVariants.{Idle, Mcs}
-use Rattle.word_rule.specs.declared.stage.McsStage.TheVariants.{Waiting, Holding}
+use Rattle.word_rule.specs.declared.lock_kind.Stage.TheVariants.{Idle, Mcs}
+use Rattle.word_rule.specs.declared.lock_kind.McsStage.TheVariants.{Waiting, Holding}
 use Rattle.word_rule.specs.Cell.{Lawful}
 use Rattle.word_rule.specs.LockRuns.{Extends, HasRun}
 use Rattle.word_rule.specs.Locks.{holder}

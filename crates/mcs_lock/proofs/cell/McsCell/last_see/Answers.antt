@@ -1,8 +1,8 @@
 use Rattle.std.proofs.Common.{rules, ◌≡◌, ℕ, ◌-◌, ◌<◌, true, [], ◌∷◌, refl, sym, ap, subst, ◌∙◌, arith}
 use Rattle.event_log.specs.Distinct.{has}
 use Rattle.word_rule.specs.declared.machine.step_done.StepDone.TheVariants as steps
-use Rattle.word_rule.specs.declared.stage.Stage.TheVariants.{Mcs}
-use Rattle.word_rule.specs.declared.stage.McsStage.TheVariants.{Leaving, Waiting, Passing}
+use Rattle.word_rule.specs.declared.lock_kind.Stage.TheVariants.{Mcs}
+use Rattle.word_rule.specs.declared.lock_kind.McsStage.TheVariants.{Leaving, Waiting, Passing}
 use Rattle.word_rule.specs.Rule.Announced.{IsElse, Goes}
 use Rattle.word_rule.specs.Rule.Callers.{IsWith, IsWithout, hold_view_of, state_without}
 use Rattle.word_rule.proofs.Acting.{all_together, goes_with, moves_with}

@@ -1,6 +1,6 @@
 use Rattle.std.proofs.Common.{rules, subst, arith}
-use Rattle.word_rule.specs.declared.stage.Stage.TheVariants.{Mcs}
-use Rattle.word_rule.specs.declared.stage.McsStage.TheVariants.{Passing}
+use Rattle.word_rule.specs.declared.lock_kind.Stage.TheVariants.{Mcs}
+use Rattle.word_rule.specs.declared.lock_kind.McsStage.TheVariants.{Passing}
 use Rattle.word_rule.specs.Rule.Callers.{IsWith}
 use Rattle.word_rule.proofs.Acting.{left, rests_now, gives_now}
 use Rattle.mcs_lock.proofs.McsActing.{pass_now, else_below, is_other}

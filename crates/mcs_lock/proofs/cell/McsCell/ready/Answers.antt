@@ -1,5 +1,5 @@
 use Rattle.std.proofs.Common.{subst, arith}
-use Rattle.word_rule.specs.declared.stage.Stage.TheVariants.{Idle}
+use Rattle.word_rule.specs.declared.lock_kind.Stage.TheVariants.{Idle}
 use Rattle.word_rule.specs.Rule.Callers.{IsWithout}
 use Rattle.word_rule.proofs.Acting.{goes_without, moves_without}
 use Rattle.mcs_lock.proofs.McsActing.{ready_now, below_without}

@@ -1,7 +1,7 @@
 use Rattle.std.proofs.Common.{rules, ℕ, ◌-◌, ◌<◌, true, false, [], ◌∷◌, ap, subst, ◌∙◌, arith}
 use Rattle.word_rule.specs.declared.machine.step_done.StepDone.TheVariants as steps
-use Rattle.word_rule.specs.declared.stage.Stage.TheVariants.{Mcs}
-use Rattle.word_rule.specs.declared.stage.McsStage.TheVariants.{Holding, Alone, Passing}
+use Rattle.word_rule.specs.declared.lock_kind.Stage.TheVariants.{Mcs}
+use Rattle.word_rule.specs.declared.lock_kind.McsStage.TheVariants.{Holding, Alone, Passing}
 use Rattle.word_rule.specs.CallerState.{Moves}
 use Rattle.word_rule.specs.Rule.Callers.{IsWith, state_with}
 use Rattle.word_rule.specs.Locks.{holder}

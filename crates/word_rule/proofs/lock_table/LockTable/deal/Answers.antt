@@ -1,5 +1,5 @@
 use Rattle.std.proofs.Common.{rules, ◌<◌, ◌^◌, sym, ap, subst, ◌∙◌, arith}
-use Rattle.word_rule.specs.declared.stage.Stage.TheVariants.{Idle}
+use Rattle.word_rule.specs.declared.lock_kind.Stage.TheVariants.{Idle}
 use Rattle.word_rule.specs.Rule.Callers.{IsWithout}
 use Rattle.word_rule.proofs.LockLaws.{few_fit}
 use Rattle.word_rule.proofs.Dealing.{goes_on, is_one, one_rests, part_first, each_push}

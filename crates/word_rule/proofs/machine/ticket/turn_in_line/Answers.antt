@@ -1,5 +1,5 @@
 use Rattle.std.proofs.Common.{ap, ◌∙◌, sym}
-use Rattle.word_rule.specs.declared.stage.Stage.TheVariants.{Ticket}
+use Rattle.word_rule.specs.declared.lock_kind.Stage.TheVariants.{Ticket}
 use Rattle.word_rule.proofs.Ticket.Shown.{won, lost}
 use Rattle.word_rule.proofs.machine.ticket.turn_in_line.Goals as goal
 
