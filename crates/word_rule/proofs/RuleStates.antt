@@ -1,5 +1,5 @@
 -- The rule of a cell's table, where the lock is a state of its definition.
-use Rattle.std.proofs.Common.{◌≡◌, ℕ, false, List, ap, Option, Some}
+use Rattle.std.proofs.Common.{◌≡◌, ℕ, false, List, ap, Some}
 use mathlib.Core.Option.{some}
 use lib.ListN.{get_elem?}
 use Rattle.event_log.specs.declared.object.SeqObject.{Ghosts}

@@ -1,5 +1,5 @@
 -- Who ends a hold does so in the order of arrival, in each run of a lock.
-use Rattle.std.proofs.Common.{◌≡◌, ℕ, ◌+◌, ◌*◌, ◌%◌, ◌<◌, ◌&&◌, true, false, Bool, cond, List, [], ◌∷◌, ◌++◌, replicate, refl, sym, ap, ◌∙◌, subst, append-nil}
+use Rattle.std.proofs.Common.{◌≡◌, ℕ, ◌<◌, ◌&&◌, true, false, Bool, cond, List, [], ◌∷◌, ◌++◌, sym, ap, ◌∙◌, subst, append-nil}
 use Rattle.std.specs.List.{AllByRecursion}
 use Rattle.event_log.specs.declared.event.Event.{Event}
 use Rattle.event_log.specs.Log.{Begins}

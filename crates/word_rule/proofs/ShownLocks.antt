@@ -40,5 +40,5 @@ module _ (kind k : LockKind) (is : k ≡ kind) (n m : ℕ) (ws us : List ℕ) (s
       → (l : Lock) → RepresentsLock n k ws stages l → (step ≡ (turn l i).1) × RepresentsLock n k ws' stages' (turn l i).0
   turn_kept vs ws' qs stages' i step now_words now_stages each =
       let each' = subst (λ (z : ℕ × List ℕ × List Stage × List ℕ × List Stage). (s : LockState (definition_of kind).Own) → RepresentsState (definition_of kind) z.0 z.1 z.2 s → (step ≡ ((definition_of kind).turn s i).1) × RepresentsState (definition_of kind) z.0 z.3 z.4 ((definition_of kind).turn s i).0)
-          (λ j. (long j, words_are j, stages_are j, sym now_words j, sym now_stages j)) each in
+      (λ j. (long j, words_are j, stages_are j, sym now_words j, sym now_stages j)) each in
       subst (λ z. (l : Lock) → RepresentsLock n z ws stages l → (step ≡ (turn l i).1) × RepresentsLock n z ws' stages' (turn l i).0) (sym is) (turn_shown kind n ws ws' stages stages' i step each')

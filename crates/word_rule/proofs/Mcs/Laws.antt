@@ -1,5 +1,5 @@
 -- What an MCS lock proves of its definition.
-use Rattle.std.proofs.Common.{◌≡◌, ◌≢◌, ℕ, ◌+◌, ◌*◌, ◌<◌, ◌==◌, Bool, true, false, true≢false, cond, List, [], ◌∷◌, ◌++◌, eq-eqb, replicate, refl, sym, ap, ◌∙◌, subst, Option, Some, None}
+use Rattle.std.proofs.Common.{◌≡◌, ◌≢◌, ℕ, ◌<◌, ◌==◌, Bool, true, false, true≢false, cond, List, [], ◌∷◌, ◌++◌, eq-eqb, refl, sym, ap, ◌∙◌, subst, Option, Some, None}
 use Rattle.std.proofs.lemmas.Bool.{eqb-true}
 use Rattle.word_rule.specs.declared.machine.step_done.StepDone.{StepDone}
 use Rattle.word_rule.specs.declared.machine.step_done.StepDone.TheVariants as steps
@@ -10,11 +10,10 @@ use Rattle.word_rule.specs.declared.lock_kind.McsStage.TheVariants.{Ready, Behin
 use Rattle.word_rule.specs.Line.{behind, is_first, is_named, last, second, going, leaving, taking}
 use Rattle.word_rule.specs.LockDefinition.{IsState}
 use Rattle.word_rule.specs.Locks.{holding}
-use Rattle.word_rule.specs.Mcs.Acquire.{enter, look}
+use Rattle.word_rule.specs.Mcs.Acquire.{enter}
 use Rattle.word_rule.specs.Mcs.Definition.{mcs_lock, mcs_turn}
-use Rattle.word_rule.specs.Mcs.Release.{see, empty}
+use Rattle.word_rule.specs.Mcs.Release.{see}
 use Rattle.word_rule.specs.Mcs.State.{McsLock, follower, if_linked, naming, plain_next, untried, without_tries}
-use Rattle.word_rule.proofs.LineAfter.{LineAfter}
 use Rattle.word_rule.proofs.LockInterface.{Goes, SameTurn, LockLaws, NoneTries, is_idle, is_trying, moved_whole}
 use Rattle.word_rule.proofs.LockStates.{stands_at}
 use Rattle.word_rule.proofs.Mcs.Plain.{Alike, plain_twice, plain_moved, next_plainly, next_twice, linked_plainly}

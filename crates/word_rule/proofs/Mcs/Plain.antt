@@ -1,10 +1,9 @@
 -- What is plain of an MCS lock: tries that are readied, and the `next` of who is idle, don't count.
-use Rattle.std.proofs.Common.{◌≡◌, ◌≢◌, ℕ, ◌==◌, Bool, true, false, cond, List, eq-eqb, ne_eqb, refl, sym, ap, ◌∙◌, subst, Option, Some, None}
+use Rattle.std.proofs.Common.{◌≡◌, ◌≢◌, ℕ, Bool, cond, List, eq-eqb, ne_eqb, refl, sym, ap, ◌∙◌, subst, Option, None}
 use mathlib.Core.Logic.{dite}
 use native.Mathlib.Decide.{ℕ_discrete}
 use Rattle.word_rule.specs.declared.lock_kind.Stage.{Stage}
 use Rattle.word_rule.specs.declared.lock_kind.Stage.TheVariants.{Idle, Mcs, Trying}
-use Rattle.word_rule.specs.declared.lock_kind.McsStage.TheVariants.{Waiting}
 use Rattle.word_rule.specs.Line.{going, lined, moved}
 use Rattle.word_rule.specs.Mcs.State.{McsLock, is_linked, naming, plain_next, untried, without_tries}
 use Rattle.word_rule.specs.Mcs.Try.{ready}
@@ -89,7 +88,6 @@ module _ (l : McsLock) (i : ℕ) where
       stages x = dite (ℕ_discrete x i)
           (λ is. moved_here i (moved l.line.stage i Idle) Trying x is ∙ sym (ap l.line.stage is ∙ trying))
           (λ ne. moved_there i (moved l.line.stage i Idle) Trying x ne ∙ moved_there i l.line.stage Idle x ne)
-
 
       nexts : (x : ℕ) → naming l.own i None x ≡ l.own x
       nexts x = dite (ℕ_discrete x i)

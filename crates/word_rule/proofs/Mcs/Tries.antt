@@ -1,12 +1,12 @@
 -- A try at an MCS lock that gets the object is a clear and an enter; one that doesn't changes nobody's place in the queue.
-use Rattle.std.proofs.Common.{◌≡◌, ◌≢◌, ℕ, Bool, true, false, cond, List, [], ◌∷◌, refl, sym, ap, ◌∙◌, Option, None}
+use Rattle.std.proofs.Common.{◌≡◌, ◌≢◌, ℕ, Bool, true, false, cond, List, [], ◌∷◌, refl, sym, ap, ◌∙◌, None}
 use Rattle.word_rule.specs.declared.machine.step_done.StepDone.{StepDone}
 use Rattle.word_rule.specs.declared.machine.step_done.StepDone.TheVariants as steps
 use Rattle.word_rule.specs.declared.lock_kind.Stage.TheVariants.{Idle, Mcs, Trying}
 use Rattle.word_rule.specs.declared.lock_kind.McsStage.TheVariants.{Ready, Holding}
 use Rattle.word_rule.specs.Line.{moved, is_empty, last, going}
 use Rattle.word_rule.specs.Mcs.Acquire.{clear, enter}
-use Rattle.word_rule.specs.Mcs.Definition.{mcs_lock, mcs_turn}
+use Rattle.word_rule.specs.Mcs.Definition.{mcs_lock}
 use Rattle.word_rule.specs.Mcs.State.{McsLock, naming}
 use Rattle.word_rule.specs.Mcs.Try.{ready, try_queue}
 use Rattle.word_rule.proofs.LockInterface.{Tries}

@@ -1,20 +1,17 @@
 -- What a ticket lock proves of its definition.
-use Rattle.std.proofs.Common.{◌≡◌, ℕ, ◌+◌, ◌%◌, ◌<◌, ◌==◌, Bool, true, false, true≢false, cond, List, [], ◌∷◌, ◌++◌, length, refl, sym, ap, ◌∙◌, arith}
+use Rattle.std.proofs.Common.{◌≡◌, ℕ, ◌+◌, ◌%◌, ◌<◌, ◌==◌, Bool, true, false, cond, List, [], ◌∷◌, ◌++◌, length, refl, sym, ap, ◌∙◌, arith}
 use Rattle.std.proofs.lemmas.Bool.{ltb-true, lt-ltb}
 use Rattle.word_rule.specs.declared.machine.step_done.StepDone.{StepDone}
 use Rattle.word_rule.specs.declared.machine.step_done.StepDone.TheVariants as steps
 use Rattle.word_rule.specs.declared.lock_kind.Stage.{Stage}
 use Rattle.word_rule.specs.declared.lock_kind.Stage.TheVariants.{Idle, Ticket}
 use Rattle.word_rule.specs.declared.lock_kind.TicketStage.TheVariants.{Drawn, Served}
-use Rattle.word_rule.specs.Line.{behind, is_first, lined, moved, taking}
+use Rattle.word_rule.specs.Line.{behind, is_first, lined, taking}
 use Rattle.word_rule.specs.LockDefinition.{IsState, IsTied}
 use Rattle.word_rule.specs.StepKinds.{ends_hold}
-use Rattle.word_rule.specs.Ticket.Acquire.{draw, look}
 use Rattle.word_rule.specs.Ticket.Definition.{ticket_lock, ticket_turn}
-use Rattle.word_rule.specs.Ticket.Release.{serve}
 use Rattle.word_rule.specs.Ticket.State.{TicketLock, tickets, ticket_words, without_ticket, without_tickets}
-use Rattle.word_rule.proofs.LineAfter.{LineAfter}
-use Rattle.word_rule.proofs.LockInterface.{Goes, SameTurn, LockLaws, NoneTries, is_idle, is_trying, moved_whole}
+use Rattle.word_rule.proofs.LockInterface.{Goes, SameTurn, LockLaws, NoneTries, is_idle, moved_whole}
 use Rattle.word_rule.proofs.LockStates.{stands_at}
 use Rattle.word_rule.proofs.Ticket.Tries.{tries}
 use Rattle.word_rule.proofs.Ticket.Turns.{outside, first_if, draws, takes, holder_first, serves_state, starts_ticket}

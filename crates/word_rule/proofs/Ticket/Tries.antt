@@ -3,12 +3,11 @@ use Rattle.std.proofs.Common.{◌≡◌, ◌≢◌, ℕ, ◌+◌, ◌%◌, ◌<�
 use Rattle.std.proofs.Math.Nat.{mod-eq_of_lt}
 use Rattle.word_rule.specs.declared.machine.step_done.StepDone.{StepDone}
 use Rattle.word_rule.specs.declared.machine.step_done.StepDone.TheVariants as steps
-use Rattle.word_rule.specs.declared.lock_kind.Stage.{Stage}
 use Rattle.word_rule.specs.declared.lock_kind.Stage.TheVariants.{Idle, Ticket}
 use Rattle.word_rule.specs.declared.lock_kind.TicketStage.TheVariants.{Drawn, Served}
 use Rattle.word_rule.specs.Line.{moved, is_empty, is_first, taking}
 use Rattle.word_rule.specs.Ticket.Acquire.{draw}
-use Rattle.word_rule.specs.Ticket.Definition.{ticket_lock, ticket_turn}
+use Rattle.word_rule.specs.Ticket.Definition.{ticket_lock}
 use Rattle.word_rule.specs.Ticket.State.{TicketLock, tickets}
 use Rattle.word_rule.specs.Ticket.Try.{try_ticket}
 use Rattle.word_rule.proofs.LockInterface.{Tries}

@@ -1,6 +1,6 @@
 -- How a CPU gets the object at an MCS lock: it clears its `next` and enters the queue; behind another it arms itself, links
 -- itself to that one, and looks until it is let go.
-use Rattle.std.specs.Prelude.{ℕ, true, false, if◌then◌else◌, [], ◌∷◌, Option, Some, None}
+use Rattle.std.specs.Prelude.{ℕ, true, false, if◌then◌else◌, Option, Some, None}
 use Rattle.word_rule.specs.declared.machine.step_done.StepDone.{StepDone}
 use Rattle.word_rule.specs.declared.machine.step_done.StepDone.TheVariants as steps
 use Rattle.word_rule.specs.declared.lock_kind.Stage.TheVariants.{Mcs}

@@ -1,5 +1,5 @@
 -- The ticket lock, as one record.
-use Rattle.std.specs.Prelude.{ℕ, ◌%◌, ◌<◌, nat_lt, List}
+use Rattle.std.specs.Prelude.{ℕ, ◌%◌, ◌<◌, nat_lt}
 use Rattle.word_rule.specs.declared.machine.step_done.StepDone.{StepDone}
 use Rattle.word_rule.specs.declared.machine.step_done.StepDone.TheVariants as steps
 use Rattle.word_rule.specs.declared.lock_kind.Stage.{Stage}

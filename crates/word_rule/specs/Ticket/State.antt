@@ -1,5 +1,5 @@
 -- A ticket lock: beside the line the ticket that is served. The j-th in line, from 0, has the j-th ticket from that one on.
-use Rattle.std.specs.Prelude.{◌≡◌, ℕ, ◌+◌, ◌*◌, ◌%◌, ◌^◌, ◌<◌, Bool, true, false, List, [], ◌∷◌, length}
+use Rattle.std.specs.Prelude.{◌≡◌, ℕ, ◌+◌, ◌*◌, ◌%◌, ◌^◌, Bool, true, false, List, [], ◌∷◌, length}
 use mathlib.Core.Option.{some}
 use lib.ListN.{get_elem?}
 use Rattle.event_log.specs.Distinct.{has}
