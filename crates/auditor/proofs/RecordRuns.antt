@@ -5,12 +5,12 @@ use Rattle.std.specs.List.{AllByRecursion}
 use Rattle.std.proofs.lemmas.List.{length-map}
 use Rattle.word_rule.specs.Sound.{Opened, transcript_of, log_of}
 use Rattle.word_rule.proofs.Slices.{map_get, get_map}
-use Rattle.scripts.specs.contracts.kernel_object.KernelObjectSeqObject.TheImpl.{ghosts as kernel}
-use Rattle.scripts.specs.declared.form.Form.TheVariants.{Two}
-use Rattle.scripts.specs.declared.kernel_call.KParams.{KParams}
-use Rattle.scripts.specs.declared.kernel_call.KCall.{KCall}
-use Rattle.scripts.specs.declared.kernel_call.KReply.{KReply}
-use Rattle.scripts.specs.declared.kernel_object.KernelObject.{KernelObject}
+use Rattle.scripts.specs.contracts.objects.kernel_object.KernelObjectSeqObject.TheImpl.{ghosts as kernel}
+use Rattle.scripts.specs.declared.record.form.Form.TheVariants.{Two}
+use Rattle.scripts.specs.declared.objects.kernel_call.KParams.{KParams}
+use Rattle.scripts.specs.declared.objects.kernel_call.KCall.{KCall}
+use Rattle.scripts.specs.declared.objects.kernel_call.KReply.{KReply}
+use Rattle.scripts.specs.declared.objects.kernel_object.KernelObject.{KernelObject}
 use Rattle.scripts.specs.Kernel.{kernel_in_range}
 use Rattle.scripts.specs.RecordRanges.{Record, RecordFits, EventFits, EntryFits, LogFits, TranscriptFits}
 use Rattle.scripts.specs.Runs.{opened_of}

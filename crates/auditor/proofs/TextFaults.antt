@@ -1,8 +1,8 @@
 -- Why a text was not judged, by why its record was not read.
 use Rattle.std.proofs.Common.{◌≡◌, ℕ, List, Option, Result, Ok, Err, sym, ap, subst}
 use Rattle.std.specs.Result.{IsErrAnd, IfErr}
-use Rattle.scripts.specs.declared.record_source.RecordReadFault.{RecordReadFault}
-use Rattle.scripts.specs.declared.record_source.RecordReadFault.TheVariants as read_fault
+use Rattle.scripts.specs.declared.record.source.RecordReadFault.{RecordReadFault}
+use Rattle.scripts.specs.declared.record.source.RecordReadFault.TheVariants as read_fault
 use Rattle.scripts.specs.RecordRanges.{Record}
 use Rattle.scripts.specs.RecordSources.{NamesBadLineOfRest, IsReadFrom, IsReadOut}
 use Rattle.auditor.specs.declared.fault.Verdict.{Verdict}

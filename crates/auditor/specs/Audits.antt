@@ -1,8 +1,8 @@
 -- What is said of a record, and of a text.
 use Rattle.std.specs.Prelude.{◌≡◌, ◌↔◌, ℕ, List, Option, Some, Result, Ok, Err}
-use Rattle.scripts.specs.contracts.kernel_object.KernelObjectSeqObject.TheImpl.{ghosts as kernel}
-use Rattle.scripts.specs.declared.record_source.RecordReadFault.{RecordReadFault}
-use Rattle.scripts.specs.declared.record_source.RecordReadFault.TheVariants as read_fault
+use Rattle.scripts.specs.contracts.objects.kernel_object.KernelObjectSeqObject.TheImpl.{ghosts as kernel}
+use Rattle.scripts.specs.declared.record.source.RecordReadFault.{RecordReadFault}
+use Rattle.scripts.specs.declared.record.source.RecordReadFault.TheVariants as read_fault
 use Rattle.scripts.specs.RecordFaults.{IsWhole, IsBadLine}
 use Rattle.scripts.specs.RecordRanges.{Record}
 use Rattle.scripts.specs.Runs.{opened_of}

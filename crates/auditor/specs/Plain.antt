@@ -1,6 +1,6 @@
 -- What a plain object shows.
-use Rattle.scripts.specs.declared.kernel_object.KernelObject.{KernelObject}
-use Rattle.scripts.specs.declared.kernel_object.KernelObject.TheVariants.{Queue, Pool, Console, Sched}
+use Rattle.scripts.specs.declared.objects.kernel_object.KernelObject.{KernelObject}
+use Rattle.scripts.specs.declared.objects.kernel_object.KernelObject.TheVariants.{Queue, Pool, Console, Sched}
 use Rattle.auditor.specs.declared.replays.object.PlainObject.{PlainObject}
 use Rattle.auditor.specs.declared.replays.object.PlainObject.TheVariants as plain
 

@@ -2,7 +2,7 @@
 
 ghost use Rattle.std.specs.Prelude.{◌≡◌, true, Some, Err, IfOk, OnOk, IfErr};
 ghost use Rattle.event_log.specs.Stream.{counted};
-ghost use Rattle.scripts.specs.declared.form.Form.{Form};
+ghost use Rattle.scripts.specs.declared.record.form.Form.{Form};
 ghost use Rattle.scripts.specs.RecordFaults.{text_in};
 ghost use Rattle.scripts.specs.RecordRanges.{RecordFitsIn, Record as Shown};
 ghost use Rattle.scripts.specs.RecordSources.{IsReadOut};

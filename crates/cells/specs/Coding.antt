@@ -1,9 +1,9 @@
 -- Calls and replies by the numbers that C has for them.
 use Rattle.std.specs.Prelude.{ℕ, ◌==◌, ◌&&◌, ◌%◌, nat_lt, List, [], ◌∷◌, Option, None, slice_get, if◌then◌else◌}
-use Rattle.scripts.specs.declared.kernel_call.KCall.{KCall}
-use Rattle.scripts.specs.declared.kernel_call.KCall.TheVariants.{Queue, Pool, Console, Sched}
-use Rattle.scripts.specs.declared.kernel_call.KReply.{KReply}
-use Rattle.scripts.specs.declared.kernel_call.KReply.TheVariants as reply
+use Rattle.scripts.specs.declared.objects.kernel_call.KCall.{KCall}
+use Rattle.scripts.specs.declared.objects.kernel_call.KCall.TheVariants.{Queue, Pool, Console, Sched}
+use Rattle.scripts.specs.declared.objects.kernel_call.KReply.{KReply}
+use Rattle.scripts.specs.declared.objects.kernel_call.KReply.TheVariants as reply
 use Rattle.shared_queue.specs.declared.call.QueueCall.TheVariants as queue
 use Rattle.page_pool.specs.declared.call.PoolCall.TheVariants as pool
 use Rattle.console_ring.specs.declared.call.ConsoleCall.TheVariants as console

@@ -7,12 +7,12 @@ use Rattle.word_rule.specs.declared.lock_kind.LockKind.{LockKind}
 use Rattle.word_rule.specs.declared.lock_kind.LockKind.TheVariants.{Ticket, Mcs}
 use Rattle.word_rule.specs.Cell.{EachAt, first_pass}
 use Rattle.word_rule.specs.Passes.{view_of_pass}
-use Rattle.scripts.specs.declared.kernel_call.KParams.{KParams}
-use Rattle.scripts.specs.declared.kernel_call.KParams.TheVariants.{Queue, Pool, Console, Sched}
-use Rattle.scripts.specs.declared.kernel_call.KCall.{KCall}
-use Rattle.scripts.specs.declared.kernel_call.KReply.{KReply}
-use Rattle.scripts.specs.declared.kernel_object.KernelObject.{KernelObject}
-use Rattle.scripts.specs.contracts.kernel_object.KernelObjectSeqObject.TheImpl.{ghosts}
+use Rattle.scripts.specs.declared.objects.kernel_call.KParams.{KParams}
+use Rattle.scripts.specs.declared.objects.kernel_call.KParams.TheVariants.{Queue, Pool, Console, Sched}
+use Rattle.scripts.specs.declared.objects.kernel_call.KCall.{KCall}
+use Rattle.scripts.specs.declared.objects.kernel_call.KReply.{KReply}
+use Rattle.scripts.specs.declared.objects.kernel_object.KernelObject.{KernelObject}
+use Rattle.scripts.specs.contracts.objects.kernel_object.KernelObjectSeqObject.TheImpl.{ghosts}
 use Rattle.scripts.specs.Kernel.{kernel_opening}
 use Rattle.guarded_cell.specs.Kinds.{kind_of}
 use Rattle.std_alloc.specs.Arc.{arc_value}

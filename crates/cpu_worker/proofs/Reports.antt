@@ -6,7 +6,7 @@ use Rattle.std.proofs.lemmas.List.Elements.{filter-append}
 use Rattle.std.proofs.lemmas.List.Folds.{length-flat_map-take}
 use Rattle.std.specs.List.{fold, sum, count_by, enumerate_from, AllByRecursion}
 use Rattle.scripts.specs.KernelTypes.{KernelEntry}
-use Rattle.scripts.specs.declared.form.Form.TheVariants.{Two}
+use Rattle.scripts.specs.declared.record.form.Form.TheVariants.{Two}
 use Rattle.scripts.specs.RecordRanges.{Record, RecordFits, TranscriptFits}
 use Rattle.scripts.specs.Settings.{ObjectSettings}
 use Rattle.scripts.specs.Words.{sentence, text_of_lines}

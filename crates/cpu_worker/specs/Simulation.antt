@@ -3,11 +3,11 @@ use Rattle.std.specs.Prelude.{ℕ, List, [], map}
 use Rattle.word_rule.specs.Locks.{opening_lock}
 use Rattle.word_rule.specs.Machine.Opening.{opening_cpu}
 use Rattle.word_rule.specs.Machine.World.{World, CellState, run, run_of}
-use Rattle.scripts.specs.contracts.kernel_object.KernelObjectSeqObject.TheImpl.{ghosts as kernel}
-use Rattle.scripts.specs.declared.kernel_call.KParams.{KParams}
-use Rattle.scripts.specs.declared.kernel_call.KCall.{KCall}
-use Rattle.scripts.specs.declared.kernel_call.KReply.{KReply}
-use Rattle.scripts.specs.declared.kernel_object.KernelObject.{KernelObject}
+use Rattle.scripts.specs.contracts.objects.kernel_object.KernelObjectSeqObject.TheImpl.{ghosts as kernel}
+use Rattle.scripts.specs.declared.objects.kernel_call.KParams.{KParams}
+use Rattle.scripts.specs.declared.objects.kernel_call.KCall.{KCall}
+use Rattle.scripts.specs.declared.objects.kernel_call.KReply.{KReply}
+use Rattle.scripts.specs.declared.objects.kernel_object.KernelObject.{KernelObject}
 use Rattle.scripts.specs.KernelTypes.{KernelTodo, KernelRun}
 use Rattle.scripts.specs.Settings.{Settings, ObjectSettings}
 

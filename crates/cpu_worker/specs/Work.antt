@@ -2,12 +2,12 @@
 use Rattle.std.specs.Prelude.{◌≡◌, ℕ, ◌≤◌, List, [], map, length}
 use Rattle.std.specs.List.{AllByRecursion}
 use Rattle.guarded_cell.specs.Workers.{ArePasses, HasDone}
-use Rattle.scripts.specs.contracts.kernel_object.KernelObjectSeqObject.TheImpl.{ghosts as kernel}
-use Rattle.scripts.specs.declared.kernel_call.KParams.{KParams}
-use Rattle.scripts.specs.declared.kernel_call.KCall.{KCall}
-use Rattle.scripts.specs.declared.kernel_call.KReply.{KReply}
-use Rattle.scripts.specs.declared.kernel_object.KernelObject.{KernelObject}
-use Rattle.scripts.specs.declared.script_list.TheConstants.{MOST_ENTRIES}
+use Rattle.scripts.specs.contracts.objects.kernel_object.KernelObjectSeqObject.TheImpl.{ghosts as kernel}
+use Rattle.scripts.specs.declared.objects.kernel_call.KParams.{KParams}
+use Rattle.scripts.specs.declared.objects.kernel_call.KCall.{KCall}
+use Rattle.scripts.specs.declared.objects.kernel_call.KReply.{KReply}
+use Rattle.scripts.specs.declared.objects.kernel_object.KernelObject.{KernelObject}
+use Rattle.scripts.specs.declared.script.list.TheConstants.{MOST_ENTRIES}
 use Rattle.scripts.specs.KernelTypes.{KernelTodo, KernelEntry}
 use Rattle.word_rule.specs.Cell.{Cell, PassView}
 use Rattle.word_rule.specs.Machine.SoundWorld.{IsTodo}

@@ -3,7 +3,7 @@
 ghost use Rattle.std.specs.Prelude.{◌≡◌, IfOk};
 ghost use Rattle.event_log.specs.History.{IsKept, opened_history};
 ghost use Rattle.scripts.specs.Settings.{ObjectFits};
-ghost use Rattle.scripts.specs.declared.form.Form.TheVariants.{Two};
+ghost use Rattle.scripts.specs.declared.record.form.Form.TheVariants.{Two};
 
 use event_log::{Logged, OpenFault, OutOfMemory, SeqObject};
 use scripts::{KernelObject, ObjectSettings};

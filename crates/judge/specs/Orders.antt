@@ -4,7 +4,7 @@ use Rattle.auditor.specs.Faults.{IsFirstFault}
 use Rattle.auditor.specs.declared.fault.Fault.{Fault}
 use Rattle.log_merge.specs.MergedRecords.{IsMerged, HasCycle}
 use Rattle.word_rule.specs.declared.place.Place.{Place}
-use Rattle.scripts.specs.contracts.kernel_object.KernelObjectSeqObject.TheImpl.{ghosts as kernel}
+use Rattle.scripts.specs.contracts.objects.kernel_object.KernelObjectSeqObject.TheImpl.{ghosts as kernel}
 use Rattle.scripts.specs.RecordFaults.{IsWhole, IsBadLine}
 use Rattle.scripts.specs.RecordRanges.{Record}
 use Rattle.scripts.specs.Runs.{opened_of}

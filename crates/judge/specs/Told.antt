@@ -7,8 +7,8 @@ use Rattle.auditor.specs.declared.fault.Verdict.{Verdict}
 use Rattle.auditor.specs.declared.fault.Verdict.TheVariants.{Sound, Unsound}
 use Rattle.scripts.specs.RecordFaults.{IsWhole, NamesBadLine}
 use Rattle.scripts.specs.RecordRanges.{Record}
-use Rattle.scripts.specs.declared.record_fault.RecordFault.{RecordFault}
-use Rattle.scripts.specs.declared.record_fault.RecordFault.TheVariants.{OutOfMemory, Line}
+use Rattle.scripts.specs.declared.record.fault.RecordFault.{RecordFault}
+use Rattle.scripts.specs.declared.record.fault.RecordFault.TheVariants.{OutOfMemory, Line}
 use Rattle.judge.specs.declared.told.Told.{Told}
 
 -- a kind with its numbers

@@ -2,7 +2,7 @@
 use Rattle.std.proofs.Common.{ℕ, ◌+◌, ◌<◌, List, [], ◌∷◌, length, map, take, get_or}
 use Rattle.std.proofs.lemmas.List.{get_or_default}
 use Rattle.event_log.specs.declared.stream.Sink.{Ghosts}
-use Rattle.scripts.specs.declared.buffered.Buffered.{Buffered}
+use Rattle.scripts.specs.declared.streams.buffer.Buffered.{Buffered}
 use Rattle.scripts.specs.Output.{PutsLines}
 use Rattle.scripts.proofs.Lines.{line_then}
 

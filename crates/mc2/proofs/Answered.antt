@@ -3,9 +3,9 @@ use Rattle.std.proofs.Common.{◌≡◌, ℕ, List, Option, Result, Ok, Err, IfE
 use Rattle.std.specs.Result.{IsErrAnd}
 use Rattle.scripts.specs.declared.schedule.ScheduleFault.{ScheduleFault}
 use Rattle.scripts.specs.declared.schedule.ScheduleFault.TheVariants as schedule
-use Rattle.scripts.specs.declared.settings_fault.BadSettings.{BadSettings}
-use Rattle.scripts.specs.declared.settings_fault.SettingsFault.{SettingsFault}
-use Rattle.scripts.specs.declared.settings_fault.SettingsFault.TheVariants.{OutOfMemory, Refused}
+use Rattle.scripts.specs.declared.settings.fault.BadSettings.{BadSettings}
+use Rattle.scripts.specs.declared.settings.fault.SettingsFault.{SettingsFault}
+use Rattle.scripts.specs.declared.settings.fault.SettingsFault.TheVariants.{OutOfMemory, Refused}
 use Rattle.scripts.specs.SettingsText.{IsSettingsFault, NamesFirstFault}
 use Rattle.mc2.specs.declared.fault.Fault.{Fault}
 use Rattle.mc2.specs.declared.fault.Fault.TheVariants as fault

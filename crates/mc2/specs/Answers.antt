@@ -17,7 +17,7 @@ use Rattle.log_merge.specs.MergedRecords.{IsMerged, HasCycle}
 use Rattle.log_merge.specs.MergedText.{merged_text}
 use Rattle.word_rule.specs.Orders.{HasOrder}
 use Rattle.word_rule.specs.Sound.{Sound}
-use Rattle.scripts.specs.contracts.kernel_object.KernelObjectSeqObject.TheImpl.{ghosts as kernel}
+use Rattle.scripts.specs.contracts.objects.kernel_object.KernelObjectSeqObject.TheImpl.{ghosts as kernel}
 use Rattle.scripts.specs.KernelTypes.{KernelTodo}
 use Rattle.scripts.specs.Output.{AppendsBeginning}
 use Rattle.scripts.specs.RecordFaults.{IsWhole, text_of}

@@ -3,17 +3,17 @@ use Rattle.std.specs.Prelude.{ℕ}
 use Rattle.cpu_worker.specs.declared.threads.RunFault.{RunFault}
 use Rattle.cpu_worker.specs.declared.threads.RunFault.TheVariants as run
 use Rattle.event_log.specs.declared.object.OutOfMemory.{OutOfMemory}
-use Rattle.scripts.specs.declared.record_source.RecordReadFault.{RecordReadFault}
-use Rattle.scripts.specs.declared.record_source.RecordReadFault.TheVariants as records
+use Rattle.scripts.specs.declared.record.source.RecordReadFault.{RecordReadFault}
+use Rattle.scripts.specs.declared.record.source.RecordReadFault.TheVariants as records
 use Rattle.scripts.specs.declared.schedule.ScheduleFault.{ScheduleFault}
 use Rattle.scripts.specs.declared.schedule.ScheduleFault.TheVariants as schedule
-use Rattle.scripts.specs.declared.script_source.ScriptsReadFault.{ScriptsReadFault}
-use Rattle.scripts.specs.declared.script_source.ScriptsReadFault.TheVariants as scripts
-use Rattle.scripts.specs.declared.settings_fault.SettingsFault.{SettingsFault}
-use Rattle.scripts.specs.declared.settings_fault.SettingsFault.TheVariants as settings
-use Rattle.scripts.specs.declared.source_reader.ReadFault.{ReadFault}
-use Rattle.scripts.specs.declared.source_reader.ReadFault.TheVariants as read
-use Rattle.scripts.specs.declared.written.WriteFailed.{WriteFailed}
+use Rattle.scripts.specs.declared.script.source.ScriptsReadFault.{ScriptsReadFault}
+use Rattle.scripts.specs.declared.script.source.ScriptsReadFault.TheVariants as scripts
+use Rattle.scripts.specs.declared.settings.fault.SettingsFault.{SettingsFault}
+use Rattle.scripts.specs.declared.settings.fault.SettingsFault.TheVariants as settings
+use Rattle.scripts.specs.declared.streams.source_reader.ReadFault.{ReadFault}
+use Rattle.scripts.specs.declared.streams.source_reader.ReadFault.TheVariants as read
+use Rattle.scripts.specs.declared.streams.text_writer.WriteFailed.{WriteFailed}
 use Rattle.mc2.specs.declared.fault.Fault.{Fault}
 use Rattle.mc2.specs.declared.fault.Fault.TheVariants as fault
 

@@ -9,7 +9,7 @@ ghost use Rattle.scripts.specs.ScheduleText.{IsFirstBadWord};
 ghost use Rattle.scripts.specs.ScriptText.{IsFirstBad};
 ghost use Rattle.scripts.specs.Settings.{Settings};
 ghost use Rattle.scripts.specs.SettingsText.{IsSettingsFault};
-ghost use Rattle.scripts.specs.declared.settings_fault.BadSettings.{BadSettings};
+ghost use Rattle.scripts.specs.declared.settings.fault.BadSettings.{BadSettings};
 
 use crate::Inputs;
 use crate::fault::Fault;

@@ -4,7 +4,7 @@ ghost use Rattle.std.specs.Prelude.{◌≡◌, ℕ, List, Option, Some, None, le
 ghost use Rattle.scripts.specs.ScriptFaults.{SpellsRest, NamesFirstBadOfRest};
 ghost use Rattle.scripts.specs.ScriptText.{ScriptsFit};
 ghost use Rattle.scripts.specs.SettingsText.{IsSettingsFault};
-ghost use Rattle.scripts.specs.declared.settings_fault.BadSettings.{BadSettings};
+ghost use Rattle.scripts.specs.declared.settings.fault.BadSettings.{BadSettings};
 ghost use Rattle.scripts.specs.RecordFaults.{IsBadLine};
 ghost use Rattle.mc2.specs.Answers.{Reads, ReadsSettings, ReadsRecord, bytes_of};
 ghost use Rattle.mc2.specs.Faults.{IsOfSettings, IsOfRecord};

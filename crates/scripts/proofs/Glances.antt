@@ -1,7 +1,7 @@
 -- A value that is read at a glance is the one of the table.
 use Rattle.std.proofs.Common.{◌≡◌, ℕ, Some, List, [], ◌∷◌, refl, sym}
 use Rattle.std.proofs.lemmas.Slice.Eq.{bytes_eq-Decides}
-use Rattle.scripts.specs.declared.field.Field.{Field}
+use Rattle.scripts.specs.declared.tables.field.Field.{Field}
 use Rattle.scripts.specs.Reading.{word_at, key_at}
 use Rattle.scripts.specs.Row.{Row, field_at, numbers_at, sample_at, value_at}
 

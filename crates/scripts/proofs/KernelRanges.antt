@@ -27,14 +27,14 @@ use Rattle.wake_list.specs.declared.call.SchedCall.TheVariants.{Ready, Next, Sle
 use Rattle.wake_list.specs.declared.call.SchedReply.{SchedReply}
 use Rattle.wake_list.specs.declared.call.SchedReply.TheVariants.{BadChannel}
 use Rattle.wake_list.specs.declared.sched.SchedParams.{SchedParams}
-use Rattle.scripts.specs.declared.kernel_call.KParams.{KParams}
-use Rattle.scripts.specs.declared.kernel_call.KParams.TheVariants as Params
-use Rattle.scripts.specs.declared.kernel_call.KCall.{KCall}
-use Rattle.scripts.specs.declared.kernel_call.KCall.TheVariants as Call
-use Rattle.scripts.specs.declared.kernel_call.KReply.{KReply}
-use Rattle.scripts.specs.declared.kernel_object.KernelObject.{KernelObject}
-use Rattle.scripts.specs.declared.kernel_object.KernelObject.TheVariants as Object
-use Rattle.scripts.specs.contracts.kernel_object.KernelObjectSeqObject.TheImpl.{ghosts as kernel}
+use Rattle.scripts.specs.declared.objects.kernel_call.KParams.{KParams}
+use Rattle.scripts.specs.declared.objects.kernel_call.KParams.TheVariants as Params
+use Rattle.scripts.specs.declared.objects.kernel_call.KCall.{KCall}
+use Rattle.scripts.specs.declared.objects.kernel_call.KCall.TheVariants as Call
+use Rattle.scripts.specs.declared.objects.kernel_call.KReply.{KReply}
+use Rattle.scripts.specs.declared.objects.kernel_object.KernelObject.{KernelObject}
+use Rattle.scripts.specs.declared.objects.kernel_object.KernelObject.TheVariants as Object
+use Rattle.scripts.specs.contracts.objects.kernel_object.KernelObjectSeqObject.TheImpl.{ghosts as kernel}
 use Rattle.scripts.specs.Kernel.{of_queue, of_pool, of_console, of_sched, kernel_answer, kernel_opening, kernel_in_range}
 use Rattle.scripts.specs.Row.{in_range, wide, byte}
 use Rattle.scripts.specs.Ranges.{call_fits, reply_fits, log_asks, log_answers}

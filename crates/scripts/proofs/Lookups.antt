@@ -1,7 +1,7 @@
 -- What the loops of the reader have found so far.
 use Rattle.std.proofs.Common.{◌≡◌, ℕ, ◌<◌, ◌≤◌, ◌+◌, true, false, Option, Some, None, List, [], ◌∷◌, ◌++◌, length, get_or, drop, refl, sym, ◌∙◌, ap, cond, bytes_eq}
 use Rattle.std.proofs.lemmas.List.{append-nil, at_drop_more, drop_all}
-use Rattle.scripts.specs.declared.field.Field.{Field}
+use Rattle.scripts.specs.declared.tables.field.Field.{Field}
 use Rattle.scripts.specs.Reading.{◌>>=◌}
 use Rattle.scripts.proofs.Readings.{bind_grown}
 use Rattle.scripts.specs.Row.{Row, field_at, numbers_at, sample_at}

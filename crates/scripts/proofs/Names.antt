@@ -11,7 +11,7 @@ use Rattle.std.specs.Option.{option_map_or}
 use Rattle.event_log.proofs.Each.{all_map}
 use Rattle.scripts.specs.Reading.{word_at}
 use Rattle.scripts.specs.Row.{IsPlain}
-use Rattle.scripts.specs.declared.form.Form.{Form}
+use Rattle.scripts.specs.declared.record.form.Form.{Form}
 use Rattle.scripts.specs.Settings.{Settings, ObjectSettings, SettingsFitIn, ObjectFits, NamesDiffer, name_at, is_name, is_letter, is_digit}
 use Rattle.scripts.specs.RecordReading.{place_at}
 use Rattle.scripts.proofs.Readings.{bind_some, same}

@@ -3,7 +3,7 @@ use Rattle.event_log.specs.declared.stream.Sink.{Ghosts}
 use Rattle.event_log.specs.Log.{Begins}
 use Rattle.event_log.specs.Stream.{counted}
 use Rattle.event_log.proofs.Beginnings.{begins_more, begins_behind}
-use Rattle.scripts.specs.declared.buffered.Buffered.{Buffered}
+use Rattle.scripts.specs.declared.streams.buffer.Buffered.{Buffered}
 use Rattle.scripts.specs.Output.{TakesAll, TakesSome, Puts, AppendsBeginning}
 use Rattle.std.proofs.Common.{◌≡◌, ℕ, ◌+◌, ◌<◌, get_or, List, [], ◌∷◌, ◌++◌, Option, Some, None, length, take, drop, refl, sym, ◌∙◌, ap, subst, append_assoc, Result, Ok, Err, OnOk, OnErr, Bool, true, false}
 use Rattle.std.proofs.lemmas.List.{take-append-drop, append-nil, take_more}

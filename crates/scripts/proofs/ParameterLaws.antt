@@ -9,12 +9,12 @@ use Rattle.shared_queue.specs.declared.queue.TheConstants.{MOST_THREADS}
 use Rattle.console_ring.specs.declared.console.TheConstants.{MOST_BYTES}
 use Rattle.wake_list.specs.declared.sched.SchedParams.{SchedParams}
 use Rattle.wake_list.specs.declared.sched.TheConstants.{MOST_THREADS as MOST_SCHEDULED, MOST_CHANNELS}
-use Rattle.scripts.specs.declared.field.Field.{Field}
-use Rattle.scripts.specs.declared.form.Form.{Form}
-use Rattle.scripts.specs.declared.form.Form.TheVariants.{One, Two}
-use Rattle.scripts.specs.declared.kind.Kind.{Kind}
-use Rattle.scripts.specs.declared.kernel_call.KParams.{KParams}
-use Rattle.scripts.specs.declared.kernel_call.KParams.TheVariants.{Queue, Pool, Console, Sched}
+use Rattle.scripts.specs.declared.tables.field.Field.{Field}
+use Rattle.scripts.specs.declared.record.form.Form.{Form}
+use Rattle.scripts.specs.declared.record.form.Form.TheVariants.{One, Two}
+use Rattle.scripts.specs.declared.objects.kind.Kind.{Kind}
+use Rattle.scripts.specs.declared.objects.kernel_call.KParams.{KParams}
+use Rattle.scripts.specs.declared.objects.kernel_call.KParams.TheVariants.{Queue, Pool, Console, Sched}
 use Rattle.scripts.specs.Forms.{TellsParams}
 use Rattle.scripts.specs.Kernel.{kernel_in_range}
 use Rattle.scripts.specs.Parameters.{kind_word, kind_of, quota_words, params_words}

@@ -3,11 +3,11 @@ use Rattle.std.proofs.Common.{◌≡◌, ℕ, Bool, List, [], ◌++◌, take, ap
 use Rattle.std.proofs.lemmas.List.{append-nil}
 use Rattle.std.specs.Io.KnownBytes.{Consumes, IsAtEnd}
 use Rattle.std.specs.Result.{IsErrAnd, IfErr}
-use Rattle.scripts.specs.declared.line_machine.PieceFault.{PieceFault}
-use Rattle.scripts.specs.declared.line_machine.PieceFault.TheVariants as piece
-use Rattle.scripts.specs.declared.script_reader.ScriptsFault.{ScriptsFault}
-use Rattle.scripts.specs.declared.script_reader.ScriptsFault.TheVariants.{OutOfMemory, Line}
-use Rattle.scripts.specs.declared.script_source.ScriptsReadFault.{ScriptsReadFault}
+use Rattle.scripts.specs.declared.text.line_machine.PieceFault.{PieceFault}
+use Rattle.scripts.specs.declared.text.line_machine.PieceFault.TheVariants as piece
+use Rattle.scripts.specs.declared.script.reader.ScriptsFault.{ScriptsFault}
+use Rattle.scripts.specs.declared.script.reader.ScriptsFault.TheVariants.{OutOfMemory, Line}
+use Rattle.scripts.specs.declared.script.source.ScriptsReadFault.{ScriptsReadFault}
 use Rattle.scripts.specs.LineMachine.{HasTaken, RefusesLine}
 use Rattle.scripts.specs.ScriptFaults.{ScriptState, TakesScriptLine, RefusesScriptLine, FitsScriptLine, HasRead, no_entries, IsRest, IsFirstBadOfRest, NamesFirstBad, NamesFirstBadOfRest, of_piece, of_text}
 use Rattle.scripts.specs.ScriptText.{IsFirstBad}

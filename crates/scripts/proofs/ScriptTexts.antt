@@ -1,10 +1,10 @@
 -- Scripts, text by text.
 use Rattle.std.proofs.Common.{◌≡◌, ℕ, ◌<◌, Bool, List, [], ◌∷◌, ◌++◌, length, inl, inr, Result, Ok, Err, refl, sym, ◌∙◌, subst, arith, IsErrAnd, IfOk, IfErr}
 use Rattle.std.proofs.lemmas.List.{append-nil}
-use Rattle.scripts.specs.declared.line_machine.PieceFault.{PieceFault}
-use Rattle.scripts.specs.declared.line_machine.PieceFault.TheVariants as piece
-use Rattle.scripts.specs.declared.script_reader.ScriptsFault.{ScriptsFault}
-use Rattle.scripts.specs.declared.script_reader.ScriptsFault.TheVariants.{OutOfMemory, Line}
+use Rattle.scripts.specs.declared.text.line_machine.PieceFault.{PieceFault}
+use Rattle.scripts.specs.declared.text.line_machine.PieceFault.TheVariants as piece
+use Rattle.scripts.specs.declared.script.reader.ScriptsFault.{ScriptsFault}
+use Rattle.scripts.specs.declared.script.reader.ScriptsFault.TheVariants.{OutOfMemory, Line}
 use Rattle.scripts.specs.KernelTypes.{KernelTodo}
 use Rattle.scripts.specs.LineMachine.{TakesText, RefusesText, RefusesLine, HasTaken}
 use Rattle.scripts.specs.ScriptFaults.{ScriptState, TakesScriptLine, RefusesScriptLine, FitsScriptLine, IsNotTaken, NamesFirstBad, HasRead, no_entries, of_piece}

@@ -10,23 +10,23 @@ use Rattle.toml.specs.Data.{Data, Items, no_items, item, Members, get_member, as
 use Rattle.word_rule.specs.declared.key.TheConstants.{MOST_CPUS}
 use Rattle.word_rule.specs.declared.machine.TheConstants.{MOST_CELLS}
 use Rattle.event_log.specs.declared.logged.TheConstants.{MOST_EVENTS}
-use Rattle.scripts.specs.declared.form.Form.{Form}
-use Rattle.scripts.specs.declared.form.Form.TheVariants.{Two}
-use Rattle.scripts.specs.declared.kernel_call.KParams.{KParams}
-use Rattle.scripts.specs.declared.kernel_call.KParams.TheVariants.{Queue, Pool, Console, Sched}
-use Rattle.scripts.specs.declared.settings_fault.Cause.{Cause}
-use Rattle.scripts.specs.declared.settings_fault.Place.{Place}
-use Rattle.scripts.specs.declared.settings_fault.Place.TheVariants.{Top, Object}
-use Rattle.scripts.specs.declared.settings_fault.SettingsKey.{SettingsKey}
-use Rattle.scripts.specs.declared.settings_fault.SettingsKey.TheVariants as Key
+use Rattle.scripts.specs.declared.record.form.Form.{Form}
+use Rattle.scripts.specs.declared.record.form.Form.TheVariants.{Two}
+use Rattle.scripts.specs.declared.objects.kernel_call.KParams.{KParams}
+use Rattle.scripts.specs.declared.objects.kernel_call.KParams.TheVariants.{Queue, Pool, Console, Sched}
+use Rattle.scripts.specs.declared.settings.fault.Cause.{Cause}
+use Rattle.scripts.specs.declared.settings.fault.Place.{Place}
+use Rattle.scripts.specs.declared.settings.fault.Place.TheVariants.{Top, Object}
+use Rattle.scripts.specs.declared.settings.fault.SettingsKey.{SettingsKey}
+use Rattle.scripts.specs.declared.settings.fault.SettingsKey.TheVariants as Key
 use Rattle.shared_queue.specs.declared.queue.TheConstants.{MOST_THREADS}
 use Rattle.page_pool.specs.declared.params.TheConstants.{MOST_PAGES, OWNERS}
 use Rattle.console_ring.specs.declared.console.TheConstants.{MOST_BYTES}
 use Rattle.wake_list.specs.declared.sched.TheConstants.{MOST_THREADS as MOST_SCHEDULED, MOST_CHANNELS}
-use Rattle.scripts.specs.declared.kind.Kind.{Kind}
+use Rattle.scripts.specs.declared.objects.kind.Kind.{Kind}
 use Rattle.scripts.specs.Kernel.{kernel_in_range}
 use Rattle.scripts.specs.Settings.{Settings, ObjectSettings, ObjectFits, SettingsFit, is_name}
-use Rattle.scripts.specs.Answers.{◌>>=◌}
+use Rattle.scripts.specs.Then.{◌>>=◌}
 use Rattle.scripts.specs.SettingsText.{number_from, name_from, items_from, count_items, at_key, find_key, key_word, key_in, key_or, quota_from, each_quota, are_integers, quotas_from, kind_from, lock_from, has_only, keys_of, params_in, object_in, object_from, objects_from, settings_in}
 
 -- ---- answers in parts

@@ -9,13 +9,13 @@ use Rattle.toml.specs.Parse.{parse_document}
 use Rattle.toml.specs.View.{view, items_view, members_view}
 use Rattle.toml.specs.declared.value.Value.{Value}
 use Rattle.scripts.specs.Settings.{ObjectSettings, Settings}
-use Rattle.scripts.specs.declared.settings_fault.BadSettings.{BadSettings}
-use Rattle.scripts.specs.declared.settings_fault.Cause.{Cause}
-use Rattle.scripts.specs.declared.settings_fault.Place.{Place}
-use Rattle.scripts.specs.declared.settings_fault.SettingsFault.{SettingsFault}
-use Rattle.scripts.specs.declared.settings_fault.SettingsFault.TheVariants.{OutOfMemory, Refused}
-use Rattle.scripts.specs.declared.settings_fault.SettingsKey.{SettingsKey}
-use Rattle.scripts.specs.Answers.{◌>>=◌, ok_map}
+use Rattle.scripts.specs.declared.settings.fault.BadSettings.{BadSettings}
+use Rattle.scripts.specs.declared.settings.fault.Cause.{Cause}
+use Rattle.scripts.specs.declared.settings.fault.Place.{Place}
+use Rattle.scripts.specs.declared.settings.fault.SettingsFault.{SettingsFault}
+use Rattle.scripts.specs.declared.settings.fault.SettingsFault.TheVariants.{OutOfMemory, Refused}
+use Rattle.scripts.specs.declared.settings.fault.SettingsKey.{SettingsKey}
+use Rattle.scripts.specs.Then.{◌>>=◌, ok_map}
 use Rattle.scripts.specs.SettingsText.{count_items, are_integers, quota_from, each_quota, at_key, key_word, has_only, object_from, objects_from, settings_of, Settles, NamesFirstFault}
 
 -- an array has as many items as values

@@ -19,15 +19,15 @@ use Rattle.page_pool.specs.declared.params.PoolParams.{PoolParams}
 use Rattle.page_pool.specs.declared.call.PoolCall.{PoolCall}
 use Rattle.page_pool.proofs.SameLogs.{legal_same}
 use Rattle.word_rule.specs.Sound.{Opened, Sound, EntryIsSound, Answers, transcript_of}
-use Rattle.scripts.specs.contracts.kernel_object.KernelObjectSeqObject.TheImpl.{ghosts as kernel}
-use Rattle.scripts.specs.declared.form.Form.TheVariants.{One}
-use Rattle.scripts.specs.declared.kernel_call.KParams.{KParams}
-use Rattle.scripts.specs.declared.kernel_call.KParams.TheVariants as Params
-use Rattle.scripts.specs.declared.kernel_call.KCall.{KCall}
-use Rattle.scripts.specs.declared.kernel_call.KCall.TheVariants as Call
-use Rattle.scripts.specs.declared.kernel_call.KReply.{KReply}
-use Rattle.scripts.specs.declared.kernel_object.KernelObject.{KernelObject}
-use Rattle.scripts.specs.declared.kernel_object.KernelObject.TheVariants as Object
+use Rattle.scripts.specs.contracts.objects.kernel_object.KernelObjectSeqObject.TheImpl.{ghosts as kernel}
+use Rattle.scripts.specs.declared.record.form.Form.TheVariants.{One}
+use Rattle.scripts.specs.declared.objects.kernel_call.KParams.{KParams}
+use Rattle.scripts.specs.declared.objects.kernel_call.KParams.TheVariants as Params
+use Rattle.scripts.specs.declared.objects.kernel_call.KCall.{KCall}
+use Rattle.scripts.specs.declared.objects.kernel_call.KCall.TheVariants as Call
+use Rattle.scripts.specs.declared.objects.kernel_call.KReply.{KReply}
+use Rattle.scripts.specs.declared.objects.kernel_object.KernelObject.{KernelObject}
+use Rattle.scripts.specs.declared.objects.kernel_object.KernelObject.TheVariants as Object
 use Rattle.scripts.specs.Forms.{TellsParams}
 use Rattle.scripts.specs.Kernel.{kernel_answer, kernel_opening, of_pool}
 use Rattle.scripts.specs.RecordRanges.{Record, RecordFitsIn}

@@ -11,11 +11,11 @@ use Rattle.event_log.specs.declared.event.TheConstants.{MOST_CALLS}
 use Rattle.event_log.specs.Log.{Begins, calls_of, LegalFrom, Legal, after, of}
 use Rattle.word_rule.specs.Sound.{Opened, Sound, Answers, EntryIsSound, done_on, with_steps, steps_by, transcript_of}
 use Rattle.word_rule.proofs.Slices.{some_at, map_get}
-use Rattle.scripts.specs.contracts.kernel_object.KernelObjectSeqObject.TheImpl.{ghosts as kernel}
-use Rattle.scripts.specs.declared.form.Form.TheVariants.{Two}
-use Rattle.scripts.specs.declared.kernel_call.KParams.{KParams}
-use Rattle.scripts.specs.declared.kernel_call.KCall.{KCall}
-use Rattle.scripts.specs.declared.kernel_object.KernelObject.{KernelObject}
+use Rattle.scripts.specs.contracts.objects.kernel_object.KernelObjectSeqObject.TheImpl.{ghosts as kernel}
+use Rattle.scripts.specs.declared.record.form.Form.TheVariants.{Two}
+use Rattle.scripts.specs.declared.objects.kernel_call.KParams.{KParams}
+use Rattle.scripts.specs.declared.objects.kernel_call.KCall.{KCall}
+use Rattle.scripts.specs.declared.objects.kernel_object.KernelObject.{KernelObject}
 use Rattle.scripts.specs.Kernel.{kernel_in_range}
 use Rattle.scripts.specs.KernelTypes.{KernelStep, KernelSteps, KernelEvent, KernelDone, KernelEntry, KernelRun}
 use Rattle.scripts.specs.Ranges.{call_fits, reply_fits, steps_ask, steps_answer, log_asks, log_answers}

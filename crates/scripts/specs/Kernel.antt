@@ -16,14 +16,14 @@ use Rattle.wake_list.specs.State as sched
 use Rattle.wake_list.specs.Answer.{sched_answer}
 use Rattle.wake_list.specs.declared.call.SchedReply.{SchedReply}
 use Rattle.wake_list.specs.declared.call.SchedReply.TheVariants as Sched
-use Rattle.scripts.specs.declared.kernel_call.KParams.{KParams}
-use Rattle.scripts.specs.declared.kernel_call.KParams.TheVariants.{Queue as QueueParams, Pool as PoolParams, Console as ConsoleParams, Sched as SchedParams}
-use Rattle.scripts.specs.declared.kernel_call.KCall.{KCall}
-use Rattle.scripts.specs.declared.kernel_call.KCall.TheVariants.{Queue as QueueCalled, Pool as PoolCalled, Console as ConsoleCalled, Sched as SchedCalled}
-use Rattle.scripts.specs.declared.kernel_call.KReply.{KReply}
-use Rattle.scripts.specs.declared.kernel_call.KReply.TheVariants.{Ok, Already, BadThread, Thread, Empty, Absent, Count, Page, NoPage, OverQuota, BadOwner, NotYours, NotTaken, BadPage, Dropped, Byte, BadChannel, BadCall}
-use Rattle.scripts.specs.declared.kernel_object.KernelObject.{KernelObject}
-use Rattle.scripts.specs.declared.kernel_object.KernelObject.TheVariants.{Queue as QueueObject, Pool as PoolObject, Console as ConsoleObject, Sched as SchedObject}
+use Rattle.scripts.specs.declared.objects.kernel_call.KParams.{KParams}
+use Rattle.scripts.specs.declared.objects.kernel_call.KParams.TheVariants.{Queue as QueueParams, Pool as PoolParams, Console as ConsoleParams, Sched as SchedParams}
+use Rattle.scripts.specs.declared.objects.kernel_call.KCall.{KCall}
+use Rattle.scripts.specs.declared.objects.kernel_call.KCall.TheVariants.{Queue as QueueCalled, Pool as PoolCalled, Console as ConsoleCalled, Sched as SchedCalled}
+use Rattle.scripts.specs.declared.objects.kernel_call.KReply.{KReply}
+use Rattle.scripts.specs.declared.objects.kernel_call.KReply.TheVariants.{Ok, Already, BadThread, Thread, Empty, Absent, Count, Page, NoPage, OverQuota, BadOwner, NotYours, NotTaken, BadPage, Dropped, Byte, BadChannel, BadCall}
+use Rattle.scripts.specs.declared.objects.kernel_object.KernelObject.{KernelObject}
+use Rattle.scripts.specs.declared.objects.kernel_object.KernelObject.TheVariants.{Queue as QueueObject, Pool as PoolObject, Console as ConsoleObject, Sched as SchedObject}
 
 -- whether an object can be opened with the parameters
 abbrev pub kernel_in_range : KParams → Bool

@@ -17,7 +17,7 @@ pub mod RecordRanges
 pub mod ScheduleText
 pub mod ScriptFaults
 pub mod RecordReading
-pub mod Answers
+pub mod Then
 pub mod LineMachine
 pub mod RecordStates
 pub mod RecordPieces

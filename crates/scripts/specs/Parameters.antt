@@ -1,11 +1,11 @@
 -- How what objects are opened with is spelled.
 use Rattle.std.specs.Prelude.{ℕ, if◌then◌else◌, Option, Some, None, List, [], ◌∷◌, map, codes, decimal}
 use Rattle.std.specs.Str.{bytes_eq}
-use Rattle.scripts.specs.declared.form.Form.{Form}
-use Rattle.scripts.specs.declared.form.Form.TheVariants.{One, Two}
-use Rattle.scripts.specs.declared.kind.Kind.{Kind}
-use Rattle.scripts.specs.declared.kernel_call.KParams.{KParams}
-use Rattle.scripts.specs.declared.kernel_call.KParams.TheVariants.{Queue, Pool, Console, Sched}
+use Rattle.scripts.specs.declared.record.form.Form.{Form}
+use Rattle.scripts.specs.declared.record.form.Form.TheVariants.{One, Two}
+use Rattle.scripts.specs.declared.objects.kind.Kind.{Kind}
+use Rattle.scripts.specs.declared.objects.kernel_call.KParams.{KParams}
+use Rattle.scripts.specs.declared.objects.kernel_call.KParams.TheVariants.{Queue, Pool, Console, Sched}
 
 -- the word of a kind
 abbrev pub kind_word : Kind → List ℕ

@@ -2,7 +2,7 @@
 use Rattle.std.specs.Prelude.{◌≡◌, ℕ, ◌<◌, nat_le, ◌&&◌, Bool, true, if◌then◌else◌, Option, Some, None, List, [], ◌∷◌, map, decimal}
 use Rattle.std.specs.List.{list_all, AllByRecursion}
 use Rattle.std.specs.Str.{bytes_eq}
-use Rattle.scripts.specs.declared.field.Field.{Field}
+use Rattle.scripts.specs.declared.tables.field.Field.{Field}
 use Rattle.scripts.specs.Reading.{◌>>=◌, word_at, number_at}
 
 -- a word, and then its numbers, each with its range

@@ -5,10 +5,10 @@ use Rattle.shared_queue.specs.declared.call.QueueCall.TheVariants.{Enq, Deq, Rem
 use Rattle.page_pool.specs.declared.call.PoolCall.TheVariants.{Alloc, Free, Left}
 use Rattle.console_ring.specs.declared.call.ConsoleCall.TheVariants.{Put, Get, Level}
 use Rattle.wake_list.specs.declared.call.SchedCall.TheVariants.{Ready, Next, Sleep, Wake, WakeAll}
-use Rattle.scripts.specs.declared.kernel_call.KCall.{KCall}
-use Rattle.scripts.specs.declared.kernel_call.KCall.TheVariants.{Queue, Pool, Console, Sched}
-use Rattle.scripts.specs.declared.kernel_call.KReply.{KReply}
-use Rattle.scripts.specs.declared.kernel_call.KReply.TheVariants.{Ok, Already, BadThread, Thread, Empty, Absent, Count, Page, NoPage, OverQuota, BadOwner, NotYours, NotTaken, BadPage, Dropped, Byte, BadChannel, BadCall}
+use Rattle.scripts.specs.declared.objects.kernel_call.KCall.{KCall}
+use Rattle.scripts.specs.declared.objects.kernel_call.KCall.TheVariants.{Queue, Pool, Console, Sched}
+use Rattle.scripts.specs.declared.objects.kernel_call.KReply.{KReply}
+use Rattle.scripts.specs.declared.objects.kernel_call.KReply.TheVariants.{Ok, Already, BadThread, Thread, Empty, Absent, Count, Page, NoPage, OverQuota, BadOwner, NotYours, NotTaken, BadPage, Dropped, Byte, BadChannel, BadCall}
 use Rattle.scripts.specs.Row.{Row, first, others, wide, byte}
 
 -- how a call is spelled

@@ -1,14 +1,14 @@
 -- What a line of the scripts does, and what reading them answers.
 use Rattle.std.specs.Prelude.{ℕ, ◌≡◌, ◌<◌, ◌≤◌, ◌⊎◌, Bool, List, [], ◌∷◌, ◌++◌, length, Option, Some, slice_get, slice_set}
-use Rattle.scripts.specs.declared.line_machine.PieceFault.{PieceFault}
-use Rattle.scripts.specs.declared.line_machine.PieceFault.TheVariants as piece
-use Rattle.scripts.specs.declared.line_machine.TheConstants.{MOST_BYTES}
-use Rattle.scripts.specs.declared.request.Request.{Request}
-use Rattle.scripts.specs.declared.script_list.TheConstants.{MOST_ENTRIES}
-use Rattle.scripts.specs.declared.script_reader.ScriptsFault.{ScriptsFault}
-use Rattle.scripts.specs.declared.script_reader.ScriptsFault.TheVariants.{OutOfMemory, Line}
-use Rattle.scripts.specs.declared.script_source.ScriptsReadFault.{ScriptsReadFault}
-use Rattle.scripts.specs.declared.script_source.ScriptsReadFault.TheVariants as stream
+use Rattle.scripts.specs.declared.text.line_machine.PieceFault.{PieceFault}
+use Rattle.scripts.specs.declared.text.line_machine.PieceFault.TheVariants as piece
+use Rattle.scripts.specs.declared.text.line_machine.TheConstants.{MOST_BYTES}
+use Rattle.scripts.specs.declared.script.request.Request.{Request}
+use Rattle.scripts.specs.declared.script.list.TheConstants.{MOST_ENTRIES}
+use Rattle.scripts.specs.declared.script.reader.ScriptsFault.{ScriptsFault}
+use Rattle.scripts.specs.declared.script.reader.ScriptsFault.TheVariants.{OutOfMemory, Line}
+use Rattle.scripts.specs.declared.script.source.ScriptsReadFault.{ScriptsReadFault}
+use Rattle.scripts.specs.declared.script.source.ScriptsReadFault.TheVariants as stream
 use Rattle.scripts.specs.KernelTypes.{KernelTodo}
 use Rattle.scripts.specs.LineMachine.{HasTaken}
 use Rattle.scripts.specs.ScriptText.{IsBlank, IsRequest, IsFirstBad, AreScripts, dealt}

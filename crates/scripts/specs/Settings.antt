@@ -6,10 +6,10 @@ use Rattle.event_log.specs.declared.logged.TheConstants.{MOST_EVENTS}
 use Rattle.word_rule.specs.declared.lock_kind.LockKind.{LockKind}
 use Rattle.word_rule.specs.declared.lock_kind.LockKind.TheVariants.{Ticket}
 use Rattle.word_rule.specs.declared.machine.TheConstants.{MOST_CELLS}
-use Rattle.scripts.specs.declared.kernel_call.KParams.{KParams}
-use Rattle.scripts.specs.declared.kernel_call.KParams.TheVariants.{Queue}
-use Rattle.scripts.specs.declared.form.Form.{Form}
-use Rattle.scripts.specs.declared.form.Form.TheVariants.{Two}
+use Rattle.scripts.specs.declared.objects.kernel_call.KParams.{KParams}
+use Rattle.scripts.specs.declared.objects.kernel_call.KParams.TheVariants.{Queue}
+use Rattle.scripts.specs.declared.record.form.Form.{Form}
+use Rattle.scripts.specs.declared.record.form.Form.TheVariants.{Two}
 use Rattle.scripts.specs.Forms.{most_cpus, TellsParams}
 use Rattle.scripts.specs.Kernel.{kernel_in_range}
 

@@ -14,19 +14,19 @@ use Rattle.word_rule.specs.declared.key.TheConstants.{MOST_CPUS}
 use Rattle.word_rule.specs.declared.lock_kind.LockKind.{LockKind}
 use Rattle.word_rule.specs.declared.lock_kind.LockKind.TheVariants.{Ticket, Mcs}
 use Rattle.word_rule.specs.declared.machine.TheConstants.{MOST_CELLS}
-use Rattle.scripts.specs.declared.kernel_call.KParams.{KParams}
-use Rattle.scripts.specs.declared.kernel_call.KParams.TheVariants.{Queue, Pool, Console, Sched}
-use Rattle.scripts.specs.declared.settings_fault.BadSettings.{BadSettings}
-use Rattle.scripts.specs.declared.settings_fault.SettingsFault.{SettingsFault}
-use Rattle.scripts.specs.declared.settings_fault.SettingsFault.TheVariants.{OutOfMemory, Refused}
-use Rattle.scripts.specs.declared.settings_fault.Cause.{Cause}
-use Rattle.scripts.specs.declared.settings_fault.Cause.TheVariants.{NotToml, Missing, WrongType, OutOfRange, BadWord, Repeated, Unknown}
-use Rattle.scripts.specs.declared.settings_fault.Place.{Place}
-use Rattle.scripts.specs.declared.settings_fault.Place.TheVariants.{Top, Object}
-use Rattle.scripts.specs.declared.settings_fault.SettingsKey.{SettingsKey}
-use Rattle.scripts.specs.declared.settings_fault.SettingsKey.TheVariants as Key
-use Rattle.scripts.specs.Answers.{◌>>=◌}
-use Rattle.scripts.specs.declared.kind.Kind.{Kind}
+use Rattle.scripts.specs.declared.objects.kernel_call.KParams.{KParams}
+use Rattle.scripts.specs.declared.objects.kernel_call.KParams.TheVariants.{Queue, Pool, Console, Sched}
+use Rattle.scripts.specs.declared.settings.fault.BadSettings.{BadSettings}
+use Rattle.scripts.specs.declared.settings.fault.SettingsFault.{SettingsFault}
+use Rattle.scripts.specs.declared.settings.fault.SettingsFault.TheVariants.{OutOfMemory, Refused}
+use Rattle.scripts.specs.declared.settings.fault.Cause.{Cause}
+use Rattle.scripts.specs.declared.settings.fault.Cause.TheVariants.{NotToml, Missing, WrongType, OutOfRange, BadWord, Repeated, Unknown}
+use Rattle.scripts.specs.declared.settings.fault.Place.{Place}
+use Rattle.scripts.specs.declared.settings.fault.Place.TheVariants.{Top, Object}
+use Rattle.scripts.specs.declared.settings.fault.SettingsKey.{SettingsKey}
+use Rattle.scripts.specs.declared.settings.fault.SettingsKey.TheVariants as Key
+use Rattle.scripts.specs.Then.{◌>>=◌}
+use Rattle.scripts.specs.declared.objects.kind.Kind.{Kind}
 use Rattle.scripts.specs.Parameters.{kind_of}
 use Rattle.scripts.specs.Settings.{Settings, ObjectSettings, is_name}
 

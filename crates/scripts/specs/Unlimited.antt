@@ -2,12 +2,12 @@
 use Rattle.event_log.specs.declared.object.SeqObject.{Ghosts}
 use Rattle.page_pool.specs.Unlimited.{unlimited_answer}
 use Rattle.word_rule.specs.Sound.{Sound}
-use Rattle.scripts.specs.declared.kernel_call.KParams.{KParams}
-use Rattle.scripts.specs.declared.kernel_call.KCall.{KCall}
-use Rattle.scripts.specs.declared.kernel_call.KCall.TheVariants.{Pool as PoolCalled}
-use Rattle.scripts.specs.declared.kernel_call.KReply.{KReply}
-use Rattle.scripts.specs.declared.kernel_object.KernelObject.{KernelObject}
-use Rattle.scripts.specs.declared.kernel_object.KernelObject.TheVariants.{Pool as PoolObject}
+use Rattle.scripts.specs.declared.objects.kernel_call.KParams.{KParams}
+use Rattle.scripts.specs.declared.objects.kernel_call.KCall.{KCall}
+use Rattle.scripts.specs.declared.objects.kernel_call.KCall.TheVariants.{Pool as PoolCalled}
+use Rattle.scripts.specs.declared.objects.kernel_call.KReply.{KReply}
+use Rattle.scripts.specs.declared.objects.kernel_object.KernelObject.{KernelObject}
+use Rattle.scripts.specs.declared.objects.kernel_object.KernelObject.TheVariants.{Pool as PoolObject}
 use Rattle.scripts.specs.Kernel.{kernel_answer, of_pool}
 use Rattle.scripts.specs.RecordRanges.{Record}
 use Rattle.scripts.specs.Runs.{opened_of}

@@ -5,7 +5,7 @@ ghost use Rattle.std.specs.List.{list_all};
 ghost use Rattle.scripts.specs.ScheduleText.{is_gap, schedule_words, IsSchedule, ScheduleWithin, NamesNoCpu, IsFirstBadWord};
 
 use crate::Settings;
-use crate::words::number_of;
+use crate::text::words::number_of;
 use std::alloc::Global;
 use std::marker::Model;
 

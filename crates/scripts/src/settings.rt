@@ -3,8 +3,12 @@
 ghost use Rattle.std.specs.Prelude.{◌≡◌, IfOk};
 ghost use Rattle.scripts.specs.Settings.{SettingsFit, built_in_settings};
 
+pub mod fault;
+pub mod lookup;
+pub mod text;
+
 use crate::KParams;
-use crate::copies::{Copied, copy_all};
+use crate::clones::{Copied, copy_all};
 use arrayvec::ArrayString;
 use event_log::{OutOfMemory, Series};
 use std::alloc::Global;

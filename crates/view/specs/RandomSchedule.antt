@@ -2,7 +2,7 @@
 use Rattle.std.specs.Prelude.{◌≡◌, ℕ, ◌<◌, ◌≤◌, List, [], length}
 use Rattle.std.specs.List.{AllByRecursion}
 use Rattle.word_rule.specs.Machine.World.{run}
-use Rattle.scripts.specs.contracts.kernel_object.KernelObjectSeqObject.TheImpl.{ghosts as kernel}
+use Rattle.scripts.specs.contracts.objects.kernel_object.KernelObjectSeqObject.TheImpl.{ghosts as kernel}
 use Rattle.scripts.specs.declared.schedule.TheConstants.{MOST_STEPS}
 use Rattle.scripts.specs.KernelTypes.{KernelTodo}
 use Rattle.scripts.specs.Settings.{Settings}

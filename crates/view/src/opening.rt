@@ -6,7 +6,7 @@ ghost use Rattle.event_log.specs.History.{IsKept, opened_history};
 ghost use Rattle.word_rule.specs.Machine.Opening.{opening_cell};
 ghost use Rattle.scripts.specs.ScriptText.{ScriptsFit};
 ghost use Rattle.scripts.specs.Settings.{ObjectFits, SettingsFit};
-ghost use Rattle.scripts.specs.declared.form.Form.TheVariants.{Two};
+ghost use Rattle.scripts.specs.declared.record.form.Form.TheVariants.{Two};
 ghost use Rattle.cpu_worker.specs.Simulation.{new_cell, new_world};
 ghost use Rattle.view.specs.Watching.{Watches};
 

@@ -1,7 +1,7 @@
 use Rattle.std.proofs.Common.{◌≡◌, ℕ, List, map, length, vec_len, sym, ap, subst, ◌∙◌, arith, lit<}
 use Rattle.std.proofs.lemmas.List.{length-map}
 use Rattle.std.specs.List.{AllByRecursion}
-use Rattle.scripts.specs.contracts.kernel_object.KernelObjectSeqObject.TheImpl.{ghosts as kernel}
+use Rattle.scripts.specs.contracts.objects.kernel_object.KernelObjectSeqObject.TheImpl.{ghosts as kernel}
 use Rattle.scripts.specs.KernelTypes.{KernelTodo, KernelRun}
 use Rattle.scripts.specs.RecordRanges.{Record, RunFits}
 use Rattle.scripts.specs.Runs.{opened_of, AsksFirst, TranscriptAsks}
@@ -10,7 +10,7 @@ use Rattle.scripts.specs.Settings.{Settings, SettingsFit}
 use Rattle.word_rule.specs.Machine.Opening.{opening_cell, opening_world}
 use Rattle.word_rule.specs.Machine.World.{run, run_of}
 use Rattle.word_rule.specs.Sound.{Sound, Opened}
-use Rattle.scripts.specs.declared.kernel_call.KParams.{KParams}
+use Rattle.scripts.specs.declared.objects.kernel_call.KParams.{KParams}
 use Rattle.cpu_worker.specs.Simulation.{KernelWorld, new_cell, new_world, simulated}
 use Rattle.cpu_worker.proofs.Simulations.{opened_cpus, able_lists, simulated_asks}
 use Rattle.cpu_worker.proofs.simulation.simulate.Goals as goal

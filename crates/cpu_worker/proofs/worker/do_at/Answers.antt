@@ -1,7 +1,7 @@
 use Rattle.std.proofs.Common.{◌≡◌, ℕ, ◌+◌, ◌-◌, ◌<◌, length, get_or, ap, ◌∙◌, subst, arith, lit<}
 use Rattle.std.proofs.Math.ListN.{set}
 use Rattle.std.specs.List.{SwappedAt}
-use Rattle.scripts.specs.contracts.kernel_object.KernelObjectSeqObject.TheImpl.{ghosts as kernel}
+use Rattle.scripts.specs.contracts.objects.kernel_object.KernelObjectSeqObject.TheImpl.{ghosts as kernel}
 use Rattle.word_rule.proofs.Slices.{read_get}
 use Rattle.cpu_worker.proofs.Places.{put_back}
 use Rattle.guarded_cell.proofs.Workers.{kept_places, did_at}

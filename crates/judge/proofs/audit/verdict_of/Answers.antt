@@ -1,5 +1,5 @@
 use Rattle.std.proofs.Common.{◌≡◌, Ok, Err, subst}
-use Rattle.scripts.specs.declared.record_fault.RecordFault.TheVariants.{OutOfMemory, Line}
+use Rattle.scripts.specs.declared.record.fault.RecordFault.TheVariants.{OutOfMemory, Line}
 use Rattle.scripts.specs.RecordFaults.{NamesBadLine}
 use Rattle.judge.proofs.audit.verdict_of.Goals as goal
 

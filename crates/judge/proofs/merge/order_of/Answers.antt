@@ -1,6 +1,6 @@
 use Rattle.std.proofs.Common.{◌≡◌, refl, subst, length, ◌∙◌, ap}
 use Rattle.scripts.specs.RecordFaults.{NamesBadLine}
-use Rattle.scripts.specs.declared.record_fault.RecordFault.TheVariants.{Line}
+use Rattle.scripts.specs.declared.record.fault.RecordFault.TheVariants.{Line}
 use Rattle.judge.specs.Orders.{order, cycle, unsound, bad_line, told_places, room_with}
 use Rattle.judge.proofs.merge.order_of.Goals as goal
 

@@ -1,6 +1,6 @@
 use Rattle.std.proofs.Common.{◌≡◌, ◌+◌, ◌++◌, List, ℕ, drop, get_or, sym, ap, ◌∙◌, rules, string_bytes}
 use Rattle.std.proofs.lemmas.List.{append-nil, drop_all}
-use Rattle.scripts.specs.contracts.kernel_object.KernelObjectSeqObject.TheImpl.{ghosts as kernel}
+use Rattle.scripts.specs.contracts.objects.kernel_object.KernelObjectSeqObject.TheImpl.{ghosts as kernel}
 use Rattle.word_rule.specs.Machine.World.{step}
 use Rattle.cpu_worker.specs.Simulation.{new_world}
 use Rattle.view.specs.StepLines.{line_of}

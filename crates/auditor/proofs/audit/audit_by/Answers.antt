@@ -1,0 +1,30 @@
+use Rattle.std.proofs.Common.{◌≡◌, List, sym, ap, ◌∙◌, subst}
+use Rattle.std.specs.Prelude.{◌↔◌, IfOk}
+use Rattle.word_rule.specs.Sound.{Opened}
+use Rattle.scripts.specs.contracts.objects.kernel_object.KernelObjectSeqObject.TheImpl.{ghosts as kernel}
+use Rattle.scripts.specs.declared.objects.kernel_call.KParams.{KParams}
+use Rattle.scripts.specs.KernelTypes.{KernelRun}
+use Rattle.scripts.specs.Runs.{opened_of}
+use Rattle.auditor.specs.declared.fault.Verdict.TheVariants as verdict
+use Rattle.auditor.specs.Faults.{IsFirstFault}
+use Rattle.auditor.specs.Passes.{IsRunOf}
+use Rattle.auditor.specs.Transcripts.{opened_by}
+use Rattle.auditor.proofs.FaultNumbers.{can_be_told}
+use Rattle.auditor.proofs.RecordRuns.{KernelTerms, record_run}
+use Rattle.auditor.proofs.audit.audit_by.Goals as goal
+
+pub judge_run-requires : goal.judge_run-requires
+judge_run-requires g c =
+    let same = c.in_ok-terms.ensures ∙ ap opened_of c.settings.ensures.settings in
+    let run = record_run c.args.record.now c.in_ok-terms.terms.items c.run.ensures.fit same in
+    subst (λ (z : List KernelTerms × KernelRun). IsRunOf kernel z.0 z.1) (λ j. (sym c.as_slice.ensures.value j, sym c.run.ensures.run j)) run
+
+pub returns-clause-fault : goal.returns-clause-fault
+returns-clause-fault g c =
+    let objects = ap opened_by c.as_slice.ensures.value ∙ (c.in_ok-terms.ensures ∙ ap opened_of c.settings.ensures.settings) in
+    λ f. subst (λ (z : List (Opened KParams) × KernelRun). IfOk c.judge_run.result (λ v. (v ≡ verdict.Unsound f) ↔ IsFirstFault kernel z.0 z.1 f)) (λ j. (objects j, c.run.ensures.run j)) (c.judge_run.ensures.fault f)
+
+pub returns-clause-told : goal.returns-clause-told
+returns-clause-told g c =
+    let objects = ap opened_by c.as_slice.ensures.value ∙ (c.in_ok-terms.ensures ∙ ap opened_of c.settings.ensures.settings) in
+    can_be_told c.args.record.now c.run.ensures.fit c.judge_run.result (λ f. subst (λ (z : List (Opened KParams) × KernelRun). IfOk c.judge_run.result (λ v. (v ≡ verdict.Unsound f) ↔ IsFirstFault kernel z.0 z.1 f)) (λ j. (objects j, c.run.ensures.run j)) (c.judge_run.ensures.fault f))

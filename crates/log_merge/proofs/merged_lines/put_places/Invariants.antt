@@ -1,7 +1,0 @@
-use Rattle.std.proofs.Common.{take, map}
-use Rattle.scripts.specs.Output.{PutsLines}
-use Rattle.log_merge.specs.MergedText.{place_words}
-use Rattle.log_merge.proofs.merged_lines.put_places.Given as goal
-
-abbrev pub invariant-loop-place : goal.invariant-loop-place
-invariant-loop-place g l = PutsLines g.W.Sink l.fn.text l.text (map (place_words l.settings l.run) (take l.place-index l.places))

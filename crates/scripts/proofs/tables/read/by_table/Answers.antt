@@ -1,0 +1,14 @@
+use Rattle.std.proofs.Common.{◌≡◌, Some, sym, ◌∙◌, ap, option_map}
+use Rattle.std.specs.List.{list_all}
+use Rattle.scripts.specs.Reading.{left}
+use Rattle.scripts.specs.Row.{in_range, refill, numbers_at}
+use Rattle.scripts.proofs.Spellings.{numbers_take}
+use Rattle.scripts.proofs.tables.read.by_table.Goals as goal
+
+pub fill-requires-after_bounds : goal.fill-requires-after_bounds
+fill-requires-after_bounds g c κs within =
+    let fields = (g.T.Spelled.row_of c.in_ok-sample.sample).fields in
+    let same : c.as_slice.result.now ≡ fields = c.as_slice.ensures.value ∙ c.spelling.ensures.fields in
+    let read : numbers_at c.as_slice.result.now (left c.in_ok-name.rest) ≡ Some (c.in_ok-numbers.numbers.items, left c.in_ok-numbers.rest) = sym c.numbers.ensures ∙ ap (option_map _) c.in_ok-numbers.was in
+    let taken = numbers_take fields (left c.in_ok-name.rest) (c.in_ok-numbers.numbers.items, left c.in_ok-numbers.rest) (ap (λ fs. numbers_at fs (left c.in_ok-name.rest)) (sym same) ∙ read) in
+    ap (λ ns. list_all in_range (refill fields ns)) c.as_slice-2.ensures.value ∙ taken.fit

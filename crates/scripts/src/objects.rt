@@ -1,0 +1,7 @@
+//! The objects of the kernel as one.
+
+pub mod kernel_call;
+pub mod kernel_object;
+pub mod kind;
+pub mod ranges;
+pub mod unlimited;

@@ -1,0 +1,21 @@
+//! Records from before owners of pages had quotas.
+
+ghost use Rattle.std.specs.Prelude.{◌↔◌};
+ghost use Rattle.word_rule.specs.Sound.{Sound};
+ghost use Rattle.scripts.specs.declared.record.form.Form.TheVariants.{One};
+ghost use Rattle.scripts.specs.RecordRanges.{Record, RecordFitsIn};
+ghost use Rattle.scripts.specs.Runs.{opened_of};
+ghost use Rattle.scripts.specs.Unlimited.{WasSound};
+
+use crate::KernelObject;
+use event_log::SeqObject;
+use page_pool::{stays_whole, unlimited_by_full_quotas};
+
+/// A law of records that record 1 can tell, without effect: they are sound exactly if they were by the definitions from
+/// before quotas.
+pub fn sound_as_before()
+    ensures { (r : Record) → RecordFitsIn One r → Sound ⟦<KernelObject as SeqObject>⟧ (opened_of r.settings) r.run ↔ WasSound ⟦<KernelObject as SeqObject>⟧ r }
+{
+    stays_whole();
+    unlimited_by_full_quotas();
+}

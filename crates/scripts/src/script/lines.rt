@@ -1,0 +1,146 @@
+//! The lines of scripts: one entry each.
+
+ghost use Rattle.std.specs.Prelude.{◌≡◌, ◌<◌, ◌↔◌, ℕ, List, [], map, length, Err, IsTrue, IfOk, IfErr, OnOk};
+ghost use Rattle.scripts.specs.ScriptFaults.{Adds, IsFull, HasRead, NamesFirstBad};
+ghost use Rattle.scripts.specs.ScriptText.{IsBlank, AreScripts, dealt};
+ghost use Rattle.scripts.specs.Settings.{Settings as Shown, SettingsFit};
+
+use crate::script::list::MOST_ENTRIES;
+use crate::script::request_line::request;
+use crate::text::line_machine::{LineFault, MOST_BYTES, Pieces, TakesLines};
+use crate::{KernelObject, Request, Scripts, ScriptsFault, Settings};
+use event_log::Todo;
+use std::alloc::Global;
+use std::marker::Model;
+
+/// The entries of each CPU that were read.
+#[derive(Drop)]
+pub(crate) struct ScriptLists<'s> {
+    settings: &'s Settings,
+    lists: Vec<Vec<Todo<KernelObject>>>,
+}
+
+impl<'s> Model for ScriptLists<'s> {
+    ghost use Rattle.std.specs.Prelude.{◌≡◌, length, map};
+    ghost use Rattle.scripts.specs.ScriptFaults.{ScriptState};
+    ghost use Rattle.scripts.specs.Settings.{SettingsFit};
+
+    ghost Value = { ScriptState };
+
+    ghost view = { λ s. record { settings = s.settings.now; lists = map (λ l. l.items) s.lists.items } };
+
+    ghost invariant = { λ s. (length s.lists.items ≡ s.settings.now.cpus) × SettingsFit s.settings.now };
+}
+
+impl<'s> ScriptLists<'s> {
+    /// No entries yet.
+    pub(crate) fn new(
+        alloc: Global,
+        settings: &'s Settings,
+    ) -> Result<ScriptLists<'s>, ScriptsFault>
+        ensures lists { IfOk result (λ s. s ≡ record { settings = settings.now; lists = dealt settings.now.cpus [] }) }
+        ensures fault { IfErr result (λ f. f ≡ ScriptsFault.OutOfMemory) }
+        ensures fit { SettingsFit settings.now }
+    {
+        let lists = empty_lists(alloc, settings.cpus())?;
+        Ok(ScriptLists { settings, lists })
+    }
+
+    /// The entries, without taking memory.
+    pub(crate) fn into_lists(self) -> Vec<Vec<Todo<KernelObject>>>
+        ensures lists { map (λ l. l.items) result.items ≡ self.entry.lists }
+        ensures fit { SettingsFit self.entry.settings }
+    {
+        let ScriptLists { lists, .. } = self;
+        lists
+    }
+}
+
+impl TakesLines for ScriptLists<'_> {
+    ghost use Rattle.scripts.specs.ScriptFaults.{TakesScriptLine, RefusesScriptLine, FitsScriptLine};
+
+    ghost takes = { TakesScriptLine };
+
+    ghost refuses = { RefusesScriptLine };
+
+    ghost fits = { FitsScriptLine };
+
+    fn take_line(&mut self, line: &[u8]) -> Result<(), LineFault> {
+        if is_blank(line) {
+            return Ok(());
+        }
+        let settings = self.settings;
+        let Some(request) = request(settings, line) else {
+            return Err(LineFault::Refused);
+        };
+        let Request { cpu, todo } = request;
+        add(&mut self.lists, cpu, todo)
+    }
+
+    fn passes(&self, first: u8) -> bool {
+        first == b'#'
+    }
+
+    fn is_too_long(&self, first: u8, count: usize) -> bool {
+        let _settings = self.settings;
+        first != b'#' && count > MOST_BYTES
+    }
+}
+
+/// The scripts that were read, if the text was whole lines.
+pub(crate) fn whole_scripts(pieces: Pieces<ScriptLists<'_>>) -> Result<Scripts, ScriptsFault>
+    requires { (settings : Shown) × (text : List ℕ) × HasRead settings text pieces.lines pieces.number pieces.passing pieces.pending.items }
+    ensures found { (settings : Shown) (text : List ℕ) → HasRead settings text pieces.entry.lines pieces.entry.number pieces.entry.passing pieces.entry.pending.items → IfOk result (AreScripts settings text) }
+    ensures fault { (settings : Shown) (text : List ℕ) → HasRead settings text pieces.entry.lines pieces.entry.number pieces.entry.passing pieces.entry.pending.items → IfErr result (NamesFirstBad settings text) }
+{
+    if !pieces.is_whole() {
+        return Err(ScriptsFault::Line(pieces.number()));
+    }
+    Ok(Scripts::of(pieces.into_lines().into_lists()))
+}
+
+/// Whether the line is empty or a comment.
+fn is_blank(line: &[u8]) -> bool
+    ensures { IsTrue result ↔ IsBlank line.now }
+{
+    match line {
+        [] => true,
+        [first, ..] => *first == b'#',
+    }
+}
+
+/// An empty list for each CPU.
+fn empty_lists(alloc: Global, cpus: u8) -> Result<Vec<Vec<Todo<KernelObject>>>, ScriptsFault>
+    ensures lists { IfOk result (λ lists. map (λ l. l.items) lists.items ≡ dealt cpus []) }
+    ensures fault { IfErr result (λ f. f ≡ ScriptsFault.OutOfMemory) }
+{
+    let mut lists = Vec::new(alloc);
+    for _ in 0..cpus {
+        match lists.push(Vec::new(alloc)) {
+            Ok(()) => {}
+            Err(_) => return Err(ScriptsFault::OutOfMemory),
+        }
+    }
+    Ok(lists)
+}
+
+/// Adds an entry at the end of its CPU's list, if there is room for it.
+fn add(
+    lists: &mut Vec<Vec<Todo<KernelObject>>>,
+    cpu: u8,
+    todo: Todo<KernelObject>,
+) -> Result<(), LineFault>
+    requires { cpu < length lists.old.items }
+    ensures count { length lists.new.items ≡ length lists.old.items }
+    ensures ok { OnOk result (Adds (map (λ l. l.items) lists.old.items) (map (λ l. l.items) lists.new.items) (record { cpu = cpu; todo = todo })) }
+    ensures full { result ≡ Err LineFault.Refused → IsFull (map (λ l. l.items) lists.old.items) cpu }
+{
+    let list = &mut lists[cpu as usize];
+    if list.len() >= MOST_ENTRIES {
+        return Err(LineFault::Refused);
+    }
+    match list.push(todo) {
+        Ok(()) => Ok(()),
+        Err(_) => Err(LineFault::OutOfMemory),
+    }
+}

@@ -1,0 +1,8 @@
+//! The tables by which values are spelled.
+
+pub mod field;
+pub mod params;
+pub mod read;
+pub mod rows;
+pub mod spelling;
+pub mod write;

@@ -1,0 +1,275 @@
+//! The tables of calls and replies.
+
+use crate::tables::read::{byte, wide};
+use crate::tables::spelling::{first, second};
+use crate::text::words::{Words, word};
+use crate::{Field, KCall, KReply, Spelled, Spelling};
+use console_ring::ConsoleCall;
+use page_pool::PoolCall;
+use shared_queue::QueueCall;
+use wake_list::SchedCall;
+
+impl Spelled for KCall {
+    ghost use Rattle.scripts.specs.Rows.{call_row, call_samples, call_filled};
+    ghost use Rattle.scripts.specs.Tables.{call_table};
+
+    ghost row_of = { call_row };
+
+    ghost table = { call_samples };
+
+    ghost filled = { call_filled };
+
+    ghost right = { call_table };
+
+    #[inline(always)]
+    fn spelling(&self) -> Spelling {
+        match *self {
+            KCall::Queue(QueueCall::Enq(thread)) => Spelling::one(b"enq", Field::wide(thread)),
+            KCall::Queue(QueueCall::Deq) => Spelling::word(b"deq"),
+            KCall::Queue(QueueCall::Remove(thread)) => Spelling::one(
+                b"remove",
+                Field::wide(thread),
+            ),
+            KCall::Queue(QueueCall::Len) => Spelling::word(b"len"),
+            KCall::Pool(PoolCall::Alloc(owner)) => Spelling::one(b"alloc", Field::wide(owner)),
+            KCall::Pool(PoolCall::Free { owner, page }) => {
+                Spelling::two(b"free", Field::wide(owner), Field::wide(page))
+            }
+            KCall::Pool(PoolCall::Left) => Spelling::word(b"left"),
+            KCall::Console(ConsoleCall::Put(byte)) => Spelling::one(b"put", Field::byte(byte)),
+            KCall::Console(ConsoleCall::Get) => Spelling::word(b"get"),
+            KCall::Console(ConsoleCall::Level) => Spelling::word(b"level"),
+            KCall::Sched(SchedCall::Ready(thread)) => Spelling::one(b"ready", Field::wide(thread)),
+            KCall::Sched(SchedCall::Next) => Spelling::word(b"next"),
+            KCall::Sched(SchedCall::Sleep { channel, thread }) => {
+                Spelling::two(b"sleep", Field::wide(channel), Field::wide(thread))
+            }
+            KCall::Sched(SchedCall::Wake(channel)) => Spelling::one(b"wake", Field::wide(channel)),
+            KCall::Sched(SchedCall::WakeAll(channel)) => {
+                Spelling::one(b"wakeall", Field::wide(channel))
+            }
+        }
+    }
+
+    fn samples() -> &'static [KCall] {
+        &[
+            KCall::Queue(QueueCall::Enq(0)),
+            KCall::Queue(QueueCall::Deq),
+            KCall::Queue(QueueCall::Remove(0)),
+            KCall::Queue(QueueCall::Len),
+            KCall::Pool(PoolCall::Alloc(0)),
+            KCall::Pool(PoolCall::Free { owner: 0, page: 0 }),
+            KCall::Pool(PoolCall::Left),
+            KCall::Console(ConsoleCall::Put(0)),
+            KCall::Console(ConsoleCall::Get),
+            KCall::Console(ConsoleCall::Level),
+            KCall::Sched(SchedCall::Ready(0)),
+            KCall::Sched(SchedCall::Next),
+            KCall::Sched(SchedCall::Sleep {
+                channel: 0,
+                thread: 0,
+            }),
+            KCall::Sched(SchedCall::Wake(0)),
+            KCall::Sched(SchedCall::WakeAll(0)),
+        ]
+    }
+
+    #[inline(always)]
+    fn glance(at: Words<'_>) -> Option<(KCall, Words<'_>)> {
+        let (word, rest) = word(at)?;
+        match word {
+            b"enq" => {
+                let (number, rest) = wide(rest)?;
+                Some((KCall::Queue(QueueCall::Enq(number)), rest))
+            }
+            b"deq" => Some((KCall::Queue(QueueCall::Deq), rest)),
+            b"remove" => {
+                let (number, rest) = wide(rest)?;
+                Some((KCall::Queue(QueueCall::Remove(number)), rest))
+            }
+            b"len" => Some((KCall::Queue(QueueCall::Len), rest)),
+            b"alloc" => {
+                let (number, rest) = wide(rest)?;
+                Some((KCall::Pool(PoolCall::Alloc(number)), rest))
+            }
+            b"free" => {
+                let (owner, rest) = wide(rest)?;
+                let (page, rest) = wide(rest)?;
+                Some((KCall::Pool(PoolCall::Free { owner, page }), rest))
+            }
+            b"left" => Some((KCall::Pool(PoolCall::Left), rest)),
+            b"put" => {
+                let (number, rest) = byte(rest)?;
+                Some((KCall::Console(ConsoleCall::Put(number)), rest))
+            }
+            b"get" => Some((KCall::Console(ConsoleCall::Get), rest)),
+            b"level" => Some((KCall::Console(ConsoleCall::Level), rest)),
+            b"ready" => {
+                let (number, rest) = wide(rest)?;
+                Some((KCall::Sched(SchedCall::Ready(number)), rest))
+            }
+            b"next" => Some((KCall::Sched(SchedCall::Next), rest)),
+            b"sleep" => {
+                let (channel, rest) = wide(rest)?;
+                let (thread, rest) = wide(rest)?;
+                Some((KCall::Sched(SchedCall::Sleep { channel, thread }), rest))
+            }
+            b"wake" => {
+                let (number, rest) = wide(rest)?;
+                Some((KCall::Sched(SchedCall::Wake(number)), rest))
+            }
+            b"wakeall" => {
+                let (number, rest) = wide(rest)?;
+                Some((KCall::Sched(SchedCall::WakeAll(number)), rest))
+            }
+            _ => None,
+        }
+    }
+
+    #[inline(always)]
+    fn fill(&self, numbers: &[u32]) -> KCall {
+        match *self {
+            KCall::Queue(QueueCall::Enq(_)) => KCall::Queue(QueueCall::Enq(first(numbers))),
+            KCall::Queue(QueueCall::Deq) => KCall::Queue(QueueCall::Deq),
+            KCall::Queue(QueueCall::Remove(_)) => KCall::Queue(QueueCall::Remove(first(numbers))),
+            KCall::Queue(QueueCall::Len) => KCall::Queue(QueueCall::Len),
+            KCall::Pool(PoolCall::Alloc(_)) => KCall::Pool(PoolCall::Alloc(first(numbers))),
+            KCall::Pool(PoolCall::Free { owner: _, page: _ }) => KCall::Pool(PoolCall::Free {
+                owner: first(numbers),
+                page: second(numbers),
+            }),
+            KCall::Pool(PoolCall::Left) => KCall::Pool(PoolCall::Left),
+            KCall::Console(ConsoleCall::Put(_)) => {
+                KCall::Console(ConsoleCall::Put(first(numbers) as u8))
+            }
+            KCall::Console(ConsoleCall::Get) => KCall::Console(ConsoleCall::Get),
+            KCall::Console(ConsoleCall::Level) => KCall::Console(ConsoleCall::Level),
+            KCall::Sched(SchedCall::Ready(_)) => KCall::Sched(SchedCall::Ready(first(numbers))),
+            KCall::Sched(SchedCall::Next) => KCall::Sched(SchedCall::Next),
+            KCall::Sched(
+                SchedCall::Sleep {
+                    channel: _,
+                    thread: _,
+                },
+            ) => KCall::Sched(SchedCall::Sleep {
+                channel: first(numbers),
+                thread: second(numbers),
+            }),
+            KCall::Sched(SchedCall::Wake(_)) => KCall::Sched(SchedCall::Wake(first(numbers))),
+            KCall::Sched(SchedCall::WakeAll(_)) => KCall::Sched(SchedCall::WakeAll(first(numbers))),
+        }
+    }
+}
+
+impl Spelled for KReply {
+    ghost use Rattle.scripts.specs.Rows.{reply_row, reply_samples, reply_filled};
+    ghost use Rattle.scripts.specs.Tables.{reply_table};
+
+    ghost row_of = { reply_row };
+
+    ghost table = { reply_samples };
+
+    ghost filled = { reply_filled };
+
+    ghost right = { reply_table };
+
+    #[inline(always)]
+    fn spelling(&self) -> Spelling {
+        match *self {
+            KReply::Ok => Spelling::word(b"ok"),
+            KReply::Already => Spelling::word(b"already"),
+            KReply::BadThread => Spelling::word(b"badthread"),
+            KReply::Thread(thread) => Spelling::one(b"thread", Field::wide(thread)),
+            KReply::Empty => Spelling::word(b"empty"),
+            KReply::Absent => Spelling::word(b"absent"),
+            KReply::Count(count) => Spelling::one(b"count", Field::wide(count)),
+            KReply::Page(page) => Spelling::one(b"page", Field::wide(page)),
+            KReply::NoPage => Spelling::word(b"none"),
+            KReply::OverQuota => Spelling::word(b"overquota"),
+            KReply::BadOwner => Spelling::word(b"badowner"),
+            KReply::NotYours => Spelling::word(b"notyours"),
+            KReply::NotTaken => Spelling::word(b"nottaken"),
+            KReply::BadPage => Spelling::word(b"badpage"),
+            KReply::Dropped(byte) => Spelling::one(b"dropped", Field::byte(byte)),
+            KReply::Byte(byte) => Spelling::one(b"byte", Field::byte(byte)),
+            KReply::BadChannel => Spelling::word(b"badchannel"),
+            KReply::BadCall => Spelling::word(b"badcall"),
+        }
+    }
+
+    fn samples() -> &'static [KReply] {
+        &[
+            KReply::Ok,
+            KReply::Already,
+            KReply::BadThread,
+            KReply::Thread(0),
+            KReply::Empty,
+            KReply::Absent,
+            KReply::Count(0),
+            KReply::Page(0),
+            KReply::NoPage,
+            KReply::OverQuota,
+            KReply::BadOwner,
+            KReply::NotYours,
+            KReply::NotTaken,
+            KReply::BadPage,
+            KReply::Dropped(0),
+            KReply::Byte(0),
+            KReply::BadChannel,
+            KReply::BadCall,
+        ]
+    }
+
+    #[inline(always)]
+    fn glance(at: Words<'_>) -> Option<(KReply, Words<'_>)> {
+        let (word, rest) = word(at)?;
+        match word {
+            b"ok" => Some((KReply::Ok, rest)),
+            b"already" => Some((KReply::Already, rest)),
+            b"badthread" => Some((KReply::BadThread, rest)),
+            b"thread" => {
+                let (number, rest) = wide(rest)?;
+                Some((KReply::Thread(number), rest))
+            }
+            b"empty" => Some((KReply::Empty, rest)),
+            b"absent" => Some((KReply::Absent, rest)),
+            b"count" => {
+                let (number, rest) = wide(rest)?;
+                Some((KReply::Count(number), rest))
+            }
+            b"page" => {
+                let (number, rest) = wide(rest)?;
+                Some((KReply::Page(number), rest))
+            }
+            b"none" => Some((KReply::NoPage, rest)),
+            b"overquota" => Some((KReply::OverQuota, rest)),
+            b"badowner" => Some((KReply::BadOwner, rest)),
+            b"notyours" => Some((KReply::NotYours, rest)),
+            b"nottaken" => Some((KReply::NotTaken, rest)),
+            b"badpage" => Some((KReply::BadPage, rest)),
+            b"dropped" => {
+                let (number, rest) = byte(rest)?;
+                Some((KReply::Dropped(number), rest))
+            }
+            b"byte" => {
+                let (number, rest) = byte(rest)?;
+                Some((KReply::Byte(number), rest))
+            }
+            b"badchannel" => Some((KReply::BadChannel, rest)),
+            b"badcall" => Some((KReply::BadCall, rest)),
+            _ => None,
+        }
+    }
+
+    #[inline(always)]
+    fn fill(&self, numbers: &[u32]) -> KReply {
+        match *self {
+            KReply::Thread(_) => KReply::Thread(first(numbers)),
+            KReply::Count(_) => KReply::Count(first(numbers)),
+            KReply::Page(_) => KReply::Page(first(numbers)),
+            KReply::Dropped(_) => KReply::Dropped(first(numbers) as u8),
+            KReply::Byte(_) => KReply::Byte(first(numbers) as u8),
+            reply => reply,
+        }
+    }
+}

@@ -1,0 +1,106 @@
+//! The words of a line, from left to right.
+
+ghost use Rattle.std.specs.Prelude.{◌≡◌, ◌∷◌, [], ◌≤◌, ◌<◌, ◌+◌, ℕ, Some, IfSome, IfNone, decimal};
+ghost use Rattle.std.specs.Int.{IsInRange};
+ghost use Rattle.std.specs.Option.{option_map};
+ghost use Rattle.std.specs.Str.Parse.{digits_value};
+ghost use Rattle.scripts.specs.Reading.{AreDigits, left, word_at, key_at, number_in, number_at};
+
+use crate::text::split::split_once;
+
+/// The words that are left of a line: those of the bytes, or none.
+pub type Words<'a> = Option<&'a [u8]>;
+
+/// The next word.
+#[tactic(auto, unfolding(crate::specs::Reading::word_at))]
+#[inline(always)]
+pub fn word<'a>(at: Words<'a>) -> Option<(&'a [u8], Words<'a>)>
+    ensures { option_map (λ x. (x.0.now, left x.1)) result ≡ word_at (left at.entry) }
+{
+    let bytes = at?;
+    match split_once(bytes, b' ') {
+        Some((word, rest)) => Some((word, Some(rest))),
+        None => Some((bytes, None)),
+    }
+}
+
+/// What follows the word, if it is next.
+#[tactic(auto, unfolding(crate::specs::Reading::key_at))]
+#[inline(always)]
+pub fn key<'a>(key: &[u8], at: Words<'a>) -> Option<Words<'a>>
+    ensures { option_map left result ≡ key_at key.now (left at.entry) }
+{
+    let (word, rest) = word(at)?;
+    if word == key { Some(rest) } else { None }
+}
+
+/// What follows the byte, if a word of it alone is next.
+#[tactic(auto, unfolding(crate::specs::Reading::key_at))]
+#[inline(always)]
+pub(crate) fn mark(mark: u8, at: Words<'_>) -> Option<Words<'_>>
+    ensures { option_map left result ≡ key_at (mark ∷ []) (left at.entry) }
+{
+    let (word, rest) = word(at)?;
+    match word {
+        [byte] if *byte == mark => Some(rest),
+        _ => None,
+    }
+}
+
+/// The value of a digit.
+fn digit(byte: u8) -> Option<u64>
+    ensures found { IfSome result (λ d. (byte ≡ 48 + d) × (d < 10)) }
+    ensures none { IfNone result (IsInRange 48 57 byte → ⊥) }
+{
+    if b'0' <= byte && byte <= b'9' {
+        Some(u64::from(byte - b'0'))
+    } else {
+        None
+    }
+}
+
+/// The value of digits, if it is at most `high`.
+#[inline(always)]
+fn digits(word: &[u8], high: u64) -> Option<u64>
+    ensures digits { IfSome result (λ _. AreDigits word.now) }
+    ensures value { IfSome result (λ n. n ≡ digits_value 10 word.now) }
+    ensures bound { IfSome result (λ n. n ≤ high) }
+    ensures none { IfNone result (AreDigits word.now → high < digits_value 10 word.now) }
+{
+    let mut number: u64 = 0;
+    for byte in word {
+        let digit = digit(*byte)?;
+        number = number.checked_mul(10)?.checked_add(digit)?;
+        if number > high {
+            return None;
+        }
+    }
+    Some(number)
+}
+
+/// The number of at most `high` whose decimal text the word is.
+#[inline(always)]
+pub fn number_of(word: &[u8], high: u64) -> Option<u64>
+    ensures value { result ≡ number_in high word.now }
+    ensures bound { IfSome result (λ n. n ≤ high) }
+    ensures found { IfSome result (λ n. word.now ≡ decimal n) }
+    ensures only { (n : ℕ) → n ≤ high → word.now ≡ decimal n → result ≡ Some n }
+{
+    let first = word.first()?;
+    if *first == b'0' && word.len() > 1 {
+        return None;
+    }
+    digits(word, high)
+}
+
+/// The number of at most `high` that is next.
+#[tactic(auto, unfolding(crate::specs::Reading::number_at))]
+#[inline(always)]
+pub fn number<'a>(high: u64, at: Words<'a>) -> Option<(u64, Words<'a>)>
+    ensures value { option_map (λ x. (x.0, left x.1)) result ≡ number_at high (left at.entry) }
+    ensures bound { IfSome result (λ x. x.0 ≤ high) }
+{
+    let (word, rest) = word(at)?;
+    let number = number_of(word, high)?;
+    Some((number, rest))
+}
