@@ -3,7 +3,6 @@
 //! It answers all calls a second time, by lists of its own, and shares no code with the objects that it judges.
 #![tactic(auto)]
 
-mod audit;
 mod compare;
 mod entries;
 mod fault;
@@ -12,6 +11,7 @@ mod law;
 mod links;
 mod log_pass;
 mod logs;
+mod record_audit;
 mod replays;
 mod steps;
 mod stop;
@@ -24,10 +24,10 @@ mod transcripts;
 mod unclaimed;
 mod verdict_text;
 
-pub use audit::audit;
 pub use fault::{Fault, Verdict};
 pub use judge::judge_run;
 pub use law::{first_faults_agree, no_fault_is_sound, sound_has_no_fault};
+pub use record_audit::audit;
 pub use replays::{PlainConsole, PlainObject, PlainPool, PlainQueue, PlainSched, Replays};
 pub use terms::Terms;
 pub use texts::{TextFault, audit_text};

@@ -8,7 +8,7 @@ ghost use Rattle.scripts.specs.Output.{AppendsBeginning, PutsLines};
 ghost use Rattle.scripts.specs.Settings.{name_at};
 
 use crate::look_up::entry_at;
-use crate::merge::Merged;
+use crate::record_merge::Merged;
 use event_log::{Entry, Run, Sink};
 use scripts::{
     Buffered, KernelObject, Record, Settings, WriteFailed, begin_line, end_line, put_done, put_word,

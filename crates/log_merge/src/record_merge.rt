@@ -9,7 +9,7 @@ ghost use Rattle.scripts.specs.Runs.{opened_of};
 ghost use Rattle.word_rule.specs.Orders.{HasOrder};
 ghost use Rattle.word_rule.specs.Sound.{Sound};
 
-use crate::merge_run::{Merging, merge_run};
+use crate::run_merge::{Merging, merge_run};
 use auditor::{Fault, Verdict, audit};
 use event_log::{OutOfMemory, SeqObject, Series};
 use scripts::{KernelObject, MOST_ENTRIES, Record};
@@ -34,7 +34,7 @@ pub enum MergeFault {
 }
 
 impl From<OutOfMemory> for MergeFault {
-    ghost use Rattle.log_merge.specs.declared.merge.MergeFault.TheVariants.{OutOfMemory};
+    ghost use Rattle.log_merge.specs.declared.record_merge.MergeFault.TheVariants.{OutOfMemory};
 
     ghost from_gives = { λ _ fault. fault ≡ OutOfMemory };
 

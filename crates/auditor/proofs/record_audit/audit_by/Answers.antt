@@ -11,7 +11,7 @@ use Rattle.auditor.specs.Passes.{IsRunOf}
 use Rattle.auditor.specs.Transcripts.{opened_by}
 use Rattle.auditor.proofs.FaultNumbers.{can_be_told}
 use Rattle.auditor.proofs.RecordRuns.{KernelTerms, record_run}
-use Rattle.auditor.proofs.audit.audit_by.Goals as goal
+use Rattle.auditor.proofs.record_audit.audit_by.Goals as goal
 
 pub judge_run-requires : goal.judge_run-requires
 judge_run-requires g c =

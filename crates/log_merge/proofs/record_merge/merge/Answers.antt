@@ -3,13 +3,13 @@ use Rattle.auditor.specs.declared.fault.Verdict.TheVariants as verdict
 use Rattle.auditor.specs.VerdictText.{CanBeTold}
 use Rattle.scripts.specs.KernelTypes.{KernelRun}
 use Rattle.scripts.specs.Runs.{opened_of}
-use Rattle.log_merge.specs.declared.merge_run.Merging.{Merging}
-use Rattle.log_merge.specs.declared.merge_run.Merging.TheVariants as merging
+use Rattle.log_merge.specs.declared.run_merge.Merging.{Merging}
+use Rattle.log_merge.specs.declared.run_merge.Merging.TheVariants as merging
 use Rattle.log_merge.specs.Merging.{IsCycleFound, IsMerging}
 use Rattle.log_merge.proofs.Exclusion.{tangle_excludes}
 use Rattle.log_merge.proofs.Matched.{matched_of_sound}
 use Rattle.log_merge.proofs.WholeRuns.{whole_of_fits, few_entries}
-use Rattle.log_merge.proofs.merge.merge.Goals as goal
+use Rattle.log_merge.proofs.record_merge.merge.Goals as goal
 
 pub merge_run-requires-clause-whole : goal.merge_run-requires-clause-whole
 merge_run-requires-clause-whole c = rw c.run.ensures.run (whole_of_fits c.args.record.now.settings c.args.record.now.run c.run.ensures.fit.1)

@@ -5,7 +5,7 @@ use Rattle.log_merge.specs.FoundCycles.{next_place, IsWalk, IsTurned}
 use Rattle.log_merge.specs.Merging.{IsLeastOrder}
 use Rattle.log_merge.proofs.Cycles.{merged_cycle, merged_order}
 use Rattle.log_merge.proofs.Placing.{all_below, all_drop}
-use Rattle.log_merge.proofs.merge_run.merge_run.Goals as goal
+use Rattle.log_merge.proofs.run_merge.merge_run.Goals as goal
 
 pub returns-in_default : goal.returns-in_default
 returns-in_default g c =
