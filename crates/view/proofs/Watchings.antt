@@ -2,16 +2,19 @@
 use Rattle.std.proofs.Common.{◌≡◌, ℕ, zero, suc, ◌<◌, ◌==◌, not, Bool, true, false, cond, List, [], ◌∷◌, ◌++◌, map, length, get_or, slice_get, take, position, nat_lt, ◌≤◌, ◌+◌, Result, Ok, Err, IfOk, Option, Some, None, refl, sym, ap, ◌∙◌, subst, arith}
 use Rattle.std.proofs.lemmas.Bool.{ltb-false}
 use Rattle.std.proofs.lemmas.List.{length-map, map-append, take_more}
+use Rattle.std.proofs.lemmas.Option.{slice_get_within}
 use Rattle.std.proofs.Math.ListN.{set}
 use Rattle.std.specs.List.{AllByRecursion, prefix_len, position_or_len}
 use Rattle.event_log.specs.declared.object.SeqObject.{Ghosts}
 use Rattle.event_log.specs.declared.entry.Todo.{Todo}
 use Rattle.word_rule.specs.declared.machine.step_done.StepDone.{StepDone}
-use Rattle.word_rule.specs.Locks.{turn}
+use Rattle.word_rule.specs.Locks.{lock_words, turn}
 use Rattle.word_rule.specs.StepKinds.{ends_hold}
 use Rattle.word_rule.specs.Machine.Orders.{first_cell, works_on}
+use Rattle.word_rule.specs.Machine.Shown.{MachineParts, Represents}
 use Rattle.word_rule.specs.Machine.World.{World, CellState, CpuState, left, finished, counted, outcome, step_on, step_of, step_by, step}
-use Rattle.word_rule.proofs.Slices.{get_map, map_get, map_set, read_get}
+use Rattle.word_rule.proofs.Slices.{get_map, map_get, map_set, read_get, some_at}
+use Rattle.view.specs.Watching.{words_in, words_on}
 
 -- the images of a list in which one element was written
 map_put : {X Y : Type 0} (f : X → Y) (xs : List X) (i : ℕ) (x : X) → map f (set xs i x) ≡ set (map f xs) i (f x)
@@ -133,3 +136,17 @@ module _ {O P C R : Type 0} where
       -- another leaves all that was left
       pub goes_on : ends_hold s ≡ false → map f xs ≡ todos (step meaning w i).0
       goes_on ends = same ∙ (is ∙ sym (after_step w i (f x) left_now ∙ ap (λ v. cond v (set (todos w) i (left (f x))) (todos w)) (ap ends_hold (sym does) ∙ ends)))
+
+-- the words of a cell that is there, and of none
+module _ {O P C R : Type 0} (meaning : Ghosts O P C R) (m : MachineParts O P C R) (w : World O P C R) (shows : Represents meaning m w) (x : ℕ) where
+  pub words_some : (ws : List ℕ) → x < length m.cells → ((w : World O P C R) (c : CellState O P C R) → Represents meaning m w → slice_get w.cells x ≡ Some c → ws ≡ lock_words (length w.cpus) c.lock) → ws ≡ words_on w (Some x)
+  words_some ws below each =
+      let there = some_at w.cells x (omega (arith, below, shows.cells)) in
+      each w there.0 shows there.1 ∙ sym (ap (words_in (length w.cpus)) there.1)
+
+  pub words_none : (x < length m.cells → ⊥) → words_on w (Some x) ≡ []
+  words_none outside = by (slice_get w.cells x) refl
+    where
+      by : (o : Option (CellState O P C R)) → slice_get w.cells x ≡ o → words_on w (Some x) ≡ []
+      by None e = ap (words_in (length w.cpus)) e
+      by (Some c) e = absurd (outside (let below = slice_get_within w.cells x c e in omega (arith, below, shows.cells)))
