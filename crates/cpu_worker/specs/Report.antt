@@ -4,7 +4,7 @@ use Rattle.std.specs.List.{filter, flat_map, fold, sum, count_by, enumerate_from
 use Rattle.event_log.specs.declared.entry.Done.TheVariants.{Steps, NoRoom}
 use Rattle.scripts.specs.KernelTypes.{KernelDone, KernelEntry}
 use Rattle.scripts.specs.RecordRanges.{Record}
-use Rattle.scripts.specs.RecordText.{lock_word}
+use Rattle.scripts.specs.Parameters.{lock_word}
 use Rattle.scripts.specs.Settings.{ObjectSettings}
 use Rattle.scripts.specs.Words.{sentence, text_of_lines}
 use Rattle.cpu_worker.specs.declared.sums.Sums.{Sums}

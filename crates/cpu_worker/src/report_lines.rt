@@ -1,7 +1,6 @@
 //! The report of a run: what the entries on each object cost.
 
 ghost use Rattle.std.specs.Prelude.{◌≡◌, ◌<◌, ◌^◌, [], ◌∷◌, ◌++◌, length, string_bytes, IfOk, OnOk};
-ghost use Rattle.scripts.specs.RecordText.{lock_word};
 ghost use Rattle.scripts.specs.Words.{sentence, text_of_lines};
 ghost use Rattle.cpu_worker.specs.Report.{all_entries, object_words, run_words, report_text};
 
@@ -10,25 +9,15 @@ mod tests;
 
 use crate::sums::Sums;
 use event_log::{Entry, OutOfMemory, Series};
-use scripts::{KernelObject, ObjectSettings, Record};
+use scripts::{KernelObject, ObjectSettings, Record, lock_word};
 use std::alloc::Global;
-use word_rule::LockKind;
-
-fn word_of(lock: LockKind) -> &'static str
-    ensures { result.now ≡ lock_word lock }
-{
-    match lock {
-        LockKind::Ticket => "ticket",
-        LockKind::Mcs => "mcs",
-    }
-}
 
 /// Puts the line of an object.
 fn put_object(text: &mut String, object: &ObjectSettings, sums: Sums) -> Result<(), OutOfMemory>
     ensures { OnOk result (string_bytes text.new ≡ string_bytes text.old ++ (sentence (object_words object.now sums) ++ 10 ∷ [])) }
 {
     let name = object.name_str();
-    let lock = word_of(object.lock());
+    let lock = lock_word(object.lock());
     let Sums {
         entries,
         noroom,

@@ -27,7 +27,7 @@ use Rattle.scripts.specs.declared.settings.fault.SettingsKey.{SettingsKey}
 use Rattle.scripts.specs.declared.settings.fault.SettingsKey.TheVariants as Key
 use Rattle.scripts.specs.Then.{◌>>=◌}
 use Rattle.scripts.specs.declared.objects.kind.Kind.{Kind}
-use Rattle.scripts.specs.Parameters.{kind_of}
+use Rattle.scripts.specs.Parameters.{kind_of, lock_of}
 use Rattle.scripts.specs.Settings.{Settings, ObjectSettings, is_name}
 
 -- ---- values
@@ -46,7 +46,7 @@ kind_from d = option_map_or (λ s. option_map_or Ok (kind_of s) (Err BadWord)) (
 
 -- the kind of a lock
 unfoldable pub lock_from : Data → Result LockKind Cause
-lock_from d = option_map_or (λ s. if bytes_eq s (codes "ticket") then Ok Ticket else if bytes_eq s (codes "mcs") then Ok Mcs else Err BadWord) (as_str d) (Err WrongType)
+lock_from d = option_map_or (λ s. option_map_or Ok (lock_of s) (Err BadWord)) (as_str d) (Err WrongType)
 
 -- how many items
 abbrev pub count_items : Items → ℕ

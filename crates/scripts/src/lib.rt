@@ -33,6 +33,7 @@ pub use streams::buffer::Buffered;
 pub use streams::source_reader::{ReadFault, read_all};
 pub use streams::text_writer::{WriteFailed, write_text};
 pub use tables::field::Field;
+pub use tables::lock_words::lock_word;
 pub use tables::read::value;
 pub use tables::spelling::{Spelled, Spelling};
 pub use tables::write::{put_number, put_value, put_word};

@@ -16,7 +16,7 @@ pub mod Ends
 pub mod LockLaws
 pub mod Acting
 pub mod Dealing
-pub mod MachineParts
+pub mod WholeCalls
 pub mod Slices
 pub mod Entries
 pub mod OrderLists

@@ -4,4 +4,5 @@ pub mod Callers
 pub mod CellInvariant
 pub mod Definition
 pub mod LockStates
+pub mod Operations
 pub mod Seats

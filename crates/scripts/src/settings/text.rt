@@ -12,6 +12,7 @@ ghost use Rattle.scripts.specs.Then.{ok_map};
 ghost use Rattle.scripts.specs.SettingsText.{key_word, Settles, SpellsSettings, NamesFirstFault, key_in, key_or, at_key, find_key, number_from, are_integers, quota_from, each_quota, quotas_from, name_from, kind_from, lock_from, items_from, has_only, keys_of, params_in, object_in, object_from, objects_from, settings_in, settings_of, unknown_key};
 
 use crate::settings::lookup::is_taken;
+use crate::tables::lock_words::lock_of_word;
 use crate::text::name::name_of;
 use crate::{
     BadSettings, Cause, KParams, Kind, ObjectSettings, Place, Settings, SettingsFault, SettingsKey,
@@ -131,10 +132,9 @@ fn lock(value: &Value) -> Result<LockKind, Cause>
     let Some(word) = value.as_str() else {
         return Err(Cause::WrongType);
     };
-    match word.as_bytes() {
-        b"ticket" => Ok(LockKind::Ticket),
-        b"mcs" => Ok(LockKind::Mcs),
-        _ => Err(Cause::BadWord),
+    match lock_of_word(word.as_bytes()) {
+        Some(kind) => Ok(kind),
+        None => Err(Cause::BadWord),
     }
 }
 

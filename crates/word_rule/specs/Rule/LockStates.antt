@@ -2,6 +2,7 @@
 use Rattle.std.specs.Prelude.{◌≡◌, ℕ, ◌<◌, List, length, slice_index_or}
 use Rattle.word_rule.specs.declared.lock_kind.LockKind.{LockKind}
 use Rattle.word_rule.specs.declared.lock_kind.Stage.{Stage}
+use Rattle.word_rule.specs.declared.machine.step_done.StepDone.{StepDone}
 use Rattle.word_rule.specs.declared.lock_kind.Stage.TheVariants.{Idle}
 use Rattle.word_rule.specs.LockDefinition.{IsTied, LockDefinition, LockState}
 use Rattle.word_rule.specs.Locks.{Lock, IsLock, lock_words}
@@ -17,6 +18,15 @@ pub record RepresentsState (d : LockDefinition) (n : ℕ) (ws : List ℕ) (stage
   pub tied : IsTied d n ws l
   pub size : length stages ≡ n
   pub stages_are : (k : ℕ) → k < n → slice_index_or stages k Idle ≡ l.line.stage k
+
+module _ (d : LockDefinition) (n : ℕ) where
+  -- some state has these words and places
+  abbrev pub ShowsState : List ℕ → List Stage → Type 0
+  ShowsState ws stages = (l : LockState d.Own) × RepresentsState d n ws stages l
+
+  -- of each state with these words and places, those are the words and places after the turn of CPU i, which was this step
+  abbrev pub TurnsTo : List ℕ → List Stage → ℕ → StepDone → List ℕ → List Stage → Type 0
+  TurnsTo ws stages i step ws' stages' = (l : LockState d.Own) → RepresentsState d n ws stages l → (step ≡ (d.turn l i).1) × RepresentsState d n ws' stages' (d.turn l i).0
 
 -- these are the words of the lock, and the places at which its n CPUs stand
 pub record RepresentsLock (n : ℕ) (kind : LockKind) (ws : List ℕ) (stages : List Stage) (l : Lock) : Type 0 where

@@ -3,18 +3,17 @@
 
 ghost use Rattle.std.specs.Prelude.{◌≡◌, ℕ, ◌+◌, ◌<◌, ◌≤◌, true, false, length, slice_index_or};
 ghost use Rattle.word_rule.specs.Mcs.Definition.{mcs_lock};
-ghost use Rattle.word_rule.specs.Mcs.State.{McsLock};
-ghost use Rattle.word_rule.specs.Rule.LockStates.{RepresentsState};
+ghost use Rattle.word_rule.specs.Rule.LockStates.{ShowsState, TurnsTo};
 
 use crate::machine::step_done::StepDone;
 use crate::{MOST_CPUS, McsStage, Stage, locked_index, next_index};
 
 /// The next step of a CPU.
 pub fn turn_mcs(words: &mut [u64], stages: &mut [Stage], cpu: u8) -> StepDone
-    requires shows { (l : McsLock) × RepresentsState mcs_lock (length stages.old) words.old stages.old l }
+    requires shows { ShowsState mcs_lock (length stages.old) words.old stages.old }
     requires exists { cpu < length stages.old }
     requires few { length stages.old ≤ MOST_CPUS }
-    ensures { (l : McsLock) → RepresentsState mcs_lock (length stages.old) words.old stages.old l → (result ≡ (mcs_lock.turn l cpu).1) × RepresentsState mcs_lock (length stages.old) words.new stages.new (mcs_lock.turn l cpu).0 }
+    ensures { TurnsTo mcs_lock (length stages.old) words.old stages.old cpu result words.new stages.new }
 {
     let i = cpu as usize;
     match stages[i] {
@@ -30,53 +29,29 @@ pub fn turn_mcs(words: &mut [u64], stages: &mut [Stage], cpu: u8) -> StepDone
 
 /// The next step of a CPU that has begun.
 fn turn_in_queue(words: &mut [u64], stages: &mut [Stage], cpu: u8, stage: McsStage) -> StepDone
-    requires shows { (l : McsLock) × RepresentsState mcs_lock (length stages.old) words.old stages.old l }
+    requires shows { ShowsState mcs_lock (length stages.old) words.old stages.old }
     requires exists { cpu < length stages.old }
     requires few { length stages.old ≤ MOST_CPUS }
     requires stands { slice_index_or stages.old cpu Stage.Idle ≡ Stage.Mcs stage }
-    ensures { (l : McsLock) → RepresentsState mcs_lock (length stages.old) words.old stages.old l → (result ≡ (mcs_lock.turn l cpu).1) × RepresentsState mcs_lock (length stages.old) words.new stages.new (mcs_lock.turn l cpu).0 }
+    ensures { TurnsTo mcs_lock (length stages.old) words.old stages.old cpu result words.new stages.new }
 {
     let n = stages.len() as u8;
     let i = cpu as usize;
-    let me = cpu as u64 + 1;
     match stage {
-        McsStage::Ready => {
-            let old = words[0];
-            words[0] = me;
-            if old == 0 {
-                stages[i] = Stage::Mcs(McsStage::Holding);
-                return StepDone::Enter(true);
-            }
-            stages[i] = Stage::Mcs(McsStage::Behind((old - 1) as u8));
-            StepDone::Enter(false)
-        }
+        McsStage::Ready => enter(words, stages, cpu),
         McsStage::Behind(ahead) => {
             words[locked_index(n, cpu)] = 1;
             stages[i] = Stage::Mcs(McsStage::Armed(ahead));
             StepDone::Arm
         }
         McsStage::Armed(ahead) => {
-            words[next_index(ahead)] = me;
+            words[next_index(ahead)] = cpu as u64 + 1;
             stages[i] = Stage::Mcs(McsStage::Waiting);
             StepDone::Link
         }
-        McsStage::Waiting => {
-            if words[locked_index(n, cpu)] != 0 {
-                return StepDone::Look(false);
-            }
-            stages[i] = Stage::Mcs(McsStage::Holding);
-            StepDone::Look(true)
-        }
+        McsStage::Waiting => look(words, stages, cpu),
         McsStage::Holding => see(words[next_index(cpu)], McsStage::Alone, &mut stages[i]),
-        McsStage::Alone => {
-            if words[0] != me {
-                stages[i] = Stage::Mcs(McsStage::Leaving);
-                return StepDone::Empty(false);
-            }
-            words[0] = 0;
-            stages[i] = Stage::Idle;
-            StepDone::Empty(true)
-        }
+        McsStage::Alone => empty(words, stages, cpu),
         McsStage::Leaving => see(words[next_index(cpu)], McsStage::Leaving, &mut stages[i]),
         McsStage::Passing(behind) => {
             words[locked_index(n, behind)] = 0;
@@ -84,6 +59,58 @@ fn turn_in_queue(words: &mut [u64], stages: &mut [Stage], cpu: u8, stage: McsSta
             StepDone::Pass
         }
     }
+}
+
+/// It swaps itself into the tail: it gets the object where nobody was there, or is behind the old last.
+fn enter(words: &mut [u64], stages: &mut [Stage], cpu: u8) -> StepDone
+    requires shows { ShowsState mcs_lock (length stages.old) words.old stages.old }
+    requires exists { cpu < length stages.old }
+    requires few { length stages.old ≤ MOST_CPUS }
+    requires stands { slice_index_or stages.old cpu Stage.Idle ≡ Stage.Mcs McsStage.Ready }
+    ensures { TurnsTo mcs_lock (length stages.old) words.old stages.old cpu result words.new stages.new }
+{
+    let i = cpu as usize;
+    let old = words[0];
+    words[0] = cpu as u64 + 1;
+    if old == 0 {
+        stages[i] = Stage::Mcs(McsStage::Holding);
+        return StepDone::Enter(true);
+    }
+    stages[i] = Stage::Mcs(McsStage::Behind((old - 1) as u8));
+    StepDone::Enter(false)
+}
+
+/// It looks whether its `locked` is clear, and then has the object.
+fn look(words: &mut [u64], stages: &mut [Stage], cpu: u8) -> StepDone
+    requires shows { ShowsState mcs_lock (length stages.old) words.old stages.old }
+    requires exists { cpu < length stages.old }
+    requires few { length stages.old ≤ MOST_CPUS }
+    requires stands { slice_index_or stages.old cpu Stage.Idle ≡ Stage.Mcs McsStage.Waiting }
+    ensures { TurnsTo mcs_lock (length stages.old) words.old stages.old cpu result words.new stages.new }
+{
+    if words[locked_index(stages.len() as u8, cpu)] != 0 {
+        return StepDone::Look(false);
+    }
+    stages[cpu as usize] = Stage::Mcs(McsStage::Holding);
+    StepDone::Look(true)
+}
+
+/// It clears the tail where that names it, and has given the object back; else another has come.
+fn empty(words: &mut [u64], stages: &mut [Stage], cpu: u8) -> StepDone
+    requires shows { ShowsState mcs_lock (length stages.old) words.old stages.old }
+    requires exists { cpu < length stages.old }
+    requires few { length stages.old ≤ MOST_CPUS }
+    requires stands { slice_index_or stages.old cpu Stage.Idle ≡ Stage.Mcs McsStage.Alone }
+    ensures { TurnsTo mcs_lock (length stages.old) words.old stages.old cpu result words.new stages.new }
+{
+    let i = cpu as usize;
+    if words[0] != cpu as u64 + 1 {
+        stages[i] = Stage::Mcs(McsStage::Leaving);
+        return StepDone::Empty(false);
+    }
+    words[0] = 0;
+    stages[i] = Stage::Idle;
+    StepDone::Empty(true)
 }
 
 /// What a holder sees in its `next`: its follower, to which it will pass, or nobody.

@@ -2,17 +2,17 @@
 
 ghost use Rattle.std.specs.Prelude.{◌≡◌, ◌+◌, ◌-◌, ◌%◌, ◌^◌, ◌<◌, length, slice_index_or};
 ghost use Rattle.word_rule.specs.Ticket.Definition.{ticket_lock};
-ghost use Rattle.word_rule.specs.Ticket.State.{TicketLock, tickets};
-ghost use Rattle.word_rule.specs.Rule.LockStates.{RepresentsState};
+ghost use Rattle.word_rule.specs.Ticket.State.{tickets};
+ghost use Rattle.word_rule.specs.Rule.LockStates.{ShowsState, TurnsTo};
 
 use crate::machine::step_done::StepDone;
 use crate::{LAST_TICKET, Stage, TICKETS, TicketStage, next_ticket, served_ticket};
 
 /// The next step of a CPU.
 pub fn turn_ticket(words: &mut [u64], stages: &mut [Stage], cpu: u8) -> StepDone
-    requires shows { (l : TicketLock) × RepresentsState ticket_lock (length stages.old) words.old stages.old l }
+    requires shows { ShowsState ticket_lock (length stages.old) words.old stages.old }
     requires exists { cpu < length stages.old }
-    ensures { (l : TicketLock) → RepresentsState ticket_lock (length stages.old) words.old stages.old l → (result ≡ (ticket_lock.turn l cpu).1) × RepresentsState ticket_lock (length stages.old) words.new stages.new (ticket_lock.turn l cpu).0 }
+    ensures { TurnsTo ticket_lock (length stages.old) words.old stages.old cpu result words.new stages.new }
 {
     let i = cpu as usize;
     match stages[i] {
@@ -29,10 +29,10 @@ pub fn turn_ticket(words: &mut [u64], stages: &mut [Stage], cpu: u8) -> StepDone
 
 /// The next step of a CPU that has a ticket.
 fn turn_in_line(words: &mut [u64], stages: &mut [Stage], cpu: u8, stage: TicketStage) -> StepDone
-    requires shows { (l : TicketLock) × RepresentsState ticket_lock (length stages.old) words.old stages.old l }
+    requires shows { ShowsState ticket_lock (length stages.old) words.old stages.old }
     requires exists { cpu < length stages.old }
     requires stands { slice_index_or stages.old cpu Stage.Idle ≡ Stage.Ticket stage }
-    ensures { (l : TicketLock) → RepresentsState ticket_lock (length stages.old) words.old stages.old l → (result ≡ (ticket_lock.turn l cpu).1) × RepresentsState ticket_lock (length stages.old) words.new stages.new (ticket_lock.turn l cpu).0 }
+    ensures { TurnsTo ticket_lock (length stages.old) words.old stages.old cpu result words.new stages.new }
 {
     let i = cpu as usize;
     match stage {

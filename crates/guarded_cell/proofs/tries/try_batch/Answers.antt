@@ -4,7 +4,7 @@ use Rattle.word_rule.specs.Answered.{IsAnswered, IsRefused}
 use Rattle.word_rule.specs.OneHold.{HasHeld}
 use Rattle.guarded_cell.specs.Held.{left_by_batch}
 use Rattle.guarded_cell.proofs.HeldCalls.{held_batch}
-use Rattle.word_rule.proofs.MachineParts.{did}
+use Rattle.word_rule.proofs.WholeCalls.{did}
 use Rattle.guarded_cell.proofs.tries.try_batch.Goals as goal
 
 pub returns-in-Ok-done-clause-answered : goal.returns-in-Ok-done-clause-answered

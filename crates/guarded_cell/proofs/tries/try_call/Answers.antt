@@ -5,7 +5,7 @@ use Rattle.word_rule.specs.Answered.{IsAnswered, IsRefused}
 use Rattle.word_rule.specs.OneHold.{HasHeld}
 use Rattle.guarded_cell.specs.Held.{left_by_call}
 use Rattle.guarded_cell.proofs.HeldCalls.{held_call}
-use Rattle.word_rule.proofs.MachineParts.{did_one}
+use Rattle.word_rule.proofs.WholeCalls.{did_one}
 use Rattle.guarded_cell.proofs.tries.try_call.Goals as goal
 
 pub returns-in-Ok-done-clause-answered : goal.returns-in-Ok-done-clause-answered

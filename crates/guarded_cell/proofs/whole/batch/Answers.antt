@@ -1,5 +1,5 @@
 use Rattle.guarded_cell.proofs.HeldCalls.{held_batch}
-use Rattle.word_rule.proofs.MachineParts.{did}
+use Rattle.word_rule.proofs.WholeCalls.{did}
 use Rattle.guarded_cell.proofs.whole.batch.Goals as goal
 
 pub returns-clause-answered : goal.returns-clause-answered

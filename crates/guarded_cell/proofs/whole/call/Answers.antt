@@ -1,5 +1,5 @@
 use Rattle.guarded_cell.proofs.HeldCalls.{held_call}
-use Rattle.word_rule.proofs.MachineParts.{did_one}
+use Rattle.word_rule.proofs.WholeCalls.{did_one}
 use Rattle.guarded_cell.proofs.whole.call.Goals as goal
 
 pub returns-clause-answered : goal.returns-clause-answered

@@ -1,0 +1,38 @@
+-- What an operation on a cell's table asks of the seat that steps, and what it tells.
+use Rattle.std.specs.Prelude.{◌≡◌, ℕ, ◌<◌, Option}
+use mathlib.Core.Option.{none}
+use Rattle.atomic_table.specs.Table.{Step, step}
+use Rattle.atomic_table.specs.declared.shared.Seat.{Seat as TableSeat}
+use Rattle.event_log.specs.declared.object.SeqObject.{Ghosts}
+use Rattle.event_log.specs.History.{History}
+use Rattle.word_rule.specs.declared.lock_table.LockTable.{LockTable}
+use Rattle.word_rule.specs.Rule.CellInvariant.{Viewed}
+use Rattle.word_rule.specs.Rule.Definition.{IsTurn, IsTry, IsReadying, IsRead}
+use Rattle.word_rule.specs.Rule.Seats.{Seat}
+
+module _ {O P C R : Type 0} where
+  -- an operation on that word of the table, with these operands
+  abbrev pub step_on : LockTable O P C R → ℕ → ℕ → ℕ → Step (Option (History O P C R))
+  step_on t word a b = step t.table.shared.table_id.slots word a b none
+
+  -- the seat has stepped, and this was told
+  abbrev pub Stepped : TableSeat (Option (History O P C R)) (Viewed O P C R) → TableSeat (Option (History O P C R)) (Viewed O P C R) → Type 0 → Type 0
+  Stepped before after told = (after.table_id ≡ before.table_id) × (after.id ≡ before.id) × told
+
+module _ {O P C R : Type 0} (meaning : Ghosts O P C R) (t : LockTable O P C R) (s : TableSeat (Option (History O P C R)) (Viewed O P C R)) (word : ℕ) where
+  -- the seat is at this table, whose word may become f of what it was, by such a step
+  abbrev pub Asks : Type 0 → Type 0
+  Asks step = (s.table_id ≡ t.table.shared.table_id) × (word < t.table.shared.table_id.words) × step
+
+  abbrev pub AsksTurn : (ℕ → ℕ) → (ℕ → Seat O P C R → Type 0) → Type 0
+  AsksTurn f then = Asks (IsTurn meaning t.table.shared.key.kind t.table.shared.key t.table.shared.table_id.slots s.id s.me word f then)
+
+  -- a try, which found some ticket served
+  abbrev pub AsksTry : (ℕ → ℕ) → (ℕ → Seat O P C R → Type 0) → Type 0
+  AsksTry f then = Asks ((ticket : ℕ) × IsTry meaning t.table.shared.key.kind t.table.shared.key ticket t.table.shared.table_id.slots s.id s.me word f then)
+
+  abbrev pub AsksReadying : (ℕ → ℕ) → (ℕ → Seat O P C R → Type 0) → Type 0
+  AsksReadying f then = Asks (IsReadying meaning t.table.shared.key.kind t.table.shared.key t.table.shared.table_id.slots s.id s.me word f then)
+
+  abbrev pub AsksRead : (ℕ → ℕ) → (ℕ → Seat O P C R → Type 0) → Type 0
+  AsksRead f then = Asks (IsRead meaning t.table.shared.key.kind t.table.shared.key t.table.shared.table_id.slots s.id s.me word f then)
