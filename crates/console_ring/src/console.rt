@@ -99,10 +99,8 @@ impl SeqObject for Console {
         if capacity == 0 || capacity > MOST_BYTES {
             return Err(OpenFault::BadLimit);
         }
-        match Vec::with_capacity(alloc, capacity as usize) {
-            Ok(bytes) => Ok(Console { capacity, bytes }),
-            Err(_) => Err(OpenFault::OutOfMemory),
-        }
+        let bytes = Vec::with_capacity(alloc, capacity as usize)?;
+        Ok(Console { capacity, bytes })
     }
 
     fn apply(&mut self, call: &ConsoleCall) -> ConsoleReply {

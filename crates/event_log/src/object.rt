@@ -2,11 +2,23 @@
 
 ghost use Rattle.std.specs.Prelude.{◌≡◌, ◌↔◌, Bool, true, false, IfOk};
 
-use std::alloc::Global;
+use std::alloc::{AllocError, AllocFailed, Global};
 
 /// Memory was refused.
 #[derive(Clone, Copy, Debug, PartialEq, Eq, Drop)]
 pub struct OutOfMemory;
+
+impl From<AllocError> for OutOfMemory {
+    fn from(_refused: AllocError) -> OutOfMemory {
+        OutOfMemory
+    }
+}
+
+impl<T: Drop> From<AllocFailed<T>> for OutOfMemory {
+    fn from(_refused: AllocFailed<T>) -> OutOfMemory {
+        OutOfMemory
+    }
+}
 
 /// Why an object was not opened.
 #[derive(Clone, Copy, Debug, PartialEq, Eq, Drop)]
@@ -14,6 +26,26 @@ pub enum OpenFault {
     /// A parameter or the limit is out of its range.
     BadLimit,
     OutOfMemory,
+}
+
+impl From<AllocError> for OpenFault {
+    ghost use Rattle.event_log.specs.declared.object.OpenFault.TheVariants.{OutOfMemory};
+
+    ghost from_gives = { λ _ fault. fault ≡ OutOfMemory };
+
+    fn from(_refused: AllocError) -> OpenFault {
+        OpenFault::OutOfMemory
+    }
+}
+
+impl<T: Drop> From<AllocFailed<T>> for OpenFault {
+    ghost use Rattle.event_log.specs.declared.object.OpenFault.TheVariants.{OutOfMemory};
+
+    ghost from_gives = { λ _ fault. fault ≡ OutOfMemory };
+
+    fn from(_refused: AllocFailed<T>) -> OpenFault {
+        OpenFault::OutOfMemory
+    }
 }
 
 /// A sequential object: a state, and an answer to each call. Contracts see the state as the object's model.

@@ -124,20 +124,15 @@ impl SeqObject for PagePool {
             return Err(OpenFault::BadLimit);
         }
         let PoolParams { pages, quotas } = *params;
-        let Ok(owners) = vec![in alloc; None; pages as usize] else {
-            return Err(OpenFault::OutOfMemory);
-        };
-        match PageSet::all(alloc, pages) {
-            Ok(free) => Ok(PagePool {
-                pages,
-                quotas,
-                owners,
-                free,
-                left: pages,
-                counts: [0; OWNERS],
-            }),
-            Err(_) => Err(OpenFault::OutOfMemory),
-        }
+        let owners = vec![in alloc; None; pages as usize]?;
+        Ok(PagePool {
+            pages,
+            quotas,
+            owners,
+            free: PageSet::all(alloc, pages)?,
+            left: pages,
+            counts: [0; OWNERS],
+        })
     }
 
     fn apply(&mut self, call: &PoolCall) -> PoolReply {
