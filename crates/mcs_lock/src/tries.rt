@@ -5,7 +5,7 @@ ghost use Rattle.word_rule.specs.Answered.{IsBusy};
 ghost use Rattle.word_rule.specs.Cell.{Grows};
 ghost use Rattle.word_rule.specs.LockRuns.{Extends};
 ghost use Rattle.word_rule.specs.Mcs.Steps.{IsReady, IsTryEnter};
-ghost use Rattle.word_rule.specs.OneHold.{HasAcquired};
+ghost use Rattle.word_rule.specs.OneHold.{HasAcquiredAtOnce};
 ghost use Rattle.word_rule.specs.Passes.{view_of_pass, view_of_hold, run_of_pass, run_of_hold, state_of_pass, state_of_hold};
 ghost use Rattle.mcs_lock.specs.Passes.{IsPassOf, IsTryingOf, IsHoldOf, state_of_trying};
 
@@ -62,7 +62,7 @@ impl<O: SeqObject> McsCell<O> {
         ensures grows { IfOk result (λ h. Grows (view_of_pass pass).caller.owned (view_of_pass pass).seen (view_of_hold h).history.log) }
         ensures pass { IfErr result (λ p. IsPassOf self.now p) }
         ensures busy { IfErr result (λ p. IsBusy (view_of_pass pass) (view_of_pass p)) }
-        ensures run { IfOk result (λ h. (looks : ℕ) × (looks ≤ 1) × HasAcquired (view_of_pass pass).caller (run_of_pass pass) looks (view_of_hold h).history.log (run_of_hold h)) }
+        ensures run { IfOk result (λ h. HasAcquiredAtOnce (view_of_pass pass).caller (run_of_pass pass) (view_of_hold h).history.log (run_of_hold h)) }
         ensures busy_run { IfErr result (λ p. Extends (view_of_pass pass).caller.owned (run_of_pass pass) [] (run_of_pass p)) }
     {
         let trying = self.ready(pass);

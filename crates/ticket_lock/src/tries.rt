@@ -4,7 +4,7 @@ ghost use Rattle.std.specs.Prelude.{◌≡◌, ◌≤◌, ℕ, [], true, false, 
 ghost use Rattle.word_rule.specs.Answered.{IsBusy};
 ghost use Rattle.word_rule.specs.Cell.{Grows};
 ghost use Rattle.word_rule.specs.LockRuns.{Extends};
-ghost use Rattle.word_rule.specs.OneHold.{HasAcquired};
+ghost use Rattle.word_rule.specs.OneHold.{HasAcquiredAtOnce};
 ghost use Rattle.word_rule.specs.Ticket.Steps.{IsTry};
 ghost use Rattle.word_rule.specs.Passes.{view_of_pass, view_of_hold, run_of_pass, run_of_hold, state_of_pass, state_of_hold};
 ghost use Rattle.ticket_lock.specs.Passes.{IsPassOf, IsTryingOf, IsHoldOf, view_of_trying, state_of_trying};
@@ -75,7 +75,7 @@ impl<O: SeqObject> TicketCell<O> {
         ensures grows { IfOk result (λ h. Grows (view_of_pass pass).caller.owned (view_of_pass pass).seen (view_of_hold h).history.log) }
         ensures pass { IfErr result (λ p. IsPassOf self.now p) }
         ensures busy { IfErr result (λ p. IsBusy (view_of_pass pass) (view_of_pass p)) }
-        ensures run { IfOk result (λ h. (looks : ℕ) × (looks ≤ 1) × HasAcquired (view_of_pass pass).caller (run_of_pass pass) looks (view_of_hold h).history.log (run_of_hold h)) }
+        ensures run { IfOk result (λ h. HasAcquiredAtOnce (view_of_pass pass).caller (run_of_pass pass) (view_of_hold h).history.log (run_of_hold h)) }
         ensures busy_run { IfErr result (λ p. Extends (view_of_pass pass).caller.owned (run_of_pass pass) [] (run_of_pass p)) }
     {
         match self.read(pass) {

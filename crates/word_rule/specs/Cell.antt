@@ -3,8 +3,9 @@ use Rattle.std.specs.Prelude.{◌≡◌, ℕ, ◌<◌, ◌≤◌, Bool, true, �
 use Rattle.std.specs.List.{AllByRecursion, slice_get}
 use Rattle.event_log.specs.declared.object.SeqObject.{Ghosts}
 use Rattle.event_log.specs.declared.event.Event.{Event}
-use Rattle.event_log.specs.Log.{Begins, Legal, replay, of}
-use Rattle.event_log.specs.History.{History}
+use Rattle.event_log.specs.declared.event.Steps.{Steps}
+use Rattle.event_log.specs.Log.{Begins, Legal, after, replay, of}
+use Rattle.event_log.specs.History.{History, with_event}
 use Rattle.word_rule.specs.declared.lock_kind.LockKind.{LockKind}
 
 -- what was fixed when a cell was opened; a ticket lock serves the first ticket first; its CPUs are the numbers below `numbers`
@@ -31,6 +32,11 @@ pub record PassView (O P C R : Type 0) : Type 0 where
 pub record HoldView (O P C R : Type 0) : Type 0 where
   pub caller : Caller O P C R
   pub history : History O P C R
+
+module _ {O P C R : Type 0} (meaning : Ghosts O P C R) where
+  -- the history behind an event more, which the acting CPU did with these steps
+  abbrev pub after_steps : HoldView O P C R → Steps O P C R → History O P C R
+  after_steps h s = with_event h.history (record { cpu = h.caller.acting; steps = s }) (after meaning h.history.state s.list.items)
 
 -- P holds of each element, with its index
 abbrev pub EachAt : {A : Type 0} → (ℕ → A → Type 0) → List A → Type 0

@@ -1,5 +1,5 @@
 -- The steps of one hold: those by which a CPU gets the object, and those by which it gives it back.
-use Rattle.std.specs.Prelude.{◌≡◌, ℕ, ◌-◌, ◌^◌, min, Bool, true, false, List, [], ◌∷◌, ◌++◌, map, length}
+use Rattle.std.specs.Prelude.{◌≡◌, ℕ, ◌-◌, ◌^◌, ◌≤◌, min, Bool, true, false, List, [], ◌∷◌, ◌++◌, map, length}
 use Rattle.std.specs.List.{filter}
 use Rattle.event_log.specs.declared.event.Event.{Event}
 use Rattle.event_log.specs.Log.{Begins}
@@ -85,3 +85,11 @@ module _ {O P C R : Type 0} where
     pub last : StepDone
     pub releases : Releases done last
     pub extends : ExtendsUntil caller.owned before (silently caller.acting (got ++ done)) (leaving caller.acting last events) after
+
+  -- the caller has got the object with at most one look, and has done nothing else
+  abbrev pub HasAcquiredAtOnce : Caller O P C R → List (Moment (Event O P C R)) → List (Event O P C R) → List (Moment (Event O P C R)) → Type 0
+  HasAcquiredAtOnce caller before found after = (looks : ℕ) × (looks ≤ 1) × HasAcquired caller before looks found after
+
+  -- the caller has had the object once, with at most one look, has left these events, and has done nothing else
+  abbrev pub HasHeldAtOnce : Caller O P C R → List (Moment (Event O P C R)) → List (Event O P C R) → List (Moment (Event O P C R)) → Type 0
+  HasHeldAtOnce caller before events after = (looks : ℕ) × (looks ≤ 1) × HasHeld caller before looks events after

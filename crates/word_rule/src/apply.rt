@@ -1,8 +1,8 @@
 //! Calls of a caller that has the object, whichever lock its cell has.
 
 ghost use Rattle.std.specs.Prelude.{◌≡◌, ◌≤◌, ◌<◌, ◌↔◌, length, IsErr, IfOk, OnErr};
-ghost use Rattle.event_log.specs.History.{with_event};
-ghost use Rattle.event_log.specs.Log.{answers, after, one_step, Fulfils};
+ghost use Rattle.event_log.specs.Log.{answers, one_step, Fulfils};
+ghost use Rattle.word_rule.specs.Cell.{after_steps};
 ghost use Rattle.word_rule.specs.Passes.{view_of_hold, run_of_hold};
 
 use crate::Hold;
@@ -20,7 +20,7 @@ impl<O: SeqObject> Hold<O> {
         ensures room { IsErr result ↔ (length (view_of_hold self.old).history.log ≡ (view_of_hold self.old).history.limit) }
         ensures steps { IfOk result (λ s. s.list.items ≡ answers O.SeqObject (view_of_hold self.old).history.state calls.now) }
         ensures asked { IfOk result (λ s. Fulfils O.SeqObject calls.now s.list.items) }
-        ensures after { IfOk result (λ s. (view_of_hold self.new).history ≡ with_event (view_of_hold self.old).history (record { cpu = (view_of_hold self.old).caller.acting; steps = s }) (after O.SeqObject (view_of_hold self.old).history.state s.list.items)) }
+        ensures after { IfOk result (λ s. (view_of_hold self.new).history ≡ after_steps O.SeqObject (view_of_hold self.old) s) }
         ensures full { OnErr result (view_of_hold self.new ≡ view_of_hold self.old) }
     {
         self.logged.apply(self.cpu.number, calls)
@@ -35,7 +35,7 @@ impl<O: SeqObject> Hold<O> {
         ensures caller { (view_of_hold self.new).caller ≡ (view_of_hold self.old).caller }
         ensures room { IsErr result ↔ (length (view_of_hold self.old).history.log ≡ (view_of_hold self.old).history.limit) }
         ensures reply { IfOk result (λ r. r ≡ (O.answer (view_of_hold self.old).history.state call.now).1) }
-        ensures after { IfOk result (λ r. (view_of_hold self.new).history ≡ with_event (view_of_hold self.old).history (record { cpu = (view_of_hold self.old).caller.acting; steps = one_step call.now r }) (O.answer (view_of_hold self.old).history.state call.now).0) }
+        ensures after { IfOk result (λ r. (view_of_hold self.new).history ≡ after_steps O.SeqObject (view_of_hold self.old) (one_step call.now r)) }
         ensures full { OnErr result (view_of_hold self.new ≡ view_of_hold self.old) }
     {
         self.logged.call(self.cpu.number, call)

@@ -1,8 +1,8 @@
 //! The object of a cell, out of its slot and back.
 
-ghost use Rattle.std.specs.Prelude.{◌≡◌, ◌∷◌, Option, Some, None};
+ghost use Rattle.std.specs.Prelude.{◌≡◌, ◌∷◌, Some, None};
 ghost use Rattle.atomic_table.specs.Table.{rest};
-ghost use Rattle.event_log.specs.History.{History};
+ghost use Rattle.word_rule.specs.Rule.Operations.{IsLending, Stepped};
 
 use crate::{LockTable, Seat};
 use event_log::{Logged, SeqObject};
@@ -15,8 +15,8 @@ pub struct Lent {
 impl<O: SeqObject> LockTable<O> {
     /// Takes the object out of the slot, which has come to the seat.
     pub fn take(&self, seat: &mut Seat<O>) -> (Logged<O>, Lent)
-        requires { (seat.old.table_id ≡ self.now.table.shared.table_id) × ((x : History O O.Params O.Call O.Reply) × (seat.old.me.1 ≡ (0, Some x) ∷ rest seat.old.me.1)) }
-        ensures { (seat.new.table_id ≡ seat.old.table_id) × (seat.new.id ≡ seat.old.id) × (seat.old.me.1 ≡ (0, Some result.0) ∷ rest seat.old.me.1) × (seat.new.me ≡ (seat.old.me.0, (0, None) ∷ rest seat.old.me.1)) }
+        requires { IsLending self.now seat.old }
+        ensures { Stepped seat.old seat.new ((seat.old.me.1 ≡ (0, Some result.0) ∷ rest seat.old.me.1) × (seat.new.me ≡ (seat.old.me.0, (0, None) ∷ rest seat.old.me.1))) }
     {
         let logged = self.table.shared.exchange(seat, 0, None).unwrap();
         (logged, Lent { out: () })
@@ -25,7 +25,7 @@ impl<O: SeqObject> LockTable<O> {
     /// Puts the object back into the slot, which is still with the seat.
     pub fn put_back(&self, seat: &mut Seat<O>, logged: Logged<O>, lent: Lent)
         requires { (seat.old.table_id ≡ self.now.table.shared.table_id) × (seat.old.me.1 ≡ (0, None) ∷ rest seat.old.me.1) }
-        ensures { (seat.new.table_id ≡ seat.old.table_id) × (seat.new.id ≡ seat.old.id) × (seat.new.me ≡ (seat.old.me.0, (0, Some logged) ∷ rest seat.old.me.1)) }
+        ensures { Stepped seat.old seat.new (seat.new.me ≡ (seat.old.me.0, (0, Some logged) ∷ rest seat.old.me.1)) }
     {
         let Lent { out: _ } = lent;
         let empty = self.table.shared.exchange(seat, 0, Some(logged));

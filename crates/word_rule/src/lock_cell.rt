@@ -2,13 +2,12 @@
 
 ghost use Rattle.std.specs.Prelude.{◌≡◌, ◌<◌, ◌≤◌, ◌↔◌, ◌||◌, ℕ, List, [], min, length, IsErr, IfOk, IfErr, OnErr};
 ghost use Rattle.event_log.specs.declared.event.Event.{Event};
-ghost use Rattle.event_log.specs.Log.{answers, after, one_step, Fulfils};
-ghost use Rattle.event_log.specs.History.{with_event};
+ghost use Rattle.event_log.specs.Log.{answers, one_step, Fulfils};
 ghost use Rattle.word_rule.specs.Answered.{IsBusy};
-ghost use Rattle.word_rule.specs.Cell.{PassView, HoldView, Grows, IsPassView, IsHoldView, OwnsAll, stored};
+ghost use Rattle.word_rule.specs.Cell.{PassView, HoldView, Grows, IsPassView, IsHoldView, OwnsAll, after_steps, stored};
 ghost use Rattle.word_rule.specs.declared.view.Moment.{Moment};
 ghost use Rattle.word_rule.specs.LockRuns.{Extends, HasRun, endings_in, arrivals_in};
-ghost use Rattle.word_rule.specs.OneHold.{HasAcquired, HasReleased, IsUnderHold};
+ghost use Rattle.word_rule.specs.OneHold.{HasAcquired, HasAcquiredAtOnce, HasReleased, IsUnderHold};
 
 use event_log::{Logged, MOST_CALLS, NoRoom, SeqObject, Steps};
 use std::sync::Wait;
@@ -59,7 +58,7 @@ pub trait LockCell<O: SeqObject> {
         ensures grows { IfOk result (λ h. Grows (pass_view pass).caller.owned (pass_view pass).seen (hold_view h).history.log) }
         ensures pass { IfErr result (λ p. is_pass_of self.now p) }
         ensures busy { IfErr result (λ p. IsBusy (pass_view pass) (pass_view p)) }
-        ensures run { IfOk result (λ h. (looks : ℕ) × (looks ≤ 1) × HasAcquired (pass_view pass).caller (pass_run pass) looks (hold_view h).history.log (hold_run h)) }
+        ensures run { IfOk result (λ h. HasAcquiredAtOnce (pass_view pass).caller (pass_run pass) (hold_view h).history.log (hold_run h)) }
         ensures busy_run { IfErr result (λ p. Extends (pass_view pass).caller.owned (pass_run pass) [] (pass_run p)) };
 
     /// Does 1 to 8 calls as one event of the acting CPU, up to and with the first that is refused. It takes no memory.
@@ -71,7 +70,7 @@ pub trait LockCell<O: SeqObject> {
         ensures room { IsErr result ↔ (length (hold_view hold.old).history.log ≡ (hold_view hold.old).history.limit) }
         ensures steps { IfOk result (λ s. s.list.items ≡ answers O.SeqObject (hold_view hold.old).history.state calls.now) }
         ensures asked { IfOk result (λ s. Fulfils O.SeqObject calls.now s.list.items) }
-        ensures after { IfOk result (λ s. (hold_view hold.new).history ≡ with_event (hold_view hold.old).history (record { cpu = (hold_view hold.old).caller.acting; steps = s }) (after O.SeqObject (hold_view hold.old).history.state s.list.items)) }
+        ensures after { IfOk result (λ s. (hold_view hold.new).history ≡ after_steps O.SeqObject (hold_view hold.old) s) }
         ensures full { OnErr result (hold_view hold.new ≡ hold_view hold.old) }
         ensures run { hold_run hold.new ≡ hold_run hold.old };
 
@@ -81,7 +80,7 @@ pub trait LockCell<O: SeqObject> {
         ensures caller { (hold_view hold.new).caller ≡ (hold_view hold.old).caller }
         ensures room { IsErr result ↔ (length (hold_view hold.old).history.log ≡ (hold_view hold.old).history.limit) }
         ensures reply { IfOk result (λ r. r ≡ (O.answer (hold_view hold.old).history.state call.now).1) }
-        ensures after { IfOk result (λ r. (hold_view hold.new).history ≡ with_event (hold_view hold.old).history (record { cpu = (hold_view hold.old).caller.acting; steps = one_step call.now r }) (O.answer (hold_view hold.old).history.state call.now).0) }
+        ensures after { IfOk result (λ r. (hold_view hold.new).history ≡ after_steps O.SeqObject (hold_view hold.old) (one_step call.now r)) }
         ensures full { OnErr result (hold_view hold.new ≡ hold_view hold.old) }
         ensures run { hold_run hold.new ≡ hold_run hold.old };
 

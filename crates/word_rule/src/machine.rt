@@ -2,13 +2,12 @@
 
 ghost use Rattle.std.specs.Prelude.{◌≡◌, ◌<◌, ◌≤◌, [], All, length, map, vec_len, Some, slice_get, IfOk, IfErr};
 ghost use Rattle.std.specs.List.{AllByRecursion};
-ghost use Rattle.word_rule.specs.Locks.{lock_words};
 ghost use Rattle.word_rule.specs.Machine.Opening.{opening_world, IsOpening};
-ghost use Rattle.word_rule.specs.Machine.Shown.{Represents, Runs, opened_by};
+ghost use Rattle.word_rule.specs.Machine.Shown.{Represents, Runs, Follows, HasWords, opened_by};
 ghost use Rattle.word_rule.specs.Orders.{HasOrder};
 ghost use Rattle.word_rule.specs.Sound.{Sound};
 ghost use Rattle.word_rule.specs.Machine.SoundWorld.{IsTodo};
-ghost use Rattle.word_rule.specs.Machine.World.{World, CellState, step, run, run_of};
+ghost use Rattle.word_rule.specs.Machine.World.{World, step, run, run_of};
 
 mod cell_spec;
 mod hold;
@@ -52,15 +51,13 @@ pub struct Machine<O: SeqObject> {
 }
 
 impl<O: SeqObject> Model for Machine<O> {
-    ghost use Rattle.std.specs.Prelude.{◌≡◌, []};
-    ghost use Rattle.std.specs.Vec.{vec_capacity};
-    ghost use Rattle.word_rule.specs.Machine.Shown.{MachineParts, Runs, IsRoomy};
+    ghost use Rattle.word_rule.specs.Machine.Shown.{MachineParts, IsMachine, parts_of};
 
     ghost Value = { MachineParts O O.Params O.Call O.Reply };
 
-    ghost view = { λ m. record { cells = m.cells.items; locks = m.locks.items; scripts = m.scripts.items; done = m.done.items } };
+    ghost view = { λ m. parts_of m.cells m.locks m.scripts m.done };
 
-    ghost invariant = { λ m. Runs O.SeqObject (record { cells = m.cells.items; locks = m.locks.items; scripts = m.scripts.items; done = m.done.items }) × IsRoomy (record { cells = m.cells.items; locks = m.locks.items; scripts = m.scripts.items; done = m.done.items }) (vec_capacity m.logs) (vec_capacity m.transcripts) × (m.logs.items ≡ []) × (m.transcripts.items ≡ []) };
+    ghost invariant = { λ m. IsMachine O.SeqObject (parts_of m.cells m.locks m.scripts m.done) m.logs m.transcripts };
 }
 
 impl<O: SeqObject> Machine<O> {
@@ -115,7 +112,7 @@ impl<O: SeqObject> Machine<O> {
     pub fn step(&mut self, cpu: u8) -> StepDone
         requires { cpu < length self.old.scripts }
         ensures done { (w : World O O.Params O.Call O.Reply) → Represents O.SeqObject self.old w → result ≡ (step O.SeqObject w cpu).1 }
-        ensures shows { (w : World O O.Params O.Call O.Reply) → Represents O.SeqObject self.old w → Represents O.SeqObject self.new (step O.SeqObject w cpu).0 }
+        ensures shows { Follows O.SeqObject self.old self.new (λ w. (step O.SeqObject w cpu).0) }
         ensures scripts { self.new.scripts ≡ self.old.scripts }
         ensures opened { opened_by self.new ≡ opened_by self.old }
     {
@@ -139,7 +136,7 @@ impl<O: SeqObject> Machine<O> {
     /// The steps of a whole schedule, in order.
     pub fn run(&mut self, schedule: &[u8])
         requires { All (λ i. i < length self.old.scripts) schedule.now }
-        ensures shows { (w : World O O.Params O.Call O.Reply) → Represents O.SeqObject self.old w → Represents O.SeqObject self.new (run O.SeqObject schedule.now w) }
+        ensures shows { Follows O.SeqObject self.old self.new (run O.SeqObject schedule.now) }
         ensures scripts { self.new.scripts ≡ self.old.scripts }
         ensures opened { opened_by self.new ≡ opened_by self.old }
     {
@@ -152,7 +149,7 @@ impl<O: SeqObject> Machine<O> {
     /// half; of an MCS lock the tail, then each CPU's `next`, then each CPU's `locked`.
     pub fn words(&self, cell: u8) -> &[u64]
         requires { cell < length self.now.cells }
-        ensures { (w : World O O.Params O.Call O.Reply) (c : CellState O O.Params O.Call O.Reply) → Represents O.SeqObject self.now w → slice_get w.cells cell ≡ Some c → result.now ≡ lock_words (length w.cpus) c.lock }
+        ensures { HasWords O.SeqObject self.now cell result.now }
     {
         self.locks[cell as usize].words.as_slice()
     }

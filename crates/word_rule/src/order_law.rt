@@ -15,10 +15,13 @@ use event_log::SeqObject;
 /// a hold for each entry, the events stand in the log in the order in which the holds ended: all of them while there is room, and
 /// those before the log was full. So of two callers whoever arrived first has the earlier event.
 pub fn events_in_order<O: SeqObject>()
-    ensures holds { (h : Cell O O.Params O.Call O.Reply) (log : List (Event O O.Params O.Call O.Reply)) (run : List (Moment (Event O O.Params O.Call O.Reply))) →
+    ensures holds { (h : Cell O O.Params O.Call O.Reply) (log : List (Event O O.Params O.Call O.Reply))
+        (run : List (Moment (Event O O.Params O.Call O.Reply))) →
         HasRun h log run → Begins (endings_in run) (arrivals_in run) }
-    ensures events { (h : Cell O O.Params O.Call O.Reply) (log : List (Event O O.Params O.Call O.Reply)) (run : List (Moment (Event O O.Params O.Call O.Reply))) (script rest : ℕ → List (Todo O O.Params O.Call O.Reply)) →
+    ensures events { (h : Cell O O.Params O.Call O.Reply) (log : List (Event O O.Params O.Call O.Reply))
+        (run : List (Moment (Event O O.Params O.Call O.Reply))) (script rest : ℕ → List (Todo O O.Params O.Call O.Reply)) →
         HasRun h log run → AllDoRun O.SeqObject h run script rest → length log ≤ h.limit → Begins (map (λ e. e.cpu) (drop (length h.opening) log)) (endings_in run) }
-    ensures all_events { (h : Cell O O.Params O.Call O.Reply) (log : List (Event O O.Params O.Call O.Reply)) (run : List (Moment (Event O O.Params O.Call O.Reply))) (script rest : ℕ → List (Todo O O.Params O.Call O.Reply)) →
+    ensures all_events { (h : Cell O O.Params O.Call O.Reply) (log : List (Event O O.Params O.Call O.Reply))
+        (run : List (Moment (Event O O.Params O.Call O.Reply))) (script rest : ℕ → List (Todo O O.Params O.Call O.Reply)) →
         HasRun h log run → AllDoRun O.SeqObject h run script rest → length log < h.limit → map (λ e. e.cpu) (drop (length h.opening) log) ≡ endings_in run }
 {}

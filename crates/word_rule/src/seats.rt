@@ -1,6 +1,7 @@
 //! Seats that take in one another's callers, and let them go: moves of the table, which change no word.
 
 ghost use Rattle.std.specs.Prelude.{◌≡◌, ◌<◌, []};
+ghost use Rattle.word_rule.specs.Rule.Operations.{AreBeside, Stepped};
 ghost use Rattle.word_rule.specs.Rule.Seats.{taken_in, keeping, letting};
 
 use crate::{Beside, LockTable, Seat};
@@ -9,8 +10,8 @@ use event_log::SeqObject;
 impl<O: SeqObject> LockTable<O> {
     /// The seat takes in the caller of another.
     pub fn join_seat(&self, seat: &mut Seat<O>, other: Seat<O>)
-        requires { (seat.old.table_id ≡ self.now.table.shared.table_id) × (other.table_id ≡ self.now.table.shared.table_id) × (other.me.1 ≡ []) × (0 < self.now.table.shared.table_id.words) × (seat.old.me.0.others ≡ []) × (other.me.0.others ≡ []) }
-        ensures { (seat.new.table_id ≡ seat.old.table_id) × (seat.new.id ≡ seat.old.id) × (seat.new.me ≡ (taken_in seat.old.me.0 other.me.0, seat.old.me.1)) }
+        requires { AreBeside self.now seat.old other }
+        ensures { Stepped seat.old seat.new (seat.new.me ≡ (taken_in seat.old.me.0 other.me.0, seat.old.me.1)) }
     {
         self.table.shared.join_seat::<Beside>(seat, other);
     }
@@ -18,7 +19,7 @@ impl<O: SeqObject> LockTable<O> {
     /// The seat lets go the first caller that it has taken in.
     pub fn split_seat(&self, seat: &mut Seat<O>) -> Seat<O>
         requires { (seat.old.table_id ≡ self.now.table.shared.table_id) × (0 < self.now.table.shared.table_id.words) }
-        ensures { (seat.new.table_id ≡ seat.old.table_id) × (seat.new.id ≡ seat.old.id) × (seat.new.me ≡ (keeping seat.old.me.0, seat.old.me.1)) × (result.table_id ≡ seat.old.table_id) × (result.me ≡ (letting seat.old.me.0, [])) }
+        ensures { Stepped seat.old seat.new ((seat.new.me ≡ (keeping seat.old.me.0, seat.old.me.1)) × (result.table_id ≡ seat.old.table_id) × (result.me ≡ (letting seat.old.me.0, []))) }
     {
         self.table.shared.split_seat::<Beside>(seat)
     }

@@ -7,6 +7,7 @@ use Rattle.event_log.specs.declared.entry.Done.TheVariants as done
 use Rattle.event_log.specs.declared.entry.Entry.{Entry}
 use Rattle.event_log.specs.declared.entry.Todo.{Todo}
 use Rattle.event_log.specs.declared.entry.Run.{Run}
+use Rattle.event_log.specs.History.{History}
 use Rattle.event_log.specs.Log.{answers, replay}
 use Rattle.word_rule.specs.declared.machine.step_done.StepDone.{StepDone}
 use Rattle.word_rule.specs.declared.machine.step_done.StepDone.TheVariants as steps
@@ -44,6 +45,10 @@ module _ {O P C R : Type 0} where
   abbrev pub entry_of : Todo O P C R → Done O P C R → ℕ → Entry O P C R
   entry_of todo d looks = record { object = todo.object; asked = todo.calls; done = d; looks = looks }
 
+  -- the transcript after a step that was the last of an entry, or wasn't
+  abbrev pub with_entry : StepDone → List (Entry O P C R) → Entry O P C R → List (Entry O P C R)
+  with_entry s entries e = if ends_hold s then entries ++ e ∷ [] else entries
+
   -- the entries that are left once the first is done
   abbrev pub left : List (Todo O P C R) → List (Todo O P C R)
   left [] = []
@@ -69,6 +74,10 @@ module _ {O P C R : Type 0} (meaning : Ghosts O P C R) where
   -- what becomes of calls at the end of a hold: one event from the replay of the log on, if there is room for it
   abbrev pub outcome : Opened P → List (Event O P C R) → List C → Done O P C R
   outcome opened log asked = if length log == opened.limit then done.NoRoom else done.Steps record { list = record { items = answers meaning (replay meaning opened.params log) asked } }
+
+  -- what becomes of an entry on an object with this history
+  abbrev pub outcome_on : History O P C R → Todo O P C R → Done O P C R
+  outcome_on h todo = outcome (record { params = h.params; limit = h.limit }) h.log todo.calls.items
 
   -- the cell after a step of CPU i that does an entry there
   abbrev pub cell_after : CellState O P C R → ℕ → Todo O P C R → Lock × StepDone → CellState O P C R

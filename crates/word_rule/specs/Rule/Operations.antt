@@ -1,7 +1,7 @@
 -- What an operation on a cell's table asks of the seat that steps, and what it tells.
-use Rattle.std.specs.Prelude.{◌≡◌, ℕ, ◌<◌, Option}
+use Rattle.std.specs.Prelude.{◌≡◌, ℕ, ◌<◌, [], ◌∷◌, Option, Some}
 use mathlib.Core.Option.{none}
-use Rattle.atomic_table.specs.Table.{Step, step}
+use Rattle.atomic_table.specs.Table.{Step, step, rest}
 use Rattle.atomic_table.specs.declared.shared.Seat.{Seat as TableSeat}
 use Rattle.event_log.specs.declared.object.SeqObject.{Ghosts}
 use Rattle.event_log.specs.History.{History}
@@ -18,6 +18,14 @@ module _ {O P C R : Type 0} where
   -- the seat has stepped, and this was told
   abbrev pub Stepped : TableSeat (Option (History O P C R)) (Viewed O P C R) → TableSeat (Option (History O P C R)) (Viewed O P C R) → Type 0 → Type 0
   Stepped before after told = (after.table_id ≡ before.table_id) × (after.id ≡ before.id) × told
+
+  -- both seats are at this table, neither has taken in a caller, and the other has nothing
+  abbrev pub AreBeside : LockTable O P C R → TableSeat (Option (History O P C R)) (Viewed O P C R) → TableSeat (Option (History O P C R)) (Viewed O P C R) → Type 0
+  AreBeside t s other = (s.table_id ≡ t.table.shared.table_id) × (other.table_id ≡ t.table.shared.table_id) × (other.me.1 ≡ []) × (0 < t.table.shared.table_id.words) × (s.me.0.others ≡ []) × (other.me.0.others ≡ [])
+
+  -- the seat is at this table, and has its object
+  abbrev pub IsLending : LockTable O P C R → TableSeat (Option (History O P C R)) (Viewed O P C R) → Type 0
+  IsLending t s = (s.table_id ≡ t.table.shared.table_id) × ((x : History O P C R) × (s.me.1 ≡ (0, Some x) ∷ rest s.me.1))
 
 module _ {O P C R : Type 0} (meaning : Ghosts O P C R) (t : LockTable O P C R) (s : TableSeat (Option (History O P C R)) (Viewed O P C R)) (word : ℕ) where
   -- the seat is at this table, whose word may become f of what it was, by such a step

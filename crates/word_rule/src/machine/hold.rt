@@ -1,9 +1,9 @@
 //! What a step leaves of a CPU and of the object that it works on.
 
-ghost use Rattle.std.specs.Prelude.{◌≡◌, ◌+◌, ◌^◌, ◌<◌, ◌≤◌, ◌++◌, ◌∷◌, [], if◌then◌else◌, length, vec_len, vec_capacity};
+ghost use Rattle.std.specs.Prelude.{◌≡◌, ◌+◌, ◌^◌, ◌<◌, ◌≤◌, if◌then◌else◌, length, vec_len, vec_capacity};
 ghost use Rattle.event_log.specs.History.{IsKept};
 ghost use Rattle.word_rule.specs.StepKinds.{ends_hold};
-ghost use Rattle.word_rule.specs.Machine.World.{outcome, with_done, entry_of, counted};
+ghost use Rattle.word_rule.specs.Machine.World.{outcome_on, with_done, with_entry, entry_of, counted};
 
 use crate::machine::progress::Progress;
 use crate::machine::step_done::{StepDone, is_a_look, is_end};
@@ -14,7 +14,7 @@ fn end_hold<O: SeqObject>(logged: &mut Logged<O>, cpu: u8, todo: &Todo<O>) -> Do
     requires some { 0 < length todo.now.calls.items }
     requires few { length todo.now.calls.items ≤ MOST_CALLS }
     requires kept { IsKept O.SeqObject logged.old }
-    ensures done { result ≡ outcome O.SeqObject (record { params = logged.old.params; limit = logged.old.limit }) logged.old.log todo.now.calls.items }
+    ensures done { result ≡ outcome_on O.SeqObject logged.old todo.now }
     ensures params { logged.new.params ≡ logged.old.params }
     ensures limit { logged.new.limit ≡ logged.old.limit }
     ensures log { logged.new.log ≡ with_done cpu logged.old.log result }
@@ -42,10 +42,10 @@ pub fn count_step<O: SeqObject>(
     requires more { progress.old.at + 1 < 2 ^ 64 }
     ensures params { logged.new.params ≡ logged.old.params }
     ensures limit { logged.new.limit ≡ logged.old.limit }
-    ensures log { logged.new.log ≡ (if ends_hold step then with_done cpu logged.old.log (outcome O.SeqObject (record { params = logged.old.params; limit = logged.old.limit }) logged.old.log todo.now.calls.items) else logged.old.log) }
+    ensures log { logged.new.log ≡ (if ends_hold step then with_done cpu logged.old.log (outcome_on O.SeqObject logged.old todo.now) else logged.old.log) }
     ensures kept { IsKept O.SeqObject logged.new }
     ensures at { progress.new.at ≡ (if ends_hold step then progress.old.at + 1 else progress.old.at) }
-    ensures transcript { progress.new.transcript.items ≡ (if ends_hold step then progress.old.transcript.items ++ entry_of todo.now (outcome O.SeqObject (record { params = logged.old.params; limit = logged.old.limit }) logged.old.log todo.now.calls.items) progress.old.looks ∷ [] else progress.old.transcript.items) }
+    ensures transcript { progress.new.transcript.items ≡ with_entry step progress.old.transcript.items (entry_of todo.now (outcome_on O.SeqObject logged.old todo.now) progress.old.looks) }
     ensures looks { progress.new.looks ≡ (if ends_hold step then 0 else counted progress.old.looks step) }
     ensures room { vec_capacity progress.new.transcript ≡ vec_capacity progress.old.transcript }
 {

@@ -2,7 +2,8 @@
 
 ghost use Rattle.std.specs.Prelude.{◌≡◌, ◌<◌, ◌≤◌, vec_len, IfOk};
 ghost use Rattle.word_rule.specs.Locks.{Lock, opening_lock, turn};
-ghost use Rattle.word_rule.specs.Rule.LockStates.{RepresentsLock, IsLockOf};
+ghost use Rattle.word_rule.specs.Machine.Shown.{KeepsLock};
+ghost use Rattle.word_rule.specs.Rule.LockStates.{IsLockOf};
 
 use crate::machine::mcs::turn_mcs;
 use crate::machine::step_done::StepDone;
@@ -28,25 +29,23 @@ impl LockWords {
         cpus: usize,
     ) -> Result<LockWords, OutOfMemory>
         requires { cpus ≤ MOST_CPUS }
-        ensures { IfOk result (λ w. RepresentsLock cpus w.kind w.words.items w.stages.items (opening_lock kind first)) }
+        ensures { IfOk result (λ w. KeepsLock cpus w (opening_lock kind first)) }
     {
         let words = new_words(alloc, kind, first, cpus)?;
-        match vec![in alloc; Stage::Idle; cpus] {
-            Ok(stages) => Ok(LockWords {
-                kind,
-                words,
-                stages,
-            }),
-            Err(_) => Err(OutOfMemory),
-        }
+        let stages = vec![in alloc; Stage::Idle; cpus]?;
+        Ok(LockWords {
+            kind,
+            words,
+            stages,
+        })
     }
 
     /// The next step of a CPU.
     pub fn turn(&mut self, cpu: u8) -> StepDone
-        requires shows { (l : Lock) × RepresentsLock (vec_len self.old.stages) self.old.kind self.old.words.items self.old.stages.items l }
+        requires shows { (l : Lock) × KeepsLock (vec_len self.old.stages) self.old l }
         requires exists { cpu < vec_len self.old.stages }
         requires few { vec_len self.old.stages ≤ MOST_CPUS }
-        ensures { (l : Lock) → RepresentsLock (vec_len self.old.stages) self.old.kind self.old.words.items self.old.stages.items l → (result ≡ (turn l cpu).1) × RepresentsLock (vec_len self.old.stages) self.new.kind self.new.words.items self.new.stages.items (turn l cpu).0 }
+        ensures { (l : Lock) → KeepsLock (vec_len self.old.stages) self.old l → (result ≡ (turn l cpu).1) × KeepsLock (vec_len self.old.stages) self.new (turn l cpu).0 }
     {
         match self.kind {
             LockKind::Ticket => turn_ticket(&mut self.words, &mut self.stages, cpu),
@@ -68,14 +67,8 @@ fn new_words(
     match kind {
         LockKind::Ticket => {
             let first = (first % TICKETS) as u32;
-            match vec![in alloc; word_with(first, first); 1] {
-                Ok(words) => Ok(words),
-                Err(_) => Err(OutOfMemory),
-            }
+            Ok(vec![in alloc; word_with(first, first); 1]?)
         }
-        LockKind::Mcs => match vec![in alloc; 0; 1 + 2 * cpus] {
-            Ok(words) => Ok(words),
-            Err(_) => Err(OutOfMemory),
-        },
+        LockKind::Mcs => Ok(vec![in alloc; 0; 1 + 2 * cpus]?),
     }
 }

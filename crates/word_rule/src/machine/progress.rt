@@ -20,14 +20,12 @@ impl<O: SeqObject> Progress<O> {
     pub fn new(alloc: Global, entries: usize) -> Result<Progress<O>, OutOfMemory>
         ensures { IfOk result (λ p. (p.at ≡ 0) × (p.transcript.items ≡ []) × (p.looks ≡ 0) × (entries ≤ vec_capacity p.transcript)) }
     {
-        match Vec::with_capacity(alloc, entries) {
-            Ok(transcript) => Ok(Progress {
-                at: 0,
-                transcript,
-                looks: 0,
-            }),
-            Err(_) => Err(OutOfMemory),
-        }
+        let transcript = Vec::with_capacity(alloc, entries)?;
+        Ok(Progress {
+            at: 0,
+            transcript,
+            looks: 0,
+        })
     }
 
     /// The entry at hand is done.

@@ -32,9 +32,7 @@ fn make_locks<O: SeqObject>(
     for cell in cells {
         let _ = cell.logged.log();
         let lock = LockWords::new(alloc, cell.kind, cell.first, cpus)?;
-        if locks.push(lock).is_err() {
-            return Err(OutOfMemory);
-        }
+        locks.push(lock)?;
     }
     Ok(locks)
 }
@@ -49,9 +47,7 @@ fn make_done<O: SeqObject>(
     let mut done = Vec::new(alloc);
     for script in scripts {
         let progress = Progress::new(alloc, script.len())?;
-        if done.push(progress).is_err() {
-            return Err(OutOfMemory);
-        }
+        done.push(progress)?;
     }
     Ok(done)
 }
@@ -70,12 +66,8 @@ pub fn make_room<O: SeqObject>(
 {
     let locks = make_locks(alloc, cells, scripts.len())?;
     let done = make_done(alloc, scripts)?;
-    let Ok(logs) = Vec::with_capacity(alloc, cells.len()) else {
-        return Err(OutOfMemory);
-    };
-    let Ok(transcripts) = Vec::with_capacity(alloc, scripts.len()) else {
-        return Err(OutOfMemory);
-    };
+    let logs = Vec::with_capacity(alloc, cells.len())?;
+    let transcripts = Vec::with_capacity(alloc, scripts.len())?;
     Ok(Room {
         locks,
         done,

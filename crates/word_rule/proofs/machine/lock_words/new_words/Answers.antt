@@ -8,10 +8,10 @@ use Rattle.word_rule.proofs.ShownLocks.{tied_lock}
 use Rattle.word_rule.proofs.Ticket.Turns.{starts_ticket}
 use Rattle.word_rule.proofs.machine.lock_words.new_words.Goals as goal
 
-pub returns-in-Ok : goal.returns-in-Ok
-returns-in-Ok c = subst (λ k. IsLockOf k c.args.cpus c.in-Ok.words.items (opening_lock k c.args.first)) (sym c.in-Ticket.is)
-    (tied_lock kinds.Ticket c.args.cpus _ (opening_state (definition_of kinds.Ticket) c.args.first) (starts_ticket c.args.cpus c.args.first c.in-Ok.words.items (omega (arith, c.requires)) (c.in-Ok.ensures.items_if_clones_equal (λ y e. e) ∙ ap (λ w. w ∷ []) c.word_with.ensures)))
+pub returns-in_ok-vec-in-Ticket : goal.returns-in_ok-vec-in-Ticket
+returns-in_ok-vec-in-Ticket c = subst (λ k. IsLockOf k c.args.cpus c.in_ok-vec-in-Ticket.field-0.items (opening_lock k c.args.first)) (sym c.in-Ticket.is)
+    (tied_lock kinds.Ticket c.args.cpus _ (opening_state (definition_of kinds.Ticket) c.args.first) (starts_ticket c.args.cpus c.args.first c.in_ok-vec-in-Ticket.field-0.items (omega (arith, c.requires)) (c.in_ok-vec-in-Ticket.ensures.items_if_clones_equal (λ y e. e) ∙ ap (λ w. w ∷ []) c.word_with.ensures)))
 
-pub returns-in-Ok-vec : goal.returns-in-Ok-vec
-returns-in-Ok-vec c = subst (λ k. IsLockOf k c.args.cpus c.in-Ok-vec.words.items (opening_lock k c.args.first)) (sym c.in-Mcs.is)
-    (tied_lock kinds.Mcs c.args.cpus _ (opening_state (definition_of kinds.Mcs) c.args.first) (starts_mcs c.args.cpus c.args.first c.in-Ok-vec.words.items (c.in-Ok-vec.ensures.items_if_clones_equal (λ y e. e))))
+pub returns-in_ok-vec-in-Mcs : goal.returns-in_ok-vec-in-Mcs
+returns-in_ok-vec-in-Mcs c = subst (λ k. IsLockOf k c.args.cpus c.in_ok-vec-in-Mcs.field-0.items (opening_lock k c.args.first)) (sym c.in-Mcs.is)
+    (tied_lock kinds.Mcs c.args.cpus _ (opening_state (definition_of kinds.Mcs) c.args.first) (starts_mcs c.args.cpus c.args.first c.in_ok-vec-in-Mcs.field-0.items (c.in_ok-vec-in-Mcs.ensures.items_if_clones_equal (λ y e. e))))

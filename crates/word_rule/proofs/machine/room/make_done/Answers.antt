@@ -8,7 +8,7 @@ use Rattle.word_rule.proofs.machine.room.make_done.Goals as goal
 
 pub loop-script-preserved : goal.loop-script-preserved
 loop-script-preserved g c =
-    let pushed : c.push.new.self.items ≡ c.loop-script.done.items ++ c.in_ok-progress.progress ∷ [] = c.push.ensures.items ∙ ap (λ b. cond b (c.loop-script.done.items ++ c.in_ok-progress.progress ∷ []) c.loop-script.done.items) c.if-is_err.ensures.negation in
+    let pushed : c.push.new.self.items ≡ c.loop-script.done.items ++ c.in_ok-progress.progress ∷ [] = c.in_ok-push.ensures.items in
     let longer = take_more c.args.scripts.now c.loop-script.script-index c.script-item.result c.loop-script-test.true c.script-item.is in
     let f = c.in_ok-progress.ensures in
     subst (λ (z : List (Vec _ Global) × List (Progress _ _ _ _)). AllZip FreshCpu z.0 z.1) (λ j. (sym longer j, sym pushed j))

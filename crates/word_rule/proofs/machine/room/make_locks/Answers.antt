@@ -8,7 +8,7 @@ use Rattle.word_rule.proofs.machine.room.make_locks.Goals as goal
 
 pub loop-cell-preserved : goal.loop-cell-preserved
 loop-cell-preserved g c =
-    let pushed : c.push.new.self.items ≡ c.loop-cell.locks.items ++ c.in_ok-lock.lock ∷ [] = c.push.ensures.items ∙ ap (λ b. cond b (c.loop-cell.locks.items ++ c.in_ok-lock.lock ∷ []) c.loop-cell.locks.items) c.if-is_err.ensures.negation in
+    let pushed : c.push.new.self.items ≡ c.loop-cell.locks.items ++ c.in_ok-lock.lock ∷ [] = c.in_ok-push.ensures.items in
     let longer = take_more c.args.cells.now c.loop-cell.cell-index c.cell-item.result c.loop-cell-test.true c.cell-item.is in
     subst (λ (z : List (CellSpec _ _ _ _) × List LockWords). AllZip (FreshLock g.O.SeqObject c.args.cpus) z.0 z.1) (λ j. (sym longer j, sym pushed j))
     (zip_push (FreshLock g.O.SeqObject c.args.cpus) (take c.loop-cell.cell-index c.args.cells.now) c.loop-cell.locks.items c.cell-item.result c.in_ok-lock.lock c.loop-cell.invariant record { lock = c.in_ok-lock.ensures; kept = c.log.ensures.kept })
