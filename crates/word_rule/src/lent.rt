@@ -2,7 +2,7 @@
 
 ghost use Rattle.std.specs.Prelude.{◌≡◌, ◌∷◌, Some, None};
 ghost use Rattle.atomic_table.specs.Table.{rest};
-ghost use Rattle.word_rule.specs.Rule.Operations.{IsLending, Stepped};
+ghost use Rattle.word_rule.specs.Rule.Operations.{IsLending, HasLent, Stepped};
 
 use crate::{LockTable, Seat};
 use event_log::{Logged, SeqObject};
@@ -16,7 +16,7 @@ impl<O: SeqObject> LockTable<O> {
     /// Takes the object out of the slot, which has come to the seat.
     pub fn take(&self, seat: &mut Seat<O>) -> (Logged<O>, Lent)
         requires { IsLending self.now seat.old }
-        ensures { Stepped seat.old seat.new ((seat.old.me.1 ≡ (0, Some result.0) ∷ rest seat.old.me.1) × (seat.new.me ≡ (seat.old.me.0, (0, None) ∷ rest seat.old.me.1))) }
+        ensures { HasLent seat.old seat.new result.0 }
     {
         let logged = self.table.shared.exchange(seat, 0, None).unwrap();
         (logged, Lent { out: () })

@@ -1,8 +1,8 @@
 //! Seats that take in one another's callers, and let them go: moves of the table, which change no word.
 
-ghost use Rattle.std.specs.Prelude.{◌≡◌, ◌<◌, []};
-ghost use Rattle.word_rule.specs.Rule.Operations.{AreBeside, Stepped};
-ghost use Rattle.word_rule.specs.Rule.Seats.{taken_in, keeping, letting};
+ghost use Rattle.std.specs.Prelude.{◌≡◌, ◌<◌};
+ghost use Rattle.word_rule.specs.Rule.Operations.{AreBeside, HasLetGo, Stepped};
+ghost use Rattle.word_rule.specs.Rule.Seats.{taken_in};
 
 use crate::{Beside, LockTable, Seat};
 use event_log::SeqObject;
@@ -19,7 +19,7 @@ impl<O: SeqObject> LockTable<O> {
     /// The seat lets go the first caller that it has taken in.
     pub fn split_seat(&self, seat: &mut Seat<O>) -> Seat<O>
         requires { (seat.old.table_id ≡ self.now.table.shared.table_id) × (0 < self.now.table.shared.table_id.words) }
-        ensures { Stepped seat.old seat.new ((seat.new.me ≡ (keeping seat.old.me.0, seat.old.me.1)) × (result.table_id ≡ seat.old.table_id) × (result.me ≡ (letting seat.old.me.0, []))) }
+        ensures { HasLetGo seat.old seat.new result }
     {
         self.table.shared.split_seat::<Beside>(seat)
     }

@@ -45,10 +45,6 @@ module _ {O P C R : Type 0} where
   abbrev pub entry_of : Todo O P C R → Done O P C R → ℕ → Entry O P C R
   entry_of todo d looks = record { object = todo.object; asked = todo.calls; done = d; looks = looks }
 
-  -- the transcript after a step that was the last of an entry, or wasn't
-  abbrev pub with_entry : StepDone → List (Entry O P C R) → Entry O P C R → List (Entry O P C R)
-  with_entry s entries e = if ends_hold s then entries ++ e ∷ [] else entries
-
   -- the entries that are left once the first is done
   abbrev pub left : List (Todo O P C R) → List (Todo O P C R)
   left [] = []

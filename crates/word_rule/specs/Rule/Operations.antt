@@ -1,5 +1,5 @@
 -- What an operation on a cell's table asks of the seat that steps, and what it tells.
-use Rattle.std.specs.Prelude.{◌≡◌, ℕ, ◌<◌, [], ◌∷◌, Option, Some}
+use Rattle.std.specs.Prelude.{◌≡◌, ℕ, ◌<◌, [], ◌∷◌, Option, Some, None}
 use mathlib.Core.Option.{none}
 use Rattle.atomic_table.specs.Table.{Step, step, rest}
 use Rattle.atomic_table.specs.declared.shared.Seat.{Seat as TableSeat}
@@ -8,7 +8,7 @@ use Rattle.event_log.specs.History.{History}
 use Rattle.word_rule.specs.declared.lock_table.LockTable.{LockTable}
 use Rattle.word_rule.specs.Rule.CellInvariant.{Viewed}
 use Rattle.word_rule.specs.Rule.Definition.{IsTurn, IsTry, IsReadying, IsRead}
-use Rattle.word_rule.specs.Rule.Seats.{Seat}
+use Rattle.word_rule.specs.Rule.Seats.{Seat, keeping, letting}
 
 module _ {O P C R : Type 0} where
   -- an operation on that word of the table, with these operands
@@ -23,9 +23,17 @@ module _ {O P C R : Type 0} where
   abbrev pub AreBeside : LockTable O P C R → TableSeat (Option (History O P C R)) (Viewed O P C R) → TableSeat (Option (History O P C R)) (Viewed O P C R) → Type 0
   AreBeside t s other = (s.table_id ≡ t.table.shared.table_id) × (other.table_id ≡ t.table.shared.table_id) × (other.me.1 ≡ []) × (0 < t.table.shared.table_id.words) × (s.me.0.others ≡ []) × (other.me.0.others ≡ [])
 
+  -- the seat has let go to the other the first caller that it had taken in
+  abbrev pub HasLetGo : TableSeat (Option (History O P C R)) (Viewed O P C R) → TableSeat (Option (History O P C R)) (Viewed O P C R) → TableSeat (Option (History O P C R)) (Viewed O P C R) → Type 0
+  HasLetGo before after other = (after.table_id ≡ before.table_id) × (after.id ≡ before.id) × (after.me ≡ (keeping before.me.0, before.me.1)) × (other.table_id ≡ before.table_id) × (other.me ≡ (letting before.me.0, []))
+
   -- the seat is at this table, and has its object
   abbrev pub IsLending : LockTable O P C R → TableSeat (Option (History O P C R)) (Viewed O P C R) → Type 0
   IsLending t s = (s.table_id ≡ t.table.shared.table_id) × ((x : History O P C R) × (s.me.1 ≡ (0, Some x) ∷ rest s.me.1))
+
+  -- the seat had this object, and has it no more
+  abbrev pub HasLent : TableSeat (Option (History O P C R)) (Viewed O P C R) → TableSeat (Option (History O P C R)) (Viewed O P C R) → History O P C R → Type 0
+  HasLent before after h = (after.table_id ≡ before.table_id) × (after.id ≡ before.id) × (before.me.1 ≡ (0, Some h) ∷ rest before.me.1) × (after.me ≡ (before.me.0, (0, None) ∷ rest before.me.1))
 
 module _ {O P C R : Type 0} (meaning : Ghosts O P C R) (t : LockTable O P C R) (s : TableSeat (Option (History O P C R)) (Viewed O P C R)) (word : ℕ) where
   -- the seat is at this table, whose word may become f of what it was, by such a step

@@ -3,7 +3,8 @@
 ghost use Rattle.std.specs.Prelude.{◌≡◌, ◌+◌, ◌^◌, ◌<◌, ◌≤◌, if◌then◌else◌, length, vec_len, vec_capacity};
 ghost use Rattle.event_log.specs.History.{IsKept};
 ghost use Rattle.word_rule.specs.StepKinds.{ends_hold};
-ghost use Rattle.word_rule.specs.Machine.World.{outcome_on, with_done, with_entry, entry_of, counted};
+ghost use Rattle.word_rule.specs.Machine.Shown.{with_entry};
+ghost use Rattle.word_rule.specs.Machine.World.{outcome_on, with_done, counted};
 
 use crate::machine::progress::Progress;
 use crate::machine::step_done::{StepDone, is_a_look, is_end};
@@ -45,7 +46,7 @@ pub fn count_step<O: SeqObject>(
     ensures log { logged.new.log ≡ (if ends_hold step then with_done cpu logged.old.log (outcome_on O.SeqObject logged.old todo.now) else logged.old.log) }
     ensures kept { IsKept O.SeqObject logged.new }
     ensures at { progress.new.at ≡ (if ends_hold step then progress.old.at + 1 else progress.old.at) }
-    ensures transcript { progress.new.transcript.items ≡ with_entry step progress.old.transcript.items (entry_of todo.now (outcome_on O.SeqObject logged.old todo.now) progress.old.looks) }
+    ensures transcript { progress.new.transcript.items ≡ with_entry step progress.old todo.now (outcome_on O.SeqObject logged.old todo.now) }
     ensures looks { progress.new.looks ≡ (if ends_hold step then 0 else counted progress.old.looks step) }
     ensures room { vec_capacity progress.new.transcript ≡ vec_capacity progress.old.transcript }
 {

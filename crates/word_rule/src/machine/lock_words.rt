@@ -1,8 +1,8 @@
 //! The words of a lock.
 
 ghost use Rattle.std.specs.Prelude.{◌≡◌, ◌<◌, ◌≤◌, vec_len, IfOk};
-ghost use Rattle.word_rule.specs.Locks.{Lock, opening_lock, turn};
-ghost use Rattle.word_rule.specs.Machine.Shown.{KeepsLock};
+ghost use Rattle.word_rule.specs.Locks.{Lock, opening_lock};
+ghost use Rattle.word_rule.specs.Machine.Shown.{KeepsLock, TurnsLock};
 ghost use Rattle.word_rule.specs.Rule.LockStates.{IsLockOf};
 
 use crate::machine::mcs::turn_mcs;
@@ -45,7 +45,7 @@ impl LockWords {
         requires shows { (l : Lock) × KeepsLock (vec_len self.old.stages) self.old l }
         requires exists { cpu < vec_len self.old.stages }
         requires few { vec_len self.old.stages ≤ MOST_CPUS }
-        ensures { (l : Lock) → KeepsLock (vec_len self.old.stages) self.old l → (result ≡ (turn l cpu).1) × KeepsLock (vec_len self.old.stages) self.new (turn l cpu).0 }
+        ensures { TurnsLock (vec_len self.old.stages) self.old cpu result self.new }
     {
         match self.kind {
             LockKind::Ticket => turn_ticket(&mut self.words, &mut self.stages, cpu),

@@ -43,7 +43,7 @@ last : (g : given.Over) (c : goal.After-split_seat-theirs g)
 last g c = let a = c.args.waiting in let p = c.args.pass in let e = c.join_seat.ensures.2 in let y = c.take-logged.result.0 in let s = c.split_seat-theirs in let same = c.requires.pass.told ∙ sym c.requires.waiting.told in
     let got = c.load-found.ensures.2.hit c.if-prove.false in
     last_taken g.O.SeqObject a.key.value a.cpu.number p.cpu.number (Mcs Waiting) (Mcs Holding) (steps.Look true ∷ []) (Some y) y a.seat.me p.seat.me c.join_seat.new.seat.me c.load-found.new.seat.me c.take-logged.new.seat.me s.new.seat.me s.result.me a.waits
-    (subst (λ k. IsWithout g.O.SeqObject k p.cpu.number Idle p.seat.me) same p.idle) e got c.take-logged.ensures.2.0 c.take-logged.ensures.2.1 refl s.ensures.2.0 s.ensures.2.2
+    (subst (λ k. IsWithout g.O.SeqObject k p.cpu.number Idle p.seat.me) same p.idle) e got c.take-logged.ensures.2 c.take-logged.ensures.3 refl s.ensures.2 s.ensures.4
 
 pub invariant_of-result : goal.invariant_of-result
 invariant_of-result g c = let a = c.args.waiting in let y = c.take-logged.result.0 in let l = last g c in record {

@@ -40,8 +40,8 @@ saw : (g : given.Over) (c : goal.After-split_seat-theirs g) → let a = c.args.l
     Goes g.O.SeqObject (Mcs (Passing k)) (steps.See true ∷ []) a.seat.me s.new.seat.me × (s.result.me ≡ w.seat.me) × IsElse a.seat.me.0 k
 saw g c = let a = c.args.leaving in let w = c.args.waiting in let e = c.join_seat.ensures.2 in let s = c.split_seat-theirs in let some_one = c.if-prove.false in let k : ℕ = c.load-found.result - 1 in
     let t = named g.O.SeqObject (λ p. Mcs (Passing p)) (steps.See true ∷ []) c.load-found.result k c.join_seat.new.seat.me c.load-found.new.seat.me (c.load-found.ensures.2.found some_one) (omega arith) in (
-      first_goes g.O.SeqObject (Mcs (Passing k)) (steps.See true ∷ []) a.seat.me w.seat.me c.join_seat.new.seat.me c.load-found.new.seat.me s.new.seat.me a.leaves.at.alone e t.0 s.ensures.2.0,
-      second_same (Mcs (Passing k)) t.0.log t.0.run a.seat.me w.seat.me c.join_seat.new.seat.me c.load-found.new.seat.me s.result.me w.waits.at.alone w.waits.at.carries (w.waits.at.told ∙ (ap (λ z. z ∷ []) (c.requires.waiting.told ∙ sym c.requires.leaving.told) ∙ sym a.leaves.at.told)) e t.0.seat s.ensures.2.2,
+      first_goes g.O.SeqObject (Mcs (Passing k)) (steps.See true ∷ []) a.seat.me w.seat.me c.join_seat.new.seat.me c.load-found.new.seat.me s.new.seat.me a.leaves.at.alone e t.0 s.ensures.2,
+      second_same (Mcs (Passing k)) t.0.log t.0.run a.seat.me w.seat.me c.join_seat.new.seat.me c.load-found.new.seat.me s.result.me w.waits.at.alone w.waits.at.carries (w.waits.at.told ∙ (ap (λ z. z ∷ []) (c.requires.waiting.told ∙ sym c.requires.leaving.told) ∙ sym a.leaves.at.told)) e t.0.seat s.ensures.4,
       else_of a.seat.me w.seat.me c.join_seat.new.seat.me k e t.1,
     )
 
