@@ -42,3 +42,9 @@ module _ {O P C R : Type 0} (meaning : Ghosts O P C R) (cells : List (Cell O P C
     pub views : (x : ℕ) (j : PassView O P C R) → slice_get joined x ≡ Some j → IsPassView meaning j
     pub of_cells : (x : ℕ) (c : Cell O P C R) (j : PassView O P C R) → slice_get cells x ≡ Some c → slice_get joined x ≡ Some j → j.caller.cell ≡ c
     pub each : (k : ℕ) (todos : List (Todo O P C R)) (entries : List (Entry O P C R)) → slice_get scripts k ≡ Some todos → slice_get transcripts k ≡ Some entries → Worked k todos entries
+
+module _ {O P C R : Type 0} (meaning : Ghosts O P C R) where
+  -- that holds of the cells, the last passes, the scripts and the transcripts, whenever each CPU worked so
+  abbrev pub WheneverWorked : (List (Cell O P C R) → List (PassView O P C R) → List (List (Todo O P C R)) → List (List (Entry O P C R)) → Type 0) → Type 0
+  WheneverWorked That = (cells : List (Cell O P C R)) (joined : List (PassView O P C R)) (n : ℕ) (scripts : List (List (Todo O P C R))) (transcripts : List (List (Entry O P C R)))
+      → AllWorked meaning cells joined n scripts transcripts → That cells joined scripts transcripts

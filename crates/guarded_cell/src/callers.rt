@@ -2,9 +2,8 @@
 
 ghost use Rattle.std.specs.Prelude.{◌≡◌, ◌<◌, ◌≤◌, length, take};
 ghost use Rattle.word_rule.specs.Cell.{OwnTogether};
-ghost use Rattle.word_rule.specs.Holds.{HasHeldEach};
 ghost use Rattle.guarded_cell.specs.Calls.{HasDoneCalls, IsEnded};
-ghost use Rattle.guarded_cell.specs.Held.{EndedInOrder, holds_of};
+ghost use Rattle.guarded_cell.specs.Held.{EndedInOrder, HasHeldFor, holds_of};
 
 use crate::whole::call;
 use event_log::{Logged, NoRoom, SeqObject};
@@ -24,7 +23,7 @@ pub fn call_all<O: SeqObject, C: LockCell<O>, R: Wait>(
     requires { C.is_pass_of cell.now pass }
     ensures pass { C.is_pass_of cell.now result.0 }
     ensures done { HasDoneCalls (C.pass_view pass) calls.now result.1 (C.pass_view result.0) }
-    ensures run { HasHeldEach O.SeqObject (C.pass_view pass).caller (C.pass_run pass) (holds_of calls.now result.1) (C.pass_run result.0) }
+    ensures run { HasHeldFor O.SeqObject (C.pass_view pass).caller (C.pass_run pass) calls.now result.1 (C.pass_run result.0) }
 {
     let mut pass = pass;
     let mut done = 0;
@@ -58,8 +57,8 @@ where
     ensures passes { C.is_pass_of cell.now result.0.0 × C.is_pass_of cell.now result.1.0 }
     ensures first { HasDoneCalls (C.pass_view passes.0) first_calls.now result.0.1 (C.pass_view result.0.0) }
     ensures second { HasDoneCalls (C.pass_view passes.1) second_calls.now result.1.1 (C.pass_view result.1.0) }
-    ensures first_run { HasHeldEach O.SeqObject (C.pass_view passes.0).caller (C.pass_run passes.0) (holds_of first_calls.now result.0.1) (C.pass_run result.0.0) }
-    ensures second_run { HasHeldEach O.SeqObject (C.pass_view passes.1).caller (C.pass_run passes.1) (holds_of second_calls.now result.1.1) (C.pass_run result.1.0) }
+    ensures first_run { HasHeldFor O.SeqObject (C.pass_view passes.0).caller (C.pass_run passes.0) first_calls.now result.0.1 (C.pass_run result.0.0) }
+    ensures second_run { HasHeldFor O.SeqObject (C.pass_view passes.1).caller (C.pass_run passes.1) second_calls.now result.1.1 (C.pass_run result.1.0) }
 {
     let (first, second) = passes;
     thread::join(
@@ -68,13 +67,13 @@ where
             requires pass { C.is_pass_of cell.now first }
             ensures pass { C.is_pass_of cell.entry.now result.0 }
             ensures done { HasDoneCalls (C.pass_view first) first_calls.entry.now result.1 (C.pass_view result.0) }
-            ensures run { HasHeldEach O.SeqObject (C.pass_view first).caller (C.pass_run first) (holds_of first_calls.entry.now result.1) (C.pass_run result.0) }
+            ensures run { HasHeldFor O.SeqObject (C.pass_view first).caller (C.pass_run first) first_calls.entry.now result.1 (C.pass_run result.0) }
         { call_all(rt, cell, first, first_calls) },
         move || -> (C::Pass, usize)
             requires pass { C.is_pass_of cell.now second }
             ensures pass { C.is_pass_of cell.entry.now result.0 }
             ensures done { HasDoneCalls (C.pass_view second) second_calls.entry.now result.1 (C.pass_view result.0) }
-            ensures run { HasHeldEach O.SeqObject (C.pass_view second).caller (C.pass_run second) (holds_of second_calls.entry.now result.1) (C.pass_run result.0) }
+            ensures run { HasHeldFor O.SeqObject (C.pass_view second).caller (C.pass_run second) second_calls.entry.now result.1 (C.pass_run result.0) }
         { call_all(rt, cell, second, second_calls) },
     )
 }
@@ -97,11 +96,14 @@ where
     requires first { C.is_pass_of cell passes.0 }
     requires second { C.is_pass_of cell passes.1 }
     requires all { OwnTogether (C.pass_view passes.0).caller (C.pass_view passes.1).caller }
-    ensures ended { IsEnded O.SeqObject (C.pass_view passes.0) (take result.1 first_calls.now) (C.pass_view passes.1) (take result.2 second_calls.now) result.0 }
+    ensures ended { IsEnded O.SeqObject (C.pass_view passes.0) (take result.1 first_calls.now)
+        (C.pass_view passes.1) (take result.2 second_calls.now) result.0 }
     ensures counts { (result.1 ≤ length first_calls.now) × (result.2 ≤ length second_calls.now) }
     ensures first_full { result.1 < length first_calls.now → length result.0.log ≡ result.0.limit }
     ensures second_full { result.2 < length second_calls.now → length result.0.log ≡ result.0.limit }
-    ensures order_run { EndedInOrder O.SeqObject result.0.log (C.pass_view passes.0).caller (C.pass_run passes.0) (holds_of first_calls.now result.1) (C.pass_view passes.1).caller (C.pass_run passes.1) (holds_of second_calls.now result.2) }
+    ensures order_run { EndedInOrder O.SeqObject result.0.log
+        (C.pass_view passes.0).caller (C.pass_run passes.0) (holds_of first_calls.now result.1)
+        (C.pass_view passes.1).caller (C.pass_run passes.1) (holds_of second_calls.now result.2) }
 {
     let ((first, first_done), (second, second_done)) = call_on_two_threads(
         rt,

@@ -1,12 +1,11 @@
 //! Whole calls that don't wait for the object: each is done as by `call` and `batch`, or the object is busy and nothing is
 //! done. They look at most once, and take no memory.
 
-ghost use Rattle.std.specs.Prelude.{◌≡◌, ℕ, ◌<◌, ◌≤◌, [], ◌∷◌, length, IfOk, IfErr};
+ghost use Rattle.std.specs.Prelude.{◌≡◌, ◌<◌, ◌≤◌, [], ◌∷◌, length, IfOk, IfErr};
 ghost use Rattle.event_log.specs.Log.{one_step};
-ghost use Rattle.word_rule.specs.Answered.{IsAnswered, events_by};
-ghost use Rattle.word_rule.specs.OneHold.{HasHeld};
+ghost use Rattle.word_rule.specs.Answered.{IsAnswered};
 ghost use Rattle.word_rule.specs.Passes.{view_of_pass, run_of_pass};
-ghost use Rattle.guarded_cell.specs.Held.{HasDeclined};
+ghost use Rattle.guarded_cell.specs.Held.{HasDeclined, HasTried};
 ghost use Rattle.guarded_cell.specs.Kinds.{IsPassOf};
 ghost use Rattle.guarded_cell.specs.Tries.{IsDeclined};
 
@@ -41,7 +40,7 @@ pub fn try_batch<O: SeqObject, C: LockCell<O>, R: Wait>(
     ensures caller { (C.pass_view result.0).caller ≡ (C.pass_view pass).caller }
     ensures answered { IfOk result.1 (λ s. IsAnswered O.SeqObject (C.pass_view pass) calls.now s (C.pass_view result.0)) }
     ensures declined { IfErr result.1 (λ why. IsDeclined O.SeqObject why (C.pass_view pass) (C.pass_view result.0)) }
-    ensures run { IfOk result.1 (λ s. (looks : ℕ) × (looks ≤ 1) × HasHeld (C.pass_view pass).caller (C.pass_run pass) looks (events_by (C.pass_view pass).caller.acting (s ∷ [])) (C.pass_run result.0)) }
+    ensures run { IfOk result.1 (λ s. HasTried (C.pass_view pass).caller (C.pass_run pass) s (C.pass_run result.0)) }
     ensures declined_run { IfErr result.1 (λ why. HasDeclined why (C.pass_view pass).caller (C.pass_run pass) (C.pass_run result.0)) }
 {
     match cell.try_acquire(pass) {
@@ -69,7 +68,7 @@ pub fn try_call<O: SeqObject, C: LockCell<O>, R: Wait>(
     ensures caller { (C.pass_view result.0).caller ≡ (C.pass_view pass).caller }
     ensures answered { IfOk result.1 (λ r. IsAnswered O.SeqObject (C.pass_view pass) (call.now ∷ []) (one_step call.now r) (C.pass_view result.0)) }
     ensures declined { IfErr result.1 (λ why. IsDeclined O.SeqObject why (C.pass_view pass) (C.pass_view result.0)) }
-    ensures run { IfOk result.1 (λ r. (looks : ℕ) × (looks ≤ 1) × HasHeld (C.pass_view pass).caller (C.pass_run pass) looks (events_by (C.pass_view pass).caller.acting (one_step call.now r ∷ [])) (C.pass_run result.0)) }
+    ensures run { IfOk result.1 (λ r. HasTried (C.pass_view pass).caller (C.pass_run pass) (one_step call.now r) (C.pass_run result.0)) }
     ensures declined_run { IfErr result.1 (λ why. HasDeclined why (C.pass_view pass).caller (C.pass_run pass) (C.pass_run result.0)) }
 {
     match cell.try_acquire(pass) {
@@ -98,7 +97,7 @@ impl<O: SeqObject> AnyCell<O> {
         ensures caller { (view_of_pass result.0).caller ≡ (view_of_pass pass).caller }
         ensures answered { IfOk result.1 (λ r. IsAnswered O.SeqObject (view_of_pass pass) (asked.now ∷ []) (one_step asked.now r) (view_of_pass result.0)) }
         ensures declined { IfErr result.1 (λ why. IsDeclined O.SeqObject why (view_of_pass pass) (view_of_pass result.0)) }
-        ensures run { IfOk result.1 (λ r. (looks : ℕ) × (looks ≤ 1) × HasHeld (view_of_pass pass).caller (run_of_pass pass) looks (events_by (view_of_pass pass).caller.acting (one_step asked.now r ∷ [])) (run_of_pass result.0)) }
+        ensures run { IfOk result.1 (λ r. HasTried (view_of_pass pass).caller (run_of_pass pass) (one_step asked.now r) (run_of_pass result.0)) }
         ensures declined_run { IfErr result.1 (λ why. HasDeclined why (view_of_pass pass).caller (run_of_pass pass) (run_of_pass result.0)) }
     {
         try_call(rt, self, pass, asked)
@@ -119,7 +118,7 @@ impl<O: SeqObject> AnyCell<O> {
         ensures caller { (view_of_pass result.0).caller ≡ (view_of_pass pass).caller }
         ensures answered { IfOk result.1 (λ s. IsAnswered O.SeqObject (view_of_pass pass) calls.now s (view_of_pass result.0)) }
         ensures declined { IfErr result.1 (λ why. IsDeclined O.SeqObject why (view_of_pass pass) (view_of_pass result.0)) }
-        ensures run { IfOk result.1 (λ s. (looks : ℕ) × (looks ≤ 1) × HasHeld (view_of_pass pass).caller (run_of_pass pass) looks (events_by (view_of_pass pass).caller.acting (s ∷ [])) (run_of_pass result.0)) }
+        ensures run { IfOk result.1 (λ s. HasTried (view_of_pass pass).caller (run_of_pass pass) s (run_of_pass result.0)) }
         ensures declined_run { IfErr result.1 (λ why. HasDeclined why (view_of_pass pass).caller (run_of_pass pass) (run_of_pass result.0)) }
     {
         try_batch(rt, self, pass, calls)

@@ -3,10 +3,9 @@
 ghost use Rattle.std.specs.Prelude.{◌≡◌, ◌<◌, ◌≤◌, [], ◌∷◌, length, IfOk, OnOk, OnErr};
 ghost use Rattle.std.specs.List.{All};
 ghost use Rattle.event_log.specs.Log.{one_step};
-ghost use Rattle.word_rule.specs.Answered.{IsAnswered, IsRefused, IsHeldThrough, events_by};
-ghost use Rattle.word_rule.specs.OneHold.{HasHeld};
+ghost use Rattle.word_rule.specs.Answered.{IsAnswered, IsRefused, IsHeldThrough};
 ghost use Rattle.word_rule.specs.Passes.{view_of_pass, run_of_pass};
-ghost use Rattle.guarded_cell.specs.Held.{left_by_call, left_by_batch};
+ghost use Rattle.guarded_cell.specs.Held.{HasCalled, HasBatched, HasDoneGroups};
 ghost use Rattle.guarded_cell.specs.Kinds.{IsPassOf};
 
 use crate::AnyPass;
@@ -32,7 +31,7 @@ pub fn batch<O: SeqObject, C: LockCell<O>, R: Wait>(
     ensures caller { (C.pass_view result.0).caller ≡ (C.pass_view pass).caller }
     ensures answered { IfOk result.1 (λ s. IsAnswered O.SeqObject (C.pass_view pass) calls.now s (C.pass_view result.0)) }
     ensures refused { OnErr result.1 (IsRefused O.SeqObject (C.pass_view pass) (C.pass_view result.0)) }
-    ensures run { HasHeld (C.pass_view pass).caller (C.pass_run pass) result.2 (left_by_batch (C.pass_view pass).caller.acting result.1) (C.pass_run result.0) }
+    ensures run { HasBatched (C.pass_view pass).caller (C.pass_run pass) result.2 result.1 (C.pass_run result.0) }
 {
     let (mut hold, looks) = cell.acquire(rt, pass);
     let done = C::apply(&mut hold, calls);
@@ -52,7 +51,7 @@ pub fn call<O: SeqObject, C: LockCell<O>, R: Wait>(
     ensures caller { (C.pass_view result.0).caller ≡ (C.pass_view pass).caller }
     ensures answered { IfOk result.1 (λ r. IsAnswered O.SeqObject (C.pass_view pass) (call.now ∷ []) (one_step call.now r) (C.pass_view result.0)) }
     ensures refused { OnErr result.1 (IsRefused O.SeqObject (C.pass_view pass) (C.pass_view result.0)) }
-    ensures run { HasHeld (C.pass_view pass).caller (C.pass_run pass) result.2 (left_by_call (C.pass_view pass).caller.acting call.now result.1) (C.pass_run result.0) }
+    ensures run { HasCalled (C.pass_view pass).caller (C.pass_run pass) result.2 call.now result.1 (C.pass_run result.0) }
 {
     let (mut hold, looks) = cell.acquire(rt, pass);
     let done = C::apply_one(&mut hold, call);
@@ -80,7 +79,7 @@ pub fn with_hold<O: SeqObject, C: LockCell<O>, R: Wait>(
     ensures whole { OnOk result.1 (length done.new.items ≡ length groups.now) }
     ensures left { OnErr result.1 (length done.new.items < length groups.now) }
     ensures full { OnErr result.1 (length (C.pass_view result.0).seen ≡ (C.pass_view pass).caller.cell.limit) }
-    ensures run { HasHeld (C.pass_view pass).caller (C.pass_run pass) result.2 (events_by (C.pass_view pass).caller.acting done.new.items) (C.pass_run result.0) }
+    ensures run { HasDoneGroups (C.pass_view pass).caller (C.pass_run pass) result.2 done.new.items (C.pass_run result.0) }
 {
     let (mut hold, looks) = cell.acquire(rt, pass);
     let outcome = do_groups::<O, C>(&mut hold, groups, done);
@@ -101,7 +100,7 @@ impl<O: SeqObject> AnyCell<O> {
         ensures caller { (view_of_pass result.0).caller ≡ (view_of_pass pass).caller }
         ensures answered { IfOk result.1 (λ r. IsAnswered O.SeqObject (view_of_pass pass) (asked.now ∷ []) (one_step asked.now r) (view_of_pass result.0)) }
         ensures refused { OnErr result.1 (IsRefused O.SeqObject (view_of_pass pass) (view_of_pass result.0)) }
-        ensures run { HasHeld (view_of_pass pass).caller (run_of_pass pass) result.2 (left_by_call (view_of_pass pass).caller.acting asked.now result.1) (run_of_pass result.0) }
+        ensures run { HasCalled (view_of_pass pass).caller (run_of_pass pass) result.2 asked.now result.1 (run_of_pass result.0) }
     {
         call(rt, self, pass, asked)
     }
@@ -120,7 +119,7 @@ impl<O: SeqObject> AnyCell<O> {
         ensures caller { (view_of_pass result.0).caller ≡ (view_of_pass pass).caller }
         ensures answered { IfOk result.1 (λ s. IsAnswered O.SeqObject (view_of_pass pass) calls.now s (view_of_pass result.0)) }
         ensures refused { OnErr result.1 (IsRefused O.SeqObject (view_of_pass pass) (view_of_pass result.0)) }
-        ensures run { HasHeld (view_of_pass pass).caller (run_of_pass pass) result.2 (left_by_batch (view_of_pass pass).caller.acting result.1) (run_of_pass result.0) }
+        ensures run { HasBatched (view_of_pass pass).caller (run_of_pass pass) result.2 result.1 (run_of_pass result.0) }
     {
         batch(rt, self, pass, calls)
     }
@@ -145,7 +144,7 @@ impl<O: SeqObject> AnyCell<O> {
         ensures whole { OnOk result.1 (length done.new.items ≡ length groups.now) }
         ensures left { OnErr result.1 (length done.new.items < length groups.now) }
         ensures full { OnErr result.1 (length (view_of_pass result.0).seen ≡ (view_of_pass pass).caller.cell.limit) }
-        ensures run { HasHeld (view_of_pass pass).caller (run_of_pass pass) result.2 (events_by (view_of_pass pass).caller.acting done.new.items) (run_of_pass result.0) }
+        ensures run { HasDoneGroups (view_of_pass pass).caller (run_of_pass pass) result.2 done.new.items (run_of_pass result.0) }
     {
         with_hold(rt, self, pass, groups, done)
     }

@@ -32,7 +32,8 @@ pub fn look_beside_two<O: SeqObject>(
     requires drawn { IsDrawnOf cell.now drawn }
     requires second { IsPassOf cell.now second }
     requires third { IsPassOf cell.now third }
-    requires all { (k : ℕ) → k < (view_of_pass second).caller.cell.numbers → ((view_of_drawn drawn).caller.owned k || ((view_of_pass second).caller.owned k || (view_of_pass third).caller.owned k)) ≡ true }
+    requires all { (k : ℕ) → k < (view_of_pass second).caller.cell.numbers →
+        ((view_of_drawn drawn).caller.owned k || ((view_of_pass second).caller.owned k || (view_of_pass third).caller.owned k)) ≡ true }
     ensures hold { IsHoldOf cell.now result.0 }
     ensures idle { IsPassOf cell.now result.1 }
 {

@@ -172,7 +172,9 @@ fn cell_of_four(
 ) -> Result<(AnyCell<ThreadQueue>, Pair<Pair<AnyPass<ThreadQueue>>>), Fail>
     ensures front { IfOk result (λ r. IsPassOf r.0 r.1.0.0 × IsPassOf r.0 r.1.0.1) }
     ensures back { IfOk result (λ r. IsPassOf r.0 r.1.1.0 × IsPassOf r.0 r.1.1.1) }
-    ensures all { IfOk result (λ r. (k : ℕ) → k < (view_of_pass r.1.0.0).caller.cell.numbers → (((view_of_pass r.1.0.0).caller.owned k || (view_of_pass r.1.0.1).caller.owned k) || ((view_of_pass r.1.1.0).caller.owned k || (view_of_pass r.1.1.1).caller.owned k)) ≡ true) }
+    ensures all { IfOk result (λ r. (k : ℕ) → k < (view_of_pass r.1.0.0).caller.cell.numbers →
+        (((view_of_pass r.1.0.0).caller.owned k || (view_of_pass r.1.0.1).caller.owned k)
+        || ((view_of_pass r.1.1.0).caller.owned k || (view_of_pass r.1.1.1).caller.owned k)) ≡ true) }
 {
     let queue = Logged::<ThreadQueue>::open(alloc, 8, limit)?;
     let Ok((cell, mut passes)) = AnyCell::open(alloc, kind, queue, 4) else {
@@ -211,7 +213,9 @@ fn four_call<R: Threads + Wait + Sync>(
 ) -> Logged<ThreadQueue>
     requires front { IsPassOf cell passes.0.0 × IsPassOf cell passes.0.1 }
     requires back { IsPassOf cell passes.1.0 × IsPassOf cell passes.1.1 }
-    requires all { (k : ℕ) → k < (view_of_pass passes.0.0).caller.cell.numbers → (((view_of_pass passes.0.0).caller.owned k || (view_of_pass passes.0.1).caller.owned k) || ((view_of_pass passes.1.0).caller.owned k || (view_of_pass passes.1.1).caller.owned k)) ≡ true }
+    requires all { (k : ℕ) → k < (view_of_pass passes.0.0).caller.cell.numbers →
+        (((view_of_pass passes.0.0).caller.owned k || (view_of_pass passes.0.1).caller.owned k)
+        || ((view_of_pass passes.1.0).caller.owned k || (view_of_pass passes.1.1).caller.owned k)) ≡ true }
 {
     let ((zero, one), (two, three)) = passes;
     let shared = &cell;
