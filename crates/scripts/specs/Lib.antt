@@ -19,7 +19,9 @@ pub mod ScriptFaults
 pub mod RecordReading
 pub mod Then
 pub mod LineMachine
+pub mod Pieces
 pub mod RecordStates
+pub mod RecordParts
 pub mod RecordPieces
 pub mod RecordFaults
 pub mod RecordSources

@@ -30,9 +30,7 @@ impl Copied for Todo<KernelObject> {
 pub(crate) fn copy_all<T: Copied>(alloc: Global, values: &[T]) -> Result<Vec<T>, OutOfMemory>
     ensures { IfOk result (λ copies. copies.items ≡ values.now) }
 {
-    let Ok(mut copies) = Vec::with_capacity(alloc, values.len()) else {
-        return Err(OutOfMemory);
-    };
+    let mut copies = Vec::with_capacity(alloc, values.len())?;
     for value in values {
         copies.push_reserved(value.copied());
     }

@@ -137,13 +137,11 @@ impl Settings {
             params: KParams::Queue(8),
         };
         let mut objects = Vec::new(alloc);
-        match objects.push(queue) {
-            Ok(()) => Ok(Settings {
-                cpus: 2,
-                objects: Series::from_vec(objects),
-            }),
-            Err(_) => Err(OutOfMemory),
-        }
+        objects.push(queue)?;
+        Ok(Settings {
+            cpus: 2,
+            objects: Series::from_vec(objects),
+        })
     }
 
     /// The number of CPUs, 1 to 64.

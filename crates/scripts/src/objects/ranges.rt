@@ -34,12 +34,14 @@ pub fn fits<T: Spelled>(value: &T) -> bool
 
 /// A law of every table, without effect: no two values are spelled alike, whatever follows them.
 pub fn spelled_once<T: Spelled>()
-    ensures { (x y : T) (a b : List (List ℕ)) → row_fits (T.row_of x) ≡ true → row_fits (T.row_of y) ≡ true → spelled (T.row_of x) ++ a ≡ spelled (T.row_of y) ++ b → (x ≡ y) × (a ≡ b) }
+    ensures { (x y : T) (a b : List (List ℕ)) → row_fits (T.row_of x) ≡ true → row_fits (T.row_of y) ≡ true →
+        spelled (T.row_of x) ++ a ≡ spelled (T.row_of y) ++ b → (x ≡ y) × (a ≡ b) }
 {}
 
 /// A law of all objects of the kernel, without effect: a legal log whose calls are in range has replies in range.
 pub fn replies_fit()
-    ensures { (p : KParams) (log : List (Event KernelObject KParams KCall KReply)) → kernel_in_range p ≡ true → Legal ⟦<KernelObject as SeqObject>⟧ p log → log_asks call_fits log ≡ true → log_answers reply_fits log ≡ true }
+    ensures { (p : KParams) (log : List (Event KernelObject KParams KCall KReply)) → kernel_in_range p ≡ true → Legal ⟦<KernelObject as SeqObject>⟧ p log →
+        log_asks call_fits log ≡ true → log_answers reply_fits log ≡ true }
 {
     stays_distinct();
     stays_whole();
@@ -50,7 +52,9 @@ pub fn replies_fit()
 /// A law of all runs, without effect: a sound run under settings, whose entries asked for what is in its ranges, is in its
 /// ranges as a whole, so that it has a text.
 pub fn sound_runs_fit()
-    ensures { (settings : Settings) (run : KernelRun) → SettingsFit settings → Sound ⟦<KernelObject as SeqObject>⟧ (opened_of settings) run → length run.transcripts ≡ settings.cpus → AllByRecursion (TranscriptAsks (length settings.objects)) run.transcripts → RunFits settings run }
+    ensures { (settings : Settings) (run : KernelRun) → SettingsFit settings →
+        Sound ⟦<KernelObject as SeqObject>⟧ (opened_of settings) run → length run.transcripts ≡ settings.cpus →
+        AllByRecursion (TranscriptAsks (length settings.objects)) run.transcripts → RunFits settings run }
 {
     replies_fit();
 }

@@ -1,7 +1,8 @@
 //! The lines of scripts: one entry each.
 
 ghost use Rattle.std.specs.Prelude.{◌≡◌, ◌<◌, ◌↔◌, ℕ, List, [], map, length, Err, IsTrue, IfOk, IfErr, OnOk};
-ghost use Rattle.scripts.specs.ScriptFaults.{Adds, IsFull, HasRead, NamesFirstBad};
+ghost use Rattle.scripts.specs.Pieces.{HasReadScripts};
+ghost use Rattle.scripts.specs.ScriptFaults.{Adds, IsFull, NamesFirstBad};
 ghost use Rattle.scripts.specs.ScriptText.{IsBlank, AreScripts, dealt};
 ghost use Rattle.scripts.specs.Settings.{Settings as Shown, SettingsFit};
 
@@ -89,9 +90,9 @@ impl TakesLines for ScriptLists<'_> {
 
 /// The scripts that were read, if the text was whole lines.
 pub(crate) fn whole_scripts(pieces: Pieces<ScriptLists<'_>>) -> Result<Scripts, ScriptsFault>
-    requires { (settings : Shown) × (text : List ℕ) × HasRead settings text pieces.lines pieces.number pieces.passing pieces.pending.items }
-    ensures found { (settings : Shown) (text : List ℕ) → HasRead settings text pieces.entry.lines pieces.entry.number pieces.entry.passing pieces.entry.pending.items → IfOk result (AreScripts settings text) }
-    ensures fault { (settings : Shown) (text : List ℕ) → HasRead settings text pieces.entry.lines pieces.entry.number pieces.entry.passing pieces.entry.pending.items → IfErr result (NamesFirstBad settings text) }
+    requires { (settings : Shown) × (text : List ℕ) × HasReadScripts settings text pieces }
+    ensures found { (settings : Shown) (text : List ℕ) → HasReadScripts settings text pieces.entry → IfOk result (AreScripts settings text) }
+    ensures fault { (settings : Shown) (text : List ℕ) → HasReadScripts settings text pieces.entry → IfErr result (NamesFirstBad settings text) }
 {
     if !pieces.is_whole() {
         return Err(ScriptsFault::Line(pieces.number()));
@@ -139,8 +140,6 @@ fn add(
     if list.len() >= MOST_ENTRIES {
         return Err(LineFault::Refused);
     }
-    match list.push(todo) {
-        Ok(()) => Ok(()),
-        Err(_) => Err(LineFault::OutOfMemory),
-    }
+    list.push(todo)?;
+    Ok(())
 }

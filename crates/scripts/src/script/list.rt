@@ -82,9 +82,7 @@ fn copy_lists(
 ) -> Result<Vec<Vec<Todo<KernelObject>>>, OutOfMemory>
     ensures { IfOk result (λ copies. map (λ l. l.items) copies.items ≡ map (λ l. l.items) lists.now) }
 {
-    let Ok(mut copies) = Vec::with_capacity(alloc, lists.len()) else {
-        return Err(OutOfMemory);
-    };
+    let mut copies = Vec::with_capacity(alloc, lists.len())?;
     for list in lists {
         copies.push_reserved(copy_all(alloc, list.as_slice())?);
     }

@@ -113,7 +113,8 @@ fn next_value<T: Spelled>(at: Words<'_>) -> Option<(T, Words<'_>)>
 pub fn value<T: Spelled>(at: Words<'_>) -> Option<(T, Words<'_>)>
     ensures reading { option_map (λ x. (x.0, left x.1)) result ≡ value_at T.row_of T.table T.filled (left at.entry) }
     ensures found { IfSome result (λ r. (left at.entry ≡ spelled (T.row_of r.0) ++ left r.1) × (row_fits (T.row_of r.0) ≡ true)) }
-    ensures only { (x : T) (rest : List (List ℕ)) → row_fits (T.row_of x) ≡ true → left at.entry ≡ spelled (T.row_of x) ++ rest → option_map {U = T × List (List ℕ)} (λ r. (r.0, left r.1)) result ≡ Some (x, rest) }
+    ensures only { (x : T) (rest : List (List ℕ)) → row_fits (T.row_of x) ≡ true → left at.entry ≡ spelled (T.row_of x) ++ rest →
+        option_map {U = T × List (List ℕ)} (λ r. (r.0, left r.1)) result ≡ Some (x, rest) }
 {
     next_value(at)
 }

@@ -1,7 +1,8 @@
 //! Reading a text line by line, piece by piece.
 
 ghost use Rattle.std.specs.Prelude.{◌≡◌, ◌<◌, ◌≤◌, ◌++◌, ◌∷◌, ℕ, List, [], true, false, length, None, Ok, Err, IfSome, OnOk};
-ghost use Rattle.scripts.specs.LineMachine.{RefusesText, RefusesLine, Passes, IsKept, IsShort, HasTaken, TakesText};
+ghost use Rattle.scripts.specs.LineMachine.{RefusesText, RefusesLine, Passes, IsShort, TakesText};
+ghost use Rattle.scripts.specs.Pieces.{HasFed, Keeps};
 ghost use Rattle.scripts.specs.Words.{NoEnd};
 
 use crate::text::split::split_line;
@@ -77,7 +78,7 @@ pub(crate) struct Pieces<L: TakesLines> {
 impl<L: TakesLines> Pieces<L> {
     /// Nothing was taken yet.
     pub(crate) fn new(alloc: Global, lines: L) -> Pieces<L>
-        ensures taken { HasTaken L.takes lines [] result.lines result.number result.passing result.pending.items }
+        ensures taken { HasFed L.takes lines [] result }
         ensures empty { result.pending.items ≡ [] }
     {
         Pieces {
@@ -97,8 +98,9 @@ impl<L: TakesLines> Pieces<L> {
 
     /// Whether the text ends with the end of a line, or is empty.
     pub(crate) fn is_whole(&self) -> bool
-        ensures whole { (start : L) (text : List ℕ) → HasTaken L.takes start text self.now.lines self.now.number self.now.passing self.now.pending.items → result ≡ true → TakesText L.takes text start 1 [] self.now.lines self.now.number }
-        ensures unended { (start : L) (text : List ℕ) (taken : HasTaken L.takes start text self.now.lines self.now.number self.now.passing self.now.pending.items) → result ≡ false → 0 < length taken.unended }
+        ensures whole { (start : L) (text : List ℕ) → HasFed L.takes start text self.now → result ≡ true →
+            TakesText L.takes text start 1 [] self.now.lines self.now.number }
+        ensures unended { (start : L) (text : List ℕ) (taken : HasFed L.takes start text self.now) → result ≡ false → 0 < length taken.unended }
     {
         !self.passing && self.pending.is_empty()
     }
@@ -115,8 +117,9 @@ impl<L: TakesLines> Pieces<L> {
     pub(crate) fn feed(&mut self, piece: &[u8]) -> Result<(), PieceFault>
         requires { NoEnd self.old.pending.items }
         ensures no_end { OnOk result (NoEnd self.new.pending.items) }
-        ensures ok { (start : L) (text : List ℕ) → HasTaken L.takes start text self.old.lines self.old.number self.old.passing self.old.pending.items → OnOk result (HasTaken L.takes start (text ++ piece.now) self.new.lines self.new.number self.new.passing self.new.pending.items) }
-        ensures refused { (start : L) (text : List ℕ) (n : ℕ) → HasTaken L.takes start text self.old.lines self.old.number self.old.passing self.old.pending.items → result ≡ Err (PieceFault.Line n) → RefusesLine L.takes L.refuses L.fits (text ++ piece.now) start 1 n }
+        ensures ok { (start : L) (text : List ℕ) → HasFed L.takes start text self.old → OnOk result (HasFed L.takes start (text ++ piece.now) self.new) }
+        ensures refused { (start : L) (text : List ℕ) (n : ℕ) → HasFed L.takes start text self.old → result ≡ Err (PieceFault.Line n) →
+            RefusesLine L.takes L.refuses L.fits (text ++ piece.now) start 1 n }
         ensures short { IsShort L.fits self.old.pending.items → OnOk result (IsShort L.fits self.new.pending.items) }
     {
         let mut rest = piece;
@@ -135,8 +138,10 @@ impl<L: TakesLines> Pieces<L> {
         requires pending { NoEnd self.old.pending.items }
         requires end { NoEnd end.now }
         ensures no_end { OnOk result (NoEnd self.new.pending.items) }
-        ensures ok { (start : L) (text : List ℕ) → HasTaken L.takes start text self.old.lines self.old.number self.old.passing self.old.pending.items → OnOk result (HasTaken L.takes start (text ++ (end.now ++ 10 ∷ [])) self.new.lines self.new.number self.new.passing self.new.pending.items) }
-        ensures refused { (start : L) (text after : List ℕ) (n : ℕ) → HasTaken L.takes start text self.old.lines self.old.number self.old.passing self.old.pending.items → result ≡ Err (PieceFault.Line n) → RefusesText L.takes L.refuses (text ++ (end.now ++ 10 ∷ after)) start 1 n }
+        ensures ok { (start : L) (text : List ℕ) → HasFed L.takes start text self.old →
+            OnOk result (HasFed L.takes start (text ++ (end.now ++ 10 ∷ [])) self.new) }
+        ensures refused { (start : L) (text after : List ℕ) (n : ℕ) → HasFed L.takes start text self.old → result ≡ Err (PieceFault.Line n) →
+            RefusesText L.takes L.refuses (text ++ (end.now ++ 10 ∷ after)) start 1 n }
         ensures short { IsShort L.fits self.old.pending.items → OnOk result (IsShort L.fits self.new.pending.items) }
     {
         match self.take(end) {
@@ -157,10 +162,10 @@ impl<L: TakesLines> Pieces<L> {
         requires end { NoEnd end.now }
         ensures number { self.new.number ≡ self.old.number }
         ensures passing { OnOk result (self.new.passing ≡ false) }
-        ensures pending { (unended : List ℕ) → IsKept L.takes self.old.lines unended self.old.passing self.old.pending.items → OnOk result (self.new.pending.items ≡ []) }
+        ensures pending { (unended : List ℕ) → Keeps L.takes self.old unended → OnOk result (self.new.pending.items ≡ []) }
         ensures no_end { OnOk result (NoEnd self.new.pending.items) }
-        ensures ok { (unended : List ℕ) → IsKept L.takes self.old.lines unended self.old.passing self.old.pending.items → OnOk result (L.takes (unended ++ end.now) self.old.lines self.new.lines) }
-        ensures refused { (unended : List ℕ) → IsKept L.takes self.old.lines unended self.old.passing self.old.pending.items → result ≡ Err LineFault.Refused → L.refuses (unended ++ end.now) self.old.lines }
+        ensures ok { (unended : List ℕ) → Keeps L.takes self.old unended → OnOk result (L.takes (unended ++ end.now) self.old.lines self.new.lines) }
+        ensures refused { (unended : List ℕ) → Keeps L.takes self.old unended → result ≡ Err LineFault.Refused → L.refuses (unended ++ end.now) self.old.lines }
         ensures short { IsShort L.fits self.old.pending.items → OnOk result (IsShort L.fits self.new.pending.items) }
     {
         if self.passing {
@@ -183,9 +188,10 @@ impl<L: TakesLines> Pieces<L> {
         ensures lines { self.new.lines ≡ self.old.lines }
         ensures number { self.new.number ≡ self.old.number }
         ensures no_end { OnOk result (NoEnd self.new.pending.items) }
-        ensures ok { (unended : List ℕ) → IsKept L.takes self.old.lines unended self.old.passing self.old.pending.items → OnOk result (IsKept L.takes self.new.lines (unended ++ bytes.now) self.new.passing self.new.pending.items) }
-        ensures refused { (unended : List ℕ) → IsKept L.takes self.old.lines unended self.old.passing self.old.pending.items → result ≡ Err LineFault.Refused → (more : List ℕ) → L.refuses ((unended ++ bytes.now) ++ more) self.old.lines }
-        ensures long { (unended : List ℕ) → IsKept L.takes self.old.lines unended self.old.passing self.old.pending.items → result ≡ Err LineFault.Refused → IsShort L.fits (unended ++ bytes.now) → ⊥ }
+        ensures ok { (unended : List ℕ) → Keeps L.takes self.old unended → OnOk result (Keeps L.takes self.new (unended ++ bytes.now)) }
+        ensures refused { (unended : List ℕ) → Keeps L.takes self.old unended → result ≡ Err LineFault.Refused → (more : List ℕ) →
+            L.refuses ((unended ++ bytes.now) ++ more) self.old.lines }
+        ensures long { (unended : List ℕ) → Keeps L.takes self.old unended → result ≡ Err LineFault.Refused → IsShort L.fits (unended ++ bytes.now) → ⊥ }
         ensures short { IsShort L.fits self.old.pending.items → OnOk result (IsShort L.fits self.new.pending.items) }
     {
         if self.passing {

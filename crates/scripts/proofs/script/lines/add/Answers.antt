@@ -5,8 +5,8 @@ use Rattle.std.proofs.lemmas.List.{map-set}
 use Rattle.std.proofs.lemmas.Option.{slice_get-map, slice_get_read}
 use Rattle.scripts.proofs.script.lines.add.Goals as goal
 
-pub returns-in-Ok-clause-ok : goal.returns-in-Ok-clause-ok
-returns-in-Ok-clause-ok c =
+pub returns-clause-ok : goal.returns-clause-ok
+returns-clause-ok c =
     let list = c.index_mut-list.result.now in
     let value = c.index_mut-list.ensures.value in
     let at : slice_get c.args.lists.now.items c.args.cpu ≡ Some list = slice_get_read c.args.lists.now.items (length c.args.lists.now.items) c.args.cpu list refl c.requires value in
@@ -14,5 +14,5 @@ returns-in-Ok-clause-ok c =
       script = list.items;
       is = slice_get-map (λ l. l.items) c.args.lists.now.items c.args.cpu ∙ ap (option_map (λ l. l.items)) at;
       room = omega (arith, c.len.ensures, c.if-len-ge-MOST_ENTRIES.false, list.ok.0);
-      added = map-set (λ l. l.items) c.args.lists.now.items c.args.cpu c.push.new.self ∙ ap (slice_set (map (λ l. l.items) c.args.lists.now.items) c.args.cpu) c.in-Ok.ensures.items;
+      added = map-set (λ l. l.items) c.args.lists.now.items c.args.cpu c.push.new.self ∙ ap (slice_set (map (λ l. l.items) c.args.lists.now.items) c.args.cpu) c.in_ok-push.ensures.items;
     }
