@@ -27,9 +27,7 @@ fn all_links<O: SeqObject>(
     requires { (x k : ℕ) (e : Shown O O.Params O.Call O.Reply) → slice_get (log_in x logs.now) k ≡ Some e → e.cpu < cpus }
     ensures { IfOk result (λ links. AreAllLinks cpus logs.now links.items) }
 {
-    let Ok(mut links) = Vec::with_capacity(alloc, logs.len()) else {
-        return Err(OutOfMemory);
-    };
+    let mut links = Vec::with_capacity(alloc, logs.len())?;
     for log in logs {
         links.push_reserved(links_of(alloc, cpus, log.as_slice())?);
     }
@@ -43,9 +41,7 @@ fn lengths<O: SeqObject>(
 ) -> Result<Vec<usize>, OutOfMemory>
     ensures { IfOk result (λ ends. ends.items ≡ map (λ log. length log) logs.now) }
 {
-    let Ok(mut ends) = Vec::with_capacity(alloc, logs.len()) else {
-        return Err(OutOfMemory);
-    };
+    let mut ends = Vec::with_capacity(alloc, logs.len())?;
     for log in logs {
         ends.push_reserved(log.as_slice().len());
     }

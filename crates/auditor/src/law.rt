@@ -12,15 +12,18 @@ use event_log::SeqObject;
 
 /// A sound run has none of the faults.
 pub fn sound_has_no_fault<O: SeqObject>()
-    ensures { (terms : List (Terms O O.Params O.Call O.Reply)) → (run : Run O O.Params O.Call O.Reply) → Sound O.SeqObject (opened_by terms) run → (f : Fault) → IsFault O.SeqObject (opened_by terms) run f → ⊥ }
+    ensures { (terms : List (Terms O O.Params O.Call O.Reply)) → (run : Run O O.Params O.Call O.Reply) →
+        Sound O.SeqObject (opened_by terms) run → (f : Fault) → IsFault O.SeqObject (opened_by terms) run f → ⊥ }
 {}
 
 /// A run whose logs are sound, whose entries are as they must be and whose events are all taken is sound.
 pub fn no_fault_is_sound<O: SeqObject>()
-    ensures { (terms : List (Terms O O.Params O.Call O.Reply)) → (run : Run O O.Params O.Call O.Reply) → HasNoFault O.SeqObject terms run → Sound O.SeqObject (opened_by terms) run }
+    ensures { (terms : List (Terms O O.Params O.Call O.Reply)) → (run : Run O O.Params O.Call O.Reply) →
+        HasNoFault O.SeqObject terms run → Sound O.SeqObject (opened_by terms) run }
 {}
 
 /// A run has one first fault at most.
 pub fn first_faults_agree<O: SeqObject>()
-    ensures { (objects : List (Opened O.Params)) → (run : Run O O.Params O.Call O.Reply) → (f g : Fault) → IsFirstFault O.SeqObject objects run f → IsFirstFault O.SeqObject objects run g → f ≡ g }
+    ensures { (objects : List (Opened O.Params)) → (run : Run O O.Params O.Call O.Reply) → (f g : Fault) →
+        IsFirstFault O.SeqObject objects run f → IsFirstFault O.SeqObject objects run g → f ≡ g }
 {}

@@ -19,9 +19,7 @@ fn terms_of(alloc: Global, settings: &Settings) -> Result<Vec<Terms<KernelObject
     ensures { IfOk result (λ terms. opened_by terms.items ≡ opened_of settings.now) }
 {
     let objects = settings.objects();
-    let Ok(mut terms) = Vec::with_capacity(alloc, objects.len()) else {
-        return Err(OutOfMemory);
-    };
+    let mut terms = Vec::with_capacity(alloc, objects.len())?;
     for object in objects {
         terms.push_reserved(Terms {
             params: object.params(),
@@ -37,7 +35,8 @@ fn audit_by<J: Replays<KernelObject>>(
     record: &Record,
 ) -> Result<Verdict, OutOfMemory>
     ensures sound { IfOk result (λ v. (v ≡ Verdict.Sound) ↔ Sound ⟦<KernelObject as SeqObject>⟧ (opened_of «record».now.settings) «record».now.run) }
-    ensures fault { (f : Fault) → IfOk result (λ v. (v ≡ Verdict.Unsound f) ↔ IsFirstFault ⟦<KernelObject as SeqObject>⟧ (opened_of «record».now.settings) «record».now.run f) }
+    ensures fault { (f : Fault) → IfOk result (λ v. (v ≡ Verdict.Unsound f) ↔
+        IsFirstFault ⟦<KernelObject as SeqObject>⟧ (opened_of «record».now.settings) «record».now.run f) }
     ensures told { IfOk result (CanBeTold «record».now.settings) }
 {
     let terms = terms_of(alloc, record.settings())?;
@@ -47,7 +46,8 @@ fn audit_by<J: Replays<KernelObject>>(
 /// Whether the record is sound, or else its first fault.
 pub fn audit(alloc: Global, record: &Record) -> Result<Verdict, OutOfMemory>
     ensures sound { IfOk result (λ v. (v ≡ Verdict.Sound) ↔ Sound ⟦<KernelObject as SeqObject>⟧ (opened_of «record».now.settings) «record».now.run) }
-    ensures fault { (f : Fault) → IfOk result (λ v. (v ≡ Verdict.Unsound f) ↔ IsFirstFault ⟦<KernelObject as SeqObject>⟧ (opened_of «record».now.settings) «record».now.run f) }
+    ensures fault { (f : Fault) → IfOk result (λ v. (v ≡ Verdict.Unsound f) ↔
+        IsFirstFault ⟦<KernelObject as SeqObject>⟧ (opened_of «record».now.settings) «record».now.run f) }
     ensures told { IfOk result (CanBeTold «record».now.settings) }
 {
     audit_by::<PlainObject>(alloc, record)

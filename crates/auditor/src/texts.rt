@@ -52,7 +52,8 @@ pub fn audit_text<R: Source>(alloc: Global, source: &mut R) -> Result<Verdict, T
     ensures verdict { IfOk result (IsVerdictOnText (R.remaining source.old)) }
     ensures fault { IfErr result (IsTextFault (R.remaining source.old)) }
     ensures only { (form : Form) (r : Shown) → RecordFitsIn form r → R.remaining source.old ≡ Some (text_in form r) → IsAudited r result }
-    ensures to_end { (result ≡ Err TextFault.OutOfMemory → ⊥) → (result ≡ Err TextFault.ReadFailed → ⊥) → IsReadOut (R.remaining source.old) (R.remaining source.new) }
+    ensures to_end { (result ≡ Err TextFault.OutOfMemory → ⊥) → (result ≡ Err TextFault.ReadFailed → ⊥) →
+        IsReadOut (R.remaining source.old) (R.remaining source.new) }
     ensures none_failed { OnOk result (R.failed source.new ≡ R.failed source.old) }
     ensures one_failed { result ≡ Err TextFault.ReadFailed → R.failed source.new ≡ counted true (R.failed source.old) }
     ensures no_other { (result ≡ Err TextFault.ReadFailed → ⊥) → R.failed source.new ≡ R.failed source.old }

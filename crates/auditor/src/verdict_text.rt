@@ -76,10 +76,8 @@ pub fn fault_text(alloc: Global, record: &Record, fault: &Fault) -> Result<Strin
     ensures { IfOk result (λ text. string_bytes text ≡ fault_text «record».now.settings fault.now) }
 {
     let mut text = String::new(alloc);
-    match put_fault(&mut text, record.settings(), *fault) {
-        Ok(()) => Ok(text),
-        Err(_) => Err(OutOfMemory),
-    }
+    put_fault(&mut text, record.settings(), *fault)?;
+    Ok(text)
 }
 
 /// `sound` or `unsound: FAULT`, with a line end.
@@ -88,8 +86,6 @@ pub fn verdict_line(alloc: Global, record: &Record, verdict: Verdict) -> Result<
     ensures { IfOk result (λ text. string_bytes text ≡ verdict_text «record».now.settings verdict) }
 {
     let mut text = String::new(alloc);
-    match put_verdict(&mut text, record.settings(), verdict) {
-        Ok(()) => Ok(text),
-        Err(_) => Err(OutOfMemory),
-    }
+    put_verdict(&mut text, record.settings(), verdict)?;
+    Ok(text)
 }

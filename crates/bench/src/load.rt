@@ -37,12 +37,10 @@ impl Load {
     {
         let most = MOST_EVENTS / u32::from(self.cpus);
         let whole = (self.calls / most) as usize;
-        let Ok(mut shares) = vec![in alloc; most; whole] else {
-            return Err(OutOfMemory);
-        };
+        let mut shares = vec![in alloc; most; whole]?;
         let rest = self.calls % most;
-        if rest > 0 && shares.push(rest).is_err() {
-            return Err(OutOfMemory);
+        if rest > 0 {
+            shares.push(rest)?;
         }
         Ok(shares)
     }

@@ -28,20 +28,11 @@ fn open_ticket(
     let Ok((cell, passes)) = TicketCell::new(alloc, queue, cpus, FIRST_TICKET) else {
         return Err(OutOfMemory);
     };
-    let Ok(shared) = Arc::new(alloc, cell) else {
-        return Err(OutOfMemory);
-    };
+    let shared = Arc::new(alloc, cell)?;
     let mut callers = Vec::new(alloc);
     for pass in passes {
-        let Ok(cell) = Arc::try_clone(&shared) else {
-            return Err(OutOfMemory);
-        };
-        if callers
-            .push(Caller::Ticket(ByTicket { cell, pass }))
-            .is_err()
-        {
-            return Err(OutOfMemory);
-        }
+        let cell = Arc::try_clone(&shared)?;
+        callers.push(Caller::Ticket(ByTicket { cell, pass }))?;
     }
     Ok(callers)
 }
@@ -53,17 +44,11 @@ fn open_mcs(alloc: Global, queue: Logged<ThreadQueue>, cpus: u8) -> Result<Vec<C
     let Ok((cell, passes)) = McsCell::new(alloc, queue, cpus) else {
         return Err(OutOfMemory);
     };
-    let Ok(shared) = Arc::new(alloc, cell) else {
-        return Err(OutOfMemory);
-    };
+    let shared = Arc::new(alloc, cell)?;
     let mut callers = Vec::new(alloc);
     for pass in passes {
-        let Ok(cell) = Arc::try_clone(&shared) else {
-            return Err(OutOfMemory);
-        };
-        if callers.push(Caller::Mcs(ByMcs { cell, pass })).is_err() {
-            return Err(OutOfMemory);
-        }
+        let cell = Arc::try_clone(&shared)?;
+        callers.push(Caller::Mcs(ByMcs { cell, pass }))?;
     }
     Ok(callers)
 }
@@ -80,17 +65,11 @@ fn open_any(
     let Ok((cell, passes)) = AnyCell::open(alloc, kind, queue, cpus) else {
         return Err(OutOfMemory);
     };
-    let Ok(shared) = Arc::new(alloc, cell) else {
-        return Err(OutOfMemory);
-    };
+    let shared = Arc::new(alloc, cell)?;
     let mut callers = Vec::new(alloc);
     for pass in passes {
-        let Ok(cell) = Arc::try_clone(&shared) else {
-            return Err(OutOfMemory);
-        };
-        if callers.push(Caller::Any(ByAny { cell, pass })).is_err() {
-            return Err(OutOfMemory);
-        }
+        let cell = Arc::try_clone(&shared)?;
+        callers.push(Caller::Any(ByAny { cell, pass }))?;
     }
     Ok(callers)
 }
@@ -100,17 +79,11 @@ fn open_mutex(
     queue: Logged<ThreadQueue>,
     cpus: u8,
 ) -> Result<Vec<Caller>, OutOfMemory> {
-    let Ok(shared) = Arc::new(alloc, Mutex::new(queue)) else {
-        return Err(OutOfMemory);
-    };
+    let shared = Arc::new(alloc, Mutex::new(queue))?;
     let mut callers = Vec::new(alloc);
     for _ in 0..cpus {
-        let Ok(queue) = Arc::try_clone(&shared) else {
-            return Err(OutOfMemory);
-        };
-        if callers.push(Caller::Mutex(queue)).is_err() {
-            return Err(OutOfMemory);
-        }
+        let queue = Arc::try_clone(&shared)?;
+        callers.push(Caller::Mutex(queue))?;
     }
     Ok(callers)
 }

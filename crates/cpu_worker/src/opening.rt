@@ -20,9 +20,9 @@ fn make_rows<T: Drop>(alloc: Global, cpus: u8, objects: usize) -> Result<Vec<Vec
     ensures count { IfOk result (λ rows. vec_len rows ≡ cpus) }
     ensures each { IfOk result (λ rows. AllByRecursion (λ r. (r.items ≡ []) × (objects ≤ vec_capacity r)) rows.items) }
 {
-    let mut rows = Vec::with_capacity(alloc, cpus as usize).map_err(|_| OutOfMemory)?;
+    let mut rows = Vec::with_capacity(alloc, cpus as usize)?;
     for _ in 0..cpus {
-        let row = Vec::with_capacity(alloc, objects).map_err(|_| OutOfMemory)?;
+        let row = Vec::with_capacity(alloc, objects)?;
         rows.push_reserved(row);
     }
     Ok(rows)
@@ -33,7 +33,9 @@ fn deal<T: Drop>(rows: &mut Vec<Vec<T>>, elements: Vec<T>)
     requires count { vec_len elements ≡ vec_len rows.old }
     requires room { AllByRecursion (λ r. length r.items < vec_capacity r) rows.old.items }
     ensures count { vec_len rows.new ≡ vec_len rows.old }
-    ensures dealt { (k : ℕ) (old new : Vec T Global) (x : T) → slice_get rows.old.items k ≡ Some old → slice_get rows.new.items k ≡ Some new → slice_get elements.items k ≡ Some x → (new.items ≡ old.items ++ x ∷ []) × (vec_capacity new ≡ vec_capacity old) }
+    ensures dealt { (k : ℕ) (old new : Vec T Global) (x : T) →
+        slice_get rows.old.items k ≡ Some old → slice_get rows.new.items k ≡ Some new → slice_get elements.items k ≡ Some x →
+        (new.items ≡ old.items ++ x ∷ []) × (vec_capacity new ≡ vec_capacity old) }
 {
     let mut k = 0;
     for x in elements {
@@ -52,7 +54,7 @@ pub fn open_cells(
     ensures rows { IfOk result (λ r. EachAt (λ k row. IsRow IsPassOf view_of_pass (cells_for settings.now) r.0.items k row.items) r.1.items) }
 {
     let objects = settings.objects().len();
-    let mut cells = Vec::with_capacity(alloc, objects).map_err(|_| OutOfMemory)?;
+    let mut cells = Vec::with_capacity(alloc, objects)?;
     let mut rows = make_rows(alloc, settings.cpus(), objects)?;
     for object in settings.objects() {
         let logged = open_object(alloc, object)?;
@@ -76,11 +78,11 @@ pub fn make_jobs(
     ensures rows { IfOk result (λ jobs. map (λ j. j.passes.items) jobs.items ≡ map (λ r. r.items) rows.items) }
     ensures room { IfOk result (λ jobs. AllByRecursion (λ j. (j.transcript.items ≡ []) × (length j.todos.items ≤ vec_capacity j.transcript)) jobs.items) }
 {
-    let mut jobs = Vec::with_capacity(alloc, scripts.len()).map_err(|_| OutOfMemory)?;
+    let mut jobs = Vec::with_capacity(alloc, scripts.len())?;
     let mut rows = rows.into_iter();
     for todos in scripts {
         let passes = rows.next().unwrap();
-        let transcript = Vec::with_capacity(alloc, todos.len()).map_err(|_| OutOfMemory)?;
+        let transcript = Vec::with_capacity(alloc, todos.len())?;
         jobs.push_reserved(Job {
             passes,
             todos,
@@ -104,9 +106,9 @@ pub fn make_room(alloc: Global, cpus: usize, objects: usize) -> Result<Room, Out
     ensures transcripts { IfOk result (λ r. (r.transcripts.items ≡ []) × (cpus ≤ vec_capacity r.transcripts)) }
     ensures logs { IfOk result (λ r. (r.logs.items ≡ []) × (objects ≤ vec_capacity r.logs)) }
 {
-    let finished = Vec::with_capacity(alloc, cpus).map_err(|_| OutOfMemory)?;
-    let transcripts = Vec::with_capacity(alloc, cpus).map_err(|_| OutOfMemory)?;
-    let logs = Vec::with_capacity(alloc, objects).map_err(|_| OutOfMemory)?;
+    let finished = Vec::with_capacity(alloc, cpus)?;
+    let transcripts = Vec::with_capacity(alloc, cpus)?;
+    let logs = Vec::with_capacity(alloc, objects)?;
     Ok(Room {
         finished,
         transcripts,
@@ -118,5 +120,5 @@ pub fn make_room(alloc: Global, cpus: usize, objects: usize) -> Result<Room, Out
 pub fn make_handles(alloc: Global, cpus: usize) -> Result<Vec<Handle>, OutOfMemory>
     ensures { IfOk result (λ handles. (handles.items ≡ []) × (cpus ≤ vec_capacity handles)) }
 {
-    Vec::with_capacity(alloc, cpus).map_err(|_| OutOfMemory)
+    Ok(Vec::with_capacity(alloc, cpus)?)
 }

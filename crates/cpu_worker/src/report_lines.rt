@@ -24,23 +24,18 @@ fn put_object(text: &mut String, object: &ObjectSettings, sums: Sums) -> Result<
         looks,
         most,
     } = sums;
-    match writeln!(
+    writeln!(
         text,
         "{name} {lock} entries {entries} noroom {noroom} looks {looks} most {most}"
-    ) {
-        Ok(()) => Ok(()),
-        Err(_) => Err(OutOfMemory),
-    }
+    )
+    .map_err(|_| OutOfMemory)
 }
 
 /// Puts the last line.
 fn put_run(text: &mut String, cpus: u8, entries: usize) -> Result<(), OutOfMemory>
     ensures { OnOk result (string_bytes text.new ≡ string_bytes text.old ++ (sentence (run_words cpus entries) ++ 10 ∷ [])) }
 {
-    match writeln!(text, "cpus {cpus} entries {entries}") {
-        Ok(()) => Ok(()),
-        Err(_) => Err(OutOfMemory),
-    }
+    writeln!(text, "cpus {cpus} entries {entries}").map_err(|_| OutOfMemory)
 }
 
 /// The number of all entries.

@@ -90,7 +90,8 @@ fn do_job<G: Gate, R: Wait>(
 /// Waits for all workers. There is room for what they leave.
 fn join_all<R: Threads>(rt: &R, handles: Vec<Handle>, finished: Vec<Finished>) -> Vec<Finished>
     requires room { (finished.items ≡ []) × (vec_len handles ≤ vec_capacity finished) }
-    ensures { AllZip (λ h r. IsDone IsPassOf view_of_pass h.promise.cells.value.items h.promise.job.value.passes.items h.promise.job.value.todos.items r.0.items r.1.items) handles.items result.items }
+    ensures { AllZip (λ h r. IsDone IsPassOf view_of_pass h.promise.cells.value.items
+        h.promise.job.value.passes.items h.promise.job.value.todos.items r.0.items r.1.items) handles.items result.items }
 {
     let mut finished = finished;
     for handle in handles {
@@ -111,10 +112,12 @@ pub fn on_threads<G: Gate + Sync, S: Starter, R: Threads + Wait + Sync>(
     finished: Vec<Finished>,
 ) -> Result<Vec<Finished>, RunFault>
     requires few { vec_len jobs ≤ MOST_CPUS }
-    requires ready { AllByRecursion (λ j. IsReady IsPassOf cells.now.items j.passes.items j.todos.items j.transcript.items (vec_capacity j.transcript)) jobs.items }
+    requires ready { AllByRecursion (λ j. IsReady IsPassOf cells.now.items j.passes.items j.todos.items
+        j.transcript.items (vec_capacity j.transcript)) jobs.items }
     requires handles { (handles.items ≡ []) × (vec_len jobs ≤ vec_capacity handles) }
     requires finished { (finished.items ≡ []) × (vec_len jobs ≤ vec_capacity finished) }
-    ensures done { IfOk result (λ r. AllZip (λ j f. IsDone IsPassOf view_of_pass cells.now.items j.passes.items j.todos.items f.0.items f.1.items) jobs.items r.items) }
+    ensures done { IfOk result (λ r. AllZip (λ j f. IsDone IsPassOf view_of_pass cells.now.items
+        j.passes.items j.todos.items f.0.items f.1.items) jobs.items r.items) }
     ensures cpu { (cpu : ℕ) → result ≡ Err (RunFault.NoThreadStarted cpu) → cpu < length jobs.items }
     ensures allowed { IfOk result (λ _. AllowedBelow (S.allows starter.now) (length jobs.items)) }
     ensures least { (cpu : ℕ) → result ≡ Err (RunFault.NoThreadStarted cpu) → AllowedBelow (S.allows starter.now) cpu }
@@ -126,10 +129,12 @@ pub fn on_threads<G: Gate + Sync, S: Starter, R: Threads + Wait + Sync>(
             requires shares { IsSync R.row }
             requires gate { IsSync G.row }
             requires few { vec_len jobs ≤ MOST_CPUS }
-            requires ready { AllByRecursion (λ j. IsReady IsPassOf cells.now.items j.passes.items j.todos.items j.transcript.items (vec_capacity j.transcript)) jobs.items }
+            requires ready { AllByRecursion (λ j. IsReady IsPassOf cells.now.items j.passes.items j.todos.items
+                j.transcript.items (vec_capacity j.transcript)) jobs.items }
             requires handles { (handles.items ≡ []) × (vec_len jobs ≤ vec_capacity handles) }
             requires finished { (finished.items ≡ []) × (vec_len jobs ≤ vec_capacity finished) }
-            ensures done { IfOk result (λ r. AllZip (λ j f. IsDone IsPassOf view_of_pass cells.entry.now.items j.passes.items j.todos.items f.0.items f.1.items) jobs.items r.items) }
+            ensures done { IfOk result (λ r. AllZip (λ j f. IsDone IsPassOf view_of_pass cells.entry.now.items
+                j.passes.items j.todos.items f.0.items f.1.items) jobs.items r.items) }
             ensures cpu { (cpu : ℕ) → result ≡ Err (RunFault.NoThreadStarted cpu) → cpu < length jobs.items }
             ensures allowed { IfOk result (λ _. AllowedBelow (S.allows starter.entry.now) (length jobs.items)) }
             ensures least { (cpu : ℕ) → result ≡ Err (RunFault.NoThreadStarted cpu) → AllowedBelow (S.allows starter.entry.now) cpu }

@@ -49,8 +49,6 @@ pub fn cycle_text(alloc: Global, cycle: &[Place]) -> Result<String, OutOfMemory>
     ensures { IfOk result (λ text. string_bytes text ≡ cycle_text cycle.now) }
 {
     let mut text = String::new(alloc);
-    match put_cycle(&mut text, cycle) {
-        Ok(()) => Ok(text),
-        Err(_) => Err(OutOfMemory),
-    }
+    put_cycle(&mut text, cycle)?;
+    Ok(text)
 }

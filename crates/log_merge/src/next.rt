@@ -57,7 +57,9 @@ pub(crate) fn first_ready<O: SeqObject>(
     placed: &[usize],
 ) -> Option<usize>
     requires { IsReady run.now at.now placed.now }
-    ensures { MatchOption result ((cpu : ℕ) → CanCome run.now (slice_index at.now) (slice_index placed.now) cpu → ⊥) (λ c. (c < length at.now) × CanCome run.now (slice_index at.now) (slice_index placed.now) c × ((cpu : ℕ) → cpu < c → CanCome run.now (slice_index at.now) (slice_index placed.now) cpu → ⊥)) }
+    ensures { MatchOption result ((cpu : ℕ) → CanCome run.now (slice_index at.now) (slice_index placed.now) cpu → ⊥)
+        (λ c. (c < length at.now) × CanCome run.now (slice_index at.now) (slice_index placed.now) c ×
+        ((cpu : ℕ) → cpu < c → CanCome run.now (slice_index at.now) (slice_index placed.now) cpu → ⊥)) }
 {
     for cpu in 0..at.len() {
         if let Next::Comes = next_of(run, at, placed, cpu) {
@@ -70,7 +72,8 @@ pub(crate) fn first_ready<O: SeqObject>(
 /// The least CPU that has entries left.
 pub(crate) fn first_left<O: SeqObject>(run: &Run<O>, at: &[usize]) -> Option<usize>
     requires { length at.now ≡ length run.now.transcripts }
-    ensures { MatchOption result ((cpu : ℕ) → length (transcript_of cpu run.now) ≤ slice_index at.now cpu) (λ c. (c < length at.now) × IsLeastLeft run.now (slice_index at.now) c) }
+    ensures { MatchOption result ((cpu : ℕ) → length (transcript_of cpu run.now) ≤ slice_index at.now cpu)
+        (λ c. (c < length at.now) × IsLeastLeft run.now (slice_index at.now) c) }
 {
     for (cpu, n) in at.iter().enumerate() {
         if entry_at(run, cpu, *n).is_some() {

@@ -48,11 +48,14 @@ impl From<OutOfMemory> for MergeFault {
 /// room behind all that were done on their object. At each place stands the least CPU that can come. A sound record that has
 /// an order is refused for want of memory alone.
 pub fn merge(alloc: Global, record: &Record) -> Result<Merged, MergeFault>
-    ensures unsound { (f : Fault) → result ≡ Err (MergeFault.Unsound f) → IsFirstFault ⟦<KernelObject as SeqObject>⟧ (opened_of «record».now.settings) «record».now.run f }
+    ensures unsound { (f : Fault) → result ≡ Err (MergeFault.Unsound f) →
+        IsFirstFault ⟦<KernelObject as SeqObject>⟧ (opened_of «record».now.settings) «record».now.run f }
     ensures told { (f : Fault) → result ≡ Err (MergeFault.Unsound f) → IsNamed «record».now.settings f }
     ensures order { IfOk result (λ m. IsMerged ⟦<KernelObject as SeqObject>⟧ (opened_of «record».now.settings) «record».now.run m.places) }
-    ensures cycle { (c : List Place) → result ≡ Err (MergeFault.Cycle c) → HasCycle ⟦<KernelObject as SeqObject>⟧ (opened_of «record».now.settings) «record».now.run c }
-    ensures given { Sound ⟦<KernelObject as SeqObject>⟧ (opened_of «record».now.settings) «record».now.run → HasOrder «record».now.run → IfErr result (λ f. f ≡ MergeFault.OutOfMemory) }
+    ensures cycle { (c : List Place) → result ≡ Err (MergeFault.Cycle c) →
+        HasCycle ⟦<KernelObject as SeqObject>⟧ (opened_of «record».now.settings) «record».now.run c }
+    ensures given { Sound ⟦<KernelObject as SeqObject>⟧ (opened_of «record».now.settings) «record».now.run → HasOrder «record».now.run →
+        IfErr result (λ f. f ≡ MergeFault.OutOfMemory) }
     ensures few { (c : List Place) → result ≡ Err (MergeFault.Cycle c) → AllByRecursion (λ p. p.entry < MOST_ENTRIES) c }
 {
     let verdict = audit(alloc, record)?;

@@ -1,3 +1,4 @@
 pub mod Answers
+pub mod BadInputs
 pub mod Faults
 pub mod Printed

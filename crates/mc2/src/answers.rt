@@ -1,21 +1,17 @@
 //! What the program answers: the record of a run or of a simulation, a record that is read, and the report on it, its verdict
 //! or its order.
 
-ghost use Rattle.std.specs.Prelude.{◌≡◌, ◌<◌, ℕ, List, Some, IfOk, IfErr, string_bytes};
-ghost use Rattle.mc2.specs.Answers.{Reads, ReadsSettings, ReadsScripts, ReadsRecord, AnswersRun, AnswersSim, AnswersReport, AnswersAudit, AnswersMerge, RefusesUnsound, RefusesCycle, bytes_of};
+ghost use Rattle.std.specs.Prelude.{◌≡◌, ℕ, Some, IfOk, IfErr, string_bytes};
+ghost use Rattle.mc2.specs.Answers.{ReadsRecord, AnswersRun, AnswersSim, AnswersReport, AnswersAudit, AnswersMerge, RefusesUnsound, RefusesCycle, bytes_of};
+ghost use Rattle.mc2.specs.BadInputs.{AreBadSettings, AreBadScripts, IsBadSchedule, IsBadRecord, HasCpu};
 ghost use Rattle.mc2.specs.Faults.{IsRefusal};
-ghost use Rattle.scripts.specs.RecordFaults.{IsBadLine};
-ghost use Rattle.scripts.specs.ScheduleText.{IsFirstBadWord};
-ghost use Rattle.scripts.specs.ScriptText.{IsFirstBad};
-ghost use Rattle.scripts.specs.Settings.{Settings};
-ghost use Rattle.scripts.specs.SettingsText.{IsSettingsFault};
 ghost use Rattle.scripts.specs.declared.settings.fault.BadSettings.{BadSettings};
 
 use crate::Inputs;
 use crate::fault::Fault;
 use crate::input::{read_input, read_record, read_scripts, read_settings};
 use auditor::{Verdict, audit, fault_text, verdict_line};
-use cpu_worker::{OpenGate, report, run, simulate};
+use cpu_worker::{AlwaysAllowed, OpenGate, report, run_owned, simulate};
 use log_merge::{MergeFault, Merged, cycle_text, merge};
 use scripts::{Record, Schedule};
 use std::alloc::Global;
@@ -32,14 +28,14 @@ pub fn run_answer<R: Threads + Wait + Sync, I: Inputs>(
     scripts: Option<&str>,
 ) -> Result<Record, Fault>
     ensures answer { IfOk result (AnswersRun (I.held inputs.old) (bytes_of settings.entry) (bytes_of scripts.entry)) }
-    ensures bad_settings { (bad : BadSettings) → result ≡ Err (Fault.BadSettings bad) → (text : List ℕ) × Reads (I.held inputs.old) (bytes_of settings.entry) text × IsSettingsFault text bad }
-    ensures bad_scripts { (n : ℕ) → result ≡ Err (Fault.BadScripts n) → (given : Settings) × ReadsSettings (I.held inputs.old) (bytes_of settings.entry) given × (text : List ℕ) × Reads (I.held inputs.old) (bytes_of scripts.entry) text × IsFirstBad given text n }
-    ensures cpu { (cpu : ℕ) → result ≡ Err (Fault.NoThreadStarted cpu) → (given : Settings) × ReadsSettings (I.held inputs.old) (bytes_of settings.entry) given × ReadsScripts (I.held inputs.old) (bytes_of scripts.entry) given × (cpu < given.cpus) }
+    ensures bad_settings { (bad : BadSettings) → result ≡ Err (Fault.BadSettings bad) → AreBadSettings (I.held inputs.old) (bytes_of settings.entry) bad }
+    ensures bad_scripts { (n : ℕ) → result ≡ Err (Fault.BadScripts n) → AreBadScripts (I.held inputs.old) (bytes_of settings.entry) (bytes_of scripts.entry) n }
+    ensures cpu { (cpu : ℕ) → result ≡ Err (Fault.NoThreadStarted cpu) → HasCpu (I.held inputs.old) (bytes_of settings.entry) (bytes_of scripts.entry) cpu }
     ensures refusal { IfErr result IsRefusal }
 {
     let settings = read_settings(alloc, inputs, settings)?;
     let scripts = read_scripts(alloc, inputs, scripts, &settings)?;
-    let record = run(rt, alloc, &settings, &scripts, &OpenGate)?;
+    let record = run_owned(rt, alloc, settings, scripts, &OpenGate, &AlwaysAllowed)?;
     Ok(record)
 }
 
@@ -53,9 +49,9 @@ pub fn sim_answer<I: Inputs>(
     schedule: &str,
 ) -> Result<Record, Fault>
     ensures answer { IfOk result (AnswersSim (I.held inputs.old) settings.now scripts.now schedule.now) }
-    ensures bad_settings { (bad : BadSettings) → result ≡ Err (Fault.BadSettings bad) → (text : List ℕ) × Reads (I.held inputs.old) (Some settings.now) text × IsSettingsFault text bad }
-    ensures bad_scripts { (n : ℕ) → result ≡ Err (Fault.BadScripts n) → (given : Settings) × ReadsSettings (I.held inputs.old) (Some settings.now) given × (text : List ℕ) × Reads (I.held inputs.old) (Some scripts.now) text × IsFirstBad given text n }
-    ensures bad_schedule { (n : ℕ) → result ≡ Err (Fault.BadSchedule n) → (given : Settings) × ReadsSettings (I.held inputs.old) (Some settings.now) given × ReadsScripts (I.held inputs.old) (Some scripts.now) given × (text : List ℕ) × Reads (I.held inputs.old) (Some schedule.now) text × IsFirstBadWord given.cpus text n }
+    ensures bad_settings { (bad : BadSettings) → result ≡ Err (Fault.BadSettings bad) → AreBadSettings (I.held inputs.old) (Some settings.now) bad }
+    ensures bad_scripts { (n : ℕ) → result ≡ Err (Fault.BadScripts n) → AreBadScripts (I.held inputs.old) (Some settings.now) (Some scripts.now) n }
+    ensures bad_schedule { (n : ℕ) → result ≡ Err (Fault.BadSchedule n) → IsBadSchedule (I.held inputs.old) (Some settings.now) (Some scripts.now) (Some schedule.now) n }
     ensures refusal { IfErr result IsRefusal }
 {
     let settings = read_settings(alloc, inputs, Some(settings))?;
@@ -73,7 +69,7 @@ pub fn report_answer<I: Inputs>(
     record: Option<&str>,
 ) -> Result<String, Fault>
     ensures answer { IfOk result (λ text. AnswersReport (I.held inputs.old) (bytes_of «record».entry) (string_bytes text)) }
-    ensures bad_record { (n : ℕ) → result ≡ Err (Fault.BadRecord n) → (bytes : List ℕ) × Reads (I.held inputs.old) (bytes_of «record».entry) bytes × IsBadLine bytes n }
+    ensures bad_record { (n : ℕ) → result ≡ Err (Fault.BadRecord n) → IsBadRecord (I.held inputs.old) (bytes_of «record».entry) n }
     ensures refusal { IfErr result IsRefusal }
 {
     let record = read_record(alloc, inputs, record)?;
@@ -88,7 +84,7 @@ pub fn upgrade_answer<I: Inputs>(
     record: Option<&str>,
 ) -> Result<Record, Fault>
     ensures answer { IfOk result (ReadsRecord (I.held inputs.old) (bytes_of «record».entry)) }
-    ensures bad_record { (n : ℕ) → result ≡ Err (Fault.BadRecord n) → (bytes : List ℕ) × Reads (I.held inputs.old) (bytes_of «record».entry) bytes × IsBadLine bytes n }
+    ensures bad_record { (n : ℕ) → result ≡ Err (Fault.BadRecord n) → IsBadRecord (I.held inputs.old) (bytes_of «record».entry) n }
     ensures refusal { IfErr result IsRefusal }
 {
     read_record(alloc, inputs, record)
@@ -101,7 +97,7 @@ pub fn audit_answer<I: Inputs>(
     record: Option<&str>,
 ) -> Result<(Verdict, String), Fault>
     ensures answer { IfOk result (λ a. AnswersAudit (I.held inputs.old) (bytes_of «record».entry) a.0 (string_bytes a.1)) }
-    ensures bad_record { (n : ℕ) → result ≡ Err (Fault.BadRecord n) → (bytes : List ℕ) × Reads (I.held inputs.old) (bytes_of «record».entry) bytes × IsBadLine bytes n }
+    ensures bad_record { (n : ℕ) → result ≡ Err (Fault.BadRecord n) → IsBadRecord (I.held inputs.old) (bytes_of «record».entry) n }
     ensures refusal { IfErr result IsRefusal }
 {
     let record = read_record(alloc, inputs, record)?;
@@ -119,7 +115,7 @@ pub fn merge_answer<I: Inputs>(
     ensures answer { IfOk result (λ a. AnswersMerge (I.held inputs.old) (bytes_of «record».entry) a.0 a.1.places) }
     ensures unsound { (text : _) → result ≡ Err (Fault.Unsound text) → RefusesUnsound (I.held inputs.old) (bytes_of «record».entry) (string_bytes text) }
     ensures cycle { (text : _) → result ≡ Err (Fault.Cycle text) → RefusesCycle (I.held inputs.old) (bytes_of «record».entry) (string_bytes text) }
-    ensures bad_record { (n : ℕ) → result ≡ Err (Fault.BadRecord n) → (bytes : List ℕ) × Reads (I.held inputs.old) (bytes_of «record».entry) bytes × IsBadLine bytes n }
+    ensures bad_record { (n : ℕ) → result ≡ Err (Fault.BadRecord n) → IsBadRecord (I.held inputs.old) (bytes_of «record».entry) n }
     ensures no_write { result ≡ Err Fault.WriteFailed → ⊥ }
 {
     let record = read_record(alloc, inputs, record)?;

@@ -39,9 +39,11 @@ pub fn command<R: Threads + Wait + Sync, I: Inputs, W: Sink, F: Sink>(
     ensures done { result ≡ 0 → Prints (Answers (I.held inputs.old)) (W.contents out.old) (W.contents out.new) }
     ensures none_failed { result ≤ 1 → W.failed out.new ≡ W.failed out.old }
     ensures no_line { result ≡ 0 → faults.new ≡ faults.old }
-    ensures found { result ≡ 1 → (Prints (Finds (I.held inputs.old)) (W.contents out.old) (W.contents out.new) × (faults.new ≡ faults.old)) ⊎ ((out.new ≡ out.old) × FindsNoOrder (I.held inputs.old)) }
+    ensures found { result ≡ 1 → (Prints (Finds (I.held inputs.old)) (W.contents out.old) (W.contents out.new) × (faults.new ≡ faults.old))
+        ⊎ ((out.new ≡ out.old) × FindsNoOrder (I.held inputs.old)) }
     ensures nothing_written { result ≡ 2 → out.new ≡ out.old }
-    ensures failed { result ≡ 3 → (out.new ≡ out.old) ⊎ (PrintsAnySome (I.held inputs.old) (W.contents out.old) (W.contents out.new) × (W.failed out.new ≡ counted true (W.failed out.old))) }
+    ensures failed { result ≡ 3 → (out.new ≡ out.old)
+        ⊎ (PrintsAnySome (I.held inputs.old) (W.contents out.old) (W.contents out.new) × (W.failed out.new ≡ counted true (W.failed out.old))) }
     ensures statuses { result ≤ 3 }
 {
     match perform(rt, alloc, words, inputs, out) {

@@ -3,9 +3,8 @@
 ghost use Rattle.std.specs.Prelude.{◌≡◌, ℕ, List, Option, Some, None, length, IfOk, IfErr};
 ghost use Rattle.scripts.specs.ScriptFaults.{SpellsRest, NamesFirstBadOfRest};
 ghost use Rattle.scripts.specs.ScriptText.{ScriptsFit};
-ghost use Rattle.scripts.specs.SettingsText.{IsSettingsFault};
 ghost use Rattle.scripts.specs.declared.settings.fault.BadSettings.{BadSettings};
-ghost use Rattle.scripts.specs.RecordFaults.{IsBadLine};
+ghost use Rattle.mc2.specs.BadInputs.{AreBadSettings, IsBadRecord};
 ghost use Rattle.mc2.specs.Answers.{Reads, ReadsSettings, ReadsRecord, bytes_of};
 ghost use Rattle.mc2.specs.Faults.{IsOfSettings, IsOfRecord};
 
@@ -54,7 +53,7 @@ pub fn read_settings<I: Inputs>(
     name: Option<&str>,
 ) -> Result<Settings, Fault>
     ensures found { IfOk result (ReadsSettings (I.held inputs.old) (bytes_of name.entry)) }
-    ensures refused { (bad : BadSettings) → result ≡ Err (Fault.BadSettings bad) → (text : List ℕ) × Reads (I.held inputs.old) (bytes_of name.entry) text × IsSettingsFault text bad }
+    ensures refused { (bad : BadSettings) → result ≡ Err (Fault.BadSettings bad) → AreBadSettings (I.held inputs.old) (bytes_of name.entry) bad }
     ensures fault { IfErr result IsOfSettings }
     ensures same { (other : Option (List ℕ)) → I.held inputs.new other ≡ I.held inputs.old other }
 {
@@ -90,7 +89,7 @@ pub fn read_record<I: Inputs>(
     name: Option<&str>,
 ) -> Result<Record, Fault>
     ensures found { IfOk result (ReadsRecord (I.held inputs.old) (bytes_of name.entry)) }
-    ensures bad { (n : ℕ) → result ≡ Err (Fault.BadRecord n) → (bytes : List ℕ) × Reads (I.held inputs.old) (bytes_of name.entry) bytes × IsBadLine bytes n }
+    ensures bad { (n : ℕ) → result ≡ Err (Fault.BadRecord n) → IsBadRecord (I.held inputs.old) (bytes_of name.entry) n }
     ensures fault { IfErr result IsOfRecord }
 {
     match inputs.input(name) {

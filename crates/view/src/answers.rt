@@ -61,7 +61,8 @@ pub fn timeline_answer<I: Inputs>(
     inputs: &mut I,
     record: Option<&str>,
 ) -> Result<String, Fault>
-    ensures bad_record { (n : ℕ) → result ≡ Err (Fault.BadRecord n) → (bytes : List ℕ) × Reads (I.held inputs.old) (bytes_of «record».entry) bytes × IsBadLine bytes n }
+    ensures bad_record { (n : ℕ) → result ≡ Err (Fault.BadRecord n) →
+        (bytes : List ℕ) × Reads (I.held inputs.old) (bytes_of «record».entry) bytes × IsBadLine bytes n }
 {
     let record = read_record(alloc, inputs, record)?;
     match timeline(alloc, &record) {
@@ -76,7 +77,8 @@ pub fn trace_answer<I: Inputs>(
     inputs: &mut I,
     record: Option<&str>,
 ) -> Result<String, Fault>
-    ensures bad_record { (n : ℕ) → result ≡ Err (Fault.BadRecord n) → (bytes : List ℕ) × Reads (I.held inputs.old) (bytes_of «record».entry) bytes × IsBadLine bytes n }
+    ensures bad_record { (n : ℕ) → result ≡ Err (Fault.BadRecord n) →
+        (bytes : List ℕ) × Reads (I.held inputs.old) (bytes_of «record».entry) bytes × IsBadLine bytes n }
 {
     let record = read_record(alloc, inputs, record)?;
     match merge(alloc, &record) {

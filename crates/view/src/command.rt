@@ -32,7 +32,8 @@ pub fn command<I: Inputs, W: Sink, F: Sink>(
     ensures no_line { result ≡ 0 → faults.new ≡ faults.old }
     ensures found { result ≡ 1 → out.new ≡ out.old }
     ensures nothing_written { result ≡ 2 → out.new ≡ out.old }
-    ensures failed { result ≡ 3 → (out.new ≡ out.old) ⊎ (PrintsSome (W.contents out.old) (W.contents out.new) × (W.failed out.new ≡ counted true (W.failed out.old))) }
+    ensures failed { result ≡ 3 → (out.new ≡ out.old)
+        ⊎ (PrintsSome (W.contents out.old) (W.contents out.new) × (W.failed out.new ≡ counted true (W.failed out.old))) }
     ensures statuses { result ≤ 3 }
 {
     match perform(alloc, words, inputs, out) {
@@ -74,7 +75,8 @@ fn perform<I: Inputs, W: Sink>(
 ) -> Result<(), Fault>
     ensures done { OnOk result (Prints (W.contents out.old) (W.contents out.new)) }
     ensures none_failed { OnOk result (W.failed out.new ≡ W.failed out.old) }
-    ensures refused { OnErr result ((out.new ≡ out.old) ⊎ ((result ≡ Err Fault.WriteFailed) × PrintsSome (W.contents out.old) (W.contents out.new) × (W.failed out.new ≡ counted true (W.failed out.old)))) }
+    ensures refused { OnErr result ((out.new ≡ out.old)
+        ⊎ ((result ≡ Err Fault.WriteFailed) × PrintsSome (W.contents out.old) (W.contents out.new) × (W.failed out.new ≡ counted true (W.failed out.old)))) }
 {
     let text = answered(alloc, words, inputs)?;
     write_text(text.as_bytes(), out)?;

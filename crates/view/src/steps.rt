@@ -50,9 +50,7 @@ pub fn steps(
     for (place, cpu) in schedule.steps().iter().enumerate() {
         let seen = watched.step(*cpu);
         let words = watched.words(seen.object);
-        if put_line(&mut text, form, settings, place + 1, *cpu, seen, words).is_err() {
-            return Err(OutOfMemory);
-        }
+        put_line(&mut text, form, settings, place + 1, *cpu, seen, words)?;
     }
     Ok(text)
 }

@@ -82,9 +82,7 @@ impl<'a, O: SeqObject> Watched<'a, O> {
         ensures machine { IfOk result (λ w. w.machine ≡ machine) }
         ensures left { IfOk result (λ w. w.left ≡ map (λ l. l.items) scripts.now) }
     {
-        let Ok(mut left) = Vec::with_capacity(alloc, scripts.len()) else {
-            return Err(OutOfMemory);
-        };
+        let mut left = Vec::with_capacity(alloc, scripts.len())?;
         for script in scripts {
             left.push_reserved(script.as_slice());
         }

@@ -66,10 +66,8 @@ impl Replays<Console> for PlainConsole {
 
     fn open(alloc: Global, params: &u32) -> Result<PlainConsole, OutOfMemory> {
         let most = *params as usize;
-        match VecDeque::with_capacity(alloc, most) {
-            Ok(bytes) => Ok(PlainConsole { most, bytes }),
-            Err(_) => Err(OutOfMemory),
-        }
+        let bytes = VecDeque::with_capacity(alloc, most)?;
+        Ok(PlainConsole { most, bytes })
     }
 
     fn apply(&mut self, call: &ConsoleCall) -> ConsoleReply {

@@ -30,7 +30,8 @@ impl Model for PlainPool {
 
     ghost view = { λ s. record { pages = length s.owners.items; quotas = s.quotas; owners = s.owners.items } };
 
-    ghost invariant = { λ s. AreTakenBelow s.full_below s.owners.items × (s.full_below ≤ length s.owners.items) × (s.free ≡ left_of s.owners.items) × (length s.owners.items < 2 ^ 32) };
+    ghost invariant = { λ s. AreTakenBelow s.full_below s.owners.items × (s.full_below ≤ length s.owners.items) ×
+        (s.free ≡ left_of s.owners.items) × (length s.owners.items < 2 ^ 32) };
 }
 
 impl PlainPool {
@@ -115,15 +116,13 @@ impl Replays<PagePool> for PlainPool {
     ghost shows = { λ s. s };
 
     fn open(alloc: Global, params: &PoolParams) -> Result<PlainPool, OutOfMemory> {
-        match vec![in alloc; None; params.pages as usize] {
-            Ok(owners) => Ok(PlainPool {
-                quotas: params.quotas,
-                owners,
-                free: params.pages,
-                full_below: 0,
-            }),
-            Err(_) => Err(OutOfMemory),
-        }
+        let owners = vec![in alloc; None; params.pages as usize]?;
+        Ok(PlainPool {
+            quotas: params.quotas,
+            owners,
+            free: params.pages,
+            full_below: 0,
+        })
     }
 
     fn apply(&mut self, call: &PoolCall) -> PoolReply {

@@ -85,12 +85,8 @@ impl Replays<ThreadQueue> for PlainQueue {
 
     fn open(alloc: Global, params: &u32) -> Result<PlainQueue, OutOfMemory> {
         let threads = *params as usize;
-        let Ok(waiting) = VecDeque::with_capacity(alloc, threads) else {
-            return Err(OutOfMemory);
-        };
-        let Ok(waits) = vec![in alloc; false; threads] else {
-            return Err(OutOfMemory);
-        };
+        let waiting = VecDeque::with_capacity(alloc, threads)?;
+        let waits = vec![in alloc; false; threads]?;
         Ok(PlainQueue { waiting, waits })
     }
 

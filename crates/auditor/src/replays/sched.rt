@@ -32,7 +32,9 @@ impl Model for PlainSched {
 
     ghost view = { λ s. record { threads = length s.is_held.items; ready = s.ready.items; channels = map (λ q. q.items) s.channels.items } };
 
-    ghost invariant = { λ s. AreMarked s.is_held.items (s.ready.items ++ concat (map (λ q. q.items) s.channels.items)) × (length s.is_held.items ≤ deque_capacity s.ready) × All (λ q. length s.is_held.items ≤ deque_capacity q) s.channels.items × (length s.is_held.items < 2 ^ 32) };
+    ghost invariant = { λ s. AreMarked s.is_held.items (s.ready.items ++ concat (map (λ q. q.items) s.channels.items)) ×
+        (length s.is_held.items ≤ deque_capacity s.ready) × All (λ q. length s.is_held.items ≤ deque_capacity q) s.channels.items ×
+        (length s.is_held.items < 2 ^ 32) };
 }
 
 impl PlainSched {
@@ -158,10 +160,7 @@ impl Replays<Sched> for PlainSched {
     ghost shows = { λ s. s };
 
     fn open(alloc: Global, params: &SchedParams) -> Result<PlainSched, OutOfMemory> {
-        match PlainSched::empty(alloc, params.threads, params.channels) {
-            Ok(sched) => Ok(sched),
-            Err(_) => Err(OutOfMemory),
-        }
+        Ok(PlainSched::empty(alloc, params.threads, params.channels)?)
     }
 
     fn apply(&mut self, call: &SchedCall) -> SchedReply {

@@ -3,7 +3,7 @@ use Rattle.std.specs.List.{AllByRecursion}
 use Rattle.word_rule.specs.Machine.Opening.{opening_cell}
 use Rattle.cpu_worker.specs.Simulation.{new_cell}
 use Rattle.cpu_worker.proofs.Simulations.{object_opened}
-use Rattle.cpu_worker.proofs.simulation.open_cells.Given as goal
+use Rattle.cpu_worker.proofs.simulation.new_cells.Given as goal
 
 abbrev pub invariant-loop-object : goal.invariant-loop-object
 invariant-loop-object l = record {
