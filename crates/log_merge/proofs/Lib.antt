@@ -5,7 +5,7 @@ pub mod Fronts
 pub mod Stuck
 pub mod Placing
 pub mod NotSelf
-pub mod Turning
+pub mod Rotations
 pub mod Leasts
 pub mod Cycles
 pub mod Matched

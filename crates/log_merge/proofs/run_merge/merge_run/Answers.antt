@@ -1,7 +1,7 @@
 use Rattle.std.proofs.Common.{◌≡◌, ◌<◌, ◌≤◌, ℕ, List, length, map, drop, slice_index, sym, ap, ◌∙◌, subst}
 use Rattle.std.specs.List.{AllByRecursion}
 use Rattle.word_rule.specs.Sound.{transcript_of}
-use Rattle.log_merge.specs.FoundCycles.{next_place, IsWalk, IsTurned}
+use Rattle.log_merge.specs.FoundCycles.{next_place, IsWalk, IsRotated}
 use Rattle.log_merge.specs.Merging.{IsLeastOrder}
 use Rattle.log_merge.proofs.Cycles.{merged_cycle, merged_order}
 use Rattle.log_merge.proofs.Placing.{all_below, all_drop}
@@ -14,8 +14,8 @@ returns-in_default g c =
     let ended = subst (λ (at : List ℕ). (cpu : ℕ) → length (transcript_of cpu run) ≤ slice_index at cpu) c.as_slice-at.ensures.value c.in_default.ensures in
     subst (IsLeastOrder run) (sym c.from_vec.ensures) (merged_order run c.requires.matched front.places.items front.at.items front.placed.items c.in_ok-front.ensures.stuck c.in_ok-front.ensures.least ended)
 
-pub turned-requires-clause-within : goal.turned-requires-clause-within
-turned-requires-clause-within g c =
+pub rotated-requires-clause-within : goal.rotated-requires-clause-within
+rotated-requires-clause-within g c =
     let below = λ (cpu : ℕ). cpu < length c.as_slice-at.result.now in
     let walk = c.in_ok-walk.walk.items in
     let cpus : length c.args.run.now.transcripts ≡ length c.as_slice-at.result.now = sym (ap length c.as_slice-at.ensures.value ∙ c.in_ok-front.ensures.stuck.ready.cpus) in
@@ -30,6 +30,6 @@ returns g c =
     let back = c.in_ok-walk.back in
     let found = c.in_ok-cycle.ensures in
     let walked = subst (λ (z : List ℕ × List ℕ). IsWalk run (slice_index z.0) (slice_index z.1) walk back) (λ j. (c.as_slice-at.ensures.value j, c.as_slice-placed.ensures.value j)) c.in_ok-walk.ensures in
-    let turned = subst (λ (l : List ℕ). IsTurned l found.0) (c.split_at.ensures.back ∙ ap (drop back) c.as_slice.ensures.value) found.1 in
+    let rotated = subst (λ (l : List ℕ). IsRotated l found.0) (c.split_at.ensures.back ∙ ap (drop back) c.as_slice.ensures.value) found.1 in
     let places = c.from_vec-2.ensures ∙ (found.2 ∙ ap (λ (at : List ℕ). map (next_place (slice_index at)) found.0) c.as_slice-at.ensures.value) in
-    merged_cycle run c.requires.matched front.places.items front.at.items front.placed.items c.in_ok-front.ensures.stuck c.in_ok-front.ensures.least walk back walked c.from_vec-2.result found.0 turned places
+    merged_cycle run c.requires.matched front.places.items front.at.items front.placed.items c.in_ok-front.ensures.stuck c.in_ok-front.ensures.least walk back walked c.from_vec-2.result found.0 rotated places

@@ -6,7 +6,7 @@ use Rattle.log_merge.specs.FoundCycles.{IsLeastLeft}
 use Rattle.log_merge.specs.Fronts.{IsBlocked}
 use Rattle.log_merge.proofs.Placing.{pushed, has_transcript, head_append}
 use Rattle.log_merge.proofs.Stuck.{left}
-use Rattle.log_merge.proofs.Turning.{chain_join}
+use Rattle.log_merge.proofs.Rotations.{chain_join}
 use Rattle.log_merge.proofs.walk.walk_from.Goals as goal
 
 pub loop-i-smaller : goal.loop-i-smaller

@@ -3,7 +3,7 @@ use Rattle.std.proofs.lemmas.List.{map-append}
 use Rattle.std.specs.List.{AllByRecursion}
 use Rattle.log_merge.specs.FoundCycles.{next_place}
 use Rattle.log_merge.proofs.Placing.{all_take, all_drop, least_at}
-use Rattle.log_merge.proofs.cycle.turned.Goals as goal
+use Rattle.log_merge.proofs.cycle.rotated.Goals as goal
 
 pub split_at-requires : goal.split_at-requires
 split_at-requires c = let b = c.least_of.ensures.0 in omega (arith, b)

@@ -1,4 +1,4 @@
--- Chains, cut and turned.
+-- Chains, cut and rotated.
 use Rattle.std.proofs.Common.{◌≡◌, ℕ, zero, suc, ◌<◌, List, [], ◌∷◌, ◌++◌, length, map, take, drop, get_or, refl, sym, ap, ◌∙◌, subst, arith, append_assoc}
 use Rattle.std.proofs.lemmas.List.{append-nil}
 use Rattle.event_log.specs.Distinct.{AreDistinctBelow}
@@ -33,13 +33,13 @@ cut (x ∷ xs) (suc k) lt = let c = cut xs k (omega arith) in record { here = c.
 
 module _ {A : Type 0} (R : A → A → Type 0) where
   -- a cycle may begin with any of its places
-  pub cyclic_turned : (xs : List A) (k : ℕ) → k < length xs → Cyclic R xs → Cyclic R (drop k xs ++ take k xs)
-  cyclic_turned [] k lt h = absurd h
-  cyclic_turned (x ∷ xs) zero lt h = subst (Cyclic R) (sym (append-nil (x ∷ xs))) h
-  cyclic_turned (x ∷ xs) (suc k) lt h =
+  pub cyclic_rotated : (xs : List A) (k : ℕ) → k < length xs → Cyclic R xs → Cyclic R (drop k xs ++ take k xs)
+  cyclic_rotated [] k lt h = absurd h
+  cyclic_rotated (x ∷ xs) zero lt h = subst (Cyclic R) (sym (append-nil (x ∷ xs))) h
+  cyclic_rotated (x ∷ xs) (suc k) lt h =
       let c = cut xs k (omega arith) in
-      let turned = turn R x (take k xs) c.here c.behind (subst (λ (l : List A). Cyclic R (x ∷ l)) c.whole h) in
-      subst (λ (l : List A). Cyclic R (l ++ x ∷ take k xs)) (sym c.rest) turned
+      let rotated = turn R x (take k xs) c.here c.behind (subst (λ (l : List A). Cyclic R (x ∷ l)) c.whole h) in
+      subst (λ (l : List A). Cyclic R (l ++ x ∷ take k xs)) (sym c.rest) rotated
 
   pub chain_map : {B : Type 0} (S : B → B → Type 0) (f : A → B) → ((x y : A) → R x y → S (f x) (f y)) → (xs : List A) (q : A) → Chain R xs q → Chain S (map f xs) (f q)
   chain_map S f go [] q h = tt
@@ -64,8 +64,8 @@ chain_back R xs k lt h =
     read (y ∷ ys) (suc i) less d = let e = cut ys i (omega arith) in read ys i (omega arith) e ∙ ap (λ l. get_or l 0 0) (sym e.rest ∙ d.rest)
 
 -- distinct numbers are as distinct where those in front go to the end
-pub distinct_turned : (n : ℕ) (xs ys : List ℕ) → AreDistinctBelow n (xs ++ ys) → AreDistinctBelow n (ys ++ xs)
-distinct_turned n [] ys q = subst (AreDistinctBelow n) (sym (append-nil ys)) q
-distinct_turned n (x ∷ xs) ys q =
+pub distinct_rotated : (n : ℕ) (xs ys : List ℕ) → AreDistinctBelow n (xs ++ ys) → AreDistinctBelow n (ys ++ xs)
+distinct_rotated n [] ys q = subst (AreDistinctBelow n) (sym (append-nil ys)) q
+distinct_rotated n (x ∷ xs) ys q =
     let later = subst (AreDistinctBelow n) (append_assoc xs ys (x ∷ [])) (distinct_push n (xs ++ ys) x q.2 q.0 q.1) in
-    subst (AreDistinctBelow n) (append_assoc ys (x ∷ []) xs) (distinct_turned n xs (ys ++ x ∷ []) later)
+    subst (AreDistinctBelow n) (append_assoc ys (x ∷ []) xs) (distinct_rotated n xs (ys ++ x ∷ []) later)
