@@ -51,7 +51,8 @@ pub fn sim_answer<I: Inputs>(
     ensures answer { IfOk result (AnswersSim (I.held inputs.old) settings.now scripts.now schedule.now) }
     ensures bad_settings { (bad : BadSettings) → result ≡ Err (Fault.BadSettings bad) → AreBadSettings (I.held inputs.old) (Some settings.now) bad }
     ensures bad_scripts { (n : ℕ) → result ≡ Err (Fault.BadScripts n) → AreBadScripts (I.held inputs.old) (Some settings.now) (Some scripts.now) n }
-    ensures bad_schedule { (n : ℕ) → result ≡ Err (Fault.BadSchedule n) → IsBadSchedule (I.held inputs.old) (Some settings.now) (Some scripts.now) (Some schedule.now) n }
+    ensures bad_schedule { (n : ℕ) → result ≡ Err (Fault.BadSchedule n) →
+        IsBadSchedule (I.held inputs.old) (Some settings.now) (Some scripts.now) (Some schedule.now) n }
     ensures refusal { IfErr result IsRefusal }
 {
     let settings = read_settings(alloc, inputs, Some(settings))?;
