@@ -125,6 +125,31 @@ fn tail_length(looks: u64, room: usize) -> usize {
     looks.saturating_mul(4).min(most) as usize
 }
 
+/// Puts what became of an entry into its box, which begins there.
+fn put_label(
+    alloc: Global,
+    picture: &mut Picture,
+    scale: Scale,
+    start: (usize, usize),
+    entry: &Entry<KernelObject>,
+    done: &str,
+) -> Result<(), AllocError> {
+    let (x, y) = start;
+    let (ink, rim) = if had_room(entry) {
+        (colours_of(entry.object as usize).1, "none")
+    } else {
+        (INK, PAPER)
+    };
+    let label = label_of(alloc, done)?;
+    picture.label(
+        x.saturating_add(scale.width / 2),
+        y.saturating_add(BOX / 2 + 4),
+        ink,
+        rim,
+        label.as_str(),
+    )
+}
+
 /// Puts the box of an entry, and its tail, which may begin where the box before it ended.
 fn put_entry(
     alloc: Global,
@@ -141,7 +166,7 @@ fn put_entry(
         row_top(place.cpu).saturating_add((ROW - BOX) / 2),
     );
     let object = entry.object as usize;
-    let (colour, ink) = colours_of(object);
+    let (colour, _ink) = colours_of(object);
     let tail = tail_length(entry.looks, x.saturating_sub(free_from));
     let tail_area = Area {
         x: x.saturating_sub(tail),
@@ -169,19 +194,7 @@ fn put_entry(
     )?;
     picture.told_area(area, fill.as_str(), told.as_str())?;
     if scale.labelled {
-        let label = label_of(alloc, done.as_str())?;
-        let (ink, rim) = if had_room(entry) {
-            (ink, "none")
-        } else {
-            (INK, PAPER)
-        };
-        picture.label(
-            x.saturating_add(scale.width / 2),
-            y.saturating_add(BOX / 2 + 4),
-            ink,
-            rim,
-            label.as_str(),
-        )?;
+        put_label(alloc, picture, scale, (x, y), entry, done.as_str())?;
     }
     Ok(())
 }
