@@ -1,7 +1,7 @@
 use Rattle.std.proofs.Common.{◌≡◌, ◌+◌, ◌++◌, ◌∷◌, [], map, take, get_or, slice_index, sym, ap, ◌∙◌, append_assoc}
 use Rattle.std.proofs.lemmas.List.{take_all, take_more, map-append}
 use Rattle.log_merge.specs.FoundCycles.{next_place}
-use Rattle.log_merge.proofs.Placing.{pushed, all_at}
+use Rattle.log_merge.proofs.Placing.{all_at}
 use Rattle.log_merge.proofs.cycle.put_next.Goals as goal
 
 pub bounds-at-cpu : goal.bounds-at-cpu
@@ -14,7 +14,7 @@ loop-cpu-preserved c =
     let cpus = c.args.cpus.now in
     let i = c.loop-cpu.cpu-index in
     let cpu = get_or cpus i 0 in
-    let items : c.push.new.self.items ≡ c.loop-cpu.places.items ++ f cpu ∷ [] = pushed c.push.result c.loop-cpu.places.items c.push.new.self.items (f cpu) c.push.ensures.items (sym c.is_err.ensures.value ∙ c.if-is_err.false) in
+    let items : c.push.new.self.items ≡ c.loop-cpu.places.items ++ f cpu ∷ [] = c.in_ok-push.ensures.items in
     let more : map f (take (i + 1) cpus) ≡ map f (take i cpus) ++ f cpu ∷ [] = ap (map f) (take_more cpus i 0 c.loop-cpu-test.true) ∙ map-append f (take i cpus) (cpu ∷ []) in
     items ∙ (ap (λ l. l ++ f cpu ∷ []) c.loop-cpu.invariant ∙ (append_assoc old (map f (take i cpus)) (f cpu ∷ []) ∙ ap (λ l. old ++ l) (sym more)))
 

@@ -4,7 +4,7 @@ use Rattle.event_log.proofs.Distinct.{distinct_push, distinct_length}
 use Rattle.log_merge.specs.Chains.{Chain}
 use Rattle.log_merge.specs.FoundCycles.{IsLeastLeft}
 use Rattle.log_merge.specs.Fronts.{IsBlocked}
-use Rattle.log_merge.proofs.Placing.{pushed, has_transcript, head_append}
+use Rattle.log_merge.proofs.Placing.{has_transcript, head_append}
 use Rattle.log_merge.proofs.Stuck.{left}
 use Rattle.log_merge.proofs.Rotations.{chain_join}
 use Rattle.log_merge.proofs.walk.walk_from.Goals as goal
@@ -13,7 +13,7 @@ pub loop-i-smaller : goal.loop-i-smaller
 loop-i-smaller g c =
     let walk = c.loop-i.walk.items in
     let cpu = c.loop-i.cpu in
-    let items : c.push.new.self.items ≡ walk ++ cpu ∷ [] = pushed c.push.result walk c.push.new.self.items cpu c.push.ensures.items (sym c.is_err.ensures.value ∙ c.if-is_err.false) in
+    let items : c.push.new.self.items ≡ walk ++ cpu ∷ [] = c.in_ok-push.ensures.items in
     let few = distinct_length (length c.args.at.now) walk c.loop-i.invariant.different in
     let n = ap length items ∙ length-append walk (cpu ∷ []) in
     omega (arith, few, n)
@@ -28,7 +28,7 @@ loop-i-preserved g c =
     let by = c.in-Waits.by in
     let i = c.loop-i.invariant in
     let stuck = c.requires.stuck.1 in
-    let items : c.push.new.self.items ≡ walk ++ cpu ∷ [] = pushed c.push.result walk c.push.new.self.items cpu c.push.ensures.items (sym c.is_err.ensures.value ∙ c.if-is_err.false) in
+    let items : c.push.new.self.items ≡ walk ++ cpu ∷ [] = c.in_ok-push.ensures.items in
     let absent : has cpu walk ≡ false = ap (has cpu) (sym c.as_slice.ensures.value) ∙ c.in_default.ensures in
     let more = left run c.requires.matched c.requires.stuck.0 at placed stuck.front cpu by c.in-Waits.ensures (stuck.none by) in
     let exists = has_transcript run.transcripts by (get_or at by 0) more in
