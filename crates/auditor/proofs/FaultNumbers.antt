@@ -7,7 +7,7 @@ use Rattle.event_log.specs.declared.object.SeqObject.{Ghosts}
 use Rattle.event_log.specs.declared.event.Step.{Step}
 use Rattle.event_log.specs.declared.event.Event.{Event}
 use Rattle.event_log.specs.Log.{after}
-use Rattle.word_rule.specs.Sound.{Opened, transcript_of, log_of}
+use Rattle.sound_run.specs.Sound.{Opened, transcript_of, log_of}
 use Rattle.scripts.specs.contracts.objects.kernel_object.KernelObjectSeqObject.TheImpl.{ghosts as kernel}
 use Rattle.scripts.specs.Runs.{opened_of}
 use Rattle.scripts.specs.KernelTypes.{KernelEvent, KernelEntry}

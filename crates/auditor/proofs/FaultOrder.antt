@@ -4,8 +4,8 @@ use Rattle.std.specs.Prelude.{◌⊎◌}
 use Rattle.event_log.specs.declared.object.SeqObject.{Ghosts}
 use Rattle.event_log.specs.declared.entry.Entry.{Entry}
 use Rattle.event_log.specs.declared.entry.Run.{Run}
-use Rattle.word_rule.specs.Sound.{Opened, transcript_of}
-use Rattle.word_rule.proofs.Slices.{one_of}
+use Rattle.sound_run.specs.Sound.{Opened, transcript_of}
+use Rattle.sound_run.proofs.Slices.{one_of}
 use Rattle.auditor.specs.declared.fault.Fault.{Fault}
 use Rattle.auditor.specs.declared.fault.Fault.TheVariants as fault
 use Rattle.auditor.specs.Faults.{HadRoom, IsNotItsEvent, IsFault, IsFirstFault, place, IsBefore}

@@ -3,8 +3,8 @@ use Rattle.std.proofs.Common.{◌≡◌, ℕ, zero, suc, List, [], ◌∷◌, le
 use Rattle.std.specs.Prelude.{unwrap_or}
 use Rattle.std.specs.List.{AllByRecursion}
 use Rattle.std.proofs.lemmas.List.{length-map}
-use Rattle.word_rule.specs.Sound.{Opened, transcript_of, log_of}
-use Rattle.word_rule.proofs.Slices.{map_get, get_map}
+use Rattle.sound_run.specs.Sound.{Opened, transcript_of, log_of}
+use Rattle.sound_run.proofs.Slices.{map_get, get_map}
 use Rattle.scripts.specs.contracts.objects.kernel_object.KernelObjectSeqObject.TheImpl.{ghosts as kernel}
 use Rattle.scripts.specs.declared.record.form.Form.TheVariants.{Two}
 use Rattle.scripts.specs.declared.objects.kernel_call.KParams.{KParams}

@@ -11,9 +11,9 @@ use Rattle.event_log.specs.declared.entry.Done.{Done}
 use Rattle.event_log.specs.declared.entry.Done.TheVariants as done
 use Rattle.event_log.specs.declared.entry.Entry.{Entry}
 use Rattle.event_log.specs.declared.entry.Run.{Run}
-use Rattle.word_rule.specs.Sound.{Opened, Sound, LogIsSound, EntryIsSound, Answers, NoneAfterFull, transcript_of, log_of, done_on, steps_by}
-use Rattle.word_rule.proofs.Slices.{some_at, one_of, map_get, get_map}
-use Rattle.word_rule.proofs.Entries.{done_append, done_without}
+use Rattle.sound_run.specs.Sound.{Opened, Sound, LogIsSound, EntryIsSound, Answers, NoneAfterFull, transcript_of, log_of, done_on, steps_by}
+use Rattle.sound_run.proofs.Slices.{some_at, one_of, map_get, get_map}
+use Rattle.sound_run.proofs.Entries.{done_append, done_without}
 use Rattle.auditor.specs.declared.fault.Fault.{Fault}
 use Rattle.auditor.specs.declared.fault.Fault.TheVariants as fault
 use Rattle.auditor.specs.declared.terms.Terms.{Terms}

@@ -6,7 +6,7 @@ use Rattle.scripts.specs.declared.record.source.RecordReadFault.TheVariants as r
 use Rattle.scripts.specs.RecordFaults.{IsWhole, IsBadLine}
 use Rattle.scripts.specs.RecordRanges.{Record}
 use Rattle.scripts.specs.Runs.{opened_of}
-use Rattle.word_rule.specs.Sound.{Sound}
+use Rattle.sound_run.specs.Sound.{Sound}
 use Rattle.auditor.specs.declared.texts.TextFault.{TextFault}
 use Rattle.auditor.specs.declared.texts.TextFault.TheVariants as text_fault
 use Rattle.auditor.specs.declared.fault.Fault.{Fault}

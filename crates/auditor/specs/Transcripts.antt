@@ -3,7 +3,7 @@ use Rattle.std.specs.Prelude.{◌≡◌, ℕ, ◌<◌, List, [], length, map, Er
 use Rattle.event_log.specs.declared.object.SeqObject.{Ghosts}
 use Rattle.event_log.specs.declared.event.Event.{Event}
 use Rattle.event_log.specs.declared.entry.Entry.{Entry}
-use Rattle.word_rule.specs.Sound.{Opened}
+use Rattle.sound_run.specs.Sound.{Opened}
 use Rattle.auditor.specs.declared.terms.Terms.{Terms}
 use Rattle.auditor.specs.declared.links.Links.{Links}
 use Rattle.auditor.specs.declared.entries.EntryFault.{EntryFault}

@@ -2,7 +2,7 @@
 
 ghost use Rattle.std.specs.Prelude.{◌≡◌, ◌<◌, ◌↔◌, ℕ, map, length, Some, slice_get, IfOk, IfErr, OnOk};
 ghost use Rattle.event_log.specs.declared.event.Event.{Event as Shown};
-ghost use Rattle.word_rule.specs.Sound.{Sound};
+ghost use Rattle.sound_run.specs.Sound.{Sound};
 ghost use Rattle.auditor.specs.Faults.{IsFirstFault};
 ghost use Rattle.auditor.specs.Passes.{IsRunOf, AreSoundBefore, IsFirst};
 ghost use Rattle.auditor.specs.Transcripts.{opened_by, log_in, AreAllLinks};

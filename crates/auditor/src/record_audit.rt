@@ -1,7 +1,7 @@
 //! Records.
 
 ghost use Rattle.std.specs.Prelude.{◌≡◌, ◌↔◌, IfOk};
-ghost use Rattle.word_rule.specs.Sound.{Sound};
+ghost use Rattle.sound_run.specs.Sound.{Sound};
 ghost use Rattle.scripts.specs.Runs.{opened_of};
 ghost use Rattle.auditor.specs.Faults.{IsFirstFault};
 ghost use Rattle.auditor.specs.Transcripts.{opened_by};

@@ -1,11 +1,11 @@
 //! How much is called in a round.
 
 ghost use Rattle.std.specs.Prelude.{◌≡◌, ◌<◌, ◌≤◌, IfOk, IfSome, sum};
-ghost use Rattle.word_rule.specs.declared.key.TheConstants.{MOST_CPUS};
+ghost use Rattle.sound_run.specs.declared.limits.TheConstants.{MOST_CPUS};
 
 use event_log::{MOST_EVENTS, OutOfMemory};
 use std::alloc::Global;
-use word_rule::MOST_CPUS;
+use sound_run::MOST_CPUS;
 
 /// The most events of a round. Each takes 144 bytes of a log.
 pub const MOST_ROUND_EVENTS: u32 = 128 * MOST_EVENTS;

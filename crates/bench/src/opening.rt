@@ -12,7 +12,7 @@ use shared_queue::ThreadQueue;
 use std::alloc::Global;
 use std::sync::{Arc, Mutex};
 use ticket_lock::TicketCell;
-use word_rule::{LockKind, MOST_CPUS};
+use sound_run::{LockKind, MOST_CPUS};
 
 /// The first ticket of a ticket lock.
 const FIRST_TICKET: u32 = 0;

@@ -7,11 +7,11 @@ use mathlib.Core.Logic.{dite}
 use native.Mathlib.Decide.{ℕ_discrete}
 use Rattle.event_log.specs.declared.object.SeqObject.{Ghosts}
 use Rattle.event_log.specs.History.{History}
-use Rattle.word_rule.specs.declared.lock_kind.LockKind.{LockKind}
+use Rattle.sound_run.specs.declared.lock_kind.LockKind.{LockKind}
 use Rattle.word_rule.specs.declared.pass.Pass.{Pass}
 use Rattle.word_rule.specs.Cell.{EachAt, OwnsAll, first_pass}
 use Rattle.word_rule.specs.Passes.{view_of_pass}
-use Rattle.word_rule.proofs.Slices.{some_at}
+use Rattle.sound_run.proofs.Slices.{some_at}
 use Rattle.guarded_cell.specs.declared.cell.AnyCell.{AnyCell}
 use Rattle.guarded_cell.specs.declared.cell.AnyCell.TheVariants as cells
 use Rattle.guarded_cell.specs.Kinds.{IsPassOf}

@@ -3,8 +3,8 @@ use Rattle.std.specs.declared.cmp.PartialEq.{Ghosts as Eq}
 use Rattle.std.specs.declared.default.Default.{Ghosts as Default}
 use Rattle.std.specs.Prelude.{◌≡◌, [], ◌∷◌, Option, Some, slice_get, vec_len}
 use Rattle.event_log.specs.History.{opened_history}
-use Rattle.word_rule.specs.declared.lock_kind.LockKind.{LockKind}
-use Rattle.word_rule.specs.declared.lock_kind.LockKind.TheVariants.{Ticket, Mcs}
+use Rattle.sound_run.specs.declared.lock_kind.LockKind.{LockKind}
+use Rattle.sound_run.specs.declared.lock_kind.LockKind.TheVariants.{Ticket, Mcs}
 use Rattle.word_rule.specs.Cell.{EachAt, first_pass}
 use Rattle.word_rule.specs.Passes.{view_of_pass}
 use Rattle.scripts.specs.declared.objects.kernel_call.KParams.{KParams}

@@ -2,7 +2,7 @@
 
 ghost use Rattle.std.specs.Prelude.{◌≡◌, ◌≤◌, ◌<◌, ◌+◌, IfSome, vec_len};
 ghost use Rattle.std_alloc.specs.Arc.{arc_value};
-ghost use Rattle.word_rule.specs.declared.key.TheConstants.{MOST_CPUS};
+ghost use Rattle.sound_run.specs.declared.limits.TheConstants.{MOST_CPUS};
 ghost use Rattle.word_rule.specs.Cell.{EachAt, first_pass};
 ghost use Rattle.word_rule.specs.Passes.{view_of_pass};
 ghost use Rattle.guarded_cell.specs.Kinds.{kind_of};
@@ -14,7 +14,8 @@ use event_log::{Logged, SeqObject};
 use guarded_cell::AnyCell;
 use std::alloc::Global;
 use std::sync::Arc;
-use word_rule::{LockCell, LockKind, MOST_CPUS, Pass};
+use sound_run::{LockKind, MOST_CPUS};
+use word_rule::{LockCell, Pass};
 
 impl<O: SeqObject> OpenCell<O> {
     /// A new cell of the kind, of 1 to 64 CPUs. There is none if memory is refused.

@@ -1,7 +1,7 @@
 //! What C opens a cell with.
 
 ghost use Rattle.std.specs.Prelude.{◌≡◌, ◌<◌, ◌≤◌, IfOk, OnErr};
-ghost use Rattle.word_rule.specs.declared.key.TheConstants.{MOST_CPUS};
+ghost use Rattle.sound_run.specs.declared.limits.TheConstants.{MOST_CPUS};
 ghost use Rattle.cells.specs.Openings.{params_of, lock_of, IsOpened};
 
 use crate::OpenCell;
@@ -10,7 +10,7 @@ use page_pool::{OWNERS, PoolParams};
 use scripts::{KParams, KernelObject};
 use std::alloc::Global;
 use wake_list::SchedParams;
-use word_rule::{LockKind, MOST_CPUS};
+use sound_run::{LockKind, MOST_CPUS};
 
 /// A cell to be: the numbers of its lock and its kind of object, the most events of its log, its CPUs, and what the object is
 /// opened for.

@@ -19,7 +19,7 @@ use std::alloc::Global;
 use std::process::ExitCode;
 use std::sync::Wait;
 use std::thread::Threads;
-use word_rule::LockKind;
+use sound_run::LockKind;
 
 /// A new counter for at most 3, once two CPUs have called it behind a lock of that kind; none if memory is refused.
 fn counted_by_two<R: Threads + Wait + Sync>(

@@ -3,7 +3,7 @@ use Rattle.std.proofs.Common.{◌≡◌, ◌⊎◌, inl, inr, ℕ, ◌<◌, ◌�
 use Rattle.std.specs.Prelude.{slice_set}
 use Rattle.std.proofs.lemmas.Option.{slice_get_within}
 use Rattle.guarded_cell.proofs.Joins.{at_snoc}
-use Rattle.word_rule.proofs.Slices.{one_of, get_set_same, get_set_other}
+use Rattle.sound_run.proofs.Slices.{one_of, get_set_same, get_set_other}
 
 module _ {T : Type 0} where
   -- the second row is the first with that element behind

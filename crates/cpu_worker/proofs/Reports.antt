@@ -10,7 +10,7 @@ use Rattle.scripts.specs.declared.record.form.Form.TheVariants.{Two}
 use Rattle.scripts.specs.RecordRanges.{Record, RecordFits, TranscriptFits}
 use Rattle.scripts.specs.Settings.{ObjectSettings}
 use Rattle.scripts.specs.Words.{sentence, text_of_lines}
-use Rattle.word_rule.specs.declared.key.TheConstants.{MOST_CPUS}
+use Rattle.sound_run.specs.declared.limits.TheConstants.{MOST_CPUS}
 use Rattle.cpu_worker.specs.declared.sums.Sums.{Sums}
 use Rattle.cpu_worker.specs.Report.{all_entries, entries_on, lacks_room, greatest, sums_of, joined, object_words, objects_words, run_words, report_text}
 

@@ -18,9 +18,9 @@ use Rattle.scripts.specs.Settings.{Settings, SettingsFit}
 use Rattle.scripts.proofs.SoundRanges.{all_at as all_by_place}
 use Rattle.word_rule.specs.Cell.{EachAt, IsPassView, opening_pass}
 use Rattle.word_rule.specs.Machine.SoundWorld.{IsTodo}
-use Rattle.word_rule.specs.Sound.{Opened, Sound}
+use Rattle.sound_run.specs.Sound.{Opened, Sound}
 use Rattle.word_rule.proofs.Openings.{all_at, zip_at}
-use Rattle.word_rule.proofs.Slices.{some_at, get_map, map_get}
+use Rattle.sound_run.proofs.Slices.{some_at, get_map, map_get}
 use Rattle.cpu_worker.proofs.Simulations.{asks_each}
 use Rattle.cpu_worker.specs.Opening.{IsRow, cell_for, cells_for}
 use Rattle.cpu_worker.specs.Work.{FixedCell, KernelView, IsReady, IsDone}

@@ -16,8 +16,8 @@ use Rattle.event_log.specs.Entries.{asked_of}
 use Rattle.scripts.specs.Runs.{AsksFirst, EntryAsks, TranscriptAsks}
 use Rattle.scripts.specs.ScriptText.{TodoFits, ScriptFits, ScriptsFit}
 use Rattle.scripts.specs.Settings.{Settings, ObjectSettings}
-use Rattle.word_rule.specs.Sound.{Opened}
-use Rattle.word_rule.proofs.Slices.{get_map, one_of}
+use Rattle.sound_run.specs.Sound.{Opened}
+use Rattle.sound_run.proofs.Slices.{get_map, one_of}
 use Rattle.word_rule.specs.Machine.Opening.{opening_cpu}
 use Rattle.word_rule.specs.Machine.SoundWorld.{IsTodo}
 use Rattle.word_rule.specs.Machine.World.{CpuState, run}

@@ -10,7 +10,7 @@ use Rattle.event_log.specs.declared.entry.Entry.{Entry}
 use Rattle.event_log.specs.declared.entry.Done.{Done}
 use Rattle.event_log.specs.declared.entry.Todo.{Todo}
 use Rattle.event_log.specs.Entries.{asked_of}
-use Rattle.word_rule.proofs.Slices.{get_set_same, get_set_other}
+use Rattle.sound_run.proofs.Slices.{get_set_same, get_set_other}
 use Rattle.word_rule.specs.declared.machine.step_done.StepDone.{StepDone}
 use Rattle.word_rule.specs.Locks.{Lock, turn}
 use Rattle.word_rule.specs.StepKinds.{ends_hold, is_look}

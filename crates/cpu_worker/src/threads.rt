@@ -3,7 +3,7 @@
 ghost use Rattle.std.specs.Prelude.{◌≡◌, ◌<◌, ◌≤◌, ℕ, [], IfOk, length, vec_len, vec_capacity};
 ghost use Rattle.std.specs.List.{AllByRecursion, AllZip};
 ghost use Rattle.std.specs.Thread.{IsSync};
-ghost use Rattle.word_rule.specs.declared.key.TheConstants.{MOST_CPUS};
+ghost use Rattle.sound_run.specs.declared.limits.TheConstants.{MOST_CPUS};
 ghost use Rattle.word_rule.specs.Passes.{view_of_pass};
 ghost use Rattle.guarded_cell.specs.Kinds.{IsPassOf};
 ghost use Rattle.cpu_worker.specs.Starts.{AllowedBelow};

@@ -5,7 +5,7 @@ use Rattle.std.proofs.lemmas.Option.{slice_get_within}
 use mathlib.Core.Logic.{dite}
 use native.Mathlib.Decide.{ℕ_discrete}
 use Rattle.word_rule.specs.Cell.{PassView}
-use Rattle.word_rule.proofs.Slices.{some_at, one_of, get_set_same, get_set_other, get_map, map_get}
+use Rattle.sound_run.proofs.Slices.{some_at, one_of, get_set_same, get_set_other, get_map, map_get}
 use Rattle.guarded_cell.specs.Runs.{Joins, EachJoins}
 use Rattle.guarded_cell.proofs.SoundRuns.{joins_self, joins_then}
 

@@ -20,10 +20,10 @@ use Rattle.event_log.proofs.Each.{all_map, all_both}
 use Rattle.event_log.proofs.Beginnings.{begins_rest}
 use Rattle.word_rule.specs.Cell.{Cell, PassView, Grows, Lawful, OwnsAll, opening_pass}
 use Rattle.word_rule.specs.Answered.{events_by}
-use Rattle.word_rule.specs.Sound.{Opened, Sound, LogIsSound, EntryIsSound, Answers, NoneAfterFull, done_on, steps_by, transcript_of}
+use Rattle.sound_run.specs.Sound.{Opened, Sound, LogIsSound, EntryIsSound, Answers, NoneAfterFull, done_on, steps_by, transcript_of}
 use Rattle.word_rule.specs.Machine.SoundWorld.{IsTodo}
 use Rattle.word_rule.proofs.Lists.{of_opening, grows_self, grows_then}
-use Rattle.word_rule.proofs.Slices.{some_at, one_of, get_map, map_get}
+use Rattle.sound_run.proofs.Slices.{some_at, one_of, get_map, map_get}
 use Rattle.word_rule.proofs.SoundRuns.{maps_equal}
 use Rattle.guarded_cell.specs.Workers.{opened_of_cell, DidOn}
 use Rattle.guarded_cell.specs.Runs.{Joins, Worked, AllWorked, run_left}

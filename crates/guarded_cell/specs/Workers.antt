@@ -11,7 +11,7 @@ use Rattle.event_log.specs.Entries.{asked_of}
 use Rattle.event_log.specs.Log.{of}
 use Rattle.word_rule.specs.Cell.{Cell, PassView}
 use Rattle.word_rule.specs.Answered.{IsAnswered, IsRefused, events_by}
-use Rattle.word_rule.specs.Sound.{Opened, Answers, NoneAfterFull, done_on}
+use Rattle.sound_run.specs.Sound.{Opened, Answers, NoneAfterFull, done_on}
 
 -- each cell has a pass at its place
 pub record ArePasses {T S : Type 0} (is_pass_of : T → S → Type 0) (cells : List T) (passes : List S) : Type 0 where

@@ -10,7 +10,8 @@ use event_log::{Logged, OutOfMemory, SeqObject};
 use mcs_lock::McsCell;
 use std::alloc::Global;
 use ticket_lock::TicketCell;
-use word_rule::{LockKind, MOST_CPUS, Pass};
+use sound_run::{LockKind, MOST_CPUS};
+use word_rule::Pass;
 
 // The number that a new ticket lock begins with.
 const FIRST_TICKET: u32 = 0;

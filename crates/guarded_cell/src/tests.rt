@@ -18,7 +18,8 @@ use std::alloc::Global;
 use std::sync::Wait;
 use std::test::Fail;
 use wake_list::{Sched, SchedCall, SchedParams, SchedReply};
-use word_rule::{LockCell, LockKind};
+use sound_run::LockKind;
+use word_rule::LockCell;
 
 const KINDS: [LockKind; 2] = [LockKind::Ticket, LockKind::Mcs];
 

@@ -4,7 +4,7 @@ use Rattle.std.specs.Prelude.{unwrap_or}
 use Rattle.std.specs.List.{ItemBy}
 use Rattle.std.specs.Option.{option_copied}
 use Rattle.std.proofs.lemmas.Option.{slice_get_past}
-use Rattle.word_rule.proofs.Slices.{read_get}
+use Rattle.sound_run.proofs.Slices.{read_get}
 
 -- what is lent stands there
 pub lent_at : {E : Type 0} (xs : List E) (i : ℕ) (r : Option (Bor E)) → ItemBy (λ (x : Bor E). x.now) xs i i r → option_copied r ≡ slice_get xs i

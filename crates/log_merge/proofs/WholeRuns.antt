@@ -3,13 +3,13 @@ use Rattle.std.proofs.Common.{◌≡◌, ℕ, zero, suc, ◌<◌, List, [], ◌�
 use Rattle.std.specs.Prelude.{unwrap_or}
 use Rattle.std.specs.List.{AllByRecursion}
 use Rattle.std.proofs.lemmas.Option.{slice_get_within}
-use Rattle.word_rule.specs.Sound.{transcript_of}
+use Rattle.sound_run.specs.Sound.{transcript_of}
 use Rattle.scripts.specs.declared.script.list.TheConstants.{MOST_ENTRIES}
 use Rattle.scripts.specs.KernelTypes.{KernelRun}
 use Rattle.scripts.specs.declared.record.form.Form.TheVariants.{Two}
 use Rattle.scripts.specs.RecordRanges.{EntryFits, LogFits, TranscriptFits, RunFits}
 use Rattle.scripts.specs.Settings.{Settings}
-use Rattle.word_rule.specs.declared.place.Place.{Place}
+use Rattle.sound_run.specs.declared.place.Place.{Place}
 use Rattle.log_merge.specs.Chains.{Chain, Cyclic}
 use Rattle.log_merge.specs.Nexts.{IsWhole}
 use Rattle.log_merge.specs.Tangles.{WaitsFor}

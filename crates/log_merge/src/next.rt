@@ -4,7 +4,7 @@ ghost use Rattle.std.specs.Prelude.{◌≡◌, ◌<◌, ◌≤◌, ℕ, length, 
 ghost use Rattle.log_merge.specs.FoundCycles.{IsLeastLeft};
 ghost use Rattle.log_merge.specs.Fronts.{CanCome};
 ghost use Rattle.log_merge.specs.Nexts.{IsNext, IsReady};
-ghost use Rattle.word_rule.specs.Sound.{transcript_of};
+ghost use Rattle.sound_run.specs.Sound.{transcript_of};
 
 use crate::look_up::{entry_at, event_at};
 use event_log::{Done, Run, SeqObject};

@@ -13,7 +13,7 @@ use event_log::{Entry, Run, Sink};
 use scripts::{
     Buffered, KernelObject, Record, Settings, WriteFailed, begin_line, end_line, put_done, put_word,
 };
-use word_rule::Place;
+use sound_run::Place;
 
 /// The name of the object at that place, from 0.
 fn name_of(settings: &Settings, object: u8) -> &[u8]

@@ -6,15 +6,15 @@ ghost use Rattle.auditor.specs.Faults.{IsFirstFault};
 ghost use Rattle.auditor.specs.VerdictText.{IsNamed};
 ghost use Rattle.log_merge.specs.MergedRecords.{IsMerged, HasCycle};
 ghost use Rattle.scripts.specs.Runs.{opened_of};
-ghost use Rattle.word_rule.specs.Orders.{HasOrder};
-ghost use Rattle.word_rule.specs.Sound.{Sound};
+ghost use Rattle.sound_run.specs.Orders.{HasOrder};
+ghost use Rattle.sound_run.specs.Sound.{Sound};
 
 use crate::run_merge::{Merging, merge_run};
 use auditor::{Fault, Verdict, audit};
 use event_log::{OutOfMemory, SeqObject, Series};
 use scripts::{KernelObject, MOST_ENTRIES, Record};
 use std::alloc::Global;
-use word_rule::Place;
+use sound_run::Place;
 
 /// The entries of a record in one order.
 #[derive(Debug, Drop)]

@@ -11,12 +11,12 @@ use Rattle.auditor.specs.Faults.{IsFirstFault}
 use Rattle.auditor.specs.VerdictText.{fault_text, verdict_text}
 use Rattle.cpu_worker.specs.Report.{report_text}
 use Rattle.cpu_worker.specs.Simulation.{simulated}
-use Rattle.word_rule.specs.declared.place.Place.{Place}
+use Rattle.sound_run.specs.declared.place.Place.{Place}
 use Rattle.log_merge.specs.CycleText.{cycle_text}
 use Rattle.log_merge.specs.MergedRecords.{IsMerged, HasCycle}
 use Rattle.log_merge.specs.MergedText.{merged_text}
-use Rattle.word_rule.specs.Orders.{HasOrder}
-use Rattle.word_rule.specs.Sound.{Sound}
+use Rattle.sound_run.specs.Orders.{HasOrder}
+use Rattle.sound_run.specs.Sound.{Sound}
 use Rattle.scripts.specs.contracts.objects.kernel_object.KernelObjectSeqObject.TheImpl.{ghosts as kernel}
 use Rattle.scripts.specs.KernelTypes.{KernelTodo}
 use Rattle.scripts.specs.Output.{AppendsBeginning}

@@ -1,8 +1,8 @@
 //! The cell of an MCS lock.
 
 ghost use Rattle.std.specs.Prelude.{◌≡◌, ◌≤◌, ◌+◌, ◌*◌};
-ghost use Rattle.word_rule.specs.declared.key.TheConstants.{MOST_CPUS};
-ghost use Rattle.word_rule.specs.declared.lock_kind.LockKind.TheVariants.{Mcs};
+ghost use Rattle.sound_run.specs.declared.limits.TheConstants.{MOST_CPUS};
+ghost use Rattle.sound_run.specs.declared.lock_kind.LockKind.TheVariants.{Mcs};
 
 use crate::waiters::Waiters;
 use event_log::SeqObject;

@@ -1,7 +1,7 @@
 //! A new MCS lock, with a pass for each CPU.
 
 ghost use Rattle.std.specs.Prelude.{◌≡◌, ◌<◌, ◌≤◌, [], IfOk, IfErr, vec_len};
-ghost use Rattle.word_rule.specs.declared.lock_kind.LockKind.TheVariants.{Mcs};
+ghost use Rattle.sound_run.specs.declared.lock_kind.LockKind.TheVariants.{Mcs};
 ghost use Rattle.word_rule.specs.Cell.{EachAt, first_pass};
 ghost use Rattle.word_rule.specs.Passes.{view_of_pass, run_of_pass};
 ghost use Rattle.mcs_lock.specs.Passes.{IsPassOf};
@@ -10,7 +10,8 @@ use crate::cell::McsCell;
 use crate::waiters::Waiters;
 use event_log::{Logged, OutOfMemory, SeqObject};
 use std::alloc::Global;
-use word_rule::{LockKind, LockTable, MOST_CPUS, Pass};
+use sound_run::{LockKind, MOST_CPUS};
+use word_rule::{LockTable, Pass};
 
 // The words of the greatest cell.
 const MOST_WORDS: usize = 1 + 2 * MOST_CPUS as usize;

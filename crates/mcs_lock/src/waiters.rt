@@ -4,7 +4,8 @@ use crossbeam_utils::Backoff;
 use std::array;
 use std::sync::Wait;
 use std::sync::atomic::{AtomicU64, Ordering};
-use word_rule::{MOST_CPUS, SHORT_WAIT, Sleepers};
+use sound_run::MOST_CPUS;
+use word_rule::{SHORT_WAIT, Sleepers};
 
 // The CPUs of the greatest cell.
 const CPUS: usize = MOST_CPUS as usize;

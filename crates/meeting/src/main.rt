@@ -5,7 +5,7 @@ use event_log::Logged;
 use guarded_cell::{AnyCell, two_callers};
 use shared_queue::{QueueCall as Call, ThreadQueue};
 use std::process::ExitCode;
-use word_rule::LockKind;
+use sound_run::LockKind;
 
 fn main(rt: HostRuntime) -> ExitCode {
     let Ok(queue) = Logged::<ThreadQueue>::open(rt.alloc(), 8, 100) else {

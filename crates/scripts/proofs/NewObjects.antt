@@ -6,7 +6,7 @@ use Rattle.std.proofs.lemmas.List.{append-nil}
 use Rattle.std.proofs.lemmas.Slice.Eq.{bytes_eq-Decides}
 use Rattle.std.specs.List.{AllByRecursion, list_all, list_any}
 use Rattle.std.specs.Option.{option_map_or}
-use Rattle.word_rule.specs.declared.lock_kind.LockKind.TheVariants.{Ticket}
+use Rattle.sound_run.specs.declared.lock_kind.LockKind.TheVariants.{Ticket}
 use Rattle.scripts.specs.declared.objects.kernel_call.KParams.TheVariants.{Queue}
 use Rattle.scripts.specs.declared.record.form.Form.{Form}
 use Rattle.scripts.specs.RecordReading.{object_at, new_object_at}

@@ -7,8 +7,8 @@ use Rattle.std.proofs.lemmas.Bool.{and_parts, eqb-true, leb-true, le-leb, falseâ
 use Rattle.std.proofs.lemmas.Slice.Eq.{bytes_eq-Decides}
 use Rattle.event_log.proofs.Each.{all_push}
 use Rattle.toml.specs.Data.{Data, Items, no_items, item, Members, get_member, as_integer, as_str, as_array, as_table}
-use Rattle.word_rule.specs.declared.key.TheConstants.{MOST_CPUS}
-use Rattle.word_rule.specs.declared.machine.TheConstants.{MOST_CELLS}
+use Rattle.sound_run.specs.declared.limits.TheConstants.{MOST_CPUS}
+use Rattle.sound_run.specs.declared.limits.TheConstants.{MOST_CELLS}
 use Rattle.event_log.specs.declared.logged.TheConstants.{MOST_EVENTS}
 use Rattle.scripts.specs.declared.record.form.Form.{Form}
 use Rattle.scripts.specs.declared.record.form.Form.TheVariants.{Two}

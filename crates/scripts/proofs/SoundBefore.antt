@@ -18,7 +18,7 @@ use Rattle.page_pool.specs.Unlimited.{unlimited_answer, full_quotas}
 use Rattle.page_pool.specs.declared.params.PoolParams.{PoolParams}
 use Rattle.page_pool.specs.declared.call.PoolCall.{PoolCall}
 use Rattle.page_pool.proofs.SameLogs.{legal_same}
-use Rattle.word_rule.specs.Sound.{Opened, Sound, EntryIsSound, Answers, transcript_of}
+use Rattle.sound_run.specs.Sound.{Opened, Sound, EntryIsSound, Answers, transcript_of}
 use Rattle.scripts.specs.contracts.objects.kernel_object.KernelObjectSeqObject.TheImpl.{ghosts as kernel}
 use Rattle.scripts.specs.declared.record.form.Form.TheVariants.{One}
 use Rattle.scripts.specs.declared.objects.kernel_call.KParams.{KParams}

@@ -9,8 +9,8 @@ use Rattle.event_log.proofs.Each.{all_map, all_both}
 use Rattle.event_log.specs.declared.entry.Done.TheVariants.{Steps, NoRoom}
 use Rattle.event_log.specs.declared.event.TheConstants.{MOST_CALLS}
 use Rattle.event_log.specs.Log.{Begins, calls_of, LegalFrom, Legal, after, of}
-use Rattle.word_rule.specs.Sound.{Opened, Sound, Answers, EntryIsSound, done_on, with_steps, steps_by, transcript_of}
-use Rattle.word_rule.proofs.Slices.{some_at, map_get}
+use Rattle.sound_run.specs.Sound.{Opened, Sound, Answers, EntryIsSound, done_on, with_steps, steps_by, transcript_of}
+use Rattle.sound_run.proofs.Slices.{some_at, map_get}
 use Rattle.scripts.specs.contracts.objects.kernel_object.KernelObjectSeqObject.TheImpl.{ghosts as kernel}
 use Rattle.scripts.specs.declared.record.form.Form.TheVariants.{Two}
 use Rattle.scripts.specs.declared.objects.kernel_call.KParams.{KParams}

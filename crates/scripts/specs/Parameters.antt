@@ -1,8 +1,8 @@
 -- How what objects are opened with is spelled.
 use Rattle.std.specs.Prelude.{ℕ, if◌then◌else◌, Option, Some, None, List, [], ◌∷◌, map, codes, decimal}
 use Rattle.std.specs.Str.{bytes_eq}
-use Rattle.word_rule.specs.declared.lock_kind.LockKind.{LockKind}
-use Rattle.word_rule.specs.declared.lock_kind.LockKind.TheVariants.{Ticket, Mcs}
+use Rattle.sound_run.specs.declared.lock_kind.LockKind.{LockKind}
+use Rattle.sound_run.specs.declared.lock_kind.LockKind.TheVariants.{Ticket, Mcs}
 use Rattle.scripts.specs.declared.record.form.Form.{Form}
 use Rattle.scripts.specs.declared.record.form.Form.TheVariants.{One, Two}
 use Rattle.scripts.specs.declared.objects.kind.Kind.{Kind}

@@ -3,7 +3,7 @@ use Rattle.std.specs.Prelude.{◌≡◌, ◌<◌, ◌≤◌, ◌^◌, ℕ, List,
 use Rattle.std.specs.List.{AllByRecursion, AllZip}
 use Rattle.event_log.specs.Entries.{asked_of}
 use Rattle.event_log.specs.Log.{Begins}
-use Rattle.word_rule.specs.Sound.{Opened}
+use Rattle.sound_run.specs.Sound.{Opened}
 use Rattle.scripts.specs.declared.objects.kernel_call.KParams.{KParams}
 use Rattle.scripts.specs.declared.script.list.TheConstants.{MOST_ENTRIES}
 use Rattle.scripts.specs.KernelTypes.{KernelEntry, KernelTodo, KernelRun}

@@ -1,7 +1,7 @@
 -- The text of a schedule: whose turn each step is, one word a step.
 use Rattle.std.specs.Prelude.{ℕ, ◌+◌, ◌≡◌, ◌<◌, ◌≤◌, ◌==◌, ◌||◌, ◌⊎◌, Bool, not, List, ◌∷◌, ◌++◌, map, length, decimal}
 use Rattle.std.specs.List.{AllByRecursion, filter, slice_split}
-use Rattle.word_rule.specs.declared.key.TheConstants.{MOST_CPUS}
+use Rattle.sound_run.specs.declared.limits.TheConstants.{MOST_CPUS}
 use Rattle.scripts.specs.declared.schedule.TheConstants.{MOST_STEPS}
 
 -- a space or a line end

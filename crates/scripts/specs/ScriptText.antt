@@ -2,8 +2,8 @@
 use Rattle.std.specs.Prelude.{ℕ, ◌+◌, ◌≡◌, ◌<◌, ◌≤◌, ◌==◌, ◌⊎◌, true, List, [], ◌∷◌, ◌++◌, map, length, decimal, count_by}
 use Rattle.std.specs.List.{list_all, AllByRecursion, filter, range_with_len}
 use Rattle.event_log.specs.declared.event.TheConstants.{MOST_CALLS}
-use Rattle.word_rule.specs.declared.key.TheConstants.{MOST_CPUS}
-use Rattle.word_rule.specs.declared.machine.TheConstants.{MOST_CELLS}
+use Rattle.sound_run.specs.declared.limits.TheConstants.{MOST_CPUS}
+use Rattle.sound_run.specs.declared.limits.TheConstants.{MOST_CELLS}
 use Rattle.scripts.specs.declared.script.request.Request.{Request}
 use Rattle.scripts.specs.declared.script.list.TheConstants.{MOST_ENTRIES}
 use Rattle.scripts.specs.KernelTypes.{KernelTodo}

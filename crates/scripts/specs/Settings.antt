@@ -3,9 +3,9 @@ use Rattle.std.specs.Prelude.{ℕ, ◌≡◌, ◌≤◌, ◌<◌, ◌&&◌, ◌|
 use Rattle.std.specs.List.{slice_get, list_all, AllByRecursion}
 use Rattle.std.specs.Option.{option_map_or}
 use Rattle.event_log.specs.declared.logged.TheConstants.{MOST_EVENTS}
-use Rattle.word_rule.specs.declared.lock_kind.LockKind.{LockKind}
-use Rattle.word_rule.specs.declared.lock_kind.LockKind.TheVariants.{Ticket}
-use Rattle.word_rule.specs.declared.machine.TheConstants.{MOST_CELLS}
+use Rattle.sound_run.specs.declared.lock_kind.LockKind.{LockKind}
+use Rattle.sound_run.specs.declared.lock_kind.LockKind.TheVariants.{Ticket}
+use Rattle.sound_run.specs.declared.limits.TheConstants.{MOST_CELLS}
 use Rattle.scripts.specs.declared.objects.kernel_call.KParams.{KParams}
 use Rattle.scripts.specs.declared.objects.kernel_call.KParams.TheVariants.{Queue}
 use Rattle.scripts.specs.declared.record.form.Form.{Form}

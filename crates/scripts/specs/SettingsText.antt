@@ -10,10 +10,10 @@ use Rattle.shared_queue.specs.declared.queue.TheConstants.{MOST_THREADS}
 use Rattle.page_pool.specs.declared.params.TheConstants.{MOST_PAGES, OWNERS}
 use Rattle.console_ring.specs.declared.console.TheConstants.{MOST_BYTES}
 use Rattle.wake_list.specs.declared.sched.TheConstants.{MOST_THREADS as MOST_SCHEDULED, MOST_CHANNELS}
-use Rattle.word_rule.specs.declared.key.TheConstants.{MOST_CPUS}
-use Rattle.word_rule.specs.declared.lock_kind.LockKind.{LockKind}
-use Rattle.word_rule.specs.declared.lock_kind.LockKind.TheVariants.{Ticket, Mcs}
-use Rattle.word_rule.specs.declared.machine.TheConstants.{MOST_CELLS}
+use Rattle.sound_run.specs.declared.limits.TheConstants.{MOST_CPUS}
+use Rattle.sound_run.specs.declared.lock_kind.LockKind.{LockKind}
+use Rattle.sound_run.specs.declared.lock_kind.LockKind.TheVariants.{Ticket, Mcs}
+use Rattle.sound_run.specs.declared.limits.TheConstants.{MOST_CELLS}
 use Rattle.scripts.specs.declared.objects.kernel_call.KParams.{KParams}
 use Rattle.scripts.specs.declared.objects.kernel_call.KParams.TheVariants.{Queue, Pool, Console, Sched}
 use Rattle.scripts.specs.declared.settings.fault.BadSettings.{BadSettings}

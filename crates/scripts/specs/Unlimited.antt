@@ -1,7 +1,7 @@
 -- What records were judged by before owners of pages had quotas.
 use Rattle.event_log.specs.declared.object.SeqObject.{Ghosts}
 use Rattle.page_pool.specs.Unlimited.{unlimited_answer}
-use Rattle.word_rule.specs.Sound.{Sound}
+use Rattle.sound_run.specs.Sound.{Sound}
 use Rattle.scripts.specs.declared.objects.kernel_call.KParams.{KParams}
 use Rattle.scripts.specs.declared.objects.kernel_call.KCall.{KCall}
 use Rattle.scripts.specs.declared.objects.kernel_call.KCall.TheVariants.{Pool as PoolCalled}

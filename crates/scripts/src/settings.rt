@@ -13,7 +13,7 @@ use arrayvec::ArrayString;
 use event_log::{OutOfMemory, Series};
 use std::alloc::Global;
 use std::marker::Model;
-use word_rule::LockKind;
+use sound_run::LockKind;
 
 /// An object's name, its lock, the most events of its log, and what it is opened with.
 #[derive(Drop)]

@@ -5,7 +5,7 @@ use Rattle.std.proofs.lemmas.List.Elements.{All-from_recursion}
 use Rattle.std.proofs.lemmas.List.Splits.{slice_split-cons_yes, slice_split_at}
 use Rattle.std.specs.List.{AllByRecursion, filter, slice_split}
 use Rattle.scripts.proofs.Readings.{plain_decimal}
-use Rattle.word_rule.specs.declared.key.TheConstants.{MOST_CPUS}
+use Rattle.sound_run.specs.declared.limits.TheConstants.{MOST_CPUS}
 use Rattle.scripts.specs.Row.{IsPlain}
 use Rattle.scripts.specs.ScheduleText.{is_gap, schedule_words, IsSchedule}
 use Rattle.scripts.specs.declared.schedule.TheConstants.{MOST_STEPS}

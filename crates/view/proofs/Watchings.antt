@@ -13,7 +13,7 @@ use Rattle.word_rule.specs.StepKinds.{ends_hold}
 use Rattle.word_rule.specs.Machine.Orders.{first_cell, works_on}
 use Rattle.word_rule.specs.Machine.Shown.{MachineParts, Represents}
 use Rattle.word_rule.specs.Machine.World.{World, CellState, CpuState, left, finished, counted, outcome, step_on, step_of, step_by, step}
-use Rattle.word_rule.proofs.Slices.{get_map, map_get, map_set, read_get, some_at}
+use Rattle.sound_run.proofs.Slices.{get_map, map_get, map_set, read_get, some_at}
 use Rattle.view.specs.Watching.{words_in, words_on}
 
 -- the images of a list in which one element was written

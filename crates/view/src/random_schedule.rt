@@ -2,7 +2,7 @@
 
 ghost use Rattle.std.specs.Prelude.{◌≡◌, ◌<◌, ◌≤◌, [], length, map, string_bytes, decimal, IfOk, IfSome, IfNone};
 ghost use Rattle.std.specs.List.{AllByRecursion};
-ghost use Rattle.word_rule.specs.declared.key.TheConstants.{MOST_CPUS};
+ghost use Rattle.sound_run.specs.declared.limits.TheConstants.{MOST_CPUS};
 ghost use Rattle.scripts.specs.Words.{text_of_lines};
 ghost use Rattle.scripts.specs.ScriptText.{ScriptsFit};
 ghost use Rattle.cpu_worker.specs.Simulation.{KernelWorld};
@@ -15,7 +15,8 @@ use crate::watched::Watched;
 use event_log::{OutOfMemory, SeqObject};
 use scripts::{KernelObject, MOST_STEPS, Scripts, Settings};
 use std::alloc::{AllocError, Global};
-use word_rule::{MOST_CPUS, StepDone};
+use sound_run::MOST_CPUS;
+use word_rule::StepDone;
 
 /// Why no schedule was drawn.
 #[derive(Clone, Copy, Debug, PartialEq, Eq, Drop)]

@@ -10,7 +10,8 @@ use crate::step_text::{TICKETS, put_each};
 use crate::watched::Seen;
 use scripts::{ObjectSettings, Settings};
 use std::alloc::AllocError;
-use word_rule::{LockKind, StepDone};
+use sound_run::LockKind;
+use word_rule::StepDone;
 
 /// Puts the numbers as an array.
 fn put_list(text: &mut String, numbers: &[u64]) -> Result<(), AllocError>

@@ -8,7 +8,8 @@ use crate::step_names::{kind_of, object_at, outcome_of};
 use crate::watched::Seen;
 use scripts::{ObjectSettings, Settings};
 use std::alloc::AllocError;
-use word_rule::{LockKind, StepDone};
+use sound_run::LockKind;
+use word_rule::StepDone;
 
 /// How many tickets there are: a ticket lock's word is the next ticket times this, and the ticket that is served.
 pub const TICKETS: u64 = 4_294_967_296;

@@ -13,7 +13,7 @@ use Rattle.word_rule.proofs.LockInterface.{NoneTries, is_idle}
 use Rattle.word_rule.proofs.LockLaws.{begins, turn_acts, turn_whole}
 use Rattle.word_rule.proofs.Openings.{opening_sound}
 use Rattle.word_rule.proofs.Orders.{Keeps, AreLocks, IsCell, locks_run, same_cpus}
-use Rattle.word_rule.proofs.Slices.{some_at}
+use Rattle.sound_run.proofs.Slices.{some_at}
 use Rattle.word_rule.proofs.SoundSteps.{sound_run}
 use Rattle.word_rule.proofs.TurnsKeep.{locks_keep}
 

@@ -17,9 +17,6 @@ pub mod LockLaws
 pub mod Acting
 pub mod Dealing
 pub mod WholeCalls
-pub mod Slices
-pub mod Entries
-pub mod OrderLists
 pub mod OrderedRuns
 pub mod WorldOrders
 pub mod SoundSteps

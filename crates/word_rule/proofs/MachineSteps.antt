@@ -17,11 +17,11 @@ use Rattle.word_rule.specs.declared.machine.step_done.StepDone.TheVariants as st
 use Rattle.word_rule.specs.Locks.{Lock, turn}
 use Rattle.word_rule.specs.Rule.LockStates.{RepresentsLock}
 use Rattle.word_rule.specs.Machine.Shown.{MachineParts, RepresentsCell, ShowsCpu, Represents, Runs}
-use Rattle.word_rule.specs.Sound.{Opened}
+use Rattle.sound_run.specs.Sound.{Opened}
 use Rattle.word_rule.specs.Machine.SoundWorld.{IsTodo}
 use Rattle.word_rule.specs.StepKinds.{ends_hold}
 use Rattle.word_rule.specs.Machine.World.{World, CellState, CpuState, with_done, entry_of, left, finished, counted, outcome, cell_after, cpu_after, world_after, step_on, step_of, step_by, step}
-use Rattle.word_rule.proofs.Slices.{get_set_same, get_set_other, read_get, some_at, one_of}
+use Rattle.sound_run.proofs.Slices.{get_set_same, get_set_other, read_get, some_at, one_of}
 
 pub drop_at : {X : Type 0} (xs : List X) (i : ℕ) (x : X) → slice_get xs i ≡ Some x → drop i xs ≡ x ∷ drop (suc i) xs
 drop_at [] i x e = cc

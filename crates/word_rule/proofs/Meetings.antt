@@ -7,7 +7,7 @@ use Rattle.atomic_table.specs.Table.{step, keeps, gives, rest, Allows, Splits, J
 use Rattle.atomic_table.proofs.Lists.{at_set}
 use Rattle.event_log.specs.declared.object.SeqObject.{Ghosts}
 use Rattle.event_log.specs.Distinct.{has}
-use Rattle.word_rule.specs.declared.lock_kind.LockKind.{LockKind}
+use Rattle.sound_run.specs.declared.lock_kind.LockKind.{LockKind}
 use Rattle.word_rule.specs.declared.lock_kind.Stage.TheVariants.{Idle}
 use Rattle.word_rule.specs.Cell.{Cell}
 use Rattle.word_rule.specs.Locks.{holding}

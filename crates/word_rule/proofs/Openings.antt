@@ -10,16 +10,16 @@ use Rattle.event_log.specs.declared.entry.Todo.{Todo}
 use Rattle.word_rule.specs.declared.machine.cell_spec.CellSpec.{CellSpec}
 use Rattle.word_rule.specs.declared.machine.lock_words.LockWords.{LockWords}
 use Rattle.word_rule.specs.declared.machine.progress.Progress.{Progress}
-use Rattle.word_rule.specs.declared.key.TheConstants.{MOST_CPUS}
+use Rattle.sound_run.specs.declared.limits.TheConstants.{MOST_CPUS}
 use Rattle.word_rule.specs.Rule.LockStates.{RepresentsLock}
 use Rattle.word_rule.specs.Machine.Opening.{opening_cell, opening_cpu, opening_world, IsOpening, IsOpeningCell}
 use Rattle.word_rule.specs.Machine.Shown.{MachineParts, RepresentsCell, ShowsCpu, Represents, Runs, IsRoomy, FreshCpu, FreshDone, FreshLock, FreshLocks}
-use Rattle.word_rule.specs.Orders.{numbers, IsOrder}
-use Rattle.word_rule.specs.Sound.{LogIsSound, log_of, done_on, steps_by, NoneAfterFull}
+use Rattle.sound_run.specs.Orders.{numbers, IsOrder}
+use Rattle.sound_run.specs.Sound.{LogIsSound, log_of, done_on, steps_by, NoneAfterFull}
 use Rattle.word_rule.specs.Machine.SoundWorld.{SoundWorld, IsTodo, IsAnswer, entries_of, entries_by}
 use Rattle.word_rule.specs.Machine.World.{World, CellState, CpuState, run_of}
 use Rattle.word_rule.proofs.LockLaws.{few_fit}
-use Rattle.word_rule.proofs.Slices.{get_map, map_get, map_none, one_of}
+use Rattle.sound_run.proofs.Slices.{get_map, map_get, map_none, one_of}
 use Rattle.word_rule.proofs.SoundRuns.{transcript_is}
 
 pub zip_at : {X Y : Type 0} (R : X → Y → Type 0) (xs : List X) (ys : List Y) (k : ℕ) (x : X) (y : Y) → AllZip R xs ys → slice_get xs k ≡ Some x → slice_get ys k ≡ Some y → R x y

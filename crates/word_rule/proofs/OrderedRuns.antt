@@ -13,12 +13,12 @@ use Rattle.event_log.specs.declared.entry.Done.{Done}
 use Rattle.event_log.specs.declared.entry.Done.TheVariants as done
 use Rattle.event_log.specs.declared.entry.Entry.{Entry}
 use Rattle.event_log.specs.declared.entry.Run.{Run}
-use Rattle.word_rule.specs.declared.place.Place.{Place}
+use Rattle.sound_run.specs.declared.place.Place.{Place}
 use Rattle.word_rule.specs.Machine.World.{with_done}
-use Rattle.word_rule.specs.Orders.{numbers, entries_of, with_event, with_entry, entry_at, events_on, NoneBehindFull, IsOrder}
-use Rattle.word_rule.specs.Sound.{transcript_of, log_of}
-use Rattle.word_rule.proofs.OrderLists.{num_push, entries_append, entries_own, entries_other, events_append, full_push, one_off, one_none}
-use Rattle.word_rule.proofs.Slices.{get_set_same, get_set_other}
+use Rattle.sound_run.specs.Orders.{numbers, entries_of, with_event, with_entry, entry_at, events_on, NoneBehindFull, IsOrder}
+use Rattle.sound_run.specs.Sound.{transcript_of, log_of}
+use Rattle.sound_run.proofs.OrderLists.{num_push, entries_append, entries_own, entries_other, events_append, full_push, one_off, one_none}
+use Rattle.sound_run.proofs.Slices.{get_set_same, get_set_other}
 
 -- the numbers of n from a on are below their end
 numbers_below : (a n m : ℕ) → a + n ≤ m → AllByRecursion (λ k. k < m) (numbers a n)

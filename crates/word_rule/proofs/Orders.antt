@@ -14,7 +14,7 @@ use Rattle.word_rule.specs.StepKinds.{ends_hold, arrives}
 use Rattle.word_rule.specs.Machine.World.{World, CellState, CpuState, step, step_by, step_of, step_on, run}
 use Rattle.word_rule.specs.Machine.Orders.{first_cell, works_on, is_that, is_at, doers, arrivals, endings}
 use Rattle.word_rule.proofs.LineAfter.{LineAfter, order_here, order_there, arrived_longer}
-use Rattle.word_rule.proofs.Slices.{get_set_same, get_set_other}
+use Rattle.sound_run.proofs.Slices.{get_set_same, get_set_other}
 
 -- what each lock promises of its turns, for n CPUs
 pub record Keeps (IsLock : ℕ → Lock → Type 0) : Type 0 where

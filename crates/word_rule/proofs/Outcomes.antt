@@ -7,7 +7,7 @@ use Rattle.event_log.specs.declared.event.Step.{Step}
 use Rattle.event_log.specs.declared.entry.Done.{Done}
 use Rattle.event_log.specs.declared.entry.Done.TheVariants as done
 use Rattle.event_log.specs.Log.{answers, replay}
-use Rattle.word_rule.specs.Sound.{Opened}
+use Rattle.sound_run.specs.Sound.{Opened}
 use Rattle.word_rule.specs.Machine.World.{outcome}
 
 module _ {O P C R : Type 0} (meaning : Ghosts O P C R) (opened : Opened P) (log : List (Event O P C R)) (asked : List C) where

@@ -1,7 +1,7 @@
 -- Callers who own every number of a cell, alone or together.
 use Rattle.std.proofs.Common.{◌≡◌, ℕ, zero, suc, ◌<◌, ◌==◌, ◌||◌, true, refl, sym, ap, subst, ◌∙◌, arith}
 use Rattle.event_log.specs.History.{History}
-use Rattle.word_rule.specs.declared.lock_kind.LockKind.{LockKind}
+use Rattle.sound_run.specs.declared.lock_kind.LockKind.{LockKind}
 use Rattle.word_rule.specs.Cell.{Cell, Caller, PassView, OwnsAll, OwnTogether, first_pass}
 
 module _ {O P C R : Type 0} where

@@ -24,11 +24,11 @@ use Rattle.word_rule.specs.Machine.Opening.{opening_cpu}
 use Rattle.word_rule.specs.Machine.SoundWorld.{entries_of}
 use Rattle.word_rule.specs.Machine.World.{World, CellState, CpuState, with_done, entry_of, left, finished, counted, outcome, cell_after, cpu_after, world_after, step_on, step_of, step_by, step, run}
 use Rattle.word_rule.specs.Replay.{todo_of, cell_with, replay_world, entries_left, DoesStep, DoesRun, AllDoRun, steps_done, replayed, IsReplay}
-use Rattle.word_rule.specs.Sound.{Opened, done_on, steps_by}
+use Rattle.sound_run.specs.Sound.{Opened, done_on, steps_by}
 use Rattle.word_rule.specs.StepKinds.{ends_hold}
-use Rattle.word_rule.proofs.Entries.{done_append, done_here, done_without}
+use Rattle.sound_run.proofs.Entries.{done_append, done_here, done_without}
 use Rattle.word_rule.proofs.RunOrder.{first_of, behind_of}
-use Rattle.word_rule.proofs.Slices.{get_set_same, get_set_other}
+use Rattle.sound_run.proofs.Slices.{get_set_same, get_set_other}
 
 begins_head : {A : Type 0} (x : A) (a b : List A) → Begins (x ∷ a) b → b ≡ x ∷ drop 1 b
 begins_head {A = A} x a b h = by b (begins_rest (x ∷ a) b h)

@@ -20,12 +20,12 @@ use Rattle.event_log.proofs.Batches.{next_answers, answers_fulfil}
 use Rattle.word_rule.specs.declared.machine.step_done.StepDone.{StepDone}
 use Rattle.word_rule.specs.Locks.{Lock, turn}
 use Rattle.word_rule.specs.StepKinds.{ends_hold}
-use Rattle.word_rule.specs.Sound.{LogIsSound, Answers, NoneAfterFull, done_on, steps_by}
+use Rattle.sound_run.specs.Sound.{LogIsSound, Answers, NoneAfterFull, done_on, steps_by}
 use Rattle.word_rule.specs.Machine.World.{World, CellState, CpuState, with_done, entry_of, left, finished, counted, outcome, world_after, step_on, step_of, step_by, step, run}
 use Rattle.word_rule.specs.Machine.SoundWorld.{IsTodo, entries_of, entries_by, IsAnswer, SoundWorld}
 use Rattle.event_log.proofs.Each.{all_map, all_push}
-use Rattle.word_rule.proofs.Entries.{done_append, done_here, done_elsewhere, done_without, steps_push, steps_other, full_push}
-use Rattle.word_rule.proofs.Slices.{get_set_same, get_set_other, one_of}
+use Rattle.sound_run.proofs.Entries.{done_append, done_here, done_elsewhere, done_without, steps_push, steps_other, full_push}
+use Rattle.sound_run.proofs.Slices.{get_set_same, get_set_other, one_of}
 
 module _ {O P C R : Type 0} (meaning : Ghosts O P C R) where
   -- what a CPU's step on a cell leaves, of the cell and of the CPU

@@ -13,18 +13,18 @@ use Rattle.event_log.specs.declared.entry.Todo.{Todo}
 use Rattle.event_log.specs.declared.entry.Run.{Run}
 use Rattle.event_log.specs.Log.{answers, replay}
 use Rattle.word_rule.specs.declared.machine.step_done.StepDone.{StepDone}
-use Rattle.word_rule.specs.declared.place.Place.{Place}
+use Rattle.sound_run.specs.declared.place.Place.{Place}
 use Rattle.word_rule.specs.Locks.{Lock, turn}
 use Rattle.word_rule.specs.StepKinds.{ends_hold}
-use Rattle.word_rule.specs.Orders.{entry_at, IsOrder}
-use Rattle.word_rule.specs.Sound.{Answers}
+use Rattle.sound_run.specs.Orders.{entry_at, IsOrder}
+use Rattle.sound_run.specs.Sound.{Answers}
 use Rattle.word_rule.specs.Machine.Opening.{IsOpening}
 use Rattle.word_rule.specs.Machine.Orders.{ended}
 use Rattle.word_rule.specs.Machine.SoundWorld.{entries_of, entries_by, SoundWorld}
 use Rattle.word_rule.specs.Machine.World.{World, CellState, CpuState, with_done, entry_of, finished, counted, outcome, world_after, step_on, step_of, step_by, step, run, run_of}
 use Rattle.word_rule.proofs.Openings.{all_at, opening_sound, opening_order}
 use Rattle.word_rule.proofs.OrderedRuns.{order_more}
-use Rattle.word_rule.proofs.Slices.{map_get, map_set, one_of}
+use Rattle.sound_run.proofs.Slices.{map_get, map_set, one_of}
 use Rattle.word_rule.proofs.SoundRuns.{transcript_is}
 use Rattle.word_rule.proofs.SoundSteps.{sound_step}
 

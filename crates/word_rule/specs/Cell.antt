@@ -6,7 +6,7 @@ use Rattle.event_log.specs.declared.event.Event.{Event}
 use Rattle.event_log.specs.declared.event.Steps.{Steps}
 use Rattle.event_log.specs.Log.{Begins, Legal, after, replay, of}
 use Rattle.event_log.specs.History.{History, with_event}
-use Rattle.word_rule.specs.declared.lock_kind.LockKind.{LockKind}
+use Rattle.sound_run.specs.declared.lock_kind.LockKind.{LockKind}
 
 -- what was fixed when a cell was opened; a ticket lock serves the first ticket first; its CPUs are the numbers below `numbers`
 pub record Cell (O P C R : Type 0) : Type 0 where

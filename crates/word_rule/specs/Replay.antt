@@ -11,7 +11,7 @@ use Rattle.word_rule.specs.Holds.{Leaves}
 use Rattle.word_rule.specs.LockRuns.{events_in, lock_after}
 use Rattle.word_rule.specs.Locks.{Lock, opening_lock}
 use Rattle.word_rule.specs.StepKinds.{ends_hold}
-use Rattle.word_rule.specs.Sound.{done_on, steps_by}
+use Rattle.sound_run.specs.Sound.{done_on, steps_by}
 use Rattle.word_rule.specs.Machine.Opening.{opening_cpu}
 use Rattle.word_rule.specs.Machine.SoundWorld.{entries_by}
 use Rattle.word_rule.specs.Machine.World.{World, CellState, CpuState, step, run}

@@ -4,13 +4,10 @@ ghost use Rattle.std.specs.Prelude.{◌≡◌};
 ghost use Rattle.event_log.specs.History.{IsKept};
 ghost use Rattle.word_rule.specs.Cell.{cell_of};
 
-use crate::LockKind;
+use sound_run::LockKind;
 use event_log::{Logged, SeqObject};
 use std::marker::Model;
 use std::snapshot::Snapshot;
-
-/// The most CPUs of one cell.
-pub const MOST_CPUS: u8 = 64;
 
 /// The constants of a cell, for contracts: which lock it has and its first ticket, what the object was opened with, its limit,
 /// its opening log and the number of CPUs. It carries no log of its own.

@@ -1,11 +1,4 @@
-//! The locks that there are, and where a caller stands at each.
-
-/// Which lock guards an object.
-#[derive(Clone, Copy, Debug, PartialEq, Eq, Drop)]
-pub enum LockKind {
-    Ticket,
-    Mcs,
-}
+//! Where a caller stands at each lock.
 
 /// What a caller has done last, and so what it may do next. A caller that owns several CPU numbers stands at this place
 /// with the number that it acts as; its others are idle.

@@ -4,8 +4,8 @@ ghost use Rattle.std.specs.Prelude.{◌≡◌, ◌<◌, ◌≤◌, [], All, leng
 ghost use Rattle.std.specs.List.{AllByRecursion};
 ghost use Rattle.word_rule.specs.Machine.Opening.{opening_world, IsOpening};
 ghost use Rattle.word_rule.specs.Machine.Shown.{Represents, Runs, Follows, HasWords, opened_by};
-ghost use Rattle.word_rule.specs.Orders.{HasOrder};
-ghost use Rattle.word_rule.specs.Sound.{Sound};
+ghost use Rattle.sound_run.specs.Orders.{HasOrder};
+ghost use Rattle.sound_run.specs.Sound.{Sound};
 ghost use Rattle.word_rule.specs.Machine.SoundWorld.{IsTodo};
 ghost use Rattle.word_rule.specs.Machine.World.{World, step, run, run_of};
 
@@ -22,7 +22,7 @@ mod step_done;
 mod tests;
 mod ticket;
 
-use crate::MOST_CPUS;
+use sound_run::{MOST_CELLS, MOST_CPUS};
 use crate::machine::hold::count_step;
 use crate::machine::lock_words::LockWords;
 use crate::machine::logs::{all_logs, all_transcripts};
@@ -34,9 +34,6 @@ pub use law::{ends_are_an_order, first_come, idle_when_done, one_holder, sound_r
 use std::alloc::Global;
 use std::marker::Model;
 pub use step_done::StepDone;
-
-/// The most cells of one machine.
-pub const MOST_CELLS: u8 = 16;
 
 /// Cells of either kind, and CPUs that do the entries of their scripts on them, one atomic step at a time. All its memory
 /// is taken when it is made.

@@ -1,6 +1,6 @@
 //! Where callers of a cell sleep while they wait for their turn.
 
-use crate::MOST_CPUS;
+use sound_run::MOST_CPUS;
 use crossbeam_utils::Backoff;
 use std::array;
 use std::sync::Wait;

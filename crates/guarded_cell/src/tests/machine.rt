@@ -15,7 +15,8 @@ use std::alloc::Global;
 use std::process::Abort;
 use std::test::Fail;
 use ticket_lock::TicketCell;
-use word_rule::{CellSpec, LockCell, LockKind, Machine, StepDone};
+use sound_run::LockKind;
+use word_rule::{CellSpec, LockCell, Machine, StepDone};
 
 /// A script of one call, which puts the thread into the queue.
 fn script_of(alloc: Global, thread: u32) -> Result<Vec<Todo<ThreadQueue>>, Fail>

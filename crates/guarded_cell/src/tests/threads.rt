@@ -17,7 +17,8 @@ use std::test::Fail;
 use std::thread::Threads;
 use std::{slice, thread};
 use ticket_lock::TicketCell;
-use word_rule::{LockCell, LockKind};
+use sound_run::LockKind;
+use word_rule::LockCell;
 
 /// The passes of two callers.
 pub type Pair<P> = (P, P);

@@ -2,7 +2,7 @@
 
 ghost use Rattle.std.specs.Prelude.{◌≡◌, ◌++◌, ℕ, List, length, true};
 ghost use Rattle.std.specs.List.{AllByRecursion};
-ghost use Rattle.word_rule.specs.Sound.{Sound};
+ghost use Rattle.sound_run.specs.Sound.{Sound};
 ghost use Rattle.event_log.specs.declared.event.Event.{Event};
 ghost use Rattle.event_log.specs.Log.{Legal};
 ghost use Rattle.scripts.specs.KernelTypes.{KernelRun};

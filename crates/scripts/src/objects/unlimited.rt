@@ -1,7 +1,7 @@
 //! Records from before owners of pages had quotas.
 
 ghost use Rattle.std.specs.Prelude.{◌↔◌};
-ghost use Rattle.word_rule.specs.Sound.{Sound};
+ghost use Rattle.sound_run.specs.Sound.{Sound};
 ghost use Rattle.scripts.specs.declared.record.form.Form.TheVariants.{One};
 ghost use Rattle.scripts.specs.RecordRanges.{Record, RecordFitsIn};
 ghost use Rattle.scripts.specs.Runs.{opened_of};

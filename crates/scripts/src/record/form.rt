@@ -7,7 +7,7 @@ ghost use Rattle.scripts.specs.Forms.{version, most_cpus, has_reply, has_steps, 
 
 use crate::{KReply, KernelObject};
 use event_log::{Done, Step};
-use word_rule::MOST_CPUS;
+use sound_run::MOST_CPUS;
 
 /// The most CPUs of a record 1.
 pub const FIRST_MOST_CPUS: u8 = 8;

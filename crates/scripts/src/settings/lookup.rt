@@ -9,7 +9,7 @@ ghost use Rattle.scripts.specs.RecordReading.{place_at};
 
 use crate::ObjectSettings;
 use crate::text::words::{Words, word};
-use word_rule::MOST_CELLS;
+use sound_run::MOST_CELLS;
 
 /// Whether one of the objects has the name.
 pub(crate) fn is_taken(objects: &[ObjectSettings], name: &[u8]) -> bool

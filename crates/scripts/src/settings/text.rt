@@ -25,7 +25,7 @@ use shared_queue::MOST_THREADS;
 use std::alloc::Global;
 use toml::{Table, Value};
 use wake_list::{MOST_CHANNELS, MOST_THREADS as MOST_SCHEDULED, SchedParams};
-use word_rule::{LockKind, MOST_CELLS, MOST_CPUS};
+use sound_run::{LockKind, MOST_CELLS, MOST_CPUS};
 
 /// A cause is a fault of that key, at that place.
 #[tactic(auto, unfolding(crate::specs::SettingsText::at_key))]

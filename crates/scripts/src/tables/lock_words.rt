@@ -3,7 +3,7 @@
 ghost use Rattle.std.specs.Prelude.{◌≡◌};
 ghost use Rattle.scripts.specs.Parameters.{lock_word, lock_of};
 
-use word_rule::LockKind;
+use sound_run::LockKind;
 
 /// The word that stands for the lock.
 pub fn lock_word(lock: LockKind) -> &'static str

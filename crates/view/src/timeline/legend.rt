@@ -6,7 +6,7 @@ use crate::picture::{Anchor, Area, GREY, INK, Picture};
 use crate::timeline::colours::colours_of;
 use scripts::{KParams, Settings};
 use std::alloc::{AllocError, Global};
-use word_rule::LockKind;
+use sound_run::LockKind;
 
 /// How wide an item is, and how high.
 const ITEM_WIDTH: usize = 290;

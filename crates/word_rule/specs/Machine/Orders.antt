@@ -4,7 +4,7 @@ use Rattle.event_log.specs.declared.object.SeqObject.{Ghosts}
 use Rattle.event_log.specs.declared.entry.Todo.{Todo}
 use Rattle.event_log.specs.Distinct.{has}
 use Rattle.word_rule.specs.declared.machine.step_done.StepDone.{StepDone}
-use Rattle.word_rule.specs.declared.place.Place.{Place}
+use Rattle.sound_run.specs.declared.place.Place.{Place}
 use Rattle.word_rule.specs.StepKinds.{ends_hold, arrives}
 use Rattle.word_rule.specs.Machine.SoundWorld.{entries_by}
 use Rattle.word_rule.specs.Machine.World.{World, CpuState, step}

@@ -5,7 +5,7 @@ use Rattle.event_log.specs.declared.object.SeqObject.{Ghosts}
 use Rattle.event_log.specs.declared.event.TheConstants.{MOST_CALLS}
 use Rattle.event_log.specs.declared.entry.Entry.{Entry}
 use Rattle.event_log.specs.declared.entry.Todo.{Todo}
-use Rattle.word_rule.specs.Sound.{LogIsSound, Answers, NoneAfterFull, done_on, steps_by}
+use Rattle.sound_run.specs.Sound.{LogIsSound, Answers, NoneAfterFull, done_on, steps_by}
 use Rattle.word_rule.specs.Machine.World.{World, CellState, CpuState}
 
 module _ {O P C R : Type 0} where

@@ -13,7 +13,7 @@ use Rattle.word_rule.specs.declared.machine.step_done.StepDone.{StepDone}
 use Rattle.word_rule.specs.declared.machine.step_done.StepDone.TheVariants as steps
 use Rattle.word_rule.specs.Locks.{Lock, turn}
 use Rattle.word_rule.specs.StepKinds.{ends_hold, is_look}
-use Rattle.word_rule.specs.Sound.{Opened}
+use Rattle.sound_run.specs.Sound.{Opened}
 
 -- an object behind its lock: what it was opened with, the lock, and the committed log
 pub record CellState (O P C R : Type 0) : Type 0 where

@@ -6,8 +6,8 @@ ghost use Rattle.word_rule.specs.declared.machine.step_done.StepDone.TheVariants
 ghost use Rattle.word_rule.specs.Locks.{holding};
 ghost use Rattle.word_rule.specs.Machine.Opening.{IsOpening};
 ghost use Rattle.word_rule.specs.Machine.Orders.{is_at, arrivals, endings, arrives_at, ends_within, ended};
-ghost use Rattle.word_rule.specs.Orders.{IsOrder};
-ghost use Rattle.word_rule.specs.Sound.{Sound};
+ghost use Rattle.sound_run.specs.Orders.{IsOrder};
+ghost use Rattle.sound_run.specs.Sound.{Sound};
 ghost use Rattle.word_rule.specs.StepKinds.{arrives};
 ghost use Rattle.word_rule.specs.Machine.World.{World, CellState, CpuState, run, step, run_of, opened_in};
 

@@ -8,7 +8,8 @@ ghost use Rattle.word_rule.specs.Rule.LockStates.{IsLockOf};
 use crate::machine::mcs::turn_mcs;
 use crate::machine::step_done::StepDone;
 use crate::machine::ticket::turn_ticket;
-use crate::{LockKind, MOST_CPUS, Stage, TICKETS, word_with};
+use sound_run::{LockKind, MOST_CPUS};
+use crate::{Stage, TICKETS, word_with};
 use event_log::OutOfMemory;
 use std::alloc::Global;
 

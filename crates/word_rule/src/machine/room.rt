@@ -3,7 +3,7 @@
 ghost use Rattle.std.specs.Prelude.{◌≡◌, ◌≤◌, [], length, vec_capacity, IfOk};
 ghost use Rattle.word_rule.specs.Machine.Shown.{FreshLocks, FreshDone};
 
-use crate::MOST_CPUS;
+use sound_run::MOST_CPUS;
 use crate::machine::cell_spec::CellSpec;
 use crate::machine::lock_words::LockWords;
 use crate::machine::progress::Progress;

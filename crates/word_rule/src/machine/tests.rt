@@ -1,6 +1,6 @@
 //! Worked schedules, step by step, and what they leave.
 
-use crate::LockKind;
+use sound_run::LockKind;
 use crate::machine::StepDone;
 use crate::machine::tests::scene::{Left, Setting, Turn, leaves, open, plays, two_cpus};
 use shared_queue::{QueueCall as Call, QueueReply as Reply};

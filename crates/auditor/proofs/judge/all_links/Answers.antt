@@ -1,7 +1,7 @@
 use Rattle.std.proofs.Common.{◌≡◌, ℕ, List, [], ◌∷◌, ⊎_elim, length, slice_get, sym, ap, ◌∙◌, subst, length-append, arith}
 use Rattle.std.specs.Prelude.{unwrap_or}
 use Rattle.event_log.specs.declared.event.Event.{Event}
-use Rattle.word_rule.proofs.Slices.{read_get}
+use Rattle.sound_run.proofs.Slices.{read_get}
 use Rattle.auditor.specs.declared.links.Links.{Links}
 use Rattle.auditor.specs.Links.{AreLinks}
 use Rattle.auditor.specs.Transcripts.{log_in}

@@ -2,7 +2,7 @@ use Rattle.std.proofs.Common.{◌≡◌, ℕ, List, [], length, get_or, Err, sym
 use Rattle.std.proofs.lemmas.List.{length-set}
 use Rattle.std.specs.Prelude.{unwrap_or}
 use Rattle.event_log.specs.declared.event.Event.{Event}
-use Rattle.word_rule.proofs.Slices.{read_get}
+use Rattle.sound_run.proofs.Slices.{read_get}
 use Rattle.auditor.specs.Faults.{done_before}
 use Rattle.auditor.specs.Links.{IsAt, AreLinks}
 use Rattle.auditor.specs.Claims.{IsRight, IsJudged, taken}

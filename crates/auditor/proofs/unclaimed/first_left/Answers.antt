@@ -1,5 +1,5 @@
 use Rattle.std.proofs.Common.{length, ap, arith}
-use Rattle.word_rule.proofs.Slices.{read_get}
+use Rattle.sound_run.proofs.Slices.{read_get}
 use Rattle.auditor.proofs.LeftEvents.{taken_more}
 use Rattle.auditor.proofs.unclaimed.first_left.Goals as goal
 

@@ -1,7 +1,7 @@
 use Rattle.std.proofs.Common.{◌≡◌, ℕ, ◌+◌, ◌-◌, ◌<◌, length, get_or, ap, ◌∙◌, subst, arith, slice_get, Some}
 use Rattle.std.proofs.Math.ListN.{set}
 use Rattle.std.specs.List.{SwappedAt}
-use Rattle.word_rule.proofs.Slices.{read_get, get_set_same, one_of, map_get}
+use Rattle.sound_run.proofs.Slices.{read_get, get_set_same, one_of, map_get}
 use Rattle.guarded_cell.specs.Runs.{Joins}
 use Rattle.cpu_worker.proofs.Places.{put_back}
 use Rattle.guarded_cell.proofs.SoundRuns.{joins_first, joins_second}

@@ -2,7 +2,7 @@ use Rattle.std.proofs.Common.{◌≡◌, ◌∷◌, [], ◌+◌, ◌<◌, ◌≤
 use Rattle.std.proofs.lemmas.List.{append-nil, nil_from_length}
 use Rattle.std.specs.Vec.Iter.{into_iter_items}
 use Rattle.word_rule.proofs.Openings.{all_at}
-use Rattle.word_rule.proofs.Slices.{some_at, read_get}
+use Rattle.sound_run.proofs.Slices.{some_at, read_get}
 use Rattle.cpu_worker.proofs.Deals.{none_dealt, one_dealt, row_there}
 use Rattle.cpu_worker.proofs.opening.deal.Given as given
 use Rattle.cpu_worker.proofs.opening.deal.Goals as goal

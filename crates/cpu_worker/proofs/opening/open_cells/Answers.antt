@@ -7,7 +7,7 @@ use Rattle.scripts.proofs.SoundRanges.{all_at as all_by_place}
 use Rattle.word_rule.specs.Cell.{cell_of, opening_pass}
 use Rattle.word_rule.specs.Passes.{view_of_pass}
 use Rattle.word_rule.proofs.Openings.{take_more}
-use Rattle.word_rule.proofs.Slices.{some_at}
+use Rattle.sound_run.proofs.Slices.{some_at}
 use Rattle.cpu_worker.specs.Opening.{IsRow, cell_for}
 use Rattle.cpu_worker.proofs.Rows.{row_next}
 use Rattle.cpu_worker.proofs.opening.open_cells.Goals as goal

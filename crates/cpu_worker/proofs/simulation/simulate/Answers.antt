@@ -9,7 +9,7 @@ use Rattle.scripts.specs.ScriptText.{ScriptFits}
 use Rattle.scripts.specs.Settings.{Settings, SettingsFit}
 use Rattle.word_rule.specs.Machine.Opening.{opening_cell, opening_world}
 use Rattle.word_rule.specs.Machine.World.{run, run_of}
-use Rattle.word_rule.specs.Sound.{Sound, Opened}
+use Rattle.sound_run.specs.Sound.{Sound, Opened}
 use Rattle.scripts.specs.declared.objects.kernel_call.KParams.{KParams}
 use Rattle.cpu_worker.specs.Simulation.{KernelWorld, new_cell, new_world, simulated}
 use Rattle.cpu_worker.proofs.Simulations.{opened_cpus, able_lists, simulated_asks}

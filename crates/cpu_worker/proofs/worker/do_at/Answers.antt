@@ -2,7 +2,7 @@ use Rattle.std.proofs.Common.{◌≡◌, ℕ, ◌+◌, ◌-◌, ◌<◌, length,
 use Rattle.std.proofs.Math.ListN.{set}
 use Rattle.std.specs.List.{SwappedAt}
 use Rattle.scripts.specs.contracts.objects.kernel_object.KernelObjectSeqObject.TheImpl.{ghosts as kernel}
-use Rattle.word_rule.proofs.Slices.{read_get}
+use Rattle.sound_run.proofs.Slices.{read_get}
 use Rattle.cpu_worker.proofs.Places.{put_back}
 use Rattle.guarded_cell.proofs.Workers.{kept_places, did_at}
 use Rattle.cpu_worker.proofs.worker.do_at.Given as given

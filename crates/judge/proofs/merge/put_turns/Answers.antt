@@ -1,5 +1,5 @@
 use Rattle.std.proofs.Common.{◌≡◌, ◌++◌, suc, ◌+◌, map, take, drop, ◌∙◌, ap, subst, arith, slice_index_or, slice_set}
-use Rattle.word_rule.specs.declared.place.Place.{Place}
+use Rattle.sound_run.specs.declared.place.Place.{Place}
 use Rattle.judge.proofs.Fronts.{one_more}
 use Rattle.judge.specs.Orders.{turn_of}
 use Rattle.judge.proofs.merge.put_turns.Goals as goal

@@ -1,5 +1,5 @@
 use Rattle.std.proofs.Common.{ℕ, ◌<◌, ◌≤◌, length, get_or}
-use Rattle.word_rule.specs.Sound.{transcript_of}
+use Rattle.sound_run.specs.Sound.{transcript_of}
 use Rattle.log_merge.proofs.next.first_left.Given as goal
 
 abbrev pub invariant-loop-cpu : goal.invariant-loop-cpu

@@ -1,6 +1,6 @@
 use Rattle.std.proofs.Common.{◌≡◌, ◌<◌, ◌≤◌, ℕ, List, length, map, drop, slice_index, sym, ap, ◌∙◌, subst}
 use Rattle.std.specs.List.{AllByRecursion}
-use Rattle.word_rule.specs.Sound.{transcript_of}
+use Rattle.sound_run.specs.Sound.{transcript_of}
 use Rattle.log_merge.specs.FoundCycles.{next_place, IsWalk, IsRotated}
 use Rattle.log_merge.specs.Merging.{IsLeastOrder}
 use Rattle.log_merge.proofs.Cycles.{merged_cycle, merged_order}

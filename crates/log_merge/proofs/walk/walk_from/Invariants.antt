@@ -1,6 +1,6 @@
 use Rattle.std.proofs.Common.{◌≡◌, ◌<◌, ◌+◌, ◌-◌, ◌++◌, ◌∷◌, [], length, get_or, slice_index}
 use Rattle.event_log.specs.Distinct.{AreDistinctBelow}
-use Rattle.word_rule.specs.Sound.{transcript_of}
+use Rattle.sound_run.specs.Sound.{transcript_of}
 use Rattle.log_merge.specs.Chains.{Chain}
 use Rattle.log_merge.specs.Fronts.{IsBlocked}
 use Rattle.log_merge.proofs.walk.walk_from.Given as goal

@@ -4,7 +4,7 @@ use page_pool::PoolParams;
 use scripts::{BadSettings, KParams, ObjectSettings, Settings, SettingsFault};
 use std::test::Fail;
 use wake_list::SchedParams;
-use word_rule::LockKind;
+use sound_run::LockKind;
 
 /// Settings of an object of each kind, and of a pool with quotas.
 const ALL: &str = r#"

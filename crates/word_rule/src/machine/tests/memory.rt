@@ -4,7 +4,7 @@ ghost use Rattle.std.specs.Prelude.{◌≡◌, ◌<◌, ◌≤◌, [], vec_len};
 ghost use Rattle.std.specs.List.{AllByRecursion};
 ghost use Rattle.word_rule.specs.Machine.SoundWorld.{IsTodo};
 
-use crate::LockKind;
+use sound_run::LockKind;
 use crate::machine::tests::NEXT;
 use crate::machine::tests::scene::{Left, Setting, Turn, cells_of, leaves, plays, scripts_of};
 use crate::machine::{CellSpec, Machine, StepDone};

@@ -1,6 +1,6 @@
 //! Every short schedule of two CPUs, beside the rules of both locks written out plainly.
 
-use crate::LockKind;
+use sound_run::LockKind;
 use crate::machine::StepDone;
 use crate::machine::tests::scene::{step, two_cpus};
 use event_log::Event;

@@ -4,7 +4,7 @@ ghost use Rattle.std.specs.Prelude.{◌≡◌, [], IfOk};
 ghost use Rattle.std.specs.List.{AllByRecursion};
 ghost use Rattle.word_rule.specs.Machine.SoundWorld.{IsTodo};
 
-use crate::LockKind;
+use sound_run::LockKind;
 use crate::machine::{CellSpec, Machine, StepDone};
 use arrayvec::ArrayVec;
 use event_log::{Done, Entry, Event, Logged, Run, Todo};

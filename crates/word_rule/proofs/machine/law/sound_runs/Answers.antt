@@ -1,5 +1,5 @@
 use Rattle.std.proofs.Common.{subst}
-use Rattle.word_rule.specs.Sound.{Sound}
+use Rattle.sound_run.specs.Sound.{Sound}
 use Rattle.word_rule.specs.Machine.World.{run, run_of}
 use Rattle.word_rule.proofs.Openings.{opening_sound}
 use Rattle.word_rule.proofs.SoundRuns.{sound_run_of, opened_stay}

@@ -1,0 +1,11 @@
+//! What a whole run of calls on shared objects is: which lock guards an object, when a run is sound, and what one order of its
+//! entries is.
+#![tactic(auto)]
+
+mod limits;
+mod lock_kind;
+mod place;
+
+pub use limits::{MOST_CELLS, MOST_CPUS};
+pub use lock_kind::LockKind;
+pub use place::Place;
