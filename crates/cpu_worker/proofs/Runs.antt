@@ -14,7 +14,10 @@ use Rattle.scripts.specs.declared.objects.kernel_call.KParams.{KParams}
 use Rattle.scripts.specs.KernelTypes.{KernelEntry, KernelTodo, KernelRun}
 use Rattle.scripts.specs.Runs.{TranscriptAsks, opened_of}
 use Rattle.scripts.specs.ScriptText.{TodoFits, ScriptFits, ScriptsFit}
-use Rattle.scripts.specs.Settings.{Settings, SettingsFit}
+use Rattle.scripts.specs.Settings.{Settings, SettingsFit, ObjectFits}
+use Rattle.scripts.specs.declared.record.form.Form.TheVariants.{Two}
+use Rattle.scripts.proofs.Names.{each_at}
+use Rattle.event_log.specs.declared.logged.TheConstants.{MOST_EVENTS}
 use Rattle.scripts.proofs.SoundRanges.{all_at as all_by_place}
 use Rattle.word_rule.specs.Cell.{EachAt, IsPassView, opening_pass}
 use Rattle.word_rule.specs.Machine.SoundWorld.{IsTodo}
@@ -136,3 +139,12 @@ module _ {S : Type 0} (pass_view : S → KernelView) (settings : Settings) (pass
       let logs : map (λ (j : KernelView). j.seen) (map pass_view passes) ≡ run.logs = map-map (λ (j : KernelView). j.seen) pass_view passes ∙ sym logs_are in
       let is : ◌≡◌ {A = KernelRun} (run_left (map pass_view passes) transcripts) run = λ i. record { logs = logs i; transcripts = sym transcripts_are i } in
       subst (λ (l : List (Opened KParams)). Sound kernel l run) objects (subst (λ (r : KernelRun). Sound kernel (map opened_of_cell (cells_for settings)) r) is sound)
+
+-- the logs of the settings' objects lie in memory
+pub stored_passes : {S : Type 0} (pass_view : S → KernelView) (settings : Settings) (passes : List S) (scripts : List (List KernelTodo)) (transcripts : List (List KernelEntry))
+    → SettingsFit settings → AllWorked kernel (cells_for settings) (map pass_view passes) settings.cpus scripts transcripts → AllByRecursion (λ p. (pass_view p).caller.cell.limit ≤ MOST_EVENTS) passes
+stored_passes pass_view settings passes scripts transcripts fit all = all_by_place (λ p. (pass_view p).caller.cell.limit ≤ MOST_EVENTS) passes (λ k p at.
+    let o = some_at settings.objects k (omega (arith, all.objects, length-map passes pass_view, length-map settings.objects (cell_for settings.cpus), slice_get_within passes k p at)) in
+    let is = all.of_cells k (cell_for settings.cpus o.0) (pass_view p) (map_get (cell_for settings.cpus) settings.objects k o.0 o.1) (map_get pass_view passes k p at) in
+    let fits = each_at (ObjectFits Two) settings.objects k o.0 fit.each o.1 in
+    subst (λ (c : FixedCell). c.limit ≤ MOST_EVENTS) (sym is) fits.events.1)

@@ -6,7 +6,7 @@ ghost use Rattle.word_rule.specs.Cell.{PassView, OwnsAll};
 ghost use Rattle.guarded_cell.specs.Runs.{Joins, EachJoins};
 ghost use Rattle.guarded_cell.specs.Workers.{ArePasses};
 
-use event_log::{Entry, Event, SeqObject, Series};
+use event_log::{Entry, Event, MOST_EVENTS, SeqObject, Series};
 use word_rule::LockCell;
 
 /// Joins a pass to the one of the same object.
@@ -103,6 +103,7 @@ pub fn close_all<O: SeqObject, C: LockCell<O> + Drop>(
 ) -> Vec<Series<Event<O>>>
     requires passes { ArePasses C.is_pass_of cells.items passes.items }
     requires whole { AllByRecursion (λ p. OwnsAll (C.pass_view p).caller) passes.items }
+    requires stored { AllByRecursion (λ p. (C.pass_view p).caller.cell.limit ≤ MOST_EVENTS) passes.items }
     requires room { (logs.items ≡ []) × (length cells.items ≤ vec_capacity logs) }
     ensures { result.items ≡ map (λ p. (C.pass_view p).seen) passes.items }
 {

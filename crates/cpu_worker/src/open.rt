@@ -1,11 +1,11 @@
 //! Opening an object of settings.
 
-ghost use Rattle.std.specs.Prelude.{◌≡◌, IfOk};
+ghost use Rattle.std.specs.Prelude.{◌≡◌, ◌≤◌, IfOk};
 ghost use Rattle.event_log.specs.History.{IsKept, opened_history};
 ghost use Rattle.scripts.specs.Settings.{ObjectFits};
 ghost use Rattle.scripts.specs.declared.record.form.Form.TheVariants.{Two};
 
-use event_log::{Logged, OpenFault, OutOfMemory, SeqObject};
+use event_log::{Logged, MOST_EVENTS, OpenFault, OutOfMemory, SeqObject};
 use scripts::{KernelObject, ObjectSettings};
 use std::alloc::Global;
 
@@ -16,6 +16,7 @@ pub fn open_object(
 ) -> Result<Logged<KernelObject>, OutOfMemory>
     requires { ObjectFits Two object.now }
     ensures opened { IfOk result (λ l. l ≡ opened_history object.now.params object.now.events (⟦<KernelObject as SeqObject>⟧.opening object.now.params)) }
+    ensures stored { IfOk result (λ l. l.limit ≤ MOST_EVENTS) }
     ensures kept { IfOk result (λ l. IsKept ⟦<KernelObject as SeqObject>⟧ l) }
 {
     match Logged::open(alloc, object.params(), object.events()) {

@@ -3,7 +3,7 @@
 ghost use Rattle.std.specs.Prelude.{◌≡◌, ◌<◌, ◌≤◌, [], All, length, map, vec_len, Some, slice_get, IfOk, IfErr};
 ghost use Rattle.std.specs.List.{AllByRecursion};
 ghost use Rattle.word_rule.specs.Machine.Opening.{opening_world, IsOpening};
-ghost use Rattle.word_rule.specs.Machine.Shown.{Represents, Runs, Follows, HasWords, opened_by};
+ghost use Rattle.word_rule.specs.Machine.Shown.{Represents, Runs, Follows, HasWords, AreStored, opened_by};
 ghost use Rattle.sound_run.specs.Orders.{HasOrder};
 ghost use Rattle.sound_run.specs.Sound.{Sound};
 ghost use Rattle.word_rule.specs.Machine.SoundWorld.{IsTodo};
@@ -68,6 +68,7 @@ impl<O: SeqObject> Machine<O> {
         requires cells { (0 < vec_len cells) × (vec_len cells ≤ MOST_CELLS) }
         requires cpus { (0 < vec_len scripts) × (vec_len scripts ≤ MOST_CPUS) }
         requires empty { AllByRecursion (λ c. c.logged.log ≡ []) cells.items }
+        requires stored { AreStored cells.items }
         requires able { AllByRecursion (λ s. AllByRecursion (λ t. IsTodo (vec_len cells) t) s.items) scripts.items }
         ensures shows { IfOk result (λ m. Represents O.SeqObject m (opening_world cells.items scripts.items)) }
         ensures opening { IsOpening (opening_world cells.items scripts.items) }

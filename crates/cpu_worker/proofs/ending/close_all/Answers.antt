@@ -22,12 +22,14 @@ loop-cell-preserved g c =
     let took : into_iter_items c.loop-cell.passes ≡ c.unwrap-pass.result ∷ into_iter_items c.next-in-loop-cell.new.self = c.next-in-loop-cell.ensures.items ∙ ap (λ o. option_to_list o ++ into_iter_items c.next-in-loop-cell.new.self) c.unwrap-pass.ensures in
     let left = rw (next, took) at i.left in
     let whole = rw took at i.whole in
-    let seen : c.from_vec.result ≡ (view c.unwrap-pass.result).seen = c.from_vec.ensures ∙ (c.into_log-log.ensures ∙ ap (λ h. h.log) c.close.ensures.log) in
+    let stored = rw took at i.stored in
+    let seen : c.from_vec.result ≡ (view c.unwrap-pass.result).seen = c.from_vec.ensures ∙ (c.into_log-log.ensures (rw c.close.ensures.log stored.0) ∙ ap (λ h. h.log) c.close.ensures.log) in
     let rest = map (λ p. (view p).seen) (into_iter_items c.next-in-loop-cell.new.self) in
     let count = left.count in
     record {
       left = record { count = omega (arith, count); each = λ x d q e f. left.each (suc x) d q e f };
       whole = whole.1;
+      stored = stored.1;
       all = ap (λ l. l ++ rest) (p.items ∙ ap (λ z. c.loop-cell.logs.items ++ z ∷ []) seen) ∙ (append_assoc c.loop-cell.logs.items ((view c.unwrap-pass.result).seen ∷ []) rest ∙ (rw took at i.all));
       room = room_left (length c.loop-cell.logs.items) (length (into_iter_items c.next.new.self)) _ _ _ (ap length p.items ∙ length-append c.loop-cell.logs.items (c.from_vec.result ∷ [])) p.capacity (rw next at i.room);
     }

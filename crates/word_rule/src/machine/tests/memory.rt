@@ -21,7 +21,7 @@ fn are_cells_of<R: Abort>(rt: &R, setting: &Setting<'_>, cells: &[CellSpec<Threa
         let cell = &cells[x];
         assert_eq!(rt; (cell.kind, cell.first), setting.locks[x], "cell {x}");
         assert_eq!(rt; *cell.logged.params(), 8, "cell {x}");
-        assert_eq!(rt; cell.logged.limit(), setting.limit, "cell {x}");
+        assert_eq!(rt; cell.logged.limit(), u64::from(setting.limit), "cell {x}");
         assert!(rt; cell.logged.log().is_empty(), "cell {x}");
     }
 }

@@ -2,6 +2,7 @@
 
 ghost use Rattle.std.specs.Prelude.{◌≡◌, [], IfOk};
 ghost use Rattle.std.specs.List.{AllByRecursion};
+ghost use Rattle.word_rule.specs.Machine.Shown.{AreStored};
 ghost use Rattle.word_rule.specs.Machine.SoundWorld.{IsTodo};
 
 use sound_run::LockKind;
@@ -35,7 +36,8 @@ pub struct Left<'a> {
 
 /// Cells without events.
 pub fn cells_of(alloc: Global, setting: &Setting<'_>) -> Result<Vec<CellSpec<ThreadQueue>>, Fail>
-    ensures { IfOk result (λ cells. AllByRecursion (λ c. c.logged.log ≡ []) cells.items) }
+    ensures empty { IfOk result (λ cells. AllByRecursion (λ c. c.logged.log ≡ []) cells.items) }
+    ensures stored { IfOk result (λ cells. AreStored cells.items) }
 {
     let mut cells = Vec::new(alloc);
     for (kind, first) in setting.locks {

@@ -34,4 +34,5 @@ invariant_of-result g c =
           (omega (arith, ap length c.as_slice.ensures.value, e.logs.1)) (omega (arith, ap length c.as_slice-2.ensures.value, e.transcripts.1)),
       e.logs.0,
       e.transcripts.0,
+      c.requires.stored,
     )

@@ -1,4 +1,6 @@
-use Rattle.std.proofs.Common.{sym, ◌∙◌, ap, subst, arith, ◌<◌, length}
+use Rattle.std.proofs.Common.{sym, ◌∙◌, ap, subst, arith, ◌<◌, ◌≤◌, length}
+use Rattle.std.specs.List.{AllByRecursion}
+use Rattle.event_log.specs.declared.logged.TheConstants.{MOST_EVENTS}
 use Rattle.std.proofs.lemmas.Option.{slice_get_within}
 use Rattle.word_rule.specs.Machine.Shown.{Represents, opened_by}
 use Rattle.word_rule.proofs.MachineKeeps.{at_hand, at_again, not_found, room_at, roomy_next, opened_next, runs_next}
@@ -81,6 +83,7 @@ invariant_of-self g c =
       roomy_next g.O.SeqObject b.cells.items b.locks.items b.scripts.items b.done.items c.args.cpu hand.0 p p_is c.index-2.result.now c.index-2.ensures todo at c.index_mut-3.result.now c.index_mut-3.ensures.value c.index_mut.result.now c.index_mut.ensures.value c.turn-step.result c.turn-step.new.self record { kind = c.index_mut-3.result.now.kind; first = c.index_mut-3.result.now.first; logged = c.count_step.new.logged } c.count_step.new.progress k _ _ r c.self.invariant.1,
       c.self.invariant.2,
       c.self.invariant.3,
+      subst (λ os. AllByRecursion (λ o. o.limit ≤ MOST_EVENTS) os) (sym (opened_next g.O.SeqObject b.cells.items b.locks.items b.scripts.items b.done.items c.args.cpu hand.0 p p_is c.index-2.result.now c.index-2.ensures todo at c.index_mut-3.result.now c.index_mut-3.ensures.value c.index_mut.result.now c.index_mut.ensures.value c.turn-step.result c.turn-step.new.self record { kind = c.index_mut-3.result.now.kind; first = c.index_mut-3.result.now.first; logged = c.count_step.new.logged } c.count_step.new.progress k hand.2.on_cell)) c.self.invariant.4,
     )
 
 pub returns-clause-done : goal.returns-clause-done
