@@ -16,8 +16,6 @@ mod replays;
 mod steps;
 mod stop;
 mod terms;
-#[cfg(test)]
-mod tests;
 mod texts;
 mod transcript_pass;
 mod transcripts;

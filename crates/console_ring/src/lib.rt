@@ -4,8 +4,6 @@
 mod call;
 mod console;
 mod passing;
-#[cfg(test)]
-mod tests;
 
 pub use call::{ConsoleCall, ConsoleReply};
 pub use console::{Console, MOST_BYTES};

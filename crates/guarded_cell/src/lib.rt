@@ -7,8 +7,6 @@ mod groups;
 mod lock;
 mod make;
 mod runs;
-#[cfg(test)]
-mod tests;
 mod tries;
 mod whole;
 

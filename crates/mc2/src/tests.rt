@@ -1,8 +1,5 @@
 //! The worked runs, refused scripts, and sinks that fail.
 
-mod judged_runs;
-mod many_cpus;
-mod texts;
 
 use crate::fault::Fault;
 use cpu_worker::{OpenGate, run};

@@ -1,0 +1,7 @@
+//! Tests, which are proved and run apart from what they test.
+#![tactic(auto)]
+
+#[cfg(test)]
+mod verdicts;
+#[cfg(test)]
+mod orders;

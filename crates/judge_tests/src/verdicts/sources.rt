@@ -1,0 +1,75 @@
+//! Texts from a source that gives them piece by piece, or fails.
+
+use super::{CROSSED, IN_AND_OUT};
+use auditor::{TextFault, Verdict, audit_text};
+use event_log::{Source, StreamFailed};
+use std::test::Fail;
+
+/// A source that gives a text in pieces of so many bytes, and fails at one call more than it is allowed.
+#[derive(Drop)]
+struct Pieces<'a> {
+    rest: &'a [u8],
+    size: usize,
+    calls_left: usize,
+    failed: u64,
+}
+
+impl Source for Pieces<'_> {
+    ghost failed = { λ s. s.failed };
+
+    fn read(&mut self, buffer: &mut [u8]) -> Result<usize, StreamFailed> {
+        if self.calls_left == 0 {
+            self.failed = self.failed.saturating_add(1);
+            return Err(StreamFailed);
+        }
+        self.calls_left -= 1;
+        let count = self.size.min(buffer.len()).min(self.rest.len());
+        let (piece, rest) = self.rest.split_at(count);
+        buffer[..count].copy_from_slice(piece);
+        self.rest = rest;
+        Ok(count)
+    }
+}
+
+/// The text in pieces of so many bytes, with so many calls.
+fn in_pieces(text: &str, size: usize, calls_left: usize) -> Pieces<'_> {
+    Pieces {
+        rest: text.as_bytes(),
+        size,
+        calls_left,
+        failed: 0,
+    }
+}
+
+#[test]
+fn pieces_of_each_size(rt: HostRuntime) -> Result<(), Fail> {
+    for size in 1..=CROSSED.len() {
+        let mut source = in_pieces(CROSSED, size, CROSSED.len() + 1);
+        let verdict = audit_text(rt.alloc(), &mut source);
+        assert_eq!(rt; verdict, Ok(Verdict::Sound), "{size} bytes");
+    }
+    Ok(())
+}
+
+/// The record stops before its last line.
+#[test]
+fn without_its_end(rt: HostRuntime) -> Result<(), Fail> {
+    let text = IN_AND_OUT.strip_suffix("end\n").ok_or("another end")?;
+    let mut source = in_pieces(text, 16, 99);
+    assert_eq!(rt;
+        audit_text(rt.alloc(), &mut source),
+        Err(TextFault::BadLine(12))
+    );
+    Ok(())
+}
+
+/// Each call in turn fails, and no verdict comes in place of that.
+#[test]
+fn a_call_fails(rt: HostRuntime) -> Result<(), Fail> {
+    for calls in 0..8 {
+        let mut source = in_pieces(IN_AND_OUT, 20, calls);
+        let verdict = audit_text(rt.alloc(), &mut source);
+        assert_eq!(rt; verdict, Err(TextFault::ReadFailed), "{calls} calls");
+    }
+    Ok(())
+}

@@ -1,0 +1,264 @@
+//! Runs, simulations and reports for which memory or a thread is refused. Each test is to be run with each allocation, and
+//! each thread, refused in turn: what isn't refused is as ever, and so is the next time after what is.
+
+ghost use Rattle.std.specs.Prelude.{◌≡◌, ◌<◌, length, IfOk};
+ghost use Rattle.std.specs.List.{AllByRecursion};
+ghost use Rattle.scripts.specs.ScriptText.{ScriptsFit};
+
+use super::calls::Calls;
+use cpu_worker::{AlwaysAllowed, RunFault, report, run_with, simulate};
+use event_log::{OutOfMemory, Plain};
+use scripts::{Record, Schedule, Scripts, Settings, write_record};
+use std::alloc::Global;
+use std::sync::Wait;
+use std::test::Fail;
+use std::thread::Threads;
+
+/// The settings, read once more if that was refused.
+fn settings_of(alloc: Global, text: &str) -> Result<Settings, Fail> {
+    match Settings::read(alloc, text.as_bytes()) {
+        Ok(settings) => Ok(settings),
+        Err(_) => Ok(Settings::read(alloc, text.as_bytes())?),
+    }
+}
+
+/// The scripts, read once more if that was refused.
+fn scripts_of(alloc: Global, text: &str, settings: &Settings) -> Result<Scripts, Fail>
+    ensures { IfOk result (λ s. ScriptsFit settings.now.cpus (length settings.now.objects) s) }
+{
+    match Scripts::read(alloc, text.as_bytes(), settings) {
+        Ok(scripts) => Ok(scripts),
+        Err(_) => Ok(Scripts::read(alloc, text.as_bytes(), settings)?),
+    }
+}
+
+/// The schedule, read once more if that was refused.
+fn schedule_of(alloc: Global, text: &str, settings: &Settings) -> Result<Schedule, Fail>
+    ensures { IfOk result (λ s. AllByRecursion (λ cpu. cpu < settings.now.cpus) s) }
+{
+    match Schedule::read(alloc, text.as_bytes(), settings) {
+        Ok(schedule) => Ok(schedule),
+        Err(_) => Ok(Schedule::read(alloc, text.as_bytes(), settings)?),
+    }
+}
+
+/// Whether that is the text of the record, which is written once more if that was refused.
+fn has_text(alloc: Global, record: &Record, text: &str) -> Result<bool, Fail> {
+    let mut out = Plain::new(Vec::new(alloc));
+    if write_record(record, &mut out).is_err() {
+        out = Plain::new(Vec::new(alloc));
+        write_record(record, &mut out)?;
+    }
+    Ok(out.inner.as_slice() == text.as_bytes())
+}
+
+const FOUR_CPUS: &str = r#"cpus = 4
+[[object]]
+name = "q0"
+kind = "queue"
+lock = "ticket"
+events = 100
+threads = 8
+[[object]]
+name = "p0"
+kind = "pool"
+lock = "mcs"
+events = 1
+pages = 3
+[[object]]
+name = "c0"
+kind = "console"
+lock = "ticket"
+events = 100
+bytes = 1
+[[object]]
+name = "s0"
+kind = "sched"
+lock = "mcs"
+events = 100
+threads = 8
+channels = 1
+"#;
+
+/// Each CPU has an object of its own, so each run has the same record.
+const EACH_ITS_OWN: &str = "0 q0 enq 3 ; deq
+1 p0 alloc 1
+1 p0 left
+2 c0 put 65
+3 s0 ready 5
+3 s0 next
+3 s0 next
+";
+
+const OF_FOUR_CPUS: &str = "record 2
+cpus 4
+objects 4
+object q0 ticket 100 queue 8
+object p0 mcs 1 pool 3 3 3 3 3 3 3 3 3 3 3 3 3 3 3 3 3
+object c0 ticket 100 console 1
+object s0 mcs 100 sched 8 1
+log q0 1
+0 enq 3 = ok ; deq = thread 3
+log p0 1
+1 alloc 1 = page 0
+log c0 1
+2 put 65 = ok
+log s0 3
+3 ready 5 = ok
+3 next = thread 5
+3 next = empty
+cpu 0 1
+q0 1 enq 3 ; deq | enq 3 = ok ; deq = thread 3
+cpu 1 2
+p0 0 alloc 1 | alloc 1 = page 0
+p0 0 left | noroom
+cpu 2 1
+c0 1 put 65 | put 65 = ok
+cpu 3 3
+s0 0 ready 5 | ready 5 = ok
+s0 0 next | next = thread 5
+s0 0 next | next = empty
+end
+";
+
+/// How often each CPU calls the gate, on either side of its entries, if the CPUs below that one are started.
+fn calls_below(cpu: u8) -> [usize; 4] {
+    match cpu {
+        0 => [0, 0, 0, 0],
+        1 => [1, 0, 0, 0],
+        2 => [1, 2, 0, 0],
+        3 => [1, 2, 1, 0],
+        _ => [1, 2, 1, 3],
+    }
+}
+
+/// Whether a run ends with its record, each CPU having called the gate at each entry.
+fn is_run<R: Threads + Wait + Sync + AllocGlobal>(
+    rt: &R,
+    settings: &Settings,
+    scripts: &Scripts,
+) -> Result<bool, Fail>
+    requires { ScriptsFit settings.now.cpus (length settings.now.objects) scripts.now }
+{
+    let calls = Calls::none();
+    let record = run_with(rt, rt.alloc(), settings, scripts, &calls, &AlwaysAllowed)?;
+    Ok(has_text(rt.alloc(), &record, OF_FOUR_CPUS)? && calls.are(&calls_below(4)))
+}
+
+/// Whether a run ends so, or with what was refused. Without memory no worker has begun; without a thread those of the CPUs
+/// below have ended.
+fn is_run_or_refused<R: Threads + Wait + Sync + AllocGlobal>(
+    rt: &R,
+    settings: &Settings,
+    scripts: &Scripts,
+) -> Result<bool, Fail>
+    requires { ScriptsFit settings.now.cpus (length settings.now.objects) scripts.now }
+{
+    let calls = Calls::none();
+    match run_with(rt, rt.alloc(), settings, scripts, &calls, &AlwaysAllowed) {
+        Ok(record) => Ok(has_text(rt.alloc(), &record, OF_FOUR_CPUS)? && calls.are(&calls_below(4))),
+        Err(RunFault::OutOfMemory) => Ok(calls.are(&calls_below(0))),
+        Err(RunFault::NoThreadStarted(cpu)) => Ok(cpu < 4 && calls.are(&calls_below(cpu))),
+    }
+}
+
+#[test]
+fn a_run_without_memory(rt: HostRuntime) -> Result<(), Fail> {
+    let settings = settings_of(rt.alloc(), FOUR_CPUS)?;
+    let scripts = scripts_of(rt.alloc(), EACH_ITS_OWN, &settings)?;
+    assert!(rt; is_run_or_refused(&rt, &settings, &scripts)?);
+    assert!(rt; is_run(&rt, &settings, &scripts)?);
+    Ok(())
+}
+
+const TWO_CPUS: &str = r#"cpus = 2
+[[object]]
+name = "q0"
+kind = "queue"
+lock = "ticket"
+events = 100
+threads = 8
+"#;
+
+const OF_TWO_CPUS: &str = "record 2
+cpus 2
+objects 1
+object q0 ticket 100 queue 8
+log q0 2
+0 enq 3 = ok
+1 enq 4 = ok
+cpu 0 1
+q0 1 enq 3 | enq 3 = ok
+cpu 1 1
+q0 3 enq 4 | enq 4 = ok
+end
+";
+
+/// Whether a simulation ends with its record, or for want of memory.
+fn is_simulated(
+    alloc: Global,
+    settings: &Settings,
+    scripts: &Scripts,
+    schedule: &Schedule,
+) -> Result<bool, Fail>
+    requires scripts { ScriptsFit settings.now.cpus (length settings.now.objects) scripts.now }
+    requires schedule { AllByRecursion (λ cpu. cpu < settings.now.cpus) schedule.now }
+{
+    match simulate(alloc, settings, scripts, schedule) {
+        Ok(record) => has_text(alloc, &record, OF_TWO_CPUS),
+        Err(OutOfMemory) => Ok(true),
+    }
+}
+
+/// Whether two simulations end so, the second with its record.
+fn are_simulated(alloc: Global, settings: &Settings, scripts: &Scripts) -> Result<bool, Fail>
+    requires { ScriptsFit settings.now.cpus (length settings.now.objects) scripts.now }
+{
+    let schedule = schedule_of(alloc, "0 1 1 1 0 0 1 1", settings)?;
+    if !is_simulated(alloc, settings, scripts, &schedule)? {
+        return Ok(false);
+    }
+    let record = simulate(alloc, settings, scripts, &schedule)?;
+    has_text(alloc, &record, OF_TWO_CPUS)
+}
+
+#[test]
+fn a_simulation_without_memory(rt: HostRuntime) -> Result<(), Fail> {
+    let settings = settings_of(rt.alloc(), TWO_CPUS)?;
+    let scripts = scripts_of(rt.alloc(), "0 q0 enq 3\n1 q0 enq 4\n", &settings)?;
+    assert!(rt; are_simulated(rt.alloc(), &settings, &scripts)?);
+    Ok(())
+}
+
+/// The record, read once more if that was refused.
+fn record_of(alloc: Global, text: &str) -> Result<Record, Fail> {
+    match Record::read(alloc, text.as_bytes()) {
+        Ok(record) => Ok(record),
+        Err(_) => Ok(Record::read(alloc, text.as_bytes())?),
+    }
+}
+
+const REPORT: &str = "q0 ticket entries 2 noroom 0 looks 4 most 3\ncpus 2 entries 2\n";
+
+/// Whether that is the report on the record.
+fn is_told(alloc: Global, record: &Record) -> Result<bool, Fail> {
+    let told = report(alloc, record)?;
+    Ok(told.as_str() == REPORT)
+}
+
+/// Whether the report is that, or memory was wanting.
+fn is_told_or_refused(alloc: Global, record: &Record) -> bool {
+    match report(alloc, record) {
+        Ok(told) => told.as_str() == REPORT,
+        Err(OutOfMemory) => true,
+    }
+}
+
+#[test]
+fn a_report_without_memory(rt: HostRuntime) -> Result<(), Fail> {
+    let record = record_of(rt.alloc(), OF_TWO_CPUS)?;
+    assert!(rt; is_told_or_refused(rt.alloc(), &record));
+    assert!(rt; has_text(rt.alloc(), &record, OF_TWO_CPUS)?);
+    assert!(rt; is_told(rt.alloc(), &record)?);
+    Ok(())
+}

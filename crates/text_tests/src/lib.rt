@@ -1,0 +1,5 @@
+//! Tests, which are proved and run apart from what they test.
+#![tactic(auto)]
+
+#[cfg(test)]
+mod texts;
