@@ -125,9 +125,23 @@ fn a_full_log(rt: HostRuntime) -> Result<(), Fail> {
         }
         assert_eq!(rt; purse.apply(0, &[1]).err(), Some(NoRoom), "limit {limit}");
         assert_eq!(rt; purse.state().coins, 9 - limit);
-        assert_eq!(rt; (*purse.params(), purse.limit()), (9, limit));
+        assert_eq!(rt; (*purse.params(), purse.limit()), (9, u64::from(limit)));
         assert_eq!(rt; purse.into_log().len(), limit as usize);
     }
+    Ok(())
+}
+
+#[test]
+fn a_log_that_is_not_kept(rt: HostRuntime) -> Result<(), Fail> {
+    let mut purse = Logged::<Purse>::open_unkept(rt.alloc(), 5)?;
+    for _ in 0..70000 {
+        assert!(rt; purse.call(0, &0).is_ok());
+    }
+    let steps = purse.apply(3, &[2, 4, 1])?;
+    assert_eq!(rt; steps.list.as_slice().len(), 2);
+    assert_eq!(rt; purse.state().coins, 3);
+    assert!(rt; purse.log().is_empty());
+    assert!(rt; purse.into_log().is_empty());
     Ok(())
 }
 

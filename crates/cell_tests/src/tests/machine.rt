@@ -2,6 +2,7 @@
 
 ghost use Rattle.std.specs.Prelude.{◌≡◌, ◌<◌, [], length, IfOk};
 ghost use Rattle.std.specs.List.{AllByRecursion};
+ghost use Rattle.word_rule.specs.Machine.Shown.{AreStored};
 ghost use Rattle.word_rule.specs.Machine.SoundWorld.{IsTodo};
 ghost use Rattle.ticket_lock.specs.Passes.{IsPassOf as IsTicketPass};
 ghost use Rattle.mcs_lock.specs.Passes.{IsPassOf as IsMcsPass};
@@ -15,7 +16,8 @@ use std::alloc::Global;
 use std::process::Abort;
 use std::test::Fail;
 use ticket_lock::TicketCell;
-use word_rule::{CellSpec, LockCell, LockKind, Machine, StepDone};
+use sound_run::LockKind;
+use word_rule::{CellSpec, LockCell, Machine, StepDone};
 
 /// A script of one call, which puts the thread into the queue.
 fn script_of(alloc: Global, thread: u32) -> Result<Vec<Todo<ThreadQueue>>, Fail>
@@ -40,7 +42,8 @@ fn scripts_of_two(alloc: Global) -> Result<Vec<Vec<Todo<ThreadQueue>>>, Fail>
 
 /// One cell around a queue of 8 threads.
 fn one_cell(alloc: Global, kind: LockKind) -> Result<Vec<CellSpec<ThreadQueue>>, Fail>
-    ensures { IfOk result (λ cells. AllByRecursion (λ c. c.logged.log ≡ []) cells.items) }
+    ensures empty { IfOk result (λ cells. AllByRecursion (λ c. c.logged.log ≡ []) cells.items) }
+    ensures stored { IfOk result (λ cells. AreStored cells.items) }
 {
     let logged = Logged::<ThreadQueue>::open(alloc, 8, 100)?;
     let mut cells = Vec::new(alloc);
