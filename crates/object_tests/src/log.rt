@@ -201,9 +201,8 @@ fn entries_differ_by_what_was_done(rt: HostRuntime) -> Result<(), Fail> {
 }
 
 #[test]
-fn a_series_gives_its_vector_back(rt: HostRuntime) -> Result<(), Fail> {
+fn a_series_shows_its_elements(rt: HostRuntime) -> Result<(), Fail> {
     let series = Series::from_vec(vec![in rt.alloc(); 3, 1, 2]?);
     assert_eq!(rt; series.as_slice(), [3, 1, 2].as_slice());
-    assert_eq!(rt; series.into_vec().as_slice(), [3, 1, 2].as_slice());
     Ok(())
 }

@@ -9,5 +9,4 @@ use crate::{MOST_CELLS, MOST_CPUS};
 pub fn shows_limits()
     ensures cpus { MOST_CPUS ≡ most_cpus }
     ensures cells { MOST_CELLS ≡ most_cells }
-{
-}
+{}
