@@ -2,6 +2,7 @@
 #![tactic(auto)]
 
 mod clones;
+mod limit_law;
 mod objects;
 mod record;
 mod schedule;
@@ -11,6 +12,7 @@ mod streams;
 mod tables;
 mod text;
 
+pub use limit_law::shows_limits;
 pub use objects::kernel_call::{KCall, KParams, KReply};
 pub use objects::kernel_object::KernelObject;
 pub use objects::kind::Kind;
