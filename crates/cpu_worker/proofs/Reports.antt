@@ -55,12 +55,12 @@ noroom-le : (entries : List KernelEntry) → (sums_of entries).noroom ≤ length
 noroom-le entries = count_by-le-length (λ (e : KernelEntry). lacks_room e.done) entries
 
 -- the counts stay within 64 bits when so many entries follow
-pub record Room (s : Sums) (more : ℕ) : Type 0 where
+pub record CountsFit (s : Sums) (more : ℕ) : Type 0 where
   pub entries : s.entries + more < 2 ^ 64
   pub noroom : s.noroom + more < 2 ^ 64
 
 pub room_for_entry : (s : Sums) (place : ℕ) (entries : List KernelEntry) (i : ℕ) → i < length entries → s.entries + length entries < 2 ^ 64 → s.noroom + length entries < 2 ^ 64
-    → Room (joined s (sums_of (entries_on place (take i entries)))) 1
+    → CountsFit (joined s (sums_of (entries_on place (take i entries)))) 1
 room_for_entry s place entries i h room room_too =
     let on = entries_on-le place (take i entries) in
     let without = noroom-le (entries_on place (take i entries)) in
@@ -89,7 +89,7 @@ within_all transcripts i t h is =
     omega (arith, all, same)
 
 pub room_for_transcript : (place : ℕ) (transcripts : List (List KernelEntry)) (i : ℕ) (t : List KernelEntry) → i < length transcripts → t ≡ get_or transcripts i t
-    → length (all_entries transcripts) < 2 ^ 64 → Room (sums_of (entries_on place (all_entries (take i transcripts)))) (length t)
+    → length (all_entries transcripts) < 2 ^ 64 → CountsFit (sums_of (entries_on place (all_entries (take i transcripts)))) (length t)
 room_for_transcript place transcripts i t h is few =
     let all = within_all transcripts i t h is in
     let on = entries_on-le place (all_entries (take i transcripts)) in

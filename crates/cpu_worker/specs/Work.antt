@@ -7,7 +7,7 @@ use Rattle.scripts.specs.declared.objects.kernel_call.KParams.{KParams}
 use Rattle.scripts.specs.declared.objects.kernel_call.KCall.{KCall}
 use Rattle.scripts.specs.declared.objects.kernel_call.KReply.{KReply}
 use Rattle.scripts.specs.declared.objects.kernel_object.KernelObject.{KernelObject}
-use Rattle.scripts.specs.declared.script.list.TheConstants.{MOST_ENTRIES}
+use Rattle.scripts.specs.declared.script.cpu_scripts.TheConstants.{MOST_ENTRIES}
 use Rattle.scripts.specs.KernelTypes.{KernelTodo, KernelEntry}
 use Rattle.word_rule.specs.Cell.{Cell, PassView}
 use Rattle.word_rule.specs.Machine.SoundWorld.{IsTodo}

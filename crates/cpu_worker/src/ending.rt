@@ -76,7 +76,7 @@ fn join_others<O: SeqObject, C: LockCell<O>>(
 }
 
 /// Joins the passes of all CPUs, one at least, object by object, and hands out their transcripts. The list has room for them.
-pub fn join_all<O: SeqObject, C: LockCell<O>>(
+pub fn join_passes<O: SeqObject, C: LockCell<O>>(
     cells: &[C],
     finished: Vec<(Vec<C::Pass>, Vec<Entry<O>>)>,
     transcripts: Vec<Series<Entry<O>>>,

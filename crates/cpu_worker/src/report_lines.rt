@@ -4,7 +4,6 @@ ghost use Rattle.std.specs.Prelude.{◌≡◌, ◌<◌, ◌^◌, [], ◌∷◌, 
 ghost use Rattle.scripts.specs.Words.{sentence, text_of_lines};
 ghost use Rattle.cpu_worker.specs.Report.{all_entries, object_words, run_words, report_text};
 
-
 use crate::sums::Sums;
 use event_log::{Entry, OutOfMemory, Series};
 use scripts::{KernelObject, ObjectSettings, Record, lock_word};

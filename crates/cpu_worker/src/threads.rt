@@ -88,7 +88,7 @@ fn do_job<G: Gate, R: Wait>(
 }
 
 /// Waits for all workers. There is room for what they leave.
-fn join_all<R: Threads>(rt: &R, handles: Vec<Handle>, finished: Vec<Finished>) -> Vec<Finished>
+fn join_threads<R: Threads>(rt: &R, handles: Vec<Handle>, finished: Vec<Finished>) -> Vec<Finished>
     requires room { (finished.items ≡ []) × (vec_len handles ≤ vec_capacity finished) }
     ensures { AllZip (λ h r. IsDone IsPassOf view_of_pass h.promise.cells.value.items
         h.promise.job.value.passes.items h.promise.job.value.todos.items r.0.items r.1.items) handles.items result.items }
@@ -167,7 +167,7 @@ pub fn on_threads<G: Gate + Sync, S: Starter, R: Threads + Wait + Sync>(
                 handles.push_reserved(handle);
                 cpu += 1;
             }
-            Ok(join_all(rt, handles, finished))
+            Ok(join_threads(rt, handles, finished))
         },
     )
 }

@@ -6,7 +6,7 @@ use Rattle.std.proofs.lemmas.List.FromFn.{length-map-range_with_len}
 use Rattle.std.proofs.lemmas.List.Sums.{fold-append}
 use Rattle.std.specs.List.{AllByRecursion}
 use Rattle.scripts.specs.declared.script.request.Request.{Request}
-use Rattle.scripts.specs.declared.script.list.TheConstants.{MOST_ENTRIES}
+use Rattle.scripts.specs.declared.script.cpu_scripts.TheConstants.{MOST_ENTRIES}
 use Rattle.scripts.specs.ScriptText.{IsBlank, AskFor, IsRefused, AreScripts, TodoFits, ScriptFits, ScriptsFit, count_of, script_of, dealt}
 use Rattle.scripts.specs.LineMachine.{TakesEach}
 use Rattle.scripts.specs.ScriptFaults.{ScriptState, TakesLine, TakesScriptLine, IsNotTaken}

@@ -1,3 +1,4 @@
+pub mod Limits
 pub mod Forms
 pub mod Parameters
 pub mod Kernel

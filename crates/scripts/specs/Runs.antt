@@ -5,7 +5,7 @@ use Rattle.event_log.specs.Entries.{asked_of}
 use Rattle.event_log.specs.Log.{Begins}
 use Rattle.sound_run.specs.Sound.{Opened}
 use Rattle.scripts.specs.declared.objects.kernel_call.KParams.{KParams}
-use Rattle.scripts.specs.declared.script.list.TheConstants.{MOST_ENTRIES}
+use Rattle.scripts.specs.declared.script.cpu_scripts.TheConstants.{MOST_ENTRIES}
 use Rattle.scripts.specs.KernelTypes.{KernelEntry, KernelTodo, KernelRun}
 use Rattle.scripts.specs.ScriptText.{TodoFits}
 use Rattle.scripts.specs.Settings.{Settings}

@@ -4,7 +4,7 @@ use Rattle.scripts.specs.declared.text.line_machine.PieceFault.{PieceFault}
 use Rattle.scripts.specs.declared.text.line_machine.PieceFault.TheVariants as piece
 use Rattle.scripts.specs.declared.text.line_machine.TheConstants.{MOST_BYTES}
 use Rattle.scripts.specs.declared.script.request.Request.{Request}
-use Rattle.scripts.specs.declared.script.list.TheConstants.{MOST_ENTRIES}
+use Rattle.scripts.specs.declared.script.cpu_scripts.TheConstants.{MOST_ENTRIES}
 use Rattle.scripts.specs.declared.script.reader.ScriptsFault.{ScriptsFault}
 use Rattle.scripts.specs.declared.script.reader.ScriptsFault.TheVariants.{OutOfMemory, Line}
 use Rattle.scripts.specs.declared.script.source.ScriptsReadFault.{ScriptsReadFault}

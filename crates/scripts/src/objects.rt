@@ -3,5 +3,3 @@
 pub mod kernel_call;
 pub mod kernel_object;
 pub mod kind;
-pub mod ranges;
-pub mod unlimited;

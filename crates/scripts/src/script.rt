@@ -1,7 +1,7 @@
 //! Scripts.
 
+pub mod cpu_scripts;
 pub mod lines;
-pub mod list;
 pub mod reader;
 pub mod request;
 pub mod request_line;

@@ -11,9 +11,9 @@ use crate::KParams;
 use crate::clones::{Copied, copy_all};
 use arrayvec::ArrayString;
 use event_log::{OutOfMemory, Series};
+use sound_run::LockKind;
 use std::alloc::Global;
 use std::marker::Model;
-use sound_run::LockKind;
 
 /// An object's name, its lock, the most events of its log, and what it is opened with.
 #[derive(Drop)]

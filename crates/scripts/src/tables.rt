@@ -3,6 +3,7 @@
 pub mod field;
 pub mod lock_words;
 pub mod params;
+pub mod ranges;
 pub mod read;
 pub mod rows;
 pub mod spelling;

@@ -1,7 +1,7 @@
 //! Lines, and the words and bytes in them.
 
+pub mod call_list;
 pub mod line_machine;
-pub mod list;
 pub mod name;
 pub mod split;
 pub mod words;

@@ -6,7 +6,7 @@ ghost use Rattle.scripts.specs.ScriptFaults.{Adds, IsFull, NamesFirstBad};
 ghost use Rattle.scripts.specs.ScriptText.{IsBlank, AreScripts, dealt};
 ghost use Rattle.scripts.specs.Settings.{Settings as Shown, SettingsFit};
 
-use crate::script::list::MOST_ENTRIES;
+use crate::script::cpu_scripts::MOST_ENTRIES;
 use crate::script::request_line::request;
 use crate::text::line_machine::{LineFault, MOST_BYTES, Pieces, TakesLines};
 use crate::{KernelObject, Request, Scripts, ScriptsFault, Settings};

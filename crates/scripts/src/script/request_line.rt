@@ -7,7 +7,7 @@ ghost use Rattle.scripts.specs.ScriptText.{IsRequest};
 ghost use Rattle.scripts.specs.Settings.{SettingsFit};
 
 use crate::settings::lookup::place;
-use crate::text::list::list;
+use crate::text::call_list::list;
 use crate::text::words::number;
 use crate::{KCall, Request, Settings};
 use arrayvec::ArrayVec;

@@ -22,10 +22,10 @@ use console_ring::MOST_BYTES;
 use event_log::{MOST_EVENTS, Series};
 use page_pool::{MOST_PAGES, OWNERS, PoolParams};
 use shared_queue::MOST_THREADS;
+use sound_run::{LockKind, MOST_CELLS, MOST_CPUS};
 use std::alloc::Global;
 use toml::{Table, Value};
 use wake_list::{MOST_CHANNELS, MOST_THREADS as MOST_SCHEDULED, SchedParams};
-use sound_run::{LockKind, MOST_CELLS, MOST_CPUS};
 
 /// A cause is a fault of that key, at that place.
 #[tactic(auto, unfolding(crate::specs::SettingsText::at_key))]

@@ -3,8 +3,9 @@
 ghost use Rattle.std.specs.Prelude.{◌≡◌, map, decimal};
 ghost use Rattle.std.specs.Option.{option_map};
 ghost use Rattle.scripts.specs.Output.{PutsWords};
-ghost use Rattle.scripts.specs.Parameters.{quota_words, params_words};
+ghost use Rattle.scripts.specs.Parameters.{params_words};
 ghost use Rattle.scripts.specs.Reading.{left};
+ghost use Rattle.scripts.specs.declared.record.form.Form.TheVariants.{Two};
 ghost use Rattle.scripts.specs.RecordReading.{all_quotas_at, quotas_at, params_behind, params_at};
 
 use crate::tables::read::{limited, quota};
@@ -88,19 +89,9 @@ fn put_numbers<W: Sink>(text: &mut Buffered<W>, numbers: &[u32])
     }
 }
 
-/// Puts the quotas of a pool, in that form.
-fn put_quotas<W: Sink>(text: &mut Buffered<W>, form: Form, quotas: &[u32])
-    ensures { PutsWords W.Sink text.old text.new (quota_words form quotas.now) }
-{
-    match form {
-        Form::One => put_numbers(text, &[]),
-        Form::Two => put_numbers(text, quotas),
-    }
-}
-
-/// Puts what an object is opened with, each word behind a space.
-pub(crate) fn put_params<W: Sink>(text: &mut Buffered<W>, form: Form, params: &KParams)
-    ensures { PutsWords W.Sink text.old text.new (params_words form params.now) }
+/// Puts what an object is opened with, as record 2 spells it, each word behind a space.
+pub(crate) fn put_params<W: Sink>(text: &mut Buffered<W>, params: &KParams)
+    ensures { PutsWords W.Sink text.old text.new (params_words Two params.now) }
 {
     match params {
         KParams::Queue(threads) => {
@@ -110,7 +101,7 @@ pub(crate) fn put_params<W: Sink>(text: &mut Buffered<W>, form: Form, params: &K
         KParams::Pool(params) => {
             put_word(text, Kind::Pool.word());
             put_number(text, u64::from(params.pages));
-            put_quotas(text, form, &params.quotas);
+            put_numbers(text, &params.quotas);
         }
         KParams::Console(bytes) => {
             put_word(text, Kind::Console.word());

@@ -11,7 +11,7 @@ pub returns-in-Pool : goal.returns-in-Pool
 returns-in-Pool g c =
     let word = rw c.word-in-Pool.ensures at c.put_word-in-Pool.ensures in
     let pages = rw c.from-in-Pool.ensures at c.put_number-in-Pool.ensures in
-    rw c.in-Pool.is (words_then g.W.Sink word (words_then g.W.Sink pages c.put_quotas.ensures))
+    rw c.in-Pool.is (words_then g.W.Sink word (words_then g.W.Sink pages c.put_numbers.ensures))
 
 pub returns-in-Console : goal.returns-in-Console
 returns-in-Console g c =

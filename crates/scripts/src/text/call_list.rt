@@ -1,0 +1,72 @@
+//! Reading the calls of an entry or the steps of an event, which have semicolons between them.
+
+ghost use Rattle.std.specs.Prelude.{◌≡◌, []};
+ghost use Rattle.std.specs.Option.{option_map};
+ghost use Rattle.scripts.specs.Reading.{left};
+ghost use Rattle.scripts.specs.RecordReading.{list_at};
+
+use crate::text::words::{Words, mark};
+use crate::{KCall, KernelObject, value};
+use arrayvec::ArrayVec;
+use event_log::{MOST_CALLS, Step};
+
+/// What lines have lists of.
+pub(crate) trait Listed: Default + Drop {
+    ghost use Rattle.std.specs.Prelude.{ℕ, List, Option};
+
+    /// The item that is next, and the words behind it.
+    ghost item_at: { List (List ℕ) → Option (Self × List (List ℕ)) };
+
+    /// The item that is next, and the words behind it.
+    fn item(at: Words<'_>) -> Option<(Self, Words<'_>)>
+        ensures { option_map (λ x. (x.0, left x.1)) result ≡ item_at (left at.entry) };
+}
+
+impl Listed for KCall {
+    ghost use Rattle.scripts.specs.RecordReading.{call_at};
+
+    ghost item_at = { call_at };
+
+    #[inline(always)]
+    fn item(at: Words<'_>) -> Option<(KCall, Words<'_>)> {
+        value(at)
+    }
+}
+
+impl Listed for Step<KernelObject> {
+    ghost use Rattle.scripts.specs.RecordReading.{step_at};
+
+    ghost item_at = { step_at };
+
+    #[inline(always)]
+    #[tactic(auto, unfolding(crate::specs::RecordReading::step_at))]
+    fn item(at: Words<'_>) -> Option<(Step<KernelObject>, Words<'_>)> {
+        let (call, rest) = value(at)?;
+        let rest = mark(b'=', rest)?;
+        let (reply, rest) = value(rest)?;
+        Some((Step { call, reply }, rest))
+    }
+}
+
+/// Puts 1 to 8 items, each but the first behind a semicolon, into an empty list, and answers the words behind them.
+#[inline(always)]
+pub(crate) fn list<'a, T: Listed>(
+    at: Words<'a>,
+    items: &mut ArrayVec<T, MOST_CALLS>,
+) -> Option<Words<'a>>
+    requires { items.old.items ≡ [] }
+    ensures { option_map (λ rest. (items.new.items, left rest)) result ≡ list_at T.item_at (left at.entry) }
+{
+    let (first, rest) = T::item(at)?;
+    items.push(first);
+    let mut left = rest;
+    for _ in 1..MOST_CALLS {
+        let Some(rest) = mark(b';', left) else {
+            break;
+        };
+        let (next, rest) = T::item(rest)?;
+        items.push(next);
+        left = rest;
+    }
+    Some(left)
+}
