@@ -2,8 +2,8 @@
 
 ghost use Rattle.std.specs.Prelude.{◌≡◌, true};
 
-use event_log::{Done, Entry, Event, Logged, NoRoom, OpenFault, SeqObject, Series, Step};
 use arrayvec::ArrayVec;
+use event_log::{Done, Entry, Event, Logged, NoRoom, OpenFault, SeqObject, Series, Step};
 use std::alloc::Global;
 use std::test::Fail;
 

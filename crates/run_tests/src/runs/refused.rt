@@ -156,7 +156,9 @@ fn is_run_or_refused<R: Threads + Wait + Sync + AllocGlobal>(
 {
     let calls = Calls::none();
     match run_with(rt, rt.alloc(), settings, scripts, &calls, &AlwaysAllowed) {
-        Ok(record) => Ok(has_text(rt.alloc(), &record, OF_FOUR_CPUS)? && calls.are(&calls_below(4))),
+        Ok(record) => Ok(
+            has_text(rt.alloc(), &record, OF_FOUR_CPUS)? && calls.are(&calls_below(4)),
+        ),
         Err(RunFault::OutOfMemory) => Ok(calls.are(&calls_below(0))),
         Err(RunFault::NoThreadStarted(cpu)) => Ok(cpu < 4 && calls.are(&calls_below(cpu))),
     }
