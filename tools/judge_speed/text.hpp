@@ -28,11 +28,6 @@ class Text {
 
     Text(const char *at, const char *end) : at(at), end(end) {}
 
-    // Goes to the next line, where the text itself already is.
-    void next_line() {}
-
-    bool is_at_end() const { return at == end; }
-
     char first() const { return *at; }
 
     template <size_t N> bool skip(const char (&word)[N]) {
