@@ -7,6 +7,8 @@ import re
 from collections import defaultdict
 from typing import NamedTuple
 
+from edit_files import read_edit
+
 FN = re.compile(r"( *)(?:pub(?:\([a-z]+\))? )?(?:const )?fn (\w+)")
 IMPL = re.compile(r"impl(?:<.*?>)? (?:(\w+)(?:<.*>)? for )?(\w+)")
 TOLD = re.compile(r"fn (\S+): (.*)")
@@ -41,20 +43,6 @@ def bodies(file, text):
             if ends and opens and opens[0] < ends[0]:
                 found.append(Body(file, opens[0] + 1, ends[0], f"{owner}::{fn[2]}"))
     return found
-
-
-def read_edit(edit):
-    """The edit's changes: for each the file, the old text and the new one."""
-    file, old, changes = "", "", []
-    for line in edit.read_text(encoding="utf-8").splitlines():
-        kind, _, text = line.partition(": ") if not line.startswith("new:") else ("new", "", line[5:])
-        if kind == "file":
-            file = text
-        elif kind == "old":
-            old = text
-        elif kind == "new":
-            changes.append((file, old, text))
-    return changes
 
 
 def touched(crate, changes):
