@@ -1,6 +1,6 @@
 // The four objects, which answer calls.
 #pragma once
-#include "../record_speed/values.hpp"
+#include "values.hpp"
 #include <algorithm>
 #include <cstddef>
 

@@ -1,7 +1,7 @@
-//! Tests, which are proved and run apart from what they test.
+//! Tests of `auditor` and `log_merge`: verdicts on records, and their orders.
 #![tactic(auto)]
 
 #[cfg(test)]
-mod verdicts;
-#[cfg(test)]
 mod orders;
+#[cfg(test)]
+mod verdicts;

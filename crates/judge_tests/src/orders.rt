@@ -3,9 +3,9 @@
 mod records;
 mod sinks;
 
-use log_merge::{MergeFault, Merged, Place, merge, write_merged};
 use auditor::Fault;
 use event_log::Plain;
+use log_merge::{MergeFault, Merged, Place, merge, write_merged};
 use records::*;
 use scripts::Record;
 use std::alloc::Global;

@@ -1,6 +1,5 @@
 //! The worked runs, refused scripts, and sinks that fail.
 
-
 use crate::fault::Fault;
 use cpu_worker::{OpenGate, run};
 use event_log::{Plain, Sink, StreamFailed};

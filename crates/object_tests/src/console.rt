@@ -1,4 +1,4 @@
-//! Worked answers, the limits of an opening, and a plain program that answers the same.
+//! The console: worked answers, the limits of an opening, and a plain program that answers the same.
 
 use console_ring::{Console, ConsoleCall as Call, ConsoleReply as Reply, MOST_BYTES};
 use event_log::{Logged, OpenFault};

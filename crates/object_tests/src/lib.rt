@@ -1,13 +1,13 @@
-//! Tests, which are proved and run apart from what they test.
+//! Tests of `event_log`, and of the four objects: `shared_queue`, `console_ring`, `page_pool` and `wake_list`.
 #![tactic(auto)]
 
 #[cfg(test)]
-mod log;
-#[cfg(test)]
-mod queue;
-#[cfg(test)]
 mod console;
 #[cfg(test)]
+mod log;
+#[cfg(test)]
 mod pool;
+#[cfg(test)]
+mod queue;
 #[cfg(test)]
 mod sched;

@@ -2,8 +2,8 @@
 
 ghost use Rattle.std.specs.Prelude.{◌≡◌, true};
 
-use event_log::{Done, Entry, Event, Logged, NoRoom, OpenFault, SeqObject, Series, Step};
 use arrayvec::ArrayVec;
+use event_log::{Done, Entry, Event, Logged, NoRoom, OpenFault, SeqObject, Series, Step};
 use std::alloc::Global;
 use std::test::Fail;
 
@@ -134,6 +134,7 @@ fn a_full_log(rt: HostRuntime) -> Result<(), Fail> {
 #[test]
 fn a_log_that_is_not_kept(rt: HostRuntime) -> Result<(), Fail> {
     let mut purse = Logged::<Purse>::open_unkept(rt.alloc(), 5)?;
+    assert!(rt; !purse.keeps_log());
     for _ in 0..70000 {
         assert!(rt; purse.call(0, &0).is_ok());
     }
@@ -142,6 +143,20 @@ fn a_log_that_is_not_kept(rt: HostRuntime) -> Result<(), Fail> {
     assert_eq!(rt; purse.state().coins, 3);
     assert!(rt; purse.log().is_empty());
     assert!(rt; purse.into_log().is_empty());
+    Ok(())
+}
+
+/// The coins stay, and a log of one event is full no more.
+#[test]
+fn a_log_that_is_not_kept_any_more(rt: HostRuntime) -> Result<(), Fail> {
+    let mut purse = Logged::<Purse>::open(rt.alloc(), 5, 1)?;
+    assert!(rt; purse.call(0, &2)?);
+    assert!(rt; purse.keeps_log());
+    let mut purse = purse.into_unkept(rt.alloc());
+    assert!(rt; !purse.keeps_log());
+    assert!(rt; purse.log().is_empty());
+    assert!(rt; purse.call(0, &3)?);
+    assert_eq!(rt; (*purse.params(), purse.state().coins), (5, 0));
     Ok(())
 }
 
@@ -172,10 +187,7 @@ fn steps_are_told_by_their_call_and_reply(rt: HostRuntime) -> Result<(), Fail> {
 fn entry_of(purse: &mut Logged<Purse>, coins: u32) -> Entry<Purse> {
     let mut asked = ArrayVec::new();
     asked.push(coins);
-    let done = match purse.apply(0, asked.as_slice()) {
-        Ok(steps) => Done::Steps(steps),
-        Err(NoRoom) => Done::NoRoom,
-    };
+    let done = Done::from(purse.apply(0, asked.as_slice()));
     Entry {
         object: 0,
         asked,

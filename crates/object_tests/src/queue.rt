@@ -1,7 +1,7 @@
-//! Worked answers, the limits of an opening, and a plain program that answers the same.
+//! The queue of threads: worked answers, the limits of an opening, and a plain program that answers the same.
 
-use shared_queue::{MOST_THREADS, QueueCall as Call, QueueReply as Reply, ThreadQueue};
 use event_log::{Logged, OpenFault, SeqObject, Step};
+use shared_queue::{MOST_THREADS, QueueCall as Call, QueueReply as Reply, ThreadQueue};
 use std::alloc::Global;
 use std::process::Abort;
 use std::test::Fail;

@@ -1,12 +1,12 @@
-//! Worked answers, the limits of an opening, and a plain program that answers the same.
+//! The scheduler: worked answers, the limits of an opening, and a plain program that answers the same.
 
-use wake_list::{
-    MOST_CHANNELS, MOST_THREADS, Sched, SchedCall as Call, SchedParams, SchedReply as Reply,
-};
 use event_log::{Logged, OpenFault, SeqObject, Step};
 use std::alloc::Global;
 use std::process::Abort;
 use std::test::Fail;
+use wake_list::{
+    MOST_CHANNELS, MOST_THREADS, Sched, SchedCall as Call, SchedParams, SchedReply as Reply,
+};
 
 /// A scheduler of that many threads and channels.
 fn open(alloc: Global, threads: u32, channels: u32) -> Result<Logged<Sched>, OpenFault> {

@@ -1,7 +1,7 @@
 //! Runs by threads, eight CPUs on sixteen objects of all kinds: their records are sound, and have an order.
 
-use auditor::{Verdict, audit};
 use crate::runs::run_texts;
+use auditor::{Verdict, audit};
 use cpu_worker::OpenGate;
 use log_merge::merge;
 use scripts::Record;

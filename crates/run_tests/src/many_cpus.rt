@@ -122,12 +122,7 @@ fn entries_in_order(alloc: Global, record: &Record) -> Result<usize, Fail> {
 }
 
 /// Whether all entries of a simulation by that schedule have one order.
-fn has_order(
-    alloc: Global,
-    settings: &Settings,
-    scripts: &Scripts,
-    seed: u64,
-) -> Result<bool, Fail>
+fn has_order(alloc: Global, settings: &Settings, scripts: &Scripts, seed: u64) -> Result<bool, Fail>
     requires { ScriptsFit settings.now.cpus (length settings.now.objects) scripts.now }
 {
     let record = record_from(alloc, settings, scripts, seed)?;

@@ -1,5 +1,15 @@
-//! Tests, which are proved and run apart from what they test.
+//! Tests of `scripts`: settings, scripts, schedules, records, and the words of all objects.
 #![tactic(auto)]
 
 #[cfg(test)]
-mod texts;
+mod changed_lines;
+#[cfg(test)]
+mod record;
+#[cfg(test)]
+mod schedule;
+#[cfg(test)]
+mod settings;
+#[cfg(test)]
+mod source;
+#[cfg(test)]
+mod words;

@@ -2,8 +2,8 @@
 
 use super::lines;
 use super::records::TWO_OBJECTS;
-use log_merge::{merge, write_merged};
 use event_log::{Sink, StreamFailed};
+use log_merge::{merge, write_merged};
 use scripts::Record;
 use std::alloc::Global;
 use std::test::Fail;

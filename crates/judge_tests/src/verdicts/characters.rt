@@ -7,9 +7,9 @@ use std::test::Fail;
 
 /// The text with another byte at that place.
 fn with_byte(alloc: Global, text: &[u8], place: usize, byte: u8) -> Result<Vec<u8>, Fail> {
-    let mut changed = Vec::with_capacity(alloc, text.len())?;
-    for (i, old) in text.iter().enumerate() {
-        changed.push(if i == place { byte } else { *old })?;
+    let mut changed = text.to_vec(alloc)?;
+    if let Some(old) = changed.get_mut(place) {
+        *old = byte;
     }
     Ok(changed)
 }

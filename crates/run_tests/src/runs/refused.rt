@@ -145,9 +145,9 @@ fn is_run<R: Threads + Wait + Sync + AllocGlobal>(
     Ok(has_text(rt.alloc(), &record, OF_FOUR_CPUS)? && calls.are(&calls_below(4)))
 }
 
-/// Whether a run ends so, or with what was refused. Without memory no worker has begun; without a thread those of the CPUs
-/// below have ended.
-fn is_run_or_refused<R: Threads + Wait + Sync + AllocGlobal>(
+/// Whether a run was refused memory or a thread. Without memory no worker has begun; without a thread those of the CPUs below
+/// have ended. Where nothing was refused it ends with its record.
+fn is_refused<R: Threads + Wait + Sync + AllocGlobal>(
     rt: &R,
     settings: &Settings,
     scripts: &Scripts,
@@ -155,10 +155,25 @@ fn is_run_or_refused<R: Threads + Wait + Sync + AllocGlobal>(
     requires { ScriptsFit settings.now.cpus (length settings.now.objects) scripts.now }
 {
     let calls = Calls::none();
-    match run_with(rt, rt.alloc(), settings, scripts, &calls, &AlwaysAllowed) {
-        Ok(record) => Ok(has_text(rt.alloc(), &record, OF_FOUR_CPUS)? && calls.are(&calls_below(4))),
-        Err(RunFault::OutOfMemory) => Ok(calls.are(&calls_below(0))),
-        Err(RunFault::NoThreadStarted(cpu)) => Ok(cpu < 4 && calls.are(&calls_below(cpu))),
+    let (refused, right) = match run_with(
+        rt,
+        rt.alloc(),
+        settings,
+        scripts,
+        &calls,
+        &AlwaysAllowed,
+    ) {
+        Ok(record) => (
+            false,
+            has_text(rt.alloc(), &record, OF_FOUR_CPUS)? && calls.are(&calls_below(4)),
+        ),
+        Err(RunFault::OutOfMemory) => (true, calls.are(&calls_below(0))),
+        Err(RunFault::NoThreadStarted(cpu)) => { (true, cpu < 4 && calls.are(&calls_below(cpu))) }
+    };
+    if right {
+        Ok(refused)
+    } else {
+        Err(Fail::new("the run ended otherwise"))
     }
 }
 
@@ -166,8 +181,9 @@ fn is_run_or_refused<R: Threads + Wait + Sync + AllocGlobal>(
 fn a_run_without_memory(rt: HostRuntime) -> Result<(), Fail> {
     let settings = settings_of(rt.alloc(), FOUR_CPUS)?;
     let scripts = scripts_of(rt.alloc(), EACH_ITS_OWN, &settings)?;
-    assert!(rt; is_run_or_refused(&rt, &settings, &scripts)?);
-    assert!(rt; is_run(&rt, &settings, &scripts)?);
+    if is_refused(&rt, &settings, &scripts)? {
+        assert!(rt; is_run(&rt, &settings, &scripts)?);
+    }
     Ok(())
 }
 
@@ -194,31 +210,28 @@ q0 3 enq 4 | enq 4 = ok
 end
 ";
 
-/// Whether a simulation ends with its record, or for want of memory.
-fn is_simulated(
+/// The record of the simulation, which is begun anew if that was refused.
+fn simulated(
     alloc: Global,
     settings: &Settings,
     scripts: &Scripts,
     schedule: &Schedule,
-) -> Result<bool, Fail>
+) -> Result<Record, Fail>
     requires scripts { ScriptsFit settings.now.cpus (length settings.now.objects) scripts.now }
     requires schedule { AllByRecursion (λ cpu. cpu < settings.now.cpus) schedule.now }
 {
     match simulate(alloc, settings, scripts, schedule) {
-        Ok(record) => has_text(alloc, &record, OF_TWO_CPUS),
-        Err(OutOfMemory) => Ok(true),
+        Ok(record) => Ok(record),
+        Err(OutOfMemory) => Ok(simulate(alloc, settings, scripts, schedule)?),
     }
 }
 
-/// Whether two simulations end so, the second with its record.
-fn are_simulated(alloc: Global, settings: &Settings, scripts: &Scripts) -> Result<bool, Fail>
+/// Whether the simulation ends with its record.
+fn is_simulated(alloc: Global, settings: &Settings, scripts: &Scripts) -> Result<bool, Fail>
     requires { ScriptsFit settings.now.cpus (length settings.now.objects) scripts.now }
 {
     let schedule = schedule_of(alloc, "0 1 1 1 0 0 1 1", settings)?;
-    if !is_simulated(alloc, settings, scripts, &schedule)? {
-        return Ok(false);
-    }
-    let record = simulate(alloc, settings, scripts, &schedule)?;
+    let record = simulated(alloc, settings, scripts, &schedule)?;
     has_text(alloc, &record, OF_TWO_CPUS)
 }
 
@@ -226,7 +239,7 @@ fn are_simulated(alloc: Global, settings: &Settings, scripts: &Scripts) -> Resul
 fn a_simulation_without_memory(rt: HostRuntime) -> Result<(), Fail> {
     let settings = settings_of(rt.alloc(), TWO_CPUS)?;
     let scripts = scripts_of(rt.alloc(), "0 q0 enq 3\n1 q0 enq 4\n", &settings)?;
-    assert!(rt; are_simulated(rt.alloc(), &settings, &scripts)?);
+    assert!(rt; is_simulated(rt.alloc(), &settings, &scripts)?);
     Ok(())
 }
 
@@ -240,25 +253,27 @@ fn record_of(alloc: Global, text: &str) -> Result<Record, Fail> {
 
 const REPORT: &str = "q0 ticket entries 2 noroom 0 looks 4 most 3\ncpus 2 entries 2\n";
 
-/// Whether that is the report on the record.
-fn is_told(alloc: Global, record: &Record) -> Result<bool, Fail> {
-    let told = report(alloc, record)?;
-    Ok(told.as_str() == REPORT)
+/// The report on a record that is still as it was.
+fn report_again(alloc: Global, record: &Record) -> Result<String, Fail> {
+    if has_text(alloc, record, OF_TWO_CPUS)? {
+        Ok(report(alloc, record)?)
+    } else {
+        Err(Fail::new("another record"))
+    }
 }
 
-/// Whether the report is that, or memory was wanting.
-fn is_told_or_refused(alloc: Global, record: &Record) -> bool {
+/// The report, told once more if that was refused.
+fn report_of(alloc: Global, record: &Record) -> Result<String, Fail> {
     match report(alloc, record) {
-        Ok(told) => told.as_str() == REPORT,
-        Err(OutOfMemory) => true,
+        Ok(told) => Ok(told),
+        Err(OutOfMemory) => report_again(alloc, record),
     }
 }
 
 #[test]
 fn a_report_without_memory(rt: HostRuntime) -> Result<(), Fail> {
     let record = record_of(rt.alloc(), OF_TWO_CPUS)?;
-    assert!(rt; is_told_or_refused(rt.alloc(), &record));
-    assert!(rt; has_text(rt.alloc(), &record, OF_TWO_CPUS)?);
-    assert!(rt; is_told(rt.alloc(), &record)?);
+    let told = report_of(rt.alloc(), &record)?;
+    assert_eq!(rt; told.as_str(), REPORT);
     Ok(())
 }
