@@ -1,10 +1,10 @@
 /* use: unkept ticket|mcs [CALLS]
 
-   Two threads call one queue CALLS times together, 200,000 if none are named, and its log isn't kept in memory: each call is
-   done, whatever their number. Prints how many were done, and by how many KiB the memory grew in the second half of them.
+   Two threads call one queue, whose log isn't kept in memory. Each does half of CALLS calls, and of 200,000 if none are named:
+   all are done, whatever their number. Prints how many were done, and by how many KiB the memory grew in the second half.
 
-   Status: 0; 1 if a call is told what it can't be, or if the memory grew by more than 1 MiB; 2 for wrong words; 3 if memory or a
-   thread is refused. */
+   Status: 0; 1 if a call is told what it can't be, or if the memory grew by more than 1 MiB; 2 for wrong words; 3 if memory or
+   a thread is refused. */
 #include <sched.h>
 #define MC2_PAUSE(looks) ((looks) % 4 ? (void)__builtin_ia32_pause() : (void)sched_yield())
 #include "mc2_cells.h"
