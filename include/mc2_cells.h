@@ -5,6 +5,12 @@
 //
 //     gcc -Iinclude examples/c_cells/c_cells.c crates/cells/out/libcells.a KIT/c/liblibc_c.a -pthread
 //
+// Each call is an event of the cell's log. A cell that is opened with 1 to 65,536 events keeps its log in memory, which is taken
+// at once. Then mc2_cell_step reads the log once the cell is closed, for a record that `mc2 audit` judges. A log that is full
+// stays full: each later call answers MC2_CELL_FULL, and does nothing. A cell that is opened with 0 events doesn't keep its log:
+// that takes no memory, and no step can be read. Such a log has room for 2^64 - 1 events, which last for 584 years at one in a
+// nanosecond. So take 0 for a kernel that calls without end and needs no record; all other calls are as ever.
+//
 // A cell has 1 to 64 CPUs, and each may have a caller. A caller gets the object step by step, each step one operation on one
 // word of the lock, and none waits: the loops around the steps are the inline functions below, or yours. What is proved of each
 // function of the library is told in crates/cells/README.md; nothing of the inline functions is.
@@ -56,11 +62,12 @@ enum mc2_cell_told {
     MC2_CELL_BUSY = 6,
     // All went well; the log is full, and nothing was done; there is no such call, or no such step.
     MC2_CELL_DONE = 7, MC2_CELL_FULL = 8, MC2_CELL_NOT_THERE = 9,
-    // Of an opening: memory was refused; or a number is none of those that mc2_object names, or there aren't 1 to 64 CPUs.
+    // Of an opening: memory was refused; or a number is none of those that mc2_object names, or there aren't 1 to 64 CPUs, or
+    // there are more than 65,536 events.
     MC2_CELL_NO_MEMORY = 10, MC2_CELL_BAD_OPENING = 11
 };
 
-// What a cell is opened with: numbers of mc2_lock and mc2_kind, the most events of its log, the CPUs, and the size, the
+// What a cell is opened with: numbers of mc2_lock and mc2_kind, the most events of its log or 0, the CPUs, and the size, the
 // channels and the quotas as mc2_object explains them. A number that the kind hasn't isn't looked at.
 struct mc2_cell_opening {
     uint32_t lock, kind, events, cpus, size, channels;
@@ -102,14 +109,14 @@ uint32_t mc2_cell_take_back(struct mc2_cell *cell, struct mc2_caller *caller);
 uint32_t mc2_cell_close(struct mc2_cell *cell);
 
 // The step at that place of an event of the log of a cell that was closed, both from 0: an event has a step for each of its 1
-// to 8 calls. It is written where it is there, and else MC2_CELL_NOT_THERE is told.
+// to 8 calls. It is written where it is there, and else MC2_CELL_NOT_THERE is told. A log that isn't kept has no step there.
 uint32_t mc2_cell_step(struct mc2_cell *cell, size_t event, size_t step, struct mc2_logged_step *told);
 
 #ifdef __cplusplus
 }
 #endif
 
-// Opens a cell around such an object, for so many CPUs. The object's name isn't looked at.
+// Opens a cell around such an object, for so many CPUs. The object's name isn't looked at. With 0 events the log isn't kept.
 static inline uint32_t mc2_cell_open(struct mc2_cell *cell, const struct mc2_object *object, uint32_t cpus) {
     struct mc2_cell_opening opening = {object->lock, object->kind, object->events, cpus, object->size, object->channels, {0}};
     for (uint32_t owner = 0; owner < MC2_OWNERS; owner++)

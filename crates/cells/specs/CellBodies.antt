@@ -1,5 +1,6 @@
 -- What is done with what a handle has: a cell is opened, gives passes out, takes callers back and ends, or nothing is done.
-use Rattle.std.specs.Prelude.{◌≡◌, ℕ, Bool, true, false, Option, Some, None, Result, Ok, Err}
+use Rattle.std.specs.Prelude.{◌≡◌, ℕ, nat_lt, Bool, true, false, Option, Some, None, Result, Ok, Err, if◌then◌else◌}
+use Rattle.event_log.specs.declared.logged.TheConstants.{MOST_EVENTS}
 use Rattle.std_alloc.specs.Arc.{arc_value}
 use Rattle.cells.specs.declared.body.Body.{Body}
 use Rattle.cells.specs.declared.body.Body.TheVariants.{Empty, Cell, Caller, Ended}
@@ -10,13 +11,17 @@ use Rattle.cells.specs.Bodies.{KernelCaller}
 use Rattle.cells.specs.LoggedSteps.{step_told}
 use Rattle.cells.specs.Positions.{is_idle}
 use Rattle.cells.specs.Ends.{IsSame, IsDealt, IsGivenBack, HasClosed}
-use Rattle.cells.specs.Openings.{IsOpened}
+use Rattle.cells.specs.Openings.{IsOpened, IsUnfit}
 
 -- what had nothing has a new cell, or all is as it was
 abbrev pub IsOpenedBy : Body → Opening → Result (Unit {0}) NotOpened → Body → Type 0
 IsOpenedBy Empty o (Ok u) (Cell c) = IsOpened o c
 IsOpenedBy before o (Ok u) after = ⊥
 IsOpenedBy before o (Err why) after = after ≡ before
+
+-- there is nothing, and a number of the opening doesn't fit
+abbrev pub IsBadOpening : Body → Opening → Type 0
+IsBadOpening before o = (before ≡ Empty) × IsUnfit o
 
 -- a cell gave a pass out, or all is as it was
 abbrev pub IsDealtBy : Body → Option KernelCaller → Body → Type 0
@@ -40,9 +45,9 @@ IsClosedBy (Cell o) false (Cell p) = IsSame o p
 IsClosedBy before true after = ⊥
 IsClosedBy before false after = after ≡ before
 
--- a step of the log that an ended cell has left
+-- a step of the log that an ended cell has left; a log of more than 65,536 events isn't kept in memory, and none of it is there
 abbrev pub step_of : Body → ℕ → ℕ → Option LoggedStep
-step_of (Ended h) i j = step_told h.log i j
+step_of (Ended h) i j = if nat_lt MOST_EVENTS h.limit then None else step_told h.log i j
 step_of before i j = None
 
 -- all but a caller that isn't idle

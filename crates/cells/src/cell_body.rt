@@ -1,7 +1,7 @@
 //! What is done with what a handle has, of cells.
 
-ghost use Rattle.std.specs.Prelude.{◌≡◌};
-ghost use Rattle.cells.specs.CellBodies.{IsOpenedBy, IsDealtBy, IsOwn, IsGivenBackTo, IsClosedBy, step_of, may_be_freed};
+ghost use Rattle.std.specs.Prelude.{◌≡◌, ◌↔◌, Err};
+ghost use Rattle.cells.specs.CellBodies.{IsOpenedBy, IsBadOpening, IsDealtBy, IsOwn, IsGivenBackTo, IsClosedBy, step_of, may_be_freed};
 
 use crate::logged_step::{LoggedStep, step_at};
 use crate::opening::{NotOpened, Opening, open_cell};
@@ -12,7 +12,8 @@ use std::alloc::Global;
 impl Body {
     /// A new cell, where there is nothing.
     pub fn open(self, alloc: Global, opening: &Opening) -> (Body, Result<(), NotOpened>)
-        ensures { IsOpenedBy self opening.now result.1 result.0 }
+        ensures opened { IsOpenedBy self opening.now result.1 result.0 }
+        ensures judged { IsBadOpening self opening.now ↔ (result.1 ≡ Err NotOpened.BadOpening) }
     {
         match self {
             Body::Empty => match open_cell(alloc, opening) {

@@ -12,9 +12,9 @@ ghost use Rattle.cells.specs.Ends.{IsDealt, IsGivenBack, IsClosed};
 use crate::{Caller, OpenCell, Position};
 use event_log::{Logged, SeqObject};
 use guarded_cell::AnyCell;
+use sound_run::{LockKind, MOST_CPUS};
 use std::alloc::Global;
 use std::sync::Arc;
-use sound_run::{LockKind, MOST_CPUS};
 use word_rule::{LockCell, Pass};
 
 impl<O: SeqObject> OpenCell<O> {

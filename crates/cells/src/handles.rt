@@ -1,7 +1,8 @@
 //! The calls that C has on a cell, and on a new handle.
 
-ghost use Rattle.std.specs.Prelude.{◌≡◌};
+ghost use Rattle.std.specs.Prelude.{◌≡◌, ◌↔◌};
 ghost use Rattle.cells.specs.Exports.{body_of};
+ghost use Rattle.cells.specs.CellBodies.{IsBadOpening};
 ghost use Rattle.cells.specs.CellExports.{IsOpenTold, IsDealTold, IsBackTold, IsCloseTold, IsFreeTold, IsStepTold, told_opening, owns_back};
 ghost use Rattle.cells.specs.declared.body.Body.TheVariants.{Empty};
 
@@ -94,7 +95,8 @@ pub extern "C" fn mc2_handle_free(handle: Handle) -> u32
 /// Opens a cell.
 #[unsafe(no_mangle)]
 pub extern "C" fn mc2_handle_open(alloc: Global, cell: &mut Handle, opening: &Opening) -> u32
-    ensures { IsOpenTold (body_of cell.old) opening.now result (body_of cell.new) }
+    ensures opened { IsOpenTold (body_of cell.old) opening.now result (body_of cell.new) }
+    ensures judged { IsBadOpening (body_of cell.old) opening.now ↔ (result ≡ BAD_OPENING) }
 {
     told_opening(with_body(cell, opening, |body, opening| body.open(alloc, opening)))
 }

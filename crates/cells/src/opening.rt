@@ -1,19 +1,21 @@
 //! What C opens a cell with.
 
-ghost use Rattle.std.specs.Prelude.{◌≡◌, ◌<◌, ◌≤◌, IfOk, OnErr};
+ghost use Rattle.std.specs.Prelude.{◌≡◌, ◌<◌, ◌≤◌, ◌↔◌, ◌⊎◌, false, IfOk, OnErr, Err};
 ghost use Rattle.sound_run.specs.declared.limits.TheConstants.{MOST_CPUS};
-ghost use Rattle.cells.specs.Openings.{params_of, lock_of, IsOpened};
+ghost use Rattle.event_log.specs.History.{opened_history};
+ghost use Rattle.scripts.specs.Kernel.{kernel_in_range, kernel_opening};
+ghost use Rattle.cells.specs.Openings.{params_of, lock_of, limit_of, IsUnfit, IsOpened};
 
 use crate::OpenCell;
-use event_log::{Logged, OpenFault};
+use event_log::{Logged, MOST_EVENTS, OpenFault};
 use page_pool::{OWNERS, PoolParams};
 use scripts::{KParams, KernelObject};
+use sound_run::{LockKind, MOST_CPUS};
 use std::alloc::Global;
 use wake_list::SchedParams;
-use sound_run::{LockKind, MOST_CPUS};
 
 /// A cell to be: the numbers of its lock and its kind of object, the most events of its log, its CPUs, and what the object is
-/// opened for.
+/// opened for. With 0 events the log isn't kept in memory.
 #[derive(Clone, Copy, Debug, PartialEq, Eq, Drop)]
 #[repr(C)]
 pub struct Opening {
@@ -63,9 +65,25 @@ fn lock_of(opening: &Opening) -> Option<LockKind>
         .copied()
 }
 
-/// A new cell.
+/// A new object with its log; with 0 events the log isn't kept in memory.
+fn open_object(
+    alloc: Global,
+    params: KParams,
+    events: u32,
+) -> Result<Logged<KernelObject>, OpenFault>
+    ensures opened { IfOk result (λ l. l ≡ opened_history params (limit_of events) (kernel_opening params)) }
+    ensures judged { ((MOST_EVENTS < events) ⊎ (kernel_in_range params ≡ false)) ↔ (result ≡ Err OpenFault.BadLimit) }
+{
+    if events == 0 {
+        return Logged::open_unkept(alloc, params);
+    }
+    Logged::open(alloc, params, events)
+}
+
+/// A new cell. There is none if a number doesn't fit, which is judged first, or if memory is refused.
 pub fn open_cell(alloc: Global, opening: &Opening) -> Result<OpenCell<KernelObject>, NotOpened>
-    ensures { IfOk result (λ c. IsOpened opening.now c) }
+    ensures opened { IfOk result (λ c. IsOpened opening.now c) }
+    ensures judged { IsUnfit opening.now ↔ (result ≡ Err NotOpened.BadOpening) }
 {
     let Some(kind) = lock_of(opening) else {
         return Err(NotOpened::BadOpening);
@@ -76,7 +94,7 @@ pub fn open_cell(alloc: Global, opening: &Opening) -> Result<OpenCell<KernelObje
     if opening.cpus == 0 || opening.cpus > MOST_CPUS as u32 {
         return Err(NotOpened::BadOpening);
     }
-    let logged = match Logged::open(alloc, params, opening.events) {
+    let logged = match open_object(alloc, params, opening.events) {
         Ok(logged) => logged,
         Err(OpenFault::BadLimit) => return Err(NotOpened::BadOpening),
         Err(OpenFault::OutOfMemory) => return Err(NotOpened::OutOfMemory),
