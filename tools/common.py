@@ -20,6 +20,7 @@ MC2 = ROOT / "crates/mc2/out/mc2"
 BENCH = ROOT / "crates/bench/out/bench"
 COSTS = ROOT / "crates/costs/out/costs"
 VIEW = ROOT / "crates/view/out/view"
+FOREVER = ROOT / "crates/forever/out/forever"
 # The most CPUs of a cell.
 MOST_CPUS = 64
 HOW_TO_BUILD = {
@@ -27,6 +28,7 @@ HOW_TO_BUILD = {
     BENCH: "`rt run` in crates/bench builds crates/bench/out/bench",
     COSTS: "`rt run` in crates/costs builds crates/costs/out/costs",
     VIEW: "`rt run` in crates/view builds crates/view/out/view, and so does `rt ci`",
+    FOREVER: "`rt run` in crates/forever builds crates/forever/out/forever, and so does `rt ci`",
 }
 HOW_TO_GET = {
     "rt": "it is the command of the kit that README.md names",

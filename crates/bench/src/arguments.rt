@@ -1,16 +1,17 @@
 //! The program's words.
 
 use crate::kind::Kind;
-use crate::load::Load;
+use crate::load::{Load, Log};
 use std::alloc::Global;
 use std::rt::Env;
 use std::{env, io};
 
-pub const USAGE: &str = "usage: bench KIND[,KIND..] CPUS CALLS ROUNDS
+pub const USAGE: &str = "usage: bench KIND[,KIND..] CPUS CALLS ROUNDS [unkept]
   KIND    ticket, mcs, any-ticket, any-mcs or mutex
   CPUS    1 to 64, a thread for each
   CALLS   of each CPU in a round; a round has at most 8388608 events
   ROUNDS  of each kind
+  unkept  no log is kept: EVENTS and TURNS are 0
 A line is `KIND NANOSECONDS EVENTS TURNS`.";
 
 /// What the words ask for.
@@ -63,19 +64,23 @@ fn read_rounds(word: &str) -> Option<u32> {
     word.parse().ok().filter(|rounds| *rounds > 0)
 }
 
-fn read_load(cpus: &str, calls: &str) -> Option<Load> {
-    Load::new(cpus.parse().ok()?, calls.parse().ok()?)
+fn read_load(cpus: &str, calls: &str, log: Log) -> Option<Load> {
+    Load::new(cpus.parse().ok()?, calls.parse().ok()?, log)
 }
 
 impl Settings {
     /// Reads the words after the program's name.
     pub fn read(alloc: Global, words: &[String]) -> Result<Settings, WordsFault> {
+        let (words, log) = match words {
+            [first @ .., last] if last.as_str() == "unkept" => (first, Log::Unkept),
+            _ => (words, Log::Kept),
+        };
         let [kinds, cpus, calls, rounds] = words else {
             return Err(WordsFault::NoForm);
         };
         Ok(Settings {
             kinds: read_kinds(alloc, kinds.as_str())?,
-            load: read_load(cpus.as_str(), calls.as_str()).ok_or(WordsFault::NoForm)?,
+            load: read_load(cpus.as_str(), calls.as_str(), log).ok_or(WordsFault::NoForm)?,
             rounds: read_rounds(rounds.as_str()).ok_or(WordsFault::NoForm)?,
         })
     }

@@ -3,7 +3,7 @@
 use crate::caller::Caller;
 use crate::calls::Calls;
 use crate::kind::Kind;
-use crate::load::Load;
+use crate::load::{Load, Log};
 use crate::opening::open;
 use crate::place::{Place, Worker};
 use event_log::{Logged, OutOfMemory};
@@ -48,15 +48,24 @@ fn seat(crew: Crew, callers: Vec<Caller>, count: u32) -> Result<Crew, OutOfMemor
     Ok(crew)
 }
 
-/// Opens a queue of 1,024 threads for each share of the calls, with room for just the events of the share, and gives each
-/// worker a place at each.
+/// A queue of 1,024 threads. A log that is kept has room for just so many events.
+fn open_queue(alloc: Global, log: Log, events: u32) -> Result<Logged<ThreadQueue>, OutOfMemory> {
+    let opened = match log {
+        Log::Kept => Logged::<ThreadQueue>::open(alloc, MOST_THREADS, events),
+        Log::Unkept => Logged::<ThreadQueue>::open_unkept(alloc, MOST_THREADS),
+    };
+    match opened {
+        Ok(queue) => Ok(queue),
+        Err(_) => Err(OutOfMemory),
+    }
+}
+
+/// Opens a queue for each share of the calls, with room for the events of the share, and gives each worker a place at each.
 pub fn open_all(alloc: Global, kind: Kind, load: &Load) -> Result<Crew, OutOfMemory> {
     let mut crew = empty_crew(alloc, load.cpus)?;
     for share in load.shares(alloc)? {
         let events = share.saturating_mul(u32::from(load.cpus));
-        let Ok(queue) = Logged::<ThreadQueue>::open(alloc, MOST_THREADS, events) else {
-            return Err(OutOfMemory);
-        };
+        let queue = open_queue(alloc, load.log, events)?;
         crew = seat(crew, open(alloc, kind, queue, load.cpus)?, share)?;
     }
     Ok(crew)

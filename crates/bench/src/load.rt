@@ -4,31 +4,39 @@ ghost use Rattle.std.specs.Prelude.{◌≡◌, ◌<◌, ◌≤◌, IfOk, IfSome,
 ghost use Rattle.sound_run.specs.declared.limits.TheConstants.{MOST_CPUS};
 
 use event_log::{MOST_EVENTS, OutOfMemory};
-use std::alloc::Global;
 use sound_run::MOST_CPUS;
+use std::alloc::Global;
 
 /// The most events of a round. Each takes 144 bytes of a log.
 pub const MOST_ROUND_EVENTS: u32 = 128 * MOST_EVENTS;
 
-/// How many CPUs call, and how many calls each makes in a round.
+/// Whether the events of a queue's log are in memory.
+#[derive(Clone, Copy, Debug, PartialEq, Eq, Drop)]
+pub enum Log {
+    Kept,
+    Unkept,
+}
+
+/// How many CPUs call, how many calls each makes in a round, and what is kept of them.
 #[derive(Clone, Copy, Debug, PartialEq, Eq, Drop)]
 pub struct Load {
     pub cpus: u8,
     pub calls: u32,
+    pub log: Log,
     ghost some: { 0 < cpus },
     ghost few: { cpus ≤ MOST_CPUS },
 }
 
 impl Load {
     /// From 1 CPU to the most of a cell, and from 1 call to the most events of a round.
-    pub fn new(cpus: u8, calls: u32) -> Option<Load> {
+    pub fn new(cpus: u8, calls: u32, log: Log) -> Option<Load> {
         if cpus == 0 || cpus > MOST_CPUS || calls == 0 {
             return None;
         }
         if calls > MOST_ROUND_EVENTS / u32::from(cpus) {
             return None;
         }
-        Some(Load { cpus, calls })
+        Some(Load { cpus, calls, log })
     }
 
     /// The calls of each CPU on one queue after another: as many as the log has room for.

@@ -3,7 +3,7 @@
 use crate::arguments::{Settings, WordsFault};
 use crate::fault::Fault;
 use crate::kind::Kind;
-use crate::load::{Load, MOST_ROUND_EVENTS};
+use crate::load::{Load, Log, MOST_ROUND_EVENTS};
 use crate::rounds::{Round, one_round};
 use crate::span::Span;
 use crate::tally::Tally;
@@ -40,7 +40,11 @@ fn words_are_read(rt: HostRuntime) -> Result<(), Fail> {
     let kinds = [Kind::Ticket, Kind::Mutex, Kind::AnyMcs];
     assert!(rt; found.kinds.as_slice() == kinds.as_slice());
     assert_eq!(rt; (found.load.cpus, found.load.calls), (64, 131072));
-    assert_eq!(rt; found.rounds, 7);
+    assert_eq!(rt; (found.rounds, found.load.log), (7, Log::Kept));
+    let Ok(found) = settings(rt.alloc(), "mcs 2 10 1 unkept")? else {
+        return Err(Fail::new("refused"));
+    };
+    assert_eq!(rt; (found.load.cpus, found.load.log), (2, Log::Unkept));
     Ok(())
 }
 
@@ -59,6 +63,9 @@ fn other_words_are_refused(rt: HostRuntime) -> Result<(), Fail> {
         "ticket",
         "ticket 1 10",
         "ticket 1 10 1 1",
+        "ticket 1 10 1 kept",
+        "ticket 1 10 1 unkept unkept",
+        "ticket 1 10 unkept",
         "spin 1 10 1",
         "Ticket 1 10 1",
         ", 1 10 1",
@@ -90,14 +97,14 @@ fn other_words_are_refused(rt: HostRuntime) -> Result<(), Fail> {
 
 #[test]
 fn calls_are_shared_out(rt: HostRuntime) -> Result<(), Fail> {
-    let Some(load) = Load::new(3, 50000) else {
+    let Some(load) = Load::new(3, 50000, Log::Kept) else {
         return Err(Fail::new("refused"));
     };
     let Ok(shares) = load.shares(rt.alloc()) else {
         return Err(Fail::new("no memory"));
     };
     assert!(rt; shares.as_slice() == [21845, 21845, 6310].as_slice());
-    let Some(load) = Load::new(8, MOST_ROUND_EVENTS / 8) else {
+    let Some(load) = Load::new(8, MOST_ROUND_EVENTS / 8, Log::Kept) else {
         return Err(Fail::new("refused"));
     };
     let Ok(shares) = load.shares(rt.alloc()) else {
@@ -113,15 +120,14 @@ fn calls_are_shared_out(rt: HostRuntime) -> Result<(), Fail> {
     Ok(())
 }
 
-/// A round of so many calls of each CPU.
+/// A round of that load.
 fn round_of<R: Threads + Wait + Clock + Sync>(
     rt: &R,
     alloc: Global,
     kind: Kind,
-    cpus: u8,
-    calls: u32,
+    load: Option<Load>,
 ) -> Result<Round, Fail> {
-    let Some(load) = Load::new(cpus, calls) else {
+    let Some(load) = load else {
         return Err(Fail::new("refused"));
     };
     match one_round(rt, alloc, kind, &load) {
@@ -134,7 +140,7 @@ fn round_of<R: Threads + Wait + Clock + Sync>(
 fn all_calls_are_made(rt: HostRuntime) -> Result<(), Fail> {
     for kind in KINDS {
         for (cpus, calls) in [(1, 1), (1, 7), (2, 50), (3, 40), (8, 9)] {
-            let round = round_of(&rt, rt.alloc(), kind, cpus, calls)?;
+            let round = round_of(&rt, rt.alloc(), kind, Load::new(cpus, calls, Log::Kept))?;
             let events = usize::from(cpus) * calls as usize;
             assert_eq!(rt; (round.kind, round.tally.events), (kind, events));
             assert!(rt; round.tally.turns.saturating_add(1) >= usize::from(cpus));
@@ -147,7 +153,8 @@ fn all_calls_are_made(rt: HostRuntime) -> Result<(), Fail> {
 #[test]
 fn one_cpu_takes_no_turns(rt: HostRuntime) -> Result<(), Fail> {
     for kind in KINDS {
-        assert_eq!(rt; round_of(&rt, rt.alloc(), kind, 1, 100)?.tally.turns, 0);
+        let round = round_of(&rt, rt.alloc(), kind, Load::new(1, 100, Log::Kept))?;
+        assert_eq!(rt; round.tally.turns, 0);
     }
     Ok(())
 }
@@ -155,8 +162,22 @@ fn one_cpu_takes_no_turns(rt: HostRuntime) -> Result<(), Fail> {
 #[test]
 fn a_round_goes_over_two_queues(rt: HostRuntime) -> Result<(), Fail> {
     for kind in KINDS {
-        let round = round_of(&rt, rt.alloc(), kind, 2, MOST_EVENTS / 2 + 3)?;
+        let round = round_of(
+            &rt,
+            rt.alloc(),
+            kind,
+            Load::new(2, MOST_EVENTS / 2 + 3, Log::Kept),
+        )?;
         assert_eq!(rt; round.tally.events, MOST_EVENTS as usize + 6);
+    }
+    Ok(())
+}
+
+#[test]
+fn a_log_that_is_not_kept_has_no_events(rt: HostRuntime) -> Result<(), Fail> {
+    for kind in KINDS {
+        let round = round_of(&rt, rt.alloc(), kind, Load::new(2, 50, Log::Unkept))?;
+        assert_eq!(rt; round.tally, Tally::NOTHING);
     }
     Ok(())
 }

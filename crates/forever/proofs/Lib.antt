@@ -1,0 +1,3 @@
+pub mod Turns
+pub mod Counts
+pub mod Ended

@@ -1,0 +1,116 @@
+use Rattle.std.proofs.Common.{◌≡◌, ◌+◌, ◌<◌, [], ◌∷◌, ◌++◌, length, take, get_or, refl, sym, ap, ◌∙◌, subst, arith, Result, IfOk, OnErr}
+use Rattle.event_log.specs.declared.logged.NoRoom.{NoRoom}
+use Rattle.event_log.specs.Log.{one_step}
+use Rattle.word_rule.specs.Answered.{IsAnswered, IsRefused}
+use Rattle.word_rule.specs.LockRuns.{events_in}
+use Rattle.word_rule.specs.OneHold.{HasHeld}
+use Rattle.word_rule.specs.Holds.{HasHeldEach}
+use Rattle.word_rule.proofs.ManyHolds.{leaves_none}
+use Rattle.word_rule.proofs.RunLists.{extends_self}
+use Rattle.guarded_cell.specs.Calls.{HasCalled}
+use Rattle.guarded_cell.specs.Held.{left_by_call, holds_of}
+use Rattle.guarded_cell.proofs.Called.{called_nothing, called_next, called_full}
+use Rattle.guarded_cell.proofs.HeldCalls.{leaves_call, next_held, held_all}
+use Rattle.forever.specs.Turns.{in_turn}
+use Rattle.forever.proofs.Turns.{turn_next, turns_length, turn_at}
+use Rattle.forever.proofs.calls.call_in_turn.Goals as goal
+
+pub loop-init : goal.loop-init
+loop-init g c = record {
+  pass = c.requires;
+  caller = refl;
+  called = called_nothing (g.C.LockCell.pass_view c.args.pass);
+  count = refl;
+  asked = refl;
+  later = refl;
+  run = extends_self (g.C.LockCell.pass_view c.args.pass).caller.owned (g.C.LockCell.pass_run c.args.pass);
+}
+
+pub loop-preserved : goal.loop-preserved
+loop-preserved g c =
+    let i = c.loop.invariant in
+    let b = c.call-back in
+    let a0 = c.args.pair.0 in
+    let a1 = c.args.pair.1 in
+    let calls = in_turn a0 a1 c.args.count in
+    let long = turns_length a0 a1 c.args.count in
+    let more = c.loop-test.true in
+    let within : c.loop.counter < length calls = omega (arith, long, more) in
+    let at : c.loop.asked ≡ get_or calls c.loop.counter c.loop.asked = i.asked ∙ turn_at a0 a1 c.loop.asked c.args.count c.loop.counter more in
+    let now = g.C.LockCell.pass_view c.loop.pass in
+    let held = subst (λ (v : Result g.row.O-Reply.Denot NoRoom). HasHeld now.caller (g.C.LockCell.pass_run c.loop.pass) b.result.2 (left_by_call now.caller.acting c.loop.asked v) (g.C.LockCell.pass_run b.result.0)) c.in-Ok.is b.ensures.run in
+    let answered = subst (λ (v : Result g.row.O-Reply.Denot NoRoom). IfOk v (λ r. IsAnswered g.O.SeqObject now (c.loop.asked ∷ []) (one_step c.loop.asked r) (g.C.LockCell.pass_view b.result.0))) c.in-Ok.is b.ensures.answered in
+    record {
+      pass = b.ensures.pass;
+      caller = b.ensures.caller ∙ i.caller;
+      called = called_next g.O.SeqObject (g.C.LockCell.pass_view c.args.pass) now (g.C.LockCell.pass_view b.result.0) calls c.loop.counter c.loop.asked b.result.1 c.in-Ok.field-0 c.in-Ok.is b.ensures.answered
+          i.caller within at i.called;
+      count = ap (λ n. n + 1) i.count;
+      asked = i.later ∙ sym (turn_next a0 a1 c.loop.counter);
+      later = i.asked ∙ sym (turn_next a1 a0 c.loop.counter);
+      run = next_held g.O.SeqObject (g.C.LockCell.pass_view c.args.pass).caller now.caller (g.C.LockCell.pass_run c.args.pass) (g.C.LockCell.pass_run c.loop.pass) (g.C.LockCell.pass_run b.result.0) calls c.loop.counter b.result.2 c.loop.asked _
+          i.caller within at i.run held (leaves_call g.O.SeqObject now.caller.cell.limit (now.caller.cell.opening ++ events_in held.extends.before) now.caller.acting c.loop.asked c.in-Ok.field-0 answered.fulfils);
+    }
+
+pub returns-in-Err-clause-run : goal.returns-in-Err-clause-run
+returns-in-Err-clause-run g c =
+    let i = c.loop.invariant in
+    let b = c.call-back in
+    let a0 = c.args.pair.0 in
+    let a1 = c.args.pair.1 in
+    let calls = in_turn a0 a1 c.args.count in
+    let long = turns_length a0 a1 c.args.count in
+    let more = c.loop-test.true in
+    let within : c.loop.counter < length calls = omega (arith, long, more) in
+    let at : c.loop.asked ≡ get_or calls c.loop.counter c.loop.asked = i.asked ∙ turn_at a0 a1 c.loop.asked c.args.count c.loop.counter more in
+    let first = g.C.LockCell.pass_view c.args.pass in
+    let now = g.C.LockCell.pass_view c.loop.pass in
+    let after = g.C.LockCell.pass_view b.result.0 in
+    let run_before = g.C.LockCell.pass_run c.loop.pass in
+    let run_after = g.C.LockCell.pass_run b.result.0 in
+    let held = subst (λ (v : Result g.row.O-Reply.Denot NoRoom). HasHeld now.caller run_before b.result.2 (left_by_call now.caller.acting c.loop.asked v) run_after) c.in-Err.is b.ensures.run in
+    let left = (g.met.C.LockCell.pass_has_run c.args.cell.now b.result.0 b.ensures.pass).left ∙ ap (λ z. z.cell.opening ++ events_in run_after) b.ensures.caller in
+    let full = IsRefused.full (subst (λ (v : Result g.row.O-Reply.Denot NoRoom). OnErr v (IsRefused g.O.SeqObject now after)) c.in-Err.is b.ensures.refused) in
+    subst (λ n. HasHeldEach g.O.SeqObject first.caller (g.C.LockCell.pass_run c.args.pass) (holds_of calls n) run_after) (sym i.count)
+    (next_held g.O.SeqObject first.caller now.caller (g.C.LockCell.pass_run c.args.pass) run_before run_after calls c.loop.counter b.result.2 c.loop.asked [] i.caller within at i.run held
+    (leaves_none g.O.SeqObject now.caller after.seen run_before run_after b.result.2 (c.loop.asked ∷ []) held left full))
+
+pub returns-clause-run : goal.returns-clause-run
+returns-clause-run g c =
+    let i = c.loop.invariant in
+    let long = turns_length c.args.pair.0 c.args.pair.1 c.args.count in
+    let whole = c.loop-test.false in
+    let first = g.C.LockCell.pass_view c.args.pass in
+    held_all g.O.SeqObject first.caller (g.C.LockCell.pass_run c.args.pass) (g.C.LockCell.pass_run c.loop.pass) (in_turn c.args.pair.0 c.args.pair.1 c.args.count) c.loop.counter c.loop.done i.count (omega (arith, long, whole)) i.run
+
+pub returns-in-Err-clause-done : goal.returns-in-Err-clause-done
+returns-in-Err-clause-done g c =
+    let i = c.loop.invariant in
+    let b = c.call-back in
+    let calls = in_turn c.args.pair.0 c.args.pair.1 c.args.count in
+    let long = turns_length c.args.pair.0 c.args.pair.1 c.args.count in
+    let before = g.C.LockCell.pass_view c.args.pass in
+    let after = g.C.LockCell.pass_view b.result.0 in
+    let pass_view = g.met.C.LockCell.pass_is_lawful c.args.cell.now c.args.pass c.requires in
+    let called = called_full g.O.SeqObject before (g.C.LockCell.pass_view c.loop.pass) after (take c.loop.counter calls) b.result.1 c.in-Err.field-0 c.in-Err.is b.ensures.refused pass_view.caller i.caller i.called in
+    record {
+      caller = b.ensures.caller ∙ i.caller;
+      called = subst (λ n. HasCalled before (take n calls) after.seen) (sym i.count) called;
+      count = let less = c.loop-test.true in let same = i.count in omega (arith, less, same, long);
+      full = λ less. IsRefused.full (subst (λ (v : Result g.row.O-Reply.Denot NoRoom). OnErr v (IsRefused g.O.SeqObject (g.C.LockCell.pass_view c.loop.pass) after)) c.in-Err.is b.ensures.refused) ∙ ap (λ x. x.cell.limit) i.caller;
+    }
+
+pub returns-clause-done : goal.returns-clause-done
+returns-clause-done g c =
+    let i = c.loop.invariant in
+    let calls = in_turn c.args.pair.0 c.args.pair.1 c.args.count in
+    let long = turns_length c.args.pair.0 c.args.pair.1 c.args.count in
+    let within = c.loop.auto.counter-end in
+    let whole = c.loop-test.false in
+    let same = i.count in
+    record {
+      caller = i.caller;
+      called = subst (λ n. HasCalled (g.C.LockCell.pass_view c.args.pass) (take n calls) (g.C.LockCell.pass_view c.loop.pass).seen) (sym same) i.called;
+      count = omega (arith, within, same, long);
+      full = λ less. absurd (omega (arith, less, whole, same, long));
+    }
