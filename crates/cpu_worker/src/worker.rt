@@ -23,10 +23,7 @@ fn entry_of<O: SeqObject>(todo: Todo<O>, applied: Result<Steps<O>, NoRoom>, look
     Entry {
         object: todo.object,
         asked: todo.calls,
-        done: match applied {
-            Ok(steps) => Done::Steps(steps),
-            Err(NoRoom) => Done::NoRoom,
-        },
+        done: Done::from(applied),
         looks,
     }
 }

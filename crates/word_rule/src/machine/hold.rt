@@ -8,7 +8,7 @@ ghost use Rattle.word_rule.specs.Machine.World.{outcome_on, with_done, counted};
 
 use crate::machine::progress::Progress;
 use crate::machine::step_done::{StepDone, is_a_look, is_end};
-use event_log::{Done, Logged, MOST_CALLS, NoRoom, SeqObject, Todo};
+use event_log::{Done, Logged, MOST_CALLS, SeqObject, Todo};
 
 /// Does the calls of an entry as one event of the CPU.
 fn end_hold<O: SeqObject>(logged: &mut Logged<O>, cpu: u8, todo: &Todo<O>) -> Done<O>
@@ -21,10 +21,7 @@ fn end_hold<O: SeqObject>(logged: &mut Logged<O>, cpu: u8, todo: &Todo<O>) -> Do
     ensures log { logged.new.log ≡ with_done cpu logged.old.log result }
     ensures kept { IsKept O.SeqObject logged.new }
 {
-    match logged.apply(cpu, todo.calls.as_slice()) {
-        Ok(steps) => Done::Steps(steps),
-        Err(NoRoom) => Done::NoRoom,
-    }
+    Done::from(logged.apply(cpu, todo.calls.as_slice()))
 }
 
 /// A step of the CPU was done, in the entry at hand: at the end of a hold the entry's calls are done, and it stands in the

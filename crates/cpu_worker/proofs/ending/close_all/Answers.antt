@@ -23,7 +23,7 @@ loop-cell-preserved g c =
     let left = rw (next, took) at i.left in
     let whole = rw took at i.whole in
     let stored = rw took at i.stored in
-    let seen : c.from_vec.result ≡ (view c.unwrap-pass.result).seen = c.from_vec.ensures ∙ (c.into_log-log.ensures (rw c.close.ensures.log stored.0) ∙ ap (λ h. h.log) c.close.ensures.log) in
+    let seen : c.from_vec.result ≡ (view c.unwrap-pass.result).seen = c.from_vec.ensures ∙ (c.into_log-log.ensures.value (rw c.close.ensures.log stored.0) ∙ ap (λ h. h.log) c.close.ensures.log) in
     let rest = map (λ p. (view p).seen) (into_iter_items c.next-in-loop-cell.new.self) in
     let count = left.count in
     record {
