@@ -1,5 +1,6 @@
 -- What becomes of calls at the end of a hold.
-use Rattle.std.proofs.Common.{◌≡◌, List, length, ap, sym, ◌∙◌, eq-eqb, ne_eqb, cond}
+use Rattle.std.proofs.Common.{◌≡◌, ◌↔◌, List, length, refl, ap, sym, ◌∙◌, eq-eqb, ne_eqb, cond, Result, Ok, Err, IsErr, IfOk, OnErr}
+use Rattle.std.proofs.lemmas.Bool.{false≢true}
 use Rattle.event_log.specs.declared.object.SeqObject.{Ghosts}
 use Rattle.event_log.specs.declared.event.Event.{Event}
 use Rattle.event_log.specs.declared.event.Steps.{Steps}
@@ -20,3 +21,9 @@ module _ {O P C R : Type 0} (meaning : Ghosts O P C R) (opened : Opened P) (log 
 
   pub refused_now : length log ≡ opened.limit → done.NoRoom ≡ outcome meaning opened log asked
   refused_now full = ap (λ b. cond b done.NoRoom (done.Steps record { list = record { items = answers meaning (replay meaning opened.params log) asked } })) (sym (eq-eqb (length log) opened.limit full))
+
+  -- what becomes of the calls is what an application answers
+  pub outcome_is : {E : Type 0} (applied : Result (Steps O P C R) E) (d : Done O P C R) → IfOk applied (λ s. d ≡ done.Steps s) × OnErr applied (d ≡ done.NoRoom)
+      → (IsErr applied ↔ (length log ≡ opened.limit)) → IfOk applied (λ s. s.list.items ≡ answers meaning (replay meaning opened.params log) asked) → d ≡ outcome meaning opened log asked
+  outcome_is (Ok s) d is room steps = is.0 ∙ done_now s (λ e. absurd (false≢true (room.1 e))) steps
+  outcome_is (Err _) d is room steps = is.1 ∙ refused_now (room.0 refl)

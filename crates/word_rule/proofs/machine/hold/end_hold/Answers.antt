@@ -1,11 +1,11 @@
-use Rattle.std.proofs.Common.{refl, ap, ◌∙◌}
-use Rattle.std.proofs.lemmas.Bool.{false≢true}
+use Rattle.std.proofs.Common.{ap, ◌≡◌, ◌∙◌, subst, IfOk, List}
 use Rattle.event_log.specs.Log.{answers}
-use Rattle.word_rule.proofs.Outcomes.{done_now, refused_now}
+use Rattle.event_log.specs.declared.event.Step.{Step}
+use Rattle.word_rule.proofs.Outcomes.{outcome_is}
 use Rattle.word_rule.proofs.machine.hold.end_hold.Goals as goal
 
-pub returns-in-Ok-clause-done : goal.returns-in-Ok-clause-done
-returns-in-Ok-clause-done g c = done_now g.O.SeqObject _ c.args.logged.now.log c.args.todo.now.calls.items c.in-Ok.steps (λ e. absurd (false≢true (c.in-Ok.ensures.room.1 e))) (c.in-Ok.ensures.steps ∙ (ap (λ cs. answers g.O.SeqObject c.args.logged.now.state cs) c.as_slice.ensures.value ∙ ap (λ s. answers g.O.SeqObject s c.args.todo.now.calls.items) c.requires.kept.replayed))
-
-pub returns-in-Err-clause-done : goal.returns-in-Err-clause-done
-returns-in-Err-clause-done g c = refused_now g.O.SeqObject _ c.args.logged.now.log c.args.todo.now.calls.items (c.in-Err.ensures.room.0 refl)
+pub returns-clause-done : goal.returns-clause-done
+returns-clause-done g c =
+    let asked = ap (λ cs. answers g.O.SeqObject c.args.logged.now.state cs) c.as_slice.ensures.value ∙ ap (λ s. answers g.O.SeqObject s c.args.todo.now.calls.items) c.requires.kept.replayed in
+    let replies : List (Step g.row.O.Denot g.row.O-Params.Denot g.row.O-Call.Denot g.row.O-Reply.Denot) → Type 0 = λ l. IfOk c.apply.result (λ s. s.list.items ≡ l) in
+    outcome_is g.O.SeqObject _ c.args.logged.now.log c.args.todo.now.calls.items c.apply.result c.from.result c.from.ensures c.apply.ensures.room (subst replies asked c.apply.ensures.steps)
