@@ -18,9 +18,9 @@ def heap():
     return path
 
 
-def stands_on():
+def stands_on(top=ROOT):
     """The crates that each crate of crates.txt names, of this repository or of the kit."""
-    lines = (line.partition("#")[0].partition(":") for line in (ROOT / "crates.txt").read_text().splitlines())
+    lines = (line.partition("#")[0].partition(":") for line in (top / "crates.txt").read_text().splitlines())
     return {head.split()[0]: names.split() for head, colon, names in lines if colon}
 
 
