@@ -9,10 +9,10 @@ use event_log::{Logged, OutOfMemory};
 use guarded_cell::AnyCell;
 use mcs_lock::McsCell;
 use shared_queue::ThreadQueue;
+use sound_run::{LockKind, MOST_CPUS};
 use std::alloc::Global;
 use std::sync::{Arc, Mutex};
 use ticket_lock::TicketCell;
-use sound_run::{LockKind, MOST_CPUS};
 
 /// The first ticket of a ticket lock.
 const FIRST_TICKET: u32 = 0;

@@ -15,11 +15,11 @@ pub use counter::{BoundedCounter, MOST_COUNT};
 use event_log::Logged;
 use guarded_cell::{AnyCell, two_callers};
 pub use law::{counts_each_once, stays_within};
+use sound_run::LockKind;
 use std::alloc::Global;
 use std::process::ExitCode;
 use std::sync::Wait;
 use std::thread::Threads;
-use sound_run::LockKind;
 
 /// A new counter for at most 3, once two CPUs have called it behind a lock of that kind; none if memory is refused.
 fn counted_by_two<R: Threads + Wait + Sync>(

@@ -8,5 +8,4 @@ use crate::MOST_GROUPS;
 /// The constant is this number. It does nothing.
 pub fn shows_limits()
     ensures { MOST_GROUPS ≡ most_groups }
-{
-}
+{}

@@ -8,9 +8,9 @@ ghost use Rattle.guarded_cell.specs.Kinds.{IsPassOf, kind_of};
 use crate::cell::AnyCell;
 use event_log::{Logged, OutOfMemory, SeqObject};
 use mcs_lock::McsCell;
+use sound_run::{LockKind, MOST_CPUS};
 use std::alloc::Global;
 use ticket_lock::TicketCell;
-use sound_run::{LockKind, MOST_CPUS};
 use word_rule::Pass;
 
 // The number that a new ticket lock begins with.

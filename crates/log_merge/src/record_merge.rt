@@ -13,8 +13,8 @@ use crate::run_merge::{Merging, merge_run};
 use auditor::{Fault, Verdict, audit};
 use event_log::{OutOfMemory, SeqObject, Series};
 use scripts::{KernelObject, MOST_ENTRIES, Record};
-use std::alloc::Global;
 use sound_run::Place;
+use std::alloc::Global;
 
 /// The entries of a record in one order.
 #[derive(Debug, Drop)]

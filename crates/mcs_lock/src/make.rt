@@ -9,8 +9,8 @@ ghost use Rattle.mcs_lock.specs.Passes.{IsPassOf};
 use crate::cell::McsCell;
 use crate::waiters::Waiters;
 use event_log::{Logged, OutOfMemory, SeqObject};
-use std::alloc::Global;
 use sound_run::{LockKind, MOST_CPUS};
+use std::alloc::Global;
 use word_rule::{LockTable, Pass};
 
 // The words of the greatest cell.

@@ -1,10 +1,10 @@
 //! Where callers of an MCS lock sleep, who know nobody but the one before them.
 
 use crossbeam_utils::Backoff;
+use sound_run::MOST_CPUS;
 use std::array;
 use std::sync::Wait;
 use std::sync::atomic::{AtomicU64, Ordering};
-use sound_run::MOST_CPUS;
 use word_rule::{SHORT_WAIT, Sleepers};
 
 // The CPUs of the greatest cell.

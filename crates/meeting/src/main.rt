@@ -4,8 +4,8 @@
 use event_log::Logged;
 use guarded_cell::{AnyCell, two_callers};
 use shared_queue::{QueueCall as Call, ThreadQueue};
-use std::process::ExitCode;
 use sound_run::LockKind;
+use std::process::ExitCode;
 
 fn main(rt: HostRuntime) -> ExitCode {
     let Ok(queue) = Logged::<ThreadQueue>::open(rt.alloc(), 8, 100) else {

@@ -14,8 +14,8 @@ use crate::random::Random;
 use crate::watched::Watched;
 use event_log::{OutOfMemory, SeqObject};
 use scripts::{KernelObject, MOST_STEPS, Scripts, Settings};
-use std::alloc::{AllocError, Global};
 use sound_run::MOST_CPUS;
+use std::alloc::{AllocError, Global};
 use word_rule::StepDone;
 
 /// Why no schedule was drawn.

@@ -9,8 +9,8 @@ use crate::step_names::{kind_of, object_at, outcome_of};
 use crate::step_text::{TICKETS, put_each};
 use crate::watched::Seen;
 use scripts::{ObjectSettings, Settings};
-use std::alloc::AllocError;
 use sound_run::LockKind;
+use std::alloc::AllocError;
 use word_rule::StepDone;
 
 /// Puts the numbers as an array.

@@ -7,8 +7,8 @@ ghost use Rattle.view.specs.StepLines.{after_each, lock_text, outcome_text, word
 use crate::step_names::{kind_of, object_at, outcome_of};
 use crate::watched::Seen;
 use scripts::{ObjectSettings, Settings};
-use std::alloc::AllocError;
 use sound_run::LockKind;
+use std::alloc::AllocError;
 use word_rule::StepDone;
 
 /// How many tickets there are: a ticket lock's word is the next ticket times this, and the ticket that is served.

@@ -4,8 +4,8 @@ ghost use Rattle.std.specs.Prelude.{◌≡◌};
 ghost use Rattle.event_log.specs.History.{IsKept};
 ghost use Rattle.word_rule.specs.Cell.{cell_of};
 
-use sound_run::LockKind;
 use event_log::{Logged, SeqObject};
+use sound_run::LockKind;
 use std::marker::Model;
 use std::snapshot::Snapshot;
 

@@ -22,7 +22,6 @@ mod step_done;
 mod tests;
 mod ticket;
 
-use sound_run::{MOST_CELLS, MOST_CPUS};
 use crate::machine::hold::count_step;
 use crate::machine::lock_words::LockWords;
 use crate::machine::logs::{all_logs, all_transcripts};
@@ -31,6 +30,7 @@ use crate::machine::room::{Room, make_room};
 pub use cell_spec::CellSpec;
 use event_log::{Entry, Event, OutOfMemory, Run, SeqObject, Series, Todo};
 pub use law::{ends_are_an_order, first_come, idle_when_done, one_holder, sound_runs};
+use sound_run::{MOST_CELLS, MOST_CPUS};
 use std::alloc::Global;
 use std::marker::Model;
 pub use step_done::StepDone;

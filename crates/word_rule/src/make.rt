@@ -8,11 +8,10 @@ ghost use Rattle.word_rule.specs.Rule.LockStates.{IsLockOf};
 ghost use Rattle.word_rule.specs.Passes.{IsPassAt, view_of_pass, run_of_pass};
 ghost use Rattle.word_rule.specs.Rule.Seats.{first_view};
 
-use sound_run::LockKind;
-
 use crate::{Cpu, Key, LockTable, Pass, Seat};
 use atomic_table::{Refused, Table};
 use event_log::{Logged, OutOfMemory, SeqObject};
+use sound_run::LockKind;
 use std::alloc::Global;
 use std::snapshot::Snapshot;
 

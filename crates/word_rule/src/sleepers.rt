@@ -1,7 +1,7 @@
 //! Where callers of a cell sleep while they wait for their turn.
 
-use sound_run::MOST_CPUS;
 use crossbeam_utils::Backoff;
+use sound_run::MOST_CPUS;
 use std::array;
 use std::sync::Wait;
 use std::sync::atomic::{AtomicU64, Ordering};

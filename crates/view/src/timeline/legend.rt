@@ -5,8 +5,8 @@ ghost use Rattle.std.specs.Prelude.{◌<◌};
 use crate::picture::{Anchor, Area, GREY, INK, Picture};
 use crate::timeline::colours::colours_of;
 use scripts::{KParams, Settings};
-use std::alloc::{AllocError, Global};
 use sound_run::LockKind;
+use std::alloc::{AllocError, Global};
 
 /// How wide an item is, and how high.
 const ITEM_WIDTH: usize = 290;

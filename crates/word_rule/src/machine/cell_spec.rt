@@ -1,7 +1,7 @@
 //! What a cell of the step machine is made of.
 
-use sound_run::LockKind;
 use event_log::{Logged, SeqObject};
+use sound_run::LockKind;
 
 /// A cell for the step machine: its lock, the first ticket (modulo 2^32; 0 for an MCS lock), and the object with its log.
 #[derive(Drop)]

@@ -8,9 +8,9 @@ ghost use Rattle.word_rule.specs.Rule.LockStates.{IsLockOf};
 use crate::machine::mcs::turn_mcs;
 use crate::machine::step_done::StepDone;
 use crate::machine::ticket::turn_ticket;
-use sound_run::{LockKind, MOST_CPUS};
 use crate::{Stage, TICKETS, word_with};
 use event_log::OutOfMemory;
+use sound_run::{LockKind, MOST_CPUS};
 use std::alloc::Global;
 
 /// The words of a lock of either kind, and where each CPU stands at it.

@@ -6,8 +6,8 @@ ghost use Rattle.word_rule.specs.Mcs.Definition.{mcs_lock};
 ghost use Rattle.word_rule.specs.Rule.LockStates.{ShowsState, TurnsTo};
 
 use crate::machine::step_done::StepDone;
-use sound_run::MOST_CPUS;
 use crate::{McsStage, Stage, locked_index, next_index};
+use sound_run::MOST_CPUS;
 
 /// The next step of a CPU.
 pub fn turn_mcs(words: &mut [u64], stages: &mut [Stage], cpu: u8) -> StepDone

@@ -3,11 +3,11 @@
 ghost use Rattle.std.specs.Prelude.{◌≡◌, ◌≤◌, [], length, vec_capacity, IfOk};
 ghost use Rattle.word_rule.specs.Machine.Shown.{FreshLocks, FreshDone};
 
-use sound_run::MOST_CPUS;
 use crate::machine::cell_spec::CellSpec;
 use crate::machine::lock_words::LockWords;
 use crate::machine::progress::Progress;
 use event_log::{Entry, Event, OutOfMemory, SeqObject, Series, Todo};
+use sound_run::MOST_CPUS;
 use std::alloc::Global;
 
 /// All that a machine keeps beside the cells and the scripts, before the first step.

@@ -1,9 +1,9 @@
 //! Worked schedules, step by step, and what they leave.
 
-use sound_run::LockKind;
 use crate::machine::StepDone;
 use crate::machine::tests::scene::{Left, Setting, Turn, leaves, open, plays, two_cpus};
 use shared_queue::{QueueCall as Call, QueueReply as Reply};
+use sound_run::LockKind;
 use std::test::Fail;
 
 mod memory;

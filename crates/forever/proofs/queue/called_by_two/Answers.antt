@@ -58,9 +58,10 @@ returns-clause-room g c room =
     let done = c.two_in_turn-ended.result in
     let few = c.two_in_turn-ended.ensures.counts in
     let total = returns-clause-counted g c in
-    let limit : done.0.limit ≡ c.args.queue.limit = ap (λ h. h.limit) (IsEnded.replayed (returns-clause-ended g c)) in
-    (all_done (length c.args.queue.log) c.args.count done.1 done.2 (length done.0.log) c.args.queue.limit total room few.0 few.1 (λ less. c.two_in_turn-ended.ensures.first_full less ∙ limit),
-    all_done_second (length c.args.queue.log) c.args.count done.1 done.2 (length done.0.log) c.args.queue.limit total room few.0 few.1 (λ less. c.two_in_turn-ended.ensures.second_full less ∙ limit))
+    let limit : done.0.limit ≡ c.args.queue.limit = ap (λ h. h.limit) (IsEnded.replayed (returns-clause-ended g c)) in (
+      all_done (length c.args.queue.log) c.args.count done.1 done.2 (length done.0.log) c.args.queue.limit total room few.0 few.1 (λ less. c.two_in_turn-ended.ensures.first_full less ∙ limit),
+      all_done_second (length c.args.queue.log) c.args.count done.1 done.2 (length done.0.log) c.args.queue.limit total room few.0 few.1 (λ less. c.two_in_turn-ended.ensures.second_full less ∙ limit),
+    )
 
 pub returns-clause-order_run : goal.returns-clause-order_run
 returns-clause-order_run g c =

@@ -33,8 +33,10 @@ new-requires c =
           (omega (arith, cpus, fit.cpus.0), omega (arith, cpus, fit.cpus.1)),
           (
             c.in_ok-cells.ensures.empty,
-            (c.in_ok-cells.ensures.stored,
-            able_lists (vec_len c.in_ok-cells.cells) (length c.args.settings.now.objects) objects lists.items (subst (λ (l : List (List KernelTodo)). AllByRecursion (ScriptFits (length c.args.settings.now.objects)) l) (sym same) c.requires.1)),
+            (
+              c.in_ok-cells.ensures.stored,
+              able_lists (vec_len c.in_ok-cells.cells) (length c.args.settings.now.objects) objects lists.items (subst (λ (l : List (List KernelTodo)). AllByRecursion (ScriptFits (length c.args.settings.now.objects)) l) (sym same) c.requires.1),
+            ),
           ),
         ),
       ),

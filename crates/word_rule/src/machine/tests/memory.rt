@@ -4,12 +4,12 @@ ghost use Rattle.std.specs.Prelude.{◌≡◌, ◌<◌, ◌≤◌, [], vec_len};
 ghost use Rattle.std.specs.List.{AllByRecursion};
 ghost use Rattle.word_rule.specs.Machine.SoundWorld.{IsTodo};
 
-use sound_run::LockKind;
 use crate::machine::tests::NEXT;
 use crate::machine::tests::scene::{Left, Setting, Turn, cells_of, leaves, plays, scripts_of};
 use crate::machine::{CellSpec, Machine, StepDone};
 use event_log::{OutOfMemory, Todo};
 use shared_queue::{QueueCall as Call, QueueReply as Reply, ThreadQueue};
+use sound_run::LockKind;
 use std::alloc::Global;
 use std::process::Abort;
 use std::test::Fail;

@@ -1,10 +1,10 @@
 //! Every short schedule of two CPUs, beside the rules of both locks written out plainly.
 
-use sound_run::LockKind;
 use crate::machine::StepDone;
 use crate::machine::tests::scene::{step, two_cpus};
 use event_log::Event;
 use shared_queue::ThreadQueue;
+use sound_run::LockKind;
 use std::alloc::Global;
 use std::process::Abort;
 use std::test::Fail;

@@ -5,11 +5,11 @@ ghost use Rattle.std.specs.List.{AllByRecursion};
 ghost use Rattle.word_rule.specs.Machine.Shown.{AreStored};
 ghost use Rattle.word_rule.specs.Machine.SoundWorld.{IsTodo};
 
-use sound_run::LockKind;
 use crate::machine::{CellSpec, Machine, StepDone};
 use arrayvec::ArrayVec;
 use event_log::{Done, Entry, Event, Logged, Run, Todo};
 use shared_queue::{QueueCall as Call, QueueReply as Reply, ThreadQueue};
+use sound_run::LockKind;
 use std::alloc::Global;
 use std::process::Abort;
 use std::test::Fail;
