@@ -1,6 +1,6 @@
 -- What two CPUs leave of a cell of their own.
-use Rattle.std.proofs.Common.{◌≡◌, ℕ, ◌+◌, ◌≤◌, List, length, take, drop, ap, subst, arith}
-use Rattle.std.proofs.lemmas.List.{length-take-le}
+use Rattle.std.proofs.Common.{◌≡◌, ℕ, ◌+◌, ◌≤◌, List, [], ◌∷◌, ◌++◌, length, map, take, drop, ap, ◌∙◌, subst, arith}
+use Rattle.std.proofs.lemmas.List.{length-take-le, take_all}
 use Rattle.event_log.specs.declared.object.SeqObject.{Ghosts}
 use Rattle.event_log.specs.declared.event.Event.{Event}
 use Rattle.event_log.specs.History.{History}
@@ -9,7 +9,7 @@ use Rattle.event_log.proofs.Beginnings.{begins_rest}
 use Rattle.sound_run.specs.declared.lock_kind.LockKind.{LockKind}
 use Rattle.word_rule.specs.declared.view.Moment.{Moment}
 use Rattle.word_rule.specs.Cell.{Caller, PassView, first_pass}
-use Rattle.guarded_cell.specs.Calls.{IsEnded}
+use Rattle.guarded_cell.specs.Calls.{IsEnded, asked_by}
 use Rattle.guarded_cell.specs.Held.{EndedInOrder}
 use Rattle.forever.proofs.Counts.{added_by_two}
 
@@ -41,3 +41,8 @@ module _ {O P C R : Type 0} (meaning : Ghosts O P C R) where
       let first = length-take-le n xs few in
       let second = length-take-le m ys less in
       omega (arith, total, first, second)
+
+  -- the calls of a CPU that has done all of them, in a log that was empty
+  pub only_calls : (k : ℕ) (past log : List (Event O P C R)) (calls : List C) (done : ℕ) → past ≡ [] → length calls ≤ done → asked_by k log ≡ asked_by k past ++ map (λ c. c ∷ []) (take done calls)
+      → asked_by k log ≡ map (λ c. c ∷ []) calls
+  only_calls k past log calls done none whole mine = mine ∙ (ap (λ l. asked_by k l ++ map (λ c. c ∷ []) (take done calls)) none ∙ ap (map (λ c. c ∷ [])) (take_all done calls whole))
