@@ -30,7 +30,10 @@ pub struct Called {
 pub fn open_kept(alloc: Global) -> Option<Logged<ThreadQueue>>
     ensures { IfSome result (λ q. q ≡ opened_history MOST_THREADS MOST_EVENTS (opening_state MOST_THREADS)) }
 {
-    Logged::<ThreadQueue>::open(alloc, MOST_THREADS, MOST_EVENTS).ok()
+    let Ok(queue) = Logged::<ThreadQueue>::open(alloc, MOST_THREADS, MOST_EVENTS) else {
+        return None;
+    };
+    Some(queue)
 }
 
 /// Two CPUs call the queue behind a lock of that kind, each on a thread of its own: each puts the thread of its number in and
