@@ -36,7 +36,7 @@ loop-preserved g c =
     let long = turns_length a0 a1 c.args.count in
     let more = c.loop-test.true in
     let within : c.loop.counter < length calls = omega (arith, long, more) in
-    let at : c.loop.asked ≡ get_or calls c.loop.counter c.loop.asked = i.asked ∙ turn_at a0 a1 c.loop.asked c.args.count c.loop.counter more in
+    let there : c.loop.asked ≡ get_or calls c.loop.counter c.loop.asked = i.asked ∙ turn_at a0 a1 c.loop.asked c.args.count c.loop.counter more in
     let now = g.C.LockCell.pass_view c.loop.pass in
     let held = subst (λ (v : Result g.row.O-Reply.Denot NoRoom). HasHeld now.caller (g.C.LockCell.pass_run c.loop.pass) b.result.2 (left_by_call now.caller.acting c.loop.asked v) (g.C.LockCell.pass_run b.result.0)) c.in-Ok.is b.ensures.run in
     let answered = subst (λ (v : Result g.row.O-Reply.Denot NoRoom). IfOk v (λ r. IsAnswered g.O.SeqObject now (c.loop.asked ∷ []) (one_step c.loop.asked r) (g.C.LockCell.pass_view b.result.0))) c.in-Ok.is b.ensures.answered in
@@ -44,12 +44,12 @@ loop-preserved g c =
       pass = b.ensures.pass;
       caller = b.ensures.caller ∙ i.caller;
       called = called_next g.O.SeqObject (g.C.LockCell.pass_view c.args.pass) now (g.C.LockCell.pass_view b.result.0) calls c.loop.counter c.loop.asked b.result.1 c.in-Ok.field-0 c.in-Ok.is b.ensures.answered
-          i.caller within at i.called;
+          i.caller within there i.called;
       count = ap (λ n. n + 1) i.count;
       asked = i.later ∙ sym (turn_next a0 a1 c.loop.counter);
       later = i.asked ∙ sym (turn_next a1 a0 c.loop.counter);
       run = next_held g.O.SeqObject (g.C.LockCell.pass_view c.args.pass).caller now.caller (g.C.LockCell.pass_run c.args.pass) (g.C.LockCell.pass_run c.loop.pass) (g.C.LockCell.pass_run b.result.0) calls c.loop.counter b.result.2 c.loop.asked _
-          i.caller within at i.run held (leaves_call g.O.SeqObject now.caller.cell.limit (now.caller.cell.opening ++ events_in held.extends.before) now.caller.acting c.loop.asked c.in-Ok.field-0 answered.fulfils);
+          i.caller within there i.run held (leaves_call g.O.SeqObject now.caller.cell.limit (now.caller.cell.opening ++ events_in held.extends.before) now.caller.acting c.loop.asked c.in-Ok.field-0 answered.fulfils);
     }
 
 pub returns-in-Err-clause-run : goal.returns-in-Err-clause-run
@@ -62,7 +62,7 @@ returns-in-Err-clause-run g c =
     let long = turns_length a0 a1 c.args.count in
     let more = c.loop-test.true in
     let within : c.loop.counter < length calls = omega (arith, long, more) in
-    let at : c.loop.asked ≡ get_or calls c.loop.counter c.loop.asked = i.asked ∙ turn_at a0 a1 c.loop.asked c.args.count c.loop.counter more in
+    let there : c.loop.asked ≡ get_or calls c.loop.counter c.loop.asked = i.asked ∙ turn_at a0 a1 c.loop.asked c.args.count c.loop.counter more in
     let first = g.C.LockCell.pass_view c.args.pass in
     let now = g.C.LockCell.pass_view c.loop.pass in
     let after = g.C.LockCell.pass_view b.result.0 in
@@ -72,7 +72,7 @@ returns-in-Err-clause-run g c =
     let left = (g.met.C.LockCell.pass_has_run c.args.cell.now b.result.0 b.ensures.pass).left ∙ ap (λ z. z.cell.opening ++ events_in run_after) b.ensures.caller in
     let full = IsRefused.full (subst (λ (v : Result g.row.O-Reply.Denot NoRoom). OnErr v (IsRefused g.O.SeqObject now after)) c.in-Err.is b.ensures.refused) in
     subst (λ n. HasHeldEach g.O.SeqObject first.caller (g.C.LockCell.pass_run c.args.pass) (holds_of calls n) run_after) (sym i.count)
-    (next_held g.O.SeqObject first.caller now.caller (g.C.LockCell.pass_run c.args.pass) run_before run_after calls c.loop.counter b.result.2 c.loop.asked [] i.caller within at i.run held
+    (next_held g.O.SeqObject first.caller now.caller (g.C.LockCell.pass_run c.args.pass) run_before run_after calls c.loop.counter b.result.2 c.loop.asked [] i.caller within there i.run held
     (leaves_none g.O.SeqObject now.caller after.seen run_before run_after b.result.2 (c.loop.asked ∷ []) held left full))
 
 pub returns-clause-run : goal.returns-clause-run

@@ -1,4 +1,4 @@
-use Rattle.std.proofs.Common.{◌≡◌, ◌+◌, ◌*◌, ◌≤◌, [], length, ap, arith}
+use Rattle.std.proofs.Common.{◌≡◌, ◌+◌, ◌-◌, ◌*◌, ◌^◌, ◌≤◌, length, ap, arith}
 use Rattle.shared_queue.specs.contracts.queue.ThreadQueueSeqObject.TheImpl.{ghosts}
 use Rattle.shared_queue.specs.declared.call.QueueCall.TheVariants.{Enq, Deq}
 use Rattle.forever.specs.Turns.{puts_and_takes}
@@ -9,7 +9,7 @@ use Rattle.forever.proofs.queue.called_unkept.Goals as goal
 pub returns-clause-all : goal.returns-clause-all
 returns-clause-all g c =
     let empty : length c.in-Ok.queue.log ≡ 0 = ap (λ h. length h.log) c.in-Ok.ensures.opened in
-    let limit = ap (λ h. h.limit) c.in-Ok.ensures.opened in
+    let limit : c.in-Ok.queue.limit ≡ 2 ^ 64 - 1 = ap (λ h. h.limit) c.in-Ok.ensures.opened in
     let few = c.ranges.count.fits in
     let room : length c.in-Ok.queue.log + 2 * c.args.count ≤ c.in-Ok.queue.limit = omega (arith, empty, limit, few) in
     c.in_ok-called.ensures.room room
