@@ -28,9 +28,11 @@ module _ {O P C R : Type 0} where
   abbrev pub HasCalled : Caller O P C R → List (Moment (Event O P C R)) → ℕ → C → Result R NoRoom → List (Moment (Event O P C R)) → Type 0
   HasCalled caller before looks call told after = HasHeld caller before looks (left_by_call caller.acting call told) after
 
+  -- the caller held the object once, and left the event of its calls
   abbrev pub HasBatched : Caller O P C R → List (Moment (Event O P C R)) → ℕ → Result (Steps O P C R) NoRoom → List (Moment (Event O P C R)) → Type 0
   HasBatched caller before looks told after = HasHeld caller before looks (left_by_batch caller.acting told) after
 
+  -- the caller held the object once, and left an event for each group that was done
   abbrev pub HasDoneGroups : Caller O P C R → List (Moment (Event O P C R)) → ℕ → List (Steps O P C R) → List (Moment (Event O P C R)) → Type 0
   HasDoneGroups caller before looks done after = HasHeld caller before looks (events_by caller.acting done) after
 

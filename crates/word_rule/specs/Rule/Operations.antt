@@ -40,6 +40,7 @@ module _ {O P C R : Type 0} (meaning : Ghosts O P C R) (t : LockTable O P C R) (
   abbrev pub Asks : Type 0 → Type 0
   Asks step = (s.table_id ≡ t.table.shared.table_id) × (word < t.table.shared.table_id.words) × step
 
+  -- the seat is this table's, and the step is a turn of the lock
   abbrev pub AsksTurn : (ℕ → ℕ) → (ℕ → Seat O P C R → Type 0) → Type 0
   AsksTurn f then = Asks (IsTurn meaning t.table.shared.key.kind t.table.shared.key t.table.shared.table_id.slots s.id s.me word f then)
 
@@ -47,8 +48,10 @@ module _ {O P C R : Type 0} (meaning : Ghosts O P C R) (t : LockTable O P C R) (
   abbrev pub AsksTry : (ℕ → ℕ) → (ℕ → Seat O P C R → Type 0) → Type 0
   AsksTry f then = Asks ((ticket : ℕ) × IsTry meaning t.table.shared.key.kind t.table.shared.key ticket t.table.shared.table_id.slots s.id s.me word f then)
 
+  -- the seat is this table's, and the step is one that gets a try ready
   abbrev pub AsksReadying : (ℕ → ℕ) → (ℕ → Seat O P C R → Type 0) → Type 0
   AsksReadying f then = Asks (IsReadying meaning t.table.shared.key.kind t.table.shared.key t.table.shared.table_id.slots s.id s.me word f then)
 
+  -- the seat is this table's, and the step leaves the lock as it is
   abbrev pub AsksRead : (ℕ → ℕ) → (ℕ → Seat O P C R → Type 0) → Type 0
   AsksRead f then = Asks (IsRead meaning t.table.shared.key.kind t.table.shared.key t.table.shared.table_id.slots s.id s.me word f then)

@@ -2,6 +2,7 @@
 
 ghost use Rattle.std.specs.Prelude.{◌≡◌, ◌<◌, ◌≤◌, [], vec_len};
 ghost use Rattle.std.specs.List.{AllByRecursion};
+ghost use Rattle.word_rule.specs.Machine.Shown.{AreStored};
 ghost use Rattle.word_rule.specs.Machine.SoundWorld.{IsTodo};
 
 use crate::machine::tests::NEXT;
@@ -55,6 +56,7 @@ fn made<R: Abort>(
     requires cells { (0 < vec_len cells) × (vec_len cells ≤ 16) }
     requires cpus { (0 < vec_len scripts) × (vec_len scripts ≤ 8) }
     requires empty { AllByRecursion (λ c. c.logged.log ≡ []) cells.items }
+    requires stored { AreStored cells.items }
     requires able { AllByRecursion (λ s. AllByRecursion (λ t. IsTodo (vec_len cells) t) s.items) scripts.items }
 {
     match Machine::new(alloc, cells, scripts) {
