@@ -18,13 +18,13 @@ pub returns-clause-zero : goal.returns-clause-zero
 returns-clause-zero g c =
     let all = (returns-clause-all g c).0 in
     let long : length (puts_and_takes 0 c.args.count) ≡ c.args.count = turns_length (Enq 0) Deq c.args.count in
-    only_calls ghosts 0 c.in-Ok.queue.log _ (puts_and_takes 0 c.args.count) c.in_ok-called.called.first (ap (λ h. h.log) c.in-Ok.ensures.opened) (omega (arith, all, long)) c.in_ok-called.ensures.ended.first_calls.mine
+    only_calls ghosts 0 c.in-Ok.queue.log c.in_ok-called.called.queue.log (puts_and_takes 0 c.args.count) c.in_ok-called.called.first (ap (λ h. h.log) c.in-Ok.ensures.opened) (omega (arith, all, long)) c.in_ok-called.ensures.ended.first_calls.mine
 
 pub returns-clause-one : goal.returns-clause-one
 returns-clause-one g c =
     let all = (returns-clause-all g c).1 in
     let long : length (puts_and_takes 1 c.args.count) ≡ c.args.count = turns_length (Enq 1) Deq c.args.count in
-    only_calls ghosts 1 c.in-Ok.queue.log _ (puts_and_takes 1 c.args.count) c.in_ok-called.called.second (ap (λ h. h.log) c.in-Ok.ensures.opened) (omega (arith, all, long)) c.in_ok-called.ensures.ended.second_calls.mine
+    only_calls ghosts 1 c.in-Ok.queue.log c.in_ok-called.called.queue.log (puts_and_takes 1 c.args.count) c.in_ok-called.called.second (ap (λ h. h.log) c.in-Ok.ensures.opened) (omega (arith, all, long)) c.in_ok-called.ensures.ended.second_calls.mine
 
 pub returns-clause-counted : goal.returns-clause-counted
 returns-clause-counted g c =
