@@ -30,7 +30,7 @@ use Rattle.word_rule.proofs.Lists.{grows_then}
 use Rattle.word_rule.proofs.Known.{AllIdle, idle_alone}
 use Rattle.word_rule.proofs.Known.{value_of}
 use Rattle.word_rule.proofs.OneHolds.{Since, HeldSince, since_more, count_append}
-use Rattle.mcs_lock.specs.Queued.{IsQueued, IsSeen}
+use Rattle.mcs_lock.specs.Seen.{IsSeen}
 use Rattle.mcs_lock.specs.Steps.{clears, readies, arms, links, Names, enters, tries, looks, sees, sees_again, empties, passes}
 use Rattle.mcs_lock.proofs.McsRule.{clearing, readying, entering, trying, arming, linking, looking, seeing, seeing_again, finding, emptying, passing}
 
@@ -183,27 +183,6 @@ module _ {O P C R : Type 0} (meaning : Ghosts O P C R) where
         },
         ap (value_of x) (sym (ap (λ (z : Seat O P C R). z.1) there) ∙ (slot ∙ ap (λ (z : Option (History O P C R)). (0, z) ∷ rest m2.1) is)),
       )
-
-module _ {O P C R : Type 0} where
-  -- one that has entered behind another, and then gets the object, has acquired it
-  pub acquired_queued : (caller : CallerOf O P C R) (before : List (Moment (Event O P C R))) (looks : ℕ) (found : List (Event O P C R)) (after : List (Moment (Event O P C R))) (b : CallerState O P C R) → Since caller before (steps.Clear ∷ steps.Enter false ∷ []) b → IsQueued b looks found after → HasAcquired caller before looks found after
-  acquired_queued caller before looks found after b s q =
-      let all : List StepDone = steps.Clear ∷ steps.Enter false ∷ (q.done ++ steps.Look true ∷ []) in
-      record {
-        done = all;
-        acquires = record {
-          before = steps.Clear ∷ steps.Enter false ∷ q.done;
-          last = steps.Look true;
-          is = refl;
-          got = refl;
-          once = let c = count_append gets_object q.done (steps.Look true ∷ []) in let a = q.got in omega (arith, a, c);
-          arrived = let c = count_append arrives q.done (steps.Look true ∷ []) in let a = q.arrived in omega (arith, a, c);
-          unended = let c = count_append ends_hold q.done (steps.Look true ∷ []) in let a = q.unended in omega (arith, a, c);
-        };
-        looked = q.looked;
-        left = q.left ∙ ap (λ (k : CallerOf O P C R). k.cell.opening ++ events_in after) s.0;
-        extends = since_more caller before after (steps.Clear ∷ steps.Enter false ∷ []) (q.done ++ steps.Look true ∷ []) b s q.extends;
-      }
 
 module _ {O P C R : Type 0} (meaning : Ghosts O P C R) where
   -- a holder has looked for its follower once more

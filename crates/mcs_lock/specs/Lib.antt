@@ -1,3 +1,3 @@
 pub mod Steps
-pub mod Queued
+pub mod Seen
 pub mod Passes

@@ -18,7 +18,6 @@ mod steps;
 #[cfg(test)]
 mod tests;
 mod tries;
-mod waiters;
 mod whole;
 
 pub use cell::McsCell;

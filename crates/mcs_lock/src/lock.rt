@@ -25,6 +25,7 @@ impl<O: SeqObject> LockCell<O> for McsCell<O> {
 
     ghost hold_run = { run_of_hold };
 
+    #[inline]
     fn acquire<R: Wait>(&self, rt: &R, pass: Pass<O>) -> (Hold<O>, u64) {
         self.wait(rt, pass)
     }
@@ -45,6 +46,7 @@ impl<O: SeqObject> LockCell<O> for McsCell<O> {
         &hold.logged
     }
 
+    #[inline]
     fn release<R: Wait>(&self, rt: &R, hold: Hold<O>) -> Pass<O> {
         self.leave(rt, hold)
     }

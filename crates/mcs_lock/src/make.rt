@@ -7,11 +7,10 @@ ghost use Rattle.word_rule.specs.Passes.{view_of_pass, run_of_pass};
 ghost use Rattle.mcs_lock.specs.Passes.{IsPassOf};
 
 use crate::cell::McsCell;
-use crate::waiters::Waiters;
 use event_log::{Logged, OutOfMemory, SeqObject};
 use sound_run::{LockKind, MOST_CPUS};
 use std::alloc::Global;
-use word_rule::{LockTable, Pass};
+use word_rule::{LockTable, Pass, Sleepers};
 
 // The words of the greatest cell.
 const MOST_WORDS: usize = 1 + 2 * MOST_CPUS as usize;
@@ -34,11 +33,11 @@ impl<O: SeqObject> McsCell<O> {
         let zeros = [0u64; MOST_WORDS];
         let words = &zeros[..1 + 2 * cpus as usize];
         let (table, passes) = LockTable::open(alloc, LockKind::Mcs, 0, words, logged, cpus)?;
-        let waiters = Waiters::new();
+        let sleepers = Sleepers::new();
         Ok((
             McsCell {
                 table,
-                waiters,
+                sleepers,
                 cpus,
             },
             passes,

@@ -5,7 +5,8 @@ ghost use Rattle.word_rule.specs.Cell.{Grows, OwnTogether};
 ghost use Rattle.word_rule.specs.LockRuns.{Extends};
 ghost use Rattle.word_rule.specs.Mcs.Steps.{IsWaitingLook, IsPass, IsSeeAgain};
 ghost use Rattle.word_rule.specs.OneHold.{HasAcquired, HasReleased};
-ghost use Rattle.mcs_lock.specs.Queued.{IsQueued, IsSeen};
+ghost use Rattle.word_rule.specs.Queued.{IsQueued};
+ghost use Rattle.mcs_lock.specs.Seen.{IsSeen};
 ghost use Rattle.mcs_lock.specs.Passes.{IsPassOf, IsBehindOf, IsWaitingOf, IsHoldOf, IsLeavingOf, IsPassingOf, view_of_behind, view_of_waiting, view_of_leaving, view_of_passing, state_of_behind, state_of_waiting, state_of_leaving, state_of_passing};
 ghost use Rattle.word_rule.specs.Passes.{view_of_pass, view_of_hold, run_of_pass, run_of_hold, state_of_pass, state_of_hold};
 
@@ -19,6 +20,7 @@ use word_rule::{Hold, Pass, locked_index, next_index};
 
 impl<O: SeqObject> McsCell<O> {
     /// Enters, and where another is before it looks until it gets the object. The number is that of the looks.
+    #[inline]
     pub(crate) fn wait<R: Wait>(&self, rt: &R, pass: Pass<O>) -> (Hold<O>, u64)
         requires { IsPassOf self.now pass }
         ensures hold { IsHoldOf self.now result.0 }
@@ -26,6 +28,7 @@ impl<O: SeqObject> McsCell<O> {
         ensures grows { Grows (view_of_pass pass).caller.owned (view_of_pass pass).seen (view_of_hold result.0).history.log }
         ensures run { HasAcquired (view_of_pass pass).caller (run_of_pass pass) result.1 (view_of_hold result.0).history.log (run_of_hold result.0) }
     {
+        self.sleepers.stay_outside(rt);
         let ready = self.clear(pass);
         match self.enter(ready) {
             Entered::Hold(hold) => (hold, 0),
@@ -34,32 +37,34 @@ impl<O: SeqObject> McsCell<O> {
     }
 
     // Lets itself be seen by the one before it, and looks until it gets the object, with a pause between two looks.
+    #[inline(never)]
     fn wait_behind<R: Wait>(&self, rt: &R, behind: Behind<O>) -> (Hold<O>, u64)
         requires { IsBehindOf self.now behind }
         ensures hold { IsHoldOf self.now result.0 }
         ensures caller { (view_of_hold result.0).caller ≡ (view_of_behind behind).caller }
         ensures grows { Grows (view_of_behind behind).caller.owned (view_of_behind behind).seen (view_of_hold result.0).history.log }
-        ensures run { IsQueued (state_of_behind behind) result.1 (view_of_hold result.0).history.log (run_of_hold result.0) }
+        ensures run { IsQueued (state_of_behind behind) [] result.1 (view_of_hold result.0).history.log (run_of_hold result.0) }
     {
         let armed = self.arm(behind);
         let mut waiting = self.link(armed);
         let mut looks = 0u64;
         let backoff = Backoff::new();
-        let mut number = 0u64;
         for _ in rt.forever() {
             looks = looks.saturating_add(1);
             match self.look(waiting) {
-                Ok(hold) => return (hold, looks),
+                Ok(hold) => {
+                    self.sleepers.rise(looks);
+                    return (hold, looks);
+                }
                 Err(again) => waiting = again,
             }
-            number = self
-                .waiters
-                .rest(rt, &backoff, looks, waiting.cpu.number, number);
+            self.sleepers.rest(rt, &backoff, looks);
         }
         unreachable!()
     }
 
     /// Gives the object back: to the one behind it, or, where nobody is, with the tail empty.
+    #[inline]
     pub(crate) fn leave<R: Wait>(&self, rt: &R, hold: Hold<O>) -> Pass<O>
         requires { IsHoldOf self.now hold }
         ensures pass { IsPassOf self.now result }
@@ -68,31 +73,20 @@ impl<O: SeqObject> McsCell<O> {
         ensures run { HasReleased (view_of_hold hold) (run_of_hold hold) (run_of_pass result) }
     {
         let alone = match self.see(hold) {
-            Ok(passing) => return self.wake_next(passing),
+            Ok(passing) => return self.pass_on(passing),
             Err(alone) => alone,
         };
         match self.empty(alone) {
             Ok(pass) => pass,
             Err(leaving) => {
                 let passing = self.wait_follower(rt, leaving);
-                self.wake_next(passing)
+                self.pass_on(passing)
             }
         }
     }
 
-    // Gives the object back, and wakes the one behind it.
-    fn wake_next(&self, passing: Passing<O>) -> Pass<O>
-        requires { IsPassingOf self.now passing }
-        ensures pass { IsPassOf self.now result }
-        ensures step { IsPass O.SeqObject (state_of_passing passing) (state_of_pass result) }
-    {
-        let follower = passing.follower;
-        let pass = self.pass_on(passing);
-        self.waiters.serve(follower);
-        pass
-    }
-
     // Looks who is behind it until it sees one, with a pause between two looks.
+    #[inline(never)]
     fn wait_follower<R: Wait>(&self, rt: &R, leaving: Leaving<O>) -> Passing<O>
         requires { IsLeavingOf self.now leaving }
         ensures passing { IsPassingOf self.now result }

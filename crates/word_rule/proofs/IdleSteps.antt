@@ -18,17 +18,17 @@ use Rattle.word_rule.proofs.SoundSteps.{sound_run}
 use Rattle.word_rule.proofs.TurnsKeep.{locks_keep}
 
 -- a lock for n CPUs, of which none is trying
-abbrev IsWholeLock : ℕ → Lock → Type 0
+abbrev pub IsWholeLock : ℕ → Lock → Type 0
 IsWholeLock n l = IsLock n l × NoneTries l.line.stage
 
-whole_keeps : Keeps IsWholeLock
+pub whole_keeps : Keeps IsWholeLock
 whole_keeps = record {
   turned = λ n l i h below. let t = locks_keep.turned n l i h.0 below in ((t.0, turn_whole l i h.1), t.1);
   few = λ n l h. locks_keep.few n l h.0;
 }
 
 module _ {O P C R : Type 0} (meaning : Ghosts O P C R) (w : World O P C R) (o : IsOpening w) where
-  free : AreLocks IsWholeLock whole_keeps meaning w
+  pub free : AreLocks IsWholeLock whole_keeps meaning w
   free = λ x. by x (slice_get w.cells x) refl
     where
       by : (x : ℕ) (q : Option (CellState O P C R)) → slice_get w.cells x ≡ q → IsCell IsWholeLock whole_keeps meaning (length w.cpus) q

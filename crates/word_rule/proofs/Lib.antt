@@ -40,3 +40,13 @@ pub mod Replays
 pub mod HoldsPlayed
 pub mod ManyHolds
 pub mod EventOrder
+pub mod LineChanges
+pub mod LockProgress
+pub mod ProgressLaws
+pub mod WorldSteps
+pub mod Alive
+pub mod Fairness
+pub mod ScriptsEnd
+pub mod Ahead
+pub mod WaitingTurns
+pub mod CallsEnd

@@ -7,3 +7,4 @@ pub mod Tries
 pub mod Plain
 pub mod Laws
 pub mod Shown
+pub mod Progress

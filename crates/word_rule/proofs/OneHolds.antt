@@ -1,5 +1,5 @@
 -- From what single steps say of a run to what whole calls say.
-use Rattle.std.proofs.Common.{◌≡◌, ℕ, ◌+◌, ◌-◌, ◌^◌, min, Bool, true, false, List, [], ◌∷◌, ◌++◌, length, refl, sym, ap, ◌∙◌, subst, arith, length-append, Some, Result, Ok, Err, IfOk}
+use Rattle.std.proofs.Common.{◌≡◌, ℕ, ◌+◌, ◌-◌, ◌^◌, min, Bool, true, false, List, [], ◌∷◌, ◌++◌, length, refl, sym, ap, ◌∙◌, subst, arith, ++-assoc, length-append, Some, Result, Ok, Err, IfOk}
 use Rattle.std.specs.List.{filter}
 use Rattle.std.proofs.lemmas.List.Elements.{filter-append}
 use Rattle.event_log.specs.declared.object.SeqObject.{Ghosts}
@@ -14,6 +14,7 @@ use Rattle.word_rule.specs.CallerState.{CallerState, Moves, Takes, Gives}
 use Rattle.word_rule.specs.Locks.{holding}
 use Rattle.word_rule.specs.LockRuns.{Extends, ExtendsUntil, events_in}
 use Rattle.word_rule.specs.OneHold.{gets_object, how_many, Acquires, Releases, looks_in, leaving, silently, HasAcquired, HasReleased, HasHeld}
+use Rattle.word_rule.specs.Queued.{IsQueued}
 use Rattle.word_rule.specs.StepKinds.{arrives, ends_hold, is_look}
 use Rattle.word_rule.proofs.RunLists.{extends_then, until_then, until_since, silently_append, same_front}
 
@@ -26,6 +27,13 @@ pub record Waits (arrivals looks : ℕ) (done : List StepDone) : Type 0 where
   pub got : how_many gets_object done ≡ 0
   pub unended : how_many ends_hold done ≡ 0
   pub looked : looks ≡ looks_in done
+
+-- a CPU has arrived once by these steps and hasn't got the object; as many of them were looks as of those that it did in vain
+pub record HasArrived (first vain : List StepDone) : Type 0 where
+  pub arrived : how_many arrives first ≡ 1
+  pub got : how_many gets_object first ≡ 0
+  pub unended : how_many ends_hold first ≡ 0
+  pub looked : how_many is_look first ≡ how_many is_look vain
 
 -- one look more
 look_counted : (n m : ℕ) → min (min n (2 ^ 64 - 1) + 1) (2 ^ 64 - 1) ≡ min (n + 1) (2 ^ 64 - 1)
@@ -66,6 +74,26 @@ module _ {O P C R : Type 0} where
   pub since_more : (caller : Caller O P C R) (before after : List (Moment (Event O P C R))) (done more : List StepDone) (a : CallerState O P C R) → Since caller before done a → Extends a.caller.owned a.run (silently a.caller.acting more) after → Extends caller.owned before (silently caller.acting (done ++ more)) after
   since_more caller before after done more a s e = subst (λ l. Extends caller.owned before l after) (sym (silently_append caller.acting done more))
       (extends_then caller.owned before (silently caller.acting done) a.run (silently caller.acting more) after s.1 (subst (λ (k : Caller O P C R). Extends k.owned a.run (silently k.acting more) after) s.0 e))
+
+  -- one that has arrived by its first steps, and then gets the object, has acquired it
+  pub acquired_queued : (caller : Caller O P C R) (before : List (Moment (Event O P C R))) (first vain : List StepDone) (looks : ℕ) (found : List (Event O P C R)) (after : List (Moment (Event O P C R))) (b : CallerState O P C R) → HasArrived first vain → Since caller before first b → IsQueued b vain looks found after → HasAcquired caller before looks found after
+  acquired_queued caller before first vain looks found after b h s q =
+      let rest : List StepDone = q.done ++ steps.Look true ∷ [] in
+      record {
+        done = first ++ rest;
+        acquires = record {
+          before = first ++ q.done;
+          last = steps.Look true;
+          is = sym (++-assoc first q.done (steps.Look true ∷ []));
+          got = refl;
+          once = let c = count_append gets_object first rest in let d = count_append gets_object q.done (steps.Look true ∷ []) in let a = h.got in let b = q.got in omega (arith, a, b, c, d);
+          arrived = let c = count_append arrives first rest in let d = count_append arrives q.done (steps.Look true ∷ []) in let a = h.arrived in let b = q.arrived in omega (arith, a, b, c, d);
+          unended = let c = count_append ends_hold first rest in let d = count_append ends_hold q.done (steps.Look true ∷ []) in let a = h.unended in let b = q.unended in omega (arith, a, b, c, d);
+        };
+        looked = q.looked ∙ ap (λ (n : ℕ). min n (2 ^ 64 - 1)) (count_append is_look vain rest ∙ (ap (λ (n : ℕ). n + how_many is_look rest) (sym h.looked) ∙ sym (count_append is_look first rest)));
+        left = q.left ∙ ap (λ (k : Caller O P C R). k.cell.opening ++ events_in after) s.0;
+        extends = since_more caller before after first rest b s q.extends;
+      }
 
   -- a holder that has done these steps since, and has seen no event
   pub record HeldSince (hold : HoldView O P C R) (before : List (Moment (Event O P C R))) (done : List StepDone) (a : CallerState O P C R) : Type 0 where

@@ -5,3 +5,4 @@ pub mod Tries
 pub mod Laws
 pub mod Served
 pub mod Shown
+pub mod Progress

@@ -29,7 +29,10 @@ use crate::machine::progress::Progress;
 use crate::machine::room::{Room, make_room};
 pub use cell_spec::CellSpec;
 use event_log::{Entry, Event, OutOfMemory, Run, SeqObject, Series, Todo};
-pub use law::{ends_are_an_order, first_come, idle_when_done, one_holder, sound_runs};
+pub use law::{
+    calls_end, ends_are_an_order, first_come, idle_when_done, one_holder, scripts_end,
+    someone_gets_on, sound_runs,
+};
 use sound_run::{MOST_CELLS, MOST_CPUS};
 use std::alloc::Global;
 use std::marker::Model;

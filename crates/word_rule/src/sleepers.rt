@@ -1,92 +1,84 @@
-//! Where callers of a cell sleep while they wait for their turn.
+//! How callers of a cell rest while they wait for their turn.
 
 use crossbeam_utils::Backoff;
 use sound_run::MOST_CPUS;
-use std::array;
 use std::sync::Wait;
 use std::sync::atomic::{AtomicU64, Ordering};
 use std::time::Duration;
 
-/// At this look in vain a caller that has four or more before it takes its bed.
-pub const SHORT_WAIT: u64 = 12;
-
-// At this look, and behind it, everyone takes its bed.
+// From this look in vain on a caller in line naps between two looks.
 const LONG_WAIT: u64 = 120;
 
 // After so many looks a caller that is awake looks often again.
 const ROUND: u64 = 6;
 
-// As many as processors are mostly there. A release sees that the next so many are awake.
-const NEAR: u64 = 4;
+// How long a nap in line is, in microseconds.
+const NAP: u64 = 100;
 
-// As many as a cell has CPUs, at most.
-const BEDS: usize = MOST_CPUS as usize;
+// How long one stays outside alone, and how much longer for each other one outside, in microseconds.
+const STAY: u64 = 1000;
+const STAY_LONGER: u64 = 250;
 
-// What a bed is: empty, or its caller sleeps, or will if it looks once more in vain.
-const EMPTY: u64 = 0;
+// One that stays outside, in the word that counts those who nap in line too.
+const OUTSIDE: u64 = 1 << 32;
 
-const TAKEN: u64 = 1;
-
-/// As many beds as a cell has CPUs at most. Callers have numbers in the order of their turns, and numbers that are as far apart
-/// as there are beds have one bed. It lies in a cell beside the table, takes no memory, and no clause speaks of it.
+/// Counts who rests beside the lock's words. It takes no memory, and no clause speaks of it.
 ///
-/// Nobody yields: beside other programs a thread that yields stands back for a whole slice of each. A caller takes its bed,
-/// looks once more, and sleeps then; who releases looks for taken beds after its last step, and empties them. So either that
-/// look finds the turn, or the release finds the bed taken: no wake is lost. And each sleep ends by itself after a millisecond.
+/// Nobody is woken, so a release does nothing here: each sleep ends by itself. A line in order of arrival gets on only as fast as
+/// each in it gets a processor. So there shouldn't be more in line than there are processors, and a nap in line shows that there
+/// are. Who comes meanwhile stays outside for one sleep before it arrives in line, and then arrives in any case.
 #[derive(Drop)]
 pub struct Sleepers {
-    beds: [AtomicU64; BEDS],
-    // How many beds are taken.
-    taken: AtomicU64,
+    resting: AtomicU64,
+    // It is 0 at all times: who rests parks on it.
+    still: AtomicU64,
 }
 
 impl Sleepers {
-    /// Nobody sleeps.
+    /// Nobody rests.
     pub fn new() -> Sleepers {
         Sleepers {
-            beds: array::from_fn(|_| AtomicU64::new(EMPTY)),
-            taken: AtomicU64::new(0),
+            resting: AtomicU64::new(0),
+            still: AtomicU64::new(0),
         }
     }
 
-    /// What a caller with this number does after so many looks in vain, the last of which found so many before it: it pauses,
-    /// takes its bed, or sleeps if it has one.
-    #[inline(never)]
-    pub fn rest<R: Wait>(&self, rt: &R, backoff: &Backoff, looks: u64, number: u64, before: u64) {
-        let bed = self.bed(number);
-        let is_far = NEAR <= before && before < BEDS as u64;
-        if looks >= SHORT_WAIT && bed.load(Ordering::SeqCst) == TAKEN {
-            bed.park_timeout(rt, TAKEN as u32, Duration::from_millis(1));
-        } else if looks >= LONG_WAIT || looks == SHORT_WAIT && is_far {
-            if bed.swap(TAKEN, Ordering::SeqCst) == EMPTY {
-                self.taken.fetch_add(1, Ordering::SeqCst);
-            }
-        } else {
-            pause(backoff, looks);
-        }
-    }
-
-    /// Wakes who sleeps with this number, whose turn it is, or with one of the next ones.
+    /// What a caller does before it arrives in line: while somebody naps there, it stays outside for one sleep.
     #[inline]
-    pub fn wake(&self, number: u64) {
-        if self.taken.load(Ordering::SeqCst) != 0 {
-            self.wake_near(number);
+    pub fn stay_outside<R: Wait>(&self, rt: &R) {
+        if self.resting.load(Ordering::SeqCst) % OUTSIDE != 0 {
+            self.sleep_outside(rt);
         }
     }
 
+    // The more are outside, the longer each sleeps.
     #[inline(never)]
-    fn wake_near(&self, number: u64) {
-        for behind in 0..NEAR {
-            let bed = self.bed(number.wrapping_add(behind));
-            if bed.load(Ordering::SeqCst) == TAKEN && bed.swap(EMPTY, Ordering::SeqCst) == TAKEN {
-                self.taken.fetch_sub(1, Ordering::SeqCst);
-                bed.wake_one();
-            }
-        }
+    fn sleep_outside<R: Wait>(&self, rt: &R) {
+        let others = self.resting.fetch_add(OUTSIDE, Ordering::SeqCst) / OUTSIDE;
+        let time = STAY + STAY_LONGER * others.min(MOST_CPUS as u64);
+        self.still.park_timeout(rt, 0, Duration::from_micros(time));
+        self.resting.fetch_sub(OUTSIDE, Ordering::SeqCst);
     }
 
-    fn bed(&self, number: u64) -> &AtomicU64 {
-        &self.beds[(number % BEDS as u64) as usize]
+    /// What a caller in line does after so many looks in vain: it pauses, or naps.
+    #[inline(never)]
+    pub fn rest<R: Wait>(&self, rt: &R, backoff: &Backoff, looks: u64) {
+        if looks < LONG_WAIT {
+            pause(backoff, looks);
+            return;
+        }
+        if looks == LONG_WAIT {
+            self.resting.fetch_add(1, Ordering::SeqCst);
+        }
+        self.still.park_timeout(rt, 0, Duration::from_micros(NAP));
+    }
+
+    /// What a caller in line does when its turn has come, by the look of this number.
+    #[inline]
+    pub fn rise(&self, looks: u64) {
+        if looks > LONG_WAIT {
+            self.resting.fetch_sub(1, Ordering::SeqCst);
+        }
     }
 }
 

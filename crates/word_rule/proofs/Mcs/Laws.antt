@@ -25,10 +25,10 @@ use Rattle.word_rule.proofs.Moves.{moved_else}
 
 module _ (l : McsLock) (i : ℕ) where
   -- a look, by whether i is the first; an attempt to empty the queue, by whether it is the last
-  abbrev Looked : Bool → McsLock × StepDone
+  abbrev pub Looked : Bool → McsLock × StepDone
   Looked b = cond b (record l { line = taking l.line i (Mcs Holding) }, steps.Look true) (l, steps.Look false)
 
-  abbrev Emptied : Bool → McsLock × StepDone
+  abbrev pub Emptied : Bool → McsLock × StepDone
   Emptied b = cond b (record l { line = leaving l.line i }, steps.Empty true) (record l { line = going l.line i (Mcs Leaving) }, steps.Empty false)
 
 -- the first and those behind it

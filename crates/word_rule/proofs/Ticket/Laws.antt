@@ -18,7 +18,7 @@ use Rattle.word_rule.proofs.Ticket.Turns.{outside, first_if, draws, takes, holde
 
 -- a look, by whether i is the first
 module _ (l : TicketLock) (i t : ℕ) where
-  abbrev Looked : Bool → TicketLock × StepDone
+  abbrev pub Looked : Bool → TicketLock × StepDone
   Looked b = cond b (record l { line = taking l.line i (Ticket (Served t)) }, steps.Look true) (l, steps.Look false)
 
 -- the first and those behind it

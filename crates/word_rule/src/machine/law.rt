@@ -1,11 +1,14 @@
 //! Laws of every run of the step machine, each on a function without effect.
 
-ghost use Rattle.std.specs.Prelude.{◌≡◌, ◌↔◌, ℕ, ◌+◌, ◌<◌, true, false, List, [], ◌∷◌, ◌++◌, length, Some, slice_get};
+ghost use Rattle.std.specs.Prelude.{◌≡◌, ◌≢◌, ◌⊎◌, ◌↔◌, ℕ, ◌+◌, ◌*◌, ◌<◌, true, false, List, [], ◌∷◌, ◌++◌, length, Some, slice_get};
+ghost use mathlib.Core.Option.{some};
+ghost use lib.ListN.{get_elem?};
 ghost use Rattle.event_log.specs.Log.{Begins};
 ghost use Rattle.word_rule.specs.declared.machine.step_done.StepDone.TheVariants.{Idle};
 ghost use Rattle.word_rule.specs.Locks.{holding};
 ghost use Rattle.word_rule.specs.Machine.Opening.{IsOpening};
 ghost use Rattle.word_rule.specs.Machine.Orders.{is_at, arrivals, endings, arrives_at, ends_within, ended};
+ghost use Rattle.word_rule.specs.Machine.Rounds.{HasRounds, AllDone, GetsOn, entries_to_do, go_round, most_steps};
 ghost use Rattle.sound_run.specs.Orders.{IsOrder};
 ghost use Rattle.sound_run.specs.Sound.{Sound};
 ghost use Rattle.word_rule.specs.StepKinds.{arrives};
@@ -53,4 +56,34 @@ pub fn sound_runs<O: SeqObject>()
 pub fn ends_are_an_order<O: SeqObject>()
     ensures { (w : World O O.Params O.Call O.Reply) → IsOpening w → (schedule : List ℕ) →
         IsOrder (run_of (run O.SeqObject schedule w)) (ended O.SeqObject schedule w) }
+{}
+
+/// Nobody is stuck. Under every schedule, while an entry is left, there is a CPU whose next step gets it on; and it still does so
+/// after another CPU's step.
+pub fn someone_gets_on<O: SeqObject>()
+    ensures someone { (w : World O O.Params O.Call O.Reply) → IsOpening w → (schedule : List ℕ) →
+        AllDone (run O.SeqObject schedule w) ⊎ ((i : ℕ) × GetsOn (run O.SeqObject schedule w) i) }
+    ensures stays { (w : World O O.Params O.Call O.Reply) → IsOpening w → (schedule : List ℕ) (i j : ℕ) → i ≢ j →
+        GetsOn (run O.SeqObject schedule w) i → GetsOn (step O.SeqObject (run O.SeqObject schedule w) j).0 i }
+{}
+
+/// Every fair schedule finishes. From every world on, after 9 rounds for each entry that is left, every script is done; a round is a
+/// stretch of the schedule that names each CPU. Those of a schedule that goes round are rounds.
+pub fn scripts_end<O: SeqObject>()
+    ensures ends { (w : World O O.Params O.Call O.Reply) → IsOpening w → (schedule more : List ℕ) →
+        HasRounds (length w.cpus) (most_steps * entries_to_do (run O.SeqObject schedule w).cpus) more →
+        AllDone (run O.SeqObject more (run O.SeqObject schedule w)) }
+    ensures rounds { (cpus times : ℕ) → HasRounds cpus times (go_round cpus times) }
+{}
+
+/// Every call ends, whatever the others still have to do. An entry that a CPU is doing, or would begin next, ends within 9 rounds for
+/// each CPU and 9 more; that of a CPU in line within 9 rounds for each CPU ahead, and 18 more.
+pub fn calls_end<O: SeqObject>()
+    ensures ends { (w : World O O.Params O.Call O.Reply) → IsOpening w → (schedule more : List ℕ) (i x : ℕ) →
+        is_at (run O.SeqObject schedule w) i x ≡ true → HasRounds (length w.cpus) (most_steps * (length w.cpus + 1)) more →
+        ends_within O.SeqObject i x more (run O.SeqObject schedule w) ≡ true }
+    ensures in_line { (w : World O O.Params O.Call O.Reply) → IsOpening w → (schedule more : List ℕ) (i x place : ℕ) (c : CellState O O.Params O.Call O.Reply) →
+        slice_get (run O.SeqObject schedule w).cells x ≡ Some c → get_elem? c.lock.line.cpus place ≡ some i →
+        HasRounds (length w.cpus) (most_steps * (place + 2)) more →
+        ends_within O.SeqObject i x more (run O.SeqObject schedule w) ≡ true }
 {}

@@ -12,7 +12,7 @@ pub returns-in-Ok-clause-run : goal.returns-in-Ok-clause-run
 returns-in-Ok-clause-run g c = let h = c.args.hold in let v = view_of_hold h in let run = run_of_hold h in let p = state_of_passing c.in-Ok.passing in
     let start : HeldSince v run [] (state_of_hold h) = record { since = (refl, extends_self (caller_of h.key.value h.seat.me.0).owned run); seen = h.holds.ran.left; has = refl } in
     let saw = held_moved g.O.SeqObject v run [] (steps.See true ∷ []) _ _ (state_of_hold h) p start c.in-Ok.ensures.found.1.2.made refl in
-    held_given g.O.SeqObject v run (steps.See true ∷ []) steps.Pass _ _ p (state_of_pass c.wake_next.result) saw record { ended = refl; unended = refl; stays = refl; blind = refl } c.wake_next.ensures.step.2
+    held_given g.O.SeqObject v run (steps.See true ∷ []) steps.Pass _ _ p (state_of_pass c.pass_on.result) saw record { ended = refl; unended = refl; stays = refl; blind = refl } c.pass_on.ensures.step.2
 
 pub returns-in-Ok-empty-clause-run : goal.returns-in-Ok-empty-clause-run
 returns-in-Ok-empty-clause-run g c = let h = c.args.hold in let v = view_of_hold h in let run = run_of_hold h in let a = state_of_alone c.in-Err.alone in
@@ -25,4 +25,4 @@ returns-in-Err-empty-clause-run g c = let h = c.args.hold in let v = view_of_hol
     let start : HeldSince v run [] (state_of_hold h) = record { since = (refl, extends_self (caller_of h.key.value h.seat.me.0).owned run); seen = h.holds.ran.left; has = refl } in
     let saw = held_moved g.O.SeqObject v run [] (steps.See false ∷ []) _ _ (state_of_hold h) a start c.in-Err.ensures.none.1 refl in
     let stayed = held_moved g.O.SeqObject v run (steps.See false ∷ []) (steps.Empty false ∷ []) _ _ a l saw c.in-Err-empty.ensures.missed.1.made refl in
-    held_given g.O.SeqObject v run (steps.See false ∷ steps.Empty false ∷ s.done) steps.Pass _ _ p (state_of_pass c.wake_next-in-Err-empty.result) (held_seen g.O.SeqObject v run (steps.See false ∷ steps.Empty false ∷ []) l p stayed s) (releases_seen g.O.SeqObject l p s) c.wake_next-in-Err-empty.ensures.step.2
+    held_given g.O.SeqObject v run (steps.See false ∷ steps.Empty false ∷ s.done) steps.Pass _ _ p (state_of_pass c.pass_on-in-Err-empty.result) (held_seen g.O.SeqObject v run (steps.See false ∷ steps.Empty false ∷ []) l p stayed s) (releases_seen g.O.SeqObject l p s) c.pass_on-in-Err-empty.ensures.step.2

@@ -1,10 +1,10 @@
 use Rattle.std.proofs.Common.{refl, [], ◌∷◌, true, false, arith}
 use Rattle.word_rule.specs.declared.machine.step_done.StepDone.TheVariants as steps
 use Rattle.word_rule.proofs.Acting.{takes_log}
-use Rattle.word_rule.proofs.OneHolds.{since_moved, acquired_at_once}
+use Rattle.word_rule.proofs.OneHolds.{since_moved, acquired_at_once, acquired_queued}
 use Rattle.mcs_lock.specs.Passes.{state_of_ready, state_of_behind}
 use Rattle.word_rule.specs.Passes.{view_of_pass, run_of_pass, run_of_hold, state_of_pass, state_of_hold}
-use Rattle.mcs_lock.proofs.McsActing.{grows_on, acquired_queued}
+use Rattle.mcs_lock.proofs.McsActing.{grows_on}
 use Rattle.mcs_lock.proofs.cell.McsCell.wait.Goals as goal
 
 pub returns-in-Hold-clause-grows : goal.returns-in-Hold-clause-grows
@@ -21,4 +21,4 @@ returns-in-Behind-clause-grows g c = let r = c.clear-ready.result in let b = c.i
 
 pub returns-in-Behind-clause-run : goal.returns-in-Behind-clause-run
 returns-in-Behind-clause-run g c = let p = c.args.pass in let r = state_of_ready c.clear-ready.result in let b = state_of_behind c.in-Behind.behind in let clear = c.clear-ready.ensures.step in let enter = c.in-Behind.ensures.queued.1.2.made in
-    acquired_queued (view_of_pass p).caller (run_of_pass p) c.wait_behind.result.1 c.wait_behind.result.0.logged.log (run_of_hold c.wait_behind.result.0) b (since_moved g.O.SeqObject (view_of_pass p).caller (run_of_pass p) (steps.Clear ∷ []) (steps.Enter false ∷ []) _ _ r b (clear.caller, clear.extends) enter) c.wait_behind.ensures.run
+    acquired_queued (view_of_pass p).caller (run_of_pass p) (steps.Clear ∷ steps.Enter false ∷ []) [] c.wait_behind.result.1 c.wait_behind.result.0.logged.log (run_of_hold c.wait_behind.result.0) b record { arrived = refl; got = refl; unended = refl; looked = refl } (since_moved g.O.SeqObject (view_of_pass p).caller (run_of_pass p) (steps.Clear ∷ []) (steps.Enter false ∷ []) _ _ r b (clear.caller, clear.extends) enter) c.wait_behind.ensures.run

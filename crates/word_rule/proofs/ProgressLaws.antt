@@ -1,0 +1,101 @@
+-- How the turns of a lock, whichever it is, get its CPUs on.
+use Rattle.std.proofs.Common.{◌≡◌, ◌≢◌, ◌⊎◌, ⊎_elim, ℕ, ◌<◌, ◌≤◌, Bool, true, false, true≢false, sym, ap, ◌∙◌, subst, arith}
+use Rattle.std.proofs.lemmas.Bool.{cases_Bool}
+use mathlib.Core.Logic.{dite}
+use mathlib.Core.Option.{some}
+use native.Mathlib.Decide.{ℕ_discrete}
+use lib.ListN.{get_elem?}
+use Rattle.event_log.specs.Distinct.{has}
+use Rattle.sound_run.specs.declared.lock_kind.LockKind.{LockKind}
+use Rattle.sound_run.specs.declared.lock_kind.LockKind.TheVariants as kinds
+use Rattle.word_rule.specs.Locks.{Lock, definition_of, holding, state_of, turn}
+use Rattle.word_rule.specs.StepKinds.{ends_hold}
+use Rattle.word_rule.proofs.IdleSteps.{IsWholeLock}
+use Rattle.word_rule.proofs.LineChanges.{head_of}
+use Rattle.word_rule.proofs.LineAfter.{LineAfter}
+use Rattle.word_rule.proofs.Lists.{has_at}
+use Rattle.word_rule.proofs.LockLaws.{turn_keeps, turn_whole}
+use Rattle.word_rule.proofs.LockProgress.{LockProgress}
+use Rattle.word_rule.proofs.Mcs.Progress.{mcs_progress}
+use Rattle.word_rule.proofs.Ticket.Progress.{ticket_progress}
+
+-- one line for each lock
+pub progress_of : (kind : LockKind) → LockProgress (definition_of kind)
+progress_of kinds.Ticket = ticket_progress
+progress_of kinds.Mcs = mcs_progress
+
+-- whether a CPU's next turn gets it on
+abbrev pub gets_on : Lock → ℕ → Bool
+gets_on l i = let p = progress_of l.kind in p.gets_on (state_of l) i
+
+-- how many steps a CPU may still do in its call, apart from those in vain
+abbrev pub left_at : Lock → ℕ → ℕ
+left_at l i = let p = progress_of l.kind in p.left (l.line.stage i)
+
+pub some_left : (l : Lock) (i : ℕ) → 0 < left_at l i
+some_left l i = let p = progress_of l.kind in p.some_left (l.line.stage i)
+
+pub few_left : (l : Lock) (i : ℕ) → left_at l i ≤ 9
+few_left l i = let p = progress_of l.kind in p.few_left (l.line.stage i)
+
+pub others_stay : (l : Lock) (i x : ℕ) → x ≢ i → left_at (turn l i).0 x ≡ left_at l x
+others_stay l i x ne = let p = progress_of l.kind in ap p.left (p.others (state_of l) i x ne)
+
+module _ (n : ℕ) (l : Lock) (h : IsWholeLock n l) where
+  abbrev p : LockProgress (definition_of l.kind)
+  p = progress_of l.kind
+
+  module _ (i : ℕ) (below : i < n) where
+    pub nearer : gets_on l i ≡ true → ends_hold (turn l i).1 ≡ false → left_at (turn l i).0 i < left_at l i
+    nearer on unended = p.nearer n (state_of l) i h.0 below (h.1 i) on unended
+
+    pub no_further : ends_hold (turn l i).1 ≡ false → left_at (turn l i).0 i ≤ left_at l i
+    no_further unended = ⊎_elim
+        (λ on. let lt = nearer on unended in omega arith)
+        (λ off. let v = p.in_vain (state_of l) i off in let same = ap p.left v.0 in omega (arith, same))
+        (cases_Bool (gets_on l i))
+
+    -- no CPU has more steps left than before
+    pub none_further : ends_hold (turn l i).1 ≡ false → (x : ℕ) → left_at (turn l i).0 x ≤ left_at l x
+    none_further unended x = dite (ℕ_discrete x i)
+        (λ is. subst (λ y. left_at (turn l i).0 y ≤ left_at l y) (sym is) (no_further unended))
+        (λ ne. let same = others_stay l i x ne in omega (arith, same))
+
+    pub stays : (j : ℕ) → j < n → j ≢ i → gets_on l j ≡ true → gets_on (turn l i).0 j ≡ true
+    stays j j_below ne on = p.stays n (state_of l) i j h.0 below j_below ne on
+
+    pub turned : IsWholeLock n (turn l i).0
+    turned = ((turn_keeps n l h.0 i below).0, turn_whole l i h.1)
+
+    pub line_after : LineAfter (turn l i).1 i l.line.cpus (turn l i).0.line.cpus
+    line_after = (turn_keeps n l h.0 i below).1
+
+  pub outside : (x : ℕ) → x < n → has x l.line.cpus ≡ false → gets_on l x ≡ true
+  outside x below absent = p.outside n (state_of l) x h.0 below absent
+
+  -- where one is in line, one of the first two gets on
+  pub someone_first : (x : ℕ) → get_elem? l.line.cpus 0 ≡ some x → (gets_on l x ≡ true) ⊎ ((y : ℕ) × (get_elem? l.line.cpus 1 ≡ some y) × (gets_on l y ≡ true))
+  someone_first x there = p.first n (state_of l) x h.0 there
+
+  -- where one is in line, one in line gets on
+  pub someone_in : (i : ℕ) → has i l.line.cpus ≡ true → (j : ℕ) × (has j l.line.cpus ≡ true) × (gets_on l j ≡ true)
+  someone_in i e =
+      let t = head_of l.line.cpus i e in
+      ⊎_elim
+      (λ on. (t.0, has_at l.line.cpus 0 t.0 t.1, on))
+      (λ s. (s.0, has_at l.line.cpus 1 s.0 s.1, s.2))
+      (someone_first t.0 t.1)
+
+-- a turn gets its CPU on exactly where it takes it to another place
+module _ (n : ℕ) (l : Lock) (h : IsWholeLock n l) (i : ℕ) (below : i < n) where
+  abbrev q : LockProgress (definition_of l.kind)
+  q = progress_of l.kind
+
+  pub on_moves : gets_on l i ≡ true → (turn l i).0.line.stage i ≢ l.line.stage i
+  on_moves on same = ⊎_elim
+      (λ ends. let e = q.ended (state_of l) i ends in true≢false (sym e.0 ∙ ap holding (sym same ∙ e.1)))
+      (λ unended. let lt = nearer n l h i below on unended in let eq = ap q.left same in omega (arith, eq))
+      (cases_Bool (ends_hold (turn l i).1))
+
+  pub moves_on : ((turn l i).0.line.stage i ≢ l.line.stage i) → gets_on l i ≡ true
+  moves_on moves = ⊎_elim (λ on. on) (λ off. let v = q.in_vain (state_of l) i off in absurd (moves v.0)) (cases_Bool (gets_on l i))

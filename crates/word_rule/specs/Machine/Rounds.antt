@@ -1,0 +1,45 @@
+-- Rounds of a schedule, and which steps get a CPU on.
+use Rattle.std.specs.Prelude.{◌≡◌, ◌≢◌, ℕ, zero, suc, ◌+◌, ◌<◌, true, List, [], ◌∷◌, ◌++◌, length, Some, slice_get}
+use Rattle.std.specs.List.{AllByRecursion}
+use Rattle.event_log.specs.Distinct.{has}
+use Rattle.word_rule.specs.Locks.{turn}
+use Rattle.word_rule.specs.Machine.Orders.{is_at}
+use Rattle.sound_run.specs.Orders.{numbers}
+use Rattle.word_rule.specs.Machine.World.{World, CellState, CpuState}
+
+-- a stretch of a schedule that names each of n CPUs
+abbrev pub IsRound : ℕ → List ℕ → Type 0
+IsRound n is = (i : ℕ) → i < n → has i is ≡ true
+
+-- the schedule has so many rounds, one behind another
+abbrev pub HasRounds : ℕ → ℕ → List ℕ → Type 0
+HasRounds n zero is = Unit {0}
+HasRounds n (suc k) is = (first : List ℕ) × (rest : List ℕ) × (is ≡ first ++ rest) × IsRound n first × HasRounds n k rest
+
+-- n CPUs, each in its turn, and so many times over
+abbrev pub go_round : ℕ → ℕ → List ℕ
+go_round n zero = []
+go_round n (suc k) = numbers 0 n ++ go_round n k
+
+-- the steps of a call that get its CPU on: no more with either lock. At an MCS lock these are a clear, an enter, an arm, a link,
+-- a look, a see, an empty, a see and a pass
+abbrev pub most_steps : ℕ
+most_steps = 9
+
+module _ {O P C R : Type 0} where
+  -- the entries that are left, of all CPUs
+  abbrev pub entries_to_do : List (CpuState O P C R) → ℕ
+  entries_to_do [] = 0
+  entries_to_do (c ∷ cs) = length c.todo + entries_to_do cs
+
+  -- every script is done
+  abbrev pub AllDone : World O P C R → Type 0
+  AllDone w = AllByRecursion (λ c. c.todo ≡ []) w.cpus
+
+  -- the next step of CPU i, in the entry that it is doing, takes it to another place at the cell's lock
+  pub record GetsOn (w : World O P C R) (i : ℕ) : Type 0 where
+    pub at : ℕ
+    pub cell : CellState O P C R
+    pub works : is_at w i at ≡ true
+    pub there : slice_get w.cells at ≡ Some cell
+    pub moves : (turn cell.lock i).0.line.stage i ≢ cell.lock.line.stage i
