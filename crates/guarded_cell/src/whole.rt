@@ -102,7 +102,10 @@ impl<O: SeqObject> AnyCell<O> {
         ensures refused { OnErr result.1 (IsRefused O.SeqObject (view_of_pass pass) (view_of_pass result.0)) }
         ensures run { HasCalled (view_of_pass pass).caller (run_of_pass pass) result.2 asked.now result.1 (run_of_pass result.0) }
     {
-        call(rt, self, pass, asked)
+        match self {
+            AnyCell::Ticket(cell) => call(rt, cell, pass, asked),
+            AnyCell::Mcs(cell) => call(rt, cell, pass, asked),
+        }
     }
 
     /// Does 1 to 8 calls as one event of the acting CPU, up to and with the first that is refused.
@@ -121,7 +124,10 @@ impl<O: SeqObject> AnyCell<O> {
         ensures refused { OnErr result.1 (IsRefused O.SeqObject (view_of_pass pass) (view_of_pass result.0)) }
         ensures run { HasBatched (view_of_pass pass).caller (run_of_pass pass) result.2 result.1 (run_of_pass result.0) }
     {
-        batch(rt, self, pass, calls)
+        match self {
+            AnyCell::Ticket(cell) => batch(rt, cell, pass, calls),
+            AnyCell::Mcs(cell) => batch(rt, cell, pass, calls),
+        }
     }
 
     /// Does 1 to 8 groups of 1 to 8 calls each under one hold: one event for each group, and nobody's event between them.
@@ -146,6 +152,9 @@ impl<O: SeqObject> AnyCell<O> {
         ensures full { OnErr result.1 (length (view_of_pass result.0).seen ≡ (view_of_pass pass).caller.cell.limit) }
         ensures run { HasDoneGroups (view_of_pass pass).caller (run_of_pass pass) result.2 done.new.items (run_of_pass result.0) }
     {
-        with_hold(rt, self, pass, groups, done)
+        match self {
+            AnyCell::Ticket(cell) => with_hold(rt, cell, pass, groups, done),
+            AnyCell::Mcs(cell) => with_hold(rt, cell, pass, groups, done),
+        }
     }
 }

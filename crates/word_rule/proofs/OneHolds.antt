@@ -1,5 +1,5 @@
 -- From what single steps say of a run to what whole calls say.
-use Rattle.std.proofs.Common.{◌≡◌, ℕ, ◌+◌, ◌-◌, ◌^◌, min, Bool, true, false, List, [], ◌∷◌, ◌++◌, length, refl, sym, ap, ◌∙◌, subst, arith, ++-assoc, length-append, Some, Result, Ok, Err, IfOk}
+use Rattle.std.proofs.Common.{◌≡◌, ℕ, ◌+◌, ◌-◌, ◌^◌, min, Bool, true, false, List, [], ◌∷◌, ◌++◌, length, refl, sym, ap, ◌∙◌, subst, arith, append_assoc, length-append, Some, Result, Ok, Err, IfOk}
 use Rattle.std.specs.List.{filter}
 use Rattle.std.proofs.lemmas.List.Elements.{filter-append}
 use Rattle.event_log.specs.declared.object.SeqObject.{Ghosts}
@@ -84,7 +84,7 @@ module _ {O P C R : Type 0} where
         acquires = record {
           before = first ++ q.done;
           last = steps.Look true;
-          is = sym (++-assoc first q.done (steps.Look true ∷ []));
+          is = sym (append_assoc first q.done (steps.Look true ∷ []));
           got = refl;
           once = let c = count_append gets_object first rest in let d = count_append gets_object q.done (steps.Look true ∷ []) in let a = h.got in let b = q.got in omega (arith, a, b, c, d);
           arrived = let c = count_append arrives first rest in let d = count_append arrives q.done (steps.Look true ∷ []) in let a = h.arrived in let b = q.arrived in omega (arith, a, b, c, d);
