@@ -12,12 +12,12 @@ use Rattle.word_rule.specs.declared.machine.step_done.StepDone.TheVariants as st
 use Rattle.word_rule.specs.declared.lock_kind.Stage.{Stage}
 use Rattle.word_rule.specs.declared.view.Moment.{Moment}
 use Rattle.word_rule.specs.Locks.{holding}
-use Rattle.word_rule.specs.LockRuns.{Extends, events_in}
-use Rattle.word_rule.specs.OneHold.{gets_object, silently, Releases, HasAcquired}
+use Rattle.word_rule.specs.LockRuns.{Extends}
+use Rattle.word_rule.specs.OneHold.{silently, Releases}
 use Rattle.word_rule.specs.StepKinds.{arrives, ends_hold, is_look}
 use Rattle.word_rule.specs.declared.lock_kind.Stage.TheVariants.{Idle, Mcs, Trying}
 use Rattle.word_rule.specs.declared.lock_kind.McsStage.TheVariants.{Ready, Behind, Armed, Waiting, Holding, Alone, Leaving, Passing}
-use Rattle.word_rule.specs.Cell.{Cell, Caller as CallerOf, HoldView, Grows, OwnsAll}
+use Rattle.word_rule.specs.Cell.{Cell, HoldView, Grows, OwnsAll}
 use Rattle.sound_run.specs.declared.lock_kind.LockKind.{LockKind}
 use Rattle.sound_run.specs.declared.lock_kind.LockKind.TheVariants as kinds
 use Rattle.word_rule.specs.Rule.Definition.{IsTurn, IsTry, IsReadying}
@@ -29,7 +29,7 @@ use Rattle.word_rule.specs.Rule.Callers.{caller_of, hold_view_of, state_with, Is
 use Rattle.word_rule.proofs.Lists.{grows_then}
 use Rattle.word_rule.proofs.Known.{AllIdle, idle_alone}
 use Rattle.word_rule.proofs.Known.{value_of}
-use Rattle.word_rule.proofs.OneHolds.{Since, HeldSince, since_more, count_append}
+use Rattle.word_rule.proofs.OneHolds.{HeldSince, since_more, count_append}
 use Rattle.mcs_lock.specs.Seen.{IsSeen}
 use Rattle.mcs_lock.specs.Steps.{clears, readies, arms, links, Names, enters, tries, looks, sees, sees_again, empties, passes}
 use Rattle.mcs_lock.proofs.McsRule.{clearing, readying, entering, trying, arming, linking, looking, seeing, seeing_again, finding, emptying, passing}

@@ -1,4 +1,3 @@
-use Rattle.std.proofs.Common.{refl}
 use Rattle.word_rule.proofs.Mcs.Shown.{emptied, stayed}
 use Rattle.word_rule.proofs.machine.mcs.empty.Goals as goal
 

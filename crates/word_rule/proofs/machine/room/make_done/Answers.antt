@@ -1,4 +1,4 @@
-use Rattle.std.proofs.Common.{◌≡◌, sym, ap, ◌∙◌, cond, subst, take, List, ◌++◌, ◌∷◌, [], Vec, arith}
+use Rattle.std.proofs.Common.{◌≡◌, sym, subst, take, List, ◌++◌, ◌∷◌, [], Vec, arith}
 use Rattle.std.specs.List.{AllZip}
 use Rattle.std.specs.declared.alloc.Global.{Global}
 use Rattle.word_rule.specs.declared.machine.progress.Progress.{Progress}
