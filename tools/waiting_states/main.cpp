@@ -63,7 +63,8 @@ int main(int count, char **words) {
         if (++property > forever) return 2;
     const Judge judge{waiting, Property(property)};
     Graph graph(waiting);
-    const Way way = graph.search([&](const State &before, int i, const State &after) { return judge.is_wrong(before, i, after); });
+    auto is_wrong = [&](const State &before, int i, const State &after) { return judge.is_wrong(before, i, after); };
+    const Way way = graph.search(is_wrong);
     if (!way.empty()) return refuse(graph, way);
     Endless endless(graph);
     const uint32_t found = judge.asks(forever) ? endless.search() : NONE;

@@ -17,7 +17,7 @@ enum { MOST = 4, TICKETS = 8, OUTSIDE = 16 };
 
 // In what a wrong form may differ, and how the code has it.
 #define CHOICES(C) \
-    C(go_out, OUTSIDE) C(come_in, -OUTSIDE) C(lie_down, 1) C(rise, -1) /* what each of these steps adds to the word `resting` */ \
+    C(go_out, OUTSIDE) C(come_in, -OUTSIDE) C(lie_down, 1) C(rise, -1) /* what these steps add to the word `resting` */ \
     C(door, SHUT_BY_NAPS)   /* when who comes stays outside */ \
     C(stays, BEFORE_LINE)   /* when it does */ \
     C(stays_again, 0)       /* whether it then asks anew, and doesn't arrive in any case */ \
@@ -28,7 +28,7 @@ enum { MOST = 4, TICKETS = 8, OUTSIDE = 16 };
     C(serves, 1)            /* by how many tickets a serve goes on */ \
     C(passes, FOLLOWER)     /* whose `locked` a pass clears */ \
     C(waits_follower, 1) C(arms_first, 1)
-enum Door { OPEN, SHUT, SHUT_BY_NAPS, SHUT_BY_STAYS };
+enum Door { OPEN, SHUT, SHUT_BY_NAPS, SHUT_BY_STAYS, SHUT_BY_BOTH };
 enum Moment { BEFORE_LINE, AT_ENTER, IN_LINE, ELSE };
 enum Heir { NOBODY, ITSELF, FOLLOWER };
 
@@ -86,7 +86,8 @@ public:
 
 private:
     bool is_shut(const State &s) const {
-        return form.door == SHUT_BY_NAPS ? s.resting % OUTSIDE : form.door == SHUT_BY_STAYS ? s.resting / OUTSIDE : form.door;
+        if (form.door == SHUT_BY_NAPS) return s.resting % OUTSIDE;
+        return form.door == SHUT_BY_STAYS ? s.resting / OUTSIDE : form.door == SHUT_BY_BOTH ? s.resting : form.door;
     }
 
     // Goes on there, or stays outside before, if this is the moment.
