@@ -69,7 +69,7 @@ pub struct ByAny {
 impl ByAny {
     pub fn call<R: Wait>(self, rt: &R, calls: &Calls) -> ByAny {
         let ByAny { cell, pass } = self;
-        let pass = calls.on_cell(rt, &*cell, pass);
+        let pass = calls.on_either(rt, &*cell, pass);
         ByAny { cell, pass }
     }
 

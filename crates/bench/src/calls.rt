@@ -1,10 +1,11 @@
 //! The calls of a round.
 
 ghost use Rattle.std.specs.Prelude.{◌≡◌};
+ghost use Rattle.guarded_cell.specs.Kinds.{IsPassOf};
 
 use crate::tally::Tally;
 use event_log::Logged;
-use guarded_cell::call;
+use guarded_cell::{AnyCell, AnyPass, call};
 use shared_queue::{QueueCall, ThreadQueue};
 use std::sync::{Mutex, Wait};
 use word_rule::LockCell;
@@ -36,6 +37,25 @@ impl Calls {
         let mut pass = pass;
         for k in 0..self.count {
             let (back, _reply, _looks) = call(rt, cell, pass, &in_turn[(k % 2) as usize]);
+            pass = back;
+        }
+        pass
+    }
+
+    /// Makes the calls on a cell of either kind.
+    pub fn on_either<R: Wait>(
+        &self,
+        rt: &R,
+        cell: &AnyCell<ThreadQueue>,
+        pass: AnyPass<ThreadQueue>,
+    ) -> AnyPass<ThreadQueue>
+        requires { IsPassOf cell.now pass }
+        ensures { IsPassOf cell.now result }
+    {
+        let in_turn = self.in_turn();
+        let mut pass = pass;
+        for k in 0..self.count {
+            let (back, _reply, _looks) = cell.call(rt, pass, &in_turn[(k % 2) as usize]);
             pass = back;
         }
         pass

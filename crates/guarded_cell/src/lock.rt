@@ -40,14 +40,17 @@ impl<O: SeqObject> LockCell<O> for AnyCell<O> {
         }
     }
 
+    #[inline]
     fn apply(hold: &mut Hold<O>, calls: &[O::Call]) -> Result<Steps<O>, NoRoom> {
         hold.apply(calls)
     }
 
+    #[inline]
     fn apply_one(hold: &mut Hold<O>, call: &O::Call) -> Result<O::Reply, NoRoom> {
         hold.apply_one(call)
     }
 
+    #[inline]
     fn logged(hold: &Hold<O>) -> &Logged<O> {
         &hold.logged
     }
