@@ -10,12 +10,12 @@ use Rattle.word_rule.specs.Locks.{holding}
 use Rattle.word_rule.specs.StepKinds.{ends_hold}
 use Rattle.word_rule.proofs.LockInterface.{is_trying}
 
-module _ (d : LockDefinition) where
+module _ (d : LockDefinition) (most : ℕ) where
   pub record LockProgress : Type 0 where
     -- how many steps one that stands there may still do in its call, apart from those in vain
     pub left : Stage → ℕ
     pub some_left : (q : Stage) → 0 < left q
-    pub few_left : (q : Stage) → left q ≤ 9
+    pub few_left : (q : Stage) → left q ≤ most
     -- whether the CPU's next turn gets it on
     pub gets_on : LockState d.Own → ℕ → Bool
     -- a turn moves no other CPU

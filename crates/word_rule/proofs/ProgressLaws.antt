@@ -9,6 +9,7 @@ use Rattle.event_log.specs.Distinct.{has}
 use Rattle.sound_run.specs.declared.lock_kind.LockKind.{LockKind}
 use Rattle.sound_run.specs.declared.lock_kind.LockKind.TheVariants as kinds
 use Rattle.word_rule.specs.Locks.{Lock, definition_of, holding, state_of, turn}
+use Rattle.word_rule.specs.Machine.Rounds.{most_steps_of}
 use Rattle.word_rule.specs.StepKinds.{ends_hold}
 use Rattle.word_rule.proofs.IdleSteps.{IsWholeLock}
 use Rattle.word_rule.proofs.LineChanges.{head_of}
@@ -20,7 +21,7 @@ use Rattle.word_rule.proofs.Mcs.Progress.{mcs_progress}
 use Rattle.word_rule.proofs.Ticket.Progress.{ticket_progress}
 
 -- one line for each lock
-pub progress_of : (kind : LockKind) → LockProgress (definition_of kind)
+pub progress_of : (kind : LockKind) → LockProgress (definition_of kind) (most_steps_of kind)
 progress_of kinds.Ticket = ticket_progress
 progress_of kinds.Mcs = mcs_progress
 
@@ -32,17 +33,26 @@ gets_on l i = let p = progress_of l.kind in p.gets_on (state_of l) i
 abbrev pub left_at : Lock → ℕ → ℕ
 left_at l i = let p = progress_of l.kind in p.left (l.line.stage i)
 
+-- the most steps of a call there
+abbrev pub most_at : Lock → ℕ
+most_at l = most_steps_of l.kind
+
 pub some_left : (l : Lock) (i : ℕ) → 0 < left_at l i
 some_left l i = let p = progress_of l.kind in p.some_left (l.line.stage i)
 
-pub few_left : (l : Lock) (i : ℕ) → left_at l i ≤ 9
+-- no lock has more than nine
+pub most_few : (kind : LockKind) → most_steps_of kind ≤ 9
+most_few kinds.Ticket = omega arith
+most_few kinds.Mcs = omega arith
+
+pub few_left : (l : Lock) (i : ℕ) → left_at l i ≤ most_steps_of l.kind
 few_left l i = let p = progress_of l.kind in p.few_left (l.line.stage i)
 
 pub others_stay : (l : Lock) (i x : ℕ) → x ≢ i → left_at (turn l i).0 x ≡ left_at l x
 others_stay l i x ne = let p = progress_of l.kind in ap p.left (p.others (state_of l) i x ne)
 
 module _ (n : ℕ) (l : Lock) (h : IsWholeLock n l) where
-  abbrev p : LockProgress (definition_of l.kind)
+  abbrev p : LockProgress (definition_of l.kind) (most_steps_of l.kind)
   p = progress_of l.kind
 
   module _ (i : ℕ) (below : i < n) where
@@ -88,7 +98,7 @@ module _ (n : ℕ) (l : Lock) (h : IsWholeLock n l) where
 
 -- a turn gets its CPU on exactly where it takes it to another place
 module _ (n : ℕ) (l : Lock) (h : IsWholeLock n l) (i : ℕ) (below : i < n) where
-  abbrev q : LockProgress (definition_of l.kind)
+  abbrev q : LockProgress (definition_of l.kind) (most_steps_of l.kind)
   q = progress_of l.kind
 
   pub on_moves : gets_on l i ≡ true → (turn l i).0.line.stage i ≢ l.line.stage i

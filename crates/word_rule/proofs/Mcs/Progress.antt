@@ -268,7 +268,7 @@ module _ (n : ℕ) (l : McsLock) (x : ℕ) (h : IsState mcs_lock n l) (there : g
       (cases_Bool (linked_at l.line (second l.line.cpus)))
   first_by q e = inl refl
 
-pub mcs_progress : LockProgress mcs_lock
+pub mcs_progress : LockProgress mcs_lock 9
 mcs_progress = record {
   left = left;
   some_left = some_left;

@@ -31,7 +31,7 @@ some_left Idle = omega arith
 some_left (Ticket (Drawn t)) = omega arith
 some_left q = omega arith
 
-few_left : (q : Stage) → left q ≤ 9
+few_left : (q : Stage) → left q ≤ 3
 few_left Idle = omega arith
 few_left (Ticket (Drawn t)) = omega arith
 few_left q = omega arith
@@ -95,7 +95,7 @@ first_by : (l : TicketLock) (x : ℕ) → get_elem? l.line.cpus 0 ≡ some x →
 first_by l x there (Ticket (Drawn t)) = at_first x l.line.cpus there
 first_by l x there q = refl
 
-pub ticket_progress : LockProgress ticket_lock
+pub ticket_progress : LockProgress ticket_lock 3
 ticket_progress = record {
   left = left;
   some_left = some_left;
