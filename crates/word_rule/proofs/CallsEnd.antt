@@ -124,7 +124,7 @@ module _ {O P C R : Type 0} (meaning : Ghosts O P C R) where
               good = waits_on (scripts.others i ne);
               falls = omega (arith, lock_is, was, now);
               lower = λ r. absurd (true≢false (sym r.works ∙ off));
-              stays = λ j other r. record { cell = s.after; there = s.there; works = at_stays w w' j x (scripts.others j other) ∙ r.works; ready = subst (λ z. ReadyAt i z j) (sym (s.elsewhere off)) (ready_there j r) };
+              stays = λ j other r. inl record { cell = s.after; there = s.there; works = at_stays w w' j x (scripts.others j other) ∙ r.works; ready = subst (λ z. ReadyAt i z j) (sym (s.elsewhere off)) (ready_there j r) };
             }
 
         here : is_at w k x ≡ true → (k ≡ i → ends_hold (step meaning w k).1 ≡ false) → Lowers meaning n Waits Over rank Ready w k
@@ -137,7 +137,7 @@ module _ {O P C R : Type 0} (meaning : Ghosts O P C R) where
               good = waits_on (goes_on w k i goes);
               falls = omega (arith, lock_is, was, now, le);
               lower = λ r. let lt = t.lower (ready_there k r) in omega (arith, lock_is, was, now, lt);
-              stays = λ j other r. record { cell = s.after; there = s.there; works = at_stays w w' j x (scripts.others j other) ∙ r.works; ready = subst (λ z. ReadyAt i z j) (sym (s.here on).0) (t.stays j (below j r.works) other (ready_there j r)) };
+              stays = λ j other r. inl record { cell = s.after; there = s.there; works = at_stays w w' j x (scripts.others j other) ∙ r.works; ready = subst (λ z. ReadyAt i z j) (sym (s.here on).0) (t.stays j (below j r.works) other (ready_there j r)) };
             }
 
         -- its hold ends

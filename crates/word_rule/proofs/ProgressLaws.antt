@@ -12,18 +12,22 @@ use Rattle.word_rule.specs.Locks.{Lock, definition_of, holding, state_of, turn}
 use Rattle.word_rule.specs.Machine.Rounds.{most_steps_of}
 use Rattle.word_rule.specs.StepKinds.{ends_hold}
 use Rattle.word_rule.proofs.IdleSteps.{IsWholeLock}
-use Rattle.word_rule.proofs.LineChanges.{head_of}
 use Rattle.word_rule.proofs.LineAfter.{LineAfter}
-use Rattle.word_rule.proofs.Lists.{has_at}
 use Rattle.word_rule.proofs.LockLaws.{turn_keeps, turn_whole}
-use Rattle.word_rule.proofs.LockProgress.{LockProgress}
-use Rattle.word_rule.proofs.Mcs.Progress.{mcs_progress}
-use Rattle.word_rule.proofs.Ticket.Progress.{ticket_progress}
+use Rattle.word_rule.proofs.LockProgress.{FirstOn, LockFairness, LockProgress, OneOnAt}
+use Rattle.word_rule.proofs.Mcs.Progress.{mcs_fairness, mcs_progress}
+use Rattle.word_rule.proofs.Ticket.Progress.{ticket_fairness, ticket_progress}
 
 -- one line for each lock
 pub progress_of : (kind : LockKind) → LockProgress (definition_of kind) (most_steps_of kind)
 progress_of kinds.Ticket = ticket_progress
 progress_of kinds.Mcs = mcs_progress
+
+-- one line for each lock at which every call ends
+pub fairness_of : (kind : LockKind) → LockFairness (definition_of kind) (most_steps_of kind) (progress_of kind)
+unfolding progress_of
+fairness_of kinds.Ticket = ticket_fairness
+fairness_of kinds.Mcs = mcs_fairness
 
 -- whether a CPU's next turn gets it on
 abbrev pub gets_on : Lock → ℕ → Bool
@@ -72,7 +76,10 @@ module _ (n : ℕ) (l : Lock) (h : IsWholeLock n l) where
         (λ ne. let same = others_stay l i x ne in omega (arith, same))
 
     pub stays : (j : ℕ) → j < n → j ≢ i → gets_on l j ≡ true → gets_on (turn l i).0 j ≡ true
-    stays j j_below ne on = p.stays n (state_of l) i j h.0 below j_below ne on
+    stays j j_below ne on = let f = fairness_of l.kind in f.stays n (state_of l) i j h.0 below j_below ne on
+
+    pub stays_or : (j : ℕ) → j < n → j ≢ i → gets_on l j ≡ true → (gets_on (turn l i).0 j ≡ true) ⊎ (gets_on l i ≡ true)
+    stays_or j j_below ne on = p.stays_or n (state_of l) i j h.0 below j_below ne on
 
     pub turned : IsWholeLock n (turn l i).0
     turned = ((turn_keeps n l h.0 i below).0, turn_whole l i h.1)
@@ -81,20 +88,15 @@ module _ (n : ℕ) (l : Lock) (h : IsWholeLock n l) where
     line_after = (turn_keeps n l h.0 i below).1
 
   pub outside : (x : ℕ) → x < n → has x l.line.cpus ≡ false → gets_on l x ≡ true
-  outside x below absent = p.outside n (state_of l) x h.0 below absent
+  outside x below absent = let f = fairness_of l.kind in f.outside n (state_of l) x h.0 below absent
 
   -- where one is in line, one of the first two gets on
-  pub someone_first : (x : ℕ) → get_elem? l.line.cpus 0 ≡ some x → (gets_on l x ≡ true) ⊎ ((y : ℕ) × (get_elem? l.line.cpus 1 ≡ some y) × (gets_on l y ≡ true))
-  someone_first x there = p.first n (state_of l) x h.0 there
+  pub someone_first : (x : ℕ) → get_elem? l.line.cpus 0 ≡ some x → FirstOn l.line.cpus (gets_on l) x
+  someone_first x there = let f = fairness_of l.kind in f.first n (state_of l) x h.0 there
 
-  -- where one is in line, one in line gets on
-  pub someone_in : (i : ℕ) → has i l.line.cpus ≡ true → (j : ℕ) × (has j l.line.cpus ≡ true) × (gets_on l j ≡ true)
-  someone_in i e =
-      let t = head_of l.line.cpus i e in
-      ⊎_elim
-      (λ on. (t.0, has_at l.line.cpus 0 t.0 t.1, on))
-      (λ s. (s.0, has_at l.line.cpus 1 s.0 s.1, s.2))
-      (someone_first t.0 t.1)
+  -- a CPU gets on, or one in line
+  pub someone_at : (i : ℕ) → i < n → OneOnAt l.line.cpus (gets_on l) i
+  someone_at i below = p.someone n (state_of l) i h.0 below
 
 -- a turn gets its CPU on exactly where it takes it to another place
 module _ (n : ℕ) (l : Lock) (h : IsWholeLock n l) (i : ℕ) (below : i < n) where

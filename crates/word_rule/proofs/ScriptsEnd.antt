@@ -14,7 +14,7 @@ use Rattle.word_rule.specs.Machine.Opening.{IsOpening}
 use Rattle.word_rule.specs.Machine.Orders.{is_at}
 use Rattle.word_rule.specs.Machine.Rounds.{AllDone, HasRounds, cell_steps, cpu_steps, entries_to_do, entry_steps, steps_to_do}
 use Rattle.word_rule.specs.Machine.World.{World, CellState, CpuState, left, run, step, step_by, step_of}
-use Rattle.word_rule.proofs.Alive.{Alive, On, alive_first, alive_run, alive_step, cell_of_entry, cpus_stay, on_stays, someone, whole_at}
+use Rattle.word_rule.proofs.Alive.{Alive, On, alive_first, alive_run, alive_step, cell_of_entry, cpus_stay, on_stays_or, someone, whole_at}
 use Rattle.word_rule.proofs.Fairness.{Fair, reaches}
 use Rattle.word_rule.proofs.Openings.{all_at}
 use Rattle.word_rule.proofs.ProgressLaws.{few_left, gets_on, left_at, most_few, nearer, no_further, others_stay, some_left}
@@ -199,13 +199,16 @@ module _ {O P C R : Type 0} (meaning : Ghosts O P C R) where
     abbrev Good : World O P C R → Type 0
     Good w = Alive meaning w × (length w.cpus ≡ n)
 
+    lower : (w : World O P C R) (k : ℕ) → Good w → On meaning w k → rank n (step meaning w k).0 < rank n w
+    lower w k g o = sum_sinks (cpu_left (step meaning w k).0) (cpu_left w) n k (each_falls w k g.0) (subst (λ m. k < m) g.1 (cpu_below w k o.at o.works)) ((own_falls w k g.0 (left_to k w) refl).1 o)
+
     scripts_fair : Fair meaning n Good AllDone (rank n) (On meaning)
     scripts_fair = record {
       stepped = λ w k g. inr record {
         good = (alive_step meaning w k g.0, cpus_stay meaning (k ∷ []) w g.0 ∙ g.1);
         falls = sum_falls (cpu_left (step meaning w k).0) (cpu_left w) n (each_falls w k g.0);
-        lower = λ o. sum_sinks (cpu_left (step meaning w k).0) (cpu_left w) n k (each_falls w k g.0) (subst (λ m. k < m) g.1 (cpu_below w k o.at o.works)) ((own_falls w k g.0 (left_to k w) refl).1 o);
-        stays = λ j ne o. on_stays meaning w j k g.0 ne o;
+        lower = lower w k g;
+        stays = λ j ne o. ⊎_elim inl (λ other. inr (lower w k g other)) (on_stays_or meaning w j k g.0 ne o);
       };
       done = done_stays;
       someone = λ w g. ⊎_elim inl (λ t.
