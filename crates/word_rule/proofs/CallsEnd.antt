@@ -13,7 +13,7 @@ use Rattle.sound_run.specs.declared.lock_kind.LockKind.TheVariants as kinds
 use Rattle.word_rule.specs.StepKinds.{ends_hold}
 use Rattle.word_rule.specs.Machine.Opening.{IsOpening}
 use Rattle.word_rule.specs.Machine.Orders.{is_at, endings, ends_within}
-use Rattle.word_rule.specs.Machine.Rounds.{HasRounds, most_steps_of}
+use Rattle.word_rule.specs.Machine.Rounds.{HasRounds, most_steps, most_steps_of}
 use Rattle.word_rule.specs.Machine.World.{World, CellState, left, run, step}
 use Rattle.word_rule.proofs.Alive.{Alive, alive_first, alive_run, alive_step, cell_of_entry, cpus_stay, lined_at, whole_at}
 use Rattle.word_rule.proofs.Fairness.{Fair, Lowers, Someone, reaches}
@@ -207,13 +207,13 @@ module _ {O P C R : Type 0} (meaning : Ghosts O P C R) where
           let same = ap length (not_ended i x more v works f) in
           omega (arith, over, same)
 
-  pub calls_lem : (w : World O P C R) → IsOpening w → (is more : List ℕ) (i x : ℕ) → is_at (run meaning is w) i x ≡ true → HasRounds (length w.cpus) (9 * (length w.cpus + 1)) more → ends_within meaning i x more (run meaning is w) ≡ true
-  calls_lem w o is more i x works t = within w o is more i x (9 * (length w.cpus + 1)) works
+  pub calls_lem : (w : World O P C R) → IsOpening w → (is more : List ℕ) (i x : ℕ) → is_at (run meaning is w) i x ≡ true → HasRounds (length w.cpus) (most_steps * (length w.cpus + 1)) more → ends_within meaning i x more (run meaning is w) ≡ true
+  calls_lem w o is more i x works t = within w o is more i x (most_steps * (length w.cpus + 1)) works
       (λ c _ h. let few = rank_few (length w.cpus) i c.lock h in by c.lock.kind (rank_at (length w.cpus) i c.lock) few) t
     where
-      by : (kind : LockKind) (r : ℕ) → r ≤ most_steps_of kind * (length w.cpus + 1) → r ≤ 9 * (length w.cpus + 1)
+      by : (kind : LockKind) (r : ℕ) → r ≤ most_steps_of kind * (length w.cpus + 1) → r ≤ most_steps * (length w.cpus + 1)
       by kinds.Ticket r le = omega (arith, le)
-      by kinds.Mcs r le = le
+      by kinds.Mcs r le = omega (arith, le)
 
   -- by the kind of the cell's lock
   pub cell_lem : (w : World O P C R) → IsOpening w → (is more : List ℕ) (i x : ℕ) (c : CellState O P C R) → slice_get (run meaning is w).cells x ≡ Some c → is_at (run meaning is w) i x ≡ true → HasRounds (length w.cpus) (most_steps_of c.lock.kind * (length w.cpus + 1)) more → ends_within meaning i x more (run meaning is w) ≡ true

@@ -9,7 +9,7 @@ use Rattle.event_log.specs.Distinct.{has}
 use Rattle.sound_run.specs.declared.lock_kind.LockKind.{LockKind}
 use Rattle.sound_run.specs.declared.lock_kind.LockKind.TheVariants as kinds
 use Rattle.word_rule.specs.Locks.{Lock, definition_of, holding, state_of, turn}
-use Rattle.word_rule.specs.Machine.Rounds.{most_steps_of}
+use Rattle.word_rule.specs.Machine.Rounds.{most_steps, most_steps_of}
 use Rattle.word_rule.specs.StepKinds.{ends_hold}
 use Rattle.word_rule.proofs.IdleSteps.{IsWholeLock}
 use Rattle.word_rule.proofs.LineAfter.{LineAfter}
@@ -44,8 +44,8 @@ most_at l = most_steps_of l.kind
 pub some_left : (l : Lock) (i : ℕ) → 0 < left_at l i
 some_left l i = let p = progress_of l.kind in p.some_left (l.line.stage i)
 
--- no lock has more than nine
-pub most_few : (kind : LockKind) → most_steps_of kind ≤ 9
+-- no lock has more than the most of any
+pub most_few : (kind : LockKind) → most_steps_of kind ≤ most_steps
 most_few kinds.Ticket = omega arith
 most_few kinds.Mcs = omega arith
 

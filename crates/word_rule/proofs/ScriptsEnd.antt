@@ -12,7 +12,7 @@ use Rattle.word_rule.specs.StepKinds.{ends_hold}
 use Rattle.word_rule.specs.Replay.{entries_left}
 use Rattle.word_rule.specs.Machine.Opening.{IsOpening}
 use Rattle.word_rule.specs.Machine.Orders.{is_at}
-use Rattle.word_rule.specs.Machine.Rounds.{AllDone, HasRounds, cell_steps, cpu_steps, entries_to_do, entry_steps, steps_to_do}
+use Rattle.word_rule.specs.Machine.Rounds.{AllDone, HasRounds, cell_steps, cpu_steps, entries_to_do, entry_steps, most_steps, steps_to_do}
 use Rattle.word_rule.specs.Machine.World.{World, CellState, CpuState, left, run, step, step_by, step_of}
 use Rattle.word_rule.proofs.Alive.{Alive, On, alive_first, alive_run, alive_step, cell_of_entry, cpus_stay, on_stays_or, someone, whole_at}
 use Rattle.word_rule.proofs.Fairness.{Fair, reaches}
@@ -46,16 +46,16 @@ module _ {O P C R : Type 0} where
   sum_steps cells [] = refl
   sum_steps cells (c ∷ cs) = ap (λ k. entry_steps cells c.todo + k) (sum_steps cells cs)
 
-  -- no more than 9 for each entry
-  cell_few : (o : Option (CellState O P C R)) → cell_steps o ≤ 9
+  -- no more than the most of any lock for each entry
+  cell_few : (o : Option (CellState O P C R)) → cell_steps o ≤ most_steps
   cell_few None = omega arith
   cell_few (Some c) = most_few c.lock.kind
 
-  entry_few : (cells : List (CellState O P C R)) (todos : List (Todo O P C R)) → entry_steps cells todos ≤ 9 * length todos
+  entry_few : (cells : List (CellState O P C R)) (todos : List (Todo O P C R)) → entry_steps cells todos ≤ most_steps * length todos
   entry_few cells [] = omega arith
   entry_few cells (todo ∷ more) = let a = cell_few (slice_get cells todo.object) in let b = entry_few cells more in omega (arith, a, b)
 
-  steps_few : (cells : List (CellState O P C R)) (cpus : List (CpuState O P C R)) → cpu_steps cells cpus ≤ 9 * entries_to_do cpus
+  steps_few : (cells : List (CellState O P C R)) (cpus : List (CpuState O P C R)) → cpu_steps cells cpus ≤ most_steps * entries_to_do cpus
   steps_few cells [] = omega arith
   steps_few cells (c ∷ cs) = let a = entry_few cells c.todo in let b = steps_few cells cs in omega (arith, a, b)
 
@@ -230,5 +230,5 @@ module _ {O P C R : Type 0} (meaning : Ghosts O P C R) where
   pub steps_lem : (w : World O P C R) → IsOpening w → (is more : List ℕ) → HasRounds (length w.cpus) (steps_to_do (run meaning is w)) more → AllDone (run meaning more (run meaning is w))
   steps_lem w o is more t = within w o is more (steps_to_do (run meaning is w)) (omega arith) t
 
-  pub scripts_lem : (w : World O P C R) → IsOpening w → (is more : List ℕ) → HasRounds (length w.cpus) (9 * entries_to_do (run meaning is w).cpus) more → AllDone (run meaning more (run meaning is w))
-  scripts_lem w o is more t = let v : World O P C R = run meaning is w in within w o is more (9 * entries_to_do v.cpus) (steps_few v.cells v.cpus) t
+  pub scripts_lem : (w : World O P C R) → IsOpening w → (is more : List ℕ) → HasRounds (length w.cpus) (most_steps * entries_to_do (run meaning is w).cpus) more → AllDone (run meaning more (run meaning is w))
+  scripts_lem w o is more t = let v : World O P C R = run meaning is w in within w o is more (most_steps * entries_to_do v.cpus) (steps_few v.cells v.cpus) t

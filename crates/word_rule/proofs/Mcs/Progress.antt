@@ -8,6 +8,7 @@ use native.Mathlib.Decide.{ℕ_discrete}
 use lib.ListN.{get_elem?}
 use Rattle.event_log.specs.Distinct.{has}
 use Rattle.word_rule.specs.declared.machine.step_done.StepDone.{StepDone}
+use Rattle.sound_run.specs.declared.lock_kind.LockKind.TheVariants as kinds
 use Rattle.word_rule.specs.declared.lock_kind.Stage.{Stage}
 use Rattle.word_rule.specs.declared.lock_kind.Stage.TheVariants.{Idle, Mcs, Trying}
 use Rattle.word_rule.specs.declared.lock_kind.McsStage.TheVariants.{Ready, Behind, Armed, Waiting, Holding, Alone, Leaving, Passing}
@@ -18,6 +19,7 @@ use Rattle.word_rule.specs.Mcs.Acquire.{enter}
 use Rattle.word_rule.specs.Mcs.Definition.{mcs_lock, mcs_turn}
 use Rattle.word_rule.specs.Mcs.Release.{see}
 use Rattle.word_rule.specs.Mcs.State.{McsLock, follower, if_linked, is_linked}
+use Rattle.word_rule.specs.Machine.Rounds.{most_steps_of}
 use Rattle.word_rule.specs.StepKinds.{ends_hold}
 use Rattle.word_rule.proofs.LineChanges.{never, changed, first_stays, Joined, Left, Same}
 use Rattle.word_rule.proofs.Lists.{at_first, first_at, has_at, two_are}
@@ -51,7 +53,7 @@ some_left (Mcs Alone) = omega arith
 some_left (Mcs Leaving) = omega arith
 some_left q = omega arith
 
-few_left : (q : Stage) → left q ≤ 9
+few_left : (q : Stage) → left q ≤ most_steps_of kinds.Mcs
 few_left Idle = omega arith
 few_left (Mcs Ready) = omega arith
 few_left (Mcs (Behind p)) = omega arith
@@ -278,7 +280,7 @@ module _ (n : ℕ) (l : McsLock) (h : IsState mcs_lock n l) where
   first : (x : ℕ) → get_elem? l.line.cpus 0 ≡ some x → FirstOn l.line.cpus (λ j. on_at l.line j (l.line.stage j)) x
   first x there = first_by n l x h there (l.line.stage x) refl
 
-pub mcs_progress : LockProgress mcs_lock 9
+pub mcs_progress : LockProgress mcs_lock (most_steps_of kinds.Mcs)
 mcs_progress = record {
   left = left;
   some_left = some_left;
@@ -292,7 +294,7 @@ mcs_progress = record {
   someone = λ n l i h below. one_on l.line.cpus (λ j. on_at l.line j (l.line.stage j)) i (outside n l h i below) (first n l h);
 }
 
-pub mcs_fairness : LockFairness mcs_lock 9 mcs_progress
+pub mcs_fairness : LockFairness mcs_lock (most_steps_of kinds.Mcs) mcs_progress
 unfolding mcs_progress
 mcs_fairness = record {
   stays = λ n l i j h below j_below ne on. stays n l h i j below j_below ne on;

@@ -3,12 +3,14 @@ use Rattle.std.proofs.Common.{◌≡◌, ◌≢◌, inl, ℕ, ◌+◌, ◌%◌, 
 use mathlib.Core.Option.{some}
 use lib.ListN.{get_elem?}
 use Rattle.event_log.specs.Distinct.{has}
+use Rattle.sound_run.specs.declared.lock_kind.LockKind.TheVariants as kinds
 use Rattle.word_rule.specs.declared.lock_kind.Stage.{Stage}
 use Rattle.word_rule.specs.declared.lock_kind.Stage.TheVariants.{Idle, Ticket}
 use Rattle.word_rule.specs.declared.lock_kind.TicketStage.TheVariants.{Drawn, Served}
 use Rattle.word_rule.specs.Line.{Line, is_first}
 use Rattle.word_rule.specs.LockDefinition.{IsState}
 use Rattle.word_rule.specs.Locks.{holding}
+use Rattle.word_rule.specs.Machine.Rounds.{most_steps_of}
 use Rattle.word_rule.specs.StepKinds.{ends_hold}
 use Rattle.word_rule.specs.Ticket.Definition.{ticket_lock, ticket_turn}
 use Rattle.word_rule.specs.Ticket.State.{TicketLock, tickets}
@@ -31,7 +33,7 @@ some_left Idle = omega arith
 some_left (Ticket (Drawn t)) = omega arith
 some_left q = omega arith
 
-few_left : (q : Stage) → left q ≤ 3
+few_left : (q : Stage) → left q ≤ most_steps_of kinds.Ticket
 few_left Idle = omega arith
 few_left (Ticket (Drawn t)) = omega arith
 few_left q = omega arith
@@ -105,7 +107,7 @@ module _ (n : ℕ) (l : TicketLock) (h : IsState ticket_lock n l) where
   first : (x : ℕ) → get_elem? l.line.cpus 0 ≡ some x → FirstOn l.line.cpus (λ j. on_at l.line j (l.line.stage j)) x
   first x there = inl (first_by l x there (l.line.stage x))
 
-pub ticket_progress : LockProgress ticket_lock 3
+pub ticket_progress : LockProgress ticket_lock (most_steps_of kinds.Ticket)
 ticket_progress = record {
   left = left;
   some_left = some_left;
@@ -119,7 +121,7 @@ ticket_progress = record {
   someone = λ n l i h below. one_on l.line.cpus (λ j. on_at l.line j (l.line.stage j)) i (outside n l h i below) (first n l h);
 }
 
-pub ticket_fairness : LockFairness ticket_lock 3 ticket_progress
+pub ticket_fairness : LockFairness ticket_lock (most_steps_of kinds.Ticket) ticket_progress
 unfolding ticket_progress
 ticket_fairness = record {
   stays = λ n l i j h below _ ne on. stays n l h i j below ne on;
