@@ -64,7 +64,8 @@ fn machine_of(
     kind: LockKind,
     each: &[u32],
 ) -> Result<(Machine<ThreadQueue>, u8), Fail>
-    ensures { IfOk result (λ r. length r.0.scripts ≡ r.1) }
+    ensures count { IfOk result (λ r. length r.0.scripts ≡ r.1) }
+    ensures some { IfOk result (λ r. 0 < r.1) }
 {
     let cells = one_cell(alloc, kind)?;
     let scripts = scripts_of(alloc, each)?;
