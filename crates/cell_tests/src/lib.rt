@@ -14,6 +14,8 @@ mod objects;
 #[cfg(test)]
 mod replays;
 #[cfg(test)]
+mod rounds;
+#[cfg(test)]
 mod scene;
 #[cfg(test)]
 mod threads;

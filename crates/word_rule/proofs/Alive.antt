@@ -20,7 +20,7 @@ use Rattle.word_rule.proofs.LineChanges.{changed, has_more, never, Joined, Left,
 use Rattle.word_rule.proofs.Lists.{has_pushed}
 use Rattle.word_rule.proofs.Openings.{opening_sound}
 use Rattle.word_rule.proofs.Orders.{AreLocks, IsCell, Lines, line_in, locks_stay, same_cpus, stepped}
-use Rattle.word_rule.proofs.ProgressLaws.{gets_on, moves_on, on_moves, outside, someone_in, stays}
+use Rattle.word_rule.proofs.ProgressLaws.{gets_on, moves_on, on_moves, someone_at, stays, stays_or}
 use Rattle.sound_run.proofs.Slices.{some_at}
 use Rattle.word_rule.proofs.SoundSteps.{sound_step}
 use Rattle.word_rule.proofs.WorldSteps.{StepsCpus, StepsCell, left_to, at_stays, at_entry, cpu_below, cpus_stepped, cell_stepped}
@@ -141,36 +141,42 @@ module _ {O P C R : Type 0} (meaning : Ghosts O P C R) where
   pub is_on : (w : World O P C R) (i : ℕ) → Alive w → GetsOn w i → On w i
   is_on w i a g = record { at = g.at; cell = g.cell; works = g.works; there = g.there; on = moves_on (length w.cpus) g.cell.lock (whole_at w a g.at g.cell g.there) i (cpu_below w i g.at g.works) g.moves }
 
-  -- it does so also after another CPU's step
-  pub on_stays : (w : World O P C R) (j k : ℕ) → Alive w → j ≢ k → On w j → On (step meaning w k).0 j
-  on_stays w j k a ne o = ⊎_elim here elsewhere (cases_Bool (is_at w k o.at))
-    where
-      s : StepsCell meaning w k o.at o.cell (step meaning w k)
-      s = cell_stepped meaning w k o.at o.cell o.there
+  module _ (w : World O P C R) (j k : ℕ) (a : Alive w) (ne : j ≢ k) (o : On w j) where
+    s : StepsCell meaning w k o.at o.cell (step meaning w k)
+    s = cell_stepped meaning w k o.at o.cell o.there
 
-      c : StepsCpus meaning w k (step meaning w k)
-      c = cpus_stepped meaning w k
+    c : StepsCpus meaning w k (step meaning w k)
+    c = cpus_stepped meaning w k
 
-      now : gets_on s.after.lock j ≡ true → On (step meaning w k).0 j
-      now on = record { at = o.at; cell = s.after; works = at_stays w (step meaning w k).0 j o.at (c.others j ne) ∙ o.works; there = s.there; on = on }
+    now : gets_on s.after.lock j ≡ true → On (step meaning w k).0 j
+    now on = record { at = o.at; cell = s.after; works = at_stays w (step meaning w k).0 j o.at (c.others j ne) ∙ o.works; there = s.there; on = on }
 
-      here : is_at w k o.at ≡ true → On (step meaning w k).0 j
-      here t = now (ap (λ (l : Lock). gets_on l j) (s.here t).0 ∙ stays (length w.cpus) o.cell.lock (whole_at w a o.at o.cell o.there) k (cpu_below w k o.at t) j (cpu_below w j o.at o.works) ne o.on)
+    elsewhere : is_at w k o.at ≡ false → On (step meaning w k).0 j
+    elsewhere f = now (ap (λ (l : Lock). gets_on l j) (s.elsewhere f) ∙ o.on)
 
-      elsewhere : is_at w k o.at ≡ false → On (step meaning w k).0 j
-      elsewhere f = now (ap (λ (l : Lock). gets_on l j) (s.elsewhere f) ∙ o.on)
+    -- it does so also after another CPU's step
+    pub on_stays : On (step meaning w k).0 j
+    on_stays = ⊎_elim here elsewhere (cases_Bool (is_at w k o.at))
+      where
+        here : is_at w k o.at ≡ true → On (step meaning w k).0 j
+        here t = now (ap (λ (l : Lock). gets_on l j) (s.here t).0 ∙ stays (length w.cpus) o.cell.lock (whole_at w a o.at o.cell o.there) k (cpu_below w k o.at t) j (cpu_below w j o.at o.works) ne o.on)
+
+    -- or, at a lock at which not every call ends, that step gets the other on
+    pub on_stays_or : On (step meaning w k).0 j ⊎ On w k
+    on_stays_or = ⊎_elim here (λ f. inl (elsewhere f)) (cases_Bool (is_at w k o.at))
+      where
+        here : is_at w k o.at ≡ true → On (step meaning w k).0 j ⊎ On w k
+        here t = ⊎_elim
+            (λ still. inl (now (ap (λ (l : Lock). gets_on l j) (s.here t).0 ∙ still)))
+            (λ other. inr record { at = o.at; cell = o.cell; works = t; there = o.there; on = other })
+            (stays_or (length w.cpus) o.cell.lock (whole_at w a o.at o.cell o.there) k (cpu_below w k o.at t) j (cpu_below w j o.at o.works) ne o.on)
 
   -- where a CPU works, it gets on or another does that works there
   pub on_cell : (w : World O P C R) → Alive w → (x i : ℕ) (c : CellState O P C R) → slice_get w.cells x ≡ Some c → is_at w i x ≡ true → (j : ℕ) × On w j
-  on_cell w a x i c there works = ⊎_elim in_it beside (cases_Bool (has i c.lock.line.cpus))
-    where
-      in_it : has i c.lock.line.cpus ≡ true → (j : ℕ) × On w j
-      in_it e =
-          let t = someone_in (length w.cpus) c.lock (whole_at w a x c there) i e in
-          (t.0, record { at = x; cell = c; works = lined_at w a x c there t.0 t.1; there = there; on = t.2 })
-
-      beside : has i c.lock.line.cpus ≡ false → (j : ℕ) × On w j
-      beside f = (i, record { at = x; cell = c; works = works; there = there; on = outside (length w.cpus) c.lock (whole_at w a x c there) i (cpu_below w i x works) f })
+  on_cell w a x i c there works =
+      let t = someone_at (length w.cpus) c.lock (whole_at w a x c there) i (cpu_below w i x works) in
+      let at_it : is_at w t.0 x ≡ true = ⊎_elim (λ e. lined_at w a x c there t.0 e) (λ is. ap (λ z. is_at w z x) is ∙ works) t.1 in
+      (t.0, record { at = x; cell = c; works = at_it; there = there; on = t.2 })
 
   -- a CPU with an entry left, if there is one
   abbrev pub Busy : List (CpuState O P C R) → Type 0

@@ -8,10 +8,12 @@ use native.Mathlib.Decide.{ℕ_discrete}
 use Rattle.event_log.specs.declared.object.SeqObject.{Ghosts}
 use Rattle.event_log.specs.declared.entry.Todo.{Todo}
 use Rattle.event_log.specs.Distinct.{has}
+use Rattle.sound_run.specs.declared.lock_kind.LockKind.{LockKind}
+use Rattle.sound_run.specs.declared.lock_kind.LockKind.TheVariants as kinds
 use Rattle.word_rule.specs.StepKinds.{ends_hold}
 use Rattle.word_rule.specs.Machine.Opening.{IsOpening}
 use Rattle.word_rule.specs.Machine.Orders.{is_at, endings, ends_within}
-use Rattle.word_rule.specs.Machine.Rounds.{HasRounds}
+use Rattle.word_rule.specs.Machine.Rounds.{HasRounds, most_steps, most_steps_of}
 use Rattle.word_rule.specs.Machine.World.{World, CellState, left, run, step}
 use Rattle.word_rule.proofs.Alive.{Alive, alive_first, alive_run, alive_step, cell_of_entry, cpus_stay, lined_at, whole_at}
 use Rattle.word_rule.proofs.Fairness.{Fair, Lowers, Someone, reaches}
@@ -122,7 +124,7 @@ module _ {O P C R : Type 0} (meaning : Ghosts O P C R) where
               good = waits_on (scripts.others i ne);
               falls = omega (arith, lock_is, was, now);
               lower = λ r. absurd (true≢false (sym r.works ∙ off));
-              stays = λ j other r. record { cell = s.after; there = s.there; works = at_stays w w' j x (scripts.others j other) ∙ r.works; ready = subst (λ z. ReadyAt i z j) (sym (s.elsewhere off)) (ready_there j r) };
+              stays = λ j other r. inl record { cell = s.after; there = s.there; works = at_stays w w' j x (scripts.others j other) ∙ r.works; ready = subst (λ z. ReadyAt i z j) (sym (s.elsewhere off)) (ready_there j r) };
             }
 
         here : is_at w k x ≡ true → (k ≡ i → ends_hold (step meaning w k).1 ≡ false) → Lowers meaning n Waits Over rank Ready w k
@@ -135,7 +137,7 @@ module _ {O P C R : Type 0} (meaning : Ghosts O P C R) where
               good = waits_on (goes_on w k i goes);
               falls = omega (arith, lock_is, was, now, le);
               lower = λ r. let lt = t.lower (ready_there k r) in omega (arith, lock_is, was, now, lt);
-              stays = λ j other r. record { cell = s.after; there = s.there; works = at_stays w w' j x (scripts.others j other) ∙ r.works; ready = subst (λ z. ReadyAt i z j) (sym (s.here on).0) (t.stays j (below j r.works) other (ready_there j r)) };
+              stays = λ j other r. inl record { cell = s.after; there = s.there; works = at_stays w w' j x (scripts.others j other) ∙ r.works; ready = subst (λ z. ReadyAt i z j) (sym (s.here on).0) (t.stays j (below j r.works) other (ready_there j r)) };
             }
 
         -- its hold ends
@@ -205,12 +207,22 @@ module _ {O P C R : Type 0} (meaning : Ghosts O P C R) where
           let same = ap length (not_ended i x more v works f) in
           omega (arith, over, same)
 
-  pub calls_lem : (w : World O P C R) → IsOpening w → (is more : List ℕ) (i x : ℕ) → is_at (run meaning is w) i x ≡ true → HasRounds (length w.cpus) (9 * (length w.cpus + 1)) more → ends_within meaning i x more (run meaning is w) ≡ true
-  calls_lem w o is more i x works t = within w o is more i x (9 * (length w.cpus + 1)) works (λ c _ h. rank_few (length w.cpus) i c.lock h) t
+  pub calls_lem : (w : World O P C R) → IsOpening w → (is more : List ℕ) (i x : ℕ) → is_at (run meaning is w) i x ≡ true → HasRounds (length w.cpus) (most_steps * (length w.cpus + 1)) more → ends_within meaning i x more (run meaning is w) ≡ true
+  calls_lem w o is more i x works t = within w o is more i x (most_steps * (length w.cpus + 1)) works
+      (λ c _ h. let few = rank_few (length w.cpus) i c.lock h in by c.lock.kind (rank_at (length w.cpus) i c.lock) few) t
+    where
+      by : (kind : LockKind) (r : ℕ) → r ≤ most_steps_of kind * (length w.cpus + 1) → r ≤ most_steps * (length w.cpus + 1)
+      by kinds.Ticket r le = omega (arith, le)
+      by kinds.Mcs r le = omega (arith, le)
+
+  -- by the kind of the cell's lock
+  pub cell_lem : (w : World O P C R) → IsOpening w → (is more : List ℕ) (i x : ℕ) (c : CellState O P C R) → slice_get (run meaning is w).cells x ≡ Some c → is_at (run meaning is w) i x ≡ true → HasRounds (length w.cpus) (most_steps_of c.lock.kind * (length w.cpus + 1)) more → ends_within meaning i x more (run meaning is w) ≡ true
+  cell_lem w o is more i x c there works t = within w o is more i x (most_steps_of c.lock.kind * (length w.cpus + 1)) works
+      (λ d there' h. subst (λ (z : CellState O P C R). rank_at (length w.cpus) i d.lock ≤ most_steps_of z.lock.kind * (length w.cpus + 1)) (sym (one_of c d (slice_get (run meaning is w).cells x) there there')) (rank_few (length w.cpus) i d.lock h)) t
 
   -- whoever stands in line: by its place
-  pub place_lem : (w : World O P C R) → IsOpening w → (is more : List ℕ) (i x p : ℕ) (c : CellState O P C R) → slice_get (run meaning is w).cells x ≡ Some c → get_elem? c.lock.line.cpus p ≡ some i → HasRounds (length w.cpus) (9 * (p + 2)) more → ends_within meaning i x more (run meaning is w) ≡ true
+  pub place_lem : (w : World O P C R) → IsOpening w → (is more : List ℕ) (i x p : ℕ) (c : CellState O P C R) → slice_get (run meaning is w).cells x ≡ Some c → get_elem? c.lock.line.cpus p ≡ some i → HasRounds (length w.cpus) (most_steps_of c.lock.kind * (p + 2)) more → ends_within meaning i x more (run meaning is w) ≡ true
   place_lem w o is more i x p c there at t =
       let g = alive_run meaning is w (alive_first meaning w o) in
-      within w o is more i x (9 * (p + 2)) (lined_at meaning (run meaning is w) g x c there i (has_at c.lock.line.cpus p i at))
-      (λ d there' _. rank_place (length w.cpus) i d.lock p (subst (λ (z : CellState O P C R). get_elem? z.lock.line.cpus p ≡ some i) (one_of c d (slice_get (run meaning is w).cells x) there there') at)) t
+      within w o is more i x (most_steps_of c.lock.kind * (p + 2)) (lined_at meaning (run meaning is w) g x c there i (has_at c.lock.line.cpus p i at))
+      (λ d there' _. subst (λ (z : CellState O P C R). rank_at (length w.cpus) i z.lock ≤ most_steps_of c.lock.kind * (p + 2)) (one_of c d (slice_get (run meaning is w).cells x) there there') (rank_place (length w.cpus) i c.lock p at)) t

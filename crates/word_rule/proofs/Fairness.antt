@@ -36,7 +36,7 @@ module _ {O P C R : Type 0} (meaning : Ghosts O P C R) (n : ℕ) (Good Done : Wo
     pub good : Good (step meaning w k).0
     pub falls : rank (step meaning w k).0 ≤ rank w
     pub lower : Ready w k → rank (step meaning w k).0 < rank w
-    pub stays : (j : ℕ) → j ≢ k → Ready w j → Ready (step meaning w k).0 j
+    pub stays : (j : ℕ) → j ≢ k → Ready w j → Ready (step meaning w k).0 j ⊎ (rank (step meaning w k).0 < rank w)
 
   -- a CPU that can lower the rank
   abbrev pub Someone : World O P C R → Type 0
@@ -78,9 +78,10 @@ module _ {O P C R : Type 0} (meaning : Ghosts O P C R) (n : ℕ) (Good Done : Wo
             (λ same.
             let a = s.lower (subst (Ready w) same ready) in
             ⊎_elim inl (λ t. let b = t.1 in inr (t.0, omega (arith, a, b))) (quiet is (step meaning w k).0 s.good))
-            (λ ne.
-            let a = s.falls in
-            ⊎_elim inl (λ t. let b = t.1 in inr (t.0, omega (arith, a, b))) (rest s.good (has_after j k is ne e) (s.stays j ne ready)))
+            (λ ne. ⊎_elim
+            (λ still. let a = s.falls in ⊎_elim inl (λ t. let b = t.1 in inr (t.0, omega (arith, a, b))) (rest s.good (has_after j k is ne e) still))
+            (λ lt. ⊎_elim inl (λ t. let b = t.1 in inr (t.0, omega (arith, lt, b))) (quiet is (step meaning w k).0 s.good))
+            (s.stays j ne ready))
 
     -- as many rounds as the rank says are enough
     pub reaches : (m : ℕ) (is : List ℕ) (w : World O P C R) → Good w → rank w ≤ m → HasRounds n m is → Done (run meaning is w)

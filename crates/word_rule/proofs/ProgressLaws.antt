@@ -9,20 +9,25 @@ use Rattle.event_log.specs.Distinct.{has}
 use Rattle.sound_run.specs.declared.lock_kind.LockKind.{LockKind}
 use Rattle.sound_run.specs.declared.lock_kind.LockKind.TheVariants as kinds
 use Rattle.word_rule.specs.Locks.{Lock, definition_of, holding, state_of, turn}
+use Rattle.word_rule.specs.Machine.Rounds.{most_steps, most_steps_of}
 use Rattle.word_rule.specs.StepKinds.{ends_hold}
 use Rattle.word_rule.proofs.IdleSteps.{IsWholeLock}
-use Rattle.word_rule.proofs.LineChanges.{head_of}
 use Rattle.word_rule.proofs.LineAfter.{LineAfter}
-use Rattle.word_rule.proofs.Lists.{has_at}
 use Rattle.word_rule.proofs.LockLaws.{turn_keeps, turn_whole}
-use Rattle.word_rule.proofs.LockProgress.{LockProgress}
-use Rattle.word_rule.proofs.Mcs.Progress.{mcs_progress}
-use Rattle.word_rule.proofs.Ticket.Progress.{ticket_progress}
+use Rattle.word_rule.proofs.LockProgress.{FirstOn, LockFairness, LockProgress, OneOnAt}
+use Rattle.word_rule.proofs.Mcs.Progress.{mcs_fairness, mcs_progress}
+use Rattle.word_rule.proofs.Ticket.Progress.{ticket_fairness, ticket_progress}
 
 -- one line for each lock
-pub progress_of : (kind : LockKind) → LockProgress (definition_of kind)
+pub progress_of : (kind : LockKind) → LockProgress (definition_of kind) (most_steps_of kind)
 progress_of kinds.Ticket = ticket_progress
 progress_of kinds.Mcs = mcs_progress
+
+-- one line for each lock at which every call ends
+pub fairness_of : (kind : LockKind) → LockFairness (definition_of kind) (most_steps_of kind) (progress_of kind)
+unfolding progress_of
+fairness_of kinds.Ticket = ticket_fairness
+fairness_of kinds.Mcs = mcs_fairness
 
 -- whether a CPU's next turn gets it on
 abbrev pub gets_on : Lock → ℕ → Bool
@@ -32,17 +37,26 @@ gets_on l i = let p = progress_of l.kind in p.gets_on (state_of l) i
 abbrev pub left_at : Lock → ℕ → ℕ
 left_at l i = let p = progress_of l.kind in p.left (l.line.stage i)
 
+-- the most steps of a call there
+abbrev pub most_at : Lock → ℕ
+most_at l = most_steps_of l.kind
+
 pub some_left : (l : Lock) (i : ℕ) → 0 < left_at l i
 some_left l i = let p = progress_of l.kind in p.some_left (l.line.stage i)
 
-pub few_left : (l : Lock) (i : ℕ) → left_at l i ≤ 9
+-- no lock has more than the most of any
+pub most_few : (kind : LockKind) → most_steps_of kind ≤ most_steps
+most_few kinds.Ticket = omega arith
+most_few kinds.Mcs = omega arith
+
+pub few_left : (l : Lock) (i : ℕ) → left_at l i ≤ most_steps_of l.kind
 few_left l i = let p = progress_of l.kind in p.few_left (l.line.stage i)
 
 pub others_stay : (l : Lock) (i x : ℕ) → x ≢ i → left_at (turn l i).0 x ≡ left_at l x
 others_stay l i x ne = let p = progress_of l.kind in ap p.left (p.others (state_of l) i x ne)
 
 module _ (n : ℕ) (l : Lock) (h : IsWholeLock n l) where
-  abbrev p : LockProgress (definition_of l.kind)
+  abbrev p : LockProgress (definition_of l.kind) (most_steps_of l.kind)
   p = progress_of l.kind
 
   module _ (i : ℕ) (below : i < n) where
@@ -62,7 +76,10 @@ module _ (n : ℕ) (l : Lock) (h : IsWholeLock n l) where
         (λ ne. let same = others_stay l i x ne in omega (arith, same))
 
     pub stays : (j : ℕ) → j < n → j ≢ i → gets_on l j ≡ true → gets_on (turn l i).0 j ≡ true
-    stays j j_below ne on = p.stays n (state_of l) i j h.0 below j_below ne on
+    stays j j_below ne on = let f = fairness_of l.kind in f.stays n (state_of l) i j h.0 below j_below ne on
+
+    pub stays_or : (j : ℕ) → j < n → j ≢ i → gets_on l j ≡ true → (gets_on (turn l i).0 j ≡ true) ⊎ (gets_on l i ≡ true)
+    stays_or j j_below ne on = p.stays_or n (state_of l) i j h.0 below j_below ne on
 
     pub turned : IsWholeLock n (turn l i).0
     turned = ((turn_keeps n l h.0 i below).0, turn_whole l i h.1)
@@ -71,24 +88,19 @@ module _ (n : ℕ) (l : Lock) (h : IsWholeLock n l) where
     line_after = (turn_keeps n l h.0 i below).1
 
   pub outside : (x : ℕ) → x < n → has x l.line.cpus ≡ false → gets_on l x ≡ true
-  outside x below absent = p.outside n (state_of l) x h.0 below absent
+  outside x below absent = let f = fairness_of l.kind in f.outside n (state_of l) x h.0 below absent
 
   -- where one is in line, one of the first two gets on
-  pub someone_first : (x : ℕ) → get_elem? l.line.cpus 0 ≡ some x → (gets_on l x ≡ true) ⊎ ((y : ℕ) × (get_elem? l.line.cpus 1 ≡ some y) × (gets_on l y ≡ true))
-  someone_first x there = p.first n (state_of l) x h.0 there
+  pub someone_first : (x : ℕ) → get_elem? l.line.cpus 0 ≡ some x → FirstOn l.line.cpus (gets_on l) x
+  someone_first x there = let f = fairness_of l.kind in f.first n (state_of l) x h.0 there
 
-  -- where one is in line, one in line gets on
-  pub someone_in : (i : ℕ) → has i l.line.cpus ≡ true → (j : ℕ) × (has j l.line.cpus ≡ true) × (gets_on l j ≡ true)
-  someone_in i e =
-      let t = head_of l.line.cpus i e in
-      ⊎_elim
-      (λ on. (t.0, has_at l.line.cpus 0 t.0 t.1, on))
-      (λ s. (s.0, has_at l.line.cpus 1 s.0 s.1, s.2))
-      (someone_first t.0 t.1)
+  -- a CPU gets on, or one in line
+  pub someone_at : (i : ℕ) → i < n → OneOnAt l.line.cpus (gets_on l) i
+  someone_at i below = p.someone n (state_of l) i h.0 below
 
 -- a turn gets its CPU on exactly where it takes it to another place
 module _ (n : ℕ) (l : Lock) (h : IsWholeLock n l) (i : ℕ) (below : i < n) where
-  abbrev q : LockProgress (definition_of l.kind)
+  abbrev q : LockProgress (definition_of l.kind) (most_steps_of l.kind)
   q = progress_of l.kind
 
   pub on_moves : gets_on l i ≡ true → (turn l i).0.line.stage i ≢ l.line.stage i

@@ -1,5 +1,6 @@
 -- How a call of one CPU comes to its end at a lock: what is left of it, and of those ahead and the one behind, falls.
 use Rattle.std.proofs.Common.{◌≡◌, ◌≢◌, ◌⊎◌, inl, inr, ⊎_elim, ℕ, ◌+◌, ◌*◌, ◌<◌, ◌≤◌, ◌==◌, ◌||◌, Bool, true, false, true≢false, cond, ne_eqb, List, [], ◌∷◌, ◌++◌, length, length-append, refl, sym, ap, ◌∙◌, subst, arith}
+use Rattle.std.proofs.Math.Nat.{mul-le-mul_left}
 use Rattle.std.proofs.lemmas.Bool.{cases_Bool}
 use mathlib.Core.Logic.{dite}
 use mathlib.Core.Option.{some}
@@ -14,7 +15,7 @@ use Rattle.word_rule.proofs.IdleSteps.{IsWholeLock}
 use Rattle.word_rule.proofs.LineChanges.{changed, has_more, head_of, never, Joined, Left, Same}
 use Rattle.word_rule.proofs.Lists.{has_at}
 use Rattle.word_rule.proofs.LockLaws.{line_fits}
-use Rattle.word_rule.proofs.ProgressLaws.{few_left, gets_on, left_at, line_after, nearer, none_further, others_stay, outside, some_left, someone_first, stays, turned}
+use Rattle.word_rule.proofs.ProgressLaws.{few_left, gets_on, left_at, line_after, most_at, nearer, none_further, others_stay, outside, some_left, someone_first, stays, turned}
 
 has_longer : (x k : ℕ) (xs : List ℕ) → has x xs ≡ true → has x (xs ++ k ∷ []) ≡ true
 has_longer x k [] e = never e
@@ -30,7 +31,7 @@ has_else x k xs ne = ap (λ b. b || has x xs) (ne_eqb k x ne)
 -- what is left until the call of CPU i has ended: in line, of the CPUs up to i and of the one behind it; else of i, and of as
 -- many as may be ahead
 abbrev pub rank_at : ℕ → ℕ → Lock → ℕ
-rank_at n i l = cond (has i l.line.cpus) (ahead (left_at l) i l.line.cpus) (9 * n + left_at l i)
+rank_at n i l = cond (has i l.line.cpus) (ahead (most_at l) (left_at l) i l.line.cpus) (most_at l * n + left_at l i)
 
 -- CPU j gets on by its next turn, and is one of these
 pub record ReadyAt (i : ℕ) (l : Lock) (j : ℕ) : Type 0 where
@@ -39,26 +40,26 @@ pub record ReadyAt (i : ℕ) (l : Lock) (j : ℕ) : Type 0 where
   pub outside : has i l.line.cpus ≡ false → j ≡ i
 
 module _ (n i : ℕ) where
-  rank_in : (l : Lock) → has i l.line.cpus ≡ true → rank_at n i l ≡ ahead (left_at l) i l.line.cpus
-  rank_in l e = ap (λ b. cond b (ahead (left_at l) i l.line.cpus) (9 * n + left_at l i)) e
+  rank_in : (l : Lock) → has i l.line.cpus ≡ true → rank_at n i l ≡ ahead (most_at l) (left_at l) i l.line.cpus
+  rank_in l e = ap (λ b. cond b (ahead (most_at l) (left_at l) i l.line.cpus) (most_at l * n + left_at l i)) e
 
-  rank_out : (l : Lock) → has i l.line.cpus ≡ false → rank_at n i l ≡ 9 * n + left_at l i
-  rank_out l e = ap (λ b. cond b (ahead (left_at l) i l.line.cpus) (9 * n + left_at l i)) e
+  rank_out : (l : Lock) → has i l.line.cpus ≡ false → rank_at n i l ≡ most_at l * n + left_at l i
+  rank_out l e = ap (λ b. cond b (ahead (most_at l) (left_at l) i l.line.cpus) (most_at l * n + left_at l i)) e
 
   pub rank_some : (l : Lock) → 0 < rank_at n i l
   rank_some l = ⊎_elim
-      (λ e. let a = ahead_some i (left_at l) (some_left l) l.line.cpus e in let b = rank_in l e in omega (arith, a, b))
+      (λ e. let a = ahead_some (most_at l) i (left_at l) (some_left l) l.line.cpus e in let b = rank_in l e in omega (arith, a, b))
       (λ e. let a = some_left l i in let b = rank_out l e in omega (arith, a, b))
       (cases_Bool (has i l.line.cpus))
 
-  pub rank_few : (l : Lock) → IsWholeLock n l → rank_at n i l ≤ 9 * (n + 1)
+  pub rank_few : (l : Lock) → IsWholeLock n l → rank_at n i l ≤ most_at l * (n + 1)
   rank_few l h = ⊎_elim
-      (λ e. let a = ahead_few i (left_at l) (few_left l) l.line.cpus in let b = rank_in l e in let c = line_fits n l h.0 in omega (arith, a, b, c))
+      (λ e. let a = ahead_few (most_at l) i (left_at l) (few_left l) l.line.cpus in let b = rank_in l e in let c = mul-le-mul_left (most_at l) (line_fits n l h.0) in omega (arith, a, b, c))
       (λ e. let a = few_left l i in let b = rank_out l e in omega (arith, a, b))
       (cases_Bool (has i l.line.cpus))
 
-  pub rank_place : (l : Lock) (p : ℕ) → get_elem? l.line.cpus p ≡ some i → rank_at n i l ≤ 9 * (p + 2)
-  rank_place l p e = let a = ahead_place i (left_at l) (few_left l) l.line.cpus p e in let b = rank_in l (has_at l.line.cpus p i e) in omega (arith, a, b)
+  pub rank_place : (l : Lock) (p : ℕ) → get_elem? l.line.cpus p ≡ some i → rank_at n i l ≤ most_at l * (p + 2)
+  rank_place l p e = let a = ahead_place (most_at l) i (left_at l) (few_left l) l.line.cpus p e in let b = rank_in l (has_at l.line.cpus p i e) in omega (arith, a, b)
 
   -- somebody is ready: i itself, or one in line
   pub someone_ready : (l : Lock) → IsWholeLock n l → i < n → (j : ℕ) × ReadyAt i l j × ((has j l.line.cpus ≡ true) ⊎ (j ≡ i))
@@ -107,13 +108,13 @@ module _ (n i : ℕ) where
         in_line : has i old ≡ true → TurnLowers l k
         in_line e =
             let now : has i new ≡ true = ap (has i) c.0 ∙ has_longer i k old e in
-            let rank : rank_at n i l ≡ ahead f i old = rank_in l e in
-            let rank' : rank_at n i l' ≡ ahead f' i (old ++ k ∷ []) = rank_in l' now ∙ ap (ahead f' i) c.0 in
-            let push = ahead_longer i f' k (few_left l' k) old e in
-            let le = ahead_falls i f' f old (λ j _. none_further n l h k below c.1 j) in
+            let rank : rank_at n i l ≡ ahead (most_at l) f i old = rank_in l e in
+            let rank' : rank_at n i l' ≡ ahead (most_at l) f' i (old ++ k ∷ []) = rank_in l' now ∙ ap (ahead (most_at l) f' i) c.0 in
+            let push = ahead_longer (most_at l) i f' k (few_left l' k) old e in
+            let le = ahead_falls (most_at l) i f' f old (λ j _. none_further n l h k below c.1 j) in
             record {
               falls = omega (arith, rank, rank', push, le);
-              lower = λ r. let lt = ahead_sinks i f' f k old (λ j _. none_further n l h k below c.1 j) (r.inside e) (nearer n l h k below r.on c.1) in omega (arith, rank, rank', push, lt);
+              lower = λ r. let lt = ahead_sinks (most_at l) i f' f k old (λ j _. none_further n l h k below c.1 j) (r.inside e) (nearer n l h k below r.on c.1) in omega (arith, rank, rank', push, lt);
               stays = λ j j_below ne r. record { on = on_after j j_below ne r; inside = λ _. ap (λ z. among i z j) c.0 ∙ among_longer i k j old (r.inside e); outside = λ not. absurd (true≢false (sym now ∙ not)) };
             }
 
@@ -121,13 +122,14 @@ module _ (n i : ℕ) where
         itself : k ≡ i → has i old ≡ false → TurnLowers l k
         itself is e =
             let now : has i new ≡ true = ap (has i) (c.0 ∙ ap (λ z. old ++ z ∷ []) is) ∙ has_at_end old in
-            let rank : rank_at n i l ≡ 9 * n + f i = rank_out l e in
-            let rank' : rank_at n i l' ≡ ahead f' i (old ++ i ∷ []) = rank_in l' now ∙ ap (ahead f' i) (c.0 ∙ ap (λ z. old ++ z ∷ []) is) in
-            let last = ahead_last i f' (few_left l') old e in
+            let rank : rank_at n i l ≡ most_at l * n + f i = rank_out l e in
+            let rank' : rank_at n i l' ≡ ahead (most_at l) f' i (old ++ i ∷ []) = rank_in l' now ∙ ap (ahead (most_at l) f' i) (c.0 ∙ ap (λ z. old ++ z ∷ []) is) in
+            let last = ahead_last (most_at l) i f' (few_left l') old e in
             let long = ap length c.0 ∙ length-append old (k ∷ []) in
             let fits = line_fits n l' (turned n l h k below).0 in
+            let times = mul-le-mul_left {m = length old + 1} {n = n} (most_at l) (omega (arith, long, fits)) in
             let lt : f' i < f i = subst (λ z. left_at (turn l k).0 z < left_at l z) is (nearer n l h k below (outside n l h k below (ap (λ z. has z old) is ∙ e)) c.1) in
-            let less : rank_at n i l' < rank_at n i l = omega (arith, rank, rank', last, long, fits, lt) in
+            let less : rank_at n i l' < rank_at n i l = omega (arith, rank, rank', last, times, lt) in
             record {
               falls = omega (arith, less);
               lower = λ _. less;
@@ -165,9 +167,9 @@ module _ (n i : ℕ) where
 
         in_line : has i old ≡ true → TurnLowers l k
         in_line e =
-            let rank : rank_at n i l ≡ f k + ahead f i new = rank_in l e ∙ (ap (ahead f i) c.0 ∙ ahead_behind i f k ne new) in
-            let rank' : rank_at n i l' ≡ ahead f' i new = rank_in l' (sym same_there ∙ e) in
-            let le = ahead_falls i f' f new same_left in
+            let rank : rank_at n i l ≡ f k + ahead (most_at l) f i new = rank_in l e ∙ (ap (ahead (most_at l) f i) c.0 ∙ ahead_behind (most_at l) i f k ne new) in
+            let rank' : rank_at n i l' ≡ ahead (most_at l) f' i new = rank_in l' (sym same_there ∙ e) in
+            let le = ahead_falls (most_at l) i f' f new same_left in
             let some = some_left l k in
             let less : rank_at n i l' < rank_at n i l = omega (arith, rank, rank', le, some) in
             record {
@@ -204,12 +206,12 @@ module _ (n i : ℕ) where
 
         in_line : has i old ≡ true → TurnLowers l k
         in_line e =
-            let rank : rank_at n i l ≡ ahead f i old = rank_in l e in
-            let rank' : rank_at n i l' ≡ ahead f' i old = rank_in l' (ap (has i) c.0 ∙ e) ∙ ap (ahead f' i) c.0 in
-            let le = ahead_falls i f' f old (λ j _. none_further n l h k below c.1 j) in
+            let rank : rank_at n i l ≡ ahead (most_at l) f i old = rank_in l e in
+            let rank' : rank_at n i l' ≡ ahead (most_at l) f' i old = rank_in l' (ap (has i) c.0 ∙ e) ∙ ap (ahead (most_at l) f' i) c.0 in
+            let le = ahead_falls (most_at l) i f' f old (λ j _. none_further n l h k below c.1 j) in
             record {
               falls = omega (arith, rank, rank', le);
-              lower = λ r. let lt = ahead_sinks i f' f k old (λ j _. none_further n l h k below c.1 j) (r.inside e) (nearer n l h k below r.on c.1) in omega (arith, rank, rank', lt);
+              lower = λ r. let lt = ahead_sinks (most_at l) i f' f k old (λ j _. none_further n l h k below c.1 j) (r.inside e) (nearer n l h k below r.on c.1) in omega (arith, rank, rank', lt);
               stays = stays_ready;
             }
 

@@ -1,8 +1,10 @@
 -- What a step of the machine does to the script of each CPU, and to the lock of each cell.
-use Rattle.std.proofs.Common.{◌≡◌, ◌≢◌, ⊎_elim, ℕ, ◌<◌, ◌==◌, Bool, true, false, true≢false, cond, eqb, List, [], ◌∷◌, length, slice_get, Option, Some, None, refl, sym, ap, ◌∙◌, subst}
+use Rattle.std.proofs.Common.{◌≡◌, ◌≢◌, ⊎_elim, ℕ, ◌<◌, ◌==◌, Bool, true, false, true≢false, cond, eqb, List, [], ◌∷◌, length, slice_get, Option, Some, None, refl, sym, ap, ◌∙◌, subst, arith}
 use Rattle.std.proofs.Math.ListN.{set}
 use Rattle.std.proofs.lemmas.Bool.{cases_Bool, eqb-true, eqb-false, false_from_ne_true}
 use Rattle.std.proofs.lemmas.Option.{slice_get_within}
+use mathlib.Core.Logic.{dite}
+use native.Mathlib.Decide.{ℕ_discrete}
 use Rattle.event_log.specs.declared.object.SeqObject.{Ghosts}
 use Rattle.event_log.specs.declared.entry.Todo.{Todo}
 use Rattle.word_rule.specs.declared.machine.step_done.StepDone.{StepDone}
@@ -11,6 +13,7 @@ use Rattle.word_rule.specs.Locks.{turn}
 use Rattle.word_rule.specs.StepKinds.{ends_hold}
 use Rattle.word_rule.specs.Replay.{entries_left}
 use Rattle.word_rule.specs.Machine.Orders.{first_cell, works_on, is_that, is_at}
+use Rattle.word_rule.specs.Machine.Rounds.{cell_steps, entry_steps}
 use Rattle.word_rule.specs.Machine.World.{World, CellState, CpuState, counted, finished, left, outcome, cpu_after, cell_after, world_after, step, step_by, step_of, step_on}
 use Rattle.word_rule.proofs.LineChanges.{never}
 use Rattle.sound_run.proofs.Slices.{get_set_same, get_set_other, one_of}
@@ -105,6 +108,38 @@ module _ {O P C R : Type 0} (meaning : Ghosts O P C R) where
       by_cpu : (o : Option (CpuState O P C R)) → slice_get w.cpus k ≡ o → StepsCpus w k (step_by meaning w k o)
       by_cpu None at = idle_cpus w k
       by_cpu (Some cpu) at = by_todo cpu at cpu.todo
+
+  -- a step changes no cell's lock for one of another kind
+  pub cell_steps_stay : (w : World O P C R) (k x : ℕ) → cell_steps (slice_get (step meaning w k).0.cells x) ≡ cell_steps (slice_get w.cells x)
+  cell_steps_stay w k x = by_cpu (slice_get w.cpus k)
+    where
+      Same : World O P C R × StepDone → Type 0
+      Same r = cell_steps (slice_get r.0.cells x) ≡ cell_steps (slice_get w.cells x)
+
+      moved : (cpu : CpuState O P C R) (todo : Todo O P C R) (b : CellState O P C R) → slice_get w.cells todo.object ≡ Some b → Same (world_after meaning w k b cpu todo (turn b.lock k), (turn b.lock k).1)
+      moved cpu todo b at = dite (ℕ_discrete x todo.object)
+          (λ is. subst (λ y. cell_steps (slice_get (set w.cells todo.object new) y) ≡ cell_steps (slice_get w.cells y)) (sym is)
+          (ap (λ (o : Option (CellState O P C R)). cell_steps o) (get_set_same w.cells todo.object new b at) ∙ sym (ap (λ (o : Option (CellState O P C R)). cell_steps o) at)))
+          (λ ne. ap (λ (o : Option (CellState O P C R)). cell_steps o) (get_set_other w.cells todo.object x new (λ is. ne (sym is))))
+        where
+          new : CellState O P C R
+          new = cell_after meaning b k todo (turn b.lock k)
+
+      by_cell : (cpu : CpuState O P C R) (todo : Todo O P C R) (o : Option (CellState O P C R)) → slice_get w.cells todo.object ≡ o → Same (step_on meaning w k cpu todo o)
+      by_cell cpu todo None e = refl
+      by_cell cpu todo (Some b) e = moved cpu todo b e
+
+      by_todo : (cpu : CpuState O P C R) (todos : List (Todo O P C R)) → Same (step_of meaning w k cpu todos)
+      by_todo cpu [] = refl
+      by_todo cpu (todo ∷ more) = by_cell cpu todo (slice_get w.cells todo.object) refl
+
+      by_cpu : (o : Option (CpuState O P C R)) → Same (step_by meaning w k o)
+      by_cpu None = refl
+      by_cpu (Some cpu) = by_todo cpu cpu.todo
+
+  pub entry_steps_stay : (w : World O P C R) (k : ℕ) (todos : List (Todo O P C R)) → entry_steps (step meaning w k).0.cells todos ≡ entry_steps w.cells todos
+  entry_steps_stay w k [] = refl
+  entry_steps_stay w k (todo ∷ more) = let a = cell_steps_stay w k todo.object in let b = entry_steps_stay w k more in omega (arith, a, b)
 
   pub cell_stepped : (w : World O P C R) (k x : ℕ) (c : CellState O P C R) → slice_get w.cells x ≡ Some c → StepsCell w k x c (step meaning w k)
   cell_stepped w k x c there = by_cpu (slice_get w.cpus k) refl

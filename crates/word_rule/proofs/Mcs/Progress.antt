@@ -8,6 +8,7 @@ use native.Mathlib.Decide.{ℕ_discrete}
 use lib.ListN.{get_elem?}
 use Rattle.event_log.specs.Distinct.{has}
 use Rattle.word_rule.specs.declared.machine.step_done.StepDone.{StepDone}
+use Rattle.sound_run.specs.declared.lock_kind.LockKind.TheVariants as kinds
 use Rattle.word_rule.specs.declared.lock_kind.Stage.{Stage}
 use Rattle.word_rule.specs.declared.lock_kind.Stage.TheVariants.{Idle, Mcs, Trying}
 use Rattle.word_rule.specs.declared.lock_kind.McsStage.TheVariants.{Ready, Behind, Armed, Waiting, Holding, Alone, Leaving, Passing}
@@ -18,11 +19,12 @@ use Rattle.word_rule.specs.Mcs.Acquire.{enter}
 use Rattle.word_rule.specs.Mcs.Definition.{mcs_lock, mcs_turn}
 use Rattle.word_rule.specs.Mcs.Release.{see}
 use Rattle.word_rule.specs.Mcs.State.{McsLock, follower, if_linked, is_linked}
+use Rattle.word_rule.specs.Machine.Rounds.{most_steps_of}
 use Rattle.word_rule.specs.StepKinds.{ends_hold}
 use Rattle.word_rule.proofs.LineChanges.{never, changed, first_stays, Joined, Left, Same}
 use Rattle.word_rule.proofs.Lists.{at_first, first_at, has_at, two_are}
 use Rattle.word_rule.proofs.LockInterface.{is_trying}
-use Rattle.word_rule.proofs.LockProgress.{LockProgress}
+use Rattle.word_rule.proofs.LockProgress.{FirstOn, LockFairness, LockProgress, one_on}
 use Rattle.word_rule.proofs.LockStates.{in_cell, stands_at}
 use Rattle.word_rule.proofs.Mcs.Laws.{Looked, Emptied, mcs_laws}
 use Rattle.word_rule.proofs.Mcs.States as queue
@@ -51,7 +53,7 @@ some_left (Mcs Alone) = omega arith
 some_left (Mcs Leaving) = omega arith
 some_left q = omega arith
 
-few_left : (q : Stage) → left q ≤ 9
+few_left : (q : Stage) → left q ≤ most_steps_of kinds.Mcs
 few_left Idle = omega arith
 few_left (Mcs Ready) = omega arith
 few_left (Mcs (Behind p)) = omega arith
@@ -268,7 +270,17 @@ module _ (n : ℕ) (l : McsLock) (x : ℕ) (h : IsState mcs_lock n l) (there : g
       (cases_Bool (linked_at l.line (second l.line.cpus)))
   first_by q e = inl refl
 
-pub mcs_progress : LockProgress mcs_lock
+module _ (n : ℕ) (l : McsLock) (h : IsState mcs_lock n l) where
+  stays : (i j : ℕ) → i < n → j < n → j ≢ i → on_at l.line j (l.line.stage j) ≡ true → on_at (mcs_lock.turn l i).0.line j ((mcs_lock.turn l i).0.line.stage j) ≡ true
+  stays i j below j_below ne on = subst (λ q. on_at (mcs_lock.turn l i).0.line j q ≡ true) (sym (others_by l i j ne (l.line.stage i))) (stays_by n l i h below j j_below ne (l.line.stage j) refl on)
+
+  outside : (x : ℕ) → x < n → has x l.line.cpus ≡ false → on_at l.line x (l.line.stage x) ≡ true
+  outside x below absent = outside_by n l x h below (l.line.stage x) refl absent
+
+  first : (x : ℕ) → get_elem? l.line.cpus 0 ≡ some x → FirstOn l.line.cpus (λ j. on_at l.line j (l.line.stage j)) x
+  first x there = first_by n l x h there (l.line.stage x) refl
+
+pub mcs_progress : LockProgress mcs_lock (most_steps_of kinds.Mcs)
 mcs_progress = record {
   left = left;
   some_left = some_left;
@@ -278,7 +290,14 @@ mcs_progress = record {
   nearer = λ n l i h below not on unended. nearer_by n l i h below (l.line.stage i) refl not on unended;
   in_vain = λ l i off. in_vain_by l i (l.line.stage i) refl off;
   ended = λ l i e. ended_by l i (l.line.stage i) e;
-  stays = λ n l i j h below j_below ne on. subst (λ q. on_at (mcs_lock.turn l i).0.line j q ≡ true) (sym (others_by l i j ne (l.line.stage i))) (stays_by n l i h below j j_below ne (l.line.stage j) refl on);
-  outside = λ n l x h below absent. outside_by n l x h below (l.line.stage x) refl absent;
-  first = λ n l x h there. first_by n l x h there (l.line.stage x) refl;
+  stays_or = λ n l i j h below j_below ne on. inl (stays n l h i j below j_below ne on);
+  someone = λ n l i h below. one_on l.line.cpus (λ j. on_at l.line j (l.line.stage j)) i (outside n l h i below) (first n l h);
+}
+
+pub mcs_fairness : LockFairness mcs_lock (most_steps_of kinds.Mcs) mcs_progress
+unfolding mcs_progress
+mcs_fairness = record {
+  stays = λ n l i j h below j_below ne on. stays n l h i j below j_below ne on;
+  outside = λ n l x h below absent. outside n l h x below absent;
+  first = λ n l x h there. first n l h x there;
 }

@@ -3,18 +3,20 @@ use Rattle.std.proofs.Common.{◌≡◌, ◌≢◌, inl, ℕ, ◌+◌, ◌%◌, 
 use mathlib.Core.Option.{some}
 use lib.ListN.{get_elem?}
 use Rattle.event_log.specs.Distinct.{has}
+use Rattle.sound_run.specs.declared.lock_kind.LockKind.TheVariants as kinds
 use Rattle.word_rule.specs.declared.lock_kind.Stage.{Stage}
 use Rattle.word_rule.specs.declared.lock_kind.Stage.TheVariants.{Idle, Ticket}
 use Rattle.word_rule.specs.declared.lock_kind.TicketStage.TheVariants.{Drawn, Served}
 use Rattle.word_rule.specs.Line.{Line, is_first}
 use Rattle.word_rule.specs.LockDefinition.{IsState}
 use Rattle.word_rule.specs.Locks.{holding}
+use Rattle.word_rule.specs.Machine.Rounds.{most_steps_of}
 use Rattle.word_rule.specs.StepKinds.{ends_hold}
 use Rattle.word_rule.specs.Ticket.Definition.{ticket_lock, ticket_turn}
 use Rattle.word_rule.specs.Ticket.State.{TicketLock, tickets}
 use Rattle.word_rule.proofs.LineChanges.{never, first_stays}
 use Rattle.word_rule.proofs.Lists.{at_first, has_at}
-use Rattle.word_rule.proofs.LockProgress.{LockProgress}
+use Rattle.word_rule.proofs.LockProgress.{FirstOn, LockFairness, LockProgress, one_on}
 use Rattle.word_rule.proofs.LockStates.{stands_at}
 use Rattle.word_rule.proofs.Moves.{moved_same, moved_else}
 use Rattle.word_rule.proofs.Ticket.Laws.{Looked, ticket_laws}
@@ -31,7 +33,7 @@ some_left Idle = omega arith
 some_left (Ticket (Drawn t)) = omega arith
 some_left q = omega arith
 
-few_left : (q : Stage) → left q ≤ 9
+few_left : (q : Stage) → left q ≤ most_steps_of kinds.Ticket
 few_left Idle = omega arith
 few_left (Ticket (Drawn t)) = omega arith
 few_left q = omega arith
@@ -95,7 +97,17 @@ first_by : (l : TicketLock) (x : ℕ) → get_elem? l.line.cpus 0 ≡ some x →
 first_by l x there (Ticket (Drawn t)) = at_first x l.line.cpus there
 first_by l x there q = refl
 
-pub ticket_progress : LockProgress ticket_lock
+module _ (n : ℕ) (l : TicketLock) (h : IsState ticket_lock n l) where
+  stays : (i j : ℕ) → i < n → j ≢ i → on_at l.line j (l.line.stage j) ≡ true → on_at (ticket_lock.turn l i).0.line j ((ticket_lock.turn l i).0.line.stage j) ≡ true
+  stays i j below ne on = subst (λ q. on_at (ticket_lock.turn l i).0.line j q ≡ true) (sym (others_by l i j ne (l.line.stage i))) (stays_by n l i h below j ne (l.line.stage j) on)
+
+  outside : (x : ℕ) → x < n → has x l.line.cpus ≡ false → on_at l.line x (l.line.stage x) ≡ true
+  outside x below absent = outside_by n l x h below (l.line.stage x) refl absent
+
+  first : (x : ℕ) → get_elem? l.line.cpus 0 ≡ some x → FirstOn l.line.cpus (λ j. on_at l.line j (l.line.stage j)) x
+  first x there = inl (first_by l x there (l.line.stage x))
+
+pub ticket_progress : LockProgress ticket_lock (most_steps_of kinds.Ticket)
 ticket_progress = record {
   left = left;
   some_left = some_left;
@@ -105,7 +117,14 @@ ticket_progress = record {
   nearer = λ n l i h below not on unended. nearer_by n l i h below (l.line.stage i) refl on unended;
   in_vain = λ l i off. in_vain_by l i (l.line.stage i) off;
   ended = λ l i e. ended_by l i (l.line.stage i) e;
-  stays = λ n l i j h below _ ne on. subst (λ q. on_at (ticket_lock.turn l i).0.line j q ≡ true) (sym (others_by l i j ne (l.line.stage i))) (stays_by n l i h below j ne (l.line.stage j) on);
-  outside = λ n l x h below absent. outside_by n l x h below (l.line.stage x) refl absent;
-  first = λ n l x h there. inl (first_by l x there (l.line.stage x));
+  stays_or = λ n l i j h below _ ne on. inl (stays n l h i j below ne on);
+  someone = λ n l i h below. one_on l.line.cpus (λ j. on_at l.line j (l.line.stage j)) i (outside n l h i below) (first n l h);
+}
+
+pub ticket_fairness : LockFairness ticket_lock (most_steps_of kinds.Ticket) ticket_progress
+unfolding ticket_progress
+ticket_fairness = record {
+  stays = λ n l i j h below _ ne on. stays n l h i j below ne on;
+  outside = λ n l x h below absent. outside n l h x below absent;
+  first = λ n l x h there. first n l h x there;
 }

@@ -1,7 +1,10 @@
 -- Rounds of a schedule, and which steps get a CPU on.
-use Rattle.std.specs.Prelude.{◌≡◌, ◌≢◌, ℕ, zero, suc, ◌+◌, ◌<◌, true, List, [], ◌∷◌, ◌++◌, length, Some, slice_get}
+use Rattle.std.specs.Prelude.{◌≡◌, ◌≢◌, ℕ, zero, suc, ◌+◌, ◌<◌, true, List, [], ◌∷◌, ◌++◌, length, Option, Some, None, slice_get}
 use Rattle.std.specs.List.{AllByRecursion}
+use Rattle.event_log.specs.declared.entry.Todo.{Todo}
 use Rattle.event_log.specs.Distinct.{has}
+use Rattle.sound_run.specs.declared.lock_kind.LockKind.{LockKind}
+use Rattle.sound_run.specs.declared.lock_kind.LockKind.TheVariants as kinds
 use Rattle.word_rule.specs.Locks.{turn}
 use Rattle.word_rule.specs.Machine.Orders.{is_at}
 use Rattle.sound_run.specs.Orders.{numbers}
@@ -21,8 +24,12 @@ abbrev pub go_round : ℕ → ℕ → List ℕ
 go_round n zero = []
 go_round n (suc k) = numbers 0 n ++ go_round n k
 
--- the steps of a call that get its CPU on: no more with either lock. At an MCS lock these are a clear, an enter, an arm, a link,
--- a look, a see, an empty, a see and a pass
+-- the most steps of a call that get its CPU on, at a lock of that kind
+abbrev pub most_steps_of : LockKind → ℕ
+most_steps_of kinds.Ticket = 3
+most_steps_of kinds.Mcs = 9
+
+-- the most of them at any lock
 abbrev pub most_steps : ℕ
 most_steps = 9
 
@@ -31,6 +38,25 @@ module _ {O P C R : Type 0} where
   abbrev pub entries_to_do : List (CpuState O P C R) → ℕ
   entries_to_do [] = 0
   entries_to_do (c ∷ cs) = length c.todo + entries_to_do cs
+
+  -- the most steps that get a CPU on, in a call on this cell
+  abbrev pub cell_steps : Option (CellState O P C R) → ℕ
+  cell_steps None = 0
+  cell_steps (Some c) = most_steps_of c.lock.kind
+
+  -- the same in all of these entries, each on its cell
+  abbrev pub entry_steps : List (CellState O P C R) → List (Todo O P C R) → ℕ
+  entry_steps cells [] = 0
+  entry_steps cells (todo ∷ more) = cell_steps (slice_get cells todo.object) + entry_steps cells more
+
+  -- the same in all entries that these CPUs have left
+  abbrev pub cpu_steps : List (CellState O P C R) → List (CpuState O P C R) → ℕ
+  cpu_steps cells [] = 0
+  cpu_steps cells (c ∷ cs) = entry_steps cells c.todo + cpu_steps cells cs
+
+  -- the same in all entries that a world has left
+  abbrev pub steps_to_do : World O P C R → ℕ
+  steps_to_do w = cpu_steps w.cells w.cpus
 
   -- every script is done
   abbrev pub AllDone : World O P C R → Type 0

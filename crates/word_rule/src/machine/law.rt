@@ -8,7 +8,7 @@ ghost use Rattle.word_rule.specs.declared.machine.step_done.StepDone.TheVariants
 ghost use Rattle.word_rule.specs.Locks.{holding};
 ghost use Rattle.word_rule.specs.Machine.Opening.{IsOpening};
 ghost use Rattle.word_rule.specs.Machine.Orders.{is_at, arrivals, endings, arrives_at, ends_within, ended};
-ghost use Rattle.word_rule.specs.Machine.Rounds.{HasRounds, AllDone, GetsOn, entries_to_do, go_round, most_steps};
+ghost use Rattle.word_rule.specs.Machine.Rounds.{HasRounds, AllDone, GetsOn, entries_to_do, go_round, most_steps, most_steps_of, steps_to_do};
 ghost use Rattle.sound_run.specs.Orders.{IsOrder};
 ghost use Rattle.sound_run.specs.Sound.{Sound};
 ghost use Rattle.word_rule.specs.StepKinds.{arrives};
@@ -67,9 +67,12 @@ pub fn someone_gets_on<O: SeqObject>()
         GetsOn (run O.SeqObject schedule w) i → GetsOn (step O.SeqObject (run O.SeqObject schedule w) j).0 i }
 {}
 
-/// Every fair schedule finishes. From every world on, after 9 rounds for each entry that is left, every script is done; a round is a
-/// stretch of the schedule that names each CPU. Those of a schedule that goes round are rounds.
+/// Every fair schedule finishes. From every world on, after 3 rounds for each entry that is left at a ticket lock, and 9 for each at an
+/// MCS lock, every script is done. So it is after 9 for each entry. A round is a stretch of the schedule that names each CPU. Those
+/// of a schedule that goes round are rounds.
 pub fn scripts_end<O: SeqObject>()
+    ensures steps { (w : World O O.Params O.Call O.Reply) → IsOpening w → (schedule more : List ℕ) →
+        HasRounds (length w.cpus) (steps_to_do (run O.SeqObject schedule w)) more → AllDone (run O.SeqObject more (run O.SeqObject schedule w)) }
     ensures ends { (w : World O O.Params O.Call O.Reply) → IsOpening w → (schedule more : List ℕ) →
         HasRounds (length w.cpus) (most_steps * entries_to_do (run O.SeqObject schedule w).cpus) more →
         AllDone (run O.SeqObject more (run O.SeqObject schedule w)) }
@@ -77,13 +80,18 @@ pub fn scripts_end<O: SeqObject>()
 {}
 
 /// Every call ends, whatever the others still have to do. An entry that a CPU is doing, or would begin next, ends within 9 rounds for
-/// each CPU and 9 more; that of a CPU in line within 9 rounds for each CPU ahead, and 18 more.
+/// each CPU and 9 more. At a ticket lock 3 are enough in place of 9. The entry of a CPU in line ends within so many rounds for each CPU
+/// ahead, and twice so many more.
 pub fn calls_end<O: SeqObject>()
     ensures ends { (w : World O O.Params O.Call O.Reply) → IsOpening w → (schedule more : List ℕ) (i x : ℕ) →
         is_at (run O.SeqObject schedule w) i x ≡ true → HasRounds (length w.cpus) (most_steps * (length w.cpus + 1)) more →
         ends_within O.SeqObject i x more (run O.SeqObject schedule w) ≡ true }
+    ensures at_cell { (w : World O O.Params O.Call O.Reply) → IsOpening w → (schedule more : List ℕ) (i x : ℕ) (c : CellState O O.Params O.Call O.Reply) →
+        slice_get (run O.SeqObject schedule w).cells x ≡ Some c → is_at (run O.SeqObject schedule w) i x ≡ true →
+        HasRounds (length w.cpus) (most_steps_of c.lock.kind * (length w.cpus + 1)) more →
+        ends_within O.SeqObject i x more (run O.SeqObject schedule w) ≡ true }
     ensures in_line { (w : World O O.Params O.Call O.Reply) → IsOpening w → (schedule more : List ℕ) (i x place : ℕ) (c : CellState O O.Params O.Call O.Reply) →
         slice_get (run O.SeqObject schedule w).cells x ≡ Some c → get_elem? c.lock.line.cpus place ≡ some i →
-        HasRounds (length w.cpus) (most_steps * (place + 2)) more →
+        HasRounds (length w.cpus) (most_steps_of c.lock.kind * (place + 2)) more →
         ends_within O.SeqObject i x more (run O.SeqObject schedule w) ≡ true }
 {}
