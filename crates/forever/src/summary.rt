@@ -23,6 +23,7 @@ impl Summary {
         ensures done { result.done ≡ called.first + called.second }
         ensures refused { result.refused ≡ 2 * called.count - (called.first + called.second) }
         ensures events { MOST_EVENTS < called.queue.limit → result.events ≡ 0 }
+        ensures left { length called.queue.log < called.queue.limit → result.left ≡ length called.queue.state.list }
     {
         let Called {
             mut queue,
