@@ -17,6 +17,7 @@ const NAP: u64 = 100;
 
 // How long one stays outside alone, and how much longer for each other one outside, in microseconds.
 const STAY: u64 = 1000;
+
 const STAY_LONGER: u64 = 250;
 
 // One that stays outside, in the word that counts those who nap in line too.
