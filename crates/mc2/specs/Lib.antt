@@ -1,4 +1,0 @@
-pub mod Answers
-pub mod BadInputs
-pub mod Faults
-pub mod Printed

@@ -1,0 +1,160 @@
+-- What the program prints by the words: the record of a run or of a simulation, a record that was read, and its report,
+-- verdict or order.
+use Rattle.std.specs.Prelude.{◌≡◌, ◌⊎◌, ℕ, List, Option, Some, None, String}
+use Rattle.std.specs.Borrow.{Bor}
+use Rattle.std.specs.Global.{Global}
+use Rattle.std.specs.Io.KnownBytes.{Appends}
+use Rattle.auditor.specs.declared.fault.Fault.{Fault}
+use Rattle.auditor.specs.declared.fault.Verdict.{Verdict}
+use Rattle.auditor.specs.declared.fault.Verdict.TheVariants as verdicts
+use Rattle.auditor.specs.Audits.{IsVerdict}
+use Rattle.auditor.specs.Faults.{IsFirstFault}
+use Rattle.auditor.specs.VerdictText.{fault_text, verdict_text}
+use Rattle.cpu_worker.specs.Report.{report_text}
+use Rattle.cpu_worker.specs.Simulation.{simulated}
+use Rattle.sound_run.specs.declared.place.Place.{Place}
+use Rattle.log_merge.specs.CycleText.{cycle_text}
+use Rattle.log_merge.specs.MergedRecords.{IsMerged, HasCycle}
+use Rattle.log_merge.specs.MergedText.{merged_text}
+use Rattle.sound_run.specs.Orders.{HasOrder}
+use Rattle.sound_run.specs.Sound.{Sound}
+use Rattle.program.specs.Inputs.{bytes_of, Reads}
+use Rattle.scripts.specs.contracts.objects.kernel_object.KernelObjectSeqObject.TheImpl.{ghosts as kernel}
+use Rattle.scripts.specs.KernelTypes.{KernelTodo}
+use Rattle.scripts.specs.Output.{AppendsBeginning}
+use Rattle.scripts.specs.RecordFaults.{IsWhole, text_of}
+use Rattle.scripts.specs.RecordRanges.{Record}
+use Rattle.scripts.specs.Runs.{opened_of, AsksFor}
+use Rattle.scripts.specs.ScheduleText.{IsSchedule}
+use Rattle.scripts.specs.ScriptText.{AreScripts}
+use Rattle.scripts.specs.Settings.{Settings, built_in_settings}
+use Rattle.scripts.specs.SettingsText.{SpellsSettings}
+use Rattle.mc2_command.specs.declared.arguments.Arguments.{Arguments}
+use Rattle.mc2_command.specs.declared.arguments.Arguments.TheVariants as forms
+use Rattle.mc2_command.specs.Asked.{AskedBy}
+
+-- a sound run of the scripts that the text spells, each CPU's whole
+pub record IsRunOf (settings : Settings) (text : List ℕ) (r : Record) : Type 0 where
+  pub under : r.settings ≡ settings
+  pub asked : List (List KernelTodo)
+  pub spelled : AreScripts settings text asked
+  pub asks : AsksFor asked r.run
+  pub sound : Sound kernel (opened_of settings) r.run
+
+-- the run of those scripts whose steps are done in the order of the schedule; its entries have one order
+pub record IsSimulationOf (settings : Settings) (text turns : List ℕ) (r : Record) : Type 0 where
+  pub under : r.settings ≡ settings
+  pub asked : List (List KernelTodo)
+  pub spelled : AreScripts settings text asked
+  pub steps : List ℕ
+  pub scheduled : IsSchedule settings.cpus turns steps
+  pub is : r.run ≡ simulated settings asked steps
+  pub sound : Sound kernel (opened_of settings) r.run
+  pub ordered : HasOrder r.run
+
+module _ (held : Option (List ℕ) → Option (List ℕ)) where
+  -- the settings under that name, or the built-in ones
+  abbrev pub ReadsSettings : Option (List ℕ) → Settings → Type 0
+  ReadsSettings None given = given ≡ built_in_settings
+  ReadsSettings (Some name) given = (text : List ℕ) × Reads held (Some name) text × SpellsSettings text given
+
+  -- scripts, under that name, on the objects of these settings
+  abbrev pub ReadsScripts : Option (List ℕ) → Settings → Type 0
+  ReadsScripts name given = (text : List ℕ) × Reads held name text × (asked : List (List KernelTodo)) × AreScripts given text asked
+
+  -- what `run` answers: a run of the scripts under that name, on the objects of the settings
+  pub record AnswersRun (settings scripts : Option (List ℕ)) (r : Record) : Type 0 where
+    pub given : Settings
+    pub set : ReadsSettings settings given
+    pub text : List ℕ
+    pub read : Reads held scripts text
+    pub is : IsRunOf given text r
+
+  -- what `sim` answers: the simulation of the scripts and the schedule under those names, on the objects of the settings
+  pub record AnswersSim (settings scripts schedule : List ℕ) (r : Record) : Type 0 where
+    pub given : Settings
+    pub set : ReadsSettings (Some settings) given
+    pub text : List ℕ
+    pub read : Reads held (Some scripts) text
+    pub turns : List ℕ
+    pub scheduled : Reads held (Some schedule) turns
+    pub is : IsSimulationOf given text turns r
+
+  -- the record under that name
+  pub record ReadsRecord (name : Option (List ℕ)) (of : Record) : Type 0 where
+    pub bytes : List ℕ
+    pub read : Reads held name bytes
+    pub spelled : IsWhole bytes of
+
+  -- what `report` answers: the report on the record under that name
+  pub record AnswersReport (name : Option (List ℕ)) (answer : List ℕ) : Type 0 where
+    pub of : Record
+    pub read : ReadsRecord name of
+    pub is : answer ≡ report_text of
+
+  -- what `audit` answers: the verdict on the record under that name
+  pub record AnswersAudit (name : Option (List ℕ)) (verdict : Verdict) (answer : List ℕ) : Type 0 where
+    pub of : Record
+    pub read : ReadsRecord name of
+    pub judged : IsVerdict of verdict
+    pub is : answer ≡ verdict_text of.settings verdict
+
+  -- what `merge` answers: the order of all entries of the record under that name, which is sound
+  pub record AnswersMerge (name : Option (List ℕ)) (of : Record) (places : List Place) : Type 0 where
+    pub read : ReadsRecord name of
+    pub merged : IsMerged kernel (opened_of of.settings) of.run places
+
+  -- why `merge` refuses the record under that name: this is its first fault
+  pub record RefusesUnsound (name : Option (List ℕ)) (answer : List ℕ) : Type 0 where
+    pub of : Record
+    pub read : ReadsRecord name of
+    pub fault : Fault
+    pub first : IsFirstFault kernel (opened_of of.settings) of.run fault
+    pub is : answer ≡ fault_text of.settings fault
+
+  -- or: it is sound, and this is a cycle of its entries, which excludes an order
+  pub record RefusesCycle (name : Option (List ℕ)) (answer : List ℕ) : Type 0 where
+    pub of : Record
+    pub read : ReadsRecord name of
+    pub cycle : List Place
+    pub has : HasCycle kernel (opened_of of.settings) of.run cycle
+    pub is : answer ≡ cycle_text cycle
+
+  -- the text answers those arguments
+  abbrev pub AnswersTo : Arguments → List ℕ → Type 0
+  AnswersTo (forms.Run settings scripts) text = (r : Record) × AnswersRun (bytes_of settings) (bytes_of scripts) r × (text ≡ text_of r)
+  AnswersTo (forms.Sim settings scripts schedule) text = (r : Record) × AnswersSim settings.now scripts.now schedule.now r × (text ≡ text_of r)
+  AnswersTo (forms.Report name) text = AnswersReport (bytes_of name) text
+  AnswersTo (forms.Audit name) text = AnswersAudit (bytes_of name) verdicts.Sound text
+  AnswersTo (forms.Merge name) text = (of : Record) × (places : List Place) × AnswersMerge (bytes_of name) of places × (text ≡ merged_text of places)
+  AnswersTo (forms.Upgrade name) text = (of : Record) × ReadsRecord (bytes_of name) of × (text ≡ text_of of)
+
+  -- the text answers the words, by the command that they ask for
+  pub record Answers (words : List (String Global)) (text : List ℕ) : Type 0 where
+    pub arguments : Arguments
+    pub asked : AskedBy words arguments
+    pub is : AnswersTo arguments text
+
+  -- the verdict, for which the words ask, that names the first fault of a record
+  abbrev pub Finds : List (String Global) → List ℕ → Type 0
+  Finds words text = (name : Option (Bor (List ℕ))) × AskedBy words (forms.Audit name) × (fault : Fault) × AnswersAudit (bytes_of name) (verdicts.Unsound fault) text
+
+  -- what `merge` found, which the words ask for, where it gives no order
+  abbrev pub FindsNoOrder : List (String Global) → Type 0
+  FindsNoOrder words = (name : Option (Bor (List ℕ))) × AskedBy words (forms.Merge name) × (text : List ℕ) × (RefusesUnsound (bytes_of name) text ⊎ RefusesCycle (bytes_of name) text)
+
+  -- the text goes with the words and the status: 0 for an answer, 1 where a fault was found
+  abbrev pub AnswersWith : List (String Global) → ℕ → List ℕ → Type 0
+  AnswersWith words status text = ((status ≡ 0) × Answers words text) ⊎ ((status ≡ 1) × Finds words text)
+
+-- known contents grew by such a text
+abbrev pub Prints : (List ℕ → Type 0) → Option (List ℕ) → Option (List ℕ) → Type 0
+Prints Is old new = (text : List ℕ) × Is text × Appends old new text
+
+-- known contents grew by a beginning of such a text
+abbrev pub PrintsSome : (List ℕ → Type 0) → Option (List ℕ) → Option (List ℕ) → Type 0
+PrintsSome Is old new = (text : List ℕ) × Is text × AppendsBeginning old new text
+
+-- known contents grew by a beginning of a text that goes with the words and some status
+abbrev pub PrintsAnySome : (Option (List ℕ) → Option (List ℕ)) → List (String Global) → Option (List ℕ) → Option (List ℕ) → Type 0
+PrintsAnySome held words old new = (status : ℕ) × PrintsSome (AnswersWith held words status) old new

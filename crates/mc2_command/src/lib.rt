@@ -1,0 +1,18 @@
+//! What the program `mc2` does: scripts in, the record of a run out; a record in, a report out.
+#![tactic(auto)]
+
+mod answers;
+mod arguments;
+mod commands;
+mod fault;
+mod input;
+mod law;
+#[cfg(test)]
+mod tests;
+
+pub use answers::{
+    audit_answer, merge_answer, report_answer, run_answer, sim_answer, upgrade_answer,
+};
+pub use commands::{command, refuse};
+pub use fault::Fault;
+pub use law::simulations_have_no_cycle;
