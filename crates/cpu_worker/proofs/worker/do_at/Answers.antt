@@ -1,4 +1,4 @@
-use Rattle.std.proofs.Common.{◌≡◌, ℕ, ◌+◌, ◌-◌, ◌<◌, length, get_or, ap, ◌∙◌, subst, arith}
+use Rattle.std.proofs.Common.{◌≡◌, ℕ, ◌+◌, ◌-◌, ◌<◌, length, get_or, ap, ◌∙◌, subst, arith, lit<}
 use Rattle.std.proofs.Math.ListN.{set}
 use Rattle.std.specs.List.{SwappedAt}
 use Rattle.scripts.specs.contracts.objects.kernel_object.KernelObjectSeqObject.TheImpl.{ghosts as kernel}
@@ -17,7 +17,7 @@ do_entry-pass-requires g c =
     let below : c.args.entry.now.object < length c.args.cells.now = t.on_cell in
     let within : c.args.entry.now.object < length c.args.passes.now.items = let e = a.count in omega (arith, e, below) in
     let fits = a.each c.args.entry.now.object c.index-cells-x.result p.result (read_get c.args.cells.now c.args.entry.now.object c.index-cells-x.result below c.index-cells-x.is) (read_get c.args.passes.now.items c.args.entry.now.object p.result within p.ensures.value) in
-    (fits, (t.some, t.few))
+    (lit< tt, (fits, (t.some, t.few)))
 
 -- the pass is another at its place, and nothing else is
 placed : (g : given.Over) (c : goal.After-swap g) → c.swap.new.self.items ≡ set c.args.passes.now.items c.args.entry.now.object c.do_entry-pass.result
