@@ -1,41 +1,23 @@
-//! A schedule that is drawn, and ends all scripts.
+//! Schedules that end all scripts: drawn ones, and those that go round.
 
-ghost use Rattle.std.specs.Prelude.{◌≡◌, ◌<◌, ◌≤◌, [], length, map, string_bytes, decimal, IfOk, IfSome, IfNone};
+ghost use Rattle.std.specs.Prelude.{◌≡◌, ◌<◌, ◌≤◌, [], length, map, string_bytes, decimal, Err, IfOk, IfSome, IfNone};
 ghost use Rattle.std.specs.List.{AllByRecursion};
 ghost use Rattle.sound_run.specs.declared.limits.TheConstants.{MOST_CPUS};
 ghost use Rattle.scripts.specs.Words.{text_of_lines};
 ghost use Rattle.scripts.specs.ScriptText.{ScriptsFit};
-ghost use Rattle.cpu_worker.specs.Simulation.{KernelWorld};
-ghost use Rattle.view.specs.RandomSchedule.{EndsAll};
+ghost use Rattle.cpu_worker.specs.Simulation.{KernelWorld, new_world};
+ghost use Rattle.view.specs.Drafts.{ComeSo, EndsAll, MayBeTooLong};
 ghost use Rattle.view.specs.Watching.{Watches};
 
-use crate::opening::opened;
+use crate::draft::{Draft, DraftFault};
 use crate::random::Random;
+use crate::turns::Turns;
 use crate::watched::Watched;
-use event_log::{OutOfMemory, SeqObject};
+use event_log::SeqObject;
 use scripts::{KernelObject, MOST_STEPS, Scripts, Settings};
 use sound_run::MOST_CPUS;
 use std::alloc::{AllocError, Global};
 use word_rule::StepDone;
-
-/// Why no schedule was drawn.
-#[derive(Clone, Copy, Debug, PartialEq, Eq, Drop)]
-pub enum RandomFault {
-    OutOfMemory,
-    /// After as many steps as a schedule can have some script isn't done.
-    TooLong,
-}
-
-impl From<OutOfMemory> for RandomFault {
-    ghost use Rattle.view.specs.declared.random_schedule.RandomFault.TheVariants.{OutOfMemory};
-
-    ghost from_gives = { λ _ fault. fault ≡ OutOfMemory };
-
-    fn from(fault: OutOfMemory) -> RandomFault {
-        let OutOfMemory = fault;
-        RandomFault::OutOfMemory
-    }
-}
 
 const CPUS: usize = MOST_CPUS as usize;
 
@@ -70,36 +52,45 @@ fn note(in_vain: &mut InVain, cpu: u8, done: StepDone) {
     }
 }
 
-/// Steps of CPUs that are drawn, until all scripts are done.
-pub fn random_schedule(
+/// Steps of CPUs that are drawn, until all scripts are done, or the words that are left are just enough for going round. Where
+/// they aren't enough from the start, nothing is lost by drawing.
+fn draw(draft: &mut Draft<'_>, seed: u64) -> Result<(), DraftFault>
+{
+    let mut random = Random::new(seed);
+    let last = (draft.watched.cpus() as usize).saturating_sub(1);
+    let mut in_vain = [false; CPUS];
+    for _ in 0..MOST_STEPS {
+        if draft.has_to_go_round() {
+            break;
+        }
+        let Some(cpu) = drawn(&mut random, &draft.watched, last, &in_vain) else {
+            break;
+        };
+        let done = draft.step(cpu)?;
+        note(&mut in_vain, cpu, done);
+    }
+    Ok(())
+}
+
+/// Steps until all scripts are done, which come in that way.
+pub fn made_schedule(
     alloc: Global,
     settings: &Settings,
     scripts: &Scripts,
-    seed: u64,
-) -> Result<Vec<u8>, RandomFault>
+    turns: Turns,
+) -> Result<Vec<u8>, DraftFault>
     requires { ScriptsFit settings.now.cpus (length settings.now.objects) scripts.now }
-    ensures ends { IfOk result (λ steps. EndsAll settings.now scripts.now steps.items) }
+    ensures ends { IfOk result (λ steps. EndsAll (new_world settings.now scripts.now) steps.items) }
+    ensures turns { IfOk result (λ steps. ComeSo turns (new_world settings.now scripts.now) steps.items) }
     ensures few { IfOk result (λ _. settings.now.cpus ≤ MOST_CPUS) }
+    ensures too_long { result ≡ Err DraftFault.TooLong → MayBeTooLong 0 (new_world settings.now scripts.now) }
 {
-    let mut watched = opened(alloc, settings, scripts)?;
-    let mut random = Random::new(seed);
-    let last = (settings.cpus() as usize).saturating_sub(1);
-    let mut in_vain = [false; CPUS];
-    let mut steps = Vec::new(alloc);
-    for _ in 0..MOST_STEPS + 1 {
-        let Some(cpu) = drawn(&mut random, &watched, last, &in_vain) else {
-            return Ok(steps);
-        };
-        if steps.len() == MOST_STEPS {
-            return Err(RandomFault::TooLong);
-        }
-        if steps.push(cpu).is_err() {
-            return Err(RandomFault::OutOfMemory);
-        }
-        let seen = watched.step(cpu);
-        note(&mut in_vain, cpu, seen.done);
+    let mut draft = Draft::new(alloc, settings, scripts)?;
+    if let Turns::Drawn { seed } = turns {
+        draw(&mut draft, seed)?;
     }
-    Err(RandomFault::TooLong)
+    draft.go_round()?;
+    Ok(draft.steps)
 }
 
 /// The text of a schedule, a word a line.

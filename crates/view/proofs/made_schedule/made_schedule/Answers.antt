@@ -7,7 +7,7 @@ use Rattle.word_rule.specs.Machine.World.{run}
 use Rattle.cpu_worker.specs.Simulation.{KernelWorld, new_world}
 use Rattle.view.specs.Watching.{Watches}
 use Rattle.view.proofs.StepProofs.{run_push}
-use Rattle.view.proofs.random_schedule.random_schedule.Goals as goal
+use Rattle.view.proofs.made_schedule.random_schedule.Goals as goal
 
 pub loop-preserved : goal.loop-preserved
 loop-preserved c =

@@ -5,7 +5,7 @@ use Rattle.scripts.specs.declared.schedule.TheConstants.{MOST_STEPS}
 use Rattle.word_rule.specs.Machine.World.{run}
 use Rattle.cpu_worker.specs.Simulation.{new_world}
 use Rattle.view.specs.Watching.{Watches}
-use Rattle.view.proofs.random_schedule.random_schedule.Given as goal
+use Rattle.view.proofs.made_schedule.made_schedule.Given as goal
 
 -- the machine keeps the world behind the steps so far
 abbrev pub invariant-loop : goal.invariant-loop

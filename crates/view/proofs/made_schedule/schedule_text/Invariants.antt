@@ -1,6 +1,6 @@
 use Rattle.std.proofs.Common.{◌≡◌, map, take, decimal, string_bytes}
 use Rattle.scripts.specs.Words.{text_of_lines}
-use Rattle.view.proofs.random_schedule.schedule_text.Given as goal
+use Rattle.view.proofs.made_schedule.schedule_text.Given as goal
 
 -- the lines so far
 abbrev pub invariant-loop-cpu : goal.invariant-loop-cpu
