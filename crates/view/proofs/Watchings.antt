@@ -35,6 +35,11 @@ pub both : {X E : Type 0} (P Q R : X → Type 0) (r : Result X E) → IfOk r P �
 both P Q R (Ok x) p q f = f x p q
 both P Q R (Err e) p q f = tt
 
+-- what is so whatever the result
+pub either : {X E Q : Type 0} (r : Result X E) → Q → IfOk r (λ _. Q)
+either (Ok x) q = q
+either (Err e) q = tt
+
 none_before : {X : Type 0} (test : X → Bool) (xs : List X) → length xs ≤ prefix_len (λ b. not (test b)) xs → AllByRecursion (λ b. test b ≡ false) xs
 none_before test [] h = tt
 none_before test (x ∷ xs) h =

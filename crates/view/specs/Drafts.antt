@@ -1,5 +1,5 @@
 -- What a schedule that is made does.
-use Rattle.std.specs.Prelude.{◌≡◌, ℕ, ◌+◌, ◌*◌, ◌<◌, ◌≤◌, if◌then◌else◌, List, [], ◌∷◌, ◌++◌, length}
+use Rattle.std.specs.Prelude.{◌≡◌, ◌⊎◌, ℕ, ◌+◌, ◌*◌, ◌<◌, ◌≤◌, if◌then◌else◌, List, [], ◌∷◌, ◌++◌, length}
 use Rattle.std.specs.List.{AllByRecursion}
 use Rattle.word_rule.specs.Machine.Rounds.{AllDone, entries_to_do, go_round, most_steps}
 use Rattle.word_rule.specs.Machine.World.{run, step}
@@ -43,6 +43,7 @@ ComeSo turns.Rounds w steps = (times : ℕ) × (steps ≡ rounds_of times w)
 pub record IsDraft (draft : Draft) (w : KernelWorld) : Type 0 where
   pub each : AllByRecursion (λ cpu. cpu < length w.cpus) draft.steps.items
   pub few : length draft.steps.items ≤ MOST_STEPS
+  pub cpus : length draft.watched.left ≡ length w.cpus
   pub watches : Watches kernel draft.watched (run kernel draft.steps.items w)
 
 -- the world behind the steps so far
@@ -53,3 +54,7 @@ reached draft w = run kernel draft.steps.items w
 pub record AddsRounds (times : ℕ) (old new : Draft) (w : KernelWorld) : Type 0 where
   pub draft : IsDraft new w
   pub steps : new.steps.items ≡ old.steps.items ++ rounds_of times (reached old w)
+
+-- going round from the world that is reached is sure to end all scripts in time, or it wasn't from the earlier one on
+abbrev pub IsInTime : Draft → Draft → KernelWorld → Type 0
+IsInTime old new w = MayBeTooLong (length old.steps.items) (reached old w) ⊎ (length new.steps.items + words_to_end (reached new w) ≤ MOST_STEPS)

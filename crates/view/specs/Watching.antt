@@ -7,6 +7,11 @@ use Rattle.word_rule.specs.Machine.Orders.{works_on}
 use Rattle.word_rule.specs.Machine.Shown.{MachineParts, Represents}
 use Rattle.word_rule.specs.Machine.World.{World, CellState}
 
+-- whether there is an object
+abbrev pub is_some : Option ℕ → Bool
+is_some None = false
+is_some (Some x) = true
+
 module _ {O P C R : Type 0} where
   -- the words of a cell, if there is one
   abbrev pub words_in : ℕ → Option (CellState O P C R) → List ℕ
@@ -17,11 +22,6 @@ module _ {O P C R : Type 0} where
   abbrev pub words_on : World O P C R → Option ℕ → List ℕ
   words_on w None = []
   words_on w (Some x) = words_in (length w.cpus) (slice_get w.cells x)
-
-  -- whether there is an object
-  abbrev pub is_some : Option ℕ → Bool
-  is_some None = false
-  is_some (Some x) = true
 
   -- whether the CPU has an entry left
   abbrev pub is_busy : World O P C R → ℕ → Bool

@@ -1,6 +1,6 @@
 //! A schedule that is being made, and the step machine behind its steps.
 
-ghost use Rattle.std.specs.Prelude.{◌≡◌, ◌≢◌, ◌<◌, ◌≤◌, ◌+◌, ◌∷◌, ◌++◌, true, false, [], length, IfOk, OnOk, Err};
+ghost use Rattle.std.specs.Prelude.{◌≡◌, ◌≢◌, ◌↔◌, ℕ, ◌<◌, ◌≤◌, ◌+◌, ◌∷◌, ◌++◌, true, false, [], length, IfOk, OnOk, Err};
 ghost use Rattle.scripts.specs.ScriptText.{ScriptsFit};
 ghost use Rattle.word_rule.specs.Machine.Opening.{IsOpening};
 ghost use Rattle.word_rule.specs.Machine.Rounds.{AllDone};

@@ -1,12 +1,12 @@
 //! Schedules that end all scripts: drawn ones, and those that go round.
 
-ghost use Rattle.std.specs.Prelude.{◌≡◌, ◌<◌, ◌≤◌, [], length, map, string_bytes, decimal, Err, IfOk, IfSome, IfNone};
+ghost use Rattle.std.specs.Prelude.{◌≡◌, ◌<◌, ◌≤◌, [], length, map, string_bytes, decimal, Err, OnOk, IfOk, IfSome, IfNone};
 ghost use Rattle.std.specs.List.{AllByRecursion};
 ghost use Rattle.sound_run.specs.declared.limits.TheConstants.{MOST_CPUS};
 ghost use Rattle.scripts.specs.Words.{text_of_lines};
 ghost use Rattle.scripts.specs.ScriptText.{ScriptsFit};
 ghost use Rattle.cpu_worker.specs.Simulation.{KernelWorld, new_world};
-ghost use Rattle.view.specs.Drafts.{ComeSo, EndsAll, MayBeTooLong};
+ghost use Rattle.view.specs.Drafts.{ComeSo, EndsAll, IsDraft, IsInTime, MayBeTooLong, reached};
 ghost use Rattle.view.specs.Watching.{Watches};
 
 use crate::draft::{Draft, DraftFault};
@@ -53,9 +53,15 @@ fn note(in_vain: &mut InVain, cpu: u8, done: StepDone) {
 }
 
 /// Steps of CPUs that are drawn, until all scripts are done, or the words that are left are just enough for going round. Where
-/// they aren't enough from the start, nothing is lost by drawing.
-fn draw(draft: &mut Draft<'_>, seed: u64) -> Result<(), DraftFault>
+/// they aren't from the start, nothing is lost by drawing. For rounds no step is drawn.
+fn draw(draft: &mut Draft<'_>, turns: Turns) -> Result<(), DraftFault>
+    ensures draft { OnOk result ((w : KernelWorld) → IsDraft draft.old w → IsDraft draft.new w × IsInTime draft.old draft.new w) }
+    ensures rounds { OnOk result (turns ≡ Turns.Rounds → draft.new ≡ draft.old) }
+    ensures too_long { result ≡ Err DraftFault.TooLong → (w : KernelWorld) → IsDraft draft.old w → MayBeTooLong (length draft.old.steps.items) (reached draft.old w) }
 {
+    let Turns::Drawn { seed } = turns else {
+        return Ok(());
+    };
     let mut random = Random::new(seed);
     let last = (draft.watched.cpus() as usize).saturating_sub(1);
     let mut in_vain = [false; CPUS];
@@ -86,9 +92,7 @@ pub fn made_schedule(
     ensures too_long { result ≡ Err DraftFault.TooLong → MayBeTooLong 0 (new_world settings.now scripts.now) }
 {
     let mut draft = Draft::new(alloc, settings, scripts)?;
-    if let Turns::Drawn { seed } = turns {
-        draw(&mut draft, seed)?;
-    }
+    draw(&mut draft, turns)?;
     draft.go_round()?;
     Ok(draft.steps)
 }

@@ -80,6 +80,6 @@ fn every_script_of_64_cpus_ends(rt: HostRuntime) -> Result<(), Fail> {
 fn rounds_leave_out_who_is_done(rt: HostRuntime) -> Result<(), Fail> {
     let (status, out, faults) = answer(&rt, "schedule --settings ticket uneven --rounds", "")?;
     assert!(rt; status == 0 && faults.is_empty());
-    assert!(rt; out.as_str() == "0\n1\n0\n1\n0\n1\n0\n0\n0\n", "{out}");
+    assert!(rt; out.as_str() == "0\n1\n0\n1\n0\n1\n0\n1\n0\n0\n", "{out}");
     Ok(())
 }
