@@ -1,8 +1,7 @@
 -- Going round: steps of CPUs that have nothing left, and how many entries are left.
 use Rattle.std.proofs.Common.{◌≡◌, ◌≢◌, ◌⊎◌, inl, inr, ⊎_elim, ℕ, zero, suc, ◌+◌, ◌*◌, ◌-◌, ◌^◌, ◌<◌, ◌≤◌, min, not, ◌==◌, Bool, true, false, cond, List, [], ◌∷◌, ◌++◌, map, length, length-append, length-set, get_or, take, slice_get, Option, Some, None, refl, sym, ap, ◌∙◌, subst, arith, append_assoc}
-use Rattle.std.proofs.lemmas.Bool.{cases_lt}
 use Rattle.std.proofs.lemmas.List.{append-nil, length-map, map-append, take_more}
-use Rattle.std.proofs.Math.Nat.{suc-mul, mul-suc, mul-le-mul_left}
+use Rattle.std.proofs.Math.Nat.{mul-suc, mul-le-mul_left}
 use Rattle.std.proofs.Math.ListN.{set}
 use Rattle.std.specs.List.{AllByRecursion}
 use Rattle.event_log.specs.declared.object.SeqObject.{Ghosts}
@@ -137,10 +136,6 @@ pub record HasGone (old now : Draft) (k : ℕ) : Type 0 where
 pub watched_cpus : (draft : Draft) (w : KernelWorld) → IsDraft draft w → length (reached draft w).cpus ≡ length draft.watched.left
 watched_cpus draft w d = sym (length-map (reached draft w).cpus (λ c. c.todo)) ∙ sym (ap length d.watches.left)
 
--- no round is added
-pub none_gone : (old : Draft) → HasGone old old 0
-none_gone old = record { goes = λ w d. record { draft = d; steps = sym (append-nil old.steps.items) }; few = omega arith; cpus = refl }
-
 -- what is reached by rounds
 pub gone : (old now : Draft) (k : ℕ) (w : KernelWorld) → AddsRounds k old now w → reached now w ≡ run kernel (go_round (length (reached old w).cpus) k) (reached old w)
 gone old now k w a =
@@ -180,6 +175,9 @@ module _ (old now new : Draft) (k : ℕ) (so_far : HasGone old now k) (round : (
     cpus = cpus ∙ so_far.cpus;
   }
 
+pub unlike : (b : Bool) → b ≡ true → b ≡ false → ⊥
+unlike b t f = cc
+
 -- ---- how many entries are left
 
 module _ {X : Type 0} where
@@ -213,11 +211,6 @@ module _ {O P C R : Type 0} where
   rest_shorter [] = omega arith
   rest_shorter (t ∷ l) = omega arith
 
-  -- where there is no CPU, nothing is left
-  pub none_of_none : (cpus : List (CpuState O P C R)) → length cpus ≡ 0 → entries_to_do cpus ≡ 0
-  none_of_none [] e = refl
-  none_of_none (c ∷ cpus) e = absurd (omega (arith, e))
-
   module _ (meaning : Ghosts O P C R) (w : World O P C R) (i : ℕ) (below : i < length w.cpus) where
     script : (l : List (Todo O P C R)) × (slice_get (todos w) i ≡ Some l)
     script = some_at (todos w) i (omega (arith, below, length-map w.cpus (λ c. c.todo)))
@@ -244,38 +237,7 @@ module _ {O P C R : Type 0} where
     pub cpus_stay : length (step meaning w i).0.cpus ≡ length w.cpus
     cpus_stay = sym (length-map (step meaning w i).0.cpus (λ c. c.todo)) ∙ (after.1 ∙ length-map w.cpus (λ c. c.todo))
 
--- ---- words that may be wanted
-
-positive : (n : ℕ) → (n ≡ 0 → ⊥) → 0 < n
-positive zero none = absurd (none refl)
-positive (suc n) none = omega arith
-
-times_some : (n m : ℕ) → 0 < n → m ≤ n * m
-times_some zero m some = absurd (omega (arith, some))
-times_some (suc n) m some = let e = suc-mul n m in omega (arith, e)
-
-abbrev most : ℕ
-most = 2 ^ 64 - 1
-
--- where numbers that stay at the most come to so many, they are the numbers
-pub just_enough : (n e words entries rounds product sum : ℕ) → (n ≡ 0 → e ≡ 0) → entries ≡ min e most → rounds ≡ min (9 * entries) most → product ≡ min (n * rounds) most → sum ≡ min (words + product) most
-    → (sum ≡ 100000 → words + n * (9 * e) ≡ 100000) × (words + n * (9 * e) ≡ 100000 → sum ≡ 100000)
-just_enough n e words entries rounds product sum none a b c d = ⊎_elim large small (cases_lt most (9 * e))
-  where
-    small : 9 * e ≤ most → (sum ≡ 100000 → words + n * (9 * e) ≡ 100000) × (words + n * (9 * e) ≡ 100000 → sum ≡ 100000)
-    small le =
-        let exact : rounds ≡ 9 * e = omega (arith, le, a, b) in
-        let same : n * rounds ≡ n * (9 * e) = ap (λ k. n * k) exact in
-        ((λ is. omega (arith, same, is, c, d)), λ is. omega (arith, same, is, c, d))
-
-    large : most < 9 * e → (sum ≡ 100000 → words + n * (9 * e) ≡ 100000) × (words + n * (9 * e) ≡ 100000 → sum ≡ 100000)
-    large lt =
-        let at_most : rounds ≡ most = omega (arith, lt, a, b) in
-        let some : 0 < n = positive n (λ z. let nothing = none z in omega (arith, nothing, lt)) in
-        let same : n * rounds ≡ n * most = ap (λ k. n * k) at_most in
-        let much : most ≤ n * most = times_some n most some in
-        let more : 9 * e ≤ n * (9 * e) = times_some n (9 * e) some in
-        ((λ is. absurd (omega (arith, same, much, is, c, d))), λ is. absurd (omega (arith, more, lt, is)))
+-- ---- what is too long
 
 -- a round that has no room
 pub no_room : (old : Draft) (w : KernelWorld) (k words left : ℕ) → IsDraft old w → words ≤ length old.steps.items + length old.watched.left * k → left ≡ length old.watched.left → k < 9 * entries_to_do (reached old w).cpus → MOST_STEPS < words + left → MayBeTooLong (length old.steps.items) (reached old w)
@@ -287,21 +249,11 @@ no_room old w k words left d few same less none =
     let cpus = ap (λ m. m * (9 * entries_to_do (reached old w).cpus)) (watched_cpus old w d) in
     omega (arith, few, same, none, more, product, cpus)
 
--- more entries than words
-pub many_entries : (words : ℕ) (w : KernelWorld) → MOST_STEPS < entries_to_do w.cpus → MayBeTooLong words w
-many_entries words w many =
-    let some = positive (length w.cpus) (λ z. let none = none_of_none w.cpus z in omega (arith, many, none)) in
-    let product = times_some (length w.cpus) (9 * entries_to_do w.cpus) some in
-    omega (arith, many, product)
-
 -- ---- steps that are drawn
 
 -- the words so far leave time, or never were there enough
 pub record HasDrawn (old now : Draft) : Type 0 where
   pub goes : (w : KernelWorld) → IsDraft old w → IsDraft now w × IsInTime old now w
-
-pub none_drawn : (old : Draft) → HasDrawn old old
-none_drawn old = record { goes = λ w d. (d, cases_lt MOST_STEPS (length old.steps.items + words_to_end (reached old w))) }
 
 -- a step takes no time away, but for its word
 pub one_drawn : (old now new : Draft) (cpu : ℕ) → HasDrawn old now → cpu < length now.watched.left → new.steps.items ≡ now.steps.items ++ cpu ∷ [] → ((w : KernelWorld) → IsDraft now w → IsDraft new w)
@@ -325,11 +277,6 @@ one_drawn old now new cpu so_far below items draft not_yet = record { goes = λ 
       where
         one_more : (a b c d : ℕ) → a + b ≤ MOST_STEPS → (a + b ≡ MOST_STEPS → ⊥) → c ≡ a + 1 → d ≤ b → c + d ≤ MOST_STEPS
         one_more a b c d le other is fewer = grind (arith, le, other, is, fewer)
-
--- no word is left for a step that is drawn
-pub no_word : (old now : Draft) → HasDrawn old now → MOST_STEPS ≤ length now.steps.items → ((w : KernelWorld) → IsDraft now w → length now.steps.items + words_to_end (reached now w) ≡ MOST_STEPS → ⊥)
-    → (w : KernelWorld) → IsDraft old w → MayBeTooLong (length old.steps.items) (reached old w)
-no_word old now so_far full not_yet w d = let a = so_far.goes w d in ⊎_elim (λ long. long) (λ le. absurd (not_yet w a.0 (omega (arith, le, full)))) a.1
 
 -- ---- a whole schedule
 

@@ -1,6 +1,7 @@
 //! A schedule that is being made, and the step machine behind its steps.
 
 ghost use Rattle.std.specs.Prelude.{◌≡◌, ◌≢◌, ◌↔◌, ℕ, ◌<◌, ◌≤◌, ◌+◌, ◌∷◌, ◌++◌, true, false, [], length, IfOk, OnOk, Err};
+ghost use Rattle.sound_run.specs.declared.limits.TheConstants.{MOST_CPUS};
 ghost use Rattle.scripts.specs.ScriptText.{ScriptsFit};
 ghost use Rattle.word_rule.specs.Machine.Opening.{IsOpening};
 ghost use Rattle.word_rule.specs.Machine.Rounds.{AllDone};
@@ -54,6 +55,7 @@ impl<'a> Draft<'a> {
         ensures draft { IfOk result (λ draft. IsDraft draft (new_world settings.now scripts.now)) }
         ensures empty { IfOk result (λ draft. draft.steps.items ≡ []) }
         ensures opening { IfOk result (λ _. IsOpening (new_world settings.now scripts.now)) }
+        ensures few { IfOk result (λ _. settings.now.cpus ≤ MOST_CPUS) }
         ensures fault { result ≢ Err DraftFault.TooLong }
     {
         Ok(Draft {

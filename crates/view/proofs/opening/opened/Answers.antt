@@ -63,3 +63,6 @@ returns-in-Ok-clause-shows c =
       shows = subst (λ p. Represents kernel p (new_world c.args.settings.now c.args.scripts.now)) (sym m) shows;
       left = l ∙ (c.lists.ensures.lists ∙ sym (todos_again c.args.scripts.now));
     })
+
+pub returns-in-Ok-clause-few : goal.returns-in-Ok-clause-few
+returns-in-Ok-clause-few c = either c.new-in-Ok.result c.in_ok-cells.ensures.fit.cpus.1
