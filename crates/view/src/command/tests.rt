@@ -152,11 +152,7 @@ fn status_of<R: AllocGlobal, W: Sink, F: Sink>(
 }
 
 /// What the program answers if there are these files alone; nothing if it refuses.
-fn answer_of<R: AllocGlobal>(
-    rt: &R,
-    line: &str,
-    files: &[(&str, &str)],
-) -> Result<String, Fail> {
+fn answer_of<R: AllocGlobal>(rt: &R, line: &str, files: &[(&str, &str)]) -> Result<String, Fail> {
     let mut out = Plain::new(Vec::new(rt.alloc()));
     let mut faults = Plain::new(Vec::new(rt.alloc()));
     let mut inputs = Named {

@@ -42,13 +42,19 @@ fn entries_done<R: AllocGlobal>(
     words: &str,
 ) -> Result<usize, Fail> {
     let mut settings = String::new(rt.alloc());
-    writeln!(settings, "cpus = {cpus}\n[[object]]\nname = \"q0\"\nkind = \"queue\"\nlock = \"{lock}\"")?;
+    writeln!(
+        settings,
+        "cpus = {cpus}\n[[object]]\nname = \"q0\"\nkind = \"queue\"\nlock = \"{lock}\""
+    )?;
     writeln!(settings, "events = 200\nthreads = 8")?;
     let mut scripts = String::new(rt.alloc());
     for cpu in 0..cpus {
         writeln!(scripts, "{cpu} q0 len\n{cpu} q0 len")?;
     }
-    let files = [("settings", settings.as_str()), ("scripts", scripts.as_str())];
+    let files = [
+        ("settings", settings.as_str()),
+        ("scripts", scripts.as_str()),
+    ];
     let line = format!(in rt.alloc(); "schedule --settings settings scripts {words}")?;
     let schedule = answer_of(rt, line.as_str(), &files)?;
     let files = [
@@ -62,7 +68,9 @@ fn entries_done<R: AllocGlobal>(
 
 /// Whether the step ends an entry.
 fn is_end(line: &str) -> bool {
-    line.contains(" serve |") || line.contains(" pass |") || line.contains(" empty the lock is free |")
+    line.contains(" serve |")
+        || line.contains(" pass |")
+        || line.contains(" empty the lock is free |")
 }
 
 #[test]
