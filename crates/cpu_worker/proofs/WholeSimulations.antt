@@ -20,7 +20,7 @@ use Rattle.word_rule.specs.Machine.Opening.{IsOpening, IsOpeningCell, opening_cp
 use Rattle.word_rule.specs.Machine.Rounds.{AllDone}
 use Rattle.word_rule.specs.Machine.SoundWorld.{IsTodo}
 use Rattle.word_rule.specs.Machine.World.{CpuState, run}
-use Rattle.cpu_worker.specs.Simulation.{KernelWorld, new_cell, new_world, simulated}
+use Rattle.cpu_worker.specs.Simulation.{new_cell, new_world, simulated}
 use Rattle.cpu_worker.proofs.Simulations.{able_todos, opening_keeps}
 use Rattle.cpu_worker.proofs.Worlds.{KeepsCpu, run_keeps}
 

@@ -1,4 +1,4 @@
-use Rattle.std.proofs.Common.{◌*◌, length, subst, sym, ap, [], List}
+use Rattle.std.proofs.Common.{◌*◌, subst, sym, []}
 use Rattle.word_rule.specs.Machine.Rounds.{HasRounds, entries_to_do, most_steps}
 use Rattle.cpu_worker.specs.Simulation.{new_world}
 use Rattle.cpu_worker.proofs.WholeSimulations.{whole, is_opening, cpu_count}
