@@ -1,9 +1,9 @@
 -- The words of a text that has one in each line.
-use Rattle.std.proofs.Common.{◌≡◌, ◌≢◌, ℕ, ◌<◌, ◌≤◌, ◌^◌, ◌==◌, ◌||◌, true, false, not, cond, List, [], ◌∷◌, ◌++◌, length, map, decimal, refl, subst, sym, ◌∙◌, ap, arith, append_assoc}
+use Rattle.std.proofs.Common.{◌≡◌, ◌≢◌, ℕ, ◌<◌, ◌≤◌, ◌^◌, ◌==◌, ◌||◌, false, not, cond, List, [], ◌∷◌, ◌++◌, length, map, decimal, refl, subst, ◌∙◌, ap, arith, append_assoc}
 use Rattle.std.proofs.lemmas.Fmt.{decimal_nonempty}
 use Rattle.std.proofs.lemmas.List.{length-map}
 use Rattle.std.proofs.lemmas.List.Elements.{All-from_recursion}
-use Rattle.std.proofs.lemmas.List.Splits.{slice_split-cons_yes, slice_split_at}
+use Rattle.std.proofs.lemmas.List.Splits.{slice_split_at}
 use Rattle.std.specs.List.{AllByRecursion, filter, slice_split}
 use Rattle.scripts.proofs.Readings.{plain_decimal}
 use Rattle.sound_run.specs.declared.limits.TheConstants.{MOST_CPUS}

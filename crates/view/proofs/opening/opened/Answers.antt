@@ -1,4 +1,4 @@
-use Rattle.std.proofs.Common.{◌≡◌, ℕ, List, map, length, vec_len, sym, ap, subst, ◌∙◌, arith, lit<, refl, [], ◌∷◌}
+use Rattle.std.proofs.Common.{◌≡◌, List, map, length, vec_len, sym, ap, subst, ◌∙◌, arith, lit<, refl, [], ◌∷◌}
 use Rattle.std.proofs.lemmas.List.{length-map}
 use Rattle.std.specs.List.{AllByRecursion}
 use Rattle.scripts.specs.contracts.objects.kernel_object.KernelObjectSeqObject.TheImpl.{ghosts as kernel}
@@ -8,7 +8,6 @@ use Rattle.word_rule.specs.Machine.Opening.{IsOpening, opening_cell, opening_cpu
 use Rattle.word_rule.specs.Machine.Shown.{Represents}
 use Rattle.cpu_worker.specs.Simulation.{KernelWorld, new_cell, new_world}
 use Rattle.cpu_worker.proofs.Simulations.{opened_cpus, able_lists}
-use Rattle.view.specs.Watching.{Watches}
 use Rattle.view.proofs.Watchings.{both, either}
 use Rattle.view.proofs.opening.opened.Goals as goal
 use Rattle.view.proofs.opening.opened.Goals.{After-into_lists}

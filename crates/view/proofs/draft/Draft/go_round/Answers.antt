@@ -1,4 +1,4 @@
-use Rattle.std.proofs.Common.{◌≡◌, ◌∙◌, ◌+◌, ◌*◌, ◌<◌, ℕ, Err, length, sym, ap, subst, arith}
+use Rattle.std.proofs.Common.{◌≡◌, ◌∙◌, ◌*◌, ◌<◌, ℕ, Err, length, sym, ap, subst, arith}
 use Rattle.word_rule.specs.Machine.Rounds.{AllDone, HasRounds, entries_to_do, go_round, most_steps}
 use Rattle.cpu_worker.specs.Simulation.{KernelWorld}
 use Rattle.view.specs.declared.draft.DraftFault.TheVariants.{TooLong}

@@ -1,4 +1,4 @@
-use Rattle.std.proofs.Common.{◌≡◌, ◌∙◌, ap, sym, map, arith}
+use Rattle.std.proofs.Common.{◌∙◌, ap, map, arith}
 use Rattle.std.proofs.lemmas.List.{take_all}
 use Rattle.view.proofs.Drafts.{lengths, lengths_more, lengths_todos}
 use Rattle.view.proofs.watched.Watched.entries.Goals as goal

@@ -1,4 +1,4 @@
-use Rattle.std.proofs.Common.{◌≡◌, ◌∙◌, ap, sym, subst, rules, Some, None, slice_get, not, ◌==◌, length}
+use Rattle.std.proofs.Common.{◌≡◌, ◌∙◌, ap, sym, subst, Some, slice_get, not}
 use Rattle.sound_run.proofs.Slices.{read_get}
 use Rattle.word_rule.proofs.MachineKeeps.{not_found}
 use Rattle.view.proofs.Drafts.{busy_some, busy_none}
