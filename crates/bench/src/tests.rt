@@ -186,6 +186,7 @@ fn calls_are_made_together(rt: HostRuntime) -> Result<(), Fail> {
                 let load = Load::new(cpus, calls, form, Log::Kept);
                 let round = round_of(&rt, rt.alloc(), kind, load)?;
                 assert_eq!(rt; (round.kind, round.tally.events), (kind, events));
+                assert!(rt; round.tally.turns < all / 8);
             }
         }
     }
