@@ -2,7 +2,7 @@ use Rattle.std.proofs.Common.{◌≡◌, [], ◌∷◌, sym, ◌∙◌, ap, subs
 use Rattle.event_log.specs.Log.{one_step}
 use Rattle.word_rule.specs.Answered.{IsAnswered}
 use Rattle.sound_run.proofs.Slices.{read_get}
-use Rattle.cpu_worker.proofs.Places.{only_one}
+use Rattle.guarded_cell.proofs.Additions.{only_one}
 use Rattle.cpu_worker.proofs.worker.do_call.Goals as goal
 
 pub returns-in-Ok-clause-did : goal.returns-in-Ok-clause-did
