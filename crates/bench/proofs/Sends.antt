@@ -69,7 +69,7 @@ caller_send =
     enum_send (shape Caller.the_type) ((by_ticket_send, tt), ((by_mcs_send, tt), ((by_any_send, tt), ((Arc-send (Mutex.the_row (Logged.the_row Queue.the_row (UInt w32) Call.the_row Reply.the_row seq call_compares call_default reply_compares reply_default)) (search (crosses, queue)) (search (crosses, queue)), tt), tt))))
 
 place_send : IsSend Place.the_row
-place_send = recorded_send _ _ _ Place.the_type.to_one (struct_send (fields Place.the_type) (caller_send, (search sendable, tt)))
+place_send = recorded_send _ _ _ Place.the_type.to_one (struct_send (fields Place.the_type) (caller_send, (search sendable depth 40, tt)))
 
 pub worker_send : IsSend Worker.the_row
 worker_send = recorded_send _ _ _ Worker.the_type.to_one (struct_send (fields Worker.the_type) (search sendable, (Deque-send _ place_send, tt)))

@@ -3,24 +3,32 @@
 ghost use Rattle.std.specs.Prelude.{◌≡◌};
 ghost use Rattle.guarded_cell.specs.Kinds.{IsPassOf};
 
+use crate::form::Form;
 use crate::tally::Tally;
-use event_log::Logged;
-use guarded_cell::{AnyCell, AnyPass, call};
+use event_log::{Logged, MOST_CALLS};
+use guarded_cell::{AnyCell, AnyPass};
 use shared_queue::{QueueCall, ThreadQueue};
 use std::sync::{Mutex, Wait};
 use word_rule::LockCell;
 
-/// Whose calls they are, and how many.
+/// Whose calls they are, how many, and in which form.
 #[derive(Clone, Copy, Debug, PartialEq, Eq, Drop)]
 pub struct Calls {
     pub cpu: u8,
     pub count: u32,
+    pub form: Form,
 }
 
 impl Calls {
     /// Enq of the CPU's number and deq, which are called in turn.
-    fn in_turn(&self) -> [QueueCall; 2] {
+    pub fn in_turn(&self) -> [QueueCall; 2] {
         [QueueCall::Enq(u32::from(self.cpu)), QueueCall::Deq]
+    }
+
+    /// Eight of them.
+    pub fn eight(&self) -> [QueueCall; MOST_CALLS] {
+        let [enq, deq] = self.in_turn();
+        [enq, deq, enq, deq, enq, deq, enq, deq]
     }
 
     /// Makes the calls on a cell.
@@ -33,13 +41,11 @@ impl Calls {
         requires { C.is_pass_of cell.now pass }
         ensures { C.is_pass_of cell.now result }
     {
-        let in_turn = self.in_turn();
-        let mut pass = pass;
-        for k in 0..self.count {
-            let (back, _reply, _looks) = call(rt, cell, pass, &in_turn[(k % 2) as usize]);
-            pass = back;
+        match self.form {
+            Form::Each => self.each_on_cell(rt, cell, pass),
+            Form::Batch => self.batches_on_cell(rt, cell, pass),
+            Form::Hold => self.holds_on_cell(rt, cell, pass),
         }
-        pass
     }
 
     /// Makes the calls on a cell of either kind.
@@ -52,20 +58,19 @@ impl Calls {
         requires { IsPassOf cell.now pass }
         ensures { IsPassOf cell.now result }
     {
-        let in_turn = self.in_turn();
-        let mut pass = pass;
-        for k in 0..self.count {
-            let (back, _reply, _looks) = cell.call(rt, pass, &in_turn[(k % 2) as usize]);
-            pass = back;
+        match self.form {
+            Form::Each => self.each_on_either(rt, cell, pass),
+            Form::Batch => self.batches_on_either(rt, cell, pass),
+            Form::Hold => self.holds_on_either(rt, cell, pass),
         }
-        pass
     }
 
     /// Makes the calls on a queue in the mutex.
     pub fn in_mutex<R: Wait>(&self, rt: &R, queue: &Mutex<Logged<ThreadQueue>>) {
-        let in_turn = self.in_turn();
-        for k in 0..self.count {
-            let _reply = queue.lock(rt).call(self.cpu, &in_turn[(k % 2) as usize]);
+        match self.form {
+            Form::Each => self.each_in_mutex(rt, queue),
+            Form::Batch => self.batches_in_mutex(rt, queue),
+            Form::Hold => self.holds_in_mutex(rt, queue),
         }
     }
 }

@@ -2,6 +2,7 @@
 
 use crate::caller::Caller;
 use crate::calls::Calls;
+use crate::form::Form;
 use crate::kind::Kind;
 use crate::load::{Load, Log};
 use crate::opening::open;
@@ -30,7 +31,7 @@ fn empty_crew(alloc: Global, cpus: u8) -> Result<Crew, OutOfMemory> {
 }
 
 /// Gives each worker a place at the queue of the callers, where it is to make so many calls. The crew goes once round.
-fn seat(crew: Crew, callers: Vec<Caller>, count: u32) -> Result<Crew, OutOfMemory> {
+fn seat(crew: Crew, callers: Vec<Caller>, count: u32, form: Form) -> Result<Crew, OutOfMemory> {
     let mut crew = crew;
     for caller in callers {
         let Some(mut worker) = crew.pop_front() else {
@@ -39,6 +40,7 @@ fn seat(crew: Crew, callers: Vec<Caller>, count: u32) -> Result<Crew, OutOfMemor
         let calls = Calls {
             cpu: worker.cpu,
             count,
+            form,
         };
         let place = Place { caller, calls };
         if worker.places.push_back(place).is_err() || crew.push_back(worker).is_err() {
@@ -64,9 +66,10 @@ fn open_queue(alloc: Global, log: Log, events: u32) -> Result<Logged<ThreadQueue
 pub fn open_all(alloc: Global, kind: Kind, load: &Load) -> Result<Crew, OutOfMemory> {
     let mut crew = empty_crew(alloc, load.cpus)?;
     for share in load.shares(alloc)? {
-        let events = share.saturating_mul(u32::from(load.cpus));
+        let events = load.form.events(share).saturating_mul(u32::from(load.cpus));
         let queue = open_queue(alloc, load.log, events)?;
-        crew = seat(crew, open(alloc, kind, queue, load.cpus)?, share)?;
+        let callers = open(alloc, kind, queue, load.cpus)?;
+        crew = seat(crew, callers, share, load.form)?;
     }
     Ok(crew)
 }

@@ -2,12 +2,16 @@
 #![tactic(auto)]
 
 mod arguments;
+mod batches;
 mod by_lock;
 mod caller;
 mod calls;
 mod crew;
+mod each;
 mod fault;
+mod form;
 mod gate;
+mod holds;
 mod kind;
 mod load;
 mod opening;

@@ -2,8 +2,9 @@
 
 use crate::arguments::{Settings, WordsFault};
 use crate::fault::Fault;
+use crate::form::Form;
 use crate::kind::Kind;
-use crate::load::{Load, Log, MOST_ROUND_EVENTS};
+use crate::load::{Load, Log, MOST_ROUND_CALLS};
 use crate::rounds::{Round, one_round};
 use crate::span::Span;
 use crate::tally::Tally;
@@ -41,10 +42,25 @@ fn words_are_read(rt: HostRuntime) -> Result<(), Fail> {
     assert!(rt; found.kinds.as_slice() == kinds.as_slice());
     assert_eq!(rt; (found.load.cpus, found.load.calls), (64, 131072));
     assert_eq!(rt; (found.rounds, found.load.log), (7, Log::Kept));
-    let Ok(found) = settings(rt.alloc(), "mcs 2 10 1 unkept")? else {
-        return Err(Fail::new("refused"));
-    };
-    assert_eq!(rt; (found.load.cpus, found.load.log), (2, Log::Unkept));
+    Ok(())
+}
+
+#[test]
+fn words_that_may_be_left_out_are_read(rt: HostRuntime) -> Result<(), Fail> {
+    let lines = [
+        ("mcs 2 10 1", Form::Each, Log::Kept),
+        ("mcs 2 10 1 unkept", Form::Each, Log::Unkept),
+        ("mcs 2 16 1 batch", Form::Batch, Log::Kept),
+        ("mcs 2 16 1 batch unkept", Form::Batch, Log::Unkept),
+        ("mcs 2 16 1 hold", Form::Hold, Log::Kept),
+        ("mcs 2 16 1 hold unkept", Form::Hold, Log::Unkept),
+    ];
+    for (line, form, log) in lines {
+        let Ok(found) = settings(rt.alloc(), line)? else {
+            return Err(Fail::new("refused"));
+        };
+        assert_eq!(rt; (found.load.form, found.load.log), (form, log));
+    }
     Ok(())
 }
 
@@ -66,6 +82,12 @@ fn other_words_are_refused(rt: HostRuntime) -> Result<(), Fail> {
         "ticket 1 10 1 kept",
         "ticket 1 10 1 unkept unkept",
         "ticket 1 10 unkept",
+        "ticket 1 8 batch",
+        "ticket 1 8 1 batches",
+        "ticket 1 8 1 unkept batch",
+        "ticket 1 8 1 batch hold",
+        "ticket 1 12 1 batch",
+        "ticket 1 7 1 hold unkept",
         "spin 1 10 1",
         "Ticket 1 10 1",
         ", 1 10 1",
@@ -97,14 +119,14 @@ fn other_words_are_refused(rt: HostRuntime) -> Result<(), Fail> {
 
 #[test]
 fn calls_are_shared_out(rt: HostRuntime) -> Result<(), Fail> {
-    let Some(load) = Load::new(3, 50000, Log::Kept) else {
+    let Some(load) = Load::new(3, 50000, Form::Each, Log::Kept) else {
         return Err(Fail::new("refused"));
     };
     let Ok(shares) = load.shares(rt.alloc()) else {
         return Err(Fail::new("no memory"));
     };
-    assert!(rt; shares.as_slice() == [21845, 21845, 6310].as_slice());
-    let Some(load) = Load::new(8, MOST_ROUND_EVENTS / 8, Log::Kept) else {
+    assert!(rt; shares.as_slice() == [21840, 21840, 6320].as_slice());
+    let Some(load) = Load::new(8, MOST_ROUND_CALLS / 8, Form::Each, Log::Kept) else {
         return Err(Fail::new("refused"));
     };
     let Ok(shares) = load.shares(rt.alloc()) else {
@@ -140,7 +162,12 @@ fn round_of<R: Threads + Wait + Clock + Sync>(
 fn all_calls_are_made(rt: HostRuntime) -> Result<(), Fail> {
     for kind in KINDS {
         for (cpus, calls) in [(1, 1), (1, 7), (2, 50), (3, 40), (8, 9)] {
-            let round = round_of(&rt, rt.alloc(), kind, Load::new(cpus, calls, Log::Kept))?;
+            let round = round_of(
+                &rt,
+                rt.alloc(),
+                kind,
+                Load::new(cpus, calls, Form::Each, Log::Kept),
+            )?;
             let events = usize::from(cpus) * calls as usize;
             assert_eq!(rt; (round.kind, round.tally.events), (kind, events));
             assert!(rt; round.tally.turns.saturating_add(1) >= usize::from(cpus));
@@ -151,9 +178,30 @@ fn all_calls_are_made(rt: HostRuntime) -> Result<(), Fail> {
 }
 
 #[test]
+fn calls_are_made_together(rt: HostRuntime) -> Result<(), Fail> {
+    for kind in KINDS {
+        for (cpus, calls) in [(1, 8), (2, 48), (3, 40), (2, MOST_EVENTS / 2 + 24)] {
+            let all = usize::from(cpus) * calls as usize;
+            for (form, events) in [(Form::Batch, all / 8), (Form::Hold, all)] {
+                let load = Load::new(cpus, calls, form, Log::Kept);
+                let round = round_of(&rt, rt.alloc(), kind, load)?;
+                assert_eq!(rt; (round.kind, round.tally.events), (kind, events));
+                assert!(rt; round.tally.turns < all / 8);
+            }
+        }
+    }
+    Ok(())
+}
+
+#[test]
 fn one_cpu_takes_no_turns(rt: HostRuntime) -> Result<(), Fail> {
     for kind in KINDS {
-        let round = round_of(&rt, rt.alloc(), kind, Load::new(1, 100, Log::Kept))?;
+        let round = round_of(
+            &rt,
+            rt.alloc(),
+            kind,
+            Load::new(1, 100, Form::Each, Log::Kept),
+        )?;
         assert_eq!(rt; round.tally.turns, 0);
     }
     Ok(())
@@ -166,7 +214,7 @@ fn a_round_goes_over_two_queues(rt: HostRuntime) -> Result<(), Fail> {
             &rt,
             rt.alloc(),
             kind,
-            Load::new(2, MOST_EVENTS / 2 + 3, Log::Kept),
+            Load::new(2, MOST_EVENTS / 2 + 3, Form::Each, Log::Kept),
         )?;
         assert_eq!(rt; round.tally.events, MOST_EVENTS as usize + 6);
     }
@@ -176,8 +224,10 @@ fn a_round_goes_over_two_queues(rt: HostRuntime) -> Result<(), Fail> {
 #[test]
 fn a_log_that_is_not_kept_has_no_events(rt: HostRuntime) -> Result<(), Fail> {
     for kind in KINDS {
-        let round = round_of(&rt, rt.alloc(), kind, Load::new(2, 50, Log::Unkept))?;
-        assert_eq!(rt; round.tally, Tally::NOTHING);
+        for form in [Form::Each, Form::Batch, Form::Hold] {
+            let round = round_of(&rt, rt.alloc(), kind, Load::new(2, 56, form, Log::Unkept))?;
+            assert_eq!(rt; round.tally, Tally::NOTHING);
+        }
     }
     Ok(())
 }

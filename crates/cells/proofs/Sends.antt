@@ -50,7 +50,7 @@ use Rattle.cells.specs.Handles.{row}
 -- a caller goes where its object, the object's parameters, calls and replies go
 module _ (O P C R : RattleType) (g : Ghosts O.Denot P.Denot C.Denot R.Denot) (ce : Compares C.Denot) (cd : Defaults C.Denot) (re : Compares R.Denot) (rd : Defaults R.Denot) (o : IsSend O) (p : IsSend P) (c : IsSend C) (r : IsSend R) where
   drawn_send : IsSend (Drawn.the_field O P C R g ce cd re rd).row
-  drawn_send = struct_send (fields (Drawn.the_type O P C R g ce cd re rd)) (cpu.the_field_send, (search sendable, (search sendable, (search crosses, (seat_send _ _ (slot_send O P C R g ce cd re rd o p c r), tt)))))
+  drawn_send = struct_send (fields (Drawn.the_type O P C R g ce cd re rd)) (cpu.the_field_send, (search sendable, (search crosses, (seat_send _ _ (slot_send O P C R g ce cd re rd o p c r), tt))))
 
   ready_send : IsSend (Ready.the_field O P C R g ce cd re rd).row
   ready_send = struct_send (fields (Ready.the_type O P C R g ce cd re rd)) (cpu.the_field_send, (search crosses, (seat_send _ _ (slot_send O P C R g ce cd re rd o p c r), tt)))

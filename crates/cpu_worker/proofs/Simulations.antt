@@ -28,7 +28,7 @@ abbrev KernelCpu : Type 0
 KernelCpu = CpuState KernelObject KParams KCall KReply
 
 -- nothing was done of the scripts
-opening_keeps : (settings : Settings) (scripts : List (List KernelTodo)) → Keeps scripts (new_world settings scripts)
+pub opening_keeps : (settings : Settings) (scripts : List (List KernelTodo)) → Keeps scripts (new_world settings scripts)
 opening_keeps settings scripts = record {
   count = length-map scripts opening_cpu;
   each = λ i cpu script here there.
@@ -90,7 +90,7 @@ object_opened o = record { params = o.params; limit = o.events }
 
 -- entries in their ranges can be done
 module _ (m n : ℕ) (same : m ≡ n) where
-  able_todos : (todos : List KernelTodo) → AllByRecursion (TodoFits n) todos → AllByRecursion (λ t. IsTodo m t) todos
+  pub able_todos : (todos : List KernelTodo) → AllByRecursion (TodoFits n) todos → AllByRecursion (λ t. IsTodo m t) todos
   able_todos [] all = tt
   able_todos (t ∷ todos) all = (record { some = all.0.some; few = all.0.few; on_cell = omega (arith, same, all.0.object) }, able_todos todos all.1)
 

@@ -1,16 +1,27 @@
 -- What a hold adds to a log, group by group.
-use Rattle.std.proofs.Common.{◌≡◌, ℕ, ◌+◌, ◌<◌, List, [], ◌∷◌, ◌++◌, length, take, drop, get_or, sym, ap, ◌∙◌, subst, arith, append_assoc, length-take, Result, Ok, Err, OnErr}
+use Rattle.std.proofs.Common.{◌≡◌, ℕ, ◌+◌, ◌<◌, List, [], ◌∷◌, ◌++◌, length, take, drop, get_or, slice_get, refl, sym, ap, ◌∙◌, subst, arith, append_assoc, length-take, Option, Some, Result, Ok, Err, OnErr}
 use Rattle.std.proofs.lemmas.List.{map-append, take-append-drop, take_more}
 use Rattle.arrayvec.specs.ArrayVec.{ArrayVec}
 use Rattle.event_log.specs.declared.object.SeqObject.{Ghosts}
 use Rattle.event_log.specs.declared.event.Steps.{Steps}
-use Rattle.event_log.specs.Log.{Fulfils}
+use Rattle.event_log.specs.Log.{Fulfils, one_step}
 use Rattle.event_log.specs.History.{with_event}
+use Rattle.sound_run.proofs.Slices.{one_of}
 use Rattle.word_rule.specs.Cell.{PassView, HoldView, Grows, Lawful, IsPassView, IsHoldView}
 use Rattle.word_rule.specs.Answered.{FulfilFirst, IsHeldThrough, events_by}
 use Rattle.guarded_cell.specs.Groups.{HasAdded}
 
+-- the only element of a list
+pub only_one : {X : Type 0} (xs : List X) (x : X) → length xs ≡ 1 → slice_get xs 0 ≡ Some x → xs ≡ x ∷ []
+only_one [] x one at = absurd (omega arith)
+only_one (y ∷ []) x one at = ap (λ z. z ∷ []) (one_of y x (slice_get (y ∷ []) 0) refl at)
+only_one (y ∷ z ∷ zs) x one at = absurd (omega arith)
+
 module _ {O P C R : Type 0} (meaning : Ghosts O P C R) where
+  -- a single step fulfils a single call
+  pub fulfils_one : (x : C) (r : R) (cs : List C) → cs ≡ x ∷ [] → Fulfils meaning cs (one_step x r).list.items
+  fulfils_one x r cs is = subst (λ l. Fulfils meaning l (one_step x r).list.items) (sym is) record { beginning = record { start = refl }; whole = λ _. refl }
+
   -- one event more under a hold
   pub added_more : (h0 h k : HoldView O P C R) (done more : List (Steps O P C R)) (s : Steps O P C R) (state : O) → HasAdded h0 done h → k.caller ≡ h.caller
       → k.history ≡ with_event h.history (record { cpu = h.caller.acting; steps = s }) state → more ≡ done ++ s ∷ [] → HasAdded h0 more k

@@ -1,13 +1,19 @@
 -- The words of a text that has one in each line.
-use Rattle.std.proofs.Common.{◌≡◌, ◌≢◌, ℕ, ◌<◌, ◌≤◌, ◌^◌, ◌==◌, ◌||◌, true, false, not, cond, List, [], ◌∷◌, ◌++◌, length, map, decimal, refl, sym, ◌∙◌, ap, arith, append_assoc}
+use Rattle.std.proofs.Common.{◌≡◌, ◌≢◌, ℕ, ◌<◌, ◌≤◌, ◌^◌, ◌==◌, ◌||◌, false, not, cond, List, [], ◌∷◌, ◌++◌, length, map, decimal, refl, subst, ◌∙◌, ap, arith, append_assoc}
 use Rattle.std.proofs.lemmas.Fmt.{decimal_nonempty}
+use Rattle.std.proofs.lemmas.List.{length-map}
 use Rattle.std.proofs.lemmas.List.Elements.{All-from_recursion}
-use Rattle.std.proofs.lemmas.List.Splits.{slice_split-cons_yes, slice_split_at}
+use Rattle.std.proofs.lemmas.List.Splits.{slice_split_at}
 use Rattle.std.specs.List.{AllByRecursion, filter, slice_split}
 use Rattle.scripts.proofs.Readings.{plain_decimal}
 use Rattle.sound_run.specs.declared.limits.TheConstants.{MOST_CPUS}
+use Rattle.scripts.specs.KernelTypes.{KernelTodo}
 use Rattle.scripts.specs.Row.{IsPlain}
 use Rattle.scripts.specs.ScheduleText.{is_gap, schedule_words, IsSchedule}
+use Rattle.scripts.specs.ScriptText.{ScriptsFit}
+use Rattle.scripts.specs.Settings.{Settings}
+use Rattle.word_rule.specs.Machine.Opening.{opening_cpu}
+use Rattle.cpu_worker.specs.Simulation.{new_world}
 use Rattle.scripts.specs.declared.schedule.TheConstants.{MOST_STEPS}
 use Rattle.scripts.specs.Words.{text_of_lines}
 
@@ -55,3 +61,7 @@ small cpus (n ∷ steps) few each = (omega (arith, few, each.0), small cpus step
 -- the reader takes such lines
 pub reads_back : (cpus : ℕ) (steps text : List ℕ) → cpus ≤ MOST_CPUS → text ≡ text_of_lines (map decimal steps) → AllByRecursion (λ cpu. cpu < cpus) steps → length steps ≤ MOST_STEPS → IsSchedule cpus text steps
 reads_back cpus steps text few is each most = record { words = ap schedule_words is ∙ words_of_lines steps (small cpus steps few each); each = each; few = most }
+
+-- CPUs of the world that is opened are CPUs of the settings
+pub each_below : (settings : Settings) (scripts : List (List KernelTodo)) → ScriptsFit settings.cpus (length settings.objects) scripts → (steps : List ℕ) → AllByRecursion (λ cpu. cpu < length (new_world settings scripts).cpus) steps → AllByRecursion (λ cpu. cpu < settings.cpus) steps
+each_below settings scripts fit steps each = subst (λ n. AllByRecursion (λ cpu. cpu < n) steps) (length-map scripts opening_cpu ∙ fit.0) each

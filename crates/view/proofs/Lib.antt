@@ -1,3 +1,5 @@
+pub mod Drafts
 pub mod DrawnWords
+pub mod LongScripts
 pub mod StepProofs
 pub mod Watchings

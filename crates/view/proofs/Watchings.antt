@@ -4,6 +4,7 @@ use Rattle.std.proofs.lemmas.Bool.{ltb-false}
 use Rattle.std.proofs.lemmas.List.{length-map, map-append, take_more}
 use Rattle.std.proofs.lemmas.Option.{slice_get_within}
 use Rattle.std.proofs.Math.ListN.{set}
+use Rattle.std.specs.Result.{IsErrAnd}
 use Rattle.std.specs.List.{AllByRecursion, prefix_len, position_or_len}
 use Rattle.event_log.specs.declared.object.SeqObject.{Ghosts}
 use Rattle.event_log.specs.declared.entry.Todo.{Todo}
@@ -34,6 +35,16 @@ pushed f g xs ys i x y so_far less is same =
 pub both : {X E : Type 0} (P Q R : X → Type 0) (r : Result X E) → IfOk r P → IfOk r Q → ((x : X) → P x → Q x → R x) → IfOk r R
 both P Q R (Ok x) p q f = f x p q
 both P Q R (Err e) p q f = tt
+
+-- what is so whatever the result
+pub either : {X E Q : Type 0} (r : Result X E) → Q → IfOk r (λ _. Q)
+either (Ok x) q = q
+either (Err e) q = tt
+
+-- the cause of an error that a caller hands on
+pub err_is : {X E : Type 0} (r : Result X E) (f g : E) → IsErrAnd r (λ h. h ≡ f) → r ≡ Err g → f ≡ g
+err_is (Ok x) f g is e = absurd is
+err_is (Err h) f g is e = sym is ∙ (let same : h ≡ g = cc in same)
 
 none_before : {X : Type 0} (test : X → Bool) (xs : List X) → length xs ≤ prefix_len (λ b. not (test b)) xs → AllByRecursion (λ b. test b ≡ false) xs
 none_before test [] h = tt

@@ -1,5 +1,5 @@
 -- What the program answers.
-use Rattle.std.specs.Prelude.{◌≡◌, ℕ, List, Option, Some, map, decimal}
+use Rattle.std.specs.Prelude.{◌≡◌, ℕ, List, Option, Some}
 use Rattle.std.specs.Borrow.{Bor}
 use Rattle.std.specs.Option.{option_map}
 use Rattle.scripts.specs.KernelTypes.{KernelTodo}
@@ -9,8 +9,10 @@ use Rattle.scripts.specs.ScheduleText.{IsSchedule}
 use Rattle.scripts.specs.ScriptText.{AreScripts}
 use Rattle.scripts.specs.Settings.{Settings}
 use Rattle.scripts.specs.SettingsText.{SpellsSettings}
+use Rattle.cpu_worker.specs.Simulation.{new_world}
 use Rattle.view.specs.declared.step_names.LineForm.{LineForm}
-use Rattle.view.specs.RandomSchedule.{EndsAll}
+use Rattle.view.specs.declared.turns.Turns.{Turns}
+use Rattle.view.specs.Drafts.{ComeSo, EndsAll, MayBeTooLong}
 use Rattle.view.specs.Steps.{steps_text}
 
 -- the bytes of a name, if there is one
@@ -50,11 +52,19 @@ module _ (held : Option (List ℕ) → Option (List ℕ)) where
     pub spelled : IsSchedule given.cpus turns steps
     pub is : answer ≡ steps_text form given asked steps
 
-  -- what `schedule` answers: a schedule that the reader takes, and that ends the scripts
-  pub record AnswersSchedule (settings scripts answer : List ℕ) : Type 0 where
+  -- what `schedule` answers: a schedule that the reader takes, whose steps come so, and that ends the scripts
+  pub record AnswersSchedule (turns : Turns) (settings scripts answer : List ℕ) : Type 0 where
     pub given : Settings
     pub asked : List (List KernelTodo)
     pub both : ReadsBoth settings scripts given asked
     pub steps : List ℕ
     pub is : IsSchedule given.cpus answer steps
-    pub ends : EndsAll given asked steps
+    pub come : ComeSo turns (new_world given asked) steps
+    pub ends : EndsAll (new_world given asked) steps
+
+  -- the scripts have so many entries that going round may take more words than a schedule can have
+  pub record RefusesLong (settings scripts : List ℕ) : Type 0 where
+    pub given : Settings
+    pub asked : List (List KernelTodo)
+    pub both : ReadsBoth settings scripts given asked
+    pub long : MayBeTooLong 0 (new_world given asked)

@@ -12,10 +12,10 @@ use Rattle.scripts.specs.declared.settings.fault.SettingsFault.TheVariants as se
 use Rattle.scripts.specs.declared.streams.source_reader.ReadFault.{ReadFault}
 use Rattle.scripts.specs.declared.streams.source_reader.ReadFault.TheVariants as read
 use Rattle.scripts.specs.declared.streams.text_writer.WriteFailed.{WriteFailed}
+use Rattle.view.specs.declared.draft.DraftFault.{DraftFault}
+use Rattle.view.specs.declared.draft.DraftFault.TheVariants as draft
 use Rattle.view.specs.declared.fault.Fault.{Fault}
 use Rattle.view.specs.declared.fault.Fault.TheVariants as fault
-use Rattle.view.specs.declared.random_schedule.RandomFault.{RandomFault}
-use Rattle.view.specs.declared.random_schedule.RandomFault.TheVariants as random
 
 abbrev pub of_memory : OutOfMemory → Fault
 of_memory e = fault.OutOfMemory
@@ -45,9 +45,9 @@ of_record (records.Line n) = fault.BadRecord n
 abbrev pub of_write : WriteFailed → Fault
 of_write e = fault.WriteFailed
 
-abbrev pub of_random : RandomFault → Fault
-of_random random.OutOfMemory = fault.OutOfMemory
-of_random random.TooLong = fault.TooLong
+abbrev pub of_draft : DraftFault → Fault
+of_draft draft.OutOfMemory = fault.OutOfMemory
+of_draft draft.TooLong = fault.TooLong
 
 -- 1 for what was found of a record, 2 for what the caller wrote, 3 for what the machine refused
 abbrev pub status_of : Fault → ℕ

@@ -1,7 +1,7 @@
 pub mod Answers
+pub mod Drafts
 pub mod Faults
 pub mod Printed
-pub mod RandomSchedule
 pub mod StepLines
 pub mod StepNames
 pub mod Steps

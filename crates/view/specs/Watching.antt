@@ -1,10 +1,16 @@
 -- What a machine that is watched shows.
-use Rattle.std.specs.Prelude.{◌≡◌, ℕ, List, [], length, map, slice_get, Option, Some, None}
+use Rattle.std.specs.Prelude.{◌≡◌, ℕ, Bool, true, false, List, [], length, map, slice_get, Option, Some, None}
 use Rattle.event_log.specs.declared.object.SeqObject.{Ghosts}
 use Rattle.word_rule.specs.Locks.{lock_words}
 use Rattle.event_log.specs.declared.entry.Todo.{Todo}
+use Rattle.word_rule.specs.Machine.Orders.{works_on}
 use Rattle.word_rule.specs.Machine.Shown.{MachineParts, Represents}
 use Rattle.word_rule.specs.Machine.World.{World, CellState}
+
+-- whether there is an object
+abbrev pub is_some : Option ℕ → Bool
+is_some None = false
+is_some (Some x) = true
 
 module _ {O P C R : Type 0} where
   -- the words of a cell, if there is one
@@ -16,6 +22,10 @@ module _ {O P C R : Type 0} where
   abbrev pub words_on : World O P C R → Option ℕ → List ℕ
   words_on w None = []
   words_on w (Some x) = words_in (length w.cpus) (slice_get w.cells x)
+
+  -- whether the CPU has an entry left
+  abbrev pub is_busy : World O P C R → ℕ → Bool
+  is_busy w i = is_some (works_on (slice_get w.cpus i))
 
 -- a machine, and what is left of each script
 pub record WatchedParts (O P C R : Type 0) : Type 0 where

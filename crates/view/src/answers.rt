@@ -1,17 +1,18 @@
 //! What the program answers: the lines of steps, a schedule, a picture or a trace.
 
 ghost use Rattle.std.specs.Prelude.{◌≡◌, ℕ, List, Some, string_bytes, IfOk};
-ghost use Rattle.view.specs.Answers.{Reads, ReadsRecord, AnswersSteps, AnswersSchedule, bytes_of};
+ghost use Rattle.view.specs.Answers.{Reads, ReadsRecord, AnswersSteps, AnswersSchedule, RefusesLong, bytes_of};
 ghost use Rattle.scripts.specs.RecordFaults.{IsBadLine};
 
 use crate::Inputs;
 use crate::fault::Fault;
 use crate::input::{read_input, read_record, read_scripts, read_settings};
-use crate::random_schedule::{random_schedule, schedule_text};
+use crate::made_schedule::{made_schedule, schedule_text};
 use crate::step_names::LineForm;
 use crate::steps::steps;
 use crate::timeline::timeline;
 use crate::trace::trace;
+use crate::turns::Turns;
 use auditor::fault_text;
 use log_merge::{MergeFault, cycle_text, merge};
 use scripts::Schedule;
@@ -36,19 +37,20 @@ pub fn steps_answer<I: Inputs>(
     Ok(steps(alloc, form, &settings, &scripts, &schedule)?)
 }
 
-/// A schedule that ends the scripts of that name, on the objects of the settings.
+/// A schedule that ends the scripts of that name, on the objects of the settings, and whose steps come in that way.
 pub fn schedule_answer<I: Inputs>(
     alloc: Global,
     inputs: &mut I,
     settings: &str,
     scripts: &str,
-    seed: u64,
+    turns: Turns,
 ) -> Result<String, Fault>
-    ensures { IfOk result (λ text. AnswersSchedule (I.held inputs.old) settings.now scripts.now (string_bytes text)) }
+    ensures answers { IfOk result (λ text. AnswersSchedule (I.held inputs.old) turns settings.now scripts.now (string_bytes text)) }
+    ensures too_long { result ≡ Err Fault.TooLong → RefusesLong (I.held inputs.old) settings.now scripts.now }
 {
     let settings = read_settings(alloc, inputs, settings)?;
     let scripts = read_scripts(alloc, inputs, scripts, &settings)?;
-    let steps = random_schedule(alloc, &settings, &scripts, seed)?;
+    let steps = made_schedule(alloc, &settings, &scripts, turns)?;
     match schedule_text(alloc, steps.as_slice()) {
         Ok(text) => Ok(text),
         Err(_) => Err(Fault::OutOfMemory),

@@ -4,6 +4,7 @@ ghost use Rattle.std.specs.Prelude.{◌≡◌, ◌⊎◌, IfErr};
 
 use crate::fault::Fault;
 use crate::step_names::LineForm;
+use crate::turns::Turns;
 use clap::error::ErrorKind;
 use clap::{Arg, ArgAction, ArgMatches, Command, Error};
 use scripts::number_of;
@@ -28,7 +29,7 @@ pub enum Arguments<'a> {
     Schedule {
         settings: &'a str,
         scripts: &'a str,
-        seed: u64,
+        turns: Turns,
     },
 }
 
@@ -94,10 +95,15 @@ fn schedule_form<'a>(alloc: Global) -> Result<Command<'a>, AllocError> {
         .value_name("N")
         .action(ArgAction::Set)
         .help("The same number draws the same schedule; without it 0");
+    let rounds = Arg::new(alloc, "rounds")
+        .long("rounds")
+        .action(ArgAction::SetTrue)
+        .help("Draw nothing: let the CPUs take turns");
     Command::new(alloc, "schedule")
-        .about("Print a schedule that is drawn, and ends all scripts")
+        .about("Print a schedule that ends all scripts, drawn or round by round")
         .arg(settings_option(alloc))?
         .arg(seed)?
+        .arg(rounds)?
         .arg(scripts_file(alloc))
 }
 
@@ -168,16 +174,18 @@ fn wanted_file<'a>(found: &ArgMatches<'a>, id: &str) -> Result<&'a str, Fault>
     }
 }
 
-/// The seed, spelled as all numbers are.
-fn seed(found: &ArgMatches<'_>) -> Result<u64, Fault>
+/// Rounds, or the seed, spelled as all numbers are. Both are bad words.
+fn turns(found: &ArgMatches<'_>) -> Result<Turns, Fault>
     ensures { IfErr result (λ f. f ≡ Fault.BadWords) }
 {
-    match found.get_str("seed") {
-        Some(word) => match number_of(word.as_bytes(), u64::MAX) {
-            Some(seed) => Ok(seed),
+    match (found.get_str("seed"), found.get_flag("rounds")) {
+        (None, true) => Ok(Turns::Rounds),
+        (None, false) => Ok(Turns::Drawn { seed: 0 }),
+        (Some(_), true) => Err(Fault::BadWords),
+        (Some(word), false) => match number_of(word.as_bytes(), u64::MAX) {
+            Some(seed) => Ok(Turns::Drawn { seed }),
             None => Err(Fault::BadWords),
         },
-        None => Ok(0),
     }
 }
 
@@ -205,7 +213,7 @@ fn asked_by<'a>(name: &str, found: &ArgMatches<'a>) -> Result<Arguments<'a>, Fau
         "schedule" => Ok(Arguments::Schedule {
             settings: wanted_file(found, "settings")?,
             scripts: wanted_file(found, "SCRIPTS")?,
-            seed: seed(found)?,
+            turns: turns(found)?,
         }),
         _ => Err(Fault::BadWords),
     }

@@ -60,9 +60,9 @@ fn answered<I: Inputs>(alloc: Global, words: &[String], inputs: &mut I) -> Resul
             Arguments::Schedule {
                 settings,
                 scripts,
-                seed,
+                turns,
             },
-        ) => schedule_answer(alloc, inputs, settings, scripts, seed),
+        ) => schedule_answer(alloc, inputs, settings, scripts, turns),
     }
 }
 

@@ -1,9 +1,9 @@
 //! Why the program didn't do what its words ask for.
 
 ghost use Rattle.std.specs.Prelude.{◌≡◌};
-ghost use Rattle.view.specs.Faults.{of_memory, of_settings, of_scripts, of_read, of_schedule, of_record, of_write, of_random, status_of};
+ghost use Rattle.view.specs.Faults.{of_memory, of_settings, of_scripts, of_read, of_schedule, of_record, of_write, of_draft, status_of};
 
-use crate::random_schedule::RandomFault;
+use crate::draft::DraftFault;
 use event_log::OutOfMemory;
 use scripts::{
     BadSettings, ReadFault, RecordReadFault, ScheduleFault, ScriptsReadFault, SettingsFault,
@@ -131,13 +131,13 @@ impl From<RecordReadFault> for Fault {
     }
 }
 
-impl From<RandomFault> for Fault {
-    ghost from_gives = { λ cause fault. fault ≡ of_random cause };
+impl From<DraftFault> for Fault {
+    ghost from_gives = { λ cause fault. fault ≡ of_draft cause };
 
-    fn from(fault: RandomFault) -> Fault {
+    fn from(fault: DraftFault) -> Fault {
         match fault {
-            RandomFault::OutOfMemory => Fault::OutOfMemory,
-            RandomFault::TooLong => Fault::TooLong,
+            DraftFault::OutOfMemory => Fault::OutOfMemory,
+            DraftFault::TooLong => Fault::TooLong,
         }
     }
 }

@@ -1,6 +1,6 @@
 //! Inputs: files, and standard input.
 
-ghost use Rattle.std.specs.Prelude.{◌≡◌, ℕ, List, Option, Some, None, length, IfOk};
+ghost use Rattle.std.specs.Prelude.{◌≡◌, ◌≢◌, ℕ, List, Option, Some, None, length, IfOk};
 ghost use Rattle.scripts.specs.ScriptFaults.{SpellsRest, NamesFirstBadOfRest};
 ghost use Rattle.scripts.specs.ScriptText.{ScriptsFit};
 ghost use Rattle.scripts.specs.RecordFaults.{IsBadLine};
@@ -50,6 +50,7 @@ pub fn read_settings<I: Inputs>(
     name: &str,
 ) -> Result<Settings, Fault>
     ensures found { IfOk result (SpellsSettingsOf (I.held inputs.old) name.now) }
+    ensures not_long { result ≢ Err Fault.TooLong }
     ensures files { (file : List ℕ) → I.held inputs.new (Some file) ≡ I.held inputs.old (Some file) }
 {
     let text = read_input(alloc, inputs, Some(name))?;

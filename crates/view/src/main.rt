@@ -4,18 +4,20 @@
 mod answers;
 mod arguments;
 mod command;
+mod draft;
 mod fault;
 mod input;
+mod made_schedule;
 mod opening;
 mod picture;
 mod random;
-mod random_schedule;
 mod step_json;
 mod step_names;
 mod step_text;
 mod steps;
 mod timeline;
 mod trace;
+mod turns;
 mod watched;
 mod words_given;
 
@@ -30,6 +32,7 @@ use std::io;
 use std::io::{Input, Read};
 use std::process::ExitCode;
 pub use step_names::LineForm;
+pub use turns::Turns;
 
 /// An open file, or standard input.
 #[derive(Drop)]

@@ -1,7 +1,9 @@
 //! The step machine of settings and scripts, before its first step.
 
-ghost use Rattle.std.specs.Prelude.{◌≡◌, length, IfOk};
+ghost use Rattle.std.specs.Prelude.{◌≡◌, ◌≤◌, length, IfOk};
+ghost use Rattle.sound_run.specs.declared.limits.TheConstants.{MOST_CPUS};
 ghost use Rattle.scripts.specs.ScriptText.{ScriptsFit};
+ghost use Rattle.word_rule.specs.Machine.Opening.{IsOpening};
 ghost use Rattle.cpu_worker.specs.Simulation.{new_world};
 ghost use Rattle.view.specs.Watching.{Watches};
 
@@ -20,6 +22,8 @@ pub fn opened<'a>(
 ) -> Result<Watched<'a, KernelObject>, OutOfMemory>
     requires { ScriptsFit settings.now.cpus (length settings.now.objects) scripts.now }
     ensures shows { IfOk result (λ w. Watches ⟦<KernelObject as SeqObject>⟧ w (new_world settings.now scripts.now)) }
+    ensures opening { IfOk result (λ _. IsOpening (new_world settings.now scripts.now)) }
+    ensures few { IfOk result (λ _. settings.now.cpus ≤ MOST_CPUS) }
     ensures cpus { IfOk result (λ w. length w.left ≡ settings.now.cpus) }
 {
     let todos = scripts.copy(alloc)?;

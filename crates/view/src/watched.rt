@@ -1,11 +1,12 @@
 //! The step machine, and beside it the object that each CPU works on.
 
-ghost use Rattle.std.specs.Prelude.{◌≡◌, ◌<◌, [], length, map, IfOk, slice_get, position, not, ◌==◌, Some, IfSome, IfNone};
+ghost use Rattle.std.specs.Prelude.{◌≡◌, ◌<◌, ◌-◌, ◌^◌, min, true, [], length, map, IfOk, slice_get, position, not, ◌==◌, Some, IfSome, IfNone};
 ghost use Rattle.std.specs.List.{AllByRecursion};
 ghost use Rattle.word_rule.specs.Machine.Orders.{first_cell, works_on};
+ghost use Rattle.word_rule.specs.Machine.Rounds.{entries_to_do};
 ghost use Rattle.word_rule.specs.Machine.World.{World, left, step};
 ghost use Rattle.word_rule.specs.StepKinds.{ends_hold};
-ghost use Rattle.view.specs.Watching.{Watches, words_on};
+ghost use Rattle.view.specs.Watching.{Watches, is_busy, words_on};
 
 use event_log::{OutOfMemory, SeqObject, Todo};
 use std::alloc::Global;
@@ -119,6 +120,36 @@ impl<'a, O: SeqObject> Watched<'a, O> {
             Some(x) if (x as usize) < self.cells => self.machine.words(x),
             _ => &[],
         }
+    }
+
+    /// The number of CPUs.
+    pub fn cpus(&self) -> u8
+        ensures { result ≡ length self.now.left }
+    {
+        self.machine.keeps_a_world();
+        self.left.len() as u8
+    }
+
+    /// Whether the CPU has an entry left.
+    pub fn is_busy(&self, cpu: u8) -> bool
+        ensures within { result ≡ true → cpu < length self.now.left }
+        ensures busy { (w : World O O.Params O.Call O.Reply) → Watches O.SeqObject self.now w → result ≡ is_busy w cpu }
+    {
+        match self.left.get(cpu as usize) {
+            Some(left) => !left.is_empty(),
+            None => false,
+        }
+    }
+
+    /// How many entries are left in all; more than a `usize` holds are as many as it holds.
+    pub fn entries(&self) -> usize
+        ensures { (w : World O O.Params O.Call O.Reply) → Watches O.SeqObject self.now w → result ≡ min (entries_to_do w.cpus) (2 ^ 64 - 1) }
+    {
+        let mut entries = 0_usize;
+        for left in self.left.iter() {
+            entries = entries.saturating_add(left.len());
+        }
+        entries
     }
 
     /// A CPU whose script isn't done: the first from the given one on, or else the first of all.

@@ -1,5 +1,6 @@
 -- Every call ends, whatever the others still have to do.
 use Rattle.std.proofs.Common.{◌≡◌, ◌≢◌, ◌⊎◌, inl, inr, ⊎_elim, ℕ, ◌+◌, ◌*◌, ◌<◌, ◌≤◌, ◌&&◌, Bool, true, false, true≢false, cond, List, [], ◌∷◌, length, slice_get, Option, Some, None, refl, sym, ap, ◌∙◌, subst, arith}
+use Rattle.std.proofs.Math.Nat.{mul-le-mul_right}
 use Rattle.std.proofs.lemmas.Bool.{cases_Bool, false_from_ne_true}
 use mathlib.Core.Logic.{dite}
 use mathlib.Core.Option.{some}
@@ -8,8 +9,6 @@ use native.Mathlib.Decide.{ℕ_discrete}
 use Rattle.event_log.specs.declared.object.SeqObject.{Ghosts}
 use Rattle.event_log.specs.declared.entry.Todo.{Todo}
 use Rattle.event_log.specs.Distinct.{has}
-use Rattle.sound_run.specs.declared.lock_kind.LockKind.{LockKind}
-use Rattle.sound_run.specs.declared.lock_kind.LockKind.TheVariants as kinds
 use Rattle.word_rule.specs.StepKinds.{ends_hold}
 use Rattle.word_rule.specs.Machine.Opening.{IsOpening}
 use Rattle.word_rule.specs.Machine.Orders.{is_at, endings, ends_within}
@@ -20,6 +19,7 @@ use Rattle.word_rule.proofs.Fairness.{Fair, Lowers, Someone, reaches}
 use Rattle.word_rule.proofs.IdleSteps.{IsWholeLock}
 use Rattle.word_rule.proofs.LineChanges.{never}
 use Rattle.word_rule.proofs.Lists.{has_at, has_tail}
+use Rattle.word_rule.proofs.ProgressLaws.{most_few}
 use Rattle.sound_run.proofs.Slices.{one_of}
 use Rattle.word_rule.proofs.WaitingTurns.{ReadyAt, rank_at, rank_few, rank_place, rank_some, someone_ready, turn_lowers}
 use Rattle.word_rule.proofs.WorldSteps.{StepsCell, StepsCpus, at_stays, cell_stepped, cpu_below, cpus_stepped, left_to, works_at}
@@ -209,11 +209,7 @@ module _ {O P C R : Type 0} (meaning : Ghosts O P C R) where
 
   pub calls_lem : (w : World O P C R) → IsOpening w → (is more : List ℕ) (i x : ℕ) → is_at (run meaning is w) i x ≡ true → HasRounds (length w.cpus) (most_steps * (length w.cpus + 1)) more → ends_within meaning i x more (run meaning is w) ≡ true
   calls_lem w o is more i x works t = within w o is more i x (most_steps * (length w.cpus + 1)) works
-      (λ c _ h. let few = rank_few (length w.cpus) i c.lock h in by c.lock.kind (rank_at (length w.cpus) i c.lock) few) t
-    where
-      by : (kind : LockKind) (r : ℕ) → r ≤ most_steps_of kind * (length w.cpus + 1) → r ≤ most_steps * (length w.cpus + 1)
-      by kinds.Ticket r le = omega (arith, le)
-      by kinds.Mcs r le = omega (arith, le)
+      (λ c _ h. let few = rank_few (length w.cpus) i c.lock h in let most = mul-le-mul_right (length w.cpus + 1) (most_few c.lock.kind) in omega (arith, few, most)) t
 
   -- by the kind of the cell's lock
   pub cell_lem : (w : World O P C R) → IsOpening w → (is more : List ℕ) (i x : ℕ) (c : CellState O P C R) → slice_get (run meaning is w).cells x ≡ Some c → is_at (run meaning is w) i x ≡ true → HasRounds (length w.cpus) (most_steps_of c.lock.kind * (length w.cpus + 1)) more → ends_within meaning i x more (run meaning is w) ≡ true

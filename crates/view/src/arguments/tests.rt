@@ -3,6 +3,7 @@
 use super::{Arguments, Asked, read_words};
 use crate::fault::Fault;
 use crate::step_names::LineForm;
+use crate::turns::Turns;
 use std::test::Fail;
 
 /// The words of a line.
@@ -23,12 +24,16 @@ fn steps(form: LineForm) -> Arguments<'static> {
     }
 }
 
-fn schedule(seed: u64) -> Arguments<'static> {
+fn schedule(turns: Turns) -> Arguments<'static> {
     Arguments::Schedule {
         settings: "s",
         scripts: "a",
-        seed,
+        turns,
     }
+}
+
+fn drawn(seed: u64) -> Turns {
+    Turns::Drawn { seed }
 }
 
 #[test]
@@ -40,12 +45,14 @@ fn words_that_are_taken(rt: HostRuntime) -> Result<(), Fail> {
         ("timeline r", Arguments::Timeline { record: Some("r") }),
         ("trace", Arguments::Trace { record: None }),
         ("trace r", Arguments::Trace { record: Some("r") }),
-        ("schedule --settings s a", schedule(0)),
-        ("schedule --seed 7 a --settings s", schedule(7)),
+        ("schedule --settings s a", schedule(drawn(0))),
+        ("schedule --seed 7 a --settings s", schedule(drawn(7))),
         (
             "schedule --settings s a --seed 18446744073709551615",
-            schedule(u64::MAX),
+            schedule(drawn(u64::MAX)),
         ),
+        ("schedule --rounds --settings s a", schedule(Turns::Rounds)),
+        ("schedule --settings s a --rounds", schedule(Turns::Rounds)),
     ];
     for (line, wanted) in rows {
         let words = words_in(&rt, line)?;
@@ -90,6 +97,12 @@ fn words_that_are_refused(rt: HostRuntime) -> Result<(), Fail> {
         "schedule --settings s a --seed x",
         "schedule --settings s a --seed 18446744073709551616",
         "schedule --settings s a --json",
+        "schedule --settings s a --rounds 1",
+        "schedule --settings s a --rounds=1",
+        "schedule --settings s a --rounds --rounds",
+        "schedule --settings s a --rounds --seed 1",
+        "schedule --settings s a --seed 0 --rounds",
+        "steps --settings s a b --rounds",
     ];
     for line in rows {
         let words = words_in(&rt, line)?;
@@ -119,6 +132,7 @@ fn help_and_version(rt: HostRuntime) -> Result<(), Fail> {
         ("-V", "view 1"),
         ("steps --help", "--json"),
         ("schedule -h", "--seed <N>"),
+        ("schedule -h", "--rounds"),
         ("timeline --help", "[RECORD]"),
         ("trace --help", "[RECORD]"),
     ];

@@ -83,7 +83,7 @@ impl<'a> Inputs for Named<'a> {
 }
 
 /// The files that there are.
-const FILES: [(&str, &str); 12] = [
+const FILES: [(&str, &str); 13] = [
     ("ticket", TICKET),
     ("mcs", MCS),
     ("record", RECORD),
@@ -91,6 +91,7 @@ const FILES: [(&str, &str); 12] = [
     ("cycle", CYCLE),
     ("both", "0 q0 enq 3\n1 q0 enq 4\n"),
     ("late", "0 q0 enq 3\n1 q0 enq 4\n"),
+    ("uneven", "0 q0 enq 3\n0 q0 deq\n1 q0 enq 4\n"),
     ("bad", "0 q0 enq 3\n0 q1 deq\n"),
     ("broken", "0 q0 enq 3\n"),
     ("turns", "0 1 1 0 0 1 1 0"),
@@ -126,17 +127,41 @@ fn told<R: AllocGlobal, W: Sink, F: Sink>(
     out: &mut W,
     faults: &mut F,
 ) -> Result<(u8, usize), Fail> {
-    let mut words = Vec::new(rt.alloc());
-    for word in line.split(' ') {
-        words.push(format!(in rt.alloc(); "{word}")?)?;
-    }
     let mut inputs = Named {
         standard,
         files: &FILES,
         opened: 0,
     };
-    let status = command(rt.alloc(), words.as_slice(), &mut inputs, out, faults);
+    let status = status_of(rt, line, &mut inputs, out, faults)?;
     Ok((status, inputs.opened))
+}
+
+/// Does the command of these words on these inputs, and answers the status.
+fn status_of<R: AllocGlobal, W: Sink, F: Sink>(
+    rt: &R,
+    line: &str,
+    inputs: &mut Named<'_>,
+    out: &mut W,
+    faults: &mut F,
+) -> Result<u8, Fail> {
+    let mut words = Vec::new(rt.alloc());
+    for word in line.split(' ') {
+        words.push(format!(in rt.alloc(); "{word}")?)?;
+    }
+    Ok(command(rt.alloc(), words.as_slice(), inputs, out, faults))
+}
+
+/// What the program answers if there are these files alone; nothing if it refuses.
+fn answer_of<R: AllocGlobal>(rt: &R, line: &str, files: &[(&str, &str)]) -> Result<String, Fail> {
+    let mut out = Plain::new(Vec::new(rt.alloc()));
+    let mut faults = Plain::new(Vec::new(rt.alloc()));
+    let mut inputs = Named {
+        standard: "",
+        files,
+        opened: 0,
+    };
+    status_of(rt, line, &mut inputs, &mut out, &mut faults)?;
+    Ok(String::from_utf8(out.inner).unwrap_or(String::new(rt.alloc())))
 }
 
 /// What the program answers: the status, the output and the line.

@@ -10,9 +10,9 @@ loop-calls-preserved g c =
     let i = c.loop-calls.invariant in
     let s = c.in_ok-steps.steps in
     record {
-      hold = λ cell h. c.apply.ensures.hold cell (i.hold cell h);
-      run = c.apply.ensures.run ∙ i.run;
-      added = added_more g.O.SeqObject (g.C.LockCell.hold_view c.args.hold.now) (g.C.LockCell.hold_view c.loop-calls.hold) (g.C.LockCell.hold_view c.apply.new.hold) c.loop-calls.done.items c.push.new.self.items s _ i.added c.apply.ensures.caller c.in_ok-steps.ensures.after c.push.ensures.items;
+      hold = λ cell h. c.do_group.ensures.hold cell (i.hold cell h);
+      run = c.do_group.ensures.run ∙ i.run;
+      added = added_more g.O.SeqObject (g.C.LockCell.hold_view c.args.hold.now) (g.C.LockCell.hold_view c.loop-calls.hold) (g.C.LockCell.hold_view c.do_group.new.hold) c.loop-calls.done.items c.push.new.self.items s _ i.added c.do_group.ensures.caller c.in_ok-steps.ensures.after c.push.ensures.items;
       fulfils = fulfil_next g.O.SeqObject c.args.groups.now c.loop-calls.calls-index c.calls-item.result c.as_slice.result.now c.loop-calls.done.items c.push.new.self.items s c.loop-calls-test.true c.calls-item.is c.as_slice.ensures.value i.count i.fulfils c.in_ok-steps.ensures.asked c.push.ensures.items;
       count = ap length c.push.ensures.items ∙ (length-append c.loop-calls.done.items (s ∷ []) ∙ ap (λ n. n + 1) i.count);
     }

@@ -1,15 +1,14 @@
-use Rattle.std.proofs.Common.{◌≡◌, ℕ, List, map, length, vec_len, sym, ap, subst, ◌∙◌, arith, lit<, refl, [], ◌∷◌}
+use Rattle.std.proofs.Common.{◌≡◌, List, map, length, vec_len, sym, ap, subst, ◌∙◌, arith, lit<, refl, [], ◌∷◌}
 use Rattle.std.proofs.lemmas.List.{length-map}
 use Rattle.std.specs.List.{AllByRecursion}
 use Rattle.scripts.specs.contracts.objects.kernel_object.KernelObjectSeqObject.TheImpl.{ghosts as kernel}
 use Rattle.scripts.specs.KernelTypes.{KernelTodo}
 use Rattle.scripts.specs.ScriptText.{ScriptFits}
-use Rattle.word_rule.specs.Machine.Opening.{opening_cell, opening_cpu, opening_world}
+use Rattle.word_rule.specs.Machine.Opening.{IsOpening, opening_cell, opening_cpu, opening_world}
 use Rattle.word_rule.specs.Machine.Shown.{Represents}
 use Rattle.cpu_worker.specs.Simulation.{KernelWorld, new_cell, new_world}
 use Rattle.cpu_worker.proofs.Simulations.{opened_cpus, able_lists}
-use Rattle.view.specs.Watching.{Watches}
-use Rattle.view.proofs.Watchings.{both}
+use Rattle.view.proofs.Watchings.{both, either}
 use Rattle.view.proofs.opening.opened.Goals as goal
 use Rattle.view.proofs.opening.opened.Goals.{After-into_lists}
 
@@ -46,6 +45,13 @@ todos_again : (scripts : List (List KernelTodo)) → map (λ c. c.todo) (map ope
 todos_again [] = refl
 todos_again (s ∷ scripts) = ap (λ l. s ∷ l) (todos_again scripts)
 
+pub returns-in-Ok-clause-opening : goal.returns-in-Ok-clause-opening
+returns-in-Ok-clause-opening c =
+    let cells = c.in_ok-cells.ensures.cells in
+    let cpus = opened_cpus c.into_lists.result.items c.args.scripts.now (c.into_lists.ensures.lists ∙ c.in_ok-todos.ensures) in
+    let made : opening_world c.in_ok-cells.cells.items c.into_lists.result.items ≡ new_world c.args.settings.now c.args.scripts.now = λ i. record { cells = cells i; cpus = cpus i } in
+    either c.new-in-Ok.result (subst (λ (w : KernelWorld). IsOpening w) made c.new.ensures.opening)
+
 pub returns-in-Ok-clause-shows : goal.returns-in-Ok-clause-shows
 returns-in-Ok-clause-shows c =
     let cells = c.in_ok-cells.ensures.cells in
@@ -56,3 +62,6 @@ returns-in-Ok-clause-shows c =
       shows = subst (λ p. Represents kernel p (new_world c.args.settings.now c.args.scripts.now)) (sym m) shows;
       left = l ∙ (c.lists.ensures.lists ∙ sym (todos_again c.args.scripts.now));
     })
+
+pub returns-in-Ok-clause-few : goal.returns-in-Ok-clause-few
+returns-in-Ok-clause-few c = either c.new-in-Ok.result c.in_ok-cells.ensures.fit.cpus.1

@@ -1,6 +1,6 @@
 //! Schedules that are drawn.
 
-use super::answer;
+use super::{answer, answer_of};
 use std::test::Fail;
 
 #[test]
@@ -30,5 +30,45 @@ fn a_seed_draws_one_schedule(rt: HostRuntime) -> Result<(), Fail> {
         }
     }
     assert!(rt; differ >= 2, "{differ}");
+    Ok(())
+}
+
+/// How many words the schedule of 64 CPUs has that these words make, if each does an entry on one queue behind that lock.
+fn words_for_64<R: AllocGlobal>(rt: &R, lock: &str, words: &str) -> Result<usize, Fail> {
+    let mut settings = String::new(rt.alloc());
+    writeln!(
+        settings,
+        "cpus = 64\n[[object]]\nname = \"q0\"\nkind = \"queue\"\nlock = \"{lock}\""
+    )?;
+    writeln!(settings, "events = 200\nthreads = 8")?;
+    let mut scripts = String::new(rt.alloc());
+    for cpu in 0..64 {
+        writeln!(scripts, "{cpu} q0 len")?;
+    }
+    let files = [
+        ("settings", settings.as_str()),
+        ("scripts", scripts.as_str()),
+    ];
+    let line = format!(in rt.alloc(); "schedule --settings settings scripts {words}")?;
+    let schedule = answer_of(rt, line.as_str(), &files)?;
+    Ok(schedule.as_str().lines().count())
+}
+
+#[test]
+fn every_script_of_64_cpus_ends(rt: HostRuntime) -> Result<(), Fail> {
+    for lock in ["ticket", "mcs"] {
+        for words in ["--seed 1", "--seed 2", "--rounds"] {
+            let count = words_for_64(&rt, lock, words)?;
+            assert!(rt; count >= 192 && count <= 100_000, "{lock} {words} {count}");
+        }
+    }
+    Ok(())
+}
+
+#[test]
+fn rounds_leave_out_who_is_done(rt: HostRuntime) -> Result<(), Fail> {
+    let (status, out, faults) = answer(&rt, "schedule --settings ticket uneven --rounds", "")?;
+    assert!(rt; status == 0 && faults.is_empty());
+    assert!(rt; out.as_str() == "0\n1\n0\n1\n0\n1\n0\n1\n0\n0\n", "{out}");
     Ok(())
 }

@@ -1,4 +1,4 @@
-use Rattle.std.proofs.Common.{◌∙◌, ap, sym, subst, map, ◌+◌, arith}
+use Rattle.std.proofs.Common.{◌∙◌, ap, map, ◌+◌, arith}
 use Rattle.std.proofs.lemmas.List.{take_all}
 use Rattle.view.proofs.Watchings.{pushed}
 use Rattle.view.proofs.watched.Watched.new.Goals as goal

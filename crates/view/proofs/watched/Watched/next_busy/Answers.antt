@@ -1,4 +1,4 @@
-use Rattle.std.proofs.Common.{◌∙◌, ap, sym, subst, length, not, ◌==◌, position, None}
+use Rattle.std.proofs.Common.{◌∙◌, ap, sym, length, not, ◌==◌, position}
 use Rattle.view.proofs.Watchings.{none_at, nothing_left}
 use Rattle.view.proofs.watched.Watched.next_busy.Goals as goal
 

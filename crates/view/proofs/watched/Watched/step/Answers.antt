@@ -1,4 +1,4 @@
-use Rattle.std.proofs.Common.{◌≡◌, sym, ap, ◌∙◌, subst, length, length-set}
+use Rattle.std.proofs.Common.{sym, ap, ◌∙◌, subst, length, length-set}
 use Rattle.std.proofs.lemmas.List.{length-map}
 use Rattle.word_rule.specs.Machine.Shown.{Represents}
 use Rattle.view.proofs.Watchings.{left_at, works, ended, goes_on}
