@@ -1,6 +1,6 @@
 //! A CPU's worker: it does its entries one after another, each on the cell of its object.
 
-ghost use Rattle.std.specs.Prelude.{◌≡◌, ◌<◌, ◌≤◌, ◌^◌, length, map, vec_capacity, IfOk, OnErr};
+ghost use Rattle.std.specs.Prelude.{◌≡◌, ◌<◌, ◌≤◌, ◌^◌, length, map, vec_capacity};
 ghost use Rattle.event_log.specs.Entries.{asked_of};
 ghost use Rattle.guarded_cell.specs.Workers.{ArePasses, Did, DidAt};
 ghost use Rattle.word_rule.specs.Machine.SoundWorld.{IsTodo};
@@ -8,68 +8,110 @@ ghost use Rattle.cpu_worker.specs.Work.{IsReady, IsDone};
 
 use crate::gate::Gate;
 use event_log::{Done, Entry, MOST_CALLS, NoRoom, SeqObject, Steps, Todo};
-use guarded_cell::batch;
+use guarded_cell::{batch, call};
 use scripts::KernelObject;
 use std::sync::Wait;
 use word_rule::LockCell;
 
-/// The entry of the transcript: what was asked, what became of it, and the looks.
-fn entry_of<O: SeqObject>(todo: Todo<O>, applied: Result<Steps<O>, NoRoom>, looks: u64) -> Entry<O>
-    ensures asked { asked_of result ≡ todo }
-    ensures looks { result.looks < 2 ^ 64 }
-    ensures ok { IfOk applied (λ s. result.done ≡ Done.Steps s) }
-    ensures full { OnErr applied (result.done ≡ Done.NoRoom) }
+/// Does the only call of an entry as one event of the acting CPU, and writes into the entry what became of it.
+#[inline]
+fn do_call<O: SeqObject, C: LockCell<O>, R: Wait>(
+    rt: &R,
+    cell: &C,
+    pass: C::Pass,
+    entry: &mut Entry<O>,
+) -> C::Pass
+    requires pass { C.is_pass_of cell.now pass }
+    requires one { length entry.old.asked.items ≡ 1 }
+    ensures pass { C.is_pass_of cell.now result }
+    ensures caller { (C.pass_view result).caller ≡ (C.pass_view pass).caller }
+    ensures asked { asked_of entry.new ≡ asked_of entry.old }
+    ensures looks { entry.new.looks < 2 ^ 64 }
+    ensures did { Did O.SeqObject (C.pass_view pass) entry.new.asked entry.new.done (C.pass_view result) }
 {
-    Entry {
-        object: todo.object,
-        asked: todo.calls,
-        done: Done::from(applied),
-        looks,
+    let asked = entry.asked[0];
+    let (pass, answered, looks) = call(rt, cell, pass, &asked);
+    entry.looks = looks;
+    match answered {
+        Ok(reply) => entry.done = Done::Steps(Steps::one(asked, reply)),
+        Err(NoRoom) => entry.done = Done::NoRoom,
     }
+    pass
 }
 
-/// Does an entry as one event of the acting CPU.
+/// Does the calls of an entry as one event of the acting CPU, and writes into the entry what became of them.
+fn do_calls<O: SeqObject, C: LockCell<O>, R: Wait>(
+    rt: &R,
+    cell: &C,
+    pass: C::Pass,
+    entry: &mut Entry<O>,
+) -> C::Pass
+    requires pass { C.is_pass_of cell.now pass }
+    requires some { 0 < length entry.old.asked.items }
+    requires few { length entry.old.asked.items ≤ MOST_CALLS }
+    ensures pass { C.is_pass_of cell.now result }
+    ensures caller { (C.pass_view result).caller ≡ (C.pass_view pass).caller }
+    ensures asked { asked_of entry.new ≡ asked_of entry.old }
+    ensures looks { entry.new.looks < 2 ^ 64 }
+    ensures did { Did O.SeqObject (C.pass_view pass) entry.new.asked entry.new.done (C.pass_view result) }
+{
+    let (pass, applied, looks) = batch(rt, cell, pass, entry.asked.as_slice());
+    entry.looks = looks;
+    match applied {
+        Ok(steps) => entry.done = Done::Steps(steps),
+        Err(NoRoom) => entry.done = Done::NoRoom,
+    }
+    pass
+}
+
+/// Does what an entry asks as one event of the acting CPU, and writes into it what became of it. A single call, as most
+/// entries have, has a way of its own: its event is written where it stays, and not copied.
+#[inline]
 fn do_entry<O: SeqObject, C: LockCell<O>, R: Wait>(
     rt: &R,
     cell: &C,
     pass: C::Pass,
-    todo: Todo<O>,
-) -> (C::Pass, Entry<O>)
+    entry: &mut Entry<O>,
+) -> C::Pass
     requires pass { C.is_pass_of cell.now pass }
-    requires some { 0 < length todo.calls.items }
-    requires few { length todo.calls.items ≤ MOST_CALLS }
-    ensures pass { C.is_pass_of cell.now result.0 }
-    ensures caller { (C.pass_view result.0).caller ≡ (C.pass_view pass).caller }
-    ensures asked { asked_of result.1 ≡ todo }
-    ensures looks { result.1.looks < 2 ^ 64 }
-    ensures did { Did O.SeqObject (C.pass_view pass) result.1.asked result.1.done (C.pass_view result.0) }
+    requires some { 0 < length entry.old.asked.items }
+    requires few { length entry.old.asked.items ≤ MOST_CALLS }
+    ensures pass { C.is_pass_of cell.now result }
+    ensures caller { (C.pass_view result).caller ≡ (C.pass_view pass).caller }
+    ensures asked { asked_of entry.new ≡ asked_of entry.old }
+    ensures looks { entry.new.looks < 2 ^ 64 }
+    ensures did { Did O.SeqObject (C.pass_view pass) entry.new.asked entry.new.done (C.pass_view result) }
 {
-    let (pass, applied, looks) = batch(rt, cell, pass, todo.calls.as_slice());
-    (pass, entry_of(todo, applied, looks))
+    if entry.asked.len() == 1 {
+        do_call(rt, cell, pass, entry)
+    } else {
+        do_calls(rt, cell, pass, entry)
+    }
 }
 
-/// Does an entry by the pass of its object, which goes back to its place.
+/// Does an entry by the pass of its object, which goes back to its place, and writes into it what became of it.
+#[inline]
 fn do_at<C: LockCell<KernelObject>, R: Wait>(
     rt: &R,
     cells: &[C],
     passes: &mut Vec<C::Pass>,
-    todo: Todo<KernelObject>,
-) -> Entry<KernelObject>
+    entry: &mut Entry<KernelObject>,
+)
     requires passes { ArePasses C.is_pass_of cells.now passes.old.items }
-    requires able { IsTodo (length cells.now) todo }
+    requires able { IsTodo (length cells.now) (asked_of entry.old) }
     ensures passes { ArePasses C.is_pass_of cells.now passes.new.items }
-    ensures did { DidAt ⟦<KernelObject as SeqObject>⟧ (map C.pass_view passes.old.items) todo result (map C.pass_view passes.new.items) }
+    ensures did { DidAt ⟦<KernelObject as SeqObject>⟧ (map C.pass_view passes.old.items) (asked_of entry.old) entry.new (map C.pass_view passes.new.items) }
 {
-    let x = todo.object as usize;
+    let x = entry.object as usize;
     let pass = passes.swap_remove(x);
-    let (pass, entry) = do_entry(rt, &cells[x], pass, todo);
+    let pass = do_entry(rt, &cells[x], pass, entry);
     let last = passes.len();
     passes.push_reserved(pass);
     passes.swap(x, last);
-    entry
 }
 
-/// Does the entries in their order, each between two calls of the gate. The transcript has room for them.
+/// Does the entries in their order, each between two calls of the gate and in its place in the transcript, which has room
+/// for them.
 pub fn do_script<C: LockCell<KernelObject>, G: Gate, R: Wait>(
     rt: &R,
     gate: &G,
@@ -87,9 +129,14 @@ pub fn do_script<C: LockCell<KernelObject>, G: Gate, R: Wait>(
     let mut index = 0;
     for todo in todos {
         gate.before(cpu, index);
-        let entry = do_at::<C, R>(rt, cells, &mut passes, todo);
+        transcript.push_reserved(Entry {
+            object: todo.object,
+            asked: todo.calls,
+            done: Done::NoRoom,
+            looks: 0,
+        });
+        do_at::<C, R>(rt, cells, &mut passes, &mut transcript[index as usize]);
         gate.after(cpu, index);
-        transcript.push_reserved(entry);
         index += 1;
     }
     (passes, transcript)
