@@ -103,8 +103,12 @@ static void work(uint32_t cpu) {
         while (interrupts[cpu] == 0)
             __builtin_ia32_pause();
     }
-    for (uint32_t at = 0; at < CALLS; at++)
+    for (uint32_t at = 0; at < CALLS; at++) {
         call(draw(cpu, OBJECTS), cpu, true);
+        // What it does between two calls.
+        for (uint32_t pauses = draw(cpu, 64); pauses > 0; pauses--)
+            __builtin_ia32_pause();
+    }
     interrupts_off();
     timer_stop();
 }
