@@ -22,7 +22,12 @@
 //   start or end, or by a seq_cst atomic.
 // - A caller is given back to the cell that it is of.
 // - What pointers point to is there, nobody else touches it meanwhile, and no pointer is NULL.
-// - No call comes from a signal handler or from a child that was forked from a process with threads.
+// - No call comes from a signal handler, from the handler of an interrupt that came within another call, or from a child that
+//   was forked from a process with threads.
+//
+// A kernel without a C library compiles this header freestanding and links libcells.a alone. It has five functions for the
+// library: memcpy, memmove, memset, rattle_alloc and rattle_dealloc, of which mc2_heap.h has the last two. docs/IN_A_KERNEL.md
+// says what each owes, and what else a kernel has to know.
 //
 // All else is refused: what isn't at a place where a call fits is told MC2_CELL_REFUSED, and stays as it was.
 #ifndef MC2_CELLS_H
@@ -38,6 +43,12 @@
 #else
 #define MC2_PAUSE(looks) ((void)(looks))
 #endif
+#endif
+
+// Stands around each step of the library that the loops below do. A kernel masks interrupts here, so that none comes within a
+// step, and any may come between two steps, while a caller waits or has the object.
+#ifndef MC2_STEP
+#define MC2_STEP(call) (call)
 #endif
 
 #ifdef __cplusplus
@@ -146,7 +157,7 @@ static inline uint32_t mc2_caller_free(struct mc2_caller *caller) {
 // Waits for the object, and counts the looks.
 static inline uint32_t mc2_acquire(struct mc2_caller *caller, uint64_t *looks) {
     for (*looks = 0;;) {
-        uint32_t told = mc2_caller_advance(caller);
+        uint32_t told = MC2_STEP(mc2_caller_advance(caller));
         *looks += told == MC2_CELL_LOOKED || told == MC2_CELL_FOUND;
         if (told != MC2_CELL_STEPPED && told != MC2_CELL_LOOKED)
             return told;
@@ -158,7 +169,7 @@ static inline uint32_t mc2_acquire(struct mc2_caller *caller, uint64_t *looks) {
 // Gives the object back. It may wait until a caller that has just come has linked itself.
 static inline uint32_t mc2_release(struct mc2_caller *caller) {
     for (uint64_t looks = 0;;) {
-        uint32_t told = mc2_caller_leave(caller);
+        uint32_t told = MC2_STEP(mc2_caller_leave(caller));
         if (told != MC2_CELL_STEPPED && told != MC2_CELL_LOOKED)
             return told;
         if (told == MC2_CELL_LOOKED)
@@ -172,7 +183,7 @@ static inline uint32_t mc2_cell_call(struct mc2_caller *caller, const struct mc2
     uint32_t got = mc2_acquire(caller, looks);
     if (got != MC2_CELL_ENTERED && got != MC2_CELL_FOUND)
         return got;
-    uint32_t told = mc2_caller_apply(caller, call, reply);
+    uint32_t told = MC2_STEP(mc2_caller_apply(caller, call, reply));
     uint32_t left = mc2_release(caller);
     return left == MC2_CELL_LEFT ? told : left;
 }

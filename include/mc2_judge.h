@@ -5,6 +5,9 @@
 
        gcc -Iinclude examples/judge/judge.c crates/judge/out/libjudge.a KIT/c/liblibc_c.a -pthread
 
+   A kernel without a C library links it alone, and has memcpy, memmove, memset, rattle_alloc, rattle_realloc and rattle_dealloc,
+   of which mc2_heap.h has the last three.
+
    What is proved of both functions is told in crates/judge/README.md. It holds if the caller gives what is said here: text is
    `length` bytes, which nobody writes to meanwhile; `room` is `turns` places, and `told` one, which nobody else touches
    meanwhile. No pointer is NULL, not even where it points to nothing. The functions keep nothing between two calls, so several
@@ -21,7 +24,7 @@ extern "C" {
 
 /* What is told, and what its numbers are. Objects, events, steps, CPUs and entries are numbered from 0, in the order of the
    record. */
-enum mc2_kind {
+enum mc2_verdict {
     /* The record is sound. From mc2_merge: how many entries it has, all of which lie in the room, in order. */
     MC2_SOUND = 0,
     /* A log has more events than its limit: the object. */
@@ -45,7 +48,7 @@ enum mc2_kind {
     MC2_NO_ROOM = 10
 };
 
-/* One of mc2_kind, and its numbers. Those that it has not are 0. */
+/* One of mc2_verdict, and its numbers. Those that it has not are 0. */
 struct mc2_told {
     uint32_t kind;
     uint64_t first, second, third;

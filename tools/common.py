@@ -34,6 +34,7 @@ HOW_TO_GET = {
     "rt": "it is the command of the kit that README.md names",
     "gcc": "on Debian `apt-get install gcc` installs it",
     "g++": "on Debian `apt-get install g++` installs it",
+    "make": "on Debian `apt-get install make` installs it",
     "rustc": "on Debian `apt-get install rustc` installs it, and rustup elsewhere",
     "valgrind": "on Debian `apt-get install valgrind` installs it",
 }

@@ -24,9 +24,8 @@ def stands_on(top=ROOT):
     return {head.split()[0]: names.split() for head, colon, names in lines if colon}
 
 
-def build_library(crate):
-    """Proves and builds the crate's library over the crates below it, which it doesn't prove once more, and returns its path."""
-    library = ROOT / f"crates/{crate}/out/lib{crate}.a"
+def words_of(crate):
+    """The words by which the kit's compiler reads the crate, over the crates below it."""
     crates = stands_on()
     below = [*crates[crate]]
     for name in below:
@@ -37,8 +36,33 @@ def build_library(crate):
         words += ["--extern", f"{name}={own.get(name, kit() / 'rlibs')}/{name}.rlib"]
     for name, folder in own.items():
         words += ["-L", f"dependency={folder}", "--links", f"{name}="]
-    words += ["--links", f"{crate}=", "--jobs", "2", "--crate-type", "staticlib", "--toolchain", kit() / "toolchain"]
-    words += ["--antt-project", kit() / "rattle/logic/antt-project.json", "--logic-built", kit() / "logic_built"]
-    library.parent.mkdir(exist_ok=True)
-    run([kit() / "bin/rattle", "build", *words, "-o", library], cwd=library.parent.parent)
+    words += ["--links", f"{crate}=", "--crate-type", "staticlib"]
+    return [*words, "--antt-project", kit() / "rattle/logic/antt-project.json"]
+
+
+def build_library(crate, toolchain=None, library=None):
+    """Builds the crate's library over the crates below it, which it doesn't prove once more, and returns its path. The crate
+    itself is proved, unless the compiler takes what is left of its last proof, as nothing that it has read has changed."""
+    folder = ROOT / "crates" / crate
+    library = library or folder / f"out/lib{crate}.a"
+    checked = folder / f"out/{crate}.checked"
+    words = words_of(crate)
+    build = [kit() / "bin/rattle", "build", *words, "--crate-checked", checked, "--toolchain", toolchain or kit() / "toolchain"]
+    build += ["-o", library]
+    library.parent.mkdir(parents=True, exist_ok=True)
+    if checked.exists() and run(build, wanted=None, cwd=folder).returncode == 0:
+        return library
+    proof = ["--jobs", "2", "--logic-built", kit() / "logic_built", "-o", checked]
+    run([kit() / "bin/rattle", "check", *words, *proof], cwd=folder)
+    run(build, cwd=folder)
     return library
+
+
+def kernel_toolchain(folder):
+    """Makes a toolchain in the folder, which is the kit's but for its clang: that is tools/kernel_clang."""
+    (folder / "bin").mkdir(parents=True)
+    (folder / "kit").symlink_to(kit() / "toolchain")
+    (folder / "lib").symlink_to(kit() / "toolchain/lib")
+    for program in (kit() / "toolchain/bin").iterdir():
+        (folder / "bin" / program.name).symlink_to(ROOT / "tools/kernel_clang" if program.name == "clang" else program)
+    return folder

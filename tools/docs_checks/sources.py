@@ -15,7 +15,8 @@ MEMBER = re.compile(rf"    {PUB}({WORD})(?=[:,(]| {{|$)")
 RENAMED = re.compile(rf"\bas ({WORD})")
 CLAUSE = re.compile(rf"\b(?:ensures|requires) ({WORD}) \{{|\bghost ({WORD}):")
 # In C.
-C_FUNCTION = re.compile(rf"^static inline [\w ]+[ *]({WORD})\(", re.MULTILINE)
+C_FUNCTION = re.compile(rf"^(?:\w+ )+\*?({WORD})\(", re.MULTILINE)
+C_MACRO = re.compile(rf"^#define ({WORD})", re.MULTILINE)
 C_TYPE = re.compile(rf"^(?:struct|enum) ({WORD}) {{", re.MULTILINE)
 C_WORDS = re.compile(r"^enum \w+ {([^}]*)}", re.MULTILINE)
 # In the logic: a definition or a lemma, and a record, whose lines with a deeper indent are its fields.
@@ -70,8 +71,8 @@ class Sources:
             self.members[owner].add(name)
 
     def read_header(self, text):
-        """Functions, structs and enumerations of C, with the words of these."""
-        self.names.update(C_FUNCTION.findall(text), C_TYPE.findall(text))
+        """Functions, macros, structs and enumerations of C, with the words of these."""
+        self.names.update(C_FUNCTION.findall(text), C_MACRO.findall(text), C_TYPE.findall(text))
         bodies = C_WORDS.findall(re.sub("//.*", "", text))
         self.names.update(word for body in bodies for word in re.findall(WORD, body))
 

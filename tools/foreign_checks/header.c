@@ -1,5 +1,6 @@
 // Checks include/mc2_record.h, as C11 and as C++17: that each bad use is refused by what is returned, and changes nothing, and
-// that limits are those of docs/FORMATS.md. Then it prints a record in which each call and each reply stands.
+// that limits are those of docs/FORMATS.md; and that a recorder in memory of the caller's prints the same. Then it prints a
+// record in which each call and each reply stands.
 //
 // The status is 0, or 1 at the first check that fails, which a line on standard error names.
 #include <stdbool.h>
@@ -7,11 +8,11 @@
 
 static bool is_memory_refused;
 
-static void *calloc_or_not(size_t count, size_t size) { return is_memory_refused ? NULL : calloc(count, size); }
+static void *malloc_or_not(size_t size) { return is_memory_refused ? NULL : malloc(size); }
 
-#define calloc calloc_or_not
+#define malloc malloc_or_not
 #include "../../include/mc2_record.h"
-#undef calloc
+#undef malloc
 
 #define CHECK(what) check(what, #what, __LINE__)
 #define GIVES(call, result) CHECK((call) == (result))
@@ -118,6 +119,36 @@ static void check_memory(void) {
     check_unopened(&recorder);
 }
 
+// A text as pieces of it come, of which so many more are taken.
+struct pieces {
+    char text[4096];
+    size_t length, left;
+};
+
+static bool take_piece(void *to, const char *text, size_t length) {
+    struct pieces *pieces = (struct pieces *)to;
+    CHECK(length > 0 && length < sizeof pieces->text - pieces->length);
+    if (pieces->left == 0)
+        return false;
+    pieces->left--;
+    memcpy(pieces->text + pieces->length, text, length);
+    pieces->length += length;
+    return true;
+}
+
+// What is printed by pieces is that text, and where one isn't taken a beginning of it, and none is given behind it.
+static void check_pieces(const struct mc2_recorder *recorder, const char *text) {
+    struct pieces whole = {{0}, 0, SIZE_MAX};
+    GIVES(mc2_write_to(recorder, take_piece, &whole), MC2_DONE);
+    CHECK(whole.length == strlen(text) && memcmp(whole.text, text, whole.length) == 0);
+    size_t count = SIZE_MAX - whole.left;
+    for (size_t taken = 0; taken < count; taken++) {
+        struct pieces part = {{0}, 0, taken};
+        GIVES(mc2_write_to(recorder, take_piece, &part), MC2_WRITE_FAILED);
+        CHECK(part.left == 0 && part.length < whole.length && memcmp(part.text, text, part.length) == 0);
+    }
+}
+
 // The text of the record. It stays until the second call from here.
 static const char *text_of(const struct mc2_recorder *recorder) {
     static char texts[2][4096];
@@ -130,7 +161,33 @@ static const char *text_of(const struct mc2_recorder *recorder) {
     size_t length = fread(text, 1, sizeof texts[0] - 1, file);
     fclose(file);
     text[length] = 0;
+    check_pieces(recorder, text);
     return text;
+}
+
+// Opens a recorder in memory that isn't zero, of which a byte too little is refused, and which nothing is written behind.
+static void check_own_memory(void) {
+    static uint64_t memory[(272 + 164) / 8 + 2];
+    struct mc2_object object = object_of("q", MC2_QUEUE, 1, 1, 0);
+    struct mc2_recorder recorder;
+    size_t size = mc2_memory_of(&object, 1, 1, 1);
+    CHECK(size == 272 + 164);
+    memset(memory, 0xff, sizeof memory);
+    GIVES(mc2_open_in(&recorder, &object, 1, 1, 1, memory, size - 1), MC2_NO_MEMORY);
+    check_unopened(&recorder);
+    GIVES(mc2_open_in(&recorder, &object, 1, 1, 1, NULL, size), MC2_NO_MEMORY);
+    GIVES(mc2_open_in(&recorder, NULL, 1, 1, 1, memory, size), MC2_BAD_POINTER);
+    GIVES(mc2_open_in(NULL, &object, 1, 1, 1, memory, size), MC2_BAD_POINTER);
+    GIVES(mc2_open_in(&recorder, &object, 1, 0, 1, memory, size), MC2_BAD_COUNT);
+    CHECK(mc2_memory_of(&object, 1, 0, 1) == 0 && mc2_memory_of(&object, 1, 1, 10001) == 0 && mc2_memory_of(NULL, 1, 1, 1) == 0);
+    GIVES(mc2_write_to(&recorder, NULL, NULL), MC2_BAD_POINTER);
+    GIVES(mc2_open_in(&recorder, &object, 1, 1, 1, memory, size), MC2_DONE);
+    CHECK(strcmp(text_of(&recorder), "record 2\ncpus 1\nobjects 1\nobject q mcs 1 queue 1\nlog q 0\ncpu 0 0\nend\n") == 0);
+    for (size_t at = size; at < sizeof memory; at++)
+        CHECK(((unsigned char *)memory)[at] == 0xff);
+    object.size = 0;
+    CHECK(mc2_memory_of(&object, 1, 1, 1) == 0);
+    GIVES(mc2_open_in(&recorder, &object, 1, 1, 1, memory, size), MC2_BAD_OBJECT);
 }
 
 static int opened_with(uint32_t kind, const uint32_t *quotas) {
@@ -348,6 +405,7 @@ int main(void) {
     check_sizes();
     check_counts();
     check_memory();
+    check_own_memory();
     check_quotas();
     check_notes();
     print_record();

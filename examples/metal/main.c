@@ -1,0 +1,236 @@
+// A kernel without a C library. Its CPUs share a queue, a page pool, a console and a scheduler by the cells of libcells.a. Each CPU
+// calls them CALLS times, and its timer's interrupts call them by tries, in the middle of whatever the CPU does between two steps
+// of the library. What was done is noted by mc2_record.h, and goes out over the serial port as a record; a few words about it go
+// to qemu's debug console. docs/IN_A_KERNEL.md goes through all that. Nothing here is proved.
+//
+// The Makefile has the settings: CPUS, CALLS, TIMER_COUNT, MASKED, JUDGE, NO_SSE and STAND_IN.
+#include "machine.h"
+
+// No interrupt comes within a step of the library, unless MASKED is 0: then they come anywhere.
+#define MC2_STEP(call) \
+    ({ \
+        uint64_t before = MASKED ? interrupts_save() : 0; \
+        uint32_t answer = (call); \
+        MASKED ? interrupts_restore(before) : (void)0; \
+        answer; \
+    })
+#include "mc2_cells.h"
+#include "mc2_heap.h"
+
+// A CPU has its own number, and its interrupts have one behind those of all CPUs: each is a CPU of its own for the cells.
+enum { NUMBERS = TIMER_COUNT > 0 ? 2 * CPUS : CPUS, ENTRIES = CALLS + 1000, EVENTS = CPUS * ENTRIES };
+
+#ifdef STAND_IN
+// What stand_in.c has, in place of the library.
+enum { OBJECTS = 3, CHANNELS = 0 };
+#define QUOTAS NULL
+#else
+enum { OBJECTS = 4, CHANNELS = 4 };
+#define QUOTAS quotas
+static const uint32_t quotas[MC2_OWNERS] = {16, 3, 2, 16, 16, 16, 16, 16, 16, 16, 16, 16, 16, 16, 16, 16};
+#endif
+
+static const struct mc2_object objects[4] = {
+    {"threads", MC2_QUEUE, MC2_TICKET, EVENTS, 16, 0, NULL},
+    {"pages", MC2_POOL, MC2_MCS, EVENTS, 16, 0, QUOTAS},
+    {"bytes", MC2_CONSOLE, MC2_TICKET, CALLS / 2, 32, 0, NULL},     // its log gets full where there are CPUs enough
+    {"tasks", MC2_SCHED, MC2_MCS, EVENTS, 16, CHANNELS, NULL},
+};
+
+static struct mc2_cell cells[OBJECTS];
+static struct mc2_caller callers[OBJECTS][NUMBERS];
+static struct mc2_recorder recorder;
+static uint32_t cpus_ready, cpus_done, random[NUMBERS];
+static volatile uint64_t interrupts[CPUS];
+// Answers that can't be. They are counted, and not the end, so that the record is judged all the same.
+static uint32_t wrong;
+
+static uint32_t draw(uint32_t number, uint32_t below) {
+    random[number] = random[number] * 1664525u + 1013904223u;
+    return (random[number] >> 8) % below;
+}
+
+// Some call on the object. A few are refused.
+static struct mc2_call any_call(uint32_t object, uint32_t number) {
+    static const uint32_t first[] = {MC2_ENQ, MC2_ALLOC, MC2_PUT, MC2_READY}, words[] = {4, 3, 3, 5};
+    uint32_t word = first[object] + draw(number, words[object]);
+    return mc2_ask(word, draw(number, 18), draw(number, 18));
+}
+
+// Does the call by a caller that has the object, and notes the event. Says whether there was room for it.
+static bool apply(uint32_t object, uint32_t number, struct mc2_call asked, struct mc2_step *step) {
+    bool has_room = mc2_room(&recorder, object, number) == MC2_DONE;
+    struct mc2_reply reply = {0, 0};
+    uint32_t told = MC2_STEP(mc2_caller_apply(&callers[object][number], &asked, &reply));
+    *step = mc2_answer(asked, reply.word, reply.number);
+    bool is_done = told == MC2_CELL_DONE && mc2_event(&recorder, object, number, step, 1) == MC2_DONE;
+    wrong += is_done != has_room || told != (is_done ? MC2_CELL_DONE : MC2_CELL_FULL);
+    return is_done;
+}
+
+// Calls the object once, and notes that: an event under its lock, an entry behind it. A try that finds another there does nothing.
+static void call(uint32_t object, uint32_t number, bool waits) {
+    struct mc2_caller *caller = &callers[object][number];
+    struct mc2_call asked = any_call(object, number);
+    struct mc2_step step;
+    uint64_t looks = 1;
+    uint32_t got = waits ? mc2_acquire(caller, &looks) : MC2_STEP(mc2_caller_try(caller));
+    if (got == MC2_CELL_BUSY)
+        return;
+    must(got == MC2_CELL_ENTERED || got == MC2_CELL_FOUND, "acquire", got);
+    bool is_noted = mc2_room(&recorder, object, number) != MC2_TRANSCRIPT_FULL;
+    bool is_done = is_noted && apply(object, number, asked, &step);
+    uint32_t left = mc2_release(caller);
+    must(left == MC2_CELL_LEFT, "release", left);
+    if (is_noted)
+        wrong += mc2_entry(&recorder, object, number, looks, &asked, 1, &step, is_done) != MC2_DONE;
+}
+
+void interrupt(struct frame *frame) {
+    if (frame->vector == 255)
+        return;
+    must(frame->vector == TIMER, "an exception", frame->vector);
+    uint32_t cpu = cpu_here();
+    interrupts[cpu]++;
+    call(draw(CPUS + cpu, OBJECTS), CPUS + cpu, false);
+    interrupt_done();
+}
+
+static void work(uint32_t cpu) {
+    if (TIMER_COUNT > 0) {
+        timer_start(TIMER_COUNT + 1000 * cpu);
+        interrupts_on();
+        while (interrupts[cpu] == 0)
+            __builtin_ia32_pause();
+    }
+    for (uint32_t at = 0; at < CALLS; at++) {
+        call(draw(cpu, OBJECTS), cpu, true);
+        // What it does between two calls.
+        for (uint32_t pauses = draw(cpu, 64); pauses > 0; pauses--)
+            __builtin_ia32_pause();
+    }
+    interrupts_off();
+    timer_stop();
+}
+
+static void *take(size_t size) {
+    struct mc2_taken taken = rattle_alloc(size, 16);
+    must(taken.is_there, "memory", size);
+    return taken.at;
+}
+
+static void open_all(void) {
+    for (uint32_t object = 0; object < OBJECTS; object++) {
+        uint32_t told = mc2_cell_open(&cells[object], &objects[object], NUMBERS);
+        must(told == MC2_CELL_DONE, "opening a cell", told);
+        for (uint32_t number = NUMBERS; number-- > 0;) {
+            told = mc2_caller_open(&cells[object], &callers[object][number]);
+            must(told == MC2_CELL_DONE, "opening a caller", told);
+        }
+    }
+    for (uint32_t number = 0; number < NUMBERS; number++)
+        random[number] = number * 7919;
+}
+
+// Ends a cell, and compares its own log, which the library has kept, with the one that was noted.
+static void end_cell(uint32_t object) {
+    for (uint32_t number = 0; number < NUMBERS; number++) {
+        uint32_t told = mc2_cell_take_back(&cells[object], &callers[object][number]);
+        must(told == MC2_CELL_DONE, "taking a caller back", told);
+        must(mc2_caller_free(&callers[object][number]) == MC2_CELL_DONE, "freeing a caller", number);
+    }
+    uint32_t closed = mc2_cell_close(&cells[object]);
+    must(closed == MC2_CELL_DONE, "closing a cell", closed);
+    struct mc2_logged_step told;
+    size_t event = 0;
+    for (; mc2_cell_step(&cells[object], event, 0, &told) == MC2_CELL_DONE; event++) {
+        const struct mc2_event_line *noted = &recorder.logs[object].events[event];
+        wrong += event >= recorder.logs[object].count || noted->cpu != told.cpu || noted->count != 1 ||
+                 noted->steps[0].call.word != told.step.call.word || noted->steps[0].reply != told.step.reply ||
+                 noted->steps[0].number != told.step.number;
+    }
+    wrong += event != recorder.logs[object].count;
+    must(mc2_cell_free(&cells[object]) == MC2_CELL_DONE, "freeing a cell", object);
+}
+
+#ifdef JUDGE
+#include "mc2_judge.h"
+
+struct text { char *at; size_t length, room; };
+
+static bool text_take(void *to, const char *piece, size_t length) {
+    struct text *text = to;
+    if (length > text->room - text->length)
+        return false;
+    memcpy(text->at + text->length, piece, length);
+    text->length += length;
+    return true;
+}
+
+// Has the library of crates/judge judge the record here.
+static void judge(void) {
+    enum { TURNS = NUMBERS * ENTRIES, ROOM = 128 * TURNS };
+    struct text text = {take(ROOM), 0, ROOM};
+    must(mc2_write_to(&recorder, text_take, &text) == MC2_DONE, "the record as a text", text.length);
+    struct mc2_turn *turns = take(TURNS * sizeof *turns);
+    struct mc2_told audited, merged;
+    stack_forget(0);
+    mc2_audit((const uint8_t *)text.at, text.length, &audited);
+    mc2_merge((const uint8_t *)text.at, text.length, turns, TURNS, &merged);
+    say("judged here: kind #, ", audited.kind);
+    say_both("merged: kind #, # entries\n", merged.kind, merged.first);
+    say("stack of the judge: #\n", stack_used(0));
+    rattle_dealloc(turns);
+    rattle_dealloc(text.at);
+}
+#else
+static void judge(void) {}
+#endif
+
+static void end_all(size_t free_before) {
+    for (uint32_t object = 0; object < OBJECTS; object++)
+        end_cell(object);
+    judge();
+    int written = mc2_write_to(&recorder, serial_take, NULL);
+    must(written == MC2_DONE, "the record", (uint64_t)written);
+    rattle_dealloc(recorder.memory);
+    size_t blocks, left = mc2_heap_free(&blocks);
+    for (uint32_t cpu = 0; cpu < CPUS; cpu++)
+        say_both("cpu #: # interrupts\n", cpu, interrupts[cpu]);
+    say_both("heap: # bytes lost, # blocks free\n", free_before - left, blocks);
+    say("# answers that can't be\n", wrong);
+}
+
+// What CPU 0 does before all others: the heap, the recorder, the cells.
+static size_t begin(void) {
+    size_t blocks, size = mc2_memory_of(objects, OBJECTS, NUMBERS, ENTRIES);
+    serial_open();
+    mc2_heap_add(kernel_end, (size_t)(memory_end - kernel_end));
+    size_t free_before = mc2_heap_free(&blocks);
+    int opened = mc2_open_in(&recorder, objects, OBJECTS, NUMBERS, ENTRIES, take(size), size);
+    must(opened == MC2_DONE, "the recorder", (uint64_t)opened);
+    stack_forget(0);
+    open_all();
+    say("stack of an opening: #\n", stack_used(0));
+    start_cpus();
+    stack_forget(0);
+    return free_before;
+}
+
+void cpu_main(uint32_t cpu) {
+    interrupts_open(cpu, HAS_STACK);
+    size_t free_before = cpu == 0 ? begin() : 0;
+    __atomic_fetch_add(&cpus_ready, 1, __ATOMIC_SEQ_CST);
+    while (__atomic_load_n(&cpus_ready, __ATOMIC_SEQ_CST) < CPUS)
+        __builtin_ia32_pause();
+    work(cpu);
+    __atomic_fetch_add(&cpus_done, 1, __ATOMIC_SEQ_CST);
+    while (cpu != 0)
+        __asm__ volatile("hlt");
+    while (__atomic_load_n(&cpus_done, __ATOMIC_SEQ_CST) < CPUS)
+        __builtin_ia32_pause();
+    for (uint32_t at = 0; at < CPUS; at++)
+        say_both("stack of calls: #, of interrupts: #\n", stack_used(at), interrupt_stack_used(at));
+    end_all(free_before);
+    leave(33);
+}

@@ -1,0 +1,180 @@
+// Checks include/mc2_heap.h, from which libcells.a takes its memory here. Memory is handed over 16 bytes at a time, and each time
+// a cell and its callers are opened: as long as there is too little that is refused, and all memory is free again. Then threads
+// take and give blocks at once. It prints how much memory a cell takes, by its object and its events.
+//
+// The status is 0, or 1 at the first check that fails, which a line on standard error names.
+#include "../../include/mc2_cells.h"
+#include "../../include/mc2_heap.h"
+#include <pthread.h>
+
+enum { CPUS = 2, ROOM = 1 << 20, THREADS = 4, ROUNDS = 20000, HELD = 16 };
+
+static _Alignas(16) char room[ROOM];
+static size_t handed;
+
+#define CHECK(what) check(what, #what, __LINE__)
+
+static void check(bool is_so, const char *what, int line) {
+    if (!is_so) {
+        fprintf(stderr, "heap.c:%d: not so: %s\n", line, what);
+        exit(1);
+    }
+}
+
+static void hand_over(size_t size) {
+    CHECK(handed + size <= ROOM);
+    mc2_heap_add(room + handed, size);
+    handed += size;
+}
+
+// All that was handed over is free, in one block.
+static void check_free(void) {
+    size_t blocks, bytes = mc2_heap_free(&blocks);
+    CHECK(bytes == handed && blocks <= 1);
+}
+
+static size_t taken(void) {
+    size_t blocks;
+    return handed - mc2_heap_free(&blocks);
+}
+
+static const struct mc2_object kinds[] = {
+    {"q", MC2_QUEUE, 0, 1, 1024, 0, NULL},
+    {"p", MC2_POOL, 0, 1, 4096, 0, NULL},
+    {"c", MC2_CONSOLE, 0, 1, 4096, 0, NULL},
+    {"s", MC2_SCHED, 0, 1, 1024, 64, NULL},
+};
+
+struct opened {
+    struct mc2_cell cell;
+    struct mc2_caller callers[CPUS];
+    size_t of_cell;
+};
+
+static uint32_t open_callers(struct opened *it) {
+    uint32_t told = MC2_CELL_DONE;
+    for (uint32_t cpu = CPUS; cpu > 0 && told == MC2_CELL_DONE; cpu--)
+        told = mc2_caller_open(&it->cell, &it->callers[cpu - 1]);
+    return told;
+}
+
+// Opens a cell and its callers. What it opened is to be freed, whatever it is told.
+static uint32_t open_all(struct opened *it, const struct mc2_object *object) {
+    memset(it, 0, sizeof *it);
+    uint32_t told = mc2_cell_open(&it->cell, object, CPUS);
+    it->of_cell = taken();
+    return told == MC2_CELL_DONE ? open_callers(it) : told;
+}
+
+static void free_all(struct opened *it) {
+    for (uint32_t cpu = 0; cpu < CPUS; cpu++)
+        if (it->callers[cpu].own)
+            CHECK(mc2_caller_free(&it->callers[cpu]) == MC2_CELL_DONE);
+    if (it->cell.own)
+        CHECK(mc2_cell_free(&it->cell) == MC2_CELL_DONE);
+    check_free();
+}
+
+// How often the opening was refused until there was memory enough.
+static unsigned check_exhaustion(const struct mc2_object *object) {
+    struct opened it;
+    unsigned refused = 0;
+    handed = 0;
+    memset(&mc2_heap, 0, sizeof mc2_heap);
+    for (;; refused++) {
+        uint32_t told = open_all(&it, object);
+        CHECK(told == MC2_CELL_DONE || told == MC2_CELL_NO_MEMORY);
+        if (told == MC2_CELL_DONE)
+            break;
+        free_all(&it);
+        hand_over(16);
+    }
+    struct mc2_call call = mc2_ask(object->kind == MC2_QUEUE ? MC2_LEN : MC2_PUT, 1, 1);
+    struct mc2_reply reply;
+    uint64_t looks;
+    size_t before = taken();
+    CHECK(mc2_cell_call(&it.callers[0], &call, &reply, &looks) == MC2_CELL_DONE && taken() == before);
+    free_all(&it);
+    return refused;
+}
+
+// What the cell takes, and each of its callers.
+static size_t memory_of(const struct mc2_object *object, size_t *of_caller) {
+    struct opened it;
+    CHECK(open_all(&it, object) == MC2_CELL_DONE);
+    *of_caller = (taken() - it.of_cell) / CPUS;
+    free_all(&it);
+    return it.of_cell;
+}
+
+static void check_cells(void) {
+    static const char *const names[] = {"queue", "pool", "console", "sched"};
+    for (unsigned at = 0; at < 8; at++) {
+        struct mc2_object object = kinds[at / 2];
+        object.lock = at % 2;
+        unsigned refused = check_exhaustion(&object);
+        hand_over(ROOM - handed);
+        size_t of_caller, kept = memory_of(&object, &of_caller);
+        object.events = 1001;
+        size_t more = memory_of(&object, &of_caller) - kept;
+        object.events = 0;
+        printf("%s %s: %zu bytes, %zu for each event, %zu for a caller, %zu without a log; refused %u times\n", names[at / 2],
+               object.lock == MC2_MCS ? "mcs" : "ticket", kept - more / 1000, more / 1000, of_caller,
+               memory_of(&object, &of_caller), refused);
+    }
+}
+
+static void check_blocks(void) {
+    struct mc2_taken none = rattle_alloc(0, 16), one = rattle_alloc(1, 1), large = rattle_alloc(ROOM, 16);
+    CHECK(none.is_there && one.is_there && !large.is_there && large.at && none.at != one.at);
+    CHECK((uintptr_t)none.at % 16 == 0 && (uintptr_t)one.at % 16 == 0);
+    memcpy(none.at, "0123456789abcdef", 16);
+    CHECK(!rattle_realloc(none.at, 16, ROOM, 16).is_there && memcmp(none.at, "0123456789abcdef", 16) == 0);
+    struct mc2_taken moved = rattle_realloc(none.at, 16, 1000, 16);
+    CHECK(moved.is_there && memcmp(moved.at, "0123456789abcdef", 16) == 0);
+    rattle_dealloc(one.at);
+    rattle_dealloc(moved.at);
+    check_free();
+    mc2_heap_add(room + 1, 15);
+    check_free();
+}
+
+static void *take_and_give(void *number) {
+    struct mc2_taken held[HELD] = {{false, NULL}};
+    uint32_t random = *(unsigned *)number, wrong = 0;
+    for (unsigned round = 0; round < ROUNDS; round++) {
+        struct mc2_taken *it = &held[(random = random * 1664525u + 1013904223u) >> 28];
+        if (it->is_there) {
+            wrong += *(unsigned *)it->at != *(unsigned *)number;
+            rattle_dealloc(it->at);
+        }
+        *it = rattle_alloc(1 + random % 1000, 4);
+        if (it->is_there)
+            *(unsigned *)it->at = *(unsigned *)number;
+    }
+    for (unsigned at = 0; at < HELD; at++)
+        if (held[at].is_there)
+            rattle_dealloc(held[at].at);
+    return wrong == 0 ? number : NULL;
+}
+
+static void check_threads(void) {
+    pthread_t threads[THREADS];
+    unsigned numbers[THREADS];
+    for (unsigned at = 0; at < THREADS; at++) {
+        numbers[at] = at;
+        CHECK(pthread_create(&threads[at], NULL, take_and_give, &numbers[at]) == 0);
+    }
+    for (unsigned at = 0; at < THREADS; at++) {
+        void *right;
+        CHECK(pthread_join(threads[at], &right) == 0 && right == &numbers[at]);
+    }
+    check_free();
+}
+
+int main(void) {
+    check_cells();
+    check_blocks();
+    check_threads();
+    return 0;
+}
