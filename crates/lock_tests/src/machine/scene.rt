@@ -231,12 +231,7 @@ fn left_transcripts<R: Abort>(
 }
 
 /// The machine's run left these logs and transcripts.
-pub fn leaves<R: Abort>(
-    rt: &R,
-    alloc: Global,
-    scene: Scene,
-    left: &Left<'_>,
-) -> Result<(), Fail> {
+pub fn leaves<R: Abort>(rt: &R, alloc: Global, scene: Scene, left: &Left<'_>) -> Result<(), Fail> {
     let run = scene.machine.record();
     left_logs(rt, alloc, &run, left.logs)?;
     left_transcripts(rt, alloc, &run, left.transcripts)
