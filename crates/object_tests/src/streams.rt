@@ -2,7 +2,7 @@
 
 ghost use Rattle.std.specs.Prelude.{◌≡◌, IfOk};
 
-use crate::{Plain, Sink, Source, StreamFailed};
+use event_log::{Plain, Sink, Source, StreamFailed};
 use std::io;
 use std::io::{ErrorKind, Read, Write};
 use std::test::Fail;
@@ -79,7 +79,7 @@ fn streams_over_memory(rt: HostRuntime) -> Result<(), Fail> {
     assert_eq!(rt; sink.write(b"abc"), Ok(3));
     assert_eq!(rt; sink.write(b""), Ok(0));
     assert_eq!(rt;
-        (sink.inner.as_slice(), sink.failed),
+        (sink.inner.as_slice(), sink.failed_calls()),
         (b"abc".as_slice(), 0)
     );
 
@@ -89,7 +89,7 @@ fn streams_over_memory(rt: HostRuntime) -> Result<(), Fail> {
         assert_eq!(rt; source.read(&mut buffer), Ok(count));
         assert_eq!(rt; buffer, bytes);
     }
-    assert_eq!(rt; source.failed, 0);
+    assert_eq!(rt; source.failed_calls(), 0);
     Ok(())
 }
 
@@ -105,7 +105,7 @@ fn one_odd_write(rt: HostRuntime) {
             for call in 0..3 {
                 let wanted = if call == before { odd } else { Ok(2) };
                 assert_eq!(rt; sink.write(b"abc"), wanted, "call {call}, {fate:?}");
-                assert_eq!(rt; sink.failed, u64::from(call >= before));
+                assert_eq!(rt; sink.failed_calls(), u64::from(call >= before));
             }
             assert_eq!(rt; sink.inner.inner.as_slice(), b"abab".as_slice());
         }
@@ -125,7 +125,7 @@ fn one_odd_read(rt: HostRuntime) {
                 let wanted = if call == before { odd } else { Ok(2) };
                 assert_eq!(rt; source.read(&mut [0; 4]), wanted, "call {call}, {fate:?}");
                 let failed = call >= before && odd.is_err();
-                assert_eq!(rt; source.failed, u64::from(failed));
+                assert_eq!(rt; source.failed_calls(), u64::from(failed));
             }
             assert_eq!(rt; source.inner.inner, b"ef".as_slice());
         }
