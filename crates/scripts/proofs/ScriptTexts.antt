@@ -1,12 +1,12 @@
 -- Scripts, text by text.
-use Rattle.std.proofs.Common.{◌≡◌, ℕ, ◌<◌, Bool, List, [], ◌∷◌, ◌++◌, length, inl, inr, Result, Ok, Err, refl, sym, ◌∙◌, subst, arith, IsErrAnd, IfOk, IfErr}
-use Rattle.std.proofs.lemmas.List.{append-nil}
+use Rattle.std.proofs.Common.{◌≡◌, ℕ, ◌<◌, Bool, List, [], ◌∷◌, ◌++◌, length, replicate, inl, inr, Result, Ok, Err, refl, sym, ◌∙◌, subst, arith, IsErrAnd, IfOk, IfErr}
+use Rattle.std.proofs.lemmas.List.{append-nil, length-replicate}
 use Rattle.scripts.specs.declared.text.line_machine.PieceFault.{PieceFault}
 use Rattle.scripts.specs.declared.text.line_machine.PieceFault.TheVariants as piece
 use Rattle.scripts.specs.declared.script.reader.ScriptsFault.{ScriptsFault}
 use Rattle.scripts.specs.declared.script.reader.ScriptsFault.TheVariants.{OutOfMemory, Line}
 use Rattle.scripts.specs.KernelTypes.{KernelTodo}
-use Rattle.scripts.specs.LineMachine.{TakesText, RefusesText, RefusesLine, HasTaken}
+use Rattle.scripts.specs.LineMachine.{TakesText, RefusesText, RefusesLine, ChangesNothing, HasTaken}
 use Rattle.scripts.specs.ScriptFaults.{ScriptState, TakesScriptLine, RefusesScriptLine, FitsScriptLine, IsNotTaken, NamesFirstBad, HasRead, no_entries, of_piece}
 use Rattle.scripts.specs.ScriptText.{AreRequests, IsFirstBad, AreScripts, ScriptsFit, ScriptsWithin}
 use Rattle.scripts.specs.Settings.{Settings, SettingsFit}
@@ -99,3 +99,17 @@ long_refused state fit first rest other long = record {
   no_blank = other;
   no_room = λ r is. let short = long_no_request state.settings fit (first ∷ rest) r is in absurd (omega (arith, short, long));
 }
+
+-- a comment changes nothing
+pub comment_idle : (state : ScriptState) (first : ℕ) → first ≡ 35 → ChangesNothing TakesScriptLine state first
+comment_idle state first is = λ rest. record { same = refl; takes = inl (is, refl) }
+
+-- and nothing else does, whatever follows
+pub idle_comment : (state : ScriptState) → SettingsFit state.settings → (first : ℕ) → ChangesNothing TakesScriptLine state first → (first ≡ 35 → ⊥) → ⊥
+idle_comment state fit first idle other =
+    let line = first ∷ replicate 1024 0 in
+    let taken = idle (replicate 1024 0) in
+    elim taken.takes [
+      | inl blank ↦ other blank.0
+      | inr entry ↦ (let short = long_no_request state.settings fit line entry.0 entry.1 in absurd (omega (arith, short, length-replicate {A = ℕ} 1024 0)))
+    ]

@@ -35,6 +35,7 @@ pub use streams::buffer::Buffered;
 pub use streams::source_reader::{ReadFault, read_all};
 pub use streams::text_writer::{WriteFailed, write_text};
 pub use tables::field::Field;
+pub use tables::glances::Glanced;
 pub use tables::lock_words::lock_word;
 pub use tables::ranges::{fits, spelled_once};
 pub use tables::read::value;
