@@ -1,5 +1,6 @@
 -- Scripts, text by text.
-use Rattle.std.proofs.Common.{◌≡◌, ℕ, ◌<◌, Bool, List, [], ◌∷◌, ◌++◌, length, replicate, inl, inr, Result, Ok, Err, refl, sym, ◌∙◌, subst, arith, IsErrAnd, IfOk, IfErr}
+use Rattle.std.proofs.Common.{◌≡◌, ◌==◌, ◌↔◌, ℕ, ◌<◌, Bool, true, false, List, [], ◌∷◌, ◌++◌, length, replicate, inl, inr, Result, Ok, Err, refl, sym, ◌∙◌, subst, arith, IsErrAnd, IfOk, IfErr}
+use Rattle.std.proofs.lemmas.Bool.{eqb-true, eqb-false}
 use Rattle.std.proofs.lemmas.List.{append-nil, length-replicate}
 use Rattle.scripts.specs.declared.text.line_machine.PieceFault.{PieceFault}
 use Rattle.scripts.specs.declared.text.line_machine.PieceFault.TheVariants as piece
@@ -105,7 +106,7 @@ pub comment_idle : (state : ScriptState) (first : ℕ) → first ≡ 35 → Chan
 comment_idle state first is = λ rest. record { same = refl; takes = inl (is, refl) }
 
 -- and nothing else does, whatever follows
-pub idle_comment : (state : ScriptState) → SettingsFit state.settings → (first : ℕ) → ChangesNothing TakesScriptLine state first → (first ≡ 35 → ⊥) → ⊥
+idle_comment : (state : ScriptState) → SettingsFit state.settings → (first : ℕ) → ChangesNothing TakesScriptLine state first → (first ≡ 35 → ⊥) → ⊥
 idle_comment state fit first idle other =
     let line = first ∷ replicate 1024 0 in
     let taken = idle (replicate 1024 0) in
@@ -113,3 +114,11 @@ idle_comment state fit first idle other =
       | inl blank ↦ other blank.0
       | inr entry ↦ (let short = long_no_request state.settings fit line entry.0 entry.1 in absurd (omega (arith, short, length-replicate {A = ℕ} 1024 0)))
     ]
+
+idle_is : (state : ScriptState) → SettingsFit state.settings → (first : ℕ) → ChangesNothing TakesScriptLine state first → (b : Bool) → (first == 35) ≡ b → b ≡ true
+idle_is state fit first idle true e = refl
+idle_is state fit first idle false e = absurd (idle_comment state fit first idle (eqb-false first 35 e))
+
+-- so the lines that begin with the byte change nothing exactly if they are comments
+pub passes_exactly : (state : ScriptState) → SettingsFit state.settings → (first : ℕ) → ((first == 35) ≡ true) ↔ ChangesNothing TakesScriptLine state first
+passes_exactly state fit first = (λ yes. comment_idle state first (eqb-true first 35 yes), λ idle. idle_is state fit first idle (first == 35) refl)
