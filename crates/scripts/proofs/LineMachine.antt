@@ -79,11 +79,6 @@ module _ {S : Type 0} (act : List ℕ → S → S → Type 0) where
   busy_with state [] bytes held not = not refl
   busy_with state (b ∷ pending) bytes held not = held.busy
 
-  -- what begins so passes
-  pub idle_passes : (state : S) (bytes : List ℕ) → BeginsIdle act state bytes → Passes act state bytes
-  idle_passes state [] never = absurd never
-  idle_passes state (b ∷ bytes) idle = record { some = omega arith; same = λ more. idle (bytes ++ more) }
-
   -- ---- what is kept of a line without an end
 
   module _ (state : S) (unended : List ℕ) (passing : Bool) (pending : List ℕ) (kept : IsKept act state unended passing pending) (bytes : List ℕ) where

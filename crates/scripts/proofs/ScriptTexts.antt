@@ -102,7 +102,7 @@ long_refused state fit first rest other long = record {
 }
 
 -- a comment changes nothing
-pub comment_idle : (state : ScriptState) (first : ℕ) → first ≡ 35 → ChangesNothing TakesScriptLine state first
+comment_idle : (state : ScriptState) (first : ℕ) → first ≡ 35 → ChangesNothing TakesScriptLine state first
 comment_idle state first is = λ rest. record { same = refl; takes = inl (is, refl) }
 
 -- and nothing else does, whatever follows

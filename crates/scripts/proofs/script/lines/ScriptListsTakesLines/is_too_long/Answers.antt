@@ -2,7 +2,7 @@ use Rattle.std.proofs.Common.{◌<◌, subst, arith}
 use Rattle.std.proofs.lemmas.Bool.{ltb-true}
 use Rattle.scripts.specs.ScriptFaults.{ScriptState}
 use Rattle.scripts.specs.Settings.{SettingsFit}
-use Rattle.scripts.proofs.ScriptTexts.{long_refused, comment_idle}
+use Rattle.scripts.proofs.ScriptTexts.{long_refused}
 use Rattle.scripts.proofs.script.lines.ScriptListsTakesLines.is_too_long.Goals as goal
 
 pub returns-then-first-ne35-clause-refused : goal.returns-then-first-ne35-clause-refused
