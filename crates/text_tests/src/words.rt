@@ -5,7 +5,8 @@ use console_ring::ConsoleCall;
 use event_log::{Logged, OpenFault, Plain};
 use page_pool::{PoolCall, PoolParams};
 use scripts::{
-    Buffered, Glanced, KCall, KParams, KReply, KernelObject, Record, Spelled, fits, put_value, value,
+    Buffered, Glanced, KCall, KParams, KReply, KernelObject, Record, Spelled, fits, put_value,
+    value,
 };
 use shared_queue::QueueCall;
 use std::alloc::Global;
