@@ -1,5 +1,5 @@
 -- Behind the first line of a form only texts of that form go on.
-use Rattle.std.proofs.Common.{◌≡◌, ◌↔◌, ℕ, zero, suc, ◌==◌, Bool, true, false, if◌then◌else◌, List, [], ◌∷◌, ◌++◌, map, drop, get_or, codes, arith, rules, refl, sym, ap, ◌∙◌, subst}
+use Rattle.std.proofs.Common.{◌≡◌, ◌↔◌, ℕ, zero, suc, ◌==◌, Bool, true, false, if◌then◌else◌, List, [], ◌∷◌, ◌++◌, map, drop, get_or, arith, rules, refl, sym, ap, ◌∙◌, subst}
 use Rattle.scripts.specs.declared.record.form.Form.{Form}
 use Rattle.scripts.specs.declared.record.form.Form.TheVariants.{One, Two}
 use Rattle.scripts.specs.declared.record.state.Next.TheVariants.{Cpus}
