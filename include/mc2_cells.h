@@ -16,8 +16,8 @@
 // function of the library is told in crates/cells/README.md; nothing of the inline functions is.
 //
 // What you owe, and nobody checks:
-// - Cells are opened by mc2_cell_open, and callers by mc2_caller_open. What is in them is read and written by the library and this
-//   header alone. Neither is moved nor copied while it is used; a cell stays where it is until its last caller is freed.
+// - Cells are opened by mc2_cell_open, and callers by mc2_caller_open. What is in them is read and written by the library and
+//   this header alone. Neither is copied while it is used, and a cell stays where it is until its last caller is freed.
 // - A cell, and a caller, is used by one call at a time. Different callers of one cell may be used at once, by different
 //   threads. What one thread does before another uses the same cell or caller happens before it: by a lock, by the thread's
 //   start or end, or by a seq_cst atomic.
