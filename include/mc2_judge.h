@@ -16,7 +16,9 @@
    - No pointer is NULL, not even where it points to nothing, and `room` and `told` are aligned as C aligns them, to 8 bytes.
    - Each size is right, 0 too, if what it counts has at most PTRDIFF_MAX bytes. No array of C has more.
 
-   The functions keep nothing between two calls, so several threads may call them at once. */
+   The functions keep nothing between two calls, so several threads may call them at once. A call takes at most 2,560 bytes of
+   stack. Of memory it takes at most MEMORY at one time, all of which it gives back before
+   it returns. Both were seen, by tools/metal and tools/judge_c, and neither is proved. */
 #ifndef MC2_JUDGE_H
 #define MC2_JUDGE_H
 
