@@ -1,11 +1,11 @@
-/* use: refusals FILE..
+/* use: refusals each|none FILE..
 
-   Judges the record of each file by libjudge.a with a heap of its own. Each block is refused in turn: then memory is told to be
-   out, the room is as it was, and nothing is lost. And a merge is given too little room, and just enough. Prints for each file the
-   bytes of its text, the blocks that were refused, and the most bytes that were taken at one time.
+   Judges the record of each file by libjudge.a with a heap of its own. With `each`, each block is refused in turn: then memory is
+   told to be out, the room is as it was, and nothing is lost. And a merge is given too little room, and just enough. Prints for
+   each file the bytes of its text, the blocks that were taken, and the most bytes that were taken at one time.
 
-   Status: 0; 1 at the first answer that can't be, which a line on standard error names; 3 if a file can't be read, or the system
-   refuses memory. */
+   Status: 0; 1 at the first answer that can't be, which a line on standard error names; 2 for wrong words; 3 if a file can't be
+   read, or the system refuses memory. */
 #include "mc2_judge.h"
 #include <stdbool.h>
 #include <stdio.h>
@@ -133,8 +133,8 @@ static bool has_turns(const struct mc2_told *told) { return told->kind == MC2_SO
 
 /* ---- the checks */
 
-/* Refuses each block of a call in turn, and returns how many there are. */
-static size_t check_memory(bool merges) {
+/* Refuses each block of a call in turn, or none, and returns how many there are. */
+static size_t check_memory(bool merges, bool refuses) {
     struct call call;
     open_call(&call, merges, merges ? MOST_TURNS : 0);
     judge(&call, 0);
@@ -142,7 +142,7 @@ static size_t check_memory(bool merges) {
     size_t blocks = heap.asked, told = merges && has_turns(&call.told) ? call.told.first : 0;
     CHECK(are_untouched(call.room + told, call.turns + BEHIND - told));
     call.turns = told < 100 ? told : 100;
-    for (size_t at = 1; at <= blocks; at++) {
+    for (size_t at = 1; refuses && at <= blocks; at++) {
         judge(&call, at);
         CHECK(is_told(&call.told, MC2_OUT_OF_MEMORY, 0) && are_untouched(call.room, call.turns + BEHIND));
     }
@@ -192,13 +192,19 @@ static void read_text(struct text *text, const char *name) {
 }
 
 int main(int count, char **words) {
-    for (int at = 1; at < count; at++) {
+    bool refuses = count > 1 && strcmp(words[1], "each") == 0;
+    if (count < 3 || (!refuses && strcmp(words[1], "none") != 0)) {
+        fputs("use: refusals each|none FILE..\n", stderr);
+        return 2;
+    }
+    for (int at = 2; at < count; at++) {
         struct text text;
         read_text(&text, words[at]);
         judged = &text;
         heap.most = 0;
-        size_t blocks = check_memory(false) + check_memory(true);
-        check_room();
+        size_t blocks = check_memory(false, refuses) + check_memory(true, refuses);
+        if (refuses)
+            check_room();
         printf("%zu %zu %zu\n", text.length, blocks, heap.most);
         free(text.bytes);
     }
