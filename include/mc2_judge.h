@@ -17,8 +17,8 @@
    - Each size is right, 0 too, if what it counts has at most PTRDIFF_MAX bytes. No array of C has more.
 
    The functions keep nothing between two calls, so several threads may call them at once. A call takes at most 2,560 bytes of
-   stack. Of memory it takes at most MEMORY at one time, all of which it gives back before
-   it returns. Both were seen, by tools/metal and tools/judge_c, and neither is proved. */
+   stack, and of memory at one time at most 72 bytes for each byte of the text, and 300,000 more. All of it is given back before
+   the call returns. tools/metal and tools/judge_c hold the calls to these figures, which aren't proved. */
 #ifndef MC2_JUDGE_H
 #define MC2_JUDGE_H
 
