@@ -26,7 +26,7 @@ MOST_CPUS = 64
 HOW_TO_BUILD = {
     MC2: "`rt run` in crates/mc2 builds crates/mc2/out/mc2, and so does `rt ci`",
     BENCH: "`rt run` in crates/bench builds crates/bench/out/bench",
-    COSTS: "`rt run` in crates/costs builds crates/costs/out/costs",
+    COSTS: "`rt run` in crates/costs builds crates/costs/out/costs, and so does `rt ci`",
     VIEW: "`rt run` in crates/view builds crates/view/out/view, and so does `rt ci`",
     FOREVER: "`rt run` in crates/forever builds crates/forever/out/forever, and so does `rt ci`",
 }

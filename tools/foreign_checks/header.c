@@ -317,6 +317,63 @@ static void check_writing(struct mc2_recorder *recorder) {
     CHECK(strcmp(mc2_says(MC2_WRITE_FAILED), "write failed") == 0 && strcmp(mc2_says(-1), mc2_says(99)) == 0);
 }
 
+// A record of one queue with room for so many events, and of two CPUs.
+static void open_small(struct mc2_recorder *recorder, uint32_t events) {
+    struct mc2_object object = object_of("q", MC2_QUEUE, events, 1, 0);
+    GIVES(mc2_open(recorder, &object, 1, 2, 4), MC2_DONE);
+}
+
+// Two CPUs are both told of the last room, as a lock lets them in at one time, and both work.
+static void check_mixed(void) {
+    static struct mc2_recorder recorder;
+    struct mc2_call call = mc2_ask(MC2_LEN, 0, 0);
+    struct mc2_step step = mc2_answer(call, MC2_COUNT, 0), no_reply = mc2_answer(call, MC2_REPLY_WORDS, 0);
+    struct pieces pieces = {{0}, 0, SIZE_MAX};
+    open_small(&recorder, 1);
+    GIVES(mc2_room(&recorder, 0, 0), MC2_DONE);
+    GIVES(mc2_room(&recorder, 0, 1), MC2_DONE);
+    GIVES(mc2_event(&recorder, 0, 0, &no_reply, 1), MC2_BAD_STEP);
+    GIVES(mc2_event(&recorder, 0, 0, &step, 1), MC2_DONE);
+    GIVES(mc2_write_to(&recorder, take_piece, &pieces), MC2_DONE);
+    GIVES(mc2_event(&recorder, 0, 1, &step, 1), MC2_MIXED);
+    GIVES(mc2_event(&recorder, 0, 1, &step, 1), MC2_MIXED);
+    GIVES(mc2_entry(&recorder, 0, 0, 0, &call, 1, &step, 1), MC2_DONE);
+    GIVES(mc2_entry(&recorder, 0, 1, 0, &call, 1, NULL, 0), MC2_DONE);
+    // As the record would be sound, it isn't written.
+    pieces.length = 0;
+    GIVES(mc2_write_to(&recorder, take_piece, &pieces), MC2_MIXED);
+    CHECK(pieces.length == 0);
+    mc2_close(&recorder);
+}
+
+// A log that is full is no fault of a lock, where the CPU wasn't told of room, or has noted since, or was told again.
+static void check_unmixed(void) {
+    static struct mc2_recorder recorder;
+    struct mc2_call call = mc2_ask(MC2_LEN, 0, 0);
+    struct mc2_step step = mc2_answer(call, MC2_COUNT, 0);
+    struct pieces pieces = {{0}, 0, SIZE_MAX};
+    open_small(&recorder, 2);
+    GIVES(mc2_room(&recorder, 0, 0), MC2_DONE);
+    GIVES(mc2_room(&recorder, 0, 1), MC2_DONE);
+    GIVES(mc2_event(&recorder, 0, 0, &step, 1), MC2_DONE);
+    GIVES(mc2_event(&recorder, 0, 1, &step, 1), MC2_DONE);
+    GIVES(mc2_event(&recorder, 0, 1, &step, 1), MC2_LOG_FULL);
+    GIVES(mc2_room(&recorder, 0, 0), MC2_LOG_FULL);
+    GIVES(mc2_event(&recorder, 0, 0, &step, 1), MC2_LOG_FULL);
+    GIVES(mc2_entry(&recorder, 0, 0, 0, &call, 1, &step, 1), MC2_DONE);
+    GIVES(mc2_entry(&recorder, 0, 1, 0, &call, 1, &step, 1), MC2_DONE);
+    GIVES(mc2_write_to(&recorder, take_piece, &pieces), MC2_DONE);
+    mc2_close(&recorder);
+    open_small(&recorder, 1);
+    // It was told of room, and didn't work; and later, that there is none.
+    GIVES(mc2_room(&recorder, 0, 1), MC2_DONE);
+    GIVES(mc2_event(&recorder, 0, 0, &step, 1), MC2_DONE);
+    GIVES(mc2_room(&recorder, 0, 1), MC2_LOG_FULL);
+    GIVES(mc2_event(&recorder, 0, 1, &step, 1), MC2_LOG_FULL);
+    GIVES(mc2_write_to(&recorder, take_piece, &pieces), MC2_DONE);
+    mc2_close(&recorder);
+}
+
 static void check_notes(void) {
     struct mc2_recorder recorder;
     char name[] = "abcdefghijklmno9";
@@ -408,6 +465,8 @@ int main(void) {
     check_own_memory();
     check_quotas();
     check_notes();
+    check_mixed();
+    check_unmixed();
     print_record();
     return 0;
 }
