@@ -56,6 +56,8 @@ def read_words(program, words):
             os.fsencode(word).decode()
         except UnicodeDecodeError:
             raise BadWords from None
+    if any(it == "--" or it.startswith(("--settings=", "--seed=")) for it in words):
+        raise BadWords
     if program == "view" and any(it.startswith("-") and it not in ("--settings", "--seed", "--json", "--rounds") for it in words):
         # (help and the version, which may stand anywhere)
         raise NotSure
