@@ -35,6 +35,9 @@ HOW_TO_BUILD = {
 HOW_TO_GET = {
     "rt": "it is the command of the kit that README.md names",
     "gcc": "on Debian `apt-get install gcc` installs it",
+    "ar": "on Debian `apt-get install binutils` installs it",
+    "dpkg-deb": "it is a program of Debian's package dpkg",
+    "pkg-config": "on Debian `apt-get install pkgconf` installs it",
     "g++": "on Debian `apt-get install g++` installs it",
     "make": "on Debian `apt-get install make` installs it",
     "rustc": "on Debian `apt-get install rustc` installs it, and rustup elsewhere",
