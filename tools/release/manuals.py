@@ -24,8 +24,8 @@ def has_converter():
 
 
 def plain(text):
-    """A document without pictures, and without links to what isn't installed."""
-    text = re.sub(r"^!\[[^\]]*\]\([^)]*\)\n", "", text, flags=re.M)
+    """A document with words in place of pictures, and without links to what isn't installed."""
+    text = re.sub(r"^!\[([^\]]*)\]\([^)]*\)$", r"(Picture: \1.)", text, flags=re.M)
     text = re.sub(r"\[([^\]]*)\]\((?!https?:)[^)]*\)", r"\1", text)
     return re.sub(r"\bview (steps|timeline|trace|schedule|--)", r"mc2-view \1", text)
 
@@ -34,7 +34,7 @@ def sections(path, wanted):
     """These sections of a document, or all that it has. What stands before the first is its beginning."""
     head, *parts = re.split(r"^(?=## )", plain((ROOT / path).read_text()), flags=re.M)
     if not wanted:
-        return "\n".join([head.partition("\n")[2], *parts])
+        return "\n".join(["## Description", head.partition("\n")[2], *parts])
     found = {part.partition("\n")[0].removeprefix("## "): part for part in parts}
     missing = [it for it in wanted if it not in found]
     if missing:
@@ -80,6 +80,6 @@ def write_manuals(folder, version):
         out = folder / f"man{part}"
         out.mkdir(parents=True, exist_ok=True)
         about = ["-M", f"title={name.upper()}", "-M", f"section={part}", "-M", f"footer=mc2 {version}"]
-        words = ["pandoc", "--standalone", "--from", "markdown-smart+lists_without_preceding_blankline", "--to", "man", *about, "-o", out / f"{name}.{part}"]
+        words = ["pandoc", "--standalone", "--from", "gfm", "--to", "man", *about, "-o", out / f"{name}.{part}"]
         run(words, input=source(name, part, what, made_of).encode())
     return len(PAGES)
