@@ -1,6 +1,6 @@
 /* Judging the text of a record, of either form, from C or C++, by the static library libjudge.a.
 
-   `rt lib` in crates/judge proves and builds the library, and leaves it at crates/judge/out/libjudge.a. A program links it, and
+   `tools/library judge` builds the library over what `rt ci` left, at crates/judge/out/libjudge.a. A program links it, and
    behind it the kit's heap, liblibc_c.a in the folder c of the kit, which takes memory by malloc and gives it back by free:
 
        gcc -Iinclude examples/judge/judge.c crates/judge/out/libjudge.a KIT/c/liblibc_c.a -pthread
