@@ -1,6 +1,6 @@
 // Cells from C or C++: an object behind a lock, and callers of it, by the static library libcells.a.
 //
-// `rt lib` in crates/cells proves and builds the library, and leaves it at crates/cells/out/libcells.a. A program links it, and
+// `tools/library cells` builds the library over what `rt ci` left, at crates/cells/out/libcells.a. A program links it, and
 // behind it the kit's heap, liblibc_c.a in the folder c of the kit, which takes memory by malloc and gives it back by free:
 //
 //     gcc -Iinclude examples/c_cells/c_cells.c crates/cells/out/libcells.a KIT/c/liblibc_c.a -pthread
@@ -16,7 +16,8 @@
 // function of the library is told in crates/cells/README.md; nothing of the inline functions is.
 //
 // What you owe, and nobody checks:
-// - `own` of a cell or a caller is read and written by the library alone, and neither is copied while it is used.
+// - Cells are opened by mc2_cell_open, and callers by mc2_caller_open. What is in them is read and written by the library and
+//   this header alone. Neither is copied while it is used, and a cell stays where it is until its last caller is freed.
 // - A cell, and a caller, is used by one call at a time. Different callers of one cell may be used at once, by different
 //   threads. What one thread does before another uses the same cell or caller happens before it: by a lock, by the thread's
 //   start or end, or by a seq_cst atomic.
@@ -34,16 +35,7 @@
 #define MC2_CELLS_H
 
 #include "mc2_record.h"
-
-// What pauses between two looks in vain, of which there were so many one after another. Define it to yield, if there may be
-// more callers than processors.
-#ifndef MC2_PAUSE
-#if defined __x86_64__ || defined __i386__
-#define MC2_PAUSE(looks) ((void)(looks), __builtin_ia32_pause())
-#else
-#define MC2_PAUSE(looks) ((void)(looks))
-#endif
-#endif
+#include "mc2_wait.h"
 
 // Stands around each step of the library that the loops below do. A kernel masks interrupts here, so that none comes within a
 // step, and any may come between two steps, while a caller waits or has the object.
@@ -55,10 +47,11 @@
 extern "C" {
 #endif
 
-// A cell, and a caller: each is what the library has made for it. The first is for the library's own functions.
+// A cell, and a caller: each is what the library has made for it, and who rests while they wait at the cell, which is the
+// header's. The first is for the library's own functions.
 struct mc2_handle { void *own; };
-struct mc2_cell { void *own; };
-struct mc2_caller { void *own; };
+struct mc2_cell { void *own; struct mc2_resting resting; };
+struct mc2_caller { void *own; struct mc2_resting *resting; };
 
 enum mc2_cell_told {
     // Of a step: it is done, and looked at nothing that another has to do; or it looked in vain, so pause before the next.
@@ -132,12 +125,14 @@ static inline uint32_t mc2_cell_open(struct mc2_cell *cell, const struct mc2_obj
     struct mc2_cell_opening opening = {object->lock, object->kind, object->events, cpus, object->size, object->channels, {0}};
     for (uint32_t owner = 0; owner < MC2_OWNERS; owner++)
         opening.quotas[owner] = object->quotas ? object->quotas[owner] : object->size;
+    cell->resting.word = 0;
     uint32_t told = mc2_handle_new(&cell->own);
     return told == MC2_CELL_DONE ? mc2_handle_open(cell, &opening) : told;
 }
 
 // Makes a caller of the greatest CPU of the cell that has none yet.
 static inline uint32_t mc2_caller_open(struct mc2_cell *cell, struct mc2_caller *caller) {
+    caller->resting = &cell->resting;
     uint32_t told = mc2_handle_new(&caller->own);
     return told == MC2_CELL_DONE ? mc2_handle_deal(cell, caller) : told;
 }
@@ -156,24 +151,30 @@ static inline uint32_t mc2_caller_free(struct mc2_caller *caller) {
 
 // Waits for the object, and counts the looks.
 static inline uint32_t mc2_acquire(struct mc2_caller *caller, uint64_t *looks) {
-    for (*looks = 0;;) {
+    uint64_t vain = 0;
+    mc2_stay_outside(caller->resting);
+    for (;;) {
         uint32_t told = MC2_STEP(mc2_caller_advance(caller));
-        *looks += told == MC2_CELL_LOOKED || told == MC2_CELL_FOUND;
-        if (told != MC2_CELL_STEPPED && told != MC2_CELL_LOOKED)
+        if (told == MC2_CELL_LOOKED) {
+            mc2_rest(caller->resting, ++vain);
+        } else if (told != MC2_CELL_STEPPED) {
+            mc2_rise(caller->resting, vain);
+            *looks = vain + (told == MC2_CELL_FOUND);
             return told;
-        if (told == MC2_CELL_LOOKED)
-            MC2_PAUSE(*looks);
+        }
     }
 }
 
 // Gives the object back. It may wait until a caller that has just come has linked itself.
 static inline uint32_t mc2_release(struct mc2_caller *caller) {
-    for (uint64_t looks = 0;;) {
+    for (uint64_t vain = 0;;) {
         uint32_t told = MC2_STEP(mc2_caller_leave(caller));
-        if (told != MC2_CELL_STEPPED && told != MC2_CELL_LOOKED)
+        if (told == MC2_CELL_LOOKED) {
+            mc2_rest(caller->resting, ++vain);
+        } else if (told != MC2_CELL_STEPPED) {
+            mc2_rise(caller->resting, vain);
             return told;
-        if (told == MC2_CELL_LOOKED)
-            MC2_PAUSE(++looks);
+        }
     }
 }
 

@@ -1,6 +1,6 @@
 /* Judging the text of a record, of either form, from C or C++, by the static library libjudge.a.
 
-   `rt lib` in crates/judge proves and builds the library, and leaves it at crates/judge/out/libjudge.a. A program links it, and
+   `tools/library judge` builds the library over what `rt ci` left, at crates/judge/out/libjudge.a. A program links it, and
    behind it the kit's heap, liblibc_c.a in the folder c of the kit, which takes memory by malloc and gives it back by free:
 
        gcc -Iinclude examples/judge/judge.c crates/judge/out/libjudge.a KIT/c/liblibc_c.a -pthread
@@ -8,10 +8,17 @@
    A kernel without a C library links it alone, and has memcpy, memmove, memset, rattle_alloc, rattle_realloc and rattle_dealloc,
    of which mc2_heap.h has the last three.
 
-   What is proved of both functions is told in crates/judge/README.md. It holds if the caller gives what is said here: text is
-   `length` bytes, which nobody writes to meanwhile; `room` is `turns` places, and `told` one, which nobody else touches
-   meanwhile. No pointer is NULL, not even where it points to nothing. The functions keep nothing between two calls, so several
-   threads may call them at once. */
+   What is proved of both functions is told in crates/judge/README.md. It holds if the caller gives what is said here:
+
+   - `text` is `length` bytes, which nobody writes to meanwhile; `room` is `turns` places, and `told` one, which nobody else
+     touches meanwhile.
+   - The three don't overlap: no byte of one is a byte of another.
+   - No pointer is NULL, not even where it points to nothing, and `room` and `told` are aligned as C aligns them, to 8 bytes.
+   - Each size is right, 0 too, if what it counts has at most PTRDIFF_MAX bytes. No array of C has more.
+
+   The functions keep nothing between two calls, so several threads may call them at once. A call takes at most 2,560 bytes of
+   stack, and of memory at one time at most 72 bytes for each byte of the text, and 300,000 more. All of it is given back before
+   the call returns. tools/metal and tools/judge_c hold the calls to these figures, which aren't proved. */
 #ifndef MC2_JUDGE_H
 #define MC2_JUDGE_H
 
@@ -69,5 +76,26 @@ void mc2_merge(const uint8_t *text, size_t length, struct mc2_turn *room, size_t
 #ifdef __cplusplus
 }
 #endif
+
+/* What crosses lies as the library has it. tools/judge_c compares its sources with this header, name by name. */
+#ifdef __cplusplus
+#define MC2_HAS(type, field, place) static_assert(offsetof(struct type, field) == (place), "another layout")
+#define MC2_HAS_SIZE(type, size) static_assert(sizeof(struct type) == (size), "another size")
+#else
+#define MC2_HAS(type, field, place) _Static_assert(offsetof(struct type, field) == (place), "another layout")
+#define MC2_HAS_SIZE(type, size) _Static_assert(sizeof(struct type) == (size), "another size")
+#endif
+
+MC2_HAS(mc2_told, kind, 0);
+MC2_HAS(mc2_told, first, 8);
+MC2_HAS(mc2_told, second, 16);
+MC2_HAS(mc2_told, third, 24);
+MC2_HAS_SIZE(mc2_told, 32);
+MC2_HAS(mc2_turn, cpu, 0);
+MC2_HAS(mc2_turn, entry, 8);
+MC2_HAS_SIZE(mc2_turn, 16);
+
+#undef MC2_HAS
+#undef MC2_HAS_SIZE
 
 #endif

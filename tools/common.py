@@ -4,6 +4,8 @@ The status of a tool is 0 or 1 as its help says, 1 too if something that it star
 is missing, and 130 after an interrupt. What went wrong is a line on standard error, and no traceback.
 """
 import argparse
+import importlib.machinery
+import importlib.util
 import os
 import re
 import shlex
@@ -26,13 +28,16 @@ MOST_CPUS = 64
 HOW_TO_BUILD = {
     MC2: "`rt run` in crates/mc2 builds crates/mc2/out/mc2, and so does `rt ci`",
     BENCH: "`rt run` in crates/bench builds crates/bench/out/bench",
-    COSTS: "`rt run` in crates/costs builds crates/costs/out/costs",
+    COSTS: "`rt run` in crates/costs builds crates/costs/out/costs, and so does `rt ci`",
     VIEW: "`rt run` in crates/view builds crates/view/out/view, and so does `rt ci`",
     FOREVER: "`rt run` in crates/forever builds crates/forever/out/forever, and so does `rt ci`",
 }
 HOW_TO_GET = {
     "rt": "it is the command of the kit that README.md names",
     "gcc": "on Debian `apt-get install gcc` installs it",
+    "ar": "on Debian `apt-get install binutils` installs it",
+    "dpkg-deb": "it is a program of Debian's package dpkg",
+    "pkg-config": "on Debian `apt-get install pkgconf` installs it",
     "g++": "on Debian `apt-get install g++` installs it",
     "make": "on Debian `apt-get install make` installs it",
     "rustc": "on Debian `apt-get install rustc` installs it, and rustup elsewhere",
@@ -146,6 +151,14 @@ def record_of(words, **how):
     if not record.startswith((b"record 1\n", b"record 2\n")) or not record.endswith(b"\nend\n"):
         raise Stop(f"{shown(words)} wrote no record")
     return record
+
+
+def load_tool(name):
+    """The code of a tool beside this one."""
+    loader = importlib.machinery.SourceFileLoader(name, str(ROOT / "tools" / name))
+    module = importlib.util.module_from_spec(importlib.util.spec_from_loader(name, loader))
+    loader.exec_module(module)
+    return module
 
 
 def load():

@@ -5,8 +5,6 @@
 
    Status: 0; 1 if a call is told what it can't be, or if the memory grew by more than 1 MiB; 2 for wrong words; 3 if memory or
    a thread is refused. */
-#include <sched.h>
-#define MC2_PAUSE(looks) ((looks) % 4 ? (void)__builtin_ia32_pause() : (void)sched_yield())
 #include "mc2_cells.h"
 #include <pthread.h>
 #include <sys/resource.h>

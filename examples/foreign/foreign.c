@@ -88,12 +88,8 @@ static void let_the_other_in(void) {
         await(2);
 }
 
-static void note_event(struct work *work) {
-    int noted = mc2_event(&recorder, work->object, work->cpu, work->steps, work->done);
-    if (noted == MC2_LOG_FULL)
-        work->done = 0;
-    else
-        must(noted);
+static int note_event(const struct work *work) {
+    return mc2_event(&recorder, work->object, work->cpu, work->steps, work->done);
 }
 
 // Whether this is the first deq that took a thread. It is asked under the queue's lock.
@@ -110,17 +106,19 @@ static void do_wrongly(struct work *work) {
     ck_spinlock_mcs_context_t node;
     if (fault != UNLOCKED)
         work->looks = acquire(lock, &node);
+    int room = mc2_room(&recorder, work->object, work->cpu);
     if (fault == EARLY)
         release(lock, &node);
-    do_calls(work);
+    if (room == MC2_DONE)
+        do_calls(work);
     if (fault == OUTSIDE) {
         release(lock, &node);
         let_the_other_in();
     }
-    note_event(work);
+    must(room == MC2_DONE ? note_event(work) : room == MC2_LOG_FULL ? MC2_DONE : room);
     if (fault == TWICE) {
-        if (work->object == QUEUE && is_first_taken(work))
-            note_event(work);
+        if (room == MC2_DONE && work->object == QUEUE && is_first_taken(work))
+            must(note_event(work));
         release(lock, &node);
     }
 }

@@ -219,6 +219,44 @@ static void check_quotas(void) {
     mc2_close(&recorder);
 }
 
+// A kernel that goes on notes nothing more of an object once it was told that there is no room.
+static void check_going_on(void) {
+    static struct mc2_recorder recorder;
+    struct mc2_object objects[2] = {object_of("q", MC2_QUEUE, 1, 1, 0), object_of("r", MC2_QUEUE, 9, 1, 0)};
+    struct mc2_call call = mc2_ask(MC2_LEN, 0, 0);
+    struct mc2_step step = mc2_answer(call, MC2_COUNT, 0);
+    CHECK(!mc2_notes(&recorder, 0, 0) && !mc2_notes(NULL, 0, 0));
+    GIVES(mc2_open(&recorder, objects, 2, 2, 2), MC2_DONE);
+    CHECK(!mc2_notes(&recorder, 2, 0) && !mc2_notes(&recorder, 0, 2));
+    for (unsigned object = 0; object < 2; object++) {
+        CHECK(mc2_notes(&recorder, object, 0));
+        GIVES(mc2_event(&recorder, object, 0, &step, 1), MC2_DONE);
+        GIVES(mc2_entry(&recorder, object, 0, 0, &call, 1, &step, 1), MC2_DONE);
+    }
+    // The first log is full, and so is this CPU's transcript: so the second log ends for the other CPU too.
+    CHECK(!mc2_notes(&recorder, 0, 1));
+    CHECK(mc2_notes(&recorder, 1, 1));
+    CHECK(!mc2_notes(&recorder, 1, 0));
+    CHECK(!mc2_notes(&recorder, 1, 1));
+    CHECK(strcmp(text_of(&recorder), "record 2\ncpus 2\nobjects 2\nobject q mcs 1 queue 1\nobject r mcs 9 queue 1\n"
+                                     "log q 1\n0 len = count 0\nlog r 1\n0 len = count 0\ncpu 0 2\nq 0 len | len = count 0\n"
+                                     "r 0 len | len = count 0\ncpu 1 0\nend\n") == 0);
+    mc2_close(&recorder);
+}
+
+// Real pages have the least free names, as long as they are given out.
+static void check_page_names(void) {
+    static struct mc2_page_names names = {3, {0}, {0}};
+    CHECK(mc2_page_name(&names, 0) == 3 && mc2_take_page_back(&names, 77, false) == 0);
+    CHECK(mc2_give_page(&names, UINT64_MAX) == 0 && mc2_give_page(&names, 0) == 1 && mc2_give_page(&names, 5) == 2);
+    CHECK(mc2_page_name(&names, 0) == 1 && mc2_give_page(&names, 6) == 3 && mc2_give_page(&names, 5) == 2);
+    CHECK(mc2_take_page_back(&names, 6, false) == 3);
+    CHECK(mc2_take_page_back(&names, 0, false) == 1 && mc2_page_name(&names, 0) == 1);
+    CHECK(mc2_take_page_back(&names, 0, true) == 1 && mc2_page_name(&names, 0) == 3);
+    CHECK(mc2_take_page_back(&names, 0, false) == 1 && mc2_give_page(&names, 6) == 1);
+    CHECK(mc2_take_page_back(&names, UINT64_MAX, true) == 0 && mc2_give_page(&names, 9) == 0);
+}
+
 static void check_events(struct mc2_recorder *recorder) {
     struct mc2_step steps[9], none = mc2_answer(mc2_ask(MC2_CALL_WORDS, 0, 0), MC2_OK, 0);
     struct mc2_step no_reply = mc2_answer(mc2_ask(MC2_LEN, 0, 0), MC2_REPLY_WORDS, 0);
@@ -315,6 +353,64 @@ static void check_writing(struct mc2_recorder *recorder) {
     fclose(full);
     fclose(nowhere);
     CHECK(strcmp(mc2_says(MC2_WRITE_FAILED), "write failed") == 0 && strcmp(mc2_says(-1), mc2_says(99)) == 0);
+    CHECK(strstr(mc2_says(MC2_BAD_COUNT), "1 to 16 objects, 1 to 64 CPUs, 1 to 10,000 entries") != NULL);
+}
+
+// A record of one queue with room for so many events, and of two CPUs.
+static void open_small(struct mc2_recorder *recorder, uint32_t events) {
+    struct mc2_object object = object_of("q", MC2_QUEUE, events, 1, 0);
+    GIVES(mc2_open(recorder, &object, 1, 2, 4), MC2_DONE);
+}
+
+// Two CPUs are both told of the last room, as a lock lets them in at one time, and both work.
+static void check_mixed(void) {
+    static struct mc2_recorder recorder;
+    struct mc2_call call = mc2_ask(MC2_LEN, 0, 0);
+    struct mc2_step step = mc2_answer(call, MC2_COUNT, 0), no_reply = mc2_answer(call, MC2_REPLY_WORDS, 0);
+    struct pieces pieces = {{0}, 0, SIZE_MAX};
+    open_small(&recorder, 1);
+    GIVES(mc2_room(&recorder, 0, 0), MC2_DONE);
+    GIVES(mc2_room(&recorder, 0, 1), MC2_DONE);
+    GIVES(mc2_event(&recorder, 0, 0, &no_reply, 1), MC2_BAD_STEP);
+    GIVES(mc2_event(&recorder, 0, 0, &step, 1), MC2_DONE);
+    GIVES(mc2_write_to(&recorder, take_piece, &pieces), MC2_DONE);
+    GIVES(mc2_event(&recorder, 0, 1, &step, 1), MC2_MIXED);
+    GIVES(mc2_event(&recorder, 0, 1, &step, 1), MC2_MIXED);
+    GIVES(mc2_entry(&recorder, 0, 0, 0, &call, 1, &step, 1), MC2_DONE);
+    GIVES(mc2_entry(&recorder, 0, 1, 0, &call, 1, NULL, 0), MC2_DONE);
+    // As the record would be sound, it isn't written.
+    pieces.length = 0;
+    GIVES(mc2_write_to(&recorder, take_piece, &pieces), MC2_MIXED);
+    CHECK(pieces.length == 0);
+    mc2_close(&recorder);
+}
+
+// A log that is full is no fault of a lock, where the CPU wasn't told of room, or has noted since, or was told again.
+static void check_unmixed(void) {
+    static struct mc2_recorder recorder;
+    struct mc2_call call = mc2_ask(MC2_LEN, 0, 0);
+    struct mc2_step step = mc2_answer(call, MC2_COUNT, 0);
+    struct pieces pieces = {{0}, 0, SIZE_MAX};
+    open_small(&recorder, 2);
+    GIVES(mc2_room(&recorder, 0, 0), MC2_DONE);
+    GIVES(mc2_room(&recorder, 0, 1), MC2_DONE);
+    GIVES(mc2_event(&recorder, 0, 0, &step, 1), MC2_DONE);
+    GIVES(mc2_event(&recorder, 0, 1, &step, 1), MC2_DONE);
+    GIVES(mc2_event(&recorder, 0, 1, &step, 1), MC2_LOG_FULL);
+    GIVES(mc2_room(&recorder, 0, 0), MC2_LOG_FULL);
+    GIVES(mc2_event(&recorder, 0, 0, &step, 1), MC2_LOG_FULL);
+    GIVES(mc2_entry(&recorder, 0, 0, 0, &call, 1, &step, 1), MC2_DONE);
+    GIVES(mc2_entry(&recorder, 0, 1, 0, &call, 1, &step, 1), MC2_DONE);
+    GIVES(mc2_write_to(&recorder, take_piece, &pieces), MC2_DONE);
+    mc2_close(&recorder);
+    open_small(&recorder, 1);
+    // It was told of room, and didn't work; and later, that there is none.
+    GIVES(mc2_room(&recorder, 0, 1), MC2_DONE);
+    GIVES(mc2_event(&recorder, 0, 0, &step, 1), MC2_DONE);
+    GIVES(mc2_room(&recorder, 0, 1), MC2_LOG_FULL);
+    GIVES(mc2_event(&recorder, 0, 1, &step, 1), MC2_LOG_FULL);
+    GIVES(mc2_write_to(&recorder, take_piece, &pieces), MC2_DONE);
+    mc2_close(&recorder);
 }
 
 static void check_notes(void) {
@@ -405,9 +501,13 @@ int main(void) {
     check_sizes();
     check_counts();
     check_memory();
+    check_going_on();
+    check_page_names();
     check_own_memory();
     check_quotas();
     check_notes();
+    check_mixed();
+    check_unmixed();
     print_record();
     return 0;
 }

@@ -2,6 +2,8 @@
 #pragma once
 #include "record.hpp"
 
+static_assert(MOST_CPUS <= 64, "a bit for each CPU");
+
 // How far each CPU and each log is.
 struct Front {
     uint32_t at[MOST_CPUS] = {}, placed[MOST_OBJECTS] = {};
@@ -11,12 +13,12 @@ class Merger {
     const Record &record;
     Front front;
     // The CPUs whose next entry can come, a bit for each.
-    unsigned ready = 0;
+    uint64_t ready = 0;
 
     bool has_entry(uint32_t cpu) const { return front.at[cpu] < record.entries[cpu].size(); }
 
     void look(uint32_t cpu) {
-        unsigned bit = 1u << cpu;
+        uint64_t bit = uint64_t(1) << cpu;
         ready = has_entry(cpu) && waits_for(cpu) == NOWHERE ? ready | bit : ready & ~bit;
     }
 
@@ -43,7 +45,7 @@ class Merger {
     explicit Merger(const Record &record) : record(record) {
         look_at_all();
         while (ready != 0) {
-            order.push_back(__builtin_ctz(ready));
+            order.push_back(__builtin_ctzll(ready));
             place(order.back());
         }
     }

@@ -22,6 +22,13 @@ impl<T> Plain<T> {
     {
         Plain { inner, failed: 0 }
     }
+
+    /// How many of its calls have failed.
+    pub fn failed_calls(&self) -> u64
+        ensures { result ≡ failed_calls self.now }
+    {
+        self.failed
+    }
 }
 
 impl<T: Read> Source for Plain<T> {
@@ -60,6 +67,3 @@ impl<T: Write> Sink for Plain<T> {
         }
     }
 }
-
-#[cfg(test)]
-mod tests;

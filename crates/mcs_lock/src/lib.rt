@@ -15,11 +15,9 @@ mod make;
 mod rule;
 mod states;
 mod steps;
-#[cfg(test)]
-mod tests;
 mod tries;
 mod whole;
 
 pub use cell::McsCell;
-pub use states::{Alone, Armed, Behind, Entered, Leaving, Passing, Ready, Waiting};
+pub use states::{Alone, Armed, Behind, Entered, Leaving, Passing, Ready, Trying, Waiting};
 pub use word_rule::{Hold, Pass};

@@ -1,5 +1,6 @@
 //! A caller of an MCS lock, by what it may do next.
 
+ghost use Rattle.std.specs.Prelude.{◌≡◌};
 ghost use Rattle.event_log.proofs.Props.{legal_props};
 ghost use Rattle.word_rule.specs.declared.lock_kind.Stage.TheVariants.{Mcs, Trying};
 ghost use Rattle.word_rule.specs.declared.lock_kind.McsStage.TheVariants.{Ready, Behind, Armed, Waiting, Alone, Leaving, Passing};
@@ -19,11 +20,11 @@ pub struct Ready<O: SeqObject> {
 }
 
 /// A caller whose `next` is clear for a try. It can't be dropped: it ends in `try_enter`.
-pub(crate) struct Trying<O: SeqObject> {
+pub struct Trying<O: SeqObject> {
     pub(crate) cpu: Cpu,
     pub(crate) key: Snapshot<Key<O>>,
     pub(crate) seat: Seat<O>,
-    pub(crate) ghost tries: { IsWithout O.SeqObject key.value cpu.number Trying seat.me } by { Prim.hlevel legal_props },
+    pub ghost tries: { IsWithout O.SeqObject key.value cpu.number Trying seat.me } by { Prim.hlevel legal_props },
 }
 
 /// A caller in the queue behind the CPU `ahead`. It can't be dropped: it ends in `arm`.
@@ -34,6 +35,15 @@ pub struct Behind<O: SeqObject> {
     pub(crate) seat: Seat<O>,
     pub ghost behind: { IsWithout O.SeqObject key.value cpu.number (Mcs (Behind ahead)) seat.me } by { Prim.hlevel legal_props },
     pub ghost other: { IsElse seat.me.0 ahead },
+}
+
+impl<O: SeqObject> Behind<O> {
+    /// The CPU that it is behind.
+    pub fn ahead(&self) -> u8
+        ensures { result ≡ self.now.ahead }
+    {
+        self.ahead
+    }
 }
 
 /// The same, whose `locked` is set. It can't be dropped: it ends in `link`.
@@ -84,6 +94,15 @@ pub struct Passing<O: SeqObject> {
     pub(crate) seat: Seat<O>,
     pub ghost passes: { IsWith O.SeqObject key.value cpu.number (Mcs (Passing follower)) logged seat.me } by { Prim.hlevel legal_props },
     pub ghost other: { IsElse seat.me.0 follower },
+}
+
+impl<O: SeqObject> Passing<O> {
+    /// The CPU that it saw behind it.
+    pub fn follower(&self) -> u8
+        ensures { result ≡ self.now.follower }
+    {
+        self.follower
+    }
 }
 
 /// What a caller is that has entered the queue: it has the object, or is behind another.

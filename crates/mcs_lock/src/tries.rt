@@ -17,7 +17,7 @@ use word_rule::{Hold, Pass, next_index};
 
 impl<O: SeqObject> McsCell<O> {
     /// Clears its `next` for a try: one store.
-    pub(crate) fn ready(&self, pass: Pass<O>) -> Trying<O>
+    pub fn ready(&self, pass: Pass<O>) -> Trying<O>
         requires { IsPassOf self.now pass }
         ensures trying { IsTryingOf self.now result }
         ensures step { IsReady O.SeqObject (state_of_pass pass) (state_of_trying result) }
@@ -30,7 +30,7 @@ impl<O: SeqObject> McsCell<O> {
 
     /// Puts itself into the tail if that names nobody: one compare-and-exchange. The object comes then; a caller that owns
     /// every number of the cell gets it.
-    pub(crate) fn try_enter(&self, trying: Trying<O>) -> Result<Hold<O>, Pass<O>>
+    pub fn try_enter(&self, trying: Trying<O>) -> Result<Hold<O>, Pass<O>>
         requires { IsTryingOf self.now trying }
         ensures got { IfOk result (λ h. IsHoldOf self.now h × IsTryEnter O.SeqObject (state_of_trying trying) (state_of_hold h) true) }
         ensures busy { IfErr result (λ p. IsPassOf self.now p × IsTryEnter O.SeqObject (state_of_trying trying) (state_of_pass p) false) }

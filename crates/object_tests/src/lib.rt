@@ -1,4 +1,4 @@
-//! Tests of `event_log`, and of the four objects: `shared_queue`, `console_ring`, `page_pool` and `wake_list`.
+//! Tests of `event_log`, with its streams, and of the four objects: `shared_queue`, `console_ring`, `page_pool` and `wake_list`.
 #![tactic(auto)]
 
 #[cfg(test)]
@@ -11,3 +11,5 @@ mod pool;
 mod queue;
 #[cfg(test)]
 mod sched;
+#[cfg(test)]
+mod streams;

@@ -4,7 +4,6 @@ pub mod Cuts
 pub mod Readings
 pub mod Lookups
 pub mod Spellings
-pub mod Samples
 pub mod Glances
 pub mod Outputs
 pub mod Lines
@@ -32,6 +31,7 @@ pub mod RecordRuns
 pub mod RecordSpells
 pub mod RecordEnds
 pub mod RecordTexts
+pub mod FormFaults
 pub mod RecordPieces
 pub mod RecordLengths
 pub mod ParameterLaws

@@ -4,7 +4,7 @@ use Rattle.std.proofs.lemmas.Grind.{flat_map-append}
 use Rattle.std.proofs.lemmas.List.{append-nil}
 use Rattle.std.specs.Result.{IsErrAnd}
 use Rattle.event_log.proofs.Each.{all_append, all_push}
-use Rattle.scripts.specs.LineMachine.{TakesEach, TakesText, RefusesText, RefusesRest, Passes, IsKept, IsShort, HasTaken}
+use Rattle.scripts.specs.LineMachine.{TakesEach, TakesText, RefusesText, RefusesRest, Passes, IsKept, IsShort, BeginsIdle, IsHeld, HasTaken}
 use Rattle.scripts.specs.Words.{NoEnd, text_of_lines}
 
 pub text_more : (lines : List (List ℕ)) (line : List ℕ) → text_of_lines (lines ++ line ∷ []) ≡ text_of_lines lines ++ (line ++ 10 ∷ [])
@@ -69,6 +69,15 @@ module _ {S : Type 0} (act : List ℕ → S → S → Type 0) where
   pub pending_no_end : (start : S) (text : List ℕ) (state : S) (number : ℕ) (passing : Bool) (pending : List ℕ) → HasTaken act start text state number passing pending → NoEnd pending
   pending_no_end start text state number true pending taken = subst NoEnd (sym (taken.kept.nothing refl)) tt
   pending_no_end start text state number false pending taken = subst NoEnd (sym (taken.kept.whole refl)) taken.no_end
+
+  -- nothing is pending
+  pub held_none : (state : S) (pending : List ℕ) → pending ≡ [] → IsHeld act state pending
+  held_none state pending none = subst (λ (p : List ℕ). IsHeld act state p) (sym none) (record { few = omega arith; busy = λ never. never })
+
+  -- bytes behind what is pending begin no line that changes nothing
+  pub busy_with : (state : S) (pending bytes : List ℕ) → IsHeld act state pending → (pending ≡ [] → BeginsIdle act state bytes → ⊥) → BeginsIdle act state (pending ++ bytes) → ⊥
+  busy_with state [] bytes held not = not refl
+  busy_with state (b ∷ pending) bytes held not = held.busy
 
   -- ---- what is kept of a line without an end
 

@@ -1,12 +1,13 @@
 -- Scripts, text by text.
-use Rattle.std.proofs.Common.{◌≡◌, ℕ, ◌<◌, Bool, List, [], ◌∷◌, ◌++◌, length, inl, inr, Result, Ok, Err, refl, sym, ◌∙◌, subst, arith, IsErrAnd, IfOk, IfErr}
-use Rattle.std.proofs.lemmas.List.{append-nil}
+use Rattle.std.proofs.Common.{◌≡◌, ◌==◌, ◌↔◌, ℕ, ◌<◌, Bool, true, false, List, [], ◌∷◌, ◌++◌, length, replicate, inl, inr, Result, Ok, Err, refl, sym, ◌∙◌, subst, arith, IsErrAnd, IfOk, IfErr}
+use Rattle.std.proofs.lemmas.Bool.{eqb-true, eqb-false}
+use Rattle.std.proofs.lemmas.List.{append-nil, length-replicate}
 use Rattle.scripts.specs.declared.text.line_machine.PieceFault.{PieceFault}
 use Rattle.scripts.specs.declared.text.line_machine.PieceFault.TheVariants as piece
 use Rattle.scripts.specs.declared.script.reader.ScriptsFault.{ScriptsFault}
 use Rattle.scripts.specs.declared.script.reader.ScriptsFault.TheVariants.{OutOfMemory, Line}
 use Rattle.scripts.specs.KernelTypes.{KernelTodo}
-use Rattle.scripts.specs.LineMachine.{TakesText, RefusesText, RefusesLine, HasTaken}
+use Rattle.scripts.specs.LineMachine.{TakesText, RefusesText, RefusesLine, ChangesNothing, HasTaken}
 use Rattle.scripts.specs.ScriptFaults.{ScriptState, TakesScriptLine, RefusesScriptLine, FitsScriptLine, IsNotTaken, NamesFirstBad, HasRead, no_entries, of_piece}
 use Rattle.scripts.specs.ScriptText.{AreRequests, IsFirstBad, AreScripts, ScriptsFit, ScriptsWithin}
 use Rattle.scripts.specs.Settings.{Settings, SettingsFit}
@@ -99,3 +100,25 @@ long_refused state fit first rest other long = record {
   no_blank = other;
   no_room = λ r is. let short = long_no_request state.settings fit (first ∷ rest) r is in absurd (omega (arith, short, long));
 }
+
+-- a comment changes nothing
+comment_idle : (state : ScriptState) (first : ℕ) → first ≡ 35 → ChangesNothing TakesScriptLine state first
+comment_idle state first is = λ rest. record { same = refl; takes = inl (is, refl) }
+
+-- and nothing else does, whatever follows
+idle_comment : (state : ScriptState) → SettingsFit state.settings → (first : ℕ) → ChangesNothing TakesScriptLine state first → (first ≡ 35 → ⊥) → ⊥
+idle_comment state fit first idle other =
+    let line = first ∷ replicate 1024 0 in
+    let taken = idle (replicate 1024 0) in
+    elim taken.takes [
+      | inl blank ↦ other blank.0
+      | inr entry ↦ (let short = long_no_request state.settings fit line entry.0 entry.1 in absurd (omega (arith, short, length-replicate {A = ℕ} 1024 0)))
+    ]
+
+idle_is : (state : ScriptState) → SettingsFit state.settings → (first : ℕ) → ChangesNothing TakesScriptLine state first → (b : Bool) → (first == 35) ≡ b → b ≡ true
+idle_is state fit first idle true e = refl
+idle_is state fit first idle false e = absurd (idle_comment state fit first idle (eqb-false first 35 e))
+
+-- so the lines that begin with the byte change nothing exactly if they are comments
+pub passes_exactly : (state : ScriptState) → SettingsFit state.settings → (first : ℕ) → ((first == 35) ≡ true) ↔ ChangesNothing TakesScriptLine state first
+passes_exactly state fit first = (λ yes. comment_idle state first (eqb-true first 35 yes), λ idle. idle_is state fit first idle (first == 35) refl)

@@ -113,3 +113,7 @@ module _ (opens : (p : PoolParams) → IsPoolOf p (opening_state p)) (stays : (p
         sound_same kernel before (λ _. refl) (opened_of r.settings) r.run (of_opened _ (λ o t. legal_before o.params t) r.settings.objects told),
         sound_same before kernel (λ _. refl) (opened_of r.settings) r.run (of_opened _ (λ o t. legal_now o.params t) r.settings.objects told),
       )
+
+-- a record that is one that is sound is sound
+pub sound_given : (x r : Record) → x ≡ r → Sound kernel (opened_of r.settings) r.run → Sound kernel (opened_of x.settings) x.run
+sound_given x r is sound = subst (λ (v : Record). Sound kernel (opened_of v.settings) v.run) (sym is) sound

@@ -25,6 +25,7 @@ pub mod RecordStates
 pub mod RecordParts
 pub mod RecordPieces
 pub mod RecordFaults
+pub mod FormFaults
 pub mod RecordSources
 pub mod Runs
 pub mod Unlimited

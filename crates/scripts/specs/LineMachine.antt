@@ -1,6 +1,7 @@
 -- A state that takes the lines of a text, one after the other.
-use Rattle.std.specs.Prelude.{ℕ, ◌≡◌, ◌+◌, ◌<◌, ◌⊎◌, Bool, true, false, List, [], ◌∷◌, ◌++◌, length}
+use Rattle.std.specs.Prelude.{ℕ, ◌≡◌, ◌+◌, ◌<◌, ◌≤◌, ◌⊎◌, Bool, true, false, List, [], ◌∷◌, ◌++◌, length}
 use Rattle.std.specs.List.{AllByRecursion}
+use Rattle.scripts.specs.declared.text.line_machine.TheConstants.{MOST_BYTES}
 use Rattle.scripts.specs.Words.{NoEnd, text_of_lines}
 
 -- the lines, one after the other, take the one state to the other
@@ -48,6 +49,20 @@ module _ {S : Type 0} (act : List ℕ → S → S → Type 0) where
   pub record Passes (state : S) (front : List ℕ) : Type 0 where
     pub some : 0 < length front
     pub same : (more : List ℕ) → act (front ++ more) state state
+
+  -- lines that begin with the byte change nothing, whatever follows it
+  abbrev pub ChangesNothing : S → ℕ → Type 0
+  ChangesNothing state first = (rest : List ℕ) → act (first ∷ rest) state state
+
+  -- the bytes begin with such a byte
+  abbrev pub BeginsIdle : S → List ℕ → Type 0
+  BeginsIdle state [] = ⊥
+  BeginsIdle state (b ∷ bytes) = ChangesNothing state b
+
+  -- of a line without an end at most 1,024 bytes are pending, and none of one that changes nothing
+  pub record IsHeld (state : S) (pending : List ℕ) : Type 0 where
+    pub few : length pending ≤ MOST_BYTES
+    pub busy : BeginsIdle state pending → ⊥
 
   -- what is pending of a line without an end: all of it, or nothing where such a line passes
   pub record IsKept (state : S) (unended : List ℕ) (passing : Bool) (pending : List ℕ) : Type 0 where

@@ -5,7 +5,8 @@ use console_ring::ConsoleCall;
 use event_log::{Logged, OpenFault, Plain};
 use page_pool::{PoolCall, PoolParams};
 use scripts::{
-    Buffered, KCall, KParams, KReply, KernelObject, Record, Spelled, fits, put_value, value,
+    Buffered, Glanced, KCall, KParams, KReply, KernelObject, Record, Spelled, fits, put_value,
+    value,
 };
 use shared_queue::QueueCall;
 use std::alloc::Global;
@@ -321,7 +322,7 @@ fn words_of_replies(rt: HostRuntime) {
 }
 
 /// Whether the line is this value's text, whole.
-fn is_text<T: Spelled + PartialEq>(line: &[u8], wanted: &T) -> bool {
+fn is_text<T: Glanced + PartialEq>(line: &[u8], wanted: &T) -> bool {
     match value::<T>(Some(line)) {
         Some((value, None)) => value == *wanted,
         _ => false,

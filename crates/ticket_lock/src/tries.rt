@@ -17,7 +17,7 @@ use word_rule::{Hold, Pass, TICKETS, next_ticket, served_ticket};
 
 impl<O: SeqObject> TicketCell<O> {
     /// Reads the word: one load. Where its halves differ somebody is in line, and there is nothing to try.
-    pub(crate) fn read(&self, pass: Pass<O>) -> Result<Trying<O>, Pass<O>>
+    pub fn read(&self, pass: Pass<O>) -> Result<Trying<O>, Pass<O>>
         requires { IsPassOf self.now pass }
         ensures trying { IfOk result (λ t. IsTryingOf self.now t × (view_of_trying t ≡ view_of_pass pass) × ((state_of_trying t).run ≡ run_of_pass pass)) }
         ensures busy { IfErr result (λ p. IsPassOf self.now p × IsBusy (view_of_pass pass) (view_of_pass p) × (run_of_pass p ≡ run_of_pass pass)) }
@@ -38,7 +38,7 @@ impl<O: SeqObject> TicketCell<O> {
 
     /// Takes the ticket that is served, if the word is still the one that was read: one compare-and-exchange. The object
     /// comes then; a caller that owns every number of the cell gets it.
-    pub(crate) fn exchange(&self, trying: Trying<O>) -> Result<Hold<O>, Pass<O>>
+    pub fn exchange(&self, trying: Trying<O>) -> Result<Hold<O>, Pass<O>>
         requires { IsTryingOf self.now trying }
         ensures got { IfOk result (λ h. IsHoldOf self.now h × IsTry O.SeqObject (state_of_trying trying) (state_of_hold h) true) }
         ensures busy { IfErr result (λ p. IsPassOf self.now p × IsTry O.SeqObject (state_of_trying trying) (state_of_pass p) false) }

@@ -18,8 +18,6 @@ mod mcs;
 mod progress;
 mod room;
 mod step_done;
-#[cfg(test)]
-mod tests;
 mod ticket;
 
 use crate::machine::hold::count_step;

@@ -79,6 +79,7 @@ impl TakesLines for ScriptLists<'_> {
     }
 
     fn passes(&self, first: u8) -> bool {
+        let _settings = self.settings;
         first == b'#'
     }
 

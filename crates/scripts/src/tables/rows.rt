@@ -1,8 +1,6 @@
 //! The tables of calls and replies.
 
-use crate::tables::read::{byte, wide};
 use crate::tables::spelling::{first, second};
-use crate::text::words::{Words, word};
 use crate::{Field, KCall, KReply, Spelled, Spelling};
 use console_ring::ConsoleCall;
 use page_pool::PoolCall;
@@ -72,58 +70,6 @@ impl Spelled for KCall {
             KCall::Sched(SchedCall::Wake(0)),
             KCall::Sched(SchedCall::WakeAll(0)),
         ]
-    }
-
-    #[inline(always)]
-    fn glance(at: Words<'_>) -> Option<(KCall, Words<'_>)> {
-        let (word, rest) = word(at)?;
-        match word {
-            b"enq" => {
-                let (number, rest) = wide(rest)?;
-                Some((KCall::Queue(QueueCall::Enq(number)), rest))
-            }
-            b"deq" => Some((KCall::Queue(QueueCall::Deq), rest)),
-            b"remove" => {
-                let (number, rest) = wide(rest)?;
-                Some((KCall::Queue(QueueCall::Remove(number)), rest))
-            }
-            b"len" => Some((KCall::Queue(QueueCall::Len), rest)),
-            b"alloc" => {
-                let (number, rest) = wide(rest)?;
-                Some((KCall::Pool(PoolCall::Alloc(number)), rest))
-            }
-            b"free" => {
-                let (owner, rest) = wide(rest)?;
-                let (page, rest) = wide(rest)?;
-                Some((KCall::Pool(PoolCall::Free { owner, page }), rest))
-            }
-            b"left" => Some((KCall::Pool(PoolCall::Left), rest)),
-            b"put" => {
-                let (number, rest) = byte(rest)?;
-                Some((KCall::Console(ConsoleCall::Put(number)), rest))
-            }
-            b"get" => Some((KCall::Console(ConsoleCall::Get), rest)),
-            b"level" => Some((KCall::Console(ConsoleCall::Level), rest)),
-            b"ready" => {
-                let (number, rest) = wide(rest)?;
-                Some((KCall::Sched(SchedCall::Ready(number)), rest))
-            }
-            b"next" => Some((KCall::Sched(SchedCall::Next), rest)),
-            b"sleep" => {
-                let (channel, rest) = wide(rest)?;
-                let (thread, rest) = wide(rest)?;
-                Some((KCall::Sched(SchedCall::Sleep { channel, thread }), rest))
-            }
-            b"wake" => {
-                let (number, rest) = wide(rest)?;
-                Some((KCall::Sched(SchedCall::Wake(number)), rest))
-            }
-            b"wakeall" => {
-                let (number, rest) = wide(rest)?;
-                Some((KCall::Sched(SchedCall::WakeAll(number)), rest))
-            }
-            _ => None,
-        }
     }
 
     #[inline(always)]
@@ -218,47 +164,6 @@ impl Spelled for KReply {
             KReply::BadChannel,
             KReply::BadCall,
         ]
-    }
-
-    #[inline(always)]
-    fn glance(at: Words<'_>) -> Option<(KReply, Words<'_>)> {
-        let (word, rest) = word(at)?;
-        match word {
-            b"ok" => Some((KReply::Ok, rest)),
-            b"already" => Some((KReply::Already, rest)),
-            b"badthread" => Some((KReply::BadThread, rest)),
-            b"thread" => {
-                let (number, rest) = wide(rest)?;
-                Some((KReply::Thread(number), rest))
-            }
-            b"empty" => Some((KReply::Empty, rest)),
-            b"absent" => Some((KReply::Absent, rest)),
-            b"count" => {
-                let (number, rest) = wide(rest)?;
-                Some((KReply::Count(number), rest))
-            }
-            b"page" => {
-                let (number, rest) = wide(rest)?;
-                Some((KReply::Page(number), rest))
-            }
-            b"none" => Some((KReply::NoPage, rest)),
-            b"overquota" => Some((KReply::OverQuota, rest)),
-            b"badowner" => Some((KReply::BadOwner, rest)),
-            b"notyours" => Some((KReply::NotYours, rest)),
-            b"nottaken" => Some((KReply::NotTaken, rest)),
-            b"badpage" => Some((KReply::BadPage, rest)),
-            b"dropped" => {
-                let (number, rest) = byte(rest)?;
-                Some((KReply::Dropped(number), rest))
-            }
-            b"byte" => {
-                let (number, rest) = byte(rest)?;
-                Some((KReply::Byte(number), rest))
-            }
-            b"badchannel" => Some((KReply::BadChannel, rest)),
-            b"badcall" => Some((KReply::BadCall, rest)),
-            _ => None,
-        }
     }
 
     #[inline(always)]

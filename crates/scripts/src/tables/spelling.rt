@@ -4,7 +4,6 @@ ghost use Rattle.std.specs.Prelude.{◌≡◌, true, [], ◌∷◌};
 ghost use Rattle.scripts.specs.Row.{row_fits, refilled_row, first, others};
 
 use crate::Field;
-use crate::text::words::Words;
 use arrayvec::ArrayVec;
 
 /// A word, and then its numbers.
@@ -17,9 +16,8 @@ pub struct Spelling {
 /// Values that are spelled as a word and its numbers. Each type has one table: reading, writing and the test of ranges
 /// follow from it.
 pub trait Spelled: Copy + 'static {
-    ghost use Rattle.std.specs.Prelude.{ℕ, List, Some, IfSome};
-    ghost use Rattle.scripts.specs.Row.{Row, IsTable, value_at};
-    ghost use Rattle.scripts.specs.Reading.{left};
+    ghost use Rattle.std.specs.Prelude.{ℕ, List};
+    ghost use Rattle.scripts.specs.Row.{Row, IsTable};
 
     /// The row of a value.
     ghost row_of: { Self → Row };
@@ -38,11 +36,6 @@ pub trait Spelled: Copy + 'static {
     /// A value of each word, with the numbers 0.
     fn samples() -> &'static [Self]
         ensures { result.now ≡ table };
-
-    /// The value that is next and the words behind it, without going through the table. Where none is found, one may be
-    /// there.
-    fn glance(at: Words<'_>) -> Option<(Self, Words<'_>)>
-        ensures { IfSome result (λ x. value_at row_of table filled (left at.entry) ≡ Some (x.0, left x.1)) };
 
     /// The value of the same word with these numbers, and with 0 where there are too few.
     fn fill(&self, numbers: &[u32]) -> Self

@@ -1,7 +1,7 @@
 //! Reading a text line by line, piece by piece.
 
-ghost use Rattle.std.specs.Prelude.{◌≡◌, ◌<◌, ◌≤◌, ◌++◌, ◌∷◌, ℕ, List, [], true, false, length, None, Ok, Err, IfSome, OnOk};
-ghost use Rattle.scripts.specs.LineMachine.{RefusesText, RefusesLine, Passes, IsShort, TakesText};
+ghost use Rattle.std.specs.Prelude.{◌≡◌, ◌<◌, ◌≤◌, ◌++◌, ◌∷◌, ◌↔◌, ℕ, List, [], true, false, length, None, Ok, Err, IfSome, IsTrue, OnOk};
+ghost use Rattle.scripts.specs.LineMachine.{RefusesText, RefusesLine, Passes, ChangesNothing, BeginsIdle, IsHeld, IsShort, TakesText};
 ghost use Rattle.scripts.specs.Pieces.{HasFed, Keeps};
 ghost use Rattle.scripts.specs.Words.{NoEnd};
 
@@ -55,17 +55,19 @@ pub(crate) trait TakesLines: Drop {
 
     /// Whether lines that begin with the byte change nothing, whatever follows it.
     fn passes(&self, first: u8) -> bool
-        ensures { result ≡ true → (rest : List ℕ) → takes (first ∷ rest) self.now self.now };
+        ensures passes { result ≡ true → (rest : List ℕ) → takes (first ∷ rest) self.now self.now }
+        ensures exactly { IsTrue result ↔ ChangesNothing takes self.now first };
 
     /// Whether no line can come that begins with the byte and has so many bytes or more.
     fn is_too_long(&self, first: u8, count: usize) -> bool
         ensures refused { result ≡ true → (rest : List ℕ) → count ≤ length (first ∷ rest) → refuses (first ∷ rest) self.now }
         ensures long { result ≡ true → fits first count → ⊥ }
-        ensures short { result ≡ false → fits first count };
+        ensures short { result ≡ false → fits first count }
+        ensures few { result ≡ false → (ChangesNothing takes self.now first → ⊥) → count ≤ MOST_BYTES };
 }
 
-/// Takes the lines of a text that comes in pieces. Of the text no more is held than a line without an end, and of that
-/// nothing where it changes nothing, however long it gets. After a fault no more can be taken.
+/// Takes the lines of a text that comes in pieces. Of the text no more is held than a line without an end, of at most
+/// `MOST_BYTES`, and of that nothing where it changes nothing, however long it gets. After a fault no more can be taken.
 #[derive(Drop)]
 pub(crate) struct Pieces<L: TakesLines> {
     lines: L,
@@ -121,6 +123,7 @@ impl<L: TakesLines> Pieces<L> {
         ensures refused { (start : L) (text : List ℕ) (n : ℕ) → HasFed L.takes start text self.old → result ≡ Err (PieceFault.Line n) →
             RefusesLine L.takes L.refuses L.fits (text ++ piece.now) start 1 n }
         ensures short { IsShort L.fits self.old.pending.items → OnOk result (IsShort L.fits self.new.pending.items) }
+        ensures held { IsHeld L.takes self.old.lines self.old.pending.items → OnOk result (IsHeld L.takes self.new.lines self.new.pending.items) }
     {
         let mut rest = piece;
         while let Some((end, after)) = split_line(rest) {
@@ -143,6 +146,7 @@ impl<L: TakesLines> Pieces<L> {
         ensures refused { (start : L) (text after : List ℕ) (n : ℕ) → HasFed L.takes start text self.old → result ≡ Err (PieceFault.Line n) →
             RefusesText L.takes L.refuses (text ++ (end.now ++ 10 ∷ after)) start 1 n }
         ensures short { IsShort L.fits self.old.pending.items → OnOk result (IsShort L.fits self.new.pending.items) }
+        ensures held { IsHeld L.takes self.old.lines self.old.pending.items → OnOk result (IsHeld L.takes self.new.lines self.new.pending.items) }
     {
         match self.take(end) {
             Ok(()) => {}
@@ -167,6 +171,7 @@ impl<L: TakesLines> Pieces<L> {
         ensures ok { (unended : List ℕ) → Keeps L.takes self.old unended → OnOk result (L.takes (unended ++ end.now) self.old.lines self.new.lines) }
         ensures refused { (unended : List ℕ) → Keeps L.takes self.old unended → result ≡ Err LineFault.Refused → L.refuses (unended ++ end.now) self.old.lines }
         ensures short { IsShort L.fits self.old.pending.items → OnOk result (IsShort L.fits self.new.pending.items) }
+        ensures held { IsHeld L.takes self.old.lines self.old.pending.items → OnOk result (IsHeld L.takes self.new.lines self.new.pending.items) }
     {
         if self.passing {
             self.passing = false;
@@ -193,6 +198,7 @@ impl<L: TakesLines> Pieces<L> {
             L.refuses ((unended ++ bytes.now) ++ more) self.old.lines }
         ensures long { (unended : List ℕ) → Keeps L.takes self.old unended → result ≡ Err LineFault.Refused → IsShort L.fits (unended ++ bytes.now) → ⊥ }
         ensures short { IsShort L.fits self.old.pending.items → OnOk result (IsShort L.fits self.new.pending.items) }
+        ensures held { IsHeld L.takes self.old.lines self.old.pending.items → OnOk result (IsHeld L.takes self.new.lines self.new.pending.items) }
     {
         if self.passing {
             return Ok(());
@@ -213,6 +219,7 @@ impl<L: TakesLines> Pieces<L> {
         ensures refused { result ≡ Err LineFault.Refused → (more : List ℕ) → L.refuses ((self.old.pending.items ++ bytes.now) ++ more) self.old.lines }
         ensures long { result ≡ Err LineFault.Refused → IsShort L.fits (self.old.pending.items ++ bytes.now) → ⊥ }
         ensures short { OnOk result (IsShort L.fits self.new.pending.items) }
+        ensures held { (BeginsIdle L.takes self.old.lines (self.old.pending.items ++ bytes.now) → ⊥) → OnOk result (IsHeld L.takes self.new.lines self.new.pending.items) }
     {
         if self.is_too_long(bytes) {
             return Err(LineFault::Refused);
@@ -225,7 +232,8 @@ impl<L: TakesLines> Pieces<L> {
 
     /// Whether a line begins with these bytes that changes nothing.
     fn begins_passing(&self, bytes: &[u8]) -> bool
-        ensures { result ≡ true → (self.now.pending.items ≡ []) × Passes L.takes self.now.lines bytes.now }
+        ensures begins { result ≡ true → (self.now.pending.items ≡ []) × Passes L.takes self.now.lines bytes.now }
+        ensures exactly { IsTrue result ↔ (self.now.pending.items ≡ []) × BeginsIdle L.takes self.now.lines bytes.now }
     {
         match bytes {
             [first, ..] => self.pending.is_empty() && self.lines.passes(*first),
@@ -238,6 +246,7 @@ impl<L: TakesLines> Pieces<L> {
         ensures refused { result ≡ true → (more : List ℕ) → L.refuses ((self.now.pending.items ++ bytes.now) ++ more) self.now.lines }
         ensures long { result ≡ true → IsShort L.fits (self.now.pending.items ++ bytes.now) → ⊥ }
         ensures short { result ≡ false → IsShort L.fits (self.now.pending.items ++ bytes.now) }
+        ensures few { result ≡ false → (BeginsIdle L.takes self.now.lines (self.now.pending.items ++ bytes.now) → ⊥) → length (self.now.pending.items ++ bytes.now) ≤ MOST_BYTES }
     {
         let count = self.pending.len() + bytes.len();
         match first_of(self.pending.as_slice(), bytes) {

@@ -1,7 +1,7 @@
 use Rattle.std.proofs.Common.{ℕ, Err, refl, ap, ◌∙◌, arith}
 use Rattle.std.proofs.lemmas.List.{length-replicate}
 use Rattle.scripts.specs.ScriptFaults.{TakesScriptLine, no_entries}
-use Rattle.scripts.proofs.LineMachine.{pending_no_end}
+use Rattle.scripts.proofs.LineMachine.{pending_no_end, held_none}
 use Rattle.scripts.proofs.ScriptLines.{scripts_fit}
 use Rattle.scripts.proofs.ScriptSources.{read_starts, read_piece, piece_refused, all_read, read_refused, end_refused}
 use Rattle.scripts.proofs.script.cpu_scripts.Scripts.read_from.Goals as goal
@@ -9,6 +9,7 @@ use Rattle.scripts.proofs.script.cpu_scripts.Scripts.read_from.Goals as goal
 pub loop-init : goal.loop-init
 loop-init g c = record {
   read = read_starts c.args.settings.now _ c.in_ok-lists.lists _ _ _ _ c.new-pieces.ensures.taken c.in_ok-lists.ensures.lists;
+  held = held_none TakesScriptLine _ _ c.new-pieces.ensures.empty;
   failed = refl;
   room = length-replicate {A = ℕ} 4096 0;
 }
@@ -47,6 +48,7 @@ returns-in_err-feed-clause-fault g c =
 pub loop-preserved : goal.loop-preserved
 loop-preserved g c = record {
   read = read_piece c.args.settings.now _ _ _ _ _ _ _ _ c.loop.invariant.read c.in-Ok.ensures.bytes.0 _ _ _ _ c.in_ok-feed.ensures.ok;
+  held = c.in_ok-feed.ensures.held c.loop.invariant.held;
   failed = c.in-Ok.ensures.failures ∙ c.loop.invariant.failed;
   room = c.read.auto.buffer ∙ c.loop.invariant.room;
 }

@@ -6,7 +6,7 @@ use Rattle.scripts.proofs.LineMachine.{handed_on, line_behind, more_kept, more_r
 use Rattle.scripts.proofs.text.line_machine.Pieces.feed.Goals as goal
 
 pub loop-end-init : goal.loop-end-init
-loop-end-init g c = record { no_end = c.requires; short = λ short. short; taken = λ start text h. (text, refl, h) }
+loop-end-init g c = record { no_end = c.requires; short = λ short. short; held = λ held. held; taken = λ start text h. (text, refl, h) }
 
 pub returns-in_err-end_line-clause-refused : goal.returns-in_err-end_line-clause-refused
 returns-in_err-end_line-clause-refused g c = λ start text n h e.
@@ -19,6 +19,7 @@ pub loop-end-preserved : goal.loop-end-preserved
 loop-end-preserved g c = record {
   no_end = c.in_ok-end_line.ensures.no_end;
   short = λ short. c.in_ok-end_line.ensures.short (c.loop-end.invariant.short short);
+  held = λ held. c.in_ok-end_line.ensures.held (c.loop-end.invariant.held held);
   taken = λ start text h.
       let before = c.loop-end.invariant.taken start text h in (
         before.0 ++ (c.in-Some.end.now ++ 10 ∷ []),
@@ -46,3 +47,6 @@ returns-in-Err-clause-refused g c = λ start text n h e.
 
 pub returns-in-Ok-clause-short : goal.returns-in-Ok-clause-short
 returns-in-Ok-clause-short g c = λ short. c.in-Ok.ensures.short (c.loop-end.invariant.short short)
+
+pub returns-in-Ok-clause-held : goal.returns-in-Ok-clause-held
+returns-in-Ok-clause-held g c = λ held. c.in-Ok.ensures.held (c.loop-end.invariant.held held)

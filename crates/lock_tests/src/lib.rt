@@ -1,0 +1,9 @@
+//! Tests of `ticket_lock`, of `mcs_lock`, and of the step machine of `word_rule`.
+#![tactic(auto)]
+
+#[cfg(test)]
+mod machine;
+#[cfg(test)]
+mod mcs;
+#[cfg(test)]
+mod ticket;

@@ -1,0 +1,131 @@
+// use: cells ticket|mcs THREADS CALLS
+//
+// THREADS threads, each with a caller of one cell by mc2_cells.hpp, call its queue CALLS times each: one call of eight by a try,
+// the next one by a hold, and all others whole. Prints the record, which `mc2 audit` judges. It is built without exceptions.
+//
+// Status: 0; 1 if a call is told what it can't be; 2 for wrong words; 3 if memory is refused.
+#include "mc2_cells.hpp"
+#include <cstdio>
+#include <cstdlib>
+#include <cstring>
+#include <thread>
+#include <vector>
+
+enum { QUEUE = 12 };
+
+// What a caller asked, and what it was told.
+struct note {
+    uint64_t looks;
+    mc2_call call;
+    mc2_reply reply;
+    mc2_cell_told told;
+};
+
+static void must(bool is_so, const char *what, mc2_cell_told told = MC2_CELL_REFUSED) {
+    if (is_so)
+        return;
+    std::fprintf(stderr, "cells: %s: told %d\n", what, told);
+    std::exit(told == MC2_CELL_NO_MEMORY ? 3 : 1);
+}
+
+// Such a call of the queue for each number.
+static mc2_call call_of(uint32_t cpu, uint32_t number) {
+    static const uint32_t words[] = {MC2_ENQ, MC2_DEQ, MC2_LEN, MC2_REMOVE, MC2_ENQ};
+    return mc2_ask(words[(number * 7 + cpu * 3) % 5], (number + cpu * 5) % (QUEUE + 1), 0);
+}
+
+// The call under a hold, which is given back at its end. While it lasts, the caller gets no other.
+static void call_held(mc2::caller &caller, mc2::hold held, note &it) {
+    must(!caller.acquire() && !caller.try_acquire(), "a second hold");
+    mc2::expected<mc2_reply> reply = held.call(it.call);
+    it.looks = held.looks();
+    it.told = reply.told();
+    it.reply = reply ? *reply : mc2_reply();
+}
+
+static note call(mc2::caller &caller, uint32_t cpu, uint32_t number) {
+    note it = {0, call_of(cpu, number), {}, MC2_CELL_DONE};
+    std::optional<mc2::hold> held = number % 8 == 7 ? caller.try_acquire() : std::nullopt;
+    if (!held && (number % 8 == 7 || number % 8 == 0))
+        held = caller.acquire();
+    if (held) {
+        call_held(caller, std::move(*held), it);
+        return it;
+    }
+    mc2::expected<mc2_reply> reply = caller.call(it.call);
+    it.told = reply.told();
+    it.reply = reply ? *reply : mc2_reply();
+    return it;
+}
+
+static void print_record(mc2::cell &cell, const mc2_object &object, const std::vector<std::vector<note>> &notes) {
+    static mc2_recorder recorder;
+    must(mc2_open(&recorder, &object, 1, (uint32_t)notes.size(), (uint32_t)notes[0].size()) == MC2_DONE, "the record",
+         MC2_CELL_NO_MEMORY);
+    for (size_t event = 0; std::optional<mc2_logged_step> step = cell.step(event, 0); event++)
+        must(mc2_event(&recorder, 0, step->cpu, &step->step, 1) == MC2_DONE, "noting an event");
+    for (uint32_t cpu = 0; cpu < notes.size(); cpu++)
+        for (const note &it : notes[cpu]) {
+            mc2_step step = mc2_answer(it.call, it.reply.word, it.reply.number);
+            must(mc2_entry(&recorder, 0, cpu, it.looks, &it.call, 1, &step, it.told == MC2_CELL_DONE) == MC2_DONE,
+                 "noting an entry");
+        }
+    must(mc2_write(&recorder, stdout) == MC2_DONE, "writing");
+    mc2_close(&recorder);
+}
+
+// The callers, that of the least CPU first.
+static std::vector<mc2::caller> callers_of(mc2::cell &cell, uint32_t cpus) {
+    std::vector<mc2::caller> callers;
+    for (uint32_t at = 0; at < cpus; at++) {
+        mc2::expected<mc2::caller> made = cell.open_caller();
+        must(bool(made), "a caller", made.told());
+        callers.insert(callers.begin(), std::move(*made));
+    }
+    must(cell.open_caller().told() == MC2_CELL_REFUSED, "a caller too many");
+    return callers;
+}
+
+// Each caller on a thread of its own.
+static std::vector<std::vector<note>> run(std::vector<mc2::caller> &callers, uint32_t calls) {
+    std::vector<std::vector<note>> notes(callers.size());
+    std::vector<std::thread> threads;
+    for (uint32_t cpu = 0; cpu < callers.size(); cpu++)
+        threads.emplace_back([&, cpu] {
+            for (uint32_t number = 0; number < calls; number++)
+                notes[cpu].push_back(call(callers[cpu], cpu, number));
+        });
+    for (std::thread &thread : threads)
+        thread.join();
+    return notes;
+}
+
+// All callers go back, in their order and to no other cell, and the cell ends.
+static void end(mc2::cell &cell, mc2::cell &other, std::vector<mc2::caller> &callers) {
+    for (mc2::caller &caller : callers) {
+        must(cell.close() == MC2_CELL_REFUSED, "closing too early");
+        must(other.take_back(caller) == MC2_CELL_REFUSED, "taking back the caller of another cell");
+        must(cell.take_back(caller) == MC2_CELL_DONE, "taking back");
+        must(!caller.acquire() && caller.call(mc2_ask(MC2_LEN, 0, 0)).told() == MC2_CELL_REFUSED, "a caller that is back");
+    }
+    must(cell.close() == MC2_CELL_DONE, "closing");
+}
+
+int main(int count, char **words) {
+    bool is_mcs = count > 1 && std::strcmp(words[1], "mcs") == 0;
+    long cpus = count == 4 ? std::atol(words[2]) : 0, calls = count == 4 ? std::atol(words[3]) : 0;
+    bool are_right = cpus >= 1 && cpus <= MC2_MOST_CPUS && calls >= 1 && calls <= MC2_MOST_ENTRIES;
+    if (!are_right || (!is_mcs && std::strcmp(words[1], "ticket") != 0)) {
+        std::fputs("use: cells ticket|mcs THREADS CALLS\n", stderr);
+        return 2;
+    }
+    mc2_object object = {"shared", MC2_QUEUE, is_mcs ? (uint32_t)MC2_MCS : (uint32_t)MC2_TICKET, MC2_MOST_EVENTS, QUEUE, 0, NULL};
+    must(mc2::cell::open(object, MC2_MOST_CPUS + 1).told() == MC2_CELL_BAD_OPENING, "opening for too many CPUs");
+    mc2::expected<mc2::cell> cell = mc2::cell::open(object, (uint32_t)cpus), other = mc2::cell::open(object, 1);
+    must(cell && other, "opening", cell.told());
+    std::vector<mc2::caller> callers = callers_of(*cell, (uint32_t)cpus);
+    std::vector<std::vector<note>> notes = run(callers, (uint32_t)calls);
+    end(*cell, *other, callers);
+    print_record(*cell, object, notes);
+    return 0;
+}
