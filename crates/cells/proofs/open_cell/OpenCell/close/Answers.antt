@@ -20,4 +20,5 @@ invariant_of-result-in-Err g c =
       of = subst (λ z. AreHome (arc_value z) self.passes.items) same self.of;
       returned = subst (λ z. IsBack (arc_value z) self.back (Some c.in-Some.pass)) same (one_back (arc_value self.cell) self.back c.in-Some.pass (self.returned.0 c.in-Some.pass c.in-Some.is));
       some = subst (λ z. (fixed_of (arc_value z)).numbers ≡ self.cpus) same self.some;
+      any = self.any;
     }
