@@ -49,7 +49,4 @@ module _ {call_eq : Eq KCall} {call_default : Default KCall} {reply_eq : Eq KRep
     pub is_lock : lock_of o ≡ Some lock
     pub kind : kind_of (arc_value c.cell) ≡ lock
     pub count : vec_len c.passes ≡ o.cpus
-    pub cpus : c.cpus ≡ o.cpus
-    pub back : c.back ≡ 0
-    pub home : c.home ≡ None
     pub passes : EachAt (λ k p. view_of_pass p ≡ first_pass lock 0 (opened_history params (limit_of o.events) (kernel_opening params)) o.cpus k) c.passes.items

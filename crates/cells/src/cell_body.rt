@@ -3,7 +3,6 @@
 ghost use Rattle.std.specs.Prelude.{◌≡◌, ◌↔◌, Err};
 ghost use Rattle.cells.specs.CellBodies.{IsOpenedBy, IsBadOpening, IsDealtBy, IsOwn, IsGivenBackTo, IsClosedBy, step_of, may_be_freed};
 
-use crate::ends::{NotClosed, NotDealt};
 use crate::logged_step::{LoggedStep, step_at};
 use crate::opening::{NotOpened, Opening, open_cell};
 use crate::{Body, Caller, Position};
@@ -26,7 +25,7 @@ impl Body {
     }
 
     /// A caller of a cell that has a pass left.
-    pub fn deal(self) -> (Body, Result<Caller<KernelObject>, NotDealt>)
+    pub fn deal(self) -> (Body, Option<Caller<KernelObject>>)
         ensures { IsDealtBy self result.1 result.0 }
     {
         match self {
@@ -34,7 +33,7 @@ impl Body {
                 let (cell, caller) = cell.deal();
                 (Body::Cell(cell), caller)
             }
-            other => (other, Err(NotDealt::NoneLeft)),
+            other => (other, None),
         }
     }
 
@@ -53,15 +52,15 @@ impl Body {
     }
 
     /// A cell ends, once all callers are back.
-    pub fn close(self) -> (Body, Result<(), NotClosed>)
+    pub fn close(self) -> (Body, bool)
         ensures { IsClosedBy self result.1 result.0 }
     {
         match self {
             Body::Cell(cell) => match cell.close() {
-                Ok(logged) => (Body::Ended(logged), Ok(())),
-                Err((cell, why)) => (Body::Cell(cell), Err(why)),
+                Ok(logged) => (Body::Ended(logged), true),
+                Err(cell) => (Body::Cell(cell), false),
             },
-            other => (other, Err(NotClosed::NotAllBack)),
+            other => (other, false),
         }
     }
 

@@ -6,8 +6,7 @@ ghost use Rattle.cells.specs.CellBodies.{IsBadOpening};
 ghost use Rattle.cells.specs.CellExports.{IsOpenTold, IsDealTold, IsBackTold, IsCloseTold, IsFreeTold, IsStepTold, told_opening, owns_back};
 ghost use Rattle.cells.specs.declared.body.Body.TheVariants.{Empty};
 
-use crate::ends::{NotClosed, NotDealt};
-use crate::exports::{BUSY, DONE, NOT_THERE, REFUSED};
+use crate::exports::{DONE, NOT_THERE, REFUSED};
 use crate::handle::with_body;
 use crate::logged_step::LoggedStep;
 use crate::opening::{NotOpened, Opening};
@@ -109,12 +108,11 @@ pub extern "C" fn mc2_handle_deal(cell: &mut Handle, caller: &mut Handle) -> u32
 {
     match take_body(caller) {
         Body::Empty => match with_body(cell, (), |body, ()| body.deal()) {
-            Ok(dealt) => {
+            Some(dealt) => {
                 put_body(caller, Body::Caller(dealt));
                 DONE
             }
-            Err(NotDealt::NoneLeft) => REFUSED,
-            Err(NotDealt::NoShare) => NO_MEMORY,
+            None => REFUSED,
         },
         other => {
             put_body(caller, other);
@@ -149,10 +147,10 @@ pub extern "C" fn mc2_cell_take_back(cell: &mut Handle, caller: &mut Handle) -> 
 pub extern "C" fn mc2_cell_close(cell: &mut Handle) -> u32
     ensures { IsCloseTold (body_of cell.old) result (body_of cell.new) }
 {
-    match with_body(cell, (), |body, ()| body.close()) {
-        Ok(()) => DONE,
-        Err(NotClosed::NotAllBack) => REFUSED,
-        Err(NotClosed::Shared) => BUSY,
+    if with_body(cell, (), |body, ()| body.close()) {
+        DONE
+    } else {
+        REFUSED
     }
 }
 
