@@ -103,7 +103,7 @@ module _ {T S : Type 0} (is_pass_of : T → S → Type 0) (pass_view : S → Ker
 module _ {T S J R : Type 0} (is_pass_of : T → S → Type 0) (pass_view : S → KernelView) (settings : Settings) (scripts : List (List KernelTodo)) (opened : List T) (todos_in : J → List KernelTodo) (passes_in : J → List S) (row_in : R → List S) (jobs : List J) (rows : List R)
     (scripts_are : map todos_in jobs ≡ scripts) (rows_are : map passes_in jobs ≡ map row_in rows) (begun : EachAt (λ k r. IsRow is_pass_of pass_view (cells_for settings) opened k (row_in r)) rows) where
   -- the passes of a job
-  begins : (k : ℕ) (j : J) → slice_get jobs k ≡ Some j → IsRow is_pass_of pass_view (cells_for settings) opened k (passes_in j)
+  pub begins : (k : ℕ) (j : J) → slice_get jobs k ≡ Some j → IsRow is_pass_of pass_view (cells_for settings) opened k (passes_in j)
   begins k j at =
       let r = get_map row_in rows k (passes_in j) (ap (λ l. slice_get l k) (sym rows_are) ∙ map_get passes_in jobs k j at) in
       subst (IsRow is_pass_of pass_view (cells_for settings) opened k) r.2 (begun k r.0 r.1)

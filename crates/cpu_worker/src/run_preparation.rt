@@ -6,13 +6,14 @@ ghost use Rattle.std.specs.declared.alloc.Global.{Global};
 ghost use Rattle.word_rule.specs.Cell.{EachAt};
 ghost use Rattle.word_rule.specs.Passes.{view_of_pass};
 ghost use Rattle.guarded_cell.specs.Kinds.{IsPassOf};
+ghost use Rattle.scripts.specs.ScriptText.{ScriptsFit};
 ghost use Rattle.cpu_worker.specs.Opening.{IsRow, cells_for};
 
 use crate::object_opening::open_object;
 use crate::threads::{Finished, Handle, Job, KernelCell, KernelPass};
 use event_log::{Entry, Event, OutOfMemory, Series, Todo};
 use guarded_cell::AnyCell;
-use scripts::{KernelObject, Settings};
+use scripts::{KernelObject, Scripts, Settings};
 use std::alloc::Global;
 
 /// For each CPU an empty list with room for a pass of each object.
@@ -45,7 +46,7 @@ fn deal<T: Drop>(rows: &mut Vec<Vec<T>>, elements: Vec<T>)
 }
 
 /// Opens each object of the settings behind its lock: the cells, and for each CPU a pass of each of them.
-pub fn open_cells(
+fn open_cells(
     alloc: Global,
     settings: &Settings,
 ) -> Result<(Vec<KernelCell>, Vec<Vec<KernelPass>>), OutOfMemory>
@@ -68,7 +69,7 @@ pub fn open_cells(
 }
 
 /// A job for each CPU: its script, its passes, and room for its transcript.
-pub fn make_jobs(
+fn make_jobs(
     alloc: Global,
     scripts: Vec<Vec<Todo<KernelObject>>>,
     rows: Vec<Vec<KernelPass>>,
@@ -92,33 +93,64 @@ pub fn make_jobs(
     Ok(jobs)
 }
 
-/// The lists of a run, empty, with room for all that will come.
+/// The cells of a run, and a job for each CPU.
 #[derive(Drop)]
-pub struct RunLists {
-    pub finished: Vec<Finished>,
+pub struct Work {
+    pub cells: Vec<KernelCell>,
+    pub jobs: Vec<Job>,
+}
+
+/// A cell for each object of the settings, and a job for each CPU, which has its script and a pass of each cell.
+pub fn make_work(alloc: Global, settings: &Settings, scripts: Scripts) -> Result<Work, OutOfMemory>
+    requires { ScriptsFit settings.now.cpus (length settings.now.objects) scripts }
+    ensures cells { IfOk result (λ w. vec_len w.cells ≡ length settings.now.objects) }
+    ensures scripts { IfOk result (λ w. map (λ j. j.todos.items) w.jobs.items ≡ scripts) }
+    ensures rows { IfOk result (λ w. EachAt (λ k j. IsRow IsPassOf view_of_pass (cells_for settings.now) w.cells.items k j.passes.items) w.jobs.items) }
+    ensures room { IfOk result (λ w. AllByRecursion (λ j. (j.transcript.items ≡ []) × (length j.todos.items ≤ vec_capacity j.transcript)) w.jobs.items) }
+{
+    let (cells, rows) = open_cells(alloc, settings)?;
+    let jobs = make_jobs(alloc, scripts.into_lists(), rows)?;
+    Ok(Work { cells, jobs })
+}
+
+/// What the end of a run fills: a transcript of each CPU, and a log of each object. Both are empty, and have room for all.
+#[derive(Drop)]
+pub struct EndLists {
     pub transcripts: Vec<Series<Entry<KernelObject>>>,
     pub logs: Vec<Series<Event<KernelObject>>>,
 }
 
-/// The lists of a run of so many CPUs and objects.
-pub fn make_run_lists(alloc: Global, cpus: usize, objects: usize) -> Result<RunLists, OutOfMemory>
-    ensures finished { IfOk result (λ r. (r.finished.items ≡ []) × (cpus ≤ vec_capacity r.finished)) }
+/// The lists of a run, empty, with room for all that will come. The handles can't be dropped once threads are started.
+#[derive(Drop)]
+pub struct RunLists {
+    pub handles: Vec<Handle>,
+    pub finished: Vec<Finished>,
+    pub ends: EndLists,
+}
+
+/// What the end of a run of so many CPUs and objects fills.
+fn make_end_lists(alloc: Global, cpus: usize, objects: usize) -> Result<EndLists, OutOfMemory>
     ensures transcripts { IfOk result (λ r. (r.transcripts.items ≡ []) × (cpus ≤ vec_capacity r.transcripts)) }
     ensures logs { IfOk result (λ r. (r.logs.items ≡ []) × (objects ≤ vec_capacity r.logs)) }
 {
-    let finished = Vec::with_capacity(alloc, cpus)?;
     let transcripts = Vec::with_capacity(alloc, cpus)?;
     let logs = Vec::with_capacity(alloc, objects)?;
-    Ok(RunLists {
-        finished,
-        transcripts,
-        logs,
-    })
+    Ok(EndLists { transcripts, logs })
 }
 
-/// Room for the handles of so many threads, which can't be dropped once they are started.
-pub fn make_handles(alloc: Global, cpus: usize) -> Result<Vec<Handle>, OutOfMemory>
-    ensures { IfOk result (λ handles. (handles.items ≡ []) × (cpus ≤ vec_capacity handles)) }
+/// The lists of a run of so many CPUs and objects.
+pub fn make_run_lists(alloc: Global, cpus: usize, objects: usize) -> Result<RunLists, OutOfMemory>
+    ensures handles { IfOk result (λ r. (r.handles.items ≡ []) × (cpus ≤ vec_capacity r.handles)) }
+    ensures finished { IfOk result (λ r. (r.finished.items ≡ []) × (cpus ≤ vec_capacity r.finished)) }
+    ensures transcripts { IfOk result (λ r. (r.ends.transcripts.items ≡ []) × (cpus ≤ vec_capacity r.ends.transcripts)) }
+    ensures logs { IfOk result (λ r. (r.ends.logs.items ≡ []) × (objects ≤ vec_capacity r.ends.logs)) }
 {
-    Ok(Vec::with_capacity(alloc, cpus)?)
+    let handles = Vec::with_capacity(alloc, cpus)?;
+    let finished = Vec::with_capacity(alloc, cpus)?;
+    let ends = make_end_lists(alloc, cpus, objects)?;
+    Ok(RunLists {
+        handles,
+        finished,
+        ends,
+    })
 }

@@ -1,7 +1,13 @@
 //! What the program answers: the record of a run or of a simulation, a record that is read, and the report on it, its verdict
 //! or its order.
 
-ghost use Rattle.std.specs.Prelude.{◌≡◌, ℕ, Some, IfOk, IfErr, string_bytes};
+ghost use Rattle.std.specs.Prelude.{◌≡◌, ◌<◌, ℕ, List, Some, IfOk, IfErr, string_bytes};
+ghost use Rattle.std.specs.List.{AllByRecursion};
+ghost use Rattle.auditor.specs.VerdictText.{fault_text, IsNamed};
+ghost use Rattle.auditor.specs.declared.fault.Fault.{Fault as AuditFault};
+ghost use Rattle.log_merge.specs.CycleText.{cycle_text};
+ghost use Rattle.scripts.specs.declared.script.cpu_scripts.TheConstants.{MOST_ENTRIES};
+ghost use Rattle.sound_run.specs.declared.place.Place.{Place};
 ghost use Rattle.mc2_command.specs.Answers.{ReadsRecord, AnswersRun, AnswersSim, AnswersReport, AnswersAudit, AnswersMerge, RefusesUnsound, RefusesCycle};
 ghost use Rattle.program.specs.Inputs.{bytes_of};
 ghost use Rattle.mc2_command.specs.BadInputs.{AreBadSettings, AreBadScripts, IsBadSchedule, IsBadRecord, HasCpu};
@@ -12,6 +18,7 @@ use crate::fault::Fault;
 use crate::input::{read_record, read_scripts, read_settings};
 use auditor::{Verdict, audit, fault_text, verdict_line};
 use cpu_worker::{AlwaysAllowed, OpenGate, report, run_owned, simulate};
+use event_log::OutOfMemory;
 use log_merge::{MergeFault, Merged, cycle_text, merge};
 use program::{Inputs, read_input};
 use scripts::{Record, Schedule};
@@ -108,6 +115,28 @@ pub fn audit_answer<I: Inputs>(
     Ok((verdict, line))
 }
 
+/// Why a record has no order, as a refusal.
+fn no_order(alloc: Global, of: &Record, cause: MergeFault) -> Fault
+    requires named { (f : AuditFault) → cause ≡ MergeFault.Unsound f → IsNamed of.now.settings f }
+    requires few { (c : List Place) → cause ≡ MergeFault.Cycle c → AllByRecursion (λ p. p.entry < MOST_ENTRIES) c }
+    ensures unsound { (text : _) → result ≡ Fault.Unsound text → (f : AuditFault) × (cause ≡ MergeFault.Unsound f) × (string_bytes text ≡ fault_text of.now.settings f) }
+    ensures cycle { (text : _) → result ≡ Fault.Cycle text → (c : List Place) × (cause ≡ MergeFault.Cycle c) × (string_bytes text ≡ cycle_text c) }
+    ensures no_line { (n : ℕ) → result ≡ Fault.BadRecord n → ⊥ }
+    ensures no_write { result ≡ Fault.WriteFailed → ⊥ }
+{
+    match cause {
+        MergeFault::OutOfMemory => Fault::OutOfMemory,
+        MergeFault::Unsound(fault) => match fault_text(alloc, of, &fault) {
+            Ok(text) => Fault::Unsound(text),
+            Err(OutOfMemory) => Fault::OutOfMemory,
+        },
+        MergeFault::Cycle(cycle) => match cycle_text(alloc, cycle.as_slice()) {
+            Ok(text) => Fault::Cycle(text),
+            Err(OutOfMemory) => Fault::OutOfMemory,
+        },
+    }
+}
+
 /// The record of that name, or that of standard input, and the one order of its entries.
 pub fn merge_answer<I: Inputs>(
     alloc: Global,
@@ -123,14 +152,6 @@ pub fn merge_answer<I: Inputs>(
     let record = read_record(alloc, inputs, record)?;
     match merge(alloc, &record) {
         Ok(merged) => Ok((record, merged)),
-        Err(MergeFault::OutOfMemory) => Err(Fault::OutOfMemory),
-        Err(MergeFault::Unsound(fault)) => {
-            let text = fault_text(alloc, &record, &fault)?;
-            Err(Fault::Unsound(text))
-        }
-        Err(MergeFault::Cycle(cycle)) => {
-            let text = cycle_text(alloc, cycle.as_slice())?;
-            Err(Fault::Cycle(text))
-        }
+        Err(cause) => Err(no_order(alloc, &record, cause)),
     }
 }

@@ -1,17 +1,23 @@
 //! What the program's answers say of each other, on a function without effect.
 
 ghost use Rattle.std.specs.Prelude.{◌≡◌, ℕ, List, Option, Some};
-ghost use Rattle.mc2_command.specs.Answers.{AnswersSim, RefusesCycle};
+ghost use Rattle.mc2_command.specs.Answers.{AnswersSim, RefusesCycle, RefusesUnsound};
 ghost use Rattle.scripts.specs.RecordFaults.{text_of};
 ghost use Rattle.scripts.specs.RecordRanges.{RecordFits, Record as Shown};
 
-use scripts::no_text_begins_another;
+use auditor::sound_has_no_fault;
+use scripts::{KernelObject, no_text_begins_another};
 
-/// Whatever `sim` answered has an order: where its text is what `merge` reads later, `merge` names no cycle.
+/// Whatever `sim` answered is sound and has an order: where its text is what `merge` reads later, `merge` names neither a
+/// fault nor a cycle.
 pub fn simulations_have_no_cycle()
-    ensures { (held later : Option (List ℕ) → Option (List ℕ)) (settings scripts schedule : List ℕ) (r : Shown) →
+    ensures cycle { (held later : Option (List ℕ) → Option (List ℕ)) (settings scripts schedule : List ℕ) (r : Shown) →
         AnswersSim held settings scripts schedule r → RecordFits r →
         (name : Option (List ℕ)) (answer : List ℕ) → later name ≡ Some (text_of r) → RefusesCycle later name answer → ⊥ }
+    ensures fault { (held later : Option (List ℕ) → Option (List ℕ)) (settings scripts schedule : List ℕ) (r : Shown) →
+        AnswersSim held settings scripts schedule r → RecordFits r →
+        (name : Option (List ℕ)) (answer : List ℕ) → later name ≡ Some (text_of r) → RefusesUnsound later name answer → ⊥ }
 {
     no_text_begins_another();
+    sound_has_no_fault::<KernelObject>();
 }

@@ -1,15 +1,48 @@
-use Rattle.std.proofs.Common.{◌≡◌, ◌++◌, [], sym, ◌∙◌, subst}
+use Rattle.std.proofs.Common.{◌≡◌, ◌++◌, [], ℕ, List, Option, Some, map, sym, ◌∙◌, subst}
 use Rattle.std.proofs.lemmas.List.{append-nil}
+use Rattle.std.proofs.lemmas.Simd.{map-map}
+use Rattle.auditor.specs.Faults.{IsFault}
+use Rattle.auditor.specs.Transcripts.{judged_by, opened_by}
+use Rattle.auditor.specs.declared.terms.Terms.{Terms}
 use Rattle.sound_run.specs.Orders.{HasOrder}
+use Rattle.sound_run.specs.Sound.{Opened, Sound}
+use Rattle.scripts.specs.contracts.objects.kernel_object.KernelObjectSeqObject.TheImpl.{ghosts as kernel}
+use Rattle.scripts.specs.declared.objects.kernel_call.KParams.{KParams}
+use Rattle.scripts.specs.declared.objects.kernel_call.KCall.{KCall}
+use Rattle.scripts.specs.declared.objects.kernel_call.KReply.{KReply}
+use Rattle.scripts.specs.declared.objects.kernel_object.KernelObject.{KernelObject}
 use Rattle.scripts.specs.declared.record.form.Form.TheVariants.{Two}
-use Rattle.scripts.specs.RecordFaults.{text_in, text_of}
-use Rattle.scripts.specs.RecordRanges.{Record}
+use Rattle.scripts.specs.RecordFaults.{text_in, text_of, IsWhole}
+use Rattle.scripts.specs.RecordRanges.{Record, RecordFits}
+use Rattle.scripts.specs.Runs.{opened_of}
+use Rattle.scripts.specs.Settings.{Settings, ObjectSettings}
+use Rattle.mc2_command.specs.Answers.{ReadsRecord}
 use Rattle.mc2_command.proofs.law.simulations_have_no_cycle.Goals as goal
 
-pub returns : goal.returns
-returns c = λ held later settings scripts schedule r sim fit name answer there refused.
-    let form = refused.read.spelled.form in
-    let text : text_in form refused.of ≡ text_of r ++ [] = sym refused.read.spelled.text ∙ (refused.read.read (text_of r) there ∙ sym (append-nil (text_of r))) in
-    let same : r ≡ refused.of = (c.no_text_begins_another.ensures Two form r refused.of [] fit refused.read.spelled.fit text).1 in
+-- the record that is read is the one that was answered
+is_same : (c : goal.After-sound_has_no_fault) (later : Option (List ℕ) → Option (List ℕ)) (name : Option (List ℕ)) (r of : Record) → RecordFits r → later name ≡ Some (text_of r) → ReadsRecord later name of → r ≡ of
+is_same c later name r of fit there read =
+    let form = read.spelled.form in
+    let text : text_in form of ≡ text_of r ++ [] = sym read.spelled.text ∙ (read.read (text_of r) there ∙ sym (append-nil (text_of r))) in
+    (c.no_text_begins_another.ensures Two form r of [] fit read.spelled.fit text).1
+
+pub returns-clause-cycle : goal.returns-clause-cycle
+returns-clause-cycle c = λ held later settings scripts schedule r sim fit name answer there refused.
+    let same = is_same c later name r refused.of fit there refused.read in
     let order = subst (λ (z : Record). HasOrder z.run) same sim.is.ordered in
     refused.has.none order.places order.order
+
+-- what the objects of the settings are judged by
+abbrev terms_of : ObjectSettings → Terms KernelObject KParams KCall KReply
+terms_of o = record { params = o.params; limit = o.events }
+
+pub returns-clause-fault : goal.returns-clause-fault
+returns-clause-fault c = λ held later settings scripts schedule r sim fit name answer there refused.
+    let of = refused.of in
+    let same = is_same c later name r of fit there refused.read in
+    let first : Sound kernel (opened_of r.settings) r.run = subst (λ (s : Settings). Sound kernel (opened_of s) r.run) (sym sim.is.under) sim.is.sound in
+    let sound : Sound kernel (opened_of of.settings) of.run = subst (λ (z : Record). Sound kernel (opened_of z.settings) z.run) same first in
+    let terms = map terms_of of.settings.objects in
+    let opened : opened_by terms ≡ opened_of of.settings = map-map judged_by terms_of of.settings.objects in
+    c.sound_has_no_fault.ensures terms of.run (subst (λ (l : List (Opened KParams)). Sound kernel l of.run) (sym opened) sound) refused.fault
+    (subst (λ (l : List (Opened KParams)). IsFault kernel l of.run refused.fault) (sym opened) refused.first.there)
