@@ -67,7 +67,7 @@ enum mc2_cell_told {
     // All went well; the log is full, and nothing was done; there is no such call, or no such step.
     MC2_CELL_DONE = 7, MC2_CELL_FULL = 8, MC2_CELL_NOT_THERE = 9,
     // Of an opening: memory was refused; or a number is none of those that mc2_object names, or there aren't 1 to 64 CPUs, or
-    // there are more than 65,536 events.
+    // there are more than 65,536 events. Nothing was done then.
     MC2_CELL_NO_MEMORY = 10, MC2_CELL_BAD_OPENING = 11
 };
 
@@ -87,29 +87,43 @@ struct mc2_logged_step {
     struct mc2_step step;
 };
 
-// The functions of the library. The first makes what has nothing, and the second frees it; it refuses a caller that is in line
-// or has the object.
+// The functions of the library. Each tells MC2_CELL_REFUSED exactly where it refuses, as is said here.
+
+// Makes what has nothing, and writes its pointer: MC2_CELL_DONE. Where it tells MC2_CELL_NO_MEMORY it writes none, and there is
+// nothing to be freed. What it has made has to be freed once, whatever the other functions tell.
 uint32_t mc2_handle_new(void **own);
+
+// Frees it, with what it has. It refuses a caller that is in line or has the object, which stays as it was, and is freed once it
+// is idle. The CPU of an idle caller that was freed, and not taken back, has no caller any more: its cell can't be closed.
 uint32_t mc2_handle_free(struct mc2_handle handle);
+
+// Opens a cell in what has nothing, and refuses what has something. After MC2_CELL_NO_MEMORY and MC2_CELL_BAD_OPENING it has
+// nothing, as before, and can be tried again or freed.
 uint32_t mc2_handle_open(struct mc2_cell *cell, const struct mc2_cell_opening *opening);
+
+// Makes a caller of the greatest CPU of the cell that has none yet, in what has nothing. It refuses what is no open cell, a cell
+// each of whose CPUs has its caller, and a caller that has something.
 uint32_t mc2_handle_deal(struct mc2_cell *cell, struct mc2_caller *caller);
 
-// The caller's next step towards the object.
+// The caller's next step towards the object. It refuses a caller that has the object, and what is no caller.
 uint32_t mc2_caller_advance(struct mc2_caller *caller);
 
-// The caller's next step to give the object back.
+// The caller's next step to give the object back. It refuses a caller that hasn't the object, and what is no caller.
 uint32_t mc2_caller_leave(struct mc2_caller *caller);
 
-// Gets the object by at most one look, if nobody has it or is in line for it: MC2_CELL_FOUND, or MC2_CELL_BUSY.
+// Gets the object by at most one look, if nobody has it or is in line for it: MC2_CELL_FOUND, or MC2_CELL_BUSY. It refuses a caller
+// that isn't idle, and what is no caller.
 uint32_t mc2_caller_try(struct mc2_caller *caller);
 
-// Does the call as one event of the log, by a caller that has the object. The reply is written where that is done.
+// Does the call as one event of the log, by a caller that has the object. The reply is written where that is done. It refuses a
+// caller that hasn't the object, and what is no caller.
 uint32_t mc2_caller_apply(struct mc2_caller *caller, const struct mc2_call *call, struct mc2_reply *reply);
 
-// Takes an idle caller back, whose CPU has to be the least that wasn't taken back yet. The caller has nothing then.
+// Takes an idle caller back, whose CPU has to be the least that wasn't taken back yet. The caller has nothing then. It refuses
+// any other caller, and what is no open cell.
 uint32_t mc2_cell_take_back(struct mc2_cell *cell, struct mc2_caller *caller);
 
-// Ends the cell, once all callers were taken back. What is left is the log.
+// Ends the cell, once all callers were taken back; before that it refuses. What is left is the log.
 uint32_t mc2_cell_close(struct mc2_cell *cell);
 
 // The step at that place of an event of the log of a cell that was closed, both from 0: an event has a step for each of its 1
@@ -121,6 +135,8 @@ uint32_t mc2_cell_step(struct mc2_cell *cell, size_t event, size_t step, struct 
 #endif
 
 // Opens a cell around such an object, for so many CPUs. The object's name isn't looked at. With 0 events the log isn't kept.
+// The cell has to be freed once, after MC2_CELL_BAD_OPENING too, and after MC2_CELL_NO_MEMORY if `own` was written: set it to NULL
+// before, to see that.
 static inline uint32_t mc2_cell_open(struct mc2_cell *cell, const struct mc2_object *object, uint32_t cpus) {
     struct mc2_cell_opening opening = {object->lock, object->kind, object->events, cpus, object->size, object->channels, {0}};
     for (uint32_t owner = 0; owner < MC2_OWNERS; owner++)
@@ -130,7 +146,7 @@ static inline uint32_t mc2_cell_open(struct mc2_cell *cell, const struct mc2_obj
     return told == MC2_CELL_DONE ? mc2_handle_open(cell, &opening) : told;
 }
 
-// Makes a caller of the greatest CPU of the cell that has none yet.
+// Makes a caller of the greatest CPU of the cell that has none yet. It has to be freed as a cell has, after MC2_CELL_REFUSED too.
 static inline uint32_t mc2_caller_open(struct mc2_cell *cell, struct mc2_caller *caller) {
     caller->resting = &cell->resting;
     uint32_t told = mc2_handle_new(&caller->own);

@@ -1,0 +1,233 @@
+/* use: edges ticket|mcs
+
+   Opens cells for 1, 2, 9 and 64 CPUs, opens wrongly in each way, asks for each thing where it doesn't fit, frees a caller that has
+   the object, and has memory refused in turn. Prints how many answers it has looked at. The heap of the library is the one below,
+   which counts what is taken.
+
+   Status: 0; 1 if an answer is another than the header says, or if memory is lost; 2 for wrong words. */
+#include "mc2_cells.h"
+
+enum { MANY = 1000000 };
+
+/* ---- the heap: it refuses the block that is `left` further on */
+
+struct taken { bool is_there; void *at; };
+
+static long left = MANY, blocks, answers;
+
+struct taken rattle_alloc(size_t size, size_t align);
+void rattle_dealloc(void *at);
+
+struct taken rattle_alloc(size_t size, size_t align) {
+    struct taken taken = {false, &left};
+    if (left-- == 0 || align > 16)
+        return taken;
+    taken.at = malloc(size > 0 ? size : 1);
+    taken.is_there = taken.at != NULL;
+    blocks += taken.is_there;
+    return taken;
+}
+
+void rattle_dealloc(void *at) {
+    blocks--;
+    free(at);
+}
+
+/* ---- answers */
+
+static void must(uint32_t told, uint32_t wanted, const char *what) {
+    answers++;
+    if (told == wanted)
+        return;
+    fprintf(stderr, "edges: %s: told %u, and not %u\n", what, (unsigned)told, (unsigned)wanted);
+    exit(1);
+}
+
+static void must_be(bool is, const char *what) { must(is, true, what); }
+
+static uint32_t lock;
+
+static struct mc2_cell_opening opening_of(uint32_t events, uint32_t cpus) {
+    struct mc2_cell_opening opening = {lock, MC2_QUEUE, events, cpus, 8, 0, {0}};
+    return opening;
+}
+
+static struct mc2_cell new_cell(void) {
+    struct mc2_cell cell = {NULL};
+    must(mc2_handle_new(&cell.own), MC2_CELL_DONE, "a handle");
+    must_be(cell.own != NULL, "its pointer");
+    return cell;
+}
+
+static void open_all(struct mc2_cell *cell, struct mc2_caller *callers, uint32_t cpus) {
+    for (uint32_t at = cpus; at-- > 0;)
+        must(mc2_caller_open(cell, &callers[at]), MC2_CELL_DONE, "a caller");
+}
+
+static uint32_t call(struct mc2_caller *caller, uint32_t word, uint32_t first) {
+    struct mc2_call asked = mc2_ask(word, first, 0);
+    struct mc2_reply reply = {77, 0};
+    uint64_t looks;
+    uint32_t told = mc2_cell_call(caller, &asked, &reply, &looks);
+    must_be((told == MC2_CELL_DONE) == (reply.word != 77), "a reply where the call is done");
+    return told;
+}
+
+static void take_all_back(struct mc2_cell *cell, struct mc2_caller *callers, uint32_t cpus) {
+    for (uint32_t at = 0; at < cpus; at++) {
+        must(mc2_cell_close(cell), MC2_CELL_REFUSED, "closing too early");
+        if (at + 1 < cpus)
+            must(mc2_cell_take_back(cell, &callers[cpus - 1]), MC2_CELL_REFUSED, "taking back out of turn");
+        must(mc2_cell_take_back(cell, &callers[at]), MC2_CELL_DONE, "taking back");
+        must(mc2_cell_take_back(cell, &callers[at]), MC2_CELL_REFUSED, "taking nothing back");
+        must(mc2_caller_free(&callers[at]), MC2_CELL_DONE, "freeing a caller");
+    }
+}
+
+/* ---- a cell of so many CPUs, each of which calls */
+
+static void live(uint32_t events, uint32_t cpus) {
+    struct mc2_cell_opening opening = opening_of(events, cpus);
+    struct mc2_cell cell = new_cell();
+    struct mc2_caller callers[MC2_MOST_CPUS], more = {NULL};
+    must(mc2_handle_open(&cell, &opening), MC2_CELL_DONE, "opening");
+    must(mc2_handle_open(&cell, &opening), MC2_CELL_REFUSED, "opening what is open");
+    open_all(&cell, callers, cpus);
+    must(mc2_caller_open(&cell, &more), MC2_CELL_REFUSED, "a caller too many");
+    must(mc2_caller_free(&more), MC2_CELL_DONE, "freeing what has nothing");
+    must(mc2_handle_deal(&cell, &callers[0]), MC2_CELL_REFUSED, "a caller in place of another");
+    for (uint32_t at = 0; at < cpus; at++)
+        must(call(&callers[at], MC2_ENQ, at), MC2_CELL_DONE, "a call");
+    take_all_back(&cell, callers, cpus);
+    must(mc2_cell_close(&cell), MC2_CELL_DONE, "closing");
+    must(mc2_cell_close(&cell), MC2_CELL_REFUSED, "closing twice");
+    struct mc2_logged_step step = {0};
+    for (uint32_t at = 0; events > 0 && at < cpus; at++) {
+        must(mc2_cell_step(&cell, at, 0, &step), MC2_CELL_DONE, "a step");
+        must_be(step.cpu == at && step.step.call.first == at, "the step of that CPU");
+    }
+    must(mc2_cell_step(&cell, events > 0 ? cpus : 0, 0, &step), MC2_CELL_NOT_THERE, "no step");
+    must(mc2_cell_free(&cell), MC2_CELL_DONE, "freeing the cell");
+    must_be(blocks == 0, "all memory is given back");
+}
+
+/* ---- openings that don't fit */
+
+static void open_wrongly(struct mc2_cell *cell, struct mc2_cell_opening opening, const char *what) {
+    must(mc2_handle_open(cell, &opening), MC2_CELL_BAD_OPENING, what);
+    must_be(blocks == 1, "no memory is taken");
+}
+
+static void all_wrong(void) {
+    struct mc2_cell cell = new_cell();
+    struct mc2_cell_opening good = opening_of(100, 2), opening = good;
+    static const uint32_t locks[] = {2, UINT32_MAX}, kinds[] = {4, UINT32_MAX}, cpus[] = {0, 65, 256, 257, UINT32_MAX};
+    static const uint32_t events[] = {65537, UINT32_MAX};
+    static const uint32_t sizes[4][3] = {
+        {0, 1025, UINT32_MAX}, {0, 4097, UINT32_MAX}, {0, 4097, UINT32_MAX}, {0, 1025, UINT32_MAX}};
+    for (int at = 0; at < 2; at++, opening = good)
+        opening.lock = locks[at], open_wrongly(&cell, opening, "a lock that is none");
+    for (int at = 0; at < 2; at++, opening = good)
+        opening.kind = kinds[at], open_wrongly(&cell, opening, "a kind that is none");
+    for (int at = 0; at < 5; at++, opening = good)
+        opening.cpus = cpus[at], open_wrongly(&cell, opening, "CPUs that don't fit");
+    for (int at = 0; at < 2; at++, opening = good)
+        opening.events = events[at], open_wrongly(&cell, opening, "too many events");
+    for (uint32_t kind = 0; kind < 4; kind++)
+        for (int at = 0; at < 3; at++, opening = good) {
+            opening.kind = kind, opening.channels = 1, opening.size = sizes[kind][at];
+            open_wrongly(&cell, opening, "a size that doesn't fit");
+            opening.events = 0;
+            open_wrongly(&cell, opening, "a size that doesn't fit, and no log");
+        }
+    opening.kind = MC2_SCHED;
+    open_wrongly(&cell, opening, "no channels");
+    opening.channels = 65;
+    open_wrongly(&cell, opening, "too many channels");
+    opening = good;
+    opening.kind = MC2_POOL;
+    opening.quotas[MC2_OWNERS - 1] = 4097;
+    open_wrongly(&cell, opening, "a quota that doesn't fit");
+    must(mc2_handle_open(&cell, &good), MC2_CELL_DONE, "opening after all that");
+    must(mc2_cell_free(&cell), MC2_CELL_DONE, "freeing the cell");
+    must_be(blocks == 0, "all memory is given back");
+}
+
+/* ---- what doesn't fit a caller */
+
+static void busy_caller(void) {
+    struct mc2_cell_opening opening = opening_of(100, 2);
+    struct mc2_cell cell = new_cell();
+    struct mc2_caller callers[2];
+    struct mc2_call asked = mc2_ask(MC2_LEN, 0, 0), none = mc2_ask(15, 0, 0), wide = mc2_ask(MC2_PUT, 256, 0);
+    struct mc2_reply reply = {77, 77};
+    uint64_t looks;
+    must(mc2_handle_open(&cell, &opening), MC2_CELL_DONE, "opening");
+    open_all(&cell, callers, 2);
+    must(mc2_caller_apply(&callers[0], &asked, &reply), MC2_CELL_REFUSED, "a call without the object");
+    must(mc2_caller_leave(&callers[0]), MC2_CELL_REFUSED, "leaving without the object");
+    must_be(mc2_acquire(&callers[0], &looks) != MC2_CELL_REFUSED, "acquiring");
+    must(mc2_caller_free(&callers[0]), MC2_CELL_REFUSED, "freeing a caller that has the object");
+    must(mc2_caller_advance(&callers[0]), MC2_CELL_REFUSED, "a step towards what it has");
+    must(mc2_caller_try(&callers[0]), MC2_CELL_REFUSED, "a try of what it has");
+    must(mc2_cell_take_back(&cell, &callers[0]), MC2_CELL_REFUSED, "taking back who has the object");
+    must(mc2_caller_try(&callers[1]), MC2_CELL_BUSY, "a try of what another has");
+    must(mc2_caller_apply(&callers[0], &none, &reply), MC2_CELL_NOT_THERE, "a call that is none");
+    must(mc2_caller_apply(&callers[0], &wide, &reply), MC2_CELL_NOT_THERE, "a byte that is none");
+    must_be(reply.word == 77 && reply.number == 77, "no reply");
+    must(mc2_caller_apply(&callers[0], &asked, &reply), MC2_CELL_DONE, "a call of who wasn't freed");
+    must(mc2_caller_advance(&callers[1]), MC2_CELL_STEPPED, "a step of the other");
+    must(mc2_caller_free(&callers[1]), MC2_CELL_REFUSED, "freeing a caller in line");
+    must(mc2_release(&callers[0]), MC2_CELL_LEFT, "releasing");
+    must_be(mc2_acquire(&callers[1], &looks) != MC2_CELL_REFUSED, "the other's turn");
+    must(mc2_release(&callers[1]), MC2_CELL_LEFT, "the other leaves");
+    must(mc2_cell_take_back(&cell, &callers[0]), MC2_CELL_DONE, "taking back");
+    must(mc2_caller_free(&callers[1]), MC2_CELL_DONE, "freeing an idle caller");
+    must(mc2_cell_close(&cell), MC2_CELL_REFUSED, "closing without a caller that was freed");
+    must(mc2_cell_free(&cell), MC2_CELL_DONE, "freeing the cell");
+    must(mc2_caller_free(&callers[0]), MC2_CELL_DONE, "freeing a caller that is back");
+    must_be(blocks == 0, "all memory is given back");
+}
+
+/* ---- memory is refused in turn */
+
+static long refused_openings(uint32_t events, uint32_t cpus) {
+    struct mc2_cell_opening opening = opening_of(events, cpus);
+    uint32_t told = MC2_CELL_NO_MEMORY;
+    struct mc2_cell cell = {NULL};
+    long at = 0;
+    left = 0;
+    must(mc2_handle_new(&cell.own), MC2_CELL_NO_MEMORY, "a handle without memory");
+    must_be(cell.own == NULL && blocks == 0, "no pointer");
+    left = MANY;
+    cell = new_cell();
+    for (; told == MC2_CELL_NO_MEMORY; at++) {
+        left = at;
+        told = mc2_handle_open(&cell, &opening);
+        left = MANY;
+        must_be(told != MC2_CELL_NO_MEMORY || blocks == 1, "no memory is lost");
+    }
+    must(told, MC2_CELL_DONE, "opening with memory");
+    must(mc2_cell_free(&cell), MC2_CELL_DONE, "freeing the cell");
+    must_be(blocks == 0, "all memory is given back");
+    return at - 1;
+}
+
+int main(int count, char **words) {
+    static const uint32_t cpus[] = {1, 2, 9, 64};
+    if (count != 2 || (strcmp(words[1], "ticket") != 0 && strcmp(words[1], "mcs") != 0)) {
+        fputs("use: edges ticket|mcs\n", stderr);
+        return 2;
+    }
+    lock = strcmp(words[1], "mcs") == 0 ? MC2_MCS : MC2_TICKET;
+    long refused = 0;
+    for (int at = 0; at < 4; at++)
+        for (uint32_t events = 0; events <= 100; events += 100) {
+            live(events, cpus[at]);
+            refused += refused_openings(events, cpus[at]);
+        }
+    all_wrong();
+    busy_caller();
+    printf("%ld answers, %ld refused blocks\n", answers, refused);
+    return 0;
+}
