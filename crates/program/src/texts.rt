@@ -54,8 +54,8 @@ pub fn read_schedule<I: Inputs>(
     ensures found { IfOk result (SpellsScheduleOf (I.held inputs.old) name.now settings.now.cpus) }
     ensures refused { IfErr result (RefusesSchedule (I.held inputs.old) name.now settings.now.cpus) }
 {
-    let text = read_input(alloc, inputs, Some(name))?;
-    Ok(Schedule::read(alloc, text.as_slice(), settings)?)
+    let turns = read_input(alloc, inputs, Some(name))?;
+    Ok(Schedule::read(alloc, turns.as_slice(), settings)?)
 }
 
 /// The record that the input of that name spells. Of its text no more is held than a line and a piece.
