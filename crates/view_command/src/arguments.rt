@@ -163,8 +163,7 @@ fn told<'a>(alloc: Global, words: &[String], error: Error) -> Result<Asked<'a>, 
 }
 
 /// Rounds, or the seed, spelled as all numbers are. Both are bad words.
-fn turns(found: &ArgMatches<'_>) -> Result<Turns, BadName>
-{
+fn turns(found: &ArgMatches<'_>) -> Result<Turns, BadName> {
     match (found.get_str("seed"), found.get_flag("rounds")) {
         (None, true) => Ok(Turns::Rounds),
         (None, false) => Ok(Turns::Drawn { seed: 0 }),
