@@ -1,7 +1,6 @@
 //! What a command reads of its inputs: settings, scripts, a schedule and a record.
 
-ghost use Rattle.std.specs.Prelude.{◌<◌, ℕ, List, Option, Some, ◌≡◌, length, IfOk, IfErr};
-ghost use Rattle.std.specs.List.{AllByRecursion};
+ghost use Rattle.std.specs.Prelude.{◌≡◌, ℕ, List, Some, length, IfErr, IfOk};
 ghost use Rattle.program.specs.Inputs.{bytes_of};
 ghost use Rattle.program.specs.Texts.{RefusesRecord, RefusesSchedule, RefusesScripts, RefusesSettings, SpellsRecordOf, SpellsScheduleOf, SpellsScriptsOf, SpellsSettingsOf};
 ghost use Rattle.scripts.specs.ScriptText.{ScriptsFit};

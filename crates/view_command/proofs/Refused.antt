@@ -1,5 +1,5 @@
 -- Why words are refused, by their causes.
-use Rattle.std.proofs.Common.{◌≡◌, ◌⊎◌, inl, inr, ℕ, List, Option, String, Global, Result, Ok, Err, IfOk, IfErr, refl, sym, ap, subst, arith}
+use Rattle.std.proofs.Common.{◌≡◌, ◌⊎◌, inl, inr, ℕ, List, Option, String, Global, Result, Ok, Err, IfErr, refl, sym, ◌∙◌, ap, subst, arith}
 use Rattle.std.specs.Borrow.{Bor}
 use Rattle.std.specs.Result.{IsErrAnd}
 use Rattle.auditor.specs.declared.fault.Fault.{Fault as RecordFault}
@@ -23,14 +23,6 @@ use Rattle.view_command.specs.Sights.{HasFault, IsCycleOf, RefusesOrder}
 pub refused : {X : Type 0} (P : Fault → Type 0) (r : Result X Fault) (f : Fault) → IsErrAnd r (λ h. h ≡ f) → P f → IfErr r P
 refused P (Ok x) f is h = absurd is
 refused P (Err g) f is h = subst P (sym is) h
-
-pub ok_then : {X E : Type 0} (P Q : X → Type 0) (r : Result X E) → ((x : X) → P x → Q x) → IfOk r P → IfOk r Q
-ok_then P Q (Ok x) then h = then x h
-ok_then P Q (Err e) then h = tt
-
-pub err_then : {X E : Type 0} (P Q : E → Type 0) (r : Result X E) → ((e : E) → P e → Q e) → IfErr r P → IfErr r Q
-err_then P Q (Ok x) then h = tt
-err_then P Q (Err e) then h = then e h
 
 -- something was found of a record
 IsFound : Fault → Type 0
@@ -107,8 +99,14 @@ module _ (held : Option (List ℕ) → Option (List ℕ)) (words : List (String 
   by_words (inr h) = by_command h.0 h.1 h.2
 
 -- a refusal with status 1 is of a trace, and tells what was found
-pub no_order : (held : Option (List ℕ) → Option (List ℕ)) (words : List (String Global)) (f : Fault) → Refuses held words f → status_of f ≡ 1 → FindsNoOrder held words
+no_order : (held : Option (List ℕ) → Option (List ℕ)) (words : List (String Global)) (f : Fault) → Refuses held words f → status_of f ≡ 1 → FindsNoOrder held words
 no_order held words f h one = by_words held words f (found_with f one) h
+
+-- where nothing failed to be written, status 1 tells what was found
+pub only_found : {A B : Type 0} (held : Option (List ℕ) → Option (List ℕ)) (words : List (String Global)) (f : Fault) (status : ℕ)
+    → status ≡ status_of f → (Refuses held words f × A) ⊎ ((f ≡ fault.Common refusal.WriteFailed) × B) → status ≡ 1 → A × FindsNoOrder held words
+only_found held words f status is (inl h) one = (h.1, no_order held words f h.0 (sym is ∙ one))
+only_found held words f status is (inr h) one = absurd (let e : status_of f ≡ 3 = ap status_of h.0 in omega (arith, is, one, e))
 
 -- a schedule that wasn't made
 pub not_made : (held : Option (List ℕ) → Option (List ℕ)) (settings scripts : List ℕ) (cause : DraftFault) → (cause ≡ draft.TooLong → RefusesLong held settings scripts) → RefusesMade held settings scripts (of_draft cause)

@@ -45,8 +45,8 @@ fn answer_to<I: Inputs>(
     arguments: Arguments<'_>,
     inputs: &mut I,
 ) -> Result<String, Fault>
-    ensures answer { IfOk result (λ text. AnswersTo (I.held inputs.old) arguments (string_bytes text)) }
-    ensures refused { IfErr result (RefusesTo (I.held inputs.old) arguments) }
+    ensures answer { IfOk result (λ text. AnswersTo (I.held inputs.old) arguments.entry (string_bytes text)) }
+    ensures refused { IfErr result (RefusesTo (I.held inputs.old) arguments.entry) }
 {
     match arguments {
         Arguments::Steps {

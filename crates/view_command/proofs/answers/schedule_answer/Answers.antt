@@ -1,7 +1,6 @@
-use Rattle.std.proofs.Common.{Err, inl, inr, refl, ap, ◌∙◌, map, decimal}
+use Rattle.std.proofs.Common.{ap, ◌∙◌, map, decimal}
 use Rattle.scripts.specs.Words.{text_of_lines}
 use Rattle.view_command.proofs.DrawnWords.{each_below, reads_back}
-use Rattle.view_command.proofs.Refused.{not_made, refused}
 use Rattle.view_command.proofs.answers.schedule_answer.Goals as goal
 
 -- the words that are printed are the steps of the schedule
@@ -24,8 +23,3 @@ returns-in-Ok-clause-answer g c =
       come = c.in_ok-steps.ensures.turns;
       ends = ends;
     }
-
-pub returns-in_err-settings-clause-refused : goal.returns-in_err-settings-clause-refused
-returns-in_err-settings-clause-refused g c =
-    let out = c.from_residual-in_err-settings in
-    refused _ out.result _ out.ensures.1 (inl (inl (c.in_err-settings.field-0.0, refl, c.in_err-settings.ensures.refused)))
