@@ -1,12 +1,17 @@
-//! What programs share: the words behind the path, the names of files among them, and the inputs of those names.
+//! What programs share: the words behind the path, the names of files among them, the inputs of those names with what they
+//! spell, and the refusals.
 #![tactic(auto)]
 
 mod file_names;
 mod inputs;
+mod refusal;
 mod system;
+mod texts;
 mod words;
 
 pub use file_names::{BadName, file, wanted_file};
 pub use inputs::{Inputs, read_input};
+pub use refusal::Refusal;
 pub use system::System;
+pub use texts::{read_record, read_schedule, read_scripts, read_settings};
 pub use words::{WordsFault, words_given};

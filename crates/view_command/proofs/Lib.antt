@@ -1,0 +1,5 @@
+pub mod Drafts
+pub mod DrawnWords
+pub mod Refused
+pub mod StepProofs
+pub mod Watchings

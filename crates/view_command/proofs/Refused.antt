@@ -1,0 +1,114 @@
+-- Why words are refused, by their causes.
+use Rattle.std.proofs.Common.{◌≡◌, ◌⊎◌, inl, inr, ℕ, List, Option, String, Global, Result, Ok, Err, IfErr, refl, sym, ◌∙◌, ap, subst, arith}
+use Rattle.std.specs.Borrow.{Bor}
+use Rattle.std.specs.Result.{IsErrAnd}
+use Rattle.auditor.specs.declared.fault.Fault.{Fault as RecordFault}
+use Rattle.program.specs.Inputs.{bytes_of}
+use Rattle.program.specs.declared.refusal.Refusal.{Refusal}
+use Rattle.program.specs.declared.refusal.Refusal.TheVariants as refusal
+use Rattle.scripts.specs.RecordRanges.{Record}
+use Rattle.sound_run.specs.declared.place.Place.{Place}
+use Rattle.view_command.specs.declared.arguments.Arguments.{Arguments}
+use Rattle.view_command.specs.declared.arguments.Arguments.TheVariants as forms
+use Rattle.view_command.specs.declared.draft.DraftFault.{DraftFault}
+use Rattle.view_command.specs.declared.draft.DraftFault.TheVariants as draft
+use Rattle.view_command.specs.declared.fault.Fault.{Fault}
+use Rattle.view_command.specs.declared.fault.Fault.TheVariants as fault
+use Rattle.view_command.specs.Answers.{FindsNoOrder, IsCommon, IsMemory, Refuses, RefusesBoth, RefusesLong, RefusesMade, RefusesSteps, RefusesTimeline, RefusesTo, RefusesTrace}
+use Rattle.view_command.specs.Asked.{AskedBy}
+use Rattle.view_command.specs.Faults.{of_draft, status_of}
+use Rattle.view_command.specs.Sights.{HasFault, IsCycleOf, RefusesOrder}
+
+-- what holds of the cause's fault holds of the answer
+pub refused : {X : Type 0} (P : Fault → Type 0) (r : Result X Fault) (f : Fault) → IsErrAnd r (λ h. h ≡ f) → P f → IfErr r P
+refused P (Ok x) f is h = absurd is
+refused P (Err g) f is h = subst P (sym is) h
+
+-- something was found of a record
+IsFound : Fault → Type 0
+IsFound (fault.Common cause) = ⊥
+IsFound (fault.Unsound text) = Unit {0}
+IsFound (fault.Cycle text) = Unit {0}
+IsFound fault.TooLong = ⊥
+
+-- which status 1 says
+found_with : (f : Fault) → status_of f ≡ 1 → IsFound f
+found_with (fault.Common refusal.OutOfMemory) e = absurd (omega arith)
+found_with (fault.Common (refusal.BadSettings bad)) e = absurd (omega arith)
+found_with (fault.Common (refusal.BadScripts n)) e = absurd (omega arith)
+found_with (fault.Common (refusal.BadSchedule n)) e = absurd (omega arith)
+found_with (fault.Common (refusal.BadRecord n)) e = absurd (omega arith)
+found_with (fault.Common refusal.ReadFailed) e = absurd (omega arith)
+found_with (fault.Common refusal.WriteFailed) e = absurd (omega arith)
+found_with (fault.Common refusal.BadWords) e = absurd (omega arith)
+found_with (fault.Unsound text) e = tt
+found_with (fault.Cycle text) e = tt
+found_with fault.TooLong e = absurd (omega arith)
+
+module _ (f : Fault) (found : IsFound f) where
+  no_common : (P : Refusal → Type 0) → IsCommon P f → ⊥
+  no_common P h = subst IsFound h.1 found
+
+  no_memory : IsMemory f → ⊥
+  no_memory e = subst IsFound e found
+
+  no_words : f ≡ fault.Common refusal.BadWords → ⊥
+  no_words e = subst IsFound e found
+
+  no_long : f ≡ fault.TooLong → ⊥
+  no_long e = subst IsFound e found
+
+found_of : (r : Record) (f : Fault) → IsFound f → RefusesOrder r f → ((cause : RecordFault) × HasFault r cause) ⊎ ((cycle : List Place) × IsCycleOf r cycle)
+found_of r (fault.Common cause) found h = absurd found
+found_of r (fault.Unsound text) found h = inl (h.0, h.1)
+found_of r (fault.Cycle text) found h = inr (h.0, h.1)
+found_of r fault.TooLong found h = absurd found
+
+module _ (held : Option (List ℕ) → Option (List ℕ)) (words : List (String Global)) (f : Fault) (found : IsFound f) where
+  not_both : (settings scripts : List ℕ) → RefusesBoth held settings scripts f → ⊥
+  not_both settings scripts (inl h) = no_common f found _ h
+  not_both settings scripts (inr h) = no_common f found _ h.2
+
+  not_steps : (settings scripts schedule : List ℕ) → RefusesSteps held settings scripts schedule f → ⊥
+  not_steps settings scripts schedule (inl h) = not_both settings scripts h
+  not_steps settings scripts schedule (inr (inl h)) = no_common f found _ h.3
+  not_steps settings scripts schedule (inr (inr h)) = no_memory f found h
+
+  in_made : (settings scripts : List ℕ) → RefusesMade held settings scripts f → ⊥
+  in_made settings scripts (inl h) = not_both settings scripts h
+  in_made settings scripts (inr (inl h)) = no_long f found h.0
+  in_made settings scripts (inr (inr h)) = no_memory f found h
+
+  not_timeline : (name : Option (List ℕ)) → RefusesTimeline held name f → ⊥
+  not_timeline name (inl h) = no_common f found _ h
+  not_timeline name (inr h) = no_memory f found h
+
+  in_trace : (name : Option (Bor (List ℕ))) → AskedBy words (forms.Trace name) → RefusesTrace held (bytes_of name) f → FindsNoOrder held words
+  in_trace name asked (inl h) = absurd (no_common f found _ h)
+  in_trace name asked (inr h) = (name, asked, h.0, h.1, found_of h.0 f found h.2)
+
+  by_command : (a : Arguments) → AskedBy words a → RefusesTo held a f → FindsNoOrder held words
+  by_command (forms.Steps form settings scripts schedule) asked h = absurd (not_steps settings.now scripts.now schedule.now h)
+  by_command (forms.Timeline name) asked h = absurd (not_timeline (bytes_of name) h)
+  by_command (forms.Trace name) asked h = in_trace name asked h
+  by_command (forms.Schedule settings scripts turns) asked h = absurd (in_made settings.now scripts.now h)
+
+  by_words : Refuses held words f → FindsNoOrder held words
+  by_words (inl (inl h)) = absurd (no_memory f found h)
+  by_words (inl (inr h)) = absurd (no_words f found h)
+  by_words (inr h) = by_command h.0 h.1 h.2
+
+-- a refusal with status 1 is of a trace, and tells what was found
+no_order : (held : Option (List ℕ) → Option (List ℕ)) (words : List (String Global)) (f : Fault) → Refuses held words f → status_of f ≡ 1 → FindsNoOrder held words
+no_order held words f h one = by_words held words f (found_with f one) h
+
+-- where nothing failed to be written, status 1 tells what was found
+pub only_found : {A B : Type 0} (held : Option (List ℕ) → Option (List ℕ)) (words : List (String Global)) (f : Fault) (status : ℕ)
+    → status ≡ status_of f → (Refuses held words f × A) ⊎ ((f ≡ fault.Common refusal.WriteFailed) × B) → status ≡ 1 → A × FindsNoOrder held words
+only_found held words f status is (inl h) one = (h.1, no_order held words f h.0 (sym is ∙ one))
+only_found held words f status is (inr h) one = absurd (let e : status_of f ≡ 3 = ap status_of h.0 in omega (arith, is, one, e))
+
+-- a schedule that wasn't made
+pub not_made : (held : Option (List ℕ) → Option (List ℕ)) (settings scripts : List ℕ) (cause : DraftFault) → (cause ≡ draft.TooLong → RefusesLong held settings scripts) → RefusesMade held settings scripts (of_draft cause)
+not_made held settings scripts draft.OutOfMemory long = inr (inr refl)
+not_made held settings scripts draft.TooLong long = inr (inl (refl, long refl))

@@ -1,0 +1,145 @@
+-- What the program answers by the words, and what it refuses.
+use Rattle.std.specs.Prelude.{◌≡◌, ◌⊎◌, ℕ, List, Option, Some, String, codes, string_bytes}
+use Rattle.std.specs.Borrow.{Bor}
+use Rattle.std.specs.Global.{Global}
+use Rattle.std.specs.Io.KnownBytes.{Appends}
+use Rattle.auditor.specs.declared.fault.Fault.{Fault as RecordFault}
+use Rattle.cpu_worker.specs.Simulation.{new_world}
+use Rattle.program.specs.Inputs.{bytes_of, Reads}
+use Rattle.program.specs.Texts.{RefusesRecord, RefusesSchedule, RefusesScripts, RefusesSettings, SpellsRecordOf, SpellsSettingsOf}
+use Rattle.program.specs.declared.refusal.Refusal.{Refusal}
+use Rattle.program.specs.declared.refusal.Refusal.TheVariants as refusal
+use Rattle.scripts.specs.KernelTypes.{KernelTodo}
+use Rattle.scripts.specs.Output.{AppendsBeginning}
+use Rattle.scripts.specs.RecordRanges.{Record}
+use Rattle.scripts.specs.ScheduleText.{IsSchedule}
+use Rattle.scripts.specs.ScriptText.{AreScripts}
+use Rattle.scripts.specs.Settings.{Settings}
+use Rattle.sound_run.specs.declared.place.Place.{Place}
+use Rattle.view_command.specs.declared.arguments.Arguments.{Arguments}
+use Rattle.view_command.specs.declared.arguments.Arguments.TheVariants as forms
+use Rattle.view_command.specs.declared.fault.Fault.{Fault}
+use Rattle.view_command.specs.declared.fault.Fault.TheVariants as fault
+use Rattle.view_command.specs.declared.sight.Sight.{Sight}
+use Rattle.view_command.specs.declared.step_names.LineForm.{LineForm}
+use Rattle.view_command.specs.declared.turns.Turns.{Turns}
+use Rattle.view_command.specs.Asked.{AskedBy, AsksHelp}
+use Rattle.view_command.specs.Drafts.{ComeSo, EndsAll, MayBeTooLong}
+use Rattle.view_command.specs.Faults.{status_of}
+use Rattle.view_command.specs.Sights.{EndsIn, HasFault, IsCycleOf, IsSightOf, IsTraceOf, RefusesOrder}
+use Rattle.view_command.specs.Steps.{steps_text}
+
+-- the refusal is one that programs share, for such a cause
+abbrev pub IsCommon : (Refusal → Type 0) → Fault → Type 0
+IsCommon Is f = (cause : Refusal) × (f ≡ fault.Common cause) × Is cause
+
+-- memory ran out
+abbrev pub IsMemory : Fault → Type 0
+IsMemory f = f ≡ fault.Common refusal.OutOfMemory
+
+module _ (held : Option (List ℕ) → Option (List ℕ)) where
+  -- the scripts under that name, on the objects of the settings under the other
+  pub record ReadsBoth (settings scripts : List ℕ) (given : Settings) (asked : List (List KernelTodo)) : Type 0 where
+    pub set : SpellsSettingsOf held settings given
+    pub text : List ℕ
+    pub read : Reads held (Some scripts) text
+    pub spelled : AreScripts given text asked
+
+  -- why one of both is refused: the scripts only under good settings
+  abbrev pub RefusesBoth : List ℕ → List ℕ → Fault → Type 0
+  RefusesBoth settings scripts f = IsCommon (RefusesSettings held settings) f ⊎ ((given : Settings) × SpellsSettingsOf held settings given × IsCommon (RefusesScripts held (Some scripts) given) f)
+
+  -- what `steps` answers: the lines of the schedule's steps
+  pub record AnswersSteps (form : LineForm) (settings scripts schedule answer : List ℕ) : Type 0 where
+    pub given : Settings
+    pub asked : List (List KernelTodo)
+    pub both : ReadsBoth settings scripts given asked
+    pub turns : List ℕ
+    pub scheduled : Reads held (Some schedule) turns
+    pub steps : List ℕ
+    pub spelled : IsSchedule given.cpus turns steps
+    pub is : answer ≡ steps_text form given asked steps
+
+  -- why it refuses: the schedule only where both others are good
+  abbrev pub RefusesSteps : List ℕ → List ℕ → List ℕ → Fault → Type 0
+  RefusesSteps settings scripts schedule f = RefusesBoth settings scripts f ⊎ (((given : Settings) × (asked : List (List KernelTodo)) × ReadsBoth settings scripts given asked × IsCommon (RefusesSchedule held schedule given.cpus) f) ⊎ IsMemory f)
+
+  -- what `schedule` answers: a schedule that the reader takes, whose steps come so, and that ends the scripts
+  pub record AnswersSchedule (turns : Turns) (settings scripts answer : List ℕ) : Type 0 where
+    pub given : Settings
+    pub asked : List (List KernelTodo)
+    pub both : ReadsBoth settings scripts given asked
+    pub steps : List ℕ
+    pub is : IsSchedule given.cpus answer steps
+    pub come : ComeSo turns (new_world given asked) steps
+    pub ends : EndsAll (new_world given asked) steps
+
+  -- the scripts have so many entries that going round may take more words than a schedule can have
+  pub record RefusesLong (settings scripts : List ℕ) : Type 0 where
+    pub given : Settings
+    pub asked : List (List KernelTodo)
+    pub both : ReadsBoth settings scripts given asked
+    pub long : MayBeTooLong 0 (new_world given asked)
+
+  -- why `schedule` refuses
+  abbrev pub RefusesMade : List ℕ → List ℕ → Fault → Type 0
+  RefusesMade settings scripts f = RefusesBoth settings scripts f ⊎ (((f ≡ fault.TooLong) × RefusesLong settings scripts) ⊎ IsMemory f)
+
+  -- what `timeline` answers: a picture, drawn of what the record under that name comes to
+  pub record AnswersTimeline (name : Option (List ℕ)) (sight : Sight) (answer : List ℕ) : Type 0 where
+    pub of : Record
+    pub read : SpellsRecordOf held name of
+    pub is : IsSightOf of sight
+    pub ends : EndsIn (codes "</svg>\n") answer
+
+  -- why it refuses: nothing that is found of a record
+  abbrev pub RefusesTimeline : Option (List ℕ) → Fault → Type 0
+  RefusesTimeline name f = IsCommon (RefusesRecord held name) f ⊎ IsMemory f
+
+  -- what `trace` answers: events, of the record under that name, whose entries have an order
+  pub record AnswersTrace (name : Option (List ℕ)) (answer : List ℕ) : Type 0 where
+    pub of : Record
+    pub read : SpellsRecordOf held name of
+    pub is : IsTraceOf of answer
+
+  -- why it refuses: for its text, or for its first fault or a cycle of its entries
+  abbrev pub RefusesTrace : Option (List ℕ) → Fault → Type 0
+  RefusesTrace name f = IsCommon (RefusesRecord held name) f ⊎ ((of : Record) × SpellsRecordOf held name of × RefusesOrder of f)
+
+  -- the text answers those arguments
+  abbrev pub AnswersTo : Arguments → List ℕ → Type 0
+  AnswersTo (forms.Steps form settings scripts schedule) text = AnswersSteps form settings.now scripts.now schedule.now text
+  AnswersTo (forms.Timeline name) text = (sight : Sight) × AnswersTimeline (bytes_of name) sight text
+  AnswersTo (forms.Trace name) text = AnswersTrace (bytes_of name) text
+  AnswersTo (forms.Schedule settings scripts turns) text = AnswersSchedule turns settings.now scripts.now text
+
+  -- those arguments are refused so
+  abbrev pub RefusesTo : Arguments → Fault → Type 0
+  RefusesTo (forms.Steps form settings scripts schedule) f = RefusesSteps settings.now scripts.now schedule.now f
+  RefusesTo (forms.Timeline name) f = RefusesTimeline (bytes_of name) f
+  RefusesTo (forms.Trace name) f = RefusesTrace (bytes_of name) f
+  RefusesTo (forms.Schedule settings scripts turns) f = RefusesMade settings.now scripts.now f
+
+  -- the text answers the words, by the command that they ask for; or they ask for help
+  abbrev pub Answers : List (String Global) → List ℕ → Type 0
+  Answers words text = ((arguments : Arguments) × AskedBy words arguments × AnswersTo arguments text) ⊎ AsksHelp words
+
+  -- the words are refused so: as no form, or by the command that they ask for
+  abbrev pub Refuses : List (String Global) → Fault → Type 0
+  Refuses words f = (IsMemory f ⊎ (f ≡ fault.Common refusal.BadWords)) ⊎ ((arguments : Arguments) × AskedBy words arguments × RefusesTo arguments f)
+
+  -- such a refusal has that status
+  abbrev pub RefusesWith : List (String Global) → ℕ → Type 0
+  RefusesWith words status = (f : Fault) × (status_of f ≡ status) × Refuses words f
+
+  -- the words ask for a trace, and the record has a fault or a cycle
+  abbrev pub FindsNoOrder : List (String Global) → Type 0
+  FindsNoOrder words = (name : Option (Bor (List ℕ))) × AskedBy words (forms.Trace name) × (of : Record) × SpellsRecordOf held (bytes_of name) of × (((cause : RecordFault) × HasFault of cause) ⊎ ((cycle : List Place) × IsCycleOf of cycle))
+
+-- known contents grew by such a text
+abbrev pub Prints : (List ℕ → Type 0) → Option (List ℕ) → Option (List ℕ) → Type 0
+Prints Is old new = (text : List ℕ) × Is text × Appends old new text
+
+-- known contents grew by a beginning of such a text
+abbrev pub PrintsSome : (List ℕ → Type 0) → Option (List ℕ) → Option (List ℕ) → Type 0
+PrintsSome Is old new = (text : List ℕ) × Is text × AppendsBeginning old new text

@@ -1,0 +1,31 @@
+-- Which refusal of the program each cause becomes, and the status that it ends with.
+use Rattle.std.specs.Prelude.{ℕ}
+use Rattle.event_log.specs.declared.object.OutOfMemory.{OutOfMemory}
+use Rattle.program.specs.declared.refusal.Refusal.{Refusal}
+use Rattle.program.specs.declared.refusal.Refusal.TheVariants as refusal
+use Rattle.program.specs.declared.words.WordsFault.{WordsFault}
+use Rattle.program.specs.Refusals as common
+use Rattle.view_command.specs.declared.draft.DraftFault.{DraftFault}
+use Rattle.view_command.specs.declared.draft.DraftFault.TheVariants as draft
+use Rattle.view_command.specs.declared.fault.Fault.{Fault}
+use Rattle.view_command.specs.declared.fault.Fault.TheVariants as fault
+
+abbrev pub of_refusal : Refusal → Fault
+of_refusal cause = fault.Common cause
+
+abbrev pub of_memory : OutOfMemory → Fault
+of_memory e = fault.Common refusal.OutOfMemory
+
+abbrev pub of_words : WordsFault → Fault
+of_words cause = fault.Common (common.of_words cause)
+
+abbrev pub of_draft : DraftFault → Fault
+of_draft draft.OutOfMemory = fault.Common refusal.OutOfMemory
+of_draft draft.TooLong = fault.TooLong
+
+-- 1 for what was found of a record, 2 for what the caller wrote, 3 for what the machine refused
+abbrev pub status_of : Fault → ℕ
+status_of (fault.Common cause) = common.status_of cause
+status_of (fault.Unsound text) = 1
+status_of (fault.Cycle text) = 1
+status_of fault.TooLong = 2

@@ -1,0 +1,9 @@
+pub mod Answers
+pub mod Asked
+pub mod Drafts
+pub mod Faults
+pub mod Sights
+pub mod StepLines
+pub mod StepNames
+pub mod Steps
+pub mod Watching

@@ -1,0 +1,100 @@
+//! What the program answers: the lines of steps, a schedule, a picture or a trace.
+
+ghost use Rattle.std.specs.Prelude.{codes, string_bytes, IfErr, IfOk};
+ghost use Rattle.program.specs.Inputs.{bytes_of};
+ghost use Rattle.view_command.specs.Answers.{AnswersSchedule, AnswersSteps, AnswersTimeline, AnswersTrace, RefusesMade, RefusesSteps, RefusesTimeline, RefusesTrace};
+ghost use Rattle.view_command.specs.Sights.{EndsIn, IsSightOf};
+
+use crate::fault::Fault;
+use crate::made_schedule::{made_schedule, schedule_text};
+use crate::sight::{Sight, sight_of};
+use crate::step_names::LineForm;
+use crate::steps::steps;
+use crate::timeline::timeline;
+use crate::trace::traced;
+use crate::turns::Turns;
+use event_log::OutOfMemory;
+use program::{Inputs, Refusal, read_record, read_schedule, read_scripts, read_settings};
+use scripts::Record;
+use std::alloc::Global;
+
+/// The lines of the steps that `sim` does of the same files. Each is judged before the next is opened: the settings, the
+/// scripts, the schedule.
+pub fn steps_answer<I: Inputs>(
+    alloc: Global,
+    inputs: &mut I,
+    form: LineForm,
+    settings: &str,
+    scripts: &str,
+    schedule: &str,
+) -> Result<String, Fault>
+    ensures answer { IfOk result (λ text. AnswersSteps (I.held inputs.old) form settings.now scripts.now schedule.now (string_bytes text)) }
+    ensures refused { IfErr result (RefusesSteps (I.held inputs.old) settings.now scripts.now schedule.now) }
+{
+    let settings = read_settings(alloc, inputs, settings)?;
+    let scripts = read_scripts(alloc, inputs, Some(scripts), &settings)?;
+    let schedule = read_schedule(alloc, inputs, schedule, &settings)?;
+    let text = steps(alloc, form, &settings, &scripts, &schedule)?;
+    Ok(text)
+}
+
+/// A schedule that ends the scripts of that name, on the objects of the settings, and whose steps come in that way.
+pub fn schedule_answer<I: Inputs>(
+    alloc: Global,
+    inputs: &mut I,
+    settings: &str,
+    scripts: &str,
+    turns: Turns,
+) -> Result<String, Fault>
+    ensures answer { IfOk result (λ text. AnswersSchedule (I.held inputs.old) turns settings.now scripts.now (string_bytes text)) }
+    ensures refused { IfErr result (RefusesMade (I.held inputs.old) settings.now scripts.now) }
+{
+    let settings = read_settings(alloc, inputs, settings)?;
+    let scripts = read_scripts(alloc, inputs, Some(scripts), &settings)?;
+    let steps = made_schedule(alloc, &settings, &scripts, turns)?;
+    match schedule_text(alloc, steps.as_slice()) {
+        Ok(text) => Ok(text),
+        Err(_) => Err(Fault::Common(Refusal::OutOfMemory)),
+    }
+}
+
+/// What the record comes to, and its picture.
+fn pictured(alloc: Global, record: &Record) -> Result<(Sight, String), OutOfMemory>
+    ensures sight { IfOk result (λ a. IsSightOf «record».now a.0) }
+    ensures ends { IfOk result (λ a. EndsIn (codes "</svg>\n") (string_bytes a.1)) }
+{
+    let sight = sight_of(alloc, record)?;
+    match timeline(alloc, record, &sight) {
+        Ok(text) => Ok((sight, text)),
+        Err(_) => Err(OutOfMemory),
+    }
+}
+
+/// What the record of that name, or that of standard input, comes to, and its picture.
+pub fn timeline_answer<I: Inputs>(
+    alloc: Global,
+    inputs: &mut I,
+    record: Option<&str>,
+) -> Result<(Sight, String), Fault>
+    ensures answer { IfOk result (λ a. AnswersTimeline (I.held inputs.old) (bytes_of «record».entry) a.0 (string_bytes a.1)) }
+    ensures refused { IfErr result (RefusesTimeline (I.held inputs.old) (bytes_of «record».entry)) }
+{
+    let record = read_record(alloc, inputs, record)?;
+    match pictured(alloc, &record) {
+        Ok(answer) => Ok(answer),
+        Err(OutOfMemory) => Err(Fault::Common(Refusal::OutOfMemory)),
+    }
+}
+
+/// The trace of the record of that name, or of that of standard input.
+pub fn trace_answer<I: Inputs>(
+    alloc: Global,
+    inputs: &mut I,
+    record: Option<&str>,
+) -> Result<String, Fault>
+    ensures answer { IfOk result (λ text. AnswersTrace (I.held inputs.old) (bytes_of «record».entry) (string_bytes text)) }
+    ensures refused { IfErr result (RefusesTrace (I.held inputs.old) (bytes_of «record».entry)) }
+{
+    let record = read_record(alloc, inputs, record)?;
+    traced(alloc, &record)
+}

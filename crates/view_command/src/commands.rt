@@ -1,0 +1,111 @@
+//! A whole command: the words after the program's name in, a status out.
+
+ghost use Rattle.std.specs.Prelude.{◌≡◌, ◌⊎◌, ◌≤◌, true, OnOk, IfOk, IfErr, string_bytes};
+ghost use Rattle.event_log.specs.Stream.{counted};
+ghost use Rattle.view_command.specs.Answers.{Answers, AnswersTo, FindsNoOrder, Prints, PrintsSome, Refuses, RefusesTo, RefusesWith};
+ghost use Rattle.view_command.specs.Faults.{status_of};
+
+use crate::answers::{schedule_answer, steps_answer, timeline_answer, trace_answer};
+use crate::arguments::{Arguments, Asked, read_words};
+use crate::fault::Fault;
+use event_log::Sink;
+use program::{Inputs, Refusal};
+use scripts::{Buffered, WriteFailed, write_text};
+use std::alloc::Global;
+use std::fmt::Write;
+
+/// Does what the words ask for, and answers the status. A refusal is one line on `faults`, and a failed write there
+/// changes no status. Nothing goes to `out` before the whole answer is known.
+pub fn command<I: Inputs, W: Sink, F: Sink>(
+    alloc: Global,
+    words: &[String],
+    inputs: &mut I,
+    out: &mut W,
+    faults: &mut F,
+) -> u8
+    ensures done { result ≡ 0 → Prints (Answers (I.held inputs.old) words.now) (W.contents out.old) (W.contents out.new) }
+    ensures none_failed { result ≡ 0 → W.failed out.new ≡ W.failed out.old }
+    ensures no_line { result ≡ 0 → faults.new ≡ faults.old }
+    ensures found { result ≡ 1 → (out.new ≡ out.old) × FindsNoOrder (I.held inputs.old) words.now }
+    ensures nothing_written { result ≡ 2 → out.new ≡ out.old }
+    ensures refused { result ≡ 2 → RefusesWith (I.held inputs.old) words.now 2 }
+    ensures failed { result ≡ 3 → (out.new ≡ out.old)
+        ⊎ (PrintsSome (Answers (I.held inputs.old) words.now) (W.contents out.old) (W.contents out.new) × (W.failed out.new ≡ counted true (W.failed out.old))) }
+    ensures statuses { result ≤ 3 }
+{
+    match perform(alloc, words, inputs, out) {
+        Ok(()) => 0,
+        Err(fault) => refuse(&fault, faults),
+    }
+}
+
+/// The text that the arguments ask for.
+fn answer_to<I: Inputs>(
+    alloc: Global,
+    arguments: Arguments<'_>,
+    inputs: &mut I,
+) -> Result<String, Fault>
+    ensures answer { IfOk result (λ text. AnswersTo (I.held inputs.old) arguments.entry (string_bytes text)) }
+    ensures refused { IfErr result (RefusesTo (I.held inputs.old) arguments.entry) }
+{
+    match arguments {
+        Arguments::Steps {
+            form,
+            settings,
+            scripts,
+            schedule,
+        } => steps_answer(alloc, inputs, form, settings, scripts, schedule),
+        Arguments::Timeline { record } => match timeline_answer(alloc, inputs, record) {
+            Ok((_, text)) => Ok(text),
+            Err(fault) => Err(fault),
+        },
+        Arguments::Trace { record } => trace_answer(alloc, inputs, record),
+        Arguments::Schedule {
+            settings,
+            scripts,
+            turns,
+        } => schedule_answer(alloc, inputs, settings, scripts, turns),
+    }
+}
+
+/// The text that the words ask for.
+fn answered<I: Inputs>(alloc: Global, words: &[String], inputs: &mut I) -> Result<String, Fault>
+    ensures answer { IfOk result (λ text. Answers (I.held inputs.old) words.now (string_bytes text)) }
+    ensures refused { IfErr result (Refuses (I.held inputs.old) words.now) }
+{
+    match read_words(alloc, words) {
+        Ok(Asked::Help(text)) => Ok(text),
+        Ok(Asked::For(arguments)) => answer_to(alloc, arguments, inputs),
+        Err(refusal) => Err(Fault::Common(refusal)),
+    }
+}
+
+/// Does what the words ask for.
+fn perform<I: Inputs, W: Sink>(
+    alloc: Global,
+    words: &[String],
+    inputs: &mut I,
+    out: &mut W,
+) -> Result<(), Fault>
+    ensures done { OnOk result (Prints (Answers (I.held inputs.old) words.now) (W.contents out.old) (W.contents out.new)) }
+    ensures none_failed { OnOk result (W.failed out.new ≡ W.failed out.old) }
+    ensures refused { IfErr result (λ f. (Refuses (I.held inputs.old) words.now f × (out.new ≡ out.old))
+        ⊎ ((f ≡ Fault.Common Refusal.WriteFailed) × PrintsSome (Answers (I.held inputs.old) words.now) (W.contents out.old) (W.contents out.new) × (W.failed out.new ≡ counted true (W.failed out.old)))) }
+{
+    let text = answered(alloc, words, inputs)?;
+    match write_text(text.as_bytes(), out) {
+        Ok(()) => Ok(()),
+        Err(WriteFailed) => Err(Fault::Common(Refusal::WriteFailed)),
+    }
+}
+
+/// Writes the line of the refusal, and answers its status.
+pub fn refuse<F: Sink>(fault: &Fault, faults: &mut F) -> u8
+    ensures { result ≡ status_of fault.now }
+{
+    let mut line = Buffered::new(faults);
+    if writeln!(line, "{fault}").is_ok() {
+        let _ = line.finish();
+    }
+    fault.status()
+}

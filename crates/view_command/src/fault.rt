@@ -1,0 +1,71 @@
+//! Why the program didn't do what its words ask for.
+
+ghost use Rattle.std.specs.Prelude.{◌≡◌};
+ghost use Rattle.view_command.specs.Faults.{of_draft, of_memory, of_refusal, of_words, status_of};
+
+use crate::draft::DraftFault;
+use event_log::OutOfMemory;
+use program::{Refusal, WordsFault};
+use thiserror::Error;
+
+/// A refusal, which is printed as one line. What is refused for the same cause has the same number in `mc2`.
+#[derive(Debug, Drop, Error)]
+pub enum Fault {
+    #[error("view: {0}")]
+    Common(Refusal),
+    #[error("view: E10 unsound: {0}")]
+    Unsound(String),
+    #[error("view: E11 cycle: {0}")]
+    Cycle(String),
+    #[error("view: E15 the scripts do not end within 100000 words")]
+    TooLong,
+}
+
+impl Fault {
+    /// The status that the program ends with.
+    pub fn status(&self) -> u8
+        ensures { result ≡ status_of self.now }
+    {
+        match self {
+            Fault::Unsound(_) | Fault::Cycle(_) => 1,
+            Fault::TooLong => 2,
+            Fault::Common(refusal) => refusal.status(),
+        }
+    }
+}
+
+impl From<Refusal> for Fault {
+    ghost from_gives = { λ cause fault. fault ≡ of_refusal cause };
+
+    fn from(cause: Refusal) -> Fault {
+        Fault::Common(cause)
+    }
+}
+
+impl From<OutOfMemory> for Fault {
+    ghost from_gives = { λ cause fault. fault ≡ of_memory cause };
+
+    fn from(cause: OutOfMemory) -> Fault {
+        let OutOfMemory = cause;
+        Fault::Common(Refusal::OutOfMemory)
+    }
+}
+
+impl From<WordsFault> for Fault {
+    ghost from_gives = { λ cause fault. fault ≡ of_words cause };
+
+    fn from(cause: WordsFault) -> Fault {
+        Fault::Common(Refusal::from(cause))
+    }
+}
+
+impl From<DraftFault> for Fault {
+    ghost from_gives = { λ cause fault. fault ≡ of_draft cause };
+
+    fn from(cause: DraftFault) -> Fault {
+        match cause {
+            DraftFault::OutOfMemory => Fault::Common(Refusal::OutOfMemory),
+            DraftFault::TooLong => Fault::TooLong,
+        }
+    }
+}

@@ -1,0 +1,249 @@
+//! Each entry as a box, in the one order of all.
+
+ghost use Rattle.std.specs.Prelude.{codes, string_bytes, IfOk};
+ghost use Rattle.view_command.specs.Sights.{EndsIn};
+
+use crate::picture::{Anchor, Area, GREY, INK, PAPER, Picture};
+use crate::timeline::colours::{colours_of, fill_of, put_hatchings};
+use crate::timeline::entry_words::{done_words, entry_at, had_room, label_of, name_of};
+use crate::timeline::legend::{legend_height, put_legend};
+use event_log::Entry;
+use log_merge::Place;
+use scripts::{KernelObject, Record};
+use std::alloc::{AllocError, Global};
+
+/// Where the boxes begin.
+const LEFT: usize = 76;
+
+const TOP: usize = 64;
+
+/// How high a row and a box are.
+const ROW: usize = 36;
+
+const BOX: usize = 26;
+
+/// The least width of a picture.
+const LEAST_WIDTH: usize = 800;
+
+const SIGNS: [&str; 3] = [
+    "A box is an entry that was done; from left to right they stand in the one order of all. Point at one to read it.",
+    "A pale tail: how often its CPU looked at the lock before, as far as there is room. The number is in the box's words.",
+    "Hatched: the log had no room, and nothing was done.",
+];
+
+/// How wide a place in the order is, and the box in it; whether words stand in the box; and how often the places are counted.
+#[derive(Clone, Copy, Debug, PartialEq, Eq, Drop)]
+struct Scale {
+    pitch: usize,
+    width: usize,
+    labelled: bool,
+    counted: usize,
+}
+
+impl Scale {
+    fn of(entries: usize) -> Scale {
+        if entries <= 8 {
+            Scale {
+                pitch: 148,
+                width: 124,
+                labelled: true,
+                counted: 1,
+            }
+        } else if entries <= 50 {
+            Scale {
+                pitch: 18,
+                width: 12,
+                labelled: false,
+                counted: 5,
+            }
+        } else {
+            Scale {
+                pitch: 8,
+                width: 6,
+                labelled: false,
+                counted: 10,
+            }
+        }
+    }
+
+    /// Where the box of that place begins.
+    fn start(&self, place: usize) -> usize {
+        place
+            .saturating_add(1)
+            .saturating_mul(self.pitch)
+            .saturating_add(LEFT)
+            .saturating_sub(self.width)
+    }
+}
+
+/// The height at which the row of a CPU begins.
+fn row_top(cpu: usize) -> usize {
+    cpu.saturating_mul(ROW).saturating_add(TOP)
+}
+
+/// Puts the numbers of the places, and the rows with their CPUs.
+fn put_axes(
+    alloc: Global,
+    picture: &mut Picture,
+    scale: Scale,
+    entries: usize,
+    cpus: usize,
+) -> Result<(), AllocError> {
+    for place in 0..entries {
+        let number = place.saturating_add(1);
+        if number == 1 || number % scale.counted.max(1) == 0 {
+            let x = scale.start(place).saturating_add(scale.width / 2);
+            let words = format!(in alloc; "{number}")?;
+            picture.words(x, TOP - 12, Anchor::Middle, GREY, words.as_str())?;
+        }
+    }
+    put_rows(alloc, picture, cpus, scale.start(entries))
+}
+
+/// Puts a line for each CPU.
+fn put_rows(
+    alloc: Global,
+    picture: &mut Picture,
+    cpus: usize,
+    end: usize,
+) -> Result<(), AllocError> {
+    for cpu in 0..cpus {
+        let middle = row_top(cpu).saturating_add(ROW / 2);
+        picture.level(LEFT, end, middle)?;
+        let words = format!(in alloc; "CPU {cpu}")?;
+        picture.words(
+            16,
+            middle.saturating_add(5),
+            Anchor::Start,
+            INK,
+            words.as_str(),
+        )?;
+    }
+    Ok(())
+}
+
+/// How long the tail of so many looks is, if there is so much room.
+fn tail_length(looks: u64, room: usize) -> usize {
+    let most = room as u64;
+    looks.saturating_mul(4).min(most) as usize
+}
+
+/// Puts what became of an entry into its box, which begins there.
+fn put_label(
+    alloc: Global,
+    picture: &mut Picture,
+    scale: Scale,
+    start: (usize, usize),
+    entry: &Entry<KernelObject>,
+    done: &str,
+) -> Result<(), AllocError> {
+    let (x, y) = start;
+    let (ink, rim) = if had_room(entry) {
+        (colours_of(entry.object as usize).1, "none")
+    } else {
+        (INK, PAPER)
+    };
+    let label = label_of(alloc, done)?;
+    picture.label(
+        x.saturating_add(scale.width / 2),
+        y.saturating_add(BOX / 2 + 4),
+        ink,
+        rim,
+        label.as_str(),
+    )
+}
+
+/// Puts the box of an entry, and its tail, which may begin where the box before it ended.
+fn put_entry(
+    alloc: Global,
+    picture: &mut Picture,
+    scale: Scale,
+    number: usize,
+    place: Place,
+    entry: &Entry<KernelObject>,
+    names: (&str, usize),
+) -> Result<(), AllocError> {
+    let (name, free_from) = names;
+    let (x, y) = (
+        scale.start(number),
+        row_top(place.cpu).saturating_add((ROW - BOX) / 2),
+    );
+    let object = entry.object as usize;
+    let (colour, _ink) = colours_of(object);
+    let tail = tail_length(entry.looks, x.saturating_sub(free_from));
+    let tail_area = Area {
+        x: x.saturating_sub(tail),
+        y: y.saturating_add(BOX / 4),
+        width: tail,
+        height: BOX / 2,
+    };
+    picture.tail(tail_area, colour)?;
+    let area = Area {
+        x,
+        y,
+        width: scale.width,
+        height: BOX,
+    };
+    let fill = fill_of(alloc, object, had_room(entry))?;
+    let done = done_words(alloc, &entry.done)?;
+    let (order, own, cpu, looks) = (
+        number.saturating_add(1),
+        place.entry.saturating_add(1),
+        place.cpu,
+        entry.looks,
+    );
+    let told = format!(in alloc;
+        "{order}: CPU {cpu}, entry {own}, on {name}, looks {looks}: {done}"
+    )?;
+    picture.told_area(area, fill.as_str(), told.as_str())?;
+    if scale.labelled {
+        put_label(alloc, picture, scale, (x, y), entry, done.as_str())?;
+    }
+    Ok(())
+}
+
+/// Puts the boxes of all entries.
+fn put_entries(
+    alloc: Global,
+    picture: &mut Picture,
+    scale: Scale,
+    record: &Record,
+    places: &[Place],
+) -> Result<(), AllocError> {
+    let mut free_from = [LEFT; 64];
+    for (number, place) in places.iter().enumerate() {
+        let Some(entry) = entry_at(record.run(), *place) else {
+            continue;
+        };
+        let name = name_of(record.settings(), entry.object as usize);
+        let free = free_from.get(place.cpu).copied().unwrap_or(LEFT);
+        put_entry(alloc, picture, scale, number, *place, entry, (name, free))?;
+        if let Some(end) = free_from.get_mut(place.cpu) {
+            *end = scale.start(number).saturating_add(scale.width);
+        }
+    }
+    Ok(())
+}
+
+/// The picture of entries in their one order.
+pub fn draw_full(alloc: Global, record: &Record, places: &[Place]) -> Result<String, AllocError>
+    ensures { IfOk result (λ text. EndsIn (codes "</svg>\n") (string_bytes text)) }
+{
+    let settings = record.settings();
+    let (cpus, objects) = (settings.cpus() as usize, settings.objects().len());
+    let scale = Scale::of(places.len());
+    let width = scale
+        .start(places.len())
+        .saturating_add(24)
+        .max(LEAST_WIDTH);
+    let legend_top = row_top(cpus).saturating_add(20);
+    let height = legend_top.saturating_add(legend_height(width, objects, SIGNS.len()));
+    let entries = places.len();
+    let heading = format!(in alloc; "A run of {cpus} CPUs: {entries} entries in their one order")?;
+    let mut picture = Picture::new(alloc, width, height, heading.as_str())?;
+    put_hatchings(&mut picture, objects)?;
+    put_axes(alloc, &mut picture, scale, entries, cpus)?;
+    put_entries(alloc, &mut picture, scale, record, places)?;
+    put_legend(alloc, &mut picture, settings, width, legend_top, &SIGNS)?;
+    picture.whole()
+}
