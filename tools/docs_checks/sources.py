@@ -38,7 +38,8 @@ class Sources:
         self.kit = {it for line in lines for it in line.partition(":")[2].split() if it not in self.crates}
         # What may stand anywhere, what only with its type in front, and what only where clauses are spoken of.
         self.names = {*self.crates, *self.kit, *re.findall(r"(\w+)=", " ".join(lines))}
-        self.names |= {it.split("/")[1] for it in self.files if it.startswith(("examples/", "rows/"))}
+        self.names |= {it.split("/")[1] for it in self.files if it.startswith("examples/")}
+        self.names |= {it.split("/")[2] for it in self.files if it.startswith(("rows/mc2/", "rows/view/"))}
         self.members = defaultdict(set)
         self.clauses = set()
         for name in self.files:
