@@ -7,7 +7,7 @@ import re
 from collections import defaultdict
 from typing import NamedTuple
 
-from edit_files import read_edit
+from edit_files import changes_of, edits_of
 
 FN = re.compile(r"( *)(?:pub(?:\([a-z]+\))? )?(?:const )?fn (\w+)")
 IMPL = re.compile(r"impl(?:<.*?>)? (?:(\w+)(?:<.*>)? for )?(\w+)")
@@ -135,8 +135,8 @@ def try_round(rt, crate, edits):
 def try_together(rt, crate):
     """Tries the crate's edits in rounds, by that way of running rt, and returns the names of those that were refused."""
     edits = []
-    for edit in sorted(crate.glob("must-fail/*.edit")):
-        changes = read_edit(edit)
+    for edit in edits_of(crate):
+        changes = changes_of(edit)
         where = touched(crate, changes)
         if where:
             edits.append((edit.name, changes, where))

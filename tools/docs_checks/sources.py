@@ -4,6 +4,8 @@ import os
 import re
 from collections import defaultdict
 
+from edit_files import TOGETHER, edits_in
+
 # Folders that hold no sources: what is built, and what git and Python keep.
 PASSED_OVER = {".git", "out", "__pycache__"}
 WORD = r"[A-Za-z_]\w*"
@@ -54,6 +56,8 @@ class Sources:
             return
         if kind in ("edit", "misuse"):
             self.names.add(stem)
+        elif parts[2:] == [TOGETHER]:
+            self.names.update(it.name.removesuffix(".edit") for it in edits_in((self.top / name).read_text(encoding="utf-8")))
         elif kind == "rt":
             self.read_rattle((self.top / name).read_text(encoding="utf-8"), parts[1])
         elif kind == "antt":
