@@ -36,7 +36,7 @@ class Sources:
         self.files_and_folders = sorted({*self.files, *folders})
         self.crates = {it.split("/")[1] for it in self.files if it.startswith("crates/")}
         self.titles = {it.rpartition("/")[2].removesuffix(".md") for it in self.files if it.endswith(".md")}
-        lines = (top / "crates.txt").read_text(encoding="utf-8").splitlines()
+        lines = [line.partition("#")[0] for line in (top / "crates.txt").read_text(encoding="utf-8").splitlines()]
         self.kit = {it for line in lines for it in line.partition(":")[2].split() if it not in self.crates}
         # What may stand anywhere, what only with its type in front, and what only where clauses are spoken of.
         self.names = {*self.crates, *self.kit, *re.findall(r"(\w+)=", " ".join(lines))}
