@@ -1,7 +1,7 @@
 -- What C opens a cell with, by its numbers.
 use Rattle.std.specs.declared.cmp.PartialEq.{Ghosts as Eq}
 use Rattle.std.specs.declared.default.Default.{Ghosts as Default}
-use Rattle.std.specs.Prelude.{◌≡◌, ◌==◌, ◌<◌, ◌^◌, ◌-◌, ◌⊎◌, ℕ, Bool, true, false, [], ◌∷◌, Option, Some, None, slice_get, vec_len, if◌then◌else◌}
+use Rattle.std.specs.Prelude.{◌≡◌, ◌==◌, ◌<◌, ◌^◌, ◌-◌, ◌⊎◌, ℕ, Bool, false, [], ◌∷◌, Option, Some, None, slice_get, vec_len, if◌then◌else◌}
 use Rattle.event_log.specs.declared.logged.TheConstants.{MOST_EVENTS}
 use Rattle.event_log.specs.History.{opened_history}
 use Rattle.sound_run.specs.declared.limits.TheConstants.{MOST_CPUS}
