@@ -136,8 +136,7 @@ uint32_t mc2_cell_step(struct mc2_cell *cell, size_t event, size_t step, struct 
 #endif
 
 // Opens a cell around such an object, for so many CPUs. The object's name isn't looked at. With 0 events the log isn't kept.
-// The cell has to be freed once, after MC2_CELL_BAD_OPENING too, and after MC2_CELL_NO_MEMORY if `own` was written: set it to NULL
-// before, to see that.
+// The cell has to be freed once, after MC2_CELL_BAD_OPENING too, and after MC2_CELL_NO_MEMORY unless `own` is NULL then.
 static inline uint32_t mc2_cell_open(struct mc2_cell *cell, const struct mc2_object *object, uint32_t cpus) {
     struct mc2_cell_opening opening = {object->lock, object->kind, object->events, cpus, object->size, object->channels, {0}};
     for (uint32_t owner = 0; owner < MC2_OWNERS; owner++)
