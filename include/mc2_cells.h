@@ -149,6 +149,7 @@ static inline uint32_t mc2_cell_open(struct mc2_cell *cell, const struct mc2_obj
 
 // Makes a caller of the greatest CPU of the cell that has none yet. It has to be freed as a cell has, after MC2_CELL_REFUSED too.
 static inline uint32_t mc2_caller_open(struct mc2_cell *cell, struct mc2_caller *caller) {
+    caller->own = NULL;
     caller->resting = &cell->resting;
     uint32_t told = mc2_handle_new(&caller->own);
     return told == MC2_CELL_DONE ? mc2_handle_deal(cell, caller) : told;
