@@ -62,7 +62,8 @@ enum mc2_cell_told {
     MC2_CELL_LEFT = 4,
     // Nothing was done, as the cell or the caller isn't at a place where this fits.
     MC2_CELL_REFUSED = 5,
-    // Of a try: another has the object, or is in line for it.
+    // Of a try: another has the object, or is in line for it. Of a closing: all callers were taken back, and the cell is shared
+    // still, which no use in keeping with this header leads to.
     MC2_CELL_BUSY = 6,
     // All went well; the log is full, and nothing was done; there is no such call, or no such step.
     MC2_CELL_DONE = 7, MC2_CELL_FULL = 8, MC2_CELL_NOT_THERE = 9,
@@ -102,7 +103,7 @@ uint32_t mc2_handle_free(struct mc2_handle handle);
 uint32_t mc2_handle_open(struct mc2_cell *cell, const struct mc2_cell_opening *opening);
 
 // Makes a caller of the greatest CPU of the cell that has none yet, in what has nothing. It refuses what is no open cell, a cell
-// each of whose CPUs has its caller, and a caller that has something.
+// each of whose CPUs has its caller, and a caller that has something. MC2_CELL_NO_MEMORY is told once 2^63 share the cell.
 uint32_t mc2_handle_deal(struct mc2_cell *cell, struct mc2_caller *caller);
 
 // The caller's next step towards the object. It refuses a caller that has the object, and what is no caller.
@@ -135,12 +136,12 @@ uint32_t mc2_cell_step(struct mc2_cell *cell, size_t event, size_t step, struct 
 #endif
 
 // Opens a cell around such an object, for so many CPUs. The object's name isn't looked at. With 0 events the log isn't kept.
-// The cell has to be freed once, after MC2_CELL_BAD_OPENING too, and after MC2_CELL_NO_MEMORY if `own` was written: set it to NULL
-// before, to see that.
+// The cell has to be freed once, after MC2_CELL_BAD_OPENING too, and after MC2_CELL_NO_MEMORY unless `own` is NULL then.
 static inline uint32_t mc2_cell_open(struct mc2_cell *cell, const struct mc2_object *object, uint32_t cpus) {
     struct mc2_cell_opening opening = {object->lock, object->kind, object->events, cpus, object->size, object->channels, {0}};
     for (uint32_t owner = 0; owner < MC2_OWNERS; owner++)
         opening.quotas[owner] = object->quotas ? object->quotas[owner] : object->size;
+    cell->own = NULL;
     cell->resting.word = 0;
     uint32_t told = mc2_handle_new(&cell->own);
     return told == MC2_CELL_DONE ? mc2_handle_open(cell, &opening) : told;
@@ -148,6 +149,7 @@ static inline uint32_t mc2_cell_open(struct mc2_cell *cell, const struct mc2_obj
 
 // Makes a caller of the greatest CPU of the cell that has none yet. It has to be freed as a cell has, after MC2_CELL_REFUSED too.
 static inline uint32_t mc2_caller_open(struct mc2_cell *cell, struct mc2_caller *caller) {
+    caller->own = NULL;
     caller->resting = &cell->resting;
     uint32_t told = mc2_handle_new(&caller->own);
     return told == MC2_CELL_DONE ? mc2_handle_deal(cell, caller) : told;

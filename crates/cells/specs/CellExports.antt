@@ -1,12 +1,16 @@
 -- What each call from C on a cell does, and tells.
 use Rattle.std.specs.Prelude.{◌≡◌, ℕ, Bool, true, false, Option, Some, None, Result, Ok, Err}
-use Rattle.cells.specs.declared.exports.TheConstants.{REFUSED, DONE, NOT_THERE}
+use Rattle.cells.specs.declared.exports.TheConstants.{REFUSED, BUSY, DONE, NOT_THERE}
 use Rattle.cells.specs.declared.handles.TheConstants.{NO_MEMORY, BAD_OPENING}
 use Rattle.cells.specs.declared.body.Body.{Body}
 use Rattle.cells.specs.declared.body.Body.TheVariants.{Empty, Caller}
 use Rattle.cells.specs.declared.opening.Opening.{Opening}
 use Rattle.cells.specs.declared.opening.NotOpened.{NotOpened}
 use Rattle.cells.specs.declared.opening.NotOpened.TheVariants.{NotEmpty, BadOpening, OutOfMemory}
+use Rattle.cells.specs.declared.ends.NotDealt.{NotDealt}
+use Rattle.cells.specs.declared.ends.NotDealt.TheVariants.{NoneLeft, NoShare}
+use Rattle.cells.specs.declared.ends.NotClosed.{NotClosed}
+use Rattle.cells.specs.declared.ends.NotClosed.TheVariants.{NotAllBack, Shared}
 use Rattle.cells.specs.Bodies.{KernelCaller}
 use Rattle.cells.specs.declared.logged_step.LoggedStep.{LoggedStep}
 use Rattle.cells.specs.CellBodies.{IsOpenedBy, IsDealtBy, IsOwn, IsGivenBackTo, IsClosedBy, step_of, may_be_freed}
@@ -29,13 +33,18 @@ body_from None = Empty
 abbrev pub IsNoneTold : Body → Body → ℕ → Body → Body → Type 0
 IsNoneTold cell caller n cell' caller' = (n ≡ REFUSED) × (cell' ≡ cell) × (caller' ≡ caller)
 
-abbrev pub told_dealt : Option KernelCaller → ℕ
-told_dealt (Some c) = DONE
-told_dealt None = REFUSED
+abbrev pub told_dealt : Result KernelCaller NotDealt → ℕ
+told_dealt (Ok c) = DONE
+told_dealt (Err NoneLeft) = REFUSED
+told_dealt (Err NoShare) = NO_MEMORY
+
+abbrev pub body_dealt : Result KernelCaller NotDealt → Body
+body_dealt (Ok c) = Caller c
+body_dealt (Err why) = Empty
 
 -- what had nothing has a new caller of the cell, or all is as it was
 abbrev pub IsDealTold : Body → Body → ℕ → Body → Body → Type 0
-IsDealTold cell Empty n cell' caller' = (told : Option KernelCaller) × (n ≡ told_dealt told) × IsDealtBy cell told cell' × (caller' ≡ body_from told)
+IsDealTold cell Empty n cell' caller' = (told : Result KernelCaller NotDealt) × (n ≡ told_dealt told) × IsDealtBy cell told cell' × (caller' ≡ body_dealt told)
 IsDealTold cell caller n cell' caller' = IsNoneTold cell caller n cell' caller'
 
 -- a caller that is given back is of the cell
@@ -52,13 +61,14 @@ abbrev pub IsBackTold : Body → Body → ℕ → Body → Body → Type 0
 IsBackTold cell (Caller c) n cell' caller' = (told : Option KernelCaller) × (n ≡ told_back told) × IsGivenBackTo cell c told cell' × (caller' ≡ body_from told)
 IsBackTold cell caller n cell' caller' = IsNoneTold cell caller n cell' caller'
 
-abbrev pub told_closed : Bool → ℕ
-told_closed true = DONE
-told_closed false = REFUSED
+abbrev pub told_closed : Result (Unit {0}) NotClosed → ℕ
+told_closed (Ok u) = DONE
+told_closed (Err NotAllBack) = REFUSED
+told_closed (Err Shared) = BUSY
 
 -- the cell has ended, and has its log, or is as it was
 abbrev pub IsCloseTold : Body → ℕ → Body → Type 0
-IsCloseTold before n after = (told : Bool) × (n ≡ told_closed told) × IsClosedBy before told after
+IsCloseTold before n after = (told : Result (Unit {0}) NotClosed) × (n ≡ told_closed told) × IsClosedBy before told after
 
 -- a handle that is given to be freed is refused exactly if it has a caller that isn't idle
 abbrev pub told_freed : Bool → ℕ

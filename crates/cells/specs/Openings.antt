@@ -1,7 +1,7 @@
 -- What C opens a cell with, by its numbers.
 use Rattle.std.specs.declared.cmp.PartialEq.{Ghosts as Eq}
 use Rattle.std.specs.declared.default.Default.{Ghosts as Default}
-use Rattle.std.specs.Prelude.{◌≡◌, ◌==◌, ◌<◌, ◌^◌, ◌-◌, ◌⊎◌, ℕ, Bool, true, false, [], ◌∷◌, Option, Some, None, slice_get, vec_len, if◌then◌else◌}
+use Rattle.std.specs.Prelude.{◌≡◌, ◌==◌, ◌<◌, ◌^◌, ◌-◌, ◌⊎◌, ℕ, Bool, false, [], ◌∷◌, Option, Some, None, slice_get, vec_len, if◌then◌else◌}
 use Rattle.event_log.specs.declared.logged.TheConstants.{MOST_EVENTS}
 use Rattle.event_log.specs.History.{opened_history}
 use Rattle.sound_run.specs.declared.limits.TheConstants.{MOST_CPUS}
@@ -49,4 +49,7 @@ module _ {call_eq : Eq KCall} {call_default : Default KCall} {reply_eq : Eq KRep
     pub is_lock : lock_of o ≡ Some lock
     pub kind : kind_of (arc_value c.cell) ≡ lock
     pub count : vec_len c.passes ≡ o.cpus
+    pub cpus : c.cpus ≡ o.cpus
+    pub back : c.back ≡ 0
+    pub home : c.home ≡ None
     pub passes : EachAt (λ k p. view_of_pass p ≡ first_pass lock 0 (opened_history params (limit_of o.events) (kernel_opening params)) o.cpus k) c.passes.items

@@ -3,6 +3,7 @@
 ghost use Rattle.std.specs.Prelude.{◌≡◌, ◌↔◌, Err};
 ghost use Rattle.cells.specs.CellBodies.{IsOpenedBy, IsBadOpening, IsDealtBy, IsOwn, IsGivenBackTo, IsClosedBy, step_of, may_be_freed};
 
+use crate::ends::{NotClosed, NotDealt};
 use crate::logged_step::{LoggedStep, step_at};
 use crate::opening::{NotOpened, Opening, open_cell};
 use crate::{Body, Caller, Position};
@@ -25,7 +26,7 @@ impl Body {
     }
 
     /// A caller of a cell that has a pass left.
-    pub fn deal(self) -> (Body, Option<Caller<KernelObject>>)
+    pub fn deal(self) -> (Body, Result<Caller<KernelObject>, NotDealt>)
         ensures { IsDealtBy self result.1 result.0 }
     {
         match self {
@@ -33,7 +34,7 @@ impl Body {
                 let (cell, caller) = cell.deal();
                 (Body::Cell(cell), caller)
             }
-            other => (other, None),
+            other => (other, Err(NotDealt::NoneLeft)),
         }
     }
 
@@ -52,15 +53,15 @@ impl Body {
     }
 
     /// A cell ends, once all callers are back.
-    pub fn close(self) -> (Body, bool)
+    pub fn close(self) -> (Body, Result<(), NotClosed>)
         ensures { IsClosedBy self result.1 result.0 }
     {
         match self {
             Body::Cell(cell) => match cell.close() {
-                Ok(logged) => (Body::Ended(logged), true),
-                Err(cell) => (Body::Cell(cell), false),
+                Ok(logged) => (Body::Ended(logged), Ok(())),
+                Err((cell, why)) => (Body::Cell(cell), Err(why)),
             },
-            other => (other, false),
+            other => (other, Err(NotClosed::NotAllBack)),
         }
     }
 

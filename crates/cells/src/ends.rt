@@ -1,6 +1,6 @@
 //! A cell is opened, its passes are given out and come back, and it ends.
 
-ghost use Rattle.std.specs.Prelude.{◌≡◌, ◌≤◌, ◌<◌, ◌+◌, IfSome, vec_len};
+ghost use Rattle.std.specs.Prelude.{◌≡◌, ◌≤◌, ◌<◌, ◌+◌, IfSome, None, vec_len};
 ghost use Rattle.std_alloc.specs.Arc.{arc_value};
 ghost use Rattle.sound_run.specs.declared.limits.TheConstants.{MOST_CPUS};
 ghost use Rattle.word_rule.specs.Cell.{EachAt, first_pass};
@@ -17,6 +17,24 @@ use std::alloc::Global;
 use std::sync::Arc;
 use word_rule::{LockCell, Pass};
 
+/// Why no caller was made.
+#[derive(Clone, Copy, Debug, PartialEq, Eq, Drop)]
+pub enum NotDealt {
+    /// Each CPU has a caller, or had one.
+    NoneLeft,
+    /// The cell has as many owners as can be counted.
+    NoShare,
+}
+
+/// Why a cell wasn't closed.
+#[derive(Clone, Copy, Debug, PartialEq, Eq, Drop)]
+pub enum NotClosed {
+    /// A CPU's caller wasn't given back.
+    NotAllBack,
+    /// All were, but the cell has another owner.
+    Shared,
+}
+
 impl<O: SeqObject> OpenCell<O> {
     /// A new cell of the kind, of 1 to 64 CPUs. There is none if memory is refused.
     pub fn open(alloc: Global, kind: LockKind, logged: Logged<O>, cpus: u8) -> Option<OpenCell<O>>
@@ -24,6 +42,8 @@ impl<O: SeqObject> OpenCell<O> {
         requires few { cpus ≤ MOST_CPUS }
         ensures kind { IfSome result (λ c. kind_of (arc_value c.cell) ≡ kind) }
         ensures count { IfSome result (λ c. vec_len c.passes ≡ cpus) }
+        ensures cpus { IfSome result (λ c. c.cpus ≡ cpus) }
+        ensures back { IfSome result (λ c. (c.back ≡ 0) × (c.home ≡ None)) }
         ensures passes { IfSome result (λ c. EachAt (λ k p. view_of_pass p ≡ first_pass kind 0 logged cpus k) c.passes.items) }
     {
         let Ok((cell, passes)) = AnyCell::open(alloc, kind, logged, cpus) else {
@@ -42,11 +62,14 @@ impl<O: SeqObject> OpenCell<O> {
     }
 
     /// Gives out the pass of the greatest CPU that has no caller yet. There is none if all have one.
-    pub fn deal(self) -> (OpenCell<O>, Option<Caller<O>>)
+    pub fn deal(self) -> (OpenCell<O>, Result<Caller<O>, NotDealt>)
         ensures { IsDealt self result.1 result.0 }
     {
+        if self.passes.is_empty() {
+            return (self, Err(NotDealt::NoneLeft));
+        }
         let Ok(shared) = Arc::try_clone(&self.cell) else {
-            return (self, None);
+            return (self, Err(NotDealt::NoShare));
         };
         let OpenCell {
             cell,
@@ -64,13 +87,13 @@ impl<O: SeqObject> OpenCell<O> {
             cpus,
         };
         let Some(pass) = dealt else {
-            return (rest, None);
+            return (rest, Err(NotDealt::NoneLeft));
         };
         let caller = Caller {
             cell: shared,
             position: Position::Idle(pass),
         };
-        (rest, Some(caller))
+        (rest, Ok(caller))
     }
 
     // The pass of the next CPU, beside those that were given back.
@@ -121,11 +144,11 @@ impl<O: SeqObject> OpenCell<O> {
     }
 
     /// Ends the cell, if each CPU's caller was given back, and gives the object back with its log.
-    pub fn close(self) -> Result<Logged<O>, OpenCell<O>>
+    pub fn close(self) -> Result<Logged<O>, (OpenCell<O>, NotClosed)>
         ensures { IsClosed self result }
     {
         if self.back < self.cpus {
-            return Err(self);
+            return Err((self, NotClosed::NotAllBack));
         }
         let OpenCell {
             cell,
@@ -135,23 +158,27 @@ impl<O: SeqObject> OpenCell<O> {
             cpus,
         } = self;
         let Some(pass) = home else {
-            return Err(OpenCell {
+            let open = OpenCell {
                 cell,
                 passes,
                 home: None,
                 back,
                 cpus,
-            });
+            };
+            return Err((open, NotClosed::NotAllBack));
         };
         match Arc::try_unwrap(cell) {
             Ok(cell) => Ok(cell.close(pass)),
-            Err(cell) => Err(OpenCell {
-                cell,
-                passes,
-                home: Some(pass),
-                back,
-                cpus,
-            }),
+            Err(cell) => {
+                let open = OpenCell {
+                    cell,
+                    passes,
+                    home: Some(pass),
+                    back,
+                    cpus,
+                };
+                Err((open, NotClosed::Shared))
+            }
         }
     }
 }

@@ -6,7 +6,8 @@ ghost use Rattle.cells.specs.CellBodies.{IsBadOpening};
 ghost use Rattle.cells.specs.CellExports.{IsOpenTold, IsDealTold, IsBackTold, IsCloseTold, IsFreeTold, IsStepTold, told_opening, owns_back};
 ghost use Rattle.cells.specs.declared.body.Body.TheVariants.{Empty};
 
-use crate::exports::{DONE, NOT_THERE, REFUSED};
+use crate::ends::{NotClosed, NotDealt};
+use crate::exports::{BUSY, DONE, NOT_THERE, REFUSED};
 use crate::handle::with_body;
 use crate::logged_step::LoggedStep;
 use crate::opening::{NotOpened, Opening};
@@ -108,11 +109,12 @@ pub extern "C" fn mc2_handle_deal(cell: &mut Handle, caller: &mut Handle) -> u32
 {
     match take_body(caller) {
         Body::Empty => match with_body(cell, (), |body, ()| body.deal()) {
-            Some(dealt) => {
+            Ok(dealt) => {
                 put_body(caller, Body::Caller(dealt));
                 DONE
             }
-            None => REFUSED,
+            Err(NotDealt::NoneLeft) => REFUSED,
+            Err(NotDealt::NoShare) => NO_MEMORY,
         },
         other => {
             put_body(caller, other);
@@ -147,10 +149,10 @@ pub extern "C" fn mc2_cell_take_back(cell: &mut Handle, caller: &mut Handle) -> 
 pub extern "C" fn mc2_cell_close(cell: &mut Handle) -> u32
     ensures { IsCloseTold (body_of cell.old) result (body_of cell.new) }
 {
-    if with_body(cell, (), |body, ()| body.close()) {
-        DONE
-    } else {
-        REFUSED
+    match with_body(cell, (), |body, ()| body.close()) {
+        Ok(()) => DONE,
+        Err(NotClosed::NotAllBack) => REFUSED,
+        Err(NotClosed::Shared) => BUSY,
     }
 }
 

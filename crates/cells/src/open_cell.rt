@@ -1,6 +1,6 @@
 //! A cell that C has opened.
 
-ghost use Rattle.std.specs.Prelude.{◌≡◌};
+ghost use Rattle.std.specs.Prelude.{◌≡◌, ◌<◌};
 ghost use Rattle.std_alloc.specs.Arc.{arc_value};
 ghost use Rattle.cells.specs.Facts.{of_props};
 ghost use Rattle.cells.specs.Positions.{fixed_of};
@@ -25,4 +25,5 @@ pub struct OpenCell<O: SeqObject> {
     pub ghost of: { AreHome (arc_value cell) passes.items } by { Prim.hlevel of_props },
     pub ghost returned: { IsBack (arc_value cell) back home } by { Prim.hlevel of_props },
     pub ghost some: { (fixed_of (arc_value cell)).numbers ≡ cpus },
+    pub ghost any: { 0 < cpus },
 }

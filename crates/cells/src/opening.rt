@@ -1,6 +1,6 @@
 //! What C opens a cell with.
 
-ghost use Rattle.std.specs.Prelude.{◌≡◌, ◌<◌, ◌≤◌, ◌↔◌, ◌⊎◌, false, IfOk, OnErr, Err};
+ghost use Rattle.std.specs.Prelude.{◌≡◌, ◌<◌, ◌≤◌, ◌↔◌, ◌⊎◌, false, IfOk, IfErr, OnErr, Err};
 ghost use Rattle.sound_run.specs.declared.limits.TheConstants.{MOST_CPUS};
 ghost use Rattle.event_log.specs.History.{opened_history};
 ghost use Rattle.scripts.specs.Kernel.{kernel_in_range, kernel_opening};
@@ -84,6 +84,7 @@ fn open_object(
 pub fn open_cell(alloc: Global, opening: &Opening) -> Result<OpenCell<KernelObject>, NotOpened>
     ensures opened { IfOk result (λ c. IsOpened opening.now c) }
     ensures judged { IsUnfit opening.now ↔ (result ≡ Err NotOpened.BadOpening) }
+    ensures reason { IfErr result (λ why. (why ≡ NotOpened.BadOpening) ⊎ (why ≡ NotOpened.OutOfMemory)) }
 {
     let Some(kind) = lock_of(opening) else {
         return Err(NotOpened::BadOpening);

@@ -19,4 +19,5 @@ invariant_of-rest-2 g c =
       of = front_home cell c.pop-dealt.new.self.items c.in-Some.pass (subst (AreHome cell) c.in-Some.ensures.items c.args.self.of);
       returned = c.args.self.returned;
       some = c.args.self.some;
+      any = c.args.self.any;
     }

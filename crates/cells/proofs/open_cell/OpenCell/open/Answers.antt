@@ -16,6 +16,7 @@ invariant_of-result g c =
       of = subst (λ z. AreHome z passes.items) (sym is) home;
       returned = none_back (arc_value c.in-Ok-new.cell);
       some = ap (λ z. (fixed_of z).numbers) is ∙ numbers;
+      any = c.requires.some;
     }
 
 pub returns-clause-passes : goal.returns-clause-passes

@@ -15,4 +15,4 @@ invariant_of-result g c =
       | in-None w ↦ subst T (sym w.home-is) (first_back cell self.back c.args.pass c.requires.pass (self.returned.1 w.in-None.is))
       | in-Some w ↦ subst T (sym w.home-is) (next_back cell self.back w.in-Some.first c.args.pass w.join-home.result (self.returned.0 w.in-Some.first w.in-Some.is) c.requires.pass (subst (λ z. IsPassOf z w.join-home.result) w.deref.ensures w.join-home.ensures.pass) w.join-home.ensures.owned)
     ] in
-    record { of = self.of; returned = one_back cell (self.back + 1) c.match-home.home owns; some = self.some }
+    record { of = self.of; returned = one_back cell (self.back + 1) c.match-home.home owns; some = self.some; any = self.any }
