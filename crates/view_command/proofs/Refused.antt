@@ -25,7 +25,7 @@ refused P (Ok x) f is h = absurd is
 refused P (Err g) f is h = subst P (sym is) h
 
 -- something was found of a record
-IsFound : Fault → Type 0
+abbrev IsFound : Fault → Type 0
 IsFound (fault.Common cause) = ⊥
 IsFound (fault.Unsound text) = Unit {0}
 IsFound (fault.Cycle text) = Unit {0}
@@ -102,11 +102,13 @@ module _ (held : Option (List ℕ) → Option (List ℕ)) (words : List (String 
 no_order : (held : Option (List ℕ) → Option (List ℕ)) (words : List (String Global)) (f : Fault) → Refuses held words f → status_of f ≡ 1 → FindsNoOrder held words
 no_order held words f h one = by_words held words f (found_with f one) h
 
--- where nothing failed to be written, status 1 tells what was found
-pub only_found : {A B : Type 0} (held : Option (List ℕ) → Option (List ℕ)) (words : List (String Global)) (f : Fault) (status : ℕ)
-    → status ≡ status_of f → (Refuses held words f × A) ⊎ ((f ≡ fault.Common refusal.WriteFailed) × B) → status ≡ 1 → A × FindsNoOrder held words
-only_found held words f status is (inl h) one = (h.1, no_order held words f h.0 (sym is ∙ one))
-only_found held words f status is (inr h) one = absurd (let e : status_of f ≡ 3 = ap status_of h.0 in omega (arith, is, one, e))
+-- status 1 tells what was found
+pub found_by : (held : Option (List ℕ) → Option (List ℕ)) (words : List (String Global)) (f : Fault) (status : ℕ) → status ≡ status_of f → Refuses held words f → status ≡ 1 → FindsNoOrder held words
+found_by held words f status is h one = no_order held words f h (sym is ∙ one)
+
+-- and never that a write failed
+pub not_written : (f : Fault) (status : ℕ) → status ≡ status_of f → f ≡ fault.Common refusal.WriteFailed → status ≡ 1 → ⊥
+not_written f status is e one = let e : status_of f ≡ 3 = ap status_of e in omega (arith, is, one, e)
 
 -- a schedule that wasn't made
 pub not_made : (held : Option (List ℕ) → Option (List ℕ)) (settings scripts : List ℕ) (cause : DraftFault) → (cause ≡ draft.TooLong → RefusesLong held settings scripts) → RefusesMade held settings scripts (of_draft cause)

@@ -1,4 +1,3 @@
-use Rattle.std.proofs.Common.{◌≡◌}
 use Rattle.view_command.proofs.sight.sight_of.Goals as goal
 
 pub returns-in-Err-Unsound : goal.returns-in-Err-Unsound
