@@ -1,7 +1,7 @@
 // Cells from C or C++: an object behind a lock, and callers of it, by the static library libcells.a.
 //
-// `tools/library cells` builds the library over what `rt ci` left, at crates/cells/out/libcells.a. A program links it, and
-// behind it the kit's heap, liblibc_c.a in the folder c of the kit, which takes memory by malloc and gives it back by free:
+// `tools/develop/library cells` builds the library over what `rt ci` left, at crates/cells/out/libcells.a. A program links it,
+// and behind it the kit's heap, liblibc_c.a in the folder c of the kit, which takes memory by malloc and gives it back by free:
 //
 //     gcc -Iinclude examples/c_cells/c_cells.c crates/cells/out/libcells.a KIT/c/liblibc_c.a -pthread
 //

@@ -1,7 +1,7 @@
 /* Judging the text of a record, of either form, from C or C++, by the static library libjudge.a.
 
-   `tools/library judge` builds the library over what `rt ci` left, at crates/judge/out/libjudge.a. A program links it, and
-   behind it the kit's heap, liblibc_c.a in the folder c of the kit, which takes memory by malloc and gives it back by free:
+   `tools/develop/library judge` builds the library over what `rt ci` left, at crates/judge/out/libjudge.a. A program links it,
+   and behind it the kit's heap, liblibc_c.a in the folder c of the kit, which takes memory by malloc and gives it back by free:
 
        gcc -Iinclude examples/judge/judge.c crates/judge/out/libjudge.a KIT/c/liblibc_c.a -pthread
 
@@ -18,7 +18,7 @@
 
    The functions keep nothing between two calls, so several threads may call them at once. A call takes at most 2,560 bytes of
    stack, and of memory at one time at most 72 bytes for each byte of the text, and 300,000 more. All of it is given back before
-   the call returns. tools/metal and tools/judge_c hold the calls to these figures, which aren't proved. */
+   the call returns. tools/check/metal and tools/check/judge_c hold the calls to these figures, which aren't proved. */
 #ifndef MC2_JUDGE_H
 #define MC2_JUDGE_H
 
@@ -77,7 +77,7 @@ void mc2_merge(const uint8_t *text, size_t length, struct mc2_turn *room, size_t
 }
 #endif
 
-/* What crosses lies as the library has it. tools/judge_c compares its sources with this header, name by name. */
+/* What crosses lies as the library has it. tools/check/judge_c compares its sources with this header, name by name. */
 #ifdef __cplusplus
 #define MC2_HAS(type, field, place) static_assert(offsetof(struct type, field) == (place), "another layout")
 #define MC2_HAS_SIZE(type, size) static_assert(sizeof(struct type) == (size), "another size")

@@ -142,7 +142,7 @@ vectors:
     .endr
 
 /* Keeps all registers of the interrupted code. Those of SSE are among them, as the handler calls the library too, whose code uses
-   them unless tools/kernel_library has built it. */
+   them unless tools/develop/kernel_library has built it. */
 interrupted:
     push %rax
     push %rcx

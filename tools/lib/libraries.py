@@ -1,0 +1,68 @@
+"""Builds the static libraries that programs in C link, over what `rt ci` left of the crates below them."""
+import shutil
+from pathlib import Path
+
+from common import ROOT, Stop, run
+
+
+def kit():
+    """The folder of the kit, whose command rt is."""
+    return Path(shutil.which("rt")).resolve().parent.parent
+
+
+def heap():
+    """The library of the kit's heap."""
+    path = kit() / "c/liblibc_c.a"
+    if not path.exists():
+        raise Stop(f"the kit has no {path}", 2)
+    return path
+
+
+def stands_on(top=ROOT):
+    """The crates that each crate of crates.txt names, of this repository or of the kit."""
+    lines = (line.partition("#")[0].partition(":") for line in (top / "crates.txt").read_text().splitlines())
+    return {head.split()[0]: names.split() for head, colon, names in lines if colon}
+
+
+def words_of(crate):
+    """The words by which the kit's compiler reads the crate, over the crates below it."""
+    crates = stands_on()
+    below = [*crates[crate]]
+    for name in below:
+        below += [it for it in crates.get(name, []) if it not in below]
+    own = {it: ROOT / f"crates/{it}/out/rlib" for it in below if it in crates}
+    words = ["--crate-name", crate, "src/lib.rt", "--extern", f"std={kit()}/rlibs/std.rlib", "-L", f"dependency={kit()}/rlibs"]
+    for name in crates[crate]:
+        words += ["--extern", f"{name}={own.get(name, kit() / 'rlibs')}/{name}.rlib"]
+    for name, folder in own.items():
+        words += ["-L", f"dependency={folder}", "--links", f"{name}="]
+    words += ["--links", f"{crate}=", "--crate-type", "staticlib"]
+    return [*words, "--antt-project", kit() / "rattle/logic/antt-project.json"]
+
+
+def build_library(crate, toolchain=None, library=None):
+    """Builds the crate's library over the crates below it, which it doesn't prove once more, and returns its path. The crate
+    itself is proved, unless the compiler takes what is left of its last proof, as nothing that it has read has changed."""
+    folder = ROOT / "crates" / crate
+    library = library or folder / f"out/lib{crate}.a"
+    checked = folder / f"out/{crate}.checked"
+    words = words_of(crate)
+    build = [kit() / "bin/rattle", "build", *words, "--crate-checked", checked, "--toolchain", toolchain or kit() / "toolchain"]
+    build += ["-o", library]
+    library.parent.mkdir(parents=True, exist_ok=True)
+    if checked.exists() and run(build, wanted=None, cwd=folder).returncode == 0:
+        return library
+    proof = ["--jobs", "2", "--logic-built", kit() / "logic_built", "-o", checked]
+    run([kit() / "bin/rattle", "check", *words, *proof], cwd=folder)
+    run(build, cwd=folder)
+    return library
+
+
+def kernel_toolchain(folder):
+    """Makes a toolchain in the folder, which is the kit's but for its clang: that is tools/lib/kernel_clang."""
+    (folder / "bin").mkdir(parents=True)
+    (folder / "kit").symlink_to(kit() / "toolchain")
+    (folder / "lib").symlink_to(kit() / "toolchain/lib")
+    for program in (kit() / "toolchain/bin").iterdir():
+        (folder / "bin" / program.name).symlink_to(ROOT / "tools/lib/kernel_clang" if program.name == "clang" else program)
+    return folder
