@@ -11,6 +11,10 @@
 // that takes no memory, and no step can be read. Such a log has room for 2^64 - 1 events, which last for 584 years at one in a
 // nanosecond. So take 0 for a kernel that calls without end and needs no record; all other calls are as ever.
 //
+// A cell that was closed can go on. mc2_cell_reopen opens a cell of any lock and any count of CPUs on its object, and the log goes
+// on: its room is what was left. The way out of a full log is to close the cell, to read the log, and to let mc2_cell_forget give
+// its memory back. Then the cell is reopened, and its log isn't kept any more.
+//
 // A cell has 1 to 64 CPUs, and each may have a caller. A caller gets the object step by step, each step one operation on one
 // word of the lock, and none waits: the loops around the steps are the inline functions below, or yours. What is proved of each
 // function of the library is told in crates/cells/README.md; nothing of the inline functions is.
@@ -124,12 +128,21 @@ uint32_t mc2_caller_apply(struct mc2_caller *caller, const struct mc2_call *call
 // any other caller, and what is no open cell.
 uint32_t mc2_cell_take_back(struct mc2_cell *cell, struct mc2_caller *caller);
 
-// Ends the cell, once all callers were taken back; before that it refuses. What is left is the log.
+// Ends the cell, once all callers were taken back; before that it refuses. What is left is the object with its log.
 uint32_t mc2_cell_close(struct mc2_cell *cell);
 
 // The step at that place of an event of the log of a cell that was closed, both from 0: an event has a step for each of its 1
 // to 8 calls. It is written where it is there, and else MC2_CELL_NOT_THERE is told. A log that isn't kept has no step there.
 uint32_t mc2_cell_step(struct mc2_cell *cell, size_t event, size_t step, struct mc2_logged_step *told);
+
+// Opens a cell on the object of a cell that was closed, in its place: behind that lock, a number of mc2_lock, and of 1 to 64 CPUs.
+// The log goes on. It refuses what is no cell that was closed. After MC2_CELL_BAD_OPENING, of the lock or the CPUs, and after
+// MC2_CELL_NO_MEMORY the cell is closed as before, with its object and its log.
+uint32_t mc2_cell_reopen(struct mc2_cell *cell, uint32_t lock, uint32_t cpus);
+
+// Gives back the memory of the log of a cell that was closed. From then on its log isn't kept, and has room for all further
+// events; no step of it can be read. It refuses what is no cell that was closed.
+uint32_t mc2_cell_forget(struct mc2_cell *cell);
 
 #ifdef __cplusplus
 }

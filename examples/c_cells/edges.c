@@ -1,8 +1,8 @@
 /* use: edges ticket|mcs
 
    Opens cells for 1, 2, 9 and 64 CPUs, opens wrongly in each way, asks for each thing where it doesn't fit, frees a caller that has
-   the object, and has memory refused in turn. Prints how many answers it has looked at. The heap of the library is the one below,
-   which counts what is taken.
+   the object, and has memory refused in turn, for cells that are opened and for cells that go on. Prints how many answers it has
+   looked at. The heap of the library is the one below, which counts what is taken.
 
    Status: 0; 1 if an answer is another than the header says, or if memory is lost; 2 for wrong words. */
 #include "mc2_cells.h"
@@ -92,6 +92,8 @@ static void live(uint32_t events, uint32_t cpus) {
     struct mc2_caller callers[MC2_MOST_CPUS], more = {NULL};
     must(mc2_handle_open(&cell, &opening), MC2_CELL_DONE, "opening");
     must(mc2_handle_open(&cell, &opening), MC2_CELL_REFUSED, "opening what is open");
+    must(mc2_cell_reopen(&cell, lock, cpus), MC2_CELL_REFUSED, "reopening what is open");
+    must(mc2_cell_forget(&cell), MC2_CELL_REFUSED, "forgetting the log of what is open");
     open_all(&cell, callers, cpus);
     must(mc2_caller_open(&cell, &more), MC2_CELL_REFUSED, "a caller too many");
     must(mc2_caller_free(&more), MC2_CELL_DONE, "freeing what has nothing");
@@ -213,6 +215,45 @@ static long refused_openings(uint32_t events, uint32_t cpus) {
     return at - 1;
 }
 
+static long refused_reopenings(uint32_t events, uint32_t cpus) {
+    struct mc2_cell_opening opening = opening_of(events, 1);
+    struct mc2_cell cell = new_cell();
+    struct mc2_caller callers[MC2_MOST_CPUS];
+    struct mc2_logged_step step = {0};
+    uint32_t told = MC2_CELL_NO_MEMORY;
+    long at = 0;
+    must(mc2_handle_open(&cell, &opening), MC2_CELL_DONE, "opening");
+    open_all(&cell, callers, 1);
+    must(call(&callers[0], MC2_ENQ, 3), MC2_CELL_DONE, "a call");
+    take_all_back(&cell, callers, 1);
+    must(mc2_cell_close(&cell), MC2_CELL_DONE, "closing");
+    must(mc2_cell_reopen(&cell, 2, cpus), MC2_CELL_BAD_OPENING, "reopening behind no lock");
+    must(mc2_cell_reopen(&cell, lock, 0), MC2_CELL_BAD_OPENING, "reopening without CPUs");
+    must(mc2_cell_reopen(&cell, lock, 65), MC2_CELL_BAD_OPENING, "reopening with too many CPUs");
+    must(mc2_handle_open(&cell, &opening), MC2_CELL_REFUSED, "opening in a cell that was closed");
+    for (long before = blocks; told == MC2_CELL_NO_MEMORY; at++) {
+        left = at;
+        told = mc2_cell_reopen(&cell, !lock, cpus);
+        left = MANY;
+        must_be(told != MC2_CELL_NO_MEMORY || blocks == before, "no memory is lost");
+        if (told == MC2_CELL_NO_MEMORY)
+            must(mc2_cell_step(&cell, 0, 0, &step), events > 0 ? MC2_CELL_DONE : MC2_CELL_NOT_THERE, "the log is there");
+    }
+    must(told, MC2_CELL_DONE, "reopening with memory");
+    open_all(&cell, callers, cpus);
+    for (uint32_t cpu = 0; cpu < cpus; cpu++)
+        must(call(&callers[cpu], MC2_LEN, 0), MC2_CELL_DONE, "a call of a cell that goes on");
+    take_all_back(&cell, callers, cpus);
+    must(mc2_cell_close(&cell), MC2_CELL_DONE, "closing again");
+    must(mc2_cell_step(&cell, cpus, 0, &step), events > 0 ? MC2_CELL_DONE : MC2_CELL_NOT_THERE, "the last step");
+    must_be(events == 0 || step.step.number == 1, "the thread of the first life");
+    must(mc2_cell_forget(&cell), MC2_CELL_DONE, "forgetting the log");
+    must(mc2_cell_step(&cell, 0, 0, &step), MC2_CELL_NOT_THERE, "a step that was forgotten");
+    must(mc2_cell_free(&cell), MC2_CELL_DONE, "freeing the cell");
+    must_be(blocks == 0, "all memory is given back");
+    return at - 1;
+}
+
 int main(int count, char **words) {
     static const uint32_t cpus[] = {1, 2, 9, 64};
     if (count != 2 || (strcmp(words[1], "ticket") != 0 && strcmp(words[1], "mcs") != 0)) {
@@ -225,6 +266,7 @@ int main(int count, char **words) {
         for (uint32_t events = 0; events <= 100; events += 100) {
             live(events, cpus[at]);
             refused += refused_openings(events, cpus[at]);
+            refused += refused_reopenings(events, cpus[at]);
         }
     all_wrong();
     busy_caller();

@@ -18,24 +18,24 @@ use Rattle.guarded_cell.specs.Kinds.{IsPassOf}
 use Rattle.cells.specs.Positions.{fixed_of}
 use Rattle.cells.specs.OpenCells.{IsHome, AreHome, OwnsFirst, IsBack}
 
-get_front : {A : Type 0} (xs ys : List A) (k : ℕ) (x : A) → slice_get xs k ≡ Some x → slice_get (xs ++ ys) k ≡ Some x
+pub get_front : {A : Type 0} (xs ys : List A) (k : ℕ) (x : A) → slice_get xs k ≡ Some x → slice_get (xs ++ ys) k ≡ Some x
 get_front [] ys k x e = cc
 get_front (z ∷ zs) ys zero x e = e
 get_front (z ∷ zs) ys (suc k) x e = get_front zs ys k x e
 
-get_last : {A : Type 0} (xs : List A) (x : A) → slice_get (xs ++ x ∷ []) (length xs) ≡ Some x
+pub get_last : {A : Type 0} (xs : List A) (x : A) → slice_get (xs ++ x ∷ []) (length xs) ≡ Some x
 get_last [] x = refl
 get_last (z ∷ zs) x = get_last zs x
 
-or_left : (a b : Bool) → a ≡ true → (a || b) ≡ true
+pub or_left : (a b : Bool) → a ≡ true → (a || b) ≡ true
 or_left true b e = refl
 or_left false b e = absurd (cc)
 
-or_right : (a b : Bool) → b ≡ true → (a || b) ≡ true
+pub or_right : (a b : Bool) → b ≡ true → (a || b) ≡ true
 or_right true b e = refl
 or_right false b e = e
 
-same_number : (a b : ℕ) → a ≡ b → (a == b) ≡ true
+pub same_number : (a b : ℕ) → a ≡ b → (a == b) ≡ true
 same_number = eq-eqb
 
 module _ {O P C R : Type 0} {g : Ghosts O P C R} {call_eq : Eq C} {call_default : Default C} {reply_eq : Eq R} {reply_default : Default R} where

@@ -1,3 +1,4 @@
 pub mod AsBox
 pub mod Homes
 pub mod Sends
+pub mod JoinedPasses

@@ -13,6 +13,7 @@ use Rattle.cells.specs.declared.ends.NotClosed.{NotClosed}
 use Rattle.cells.specs.declared.ends.NotClosed.TheVariants.{NotAllBack, Shared}
 use Rattle.cells.specs.Bodies.{KernelCaller}
 use Rattle.cells.specs.declared.logged_step.LoggedStep.{LoggedStep}
+use Rattle.cells.specs.Reopenings.{IsReopenedBy, IsForgotten}
 use Rattle.cells.specs.CellBodies.{IsOpenedBy, IsDealtBy, IsOwn, IsGivenBackTo, IsClosedBy, step_of, may_be_freed}
 
 abbrev pub told_opening : Result (Unit {0}) NotOpened → ℕ
@@ -23,6 +24,10 @@ told_opening (Err BadOpening) = BAD_OPENING
 
 abbrev pub IsOpenTold : Body → Opening → ℕ → Body → Type 0
 IsOpenTold before o n after = (told : Result (Unit {0}) NotOpened) × (n ≡ told_opening told) × IsOpenedBy before o told after
+
+-- a cell that has ended goes on
+abbrev pub IsReopenTold : Body → ℕ → ℕ → ℕ → Body → Type 0
+IsReopenTold before lock cpus n after = (told : Result (Unit {0}) NotOpened) × (n ≡ told_opening told) × IsReopenedBy before lock cpus told after
 
 -- what a caller's handle has
 abbrev pub body_from : Option KernelCaller → Body
@@ -70,13 +75,17 @@ told_closed (Err Shared) = BUSY
 abbrev pub IsCloseTold : Body → ℕ → Body → Type 0
 IsCloseTold before n after = (told : Result (Unit {0}) NotClosed) × (n ≡ told_closed told) × IsClosedBy before told after
 
--- a handle that is given to be freed is refused exactly if it has a caller that isn't idle
-abbrev pub told_freed : Bool → ℕ
-told_freed true = DONE
-told_freed false = REFUSED
+abbrev pub told_done : Bool → ℕ
+told_done true = DONE
+told_done false = REFUSED
 
+-- whether a log was forgotten
+abbrev pub IsForgetTold : Body → ℕ → Body → Type 0
+IsForgetTold before n after = (told : Bool) × (n ≡ told_done told) × IsForgotten before told after
+
+-- a handle that is given to be freed is refused exactly if it has a caller that isn't idle
 abbrev pub IsFreeTold : Body → ℕ → Type 0
-IsFreeTold body n = n ≡ told_freed (may_be_freed body)
+IsFreeTold body n = n ≡ told_done (may_be_freed body)
 
 -- what is told of a step, which is written where there is one
 abbrev pub told_step : LoggedStep → Option LoggedStep → ℕ × LoggedStep

@@ -4,13 +4,16 @@ pub mod Tries
 pub mod Applies
 pub mod Facts
 pub mod OpenCells
+pub mod Unused
 pub mod Ends
 pub mod Handles
 pub mod Bodies
 pub mod Coding
 pub mod Told
 pub mod Exports
+pub mod NewCells
 pub mod Openings
 pub mod LoggedSteps
 pub mod CellBodies
+pub mod Reopenings
 pub mod CellExports

@@ -1,14 +1,12 @@
 -- What C opens a cell with, by its numbers.
 use Rattle.std.specs.declared.cmp.PartialEq.{Ghosts as Eq}
 use Rattle.std.specs.declared.default.Default.{Ghosts as Default}
-use Rattle.std.specs.Prelude.{◌≡◌, ◌==◌, ◌<◌, ◌^◌, ◌-◌, ◌⊎◌, ℕ, Bool, false, [], ◌∷◌, Option, Some, None, slice_get, vec_len, if◌then◌else◌}
+use Rattle.std.specs.Prelude.{◌≡◌, ◌==◌, ◌<◌, ◌^◌, ◌-◌, ◌⊎◌, ◌||◌, nat_lt, ℕ, Bool, false, [], ◌∷◌, Option, Some, None, slice_get, if◌then◌else◌}
 use Rattle.event_log.specs.declared.logged.TheConstants.{MOST_EVENTS}
 use Rattle.event_log.specs.History.{opened_history}
 use Rattle.sound_run.specs.declared.limits.TheConstants.{MOST_CPUS}
 use Rattle.sound_run.specs.declared.lock_kind.LockKind.{LockKind}
 use Rattle.sound_run.specs.declared.lock_kind.LockKind.TheVariants.{Ticket, Mcs}
-use Rattle.word_rule.specs.Cell.{EachAt, first_pass}
-use Rattle.word_rule.specs.Passes.{view_of_pass}
 use Rattle.scripts.specs.declared.objects.kernel_call.KParams.{KParams}
 use Rattle.scripts.specs.declared.objects.kernel_call.KParams.TheVariants.{Queue, Pool, Console, Sched}
 use Rattle.scripts.specs.declared.objects.kernel_call.KCall.{KCall}
@@ -16,17 +14,23 @@ use Rattle.scripts.specs.declared.objects.kernel_call.KReply.{KReply}
 use Rattle.scripts.specs.declared.objects.kernel_object.KernelObject.{KernelObject}
 use Rattle.scripts.specs.contracts.objects.kernel_object.KernelObjectSeqObject.TheImpl.{ghosts}
 use Rattle.scripts.specs.Kernel.{kernel_opening, kernel_in_range}
-use Rattle.guarded_cell.specs.Kinds.{kind_of}
-use Rattle.std_alloc.specs.Arc.{arc_value}
 use Rattle.cells.specs.declared.opening.Opening.{Opening}
 use Rattle.cells.specs.declared.open_cell.OpenCell.{OpenCell}
+use Rattle.cells.specs.NewCells.{IsOpenedOn}
 
 -- the parameters of an object of that kind, and the lock
 abbrev pub params_of : Opening → Option KParams
 params_of o = slice_get (Queue o.size ∷ Pool (record { pages = o.size; quotas = o.quotas }) ∷ Console o.size ∷ Sched (record { threads = o.size; channels = o.channels }) ∷ []) o.kind
 
+abbrev pub lock_numbered : ℕ → Option LockKind
+lock_numbered n = slice_get (Ticket ∷ Mcs ∷ []) n
+
 abbrev pub lock_of : Opening → Option LockKind
-lock_of o = slice_get (Ticket ∷ Mcs ∷ []) o.lock
+lock_of o = lock_numbered o.lock
+
+-- so many CPUs, if a cell can have them
+abbrev pub cpus_numbered : ℕ → Option ℕ
+cpus_numbered n = if (n == 0) || nat_lt MOST_CPUS n then None else Some n
 
 -- the most events of the log; of one that isn't kept in memory, which is asked for by 0, 2^64 - 1
 abbrev pub limit_of : ℕ → ℕ
@@ -47,9 +51,4 @@ module _ {call_eq : Eq KCall} {call_default : Default KCall} {reply_eq : Eq KRep
     pub is_params : params_of o ≡ Some params
     pub lock : LockKind
     pub is_lock : lock_of o ≡ Some lock
-    pub kind : kind_of (arc_value c.cell) ≡ lock
-    pub count : vec_len c.passes ≡ o.cpus
-    pub cpus : c.cpus ≡ o.cpus
-    pub back : c.back ≡ 0
-    pub home : c.home ≡ None
-    pub passes : EachAt (λ k p. view_of_pass p ≡ first_pass lock 0 (opened_history params (limit_of o.events) (kernel_opening params)) o.cpus k) c.passes.items
+    pub cell : IsOpenedOn lock o.cpus (opened_history params (limit_of o.events) (kernel_opening params)) c

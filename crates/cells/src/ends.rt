@@ -1,14 +1,13 @@
 //! A cell is opened, its passes are given out and come back, and it ends.
 
-ghost use Rattle.std.specs.Prelude.{◌≡◌, ◌≤◌, ◌<◌, ◌+◌, IfSome, None, vec_len};
+ghost use Rattle.std.specs.Prelude.{◌≡◌, ◌≤◌, ◌<◌, ◌+◌, IfOk, IfErr};
 ghost use Rattle.std_alloc.specs.Arc.{arc_value};
 ghost use Rattle.sound_run.specs.declared.limits.TheConstants.{MOST_CPUS};
-ghost use Rattle.word_rule.specs.Cell.{EachAt, first_pass};
-ghost use Rattle.word_rule.specs.Passes.{view_of_pass};
-ghost use Rattle.guarded_cell.specs.Kinds.{kind_of};
 ghost use Rattle.cells.specs.OpenCells.{IsHome, TakesIn};
+ghost use Rattle.cells.specs.NewCells.{IsOpenedOn};
 ghost use Rattle.cells.specs.Ends.{IsDealt, IsGivenBack, IsClosed};
 
+use crate::unused::end_unused;
 use crate::{Caller, OpenCell, Position};
 use event_log::{Logged, SeqObject};
 use guarded_cell::AnyCell;
@@ -36,29 +35,33 @@ pub enum NotClosed {
 }
 
 impl<O: SeqObject> OpenCell<O> {
-    /// A new cell of the kind, of 1 to 64 CPUs. There is none if memory is refused.
-    pub fn open(alloc: Global, kind: LockKind, logged: Logged<O>, cpus: u8) -> Option<OpenCell<O>>
+    /// A new cell of the kind around the object, of 1 to 64 CPUs: the log goes on. If memory is refused the object comes back
+    /// as it was.
+    pub fn open(
+        alloc: Global,
+        kind: LockKind,
+        logged: Logged<O>,
+        cpus: u8,
+    ) -> Result<OpenCell<O>, Logged<O>>
         requires some { 0 < cpus }
         requires few { cpus ≤ MOST_CPUS }
-        ensures kind { IfSome result (λ c. kind_of (arc_value c.cell) ≡ kind) }
-        ensures count { IfSome result (λ c. vec_len c.passes ≡ cpus) }
-        ensures cpus { IfSome result (λ c. c.cpus ≡ cpus) }
-        ensures back { IfSome result (λ c. (c.back ≡ 0) × (c.home ≡ None)) }
-        ensures passes { IfSome result (λ c. EachAt (λ k p. view_of_pass p ≡ first_pass kind 0 logged cpus k) c.passes.items) }
+        ensures opened { IfOk result (λ c. IsOpenedOn kind cpus logged c) }
+        ensures unchanged { IfErr result (λ l. l ≡ logged) }
     {
-        let Ok((cell, passes)) = AnyCell::open(alloc, kind, logged, cpus) else {
-            return None;
-        };
-        let Ok(cell) = Arc::new(alloc, cell) else {
-            return None;
-        };
-        Some(OpenCell {
-            cell,
-            passes,
-            home: None,
-            back: 0,
-            cpus,
-        })
+        let _state = logged.state();
+        match AnyCell::open(alloc, kind, logged, cpus) {
+            Err((_, logged)) => Err(logged),
+            Ok((cell, passes)) => match Arc::new(alloc, cell) {
+                Err(refused) => Err(end_unused(refused.value, passes)),
+                Ok(cell) => Ok(OpenCell {
+                    cell,
+                    passes,
+                    home: None,
+                    back: 0,
+                    cpus,
+                }),
+            },
+        }
     }
 
     /// Gives out the pass of the greatest CPU that has no caller yet. There is none if all have one.

@@ -3,7 +3,7 @@
 ghost use Rattle.std.specs.Prelude.{◌≡◌, ◌↔◌};
 ghost use Rattle.cells.specs.Exports.{body_of};
 ghost use Rattle.cells.specs.CellBodies.{IsBadOpening};
-ghost use Rattle.cells.specs.CellExports.{IsOpenTold, IsDealTold, IsBackTold, IsCloseTold, IsFreeTold, IsStepTold, told_opening, owns_back};
+ghost use Rattle.cells.specs.CellExports.{IsOpenTold, IsReopenTold, IsForgetTold, IsDealTold, IsBackTold, IsCloseTold, IsFreeTold, IsStepTold, told_opening, owns_back};
 ghost use Rattle.cells.specs.declared.body.Body.TheVariants.{Empty};
 
 use crate::ends::{NotClosed, NotDealt};
@@ -153,6 +153,31 @@ pub extern "C" fn mc2_cell_close(cell: &mut Handle) -> u32
         Ok(()) => DONE,
         Err(NotClosed::NotAllBack) => REFUSED,
         Err(NotClosed::Shared) => BUSY,
+    }
+}
+
+/// Opens a cell of that lock and so many CPUs on the object of one that was closed. The log goes on.
+#[unsafe(no_mangle)]
+pub extern "C" fn mc2_cell_reopen(alloc: Global, cell: &mut Handle, lock: u32, cpus: u32) -> u32
+    ensures { IsReopenTold (body_of cell.old) lock cpus result (body_of cell.new) }
+{
+    let how = (lock, cpus);
+    told_opening(with_body(
+        cell,
+        how,
+        |body, (lock, cpus)| body.reopen(alloc, lock, cpus),
+    ))
+}
+
+/// From now on the log of a cell that was closed isn't kept, and has room for 2^64 - 1 events.
+#[unsafe(no_mangle)]
+pub extern "C" fn mc2_cell_forget(alloc: Global, cell: &mut Handle) -> u32
+    ensures { IsForgetTold (body_of cell.old) result (body_of cell.new) }
+{
+    if with_body(cell, (), |body, ()| body.forget(alloc)) {
+        DONE
+    } else {
+        REFUSED
     }
 }
 

@@ -17,8 +17,10 @@ mod opening;
 mod parts;
 mod position;
 mod progress;
+mod reopening;
 mod towards;
 mod tried;
+mod unused;
 
 pub use applied::apply;
 pub use back::leave;
@@ -28,8 +30,8 @@ pub use coding::{Answered, Asked};
 pub use exports::{mc2_caller_advance, mc2_caller_apply, mc2_caller_leave, mc2_caller_try};
 pub use handle::Handle;
 pub use handles::{
-    mc2_cell_close, mc2_cell_step, mc2_cell_take_back, mc2_handle_deal, mc2_handle_free,
-    mc2_handle_new, mc2_handle_open,
+    mc2_cell_close, mc2_cell_forget, mc2_cell_reopen, mc2_cell_step, mc2_cell_take_back,
+    mc2_handle_deal, mc2_handle_free, mc2_handle_new, mc2_handle_open,
 };
 pub use logged_step::LoggedStep;
 pub use open_cell::OpenCell;

@@ -4,7 +4,7 @@ ghost use Rattle.std.specs.Prelude.{◌≡◌, ◌<◌, ◌≤◌, ◌↔◌, �
 ghost use Rattle.sound_run.specs.declared.limits.TheConstants.{MOST_CPUS};
 ghost use Rattle.event_log.specs.History.{opened_history};
 ghost use Rattle.scripts.specs.Kernel.{kernel_in_range, kernel_opening};
-ghost use Rattle.cells.specs.Openings.{params_of, lock_of, limit_of, IsUnfit, IsOpened};
+ghost use Rattle.cells.specs.Openings.{params_of, lock_numbered, cpus_numbered, limit_of, IsUnfit, IsOpened};
 
 use crate::OpenCell;
 use event_log::{Logged, MOST_EVENTS, OpenFault};
@@ -31,7 +31,7 @@ pub struct Opening {
 /// Why no cell was opened.
 #[derive(Clone, Copy, Debug, PartialEq, Eq, Drop)]
 pub enum NotOpened {
-    /// The handle has something.
+    /// The handle has something, or, where a cell is to go on, no cell that has ended.
     NotEmpty,
     /// A number is none of those that fit.
     BadOpening,
@@ -57,12 +57,23 @@ fn params_of(opening: &Opening) -> Option<KParams>
     all.get(opening.kind as usize).copied()
 }
 
-fn lock_of(opening: &Opening) -> Option<LockKind>
-    ensures { result ≡ lock_of opening.now }
+/// The lock of that number.
+pub fn lock_numbered(number: u32) -> Option<LockKind>
+    ensures { result ≡ lock_numbered number }
 {
     [LockKind::Ticket, LockKind::Mcs]
-        .get(opening.lock as usize)
+        .get(number as usize)
         .copied()
+}
+
+/// So many CPUs, if a cell can have them.
+pub fn cpus_numbered(number: u32) -> Option<u8>
+    ensures { result ≡ cpus_numbered number }
+{
+    if number == 0 || number > MOST_CPUS as u32 {
+        return None;
+    }
+    Some(number as u8)
 }
 
 /// A new object with its log; with 0 events the log isn't kept in memory.
@@ -86,19 +97,22 @@ pub fn open_cell(alloc: Global, opening: &Opening) -> Result<OpenCell<KernelObje
     ensures judged { IsUnfit opening.now ↔ (result ≡ Err NotOpened.BadOpening) }
     ensures reason { IfErr result (λ why. (why ≡ NotOpened.BadOpening) ⊎ (why ≡ NotOpened.OutOfMemory)) }
 {
-    let Some(kind) = lock_of(opening) else {
+    let Some(kind) = lock_numbered(opening.lock) else {
         return Err(NotOpened::BadOpening);
     };
     let Some(params) = params_of(opening) else {
         return Err(NotOpened::BadOpening);
     };
-    if opening.cpus == 0 || opening.cpus > MOST_CPUS as u32 {
+    let Some(cpus) = cpus_numbered(opening.cpus) else {
         return Err(NotOpened::BadOpening);
-    }
+    };
     let logged = match open_object(alloc, params, opening.events) {
         Ok(logged) => logged,
         Err(OpenFault::BadLimit) => return Err(NotOpened::BadOpening),
         Err(OpenFault::OutOfMemory) => return Err(NotOpened::OutOfMemory),
     };
-    OpenCell::open(alloc, kind, logged, opening.cpus as u8).ok_or(NotOpened::OutOfMemory)
+    match OpenCell::open(alloc, kind, logged, cpus) {
+        Ok(cell) => Ok(cell),
+        Err(_) => Err(NotOpened::OutOfMemory),
+    }
 }
