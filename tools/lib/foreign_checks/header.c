@@ -11,7 +11,7 @@ static bool is_memory_refused;
 static void *malloc_or_not(size_t size) { return is_memory_refused ? NULL : malloc(size); }
 
 #define malloc malloc_or_not
-#include "../../include/mc2_record.h"
+#include "../../../include/mc2_record.h"
 #undef malloc
 
 #define CHECK(what) check(what, #what, __LINE__)

@@ -3,8 +3,8 @@
 // take and give blocks at once. It prints how much memory a cell takes, by its object and its events.
 //
 // The status is 0, or 1 at the first check that fails, which a line on standard error names.
-#include "../../include/mc2_cells.h"
-#include "../../include/mc2_heap.h"
+#include "../../../include/mc2_cells.h"
+#include "../../../include/mc2_heap.h"
 #include <pthread.h>
 
 enum { CPUS = 2, ROOM = 1 << 20, THREADS = 4, ROUNDS = 20000, HELD = 16 };
