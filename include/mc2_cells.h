@@ -15,9 +15,11 @@
 // on: its room is what was left. The way out of a full log is to close the cell, to read the log, and to let mc2_cell_forget give
 // its memory back. Then the cell is reopened, and its log isn't kept any more.
 //
-// A cell has 1 to 64 CPUs, and each may have a caller. A caller gets the object step by step, each step one operation on one
-// word of the lock, and none waits: the loops around the steps are the inline functions below, or yours. What is proved of each
-// function of the library is told in crates/cells/README.md; nothing of the inline functions is.
+// A cell has 1 to 64 CPUs, and each may have a caller. No function of the library waits. A whole call (mc2_caller_call) does as
+// many steps as need no waiting: it gets the object, does the call, and gives the object back; or it looks in vain, and is to be
+// called again. A single step (mc2_caller_advance) is one operation on one word of the lock. The loops around both are the inline
+// functions below, or yours. What is proved of each function of the library is in crates/cells/README.md; nothing is proved of the
+// inline functions.
 //
 // What you owe, and nobody checks:
 // - Cells are opened by mc2_cell_open, and callers by mc2_caller_open. What is in them is read and written by the library and
@@ -35,6 +37,13 @@
 // says what each owes, and what else a kernel has to know.
 //
 // All else is refused: what isn't at a place where a call fits is told MC2_CELL_REFUSED, and stays as it was.
+//
+// What you have to believe of the library, since no contract says it:
+// - mc2_handle_new writes a pointer to a handle that has nothing, and mc2_handle_free gives back what a handle has. Where that
+//   refuses, the caller stays as it was.
+// - MC2_CELL_NO_MEMORY comes only if memory was refused. A cell whose log isn't kept takes no memory for it.
+// - The kit's shared pointer, by which callers share a cell, refuses a caller or a closing only for the reasons told below.
+// - The structs and numbers of this header and of mc2_record.h are those of the library (crates/cells/specs/Coding.antt).
 #ifndef MC2_CELLS_H
 #define MC2_CELLS_H
 
@@ -46,6 +55,9 @@
 #ifndef MC2_STEP
 #define MC2_STEP(call) (call)
 #endif
+
+// What is called seldom, and so isn't put in the place of its call.
+#define MC2_SELDOM __attribute__((noinline, cold, unused)) static
 
 #ifdef __cplusplus
 extern "C" {
@@ -73,7 +85,9 @@ enum mc2_cell_told {
     MC2_CELL_DONE = 7, MC2_CELL_FULL = 8, MC2_CELL_NOT_THERE = 9,
     // Of an opening: memory was refused; or a number is none of those that mc2_object names, or there aren't 1 to 64 CPUs, or
     // there are more than 65,536 events. Nothing was done then.
-    MC2_CELL_NO_MEMORY = 10, MC2_CELL_BAD_OPENING = 11
+    MC2_CELL_NO_MEMORY = 10, MC2_CELL_BAD_OPENING = 11,
+    // Of a whole call: it was done, or the log was full; but the object isn't given back yet.
+    MC2_CELL_DONE_KEPT = 12, MC2_CELL_FULL_KEPT = 13
 };
 
 // What a cell is opened with: numbers of mc2_lock and mc2_kind, the most events of its log or 0, the CPUs, and the size, the
@@ -85,6 +99,17 @@ struct mc2_cell_opening {
 
 // A reply: one of mc2_reply_word, and its number, or 0.
 struct mc2_reply { uint32_t word, number; };
+
+// Up to 8 calls, and the replies to them.
+struct mc2_batch {
+    uint32_t count;
+    struct mc2_call calls[MC2_MOST_CALLS];
+};
+
+struct mc2_replies {
+    uint32_t count;
+    struct mc2_reply replies[MC2_MOST_CALLS];
+};
 
 // A step of a log: the CPU whose event it is in, the call, and the reply.
 struct mc2_logged_step {
@@ -123,6 +148,25 @@ uint32_t mc2_caller_try(struct mc2_caller *caller);
 // Does the call as one event of the log, by a caller that has the object. The reply is written where that is done. It refuses a
 // caller that hasn't the object, and what is no caller.
 uint32_t mc2_caller_apply(struct mc2_caller *caller, const struct mc2_call *call, struct mc2_reply *reply);
+
+// A whole call, as far as it comes without waiting: the object, the call as one event of the log, and the object back. By what it
+// reports:
+// MC2_CELL_DONE, MC2_CELL_FULL            the caller is idle. Where it is done, the reply is written.
+// MC2_CELL_LOOKED                         the caller is in line, and nothing was done to the object: pause, and call again.
+// MC2_CELL_DONE_KEPT, MC2_CELL_FULL_KEPT  the same as without KEPT, but the object is to be given back, by mc2_release or steps.
+// MC2_CELL_NOT_THERE                      there is no such call, and nothing was done. A caller in line stays there.
+// It looks once at most, and each look is added to `looks`. It refuses a caller that has the object, one that single steps have
+// left before its first look, and what is no caller.
+uint32_t mc2_caller_call(struct mc2_caller *caller, const struct mc2_call *call, struct mc2_reply *reply, uint64_t *looks);
+
+// The same of 1 to 8 calls, which are one event: up to and with the first whose reply refuses it. The replies are written where
+// that is done, and how many there are. It also refuses a batch of no call or of more than 8. MC2_CELL_NOT_THERE: one of its calls
+// isn't there, and nothing was done.
+uint32_t mc2_caller_batch(struct mc2_caller *caller, const struct mc2_batch *batch, struct mc2_replies *replies, uint64_t *looks);
+
+// A whole call by a try: if another has the object or is in line for it, MC2_CELL_BUSY, and nothing was done. Else as
+// mc2_caller_call, by at most one look. It refuses a caller that isn't idle, and what is no caller.
+uint32_t mc2_caller_try_call(struct mc2_caller *caller, const struct mc2_call *call, struct mc2_reply *reply);
 
 // Takes an idle caller back, whose CPU has to be the least that wasn't taken back yet. The caller has nothing then. It refuses
 // any other caller, and what is no open cell.
@@ -209,15 +253,59 @@ static inline uint32_t mc2_release(struct mc2_caller *caller) {
     }
 }
 
-// Waits for the object, does the call, and gives the object back: MC2_CELL_DONE, or why it wasn't done.
+// Gives back the object if a whole call has kept it, and returns what that call was told without it.
+static inline uint32_t mc2_end_call(struct mc2_caller *caller, uint32_t told) {
+    if (told < MC2_CELL_DONE_KEPT)
+        return told;
+    uint32_t left = mc2_release(caller);
+    return left == MC2_CELL_LEFT ? told - (MC2_CELL_DONE_KEPT - MC2_CELL_DONE) : left;
+}
+
+// Goes on with a whole call, which has reported that: waits in line while it looks in vain, and gives back what it has kept.
+MC2_SELDOM uint32_t mc2_call_on(struct mc2_caller *caller, const struct mc2_call *call, struct mc2_reply *reply, uint64_t *looks,
+                                uint32_t told) {
+    uint64_t vain = 0;
+    while (told == MC2_CELL_LOOKED) {
+        mc2_rest(caller->resting, ++vain);
+        told = MC2_STEP(mc2_caller_call(caller, call, reply, looks));
+    }
+    mc2_rise(caller->resting, vain);
+    return mc2_end_call(caller, told);
+}
+
+MC2_SELDOM uint32_t mc2_batch_on(struct mc2_caller *caller, const struct mc2_batch *batch, struct mc2_replies *replies,
+                                 uint64_t *looks, uint32_t told) {
+    uint64_t vain = 0;
+    while (told == MC2_CELL_LOOKED) {
+        mc2_rest(caller->resting, ++vain);
+        told = MC2_STEP(mc2_caller_batch(caller, batch, replies, looks));
+    }
+    mc2_rise(caller->resting, vain);
+    return mc2_end_call(caller, told);
+}
+
+// Waits for the object, does the call, and gives the object back: MC2_CELL_DONE, or why it wasn't done. It counts the looks.
 static inline uint32_t mc2_cell_call(struct mc2_caller *caller, const struct mc2_call *call, struct mc2_reply *reply,
                                      uint64_t *looks) {
-    uint32_t got = mc2_acquire(caller, looks);
-    if (got != MC2_CELL_ENTERED && got != MC2_CELL_FOUND)
-        return got;
-    uint32_t told = MC2_STEP(mc2_caller_apply(caller, call, reply));
-    uint32_t left = mc2_release(caller);
-    return left == MC2_CELL_LEFT ? told : left;
+    *looks = 0;
+    mc2_stay_outside(caller->resting);
+    uint32_t told = MC2_STEP(mc2_caller_call(caller, call, reply, looks));
+    return told == MC2_CELL_DONE ? told : mc2_call_on(caller, call, reply, looks, told);
+}
+
+// The same of 1 to 8 calls as one event.
+static inline uint32_t mc2_cell_batch(struct mc2_caller *caller, const struct mc2_batch *batch, struct mc2_replies *replies,
+                                      uint64_t *looks) {
+    *looks = 0;
+    mc2_stay_outside(caller->resting);
+    uint32_t told = MC2_STEP(mc2_caller_batch(caller, batch, replies, looks));
+    return told == MC2_CELL_DONE ? told : mc2_batch_on(caller, batch, replies, looks, told);
+}
+
+// The same of a call if nobody has the object or is in line for it, else MC2_CELL_BUSY. It doesn't wait for the object; giving an
+// MCS lock back may wait until a caller that has just come has linked itself.
+static inline uint32_t mc2_cell_try_call(struct mc2_caller *caller, const struct mc2_call *call, struct mc2_reply *reply) {
+    return mc2_end_call(caller, MC2_STEP(mc2_caller_try_call(caller, call, reply)));
 }
 
 #endif

@@ -79,10 +79,22 @@ class caller {
         return own_.own ? made(MC2_STEP(mc2_caller_try(&own_)), &looks) : std::nullopt;
     }
 
-    // Waits for the object, does the call, and gives the object back.
-    expected<mc2_reply> call(const mc2_call &asked) {
-        std::optional<hold> held = acquire();
-        return held ? held->call(asked) : MC2_CELL_REFUSED;
+    // Waits for the object, does the call, and gives the object back. The looks are written if they are asked for.
+    expected<mc2_reply> call(const mc2_call &asked, uint64_t *looks = nullptr) {
+        mc2_reply reply = {};
+        return own_.own ? told(mc2_cell_call(&own_, &asked, &reply, looks ? looks : &looks_), reply) : MC2_CELL_REFUSED;
+    }
+
+    // The same of 1 to 8 calls, which are one event: up to and with the first whose reply refuses it.
+    expected<mc2_replies> batch(const mc2_batch &asked, uint64_t *looks = nullptr) {
+        mc2_replies replies = {};
+        return own_.own ? told(mc2_cell_batch(&own_, &asked, &replies, looks ? looks : &looks_), replies) : MC2_CELL_REFUSED;
+    }
+
+    // The call, if nobody has the object or is in line for it, and else MC2_CELL_BUSY.
+    expected<mc2_reply> try_call(const mc2_call &asked) {
+        mc2_reply reply = {};
+        return own_.own ? told(mc2_cell_try_call(&own_, &asked, &reply), reply) : MC2_CELL_REFUSED;
     }
 
   private:
@@ -92,7 +104,11 @@ class caller {
         bool is_held = told == MC2_CELL_ENTERED || told == MC2_CELL_FOUND;
         return is_held ? std::optional<hold>(hold(&own_, *looks)) : std::nullopt;
     }
+    template <typename Value> static expected<Value> told(uint32_t told, const Value &value) {
+        return told == MC2_CELL_DONE ? expected<Value>(value) : static_cast<mc2_cell_told>(told);
+    }
     mc2_caller own_;
+    uint64_t looks_ = 0;
 };
 
 // An object behind a lock.

@@ -1,5 +1,5 @@
 // How callers of a cell wait, from C or C++: the loops of mc2_cells.h call what is here. It is the waiting of the locks in Rust
-// (crates/word_rule/src/sleepers.rt). Nothing here is proved.
+// (crates/word_rule/src/resting.rt). Nothing here is proved.
 //
 // A line in order of arrival gets on only as fast as each in it gets a processor. So there shouldn't be more in line than there
 // are processors. Who has looked in vain for long naps between two looks, which shows that there are; and who comes meanwhile
@@ -50,16 +50,22 @@ static inline void mc2_pause(uint64_t looks) {
     }
 }
 
-// What a caller does before it arrives in line: while somebody naps there, it stays outside for one nap.
-static inline void mc2_stay_outside(struct mc2_resting *resting) {
 #ifdef MC2_NAP
-    if ((uint32_t)__atomic_load_n(&resting->word, __ATOMIC_RELAXED) == 0)
-        return;
+// Stays outside for one nap.
+__attribute__((noinline, cold, unused)) static void mc2_nap_outside(struct mc2_resting *resting) {
     const uint64_t outside = (uint64_t)1 << 32;
     uint32_t others = (uint32_t)(__atomic_fetch_add(&resting->word, outside, __ATOMIC_RELAXED) / outside);
     others = others > MC2_MOST_OTHERS ? (uint32_t)MC2_MOST_OTHERS : others;
     MC2_NAP(MC2_STAY + MC2_STAY_LONGER * others);
     __atomic_fetch_sub(&resting->word, outside, __ATOMIC_RELAXED);
+}
+#endif
+
+// What a caller does before it arrives in line: while somebody naps there, it stays outside for one nap.
+static inline void mc2_stay_outside(struct mc2_resting *resting) {
+#ifdef MC2_NAP
+    if ((uint32_t)__atomic_load_n(&resting->word, __ATOMIC_RELAXED) != 0)
+        mc2_nap_outside(resting);
 #else
     (void)resting;
 #endif

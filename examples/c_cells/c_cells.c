@@ -1,8 +1,8 @@
 /* use: c_cells ticket|mcs queue|pool|console|sched [THREADS [CALLS]]
 
-   THREADS threads, 8 if none are named, each a caller of one cell, call its object CALLS times each, 10,000 if none are named;
-   one call of eight is a try, which is followed by a call that waits where the object was busy. Prints the record, which
-   `mc2 audit` judges.
+   THREADS threads, 8 if none are named, each a caller of one cell, call its object CALLS times each, 10,000 if none are named. In
+   turn these are whole calls, a call by single steps, a try by single steps, a whole call by a try, and batches of 1 to 8 calls; a
+   try that finds the object busy is followed by a call that waits. Prints the record, which `mc2 audit` judges.
 
    Status: 0; 1 if a call is told what it can't be; 2 for wrong words; 3 if memory or a thread is refused. */
 #include "mc2_cells.h"
@@ -13,8 +13,8 @@ enum { MOST_THREADS = MC2_MOST_CPUS, MOST_CALLS = MC2_MOST_ENTRIES };
 /* What a caller asked, and what it was told. */
 struct note {
     uint64_t looks;
-    struct mc2_call call;
-    struct mc2_reply reply;
+    struct mc2_batch asked;
+    struct mc2_replies replies;
     uint32_t told;
 };
 
@@ -43,22 +43,50 @@ static struct mc2_call any_call(struct worker *worker) {
     return mc2_ask(word, draw(worker, 16), draw(worker, 16));
 }
 
-/* A call under a hold, which was got by so many looks. */
-static void call_held(struct worker *worker, struct note *note) {
-    note->told = mc2_caller_apply(&worker->caller, &note->call, &note->reply);
+/* One call by single steps: it waits for the object, or the caller has it already. */
+static void call_by_steps(struct worker *worker, struct note *note, int is_held) {
+    if (!is_held) {
+        uint32_t got = mc2_acquire(&worker->caller, &note->looks);
+        must(got == MC2_CELL_ENTERED || got == MC2_CELL_FOUND, 1, "acquire");
+    }
+    note->told = mc2_caller_apply(&worker->caller, note->asked.calls, note->replies.replies);
     must(mc2_release(&worker->caller), MC2_CELL_LEFT, "release");
 }
 
-static void call(struct worker *worker, struct note *note, int tries) {
-    note->call = any_call(worker);
-    uint32_t tried = tries ? mc2_caller_try(&worker->caller) : (uint32_t)MC2_CELL_BUSY;
-    if (tried == MC2_CELL_FOUND) {
-        note->looks = 1;
-        call_held(worker, note);
-    } else {
+static void call_whole(struct worker *worker, struct note *note) {
+    note->told = mc2_cell_call(&worker->caller, note->asked.calls, note->replies.replies, &note->looks);
+}
+
+static void try_by_steps(struct worker *worker, struct note *note) {
+    uint32_t tried = mc2_caller_try(&worker->caller);
+    if (tried != MC2_CELL_FOUND)
         must(tried, MC2_CELL_BUSY, "try");
-        note->told = mc2_cell_call(&worker->caller, &note->call, &note->reply, &note->looks);
-    }
+    note->looks = 1;
+    call_by_steps(worker, note, tried == MC2_CELL_FOUND);
+}
+
+static void try_whole(struct worker *worker, struct note *note) {
+    note->looks = 1;
+    note->told = mc2_cell_try_call(&worker->caller, note->asked.calls, note->replies.replies);
+    if (note->told == MC2_CELL_BUSY)
+        call_whole(worker, note);
+}
+
+static void call(struct worker *worker, struct note *note, uint32_t way) {
+    note->asked.count = way >= 5 ? 1 + draw(worker, MC2_MOST_CALLS) : 1;
+    for (uint32_t at = 0; at < note->asked.count; at++)
+        note->asked.calls[at] = any_call(worker);
+    note->replies.count = 1;
+    if (way < 2)
+        call_whole(worker, note);
+    else if (way == 2)
+        call_by_steps(worker, note, 0);
+    else if (way == 3)
+        try_by_steps(worker, note);
+    else if (way == 4)
+        try_whole(worker, note);
+    else
+        note->told = mc2_cell_batch(&worker->caller, &note->asked, &note->replies, &note->looks);
     if (note->told != MC2_CELL_FULL)
         must(note->told, MC2_CELL_DONE, "call");
 }
@@ -66,7 +94,7 @@ static void call(struct worker *worker, struct note *note, int tries) {
 static void *work(void *given) {
     struct worker *worker = given;
     for (uint32_t at = 0; at < worker->calls; at++)
-        call(worker, &worker->notes[at], at % 8 == 7);
+        call(worker, &worker->notes[at], at % 8);
     return NULL;
 }
 
@@ -102,8 +130,13 @@ static void note_events(struct mc2_recorder *recorder, struct mc2_cell *cell) {
 static void note_entries(struct mc2_recorder *recorder, const struct worker *worker) {
     for (uint32_t at = 0; at < worker->calls; at++) {
         const struct note *note = &worker->notes[at];
-        struct mc2_step step = mc2_answer(note->call, note->reply.word, note->reply.number);
-        must((uint32_t)mc2_entry(recorder, 0, worker->cpu, note->looks, &note->call, 1, &step, note->told == MC2_CELL_DONE),
+        uint32_t done = note->told == MC2_CELL_DONE ? note->replies.count : 0;
+        struct mc2_step steps[MC2_MOST_CALLS];
+        for (uint32_t step = 0; step < done; step++) {
+            const struct mc2_reply *reply = &note->replies.replies[step];
+            steps[step] = mc2_answer(note->asked.calls[step], reply->word, reply->number);
+        }
+        must((uint32_t)mc2_entry(recorder, 0, worker->cpu, note->looks, note->asked.calls, note->asked.count, steps, done),
              MC2_DONE, "noting an entry");
     }
 }

@@ -1,7 +1,8 @@
 // use: cells ticket|mcs THREADS CALLS
 //
-// THREADS threads, each with a caller of one cell by mc2_cells.hpp, call its queue CALLS times each: one call of eight by a try,
-// the next one by a hold, and all others whole. Prints the record, which `mc2 audit` judges. It is built without exceptions.
+// THREADS threads, each with a caller of one cell by mc2_cells.hpp, call its queue CALLS times each: of eight one by a hold, one by
+// a hold from a try, one by a whole try, one batch, and all others whole. Prints the record, which `mc2 audit` judges. It is built
+// without exceptions.
 //
 // Status: 0; 1 if a call is told what it can't be; 2 for wrong words; 3 if memory is refused.
 #include "mc2_cells.hpp"
@@ -16,8 +17,8 @@ enum { QUEUE = 12 };
 // What a caller asked, and what it was told.
 struct note {
     uint64_t looks;
-    mc2_call call;
-    mc2_reply reply;
+    mc2_batch asked;
+    mc2_replies replies;
     mc2_cell_told told;
 };
 
@@ -34,17 +35,30 @@ static mc2_call call_of(uint32_t cpu, uint32_t number) {
     return mc2_ask(words[(number * 7 + cpu * 3) % 5], (number + cpu * 5) % (QUEUE + 1), 0);
 }
 
+static void write(note &it, mc2::expected<mc2_reply> reply) {
+    it.told = reply.told();
+    it.replies.count = reply ? 1 : 0;
+    it.replies.replies[0] = reply ? *reply : mc2_reply();
+}
+
 // The call under a hold, which is given back at its end. While it lasts, the caller gets no other.
 static void call_held(mc2::caller &caller, mc2::hold held, note &it) {
     must(!caller.acquire() && !caller.try_acquire(), "a second hold");
-    mc2::expected<mc2_reply> reply = held.call(it.call);
     it.looks = held.looks();
-    it.told = reply.told();
-    it.reply = reply ? *reply : mc2_reply();
+    write(it, held.call(it.asked.calls[0]));
+}
+
+static void call_batch(mc2::caller &caller, note &it) {
+    mc2::expected<mc2_replies> replies = caller.batch(it.asked, &it.looks);
+    it.told = replies.told();
+    it.replies = replies ? *replies : mc2_replies();
 }
 
 static note call(mc2::caller &caller, uint32_t cpu, uint32_t number) {
-    note it = {0, call_of(cpu, number), {}, MC2_CELL_DONE};
+    note it = {1, {1, {}}, {}, MC2_CELL_BUSY};
+    it.asked.count = number % 8 == 3 ? 1 + number / 8 % MC2_MOST_CALLS : 1;
+    for (uint32_t at = 0; at < it.asked.count; at++)
+        it.asked.calls[at] = call_of(cpu, number + at);
     std::optional<mc2::hold> held = number % 8 == 7 ? caller.try_acquire() : std::nullopt;
     if (!held && (number % 8 == 7 || number % 8 == 0))
         held = caller.acquire();
@@ -52,9 +66,12 @@ static note call(mc2::caller &caller, uint32_t cpu, uint32_t number) {
         call_held(caller, std::move(*held), it);
         return it;
     }
-    mc2::expected<mc2_reply> reply = caller.call(it.call);
-    it.told = reply.told();
-    it.reply = reply ? *reply : mc2_reply();
+    if (number % 8 == 3)
+        call_batch(caller, it);
+    if (number % 8 == 5)
+        write(it, caller.try_call(it.asked.calls[0]));
+    if (it.told == MC2_CELL_BUSY)
+        write(it, caller.call(it.asked.calls[0], &it.looks));
     return it;
 }
 
@@ -62,12 +79,18 @@ static void print_record(mc2::cell &cell, const mc2_object &object, const std::v
     static mc2_recorder recorder;
     must(mc2_open(&recorder, &object, 1, (uint32_t)notes.size(), (uint32_t)notes[0].size()) == MC2_DONE, "the record",
          MC2_CELL_NO_MEMORY);
-    for (size_t event = 0; std::optional<mc2_logged_step> step = cell.step(event, 0); event++)
-        must(mc2_event(&recorder, 0, step->cpu, &step->step, 1) == MC2_DONE, "noting an event");
+    mc2_step steps[MC2_MOST_CALLS] = {};
+    for (size_t event = 0; std::optional<mc2_logged_step> first = cell.step(event, 0); event++) {
+        uint32_t calls = 0;
+        while (std::optional<mc2_logged_step> step = cell.step(event, calls))
+            steps[calls++] = step->step;
+        must(mc2_event(&recorder, 0, first->cpu, steps, calls) == MC2_DONE, "noting an event");
+    }
     for (uint32_t cpu = 0; cpu < notes.size(); cpu++)
         for (const note &it : notes[cpu]) {
-            mc2_step step = mc2_answer(it.call, it.reply.word, it.reply.number);
-            must(mc2_entry(&recorder, 0, cpu, it.looks, &it.call, 1, &step, it.told == MC2_CELL_DONE) == MC2_DONE,
+            for (uint32_t at = 0; at < it.replies.count; at++)
+                steps[at] = mc2_answer(it.asked.calls[at], it.replies.replies[at].word, it.replies.replies[at].number);
+            must(mc2_entry(&recorder, 0, cpu, it.looks, it.asked.calls, it.asked.count, steps, it.replies.count) == MC2_DONE,
                  "noting an entry");
         }
     must(mc2_write(&recorder, stdout) == MC2_DONE, "writing");

@@ -1,8 +1,8 @@
 //! use: cells ticket|mcs THREADS CALLS
 //!
 //! Cells of crates/cells in safe Rust, by the functions that include/mc2_cells.h declares. THREADS threads, each with a caller of one
-//! cell, call its queue CALLS times each, one call of eight by a try. Prints the record, which `mc2 audit` judges. Nothing here is
-//! proved. From the top of the repository:
+//! cell, call its queue CALLS times each: of eight calls one by a hold, one by a try, and all others whole. Prints the record, which
+//! `mc2 audit` judges. Nothing here is proved. From the top of the repository:
 //!
 //!     rustc -O --edition 2021 examples/c_cells/cells.rs -L crates/cells/out -L KIT/c -l static=cells -l static=libc_c
 #![deny(unsafe_code)]
@@ -35,6 +35,7 @@ mod cells {
     const FOUND: u32 = 3;
     const STEPPED: u32 = 0;
     const DONE: u32 = 7;
+    const DONE_KEPT: u32 = 12;
 
     fn done(told: u32) -> Result<(), Told> {
         match told {
@@ -101,6 +102,7 @@ mod cells {
         fn mc2_caller_leave(caller: &mut Handle) -> u32;
         fn mc2_caller_try(caller: &mut Handle) -> u32;
         fn mc2_caller_apply(caller: &mut Handle, call: &Call, reply: &mut Reply) -> u32;
+        fn mc2_caller_call(caller: &mut Handle, call: &Call, reply: &mut Reply, looks: &mut u64) -> u32;
         fn mc2_cell_take_back(cell: &mut Handle, caller: &mut Handle) -> u32;
         fn mc2_cell_close(cell: &mut Handle) -> u32;
         fn mc2_cell_step(cell: &mut Handle, event: usize, step: usize, told: &mut LoggedStep) -> u32;
@@ -242,6 +244,19 @@ mod cells {
             }
         }
 
+        /// Waits for the object, does the call, and gives the object back: by how many looks, and the reply.
+        pub fn call(&mut self, call: &Call) -> (u64, Result<Reply, Told>) {
+            let Caller { own, resting } = self;
+            let (mut reply, mut looks) = (Reply::default(), 0);
+            resting.stay_outside();
+            let (mut told, _) = resting.steps(|| unsafe { mc2_caller_call(own, call, &mut reply, &mut looks) });
+            if told >= DONE_KEPT {
+                resting.steps(|| unsafe { mc2_caller_leave(own) });
+                told -= DONE_KEPT - DONE;
+            }
+            (looks, done(told).map(|()| reply))
+        }
+
         /// The object, if nobody has it or is in line for it.
         pub fn try_hold(&mut self) -> Option<Hold<'_>> {
             let told = unsafe { mc2_caller_try(&mut self.own) };
@@ -308,8 +323,13 @@ fn work(caller: &mut Caller, cpu: u32, calls: u32) -> Result<Vec<Note>, Told> {
                 continue;
             }
         }
-        let mut hold = caller.hold()?;
-        notes.push((call, hold.looks, hold.call(&call)));
+        if number % 8 == 0 {
+            let mut hold = caller.hold()?;
+            notes.push((call, hold.looks, hold.call(&call)));
+            continue;
+        }
+        let (looks, reply) = caller.call(&call);
+        notes.push((call, looks, reply));
     }
     Ok(notes)
 }

@@ -191,6 +191,95 @@ static void busy_caller(void) {
     must_be(blocks == 0, "all memory is given back");
 }
 
+/* ---- whole calls */
+
+static struct mc2_reply reply;
+static struct mc2_replies replies;
+static uint64_t looks;
+
+static uint32_t whole(struct mc2_caller *caller, uint32_t word, uint32_t first) {
+    struct mc2_call asked = mc2_ask(word, first, 0);
+    reply.word = 77;
+    return mc2_caller_call(caller, &asked, &reply, &looks);
+}
+
+static uint32_t batch(struct mc2_caller *caller, uint32_t count, uint32_t last_word) {
+    struct mc2_batch asked = {count, {{0, 0, 0}}};
+    for (uint32_t at = 0; at < MC2_MOST_CALLS; at++)
+        asked.calls[at] = mc2_ask(at + 1 == count ? last_word : (uint32_t)MC2_LEN, 0, 0);
+    replies.count = 77;
+    return mc2_caller_batch(caller, &asked, &replies, &looks);
+}
+
+static void refused_calls(struct mc2_caller *caller) {
+    struct mc2_call asked = mc2_ask(MC2_LEN, 0, 0);
+    must(batch(caller, 0, MC2_LEN), MC2_CELL_REFUSED, "a batch of no call");
+    must(batch(caller, MC2_MOST_CALLS + 1, MC2_LEN), MC2_CELL_REFUSED, "a batch of 9 calls");
+    must(batch(caller, UINT32_MAX, MC2_LEN), MC2_CELL_REFUSED, "a batch of too many calls");
+    must(batch(caller, 3, 15), MC2_CELL_NOT_THERE, "a batch with a call that is none");
+    must(whole(caller, 15, 0), MC2_CELL_NOT_THERE, "a whole call that is none");
+    must(whole(caller, MC2_PUT, 256), MC2_CELL_NOT_THERE, "a whole call with a byte that is none");
+    must_be(reply.word == 77 && replies.count == 77 && looks == 0, "nothing is written");
+    must(mc2_caller_try(caller), MC2_CELL_FOUND, "a try");
+    must(whole(caller, MC2_LEN, 0), MC2_CELL_REFUSED, "a whole call of who has the object");
+    must(batch(caller, 1, MC2_LEN), MC2_CELL_REFUSED, "a batch of who has the object");
+    must(mc2_caller_try_call(caller, &asked, &reply), MC2_CELL_REFUSED, "a whole try of who has the object");
+    must_be(reply.word == 77 && replies.count == 77 && looks == 0, "nothing is written");
+    must(mc2_release(caller), MC2_CELL_LEFT, "releasing");
+}
+
+/* The third caller has entered behind the second, and hasn't linked itself yet. */
+static void kept_call(struct mc2_caller *second, struct mc2_caller *third) {
+    must(mc2_caller_advance(third), MC2_CELL_STEPPED, "clearing");
+    must(whole(third, MC2_LEN, 0), lock == MC2_MCS ? MC2_CELL_REFUSED : MC2_CELL_LOOKED, "a whole call before the first look");
+    if (lock == MC2_MCS)
+        must(mc2_caller_advance(third), MC2_CELL_STEPPED, "entering");
+    looks = 0;
+    must(whole(second, MC2_LEN, 0), lock == MC2_MCS ? MC2_CELL_DONE_KEPT : MC2_CELL_DONE, "a whole call that goes on");
+    must_be(reply.word == MC2_COUNT && reply.number == 3 && looks == 1, "its reply, by one look");
+    if (lock == MC2_MCS) {
+        must(whole(second, MC2_LEN, 0), MC2_CELL_REFUSED, "a whole call of who keeps the object");
+        must(mc2_caller_leave(second), MC2_CELL_LOOKED, "leaving before the other has linked itself");
+        must(mc2_caller_advance(third), MC2_CELL_STEPPED, "arming");
+        must(mc2_caller_advance(third), MC2_CELL_STEPPED, "linking");
+        must(mc2_release(second), MC2_CELL_LEFT, "releasing");
+    }
+    must(batch(third, 2, MC2_DEQ), MC2_CELL_DONE, "a batch that goes on");
+    must_be(replies.count == 2 && replies.replies[0].number == 3 && replies.replies[1].word == MC2_THREAD, "its replies");
+}
+
+static void whole_calls(void) {
+    struct mc2_cell_opening opening = opening_of(100, 3);
+    struct mc2_cell cell = new_cell();
+    struct mc2_caller callers[3];
+    struct mc2_call asked = mc2_ask(MC2_ENQ, 5, 0);
+    struct mc2_logged_step step;
+    must(mc2_handle_open(&cell, &opening), MC2_CELL_DONE, "opening");
+    open_all(&cell, callers, 3);
+    looks = 0;
+    refused_calls(&callers[0]);
+    must(mc2_caller_try_call(&callers[1], &asked, &reply), MC2_CELL_DONE, "a whole try");
+    must(whole(&callers[0], MC2_ENQ, 6), MC2_CELL_DONE, "a whole call");
+    must_be(looks == (lock == MC2_TICKET), "its looks");
+    must(mc2_caller_try(&callers[0]), MC2_CELL_FOUND, "a try");
+    must(mc2_caller_try_call(&callers[1], &asked, &reply), MC2_CELL_BUSY, "a whole try of what another has");
+    looks = 0;
+    must(whole(&callers[1], MC2_LEN, 0), MC2_CELL_LOOKED, "a whole call that has to wait");
+    must(whole(&callers[1], MC2_LEN, 0), MC2_CELL_LOOKED, "the same again");
+    must_be(looks == 2 && reply.word == 77, "two looks, and no reply");
+    asked = mc2_ask(MC2_ENQ, 7, 0);
+    must(mc2_caller_apply(&callers[0], &asked, &reply), MC2_CELL_DONE, "a call");
+    must(mc2_release(&callers[0]), MC2_CELL_LEFT, "releasing");
+    kept_call(&callers[1], &callers[2]);
+    take_all_back(&cell, callers, 3);
+    must(mc2_cell_close(&cell), MC2_CELL_DONE, "closing");
+    must(mc2_cell_step(&cell, 4, 1, &step), MC2_CELL_DONE, "the batch is one event, the last");
+    must(mc2_cell_step(&cell, 4, 2, &step), MC2_CELL_NOT_THERE, "of two calls");
+    must(mc2_cell_step(&cell, 5, 0, &step), MC2_CELL_NOT_THERE, "and all that was refused is no event");
+    must(mc2_cell_free(&cell), MC2_CELL_DONE, "freeing the cell");
+    must_be(blocks == 0, "all memory is given back");
+}
+
 /* ---- memory is refused in turn */
 
 static long refused_openings(uint32_t events, uint32_t cpus) {
@@ -270,6 +359,7 @@ int main(int count, char **words) {
         }
     all_wrong();
     busy_caller();
+    whole_calls();
     printf("%ld answers, %ld refused blocks\n", answers, refused);
     return 0;
 }

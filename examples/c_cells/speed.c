@@ -3,7 +3,8 @@
    THREADS threads call one queue of 8 threads CALLS times each, `enq` and `deq` in turn, and each call is an event of a log.
    Prints the nanoseconds from the first thread's start to the last one's end.
 
-   KIND  cell-ticket, cell-mcs: a cell of crates/cells, by the loops of mc2_cells.h
+   KIND  cell-ticket, cell-mcs: a cell of crates/cells, by whole calls (mc2_cell_call)
+         steps-ticket, steps-mcs: the same by single steps (mc2_acquire, mc2_caller_apply, mc2_release)
          mutex: a queue in C with a log, the least that one would write, behind a pthread_mutex_t
          ck-ticket, ck-mcs: the same queue behind a lock of Concurrency Kit, with WITH_CK
 
@@ -74,6 +75,13 @@ static int by_cell(uint32_t cpu, const struct mc2_call *call, struct mc2_reply *
     return mc2_cell_call(&callers[cpu], call, reply, &looks) == MC2_CELL_DONE;
 }
 
+static int by_steps(uint32_t cpu, const struct mc2_call *call, struct mc2_reply *reply) {
+    uint64_t looks;
+    mc2_acquire(&callers[cpu], &looks);
+    uint32_t told = mc2_caller_apply(&callers[cpu], call, reply);
+    return mc2_release(&callers[cpu]) == MC2_CELL_LEFT && told == MC2_CELL_DONE;
+}
+
 static int by_mutex(uint32_t cpu, const struct mc2_call *call, struct mc2_reply *reply) {
     pthread_mutex_lock(&mutex);
     call_plain(cpu, call, reply);
@@ -100,6 +108,7 @@ static int by_ck_mcs(uint32_t cpu, const struct mc2_call *call, struct mc2_reply
 
 static const struct { const char *name; caller_t call; int lock; } KINDS[] = {
     {"cell-ticket", by_cell, MC2_TICKET}, {"cell-mcs", by_cell, MC2_MCS}, {"mutex", by_mutex, -1},
+    {"steps-ticket", by_steps, MC2_TICKET}, {"steps-mcs", by_steps, MC2_MCS},
 #ifdef WITH_CK
     {"ck-ticket", by_ck_ticket, -1}, {"ck-mcs", by_ck_mcs, -1},
 #endif

@@ -173,10 +173,18 @@ def machine():
     return f"{datetime.now(timezone.utc):%Y-%m-%d %H:%M} UTC, {os.cpu_count()} processors"
 
 
+def tell_time(name=TOOL):
+    """At a terminal a line now and then says how long this process has been running."""
+    if sys.stderr.isatty():
+        teller = [ROOT / "tools/lib/seconds_so_far", name, str(os.getpid())]
+        subprocess.Popen(teller, stdin=subprocess.DEVNULL, stdout=subprocess.DEVNULL)
+
+
 def end(main):
     """Calls the tool's main, and ends the process with its status."""
     try:
         try:
+            tell_time()
             status = main()
         except Stop as stop:
             print(f"{TOOL}: {stop}", file=sys.stderr)

@@ -8,7 +8,8 @@ from typing import NamedTuple
 from texts.scripts import scripts_fault
 from texts.settings import BUILT_IN, BadKey, Fault, read_settings, tomllib
 
-BAD_WORDS, READ_FAILED = "E14 bad words", "E12 read failed"
+BAD_WORDS = {"mc2": "E14 bad words", "view": "E14 bad words (view --help has the forms)"}
+READ_FAILED = "E12 read failed"
 # What a file of scripts may have at most to be judged here.
 MOST_BYTES = 4 << 20
 
@@ -117,6 +118,6 @@ def first_look(program, words):
         files, values = read_words(program, list(words))
         return Refusal(READ_FAILED, 3) if read_inputs(words[0], files, values) else None
     except BadWords:
-        return Refusal(BAD_WORDS, 2)
+        return Refusal(BAD_WORDS[program], 2)
     except (NotSure, Fault, BadKey, OSError):
         return None

@@ -23,7 +23,7 @@ use Rattle.auditor.specs.declared.fault.Fault.{Fault}
 use Rattle.auditor.specs.declared.fault.Verdict.{Verdict}
 use Rattle.auditor.specs.declared.fault.Verdict.TheVariants as verdict
 use Rattle.auditor.specs.declared.fault.Fault.TheVariants.{TooLong, WrongStep, RoomWasLeft, NotItsEvent, NotAsked, Unclaimed}
-use Rattle.auditor.proofs.LinkSteps.{list_within}
+use Rattle.auditor.proofs.NextEventSteps.{list_within}
 use Rattle.auditor.proofs.RecordRuns.{object_opened, log_fits, transcript_fits}
 use Rattle.auditor.proofs.Verdicts.{all_at}
 

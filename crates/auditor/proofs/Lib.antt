@@ -1,7 +1,7 @@
 pub mod Splits
 pub mod WrongSteps
 pub mod OwnEvents
-pub mod LinkSteps
+pub mod NextEventSteps
 pub mod Judging
 pub mod DoneEntries
 pub mod Places

@@ -15,13 +15,13 @@ use Rattle.scripts.specs.Kernel.{kernel_in_range}
 use Rattle.scripts.specs.RecordRanges.{Record, RecordFits, EventFits, EntryFits, LogFits, TranscriptFits}
 use Rattle.scripts.specs.Runs.{opened_of}
 use Rattle.scripts.specs.Settings.{ObjectSettings, ObjectFits}
-use Rattle.auditor.specs.declared.terms.Terms.{Terms}
+use Rattle.auditor.specs.declared.opened_object.OpenedObject.{OpenedObject}
 use Rattle.auditor.specs.Passes.{IsRunOf}
 use Rattle.auditor.specs.Transcripts.{judged_by, opened_by}
 use Rattle.auditor.proofs.Verdicts.{all_at}
 
 abbrev pub KernelTerms : Type 0
-KernelTerms = Terms KernelObject KParams KCall KReply
+KernelTerms = OpenedObject KernelObject KParams KCall KReply
 
 abbrev pub object_opened : ObjectSettings → Opened KParams
 object_opened o = record { params = o.params; limit = o.events }
@@ -38,10 +38,10 @@ log_fits r fits x = list_at (LogFits Two r.settings.cpus) r.run.logs x fits.1.lo
 pub transcript_fits : (r : Record) → RecordFits r → (cpu : ℕ) → TranscriptFits Two (length r.settings.objects) (transcript_of cpu r.run)
 transcript_fits r fits cpu = list_at (TranscriptFits Two (length r.settings.objects)) r.run.transcripts cpu fits.1.transcripts (omega arith, tt)
 
-pub record_run : (r : Record) (terms : List KernelTerms) → RecordFits r → opened_by terms ≡ opened_of r.settings → IsRunOf kernel terms r.run
-record_run r terms fit same =
+pub record_run : (r : Record) (opened_objects : List KernelTerms) → RecordFits r → opened_by opened_objects ≡ opened_of r.settings → IsRunOf kernel opened_objects r.run
+record_run r opened_objects fit same =
     let n = ap length same in
-    let a = length-map terms judged_by in
+    let a = length-map opened_objects judged_by in
     let b = length-map r.settings.objects object_opened in
     let run = fit.1 in
     let logs = run.log_count in
@@ -49,7 +49,7 @@ record_run r terms fit same =
     record {
       counted = omega (arith, n, a, b, logs);
       able = λ x t e.
-          let o = get_map object_opened r.settings.objects x (judged_by t) (ap (λ l. slice_get l x) (sym same) ∙ map_get judged_by terms x t e) in
+          let o = get_map object_opened r.settings.objects x (judged_by t) (ap (λ l. slice_get l x) (sym same) ∙ map_get judged_by opened_objects x t e) in
           let params : o.0.params ≡ t.params = ap (λ (v : Opened KParams). v.params) o.2 in
           let fits = (all_at (ObjectFits Two) r.settings.objects fit.0.each x o.0 o.1).params in
           ap kernel_in_range (sym params) ∙ fits;

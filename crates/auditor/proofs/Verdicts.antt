@@ -16,13 +16,13 @@ use Rattle.sound_run.proofs.Slices.{some_at, one_of, map_get, get_map}
 use Rattle.sound_run.proofs.Entries.{done_append, done_without}
 use Rattle.auditor.specs.declared.fault.Fault.{Fault}
 use Rattle.auditor.specs.declared.fault.Fault.TheVariants as fault
-use Rattle.auditor.specs.declared.terms.Terms.{Terms}
+use Rattle.auditor.specs.declared.opened_object.OpenedObject.{OpenedObject}
 use Rattle.auditor.specs.Faults.{done_before, events_before, HadRoom, IsNotItsEvent, IsNotAsked, IsUnclaimed, IsFault}
 use Rattle.auditor.specs.Claims.{IsRight}
 use Rattle.auditor.specs.Passes.{AreSoundBefore}
 use Rattle.auditor.specs.Transcripts.{judged_by, opened_by, IsRightAt}
 use Rattle.auditor.specs.NoFaults.{HasNoFault}
-use Rattle.auditor.proofs.LinkSteps.{get_within}
+use Rattle.auditor.proofs.NextEventSteps.{get_within}
 use Rattle.auditor.proofs.OwnEvents.{own_steps}
 use Rattle.auditor.proofs.Ranked.{done_at, done_of}
 use Rattle.auditor.proofs.LogFaults.{none_long, none_wrong}
@@ -71,16 +71,16 @@ module _ {O P C R : Type 0} where
   none_at (f ∷ es) full zero e at none = let same : f ≡ e = cc in subst (λ (g : Entry O P C R). done_on g.object es ≡ []) same (full.0 (ap (λ (g : Entry O P C R). g.done) same ∙ none))
   none_at (f ∷ es) full (suc n) e at none = none_at es full.1 n e at none
 
-module _ {O P C R : Type 0} (meaning : Ghosts O P C R) (terms : List (Terms O P C R)) (run : Run O P C R) where
+module _ {O P C R : Type 0} (meaning : Ghosts O P C R) (opened_objects : List (OpenedObject O P C R)) (run : Run O P C R) where
   abbrev objects : List (Opened P)
-  objects = opened_by terms
+  objects = opened_by opened_objects
 
-  answers_from : (cpu : ℕ) (t : Terms O P C R) (log : List (Event O P C R)) (k : ℕ) (asked : ArrayVec C) (d : Done O P C R) → IsRight meaning cpu t.limit log k asked d → length log ≤ t.limit → Answers meaning (judged_by t) log asked d
+  answers_from : (cpu : ℕ) (t : OpenedObject O P C R) (log : List (Event O P C R)) (k : ℕ) (asked : ArrayVec C) (d : Done O P C R) → IsRight meaning cpu t.limit log k asked d → length log ≤ t.limit → Answers meaning (judged_by t) log asked d
   answers_from cpu t log k asked (done.Steps s) r within = r.1
   answers_from cpu t log k asked done.NoRoom r within = let full = r.0 in omega (arith, full, within)
 
-  module _ (h : HasNoFault meaning terms run) where
-    right_at : (cpu n : ℕ) (e : Entry O P C R) → slice_get (transcript_of cpu run) n ≡ Some e → IsRightAt meaning terms run.logs cpu (transcript_of cpu run) n e
+  module _ (h : HasNoFault meaning opened_objects run) where
+    right_at : (cpu n : ℕ) (e : Entry O P C R) → slice_get (transcript_of cpu run) n ≡ Some e → IsRightAt meaning opened_objects run.logs cpu (transcript_of cpu run) n e
     right_at cpu n e at = h.right cpu n e (get_within (transcript_of cpu run) n e at) at
 
     taken_all : (cpu x : ℕ) → x < length run.logs → done_on x (transcript_of cpu run) ≡ steps_by cpu (log_of x run)
@@ -92,7 +92,7 @@ module _ {O P C R : Type 0} (meaning : Ghosts O P C R) (terms : List (Terms O P 
             let mine = done_at x (transcript_of cpu run) d.index d.entry d.steps d.there d.object d.done in
             let same : d.steps ≡ s = one_of d.steps s (slice_get (done_on x (transcript_of cpu run)) r) (ap (λ k. slice_get (done_on x (transcript_of cpu run)) k) (sym d.rank) ∙ mine) at in
             let i = right_at cpu d.index d.entry d.there in
-            let j : IsRight meaning cpu i.term.limit (log_of d.entry.object run) (done_before d.entry.object d.index (transcript_of cpu run)) d.entry.asked (done.Steps d.steps) = subst (λ (v : Done O P C R). IsRight meaning cpu i.term.limit (log_of d.entry.object run) (done_before d.entry.object d.index (transcript_of cpu run)) d.entry.asked v) d.done i.right in
+            let j : IsRight meaning cpu i.opened.limit (log_of d.entry.object run) (done_before d.entry.object d.index (transcript_of cpu run)) d.entry.asked (done.Steps d.steps) = subst (λ (v : Done O P C R). IsRight meaning cpu i.opened.limit (log_of d.entry.object run) (done_before d.entry.object d.index (transcript_of cpu run)) d.entry.asked v) d.done i.right in
             let k : slice_get (steps_by cpu (log_of x run)) (done_before x d.index (transcript_of cpu run)) ≡ Some d.steps = subst (λ (y : ℕ). slice_get (steps_by cpu (log_of y run)) (done_before y d.index (transcript_of cpu run)) ≡ Some d.steps) d.object j.0 in
             ap (λ m. slice_get (steps_by cpu (log_of x run)) m) (sym d.rank) ∙ (k ∙ ap (λ t. Some t) same)
 
@@ -103,19 +103,19 @@ module _ {O P C R : Type 0} (meaning : Ghosts O P C R) (terms : List (Terms O P 
     entry_is cpu n e at =
         let i = right_at cpu n e at in
         let l = some_at run.logs e.object (h.objects_in cpu n e at) in
-        let sound = h.logs e.object i.term l.0 i.object l.1 in
+        let sound = h.logs e.object i.opened l.0 i.object l.1 in
         record {
-          opened = judged_by i.term;
+          opened = judged_by i.opened;
           log = l.0;
-          object = map_get judged_by terms e.object i.term i.object;
+          object = map_get judged_by opened_objects e.object i.opened i.object;
           logged = l.1;
-          answers = answers_from cpu i.term l.0 (done_before e.object n (transcript_of cpu run)) e.asked e.done (subst (λ (g : List (Event O P C R)). IsRight meaning cpu i.term.limit g (done_before e.object n (transcript_of cpu run)) e.asked e.done) (log_at e.object l.0 l.1) i.right) sound.within;
+          answers = answers_from cpu i.opened l.0 (done_before e.object n (transcript_of cpu run)) e.asked e.done (subst (λ (g : List (Event O P C R)). IsRight meaning cpu i.opened.limit g (done_before e.object n (transcript_of cpu run)) e.asked e.done) (log_at e.object l.0 l.1) i.right) sound.within;
         }
 
     none_later : (cpu n : ℕ) (e : Entry O P C R) → slice_get (transcript_of cpu run) n ≡ Some e → e.done ≡ done.NoRoom → done_on e.object (drop (suc n) (transcript_of cpu run)) ≡ []
     none_later cpu n e at none =
         let i = right_at cpu n e at in
-        let r = subst (λ (v : Done O P C R). IsRight meaning cpu i.term.limit (log_of e.object run) (done_before e.object n (transcript_of cpu run)) e.asked v) none i.right in
+        let r = subst (λ (v : Done O P C R). IsRight meaning cpu i.opened.limit (log_of e.object run) (done_before e.object n (transcript_of cpu run)) e.asked v) none i.right in
         let long = cut_done e.object (transcript_of cpu run) n e at none in
         let all = ap length (taken_all cpu e.object (h.objects_in cpu n e at)) in
         let few = r.1 in
@@ -123,12 +123,12 @@ module _ {O P C R : Type 0} (meaning : Ghosts O P C R) (terms : List (Terms O P 
 
     log_is : (x : ℕ) (o : Opened P) (log : List (Event O P C R)) → slice_get objects x ≡ Some o → slice_get run.logs x ≡ Some log → LogIsSound meaning o log
     log_is x o log eo el =
-        let t = get_map judged_by terms x o eo in
+        let t = get_map judged_by opened_objects x o eo in
         subst (λ (p : Opened P). LogIsSound meaning p log) t.2 (h.logs x t.0 log t.1 el)
 
     pub sound_of : Sound meaning objects run
     sound_of = record {
-      counted = h.counted ∙ sym (length-map terms judged_by);
+      counted = h.counted ∙ sym (length-map opened_objects judged_by);
       logs = log_is;
       taken = λ cpu x log e. taken_all cpu x (get_within run.logs x log e) ∙ ap (steps_by cpu) (log_at x log e);
       entries = λ cpu. all_from (EntryIsSound meaning objects run) (transcript_of cpu run) (entry_is cpu);
@@ -136,11 +136,11 @@ module _ {O P C R : Type 0} (meaning : Ghosts O P C R) (terms : List (Terms O P 
     }
 
   module _ (sound : Sound meaning objects run) where
-    all_sound : AreSoundBefore meaning terms run (length run.logs)
-    all_sound x t log below at_term at_log = sound.logs x (judged_by t) log (map_get judged_by terms x t at_term) at_log
+    all_sound : AreSoundBefore meaning opened_objects run (length run.logs)
+    all_sound x t log below at_opened at_log = sound.logs x (judged_by t) log (map_get judged_by opened_objects x t at_opened) at_log
 
-    counted : length run.logs ≡ length terms
-    counted = sound.counted ∙ length-map terms judged_by
+    counted : length run.logs ≡ length opened_objects
+    counted = sound.counted ∙ length-map opened_objects judged_by
 
     entry_at : (cpu n : ℕ) (e : Entry O P C R) → slice_get (transcript_of cpu run) n ≡ Some e → EntryIsSound meaning objects run e
     entry_at cpu n e at = all_at (EntryIsSound meaning objects run) (transcript_of cpu run) (sound.entries cpu) n e at
@@ -180,8 +180,8 @@ module _ {O P C R : Type 0} (meaning : Ghosts O P C R) (terms : List (Terms O P 
 
     -- a sound run has no fault
     pub no_fault : (f : Fault) → IsFault meaning objects run f → ⊥
-    no_fault (fault.TooLong x) h = none_long meaning terms run counted all_sound x h
-    no_fault (fault.WrongStep x e i) h = none_wrong meaning terms run counted all_sound x e i h
+    no_fault (fault.TooLong x) h = none_long meaning opened_objects run counted all_sound x h
+    no_fault (fault.WrongStep x e i) h = none_wrong meaning opened_objects run counted all_sound x e i h
     no_fault (fault.RoomWasLeft cpu n) h = had_none cpu n h
     no_fault (fault.NotItsEvent cpu n) h = its_event cpu n h
     no_fault (fault.NotAsked cpu n) h = was_asked cpu n h

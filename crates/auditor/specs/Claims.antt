@@ -8,7 +8,7 @@ use Rattle.event_log.specs.declared.entry.Done.TheVariants as done
 use Rattle.event_log.specs.declared.entry.Entry.{Entry}
 use Rattle.event_log.specs.Log.{Fulfils}
 use Rattle.sound_run.specs.Sound.{steps_by}
-use Rattle.auditor.specs.Links.{IsAt}
+use Rattle.auditor.specs.NextEvents.{IsAt}
 use Rattle.auditor.specs.declared.entries.EntryFault.{EntryFault}
 use Rattle.auditor.specs.declared.entries.EntryFault.TheVariants as fault
 

@@ -1,5 +1,5 @@
 pub mod Faults
-pub mod Links
+pub mod NextEvents
 pub mod Claims
 pub mod Transcripts
 pub mod Passes
@@ -8,5 +8,5 @@ pub mod Logs
 pub mod Audits
 pub mod Marks
 pub mod Pages
-pub mod Plain
+pub mod References
 pub mod VerdictText

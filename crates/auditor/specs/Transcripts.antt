@@ -4,49 +4,49 @@ use Rattle.event_log.specs.declared.object.SeqObject.{Ghosts}
 use Rattle.event_log.specs.declared.event.Event.{Event}
 use Rattle.event_log.specs.declared.entry.Entry.{Entry}
 use Rattle.sound_run.specs.Sound.{Opened}
-use Rattle.auditor.specs.declared.terms.Terms.{Terms}
-use Rattle.auditor.specs.declared.links.Links.{Links}
+use Rattle.auditor.specs.declared.opened_object.OpenedObject.{OpenedObject}
+use Rattle.auditor.specs.declared.next_events.NextEvents.{NextEvents}
 use Rattle.auditor.specs.declared.entries.EntryFault.{EntryFault}
 use Rattle.auditor.specs.Faults.{done_before}
-use Rattle.auditor.specs.Links.{IsAt, AreLinks}
+use Rattle.auditor.specs.NextEvents.{IsAt, AreNextEvents}
 use Rattle.auditor.specs.Claims.{IsRight, IsJudged}
 
 module _ {O P C R : Type 0} where
   -- what an object is judged by
-  abbrev pub judged_by : Terms O P C R → Opened P
+  abbrev pub judged_by : OpenedObject O P C R → Opened P
   judged_by t = record { params = t.params; limit = t.limit }
 
   -- what the objects are judged by
-  abbrev pub opened_by : List (Terms O P C R) → List (Opened P)
-  opened_by terms = map judged_by terms
+  abbrev pub opened_by : List (OpenedObject O P C R) → List (Opened P)
+  opened_by opened_objects = map judged_by opened_objects
 
   -- the log of that object
   abbrev pub log_in : ℕ → List (List (Event O P C R)) → List (Event O P C R)
   log_in x logs = unwrap_or (slice_get logs x) []
 
-  -- the links of each log, for n CPUs
-  pub record AreAllLinks (n : ℕ) (logs : List (List (Event O P C R))) (links : List Links) : Type 0 where
-    pub count : length links ≡ length logs
-    pub each : (x : ℕ) (l : Links) → slice_get links x ≡ Some l → AreLinks n (log_in x logs) l.first.items l.next.items
+  -- the next events in each log, for n CPUs
+  pub record AreAllNextEvents (n : ℕ) (logs : List (List (Event O P C R))) (next_events : List NextEvents) : Type 0 where
+    pub count : length next_events ≡ length logs
+    pub each : (x : ℕ) (l : NextEvents) → slice_get next_events x ≡ Some l → AreNextEvents n (log_in x logs) l.first.items l.next.items
 
   -- after n entries, the place of the CPU's next event in each log
   abbrev pub ArePlaces : ℕ → List (List (Event O P C R)) → List (Entry O P C R) → ℕ → List ℕ → Type 0
   ArePlaces cpu logs transcript n places = (x : ℕ) → x < length logs → IsAt cpu (log_in x logs) (done_before x n transcript) (slice_index places x)
 
-module _ {O P C R : Type 0} (meaning : Ghosts O P C R) (terms : List (Terms O P C R)) (logs : List (List (Event O P C R))) (cpu : ℕ) (transcript : List (Entry O P C R)) where
+module _ {O P C R : Type 0} (meaning : Ghosts O P C R) (opened_objects : List (OpenedObject O P C R)) (logs : List (List (Event O P C R))) (cpu : ℕ) (transcript : List (Entry O P C R)) where
   -- entry n is as it must be
   pub record IsRightAt (n : ℕ) (e : Entry O P C R) : Type 0 where
-    pub term : Terms O P C R
-    pub object : slice_get terms e.object ≡ Some term
-    pub right : IsRight meaning cpu term.limit (log_in e.object logs) (done_before e.object n transcript) e.asked e.done
+    pub opened : OpenedObject O P C R
+    pub object : slice_get opened_objects e.object ≡ Some opened
+    pub right : IsRight meaning cpu opened.limit (log_in e.object logs) (done_before e.object n transcript) e.asked e.done
 
   -- entry n has this fault
   pub record IsWrongAt (n : ℕ) (f : EntryFault) : Type 0 where
     pub entry : Entry O P C R
     pub there : slice_get transcript n ≡ Some entry
-    pub term : Terms O P C R
-    pub object : slice_get terms entry.object ≡ Some term
-    pub wrong : IsJudged meaning cpu term.limit (log_in entry.object logs) (done_before entry.object n transcript) entry (Err f)
+    pub opened : OpenedObject O P C R
+    pub object : slice_get opened_objects entry.object ≡ Some opened
+    pub wrong : IsJudged meaning cpu opened.limit (log_in entry.object logs) (done_before entry.object n transcript) entry (Err f)
 
   -- the first n entries are as they must be
   abbrev pub AreRightBefore : ℕ → Type 0

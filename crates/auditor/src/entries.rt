@@ -2,10 +2,10 @@
 
 ghost use Rattle.std.specs.Prelude.{ℕ, ◌≤◌, length};
 ghost use Rattle.auditor.specs.Claims.{IsJudged};
-ghost use Rattle.auditor.specs.Links.{IsAt, AreLinks};
+ghost use Rattle.auditor.specs.NextEvents.{IsAt, AreNextEvents};
 
 use crate::compare::{are_same, fulfil};
-use crate::links::Links;
+use crate::next_events::NextEvents;
 use event_log::{Done, Entry, Event, SeqObject};
 
 /// What can be wrong with an entry.
@@ -20,11 +20,11 @@ pub enum EntryFault {
 pub fn judge_entry<O: SeqObject>(
     limit: u32,
     log: &[Event<O>],
-    links: &Links,
+    next_events: &NextEvents,
     at: usize,
     entry: &Entry<O>,
 ) -> Result<usize, EntryFault>
-    requires links { (n : ℕ) × AreLinks n log.now links.now.first.items links.now.next.items }
+    requires next_events { (n : ℕ) × AreNextEvents n log.now next_events.now.first.items next_events.now.next.items }
     requires within { at ≤ length log.now }
     ensures { (cpu k : ℕ) → IsAt cpu log.now k at → IsJudged O.SeqObject cpu limit log.now k entry.now result }
 {
@@ -48,7 +48,7 @@ pub fn judge_entry<O: SeqObject>(
             if !fulfil(entry.asked.as_slice(), steps.list.as_slice()) {
                 return Err(EntryFault::NotAsked);
             }
-            let next = links.next.as_slice();
+            let next = next_events.next.as_slice();
             Ok(next[at])
         }
     }

@@ -7,19 +7,19 @@ ghost use Rattle.auditor.specs.Faults.{IsFault, IsFirstFault};
 ghost use Rattle.auditor.specs.NoFaults.{HasNoFault};
 ghost use Rattle.auditor.specs.Transcripts.{opened_by};
 
-use crate::{Fault, Terms};
+use crate::{Fault, OpenedObject};
 use event_log::SeqObject;
 
 /// A sound run has none of the faults.
 pub fn sound_has_no_fault<O: SeqObject>()
-    ensures { (terms : List (Terms O O.Params O.Call O.Reply)) → (run : Run O O.Params O.Call O.Reply) →
-        Sound O.SeqObject (opened_by terms) run → (f : Fault) → IsFault O.SeqObject (opened_by terms) run f → ⊥ }
+    ensures { (opened_objects : List (OpenedObject O O.Params O.Call O.Reply)) → (run : Run O O.Params O.Call O.Reply) →
+        Sound O.SeqObject (opened_by opened_objects) run → (f : Fault) → IsFault O.SeqObject (opened_by opened_objects) run f → ⊥ }
 {}
 
 /// A run whose logs are sound, whose entries are as they must be and whose events are all taken is sound.
 pub fn no_fault_is_sound<O: SeqObject>()
-    ensures { (terms : List (Terms O O.Params O.Call O.Reply)) → (run : Run O O.Params O.Call O.Reply) →
-        HasNoFault O.SeqObject terms run → Sound O.SeqObject (opened_by terms) run }
+    ensures { (opened_objects : List (OpenedObject O O.Params O.Call O.Reply)) → (run : Run O O.Params O.Call O.Reply) →
+        HasNoFault O.SeqObject opened_objects run → Sound O.SeqObject (opened_by opened_objects) run }
 {}
 
 /// A run has one first fault at most.

@@ -8,29 +8,32 @@ ghost use Rattle.auditor.specs.Transcripts.{opened_by};
 ghost use Rattle.auditor.specs.VerdictText.{CanBeTold};
 
 use crate::judge::judge_run;
-use crate::replays::PlainObject;
-use crate::{Fault, Replays, Terms, Verdict};
+use crate::references::ReferenceKernelObject;
+use crate::{Fault, OpenedObject, ReferenceObject, Verdict};
 use event_log::{OutOfMemory, SeqObject};
 use scripts::{KernelObject, Record, Settings};
 use std::alloc::Global;
 
 /// What the objects of the settings are judged by.
-fn terms_of(alloc: Global, settings: &Settings) -> Result<Vec<Terms<KernelObject>>, OutOfMemory>
-    ensures { IfOk result (λ terms. opened_by terms.items ≡ opened_of settings.now) }
+fn objects_of(
+    alloc: Global,
+    settings: &Settings,
+) -> Result<Vec<OpenedObject<KernelObject>>, OutOfMemory>
+    ensures { IfOk result (λ opened_objects. opened_by opened_objects.items ≡ opened_of settings.now) }
 {
     let objects = settings.objects();
-    let mut terms = Vec::with_capacity(alloc, objects.len())?;
+    let mut opened_objects = Vec::with_capacity(alloc, objects.len())?;
     for object in objects {
-        terms.push_reserved(Terms {
+        opened_objects.push_reserved(OpenedObject {
             params: object.params(),
             limit: object.events(),
         });
     }
-    Ok(terms)
+    Ok(opened_objects)
 }
 
 /// The verdict on a record, whose calls are answered a second time by values of that type.
-fn audit_by<J: Replays<KernelObject>>(
+fn audit_by<J: ReferenceObject<KernelObject>>(
     alloc: Global,
     record: &Record,
 ) -> Result<Verdict, OutOfMemory>
@@ -39,8 +42,8 @@ fn audit_by<J: Replays<KernelObject>>(
         IsFirstFault ⟦<KernelObject as SeqObject>⟧ (opened_of «record».now.settings) «record».now.run f) }
     ensures told { IfOk result (CanBeTold «record».now.settings) }
 {
-    let terms = terms_of(alloc, record.settings())?;
-    judge_run::<KernelObject, J>(alloc, terms.as_slice(), record.run())
+    let opened_objects = objects_of(alloc, record.settings())?;
+    judge_run::<KernelObject, J>(alloc, opened_objects.as_slice(), record.run())
 }
 
 /// Whether the record is sound, or else its first fault.
@@ -50,5 +53,5 @@ pub fn audit(alloc: Global, record: &Record) -> Result<Verdict, OutOfMemory>
         IsFirstFault ⟦<KernelObject as SeqObject>⟧ (opened_of «record».now.settings) «record».now.run f) }
     ensures told { IfOk result (CanBeTold «record».now.settings) }
 {
-    audit_by::<PlainObject>(alloc, record)
+    audit_by::<ReferenceKernelObject>(alloc, record)
 }

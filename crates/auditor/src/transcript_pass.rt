@@ -2,13 +2,13 @@
 
 ghost use Rattle.std.specs.Prelude.{◌≡◌, ◌<◌, ℕ, length, min, slice_index, OnOk, IfErr};
 ghost use Rattle.auditor.specs.Passes.{IsRunOf, AreSoundBefore, AreRightTo, AreEnds, IsFirst, fault_at};
-ghost use Rattle.auditor.specs.Transcripts.{opened_by, AreAllLinks};
+ghost use Rattle.auditor.specs.Transcripts.{opened_by, AreAllNextEvents};
 
 use crate::entries::EntryFault;
-use crate::links::Links;
-use crate::stop::Stop;
+use crate::found::Found;
+use crate::next_events::NextEvents;
 use crate::transcripts::{first_places, judge_transcript};
-use crate::{Fault, Terms};
+use crate::{Fault, OpenedObject};
 use event_log::{Run, SeqObject};
 
 /// The fault of a CPU's entry.
@@ -38,31 +38,31 @@ fn lower(ends: &mut [usize], places: &[usize])
 /// Judges the transcripts in their order, up to the first entry that has a fault. What is left in the ends is the first
 /// event of each log that no entry took.
 pub fn judge_transcripts<O: SeqObject>(
-    terms: &[Terms<O>],
+    opened_objects: &[OpenedObject<O>],
     run: &Run<O>,
-    links: &[Links],
+    next_events: &[NextEvents],
     places: &mut [usize],
     ends: &mut [usize],
-) -> Result<(), Stop>
-    requires run { IsRunOf O.SeqObject terms.now run.now }
-    requires logs { AreSoundBefore O.SeqObject terms.now run.now (length run.now.logs) }
-    requires links { AreAllLinks (length run.now.transcripts) run.now.logs links.now }
+) -> Result<(), Found>
+    requires run { IsRunOf O.SeqObject opened_objects.now run.now }
+    requires logs { AreSoundBefore O.SeqObject opened_objects.now run.now (length run.now.logs) }
+    requires next_events { AreAllNextEvents (length run.now.transcripts) run.now.logs next_events.now }
     requires places { length places.old ≡ length run.now.logs }
     requires count { length ends.old ≡ length run.now.logs }
-    requires ends { AreEnds O.SeqObject (opened_by terms.now) run.now 0 ends.old }
-    ensures right { OnOk result (AreRightTo O.SeqObject terms.now run.now (length run.now.transcripts)) }
+    requires ends { AreEnds O.SeqObject (opened_by opened_objects.now) run.now 0 ends.old }
+    ensures right { OnOk result (AreRightTo O.SeqObject opened_objects.now run.now (length run.now.transcripts)) }
     ensures count { length ends.new ≡ length ends.old }
-    ensures ends { OnOk result (AreEnds O.SeqObject (opened_by terms.now) run.now (length run.now.transcripts) ends.new) }
-    ensures fault { IfErr result (IsFirst O.SeqObject (opened_by terms.now) run.now) }
+    ensures ends { OnOk result (AreEnds O.SeqObject (opened_by opened_objects.now) run.now (length run.now.transcripts) ends.new) }
+    ensures fault { IfErr result (IsFirst O.SeqObject (opened_by opened_objects.now) run.now) }
 {
     let logs = run.logs.as_slice();
     let transcripts = run.transcripts.as_slice();
     for (cpu, entries) in transcripts.iter().enumerate() {
         let transcript = entries.as_slice();
-        first_places(cpu, logs, links, transcript, places);
-        match judge_transcript(cpu, terms, logs, links, transcript, places) {
+        first_places(cpu, logs, next_events, transcript, places);
+        match judge_transcript(cpu, opened_objects, logs, next_events, transcript, places) {
             Ok(()) => lower(ends, places),
-            Err((entry, fault)) => return Err(Stop::Found(fault_of(cpu, entry, fault))),
+            Err((entry, fault)) => return Err(Found::FirstFault(fault_of(cpu, entry, fault))),
         }
     }
     Ok(())

@@ -2,7 +2,7 @@
 
 ghost use Rattle.std.specs.Prelude.{◌≡◌, ℕ, [], List, if◌then◌else◌};
 ghost use Rattle.event_log.specs.declared.event.Event.{Event};
-ghost use Rattle.word_rule.specs.declared.view.Moment.{Moment};
+ghost use Rattle.word_rule.specs.declared.view.TraceStep.{TraceStep};
 ghost use Rattle.word_rule.specs.Cell.{OwnTogether};
 ghost use Rattle.word_rule.specs.LockRuns.{HasRun};
 ghost use Rattle.word_rule.specs.Replay.{IsReplay, entries_for};
@@ -34,7 +34,7 @@ where
     requires second { C.is_pass_of cell passes.1 }
     requires all { OwnTogether (C.pass_view passes.0).caller (C.pass_view passes.1).caller }
     requires new { (C.pass_run passes.0 ≡ []) × (C.pass_run passes.1 ≡ []) }
-    ensures replayed { (run : List (Moment (Event O O.Params O.Call O.Reply))) × HasRun (C.pass_view passes.0).caller.cell result.0.log run
+    ensures replayed { (run : List (TraceStep (Event O O.Params O.Call O.Reply))) × HasRun (C.pass_view passes.0).caller.cell result.0.log run
         × ((ticket : ℕ) → IsReplay O.SeqObject (C.pass_view passes.0).caller.cell (λ k. if (C.pass_view passes.0).caller.owned k then entries_for (C.pass_view passes.0).caller k (holds_of first_calls.now result.1) else entries_for (C.pass_view passes.1).caller k (holds_of second_calls.now result.2)) (λ _. []) ticket result.0.log run) }
 {
     runs_replay::<O>();

@@ -8,14 +8,14 @@ use Rattle.std_heap.specs.contracts.Global as Heap
 use Rattle.std_heap.specs.contracts.GlobalAllocator.TheImpl.{ghosts, dict}
 use Rattle.std_heap.proofs.Global.TheLaws as heap
 use Rattle.core.proofs.mem.manually_drop.ManuallyDrop.TheLaws as manual
-use Rattle.cells.proofs.body.Body.TheLaws as body
-use Rattle.cells.specs.contracts.body.Body as Body
+use Rattle.cells.proofs.handle_content.HandleContent.TheLaws as content
+use Rattle.cells.specs.contracts.handle_content.HandleContent as HandleContent
 use Rattle.cells.specs.contracts.parts.Parts as Parts
 use Rattle.cells.specs.contracts.handle.Handle as Handle
 use Rattle.cells.specs.Handles.{row}
 
 abbrev pub row_laws : Laws row
-row_laws = manual.the_row_laws Body.the_row body.the_row_laws
+row_laws = manual.the_row_laws HandleContent.the_row content.the_row_laws
 
 abbrev pub E : Bx
 E = record { row = row; laws = row_laws; al = record { row = Heap.the_row; laws = heap.the_row_laws; g = ghosts; d = dict; drops = impl [] tnil dnil } }

@@ -15,7 +15,7 @@ use Rattle.sound_run.proofs.Slices.{some_at}
 use Rattle.guarded_cell.specs.declared.cell.AnyCell.{AnyCell}
 use Rattle.guarded_cell.specs.declared.cell.AnyCell.TheVariants as cells
 use Rattle.guarded_cell.specs.Kinds.{IsPassOf}
-use Rattle.cells.specs.Positions.{fixed_of}
+use Rattle.cells.specs.CallerStates.{fixed_of}
 use Rattle.cells.specs.OpenCells.{IsHome, AreHome, OwnsFirst, IsBack}
 
 pub get_front : {A : Type 0} (xs ys : List A) (k : ℕ) (x : A) → slice_get xs k ≡ Some x → slice_get (xs ++ ys) k ≡ Some x

@@ -1,5 +1,5 @@
 -- The passes of a cell that nobody has called, joined.
-use Rattle.std.proofs.Common.{◌≡◌, ℕ, ◌+◌, ◌<◌, ◌≤◌, ◌==◌, ◌||◌, Bool, true, false, List, [], ◌∷◌, ◌++◌, length, refl, sym, ap, subst, ◌∙◌, arith, slice_get, Some, ◌⊎◌, inl, inr}
+use Rattle.std.proofs.Common.{◌≡◌, ℕ, ◌<◌, ◌||◌, Bool, true, false, List, [], ◌∷◌, ◌++◌, length, refl, sym, ap, subst, ◌∙◌, arith, slice_get, Some, ◌⊎◌, inl, inr}
 use Rattle.std.specs.declared.cmp.PartialEq.{Ghosts as Eq}
 use Rattle.std.specs.declared.default.Default.{Ghosts as Default}
 use mathlib.Core.Logic.{dite}
@@ -16,7 +16,7 @@ use Rattle.word_rule.proofs.Lists.{same_log, of_opening}
 use Rattle.guarded_cell.specs.declared.cell.AnyCell.{AnyCell}
 use Rattle.guarded_cell.specs.Kinds.{IsPassOf}
 use Rattle.guarded_cell.proofs.Joins.{at_snoc}
-use Rattle.cells.specs.Positions.{fixed_of}
+use Rattle.cells.specs.CallerStates.{fixed_of}
 use Rattle.cells.specs.Unused.{IsUnused, Covers}
 use Rattle.cells.proofs.Homes.{told_of, get_front, get_last, or_left, or_right, same_number}
 
@@ -70,12 +70,12 @@ module _ {O P C R : Type 0} {g : Ghosts O P C R} {call_eq : Eq C} {call_default 
   nothing_seen cell p unused all =
       let told = told_of cell p unused.pass in
       let view = p.idle.pass_view in
-      let lawful = view.lawful in
+      let valid = view.valid in
       let opening : (view_of_pass p).caller.cell.opening ≡ (fixed_of cell).opening = ap (λ h. h.opening) told in
-      same_log (view_of_pass p).caller.cell.opening (view_of_pass p).seen lawful.begins
+      same_log (view_of_pass p).caller.cell.opening (view_of_pass p).seen valid.begins
       (λ z. dite (dec_lt z (view_of_pass p).caller.cell.numbers)
       (λ below. unused.none z (all.each z below) ∙ sym (ap (λ l. of z l) opening))
-      (λ not. of_opening z (view_of_pass p).caller.cell.numbers (view_of_pass p).seen (view_of_pass p).caller.cell.opening (omega (arith, not)) lawful.begins lawful.numbered)) ∙ opening
+      (λ not. of_opening z (view_of_pass p).caller.cell.numbers (view_of_pass p).seen (view_of_pass p).caller.cell.opening (omega (arith, not)) valid.begins valid.numbered)) ∙ opening
 
   -- what is left of a cell that nobody has called
   pub left_unused : (cell : AnyCell O P C R) (p : Pass O P C R g call_eq call_default reply_eq reply_default) → IsUnused cell p → OwnsAll (view_of_pass p).caller → stored g (view_of_pass p).caller.cell (view_of_pass p).seen ≡ stored g (fixed_of cell) (fixed_of cell).opening

@@ -29,7 +29,7 @@ use Rattle.scripts.proofs.objects.kernel_call.KReply.TheSendSync.{the_send as re
 use Rattle.word_rule.specs.contracts.pass.Pass as Pass
 use Rattle.word_rule.specs.contracts.hold.Hold as Hold
 use Rattle.word_rule.proofs.cpu.Cpu.TheSendSync as cpu
-use Rattle.word_rule.proofs.lent.Lent.TheSendSync as lent
+use Rattle.word_rule.proofs.loan_token.LoanToken.TheSendSync as loan
 use Rattle.word_rule.proofs.Sends.{slot_send, pass_send, pass_field_send}
 use Rattle.ticket_lock.specs.contracts.states.Drawn as Drawn
 use Rattle.mcs_lock.specs.contracts.states.Ready as Ready
@@ -41,10 +41,10 @@ use Rattle.mcs_lock.specs.contracts.states.Leaving as Leaving
 use Rattle.mcs_lock.specs.contracts.states.Passing as Passing
 use Rattle.guarded_cell.specs.contracts.cell.AnyCell as AnyCell
 use Rattle.guarded_cell.proofs.cell.AnyCell.TheSendSync.{the_send as any_send, the_sync as any_sync}
-use Rattle.cells.specs.contracts.position.Position as Position
+use Rattle.cells.specs.contracts.caller_state.CallerState as CallerState
 use Rattle.cells.specs.contracts.caller.Caller as Caller
 use Rattle.cells.specs.contracts.open_cell.OpenCell as OpenCell
-use Rattle.cells.specs.contracts.body.Body as Body
+use Rattle.cells.specs.contracts.handle_content.HandleContent as HandleContent
 use Rattle.cells.specs.Handles.{row}
 
 -- a caller goes where its object, the object's parameters, calls and replies go
@@ -65,19 +65,19 @@ module _ (O P C R : RattleType) (g : Ghosts O.Denot P.Denot C.Denot R.Denot) (ce
   waiting_send = struct_send (fields (Waiting.the_type O P C R g ce cd re rd)) (cpu.the_field_send, (search crosses, (seat_send _ _ (slot_send O P C R g ce cd re rd o p c r), tt)))
 
   hold_send : IsSend (Hold.the_field O P C R g ce cd re rd).row
-  hold_send = struct_send (fields (Hold.the_type O P C R g ce cd re rd)) (cpu.the_field_send, (search sendable, (logged.the_send O P C R g ce cd re rd o p c r, (lent.the_field_send, (search crosses, (seat_send _ _ (slot_send O P C R g ce cd re rd o p c r), tt))))))
+  hold_send = struct_send (fields (Hold.the_type O P C R g ce cd re rd)) (cpu.the_field_send, (search sendable, (logged.the_send O P C R g ce cd re rd o p c r, (loan.the_field_send, (search crosses, (seat_send _ _ (slot_send O P C R g ce cd re rd o p c r), tt))))))
 
   alone_send : IsSend (Alone.the_field O P C R g ce cd re rd).row
-  alone_send = struct_send (fields (Alone.the_type O P C R g ce cd re rd)) (cpu.the_field_send, (logged.the_send O P C R g ce cd re rd o p c r, (lent.the_field_send, (search crosses, (seat_send _ _ (slot_send O P C R g ce cd re rd o p c r), tt)))))
+  alone_send = struct_send (fields (Alone.the_type O P C R g ce cd re rd)) (cpu.the_field_send, (logged.the_send O P C R g ce cd re rd o p c r, (loan.the_field_send, (search crosses, (seat_send _ _ (slot_send O P C R g ce cd re rd o p c r), tt)))))
 
   leaving_send : IsSend (Leaving.the_field O P C R g ce cd re rd).row
-  leaving_send = struct_send (fields (Leaving.the_type O P C R g ce cd re rd)) (cpu.the_field_send, (logged.the_send O P C R g ce cd re rd o p c r, (lent.the_field_send, (search crosses, (seat_send _ _ (slot_send O P C R g ce cd re rd o p c r), tt)))))
+  leaving_send = struct_send (fields (Leaving.the_type O P C R g ce cd re rd)) (cpu.the_field_send, (logged.the_send O P C R g ce cd re rd o p c r, (loan.the_field_send, (search crosses, (seat_send _ _ (slot_send O P C R g ce cd re rd o p c r), tt)))))
 
   passing_send : IsSend (Passing.the_field O P C R g ce cd re rd).row
-  passing_send = struct_send (fields (Passing.the_type O P C R g ce cd re rd)) (cpu.the_field_send, (search sendable, (logged.the_send O P C R g ce cd re rd o p c r, (lent.the_field_send, (search crosses, (seat_send _ _ (slot_send O P C R g ce cd re rd o p c r), tt))))))
+  passing_send = struct_send (fields (Passing.the_type O P C R g ce cd re rd)) (cpu.the_field_send, (search sendable, (logged.the_send O P C R g ce cd re rd o p c r, (loan.the_field_send, (search crosses, (seat_send _ _ (slot_send O P C R g ce cd re rd o p c r), tt))))))
 
-  position_send : IsSend (Position.the_field O P C R g ce cd re rd).row
-  position_send = enum_send (shape (Position.the_type O P C R g ce cd re rd))
+  state_send : IsSend (CallerState.the_field O P C R g ce cd re rd).row
+  state_send = enum_send (shape (CallerState.the_type O P C R g ce cd re rd))
       ((pass_field_send O P C R g ce cd re rd o p c r, tt), ((drawn_send, tt), ((ready_send, tt), ((behind_send, tt), ((armed_send, tt), ((waiting_send, tt), ((hold_send, tt), ((alone_send, tt), ((leaving_send, tt), ((passing_send, tt), tt))))))))))
 
 -- a cell around an object of the kernel, and its passes
@@ -98,17 +98,17 @@ kernel_pass_send = pass_send Object.the_row Params.the_row Call.the_row Reply.th
 
 caller_send : IsSend (Caller.the_field Object.the_row Params.the_row Call.the_row Reply.the_row kernel call_compares call_defaults reply_compares reply_defaults (copied Call.the_row) call_eq (copied Reply.the_row) reply_eq).row
 caller_send = struct_send (fields (Caller.the_type Object.the_row Params.the_row Call.the_row Reply.the_row kernel call_compares call_defaults reply_compares reply_defaults (copied Call.the_row) call_eq (copied Reply.the_row) reply_eq))
-    (Arc-send cell cell_send cell_sync, (position_send Object.the_row Params.the_row Call.the_row Reply.the_row kernel call_compares call_defaults reply_compares reply_defaults object_send params_send call_send reply_send, tt))
+    (Arc-send cell cell_send cell_sync, (state_send Object.the_row Params.the_row Call.the_row Reply.the_row kernel call_compares call_defaults reply_compares reply_defaults object_send params_send call_send reply_send, tt))
 
 open_cell_send : IsSend (OpenCell.the_field Object.the_row Params.the_row Call.the_row Reply.the_row kernel call_compares call_defaults reply_compares reply_defaults (copied Call.the_row) call_eq (copied Reply.the_row) reply_eq).row
 open_cell_send = struct_send (fields (OpenCell.the_type Object.the_row Params.the_row Call.the_row Reply.the_row kernel call_compares call_defaults reply_compares reply_defaults (copied Call.the_row) call_eq (copied Reply.the_row) reply_eq))
     (Arc-send cell cell_send cell_sync, (Vec-send pass kernel_pass_send, (search (sendable, kernel_pass_send) depth 40, (search sendable, (search sendable, tt)))))
 
 -- what a handle has
-body_send : IsSend Body.the_row
-body_send = recorded_send _ _ _ Body.the_type.to_one (enum_send (shape Body.the_type)
+content_send : IsSend HandleContent.the_row
+content_send = recorded_send _ _ _ HandleContent.the_type.to_one (enum_send (shape HandleContent.the_type)
     (tt, ((open_cell_send, tt), ((caller_send, tt), ((logged.the_send Object.the_row Params.the_row Call.the_row Reply.the_row kernel call_compares call_defaults reply_compares reply_defaults object_send params_send call_send reply_send, tt), tt)))))
 
 -- that is kept from being dropped
 pub row_send : IsSend row
-row_send = manual.the_send Body.the_row body_send
+row_send = manual.the_send HandleContent.the_row content_send

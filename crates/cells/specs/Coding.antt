@@ -26,22 +26,22 @@ abbrev pub answered : ℕ → ℕ → Answered
 answered w n = record { word = w; number = n }
 
 -- the numbers of the reply
-abbrev pub told_reply : KReply → Answered
-told_reply reply.Ok = answered 0 0
-told_reply (reply.Thread n) = answered 1 n
-told_reply (reply.Count n) = answered 2 n
-told_reply (reply.Page n) = answered 3 n
-told_reply (reply.Dropped n) = answered 4 n
-told_reply (reply.Byte n) = answered 5 n
-told_reply reply.BadThread = answered 6 0
-told_reply reply.Already = answered 7 0
-told_reply reply.Empty = answered 8 0
-told_reply reply.Absent = answered 9 0
-told_reply reply.BadOwner = answered 10 0
-told_reply reply.NoPage = answered 11 0
-told_reply reply.OverQuota = answered 12 0
-told_reply reply.BadPage = answered 13 0
-told_reply reply.NotTaken = answered 14 0
-told_reply reply.NotYours = answered 15 0
-told_reply reply.BadChannel = answered 16 0
-told_reply reply.BadCall = answered 17 0
+abbrev pub reply_code : KReply → Answered
+reply_code reply.Ok = answered 0 0
+reply_code (reply.Thread n) = answered 1 n
+reply_code (reply.Count n) = answered 2 n
+reply_code (reply.Page n) = answered 3 n
+reply_code (reply.Dropped n) = answered 4 n
+reply_code (reply.Byte n) = answered 5 n
+reply_code reply.BadThread = answered 6 0
+reply_code reply.Already = answered 7 0
+reply_code reply.Empty = answered 8 0
+reply_code reply.Absent = answered 9 0
+reply_code reply.BadOwner = answered 10 0
+reply_code reply.NoPage = answered 11 0
+reply_code reply.OverQuota = answered 12 0
+reply_code reply.BadPage = answered 13 0
+reply_code reply.NotTaken = answered 14 0
+reply_code reply.NotYours = answered 15 0
+reply_code reply.BadChannel = answered 16 0
+reply_code reply.BadCall = answered 17 0

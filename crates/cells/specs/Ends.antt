@@ -9,12 +9,12 @@ use Rattle.word_rule.specs.declared.pass.Pass.{Pass}
 use Rattle.word_rule.specs.Cell.{stored}
 use Rattle.word_rule.specs.LockRuns.{endings_in, arrivals_in}
 use Rattle.word_rule.specs.Passes.{view_of_pass, run_of_pass}
-use Rattle.cells.specs.declared.position.Position.{Position}
-use Rattle.cells.specs.declared.position.Position.TheVariants as at
+use Rattle.cells.specs.declared.caller_state.CallerState.{CallerState}
+use Rattle.cells.specs.declared.caller_state.CallerState.TheVariants as at
 use Rattle.cells.specs.declared.caller.Caller.{Caller}
 use Rattle.cells.specs.declared.open_cell.OpenCell.{OpenCell}
-use Rattle.cells.specs.declared.ends.NotDealt.{NotDealt}
-use Rattle.cells.specs.declared.ends.NotDealt.TheVariants.{NoneLeft, NoShare}
+use Rattle.cells.specs.declared.ends.NoNewCaller.{NoNewCaller}
+use Rattle.cells.specs.declared.ends.NoNewCaller.TheVariants.{NoneLeft, NoShare}
 use Rattle.cells.specs.declared.ends.NotClosed.{NotClosed}
 use Rattle.cells.specs.declared.ends.NotClosed.TheVariants.{NotAllBack, Shared}
 use Rattle.cells.specs.OpenCells.{TakesIn}
@@ -28,9 +28,9 @@ module _ {O P C R : Type 0} {g : Ghosts O P C R} {call_eq : Eq C} {call_default 
     pub back : after.back ≡ before.back
 
   -- a caller has the last of the passes
-  pub record HasDealt (before : OpenCell O P C R g call_eq call_default reply_eq reply_default) (caller : Caller O P C R g call_eq call_default reply_eq reply_default) (after : OpenCell O P C R g call_eq call_default reply_eq reply_default) : Type 0 where
+  pub record HasNewCaller (before : OpenCell O P C R g call_eq call_default reply_eq reply_default) (caller : Caller O P C R g call_eq call_default reply_eq reply_default) (after : OpenCell O P C R g call_eq call_default reply_eq reply_default) : Type 0 where
     pub pass : Pass O P C R g call_eq call_default reply_eq reply_default
-    pub idle : caller.position ≡ at.Idle pass
+    pub idle : caller.state ≡ at.Idle pass
     pub of : arc_value caller.cell ≡ arc_value before.cell
     pub cell : arc_value after.cell ≡ arc_value before.cell
     pub passes : before.passes.items ≡ after.passes.items ++ pass ∷ []
@@ -38,20 +38,20 @@ module _ {O P C R : Type 0} {g : Ghosts O P C R} {call_eq : Eq C} {call_default 
     pub back : after.back ≡ before.back
 
   -- a pass was given out; or nothing was done, since none was left, or since the cell gave no share of itself
-  abbrev pub IsDealt : OpenCell O P C R g call_eq call_default reply_eq reply_default → Result (Caller O P C R g call_eq call_default reply_eq reply_default) NotDealt → OpenCell O P C R g call_eq call_default reply_eq reply_default → Type 0
-  IsDealt before (Ok caller) after = HasDealt before caller after
-  IsDealt before (Err NoneLeft) after = IsSame before after × (vec_len before.passes ≡ 0)
-  IsDealt before (Err NoShare) after = IsSame before after × (0 < vec_len before.passes)
+  abbrev pub IsNewCaller : OpenCell O P C R g call_eq call_default reply_eq reply_default → Result (Caller O P C R g call_eq call_default reply_eq reply_default) NoNewCaller → OpenCell O P C R g call_eq call_default reply_eq reply_default → Type 0
+  IsNewCaller before (Ok caller) after = HasNewCaller before caller after
+  IsNewCaller before (Err NoneLeft) after = IsSame before after × (vec_len before.passes ≡ 0)
+  IsNewCaller before (Err NoShare) after = IsSame before after × (0 < vec_len before.passes)
 
   -- the caller is idle, and its CPU is the least that wasn't given back yet
-  abbrev pub is_next : OpenCell O P C R g call_eq call_default reply_eq reply_default → Position O P C R g call_eq call_default reply_eq reply_default → Bool
+  abbrev pub is_next : OpenCell O P C R g call_eq call_default reply_eq reply_default → CallerState O P C R g call_eq call_default reply_eq reply_default → Bool
   is_next o (at.Idle p) = nat_lt o.back o.cpus && ((view_of_pass p).caller.acting == o.back)
-  is_next o position = false
+  is_next o state = false
 
   -- an idle caller's pass was taken in
-  pub record HasTakenIn (before : OpenCell O P C R g call_eq call_default reply_eq reply_default) (caller : Caller O P C R g call_eq call_default reply_eq reply_default) (after : OpenCell O P C R g call_eq call_default reply_eq reply_default) : Type 0 where
+  pub record HasReturned (before : OpenCell O P C R g call_eq call_default reply_eq reply_default) (caller : Caller O P C R g call_eq call_default reply_eq reply_default) (after : OpenCell O P C R g call_eq call_default reply_eq reply_default) : Type 0 where
     pub pass : Pass O P C R g call_eq call_default reply_eq reply_default
-    pub idle : caller.position ≡ at.Idle pass
+    pub idle : caller.state ≡ at.Idle pass
     pub cell : arc_value after.cell ≡ arc_value before.cell
     pub passes : after.passes.items ≡ before.passes.items
     pub next : (view_of_pass pass).caller.acting ≡ before.back
@@ -59,9 +59,9 @@ module _ {O P C R : Type 0} {g : Ghosts O P C R} {call_eq : Eq C} {call_default 
     pub back : after.back ≡ before.back + 1
 
   -- a caller was given back; or it isn't the next, is there as it was, and nothing was done
-  abbrev pub IsGivenBack : OpenCell O P C R g call_eq call_default reply_eq reply_default → Caller O P C R g call_eq call_default reply_eq reply_default → Option (Caller O P C R g call_eq call_default reply_eq reply_default) → OpenCell O P C R g call_eq call_default reply_eq reply_default → Type 0
-  IsGivenBack before caller None after = HasTakenIn before caller after
-  IsGivenBack before caller (Some left) after = (is_next before caller.position ≡ false) × IsSame before after × (arc_value left.cell ≡ arc_value caller.cell) × (left.position ≡ caller.position)
+  abbrev pub IsReturned : OpenCell O P C R g call_eq call_default reply_eq reply_default → Caller O P C R g call_eq call_default reply_eq reply_default → Option (Caller O P C R g call_eq call_default reply_eq reply_default) → OpenCell O P C R g call_eq call_default reply_eq reply_default → Type 0
+  IsReturned before caller None after = HasReturned before caller after
+  IsReturned before caller (Some left) after = (is_next before caller.state ≡ false) × IsSame before after × (arc_value left.cell ≡ arc_value caller.cell) × (left.state ≡ caller.state)
 
   -- all callers were given back, the pass of all CPUs has seen the log that is left, and each that has arrived in line has ended
   -- its hold

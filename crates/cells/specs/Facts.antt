@@ -5,12 +5,12 @@ use Rattle.event_log.specs.declared.object.SeqObject.{Ghosts}
 use Rattle.event_log.proofs.Props.{legal_props}
 use Rattle.guarded_cell.specs.declared.cell.AnyCell.{AnyCell}
 use Rattle.guarded_cell.specs.declared.cell.AnyCell.TheVariants as cells
-use Rattle.cells.specs.declared.position.Position.{Position}
-use Rattle.cells.specs.declared.position.Position.TheVariants as at
-use Rattle.cells.specs.Positions.{IsOf}
+use Rattle.cells.specs.declared.caller_state.CallerState.{CallerState}
+use Rattle.cells.specs.declared.caller_state.CallerState.TheVariants as at
+use Rattle.cells.specs.CallerStates.{IsOf}
 
 module _ {O P C R : Type 0} {g : Ghosts O P C R} {call_eq : Eq C} {call_default : Default C} {reply_eq : Eq R} {reply_default : Default R} where
-  pub of_prop : IsSet O → IsSet P → IsSet C → IsSet R → (cell : AnyCell O P C R) (p : Position O P C R g call_eq call_default reply_eq reply_default) → IsProp (IsOf cell p)
+  pub of_prop : IsSet O → IsSet P → IsSet C → IsSet R → (cell : AnyCell O P C R) (p : CallerState O P C R g call_eq call_default reply_eq reply_default) → IsProp (IsOf cell p)
   of_prop so sp sc sr (cells.Ticket c) (at.Idle p) = hlevel (so, sp, sc, sr, legal_props)
   of_prop so sp sc sr (cells.Ticket c) (at.Drawn p) = hlevel (so, sp, sc, sr, legal_props)
   of_prop so sp sc sr (cells.Ticket c) (at.Ready p) = hlevel (so, sp, sc, sr, legal_props)

@@ -1,4 +1,4 @@
--- What a handle owns: the same as a `Box<ManuallyDrop<Body>>`.
+-- What a handle owns: the same as a `Box<ManuallyDrop<HandleContent>>`.
 use base.Fml.{Fml}
 use base.Stored.{Coded}
 use denote.RattleType.{RattleType}
@@ -7,10 +7,10 @@ use Rattle.std.specs.Box.Ownership.{box_owns}
 use Rattle.std.specs.Global.{Global}
 use Rattle.std_heap.specs.contracts.GlobalAllocator.TheImpl.{ghosts}
 use Rattle.core.specs.contracts.mem.manually_drop.ManuallyDrop as ManuallyDrop
-use Rattle.cells.specs.contracts.body.Body as Body
+use Rattle.cells.specs.contracts.handle_content.HandleContent as HandleContent
 
 abbrev pub row : RattleType
-row = ManuallyDrop.the_row Body.the_row
+row = ManuallyDrop.the_row HandleContent.the_row
 
 abbrev pub Slot : Type 0
 Slot = row.Denot

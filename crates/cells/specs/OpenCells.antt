@@ -8,8 +8,8 @@ use Rattle.word_rule.specs.Cell.{EachAt, Grows}
 use Rattle.word_rule.specs.LockRuns.{Extends}
 use Rattle.word_rule.specs.Passes.{view_of_pass, run_of_pass}
 use Rattle.guarded_cell.specs.declared.cell.AnyCell.{AnyCell}
-use Rattle.cells.specs.declared.position.Position.TheVariants as at
-use Rattle.cells.specs.Positions.{IsOf, IsOne}
+use Rattle.cells.specs.declared.caller_state.CallerState.TheVariants as at
+use Rattle.cells.specs.CallerStates.{IsOf, IsOne}
 
 module _ {O P C R : Type 0} {g : Ghosts O P C R} {call_eq : Eq C} {call_default : Default C} {reply_eq : Eq R} {reply_default : Default R} where
   -- a pass of the cell that owns that CPU alone

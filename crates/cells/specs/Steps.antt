@@ -3,20 +3,20 @@ use Rattle.std.specs.declared.cmp.PartialEq.{Ghosts as Eq}
 use Rattle.std.specs.declared.default.Default.{Ghosts as Default}
 use Rattle.std.specs.Prelude.{◌≡◌, ◌⊎◌, true, false, Option, Some, None}
 use Rattle.event_log.specs.declared.object.SeqObject.{Ghosts}
-use Rattle.word_rule.specs.CallerState.{CallerState}
+use Rattle.word_rule.specs.CallerState.{CallerState as StepState}
 use Rattle.word_rule.specs.Ticket.Steps.{IsDraw, IsLook, IsServe}
 use Rattle.word_rule.specs.Mcs.Steps.{IsClear, IsEnter, IsArm, IsLink, IsWaitingLook, IsSee, IsSeeAgain, IsEmpty, IsPass}
 use Rattle.guarded_cell.specs.declared.cell.AnyCell.{AnyCell}
 use Rattle.guarded_cell.specs.declared.cell.AnyCell.TheVariants as cells
-use Rattle.cells.specs.declared.position.Position.{Position}
-use Rattle.cells.specs.declared.position.Position.TheVariants as at
+use Rattle.cells.specs.declared.caller_state.CallerState.{CallerState}
+use Rattle.cells.specs.declared.caller_state.CallerState.TheVariants as at
 use Rattle.cells.specs.declared.progress.Progress.{Progress}
 use Rattle.cells.specs.declared.progress.Progress.TheVariants as told
-use Rattle.cells.specs.Positions.{state_of, has_none}
+use Rattle.cells.specs.CallerStates.{state_of, has_none}
 
 module _ {O P C R : Type 0} (g : Ghosts O P C R) {call_eq : Eq C} {call_default : Default C} {reply_eq : Eq R} {reply_default : Default R} where
-  -- the step towards the object, from that position of a caller of that cell, which tells that
-  abbrev pub IsStepThere : AnyCell O P C R → Position O P C R g call_eq call_default reply_eq reply_default → Progress → CallerState O P C R → CallerState O P C R → Type 0
+  -- the step towards the object, from that state of a caller of that cell, which tells that
+  abbrev pub IsStepThere : AnyCell O P C R → CallerState O P C R g call_eq call_default reply_eq reply_default → Progress → StepState O P C R → StepState O P C R → Type 0
   IsStepThere (cells.Ticket c) (at.Idle p) told.Stepped b a = IsDraw g b a
   IsStepThere (cells.Mcs c) (at.Idle p) told.Stepped b a = IsClear g b a
   IsStepThere c (at.Drawn d) told.Looked b a = IsLook g b a false
@@ -30,7 +30,7 @@ module _ {O P C R : Type 0} (g : Ghosts O P C R) {call_eq : Eq C} {call_default 
   IsStepThere c p t b a = ⊥
 
   -- the step by which the object is given back
-  abbrev pub IsStepBack : AnyCell O P C R → Position O P C R g call_eq call_default reply_eq reply_default → Progress → CallerState O P C R → CallerState O P C R → Type 0
+  abbrev pub IsStepBack : AnyCell O P C R → CallerState O P C R g call_eq call_default reply_eq reply_default → Progress → StepState O P C R → StepState O P C R → Type 0
   IsStepBack (cells.Ticket c) (at.Holding h) told.Left b a = IsServe g b a
   IsStepBack (cells.Mcs c) (at.Holding h) told.Stepped b a = IsSee g b a true ⊎ IsSee g b a false
   IsStepBack c (at.Alone l) told.Left b a = IsEmpty g b a true
@@ -41,11 +41,11 @@ module _ {O P C R : Type 0} (g : Ghosts O P C R) {call_eq : Eq C} {call_default 
   IsStepBack c p t b a = ⊥
 
   -- a caller that has the object already is refused, and nothing is done
-  abbrev pub IsAdvance : AnyCell O P C R → Position O P C R g call_eq call_default reply_eq reply_default → Option Progress → Position O P C R g call_eq call_default reply_eq reply_default → Type 0
-  IsAdvance c before (Some t) after = IsStepThere c before t (state_of before) (state_of after)
-  IsAdvance c before None after = (has_none before ≡ false) × (after ≡ before)
+  abbrev pub IsAcquireStep : AnyCell O P C R → CallerState O P C R g call_eq call_default reply_eq reply_default → Option Progress → CallerState O P C R g call_eq call_default reply_eq reply_default → Type 0
+  IsAcquireStep c before (Some t) after = IsStepThere c before t (state_of before) (state_of after)
+  IsAcquireStep c before None after = (has_none before ≡ false) × (after ≡ before)
 
   -- so is one that hasn't the object
-  abbrev pub IsLeave : AnyCell O P C R → Position O P C R g call_eq call_default reply_eq reply_default → Option Progress → Position O P C R g call_eq call_default reply_eq reply_default → Type 0
-  IsLeave c before (Some t) after = IsStepBack c before t (state_of before) (state_of after)
-  IsLeave c before None after = (has_none before ≡ true) × (after ≡ before)
+  abbrev pub IsReleaseStep : AnyCell O P C R → CallerState O P C R g call_eq call_default reply_eq reply_default → Option Progress → CallerState O P C R g call_eq call_default reply_eq reply_default → Type 0
+  IsReleaseStep c before (Some t) after = IsStepBack c before t (state_of before) (state_of after)
+  IsReleaseStep c before None after = (has_none before ≡ true) × (after ≡ before)

@@ -10,9 +10,9 @@ use Rattle.word_rule.specs.Cell.{Grows}
 use Rattle.word_rule.specs.LockRuns.{Extends}
 use Rattle.word_rule.specs.OneHold.{HasAcquired}
 use Rattle.word_rule.specs.Passes.{view_of_pass, view_of_hold, run_of_pass, run_of_hold}
-use Rattle.cells.specs.declared.position.Position.{Position}
-use Rattle.cells.specs.declared.position.Position.TheVariants as at
-use Rattle.cells.specs.Positions.{is_idle}
+use Rattle.cells.specs.declared.caller_state.CallerState.{CallerState}
+use Rattle.cells.specs.declared.caller_state.CallerState.TheVariants as at
+use Rattle.cells.specs.CallerStates.{is_idle}
 
 module _ {O P C R : Type 0} (g : Ghosts O P C R) {call_eq : Eq C} {call_default : Default C} {reply_eq : Eq R} {reply_default : Default R} where
   -- the object came, by at most one look, with a log that goes on from all that the caller had seen
@@ -27,7 +27,7 @@ module _ {O P C R : Type 0} (g : Ghosts O P C R) {call_eq : Eq C} {call_default 
     pub run : Extends (view_of_pass p).caller.owned (run_of_pass p) [] (run_of_pass q)
 
   -- whether a try got the object; a caller that isn't idle is refused, and nothing is done
-  abbrev pub IsTried : Position O P C R g call_eq call_default reply_eq reply_default → Option Bool → Position O P C R g call_eq call_default reply_eq reply_default → Type 0
+  abbrev pub IsTried : CallerState O P C R g call_eq call_default reply_eq reply_default → Option Bool → CallerState O P C R g call_eq call_default reply_eq reply_default → Type 0
   IsTried (at.Idle p) (Some true) (at.Holding h) = HasTried p h
   IsTried (at.Idle p) (Some false) (at.Idle q) = WasBusy p q
   IsTried before None after = (is_idle before ≡ false) × (after ≡ before)

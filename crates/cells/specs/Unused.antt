@@ -8,7 +8,7 @@ use Rattle.word_rule.specs.declared.pass.Pass.{Pass}
 use Rattle.word_rule.specs.Passes.{view_of_pass}
 use Rattle.guarded_cell.specs.declared.cell.AnyCell.{AnyCell}
 use Rattle.guarded_cell.specs.Kinds.{IsPassOf}
-use Rattle.cells.specs.Positions.{fixed_of}
+use Rattle.cells.specs.CallerStates.{fixed_of}
 
 module _ {O P C R : Type 0} {g : Ghosts O P C R} {call_eq : Eq C} {call_default : Default C} {reply_eq : Eq R} {reply_default : Default R} where
   -- a pass of the cell whose CPUs have done nothing

@@ -1,7 +1,7 @@
 //! Calls and replies by the numbers that C has for them.
 
 ghost use Rattle.std.specs.Prelude.{◌≡◌};
-ghost use Rattle.cells.specs.Coding.{called_of, told_reply};
+ghost use Rattle.cells.specs.Coding.{called_of, reply_code};
 
 use console_ring::ConsoleCall;
 use page_pool::PoolCall;
@@ -26,10 +26,8 @@ pub struct Answered {
     pub number: u32,
 }
 
-// The number of the call that puts a byte.
-const PUT: u32 = 7;
-
 /// The call of these numbers.
+#[inline]
 pub fn called_of(asked: &Asked) -> Option<KCall>
     ensures { result ≡ called_of asked.now }
 {
@@ -38,58 +36,67 @@ pub fn called_of(asked: &Asked) -> Option<KCall>
         first,
         second,
     } = *asked;
-    if word == PUT && first > 255 {
-        return None;
-    }
-    let calls = [
-        KCall::Queue(QueueCall::Enq(first)),
-        KCall::Queue(QueueCall::Deq),
-        KCall::Queue(QueueCall::Remove(first)),
-        KCall::Queue(QueueCall::Len),
-        KCall::Pool(PoolCall::Alloc(first)),
-        KCall::Pool(PoolCall::Free {
+    let call = match word {
+        0 => KCall::Queue(QueueCall::Enq(first)),
+        1 => KCall::Queue(QueueCall::Deq),
+        2 => KCall::Queue(QueueCall::Remove(first)),
+        3 => KCall::Queue(QueueCall::Len),
+        4 => KCall::Pool(PoolCall::Alloc(first)),
+        5 => KCall::Pool(PoolCall::Free {
             owner: first,
             page: second,
         }),
-        KCall::Pool(PoolCall::Left),
-        KCall::Console(ConsoleCall::Put((first % 256) as u8)),
-        KCall::Console(ConsoleCall::Get),
-        KCall::Console(ConsoleCall::Level),
-        KCall::Sched(SchedCall::Ready(first)),
-        KCall::Sched(SchedCall::Next),
-        KCall::Sched(SchedCall::Sleep {
+        6 => KCall::Pool(PoolCall::Left),
+        7 => {
+            if first > 255 {
+                return None;
+            }
+            KCall::Console(ConsoleCall::Put(first as u8))
+        }
+        8 => KCall::Console(ConsoleCall::Get),
+        9 => KCall::Console(ConsoleCall::Level),
+        10 => KCall::Sched(SchedCall::Ready(first)),
+        11 => KCall::Sched(SchedCall::Next),
+        12 => KCall::Sched(SchedCall::Sleep {
             channel: first,
             thread: second,
         }),
-        KCall::Sched(SchedCall::Wake(first)),
-        KCall::Sched(SchedCall::WakeAll(first)),
-    ];
-    calls.get(word as usize).copied()
+        13 => KCall::Sched(SchedCall::Wake(first)),
+        14 => KCall::Sched(SchedCall::WakeAll(first)),
+        _ => return None,
+    };
+    Some(call)
 }
 
 /// The numbers of the reply.
-pub fn told_reply(reply: KReply) -> Answered
-    ensures { result ≡ told_reply reply }
+#[inline]
+pub fn reply_code(reply: KReply) -> Answered
+    ensures { result ≡ reply_code reply }
 {
-    let (word, number) = match reply {
-        KReply::Ok => (0, 0),
-        KReply::Thread(thread) => (1, thread),
-        KReply::Count(count) => (2, count),
-        KReply::Page(page) => (3, page),
-        KReply::Dropped(byte) => (4, u32::from(byte)),
-        KReply::Byte(byte) => (5, u32::from(byte)),
-        KReply::BadThread => (6, 0),
-        KReply::Already => (7, 0),
-        KReply::Empty => (8, 0),
-        KReply::Absent => (9, 0),
-        KReply::BadOwner => (10, 0),
-        KReply::NoPage => (11, 0),
-        KReply::OverQuota => (12, 0),
-        KReply::BadPage => (13, 0),
-        KReply::NotTaken => (14, 0),
-        KReply::NotYours => (15, 0),
-        KReply::BadChannel => (16, 0),
-        KReply::BadCall => (17, 0),
+    let word = match reply {
+        KReply::Ok => 0,
+        KReply::Thread(_) => 1,
+        KReply::Count(_) => 2,
+        KReply::Page(_) => 3,
+        KReply::Dropped(_) => 4,
+        KReply::Byte(_) => 5,
+        KReply::BadThread => 6,
+        KReply::Already => 7,
+        KReply::Empty => 8,
+        KReply::Absent => 9,
+        KReply::BadOwner => 10,
+        KReply::NoPage => 11,
+        KReply::OverQuota => 12,
+        KReply::BadPage => 13,
+        KReply::NotTaken => 14,
+        KReply::NotYours => 15,
+        KReply::BadChannel => 16,
+        KReply::BadCall => 17,
+    };
+    let number = match reply {
+        KReply::Thread(number) | KReply::Count(number) | KReply::Page(number) => number,
+        KReply::Dropped(byte) | KReply::Byte(byte) => u32::from(byte),
+        _ => 0,
     };
     Answered { word, number }
 }

@@ -5,10 +5,10 @@ ghost use Rattle.std_alloc.specs.Arc.{arc_value};
 ghost use Rattle.sound_run.specs.declared.limits.TheConstants.{MOST_CPUS};
 ghost use Rattle.cells.specs.OpenCells.{IsHome, TakesIn};
 ghost use Rattle.cells.specs.NewCells.{IsOpenedOn};
-ghost use Rattle.cells.specs.Ends.{IsDealt, IsGivenBack, IsClosed};
+ghost use Rattle.cells.specs.Ends.{IsNewCaller, IsReturned, IsClosed};
 
 use crate::unused::end_unused;
-use crate::{Caller, OpenCell, Position};
+use crate::{Caller, CallerState, OpenCell};
 use event_log::{Logged, SeqObject};
 use guarded_cell::AnyCell;
 use sound_run::{LockKind, MOST_CPUS};
@@ -18,7 +18,7 @@ use word_rule::{LockCell, Pass};
 
 /// Why no caller was made.
 #[derive(Clone, Copy, Debug, PartialEq, Eq, Drop)]
-pub enum NotDealt {
+pub enum NoNewCaller {
     /// Each CPU has a caller, or had one.
     NoneLeft,
     /// The cell has as many owners as can be counted.
@@ -65,14 +65,14 @@ impl<O: SeqObject> OpenCell<O> {
     }
 
     /// Gives out the pass of the greatest CPU that has no caller yet. There is none if all have one.
-    pub fn deal(self) -> (OpenCell<O>, Result<Caller<O>, NotDealt>)
-        ensures { IsDealt self result.1 result.0 }
+    pub fn new_caller(self) -> (OpenCell<O>, Result<Caller<O>, NoNewCaller>)
+        ensures { IsNewCaller self result.1 result.0 }
     {
         if self.passes.is_empty() {
-            return (self, Err(NotDealt::NoneLeft));
+            return (self, Err(NoNewCaller::NoneLeft));
         }
         let Ok(shared) = Arc::try_clone(&self.cell) else {
-            return (self, Err(NotDealt::NoShare));
+            return (self, Err(NoNewCaller::NoShare));
         };
         let OpenCell {
             cell,
@@ -90,11 +90,11 @@ impl<O: SeqObject> OpenCell<O> {
             cpus,
         };
         let Some(pass) = dealt else {
-            return (rest, Err(NotDealt::NoneLeft));
+            return (rest, Err(NoNewCaller::NoneLeft));
         };
         let caller = Caller {
             cell: shared,
-            position: Position::Idle(pass),
+            state: CallerState::Idle(pass),
         };
         (rest, Ok(caller))
     }
@@ -129,20 +129,20 @@ impl<O: SeqObject> OpenCell<O> {
     }
 
     /// Takes back an idle caller of the least CPU that wasn't given back yet. Any other comes back.
-    pub fn take_back(self, caller: Caller<O>) -> (OpenCell<O>, Option<Caller<O>>)
+    pub fn return_caller(self, caller: Caller<O>) -> (OpenCell<O>, Option<Caller<O>>)
         requires { arc_value caller.cell ≡ arc_value self.cell }
-        ensures { IsGivenBack self caller result.1 result.0 }
+        ensures { IsReturned self caller result.1 result.0 }
     {
-        let Caller { cell, position } = caller;
-        match position {
-            Position::Idle(pass) => {
+        let Caller { cell, state } = caller;
+        match state {
+            CallerState::Idle(pass) => {
                 if self.back < self.cpus && pass.cpu.number == self.back {
                     return (self.with_back(pass), None);
                 }
-                let position = Position::Idle(pass);
-                (self, Some(Caller { cell, position }))
+                let state = CallerState::Idle(pass);
+                (self, Some(Caller { cell, state }))
             }
-            position => (self, Some(Caller { cell, position })),
+            state => (self, Some(Caller { cell, state })),
         }
     }
 

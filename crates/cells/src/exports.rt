@@ -1,83 +1,39 @@
 //! The calls that C has on a caller.
 
-ghost use Rattle.std.specs.Prelude.{◌≡◌};
-ghost use Rattle.cells.specs.Told.{told_progress, told_try};
-ghost use Rattle.cells.specs.Exports.{body_of, IsAdvanceTold, IsLeaveTold, IsTryTold, IsCallTold};
+ghost use Rattle.cells.specs.Exports.{content_of, ReportsAcquireStep, ReportsReleaseStep, ReportsTry, ReportsApply, ReportsCall, ReportsBatch, ReportsTryCall};
 
-use crate::coding::{Answered, Asked, called_of, told_reply};
-use crate::handle::with_body;
-use crate::{Body, Handle, Progress};
-use event_log::NoRoom;
-
-/// What a step has told: a number for each.
-pub const STEPPED: u32 = 0;
-
-pub const LOOKED: u32 = 1;
-
-pub const ENTERED: u32 = 2;
-
-pub const FOUND: u32 = 3;
-
-pub const LEFT: u32 = 4;
-
-/// Nothing was done: the handle isn't at a place where this can be done.
-pub const REFUSED: u32 = 5;
-
-/// Of a try: another has the object, or is in line for it.
-pub const BUSY: u32 = 6;
-
-/// It was done; the log is full, and nothing was done; there is no such call, or no such step.
-pub const DONE: u32 = 7;
-
-pub const FULL: u32 = 8;
-
-pub const NOT_THERE: u32 = 9;
-
-fn told_progress(told: Option<Progress>) -> u32
-    ensures { result ≡ told_progress told }
-{
-    match told {
-        Some(Progress::Stepped) => STEPPED,
-        Some(Progress::Looked) => LOOKED,
-        Some(Progress::Entered) => ENTERED,
-        Some(Progress::Found) => FOUND,
-        Some(Progress::Left) => LEFT,
-        None => REFUSED,
-    }
-}
-
-fn told_try(told: Option<bool>) -> u32
-    ensures { result ≡ told_try told }
-{
-    match told {
-        Some(true) => FOUND,
-        Some(false) => BUSY,
-        None => REFUSED,
-    }
-}
+use crate::batching::{Batch, Replies, calls_of};
+use crate::codes::{
+    BUSY, DONE, DONE_KEPT, FULL, FULL_KEPT, NOT_THERE, REFUSED, answer_code, batch_code, call_code,
+    progress_code, try_code,
+};
+use crate::coding::{Answered, Asked, called_of};
+use crate::handle::at_content;
+use crate::{Handle, TriedCall};
+use event_log::MOST_CALLS;
 
 /// The caller's next step towards the object.
 #[unsafe(no_mangle)]
 pub extern "C" fn mc2_caller_advance(caller: &mut Handle) -> u32
-    ensures { IsAdvanceTold (body_of caller.old) result (body_of caller.new) }
+    ensures { ReportsAcquireStep (content_of caller.old) result (content_of caller.new) }
 {
-    told_progress(with_body(caller, (), |body, ()| body.advance()))
+    progress_code(at_content(caller, (), |content, ()| content.acquire_step()))
 }
 
 /// The caller's next step to give the object back.
 #[unsafe(no_mangle)]
 pub extern "C" fn mc2_caller_leave(caller: &mut Handle) -> u32
-    ensures { IsLeaveTold (body_of caller.old) result (body_of caller.new) }
+    ensures { ReportsReleaseStep (content_of caller.old) result (content_of caller.new) }
 {
-    told_progress(with_body(caller, (), |body, ()| body.leave()))
+    progress_code(at_content(caller, (), |content, ()| content.release_step()))
 }
 
 /// A try: the object, if nobody has it or is in line for it.
 #[unsafe(no_mangle)]
 pub extern "C" fn mc2_caller_try(caller: &mut Handle) -> u32
-    ensures { IsTryTold (body_of caller.old) result (body_of caller.new) }
+    ensures { ReportsTry (content_of caller.old) result (content_of caller.new) }
 {
-    told_try(with_body(caller, (), |body, ()| body.try_hold()))
+    try_code(at_content(caller, (), |content, ()| content.try_hold()))
 }
 
 /// A call by a caller that has the object. Where it is done, the reply is written.
@@ -87,17 +43,75 @@ pub extern "C" fn mc2_caller_apply(
     asked: &Asked,
     answered: &mut Answered,
 ) -> u32
-    ensures { IsCallTold (body_of caller.old) asked.now answered.old result (body_of caller.new) answered.new }
+    ensures { ReportsApply (content_of caller.old) asked.now answered.old result (content_of caller.new) answered.new }
 {
     let Some(call) = called_of(asked) else {
         return NOT_THERE;
     };
-    match with_body(caller, &call, |body, call| body.apply(call)) {
-        Some(Ok(reply)) => {
-            *answered = told_reply(reply);
-            DONE
-        }
-        Some(Err(NoRoom)) => FULL,
+    match at_content(caller, &call, |content, call| content.apply(call)) {
+        Some(done) => answer_code(done, DONE, FULL, answered),
         None => REFUSED,
+    }
+}
+
+/// A whole call, as far as it comes without waiting. Where it is done, the reply is written. The looks are counted on.
+#[unsafe(no_mangle)]
+pub extern "C" fn mc2_caller_call(
+    caller: &mut Handle,
+    asked: &Asked,
+    answered: &mut Answered,
+    looks: &mut u64,
+) -> u32
+    ensures { ReportsCall (content_of caller.old) asked.now (answered.old, looks.old) result (content_of caller.new) (answered.new, looks.new) }
+{
+    let Some(call) = called_of(asked) else {
+        return NOT_THERE;
+    };
+    let whole = at_content(caller, &call, |content, call| content.call(call));
+    call_code(whole, answered, looks)
+}
+
+/// A batch of 1 to 8 calls, which are one event, as far as it comes without waiting. Where it is done, the replies are written. The
+/// looks are counted on.
+#[unsafe(no_mangle)]
+pub extern "C" fn mc2_caller_batch(
+    caller: &mut Handle,
+    batch: &Batch,
+    replies: &mut Replies,
+    looks: &mut u64,
+) -> u32
+    ensures { ReportsBatch (content_of caller.old) batch.now (replies.old, looks.old) result (content_of caller.new) (replies.new, looks.new) }
+{
+    if batch.count == 0 || batch.count > MOST_CALLS as u32 {
+        return REFUSED;
+    }
+    let Some(calls) = calls_of(batch) else {
+        return NOT_THERE;
+    };
+    let whole = at_content(
+        caller,
+        calls.as_slice(),
+        |content, calls| content.batch(calls),
+    );
+    batch_code(whole, replies, looks)
+}
+
+/// A whole call, if nobody has the object or is in line for it. Where it is done, the reply is written.
+#[unsafe(no_mangle)]
+pub extern "C" fn mc2_caller_try_call(
+    caller: &mut Handle,
+    asked: &Asked,
+    answered: &mut Answered,
+) -> u32
+    ensures { ReportsTryCall (content_of caller.old) asked.now answered.old result (content_of caller.new) answered.new }
+{
+    let Some(call) = called_of(asked) else {
+        return NOT_THERE;
+    };
+    match at_content(caller, &call, |content, call| content.try_call(call)) {
+        TriedCall::Done(done) => answer_code(done, DONE, FULL, answered),
+        TriedCall::Kept(done) => answer_code(done, DONE_KEPT, FULL_KEPT, answered),
+        TriedCall::Busy => BUSY,
+        TriedCall::Refused => REFUSED,
     }
 }

@@ -1,10 +1,12 @@
 //! What C has of a cell, or of a caller: a pointer.
 
 ghost use Rattle.std.specs.Prelude.{◌≡◌};
+ghost use Rattle.std.specs.Borrow.{MutBor};
 ghost use Rattle.core.specs.Mem.{manually_drop_value};
+ghost use Rattle.cells.specs.declared.handle_content.HandleContent.{HandleContent};
 ghost use Rattle.cells.specs.Handles.{Slot, slot_coded, handle_owns};
 
-use crate::Body;
+use crate::HandleContent;
 use crate::parts::Parts;
 use core::mem::replace_with;
 use std::alloc::Global;
@@ -25,7 +27,7 @@ impl Model for Handle {
 }
 
 impl Handle {
-    pub(crate) fn of_parts(parts: Parts<ManuallyDrop<Body>, Global>) -> Handle
+    pub(crate) fn of_parts(parts: Parts<ManuallyDrop<HandleContent>, Global>) -> Handle
         ensures { result.slot ≡ parts.value }
     {
         let Parts { ptr, alloc } = parts;
@@ -35,30 +37,34 @@ impl Handle {
         }
     }
 
-    pub(crate) fn into_parts(self) -> Parts<ManuallyDrop<Body>, Global>
+    pub(crate) fn into_parts(self) -> Parts<ManuallyDrop<HandleContent>, Global>
         ensures { result.value ≡ self.slot }
     {
         let Handle { ptr, alloc } = self;
         Parts {
-            ptr: ptr as *mut ManuallyDrop<Body>,
+            ptr: ptr as *mut ManuallyDrop<HandleContent>,
             alloc,
         }
     }
 }
 
-fn in_slot<X, R, F: FnOnce(Body, X) -> (Body, R)>(
-    slot: ManuallyDrop<Body>,
+fn in_slot<X, R, F: FnOnce(HandleContent, X) -> (HandleContent, R)>(
+    slot: ManuallyDrop<HandleContent>,
     x: X,
     f: F,
-) -> (ManuallyDrop<Body>, R)
+) -> (ManuallyDrop<HandleContent>, R)
     requires { F.pre f (manually_drop_value slot) x }
     ensures { F.post f (manually_drop_value slot) x (manually_drop_value result.0, result.1) }
 {
-    let (body, told) = f(ManuallyDrop::into_inner(slot), x);
-    (unsafe { ManuallyDrop::new_unchecked(body) }, told)
+    let (content, told) = f(ManuallyDrop::into_inner(slot), x);
+    (unsafe { ManuallyDrop::new_unchecked(content) }, told)
 }
 
-fn in_handle<X, R, F: FnOnce(Body, X) -> (Body, R)>(handle: Handle, x: X, f: F) -> (Handle, R)
+fn in_handle<X, R, F: FnOnce(HandleContent, X) -> (HandleContent, R)>(
+    handle: Handle,
+    x: X,
+    f: F,
+) -> (Handle, R)
     requires { F.pre f (manually_drop_value handle.slot) x }
     ensures { F.post f (manually_drop_value handle.slot) x (manually_drop_value result.0.slot, result.1) }
 {
@@ -68,11 +74,39 @@ fn in_handle<X, R, F: FnOnce(Body, X) -> (Body, R)>(handle: Handle, x: X, f: F) 
 }
 
 /// Takes out what the handle has, and puts back what f makes of it.
-pub(crate) fn with_body<X, R, F: FnOnce(Body, X) -> (Body, R)>(handle: &mut Handle, x: X, f: F) -> R
+pub(crate) fn with_content<X, R, F: FnOnce(HandleContent, X) -> (HandleContent, R)>(
+    handle: &mut Handle,
+    x: X,
+    f: F,
+) -> R
     requires { F.pre f (manually_drop_value handle.old.slot) x }
     ensures { F.post f (manually_drop_value handle.old.slot) x (manually_drop_value handle.new.slot, result) }
 {
     replace_with(handle, (x, f), |handle, (x, f)| in_handle(handle, x, f))
+}
+
+// The same, in its place.
+#[inline]
+fn at_block<X, R, F: FnOnce(&mut HandleContent, X) -> R>(handle: Handle, x: X, f: F) -> (Handle, R)
+    requires { (p : MutBor HandleContent) → p.now ≡ manually_drop_value handle.slot → F.pre f p x }
+    ensures { (p q : MutBor HandleContent) × (p.now ≡ manually_drop_value handle.slot) × F.post f p x result.1 q × (q.now ≡ manually_drop_value result.0.slot) }
+{
+    let mut block = handle.into_parts().into_box();
+    let done = f(&mut **block, x);
+    (Handle::of_parts(Parts::of(block)), done)
+}
+
+/// Does f with what the handle has, in its place.
+#[inline]
+pub(crate) fn at_content<X, R, F: FnOnce(&mut HandleContent, X) -> R>(
+    handle: &mut Handle,
+    x: X,
+    f: F,
+) -> R
+    requires { (p : MutBor HandleContent) → p.now ≡ manually_drop_value handle.old.slot → F.pre f p x }
+    ensures { (p q : MutBor HandleContent) × (p.now ≡ manually_drop_value handle.old.slot) × F.post f p x result q × (q.now ≡ manually_drop_value handle.new.slot) }
+{
+    replace_with(handle, (x, f), |handle, (x, f)| at_block(handle, x, f))
 }
 
 unsafe impl Send for Handle {}

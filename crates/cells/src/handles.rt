@@ -1,61 +1,46 @@
 //! The calls that C has on a cell, and on a new handle.
 
 ghost use Rattle.std.specs.Prelude.{◌≡◌, ◌↔◌};
-ghost use Rattle.cells.specs.Exports.{body_of};
-ghost use Rattle.cells.specs.CellBodies.{IsBadOpening};
-ghost use Rattle.cells.specs.CellExports.{IsOpenTold, IsReopenTold, IsForgetTold, IsDealTold, IsBackTold, IsCloseTold, IsFreeTold, IsStepTold, told_opening, owns_back};
-ghost use Rattle.cells.specs.declared.body.Body.TheVariants.{Empty};
+ghost use Rattle.cells.specs.declared.codes.TheConstants.{BAD_OPENING};
+ghost use Rattle.cells.specs.Exports.{content_of};
+ghost use Rattle.cells.specs.CellContents.{IsBadOpening};
+ghost use Rattle.cells.specs.CellExports.{ReportsOpening, ReportsReopening, ReportsForgetting, ReportsNewCaller, ReportsReturn, ReportsClosing, ReportsFreeing, ReportsStep, owns_back};
+ghost use Rattle.cells.specs.declared.handle_content.HandleContent.TheVariants.{Empty};
 
-use crate::ends::{NotClosed, NotDealt};
-use crate::exports::{BUSY, DONE, NOT_THERE, REFUSED};
-use crate::handle::with_body;
+use crate::codes::{BUSY, DONE, NO_MEMORY, NOT_THERE, REFUSED, opening_code};
+use crate::ends::{NoNewCaller, NotClosed};
+use crate::handle::with_content;
 use crate::logged_step::LoggedStep;
-use crate::opening::{NotOpened, Opening};
+use crate::opening::Opening;
 use crate::parts::Parts;
-use crate::{Body, Caller, Handle, Position};
+use crate::{Caller, CallerState, Handle, HandleContent};
 use scripts::KernelObject;
 use std::alloc::Global;
 use std::mem::ManuallyDrop;
 
-/// Of an opening: memory was refused, or a number is none of those that fit.
-pub const NO_MEMORY: u32 = 10;
-
-pub const BAD_OPENING: u32 = 11;
-
 /// Takes out what the handle has.
-fn take_body(handle: &mut Handle) -> Body
-    ensures body { result ≡ body_of handle.old }
-    ensures after { body_of handle.new ≡ Empty }
+fn take_content(handle: &mut Handle) -> HandleContent
+    ensures content { result ≡ content_of handle.old }
+    ensures after { content_of handle.new ≡ Empty }
 {
-    with_body(handle, (), |body, ()| (Body::Empty, body))
+    with_content(handle, (), |content, ()| (HandleContent::Empty, content))
 }
 
 /// The handle has that, and no longer what it had.
-fn put_body(handle: &mut Handle, body: Body)
-    requires { body_of handle.old ≡ Empty }
-    ensures { body_of handle.new ≡ body }
+fn put_content(handle: &mut Handle, content: HandleContent)
+    requires { content_of handle.old ≡ Empty }
+    ensures { content_of handle.new ≡ content }
 {
-    let old = with_body(handle, body, |old, body| (body, old));
+    let old = with_content(handle, content, |old, content| (content, old));
     let _nothing = unsafe { ManuallyDrop::new_unchecked(old) };
-}
-
-fn told_opening(told: Result<(), NotOpened>) -> u32
-    ensures { result ≡ told_opening told }
-{
-    match told {
-        Ok(()) => DONE,
-        Err(NotOpened::NotEmpty) => REFUSED,
-        Err(NotOpened::OutOfMemory) => NO_MEMORY,
-        Err(NotOpened::BadOpening) => BAD_OPENING,
-    }
 }
 
 // An idle caller's pass is lost, and so its cell can't be closed any more.
 fn drop_caller(caller: Caller<KernelObject>) {
-    let Caller { cell, position } = caller;
+    let Caller { cell, state } = caller;
     drop(cell);
-    match position {
-        Position::Idle(pass) => drop(pass),
+    match state {
+        CallerState::Idle(pass) => drop(pass),
         other => {
             let _left = unsafe { ManuallyDrop::new_unchecked(other) };
         }
@@ -65,7 +50,7 @@ fn drop_caller(caller: Caller<KernelObject>) {
 /// Makes a handle that has nothing, and writes its pointer.
 #[unsafe(no_mangle)]
 pub extern "C" fn mc2_handle_new(alloc: Global, own: &mut *mut u8) -> u32 {
-    let slot = unsafe { ManuallyDrop::new_unchecked(Body::Empty) };
+    let slot = unsafe { ManuallyDrop::new_unchecked(HandleContent::Empty) };
     let Ok(block) = Box::new(alloc, slot) else {
         return NO_MEMORY;
     };
@@ -76,7 +61,7 @@ pub extern "C" fn mc2_handle_new(alloc: Global, own: &mut *mut u8) -> u32 {
 /// Frees the handle with what it has, unless that is a caller that isn't idle.
 #[unsafe(no_mangle)]
 pub extern "C" fn mc2_handle_free(handle: Handle) -> u32
-    ensures { IsFreeTold (body_of handle) result }
+    ensures { ReportsFreeing (content_of handle) result }
 {
     let block = handle.into_parts().into_box();
     if !(**block).is_free() {
@@ -85,10 +70,10 @@ pub extern "C" fn mc2_handle_free(handle: Handle) -> u32
         return REFUSED;
     }
     match ManuallyDrop::into_inner(Box::into_inner(block)) {
-        Body::Caller(caller) => drop_caller(caller),
-        Body::Cell(cell) => drop(cell),
-        Body::Ended(logged) => drop(logged),
-        Body::Empty => {}
+        HandleContent::Caller(caller) => drop_caller(caller),
+        HandleContent::Cell(cell) => drop(cell),
+        HandleContent::Ended(logged) => drop(logged),
+        HandleContent::Empty => {}
     }
     DONE
 }
@@ -96,28 +81,32 @@ pub extern "C" fn mc2_handle_free(handle: Handle) -> u32
 /// Opens a cell.
 #[unsafe(no_mangle)]
 pub extern "C" fn mc2_handle_open(alloc: Global, cell: &mut Handle, opening: &Opening) -> u32
-    ensures opened { IsOpenTold (body_of cell.old) opening.now result (body_of cell.new) }
-    ensures judged { IsBadOpening (body_of cell.old) opening.now ↔ (result ≡ BAD_OPENING) }
+    ensures opened { ReportsOpening (content_of cell.old) opening.now result (content_of cell.new) }
+    ensures judged { IsBadOpening (content_of cell.old) opening.now ↔ (result ≡ BAD_OPENING) }
 {
-    told_opening(with_body(cell, opening, |body, opening| body.open(alloc, opening)))
+    opening_code(with_content(
+        cell,
+        opening,
+        |content, opening| content.open(alloc, opening),
+    ))
 }
 
 /// Makes a caller of the greatest CPU of the cell that has none yet.
 #[unsafe(no_mangle)]
 pub extern "C" fn mc2_handle_deal(cell: &mut Handle, caller: &mut Handle) -> u32
-    ensures { IsDealTold (body_of cell.old) (body_of caller.old) result (body_of cell.new) (body_of caller.new) }
+    ensures { ReportsNewCaller (content_of cell.old) (content_of caller.old) result (content_of cell.new) (content_of caller.new) }
 {
-    match take_body(caller) {
-        Body::Empty => match with_body(cell, (), |body, ()| body.deal()) {
+    match take_content(caller) {
+        HandleContent::Empty => match with_content(cell, (), |content, ()| content.new_caller()) {
             Ok(dealt) => {
-                put_body(caller, Body::Caller(dealt));
+                put_content(caller, HandleContent::Caller(dealt));
                 DONE
             }
-            Err(NotDealt::NoneLeft) => REFUSED,
-            Err(NotDealt::NoShare) => NO_MEMORY,
+            Err(NoNewCaller::NoneLeft) => REFUSED,
+            Err(NoNewCaller::NoShare) => NO_MEMORY,
         },
         other => {
-            put_body(caller, other);
+            put_content(caller, other);
             REFUSED
         }
     }
@@ -126,19 +115,23 @@ pub extern "C" fn mc2_handle_deal(cell: &mut Handle, caller: &mut Handle) -> u32
 /// Takes an idle caller back, of the least CPU that wasn't taken back yet.
 #[unsafe(no_mangle)]
 pub extern "C" fn mc2_cell_take_back(cell: &mut Handle, caller: &mut Handle) -> u32
-    requires { owns_back (body_of cell.old) (body_of caller.old) }
-    ensures { IsBackTold (body_of cell.old) (body_of caller.old) result (body_of cell.new) (body_of caller.new) }
+    requires { owns_back (content_of cell.old) (content_of caller.old) }
+    ensures { ReportsReturn (content_of cell.old) (content_of caller.old) result (content_of cell.new) (content_of caller.new) }
 {
-    match take_body(caller) {
-        Body::Caller(back) => match with_body(cell, back, |body, back| body.take_back(back)) {
+    match take_content(caller) {
+        HandleContent::Caller(back) => match with_content(
+            cell,
+            back,
+            |content, back| content.return_caller(back),
+        ) {
             Some(left) => {
-                put_body(caller, Body::Caller(left));
+                put_content(caller, HandleContent::Caller(left));
                 REFUSED
             }
             None => DONE,
         },
         other => {
-            put_body(caller, other);
+            put_content(caller, other);
             REFUSED
         }
     }
@@ -147,9 +140,9 @@ pub extern "C" fn mc2_cell_take_back(cell: &mut Handle, caller: &mut Handle) -> 
 /// Ends the cell, once all callers were taken back.
 #[unsafe(no_mangle)]
 pub extern "C" fn mc2_cell_close(cell: &mut Handle) -> u32
-    ensures { IsCloseTold (body_of cell.old) result (body_of cell.new) }
+    ensures { ReportsClosing (content_of cell.old) result (content_of cell.new) }
 {
-    match with_body(cell, (), |body, ()| body.close()) {
+    match with_content(cell, (), |content, ()| content.close()) {
         Ok(()) => DONE,
         Err(NotClosed::NotAllBack) => REFUSED,
         Err(NotClosed::Shared) => BUSY,
@@ -159,22 +152,22 @@ pub extern "C" fn mc2_cell_close(cell: &mut Handle) -> u32
 /// Opens a cell of that lock and so many CPUs on the object of one that was closed. The log goes on.
 #[unsafe(no_mangle)]
 pub extern "C" fn mc2_cell_reopen(alloc: Global, cell: &mut Handle, lock: u32, cpus: u32) -> u32
-    ensures { IsReopenTold (body_of cell.old) lock cpus result (body_of cell.new) }
+    ensures { ReportsReopening (content_of cell.old) lock cpus result (content_of cell.new) }
 {
     let how = (lock, cpus);
-    told_opening(with_body(
+    opening_code(with_content(
         cell,
         how,
-        |body, (lock, cpus)| body.reopen(alloc, lock, cpus),
+        |content, (lock, cpus)| content.reopen(alloc, lock, cpus),
     ))
 }
 
 /// From now on the log of a cell that was closed isn't kept, and has room for 2^64 - 1 events.
 #[unsafe(no_mangle)]
 pub extern "C" fn mc2_cell_forget(alloc: Global, cell: &mut Handle) -> u32
-    ensures { IsForgetTold (body_of cell.old) result (body_of cell.new) }
+    ensures { ReportsForgetting (content_of cell.old) result (content_of cell.new) }
 {
-    if with_body(cell, (), |body, ()| body.forget(alloc)) {
+    if with_content(cell, (), |content, ()| content.forget(alloc)) {
         DONE
     } else {
         REFUSED
@@ -189,11 +182,11 @@ pub extern "C" fn mc2_cell_step(
     step: usize,
     told: &mut LoggedStep,
 ) -> u32
-    ensures { IsStepTold (body_of cell.old) event step told.old result (body_of cell.new) told.new }
+    ensures { ReportsStep (content_of cell.old) event step told.old result (content_of cell.new) told.new }
 {
-    let found = with_body(cell, (event, step), |body, (event, step)| {
-        let found = body.step_at(event, step);
-        (body, found)
+    let found = with_content(cell, (event, step), |content, (event, step)| {
+        let found = content.step_at(event, step);
+        (content, found)
     });
     match found {
         Some(step) => {

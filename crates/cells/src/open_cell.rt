@@ -3,7 +3,7 @@
 ghost use Rattle.std.specs.Prelude.{◌≡◌, ◌<◌};
 ghost use Rattle.std_alloc.specs.Arc.{arc_value};
 ghost use Rattle.cells.specs.Facts.{of_props};
-ghost use Rattle.cells.specs.Positions.{fixed_of};
+ghost use Rattle.cells.specs.CallerStates.{fixed_of};
 ghost use Rattle.cells.specs.OpenCells.{AreHome, IsBack};
 
 use event_log::SeqObject;

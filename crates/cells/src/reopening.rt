@@ -3,25 +3,30 @@
 ghost use Rattle.cells.specs.Reopenings.{IsReopenedBy, IsForgotten};
 
 use crate::opening::{NotOpened, cpus_numbered, lock_numbered};
-use crate::{Body, OpenCell};
+use crate::{HandleContent, OpenCell};
 use std::alloc::Global;
 
-impl Body {
+impl HandleContent {
     /// A new cell of that lock and so many CPUs, on the object of one that has ended: the log goes on.
-    pub fn reopen(self, alloc: Global, lock: u32, cpus: u32) -> (Body, Result<(), NotOpened>)
+    pub fn reopen(
+        self,
+        alloc: Global,
+        lock: u32,
+        cpus: u32,
+    ) -> (HandleContent, Result<(), NotOpened>)
         ensures { IsReopenedBy self lock cpus result.1 result.0 }
     {
         match self {
-            Body::Ended(logged) => {
+            HandleContent::Ended(logged) => {
                 let Some(lock) = lock_numbered(lock) else {
-                    return (Body::Ended(logged), Err(NotOpened::BadOpening));
+                    return (HandleContent::Ended(logged), Err(NotOpened::BadOpening));
                 };
                 let Some(cpus) = cpus_numbered(cpus) else {
-                    return (Body::Ended(logged), Err(NotOpened::BadOpening));
+                    return (HandleContent::Ended(logged), Err(NotOpened::BadOpening));
                 };
                 match OpenCell::open(alloc, lock, logged, cpus) {
-                    Ok(cell) => (Body::Cell(cell), Ok(())),
-                    Err(logged) => (Body::Ended(logged), Err(NotOpened::OutOfMemory)),
+                    Ok(cell) => (HandleContent::Cell(cell), Ok(())),
+                    Err(logged) => (HandleContent::Ended(logged), Err(NotOpened::OutOfMemory)),
                 }
             }
             other => (other, Err(NotOpened::NotEmpty)),
@@ -29,11 +34,11 @@ impl Body {
     }
 
     /// The log of a cell that has ended isn't kept any more, and has room for 2^64 - 1 events.
-    pub fn forget(self, alloc: Global) -> (Body, bool)
+    pub fn forget(self, alloc: Global) -> (HandleContent, bool)
         ensures { IsForgotten self result.1 result.0 }
     {
         match self {
-            Body::Ended(logged) => (Body::Ended(logged.into_unkept(alloc)), true),
+            HandleContent::Ended(logged) => (HandleContent::Ended(logged.into_unkept(alloc)), true),
             other => (other, false),
         }
     }

@@ -3,7 +3,7 @@
 ghost use Rattle.std.specs.Prelude.{◌≡◌, ◌<◌, true, vec_len};
 ghost use Rattle.word_rule.specs.Cell.{EachAt, stored};
 ghost use Rattle.word_rule.specs.Passes.{view_of_pass};
-ghost use Rattle.cells.specs.Positions.{fixed_of};
+ghost use Rattle.cells.specs.CallerStates.{fixed_of};
 ghost use Rattle.cells.specs.Unused.{IsUnused, Covers};
 
 use event_log::{Logged, SeqObject};

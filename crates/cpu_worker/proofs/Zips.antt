@@ -1,5 +1,5 @@
 -- Lists that are related place by place.
-use Rattle.std.proofs.Common.{◌≡◌, List, [], ◌∷◌, Result, Ok, Err, sym, ◌∙◌}
+use Rattle.std.proofs.Common.{◌≡◌, List, [], ◌∷◌, Result, Ok, Err, IfErr, sym, subst, ◌∙◌}
 use Rattle.std.specs.List.{AllByRecursion, AllZip}
 use Rattle.std.specs.Result.{IsErrAnd}
 
@@ -11,9 +11,6 @@ zip_then f (x ∷ xs) [] zs p q = absurd p
 zip_then f (x ∷ xs) (y ∷ ys) [] p q = absurd q
 zip_then f (x ∷ xs) (y ∷ ys) (z ∷ zs) p q = (f x y z p.0 q.0, zip_then f xs ys zs p.1 q.1)
 
-pub ok_no_err : {X Y : Type 0} (x : X) (y : Y) → ◌≡◌ {A = Result X Y} (Ok x) (Err y) → ⊥
-ok_no_err x y e = absurd cc
-
 -- what follows of each right element
 pub zip_right : {X Y : Type 0} {P : X → Y → Type 0} {Q : Y → Type 0} → ((x : X) (y : Y) → P x y → Q y) → (xs : List X) (ys : List Y) → AllZip P xs ys → AllByRecursion Q ys
 zip_right f [] [] z = tt
@@ -24,3 +21,8 @@ zip_right f (x ∷ xs) (y ∷ ys) z = (f x y z.0, zip_right f xs ys z.1)
 pub err_is : {X E : Type 0} (r : Result X E) (f g : E) → IsErrAnd r (λ h. h ≡ f) → r ≡ Err g → f ≡ g
 err_is (Ok x) f g is e = absurd is
 err_is (Err h) f g is e = sym is ∙ (let same : h ≡ g = cc in same)
+
+-- what is true of the error that came is true of the one that goes on
+pub err_has : {X E : Type 0} (P : E → Type 0) (r : Result X E) (f : E) → IsErrAnd r (λ h. h ≡ f) → P f → IfErr r P
+err_has P (Ok x) f is p = tt
+err_has P (Err h) f is p = subst P (sym is) p

@@ -1,12 +1,12 @@
 //! A thread for each CPU.
 
-ghost use Rattle.std.specs.Prelude.{◌≡◌, ◌<◌, ◌≤◌, ℕ, [], IfOk, length, vec_len, vec_capacity};
+ghost use Rattle.std.specs.Prelude.{◌≡◌, ◌≤◌, [], IfOk, IfErr, length, vec_len, vec_capacity};
 ghost use Rattle.std.specs.List.{AllByRecursion, AllZip};
 ghost use Rattle.std.specs.Thread.{IsSync};
 ghost use Rattle.sound_run.specs.declared.limits.TheConstants.{MOST_CPUS};
 ghost use Rattle.word_rule.specs.Passes.{view_of_pass};
 ghost use Rattle.guarded_cell.specs.Kinds.{IsPassOf};
-ghost use Rattle.cpu_worker.specs.Starts.{AllowedBelow};
+ghost use Rattle.cpu_worker.specs.Starts.{AllowedBelow, IsNotStarted, fault_of};
 ghost use Rattle.cpu_worker.specs.Work.{IsReady, IsDone};
 
 use crate::gate::Gate;
@@ -29,6 +29,15 @@ pub enum RunFault {
     NoThreadStarted(u8),
 }
 
+/// The CPU that wasn't started, once all memory was there. The workers of the CPUs below it have ended.
+#[derive(Clone, Copy, Debug, PartialEq, Eq, Drop)]
+pub enum NotStarted {
+    /// It isn't allowed.
+    NotAllowed(u8),
+    /// The system refused its thread.
+    Refused(u8),
+}
+
 impl From<OutOfMemory> for RunFault {
     ghost use Rattle.cpu_worker.specs.declared.threads.RunFault.TheVariants.{OutOfMemory};
 
@@ -37,6 +46,18 @@ impl From<OutOfMemory> for RunFault {
     fn from(fault: OutOfMemory) -> RunFault {
         let OutOfMemory = fault;
         RunFault::OutOfMemory
+    }
+}
+
+impl From<NotStarted> for RunFault {
+    ghost from_gives = { λ why fault. fault ≡ fault_of why };
+
+    fn from(why: NotStarted) -> RunFault {
+        match why {
+            NotStarted::NotAllowed(cpu) | NotStarted::Refused(cpu) => RunFault::NoThreadStarted(
+                cpu,
+            ),
+        }
     }
 }
 
@@ -110,7 +131,7 @@ pub fn on_threads<G: Gate + Sync, S: Starter, R: Threads + Wait + Sync>(
     jobs: Vec<Job>,
     handles: Vec<Handle>,
     finished: Vec<Finished>,
-) -> Result<Vec<Finished>, RunFault>
+) -> Result<Vec<Finished>, NotStarted>
     requires few { vec_len jobs ≤ MOST_CPUS }
     requires ready { AllByRecursion (λ j. IsReady IsPassOf cells.now.items j.passes.items j.todos.items
         j.transcript.items (vec_capacity j.transcript)) jobs.items }
@@ -118,14 +139,13 @@ pub fn on_threads<G: Gate + Sync, S: Starter, R: Threads + Wait + Sync>(
     requires finished { (finished.items ≡ []) × (vec_len jobs ≤ vec_capacity finished) }
     ensures done { IfOk result (λ r. AllZip (λ j f. IsDone IsPassOf view_of_pass cells.now.items
         j.passes.items j.todos.items f.0.items f.1.items) jobs.items r.items) }
-    ensures cpu { (cpu : ℕ) → result ≡ Err (RunFault.NoThreadStarted cpu) → cpu < length jobs.items }
     ensures allowed { IfOk result (λ _. AllowedBelow (S.allows starter.now) (length jobs.items)) }
-    ensures least { (cpu : ℕ) → result ≡ Err (RunFault.NoThreadStarted cpu) → AllowedBelow (S.allows starter.now) cpu }
+    ensures named { IfErr result (IsNotStarted (S.allows starter.now) (length jobs.items)) }
 {
     thread::scope(
         thread::scope_env(),
         rt,
-        move |scope| -> Result<Vec<Finished>, RunFault>
+        move |scope| -> Result<Vec<Finished>, NotStarted>
             requires shares { IsSync R.row }
             requires gate { IsSync G.row }
             requires few { vec_len jobs ≤ MOST_CPUS }
@@ -135,17 +155,16 @@ pub fn on_threads<G: Gate + Sync, S: Starter, R: Threads + Wait + Sync>(
             requires finished { (finished.items ≡ []) × (vec_len jobs ≤ vec_capacity finished) }
             ensures done { IfOk result (λ r. AllZip (λ j f. IsDone IsPassOf view_of_pass cells.entry.now.items
                 j.passes.items j.todos.items f.0.items f.1.items) jobs.items r.items) }
-            ensures cpu { (cpu : ℕ) → result ≡ Err (RunFault.NoThreadStarted cpu) → cpu < length jobs.items }
             ensures allowed { IfOk result (λ _. AllowedBelow (S.allows starter.entry.now) (length jobs.items)) }
-            ensures least { (cpu : ℕ) → result ≡ Err (RunFault.NoThreadStarted cpu) → AllowedBelow (S.allows starter.entry.now) cpu }
+            ensures named { IfErr result (IsNotStarted (S.allows starter.entry.now) (length jobs.items)) }
         {
             let mut handles = handles;
             let mut cpu = 0;
             for job in jobs {
-                let fault = RunFault::NoThreadStarted(cpu);
                 if !starter.allow(cpu) {
-                    return Err(fault);
+                    return Err(NotStarted::NotAllowed(cpu));
                 }
+                let refused = NotStarted::Refused(cpu);
                 let promise = DoesScript {
                     cells: Snapshot::of(cells),
                     job: Snapshot::of(&job),
@@ -162,7 +181,7 @@ pub fn on_threads<G: Gate + Sync, S: Starter, R: Threads + Wait + Sync>(
                         ensures { IsDone IsPassOf view_of_pass cells.entry.now.items passes.items todos.items result.0.items result.1.items }
                     { do_job(rt, gate, cpu, cells, passes, todos, transcript) },
                 ) else {
-                    return Err(fault);
+                    return Err(refused);
                 };
                 handles.push_reserved(handle);
                 cpu += 1;

@@ -7,7 +7,7 @@ use Rattle.event_log.specs.History.{History}
 use Rattle.event_log.specs.Log.{calls_of}
 use Rattle.event_log.proofs.Beginnings.{begins_rest}
 use Rattle.sound_run.specs.declared.lock_kind.LockKind.{LockKind}
-use Rattle.word_rule.specs.declared.view.Moment.{Moment}
+use Rattle.word_rule.specs.declared.view.TraceStep.{TraceStep}
 use Rattle.word_rule.specs.Cell.{Caller, PassView, first_pass}
 use Rattle.guarded_cell.specs.Calls.{IsEnded, asked_by}
 use Rattle.guarded_cell.specs.Held.{EndedInOrder}
@@ -18,7 +18,7 @@ module _ {O P C R : Type 0} (meaning : Ghosts O P C R) where
   pub ended_as : (p p' q q' : PassView O P C R) (xs ys : List C) (h : History O P C R) → p ≡ p' → q ≡ q' → IsEnded meaning p xs q ys h → IsEnded meaning p' xs q' ys h
   ended_as p p' q q' xs ys h is_p is_q e = subst (λ z. IsEnded meaning z xs q' ys h) is_p (subst (λ z. IsEnded meaning p xs z ys h) is_q e)
 
-  pub ordered_as : (log : List (Event O P C R)) (p p' q q' : PassView O P C R) (run run' other other' : List (Moment (Event O P C R))) (xs ys : List (List C)) → p ≡ p' → q ≡ q' → run ≡ run' → other ≡ other'
+  pub ordered_as : (log : List (Event O P C R)) (p p' q q' : PassView O P C R) (run run' other other' : List (TraceStep (Event O P C R))) (xs ys : List (List C)) → p ≡ p' → q ≡ q' → run ≡ run' → other ≡ other'
       → EndedInOrder meaning log p.caller run xs q.caller other ys → EndedInOrder meaning log p'.caller run' xs q'.caller other' ys
   ordered_as log p p' q q' run run' other other' xs ys is_p is_q is_run is_other e =
       subst (λ (z : PassView O P C R). EndedInOrder meaning log z.caller run' xs q'.caller other' ys) is_p
@@ -31,7 +31,7 @@ module _ {O P C R : Type 0} (meaning : Ghosts O P C R) where
       → length after.log ≡ length before.log + (length xs + length ys)
   ended_count kind before after xs ys e =
       added_by_two (λ (x : Event O P C R). x.cpu) (λ (x : Event O P C R). calls_of x.steps.list.items) before.log (drop (length before.log) after.log) after.log xs ys
-      (begins_rest before.log after.log e.lawful.begins) e.lawful.numbered e.first_calls.mine e.second_calls.mine
+      (begins_rest before.log after.log e.valid.begins) e.valid.numbered e.first_calls.mine e.second_calls.mine
 
   -- the same where they have done the first of their calls
   pub ended_count_first : (kind : LockKind) (before after : History O P C R) (xs ys : List C) (n m : ℕ) → n ≤ length xs → m ≤ length ys

@@ -5,8 +5,8 @@ use crate::random::Random;
 use crate::splice::{Part, spliced};
 use std::alloc::Global;
 
-/// Bytes of records, and a few that look like them.
-const SPELLING: &[u8] = b" \n0123456789=;|abcdefghijklmnopqrstuvwxyzA\t\r+-#\0";
+/// Bytes of the texts, and a few that look like them.
+const SPELLING: &[u8] = b" \n0123456789=;|abcdefghijklmnopqrstuvwxyzA\t\r+-#\0[]{},._\"'";
 
 /// No more bytes than these are taken out, put in or repeated at once.
 const MOST_BYTES: usize = 40;

@@ -51,7 +51,7 @@ pub fn swap_lines(alloc: Global, random: &mut Random, text: &[u8]) -> Result<Vec
     joined(alloc, lines.as_slice())
 }
 
-/// So many bytes are about as many as no line of a record has.
+/// So many bytes are about as many as no line of a record or of scripts has.
 const ABOUT_THE_MOST: usize = 1018;
 
 /// A line is made about 1,024 bytes long, or some hundreds longer than it was.

@@ -1,25 +1,30 @@
-//! Texts that are nearly records, each read in several ways that have to agree: `fuzz COUNT SEED`.
+//! Texts that are nearly records, scripts, settings or schedules, each read in several ways that have to agree:
+//! `fuzz COUNT SEED`.
 #![tactic(auto)]
 
 mod bytes;
+mod corpus;
+mod drawn_source;
 mod fault;
 mod judging;
 mod lines;
 mod mutation;
 mod numbers;
 mod outcome;
-mod pieces;
 mod random;
 mod reading;
+mod shown;
 mod splice;
 #[cfg(test)]
 mod tests;
 mod upgraded;
+mod ways;
 mod words;
 mod worked;
+mod worked_inputs;
 
 use crate::fault::Fault;
-use crate::outcome::{Outcome, fuzz};
+use crate::outcome::{Counts, Outcome, fuzz};
 use crate::words::{Asked, USAGE, words_given};
 use event_log::Plain;
 use scripts::write_text;
@@ -44,11 +49,17 @@ fn main(rt: HostRuntime) -> ExitCode {
         return ExitCode::from(BAD_WORDS);
     };
     let printed = match fuzz(rt.alloc(), &asked) {
-        Ok(Outcome::Agreed { records }) => {
+        Ok(Outcome::Agreed(counts)) => {
+            let Counts {
+                records,
+                scripts,
+                settings,
+                schedules,
+            } = counts;
             let count = asked.count;
-            println!(rt; "{count} texts, {records} records, 0 disagreements").map_err(
-                |_| Fault::WriteFailed,
-            )
+            println!(rt;
+                "{count} texts: {records} records, {scripts} scripts, {settings} settings, {schedules} schedules, 0 disagreements"
+            ).map_err(|_| Fault::WriteFailed)
         }
         Ok(
             Outcome::Disagreed {

@@ -2,28 +2,118 @@
 
 use crate::fault::Fault;
 use event_log::Plain;
-use scripts::{Record, RecordFault, write_record};
+use scripts::{
+    BadSettings, ReadFault, Record, RecordFault, RecordReadFault, ScheduleFault, ScriptsFault,
+    ScriptsReadFault, SettingsFault, write_record,
+};
 use std::alloc::Global;
 
-/// The record, as the text that is written of it, or the first bad line.
-#[derive(Debug, PartialEq, Eq, Drop)]
+/// Why a text was refused.
+#[derive(Clone, Copy, Debug, PartialEq, Eq, Drop)]
+pub enum Refusal {
+    /// The first bad line of a record or of scripts.
+    Line(usize),
+    /// The first bad word of a schedule.
+    Word(usize),
+    /// The first fault of settings.
+    Settings(BadSettings),
+    /// A call on the stream failed.
+    ReadFailed,
+}
+
+/// What was read, as a text that tells all of it, or why it was refused.
+#[derive(Debug, Drop)]
 pub enum Reading {
-    Record(Vec<u8>),
-    BadLine(usize),
+    Read(Vec<u8>),
+    Refused(Refusal),
 }
 
 impl Reading {
-    pub fn of(alloc: Global, read: Result<Record, RecordFault>) -> Result<Reading, Fault> {
-        match read {
-            Ok(record) => Ok(Reading::Record(written(alloc, &record)?)),
-            Err(fault) => Reading::refused(fault),
+    /// Whether both are the same.
+    pub fn is_same(&self, other: &Reading) -> bool {
+        match (self, other) {
+            (Reading::Read(one), Reading::Read(other)) => one.as_slice() == other.as_slice(),
+            (Reading::Refused(one), Reading::Refused(other)) => *one == *other,
+            _ => false,
         }
     }
 
-    pub fn refused(fault: RecordFault) -> Result<Reading, Fault> {
-        match fault {
-            RecordFault::Line(number) => Ok(Reading::BadLine(number)),
-            RecordFault::OutOfMemory => Err(Fault::OutOfMemory),
+    /// Why it was refused. Refused memory is a fault of this program.
+    pub fn refused<E: Refuses>(fault: E) -> Result<Reading, Fault> {
+        match fault.refusal() {
+            Some(refusal) => Ok(Reading::Refused(refusal)),
+            None => Err(Fault::OutOfMemory),
+        }
+    }
+}
+
+/// Faults of a reader.
+pub trait Refuses {
+    /// What is wrong with the text or its stream; none if memory was refused.
+    fn refusal(self) -> Option<Refusal>;
+}
+
+impl Refuses for RecordFault {
+    fn refusal(self) -> Option<Refusal> {
+        match self {
+            RecordFault::Line(number) => Some(Refusal::Line(number)),
+            RecordFault::OutOfMemory => None,
+        }
+    }
+}
+
+impl Refuses for RecordReadFault {
+    fn refusal(self) -> Option<Refusal> {
+        match self {
+            RecordReadFault::Line(number) => Some(Refusal::Line(number)),
+            RecordReadFault::ReadFailed => Some(Refusal::ReadFailed),
+            RecordReadFault::OutOfMemory => None,
+        }
+    }
+}
+
+impl Refuses for ScriptsFault {
+    fn refusal(self) -> Option<Refusal> {
+        match self {
+            ScriptsFault::Line(number) => Some(Refusal::Line(number)),
+            ScriptsFault::OutOfMemory => None,
+        }
+    }
+}
+
+impl Refuses for ScriptsReadFault {
+    fn refusal(self) -> Option<Refusal> {
+        match self {
+            ScriptsReadFault::Line(number) => Some(Refusal::Line(number)),
+            ScriptsReadFault::ReadFailed => Some(Refusal::ReadFailed),
+            ScriptsReadFault::OutOfMemory => None,
+        }
+    }
+}
+
+impl Refuses for SettingsFault {
+    fn refusal(self) -> Option<Refusal> {
+        match self {
+            SettingsFault::Refused(bad) => Some(Refusal::Settings(bad)),
+            SettingsFault::OutOfMemory => None,
+        }
+    }
+}
+
+impl Refuses for ReadFault {
+    fn refusal(self) -> Option<Refusal> {
+        match self {
+            ReadFault::ReadFailed => Some(Refusal::ReadFailed),
+            ReadFault::OutOfMemory => None,
+        }
+    }
+}
+
+impl Refuses for ScheduleFault {
+    fn refusal(self) -> Option<Refusal> {
+        match self {
+            ScheduleFault::Word(number) => Some(Refusal::Word(number)),
+            ScheduleFault::OutOfMemory => None,
         }
     }
 }

@@ -8,7 +8,7 @@ use std::rt::Env;
 pub const USAGE: &str = "usage: fuzz COUNT SEED
   COUNT  how many texts are made and read, up to 4294967295
   SEED   a number up to 18446744073709551615, which decides what texts they are
-It prints how many of them are records. If one of them is read in two ways, it prints that text.";
+It prints how many of them are records, scripts, settings and schedules. If one of them is read in two ways, it prints that text.";
 
 /// What the words ask for.
 #[derive(Clone, Copy, Debug, PartialEq, Eq, Drop)]

@@ -71,10 +71,10 @@ module _ {O P C R : Type 0} (meaning : Ghosts O P C R) where
         record {
           caller = same;
           found = h.history.log;
-          found_lawful = subst (λ c. Lawful meaning c.cell h.history.log) was held.lawful;
+          found_valid = subst (λ c. Lawful meaning c.cell h.history.log) was held.valid;
           grows = grows;
           added = seen ∙ (added.log ∙ ap (λ c. h.history.log ++ events_by c.acting done) was);
-          lawful = subst (λ c. Lawful meaning c.cell after.seen) same part.lawful;
+          valid = subst (λ c. Lawful meaning c.cell after.seen) same part.valid;
           fulfils = asked;
         }
 

@@ -77,10 +77,10 @@ module _ {O P C R : Type 0} (meaning : Ghosts O P C R) where
     pub ended : (first second : PassView O P C R) (firsts seconds : List C) → j.caller.cell ≡ first.caller.cell → HasCalled first firsts j.seen → HasCalled second seconds j.seen → IsEnded meaning first firsts second seconds h
     ended first second firsts seconds cell a b =
         let log : h.log ≡ j.seen = ap (λ x. x.log) closed in
-        let lawful : Lawful meaning first.caller.cell j.seen = subst (λ c. Lawful meaning c j.seen) cell part.lawful in
+        let valid : Lawful meaning first.caller.cell j.seen = subst (λ c. Lawful meaning c j.seen) cell part.valid in
         let replayed : h ≡ stored meaning first.caller.cell j.seen = closed ∙ ap (λ c. stored meaning c j.seen) cell in
         record {
-          lawful = subst (λ l. Lawful meaning first.caller.cell l) (sym log) lawful;
+          valid = subst (λ l. Lawful meaning first.caller.cell l) (sym log) valid;
           replayed = replayed ∙ ap (λ l. stored meaning first.caller.cell l) (sym log);
           first_calls = subst (λ l. HasCalled first firsts l) (sym log) a;
           second_calls = subst (λ l. HasCalled second seconds l) (sym log) b;
@@ -89,5 +89,5 @@ module _ {O P C R : Type 0} (meaning : Ghosts O P C R) where
     -- a caller that saw a full log
     pub ended_full : (seen : List (Event O P C R)) (before m : PassView O P C R) → j.caller.cell ≡ before.caller.cell → Begins seen m.seen → Begins m.seen j.seen → length seen ≡ before.caller.cell.limit → length h.log ≡ h.limit
     ended_full seen before m cell meets joins full =
-        let whole : length j.seen ≡ before.caller.cell.limit = full_longer seen j.seen before.caller.cell.limit (begins_then seen m.seen j.seen meets joins) full (subst (λ c. length j.seen ≤ c.limit) cell part.lawful.within) in
+        let whole : length j.seen ≡ before.caller.cell.limit = full_longer seen j.seen before.caller.cell.limit (begins_then seen m.seen j.seen meets joins) full (subst (λ c. length j.seen ≤ c.limit) cell part.valid.within) in
         ap (λ x. length x.log) closed ∙ (whole ∙ sym (ap (λ x. x.limit) closed ∙ ap (λ c. c.limit) cell))

@@ -7,7 +7,7 @@ use Rattle.event_log.specs.declared.event.Steps.{Steps}
 use Rattle.event_log.specs.declared.logged.NoRoom.{NoRoom}
 use Rattle.event_log.specs.History.{with_event}
 use Rattle.event_log.specs.Log.{Fulfils, after, one_step}
-use Rattle.word_rule.specs.declared.view.Moment.{Moment}
+use Rattle.word_rule.specs.declared.view.TraceStep.{TraceStep}
 use Rattle.word_rule.specs.Cell.{Caller, HoldView}
 use Rattle.word_rule.specs.Holds.{Leaves, HasHeldEach}
 use Rattle.word_rule.specs.LockRuns.{Extends, events_in}
@@ -27,7 +27,7 @@ module _ {O P C R : Type 0} (meaning : Ghosts O P C R) where
   log_by_batch h k (Err e) next same = ap (λ (z : HoldView O P C R). z.history.log) same ∙ sym (append-nil h.history.log)
 
   -- a whole hold in which a call was done, or calls in one event
-  module _ (caller : Caller O P C R) (before run run' last : List (Moment (Event O P C R))) (looks : ℕ) (h k : HoldView O P C R) (got : HasAcquired caller before looks h.history.log run) (is : h.caller ≡ caller) (same : k.caller ≡ h.caller) (still : run' ≡ run) (gone : HasReleased k run' last) where
+  module _ (caller : Caller O P C R) (before run run' last : List (TraceStep (Event O P C R))) (looks : ℕ) (h k : HoldView O P C R) (got : HasAcquired caller before looks h.history.log run) (is : h.caller ≡ caller) (same : k.caller ≡ h.caller) (still : run' ≡ run) (gone : HasReleased k run' last) where
     pub held_call : (call : C) (r : Result R NoRoom) → IfOk r (λ v. k.history ≡ with_event h.history (record { cpu = h.caller.acting; steps = one_step call v }) (meaning.answer h.history.state call).0) → OnErr r (k ≡ h) → HasHeld caller before looks (left_by_call caller.acting call r) last
     held_call call r next full = held_once caller before looks h k run run' last (left_by_call caller.acting call r) got is same still (log_by_call h k call r next full ∙ ap (λ (z : Caller O P C R). h.history.log ++ left_by_call z.acting call r) is) gone
 
@@ -40,7 +40,7 @@ module _ {O P C R : Type 0} (meaning : Ghosts O P C R) where
   leaves_call limit log cpu call v fulfils = inl (record { cpu = cpu; steps = one_step call v }, refl, fulfils)
 
   -- the next call's hold, by the same caller
-  pub next_held : (caller now : Caller O P C R) (before mid after : List (Moment (Event O P C R))) (calls : List C) (n looks : ℕ) (c : C) (events : List (Event O P C R)) → now ≡ caller → n < length calls → c ≡ get_or calls n c → HasHeldEach meaning caller before (map (λ x. x ∷ []) (take n calls)) mid
+  pub next_held : (caller now : Caller O P C R) (before mid after : List (TraceStep (Event O P C R))) (calls : List C) (n looks : ℕ) (c : C) (events : List (Event O P C R)) → now ≡ caller → n < length calls → c ≡ get_or calls n c → HasHeldEach meaning caller before (map (λ x. x ∷ []) (take n calls)) mid
       → (h : HasHeld now mid looks events after) → Leaves meaning now.cell.limit (now.cell.opening ++ events_in h.extends.before) (c ∷ []) events → HasHeldEach meaning caller before (map (λ x. x ∷ []) (take (n + 1) calls)) after
   next_held caller now before mid after calls n looks c events same lt at t h leaves =
       let taken : take (n + 1) calls ≡ take n calls ++ c ∷ [] = take_more calls n c lt ∙ ap (λ x. take n calls ++ x ∷ []) (sym at) in
@@ -49,9 +49,9 @@ module _ {O P C R : Type 0} (meaning : Ghosts O P C R) where
       (one_held meaning caller before (map (λ x. x ∷ []) (take n calls)) mid after looks (c ∷ []) events t g.0 g.1)
 
   -- the holds of all calls, and of some
-  pub held_all : (caller : Caller O P C R) (before after : List (Moment (Event O P C R))) (calls : List C) (n done : ℕ) → done ≡ n → length calls ≤ n → HasHeldEach meaning caller before (map (λ x. x ∷ []) (take n calls)) after → HasHeldEach meaning caller before (holds_of calls done) after
+  pub held_all : (caller : Caller O P C R) (before after : List (TraceStep (Event O P C R))) (calls : List C) (n done : ℕ) → done ≡ n → length calls ≤ n → HasHeldEach meaning caller before (map (λ x. x ∷ []) (take n calls)) after → HasHeldEach meaning caller before (holds_of calls done) after
   held_all caller before after calls n done same whole t =
       subst (λ l. HasHeldEach meaning caller before (map (λ x. x ∷ []) l) after) (take_all n calls whole ∙ sym (take_all (done + 1) calls (omega (arith, same, whole)))) t
 
-  pub held_still : (caller now : Caller O P C R) (before mid after : List (Moment (Event O P C R))) (groups : List (List C)) → HasHeldEach meaning caller before groups mid → now ≡ caller → Extends now.owned mid [] after → HasHeldEach meaning caller before groups after
+  pub held_still : (caller now : Caller O P C R) (before mid after : List (TraceStep (Event O P C R))) (groups : List (List C)) → HasHeldEach meaning caller before groups mid → now ≡ caller → Extends now.owned mid [] after → HasHeldEach meaning caller before groups after
   held_still caller now before mid after groups t same e = still_held meaning caller before groups mid after t (subst (λ (z : Caller O P C R). Extends z.owned mid [] after) same e)

@@ -70,7 +70,7 @@ module _ {O P C R : Type 0} where
 
 module _ {O P C R : Type 0} (meaning : Ghosts O P C R) where
   -- what the log of a cell has of the CPU k, by what its worker did and saw
-  module _ (x k : ℕ) (c : Cell O P C R) (entries : List (Entry O P C R)) (after joined : PassView O P C R) (empty : c.opening ≡ []) (d : DidOn meaning x (opening_pass c k) entries after) (joins : Joins after joined) (lawful : Lawful meaning c joined.seen) where
+  module _ (x k : ℕ) (c : Cell O P C R) (entries : List (Entry O P C R)) (after joined : PassView O P C R) (empty : c.opening ≡ []) (d : DidOn meaning x (opening_pass c k) entries after) (joins : Joins after joined) (valid : Lawful meaning c joined.seen) where
     own : done_on x entries ≡ steps_by k joined.seen
     own =
         let mine : of k joined.seen ≡ of k after.seen = joins.grows.own k (subst (λ z. z.owned k ≡ true) (sym d.caller) (eq-eqb k k refl)) in
@@ -82,7 +82,7 @@ module _ {O P C R : Type 0} (meaning : Ghosts O P C R) where
     answer asked (done.Steps s) h = h
     answer asked done.NoRoom h =
         let is : length joined.seen ≡ length after.seen + length (drop (length after.seen) joined.seen) = ap length (begins_rest after.seen joined.seen joins.grows.begins) ∙ length-append after.seen (drop (length after.seen) joined.seen) in
-        let within : length joined.seen ≤ c.limit = lawful.within in
+        let within : length joined.seen ≤ c.limit = valid.within in
         omega (arith, is, within, h)
 
     answers : AllByRecursion (λ e. e.object ≡ x → Answers meaning (opened_of_cell c) joined.seen e.asked e.done) entries
@@ -96,8 +96,8 @@ module _ {O P C R : Type 0} (meaning : Ghosts O P C R) where
     abbrev objects : List (Opened P)
     objects = map opened_of_cell cells
 
-    lawful_at : (x : ℕ) (c : Cell O P C R) (j : PassView O P C R) → slice_get cells x ≡ Some c → slice_get joined x ≡ Some j → Lawful meaning c j.seen
-    lawful_at x c j a b = subst (λ z. Lawful meaning z j.seen) (all.of_cells x c j a b) (all.views x j b).lawful
+    valid_at : (x : ℕ) (c : Cell O P C R) (j : PassView O P C R) → slice_get cells x ≡ Some c → slice_get joined x ≡ Some j → Lawful meaning c j.seen
+    valid_at x c j a b = subst (λ z. Lawful meaning z j.seen) (all.of_cells x c j a b) (all.views x j b).valid
 
     joined_at : (x : ℕ) → x < length cells → (j : PassView O P C R) × (slice_get joined x ≡ Some j)
     joined_at x lt = let same = all.objects in some_at joined x (omega (arith, lt, same))
@@ -116,7 +116,7 @@ module _ {O P C R : Type 0} (meaning : Ghosts O P C R) where
     own_at : (k x : ℕ) (todos : List (Todo O P C R)) (entries : List (Entry O P C R)) → Worked meaning cells joined k todos entries → (c : Cell O P C R) (j : PassView O P C R) → slice_get cells x ≡ Some c → slice_get joined x ≡ Some j → done_on x entries ≡ steps_by k j.seen
     own_at k x todos entries w c j e f =
         let a = on k x todos entries w c e in
-        own x k c entries a.0 j (all.empty x c e) a.2 (w.joins x a.0 j a.1 f) (lawful_at x c j e f)
+        own x k c entries a.0 j (all.empty x c e) a.2 (w.joins x a.0 j a.1 f) (valid_at x c j e f)
 
     abbrev Fits : ℕ → Entry O P C R → Type 0
     Fits x e = (c : Cell O P C R) (j : PassView O P C R) → slice_get cells x ≡ Some c → slice_get joined x ≡ Some j → Answers meaning (opened_of_cell c) j.seen e.asked e.done
@@ -126,7 +126,7 @@ module _ {O P C R : Type 0} (meaning : Ghosts O P C R) where
         let c = some_at cells x lt in
         let j = joined_at x lt in
         let a = on k x todos entries w c.0 c.1 in
-        let h = answers x k c.0 entries a.0 j.0 (all.empty x c.0 c.1) a.2 (w.joins x a.0 j.0 a.1 j.1) (lawful_at x c.0 j.0 c.1 j.1) in
+        let h = answers x k c.0 entries a.0 j.0 (all.empty x c.0 c.1) a.2 (w.joins x a.0 j.0 a.1 j.1) (valid_at x c.0 j.0 c.1 j.1) in
         all_map (λ e g at d i p q.
         subst (λ (z : Cell O P C R). Answers meaning (opened_of_cell z) i.seen e.asked e.done) (one_of c.0 d (slice_get cells x) c.1 p)
         (subst (λ (z : PassView O P C R). Answers meaning (opened_of_cell c.0) z.seen e.asked e.done) (one_of j.0 i (slice_get joined x) j.1 q) (g at))) entries h
@@ -162,10 +162,10 @@ module _ {O P C R : Type 0} (meaning : Ghosts O P C R) where
     taken_at : (cpu x : ℕ) (j : PassView O P C R) → slice_get joined x ≡ Some j → done_on x (transcript_of cpu run_of) ≡ steps_by cpu j.seen
     taken_at cpu x j e =
         let c = cell_at x j e in
-        let lawful = lawful_at x c.0 j c.1 e in
+        let valid = valid_at x c.0 j c.1 e in
         at_cpu (λ l. done_on x l ≡ steps_by cpu j.seen) cpu (λ todos entries w. own_at cpu x todos entries w c.0 j c.1 e)
         (λ ge. let numbers = all.numbers x c.0 c.1 in
-        sym (ap (map (λ (e : Event O P C R). e.steps)) (of_opening cpu c.0.numbers j.seen c.0.opening (omega (arith, ge, numbers)) lawful.begins lawful.numbered ∙ ap (λ l. of cpu l) (all.empty x c.0 c.1))))
+        sym (ap (map (λ (e : Event O P C R). e.steps)) (of_opening cpu c.0.numbers j.seen c.0.opening (omega (arith, ge, numbers)) valid.begins valid.numbered ∙ ap (λ l. of cpu l) (all.empty x c.0 c.1))))
 
     pub is_sound : Sound meaning objects run_of
     is_sound = record {
@@ -173,8 +173,8 @@ module _ {O P C R : Type 0} (meaning : Ghosts O P C R) where
       logs = λ x o l at_object at_log.
           let c = get_map opened_of_cell cells x o at_object in
           let j = get_map (λ (j : PassView O P C R). j.seen) joined x l at_log in
-          let lawful = lawful_at x c.0 j.0 c.1 j.1 in
-          subst (λ z. LogIsSound meaning z l) c.2 (subst (LogIsSound meaning (opened_of_cell c.0)) j.2 record { legal = lawful.legal; within = lawful.within });
+          let valid = valid_at x c.0 j.0 c.1 j.1 in
+          subst (λ z. LogIsSound meaning z l) c.2 (subst (LogIsSound meaning (opened_of_cell c.0)) j.2 record { legal = valid.legal; within = valid.within });
       taken = λ cpu x l at_log.
           let j = get_map (λ (j : PassView O P C R). j.seen) joined x l at_log in
           taken_at cpu x j.0 j.1 ∙ ap (λ z. steps_by cpu z) j.2;

@@ -82,7 +82,7 @@ module _ {O P C R : Type 0} (meaning : Ghosts O P C R) where
     stays new did asked (done.Steps t) h = h
     stays (done.Steps s) did asked done.NoRoom h =
         let grew = longer mid after e.asked.items s did in
-        let within : length after.seen ≤ mid.caller.cell.limit = did.lawful.within in
+        let within : length after.seen ≤ mid.caller.cell.limit = did.valid.within in
         absurd (omega (arith, grew, within, h, limits))
     stays done.NoRoom did asked done.NoRoom h = did.full ∙ limits
 
@@ -103,7 +103,7 @@ module _ {O P C R : Type 0} (meaning : Ghosts O P C R) where
     none_before (done.Steps s) is did f h none = dite (ℕ_discrete f.object x)
         (λ at.
         let grew = longer mid after e.asked.items s did in
-        let within : length after.seen ≤ mid.caller.cell.limit = did.lawful.within in
+        let within : length after.seen ≤ mid.caller.cell.limit = did.valid.within in
         let full : length mid.seen ≡ o.limit = subst (λ y. Answers meaning o mid.seen f.asked y) none (h at) in
         absurd (omega (arith, grew, within, full, limits)))
         (λ ne. done_elsewhere f.object e (λ at. ne (sym at ∙ on)))

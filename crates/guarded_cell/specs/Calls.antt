@@ -28,7 +28,7 @@ module _ {O P C R : Type 0} where
 module _ {O P C R : Type 0} (meaning : Ghosts O P C R) where
   -- what a cell leaves that two callers ended: a lawful log with the calls of each, and its replay
   pub record IsEnded (first : PassView O P C R) (firsts : List C) (second : PassView O P C R) (seconds : List C) (h : History O P C R) : Type 0 where
-    pub lawful : Lawful meaning first.caller.cell h.log
+    pub valid : Lawful meaning first.caller.cell h.log
     pub replayed : h ≡ stored meaning first.caller.cell h.log
     pub first_calls : HasCalled first firsts h.log
     pub second_calls : HasCalled second seconds h.log

@@ -5,7 +5,7 @@ use Rattle.event_log.specs.declared.event.Event.{Event}
 use Rattle.event_log.specs.declared.event.Steps.{Steps}
 use Rattle.event_log.specs.declared.logged.NoRoom.{NoRoom}
 use Rattle.event_log.specs.Log.{one_step}
-use Rattle.word_rule.specs.declared.view.Moment.{Moment}
+use Rattle.word_rule.specs.declared.view.TraceStep.{TraceStep}
 use Rattle.word_rule.specs.Answered.{events_by}
 use Rattle.word_rule.specs.Cell.{Caller}
 use Rattle.word_rule.specs.Holds.{HasHeldEach}
@@ -25,23 +25,23 @@ module _ {O P C R : Type 0} where
   left_by_batch cpu (Err full) = []
 
   -- the caller had the object once, with so many looks: for a call, for calls in one event, and for these events
-  abbrev pub HasCalled : Caller O P C R → List (Moment (Event O P C R)) → ℕ → C → Result R NoRoom → List (Moment (Event O P C R)) → Type 0
+  abbrev pub HasCalled : Caller O P C R → List (TraceStep (Event O P C R)) → ℕ → C → Result R NoRoom → List (TraceStep (Event O P C R)) → Type 0
   HasCalled caller before looks call told after = HasHeld caller before looks (left_by_call caller.acting call told) after
 
   -- the caller held the object once, and left the event of its calls
-  abbrev pub HasBatched : Caller O P C R → List (Moment (Event O P C R)) → ℕ → Result (Steps O P C R) NoRoom → List (Moment (Event O P C R)) → Type 0
+  abbrev pub HasBatched : Caller O P C R → List (TraceStep (Event O P C R)) → ℕ → Result (Steps O P C R) NoRoom → List (TraceStep (Event O P C R)) → Type 0
   HasBatched caller before looks told after = HasHeld caller before looks (left_by_batch caller.acting told) after
 
   -- the caller held the object once, and left an event for each group that was done
-  abbrev pub HasDoneGroups : Caller O P C R → List (Moment (Event O P C R)) → ℕ → List (Steps O P C R) → List (Moment (Event O P C R)) → Type 0
+  abbrev pub HasDoneGroups : Caller O P C R → List (TraceStep (Event O P C R)) → ℕ → List (Steps O P C R) → List (TraceStep (Event O P C R)) → Type 0
   HasDoneGroups caller before looks done after = HasHeld caller before looks (events_by caller.acting done) after
 
   -- the caller had the object once, with at most one look, for one event
-  abbrev pub HasTried : Caller O P C R → List (Moment (Event O P C R)) → Steps O P C R → List (Moment (Event O P C R)) → Type 0
+  abbrev pub HasTried : Caller O P C R → List (TraceStep (Event O P C R)) → Steps O P C R → List (TraceStep (Event O P C R)) → Type 0
   HasTried caller before steps after = HasHeldAtOnce caller before (events_by caller.acting (steps ∷ [])) after
 
   -- a try did nothing, or found the log full in one hold, got by at most one look
-  abbrev pub HasDeclined : Declined → Caller O P C R → List (Moment (Event O P C R)) → List (Moment (Event O P C R)) → Type 0
+  abbrev pub HasDeclined : Declined → Caller O P C R → List (TraceStep (Event O P C R)) → List (TraceStep (Event O P C R)) → Type 0
   HasDeclined declined.Busy caller before after = Extends caller.owned before [] after
   HasDeclined declined.NoRoom caller before after = HasHeldAtOnce caller before [] after
 
@@ -52,13 +52,13 @@ holds_of calls done = map (λ c. c ∷ []) (take (done + 1) calls)
 
 module _ {O P C R : Type 0} (meaning : Ghosts O P C R) where
   -- the caller had the object once for each call, of which so many were done
-  abbrev pub HasHeldFor : Caller O P C R → List (Moment (Event O P C R)) → List C → ℕ → List (Moment (Event O P C R)) → Type 0
+  abbrev pub HasHeldFor : Caller O P C R → List (TraceStep (Event O P C R)) → List C → ℕ → List (TraceStep (Event O P C R)) → Type 0
   HasHeldFor caller before calls done after = HasHeldEach meaning caller before (holds_of calls done) after
 
   -- what the end of a cell leaves of two callers: a run of the lock that left the log, with the holds of each; all who have arrived
   -- have ended their holds, in the order of arrival
-  pub record EndedInOrder (log : List (Event O P C R)) (first : Caller O P C R) (first_run : List (Moment (Event O P C R))) (first_holds : List (List C)) (second : Caller O P C R) (second_run : List (Moment (Event O P C R))) (second_holds : List (List C)) : Type 0 where
-    pub run : List (Moment (Event O P C R))
+  pub record EndedInOrder (log : List (Event O P C R)) (first : Caller O P C R) (first_run : List (TraceStep (Event O P C R))) (first_holds : List (List C)) (second : Caller O P C R) (second_run : List (TraceStep (Event O P C R))) (second_holds : List (List C)) : Type 0 where
+    pub run : List (TraceStep (Event O P C R))
     pub ran : HasRun first.cell log run
     pub one_cell : second.cell ≡ first.cell
     pub in_order : endings_in run ≡ arrivals_in run

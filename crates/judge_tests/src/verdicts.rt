@@ -1,8 +1,8 @@
-//! Whole records: worked ones, each fault, and records of which one character is changed. Replays beside the objects that
-//! they stand for, and the texts of verdicts.
+//! Whole records: worked ones, each fault, and records of which one character is changed. Reference objects beside the objects
+//! that they stand for, and the texts of verdicts.
 
 mod characters;
-mod replays;
+mod references;
 mod sources;
 mod verdict_text;
 mod worked;

@@ -356,7 +356,7 @@ fn a_queue_goes_in_and_comes_out(rt: HostRuntime) -> Result<(), Fail> {
 #[test]
 fn an_entry_between_clear_and_exchange(rt: HostRuntime) -> Result<(), Fail> {
     let (cell, zero, one) = cell_of_two(rt.alloc())?;
-    let trying = cell.ready(one);
+    let trying = cell.prepare(one);
     let hold = first(&rt, &cell, zero);
     let one = match cell.try_enter(trying) {
         Ok(_hold) => panic!(rt; "two have the object"),

@@ -1,7 +1,7 @@
 pub mod Lent
 pub mod Counts
 pub mod Exclusion
-pub mod Fronts
+pub mod Prefixes
 pub mod Stuck
 pub mod Placing
 pub mod NotSelf

@@ -2,7 +2,7 @@
 
 ghost use Rattle.std.specs.Prelude.{◌≡◌, ◌<◌, ◌≤◌, ℕ, length, slice_index, MatchOption};
 ghost use Rattle.log_merge.specs.FoundCycles.{IsLeastLeft};
-ghost use Rattle.log_merge.specs.Fronts.{CanCome};
+ghost use Rattle.log_merge.specs.Prefixes.{CanCome};
 ghost use Rattle.log_merge.specs.Nexts.{IsNext, IsReady};
 ghost use Rattle.sound_run.specs.Sound.{transcript_of};
 

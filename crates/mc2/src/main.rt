@@ -3,7 +3,7 @@
 
 use event_log::Plain;
 use mc2_command::{Fault, command, refuse};
-use program::{System, words_given};
+use program::{Refusal, System, words_given};
 use std::process::ExitCode;
 
 fn main(rt: HostRuntime) -> ExitCode {
@@ -18,7 +18,7 @@ fn main(rt: HostRuntime) -> ExitCode {
             &mut out,
             &mut faults,
         ),
-        Err(fault) => refuse(&Fault::from(fault), &mut faults),
+        Err(fault) => refuse(&Fault::Common(Refusal::from(fault)), &mut faults),
     };
     ExitCode::from(status)
 }

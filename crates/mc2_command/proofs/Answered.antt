@@ -1,64 +1,117 @@
--- What holds of an answer.
-use Rattle.std.proofs.Common.{◌≡◌, ℕ, List, Option, Result, Ok, Err, IfErr, String, Global, string_bytes, inl, inr, refl, sym, ◌∙◌, subst, ap, arith}
+-- What holds of an answer, and of a refusal.
+use Rattle.std.proofs.Common.{◌≡◌, ◌⊎◌, ◌≤◌, ℕ, Result, Ok, Err, List, Option, String, Global, string_bytes, inl, inr, refl, sym, ◌∙◌, subst, ap, arith}
 use Rattle.std.specs.Borrow.{Bor}
 use Rattle.std.specs.Result.{IsErrAnd}
-use Rattle.scripts.specs.declared.schedule.ScheduleFault.{ScheduleFault}
-use Rattle.scripts.specs.declared.schedule.ScheduleFault.TheVariants as schedule
-use Rattle.scripts.specs.declared.settings.fault.BadSettings.{BadSettings}
-use Rattle.scripts.specs.declared.settings.fault.SettingsFault.{SettingsFault}
-use Rattle.scripts.specs.declared.settings.fault.SettingsFault.TheVariants.{OutOfMemory, Refused}
-use Rattle.scripts.specs.SettingsText.{IsSettingsFault, NamesFirstFault}
+use Rattle.auditor.specs.Faults.{IsFirstFault}
+use Rattle.auditor.specs.declared.fault.Fault.{Fault as RecordFault}
+use Rattle.cpu_worker.specs.declared.threads.RunFault.{RunFault}
+use Rattle.cpu_worker.specs.declared.threads.RunFault.TheVariants as run
+use Rattle.event_log.specs.Stream.{counted}
+use Rattle.log_merge.specs.MergedRecords.{HasCycle}
+use Rattle.log_merge.specs.declared.record_merge.MergeFault.{MergeFault}
+use Rattle.log_merge.specs.declared.record_merge.MergeFault.TheVariants as merging
+use Rattle.program.specs.Inputs.{bytes_of, says_read_failed}
+use Rattle.program.specs.Refusals as common
+use Rattle.program.specs.Texts.{SpellsRecordOf}
+use Rattle.program.specs.declared.refusal.Refusal.{Refusal}
+use Rattle.program.specs.declared.refusal.Refusal.TheVariants as refusal
+use Rattle.scripts.specs.contracts.objects.kernel_object.KernelObjectSeqObject.TheImpl.{ghosts as kernel}
+use Rattle.scripts.specs.RecordRanges.{Record}
+use Rattle.scripts.specs.Runs.{opened_of}
+use Rattle.sound_run.specs.declared.place.Place.{Place}
+use Rattle.mc2_command.specs.declared.arguments.Arguments.{Arguments}
+use Rattle.mc2_command.specs.declared.arguments.Arguments.TheVariants as forms
 use Rattle.mc2_command.specs.declared.fault.Fault.{Fault}
 use Rattle.mc2_command.specs.declared.fault.Fault.TheVariants as fault
-use Rattle.mc2_command.specs.declared.arguments.Arguments.TheVariants as forms
-use Rattle.mc2_command.specs.Answers.{AnswersAudit, AnswersWith, RefusesUnsound, RefusesCycle, FindsNoOrder}
-use Rattle.program.specs.Inputs.{bytes_of}
-use Rattle.mc2_command.specs.Asked.{AskedBy}
-use Rattle.mc2_command.specs.Faults.{of_settings, of_schedule, status_of}
-use Rattle.mc2_command.specs.Printed.{status_by}
-use Rattle.auditor.specs.declared.fault.Verdict.{Verdict}
-use Rattle.auditor.specs.declared.fault.Verdict.TheVariants as verdicts
+use Rattle.mc2_command.specs.Answers.{AnswersFor, AnswersWith, FindsNoOrder, RefusesCycle, RefusesUnsound}
+use Rattle.mc2_command.specs.Asked.{Asks}
+use Rattle.mc2_command.specs.Faults.{of_refusal, of_run, status_of, tells_read_failed}
+use Rattle.mc2_command.specs.Refused.{IsCommon, IsMemory, IsNoOrder, Refuses, RefusesMerge, RefusesOrder, RefusesTo}
 
--- settings are refused for their first fault
-pub settings_refused : {X : Type 0} (r : Result X Fault) (text : List ℕ) (cause : SettingsFault) (bad : BadSettings) → IsErrAnd r (λ f. f ≡ of_settings cause) → r ≡ Err (fault.BadSettings bad) → NamesFirstFault text cause → IsSettingsFault text bad
-settings_refused (Ok x) text cause bad is same h = absurd is
-settings_refused (Err f) text OutOfMemory bad is same h = absurd cc
-settings_refused (Err f) text (Refused b) bad is same h = let one : b ≡ bad = cc in subst (IsSettingsFault text) one h
+-- a text that goes with what the words ask for goes with the words
+pub with_words : (held : Option (List ℕ) → Option (List ℕ)) (words : List (String Global)) (a : Arguments) (status : ℕ) (text : List ℕ)
+    → Asks words a → AnswersFor held a status text → AnswersWith held words status text
+with_words held words a status text asked (inl h) = inl (h.0, (a, asked, h.1))
+with_words held words a status text asked (inr h) = inr (h.0, (a, asked, h.1))
 
--- a schedule is refused for that word
-pub schedule_refused : {X : Type 0} (r : Result X Fault) (cause : ScheduleFault) (n : ℕ) → IsErrAnd r (λ f. f ≡ of_schedule cause) → r ≡ Err (fault.BadSchedule n) → cause ≡ schedule.Word n
-schedule_refused (Ok x) cause n is same = absurd is
-schedule_refused (Err f) schedule.OutOfMemory n is same = absurd cc
-schedule_refused (Err f) (schedule.Word m) n is same = let one : m ≡ n = cc in ap schedule.Word one
+-- why a record has no order
+pub no_order : (held : Option (List ℕ) → Option (List ℕ)) (name : Option (List ℕ)) (of : Record) (cause : MergeFault) (f : Fault) → SpellsRecordOf held name of
+    → ((c : RecordFault) → cause ≡ merging.Unsound c → IsFirstFault kernel (opened_of of.settings) of.run c)
+    → ((c : List Place) → cause ≡ merging.Cycle c → HasCycle kernel (opened_of of.settings) of.run c)
+    → IsNoOrder of cause f → RefusesMerge held name f
+no_order held name of merging.OutOfMemory f read unsound cycle is = inl (refusal.OutOfMemory, is, tt)
+no_order held name of (merging.Unsound c) f read unsound cycle (inl is) = inl (refusal.OutOfMemory, is, tt)
+no_order held name of (merging.Unsound c) f read unsound cycle (inr h) =
+    let why : RefusesUnsound held name (string_bytes h.0) = record { of = of; read = read; fault = c; first = unsound c refl; is = h.2 } in
+    subst (RefusesMerge held name) (sym h.1) (inr why)
+no_order held name of (merging.Cycle c) f read unsound cycle (inl is) = inl (refusal.OutOfMemory, is, tt)
+no_order held name of (merging.Cycle c) f read unsound cycle (inr h) =
+    let why : RefusesCycle held name (string_bytes h.0) = record { of = of; read = read; cycle = c; has = cycle c refl; is = h.2 } in
+    subst (RefusesMerge held name) (sym h.1) (inr why)
 
--- a fault with status 1 is one of the two that `merge` answers
-found : (held : Option (List ℕ) → Option (List ℕ)) (words : List (String Global)) (name : Option (Bor (List ℕ))) (f : Fault)
-    → AskedBy words (forms.Merge name)
-    → ((text : String Global) → f ≡ fault.Unsound text → RefusesUnsound held (bytes_of name) (string_bytes text))
-    → ((text : String Global) → f ≡ fault.Cycle text → RefusesCycle held (bytes_of name) (string_bytes text))
-    → status_of f ≡ 1 → FindsNoOrder held words
-found held words name fault.OutOfMemory asked unsound cycle one = absurd (omega arith)
-found held words name (fault.NoThreadStarted cpu) asked unsound cycle one = absurd (omega arith)
-found held words name (fault.BadSettings bad) asked unsound cycle one = absurd (omega arith)
-found held words name (fault.BadScripts n) asked unsound cycle one = absurd (omega arith)
-found held words name (fault.BadSchedule n) asked unsound cycle one = absurd (omega arith)
-found held words name (fault.BadRecord n) asked unsound cycle one = absurd (omega arith)
-found held words name (fault.Unsound text) asked unsound cycle one = (name, asked, string_bytes text, inl (unsound text refl))
-found held words name (fault.Cycle text) asked unsound cycle one = (name, asked, string_bytes text, inr (cycle text refl))
-found held words name fault.ReadFailed asked unsound cycle one = absurd (omega arith)
-found held words name fault.WriteFailed asked unsound cycle one = absurd (omega arith)
-found held words name fault.BadWords asked unsound cycle one = absurd (omega arith)
+-- no refusal that programs share has status 1
+not_one : (cause : Refusal) → common.status_of cause ≡ 1 → ⊥
+not_one refusal.OutOfMemory one = omega arith
+not_one (refusal.BadSettings bad) one = omega arith
+not_one (refusal.BadScripts n) one = omega arith
+not_one (refusal.BadSchedule n) one = omega arith
+not_one (refusal.BadRecord n) one = omega arith
+not_one refusal.ReadFailed one = omega arith
+not_one refusal.WriteFailed one = omega arith
+not_one refusal.BadWords one = omega arith
 
-pub no_order : {X Y : Type 0} (held : Option (List ℕ) → Option (List ℕ)) (words : List (String Global)) (name : Option (Bor (List ℕ))) (r : Result X Fault) (cause : Fault)
-    → AskedBy words (forms.Merge name) → IsErrAnd r (λ f. f ≡ cause)
-    → ((text : String Global) → ◌≡◌ {A = Result Y Fault} (Err cause) (Err (fault.Unsound text)) → RefusesUnsound held (bytes_of name) (string_bytes text))
-    → ((text : String Global) → ◌≡◌ {A = Result Y Fault} (Err cause) (Err (fault.Cycle text)) → RefusesCycle held (bytes_of name) (string_bytes text))
-    → IfErr r (λ f. status_of f ≡ 1 → FindsNoOrder held words)
-no_order held words name (Ok x) cause asked is unsound cycle = absurd is
-no_order held words name (Err f) cause asked is unsound cycle = found held words name f asked (λ text e. unsound text (ap Err (sym is ∙ e))) (λ text e. cycle text (ap Err (sym is ∙ e)))
+shared : (cause : Refusal) (f : Fault) → f ≡ fault.Common cause → status_of f ≡ 1 → ⊥
+shared cause f is one = not_one cause (sym (ap status_of is) ∙ one)
 
--- a verdict goes with its status
-pub audited : (held : Option (List ℕ) → Option (List ℕ)) (words : List (String Global)) (name : Option (Bor (List ℕ))) (verdict : Verdict) (text : List ℕ)
-    → AskedBy words (forms.Audit name) → AnswersAudit held (bytes_of name) verdict text → AnswersWith held words (status_by verdict) text
-audited held words name verdicts.Sound text asked is = inl (refl, record { arguments = forms.Audit name; asked = asked; is = is })
-audited held words name (verdicts.Unsound fault) text asked is = inr (refl, (name, asked, fault, is))
+-- what is found of a record is its first fault or a cycle
+found : (held : Option (List ℕ) → Option (List ℕ)) (name : Option (List ℕ)) (f : Fault) → RefusesOrder held name f
+    → (text : List ℕ) × (RefusesUnsound held name text ⊎ RefusesCycle held name text)
+found held name (fault.Common cause) h = absurd h
+found held name (fault.NoThreadStarted cpu) h = absurd h
+found held name (fault.Unsound text) h = (string_bytes text, inl h)
+found held name (fault.Cycle text) h = (string_bytes text, inr h)
+
+module _ (held : Option (List ℕ) → Option (List ℕ)) (words : List (String Global)) (f : Fault) (one : status_of f ≡ 1) where
+  -- of all commands `merge` alone finds something with a refusal
+  by_command : (a : Arguments) → Asks words a → RefusesTo held a f → FindsNoOrder held words
+  by_command (forms.Run settings scripts) asked (inl h) = absurd (shared h.0 f h.1 one)
+  by_command (forms.Run settings scripts) asked (inr (given, both, inl is)) = absurd (shared refusal.OutOfMemory f is one)
+  by_command (forms.Run settings scripts) asked (inr (given, both, inr (cpu, is, few))) = let three : status_of f ≡ 3 = ap status_of is in absurd (omega (arith, one, three))
+  by_command (forms.Sim settings scripts schedule) asked (inl h) = absurd (shared h.0 f h.1 one)
+  by_command (forms.Sim settings scripts schedule) asked (inr (given, both, h)) = absurd (shared h.0 f h.1 one)
+  by_command (forms.Report name) asked h = absurd (shared h.0 f h.1 one)
+  by_command (forms.Audit name) asked h = absurd (shared h.0 f h.1 one)
+  by_command (forms.Merge name) asked (inl h) = absurd (shared h.0 f h.1 one)
+  by_command (forms.Merge name) asked (inr h) = let what = found held (bytes_of name) f h in (name, asked, what.0, what.1)
+  by_command (forms.Upgrade name) asked h = absurd (shared h.0 f h.1 one)
+
+  by_words : Refuses held words f → FindsNoOrder held words
+  by_words (inl (inl is)) = absurd (shared refusal.OutOfMemory f is one)
+  by_words (inl (inr h)) = absurd (shared refusal.BadWords f h.0 one)
+  by_words (inr h) = by_command h.0 h.1 h.2
+
+-- a refusal with status 1 says that `merge` found something
+pub found_by : (held : Option (List ℕ) → Option (List ℕ)) (words : List (String Global)) (f : Fault) (status : ℕ) → status ≡ status_of f → Refuses held words f → status ≡ 1 → FindsNoOrder held words
+found_by held words f status is h one = by_words held words f (sym is ∙ one) h
+
+-- and never that a write failed
+pub no_write : (f : Fault) (status : ℕ) → status ≡ status_of f → f ≡ fault.Common refusal.WriteFailed → status ≡ 1 → ⊥
+no_write f status is failed one = shared refusal.WriteFailed f failed (sym is ∙ one)
+
+-- nor has that status 2
+pub no_write_two : (f : Fault) (status : ℕ) → status ≡ status_of f → f ≡ fault.Common refusal.WriteFailed → status ≡ 2 → ⊥
+no_write_two f status is failed two = let three : status_of f ≡ 3 = ap status_of failed in absurd (omega (arith, is, three, two))
+
+-- a status below 3 says that no read failed
+pub none_failed : (f : Fault) (status old new : ℕ) → status ≡ status_of f → new ≡ counted (tells_read_failed {X = ℕ} (Err f)) old → status ≤ 2 → new ≡ old
+none_failed (fault.Common refusal.OutOfMemory) status old new is count few = count
+none_failed (fault.Common (refusal.BadSettings bad)) status old new is count few = count
+none_failed (fault.Common (refusal.BadScripts n)) status old new is count few = count
+none_failed (fault.Common (refusal.BadSchedule n)) status old new is count few = count
+none_failed (fault.Common (refusal.BadRecord n)) status old new is count few = count
+none_failed (fault.Common refusal.ReadFailed) status old new is count few = absurd (omega (arith, is, few))
+none_failed (fault.Common refusal.WriteFailed) status old new is count few = count
+none_failed (fault.Common refusal.BadWords) status old new is count few = count
+none_failed (fault.NoThreadStarted cpu) status old new is count few = count
+none_failed (fault.Unsound text) status old new is count few = count
+none_failed (fault.Cycle text) status old new is count few = count

@@ -1,1 +1,4 @@
 pub mod Answered
+pub mod Files
+pub mod FormsTaken
+pub mod TableTaken

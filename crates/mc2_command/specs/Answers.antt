@@ -3,7 +3,6 @@
 use Rattle.std.specs.Prelude.{◌≡◌, ◌⊎◌, ℕ, List, Option, Some, None, String}
 use Rattle.std.specs.Borrow.{Bor}
 use Rattle.std.specs.Global.{Global}
-use Rattle.std.specs.Io.KnownBytes.{Appends}
 use Rattle.auditor.specs.declared.fault.Fault.{Fault}
 use Rattle.auditor.specs.declared.fault.Verdict.{Verdict}
 use Rattle.auditor.specs.declared.fault.Verdict.TheVariants as verdicts
@@ -19,19 +18,18 @@ use Rattle.log_merge.specs.MergedText.{merged_text}
 use Rattle.sound_run.specs.Orders.{HasOrder}
 use Rattle.sound_run.specs.Sound.{Sound}
 use Rattle.program.specs.Inputs.{bytes_of, Reads}
+use Rattle.program.specs.Texts.{SpellsRecordOf, SpellsSettingsOf}
 use Rattle.scripts.specs.contracts.objects.kernel_object.KernelObjectSeqObject.TheImpl.{ghosts as kernel}
 use Rattle.scripts.specs.KernelTypes.{KernelTodo}
-use Rattle.scripts.specs.Output.{AppendsBeginning}
-use Rattle.scripts.specs.RecordFaults.{IsWhole, text_of}
+use Rattle.scripts.specs.RecordFaults.{text_of}
 use Rattle.scripts.specs.RecordRanges.{Record}
 use Rattle.scripts.specs.Runs.{opened_of, AsksFor}
 use Rattle.scripts.specs.ScheduleText.{IsSchedule}
 use Rattle.scripts.specs.ScriptText.{AreScripts}
 use Rattle.scripts.specs.Settings.{Settings, built_in_settings}
-use Rattle.scripts.specs.SettingsText.{SpellsSettings}
 use Rattle.mc2_command.specs.declared.arguments.Arguments.{Arguments}
 use Rattle.mc2_command.specs.declared.arguments.Arguments.TheVariants as forms
-use Rattle.mc2_command.specs.Asked.{AskedBy}
+use Rattle.mc2_command.specs.Asked.{Asks}
 
 -- a sound run of the scripts that the text spells, each CPU's whole
 pub record IsRunOf (settings : Settings) (text : List ℕ) (r : Record) : Type 0 where
@@ -56,11 +54,7 @@ module _ (held : Option (List ℕ) → Option (List ℕ)) where
   -- the settings under that name, or the built-in ones
   abbrev pub ReadsSettings : Option (List ℕ) → Settings → Type 0
   ReadsSettings None given = given ≡ built_in_settings
-  ReadsSettings (Some name) given = (text : List ℕ) × Reads held (Some name) text × SpellsSettings text given
-
-  -- scripts, under that name, on the objects of these settings
-  abbrev pub ReadsScripts : Option (List ℕ) → Settings → Type 0
-  ReadsScripts name given = (text : List ℕ) × Reads held name text × (asked : List (List KernelTodo)) × AreScripts given text asked
+  ReadsSettings (Some name) given = SpellsSettingsOf held name given
 
   -- what `run` answers: a run of the scripts under that name, on the objects of the settings
   pub record AnswersRun (settings scripts : Option (List ℕ)) (r : Record) : Type 0 where
@@ -80,34 +74,28 @@ module _ (held : Option (List ℕ) → Option (List ℕ)) where
     pub scheduled : Reads held (Some schedule) turns
     pub is : IsSimulationOf given text turns r
 
-  -- the record under that name
-  pub record ReadsRecord (name : Option (List ℕ)) (of : Record) : Type 0 where
-    pub bytes : List ℕ
-    pub read : Reads held name bytes
-    pub spelled : IsWhole bytes of
-
   -- what `report` answers: the report on the record under that name
   pub record AnswersReport (name : Option (List ℕ)) (answer : List ℕ) : Type 0 where
     pub of : Record
-    pub read : ReadsRecord name of
+    pub read : SpellsRecordOf held name of
     pub is : answer ≡ report_text of
 
   -- what `audit` answers: the verdict on the record under that name
   pub record AnswersAudit (name : Option (List ℕ)) (verdict : Verdict) (answer : List ℕ) : Type 0 where
     pub of : Record
-    pub read : ReadsRecord name of
+    pub read : SpellsRecordOf held name of
     pub judged : IsVerdict of verdict
     pub is : answer ≡ verdict_text of.settings verdict
 
   -- what `merge` answers: the order of all entries of the record under that name, which is sound
   pub record AnswersMerge (name : Option (List ℕ)) (of : Record) (places : List Place) : Type 0 where
-    pub read : ReadsRecord name of
+    pub read : SpellsRecordOf held name of
     pub merged : IsMerged kernel (opened_of of.settings) of.run places
 
   -- why `merge` refuses the record under that name: this is its first fault
   pub record RefusesUnsound (name : Option (List ℕ)) (answer : List ℕ) : Type 0 where
     pub of : Record
-    pub read : ReadsRecord name of
+    pub read : SpellsRecordOf held name of
     pub fault : Fault
     pub first : IsFirstFault kernel (opened_of of.settings) of.run fault
     pub is : answer ≡ fault_text of.settings fault
@@ -115,7 +103,7 @@ module _ (held : Option (List ℕ) → Option (List ℕ)) where
   -- or: it is sound, and this is a cycle of its entries, which excludes an order
   pub record RefusesCycle (name : Option (List ℕ)) (answer : List ℕ) : Type 0 where
     pub of : Record
-    pub read : ReadsRecord name of
+    pub read : SpellsRecordOf held name of
     pub cycle : List Place
     pub has : HasCycle kernel (opened_of of.settings) of.run cycle
     pub is : answer ≡ cycle_text cycle
@@ -127,34 +115,33 @@ module _ (held : Option (List ℕ) → Option (List ℕ)) where
   AnswersTo (forms.Report name) text = AnswersReport (bytes_of name) text
   AnswersTo (forms.Audit name) text = AnswersAudit (bytes_of name) verdicts.Sound text
   AnswersTo (forms.Merge name) text = (of : Record) × (places : List Place) × AnswersMerge (bytes_of name) of places × (text ≡ merged_text of places)
-  AnswersTo (forms.Upgrade name) text = (of : Record) × ReadsRecord (bytes_of name) of × (text ≡ text_of of)
+  AnswersTo (forms.Upgrade name) text = (of : Record) × SpellsRecordOf held (bytes_of name) of × (text ≡ text_of of)
+
+  -- the verdict, for which those arguments ask, that names the first fault of a record
+  abbrev pub FindsIn : Arguments → List ℕ → Type 0
+  FindsIn (forms.Audit name) text = (fault : Fault) × AnswersAudit (bytes_of name) (verdicts.Unsound fault) text
+  FindsIn _ text = ⊥
+
+  -- the text goes with those arguments and the status: 0 for an answer, 1 where a fault was found
+  abbrev pub AnswersFor : Arguments → ℕ → List ℕ → Type 0
+  AnswersFor arguments status text = ((status ≡ 0) × AnswersTo arguments text) ⊎ ((status ≡ 1) × FindsIn arguments text)
 
   -- the text answers the words, by the command that they ask for
-  pub record Answers (words : List (String Global)) (text : List ℕ) : Type 0 where
-    pub arguments : Arguments
-    pub asked : AskedBy words arguments
-    pub is : AnswersTo arguments text
+  abbrev pub Answers : List (String Global) → List ℕ → Type 0
+  Answers words text = (arguments : Arguments) × Asks words arguments × AnswersTo arguments text
 
   -- the verdict, for which the words ask, that names the first fault of a record
   abbrev pub Finds : List (String Global) → List ℕ → Type 0
-  Finds words text = (name : Option (Bor (List ℕ))) × AskedBy words (forms.Audit name) × (fault : Fault) × AnswersAudit (bytes_of name) (verdicts.Unsound fault) text
+  Finds words text = (arguments : Arguments) × Asks words arguments × FindsIn arguments text
 
   -- what `merge` found, which the words ask for, where it gives no order
   abbrev pub FindsNoOrder : List (String Global) → Type 0
-  FindsNoOrder words = (name : Option (Bor (List ℕ))) × AskedBy words (forms.Merge name) × (text : List ℕ) × (RefusesUnsound (bytes_of name) text ⊎ RefusesCycle (bytes_of name) text)
+  FindsNoOrder words = (name : Option (Bor (List ℕ))) × Asks words (forms.Merge name) × (text : List ℕ) × (RefusesUnsound (bytes_of name) text ⊎ RefusesCycle (bytes_of name) text)
 
-  -- the text goes with the words and the status: 0 for an answer, 1 where a fault was found
+  -- the text goes with the words and the status
   abbrev pub AnswersWith : List (String Global) → ℕ → List ℕ → Type 0
   AnswersWith words status text = ((status ≡ 0) × Answers words text) ⊎ ((status ≡ 1) × Finds words text)
 
--- known contents grew by such a text
-abbrev pub Prints : (List ℕ → Type 0) → Option (List ℕ) → Option (List ℕ) → Type 0
-Prints Is old new = (text : List ℕ) × Is text × Appends old new text
-
--- known contents grew by a beginning of such a text
-abbrev pub PrintsSome : (List ℕ → Type 0) → Option (List ℕ) → Option (List ℕ) → Type 0
-PrintsSome Is old new = (text : List ℕ) × Is text × AppendsBeginning old new text
-
--- known contents grew by a beginning of a text that goes with the words and some status
-abbrev pub PrintsAnySome : (Option (List ℕ) → Option (List ℕ)) → List (String Global) → Option (List ℕ) → Option (List ℕ) → Type 0
-PrintsAnySome held words old new = (status : ℕ) × PrintsSome (AnswersWith held words status) old new
+  -- it goes with the words and some status
+  abbrev pub AnswersAny : List (String Global) → List ℕ → Type 0
+  AnswersAny words text = (status : ℕ) × AnswersWith words status text

@@ -1,5 +1,7 @@
 pub mod Answers
 pub mod Asked
-pub mod BadInputs
 pub mod Faults
+pub mod Forms
 pub mod Printed
+pub mod Refused
+pub mod Table

@@ -1,27 +1,27 @@
 //! What the program answers: the record of a run or of a simulation, a record that is read, and the report on it, its verdict
 //! or its order.
 
-ghost use Rattle.std.specs.Prelude.{◌≡◌, ◌<◌, ℕ, List, Some, IfOk, IfErr, string_bytes};
+ghost use Rattle.std.specs.Prelude.{◌≡◌, ◌<◌, List, Some, IfOk, IfErr, string_bytes};
 ghost use Rattle.std.specs.List.{AllByRecursion};
-ghost use Rattle.auditor.specs.VerdictText.{fault_text, IsNamed};
+ghost use Rattle.auditor.specs.VerdictText.{IsNamed};
 ghost use Rattle.auditor.specs.declared.fault.Fault.{Fault as AuditFault};
-ghost use Rattle.log_merge.specs.CycleText.{cycle_text};
 ghost use Rattle.scripts.specs.declared.script.cpu_scripts.TheConstants.{MOST_ENTRIES};
 ghost use Rattle.sound_run.specs.declared.place.Place.{Place};
-ghost use Rattle.mc2_command.specs.Answers.{ReadsRecord, AnswersRun, AnswersSim, AnswersReport, AnswersAudit, AnswersMerge, RefusesUnsound, RefusesCycle};
-ghost use Rattle.program.specs.Inputs.{bytes_of};
-ghost use Rattle.mc2_command.specs.BadInputs.{AreBadSettings, AreBadScripts, IsBadSchedule, IsBadRecord, HasCpu};
-ghost use Rattle.mc2_command.specs.Faults.{IsRefusal};
-ghost use Rattle.scripts.specs.declared.settings.fault.BadSettings.{BadSettings};
+ghost use Rattle.mc2_command.specs.Answers.{AnswersRun, AnswersSim, AnswersReport, AnswersAudit, AnswersMerge};
+ghost use Rattle.event_log.specs.Stream.{counted};
+ghost use Rattle.program.specs.Inputs.{bytes_of, says_read_failed};
+ghost use Rattle.program.specs.Texts.{RefusesRecord, SpellsRecordOf};
+ghost use Rattle.mc2_command.specs.Faults.{tells_read_failed};
+ghost use Rattle.mc2_command.specs.Refused.{IsCommon, IsNoOrder, RefusesMerge, RefusesRun, RefusesSim};
 
 use crate::fault::Fault;
-use crate::input::{read_record, read_scripts, read_settings};
+use crate::input::settings_of;
 use auditor::{Verdict, audit, fault_text, verdict_line};
 use cpu_worker::{AlwaysAllowed, OpenGate, report, run_owned, simulate};
 use event_log::OutOfMemory;
 use log_merge::{MergeFault, Merged, cycle_text, merge};
-use program::{Inputs, read_input};
-use scripts::{Record, Schedule};
+use program::{Inputs, Refusal, read_record, read_schedule, read_scripts, read_settings};
+use scripts::Record;
 use std::alloc::Global;
 use std::sync::Wait;
 use std::thread::Threads;
@@ -36,12 +36,10 @@ pub fn run_answer<R: Threads + Wait + Sync, I: Inputs>(
     scripts: Option<&str>,
 ) -> Result<Record, Fault>
     ensures answer { IfOk result (AnswersRun (I.held inputs.old) (bytes_of settings.entry) (bytes_of scripts.entry)) }
-    ensures bad_settings { (bad : BadSettings) → result ≡ Err (Fault.BadSettings bad) → AreBadSettings (I.held inputs.old) (bytes_of settings.entry) bad }
-    ensures bad_scripts { (n : ℕ) → result ≡ Err (Fault.BadScripts n) → AreBadScripts (I.held inputs.old) (bytes_of settings.entry) (bytes_of scripts.entry) n }
-    ensures cpu { (cpu : ℕ) → result ≡ Err (Fault.NoThreadStarted cpu) → HasCpu (I.held inputs.old) (bytes_of settings.entry) (bytes_of scripts.entry) cpu }
-    ensures refusal { IfErr result IsRefusal }
+    ensures refused { IfErr result (RefusesRun (I.held inputs.old) (bytes_of settings.entry) (bytes_of scripts.entry)) }
+    ensures failures { I.failed inputs.new ≡ counted (tells_read_failed result) (I.failed inputs.old) }
 {
-    let settings = read_settings(alloc, inputs, settings)?;
+    let settings = settings_of(alloc, inputs, settings)?;
     let scripts = read_scripts(alloc, inputs, scripts, &settings)?;
     let record = run_owned(rt, alloc, settings, scripts, &OpenGate, &AlwaysAllowed)?;
     Ok(record)
@@ -57,18 +55,16 @@ pub fn sim_answer<I: Inputs>(
     schedule: &str,
 ) -> Result<Record, Fault>
     ensures answer { IfOk result (AnswersSim (I.held inputs.old) settings.now scripts.now schedule.now) }
-    ensures bad_settings { (bad : BadSettings) → result ≡ Err (Fault.BadSettings bad) → AreBadSettings (I.held inputs.old) (Some settings.now) bad }
-    ensures bad_scripts { (n : ℕ) → result ≡ Err (Fault.BadScripts n) → AreBadScripts (I.held inputs.old) (Some settings.now) (Some scripts.now) n }
-    ensures bad_schedule { (n : ℕ) → result ≡ Err (Fault.BadSchedule n) →
-        IsBadSchedule (I.held inputs.old) (Some settings.now) (Some scripts.now) (Some schedule.now) n }
-    ensures refusal { IfErr result IsRefusal }
+    ensures refused { IfErr result (RefusesSim (I.held inputs.old) settings.now scripts.now schedule.now) }
+    ensures failures { I.failed inputs.new ≡ counted (tells_read_failed result) (I.failed inputs.old) }
 {
-    let settings = read_settings(alloc, inputs, Some(settings))?;
+    let settings = read_settings(alloc, inputs, settings)?;
     let scripts = read_scripts(alloc, inputs, Some(scripts), &settings)?;
-    let text = read_input(alloc, inputs, Some(schedule))?;
-    let schedule = Schedule::read(alloc, text.as_slice(), &settings)?;
-    let record = simulate(alloc, &settings, &scripts, &schedule)?;
-    Ok(record)
+    let schedule = read_schedule(alloc, inputs, schedule, &settings)?;
+    match simulate(alloc, &settings, &scripts, &schedule) {
+        Ok(record) => Ok(record),
+        Err(OutOfMemory) => Err(Fault::Common(Refusal::OutOfMemory)),
+    }
 }
 
 /// The report on the record of that name, or on that of standard input.
@@ -76,10 +72,10 @@ pub fn report_answer<I: Inputs>(
     alloc: Global,
     inputs: &mut I,
     record: Option<&str>,
-) -> Result<String, Fault>
+) -> Result<String, Refusal>
     ensures answer { IfOk result (λ text. AnswersReport (I.held inputs.old) (bytes_of «record».entry) (string_bytes text)) }
-    ensures bad_record { (n : ℕ) → result ≡ Err (Fault.BadRecord n) → IsBadRecord (I.held inputs.old) (bytes_of «record».entry) n }
-    ensures refusal { IfErr result IsRefusal }
+    ensures refused { IfErr result (RefusesRecord (I.held inputs.old) (bytes_of «record».entry)) }
+    ensures failures { I.failed inputs.new ≡ counted (says_read_failed result) (I.failed inputs.old) }
 {
     let record = read_record(alloc, inputs, record)?;
     let text = report(alloc, &record)?;
@@ -91,10 +87,10 @@ pub fn upgrade_answer<I: Inputs>(
     alloc: Global,
     inputs: &mut I,
     record: Option<&str>,
-) -> Result<Record, Fault>
-    ensures answer { IfOk result (ReadsRecord (I.held inputs.old) (bytes_of «record».entry)) }
-    ensures bad_record { (n : ℕ) → result ≡ Err (Fault.BadRecord n) → IsBadRecord (I.held inputs.old) (bytes_of «record».entry) n }
-    ensures refusal { IfErr result IsRefusal }
+) -> Result<Record, Refusal>
+    ensures answer { IfOk result (SpellsRecordOf (I.held inputs.old) (bytes_of «record».entry)) }
+    ensures refused { IfErr result (RefusesRecord (I.held inputs.old) (bytes_of «record».entry)) }
+    ensures failures { I.failed inputs.new ≡ counted (says_read_failed result) (I.failed inputs.old) }
 {
     read_record(alloc, inputs, record)
 }
@@ -104,10 +100,10 @@ pub fn audit_answer<I: Inputs>(
     alloc: Global,
     inputs: &mut I,
     record: Option<&str>,
-) -> Result<(Verdict, String), Fault>
+) -> Result<(Verdict, String), Refusal>
     ensures answer { IfOk result (λ a. AnswersAudit (I.held inputs.old) (bytes_of «record».entry) a.0 (string_bytes a.1)) }
-    ensures bad_record { (n : ℕ) → result ≡ Err (Fault.BadRecord n) → IsBadRecord (I.held inputs.old) (bytes_of «record».entry) n }
-    ensures refusal { IfErr result IsRefusal }
+    ensures refused { IfErr result (RefusesRecord (I.held inputs.old) (bytes_of «record».entry)) }
+    ensures failures { I.failed inputs.new ≡ counted (says_read_failed result) (I.failed inputs.old) }
 {
     let record = read_record(alloc, inputs, record)?;
     let verdict = audit(alloc, &record)?;
@@ -119,20 +115,17 @@ pub fn audit_answer<I: Inputs>(
 fn no_order(alloc: Global, of: &Record, cause: MergeFault) -> Fault
     requires named { (f : AuditFault) → cause ≡ MergeFault.Unsound f → IsNamed of.now.settings f }
     requires few { (c : List Place) → cause ≡ MergeFault.Cycle c → AllByRecursion (λ p. p.entry < MOST_ENTRIES) c }
-    ensures unsound { (text : _) → result ≡ Fault.Unsound text → (f : AuditFault) × (cause ≡ MergeFault.Unsound f) × (string_bytes text ≡ fault_text of.now.settings f) }
-    ensures cycle { (text : _) → result ≡ Fault.Cycle text → (c : List Place) × (cause ≡ MergeFault.Cycle c) × (string_bytes text ≡ cycle_text c) }
-    ensures no_line { (n : ℕ) → result ≡ Fault.BadRecord n → ⊥ }
-    ensures no_write { result ≡ Fault.WriteFailed → ⊥ }
+    ensures { IsNoOrder of.now cause result }
 {
     match cause {
-        MergeFault::OutOfMemory => Fault::OutOfMemory,
+        MergeFault::OutOfMemory => Fault::Common(Refusal::OutOfMemory),
         MergeFault::Unsound(fault) => match fault_text(alloc, of, &fault) {
             Ok(text) => Fault::Unsound(text),
-            Err(OutOfMemory) => Fault::OutOfMemory,
+            Err(OutOfMemory) => Fault::Common(Refusal::OutOfMemory),
         },
         MergeFault::Cycle(cycle) => match cycle_text(alloc, cycle.as_slice()) {
             Ok(text) => Fault::Cycle(text),
-            Err(OutOfMemory) => Fault::OutOfMemory,
+            Err(OutOfMemory) => Fault::Common(Refusal::OutOfMemory),
         },
     }
 }
@@ -144,10 +137,8 @@ pub fn merge_answer<I: Inputs>(
     record: Option<&str>,
 ) -> Result<(Record, Merged), Fault>
     ensures answer { IfOk result (λ a. AnswersMerge (I.held inputs.old) (bytes_of «record».entry) a.0 a.1.places) }
-    ensures unsound { (text : _) → result ≡ Err (Fault.Unsound text) → RefusesUnsound (I.held inputs.old) (bytes_of «record».entry) (string_bytes text) }
-    ensures cycle { (text : _) → result ≡ Err (Fault.Cycle text) → RefusesCycle (I.held inputs.old) (bytes_of «record».entry) (string_bytes text) }
-    ensures bad_record { (n : ℕ) → result ≡ Err (Fault.BadRecord n) → IsBadRecord (I.held inputs.old) (bytes_of «record».entry) n }
-    ensures no_write { result ≡ Err Fault.WriteFailed → ⊥ }
+    ensures refused { IfErr result (RefusesMerge (I.held inputs.old) (bytes_of «record».entry)) }
+    ensures failures { I.failed inputs.new ≡ counted (tells_read_failed result) (I.failed inputs.old) }
 {
     let record = read_record(alloc, inputs, record)?;
     match merge(alloc, &record) {

@@ -1,13 +1,16 @@
 //! The program's words.
 
-ghost use Rattle.std.specs.Prelude.{◌≡◌, ◌⊎◌, IfOk, IfErr};
-ghost use Rattle.mc2_command.specs.Asked.{AskedBy};
+ghost use Rattle.std.specs.Prelude.{◌≡◌, ◌⊎◌, [], false, IfErr, IfOk, codes, map, string_bytes};
+ghost use Rattle.std.specs.List.{list_any};
+ghost use Rattle.clap.specs.Words.{fault_of, found_of, kind_of, rows_of, subcommand_of, subcommand_rows_of};
+ghost use Rattle.mc2_command.specs.Asked.{AreFiles, AskNothing, Asks, command_name, is_no_form};
+ghost use Rattle.mc2_command.specs.Forms.{forms};
 
-use crate::fault::Fault;
+use crate::table::forms;
 use clap::error::ErrorKind;
-use clap::{Arg, ArgAction, Command, Error};
-use program::{file, wanted_file};
-use std::alloc::{AllocError, Global};
+use clap::{ArgMatches, Error};
+use program::{BadName, Refusal, file, wanted_file};
+use std::alloc::Global;
 use std::convert::AsStr;
 
 /// What the words ask for. Without a file of scripts, or of the record, standard input is read; without settings `run` has
@@ -37,111 +40,122 @@ pub enum Arguments<'a> {
     },
 }
 
-/// A command without help and version.
-fn plain<'a>(alloc: Global, name: &'a str) -> Command<'a> {
-    Command::new(alloc, name)
-        .disable_help_flag(true)
-        .disable_version_flag(true)
+/// What `run` asks for by what was found of its words.
+fn run_asked<'a>(found: &ArgMatches<'a>) -> Result<Arguments<'a>, BadName>
+    ensures named { IfOk result (λ a. codes "run" ≡ command_name a) }
+    ensures files { IfOk result (AreFiles (rows_of (found_of found.now))) }
+    ensures refused { IfErr result (λ _. (a : Arguments) → codes "run" ≡ command_name a → AreFiles (rows_of (found_of found.now)) a → ⊥) }
+{
+    let settings = file(found, "settings")?;
+    let scripts = file(found, "scripts")?;
+    Ok(Arguments::Run { settings, scripts })
 }
 
-/// A file at a place of its own.
-fn file_at<'a>(alloc: Global, id: &'a str) -> Arg<'a> {
-    Arg::new(alloc, id).action(ArgAction::Set)
+/// What `sim` asks for by what was found of its words.
+fn sim_asked<'a>(found: &ArgMatches<'a>) -> Result<Arguments<'a>, BadName>
+    ensures named { IfOk result (λ a. codes "sim" ≡ command_name a) }
+    ensures files { IfOk result (AreFiles (rows_of (found_of found.now))) }
+    ensures refused { IfErr result (λ _. (a : Arguments) → codes "sim" ≡ command_name a → AreFiles (rows_of (found_of found.now)) a → ⊥) }
+{
+    let settings = wanted_file(found, "settings")?;
+    let scripts = wanted_file(found, "scripts")?;
+    let schedule = wanted_file(found, "schedule")?;
+    Ok(Arguments::Sim {
+        settings,
+        scripts,
+        schedule,
+    })
 }
 
-/// `--settings F`, anywhere.
-fn settings_option<'a>(alloc: Global) -> Arg<'a> {
-    Arg::new(alloc, "settings")
-        .long("settings")
-        .action(ArgAction::Set)
+/// What a command on a record asks for by what was found of its words.
+fn record_asked<'a>(command: &str, found: &ArgMatches<'a>) -> Result<Arguments<'a>, BadName>
+    requires run { codes "run" ≡ command.now → ⊥ }
+    requires sim { codes "sim" ≡ command.now → ⊥ }
+    ensures named { IfOk result (λ a. command.now ≡ command_name a) }
+    ensures files { IfOk result (AreFiles (rows_of (found_of found.now))) }
+    ensures refused { IfErr result (λ _. (a : Arguments) → command.now ≡ command_name a → AreFiles (rows_of (found_of found.now)) a → ⊥) }
+{
+    let record = file(found, "record")?;
+    match command {
+        "report" => Ok(Arguments::Report { record }),
+        "audit" => Ok(Arguments::Audit { record }),
+        "merge" => Ok(Arguments::Merge { record }),
+        "upgrade" => Ok(Arguments::Upgrade { record }),
+        _ => Err(BadName),
+    }
 }
 
-/// A command on a record.
-fn on_record<'a>(alloc: Global, name: &'a str) -> Result<Command<'a>, AllocError> {
-    plain(alloc, name).arg(file_at(alloc, "record"))
-}
-
-/// All forms of words that there are.
-fn forms<'a>(alloc: Global) -> Result<Command<'a>, AllocError> {
-    let run = plain(alloc, "run")
-        .arg(settings_option(alloc))?
-        .arg(file_at(alloc, "scripts"))?;
-    let sim = plain(alloc, "sim")
-        .arg(settings_option(alloc).required(true))?
-        .arg(file_at(alloc, "scripts").required(true))?
-        .arg(file_at(alloc, "schedule").required(true))?;
-    plain(alloc, "mc2")
-        .disable_help_subcommand(true)
-        .no_binary_name(true)
-        .subcommand_required(true)
-        .subcommand(run)?
-        .subcommand(sim)?
-        .subcommand(on_record(alloc, "report")?)?
-        .subcommand(on_record(alloc, "audit")?)?
-        .subcommand(on_record(alloc, "merge")?)?
-        .subcommand(on_record(alloc, "upgrade")?)
+/// What the command of that name asks for by what was found of its words.
+fn asked_by<'a>(command: &str, found: &ArgMatches<'a>) -> Result<Arguments<'a>, BadName>
+    ensures named { IfOk result (λ a. command.now ≡ command_name a) }
+    ensures files { IfOk result (AreFiles (rows_of (found_of found.now))) }
+    ensures refused { IfErr result (λ _. (a : Arguments) → command.now ≡ command_name a → AreFiles (rows_of (found_of found.now)) a → ⊥) }
+{
+    match command {
+        "run" => run_asked(found),
+        "sim" => sim_asked(found),
+        _ => record_asked(command, found),
+    }
 }
 
 /// A word that is refused is no form, unless memory was wanting.
-fn refusal(error: Error) -> Fault
-    ensures { (result ≡ Fault.OutOfMemory) ⊎ (result ≡ Fault.BadWords) }
+fn refusal(error: Error) -> Refusal
+    ensures memory { kind_of error ≡ ErrorKind.OutOfMemory → result ≡ Refusal.OutOfMemory }
+    ensures other { (kind_of error ≡ ErrorKind.OutOfMemory → ⊥) → result ≡ Refusal.BadWords }
 {
-    if error.kind() == ErrorKind::OutOfMemory {
-        Fault::OutOfMemory
-    } else {
-        Fault::BadWords
+    match error.kind() {
+        ErrorKind::OutOfMemory => Refusal::OutOfMemory,
+        _ => Refusal::BadWords,
+    }
+}
+
+/// What the reader of words finds by the table of forms.
+fn found_by_forms<'a>(alloc: Global, words: &'a [String]) -> Result<ArgMatches<'a>, Refusal>
+    ensures taken { IfOk result (λ m. fault_of forms (map string_bytes words.now) ≡ []) }
+    ensures read { IfOk result (λ m. subcommand_rows_of m ≡ subcommand_of forms (map string_bytes words.now)) }
+    ensures refused { IfErr result (λ f. (f ≡ Refusal.OutOfMemory) ⊎ ((f ≡ Refusal.BadWords) × (fault_of forms (map string_bytes words.now) ≡ [] → ⊥))) }
+{
+    let Ok(forms) = forms(alloc) else {
+        return Err(Refusal::OutOfMemory);
+    };
+    match forms.try_get_matches_from(words) {
+        Ok(matches) => Ok(matches),
+        Err(error) => Err(refusal(error)),
     }
 }
 
 /// Whether the word is one that a command line often takes, but no form has.
-fn is_no_form(word: &str) -> bool {
-    word == "--" || word.starts_with("--settings=")
+fn is_no_form(word: &str) -> bool
+    ensures { result ≡ is_no_form word.now }
+{
+    word == "--" || word.as_bytes().starts_with(b"--settings=")
+}
+
+/// Whether one of the words is.
+fn has_no_form(words: &[String]) -> bool
+    ensures { result ≡ list_any (λ word. is_no_form (string_bytes word)) words.now }
+{
+    words.iter().any(|word| is_no_form(word.as_str()))
 }
 
 /// Reads the words after the program's name. Words that are no form are bad words, unless memory was wanting. The first of
 /// a form is the command: no option comes before it.
-pub fn read_words<'a>(alloc: Global, words: &'a [String]) -> Result<Arguments<'a>, Fault>
-    ensures asked { IfOk result (AskedBy words.now) }
-    ensures refused { IfErr result (λ f. (f ≡ Fault.OutOfMemory) ⊎ (f ≡ Fault.BadWords)) }
+pub fn read_words<'a>(alloc: Global, words: &'a [String]) -> Result<Arguments<'a>, Refusal>
+    ensures asked { IfOk result (Asks words.now) }
+    ensures refused { IfErr result (λ f. (f ≡ Refusal.OutOfMemory) ⊎ ((f ≡ Refusal.BadWords) × AskNothing words.now)) }
 {
-    if words.iter().any(|word| is_no_form(word.as_str())) {
-        return Err(Fault::BadWords);
+    if has_no_form(words) {
+        return Err(Refusal::BadWords);
     }
-    let Ok(forms) = forms(alloc) else {
-        return Err(Fault::OutOfMemory);
+    let matches = found_by_forms(alloc, words)?;
+    let (Some(first), Some((command, found))) = (words.first(), matches.subcommand()) else {
+        return Err(Refusal::BadWords);
     };
-    let matches = match forms.try_get_matches_from(words) {
-        Ok(matches) => matches,
-        Err(error) => return Err(refusal(error)),
-    };
-    let (Some(command), Some((_, found))) = (words.first(), matches.subcommand()) else {
-        return Err(Fault::BadWords);
-    };
-    match command.as_str() {
-        "run" => Ok(Arguments::Run {
-            settings: file(found, "settings")?,
-            scripts: file(found, "scripts")?,
-        }),
-        "sim" => Ok(Arguments::Sim {
-            settings: wanted_file(found, "settings")?,
-            scripts: wanted_file(found, "scripts")?,
-            schedule: wanted_file(found, "schedule")?,
-        }),
-        "report" => Ok(Arguments::Report {
-            record: file(found, "record")?,
-        }),
-        "audit" => Ok(Arguments::Audit {
-            record: file(found, "record")?,
-        }),
-        "merge" => Ok(Arguments::Merge {
-            record: file(found, "record")?,
-        }),
-        "upgrade" => Ok(Arguments::Upgrade {
-            record: file(found, "record")?,
-        }),
-        _ => Err(Fault::BadWords),
+    if command != first.as_str() {
+        return Err(Refusal::BadWords);
+    }
+    match asked_by(command, found) {
+        Ok(arguments) => Ok(arguments),
+        Err(BadName) => Err(Refusal::BadWords),
     }
 }
-
-#[cfg(test)]
-mod tests;

@@ -3,13 +3,12 @@
 ghost use Rattle.std.specs.Prelude.{◌≡◌, ◌⊎◌, ◌≤◌, true, OnOk, OnErr, IfOk, IfErr};
 ghost use Rattle.std.specs.Io.KnownBytes.{Appends};
 ghost use Rattle.event_log.specs.Stream.{counted};
-ghost use Rattle.mc2_command.specs.Answers.{Answers, AnswersWith, Finds, FindsNoOrder, Prints, PrintsAnySome};
+ghost use Rattle.mc2_command.specs.Answers.{Answers, AnswersAny, AnswersFor, AnswersWith, Finds, FindsNoOrder};
 ghost use Rattle.mc2_command.specs.Printed.{printed, status_with};
-ghost use Rattle.mc2_command.specs.Faults.{status_of};
+ghost use Rattle.mc2_command.specs.Faults.{status_of, tells_read_failed};
+ghost use Rattle.mc2_command.specs.Refused.{Refuses, RefusesTo, RefusesWith};
+ghost use Rattle.program.specs.Printing.{Prints, PrintsSome};
 ghost use Rattle.scripts.specs.Output.{AppendsBeginning};
-
-#[cfg(test)]
-mod tests;
 
 use crate::answers::{
     audit_answer, merge_answer, report_answer, run_answer, sim_answer, upgrade_answer,
@@ -19,10 +18,9 @@ use crate::fault::Fault;
 use auditor::Verdict;
 use event_log::Sink;
 use log_merge::{Merged, write_merged};
-use program::Inputs;
-use scripts::{Buffered, Record, WriteFailed, write_record, write_text};
+use program::{Inputs, Refusal, write_line};
+use scripts::{Record, WriteFailed, write_record, write_text};
 use std::alloc::Global;
-use std::fmt::Write;
 use std::sync::Wait;
 use std::thread::Threads;
 
@@ -42,8 +40,10 @@ pub fn command<R: Threads + Wait + Sync, I: Inputs, W: Sink, F: Sink>(
     ensures found { result ≡ 1 → (Prints (Finds (I.held inputs.old) words.now) (W.contents out.old) (W.contents out.new) × (faults.new ≡ faults.old))
         ⊎ ((out.new ≡ out.old) × FindsNoOrder (I.held inputs.old) words.now) }
     ensures nothing_written { result ≡ 2 → out.new ≡ out.old }
-    ensures failed { result ≡ 3 → (out.new ≡ out.old)
-        ⊎ (PrintsAnySome (I.held inputs.old) words.now (W.contents out.old) (W.contents out.new) × (W.failed out.new ≡ counted true (W.failed out.old))) }
+    ensures refused { result ≡ 2 → RefusesWith (I.held inputs.old) words.now 2 }
+    ensures failed { result ≡ 3 → ((out.new ≡ out.old) × RefusesWith (I.held inputs.old) words.now 3)
+        ⊎ (PrintsSome (AnswersAny (I.held inputs.old) words.now) (W.contents out.old) (W.contents out.new) × (W.failed out.new ≡ counted true (W.failed out.old))) }
+    ensures reads { result ≤ 2 → I.failed inputs.new ≡ I.failed inputs.old }
     ensures statuses { result ≤ 3 }
 {
     match perform(rt, alloc, words, inputs, out) {
@@ -75,18 +75,17 @@ impl Answer {
     }
 }
 
-/// What the words ask for, once it is known.
-fn answered<R: Threads + Wait + Sync, I: Inputs>(
+/// What those arguments ask for, once it is known.
+fn answer_to<R: Threads + Wait + Sync, I: Inputs>(
     rt: &R,
     alloc: Global,
-    words: &[String],
+    arguments: Arguments<'_>,
     inputs: &mut I,
 ) -> Result<Answer, Fault>
-    ensures answer { IfOk result (λ a. AnswersWith (I.held inputs.old) words.now (status_with a) (printed a)) }
-    ensures found { IfErr result (λ f. status_of f ≡ 1 → FindsNoOrder (I.held inputs.old) words.now) }
-    ensures no_write { result ≡ Err Fault.WriteFailed → ⊥ }
+    ensures answer { IfOk result (λ a. AnswersFor (I.held inputs.old) arguments.entry (status_with a) (printed a)) }
+    ensures refused { IfErr result (RefusesTo (I.held inputs.old) arguments.entry) }
+    ensures failures { I.failed inputs.new ≡ counted (tells_read_failed result) (I.failed inputs.old) }
 {
-    let arguments = read_words(alloc, words)?;
     match arguments {
         Arguments::Run { settings, scripts } => {
             let record = run_answer(rt, alloc, inputs, settings, scripts)?;
@@ -119,6 +118,21 @@ fn answered<R: Threads + Wait + Sync, I: Inputs>(
     }
 }
 
+/// What the words ask for, once it is known.
+fn answered<R: Threads + Wait + Sync, I: Inputs>(
+    rt: &R,
+    alloc: Global,
+    words: &[String],
+    inputs: &mut I,
+) -> Result<Answer, Fault>
+    ensures answer { IfOk result (λ a. AnswersWith (I.held inputs.old) words.now (status_with a) (printed a)) }
+    ensures refused { IfErr result (Refuses (I.held inputs.old) words.now) }
+    ensures failures { I.failed inputs.new ≡ counted (tells_read_failed result) (I.failed inputs.old) }
+{
+    let arguments = read_words(alloc, words)?;
+    answer_to(rt, alloc, arguments, inputs)
+}
+
 /// Writes the text of the answer.
 fn write_answer<W: Sink>(answer: &Answer, out: &mut W) -> Result<(), WriteFailed>
     ensures ok { OnOk result (Appends (W.contents out.old) (W.contents out.new) (printed answer.now)) }
@@ -143,24 +157,22 @@ fn perform<R: Threads + Wait + Sync, I: Inputs, W: Sink>(
     out: &mut W,
 ) -> Result<u8, Fault>
     ensures done { IfOk result (λ status. Prints (AnswersWith (I.held inputs.old) words.now status) (W.contents out.old) (W.contents out.new)) }
-    ensures found { IfErr result (λ f. status_of f ≡ 1 → FindsNoOrder (I.held inputs.old) words.now) }
     ensures none_failed { OnOk result (W.failed out.new ≡ W.failed out.old) }
-    ensures some { result ≡ Err Fault.WriteFailed → PrintsAnySome (I.held inputs.old) words.now (W.contents out.old) (W.contents out.new) }
-    ensures one_failed { result ≡ Err Fault.WriteFailed → W.failed out.new ≡ counted true (W.failed out.old) }
-    ensures nothing_written { IfErr result (λ f. (f ≡ Fault.WriteFailed → ⊥) → out.new ≡ out.old) }
+    ensures failures { I.failed inputs.new ≡ counted (tells_read_failed result) (I.failed inputs.old) }
+    ensures refused { IfErr result (λ f. (Refuses (I.held inputs.old) words.now f × (out.new ≡ out.old))
+        ⊎ ((f ≡ Fault.Common Refusal.WriteFailed) × PrintsSome (AnswersAny (I.held inputs.old) words.now) (W.contents out.old) (W.contents out.new) × (W.failed out.new ≡ counted true (W.failed out.old)))) }
 {
     let answer = answered(rt, alloc, words, inputs)?;
-    write_answer(&answer, out)?;
-    Ok(answer.status())
+    match write_answer(&answer, out) {
+        Ok(()) => Ok(answer.status()),
+        Err(WriteFailed) => Err(Fault::Common(Refusal::WriteFailed)),
+    }
 }
 
 /// Writes the line of the refusal, and answers its status.
 pub fn refuse<F: Sink>(fault: &Fault, faults: &mut F) -> u8
     ensures { result ≡ status_of fault.now }
 {
-    let mut line = Buffered::new(faults);
-    if writeln!(line, "{fault}").is_ok() {
-        let _ = line.finish();
-    }
+    write_line(fault, faults);
     fault.status()
 }

@@ -1,6 +1,10 @@
 //! What the program's answers say of each other, on a function without effect.
 
-ghost use Rattle.std.specs.Prelude.{◌≡◌, ℕ, List, Option, Some};
+ghost use Rattle.std.specs.Prelude.{◌≡◌, ℕ, List, Option, Some, String, map, string_bytes};
+ghost use Rattle.std.specs.Global.{Global};
+ghost use Rattle.mc2_command.specs.Asked.{Asks};
+ghost use Rattle.mc2_command.specs.Table.{AreNamed, IsForm};
+ghost use Rattle.mc2_command.specs.declared.arguments.Arguments.{Arguments};
 ghost use Rattle.mc2_command.specs.Answers.{AnswersSim, RefusesCycle, RefusesUnsound};
 ghost use Rattle.scripts.specs.RecordFaults.{text_of};
 ghost use Rattle.scripts.specs.RecordRanges.{RecordFits, Record as Shown};
@@ -21,3 +25,9 @@ pub fn simulations_have_no_cycle()
     no_text_begins_another();
     sound_has_no_fault::<KernelObject>();
 }
+
+/// Words that are one of the forms, as a plain list of words, ask for what the form says: `read_words` never refuses them as
+/// bad.
+pub fn forms_are_asked()
+    ensures { (words : List (String Global)) (arguments : Arguments) → IsForm arguments (map string_bytes words) → AreNamed arguments → Asks words arguments }
+{}

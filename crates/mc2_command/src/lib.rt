@@ -7,12 +7,12 @@ mod commands;
 mod fault;
 mod input;
 mod law;
-#[cfg(test)]
-mod tests;
+mod table;
 
 pub use answers::{
     audit_answer, merge_answer, report_answer, run_answer, sim_answer, upgrade_answer,
 };
+pub use arguments::{Arguments, read_words};
 pub use commands::{command, refuse};
 pub use fault::Fault;
-pub use law::simulations_have_no_cycle;
+pub use law::{forms_are_asked, simulations_have_no_cycle};

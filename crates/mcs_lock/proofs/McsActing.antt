@@ -10,7 +10,7 @@ use Rattle.event_log.specs.History.{History}
 use Rattle.word_rule.specs.declared.machine.step_done.StepDone.{StepDone}
 use Rattle.word_rule.specs.declared.machine.step_done.StepDone.TheVariants as steps
 use Rattle.word_rule.specs.declared.lock_kind.Stage.{Stage}
-use Rattle.word_rule.specs.declared.view.Moment.{Moment}
+use Rattle.word_rule.specs.declared.view.TraceStep.{TraceStep}
 use Rattle.word_rule.specs.Locks.{holding}
 use Rattle.word_rule.specs.LockRuns.{Extends}
 use Rattle.word_rule.specs.OneHold.{silently, Releases}
@@ -20,7 +20,7 @@ use Rattle.word_rule.specs.declared.lock_kind.McsStage.TheVariants.{Ready, Behin
 use Rattle.word_rule.specs.Cell.{Cell, HoldView, Grows, OwnsAll}
 use Rattle.sound_run.specs.declared.lock_kind.LockKind.{LockKind}
 use Rattle.sound_run.specs.declared.lock_kind.LockKind.TheVariants as kinds
-use Rattle.word_rule.specs.Rule.Definition.{IsTurn, IsTry, IsReadying}
+use Rattle.word_rule.specs.Rule.Definition.{IsTurn, IsTry, IsPreparing}
 use Rattle.word_rule.specs.CallerState.{CallerState, IsOther, Moves}
 use Rattle.word_rule.specs.Rule.CellInvariant.{Caller, EachFrom}
 use Rattle.word_rule.specs.Rule.Seats.{Seat, shown, at, moved_on, taken_in, keeping, letting}
@@ -31,8 +31,8 @@ use Rattle.word_rule.proofs.Known.{AllIdle, idle_alone}
 use Rattle.word_rule.proofs.Known.{value_of}
 use Rattle.word_rule.proofs.OneHolds.{HeldSince, since_more, count_append}
 use Rattle.mcs_lock.specs.Seen.{IsSeen}
-use Rattle.mcs_lock.specs.Steps.{clears, readies, arms, links, Names, enters, tries, looks, sees, sees_again, empties, passes}
-use Rattle.mcs_lock.proofs.McsRule.{clearing, readying, entering, trying, arming, linking, looking, seeing, seeing_again, finding, emptying, passing}
+use Rattle.mcs_lock.specs.Steps.{clears, prepares, arms, links, Names, enters, tries, looks, sees, sees_again, empties, passes}
+use Rattle.mcs_lock.proofs.McsRule.{clearing, preparing, entering, trying, arming, linking, looking, seeing, seeing_again, finding, emptying, passing}
 
 -- the words are those of the number that the code has, at a cell of the MCS lock
 module _ {O P C R : Type 0} (meaning : Ghosts O P C R) (h : Cell O P C R) (kind : h.kind ≡ kinds.Mcs) (slots id cpu : ℕ) where
@@ -47,10 +47,10 @@ module _ {O P C R : Type 0} (meaning : Ghosts O P C R) (h : Cell O P C R) (kind 
   enter_now m w = at_kind m 0 (λ _. cpu + 1) (enters meaning (step slots 0 (cpu + 1) 0 none) m) (subst (λ (z : ℕ). IsTurn meaning kinds.Mcs h slots id m 0 (λ _. z + 1) (enters meaning (step slots 0 (z + 1) 0 none) m)) w.at.number
       (entering meaning h slots id m w.pass_view.caller.acts w.at.stands))
 
-  pub ready_now : (m : Seat O P C R) → IsWithout meaning h cpu Idle m → IsReadying meaning h.kind h slots id m (1 + cpu) (λ _. 0) (λ _. readies meaning (step slots (1 + cpu) 0 0 none) m 0)
-  ready_now m w =
-      let Goal : LockKind × ℕ → Type 0 = λ z. IsReadying meaning z.0 h slots id m (1 + z.1) (λ _. 0) (λ _. readies meaning (step slots (1 + z.1) 0 0 none) m 0) in
-      subst Goal (λ i. (sym kind i, w.at.number i)) (readying meaning h slots id m w.pass_view.caller.acts w.at.stands)
+  pub prepare_now : (m : Seat O P C R) → IsWithout meaning h cpu Idle m → IsPreparing meaning h.kind h slots id m (1 + cpu) (λ _. 0) (λ _. prepares meaning (step slots (1 + cpu) 0 0 none) m 0)
+  prepare_now m w =
+      let Goal : LockKind × ℕ → Type 0 = λ z. IsPreparing meaning z.0 h slots id m (1 + z.1) (λ _. 0) (λ _. prepares meaning (step slots (1 + z.1) 0 0 none) m 0) in
+      subst Goal (λ i. (sym kind i, w.at.number i)) (preparing meaning h slots id m w.pass_view.caller.acts w.at.stands)
 
   pub try_now : (m : Seat O P C R) → IsWithout meaning h cpu Trying m → IsTry meaning h.kind h 0 slots id m 0 (λ k. either (k == 0) (cpu + 1) k) (tries meaning (step slots 0 0 (cpu + 1) none) m)
   try_now m w =
@@ -88,13 +88,13 @@ module _ {O P C R : Type 0} (meaning : Ghosts O P C R) (h : Cell O P C R) (kind 
   empty_now x m me w one filled =
       let Goal : ℕ × Seat O P C R → Type 0 = λ z. IsTurn meaning kinds.Mcs h slots id z.1 0 (λ k. either (k == (z.0 + 1)) 0 k) (empties meaning (step slots 0 (z.0 + 1) 0 none) z.1) in
       at_kind me 0 (λ k. either (k == (cpu + 1)) 0 k) (empties meaning (step slots 0 (cpu + 1) 0 none) me) (subst Goal (λ i. (w.at.number i, sym filled i))
-      (emptying meaning h slots id (m.0, (0, Some x) ∷ rest m.1) w.hold_view.caller.acts x (rest m.1) one refl w.added w.hold_view.lawful w.hold_view.replayed w.at.stands (idle_alone m.0.others w.at.alone)))
+      (emptying meaning h slots id (m.0, (0, Some x) ∷ rest m.1) w.hold_view.caller.acts x (rest m.1) one refl w.added w.hold_view.valid w.hold_view.replayed w.at.stands (idle_alone m.0.others w.at.alone)))
 
   pub pass_now : (n j : ℕ) (x : History O P C R) (m me : Seat O P C R) → h.numbers ≡ n → IsWith meaning h cpu (Mcs (Passing j)) x m → slots ≡ 1 → me ≡ (m.0, (0, Some x) ∷ rest m.1) → IsTurn meaning h.kind h slots id me (1 + n + j) (λ _. 0) (λ _. passes (step slots (1 + n + j) 0 0 none) me 0)
   pass_now n j x m me is w one filled =
       let Goal : ℕ × Seat O P C R → Type 0 = λ z. IsTurn meaning kinds.Mcs h slots id z.1 (1 + z.0 + j) (λ _. 0) (λ _. passes (step slots (1 + z.0 + j) 0 0 none) z.1 0) in
       at_kind me (1 + n + j) (λ _. 0) (λ _. passes (step slots (1 + n + j) 0 0 none) me 0) (subst Goal (λ i. (is i, sym filled i))
-      (passing meaning h slots id (m.0, (0, Some x) ∷ rest m.1) w.hold_view.caller.acts x (rest m.1) one refl w.added w.hold_view.lawful w.hold_view.replayed j w.at.stands))
+      (passing meaning h slots id (m.0, (0, Some x) ∷ rest m.1) w.hold_view.caller.acts x (rest m.1) one refl w.added w.hold_view.valid w.hold_view.replayed j w.at.stands))
 
 module _ {O P C R : Type 0} where
   -- who owns every number owns the one that a word named
@@ -116,12 +116,12 @@ module _ {O P C R : Type 0} where
   else_of m w m1 j e other = let both = subst (λ (z : Seat O P C R). IsElse z.0 j) e other in record { other = both.other; inside = both.inside }
 
   -- two seats, joined, where the first caller moved, and split again
-  pub first_moved : (q : Stage) (log : List (Event O P C R)) (run : List (Moment (Event O P C R))) (m w m1 m2 m' : Seat O P C R) → m.0.others ≡ [] → m1 ≡ (taken_in m.0 w.0, m.1) → m2 ≡ (moved_on m1.0 q log run, m1.1) → m' ≡ (keeping m2.0, m2.1) → m' ≡ (moved_on m.0 q log run, m.1)
+  pub first_moved : (q : Stage) (log : List (Event O P C R)) (run : List (TraceStep (Event O P C R))) (m w m1 m2 m' : Seat O P C R) → m.0.others ≡ [] → m1 ≡ (taken_in m.0 w.0, m.1) → m2 ≡ (moved_on m1.0 q log run, m1.1) → m' ≡ (keeping m2.0, m2.1) → m' ≡ (moved_on m.0 q log run, m.1)
   first_moved q log run m w m1 m2 m' alone e e' f =
       let both : m2 ≡ (moved_on (taken_in m.0 w.0) q log run, m.1) = e' ∙ (λ i. (moved_on (e i).0 q log run, (e i).1)) in
       f ∙ ((λ i. (keeping (both i).0, (both i).1)) ∙ (λ i. (record { told = m.0.told; main = shown log run (at q m.0.main); others = sym alone i }, m.1)))
 
-  pub second_same : (q : Stage) (log : List (Event O P C R)) (run : List (Moment (Event O P C R))) (m w m1 m2 w' : Seat O P C R) → w.0.others ≡ [] → w.1 ≡ [] → w.0.told ≡ m.0.told → m1 ≡ (taken_in m.0 w.0, m.1) → m2 ≡ (moved_on m1.0 q log run, m1.1) → w' ≡ (letting m2.0, []) → w' ≡ w
+  pub second_same : (q : Stage) (log : List (Event O P C R)) (run : List (TraceStep (Event O P C R))) (m w m1 m2 w' : Seat O P C R) → w.0.others ≡ [] → w.1 ≡ [] → w.0.told ≡ m.0.told → m1 ≡ (taken_in m.0 w.0, m.1) → m2 ≡ (moved_on m1.0 q log run, m1.1) → w' ≡ (letting m2.0, []) → w' ≡ w
   second_same q log run m w m1 m2 w' alone empty told e e' f =
       let both : m2 ≡ (moved_on (taken_in m.0 w.0) q log run, m.1) = e' ∙ (λ i. (moved_on (e i).0 q log run, (e i).1)) in
       f ∙ ((λ i. (letting (both i).0, [])) ∙ (λ i. (record { told = sym told i; main = w.0.main; others = sym alone i }, sym empty i)))
@@ -134,7 +134,7 @@ module _ {O P C R : Type 0} where
         log = g.log;
         run = g.run;
         seat = first_moved q g.log g.run m w m1 m2 m' alone e g.seat f;
-        learns = record { grows = l.grows; extends = l.extends; others = subst (λ cs. EachFrom (λ _ (c : Caller O P C R). Grows (λ x. has x c.owned) c.seen g.log × Extends (λ x. has x c.owned) c.run [] g.run) 1 cs) (sym alone) tt; lawful = l.lawful; ran = l.ran };
+        learns = record { grows = l.grows; extends = l.extends; others = subst (λ cs. EachFrom (λ _ (c : Caller O P C R). Grows (λ x. has x c.owned) c.seen g.log × Extends (λ x. has x c.owned) c.run [] g.run) 1 cs) (sym alone) tt; valid = l.valid; ran = l.ran };
         still = subst (λ (z : Seat O P C R). holding z.0.main.stage ≡ true → g.log ≡ z.0.main.seen) e g.still;
       }
 
@@ -199,7 +199,7 @@ module _ {O P C R : Type 0} (meaning : Ghosts O P C R) where
   }
 
   -- and has seen it, after it had found that it isn't the last
-  pub held_seen : (hold : HoldView O P C R) (before : List (Moment (Event O P C R))) (done : List StepDone) (a b : CallerState O P C R) → HeldSince hold before done a → (s : IsSeen a b) → HeldSince hold before (done ++ s.done) b
+  pub held_seen : (hold : HoldView O P C R) (before : List (TraceStep (Event O P C R))) (done : List StepDone) (a b : CallerState O P C R) → HeldSince hold before done a → (s : IsSeen a b) → HeldSince hold before (done ++ s.done) b
   held_seen hold before done a b h s = record { since = (s.caller ∙ h.since.0, since_more hold.caller before b.run done s.done a h.since s.extends); seen = s.still ∙ h.seen; has = s.has ∙ h.has }
 
   pub releases_seen : (a b : CallerState O P C R) (s : IsSeen a b) → Releases (steps.See false ∷ steps.Empty false ∷ s.done) steps.Pass

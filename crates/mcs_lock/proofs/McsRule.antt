@@ -17,13 +17,13 @@ use Rattle.word_rule.specs.declared.machine.step_done.StepDone.{StepDone}
 use Rattle.event_log.specs.declared.event.Event.{Event}
 use Rattle.word_rule.specs.declared.machine.step_done.StepDone.TheVariants as steps
 use Rattle.word_rule.specs.declared.lock_kind.Stage.{Stage}
-use Rattle.word_rule.specs.declared.view.Moment.{Moment}
+use Rattle.word_rule.specs.declared.view.TraceStep.{TraceStep}
 use Rattle.word_rule.specs.declared.lock_kind.Stage.TheVariants.{Idle, Mcs, Trying}
 use Rattle.word_rule.specs.declared.lock_kind.McsStage.TheVariants.{Ready, Behind, Armed, Waiting, Holding, Alone, Leaving, Passing}
 use Rattle.word_rule.specs.Cell.{Cell, Lawful, stored}
-use Rattle.word_rule.specs.Rule.CellInvariant.{GhostState, Caller, EachFrom, Viewed, Table, CallerInvariant, CellInvariant}
+use Rattle.word_rule.specs.Rule.CellInvariant.{GhostState, Caller, EachFrom, SeatView, Table, CallerInvariant, CellInvariant}
 use Rattle.word_rule.specs.OneHold.{leaving, silently}
-use Rattle.word_rule.specs.Rule.Definition.{GoesOn, IsTurn, IsTry, IsReadying}
+use Rattle.word_rule.specs.Rule.Definition.{GoesOn, IsTurn, IsTry, IsPreparing}
 use Rattle.word_rule.specs.Line.{going, taking}
 use Rattle.word_rule.specs.LockDefinition.{IsTied}
 use Rattle.word_rule.specs.Locks.{holding, Lock, attempt, lock_of, turn}
@@ -31,7 +31,7 @@ use Rattle.word_rule.specs.Mcs.Acquire.{clear, enter, arm, link}
 use Rattle.word_rule.specs.Mcs.Definition.{mcs_lock, mcs_turn}
 use Rattle.word_rule.specs.Mcs.Release.{see, pass}
 use Rattle.word_rule.specs.Mcs.State.{McsLock, follower}
-use Rattle.word_rule.specs.Mcs.Try.{ready}
+use Rattle.word_rule.specs.Mcs.Try.{prepare}
 use Rattle.word_rule.specs.Rule.LockStates.{IsLockOf}
 use Rattle.word_rule.specs.Rule.Seats.{Seat, moved_on, settled}
 use Rattle.word_rule.specs.Rule.Announced.{any_has, Lacks, IsElse, Goes, Gets, Returns}
@@ -42,7 +42,7 @@ use Rattle.word_rule.proofs.Lists.{has_at}
 use Rattle.word_rule.proofs.LockInterface.{is_trying}
 use Rattle.word_rule.proofs.LockLaws.{idle_outside, in_cell, one_holds}
 use Rattle.word_rule.proofs.LockStates.{stands_at}
-use Rattle.word_rule.proofs.Mcs.Plain.{Alike, plain_going, plain_ready, unready, ready_again}
+use Rattle.word_rule.proofs.Mcs.Erased.{Alike, erased_going, erased_prepared, unprepared, prepared_again}
 use Rattle.word_rule.proofs.Mcs.States as queue
 use Rattle.word_rule.proofs.Mcs.Tries.{clears_and_enters}
 use Rattle.word_rule.proofs.Mcs.Turns as turns
@@ -52,7 +52,7 @@ use Rattle.word_rule.proofs.RuleStates.{RuleOf, by_state, rule_of, tied_state, t
 use Rattle.word_rule.proofs.Runs.{goes_silently, goes_leaving, does_so, turns_so}
 use Rattle.word_rule.proofs.ShownLocks.{tied_lock}
 use Rattle.word_rule.proofs.Stays.{kept, taken, given, turned_once, turned_twice, not_turned}
-use Rattle.mcs_lock.specs.Steps.{clears, readies, arms, links, enters, TryOutcome, tries, looks, sees, sees_again, EmptyOutcome, empties, passes}
+use Rattle.mcs_lock.specs.Steps.{clears, prepares, arms, links, enters, TryOutcome, tries, looks, sees, sees_again, EmptyOutcome, empties, passes}
 
 abbrev cpu_of : Stage → ℕ
 cpu_of (Mcs (Behind p)) = p
@@ -77,7 +77,7 @@ module _ {O P C R : Type 0} (meaning : Ghosts O P C R) (h : Cell O P C R) where
     abbrev p : ℕ
     p = me.0.main.cpu
 
-    abbrev v : Viewed O P C R
+    abbrev v : SeatView O P C R
     v = me.0
 
     abbrev n : ℕ
@@ -121,10 +121,10 @@ module _ {O P C R : Type 0} (meaning : Ghosts O P C R) (h : Cell O P C R) where
         let so = turns_so p r.state.run (L m) (L l) step (r.state.run ++ silently p (step ∷ [])) turned (goes_silently p r.state.run (step ∷ [])) in
         (taken meaning kinds.Mcs h s r i k id v me.1 (L l) (Mcs Holding) (step ∷ []) stage out there acts runs (tied_lock kinds.Mcs n _ l tied), gets meaning kinds.Mcs h s r id me acts mine (Mcs Holding) (step ∷ []) runs.ran, so.0, so.1)
 
-    abbrev on : GhostState O P C R → Stage → StepDone → Viewed O P C R
+    abbrev on : GhostState O P C R → Stage → StepDone → SeatView O P C R
     on b q step = moved_on v q b.committed (b.run ++ silently p (step ∷ []))
 
-    abbrev holds_on : GhostState O P C R → StepDone → Viewed O P C R
+    abbrev holds_on : GhostState O P C R → StepDone → SeatView O P C R
     holds_on b step = settled v (Mcs Holding) b.committed (b.run ++ silently p (step ∷ []))
 
     pub clearing : v.main.stage ≡ Idle → IsTurn meaning kinds.Mcs h slots id me (1 + p) (λ _. 0) (λ _. clears meaning (step slots (1 + p) 0 0 none) me 0)
@@ -137,18 +137,18 @@ module _ {O P C R : Type 0} (meaning : Ghosts O P C R) (h : Cell O P C R) where
         let t = goes_to s l rx (1 + p) 0 Idle (clear l p) (Mcs Ready) steps.Clear refl refl there refl is refl (turns.clears n s.words l tied p below at) in
         (on r.state (Mcs Ready) steps.Clear, keeps, tt, t.0, t.1, t.2, t.3))
 
-    pub readying : v.main.stage ≡ Idle → IsReadying meaning kinds.Mcs h slots id me (1 + p) (λ _. 0) (λ _. readies meaning (step slots (1 + p) 0 0 none) me 0)
-    readying is s = by_state meaning kinds.Mcs h s _ (λ l rx len there small.
+    pub preparing : v.main.stage ≡ Idle → IsPreparing meaning kinds.Mcs h slots id me (1 + p) (λ _. 0) (λ _. prepares meaning (step slots (1 + p) 0 0 none) me 0)
+    preparing is s = by_state meaning kinds.Mcs h s _ (λ l rx len there small.
         let r = rule_at s l rx in
         let tied = tied_state kinds.Mcs n s.words l r.tied in
         let mine = r.each id v there in
         let below = (mine.main.owns p acts).1 in
         let at = mine.main.stands acts ∙ is in
-        let runs = not_turned meaning kinds.Mcs h s r p (L (ready l p)) (ap L (plain_ready l p at)) refl in (
+        let runs = not_turned meaning kinds.Mcs h s r p (L (prepare l p)) (ap L (erased_prepared l p at)) refl in (
           moved_on v Trying r.state.committed (r.state.run ++ []),
           keeps,
           tt,
-          kept meaning kinds.Mcs h s r (1 + p) 0 id v me.1 (L (ready l p)) Trying [] refl refl there acts runs (tied_lock kinds.Mcs n _ (ready l p) (turns.readies n s.words l tied p below at)),
+          kept meaning kinds.Mcs h s r (1 + p) 0 id v me.1 (L (prepare l p)) Trying [] refl refl there acts runs (tied_lock kinds.Mcs n _ (prepare l p) (turns.prepares n s.words l tied p below at)),
           goes meaning kinds.Mcs h s r id me acts mine Trying [] runs.ran,
           refl,
           goes_silently p r.state.run [],
@@ -198,17 +198,17 @@ module _ {O P C R : Type 0} (meaning : Ghosts O P C R) (h : Cell O P C R) where
         let done : List StepDone = steps.Clear ∷ steps.Enter true ∷ [] in
         let run' = r.state.run ++ silently p done in
         let clear_now = queue.trying_clear n l tied.state p below at in
-        let again = ready_again l p at clear_now in
-        let plainly = ap L (plain_going l p Idle (subst (λ (z : Stage). Alike z Idle (l.own p) (l.own p)) (sym at) record { stands = refl; names = refl })) in
-        let idle_there : (unready l p).line.stage p ≡ Idle = moved_same l.line.stage p Idle in
+        let again = prepared_again l p at clear_now in
+        let erased = ap L (erased_going l p Idle (subst (λ (z : Stage). Alike z Idle (l.extra p) (l.extra p)) (sym at) record { stands = refl; names = refl })) in
+        let idle_there : (unprepared l p).line.stage p ≡ Idle = moved_same l.line.stage p Idle in
         exchanged found 0 (p + 1)
-        (λ (k : ℕ). (w : Viewed O P C R) × (a : Act (Option (History O P C R))) × Valid s.homes me.1 a × (r' : Rule (stepped s 0 k id me.1 w a)) × TryOutcome meaning me found (w, carried_after me.1 a) × (r'.state.lock ≡ (attempt (L l) p 0).0) × GoesOn p (attempt (L l) p 0).1 r.state.run r'.state.run)
+        (λ (k : ℕ). (w : SeatView O P C R) × (a : Act (Option (History O P C R))) × Valid s.homes me.1 a × (r' : Rule (stepped s 0 k id me.1 w a)) × TryOutcome meaning me found (w, carried_after me.1 a) × (r'.state.lock ≡ (attempt (L l) p 0).0) × GoesOn p (attempt (L l) p 0).1 r.state.run r'.state.run)
         (λ nobody. let none = turns.tail_none n s.words l tied nobody in
         let l' : McsLock = tried_by l p in
         let first = tried_lock kinds.Mcs l p 0 (l', done) (turns.tries_first l p none) in
-        let two = ap (λ z. attempt (L z) p 0) (sym again) ∙ ap (λ z. (L z.0, z.1)) (clears_and_enters (unready l p) p idle_there (queue.no_last l.line.cpus none)) in
-        let cleared : is_trying ((turn (L (unready l p)) p).0.line.stage p) ≡ false = ap (λ z. is_trying (z.0.line.stage p)) (turns.turned (unready l p) p Idle idle_there) ∙ ap is_trying (moved_same (unready l p).line.stage p (Mcs Ready)) in
-        let runs = turned_twice meaning kinds.Mcs h s r p (L (unready l p)) (L l') steps.Clear (steps.Enter true) below plainly refl (ap is_trying idle_there) cleared (sym first ∙ two) in
+        let two = ap (λ z. attempt (L z) p 0) (sym again) ∙ ap (λ z. (L z.0, z.1)) (clears_and_enters (unprepared l p) p idle_there (queue.no_last l.line.cpus none)) in
+        let cleared : is_trying ((turn (L (unprepared l p)) p).0.line.stage p) ≡ false = ap (λ z. is_trying (z.0.line.stage p)) (turns.turned (unprepared l p) p Idle idle_there) ∙ ap is_trying (moved_same (unprepared l p).line.stage p (Mcs Ready)) in
+        let runs = turned_twice meaning kinds.Mcs h s r p (L (unprepared l p)) (L l') steps.Clear (steps.Enter true) below erased refl (ap is_trying idle_there) cleared (sym first ∙ two) in
         let so = does_so p r.state.run (attempt (L l) p 0) (L l') done run' first (goes_silently p r.state.run done) in (
           settled v q r.state.committed run',
           takes 0 (Some (stored meaning h r.state.committed)),
@@ -219,12 +219,12 @@ module _ {O P C R : Type 0} (meaning : Ghosts O P C R) (h : Cell O P C R) where
           so.1,
         ))
         (λ some_one. let t = turns.tail_names n s.words l tied some_one in
-        let runs = not_turned meaning kinds.Mcs h s r p (L (unready l p)) plainly refl in
-        let so = does_so p r.state.run (attempt (L l) p 0) (L (unready l p)) [] (r.state.run ++ []) (tried_lock kinds.Mcs l p 0 (unready l p, []) (turns.tries_busy l p t.0 t.1)) (goes_silently p r.state.run []) in (
+        let runs = not_turned meaning kinds.Mcs h s r p (L (unprepared l p)) erased refl in
+        let so = does_so p r.state.run (attempt (L l) p 0) (L (unprepared l p)) [] (r.state.run ++ []) (tried_lock kinds.Mcs l p 0 (unprepared l p, []) (turns.tries_busy l p t.0 t.1)) (goes_silently p r.state.run []) in (
           moved_on v Idle r.state.committed (r.state.run ++ []),
           keeps,
           tt,
-          kept meaning kinds.Mcs h s r 0 found id v me.1 (L (unready l p)) Idle [] refl refl there acts runs (subst (λ (ws : List ℕ). IsLockOf kinds.Mcs n ws (L (unready l p))) (sym (set-get_or s.words 0 0)) (tied_lock kinds.Mcs n s.words (unready l p) (turns.gives_up n s.words l tied p below at))),
+          kept meaning kinds.Mcs h s r 0 found id v me.1 (L (unprepared l p)) Idle [] refl refl there acts runs (subst (λ (ws : List ℕ). IsLockOf kinds.Mcs n ws (L (unprepared l p))) (sym (set-get_or s.words 0 0)) (tied_lock kinds.Mcs n s.words (unprepared l p) (turns.gives_up n s.words l tied p below at))),
           record {
             first = λ nobody. absurd (some_one nobody);
             busy = λ _. record { goes = goes meaning kinds.Mcs h s r id me acts mine Idle [] runs.ran; lacks = lacks meaning kinds.Mcs h s r id v t.0 mine idle (queue.last_in n l tied.state t.0 t.1).0 (queue.trying_last n l tied.state p below t.0 at t.1) };
@@ -391,8 +391,8 @@ module _ {O P C R : Type 0} (meaning : Ghosts O P C R) (h : Cell O P C R) where
         absurd (omega arith))
         (λ ne. absurd (true≢false (sym in_line ∙ idle_outside n (L l) r.tied.state y (in_cell n (L l) r.tied.state 1 y t.1) (know.rests y owned ne)))))
 
-    module _ (x : History O P C R) (others : List (ℕ × Option (History O P C R))) (one : slots ≡ 1) (carries : me.1 ≡ (0, Some x) ∷ others) (added : AddedBy p v.main.seen x.log) (lawful : Lawful meaning h x.log) (is_stored : x ≡ stored meaning h x.log) where
-      abbrev run_ended : GhostState O P C R → StepDone → List (Moment (Event O P C R))
+    module _ (x : History O P C R) (others : List (ℕ × Option (History O P C R))) (one : slots ≡ 1) (carries : me.1 ≡ (0, Some x) ∷ others) (added : AddedBy p v.main.seen x.log) (valid : Lawful meaning h x.log) (is_stored : x ≡ stored meaning h x.log) where
+      abbrev run_ended : GhostState O P C R → StepDone → List (TraceStep (Event O P C R))
       run_ended b step = b.run ++ leaving p step (drop (length v.main.seen) x.log) ∷ []
 
       -- the object goes home, and nobody has it
@@ -407,7 +407,7 @@ module _ {O P C R : Type 0} (meaning : Ghosts O P C R) (h : Cell O P C R) where
           let slot : me.1 ≡ (0, Some (stored meaning h x.log)) ∷ others = carries ∙ ap (λ z. (0, Some z) ∷ others) is_stored in
           let turned = turned_lock kinds.Mcs l p (pass l p, step) (turns.turned l p old at ∙ does) in
           let run' = run_ended r.state step in
-          let ended = given meaning kinds.Mcs h s r i k id v others x.log (L (pass l p)) Idle step refl (omega arith) there acts holds (λ y y_below y_has. one_holds n (L l) r.tied.state y p y_below below y_has holds) added lawful turned ends (tied_lock kinds.Mcs n _ (pass l p) tied) in
+          let ended = given meaning kinds.Mcs h s r i k id v others x.log (L (pass l p)) Idle step refl (omega arith) there acts holds (λ y y_below y_has. one_holds n (L l) r.tied.state y p y_below below y_has holds) added valid turned ends (tied_lock kinds.Mcs n _ (pass l p) tied) in
           let so = turns_so p r.state.run (L l) (L (pass l p)) step run' turned (goes_leaving p r.state.run step (drop (length v.main.seen) x.log)) in
           let now = subst (λ (cs : List (ℕ × Option (History O P C R))). (r' : Rule (stepped s i k id cs (settled v Idle x.log run') gives)) × (r'.state.lock ≡ (turn (L l) p).0) × GoesOn p ((turn (L l) p).1 ∷ []) r.state.run r'.state.run) (sym slot) (ended, so.0, so.1) in
           (now.0, returns meaning kinds.Mcs h s r id me acts mine Idle step x others carries added.begins ended.ran, now.1, now.2)
@@ -421,7 +421,7 @@ module _ {O P C R : Type 0} (meaning : Ghosts O P C R) (h : Cell O P C R) where
           let at = mine.main.stands acts ∙ is in
           let found : ℕ = get_or s.words 0 0 in
           exchanged found (p + 1) 0
-          (λ (k : ℕ). (w : Viewed O P C R) × (a : Act (Option (History O P C R))) × Valid s.homes me.1 a × (r' : Rule (stepped s 0 k id me.1 w a)) × EmptyOutcome meaning (p + 1) me found (w, carried_after me.1 a) × (r'.state.lock ≡ (turn (L l) p).0) × GoesOn p ((turn (L l) p).1 ∷ []) r.state.run r'.state.run)
+          (λ (k : ℕ). (w : SeatView O P C R) × (a : Act (Option (History O P C R))) × Valid s.homes me.1 a × (r' : Rule (stepped s 0 k id me.1 w a)) × EmptyOutcome meaning (p + 1) me found (w, carried_after me.1 a) × (r'.state.lock ≡ (turn (L l) p).0) × GoesOn p ((turn (L l) p).1 ∷ []) r.state.run r'.state.run)
           (λ hit.
           let t = gave s l rx 0 0 (Mcs Alone) (steps.Empty true) len there is refl (turns.ends_queue l p (turns.last_is n s.words l tied p below hit)) refl (turns.empties n s.words l tied p below at (turns.tail_some n s.words l tied p hit)) in
           (settled v Idle x.log (run_ended r.state (steps.Empty true)), gives, tt, t.0, record { hit = λ _. t.1; miss = λ miss. absurd (miss hit) }, t.2, t.3))

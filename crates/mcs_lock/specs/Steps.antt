@@ -16,8 +16,8 @@ module _ {O P C R : Type 0} (meaning : Ghosts O P C R) where
   abbrev pub clears : Step (Option (History O P C R)) → Seat O P C R → ℕ → Seat O P C R → Type 0
   clears st m n m' = Goes meaning (Mcs Ready) (steps.Clear ∷ []) m m'
 
-  abbrev pub readies : Step (Option (History O P C R)) → Seat O P C R → ℕ → Seat O P C R → Type 0
-  readies st m n m' = Goes meaning Trying [] m m'
+  abbrev pub prepares : Step (Option (History O P C R)) → Seat O P C R → ℕ → Seat O P C R → Type 0
+  prepares st m n m' = Goes meaning Trying [] m m'
 
   -- the caller, behind p, has armed itself
   abbrev pub arms : Step (Option (History O P C R)) → Seat O P C R → ℕ → Seat O P C R → Type 0

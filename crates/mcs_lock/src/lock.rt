@@ -70,9 +70,9 @@ impl<O: SeqObject> LockCell<O> for McsCell<O> {
         self.table.close(pass)
     }
 
-    ghost pass_is_lawful = { λ _ pass _. pass.idle.pass_view };
+    ghost pass_is_valid = { λ _ pass _. pass.idle.pass_view };
 
-    ghost hold_is_lawful = { λ _ hold _. hold.holds.hold_view };
+    ghost hold_is_valid = { λ _ hold _. hold.holds.hold_view };
 
     ghost pass_has_run = { λ _ pass _. pass.idle.ran };
 

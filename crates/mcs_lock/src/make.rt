@@ -10,7 +10,7 @@ use crate::cell::McsCell;
 use event_log::{Logged, OutOfMemory, SeqObject};
 use sound_run::{LockKind, MOST_CPUS};
 use std::alloc::Global;
-use word_rule::{LockTable, Pass, Sleepers};
+use word_rule::{LockTable, Pass, Resting};
 
 // The words of the greatest cell.
 const MOST_WORDS: usize = 1 + 2 * MOST_CPUS as usize;
@@ -33,11 +33,11 @@ impl<O: SeqObject> McsCell<O> {
         let zeros = [0u64; MOST_WORDS];
         let words = &zeros[..1 + 2 * cpus as usize];
         let (table, passes) = LockTable::open(alloc, LockKind::Mcs, 0, words, logged, cpus)?;
-        let sleepers = Sleepers::new();
+        let resting = Resting::new();
         Ok((
             McsCell {
                 table,
-                sleepers,
+                resting,
                 cpus,
             },
             passes,

@@ -1,6 +1,6 @@
 //! The steps that are the MCS lock's own.
 
-ghost use Rattle.mcs_lock.specs.Steps.{clears, readies, arms, links, enters, tries, looks, sees, sees_again, empties, passes};
+ghost use Rattle.mcs_lock.specs.Steps.{clears, prepares, arms, links, enters, tries, looks, sees, sees_again, empties, passes};
 
 use atomic_table::Play;
 use event_log::{Event, Logged, SeqObject};
@@ -14,10 +14,10 @@ impl<O: SeqObject> Play<Option<Logged<O>>, View<Key<O>, Event<O>>> for Clear {
 }
 
 /// A store to the caller's `next`, for a try.
-pub struct ReadyTry;
+pub struct PrepareTry;
 
-impl<O: SeqObject> Play<Option<Logged<O>>, View<Key<O>, Event<O>>> for ReadyTry {
-    ghost then = { readies O.SeqObject };
+impl<O: SeqObject> Play<Option<Logged<O>>, View<Key<O>, Event<O>>> for PrepareTry {
+    ghost then = { prepares O.SeqObject };
 }
 
 /// A swap of the tail.

@@ -9,7 +9,7 @@ ghost use Rattle.word_rule.specs.Rule.Callers.{IsWithout, IsWith};
 
 use event_log::{Logged, SeqObject};
 use std::snapshot::Snapshot;
-use word_rule::{Cpu, Hold, Key, Lent, Seat};
+use word_rule::{Cpu, Hold, Key, LoanToken, Seat};
 
 /// A caller whose `next` is clear. It can't be dropped: it ends in `enter`.
 pub struct Ready<O: SeqObject> {
@@ -68,7 +68,7 @@ pub struct Waiting<O: SeqObject> {
 pub struct Alone<O: SeqObject> {
     pub(crate) cpu: Cpu,
     pub(crate) logged: Logged<O>,
-    pub(crate) lent: Lent,
+    pub(crate) loan: LoanToken,
     pub(crate) key: Snapshot<Key<O>>,
     pub(crate) seat: Seat<O>,
     pub ghost alone: { IsWith O.SeqObject key.value cpu.number (Mcs Alone) logged seat.me } by { Prim.hlevel legal_props },
@@ -78,7 +78,7 @@ pub struct Alone<O: SeqObject> {
 pub struct Leaving<O: SeqObject> {
     pub(crate) cpu: Cpu,
     pub(crate) logged: Logged<O>,
-    pub(crate) lent: Lent,
+    pub(crate) loan: LoanToken,
     pub(crate) key: Snapshot<Key<O>>,
     pub(crate) seat: Seat<O>,
     pub ghost leaves: { IsWith O.SeqObject key.value cpu.number (Mcs Leaving) logged seat.me } by { Prim.hlevel legal_props },
@@ -89,7 +89,7 @@ pub struct Passing<O: SeqObject> {
     pub(crate) cpu: Cpu,
     pub(crate) follower: u8,
     pub(crate) logged: Logged<O>,
-    pub(crate) lent: Lent,
+    pub(crate) loan: LoanToken,
     pub(crate) key: Snapshot<Key<O>>,
     pub(crate) seat: Seat<O>,
     pub ghost passes: { IsWith O.SeqObject key.value cpu.number (Mcs (Passing follower)) logged seat.me } by { Prim.hlevel legal_props },

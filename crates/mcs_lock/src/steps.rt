@@ -36,12 +36,12 @@ impl<O: SeqObject> McsCell<O> {
             .table
             .swap::<Enter>(&mut seat, 0, cpu.number as u64 + 1);
         if found == 0 {
-            let (logged, lent) = self.table.take(&mut seat);
+            let (logged, loan) = self.table.take(&mut seat);
             Entered::Hold(Hold {
                 cpu,
                 ticket: 0,
                 logged,
-                lent,
+                loan,
                 key,
                 seat,
             })
@@ -106,12 +106,12 @@ impl<O: SeqObject> McsCell<O> {
             .table
             .load::<Look>(&mut seat, locked_index(self.cpus, cpu.number));
         if found == 0 {
-            let (logged, lent) = self.table.take(&mut seat);
+            let (logged, loan) = self.table.take(&mut seat);
             Ok(Hold {
                 cpu,
                 ticket: 0,
                 logged,
-                lent,
+                loan,
                 key,
                 seat,
             })
@@ -130,7 +130,7 @@ impl<O: SeqObject> McsCell<O> {
             cpu,
             ticket: _,
             logged,
-            lent,
+            loan,
             key,
             mut seat,
         } = hold;
@@ -139,7 +139,7 @@ impl<O: SeqObject> McsCell<O> {
             Err(Alone {
                 cpu,
                 logged,
-                lent,
+                loan,
                 key,
                 seat,
             })
@@ -149,7 +149,7 @@ impl<O: SeqObject> McsCell<O> {
                 cpu,
                 follower,
                 logged,
-                lent,
+                loan,
                 key,
                 seat,
             })
@@ -166,21 +166,21 @@ impl<O: SeqObject> McsCell<O> {
         let Alone {
             cpu,
             logged,
-            lent,
+            loan,
             key,
             mut seat,
         } = alone;
-        self.table.put_back(&mut seat, logged, lent);
+        self.table.put_back(&mut seat, logged, loan);
         let last = cpu.number as u64 + 1;
         let found = self.table.compare_exchange::<Empty>(&mut seat, 0, last, 0);
         if found == last {
             Ok(Pass { cpu, key, seat })
         } else {
-            let (logged, lent) = self.table.take(&mut seat);
+            let (logged, loan) = self.table.take(&mut seat);
             Err(Leaving {
                 cpu,
                 logged,
-                lent,
+                loan,
                 key,
                 seat,
             })
@@ -196,7 +196,7 @@ impl<O: SeqObject> McsCell<O> {
         let Leaving {
             cpu,
             logged,
-            lent,
+            loan,
             key,
             mut seat,
         } = leaving;
@@ -207,7 +207,7 @@ impl<O: SeqObject> McsCell<O> {
             Err(Leaving {
                 cpu,
                 logged,
-                lent,
+                loan,
                 key,
                 seat,
             })
@@ -217,7 +217,7 @@ impl<O: SeqObject> McsCell<O> {
                 cpu,
                 follower,
                 logged,
-                lent,
+                loan,
                 key,
                 seat,
             })
@@ -235,11 +235,11 @@ impl<O: SeqObject> McsCell<O> {
             cpu,
             follower,
             logged,
-            lent,
+            loan,
             key,
             mut seat,
         } = passing;
-        self.table.put_back(&mut seat, logged, lent);
+        self.table.put_back(&mut seat, logged, loan);
         self.table
             .store::<PassOn>(&mut seat, locked_index(self.cpus, follower), 0);
         Pass { cpu, key, seat }

@@ -10,21 +10,21 @@ ghost use Rattle.word_rule.specs.Passes.{view_of_pass, view_of_hold, run_of_pass
 ghost use Rattle.mcs_lock.specs.Passes.{IsPassOf, IsTryingOf, IsHoldOf, state_of_trying};
 
 use crate::cell::McsCell;
-use crate::rule::{ReadyTry, Try};
+use crate::rule::{PrepareTry, Try};
 use crate::states::Trying;
 use event_log::SeqObject;
 use word_rule::{Hold, Pass, next_index};
 
 impl<O: SeqObject> McsCell<O> {
     /// Clears its `next` for a try: one store.
-    pub fn ready(&self, pass: Pass<O>) -> Trying<O>
+    pub fn prepare(&self, pass: Pass<O>) -> Trying<O>
         requires { IsPassOf self.now pass }
         ensures trying { IsTryingOf self.now result }
         ensures step { IsReady O.SeqObject (state_of_pass pass) (state_of_trying result) }
     {
         let Pass { cpu, key, mut seat } = pass;
         self.table
-            .ready::<ReadyTry>(&mut seat, next_index(cpu.number), 0);
+            .prepare::<PrepareTry>(&mut seat, next_index(cpu.number), 0);
         Trying { cpu, key, seat }
     }
 
@@ -40,12 +40,12 @@ impl<O: SeqObject> McsCell<O> {
             .table
             .try_exchange::<Try>(&mut seat, 0, 0, cpu.number as u64 + 1);
         if found == 0 {
-            let (logged, lent) = self.table.take(&mut seat);
+            let (logged, loan) = self.table.take(&mut seat);
             Ok(Hold {
                 cpu,
                 ticket: 0,
                 logged,
-                lent,
+                loan,
                 key,
                 seat,
             })
@@ -65,7 +65,7 @@ impl<O: SeqObject> McsCell<O> {
         ensures run { IfOk result (λ h. HasAcquiredAtOnce (view_of_pass pass).caller (run_of_pass pass) (view_of_hold h).history.log (run_of_hold h)) }
         ensures busy_run { IfErr result (λ p. Extends (view_of_pass pass).caller.owned (run_of_pass pass) [] (run_of_pass p)) }
     {
-        let trying = self.ready(pass);
+        let trying = self.prepare(pass);
         self.try_enter(trying)
     }
 }

@@ -28,7 +28,7 @@ impl<O: SeqObject> McsCell<O> {
         ensures grows { Grows (view_of_pass pass).caller.owned (view_of_pass pass).seen (view_of_hold result.0).history.log }
         ensures run { HasAcquired (view_of_pass pass).caller (run_of_pass pass) result.1 (view_of_hold result.0).history.log (run_of_hold result.0) }
     {
-        self.sleepers.stay_outside(rt);
+        self.resting.stay_outside(rt);
         let ready = self.clear(pass);
         match self.enter(ready) {
             Entered::Hold(hold) => (hold, 0),
@@ -53,12 +53,12 @@ impl<O: SeqObject> McsCell<O> {
             looks = looks.saturating_add(1);
             match self.look(waiting) {
                 Ok(hold) => {
-                    self.sleepers.rise(looks);
+                    self.resting.rise(looks);
                     return (hold, looks);
                 }
                 Err(again) => waiting = again,
             }
-            self.sleepers.rest(rt, &backoff, looks);
+            self.resting.rest(rt, &backoff, looks);
         }
         unreachable!()
     }
@@ -131,14 +131,14 @@ impl<O: SeqObject> McsCell<O> {
             .table
             .load::<Look>(&mut seat, locked_index(self.cpus, cpu.number));
         prove!(found == 0);
-        let (logged, lent) = self.table.take(&mut seat);
+        let (logged, loan) = self.table.take(&mut seat);
         let theirs = self.table.split_seat(&mut seat);
         (
             Hold {
                 cpu,
                 ticket: 0,
                 logged,
-                lent,
+                loan,
                 key,
                 seat,
             },
@@ -165,7 +165,7 @@ impl<O: SeqObject> McsCell<O> {
         let Leaving {
             cpu,
             logged,
-            lent,
+            loan,
             key,
             mut seat,
         } = leaving;
@@ -186,7 +186,7 @@ impl<O: SeqObject> McsCell<O> {
                 cpu,
                 follower,
                 logged,
-                lent,
+                loan,
                 key,
                 seat,
             },

@@ -1,3 +1,5 @@
+pub mod FileNames
 pub mod Inputs
+pub mod Printing
 pub mod Refusals
 pub mod Texts

@@ -8,28 +8,23 @@ use Rattle.program.specs.declared.words.WordsFault.{WordsFault}
 use Rattle.program.specs.declared.words.WordsFault.TheVariants as words
 use Rattle.scripts.specs.declared.record.source.RecordReadFault.{RecordReadFault}
 use Rattle.scripts.specs.declared.record.source.RecordReadFault.TheVariants as records
-use Rattle.scripts.specs.declared.schedule.ScheduleFault.{ScheduleFault}
-use Rattle.scripts.specs.declared.schedule.ScheduleFault.TheVariants as schedule
+use Rattle.scripts.specs.declared.schedule.source.ScheduleReadFault.{ScheduleReadFault}
+use Rattle.scripts.specs.declared.schedule.source.ScheduleReadFault.TheVariants as schedule
 use Rattle.scripts.specs.declared.script.source.ScriptsReadFault.{ScriptsReadFault}
 use Rattle.scripts.specs.declared.script.source.ScriptsReadFault.TheVariants as scripts
-use Rattle.scripts.specs.declared.settings.fault.SettingsFault.{SettingsFault}
-use Rattle.scripts.specs.declared.settings.fault.SettingsFault.TheVariants as settings
-use Rattle.scripts.specs.declared.streams.source_reader.ReadFault.{ReadFault}
-use Rattle.scripts.specs.declared.streams.source_reader.ReadFault.TheVariants as read
+use Rattle.scripts.specs.declared.settings.source.SettingsReadFault.{SettingsReadFault}
+use Rattle.scripts.specs.declared.settings.source.SettingsReadFault.TheVariants as settings
 use Rattle.scripts.specs.declared.streams.text_writer.WriteFailed.{WriteFailed}
 
 abbrev pub of_memory : OutOfMemory → Refusal
 of_memory e = refusal.OutOfMemory
 
-abbrev pub of_read : ReadFault → Refusal
-of_read read.OutOfMemory = refusal.OutOfMemory
-of_read read.ReadFailed = refusal.ReadFailed
-
 abbrev pub of_write : WriteFailed → Refusal
 of_write e = refusal.WriteFailed
 
-abbrev pub of_settings : SettingsFault → Refusal
+abbrev pub of_settings : SettingsReadFault → Refusal
 of_settings settings.OutOfMemory = refusal.OutOfMemory
+of_settings settings.ReadFailed = refusal.ReadFailed
 of_settings (settings.Refused bad) = refusal.BadSettings bad
 
 abbrev pub of_scripts : ScriptsReadFault → Refusal
@@ -37,8 +32,9 @@ of_scripts scripts.OutOfMemory = refusal.OutOfMemory
 of_scripts scripts.ReadFailed = refusal.ReadFailed
 of_scripts (scripts.Line n) = refusal.BadScripts n
 
-abbrev pub of_schedule : ScheduleFault → Refusal
+abbrev pub of_schedule : ScheduleReadFault → Refusal
 of_schedule schedule.OutOfMemory = refusal.OutOfMemory
+of_schedule schedule.ReadFailed = refusal.ReadFailed
 of_schedule (schedule.Word n) = refusal.BadSchedule n
 
 abbrev pub of_record : RecordReadFault → Refusal

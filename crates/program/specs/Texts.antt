@@ -9,12 +9,12 @@ use Rattle.scripts.specs.RecordRanges.{Record}
 use Rattle.scripts.specs.ScheduleText.{IsFirstBadWord, IsSchedule}
 use Rattle.scripts.specs.ScriptText.{AreScripts, IsFirstBad}
 use Rattle.scripts.specs.Settings.{Settings}
-use Rattle.scripts.specs.SettingsText.{IsSettingsFault, SpellsSettings}
+use Rattle.scripts.specs.SettingsSources.{IsFaultOfSettings, SpellsShortSettings}
 
 module _ (held : Option (List ℕ) → Option (List ℕ)) where
   -- the settings under that name
   abbrev pub SpellsSettingsOf : List ℕ → Settings → Type 0
-  SpellsSettingsOf name given = (text : List ℕ) × Reads held (Some name) text × SpellsSettings text given
+  SpellsSettingsOf name given = (text : List ℕ) × Reads held (Some name) text × SpellsShortSettings text given
 
   -- scripts, under that name, on the objects of these settings
   abbrev pub SpellsScriptsOf : Option (List ℕ) → Settings → List (List KernelTodo) → Type 0
@@ -32,7 +32,7 @@ module _ (held : Option (List ℕ) → Option (List ℕ)) where
   abbrev pub RefusesSettings : List ℕ → Refusal → Type 0
   RefusesSettings name refusal.OutOfMemory = Unit {0}
   RefusesSettings name refusal.ReadFailed = Unit {0}
-  RefusesSettings name (refusal.BadSettings bad) = (text : List ℕ) × Reads held (Some name) text × IsSettingsFault text bad
+  RefusesSettings name (refusal.BadSettings bad) = (text : List ℕ) × Reads held (Some name) text × IsFaultOfSettings text bad
   RefusesSettings name _ = ⊥
 
   -- the same of scripts, for the first line that can't come

@@ -10,8 +10,8 @@ mod texts;
 mod words;
 
 pub use file_names::{BadName, file, wanted_file};
-pub use inputs::{Inputs, read_input};
-pub use refusal::Refusal;
+pub use inputs::Inputs;
+pub use refusal::{Refusal, write_line};
 pub use system::System;
 pub use texts::{read_record, read_schedule, read_scripts, read_settings};
 pub use words::{WordsFault, words_given};

@@ -1,15 +1,16 @@
 //! The refusals that programs share.
 
 ghost use Rattle.std.specs.Prelude.{◌≡◌};
-ghost use Rattle.program.specs.Refusals.{of_memory, of_name, of_read, of_record, of_schedule, of_scripts, of_settings, of_words, of_write, status_of};
+ghost use Rattle.program.specs.Refusals.{of_memory, of_name, of_record, of_schedule, of_scripts, of_settings, of_words, of_write, status_of};
 
 use crate::file_names::BadName;
 use crate::words::WordsFault;
-use event_log::OutOfMemory;
+use event_log::{OutOfMemory, Sink};
 use scripts::{
-    BadSettings, ReadFault, RecordReadFault, ScheduleFault, ScriptsReadFault, SettingsFault,
+    BadSettings, Buffered, RecordReadFault, ScheduleReadFault, ScriptsReadFault, SettingsReadFault,
     WriteFailed,
 };
+use std::fmt::{Display, Write};
 use thiserror::Error;
 
 /// A refusal that more than one program has: what its line says behind the program's name.
@@ -52,23 +53,20 @@ impl Refusal {
     }
 }
 
+/// Writes the line of a refusal. A failed write changes nothing else.
+pub fn write_line<D: Display, F: Sink>(refusal: &D, faults: &mut F) {
+    let mut line = Buffered::new(faults);
+    if writeln!(line, "{refusal}").is_ok() {
+        let _ = line.finish();
+    }
+}
+
 impl From<OutOfMemory> for Refusal {
     ghost from_gives = { λ cause fault. fault ≡ of_memory cause };
 
     fn from(fault: OutOfMemory) -> Refusal {
         let OutOfMemory = fault;
         Refusal::OutOfMemory
-    }
-}
-
-impl From<ReadFault> for Refusal {
-    ghost from_gives = { λ cause fault. fault ≡ of_read cause };
-
-    fn from(fault: ReadFault) -> Refusal {
-        match fault {
-            ReadFault::OutOfMemory => Refusal::OutOfMemory,
-            ReadFault::ReadFailed => Refusal::ReadFailed,
-        }
     }
 }
 
@@ -81,13 +79,14 @@ impl From<WriteFailed> for Refusal {
     }
 }
 
-impl From<SettingsFault> for Refusal {
+impl From<SettingsReadFault> for Refusal {
     ghost from_gives = { λ cause fault. fault ≡ of_settings cause };
 
-    fn from(fault: SettingsFault) -> Refusal {
+    fn from(fault: SettingsReadFault) -> Refusal {
         match fault {
-            SettingsFault::OutOfMemory => Refusal::OutOfMemory,
-            SettingsFault::Refused(bad) => Refusal::BadSettings(bad),
+            SettingsReadFault::OutOfMemory => Refusal::OutOfMemory,
+            SettingsReadFault::ReadFailed => Refusal::ReadFailed,
+            SettingsReadFault::Refused(bad) => Refusal::BadSettings(bad),
         }
     }
 }
@@ -104,13 +103,14 @@ impl From<ScriptsReadFault> for Refusal {
     }
 }
 
-impl From<ScheduleFault> for Refusal {
+impl From<ScheduleReadFault> for Refusal {
     ghost from_gives = { λ cause fault. fault ≡ of_schedule cause };
 
-    fn from(fault: ScheduleFault) -> Refusal {
+    fn from(fault: ScheduleReadFault) -> Refusal {
         match fault {
-            ScheduleFault::OutOfMemory => Refusal::OutOfMemory,
-            ScheduleFault::Word(number) => Refusal::BadSchedule(number),
+            ScheduleReadFault::OutOfMemory => Refusal::OutOfMemory,
+            ScheduleReadFault::ReadFailed => Refusal::ReadFailed,
+            ScheduleReadFault::Word(number) => Refusal::BadSchedule(number),
         }
     }
 }

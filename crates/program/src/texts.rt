@@ -1,17 +1,33 @@
 //! What a command reads of its inputs: settings, scripts, a schedule and a record.
 
-ghost use Rattle.std.specs.Prelude.{◌≡◌, ℕ, List, Some, length, IfErr, IfOk};
-ghost use Rattle.program.specs.Inputs.{bytes_of};
+ghost use Rattle.std.specs.Prelude.{◌≡◌, ℕ, List, Some, None, length, IfErr, IfOk};
+ghost use Rattle.event_log.specs.Stream.{counted};
+ghost use Rattle.program.specs.Inputs.{bytes_of, says_read_failed};
 ghost use Rattle.program.specs.Texts.{RefusesRecord, RefusesSchedule, RefusesScripts, RefusesSettings, SpellsRecordOf, SpellsScheduleOf, SpellsScriptsOf, SpellsSettingsOf};
 ghost use Rattle.scripts.specs.ScriptText.{ScriptsFit};
 
-use crate::inputs::{Inputs, read_input};
+use crate::inputs::Inputs;
 use crate::refusal::Refusal;
 use event_log::StreamFailed;
 use scripts::{Record, Schedule, Scripts, Settings};
 use std::alloc::Global;
 
-/// The settings that the file of that name spells.
+/// The reader of the input of that name. No call on it has failed.
+fn opened<I: Inputs>(inputs: &mut I, name: Option<&str>) -> Result<I::Input, Refusal>
+    ensures all { IfOk result (λ input. (all : List ℕ) → I.held inputs.old (bytes_of name.entry) ≡ Some all → I.Input.remaining input ≡ Some all) }
+    ensures files { (file : List ℕ) → I.held inputs.new (Some file) ≡ I.held inputs.old (Some file) }
+    ensures standard { (file : List ℕ) → bytes_of name.entry ≡ Some file → I.held inputs.new None ≡ I.held inputs.old None }
+    ensures refused { IfErr result (λ f. f ≡ Refusal.ReadFailed) }
+    ensures failures { I.failed inputs.new ≡ counted (says_read_failed result) (I.failed inputs.old) }
+    ensures none_failed { IfOk result (λ input. I.Input.failed input ≡ 0) }
+{
+    match inputs.input(name) {
+        Ok(input) => Ok(input),
+        Err(StreamFailed) => Err(Refusal::ReadFailed),
+    }
+}
+
+/// The settings that the file of that name spells. Of a text that is too long no more is read than one byte beyond the most.
 pub fn read_settings<I: Inputs>(
     alloc: Global,
     inputs: &mut I,
@@ -20,9 +36,13 @@ pub fn read_settings<I: Inputs>(
     ensures found { IfOk result (SpellsSettingsOf (I.held inputs.old) name.now) }
     ensures refused { IfErr result (RefusesSettings (I.held inputs.old) name.now) }
     ensures files { (file : List ℕ) → I.held inputs.new (Some file) ≡ I.held inputs.old (Some file) }
+    ensures standard { I.held inputs.new None ≡ I.held inputs.old None }
+    ensures failures { I.failed inputs.new ≡ counted (says_read_failed result) (I.failed inputs.old) }
 {
-    let text = read_input(alloc, inputs, Some(name))?;
-    Ok(Settings::read(alloc, text.as_slice())?)
+    let mut input = opened(inputs, Some(name))?;
+    let settings = Settings::read_from(alloc, &mut input);
+    inputs.close(input);
+    Ok(settings?)
 }
 
 /// The scripts that the input of that name spells. Where a line can't come, no more is read.
@@ -36,14 +56,15 @@ pub fn read_scripts<I: Inputs>(
     ensures fit { IfOk result (λ scripts. ScriptsFit settings.now.cpus (length settings.now.objects) scripts) }
     ensures refused { IfErr result (RefusesScripts (I.held inputs.old) (bytes_of name.entry) settings.now) }
     ensures files { (file : List ℕ) → I.held inputs.new (Some file) ≡ I.held inputs.old (Some file) }
+    ensures failures { I.failed inputs.new ≡ counted (says_read_failed result) (I.failed inputs.old) }
 {
-    match inputs.input(name) {
-        Ok(mut input) => Ok(Scripts::read_from(alloc, &mut input, settings)?),
-        Err(StreamFailed) => Err(Refusal::ReadFailed),
-    }
+    let mut input = opened(inputs, name)?;
+    let scripts = Scripts::read_from(alloc, &mut input, settings);
+    inputs.close(input);
+    Ok(scripts?)
 }
 
-/// The schedule that the file of that name spells.
+/// The schedule that the file of that name spells. Where a word can't come, no more is read.
 pub fn read_schedule<I: Inputs>(
     alloc: Global,
     inputs: &mut I,
@@ -52,9 +73,12 @@ pub fn read_schedule<I: Inputs>(
 ) -> Result<Schedule, Refusal>
     ensures found { IfOk result (SpellsScheduleOf (I.held inputs.old) name.now settings.now.cpus) }
     ensures refused { IfErr result (RefusesSchedule (I.held inputs.old) name.now settings.now.cpus) }
+    ensures failures { I.failed inputs.new ≡ counted (says_read_failed result) (I.failed inputs.old) }
 {
-    let turns = read_input(alloc, inputs, Some(name))?;
-    Ok(Schedule::read(alloc, turns.as_slice(), settings)?)
+    let mut input = opened(inputs, Some(name))?;
+    let schedule = Schedule::read_from(alloc, &mut input, settings);
+    inputs.close(input);
+    Ok(schedule?)
 }
 
 /// The record that the input of that name spells. Of its text no more is held than a line and a piece.
@@ -65,9 +89,10 @@ pub fn read_record<I: Inputs>(
 ) -> Result<Record, Refusal>
     ensures found { IfOk result (SpellsRecordOf (I.held inputs.old) (bytes_of name.entry)) }
     ensures refused { IfErr result (RefusesRecord (I.held inputs.old) (bytes_of name.entry)) }
+    ensures failures { I.failed inputs.new ≡ counted (says_read_failed result) (I.failed inputs.old) }
 {
-    match inputs.input(name) {
-        Ok(mut input) => Ok(Record::read_from(alloc, &mut input)?),
-        Err(StreamFailed) => Err(Refusal::ReadFailed),
-    }
+    let mut input = opened(inputs, name)?;
+    let record = Record::read_from(alloc, &mut input);
+    inputs.close(input);
+    Ok(record?)
 }

@@ -4,7 +4,7 @@ pub mod Cuts
 pub mod Readings
 pub mod Lookups
 pub mod Spellings
-pub mod Glances
+pub mod FastReads
 pub mod Outputs
 pub mod Lines
 pub mod RunLines
@@ -41,4 +41,6 @@ pub mod RecordWords
 pub mod Digits
 pub mod ScriptTexts
 pub mod ScriptSources
+pub mod StepReading
+pub mod SettingsReading
 pub mod RecordSources

@@ -17,6 +17,8 @@ pub mod RecordText
 pub mod RecordRanges
 pub mod ScheduleText
 pub mod ScriptFaults
+pub mod ScheduleReading
+pub mod SettingsSources
 pub mod RecordReading
 pub mod Then
 pub mod LineMachine

@@ -8,14 +8,14 @@ use event_log::{OutOfMemory, Todo};
 use std::alloc::Global;
 
 /// What can be had once more without taking memory.
-pub(crate) trait Copied: Drop {
+pub(crate) trait CopyOut: Drop {
     /// The same once more.
-    fn copied(&self) -> Self
+    fn copy_out(&self) -> Self
         ensures { result ≡ self.now };
 }
 
-impl Copied for Todo<KernelObject> {
-    fn copied(&self) -> Todo<KernelObject> {
+impl CopyOut for Todo<KernelObject> {
+    fn copy_out(&self) -> Todo<KernelObject> {
         let Ok(calls) = ArrayVec::try_from(self.calls.as_slice()) else {
             unreachable!()
         };
@@ -27,12 +27,12 @@ impl Copied for Todo<KernelObject> {
 }
 
 /// The same values once more, in memory that is taken at once.
-pub(crate) fn copy_all<T: Copied>(alloc: Global, values: &[T]) -> Result<Vec<T>, OutOfMemory>
+pub(crate) fn copy_all<T: CopyOut>(alloc: Global, values: &[T]) -> Result<Vec<T>, OutOfMemory>
     ensures { IfOk result (λ copies. copies.items ≡ values.now) }
 {
     let mut copies = Vec::with_capacity(alloc, values.len())?;
     for value in values {
-        copies.push_reserved(value.copied());
+        copies.push_reserved(value.copy_out());
     }
     Ok(copies)
 }

@@ -1,12 +1,13 @@
 //! The limits of texts are the numbers that `specs/Limits.antt` has.
 
 ghost use Rattle.std.specs.Prelude.{◌≡◌};
-ghost use Rattle.scripts.specs.Limits.{most_entries, most_steps, most_line_bytes, most_cpus_of_record_1};
+ghost use Rattle.scripts.specs.Limits.{most_settings_bytes, most_entries, most_steps, most_line_bytes, most_cpus_of_record_1};
 
-use crate::{FIRST_MOST_CPUS, MOST_BYTES, MOST_ENTRIES, MOST_STEPS};
+use crate::{FIRST_MOST_CPUS, MOST_BYTES, MOST_ENTRIES, MOST_SETTINGS_BYTES, MOST_STEPS};
 
 /// The constants are these numbers. It does nothing.
 pub fn shows_limits()
+    ensures settings { MOST_SETTINGS_BYTES ≡ most_settings_bytes }
     ensures entries { MOST_ENTRIES ≡ most_entries }
     ensures steps { MOST_STEPS ≡ most_steps }
     ensures line { MOST_BYTES ≡ most_line_bytes }

@@ -1,11 +1,15 @@
 //! Reading a schedule: a CPU's number for each step.
 
-ghost use Rattle.std.specs.Prelude.{◌≡◌, ◌∷◌, ◌<◌, ◌≤◌, [], ℕ, List, not, length, position, decimal, nat_lt, IfOk, IfSome, IfNone};
+ghost use Rattle.std.specs.Prelude.{◌≡◌, ◌≤◌, ℕ, List, nat_lt, Err, IfOk};
 ghost use Rattle.std.specs.List.{list_all};
-ghost use Rattle.scripts.specs.ScheduleText.{is_gap, schedule_words, IsSchedule, ScheduleWithin, NamesNoCpu, IsFirstBadWord};
+ghost use Rattle.sound_run.specs.declared.limits.TheConstants.{MOST_CPUS};
+ghost use Rattle.scripts.specs.ScheduleText.{IsSchedule, ScheduleWithin, IsFirstBadWord};
+
+pub mod source;
+mod step_reader;
 
 use crate::Settings;
-use crate::text::words::number_of;
+use crate::schedule::step_reader::StepReader;
 use std::alloc::Global;
 use std::marker::Model;
 
@@ -66,74 +70,16 @@ impl Schedule {
     }
 }
 
-/// Whether the byte stands between words.
-fn is_between(byte: u8) -> bool
-    ensures { result ≡ is_gap byte }
-{
-    byte == b' ' || byte == b'\n'
-}
-
-/// Where the first word begins.
-fn find_start(text: &[u8]) -> Option<usize>
-    ensures place { result ≡ position (λ b. not (is_gap b)) text.now }
-    ensures bound { IfSome result (λ i. i < length text.now) }
-{
-    text.iter().position(|byte| !is_between(*byte))
-}
-
-/// Where the first byte between words stands.
-fn find_end(text: &[u8]) -> Option<usize>
-    ensures place { result ≡ position is_gap text.now }
-    ensures bound { IfSome result (λ i. i < length text.now) }
-{
-    text.iter().position(|byte| is_between(*byte))
-}
-
-/// The first word, and what follows it.
-fn next_word(text: &[u8]) -> Option<(&[u8], &[u8])>
-    ensures words { IfSome result (λ r. schedule_words text.now ≡ r.0.now ∷ schedule_words r.1.now) }
-    ensures shorter { IfSome result (λ r. length r.1.now < length text.now) }
-    ensures none { IfNone result (schedule_words text.now ≡ []) }
-{
-    let start = find_start(text)?;
-    let (_, words) = text.split_at(start);
-    match find_end(words) {
-        Some(end) => Some(words.split_at(end)),
-        None => Some((words, &[])),
-    }
-}
-
-/// The CPU, of so many, whose number the word is.
-fn cpu_of(cpus: u8, word: &[u8]) -> Option<u8>
-    requires { 1 ≤ cpus }
-    ensures found { IfSome result (λ cpu. (word.now ≡ decimal cpu) × (cpu < cpus)) }
-    ensures none { IfNone result (NamesNoCpu cpus word.now) }
-{
-    let last = u64::from(cpus - 1);
-    let number = number_of(word, last)?;
-    Some(number as u8)
-}
-
 /// Reads all steps, in the order of their words.
 fn read_steps(alloc: Global, text: &[u8], cpus: u8) -> Result<Vec<u8>, ScheduleFault>
-    requires { 1 ≤ cpus }
+    requires { (1 ≤ cpus) × (cpus ≤ MOST_CPUS) }
     ensures found { IfOk result (λ steps. IsSchedule cpus text.now steps.items) }
     ensures first_bad { (n : ℕ) → result ≡ Err (ScheduleFault.Word n) → IsFirstBadWord cpus text.now n }
     ensures no_schedule { (n : ℕ) (steps : List ℕ) → result ≡ Err (ScheduleFault.Word n) → IsSchedule cpus text.now steps → ⊥ }
 {
-    let mut steps = Vec::new(alloc);
-    let mut rest = text;
-    while let Some((word, after)) = next_word(rest) {
-        let Some(cpu) = cpu_of(cpus, word) else {
-            return Err(ScheduleFault::Word(steps.len() + 1));
-        };
-        if steps.len() == MOST_STEPS {
-            return Err(ScheduleFault::Word(MOST_STEPS + 1));
-        }
-        if steps.push(cpu).is_err() {
-            return Err(ScheduleFault::OutOfMemory);
-        }
-        rest = after;
+    let mut reader = StepReader::new(alloc, cpus);
+    match reader.feed(text) {
+        Ok(()) => reader.finish(),
+        Err(fault) => Err(fault),
     }
-    Ok(steps)
 }

@@ -5,10 +5,11 @@ ghost use Rattle.scripts.specs.Settings.{SettingsFit, built_in_settings};
 
 pub mod fault;
 pub mod lookup;
+pub mod source;
 pub mod text;
 
 use crate::KParams;
-use crate::clones::{Copied, copy_all};
+use crate::clones::{CopyOut, copy_all};
 use arrayvec::ArrayString;
 use event_log::{OutOfMemory, Series};
 use sound_run::LockKind;
@@ -103,8 +104,8 @@ impl ObjectSettings {
     }
 }
 
-impl Copied for ObjectSettings {
-    fn copied(&self) -> ObjectSettings {
+impl CopyOut for ObjectSettings {
+    fn copy_out(&self) -> ObjectSettings {
         ObjectSettings {
             name: self.name,
             lock: self.lock,

@@ -1,5 +1,6 @@
 //! Sources and sinks.
 
 pub mod buffer;
+pub mod front_reader;
 pub mod source_reader;
 pub mod text_writer;

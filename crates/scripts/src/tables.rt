@@ -1,7 +1,7 @@
 //! The tables by which values are spelled.
 
+pub mod fast_reads;
 pub mod field;
-pub mod glances;
 pub mod lock_words;
 pub mod params;
 pub mod ranges;

@@ -5,7 +5,7 @@ use console_ring::ConsoleCall;
 use event_log::{Logged, OpenFault, Plain};
 use page_pool::{PoolCall, PoolParams};
 use scripts::{
-    Buffered, Glanced, KCall, KParams, KReply, KernelObject, Record, Spelled, fits, put_value,
+    Buffered, FastRead, KCall, KParams, KReply, KernelObject, Record, Spelled, fits, put_value,
     value,
 };
 use shared_queue::QueueCall;
@@ -322,7 +322,7 @@ fn words_of_replies(rt: HostRuntime) {
 }
 
 /// Whether the line is this value's text, whole.
-fn is_text<T: Glanced + PartialEq>(line: &[u8], wanted: &T) -> bool {
+fn is_text<T: FastRead + PartialEq>(line: &[u8], wanted: &T) -> bool {
     match value::<T>(Some(line)) {
         Some((value, None)) => value == *wanted,
         _ => false,

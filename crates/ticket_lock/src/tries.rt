@@ -53,12 +53,12 @@ impl<O: SeqObject> TicketCell<O> {
             .table
             .try_exchange::<Try>(&mut seat, 0, word, word.wrapping_add(TICKETS));
         if found == word {
-            let (logged, lent) = self.table.take(&mut seat);
+            let (logged, loan) = self.table.take(&mut seat);
             Ok(Hold {
                 cpu,
                 ticket: served_ticket(word),
                 logged,
-                lent,
+                loan,
                 key,
                 seat,
             })

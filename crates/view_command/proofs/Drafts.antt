@@ -20,8 +20,8 @@ use Rattle.view_command.specs.declared.draft.Draft.{Draft}
 use Rattle.view_command.specs.declared.turns.Turns.{Turns}
 use Rattle.view_command.specs.declared.turns.Turns.TheVariants as turns
 use Rattle.view_command.specs.Drafts.{AddsRounds, ComeSo, IsDraft, IsInTime, MayBeTooLong, reached, rounds_of, words_to_end, working}
-use Rattle.view_command.specs.Watching.{is_busy, is_some}
-use Rattle.view_command.proofs.Watchings.{todos, after_step, works}
+use Rattle.view_command.specs.Stepping.{is_busy, is_some}
+use Rattle.view_command.proofs.Steppings.{todos, after_step, works}
 
 -- ---- schedules that go round
 
@@ -119,7 +119,7 @@ round_more w first now k b is busy =
 pub record HasBegun (old now : Draft) (k : ℕ) : Type 0 where
   pub goes : (w : KernelWorld) → IsDraft old w → IsDraft now w × (now.steps.items ≡ old.steps.items ++ working (numbers 0 k) (reached old w))
   pub few : length now.steps.items ≤ length old.steps.items + k
-  pub cpus : length now.watched.left ≡ length old.watched.left
+  pub cpus : length now.stepped.left ≡ length old.stepped.left
 
 -- one round
 pub one_round : (w : KernelWorld) (n : ℕ) → length w.cpus ≡ n → working (numbers 0 n) w ≡ rounds_of 1 w
@@ -128,12 +128,12 @@ one_round w n is = ap (λ m. working (numbers 0 m) w) (sym is) ∙ sym (ap (λ l
 -- so many rounds are done
 pub record HasGone (old now : Draft) (k : ℕ) : Type 0 where
   pub goes : (w : KernelWorld) → IsDraft old w → AddsRounds k old now w
-  pub few : length now.steps.items ≤ length old.steps.items + length old.watched.left * k
-  pub cpus : length now.watched.left ≡ length old.watched.left
+  pub few : length now.steps.items ≤ length old.steps.items + length old.stepped.left * k
+  pub cpus : length now.stepped.left ≡ length old.stepped.left
 
 -- a draft has the CPUs of its world
-pub watched_cpus : (draft : Draft) (w : KernelWorld) → IsDraft draft w → length (reached draft w).cpus ≡ length draft.watched.left
-watched_cpus draft w d = sym (length-map (reached draft w).cpus (λ c. c.todo)) ∙ sym (ap length d.watches.left)
+pub stepped_cpus : (draft : Draft) (w : KernelWorld) → IsDraft draft w → length (reached draft w).cpus ≡ length draft.stepped.left
+stepped_cpus draft w d = sym (length-map (reached draft w).cpus (λ c. c.todo)) ∙ sym (ap length d.shows_world.left)
 
 -- what is reached by rounds
 pub gone : (old now : Draft) (k : ℕ) (w : KernelWorld) → AddsRounds k old now w → reached now w ≡ run kernel (go_round (length (reached old w).cpus) k) (reached old w)
@@ -143,14 +143,14 @@ gone old now k w a =
     ∙ run_working (go_round (length (reached old w).cpus) k) (reached old w))
 
 -- one round more
-module _ (old now new : Draft) (k : ℕ) (so_far : HasGone old now k) (round : (w : KernelWorld) → IsDraft now w → AddsRounds 1 now new w) (few : length new.steps.items ≤ length now.steps.items + length now.watched.left) (cpus : length new.watched.left ≡ length now.watched.left) where
+module _ (old now new : Draft) (k : ℕ) (so_far : HasGone old now k) (round : (w : KernelWorld) → IsDraft now w → AddsRounds 1 now new w) (few : length new.steps.items ≤ length now.steps.items + length now.stepped.left) (cpus : length new.stepped.left ≡ length now.stepped.left) where
   steps_more : (w : KernelWorld) → IsDraft old w → new.steps.items ≡ old.steps.items ++ rounds_of (k + 1) (reached old w)
   steps_more w d =
       let a = so_far.goes w d in
       let r = round w a.draft in
       let v : KernelWorld = reached old w in
       let n : ℕ = length v.cpus in
-      let same : length (reached now w).cpus ≡ n = watched_cpus now w a.draft ∙ (so_far.cpus ∙ sym (watched_cpus old w d)) in
+      let same : length (reached now w).cpus ≡ n = stepped_cpus now w a.draft ∙ (so_far.cpus ∙ sym (stepped_cpus old w d)) in
       let next : k + 1 ≡ suc k = omega arith in
       let last : rounds_of (k + 1) v ≡ rounds_of k v ++ working (numbers 0 n) (run kernel (go_round n k) v)
       = ap (λ m. rounds_of m v) next ∙ (ap (λ l. working l v) (round_last n k) ∙ working_both (go_round n k) (numbers 0 n) v) in
@@ -165,9 +165,9 @@ module _ (old now new : Draft) (k : ℕ) (so_far : HasGone old now k) (round : (
   rounds_more = record {
     goes = λ w d. record { draft = (round w (so_far.goes w d).draft).draft; steps = steps_more w d };
     few =
-        let more = mul-suc (length old.watched.left) k in
+        let more = mul-suc (length old.stepped.left) k in
         let next : k + 1 ≡ suc k = omega arith in
-        let product = ap (λ m. length old.watched.left * m) next in
+        let product = ap (λ m. length old.stepped.left * m) next in
         let so_few = so_far.few in
         let same = so_far.cpus in
         omega (arith, few, so_few, same, more, product);
@@ -239,13 +239,13 @@ module _ {O P C R : Type 0} where
 -- ---- what is too long
 
 -- a round that has no room
-pub no_room : (old : Draft) (w : KernelWorld) (k words left : ℕ) → IsDraft old w → words ≤ length old.steps.items + length old.watched.left * k → left ≡ length old.watched.left → k < 9 * entries_to_do (reached old w).cpus → MOST_STEPS < words + left → MayBeTooLong (length old.steps.items) (reached old w)
+pub no_room : (old : Draft) (w : KernelWorld) (k words left : ℕ) → IsDraft old w → words ≤ length old.steps.items + length old.stepped.left * k → left ≡ length old.stepped.left → k < 9 * entries_to_do (reached old w).cpus → MOST_STEPS < words + left → MayBeTooLong (length old.steps.items) (reached old w)
 no_room old w k words left d few same less none =
-    let n = length old.watched.left in
+    let n = length old.stepped.left in
     let more = mul-suc n k in
     let le : suc k ≤ 9 * entries_to_do (reached old w).cpus = omega (arith, less) in
     let product = mul-le-mul_left n le in
-    let cpus = ap (λ m. m * (9 * entries_to_do (reached old w).cpus)) (watched_cpus old w d) in
+    let cpus = ap (λ m. m * (9 * entries_to_do (reached old w).cpus)) (stepped_cpus old w d) in
     omega (arith, few, same, none, more, product, cpus)
 
 -- ---- steps that are drawn
@@ -255,7 +255,7 @@ pub record HasDrawn (old now : Draft) : Type 0 where
   pub goes : (w : KernelWorld) → IsDraft old w → IsDraft now w × IsInTime old now w
 
 -- a step takes no time away, but for its word
-pub one_drawn : (old now new : Draft) (cpu : ℕ) → HasDrawn old now → cpu < length now.watched.left → new.steps.items ≡ now.steps.items ++ cpu ∷ [] → ((w : KernelWorld) → IsDraft now w → IsDraft new w)
+pub one_drawn : (old now new : Draft) (cpu : ℕ) → HasDrawn old now → cpu < length now.stepped.left → new.steps.items ≡ now.steps.items ++ cpu ∷ [] → ((w : KernelWorld) → IsDraft now w → IsDraft new w)
     → ((w : KernelWorld) → IsDraft now w → length now.steps.items + words_to_end (reached now w) ≡ MOST_STEPS → ⊥) → HasDrawn old new
 one_drawn old now new cpu so_far below items draft not_yet = record { goes = λ w d. let a = so_far.goes w d in (draft w a.0, in_time w a.0 a.1) }
   where
@@ -263,7 +263,7 @@ one_drawn old now new cpu so_far below items draft not_yet = record { goes = λ 
     in_time w d (inl long) = inl long
     in_time w d (inr le) =
         let v : KernelWorld = reached now w in
-        let within : cpu < length v.cpus = subst (λ n. cpu < n) (sym (watched_cpus now w d)) below in
+        let within : cpu < length v.cpus = subst (λ n. cpu < n) (sym (stepped_cpus now w d)) below in
         let after : reached new w ≡ (step kernel v cpu).0 = ap (λ l. run kernel l w) items ∙ run_both kernel now.steps.items (cpu ∷ []) w in
         let fewer = entries_fall kernel v cpu within in
         let nine : 9 * entries_to_do (step kernel v cpu).0.cpus ≤ 9 * entries_to_do v.cpus = omega (arith, fewer) in

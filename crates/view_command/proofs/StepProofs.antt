@@ -9,8 +9,8 @@ use Rattle.word_rule.specs.Machine.World.{World, run, step}
 use Rattle.view_command.specs.declared.step_names.LineForm.{LineForm}
 use Rattle.view_command.specs.StepLines.{json_outcome, line_of}
 use Rattle.view_command.specs.Steps.{seen_of, step_line, lines_from}
-use Rattle.view_command.specs.Watching.{words_on}
-use Rattle.view_command.specs.declared.watched.Seen.{Seen}
+use Rattle.view_command.specs.Stepping.{words_on}
+use Rattle.view_command.specs.declared.stepped.Seen.{Seen}
 use Rattle.word_rule.specs.Machine.Orders.{works_on}
 
 -- an outcome that isn't empty

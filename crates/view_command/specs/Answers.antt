@@ -18,12 +18,14 @@ use Rattle.scripts.specs.Settings.{Settings}
 use Rattle.sound_run.specs.declared.place.Place.{Place}
 use Rattle.view_command.specs.declared.arguments.Arguments.{Arguments}
 use Rattle.view_command.specs.declared.arguments.Arguments.TheVariants as forms
+use Rattle.view_command.specs.declared.boxes.EntryBox.{EntryBox}
 use Rattle.view_command.specs.declared.fault.Fault.{Fault}
 use Rattle.view_command.specs.declared.fault.Fault.TheVariants as fault
 use Rattle.view_command.specs.declared.sight.Sight.{Sight}
 use Rattle.view_command.specs.declared.step_names.LineForm.{LineForm}
 use Rattle.view_command.specs.declared.turns.Turns.{Turns}
 use Rattle.view_command.specs.Asked.{AskedBy, AsksHelp}
+use Rattle.view_command.specs.Boxes.{AreBoxesOf}
 use Rattle.view_command.specs.Drafts.{ComeSo, EndsAll, MayBeTooLong}
 use Rattle.view_command.specs.Faults.{status_of}
 use Rattle.view_command.specs.Sights.{EndsIn, HasFault, IsCycleOf, IsSightOf, IsTraceOf, RefusesOrder}
@@ -85,11 +87,12 @@ module _ (held : Option (List ℕ) → Option (List ℕ)) where
   abbrev pub RefusesMade : List ℕ → List ℕ → Fault → Type 0
   RefusesMade settings scripts f = RefusesBoth settings scripts f ⊎ (((f ≡ fault.TooLong) × RefusesLong settings scripts) ⊎ IsMemory f)
 
-  -- what `timeline` answers: a picture, drawn of what the record under that name comes to
-  pub record AnswersTimeline (name : Option (List ℕ)) (sight : Sight) (answer : List ℕ) : Type 0 where
+  -- what `timeline` answers: a picture, drawn of what the record under that name comes to, by its boxes
+  pub record AnswersTimeline (name : Option (List ℕ)) (sight : Sight) (boxes : List EntryBox) (answer : List ℕ) : Type 0 where
     pub of : Record
     pub read : SpellsRecordOf held name of
     pub is : IsSightOf of sight
+    pub boxed : AreBoxesOf sight boxes
     pub ends : EndsIn (codes "</svg>\n") answer
 
   -- why it refuses: nothing that is found of a record
@@ -109,7 +112,7 @@ module _ (held : Option (List ℕ) → Option (List ℕ)) where
   -- the text answers those arguments
   abbrev pub AnswersTo : Arguments → List ℕ → Type 0
   AnswersTo (forms.Steps form settings scripts schedule) text = AnswersSteps form settings.now scripts.now schedule.now text
-  AnswersTo (forms.Timeline name) text = (sight : Sight) × AnswersTimeline (bytes_of name) sight text
+  AnswersTo (forms.Timeline name) text = (sight : Sight) × (boxes : List EntryBox) × AnswersTimeline (bytes_of name) sight boxes text
   AnswersTo (forms.Trace name) text = AnswersTrace (bytes_of name) text
   AnswersTo (forms.Schedule settings scripts turns) text = AnswersSchedule turns settings.now scripts.now text
 

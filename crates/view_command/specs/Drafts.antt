@@ -9,7 +9,7 @@ use Rattle.cpu_worker.specs.Simulation.{KernelWorld}
 use Rattle.view_command.specs.declared.draft.Draft.{Draft}
 use Rattle.view_command.specs.declared.turns.Turns.{Turns}
 use Rattle.view_command.specs.declared.turns.Turns.TheVariants as turns
-use Rattle.view_command.specs.Watching.{Watches, is_busy}
+use Rattle.view_command.specs.Stepping.{ShowsWorld, is_busy}
 
 -- the steps of a schedule that are of a CPU with an entry left
 abbrev pub working : List ℕ → KernelWorld → List ℕ
@@ -43,8 +43,8 @@ ComeSo turns.Rounds w steps = (times : ℕ) × (steps ≡ rounds_of times w)
 pub record IsDraft (draft : Draft) (w : KernelWorld) : Type 0 where
   pub each : AllByRecursion (λ cpu. cpu < length w.cpus) draft.steps.items
   pub few : length draft.steps.items ≤ MOST_STEPS
-  pub cpus : length draft.watched.left ≡ length w.cpus
-  pub watches : Watches kernel draft.watched (run kernel draft.steps.items w)
+  pub cpus : length draft.stepped.left ≡ length w.cpus
+  pub shows_world : ShowsWorld kernel draft.stepped (run kernel draft.steps.items w)
 
 -- the world behind the steps so far
 abbrev pub reached : Draft → KernelWorld → KernelWorld

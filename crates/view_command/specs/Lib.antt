@@ -1,9 +1,11 @@
 pub mod Answers
 pub mod Asked
+pub mod Boxes
 pub mod Drafts
 pub mod Faults
+pub mod Replayed
 pub mod Sights
 pub mod StepLines
 pub mod StepNames
+pub mod Stepping
 pub mod Steps
-pub mod Watching

@@ -8,7 +8,7 @@ use Rattle.word_rule.specs.declared.machine.step_done.StepDone.{StepDone}
 use Rattle.scripts.specs.Settings.{Settings, ObjectSettings}
 use Rattle.view_command.specs.declared.step_names.LineForm.{LineForm}
 use Rattle.view_command.specs.declared.step_names.LineForm.TheVariants as forms
-use Rattle.view_command.specs.declared.watched.Seen.{Seen}
+use Rattle.view_command.specs.declared.stepped.Seen.{Seen}
 use Rattle.view_command.specs.StepNames.{kind_of, outcome_of, object_at}
 
 -- ---- in words

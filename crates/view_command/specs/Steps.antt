@@ -7,9 +7,9 @@ use Rattle.scripts.specs.KernelTypes.{KernelTodo}
 use Rattle.scripts.specs.Settings.{Settings}
 use Rattle.cpu_worker.specs.Simulation.{KernelWorld, new_world}
 use Rattle.view_command.specs.declared.step_names.LineForm.{LineForm}
-use Rattle.view_command.specs.declared.watched.Seen.{Seen}
+use Rattle.view_command.specs.declared.stepped.Seen.{Seen}
 use Rattle.view_command.specs.StepLines.{line_of}
-use Rattle.view_command.specs.Watching.{words_on}
+use Rattle.view_command.specs.Stepping.{words_on}
 
 -- what is seen of a CPU's next step: the object that it works on, and what the step is
 abbrev pub seen_of : KernelWorld → ℕ → Seen

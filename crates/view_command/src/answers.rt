@@ -3,8 +3,10 @@
 ghost use Rattle.std.specs.Prelude.{codes, string_bytes, IfErr, IfOk};
 ghost use Rattle.program.specs.Inputs.{bytes_of};
 ghost use Rattle.view_command.specs.Answers.{AnswersSchedule, AnswersSteps, AnswersTimeline, AnswersTrace, RefusesMade, RefusesSteps, RefusesTimeline, RefusesTrace};
+ghost use Rattle.view_command.specs.Boxes.{AreBoxesOf};
 ghost use Rattle.view_command.specs.Sights.{EndsIn, IsSightOf};
 
+use crate::boxes::{EntryBox, boxes_of};
 use crate::fault::Fault;
 use crate::made_schedule::{made_schedule, schedule_text};
 use crate::sight::{Sight, sight_of};
@@ -13,7 +15,7 @@ use crate::steps::steps;
 use crate::timeline::timeline;
 use crate::trace::traced;
 use crate::turns::Turns;
-use event_log::OutOfMemory;
+use event_log::{OutOfMemory, Series};
 use program::{Inputs, Refusal, read_record, read_schedule, read_scripts, read_settings};
 use scripts::Record;
 use std::alloc::Global;
@@ -58,25 +60,30 @@ pub fn schedule_answer<I: Inputs>(
     }
 }
 
-/// What the record comes to, and its picture.
-fn pictured(alloc: Global, record: &Record) -> Result<(Sight, String), OutOfMemory>
+/// What the record comes to, the boxes of its picture, and the picture.
+fn pictured(
+    alloc: Global,
+    record: &Record,
+) -> Result<(Sight, Series<EntryBox>, String), OutOfMemory>
     ensures sight { IfOk result (λ a. IsSightOf «record».now a.0) }
-    ensures ends { IfOk result (λ a. EndsIn (codes "</svg>\n") (string_bytes a.1)) }
+    ensures boxes { IfOk result (λ a. AreBoxesOf a.0 a.1) }
+    ensures ends { IfOk result (λ a. EndsIn (codes "</svg>\n") (string_bytes a.2)) }
 {
     let sight = sight_of(alloc, record)?;
-    match timeline(alloc, record, &sight) {
-        Ok(text) => Ok((sight, text)),
+    let boxes = boxes_of(alloc, &sight)?;
+    match timeline(alloc, record, &sight, boxes.as_slice()) {
+        Ok(text) => Ok((sight, boxes, text)),
         Err(_) => Err(OutOfMemory),
     }
 }
 
-/// What the record of that name, or that of standard input, comes to, and its picture.
+/// What the record of that name, or that of standard input, comes to, the boxes of its picture, and the picture.
 pub fn timeline_answer<I: Inputs>(
     alloc: Global,
     inputs: &mut I,
     record: Option<&str>,
-) -> Result<(Sight, String), Fault>
-    ensures answer { IfOk result (λ a. AnswersTimeline (I.held inputs.old) (bytes_of «record».entry) a.0 (string_bytes a.1)) }
+) -> Result<(Sight, Series<EntryBox>, String), Fault>
+    ensures answer { IfOk result (λ a. AnswersTimeline (I.held inputs.old) (bytes_of «record».entry) a.0 a.1 (string_bytes a.2)) }
     ensures refused { IfErr result (RefusesTimeline (I.held inputs.old) (bytes_of «record».entry)) }
 {
     let record = read_record(alloc, inputs, record)?;

@@ -118,6 +118,7 @@ fn forms<'a>(alloc: Global) -> Result<Command<'a>, AllocError> {
         "Print a record as trace events, for Perfetto or chrome://tracing",
     )?;
     Command::new(alloc, "view")
+        .bin_name("view")?
         .about("Looks at runs of shared kernel objects")
         .version(VERSION)
         .disable_help_subcommand(true)

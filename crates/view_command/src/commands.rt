@@ -56,7 +56,7 @@ fn answer_to<I: Inputs>(
             schedule,
         } => steps_answer(alloc, inputs, form, settings, scripts, schedule),
         Arguments::Timeline { record } => match timeline_answer(alloc, inputs, record) {
-            Ok((_, text)) => Ok(text),
+            Ok((_, _, text)) => Ok(text),
             Err(fault) => Err(fault),
         },
         Arguments::Trace { record } => trace_answer(alloc, inputs, record),
@@ -104,7 +104,8 @@ pub fn refuse<F: Sink>(fault: &Fault, faults: &mut F) -> u8
     ensures { result ≡ status_of fault.now }
 {
     let mut line = Buffered::new(faults);
-    if writeln!(line, "{fault}").is_ok() {
+    let hint = fault.hint();
+    if writeln!(line, "{fault}{hint}").is_ok() {
         let _ = line.finish();
     }
     fault.status()

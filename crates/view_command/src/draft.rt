@@ -9,7 +9,7 @@ ghost use Rattle.cpu_worker.specs.Simulation.{KernelWorld, new_world};
 ghost use Rattle.view_command.specs.Drafts.{AddsRounds, IsDraft, MayBeTooLong, reached, words_to_end};
 
 use crate::opening::opened;
-use crate::watched::Watched;
+use crate::stepped::Stepped;
 use event_log::OutOfMemory;
 use scripts::{KernelObject, MOST_STEPS, Scripts, Settings};
 use std::alloc::Global;
@@ -40,7 +40,7 @@ const ROUNDS_OF_AN_ENTRY: usize = 9;
 /// The steps of a schedule so far, and the machine that has done them.
 #[derive(Drop)]
 pub struct Draft<'a> {
-    pub watched: Watched<'a, KernelObject>,
+    pub stepped: Stepped<'a, KernelObject>,
     pub steps: Vec<u8>,
 }
 
@@ -59,24 +59,24 @@ impl<'a> Draft<'a> {
         ensures fault { result ≢ Err DraftFault.TooLong }
     {
         Ok(Draft {
-            watched: opened(alloc, settings, scripts)?,
+            stepped: opened(alloc, settings, scripts)?,
             steps: Vec::new(alloc),
         })
     }
 
     /// The next step of a CPU, unless a schedule can have no more.
     pub fn step(&mut self, cpu: u8) -> Result<StepDone, DraftFault>
-        requires { cpu < length self.old.watched.left }
+        requires { cpu < length self.old.stepped.left }
         ensures draft { OnOk result ((w : KernelWorld) → IsDraft self.old w → IsDraft self.new w) }
         ensures steps { OnOk result (self.new.steps.items ≡ self.old.steps.items ++ cpu ∷ []) }
-        ensures cpus { OnOk result (length self.new.watched.left ≡ length self.old.watched.left) }
+        ensures cpus { OnOk result (length self.new.stepped.left ≡ length self.old.stepped.left) }
         ensures too_long { result ≡ Err DraftFault.TooLong → MOST_STEPS ≤ length self.old.steps.items }
     {
         if self.steps.len() >= MOST_STEPS {
             return Err(DraftFault::TooLong);
         }
         match self.steps.push(cpu) {
-            Ok(()) => Ok(self.watched.step(cpu).done),
+            Ok(()) => Ok(self.stepped.step(cpu).done),
             Err(_) => Err(DraftFault::OutOfMemory),
         }
     }
@@ -84,12 +84,12 @@ impl<'a> Draft<'a> {
     /// A step of each CPU that has an entry left.
     fn round(&mut self) -> Result<(), DraftFault>
         ensures round { OnOk result ((w : KernelWorld) → IsDraft self.old w → AddsRounds 1 self.old self.new w) }
-        ensures few { OnOk result (length self.new.steps.items ≤ length self.old.steps.items + length self.old.watched.left) }
-        ensures cpus { OnOk result (length self.new.watched.left ≡ length self.old.watched.left) }
-        ensures too_long { result ≡ Err DraftFault.TooLong → MOST_STEPS < length self.old.steps.items + length self.old.watched.left }
+        ensures few { OnOk result (length self.new.steps.items ≤ length self.old.steps.items + length self.old.stepped.left) }
+        ensures cpus { OnOk result (length self.new.stepped.left ≡ length self.old.stepped.left) }
+        ensures too_long { result ≡ Err DraftFault.TooLong → MOST_STEPS < length self.old.steps.items + length self.old.stepped.left }
     {
-        for cpu in 0..self.watched.cpus() {
-            if self.watched.is_busy(cpu) {
+        for cpu in 0..self.stepped.cpus() {
+            if self.stepped.is_busy(cpu) {
                 self.step(cpu)?;
             }
         }
@@ -103,12 +103,12 @@ impl<'a> Draft<'a> {
         ensures too_long { result ≡ Err DraftFault.TooLong → (w : KernelWorld) → IsDraft self.old w → MayBeTooLong (length self.old.steps.items) (reached self.old w) }
     {
         scripts_end::<KernelObject>();
-        let entries = self.watched.entries();
+        let entries = self.stepped.entries();
         if entries > MOST_STEPS {
             return Err(DraftFault::TooLong);
         }
         for _ in 0..ROUNDS_OF_AN_ENTRY * entries {
-            if self.watched.next_busy(0).is_none() {
+            if self.stepped.next_busy(0).is_none() {
                 return Ok(());
             }
             self.round()?;
@@ -121,8 +121,8 @@ impl<'a> Draft<'a> {
         ensures { (w : KernelWorld) → IsDraft self.now w →
             (result ≡ true) ↔ (length self.now.steps.items + words_to_end (reached self.now w) ≡ MOST_STEPS) }
     {
-        let rounds = ROUNDS_OF_AN_ENTRY.saturating_mul(self.watched.entries());
-        let words = (self.watched.cpus() as usize).saturating_mul(rounds);
+        let rounds = ROUNDS_OF_AN_ENTRY.saturating_mul(self.stepped.entries());
+        let words = (self.stepped.cpus() as usize).saturating_mul(rounds);
         self.steps.len().saturating_add(words) == MOST_STEPS
     }
 }

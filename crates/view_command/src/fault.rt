@@ -32,6 +32,14 @@ impl Fault {
             Fault::Common(refusal) => refusal.status(),
         }
     }
+
+    /// What is written behind the refusal: of bad words, where the right ones are.
+    pub fn hint(&self) -> &'static str {
+        match self {
+            Fault::Common(Refusal::BadWords) => " (view --help has the forms)",
+            _ => "",
+        }
+    }
 }
 
 impl From<Refusal> for Fault {

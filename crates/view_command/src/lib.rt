@@ -4,6 +4,7 @@
 
 mod answers;
 mod arguments;
+mod boxes;
 mod commands;
 mod draft;
 mod fault;
@@ -11,18 +12,20 @@ mod made_schedule;
 mod opening;
 mod picture;
 mod random;
+mod replayed;
 mod sight;
 mod step_json;
 mod step_names;
 mod step_text;
+mod stepped;
 mod steps;
 mod timeline;
 mod trace;
 mod turns;
-mod watched;
 
 pub use answers::{schedule_answer, steps_answer, timeline_answer, trace_answer};
 pub use arguments::{Arguments, Asked, read_words};
+pub use boxes::EntryBox;
 pub use commands::{command, refuse};
 pub use fault::Fault;
 pub use step_names::LineForm;

@@ -7,12 +7,12 @@ ghost use Rattle.scripts.specs.Words.{text_of_lines};
 ghost use Rattle.scripts.specs.ScriptText.{ScriptsFit};
 ghost use Rattle.cpu_worker.specs.Simulation.{KernelWorld, new_world};
 ghost use Rattle.view_command.specs.Drafts.{ComeSo, EndsAll, IsDraft, IsInTime, MayBeTooLong, reached};
-ghost use Rattle.view_command.specs.Watching.{Watches};
+ghost use Rattle.view_command.specs.Stepping.{ShowsWorld};
 
 use crate::draft::{Draft, DraftFault};
 use crate::random::Random;
+use crate::stepped::Stepped;
 use crate::turns::Turns;
-use crate::watched::Watched;
 use event_log::SeqObject;
 use scripts::{KernelObject, MOST_STEPS, Scripts, Settings};
 use sound_run::MOST_CPUS;
@@ -28,17 +28,17 @@ type InVain = [bool; CPUS];
 /// most as often as there are other CPUs.
 fn drawn(
     random: &mut Random,
-    watched: &Watched<'_, KernelObject>,
+    stepped: &Stepped<'_, KernelObject>,
     last: usize,
     in_vain: &InVain,
 ) -> Option<u8>
-    ensures within { IfSome result (λ cpu. cpu < length watched.now.left) }
-    ensures none { IfNone result ((w : KernelWorld) → Watches ⟦<KernelObject as SeqObject>⟧ watched.now w → AllByRecursion (λ c. c.todo ≡ []) w.cpus) }
+    ensures within { IfSome result (λ cpu. cpu < length stepped.now.left) }
+    ensures none { IfNone result ((w : KernelWorld) → ShowsWorld ⟦<KernelObject as SeqObject>⟧ stepped.now w → AllByRecursion (λ c. c.todo ≡ []) w.cpus) }
 {
-    let mut cpu = watched.next_busy(random.up_to(last))?;
+    let mut cpu = stepped.next_busy(random.up_to(last))?;
     for _ in 0..last {
         match in_vain.get(cpu as usize) {
-            Some(true) => cpu = watched.next_busy(random.up_to(last))?,
+            Some(true) => cpu = stepped.next_busy(random.up_to(last))?,
             _ => break,
         }
     }
@@ -63,13 +63,13 @@ fn draw(draft: &mut Draft<'_>, turns: Turns) -> Result<(), DraftFault>
         return Ok(());
     };
     let mut random = Random::new(seed);
-    let last = (draft.watched.cpus() as usize).saturating_sub(1);
+    let last = (draft.stepped.cpus() as usize).saturating_sub(1);
     let mut in_vain = [false; CPUS];
     for _ in 0..MOST_STEPS {
         if draft.has_to_go_round() {
             break;
         }
-        let Some(cpu) = drawn(&mut random, &draft.watched, last, &in_vain) else {
+        let Some(cpu) = drawn(&mut random, &draft.stepped, last, &in_vain) else {
             break;
         };
         let done = draft.step(cpu)?;

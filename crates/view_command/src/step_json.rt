@@ -7,7 +7,7 @@ ghost use Rattle.view_command.specs.StepLines.{json_line, json_list, json_lock, 
 
 use crate::step_names::{kind_of, object_at, outcome_of};
 use crate::step_text::{TICKETS, put_each};
-use crate::watched::Seen;
+use crate::stepped::Seen;
 use scripts::{ObjectSettings, Settings};
 use sound_run::LockKind;
 use std::alloc::AllocError;

@@ -5,7 +5,7 @@ ghost use Rattle.view_command.specs.StepNames.{outcome_of};
 ghost use Rattle.view_command.specs.StepLines.{after_each, lock_text, outcome_text, words_on_object, words_line};
 
 use crate::step_names::{kind_of, object_at, outcome_of};
-use crate::watched::Seen;
+use crate::stepped::Seen;
 use scripts::{ObjectSettings, Settings};
 use sound_run::LockKind;
 use std::alloc::AllocError;

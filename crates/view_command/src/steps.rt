@@ -10,7 +10,7 @@ use crate::opening::opened;
 use crate::step_json::put_json_line;
 use crate::step_names::LineForm;
 use crate::step_text::put_words_line;
-use crate::watched::Seen;
+use crate::stepped::Seen;
 use event_log::OutOfMemory;
 use scripts::{Schedule, Scripts, Settings};
 use std::alloc::{AllocError, Global};
@@ -45,11 +45,11 @@ pub fn steps(
     requires schedule { AllByRecursion (λ cpu. cpu < settings.now.cpus) schedule.now }
     ensures { IfOk result (λ text. string_bytes text ≡ steps_text form settings.now scripts.now schedule.now) }
 {
-    let mut watched = opened(alloc, settings, scripts)?;
+    let mut stepped = opened(alloc, settings, scripts)?;
     let mut text = String::new(alloc);
     for (place, cpu) in schedule.steps().iter().enumerate() {
-        let seen = watched.step(*cpu);
-        let words = watched.words(seen.object);
+        let seen = stepped.step(*cpu);
+        let words = stepped.words(seen.object);
         put_line(&mut text, form, settings, place + 1, *cpu, seen, words)?;
     }
     Ok(text)

@@ -129,6 +129,7 @@ fn help_and_version(rt: HostRuntime) -> Result<(), Fail> {
         ("--version", "view 1"),
         ("-V", "view 1"),
         ("steps --help", "--json"),
+        ("steps --help", "Usage: view steps "),
         ("schedule -h", "--seed <N>"),
         ("schedule -h", "--rounds"),
         ("timeline --help", "[RECORD]"),

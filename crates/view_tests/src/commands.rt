@@ -57,10 +57,13 @@ struct Named<'a> {
     standard: &'a str,
     files: &'a [(&'a str, &'a str)],
     opened: usize,
+    failed: u64,
 }
 
 impl<'a> Inputs for Named<'a> {
     type Input = Plain<Reader<'a>>;
+
+    ghost failed = { λ s. s.failed };
 
     fn input(&mut self, name: Option<&str>) -> Result<Plain<Reader<'a>>, StreamFailed> {
         self.opened = self.opened.saturating_add(1);
@@ -78,7 +81,12 @@ impl<'a> Inputs for Named<'a> {
                 }));
             }
         }
+        self.failed = self.failed.saturating_add(1);
         Err(StreamFailed)
+    }
+
+    fn close(&mut self, input: Plain<Reader<'a>>) {
+        self.failed = self.failed.saturating_add(input.failed_calls());
     }
 }
 
@@ -131,6 +139,7 @@ fn told<R: AllocGlobal, W: Sink, F: Sink>(
         standard,
         files: &FILES,
         opened: 0,
+        failed: 0,
     };
     let status = status_of(rt, line, &mut inputs, out, faults)?;
     Ok((status, inputs.opened))
@@ -159,6 +168,7 @@ fn answer_of<R: AllocGlobal>(rt: &R, line: &str, files: &[(&str, &str)]) -> Resu
         standard: "",
         files,
         opened: 0,
+        failed: 0,
     };
     status_of(rt, line, &mut inputs, &mut out, &mut faults)?;
     Ok(String::from_utf8(out.inner).unwrap_or(String::new(rt.alloc())))
@@ -217,7 +227,12 @@ fn refused_commands(rt: HostRuntime) -> Result<(), Fail> {
             "view: E8 schedule: word 2\n",
             3,
         ),
-        ("steps both turns", 2, "view: E14 bad words\n", 0),
+        (
+            "steps both turns",
+            2,
+            "view: E14 bad words (view --help has the forms)\n",
+            0,
+        ),
         (
             "schedule --settings ticket bad",
             2,
@@ -246,7 +261,12 @@ fn refused_commands(rt: HostRuntime) -> Result<(), Fail> {
             "view: E11 cycle: cpu 0 entry 1, cpu 1 entry 1\n",
             1,
         ),
-        ("", 2, "view: E14 bad words\n", 0),
+        (
+            "",
+            2,
+            "view: E14 bad words (view --help has the forms)\n",
+            0,
+        ),
     ];
     for (line, status, refusal, opened) in rows {
         let mut out = Plain::new(Vec::new(rt.alloc()));

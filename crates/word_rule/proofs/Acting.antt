@@ -17,14 +17,14 @@ use Rattle.event_log.proofs.Beginnings.{begins_self, begins_more, begins_rest}
 use Rattle.word_rule.specs.declared.machine.step_done.StepDone.{StepDone}
 use Rattle.word_rule.specs.declared.lock_kind.Stage.{Stage}
 use Rattle.word_rule.specs.declared.lock_kind.Stage.TheVariants.{Idle}
-use Rattle.word_rule.specs.declared.view.Moment.{Moment}
+use Rattle.word_rule.specs.declared.view.TraceStep.{TraceStep}
 use Rattle.word_rule.specs.Answered.{IsBusy}
 use Rattle.word_rule.specs.Cell.{Cell, Grows, IsCaller, Lawful, OwnsAll, stored}
 use Rattle.word_rule.specs.CallerState.{CallerState, Moves, Takes, Gives, NeedsAnother}
 use Rattle.word_rule.specs.Locks.{holding}
 use Rattle.word_rule.specs.LockRuns.{Extends, HasRun}
 use Rattle.word_rule.specs.OneHold.{silently}
-use Rattle.word_rule.specs.Rule.CellInvariant.{Viewed}
+use Rattle.word_rule.specs.Rule.CellInvariant.{SeatView}
 use Rattle.word_rule.specs.Rule.Seats.{Seat, shown, at, moved_on, settled, taken_in, keeping, letting, merged}
 use Rattle.word_rule.specs.Rule.Announced.{Lacks, HasAll, Learns, Goes, Lags, Gets, Left, Returns, any_has}
 use Rattle.word_rule.specs.Rule.Callers.{AddedBy, caller_of, state_without, state_with, StandsAt, IsWithout, IsWith}
@@ -34,18 +34,18 @@ use Rattle.word_rule.proofs.Lists.{has_append, of_push, grows_self, grows_then, 
 
 module _ {O P C R : Type 0} where
   -- the seat after a step that its first caller did
-  stands_settled : (h : Cell O P C R) (cpu : ℕ) (p q : Stage) (log : List (Event O P C R)) (run : List (Moment (Event O P C R))) (slots slots' : List (ℕ × Option (History O P C R))) (m : Seat O P C R) → StandsAt h cpu p slots m → StandsAt h cpu q slots' (settled m.0 q log run, slots')
+  stands_settled : (h : Cell O P C R) (cpu : ℕ) (p q : Stage) (log : List (Event O P C R)) (run : List (TraceStep (Event O P C R))) (slots slots' : List (ℕ × Option (History O P C R))) (m : Seat O P C R) → StandsAt h cpu p slots m → StandsAt h cpu q slots' (settled m.0 q log run, slots')
   stands_settled h cpu p q log run slots slots' m a = record { alone = ap (map (shown log run)) a.alone; number = a.number; carries = refl; stands = refl; told = a.told }
 
-  stands_moved : (h : Cell O P C R) (cpu : ℕ) (p q : Stage) (log : List (Event O P C R)) (run : List (Moment (Event O P C R))) (slots : List (ℕ × Option (History O P C R))) (m : Seat O P C R) → StandsAt h cpu p slots m → StandsAt h cpu q slots (moved_on m.0 q log run, slots)
+  stands_moved : (h : Cell O P C R) (cpu : ℕ) (p q : Stage) (log : List (Event O P C R)) (run : List (TraceStep (Event O P C R))) (slots : List (ℕ × Option (History O P C R))) (m : Seat O P C R) → StandsAt h cpu p slots m → StandsAt h cpu q slots (moved_on m.0 q log run, slots)
   stands_moved h cpu p q log run slots m a = record { alone = a.alone; number = a.number; carries = refl; stands = refl; told = a.told }
 
 module _ {O P C R : Type 0} (meaning : Ghosts O P C R) where
   -- it has seen this log and this run
-  pub sees_without : (h : Cell O P C R) (cpu : ℕ) (p q : Stage) (log : List (Event O P C R)) (run : List (Moment (Event O P C R))) (m m' : Seat O P C R) → IsWithout meaning h cpu p m → Lawful meaning h log → HasRun h log run → m' ≡ (settled m.0 q log run, []) → IsWithout meaning h cpu q m'
-  sees_without h cpu p q log run m m' w lawful ran e = subst (IsWithout meaning h cpu q) (sym e) record {
+  pub sees_without : (h : Cell O P C R) (cpu : ℕ) (p q : Stage) (log : List (Event O P C R)) (run : List (TraceStep (Event O P C R))) (m m' : Seat O P C R) → IsWithout meaning h cpu p m → Lawful meaning h log → HasRun h log run → m' ≡ (settled m.0 q log run, []) → IsWithout meaning h cpu q m'
+  sees_without h cpu p q log run m m' w valid ran e = subst (IsWithout meaning h cpu q) (sym e) record {
     at = stands_settled h cpu p q log run [] [] m w.at;
-    pass_view = record { caller = w.pass_view.caller; lawful = lawful };
+    pass_view = record { caller = w.pass_view.caller; valid = valid };
     ran = ran;
   }
 
@@ -53,7 +53,7 @@ module _ {O P C R : Type 0} (meaning : Ghosts O P C R) where
   pub goes_without : (h : Cell O P C R) (cpu : ℕ) (p q : Stage) (done : List StepDone) (m m' : Seat O P C R) → IsWithout meaning h cpu p m → Goes meaning q done m m' → IsWithout meaning h cpu q m'
   goes_without h cpu p q done m m' w g = subst (IsWithout meaning h cpu q) (sym (g.seat ∙ (λ k. (moved_on m.0 q g.log g.run, w.at.carries k)))) record {
     at = stands_moved h cpu p q g.log g.run [] m w.at;
-    pass_view = record { caller = w.pass_view.caller; lawful = g.learns.lawful h w.at.told };
+    pass_view = record { caller = w.pass_view.caller; valid = g.learns.valid h w.at.told };
     ran = g.learns.ran h w.at.told;
   }
 
@@ -65,7 +65,7 @@ module _ {O P C R : Type 0} (meaning : Ghosts O P C R) where
     grows = g.learns.grows;
     still = λ e. g.still (ap holding w.at.stands ∙ e);
     extends = g.learns.extends;
-    lawful = g.learns.lawful h w.at.told;
+    valid = g.learns.valid h w.at.told;
     has = refl;
   }
 
@@ -86,28 +86,28 @@ module _ {O P C R : Type 0} (meaning : Ghosts O P C R) where
     grows = g.learns.grows;
     still = λ e. g.still (ap holding w.at.stands ∙ e);
     extends = g.learns.extends;
-    lawful = g.learns.lawful h w.at.told;
+    valid = g.learns.valid h w.at.told;
     has = refl;
   }
 
   -- it has the object, and stands where its seat says
-  pub holds_now : (h : Cell O P C R) (cpu : ℕ) (p q : Stage) (x : History O P C R) (run : List (Moment (Event O P C R))) (m m' : Seat O P C R) → IsWithout meaning h cpu p m → Lawful meaning h x.log → HasRun h x.log run → x ≡ stored meaning h x.log → m' ≡ (settled m.0 q x.log run, (0, None) ∷ []) → IsWith meaning h cpu m'.0.main.stage x m'
-  holds_now h cpu p q x run m m' w lawful ran is e = subst (λ z. IsWith meaning h cpu z.0.main.stage x z) (sym e) record {
+  pub holds_now : (h : Cell O P C R) (cpu : ℕ) (p q : Stage) (x : History O P C R) (run : List (TraceStep (Event O P C R))) (m m' : Seat O P C R) → IsWithout meaning h cpu p m → Lawful meaning h x.log → HasRun h x.log run → x ≡ stored meaning h x.log → m' ≡ (settled m.0 q x.log run, (0, None) ∷ []) → IsWith meaning h cpu m'.0.main.stage x m'
+  holds_now h cpu p q x run m m' w valid ran is e = subst (λ z. IsWith meaning h cpu z.0.main.stage x z) (sym e) record {
     at = stands_settled h cpu p q x.log run [] ((0, None) ∷ []) m w.at;
     added = record { begins = begins_self x.log; others = λ _ _. refl };
-    hold_view = record { caller = w.pass_view.caller; lawful = lawful; replayed = is };
+    hold_view = record { caller = w.pass_view.caller; valid = valid; replayed = is };
     ran = ran;
   }
 
-  pub takes_now : (h : Cell O P C R) (p q : Stage) (done : List StepDone) (x : History O P C R) (run : List (Moment (Event O P C R))) (m m' : Seat O P C R) → Grows (caller_of h m.0).owned m.0.main.seen x.log → Extends (caller_of h m.0).owned m.0.main.run (silently m.0.main.cpu done) run → Lawful meaning h x.log → x ≡ stored meaning h x.log
+  pub takes_now : (h : Cell O P C R) (p q : Stage) (done : List StepDone) (x : History O P C R) (run : List (TraceStep (Event O P C R))) (m m' : Seat O P C R) → Grows (caller_of h m.0).owned m.0.main.seen x.log → Extends (caller_of h m.0).owned m.0.main.run (silently m.0.main.cpu done) run → Lawful meaning h x.log → x ≡ stored meaning h x.log
       → m' ≡ (settled m.0 q x.log run, (0, None) ∷ []) → Takes meaning p q done (state_without h p m) (state_with h m'.0.main.stage x m')
-  takes_now h p q done x run m m' grows extends lawful is e = subst (λ z. Takes meaning p q done (state_without h p m) (state_with h z.0.main.stage x z)) (sym e) record {
+  takes_now h p q done x run m m' grows extends valid is e = subst (λ z. Takes meaning p q done (state_without h p m) (state_with h z.0.main.stage x z)) (sym e) record {
     caller = refl;
     from = refl;
     to = refl;
     grows = grows;
     extends = extends;
-    lawful = lawful;
+    valid = valid;
     had = refl;
     has = ap Some is;
   }
@@ -116,7 +116,7 @@ module _ {O P C R : Type 0} (meaning : Ghosts O P C R) where
   pub rests_now : (h : Cell O P C R) (cpu : ℕ) (p q : Stage) (step : StepDone) (x : History O P C R) (m m' : Seat O P C R) → IsWith meaning h cpu p x m → Left q step m.0 m' x [] → IsWithout meaning h cpu q m'
   rests_now h cpu p q step x m m' w t = subst (IsWithout meaning h cpu q) (sym t.seat) record {
     at = stands_settled h cpu p q x.log t.run ((0, None) ∷ []) [] m w.at;
-    pass_view = record { caller = w.hold_view.caller; lawful = w.hold_view.lawful };
+    pass_view = record { caller = w.hold_view.caller; valid = w.hold_view.valid };
     ran = t.ran h w.at.told;
   }
 
@@ -125,7 +125,7 @@ module _ {O P C R : Type 0} (meaning : Ghosts O P C R) where
     caller = refl;
     from = refl;
     to = refl;
-    lawful = w.hold_view.lawful;
+    valid = w.hold_view.valid;
     events = t.events;
     added = t.added;
     extends = t.extends;
@@ -135,7 +135,7 @@ module _ {O P C R : Type 0} (meaning : Ghosts O P C R) where
 
   -- a step gave the object to the slot of the seat, and it was taken out of there
   pub record Took (q : Stage) (done : List StepDone) (m m' : Seat O P C R) (x : History O P C R) : Type 0 where
-    pub run : List (Moment (Event O P C R))
+    pub run : List (TraceStep (Event O P C R))
     pub seat : m' ≡ (settled m.0 q x.log run, (0, None) ∷ m.1)
     pub learns : Learns meaning m.0 (silently m.0.main.cpu done) x.log run
     pub replayed : (k : Cell O P C R) → m.0.told ≡ k ∷ [] → x ≡ stored meaning k x.log
@@ -148,14 +148,14 @@ module _ {O P C R : Type 0} (meaning : Ghosts O P C R) where
 
   -- so it is the caller's
   pub holds_from : (h : Cell O P C R) (cpu : ℕ) (p q : Stage) (done : List StepDone) (x : History O P C R) (m m' : Seat O P C R) → IsWithout meaning h cpu p m → Took q done m m' x → IsWith meaning h cpu m'.0.main.stage x m'
-  holds_from h cpu p q done x m m' w t = holds_now h cpu p q x t.run m m' w (t.learns.lawful h w.at.told) (t.learns.ran h w.at.told) (t.replayed h w.at.told) (t.seat ∙ ap (λ cs. (settled m.0 q x.log t.run, (0, None) ∷ cs)) w.at.carries)
+  holds_from h cpu p q done x m m' w t = holds_now h cpu p q x t.run m m' w (t.learns.valid h w.at.told) (t.learns.ran h w.at.told) (t.replayed h w.at.told) (t.seat ∙ ap (λ cs. (settled m.0 q x.log t.run, (0, None) ∷ cs)) w.at.carries)
 
   pub takes_from : (h : Cell O P C R) (cpu : ℕ) (p q : Stage) (done : List StepDone) (x : History O P C R) (m m' : Seat O P C R) → IsWithout meaning h cpu p m → Took q done m m' x → Takes meaning p q done (state_without h p m) (state_with h m'.0.main.stage x m')
-  takes_from h cpu p q done x m m' w t = takes_now h p q done x t.run m m' t.learns.grows t.learns.extends (t.learns.lawful h w.at.told) (t.replayed h w.at.told) (t.seat ∙ ap (λ cs. (settled m.0 q x.log t.run, (0, None) ∷ cs)) w.at.carries)
+  takes_from h cpu p q done x m m' w t = takes_now h p q done x t.run m m' t.learns.grows t.learns.extends (t.learns.valid h w.at.told) (t.replayed h w.at.told) (t.seat ∙ ap (λ cs. (settled m.0 q x.log t.run, (0, None) ∷ cs)) w.at.carries)
 
   -- the object was put into the slot, and the step sent it home
   pub left : (q : Stage) (step : StepDone) (m m' m'' : Seat O P C R) (x : History O P C R) → m.1 ≡ (0, None) ∷ [] → m' ≡ (m.0, (0, Some x) ∷ rest m.1) → Returns q step m' m'' → Left q step m.0 m'' x []
-  left q step m m' m'' x had filled told = subst (λ (z : Viewed O P C R × List (ℕ × Option (History O P C R))). Left q step z.0 m'' x z.1) (λ k. ((filled k).0, rest (had k))) (told x (rest m.1) (ap (λ (z : Seat O P C R). z.1) filled))
+  left q step m m' m'' x had filled told = subst (λ (z : SeatView O P C R × List (ℕ × Option (History O P C R))). Left q step z.0 m'' x z.1) (λ k. ((filled k).0, rest (had k))) (told x (rest m.1) (ap (λ (z : Seat O P C R). z.1) filled))
 
   -- who owns every number has a seat with each
   pub not_all : (h : Cell O P C R) (m : Seat O P C R) → m.0.told ≡ h ∷ [] → Lacks m.0 → OwnsAll (caller_of h m.0) → ⊥
@@ -170,7 +170,7 @@ module _ {O P C R : Type 0} (meaning : Ghosts O P C R) where
     grows = grows_self (caller_of h m.0).owned m.0.main.seen;
     still = λ _. refl;
     extends = extends_self (caller_of h m.0).owned m.0.main.run;
-    lawful = w.pass_view.lawful;
+    valid = w.pass_view.valid;
     has = refl;
   }
 
@@ -191,17 +191,17 @@ module _ {O P C R : Type 0} (meaning : Ghosts O P C R) where
 
 module _ {O P C R : Type 0} (meaning : Ghosts O P C R) where
   -- a lawful log stays so with one event more of a CPU of the cell, if it is legal and within the limit
-  pub lawful_push : (h : Cell O P C R) (log : List (Event O P C R)) (e : Event O P C R) (x : History O P C R) → Lawful meaning h log → e.cpu < h.numbers → IsKept meaning x → x.params ≡ h.params → x.limit ≡ h.limit → x.log ≡ log ++ e ∷ [] → Lawful meaning h x.log
-  lawful_push h log e x lawful below kept params limit is =
+  pub valid_push : (h : Cell O P C R) (log : List (Event O P C R)) (e : Event O P C R) (x : History O P C R) → Lawful meaning h log → e.cpu < h.numbers → IsKept meaning x → x.params ≡ h.params → x.limit ≡ h.limit → x.log ≡ log ++ e ∷ [] → Lawful meaning h x.log
+  valid_push h log e x valid below kept params limit is =
       let since = drop (length h.opening) log in
-      let front : log ≡ h.opening ++ since = begins_rest h.opening log lawful.begins in
+      let front : log ≡ h.opening ++ since = begins_rest h.opening log valid.begins in
       let whole : log ++ e ∷ [] ≡ h.opening ++ (since ++ e ∷ []) = ap (λ l. l ++ e ∷ []) front ∙ append_assoc h.opening since (e ∷ []) in
       record {
-        begins = subst (Begins h.opening) (sym is) (begins_more h.opening log (e ∷ []) lawful.begins);
+        begins = subst (Begins h.opening) (sym is) (begins_more h.opening log (e ∷ []) valid.begins);
         legal = subst (λ p. Legal meaning p x.log) params kept.legal;
         within = subst (λ n. length x.log ≤ n) limit kept.within;
         numbered = subst (λ l. AllByRecursion (λ (d : Event O P C R). d.cpu < h.numbers) (drop (length h.opening) l)) (sym (is ∙ whole))
-            (subst (AllByRecursion (λ (d : Event O P C R). d.cpu < h.numbers)) (sym (drop-append_seam h.opening (since ++ e ∷ []))) (all_push (λ (d : Event O P C R). d.cpu < h.numbers) since e lawful.numbered below));
+            (subst (AllByRecursion (λ (d : Event O P C R). d.cpu < h.numbers)) (sym (drop-append_seam h.opening (since ++ e ∷ []))) (all_push (λ (d : Event O P C R). d.cpu < h.numbers) since e valid.numbered below));
       }
 
   pub added_push : (cpu : ℕ) (a b : List (Event O P C R)) (e : Event O P C R) → e.cpu ≡ cpu → AddedBy cpu a b → AddedBy cpu a (b ++ e ∷ [])
@@ -225,7 +225,7 @@ module _ {O P C R : Type 0} (meaning : Ghosts O P C R) where
         added = subst (AddedBy m.0.main.cpu m.0.main.seen) (sym longer) (added_push m.0.main.cpu m.0.main.seen x.log e (sym w.at.number) w.added);
         hold_view = record {
           caller = w.hold_view.caller;
-          lawful = lawful_push h x.log e y w.hold_view.lawful below kept params limit longer;
+          valid = valid_push h x.log e y w.hold_view.valid below kept params limit longer;
           replayed = λ i. record { params = params i; limit = limit i; log = y.log; state = (kept.replayed ∙ ap (λ q. replay meaning q y.log) params) i };
         };
         ran = w.ran;
@@ -239,7 +239,7 @@ module _ {O P C R : Type 0} (meaning : Ghosts O P C R) where
 
 -- two seats, joined, at a step of the first, and split again
 module _ {O P C R : Type 0} where
-  pub halves : (q : Stage) (log : List (Event O P C R)) (run : List (Moment (Event O P C R))) (slots : List (ℕ × Option (History O P C R))) (v w : Viewed O P C R) (m' first second : Seat O P C R) → v.others ≡ [] → w.others ≡ [] → w.told ≡ v.told
+  pub halves : (q : Stage) (log : List (Event O P C R)) (run : List (TraceStep (Event O P C R))) (slots : List (ℕ × Option (History O P C R))) (v w : SeatView O P C R) (m' first second : Seat O P C R) → v.others ≡ [] → w.others ≡ [] → w.told ≡ v.told
       → m' ≡ (settled (taken_in v w) q log run, slots) → first ≡ (keeping m'.0, m'.1) → second ≡ (letting m'.0, []) → (first ≡ (settled v q log run, slots)) × (second ≡ (settled w w.main.stage log run, []))
   halves q log run slots v w m' first second alone alone' told e f s = (
     f ∙ ((λ i. (keeping (e i).0, (e i).1)) ∙ (λ i. (record { told = v.told; main = shown log run (at q v.main); others = map (shown log run) (sym alone i) }, slots))),
@@ -270,40 +270,40 @@ module _ {O P C R : Type 0} (meaning : Ghosts O P C R) where
   }
 
   -- the pass that two become
-  pub joined : (h : Cell O P C R) (p q r : ℕ) (log : List (Event O P C R)) (run : List (Moment (Event O P C R))) (m w m' m'' : Seat O P C R) → r ≡ min p q → IsWithout meaning h p Idle m → IsWithout meaning h q Idle w → m' ≡ (taken_in m.0 w.0, []) → m'' ≡ (merged m'.0 log run, m'.1) → Lawful meaning h log → HasRun h log run
+  pub joined : (h : Cell O P C R) (p q r : ℕ) (log : List (Event O P C R)) (run : List (TraceStep (Event O P C R))) (m w m' m'' : Seat O P C R) → r ≡ min p q → IsWithout meaning h p Idle m → IsWithout meaning h q Idle w → m' ≡ (taken_in m.0 w.0, []) → m'' ≡ (merged m'.0 log run, m'.1) → Lawful meaning h log → HasRun h log run
       → (m'' ≡ (merged (taken_in m.0 w.0) log run, [])) × IsWithout meaning h r Idle m''
-  joined h p q r log run m w m' m'' is one two e e' lawful ran =
+  joined h p q r log run m w m' m'' is one two e e' valid ran =
       let now : m'' ≡ (merged (taken_in m.0 w.0) log run, []) = e' ∙ (λ i. (merged (e i).0 log run, (e i).1)) in
       let number : r ≡ min m.0.main.cpu w.0.main.cpu = is ∙ (λ i. min (sym one.at.number i) (sym two.at.number i)) in (
         now,
         subst (IsWithout meaning h r Idle) (sym now) record {
           at = record { alone = refl; number = sym number; carries = refl; stands = refl; told = one.at.told };
-          pass_view = record { caller = both_callers h m.0.main.cpu w.0.main.cpu (min m.0.main.cpu w.0.main.cpu) m.0.main.owned w.0.main.owned refl one.pass_view.caller two.pass_view.caller; lawful = lawful };
+          pass_view = record { caller = both_callers h m.0.main.cpu w.0.main.cpu (min m.0.main.cpu w.0.main.cpu) m.0.main.owned w.0.main.owned refl one.pass_view.caller two.pass_view.caller; valid = valid };
           ran = ran;
         },
       )
 
   -- what two callers have seen now, beside what they had
-  pub record BothSee (h : Cell O P C R) (m w : Seat O P C R) (done : List StepDone) (log : List (Event O P C R)) (run : List (Moment (Event O P C R))) : Type 0 where
+  pub record BothSee (h : Cell O P C R) (m w : Seat O P C R) (done : List StepDone) (log : List (Event O P C R)) (run : List (TraceStep (Event O P C R))) : Type 0 where
     pub first_grows : Grows (λ y. has y m.0.main.owned) m.0.main.seen log
     pub second_grows : Grows (λ y. has y w.0.main.owned) w.0.main.seen log
     pub first_run : Extends (λ y. has y m.0.main.owned) m.0.main.run (silently m.0.main.cpu done) run
     pub second_run : Extends (λ y. has y w.0.main.owned) w.0.main.run [] run
-    pub lawful : Lawful meaning h log
+    pub valid : Lawful meaning h log
     pub ran : HasRun h log run
 
-  both_see : (h : Cell O P C R) (m w m1 : Seat O P C R) (done : List StepDone) (log : List (Event O P C R)) (run : List (Moment (Event O P C R))) → m.0.told ≡ h ∷ [] → m1 ≡ (taken_in m.0 w.0, m.1) → Learns meaning m1.0 (silently m1.0.main.cpu done) log run → BothSee h m w done log run
+  both_see : (h : Cell O P C R) (m w m1 : Seat O P C R) (done : List StepDone) (log : List (Event O P C R)) (run : List (TraceStep (Event O P C R))) → m.0.told ≡ h ∷ [] → m1 ≡ (taken_in m.0 w.0, m.1) → Learns meaning m1.0 (silently m1.0.main.cpu done) log run → BothSee h m w done log run
   both_see h m w m1 done log run told e learns =
       let l : Learns meaning (taken_in m.0 w.0) (silently m.0.main.cpu done) log run = subst (λ (z : Seat O P C R). Learns meaning z.0 (silently z.0.main.cpu done) log run) e learns in
-      record { first_grows = l.grows; second_grows = l.others.0.0; first_run = l.extends; second_run = l.others.0.1; lawful = l.lawful h told; ran = l.ran h told }
+      record { first_grows = l.grows; second_grows = l.others.0.0; first_run = l.extends; second_run = l.others.0.1; valid = l.valid h told; ran = l.ran h told }
 
   -- two passes that met
-  pub record Met (h : Cell O P C R) (m w m' w' : Seat O P C R) (log : List (Event O P C R)) (run : List (Moment (Event O P C R))) : Type 0 where
+  pub record Met (h : Cell O P C R) (m w m' w' : Seat O P C R) (log : List (Event O P C R)) (run : List (TraceStep (Event O P C R))) : Type 0 where
     pub first : m' ≡ (settled m.0 Idle log run, [])
     pub second : w' ≡ (settled w.0 Idle log run, [])
     pub see : BothSee h m w [] log run
 
-  pub met : (h : Cell O P C R) (p q : ℕ) (log : List (Event O P C R)) (run : List (Moment (Event O P C R))) (m w m1 m2 m' w' : Seat O P C R) → IsWithout meaning h p Idle m → IsWithout meaning h q Idle w → m1 ≡ (taken_in m.0 w.0, m.1) → m2 ≡ (settled m1.0 m1.0.main.stage log run, m1.1) → Learns meaning m1.0 [] log run
+  pub met : (h : Cell O P C R) (p q : ℕ) (log : List (Event O P C R)) (run : List (TraceStep (Event O P C R))) (m w m1 m2 m' w' : Seat O P C R) → IsWithout meaning h p Idle m → IsWithout meaning h q Idle w → m1 ≡ (taken_in m.0 w.0, m.1) → m2 ≡ (settled m1.0 m1.0.main.stage log run, m1.1) → Learns meaning m1.0 [] log run
       → m' ≡ (keeping m2.0, m2.1) → w' ≡ (letting m2.0, []) → Met h m w m' w' log run
   met h p q log run m w m1 m2 m' w' one two e e' learns f s =
       let now : m2 ≡ (settled (taken_in m.0 w.0) Idle log run, []) = e' ∙ ((λ i. (settled (e i).0 (e i).0.main.stage log run, (e i).1)) ∙ (λ i. (settled (taken_in m.0 w.0) (one.at.stands i) log run, one.at.carries i))) in
@@ -312,7 +312,7 @@ module _ {O P C R : Type 0} (meaning : Ghosts O P C R) where
 
   -- a look by two callers together that took the object
   pub record TookLast (h : Cell O P C R) (q : Stage) (done : List StepDone) (x : History O P C R) (m w m' w' : Seat O P C R) : Type 0 where
-    pub run : List (Moment (Event O P C R))
+    pub run : List (TraceStep (Event O P C R))
     pub first : m' ≡ (settled m.0 q x.log run, (0, None) ∷ [])
     pub second : w' ≡ (settled w.0 Idle x.log run, [])
     pub see : BothSee h m w done x.log run

@@ -7,7 +7,7 @@ use Rattle.event_log.specs.Distinct.{has}
 use Rattle.word_rule.specs.declared.lock_kind.Stage.TheVariants.{Idle}
 use Rattle.word_rule.specs.Cell.{Cell, Lawful, EachAt, opening_pass}
 use Rattle.word_rule.specs.Locks.{Fits}
-use Rattle.word_rule.specs.Rule.CellInvariant.{Viewed}
+use Rattle.word_rule.specs.Rule.CellInvariant.{SeatView}
 use Rattle.word_rule.specs.Rule.Seats.{Seat, idle, idle_from, keeping, letting}
 use Rattle.word_rule.specs.Rule.Callers.{pass_view_of, IsWithout}
 use Rattle.word_rule.proofs.Lists.{has_one, or_none}
@@ -15,11 +15,11 @@ use Rattle.word_rule.proofs.Runs.{no_run}
 
 module _ {O P C R : Type 0} where
   -- the first seat, where the callers below k have gone
-  abbrev pub undealt : Cell O P C R → ℕ → Viewed O P C R
+  abbrev pub undealt : Cell O P C R → ℕ → SeatView O P C R
   undealt h k = record { told = h ∷ []; main = idle 0 [] [] []; others = idle_from k (h.numbers - k) h.opening }
 
   -- the seat of caller k
-  abbrev pub one_of : Cell O P C R → ℕ → Viewed O P C R
+  abbrev pub one_of : Cell O P C R → ℕ → SeatView O P C R
   one_of h k = record { told = h ∷ []; main = idle k (k ∷ []) h.opening []; others = [] }
 
   next : (h : Cell O P C R) (k : ℕ) → k < h.numbers → idle_from k (h.numbers - k) h.opening ≡ idle k (k ∷ []) h.opening [] ∷ idle_from (k + 1) (h.numbers - (k + 1)) h.opening
@@ -39,11 +39,11 @@ swap k j = grind (arith, nat_tests)
 
 module _ {O P C R : Type 0} (meaning : Ghosts O P C R) where
   pub one_rests : (h told : Cell O P C R) (k : ℕ) (m : Seat O P C R) → told ≡ h → k < h.numbers → Fits h.kind h.numbers → Lawful meaning h h.opening → m ≡ (one_of h k, []) → IsWithout meaning told k Idle m
-  one_rests h told k m is below fits lawful e = subst (λ (z : Cell O P C R × Seat O P C R). IsWithout meaning z.0 k Idle z.1) (λ i. (sym is i, sym e i)) record {
+  one_rests h told k m is below fits valid e = subst (λ (z : Cell O P C R × Seat O P C R). IsWithout meaning z.0 k Idle z.1) (λ i. (sym is i, sym e i)) record {
     at = record { alone = refl; number = refl; carries = refl; stands = refl; told = refl };
     pass_view = record {
       caller = record { acts = grind (arith, nat_tests); least = λ x hx. let same = has_one x k hx in omega arith; below = λ x hx. let same = has_one x k hx in omega arith };
-      lawful = lawful;
+      valid = valid;
     };
     ran = no_run h fits;
   }

@@ -14,17 +14,17 @@ use Rattle.event_log.specs.History.{History, IsKept}
 use Rattle.event_log.proofs.Beginnings.{begins_self}
 use Rattle.sound_run.specs.declared.lock_kind.LockKind.{LockKind}
 use Rattle.word_rule.specs.declared.lock_kind.Stage.TheVariants.{Idle}
-use Rattle.word_rule.specs.declared.view.Moment.{Moment}
+use Rattle.word_rule.specs.declared.view.TraceStep.{TraceStep}
 use Rattle.word_rule.specs.Cell.{Cell, cell_of, Lawful, OwnsAll, IsPassView, stored}
 use Rattle.word_rule.specs.LockRuns.{lock_after, arrivals_in, endings_in}
 use Rattle.word_rule.specs.Locks.{opening_lock}
 use Rattle.word_rule.specs.Rule.LockStates.{IsLockOf}
-use Rattle.word_rule.specs.Rule.CellInvariant.{GhostState, Viewed, Table, EachFrom, CallerInvariant, SeatInvariant, CellInvariant}
+use Rattle.word_rule.specs.Rule.CellInvariant.{GhostState, SeatView, Table, EachFrom, CallerInvariant, SeatInvariant, CellInvariant}
 use Rattle.word_rule.specs.Rule.Seats.{Seat, idle_from, first_view}
 use Rattle.word_rule.specs.Rule.Callers.{caller_of, pass_view_of, IsWithout}
 use Rattle.word_rule.proofs.Lists.{has_one, grows_self, same_log, of_opening}
 use Rattle.word_rule.proofs.Known.{all_idle}
-use Rattle.word_rule.proofs.LockLaws.{fits, idle_home, idle_empty, opens_plainly, plain_cpus}
+use Rattle.word_rule.proofs.LockLaws.{fits, idle_home, idle_empty, opens_erased, erased_cpus}
 use Rattle.word_rule.proofs.RunLists.{extends_self, same_run, all_inside}
 use Rattle.word_rule.proofs.RunOrder.{all_ended}
 use Rattle.word_rule.proofs.Runs.{no_run}
@@ -63,14 +63,14 @@ module _ {O P C R : Type 0} (h : Cell O P C R) (kind : LockKind) (first : ℕ) w
     others = known 0 h.numbers (omega arith);
   }
 
-  one : (j : ℕ) (u : Viewed O P C R) → get_elem? (first_view h ∷ []) j ≡ some u → SeatInvariant h start j u
+  one : (j : ℕ) (u : SeatView O P C R) → get_elem? (first_view h ∷ []) j ≡ some u → SeatInvariant h start j u
   one zero u e = subst (SeatInvariant h start 0) (some-injective (first_view h) u e) mine
   one (suc j) u e = absurd (some-ne-none u (sym e))
 
 module _ {O P C R : Type 0} (meaning : Ghosts O P C R) where
   -- the opening log is lawful for the cell
-  pub opens_lawful : (k : LockKind) (f : ℕ) (x : History O P C R) (n : ℕ) → IsKept meaning x → Lawful meaning (cell_of k f n x) x.log
-  opens_lawful k f x n kept = record {
+  pub opens_valid : (k : LockKind) (f : ℕ) (x : History O P C R) (n : ℕ) → IsKept meaning x → Lawful meaning (cell_of k f n x) x.log
+  opens_valid k f x n kept = record {
     begins = begins_self x.log;
     legal = kept.legal;
     within = kept.within;
@@ -87,19 +87,19 @@ module _ {O P C R : Type 0} (meaning : Ghosts O P C R) (kind : LockKind) where
     state = start (cell_of kind first n x) kind first;
     tied = tied;
     ran = no_run (cell_of kind first n x) (fits n (opening_lock kind first) tied.state);
-    made = record { plainly = λ f. opens_plainly kind first f; counts = refl };
-    lawful = opens_lawful meaning kind first x n kept;
+    made = record { erased = λ f. opens_erased kind first f; counts = refl };
+    valid = opens_valid meaning kind first x n kept;
     at_home = λ _. ap (λ z. some (some (Some z))) (opens_stored meaning kind first x n kept);
     each = one (cell_of kind first n x) kind first;
   }
 
   -- what the end of a cell finds where a pass has each number: the object at home, the log and the run that the pass has seen,
   -- and nobody in line
-  pub record IsDone (h : Cell O P C R) (v : Viewed O P C R) (s : Table O P C R) : Type 0 where
+  pub record IsDone (h : Cell O P C R) (v : SeatView O P C R) (s : Table O P C R) : Type 0 where
     pub home : get_elem? s.homes 0 ≡ some (some (Some (stored meaning h v.main.seen)))
     pub ended : endings_in v.main.run ≡ arrivals_in v.main.run
 
-  pub closing : (h : Cell O P C R) (id : ℕ) (v : Viewed O P C R) (s : Table O P C R) → CellInvariant meaning kind h s → get_elem? s.views id ≡ some v → v.main.stage ≡ Idle → IsPassView meaning (pass_view_of h v) → OwnsAll (caller_of h v) → h.kind ≡ kind → IsDone h v s
+  pub closing : (h : Cell O P C R) (id : ℕ) (v : SeatView O P C R) (s : Table O P C R) → CellInvariant meaning kind h s → get_elem? s.views id ≡ some v → v.main.stage ≡ Idle → IsPassView meaning (pass_view_of h v) → OwnsAll (caller_of h v) → h.kind ≡ kind → IsDone h v s
   closing h id v s r there rests part all kind_is =
       let b = r.state in
       let know = r.each id v there in
@@ -107,12 +107,12 @@ module _ {O P C R : Type 0} (meaning : Ghosts O P C R) (kind : LockKind) where
       let home = idle_home h.numbers b.lock r.tied.state idle in
       let same = same_log v.main.seen b.committed know.main.grows.begins (λ z. dite (dec_lt z h.numbers)
       (λ below. know.main.grows.own z (all.each z below))
-      (λ not. of_opening z h.numbers b.committed h.opening (omega arith) r.lawful.begins r.lawful.numbered ∙ sym (of_opening z h.numbers v.main.seen h.opening (omega arith) part.lawful.begins part.lawful.numbered))) in
+      (λ not. of_opening z h.numbers b.committed h.opening (omega arith) r.valid.begins r.valid.numbered ∙ sym (of_opening z h.numbers v.main.seen h.opening (omega arith) part.valid.begins part.valid.numbered))) in
       let whole = same_run h.numbers (λ x. has x v.main.owned) v.main.run b.run know.main.extends all.each (all_inside h.numbers b.run r.ran.each) in
-      let none : (lock_after b.run (opening_lock h.kind 0)).line.cpus ≡ [] = sym (plain_cpus b.lock (lock_after b.run (opening_lock h.kind 0)) (r.made.plainly 0)) ∙ idle_empty h.numbers b.lock r.tied.state idle in
+      let none : (lock_after b.run (opening_lock h.kind 0)).line.cpus ≡ [] = sym (erased_cpus b.lock (lock_after b.run (opening_lock h.kind 0)) (r.made.erased 0)) ∙ idle_empty h.numbers b.lock r.tied.state idle in
       record {
         home = r.at_home home ∙ ap (λ l. some (some (Some (stored meaning h l)))) same;
-        ended = subst (λ (run : List (Moment (Event O P C R))). endings_in run ≡ arrivals_in run) whole (all_ended h b.committed b.run r.ran none);
+        ended = subst (λ (run : List (TraceStep (Event O P C R))). endings_in run ≡ arrivals_in run) whole (all_ended h b.committed b.run r.ran none);
       }
 
   pub ended : (h : Cell O P C R) (id cpu : ℕ) (m : Seat O P C R) (ws : List ℕ) (xs : List (Option (History O P C R))) (slot : Option (History O P C R)) → IsWithout meaning h cpu Idle m → OwnsAll (caller_of h m.0) → h.kind ≡ kind

@@ -7,9 +7,9 @@ use Rattle.event_log.specs.declared.event.Event.{Event}
 use Rattle.event_log.specs.declared.entry.Todo.{Todo}
 use Rattle.event_log.specs.Log.{Begins}
 use Rattle.event_log.proofs.Beginnings.{begins_self, begins_append, begins_cons}
-use Rattle.word_rule.specs.declared.view.Moment.{Moment}
+use Rattle.word_rule.specs.declared.view.TraceStep.{TraceStep}
 use Rattle.word_rule.specs.Cell.{Cell}
-use Rattle.word_rule.specs.LockRuns.{events_in, IsMoment, HasRun, endings_in}
+use Rattle.word_rule.specs.LockRuns.{events_in, IsTraceStep, HasRun, endings_in}
 use Rattle.word_rule.specs.Replay.{DoesRun, AllDoRun}
 use Rattle.word_rule.specs.StepKinds.{ends_hold}
 
@@ -19,7 +19,7 @@ module _ {O P C R : Type 0} (n limit : ℕ) where
   One log events = ((e : Event O P C R) × (events ≡ e ∷ [])) ⊎ ((events ≡ []) × (length log ≡ limit))
 
   -- each step that ends a hold left one event in the log so far, or none where that was full
-  abbrev LeftOne : List (Event O P C R) → List (Moment (Event O P C R)) → Type 0
+  abbrev LeftOne : List (Event O P C R) → List (TraceStep (Event O P C R)) → Type 0
   LeftOne log [] = Unit {0}
   LeftOne log (m ∷ ms) = (ends_hold m.step ≡ true → One log m.events) × LeftOne (log ++ m.events) ms
 
@@ -27,7 +27,7 @@ module _ {O P C R : Type 0} (n limit : ℕ) where
   cpus_of es = map (λ e. e.cpu) es
 
   -- the events of a step that ended a hold, and all that came behind it
-  module _ (log : List (Event O P C R)) (m : Moment (Event O P C R)) (later : List (Event O P C R)) (is : IsMoment n m) where
+  module _ (log : List (Event O P C R)) (m : TraceStep (Event O P C R)) (later : List (Event O P C R)) (is : IsTraceStep n m) where
     none_first : m.events ≡ [] → cpus_of (m.events ++ later) ≡ cpus_of later
     none_first none = ap (λ es. cpus_of (es ++ later)) none
 
@@ -42,7 +42,7 @@ module _ {O P C R : Type 0} (n limit : ℕ) where
         by [] none = refl
         by (e ∷ es) none = absurd (omega (arith, none))
 
-  begins_by_ends : (log : List (Event O P C R)) (ms : List (Moment (Event O P C R))) → AllByRecursion (IsMoment n) ms → LeftOne log ms → length (log ++ events_in ms) ≤ limit → Begins (cpus_of (events_in ms)) (endings_in ms)
+  begins_by_ends : (log : List (Event O P C R)) (ms : List (TraceStep (Event O P C R))) → AllByRecursion (IsTraceStep n) ms → LeftOne log ms → length (log ++ events_in ms) ≤ limit → Begins (cpus_of (events_in ms)) (endings_in ms)
   begins_by_ends log [] all one fits = begins_self []
   begins_by_ends log (m ∷ ms) all one fits = by (ends_hold m.step) refl (begins_by_ends (log ++ m.events) ms all.1 one.1 (subst (λ l. length l ≤ limit) (sym (append_assoc log m.events (events_in ms))) fits))
     where
@@ -53,7 +53,7 @@ module _ {O P C R : Type 0} (n limit : ℕ) where
           (λ (e : (m.events ≡ []) × (length log ≡ limit)). subst (λ l. Begins l (m.cpu ∷ endings_in ms)) (sym (full_last log m (events_in ms) all.0 fits e.1)) (begins_append [] (m.cpu ∷ endings_in ms)))
           (one.0 ends)
 
-  same_as_ends : (log : List (Event O P C R)) (ms : List (Moment (Event O P C R))) → AllByRecursion (IsMoment n) ms → LeftOne log ms → length (log ++ events_in ms) < limit → cpus_of (events_in ms) ≡ endings_in ms
+  same_as_ends : (log : List (Event O P C R)) (ms : List (TraceStep (Event O P C R))) → AllByRecursion (IsTraceStep n) ms → LeftOne log ms → length (log ++ events_in ms) < limit → cpus_of (events_in ms) ≡ endings_in ms
   same_as_ends log [] all one fits = refl
   same_as_ends log (m ∷ ms) all one fits = by (ends_hold m.step) refl (same_as_ends (log ++ m.events) ms all.1 one.1 (subst (λ l. length l < limit) (sym (append_assoc log m.events (events_in ms))) fits))
     where
@@ -66,19 +66,19 @@ module _ {O P C R : Type 0} (n limit : ℕ) where
 
 module _ {O P C R : Type 0} (meaning : Ghosts O P C R) where
   -- a CPU does the run by some script
-  record Plays (cpu limit : ℕ) (log : List (Event O P C R)) (ms : List (Moment (Event O P C R))) : Type 0 where
+  record Plays (cpu limit : ℕ) (log : List (Event O P C R)) (ms : List (TraceStep (Event O P C R))) : Type 0 where
     script : List (Todo O P C R)
     rest : List (Todo O P C R)
     does : DoesRun meaning cpu limit log ms script rest
 
-  left_one : (n limit : ℕ) (log : List (Event O P C R)) (ms : List (Moment (Event O P C R))) → AllByRecursion (IsMoment n) ms → ((i : ℕ) → i < n → Plays i limit log ms) → LeftOne n limit log ms
+  left_one : (n limit : ℕ) (log : List (Event O P C R)) (ms : List (TraceStep (Event O P C R))) → AllByRecursion (IsTraceStep n) ms → ((i : ℕ) → i < n → Plays i limit log ms) → LeftOne n limit log ms
   left_one n limit log [] all each = tt
   left_one n limit log (m ∷ ms) all each = (
     λ ends. ⊎_elim (λ one. inl (one.0, one.1)) inr (((each m.cpu all.0.inside).does.1 refl).ended ends).0,
     left_one n limit (log ++ m.events) ms all.1 (λ i lt. let p = each i lt in record { script = p.does.0; rest = p.rest; does = p.does.3 }),
   )
 
-  module _ (h : Cell O P C R) (log : List (Event O P C R)) (run : List (Moment (Event O P C R))) (script rest : ℕ → List (Todo O P C R)) (ran : HasRun h log run) (all : AllDoRun meaning h run script rest) where
+  module _ (h : Cell O P C R) (log : List (Event O P C R)) (run : List (TraceStep (Event O P C R))) (script rest : ℕ → List (Todo O P C R)) (ran : HasRun h log run) (all : AllDoRun meaning h run script rest) where
     one : LeftOne h.numbers h.limit h.opening run
     one = left_one h.numbers h.limit h.opening run ran.each (λ i lt. record { script = script i; rest = rest i; does = all i lt })
 

@@ -8,7 +8,7 @@ use Rattle.event_log.specs.declared.event.Event.{Event}
 use Rattle.event_log.specs.declared.entry.Todo.{Todo}
 use Rattle.event_log.proofs.Beginnings.{begins_rest}
 use Rattle.word_rule.specs.declared.machine.step_done.StepDone.{StepDone}
-use Rattle.word_rule.specs.declared.view.Moment.{Moment}
+use Rattle.word_rule.specs.declared.view.TraceStep.{TraceStep}
 use Rattle.word_rule.specs.Cell.{Caller}
 use Rattle.word_rule.specs.Holds.{Leaves, HasHeldEach}
 use Rattle.word_rule.specs.LockRuns.{by_cpu, events_in, Extends}
@@ -19,12 +19,12 @@ use Rattle.word_rule.proofs.OneHolds.{count_append}
 use Rattle.word_rule.proofs.RunLists.{by_append, by_other, same_front, silent_own}
 
 -- the step ends no hold
-abbrev EndsNone : {E : Type 0} → Moment E → Type 0
+abbrev EndsNone : {E : Type 0} → TraceStep E → Type 0
 EndsNone m = ends_hold m.step ≡ false
 
-module _ {E : Type 0} (P : Moment E → Type 0) (k : ℕ) where
-  -- what holds of all moments holds of those of a CPU
-  all_by : (ms : List (Moment E)) → AllByRecursion P ms → AllByRecursion P (by_cpu k ms)
+module _ {E : Type 0} (P : TraceStep E → Type 0) (k : ℕ) where
+  -- what holds of all steps holds of those of a CPU
+  all_by : (ms : List (TraceStep E)) → AllByRecursion P ms → AllByRecursion P (by_cpu k ms)
   all_by [] all = tt
   all_by (m ∷ ms) all = by (m.cpu == k) (all_by ms all.1)
     where
@@ -33,7 +33,7 @@ module _ {E : Type 0} (P : Moment E → Type 0) (k : ℕ) where
       by false more = more
 
   -- and what holds of those holds of each that is the CPU's
-  all_own : (ms : List (Moment E)) → AllByRecursion P (by_cpu k ms) → AllByRecursion (λ m. m.cpu ≡ k → P m) ms
+  all_own : (ms : List (TraceStep E)) → AllByRecursion P (by_cpu k ms) → AllByRecursion (λ m. m.cpu ≡ k → P m) ms
   all_own [] all = tt
   all_own (m ∷ ms) all = ((λ own. (subst (λ b. AllByRecursion P (cond b (m ∷ by_cpu k ms) (by_cpu k ms))) (eq-eqb m.cpu k own) all).0), all_own ms (by (m.cpu == k) all))
     where
@@ -52,7 +52,7 @@ none_ends E cpu (s ∷ ss) none = by (ends_hold s) refl none (none_ends E cpu ss
 
 module _ {O P C R : Type 0} (meaning : Ghosts O P C R) (cpu limit : ℕ) where
   -- entries behind those of a script wait until these are done
-  step_before : (log : List (Event O P C R)) (m : Moment (Event O P C R)) (script rest behind : List (Todo O P C R)) → DoesStep meaning limit log m script rest → DoesStep meaning limit log m (script ++ behind) (rest ++ behind)
+  step_before : (log : List (Event O P C R)) (m : TraceStep (Event O P C R)) (script rest behind : List (Todo O P C R)) → DoesStep meaning limit log m script rest → DoesStep meaning limit log m (script ++ behind) (rest ++ behind)
   step_before log m script rest behind d = record {
     calls = d.calls;
     more = d.more ++ behind;
@@ -61,17 +61,17 @@ module _ {O P C R : Type 0} (meaning : Ghosts O P C R) (cpu limit : ℕ) where
     goes = λ not. ap (λ l. l ++ behind) (d.goes not);
   }
 
-  does_before : (log : List (Event O P C R)) (ms : List (Moment (Event O P C R))) (script rest behind : List (Todo O P C R)) → DoesRun meaning cpu limit log ms script rest → DoesRun meaning cpu limit log ms (script ++ behind) (rest ++ behind)
+  does_before : (log : List (Event O P C R)) (ms : List (TraceStep (Event O P C R))) (script rest behind : List (Todo O P C R)) → DoesRun meaning cpu limit log ms script rest → DoesRun meaning cpu limit log ms (script ++ behind) (rest ++ behind)
   does_before log [] script rest behind d = ap (λ l. l ++ behind) d
   does_before log (m ∷ ms) script rest behind d = (d.0 ++ behind, (λ own. step_before log m script d.0 behind (d.1 own)), (λ ne. ap (λ l. l ++ behind) (d.2 ne)), does_before (log ++ m.events) ms d.0 rest behind d.3)
 
   -- one run behind another
-  does_both : (log : List (Event O P C R)) (a b : List (Moment (Event O P C R))) (script mid rest : List (Todo O P C R)) → DoesRun meaning cpu limit log a script mid → DoesRun meaning cpu limit (log ++ events_in a) b mid rest → DoesRun meaning cpu limit log (a ++ b) script rest
+  does_both : (log : List (Event O P C R)) (a b : List (TraceStep (Event O P C R))) (script mid rest : List (Todo O P C R)) → DoesRun meaning cpu limit log a script mid → DoesRun meaning cpu limit (log ++ events_in a) b mid rest → DoesRun meaning cpu limit log (a ++ b) script rest
   does_both log [] b script mid rest d e = subst (λ (z : List (Event O P C R) × List (Todo O P C R)). DoesRun meaning cpu limit z.0 b z.1 rest) (λ i. (append-nil log i, sym d i)) e
   does_both log (m ∷ ms) b script mid rest d e = (d.0, d.1, d.2, does_both (log ++ m.events) ms b d.0 mid rest d.3 (subst (λ l. DoesRun meaning cpu limit l b mid rest) (sym (append_assoc log m.events (events_in ms))) e))
 
   -- steps of the CPU that end no hold, by its first entry
-  does_quietly : (log : List (Event O P C R)) (ms : List (Moment (Event O P C R))) (calls : List C) (more : List (Todo O P C R)) → AllByRecursion (λ m. m.cpu ≡ cpu → EndsNone m) ms → DoesRun meaning cpu limit log ms (todo_of calls ∷ more) (todo_of calls ∷ more)
+  does_quietly : (log : List (Event O P C R)) (ms : List (TraceStep (Event O P C R))) (calls : List C) (more : List (Todo O P C R)) → AllByRecursion (λ m. m.cpu ≡ cpu → EndsNone m) ms → DoesRun meaning cpu limit log ms (todo_of calls ∷ more) (todo_of calls ∷ more)
   does_quietly log [] calls more quiet = refl
   does_quietly log (m ∷ ms) calls more quiet = (
     todo_of calls ∷ more,
@@ -81,7 +81,7 @@ module _ {O P C R : Type 0} (meaning : Ghosts O P C R) (cpu limit : ℕ) where
   )
 
   -- steps of other CPUs
-  does_nothing : (log : List (Event O P C R)) (ms : List (Moment (Event O P C R))) (script : List (Todo O P C R)) → AllByRecursion (λ m. m.cpu ≡ cpu → ⊥) ms → DoesRun meaning cpu limit log ms script script
+  does_nothing : (log : List (Event O P C R)) (ms : List (TraceStep (Event O P C R))) (script : List (Todo O P C R)) → AllByRecursion (λ m. m.cpu ≡ cpu → ⊥) ms → DoesRun meaning cpu limit log ms script script
   does_nothing log [] script none = refl
   does_nothing log (m ∷ ms) script none = (script, (λ own. absurd (none.0 own)), (λ _. refl), does_nothing (log ++ m.events) ms script none.1)
 
@@ -102,28 +102,28 @@ module _ {O P C R : Type 0} (caller : Caller O P C R) (k : ℕ) where
       by false = refl
 
 module _ {O P C R : Type 0} (meaning : Ghosts O P C R) (caller : Caller O P C R) (k : ℕ) (owns : caller.owned k ≡ true) where
-  abbrev Plays : List (Moment (Event O P C R)) → List (Todo O P C R) → List (Todo O P C R) → Type 0
+  abbrev Plays : List (TraceStep (Event O P C R)) → List (Todo O P C R) → List (Todo O P C R) → Type 0
   Plays run script rest = DoesRun meaning k caller.cell.limit caller.cell.opening run script rest
 
   -- what came since, of that CPU
-  since : (a added b : List (Moment (Event O P C R))) → Extends caller.owned a added b → by_cpu k added ≡ by_cpu k (drop (length a) b)
+  since : (a added b : List (TraceStep (Event O P C R))) → Extends caller.owned a added b → by_cpu k added ≡ by_cpu k (drop (length a) b)
   since a added b e = same_front (by_cpu k a) (by_cpu k added) (by_cpu k (drop (length a) b)) (sym (by_append k a added) ∙ (sym (e.own k owns) ∙ (ap (by_cpu k) (begins_rest a b e.begins) ∙ by_append k a (drop (length a) b))))
 
   -- a CPU of the caller that did none of the steps
-  played_beside : (a added b : List (Moment (Event O P C R))) (script : List (Todo O P C R)) → Extends caller.owned a added b → by_cpu k added ≡ [] → Plays a script [] → Plays b script []
+  played_beside : (a added b : List (TraceStep (Event O P C R))) (script : List (Todo O P C R)) → Extends caller.owned a added b → by_cpu k added ≡ [] → Plays a script [] → Plays b script []
   played_beside a added b script e none d =
-      let more : List (Moment (Event O P C R)) = drop (length a) b in
+      let more : List (TraceStep (Event O P C R)) = drop (length a) b in
       let others = all_own (λ _. ⊥) k more (subst (AllByRecursion (λ _. ⊥)) (sym none ∙ since a added b e) tt) in
       subst (λ run. Plays run script []) (sym (begins_rest a b e.begins)) (does_both meaning k caller.cell.limit caller.cell.opening a more script [] [] d (does_nothing meaning k caller.cell.limit (caller.cell.opening ++ events_in a) more [] others))
 
-  module _ (before after : List (Moment (Event O P C R))) (looks : ℕ) (calls : List C) (events : List (Event O P C R)) (had : List (Todo O P C R)) (h : HasHeld caller before looks events after) where
-    abbrev front : List (Moment (Event O P C R))
+  module _ (before after : List (TraceStep (Event O P C R))) (looks : ℕ) (calls : List C) (events : List (Event O P C R)) (had : List (Todo O P C R)) (h : HasHeld caller before looks events after) where
+    abbrev front : List (TraceStep (Event O P C R))
     front = h.extends.before
 
-    abbrev steps : List (Moment (Event O P C R))
+    abbrev steps : List (TraceStep (Event O P C R))
     steps = silently caller.acting (h.got ++ h.done)
 
-    abbrev last : Moment (Event O P C R)
+    abbrev last : TraceStep (Event O P C R)
     last = leaving caller.acting h.last events
 
     unended : how_many ends_hold (h.got ++ h.done) ≡ 0
@@ -134,7 +134,7 @@ module _ {O P C R : Type 0} (meaning : Ghosts O P C R) (caller : Caller O P C R)
     held_own is leaves d =
         let l : ℕ = caller.cell.limit in
         let log : List (Event O P C R) = caller.cell.opening in
-        let more : List (Moment (Event O P C R)) = drop (length before) front in
+        let more : List (TraceStep (Event O P C R)) = drop (length before) front in
         let one : List (Todo O P C R) = todo_of calls ∷ [] in
         let quiet = all_own EndsNone k more (subst (AllByRecursion EndsNone) (since before steps front h.extends.extends) (all_by EndsNone k steps (none_ends (Event O P C R) caller.acting (h.got ++ h.done) unended))) in
         let waits : Plays before (had ++ one) one = does_before meaning k l log before had [] one d in
@@ -159,7 +159,7 @@ module _ {O P C R : Type 0} (meaning : Ghosts O P C R) (caller : Caller O P C R)
         (λ ne. subst (λ b. Plays after (had ++ cond b (todo_of calls ∷ []) []) []) (sym (ne_eqb k caller.acting (λ is. ne (sym is)))) (subst (λ l. Plays after l []) (sym (append-nil had)) (held_other ne d)))
 
   -- all holds, one after another
-  pub holds_played : (before after : List (Moment (Event O P C R))) (groups : List (List C)) (had : List (Todo O P C R)) → HasHeldEach meaning caller before groups after → Plays before had [] → Plays after (had ++ entries_for caller k groups) []
+  pub holds_played : (before after : List (TraceStep (Event O P C R))) (groups : List (List C)) (had : List (Todo O P C R)) → HasHeldEach meaning caller before groups after → Plays before had [] → Plays after (had ++ entries_for caller k groups) []
   holds_played before after [] had e d = subst (λ l. Plays after l []) (sym (append-nil had) ∙ ap (λ l. had ++ l) (sym (entries_none caller k))) (played_beside before [] after had e refl d)
   holds_played before after (calls ∷ groups) had t d =
       let first : List (Todo O P C R) = entries_for caller k (calls ∷ []) in

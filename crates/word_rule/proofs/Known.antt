@@ -19,11 +19,11 @@ use Rattle.sound_run.specs.declared.lock_kind.LockKind.{LockKind}
 use Rattle.word_rule.specs.declared.machine.step_done.StepDone.{StepDone}
 use Rattle.word_rule.specs.declared.lock_kind.Stage.{Stage}
 use Rattle.word_rule.specs.declared.lock_kind.Stage.TheVariants.{Idle}
-use Rattle.word_rule.specs.declared.view.Moment.{Moment}
+use Rattle.word_rule.specs.declared.view.TraceStep.{TraceStep}
 use Rattle.word_rule.specs.Cell.{Cell, Grows, Lawful, stored}
 use Rattle.word_rule.specs.LockRuns.{Extends, HasRun}
 use Rattle.word_rule.specs.OneHold.{leaving, silently}
-use Rattle.word_rule.specs.Rule.CellInvariant.{GhostState, Caller, Viewed, Table, EachFrom, CallerInvariant, SeatInvariant, CellInvariant, callers_in}
+use Rattle.word_rule.specs.Rule.CellInvariant.{GhostState, Caller, SeatView, Table, EachFrom, CallerInvariant, SeatInvariant, CellInvariant, callers_in}
 use Rattle.word_rule.specs.Rule.Seats.{Seat, moved_on, settled}
 use Rattle.word_rule.specs.Rule.Announced.{any_has, Lacks, IsElse, Learns, Goes, Gets, Left, Returns}
 use Rattle.word_rule.proofs.Lists.{each_at}
@@ -36,7 +36,7 @@ pub all_idle : {O P C R : Type 0} (n : ℕ) (b : GhostState O P C R) (j k : ℕ)
 all_idle n b j k c s is x hx = dite (ℕ_discrete x c.cpu) (λ e. ap b.lock.line.stage e ∙ (s.stands (subst (λ (z : ℕ). has z c.owned ≡ true) e hx) ∙ is)) (λ ne. s.rests x hx ne)
 
 -- what the rule says of a seat it says of each of its callers
-pub caller_known : {O P C R : Type 0} (h : Cell O P C R) (b : GhostState O P C R) (j k : ℕ) (v : Viewed O P C R) (c : Caller O P C R) → SeatInvariant h b j v → get_elem? (callers_in v) k ≡ some c → CallerInvariant h.numbers b j k c
+pub caller_known : {O P C R : Type 0} (h : Cell O P C R) (b : GhostState O P C R) (j k : ℕ) (v : SeatView O P C R) (c : Caller O P C R) → SeatInvariant h b j v → get_elem? (callers_in v) k ≡ some c → CallerInvariant h.numbers b j k c
 caller_known h b j k v c mine there = let same : 0 + k ≡ k = omega arith in subst (λ z. CallerInvariant h.numbers b j z c) same (each_at (CallerInvariant h.numbers b j) 0 (callers_in v) k c (mine.main, mine.others) there)
 
 module _ {O P C R : Type 0} where
@@ -58,7 +58,7 @@ module _ {O P C R : Type 0} (meaning : Ghosts O P C R) (kind : LockKind) (h : Ce
   abbrev pub Rule : Table O P C R → Type 0
   Rule = CellInvariant meaning kind h
 
-  pub same_cell : (b : GhostState O P C R) (id : ℕ) (v : Viewed O P C R) (g : Cell O P C R) → SeatInvariant h b id v → v.told ≡ g ∷ [] → g ≡ h
+  pub same_cell : (b : GhostState O P C R) (id : ℕ) (v : SeatView O P C R) (g : Cell O P C R) → SeatInvariant h b id v → v.told ≡ g ∷ [] → g ≡ h
   same_cell b id v g mine is = (subst (λ l. EachFrom (λ _ y. y ≡ h) 0 l) is mine.told).0
 
   learn_each : (b : GhostState O P C R) (j k : ℕ) (cs : List (Caller O P C R)) → EachFrom (CallerInvariant h.numbers b j) k cs → EachFrom (λ _ c. Grows (λ x. has x c.owned) c.seen b.committed × Extends (λ x. has x c.owned) c.run [] b.run) k cs
@@ -66,16 +66,16 @@ module _ {O P C R : Type 0} (meaning : Ghosts O P C R) (kind : LockKind) (h : Ce
   learn_each b j k (c ∷ cs) know = ((know.0.grows, know.0.extends), learn_each b j (k + 1) cs know.1)
 
   -- all callers of a seat may see the committed log and the run
-  pub learned : (b : GhostState O P C R) (id : ℕ) (v : Viewed O P C R) → Lawful meaning h b.committed → HasRun h b.committed b.run → SeatInvariant h b id v → Learns meaning v [] b.committed b.run
-  learned b id v lawful ran mine = record {
+  pub learned : (b : GhostState O P C R) (id : ℕ) (v : SeatView O P C R) → Lawful meaning h b.committed → HasRun h b.committed b.run → SeatInvariant h b id v → Learns meaning v [] b.committed b.run
+  learned b id v valid ran mine = record {
     grows = mine.main.grows;
     extends = mine.main.extends;
     others = learn_each b id 1 v.others mine.others;
-    lawful = λ g is. subst (λ (z : Cell O P C R). Lawful meaning z b.committed) (sym (same_cell b id v g mine is)) lawful;
+    valid = λ g is. subst (λ (z : Cell O P C R). Lawful meaning z b.committed) (sym (same_cell b id v g mine is)) valid;
     ran = λ g is. subst (λ (z : Cell O P C R). HasRun z b.committed b.run) (sym (same_cell b id v g mine is)) ran;
   }
 
-  learn_beside : (b : GhostState O P C R) (id p k : ℕ) (ms : List (Moment (Event O P C R))) (cs : List (Caller O P C R)) → b.owner p ≡ (id, 0) → 1 ≤ k → AllByRecursion (λ m. m.cpu ≡ p) ms → EachFrom (CallerInvariant h.numbers b id) k cs
+  learn_beside : (b : GhostState O P C R) (id p k : ℕ) (ms : List (TraceStep (Event O P C R))) (cs : List (Caller O P C R)) → b.owner p ≡ (id, 0) → 1 ≤ k → AllByRecursion (λ m. m.cpu ≡ p) ms → EachFrom (CallerInvariant h.numbers b id) k cs
       → EachFrom (λ _ c. Grows (λ x. has x c.owned) c.seen b.committed × Extends (λ x. has x c.owned) c.run [] (b.run ++ ms)) k cs
   learn_beside b id p k ms [] mine le own know = tt
   learn_beside b id p k ms (c ∷ cs) mine le own know = (
@@ -84,21 +84,21 @@ module _ {O P C R : Type 0} (meaning : Ghosts O P C R) (kind : LockKind) (h : Ce
   )
 
   -- and the steps that the first of them has done
-  pub learned_by : (b : GhostState O P C R) (id : ℕ) (v : Viewed O P C R) (done : List StepDone) → has v.main.cpu v.main.owned ≡ true → Lawful meaning h b.committed → HasRun h b.committed (b.run ++ silently v.main.cpu done) → SeatInvariant h b id v
+  pub learned_by : (b : GhostState O P C R) (id : ℕ) (v : SeatView O P C R) (done : List StepDone) → has v.main.cpu v.main.owned ≡ true → Lawful meaning h b.committed → HasRun h b.committed (b.run ++ silently v.main.cpu done) → SeatInvariant h b id v
       → Learns meaning v (silently v.main.cpu done) b.committed (b.run ++ silently v.main.cpu done)
-  learned_by b id v done acts lawful ran mine =
-      let ms : List (Moment (Event O P C R)) = silently v.main.cpu done in
+  learned_by b id v done acts valid ran mine =
+      let ms : List (TraceStep (Event O P C R)) = silently v.main.cpu done in
       let owned : ℕ → Bool = λ x. has x v.main.owned in
       record {
         grows = mine.main.grows;
         extends = extends_after owned v.main.run b.run ms (b.run ++ ms) mine.main.extends (extends_by owned b.run ms);
         others = learn_beside b id v.main.cpu 1 ms v.others ((mine.main.owns v.main.cpu acts).0) (omega arith) (silent_own (Event O P C R) v.main.cpu done) mine.others;
-        lawful = λ g is. subst (λ (z : Cell O P C R). Lawful meaning z b.committed) (sym (same_cell b id v g mine is)) lawful;
+        valid = λ g is. subst (λ (z : Cell O P C R). Lawful meaning z b.committed) (sym (same_cell b id v g mine is)) valid;
         ran = λ g is. subst (λ (z : Cell O P C R). HasRun z b.committed (b.run ++ ms)) (sym (same_cell b id v g mine is)) ran;
       }
 
   module _ (s : Table O P C R) (r : Rule s) (id : ℕ) (me : Seat O P C R) (acts : has me.0.main.cpu me.0.main.owned ≡ true) (mine : SeatInvariant h r.state id me.0) where
-    abbrev run_by : List StepDone → List (Moment (Event O P C R))
+    abbrev run_by : List StepDone → List (TraceStep (Event O P C R))
     run_by done = r.state.run ++ silently me.0.main.cpu done
 
     -- the object that is at home is one that a step may give
@@ -107,7 +107,7 @@ module _ {O P C R : Type 0} (meaning : Ghosts O P C R) (kind : LockKind) (h : Ce
       object = stored meaning h r.state.committed;
       run = run_by done;
       seat = refl;
-      learns = learned_by r.state id me.0 done acts r.lawful ran mine;
+      learns = learned_by r.state id me.0 done acts r.valid ran mine;
       replayed = λ g is. ap (λ (z : Cell O P C R). stored meaning z r.state.committed) (sym (same_cell r.state id me.0 g mine is));
     }
 
@@ -117,7 +117,7 @@ module _ {O P C R : Type 0} (meaning : Ghosts O P C R) (kind : LockKind) (h : Ce
       log = r.state.committed;
       run = run_by done;
       seat = refl;
-      learns = learned_by r.state id me.0 done acts r.lawful ran mine;
+      learns = learned_by r.state id me.0 done acts r.valid ran mine;
       still = λ holds. sym (mine.main.whole acts holds);
     }
 
@@ -130,7 +130,7 @@ module _ {O P C R : Type 0} (meaning : Ghosts O P C R) (kind : LockKind) (h : Ce
     returns stage step x more carries begins ran x' more' e =
         let v = me.0 in
         let owned : ℕ → Bool = λ y. has y v.main.owned in
-        let m : Moment (Event O P C R) = leaving v.main.cpu step (events_since x.log) in
+        let m : TraceStep (Event O P C R) = leaving v.main.cpu step (events_since x.log) in
         let run = r.state.run ++ m ∷ [] in
         let same = sym carries ∙ e in
         subst (λ (z : History O P C R × List (ℕ × Option (History O P C R))). Left stage step v (settled v stage x.log run, rest me.1) z.0 z.1) (λ k. (value_of x (same k), rest (e k))) record {
@@ -143,7 +143,7 @@ module _ {O P C R : Type 0} (meaning : Ghosts O P C R) (kind : LockKind) (h : Ce
         }
 
   -- one in line that isn't the one that the caller acts as isn't the caller's
-  pub someone_else : (s : Table O P C R) (r : Rule s) (id : ℕ) (v : Viewed O P C R) (y : ℕ) → SeatInvariant h r.state id v → has y r.state.lock.line.cpus ≡ true → y ≢ v.main.cpu → IsElse v y
+  pub someone_else : (s : Table O P C R) (r : Rule s) (id : ℕ) (v : SeatView O P C R) (y : ℕ) → SeatInvariant h r.state id v → has y r.state.lock.line.cpus ≡ true → y ≢ v.main.cpu → IsElse v y
   someone_else s r id v y mine in_line ne =
       let l = r.state.lock in
       let below = in_line_below h.numbers l r.tied.state y in_line in
@@ -159,7 +159,7 @@ module _ {O P C R : Type 0} (meaning : Ghosts O P C R) (kind : LockKind) (h : Ce
       (λ not. outs b j (k + 1) cs y know.1 is.1 (grind (arith, nat_tests)))
 
   -- so a seat, of whose callers the first alone isn't idle, lacks it
-  pub lacks : (s : Table O P C R) (r : Rule s) (id : ℕ) (v : Viewed O P C R) (y : ℕ) → SeatInvariant h r.state id v → AllIdle v.others → has y r.state.lock.line.cpus ≡ true → y ≢ v.main.cpu → Lacks v
+  pub lacks : (s : Table O P C R) (r : Rule s) (id : ℕ) (v : SeatView O P C R) (y : ℕ) → SeatInvariant h r.state id v → AllIdle v.others → has y r.state.lock.line.cpus ≡ true → y ≢ v.main.cpu → Lacks v
   lacks s r id v y mine out in_line ne g has_all =
       let b = r.state in
       let below = in_line_below h.numbers b.lock r.tied.state y in_line in

@@ -10,7 +10,7 @@ use Rattle.word_rule.specs.LockDefinition.{LockDefinition, LockState, IsState, o
 use Rattle.word_rule.specs.Locks.{holding}
 use Rattle.word_rule.proofs.LineAfter.{LineAfter}
 
--- whether one that stands there has readied a try
+-- whether one that stands there has prepared a try
 abbrev pub is_trying : Stage → Bool
 is_trying Trying = true
 is_trying q = false
@@ -32,44 +32,44 @@ is_idle s = false
 
 module _ (d : LockDefinition) where
   -- what a turn leaves: a state of the lock, and a line that has changed as the step says
-  pub record Goes (n : ℕ) (l : LockState d.Own) (i : ℕ) (r : LockState d.Own × StepDone) : Type 0 where
+  pub record Goes (n : ℕ) (l : LockState d.Extra) (i : ℕ) (r : LockState d.Extra × StepDone) : Type 0 where
     pub state : IsState d n r.0
     pub line : LineAfter r.1 i l.line.cpus r.0.line.cpus
 
-  -- what a turn does at a lock and at what is plain of it
-  pub record SameTurn (r r' : LockState d.Own × StepDone) : Type 0 where
+  -- what a turn does at a lock and at what `erase` leaves of it
+  pub record SameTurn (r r' : LockState d.Extra × StepDone) : Type 0 where
     pub step : r'.1 ≡ r.1
-    pub lock : d.plain r'.0 ≡ d.plain r.0
+    pub lock : d.erase r'.0 ≡ d.erase r.0
 
   -- what a try leaves as it was: the line where somebody is there, and the places of others
-  pub record Tries (l : LockState d.Own) (i : ℕ) (r : LockState d.Own × List StepDone) : Type 0 where
+  pub record Tries (l : LockState d.Extra) (i : ℕ) (r : LockState d.Extra × List StepDone) : Type 0 where
     pub busy : l.line.cpus ≢ [] → (r.0.line.cpus ≡ l.line.cpus) × (r.0.line.out ≡ l.line.out) × (r.1 ≡ [])
     pub others : (x : ℕ) → x ≢ i → r.0.line.stage x ≡ l.line.stage x
 
   pub record LockLaws : Type 0 where
-    -- a lock before its first step is a state of it, and plainly alike whatever its first ticket
+    -- a lock before its first step is a state of it, and erased alike whatever its first ticket
     pub begins : (n first : ℕ) → d.fits n ≡ true → IsState d n (opening_state d first)
-    pub opens_plainly : (first first' : ℕ) → d.plain (opening_state d first) ≡ d.plain (opening_state d first')
+    pub opens_erased : (first first' : ℕ) → d.erase (opening_state d first) ≡ d.erase (opening_state d first')
     -- it is for as many CPUs as a byte can count; a state of it is one for as many as it fits
     pub few_fit : (n : ℕ) → n < 2 ^ 8 → d.fits n ≡ true
-    pub fits : (n : ℕ) (l : LockState d.Own) → IsState d n l → d.fits n ≡ true
+    pub fits : (n : ℕ) (l : LockState d.Extra) → IsState d n l → d.fits n ≡ true
     -- who is idle isn't in line; who has the object is the first
-    pub outside : (cpus : List ℕ) (out : Bool) (x : ℕ) (own : d.Own) → d.Stands cpus out x own Idle → has x cpus ≡ false
-    pub first : (cpus : List ℕ) (out : Bool) (x : ℕ) (own : d.Own) (q : Stage) → holding q ≡ true → d.Stands cpus out x own q → First cpus out x true
+    pub outside : (cpus : List ℕ) (out : Bool) (x : ℕ) (extra : d.Extra) → d.Stands cpus out x extra Idle → has x cpus ≡ false
+    pub first : (cpus : List ℕ) (out : Bool) (x : ℕ) (extra : d.Extra) (q : Stage) → holding q ≡ true → d.Stands cpus out x extra q → First cpus out x true
     -- a holder stands where it has the object
     pub holds : (ticket : ℕ) → holding (d.holder ticket) ≡ true
     -- each turn keeps the lock
-    pub goes : (n : ℕ) (l : LockState d.Own) (i : ℕ) → IsState d n l → i < n → Goes n l i (d.turn l i)
-    -- no turn readies a try
-    pub whole : (l : LockState d.Own) (i : ℕ) → NoneTries l.line.stage → NoneTries (d.turn l i).0.line.stage
-    -- no turn of a CPU that stands at the lock, and has readied no try, is idle
-    pub acts : (n : ℕ) (l : LockState d.Own) (i : ℕ) → IsState d n l → i < n → is_trying (l.line.stage i) ≡ false → is_idle (d.turn l i).1 ≡ false
-    -- a turn of a CPU that has readied no try goes by what is plain of the lock
-    pub plain_twice : (l : LockState d.Own) → d.plain (d.plain l) ≡ d.plain l
-    pub plain_line : (l : LockState d.Own) → ((d.plain l).line.cpus ≡ l.line.cpus) × ((d.plain l).line.out ≡ l.line.out)
-    pub plainly : (l : LockState d.Own) (i : ℕ) → is_trying (l.line.stage i) ≡ false → SameTurn (d.turn l i) (d.turn (d.plain l) i)
+    pub goes : (n : ℕ) (l : LockState d.Extra) (i : ℕ) → IsState d n l → i < n → Goes n l i (d.turn l i)
+    -- no turn prepares a try
+    pub whole : (l : LockState d.Extra) (i : ℕ) → NoneTries l.line.stage → NoneTries (d.turn l i).0.line.stage
+    -- no turn of a CPU that stands at the lock, and has prepared no try, is idle
+    pub acts : (n : ℕ) (l : LockState d.Extra) (i : ℕ) → IsState d n l → i < n → is_trying (l.line.stage i) ≡ false → is_idle (d.turn l i).1 ≡ false
+    -- a turn of a CPU that has prepared no try goes by what `erase` leaves of the lock
+    pub erased_twice : (l : LockState d.Extra) → d.erase (d.erase l) ≡ d.erase l
+    pub erased_line : (l : LockState d.Extra) → ((d.erase l).line.cpus ≡ l.line.cpus) × ((d.erase l).line.out ≡ l.line.out)
+    pub erased : (l : LockState d.Extra) (i : ℕ) → is_trying (l.line.stage i) ≡ false → SameTurn (d.turn l i) (d.turn (d.erase l) i)
     -- two locks that go by one number do so after one step of both
-    pub counts : (l l' : LockState d.Own) (i : ℕ) → (d.turn l i).1 ≡ (d.turn l' i).1 → d.number l.own ≡ d.number l'.own → d.number (d.turn l i).0.own ≡ d.number (d.turn l' i).0.own
-    -- no try, and no readying of one, moves another CPU; nor does one that finds somebody change the line
-    pub tries : (l : LockState d.Own) (i ticket : ℕ) → Tries l i (d.attempt l i ticket)
-    pub readies : (l : LockState d.Own) (i x : ℕ) → x ≢ i → (d.ready l i).line.stage x ≡ l.line.stage x
+    pub counts : (l l' : LockState d.Extra) (i : ℕ) → (d.turn l i).1 ≡ (d.turn l' i).1 → d.served l.extra ≡ d.served l'.extra → d.served (d.turn l i).0.extra ≡ d.served (d.turn l' i).0.extra
+    -- no try, and no preparing of one, moves another CPU; nor does one that finds somebody change the line
+    pub tries : (l : LockState d.Extra) (i ticket : ℕ) → Tries l i (d.attempt l i ticket)
+    pub prepares : (l : LockState d.Extra) (i x : ℕ) → x ≢ i → (d.prepare l i).line.stage x ≡ l.line.stage x

@@ -10,7 +10,7 @@ use Rattle.word_rule.specs.declared.lock_kind.Stage.{Stage}
 use Rattle.word_rule.specs.declared.lock_kind.Stage.TheVariants.{Idle, Trying}
 use Rattle.word_rule.specs.Line.{First}
 use Rattle.word_rule.specs.LockDefinition.{LockState}
-use Rattle.word_rule.specs.Locks.{Fits, IsLock, Lock, definition_of, holder, holding, lock_of, number, opening_lock, plain, ready, state_of, turn}
+use Rattle.word_rule.specs.Locks.{Fits, IsLock, Lock, definition_of, holder, holding, lock_of, served, opening_lock, erase, prepare, state_of, turn}
 use Rattle.word_rule.proofs.LineAfter.{LineAfter}
 use Rattle.word_rule.proofs.Lists.{has_at, there_is}
 use Rattle.word_rule.proofs.LockInterface.{LockLaws, NoneTries, Tries, is_idle, is_trying}
@@ -24,8 +24,8 @@ laws_of kinds.Ticket = ticket_laws
 laws_of kinds.Mcs = mcs_laws
 
 -- what is shown of each state of a definition is shown of each lock of its kind
-pub at_kind : (kind : LockKind) (P : Lock → Type 0) → ((s : LockState (definition_of kind).Own) → P (lock_of kind s)) → (l : Lock) → l.kind ≡ kind → P l
-at_kind kind P each l is = subst (λ k. ((s : LockState (definition_of k).Own) → P (lock_of k s)) → P l) is (λ each. each (state_of l)) each
+pub at_kind : (kind : LockKind) (P : Lock → Type 0) → ((s : LockState (definition_of kind).Extra) → P (lock_of kind s)) → (l : Lock) → l.kind ≡ kind → P l
+at_kind kind P each l is = subst (λ k. ((s : LockState (definition_of k).Extra) → P (lock_of k s)) → P l) is (λ each. each (state_of l)) each
 
 -- a lock before its first step
 pub begins : (n first : ℕ) (kind : LockKind) → Fits kind n → IsLock n (opening_lock kind first)
@@ -35,14 +35,14 @@ begins n first kind fits = (laws_of kind).begins n first fits
 pub few_fit : (kind : LockKind) (n : ℕ) → n < 2 ^ 8 → Fits kind n
 few_fit kind n few = (laws_of kind).few_fit n few
 
-pub opens_plainly : (kind : LockKind) (first first' : ℕ) → plain (opening_lock kind first) ≡ plain (opening_lock kind first')
-opens_plainly kind first first' = ap (lock_of kind) ((laws_of kind).opens_plainly first first')
+pub opens_erased : (kind : LockKind) (first first' : ℕ) → erase (opening_lock kind first) ≡ erase (opening_lock kind first')
+opens_erased kind first first' = ap (lock_of kind) ((laws_of kind).opens_erased first first')
 
 -- a holder that can still do calls has the object
 pub holds : (kind : LockKind) (ticket : ℕ) → holding (holder kind ticket) ≡ true
 holds kind ticket = (laws_of kind).holds ticket
 
--- one that has the object has readied no try
+-- one that has the object has prepared no try
 pub held_untried : (q : Stage) → holding q ≡ true → is_trying q ≡ false
 held_untried Trying e = absurd (true≢false (sym e))
 held_untried q e = refl
@@ -55,7 +55,7 @@ module _ (n : ℕ) (l : Lock) (h : IsLock n l) where
   fits = laws.fits n (state_of l) h
 
   pub first_holds : (x : ℕ) → x < n → holding (l.line.stage x) ≡ true → First l.line.cpus l.line.out x true
-  first_holds x below has_it = laws.first l.line.cpus l.line.out x l.own (l.line.stage x) has_it (h.stood x below)
+  first_holds x below has_it = laws.first l.line.cpus l.line.out x l.extra (l.line.stage x) has_it (h.stood x below)
 
   -- there is one holder
   pub one_holds : (x y : ℕ) → x < n → y < n → holding (l.line.stage x) ≡ true → holding (l.line.stage y) ≡ true → x ≡ y
@@ -76,7 +76,7 @@ module _ (n : ℕ) (l : Lock) (h : IsLock n l) where
 
   -- who is idle isn't in line
   pub idle_outside : (x : ℕ) → x < n → l.line.stage x ≡ Idle → has x l.line.cpus ≡ false
-  idle_outside x below is = laws.outside l.line.cpus l.line.out x l.own (states.stands_at (definition_of l.kind) n (state_of l) h x Idle below is)
+  idle_outside x below is = laws.outside l.line.cpus l.line.out x l.extra (states.stands_at (definition_of l.kind) n (state_of l) h x Idle below is)
 
   -- where all are idle the object is at home
   pub idle_home : ((x : ℕ) → x < n → l.line.stage x ≡ Idle) → l.line.out ≡ false
@@ -106,24 +106,24 @@ module _ (n : ℕ) (l : Lock) (h : IsLock n l) where
 pub turn_whole : (l : Lock) (i : ℕ) → NoneTries l.line.stage → NoneTries (turn l i).0.line.stage
 turn_whole l i h = (laws_of l.kind).whole (state_of l) i h
 
--- the step of a CPU that has readied no try goes by what is plain of the lock
-pub turn_plainly : (l l' : Lock) (i : ℕ) → plain l ≡ plain l' → is_trying (l.line.stage i) ≡ false → is_trying (l'.line.stage i) ≡ false → ((turn l i).1 ≡ (turn l' i).1) × (plain (turn l i).0 ≡ plain (turn l' i).0)
-turn_plainly l l' i e not not' =
-    let a = (laws_of l.kind).plainly (state_of l) i not in
-    let b = (laws_of l'.kind).plainly (state_of l') i not' in
-    (sym a.step ∙ (ap (λ z. (turn z i).1) e ∙ b.step), sym (ap (lock_of l.kind) a.lock) ∙ (ap (λ z. plain (turn z i).0) e ∙ ap (lock_of l'.kind) b.lock))
+-- the step of a CPU that has prepared no try goes by what `erase` leaves of the lock
+pub turn_erased : (l l' : Lock) (i : ℕ) → erase l ≡ erase l' → is_trying (l.line.stage i) ≡ false → is_trying (l'.line.stage i) ≡ false → ((turn l i).1 ≡ (turn l' i).1) × (erase (turn l i).0 ≡ erase (turn l' i).0)
+turn_erased l l' i e not not' =
+    let a = (laws_of l.kind).erased (state_of l) i not in
+    let b = (laws_of l'.kind).erased (state_of l') i not' in
+    (sym a.step ∙ (ap (λ z. (turn z i).1) e ∙ b.step), sym (ap (lock_of l.kind) a.lock) ∙ (ap (λ z. erase (turn z i).0) e ∙ ap (lock_of l'.kind) b.lock))
 
--- no try, and no readying of one, moves another CPU; nor does one that finds somebody change the line
+-- no try, and no preparing of one, moves another CPU; nor does one that finds somebody change the line
 pub tries : (l : Lock) (i ticket : ℕ) → Tries (definition_of l.kind) (state_of l) i ((definition_of l.kind).attempt (state_of l) i ticket)
 tries l i ticket = (laws_of l.kind).tries (state_of l) i ticket
 
-pub readies : (l : Lock) (i x : ℕ) → x ≢ i → (ready l i).line.stage x ≡ l.line.stage x
-readies l i x ne = (laws_of l.kind).readies (state_of l) i x ne
+pub prepares : (l : Lock) (i x : ℕ) → x ≢ i → (prepare l i).line.stage x ≡ l.line.stage x
+prepares l i x ne = (laws_of l.kind).prepares (state_of l) i x ne
 
--- the line is plain
-pub plain_cpus : (l l' : Lock) → plain l ≡ plain l' → l.line.cpus ≡ l'.line.cpus
-plain_cpus l l' e = sym ((laws_of l.kind).plain_line (state_of l)).0 ∙ (ap (λ z. z.line.cpus) e ∙ ((laws_of l'.kind).plain_line (state_of l')).0)
+-- the line isn't erased
+pub erased_cpus : (l l' : Lock) → erase l ≡ erase l' → l.line.cpus ≡ l'.line.cpus
+erased_cpus l l' e = sym ((laws_of l.kind).erased_line (state_of l)).0 ∙ (ap (λ z. z.line.cpus) e ∙ ((laws_of l'.kind).erased_line (state_of l')).0)
 
 -- two locks of one kind that go by one number do so after one step of both
-pub count_alike : (l l' : Lock) (i : ℕ) → l.kind ≡ l'.kind → (turn l i).1 ≡ (turn l' i).1 → number l ≡ number l' → number (turn l i).0 ≡ number (turn l' i).0
-count_alike l l' i same = at_kind l.kind (λ m. (turn l i).1 ≡ (turn m i).1 → number l ≡ number m → number (turn l i).0 ≡ number (turn m i).0) (λ s. (laws_of l.kind).counts (state_of l) s i) l' (sym same)
+pub count_alike : (l l' : Lock) (i : ℕ) → l.kind ≡ l'.kind → (turn l i).1 ≡ (turn l' i).1 → served l ≡ served l' → served (turn l i).0 ≡ served (turn l' i).0
+count_alike l l' i same = at_kind l.kind (λ m. (turn l i).1 ≡ (turn m i).1 → served l ≡ served m → served (turn l i).0 ≡ served (turn m i).0) (λ s. (laws_of l.kind).counts (state_of l) s i) l' (sym same)

@@ -38,24 +38,24 @@ module _ (d : LockDefinition) (most : ℕ) where
     pub some_left : (q : Stage) → 0 < left q
     pub few_left : (q : Stage) → left q ≤ most
     -- whether the CPU's next turn gets it on
-    pub gets_on : LockState d.Own → ℕ → Bool
+    pub gets_on : LockState d.Extra → ℕ → Bool
     -- a turn moves no other CPU
-    pub others : (l : LockState d.Own) (i x : ℕ) → x ≢ i → (d.turn l i).0.line.stage x ≡ l.line.stage x
+    pub others : (l : LockState d.Extra) (i x : ℕ) → x ≢ i → (d.turn l i).0.line.stage x ≡ l.line.stage x
     -- one that gets its CPU on brings it nearer to the end of its call
-    pub nearer : (n : ℕ) (l : LockState d.Own) (i : ℕ) → IsState d n l → i < n → is_trying (l.line.stage i) ≡ false → gets_on l i ≡ true → ends_hold (d.turn l i).1 ≡ false → left ((d.turn l i).0.line.stage i) < left (l.line.stage i)
+    pub nearer : (n : ℕ) (l : LockState d.Extra) (i : ℕ) → IsState d n l → i < n → is_trying (l.line.stage i) ≡ false → gets_on l i ≡ true → ends_hold (d.turn l i).1 ≡ false → left ((d.turn l i).0.line.stage i) < left (l.line.stage i)
     -- one that doesn't leaves it where it stood, and ends no hold
-    pub in_vain : (l : LockState d.Own) (i : ℕ) → gets_on l i ≡ false → ((d.turn l i).0.line.stage i ≡ l.line.stage i) × (ends_hold (d.turn l i).1 ≡ false)
+    pub in_vain : (l : LockState d.Extra) (i : ℕ) → gets_on l i ≡ false → ((d.turn l i).0.line.stage i ≡ l.line.stage i) × (ends_hold (d.turn l i).1 ≡ false)
     -- one that ends a hold is a holder's, which is then idle
-    pub ended : (l : LockState d.Own) (i : ℕ) → ends_hold (d.turn l i).1 ≡ true → (holding (l.line.stage i) ≡ true) × ((d.turn l i).0.line.stage i ≡ Idle)
+    pub ended : (l : LockState d.Extra) (i : ℕ) → ends_hold (d.turn l i).1 ≡ true → (holding (l.line.stage i) ≡ true) × ((d.turn l i).0.line.stage i ≡ Idle)
     -- whoever gets on by its next turn does so also after another's turn, or that turn gets the other on
-    pub stays_or : (n : ℕ) (l : LockState d.Own) (i j : ℕ) → IsState d n l → i < n → j < n → j ≢ i → gets_on l j ≡ true → (gets_on (d.turn l i).0 j ≡ true) ⊎ (gets_on l i ≡ true)
+    pub stays_or : (n : ℕ) (l : LockState d.Extra) (i j : ℕ) → IsState d n l → i < n → j < n → j ≢ i → gets_on l j ≡ true → (gets_on (d.turn l i).0 j ≡ true) ⊎ (gets_on l i ≡ true)
     -- where a CPU has a turn to do, it gets on by that or one in line does
-    pub someone : (n : ℕ) (l : LockState d.Own) (i : ℕ) → IsState d n l → i < n → OneOnAt l.line.cpus (gets_on l) i
+    pub someone : (n : ℕ) (l : LockState d.Extra) (i : ℕ) → IsState d n l → i < n → OneOnAt l.line.cpus (gets_on l) i
 
   pub record LockFairness (p : LockProgress) : Type 0 where
     -- whoever gets on by its next turn does so also after another's turn
-    pub stays : (n : ℕ) (l : LockState d.Own) (i j : ℕ) → IsState d n l → i < n → j < n → j ≢ i → p.gets_on l j ≡ true → p.gets_on (d.turn l i).0 j ≡ true
+    pub stays : (n : ℕ) (l : LockState d.Extra) (i j : ℕ) → IsState d n l → i < n → j < n → j ≢ i → p.gets_on l j ≡ true → p.gets_on (d.turn l i).0 j ≡ true
     -- whoever isn't in line gets on
-    pub outside : (n : ℕ) (l : LockState d.Own) (x : ℕ) → IsState d n l → x < n → has x l.line.cpus ≡ false → p.gets_on l x ≡ true
+    pub outside : (n : ℕ) (l : LockState d.Extra) (x : ℕ) → IsState d n l → x < n → has x l.line.cpus ≡ false → p.gets_on l x ≡ true
     -- the first of the line gets on, or the one behind it
-    pub first : (n : ℕ) (l : LockState d.Own) (x : ℕ) → IsState d n l → get_elem? l.line.cpus 0 ≡ some x → FirstOn l.line.cpus (p.gets_on l) x
+    pub first : (n : ℕ) (l : LockState d.Extra) (x : ℕ) → IsState d n l → get_elem? l.line.cpus 0 ≡ some x → FirstOn l.line.cpus (p.gets_on l) x

@@ -4,7 +4,7 @@ pub mod States
 pub mod Words
 pub mod Turns
 pub mod Tries
-pub mod Plain
+pub mod Erased
 pub mod Laws
 pub mod Shown
 pub mod Progress

@@ -12,11 +12,11 @@ use Rattle.word_rule.specs.declared.lock_kind.Stage.TheVariants.{Idle}
 use Rattle.word_rule.specs.Cell.{Cell}
 use Rattle.word_rule.specs.Locks.{holding}
 use Rattle.word_rule.specs.Rule.LockStates.{IsLockOf}
-use Rattle.word_rule.specs.Rule.CellInvariant.{GhostState, Caller, Viewed, Table, EachFrom, CallerInvariant, SeatInvariant, CellInvariant}
+use Rattle.word_rule.specs.Rule.CellInvariant.{GhostState, Caller, SeatView, Table, EachFrom, CallerInvariant, SeatInvariant, CellInvariant}
 use Rattle.word_rule.specs.Rule.Seats.{Seat, settled, taken_in, idle, behind_first, first_or_none, spent, keeping, letting, merged}
-use Rattle.word_rule.specs.Rule.Announced.{meets, joins, tears, clashes}
+use Rattle.word_rule.specs.Rule.Announced.{meets, joins, returns_slot, second_holder}
 use Rattle.word_rule.proofs.Lists.{each_map, has_append, at_snoc_at, grows_self}
-use Rattle.word_rule.proofs.Stays.{seats_stay, show_each, torn}
+use Rattle.word_rule.proofs.Stays.{seats_stay, show_each, slot_returned}
 use Rattle.word_rule.proofs.Known.{all_idle, learned}
 use Rattle.word_rule.proofs.LockLaws.{one_holds, object_out}
 use Rattle.word_rule.proofs.RunLists.{extends_self}
@@ -66,7 +66,7 @@ module _ {O P C R : Type 0} (meaning : Ghosts O P C R) (kind : LockKind) (h : Ce
   Rule = CellInvariant meaning kind h
 
   abbrev V : Type 0
-  V = Viewed O P C R
+  V = SeatView O P C R
 
   abbrev K : GhostState O P C R → ℕ → ℕ → Caller O P C R → Type 0
   K = CallerInvariant h.numbers
@@ -118,7 +118,7 @@ module _ {O P C R : Type 0} (meaning : Ghosts O P C R) (kind : LockKind) (h : Ce
         tied = r.tied;
         ran = r.ran;
         made = r.made;
-        lawful = r.lawful;
+        valid = r.valid;
         at_home = r.at_home;
         each = λ j u e. ⊎_elim {0, 0, 0}
             (λ (t : (j ≡ other) × (gone ≡ u)). subst (λ (z : ℕ × V). All b' z.0 z.1) (λ i. (sym t.0 i, t.1 i)) record { told = tt; main = blank_known b' other; others = tt })
@@ -161,7 +161,7 @@ module _ {O P C R : Type 0} (meaning : Ghosts O P C R) (kind : LockKind) (h : Ce
         tied = r.tied;
         ran = r.ran;
         made = r.made;
-        lawful = r.lawful;
+        valid = r.valid;
         at_home = r.at_home;
         each = λ j u e. ⊎_elim {0, 0, 0}
             (λ (t : get_elem? (set s.views id keep) j ≡ some u). ⊎_elim {0, 0, 0}
@@ -193,7 +193,7 @@ module _ {O P C R : Type 0} (meaning : Ghosts O P C R) (kind : LockKind) (h : Ce
           tied = subst (λ (ws : List ℕ). IsLockOf kind h.numbers ws b.lock) (sym (set-get_or s.words i 0)) r.tied;
           ran = r.ran;
           made = r.made;
-          lawful = r.lawful;
+          valid = r.valid;
           at_home = r.at_home;
           each = seats_stay h b b s.views id (settled v v.main.stage b.committed b.run)
               record {
@@ -203,7 +203,7 @@ module _ {O P C R : Type 0} (meaning : Ghosts O P C R) (kind : LockKind) (h : Ce
               }
               (λ j k c _ z. z) r.each;
         },
-        record { log = b.committed; run = b.run; seat = refl; learns = learned meaning kind h b id v r.lawful r.ran mine },
+        record { log = b.committed; run = b.run; seat = refl; learns = learned meaning kind h b id v r.valid r.ran mine },
       )
 
   merged_known : (b : GhostState O P C R) (id : ℕ) (v : V) (c : Caller O P C R) → v.others ≡ c ∷ [] → v.main.stage ≡ Idle → c.stage ≡ Idle → All b id v → All (renamed b (together id)) id (merged v b.committed b.run)
@@ -248,17 +248,17 @@ module _ {O P C R : Type 0} (meaning : Ghosts O P C R) (kind : LockKind) (h : Ce
           tied = subst (λ (ws : List ℕ). IsLockOf kind h.numbers ws b.lock) (sym (set-get_or s.words i 0)) r.tied;
           ran = r.ran;
           made = r.made;
-          lawful = r.lawful;
+          valid = r.valid;
           at_home = r.at_home;
           each = others_stay b (renamed b (together id)) s.views id (merged v b.committed b.run) (merged_known b id v c is rests c_rests mine)
               (λ j u away. elsewhere b (together id) j u (λ k. together_else id j k away)) r.each;
         },
-        record { log = b.committed; run = b.run; seat = refl; learns = learned meaning kind h b id v r.lawful r.ran mine },
+        record { log = b.committed; run = b.run; seat = refl; learns = learned meaning kind h b id v r.valid r.ran mine },
       )
 
   -- a holder gives its slot back with no end of the hold
-  pub tearing : (slots id : ℕ) (me : Seat O P C R) (i : ℕ) → has me.0.main.cpu me.0.main.owned ≡ true → holding me.0.main.stage ≡ true → me.1 ≡ (0, None) ∷ [] → Allows Rule slots id me i (λ k. k) (tears (step slots i 0 0 none) me)
-  tearing slots id me i acts holds carries s r len there small =
+  pub returning_slot : (slots id : ℕ) (me : Seat O P C R) (i : ℕ) → has me.0.main.cpu me.0.main.owned ≡ true → holding me.0.main.stage ≡ true → me.1 ≡ (0, None) ∷ [] → Allows Rule slots id me i (λ k. k) (returns_slot (step slots i 0 0 none) me)
+  returning_slot slots id me i acts holds carries s r len there small =
       let v : V = me.0 in
       let mine = r.each id v there in
       let below = (mine.main.owns v.main.cpu acts).1 in
@@ -266,14 +266,14 @@ module _ {O P C R : Type 0} (meaning : Ghosts O P C R) (kind : LockKind) (h : Ce
         v,
         gives,
         tt,
-        torn meaning kind h s r i id v me.1 (object_out h.numbers r.state.lock r.tied.state v.main.cpu below has_it) there,
+        slot_returned meaning kind h s r i id v me.1 (object_out h.numbers r.state.lock r.tied.state v.main.cpu below has_it) there,
         λ z. (v, rest (carries z)),
       )
 
   -- two holders of one cell can't be
-  pub clashing : (slots id : ℕ) (me : Seat O P C R) (i : ℕ) (c : Caller O P C R) → has me.0.main.cpu me.0.main.owned ≡ true → holding me.0.main.stage ≡ true → me.0.others ≡ c ∷ [] → has c.cpu c.owned ≡ true → holding c.stage ≡ true
-      → Allows Rule slots id me i (λ k. k) (clashes (step slots i 0 0 none) me)
-  clashing slots id me i c acts holds is c_acts c_holds s r len there small =
+  pub meeting_second : (slots id : ℕ) (me : Seat O P C R) (i : ℕ) (c : Caller O P C R) → has me.0.main.cpu me.0.main.owned ≡ true → holding me.0.main.stage ≡ true → me.0.others ≡ c ∷ [] → has c.cpu c.owned ≡ true → holding c.stage ≡ true
+      → Allows Rule slots id me i (λ k. k) (second_holder (step slots i 0 0 none) me)
+  meeting_second slots id me i c acts holds is c_acts c_holds s r len there small =
       let b = r.state in
       let v : V = me.0 in
       let mine = r.each id v there in

@@ -8,7 +8,7 @@ use Rattle.event_log.specs.History.{History}
 use Rattle.word_rule.specs.declared.machine.step_done.StepDone.{StepDone}
 use Rattle.word_rule.specs.declared.machine.step_done.StepDone.TheVariants as steps
 use Rattle.word_rule.specs.declared.lock_kind.Stage.{Stage}
-use Rattle.word_rule.specs.declared.view.Moment.{Moment}
+use Rattle.word_rule.specs.declared.view.TraceStep.{TraceStep}
 use Rattle.word_rule.specs.Cell.{Caller, HoldView, stored}
 use Rattle.word_rule.specs.CallerState.{CallerState, Moves, Takes, Gives}
 use Rattle.word_rule.specs.Locks.{holding}
@@ -67,16 +67,16 @@ acquires_looking looks done w = record {
 
 module _ {O P C R : Type 0} where
   -- the steps that a caller has done since it was there
-  abbrev pub Since : Caller O P C R → List (Moment (Event O P C R)) → List StepDone → CallerState O P C R → Type 0
+  abbrev pub Since : Caller O P C R → List (TraceStep (Event O P C R)) → List StepDone → CallerState O P C R → Type 0
   Since caller before done a = (a.caller ≡ caller) × Extends caller.owned before (silently caller.acting done) a.run
 
   -- and what it does more
-  pub since_more : (caller : Caller O P C R) (before after : List (Moment (Event O P C R))) (done more : List StepDone) (a : CallerState O P C R) → Since caller before done a → Extends a.caller.owned a.run (silently a.caller.acting more) after → Extends caller.owned before (silently caller.acting (done ++ more)) after
+  pub since_more : (caller : Caller O P C R) (before after : List (TraceStep (Event O P C R))) (done more : List StepDone) (a : CallerState O P C R) → Since caller before done a → Extends a.caller.owned a.run (silently a.caller.acting more) after → Extends caller.owned before (silently caller.acting (done ++ more)) after
   since_more caller before after done more a s e = subst (λ l. Extends caller.owned before l after) (sym (silently_append caller.acting done more))
       (extends_then caller.owned before (silently caller.acting done) a.run (silently caller.acting more) after s.1 (subst (λ (k : Caller O P C R). Extends k.owned a.run (silently k.acting more) after) s.0 e))
 
   -- one that has arrived by its first steps, and then gets the object, has acquired it
-  pub acquired_queued : (caller : Caller O P C R) (before : List (Moment (Event O P C R))) (first vain : List StepDone) (looks : ℕ) (found : List (Event O P C R)) (after : List (Moment (Event O P C R))) (b : CallerState O P C R) → HasArrived first vain → Since caller before first b → IsQueued b vain looks found after → HasAcquired caller before looks found after
+  pub acquired_queued : (caller : Caller O P C R) (before : List (TraceStep (Event O P C R))) (first vain : List StepDone) (looks : ℕ) (found : List (Event O P C R)) (after : List (TraceStep (Event O P C R))) (b : CallerState O P C R) → HasArrived first vain → Since caller before first b → IsQueued b vain looks found after → HasAcquired caller before looks found after
   acquired_queued caller before first vain looks found after b h s q =
       let rest : List StepDone = q.done ++ steps.Look true ∷ [] in
       record {
@@ -96,13 +96,13 @@ module _ {O P C R : Type 0} where
       }
 
   -- a holder that has done these steps since, and has seen no event
-  pub record HeldSince (hold : HoldView O P C R) (before : List (Moment (Event O P C R))) (done : List StepDone) (a : CallerState O P C R) : Type 0 where
+  pub record HeldSince (hold : HoldView O P C R) (before : List (TraceStep (Event O P C R))) (done : List StepDone) (a : CallerState O P C R) : Type 0 where
     pub since : Since hold.caller before done a
     pub seen : a.seen ≡ hold.caller.cell.opening ++ events_in before
     pub has : a.has ≡ Some hold.history
 
 module _ {O P C R : Type 0} (meaning : Ghosts O P C R) where
-  pub since_moved : (caller : Caller O P C R) (before : List (Moment (Event O P C R))) (done more : List StepDone) (p q : Stage) (a b : CallerState O P C R) → Since caller before done a → Moves meaning p q more a b → Since caller before (done ++ more) b
+  pub since_moved : (caller : Caller O P C R) (before : List (TraceStep (Event O P C R))) (done more : List StepDone) (p q : Stage) (a b : CallerState O P C R) → Since caller before done a → Moves meaning p q more a b → Since caller before (done ++ more) b
   since_moved caller before done more p q a b s m = (m.caller ∙ s.0, since_more caller before b.run done more a s m.extends)
 
   -- the object that came has the log that the run left
@@ -112,7 +112,7 @@ module _ {O P C R : Type 0} (meaning : Ghosts O P C R) where
       ap (λ z. z.log) is ∙ (left ∙ ap (λ (k : Caller O P C R). k.cell.opening ++ events_in b.run) (t.caller ∙ same))
 
   -- the look that gets the object, after others
-  pub acquired_looking : (caller : Caller O P C R) (before : List (Moment (Event O P C R))) (looks more : ℕ) (x : History O P C R) (done : List StepDone) (p q : Stage) (a b : CallerState O P C R) → Waits 1 looks done → more ≡ min (looks + 1) (2 ^ 64 - 1) → Since caller before done a → Takes meaning p q (steps.Look true ∷ []) a b
+  pub acquired_looking : (caller : Caller O P C R) (before : List (TraceStep (Event O P C R))) (looks more : ℕ) (x : History O P C R) (done : List StepDone) (p q : Stage) (a b : CallerState O P C R) → Waits 1 looks done → more ≡ min (looks + 1) (2 ^ 64 - 1) → Since caller before done a → Takes meaning p q (steps.Look true ∷ []) a b
       → b.has ≡ Some x → b.seen ≡ b.caller.cell.opening ++ events_in b.run → HasAcquired caller before more x.log b.run
   acquired_looking caller before looks more x done p q a b w counted s t has left = record {
     done = done ++ steps.Look true ∷ [];
@@ -123,7 +123,7 @@ module _ {O P C R : Type 0} (meaning : Ghosts O P C R) where
   }
 
   -- a hold ends by this step, after others of which none saw an event
-  pub released_by : (hold : HoldView O P C R) (before : List (Moment (Event O P C R))) (done : List StepDone) (last : StepDone) (p q : Stage) (a b : CallerState O P C R) → Releases done last → a.seen ≡ hold.caller.cell.opening ++ events_in before → Since hold.caller before done a
+  pub released_by : (hold : HoldView O P C R) (before : List (TraceStep (Event O P C R))) (done : List StepDone) (last : StepDone) (p q : Stage) (a b : CallerState O P C R) → Releases done last → a.seen ≡ hold.caller.cell.opening ++ events_in before → Since hold.caller before done a
       → a.has ≡ Some hold.history → Gives meaning p q last a b → HasReleased hold before b.run
   released_by hold before done last p q a b r seen s has t =
       let same : hold.history ≡ stored meaning a.caller.cell b.seen = cc (has, t.had) in
@@ -136,20 +136,20 @@ module _ {O P C R : Type 0} (meaning : Ghosts O P C R) where
         extends = until_since hold.caller.owned before (silently hold.caller.acting done) a.run (leaving hold.caller.acting last t.events) b.run s.1 (subst (λ (k : Caller O P C R). ExtendsUntil k.owned a.run [] (leaving k.acting last t.events) b.run) s.0 t.extends);
       }
 
-  pub held_moved : (hold : HoldView O P C R) (before : List (Moment (Event O P C R))) (done more : List StepDone) (p q : Stage) (a b : CallerState O P C R) → HeldSince hold before done a → Moves meaning p q more a b → holding p ≡ true → HeldSince hold before (done ++ more) b
+  pub held_moved : (hold : HoldView O P C R) (before : List (TraceStep (Event O P C R))) (done more : List StepDone) (p q : Stage) (a b : CallerState O P C R) → HeldSince hold before done a → Moves meaning p q more a b → holding p ≡ true → HeldSince hold before (done ++ more) b
   held_moved hold before done more p q a b s m holds = record { since = since_moved hold.caller before done more p q a b s.since m; seen = m.still holds ∙ s.seen; has = m.has ∙ s.has }
 
-  pub held_given : (hold : HoldView O P C R) (before : List (Moment (Event O P C R))) (done : List StepDone) (last : StepDone) (p q : Stage) (a b : CallerState O P C R) → HeldSince hold before done a → Releases done last → Gives meaning p q last a b → HasReleased hold before b.run
+  pub held_given : (hold : HoldView O P C R) (before : List (TraceStep (Event O P C R))) (done : List StepDone) (last : StepDone) (p q : Stage) (a b : CallerState O P C R) → HeldSince hold before done a → Releases done last → Gives meaning p q last a b → HasReleased hold before b.run
   held_given hold before done last p q a b s r t = released_by hold before done last p q a b r s.seen s.since s.has t
 
   -- a try that gets the object
-  pub acquired_at_once : (caller : Caller O P C R) (before : List (Moment (Event O P C R))) (looks : ℕ) (x : History O P C R) (done now : List StepDone) (p q : Stage) (a b : CallerState O P C R) → Acquires (done ++ now) → looks ≡ looks_in (done ++ now) → Since caller before done a → Takes meaning p q now a b
+  pub acquired_at_once : (caller : Caller O P C R) (before : List (TraceStep (Event O P C R))) (looks : ℕ) (x : History O P C R) (done now : List StepDone) (p q : Stage) (a b : CallerState O P C R) → Acquires (done ++ now) → looks ≡ looks_in (done ++ now) → Since caller before done a → Takes meaning p q now a b
       → b.has ≡ Some x → b.seen ≡ b.caller.cell.opening ++ events_in b.run → HasAcquired caller before looks x.log b.run
   acquired_at_once caller before looks x done now p q a b acquires looked s t has left = record { done = done ++ now; acquires = acquires; looked = looked; left = found_left caller x p q now a b s.0 t has left; extends = since_more caller before b.run done now a s t.extends }
 
 module _ {O P C R : Type 0} where
   -- a whole hold, which left these events
-  pub held_once : (caller : Caller O P C R) (before : List (Moment (Event O P C R))) (looks : ℕ) (h k : HoldView O P C R) (run run' after : List (Moment (Event O P C R))) (events : List (Event O P C R)) → HasAcquired caller before looks h.history.log run → h.caller ≡ caller → k.caller ≡ h.caller → run' ≡ run
+  pub held_once : (caller : Caller O P C R) (before : List (TraceStep (Event O P C R))) (looks : ℕ) (h k : HoldView O P C R) (run run' after : List (TraceStep (Event O P C R))) (events : List (Event O P C R)) → HasAcquired caller before looks h.history.log run → h.caller ≡ caller → k.caller ≡ h.caller → run' ≡ run
       → k.history.log ≡ h.history.log ++ events → HasReleased k run' after → HasHeld caller before looks events after
   held_once caller before looks h k run run' after events a is same still longer r =
       let who : k.caller ≡ caller = same ∙ is in
@@ -164,7 +164,7 @@ module _ {O P C R : Type 0} where
         releases = r.releases;
         extends = subst (λ l. ExtendsUntil caller.owned before l (leaving caller.acting r.last events) after) (sym (silently_append caller.acting a.done r.done))
             (until_then caller.owned before (silently caller.acting a.done) run (silently caller.acting r.done) (leaving caller.acting r.last events) after a.extends
-            (subst (λ (z : Caller O P C R × List (Moment (Event O P C R)) × List (Event O P C R)). ExtendsUntil z.0.owned z.1 (silently z.0.acting r.done) (leaving z.0.acting r.last z.2) after) (λ i. (who i, still i, left i)) r.extends));
+            (subst (λ (z : Caller O P C R × List (TraceStep (Event O P C R)) × List (Event O P C R)). ExtendsUntil z.0.owned z.1 (silently z.0.acting r.done) (leaving z.0.acting r.last z.2) after) (λ i. (who i, still i, left i)) r.extends));
       }
 
 -- what holds of an Ok holds of what follows from it

@@ -15,10 +15,10 @@ use Rattle.event_log.specs.declared.entry.Todo.{Todo}
 use Rattle.event_log.proofs.Beginnings.{begins_rest}
 use Rattle.event_log.specs.Log.{Begins, answers, after, AreAnswers, Fulfils, LegalFrom, Legal, calls_of, of, replay, replay_from}
 use Rattle.word_rule.specs.declared.machine.step_done.StepDone.{StepDone}
-use Rattle.word_rule.specs.declared.view.Moment.{Moment}
+use Rattle.word_rule.specs.declared.view.TraceStep.{TraceStep}
 use Rattle.word_rule.specs.Cell.{Cell}
 use Rattle.word_rule.specs.Holds.{Leaves}
-use Rattle.word_rule.specs.LockRuns.{events_in, lock_after, AreTurns, IsMoment, HasRun}
+use Rattle.word_rule.specs.LockRuns.{events_in, lock_after, AreTurns, IsTraceStep, HasRun}
 use Rattle.word_rule.specs.Locks.{Lock, opening_lock, turn}
 use Rattle.word_rule.specs.Machine.Opening.{opening_cpu}
 use Rattle.word_rule.specs.Machine.SoundWorld.{entries_of}
@@ -86,14 +86,14 @@ get_range f a (suc n) (suc i) lt = let here : a + 1 + i ≡ a + suc i = omega ar
 
 module _ {O P C R : Type 0} (meaning : Ghosts O P C R) (h : Cell O P C R) (rest : ℕ → List (Todo O P C R)) where
   -- a CPU in the middle of the replay: what it has still to do, and what it has done
-  pub record CpuStands (log past : List (Event O P C R)) (ms : List (Moment (Event O P C R))) (i : ℕ) (o : Option (CpuState O P C R)) : Type 0 where
+  pub record CpuStands (log past : List (Event O P C R)) (ms : List (TraceStep (Event O P C R))) (i : ℕ) (o : Option (CpuState O P C R)) : Type 0 where
     pub cpu : CpuState O P C R
     pub there : o ≡ Some cpu
     pub does : DoesRun meaning i h.limit log ms cpu.todo (rest i)
     pub did : done_on 0 cpu.transcript ≡ steps_by i past
 
   -- the world in the middle of the replay
-  pub record Stands (l : Lock) (log past : List (Event O P C R)) (ms : List (Moment (Event O P C R))) (w : World O P C R) : Type 0 where
+  pub record Stands (l : Lock) (log past : List (Event O P C R)) (ms : List (TraceStep (Event O P C R))) (w : World O P C R) : Type 0 where
     pub cells : w.cells ≡ cell_with h l log ∷ []
     pub cpus : (i : ℕ) → i < h.numbers → CpuStands log past ms i (slice_get w.cpus i)
 
@@ -105,7 +105,7 @@ module _ {O P C R : Type 0} (meaning : Ghosts O P C R) (h : Cell O P C R) (rest 
       ∙ (ap (λ (t : List (Todo O P C R)). step_of meaning w i cpu t) todo
       ∙ ap (λ (cs : List (CellState O P C R)). step_on meaning w i cpu (todo_of calls) (slice_get cs 0)) cells)
 
-  module _ (w : World O P C R) (l : Lock) (log past : List (Event O P C R)) (m : Moment (Event O P C R)) (ms : List (Moment (Event O P C R))) (stands : Stands l log past (m ∷ ms) w) (is_moment : IsMoment h.numbers m) where
+  module _ (w : World O P C R) (l : Lock) (log past : List (Event O P C R)) (m : TraceStep (Event O P C R)) (ms : List (TraceStep (Event O P C R))) (stands : Stands l log past (m ∷ ms) w) (is_step : IsTraceStep h.numbers m) where
     abbrev opened : Opened P
     opened = record { params = h.params; limit = h.limit }
 
@@ -123,14 +123,14 @@ module _ {O P C R : Type 0} (meaning : Ghosts O P C R) (h : Cell O P C R) (rest 
                 cpu = old.cpu;
                 there = get_set_other w.cpus m.cpu j new ne ∙ old.there;
                 does = subst (λ t. DoesRun meaning j h.limit (log ++ m.events) ms t (rest j)) (old.does.2 ne) old.does.3;
-                did = old.did ∙ sym (steps_others j m.cpu past m.events is_moment.own ne);
+                did = old.did ∙ sym (steps_others j m.cpu past m.events is_step.own ne);
               });
         }
 
     abbrev mine : CpuStands log past (m ∷ ms) m.cpu (slice_get w.cpus m.cpu)
-    mine = stands.cpus m.cpu is_moment.inside
+    mine = stands.cpus m.cpu is_step.inside
 
-    -- an outcome that leaves the moment's events
+    -- an outcome that leaves the step's events
     record Becomes (d : Done O P C R) : Type 0 where
       grows : with_done m.cpu log d ≡ log ++ m.events
       did : (asked : List C) (looks : ℕ) → done_on 0 (entry_of (todo_of asked) d looks ∷ []) ≡ steps_by m.cpu m.events
@@ -143,7 +143,7 @@ module _ {O P C R : Type 0} (meaning : Ghosts O P C R) (h : Cell O P C R) (rest 
 
     becomes_one : (e : Event O P C R) → m.events ≡ e ∷ [] → Becomes (done.Steps e.steps)
     becomes_one e one =
-        let own : e.cpu ≡ m.cpu = (subst (AllByRecursion (λ (x : Event O P C R). x.cpu ≡ m.cpu)) one is_moment.own).0 in
+        let own : e.cpu ≡ m.cpu = (subst (AllByRecursion (λ (x : Event O P C R). x.cpu ≡ m.cpu)) one is_step.own).0 in
         let same : (let x : Event O P C R = record { cpu = m.cpu; steps = e.steps } in x) ≡ e = ap (λ c. record { cpu = c; steps = e.steps }) (sym own) in
         record {
           grows = ap (λ x. log ++ x ∷ []) same ∙ ap (λ z. log ++ z) (sym one);
@@ -179,7 +179,7 @@ module _ {O P C R : Type 0} (meaning : Ghosts O P C R) (h : Cell O P C R) (rest 
           let t : Lock × StepDone = turn l m.cpu in
           let calls : List C = does.calls in
           let d : Done O P C R = outcome meaning opened log calls in
-          let none : m.events ≡ [] = is_moment.silent not in
+          let none : m.events ≡ [] = is_step.silent not in
           let is = step_is w m.cpu l log mine.cpu calls does.more stands.cells mine.there does.is in
           let ends : ends_hold t.1 ≡ false = ap ends_hold (sym step_same) ∙ not in (
             ap (λ (r : World O P C R × StepDone). r.1) is ∙ sym step_same,
@@ -230,7 +230,7 @@ module _ {O P C R : Type 0} (meaning : Ghosts O P C R) (h : Cell O P C R) (rest 
           by false e = goes_on e
 
   -- step by step the machine does what is left of the run
-  replays : (ms : List (Moment (Event O P C R))) (w : World O P C R) (l : Lock) (log past whole : List (Event O P C R)) → Stands l log past ms w → AllByRecursion (IsMoment h.numbers) ms → AreTurns ms l
+  replays : (ms : List (TraceStep (Event O P C R))) (w : World O P C R) (l : Lock) (log past whole : List (Event O P C R)) → Stands l log past ms w → AllByRecursion (IsTraceStep h.numbers) ms → AreTurns ms l
       → log ++ events_in ms ≡ whole → Legal meaning h.params whole → length whole ≤ h.limit
       → (steps_done meaning (map (λ m. m.cpu) ms) w ≡ map (λ m. m.step) ms) × Stands (lock_after ms l) whole (past ++ events_in ms) [] (run meaning (map (λ m. m.cpu) ms) w)
   replays [] w l log past whole stands each are is legal fits = (refl, subst (λ (z : _ × _). Stands l z.0 z.1 [] w) (λ k. ((sym (append-nil log) ∙ is) k, sym (append-nil past) k)) stands)
@@ -242,7 +242,7 @@ module _ {O P C R : Type 0} (meaning : Ghosts O P C R) (h : Cell O P C R) (rest 
       let more = replays ms (step meaning w m.cpu).0 (turn l m.cpu).0 (log ++ m.events) (past ++ m.events) whole next.1 each.1 (ap behind_of are) (append_assoc log m.events (events_in ms) ∙ is) legal fits in
       ((λ k. next.0 k ∷ more.0 k), subst (λ z. Stands (lock_after ms (turn l m.cpu).0) whole z [] (run meaning (map (λ x. x.cpu) ms) (step meaning w m.cpu).0)) (append_assoc past m.events (events_in ms)) more.1)
 
-  module _ (script : ℕ → List (Todo O P C R)) (log : List (Event O P C R)) (done : List (Moment (Event O P C R))) (ran : HasRun h log done) (legal : Legal meaning h.params log) (fits : length log ≤ h.limit) (all : AllDoRun meaning h done script rest) (first : ℕ) where
+  module _ (script : ℕ → List (Todo O P C R)) (log : List (Event O P C R)) (done : List (TraceStep (Event O P C R))) (ran : HasRun h log done) (legal : Legal meaning h.params log) (fits : length log ≤ h.limit) (all : AllDoRun meaning h done script rest) (first : ℕ) where
     -- before the first step
     begins : Stands (opening_lock h.kind first) h.opening [] done (replay_world h script first)
     begins = record {

@@ -6,43 +6,43 @@ use Rattle.event_log.specs.declared.object.SeqObject.{Ghosts}
 use Rattle.event_log.specs.declared.event.Event.{Event}
 use Rattle.sound_run.specs.declared.lock_kind.LockKind.{LockKind}
 use Rattle.word_rule.specs.declared.machine.step_done.StepDone.{StepDone}
-use Rattle.word_rule.specs.declared.view.Moment.{Moment}
+use Rattle.word_rule.specs.declared.view.TraceStep.{TraceStep}
 use Rattle.word_rule.specs.Cell.{Cell, Lawful, stored}
 use Rattle.word_rule.specs.LockDefinition.{IsTied, LockState}
 use Rattle.word_rule.specs.LockRuns.{HasRun}
 use Rattle.word_rule.specs.Locks.{Lock, attempt, definition_of, lock_of, turn}
-use Rattle.word_rule.specs.Rule.CellInvariant.{CellInvariant, IsMade, SeatInvariant, Table, Viewed}
+use Rattle.word_rule.specs.Rule.CellInvariant.{CellInvariant, IsMade, SeatInvariant, Table, SeatView}
 use Rattle.word_rule.specs.Rule.LockStates.{IsLockOf}
 use Rattle.word_rule.proofs.LockLaws.{at_kind}
 
 module _ (kind : LockKind) where
-  pub tied_state : (n : ℕ) (ws : List ℕ) (l : LockState (definition_of kind).Own) → IsLockOf kind n ws (lock_of kind l) → IsTied (definition_of kind) n ws l
+  pub tied_state : (n : ℕ) (ws : List ℕ) (l : LockState (definition_of kind).Extra) → IsLockOf kind n ws (lock_of kind l) → IsTied (definition_of kind) n ws l
   tied_state n ws l h = record { state = h.state; words = h.words }
 
   -- what a turn makes of a state it makes of the lock; and so a try
-  pub turned_lock : (l : LockState (definition_of kind).Own) (i : ℕ) (r : LockState (definition_of kind).Own × StepDone) → (definition_of kind).turn l i ≡ r → turn (lock_of kind l) i ≡ (lock_of kind r.0, r.1)
+  pub turned_lock : (l : LockState (definition_of kind).Extra) (i : ℕ) (r : LockState (definition_of kind).Extra × StepDone) → (definition_of kind).turn l i ≡ r → turn (lock_of kind l) i ≡ (lock_of kind r.0, r.1)
   turned_lock l i r is = ap (λ z. (lock_of kind z.0, z.1)) is
 
-  pub tried_lock : (l : LockState (definition_of kind).Own) (i t : ℕ) (r : LockState (definition_of kind).Own × List StepDone) → (definition_of kind).attempt l i t ≡ r → attempt (lock_of kind l) i t ≡ (lock_of kind r.0, r.1)
+  pub tried_lock : (l : LockState (definition_of kind).Extra) (i t : ℕ) (r : LockState (definition_of kind).Extra × List StepDone) → (definition_of kind).attempt l i t ≡ r → attempt (lock_of kind l) i t ≡ (lock_of kind r.0, r.1)
   tried_lock l i t r is = ap (λ z. (lock_of kind z.0, z.1)) is
 
 module _ {O P C R : Type 0} (meaning : Ghosts O P C R) (kind : LockKind) (h : Cell O P C R) (s : Table O P C R) where
   -- what the rule says of this lock
   pub record RuleOf (l : Lock) : Type 0 where
     pub committed : List (Event O P C R)
-    pub run : List (Moment (Event O P C R))
+    pub run : List (TraceStep (Event O P C R))
     pub owner : ℕ → ℕ × ℕ
     pub tied : IsLockOf kind h.numbers s.words l
     pub ran : HasRun h committed run
     pub made : IsMade h l run
-    pub lawful : Lawful meaning h committed
+    pub valid : Lawful meaning h committed
     pub at_home : l.line.out ≡ false → get_elem? s.homes 0 ≡ some (some (Some (stored meaning h committed)))
-    pub each : (j : ℕ) (v : Viewed O P C R) → get_elem? s.views j ≡ some v → SeatInvariant h (record { committed = committed; run = run; lock = l; owner = owner }) j v
+    pub each : (j : ℕ) (v : SeatView O P C R) → get_elem? s.views j ≡ some v → SeatInvariant h (record { committed = committed; run = run; lock = l; owner = owner }) j v
 
   abbrev pub rule_of : (l : Lock) → RuleOf l → CellInvariant meaning kind h s
-  rule_of l x = record { state = record { committed = x.committed; run = x.run; lock = l; owner = x.owner }; tied = x.tied; ran = x.ran; made = x.made; lawful = x.lawful; at_home = x.at_home; each = x.each }
+  rule_of l x = record { state = record { committed = x.committed; run = x.run; lock = l; owner = x.owner }; tied = x.tied; ran = x.ran; made = x.made; valid = x.valid; at_home = x.at_home; each = x.each }
 
   -- what is shown where the lock is a state of its definition is shown of the rule
-  pub by_state : (G : CellInvariant meaning kind h s → Type 0) → ((l : LockState (definition_of kind).Own) (x : RuleOf (lock_of kind l)) → G (rule_of (lock_of kind l) x)) → (r : CellInvariant meaning kind h s) → G r
+  pub by_state : (G : CellInvariant meaning kind h s → Type 0) → ((l : LockState (definition_of kind).Extra) (x : RuleOf (lock_of kind l)) → G (rule_of (lock_of kind l) x)) → (r : CellInvariant meaning kind h s) → G r
   by_state G each r = at_kind kind (λ l. (x : RuleOf l) → G (rule_of l x)) each r.state.lock r.tied.kind_is
-      record { committed = r.state.committed; run = r.state.run; owner = r.state.owner; tied = r.tied; ran = r.ran; made = r.made; lawful = r.lawful; at_home = r.at_home; each = r.each }
+      record { committed = r.state.committed; run = r.state.run; owner = r.state.owner; tied = r.tied; ran = r.ran; made = r.made; valid = r.valid; at_home = r.at_home; each = r.each }

@@ -5,7 +5,7 @@ use Rattle.event_log.specs.declared.event.Event.{Event}
 use Rattle.event_log.specs.Log.{Begins}
 use Rattle.event_log.proofs.Beginnings.{begins_append}
 use Rattle.word_rule.specs.declared.machine.step_done.StepDone.{StepDone}
-use Rattle.word_rule.specs.declared.view.Moment.{Moment}
+use Rattle.word_rule.specs.declared.view.TraceStep.{TraceStep}
 use Rattle.word_rule.specs.Cell.{Cell}
 use Rattle.word_rule.specs.LockRuns.{lock_after, AreTurns, HasRun, arrivals_in, endings_in}
 use Rattle.word_rule.specs.Locks.{IsLock, Lock, opening_lock, turn}
@@ -35,7 +35,7 @@ one_more s i old new ended arrived line a e = by (ends_hold s) (arrives s) (orde
 
 module _ {E : Type 0} (n : ℕ) where
   -- those who have ended a hold, and then the line, are the line before, and then those who have arrived
-  pub in_order : (run : List (Moment E)) (l : Lock) → IsLock n l → AllByRecursion (λ m. m.cpu < n) run → AreTurns run l → endings_in run ++ (lock_after run l).line.cpus ≡ l.line.cpus ++ arrivals_in run
+  pub in_order : (run : List (TraceStep E)) (l : Lock) → IsLock n l → AllByRecursion (λ m. m.cpu < n) run → AreTurns run l → endings_in run ++ (lock_after run l).line.cpus ≡ l.line.cpus ++ arrivals_in run
   in_order [] l h inside are = sym (append-nil l.line.cpus)
   in_order (m ∷ ms) l h inside are =
       let t = locks_keep.turned n l m.cpu h inside.0 in
@@ -43,7 +43,7 @@ module _ {E : Type 0} (n : ℕ) where
       let rest : AreTurns ms (turn l m.cpu).0 = ap behind_of are in
       one_more m.step m.cpu l.line.cpus (turn l m.cpu).0.line.cpus (endings_in ms) (arrivals_in ms) (lock_after ms (turn l m.cpu).0).line.cpus (subst (λ (z : StepDone). LineAfter z m.cpu l.line.cpus (turn l m.cpu).0.line.cpus) (sym step) t.1) (in_order ms (turn l m.cpu).0 t.0 inside.1 rest)
 
-module _ {O P C R : Type 0} (h : Cell O P C R) (log : List (Event O P C R)) (run : List (Moment (Event O P C R))) (ran : HasRun h log run) where
+module _ {O P C R : Type 0} (h : Cell O P C R) (log : List (Event O P C R)) (run : List (TraceStep (Event O P C R))) (ran : HasRun h log run) where
   -- the line that the run leaves, behind those who have ended a hold
   pub line_left : endings_in run ++ (lock_after run (opening_lock h.kind 0)).line.cpus ≡ arrivals_in run
   line_left = in_order h.numbers run (opening_lock h.kind 0) (begins h.numbers 0 h.kind ran.fits) (all_inside h.numbers run ran.each) (ran.turns 0)

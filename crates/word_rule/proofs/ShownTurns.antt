@@ -10,7 +10,7 @@ use Rattle.word_rule.specs.LockDefinition.{IsTied, LockDefinition, LockState}
 use Rattle.word_rule.specs.Rule.LockStates.{RepresentsState}
 use Rattle.word_rule.proofs.Moves.{moved_same, moved_else}
 
-module _ (d : LockDefinition) (n : ℕ) (ws : List ℕ) (stages : List Stage) (l : LockState d.Own) (h : RepresentsState d n ws stages l) (i : ℕ) (below : i < n) where
+module _ (d : LockDefinition) (n : ℕ) (ws : List ℕ) (stages : List Stage) (l : LockState d.Extra) (h : RepresentsState d n ws stages l) (i : ℕ) (below : i < n) where
   -- the step was the lock's, and these words and places show the lock after it
   abbrev pub After : List ℕ → List Stage → StepDone → Type 0
   After ws' stages' s = (s ≡ (d.turn l i).1) × RepresentsState d n ws' stages' (d.turn l i).0
@@ -25,10 +25,10 @@ module _ (d : LockDefinition) (n : ℕ) (ws : List ℕ) (stages : List Stage) (l
       (λ ne. get_or-set_other stages i x q Idle ne ∙ (h.stages_are x x_below ∙ sym (moved_else l.line.stage i q x ne)))
 
   -- i has moved
-  pub became : (ws' : List ℕ) (q q' : Stage) (r : LockState d.Own × StepDone) → d.turn l i ≡ r → IsTied d n ws' r.0 → r.0.line.stage ≡ moved l.line.stage i q' → q ≡ q' → After ws' (set stages i q) r.1
+  pub became : (ws' : List ℕ) (q q' : Stage) (r : LockState d.Extra × StepDone) → d.turn l i ≡ r → IsTied d n ws' r.0 → r.0.line.stage ≡ moved l.line.stage i q' → q ≡ q' → After ws' (set stages i q) r.1
   became ws' q q' r is tied stage same = (
-    ap (λ (z : LockState d.Own × StepDone). z.1) (sym is),
-    subst (λ (z : LockState d.Own × StepDone). RepresentsState d n ws' (set stages i q) z.0) (sym is) record {
+    ap (λ (z : LockState d.Extra × StepDone). z.1) (sym is),
+    subst (λ (z : LockState d.Extra × StepDone). RepresentsState d n ws' (set stages i q) z.0) (sym is) record {
       tied = tied;
       size = length-set stages i q ∙ h.size;
       stages_are = λ x x_below. with_stage q x x_below ∙ (ap (λ z. moved l.line.stage i z x) same ∙ sym (ap (λ f. f x) stage));
@@ -37,4 +37,4 @@ module _ (d : LockDefinition) (n : ℕ) (ws : List ℕ) (stages : List Stage) (l
 
   -- nothing has changed
   pub same : (s : StepDone) → d.turn l i ≡ (l, s) → After ws stages s
-  same s is = (ap (λ (z : LockState d.Own × StepDone). z.1) (sym is), subst (λ (z : LockState d.Own × StepDone). RepresentsState d n ws stages z.0) (sym is) h)
+  same s is = (ap (λ (z : LockState d.Extra × StepDone). z.1) (sym is), subst (λ (z : LockState d.Extra × StepDone). RepresentsState d n ws stages z.0) (sym is) h)

@@ -25,8 +25,8 @@ module _ {O P C R : Type 0} (meaning : Ghosts O P C R) where
     same : after.caller ≡ before.caller
     same = ends ∙ (goes ∙ was)
 
-    lawful : Lawful meaning before.caller.cell after.seen
-    lawful = subst (λ c. Lawful meaning c.cell after.seen) same part.lawful
+    valid : Lawful meaning before.caller.cell after.seen
+    valid = subst (λ c. Lawful meaning c.cell after.seen) same part.valid
 
     pub answered : (cs : List C) (s : Steps O P C R) (state : O) → Fulfils meaning cs s.list.items → k.history ≡ with_event h.history (record { cpu = h.caller.acting; steps = s }) state → IsAnswered meaning before cs s after
     answered cs s state fulfils next =
@@ -35,7 +35,7 @@ module _ {O P C R : Type 0} (meaning : Ghosts O P C R) where
         let acts : before.caller.owned before.caller.acting ≡ true = subst (λ c. c.owned c.acting ≡ true) was held.caller.acts in
         record {
           caller = same;
-          lawful = lawful;
+          valid = valid;
           begins = subst (Begins before.seen) (sym last) (begins_more before.seen h.history.log (e ∷ []) grows.begins);
           front = h.history.log;
           last = last;
@@ -47,7 +47,7 @@ module _ {O P C R : Type 0} (meaning : Ghosts O P C R) where
     pub refused : k ≡ h → length h.history.log ≡ h.history.limit → IsRefused meaning before after
     refused kept full = record {
       caller = same;
-      lawful = lawful;
+      valid = valid;
       grows = subst (Grows before.caller.owned before.seen) (sym (seen ∙ ap (λ z. z.history.log) kept)) grows;
       full = ap length (seen ∙ ap (λ z. z.history.log) kept) ∙ (full ∙ (ap (λ x. x.limit) held.replayed ∙ ap (λ c. c.cell.limit) was));
     }

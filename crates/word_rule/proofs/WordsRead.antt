@@ -10,7 +10,7 @@ use Rattle.event_log.specs.History.{History}
 use Rattle.sound_run.specs.declared.lock_kind.LockKind.{LockKind}
 use Rattle.word_rule.specs.Cell.{Cell}
 use Rattle.word_rule.specs.Rule.LockStates.{IsLockOf}
-use Rattle.word_rule.specs.Rule.CellInvariant.{Viewed, Table, CellInvariant}
+use Rattle.word_rule.specs.Rule.CellInvariant.{SeatView, Table, CellInvariant}
 use Rattle.word_rule.specs.Rule.Seats.{noted}
 use Rattle.word_rule.specs.Rule.Announced.{HasAll, any_has}
 use Rattle.word_rule.proofs.Lists.{or_none}
@@ -20,7 +20,7 @@ use Rattle.word_rule.proofs.Stays.{seats_stay}
 pub one_word : (a b : ℕ) → Some a ≡ Some b → a ≡ b
 one_word a b e = cc
 
-module _ {O P C R : Type 0} (meaning : Ghosts O P C R) (kind : LockKind) (h : Cell O P C R) (s : Table O P C R) (r : CellInvariant meaning kind h s) (id : ℕ) (v : Viewed O P C R) (there : get_elem? s.views id ≡ some v) where
+module _ {O P C R : Type 0} (meaning : Ghosts O P C R) (kind : LockKind) (h : Cell O P C R) (s : Table O P C R) (r : CellInvariant meaning kind h s) (id : ℕ) (v : SeatView O P C R) (there : get_elem? s.views id ≡ some v) where
   -- the word 0 was read, and the first caller keeps it
   abbrev pub notes : (cs : List (ℕ × Option (History O P C R))) → CellInvariant meaning kind h (stepped s 0 (get_or s.words 0 0) id cs (noted v (get_or s.words 0 0)) keeps)
   notes cs =
@@ -32,7 +32,7 @@ module _ {O P C R : Type 0} (meaning : Ghosts O P C R) (kind : LockKind) (h : Ce
         tied = subst (λ (ws : List ℕ). IsLockOf kind h.numbers ws b.lock) (sym (set-get_or s.words 0 0)) r.tied;
         ran = r.ran;
         made = r.made;
-        lawful = r.lawful;
+        valid = r.valid;
         at_home = r.at_home;
         each = seats_stay h b b s.views id (noted v found)
             record {

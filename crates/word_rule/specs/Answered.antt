@@ -21,7 +21,7 @@ module _ {O P C R : Type 0} (meaning : Ghosts O P C R) where
   -- the calls were answered at the end of a lawful log that begins with all that the caller had seen
   pub record IsAnswered (before : PassView O P C R) (asked : List C) (steps : Steps O P C R) (after : PassView O P C R) : Type 0 where
     pub caller : after.caller ≡ before.caller
-    pub lawful : Lawful meaning before.caller.cell after.seen
+    pub valid : Lawful meaning before.caller.cell after.seen
     pub begins : Begins before.seen after.seen
     pub front : List (Event O P C R)
     pub last : after.seen ≡ front ++ events_by before.caller.acting (steps ∷ [])
@@ -32,7 +32,7 @@ module _ {O P C R : Type 0} (meaning : Ghosts O P C R) where
   -- a full log was seen
   pub record IsRefused (before after : PassView O P C R) : Type 0 where
     pub caller : after.caller ≡ before.caller
-    pub lawful : Lawful meaning before.caller.cell after.seen
+    pub valid : Lawful meaning before.caller.cell after.seen
     pub grows : Grows before.caller.owned before.seen after.seen
     pub full : length after.seen ≡ before.caller.cell.limit
 
@@ -46,8 +46,8 @@ module _ {O P C R : Type 0} (meaning : Ghosts O P C R) where
   pub record IsHeldThrough (before : PassView O P C R) (groups : List (ArrayVec C)) (done : List (Steps O P C R)) (after : PassView O P C R) : Type 0 where
     pub caller : after.caller ≡ before.caller
     pub found : List (Event O P C R)
-    pub found_lawful : Lawful meaning before.caller.cell found
+    pub found_valid : Lawful meaning before.caller.cell found
     pub grows : Grows before.caller.owned before.seen found
     pub added : after.seen ≡ found ++ events_by before.caller.acting done
-    pub lawful : Lawful meaning before.caller.cell after.seen
+    pub valid : Lawful meaning before.caller.cell after.seen
     pub fulfils : FulfilFirst groups done

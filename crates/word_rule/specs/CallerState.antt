@@ -5,7 +5,7 @@ use Rattle.event_log.specs.declared.event.Event.{Event}
 use Rattle.event_log.specs.History.{History}
 use Rattle.word_rule.specs.declared.machine.step_done.StepDone.{StepDone}
 use Rattle.word_rule.specs.declared.lock_kind.Stage.{Stage}
-use Rattle.word_rule.specs.declared.view.Moment.{Moment}
+use Rattle.word_rule.specs.declared.view.TraceStep.{TraceStep}
 use Rattle.word_rule.specs.Cell.{Caller, Grows, Lawful, OwnsAll, stored}
 use Rattle.word_rule.specs.Locks.{holding}
 use Rattle.word_rule.specs.LockRuns.{Extends, ExtendsUntil}
@@ -16,7 +16,7 @@ pub record CallerState (O P C R : Type 0) : Type 0 where
   pub caller : Caller O P C R
   pub stage : Stage
   pub seen : List (Event O P C R)
-  pub run : List (Moment (Event O P C R))
+  pub run : List (TraceStep (Event O P C R))
   pub has : Option (History O P C R)
 
 module _ {O P C R : Type 0} where
@@ -35,7 +35,7 @@ module _ {O P C R : Type 0} (meaning : Ghosts O P C R) where
     pub grows : Grows before.caller.owned before.seen after.seen
     pub still : holding p ≡ true → after.seen ≡ before.seen
     pub extends : Extends before.caller.owned before.run (silently before.caller.acting done) after.run
-    pub lawful : Lawful meaning before.caller.cell after.seen
+    pub valid : Lawful meaning before.caller.cell after.seen
     pub has : after.has ≡ before.has
 
   -- the object comes to the caller by these steps, with the log that it sees now
@@ -45,7 +45,7 @@ module _ {O P C R : Type 0} (meaning : Ghosts O P C R) where
     pub to : after.stage ≡ q
     pub grows : Grows before.caller.owned before.seen after.seen
     pub extends : Extends before.caller.owned before.run (silently before.caller.acting done) after.run
-    pub lawful : Lawful meaning before.caller.cell after.seen
+    pub valid : Lawful meaning before.caller.cell after.seen
     pub had : before.has ≡ None
     pub has : after.has ≡ Some (stored meaning before.caller.cell after.seen)
 
@@ -55,7 +55,7 @@ module _ {O P C R : Type 0} (meaning : Ghosts O P C R) where
     pub caller : after.caller ≡ before.caller
     pub from : before.stage ≡ p
     pub to : after.stage ≡ q
-    pub lawful : Lawful meaning before.caller.cell after.seen
+    pub valid : Lawful meaning before.caller.cell after.seen
     pub events : List (Event O P C R)
     pub added : after.seen ≡ before.seen ++ events
     pub extends : ExtendsUntil before.caller.owned before.run [] (leaving before.caller.acting step events) after.run

@@ -90,10 +90,10 @@ module _ {O P C R : Type 0} (meaning : Ghosts O P C R) where
   -- the numbers are the cell's, and a lawful log was seen
   pub record IsPassView (view : PassView O P C R) : Type 0 where
     pub caller : IsCaller view.caller
-    pub lawful : Lawful view.caller.cell view.seen
+    pub valid : Lawful view.caller.cell view.seen
 
   -- the numbers are the cell's, and the stored log is lawful, with its replay
   pub record IsHoldView (view : HoldView O P C R) : Type 0 where
     pub caller : IsCaller view.caller
-    pub lawful : Lawful view.caller.cell view.history.log
+    pub valid : Lawful view.caller.cell view.history.log
     pub replayed : view.history ≡ stored view.caller.cell view.history.log

@@ -3,7 +3,7 @@ use Rattle.std.specs.Prelude.{◌≡◌, ◌⊎◌, ℕ, List, [], ◌∷◌, �
 use Rattle.event_log.specs.declared.object.SeqObject.{Ghosts}
 use Rattle.event_log.specs.declared.event.Event.{Event}
 use Rattle.event_log.specs.Log.{Fulfils}
-use Rattle.word_rule.specs.declared.view.Moment.{Moment}
+use Rattle.word_rule.specs.declared.view.TraceStep.{TraceStep}
 use Rattle.word_rule.specs.Cell.{Caller}
 use Rattle.word_rule.specs.LockRuns.{Extends, events_in}
 use Rattle.word_rule.specs.OneHold.{HasHeld}
@@ -14,7 +14,7 @@ module _ {O P C R : Type 0} (meaning : Ghosts O P C R) where
   Leaves limit log calls events = ((e : Event O P C R) × (events ≡ e ∷ []) × Fulfils meaning calls e.steps.list.items) ⊎ ((events ≡ []) × (length log ≡ limit))
 
   -- the caller has had the object once for each of these lists of calls, one after another, and has left that; it has done nothing else
-  abbrev pub HasHeldEach : Caller O P C R → List (Moment (Event O P C R)) → List (List C) → List (Moment (Event O P C R)) → Type 0
+  abbrev pub HasHeldEach : Caller O P C R → List (TraceStep (Event O P C R)) → List (List C) → List (TraceStep (Event O P C R)) → Type 0
   HasHeldEach caller before [] after = Extends caller.owned before [] after
-  HasHeldEach caller before (calls ∷ more) after = (looks : ℕ) × (between : List (Moment (Event O P C R))) × (events : List (Event O P C R)) × (held : HasHeld caller before looks events between)
+  HasHeldEach caller before (calls ∷ more) after = (looks : ℕ) × (between : List (TraceStep (Event O P C R))) × (events : List (Event O P C R)) × (held : HasHeld caller before looks events between)
       × Leaves caller.cell.limit (caller.cell.opening ++ events_in held.extends.before) calls events × HasHeldEach caller between more after

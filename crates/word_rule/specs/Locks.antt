@@ -22,15 +22,15 @@ holding q = ticket_lock.holding q || mcs_lock.holding q
 pub record Lock : Type 0 where
   pub kind : LockKind
   pub line : Line
-  pub own : (definition_of kind).Own
+  pub extra : (definition_of kind).Extra
 
 -- the lock as its definition takes it
-abbrev pub state_of : (l : Lock) → LockState (definition_of l.kind).Own
-state_of l = record { line = l.line; own = l.own }
+abbrev pub state_of : (l : Lock) → LockState (definition_of l.kind).Extra
+state_of l = record { line = l.line; extra = l.extra }
 
 -- the lock of that kind with this state
-abbrev pub lock_of : (kind : LockKind) → LockState (definition_of kind).Own → Lock
-lock_of kind s = record { kind = kind; line = s.line; own = s.own }
+abbrev pub lock_of : (kind : LockKind) → LockState (definition_of kind).Extra → Lock
+lock_of kind s = record { kind = kind; line = s.line; extra = s.extra }
 
 -- a lock before its first step
 abbrev pub opening_lock : LockKind → ℕ → Lock
@@ -44,21 +44,21 @@ turn l i = let t = (definition_of l.kind).turn (state_of l) i in (lock_of l.kind
 abbrev pub attempt : Lock → ℕ → ℕ → Lock × List StepDone
 attempt l i ticket = let t = (definition_of l.kind).attempt (state_of l) i ticket in (lock_of l.kind t.0, t.1)
 
--- what readies a CPU's try
-abbrev pub ready : Lock → ℕ → Lock
-ready l i = lock_of l.kind ((definition_of l.kind).ready (state_of l) i)
+-- what prepares a CPU's try
+abbrev pub prepare : Lock → ℕ → Lock
+prepare l i = lock_of l.kind ((definition_of l.kind).prepare (state_of l) i)
 
 -- the words of a lock for n CPUs
 abbrev pub lock_words : ℕ → Lock → List ℕ
 lock_words n l = (definition_of l.kind).words n (state_of l)
 
--- the lock apart from what a cell's may have otherwise than the one that its run makes
-abbrev pub plain : Lock → Lock
-plain l = lock_of l.kind ((definition_of l.kind).plain (state_of l))
+-- the lock without the parts that may differ between a cell's lock and the one that its run makes
+abbrev pub erase : Lock → Lock
+erase l = lock_of l.kind ((definition_of l.kind).erase (state_of l))
 
--- the number that its words go by beside the line
-abbrev pub number : Lock → ℕ
-number l = (definition_of l.kind).number l.own
+-- the ticket that is served, which its words go by beside the line; 0 where there are no tickets
+abbrev pub served : Lock → ℕ
+served l = (definition_of l.kind).served l.extra
 
 -- whether a lock of that kind is for so many CPUs
 abbrev pub Fits : LockKind → ℕ → Type 0

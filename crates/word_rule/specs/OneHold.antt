@@ -5,7 +5,7 @@ use Rattle.event_log.specs.declared.event.Event.{Event}
 use Rattle.event_log.specs.Log.{Begins}
 use Rattle.word_rule.specs.declared.machine.step_done.StepDone.{StepDone}
 use Rattle.word_rule.specs.declared.machine.step_done.StepDone.TheVariants as steps
-use Rattle.word_rule.specs.declared.view.Moment.{Moment}
+use Rattle.word_rule.specs.declared.view.TraceStep.{TraceStep}
 use Rattle.word_rule.specs.Cell.{Caller, HoldView}
 use Rattle.word_rule.specs.LockRuns.{Extends, ExtendsUntil, HasRun, events_in}
 use Rattle.word_rule.specs.StepKinds.{arrives, ends_hold, is_look}
@@ -43,22 +43,22 @@ looks_in done = min (how_many is_look done) (2 ^ 64 - 1)
 
 module _ {E : Type 0} where
   -- the CPU did this step, and left these events
-  abbrev pub leaving : ℕ → StepDone → List E → Moment E
+  abbrev pub leaving : ℕ → StepDone → List E → TraceStep E
   leaving cpu s events = record { cpu = cpu; step = s; events = events }
 
   -- the CPU did these steps, and left no event
-  abbrev pub silently : ℕ → List StepDone → List (Moment E)
+  abbrev pub silently : ℕ → List StepDone → List (TraceStep E)
   silently cpu done = map (λ s. leaving cpu s []) done
 
 module _ {O P C R : Type 0} where
   -- the holder has seen this run, and its log begins with the log that the run left
-  pub record IsUnderHold (hold : HoldView O P C R) (run : List (Moment (Event O P C R))) : Type 0 where
+  pub record IsUnderHold (hold : HoldView O P C R) (run : List (TraceStep (Event O P C R))) : Type 0 where
     pub log : List (Event O P C R)
     pub ran : HasRun hold.caller.cell log run
     pub added : Begins log hold.history.log
 
   -- the caller has got the object, with so many looks, and has done nothing else; the log that it found is what the run left
-  pub record HasAcquired (caller : Caller O P C R) (before : List (Moment (Event O P C R))) (looks : ℕ) (found : List (Event O P C R)) (after : List (Moment (Event O P C R))) : Type 0 where
+  pub record HasAcquired (caller : Caller O P C R) (before : List (TraceStep (Event O P C R))) (looks : ℕ) (found : List (Event O P C R)) (after : List (TraceStep (Event O P C R))) : Type 0 where
     pub done : List StepDone
     pub acquires : Acquires done
     pub looked : looks ≡ looks_in done
@@ -67,7 +67,7 @@ module _ {O P C R : Type 0} where
 
   -- the holder has given the object back, which left what it had added to the log, and has done nothing else; its last step is
   -- the last that it has seen
-  pub record HasReleased (hold : HoldView O P C R) (before after : List (Moment (Event O P C R))) : Type 0 where
+  pub record HasReleased (hold : HoldView O P C R) (before after : List (TraceStep (Event O P C R))) : Type 0 where
     pub done : List StepDone
     pub last : StepDone
     pub releases : Releases done last
@@ -77,7 +77,7 @@ module _ {O P C R : Type 0} where
 
   -- the caller has had the object once, with so many looks, has left these events, and has done nothing else; its last step is
   -- the last that it has seen
-  pub record HasHeld (caller : Caller O P C R) (before : List (Moment (Event O P C R))) (looks : ℕ) (events : List (Event O P C R)) (after : List (Moment (Event O P C R))) : Type 0 where
+  pub record HasHeld (caller : Caller O P C R) (before : List (TraceStep (Event O P C R))) (looks : ℕ) (events : List (Event O P C R)) (after : List (TraceStep (Event O P C R))) : Type 0 where
     pub got : List StepDone
     pub acquires : Acquires got
     pub looked : looks ≡ looks_in got
@@ -87,9 +87,9 @@ module _ {O P C R : Type 0} where
     pub extends : ExtendsUntil caller.owned before (silently caller.acting (got ++ done)) (leaving caller.acting last events) after
 
   -- the caller has got the object with at most one look, and has done nothing else
-  abbrev pub HasAcquiredAtOnce : Caller O P C R → List (Moment (Event O P C R)) → List (Event O P C R) → List (Moment (Event O P C R)) → Type 0
+  abbrev pub HasAcquiredAtOnce : Caller O P C R → List (TraceStep (Event O P C R)) → List (Event O P C R) → List (TraceStep (Event O P C R)) → Type 0
   HasAcquiredAtOnce caller before found after = (looks : ℕ) × (looks ≤ 1) × HasAcquired caller before looks found after
 
   -- the caller has had the object once, with at most one look, has left these events, and has done nothing else
-  abbrev pub HasHeldAtOnce : Caller O P C R → List (Moment (Event O P C R)) → List (Event O P C R) → List (Moment (Event O P C R)) → Type 0
+  abbrev pub HasHeldAtOnce : Caller O P C R → List (TraceStep (Event O P C R)) → List (Event O P C R) → List (TraceStep (Event O P C R)) → Type 0
   HasHeldAtOnce caller before events after = (looks : ℕ) × (looks ≤ 1) × HasHeld caller before looks events after

@@ -5,7 +5,7 @@ use Rattle.std.specs.declared.default.Default.{Ghosts as Default}
 use Rattle.event_log.specs.declared.event.Event.{Event}
 use Rattle.event_log.specs.declared.object.SeqObject.{Ghosts}
 use Rattle.word_rule.specs.declared.lock_kind.Stage.TheVariants.{Idle}
-use Rattle.word_rule.specs.declared.view.Moment.{Moment}
+use Rattle.word_rule.specs.declared.view.TraceStep.{TraceStep}
 use Rattle.word_rule.specs.declared.lock_table.LockTable.{LockTable}
 use Rattle.word_rule.specs.declared.pass.Pass.{Pass}
 use Rattle.word_rule.specs.declared.hold.Hold.{Hold}
@@ -37,8 +37,8 @@ module _ {O P C R : Type 0} {g : Ghosts O P C R} {call_eq : Eq C} {call_default 
   state_of_hold h = state_with h.key.value h.seat.me.0.main.stage h.logged h.seat.me
 
   -- the run that each has seen
-  abbrev pub run_of_pass : Pass O P C R g call_eq call_default reply_eq reply_default → List (Moment (Event O P C R))
+  abbrev pub run_of_pass : Pass O P C R g call_eq call_default reply_eq reply_default → List (TraceStep (Event O P C R))
   run_of_pass p = p.seat.me.0.main.run
 
-  abbrev pub run_of_hold : Hold O P C R g call_eq call_default reply_eq reply_default → List (Moment (Event O P C R))
+  abbrev pub run_of_hold : Hold O P C R g call_eq call_default reply_eq reply_default → List (TraceStep (Event O P C R))
   run_of_hold h = h.seat.me.0.main.run

@@ -3,7 +3,7 @@ use Rattle.std.specs.Prelude.{◌≡◌, ℕ, List, [], ◌∷◌, ◌++◌, tru
 use Rattle.event_log.specs.declared.event.Event.{Event}
 use Rattle.word_rule.specs.declared.machine.step_done.StepDone.{StepDone}
 use Rattle.word_rule.specs.declared.machine.step_done.StepDone.TheVariants as steps
-use Rattle.word_rule.specs.declared.view.Moment.{Moment}
+use Rattle.word_rule.specs.declared.view.TraceStep.{TraceStep}
 use Rattle.word_rule.specs.CallerState.{CallerState}
 use Rattle.word_rule.specs.LockRuns.{Extends, events_in}
 use Rattle.word_rule.specs.OneHold.{gets_object, how_many, looks_in, silently}
@@ -12,7 +12,7 @@ use Rattle.word_rule.specs.StepKinds.{arrives, ends_hold}
 module _ {O P C R : Type 0} where
   -- one in line gets the object by a look, after steps by which it doesn't get it, nor arrives or ends a hold; the looks of the
   -- steps that it had done before in vain are counted too
-  pub record IsQueued (before : CallerState O P C R) (vain : List StepDone) (looks : ℕ) (found : List (Event O P C R)) (after : List (Moment (Event O P C R))) : Type 0 where
+  pub record IsQueued (before : CallerState O P C R) (vain : List StepDone) (looks : ℕ) (found : List (Event O P C R)) (after : List (TraceStep (Event O P C R))) : Type 0 where
     pub done : List StepDone
     pub arrived : how_many arrives done ≡ 0
     pub got : how_many gets_object done ≡ 0

@@ -5,7 +5,7 @@ use Rattle.event_log.specs.declared.object.SeqObject.{Ghosts}
 use Rattle.event_log.specs.declared.event.Event.{Event}
 use Rattle.event_log.specs.declared.entry.Todo.{Todo}
 use Rattle.word_rule.specs.declared.machine.step_done.StepDone.{StepDone}
-use Rattle.word_rule.specs.declared.view.Moment.{Moment}
+use Rattle.word_rule.specs.declared.view.TraceStep.{TraceStep}
 use Rattle.word_rule.specs.Cell.{Cell, Caller}
 use Rattle.word_rule.specs.Holds.{Leaves}
 use Rattle.word_rule.specs.LockRuns.{events_in, lock_after}
@@ -43,7 +43,7 @@ module _ {O P C R : Type 0} where
 
 module _ {O P C R : Type 0} (meaning : Ghosts O P C R) where
   -- a CPU does this step by its script's first entry; where the step ends a hold, the entry's calls left the events, and it is done
-  pub record DoesStep (limit : ℕ) (log : List (Event O P C R)) (m : Moment (Event O P C R)) (script rest : List (Todo O P C R)) : Type 0 where
+  pub record DoesStep (limit : ℕ) (log : List (Event O P C R)) (m : TraceStep (Event O P C R)) (script rest : List (Todo O P C R)) : Type 0 where
     pub calls : List C
     pub more : List (Todo O P C R)
     pub is : script ≡ todo_of calls ∷ more
@@ -51,12 +51,12 @@ module _ {O P C R : Type 0} (meaning : Ghosts O P C R) where
     pub goes : ends_hold m.step ≡ false → rest ≡ script
 
   -- a CPU does its steps of a run by its script, of which the rest isn't begun
-  abbrev pub DoesRun : ℕ → ℕ → List (Event O P C R) → List (Moment (Event O P C R)) → List (Todo O P C R) → List (Todo O P C R) → Type 0
+  abbrev pub DoesRun : ℕ → ℕ → List (Event O P C R) → List (TraceStep (Event O P C R)) → List (Todo O P C R) → List (Todo O P C R) → Type 0
   DoesRun cpu limit log [] script rest = script ≡ rest
   DoesRun cpu limit log (m ∷ ms) script rest = (left : List (Todo O P C R)) × (m.cpu ≡ cpu → DoesStep limit log m script left) × (m.cpu ≢ cpu → left ≡ script) × DoesRun cpu limit (log ++ m.events) ms left rest
 
   -- each CPU of the cell does so, whatever its script and its rest are
-  abbrev pub AllDoRun : Cell O P C R → List (Moment (Event O P C R)) → (ℕ → List (Todo O P C R)) → (ℕ → List (Todo O P C R)) → Type 0
+  abbrev pub AllDoRun : Cell O P C R → List (TraceStep (Event O P C R)) → (ℕ → List (Todo O P C R)) → (ℕ → List (Todo O P C R)) → Type 0
   AllDoRun cell run script rest = (i : ℕ) → i < cell.numbers → DoesRun i cell.limit cell.opening run (script i) (rest i)
 
   -- what the machine's steps are, by a schedule
@@ -65,12 +65,12 @@ module _ {O P C R : Type 0} (meaning : Ghosts O P C R) where
   steps_done (i ∷ is) w = (step meaning w i).1 ∷ steps_done is (step meaning w i).0
 
   -- the machine once the CPUs of the run have done their next steps, in the run's order
-  abbrev pub replayed : Cell O P C R → (ℕ → List (Todo O P C R)) → ℕ → List (Moment (Event O P C R)) → World O P C R
+  abbrev pub replayed : Cell O P C R → (ℕ → List (Todo O P C R)) → ℕ → List (TraceStep (Event O P C R)) → World O P C R
   replayed cell script first done = run meaning (map (λ m. m.cpu) done) (replay_world cell script first)
 
   -- the machine has done the run: the same steps, with the run's lock and log at the end; each transcript has the steps of its
   -- CPU's events, and the rest of each script isn't begun
-  pub record IsReplay (cell : Cell O P C R) (script rest : ℕ → List (Todo O P C R)) (first : ℕ) (log : List (Event O P C R)) (done : List (Moment (Event O P C R))) : Type 0 where
+  pub record IsReplay (cell : Cell O P C R) (script rest : ℕ → List (Todo O P C R)) (first : ℕ) (log : List (Event O P C R)) (done : List (TraceStep (Event O P C R))) : Type 0 where
     pub steps : steps_done (map (λ m. m.cpu) done) (replay_world cell script first) ≡ map (λ m. m.step) done
     pub cells : (replayed cell script first done).cells ≡ cell_with cell (lock_after done (opening_lock cell.kind first)) log ∷ []
     pub transcripts : (i : ℕ) → i < cell.numbers → done_on 0 (entries_by i (replayed cell script first done)) ≡ steps_by i (events_in done)

@@ -5,7 +5,7 @@ ghost use Rattle.event_log.proofs.Props.{legal_props};
 ghost use Rattle.word_rule.specs.Rule.Callers.{IsWith};
 ghost use Rattle.word_rule.specs.Locks.{holder};
 
-use crate::{Cpu, Key, Lent, Seat};
+use crate::{Cpu, Key, LoanToken, Seat};
 use event_log::{Logged, SeqObject};
 use std::snapshot::Snapshot;
 
@@ -15,7 +15,7 @@ pub struct Hold<O: SeqObject> {
     pub cpu: Cpu,
     pub ticket: u32,
     pub logged: Logged<O>,
-    pub lent: Lent,
+    pub loan: LoanToken,
     pub key: Snapshot<Key<O>>,
     pub seat: Seat<O>,
     pub ghost holds: { IsWith O.SeqObject key.value cpu.number seat.me.0.main.stage logged seat.me } by { Prim.hlevel legal_props },

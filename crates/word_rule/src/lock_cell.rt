@@ -5,7 +5,7 @@ ghost use Rattle.event_log.specs.declared.event.Event.{Event};
 ghost use Rattle.event_log.specs.Log.{answers, one_step, Fulfils};
 ghost use Rattle.word_rule.specs.Answered.{IsBusy};
 ghost use Rattle.word_rule.specs.Cell.{PassView, HoldView, Grows, IsPassView, IsHoldView, OwnsAll, after_steps, stored};
-ghost use Rattle.word_rule.specs.declared.view.Moment.{Moment};
+ghost use Rattle.word_rule.specs.declared.view.TraceStep.{TraceStep};
 ghost use Rattle.word_rule.specs.LockRuns.{Extends, HasRun, endings_in, arrivals_in};
 ghost use Rattle.word_rule.specs.OneHold.{HasAcquired, HasAcquiredAtOnce, HasReleased, IsUnderHold};
 
@@ -36,10 +36,10 @@ pub trait LockCell<O: SeqObject> {
 
     /// The run of the cell's lock that the pass has seen. The clauses of runs stand apart from those of logs: who wants the log
     /// alone may pass over each `run`.
-    ghost pass_run: { Self.Pass → List (Moment (Event O O.Params O.Call O.Reply)) };
+    ghost pass_run: { Self.Pass → List (TraceStep (Event O O.Params O.Call O.Reply)) };
 
     /// The run that the hold has seen.
-    ghost hold_run: { Self.Hold → List (Moment (Event O O.Params O.Call O.Reply)) };
+    ghost hold_run: { Self.Hold → List (TraceStep (Event O O.Params O.Call O.Reply)) };
 
     /// Waits for the object, and answers how often it looked.
     fn acquire<R: Wait>(&self, rt: &R, pass: Self::Pass) -> (Self::Hold, u64)
@@ -139,10 +139,10 @@ pub trait LockCell<O: SeqObject> {
         ensures run { endings_in (pass_run pass) ≡ arrivals_in (pass_run pass) };
 
     /// A pass of the cell has numbers of the cell, acts as the least, and has seen a lawful log.
-    ghost pass_is_lawful: { (cell : Self) (pass : Self.Pass) → is_pass_of cell pass → IsPassView O.SeqObject (pass_view pass) };
+    ghost pass_is_valid: { (cell : Self) (pass : Self.Pass) → is_pass_of cell pass → IsPassView O.SeqObject (pass_view pass) };
 
     /// A hold of the cell has numbers of the cell, acts as the least, and shows the replay of a lawful log.
-    ghost hold_is_lawful: { (cell : Self) (hold : Self.Hold) → is_hold_of cell hold → IsHoldView O.SeqObject (hold_view hold) };
+    ghost hold_is_valid: { (cell : Self) (hold : Self.Hold) → is_hold_of cell hold → IsHoldView O.SeqObject (hold_view hold) };
 
     /// A pass has seen a run of the cell's lock, which left the log that it has seen.
     ghost pass_has_run: { (cell : Self) (pass : Self.Pass) → is_pass_of cell pass → HasRun (pass_view pass).caller.cell (pass_view pass).seen (pass_run pass) };

@@ -1,9 +1,11 @@
 //! The opening of a cell and its end, whichever lock it has.
 
-ghost use Rattle.std.specs.Prelude.{◌≡◌, ◌<◌, ◌≤◌, [], length, IfOk, IfErr, vec_len, vec_capacity};
+ghost use Rattle.std.specs.Prelude.{◌≡◌, ◌<◌, ◌≤◌, [], ◌∷◌, length, IfOk, IfErr, Some, vec_len, vec_capacity};
+ghost use Rattle.atomic_table.specs.Table.{opening};
 ghost use Rattle.word_rule.specs.Cell.{Lawful, EachAt, OwnsAll, cell_of, opening_pass, first_pass, stored};
 ghost use Rattle.word_rule.specs.LockRuns.{endings_in, arrivals_in};
 ghost use Rattle.word_rule.specs.Locks.{opening_lock};
+ghost use Rattle.word_rule.specs.Rule.CellInvariant.{CellInvariant};
 ghost use Rattle.word_rule.specs.Rule.LockStates.{IsLockOf};
 ghost use Rattle.word_rule.specs.Passes.{IsPassAt, view_of_pass, run_of_pass};
 ghost use Rattle.word_rule.specs.Rule.Seats.{first_view};
@@ -39,17 +41,31 @@ impl<O: SeqObject> LockTable<O> {
         let Ok(passes) = Vec::with_capacity(alloc, cpus as usize) else {
             return Err((OutOfMemory, logged));
         };
+        let key = Key::of(kind, first, cpus, &logged);
+        let (table, seat) = LockTable::make(alloc, words, logged, &key)?;
+        let passes = table.deal(seat, &key, cpus, passes);
+        Ok((table, passes))
+    }
+
+    // The table, with the object at home, and its first seat.
+    fn make(
+        alloc: Global,
+        words: &[u64],
+        logged: Logged<O>,
+        key: &Key<O>,
+    ) -> Result<(LockTable<O>, Seat<O>), (OutOfMemory, Logged<O>)>
+        requires { CellInvariant O.SeqObject key.now.kind key.now (opening words.now (Some logged ∷ []) (first_view key.now)) }
+        ensures key { IfOk result (λ r. r.0.table.shared.key ≡ key.now) }
+        ensures words { IfOk result (λ r. r.0.table.shared.table_id.words ≡ length words.now) }
+        ensures seat { IfOk result (λ r. (r.1.table_id ≡ r.0.table.shared.table_id) × (r.1.me ≡ (first_view key.now, []))) }
+        ensures unchanged { IfErr result (λ e. e.1 ≡ logged) }
+    {
         let Ok(mut slots) = Vec::with_capacity(alloc, 1) else {
             return Err((OutOfMemory, logged));
         };
-        let key = Key::of(kind, first, cpus, &logged);
         slots.push_reserved(Some(logged));
-        match Table::new(alloc, words, slots, &key) {
-            Ok((table, seat)) => {
-                let table = LockTable { table };
-                let passes = table.deal(seat, &key, cpus, passes);
-                Ok((table, passes))
-            }
+        match Table::new(alloc, words, slots, key) {
+            Ok((table, seat)) => Ok((LockTable { table }, seat)),
             Err(Refused { mut slots }) => {
                 let slot = slots.pop().unwrap();
                 slots.destroy_empty();
@@ -70,7 +86,7 @@ impl<O: SeqObject> LockTable<O> {
         requires some { 0 < self.now.table.shared.table_id.words }
         requires seat { (seat.table_id ≡ self.now.table.shared.table_id) × (seat.me ≡ (first_view key.now, [])) × (key.now.numbers ≡ cpus) }
         requires room { (passes.items ≡ []) × (cpus ≤ vec_capacity passes) }
-        requires lawful { Lawful O.SeqObject key.now key.now.opening }
+        requires valid { Lawful O.SeqObject key.now key.now.opening }
         ensures passes { EachAt (λ k p. IsPassAt self.now p × (view_of_pass p ≡ opening_pass key.now k)) result.items }
         ensures runs { EachAt (λ k p. run_of_pass p ≡ []) result.items }
         ensures count { vec_len result ≡ cpus }

@@ -5,7 +5,7 @@ ghost use Rattle.word_rule.specs.Cell.{Grows};
 ghost use Rattle.word_rule.specs.LockRuns.{Extends};
 ghost use Rattle.word_rule.specs.Passes.{IsPassAt, IsHoldAt, view_of_pass, run_of_pass};
 
-use crate::{Beside, Clash, Cpu, Hold, LockTable, Meet, Merge, Pass, Tear};
+use crate::{Cpu, Hold, LockTable, Meet, Merge, Pass, ReturnSlot, SecondHolder, SplitOrJoin};
 use event_log::SeqObject;
 
 impl<O: SeqObject> LockTable<O> {
@@ -83,7 +83,7 @@ impl<O: SeqObject> LockTable<O> {
             cpu: _,
             ticket: _,
             logged: _first,
-            lent: _one,
+            loan: _one,
             key: _,
             mut seat,
         } = one;
@@ -91,13 +91,15 @@ impl<O: SeqObject> LockTable<O> {
             cpu: _,
             ticket: _,
             logged: _second,
-            lent: _two,
+            loan: _two,
             key: _,
             seat: mut theirs,
         } = two;
-        self.table.shared.load::<Tear>(&mut theirs, 0);
-        self.table.shared.join_seat::<Beside>(&mut seat, theirs);
-        self.table.shared.load::<Clash>(&mut seat, 0);
+        self.table.shared.load::<ReturnSlot>(&mut theirs, 0);
+        self.table
+            .shared
+            .join_seat::<SplitOrJoin>(&mut seat, theirs);
+        self.table.shared.load::<SecondHolder>(&mut seat, 0);
         unreachable!()
     }
 }

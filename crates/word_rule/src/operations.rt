@@ -102,8 +102,8 @@ impl<O: SeqObject> LockTable<O> {
         self.table.shared.load::<M>(seat, word)
     }
 
-    /// A store that readies a try.
-    pub fn ready<M: Play<Option<Logged<O>>, View<Key<O>, Event<O>>>>(
+    /// A store that prepares a try.
+    pub fn prepare<M: Play<Option<Logged<O>>, View<Key<O>, Event<O>>>>(
         &self,
         seat: &mut Seat<O>,
         word: usize,

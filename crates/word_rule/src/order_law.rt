@@ -4,7 +4,7 @@ ghost use Rattle.std.specs.Prelude.{◌≡◌, ℕ, ◌<◌, ◌≤◌, List, ma
 ghost use Rattle.event_log.specs.declared.entry.Todo.{Todo};
 ghost use Rattle.event_log.specs.declared.event.Event.{Event};
 ghost use Rattle.event_log.specs.Log.{Begins};
-ghost use Rattle.word_rule.specs.declared.view.Moment.{Moment};
+ghost use Rattle.word_rule.specs.declared.view.TraceStep.{TraceStep};
 ghost use Rattle.word_rule.specs.Cell.{Cell};
 ghost use Rattle.word_rule.specs.LockRuns.{HasRun, endings_in, arrivals_in};
 ghost use Rattle.word_rule.specs.Replay.{AllDoRun};
@@ -16,12 +16,12 @@ use event_log::SeqObject;
 /// those before the log was full. So of two callers whoever arrived first has the earlier event.
 pub fn events_in_order<O: SeqObject>()
     ensures holds { (h : Cell O O.Params O.Call O.Reply) (log : List (Event O O.Params O.Call O.Reply))
-        (run : List (Moment (Event O O.Params O.Call O.Reply))) →
+        (run : List (TraceStep (Event O O.Params O.Call O.Reply))) →
         HasRun h log run → Begins (endings_in run) (arrivals_in run) }
     ensures events { (h : Cell O O.Params O.Call O.Reply) (log : List (Event O O.Params O.Call O.Reply))
-        (run : List (Moment (Event O O.Params O.Call O.Reply))) (script rest : ℕ → List (Todo O O.Params O.Call O.Reply)) →
+        (run : List (TraceStep (Event O O.Params O.Call O.Reply))) (script rest : ℕ → List (Todo O O.Params O.Call O.Reply)) →
         HasRun h log run → AllDoRun O.SeqObject h run script rest → length log ≤ h.limit → Begins (map (λ e. e.cpu) (drop (length h.opening) log)) (endings_in run) }
     ensures all_events { (h : Cell O O.Params O.Call O.Reply) (log : List (Event O O.Params O.Call O.Reply))
-        (run : List (Moment (Event O O.Params O.Call O.Reply))) (script rest : ℕ → List (Todo O O.Params O.Call O.Reply)) →
+        (run : List (TraceStep (Event O O.Params O.Call O.Reply))) (script rest : ℕ → List (Todo O O.Params O.Call O.Reply)) →
         HasRun h log run → AllDoRun O.SeqObject h run script rest → length log < h.limit → map (λ e. e.cpu) (drop (length h.opening) log) ≡ endings_in run }
 {}

@@ -1,7 +1,7 @@
 //! The moves of a cell's seats that are the same at every lock.
 
 ghost use Rattle.word_rule.specs.Rule.Seats.{taken_in, spent, keeping, letting};
-ghost use Rattle.word_rule.specs.Rule.Announced.{meets, joins, tears, clashes};
+ghost use Rattle.word_rule.specs.Rule.Announced.{meets, joins, returns_slot, second_holder};
 
 use crate::{Key, View};
 use atomic_table::{Join, Play, Split};
@@ -11,15 +11,15 @@ use event_log::{Event, Logged, SeqObject};
 pub type Seat<O> = atomic_table::Seat<Option<Logged<O>>, View<Key<O>, Event<O>>>;
 
 /// A seat takes in the caller of another, or lets it go.
-pub struct Beside;
+pub struct SplitOrJoin;
 
-impl<H, E> Join<View<H, E>> for Beside {
+impl<H, E> Join<View<H, E>> for SplitOrJoin {
     ghost both = { taken_in };
 
     ghost spent = { spent };
 }
 
-impl<H, E> Split<View<H, E>> for Beside {
+impl<H, E> Split<View<H, E>> for SplitOrJoin {
     ghost left = { keeping };
 
     ghost right = { letting };
@@ -40,15 +40,15 @@ impl<O: SeqObject> Play<Option<Logged<O>>, View<Key<O>, Event<O>>> for Merge {
 }
 
 /// A holder gives its slot back with no end of the hold.
-pub struct Tear;
+pub struct ReturnSlot;
 
-impl<O: SeqObject> Play<Option<Logged<O>>, View<Key<O>, Event<O>>> for Tear {
-    ghost then = { tears };
+impl<O: SeqObject> Play<Option<Logged<O>>, View<Key<O>, Event<O>>> for ReturnSlot {
+    ghost then = { returns_slot };
 }
 
 /// Two holders at one seat: no cell has them.
-pub struct Clash;
+pub struct SecondHolder;
 
-impl<O: SeqObject> Play<Option<Logged<O>>, View<Key<O>, Event<O>>> for Clash {
-    ghost then = { clashes };
+impl<O: SeqObject> Play<Option<Logged<O>>, View<Key<O>, Event<O>>> for SecondHolder {
+    ghost then = { second_holder };
 }

@@ -4,7 +4,7 @@ ghost use Rattle.std.specs.Prelude.{◌≡◌, ◌<◌};
 ghost use Rattle.word_rule.specs.Rule.Operations.{AreBeside, HasLetGo, Stepped};
 ghost use Rattle.word_rule.specs.Rule.Seats.{taken_in};
 
-use crate::{Beside, LockTable, Seat};
+use crate::{LockTable, Seat, SplitOrJoin};
 use event_log::SeqObject;
 
 impl<O: SeqObject> LockTable<O> {
@@ -13,7 +13,7 @@ impl<O: SeqObject> LockTable<O> {
         requires { AreBeside self.now seat.old other }
         ensures { Stepped seat.old seat.new (seat.new.me ≡ (taken_in seat.old.me.0 other.me.0, seat.old.me.1)) }
     {
-        self.table.shared.join_seat::<Beside>(seat, other);
+        self.table.shared.join_seat::<SplitOrJoin>(seat, other);
     }
 
     /// The seat lets go the first caller that it has taken in.
@@ -21,6 +21,6 @@ impl<O: SeqObject> LockTable<O> {
         requires { (seat.old.table_id ≡ self.now.table.shared.table_id) × (0 < self.now.table.shared.table_id.words) }
         ensures { HasLetGo seat.old seat.new result }
     {
-        self.table.shared.split_seat::<Beside>(seat)
+        self.table.shared.split_seat::<SplitOrJoin>(seat)
     }
 }

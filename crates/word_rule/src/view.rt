@@ -6,11 +6,11 @@ use std::marker::Model;
 use std::snapshot::Snapshot;
 
 /// A list that contracts alone read. It has no node, so its elements may be of any size.
-pub struct Trace<E> {
+pub struct GhostList<E> {
     events: Snapshot<Vec<E>>,
 }
 
-impl<E> Model for Trace<E> {
+impl<E> Model for GhostList<E> {
     ghost use Rattle.std.specs.Prelude.{List};
 
     ghost Value = { List E };
@@ -19,20 +19,20 @@ impl<E> Model for Trace<E> {
 }
 
 /// A step that a CPU has done on a cell's lock, and the events that it left in the log: those of the hold that it ended.
-pub struct Moment<E> {
+pub struct TraceStep<E> {
     pub cpu: u8,
     pub step: StepDone,
-    pub events: Trace<E>,
+    pub events: GhostList<E>,
 }
 
 /// A caller at its seat: the number that it acts as, the numbers that it owns, where it stands, the log of events and the run
 /// of steps that it has seen, and the word 0 that it has read for a try, if it has done nothing since.
-pub struct Seated<E> {
+pub struct CallerView<E> {
     pub cpu: u8,
     pub owned: LinkedList<u8>,
     pub stage: Stage,
-    pub seen: Trace<E>,
-    pub run: Trace<Moment<E>>,
+    pub seen: GhostList<E>,
+    pub run: GhostList<TraceStep<E>>,
     pub read: Option<u64>,
 }
 
@@ -40,6 +40,6 @@ pub struct Seated<E> {
 /// it has taken in.
 pub struct View<H, E> {
     pub told: LinkedList<H>,
-    pub main: Seated<E>,
-    pub others: LinkedList<Seated<E>>,
+    pub main: CallerView<E>,
+    pub others: LinkedList<CallerView<E>>,
 }

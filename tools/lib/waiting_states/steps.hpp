@@ -1,4 +1,4 @@
-// The steps of callers at one lock: crates/word_rule/src/sleepers.rt and, of each lock's crate, src/whole.rt and src/steps.rt.
+// The steps of callers at one lock: crates/word_rule/src/resting.rt and, of each lock's crate, src/whole.rt and src/steps.rt.
 // Two things of the code are left out, as they change no word: pauses, since a caller may be late with any step; and the word
 // on which a sleeper parks, since it is always 0.
 #pragma once
@@ -96,7 +96,7 @@ private:
         if (c.place != GO_OUT) c.stays = 0;
     }
 
-    // `stay_outside` of Sleepers.
+    // `stay_outside` of Resting.
     void stay_outside(State &s, int i) const {
         Caller &c = s.callers[i];
         const Place first = is_mcs ? CLEAR : DRAW;
@@ -135,7 +135,7 @@ private:
         go_on(s, c, step == last ? IN_LINE : step == ENTER ? AT_ENTER : ELSE, to);
     }
 
-    // A look with `rest` and `rise` of Sleepers.
+    // A look with `rest` and `rise` of Resting.
     void look_on(State &s, int i) const {
         Caller &c = s.callers[i];
         if (c.place == LOOK) {

@@ -41,21 +41,18 @@ events = 100
 threads = 8
 "#;
 
-/// The CPU that is named where there is no record of a run with an entry of each CPU.
-fn named<S: Starter, R: Threads + Wait + Sync + AllocGlobal>(
+/// Why there is no record of a run with an entry of each CPU, if there is none.
+fn fault<S: Starter, R: Threads + Wait + Sync + AllocGlobal>(
     rt: &R,
     settings: &str,
     starter: &S,
     calls: &Calls,
-) -> Result<Option<u8>, Fail> {
+) -> Result<Option<RunFault>, Fail> {
     let settings = Settings::read(rt.alloc(), settings.as_bytes())?;
     let scripts = "0 q0 enq 3\n1 q0 enq 4\n2 q0 enq 5\n3 q0 enq 6\n";
     let scripts = Scripts::read(rt.alloc(), scripts.as_bytes(), &settings)?;
-    match run_with(rt, rt.alloc(), &settings, &scripts, calls, starter) {
-        Ok(_record) => Ok(None),
-        Err(RunFault::NoThreadStarted(cpu)) => Ok(Some(cpu)),
-        Err(RunFault::OutOfMemory) => Err(Fail::new("no memory")),
-    }
+    let run = run_with(rt, rt.alloc(), &settings, &scripts, calls, starter);
+    Ok(run.err())
 }
 
 // The CPUs behind it aren't started, and the workers before it have ended their scripts.
@@ -70,8 +67,8 @@ fn a_cpu_that_is_not_allowed(rt: HostRuntime) -> Result<(), Fail> {
     for settings in [FOUR_CPUS_TICKET, FOUR_CPUS_MCS] {
         for (cpu, wanted) in rows {
             let calls = Calls::none();
-            let told = named(&rt, settings, &AllBut { cpu }, &calls)?;
-            assert_eq!(rt; told, Some(cpu), "all but {cpu}");
+            let told = fault(&rt, settings, &AllBut { cpu }, &calls)?;
+            assert_eq!(rt; told, Some(RunFault::NoThreadStarted(cpu)), "all but {cpu}");
             assert!(rt; calls.are(&wanted), "all but {cpu}");
         }
     }
@@ -82,8 +79,8 @@ fn a_cpu_that_is_not_allowed(rt: HostRuntime) -> Result<(), Fail> {
 fn all_cpus_that_there_are(rt: HostRuntime) -> Result<(), Fail> {
     for settings in [FOUR_CPUS_TICKET, FOUR_CPUS_MCS] {
         let calls = Calls::none();
-        assert_eq!(rt; named(&rt, settings, &AlwaysAllowed, &calls)?, None);
-        assert_eq!(rt; named(&rt, settings, &AllBut { cpu: 4 }, &calls)?, None);
+        assert_eq!(rt; fault(&rt, settings, &AlwaysAllowed, &calls)?, None);
+        assert_eq!(rt; fault(&rt, settings, &AllBut { cpu: 4 }, &calls)?, None);
         assert!(rt; calls.are(&[2, 2, 2, 2]));
     }
     Ok(())

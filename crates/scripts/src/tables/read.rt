@@ -6,7 +6,7 @@ ghost use Rattle.scripts.specs.Reading.{left};
 ghost use Rattle.scripts.specs.Row.{wide, byte, limit, up_to, field_at, numbers_at, sample_at, value_at, spelled, row_fits};
 
 use crate::text::words::{Words, number, word};
-use crate::{Field, Glanced, Spelled, Spelling};
+use crate::{FastRead, Field, Spelled, Spelling};
 use arrayvec::ArrayVec;
 use page_pool::MOST_PAGES;
 
@@ -95,7 +95,7 @@ fn by_table<T: Spelled>(at: Words<'_>) -> Option<(T, Words<'_>)>
     let (name, rest) = word(at)?;
     let sample = sample::<T>(name)?;
     let (numbers, rest) = numbers(sample.spelling().fields.as_slice(), rest)?;
-    Some((sample.fill(numbers.as_slice()), rest))
+    Some((sample.with_numbers(numbers.as_slice()), rest))
 }
 
 /// The value of the sample's word with the numbers that are next, if the word is the sample's.
@@ -110,7 +110,7 @@ pub(crate) fn value_of<'a, T: Spelled>(
     let Spelling { word, fields } = sample.spelling();
     if word == name {
         let (numbers, rest) = numbers(fields.as_slice(), rest)?;
-        Some((sample.fill(numbers.as_slice()), rest))
+        Some((sample.with_numbers(numbers.as_slice()), rest))
     } else {
         None
     }
@@ -118,17 +118,17 @@ pub(crate) fn value_of<'a, T: Spelled>(
 
 /// The value that is next, read from left to right.
 #[inline(always)]
-fn next_value<T: Glanced>(at: Words<'_>) -> Option<(T, Words<'_>)>
+fn next_value<T: FastRead>(at: Words<'_>) -> Option<(T, Words<'_>)>
     ensures { option_map (λ x. (x.0, left x.1)) result ≡ value_at T.row_of T.table T.filled (left at.entry) }
 {
-    match T::glance(at) {
+    match T::read_fast(at) {
         Some(found) => Some(found),
         None => by_table(at),
     }
 }
 
 /// The value whose words, each number in its range, are next, and the words behind it.
-pub fn value<T: Glanced>(at: Words<'_>) -> Option<(T, Words<'_>)>
+pub fn value<T: FastRead>(at: Words<'_>) -> Option<(T, Words<'_>)>
     ensures reading { option_map (λ x. (x.0, left x.1)) result ≡ value_at T.row_of T.table T.filled (left at.entry) }
     ensures found { IfSome result (λ r. (left at.entry ≡ spelled (T.row_of r.0) ++ left r.1) × (row_fits (T.row_of r.0) ≡ true)) }
     ensures only { (x : T) (rest : List (List ℕ)) → row_fits (T.row_of x) ≡ true → left at.entry ≡ spelled (T.row_of x) ++ rest →

@@ -73,7 +73,7 @@ impl Spelled for KCall {
     }
 
     #[inline(always)]
-    fn fill(&self, numbers: &[u32]) -> KCall {
+    fn with_numbers(&self, numbers: &[u32]) -> KCall {
         match *self {
             KCall::Queue(QueueCall::Enq(_)) => KCall::Queue(QueueCall::Enq(first(numbers))),
             KCall::Queue(QueueCall::Deq) => KCall::Queue(QueueCall::Deq),
@@ -167,7 +167,7 @@ impl Spelled for KReply {
     }
 
     #[inline(always)]
-    fn fill(&self, numbers: &[u32]) -> KReply {
+    fn with_numbers(&self, numbers: &[u32]) -> KReply {
         match *self {
             KReply::Thread(_) => KReply::Thread(first(numbers)),
             KReply::Count(_) => KReply::Count(first(numbers)),

@@ -38,7 +38,7 @@ pub trait Spelled: Copy + 'static {
         ensures { result.now ≡ table };
 
     /// The value of the same word with these numbers, and with 0 where there are too few.
-    fn fill(&self, numbers: &[u32]) -> Self
+    fn with_numbers(&self, numbers: &[u32]) -> Self
         requires { row_fits (refilled_row (row_of self.now) numbers.now) ≡ true }
         ensures { result ≡ filled self.now numbers.now };
 

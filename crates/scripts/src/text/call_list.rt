@@ -11,7 +11,7 @@ use arrayvec::ArrayVec;
 use event_log::{MOST_CALLS, Step};
 
 /// What lines have lists of.
-pub(crate) trait Listed: Default + Drop {
+pub(crate) trait ListItem: Default + Drop {
     ghost use Rattle.std.specs.Prelude.{ℕ, List, Option};
 
     /// The item that is next, and the words behind it.
@@ -22,7 +22,7 @@ pub(crate) trait Listed: Default + Drop {
         ensures { option_map (λ x. (x.0, left x.1)) result ≡ item_at (left at.entry) };
 }
 
-impl Listed for KCall {
+impl ListItem for KCall {
     ghost use Rattle.scripts.specs.RecordReading.{call_at};
 
     ghost item_at = { call_at };
@@ -33,7 +33,7 @@ impl Listed for KCall {
     }
 }
 
-impl Listed for Step<KernelObject> {
+impl ListItem for Step<KernelObject> {
     ghost use Rattle.scripts.specs.RecordReading.{step_at};
 
     ghost item_at = { step_at };
@@ -50,7 +50,7 @@ impl Listed for Step<KernelObject> {
 
 /// Puts 1 to 8 items, each but the first behind a semicolon, into an empty list, and answers the words behind them.
 #[inline(always)]
-pub(crate) fn list<'a, T: Listed>(
+pub(crate) fn list<'a, T: ListItem>(
     at: Words<'a>,
     items: &mut ArrayVec<T, MOST_CALLS>,
 ) -> Option<Words<'a>>

@@ -41,6 +41,18 @@ pub fn label_of(alloc: Global, words: &str) -> Result<String, AllocError> {
     Ok(label)
 }
 
+/// The words, cut where they have more letters than that.
+pub fn shortened(alloc: Global, words: &str, most: usize) -> Result<String, AllocError> {
+    let mut shown = String::new(alloc);
+    for letter in words.chars().take(most) {
+        shown.push(letter)?;
+    }
+    if words.chars().count() > most {
+        shown.push('…')?;
+    }
+    Ok(shown)
+}
+
 /// The entry at a place.
 pub fn entry_at(run: &Run<KernelObject>, place: Place) -> Option<&Entry<KernelObject>> {
     let transcript = run.transcripts.as_slice().get(place.cpu)?;

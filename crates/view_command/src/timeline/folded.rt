@@ -3,11 +3,11 @@
 ghost use Rattle.std.specs.Prelude.{◌<◌, codes, string_bytes, IfOk};
 ghost use Rattle.view_command.specs.Sights.{EndsIn};
 
+use crate::boxes::EntryBox;
 use crate::picture::{Anchor, Area, GREY, INK, Picture};
 use crate::timeline::colours::{fill_of, put_hatchings};
 use crate::timeline::entry_words::{entry_at, had_room, name_of};
-use crate::timeline::legend::{legend_height, put_legend};
-use log_merge::Place;
+use crate::timeline::legend::{TO_READ_ONE, legend_height, put_legend};
 use scripts::{Record, Settings};
 use std::alloc::{AllocError, Global};
 
@@ -27,10 +27,11 @@ const MOST_PARTS: usize = 200;
 
 const MOST_BOXES: usize = 5_000;
 
-const SIGNS: [&str; 3] = [
+const SIGNS: [&str; 4] = [
     "The order of all entries, from left to right, is cut into parts of one length. A box is what a CPU did in a part.",
-    "Its height is the number of entries, its colour the object of most of them. Point at one to read it.",
+    "Its height is the number of entries, its colour the object of most of them.",
     "Hatched: in more than half of its entries a log had no room.",
+    TO_READ_ONE,
 ];
 
 /// What a CPU did in a part: how many entries on each object, and how many without room.
@@ -77,9 +78,9 @@ impl Count {
 }
 
 /// What each CPU did in a part.
-fn counts_of(record: &Record, part: &[Place]) -> [Count; 64] {
+fn counts_of(record: &Record, part: &[EntryBox]) -> [Count; 64] {
     let mut counts = [NONE; 64];
-    for place in part {
+    for EntryBox { place, .. } in part {
         let Some(entry) = entry_at(record.run(), *place) else {
             continue;
         };
@@ -91,9 +92,9 @@ fn counts_of(record: &Record, part: &[Place]) -> [Count; 64] {
 }
 
 /// The most entries of one CPU in one part, and at least one.
-fn most_of_all(record: &Record, places: &[Place], length: usize) -> usize {
+fn most_of_all(record: &Record, boxes: &[EntryBox], length: usize) -> usize {
     let mut most = 1;
-    for part in places.chunks(length.max(1)) {
+    for part in boxes.chunks(length.max(1)) {
         for count in &counts_of(record, part) {
             most = most.max(count.all());
         }
@@ -110,15 +111,15 @@ struct Cut {
 }
 
 impl Cut {
-    fn of(record: &Record, places: &[Place]) -> Cut {
+    fn of(record: &Record, boxes: &[EntryBox]) -> Cut {
         let cpus = (record.settings().cpus() as usize).max(1);
         let parts = (MOST_BOXES / cpus).min(MOST_PARTS).max(1);
-        let length = places.len().div_ceil(parts).max(1);
-        let used = places.len().div_ceil(length).max(1);
+        let length = boxes.len().div_ceil(parts).max(1);
+        let used = boxes.len().div_ceil(length).max(1);
         Cut {
             length,
             width: (WIDTH / used).max(1),
-            most: most_of_all(record, places, length),
+            most: most_of_all(record, boxes, length),
         }
     }
 
@@ -193,9 +194,9 @@ fn put_parts(
     picture: &mut Picture,
     record: &Record,
     cut: Cut,
-    places: &[Place],
+    boxes: &[EntryBox],
 ) -> Result<(), AllocError> {
-    for (part, entries) in places.chunks(cut.length.max(1)).enumerate() {
+    for (part, entries) in boxes.chunks(cut.length.max(1)).enumerate() {
         for (cpu, count) in counts_of(record, entries).iter().enumerate() {
             put_box(alloc, picture, record.settings(), cut, (part, cpu), count)?;
         }
@@ -210,23 +211,23 @@ fn put_parts(
 }
 
 /// The picture of many entries in their one order.
-pub fn draw_folded(alloc: Global, record: &Record, places: &[Place]) -> Result<String, AllocError>
+pub fn draw_folded(alloc: Global, record: &Record, boxes: &[EntryBox]) -> Result<String, AllocError>
     ensures { IfOk result (λ text. EndsIn (codes "</svg>\n") (string_bytes text)) }
 {
     let settings = record.settings();
     let (cpus, objects) = (settings.cpus() as usize, settings.objects().len());
-    let cut = Cut::of(record, places);
+    let cut = Cut::of(record, boxes);
     let width = LEFT + WIDTH + 24;
     let legend_top = cpus.saturating_mul(ROW).saturating_add(TOP + 20);
     let height = legend_top.saturating_add(legend_height(width, objects, SIGNS.len()));
-    let (entries, length) = (places.len(), cut.length);
+    let (entries, length) = (boxes.len(), cut.length);
     let heading = format!(in alloc;
         "A run of {cpus} CPUs: {entries} entries, in parts of {length}"
     )?;
     let mut picture = Picture::new(alloc, width, height, heading.as_str())?;
     put_hatchings(&mut picture, objects)?;
     put_rows(alloc, &mut picture, cpus)?;
-    put_parts(alloc, &mut picture, record, cut, places)?;
+    put_parts(alloc, &mut picture, record, cut, boxes)?;
     put_legend(alloc, &mut picture, settings, width, legend_top, &SIGNS)?;
     picture.whole()
 }

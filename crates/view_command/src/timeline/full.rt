@@ -3,10 +3,11 @@
 ghost use Rattle.std.specs.Prelude.{codes, string_bytes, IfOk};
 ghost use Rattle.view_command.specs.Sights.{EndsIn};
 
+use crate::boxes::EntryBox;
 use crate::picture::{Anchor, Area, GREY, INK, PAPER, Picture};
 use crate::timeline::colours::{colours_of, fill_of, put_hatchings};
 use crate::timeline::entry_words::{done_words, entry_at, had_room, label_of, name_of};
-use crate::timeline::legend::{legend_height, put_legend};
+use crate::timeline::legend::{TO_READ_ONE, legend_height, put_legend};
 use event_log::Entry;
 use log_merge::Place;
 use scripts::{KernelObject, Record};
@@ -25,11 +26,17 @@ const BOX: usize = 26;
 /// The least width of a picture.
 const LEAST_WIDTH: usize = 800;
 
-const SIGNS: [&str; 3] = [
-    "A box is an entry that was done; from left to right they stand in the one order of all. Point at one to read it.",
-    "A pale tail: how often its CPU looked at the lock before, as far as there is room. The number is in the box's words.",
+const SIGNS: [&str; 4] = [
+    "A box is an entry that was done; from left to right they are in the one order of all.",
+    "A pale tail: how often its CPU looked at the lock before, as far as there is room.",
     "Hatched: the log had no room, and nothing was done.",
+    TO_READ_ONE,
 ];
+
+/// What is said of the boxes; without any there is none to read.
+fn signs_of(entries: usize) -> &'static [&'static str] {
+    if entries == 0 { &SIGNS[..3] } else { &SIGNS }
+}
 
 /// How wide a place in the order is, and the box in it; whether words stand in the box; and how often the places are counted.
 #[derive(Clone, Copy, Debug, PartialEq, Eq, Drop)]
@@ -208,10 +215,11 @@ fn put_entries(
     picture: &mut Picture,
     scale: Scale,
     record: &Record,
-    places: &[Place],
+    boxes: &[EntryBox],
 ) -> Result<(), AllocError> {
     let mut free_from = [LEFT; 64];
-    for (number, place) in places.iter().enumerate() {
+    for EntryBox { column, place } in boxes {
+        let number = *column;
         let Some(entry) = entry_at(record.run(), *place) else {
             continue;
         };
@@ -226,24 +234,22 @@ fn put_entries(
 }
 
 /// The picture of entries in their one order.
-pub fn draw_full(alloc: Global, record: &Record, places: &[Place]) -> Result<String, AllocError>
+pub fn draw_full(alloc: Global, record: &Record, boxes: &[EntryBox]) -> Result<String, AllocError>
     ensures { IfOk result (λ text. EndsIn (codes "</svg>\n") (string_bytes text)) }
 {
     let settings = record.settings();
     let (cpus, objects) = (settings.cpus() as usize, settings.objects().len());
-    let scale = Scale::of(places.len());
-    let width = scale
-        .start(places.len())
-        .saturating_add(24)
-        .max(LEAST_WIDTH);
+    let scale = Scale::of(boxes.len());
+    let width = scale.start(boxes.len()).saturating_add(24).max(LEAST_WIDTH);
+    let signs = signs_of(boxes.len());
     let legend_top = row_top(cpus).saturating_add(20);
-    let height = legend_top.saturating_add(legend_height(width, objects, SIGNS.len()));
-    let entries = places.len();
+    let height = legend_top.saturating_add(legend_height(width, objects, signs.len()));
+    let entries = boxes.len();
     let heading = format!(in alloc; "A run of {cpus} CPUs: {entries} entries in their one order")?;
     let mut picture = Picture::new(alloc, width, height, heading.as_str())?;
     put_hatchings(&mut picture, objects)?;
     put_axes(alloc, &mut picture, scale, entries, cpus)?;
-    put_entries(alloc, &mut picture, scale, record, places)?;
-    put_legend(alloc, &mut picture, settings, width, legend_top, &SIGNS)?;
+    put_entries(alloc, &mut picture, scale, record, boxes)?;
+    put_legend(alloc, &mut picture, settings, width, legend_top, signs)?;
     picture.whole()
 }

@@ -13,6 +13,10 @@ const ITEM_WIDTH: usize = 290;
 
 const ITEM_HEIGHT: usize = 24;
 
+/// How the words of a box are read. Where a picture is a part of a page, nothing is shown at what one points at.
+pub const TO_READ_ONE: &str =
+    "Opened as a page of its own, this picture shows what a box has where you point at it.";
+
 /// How many items stand side by side.
 fn columns_in(width: usize) -> usize
     ensures { 0 < result }

@@ -52,7 +52,13 @@ fn a_fault_in_its_frame(rt: HostRuntime) -> Result<(), Fail> {
         out.contains("unsound: log q0 event 2 step 1: wrong step"),
         "{out}"
     );
-    assert!(rt; out.contains("by CPU 1"), "{out}");
+    for part in [
+        "by CPU 1",
+        "Before step 1 of event 2 q0 held: threads 3.",
+        "It should have answered: enq 4 = ok. The record has: enq 4 = already.",
+    ] {
+        assert!(rt; out.contains(part), "{part} of {out}");
+    }
     assert!(rt; count_of(out.as_str(), "stroke=\"#cf222e\"") == 1, "{out}");
     Ok(())
 }

@@ -13,10 +13,10 @@ use Rattle.word_rule.specs.Locks.{holding}
 use Rattle.word_rule.specs.Mcs.Acquire.{enter}
 use Rattle.word_rule.specs.Mcs.Definition.{mcs_lock, mcs_turn}
 use Rattle.word_rule.specs.Mcs.Release.{see}
-use Rattle.word_rule.specs.Mcs.State.{McsLock, follower, if_linked, naming, plain_next, untried, without_tries}
+use Rattle.word_rule.specs.Mcs.State.{McsLock, follower, if_linked, naming, erased_next, untried, without_tries}
 use Rattle.word_rule.proofs.LockInterface.{Goes, SameTurn, LockLaws, NoneTries, is_idle, is_trying, moved_whole}
 use Rattle.word_rule.proofs.LockStates.{stands_at}
-use Rattle.word_rule.proofs.Mcs.Plain.{Alike, plain_twice, plain_moved, next_plainly, next_twice, linked_plainly}
+use Rattle.word_rule.proofs.Mcs.Erased.{Alike, erased_twice, erased_moved, next_erased, next_twice, linked_erased}
 use Rattle.word_rule.proofs.Mcs.Stands.{outside, first_if}
 use Rattle.word_rule.proofs.Mcs.States as queue
 use Rattle.word_rule.proofs.Mcs.Tries.{tries}
@@ -148,29 +148,29 @@ module _ (l : McsLock) (i : ℕ) where
   untried_twice Trying = refl
   untried_twice q = refl
 
-  alike : (x : ℕ) → x ≢ i → Alike (l.line.stage x) (P.line.stage x) (l.own x) (P.own x)
-  alike x ne = record { stands = untried_twice (l.line.stage x); names = next_plainly (l.line.stage x) (P.own x) ∙ next_twice (l.line.stage x) (l.own x) }
+  alike : (x : ℕ) → x ≢ i → Alike (l.line.stage x) (P.line.stage x) (l.extra x) (P.extra x)
+  alike x ne = record { stands = untried_twice (l.line.stage x); names = next_erased (l.line.stage x) (P.extra x) ∙ next_twice (l.line.stage x) (l.extra x) }
 
   -- the CPU goes elsewhere, and no `next` changes
-  goes : (cpus : List ℕ) (out : Bool) (q : Stage) → plain_next q (P.own i) ≡ plain_next q (l.own i)
-      → without_tries record { line = record { cpus = cpus; out = out; stage = (going P.line i q).stage }; own = P.own } ≡ without_tries record { line = record { cpus = cpus; out = out; stage = (going l.line i q).stage }; own = l.own }
-  goes cpus out q names = plain_moved i cpus out l.line.stage P.line.stage q q l.own P.own record { stands = refl; names = names } alike
+  goes : (cpus : List ℕ) (out : Bool) (q : Stage) → erased_next q (P.extra i) ≡ erased_next q (l.extra i)
+      → without_tries record { line = record { cpus = cpus; out = out; stage = (going P.line i q).stage }; extra = P.extra } ≡ without_tries record { line = record { cpus = cpus; out = out; stage = (going l.line i q).stage }; extra = l.extra }
+  goes cpus out q names = erased_moved i cpus out l.line.stage P.line.stage q q l.extra P.extra record { stands = refl; names = names } alike
 
-  -- what the `next` of one in the queue names is plain
-  names_still : (q : McsStage) → l.line.stage i ≡ Mcs q → P.own i ≡ l.own i
-  names_still q e = ap (λ z. plain_next z (l.own i)) e
+  -- `erase` keeps what the `next` of one in the queue names
+  names_still : (q : McsStage) → l.line.stage i ≡ Mcs q → P.extra i ≡ l.extra i
+  names_still q e = ap (λ z. erased_next z (l.extra i)) e
 
   -- a `next` changes
-  named : (p : ℕ) (o : Option ℕ) (x : ℕ) → x ≢ i → Alike (l.line.stage x) (P.line.stage x) (naming l.own p o x) (naming P.own p o x)
+  named : (p : ℕ) (o : Option ℕ) (x : ℕ) → x ≢ i → Alike (l.line.stage x) (P.line.stage x) (naming l.extra p o x) (naming P.extra p o x)
   named p o x ne = record { stands = untried_twice (l.line.stage x); names = by (x == p) }
     where
-      by : (b : Bool) → plain_next (P.line.stage x) (cond b o (P.own x)) ≡ plain_next (l.line.stage x) (cond b o (l.own x))
-      by true = next_plainly (l.line.stage x) o
-      by false = next_plainly (l.line.stage x) (P.own x) ∙ next_twice (l.line.stage x) (l.own x)
+      by : (b : Bool) → erased_next (P.line.stage x) (cond b o (P.extra x)) ≡ erased_next (l.line.stage x) (cond b o (l.extra x))
+      by true = next_erased (l.line.stage x) o
+      by false = next_erased (l.line.stage x) (P.extra x) ∙ next_twice (l.line.stage x) (l.extra x)
 
   look_same : l.line.stage i ≡ Mcs Waiting → (b : Bool) → Same (Looked l i b) (Looked P i b)
   look_same e true = record { step = refl; lock = goes l.line.cpus true (Mcs Holding) (names_still Waiting e) }
-  look_same e false = record { step = refl; lock = plain_twice l }
+  look_same e false = record { step = refl; lock = erased_twice l }
 
   enter_same : l.line.stage i ≡ Mcs Ready → (o : Option ℕ) → Same (enter l i o) (enter P i o)
   enter_same e None = record { step = refl; lock = goes (i ∷ []) true (Mcs Holding) (names_still Ready e) }
@@ -181,7 +181,7 @@ module _ (l : McsLock) (i : ℕ) where
     where
       by : (o : Option ℕ) → if_linked P.line o ≡ if_linked l.line o
       by None = refl
-      by (Some j) = ap (λ b. cond b (Some j) None) (linked_plainly (l.line.stage j))
+      by (Some j) = ap (λ b. cond b (Some j) None) (linked_erased (l.line.stage j))
 
   see_same : (q r : McsStage) → l.line.stage i ≡ Mcs q → Same (see l i (Mcs r) (follower l.line)) (see P i (Mcs r) (follower P.line))
   see_same q r e = subst (λ o. Same (see l i (Mcs r) (follower l.line)) (see P i (Mcs r) o)) (sym follower_same) (by (follower l.line))
@@ -198,36 +198,36 @@ module _ (l : McsLock) (i : ℕ) where
   cleared : (next : ℕ → Option ℕ) → naming next i None i ≡ None
   cleared next = ap (λ b. cond b None (next i)) (eq-eqb i i refl)
 
-  links_same : (p : ℕ) → l.line.stage i ≡ Mcs (Armed p) → naming P.own p (Some i) i ≡ naming l.own p (Some i) i
+  links_same : (p : ℕ) → l.line.stage i ≡ Mcs (Armed p) → naming P.extra p (Some i) i ≡ naming l.extra p (Some i) i
   links_same p e = by (i == p)
     where
-      by : (b : Bool) → cond b (Some i) (P.own i) ≡ cond b (Some i) (l.own i)
+      by : (b : Bool) → cond b (Some i) (P.extra i) ≡ cond b (Some i) (l.extra i)
       by true = refl
       by false = names_still (Armed p) e
 
-  plainly_by : (q : Stage) → l.line.stage i ≡ q → is_trying q ≡ false → Same (mcs_turn l i q) (mcs_turn P i (untried q))
-  plainly_by Idle e not = record {
+  erased_by : (q : Stage) → l.line.stage i ≡ q → is_trying q ≡ false → Same (mcs_turn l i q) (mcs_turn P i (untried q))
+  erased_by Idle e not = record {
     step = refl;
-    lock = plain_moved i l.line.cpus l.line.out l.line.stage P.line.stage (Mcs Ready) (Mcs Ready) (naming l.own i None) (naming P.own i None) record { stands = refl; names = cleared P.own ∙ sym (cleared l.own) } (named i None);
+    lock = erased_moved i l.line.cpus l.line.out l.line.stage P.line.stage (Mcs Ready) (Mcs Ready) (naming l.extra i None) (naming P.extra i None) record { stands = refl; names = cleared P.extra ∙ sym (cleared l.extra) } (named i None);
   }
-  plainly_by (Mcs Ready) e not = enter_same e (last l.line.cpus)
-  plainly_by (Mcs (Behind p)) e not = record { step = refl; lock = goes l.line.cpus l.line.out (Mcs (Armed p)) (names_still (Behind p) e) }
-  plainly_by (Mcs (Armed p)) e not = record {
+  erased_by (Mcs Ready) e not = enter_same e (last l.line.cpus)
+  erased_by (Mcs (Behind p)) e not = record { step = refl; lock = goes l.line.cpus l.line.out (Mcs (Armed p)) (names_still (Behind p) e) }
+  erased_by (Mcs (Armed p)) e not = record {
     step = refl;
-    lock = plain_moved i l.line.cpus l.line.out l.line.stage P.line.stage (Mcs Waiting) (Mcs Waiting) (naming l.own p (Some i)) (naming P.own p (Some i)) record { stands = refl; names = links_same p e } (named p (Some i));
+    lock = erased_moved i l.line.cpus l.line.out l.line.stage P.line.stage (Mcs Waiting) (Mcs Waiting) (naming l.extra p (Some i)) (naming P.extra p (Some i)) record { stands = refl; names = links_same p e } (named p (Some i));
   }
-  plainly_by (Mcs Waiting) e not = look_same e (is_first i l.line.cpus)
-  plainly_by (Mcs Holding) e not = see_same Holding Alone e
-  plainly_by (Mcs Alone) e not = empty_same e (is_named i (last l.line.cpus))
-  plainly_by (Mcs Leaving) e not = see_same Leaving Leaving e
-  plainly_by (Mcs (Passing j)) e not = record { step = refl; lock = goes (behind l.line.cpus) false Idle refl }
-  plainly_by Trying e not = absurd (true≢false not)
-  plainly_by q e not = record { step = refl; lock = plain_twice l }
+  erased_by (Mcs Waiting) e not = look_same e (is_first i l.line.cpus)
+  erased_by (Mcs Holding) e not = see_same Holding Alone e
+  erased_by (Mcs Alone) e not = empty_same e (is_named i (last l.line.cpus))
+  erased_by (Mcs Leaving) e not = see_same Leaving Leaving e
+  erased_by (Mcs (Passing j)) e not = record { step = refl; lock = goes (behind l.line.cpus) false Idle refl }
+  erased_by Trying e not = absurd (true≢false not)
+  erased_by q e not = record { step = refl; lock = erased_twice l }
 
 pub mcs_laws : LockLaws mcs_lock
 mcs_laws = record {
   begins = λ n first few. (starts_mcs n first _ refl).state;
-  opens_plainly = λ first first'. refl;
+  opens_erased = λ first first'. refl;
   few_fit = λ n few. refl;
   fits = λ n l h. refl;
   outside = outside;
@@ -236,10 +236,10 @@ mcs_laws = record {
   goes = λ n l i h below. goes_by n l i h below (l.line.stage i) refl;
   whole = λ l i h. whole_by l i h (l.line.stage i);
   acts = λ n l i h below not. acts_by n l i h below (l.line.stage i) refl not;
-  plain_twice = plain_twice;
-  plain_line = λ l. (refl, refl);
-  plainly = λ l i not. plainly_by l i (l.line.stage i) refl not;
+  erased_twice = erased_twice;
+  erased_line = λ l. (refl, refl);
+  erased = λ l i not. erased_by l i (l.line.stage i) refl not;
   counts = λ l l' i step same. refl;
   tries = λ l i ticket. tries l i;
-  readies = λ l i x ne. moved_else l.line.stage i Trying x ne;
+  prepares = λ l i x ne. moved_else l.line.stage i Trying x ne;
 }

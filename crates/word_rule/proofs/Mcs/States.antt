@@ -18,7 +18,7 @@ use Rattle.word_rule.specs.Mcs.Acquire.{clear, arm, link}
 use Rattle.word_rule.specs.Mcs.Definition.{mcs_lock}
 use Rattle.word_rule.specs.Mcs.Release.{pass}
 use Rattle.word_rule.specs.Mcs.State.{McsLock, if_linked, is_linked, follower, naming, Follows, StandsInQueue}
-use Rattle.word_rule.specs.Mcs.Try.{ready}
+use Rattle.word_rule.specs.Mcs.Try.{prepare}
 use Rattle.word_rule.proofs.Lists.{has_at, at_below, one_place, one_at, not_at, there_is, two_are, one_is, first_at, at_first}
 use Rattle.word_rule.proofs.LockStates.{stands_at, in_cell, restaged}
 use Rattle.word_rule.proofs.Mcs.Stands.{first_if, naming_same, naming_else, none_some, other_next, longer_queue, first_queue, taken_by, emptied_by, passed_by, stands_in}
@@ -66,14 +66,14 @@ second_at (k ∷ y ∷ ys) j e = ap some (let f : y ≡ j = cc in f)
 
 module _ (n : ℕ) (l : McsLock) (h : IsState mcs_lock n l) where
   -- what one that is first, or behind another, says of the `next` of the one before it
-  pub next_is : (i p j : ℕ) → get_elem? l.line.cpus i ≡ some p → get_elem? l.line.cpus (suc i) ≡ some j → l.own p ≡ cond (is_linked (l.line.stage j)) (Some j) None
+  pub next_is : (i p j : ℕ) → get_elem? l.line.cpus i ≡ some p → get_elem? l.line.cpus (suc i) ≡ some j → l.extra p ≡ cond (is_linked (l.line.stage j)) (Some j) None
   next_is i p j ahead there = ⊎_elim {0, 0, 0}
       (λ t. let f = t.1 in let e = one_place n l.line.cpus h.distinct (suc i) 0 j there f.there in absurd (omega arith))
       (λ t. let f = t.1 in
       let e = one_place n l.line.cpus h.distinct (suc i) (suc f.at) j there f.there in
       let k : f.at ≡ i = omega arith in
-      ap l.own (sym (one_at l.line.cpus t.0 p k f.ahead ahead)) ∙ f.link)
-      (stands_in l.own l.line.cpus l.line.out j (l.line.stage j) (has_at l.line.cpus (suc i) j there) (h.stood j (in_cell mcs_lock n l h (suc i) j there)))
+      ap l.extra (sym (one_at l.line.cpus t.0 p k f.ahead ahead)) ∙ f.link)
+      (stands_in l.extra l.line.cpus l.line.out j (l.line.stage j) (has_at l.line.cpus (suc i) j there) (h.stood j (in_cell mcs_lock n l h (suc i) j there)))
 
   -- the second isn't the first
   pub not_both : (p j : ℕ) → get_elem? l.line.cpus 0 ≡ some p → get_elem? l.line.cpus 1 ≡ some j → j ≢ p
@@ -88,53 +88,53 @@ module _ (n : ℕ) (l : McsLock) (h : IsState mcs_lock n l) where
   last_in p e = let t = last_at l.line.cpus p e in (has_at l.line.cpus t.0 p t.1, in_cell mcs_lock n l h t.0 p t.1)
 
   module _ (i : ℕ) (below : i < n) where
-    abbrev here : (q : Stage) → l.line.stage i ≡ q → StandsInQueue l.line.cpus l.line.out i l.own q
+    abbrev here : (q : Stage) → l.line.stage i ≡ q → StandsInQueue l.line.cpus l.line.out i l.extra q
     here q e = stands_at mcs_lock n l h i q below e
 
     -- one that is idle clears its `next`, and stands where only that is asked for
-    clears_to : (q : Stage) → ((next : ℕ → Option ℕ) → has i l.line.cpus ≡ false → next i ≡ None → StandsInQueue l.line.cpus l.line.out i next q) → l.line.stage i ≡ Idle → IsState mcs_lock n (record l { line = going l.line i q; own = naming l.own i None })
+    clears_to : (q : Stage) → ((next : ℕ → Option ℕ) → has i l.line.cpus ≡ false → next i ≡ None → StandsInQueue l.line.cpus l.line.out i next q) → l.line.stage i ≡ Idle → IsState mcs_lock n (record l { line = going l.line i q; extra = naming l.extra i None })
     clears_to to there e =
         let outside = stands_at mcs_lock n l h i Idle below e in
-        let queued : (k y : ℕ) → get_elem? l.line.cpus k ≡ some y → naming l.own i None y ≡ l.own y = λ k y there. naming_else l.own i None y (λ is. not_at l.line.cpus k i y outside there (sym is)) in
+        let queued : (k y : ℕ) → get_elem? l.line.cpus k ≡ some y → naming l.extra i None y ≡ l.extra y = λ k y there. naming_else l.extra i None y (λ is. not_at l.line.cpus k i y outside there (sym is)) in
         record {
           distinct = h.distinct;
           busy = h.busy;
-          stood = each_moved l.line.stage (λ x q. StandsInQueue l.line.cpus l.line.out x (naming l.own i None) q) n i to
-              (there (naming l.own i None) outside (naming_same l.own i None))
-              (λ x in_it ne. other_next l.own (naming l.own i None) l.line.cpus l.line.out x (λ k y there _. queued k y there) (λ _. naming_else l.own i None x ne) (λ _ _. naming_else l.own i None x ne) (l.line.stage x) (h.stood x in_it));
-          own = λ p e. let t = last_at l.line.cpus p e in queued t.0 p t.1 ∙ h.own p e;
+          stood = each_moved l.line.stage (λ x q. StandsInQueue l.line.cpus l.line.out x (naming l.extra i None) q) n i to
+              (there (naming l.extra i None) outside (naming_same l.extra i None))
+              (λ x in_it ne. other_next l.extra (naming l.extra i None) l.line.cpus l.line.out x (λ k y there _. queued k y there) (λ _. naming_else l.extra i None x ne) (λ _ _. naming_else l.extra i None x ne) (l.line.stage x) (h.stood x in_it));
+          extra = λ p e. let t = last_at l.line.cpus p e in queued t.0 p t.1 ∙ h.extra p e;
         }
 
     pub clears : l.line.stage i ≡ Idle → IsState mcs_lock n (clear l i)
     clears = clears_to (Mcs Ready) (λ _ outside named. (outside, named))
 
-    pub readies : l.line.stage i ≡ Idle → IsState mcs_lock n (ready l i)
-    readies = clears_to Trying (λ _ outside named. (outside, named))
+    pub prepares : l.line.stage i ≡ Idle → IsState mcs_lock n (prepare l i)
+    prepares = clears_to Trying (λ _ outside named. (outside, named))
 
     -- where nobody is last, the object is at home
     pub nobody_home : last l.line.cpus ≡ None → l.line.out ≡ false
     nobody_home none = false_from_ne_true l.line.out (λ o. let some_one = h.busy o in let long : length l.line.cpus ≡ 0 = ap length (no_last l.line.cpus none) in absurd (omega arith))
 
-    pub enters_first : l.own i ≡ None → last l.line.cpus ≡ None → IsState mcs_lock n (record l { line = lined (i ∷ []) true l.line.stage i (Mcs Holding) })
+    pub enters_first : l.extra i ≡ None → last l.line.cpus ≡ None → IsState mcs_lock n (record l { line = lined (i ∷ []) true l.line.stage i (Mcs Holding) })
     enters_first clear none =
         let empty : l.line.cpus ≡ [] = no_last l.line.cpus none in
         record {
           distinct = (below, refl, tt);
           busy = λ _. omega arith;
-          stood = each_moved l.line.stage (λ x q. StandsInQueue (i ∷ []) true x l.own q) n i (Mcs Holding)
+          stood = each_moved l.line.stage (λ x q. StandsInQueue (i ∷ []) true x l.extra q) n i (Mcs Holding)
               record { there = refl; object = refl }
-              (λ x in_it ne. first_queue l.own l.line.out true x i ne (l.line.stage x) (subst (λ (cpus : List ℕ). StandsInQueue cpus l.line.out x l.own (l.line.stage x)) empty (h.stood x in_it)));
-          own = λ p e. let same : i ≡ p = cc in subst (λ (z : ℕ). l.own z ≡ None) same clear;
+              (λ x in_it ne. first_queue l.extra l.line.out true x i ne (l.line.stage x) (subst (λ (cpus : List ℕ). StandsInQueue cpus l.line.out x l.extra (l.line.stage x)) empty (h.stood x in_it)));
+          extra = λ p e. let same : i ≡ p = cc in subst (λ (z : ℕ). l.extra z ≡ None) same clear;
         }
 
     -- what one has cleared names nobody
-    pub ready_clear : l.line.stage i ≡ Mcs Ready → l.own i ≡ None
+    pub ready_clear : l.line.stage i ≡ Mcs Ready → l.extra i ≡ None
     ready_clear e = let s = here (Mcs Ready) e in s.1
 
-    pub trying_clear : l.line.stage i ≡ Trying → l.own i ≡ None
+    pub trying_clear : l.line.stage i ≡ Trying → l.extra i ≡ None
     trying_clear e = let s = here Trying e in s.1
 
-    -- the one that is last is another than one that readies a try
+    -- the one that is last is another than one that prepares a try
     pub trying_last : (p : ℕ) → l.line.stage i ≡ Trying → last l.line.cpus ≡ Some p → p ≢ i
     trying_last p e there is = let s = here Trying e in true≢false (sym (last_in p there).0 ∙ (ap (λ z. has z l.line.cpus) is ∙ s.0))
 
@@ -152,10 +152,10 @@ module _ (n : ℕ) (l : McsLock) (h : IsState mcs_lock n l) where
         record {
           distinct = distinct_push n l.line.cpus i h.distinct below s.0;
           busy = λ _. omega (arith, length-append l.line.cpus (i ∷ []));
-          stood = each_moved l.line.stage (λ x q. StandsInQueue (l.line.cpus ++ i ∷ []) l.line.out x l.own q) n i (Mcs (Behind p))
-              record { at = t.0; ahead = at_longer l.line.cpus (i ∷ []) t.0 p t.1; there = at_last l.line.cpus i (suc t.0) t.2; link = h.own p there }
-              (λ x in_it ne. longer_queue l.own l.line.cpus l.line.out x i ne (l.line.stage x) (h.stood x in_it));
-          own = λ y f. let same : i ≡ y = some_same (sym (last_push l.line.cpus i) ∙ f) in subst (λ (z : ℕ). l.own z ≡ None) same s.1;
+          stood = each_moved l.line.stage (λ x q. StandsInQueue (l.line.cpus ++ i ∷ []) l.line.out x l.extra q) n i (Mcs (Behind p))
+              record { at = t.0; ahead = at_longer l.line.cpus (i ∷ []) t.0 p t.1; there = at_last l.line.cpus i (suc t.0) t.2; link = h.extra p there }
+              (λ x in_it ne. longer_queue l.extra l.line.cpus l.line.out x i ne (l.line.stage x) (h.stood x in_it));
+          extra = λ y f. let same : i ≡ y = some_same (sym (last_push l.line.cpus i) ∙ f) in subst (λ (z : ℕ). l.extra z ≡ None) same s.1;
         }
       where
         some_same : {y : ℕ} → ◌≡◌ {A = Option ℕ} (Some i) (Some y) → i ≡ y
@@ -165,26 +165,26 @@ module _ (n : ℕ) (l : McsLock) (h : IsState mcs_lock n l) where
     arms p e = restaged mcs_lock n l h i (Mcs (Armed p)) (here (Mcs (Behind p)) e)
 
     -- one that i is behind is another, in line
-    pub ahead_of : (p : ℕ) (named : Option ℕ) → Follows l.line.cpus i l.own p named → (has p l.line.cpus ≡ true) × (p ≢ i) × (p < n)
+    pub ahead_of : (p : ℕ) (named : Option ℕ) → Follows l.line.cpus i l.extra p named → (has p l.line.cpus ≡ true) × (p ≢ i) × (p < n)
     ahead_of p named s = (has_at l.line.cpus s.at p s.ahead, (λ e. let k = one_place n l.line.cpus h.distinct s.at (suc s.at) i (s.ahead ∙ ap some e) s.there in absurd (omega arith)), in_cell mcs_lock n l h s.at p s.ahead)
 
     pub links : (p : ℕ) → l.line.stage i ≡ Mcs (Armed p) → IsState mcs_lock n (link l i p)
     links p e =
         let s = here (Mcs (Armed p)) e in
-        let next' : ℕ → Option ℕ = naming l.own p (Some i) in
+        let next' : ℕ → Option ℕ = naming l.extra p (Some i) in
         let place_of : (k y : ℕ) → get_elem? l.line.cpus k ≡ some y → y ≡ p → k ≡ s.at = λ k y there e. one_place n l.line.cpus h.distinct k s.at p (there ∙ ap some e) s.ahead in
         record {
           distinct = h.distinct;
           busy = h.busy;
           stood = each_moved l.line.stage (λ x q. StandsInQueue l.line.cpus l.line.out x next' q) n i (Mcs Waiting)
-              (inl (p, record { at = s.at; ahead = s.ahead; there = s.there; link = naming_same l.own p (Some i) }))
-              (λ x in_it ne. other_next l.own next' l.line.cpus l.line.out x
-              (λ k y ahead there. naming_else l.own p (Some i) y (λ is_p. ne (one_at l.line.cpus x i (ap suc (place_of k y ahead is_p)) there s.there)))
-              (λ absent. naming_else l.own p (Some i) x (not_at l.line.cpus s.at x p absent s.ahead))
-              (λ j named. naming_else l.own p (Some i) x (λ is_p. none_some (l.own x) j (ap l.own is_p ∙ s.link) named))
+              (inl (p, record { at = s.at; ahead = s.ahead; there = s.there; link = naming_same l.extra p (Some i) }))
+              (λ x in_it ne. other_next l.extra next' l.line.cpus l.line.out x
+              (λ k y ahead there. naming_else l.extra p (Some i) y (λ is_p. ne (one_at l.line.cpus x i (ap suc (place_of k y ahead is_p)) there s.there)))
+              (λ absent. naming_else l.extra p (Some i) x (not_at l.line.cpus s.at x p absent s.ahead))
+              (λ j named. naming_else l.extra p (Some i) x (λ is_p. none_some (l.extra x) j (ap l.extra is_p ∙ s.link) named))
               (l.line.stage x) (h.stood x in_it));
-          own = λ y f. let t = last_at l.line.cpus y f in
-              naming_else l.own p (Some i) y (λ is_p. let k = place_of t.0 y t.1 is_p in let g = at_below l.line.cpus (suc s.at) i s.there in let end = t.2 in absurd (omega arith)) ∙ h.own y f;
+          extra = λ y f. let t = last_at l.line.cpus y f in
+              naming_else l.extra p (Some i) y (λ is_p. let k = place_of t.0 y t.1 is_p in let g = at_below l.line.cpus (suc s.at) i s.there in let end = t.2 in absurd (omega arith)) ∙ h.extra y f;
         }
 
     -- one that waits is the first, and the object is at home, or another is ahead
@@ -207,20 +207,20 @@ module _ (n : ℕ) (l : McsLock) (h : IsState mcs_lock n l) where
         record {
           distinct = h.distinct;
           busy = λ _. some_one;
-          stood = each_moved l.line.stage (λ x q. StandsInQueue l.line.cpus true x l.own q) n i (Mcs Holding)
+          stood = each_moved l.line.stage (λ x q. StandsInQueue l.line.cpus true x l.extra q) n i (Mcs Holding)
               record { there = f.there; object = refl }
-              (λ x in_it ne. taken_by l.own l.line.cpus x i ne f.there (l.line.stage x) (subst (λ (o : Bool). StandsInQueue l.line.cpus o x l.own (l.line.stage x)) f.object (h.stood x in_it)));
-          own = h.own;
+              (λ x in_it ne. taken_by l.extra l.line.cpus x i ne f.there (l.line.stage x) (subst (λ (o : Bool). StandsInQueue l.line.cpus o x l.extra (l.line.stage x)) f.object (h.stood x in_it)));
+          extra = h.extra;
         }
 
     first_holds : holding (l.line.stage i) ≡ true → First l.line.cpus l.line.out i true
-    first_holds has_it = first_if l.line.cpus l.line.out i l.own (l.line.stage i) has_it (h.stood i below)
+    first_holds has_it = first_if l.line.cpus l.line.out i l.extra (l.line.stage i) has_it (h.stood i below)
 
     -- the holder is the first, and its `next` names its follower
     pub holder_at : holding (l.line.stage i) ≡ true → get_elem? l.line.cpus 0 ≡ some i
     holder_at has_it = let f = first_holds has_it in f.there
 
-    pub follower_is : holding (l.line.stage i) ≡ true → l.own i ≡ follower l.line
+    pub follower_is : holding (l.line.stage i) ≡ true → l.extra i ≡ follower l.line
     follower_is has_it = by (second l.line.cpus) refl
       where
         only : (cpus : List ℕ) → get_elem? cpus 0 ≡ some i → second cpus ≡ None → last cpus ≡ Some i
@@ -228,8 +228,8 @@ module _ (n : ℕ) (l : McsLock) (h : IsState mcs_lock n l) where
         only (k ∷ []) head e = ap Some (some-injective k i head)
         only (k ∷ j ∷ js) head e = cc
 
-        by : (o : Option ℕ) → second l.line.cpus ≡ o → l.own i ≡ follower l.line
-        by None e = h.own i (only l.line.cpus (holder_at has_it) e) ∙ ap (if_linked l.line) (sym e)
+        by : (o : Option ℕ) → second l.line.cpus ≡ o → l.extra i ≡ follower l.line
+        by None e = h.extra i (only l.line.cpus (holder_at has_it) e) ∙ ap (if_linked l.line) (sym e)
         by (Some j) e = next_is 0 i j (holder_at has_it) (second_at l.line.cpus j e) ∙ ap (if_linked l.line) (sym e)
 
     -- a follower that is named is the second
@@ -268,9 +268,9 @@ module _ (n : ℕ) (l : McsLock) (h : IsState mcs_lock n l) where
         subst (λ (cpus : List ℕ). IsState mcs_lock n (record l { line = lined cpus false l.line.stage i Idle })) (sym (ap behind one)) record {
           distinct = tt;
           busy = λ e. absurd (true≢false (sym e));
-          stood = each_moved l.line.stage (λ x q. StandsInQueue [] false x l.own q) n i Idle refl
-              (λ x in_it ne. emptied_by l.own l.line.out x i ne (l.line.stage x) (subst (λ (cpus : List ℕ). StandsInQueue cpus l.line.out x l.own (l.line.stage x)) one (h.stood x in_it)));
-          own = λ p e. cc;
+          stood = each_moved l.line.stage (λ x q. StandsInQueue [] false x l.extra q) n i Idle refl
+              (λ x in_it ne. emptied_by l.extra l.line.out x i ne (l.line.stage x) (subst (λ (cpus : List ℕ). StandsInQueue cpus l.line.out x l.extra (l.line.stage x)) one (h.stood x in_it)));
+          extra = λ p e. cc;
         }
 
     -- where another is last, there is more than one
@@ -299,7 +299,7 @@ module _ (n : ℕ) (l : McsLock) (h : IsState mcs_lock n l) where
         subst (λ (cpus : List ℕ). IsState mcs_lock n (record l { line = lined cpus false l.line.stage i Idle })) (sym (ap behind r.1)) record {
           distinct = d.2;
           busy = λ e. absurd (true≢false (sym e));
-          stood = each_moved l.line.stage (λ x q. StandsInQueue (j ∷ rest) false x l.own q) n i Idle d.1
-              (λ x in_it ne. passed_by l.own l.line.out i j rest x ne s.2 (l.line.stage x) (subst (λ (cpus : List ℕ). StandsInQueue cpus l.line.out x l.own (l.line.stage x)) r.1 (h.stood x in_it)));
-          own = λ p f. h.own p (ap last r.1 ∙ f);
+          stood = each_moved l.line.stage (λ x q. StandsInQueue (j ∷ rest) false x l.extra q) n i Idle d.1
+              (λ x in_it ne. passed_by l.extra l.line.out i j rest x ne s.2 (l.line.stage x) (subst (λ (cpus : List ℕ). StandsInQueue cpus l.line.out x l.extra (l.line.stage x)) r.1 (h.stood x in_it)));
+          extra = λ p f. h.extra p (ap last r.1 ∙ f);
         }

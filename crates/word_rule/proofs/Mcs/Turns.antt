@@ -15,7 +15,7 @@ use Rattle.word_rule.specs.Mcs.Acquire.{clear, arm, link}
 use Rattle.word_rule.specs.Mcs.Definition.{mcs_lock, mcs_turn}
 use Rattle.word_rule.specs.Mcs.Release.{pass}
 use Rattle.word_rule.specs.Mcs.State.{McsLock, word_of, is_armed, is_linked, follower, locked_by, locked_at}
-use Rattle.word_rule.specs.Mcs.Try.{ready, try_queue}
+use Rattle.word_rule.specs.Mcs.Try.{prepare, try_queue}
 use Rattle.word_rule.proofs.Lists.{one_place, first_at}
 use Rattle.word_rule.proofs.LockStates.{stands_at, in_cell}
 use Rattle.word_rule.proofs.Mcs.States as queue
@@ -75,7 +75,7 @@ free_first_word false = refl
 
 module _ (n : ℕ) (ws : List ℕ) (l : McsLock) (h : IsTied mcs_lock n ws l) where
   -- a step that leaves each word as it was
-  read : (l' : McsLock) → IsState mcs_lock n l' → l'.own ≡ l.own → last l'.line.cpus ≡ last l.line.cpus → ((x : ℕ) → x < n → locked_at l'.line x ≡ locked_at l.line x) → IsTied mcs_lock n ws l'
+  read : (l' : McsLock) → IsState mcs_lock n l' → l'.extra ≡ l.extra → last l'.line.cpus ≡ last l.line.cpus → ((x : ℕ) → x < n → locked_at l'.line x ≡ locked_at l.line x) → IsTied mcs_lock n ws l'
   read l' state next tail locked = record { state = state; words = words.words_stay n ws l h.words l' next tail locked }
 
   pub wide : length ws ≡ 1 + 2 * n
@@ -102,11 +102,11 @@ module _ (n : ℕ) (ws : List ℕ) (l : McsLock) (h : IsTied mcs_lock n ws l) wh
     pub clears : l.line.stage i ≡ Idle → IsTied mcs_lock n (set ws (1 + i) 0) (clear l i)
     clears e = record { state = queue.clears n l h.state i below e; words = words.next_stored n ws l h.words (clear l i) i None below refl refl (locked_going l.line n i Idle (Mcs Ready) e refl) }
 
-    pub readies : l.line.stage i ≡ Idle → IsTied mcs_lock n (set ws (1 + i) 0) (ready l i)
-    readies e = record { state = queue.readies n l h.state i below e; words = words.next_stored n ws l h.words (ready l i) i None below refl refl (locked_going l.line n i Idle Trying e refl) }
+    pub prepares : l.line.stage i ≡ Idle → IsTied mcs_lock n (set ws (1 + i) 0) (prepare l i)
+    prepares e = record { state = queue.prepares n l h.state i below e; words = words.next_stored n ws l h.words (prepare l i) i None below refl refl (locked_going l.line n i Idle Trying e refl) }
 
     -- one that isn't armed enters an empty queue
-    enters_free : (q : Stage) → l.line.stage i ≡ q → 0 ≡ locked_by q i l.line.cpus → l.own i ≡ None → last l.line.cpus ≡ None → IsTied mcs_lock n (set ws 0 (i + 1)) (record l { line = lined (i ∷ []) true l.line.stage i (Mcs Holding) })
+    enters_free : (q : Stage) → l.line.stage i ≡ q → 0 ≡ locked_by q i l.line.cpus → l.extra i ≡ None → last l.line.cpus ≡ None → IsTied mcs_lock n (set ws 0 (i + 1)) (record l { line = lined (i ∷ []) true l.line.stage i (Mcs Holding) })
     enters_free q e free clear none =
         let empty = queue.no_last l.line.cpus none in
         record {
@@ -267,7 +267,7 @@ module _ (l : McsLock) (i : ℕ) where
 -- an MCS lock before the first step, and its words
 pub starts_mcs : (n first : ℕ) (ws : List ℕ) → ws ≡ replicate (1 + 2 * n) 0 → IsTied mcs_lock n ws (opening_state mcs_lock first)
 starts_mcs n first ws is = record {
-  state = record { distinct = tt; busy = λ e. absurd (true≢false (sym e)); stood = λ x below. refl; own = λ p _. refl };
+  state = record { distinct = tt; busy = λ e. absurd (true≢false (sym e)); stood = λ x below. refl; extra = λ p _. refl };
   words = words.are n (opening_state mcs_lock first) ws (ap length is ∙ length-replicate (1 + 2 * n) 0) (zeros 0 (omega arith)) (λ x lt. zeros (1 + x) (omega (arith, lt))) (λ x lt. zeros (1 + n + x) (omega (arith, lt)));
 }
   where

@@ -67,37 +67,37 @@ stage_twice (Ticket (Served t)) = refl
 stage_twice q = refl
 
 twice : (l : TicketLock) → without_tickets (without_tickets l) ≡ without_tickets l
-twice l k = record { line = record { cpus = l.line.cpus; out = l.line.out; stage = λ x. stage_twice (l.line.stage x) k }; own = 0 }
+twice l k = record { line = record { cpus = l.line.cpus; out = l.line.out; stage = λ x. stage_twice (l.line.stage x) k }; extra = 0 }
 
 module _ (l : TicketLock) (i : ℕ) where
   abbrev P : TicketLock
   P = without_tickets l
 
   -- i goes elsewhere, where it is alike but for its ticket
-  alike : (cpus : List ℕ) (out : Bool) (q q' : Stage) (own own' : ℕ) → without_ticket q' ≡ without_ticket q
-      → without_tickets record { line = lined cpus out P.line.stage i q'; own = own' } ≡ without_tickets record { line = lined cpus out l.line.stage i q; own = own }
-  alike cpus out q q' own own' same k = record { line = record { cpus = cpus; out = out; stage = λ x. by (x == i) (l.line.stage x) k }; own = 0 }
+  alike : (cpus : List ℕ) (out : Bool) (q q' : Stage) (extra extra' : ℕ) → without_ticket q' ≡ without_ticket q
+      → without_tickets record { line = lined cpus out P.line.stage i q'; extra = extra' } ≡ without_tickets record { line = lined cpus out l.line.stage i q; extra = extra }
+  alike cpus out q q' extra extra' same k = record { line = record { cpus = cpus; out = out; stage = λ x. by (x == i) (l.line.stage x) k }; extra = 0 }
     where
       by : (b : Bool) (p : Stage) → without_ticket (cond b q' (without_ticket p)) ≡ without_ticket (cond b q p)
       by true p = same
       by false p = stage_twice p
 
-  plainly_by : (q : Stage) → SameTurn ticket_lock (ticket_turn l i q) (ticket_turn P i (without_ticket q))
-  plainly_by Idle = record { step = refl; lock = alike (l.line.cpus ++ i ∷ []) l.line.out (Ticket (Drawn ((l.own + length l.line.cpus) % tickets))) (Ticket (Drawn ((0 + length l.line.cpus) % tickets))) l.own 0 refl }
-  plainly_by (Ticket (Drawn t)) = by (is_first i l.line.cpus)
+  erased_by : (q : Stage) → SameTurn ticket_lock (ticket_turn l i q) (ticket_turn P i (without_ticket q))
+  erased_by Idle = record { step = refl; lock = alike (l.line.cpus ++ i ∷ []) l.line.out (Ticket (Drawn ((l.extra + length l.line.cpus) % tickets))) (Ticket (Drawn ((0 + length l.line.cpus) % tickets))) l.extra 0 refl }
+  erased_by (Ticket (Drawn t)) = by (is_first i l.line.cpus)
     where
       by : (b : Bool) → SameTurn ticket_lock (Looked l i t b) (Looked P i 0 b)
-      by true = record { step = refl; lock = alike l.line.cpus true (Ticket (Served t)) (Ticket (Served 0)) l.own 0 refl }
+      by true = record { step = refl; lock = alike l.line.cpus true (Ticket (Served t)) (Ticket (Served 0)) l.extra 0 refl }
       by false = record { step = refl; lock = twice l }
-  plainly_by (Ticket (Served t)) = record { step = refl; lock = alike (behind l.line.cpus) false Idle Idle ((l.own + 1) % tickets) ((0 + 1) % tickets) refl }
-  plainly_by q = record { step = refl; lock = twice l }
+  erased_by (Ticket (Served t)) = record { step = refl; lock = alike (behind l.line.cpus) false Idle Idle ((l.extra + 1) % tickets) ((0 + 1) % tickets) refl }
+  erased_by q = record { step = refl; lock = twice l }
 
 -- the next ticket is served where a hold ends, and else the same
-pub served_after : (l : TicketLock) (i : ℕ) (q : Stage) → (ticket_turn l i q).0.own ≡ cond (ends_hold (ticket_turn l i q).1) ((l.own + 1) % tickets) l.own
+pub served_after : (l : TicketLock) (i : ℕ) (q : Stage) → (ticket_turn l i q).0.extra ≡ cond (ends_hold (ticket_turn l i q).1) ((l.extra + 1) % tickets) l.extra
 served_after l i Idle = refl
 served_after l i (Ticket (Drawn t)) = by (is_first i l.line.cpus)
   where
-    by : (b : Bool) → (Looked l i t b).0.own ≡ cond (ends_hold (Looked l i t b).1) ((l.own + 1) % tickets) l.own
+    by : (b : Bool) → (Looked l i t b).0.extra ≡ cond (ends_hold (Looked l i t b).1) ((l.extra + 1) % tickets) l.extra
     by true = refl
     by false = refl
 served_after l i (Ticket (Served t)) = refl
@@ -106,19 +106,19 @@ served_after l i q = refl
 pub ticket_laws : LockLaws ticket_lock
 ticket_laws = record {
   begins = λ n first few. (starts_ticket n first _ (ltb-true n tickets few) refl).state;
-  opens_plainly = λ first first'. refl;
+  opens_erased = λ first first'. refl;
   few_fit = λ n few. lt-ltb n tickets (omega arith);
-  fits = λ n l h. lt-ltb n tickets h.own.1;
+  fits = λ n l h. lt-ltb n tickets h.extra.1;
   outside = outside;
   first = first_if;
   holds = λ ticket. refl;
   goes = λ n l i h below. goes_by n l i h below (l.line.stage i) refl;
   whole = λ l i h. whole_by l i (l.line.stage i) h;
   acts = λ n l i h below not. acts_by n l i h below (l.line.stage i) refl;
-  plain_twice = twice;
-  plain_line = λ l. (refl, refl);
-  plainly = λ l i not. plainly_by l i (l.line.stage i);
+  erased_twice = twice;
+  erased_line = λ l. (refl, refl);
+  erased = λ l i not. erased_by l i (l.line.stage i);
   counts = λ l l' i step same. served_after l i (l.line.stage i) ∙ ((λ j. cond (ends_hold (step j)) ((same j + 1) % tickets) (same j)) ∙ sym (served_after l' i (l'.line.stage i)));
   tries = tries;
-  readies = λ l i x ne. refl;
+  prepares = λ l i x ne. refl;
 }

@@ -64,7 +64,7 @@ module _ (l : TicketLock) (i : ℕ) where
   look_ends t false e = never e
 
   others_by : (x : ℕ) → x ≢ i → (q : Stage) → (ticket_turn l i q).0.line.stage x ≡ l.line.stage x
-  others_by x ne Idle = moved_else l.line.stage i (Ticket (Drawn ((l.own + length l.line.cpus) % tickets))) x ne
+  others_by x ne Idle = moved_else l.line.stage i (Ticket (Drawn ((l.extra + length l.line.cpus) % tickets))) x ne
   others_by x ne (Ticket (Drawn t)) = look_else x t ne (is_first i l.line.cpus)
   others_by x ne (Ticket (Served t)) = moved_else l.line.stage i Idle x ne
   others_by x ne q = refl
@@ -80,7 +80,7 @@ module _ (l : TicketLock) (i : ℕ) where
 
 module _ (n : ℕ) (l : TicketLock) (i : ℕ) (h : IsState ticket_lock n l) (below : i < n) where
   nearer_by : (q : Stage) → l.line.stage i ≡ q → on_at l.line i q ≡ true → ends_hold (ticket_turn l i q).1 ≡ false → left ((ticket_turn l i q).0.line.stage i) < left q
-  nearer_by Idle e on not = near l i (Ticket (Drawn ((l.own + length l.line.cpus) % tickets))) 3 (omega arith)
+  nearer_by Idle e on not = near l i (Ticket (Drawn ((l.extra + length l.line.cpus) % tickets))) 3 (omega arith)
   nearer_by (Ticket (Drawn t)) e on not = look_near l i t (is_first i l.line.cpus) on
   nearer_by (Ticket (Served t)) e on not = never (sym not)
   nearer_by q e on not = absurd (stands_at ticket_lock n l h i q below e)

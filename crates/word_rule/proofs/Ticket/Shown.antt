@@ -27,7 +27,7 @@ module _ (n : ℕ) (ws : List ℕ) (stages : List Stage) (l : TicketLock) (h : R
   turn_at q e = ticket.turned l i q (stood q e)
 
   pub drew : (t : ℕ) → get_or stages i Idle ≡ Idle → t ≡ get_or ws 0 0 / tickets → AfterTicket (set ws 0 ((get_or ws 0 0 + tickets) % 2 ^ 64)) (set stages i (Ticket (Drawn t))) steps.Draw
-  drew t e is = became ticket_lock n ws stages l h i below _ _ (Ticket (Drawn ((l.own + length l.line.cpus) % tickets))) (draw l i, steps.Draw) (turn_at Idle e) (ticket.draws n ws l h.tied i below (stood Idle e)) refl (ap (λ t. Ticket (Drawn t)) (is ∙ ticket.ticket_is n ws l h.tied i below))
+  drew t e is = became ticket_lock n ws stages l h i below _ _ (Ticket (Drawn ((l.extra + length l.line.cpus) % tickets))) (draw l i, steps.Draw) (turn_at Idle e) (ticket.draws n ws l h.tied i below (stood Idle e)) refl (ap (λ t. Ticket (Drawn t)) (is ∙ ticket.ticket_is n ws l h.tied i below))
 
   pub won : (t : ℕ) → get_or stages i Idle ≡ Ticket (Drawn t) → get_or ws 0 0 % tickets ≡ t → AfterTicket ws (set stages i (Ticket (Served t))) (steps.Look true)
   won t e hit =

@@ -15,10 +15,10 @@ use Rattle.word_rule.proofs.Moves.{moved_same, moved_else, moved_twice, not_empt
 use Rattle.word_rule.proofs.Ticket.Turns.{hits, succeeds, tried_by, turned}
 
 module _ (l : TicketLock) (i t : ℕ) where
-  pub draws_and_looks : l.line.stage i ≡ Idle → l.line.cpus ≡ [] → l.own ≡ t → t < tickets
+  pub draws_and_looks : l.line.stage i ≡ Idle → l.line.cpus ≡ [] → l.extra ≡ t → t < tickets
       → try_ticket l i t ≡ ((ticket_lock.turn (ticket_lock.turn l i).0 i).0, (ticket_lock.turn l i).1 ∷ (ticket_lock.turn (ticket_lock.turn l i).0 i).1 ∷ [])
   draws_and_looks idle none served small =
-      let d : ℕ = (l.own + length l.line.cpus) % tickets in
+      let d : ℕ = (l.extra + length l.line.cpus) % tickets in
       let is : d ≡ t = (λ k. (served k + length (none k)) % tickets) ∙ (ap (λ (z : ℕ). z % tickets) (omega arith) ∙ mod-eq_of_lt small) in
       let l' : TicketLock = draw l i in
       let first : is_first i l'.line.cpus ≡ true = ap (λ z. is_first i (z ++ i ∷ [])) none ∙ eq-eqb i i refl in
@@ -33,8 +33,8 @@ module _ (l : TicketLock) (i t : ℕ) where
 
   pub tries : Tries ticket_lock l i (try_ticket l i t)
   tries = record {
-    busy = λ some_one. let same = ap (λ (b : Bool). Tried (b && l.own == t)) (not_empty l.line.cpus some_one) in (ap (λ z. z.0.line.cpus) same, ap (λ z. z.0.line.out) same, ap (λ z. z.1) same);
-    others = λ x ne. by x ne (is_empty l.line.cpus && l.own == t);
+    busy = λ some_one. let same = ap (λ (b : Bool). Tried (b && l.extra == t)) (not_empty l.line.cpus some_one) in (ap (λ z. z.0.line.cpus) same, ap (λ z. z.0.line.out) same, ap (λ z. z.1) same);
+    others = λ x ne. by x ne (is_empty l.line.cpus && l.extra == t);
   }
     where
       by : (x : ℕ) → x ≢ i → (b : Bool) → (Tried b).0.line.stage x ≡ l.line.stage x

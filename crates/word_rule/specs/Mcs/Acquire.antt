@@ -10,7 +10,7 @@ use Rattle.word_rule.specs.Mcs.State.{McsLock, naming}
 
 -- the `next` of i becomes empty
 abbrev pub clear : McsLock → ℕ → McsLock
-clear l i = record { line = going l.line i (Mcs Ready); own = naming l.own i None }
+clear l i = record { line = going l.line i (Mcs Ready); extra = naming l.extra i None }
 
 -- i joins the queue. With nobody there it gets the object, else it is behind the old last
 abbrev pub enter : McsLock → ℕ → Option ℕ → McsLock × StepDone
@@ -22,7 +22,7 @@ arm l i p = record l { line = going l.line i (Mcs (Armed p)) }
 
 -- the `next` of p names i
 abbrev pub link : McsLock → ℕ → ℕ → McsLock
-link l i p = record { line = going l.line i (Mcs Waiting); own = naming l.own p (Some i) }
+link l i p = record { line = going l.line i (Mcs Waiting); extra = naming l.extra p (Some i) }
 
 -- the first of the queue gets the object, and nobody else
 abbrev pub look : McsLock → ℕ → McsLock × StepDone

@@ -10,7 +10,7 @@ use Rattle.word_rule.specs.LockDefinition.{LockDefinition}
 use Rattle.word_rule.specs.Mcs.Acquire.{clear, enter, arm, link, look}
 use Rattle.word_rule.specs.Mcs.Release.{see, empty, pass}
 use Rattle.word_rule.specs.Mcs.State.{McsLock, follower, mcs_words, StandsInQueue, is_at_head, without_tries}
-use Rattle.word_rule.specs.Mcs.Try.{ready, try_queue}
+use Rattle.word_rule.specs.Mcs.Try.{prepare, try_queue}
 
 -- an MCS lock's next step, of a CPU that stands there
 abbrev pub mcs_turn : McsLock → ℕ → Stage → McsLock × StepDone
@@ -27,18 +27,18 @@ mcs_turn l i _ = (l, steps.Idle)
 
 abbrev pub mcs_lock : LockDefinition
 mcs_lock = record {
-  Own = ℕ → Option ℕ;
+  Extra = ℕ → Option ℕ;
   opening = λ first x. None;
   turn = λ l i. mcs_turn l i (l.line.stage i);
   attempt = λ l i ticket. try_queue l i;
-  ready = ready;
+  prepare = prepare;
   words = mcs_words;
   fits = λ n. true;
   Stands = StandsInQueue;
   -- nobody has linked itself to the last of the queue
-  KeepsOwn = λ n next cpus. (p : ℕ) → last cpus ≡ Some p → next p ≡ None;
-  plain = without_tries;
-  number = λ next. 0;
+  KeepsExtra = λ n next cpus. (p : ℕ) → last cpus ≡ Some p → next p ≡ None;
+  erase = without_tries;
+  served = λ next. 0;
   holding = is_at_head;
   holder = λ ticket. Mcs Holding;
 }

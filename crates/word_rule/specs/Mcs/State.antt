@@ -51,7 +51,7 @@ locked_at l x = locked_by (l.stage x) x l.cpus
 
 -- word 0 is the tail; of n CPUs word 1 + i is the `next` of CPU i, word 1 + n + i its `locked`
 abbrev pub mcs_words : ℕ → McsLock → List ℕ
-mcs_words n l = word_of (last l.line.cpus) ∷ (map (λ i. word_of (l.own i)) (range_with_len 0 n) ++ map (λ i. locked_at l.line i) (range_with_len 0 n))
+mcs_words n l = word_of (last l.line.cpus) ∷ (map (λ i. word_of (l.extra i)) (range_with_len 0 n) ++ map (λ i. locked_at l.line i) (range_with_len 0 n))
 
 module _ (cpus : List ℕ) (x : ℕ) where
   -- x is the next behind p, whose `next` names this
@@ -84,16 +84,16 @@ is_at_head (Mcs Leaving) = true
 is_at_head (Mcs (Passing j)) = true
 is_at_head _ = false
 
--- one that has readied a try is as one that is idle
+-- one that has prepared a try is as one that is idle
 abbrev pub untried : Stage → Stage
 untried Trying = Idle
 untried q = q
 
 -- what counts of the `next` of one that stands there: nothing before it has cleared it
-abbrev pub plain_next : Stage → Option ℕ → Option ℕ
-plain_next (Mcs q) named = named
-plain_next q named = None
+abbrev pub erased_next : Stage → Option ℕ → Option ℕ
+erased_next (Mcs q) named = named
+erased_next q named = None
 
--- the lock without tries that are readied, and the `next` of who is idle
+-- the lock without tries that are prepared, and the `next` of who is idle
 abbrev pub without_tries : McsLock → McsLock
-without_tries l = record { line = record { cpus = l.line.cpus; out = l.line.out; stage = λ x. untried (l.line.stage x) }; own = λ x. plain_next (l.line.stage x) (l.own x) }
+without_tries l = record { line = record { cpus = l.line.cpus; out = l.line.out; stage = λ x. untried (l.line.stage x) }; extra = λ x. erased_next (l.line.stage x) (l.extra x) }

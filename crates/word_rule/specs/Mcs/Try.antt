@@ -8,10 +8,10 @@ use Rattle.word_rule.specs.Line.{alone_with_it, is_empty, going}
 use Rattle.word_rule.specs.Mcs.State.{McsLock, naming}
 
 -- i, which isn't in the queue, clears its `next` for a try
-abbrev pub ready : McsLock → ℕ → McsLock
-ready l i = record { line = going l.line i Trying; own = naming l.own i None }
+abbrev pub prepare : McsLock → ℕ → McsLock
+prepare l i = record { line = going l.line i Trying; extra = naming l.extra i None }
 
--- i has readied its try: where nobody is in the queue it gets the object, by the clear that it has done and an enter; else it
+-- i has prepared its try: where nobody is in the queue it gets the object, by the clear that it has done and an enter; else it
 -- is idle again, and has done nothing
 abbrev pub try_queue : McsLock → ℕ → McsLock × List StepDone
 try_queue l i = if is_empty l.line.cpus then (record l { line = alone_with_it l.line i (Mcs Holding) }, steps.Clear ∷ steps.Enter true ∷ []) else (record l { line = going l.line i Idle }, [])

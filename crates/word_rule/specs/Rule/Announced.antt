@@ -7,49 +7,49 @@ use Rattle.event_log.specs.Distinct.{has}
 use Rattle.event_log.specs.History.{History}
 use Rattle.word_rule.specs.declared.lock_kind.Stage.{Stage}
 use Rattle.word_rule.specs.declared.machine.step_done.StepDone.{StepDone}
-use Rattle.word_rule.specs.declared.view.Moment.{Moment}
-use Rattle.word_rule.specs.declared.view.Seated.{Seated}
+use Rattle.word_rule.specs.declared.view.TraceStep.{TraceStep}
+use Rattle.word_rule.specs.declared.view.CallerView.{CallerView}
 use Rattle.word_rule.specs.Cell.{Cell, Grows, Lawful, stored}
-use Rattle.word_rule.specs.Rule.CellInvariant.{EachFrom, Caller, Viewed}
+use Rattle.word_rule.specs.Rule.CellInvariant.{EachFrom, Caller, SeatView}
 use Rattle.word_rule.specs.Locks.{holding}
 use Rattle.word_rule.specs.LockRuns.{Extends, ExtendsUntil, HasRun}
 use Rattle.word_rule.specs.OneHold.{leaving, silently}
 use Rattle.word_rule.specs.Rule.Seats.{Seat, moved_on, settled, merged}
 
 -- one of the callers has the number
-abbrev pub any_has : {E : Type 0} → ℕ → List (Seated E) → Bool
+abbrev pub any_has : {E : Type 0} → ℕ → List (CallerView E) → Bool
 any_has x [] = false
 any_has x (c ∷ cs) = has x c.owned || any_has x cs
 
 module _ {O P C R : Type 0} where
   -- the seat has each number of the cell
-  pub record HasAll (v : Viewed O P C R) (h : Cell O P C R) : Type 0 where
+  pub record HasAll (v : SeatView O P C R) (h : Cell O P C R) : Type 0 where
     pub told : v.told ≡ h ∷ []
     pub each : (x : ℕ) → x < h.numbers → (has x v.main.owned || any_has x v.others) ≡ true
 
   -- the seat lacks a number of its cell
-  abbrev pub Lacks : Viewed O P C R → Type 0
+  abbrev pub Lacks : SeatView O P C R → Type 0
   Lacks v = (h : Cell O P C R) → HasAll v h → ⊥
 
   -- x is a number of the cell that isn't the caller's
-  pub record IsElse (v : Viewed O P C R) (x : ℕ) : Type 0 where
+  pub record IsElse (v : SeatView O P C R) (x : ℕ) : Type 0 where
     pub other : has x v.main.owned ≡ false
     pub inside : (h : Cell O P C R) → v.told ≡ h ∷ [] → x < h.numbers
 
 module _ {O P C R : Type 0} (meaning : Ghosts O P C R) where
   -- the log is lawful and the run left it; both begin with what the seat's callers have seen. The first has done these
-  -- moments, and the others nothing
-  pub record Learns (v : Viewed O P C R) (done : List (Moment (Event O P C R))) (log : List (Event O P C R)) (run : List (Moment (Event O P C R))) : Type 0 where
+  -- steps, and the others nothing
+  pub record Learns (v : SeatView O P C R) (done : List (TraceStep (Event O P C R))) (log : List (Event O P C R)) (run : List (TraceStep (Event O P C R))) : Type 0 where
     pub grows : Grows (λ x. has x v.main.owned) v.main.seen log
     pub extends : Extends (λ x. has x v.main.owned) v.main.run done run
     pub others : EachFrom (λ _ (c : Caller O P C R). Grows (λ x. has x c.owned) c.seen log × Extends (λ x. has x c.owned) c.run [] run) 1 v.others
-    pub lawful : (h : Cell O P C R) → v.told ≡ h ∷ [] → Lawful meaning h log
+    pub valid : (h : Cell O P C R) → v.told ≡ h ∷ [] → Lawful meaning h log
     pub ran : (h : Cell O P C R) → v.told ≡ h ∷ [] → HasRun h log run
 
   -- the first caller has done these steps and stands there now; while it has the object no event comes
   pub record Goes (stage : Stage) (done : List StepDone) (m m' : Seat O P C R) : Type 0 where
     pub log : List (Event O P C R)
-    pub run : List (Moment (Event O P C R))
+    pub run : List (TraceStep (Event O P C R))
     pub seat : m' ≡ (moved_on m.0 stage log run, m.1)
     pub learns : Learns m.0 (silently m.0.main.cpu done) log run
     pub still : holding m.0.main.stage ≡ true → log ≡ m.0.main.seen
@@ -63,15 +63,15 @@ module _ {O P C R : Type 0} (meaning : Ghosts O P C R) where
   -- of the seat have seen now
   pub record Gets (stage : Stage) (done : List StepDone) (m m' : Seat O P C R) : Type 0 where
     pub object : History O P C R
-    pub run : List (Moment (Event O P C R))
+    pub run : List (TraceStep (Event O P C R))
     pub seat : m' ≡ (settled m.0 stage object.log run, (0, Some object) ∷ m.1)
     pub learns : Learns m.0 (silently m.0.main.cpu done) object.log run
     pub replayed : (h : Cell O P C R) → m.0.told ≡ h ∷ [] → object ≡ stored meaning h object.log
 
   -- the callers of a seat learn one log and one run
-  pub record Meets (become : List (Event O P C R) → List (Moment (Event O P C R)) → Viewed O P C R) (m m' : Seat O P C R) : Type 0 where
+  pub record Meets (become : List (Event O P C R) → List (TraceStep (Event O P C R)) → SeatView O P C R) (m m' : Seat O P C R) : Type 0 where
     pub log : List (Event O P C R)
-    pub run : List (Moment (Event O P C R))
+    pub run : List (TraceStep (Event O P C R))
     pub seat : m' ≡ (become log run, m.1)
     pub learns : Learns m.0 [] log run
 
@@ -85,8 +85,8 @@ module _ {O P C R : Type 0} (meaning : Ghosts O P C R) where
 module _ {O P C R : Type 0} where
   -- the first caller has ended its hold by this step, the last of the run that it has seen now, and stands there. The object x
   -- goes home, with the events that were added to the log that it had seen
-  pub record Left (stage : Stage) (step : StepDone) (v : Viewed O P C R) (m' : Seat O P C R) (x : History O P C R) (more : List (ℕ × Option (History O P C R))) : Type 0 where
-    pub run : List (Moment (Event O P C R))
+  pub record Left (stage : Stage) (step : StepDone) (v : SeatView O P C R) (m' : Seat O P C R) (x : History O P C R) (more : List (ℕ × Option (History O P C R))) : Type 0 where
+    pub run : List (TraceStep (Event O P C R))
     pub events : List (Event O P C R)
     pub seat : m' ≡ (settled v stage x.log run, more)
     pub added : x.log ≡ v.main.seen ++ events
@@ -97,9 +97,9 @@ module _ {O P C R : Type 0} where
   Returns stage step m m' = (x : History O P C R) (more : List (ℕ × Option (History O P C R))) → m.1 ≡ (0, Some x) ∷ more → Left stage step m.0 m' x more
 
   -- the slot goes back, and the hold doesn't end
-  abbrev pub tears : Step (Option (History O P C R)) → Seat O P C R → ℕ → Seat O P C R → Type 0
-  tears st m n m' = m' ≡ (m.0, [])
+  abbrev pub returns_slot : Step (Option (History O P C R)) → Seat O P C R → ℕ → Seat O P C R → Type 0
+  returns_slot st m n m' = m' ≡ (m.0, [])
 
   -- there is no such seat
-  abbrev pub clashes : Step (Option (History O P C R)) → Seat O P C R → ℕ → Seat O P C R → Type 0
-  clashes st m n m' = ⊥
+  abbrev pub second_holder : Step (Option (History O P C R)) → Seat O P C R → ℕ → Seat O P C R → Type 0
+  second_holder st m n m' = ⊥

@@ -9,7 +9,7 @@ use Rattle.word_rule.specs.declared.lock_kind.Stage.{Stage}
 use Rattle.word_rule.specs.Cell.{Cell, Caller, PassView, HoldView, IsPassView, IsHoldView}
 use Rattle.word_rule.specs.CallerState.{CallerState}
 use Rattle.word_rule.specs.LockRuns.{HasRun}
-use Rattle.word_rule.specs.Rule.CellInvariant.{Viewed}
+use Rattle.word_rule.specs.Rule.CellInvariant.{SeatView}
 use Rattle.word_rule.specs.Rule.Seats.{Seat}
 
 module _ {O P C R : Type 0} where
@@ -19,15 +19,15 @@ module _ {O P C R : Type 0} where
     pub others : (x : ℕ) → x ≢ cpu → of x b ≡ of x a
 
   -- the caller of a seat
-  abbrev pub caller_of : Cell O P C R → Viewed O P C R → Caller O P C R
+  abbrev pub caller_of : Cell O P C R → SeatView O P C R → Caller O P C R
   caller_of h v = record { cell = h; owned = λ k. has k v.main.owned; acting = v.main.cpu }
 
   -- what it knows without the object
-  abbrev pub pass_view_of : Cell O P C R → Viewed O P C R → PassView O P C R
+  abbrev pub pass_view_of : Cell O P C R → SeatView O P C R → PassView O P C R
   pass_view_of h v = record { caller = caller_of h v; seen = v.main.seen }
 
   -- what it knows with the object
-  abbrev pub hold_view_of : Cell O P C R → History O P C R → Viewed O P C R → HoldView O P C R
+  abbrev pub hold_view_of : Cell O P C R → History O P C R → SeatView O P C R → HoldView O P C R
   hold_view_of h x v = record { caller = caller_of h v; history = x }
 
   -- where it stands without the object, and with it

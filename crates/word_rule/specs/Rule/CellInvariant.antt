@@ -9,11 +9,11 @@ use Rattle.event_log.specs.Distinct.{has}
 use Rattle.event_log.specs.History.{History}
 use Rattle.sound_run.specs.declared.lock_kind.LockKind.{LockKind}
 use Rattle.word_rule.specs.declared.lock_kind.Stage.TheVariants.{Idle}
-use Rattle.word_rule.specs.declared.view.Moment.{Moment}
-use Rattle.word_rule.specs.declared.view.Seated.{Seated}
+use Rattle.word_rule.specs.declared.view.TraceStep.{TraceStep}
+use Rattle.word_rule.specs.declared.view.CallerView.{CallerView}
 use Rattle.word_rule.specs.declared.view.View.{View}
 use Rattle.word_rule.specs.Cell.{Cell, Grows, Lawful, stored}
-use Rattle.word_rule.specs.Locks.{holding, Lock, opening_lock, lock_words, number, plain}
+use Rattle.word_rule.specs.Locks.{holding, Lock, opening_lock, lock_words, served, erase}
 use Rattle.word_rule.specs.LockRuns.{Extends, HasRun, lock_after}
 use Rattle.word_rule.specs.Rule.LockStates.{IsLockOf}
 
@@ -21,7 +21,7 @@ use Rattle.word_rule.specs.Rule.LockStates.{IsLockOf}
 -- callers
 pub record GhostState (O P C R : Type 0) : Type 0 where
   pub committed : List (Event O P C R)
-  pub run : List (Moment (Event O P C R))
+  pub run : List (TraceStep (Event O P C R))
   pub lock : Lock
   pub owner : ℕ → ℕ × ℕ
 
@@ -32,19 +32,19 @@ EachFrom P k (x ∷ xs) = P k x × EachFrom P (k + 1) xs
 
 -- a caller at its seat
 abbrev pub Caller : Type 0 → Type 0 → Type 0 → Type 0 → Type 0
-Caller O P C R = Seated (Event O P C R)
+Caller O P C R = CallerView (Event O P C R)
 
 -- a seat's view
-abbrev pub Viewed : Type 0 → Type 0 → Type 0 → Type 0 → Type 0
-Viewed O P C R = View (Cell O P C R) (Event O P C R)
+abbrev pub SeatView : Type 0 → Type 0 → Type 0 → Type 0 → Type 0
+SeatView O P C R = View (Cell O P C R) (Event O P C R)
 
 -- the callers of a seat: its own, and those that it has taken in
-abbrev pub callers_in : {O P C R : Type 0} → Viewed O P C R → List (Caller O P C R)
+abbrev pub callers_in : {O P C R : Type 0} → SeatView O P C R → List (Caller O P C R)
 callers_in v = v.main ∷ v.others
 
 -- the words of a cell's table, the slot through which the object moves, and the views of all seats
 abbrev pub Table : Type 0 → Type 0 → Type 0 → Type 0 → Type 0
-Table O P C R = State (Option (History O P C R)) (Viewed O P C R)
+Table O P C R = State (Option (History O P C R)) (SeatView O P C R)
 
 module _ {O P C R : Type 0} (n : ℕ) (b : GhostState O P C R) where
   -- what the rule says of the caller k of the seat j, in a cell of n CPUs. One that owns every number finds the word that
@@ -60,16 +60,16 @@ module _ {O P C R : Type 0} (n : ℕ) (b : GhostState O P C R) where
 
 module _ {O P C R : Type 0} (h : Cell O P C R) (b : GhostState O P C R) where
   -- what the rule says of a seat
-  pub record SeatInvariant (j : ℕ) (v : Viewed O P C R) : Type 0 where
+  pub record SeatInvariant (j : ℕ) (v : SeatView O P C R) : Type 0 where
     pub told : EachFrom (λ _ x. x ≡ h) 0 v.told
     pub main : CallerInvariant h.numbers b j 0 v.main
     pub others : EachFrom (CallerInvariant h.numbers b j) 1 v.others
 
--- the lock that the run makes of the cell's lock before its first step: it is that one but for what `plain` leaves out, and would
--- be with any first ticket; and its words go by the number that the run comes to from the cell's first ticket
-pub record IsMade {O P C R : Type 0} (h : Cell O P C R) (l : Lock) (run : List (Moment (Event O P C R))) : Type 0 where
-  pub plainly : (first : ℕ) → plain l ≡ plain (lock_after run (opening_lock h.kind first))
-  pub counts : number l ≡ number (lock_after run (opening_lock h.kind h.first))
+-- the lock that the run makes of the cell's lock before its first step: it is that one but for what `erase` leaves out, and would
+-- be with any first ticket; and its words go by the served ticket that the run comes to from the cell's first one
+pub record IsMade {O P C R : Type 0} (h : Cell O P C R) (l : Lock) (run : List (TraceStep (Event O P C R))) : Type 0 where
+  pub erased : (first : ℕ) → erase l ≡ erase (lock_after run (opening_lock h.kind first))
+  pub counts : served l ≡ served (lock_after run (opening_lock h.kind h.first))
 
 -- the rule, for such a lock: the words are those of a state of it, which is the one that the run makes; the run left the committed
 -- log, of which the object at home is the replay
@@ -78,6 +78,6 @@ pub record CellInvariant {O P C R : Type 0} (meaning : Ghosts O P C R) (kind : L
   pub tied : IsLockOf kind h.numbers s.words state.lock
   pub ran : HasRun h state.committed state.run
   pub made : IsMade h state.lock state.run
-  pub lawful : Lawful meaning h state.committed
+  pub valid : Lawful meaning h state.committed
   pub at_home : state.lock.line.out ≡ false → get_elem? s.homes 0 ≡ some (some (Some (stored meaning h state.committed)))
-  pub each : (j : ℕ) (v : Viewed O P C R) → get_elem? s.views j ≡ some v → SeatInvariant h state j v
+  pub each : (j : ℕ) (v : SeatView O P C R) → get_elem? s.views j ≡ some v → SeatInvariant h state j v

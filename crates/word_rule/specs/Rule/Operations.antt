@@ -6,8 +6,8 @@ use Rattle.atomic_table.specs.declared.shared.Seat.{Seat as TableSeat}
 use Rattle.event_log.specs.declared.object.SeqObject.{Ghosts}
 use Rattle.event_log.specs.History.{History}
 use Rattle.word_rule.specs.declared.lock_table.LockTable.{LockTable}
-use Rattle.word_rule.specs.Rule.CellInvariant.{Viewed}
-use Rattle.word_rule.specs.Rule.Definition.{IsTurn, IsTry, IsReadying, IsRead}
+use Rattle.word_rule.specs.Rule.CellInvariant.{SeatView}
+use Rattle.word_rule.specs.Rule.Definition.{IsTurn, IsTry, IsPreparing, IsRead}
 use Rattle.word_rule.specs.Rule.Seats.{Seat, keeping, letting}
 
 module _ {O P C R : Type 0} where
@@ -16,26 +16,26 @@ module _ {O P C R : Type 0} where
   step_on t word a b = step t.table.shared.table_id.slots word a b none
 
   -- the seat has stepped, and this was told
-  abbrev pub Stepped : TableSeat (Option (History O P C R)) (Viewed O P C R) → TableSeat (Option (History O P C R)) (Viewed O P C R) → Type 0 → Type 0
+  abbrev pub Stepped : TableSeat (Option (History O P C R)) (SeatView O P C R) → TableSeat (Option (History O P C R)) (SeatView O P C R) → Type 0 → Type 0
   Stepped before after told = (after.table_id ≡ before.table_id) × (after.id ≡ before.id) × told
 
   -- both seats are at this table, neither has taken in a caller, and the other has nothing
-  abbrev pub AreBeside : LockTable O P C R → TableSeat (Option (History O P C R)) (Viewed O P C R) → TableSeat (Option (History O P C R)) (Viewed O P C R) → Type 0
+  abbrev pub AreBeside : LockTable O P C R → TableSeat (Option (History O P C R)) (SeatView O P C R) → TableSeat (Option (History O P C R)) (SeatView O P C R) → Type 0
   AreBeside t s other = (s.table_id ≡ t.table.shared.table_id) × (other.table_id ≡ t.table.shared.table_id) × (other.me.1 ≡ []) × (0 < t.table.shared.table_id.words) × (s.me.0.others ≡ []) × (other.me.0.others ≡ [])
 
   -- the seat has let go to the other the first caller that it had taken in
-  abbrev pub HasLetGo : TableSeat (Option (History O P C R)) (Viewed O P C R) → TableSeat (Option (History O P C R)) (Viewed O P C R) → TableSeat (Option (History O P C R)) (Viewed O P C R) → Type 0
+  abbrev pub HasLetGo : TableSeat (Option (History O P C R)) (SeatView O P C R) → TableSeat (Option (History O P C R)) (SeatView O P C R) → TableSeat (Option (History O P C R)) (SeatView O P C R) → Type 0
   HasLetGo before after other = (after.table_id ≡ before.table_id) × (after.id ≡ before.id) × (after.me ≡ (keeping before.me.0, before.me.1)) × (other.table_id ≡ before.table_id) × (other.me ≡ (letting before.me.0, []))
 
   -- the seat is at this table, and has its object
-  abbrev pub IsLending : LockTable O P C R → TableSeat (Option (History O P C R)) (Viewed O P C R) → Type 0
+  abbrev pub IsLending : LockTable O P C R → TableSeat (Option (History O P C R)) (SeatView O P C R) → Type 0
   IsLending t s = (s.table_id ≡ t.table.shared.table_id) × ((x : History O P C R) × (s.me.1 ≡ (0, Some x) ∷ rest s.me.1))
 
   -- the seat had this object, and has it no more
-  abbrev pub HasLent : TableSeat (Option (History O P C R)) (Viewed O P C R) → TableSeat (Option (History O P C R)) (Viewed O P C R) → History O P C R → Type 0
+  abbrev pub HasLent : TableSeat (Option (History O P C R)) (SeatView O P C R) → TableSeat (Option (History O P C R)) (SeatView O P C R) → History O P C R → Type 0
   HasLent before after h = (after.table_id ≡ before.table_id) × (after.id ≡ before.id) × (before.me.1 ≡ (0, Some h) ∷ rest before.me.1) × (after.me ≡ (before.me.0, (0, None) ∷ rest before.me.1))
 
-module _ {O P C R : Type 0} (meaning : Ghosts O P C R) (t : LockTable O P C R) (s : TableSeat (Option (History O P C R)) (Viewed O P C R)) (word : ℕ) where
+module _ {O P C R : Type 0} (meaning : Ghosts O P C R) (t : LockTable O P C R) (s : TableSeat (Option (History O P C R)) (SeatView O P C R)) (word : ℕ) where
   -- the seat is at this table, whose word may become f of what it was, by such a step
   abbrev pub Asks : Type 0 → Type 0
   Asks step = (s.table_id ≡ t.table.shared.table_id) × (word < t.table.shared.table_id.words) × step
@@ -50,7 +50,7 @@ module _ {O P C R : Type 0} (meaning : Ghosts O P C R) (t : LockTable O P C R) (
 
   -- the seat is this table's, and the step is one that gets a try ready
   abbrev pub AsksReadying : (ℕ → ℕ) → (ℕ → Seat O P C R → Type 0) → Type 0
-  AsksReadying f then = Asks (IsReadying meaning t.table.shared.key.kind t.table.shared.key t.table.shared.table_id.slots s.id s.me word f then)
+  AsksReadying f then = Asks (IsPreparing meaning t.table.shared.key.kind t.table.shared.key t.table.shared.table_id.slots s.id s.me word f then)
 
   -- the seat is this table's, and the step leaves the lock as it is
   abbrev pub AsksRead : (ℕ → ℕ) → (ℕ → Seat O P C R → Type 0) → Type 0

@@ -9,7 +9,7 @@ use Rattle.word_rule.specs.Ticket.State.{TicketLock, tickets}
 
 -- i joins the end of the line, with the ticket that comes after those in line
 abbrev pub draw : TicketLock → ℕ → TicketLock
-draw l i = record l { line = joining l.line i (Ticket (Drawn ((l.own + length l.line.cpus) % tickets))) }
+draw l i = record l { line = joining l.line i (Ticket (Drawn ((l.extra + length l.line.cpus) % tickets))) }
 
 -- the first of the line gets the object, and nobody else
 abbrev pub look : TicketLock → ℕ → ℕ → TicketLock × StepDone

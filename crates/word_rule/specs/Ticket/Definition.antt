@@ -20,17 +20,17 @@ ticket_turn l i _ = (l, steps.Idle)
 
 abbrev pub ticket_lock : LockDefinition
 ticket_lock = record {
-  Own = ℕ;
+  Extra = ℕ;
   opening = λ first. first % tickets;
   turn = λ l i. ticket_turn l i (l.line.stage i);
   attempt = try_ticket;
-  ready = λ l i. l;
+  prepare = λ l i. l;
   words = λ n l. ticket_words l;
   fits = λ n. nat_lt n tickets;
   Stands = StandsInLine;
-  KeepsOwn = λ n serving cpus. (serving < tickets) × (n < tickets);
-  plain = without_tickets;
-  number = λ serving. serving;
+  KeepsExtra = λ n serving cpus. (serving < tickets) × (n < tickets);
+  erase = without_tickets;
+  served = λ serving. serving;
   holding = is_served;
   holder = λ ticket. Ticket (Served ticket);
 }

@@ -5,4 +5,4 @@ use Rattle.word_rule.specs.Ticket.State.{TicketLock, tickets}
 
 -- the object is at home, i leaves the line, and the next ticket is served
 abbrev pub serve : TicketLock → ℕ → TicketLock
-serve l i = record { line = leaving l.line i; own = (l.own + 1) % tickets }
+serve l i = record { line = leaving l.line i; extra = (l.extra + 1) % tickets }

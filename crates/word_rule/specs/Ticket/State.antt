@@ -23,7 +23,7 @@ ticket_word next serving = next * tickets + serving
 -- one word: its high half is the next ticket, the one behind those in line, its low half the ticket that is served. No more
 -- CPUs are in line than a cell has, so as there are more tickets than CPUs the halves are alike only where nobody is
 abbrev pub ticket_words : TicketLock → List ℕ
-ticket_words l = ticket_word ((l.own + length l.line.cpus) % tickets) l.own ∷ []
+ticket_words l = ticket_word ((l.extra + length l.line.cpus) % tickets) l.extra ∷ []
 
 module _ (cpus : List ℕ) (out : Bool) (x : ℕ) where
   -- the j-th in line, from 0, has the ticket serving + j; the first hasn't taken the object yet
@@ -53,4 +53,4 @@ without_ticket q = q
 
 -- the lock without ticket numbers
 abbrev pub without_tickets : TicketLock → TicketLock
-without_tickets l = record { line = record { cpus = l.line.cpus; out = l.line.out; stage = λ x. without_ticket (l.line.stage x) }; own = 0 }
+without_tickets l = record { line = record { cpus = l.line.cpus; out = l.line.out; stage = λ x. without_ticket (l.line.stage x) }; extra = 0 }

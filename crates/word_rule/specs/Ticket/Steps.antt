@@ -5,7 +5,7 @@ use Rattle.event_log.specs.declared.event.Event.{Event}
 use Rattle.word_rule.specs.declared.machine.step_done.StepDone.TheVariants as steps
 use Rattle.word_rule.specs.declared.lock_kind.Stage.TheVariants.{Idle, Ticket}
 use Rattle.word_rule.specs.declared.lock_kind.TicketStage.TheVariants.{Drawn, Served}
-use Rattle.word_rule.specs.declared.view.Moment.{Moment}
+use Rattle.word_rule.specs.declared.view.TraceStep.{TraceStep}
 use Rattle.word_rule.specs.CallerState.{CallerState, Moves, Takes, Gives, NeedsAnother}
 use Rattle.word_rule.specs.Cell.{Caller}
 use Rattle.word_rule.specs.LockRuns.{arrivals_in}
@@ -13,8 +13,8 @@ use Rattle.word_rule.specs.Ticket.State.{tickets}
 use Rattle.word_rule.specs.OneHold.{leaving}
 
 -- the run ends with the caller's draw, and the ticket is the cell's first one and as many more as had arrived in line before
-pub record HasDrawn {O P C R : Type 0} (caller : Caller O P C R) (ticket : ℕ) (run : List (Moment (Event O P C R))) : Type 0 where
-  pub before : List (Moment (Event O P C R))
+pub record HasDrawn {O P C R : Type 0} (caller : Caller O P C R) (ticket : ℕ) (run : List (TraceStep (Event O P C R))) : Type 0 where
+  pub before : List (TraceStep (Event O P C R))
   pub is : run ≡ before ++ leaving caller.acting steps.Draw [] ∷ []
   pub number : ticket ≡ (caller.cell.first + length (arrivals_in before)) % tickets
 

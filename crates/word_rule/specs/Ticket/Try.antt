@@ -10,4 +10,4 @@ use Rattle.word_rule.specs.Ticket.State.{TicketLock}
 -- i, which isn't in line, had found nobody there and that ticket served: where both are so still it draws, and gets the
 -- object by its look at once
 abbrev pub try_ticket : TicketLock → ℕ → ℕ → TicketLock × List StepDone
-try_ticket l i ticket = if is_empty l.line.cpus && l.own == ticket then (record l { line = alone_with_it l.line i (Ticket (Served ticket)) }, steps.Draw ∷ steps.Look true ∷ []) else (l, [])
+try_ticket l i ticket = if is_empty l.line.cpus && l.extra == ticket then (record l { line = alone_with_it l.line i (Ticket (Served ticket)) }, steps.Draw ∷ steps.Look true ∷ []) else (l, [])

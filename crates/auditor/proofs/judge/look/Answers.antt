@@ -3,8 +3,8 @@ use Rattle.std.proofs.lemmas.List.{length-replicate}
 use Rattle.auditor.specs.Transcripts.{log_in}
 use Rattle.auditor.proofs.judge.look.Goals as goal
 
-pub all_links-requires : goal.all_links-requires
-all_links-requires g c =
+pub all_next_events-requires : goal.all_next_events-requires
+all_next_events-requires g c =
     let n = ap length c.as_slice.ensures in
     (g.met.O.SeqObject.event_fits, (λ x k e at. let lt = (c.requires.events x k e (ap (λ l. slice_get (log_in x l) k) (sym c.as_slice-logs.ensures) ∙ at)).0 in omega (arith, lt, n)))
 

@@ -10,7 +10,7 @@ pub judge_transcripts-requires-clause-count : goal.judge_transcripts-requires-cl
 judge_transcripts-requires-clause-count g c = ap length c.requires.ends ∙ length-map c.args.run.now.logs (λ l. length l)
 
 pub judge_transcripts-requires-clause-ends : goal.judge_transcripts-requires-clause-ends
-judge_transcripts-requires-clause-ends g c = first_ends g.O.SeqObject (opened_by c.args.terms.now) c.args.run.now c.args.ends.now c.requires.ends
+judge_transcripts-requires-clause-ends g c = first_ends g.O.SeqObject (opened_by c.args.opened_objects.now) c.args.run.now c.args.ends.now c.requires.ends
 
 pub first_left-requires : goal.first_left-requires
 first_left-requires g c =
@@ -23,11 +23,11 @@ pub returns-in-None-clause-sound : goal.returns-in-None-clause-sound
 returns-in-None-clause-sound g c =
     let ends = c.judge_transcripts.new.ends in
     let taken = subst (λ (l : List (List (Event _ _ _ _))). AreTaken l ends (length l)) c.as_slice-logs.ensures c.in-None.ensures in
-    c.no_fault_is_sound.ensures c.args.terms.now c.args.run.now
-    (none_left g.O.SeqObject c.args.terms.now c.args.run.now c.requires.run c.requires.logs c.in_ok-judge_transcripts.ensures.right ends c.in_ok-judge_transcripts.ensures.ends taken)
+    c.no_fault_is_sound.ensures c.args.opened_objects.now c.args.run.now
+    (none_left g.O.SeqObject c.args.opened_objects.now c.args.run.now c.requires.run c.requires.logs c.in_ok-judge_transcripts.ensures.right ends c.in_ok-judge_transcripts.ensures.ends taken)
 
 pub returns-in-Some-clause-fault : goal.returns-in-Some-clause-fault
 returns-in-Some-clause-fault g c =
     let ends = c.judge_transcripts.new.ends in
     let left = subst (λ (l : List (List (Event _ _ _ _))). IsFirstLeft l ends c.in-Some.object c.in-Some.event) c.as_slice-logs.ensures c.in-Some.ensures in
-    first_unclaimed g.O.SeqObject c.args.terms.now c.args.run.now c.requires.run c.requires.logs c.in_ok-judge_transcripts.ensures.right ends c.in_ok-judge_transcripts.ensures.ends c.in-Some.object c.in-Some.event left
+    first_unclaimed g.O.SeqObject c.args.opened_objects.now c.args.run.now c.requires.run c.requires.logs c.in_ok-judge_transcripts.ensures.right ends c.in_ok-judge_transcripts.ensures.ends c.in-Some.object c.in-Some.event left

@@ -7,6 +7,6 @@ abbrev pub invariant-loop-cpu : goal.invariant-loop-cpu
 invariant-loop-cpu g l = record {
   places : length l.places ≡ length l.run.logs;
   count : length l.ends ≡ length l.fn.ends;
-  right : AreRightTo g.O.SeqObject l.terms l.run l.cpu;
-  ends : AreEnds g.O.SeqObject (opened_by l.terms) l.run l.cpu l.ends;
+  right : AreRightTo g.O.SeqObject l.opened_objects l.run l.cpu;
+  ends : AreEnds g.O.SeqObject (opened_by l.opened_objects) l.run l.cpu l.ends;
 }

@@ -18,4 +18,4 @@ returns g c =
     let all = λ (k : ℕ) (lt : k < first.cell.numbers).
     let own = c.requires.all k (subst (λ z. k < z.numbers) (sym o.one_cell) lt) in
     elim (first.owned k) as (λ b. first.owned k ≡ b → (b || second.owned k) ≡ true → DoesRun g.O.SeqObject k first.cell.limit first.cell.opening o.run (cond b (entries_for first k firsts) (entries_for second k seconds)) []) [ true ↦ (λ is _. by_first k is) | false ↦ (λ _ own. by_second k own) ] refl own in
-    record { replayed = (o.run, o.ran, λ ticket. c.runs_replay.ensures first.cell called.result.0.log o.run _ (λ _. []) o.ran called.ensures.ended.lawful.legal called.ensures.ended.lawful.within all ticket) }
+    record { replayed = (o.run, o.ran, λ ticket. c.runs_replay.ensures first.cell called.result.0.log o.run _ (λ _. []) o.ran called.ensures.ended.valid.legal called.ensures.ended.valid.within all ticket) }

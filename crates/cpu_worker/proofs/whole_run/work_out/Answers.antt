@@ -1,4 +1,4 @@
-use Rattle.std.proofs.Common.{◌≡◌, ◌<◌, ℕ, List, length, map, refl, sym, ap, subst, ◌∙◌, arith, lit<, vec_capacity, Err}
+use Rattle.std.proofs.Common.{◌≡◌, ◌<◌, ℕ, List, length, map, refl, sym, ap, subst, ◌∙◌, arith, lit<, vec_capacity}
 use Rattle.std.specs.List.{AllByRecursion}
 use Rattle.std.proofs.lemmas.List.{length-map}
 use Rattle.std.proofs.lemmas.Slice.Zip.{AllZip-long}
@@ -16,11 +16,11 @@ use Rattle.word_rule.specs.Passes.{view_of_pass}
 use Rattle.sound_run.specs.Sound.{Sound}
 use Rattle.sound_run.proofs.Slices.{map_get}
 use Rattle.cpu_worker.specs.Opening.{cells_for}
+use Rattle.cpu_worker.specs.Starts.{IsNotStarted}
 use Rattle.cpu_worker.specs.Work.{IsDone}
 use Rattle.cpu_worker.proofs.Runs.{all_ready, all_left, all_worked, all_ask, sound_run, stored_passes}
-use Rattle.cpu_worker.proofs.Zips.{zip_right, err_is}
+use Rattle.cpu_worker.proofs.Zips.{zip_right, err_has}
 use Rattle.cpu_worker.specs.declared.run_preparation.Work.{Work}
-use Rattle.cpu_worker.specs.declared.threads.RunFault.TheVariants.{NoThreadStarted}
 use Rattle.cpu_worker.proofs.whole_run.work_out.Given as given
 use Rattle.cpu_worker.proofs.whole_run.work_out.Goals as goal
 use Rattle.cpu_worker.proofs.whole_run.work_out.Goals.{After-join_passes-passes}
@@ -39,16 +39,12 @@ on_threads-requires-clause-ready g c κs within =
     all_ready IsPassOf view_of_pass c.args.settings.now (todos_of work) work.cells.items (λ j. j.todos.items) (λ j. j.passes.items) (λ j. j.passes.items) work.jobs.items work.jobs.items refl refl c.requires.rows
     (λ j. j.transcript.items) (λ j. vec_capacity j.transcript) c.requires.scripts (sym work.cells.ok.0 ∙ c.requires.cells) c.requires.room
 
-pub returns-in_err-finished-clause-cpu : goal.returns-in_err-finished-clause-cpu
-returns-in_err-finished-clause-cpu g c cpu e =
-    let same : c.in_err-finished.field-0.0 ≡ NoThreadStarted cpu = err_is c.from_residual.result c.in_err-finished.field-0.0 (NoThreadStarted cpu) c.from_residual.ensures.1 e in
-    let below : cpu < length c.args.work.jobs.items = c.in_err-finished.ensures.cpu cpu (ap Err same) in
+pub returns-in_err-finished-clause-named : goal.returns-in_err-finished-clause-named
+returns-in_err-finished-clause-named g c =
+    let allows = g.S.Starter.allows c.args.starter.now in
     let count = job_count c.args.work c.args.settings.now.cpus c.requires.scripts.0 in
-    omega (arith, below, count)
-
-pub returns-in_err-finished-clause-least : goal.returns-in_err-finished-clause-least
-returns-in_err-finished-clause-least g c cpu e =
-    c.in_err-finished.ensures.least cpu (ap Err (err_is c.from_residual.result c.in_err-finished.field-0.0 (NoThreadStarted cpu) c.from_residual.ensures.1 e))
+    let named = subst (λ n. IsNotStarted allows n c.in_err-finished.field-0.0) count c.in_err-finished.ensures.named in
+    err_has (IsNotStarted allows c.args.settings.now.cpus) c.from_residual.result c.in_err-finished.field-0.0 c.from_residual.ensures.1 named
 
 pub returns-clause-allowed : goal.returns-clause-allowed
 returns-clause-allowed g c cpu lt =

@@ -91,7 +91,7 @@ returns-in-Err-clause-done g c =
     let long = turns_length c.args.pair.0 c.args.pair.1 c.args.count in
     let before = g.C.LockCell.pass_view c.args.pass in
     let after = g.C.LockCell.pass_view b.result.0 in
-    let pass_view = g.met.C.LockCell.pass_is_lawful c.args.cell.now c.args.pass c.requires in
+    let pass_view = g.met.C.LockCell.pass_is_valid c.args.cell.now c.args.pass c.requires in
     let called = called_full g.O.SeqObject before (g.C.LockCell.pass_view c.loop.pass) after (take c.loop.counter calls) b.result.1 c.in-Err.field-0 c.in-Err.is b.ensures.refused pass_view.caller i.caller i.called in
     record {
       caller = b.ensures.caller ∙ i.caller;

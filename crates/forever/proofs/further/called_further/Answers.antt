@@ -12,7 +12,7 @@ returns-clause-ended g c =
     subst (λ q. IsEnded ghosts (first_pass c.args.kind 0 q 2 0) zero (first_pass c.args.kind 0 q 2 1) one c.in_ok-called.called.queue) c.into_unkept-unkept.ensures.value c.in_ok-called.ensures.ended
 
 pub returns-clause-goes_on : goal.returns-clause-goes_on
-returns-clause-goes_on g c = (IsEnded.lawful (returns-clause-ended g c)).begins
+returns-clause-goes_on g c = (IsEnded.valid (returns-clause-ended g c)).begins
 
 pub returns-clause-unkept : goal.returns-clause-unkept
 returns-clause-unkept g c = ap (λ h. h.limit) (IsEnded.replayed (returns-clause-ended g c))

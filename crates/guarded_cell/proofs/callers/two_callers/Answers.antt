@@ -7,38 +7,38 @@ use Rattle.guarded_cell.proofs.callers.two_callers.Goals as goal
 pub returns-clause-ended : goal.returns-clause-ended
 returns-clause-ended g c =
     let pass_view = g.C.LockCell.pass_view in
-    let is_lawful = (g.met.C.LockCell g.world.𝓛 g.world.𝓜 g.world.𝓡 ((λ s x. x), (λ x. x), (λ x. x), λ x. x)).pass_is_lawful c.args.cell in
+    let is_valid = (g.met.C.LockCell g.world.𝓛 g.world.𝓜 g.world.𝓡 ((λ s x. x), (λ x. x), (λ x. x), λ x. x)).pass_is_valid c.args.cell in
     let both = c.call_on_two_threads-first in
     let f = both.ensures.first in
     let s = both.ensures.second in
     let m = c.meet-first in
     let j = c.join-pass in
     let log = (pass_view j.result).seen in
-    ended g.O.SeqObject (pass_view j.result) c.close.result (is_lawful j.result j.ensures.pass) c.close.ensures.log (pass_view c.args.passes.0) (pass_view c.args.passes.1) _ _
+    ended g.O.SeqObject (pass_view j.result) c.close.result (is_valid j.result j.ensures.pass) c.close.ensures.log (pass_view c.args.passes.0) (pass_view c.args.passes.1) _ _
     (j.ensures.first_cell ∙ ap (λ x. x.cell) (m.ensures.first_caller ∙ f.caller))
-    (called_met (pass_view c.args.passes.0) (pass_view both.result.0.0) (pass_view m.result.0) _ log (is_lawful c.args.passes.0 c.requires.first).caller f.called f.caller m.ensures.first_caller m.ensures.first_grows j.ensures.first_grows)
-    (called_met (pass_view c.args.passes.1) (pass_view both.result.1.0) (pass_view m.result.1) _ log (is_lawful c.args.passes.1 c.requires.second).caller s.called s.caller m.ensures.second_caller m.ensures.second_grows j.ensures.second_grows)
+    (called_met (pass_view c.args.passes.0) (pass_view both.result.0.0) (pass_view m.result.0) _ log (is_valid c.args.passes.0 c.requires.first).caller f.called f.caller m.ensures.first_caller m.ensures.first_grows j.ensures.first_grows)
+    (called_met (pass_view c.args.passes.1) (pass_view both.result.1.0) (pass_view m.result.1) _ log (is_valid c.args.passes.1 c.requires.second).caller s.called s.caller m.ensures.second_caller m.ensures.second_grows j.ensures.second_grows)
 
 pub returns-clause-first_full : goal.returns-clause-first_full
 returns-clause-first_full g c less =
     let pass_view = g.C.LockCell.pass_view in
-    let is_lawful = (g.met.C.LockCell g.world.𝓛 g.world.𝓜 g.world.𝓡 ((λ s x. x), (λ x. x), (λ x. x), λ x. x)).pass_is_lawful c.args.cell in
+    let is_valid = (g.met.C.LockCell g.world.𝓛 g.world.𝓜 g.world.𝓡 ((λ s x. x), (λ x. x), (λ x. x), λ x. x)).pass_is_valid c.args.cell in
     let both = c.call_on_two_threads-first in
     let f = both.ensures.first in
     let m = c.meet-first in
     let j = c.join-pass in
-    ended_full g.O.SeqObject (pass_view j.result) c.close.result (is_lawful j.result j.ensures.pass) c.close.ensures.log (pass_view both.result.0.0).seen (pass_view c.args.passes.0) (pass_view m.result.0)
+    ended_full g.O.SeqObject (pass_view j.result) c.close.result (is_valid j.result j.ensures.pass) c.close.ensures.log (pass_view both.result.0.0).seen (pass_view c.args.passes.0) (pass_view m.result.0)
     (j.ensures.first_cell ∙ ap (λ x. x.cell) (m.ensures.first_caller ∙ f.caller)) m.ensures.first_grows.begins j.ensures.first_grows.begins (f.full less)
 
 pub returns-clause-second_full : goal.returns-clause-second_full
 returns-clause-second_full g c less =
     let pass_view = g.C.LockCell.pass_view in
-    let is_lawful = (g.met.C.LockCell g.world.𝓛 g.world.𝓜 g.world.𝓡 ((λ s x. x), (λ x. x), (λ x. x), λ x. x)).pass_is_lawful c.args.cell in
+    let is_valid = (g.met.C.LockCell g.world.𝓛 g.world.𝓜 g.world.𝓡 ((λ s x. x), (λ x. x), (λ x. x), λ x. x)).pass_is_valid c.args.cell in
     let both = c.call_on_two_threads-first in
     let s = both.ensures.second in
     let m = c.meet-first in
     let j = c.join-pass in
-    ended_full g.O.SeqObject (pass_view j.result) c.close.result (is_lawful j.result j.ensures.pass) c.close.ensures.log (pass_view both.result.1.0).seen (pass_view c.args.passes.1) (pass_view m.result.1)
+    ended_full g.O.SeqObject (pass_view j.result) c.close.result (is_valid j.result j.ensures.pass) c.close.ensures.log (pass_view both.result.1.0).seen (pass_view c.args.passes.1) (pass_view m.result.1)
     (j.ensures.second_cell ∙ ap (λ x. x.cell) (m.ensures.second_caller ∙ s.caller)) m.ensures.second_grows.begins j.ensures.second_grows.begins (s.full less)
 
 pub returns-clause-order_run : goal.returns-clause-order_run

@@ -14,8 +14,8 @@ returns-in-Ok-done-clause-answered g c =
     let a = c.apply_one-done in
     let r = c.release-pass in
     IfOk-at_ok (λ v. IsAnswered g.O.SeqObject (g.C.LockCell.pass_view c.args.pass) (c.args.call.now ∷ []) (one_step c.args.call.now v) (g.C.LockCell.pass_view r.result)) c.in-Ok-done.is
-    (did_one g.O.SeqObject (g.C.LockCell.pass_view c.args.pass) (g.C.LockCell.pass_view r.result) (g.C.LockCell.hold_view h.hold) (g.C.LockCell.hold_view a.new.hold) (g.met.C.LockCell.hold_is_lawful c.args.cell.now h.hold h.ensures.hold)
-    h.ensures.caller h.ensures.grows a.ensures.caller r.ensures.caller r.ensures.seen (g.met.C.LockCell.pass_is_lawful c.args.cell.now r.result r.ensures.pass) c.args.call.now a.result a.ensures.room a.ensures.after a.ensures.full).0
+    (did_one g.O.SeqObject (g.C.LockCell.pass_view c.args.pass) (g.C.LockCell.pass_view r.result) (g.C.LockCell.hold_view h.hold) (g.C.LockCell.hold_view a.new.hold) (g.met.C.LockCell.hold_is_valid c.args.cell.now h.hold h.ensures.hold)
+    h.ensures.caller h.ensures.grows a.ensures.caller r.ensures.caller r.ensures.seen (g.met.C.LockCell.pass_is_valid c.args.cell.now r.result r.ensures.pass) c.args.call.now a.result a.ensures.room a.ensures.after a.ensures.full).0
 
 pub returns-in-Err-done-clause-declined : goal.returns-in-Err-done-clause-declined
 returns-in-Err-done-clause-declined g c =
@@ -23,8 +23,8 @@ returns-in-Err-done-clause-declined g c =
     let a = c.apply_one-done in
     let r = c.release-pass in
     subst (λ z. OnErr z (IsRefused g.O.SeqObject (g.C.LockCell.pass_view c.args.pass) (g.C.LockCell.pass_view r.result))) c.in-Err-done.is
-    (did_one g.O.SeqObject (g.C.LockCell.pass_view c.args.pass) (g.C.LockCell.pass_view r.result) (g.C.LockCell.hold_view h.hold) (g.C.LockCell.hold_view a.new.hold) (g.met.C.LockCell.hold_is_lawful c.args.cell.now h.hold h.ensures.hold)
-    h.ensures.caller h.ensures.grows a.ensures.caller r.ensures.caller r.ensures.seen (g.met.C.LockCell.pass_is_lawful c.args.cell.now r.result r.ensures.pass) c.args.call.now a.result a.ensures.room a.ensures.after a.ensures.full).1
+    (did_one g.O.SeqObject (g.C.LockCell.pass_view c.args.pass) (g.C.LockCell.pass_view r.result) (g.C.LockCell.hold_view h.hold) (g.C.LockCell.hold_view a.new.hold) (g.met.C.LockCell.hold_is_valid c.args.cell.now h.hold h.ensures.hold)
+    h.ensures.caller h.ensures.grows a.ensures.caller r.ensures.caller r.ensures.seen (g.met.C.LockCell.pass_is_valid c.args.cell.now r.result r.ensures.pass) c.args.call.now a.result a.ensures.room a.ensures.after a.ensures.full).1
 
 pub returns-in-Ok-done-clause-run : goal.returns-in-Ok-done-clause-run
 returns-in-Ok-done-clause-run g c =

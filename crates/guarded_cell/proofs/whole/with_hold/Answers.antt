@@ -10,7 +10,7 @@ returns-clause-held g c =
     let d = c.do_groups-outcome in
     let r = c.release-pass in
     held_through g.O.SeqObject (g.C.LockCell.pass_view c.args.pass) (g.C.LockCell.pass_view r.result) (g.C.LockCell.hold_view h.result.0) (g.C.LockCell.hold_view d.new.hold) d.new.done.items h.ensures.caller d.ensures.added r.ensures.seen
-    c.args.groups.now (g.met.C.LockCell.hold_is_lawful c.args.cell.now h.result.0 h.ensures.hold) h.ensures.grows d.ensures.fulfils r.ensures.caller (g.met.C.LockCell.pass_is_lawful c.args.cell.now r.result r.ensures.pass)
+    c.args.groups.now (g.met.C.LockCell.hold_is_valid c.args.cell.now h.result.0 h.ensures.hold) h.ensures.grows d.ensures.fulfils r.ensures.caller (g.met.C.LockCell.pass_is_valid c.args.cell.now r.result r.ensures.pass)
 
 pub returns-clause-full : goal.returns-clause-full
 returns-clause-full g c =
@@ -18,7 +18,7 @@ returns-clause-full g c =
     let d = c.do_groups-outcome in
     let r = c.release-pass in
     full_after g.O.SeqObject (g.C.LockCell.pass_view c.args.pass) (g.C.LockCell.pass_view r.result) (g.C.LockCell.hold_view h.result.0) (g.C.LockCell.hold_view d.new.hold) d.new.done.items h.ensures.caller d.ensures.added r.ensures.seen
-    d.result (g.met.C.LockCell.hold_is_lawful c.args.cell.now d.new.hold (d.ensures.hold c.args.cell.now h.ensures.hold)) d.ensures.full
+    d.result (g.met.C.LockCell.hold_is_valid c.args.cell.now d.new.hold (d.ensures.hold c.args.cell.now h.ensures.hold)) d.ensures.full
 
 pub returns-clause-run : goal.returns-clause-run
 returns-clause-run g c =

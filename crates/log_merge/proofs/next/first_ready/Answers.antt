@@ -1,7 +1,7 @@
 use Rattle.std.proofs.Common.{ℕ, slice_index, subst, arith}
 use mathlib.Core.Logic.{dite}
 use native.Mathlib.Decide.{ℕ_discrete}
-use Rattle.log_merge.specs.Fronts.{CanCome}
+use Rattle.log_merge.specs.Prefixes.{CanCome}
 use Rattle.log_merge.proofs.Placing.{not_next_of, beyond_cant}
 use Rattle.log_merge.proofs.next.first_ready.Goals as goal
 

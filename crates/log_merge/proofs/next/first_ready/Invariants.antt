@@ -1,5 +1,5 @@
 use Rattle.std.proofs.Common.{ℕ, ◌<◌, slice_index}
-use Rattle.log_merge.specs.Fronts.{CanCome}
+use Rattle.log_merge.specs.Prefixes.{CanCome}
 use Rattle.log_merge.proofs.next.first_ready.Given as goal
 
 abbrev pub invariant-loop-cpu : goal.invariant-loop-cpu

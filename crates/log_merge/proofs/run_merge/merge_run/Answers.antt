@@ -10,26 +10,26 @@ use Rattle.log_merge.proofs.run_merge.merge_run.Goals as goal
 pub returns-in_default : goal.returns-in_default
 returns-in_default g c =
     let run = c.args.run.now in
-    let front = c.in_ok-front.front in
+    let prefix = c.in_ok-prefix.prefix in
     let ended = subst (λ (at : List ℕ). (cpu : ℕ) → length (transcript_of cpu run) ≤ slice_index at cpu) c.as_slice-at.ensures.value c.in_default.ensures in
-    subst (IsLeastOrder run) (sym c.from_vec.ensures) (merged_order run c.requires.matched front.places.items front.at.items front.placed.items c.in_ok-front.ensures.stuck c.in_ok-front.ensures.least ended)
+    subst (IsLeastOrder run) (sym c.from_vec.ensures) (merged_order run c.requires.matched prefix.places.items prefix.at.items prefix.placed.items c.in_ok-prefix.ensures.stuck c.in_ok-prefix.ensures.least ended)
 
 pub rotated-requires-clause-within : goal.rotated-requires-clause-within
 rotated-requires-clause-within g c =
     let below = λ (cpu : ℕ). cpu < length c.as_slice-at.result.now in
     let walk = c.in_ok-walk.walk.items in
-    let cpus : length c.args.run.now.transcripts ≡ length c.as_slice-at.result.now = sym (ap length c.as_slice-at.ensures.value ∙ c.in_ok-front.ensures.stuck.ready.cpus) in
+    let cpus : length c.args.run.now.transcripts ≡ length c.as_slice-at.result.now = sym (ap length c.as_slice-at.ensures.value ∙ c.in_ok-prefix.ensures.stuck.ready.cpus) in
     let all = subst (λ (n : ℕ). AllByRecursion (λ cpu. cpu < n) walk) cpus (all_below (length c.args.run.now.transcripts) walk c.in_ok-walk.ensures.different) in
     subst (AllByRecursion below) (sym (c.split_at.ensures.back ∙ ap (drop c.in_ok-walk.back) c.as_slice.ensures.value)) (all_drop below walk c.in_ok-walk.back all)
 
 pub returns : goal.returns
 returns g c =
     let run = c.args.run.now in
-    let front = c.in_ok-front.front in
+    let prefix = c.in_ok-prefix.prefix in
     let walk = c.in_ok-walk.walk.items in
     let back = c.in_ok-walk.back in
     let found = c.in_ok-cycle.ensures in
     let walked = subst (λ (z : List ℕ × List ℕ). IsWalk run (slice_index z.0) (slice_index z.1) walk back) (λ j. (c.as_slice-at.ensures.value j, c.as_slice-placed.ensures.value j)) c.in_ok-walk.ensures in
     let rotated = subst (λ (l : List ℕ). IsRotated l found.0) (c.split_at.ensures.back ∙ ap (drop back) c.as_slice.ensures.value) found.1 in
     let places = c.from_vec-2.ensures ∙ (found.2 ∙ ap (λ (at : List ℕ). map (next_place (slice_index at)) found.0) c.as_slice-at.ensures.value) in
-    merged_cycle run c.requires.matched front.places.items front.at.items front.placed.items c.in_ok-front.ensures.stuck c.in_ok-front.ensures.least walk back walked c.from_vec-2.result found.0 rotated places
+    merged_cycle run c.requires.matched prefix.places.items prefix.at.items prefix.placed.items c.in_ok-prefix.ensures.stuck c.in_ok-prefix.ensures.least walk back walked c.from_vec-2.result found.0 rotated places

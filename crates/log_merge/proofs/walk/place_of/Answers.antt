@@ -2,7 +2,7 @@ use Rattle.std.proofs.Common.{◌≡◌, ℕ, List, false, take, get_or, sym, su
 use Rattle.event_log.specs.Distinct.{has}
 use Rattle.event_log.proofs.Distinct.{has_push}
 use Rattle.auditor.proofs.Splits.{take_one, take_all}
-use Rattle.auditor.proofs.LinkSteps.{any_default}
+use Rattle.auditor.proofs.NextEventSteps.{any_default}
 use Rattle.log_merge.proofs.walk.place_of.Goals as goal
 
 pub loop-i-preserved : goal.loop-i-preserved

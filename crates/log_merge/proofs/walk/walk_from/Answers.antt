@@ -3,7 +3,7 @@ use Rattle.event_log.specs.Distinct.{has, AreDistinctBelow}
 use Rattle.event_log.proofs.Distinct.{distinct_push, distinct_length}
 use Rattle.log_merge.specs.Chains.{Chain}
 use Rattle.log_merge.specs.FoundCycles.{IsLeastLeft}
-use Rattle.log_merge.specs.Fronts.{IsBlocked}
+use Rattle.log_merge.specs.Prefixes.{IsBlocked}
 use Rattle.log_merge.proofs.Placing.{has_transcript, head_append}
 use Rattle.log_merge.proofs.Stuck.{left}
 use Rattle.log_merge.proofs.Rotations.{chain_join}

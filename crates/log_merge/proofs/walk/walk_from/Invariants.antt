@@ -2,7 +2,7 @@ use Rattle.std.proofs.Common.{◌≡◌, ◌<◌, ◌+◌, ◌-◌, ◌++◌, �
 use Rattle.event_log.specs.Distinct.{AreDistinctBelow}
 use Rattle.sound_run.specs.Sound.{transcript_of}
 use Rattle.log_merge.specs.Chains.{Chain}
-use Rattle.log_merge.specs.Fronts.{IsBlocked}
+use Rattle.log_merge.specs.Prefixes.{IsBlocked}
 use Rattle.log_merge.proofs.walk.walk_from.Given as goal
 
 abbrev pub invariant-loop-i : goal.invariant-loop-i

@@ -2,7 +2,7 @@ use Rattle.std.proofs.Common.{Err, ap}
 use Rattle.cpu_worker.specs.Simulation.{new_world}
 use Rattle.view_command.specs.declared.draft.DraftFault.TheVariants.{TooLong}
 use Rattle.view_command.proofs.Drafts.{come_so, from_start, too_long_before}
-use Rattle.view_command.proofs.Watchings.{err_is}
+use Rattle.view_command.proofs.Steppings.{err_is}
 use Rattle.view_command.proofs.made_schedule.made_schedule.Goals as goal
 
 pub returns-clause-ends : goal.returns-clause-ends

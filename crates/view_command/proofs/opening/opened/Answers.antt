@@ -8,7 +8,7 @@ use Rattle.word_rule.specs.Machine.Opening.{IsOpening, opening_cell, opening_cpu
 use Rattle.word_rule.specs.Machine.Shown.{Represents}
 use Rattle.cpu_worker.specs.Simulation.{KernelWorld, new_cell, new_world}
 use Rattle.cpu_worker.proofs.Simulations.{opened_cpus, able_lists}
-use Rattle.view_command.proofs.Watchings.{both, either}
+use Rattle.view_command.proofs.Steppings.{both, either}
 use Rattle.view_command.proofs.opening.opened.Goals as goal
 use Rattle.view_command.proofs.opening.opened.Goals.{After-into_lists}
 

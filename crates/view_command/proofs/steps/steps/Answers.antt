@@ -14,8 +14,8 @@ loop-place-init c =
     let w = new_world c.args.settings.now c.args.scripts.now in
     record {
       world = w;
-      watches = c.in_ok-watched.ensures.shows;
-      count = c.in_ok-watched.ensures.cpus;
+      shows_world = c.in_ok-stepped.ensures.shows;
+      count = c.in_ok-stepped.ensures.cpus;
       lines = ap (λ (b : List ℕ). b ++ lines_from c.args.form c.args.settings.now 1 c.steps-cpu-items.result.now w) c.new-text.ensures.bytes
           ∙ ap (λ (s : List ℕ). lines_from c.args.form c.args.settings.now 1 s w) c.steps-cpu-items.ensures.steps;
     }
@@ -26,12 +26,12 @@ loop-place-preserved c =
     let items = c.steps-cpu-items.result.now in
     let n = c.loop-place.place in
     let cpu = get_or items n 0 in
-    let shows = c.step-seen.ensures.shows i.world i.watches in
+    let shows = c.step-seen.ensures.shows i.world i.shows_world in
     let told : string_bytes c.put_line.new.text ≡ string_bytes c.loop-place.text ++ line_of c.args.form c.args.settings.now (n + 1) cpu c.step-seen.result c.words-words.result.now = search rules in
-    let line = line_is c.args.form c.args.settings.now (n + 1) cpu i.world c.step-seen.result c.words-words.result.now (c.step-seen.ensures.object i.world i.watches) (c.step-seen.ensures.done i.world i.watches) (c.words-words.ensures _ shows) in
+    let line = line_is c.args.form c.args.settings.now (n + 1) cpu i.world c.step-seen.result c.words-words.result.now (c.step-seen.ensures.object i.world i.shows_world) (c.step-seen.ensures.done i.world i.shows_world) (c.words-words.ensures _ shows) in
     record {
       world = (step kernel i.world cpu).0;
-      watches = shows;
+      shows_world = shows;
       count = c.step-seen.ensures.cpus ∙ i.count;
       lines = ap (λ (b : List ℕ). b ++ lines_from c.args.form c.args.settings.now (n + 1 + 1) (drop (n + 1) items) (step kernel i.world cpu).0) (told ∙ ap (λ (l : List ℕ). string_bytes c.loop-place.text ++ l) line)
           ∙ step_more c.args.form c.args.settings.now items n i.world (string_bytes c.loop-place.text) _ c.loop-place-test.true i.lines;

@@ -3,7 +3,7 @@ use Rattle.word_rule.proofs.Ticket.Served.{serves_next, shows_word}
 use Rattle.word_rule.proofs.lock_law.shows_run.Goals as goal
 
 pub returns-clause-made : goal.returns-clause-made
-returns-clause-made g c = λ h s r. r.made.plainly
+returns-clause-made g c = λ h s r. r.made.erased
 
 pub returns-clause-served : goal.returns-clause-served
 returns-clause-served g c = λ h s r kind. serves_next g.O.SeqObject h.kind h s r kind

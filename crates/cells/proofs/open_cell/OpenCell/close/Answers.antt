@@ -1,6 +1,6 @@
 use Rattle.std.proofs.Common.{◌≡◌, sym, subst, arith, Some}
 use Rattle.std_alloc.specs.Arc.{arc_value}
-use Rattle.cells.specs.Positions.{fixed_of}
+use Rattle.cells.specs.CallerStates.{fixed_of}
 use Rattle.cells.specs.OpenCells.{AreHome, IsBack}
 use Rattle.cells.proofs.Homes.{one_back, owns_all}
 use Rattle.cells.proofs.open_cell.OpenCell.close.Goals as goal

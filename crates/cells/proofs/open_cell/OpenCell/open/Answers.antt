@@ -2,7 +2,7 @@ use Rattle.std.proofs.Common.{refl, sym, ap, subst, ◌∙◌, arith}
 use Rattle.std_alloc.specs.Arc.{arc_value}
 use Rattle.word_rule.specs.Cell.{EachAt, stored}
 use Rattle.guarded_cell.specs.Kinds.{kind_of}
-use Rattle.cells.specs.Positions.{fixed_of}
+use Rattle.cells.specs.CallerStates.{fixed_of}
 use Rattle.cells.specs.OpenCells.{AreHome}
 use Rattle.cells.specs.Unused.{IsUnused}
 use Rattle.cells.proofs.Homes.{new_home, new_numbers, none_back}

@@ -12,17 +12,17 @@ use Rattle.mcs_lock.specs.Passes.{state_of_trying}
 use Rattle.mcs_lock.proofs.cell.McsCell.attempt.Goals as goal
 
 pub returns-clause-grows : goal.returns-clause-grows
-returns-clause-grows g c = let p = view_of_pass c.args.pass in let ready = state_of_trying c.ready-trying.result in let m = c.ready-trying.ensures.step in
+returns-clause-grows g c = let p = view_of_pass c.args.pass in let prepare = state_of_trying c.prepare-trying.result in let m = c.prepare-trying.ensures.step in
     IfOk-weaker c.try_enter.result _ _
-    (λ h e. grows_then p.caller.owned p.seen ready.seen h.logged.log m.grows (subst (λ k. Grows k.owned ready.seen h.logged.log) m.caller (takes_log g.O.SeqObject _ _ _ h.logged ready (state_of_hold h) e.1 refl)))
+    (λ h e. grows_then p.caller.owned p.seen prepare.seen h.logged.log m.grows (subst (λ k. Grows k.owned prepare.seen h.logged.log) m.caller (takes_log g.O.SeqObject _ _ _ h.logged prepare (state_of_hold h) e.1 refl)))
     c.try_enter.ensures.got
 
 pub returns-clause-busy : goal.returns-clause-busy
 returns-clause-busy g c =
-    IfErr-weaker c.try_enter.result _ _ (λ p e. busy_by g.O.SeqObject _ _ _ _ _ (state_of_pass c.args.pass) (state_of_trying c.ready-trying.result) (state_of_pass p) c.ready-trying.ensures.step e.1) c.try_enter.ensures.busy
+    IfErr-weaker c.try_enter.result _ _ (λ p e. busy_by g.O.SeqObject _ _ _ _ _ (state_of_pass c.args.pass) (state_of_trying c.prepare-trying.result) (state_of_pass p) c.prepare-trying.ensures.step e.1) c.try_enter.ensures.busy
 
 pub returns-clause-run : goal.returns-clause-run
-returns-clause-run g c = let p = c.args.pass in let t = state_of_trying c.ready-trying.result in let m = c.ready-trying.ensures.step in
+returns-clause-run g c = let p = c.args.pass in let t = state_of_trying c.prepare-trying.result in let m = c.prepare-trying.ensures.step in
     IfOk-weaker c.try_enter.result _ _
     (λ h e. (
       0,
@@ -32,5 +32,5 @@ returns-clause-run g c = let p = c.args.pass in let t = state_of_trying c.ready-
     c.try_enter.ensures.got
 
 pub returns-clause-busy_run : goal.returns-clause-busy_run
-returns-clause-busy_run g c = let p = c.args.pass in let t = state_of_trying c.ready-trying.result in let m = c.ready-trying.ensures.step in
+returns-clause-busy_run g c = let p = c.args.pass in let t = state_of_trying c.prepare-trying.result in let m = c.prepare-trying.ensures.step in
     IfErr-weaker c.try_enter.result _ _ (λ q e. extends_after (view_of_pass p).caller.owned (run_of_pass p) t.run [] (run_of_pass q) m.extends (subst (λ k. Extends k.owned t.run [] (run_of_pass q)) m.caller e.1.made.extends)) c.try_enter.ensures.busy

@@ -47,17 +47,17 @@ last g c = let a = c.args.waiting in let p = c.args.pass in let e = c.join_seat.
 
 pub invariant_of-result : goal.invariant_of-result
 invariant_of-result g c = let a = c.args.waiting in let y = c.take-logged.result.0 in let l = last g c in record {
-  holds = holds_now g.O.SeqObject a.key.value a.cpu.number (Mcs Waiting) (Mcs Holding) y l.run a.seat.me c.split_seat-theirs.new.seat.me a.waits l.see.lawful l.see.ran l.replayed l.first;
+  holds = holds_now g.O.SeqObject a.key.value a.cpu.number (Mcs Waiting) (Mcs Holding) y l.run a.seat.me c.split_seat-theirs.new.seat.me a.waits l.see.valid l.see.ran l.replayed l.first;
   there = (ap (λ z. z.0.main.stage) l.first) ∙ ap (λ k. holder k 0) (sym (ap (λ k. k.kind) c.requires.waiting.told ∙ c.args.self.now.kind));
 }
 
 pub invariant_of-result-2 : goal.invariant_of-result-2
 invariant_of-result-2 g c = let p = c.args.pass in let y = c.take-logged.result.0 in let l = last g c.before in let same = c.requires.pass.told ∙ sym c.requires.waiting.told in
-    record { idle = sees_without g.O.SeqObject p.key.value p.cpu.number Idle Idle y.log l.run p.seat.me c.split_seat-theirs.result.me p.idle (subst (λ k. Lawful g.O.SeqObject k y.log) (sym same) l.see.lawful) (subst (λ k. HasRun k y.log l.run) (sym same) l.see.ran) l.second }
+    record { idle = sees_without g.O.SeqObject p.key.value p.cpu.number Idle Idle y.log l.run p.seat.me c.split_seat-theirs.result.me p.idle (subst (λ k. Lawful g.O.SeqObject k y.log) (sym same) l.see.valid) (subst (λ k. HasRun k y.log l.run) (sym same) l.see.ran) l.second }
 
 pub returns-clause-look : goal.returns-clause-look
 returns-clause-look g c = let a = c.args.waiting in let l = last g c.before.before in
-    takes_now g.O.SeqObject a.key.value (Mcs Waiting) (Mcs Holding) (steps.Look true ∷ []) c.take-logged.result.0 l.run a.seat.me c.split_seat-theirs.new.seat.me l.see.first_grows l.see.first_run l.see.lawful l.replayed l.first
+    takes_now g.O.SeqObject a.key.value (Mcs Waiting) (Mcs Holding) (steps.Look true ∷ []) c.take-logged.result.0 l.run a.seat.me c.split_seat-theirs.new.seat.me l.see.first_grows l.see.first_run l.see.valid l.replayed l.first
 
 pub returns-clause-caller : goal.returns-clause-caller
 returns-clause-caller g c = ap (λ z. caller_of c.args.pass.key.value z.0) (last g c.before.before).second

@@ -5,8 +5,8 @@ use Rattle.scripts.specs.Row.{in_range, refill, numbers_at}
 use Rattle.scripts.proofs.Spellings.{numbers_take}
 use Rattle.scripts.proofs.tables.read.by_table.Goals as goal
 
-pub fill-requires-after_bounds : goal.fill-requires-after_bounds
-fill-requires-after_bounds g c κs within =
+pub with_numbers-requires-after_bounds : goal.with_numbers-requires-after_bounds
+with_numbers-requires-after_bounds g c κs within =
     let fields = (g.T.Spelled.row_of c.in_ok-sample.sample).fields in
     let same : c.as_slice.result.now ≡ fields = c.as_slice.ensures.value ∙ c.spelling.ensures.fields in
     let read : numbers_at c.as_slice.result.now (left c.in_ok-name.rest) ≡ Some (c.in_ok-numbers.numbers.items, left c.in_ok-numbers.rest) = sym c.numbers.ensures ∙ ap (option_map _) c.in_ok-numbers.was in

@@ -3,12 +3,12 @@ use Rattle.std.proofs.lemmas.Slice.Eq.{bytes_eq-Decides}
 use Rattle.std.specs.List.{list_all}
 use Rattle.scripts.specs.Reading.{left}
 use Rattle.scripts.specs.Row.{in_range, refill, numbers_at}
-use Rattle.scripts.proofs.Glances.{glanced}
+use Rattle.scripts.proofs.FastReads.{fast_read}
 use Rattle.scripts.proofs.Spellings.{numbers_take}
 use Rattle.scripts.proofs.tables.read.value_of.Goals as goal
 
-pub fill-requires-after_bounds : goal.fill-requires-after_bounds
-fill-requires-after_bounds g c κs within =
+pub with_numbers-requires-after_bounds : goal.with_numbers-requires-after_bounds
+with_numbers-requires-after_bounds g c κs within =
     let fields = (g.T.Spelled.row_of c.args.sample).fields in
     let same : c.as_slice.result.now ≡ fields = c.as_slice.ensures.value ∙ c.spelling-fields.ensures.fields in
     let read : numbers_at c.as_slice.result.now (left c.args.rest) ≡ Some (c.in_ok-numbers.numbers.items, left c.in_ok-numbers.rest) = sym c.numbers.ensures ∙ ap (option_map _) c.in_ok-numbers.was in
@@ -21,5 +21,5 @@ returns-in_ok-numbers g c =
     let same : c.as_slice.result.now ≡ fields = c.as_slice.ensures.value ∙ c.spelling-fields.ensures.fields in
     let read : numbers_at c.as_slice.result.now (left c.args.rest) ≡ Some (c.in_ok-numbers.numbers.items, left c.in_ok-numbers.rest) = sym c.numbers.ensures ∙ ap (option_map _) c.in_ok-numbers.was in
     let word = sym c.spelling-fields.ensures.word ∙ (bytes_eq-Decides c.spelling-fields.result.word.now c.args.name.now).0 (sym c.eq.ensures ∙ c.if-eq.true) in
-    glanced g.T.Spelled.row_of g.T.Spelled.table g.T.Spelled.filled g.met.T.Spelled.right c.args.sample (left c.args.rest) c.args.name.now (c.in_ok-numbers.numbers.items, left c.in_ok-numbers.rest) word (ap (λ fs. numbers_at fs (left c.args.rest)) (sym same) ∙ read)
-    ∙ ap (λ v. Some (v, left c.in_ok-numbers.rest)) (sym (c.fill.ensures ∙ ap (g.T.Spelled.filled c.args.sample) c.as_slice-then-eq.ensures.value))
+    fast_read g.T.Spelled.row_of g.T.Spelled.table g.T.Spelled.filled g.met.T.Spelled.right c.args.sample (left c.args.rest) c.args.name.now (c.in_ok-numbers.numbers.items, left c.in_ok-numbers.rest) word (ap (λ fs. numbers_at fs (left c.args.rest)) (sym same) ∙ read)
+    ∙ ap (λ v. Some (v, left c.in_ok-numbers.rest)) (sym (c.with_numbers.ensures ∙ ap (g.T.Spelled.filled c.args.sample) c.as_slice-then-eq.ensures.value))

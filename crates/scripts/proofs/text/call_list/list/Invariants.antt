@@ -8,5 +8,5 @@ use Rattle.scripts.proofs.text.call_list.list.Given as goal
 abbrev pub invariant-loop : goal.invariant-loop
 invariant-loop g l = record {
   count : length l.items.items ≡ l.counter;
-  reads : list_at g.T.Listed.item_at (left l.fn.at) ≡ behind g.T.Listed.item_at l.items.items (MOST_CALLS - l.counter) (left l.left);
+  reads : list_at g.T.ListItem.item_at (left l.fn.at) ≡ behind g.T.ListItem.item_at l.items.items (MOST_CALLS - l.counter) (left l.left);
 }

@@ -15,14 +15,14 @@ loop-cpu-preserved c =
       | then-is_busy+in_ok-step b ↦ subst (λ (s : Draft). HasBegun c.args.self.now s (k + 1)) (sym b.self-is) record {
         goes = λ w d.
             let old = i.goes w d in
-            (b.in_ok-step.ensures.draft w old.0, b.in_ok-step.ensures.steps ∙ round_more w first now k true old.1 (sym (c.is_busy.ensures.busy _ old.0.watches) ∙ b.if-is_busy.true));
+            (b.in_ok-step.ensures.draft w old.0, b.in_ok-step.ensures.steps ∙ round_more w first now k true old.1 (sym (c.is_busy.ensures.busy _ old.0.shows_world) ∙ b.if-is_busy.true));
         few = omega (arith, i.few, ap length b.in_ok-step.ensures.steps, length-append now (k ∷ []));
         cpus = b.in_ok-step.ensures.cpus ∙ i.cpus;
       }
       | else-is_busy b ↦ subst (λ (s : Draft). HasBegun c.args.self.now s (k + 1)) (sym b.self-is) record {
         goes = λ w d.
             let old = i.goes w d in
-            (old.0, sym (append-nil now) ∙ round_more w first now k false old.1 (sym (c.is_busy.ensures.busy _ old.0.watches) ∙ b.if-is_busy.false));
+            (old.0, sym (append-nil now) ∙ round_more w first now k false old.1 (sym (c.is_busy.ensures.busy _ old.0.shows_world) ∙ b.if-is_busy.false));
         few = omega (arith, i.few);
         cpus = i.cpus;
       }

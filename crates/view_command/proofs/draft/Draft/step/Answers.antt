@@ -5,7 +5,7 @@ use Rattle.scripts.specs.contracts.objects.kernel_object.KernelObjectSeqObject.T
 use Rattle.scripts.specs.declared.schedule.TheConstants.{MOST_STEPS}
 use Rattle.word_rule.specs.Machine.World.{run}
 use Rattle.cpu_worker.specs.Simulation.{KernelWorld}
-use Rattle.view_command.specs.Watching.{Watches}
+use Rattle.view_command.specs.Stepping.{ShowsWorld}
 use Rattle.view_command.proofs.Drafts.{run_both}
 use Rattle.view_command.proofs.draft.Draft.step.Goals as goal
 
@@ -18,6 +18,6 @@ returns-in-Ok-clause-draft c = λ w d.
       each = subst (λ (l : List ℕ). AllByRecursion (λ cpu. cpu < length w.cpus) l) (sym items) (all_push _ before c.args.cpu d.each (subst (λ n. c.args.cpu < n) d.cpus c.requires));
       few = omega (arith, room, ap length items, length-append before (c.args.cpu ∷ []));
       cpus = c.step.ensures.cpus ∙ d.cpus;
-      watches = subst (λ (l : List ℕ). Watches kernel c.step.new.self (run kernel l w)) (sym items)
-          (subst (λ (v : KernelWorld). Watches kernel c.step.new.self v) (sym (run_both kernel before (c.args.cpu ∷ []) w)) (c.step.ensures.shows _ d.watches));
+      shows_world = subst (λ (l : List ℕ). ShowsWorld kernel c.step.new.self (run kernel l w)) (sym items)
+          (subst (λ (v : KernelWorld). ShowsWorld kernel c.step.new.self v) (sym (run_both kernel before (c.args.cpu ∷ []) w)) (c.step.ensures.shows _ d.shows_world));
     }

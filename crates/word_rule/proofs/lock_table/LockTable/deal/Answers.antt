@@ -9,7 +9,7 @@ pub invariant_of-push_reserved : goal.invariant_of-push_reserved
 invariant_of-push_reserved g c = let h = c.args.key.now in let i = c.loop-cpu.invariant in let k = c.loop-cpu.cpu in let below = subst (λ n. k < n) (sym c.requires.seat.2) c.loop-cpu-test.true in
     let numbers = c.requires.seat.2 in
     let few : h.numbers < 2 ^ 8 = omega (arith, numbers) in
-    let rests = one_rests g.O.SeqObject h c.of.result.value k c.split_seat-theirs.result.me c.of.ensures below (few_fit h.kind h.numbers few) c.requires.lawful (is_one h k c.loop-cpu.seat.me c.split_seat-theirs.result.me below i.seat.1 c.split_seat-theirs.ensures.4) in
+    let rests = one_rests g.O.SeqObject h c.of.result.value k c.split_seat-theirs.result.me c.of.ensures below (few_fit h.kind h.numbers few) c.requires.valid (is_one h k c.loop-cpu.seat.me c.split_seat-theirs.result.me below i.seat.1 c.split_seat-theirs.ensures.4) in
     record { idle = subst (λ n. IsWithout g.O.SeqObject c.of.result.value n Idle c.split_seat-theirs.result.me) (sym c.numbered.ensures) rests }
 
 pub loop-cpu-preserved : goal.loop-cpu-preserved

@@ -1,0 +1,23 @@
+use Rattle.std.proofs.Common.{◌≡◌, Some, sym, ap, ◌∙◌, arith}
+use Rattle.std.proofs.lemmas.List.{length-set}
+use Rattle.page_pool.specs.State.{PoolState}
+use Rattle.page_pool.specs.Table.{least_free}
+use Rattle.auditor.proofs.FreePages.{least_at, taken_up_to, given_left}
+use Rattle.auditor.proofs.references.pool.ReferencePool.give.Goals as goal
+
+pub overflow_sub-self : goal.overflow_sub-self
+overflow_sub-self c =
+    let owners = c.self.inside.owners.items in
+    let page = c.in-Some.page in
+    let least : least_free owners ≡ Some page = ap (λ (s : PoolState). least_free s.owners) c.self.view_is ∙ (sym c.least_free.ensures ∙ c.in-Some.is) in
+    let at = least_at owners page least in
+    omega (arith, given_left owners page c.args.owner at.0 at.1, c.self.invariant.2)
+
+pub invariant_of-self : goal.invariant_of-self
+invariant_of-self c =
+    let owners = c.self.inside.owners.items in
+    let page = c.in-Some.page in
+    let least : least_free owners ≡ Some page = ap (λ (s : PoolState). least_free s.owners) c.self.view_is ∙ (sym c.least_free.ensures ∙ c.in-Some.is) in
+    let at = least_at owners page least in
+    let long = length-set owners page (Some c.args.owner) in
+    (taken_up_to owners page c.args.owner at.0 at.2, omega (arith, long, at.0), omega (arith, given_left owners page c.args.owner at.0 at.1, c.self.invariant.2), omega (arith, long, c.self.invariant.3))

@@ -1,0 +1,12 @@
+-- What a reference object shows.
+use Rattle.scripts.specs.declared.objects.kernel_object.KernelObject.{KernelObject}
+use Rattle.scripts.specs.declared.objects.kernel_object.KernelObject.TheVariants.{Queue, Pool, Console, Sched}
+use Rattle.auditor.specs.declared.references.object.ReferenceKernelObject.{ReferenceKernelObject}
+use Rattle.auditor.specs.declared.references.object.ReferenceKernelObject.TheVariants as reference
+
+-- the object that would be in the same state
+abbrev pub shown : ReferenceKernelObject → KernelObject
+shown (reference.Queue q) = Queue q
+shown (reference.Pool s) = Pool s
+shown (reference.Console c) = Console c
+shown (reference.Sched s) = Sched s

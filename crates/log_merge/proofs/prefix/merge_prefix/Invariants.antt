@@ -1,0 +1,14 @@
+use Rattle.log_merge.specs.Prefixes.{IsPrefix}
+use Rattle.log_merge.specs.Least.{TakesTheLeast}
+use Rattle.log_merge.specs.Nexts.{IsReady, left_in}
+use Rattle.log_merge.proofs.prefix.merge_prefix.Given as goal
+
+abbrev pub invariant-loop-cpu : goal.invariant-loop-cpu
+invariant-loop-cpu g l = record {
+  ready : IsReady l.run l.at.items l.placed.items;
+  front : IsPrefix l.run l.places.items l.at.items l.placed.items;
+  least : TakesTheLeast l.run l.places.items;
+}
+
+abbrev pub decreases-loop-cpu : goal.decreases-loop-cpu
+decreases-loop-cpu g l = left_in l.run.transcripts l.at.items

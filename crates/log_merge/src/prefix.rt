@@ -1,0 +1,78 @@
+//! One entry after another, as long as one can come.
+
+ghost use Rattle.std.specs.Prelude.{◌≡◌, ◌<◌, ◌++◌, ◌∷◌, [], ℕ, List, length, slice_index, replicate, IfOk};
+ghost use Rattle.log_merge.specs.Prefixes.{IsMatched, IsPrefix, CanCome};
+ghost use Rattle.log_merge.specs.Least.{TakesTheLeast};
+ghost use Rattle.log_merge.specs.Nexts.{IsReady, IsWhole, left_in, IsStuck};
+
+use crate::look_up::entry_at;
+use crate::next::first_ready;
+use event_log::{Done, OutOfMemory, Run, SeqObject};
+use sound_run::Place;
+use std::alloc::Global;
+
+/// Places in order, how many of them are each CPU's, and how many events each object has among them.
+#[derive(Drop)]
+pub(crate) struct Prefix {
+    pub(crate) places: Vec<Place>,
+    pub(crate) at: Vec<usize>,
+    pub(crate) placed: Vec<usize>,
+}
+
+/// So many zeros.
+fn zeros(alloc: Global, count: usize) -> Result<Vec<usize>, OutOfMemory>
+    ensures { IfOk result (λ v. v.items ≡ replicate count 0) }
+{
+    Ok(vec![in alloc; 0; count]?)
+}
+
+/// Places the CPU's next entry, which can come.
+fn place_next<O: SeqObject>(
+    run: &Run<O>,
+    at: &mut [usize],
+    placed: &mut [usize],
+    cpu: usize,
+) -> Place
+    requires ready { IsReady run.now at.old placed.old }
+    requires cpu { cpu < length at.old }
+    requires comes { CanCome run.now (slice_index at.old) (slice_index placed.old) cpu }
+    requires matched { IsMatched run.now }
+    requires whole { IsWhole run.now }
+    ensures place { result ≡ record { cpu = cpu; entry = slice_index at.old cpu } }
+    ensures cpus { length at.new ≡ length at.old }
+    ensures logs { length placed.new ≡ length placed.old }
+    ensures front { (order : List Place) → IsPrefix run.now order at.old placed.old → IsPrefix run.now (order ++ result ∷ []) at.new placed.new }
+    ensures less { left_in run.now.transcripts at.new < left_in run.now.transcripts at.old }
+{
+    let n = at[cpu];
+    let Some(entry) = entry_at(run, cpu, n) else {
+        unreachable!()
+    };
+    at[cpu] = n + 1;
+    match &entry.done {
+        Done::Steps(_) => {
+            let object = entry.object as usize;
+            let k = placed[object];
+            placed[object] = k + 1;
+        }
+        Done::NoRoom => {}
+    }
+    Place { cpu, entry: n }
+}
+
+/// The least CPU's next entry each time, as long as one can come.
+pub(crate) fn merge_prefix<O: SeqObject>(alloc: Global, run: &Run<O>) -> Result<Prefix, OutOfMemory>
+    requires whole { IsWhole run.now }
+    requires matched { IsMatched run.now }
+    ensures stuck { IfOk result (λ f. IsStuck run.now f.places.items f.at.items f.placed.items) }
+    ensures least { IfOk result (λ f. TakesTheLeast run.now f.places.items) }
+{
+    let mut at = zeros(alloc, run.transcripts.as_slice().len())?;
+    let mut placed = zeros(alloc, run.logs.as_slice().len())?;
+    let mut places = Vec::new(alloc);
+    while let Some(cpu) = first_ready(run, at.as_slice(), placed.as_slice()) {
+        let place = place_next(run, at.as_mut_slice(), placed.as_mut_slice(), cpu);
+        places.push(place)?;
+    }
+    Ok(Prefix { places, at, placed })
+}

@@ -1,0 +1,29 @@
+-- A value that is read fast is the one of the table.
+use Rattle.std.proofs.Common.{◌≡◌, ℕ, Some, List, [], ◌∷◌, ◌++◌, refl, sym, ap, ◌∙◌}
+use Rattle.std.specs.List.{list_all}
+use Rattle.std.proofs.lemmas.Slice.Eq.{bytes_eq-Decides}
+use Rattle.scripts.specs.Reading.{word_at, key_at}
+use Rattle.scripts.specs.Row.{Row, IsTable, spelled, in_range, numbers_at, value_at}
+use Rattle.scripts.proofs.Spellings.{texts, numbers_take, value_again}
+
+-- the word that is next is the key
+pub key_is : (key : List ℕ) (ws rest : List (List ℕ)) (word : List ℕ) → word_at ws ≡ Some (word, rest) → word ≡ key → Some rest ≡ key_at key ws
+unfolding key_at
+key_is key ws rest word next same = sym (rw (next, (bytes_eq-Decides word key).1 same) refl)
+
+module _ {T : Type 0} (row : T → Row) (samples : List T) (filled : T → List ℕ → T) (table : IsTable row samples filled) where
+  -- the value of a word, and of the numbers behind it
+  pub fast_read : (x : T) (rest : List (List ℕ)) (word : List ℕ) (read : List ℕ × List (List ℕ)) → (row x).word ≡ word → numbers_at (row x).fields rest ≡ Some read → value_at row samples filled (word ∷ rest) ≡ Some (filled x read.0, read.1)
+  fast_read x rest word read same numbers =
+      let y = filled x read.0 in
+      let taken = numbers_take (row x).fields rest read numbers in
+      let fields = sym (table.refilled x read.0) in
+      let name : word ≡ (row y).word = sym same ∙ sym (table.word_stays x read.0) in
+      let text : word ∷ rest ≡ spelled (row y) ++ read.1 = ap (λ v. v ∷ rest) name ∙ ap (λ l. (row y).word ∷ l) (taken.text ∙ ap (λ fs. texts fs ++ read.1) fields) in
+      ap (value_at row samples filled) text ∙ value_again row samples filled table y read.1 (ap (λ fs. list_all in_range fs) (sym fields) ∙ taken.fit)
+
+-- the word that was read stands in front
+pub word_in_front : (ws rest : List (List ℕ)) (word : List ℕ) → word_at ws ≡ Some (word, rest) → ws ≡ word ∷ rest
+unfolding word_at
+word_in_front [] rest word next = absurd cc
+word_in_front (w ∷ ws) rest word next = let both : ◌≡◌ {A = List ℕ × List (List ℕ)} (w, ws) (word, rest) = cc in ap (λ p. p.0 ∷ p.1) both

@@ -1,0 +1,37 @@
+-- What was read of a schedule that comes in pieces, and the schedule that the rest of a source spells.
+use Rattle.std.specs.Prelude.{ℕ, ◌≡◌, ◌<◌, ◌≤◌, ◌⊎◌, false, List, [], ◌∷◌, ◌++◌, map, length, decimal, Option}
+use Rattle.std.specs.List.{AllByRecursion}
+use Rattle.scripts.specs.declared.schedule.ScheduleFault.{ScheduleFault}
+use Rattle.scripts.specs.declared.schedule.ScheduleFault.TheVariants as schedule_fault
+use Rattle.scripts.specs.declared.schedule.TheConstants.{MOST_STEPS}
+use Rattle.scripts.specs.declared.schedule.source.ScheduleReadFault.{ScheduleReadFault}
+use Rattle.scripts.specs.declared.schedule.source.ScheduleReadFault.TheVariants.{OutOfMemory, ReadFailed, Word}
+use Rattle.scripts.specs.ScheduleText.{is_gap, schedule_words, IsSchedule, IsFirstBadWord}
+use Rattle.scripts.specs.ScriptFaults.{IsRest}
+
+-- the text's words are those of the steps, and then come the bytes of a word that may go on, if there are any
+pub record HasReadSteps (cpus : ℕ) (text steps word : List ℕ) : Type 0 where
+  pub words : (more : List ℕ) → schedule_words (text ++ more) ≡ map decimal steps ++ schedule_words (word ++ more)
+  pub each : AllByRecursion (λ cpu. cpu < cpus) steps
+  pub few : length steps ≤ MOST_STEPS
+  pub room : 0 < length word → length steps < MOST_STEPS
+  pub no_end : AllByRecursion (λ b. is_gap b ≡ false) word
+
+-- where the word ends its CPU does the next step, and without a word there is none
+abbrev pub EndsWord : ℕ → List ℕ → List ℕ → List ℕ → Type 0
+EndsWord cpus word steps new = ((word ≡ []) × (new ≡ steps)) ⊎ ((cpu : ℕ) × (0 < length word) × (word ≡ decimal cpu) × (cpu < cpus) × (new ≡ steps ++ cpu ∷ []))
+
+-- the steps that the rest of a source spells, for so many CPUs
+abbrev pub SpellsScheduleRest : ℕ → Option (List ℕ) → List ℕ → Type 0
+SpellsScheduleRest cpus remaining steps = (text : List ℕ) × IsRest remaining text × IsSchedule cpus text steps
+
+-- the word that is named is the first of the rest of a source that can't come
+abbrev pub NamesFirstBadWordOfRest : ℕ → Option (List ℕ) → ScheduleReadFault → Type 0
+NamesFirstBadWordOfRest cpus remaining OutOfMemory = Unit {0}
+NamesFirstBadWordOfRest cpus remaining ReadFailed = Unit {0}
+NamesFirstBadWordOfRest cpus remaining (Word n) = (text : List ℕ) × IsRest remaining text × IsFirstBadWord cpus text n
+
+-- the same refusal of a text and of a source
+abbrev pub of_schedule : ScheduleFault → ScheduleReadFault
+of_schedule schedule_fault.OutOfMemory = OutOfMemory
+of_schedule (schedule_fault.Word n) = Word n

@@ -1,0 +1,39 @@
+-- The settings that the rest of a source spells, of which so many bytes are read at the most.
+use Rattle.std.specs.Prelude.{ℕ, ◌≡◌, ◌<◌, ◌≤◌, ◌+◌, ◌⊎◌, List, length, Option}
+use Rattle.std.specs.Io.KnownBytes.{Consumes}
+use Rattle.scripts.specs.declared.settings.fault.BadSettings.{BadSettings}
+use Rattle.scripts.specs.declared.settings.fault.SettingsFault.{SettingsFault}
+use Rattle.scripts.specs.declared.settings.fault.SettingsFault.TheVariants as settings_fault
+use Rattle.scripts.specs.declared.settings.source.SettingsReadFault.{SettingsReadFault}
+use Rattle.scripts.specs.declared.settings.source.SettingsReadFault.TheVariants.{OutOfMemory, ReadFailed, Refused}
+use Rattle.scripts.specs.declared.settings.source.TheConstants.{MOST_SETTINGS_BYTES}
+use Rattle.scripts.specs.ScriptFaults.{IsRest}
+use Rattle.scripts.specs.Settings.{Settings}
+use Rattle.scripts.specs.SettingsText.{SpellsSettings, IsSettingsFault, not_toml}
+
+-- at most so many bytes of a source were read, where it tells its bytes
+abbrev pub ReadsAtMost : ℕ → Option (List ℕ) → Option (List ℕ) → Type 0
+ReadsAtMost most old new = (seen : List ℕ) × Consumes old new seen × (length seen ≤ most)
+
+-- a text that isn't too long spells the settings
+abbrev pub SpellsShortSettings : List ℕ → Settings → Type 0
+SpellsShortSettings text settings = (length text ≤ MOST_SETTINGS_BYTES) × SpellsSettings text settings
+
+-- the first fault of a text; one that is too long is no TOML
+abbrev pub IsFaultOfSettings : List ℕ → BadSettings → Type 0
+IsFaultOfSettings text bad = ((length text ≤ MOST_SETTINGS_BYTES) × IsSettingsFault text bad) ⊎ ((MOST_SETTINGS_BYTES < length text) × (bad ≡ not_toml))
+
+-- the rest of a source spells the settings
+abbrev pub SpellsSettingsRest : Option (List ℕ) → Settings → Type 0
+SpellsSettingsRest remaining settings = (text : List ℕ) × IsRest remaining text × SpellsShortSettings text settings
+
+-- the fault that is named is the first of the rest of a source
+abbrev pub NamesFirstFaultOfRest : Option (List ℕ) → SettingsReadFault → Type 0
+NamesFirstFaultOfRest remaining OutOfMemory = Unit {0}
+NamesFirstFaultOfRest remaining ReadFailed = Unit {0}
+NamesFirstFaultOfRest remaining (Refused bad) = (text : List ℕ) × IsRest remaining text × IsFaultOfSettings text bad
+
+-- the same refusal of a text and of a source
+abbrev pub of_settings : SettingsFault → SettingsReadFault
+of_settings settings_fault.OutOfMemory = OutOfMemory
+of_settings (settings_fault.Refused bad) = Refused bad
