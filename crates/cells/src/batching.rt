@@ -4,7 +4,7 @@ ghost use Rattle.std.specs.Prelude.{◌≡◌, ◌≤◌, Some, None, IfSome, If
 ghost use Rattle.event_log.specs.declared.event.TheConstants.{MOST_CALLS};
 ghost use Rattle.cells.specs.BatchCodes.{batch_calls, AreRepliesTo};
 
-use crate::coding::{Answered, Asked, called_of, reply_code};
+use crate::coding::{Answered, Asked, reply_code, shared_called_of};
 use arrayvec::ArrayVec;
 use event_log::{MOST_CALLS, Step};
 use scripts::{KCall, KernelObject};
@@ -26,6 +26,7 @@ pub struct Replies {
 }
 
 /// The calls of these numbers, if each is there.
+#[inline(never)]
 pub fn calls_of(batch: &Batch) -> Option<ArrayVec<KCall, MOST_CALLS>>
     requires { batch.now.count ≤ MOST_CALLS }
     ensures there { IfSome result (λ v. batch_calls batch.now ≡ Some v.items) }
@@ -34,12 +35,13 @@ pub fn calls_of(batch: &Batch) -> Option<ArrayVec<KCall, MOST_CALLS>>
 {
     let mut calls = ArrayVec::new();
     for asked in &batch.calls[..batch.count as usize] {
-        calls.push(called_of(asked)?);
+        calls.push(shared_called_of(asked)?);
     }
     Some(calls)
 }
 
 /// Writes the replies of the steps.
+#[inline(never)]
 pub fn write_replies(steps: &[Step<KernelObject>], replies: &mut Replies)
     requires { length steps.now ≤ MOST_CALLS }
     ensures { AreRepliesTo steps.now replies.new }

@@ -90,6 +90,19 @@ pub fn answer_code(
     }
 }
 
+/// The same, once in the library for the calls that needn't be the fastest.
+#[inline(never)]
+pub fn shared_answer_code(
+    done: Result<KReply, NoRoom>,
+    done_as: u32,
+    full_as: u32,
+    answered: &mut Answered,
+) -> u32
+    ensures { (result, answered.new) ≡ answer_code done_as full_as answered.old done }
+{
+    answer_code(done, done_as, full_as, answered)
+}
+
 /// One look more, if that was one.
 #[inline]
 pub fn count_look(looked: bool, looks: &mut u64)
@@ -110,21 +123,17 @@ pub fn call_code(
     ensures code { (result, answered.new) ≡ call_code answered.old whole }
     ensures looks { looks.new ≡ looks_after (has_looked whole) looks.old }
 {
-    match whole {
-        Whole::Done(done, looked) => {
-            count_look(looked, looks);
-            answer_code(done, DONE, FULL, answered)
-        }
-        Whole::Kept(done, looked) => {
-            count_look(looked, looks);
-            answer_code(done, DONE_KEPT, FULL_KEPT, answered)
-        }
+    let (done, looked, done_as, full_as) = match whole {
+        Whole::Done(done, looked) => (done, looked, DONE, FULL),
+        Whole::Kept(done, looked) => (done, looked, DONE_KEPT, FULL_KEPT),
         Whole::Waits => {
             count_look(true, looks);
-            LOOKED
+            return LOOKED;
         }
-        Whole::Refused => REFUSED,
-    }
+        Whole::Refused => return REFUSED,
+    };
+    count_look(looked, looks);
+    answer_code(done, done_as, full_as, answered)
 }
 
 /// What is reported of the steps that were done, whose replies are written.

@@ -68,35 +68,38 @@ pub fn called_of(asked: &Asked) -> Option<KCall>
     Some(call)
 }
 
+/// The same, once in the library for the calls that needn't be the fastest.
+#[inline(never)]
+pub fn shared_called_of(asked: &Asked) -> Option<KCall>
+    ensures { result ≡ called_of asked.now }
+{
+    called_of(asked)
+}
+
 /// The numbers of the reply.
 #[inline]
 pub fn reply_code(reply: KReply) -> Answered
     ensures { result ≡ reply_code reply }
 {
-    let word = match reply {
-        KReply::Ok => 0,
-        KReply::Thread(_) => 1,
-        KReply::Count(_) => 2,
-        KReply::Page(_) => 3,
-        KReply::Dropped(_) => 4,
-        KReply::Byte(_) => 5,
-        KReply::BadThread => 6,
-        KReply::Already => 7,
-        KReply::Empty => 8,
-        KReply::Absent => 9,
-        KReply::BadOwner => 10,
-        KReply::NoPage => 11,
-        KReply::OverQuota => 12,
-        KReply::BadPage => 13,
-        KReply::NotTaken => 14,
-        KReply::NotYours => 15,
-        KReply::BadChannel => 16,
-        KReply::BadCall => 17,
-    };
-    let number = match reply {
-        KReply::Thread(number) | KReply::Count(number) | KReply::Page(number) => number,
-        KReply::Dropped(byte) | KReply::Byte(byte) => u32::from(byte),
-        _ => 0,
+    let (word, number) = match reply {
+        KReply::Ok => (0, 0),
+        KReply::Thread(number) => (1, number),
+        KReply::Count(number) => (2, number),
+        KReply::Page(number) => (3, number),
+        KReply::Dropped(byte) => (4, u32::from(byte)),
+        KReply::Byte(byte) => (5, u32::from(byte)),
+        KReply::BadThread => (6, 0),
+        KReply::Already => (7, 0),
+        KReply::Empty => (8, 0),
+        KReply::Absent => (9, 0),
+        KReply::BadOwner => (10, 0),
+        KReply::NoPage => (11, 0),
+        KReply::OverQuota => (12, 0),
+        KReply::BadPage => (13, 0),
+        KReply::NotTaken => (14, 0),
+        KReply::NotYours => (15, 0),
+        KReply::BadChannel => (16, 0),
+        KReply::BadCall => (17, 0),
     };
     Answered { word, number }
 }

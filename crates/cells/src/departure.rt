@@ -32,7 +32,7 @@ pub fn depart_mcs<O: SeqObject>(cell: &McsCell<O>, hold: Hold<O>) -> (CallerStat
 }
 
 /// The holder gives the object back, unless the one behind it has to link itself first: whether it has.
-#[inline]
+#[inline(never)]
 pub fn depart<O: SeqObject>(cell: &AnyCell<O>, hold: Hold<O>) -> (CallerState<O>, bool)
     requires { IsHoldOf cell.now hold }
     ensures of { IsOf cell.now result.0 }

@@ -4,10 +4,10 @@ ghost use Rattle.cells.specs.Exports.{content_of, ReportsAcquireStep, ReportsRel
 
 use crate::batching::{Batch, Replies, calls_of};
 use crate::codes::{
-    BUSY, DONE, DONE_KEPT, FULL, FULL_KEPT, NOT_THERE, REFUSED, answer_code, batch_code, call_code,
-    progress_code, try_code,
+    BUSY, DONE, DONE_KEPT, FULL, FULL_KEPT, NOT_THERE, REFUSED, batch_code, call_code,
+    progress_code, shared_answer_code, try_code,
 };
-use crate::coding::{Answered, Asked, called_of};
+use crate::coding::{Answered, Asked, called_of, shared_called_of};
 use crate::handle::at_content;
 use crate::{Handle, TriedCall};
 use event_log::MOST_CALLS;
@@ -45,11 +45,11 @@ pub extern "C" fn mc2_caller_apply(
 ) -> u32
     ensures { ReportsApply (content_of caller.old) asked.now answered.old result (content_of caller.new) answered.new }
 {
-    let Some(call) = called_of(asked) else {
+    let Some(call) = shared_called_of(asked) else {
         return NOT_THERE;
     };
     match at_content(caller, &call, |content, call| content.apply(call)) {
-        Some(done) => answer_code(done, DONE, FULL, answered),
+        Some(done) => shared_answer_code(done, DONE, FULL, answered),
         None => REFUSED,
     }
 }
@@ -105,12 +105,12 @@ pub extern "C" fn mc2_caller_try_call(
 ) -> u32
     ensures { ReportsTryCall (content_of caller.old) asked.now answered.old result (content_of caller.new) answered.new }
 {
-    let Some(call) = called_of(asked) else {
+    let Some(call) = shared_called_of(asked) else {
         return NOT_THERE;
     };
     match at_content(caller, &call, |content, call| content.try_call(call)) {
-        TriedCall::Done(done) => answer_code(done, DONE, FULL, answered),
-        TriedCall::Kept(done) => answer_code(done, DONE_KEPT, FULL_KEPT, answered),
+        TriedCall::Done(done) => shared_answer_code(done, DONE, FULL, answered),
+        TriedCall::Kept(done) => shared_answer_code(done, DONE_KEPT, FULL_KEPT, answered),
         TriedCall::Busy => BUSY,
         TriedCall::Refused => REFUSED,
     }

@@ -13,7 +13,7 @@ use guarded_cell::AnyCell;
 use word_rule::{Hold, LockCell, Pass};
 
 /// The object, if nobody has it or is in line for it.
-#[inline]
+#[inline(never)]
 pub fn try_pass<O: SeqObject>(cell: &AnyCell<O>, pass: Pass<O>) -> Result<Hold<O>, Pass<O>>
     requires { IsPassOf cell.now pass }
     ensures hold { IfOk result (λ h. IsHoldOf cell.now h) }

@@ -197,6 +197,7 @@ pub fn call<O: SeqObject>(
 }
 
 /// Does the calls as one event, unless the log is full.
+#[inline(never)]
 fn apply_all_held<O: SeqObject>(hold: &mut Hold<O>, asked: &[O::Call]) -> Result<Steps<O>, NoRoom>
     requires some { 0 < length asked.now }
     requires few { length asked.now ≤ MOST_CALLS }
@@ -225,6 +226,7 @@ fn batch_held<O: SeqObject>(
 }
 
 // A batch of a caller that has arrived.
+#[inline(never)]
 fn batch_arrived<O: SeqObject>(
     cell: &AnyCell<O>,
     arrival: Arrival<O>,
@@ -247,6 +249,7 @@ fn batch_arrived<O: SeqObject>(
 }
 
 /// A batch of 1 to 8 calls, which are one event, as far as it comes without waiting.
+#[inline(never)]
 pub fn batch<O: SeqObject>(
     cell: &AnyCell<O>,
     state: CallerState<O>,
