@@ -1,5 +1,8 @@
 //! Whether all ways to read a text agree.
 
+ghost use Rattle.std.specs.Prelude.{◌≡◌, true, IfNone};
+ghost use Rattle.fuzz.specs.Readings.{IsSame, IsWanted};
+
 use crate::corpus::Corpus;
 use crate::drawn_source::DrawnSource;
 use crate::fault::Fault;
@@ -92,7 +95,9 @@ pub fn is_kept(alloc: Global, text: &[u8], written: &[u8]) -> Result<bool, Fault
 }
 
 /// Whether this is what has to be read from a stream: that a call failed, if one did, and else the whole text.
-fn is_wanted(has_failed: bool, whole: &Reading, reading: &Reading) -> bool {
+fn is_wanted(has_failed: bool, whole: &Reading, reading: &Reading) -> bool
+    ensures { result ≡ true → IsWanted has_failed whole.now reading.now }
+{
     if has_failed {
         Reading::Refused(Refusal::ReadFailed).is_same(reading)
     } else {
@@ -101,7 +106,10 @@ fn is_wanted(has_failed: bool, whole: &Reading, reading: &Reading) -> bool {
 }
 
 /// The first way that disagrees with reading the whole text, if one does.
-pub fn difference(readings: &Readings) -> Option<Disagreement> {
+pub fn difference(readings: &Readings) -> Option<Disagreement>
+    ensures pieces { IfNone result (IsSame readings.now.whole readings.now.pieces) }
+    ensures failing { IfNone result (IsWanted readings.now.has_failed readings.now.whole readings.now.failing) }
+{
     if !readings.whole.is_same(&readings.pieces) {
         return Some(Disagreement::Pieces);
     }

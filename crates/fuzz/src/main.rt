@@ -13,6 +13,7 @@ mod numbers;
 mod outcome;
 mod random;
 mod reading;
+mod same_refusal;
 mod shown;
 mod splice;
 #[cfg(test)]

@@ -1,5 +1,8 @@
 //! What becomes of a text that is read.
 
+ghost use Rattle.std.specs.Prelude.{◌≡◌, true};
+ghost use Rattle.fuzz.specs.Readings.{IsSame};
+
 use crate::fault::Fault;
 use event_log::Plain;
 use scripts::{
@@ -30,10 +33,12 @@ pub enum Reading {
 
 impl Reading {
     /// Whether both are the same.
-    pub fn is_same(&self, other: &Reading) -> bool {
+    pub fn is_same(&self, other: &Reading) -> bool
+        ensures { result ≡ true → IsSame self.now other.now }
+    {
         match (self, other) {
             (Reading::Read(one), Reading::Read(other)) => one.as_slice() == other.as_slice(),
-            (Reading::Refused(one), Reading::Refused(other)) => *one == *other,
+            (Reading::Refused(one), Reading::Refused(other)) => one.is_same(*other),
             _ => false,
         }
     }

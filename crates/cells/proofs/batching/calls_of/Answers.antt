@@ -4,11 +4,11 @@ use Rattle.cells.specs.BatchCodes.{batch_calls}
 use Rattle.cells.proofs.BatchCodes.{all_there, one_lacks, take_over}
 use Rattle.cells.proofs.batching.calls_of.Goals as goal
 
-pub returns-in_err-called_of-clause-not_there : goal.returns-in_err-called_of-clause-not_there
-returns-in_err-called_of-clause-not_there c =
+pub returns-in_err-shared_called_of-clause-not_there : goal.returns-in_err-shared_called_of-clause-not_there
+returns-in_err-shared_called_of-clause-not_there c =
     let asked = take c.args.batch.now.count c.args.batch.now.calls in
-    let none : c.called_of.result ≡ None = c.in_err-called_of.was in
-    let lacks = one_lacks asked c.loop-asked.asked-index (record { word = 0; first = 0; second = 0 }) c.loop-asked-test.true (sym c.called_of.ensures ∙ none) in
+    let none : c.shared_called_of.result ≡ None = c.in_err-shared_called_of.was in
+    let lacks = one_lacks asked c.loop-asked.asked-index (record { word = 0; first = 0; second = 0 }) c.loop-asked-test.true (sym c.shared_called_of.ensures ∙ none) in
     subst (λ o. IfNone o (batch_calls c.args.batch.now ≡ None)) (sym c.from_residual.ensures) lacks
 
 pub returns-clause-there : goal.returns-clause-there
