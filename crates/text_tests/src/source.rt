@@ -163,9 +163,9 @@ fn nothing_is_read_behind_a_bad_word(rt: HostRuntime) -> Result<(), Fail> {
 #[test]
 fn a_step_too_many_without_its_end(rt: HostRuntime) -> Result<(), Fail> {
     let settings = Settings::built_in(rt.alloc())?;
-    let mut text = vec![in rt.alloc(); b' '; 200_000]?;
-    for step in 0..100_000usize {
-        text[2 * step] = b'1';
+    let mut text = Vec::new(rt.alloc());
+    for _ in 0..100_000u32 {
+        text.extend_from_slice(b"1 ")?;
     }
     let read = read_steps(rt.alloc(), text.as_slice(), 4096, 50, &settings);
     assert!(rt; matches!(&read, Ok(schedule) if schedule.steps().len() == 100_000));
@@ -180,7 +180,7 @@ fn with_comment(alloc: Global, bytes: usize) -> Result<Vec<u8>, Fail> {
     let mut text = Vec::new(alloc);
     text.extend_from_slice(b"cpus = 1\n[[object]]\nname = \"q0\"\nkind = \"queue\"\n")?;
     text.extend_from_slice(b"lock = \"mcs\"\nevents = 9\nthreads = 8\n#")?;
-    while text.len() < bytes {
+    for _ in text.len()..bytes {
         text.push(b'x')?;
     }
     Ok(text)
