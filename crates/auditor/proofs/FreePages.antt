@@ -1,10 +1,10 @@
 -- The least free page of a table, found by a walk that begins where none before is free.
-use Rattle.std.proofs.Common.{◌≡◌, ℕ, ◌+◌, ◌-◌, ◌<◌, nat_le, ◌≤◌, ◌==◌, true, false, cond, List, [], ◌∷◌, Option, None, Some, is_none, length, get_or, set, refl, sym, ap, ◌∙◌, subst, arith}
-use Rattle.std.proofs.lemmas.Bool.{lt-ltb, le-ltb, lt-leb}
+use Rattle.std.proofs.Common.{◌≡◌, ℕ, ◌+◌, ◌<◌, ◌≤◌, true, false, cond, List, Option, None, Some, is_none, length, get_or, set, refl, sym, ap, ◌∙◌, subst, arith}
+use Rattle.std.proofs.lemmas.Bool.{lt-ltb, le-ltb}
 use Rattle.std.proofs.lemmas.List.{get_or-set_same, get_or-set_other, length-set}
 use Rattle.std.proofs.lemmas.List.Quantifiers.{position-Some}
-use Rattle.std.proofs.lemmas.List.Sums.{position_or_len_is, sum_by-cons, sum_by-set, count_by-le-length}
-use Rattle.page_pool.specs.Table.{least_free, left_of, is_of, held_by}
+use Rattle.std.proofs.lemmas.List.Sums.{position_or_len_is, sum_by-set, count_by-le-length}
+use Rattle.page_pool.specs.Table.{least_free, left_of}
 use Rattle.auditor.specs.Pages.{AreTakenBelow}
 use Rattle.auditor.proofs.MarkedLists.{same_or}
 
@@ -53,20 +53,3 @@ released_left owners p o lt taken =
 pub some_taken : (owners : List (Option ℕ)) (p o : ℕ) → p < length owners → get_or owners p None ≡ Some o → left_of owners < length owners
 some_taken owners p o lt taken =
     omega (arith, released_left owners p o lt taken, count_by-le-length is_none (set owners p None), length-set owners p None)
-
--- an owner has no more pages than have one at all
-one_or_none : (entry : Option ℕ) (o : ℕ) → cond (is_of o entry) 1 0 + counts entry ≤ 1
-one_or_none None o = omega arith
-one_or_none (Some p) o = elim (p == o) as (λ b. cond b 1 0 + 0 ≤ 1) [ true ↦ omega arith | false ↦ omega arith ]
-
-held_within : (owners : List (Option ℕ)) (o : ℕ) → held_by owners o + left_of owners ≤ length owners
-held_within [] o = omega arith
-held_within (entry ∷ owners) o =
-    let held = sum_by-cons (λ e. cond (is_of o e) 1 0) entry owners in
-    let free = sum_by-cons counts entry owners in
-    let one = one_or_none entry o in
-    omega (arith, held, free, one, held_within owners o)
-
--- so it has fewer than a quota that is above their number
-pub below_quota : (owners : List (Option ℕ)) (o quota free : ℕ) → free ≡ left_of owners → length owners - free < quota → nat_le quota (held_by owners o) ≡ false
-below_quota owners o quota free same above = lt-leb quota (held_by owners o) (let most = held_within owners o in omega (arith, same, above, most))

@@ -17,6 +17,7 @@ pub mod RecordRuns
 pub mod HeldLists
 pub mod MarkedLists
 pub mod FreePages
+pub mod CountedPages
 pub mod FaultNumbers
 pub mod Unrefused
 pub mod TextFaults

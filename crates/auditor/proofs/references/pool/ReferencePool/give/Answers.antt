@@ -2,7 +2,9 @@ use Rattle.std.proofs.Common.{◌≡◌, Some, sym, ap, ◌∙◌, arith}
 use Rattle.std.proofs.lemmas.List.{length-set}
 use Rattle.page_pool.specs.State.{PoolState}
 use Rattle.page_pool.specs.Table.{least_free}
+use Rattle.page_pool.proofs.Least.{found_free}
 use Rattle.auditor.proofs.FreePages.{least_at, taken_up_to, given_left}
+use Rattle.auditor.proofs.CountedPages.{counted_more}
 use Rattle.auditor.proofs.references.pool.ReferencePool.give.Goals as goal
 
 pub overflow_sub-self : goal.overflow_sub-self
@@ -20,4 +22,4 @@ invariant_of-self c =
     let least : least_free owners ≡ Some page = ap (λ (s : PoolState). least_free s.owners) c.self.view_is ∙ (sym c.least_free.ensures ∙ c.in-Some.is) in
     let at = least_at owners page least in
     let long = length-set owners page (Some c.args.owner) in
-    (taken_up_to owners page c.args.owner at.0 at.2, omega (arith, long, at.0), omega (arith, given_left owners page c.args.owner at.0 at.1, c.self.invariant.2), omega (arith, long, c.self.invariant.3))
+    (taken_up_to owners page c.args.owner at.0 at.2, omega (arith, long, at.0), omega (arith, given_left owners page c.args.owner at.0 at.1, c.self.invariant.2), omega (arith, long, c.self.invariant.3), counted_more c.self.inside.held owners page c.args.owner c.self.told.1 (omega arith) at.0 c.self.invariant.4 (found_free owners page least).1)
