@@ -63,9 +63,11 @@ impl ReferencePool {
             return PoolReply::BadOwner;
         }
         let Some(page) = self.least_free() else {
+            self.full_below = self.owners.len();
             return PoolReply::NoPage;
         };
         if self.is_over(owner) {
+            self.full_below = page;
             return PoolReply::OverQuota;
         }
         self.owners[page] = Some(owner as u8);
