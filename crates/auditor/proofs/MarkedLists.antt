@@ -61,15 +61,6 @@ marked_put table list t lt absent h =
       marks = marks_written table list new t true lt h here there;
     }
 
--- the first one leaves
-pub marked_taken : (table : List Bool) (t : ℕ) (rest : List ℕ) → AreMarked table (t ∷ rest) → AreMarked (set table t false) rest
-marked_taken table t rest h =
-    let there : (u : ℕ) → u ≢ t → has u rest ≡ has u (t ∷ rest) = λ u n. ap (λ b. b || has u rest) (sym (apart t u n)) in
-    record {
-      distinct = still table t false rest h.distinct.2;
-      marks = marks_written table (t ∷ rest) rest t false h.distinct.0 h h.distinct.1 there;
-    }
-
 has_without : (t u : ℕ) (list : List ℕ) → u ≢ t → has u (without t list) ≡ has u list
 has_without t u [] n = refl
 has_without t u (x ∷ list) n =
