@@ -10,8 +10,8 @@ use page_pool::{OWNERS, PagePool, PoolCall, PoolParams, PoolReply};
 use std::alloc::Global;
 use std::marker::Model;
 
-/// The quota of each owner; the owner of each page, or none; how many pages each owner has, and how many have none; and a
-/// page below which every one has an owner.
+/// The quota of each owner; the owner of each page, or none; how many pages each owner has, and how many have no owner; and
+/// a page below which every one has an owner.
 #[derive(Drop)]
 pub struct ReferencePool {
     quotas: [u32; OWNERS],

@@ -10,9 +10,10 @@ use shared_queue::{QueueCall, QueueReply, ThreadQueue};
 use std::alloc::Global;
 use std::marker::Model;
 
-/// The waiting threads in a row between two gates, a table that says of each thread whether it waits, and how many do. The
-/// cell of each place names the place behind it, or the one before it. The front gate's place is the number of threads,
-/// and the back gate's is one more; so each thread stands between two places, and none is a case of its own.
+/// The waiting threads in a row between two gates, a table that says of each thread whether it waits, and how many do. Each
+/// place has a cell that names the place behind it, and one that names the place before it. The front gate's place is the
+/// number of threads, and the back gate's is one more. So each thread stands between two places, and the first and the
+/// last are no special cases.
 #[derive(Drop)]
 pub struct ReferenceQueue {
     next: Vec<u32>,
