@@ -1,10 +1,11 @@
 -- The least free page of a table, found by a walk that begins where none before is free.
-use Rattle.std.proofs.Common.{◌≡◌, ℕ, ◌+◌, ◌-◌, ◌<◌, nat_le, ◌≤◌, ◌==◌, true, false, cond, List, [], ◌∷◌, Option, None, Some, is_none, length, get_or, set, refl, sym, ap, ◌∙◌, subst, arith}
-use Rattle.std.proofs.lemmas.Bool.{lt-ltb, le-ltb, lt-leb}
+use Rattle.std.proofs.Common.{◌≡◌, ℕ, ◌+◌, ◌<◌, ◌≤◌, true, false, cond, ltb, List, Option, None, Some, is_none, length, get_or, set, refl, sym, ap, ◌∙◌, subst, arith}
+use Rattle.std.specs.List.{position_or_len}
+use Rattle.std.proofs.lemmas.Bool.{lt-ltb, le-ltb, ltb-false}
 use Rattle.std.proofs.lemmas.List.{get_or-set_same, get_or-set_other, length-set}
 use Rattle.std.proofs.lemmas.List.Quantifiers.{position-Some}
-use Rattle.std.proofs.lemmas.List.Sums.{position_or_len_is, sum_by-cons, sum_by-set, count_by-le-length}
-use Rattle.page_pool.specs.Table.{least_free, left_of, is_of, held_by}
+use Rattle.std.proofs.lemmas.List.Sums.{position_or_len_is, fails_before_first, sum_by-set, count_by-le-length}
+use Rattle.page_pool.specs.Table.{least_free, left_of}
 use Rattle.auditor.specs.Pages.{AreTakenBelow}
 use Rattle.auditor.proofs.MarkedLists.{same_or}
 
@@ -24,6 +25,15 @@ found_none owners n le below =
 -- the least free page is in the table, it is free, and every page below it has an owner
 pub least_at : (owners : List (Option ℕ)) (p : ℕ) → least_free owners ≡ Some p → (p < length owners) × (is_none (get_or owners p None) ≡ true) × AreTakenBelow p owners
 least_at owners p e = position-Some is_none owners p None e
+
+-- where none is free, every page has an owner
+none_before : (n len : ℕ) → cond (ltb n len) (Some n) None ≡ None → len ≤ n
+none_before n len e = elim (ltb n len) as (λ b. ltb n len ≡ b → cond b (Some n) None ≡ None → len ≤ n) [ true ↦ λ _ k. absurd (cc) | false ↦ λ t _. ltb-false n len t ] refl e
+
+pub all_taken : (owners : List (Option ℕ)) → least_free owners ≡ None → AreTakenBelow (length owners) owners
+all_taken owners e q l =
+    let past = none_before (position_or_len is_none owners) (length owners) e in
+    fails_before_first is_none owners q None (omega (arith, past, l))
 
 -- once it has one too, so has every page up to it
 pub taken_up_to : (owners : List (Option ℕ)) (p o : ℕ) → p < length owners → AreTakenBelow p owners → AreTakenBelow (p + 1) (set owners p (Some o))
@@ -53,20 +63,3 @@ released_left owners p o lt taken =
 pub some_taken : (owners : List (Option ℕ)) (p o : ℕ) → p < length owners → get_or owners p None ≡ Some o → left_of owners < length owners
 some_taken owners p o lt taken =
     omega (arith, released_left owners p o lt taken, count_by-le-length is_none (set owners p None), length-set owners p None)
-
--- an owner has no more pages than have one at all
-one_or_none : (entry : Option ℕ) (o : ℕ) → cond (is_of o entry) 1 0 + counts entry ≤ 1
-one_or_none None o = omega arith
-one_or_none (Some p) o = elim (p == o) as (λ b. cond b 1 0 + 0 ≤ 1) [ true ↦ omega arith | false ↦ omega arith ]
-
-held_within : (owners : List (Option ℕ)) (o : ℕ) → held_by owners o + left_of owners ≤ length owners
-held_within [] o = omega arith
-held_within (entry ∷ owners) o =
-    let held = sum_by-cons (λ e. cond (is_of o e) 1 0) entry owners in
-    let free = sum_by-cons counts entry owners in
-    let one = one_or_none entry o in
-    omega (arith, held, free, one, held_within owners o)
-
--- so it has fewer than a quota that is above their number
-pub below_quota : (owners : List (Option ℕ)) (o quota free : ℕ) → free ≡ left_of owners → length owners - free < quota → nat_le quota (held_by owners o) ≡ false
-below_quota owners o quota free same above = lt-leb quota (held_by owners o) (let most = held_within owners o in omega (arith, same, above, most))

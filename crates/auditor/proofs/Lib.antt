@@ -16,7 +16,9 @@ pub mod OneCpu
 pub mod RecordRuns
 pub mod HeldLists
 pub mod MarkedLists
+pub mod Rows
 pub mod FreePages
+pub mod CountedPages
 pub mod FaultNumbers
 pub mod Unrefused
 pub mod TextFaults

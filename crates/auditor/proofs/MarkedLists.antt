@@ -1,12 +1,12 @@
 -- How a table of marks follows its list.
-use Rattle.std.proofs.Common.{◌≡◌, ◌≢◌, ℕ, zero, suc, ◌<◌, ◌≤◌, ◌==◌, ◌||◌, Bool, true, false, not, cond, List, [], ◌∷◌, ◌++◌, length, get_or, set, replicate, refl, sym, ap, ◌∙◌, subst, arith}
+use Rattle.std.proofs.Common.{◌≡◌, ◌≢◌, ℕ, zero, suc, ◌<◌, ◌==◌, ◌||◌, Bool, true, false, not, cond, List, [], ◌∷◌, ◌++◌, length, get_or, set, replicate, refl, sym, ap, ◌∙◌, subst, arith}
 use Rattle.std.specs.List.Sorted.{IsPermutation}
 use Rattle.std.proofs.lemmas.Bool.Decides.{nat_tests}
 use Rattle.std.proofs.lemmas.List.{get_or-set_same, get_or-set_other, length-set}
 use Rattle.std.proofs.lemmas.List.Folds.{list_any-append}
 use Rattle.std.proofs.lemmas.List.Sorted.{list_any-IsPermutation}
 use Rattle.event_log.specs.Distinct.{has, without, AreDistinctBelow}
-use Rattle.event_log.proofs.Distinct.{distinct_push, distinct_filter, distinct_permuted, distinct_length, distinct_length_missing}
+use Rattle.event_log.proofs.Distinct.{distinct_push, distinct_filter, distinct_permuted, distinct_length_missing}
 use Rattle.auditor.specs.Marks.{AreMarked}
 
 -- a number is itself or it isn't
@@ -61,15 +61,6 @@ marked_put table list t lt absent h =
       marks = marks_written table list new t true lt h here there;
     }
 
--- the first one leaves
-pub marked_taken : (table : List Bool) (t : ℕ) (rest : List ℕ) → AreMarked table (t ∷ rest) → AreMarked (set table t false) rest
-marked_taken table t rest h =
-    let there : (u : ℕ) → u ≢ t → has u rest ≡ has u (t ∷ rest) = λ u n. ap (λ b. b || has u rest) (sym (apart t u n)) in
-    record {
-      distinct = still table t false rest h.distinct.2;
-      marks = marks_written table (t ∷ rest) rest t false h.distinct.0 h h.distinct.1 there;
-    }
-
 has_without : (t u : ℕ) (list : List ℕ) → u ≢ t → has u (without t list) ≡ has u list
 has_without t u [] n = refl
 has_without t u (x ∷ list) n =
@@ -102,10 +93,6 @@ marked_permuted table xs ys p h = record {
   marks = λ t. h.marks t ∙ list_any-IsPermutation (λ y. y == t) xs ys p;
 }
 
--- they are at most as many as the table is long
-pub marked_few : (table : List Bool) (list : List ℕ) → AreMarked table list → length list ≤ length table
-marked_few table list h = distinct_length (length table) list h.distinct
-
--- and fewer where one isn't there
+-- they are fewer than the table is long where one isn't there
 pub marked_fewer : (table : List Bool) (list : List ℕ) (t : ℕ) → t < length table → get_or table t false ≡ false → AreMarked table list → length list < length table
 marked_fewer table list t lt absent h = distinct_length_missing (length table) list t h.distinct lt (sym (h.marks t) ∙ absent)

@@ -1,9 +1,9 @@
 -- What is answered, by case.
-use Rattle.std.proofs.Common.{◌≡◌, ℕ, ◌<◌, nat_le, true, false, [], ◌∷◌, ◌++◌, length, refl, ap, arith}
+use Rattle.std.proofs.Common.{◌≡◌, ℕ, ◌<◌, nat_le, false, [], ◌∷◌, ◌++◌, length, refl, ap, arith}
 use Rattle.std.proofs.lemmas.Bool.Decides.{nat_tests}
-use Rattle.event_log.specs.Distinct.{has, without}
+use Rattle.event_log.specs.Distinct.{has}
 use Rattle.shared_queue.specs.State.{QueueState}
-use Rattle.shared_queue.specs.Answer.{enq_answer, remove_answer}
+use Rattle.shared_queue.specs.Answer.{enq_answer}
 use Rattle.shared_queue.specs.declared.call.QueueReply.TheVariants.{Ok}
 use Rattle.wake_list.specs.State.{SchedState}
 use Rattle.wake_list.specs.Answer.{sleepers, wake_answer, woken_answer}
@@ -13,11 +13,6 @@ pub enq_ok : (q : QueueState) (t : ℕ) → t < q.threads → has t q.list ≡ f
 enq_ok q t lt absent =
     let known : nat_le q.threads t ≡ false = grind (arith, nat_tests) in
     rw known (rw absent refl)
-
-pub remove_ok : (q : QueueState) (t : ℕ) → t < q.threads → has t q.list ≡ true → remove_answer q t ≡ (record q { list = without t q.list }, Ok)
-remove_ok q t lt there =
-    let known : nat_le q.threads t ≡ false = grind (arith, nat_tests) in
-    rw known (rw there refl)
 
 pub wake_none : (s : SchedState) (c : ℕ) → c < length s.channels → sleepers s c ≡ [] → wake_answer s c ≡ (s, Empty)
 wake_none s c lt e =

@@ -8,5 +8,6 @@ pub mod Logs
 pub mod Audits
 pub mod Marks
 pub mod Pages
+pub mod Row
 pub mod References
 pub mod VerdictText

@@ -10,12 +10,13 @@ use page_pool::{OWNERS, PagePool, PoolCall, PoolParams, PoolReply};
 use std::alloc::Global;
 use std::marker::Model;
 
-/// The quota of each owner; the owner of each page, or none; how many have none; and a page below which every one has an
-/// owner. How many pages an owner has is counted in the table.
+/// The quota of each owner; the owner of each page, or none; how many pages each owner has, and how many have no owner; and
+/// a page below which every one has an owner.
 #[derive(Drop)]
 pub struct ReferencePool {
     quotas: [u32; OWNERS],
     owners: Vec<Option<u8>>,
+    held: [u32; OWNERS],
     free: u32,
     full_below: usize,
 }
@@ -24,14 +25,14 @@ impl Model for ReferencePool {
     ghost use Rattle.std.specs.Prelude.{◌≡◌, ◌<◌, ◌≤◌, ◌^◌, length};
     ghost use Rattle.page_pool.specs.State.{PoolState};
     ghost use Rattle.page_pool.specs.Table.{left_of};
-    ghost use Rattle.auditor.specs.Pages.{AreTakenBelow};
+    ghost use Rattle.auditor.specs.Pages.{AreTakenBelow, AreCounted};
 
     ghost Value = { PoolState };
 
     ghost view = { λ s. record { pages = length s.owners.items; quotas = s.quotas; owners = s.owners.items } };
 
     ghost invariant = { λ s. AreTakenBelow s.full_below s.owners.items × (s.full_below ≤ length s.owners.items) ×
-        (s.free ≡ left_of s.owners.items) × (length s.owners.items < 2 ^ 32) };
+        (s.free ≡ left_of s.owners.items) × (length s.owners.items < 2 ^ 32) × AreCounted s.held s.owners.items };
 }
 
 impl ReferencePool {
@@ -47,22 +48,12 @@ impl ReferencePool {
         None
     }
 
-    /// How many pages the owner has.
-    fn held(&self, owner: u8) -> u32
-        ensures { result ≡ held_by self.now.owners owner }
-    {
-        let owned = self.owners.iter().filter(|other| **other == Some(owner));
-        owned.count() as u32
-    }
-
-    /// Whether the owner has as many pages as its quota. They are counted only where so many pages have an owner at all.
+    /// Whether the owner has as many pages as its quota.
     fn is_over(&self, owner: u32) -> bool
         requires { owner ≤ 15 }
         ensures { result ≡ nat_le (quota_of self.now.quotas owner) (held_by self.now.owners owner) }
     {
-        let quota = self.quotas[owner as usize];
-        let taken = self.owners.len() as u32 - self.free;
-        taken >= quota && self.held(owner as u8) >= quota
+        self.held[owner as usize] >= self.quotas[owner as usize]
     }
 
     fn give(&mut self, owner: u32) -> PoolReply
@@ -72,12 +63,15 @@ impl ReferencePool {
             return PoolReply::BadOwner;
         }
         let Some(page) = self.least_free() else {
+            self.full_below = self.owners.len();
             return PoolReply::NoPage;
         };
         if self.is_over(owner) {
+            self.full_below = page;
             return PoolReply::OverQuota;
         }
         self.owners[page] = Some(owner as u8);
+        self.held[owner as usize] += 1;
         self.free -= 1;
         self.full_below = page + 1;
         PoolReply::Page(page as u32)
@@ -97,6 +91,7 @@ impl ReferencePool {
             None => PoolReply::NotTaken,
             Some(other) if u32::from(other) == owner => {
                 self.owners[place] = None;
+                self.held[owner as usize] -= 1;
                 self.free += 1;
                 self.full_below = self.full_below.min(place);
                 PoolReply::Ok
@@ -120,6 +115,7 @@ impl ReferenceObject<PagePool> for ReferencePool {
         Ok(ReferencePool {
             quotas: params.quotas,
             owners,
+            held: [0; OWNERS],
             free: params.pages,
             full_below: 0,
         })

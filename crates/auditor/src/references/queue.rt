@@ -1,33 +1,38 @@
 //! A queue of threads, once more.
 
-ghost use Rattle.std.specs.Prelude.{◌≡◌, length};
+ghost use Rattle.std.specs.Prelude.{◌≡◌, true, length};
+ghost use Rattle.event_log.specs.Distinct.{has, without};
 ghost use Rattle.shared_queue.specs.Answer.{enq_answer, deq_answer, remove_answer};
 
 use crate::ReferenceObject;
 use event_log::OutOfMemory;
 use shared_queue::{QueueCall, QueueReply, ThreadQueue};
 use std::alloc::Global;
-use std::collections::VecDeque;
 use std::marker::Model;
 
-/// The waiting threads, the first in front, and a table that says of each thread whether it waits.
+/// The waiting threads in a row between two gates, a table that says of each thread whether it waits, and how many do. Each
+/// place has a cell that names the place behind it, and one that names the place before it. The front gate's place is the
+/// number of threads, and the back gate's is one more. So each thread stands between two places, and the first and the
+/// last are no special cases.
 #[derive(Drop)]
 pub struct ReferenceQueue {
-    waiting: VecDeque<u32>,
+    next: Vec<u32>,
+    previous: Vec<u32>,
     waits: Vec<bool>,
+    count: u32,
 }
 
 impl Model for ReferenceQueue {
-    ghost use Rattle.std.specs.Prelude.{◌<◌, ◌≤◌, ◌^◌, length};
-    ghost use Rattle.std.specs.VecDeque.{deque_capacity};
+    ghost use Rattle.std.specs.Prelude.{◌+◌, ◌<◌, ◌^◌, length};
     ghost use Rattle.shared_queue.specs.State.{QueueState};
-    ghost use Rattle.auditor.specs.Marks.{AreMarked};
+    ghost use Rattle.auditor.specs.Row.{row_of, IsRow};
 
     ghost Value = { QueueState };
 
-    ghost view = { λ q. record { threads = length q.waits.items; list = q.waiting.items } };
+    ghost view = { λ q. record { threads = length q.waits.items; list = row_of q.next.items (length q.waits.items) q.count } };
 
-    ghost invariant = { λ q. AreMarked q.waits.items q.waiting.items × (length q.waits.items ≤ deque_capacity q.waiting) × (length q.waits.items < 2 ^ 32) };
+    ghost invariant = { λ q. IsRow q.waits.items q.next.items q.previous.items (row_of q.next.items (length q.waits.items) q.count) ×
+        (length q.waits.items + 1 < 2 ^ 32) };
 }
 
 impl ReferenceQueue {
@@ -41,21 +46,26 @@ impl ReferenceQueue {
         if self.waits[place] {
             return QueueReply::Already;
         }
+        let back = self.waits.len() + 1;
+        let last = self.previous[back];
+        self.next[last as usize] = thread;
+        self.previous[place] = last;
+        self.next[place] = back as u32;
+        self.previous[back] = thread;
         self.waits[place] = true;
-        self.waiting.push_back_reserved(thread);
+        self.count += 1;
         QueueReply::Ok
     }
 
     fn deq(&mut self) -> QueueReply
         ensures { (self.new, result) ≡ deq_answer self.old }
     {
-        match self.waiting.pop_front() {
-            Some(thread) => {
-                self.waits[thread as usize] = false;
-                QueueReply::Thread(thread)
-            }
-            None => QueueReply::Empty,
+        if self.count == 0 {
+            return QueueReply::Empty;
         }
+        let first = self.next[self.waits.len()];
+        self.unlink(first);
+        QueueReply::Thread(first)
     }
 
     fn take_out(&mut self, thread: u32) -> QueueReply
@@ -68,15 +78,28 @@ impl ReferenceQueue {
         if !self.waits[place] {
             return QueueReply::Absent;
         }
-        self.waits[place] = false;
-        self.waiting.retain(|other| *other != thread);
+        self.unlink(thread);
         QueueReply::Ok
+    }
+
+    /// Links the place before a thread that waits and the place behind it.
+    fn unlink(&mut self, thread: u32)
+        requires { has thread self.old.list ≡ true }
+        ensures { self.new ≡ record self.old { list = without thread self.old.list } }
+    {
+        let place = thread as usize;
+        let before = self.previous[place];
+        let behind = self.next[place];
+        self.next[before as usize] = behind;
+        self.previous[behind as usize] = before;
+        self.waits[place] = false;
+        self.count -= 1;
     }
 
     fn count(&self) -> u32
         ensures { result ≡ length self.now.list }
     {
-        self.waiting.len() as u32
+        self.count
     }
 }
 
@@ -85,9 +108,17 @@ impl ReferenceObject<ThreadQueue> for ReferenceQueue {
 
     fn open(alloc: Global, params: &u32) -> Result<ReferenceQueue, OutOfMemory> {
         let threads = *params as usize;
-        let waiting = VecDeque::with_capacity(alloc, threads)?;
+        let mut next = vec![in alloc; 0; threads + 2]?;
+        let mut previous = vec![in alloc; 0; threads + 2]?;
+        next[threads] = *params + 1;
+        previous[threads + 1] = *params;
         let waits = vec![in alloc; false; threads]?;
-        Ok(ReferenceQueue { waiting, waits })
+        Ok(ReferenceQueue {
+            next,
+            previous,
+            waits,
+            count: 0,
+        })
     }
 
     fn apply(&mut self, call: &QueueCall) -> QueueReply {

@@ -1,8 +1,8 @@
-use Rattle.std.proofs.Common.{arith}
-use Rattle.auditor.proofs.MarkedLists.{marked_few}
+use Rattle.std.proofs.Common.{length, get_or, sym, ap, ◌∙◌}
+use Rattle.auditor.proofs.Rows.{length_walk}
 use Rattle.auditor.proofs.references.queue.ReferenceQueue.count.Goals as goal
 
-pub overflow_cast-result : goal.overflow_cast-result
-overflow_cast-result c =
+pub returns : goal.returns
+returns c =
     let q = c.self.inside in
-    omega (arith, marked_few q.waits.items q.waiting.items c.self.invariant.0, c.self.invariant.2, c.len.ensures, q.waiting.ok.0)
+    sym (length_walk q.next.items (get_or q.next.items (length q.waits.items) 0) q.count) ∙ ap (λ v. length v.list) c.self.view_is
