@@ -1,5 +1,5 @@
 -- What is read of the inputs of a command: settings, scripts, a schedule or a record, and why one is refused.
-use Rattle.std.specs.Prelude.{◌≡◌, ℕ, List, Option, Some, None}
+use Rattle.std.specs.Prelude.{ℕ, List, Option, Some}
 use Rattle.program.specs.Inputs.{Reads}
 use Rattle.program.specs.declared.refusal.Refusal.{Refusal}
 use Rattle.program.specs.declared.refusal.Refusal.TheVariants as refusal

@@ -5,6 +5,7 @@
 mod file_names;
 mod inputs;
 mod refusal;
+mod shell;
 mod system;
 mod texts;
 mod words;
@@ -12,6 +13,7 @@ mod words;
 pub use file_names::{BadName, file, wanted_file};
 pub use inputs::Inputs;
 pub use refusal::{Refusal, write_line};
+pub use shell::start;
 pub use system::System;
 pub use texts::{read_record, read_schedule, read_scripts, read_settings};
 pub use words::{WordsFault, words_given};

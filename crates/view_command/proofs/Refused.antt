@@ -1,8 +1,9 @@
 -- Why words are refused, by their causes.
-use Rattle.std.proofs.Common.{◌≡◌, ◌⊎◌, inl, inr, ℕ, List, Option, String, Global, Result, Ok, Err, IfErr, refl, sym, ◌∙◌, ap, subst, arith}
+use Rattle.std.proofs.Common.{◌≡◌, ◌⊎◌, ◌≤◌, inl, inr, ℕ, false, List, Option, String, Global, Result, Ok, Err, IfErr, refl, sym, ◌∙◌, ap, subst, arith}
 use Rattle.std.specs.Borrow.{Bor}
 use Rattle.std.specs.Result.{IsErrAnd}
 use Rattle.auditor.specs.declared.fault.Fault.{Fault as RecordFault}
+use Rattle.event_log.specs.Stream.{counted}
 use Rattle.program.specs.Inputs.{bytes_of}
 use Rattle.program.specs.declared.refusal.Refusal.{Refusal}
 use Rattle.program.specs.declared.refusal.Refusal.TheVariants as refusal
@@ -16,7 +17,7 @@ use Rattle.view_command.specs.declared.fault.Fault.{Fault}
 use Rattle.view_command.specs.declared.fault.Fault.TheVariants as fault
 use Rattle.view_command.specs.Answers.{FindsNoOrder, IsCommon, IsMemory, Refuses, RefusesBoth, RefusesLong, RefusesMade, RefusesSteps, RefusesTimeline, RefusesTo, RefusesTrace}
 use Rattle.view_command.specs.Asked.{AskedBy}
-use Rattle.view_command.specs.Faults.{of_draft, status_of}
+use Rattle.view_command.specs.Faults.{of_draft, status_of, tells_read_failed}
 use Rattle.view_command.specs.Sights.{HasFault, IsCycleOf, RefusesOrder}
 
 -- what holds of the cause's fault holds of the answer
@@ -114,3 +115,32 @@ not_written f status is e one = let e : status_of f ≡ 3 = ap status_of e in om
 pub not_made : (held : Option (List ℕ) → Option (List ℕ)) (settings scripts : List ℕ) (cause : DraftFault) → (cause ≡ draft.TooLong → RefusesLong held settings scripts) → RefusesMade held settings scripts (of_draft cause)
 not_made held settings scripts draft.OutOfMemory long = inr (inr refl)
 not_made held settings scripts draft.TooLong long = inr (inl (refl, long refl))
+
+-- why a record has no trace is no failed read
+pub no_read : {X : Type 0} (r : Record) (answer : Result X Fault) → IfErr answer (RefusesOrder r) → tells_read_failed answer ≡ false
+no_read r (Ok x) h = refl
+no_read r (Err (fault.Common refusal.OutOfMemory)) h = refl
+no_read r (Err (fault.Common (refusal.BadSettings bad))) h = refl
+no_read r (Err (fault.Common (refusal.BadScripts n))) h = refl
+no_read r (Err (fault.Common (refusal.BadSchedule n))) h = refl
+no_read r (Err (fault.Common (refusal.BadRecord n))) h = refl
+no_read r (Err (fault.Common refusal.ReadFailed)) h = absurd h
+no_read r (Err (fault.Common refusal.WriteFailed)) h = refl
+no_read r (Err (fault.Common refusal.BadWords)) h = refl
+no_read r (Err (fault.Unsound text)) h = refl
+no_read r (Err (fault.Cycle text)) h = refl
+no_read r (Err fault.TooLong) h = refl
+
+-- a status below 3 says that no read failed
+pub none_failed : (f : Fault) (status old new : ℕ) → status ≡ status_of f → new ≡ counted (tells_read_failed {X = ℕ} (Err f)) old → status ≤ 2 → new ≡ old
+none_failed (fault.Common refusal.OutOfMemory) status old new is count few = count
+none_failed (fault.Common (refusal.BadSettings bad)) status old new is count few = count
+none_failed (fault.Common (refusal.BadScripts n)) status old new is count few = count
+none_failed (fault.Common (refusal.BadSchedule n)) status old new is count few = count
+none_failed (fault.Common (refusal.BadRecord n)) status old new is count few = count
+none_failed (fault.Common refusal.ReadFailed) status old new is count few = absurd (omega (arith, is, few))
+none_failed (fault.Common refusal.WriteFailed) status old new is count few = count
+none_failed (fault.Common refusal.BadWords) status old new is count few = count
+none_failed (fault.Unsound text) status old new is count few = count
+none_failed (fault.Cycle text) status old new is count few = count
+none_failed fault.TooLong status old new is count few = count

@@ -2,7 +2,6 @@
 use Rattle.std.specs.Prelude.{◌≡◌, ◌⊎◌, ℕ, List, Option, Some, String, codes}
 use Rattle.std.specs.Borrow.{Bor}
 use Rattle.std.specs.Global.{Global}
-use Rattle.std.specs.Io.KnownBytes.{Appends}
 use Rattle.auditor.specs.declared.fault.Fault.{Fault as RecordFault}
 use Rattle.cpu_worker.specs.Simulation.{new_world}
 use Rattle.program.specs.Inputs.{bytes_of, Reads}
@@ -10,7 +9,6 @@ use Rattle.program.specs.Texts.{RefusesRecord, RefusesSchedule, RefusesScripts, 
 use Rattle.program.specs.declared.refusal.Refusal.{Refusal}
 use Rattle.program.specs.declared.refusal.Refusal.TheVariants as refusal
 use Rattle.scripts.specs.KernelTypes.{KernelTodo}
-use Rattle.scripts.specs.Output.{AppendsBeginning}
 use Rattle.scripts.specs.RecordRanges.{Record}
 use Rattle.scripts.specs.ScheduleText.{IsSchedule}
 use Rattle.scripts.specs.ScriptText.{AreScripts}
@@ -138,11 +136,3 @@ module _ (held : Option (List ℕ) → Option (List ℕ)) where
   -- the words ask for a trace, and the record has a fault or a cycle
   abbrev pub FindsNoOrder : List (String Global) → Type 0
   FindsNoOrder words = (name : Option (Bor (List ℕ))) × AskedBy words (forms.Trace name) × (of : Record) × SpellsRecordOf held (bytes_of name) of × (((cause : RecordFault) × HasFault of cause) ⊎ ((cycle : List Place) × IsCycleOf of cycle))
-
--- known contents grew by such a text
-abbrev pub Prints : (List ℕ → Type 0) → Option (List ℕ) → Option (List ℕ) → Type 0
-Prints Is old new = (text : List ℕ) × Is text × Appends old new text
-
--- known contents grew by a beginning of such a text
-abbrev pub PrintsSome : (List ℕ → Type 0) → Option (List ℕ) → Option (List ℕ) → Type 0
-PrintsSome Is old new = (text : List ℕ) × Is text × AppendsBeginning old new text

@@ -1,9 +1,11 @@
 //! What the program answers: the lines of steps, a schedule, a picture or a trace.
 
-ghost use Rattle.std.specs.Prelude.{codes, string_bytes, IfErr, IfOk};
+ghost use Rattle.std.specs.Prelude.{◌≡◌, codes, string_bytes, IfErr, IfOk};
+ghost use Rattle.event_log.specs.Stream.{counted};
 ghost use Rattle.program.specs.Inputs.{bytes_of};
 ghost use Rattle.view_command.specs.Answers.{AnswersSchedule, AnswersSteps, AnswersTimeline, AnswersTrace, RefusesMade, RefusesSteps, RefusesTimeline, RefusesTrace};
 ghost use Rattle.view_command.specs.Boxes.{AreBoxesOf};
+ghost use Rattle.view_command.specs.Faults.{tells_read_failed};
 ghost use Rattle.view_command.specs.Sights.{EndsIn, IsSightOf};
 
 use crate::boxes::{EntryBox, boxes_of};
@@ -32,6 +34,7 @@ pub fn steps_answer<I: Inputs>(
 ) -> Result<String, Fault>
     ensures answer { IfOk result (λ text. AnswersSteps (I.held inputs.old) form settings.now scripts.now schedule.now (string_bytes text)) }
     ensures refused { IfErr result (RefusesSteps (I.held inputs.old) settings.now scripts.now schedule.now) }
+    ensures failures { I.failed inputs.new ≡ counted (tells_read_failed result) (I.failed inputs.old) }
 {
     let settings = read_settings(alloc, inputs, settings)?;
     let scripts = read_scripts(alloc, inputs, Some(scripts), &settings)?;
@@ -50,6 +53,7 @@ pub fn schedule_answer<I: Inputs>(
 ) -> Result<String, Fault>
     ensures answer { IfOk result (λ text. AnswersSchedule (I.held inputs.old) turns settings.now scripts.now (string_bytes text)) }
     ensures refused { IfErr result (RefusesMade (I.held inputs.old) settings.now scripts.now) }
+    ensures failures { I.failed inputs.new ≡ counted (tells_read_failed result) (I.failed inputs.old) }
 {
     let settings = read_settings(alloc, inputs, settings)?;
     let scripts = read_scripts(alloc, inputs, Some(scripts), &settings)?;
@@ -85,6 +89,7 @@ pub fn timeline_answer<I: Inputs>(
 ) -> Result<(Sight, Series<EntryBox>, String), Fault>
     ensures answer { IfOk result (λ a. AnswersTimeline (I.held inputs.old) (bytes_of «record».entry) a.0 a.1 (string_bytes a.2)) }
     ensures refused { IfErr result (RefusesTimeline (I.held inputs.old) (bytes_of «record».entry)) }
+    ensures failures { I.failed inputs.new ≡ counted (tells_read_failed result) (I.failed inputs.old) }
 {
     let record = read_record(alloc, inputs, record)?;
     match pictured(alloc, &record) {
@@ -101,6 +106,7 @@ pub fn trace_answer<I: Inputs>(
 ) -> Result<String, Fault>
     ensures answer { IfOk result (λ text. AnswersTrace (I.held inputs.old) (bytes_of «record».entry) (string_bytes text)) }
     ensures refused { IfErr result (RefusesTrace (I.held inputs.old) (bytes_of «record».entry)) }
+    ensures failures { I.failed inputs.new ≡ counted (tells_read_failed result) (I.failed inputs.old) }
 {
     let record = read_record(alloc, inputs, record)?;
     traced(alloc, &record)

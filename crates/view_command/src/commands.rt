@@ -2,8 +2,9 @@
 
 ghost use Rattle.std.specs.Prelude.{◌≡◌, ◌⊎◌, ◌≤◌, true, OnOk, IfOk, IfErr, string_bytes};
 ghost use Rattle.event_log.specs.Stream.{counted};
-ghost use Rattle.view_command.specs.Answers.{Answers, AnswersTo, FindsNoOrder, Prints, PrintsSome, Refuses, RefusesTo, RefusesWith};
-ghost use Rattle.view_command.specs.Faults.{status_of};
+ghost use Rattle.program.specs.Printing.{Prints, PrintsSome};
+ghost use Rattle.view_command.specs.Answers.{Answers, AnswersTo, FindsNoOrder, Refuses, RefusesTo, RefusesWith};
+ghost use Rattle.view_command.specs.Faults.{status_of, tells_read_failed};
 
 use crate::answers::{schedule_answer, steps_answer, timeline_answer, trace_answer};
 use crate::arguments::{Arguments, Asked, read_words};
@@ -24,13 +25,14 @@ pub fn command<I: Inputs, W: Sink, F: Sink>(
     faults: &mut F,
 ) -> u8
     ensures done { result ≡ 0 → Prints (Answers (I.held inputs.old) words.now) (W.contents out.old) (W.contents out.new) }
-    ensures none_failed { result ≡ 0 → W.failed out.new ≡ W.failed out.old }
+    ensures none_failed { result ≤ 1 → W.failed out.new ≡ W.failed out.old }
     ensures no_line { result ≡ 0 → faults.new ≡ faults.old }
     ensures found { result ≡ 1 → (out.new ≡ out.old) × FindsNoOrder (I.held inputs.old) words.now }
     ensures nothing_written { result ≡ 2 → out.new ≡ out.old }
     ensures refused { result ≡ 2 → RefusesWith (I.held inputs.old) words.now 2 }
-    ensures failed { result ≡ 3 → (out.new ≡ out.old)
+    ensures failed { result ≡ 3 → ((out.new ≡ out.old) × RefusesWith (I.held inputs.old) words.now 3)
         ⊎ (PrintsSome (Answers (I.held inputs.old) words.now) (W.contents out.old) (W.contents out.new) × (W.failed out.new ≡ counted true (W.failed out.old))) }
+    ensures reads { result ≤ 2 → I.failed inputs.new ≡ I.failed inputs.old }
     ensures statuses { result ≤ 3 }
 {
     match perform(alloc, words, inputs, out) {
@@ -47,6 +49,7 @@ fn answer_to<I: Inputs>(
 ) -> Result<String, Fault>
     ensures answer { IfOk result (λ text. AnswersTo (I.held inputs.old) arguments.entry (string_bytes text)) }
     ensures refused { IfErr result (RefusesTo (I.held inputs.old) arguments.entry) }
+    ensures failures { I.failed inputs.new ≡ counted (tells_read_failed result) (I.failed inputs.old) }
 {
     match arguments {
         Arguments::Steps {
@@ -72,6 +75,7 @@ fn answer_to<I: Inputs>(
 fn answered<I: Inputs>(alloc: Global, words: &[String], inputs: &mut I) -> Result<String, Fault>
     ensures answer { IfOk result (λ text. Answers (I.held inputs.old) words.now (string_bytes text)) }
     ensures refused { IfErr result (Refuses (I.held inputs.old) words.now) }
+    ensures failures { I.failed inputs.new ≡ counted (tells_read_failed result) (I.failed inputs.old) }
 {
     match read_words(alloc, words) {
         Ok(Asked::Help(text)) => Ok(text),
@@ -89,6 +93,7 @@ fn perform<I: Inputs, W: Sink>(
 ) -> Result<(), Fault>
     ensures done { OnOk result (Prints (Answers (I.held inputs.old) words.now) (W.contents out.old) (W.contents out.new)) }
     ensures none_failed { OnOk result (W.failed out.new ≡ W.failed out.old) }
+    ensures failures { I.failed inputs.new ≡ counted (tells_read_failed result) (I.failed inputs.old) }
     ensures refused { IfErr result (λ f. (Refuses (I.held inputs.old) words.now f × (out.new ≡ out.old))
         ⊎ ((f ≡ Fault.Common Refusal.WriteFailed) × PrintsSome (Answers (I.held inputs.old) words.now) (W.contents out.old) (W.contents out.new) × (W.failed out.new ≡ counted true (W.failed out.old)))) }
 {
