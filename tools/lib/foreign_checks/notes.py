@@ -122,7 +122,7 @@ def check_notes(checks, program, folder):
         elif source == COST:
             checks.check(f"{name}, run", cost, folder / name)
         elif THREADS[-1] in command:
-            for fault in ("right", "unlocked", "early"):
-                checks.check(f"{name}, {fault}", races, [folder / name, fault, str(CPUS), str(SECTIONS)], fault != "right")
+            for fault in ("right", "unlocked"):
+                checks.check(f"{name}, {fault}", races, [folder / name, fault, str(CPUS), str(SECTIONS)], fault == "unlocked")
         else:
             check_example(checks, program, name, folder / name)
