@@ -136,7 +136,8 @@ static unsigned below(unsigned bound, uint64_t *seed) {
 }
 
 static struct work any_work(uint64_t *seed) {
-    static const unsigned words[NOTED_OBJECTS][4] = {{MC2_ENQ, MC2_DEQ, MC2_REMOVE, MC2_LEN}, {MC2_ALLOC, MC2_FREE, MC2_LEFT, MC2_ALLOC}};
+    static const unsigned words[NOTED_OBJECTS][4] = {{MC2_ENQ, MC2_DEQ, MC2_REMOVE, MC2_LEN},
+                                                     {MC2_ALLOC, MC2_FREE, MC2_LEFT, MC2_ALLOC}};
     struct work work = {.object = below(NOTED_OBJECTS, seed), .asked = 1 + below(MOST_ASKED, seed)};
     for (unsigned at = 0; at < work.asked; at++)
         work.steps[at].call = mc2_ask(words[work.object][below(4, seed)], below(THREADS + 1, seed), below(PAGES + 1, seed));

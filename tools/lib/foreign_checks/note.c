@@ -64,7 +64,8 @@ static bool take_piece(void *to, const char *bytes, size_t length) {
 }
 
 static int write_by(uint32_t events, mc2_take take, void *to) {
-    const struct mc2_object objects[] = {{"q", MC2_QUEUE, MC2_TICKET, events, 4, 0, NULL}, {"r", MC2_QUEUE, MC2_MCS, events, 4, 0, NULL}};
+    const struct mc2_object objects[] = {{"q", MC2_QUEUE, MC2_TICKET, events, 4, 0, NULL},
+                                         {"r", MC2_QUEUE, MC2_MCS, events, 4, 0, NULL}};
     struct mc2_turns *const each[] = {&turns[0], &turns[1]};
     struct mc2_noted noted = {objects, each, OBJECTS, notes, CPUS};
     return mc2_write_notes(&noted, take, to);
