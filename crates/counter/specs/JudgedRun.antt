@@ -1,5 +1,5 @@
 -- A run of one CPU that is judged: it counts once on a counter for 3, and then reads a value.
-use Rattle.std.specs.Prelude.{ℕ, List, [], ◌∷◌}
+use Rattle.std.specs.Prelude.{ℕ, [], ◌∷◌}
 use Rattle.event_log.specs.Log.{one_step}
 use Rattle.event_log.specs.declared.event.Event.{Event}
 use Rattle.event_log.specs.declared.entry.Done.TheVariants as done
