@@ -1,3 +1,4 @@
 pub mod State
 pub mod Answer
 pub mod Counting
+pub mod JudgedRun

@@ -7,6 +7,7 @@ ghost use Rattle.counter.specs.Counting.{ok_count};
 
 mod call;
 mod counter;
+mod judged;
 mod law;
 
 use CounterCall::{Increase, Read};
@@ -14,6 +15,7 @@ pub use call::{CounterCall, CounterReply};
 pub use counter::{BoundedCounter, MOST_COUNT};
 use event_log::Logged;
 use guarded_cell::{AnyCell, two_callers};
+pub use judged::{ReferenceCounter, verdict_on};
 pub use law::{counts_each_once, stays_within};
 use sound_run::LockKind;
 use std::alloc::Global;
@@ -59,6 +61,14 @@ fn main(rt: HostRuntime) -> ExitCode {
         };
         let (events, total) = (counter.log().len(), total_count(&counter));
         if println!(rt; "{kind:?}: {events} events, {total} counted").is_err() {
+            return ExitCode::FAILURE;
+        }
+    }
+    for read in [1, 2] {
+        let Ok(verdict) = verdict_on(rt.alloc(), read) else {
+            return ExitCode::FAILURE;
+        };
+        if println!(rt; "1 counted, {read} read: {verdict:?}").is_err() {
             return ExitCode::FAILURE;
         }
     }
