@@ -1,17 +1,13 @@
 -- What holds of an answer, and of a refusal.
-use Rattle.std.proofs.Common.{◌≡◌, ◌⊎◌, ◌≤◌, ℕ, Result, Ok, Err, List, Option, String, Global, string_bytes, inl, inr, refl, sym, ◌∙◌, subst, ap, arith}
-use Rattle.std.specs.Borrow.{Bor}
-use Rattle.std.specs.Result.{IsErrAnd}
+use Rattle.std.proofs.Common.{◌≡◌, ◌⊎◌, ◌≤◌, ℕ, Err, List, Option, String, Global, string_bytes, inl, inr, refl, sym, ◌∙◌, subst, ap, arith}
 use Rattle.auditor.specs.Faults.{IsFirstFault}
 use Rattle.auditor.specs.declared.fault.Fault.{Fault as RecordFault}
-use Rattle.cpu_worker.specs.declared.threads.RunFault.{RunFault}
-use Rattle.cpu_worker.specs.declared.threads.RunFault.TheVariants as run
 use Rattle.event_log.specs.Stream.{counted}
 use Rattle.log_merge.specs.MergedRecords.{HasCycle}
 use Rattle.log_merge.specs.declared.record_merge.MergeFault.{MergeFault}
 use Rattle.log_merge.specs.declared.record_merge.MergeFault.TheVariants as merging
-use Rattle.program.specs.Inputs.{bytes_of, says_read_failed}
-use Rattle.program.specs.Refusals as common
+use Rattle.program.specs.Inputs.{bytes_of}
+use Rattle.program.proofs.Refused as causes
 use Rattle.program.specs.Texts.{SpellsRecordOf}
 use Rattle.program.specs.declared.refusal.Refusal.{Refusal}
 use Rattle.program.specs.declared.refusal.Refusal.TheVariants as refusal
@@ -25,8 +21,8 @@ use Rattle.mc2_command.specs.declared.fault.Fault.{Fault}
 use Rattle.mc2_command.specs.declared.fault.Fault.TheVariants as fault
 use Rattle.mc2_command.specs.Answers.{AnswersFor, AnswersWith, FindsNoOrder, RefusesCycle, RefusesUnsound}
 use Rattle.mc2_command.specs.Asked.{Asks}
-use Rattle.mc2_command.specs.Faults.{of_refusal, of_run, status_of, tells_read_failed}
-use Rattle.mc2_command.specs.Refused.{IsCommon, IsMemory, IsNoOrder, Refuses, RefusesMerge, RefusesOrder, RefusesTo}
+use Rattle.mc2_command.specs.Faults.{status_of, tells_read_failed}
+use Rattle.mc2_command.specs.Refused.{IsNoOrder, Refuses, RefusesMerge, RefusesOrder, RefusesTo}
 
 -- a text that goes with what the words ask for goes with the words
 pub with_words : (held : Option (List ℕ) → Option (List ℕ)) (words : List (String Global)) (a : Arguments) (status : ℕ) (text : List ℕ)
@@ -50,18 +46,8 @@ no_order held name of (merging.Cycle c) f read unsound cycle (inr h) =
     subst (RefusesMerge held name) (sym h.1) (inr why)
 
 -- no refusal that programs share has status 1
-not_one : (cause : Refusal) → common.status_of cause ≡ 1 → ⊥
-not_one refusal.OutOfMemory one = omega arith
-not_one (refusal.BadSettings bad) one = omega arith
-not_one (refusal.BadScripts n) one = omega arith
-not_one (refusal.BadSchedule n) one = omega arith
-not_one (refusal.BadRecord n) one = omega arith
-not_one refusal.ReadFailed one = omega arith
-not_one refusal.WriteFailed one = omega arith
-not_one refusal.BadWords one = omega arith
-
 shared : (cause : Refusal) (f : Fault) → f ≡ fault.Common cause → status_of f ≡ 1 → ⊥
-shared cause f is one = not_one cause (sym (ap status_of is) ∙ one)
+shared cause f is one = causes.not_one cause (sym (ap status_of is) ∙ one)
 
 -- what is found of a record is its first fault or a cycle
 found : (held : Option (List ℕ) → Option (List ℕ)) (name : Option (List ℕ)) (f : Fault) → RefusesOrder held name f
@@ -104,14 +90,7 @@ no_write_two f status is failed two = let three : status_of f ≡ 3 = ap status_
 
 -- a status below 3 says that no read failed
 pub none_failed : (f : Fault) (status old new : ℕ) → status ≡ status_of f → new ≡ counted (tells_read_failed {X = ℕ} (Err f)) old → status ≤ 2 → new ≡ old
-none_failed (fault.Common refusal.OutOfMemory) status old new is count few = count
-none_failed (fault.Common (refusal.BadSettings bad)) status old new is count few = count
-none_failed (fault.Common (refusal.BadScripts n)) status old new is count few = count
-none_failed (fault.Common (refusal.BadSchedule n)) status old new is count few = count
-none_failed (fault.Common (refusal.BadRecord n)) status old new is count few = count
-none_failed (fault.Common refusal.ReadFailed) status old new is count few = absurd (omega (arith, is, few))
-none_failed (fault.Common refusal.WriteFailed) status old new is count few = count
-none_failed (fault.Common refusal.BadWords) status old new is count few = count
+none_failed (fault.Common cause) status old new is count few = causes.none_failed cause status old new is count few
 none_failed (fault.NoThreadStarted cpu) status old new is count few = count
 none_failed (fault.Unsound text) status old new is count few = count
 none_failed (fault.Cycle text) status old new is count few = count

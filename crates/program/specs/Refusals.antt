@@ -1,5 +1,5 @@
 -- Which refusal each cause becomes, and the status that a program ends with.
-use Rattle.std.specs.Prelude.{ℕ}
+use Rattle.std.specs.Prelude.{ℕ, Bool, true, false}
 use Rattle.event_log.specs.declared.object.OutOfMemory.{OutOfMemory}
 use Rattle.program.specs.declared.file_names.BadName.{BadName}
 use Rattle.program.specs.declared.refusal.Refusal.{Refusal}
@@ -59,3 +59,8 @@ status_of (refusal.BadRecord n) = 2
 status_of refusal.ReadFailed = 3
 status_of refusal.WriteFailed = 3
 status_of refusal.BadWords = 2
+
+-- the refusal says that an opening or a read failed
+abbrev pub tells_read_failed : Refusal → Bool
+tells_read_failed refusal.ReadFailed = true
+tells_read_failed _ = false

@@ -1,9 +1,9 @@
 -- Why words are refused, by their causes.
 use Rattle.std.proofs.Common.{◌≡◌, ◌⊎◌, ◌≤◌, inl, inr, ℕ, false, List, Option, String, Global, Result, Ok, Err, IfErr, refl, sym, ◌∙◌, ap, subst, arith}
 use Rattle.std.specs.Borrow.{Bor}
-use Rattle.std.specs.Result.{IsErrAnd}
 use Rattle.auditor.specs.declared.fault.Fault.{Fault as RecordFault}
 use Rattle.event_log.specs.Stream.{counted}
+use Rattle.program.proofs.Refused as causes
 use Rattle.program.specs.Inputs.{bytes_of}
 use Rattle.program.specs.declared.refusal.Refusal.{Refusal}
 use Rattle.program.specs.declared.refusal.Refusal.TheVariants as refusal
@@ -20,11 +20,6 @@ use Rattle.view_command.specs.Asked.{AskedBy}
 use Rattle.view_command.specs.Faults.{of_draft, status_of, tells_read_failed}
 use Rattle.view_command.specs.Sights.{HasFault, IsCycleOf, RefusesOrder}
 
--- what holds of the cause's fault holds of the answer
-pub refused : {X : Type 0} (P : Fault → Type 0) (r : Result X Fault) (f : Fault) → IsErrAnd r (λ h. h ≡ f) → P f → IfErr r P
-refused P (Ok x) f is h = absurd is
-refused P (Err g) f is h = subst P (sym is) h
-
 -- something was found of a record
 abbrev IsFound : Fault → Type 0
 IsFound (fault.Common cause) = ⊥
@@ -34,14 +29,7 @@ IsFound fault.TooLong = ⊥
 
 -- which status 1 says
 found_with : (f : Fault) → status_of f ≡ 1 → IsFound f
-found_with (fault.Common refusal.OutOfMemory) e = absurd (omega arith)
-found_with (fault.Common (refusal.BadSettings bad)) e = absurd (omega arith)
-found_with (fault.Common (refusal.BadScripts n)) e = absurd (omega arith)
-found_with (fault.Common (refusal.BadSchedule n)) e = absurd (omega arith)
-found_with (fault.Common (refusal.BadRecord n)) e = absurd (omega arith)
-found_with (fault.Common refusal.ReadFailed) e = absurd (omega arith)
-found_with (fault.Common refusal.WriteFailed) e = absurd (omega arith)
-found_with (fault.Common refusal.BadWords) e = absurd (omega arith)
+found_with (fault.Common cause) e = causes.not_one cause e
 found_with (fault.Unsound text) e = tt
 found_with (fault.Cycle text) e = tt
 found_with fault.TooLong e = absurd (omega arith)
@@ -133,14 +121,7 @@ no_read r (Err fault.TooLong) h = refl
 
 -- a status below 3 says that no read failed
 pub none_failed : (f : Fault) (status old new : ℕ) → status ≡ status_of f → new ≡ counted (tells_read_failed {X = ℕ} (Err f)) old → status ≤ 2 → new ≡ old
-none_failed (fault.Common refusal.OutOfMemory) status old new is count few = count
-none_failed (fault.Common (refusal.BadSettings bad)) status old new is count few = count
-none_failed (fault.Common (refusal.BadScripts n)) status old new is count few = count
-none_failed (fault.Common (refusal.BadSchedule n)) status old new is count few = count
-none_failed (fault.Common (refusal.BadRecord n)) status old new is count few = count
-none_failed (fault.Common refusal.ReadFailed) status old new is count few = absurd (omega (arith, is, few))
-none_failed (fault.Common refusal.WriteFailed) status old new is count few = count
-none_failed (fault.Common refusal.BadWords) status old new is count few = count
+none_failed (fault.Common cause) status old new is count few = causes.none_failed cause status old new is count few
 none_failed (fault.Unsound text) status old new is count few = count
 none_failed (fault.Cycle text) status old new is count few = count
 none_failed fault.TooLong status old new is count few = count

@@ -1,5 +1,5 @@
 -- Which refusal of the program each cause becomes, and the status that it ends with.
-use Rattle.std.specs.Prelude.{ℕ, Bool, true, false, Result, Ok, Err}
+use Rattle.std.specs.Prelude.{ℕ, Bool, false, Result, Ok, Err}
 use Rattle.event_log.specs.declared.object.OutOfMemory.{OutOfMemory}
 use Rattle.program.specs.declared.refusal.Refusal.{Refusal}
 use Rattle.program.specs.declared.refusal.Refusal.TheVariants as refusal
@@ -33,5 +33,5 @@ status_of fault.TooLong = 2
 -- the refusal says that an opening or a read failed
 abbrev pub tells_read_failed : {X : Type 0} → Result X Fault → Bool
 tells_read_failed (Ok x) = false
-tells_read_failed (Err (fault.Common refusal.ReadFailed)) = true
+tells_read_failed (Err (fault.Common cause)) = common.tells_read_failed cause
 tells_read_failed (Err _) = false

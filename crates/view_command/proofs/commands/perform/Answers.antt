@@ -1,5 +1,5 @@
 use Rattle.std.proofs.Common.{inl, refl}
-use Rattle.view_command.proofs.Refused.{refused}
+use Rattle.program.proofs.Refused.{refused}
 use Rattle.view_command.proofs.commands.perform.Goals as goal
 
 pub returns-in_err-text-clause-refused : goal.returns-in_err-text-clause-refused
