@@ -2,8 +2,8 @@
 use Rattle.std.specs.Prelude.{◌≡◌, ◌+◌, ◌-◌, ◌^◌, ◌==◌, ℕ, min, Bool, true, false, cond, List, Option, Some, Result, Ok, Err}
 use Rattle.std.specs.Borrow.{Bor}
 use Rattle.std.specs.Option.{option_map}
+use Rattle.program.specs.Refusals.{tells_read_failed}
 use Rattle.program.specs.declared.refusal.Refusal.{Refusal}
-use Rattle.program.specs.declared.refusal.Refusal.TheVariants as refusal
 
 -- the bytes of a name, if there is one
 abbrev pub bytes_of : Option (Bor (List ℕ)) → Option (List ℕ)
@@ -25,5 +25,4 @@ counted_all calls n = cond (calls == 0) n (min (n + calls) (2 ^ 64 - 1))
 -- the refusal says that an opening or a read failed
 abbrev pub says_read_failed : {X : Type 0} → Result X Refusal → Bool
 says_read_failed (Ok x) = false
-says_read_failed (Err refusal.ReadFailed) = true
-says_read_failed (Err _) = false
+says_read_failed (Err cause) = tells_read_failed cause

@@ -60,7 +60,7 @@ status_of refusal.ReadFailed = 3
 status_of refusal.WriteFailed = 3
 status_of refusal.BadWords = 2
 
--- the refusal says that an opening or a read failed
+-- the refusal reports that an opening or a read failed
 abbrev pub tells_read_failed : Refusal → Bool
 tells_read_failed refusal.ReadFailed = true
 tells_read_failed _ = false

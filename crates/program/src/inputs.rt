@@ -8,7 +8,8 @@ pub trait Inputs {
     ghost use Rattle.event_log.specs.Stream.{counted};
     ghost use Rattle.program.specs.Inputs.{bytes_of, counted_all, is_failed_opening};
 
-    type Input: Source + Drop;
+    /// It can't be dropped where only this trait is known, so each is closed, and a call on it that failed is counted.
+    type Input: Source;
 
     /// What the file of a name holds, or standard input, where that is known.
     ghost held: { Self → Option (List ℕ) → Option (List ℕ) } = { λ _ _. None };
