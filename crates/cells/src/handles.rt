@@ -1,7 +1,7 @@
 //! The calls that C has on a cell, and on a new handle.
 
-ghost use Rattle.std.specs.Prelude.{◌≡◌, ◌↔◌};
-ghost use Rattle.cells.specs.declared.codes.TheConstants.{BAD_OPENING};
+ghost use Rattle.std.specs.Prelude.{◌≡◌, ◌⊎◌, ◌↔◌};
+ghost use Rattle.cells.specs.declared.codes.TheConstants.{BAD_OPENING, DONE, NO_MEMORY};
 ghost use Rattle.cells.specs.Exports.{content_of};
 ghost use Rattle.cells.specs.CellContents.{IsBadOpening};
 ghost use Rattle.cells.specs.CellExports.{ReportsOpening, ReportsReopening, ReportsForgetting, ReportsNewCaller, ReportsReturn, ReportsClosing, ReportsFreeing, ReportsStep, owns_back};
@@ -49,7 +49,10 @@ fn drop_caller(caller: Caller<KernelObject>) {
 
 /// Makes a handle that has nothing, and writes its pointer.
 #[unsafe(no_mangle)]
-pub extern "C" fn mc2_handle_new(alloc: Global, own: &mut *mut u8) -> u32 {
+pub extern "C" fn mc2_handle_new(alloc: Global, own: &mut *mut u8) -> u32
+    ensures codes { (result ≡ DONE) ⊎ (result ≡ NO_MEMORY) }
+    ensures nothing { result ≡ NO_MEMORY → own.new ≡ own.old }
+{
     let slot = unsafe { ManuallyDrop::new_unchecked(HandleContent::Empty) };
     let Ok(block) = Box::new(alloc, slot) else {
         return NO_MEMORY;
