@@ -1,4 +1,4 @@
-// How callers of a cell wait, from C or C++: the loops of mc2_cells.h call what is here. It is the waiting of the locks in Rust
+// How callers of a cell wait, from C or C++: the loops of mc2_cells.h call what is here. It is how the locks wait in Rattle
 // (crates/word_rule/src/resting.rt). Nothing here is proved.
 //
 // A line in order of arrival gets on only as fast as each in it gets a processor. So there shouldn't be more in line than there
