@@ -61,21 +61,22 @@ pub fn line_behind(text: &[u8]) -> usize {
     ends.count().saturating_add(1)
 }
 
-/// Whether the record that stands at the front, if there is one, fits to what became of the whole text: then that is this
-/// record, or it is bad in the line behind it. If there is none, it is bad in the same line.
-pub fn front_agrees(alloc: Global, text: &[u8], whole: &Reading) -> Result<bool, Fault> {
-    let (record, count) = match Record::read_front(alloc, text) {
-        Ok(found) => found,
-        Err(fault) => {
-            let front = Reading::refused(fault)?;
-            return Ok(front.is_same(whole));
-        }
-    };
-    if count > text.len() {
-        return Ok(false);
+/// What is written of the record at the front, with the number of its bytes; or why there is none.
+fn front_of(alloc: Global, text: &[u8]) -> Result<Result<(Vec<u8>, usize), Reading>, Fault> {
+    match Record::read_front(alloc, text) {
+        Ok((record, count)) => Ok(Ok((written(alloc, &record)?, count))),
+        Err(fault) => Ok(Err(Reading::refused(fault)?)),
     }
-    let (front, behind) = text.split_at(count);
-    if written(alloc, &record)?.as_slice() != upgraded(alloc, front)?.as_slice() {
+}
+
+/// Whether this is written of the record at the front, and the whole text is that record or is bad in the line behind it.
+fn is_front(
+    alloc: Global,
+    written: &[u8],
+    (front, behind): (&[u8], &[u8]),
+    whole: &Reading,
+) -> Result<bool, Fault> {
+    if written != upgraded(alloc, front)?.as_slice() {
         return Ok(false);
     }
     Ok(match whole {
@@ -84,6 +85,18 @@ pub fn front_agrees(alloc: Global, text: &[u8], whole: &Reading) -> Result<bool,
             !behind.is_empty() && *refusal == Refusal::Line(line_behind(front))
         }
     })
+}
+
+/// Whether the record that stands at the front, if there is one, fits to what became of the whole text: then that is this
+/// record, or it is bad in the line behind it. If there is none, it is bad in the same line.
+pub fn front_agrees(alloc: Global, text: &[u8], whole: &Reading) -> Result<bool, Fault> {
+    match front_of(alloc, text)? {
+        Ok((written, count)) if count <= text.len() => {
+            is_front(alloc, written.as_slice(), text.split_at(count), whole)
+        }
+        Ok(_) => Ok(false),
+        Err(refused) => Ok(refused.is_same(whole)),
+    }
 }
 
 /// Whether this is what has to be written of the text's record, and is read as the same record.

@@ -46,9 +46,26 @@ fn worked_texts(rt: HostRuntime) -> Result<(), Fail> {
     Ok(())
 }
 
-/// What was read, by its text.
-fn read(alloc: Global, text: &str) -> Result<Reading, Fail> {
-    Ok(Reading::Read(text.as_bytes().to_vec(alloc)?))
+/// What a way to read a text reports: the text that it read, the bad line or word, or that a read failed.
+#[derive(Clone, Copy, Debug, Drop)]
+enum Told {
+    Text(&'static str),
+    Bad(usize),
+    Word(usize),
+    Failed,
+}
+
+use Told::{Bad, Failed, Text, Word};
+
+impl Told {
+    fn reading(self, alloc: Global) -> Result<Reading, Fail> {
+        match self {
+            Text(text) => Ok(Reading::Read(text.as_bytes().to_vec(alloc)?)),
+            Bad(line) => Ok(bad(line)),
+            Word(word) => Ok(Reading::Refused(Refusal::Word(word))),
+            Failed => Ok(Reading::Refused(Refusal::ReadFailed)),
+        }
+    }
 }
 
 /// Refused in that line.
@@ -56,71 +73,48 @@ fn bad(line: usize) -> Reading {
     Reading::Refused(Refusal::Line(line))
 }
 
-/// What each way reads, and which of them is told to disagree with the first.
+const PIECES: Option<Disagreement> = Some(Disagreement::Pieces);
+
+const FAILING: Option<Disagreement> = Some(Disagreement::Failing);
+
+/// What is read of the whole text, in pieces and from a stream, whether a call on the stream failed, and which way disagrees.
+static WAYS: [(Told, Told, Told, bool, Option<Disagreement>); 14] = [
+    (Text("a"), Text("a"), Text("a"), false, None),
+    (Text("a"), Text("b"), Text("a"), false, PIECES),
+    (Text("a"), Bad(1), Text("a"), false, PIECES),
+    (Text("a"), Text("a"), Text("ab"), false, FAILING),
+    (Text("a"), Text("a"), Text("a"), true, FAILING),
+    (Text("a"), Text("a"), Failed, true, None),
+    (Text("a"), Text("a"), Failed, false, FAILING),
+    (Bad(3), Bad(3), Bad(3), false, None),
+    (Bad(3), Bad(4), Bad(3), false, PIECES),
+    (Bad(3), Text("a"), Bad(3), false, PIECES),
+    (Bad(3), Word(3), Bad(3), false, PIECES),
+    (Bad(3), Bad(3), Bad(2), false, FAILING),
+    (Bad(3), Bad(3), Bad(3), true, FAILING),
+    (Bad(3), Bad(3), Failed, true, None),
+];
+
+/// Which way is found to disagree.
+fn found_in(
+    alloc: Global,
+    told: &(Told, Told, Told, bool, Option<Disagreement>),
+) -> Result<Option<Disagreement>, Fail> {
+    let readings = Readings {
+        whole: told.0.reading(alloc)?,
+        pieces: told.1.reading(alloc)?,
+        failing: told.2.reading(alloc)?,
+        has_failed: told.3,
+    };
+    Ok(difference(&readings))
+}
+
+/// What each way reads, and which of them is found to disagree with the first.
 #[test]
 fn wrong_pieces_and_streams(rt: HostRuntime) -> Result<(), Fail> {
-    let alloc = rt.alloc();
-    let failed = || Reading::Refused(Refusal::ReadFailed);
-    let (pieces, failing) = (Some(Disagreement::Pieces), Some(Disagreement::Failing));
-    for (whole, in_pieces, from_stream, has_failed, wanted) in [
-        (
-            read(alloc, "a")?,
-            read(alloc, "a")?,
-            read(alloc, "a")?,
-            false,
-            None,
-        ),
-        (
-            read(alloc, "a")?,
-            read(alloc, "b")?,
-            read(alloc, "a")?,
-            false,
-            pieces,
-        ),
-        (read(alloc, "a")?, bad(1), read(alloc, "a")?, false, pieces),
-        (
-            read(alloc, "a")?,
-            read(alloc, "a")?,
-            read(alloc, "ab")?,
-            false,
-            failing,
-        ),
-        (
-            read(alloc, "a")?,
-            read(alloc, "a")?,
-            read(alloc, "a")?,
-            true,
-            failing,
-        ),
-        (read(alloc, "a")?, read(alloc, "a")?, failed(), true, None),
-        (
-            read(alloc, "a")?,
-            read(alloc, "a")?,
-            failed(),
-            false,
-            failing,
-        ),
-        (bad(3), bad(3), bad(3), false, None),
-        (bad(3), bad(4), bad(3), false, pieces),
-        (bad(3), read(alloc, "a")?, bad(3), false, pieces),
-        (
-            bad(3),
-            Reading::Refused(Refusal::Word(3)),
-            bad(3),
-            false,
-            pieces,
-        ),
-        (bad(3), bad(3), bad(2), false, failing),
-        (bad(3), bad(3), bad(3), true, failing),
-        (bad(3), bad(3), failed(), true, None),
-    ] {
-        let readings = Readings {
-            whole,
-            pieces: in_pieces,
-            failing: from_stream,
-            has_failed,
-        };
-        assert_eq!(rt; difference(&readings), wanted, "{readings:?}");
+    for told in &WAYS {
+        let found = found_in(rt.alloc(), told)?;
+        assert_eq!(rt; found, told.4, "{told:?}");
     }
     Ok(())
 }
