@@ -37,12 +37,16 @@ fn fail_call<R: Abort>(
     sink: FailingSink,
 ) {
     let mut out = sink;
-    let done = written.write(text, &mut out);
-    let taken = out.taken.as_slice();
-    assert!(rt; text.starts_with(taken), "after {before} calls");
-    assert_eq!(rt; done.is_ok(), out.failed == 0, "after {before} calls");
-    assert_eq!(rt; done.is_ok(), taken == text, "after {before} calls");
-    assert!(rt; done.is_ok() || out.failed == 1, "after {before} calls");
+    let is_done = written.write(text, &mut out).is_ok();
+    let (taken, failed) = (out.taken.as_slice(), out.failed);
+    let is_right = text.starts_with(taken)
+        && is_done == (taken == text)
+        && failed == if is_done { 0 } else { 1 };
+    let count = taken.len();
+    assert!(rt;
+        is_right,
+        "after {before} calls: done {is_done}, {count} bytes taken, {failed} failed"
+    );
 }
 
 /// Has each call fail in turn, and none at last, of a sink that takes so many bytes a call.
@@ -78,24 +82,38 @@ fn byte_by_byte<R: Abort>(rt: &R, alloc: Global, written: &Written<'_>, text: &[
     }
 }
 
+/// Fails each call of sinks that take so many bytes a call.
+fn fail_sizes<R: Abort>(rt: &R, alloc: Global, written: &Written<'_>, text: &str, sizes: &[usize]) {
+    for most in sizes {
+        if *most == 1 {
+            byte_by_byte(rt, alloc, written, text.as_bytes());
+        }
+        fail_each_call(rt, alloc, written, text.as_bytes(), *most);
+    }
+}
+
+/// The text of a record alone, the record, and its entries in order.
+fn fail_all<R: Abort>(
+    rt: &R,
+    alloc: Global,
+    text: &str,
+    order: &str,
+    sizes: &[usize],
+) -> Result<(), Fail> {
+    fail_sizes(rt, alloc, &Written::Text, text, sizes);
+    let record = Record::read(alloc, text.as_bytes())?;
+    fail_sizes(rt, alloc, &Written::Record(&record), text, sizes);
+    let merged = merge(alloc, &record)?;
+    fail_sizes(rt, alloc, &Written::Merged(&record, &merged), order, sizes);
+    Ok(())
+}
+
 /// The entries of the worked record in order.
 const ORDER: &str = "0 q0 enq 3 = ok\n0 q0 deq = thread 3\n";
 
 #[test]
 fn the_worked_record(rt: HostRuntime) -> Result<(), Fail> {
-    let record = Record::read(rt.alloc(), IN_AND_OUT.as_bytes())?;
-    let merged = merge(rt.alloc(), &record)?;
-    for (written, text) in [
-        (Written::Text, IN_AND_OUT),
-        (Written::Record(&record), IN_AND_OUT),
-        (Written::Merged(&record, &merged), ORDER),
-    ] {
-        byte_by_byte(&rt, rt.alloc(), &written, text.as_bytes());
-        for most in [1, 7, 4096] {
-            fail_each_call(&rt, rt.alloc(), &written, text.as_bytes(), most);
-        }
-    }
-    Ok(())
+    fail_all(&rt, rt.alloc(), IN_AND_OUT, ORDER, &[1, 7, 4096])
 }
 
 /// The lines of so many entries, or events.
@@ -124,18 +142,13 @@ fn a_long_record(rt: HostRuntime) -> Result<(), Fail> {
     let text = long_record(rt.alloc(), 700)?;
     let mut order = String::new(rt.alloc());
     put_lines(&mut order, "0 q0 len = count 0\n", 700)?;
-    let record = Record::read(rt.alloc(), text.as_bytes())?;
-    let merged = merge(rt.alloc(), &record)?;
-    for (written, text) in [
-        (Written::Text, text.as_bytes()),
-        (Written::Record(&record), text.as_bytes()),
-        (Written::Merged(&record, &merged), order.as_bytes()),
-    ] {
-        for most in [500, 4095, 4096, 100_000] {
-            fail_each_call(&rt, rt.alloc(), &written, text, most);
-        }
-    }
-    Ok(())
+    fail_all(
+        &rt,
+        rt.alloc(),
+        text.as_str(),
+        order.as_str(),
+        &[500, 4095, 4096, 100_000],
+    )
 }
 
 /// Where there is nothing to write, no call is made.
