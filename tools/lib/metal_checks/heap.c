@@ -124,6 +124,22 @@ static void check_cells(void) {
     }
 }
 
+// No block is so large, not even where its size, with its head, is above SIZE_MAX. What was to grow stays as it was.
+static void check_largest(void) {
+    struct mc2_taken old = rattle_alloc(16, 16);
+    size_t before = taken();
+    CHECK(old.is_there);
+    memcpy(old.at, "0123456789abcdef", 16);
+    for (size_t less = 0; less <= 64; less++) {
+        struct mc2_taken none = rattle_alloc(SIZE_MAX - less, 16), same = rattle_alloc(0, SIZE_MAX - less);
+        CHECK(!none.is_there && none.at && !same.is_there && same.at);
+        CHECK(!rattle_realloc(old.at, 16, SIZE_MAX - less, 16).is_there);
+    }
+    CHECK(taken() == before && memcmp(old.at, "0123456789abcdef", 16) == 0);
+    rattle_dealloc(old.at);
+    check_free();
+}
+
 static void check_blocks(void) {
     struct mc2_taken none = rattle_alloc(0, 16), one = rattle_alloc(1, 1), large = rattle_alloc(ROOM, 16);
     CHECK(none.is_there && one.is_there && !large.is_there && large.at && none.at != one.at);
@@ -175,6 +191,7 @@ static void check_threads(void) {
 int main(void) {
     check_cells();
     check_blocks();
+    check_largest();
     check_threads();
     return 0;
 }
