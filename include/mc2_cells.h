@@ -50,9 +50,9 @@
 #include "mc2_record.h"
 #include "mc2_wait.h"
 
-// Stands around each call of the library in the functions below: of a single step, of a whole call, in an opening and in a freeing.
-// A kernel masks interrupts here, so that none comes within such a call. Any may come between two of them: while a caller waits,
-// and while it has the object by single steps, or has kept it behind a whole call.
+// Stands around each call of the library in the functions below: a single step, a whole call, and what opens and frees. A kernel
+// masks interrupts here, so that none comes within such a call. Any may come between two of them: while a caller waits, and
+// while it has the object by single steps, or has kept it behind a whole call.
 #ifndef MC2_STEP
 #define MC2_STEP(call) (call)
 #endif

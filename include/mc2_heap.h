@@ -32,8 +32,8 @@ static struct {
 #ifdef __cplusplus
 extern "C" {
 #endif
-// A block aligned to 16 bytes, of `align` bytes if the size is 0. What is in it is of no account. Any size may be asked for: there
-// is no block if none that is free is large enough.
+// A block aligned to 16 bytes, of `align` bytes if the size is 0. What is in it is of no account. Any size may be asked for:
+// there is no block if none that is free is large enough.
 struct mc2_taken rattle_alloc(size_t size, size_t align);
 void rattle_dealloc(void *at);
 // A block of that size, with the first `kept` bytes of the old one, which is gone then. If there is none, the old one stays.
