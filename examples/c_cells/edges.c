@@ -1,8 +1,9 @@
 /* use: edges ticket|mcs
 
-   Opens cells for 1, 2, 9 and 64 CPUs, opens wrongly in each way, asks for each thing where it doesn't fit, frees a caller that has
-   the object, and has memory refused in turn, for cells that are opened and for cells that go on. Prints how many answers it has
-   looked at. The heap of the library is the one below, which counts what is taken.
+   Opens cells for 1, 2, 9 and 64 CPUs, each of which has to find the object where nobody has it, by tries too. Opens wrongly in
+   each way, asks for each thing where it doesn't fit, frees a caller that has the object, and has memory refused in turn, for
+   cells that are opened and for cells that go on. Prints how many answers it has looked at. The heap of the library is the one
+   below, which counts what is taken.
 
    Status: 0; 1 if an answer is another than the header says, or if memory is lost; 2 for wrong words. */
 #include "mc2_cells.h"
