@@ -10,7 +10,7 @@ from libraries import build_library, kernel_toolchain
 CHECKS = ROOT / "tools/lib/metal_checks"
 NOTE_CALLS = ROOT / "tools/lib/foreign_checks/note_freestanding.c"
 # What hasn't ended by then never will, on however busy a machine.
-HEAP_SECONDS = 120
+SECONDS = 120
 INCLUDE = f"-I{ROOT / 'include'}"
 STRICT = ["-Wall", "-Wextra", "-pedantic", "-Werror", INCLUDE]
 HEADERS = ("mc2_record.h", "mc2_note.h", "mc2_wait.h", "mc2_cells.h", "mc2_judge.h")
@@ -76,6 +76,12 @@ def header_asks(source, folder, freestanding):
     return asks(folder / "header.o", {"memcpy", "memset"})
 
 
+def steps(folder):
+    run(["gcc", "-std=c11", "-D_DEFAULT_SOURCE", "-O1", *STRICT, "-o", folder / "step", CHECKS / "step.c"])
+    run([folder / "step"], timeout=SECONDS)
+    return "stands around each call of the library"
+
+
 def size(path):
     """The bytes of code, constants and variables that a program gets if it takes all of the library."""
     *_, total = run(["size", "-t", path], text=True).stdout.splitlines()
@@ -112,7 +118,7 @@ def cell_memory(line):
 def heap(folder, cells):
     how = ["-std=c11", "-D_DEFAULT_SOURCE", "-O1", "-g", *STRICT]
     run(["gcc", *how, "-o", folder / "heap", CHECKS / "heap.c", cells, "-pthread"])
-    said = run([folder / "heap"], text=True, timeout=HEAP_SECONDS).stdout.strip().splitlines()
+    said = run([folder / "heap"], text=True, timeout=SECONDS).stdout.strip().splitlines()
     for line in said:
         cell_memory(line)
     if len(said) != 2 * len(OBJECT_BYTES):
@@ -150,6 +156,7 @@ def check_headers(counts, folder):
     counts.check("headers freestanding", compile_headers, [*freestanding, "-x", "c"])
     counts.check("mc2_record.h freestanding", header_asks, CHECKS / "record.c", folder, freestanding)
     counts.check("mc2_note.h freestanding", header_asks, NOTE_CALLS, folder, freestanding)
+    counts.check("MC2_STEP of mc2_cells.h", steps, folder)
 
 
 def check_libraries(counts, folder):
