@@ -50,8 +50,9 @@
 #include "mc2_record.h"
 #include "mc2_wait.h"
 
-// Stands around each step of the library that the loops below do. A kernel masks interrupts here, so that none comes within a
-// step, and any may come between two steps, while a caller waits or has the object.
+// Stands around each call of the library in the functions below: a single step, a whole call, and what opens and frees. A kernel
+// masks interrupts here, so that none comes within such a call. Any may come between two of them: while a caller waits, and
+// while it has the object by single steps, or has kept it behind a whole call.
 #ifndef MC2_STEP
 #define MC2_STEP(call) (call)
 #endif
@@ -200,28 +201,28 @@ static inline uint32_t mc2_cell_open(struct mc2_cell *cell, const struct mc2_obj
         opening.quotas[owner] = object->quotas ? object->quotas[owner] : object->size;
     cell->own = NULL;
     cell->resting.word = 0;
-    uint32_t told = mc2_handle_new(&cell->own);
-    return told == MC2_CELL_DONE ? mc2_handle_open(cell, &opening) : told;
+    uint32_t told = MC2_STEP(mc2_handle_new(&cell->own));
+    return told == MC2_CELL_DONE ? MC2_STEP(mc2_handle_open(cell, &opening)) : told;
 }
 
 // Makes a caller of the greatest CPU of the cell that has none yet. It has to be freed as a cell has, after MC2_CELL_REFUSED too.
 static inline uint32_t mc2_caller_open(struct mc2_cell *cell, struct mc2_caller *caller) {
     caller->own = NULL;
     caller->resting = &cell->resting;
-    uint32_t told = mc2_handle_new(&caller->own);
-    return told == MC2_CELL_DONE ? mc2_handle_deal(cell, caller) : told;
+    uint32_t told = MC2_STEP(mc2_handle_new(&caller->own));
+    return told == MC2_CELL_DONE ? MC2_STEP(mc2_handle_deal(cell, caller)) : told;
 }
 
 // Gives the memory back: of a cell at any time, after which its callers are still right, but it can't be closed any more; of a
 // caller that is idle or has nothing.
 static inline uint32_t mc2_cell_free(struct mc2_cell *cell) {
     struct mc2_handle handle = {cell->own};
-    return mc2_handle_free(handle);
+    return MC2_STEP(mc2_handle_free(handle));
 }
 
 static inline uint32_t mc2_caller_free(struct mc2_caller *caller) {
     struct mc2_handle handle = {caller->own};
-    return mc2_handle_free(handle);
+    return MC2_STEP(mc2_handle_free(handle));
 }
 
 // Waits for the object, and counts the looks.

@@ -32,7 +32,8 @@ static struct {
 #ifdef __cplusplus
 extern "C" {
 #endif
-// A block aligned to 16 bytes, of `align` bytes if the size is 0. What is in it is of no account.
+// A block aligned to 16 bytes, of `align` bytes if the size is 0. What is in it is of no account. Any size may be asked for:
+// there is no block if none that is free is large enough.
 struct mc2_taken rattle_alloc(size_t size, size_t align);
 void rattle_dealloc(void *at);
 // A block of that size, with the first `kept` bytes of the old one, which is gone then. If there is none, the old one stays.
@@ -96,7 +97,11 @@ static inline size_t mc2_heap_free(size_t *blocks) {
 struct mc2_taken rattle_alloc(size_t size, size_t align) {
     struct mc2_taken taken = {false, &mc2_heap};
     struct mc2_block **link = &mc2_heap.first;
-    size_t wanted = ((size > 0 ? size : align) + sizeof **link + 15) / 16 * 16;
+    size_t asked = size > 0 ? size : align;
+    // With its head no block is so large.
+    if (asked > SIZE_MAX - sizeof **link - 15)
+        return taken;
+    size_t wanted = (asked + sizeof **link + 15) / 16 * 16;
     mc2_heap_lock();
     while (*link && (*link)->size < wanted)
         link = &(*link)->next;

@@ -1,8 +1,9 @@
 /* use: edges ticket|mcs
 
-   Opens cells for 1, 2, 9 and 64 CPUs, opens wrongly in each way, asks for each thing where it doesn't fit, frees a caller that has
-   the object, and has memory refused in turn, for cells that are opened and for cells that go on. Prints how many answers it has
-   looked at. The heap of the library is the one below, which counts what is taken.
+   Opens cells for 1, 2, 9 and 64 CPUs, each of which has to find the object where nobody has it, by tries too. Opens wrongly in
+   each way, asks for each thing where it doesn't fit, frees a caller that has the object, and has memory refused in turn, for
+   cells that are opened and for cells that go on. Prints how many answers it has looked at. The heap of the library is the one
+   below, which counts what is taken.
 
    Status: 0; 1 if an answer is another than the header says, or if memory is lost; 2 for wrong words. */
 #include "mc2_cells.h"
@@ -86,6 +87,19 @@ static void take_all_back(struct mc2_cell *cell, struct mc2_caller *callers, uin
 
 /* ---- a cell of so many CPUs, each of which calls */
 
+/* Nobody else has the object or is in line, so each caller finds it at once. Its calls are two events. */
+static void call_in_turn(struct mc2_caller *callers, uint32_t cpus) {
+    for (uint32_t at = 0; at < cpus; at++) {
+        struct mc2_call asked = mc2_ask(MC2_LEN, 0, 0);
+        struct mc2_reply reply = {77, 0};
+        must(mc2_caller_try(&callers[at]), MC2_CELL_FOUND, "a try where nobody has the object");
+        must(mc2_release(&callers[at]), MC2_CELL_LEFT, "releasing what a try has found");
+        must(call(&callers[at], MC2_ENQ, at), MC2_CELL_DONE, "a call");
+        must(mc2_cell_try_call(&callers[at], &asked, &reply), MC2_CELL_DONE, "a whole try where nobody has the object");
+        must_be(reply.word == MC2_COUNT, "its reply");
+    }
+}
+
 static void live(uint32_t events, uint32_t cpus) {
     struct mc2_cell_opening opening = opening_of(events, cpus);
     struct mc2_cell cell = new_cell();
@@ -98,17 +112,16 @@ static void live(uint32_t events, uint32_t cpus) {
     must(mc2_caller_open(&cell, &more), MC2_CELL_REFUSED, "a caller too many");
     must(mc2_caller_free(&more), MC2_CELL_DONE, "freeing what has nothing");
     must(mc2_handle_deal(&cell, &callers[0]), MC2_CELL_REFUSED, "a caller in place of another");
-    for (uint32_t at = 0; at < cpus; at++)
-        must(call(&callers[at], MC2_ENQ, at), MC2_CELL_DONE, "a call");
+    call_in_turn(callers, cpus);
     take_all_back(&cell, callers, cpus);
     must(mc2_cell_close(&cell), MC2_CELL_DONE, "closing");
     must(mc2_cell_close(&cell), MC2_CELL_REFUSED, "closing twice");
     struct mc2_logged_step step = {0};
-    for (uint32_t at = 0; events > 0 && at < cpus; at++) {
+    for (uint32_t at = 0; events > 0 && at < 2 * cpus; at++) {
         must(mc2_cell_step(&cell, at, 0, &step), MC2_CELL_DONE, "a step");
-        must_be(step.cpu == at && step.step.call.first == at, "the step of that CPU");
+        must_be(step.cpu == at / 2 && step.step.call.first == (at % 2 == 0 ? at / 2 : 0), "the step of that CPU");
     }
-    must(mc2_cell_step(&cell, events > 0 ? cpus : 0, 0, &step), MC2_CELL_NOT_THERE, "no step");
+    must(mc2_cell_step(&cell, events > 0 ? 2 * cpus : 0, 0, &step), MC2_CELL_NOT_THERE, "no step");
     must(mc2_cell_free(&cell), MC2_CELL_DONE, "freeing the cell");
     must_be(blocks == 0, "all memory is given back");
 }
@@ -352,7 +365,7 @@ int main(int count, char **words) {
     lock = strcmp(words[1], "mcs") == 0 ? MC2_MCS : MC2_TICKET;
     long refused = 0;
     for (int at = 0; at < 4; at++)
-        for (uint32_t events = 0; events <= 100; events += 100) {
+        for (uint32_t events = 0; events <= 200; events += 200) {
             live(events, cpus[at]);
             refused += refused_openings(events, cpus[at]);
             refused += refused_reopenings(events, cpus[at]);

@@ -201,6 +201,45 @@ static void end_all(size_t free_before) {
     say("# answers that can't be\n", wrong);
 }
 
+#ifdef STAND_IN
+static void say_whole_calls(void) {}
+#else
+// The most stack that a whole call, a batch and a try of such an object take, by a cell that keeps no log and is freed again.
+static size_t stack_of_whole_calls(struct mc2_object object) {
+    static struct mc2_cell cell;
+    static struct mc2_caller caller;
+    static struct mc2_batch batch = {MC2_MOST_CALLS, {{0, 0, 0}}};
+    static struct mc2_replies replies;
+    struct mc2_reply reply;
+    uint64_t looks;
+    object.events = 0;
+    must(mc2_cell_open(&cell, &object, 1) == MC2_CELL_DONE, "opening a cell without a log", object.kind);
+    must(mc2_caller_open(&cell, &caller) == MC2_CELL_DONE, "opening its caller", object.kind);
+    for (uint32_t at = 0; at < MC2_MOST_CALLS; at++)
+        batch.calls[at] = any_call(object.kind, 0);
+    stack_forget(0);
+    uint32_t called = mc2_cell_call(&caller, &batch.calls[0], &reply, &looks);
+    uint32_t tried = mc2_cell_try_call(&caller, &batch.calls[0], &reply);
+    uint32_t together = mc2_cell_batch(&caller, &batch, &replies, &looks);
+    size_t used = stack_used(0);
+    must(called == MC2_CELL_DONE && tried == called && together == called, "whole calls", object.kind);
+    must(mc2_caller_free(&caller) == MC2_CELL_DONE && mc2_cell_free(&cell) == MC2_CELL_DONE, "freeing them", object.kind);
+    return used;
+}
+
+// Says the most that they take with any object behind any lock. The calls that CPUs make later are single steps.
+static void say_whole_calls(void) {
+    size_t most = 0;
+    for (uint32_t at = 0; at < 2 * OBJECTS; at++) {
+        struct mc2_object object = objects[at / 2];
+        object.lock = at % 2;
+        size_t used = stack_of_whole_calls(object);
+        most = used > most ? used : most;
+    }
+    say("stack of whole calls: #\n", most);
+}
+#endif
+
 // What CPU 0 does before all others: the heap, the recorder, the cells.
 static size_t begin(void) {
     size_t blocks, size = mc2_memory_of(objects, OBJECTS, NUMBERS, ENTRIES);
@@ -212,6 +251,7 @@ static size_t begin(void) {
     stack_forget(0);
     open_all();
     say("stack of an opening: #\n", stack_used(0));
+    say_whole_calls();
     start_cpus();
     stack_forget(0);
     return free_before;

@@ -42,6 +42,7 @@ HOW_TO_GET = {
     "pkg-config": "on Debian `apt-get install pkgconf` installs it",
     "g++": "on Debian `apt-get install g++` installs it",
     "make": "on Debian `apt-get install make` installs it",
+    "qemu-system-x86_64": "on Debian `apt-get install qemu-system-x86` installs it",
     "rustc": "on Debian `apt-get install rustc` installs it, and rustup elsewhere",
     "valgrind": "on Debian `apt-get install valgrind` installs it",
 }

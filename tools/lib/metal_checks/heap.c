@@ -1,13 +1,13 @@
 // Checks include/mc2_heap.h, from which libcells.a takes its memory here. Memory is handed over 16 bytes at a time, and each time
 // a cell and its callers are opened: as long as there is too little that is refused, and all memory is free again. Then threads
-// take and give blocks at once. It prints how much memory a cell takes, by its object and its events.
+// take and give blocks at once. It prints how much memory a cell takes, by its object, its lock, its CPUs and its events.
 //
 // The status is 0, or 1 at the first check that fails, which a line on standard error names.
 #include "../../../include/mc2_cells.h"
 #include "../../../include/mc2_heap.h"
 #include <pthread.h>
 
-enum { CPUS = 2, ROOM = 1 << 20, THREADS = 4, ROUNDS = 20000, HELD = 16 };
+enum { ROOM = 1 << 20, THREADS = 4, ROUNDS = 20000, HELD = 16 };
 
 static _Alignas(16) char room[ROOM];
 static size_t handed;
@@ -47,27 +47,29 @@ static const struct mc2_object kinds[] = {
 
 struct opened {
     struct mc2_cell cell;
-    struct mc2_caller callers[CPUS];
+    struct mc2_caller callers[MC2_MOST_CPUS];
+    uint32_t cpus;
     size_t of_cell;
 };
 
 static uint32_t open_callers(struct opened *it) {
     uint32_t told = MC2_CELL_DONE;
-    for (uint32_t cpu = CPUS; cpu > 0 && told == MC2_CELL_DONE; cpu--)
+    for (uint32_t cpu = it->cpus; cpu > 0 && told == MC2_CELL_DONE; cpu--)
         told = mc2_caller_open(&it->cell, &it->callers[cpu - 1]);
     return told;
 }
 
 // Opens a cell and its callers. What it opened is to be freed, whatever it is told.
-static uint32_t open_all(struct opened *it, const struct mc2_object *object) {
+static uint32_t open_all(struct opened *it, const struct mc2_object *object, uint32_t cpus) {
     memset(it, 0, sizeof *it);
-    uint32_t told = mc2_cell_open(&it->cell, object, CPUS);
+    it->cpus = cpus;
+    uint32_t told = mc2_cell_open(&it->cell, object, cpus);
     it->of_cell = taken();
     return told == MC2_CELL_DONE ? open_callers(it) : told;
 }
 
 static void free_all(struct opened *it) {
-    for (uint32_t cpu = 0; cpu < CPUS; cpu++)
+    for (uint32_t cpu = 0; cpu < it->cpus; cpu++)
         if (it->callers[cpu].own)
             CHECK(mc2_caller_free(&it->callers[cpu]) == MC2_CELL_DONE);
     if (it->cell.own)
@@ -82,7 +84,7 @@ static unsigned check_exhaustion(const struct mc2_object *object) {
     handed = 0;
     memset(&mc2_heap, 0, sizeof mc2_heap);
     for (;; refused++) {
-        uint32_t told = open_all(&it, object);
+        uint32_t told = open_all(&it, object, 2);
         CHECK(told == MC2_CELL_DONE || told == MC2_CELL_NO_MEMORY);
         if (told == MC2_CELL_DONE)
             break;
@@ -99,12 +101,23 @@ static unsigned check_exhaustion(const struct mc2_object *object) {
 }
 
 // What the cell takes, and each of its callers.
-static size_t memory_of(const struct mc2_object *object, size_t *of_caller) {
+static size_t memory_of(struct mc2_object object, uint32_t events, uint32_t cpus, size_t *of_caller) {
     struct opened it;
-    CHECK(open_all(&it, object) == MC2_CELL_DONE);
-    *of_caller = (taken() - it.of_cell) / CPUS;
+    object.events = events;
+    CHECK(open_all(&it, &object, cpus) == MC2_CELL_DONE);
+    *of_caller = (taken() - it.of_cell + cpus - 1) / cpus;
     free_all(&it);
     return it.of_cell;
+}
+
+// Without a log, then of each of 1,000 events more, and of each caller.
+static void print_memory(const char *name, const struct mc2_object *object) {
+    size_t of_caller, of_one = memory_of(*object, 0, 1, &of_caller), of_two = memory_of(*object, 0, 2, &of_caller);
+    size_t few = memory_of(*object, 1, 2, &of_caller), many = memory_of(*object, 1001, 2, &of_caller);
+    size_t of_most = memory_of(*object, 0, MC2_MOST_CPUS, &of_caller);
+    printf("%s %s: bytes of 1, 2 and %d CPUs: %zu %zu %zu, of an event: %zu, of a caller: %zu", name,
+           object->lock == MC2_MCS ? "mcs" : "ticket", (int)MC2_MOST_CPUS, of_one, of_two, of_most, (many - few + 999) / 1000,
+           of_caller);
 }
 
 static void check_cells(void) {
@@ -114,14 +127,25 @@ static void check_cells(void) {
         object.lock = at % 2;
         unsigned refused = check_exhaustion(&object);
         hand_over(ROOM - handed);
-        size_t of_caller, kept = memory_of(&object, &of_caller);
-        object.events = 1001;
-        size_t more = memory_of(&object, &of_caller) - kept;
-        object.events = 0;
-        printf("%s %s: %zu bytes, %zu for each event, %zu for a caller, %zu without a log; refused %u times\n", names[at / 2],
-               object.lock == MC2_MCS ? "mcs" : "ticket", kept - more / 1000, more / 1000, of_caller,
-               memory_of(&object, &of_caller), refused);
+        print_memory(names[at / 2], &object);
+        printf("; refused %u times\n", refused);
     }
+}
+
+// No block is so large, not even where its size, with its head, is above SIZE_MAX. What was to grow stays as it was.
+static void check_largest(void) {
+    struct mc2_taken old = rattle_alloc(16, 16);
+    size_t before = taken();
+    CHECK(old.is_there);
+    memcpy(old.at, "0123456789abcdef", 16);
+    for (size_t less = 0; less <= 64; less++) {
+        struct mc2_taken none = rattle_alloc(SIZE_MAX - less, 16), same = rattle_alloc(0, SIZE_MAX - less);
+        CHECK(!none.is_there && none.at && !same.is_there && same.at);
+        CHECK(!rattle_realloc(old.at, 16, SIZE_MAX - less, 16).is_there);
+    }
+    CHECK(taken() == before && memcmp(old.at, "0123456789abcdef", 16) == 0);
+    rattle_dealloc(old.at);
+    check_free();
 }
 
 static void check_blocks(void) {
@@ -175,6 +199,7 @@ static void check_threads(void) {
 int main(void) {
     check_cells();
     check_blocks();
+    check_largest();
     check_threads();
     return 0;
 }

@@ -1,0 +1,93 @@
+// Checks that MC2_STEP stands around each call of the library in the inline functions of include/mc2_cells.h, and around one at a
+// time: then no interrupt that a kernel masks there comes within the library. In its place are the functions below. Each tells
+// what has the header's loops go on, and in the end what ends them.
+//
+// The status is 0, or 1 at the first check that fails, which a line on standard error names.
+static unsigned begin_step(void);
+static unsigned end_step(unsigned told);
+
+#define MC2_STEP(call) end_step((begin_step(), (call)))
+#include "../../../include/mc2_cells.h"
+
+static unsigned within, steps, calls;
+
+static unsigned begin_step(void) { return steps++, within++; }
+
+static unsigned end_step(unsigned told) { return within--, told; }
+
+static void must(bool is_so, const char *what) {
+    if (!is_so) {
+        fprintf(stderr, "step.c: not so: %s\n", what);
+        exit(1);
+    }
+}
+
+// The answer of a function of the library: at first LOOKED so often, and then that.
+static uint32_t answer(unsigned *looks, uint32_t told) {
+    calls++;
+    must(within == 1 && steps == calls, "one step is around each call of the library");
+    return *looks > 0 ? (--*looks, (uint32_t)MC2_CELL_LOOKED) : told;
+}
+
+static unsigned none, to_the_object, back, to_call, to_batch;
+
+uint32_t mc2_handle_new(void **own) { return *own = &calls, answer(&none, MC2_CELL_DONE); }
+
+uint32_t mc2_handle_free(struct mc2_handle handle) { return (void)handle, answer(&none, MC2_CELL_DONE); }
+
+uint32_t mc2_handle_open(struct mc2_cell *cell, const struct mc2_cell_opening *opening) {
+    return (void)cell, (void)opening, answer(&none, MC2_CELL_DONE);
+}
+
+uint32_t mc2_handle_deal(struct mc2_cell *cell, struct mc2_caller *caller) {
+    return (void)cell, (void)caller, answer(&none, MC2_CELL_DONE);
+}
+
+uint32_t mc2_caller_advance(struct mc2_caller *caller) { return (void)caller, answer(&to_the_object, MC2_CELL_FOUND); }
+
+uint32_t mc2_caller_leave(struct mc2_caller *caller) { return (void)caller, answer(&back, MC2_CELL_LEFT); }
+
+uint32_t mc2_caller_call(struct mc2_caller *caller, const struct mc2_call *call, struct mc2_reply *reply, uint64_t *looks) {
+    return (void)caller, (void)call, (void)reply, (void)looks, answer(&to_call, MC2_CELL_DONE_KEPT);
+}
+
+uint32_t mc2_caller_batch(struct mc2_caller *caller, const struct mc2_batch *batch, struct mc2_replies *replies, uint64_t *looks) {
+    return (void)caller, (void)batch, (void)replies, (void)looks, answer(&to_batch, MC2_CELL_DONE_KEPT);
+}
+
+uint32_t mc2_caller_try_call(struct mc2_caller *caller, const struct mc2_call *call, struct mc2_reply *reply) {
+    return (void)caller, (void)call, (void)reply, answer(&none, MC2_CELL_DONE_KEPT);
+}
+
+// So many calls of the library were made by then.
+static void made(unsigned count, const char *what) {
+    must(calls == count && within == 0, what);
+    calls = steps = 0;
+}
+
+int main(void) {
+    struct mc2_object object = {"q", MC2_QUEUE, MC2_MCS, 0, 8, 0, NULL};
+    struct mc2_cell cell;
+    struct mc2_caller caller;
+    struct mc2_call call = {0, 0, 0};
+    struct mc2_batch batch = {1, {{0, 0, 0}}};
+    struct mc2_reply reply;
+    struct mc2_replies replies;
+    uint64_t looks;
+    to_the_object = back = to_call = to_batch = 2;
+    must(mc2_cell_open(&cell, &object, 1) == MC2_CELL_DONE, "a cell");
+    made(2, "opening a cell is two calls");
+    must(mc2_caller_open(&cell, &caller) == MC2_CELL_DONE, "a caller");
+    made(2, "opening a caller is two calls");
+    must(mc2_acquire(&caller, &looks) == MC2_CELL_FOUND && mc2_release(&caller) == MC2_CELL_LEFT, "single steps");
+    made(6, "two looks in vain before each end of the steps");
+    must(mc2_cell_call(&caller, &call, &reply, &looks) == MC2_CELL_DONE, "a whole call");
+    made(4, "two looks in vain, the call, a step back");
+    must(mc2_cell_batch(&caller, &batch, &replies, &looks) == MC2_CELL_DONE, "a batch");
+    made(4, "two looks in vain, the batch, a step back");
+    must(mc2_cell_try_call(&caller, &call, &reply) == MC2_CELL_DONE, "a try");
+    made(2, "the try, a step back");
+    must(mc2_caller_free(&caller) == MC2_CELL_DONE && mc2_cell_free(&cell) == MC2_CELL_DONE, "freeing");
+    made(2, "each freeing is a call");
+    return 0;
+}
