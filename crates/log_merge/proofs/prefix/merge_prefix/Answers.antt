@@ -34,7 +34,8 @@ place_next-requires g c =
     let run = c.args.run.now in
     let i = c.loop-cpu.invariant in
     let cpu = c.in-Some.cpu in
-    let same = λ j. (sym c.as_mut_slice.ensures.value j, sym c.as_mut_slice-in-Some.ensures.value j) in
+    let same : (c.loop-cpu.at.items, c.loop-cpu.placed.items) ≡ (c.as_mut_slice.result.now, c.as_mut_slice-in-Some.result.now)
+    = λ j. (sym c.as_mut_slice.ensures.value j, sym c.as_mut_slice-in-Some.ensures.value j) in
     let flags : SaysWhoCanCome run c.as_mut_slice.result.now c.as_mut_slice-in-Some.result.now c.loop-cpu.flags = subst (λ (z : List ℕ × List ℕ). SaysWhoCanCome run z.0 z.1 c.loop-cpu.flags) same i.flags in
     let ready : IsReady run c.as_mut_slice.result.now c.as_mut_slice-in-Some.result.now = subst (λ (z : List ℕ × List ℕ). IsReady run z.0 z.1) same i.ready in
     let comes = (flags.right cpu).0 c.in-Some.ensures.0 in
