@@ -28,8 +28,8 @@ module _ (words : List ℕ) (number : ℕ) (fits : number < 64 * length words) w
       let bit : other % 64 < 64 = omega arith in
       let off : other % 64 ≢ number % 64 = λ e. apart (omega (arith, here, e)) in
       ap (λ i. bit_at (get_or (set words (number / 64) w) i 0) (other % 64)) here
-          ∙ (ap (λ v. bit_at v (other % 64)) (get_or-set_same words (number / 64) w 0 within)
-          ∙ (same (other % 64) bit off ∙ ap (λ i. bit_at (get_or words i 0) (other % 64)) (sym here))))
+      ∙ (ap (λ v. bit_at v (other % 64)) (get_or-set_same words (number / 64) w 0 within)
+      ∙ (same (other % 64) bit off ∙ ap (λ i. bit_at (get_or words i 0) (other % 64)) (sym here))))
       (λ away. ap (λ v. bit_at v (other % 64)) (get_or-set_other words (number / 64) (other / 64) w 0 away))
 
   other_has : (w : ℕ) → ((i : ℕ) → i < 64 → i ≢ number % 64 → bit_at w i ≡ bit_at (get_or words (number / 64) 0) i)

@@ -34,12 +34,7 @@ pub(crate) fn look<O: SeqObject>(
 }
 
 /// Looks at every CPU.
-fn look_at_all<O: SeqObject>(
-    run: &Run<O>,
-    at: &[usize],
-    placed: &[usize],
-    flags: &mut Flags,
-)
+fn look_at_all<O: SeqObject>(run: &Run<O>, at: &[usize], placed: &[usize], flags: &mut Flags)
     requires ready { IsReady run.now at.now placed.now }
     requires room { length at.now ≤ capacity flags.old }
     ensures room { capacity flags.new ≡ capacity flags.old }

@@ -12,7 +12,7 @@ use Rattle.log_merge.proofs.prefix.merge_prefix.Goals as goal
 pub flags_of-requires : goal.flags_of-requires
 flags_of-requires g c =
     ready_at_start c.args.run.now c.requires.matched c.requires.whole c.as_slice-3.result.now c.as_slice-4.result.now (length c.as_slice.result.now) (length c.as_slice-2.result.now)
-        (c.as_slice-3.ensures.value ∙ c.in_ok-at.ensures) (c.as_slice-4.ensures.value ∙ c.in_ok-placed.ensures) (ap length c.as_slice.ensures) (ap length c.as_slice-2.ensures)
+    (c.as_slice-3.ensures.value ∙ c.in_ok-at.ensures) (c.as_slice-4.ensures.value ∙ c.in_ok-placed.ensures) (ap length c.as_slice.ensures) (ap length c.as_slice-2.ensures)
 
 pub loop-cpu-init : goal.loop-cpu-init
 loop-cpu-init g c =

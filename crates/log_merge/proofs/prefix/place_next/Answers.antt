@@ -44,24 +44,24 @@ returns-in-NoRoom-clause-less g c =
 pub returns-in-Steps-clause-front : goal.returns-in-Steps-clause-front
 returns-in-Steps-clause-front g c =
     λ order front. done_next c.args.run.now c.args.at.now c.args.placed.now c.requires.ready c.requires.matched c.args.cpu c.requires.cpu c.requires.comes order front
-        c.in-Some.entry.now (sym c.in-Some.ensures) c.in-Steps.field-0 c.in-Steps.is
+    c.in-Some.entry.now (sym c.in-Some.ensures) c.in-Steps.field-0 c.in-Steps.is
 
 pub returns-in-NoRoom-clause-front : goal.returns-in-NoRoom-clause-front
 returns-in-NoRoom-clause-front g c =
     λ order front. full_next c.args.run.now c.args.at.now c.args.placed.now c.requires.ready c.requires.matched c.args.cpu c.requires.cpu c.requires.comes order front
-        c.in-Some.entry.now (sym c.in-Some.ensures) c.in-NoRoom.is
+    c.in-Some.entry.now (sym c.in-Some.ensures) c.in-NoRoom.is
 
 pub look-requires-clause-ready : goal.look-requires-clause-ready
 look-requires-clause-ready g c =
     let front = c.requires.front in
     done_ready c.args.run.now c.args.at.now c.args.placed.now c.requires.ready c.requires.matched c.args.cpu c.requires.cpu c.requires.comes front.0 front.1
-        c.in-Some.entry.now (sym c.in-Some.ensures) c.requires.whole c.in-Steps.field-0 c.in-Steps.is
+    c.in-Some.entry.now (sym c.in-Some.ensures) c.requires.whole c.in-Steps.field-0 c.in-Steps.is
 
 pub look_behind-requires-clause-ready : goal.look_behind-requires-clause-ready
 look_behind-requires-clause-ready g c =
     let front = c.requires.front in
     done_ready c.args.run.now c.args.at.now c.args.placed.now c.requires.ready c.requires.matched c.args.cpu c.requires.cpu c.requires.comes front.0 front.1
-        c.in-Some.entry.now (sym c.in-Some.ensures) c.requires.whole c.in-Steps.field-0 c.in-Steps.is
+    c.in-Some.entry.now (sym c.in-Some.ensures) c.requires.whole c.in-Steps.field-0 c.in-Steps.is
 
 pub look_behind-requires-clause-others : goal.look_behind-requires-clause-others
 look_behind-requires-clause-others g c =
@@ -73,15 +73,15 @@ look_behind-requires-clause-others g c =
     let entry = c.in-Some.entry.now in
     let k = get_or placed entry.object 0 + 1 in
     λ other asleep. dite (ℕ_discrete other cpu)
-        (λ here. subst (λ (i : ℕ). IsRight run (set at cpu n) (set placed entry.object k) c.look.new.flags i) (sym here) c.look.ensures.right)
-        (λ off. right_still run at placed (set at cpu n) (set placed entry.object k) c.args.flags.now c.look.new.flags other (c.requires.flags.right other) (c.look.ensures.others other off)
-            (others_after_done run at placed cpu n c.requires.comes entry (sym c.in-Some.ensures) c.in-Steps.field-0 c.in-Steps.is k other off asleep))
+    (λ here. subst (λ (i : ℕ). IsRight run (set at cpu n) (set placed entry.object k) c.look.new.flags i) (sym here) c.look.ensures.right)
+    (λ off. right_still run at placed (set at cpu n) (set placed entry.object k) c.args.flags.now c.look.new.flags other (c.requires.flags.right other) (c.look.ensures.others other off)
+    (others_after_done run at placed cpu n c.requires.comes entry (sym c.in-Some.ensures) c.in-Steps.field-0 c.in-Steps.is k other off asleep))
 
-pub look-in-NoRoom-requires-clause-ready : goal.look-in-NoRoom-requires-clause-ready
-look-in-NoRoom-requires-clause-ready g c =
+pub look-requires-in-NoRoom-clause-ready : goal.look-requires-in-NoRoom-clause-ready
+look-requires-in-NoRoom-clause-ready g c =
     let front = c.requires.front in
     full_ready c.args.run.now c.args.at.now c.args.placed.now c.requires.ready c.requires.matched c.args.cpu c.requires.cpu c.requires.comes front.0 front.1
-        c.in-Some.entry.now (sym c.in-Some.ensures) c.requires.whole c.in-NoRoom.is
+    c.in-Some.entry.now (sym c.in-Some.ensures) c.requires.whole c.in-NoRoom.is
 
 pub returns-in-NoRoom-clause-flags : goal.returns-in-NoRoom-clause-flags
 returns-in-NoRoom-clause-flags g c =

@@ -13,7 +13,7 @@ returns-then-word-ne0 c =
     let fits = c.type_inv.words i in
     let some : 0 < w = omega (arith, ne) in
     subst (λ (l : List ℕ). HasFlag l (64 * i + trailing_zeros w64 w) × ((number : ℕ) → number < 64 * i + trailing_zeros w64 w → HasFlag l number → ⊥)) (c.as_slice-words.ensures.value ∙ c.self.view_is)
-        (least_flag words i c.loop-i.invariant w refl some (omega (arith, fits)))
+    (least_flag words i c.loop-i.invariant w refl some (omega (arith, fits)))
 
 pub returns : goal.returns
 returns c =
