@@ -4,7 +4,7 @@ pub mod Exclusion
 pub mod Prefixes
 pub mod Stuck
 pub mod Placing
-pub mod Flags
+pub mod Flagged
 pub mod Waking
 pub mod NotSelf
 pub mod Rotations

@@ -1,7 +1,7 @@
 use Rattle.std.proofs.Common.{◌≡◌, ◌<◌, ◌+◌, ◌*◌, ℕ, List, length, w64, get_or, refl, ◌∙◌, subst, arith}
 use Rattle.std.specs.Int.{trailing_zeros}
 use Rattle.log_merge.specs.Flags.{HasFlag}
-use Rattle.log_merge.proofs.Flags.{least_flag, none_set}
+use Rattle.log_merge.proofs.Flagged.{least_flag, none_set}
 use Rattle.log_merge.proofs.flags.Flags.least.Goals as goal
 
 pub returns-then-word-ne0 : goal.returns-then-word-ne0
