@@ -29,8 +29,8 @@ loop-cpu-init g c =
       flags = subst (λ (z : List ℕ × List ℕ). SaysWhoCanCome run z.0 z.1 c.in_ok-flags.flags) (λ j. (c.as_slice-3.ensures.value j, c.as_slice-4.ensures.value j)) c.in_ok-flags.ensures;
     }
 
-pub place_next-requires : goal.place_next-requires
-place_next-requires g c =
+pub place_next-place-requires : goal.place_next-place-requires
+place_next-place-requires g c =
     let run = c.args.run.now in
     let i = c.loop-cpu.invariant in
     let cpu = c.in-Some.cpu in

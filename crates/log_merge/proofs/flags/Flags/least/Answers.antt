@@ -10,7 +10,7 @@ returns-then-word-ne0 c =
     let i = c.loop-i.i in
     let w = get_or words i 0 in
     let ne = c.if-word-ne0.true in
-    let fits = c.type_inv.words i in
+    let fits = c.as_slice-words.type_inv i in
     let some : 0 < w = omega (arith, ne) in
     subst (λ (l : List ℕ). HasFlag l (64 * i + trailing_zeros w64 w) × ((number : ℕ) → number < 64 * i + trailing_zeros w64 w → HasFlag l number → ⊥)) (c.as_slice-words.ensures.value ∙ c.self.view_is)
     (least_flag words i c.loop-i.invariant w refl some (omega (arith, fits)))
