@@ -1,4 +1,4 @@
-use Rattle.std.proofs.Common.{◌≡◌, ◌<◌, ◌+◌, ◌*◌, ℕ, List, length, w64, get_or, refl, ◌∙◌, subst, arith}
+use Rattle.std.proofs.Common.{rules, ◌≡◌, ◌<◌, ◌+◌, ◌*◌, ℕ, List, length, w64, get_or, refl, ◌∙◌, subst, arith}
 use Rattle.std.specs.Int.{trailing_zeros}
 use Rattle.log_merge.specs.Flags.{HasFlag}
 use Rattle.log_merge.proofs.Flagged.{least_flag, none_set}
@@ -10,10 +10,10 @@ returns-then-word-ne0 c =
     let i = c.loop-i.i in
     let w = get_or words i 0 in
     let ne = c.if-word-ne0.true in
-    let fits = c.as_slice-words.type_inv i in
+    let fits : w < 18446744073709551616 = search rules in
     let some : 0 < w = omega (arith, ne) in
     subst (λ (l : List ℕ). HasFlag l (64 * i + trailing_zeros w64 w) × ((number : ℕ) → number < 64 * i + trailing_zeros w64 w → HasFlag l number → ⊥)) (c.as_slice-words.ensures.value ∙ c.self.view_is)
-    (least_flag words i c.loop-i.invariant w refl some (omega (arith, fits)))
+    (least_flag words i c.loop-i.invariant w refl some fits)
 
 pub returns : goal.returns
 returns c =
