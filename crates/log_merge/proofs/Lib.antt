@@ -4,6 +4,8 @@ pub mod Exclusion
 pub mod Prefixes
 pub mod Stuck
 pub mod Placing
+pub mod Flagged
+pub mod Waking
 pub mod NotSelf
 pub mod Rotations
 pub mod Leasts

@@ -2,7 +2,6 @@
 
 ghost use Rattle.std.specs.Prelude.{◌≡◌, ◌<◌, ◌≤◌, ℕ, length, slice_index, MatchOption};
 ghost use Rattle.log_merge.specs.FoundCycles.{IsLeastLeft};
-ghost use Rattle.log_merge.specs.Prefixes.{CanCome};
 ghost use Rattle.log_merge.specs.Nexts.{IsNext, IsReady};
 ghost use Rattle.sound_run.specs.Sound.{transcript_of};
 
@@ -48,25 +47,6 @@ pub(crate) fn next_of<O: SeqObject>(
         }
         Done::NoRoom => Next::Waits(by),
     }
-}
-
-/// The least CPU whose next entry can come.
-pub(crate) fn first_ready<O: SeqObject>(
-    run: &Run<O>,
-    at: &[usize],
-    placed: &[usize],
-) -> Option<usize>
-    requires { IsReady run.now at.now placed.now }
-    ensures { MatchOption result ((cpu : ℕ) → CanCome run.now (slice_index at.now) (slice_index placed.now) cpu → ⊥)
-        (λ c. (c < length at.now) × CanCome run.now (slice_index at.now) (slice_index placed.now) c ×
-        ((cpu : ℕ) → cpu < c → CanCome run.now (slice_index at.now) (slice_index placed.now) cpu → ⊥)) }
-{
-    for cpu in 0..at.len() {
-        if let Next::Comes = next_of(run, at, placed, cpu) {
-            return Some(cpu);
-        }
-    }
-    None
 }
 
 /// The least CPU that has entries left.

@@ -4,9 +4,11 @@ ghost use Rattle.std.specs.Prelude.{◌≡◌, ◌<◌, ◌++◌, ◌∷◌, [],
 ghost use Rattle.log_merge.specs.Prefixes.{IsMatched, IsPrefix, CanCome};
 ghost use Rattle.log_merge.specs.Least.{TakesTheLeast};
 ghost use Rattle.log_merge.specs.Nexts.{IsReady, IsWhole, left_in, IsStuck};
+ghost use Rattle.log_merge.specs.WhoCanCome.{SaysWhoCanCome};
 
+use crate::flags::Flags;
 use crate::look_up::entry_at;
-use crate::next::first_ready;
+use crate::looks::{flags_of, look, look_behind};
 use event_log::{Done, OutOfMemory, Run, SeqObject};
 use sound_run::Place;
 use std::alloc::Global;
@@ -26,14 +28,17 @@ fn zeros(alloc: Global, count: usize) -> Result<Vec<usize>, OutOfMemory>
     Ok(vec![in alloc; 0; count]?)
 }
 
-/// Places the CPU's next entry, which can come.
+/// Places the CPU's next entry, which can come, and looks at all that can come or not since.
 fn place_next<O: SeqObject>(
     run: &Run<O>,
     at: &mut [usize],
     placed: &mut [usize],
+    flags: &mut Flags,
     cpu: usize,
 ) -> Place
     requires ready { IsReady run.now at.old placed.old }
+    requires front { (order : List Place) × IsPrefix run.now order at.old placed.old }
+    requires flags { SaysWhoCanCome run.now at.old placed.old flags.old }
     requires cpu { cpu < length at.old }
     requires comes { CanCome run.now (slice_index at.old) (slice_index placed.old) cpu }
     requires matched { IsMatched run.now }
@@ -42,6 +47,7 @@ fn place_next<O: SeqObject>(
     ensures cpus { length at.new ≡ length at.old }
     ensures logs { length placed.new ≡ length placed.old }
     ensures front { (order : List Place) → IsPrefix run.now order at.old placed.old → IsPrefix run.now (order ++ result ∷ []) at.new placed.new }
+    ensures flags { SaysWhoCanCome run.now at.new placed.new flags.new }
     ensures less { left_in run.now.transcripts at.new < left_in run.now.transcripts at.old }
 {
     let n = at[cpu];
@@ -54,8 +60,10 @@ fn place_next<O: SeqObject>(
             let object = entry.object as usize;
             let k = placed[object];
             placed[object] = k + 1;
+            look(run, at, placed, flags, cpu);
+            look_behind(run, at, placed, flags, object);
         }
-        Done::NoRoom => {}
+        Done::NoRoom => look(run, at, placed, flags, cpu),
     }
     Place { cpu, entry: n }
 }
@@ -69,9 +77,16 @@ pub(crate) fn merge_prefix<O: SeqObject>(alloc: Global, run: &Run<O>) -> Result<
 {
     let mut at = zeros(alloc, run.transcripts.as_slice().len())?;
     let mut placed = zeros(alloc, run.logs.as_slice().len())?;
+    let mut flags = flags_of(alloc, run, at.as_slice(), placed.as_slice())?;
     let mut places = Vec::new(alloc);
-    while let Some(cpu) = first_ready(run, at.as_slice(), placed.as_slice()) {
-        let place = place_next(run, at.as_mut_slice(), placed.as_mut_slice(), cpu);
+    while let Some(cpu) = flags.least() {
+        let place = place_next(
+            run,
+            at.as_mut_slice(),
+            placed.as_mut_slice(),
+            &mut flags,
+            cpu,
+        );
         places.push(place)?;
     }
     Ok(Prefix { places, at, placed })

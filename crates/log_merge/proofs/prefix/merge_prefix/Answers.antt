@@ -1,12 +1,18 @@
-use Rattle.std.proofs.Common.{slice_index, ◌≡◌, ◌<◌, ◌++◌, ◌∷◌, [], ℕ, List, length, take, drop, replicate, sym, ap, ◌∙◌, subst, arith}
-use Rattle.std.proofs.lemmas.List.{length-replicate}
+use Rattle.std.proofs.Common.{slice_index, ◌≡◌, ◌<◌, ◌++◌, ◌∷◌, [], ℕ, List, length, take, drop, sym, ap, ◌∙◌, subst, arith}
 use Rattle.sound_run.specs.declared.place.Place.{Place}
 use Rattle.log_merge.specs.Prefixes.{IsPrefix, CanCome}
 use Rattle.log_merge.specs.Least.{IsLeastNext, TakesTheLeast}
 use Rattle.log_merge.specs.Nexts.{IsReady, left_in}
+use Rattle.log_merge.specs.WhoCanCome.{SaysWhoCanCome}
 use Rattle.log_merge.proofs.Leasts.{least_next, least_start, least_push}
-use Rattle.log_merge.proofs.Placing.{ready_of, prefix_at_start, refilled}
+use Rattle.log_merge.proofs.Placing.{ready_of, ready_at_start, prefix_at_start, refilled}
+use Rattle.log_merge.proofs.Waking.{can_within}
 use Rattle.log_merge.proofs.prefix.merge_prefix.Goals as goal
+
+pub flags_of-requires : goal.flags_of-requires
+flags_of-requires g c =
+    ready_at_start c.args.run.now c.requires.matched c.requires.whole c.as_slice-3.result.now c.as_slice-4.result.now (length c.as_slice.result.now) (length c.as_slice-2.result.now)
+    (c.as_slice-3.ensures.value ∙ c.in_ok-at.ensures) (c.as_slice-4.ensures.value ∙ c.in_ok-placed.ensures) (ap length c.as_slice.ensures) (ap length c.as_slice-2.ensures)
 
 pub loop-cpu-init : goal.loop-cpu-init
 loop-cpu-init g c =
@@ -15,13 +21,34 @@ loop-cpu-init g c =
     let placed = c.in_ok-placed.placed.items in
     let n = length c.as_slice.result.now in
     let m = length c.as_slice-2.result.now in
-    let a : at ≡ replicate n 0 = c.in_ok-at.ensures in
-    let p : placed ≡ replicate m 0 = c.in_ok-placed.ensures in
-    let front : IsPrefix run [] at placed = prefix_at_start run at placed n m a p in
+    let front : IsPrefix run [] at placed = prefix_at_start run at placed n m c.in_ok-at.ensures c.in_ok-placed.ensures in
     record {
-      ready = ready_of run c.requires.matched c.requires.whole [] at placed front (ap length a ∙ (length-replicate n 0 ∙ ap length c.as_slice.ensures)) (ap length p ∙ (length-replicate m 0 ∙ ap length c.as_slice-2.ensures));
+      ready = ready_at_start run c.requires.matched c.requires.whole at placed n m c.in_ok-at.ensures c.in_ok-placed.ensures (ap length c.as_slice.ensures) (ap length c.as_slice-2.ensures);
       front = subst (λ (o : List Place). IsPrefix run o at placed) (sym c.new-places.ensures.items) front;
       least = subst (TakesTheLeast run) (sym c.new-places.ensures.items) (least_start run);
+      flags = subst (λ (z : List ℕ × List ℕ). SaysWhoCanCome run z.0 z.1 c.in_ok-flags.flags) (λ j. (c.as_slice-3.ensures.value j, c.as_slice-4.ensures.value j)) c.in_ok-flags.ensures;
+    }
+
+pub place_next-place-requires : goal.place_next-place-requires
+place_next-place-requires g c =
+    let run = c.args.run.now in
+    let i = c.loop-cpu.invariant in
+    let cpu = c.in-Some.cpu in
+    let same : (c.loop-cpu.at.items, c.loop-cpu.placed.items) ≡ (c.as_mut_slice.result.now, c.as_mut_slice-in-Some.result.now)
+    = λ j. (sym c.as_mut_slice.ensures.value j, sym c.as_mut_slice-in-Some.ensures.value j) in
+    let flags : SaysWhoCanCome run c.as_mut_slice.result.now c.as_mut_slice-in-Some.result.now c.loop-cpu.flags = subst (λ (z : List ℕ × List ℕ). SaysWhoCanCome run z.0 z.1 c.loop-cpu.flags) same i.flags in
+    let ready : IsReady run c.as_mut_slice.result.now c.as_mut_slice-in-Some.result.now = subst (λ (z : List ℕ × List ℕ). IsReady run z.0 z.1) same i.ready in
+    let comes = (flags.right cpu).0 c.in-Some.ensures.0 in
+    let there = can_within run (slice_index c.as_mut_slice.result.now) (slice_index c.as_mut_slice-in-Some.result.now) cpu comes in
+    let cpus = ready.cpus in
+    record {
+      ready = ready;
+      front = (c.loop-cpu.places.items, subst (λ (z : List ℕ × List ℕ). IsPrefix run c.loop-cpu.places.items z.0 z.1) same i.front);
+      flags = flags;
+      cpu = omega (arith, there, cpus);
+      comes = comes;
+      matched = c.requires.matched;
+      whole = c.requires.whole;
     }
 
 pub loop-cpu-smaller : goal.loop-cpu-smaller
@@ -53,11 +80,10 @@ loop-cpu-preserved g c =
     let i = c.loop-cpu.invariant in
     let now : IsPrefix run order at placed = subst (λ (z : List ℕ × List ℕ). IsPrefix run order z.0 z.1) (λ j. (sym c.as_mut_slice.ensures.value j, sym c.as_mut_slice-in-Some.ensures.value j)) i.front in
     let next : IsPrefix run (order ++ c.place_next-place.result ∷ []) at_new placed_new = e.front order now in
-    let same : (c.as_slice-in-loop-cpu.result.now, c.as_slice-in-loop-cpu-2.result.now) ≡ (at, placed)
-    = λ j. ((c.as_slice-in-loop-cpu.ensures.value ∙ sym c.as_mut_slice.ensures.value) j, (c.as_slice-in-loop-cpu-2.ensures.value ∙ sym c.as_mut_slice-in-Some.ensures.value) j) in
-    let comes = subst (λ (z : List ℕ × List ℕ). CanCome run (slice_index z.0) (slice_index z.1) c.in-Some.cpu) same c.in-Some.ensures.1 in
+    let says : SaysWhoCanCome run at placed c.loop-cpu.flags = subst (λ (z : List ℕ × List ℕ). SaysWhoCanCome run z.0 z.1 c.loop-cpu.flags) (λ j. (sym c.as_mut_slice.ensures.value j, sym c.as_mut_slice-in-Some.ensures.value j)) i.flags in
+    let comes = (says.right c.in-Some.cpu).0 c.in-Some.ensures.0 in
     let first : (cpu : ℕ) → cpu < c.in-Some.cpu → CanCome run (slice_index at) (slice_index placed) cpu → ⊥
-    = λ cpu lt can. c.in-Some.ensures.2 cpu lt (subst (λ (z : List ℕ × List ℕ). CanCome run (slice_index z.0) (slice_index z.1) cpu) (sym same) can) in
+    = λ cpu lt can. c.in-Some.ensures.1 cpu lt ((says.right cpu).1 can) in
     let least = subst (IsLeastNext run order) (sym e.place) (least_next run order at placed now c.in-Some.cpu comes first) in
     let items : c.push.new.self.items ≡ order ++ c.place_next-place.result ∷ [] = c.in_ok-push.ensures.items in
     let front : IsPrefix run c.push.new.self.items at_new placed_new = subst (λ (o : List Place). IsPrefix run o at_new placed_new) (sym items) next in
@@ -67,6 +93,7 @@ loop-cpu-preserved g c =
       ready = subst (λ (z : List ℕ × List ℕ). IsReady run z.0 z.1) (λ j. (sym at_is j, sym placed_is j)) ready;
       front = subst (λ (z : List ℕ × List ℕ). IsPrefix run c.push.new.self.items z.0 z.1) (λ j. (sym at_is j, sym placed_is j)) front;
       least = subst (TakesTheLeast run) (sym items) (least_push run order c.place_next-place.result i.least least);
+      flags = subst (λ (z : List ℕ × List ℕ). SaysWhoCanCome run z.0 z.1 c.place_next-place.new.flags) (λ j. (sym at_is j, sym placed_is j)) e.flags;
     }
 
 pub returns-clause-stuck : goal.returns-clause-stuck
@@ -75,5 +102,5 @@ returns-clause-stuck g c =
     record {
       front = c.loop-cpu.invariant.front;
       ready = c.loop-cpu.invariant.ready;
-      none = λ cpu can. c.in_default.ensures cpu (subst (λ (z : List ℕ × List ℕ). CanCome run (slice_index z.0) (slice_index z.1) cpu) (λ j. (sym c.as_slice-in-loop-cpu.ensures.value j, sym c.as_slice-in-loop-cpu-2.ensures.value j)) can);
+      none = λ cpu can. c.in_default.ensures cpu ((c.loop-cpu.invariant.flags.right cpu).1 can);
     }

@@ -1,6 +1,7 @@
 use Rattle.log_merge.specs.Prefixes.{IsPrefix}
 use Rattle.log_merge.specs.Least.{TakesTheLeast}
 use Rattle.log_merge.specs.Nexts.{IsReady, left_in}
+use Rattle.log_merge.specs.WhoCanCome.{SaysWhoCanCome}
 use Rattle.log_merge.proofs.prefix.merge_prefix.Given as goal
 
 abbrev pub invariant-loop-cpu : goal.invariant-loop-cpu
@@ -8,6 +9,7 @@ invariant-loop-cpu g l = record {
   ready : IsReady l.run l.at.items l.placed.items;
   front : IsPrefix l.run l.places.items l.at.items l.placed.items;
   least : TakesTheLeast l.run l.places.items;
+  flags : SaysWhoCanCome l.run l.at.items l.placed.items l.flags;
 }
 
 abbrev pub decreases-loop-cpu : goal.decreases-loop-cpu

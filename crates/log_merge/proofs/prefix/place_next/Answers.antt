@@ -1,11 +1,14 @@
-use Rattle.std.proofs.Common.{◌<◌, ◌++◌, ◌∷◌, [], ℕ, suc, get_or, sym, subst, arith, add-one}
+use Rattle.std.proofs.Common.{◌+◌, ◌<◌, ℕ, get_or, sym, subst, arith, add-one}
+use Rattle.std.proofs.lemmas.List.{length-set}
 use Rattle.std.proofs.lemmas.Option.{slice_get_within}
 use Rattle.std.proofs.Math.ListN.{set}
+use mathlib.Core.Logic.{dite}
+use native.Mathlib.Decide.{ℕ_discrete}
 use Rattle.sound_run.specs.Sound.{transcript_of}
-use Rattle.sound_run.specs.declared.place.Place.{Place}
-use Rattle.log_merge.specs.Prefixes.{IsPrefix}
 use Rattle.log_merge.specs.Nexts.{left_in}
-use Rattle.log_merge.proofs.Placing.{left_falls, next_placed, placed_with}
+use Rattle.log_merge.specs.WhoCanCome.{IsRight}
+use Rattle.log_merge.proofs.Placing.{left_falls, full_next, done_next, full_ready, done_ready}
+use Rattle.log_merge.proofs.Waking.{others_after_full, others_after_done, right_still}
 use Rattle.log_merge.proofs.prefix.place_next.Goals as goal
 
 pub overflow_add-at : goal.overflow_add-at
@@ -40,25 +43,60 @@ returns-in-NoRoom-clause-less g c =
 
 pub returns-in-Steps-clause-front : goal.returns-in-Steps-clause-front
 returns-in-Steps-clause-front g c =
-    let run = c.args.run.now in
-    let cpu = c.args.cpu in
-    let at = c.args.at.now in
-    let placed = c.args.placed.now in
-    let x = c.in-Some.entry.now.object in
-    λ order front.
-    let p : Place = record { cpu = cpu; entry = get_or at cpu 0 } in
-    let a = next_placed run at placed c.requires.ready c.requires.matched cpu c.requires.cpu c.requires.comes order front c.in-Some.entry.now (sym c.in-Some.ensures) in
-    let b = subst (λ d. IsPrefix run (order ++ p ∷ []) (set at cpu (suc (get_or at cpu 0))) (placed_with placed x d)) c.in-Steps.is a in
-    subst (λ (z : ℕ × ℕ). IsPrefix run (order ++ p ∷ []) (set at cpu z.0) (set placed x z.1)) (λ j. (sym (add-one (get_or at cpu 0)) j, sym (add-one (get_or placed x 0)) j)) b
+    λ order front. done_next c.args.run.now c.args.at.now c.args.placed.now c.requires.ready c.requires.matched c.args.cpu c.requires.cpu c.requires.comes order front
+    c.in-Some.entry.now (sym c.in-Some.ensures) c.in-Steps.field-0 c.in-Steps.is
 
 pub returns-in-NoRoom-clause-front : goal.returns-in-NoRoom-clause-front
 returns-in-NoRoom-clause-front g c =
+    λ order front. full_next c.args.run.now c.args.at.now c.args.placed.now c.requires.ready c.requires.matched c.args.cpu c.requires.cpu c.requires.comes order front
+    c.in-Some.entry.now (sym c.in-Some.ensures) c.in-NoRoom.is
+
+pub look-requires-clause-ready : goal.look-requires-clause-ready
+look-requires-clause-ready g c =
+    let front = c.requires.front in
+    done_ready c.args.run.now c.args.at.now c.args.placed.now c.requires.ready c.requires.matched c.args.cpu c.requires.cpu c.requires.comes front.0 front.1
+    c.in-Some.entry.now (sym c.in-Some.ensures) c.requires.whole c.in-Steps.field-0 c.in-Steps.is
+
+pub look_behind-requires-clause-ready : goal.look_behind-requires-clause-ready
+look_behind-requires-clause-ready g c =
+    let front = c.requires.front in
+    done_ready c.args.run.now c.args.at.now c.args.placed.now c.requires.ready c.requires.matched c.args.cpu c.requires.cpu c.requires.comes front.0 front.1
+    c.in-Some.entry.now (sym c.in-Some.ensures) c.requires.whole c.in-Steps.field-0 c.in-Steps.is
+
+pub look_behind-requires-clause-others : goal.look_behind-requires-clause-others
+look_behind-requires-clause-others g c =
     let run = c.args.run.now in
     let cpu = c.args.cpu in
     let at = c.args.at.now in
     let placed = c.args.placed.now in
-    λ order front.
-    let p : Place = record { cpu = cpu; entry = get_or at cpu 0 } in
-    let a = next_placed run at placed c.requires.ready c.requires.matched cpu c.requires.cpu c.requires.comes order front c.in-Some.entry.now (sym c.in-Some.ensures) in
-    let b = subst (λ d. IsPrefix run (order ++ p ∷ []) (set at cpu (suc (get_or at cpu 0))) (placed_with placed c.in-Some.entry.now.object d)) c.in-NoRoom.is a in
-    subst (λ (m : ℕ). IsPrefix run (order ++ p ∷ []) (set at cpu m) placed) (sym (add-one (get_or at cpu 0))) b
+    let n = get_or at cpu 0 + 1 in
+    let entry = c.in-Some.entry.now in
+    let k = get_or placed entry.object 0 + 1 in
+    λ other asleep. dite (ℕ_discrete other cpu)
+    (λ here. subst (λ (i : ℕ). IsRight run (set at cpu n) (set placed entry.object k) c.look.new.flags i) (sym here) c.look.ensures.right)
+    (λ off. right_still run at placed (set at cpu n) (set placed entry.object k) c.args.flags.now c.look.new.flags other (c.requires.flags.right other) (c.look.ensures.others other off)
+    (others_after_done run at placed cpu n c.requires.comes entry (sym c.in-Some.ensures) c.in-Steps.field-0 c.in-Steps.is k other off asleep))
+
+pub look-requires-in-NoRoom-clause-ready : goal.look-requires-in-NoRoom-clause-ready
+look-requires-in-NoRoom-clause-ready g c =
+    let front = c.requires.front in
+    full_ready c.args.run.now c.args.at.now c.args.placed.now c.requires.ready c.requires.matched c.args.cpu c.requires.cpu c.requires.comes front.0 front.1
+    c.in-Some.entry.now (sym c.in-Some.ensures) c.requires.whole c.in-NoRoom.is
+
+pub returns-in-NoRoom-clause-flags : goal.returns-in-NoRoom-clause-flags
+returns-in-NoRoom-clause-flags g c =
+    let run = c.args.run.now in
+    let cpu = c.args.cpu in
+    let at = c.args.at.now in
+    let placed = c.args.placed.now in
+    let n = get_or at cpu 0 + 1 in
+    let look = c.look-in-NoRoom in
+    let kept = look.ensures.room in
+    let room = c.requires.flags.room in
+    let long = length-set at cpu n in
+    record {
+      room = omega (arith, kept, room, long);
+      right = λ other. dite (ℕ_discrete other cpu)
+          (λ here. subst (λ (i : ℕ). IsRight run (set at cpu n) placed look.new.flags i) (sym here) look.ensures.right)
+          (λ off. right_still run at placed (set at cpu n) placed c.args.flags.now look.new.flags other (c.requires.flags.right other) (look.ensures.others other off) (others_after_full run at placed cpu n other off));
+    }
