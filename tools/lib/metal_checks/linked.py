@@ -36,15 +36,15 @@ def compiler_headers():
 
 
 def compile_headers(compiler, orders=tuple(permutations(HEADERS))):
-    """Builds the headers in one file in each of these orders, with mc2_heap.h before and behind them, some at once."""
-    orders = [it for order in orders for it in (("mc2_heap.h", *order), (*order, "mc2_heap.h"))]
+    """Builds the headers in one file in each of these orders, several at once, mc2_heap.h behind them and before them by turns."""
 
-    def compile_order(order):
+    def compile_order(at):
+        order = ("mc2_heap.h", *orders[at]) if at % 2 else (*orders[at], "mc2_heap.h")
         text = "".join(f'#include "{name}"\n' for name in order)
         run([*compiler, *STRICT, "-fsyntax-only", "-"], input=text.encode())
 
     with ThreadPoolExecutor(os.cpu_count()) as pool:
-        list(pool.map(compile_order, orders))
+        list(pool.map(compile_order, range(len(orders))))
     return f"in one file, in {len(orders)} orders"
 
 
@@ -153,7 +153,7 @@ def check_headers(counts, folder):
     freestanding = ["gcc", "-std=c11", "-ffreestanding", "-nostdinc", "-isystem", compiler_headers()]
     counts.check("headers as C11", compile_headers, ["gcc", "-std=c11", "-x", "c"])
     counts.check("headers as C++17", compile_headers, ["g++", "-std=c++17", "-x", "c++"])
-    ends = [("mc2_cells.hpp", *HEADERS), (*HEADERS, "mc2_cells.hpp")]
+    ends = [it for order in (("mc2_cells.hpp", *HEADERS), (*HEADERS, "mc2_cells.hpp")) for it in (order, order)]
     counts.check("mc2_cells.hpp beside them", compile_headers, ["g++", "-std=c++17", "-fno-exceptions", "-x", "c++"], ends)
     counts.check("headers freestanding", compile_headers, [*freestanding, "-x", "c"])
     counts.check("mc2_record.h freestanding", header_asks, CHECKS / "record.c", folder, freestanding)
