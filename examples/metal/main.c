@@ -204,8 +204,15 @@ static void end_all(size_t free_before) {
 #ifdef STAND_IN
 static void say_whole_calls(void) {}
 #else
-// The most stack that a whole call, a batch and a try of such an object take, by a cell that keeps no log and is freed again.
-static size_t stack_of_whole_calls(struct mc2_object object) {
+// Notes how much stack was used since it was forgotten, if that is the most, and forgets it.
+static void note_stack(size_t *most) {
+    size_t used = stack_used(0);
+    *most = used > *most ? used : *most;
+    stack_forget(0);
+}
+
+// A whole call, a try and a batch of such an object, by a cell that keeps no log and is freed again: how much stack they take.
+static void try_whole_calls(struct mc2_object object, size_t *of_calls, size_t *of_batches) {
     static struct mc2_cell cell;
     static struct mc2_caller caller;
     static struct mc2_batch batch = {MC2_MOST_CALLS, {{0, 0, 0}}};
@@ -220,23 +227,22 @@ static size_t stack_of_whole_calls(struct mc2_object object) {
     stack_forget(0);
     uint32_t called = mc2_cell_call(&caller, &batch.calls[0], &reply, &looks);
     uint32_t tried = mc2_cell_try_call(&caller, &batch.calls[0], &reply);
+    note_stack(of_calls);
     uint32_t together = mc2_cell_batch(&caller, &batch, &replies, &looks);
-    size_t used = stack_used(0);
+    note_stack(of_batches);
     must(called == MC2_CELL_DONE && tried == called && together == called, "whole calls", object.kind);
     must(mc2_caller_free(&caller) == MC2_CELL_DONE && mc2_cell_free(&cell) == MC2_CELL_DONE, "freeing them", object.kind);
-    return used;
 }
 
 // Says the most that they take with any object behind any lock. The calls that CPUs make later are single steps.
 static void say_whole_calls(void) {
-    size_t most = 0;
+    size_t of_calls = 0, of_batches = 0;
     for (uint32_t at = 0; at < 2 * OBJECTS; at++) {
         struct mc2_object object = objects[at / 2];
         object.lock = at % 2;
-        size_t used = stack_of_whole_calls(object);
-        most = used > most ? used : most;
+        try_whole_calls(object, &of_calls, &of_batches);
     }
-    say("stack of whole calls: #\n", most);
+    say_both("stack of whole calls: #, of batches: #\n", of_calls, of_batches);
 }
 #endif
 

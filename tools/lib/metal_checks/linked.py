@@ -21,12 +21,13 @@ MOST_CELLS_BYTES = 40 * 1024
 # How the names of sections begin that have storage of threads, constructors or destructors.
 NOT_FOR_A_KERNEL = (".tdata", ".tbss", ".preinit_array", ".init", ".fini", ".ctors", ".dtors")
 # The most bytes of memory that cells take, as docs/IN_A_KERNEL.md has them: a cell by itself, an event, a caller, each CPU by
-# its lock, the object; and just so many a cell of 2 CPUs behind a ticket lock, without a log.
+# its lock, the object; and a cell of 2 CPUs behind a ticket lock without a log, as its example: so many, or hardly fewer.
 PAGE = ROOT / "docs/IN_A_KERNEL.md"
 CELL_BYTES, EVENT_BYTES, CALLER_BYTES = 850, 208, 64
 CPU_BYTES = {"ticket": 0, "mcs": 16}
 OBJECT_BYTES = {"queue": 9 * 1024, "pool": 8 * 4096 + 4096 // 8, "console": 4096, "sched": 9 * 1024 + 12 * 64}
-JUST_SO_MANY = {"queue": 9952, "pool": 33968, "console": 4768}
+EXAMPLES = {"queue": 9952, "pool": 33968, "console": 4768}
+HARDLY = 32
 
 
 def compiler_headers():
@@ -35,15 +36,15 @@ def compiler_headers():
 
 
 def compile_headers(compiler, orders=tuple(permutations(HEADERS))):
-    """Builds the headers in one file in each of these orders, with mc2_heap.h before and behind them, some at once."""
-    orders = [it for order in orders for it in (("mc2_heap.h", *order), (*order, "mc2_heap.h"))]
+    """Builds the headers in one file in each of these orders, several at once, mc2_heap.h behind them and before them by turns."""
 
-    def compile_order(order):
+    def compile_order(at):
+        order = ("mc2_heap.h", *orders[at]) if at % 2 else (*orders[at], "mc2_heap.h")
         text = "".join(f'#include "{name}"\n' for name in order)
         run([*compiler, *STRICT, "-fsyntax-only", "-"], input=text.encode())
 
     with ThreadPoolExecutor(os.cpu_count()) as pool:
-        list(pool.map(compile_order, orders))
+        list(pool.map(compile_order, range(len(orders))))
     return f"in one file, in {len(orders)} orders"
 
 
@@ -111,8 +112,9 @@ def cell_memory(line):
     most = [CELL_BYTES + OBJECT_BYTES[kind] + cpus * CPU_BYTES[lock] for cpus in (1, 2, 64)] + [EVENT_BYTES, CALLER_BYTES]
     if any(it > limit for it, limit in zip(found, most)):
         raise Stop(f"{line}: of at most {most}")
-    if lock == "ticket" and found[1] != JUST_SO_MANY.get(kind, found[1]):
-        raise Stop(f"{line}: and not {JUST_SO_MANY[kind]}")
+    example = EXAMPLES.get(kind, found[1])
+    if lock == "ticket" and not example - HARDLY <= found[1] <= example:
+        raise Stop(f"{line}: and not {example}, or hardly fewer")
 
 
 def heap(folder, cells):
@@ -128,7 +130,7 @@ def heap(folder, cells):
 
 def page(stacks):
     """The page has the figures to which the libraries are held, and those of the stacks."""
-    figures = [CELL_BYTES, EVENT_BYTES, CALLER_BYTES, *JUST_SO_MANY.values(), MOST_CELLS_BYTES, *stacks]
+    figures = [CELL_BYTES, EVENT_BYTES, CALLER_BYTES, *EXAMPLES.values(), MOST_CELLS_BYTES, *stacks]
     missing = [f"{it:,}" for it in figures if not re.search(rf"(?<![\d,]){it:,}(?!,?\d)", PAGE.read_text())]
     if missing:
         raise Stop(f"it doesn't have {', '.join(missing)}")
@@ -151,7 +153,7 @@ def check_headers(counts, folder):
     freestanding = ["gcc", "-std=c11", "-ffreestanding", "-nostdinc", "-isystem", compiler_headers()]
     counts.check("headers as C11", compile_headers, ["gcc", "-std=c11", "-x", "c"])
     counts.check("headers as C++17", compile_headers, ["g++", "-std=c++17", "-x", "c++"])
-    ends = [("mc2_cells.hpp", *HEADERS), (*HEADERS, "mc2_cells.hpp")]
+    ends = [it for order in (("mc2_cells.hpp", *HEADERS), (*HEADERS, "mc2_cells.hpp")) for it in (order, order)]
     counts.check("mc2_cells.hpp beside them", compile_headers, ["g++", "-std=c++17", "-fno-exceptions", "-x", "c++"], ends)
     counts.check("headers freestanding", compile_headers, [*freestanding, "-x", "c"])
     counts.check("mc2_record.h freestanding", header_asks, CHECKS / "record.c", folder, freestanding)
