@@ -1,5 +1,6 @@
 """Builds the static libraries that programs in C link, over what `rt ci` left of the crates below them."""
 import shutil
+import tempfile
 from pathlib import Path
 
 from common import ROOT, Stop, run
@@ -43,12 +44,14 @@ def words_of(crate):
 def build_library(crate, toolchain=None, library=None):
     """Builds the crate's library over the crates below it, which it doesn't prove once more, and returns its path. The crate
     itself is proved, unless the compiler takes what is left of its last proof, as nothing that it has read has changed."""
+    if toolchain is None:
+        with tempfile.TemporaryDirectory() as folder:
+            return build_library(crate, toolchain_of("library_clang", Path(folder) / "toolchain"), library)
     folder = ROOT / "crates" / crate
     library = library or folder / f"out/lib{crate}.a"
     checked = folder / f"out/{crate}.checked"
     words = words_of(crate)
-    build = [kit() / "bin/rattle", "build", *words, "--crate-checked", checked, "--toolchain", toolchain or kit() / "toolchain"]
-    build += ["-o", library]
+    build = [kit() / "bin/rattle", "build", *words, "--crate-checked", checked, "--toolchain", toolchain, "-o", library]
     library.parent.mkdir(parents=True, exist_ok=True)
     if checked.exists() and run(build, wanted=None, cwd=folder).returncode == 0:
         return library
@@ -58,11 +61,16 @@ def build_library(crate, toolchain=None, library=None):
     return library
 
 
-def kernel_toolchain(folder):
-    """Makes a toolchain in the folder, which is the kit's but for its clang: that is tools/lib/kernel_clang."""
+def toolchain_of(clang, folder):
+    """Makes a toolchain in the folder, which is the kit's but for its clang: that is the one of this name in tools/lib."""
     (folder / "bin").mkdir(parents=True)
     (folder / "kit").symlink_to(kit() / "toolchain")
     (folder / "lib").symlink_to(kit() / "toolchain/lib")
     for program in (kit() / "toolchain/bin").iterdir():
-        (folder / "bin" / program.name).symlink_to(ROOT / "tools/lib/kernel_clang" if program.name == "clang" else program)
+        (folder / "bin" / program.name).symlink_to(ROOT / "tools/lib" / clang if program.name == "clang" else program)
     return folder
+
+
+def kernel_toolchain(folder):
+    """Makes the toolchain of tools/develop/kernel_library in the folder."""
+    return toolchain_of("kernel_clang", folder)

@@ -14,7 +14,7 @@ SECONDS = 120
 INCLUDE = f"-I{ROOT / 'include'}"
 STRICT = ["-Wall", "-Wextra", "-pedantic", "-Werror", INCLUDE]
 HEADERS = ("mc2_record.h", "mc2_note.h", "mc2_wait.h", "mc2_cells.h", "mc2_judge.h")
-# What a library may ask of a kernel, and the most bytes of code and constants that a kernel gets of that of cells.
+# What a library may ask of a kernel, and the most bytes of the file of that of cells.
 CELLS_ASKS = {"memcpy", "memmove", "memset", "rattle_alloc", "rattle_dealloc"}
 JUDGE_ASKS = CELLS_ASKS | {"rattle_realloc"}
 MOST_CELLS_BYTES = 40 * 1024
@@ -84,12 +84,12 @@ def steps(folder):
 
 
 def size(path):
-    """The bytes of code, constants and variables that a program gets if it takes all of the library."""
+    """The bytes of the library's file, and those of code, constants and variables that a program gets of it."""
     *_, total = run(["size", "-t", path], text=True).stdout.splitlines()
-    found = int(total.split()[3])
-    said = f"{found:,} bytes of code and constants, in a file of {path.stat().st_size:,}"
+    found = path.stat().st_size
+    said = f"a file of {found:,} bytes, {int(total.split()[3]):,} of them code and constants"
     if found > MOST_CELLS_BYTES:
-        raise Stop(f"{said}, of at most {MOST_CELLS_BYTES:,}")
+        raise Stop(f"{said}, and at most {MOST_CELLS_BYTES:,}")
     return said
 
 
@@ -171,5 +171,6 @@ def check_libraries(counts, folder):
         counts.check(f"sections of lib{crate}.a for a kernel", sections, library)
         counts.check(f"code of lib{crate}.a for a kernel", is_for_a_kernel, library)
     counts.check("size of libcells.a", size, cells[0])
+    counts.check("size of libcells.a for a kernel", size, cells[1])
     counts.check("mc2_heap.h", heap, folder, cells[0])
     return cells[0], judge[0], folder / "kernel"
