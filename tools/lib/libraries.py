@@ -53,11 +53,12 @@ def build_library(crate, toolchain=None, library=None):
     words = words_of(crate)
     build = [kit() / "bin/rattle", "build", *words, "--crate-checked", checked, "--toolchain", toolchain, "-o", library]
     library.parent.mkdir(parents=True, exist_ok=True)
-    if checked.exists() and run(build, wanted=None, cwd=folder).returncode == 0:
-        return library
-    proof = ["--jobs", "2", "--logic-built", kit() / "logic_built", "-o", checked]
-    run([kit() / "bin/rattle", "check", *words, *proof], cwd=folder)
-    run(build, cwd=folder)
+    if not checked.exists() or run(build, wanted=None, cwd=folder).returncode != 0:
+        proof = ["--jobs", "2", "--logic-built", kit() / "logic_built", "-o", checked]
+        run([kit() / "bin/rattle", "check", *words, *proof], cwd=folder)
+        run(build, cwd=folder)
+    # What is left is the names that a linker needs.
+    run(["strip", "--strip-unneeded", library])
     return library
 
 
