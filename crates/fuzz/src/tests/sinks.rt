@@ -92,6 +92,24 @@ fn fail_sizes<R: Abort>(rt: &R, alloc: Global, written: &Written<'_>, text: &str
     }
 }
 
+/// A record, whose text this is.
+fn fail_record<R: Abort>(rt: &R, alloc: Global, record: &Record, text: &str, sizes: &[usize]) {
+    let written = Written::Record(record);
+    fail_sizes(rt, alloc, &written, text, sizes);
+}
+
+/// A record's entries, which stand in order in this text.
+fn fail_merged<R: Abort>(
+    rt: &R,
+    alloc: Global,
+    merged: (&Record, &Merged),
+    order: &str,
+    sizes: &[usize],
+) {
+    let written = Written::Merged(merged.0, merged.1);
+    fail_sizes(rt, alloc, &written, order, sizes);
+}
+
 /// The text of a record alone, the record, and its entries in order.
 fn fail_all<R: Abort>(
     rt: &R,
@@ -100,11 +118,12 @@ fn fail_all<R: Abort>(
     order: &str,
     sizes: &[usize],
 ) -> Result<(), Fail> {
-    fail_sizes(rt, alloc, &Written::Text, text, sizes);
+    let alone = Written::Text;
+    fail_sizes(rt, alloc, &alone, text, sizes);
     let record = Record::read(alloc, text.as_bytes())?;
-    fail_sizes(rt, alloc, &Written::Record(&record), text, sizes);
+    fail_record(rt, alloc, &record, text, sizes);
     let merged = merge(alloc, &record)?;
-    fail_sizes(rt, alloc, &Written::Merged(&record, &merged), order, sizes);
+    fail_merged(rt, alloc, (&record, &merged), order, sizes);
     Ok(())
 }
 
