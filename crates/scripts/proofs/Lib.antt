@@ -37,6 +37,8 @@ pub mod RecordLengths
 pub mod ParameterLaws
 pub mod Forms
 pub mod RecordSteps
+pub mod Keepers
+pub mod KeptSteps
 pub mod RecordWords
 pub mod Digits
 pub mod ScriptTexts

@@ -24,6 +24,7 @@ pub mod Then
 pub mod LineMachine
 pub mod Pieces
 pub mod RecordStates
+pub mod Keeping
 pub mod RecordParts
 pub mod RecordPieces
 pub mod RecordFaults

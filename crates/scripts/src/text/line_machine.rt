@@ -6,6 +6,7 @@ ghost use Rattle.scripts.specs.Pieces.{HasFed, Keeps};
 ghost use Rattle.scripts.specs.Words.{NoEnd};
 
 use crate::text::split::split_line;
+use event_log::OutOfMemory;
 use std::alloc::{AllocFailed, Global};
 
 /// No line of a record has more bytes, and no entry of scripts.
@@ -24,6 +25,16 @@ impl<T: Drop> From<AllocFailed<T>> for LineFault {
     ghost from_gives = { λ _ fault. fault ≡ OutOfMemory };
 
     fn from(_failed: AllocFailed<T>) -> LineFault {
+        LineFault::OutOfMemory
+    }
+}
+
+impl From<OutOfMemory> for LineFault {
+    ghost use Rattle.scripts.specs.declared.text.line_machine.LineFault.TheVariants.{OutOfMemory};
+
+    ghost from_gives = { λ _ fault. fault ≡ OutOfMemory };
+
+    fn from(_refused: OutOfMemory) -> LineFault {
         LineFault::OutOfMemory
     }
 }

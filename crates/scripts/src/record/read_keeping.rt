@@ -1,0 +1,61 @@
+//! Reading a record for a keeper.
+
+ghost use Rattle.std.specs.Prelude.{◌≡◌, Some, Err, IfOk, IfErr};
+ghost use Rattle.event_log.specs.Stream.{counted};
+ghost use Rattle.std.specs.Prelude.{true};
+ghost use Rattle.scripts.specs.declared.record.form.Form.{Form};
+ghost use Rattle.scripts.specs.Keeping.{no_parts, kept_record};
+ghost use Rattle.scripts.specs.RecordFaults.{text_in};
+ghost use Rattle.scripts.specs.RecordRanges.{RecordFits, RecordFitsIn, Record as Shown};
+ghost use Rattle.scripts.specs.RecordSources.{SpellsRecord, NamesBadLineOfRest, IsReadFrom, IsReadOut};
+ghost use Rattle.scripts.specs.Then.{ok_map};
+
+use crate::record::keeps::Keeps;
+use crate::record::reader::whole_parts;
+use crate::record::source::{PIECE, read_on};
+use crate::record::state::RecordState;
+use crate::text::line_machine::{PieceFault, Pieces};
+use crate::{RecordReadFault, Settings};
+use event_log::Source;
+use std::alloc::Global;
+
+/// Reads the source to its end: the settings of the record that its bytes spell, and the keeper, which was handed over the
+/// rest of the record. Of the bytes no more is held than a line and a piece. A bad line is known as soon as it is there, and
+/// then nothing is kept; but the source is read on, so that a bad line never hides that reading failed.
+pub fn read_keeping<S: Source, K: Keeps>(
+    alloc: Global,
+    source: &mut S,
+    keeper: K,
+) -> Result<(Settings, K), RecordReadFault>
+    requires { K.keeps keeper ≡ no_parts }
+    ensures found { IfOk result (λ given. SpellsRecord (S.remaining source.old) (kept_record given.0 (K.keeps given.1))) }
+    ensures fit { IfOk result (λ given. RecordFits (kept_record given.0 (K.keeps given.1))) }
+    ensures only { (form : Form) (r : Shown) → RecordFitsIn form r → S.remaining source.old ≡ Some (text_in form r) →
+        IsReadFrom r (ok_map (λ given. kept_record given.0 (K.keeps given.1)) result) }
+    ensures fault { IfErr result (NamesBadLineOfRest (S.remaining source.old)) }
+    ensures to_end { (result ≡ Err RecordReadFault.OutOfMemory → ⊥) → (result ≡ Err RecordReadFault.ReadFailed → ⊥) →
+        IsReadOut (S.remaining source.old) (S.remaining source.new) }
+    ensures one_failed { result ≡ Err RecordReadFault.ReadFailed → S.failed source.new ≡ counted true (S.failed source.old) }
+    ensures no_other { (result ≡ Err RecordReadFault.ReadFailed → ⊥) → S.failed source.new ≡ S.failed source.old }
+{
+    let mut pieces = Pieces::new(alloc, RecordState::new(alloc, keeper));
+    let mut buffer = [0u8; PIECE];
+    for _ in 0..u64::MAX {
+        let Ok(count) = source.read(&mut buffer) else {
+            return Err(RecordReadFault::ReadFailed);
+        };
+        if count == 0 {
+            return Ok(whole_parts(pieces)?);
+        }
+        match pieces.feed(&buffer[..count]) {
+            Ok(()) => {}
+            Err(PieceFault::OutOfMemory) => return Err(RecordReadFault::OutOfMemory),
+            Err(PieceFault::Line(number)) => {
+                read_on(source)?;
+                return Err(RecordReadFault::Line(number));
+            }
+        }
+    }
+    // No record has as many bytes, and no memory could hold one.
+    Err(RecordReadFault::OutOfMemory)
+}
