@@ -1,6 +1,7 @@
 pub mod KernelRanges
 pub mod LogRanges
 pub mod Cuts
+pub mod Behind
 pub mod Readings
 pub mod Lookups
 pub mod Spellings

@@ -15,7 +15,7 @@ not_space b high = grind arith
 not_end : (b : ℕ) → 32 < b → (b == 10) ≡ false
 not_end b high = grind arith
 
-no_space : (word : List ℕ) → IsPlain word → AllByRecursion (λ b. (b == 32) ≡ false) word
+pub no_space : (word : List ℕ) → IsPlain word → AllByRecursion (λ b. (b == 32) ≡ false) word
 no_space word plain = all_map not_space word plain
 
 no_end : (word : List ℕ) → IsPlain word → NoEnd word

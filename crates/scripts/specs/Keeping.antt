@@ -68,6 +68,13 @@ pub record InTranscripts (p : Parts) : Type 0 where
   pub entries : AllByRecursion (EntryFits Two (length p.settings.objects)) p.entries
   pub few : p.count ≤ MOST_ENTRIES
 
+-- those settings were told, and all that was begun is whole
+pub record IsWholeWith (settings : Settings) (p : Parts) : Type 0 where
+  pub settings : p.settings ≡ settings
+  pub begun : p.begun ≡ false
+  pub events : p.events ≡ []
+  pub entries : p.entries ≡ []
+
 -- its head comes: it wasn't begun, and nothing of it was handed over
 abbrev pub IsAtHead : {T : Type 0} → Parts → List T → Type 0
 IsAtHead p items = (items ≡ []) × (p.count ≡ 0) × (p.begun ≡ false)

@@ -23,7 +23,7 @@ pub use record::form::{FIRST_MOST_CPUS, Form};
 pub use record::form_faults::bad_line_of_form;
 pub use record::keeps::Keeps;
 pub use record::read_keeping::read_keeping;
-pub use record::reader::{RecordReader, no_text_begins_another};
+pub use record::reader::{RecordReader, no_text_begins_another, read_text_keeping};
 pub use record::run_ranges::{replies_fit, sound_runs_fit};
 pub use record::source::RecordReadFault;
 pub use record::writer::{begin_line, end_line, put_done, write_record};

@@ -4,7 +4,7 @@ ghost use Rattle.std.specs.Prelude.{◌≡◌, Some, Err, IfOk, IfErr};
 ghost use Rattle.event_log.specs.Stream.{counted};
 ghost use Rattle.std.specs.Prelude.{true};
 ghost use Rattle.scripts.specs.declared.record.form.Form.{Form};
-ghost use Rattle.scripts.specs.Keeping.{no_parts, kept_record};
+ghost use Rattle.scripts.specs.Keeping.{no_parts, kept_record, IsWholeWith};
 ghost use Rattle.scripts.specs.RecordFaults.{text_in};
 ghost use Rattle.scripts.specs.RecordRanges.{RecordFits, RecordFitsIn, Record as Shown};
 ghost use Rattle.scripts.specs.RecordSources.{SpellsRecord, NamesBadLineOfRest, IsReadFrom, IsReadOut};
@@ -29,6 +29,7 @@ pub fn read_keeping<S: Source, K: Keeps>(
 ) -> Result<(Settings, K), RecordReadFault>
     requires { K.keeps keeper ≡ no_parts }
     ensures found { IfOk result (λ given. SpellsRecord (S.remaining source.old) (kept_record given.0 (K.keeps given.1))) }
+    ensures whole { IfOk result (λ given. IsWholeWith given.0 (K.keeps given.1)) }
     ensures fit { IfOk result (λ given. RecordFits (kept_record given.0 (K.keeps given.1))) }
     ensures only { (form : Form) (r : Shown) → RecordFitsIn form r → S.remaining source.old ≡ Some (text_in form r) →
         IsReadFrom r (ok_map (λ given. kept_record given.0 (K.keeps given.1)) result) }

@@ -1,19 +1,14 @@
 //! Values that are found fast.
 
-ghost use Rattle.std.specs.Prelude.{◌≡◌, ◌∷◌, Some, IfSome};
-ghost use Rattle.scripts.specs.Reading.{left};
-ghost use Rattle.scripts.specs.Row.{value_at};
-ghost use Rattle.scripts.specs.Rows.{call_row, call_samples, call_filled, reply_row, reply_samples, reply_filled};
-
 use crate::tables::read::value_of;
-use crate::text::words::{Words, word};
+use crate::text::words::Words;
 use crate::{KCall, KReply, Spelled};
 use console_ring::ConsoleCall;
 use page_pool::PoolCall;
 use shared_queue::QueueCall;
 use wake_list::SchedCall;
 
-/// Values whose words are told apart by their lengths and a byte.
+/// Values whose words are told apart by a few bytes.
 pub trait FastRead: Spelled {
     ghost use Rattle.std.specs.Prelude.{◌≡◌, Some, IfSome};
     ghost use Rattle.scripts.specs.Reading.{left};
@@ -28,79 +23,56 @@ pub trait FastRead: Spelled {
 impl FastRead for KCall {
     #[inline(always)]
     fn read_fast(at: Words<'_>) -> Option<(KCall, Words<'_>)> {
-        let (word, rest) = word(at)?;
-        call_of(word, rest)
+        match at? {
+            [b'a', ..] => value_of(KCall::Pool(PoolCall::Alloc(0)), at),
+            [b'd', ..] => value_of(KCall::Queue(QueueCall::Deq), at),
+            [b'e', ..] => value_of(KCall::Queue(QueueCall::Enq(0)), at),
+            [b'f', ..] => value_of(KCall::Pool(PoolCall::Free { owner: 0, page: 0 }), at),
+            [b'g', ..] => value_of(KCall::Console(ConsoleCall::Get), at),
+            [b'l', b'e', b'n', ..] => value_of(KCall::Queue(QueueCall::Len), at),
+            [b'l', b'e', b'f', ..] => value_of(KCall::Pool(PoolCall::Left), at),
+            [b'l', ..] => value_of(KCall::Console(ConsoleCall::Level), at),
+            [b'n', ..] => value_of(KCall::Sched(SchedCall::Next), at),
+            [b'p', ..] => value_of(KCall::Console(ConsoleCall::Put(0)), at),
+            [b'r', b'e', b'm', ..] => value_of(KCall::Queue(QueueCall::Remove(0)), at),
+            [b'r', ..] => value_of(KCall::Sched(SchedCall::Ready(0)), at),
+            [b's', ..] => value_of(
+                KCall::Sched(SchedCall::Sleep {
+                    channel: 0,
+                    thread: 0,
+                }),
+                at,
+            ),
+            [b'w', _, _, _, b' ', ..] => value_of(KCall::Sched(SchedCall::Wake(0)), at),
+            [b'w', ..] => value_of(KCall::Sched(SchedCall::WakeAll(0)), at),
+            _ => None,
+        }
     }
 }
 
 impl FastRead for KReply {
     #[inline(always)]
     fn read_fast(at: Words<'_>) -> Option<(KReply, Words<'_>)> {
-        let (word, rest) = word(at)?;
-        reply_of(word, rest)
-    }
-}
-
-/// The call of the one word that it may be.
-#[inline(always)]
-fn call_of<'a>(word: &[u8], rest: Words<'a>) -> Option<(KCall, Words<'a>)>
-    ensures { IfSome result (λ x. value_at call_row call_samples call_filled (word.now ∷ left rest.entry) ≡ Some (x.0, left x.1)) }
-{
-    match word {
-        [b'd', _, _] => value_of(KCall::Queue(QueueCall::Deq), word, rest),
-        [b'e', _, _] => value_of(KCall::Queue(QueueCall::Enq(0)), word, rest),
-        [b'l', _, _] => value_of(KCall::Queue(QueueCall::Len), word, rest),
-        [b'p', _, _] => value_of(KCall::Console(ConsoleCall::Put(0)), word, rest),
-        [b'g', _, _] => value_of(KCall::Console(ConsoleCall::Get), word, rest),
-        [b'f', _, _, _] => value_of(
-            KCall::Pool(PoolCall::Free { owner: 0, page: 0 }),
-            word,
-            rest,
-        ),
-        [b'l', _, _, _] => value_of(KCall::Pool(PoolCall::Left), word, rest),
-        [b'n', _, _, _] => value_of(KCall::Sched(SchedCall::Next), word, rest),
-        [b'w', _, _, _] => value_of(KCall::Sched(SchedCall::Wake(0)), word, rest),
-        [b'a', _, _, _, _] => value_of(KCall::Pool(PoolCall::Alloc(0)), word, rest),
-        [b'l', _, _, _, _] => value_of(KCall::Console(ConsoleCall::Level), word, rest),
-        [b'r', _, _, _, _] => value_of(KCall::Sched(SchedCall::Ready(0)), word, rest),
-        [b's', _, _, _, _] => value_of(
-            KCall::Sched(SchedCall::Sleep {
-                channel: 0,
-                thread: 0,
-            }),
-            word,
-            rest,
-        ),
-        [_, _, _, _, _, _] => value_of(KCall::Queue(QueueCall::Remove(0)), word, rest),
-        [_, _, _, _, _, _, _] => value_of(KCall::Sched(SchedCall::WakeAll(0)), word, rest),
-        _ => None,
-    }
-}
-
-/// The reply of the one word that it may be.
-#[inline(always)]
-fn reply_of<'a>(word: &[u8], rest: Words<'a>) -> Option<(KReply, Words<'a>)>
-    ensures { IfSome result (λ x. value_at reply_row reply_samples reply_filled (word.now ∷ left rest.entry) ≡ Some (x.0, left x.1)) }
-{
-    match word {
-        [_, _] => value_of(KReply::Ok, word, rest),
-        [b'p', _, _, _] => value_of(KReply::Page(0), word, rest),
-        [b'n', _, _, _] => value_of(KReply::NoPage, word, rest),
-        [b'b', _, _, _] => value_of(KReply::Byte(0), word, rest),
-        [b'e', _, _, _, _] => value_of(KReply::Empty, word, rest),
-        [b'c', _, _, _, _] => value_of(KReply::Count(0), word, rest),
-        [b't', _, _, _, _, _] => value_of(KReply::Thread(0), word, rest),
-        [b'a', _, _, _, _, _] => value_of(KReply::Absent, word, rest),
-        [b'a', _, _, _, _, _, _] => value_of(KReply::Already, word, rest),
-        [b'd', _, _, _, _, _, _] => value_of(KReply::Dropped(0), word, rest),
-        [_, _, _, b'p', _, _, _] => value_of(KReply::BadPage, word, rest),
-        [_, _, _, b'c', _, _, _] => value_of(KReply::BadCall, word, rest),
-        [b'b', _, _, _, _, _, _, _] => value_of(KReply::BadOwner, word, rest),
-        [_, _, _, b'y', _, _, _, _] => value_of(KReply::NotYours, word, rest),
-        [_, _, _, b't', _, _, _, _] => value_of(KReply::NotTaken, word, rest),
-        [b'b', _, _, _, _, _, _, _, _] => value_of(KReply::BadThread, word, rest),
-        [b'o', _, _, _, _, _, _, _, _] => value_of(KReply::OverQuota, word, rest),
-        [_, _, _, _, _, _, _, _, _, _] => value_of(KReply::BadChannel, word, rest),
-        _ => None,
+        match at? {
+            [b'o', b'k', ..] => value_of(KReply::Ok, at),
+            [b'o', ..] => value_of(KReply::OverQuota, at),
+            [b'a', b'l', ..] => value_of(KReply::Already, at),
+            [b'a', ..] => value_of(KReply::Absent, at),
+            [b'c', ..] => value_of(KReply::Count(0), at),
+            [b'd', ..] => value_of(KReply::Dropped(0), at),
+            [b'e', ..] => value_of(KReply::Empty, at),
+            [b'n', b'o', b'n', ..] => value_of(KReply::NoPage, at),
+            [b'n', b'o', b't', b'y', ..] => value_of(KReply::NotYours, at),
+            [b'n', ..] => value_of(KReply::NotTaken, at),
+            [b'p', ..] => value_of(KReply::Page(0), at),
+            [b't', ..] => value_of(KReply::Thread(0), at),
+            [b'b', b'y', ..] => value_of(KReply::Byte(0), at),
+            [b'b', _, _, b'p', ..] => value_of(KReply::BadPage, at),
+            [b'b', _, _, b'o', ..] => value_of(KReply::BadOwner, at),
+            [b'b', _, _, b't', ..] => value_of(KReply::BadThread, at),
+            [b'b', _, _, b'c', b'a', ..] => value_of(KReply::BadCall, at),
+            [b'b', ..] => value_of(KReply::BadChannel, at),
+            _ => None,
+        }
     }
 }

@@ -5,7 +5,7 @@ ghost use Rattle.std.specs.Option.{option_map};
 ghost use Rattle.scripts.specs.Reading.{left};
 ghost use Rattle.scripts.specs.Row.{wide, byte, limit, up_to, field_at, numbers_at, sample_at, value_at, spelled, row_fits};
 
-use crate::text::words::{Words, number, word};
+use crate::text::words::{Words, after, number, word};
 use crate::{FastRead, Field, Spelled, Spelling};
 use arrayvec::ArrayVec;
 use page_pool::MOST_PAGES;
@@ -98,22 +98,15 @@ fn by_table<T: Spelled>(at: Words<'_>) -> Option<(T, Words<'_>)>
     Some((sample.with_numbers(numbers.as_slice()), rest))
 }
 
-/// The value of the sample's word with the numbers that are next, if the word is the sample's.
+/// The value of the sample's word with the numbers behind it, if that word is next.
 #[inline(always)]
-pub(crate) fn value_of<'a, T: Spelled>(
-    sample: T,
-    name: &[u8],
-    rest: Words<'a>,
-) -> Option<(T, Words<'a>)>
-    ensures { IfSome result (λ x. value_at T.row_of T.table T.filled (name.now ∷ left rest.entry) ≡ Some (x.0, left x.1)) }
+pub(crate) fn value_of<T: Spelled>(sample: T, at: Words<'_>) -> Option<(T, Words<'_>)>
+    ensures { IfSome result (λ x. value_at T.row_of T.table T.filled (left at.entry) ≡ Some (x.0, left x.1)) }
 {
     let Spelling { word, fields } = sample.spelling();
-    if word == name {
-        let (numbers, rest) = numbers(fields.as_slice(), rest)?;
-        Some((sample.with_numbers(numbers.as_slice()), rest))
-    } else {
-        None
-    }
+    let rest = after(word, at)?;
+    let (numbers, rest) = numbers(fields.as_slice(), rest)?;
+    Some((sample.with_numbers(numbers.as_slice()), rest))
 }
 
 /// The value that is next, read from left to right.

@@ -1,10 +1,11 @@
 //! The words of a line, from left to right.
 
-ghost use Rattle.std.specs.Prelude.{◌≡◌, ◌∷◌, [], ◌≤◌, ◌<◌, ◌+◌, ℕ, Some, IfSome, IfNone, decimal};
+ghost use Rattle.std.specs.Prelude.{◌≡◌, ◌∷◌, ◌++◌, [], ◌≤◌, ◌<◌, ◌+◌, ℕ, Some, IfSome, IfNone, decimal};
 ghost use Rattle.std.specs.Int.{IsInRange};
 ghost use Rattle.std.specs.Option.{option_map};
 ghost use Rattle.std.specs.Str.Parse.{digits_value};
-ghost use Rattle.scripts.specs.Reading.{AreDigits, left, word_at, key_at, number_in, number_at};
+ghost use Rattle.scripts.specs.Reading.{AreDigits, left, word_at, behind_at, key_at, number_in, number_at};
+ghost use Rattle.scripts.specs.Row.{IsPlain};
 
 use crate::text::split::split_once;
 
@@ -34,20 +35,58 @@ pub fn key<'a>(key: &[u8], at: Words<'a>) -> Option<Words<'a>>
     if word == key { Some(rest) } else { None }
 }
 
-/// What follows the byte, if a word of it alone is next.
-#[tactic(auto, unfolding(crate::specs::Reading::key_at))]
+/// The words behind a word that ends where the bytes begin.
 #[inline(always)]
-pub(crate) fn mark(mark: u8, at: Words<'_>) -> Option<Words<'_>>
-    ensures { option_map left result ≡ key_at (mark ∷ []) (left at.entry) }
+fn behind(bytes: &[u8]) -> Option<Words<'_>>
+    ensures { option_map left result ≡ behind_at bytes.now }
 {
-    let (word, rest) = word(at)?;
-    match word {
-        [byte] if *byte == mark => Some(rest),
+    match bytes {
+        [] => Some(None),
+        [b' ', rest @ ..] => Some(Some(rest)),
         _ => None,
     }
 }
 
+/// What follows the byte, if a word of it alone is next.
+#[inline(always)]
+pub(crate) fn mark(mark: u8, at: Words<'_>) -> Option<Words<'_>>
+    ensures { option_map left result ≡ key_at (mark ∷ []) (left at.entry) }
+{
+    let (first, rest) = at?.split_first()?;
+    if *first != mark {
+        return None;
+    }
+    if mark == b' ' {
+        return None;
+    }
+    behind(rest)
+}
+
+/// What stands behind the front, if the bytes begin with it.
+#[inline(always)]
+fn strip<'a>(front: &[u8], bytes: &'a [u8]) -> Option<&'a [u8]>
+    ensures { IfSome result (λ rest. bytes.now ≡ front.now ++ rest.now) }
+{
+    let mut left = bytes;
+    for byte in front {
+        match left {
+            [first, rest @ ..] if first == byte => left = rest,
+            _ => return None,
+        }
+    }
+    Some(left)
+}
+
+/// What follows the word, in which there is no space, if it is next.
+#[inline(always)]
+pub(crate) fn after<'a>(word: &[u8], at: Words<'a>) -> Option<Words<'a>>
+    ensures { IsPlain word.now → IfSome result (λ rest. left at.entry ≡ word.now ∷ left rest) }
+{
+    behind(strip(word, at?)?)
+}
+
 /// The value of a digit.
+#[inline(always)]
 fn digit(byte: u8) -> Option<u64>
     ensures found { IfSome result (λ d. (byte ≡ 48 + d) × (d < 10)) }
     ensures none { IfNone result (IsInRange 48 57 byte → ⊥) }
@@ -93,6 +132,21 @@ pub fn number_of(word: &[u8], high: u64) -> Option<u64>
     digits(word, high)
 }
 
+/// The number of one digit that is next: most have no more.
+#[inline(always)]
+fn one_digit<'a>(high: u64, at: Words<'a>) -> Option<(u64, Words<'a>)>
+    ensures { IfSome result (λ x. (x.0 ≤ high) × (number_at high (left at.entry) ≡ Some (x.0, left x.1))) }
+{
+    let (first, rest) = at?.split_first()?;
+    let number = digit(*first)?;
+    let rest = behind(rest)?;
+    if number <= high {
+        Some((number, rest))
+    } else {
+        None
+    }
+}
+
 /// The number of at most `high` that is next.
 #[tactic(auto, unfolding(crate::specs::Reading::number_at))]
 #[inline(always)]
@@ -100,6 +154,9 @@ pub fn number<'a>(high: u64, at: Words<'a>) -> Option<(u64, Words<'a>)>
     ensures value { option_map (λ x. (x.0, left x.1)) result ≡ number_at high (left at.entry) }
     ensures bound { IfSome result (λ x. x.0 ≤ high) }
 {
+    if let Some(found) = one_digit(high, at) {
+        return Some(found);
+    }
     let (word, rest) = word(at)?;
     let number = number_of(word, high)?;
     Some((number, rest))
