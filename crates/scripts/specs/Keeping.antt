@@ -70,7 +70,7 @@ pub record InTranscripts (p : Parts) : Type 0 where
 
 -- those settings were told, and all that was begun is whole
 pub record IsWholeWith (settings : Settings) (p : Parts) : Type 0 where
-  pub settings : p.settings ≡ settings
+  pub told : p.settings ≡ settings
   pub begun : p.begun ≡ false
   pub events : p.events ≡ []
   pub entries : p.entries ≡ []
