@@ -1,6 +1,5 @@
 -- A list before and behind a place.
 use Rattle.std.proofs.Common.{◌≡◌, ℕ, zero, suc, ◌+◌, ◌<◌, ◌≤◌, List, [], ◌∷◌, ◌++◌, length, map, take, drop, get_or, refl, sym, ap, ◌∙◌, arith, add-one}
-use Rattle.std.proofs.lemmas.List.{map-append}
 
 module _ {X : Type 0} where
   split_suc : (xs : List X) (i : ℕ) (x : X) → i < length xs → x ≡ get_or xs i x → xs ≡ take i xs ++ x ∷ drop (suc i) xs
@@ -31,7 +30,3 @@ module _ {X : Type 0} where
   take_all [] (suc i) le = refl
   take_all (y ∷ ys) zero le = absurd (omega arith)
   take_all (y ∷ ys) (suc i) le = ap (λ z. y ∷ z) (take_all ys i (omega arith))
-
--- a list of images, after one more
-pub map_next : {X Y : Type 0} (f : X → Y) (xs : List X) (i : ℕ) (x : X) (y : Y) (ys : List Y) → i < length xs → x ≡ get_or xs i x → ys ≡ map f (take i xs) → y ≡ f x → ys ++ y ∷ [] ≡ map f (take (i + 1) xs)
-map_next f xs i x y ys lt is all one = (λ j. all j ++ one j ∷ []) ∙ sym (ap (map f) (take_one xs i x lt is) ∙ map-append f (take i xs) (x ∷ []))
