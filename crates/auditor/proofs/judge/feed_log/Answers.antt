@@ -7,20 +7,16 @@ use Rattle.auditor.proofs.judge.feed_log.Goals as goal
 pub loop-event-init : goal.loop-event-init
 loop-event-init g c = events_begin c.args.judged.now c.args.opened.now c.args.log.now c.begin_log.new.self c.requires.before.events c.in_ok-begin_log.ensures.ok
 
-pub event-requires-clause-log : goal.event-requires-clause-log
-event-requires-clause-log g c = still_in_log c.args.judged.now c.args.opened.now c.args.log.now c.loop-event.judged c.loop-event.event-index c.loop-event.invariant c.requires.before
-
-pub event-requires-clause-count : goal.event-requires-clause-count
-event-requires-clause-count g c = more_events c.args.judged.now c.args.opened.now c.args.log.now c.loop-event.judged c.loop-event.event-index c.loop-event.invariant c.loop-event-test.true
-
-pub event-requires-clause-cpu : goal.event-requires-clause-cpu
-event-requires-clause-cpu g c =
-    let lt = (c.requires.events c.loop-event.event-index c.event-item.result (read_get c.args.log.now c.loop-event.event-index c.event-item.result c.loop-event-test.true c.event-item.is)).0 in
-    let same = ap (λ (k : Fed _ _ _ _). k.cpus) c.loop-event.invariant in
-    omega (arith, lt, same)
-
-pub event-requires-clause-steps : goal.event-requires-clause-steps
-event-requires-clause-steps g c = (c.requires.events c.loop-event.event-index c.event-item.result (read_get c.args.log.now c.loop-event.event-index c.event-item.result c.loop-event-test.true c.event-item.is)).1
+pub event-requires : goal.event-requires
+event-requires g c = record {
+  log = still_in_log c.args.judged.now c.args.opened.now c.args.log.now c.loop-event.judged c.loop-event.event-index c.loop-event.invariant c.requires.before;
+  count = more_events c.args.judged.now c.args.opened.now c.args.log.now c.loop-event.judged c.loop-event.event-index c.loop-event.invariant c.loop-event-test.true;
+  cpu =
+      let lt = (c.requires.events c.loop-event.event-index c.event-item.result (read_get c.args.log.now c.loop-event.event-index c.event-item.result c.loop-event-test.true c.event-item.is)).0 in
+      let same = ap (λ (k : Fed _ _ _ _). k.cpus) c.loop-event.invariant in
+      omega (arith, lt, same);
+  steps = (c.requires.events c.loop-event.event-index c.event-item.result (read_get c.args.log.now c.loop-event.event-index c.event-item.result c.loop-event-test.true c.event-item.is)).1;
+}
 
 pub loop-event-preserved : goal.loop-event-preserved
 loop-event-preserved g c = events_next c.args.judged.now c.args.opened.now c.args.log.now c.loop-event.judged c.event.new.self c.loop-event.event-index c.event-item.result c.loop-event.invariant c.loop-event-test.true c.event-item.is c.in_ok-event.ensures.ok

@@ -17,20 +17,19 @@ offset_bounds-opened_objects-object g c = let n = c.requires.run.counted in let 
 pub loop-object-init : goal.loop-object-init
 loop-object-init g c = c.requires.nothing
 
-pub feed_log-requires-clause-able : goal.feed_log-requires-clause-able
-feed_log-requires-clause-able g c =
-    let n = c.requires.run.counted in
-    let m = ap length c.as_slice-logs.ensures in
-    c.requires.run.able c.loop-object.object c.index-opened_objects-object.result (read_get c.args.opened_objects.now c.loop-object.object c.index-opened_objects-object.result (omega (arith, n, m)) c.index-opened_objects-object.is)
-
-pub feed_log-requires-clause-before : goal.feed_log-requires-clause-before
-feed_log-requires-clause-before g c = let m = ap length c.as_slice-logs.ensures in before_log g.O.SeqObject c.args.opened_objects.now c.args.run.now c.requires.run c.loop-object.judged c.loop-object.object c.loop-object.invariant (omega (arith, m))
-
-pub feed_log-requires-clause-events : goal.feed_log-requires-clause-events
-feed_log-requires-clause-events g c =
-    let m = ap length c.as_slice-logs.ensures in
-    let here = read_from c.as_slice-logs.result.now c.args.run.now.logs c.loop-object.object c.index-logs-object.result c.as_slice.result.now c.as_slice-logs.ensures c.loop-object-test.true c.index-logs-object.is c.as_slice.ensures in
-    events_on g.O.SeqObject c.args.opened_objects.now c.args.run.now c.requires.run c.loop-object.judged c.loop-object.object c.as_slice.result.now c.loop-object.invariant (omega (arith, m)) here
+pub feed_log-requires : goal.feed_log-requires
+feed_log-requires g c = record {
+  able =
+      let n = c.requires.run.counted in
+      let m = ap length c.as_slice-logs.ensures in
+      c.requires.run.able c.loop-object.object c.index-opened_objects-object.result (read_get c.args.opened_objects.now c.loop-object.object c.index-opened_objects-object.result (omega (arith, n, m)) c.index-opened_objects-object.is);
+  before =
+    let m = ap length c.as_slice-logs.ensures in before_log g.O.SeqObject c.args.opened_objects.now c.args.run.now c.requires.run c.loop-object.judged c.loop-object.object c.loop-object.invariant (omega (arith, m));
+  events =
+      let m = ap length c.as_slice-logs.ensures in
+      let here = read_from c.as_slice-logs.result.now c.args.run.now.logs c.loop-object.object c.index-logs-object.result c.as_slice.result.now c.as_slice-logs.ensures c.loop-object-test.true c.index-logs-object.is c.as_slice.ensures in
+      events_on g.O.SeqObject c.args.opened_objects.now c.args.run.now c.requires.run c.loop-object.judged c.loop-object.object c.as_slice.result.now c.loop-object.invariant (omega (arith, m)) here;
+}
 
 pub loop-object-preserved : goal.loop-object-preserved
 loop-object-preserved g c =

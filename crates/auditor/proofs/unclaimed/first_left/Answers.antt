@@ -5,8 +5,8 @@ use Rattle.auditor.proofs.JudgedRuns.{index_map}
 use Rattle.auditor.proofs.LeftEvents.{taken_more, left_here}
 use Rattle.auditor.proofs.unclaimed.first_left.Goals as goal
 
-pub returns-then-kept : goal.returns-then-kept
-returns-then-kept g c =
+pub returns-then-kept-len : goal.returns-then-kept-len
+returns-then-kept-len g c =
     let logs = c.args.logs.now in
     let x = c.loop-object.object in
     let kept = c.index-logs-object.result in

@@ -4,15 +4,6 @@ use Rattle.auditor.specs.SoFar.{IsInTranscripts}
 use Rattle.auditor.proofs.NotesSoFar.{noted_at}
 use Rattle.auditor.proofs.judged.Judged.entry.Goals as goal
 
-pub entry-requires-clause-transcripts : goal.entry-requires-clause-transcripts
-entry-requires-clause-transcripts g c = subst (λ (d : Fed _ _ _ _). IsInTranscripts d) (sym c.self.view_is) c.requires.transcripts
-
-pub entry-requires-clause-object : goal.entry-requires-clause-object
-entry-requires-clause-object g c = subst (λ (d : Fed _ _ _ _). c.args.entry.now.object < d.objects) (sym c.self.view_is) c.requires.object
-
-pub tell_entry-requires : goal.tell_entry-requires
-tell_entry-requires g c = subst (λ (d : Fed _ _ _ _). length d.entries < d.count) (sym c.self.view_is) c.requires.count
-
 pub invariant_of-self : goal.invariant_of-self
 invariant_of-self g c = noted_at g.O.SeqObject g.J.ReferenceObject.shows (sym c.tell_entry.ensures) refl refl refl refl c.entry.ensures
 
