@@ -8,15 +8,21 @@ pub loop-event-init : goal.loop-event-init
 loop-event-init g c = events_begin c.args.judged.now c.args.opened.now c.args.log.now c.begin_log.new.self c.requires.before.events c.in_ok-begin_log.ensures.ok
 
 pub event-requires : goal.event-requires
-event-requires g c = record {
-  log = still_in_log c.args.judged.now c.args.opened.now c.args.log.now c.loop-event.judged c.loop-event.event-index c.loop-event.invariant c.requires.before;
-  count = more_events c.args.judged.now c.args.opened.now c.args.log.now c.loop-event.judged c.loop-event.event-index c.loop-event.invariant c.loop-event-test.true;
-  cpu =
-      let lt = (c.requires.events c.loop-event.event-index c.event-item.result (read_get c.args.log.now c.loop-event.event-index c.event-item.result c.loop-event-test.true c.event-item.is)).0 in
-      let same = ap (λ (k : Fed _ _ _ _). k.cpus) c.loop-event.invariant in
-      omega (arith, lt, same);
-  steps = (c.requires.events c.loop-event.event-index c.event-item.result (read_get c.args.log.now c.loop-event.event-index c.event-item.result c.loop-event-test.true c.event-item.is)).1;
-}
+event-requires g c = (
+    g.met.O.SeqObject.event_fits,
+    (
+        still_in_log c.args.judged.now c.args.opened.now c.args.log.now c.loop-event.judged c.loop-event.event-index c.loop-event.invariant c.requires.before,
+        (
+            more_events c.args.judged.now c.args.opened.now c.args.log.now c.loop-event.judged c.loop-event.event-index c.loop-event.invariant c.loop-event-test.true,
+            (
+                let lt = (c.requires.events c.loop-event.event-index c.event-item.result (read_get c.args.log.now c.loop-event.event-index c.event-item.result c.loop-event-test.true c.event-item.is)).0 in
+                let same = ap (λ (k : Fed _ _ _ _). k.cpus) c.loop-event.invariant in
+                omega (arith, lt, same),
+                (c.requires.events c.loop-event.event-index c.event-item.result (read_get c.args.log.now c.loop-event.event-index c.event-item.result c.loop-event-test.true c.event-item.is)).1,
+            ),
+        ),
+    ),
+)
 
 pub loop-event-preserved : goal.loop-event-preserved
 loop-event-preserved g c = events_next c.args.judged.now c.args.opened.now c.args.log.now c.loop-event.judged c.event.new.self c.loop-event.event-index c.event-item.result c.loop-event.invariant c.loop-event-test.true c.event-item.is c.in_ok-event.ensures.ok

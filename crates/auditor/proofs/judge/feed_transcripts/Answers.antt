@@ -10,15 +10,18 @@ pub loop-entries-init : goal.loop-entries-init
 loop-entries-init g c = c.requires.logs
 
 pub feed_transcript-requires : goal.feed_transcript-requires
-feed_transcript-requires g c = record {
-  transcripts =
-    let m = ap length c.as_slice-transcripts.ensures in in_transcripts g.O.SeqObject c.args.opened_objects.now c.args.run.now c.requires.run c.loop-entries.judged c.loop-entries.entries-index c.loop-entries.invariant (omega (arith, m));
-  entries = no_entries g.O.SeqObject c.args.opened_objects.now c.args.run.now c.requires.run c.loop-entries.judged c.loop-entries.entries-index c.loop-entries.invariant;
-  objects =
-      let m = ap length c.as_slice-transcripts.ensures in
-      let here = read_from c.as_slice-transcripts.result.now c.args.run.now.transcripts c.loop-entries.entries-index c.entries-item.result c.as_slice.result.now c.as_slice-transcripts.ensures c.loop-entries-test.true c.entries-item.is c.as_slice.ensures in
-      entries_on g.O.SeqObject c.args.opened_objects.now c.args.run.now c.requires.run c.loop-entries.judged c.loop-entries.entries-index c.as_slice.result.now c.loop-entries.invariant (omega (arith, m)) here;
-}
+feed_transcript-requires g c = (
+    g.met.O.SeqObject.entry_fits,
+    (
+        let m = ap length c.as_slice-transcripts.ensures in in_transcripts g.O.SeqObject c.args.opened_objects.now c.args.run.now c.requires.run c.loop-entries.judged c.loop-entries.entries-index c.loop-entries.invariant (omega (arith, m)),
+        (
+            no_entries g.O.SeqObject c.args.opened_objects.now c.args.run.now c.requires.run c.loop-entries.judged c.loop-entries.entries-index c.loop-entries.invariant,
+            let m = ap length c.as_slice-transcripts.ensures in
+            let here = read_from c.as_slice-transcripts.result.now c.args.run.now.transcripts c.loop-entries.entries-index c.entries-item.result c.as_slice.result.now c.as_slice-transcripts.ensures c.loop-entries-test.true c.entries-item.is c.as_slice.ensures in
+            entries_on g.O.SeqObject c.args.opened_objects.now c.args.run.now c.requires.run c.loop-entries.judged c.loop-entries.entries-index c.as_slice.result.now c.loop-entries.invariant (omega (arith, m)) here,
+        ),
+    ),
+)
 
 pub loop-entries-preserved : goal.loop-entries-preserved
 loop-entries-preserved g c =
