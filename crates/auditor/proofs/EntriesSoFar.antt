@@ -1,5 +1,5 @@
 -- What is known of the entries fed so far, and after one more.
-use Rattle.std.proofs.Common.{◌≡◌, ◌≢◌, ℕ, ◌+◌, ◌<◌, ◌≤◌, List, [], ◌∷◌, ◌++◌, length, take, Err, Some, slice_get, refl, sym, ap, ◌∙◌, subst, arith, length-append, append_assoc}
+use Rattle.std.proofs.Common.{◌≡◌, ◌≢◌, ℕ, ◌+◌, List, [], ◌∷◌, ◌++◌, length, Err, Some, slice_get, refl, sym, ap, ◌∙◌, subst, arith, length-append, append_assoc}
 use Rattle.std.proofs.lemmas.List.{append-nil}
 use mathlib.Core.Logic.{dite}
 use native.Mathlib.Decide.{ℕ_discrete}
@@ -17,13 +17,13 @@ use Rattle.auditor.specs.declared.entries.EntryFault.{EntryFault}
 use Rattle.auditor.specs.declared.opened_object.OpenedObject.{OpenedObject}
 use Rattle.auditor.specs.Claims.{taken, IsRight, IsJudged}
 use Rattle.auditor.specs.Faults.{done_before}
-use Rattle.auditor.specs.Fed.{Fed, entry_fed, transcript_begun, transcript_ended}
+use Rattle.auditor.specs.Fed.{Fed, entry_fed, transcript_ended}
 use Rattle.auditor.specs.Passes.{AreSoundBefore, AreRightTo, fault_at}
 use Rattle.auditor.specs.SoFar.{IsInLog, HasLogs, IsWith, IsFaultSoFar, IsRightSoFar}
 use Rattle.auditor.specs.Transcripts.{log_in, IsRightAt, IsWrongAt, AreRightBefore}
 use Rattle.auditor.proofs.EntryFaults.{first_entry, right_more}
 use Rattle.auditor.proofs.Fronts.{same_front, get_behind, take_front, take_whole}
-use Rattle.auditor.proofs.GoingOn.{from_transcript, from_entry, from_transcript_end, transcript_here, all_logs, all_opened}
+use Rattle.auditor.proofs.GoingOn.{from_entry, from_transcript_end, transcript_here, all_logs, all_opened}
 use Rattle.auditor.proofs.LogsSoFar.{no_entry}
 
 module _ {O P C R : Type 0} where

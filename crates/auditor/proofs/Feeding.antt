@@ -8,7 +8,7 @@ use Rattle.event_log.specs.declared.entry.Run.{Run}
 use Rattle.sound_run.specs.Sound.{transcript_of, log_of}
 use Rattle.sound_run.proofs.Slices.{read_get}
 use Rattle.auditor.specs.declared.opened_object.OpenedObject.{OpenedObject}
-use Rattle.auditor.specs.Fed.{Fed, nothing, log_begun, event_fed, log_ended, log_fed, transcript_begun, entry_fed, transcript_ended, transcript_fed, logs_fed, run_fed}
+use Rattle.auditor.specs.Fed.{Fed, log_begun, event_fed, log_ended, log_fed, transcript_begun, entry_fed, transcript_ended, transcript_fed, logs_fed, run_fed}
 use Rattle.auditor.specs.Faults.{HasSteps}
 use Rattle.auditor.specs.Passes.{IsRunOf}
 use Rattle.auditor.specs.SoFar.{IsInLog, IsBeforeLog, HasLogs, IsInTranscripts}

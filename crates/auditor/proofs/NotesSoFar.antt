@@ -1,12 +1,12 @@
 -- What is noted, after one thing more was fed.
-use Rattle.std.proofs.Common.{◌≡◌, ⊎_elim, ℕ, ◌+◌, ◌<◌, ◌≤◌, Bool, true, false, true≢false, List, [], ◌∷◌, ◌++◌, length, get_or, Option, Some, None, Err, slice_get, refl, sym, ap, ◌∙◌, subst, arith, length-append}
+use Rattle.std.proofs.Common.{◌≡◌, ⊎_elim, ℕ, ◌+◌, ◌<◌, ◌≤◌, true, false, true≢false, List, [], ◌∷◌, ◌++◌, length, Option, Some, None, Err, slice_get, refl, sym, ap, ◌∙◌, subst, arith, length-append}
 use Rattle.std.specs.Prelude.{unwrap_or, slice_index, is_some}
 use Rattle.std.proofs.Math.ListN.{set}
 use Rattle.event_log.specs.declared.object.SeqObject.{Ghosts}
 use Rattle.event_log.specs.declared.event.Event.{Event}
 use Rattle.event_log.specs.declared.entry.Entry.{Entry}
 use Rattle.event_log.specs.declared.entry.Run.{Run}
-use Rattle.event_log.specs.Log.{after, replay_from}
+use Rattle.event_log.specs.Log.{replay_from}
 use Rattle.sound_run.specs.Sound.{done_on}
 use Rattle.auditor.specs.declared.entries.EntryFault.{EntryFault}
 use Rattle.auditor.specs.declared.fault.Fault.{Fault}
@@ -18,9 +18,9 @@ use Rattle.auditor.specs.Claims.{taken, IsRight, IsJudged}
 use Rattle.auditor.specs.Faults.{HasSteps, AreRight, IsFirstWrong}
 use Rattle.auditor.specs.Fed.{Fed, nothing, log_begun, event_fed, log_ended, transcript_begun, entry_fed, transcript_ended}
 use Rattle.auditor.specs.NextEvents.{IsAt, AreNextEvents}
-use Rattle.auditor.specs.Noted.{IsReplay, IsHeld, IsKeptLog, AreKeptLogs, IsRightWith, IsNoted}
+use Rattle.auditor.specs.Noted.{IsHeld, IsRightWith, IsNoted}
 use Rattle.auditor.specs.Passes.{fault_at}
-use Rattle.auditor.specs.SoFar.{IsInLog, IsBeforeLog, HasLogs, IsInTranscripts, IsWith, IsFaultSoFar}
+use Rattle.auditor.specs.SoFar.{IsInLog, IsBeforeLog, HasLogs, IsWith, IsFaultSoFar}
 use Rattle.auditor.specs.Transcripts.{log_in}
 use Rattle.auditor.specs.Turns.{IsTurned}
 use Rattle.auditor.proofs.EntriesSoFar.{wrong_entry, right_entry, right_transcript}

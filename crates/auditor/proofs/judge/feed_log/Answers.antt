@@ -1,4 +1,4 @@
-use Rattle.std.proofs.Common.{sym, ap, ◌∙◌, subst, arith}
+use Rattle.std.proofs.Common.{ap, ◌∙◌, arith}
 use Rattle.sound_run.proofs.Slices.{read_get}
 use Rattle.auditor.specs.Fed.{Fed}
 use Rattle.auditor.proofs.Feeding.{events_begin, events_next, events_end, still_in_log, more_events, no_more_events}
@@ -9,19 +9,19 @@ loop-event-init g c = events_begin c.args.judged.now c.args.opened.now c.args.lo
 
 pub event-requires : goal.event-requires
 event-requires g c = (
-    g.met.O.SeqObject.event_fits,
+  g.met.O.SeqObject.event_fits,
+  (
+    still_in_log c.args.judged.now c.args.opened.now c.args.log.now c.loop-event.judged c.loop-event.event-index c.loop-event.invariant c.requires.before,
     (
-        still_in_log c.args.judged.now c.args.opened.now c.args.log.now c.loop-event.judged c.loop-event.event-index c.loop-event.invariant c.requires.before,
-        (
-            more_events c.args.judged.now c.args.opened.now c.args.log.now c.loop-event.judged c.loop-event.event-index c.loop-event.invariant c.loop-event-test.true,
-            (
-                let lt = (c.requires.events c.loop-event.event-index c.event-item.result (read_get c.args.log.now c.loop-event.event-index c.event-item.result c.loop-event-test.true c.event-item.is)).0 in
-                let same = ap (λ (k : Fed _ _ _ _). k.cpus) c.loop-event.invariant in
-                omega (arith, lt, same),
-                (c.requires.events c.loop-event.event-index c.event-item.result (read_get c.args.log.now c.loop-event.event-index c.event-item.result c.loop-event-test.true c.event-item.is)).1,
-            ),
-        ),
+      more_events c.args.judged.now c.args.opened.now c.args.log.now c.loop-event.judged c.loop-event.event-index c.loop-event.invariant c.loop-event-test.true,
+      (
+        let lt = (c.requires.events c.loop-event.event-index c.event-item.result (read_get c.args.log.now c.loop-event.event-index c.event-item.result c.loop-event-test.true c.event-item.is)).0 in
+            let same = ap (λ (k : Fed _ _ _ _). k.cpus) c.loop-event.invariant in
+            omega (arith, lt, same),
+        (c.requires.events c.loop-event.event-index c.event-item.result (read_get c.args.log.now c.loop-event.event-index c.event-item.result c.loop-event-test.true c.event-item.is)).1,
+      ),
     ),
+  ),
 )
 
 pub loop-event-preserved : goal.loop-event-preserved

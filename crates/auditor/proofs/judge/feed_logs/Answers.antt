@@ -1,6 +1,5 @@
-use Rattle.std.proofs.Common.{◌≡◌, ℕ, ◌<◌, List, length, get_or, sym, ap, ◌∙◌, subst, arith}
+use Rattle.std.proofs.Common.{◌≡◌, ℕ, ◌<◌, List, length, get_or, sym, ap, ◌∙◌, arith}
 use Rattle.sound_run.proofs.Slices.{read_get}
-use Rattle.event_log.specs.declared.event.Event.{Event}
 use Rattle.auditor.proofs.Feeding.{logs_next, logs_end, before_log, events_on}
 use Rattle.auditor.proofs.judge.feed_logs.Goals as goal
 
@@ -19,18 +18,18 @@ loop-object-init g c = c.requires.nothing
 
 pub feed_log-requires : goal.feed_log-requires
 feed_log-requires g c = (
-    g.met.O.SeqObject.event_fits,
-    (
-        let n = c.requires.run.counted in
+  g.met.O.SeqObject.event_fits,
+  (
+    let n = c.requires.run.counted in
         let m = ap length c.as_slice-logs.ensures in
         c.requires.run.able c.loop-object.object c.index-opened_objects-object.result (read_get c.args.opened_objects.now c.loop-object.object c.index-opened_objects-object.result (omega (arith, n, m)) c.index-opened_objects-object.is),
-        (
-            let m = ap length c.as_slice-logs.ensures in before_log g.O.SeqObject c.args.opened_objects.now c.args.run.now c.requires.run c.loop-object.judged c.loop-object.object c.loop-object.invariant (omega (arith, m)),
-            let m = ap length c.as_slice-logs.ensures in
-            let here = read_from c.as_slice-logs.result.now c.args.run.now.logs c.loop-object.object c.index-logs-object.result c.as_slice.result.now c.as_slice-logs.ensures c.loop-object-test.true c.index-logs-object.is c.as_slice.ensures in
-            events_on g.O.SeqObject c.args.opened_objects.now c.args.run.now c.requires.run c.loop-object.judged c.loop-object.object c.as_slice.result.now c.loop-object.invariant (omega (arith, m)) here,
-        ),
+    (
+      let m = ap length c.as_slice-logs.ensures in before_log g.O.SeqObject c.args.opened_objects.now c.args.run.now c.requires.run c.loop-object.judged c.loop-object.object c.loop-object.invariant (omega (arith, m)),
+      let m = ap length c.as_slice-logs.ensures in
+          let here = read_from c.as_slice-logs.result.now c.args.run.now.logs c.loop-object.object c.index-logs-object.result c.as_slice.result.now c.as_slice-logs.ensures c.loop-object-test.true c.index-logs-object.is c.as_slice.ensures in
+          events_on g.O.SeqObject c.args.opened_objects.now c.args.run.now c.requires.run c.loop-object.judged c.loop-object.object c.as_slice.result.now c.loop-object.invariant (omega (arith, m)) here,
     ),
+  ),
 )
 
 pub loop-object-preserved : goal.loop-object-preserved

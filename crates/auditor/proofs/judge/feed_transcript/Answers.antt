@@ -1,4 +1,4 @@
-use Rattle.std.proofs.Common.{sym, ap, ◌∙◌, subst, arith}
+use Rattle.std.proofs.Common.{arith}
 use Rattle.sound_run.proofs.Slices.{read_get}
 use Rattle.auditor.proofs.Feeding.{entries_begin, entries_next, entries_end, still_in, more_entries, same_objects}
 use Rattle.auditor.proofs.judge.feed_transcript.Goals as goal
@@ -8,16 +8,16 @@ loop-entry-init g c = entries_begin c.args.judged.now c.args.transcript.now c.be
 
 pub entry-requires : goal.entry-requires
 entry-requires g c = (
-    g.met.O.SeqObject.entry_fits,
+  g.met.O.SeqObject.entry_fits,
+  (
+    still_in c.args.judged.now c.args.transcript.now c.loop-entry.judged c.loop-entry.entry-index c.loop-entry.invariant c.requires.transcripts,
     (
-        still_in c.args.judged.now c.args.transcript.now c.loop-entry.judged c.loop-entry.entry-index c.loop-entry.invariant c.requires.transcripts,
-        (
-            more_entries c.args.judged.now c.args.transcript.now c.loop-entry.judged c.loop-entry.entry-index c.loop-entry.invariant c.loop-entry-test.true,
-            let lt = c.requires.objects c.loop-entry.entry-index c.entry-item.result (read_get c.args.transcript.now c.loop-entry.entry-index c.entry-item.result c.loop-entry-test.true c.entry-item.is) in
-            let same = same_objects c.args.judged.now c.args.transcript.now c.loop-entry.judged c.loop-entry.entry-index c.loop-entry.invariant in
-            omega (arith, lt, same),
-        ),
+      more_entries c.args.judged.now c.args.transcript.now c.loop-entry.judged c.loop-entry.entry-index c.loop-entry.invariant c.loop-entry-test.true,
+      let lt = c.requires.objects c.loop-entry.entry-index c.entry-item.result (read_get c.args.transcript.now c.loop-entry.entry-index c.entry-item.result c.loop-entry-test.true c.entry-item.is) in
+          let same = same_objects c.args.judged.now c.args.transcript.now c.loop-entry.judged c.loop-entry.entry-index c.loop-entry.invariant in
+          omega (arith, lt, same),
     ),
+  ),
 )
 
 pub loop-entry-preserved : goal.loop-entry-preserved

@@ -1,4 +1,4 @@
-use Rattle.std.proofs.Common.{◌≡◌, ℕ, ◌<◌, List, length, get_or, sym, ap, ◌∙◌, subst, arith}
+use Rattle.std.proofs.Common.{◌≡◌, ℕ, ◌<◌, List, length, get_or, sym, ap, ◌∙◌, arith}
 use Rattle.auditor.proofs.Feeding.{transcripts_next, transcripts_end, in_transcripts, no_entries, entries_on}
 use Rattle.auditor.proofs.judge.feed_transcripts.Goals as goal
 
@@ -11,16 +11,16 @@ loop-entries-init g c = c.requires.logs
 
 pub feed_transcript-requires : goal.feed_transcript-requires
 feed_transcript-requires g c = (
-    g.met.O.SeqObject.entry_fits,
+  g.met.O.SeqObject.entry_fits,
+  (
+    let m = ap length c.as_slice-transcripts.ensures in in_transcripts g.O.SeqObject c.args.opened_objects.now c.args.run.now c.requires.run c.loop-entries.judged c.loop-entries.entries-index c.loop-entries.invariant (omega (arith, m)),
     (
-        let m = ap length c.as_slice-transcripts.ensures in in_transcripts g.O.SeqObject c.args.opened_objects.now c.args.run.now c.requires.run c.loop-entries.judged c.loop-entries.entries-index c.loop-entries.invariant (omega (arith, m)),
-        (
-            no_entries g.O.SeqObject c.args.opened_objects.now c.args.run.now c.requires.run c.loop-entries.judged c.loop-entries.entries-index c.loop-entries.invariant,
-            let m = ap length c.as_slice-transcripts.ensures in
-            let here = read_from c.as_slice-transcripts.result.now c.args.run.now.transcripts c.loop-entries.entries-index c.entries-item.result c.as_slice.result.now c.as_slice-transcripts.ensures c.loop-entries-test.true c.entries-item.is c.as_slice.ensures in
-            entries_on g.O.SeqObject c.args.opened_objects.now c.args.run.now c.requires.run c.loop-entries.judged c.loop-entries.entries-index c.as_slice.result.now c.loop-entries.invariant (omega (arith, m)) here,
-        ),
+      no_entries g.O.SeqObject c.args.opened_objects.now c.args.run.now c.requires.run c.loop-entries.judged c.loop-entries.entries-index c.loop-entries.invariant,
+      let m = ap length c.as_slice-transcripts.ensures in
+          let here = read_from c.as_slice-transcripts.result.now c.args.run.now.transcripts c.loop-entries.entries-index c.entries-item.result c.as_slice.result.now c.as_slice-transcripts.ensures c.loop-entries-test.true c.entries-item.is c.as_slice.ensures in
+          entries_on g.O.SeqObject c.args.opened_objects.now c.args.run.now c.requires.run c.loop-entries.judged c.loop-entries.entries-index c.as_slice.result.now c.loop-entries.invariant (omega (arith, m)) here,
     ),
+  ),
 )
 
 pub loop-entries-preserved : goal.loop-entries-preserved

@@ -1,4 +1,4 @@
-use Rattle.std.proofs.Common.{map, sym, ap, ◌∙◌, arith}
+use Rattle.std.proofs.Common.{map, sym, arith}
 use Rattle.sound_run.proofs.Slices.{read_get, map_get}
 use Rattle.auditor.specs.declared.kept_log.KeptLog.{KeptLog}
 use Rattle.auditor.proofs.JudgedRuns.{index_map}

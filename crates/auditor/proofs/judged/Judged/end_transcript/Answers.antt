@@ -1,4 +1,4 @@
-use Rattle.std.proofs.Common.{◌≡◌, ◌<◌, [], length, refl, sym, ap, subst, ◌∙◌}
+use Rattle.std.proofs.Common.{◌<◌, length, refl, sym, ap, subst, ◌∙◌}
 use Rattle.auditor.specs.Fed.{Fed, transcript_ended}
 use Rattle.auditor.specs.SoFar.{IsInTranscripts}
 use Rattle.auditor.proofs.NotesSoFar.{noted_at}

@@ -1,6 +1,5 @@
-use Rattle.std.proofs.Common.{◌≡◌, ◌<◌, [], length, refl, sym, ap, subst, ◌∙◌}
+use Rattle.std.proofs.Common.{refl, sym, ap, ◌∙◌}
 use Rattle.auditor.specs.Fed.{Fed, entry_fed}
-use Rattle.auditor.specs.SoFar.{IsInTranscripts}
 use Rattle.auditor.proofs.NotesSoFar.{noted_at}
 use Rattle.auditor.proofs.judged.Judged.entry.Goals as goal
 

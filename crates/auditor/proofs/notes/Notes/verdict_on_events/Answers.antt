@@ -1,4 +1,4 @@
-use Rattle.std.proofs.Common.{length, map, ap, subst, ◌∙◌}
+use Rattle.std.proofs.Common.{length, map, subst}
 use Rattle.std.specs.Vec.{vec_capacity}
 use Rattle.auditor.specs.declared.kept_log.KeptLog.{KeptLog}
 use Rattle.auditor.specs.Fed.{run_of}

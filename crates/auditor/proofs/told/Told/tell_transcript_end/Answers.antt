@@ -1,5 +1,5 @@
-use Rattle.std.proofs.Common.{◌≡◌, [], ◌∷◌, ◌++◌, length, refl, ap, sym, ◌∙◌, arith, length-append}
-use Rattle.auditor.specs.Fed.{Fed, log_begun, event_fed, log_ended, entry_fed, transcript_ended}
+use Rattle.std.proofs.Common.{[], ◌∷◌, length, ap, sym, ◌∙◌, arith, length-append}
+use Rattle.auditor.specs.Fed.{Fed, transcript_ended}
 use Rattle.auditor.proofs.told.Told.tell_transcript_end.Goals as goal
 
 pub overflow_add-self : goal.overflow_add-self
