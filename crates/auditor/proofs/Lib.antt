@@ -3,8 +3,8 @@ pub mod WrongSteps
 pub mod OwnEvents
 pub mod NextEventSteps
 pub mod Judging
-pub mod DoneEntries
-pub mod Places
+pub mod Fronts
+pub mod PackedSteps
 pub mod Ranked
 pub mod Verdicts
 pub mod Compares
@@ -12,7 +12,14 @@ pub mod FaultOrder
 pub mod LogFaults
 pub mod EntryFaults
 pub mod LeftEvents
-pub mod OneCpu
+pub mod GoingOn
+pub mod LogsSoFar
+pub mod EntriesSoFar
+pub mod KeptLogs
+pub mod NotesSoFar
+pub mod JudgedRuns
+pub mod Feeding
+pub mod TurnedLogs
 pub mod RecordRuns
 pub mod HeldLists
 pub mod MarkedLists

@@ -4,7 +4,11 @@ pub mod Claims
 pub mod Transcripts
 pub mod Passes
 pub mod NoFaults
-pub mod Logs
+pub mod Fed
+pub mod SoFar
+pub mod Packed
+pub mod Turns
+pub mod Noted
 pub mod Audits
 pub mod Marks
 pub mod Pages

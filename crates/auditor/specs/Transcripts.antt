@@ -1,14 +1,12 @@
 -- A CPU's transcript against the logs.
-use Rattle.std.specs.Prelude.{◌≡◌, ℕ, ◌<◌, List, [], length, map, Err, Some, slice_get, slice_index, unwrap_or}
+use Rattle.std.specs.Prelude.{◌≡◌, ℕ, ◌<◌, List, [], map, Err, Some, slice_get, unwrap_or}
 use Rattle.event_log.specs.declared.object.SeqObject.{Ghosts}
 use Rattle.event_log.specs.declared.event.Event.{Event}
 use Rattle.event_log.specs.declared.entry.Entry.{Entry}
 use Rattle.sound_run.specs.Sound.{Opened}
 use Rattle.auditor.specs.declared.opened_object.OpenedObject.{OpenedObject}
-use Rattle.auditor.specs.declared.next_events.NextEvents.{NextEvents}
 use Rattle.auditor.specs.declared.entries.EntryFault.{EntryFault}
 use Rattle.auditor.specs.Faults.{done_before}
-use Rattle.auditor.specs.NextEvents.{IsAt, AreNextEvents}
 use Rattle.auditor.specs.Claims.{IsRight, IsJudged}
 
 module _ {O P C R : Type 0} where
@@ -23,15 +21,6 @@ module _ {O P C R : Type 0} where
   -- the log of that object
   abbrev pub log_in : ℕ → List (List (Event O P C R)) → List (Event O P C R)
   log_in x logs = unwrap_or (slice_get logs x) []
-
-  -- the next events in each log, for n CPUs
-  pub record AreAllNextEvents (n : ℕ) (logs : List (List (Event O P C R))) (next_events : List NextEvents) : Type 0 where
-    pub count : length next_events ≡ length logs
-    pub each : (x : ℕ) (l : NextEvents) → slice_get next_events x ≡ Some l → AreNextEvents n (log_in x logs) l.first.items l.next.items
-
-  -- after n entries, the place of the CPU's next event in each log
-  abbrev pub ArePlaces : ℕ → List (List (Event O P C R)) → List (Entry O P C R) → ℕ → List ℕ → Type 0
-  ArePlaces cpu logs transcript n places = (x : ℕ) → x < length logs → IsAt cpu (log_in x logs) (done_before x n transcript) (slice_index places x)
 
 module _ {O P C R : Type 0} (meaning : Ghosts O P C R) (opened_objects : List (OpenedObject O P C R)) (logs : List (List (Event O P C R))) (cpu : ℕ) (transcript : List (Entry O P C R)) where
   -- entry n is as it must be

@@ -1,12 +1,15 @@
 //! An entry against its CPU's next event.
 
-ghost use Rattle.std.specs.Prelude.{ℕ, ◌≤◌, length};
+ghost use Rattle.std.specs.Prelude.{◌≡◌, ℕ, ◌≤◌, length};
 ghost use Rattle.auditor.specs.Claims.{IsJudged};
 ghost use Rattle.auditor.specs.NextEvents.{IsAt, AreNextEvents};
+ghost use Rattle.auditor.specs.Passes.{fault_at};
 
+use crate::Fault;
 use crate::compare::{are_same, fulfil};
 use crate::next_events::NextEvents;
-use event_log::{Done, Entry, Event, SeqObject};
+use crate::packed_log::PackedLog;
+use event_log::{Done, Entry, SeqObject};
 
 /// What can be wrong with an entry.
 #[derive(Clone, Copy, Debug, PartialEq, Eq, Drop)]
@@ -16,10 +19,21 @@ pub enum EntryFault {
     NotAsked,
 }
 
+/// The fault of a CPU's entry.
+pub fn fault_of(cpu: usize, entry: usize, fault: EntryFault) -> Fault
+    ensures { result ≡ fault_at cpu entry fault }
+{
+    match fault {
+        EntryFault::RoomWasLeft => Fault::RoomWasLeft { cpu, entry },
+        EntryFault::NotItsEvent => Fault::NotItsEvent { cpu, entry },
+        EntryFault::NotAsked => Fault::NotAsked { cpu, entry },
+    }
+}
+
 /// Judges an entry, whose CPU has its next event at the place, and answers the place behind it.
 pub fn judge_entry<O: SeqObject>(
     limit: u32,
-    log: &[Event<O>],
+    log: &PackedLog<O>,
     next_events: &NextEvents,
     at: usize,
     entry: &Entry<O>,
@@ -42,14 +56,13 @@ pub fn judge_entry<O: SeqObject>(
             if at == log.len() {
                 return Err(EntryFault::NotItsEvent);
             }
-            if !are_same(log[at].steps.list.as_slice(), steps.list.as_slice()) {
+            if !are_same(log.steps(at), steps.list.as_slice()) {
                 return Err(EntryFault::NotItsEvent);
             }
             if !fulfil(entry.asked.as_slice(), steps.list.as_slice()) {
                 return Err(EntryFault::NotAsked);
             }
-            let next = next_events.next.as_slice();
-            Ok(next[at])
+            Ok(next_events.next[at] as usize)
         }
     }
 }

@@ -1,105 +1,90 @@
 //! Whole runs over any object.
 
-ghost use Rattle.std.specs.Prelude.{◌≡◌, ◌<◌, ◌↔◌, ℕ, map, length, Some, slice_get, IfOk, IfErr, OnOk};
+ghost use Rattle.std.specs.Prelude.{◌≡◌, ◌<◌, ◌↔◌, ℕ, true, [], ◌∷◌, ◌++◌, length, Some, slice_get, IfOk, OnOk};
 ghost use Rattle.event_log.specs.declared.event.Event.{Event as Shown};
+ghost use Rattle.event_log.specs.declared.entry.Entry.{Entry as ShownEntry};
 ghost use Rattle.sound_run.specs.Sound.{Sound};
-ghost use Rattle.auditor.specs.Faults.{IsFirstFault};
-ghost use Rattle.auditor.specs.Passes.{IsRunOf, AreSoundBefore, IsFirst};
-ghost use Rattle.auditor.specs.Transcripts.{opened_by, log_in, AreAllNextEvents};
+ghost use Rattle.auditor.specs.Faults.{HasSteps, IsFirstFault};
+ghost use Rattle.auditor.specs.Fed.{nothing, log_fed, logs_fed, transcript_fed, run_fed};
+ghost use Rattle.auditor.specs.Passes.{IsRunOf};
+ghost use Rattle.auditor.specs.SoFar.{IsBeforeLog, IsInTranscripts};
+ghost use Rattle.auditor.specs.Transcripts.{opened_by};
 
-use crate::found::Found;
-use crate::log_pass::judge_logs;
-use crate::next_events::{NextEvents, filled, next_events_of};
-use crate::transcript_pass::judge_transcripts;
-use crate::unclaimed::first_left;
-use crate::{
-    Fault, OpenedObject, ReferenceObject, Verdict, first_faults_agree, no_fault_is_sound,
-    sound_has_no_fault,
-};
-use event_log::{Event, OutOfMemory, Run, SeqObject, Series};
+use crate::judged::Judged;
+use crate::{Fault, OpenedObject, ReferenceObject, Verdict};
+use event_log::{Entry, Event, OutOfMemory, Run, SeqObject};
 use std::alloc::Global;
 
-/// The next events of each log.
-fn all_next_events<O: SeqObject>(
-    alloc: Global,
-    cpus: usize,
-    logs: &[Series<Event<O>>],
-) -> Result<Vec<NextEvents>, OutOfMemory>
-    requires { (x k : ℕ) (e : Shown O O.Params O.Call O.Reply) → slice_get (log_in x logs.now) k ≡ Some e → e.cpu < cpus }
-    ensures { IfOk result (λ next_events. AreAllNextEvents cpus logs.now next_events.items) }
+/// Feeds a log.
+fn feed_log<O: SeqObject, J: ReferenceObject<O>>(
+    judged: &mut Judged<O, J>,
+    opened: &OpenedObject<O>,
+    log: &[Event<O>],
+) -> Result<(), OutOfMemory>
+    requires able { O.in_range opened.now.params ≡ true }
+    requires before { IsBeforeLog judged.old }
+    requires events { (k : ℕ) (e : Shown O O.Params O.Call O.Reply) → slice_get log.now k ≡ Some e → (e.cpu < judged.old.cpus) × HasSteps e }
+    ensures { OnOk result (judged.new ≡ log_fed judged.old opened.now log.now) }
 {
-    let mut next_events = Vec::with_capacity(alloc, logs.len())?;
-    for log in logs {
-        next_events.push_reserved(next_events_of(alloc, cpus, log.as_slice())?);
+    judged.begin_log(opened, log.len())?;
+    for event in log {
+        judged.event(event)?;
     }
-    Ok(next_events)
+    judged.end_log()?;
+    Ok(())
 }
 
-/// The length of each log.
-fn lengths<O: SeqObject>(
-    alloc: Global,
-    logs: &[Series<Event<O>>],
-) -> Result<Vec<usize>, OutOfMemory>
-    ensures { IfOk result (λ ends. ends.items ≡ map (λ log. length log) logs.now) }
-{
-    let mut ends = Vec::with_capacity(alloc, logs.len())?;
-    for log in logs {
-        ends.push_reserved(log.as_slice().len());
-    }
-    Ok(ends)
-}
-
-/// Where all logs are sound, looks for the first fault in the transcripts, and then for events that no entry took.
-fn look_at_entries<O: SeqObject>(
+/// Feeds the logs, each whole before the next.
+fn feed_logs<O: SeqObject, J: ReferenceObject<O>>(
+    judged: &mut Judged<O, J>,
     opened_objects: &[OpenedObject<O>],
     run: &Run<O>,
-    next_events: &[NextEvents],
-    places: &mut [usize],
-    ends: &mut [usize],
-) -> Result<(), Found>
+) -> Result<(), OutOfMemory>
     requires run { IsRunOf O.SeqObject opened_objects.now run.now }
-    requires logs { AreSoundBefore O.SeqObject opened_objects.now run.now (length run.now.logs) }
-    requires next_events { AreAllNextEvents (length run.now.transcripts) run.now.logs next_events.now }
-    requires places { length places.old ≡ length run.now.logs }
-    requires ends { ends.old ≡ map (λ log. length log) run.now.logs }
-    ensures sound { OnOk result (Sound O.SeqObject (opened_by opened_objects.now) run.now) }
-    ensures fault { IfErr result (IsFirst O.SeqObject (opened_by opened_objects.now) run.now) }
+    requires nothing { judged.old ≡ nothing (length run.now.transcripts) (length run.now.logs) }
+    ensures { OnOk result (judged.new ≡ logs_fed opened_objects.now run.now) }
 {
-    no_fault_is_sound::<O>();
-    judge_transcripts(opened_objects, run, next_events, places, ends)?;
     let logs = run.logs.as_slice();
-    match first_left(logs, ends) {
-        None => Ok(()),
-        Some((object, event)) => Err(Found::FirstFault(Fault::Unclaimed { object, event })),
+    for (object, log) in logs.iter().enumerate() {
+        feed_log(judged, &opened_objects[object], log.as_slice())?;
+    }
+    Ok(())
+}
+
+/// Feeds a transcript.
+fn feed_transcript<O: SeqObject, J: ReferenceObject<O>>(
+    judged: &mut Judged<O, J>,
+    transcript: &[Entry<O>],
+)
+    requires transcripts { IsInTranscripts judged.old }
+    requires entries { judged.old.entries ≡ [] }
+    requires objects { (n : ℕ) (e : ShownEntry O O.Params O.Call O.Reply) → slice_get transcript.now n ≡ Some e → e.object < judged.old.objects }
+    ensures { judged.new ≡ transcript_fed judged.old transcript.now }
+{
+    judged.begin_transcript(transcript.len());
+    for entry in transcript {
+        judged.entry(entry);
+    }
+    judged.end_transcript();
+}
+
+/// Feeds the transcripts, each whole before the next.
+fn feed_transcripts<O: SeqObject, J: ReferenceObject<O>>(
+    judged: &mut Judged<O, J>,
+    opened_objects: &[OpenedObject<O>],
+    run: &Run<O>,
+)
+    requires run { IsRunOf O.SeqObject opened_objects.now run.now }
+    requires logs { judged.old ≡ logs_fed opened_objects.now run.now }
+    ensures { judged.new ≡ run_fed opened_objects.now run.now }
+{
+    let transcripts = run.transcripts.as_slice();
+    for entries in transcripts {
+        feed_transcript(judged, entries.as_slice());
     }
 }
 
-/// Looks for the first fault: in the logs, in the transcripts, and then for events that no entry took.
-fn look<O: SeqObject, J: ReferenceObject<O>>(
-    alloc: Global,
-    opened_objects: &[OpenedObject<O>],
-    run: &Run<O>,
-) -> Result<(), Found>
-    requires { IsRunOf O.SeqObject opened_objects.now run.now }
-    ensures sound { OnOk result (Sound O.SeqObject (opened_by opened_objects.now) run.now) }
-    ensures fault { IfErr result (IsFirst O.SeqObject (opened_by opened_objects.now) run.now) }
-{
-    judge_logs::<O, J>(alloc, opened_objects, run)?;
-    let logs = run.logs.as_slice();
-    let next_events = all_next_events(alloc, run.transcripts.as_slice().len(), logs)?;
-    let mut places = filled(alloc, logs.len(), 0)?;
-    let mut ends = lengths(alloc, logs)?;
-    look_at_entries(
-        opened_objects,
-        run,
-        next_events.as_slice(),
-        places.as_mut_slice(),
-        ends.as_mut_slice(),
-    )
-}
-
-/// Whether the run is sound, or else its first fault. Each step is done once, and each entry is compared with one event;
-/// a number is kept for each event, and for each CPU and object.
+/// Whether the run is sound, or else its first fault. Each step is done once, and each entry is compared with one event.
 pub fn judge_run<O: SeqObject, J: ReferenceObject<O>>(
     alloc: Global,
     opened_objects: &[OpenedObject<O>],
@@ -109,11 +94,9 @@ pub fn judge_run<O: SeqObject, J: ReferenceObject<O>>(
     ensures sound { IfOk result (λ v. (v ≡ Verdict.Sound) ↔ Sound O.SeqObject (opened_by opened_objects.now) run.now) }
     ensures fault { (f : Fault) → IfOk result (λ v. (v ≡ Verdict.Unsound f) ↔ IsFirstFault O.SeqObject (opened_by opened_objects.now) run.now f) }
 {
-    sound_has_no_fault::<O>();
-    first_faults_agree::<O>();
-    match look::<O, J>(alloc, opened_objects, run) {
-        Ok(()) => Ok(Verdict::Sound),
-        Err(Found::FirstFault(fault)) => Ok(Verdict::Unsound(fault)),
-        Err(Found::OutOfMemory) => Err(OutOfMemory),
-    }
+    let cpus = run.transcripts.as_slice().len();
+    let mut judged = Judged::<O, J>::new(alloc, cpus, run.logs.as_slice().len())?;
+    feed_logs(&mut judged, opened_objects, run)?;
+    feed_transcripts(&mut judged, opened_objects, run);
+    Ok(judged.verdict())
 }

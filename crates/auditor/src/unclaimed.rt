@@ -1,19 +1,19 @@
-//! The third pass: the first event that no entry took.
+//! The first event that no entry took.
 
-ghost use Rattle.std.specs.Prelude.{◌≡◌, length, MatchOption};
+ghost use Rattle.std.specs.Prelude.{◌≡◌, length, map, MatchOption};
 ghost use Rattle.auditor.specs.Passes.{AreTaken, IsFirstLeft};
 
-use event_log::{Event, SeqObject, Series};
+use crate::kept_log::KeptLog;
+use event_log::SeqObject;
 
 /// The first object, and its event, whose log goes on behind its end.
-pub fn first_left<O: SeqObject>(logs: &[Series<Event<O>>], ends: &[usize]) -> Option<(usize, usize)>
-    requires { length ends.now ≡ length logs.now }
-    ensures { MatchOption result (AreTaken logs.now ends.now (length logs.now)) (λ p. IsFirstLeft logs.now ends.now p.0 p.1) }
+pub fn first_left<O: SeqObject>(logs: &[KeptLog<O>]) -> Option<(usize, usize)>
+    ensures { MatchOption result (AreTaken (map (λ l. l.log) logs.now) (map (λ l. l.end) logs.now) (length logs.now))
+        (λ p. IsFirstLeft (map (λ l. l.log) logs.now) (map (λ l. l.end) logs.now) p.0 p.1) }
 {
-    for (object, log) in logs.iter().enumerate() {
-        let end = ends[object];
-        if end < log.as_slice().len() {
-            return Some((object, end));
+    for (object, kept) in logs.iter().enumerate() {
+        if kept.end < kept.log.len() {
+            return Some((object, kept.end));
         }
     }
     None

@@ -1,0 +1,42 @@
+use Rattle.std.proofs.Common.{◌≡◌, ℕ, ◌<◌, List, length, get_or, sym, ap, ◌∙◌, arith}
+use Rattle.sound_run.proofs.Slices.{read_get}
+use Rattle.auditor.proofs.Feeding.{logs_next, logs_end, before_log, events_on}
+use Rattle.auditor.proofs.judge.feed_logs.Goals as goal
+
+-- a list that is read from one that is all of them
+read_from : {X : Type 0} (lists all : List (List X)) (i : ℕ) (item list : List X) → lists ≡ all → i < length lists → item ≡ get_or lists i item → list ≡ item → list ≡ get_or all i list
+read_from lists all i item list same lt is here = here ∙ (is ∙ ((λ j. get_or (same j) i (sym here j))))
+
+pub bounds-opened_objects-object : goal.bounds-opened_objects-object
+bounds-opened_objects-object g c = let n = c.requires.run.counted in let m = ap length c.as_slice-logs.ensures in omega (arith, n, m)
+
+pub offset_bounds-opened_objects-object : goal.offset_bounds-opened_objects-object
+offset_bounds-opened_objects-object g c = let n = c.requires.run.counted in let m = ap length c.as_slice-logs.ensures in omega (arith, n, m)
+
+pub loop-object-init : goal.loop-object-init
+loop-object-init g c = c.requires.nothing
+
+pub feed_log-requires : goal.feed_log-requires
+feed_log-requires g c = (
+  g.met.O.SeqObject.event_fits,
+  (
+    let n = c.requires.run.counted in
+        let m = ap length c.as_slice-logs.ensures in
+        c.requires.run.able c.loop-object.object c.index-opened_objects-object.result (read_get c.args.opened_objects.now c.loop-object.object c.index-opened_objects-object.result (omega (arith, n, m)) c.index-opened_objects-object.is),
+    (
+      let m = ap length c.as_slice-logs.ensures in before_log g.O.SeqObject c.args.opened_objects.now c.args.run.now c.requires.run c.loop-object.judged c.loop-object.object c.loop-object.invariant (omega (arith, m)),
+      let m = ap length c.as_slice-logs.ensures in
+          let here = read_from c.as_slice-logs.result.now c.args.run.now.logs c.loop-object.object c.index-logs-object.result c.as_slice.result.now c.as_slice-logs.ensures c.loop-object-test.true c.index-logs-object.is c.as_slice.ensures in
+          events_on g.O.SeqObject c.args.opened_objects.now c.args.run.now c.requires.run c.loop-object.judged c.loop-object.object c.as_slice.result.now c.loop-object.invariant (omega (arith, m)) here,
+    ),
+  ),
+)
+
+pub loop-object-preserved : goal.loop-object-preserved
+loop-object-preserved g c =
+    let m = ap length c.as_slice-logs.ensures in
+    let here = read_from c.as_slice-logs.result.now c.args.run.now.logs c.loop-object.object c.index-logs-object.result c.as_slice.result.now c.as_slice-logs.ensures c.loop-object-test.true c.index-logs-object.is c.as_slice.ensures in
+    logs_next g.O.SeqObject c.args.opened_objects.now c.args.run.now c.requires.run c.loop-object.judged c.loop-object.object c.feed_log.new.judged c.index-opened_objects-object.result c.as_slice.result.now c.loop-object.invariant (omega (arith, m)) c.index-opened_objects-object.is here c.in_ok-feed_log.ensures
+
+pub returns : goal.returns
+returns g c = let m = ap length c.as_slice-logs.ensures in logs_end g.O.SeqObject c.args.opened_objects.now c.args.run.now c.requires.run c.loop-object.judged c.loop-object.object c.loop-object.invariant (omega (arith, m))

@@ -1,0 +1,135 @@
+//! A judge that is fed a run's events and entries one after the other.
+
+ghost use Rattle.std.specs.Prelude.{◌≡◌, ◌↔◌, ◌<◌, true, [], length, IfOk, OnOk, OnErr};
+ghost use Rattle.sound_run.specs.Sound.{Sound};
+ghost use Rattle.auditor.specs.Faults.{HasSteps, IsFirstFault};
+ghost use Rattle.auditor.specs.Fed.{Fed, nothing, log_begun, event_fed, log_ended, transcript_begun, entry_fed, transcript_ended, run_of};
+ghost use Rattle.auditor.specs.Passes.{IsRunOf};
+ghost use Rattle.auditor.specs.SoFar.{IsBeforeLog, IsInLog, HasLogs, IsInTranscripts};
+ghost use Rattle.auditor.specs.Transcripts.{opened_by};
+
+use crate::notes::Notes;
+use crate::told::Told;
+use crate::{
+    Fault, OpenedObject, ReferenceObject, Verdict, first_faults_agree, sound_has_no_fault,
+};
+use event_log::{Entry, Event, OutOfMemory, SeqObject};
+use std::alloc::Global;
+use std::marker::Model;
+
+/// Judges a run while it is read: all logs, then all transcripts. Of an event it keeps its steps, packed, and of an entry
+/// nothing. What it was fed is known to contracts alone.
+#[derive(Drop)]
+pub struct Judged<O: SeqObject, J: ReferenceObject<O>> {
+    alloc: Global,
+    told: Told<O>,
+    notes: Notes<O, J>,
+}
+
+impl<O: SeqObject, J: ReferenceObject<O>> Model for Judged<O, J> {
+    ghost use Rattle.std.specs.Prelude.{vec_capacity};
+    ghost use Rattle.auditor.specs.Fed.{Fed};
+    ghost use Rattle.auditor.specs.Noted.{IsNoted};
+
+    ghost Value = { Fed O O.Params O.Call O.Reply };
+
+    ghost view = { λ j. j.told };
+
+    ghost invariant = { λ j. IsNoted O.SeqObject J.shows j.told j.notes.fault j.notes.replay j.notes.logs.items (vec_capacity j.notes.logs) };
+}
+
+impl<O: SeqObject, J: ReferenceObject<O>> Judged<O, J> {
+    /// Before anything is fed of a run of so many CPUs and objects.
+    pub fn new(alloc: Global, cpus: usize, objects: usize) -> Result<Judged<O, J>, OutOfMemory>
+        ensures { IfOk result (λ j. j ≡ nothing cpus objects) }
+    {
+        Ok(Judged {
+            alloc,
+            told: Told::new(cpus, objects),
+            notes: Notes::new(alloc, objects)?,
+        })
+    }
+
+    /// The next object's log begins, which will have so many events. An `Err` changes nothing.
+    pub fn begin_log(&mut self, opened: &OpenedObject<O>, count: usize) -> Result<(), OutOfMemory>
+        requires able { O.in_range opened.now.params ≡ true }
+        requires before { IsBeforeLog self.old }
+        ensures ok { OnOk result (self.new ≡ log_begun self.old opened.now count) }
+        ensures err { OnErr result (self.new ≡ self.old) }
+    {
+        self.notes.begin_log(self.alloc, &self.told, opened, count)?;
+        self.told.tell_log(opened, count);
+        Ok(())
+    }
+
+    /// The log's next event. An `Err` changes nothing.
+    pub fn event(&mut self, event: &Event<O>) -> Result<(), OutOfMemory>
+        requires log { IsInLog self.old }
+        requires count { length self.old.events < self.old.count }
+        requires cpu { event.now.cpu < self.old.cpus }
+        requires steps { HasSteps event.now }
+        ensures ok { OnOk result (self.new ≡ event_fed self.old event.now) }
+        ensures err { OnErr result (self.new ≡ self.old) }
+    {
+        self.notes.event(&self.told, event)?;
+        self.told.tell_event(event);
+        Ok(())
+    }
+
+    /// The log is whole. An `Err` changes nothing.
+    pub fn end_log(&mut self) -> Result<(), OutOfMemory>
+        requires log { IsInLog self.old }
+        requires objects { length self.old.logs < self.old.objects }
+        requires count { length self.old.events ≡ self.old.count }
+        requires transcripts { self.old.transcripts ≡ [] }
+        requires entries { self.old.entries ≡ [] }
+        ensures ok { OnOk result (self.new ≡ log_ended self.old) }
+        ensures err { OnErr result (self.new ≡ self.old) }
+    {
+        self.notes.end_log(self.alloc, &self.told)?;
+        self.told.tell_log_end();
+        Ok(())
+    }
+
+    /// The next CPU's transcript begins, which will have so many entries.
+    pub fn begin_transcript(&mut self, count: usize)
+        requires { HasLogs self.old }
+        ensures { self.new ≡ transcript_begun self.old count }
+    {
+        self.told.tell_transcript(count);
+    }
+
+    /// The transcript's next entry.
+    pub fn entry(&mut self, entry: &Entry<O>)
+        requires transcripts { IsInTranscripts self.old }
+        requires count { length self.old.entries < self.old.count }
+        requires object { entry.now.object < self.old.objects }
+        ensures { self.new ≡ entry_fed self.old entry.now }
+    {
+        self.notes.entry(&self.told, entry);
+        self.told.tell_entry(entry);
+    }
+
+    /// The transcript is whole.
+    pub fn end_transcript(&mut self)
+        requires { IsInTranscripts self.old }
+        ensures { self.new ≡ transcript_ended self.old }
+    {
+        self.notes.end_transcript(&self.told);
+        self.told.tell_transcript_end();
+    }
+
+    /// Whether the run that was fed is sound, or else its first fault.
+    pub fn verdict(&self) -> Verdict
+        requires logs { HasLogs self.now }
+        requires transcripts { length self.now.transcripts ≡ self.now.cpus }
+        requires entries { self.now.entries ≡ [] }
+        requires run { IsRunOf O.SeqObject self.now.opened (run_of self.now) }
+        ensures sound { (result ≡ Verdict.Sound) ↔ Sound O.SeqObject (opened_by self.now.opened) (run_of self.now) }
+        ensures fault { (f : Fault) → (result ≡ Verdict.Unsound f) ↔ IsFirstFault O.SeqObject (opened_by self.now.opened) (run_of self.now) f }
+    {
+        sound_has_no_fault::<O>();
+        first_faults_agree::<O>();
+        self.notes.verdict(&self.told)
+    }
+}

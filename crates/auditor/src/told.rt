@@ -1,0 +1,158 @@
+//! What a judge was told, as contracts see it.
+
+ghost use Rattle.std.specs.Prelude.{◌≡◌, ◌<◌, ◌+◌, ◌∷◌, [], ◌++◌, length};
+ghost use Rattle.auditor.specs.Fed.{nothing, log_begun, event_fed, log_ended, transcript_begun, entry_fed, transcript_ended};
+
+use crate::OpenedObject;
+use event_log::{Entry, Event, Past, SeqObject, Series};
+use std::marker::Model;
+
+/// Lists that contracts alone know, and how far the last of them have come.
+#[derive(Drop)]
+pub struct Told<O: SeqObject> {
+    cpus: usize,
+    objects: usize,
+    count: usize,
+    event: usize,
+    cpu: usize,
+    entry: usize,
+    opened: Past<OpenedObject<O>>,
+    logs: Past<Series<Event<O>>>,
+    events: Past<Event<O>>,
+    transcripts: Past<Series<Entry<O>>>,
+    entries: Past<Entry<O>>,
+}
+
+impl<O: SeqObject> Model for Told<O> {
+    ghost use Rattle.std.specs.Prelude.{◌≡◌, length};
+    ghost use Rattle.auditor.specs.Fed.{Fed};
+
+    ghost Value = { Fed O O.Params O.Call O.Reply };
+
+    ghost view = { λ t. record { cpus = t.cpus; objects = t.objects; count = t.count; opened = t.opened.items; logs = t.logs.items; events = t.events.items; transcripts = t.transcripts.items; entries = t.entries.items } };
+
+    ghost invariant = { λ t. (t.event ≡ length t.events.items) × (t.cpu ≡ length t.transcripts.items) × (t.entry ≡ length t.entries.items) };
+}
+
+/// One value more.
+fn with_one<T>(past: &Past<T>, one: &T) -> Past<T>
+    ensures { result.items ≡ past.now.items ++ one.now ∷ [] }
+{
+    Past::told(past, one)
+}
+
+/// One list more.
+fn with_list<T>(past: &Past<Series<T>>, list: &Past<T>) -> Past<Series<T>>
+    ensures { result.items ≡ past.now.items ++ list.now.items ∷ [] }
+{
+    Past::told(past, list)
+}
+
+impl<O: SeqObject> Told<O> {
+    pub fn new(cpus: usize, objects: usize) -> Told<O>
+        ensures { result ≡ nothing cpus objects }
+    {
+        Told {
+            cpus,
+            objects,
+            count: 0,
+            event: 0,
+            cpu: 0,
+            entry: 0,
+            opened: Past::new(),
+            logs: Past::new(),
+            events: Past::new(),
+            transcripts: Past::new(),
+            entries: Past::new(),
+        }
+    }
+
+    /// How many CPUs the run has.
+    pub fn cpus(&self) -> usize
+        ensures { result ≡ self.now.cpus }
+    {
+        self.cpus
+    }
+
+    /// The place of the log's next event.
+    pub fn event(&self) -> usize
+        ensures { result ≡ length self.now.events }
+    {
+        self.event
+    }
+
+    /// The CPU whose entries come.
+    pub fn cpu(&self) -> usize
+        ensures { result ≡ length self.now.transcripts }
+    {
+        self.cpu
+    }
+
+    /// The CPU after it.
+    pub fn next_cpu(&self) -> usize
+        requires { length self.now.transcripts < self.now.cpus }
+        ensures { result ≡ length self.now.transcripts + 1 }
+    {
+        let cpus = self.cpus;
+        if self.cpu >= cpus {
+            return cpus;
+        }
+        self.cpu + 1
+    }
+
+    /// The place of its next entry.
+    pub fn entry(&self) -> usize
+        ensures { result ≡ length self.now.entries }
+    {
+        self.entry
+    }
+
+    pub fn tell_log(&mut self, opened: &OpenedObject<O>, count: usize)
+        ensures { self.new ≡ log_begun self.old opened.now count }
+    {
+        self.opened = with_one(&self.opened, opened);
+        self.count = count;
+    }
+
+    pub fn tell_event(&mut self, event: &Event<O>)
+        requires { length self.old.events < self.old.count }
+        ensures { self.new ≡ event_fed self.old event.now }
+    {
+        self.events = with_one(&self.events, event);
+        self.event += 1;
+    }
+
+    pub fn tell_log_end(&mut self)
+        ensures { self.new ≡ log_ended self.old }
+    {
+        self.logs = with_list(&self.logs, &self.events);
+        self.events = Past::new();
+        self.event = 0;
+        self.count = 0;
+    }
+
+    pub fn tell_transcript(&mut self, count: usize)
+        ensures { self.new ≡ transcript_begun self.old count }
+    {
+        self.count = count;
+    }
+
+    pub fn tell_entry(&mut self, entry: &Entry<O>)
+        requires { length self.old.entries < self.old.count }
+        ensures { self.new ≡ entry_fed self.old entry.now }
+    {
+        self.entries = with_one(&self.entries, entry);
+        self.entry += 1;
+    }
+
+    pub fn tell_transcript_end(&mut self)
+        requires { length self.old.transcripts < self.old.cpus }
+        ensures { self.new ≡ transcript_ended self.old }
+    {
+        self.transcripts = with_list(&self.transcripts, &self.entries);
+        self.entries = Past::new();
+        self.cpu += 1;
+        self.entry = 0;
+        self.count = 0;
+    }
+}
