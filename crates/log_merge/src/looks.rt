@@ -34,7 +34,12 @@ pub(crate) fn look<O: SeqObject, S: RunShape<O>>(
 }
 
 /// Looks at every CPU.
-fn look_at_all<O: SeqObject, S: RunShape<O>>(shape: &S, at: &[usize], placed: &[usize], flags: &mut Flags)
+fn look_at_all<O: SeqObject, S: RunShape<O>>(
+    shape: &S,
+    at: &[usize],
+    placed: &[usize],
+    flags: &mut Flags,
+)
     requires ready { IsReady (S.run shape.now) at.now placed.now }
     requires room { length at.now ≤ capacity flags.old }
     ensures room { capacity flags.new ≡ capacity flags.old }

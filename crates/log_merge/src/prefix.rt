@@ -69,7 +69,10 @@ fn place_next<O: SeqObject, S: RunShape<O>>(
 }
 
 /// The least CPU's next entry each time, as long as one can come.
-pub(crate) fn merge_prefix<O: SeqObject, S: RunShape<O>>(alloc: Global, shape: &S) -> Result<Prefix, OutOfMemory>
+pub(crate) fn merge_prefix<O: SeqObject, S: RunShape<O>>(
+    alloc: Global,
+    shape: &S,
+) -> Result<Prefix, OutOfMemory>
     requires whole { IsWhole (S.run shape.now) }
     requires matched { IsMatched (S.run shape.now) }
     ensures stuck { IfOk result (λ f. IsStuck (S.run shape.now) f.places.items f.at.items f.placed.items) }
