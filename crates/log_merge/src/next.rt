@@ -37,10 +37,13 @@ pub(crate) fn next_of<O: SeqObject, S: RunShape<O>>(
     let Some(by) = shape.event_cpu(object, placed[object]) else {
         return Next::Comes;
     };
-    if entry.is_done && by == cpu {
-        return Next::Comes;
+    match entry.is_done {
+        true => {
+            let is_own = by == cpu;
+            if is_own { Next::Comes } else { Next::Waits(by) }
+        }
+        false => Next::Waits(by),
     }
-    Next::Waits(by)
 }
 
 /// The least CPU that has entries left.
