@@ -1,4 +1,5 @@
 pub mod Lent
+pub mod Shaped
 pub mod Counts
 pub mod Exclusion
 pub mod Prefixes

@@ -5,8 +5,8 @@ ghost use Rattle.log_merge.specs.FoundCycles.{IsLeastLeft};
 ghost use Rattle.log_merge.specs.Nexts.{IsNext, IsReady};
 ghost use Rattle.sound_run.specs.Sound.{transcript_of};
 
-use crate::look_up::{entry_at, event_at};
-use event_log::{Done, Run, SeqObject};
+use crate::run_shape::RunShape;
+use event_log::SeqObject;
 
 /// What there is of a CPU's next entry.
 #[derive(Clone, Copy, Debug, PartialEq, Eq, Drop)]
@@ -20,43 +20,40 @@ pub(crate) enum Next {
 }
 
 /// What there is of the CPU's next entry.
-pub(crate) fn next_of<O: SeqObject>(
-    run: &Run<O>,
+pub(crate) fn next_of<O: SeqObject, S: RunShape<O>>(
+    shape: &S,
     at: &[usize],
     placed: &[usize],
     cpu: usize,
 ) -> Next
-    requires ready { IsReady run.now at.now placed.now }
+    requires ready { IsReady (S.run shape.now) at.now placed.now }
     requires cpu { cpu < length at.now }
-    ensures { IsNext run.now at.now placed.now cpu result }
+    ensures { IsNext (S.run shape.now) at.now placed.now cpu result }
 {
-    let Some(entry) = entry_at(run, cpu, at[cpu]) else {
+    let Some(entry) = shape.entry(cpu, at[cpu]) else {
         return Next::Ended;
     };
     let object = entry.object as usize;
-    let Some(event) = event_at(run, object, placed[object]) else {
+    let Some(by) = shape.event_cpu(object, placed[object]) else {
         return Next::Comes;
     };
-    let by = event.cpu as usize;
-    match &entry.done {
-        Done::Steps(_) => {
-            if by == cpu {
-                return Next::Comes;
-            }
-            Next::Waits(by)
+    match entry.is_done {
+        true => {
+            let is_own = by == cpu;
+            if is_own { Next::Comes } else { Next::Waits(by) }
         }
-        Done::NoRoom => Next::Waits(by),
+        false => Next::Waits(by),
     }
 }
 
 /// The least CPU that has entries left.
-pub(crate) fn first_left<O: SeqObject>(run: &Run<O>, at: &[usize]) -> Option<usize>
-    requires { length at.now ≡ length run.now.transcripts }
-    ensures { MatchOption result ((cpu : ℕ) → length (transcript_of cpu run.now) ≤ slice_index at.now cpu)
-        (λ c. (c < length at.now) × IsLeastLeft run.now (slice_index at.now) c) }
+pub(crate) fn first_left<O: SeqObject, S: RunShape<O>>(shape: &S, at: &[usize]) -> Option<usize>
+    requires { length at.now ≡ length (S.run shape.now).transcripts }
+    ensures { MatchOption result ((cpu : ℕ) → length (transcript_of cpu (S.run shape.now)) ≤ slice_index at.now cpu)
+        (λ c. (c < length at.now) × IsLeastLeft (S.run shape.now) (slice_index at.now) c) }
 {
     for (cpu, n) in at.iter().enumerate() {
-        if entry_at(run, cpu, *n).is_some() {
+        if shape.entry(cpu, *n).is_some() {
             return Some(cpu);
         }
     }

@@ -7,5 +7,5 @@ returns-in-Comes-clause-right g c = (λ flag. c.in-Comes.ensures, λ can. c.set.
 pub returns-in_default-clause-right : goal.returns-in_default-clause-right
 returns-in_default-clause-right g c = (
   λ flag. absurd (c.clear.ensures.cleared flag),
-  λ can. absurd (not_next_of c.args.run.now c.args.at.now c.args.placed.now c.args.cpu c.next_of.result c.next_of.ensures c.in_default.not-Comes can),
+  λ can. absurd (not_next_of (g.S.RunShape.run c.args.shape.now) c.args.at.now c.args.placed.now c.args.cpu c.next_of.result c.next_of.ensures c.in_default.not-Comes can),
 )

@@ -19,7 +19,7 @@ loop-cpu-preserved g c =
     record {
       room = e.room ∙ i.room;
       right = λ k lt. dite (ℕ_discrete k c.loop-cpu.cpu)
-          (λ here. subst (λ (n : ℕ). IsRight c.args.run.now c.args.at.now c.args.placed.now c.look.new.flags n) (sym here) e.right)
+          (λ here. subst (λ (n : ℕ). IsRight (g.S.RunShape.run c.args.shape.now) c.args.at.now c.args.placed.now c.look.new.flags n) (sym here) e.right)
           (λ off. through (e.others k off) (i.right k (omega (arith, lt, off))));
       others = λ k le. let off : k ≢ c.loop-cpu.cpu = omega (arith, le) in through (e.others k off) (i.others k le);
     }

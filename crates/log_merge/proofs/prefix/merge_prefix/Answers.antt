@@ -11,27 +11,27 @@ use Rattle.log_merge.proofs.prefix.merge_prefix.Goals as goal
 
 pub flags_of-requires : goal.flags_of-requires
 flags_of-requires g c =
-    ready_at_start c.args.run.now c.requires.matched c.requires.whole c.as_slice-3.result.now c.as_slice-4.result.now (length c.as_slice.result.now) (length c.as_slice-2.result.now)
-    (c.as_slice-3.ensures.value ∙ c.in_ok-at.ensures) (c.as_slice-4.ensures.value ∙ c.in_ok-placed.ensures) (ap length c.as_slice.ensures) (ap length c.as_slice-2.ensures)
+    ready_at_start (g.S.RunShape.run c.args.shape.now) c.requires.matched c.requires.whole c.as_slice.result.now c.as_slice-2.result.now c.cpus.result c.objects.result
+    (c.as_slice.ensures.value ∙ c.in_ok-at.ensures) (c.as_slice-2.ensures.value ∙ c.in_ok-placed.ensures) c.cpus.ensures c.objects.ensures
 
 pub loop-cpu-init : goal.loop-cpu-init
 loop-cpu-init g c =
-    let run = c.args.run.now in
+    let run = g.S.RunShape.run c.args.shape.now in
     let at = c.in_ok-at.at.items in
     let placed = c.in_ok-placed.placed.items in
-    let n = length c.as_slice.result.now in
-    let m = length c.as_slice-2.result.now in
+    let n = c.cpus.result in
+    let m = c.objects.result in
     let front : IsPrefix run [] at placed = prefix_at_start run at placed n m c.in_ok-at.ensures c.in_ok-placed.ensures in
     record {
-      ready = ready_at_start run c.requires.matched c.requires.whole at placed n m c.in_ok-at.ensures c.in_ok-placed.ensures (ap length c.as_slice.ensures) (ap length c.as_slice-2.ensures);
+      ready = ready_at_start run c.requires.matched c.requires.whole at placed n m c.in_ok-at.ensures c.in_ok-placed.ensures c.cpus.ensures c.objects.ensures;
       front = subst (λ (o : List Place). IsPrefix run o at placed) (sym c.new-places.ensures.items) front;
       least = subst (TakesTheLeast run) (sym c.new-places.ensures.items) (least_start run);
-      flags = subst (λ (z : List ℕ × List ℕ). SaysWhoCanCome run z.0 z.1 c.in_ok-flags.flags) (λ j. (c.as_slice-3.ensures.value j, c.as_slice-4.ensures.value j)) c.in_ok-flags.ensures;
+      flags = subst (λ (z : List ℕ × List ℕ). SaysWhoCanCome run z.0 z.1 c.in_ok-flags.flags) (λ j. (c.as_slice.ensures.value j, c.as_slice-2.ensures.value j)) c.in_ok-flags.ensures;
     }
 
 pub place_next-place-requires : goal.place_next-place-requires
 place_next-place-requires g c =
-    let run = c.args.run.now in
+    let run = g.S.RunShape.run c.args.shape.now in
     let i = c.loop-cpu.invariant in
     let cpu = c.in-Some.cpu in
     let same : (c.loop-cpu.at.items, c.loop-cpu.placed.items) ≡ (c.as_mut_slice.result.now, c.as_mut_slice-in-Some.result.now)
@@ -53,7 +53,7 @@ place_next-place-requires g c =
 
 pub loop-cpu-smaller : goal.loop-cpu-smaller
 loop-cpu-smaller g c =
-    let run = c.args.run.now in
+    let run = g.S.RunShape.run c.args.shape.now in
     let at = c.as_mut_slice.result.now in
     let placed = c.as_mut_slice-in-Some.result.now in
     let at_new = c.place_next-place.new.at in
@@ -68,7 +68,7 @@ loop-cpu-smaller g c =
 
 pub loop-cpu-preserved : goal.loop-cpu-preserved
 loop-cpu-preserved g c =
-    let run = c.args.run.now in
+    let run = g.S.RunShape.run c.args.shape.now in
     let at = c.as_mut_slice.result.now in
     let placed = c.as_mut_slice-in-Some.result.now in
     let at_new = c.place_next-place.new.at in
@@ -98,7 +98,7 @@ loop-cpu-preserved g c =
 
 pub returns-clause-stuck : goal.returns-clause-stuck
 returns-clause-stuck g c =
-    let run = c.args.run.now in
+    let run = g.S.RunShape.run c.args.shape.now in
     record {
       front = c.loop-cpu.invariant.front;
       ready = c.loop-cpu.invariant.ready;

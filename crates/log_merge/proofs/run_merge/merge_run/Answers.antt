@@ -9,7 +9,7 @@ use Rattle.log_merge.proofs.run_merge.merge_run.Goals as goal
 
 pub returns-in_default : goal.returns-in_default
 returns-in_default g c =
-    let run = c.args.run.now in
+    let run = g.S.RunShape.run c.args.shape.now in
     let prefix = c.in_ok-prefix.prefix in
     let ended = subst (λ (at : List ℕ). (cpu : ℕ) → length (transcript_of cpu run) ≤ slice_index at cpu) c.as_slice-at.ensures.value c.in_default.ensures in
     subst (IsLeastOrder run) (sym c.from_vec.ensures) (merged_order run c.requires.matched prefix.places.items prefix.at.items prefix.placed.items c.in_ok-prefix.ensures.stuck c.in_ok-prefix.ensures.least ended)
@@ -18,13 +18,13 @@ pub rotated-requires-clause-within : goal.rotated-requires-clause-within
 rotated-requires-clause-within g c =
     let below = λ (cpu : ℕ). cpu < length c.as_slice-at.result.now in
     let walk = c.in_ok-walk.walk.items in
-    let cpus : length c.args.run.now.transcripts ≡ length c.as_slice-at.result.now = sym (ap length c.as_slice-at.ensures.value ∙ c.in_ok-prefix.ensures.stuck.ready.cpus) in
-    let all = subst (λ (n : ℕ). AllByRecursion (λ cpu. cpu < n) walk) cpus (all_below (length c.args.run.now.transcripts) walk c.in_ok-walk.ensures.different) in
+    let cpus : length (g.S.RunShape.run c.args.shape.now).transcripts ≡ length c.as_slice-at.result.now = sym (ap length c.as_slice-at.ensures.value ∙ c.in_ok-prefix.ensures.stuck.ready.cpus) in
+    let all = subst (λ (n : ℕ). AllByRecursion (λ cpu. cpu < n) walk) cpus (all_below (length (g.S.RunShape.run c.args.shape.now).transcripts) walk c.in_ok-walk.ensures.different) in
     subst (AllByRecursion below) (sym (c.split_at.ensures.back ∙ ap (drop c.in_ok-walk.back) c.as_slice.ensures.value)) (all_drop below walk c.in_ok-walk.back all)
 
 pub returns : goal.returns
 returns g c =
-    let run = c.args.run.now in
+    let run = g.S.RunShape.run c.args.shape.now in
     let prefix = c.in_ok-prefix.prefix in
     let walk = c.in_ok-walk.walk.items in
     let back = c.in_ok-walk.back in

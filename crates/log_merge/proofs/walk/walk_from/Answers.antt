@@ -22,7 +22,7 @@ pub loop-i-preserved : goal.loop-i-preserved
 loop-i-preserved g c =
     let walk = c.loop-i.walk.items in
     let cpu = c.loop-i.cpu in
-    let run = c.args.run.now in
+    let run = g.S.RunShape.run c.args.shape.now in
     let at = c.args.at.now in
     let placed = c.args.placed.now in
     let by = c.in-Waits.by in
@@ -44,7 +44,7 @@ loop-i-preserved g c =
 pub returns-in-Some : goal.returns-in-Some
 returns-in-Some g c =
     let walk = c.loop-i.walk.items in
-    let run = c.args.run.now in
+    let run = g.S.RunShape.run c.args.shape.now in
     let at = c.args.at.now in
     let inv = c.loop-i.invariant in
     let same : c.as_slice.result.now ≡ walk = c.as_slice.ensures.value in

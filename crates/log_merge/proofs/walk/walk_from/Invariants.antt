@@ -9,9 +9,9 @@ abbrev pub invariant-loop-i : goal.invariant-loop-i
 invariant-loop-i g l = record {
   start : get_or (l.walk.items ++ l.cpu ∷ []) 0 0 ≡ l.start;
   different : AreDistinctBelow (length l.at) l.walk.items;
-  waits : Chain (IsBlocked l.run (slice_index l.at) (slice_index l.placed)) l.walk.items l.cpu;
+  waits : Chain (IsBlocked (g.S.RunShape.run l.shape) (slice_index l.at) (slice_index l.placed)) l.walk.items l.cpu;
   cpu : l.cpu < length l.at;
-  left : get_or l.at l.cpu 0 < length (transcript_of l.cpu l.run);
+  left : get_or l.at l.cpu 0 < length (transcript_of l.cpu (g.S.RunShape.run l.shape));
 }
 
 abbrev pub decreases-loop-i : goal.decreases-loop-i

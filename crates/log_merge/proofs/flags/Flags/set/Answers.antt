@@ -1,4 +1,4 @@
-use Rattle.std.proofs.Common.{◌<◌, ◌*◌, ℕ, List, length, ap, sym, subst, arith}
+use Rattle.std.proofs.Common.{ℕ, List, length, ap, sym, subst, arith}
 use Rattle.log_merge.specs.Flags.{HasFlag}
 use Rattle.log_merge.proofs.Flagged.{set_has, set_others}
 use Rattle.log_merge.proofs.flags.Flags.set.Goals as goal
