@@ -5,6 +5,7 @@ pub mod Transcripts
 pub mod Passes
 pub mod NoFaults
 pub mod Fed
+pub mod JudgedParts
 pub mod SoFar
 pub mod Packed
 pub mod Turns

@@ -39,6 +39,17 @@ impl<O: SeqObject, J: ReferenceObject<O>> Model for Judged<O, J> {
 }
 
 impl<O: SeqObject, J: ReferenceObject<O>> Judged<O, J> {
+    /// Before anything is fed of a run of no CPUs and no objects. It takes no memory.
+    pub fn empty(alloc: Global) -> Judged<O, J>
+        ensures { result ≡ nothing 0 0 }
+    {
+        Judged {
+            alloc,
+            told: Told::new(0, 0),
+            notes: Notes::empty(alloc),
+        }
+    }
+
     /// Before anything is fed of a run of so many CPUs and objects.
     pub fn new(alloc: Global, cpus: usize, objects: usize) -> Result<Judged<O, J>, OutOfMemory>
         ensures { IfOk result (λ j. j ≡ nothing cpus objects) }

@@ -15,6 +15,7 @@ mod notes;
 mod opened_object;
 mod packed_log;
 mod record_audit;
+mod record_judge;
 mod references;
 mod replay;
 mod steps;
@@ -29,6 +30,7 @@ pub use judged::Judged;
 pub use law::{first_faults_agree, no_fault_is_sound, sound_has_no_fault};
 pub use opened_object::OpenedObject;
 pub use record_audit::audit;
+pub use record_judge::RecordJudge;
 pub use references::{
     ReferenceConsole, ReferenceKernelObject, ReferenceObject, ReferencePool, ReferenceQueue,
     ReferenceSched,

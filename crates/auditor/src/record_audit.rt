@@ -11,17 +11,16 @@ use crate::judge::judge_run;
 use crate::references::ReferenceKernelObject;
 use crate::{Fault, OpenedObject, ReferenceObject, Verdict};
 use event_log::{OutOfMemory, SeqObject};
-use scripts::{KernelObject, Record, Settings};
+use scripts::{KernelObject, ObjectSettings, Record};
 use std::alloc::Global;
 
 /// What the objects of the settings are judged by.
-fn objects_of(
+pub(crate) fn objects_of(
     alloc: Global,
-    settings: &Settings,
+    objects: &[ObjectSettings],
 ) -> Result<Vec<OpenedObject<KernelObject>>, OutOfMemory>
-    ensures { IfOk result (λ opened_objects. opened_by opened_objects.items ≡ opened_of settings.now) }
+    ensures { IfOk result (λ opened_objects. opened_by opened_objects.items ≡ opened_of (record { cpus = 0; objects = objects.now })) }
 {
-    let objects = settings.objects();
     let mut opened_objects = Vec::with_capacity(alloc, objects.len())?;
     for object in objects {
         opened_objects.push_reserved(OpenedObject {
@@ -42,7 +41,7 @@ fn audit_by<J: ReferenceObject<KernelObject>>(
         IsFirstFault ⟦<KernelObject as SeqObject>⟧ (opened_of «record».now.settings) «record».now.run f) }
     ensures told { IfOk result (CanBeTold «record».now.settings) }
 {
-    let opened_objects = objects_of(alloc, record.settings())?;
+    let opened_objects = objects_of(alloc, record.settings().objects())?;
     judge_run::<KernelObject, J>(alloc, opened_objects.as_slice(), record.run())
 }
 

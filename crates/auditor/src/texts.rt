@@ -8,9 +8,9 @@ ghost use Rattle.scripts.specs.RecordRanges.{RecordFitsIn, Record as Shown};
 ghost use Rattle.scripts.specs.RecordSources.{IsReadOut};
 ghost use Rattle.auditor.specs.Audits.{IsVerdictOnText, IsTextFault, IsAudited};
 
-use crate::{Verdict, audit};
+use crate::{RecordJudge, ReferenceKernelObject, Verdict};
 use event_log::{OutOfMemory, Source};
-use scripts::{Record, RecordReadFault};
+use scripts::{RecordReadFault, read_keeping};
 use std::alloc::Global;
 
 /// Why a text was not judged.
@@ -58,6 +58,7 @@ pub fn audit_text<R: Source>(alloc: Global, source: &mut R) -> Result<Verdict, T
     ensures one_failed { result ≡ Err TextFault.ReadFailed → R.failed source.new ≡ counted true (R.failed source.old) }
     ensures no_other { (result ≡ Err TextFault.ReadFailed → ⊥) → R.failed source.new ≡ R.failed source.old }
 {
-    let record = Record::read_from(alloc, source)?;
-    Ok(audit(alloc, &record)?)
+    let judge = RecordJudge::<ReferenceKernelObject>::new(alloc);
+    let (_settings, judge) = read_keeping(alloc, source, judge)?;
+    Ok(judge.verdict())
 }

@@ -81,11 +81,15 @@ pub fn fault_text(alloc: Global, record: &Record, fault: &Fault) -> Result<Strin
 }
 
 /// `sound` or `unsound: FAULT`, with a line end.
-pub fn verdict_line(alloc: Global, record: &Record, verdict: Verdict) -> Result<String, OutOfMemory>
-    requires { CanBeTold «record».now.settings verdict }
-    ensures { IfOk result (λ text. string_bytes text ≡ verdict_text «record».now.settings verdict) }
+pub fn verdict_line(
+    alloc: Global,
+    settings: &Settings,
+    verdict: Verdict,
+) -> Result<String, OutOfMemory>
+    requires { CanBeTold settings.now verdict }
+    ensures { IfOk result (λ text. string_bytes text ≡ verdict_text settings.now verdict) }
 {
     let mut text = String::new(alloc);
-    put_verdict(&mut text, record.settings(), verdict)?;
+    put_verdict(&mut text, settings, verdict)?;
     Ok(text)
 }

@@ -4,22 +4,19 @@ ghost use Rattle.judge.specs.Told.{IsVerdictTold};
 
 use crate::Told;
 use crate::told::{BAD_LINE, OUT_OF_MEMORY};
-use auditor::audit;
-use scripts::{Record, RecordFault};
+use auditor::{RecordJudge, ReferenceKernelObject};
+use scripts::{RecordFault, read_text_keeping};
 use std::alloc::Global;
 
 /// What is told of the record that the bytes spell.
 fn verdict_of(alloc: Global, text: &[u8]) -> Told
     ensures { IsVerdictTold text.now result }
 {
-    let record = match Record::read(alloc, text) {
-        Ok(record) => record,
-        Err(RecordFault::OutOfMemory) => return Told::new(OUT_OF_MEMORY, 0, 0, 0),
-        Err(RecordFault::Line(line)) => return Told::new(BAD_LINE, line, 0, 0),
-    };
-    match audit(alloc, &record) {
-        Ok(verdict) => Told::of_verdict(verdict),
-        Err(_) => Told::new(OUT_OF_MEMORY, 0, 0, 0),
+    let judge = RecordJudge::<ReferenceKernelObject>::new(alloc);
+    match read_text_keeping(alloc, text, judge) {
+        Ok((_settings, judge)) => Told::of_verdict(judge.verdict()),
+        Err(RecordFault::OutOfMemory) => Told::new(OUT_OF_MEMORY, 0, 0, 0),
+        Err(RecordFault::Line(line)) => Told::new(BAD_LINE, line, 0, 0),
     }
 }
 

@@ -16,11 +16,11 @@ ghost use Rattle.mc2_command.specs.Refused.{IsCommon, IsNoOrder, RefusesMerge, R
 
 use crate::fault::Fault;
 use crate::input::settings_of;
-use auditor::{Verdict, audit, fault_text, verdict_line};
+use auditor::{RecordJudge, ReferenceKernelObject, Verdict, fault_text, verdict_line};
 use cpu_worker::{AlwaysAllowed, OpenGate, report, run_owned, simulate};
 use event_log::OutOfMemory;
 use log_merge::{MergeFault, Merged, cycle_text, merge};
-use program::{Inputs, Refusal, read_record, read_schedule, read_scripts, read_settings};
+use program::{Inputs, Refusal, read_kept, read_record, read_schedule, read_scripts, read_settings};
 use scripts::Record;
 use std::alloc::Global;
 use std::sync::Wait;
@@ -105,9 +105,10 @@ pub fn audit_answer<I: Inputs>(
     ensures refused { IfErr result (RefusesRecord (I.held inputs.old) (bytes_of «record».entry)) }
     ensures failures { I.failed inputs.new ≡ counted (says_read_failed result) (I.failed inputs.old) }
 {
-    let record = read_record(alloc, inputs, record)?;
-    let verdict = audit(alloc, &record)?;
-    let line = verdict_line(alloc, &record, verdict)?;
+    let judge = RecordJudge::<ReferenceKernelObject>::new(alloc);
+    let (settings, judge) = read_kept(alloc, inputs, record, judge)?;
+    let verdict = judge.verdict();
+    let line = verdict_line(alloc, &settings, verdict)?;
     Ok((verdict, line))
 }
 

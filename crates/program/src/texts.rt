@@ -4,12 +4,14 @@ ghost use Rattle.std.specs.Prelude.{◌≡◌, ℕ, List, Some, None, length, If
 ghost use Rattle.event_log.specs.Stream.{counted};
 ghost use Rattle.program.specs.Inputs.{bytes_of, says_read_failed};
 ghost use Rattle.program.specs.Texts.{RefusesRecord, RefusesSchedule, RefusesScripts, RefusesSettings, SpellsRecordOf, SpellsScheduleOf, SpellsScriptsOf, SpellsSettingsOf};
+ghost use Rattle.scripts.specs.Keeping.{no_parts, kept_record, IsWholeWith};
+ghost use Rattle.scripts.specs.RecordRanges.{RecordFits};
 ghost use Rattle.scripts.specs.ScriptText.{ScriptsFit};
 
 use crate::inputs::Inputs;
 use crate::refusal::Refusal;
 use event_log::StreamFailed;
-use scripts::{Record, Schedule, Scripts, Settings};
+use scripts::{Keeps, Record, Schedule, Scripts, Settings, read_keeping};
 use std::alloc::Global;
 
 /// The reader of the input of that name. No call on it has failed.
@@ -95,4 +97,24 @@ pub fn read_record<I: Inputs>(
     let record = Record::read_from(alloc, &mut input);
     inputs.close(input);
     Ok(record?)
+}
+
+/// The settings of the record that the input of that name spells, and the keeper, which was handed over the rest of it.
+pub fn read_kept<I: Inputs, K: Keeps>(
+    alloc: Global,
+    inputs: &mut I,
+    name: Option<&str>,
+    keeper: K,
+) -> Result<(Settings, K), Refusal>
+    requires { K.keeps keeper ≡ no_parts }
+    ensures found { IfOk result (λ given. SpellsRecordOf (I.held inputs.old) (bytes_of name.entry) (kept_record given.0 (K.keeps given.1))) }
+    ensures whole { IfOk result (λ given. IsWholeWith given.0 (K.keeps given.1)) }
+    ensures fit { IfOk result (λ given. RecordFits (kept_record given.0 (K.keeps given.1))) }
+    ensures refused { IfErr result (RefusesRecord (I.held inputs.old) (bytes_of name.entry)) }
+    ensures failures { I.failed inputs.new ≡ counted (says_read_failed result) (I.failed inputs.old) }
+{
+    let mut input = opened(inputs, name)?;
+    let kept = read_keeping(alloc, &mut input, keeper);
+    inputs.close(input);
+    Ok(kept?)
 }

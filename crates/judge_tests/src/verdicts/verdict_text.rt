@@ -69,10 +69,10 @@ fn faults_of_entries(rt: HostRuntime) -> Result<(), Fail> {
 #[test]
 fn both_verdicts(rt: HostRuntime) -> Result<(), Fail> {
     let record = read(rt.alloc())?;
-    let sound = verdict_line(rt.alloc(), &record, Verdict::Sound)?;
+    let sound = verdict_line(rt.alloc(), record.settings(), Verdict::Sound)?;
     assert_eq!(rt; sound.as_str(), "sound\n");
     let fault = Fault::TooLong { object: 0 };
-    let unsound = verdict_line(rt.alloc(), &record, Verdict::Unsound(fault))?;
+    let unsound = verdict_line(rt.alloc(), record.settings(), Verdict::Unsound(fault))?;
     assert_eq!(rt; unsound.as_str(), "unsound: log q0: too long\n");
     Ok(())
 }

@@ -192,7 +192,7 @@ fn the_line_of_a_page_too_many(rt: HostRuntime) -> Result<(), Fail> {
     let text = replaced(alloc, OVER_QUOTA, "overquota\ncpu", "page 1\ncpu")?;
     let record = Record::read(alloc, text.as_bytes())?;
     let verdict = audit(alloc, &record)?;
-    let line = verdict_line(alloc, &record, verdict)?;
+    let line = verdict_line(alloc, record.settings(), verdict)?;
     assert_eq!(rt;
         line.as_str(),
         "unsound: log q0 event 2 step 1: wrong step\n"

@@ -1,0 +1,28 @@
+-- A judge of a record that was handed over in parts.
+use Rattle.std.specs.Prelude.{◌≡◌, ℕ, ◌+◌, Bool, if◌then◌else◌, List, length, take}
+use Rattle.scripts.specs.declared.objects.kernel_object.KernelObject.{KernelObject}
+use Rattle.scripts.specs.declared.objects.kernel_call.KParams.{KParams}
+use Rattle.scripts.specs.declared.objects.kernel_call.KCall.{KCall}
+use Rattle.scripts.specs.declared.objects.kernel_call.KReply.{KReply}
+use Rattle.scripts.specs.Keeping.{Parts}
+use Rattle.scripts.specs.Runs.{opened_of}
+use Rattle.scripts.specs.Settings.{ObjectSettings}
+use Rattle.auditor.specs.declared.opened_object.OpenedObject.{OpenedObject}
+use Rattle.auditor.specs.Fed.{Fed}
+use Rattle.auditor.specs.Transcripts.{opened_by}
+
+-- what the judge was fed, as parts of a record of these settings
+abbrev pub parts_of : ℕ → List ObjectSettings → Bool → Fed KernelObject KParams KCall KReply → Parts
+parts_of cpus objects begun d = record { settings = record { cpus = cpus; objects = objects }; count = d.count; begun = begun; logs = d.logs; events = d.events; transcripts = d.transcripts; entries = d.entries }
+
+-- how many logs were begun, at least, where none is whole that wasn't
+abbrev pub begun_logs : Parts → ℕ
+begun_logs p = if p.begun then length p.logs + 1 else length p.logs
+
+-- the judge was fed those parts: so many logs were begun of the objects that the settings open
+pub record IsFedWith (p : Parts) (opened : List (OpenedObject KernelObject KParams KCall KReply)) (log : ℕ) (d : Fed KernelObject KParams KCall KReply) : Type 0 where
+  pub cpus : d.cpus ≡ p.settings.cpus
+  pub objects : d.objects ≡ length p.settings.objects
+  pub same : opened_by opened ≡ opened_of p.settings
+  pub opened : d.opened ≡ take (begun_logs p) opened
+  pub log : log ≡ length p.logs
