@@ -120,7 +120,7 @@ fn no_order(alloc: Global, of: &Record, cause: MergeFault) -> Fault
 {
     match cause {
         MergeFault::OutOfMemory => Fault::Common(Refusal::OutOfMemory),
-        MergeFault::Unsound(fault) => match fault_text(alloc, of, &fault) {
+        MergeFault::Unsound(fault) => match fault_text(alloc, of.settings(), &fault) {
             Ok(text) => Fault::Unsound(text),
             Err(OutOfMemory) => Fault::Common(Refusal::OutOfMemory),
         },
