@@ -1,15 +1,11 @@
 -- The words of a schedule, and that a text with a first bad word is none.
-use Rattle.std.proofs.Common.{◌≡◌, ℕ, zero, suc, ◌+◌, ◌<◌, ◌≤◌, ◌==◌, ◌⊎◌, true, false, not, cond, Some, None, List, [], ◌∷◌, ◌++◌, length, map, take, drop, get_or, position, decimal, refl, sym, ◌∙◌, ap, add-zero, arith, inl, inr, length-append}
-use Rattle.std.proofs.lemmas.Bool.{not-true, not-false}
-use Rattle.std.proofs.lemmas.List.{drop_more, take-append-drop, length-map, length-take, length-drop, get_or-drop}
+use Rattle.std.proofs.Common.{◌≡◌, ℕ, ◌<◌, ◌≤◌, ◌==◌, true, false, not, cond, List, [], ◌∷◌, ◌++◌, length, map, decimal, refl, sym, ◌∙◌, ap, arith, inl, inr, length-append}
+use Rattle.std.proofs.lemmas.List.{length-map}
 use Rattle.std.proofs.lemmas.List.Elements.{All-from_recursion}
-use Rattle.std.proofs.lemmas.List.Quantifiers.{position-Some}
 use Rattle.std.proofs.lemmas.List.Splits.{slice_split-cons_yes, slice_split_none, slice_split_at}
 use Rattle.std.specs.List.{AllByRecursion, filter, slice_split}
 use Rattle.event_log.proofs.Each.{all_map}
-use Rattle.scripts.specs.declared.schedule.TheConstants.{MOST_STEPS}
-use Rattle.scripts.specs.ScheduleText.{is_gap, schedule_words, IsSchedule, NamesNoCpu, IsFirstBadWord}
-use Rattle.scripts.proofs.Cuts.{none_below, none_passes}
+use Rattle.scripts.specs.ScheduleText.{is_gap, schedule_words, IsSchedule, IsFirstBadWord}
 
 -- ---- words
 

@@ -1,5 +1,5 @@
 -- The settings that the rest of a source spells, of which so many bytes are read at the most.
-use Rattle.std.specs.Prelude.{ℕ, ◌≡◌, ◌<◌, ◌≤◌, ◌+◌, ◌⊎◌, List, length, Option}
+use Rattle.std.specs.Prelude.{ℕ, ◌≡◌, ◌<◌, ◌≤◌, ◌⊎◌, List, length, Option}
 use Rattle.std.specs.Io.KnownBytes.{Consumes}
 use Rattle.scripts.specs.declared.settings.fault.BadSettings.{BadSettings}
 use Rattle.scripts.specs.declared.settings.fault.SettingsFault.{SettingsFault}

@@ -1,4 +1,4 @@
-use Rattle.std.proofs.Common.{◌≡◌, ◌≤◌, ◌∙◌, [], ℕ, Err, IfErr, refl, ap, sym, subst, arith}
+use Rattle.std.proofs.Common.{◌≤◌, ◌∙◌, [], ℕ, Err, IfErr, refl, ap, sym, subst, arith}
 use Rattle.std.proofs.lemmas.List.{length-replicate}
 use Rattle.sound_run.specs.declared.limits.TheConstants.{MOST_CPUS}
 use Rattle.scripts.specs.ScheduleReading.{HasReadSteps, NamesFirstBadWordOfRest}

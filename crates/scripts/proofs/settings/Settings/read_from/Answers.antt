@@ -1,4 +1,4 @@
-use Rattle.std.proofs.Common.{◌<◌, ◌≤◌, ◌+◌, length, ap, sym, subst, arith}
+use Rattle.std.proofs.Common.{◌<◌, ◌≤◌, length, ap, sym, subst, arith}
 use Rattle.scripts.specs.declared.settings.source.TheConstants.{MOST_SETTINGS_BYTES}
 use Rattle.scripts.specs.ScriptFaults.{IsRest}
 use Rattle.scripts.proofs.SettingsReading.{settings_refused, long_refused}

@@ -1,4 +1,4 @@
-use Rattle.std.proofs.Common.{◌≡◌, ◌∷◌, sym, ◌∙◌, ap, option_map}
+use Rattle.std.proofs.Common.{sym, ◌∙◌, ap, option_map}
 use Rattle.scripts.specs.Reading.{left}
 use Rattle.scripts.proofs.Behind.{word_next}
 use Rattle.scripts.proofs.Readings.{if_some}

@@ -1,4 +1,4 @@
-use Rattle.std.proofs.Common.{◌≡◌, ◌∷◌, [], ◌==◌, false, sym, ap, ◌∙◌, option_map, ne_eqb, Some}
+use Rattle.std.proofs.Common.{◌∷◌, [], sym, ap, ◌∙◌, option_map, ne_eqb, Some}
 use Rattle.scripts.specs.Reading.{left, key_at, word_at}
 use Rattle.scripts.proofs.Behind.{no_mark, space_no_mark, mark_first, no_word}
 use Rattle.scripts.proofs.text.words.mark.Goals as goal

@@ -1,4 +1,4 @@
-use Rattle.std.proofs.Common.{◌≡◌, ◌∙◌, List, ℕ, Err, ap, sym, subst}
+use Rattle.std.proofs.Common.{◌≡◌, ◌∙◌, Err, ap, sym, subst}
 use Rattle.scripts.specs.declared.schedule.ScheduleFault.TheVariants.{Word}
 use Rattle.scripts.specs.ScheduleText.{IsSchedule}
 use Rattle.scripts.proofs.StepReading.{text_ended, bad_end}
