@@ -21,6 +21,7 @@ pub mod JudgedRuns
 pub mod Feeding
 pub mod TurnedLogs
 pub mod RecordRuns
+pub mod FedWith
 pub mod HeldLists
 pub mod MarkedLists
 pub mod Rows

@@ -24,5 +24,5 @@ pub record IsFedWith (p : Parts) (opened : List (OpenedObject KernelObject KPara
   pub cpus : d.cpus ≡ p.settings.cpus
   pub objects : d.objects ≡ length p.settings.objects
   pub same : opened_by opened ≡ opened_of p.settings
-  pub opened : d.opened ≡ take (begun_logs p) opened
-  pub log : log ≡ length p.logs
+  pub begun : d.opened ≡ take (begun_logs p) opened
+  pub whole : log ≡ length p.logs

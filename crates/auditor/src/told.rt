@@ -93,10 +93,8 @@ impl<O: SeqObject> Told<O> {
         requires { length self.now.transcripts < self.now.cpus }
         ensures { result ≡ length self.now.transcripts + 1 }
     {
-        let cpus = self.cpus;
-        if self.cpu >= cpus {
-            return cpus;
-        }
+        // This number fits, so the one below it can be counted up.
+        let _cpus = self.cpus;
         self.cpu + 1
     }
 

@@ -8,21 +8,17 @@ pub loop-event-init : goal.loop-event-init
 loop-event-init g c = events_begin c.args.judged.now c.args.opened.now c.args.log.now c.begin_log.new.self c.requires.before.events c.in_ok-begin_log.ensures.ok
 
 pub event-requires : goal.event-requires
-event-requires g c = (
-  g.met.O.SeqObject.event_fits,
-  (
-    still_in_log c.args.judged.now c.args.opened.now c.args.log.now c.loop-event.judged c.loop-event.event-index c.loop-event.invariant c.requires.before,
-    (
-      more_events c.args.judged.now c.args.opened.now c.args.log.now c.loop-event.judged c.loop-event.event-index c.loop-event.invariant c.loop-event-test.true,
-      (
-        let lt = (c.requires.events c.loop-event.event-index c.event-item.result (read_get c.args.log.now c.loop-event.event-index c.event-item.result c.loop-event-test.true c.event-item.is)).0 in
-            let same = ap (λ (k : Fed _ _ _ _). k.cpus) c.loop-event.invariant in
-            omega (arith, lt, same),
-        (c.requires.events c.loop-event.event-index c.event-item.result (read_get c.args.log.now c.loop-event.event-index c.event-item.result c.loop-event-test.true c.event-item.is)).1,
-      ),
-    ),
-  ),
-)
+event-requires g c =
+    let old = c.args.judged.now in
+    let opened = c.args.opened.now in
+    let log = c.args.log.now in
+    let j = c.loop-event.judged in
+    let i = c.loop-event.event-index in
+    let e = c.event-item.result in
+    let own = c.requires.events i e (read_get log i e c.loop-event-test.true c.event-item.is) in
+    let cpu = own.0 in
+    let same = ap (λ (k : Fed _ _ _ _). k.cpus) c.loop-event.invariant in
+    (g.met.O.SeqObject.event_fits, (still_in_log old opened log j i c.loop-event.invariant c.requires.before, (more_events old opened log j i c.loop-event.invariant c.loop-event-test.true, (omega (arith, cpu, same), own.1))))
 
 pub loop-event-preserved : goal.loop-event-preserved
 loop-event-preserved g c = events_next c.args.judged.now c.args.opened.now c.args.log.now c.loop-event.judged c.event.new.self c.loop-event.event-index c.event-item.result c.loop-event.invariant c.loop-event-test.true c.event-item.is c.in_ok-event.ensures.ok

@@ -17,20 +17,18 @@ pub loop-object-init : goal.loop-object-init
 loop-object-init g c = c.requires.nothing
 
 pub feed_log-requires : goal.feed_log-requires
-feed_log-requires g c = (
-  g.met.O.SeqObject.event_fits,
-  (
+feed_log-requires g c =
+    let objects = c.args.opened_objects.now in
+    let run = c.args.run.now in
+    let j = c.loop-object.judged in
+    let i = c.loop-object.object in
+    let t = c.index-opened_objects-object.result in
+    let log = c.as_slice.result.now in
     let n = c.requires.run.counted in
-        let m = ap length c.as_slice-logs.ensures in
-        c.requires.run.able c.loop-object.object c.index-opened_objects-object.result (read_get c.args.opened_objects.now c.loop-object.object c.index-opened_objects-object.result (omega (arith, n, m)) c.index-opened_objects-object.is),
-    (
-      let m = ap length c.as_slice-logs.ensures in before_log g.O.SeqObject c.args.opened_objects.now c.args.run.now c.requires.run c.loop-object.judged c.loop-object.object c.loop-object.invariant (omega (arith, m)),
-      let m = ap length c.as_slice-logs.ensures in
-          let here = read_from c.as_slice-logs.result.now c.args.run.now.logs c.loop-object.object c.index-logs-object.result c.as_slice.result.now c.as_slice-logs.ensures c.loop-object-test.true c.index-logs-object.is c.as_slice.ensures in
-          events_on g.O.SeqObject c.args.opened_objects.now c.args.run.now c.requires.run c.loop-object.judged c.loop-object.object c.as_slice.result.now c.loop-object.invariant (omega (arith, m)) here,
-    ),
-  ),
-)
+    let m = ap length c.as_slice-logs.ensures in
+    let lt : i < length run.logs = omega (arith, m) in
+    let here = read_from c.as_slice-logs.result.now run.logs i c.index-logs-object.result log c.as_slice-logs.ensures c.loop-object-test.true c.index-logs-object.is c.as_slice.ensures in
+    (g.met.O.SeqObject.event_fits, (c.requires.run.able i t (read_get objects i t (omega (arith, n, m)) c.index-opened_objects-object.is), (before_log g.O.SeqObject objects run c.requires.run j i c.loop-object.invariant lt, events_on g.O.SeqObject objects run c.requires.run j i log c.loop-object.invariant lt here)))
 
 pub loop-object-preserved : goal.loop-object-preserved
 loop-object-preserved g c =

@@ -10,18 +10,16 @@ pub loop-entries-init : goal.loop-entries-init
 loop-entries-init g c = c.requires.logs
 
 pub feed_transcript-requires : goal.feed_transcript-requires
-feed_transcript-requires g c = (
-  g.met.O.SeqObject.entry_fits,
-  (
-    let m = ap length c.as_slice-transcripts.ensures in in_transcripts g.O.SeqObject c.args.opened_objects.now c.args.run.now c.requires.run c.loop-entries.judged c.loop-entries.entries-index c.loop-entries.invariant (omega (arith, m)),
-    (
-      no_entries g.O.SeqObject c.args.opened_objects.now c.args.run.now c.requires.run c.loop-entries.judged c.loop-entries.entries-index c.loop-entries.invariant,
-      let m = ap length c.as_slice-transcripts.ensures in
-          let here = read_from c.as_slice-transcripts.result.now c.args.run.now.transcripts c.loop-entries.entries-index c.entries-item.result c.as_slice.result.now c.as_slice-transcripts.ensures c.loop-entries-test.true c.entries-item.is c.as_slice.ensures in
-          entries_on g.O.SeqObject c.args.opened_objects.now c.args.run.now c.requires.run c.loop-entries.judged c.loop-entries.entries-index c.as_slice.result.now c.loop-entries.invariant (omega (arith, m)) here,
-    ),
-  ),
-)
+feed_transcript-requires g c =
+    let objects = c.args.opened_objects.now in
+    let run = c.args.run.now in
+    let j = c.loop-entries.judged in
+    let i = c.loop-entries.entries-index in
+    let entries = c.as_slice.result.now in
+    let m = ap length c.as_slice-transcripts.ensures in
+    let lt : i < length run.transcripts = omega (arith, m) in
+    let here = read_from c.as_slice-transcripts.result.now run.transcripts i c.entries-item.result entries c.as_slice-transcripts.ensures c.loop-entries-test.true c.entries-item.is c.as_slice.ensures in
+    (g.met.O.SeqObject.entry_fits, (in_transcripts g.O.SeqObject objects run c.requires.run j i c.loop-entries.invariant lt, (no_entries g.O.SeqObject objects run c.requires.run j i c.loop-entries.invariant, entries_on g.O.SeqObject objects run c.requires.run j i entries c.loop-entries.invariant lt here)))
 
 pub loop-entries-preserved : goal.loop-entries-preserved
 loop-entries-preserved g c =
