@@ -1,14 +1,23 @@
 -- Why a text was not judged, by why its record was not read.
 use Rattle.std.proofs.Common.{◌≡◌, ℕ, List, Option, Result, Ok, Err, sym, ap, subst}
+use Rattle.std.specs.Prelude.{◌↔◌}
 use Rattle.std.specs.Result.{IsErrAnd, IfErr}
 use Rattle.scripts.specs.declared.record.source.RecordReadFault.{RecordReadFault}
 use Rattle.scripts.specs.declared.record.source.RecordReadFault.TheVariants as read_fault
+use Rattle.scripts.specs.contracts.objects.kernel_object.KernelObjectSeqObject.TheImpl.{ghosts as kernel}
+use Rattle.scripts.specs.Keeping.{Parts, kept_record, IsWholeWith}
 use Rattle.scripts.specs.RecordRanges.{Record}
 use Rattle.scripts.specs.RecordSources.{NamesBadLineOfRest, IsReadFrom, IsReadOut}
+use Rattle.scripts.specs.Runs.{opened_of}
+use Rattle.scripts.specs.Settings.{Settings}
+use Rattle.sound_run.specs.Sound.{Sound}
+use Rattle.auditor.specs.declared.fault.Fault.{Fault}
 use Rattle.auditor.specs.declared.fault.Verdict.{Verdict}
+use Rattle.auditor.specs.declared.fault.Verdict.TheVariants as verdict
 use Rattle.auditor.specs.declared.texts.TextFault.{TextFault}
 use Rattle.auditor.specs.declared.texts.TextFault.TheVariants as text_fault
-use Rattle.auditor.specs.Audits.{IsTextFault, IsAudited, of_record}
+use Rattle.auditor.specs.Audits.{IsTextFault, IsAudited, IsVerdict, of_record}
+use Rattle.auditor.specs.Faults.{IsFirstFault}
 
 named : (remaining : Option (List ℕ)) (cause : RecordReadFault) → NamesBadLineOfRest remaining cause → IsTextFault remaining (of_record cause)
 named remaining read_fault.OutOfMemory names = tt
@@ -38,3 +47,13 @@ text_read_out old new cause (Ok x) is out no_memory no_failure = absurd is
 text_read_out old new read_fault.OutOfMemory (Err f) is out no_memory no_failure = absurd (no_memory (ap Err is))
 text_read_out old new read_fault.ReadFailed (Err f) is out no_memory no_failure = absurd (no_failure (ap Err is))
 text_read_out old new (read_fault.Line n) (Err f) is out no_memory no_failure = out (λ e. absurd cc) (λ e. absurd cc)
+
+-- the verdict on what a keeper was handed over is that on the record
+pub verdict_on_kept : (settings : Settings) (p : Parts) (v : Verdict) → IsWholeWith settings p
+    → ((v ≡ verdict.Sound) ↔ Sound kernel (opened_of p.settings) (kept_record p.settings p).run)
+    → ((f : Fault) → (v ≡ verdict.Unsound f) ↔ IsFirstFault kernel (opened_of p.settings) (kept_record p.settings p).run f)
+    → IsVerdict (kept_record settings p) v
+verdict_on_kept settings p v whole sound fault = record {
+  sound = subst (λ (s : Settings). (v ≡ verdict.Sound) ↔ Sound kernel (opened_of s) (kept_record p.settings p).run) whole.told sound;
+  fault = λ f. subst (λ (s : Settings). (v ≡ verdict.Unsound f) ↔ IsFirstFault kernel (opened_of s) (kept_record p.settings p).run f) whole.told (fault f);
+}

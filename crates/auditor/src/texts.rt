@@ -59,6 +59,6 @@ pub fn audit_text<R: Source>(alloc: Global, source: &mut R) -> Result<Verdict, T
     ensures no_other { (result ≡ Err TextFault.ReadFailed → ⊥) → R.failed source.new ≡ R.failed source.old }
 {
     let judge = RecordJudge::<ReferenceKernelObject>::new(alloc);
-    let (_settings, judge) = read_keeping(alloc, source, judge)?;
-    Ok(judge.verdict())
+    let read = read_keeping(alloc, source, judge)?;
+    Ok(read.1.verdict())
 }
