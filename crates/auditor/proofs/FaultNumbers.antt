@@ -65,10 +65,13 @@ module _ (r : Record) (fits : RecordFits r) where
   fault_is_named meaning objects (NotAsked cpu n) same h = entry_small cpu n h.entry h.there
   fault_is_named meaning objects (Unclaimed x e) same h = (omega (arith, fits.1.log_count, list_within r.run.logs x e h.event h.there), event_small x e h.event h.there)
 
+  pub first_is_named : (f : Fault) → IsFirstFault kernel (opened_of r.settings) r.run f → IsNamed r.settings f
+  first_is_named f h = fault_is_named kernel (opened_of r.settings) f (length-map r.settings.objects object_opened) h.there
+
   -- a verdict on a record can be told
   told : (v : Verdict) → ((f : Fault) → v ≡ verdict.Unsound f → IsFirstFault kernel (opened_of r.settings) r.run f) → CanBeTold r.settings v
   told verdict.Sound h = tt
-  told (verdict.Unsound f) h = fault_is_named kernel (opened_of r.settings) f (length-map r.settings.objects object_opened) (h f refl).there
+  told (verdict.Unsound f) h = first_is_named f (h f refl)
 
   pub can_be_told : {E : Type 0} (result : Result Verdict E) → ((f : Fault) → IfOk result (λ v. (v ≡ verdict.Unsound f) ↔ IsFirstFault kernel (opened_of r.settings) r.run f)) → IfOk result (CanBeTold r.settings)
   can_be_told (Ok v) h = told v (λ f e. (h f).0 e)

@@ -14,6 +14,7 @@ use Rattle.auditor.specs.declared.kept_log.KeptLog.{KeptLog}
 use Rattle.auditor.specs.declared.replay.Replay.{Replay}
 use Rattle.auditor.specs.Faults.{IsFault, IsFirstFault}
 use Rattle.auditor.specs.Fed.{Fed, run_of}
+use Rattle.auditor.specs.KeptLogs.{events_in}
 use Rattle.auditor.specs.NoFaults.{HasNoFault}
 use Rattle.auditor.specs.Noted.{IsRightWith}
 use Rattle.auditor.specs.Passes.{IsRunOf, AreEnds, IsEnd, AreTaken, IsFirstLeft}
@@ -38,13 +39,17 @@ index_map f [] i x e = cc
 index_map f (y ∷ ys) zero x e = let same : y ≡ x = cc in ap f same
 index_map f (y ∷ ys) (suc i) x e = index_map f ys i x e
 
+-- the logs that were kept are those that were fed
+pub kept_are : {O P C R J : Type 0} (meaning : Ghosts O P C R) (shows : J → O) (d : Fed O P C R) (replay : Option (Replay O J P C R)) (logs : List (KeptLog O P C R)) (room : ℕ) → IsRightWith meaning shows d replay logs room → events_in logs ≡ d.logs
+kept_are meaning shows d replay logs room all = same_map (λ (l : KeptLog _ _ _ _). l.log) logs d.logs all.logs.count (λ x l at. (all.logs.each x l at).log)
+
 module _ {O P C R J : Type 0} (meaning : Ghosts O P C R) (shows : J → O) (d : Fed O P C R) (replay : Option (Replay O J P C R)) (logs : List (KeptLog O P C R)) (room : ℕ) (all : IsRightWith meaning shows d replay logs room) (whole : HasLogs d) (cpus : length d.transcripts ≡ d.cpus) (idle : d.entries ≡ [])
     (given : IsRunOf meaning d.opened (run_of d)) where
   itself : IsWith meaning d d.opened (run_of d)
   itself = with_itself meaning d whole cpus idle given
 
   same_logs : map (λ (l : KeptLog O P C R). l.log) logs ≡ d.logs
-  same_logs = same_map (λ (l : KeptLog O P C R). l.log) logs d.logs all.logs.count (λ x l at. (all.logs.each x l at).log)
+  same_logs = kept_are meaning shows d replay logs room all
 
   are : AreEnds meaning (opened_by d.opened) (run_of d) (length d.transcripts) (map (λ (l : KeptLog O P C R). l.end) logs)
   are x lt =

@@ -10,6 +10,7 @@ pub mod SoFar
 pub mod Packed
 pub mod Turns
 pub mod Noted
+pub mod KeptLogs
 pub mod Audits
 pub mod Marks
 pub mod Pages

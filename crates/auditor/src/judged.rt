@@ -1,6 +1,6 @@
 //! A judge that is fed a run's events and entries one after the other.
 
-ghost use Rattle.std.specs.Prelude.{◌≡◌, ◌↔◌, ◌<◌, true, [], length, IfOk, OnOk, OnErr};
+ghost use Rattle.std.specs.Prelude.{◌≡◌, ◌↔◌, ◌<◌, true, [], length, IfOk, IfErr, OnOk, OnErr};
 ghost use Rattle.sound_run.specs.Sound.{Sound};
 ghost use Rattle.auditor.specs.Faults.{HasSteps, IsFirstFault};
 ghost use Rattle.auditor.specs.Fed.{Fed, nothing, log_begun, event_fed, log_ended, transcript_begun, entry_fed, transcript_ended, run_of};
@@ -11,7 +11,8 @@ ghost use Rattle.auditor.specs.Transcripts.{opened_by};
 use crate::notes::Notes;
 use crate::told::Told;
 use crate::{
-    Fault, OpenedObject, ReferenceObject, Verdict, first_faults_agree, sound_has_no_fault,
+    Fault, JudgedRun, OpenedObject, ReferenceObject, Verdict, first_faults_agree,
+    sound_has_no_fault,
 };
 use event_log::{Entry, Event, OutOfMemory, SeqObject};
 use std::alloc::Global;
@@ -142,5 +143,23 @@ impl<O: SeqObject, J: ReferenceObject<O>> Judged<O, J> {
         sound_has_no_fault::<O>();
         first_faults_agree::<O>();
         self.notes.verdict(&self.told)
+    }
+
+    /// The run that was fed, if it is sound, or else its first fault. It takes no memory.
+    pub fn into_run(self) -> Result<JudgedRun<O>, Fault>
+        requires logs { HasLogs self }
+        requires transcripts { length self.transcripts ≡ self.cpus }
+        requires entries { self.entries ≡ [] }
+        requires run { IsRunOf O.SeqObject self.opened (run_of self) }
+        ensures run { IfOk result (λ r. r ≡ run_of self) }
+        ensures sound { IfOk result (λ r. Sound O.SeqObject (opened_by self.opened) (run_of self)) }
+        ensures fault { IfErr result (IsFirstFault O.SeqObject (opened_by self.opened) (run_of self)) }
+    {
+        let Judged {
+            alloc: _,
+            told,
+            notes,
+        } = self;
+        notes.into_run(told)
     }
 }

@@ -1,16 +1,16 @@
 //! A record that is judged while it is read.
 
-ghost use Rattle.std.specs.Prelude.{◌≡◌, ◌↔◌};
+ghost use Rattle.std.specs.Prelude.{◌≡◌, ◌↔◌, IfOk, IfErr};
 ghost use Rattle.sound_run.specs.Sound.{Sound};
 ghost use Rattle.scripts.specs.Keeping.{no_parts, kept_record, IsWholeWith};
 ghost use Rattle.scripts.specs.RecordRanges.{RecordFits};
 ghost use Rattle.scripts.specs.Runs.{opened_of};
 ghost use Rattle.auditor.specs.Faults.{IsFirstFault};
-ghost use Rattle.auditor.specs.VerdictText.{CanBeTold};
+ghost use Rattle.auditor.specs.VerdictText.{CanBeTold, IsNamed};
 
 use crate::judged::Judged;
 use crate::record_audit::objects_of;
-use crate::{Fault, OpenedObject, ReferenceObject, Verdict};
+use crate::{Fault, JudgedRun, OpenedObject, ReferenceObject, Verdict};
 use event_log::{Entry, Event, OutOfMemory, Past, SeqObject};
 use scripts::{Keeps, KernelObject, ObjectSettings};
 use std::alloc::Global;
@@ -66,6 +66,19 @@ impl<J: ReferenceObject<KernelObject>> RecordJudge<J> {
         ensures told { CanBeTold self.now.settings result }
     {
         self.judged.verdict()
+    }
+
+    /// The run that was read, if it is sound, or else its first fault. It takes no memory.
+    pub fn into_run(self) -> Result<JudgedRun<KernelObject>, Fault>
+        requires whole { IsWholeWith self.settings self }
+        requires fit { RecordFits (kept_record self.settings self) }
+        ensures run { IfOk result (λ r. r ≡ (kept_record self.settings self).run) }
+        ensures sound { IfOk result (λ r. Sound ⟦<KernelObject as SeqObject>⟧ (opened_of self.settings) (kept_record self.settings self).run) }
+        ensures fault { IfErr result (IsFirstFault ⟦<KernelObject as SeqObject>⟧ (opened_of self.settings) (kept_record self.settings self).run) }
+        ensures told { IfErr result (IsNamed self.settings) }
+    {
+        let RecordJudge { judged, .. } = self;
+        judged.into_run()
     }
 }
 

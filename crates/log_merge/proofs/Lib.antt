@@ -15,4 +15,5 @@ pub mod Matched
 pub mod OneOrder
 pub mod WholeRuns
 pub mod NextLines
+pub mod WrittenEvents
 pub mod Rows

@@ -25,7 +25,7 @@ use Rattle.log_merge.proofs.Counts.{first_ranks}
 use Rattle.auditor.proofs.Ranked.{done_at}
 use Rattle.log_merge.proofs.Lent.{ended}
 
-take_more : {X : Type 0} (xs : List X) (i : ℕ) (x : X) → slice_get xs i ≡ Some x → take (suc i) xs ≡ take i xs ++ x ∷ []
+pub take_more : {X : Type 0} (xs : List X) (i : ℕ) (x : X) → slice_get xs i ≡ Some x → take (suc i) xs ≡ take i xs ++ x ∷ []
 take_more [] i x e = cc
 take_more (y ∷ ys) zero x e = let same : y ≡ x = cc in ap (λ z. z ∷ []) same
 take_more (y ∷ ys) (suc i) x e = ap (λ l. y ∷ l) (take_more ys i x e)

@@ -16,7 +16,7 @@ use scripts::{
 use sound_run::Place;
 
 /// The name of the object at that place, from 0.
-fn name_of(settings: &Settings, object: u8) -> &[u8]
+pub(crate) fn name_of(settings: &Settings, object: u8) -> &[u8]
     ensures { result.now ≡ name_at settings.entry.now object }
 {
     match settings.objects().get(object as usize) {

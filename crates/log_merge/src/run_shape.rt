@@ -5,7 +5,7 @@ ghost use Rattle.event_log.specs.declared.entry.Run.{Run};
 ghost use Rattle.log_merge.specs.Shapes.{shape_of};
 ghost use Rattle.sound_run.specs.Sound.{transcript_of, log_of};
 
-use event_log::SeqObject;
+use event_log::{Done, Entry, SeqObject};
 
 /// The shape of an entry.
 #[derive(Clone, Copy, Debug, PartialEq, Eq, Drop)]
@@ -13,6 +13,19 @@ pub struct EntryShape {
     pub object: u8,
     /// Whether it was done. Else it found no room.
     pub is_done: bool,
+}
+
+impl EntryShape {
+    /// The entry's shape.
+    #[inline(always)]
+    pub(crate) fn of<O: SeqObject>(entry: &Entry<O>) -> EntryShape
+        ensures { result ≡ shape_of entry.now }
+    {
+        EntryShape {
+            object: entry.object,
+            is_done: matches!(&entry.done, Done::Steps(_)),
+        }
+    }
 }
 
 /// The shape of a run, which is all that merging looks at: of each entry its object and whether it was done, and of each event

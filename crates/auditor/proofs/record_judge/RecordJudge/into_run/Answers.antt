@@ -1,0 +1,45 @@
+use Rattle.std.proofs.Common.{◌≡◌, [], length, List, Result, Ok, Err, sym, subst, ◌∙◌, ap}
+use Rattle.std.specs.Prelude.{IfOk, IfErr}
+use Rattle.sound_run.specs.Sound.{Opened, Sound}
+use Rattle.scripts.specs.contracts.objects.kernel_object.KernelObjectSeqObject.TheImpl.{ghosts as kernel}
+use Rattle.scripts.specs.declared.objects.kernel_call.KParams.{KParams}
+use Rattle.scripts.specs.KernelTypes.{KernelRun}
+use Rattle.scripts.specs.Keeping.{Parts, kept_record, IsWholeWith}
+use Rattle.scripts.specs.RecordRanges.{RecordFits}
+use Rattle.scripts.specs.Runs.{opened_of}
+use Rattle.auditor.specs.declared.fault.Fault.{Fault}
+use Rattle.auditor.specs.Faults.{IsFirstFault}
+use Rattle.auditor.specs.Fed.{run_of}
+use Rattle.auditor.specs.VerdictText.{IsNamed}
+use Rattle.auditor.proofs.FaultNumbers.{first_is_named}
+use Rattle.auditor.proofs.FedWith.{whole_run}
+use Rattle.auditor.proofs.record_judge.RecordJudge.into_run.Goals as goal
+
+pub into_run-requires-clause-run : goal.into_run-requires-clause-run
+into_run-requires-clause-run g c =
+    let i = c.self.inside in
+    let back = sym c.self.view_is in
+    (whole_run i.cpus i.objects.items i.begun i.opened.items i.log i.judged c.self.invariant (subst (λ (p : Parts). IsWholeWith p.settings p) back c.requires.whole) (subst (λ (p : Parts). RecordFits (kept_record p.settings p)) back c.requires.fit)).3
+
+pub returns-clause-sound : goal.returns-clause-sound
+returns-clause-sound g c =
+    let i = c.self.inside in
+    let back = sym c.self.view_is in
+    let same = (whole_run i.cpus i.objects.items i.begun i.opened.items i.log i.judged c.self.invariant (subst (λ (p : Parts). IsWholeWith p.settings p) back c.requires.whole) (subst (λ (p : Parts). RecordFits (kept_record p.settings p)) back c.requires.fit)).4 in
+    subst (λ (p : Parts). IfOk c.into_run.result (λ r. Sound kernel (opened_of p.settings) (kept_record p.settings p).run)) c.self.view_is
+    (subst (λ (os : List (Opened KParams)). IfOk c.into_run.result (λ r. Sound kernel os (run_of i.judged))) same c.into_run.ensures.sound)
+
+pub returns-clause-fault : goal.returns-clause-fault
+returns-clause-fault g c =
+    let i = c.self.inside in
+    let back = sym c.self.view_is in
+    let same = (whole_run i.cpus i.objects.items i.begun i.opened.items i.log i.judged c.self.invariant (subst (λ (p : Parts). IsWholeWith p.settings p) back c.requires.whole) (subst (λ (p : Parts). RecordFits (kept_record p.settings p)) back c.requires.fit)).4 in
+    subst (λ (p : Parts). IfErr c.into_run.result (IsFirstFault kernel (opened_of p.settings) (kept_record p.settings p).run)) c.self.view_is
+    (subst (λ (os : List (Opened KParams)). IfErr c.into_run.result (IsFirstFault kernel os (run_of i.judged))) same c.into_run.ensures.fault)
+
+named : (p : Parts) → RecordFits (kept_record p.settings p) → (r : Result KernelRun Fault) → IfErr r (IsFirstFault kernel (opened_of p.settings) (kept_record p.settings p).run) → IfErr r (IsNamed p.settings)
+named p fit (Ok run) h = tt
+named p fit (Err f) h = first_is_named (kept_record p.settings p) fit f h
+
+pub returns-clause-told : goal.returns-clause-told
+returns-clause-told g c = named c.args.self c.requires.fit c.into_run.result (returns-clause-fault g c)

@@ -1,0 +1,81 @@
+//! A run that was judged.
+
+ghost use Rattle.std.specs.Prelude.{◌≡◌, length, option_map, slice_get};
+ghost use Rattle.std.specs.Option.{option_copied};
+ghost use Rattle.auditor.specs.Fed.{run_of};
+ghost use Rattle.auditor.specs.KeptLogs.{events_in};
+ghost use Rattle.sound_run.specs.Sound.{log_of};
+
+use crate::kept_log::KeptLog;
+use crate::told::Told;
+use event_log::{SeqObject, Step};
+use std::marker::Model;
+
+/// A run that is sound. Of its events it has the CPU and the steps, packed, and of its entries nothing. Contracts alone know
+/// the rest.
+#[derive(Drop)]
+pub struct JudgedRun<O: SeqObject> {
+    told: Told<O>,
+    logs: Vec<KeptLog<O>>,
+}
+
+impl<O: SeqObject> Model for JudgedRun<O> {
+    ghost use Rattle.std.specs.Prelude.{◌≡◌};
+    ghost use Rattle.event_log.specs.declared.entry.Run.{Run};
+    ghost use Rattle.auditor.specs.Fed.{run_of};
+    ghost use Rattle.auditor.specs.KeptLogs.{events_in};
+
+    ghost Value = { Run O O.Params O.Call O.Reply };
+
+    ghost view = { λ j. run_of j.told };
+
+    ghost invariant = { λ j. events_in j.logs.items ≡ j.told.logs };
+}
+
+impl<O: SeqObject> JudgedRun<O> {
+    /// The run that was told, of which these logs were kept.
+    pub(crate) fn new(told: Told<O>, logs: Vec<KeptLog<O>>) -> JudgedRun<O>
+        requires { events_in logs.items ≡ told.logs }
+        ensures { result ≡ run_of told }
+    {
+        JudgedRun { told, logs }
+    }
+
+    /// How many objects the run has.
+    #[inline(always)]
+    pub fn objects(&self) -> usize
+        ensures { result ≡ length self.now.logs }
+    {
+        self.logs.as_slice().len()
+    }
+
+    /// The CPU of the event at that index of the object's log, if there is one.
+    #[inline(always)]
+    pub fn event_cpu(&self, object: usize, index: usize) -> Option<usize>
+        ensures { result ≡ option_map (λ e. e.cpu) (slice_get (log_of object self.now) index) }
+    {
+        if object >= self.logs.as_slice().len() {
+            return None;
+        }
+        let kept = &self.logs[object];
+        if index >= kept.log.len() {
+            return None;
+        }
+        Some(kept.log.cpu(index) as usize)
+    }
+
+    /// The steps of the event at that index of the object's log, if there is one.
+    #[inline(always)]
+    pub fn steps(&self, object: usize, index: usize) -> Option<&[Step<O>]>
+        ensures { option_copied result ≡ option_map (λ e. e.steps.list.items) (slice_get (log_of object self.now) index) }
+    {
+        if object >= self.logs.as_slice().len() {
+            return None;
+        }
+        let kept = &self.logs[object];
+        if index >= kept.log.len() {
+            return None;
+        }
+        Some(kept.log.steps(index))
+    }
+}
