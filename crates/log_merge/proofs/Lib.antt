@@ -16,4 +16,5 @@ pub mod OneOrder
 pub mod WholeRuns
 pub mod NextLines
 pub mod WrittenEvents
+pub mod PlaceLines
 pub mod Rows

@@ -1,0 +1,70 @@
+-- The line of a place of an order, and the events that are counted behind it.
+use Rattle.std.proofs.Common.{◌≡◌, ℕ, zero, suc, ◌+◌, ◌<◌, true, false, List, [], ◌∷◌, length, map, take, get_or, slice_get, Some, refl, sym, ap, ◌∙◌, subst, arith}
+use Rattle.std.specs.Prelude.{option_map, codes, decimal}
+use Rattle.std.specs.Option.{option_map_or}
+use Rattle.std.proofs.Math.ListN.{set}
+use Rattle.std.proofs.lemmas.Option.{slice_get_within}
+use Rattle.event_log.specs.declared.event.Steps.{Steps}
+use Rattle.event_log.specs.declared.entry.Done.TheVariants as done
+use Rattle.scripts.specs.KernelTypes.{KernelEntry, KernelEvent, KernelDone, KernelSteps, KernelRun}
+use Rattle.scripts.specs.RecordText.{step_words, done_words}
+use Rattle.scripts.specs.Settings.{Settings, name_at}
+use Rattle.scripts.specs.Words.{separated}
+use Rattle.sound_run.specs.declared.place.Place.{Place}
+use Rattle.sound_run.specs.Sound.{log_of}
+use Rattle.sound_run.specs.Orders.{entry_at, IsOrder}
+use Rattle.log_merge.specs.declared.run_shape.EntryShape.{EntryShape}
+use Rattle.log_merge.specs.MergedText.{entry_words, place_words}
+use Rattle.log_merge.specs.Shapes.{shape_of}
+use Rattle.log_merge.specs.Written.{AreWritten}
+use Rattle.log_merge.proofs.Shaped.{HasShape, shaped, steps_of, full_of}
+use Rattle.log_merge.proofs.WrittenEvents.{done_written, full_written, next_written}
+
+-- what is read within a list is there
+pub there_at : {X : Type 0} (xs : List X) (i : ℕ) (d : X) → i < length xs → slice_get xs i ≡ Some (get_or xs i d)
+there_at [] i d lt = absurd (omega (arith, lt))
+there_at (x ∷ xs) zero d lt = refl
+there_at (x ∷ xs) (suc i) d lt = there_at xs i d (omega (arith, lt))
+
+module _ (run : KernelRun) (places : List Place) (i : ℕ) (written : List ℕ) (so_far : AreWritten run (take i places) written) (p : Place) (at : slice_get places i ≡ Some p) (shape : EntryShape) (is : Some shape ≡ option_map shape_of (entry_at run p)) (settings : Settings) where
+  its : HasShape (entry_at run p) shape
+  its = shaped (entry_at run p) shape is
+
+  line_of : (d : KernelDone) → its.entry.done ≡ d → place_words settings run p ≡ decimal p.cpu ∷ name_at settings shape.object ∷ done_words d
+  line_of d same = ap (λ o. option_map_or (entry_words settings p.cpu) o []) its.there ∙ (λ j. decimal p.cpu ∷ name_at settings (its.object j) ∷ done_words (same j))
+
+  -- it found no room
+  module _ (full : shape.is_done ≡ false) where
+    none : its.entry.done ≡ done.NoRoom
+    none = full_of its.entry.done (its.steps ∙ full)
+
+    pub full_line : place_words settings run p ≡ decimal p.cpu ∷ name_at settings shape.object ∷ codes "noroom" ∷ []
+    full_line = line_of done.NoRoom none
+
+    pub full_counted : AreWritten run (take (i + 1) places) written
+    full_counted = full_written run places i written so_far p at its.entry its.there none
+
+  -- it was done
+  module _ (small : shape.object < 256) (whole : shape.is_done ≡ true) where
+    its_steps : (s : KernelSteps) × (its.entry.done ≡ done.Steps s)
+    its_steps = steps_of its.entry.done (its.steps ∙ whole)
+
+    small_too : its.entry.object < 256
+    small_too = let o = its.object in omega (arith, o, small)
+
+    pub its_event : KernelEvent
+    its_event = record { cpu = p.cpu; steps = its_steps.0 }
+
+    pub done_line : place_words settings run p ≡ decimal p.cpu ∷ name_at settings shape.object ∷ separated (map step_words its_event.steps.list.items)
+    unfolding its_event
+    done_line = line_of (done.Steps its_steps.0) its_steps.1
+
+    pub done_counted : AreWritten run (take (i + 1) places) (set written shape.object (get_or written shape.object 0 + 1))
+    done_counted = subst (λ (x : ℕ). AreWritten run (take (i + 1) places) (set written x (get_or written x 0 + 1))) its.object (done_written run places i written so_far p at its.entry its.there its_steps.0 its_steps.1 small_too)
+
+    pub done_next : IsOrder run places → slice_get (log_of shape.object run) (get_or written shape.object 0) ≡ Some its_event
+    unfolding its_event
+    done_next order = subst (λ (x : ℕ). slice_get (log_of x run) (get_or written x 0) ≡ Some (record { cpu = p.cpu; steps = its_steps.0 })) its.object (next_written run places i written so_far p at its.entry its.there its_steps.0 its_steps.1 small_too order)
+
+    pub done_within : IsOrder run places → get_or written shape.object 0 < length (log_of shape.object run)
+    done_within order = slice_get_within (log_of shape.object run) (get_or written shape.object 0) its_event (done_next order)
