@@ -5,8 +5,9 @@ ghost use Rattle.judge.specs.Orders.{IsOrderTold, turn_of, told_places, room_wit
 
 use crate::Told;
 use crate::told::{BAD_LINE, CYCLE, NO_ROOM, OUT_OF_MEMORY, SOUND};
-use log_merge::{MergeFault, Place, merge};
-use scripts::{Record, RecordFault};
+use auditor::ReferenceKernelObject;
+use log_merge::{MergeFault, MergeJudge, Place};
+use scripts::{RecordFault, read_text_keeping};
 use std::alloc::Global;
 
 /// An entry by its place: a CPU and the index of one of its entries, both from 0.
@@ -46,13 +47,14 @@ fn tell_turns(kind: u32, places: &[Place], room: &mut [Turn]) -> Told
 fn order_of(alloc: Global, text: &[u8], room: &mut [Turn]) -> Told
     ensures { IsOrderTold text.now room.old room.new result }
 {
-    let record = match Record::read(alloc, text) {
-        Ok(record) => record,
+    let judge = MergeJudge::<ReferenceKernelObject>::new(alloc);
+    let (_, judge) = match read_text_keeping(alloc, text, judge) {
+        Ok(kept) => kept,
         Err(RecordFault::OutOfMemory) => return Told::new(OUT_OF_MEMORY, 0, 0, 0),
         Err(RecordFault::Line(line)) => return Told::new(BAD_LINE, line, 0, 0),
     };
-    match merge(alloc, &record) {
-        Ok(merged) => tell_turns(SOUND, merged.places.as_slice(), room),
+    match judge.into_merged() {
+        Ok((_, merged)) => tell_turns(SOUND, merged.places.as_slice(), room),
         Err(MergeFault::Cycle(cycle)) => tell_turns(CYCLE, cycle.as_slice(), room),
         Err(MergeFault::Unsound(fault)) => Told::of_fault(fault),
         Err(MergeFault::OutOfMemory) => Told::new(OUT_OF_MEMORY, 0, 0, 0),
