@@ -8,7 +8,7 @@ use Rattle.scripts.specs.Runs.{opened_of}
 use Rattle.scripts.specs.Settings.{ObjectSettings, Settings}
 use Rattle.auditor.specs.declared.fault.Fault.{Fault}
 use Rattle.auditor.specs.Faults.{IsFault, IsFirstFault}
-use Rattle.auditor.specs.Transcripts.{judged_by, opened_by}
+use Rattle.auditor.specs.Transcripts.{opened_by}
 use Rattle.auditor.proofs.RecordRuns.{KernelTerms, object_opened}
 use Rattle.auditor.proofs.Verdicts.{no_fault}
 

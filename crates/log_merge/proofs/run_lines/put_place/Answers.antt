@@ -1,4 +1,4 @@
-use Rattle.std.proofs.Common.{◌≡◌, ◌+◌, ◌<◌, ◌∷◌, [], map, take, get_or, slice_get, sym, ap, ◌∙◌, subst, arith, rules}
+use Rattle.std.proofs.Common.{◌+◌, ◌<◌, ◌∷◌, [], map, take, get_or, slice_get, sym, ap, ◌∙◌, subst, arith, rules}
 use Rattle.std.specs.Prelude.{codes}
 use Rattle.scripts.specs.Output.{PutsWords, PutsLines}
 use Rattle.scripts.specs.RecordText.{step_words}
@@ -41,16 +41,16 @@ returns-clause-puts g c = λ p at.
     let small : shape.object < 256 = search rules in
     let name = rw c.name_of.ensures at c.put_word.ensures in
     let line : PutsLines g.W.Sink c.args.text.now c.end_line-2.new.text (place_words settings run (get_or places i _) ∷ []) = elim c.if-entry.branch [
-      in-true w ↦
-        let next = done_next run places i written c.requires.written _ (there_at places i _ c.requires.index) shape c.in-Some.ensures settings small w.in-true.is c.requires.order in
-        let event = its_event run places i written c.requires.written _ (there_at places i _ c.requires.index) shape c.in-Some.ensures settings small w.in-true.is in
-        let words = subst (λ t. PutsWords g.W.Sink c.put_word.new.text t (separated (map step_words event.steps.list.items))) (sym w.text-is) (w.put_next_event.ensures.puts event next) in
-        lines_same g.W.Sink (ap (λ l. l ∷ []) (sym (done_line run places i written c.requires.written _ (there_at places i _ c.requires.index) shape c.in-Some.ensures settings small w.in-true.is)))
-        (line_of_words g.W.Sink c.begin_line.ensures (words_then g.W.Sink name words) c.end_line-2.ensures)
-    | in-false w ↦
-        let words = subst (λ t. PutsWords g.W.Sink c.put_word.new.text t (codes "noroom" ∷ [])) (sym w.text-is) w.put_word-in-false.ensures in
-        lines_same g.W.Sink (ap (λ l. l ∷ []) (sym (full_line run places i written c.requires.written _ (there_at places i _ c.requires.index) shape c.in-Some.ensures settings w.in-false.is)))
-        (line_of_words g.W.Sink c.begin_line.ensures (words_then g.W.Sink name words) c.end_line-2.ensures)
+      | in-true w ↦
+          let next = done_next run places i written c.requires.written _ (there_at places i _ c.requires.index) shape c.in-Some.ensures settings small w.in-true.is c.requires.order in
+          let event = its_event run places i written c.requires.written _ (there_at places i _ c.requires.index) shape c.in-Some.ensures settings small w.in-true.is in
+          let words = subst (λ t. PutsWords g.W.Sink c.put_word.new.text t (separated (map step_words event.steps.list.items))) (sym w.text-is) (w.put_next_event.ensures.puts event next) in
+          lines_same g.W.Sink (ap (λ l. l ∷ []) (sym (done_line run places i written c.requires.written _ (there_at places i _ c.requires.index) shape c.in-Some.ensures settings small w.in-true.is)))
+          (line_of_words g.W.Sink c.begin_line.ensures (words_then g.W.Sink name words) c.end_line-2.ensures)
+      | in-false w ↦
+          let words = subst (λ t. PutsWords g.W.Sink c.put_word.new.text t (codes "noroom" ∷ [])) (sym w.text-is) w.put_word-in-false.ensures in
+          lines_same g.W.Sink (ap (λ l. l ∷ []) (sym (full_line run places i written c.requires.written _ (there_at places i _ c.requires.index) shape c.in-Some.ensures settings w.in-false.is)))
+          (line_of_words g.W.Sink c.begin_line.ensures (words_then g.W.Sink name words) c.end_line-2.ensures)
     ] in
     subst (λ q. PutsLines g.W.Sink c.args.text.now c.end_line-2.new.text (place_words settings run q ∷ [])) (one_of _ p (slice_get places i) (there_at places i _ c.requires.index) at) line
 
@@ -64,6 +64,6 @@ returns-clause-written g c =
     let shape = c.in-Some.entry in
     let small : shape.object < 256 = search rules in
     elim c.if-entry.branch [
-      in-true w ↦ subst (λ v. AreWritten run (take (i + 1) places) v) (sym (w.written-is ∙ w.put_next_event.ensures.written)) (done_counted run places i written c.requires.written _ (there_at places i _ c.requires.index) shape c.in-Some.ensures settings small w.in-true.is)
-    | in-false w ↦ subst (λ v. AreWritten run (take (i + 1) places) v) (sym w.written-is) (full_counted run places i written c.requires.written _ (there_at places i _ c.requires.index) shape c.in-Some.ensures settings w.in-false.is)
+      | in-true w ↦ subst (λ v. AreWritten run (take (i + 1) places) v) (sym (w.written-is ∙ w.put_next_event.ensures.written)) (done_counted run places i written c.requires.written _ (there_at places i _ c.requires.index) shape c.in-Some.ensures settings small w.in-true.is)
+      | in-false w ↦ subst (λ v. AreWritten run (take (i + 1) places) v) (sym w.written-is) (full_counted run places i written c.requires.written _ (there_at places i _ c.requires.index) shape c.in-Some.ensures settings w.in-false.is)
     ]
