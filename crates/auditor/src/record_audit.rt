@@ -4,32 +4,15 @@ ghost use Rattle.std.specs.Prelude.{◌≡◌, ◌↔◌, IfOk};
 ghost use Rattle.sound_run.specs.Sound.{Sound};
 ghost use Rattle.scripts.specs.Runs.{opened_of};
 ghost use Rattle.auditor.specs.Faults.{IsFirstFault};
-ghost use Rattle.auditor.specs.Transcripts.{opened_by};
 ghost use Rattle.auditor.specs.VerdictText.{CanBeTold};
 
 use crate::judge::judge_run;
+use crate::record_judge::objects_of;
 use crate::references::ReferenceKernelObject;
-use crate::{Fault, OpenedObject, ReferenceObject, Verdict};
+use crate::{Fault, ReferenceObject, Verdict};
 use event_log::{OutOfMemory, SeqObject};
-use scripts::{KernelObject, ObjectSettings, Record};
+use scripts::{KernelObject, Record};
 use std::alloc::Global;
-
-/// What the objects of the settings are judged by.
-pub(crate) fn objects_of(
-    alloc: Global,
-    objects: &[ObjectSettings],
-) -> Result<Vec<OpenedObject<KernelObject>>, OutOfMemory>
-    ensures { IfOk result (λ opened_objects. opened_by opened_objects.items ≡ opened_of (record { cpus = 0; objects = objects.now })) }
-{
-    let mut opened_objects = Vec::with_capacity(alloc, objects.len())?;
-    for object in objects {
-        opened_objects.push_reserved(OpenedObject {
-            params: object.params(),
-            limit: object.events(),
-        });
-    }
-    Ok(opened_objects)
-}
 
 /// The verdict on a record, whose calls are answered a second time by values of that type.
 fn audit_by<J: ReferenceObject<KernelObject>>(

@@ -6,15 +6,32 @@ ghost use Rattle.scripts.specs.Keeping.{no_parts, kept_record, IsWholeWith};
 ghost use Rattle.scripts.specs.RecordRanges.{RecordFits};
 ghost use Rattle.scripts.specs.Runs.{opened_of};
 ghost use Rattle.auditor.specs.Faults.{IsFirstFault};
+ghost use Rattle.auditor.specs.Transcripts.{opened_by};
 ghost use Rattle.auditor.specs.VerdictText.{CanBeTold, IsNamed};
 
 use crate::judged::Judged;
-use crate::record_audit::objects_of;
 use crate::{Fault, JudgedRun, OpenedObject, ReferenceObject, Verdict};
 use event_log::{Entry, Event, OutOfMemory, Past, SeqObject};
 use scripts::{Keeps, KernelObject, ObjectSettings};
 use std::alloc::Global;
 use std::marker::Model;
+
+/// What the objects of the settings are judged by.
+pub(crate) fn objects_of(
+    alloc: Global,
+    objects: &[ObjectSettings],
+) -> Result<Vec<OpenedObject<KernelObject>>, OutOfMemory>
+    ensures { IfOk result (λ opened_objects. opened_by opened_objects.items ≡ opened_of (record { cpus = 0; objects = objects.now })) }
+{
+    let mut opened_objects = Vec::with_capacity(alloc, objects.len())?;
+    for object in objects {
+        opened_objects.push_reserved(OpenedObject {
+            params: object.params(),
+            limit: object.events(),
+        });
+    }
+    Ok(opened_objects)
+}
 
 /// Judges a record while it is read, and keeps of it no more than the steps of its logs. What it was handed over contracts
 /// alone know.

@@ -6,7 +6,7 @@ ghost use Rattle.auditor.specs.VerdictText.{IsNamed, CanBeTold, fault_text, verd
 
 use crate::{Fault, Verdict};
 use event_log::OutOfMemory;
-use scripts::{Record, Settings};
+use scripts::Settings;
 use std::alloc::{AllocError, Global};
 
 fn name_of(settings: &Settings, object: usize) -> &str
@@ -71,12 +71,12 @@ fn put_verdict(text: &mut String, settings: &Settings, verdict: Verdict) -> Resu
 }
 
 /// The text of a fault, with numbers from 1 and CPUs from 0, without a line end.
-pub fn fault_text(alloc: Global, record: &Record, fault: &Fault) -> Result<String, OutOfMemory>
-    requires { IsNamed «record».now.settings fault.now }
-    ensures { IfOk result (λ text. string_bytes text ≡ fault_text «record».now.settings fault.now) }
+pub fn fault_text(alloc: Global, settings: &Settings, fault: &Fault) -> Result<String, OutOfMemory>
+    requires { IsNamed settings.now fault.now }
+    ensures { IfOk result (λ text. string_bytes text ≡ fault_text settings.now fault.now) }
 {
     let mut text = String::new(alloc);
-    put_fault(&mut text, record.settings(), *fault)?;
+    put_fault(&mut text, settings, *fault)?;
     Ok(text)
 }
 

@@ -34,7 +34,7 @@ with_words held words a status text asked (inr h) = inr (h.0, (a, asked, h.1))
 pub no_order : (held : Option (List ℕ) → Option (List ℕ)) (name : Option (List ℕ)) (of : Record) (cause : MergeFault) (f : Fault) → SpellsRecordOf held name of
     → ((c : RecordFault) → cause ≡ merging.Unsound c → IsFirstFault kernel (opened_of of.settings) of.run c)
     → ((c : List Place) → cause ≡ merging.Cycle c → HasCycle kernel (opened_of of.settings) of.run c)
-    → IsNoOrder of cause f → RefusesMerge held name f
+    → IsNoOrder of.settings cause f → RefusesMerge held name f
 no_order held name of merging.OutOfMemory f read unsound cycle is = inl (refusal.OutOfMemory, is, tt)
 no_order held name of (merging.Unsound c) f read unsound cycle (inl is) = inl (refusal.OutOfMemory, is, tt)
 no_order held name of (merging.Unsound c) f read unsound cycle (inr h) =

@@ -12,7 +12,7 @@ abbrev pub printed : Answer → List ℕ
 printed (answers.Record r) = text_of r
 printed (answers.Report text) = string_bytes text
 printed (answers.Verdict verdict line) = string_bytes line
-printed (answers.Merged r merged) = merged_text r merged.places
+printed (answers.Merged ordered) = merged_text ordered.of ordered.places
 
 -- 1 where a fault was found, 0 for all else
 abbrev pub status_by : Verdict → ℕ
@@ -23,4 +23,4 @@ abbrev pub status_with : Answer → ℕ
 status_with (answers.Record r) = 0
 status_with (answers.Report text) = 0
 status_with (answers.Verdict verdict line) = status_by verdict
-status_with (answers.Merged r merged) = 0
+status_with (answers.Merged ordered) = 0

@@ -25,10 +25,10 @@ abbrev pub IsMemory : Fault → Type 0
 IsMemory f = f ≡ fault.Common refusal.OutOfMemory
 
 -- the fault that a record's cause becomes, in words, unless memory ran out
-abbrev pub IsNoOrder : Record → MergeFault → Fault → Type 0
-IsNoOrder of merging.OutOfMemory f = IsMemory f
-IsNoOrder of (merging.Unsound cause) f = IsMemory f ⊎ ((text : String Global) × (f ≡ fault.Unsound text) × (string_bytes text ≡ fault_text of.settings cause))
-IsNoOrder of (merging.Cycle cycle) f = IsMemory f ⊎ ((text : String Global) × (f ≡ fault.Cycle text) × (string_bytes text ≡ cycle_text cycle))
+abbrev pub IsNoOrder : Settings → MergeFault → Fault → Type 0
+IsNoOrder settings merging.OutOfMemory f = IsMemory f
+IsNoOrder settings (merging.Unsound cause) f = IsMemory f ⊎ ((text : String Global) × (f ≡ fault.Unsound text) × (string_bytes text ≡ fault_text settings cause))
+IsNoOrder settings (merging.Cycle cycle) f = IsMemory f ⊎ ((text : String Global) × (f ≡ fault.Cycle text) × (string_bytes text ≡ cycle_text cycle))
 
 -- the refusal is one that programs share, for such a cause
 abbrev pub IsCommon : (Refusal → Type 0) → Fault → Type 0

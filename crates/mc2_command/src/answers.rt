@@ -19,9 +19,9 @@ use crate::input::settings_of;
 use auditor::{RecordJudge, ReferenceKernelObject, Verdict, fault_text, verdict_line};
 use cpu_worker::{AlwaysAllowed, OpenGate, report, run_owned, simulate};
 use event_log::OutOfMemory;
-use log_merge::{MergeFault, Merged, cycle_text, merge};
+use log_merge::{MergeFault, MergeJudge, OrderedRecord, cycle_text};
 use program::{Inputs, Refusal, read_kept, read_record, read_schedule, read_scripts, read_settings};
-use scripts::Record;
+use scripts::{Record, Settings};
 use std::alloc::Global;
 use std::sync::Wait;
 use std::thread::Threads;
@@ -106,21 +106,21 @@ pub fn audit_answer<I: Inputs>(
     ensures failures { I.failed inputs.new ≡ counted (says_read_failed result) (I.failed inputs.old) }
 {
     let judge = RecordJudge::<ReferenceKernelObject>::new(alloc);
-    let (settings, judge) = read_kept(alloc, inputs, record, judge)?;
-    let verdict = judge.verdict();
-    let line = verdict_line(alloc, &settings, verdict)?;
+    let kept = read_kept(alloc, inputs, record, judge)?;
+    let verdict = kept.1.verdict();
+    let line = verdict_line(alloc, &kept.0, verdict)?;
     Ok((verdict, line))
 }
 
 /// Why a record has no order, as a refusal.
-fn no_order(alloc: Global, of: &Record, cause: MergeFault) -> Fault
-    requires named { (f : AuditFault) → cause ≡ MergeFault.Unsound f → IsNamed of.now.settings f }
+fn no_order(alloc: Global, settings: &Settings, cause: MergeFault) -> Fault
+    requires named { (f : AuditFault) → cause ≡ MergeFault.Unsound f → IsNamed settings.now f }
     requires few { (c : List Place) → cause ≡ MergeFault.Cycle c → AllByRecursion (λ p. p.entry < MOST_ENTRIES) c }
-    ensures { IsNoOrder of.now cause result }
+    ensures { IsNoOrder settings.now cause result }
 {
     match cause {
         MergeFault::OutOfMemory => Fault::Common(Refusal::OutOfMemory),
-        MergeFault::Unsound(fault) => match fault_text(alloc, of, &fault) {
+        MergeFault::Unsound(fault) => match fault_text(alloc, settings, &fault) {
             Ok(text) => Fault::Unsound(text),
             Err(OutOfMemory) => Fault::Common(Refusal::OutOfMemory),
         },
@@ -131,19 +131,20 @@ fn no_order(alloc: Global, of: &Record, cause: MergeFault) -> Fault
     }
 }
 
-/// The record of that name, or that of standard input, and the one order of its entries.
+/// The record of that name, or that of standard input, in the one order of its entries.
 pub fn merge_answer<I: Inputs>(
     alloc: Global,
     inputs: &mut I,
     record: Option<&str>,
-) -> Result<(Record, Merged), Fault>
-    ensures answer { IfOk result (λ a. AnswersMerge (I.held inputs.old) (bytes_of «record».entry) a.0 a.1.places) }
+) -> Result<OrderedRecord, Fault>
+    ensures answer { IfOk result (λ a. AnswersMerge (I.held inputs.old) (bytes_of «record».entry) a.of a.places) }
     ensures refused { IfErr result (RefusesMerge (I.held inputs.old) (bytes_of «record».entry)) }
     ensures failures { I.failed inputs.new ≡ counted (tells_read_failed result) (I.failed inputs.old) }
 {
-    let record = read_record(alloc, inputs, record)?;
-    match merge(alloc, &record) {
-        Ok(merged) => Ok((record, merged)),
-        Err(cause) => Err(no_order(alloc, &record, cause)),
+    let judge = MergeJudge::<ReferenceKernelObject>::new(alloc);
+    let (settings, judge) = read_kept(alloc, inputs, record, judge)?;
+    match judge.into_merged() {
+        Ok((run, merged)) => Ok(OrderedRecord::new(settings, run, merged)),
+        Err(cause) => Err(no_order(alloc, &settings, cause)),
     }
 }

@@ -17,7 +17,7 @@ use crate::arguments::{Arguments, read_words};
 use crate::fault::Fault;
 use auditor::Verdict;
 use event_log::Sink;
-use log_merge::{Merged, write_merged};
+use log_merge::OrderedRecord;
 use program::{Inputs, Refusal, write_line};
 use scripts::{Record, WriteFailed, write_record, write_text};
 use std::alloc::Global;
@@ -59,8 +59,8 @@ enum Answer {
     Report(String),
     /// A verdict with its line.
     Verdict(Verdict, String),
-    /// A record with the one order of its entries.
-    Merged(Record, Merged),
+    /// A record in the one order of its entries.
+    Merged(OrderedRecord),
 }
 
 impl Answer {
@@ -109,7 +109,7 @@ fn answer_to<R: Threads + Wait + Sync, I: Inputs>(
         }
         Arguments::Merge { record } => {
             let merged = merge_answer(alloc, inputs, record)?;
-            Ok(Answer::Merged(merged.0, merged.1))
+            Ok(Answer::Merged(merged))
         }
         Arguments::Upgrade { record } => {
             let record = upgrade_answer(alloc, inputs, record)?;
@@ -144,7 +144,7 @@ fn write_answer<W: Sink>(answer: &Answer, out: &mut W) -> Result<(), WriteFailed
         Answer::Record(record) => write_record(record, out),
         Answer::Report(text) => write_text(text.as_bytes(), out),
         Answer::Verdict(_, line) => write_text(line.as_bytes(), out),
-        Answer::Merged(record, merged) => write_merged(record, merged, out),
+        Answer::Merged(ordered) => ordered.write(out),
     }
 }
 

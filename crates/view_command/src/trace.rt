@@ -139,7 +139,7 @@ fn unsound(alloc: Global, record: &Record, fault: &auditor::Fault) -> Fault
     requires named { IsNamed «record».now.settings fault.now }
     ensures { RefusesOrder «record».now result }
 {
-    match fault_text(alloc, record, fault) {
+    match fault_text(alloc, record.settings(), fault) {
         Ok(text) => Fault::Unsound(text),
         Err(_) => Fault::Common(Refusal::OutOfMemory),
     }

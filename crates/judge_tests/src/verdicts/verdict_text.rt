@@ -33,20 +33,20 @@ fn read(alloc: Global) -> Result<Record, Fail>
 #[test]
 fn faults_of_logs(rt: HostRuntime) -> Result<(), Fail> {
     let record = read(rt.alloc())?;
-    let long = fault_text(rt.alloc(), &record, &Fault::TooLong { object: 1 })?;
+    let long = fault_text(rt.alloc(), record.settings(), &Fault::TooLong { object: 1 })?;
     assert_eq!(rt; long.as_str(), "log p1: too long");
     let wrong = Fault::WrongStep {
         object: 0,
         event: 9,
         step: 7,
     };
-    let wrong = fault_text(rt.alloc(), &record, &wrong)?;
+    let wrong = fault_text(rt.alloc(), record.settings(), &wrong)?;
     assert_eq!(rt; wrong.as_str(), "log q0 event 10 step 8: wrong step");
     let unclaimed = Fault::Unclaimed {
         object: 1,
         event: 0,
     };
-    let unclaimed = fault_text(rt.alloc(), &record, &unclaimed)?;
+    let unclaimed = fault_text(rt.alloc(), record.settings(), &unclaimed)?;
     assert_eq!(rt; unclaimed.as_str(), "log p1 event 1: unclaimed");
     Ok(())
 }
@@ -55,13 +55,13 @@ fn faults_of_logs(rt: HostRuntime) -> Result<(), Fail> {
 fn faults_of_entries(rt: HostRuntime) -> Result<(), Fail> {
     let record = read(rt.alloc())?;
     let room = Fault::RoomWasLeft { cpu: 0, entry: 0 };
-    let room = fault_text(rt.alloc(), &record, &room)?;
+    let room = fault_text(rt.alloc(), record.settings(), &room)?;
     assert_eq!(rt; room.as_str(), "cpu 0 entry 1: room was left");
     let event = Fault::NotItsEvent { cpu: 7, entry: 99 };
-    let event = fault_text(rt.alloc(), &record, &event)?;
+    let event = fault_text(rt.alloc(), record.settings(), &event)?;
     assert_eq!(rt; event.as_str(), "cpu 7 entry 100: not its event");
     let asked = Fault::NotAsked { cpu: 1, entry: 1 };
-    let asked = fault_text(rt.alloc(), &record, &asked)?;
+    let asked = fault_text(rt.alloc(), record.settings(), &asked)?;
     assert_eq!(rt; asked.as_str(), "cpu 1 entry 2: not what was asked");
     Ok(())
 }

@@ -228,7 +228,7 @@ pub fn draw_fault(alloc: Global, record: &Record, fault: Fault) -> Result<String
     requires { IsNamed «record».now.settings fault }
     ensures { IfOk result (λ text. EndsIn (codes "</svg>\n") (string_bytes text)) }
 {
-    let Ok(said) = fault_text(alloc, record, &fault) else {
+    let Ok(said) = fault_text(alloc, record.settings(), &fault) else {
         return Err(AllocError);
     };
     let told = format!(in alloc; "unsound: {said}")?;

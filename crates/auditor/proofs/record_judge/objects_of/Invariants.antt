@@ -1,7 +1,7 @@
 use Rattle.std.proofs.Common.{◌≡◌, ◌≤◌, length, map, take, vec_capacity}
 use Rattle.auditor.specs.Transcripts.{opened_by}
 use Rattle.auditor.proofs.RecordRuns.{object_opened}
-use Rattle.auditor.proofs.record_audit.objects_of.Given as goal
+use Rattle.auditor.proofs.record_judge.objects_of.Given as goal
 
 abbrev pub invariant-loop-object : goal.invariant-loop-object
 invariant-loop-object l = record {
