@@ -17,4 +17,5 @@ pub mod WholeRuns
 pub mod NextLines
 pub mod WrittenEvents
 pub mod PlaceLines
+pub mod SoundRecords
 pub mod Rows

@@ -1,12 +1,11 @@
 -- The line of a place of an order, and the events that are counted behind it.
-use Rattle.std.proofs.Common.{◌≡◌, ℕ, zero, suc, ◌+◌, ◌<◌, true, false, List, [], ◌∷◌, length, map, take, get_or, slice_get, Some, refl, sym, ap, ◌∙◌, subst, arith}
+use Rattle.std.proofs.Common.{◌≡◌, ℕ, zero, suc, ◌+◌, ◌<◌, true, false, List, [], ◌∷◌, length, map, take, get_or, slice_get, Some, refl, ap, ◌∙◌, subst, arith}
 use Rattle.std.specs.Prelude.{option_map, codes, decimal}
 use Rattle.std.specs.Option.{option_map_or}
 use Rattle.std.proofs.Math.ListN.{set}
 use Rattle.std.proofs.lemmas.Option.{slice_get_within}
-use Rattle.event_log.specs.declared.event.Steps.{Steps}
 use Rattle.event_log.specs.declared.entry.Done.TheVariants as done
-use Rattle.scripts.specs.KernelTypes.{KernelEntry, KernelEvent, KernelDone, KernelSteps, KernelRun}
+use Rattle.scripts.specs.KernelTypes.{KernelEvent, KernelDone, KernelSteps, KernelRun}
 use Rattle.scripts.specs.RecordText.{step_words, done_words}
 use Rattle.scripts.specs.Settings.{Settings, name_at}
 use Rattle.scripts.specs.Words.{separated}

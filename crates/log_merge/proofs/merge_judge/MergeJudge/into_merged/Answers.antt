@@ -11,6 +11,7 @@ use Rattle.log_merge.specs.Merging.{IsCycleFound, IsMerging}
 use Rattle.log_merge.specs.Nexts.{IsWhole}
 use Rattle.log_merge.specs.Prefixes.{IsMatched}
 use Rattle.log_merge.proofs.Exclusion.{tangle_excludes}
+use Rattle.log_merge.proofs.SoundRecords.{none_first}
 use Rattle.log_merge.proofs.Matched.{matched_of_sound}
 use Rattle.log_merge.proofs.WholeRuns.{whole_of_fits, few_entries}
 use Rattle.log_merge.proofs.merge_judge.MergeJudge.into_merged.Goals as goal
@@ -49,5 +50,6 @@ returns-clause-given g c = λ sound order. absurd ((returns-clause-cycle g c c.i
 
 pub returns-in-Err-clause-given : goal.returns-in-Err-clause-given
 returns-in-Err-clause-given g c = λ sound order.
+    let p = c.args.self in
     let first = subst (λ (q : Parts). IsFirstFault kernel (opened_of q.settings) (kept_record q.settings q).run c.in-Err.fault) c.self.view_is c.in-Err.ensures.fault in
-    ?
+    absurd (none_first p.settings (kept_record p.settings p).run sound c.in-Err.fault first)
