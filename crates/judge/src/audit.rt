@@ -14,7 +14,7 @@ fn verdict_of(alloc: Global, text: &[u8]) -> Told
 {
     let judge = RecordJudge::<ReferenceKernelObject>::new(alloc);
     match read_text_keeping(alloc, text, judge) {
-        Ok((_settings, judge)) => Told::of_verdict(judge.verdict()),
+        Ok(kept) => Told::of_verdict(kept.1.verdict()),
         Err(RecordFault::OutOfMemory) => Told::new(OUT_OF_MEMORY, 0, 0, 0),
         Err(RecordFault::Line(line)) => Told::new(BAD_LINE, line, 0, 0),
     }

@@ -48,13 +48,13 @@ fn order_of(alloc: Global, text: &[u8], room: &mut [Turn]) -> Told
     ensures { IsOrderTold text.now room.old room.new result }
 {
     let judge = MergeJudge::<ReferenceKernelObject>::new(alloc);
-    let (_, judge) = match read_text_keeping(alloc, text, judge) {
+    let kept = match read_text_keeping(alloc, text, judge) {
         Ok(kept) => kept,
         Err(RecordFault::OutOfMemory) => return Told::new(OUT_OF_MEMORY, 0, 0, 0),
         Err(RecordFault::Line(line)) => return Told::new(BAD_LINE, line, 0, 0),
     };
-    match judge.into_merged() {
-        Ok((_, merged)) => tell_turns(SOUND, merged.places.as_slice(), room),
+    match kept.1.into_merged() {
+        Ok(ordered) => tell_turns(SOUND, ordered.1.places.as_slice(), room),
         Err(MergeFault::Cycle(cycle)) => tell_turns(CYCLE, cycle.as_slice(), room),
         Err(MergeFault::Unsound(fault)) => Told::of_fault(fault),
         Err(MergeFault::OutOfMemory) => Told::new(OUT_OF_MEMORY, 0, 0, 0),

@@ -1,9 +1,13 @@
 -- What holds of an answer, and of a refusal.
 use Rattle.std.proofs.Common.{◌≡◌, ◌⊎◌, ◌≤◌, ℕ, Err, List, Option, String, Global, string_bytes, inl, inr, refl, sym, ◌∙◌, subst, ap, arith}
+use Rattle.std.specs.Prelude.{◌↔◌}
 use Rattle.auditor.specs.Faults.{IsFirstFault}
+use Rattle.auditor.specs.VerdictText.{verdict_text}
 use Rattle.auditor.specs.declared.fault.Fault.{Fault as RecordFault}
+use Rattle.auditor.specs.declared.fault.Verdict.{Verdict}
+use Rattle.auditor.specs.declared.fault.Verdict.TheVariants as verdict
 use Rattle.event_log.specs.Stream.{counted}
-use Rattle.log_merge.specs.MergedRecords.{HasCycle}
+use Rattle.log_merge.specs.MergedRecords.{IsMerged, HasCycle}
 use Rattle.log_merge.specs.declared.record_merge.MergeFault.{MergeFault}
 use Rattle.log_merge.specs.declared.record_merge.MergeFault.TheVariants as merging
 use Rattle.program.specs.Inputs.{bytes_of}
@@ -12,14 +16,18 @@ use Rattle.program.specs.Texts.{SpellsRecordOf}
 use Rattle.program.specs.declared.refusal.Refusal.{Refusal}
 use Rattle.program.specs.declared.refusal.Refusal.TheVariants as refusal
 use Rattle.scripts.specs.contracts.objects.kernel_object.KernelObjectSeqObject.TheImpl.{ghosts as kernel}
+use Rattle.scripts.specs.Keeping.{Parts, kept_record, IsWholeWith}
+use Rattle.scripts.specs.KernelTypes.{KernelRun}
 use Rattle.scripts.specs.RecordRanges.{Record}
 use Rattle.scripts.specs.Runs.{opened_of}
+use Rattle.scripts.specs.Settings.{Settings}
+use Rattle.sound_run.specs.Sound.{Sound}
 use Rattle.sound_run.specs.declared.place.Place.{Place}
 use Rattle.mc2_command.specs.declared.arguments.Arguments.{Arguments}
 use Rattle.mc2_command.specs.declared.arguments.Arguments.TheVariants as forms
 use Rattle.mc2_command.specs.declared.fault.Fault.{Fault}
 use Rattle.mc2_command.specs.declared.fault.Fault.TheVariants as fault
-use Rattle.mc2_command.specs.Answers.{AnswersFor, AnswersWith, FindsNoOrder, RefusesCycle, RefusesUnsound}
+use Rattle.mc2_command.specs.Answers.{AnswersAudit, AnswersFor, AnswersMerge, AnswersWith, FindsNoOrder, RefusesCycle, RefusesUnsound}
 use Rattle.mc2_command.specs.Asked.{Asks}
 use Rattle.mc2_command.specs.Faults.{status_of, tells_read_failed}
 use Rattle.mc2_command.specs.Refused.{IsNoOrder, Refuses, RefusesMerge, RefusesOrder, RefusesTo}
@@ -44,6 +52,29 @@ no_order held name of (merging.Cycle c) f read unsound cycle (inl is) = inl (ref
 no_order held name of (merging.Cycle c) f read unsound cycle (inr h) =
     let why : RefusesCycle held name (string_bytes h.0) = record { of = of; read = read; cycle = c; has = cycle c refl; is = h.2 } in
     subst (RefusesMerge held name) (sym h.1) (inr why)
+
+-- the record that was read for a keeper, with the settings that the keeper was told
+pub read_of : (held : Option (List ℕ) → Option (List ℕ)) (name : Option (List ℕ)) (settings : Settings) (p : Parts) → IsWholeWith settings p → SpellsRecordOf held name (kept_record settings p) → SpellsRecordOf held name (kept_record p.settings p)
+read_of held name settings p whole read = subst (λ (s : Settings). SpellsRecordOf held name (kept_record s p)) (sym whole.told) read
+
+-- the verdict on it, and its line
+pub audited : (held : Option (List ℕ) → Option (List ℕ)) (name : Option (List ℕ)) (settings : Settings) (p : Parts) (v : Verdict) (text : List ℕ) → IsWholeWith settings p → SpellsRecordOf held name (kept_record settings p)
+    → ((v ≡ verdict.Sound) ↔ Sound kernel (opened_of p.settings) (kept_record p.settings p).run)
+    → ((f : RecordFault) → (v ≡ verdict.Unsound f) ↔ IsFirstFault kernel (opened_of p.settings) (kept_record p.settings p).run f)
+    → text ≡ verdict_text settings v → AnswersAudit held name v text
+audited held name settings p v text whole read sound fault is = record {
+  of = kept_record p.settings p;
+  read = read_of held name settings p whole read;
+  judged = record { sound = sound; fault = fault };
+  is = is ∙ ap (λ (s : Settings). verdict_text s v) (sym whole.told);
+}
+
+-- its order
+pub merged_is : (held : Option (List ℕ) → Option (List ℕ)) (name : Option (List ℕ)) (settings : Settings) (p : Parts) (run : KernelRun) (places : List Place) → IsWholeWith settings p → SpellsRecordOf held name (kept_record settings p)
+    → run ≡ (kept_record p.settings p).run → IsMerged kernel (opened_of p.settings) (kept_record p.settings p).run places → AnswersMerge held name (record { settings = settings; run = run }) places
+merged_is held name settings p run places whole read is merged =
+    let here : AnswersMerge held name (kept_record settings p) places = record { read = read; merged = subst (λ (s : Settings). IsMerged kernel (opened_of s) (kept_record p.settings p).run places) whole.told merged } in
+    subst (λ (r : KernelRun). AnswersMerge held name (record { settings = settings; run = r }) places) (sym is) here
 
 -- no refusal that programs share has status 1
 shared : (cause : Refusal) (f : Fault) → f ≡ fault.Common cause → status_of f ≡ 1 → ⊥

@@ -1,6 +1,8 @@
-use Rattle.std.proofs.Common.{◌≡◌, Ok, Err, subst}
+use Rattle.std.proofs.Common.{◌≡◌, Ok, Err, sym, subst}
 use Rattle.scripts.specs.declared.record.fault.RecordFault.TheVariants.{OutOfMemory, Line}
-use Rattle.scripts.specs.RecordFaults.{NamesBadLine}
+use Rattle.scripts.specs.Keeping.{kept_record}
+use Rattle.scripts.specs.RecordFaults.{IsWhole, NamesBadLine}
+use Rattle.scripts.specs.Settings.{Settings}
 use Rattle.judge.proofs.audit.verdict_of.Goals as goal
 
 pub returns-in-Err-OutOfMemory : goal.returns-in-Err-OutOfMemory
@@ -11,12 +13,11 @@ returns-in-Err-Line c =
     let is : c.in-Err-Line.field-0 ≡ Line c.in-Err-Line.line = cc in
     record { answer = Err (Line c.in-Err-Line.line); right = subst (NamesBadLine c.args.text.now) is c.in-Err-Line.ensures.fault; same = cc }
 
-pub returns-in-Ok-audit : goal.returns-in-Ok-audit
-returns-in-Ok-audit c = record {
-  answer = Ok c.in-Ok-audit.verdict;
-  right = (c.in-Ok.record, c.in-Ok.ensures.found, record { sound = c.in-Ok-audit.ensures.sound; fault = c.in-Ok-audit.ensures.fault });
-  same = c.of_verdict.ensures;
-}
-
-pub returns : goal.returns
-returns c = record { answer = Err OutOfMemory; right = tt; same = c.new-in-Err.ensures }
+pub returns-in-Ok : goal.returns-in-Ok
+returns-in-Ok c = let p = c.in-Ok.kept.1 in
+    let read = subst (λ (s : Settings). IsWhole c.args.text.now (kept_record s p)) (sym c.in-Ok.ensures.whole.told) c.in-Ok.ensures.found in
+    record {
+      answer = Ok c.verdict.result;
+      right = (kept_record p.settings p, read, record { sound = c.verdict.ensures.sound; fault = c.verdict.ensures.fault });
+      same = c.of_verdict.ensures;
+    }

@@ -1,5 +1,7 @@
-use Rattle.std.proofs.Common.{◌≡◌, refl, subst, length, ◌∙◌, ap}
-use Rattle.scripts.specs.RecordFaults.{NamesBadLine}
+use Rattle.std.proofs.Common.{◌≡◌, refl, sym, subst, length, ◌∙◌, ap}
+use Rattle.scripts.specs.Keeping.{kept_record}
+use Rattle.scripts.specs.RecordFaults.{IsWhole, NamesBadLine}
+use Rattle.scripts.specs.Settings.{Settings}
 use Rattle.scripts.specs.declared.record.fault.RecordFault.TheVariants.{Line}
 use Rattle.judge.specs.Orders.{order, cycle, unsound, bad_line, told_places, room_with}
 use Rattle.judge.proofs.merge.order_of.Goals as goal
@@ -13,28 +15,32 @@ returns-in-Err-Line c =
       room = refl;
     }
 
-pub returns-in-Ok-merge : goal.returns-in-Ok-merge
-returns-in-Ok-merge c =
-    let same_places : c.as_slice.result.now ≡ c.in-Ok-merge.merged.places = c.as_slice.ensures in record {
-      outcome = order c.in-Ok-merge.merged.places;
-      right = (c.in-Ok.record, c.in-Ok.ensures.found, c.in-Ok-merge.ensures.order);
-      same = c.tell_turns.ensures.told ∙ ap (λ p. told_places 0 (length c.args.room.now) p) same_places;
-      room = c.tell_turns.ensures.room ∙ ap (λ p. room_with p c.args.room.now) same_places;
+pub returns-in-Ok-into_merged : goal.returns-in-Ok-into_merged
+returns-in-Ok-into_merged c = let p = c.in-Ok.kept.1 in
+    let read = subst (λ (s : Settings). IsWhole c.args.text.now (kept_record s p)) (sym c.in-Ok.ensures.whole.told) c.in-Ok.ensures.found in
+    let same_places : c.as_slice.result.now ≡ c.in-Ok-into_merged.ordered.1.places = c.as_slice.ensures in record {
+      outcome = order c.in-Ok-into_merged.ordered.1.places;
+      right = (kept_record p.settings p, read, c.in-Ok-into_merged.ensures.order);
+      same = c.tell_turns.ensures.told ∙ ap (λ q. told_places 0 (length c.args.room.now) q) same_places;
+      room = c.tell_turns.ensures.room ∙ ap (λ q. room_with q c.args.room.now) same_places;
     }
 
 pub returns-in-Err-Cycle : goal.returns-in-Err-Cycle
-returns-in-Err-Cycle c =
+returns-in-Err-Cycle c = let p = c.in-Ok.kept.1 in
+    let read = subst (λ (s : Settings). IsWhole c.args.text.now (kept_record s p)) (sym c.in-Ok.ensures.whole.told) c.in-Ok.ensures.found in
     let same_places : c.as_slice-in-Err-Cycle.result.now ≡ c.in-Err-Cycle.cycle = c.as_slice-in-Err-Cycle.ensures in record {
       outcome = cycle c.in-Err-Cycle.cycle;
-      right = (c.in-Ok.record, c.in-Ok.ensures.found, c.in-Err-Cycle.ensures.cycle c.in-Err-Cycle.cycle cc);
-      same = c.tell_turns-in-Err-Cycle.ensures.told ∙ ap (λ p. told_places 7 (length c.args.room.now) p) same_places;
-      room = c.tell_turns-in-Err-Cycle.ensures.room ∙ ap (λ p. room_with p c.args.room.now) same_places;
+      right = (kept_record p.settings p, read, c.in-Err-Cycle.ensures.cycle c.in-Err-Cycle.cycle cc);
+      same = c.tell_turns-in-Err-Cycle.ensures.told ∙ ap (λ q. told_places 7 (length c.args.room.now) q) same_places;
+      room = c.tell_turns-in-Err-Cycle.ensures.room ∙ ap (λ q. room_with q c.args.room.now) same_places;
     }
 
 pub returns-in-Err-Unsound : goal.returns-in-Err-Unsound
-returns-in-Err-Unsound c = record {
-  outcome = unsound c.in-Err-Unsound.fault;
-  right = (c.in-Ok.record, c.in-Ok.ensures.found, c.in-Err-Unsound.ensures.unsound c.in-Err-Unsound.fault cc);
-  same = c.of_fault.ensures;
-  room = refl;
-}
+returns-in-Err-Unsound c = let p = c.in-Ok.kept.1 in
+    let read = subst (λ (s : Settings). IsWhole c.args.text.now (kept_record s p)) (sym c.in-Ok.ensures.whole.told) c.in-Ok.ensures.found in
+    record {
+      outcome = unsound c.in-Err-Unsound.fault;
+      right = (kept_record p.settings p, read, c.in-Err-Unsound.ensures.unsound c.in-Err-Unsound.fault cc);
+      same = c.of_fault.ensures;
+      room = refl;
+    }
