@@ -3,11 +3,11 @@
 mod records;
 mod sinks;
 
-use auditor::Fault;
+use auditor::{Fault, ReferenceKernelObject};
 use event_log::Plain;
-use log_merge::{MergeFault, Merged, Place, merge, write_merged};
+use log_merge::{MergeFault, MergeJudge, Merged, Place, merge, write_merged, write_order};
 use records::*;
-use scripts::Record;
+use scripts::{Record, read_text_keeping};
 use std::alloc::Global;
 use std::test::Fail;
 
@@ -23,6 +23,16 @@ pub fn lines(alloc: Global, text: &str) -> Result<Vec<u8>, Fail> {
     let merged = merge(alloc, &record)?;
     let mut out = Plain::new(Vec::new(alloc));
     write_merged(&record, &merged, &mut out)?;
+    Ok(out.inner)
+}
+
+/// What is written of it where it is judged while it is read, and only its shape is kept.
+pub fn kept_lines(alloc: Global, text: &str) -> Result<Vec<u8>, Fail> {
+    let keeper = MergeJudge::<ReferenceKernelObject>::new(alloc);
+    let (settings, judge) = read_text_keeping(alloc, text.as_bytes(), keeper)?;
+    let (run, merged) = judge.into_merged()?;
+    let mut out = Plain::new(Vec::new(alloc));
+    write_order(&settings, &run, &merged, &mut out)?;
     Ok(out.inner)
 }
 
@@ -59,6 +69,8 @@ fn worked_orders(rt: HostRuntime) -> Result<(), Fail> {
     ] {
         let text = lines(rt.alloc(), record)?;
         assert!(rt; text.as_slice() == wanted.as_bytes(), "{wanted}");
+        let kept = kept_lines(rt.alloc(), record)?;
+        assert!(rt; kept.as_slice() == wanted.as_bytes(), "{wanted}");
     }
     Ok(())
 }
