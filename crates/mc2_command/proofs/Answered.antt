@@ -7,7 +7,7 @@ use Rattle.auditor.specs.declared.fault.Fault.{Fault as RecordFault}
 use Rattle.auditor.specs.declared.fault.Verdict.{Verdict}
 use Rattle.auditor.specs.declared.fault.Verdict.TheVariants as verdict
 use Rattle.event_log.specs.Stream.{counted}
-use Rattle.log_merge.specs.MergedRecords.{IsMerged, HasCycle}
+use Rattle.log_merge.specs.MergedRecords.{HasCycle}
 use Rattle.log_merge.specs.declared.record_merge.MergeFault.{MergeFault}
 use Rattle.log_merge.specs.declared.record_merge.MergeFault.TheVariants as merging
 use Rattle.program.specs.Inputs.{bytes_of}
@@ -17,7 +17,6 @@ use Rattle.program.specs.declared.refusal.Refusal.{Refusal}
 use Rattle.program.specs.declared.refusal.Refusal.TheVariants as refusal
 use Rattle.scripts.specs.contracts.objects.kernel_object.KernelObjectSeqObject.TheImpl.{ghosts as kernel}
 use Rattle.scripts.specs.Keeping.{Parts, kept_record, IsWholeWith}
-use Rattle.scripts.specs.KernelTypes.{KernelRun}
 use Rattle.scripts.specs.RecordRanges.{Record}
 use Rattle.scripts.specs.Runs.{opened_of}
 use Rattle.scripts.specs.Settings.{Settings}
@@ -27,7 +26,7 @@ use Rattle.mc2_command.specs.declared.arguments.Arguments.{Arguments}
 use Rattle.mc2_command.specs.declared.arguments.Arguments.TheVariants as forms
 use Rattle.mc2_command.specs.declared.fault.Fault.{Fault}
 use Rattle.mc2_command.specs.declared.fault.Fault.TheVariants as fault
-use Rattle.mc2_command.specs.Answers.{AnswersAudit, AnswersFor, AnswersMerge, AnswersWith, FindsNoOrder, RefusesCycle, RefusesUnsound}
+use Rattle.mc2_command.specs.Answers.{AnswersAudit, AnswersFor, AnswersWith, FindsNoOrder, RefusesCycle, RefusesUnsound}
 use Rattle.mc2_command.specs.Asked.{Asks}
 use Rattle.mc2_command.specs.Faults.{status_of, tells_read_failed}
 use Rattle.mc2_command.specs.Refused.{IsNoOrder, Refuses, RefusesMerge, RefusesOrder, RefusesTo}
@@ -68,13 +67,6 @@ audited held name settings p v text whole read sound fault is = record {
   judged = record { sound = sound; fault = fault };
   is = is ∙ ap (λ (s : Settings). verdict_text s v) (sym whole.told);
 }
-
--- its order
-pub merged_is : (held : Option (List ℕ) → Option (List ℕ)) (name : Option (List ℕ)) (settings : Settings) (p : Parts) (run : KernelRun) (places : List Place) → IsWholeWith settings p → SpellsRecordOf held name (kept_record settings p)
-    → run ≡ (kept_record p.settings p).run → IsMerged kernel (opened_of p.settings) (kept_record p.settings p).run places → AnswersMerge held name (record { settings = settings; run = run }) places
-merged_is held name settings p run places whole read is merged =
-    let here : AnswersMerge held name (kept_record settings p) places = record { read = read; merged = subst (λ (s : Settings). IsMerged kernel (opened_of s) (kept_record p.settings p).run places) whole.told merged } in
-    subst (λ (r : KernelRun). AnswersMerge held name (record { settings = settings; run = r }) places) (sym is) here
 
 -- no refusal that programs share has status 1
 shared : (cause : Refusal) (f : Fault) → f ≡ fault.Common cause → status_of f ≡ 1 → ⊥

@@ -1,5 +1,15 @@
-use Rattle.std.proofs.Common.{ap, Err, subst}
-use Rattle.auditor.specs.VerdictText.{IsNamed}
+use Rattle.std.proofs.Common.{Err, sym, ap, subst}
+use Rattle.scripts.specs.Keeping.{kept_record}
 use Rattle.scripts.specs.Settings.{Settings}
-use Rattle.mc2_command.proofs.Answered.{no_order, merged_is, read_of}
+use Rattle.mc2_command.specs.Refused.{IsNoOrder}
+use Rattle.mc2_command.proofs.Answered.{no_order, read_of}
 use Rattle.mc2_command.proofs.answers.merge_answer.Goals as goal
+
+pub returns-in-Err-clause-refused : goal.returns-in-Err-clause-refused
+returns-in-Err-clause-refused g c =
+    let settings = c.in_ok-settings.settings in
+    let p = c.in_ok-settings.judge in
+    let whole = c.in_ok-settings.ensures.whole in
+    no_order _ _ (kept_record p.settings p) c.in-Err.cause c.no_order.result (read_of _ _ settings p whole c.in_ok-settings.ensures.found)
+    (λ f e. c.in-Err.ensures.unsound f (ap Err e)) (λ l e. c.in-Err.ensures.cycle l (ap Err e))
+    (subst (λ (s : Settings). IsNoOrder s c.in-Err.cause c.no_order.result) (sym whole.told) c.no_order.ensures)
