@@ -1,5 +1,5 @@
 -- Which files words can't have.
-use Rattle.std.proofs.Common.{ap, arith, slice_index_or, ◌≡◌, ◌∙◌, ℕ, List, Option, Some, codes, sym, subst}
+use Rattle.std.proofs.Common.{ap, arith, slice_index_or, ◌≡◌, ℕ, List, Option, codes, sym}
 use Rattle.clap.specs.Words.{Row, Text, first_of}
 use Rattle.program.specs.Inputs.{bytes_of}
 use Rattle.mc2_command.specs.Asked.{AreFiles, command_name}

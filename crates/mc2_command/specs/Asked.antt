@@ -1,5 +1,5 @@
 -- What the words ask for, by the table of forms: which command, and which files.
-use Rattle.std.specs.Prelude.{◌≡◌, ◌||◌, ℕ, Bool, false, List, [], nat_eq, Option, Some, map, slice_get, codes, option_map, String, string_bytes}
+use Rattle.std.specs.Prelude.{◌≡◌, ◌||◌, ℕ, Bool, false, List, [], nat_eq, Some, map, slice_get, codes, option_map, String, string_bytes}
 use Rattle.std.specs.Global.{Global}
 use Rattle.std.specs.List.{list_any, starts_with}
 use Rattle.std.specs.Str.{bytes_eq}

@@ -10,7 +10,6 @@ use Rattle.program.specs.Texts.{RefusesRecord, RefusesSchedule, RefusesScripts, 
 use Rattle.program.specs.declared.refusal.Refusal.{Refusal}
 use Rattle.program.specs.declared.refusal.Refusal.TheVariants as refusal
 use Rattle.scripts.specs.KernelTypes.{KernelTodo}
-use Rattle.scripts.specs.RecordRanges.{Record}
 use Rattle.scripts.specs.Settings.{Settings}
 use Rattle.mc2_command.specs.declared.arguments.Arguments.{Arguments}
 use Rattle.mc2_command.specs.declared.arguments.Arguments.TheVariants as forms

@@ -20,7 +20,9 @@ use auditor::{RecordJudge, ReferenceKernelObject, Verdict, fault_text, verdict_l
 use cpu_worker::{AlwaysAllowed, OpenGate, report, run_owned, simulate};
 use event_log::OutOfMemory;
 use log_merge::{MergeFault, MergeJudge, OrderedRecord, cycle_text};
-use program::{Inputs, Refusal, read_kept, read_record, read_schedule, read_scripts, read_settings};
+use program::{
+    Inputs, Refusal, read_kept, read_record, read_schedule, read_scripts, read_settings,
+};
 use scripts::{Record, Settings};
 use std::alloc::Global;
 use std::sync::Wait;

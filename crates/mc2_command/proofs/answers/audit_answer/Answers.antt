@@ -1,4 +1,4 @@
-use Rattle.std.proofs.Common.{sym, subst}
+use Rattle.std.proofs.Common.{subst}
 use Rattle.auditor.specs.VerdictText.{CanBeTold}
 use Rattle.scripts.specs.Settings.{Settings}
 use Rattle.mc2_command.proofs.Answered.{audited}

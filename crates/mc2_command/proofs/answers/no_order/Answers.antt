@@ -1,4 +1,4 @@
-use Rattle.std.proofs.Common.{◌≡◌, ◌∙◌, ap, inr, refl, sym, subst}
+use Rattle.std.proofs.Common.{◌∙◌, ap, inr, refl, sym, subst}
 use Rattle.log_merge.specs.CycleText.{cycle_text}
 use Rattle.mc2_command.specs.Refused.{IsNoOrder}
 use Rattle.mc2_command.specs.declared.fault.Fault.TheVariants as fault

@@ -12,7 +12,7 @@ use Rattle.scripts.specs.declared.objects.kernel_call.KCall.{KCall}
 use Rattle.scripts.specs.declared.objects.kernel_call.KReply.{KReply}
 use Rattle.scripts.specs.declared.objects.kernel_object.KernelObject.{KernelObject}
 use Rattle.scripts.specs.declared.record.form.Form.TheVariants.{Two}
-use Rattle.scripts.specs.RecordFaults.{text_in, text_of, IsWhole}
+use Rattle.scripts.specs.RecordFaults.{text_in, text_of}
 use Rattle.scripts.specs.RecordRanges.{Record, RecordFits}
 use Rattle.scripts.specs.Runs.{opened_of}
 use Rattle.scripts.specs.Settings.{Settings, ObjectSettings}
