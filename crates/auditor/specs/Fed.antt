@@ -1,6 +1,8 @@
 -- What a judge was fed so far, and how it grows.
 use Rattle.std.specs.Prelude.{ℕ, List, [], ◌∷◌, ◌++◌, length}
 use Rattle.event_log.specs.declared.event.Event.{Event}
+use Rattle.event_log.specs.declared.event.Step.{Step}
+use Rattle.event_log.specs.declared.entry.Done.TheVariants.{Steps}
 use Rattle.event_log.specs.declared.entry.Entry.{Entry}
 use Rattle.event_log.specs.declared.entry.Run.{Run}
 use Rattle.auditor.specs.declared.opened_object.OpenedObject.{OpenedObject}
@@ -41,6 +43,10 @@ module _ {O P C R : Type 0} where
   -- an entry more
   abbrev pub entry_fed : Fed O P C R → Entry O P C R → Fed O P C R
   entry_fed d e = record d { entries = d.entries ++ e ∷ [] }
+
+  -- an entry on the object whose steps were done
+  abbrev pub done_entry : ℕ → ℕ → List C → List (Step O P C R) → Entry O P C R
+  done_entry object looks asked steps = record { object = object; asked = record { items = asked }; done = Steps (record { list = record { items = steps } }); looks = looks }
 
   -- the transcript is whole
   abbrev pub transcript_ended : Fed O P C R → Fed O P C R

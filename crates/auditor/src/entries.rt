@@ -5,8 +5,8 @@ ghost use Rattle.auditor.specs.Claims.{IsJudged};
 ghost use Rattle.auditor.specs.NextEvents.{IsAt, AreNextEvents};
 ghost use Rattle.auditor.specs.Passes.{fault_at};
 
-use crate::Fault;
-use crate::compare::{are_same, fulfil};
+use crate::{Fault, StepRows};
+use crate::compare::fulfil;
 use crate::next_events::NextEvents;
 use crate::packed_log::PackedLog;
 use event_log::{Done, Entry, SeqObject};
@@ -31,9 +31,9 @@ pub fn fault_of(cpu: usize, entry: usize, fault: EntryFault) -> Fault
 }
 
 /// Judges an entry, whose CPU has its next event at the place, and answers the place behind it.
-pub fn judge_entry<O: SeqObject>(
+pub fn judge_entry<O: SeqObject, R: StepRows<O>>(
     limit: u32,
-    log: &PackedLog<O>,
+    log: &PackedLog<O, R>,
     next_events: &NextEvents,
     at: usize,
     entry: &Entry<O>,
@@ -56,7 +56,7 @@ pub fn judge_entry<O: SeqObject>(
             if at == log.len() {
                 return Err(EntryFault::NotItsEvent);
             }
-            if !are_same(log.steps(at), steps.list.as_slice()) {
+            if !log.has_steps(at, steps.list.as_slice()) {
                 return Err(EntryFault::NotItsEvent);
             }
             if !fulfil(entry.asked.as_slice(), steps.list.as_slice()) {

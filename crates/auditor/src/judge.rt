@@ -11,13 +11,14 @@ ghost use Rattle.auditor.specs.SoFar.{IsBeforeLog, IsInTranscripts};
 ghost use Rattle.auditor.specs.Transcripts.{opened_by};
 
 use crate::judged::Judged;
+use crate::packed_steps::PackedSteps;
 use crate::{Fault, OpenedObject, ReferenceObject, Verdict};
 use event_log::{Entry, Event, OutOfMemory, Run, SeqObject};
 use std::alloc::Global;
 
 /// Feeds a log.
 fn feed_log<O: SeqObject, J: ReferenceObject<O>>(
-    judged: &mut Judged<O, J>,
+    judged: &mut Judged<O, J, PackedSteps<O>>,
     opened: &OpenedObject<O>,
     log: &[Event<O>],
 ) -> Result<(), OutOfMemory>
@@ -28,7 +29,7 @@ fn feed_log<O: SeqObject, J: ReferenceObject<O>>(
 {
     judged.begin_log(opened, log.len())?;
     for event in log {
-        judged.event(event)?;
+        judged.event(event, &[])?;
     }
     judged.end_log()?;
     Ok(())
@@ -36,7 +37,7 @@ fn feed_log<O: SeqObject, J: ReferenceObject<O>>(
 
 /// Feeds the logs, each whole before the next.
 fn feed_logs<O: SeqObject, J: ReferenceObject<O>>(
-    judged: &mut Judged<O, J>,
+    judged: &mut Judged<O, J, PackedSteps<O>>,
     opened_objects: &[OpenedObject<O>],
     run: &Run<O>,
 ) -> Result<(), OutOfMemory>
@@ -53,7 +54,7 @@ fn feed_logs<O: SeqObject, J: ReferenceObject<O>>(
 
 /// Feeds a transcript.
 fn feed_transcript<O: SeqObject, J: ReferenceObject<O>>(
-    judged: &mut Judged<O, J>,
+    judged: &mut Judged<O, J, PackedSteps<O>>,
     transcript: &[Entry<O>],
 )
     requires transcripts { IsInTranscripts judged.old }
@@ -70,7 +71,7 @@ fn feed_transcript<O: SeqObject, J: ReferenceObject<O>>(
 
 /// Feeds the transcripts, each whole before the next.
 fn feed_transcripts<O: SeqObject, J: ReferenceObject<O>>(
-    judged: &mut Judged<O, J>,
+    judged: &mut Judged<O, J, PackedSteps<O>>,
     opened_objects: &[OpenedObject<O>],
     run: &Run<O>,
 )
@@ -95,7 +96,7 @@ pub fn judge_run<O: SeqObject, J: ReferenceObject<O>>(
     ensures fault { (f : Fault) → IfOk result (λ v. (v ≡ Verdict.Unsound f) ↔ IsFirstFault O.SeqObject (opened_by opened_objects.now) run.now f) }
 {
     let cpus = run.transcripts.as_slice().len();
-    let mut judged = Judged::<O, J>::new(alloc, cpus, run.logs.as_slice().len())?;
+    let mut judged = Judged::<O, J, PackedSteps<O>>::new(alloc, cpus, run.logs.as_slice().len())?;
     feed_logs(&mut judged, opened_objects, run)?;
     feed_transcripts(&mut judged, opened_objects, run);
     Ok(judged.verdict())

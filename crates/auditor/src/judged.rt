@@ -1,9 +1,10 @@
 //! A judge that is fed a run's events and entries one after the other.
 
-ghost use Rattle.std.specs.Prelude.{◌≡◌, ◌↔◌, ◌<◌, true, [], length, IfOk, IfErr, OnOk, OnErr};
+ghost use Rattle.event_log.specs.declared.event.Step.{Step};
+ghost use Rattle.std.specs.Prelude.{◌≡◌, ◌↔◌, ◌<◌, true, false, [], List, length, IsTrue, IfOk, IfErr, OnOk, OnErr};
 ghost use Rattle.sound_run.specs.Sound.{Sound};
 ghost use Rattle.auditor.specs.Faults.{HasSteps, IsFirstFault};
-ghost use Rattle.auditor.specs.Fed.{Fed, nothing, log_begun, event_fed, log_ended, transcript_begun, entry_fed, transcript_ended, run_of};
+ghost use Rattle.auditor.specs.Fed.{Fed, nothing, log_begun, event_fed, log_ended, transcript_begun, entry_fed, done_entry, transcript_ended, run_of};
 ghost use Rattle.auditor.specs.Passes.{IsRunOf};
 ghost use Rattle.auditor.specs.SoFar.{IsBeforeLog, IsInLog, HasLogs, IsInTranscripts};
 ghost use Rattle.auditor.specs.Transcripts.{opened_by};
@@ -11,7 +12,7 @@ ghost use Rattle.auditor.specs.Transcripts.{opened_by};
 use crate::notes::Notes;
 use crate::told::Told;
 use crate::{
-    Fault, JudgedRun, OpenedObject, ReferenceObject, Verdict, first_faults_agree,
+    Fault, JudgedRun, OpenedObject, ReferenceObject, StepRows, Verdict, first_faults_agree,
     sound_has_no_fault,
 };
 use event_log::{Entry, Event, OutOfMemory, SeqObject};
@@ -21,13 +22,13 @@ use std::marker::Model;
 /// Judges a run while it is read: all logs, then all transcripts. Of an event it keeps its steps, packed, and of an entry
 /// nothing. What it was fed is known to contracts alone.
 #[derive(Drop)]
-pub struct Judged<O: SeqObject, J: ReferenceObject<O>> {
+pub struct Judged<O: SeqObject, J: ReferenceObject<O>, R: StepRows<O>> {
     alloc: Global,
     told: Told<O>,
-    notes: Notes<O, J>,
+    notes: Notes<O, J, R>,
 }
 
-impl<O: SeqObject, J: ReferenceObject<O>> Model for Judged<O, J> {
+impl<O: SeqObject, J: ReferenceObject<O>, R: StepRows<O>> Model for Judged<O, J, R> {
     ghost use Rattle.std.specs.Prelude.{vec_capacity};
     ghost use Rattle.auditor.specs.Fed.{Fed};
     ghost use Rattle.auditor.specs.Noted.{IsNoted};
@@ -39,9 +40,9 @@ impl<O: SeqObject, J: ReferenceObject<O>> Model for Judged<O, J> {
     ghost invariant = { λ j. IsNoted O.SeqObject J.shows j.told j.notes.fault j.notes.replay j.notes.logs.items (vec_capacity j.notes.logs) };
 }
 
-impl<O: SeqObject, J: ReferenceObject<O>> Judged<O, J> {
+impl<O: SeqObject, J: ReferenceObject<O>, R: StepRows<O>> Judged<O, J, R> {
     /// Before anything is fed of a run of no CPUs and no objects. It takes no memory.
-    pub fn empty(alloc: Global) -> Judged<O, J>
+    pub fn empty(alloc: Global) -> Judged<O, J, R>
         ensures { result ≡ nothing 0 0 }
     {
         Judged {
@@ -52,7 +53,7 @@ impl<O: SeqObject, J: ReferenceObject<O>> Judged<O, J> {
     }
 
     /// Before anything is fed of a run of so many CPUs and objects.
-    pub fn new(alloc: Global, cpus: usize, objects: usize) -> Result<Judged<O, J>, OutOfMemory>
+    pub fn new(alloc: Global, cpus: usize, objects: usize) -> Result<Judged<O, J, R>, OutOfMemory>
         ensures { IfOk result (λ j. j ≡ nothing cpus objects) }
     {
         Ok(Judged {
@@ -74,16 +75,17 @@ impl<O: SeqObject, J: ReferenceObject<O>> Judged<O, J> {
         Ok(())
     }
 
-    /// The log's next event. An `Err` changes nothing.
-    pub fn event(&mut self, event: &Event<O>) -> Result<(), OutOfMemory>
+    /// The log's next event, whose steps the text spells. An `Err` changes nothing.
+    pub fn event(&mut self, event: &Event<O>, text: &[u8]) -> Result<(), OutOfMemory>
         requires log { IsInLog self.old }
         requires count { length self.old.events < self.old.count }
         requires cpu { event.now.cpu < self.old.cpus }
         requires steps { HasSteps event.now }
+        requires text { R.spells text.now event.now.steps.list.items }
         ensures ok { OnOk result (self.new ≡ event_fed self.old event.now) }
         ensures err { OnErr result (self.new ≡ self.old) }
     {
-        self.notes.event(&self.told, event)?;
+        self.notes.event(&self.told, event, text)?;
         self.told.tell_event(event);
         Ok(())
     }
@@ -109,6 +111,23 @@ impl<O: SeqObject, J: ReferenceObject<O>> Judged<O, J> {
         ensures { self.new ≡ transcript_begun self.old count }
     {
         self.told.tell_transcript(count);
+    }
+
+    /// Whether the text behind the looks of the transcript's next entry spells its CPU's next event on the object, and the event is
+    /// what was asked. Then it is fed.
+    #[inline(always)]
+    pub fn knows(&mut self, object: u8, looks: u64, tail: &[u8]) -> bool
+        requires transcripts { IsInTranscripts self.old }
+        requires count { length self.old.entries < self.old.count }
+        requires object { object < self.old.objects }
+        ensures known { IsTrue result → (asked : List O.Call) × (steps : List (Step O O.Params O.Call O.Reply)) × R.tells tail.now asked steps × (self.new ≡ entry_fed self.old (done_entry object looks asked steps)) }
+        ensures unknown { result ≡ false → self.new ≡ self.old }
+    {
+        if !self.notes.knows(&self.told, object, tail) {
+            return false;
+        }
+        self.told.tell_known(&looks);
+        true
     }
 
     /// The transcript's next entry.
@@ -146,7 +165,7 @@ impl<O: SeqObject, J: ReferenceObject<O>> Judged<O, J> {
     }
 
     /// The run that was fed, if it is sound, or else its first fault. It takes no memory.
-    pub fn into_run(self) -> Result<JudgedRun<O>, Fault>
+    pub fn into_run(self) -> Result<JudgedRun<O, R>, Fault>
         requires logs { HasLogs self }
         requires transcripts { length self.transcripts ≡ self.cpus }
         requires entries { self.entries ≡ [] }

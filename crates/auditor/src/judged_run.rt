@@ -1,25 +1,29 @@
 //! A run that was judged.
 
-ghost use Rattle.std.specs.Prelude.{◌≡◌, length, option_map, slice_get};
-ghost use Rattle.std.specs.Option.{option_copied};
+ghost use Rattle.std.specs.Prelude.{◌≡◌, length, map, option_map, slice_get};
 ghost use Rattle.auditor.specs.Fed.{run_of};
 ghost use Rattle.auditor.specs.KeptLogs.{events_in};
+ghost use Rattle.scripts.specs.Reading.{words};
+ghost use Rattle.scripts.specs.RecordText.{step_words};
+ghost use Rattle.scripts.specs.Words.{separated};
 ghost use Rattle.sound_run.specs.Sound.{log_of};
 
+use crate::StepRows;
 use crate::kept_log::KeptLog;
 use crate::told::Told;
-use event_log::{SeqObject, Step};
+use event_log::SeqObject;
+use scripts::{KernelObject, StepTexts};
 use std::marker::Model;
 
 /// A run that is sound. Of its events it has the CPU and the steps, packed, and of its entries nothing. Contracts alone know
 /// the rest.
 #[derive(Drop)]
-pub struct JudgedRun<O: SeqObject> {
+pub struct JudgedRun<O: SeqObject, R: StepRows<O>> {
     told: Told<O>,
-    logs: Vec<KeptLog<O>>,
+    logs: Vec<KeptLog<O, R>>,
 }
 
-impl<O: SeqObject> Model for JudgedRun<O> {
+impl<O: SeqObject, R: StepRows<O>> Model for JudgedRun<O, R> {
     ghost use Rattle.std.specs.Prelude.{◌≡◌};
     ghost use Rattle.event_log.specs.declared.entry.Run.{Run};
     ghost use Rattle.auditor.specs.Fed.{run_of};
@@ -32,9 +36,9 @@ impl<O: SeqObject> Model for JudgedRun<O> {
     ghost invariant = { λ j. events_in j.logs.items ≡ j.told.logs };
 }
 
-impl<O: SeqObject> JudgedRun<O> {
+impl<O: SeqObject, R: StepRows<O>> JudgedRun<O, R> {
     /// The run that was told, of which these logs were kept.
-    pub(crate) fn new(told: Told<O>, logs: Vec<KeptLog<O>>) -> JudgedRun<O>
+    pub(crate) fn new(told: Told<O>, logs: Vec<KeptLog<O, R>>) -> JudgedRun<O, R>
         requires { events_in logs.items ≡ told.logs }
         ensures { result ≡ run_of told }
     {
@@ -63,11 +67,13 @@ impl<O: SeqObject> JudgedRun<O> {
         }
         Some(kept.log.cpu(index) as usize)
     }
+}
 
-    /// The steps of the event at that index of the object's log, if there is one.
+impl JudgedRun<KernelObject, StepTexts> {
+    /// The text of the steps of the event at that index of the object's log, if there is one: their words.
     #[inline(always)]
-    pub fn steps(&self, object: usize, index: usize) -> Option<&[Step<O>]>
-        ensures { option_copied result ≡ option_map (λ e. e.steps.list.items) (slice_get (log_of object self.now) index) }
+    pub fn text(&self, object: usize, index: usize) -> Option<&[u8]>
+        ensures { option_map (λ text. words text.now) result ≡ option_map (λ e. separated (map step_words e.steps.list.items)) (slice_get (log_of object self.now) index) }
     {
         if object >= self.logs.as_slice().len() {
             return None;
@@ -76,6 +82,6 @@ impl<O: SeqObject> JudgedRun<O> {
         if index >= kept.log.len() {
             return None;
         }
-        Some(kept.log.steps(index))
+        Some(kept.log.text(index))
     }
 }

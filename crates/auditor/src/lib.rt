@@ -15,12 +15,15 @@ mod next_events;
 mod notes;
 mod opened_object;
 mod packed_log;
+mod packed_steps;
 mod record_audit;
 mod record_judge;
 mod references;
 mod replay;
+mod step_rows;
 mod steps;
 mod texts;
+mod texts_of_steps;
 mod told;
 mod unclaimed;
 mod verdict_text;
@@ -37,5 +40,6 @@ pub use references::{
     ReferenceConsole, ReferenceKernelObject, ReferenceObject, ReferencePool, ReferenceQueue,
     ReferenceSched,
 };
+pub use step_rows::StepRows;
 pub use texts::{TextFault, audit_text};
 pub use verdict_text::{fault_text, verdict_line};

@@ -12,7 +12,7 @@ ghost use Rattle.auditor.specs.VerdictText.{CanBeTold, IsNamed};
 use crate::judged::Judged;
 use crate::{Fault, JudgedRun, OpenedObject, ReferenceObject, Verdict};
 use event_log::{Entry, Event, OutOfMemory, Past, SeqObject};
-use scripts::{Keeps, KernelObject, ObjectSettings};
+use scripts::{Keeps, KernelObject, ObjectSettings, StepTexts};
 use std::alloc::Global;
 use std::marker::Model;
 
@@ -43,7 +43,7 @@ pub struct RecordJudge<J: ReferenceObject<KernelObject>> {
     opened: Vec<OpenedObject<KernelObject>>,
     begun: bool,
     log: usize,
-    judged: Judged<KernelObject, J>,
+    judged: Judged<KernelObject, J, StepTexts>,
 }
 
 impl<J: ReferenceObject<KernelObject>> Model for RecordJudge<J> {
@@ -86,7 +86,7 @@ impl<J: ReferenceObject<KernelObject>> RecordJudge<J> {
     }
 
     /// The run that was read, if it is sound, or else its first fault. It takes no memory.
-    pub fn into_run(self) -> Result<JudgedRun<KernelObject>, Fault>
+    pub fn into_run(self) -> Result<JudgedRun<KernelObject, StepTexts>, Fault>
         requires whole { IsWholeWith self.settings self }
         requires fit { RecordFits (kept_record self.settings self) }
         ensures run { IfOk result (λ r. r ≡ (kept_record self.settings self).run) }
@@ -118,8 +118,8 @@ impl<J: ReferenceObject<KernelObject>> Keeps for RecordJudge<J> {
         Ok(())
     }
 
-    fn event(&mut self, event: Event<KernelObject>) -> Result<(), OutOfMemory> {
-        self.judged.event(&event)
+    fn event(&mut self, event: Event<KernelObject>, text: &[u8]) -> Result<(), OutOfMemory> {
+        self.judged.event(&event, text)
     }
 
     fn end_log(&mut self) -> Result<(), OutOfMemory> {
@@ -133,6 +133,11 @@ impl<J: ReferenceObject<KernelObject>> Keeps for RecordJudge<J> {
         self.judged.begin_transcript(count as usize);
         self.begun = true;
         Ok(())
+    }
+
+    #[inline(always)]
+    fn knows(&mut self, object: u8, looks: u64, tail: &[u8]) -> Result<bool, OutOfMemory> {
+        Ok(self.judged.knows(object, looks, tail))
     }
 
     fn entry(&mut self, entry: Entry<KernelObject>) -> Result<(), OutOfMemory> {

@@ -2,6 +2,7 @@
 
 ghost use Rattle.std.specs.Prelude.{◌≡◌, ◌<◌, ◌+◌, ◌∷◌, [], ◌++◌, length};
 ghost use Rattle.auditor.specs.Fed.{nothing, log_begun, event_fed, log_ended, transcript_begun, entry_fed, transcript_ended};
+ghost use Rattle.event_log.specs.declared.entry.Entry.{Entry as Shown};
 
 use crate::OpenedObject;
 use event_log::{Entry, Event, Past, SeqObject, Series};
@@ -140,6 +141,17 @@ impl<O: SeqObject> Told<O> {
         ensures { self.new ≡ entry_fed self.old entry.now }
     {
         self.entries = with_one(&self.entries, entry);
+        self.entry += 1;
+    }
+
+    /// An entry that the caller names by what it knows of it.
+    #[inline(always)]
+    pub fn tell_known(&mut self, looks: &u64)
+        ghost entry: { Shown O O.Params O.Call O.Reply }
+        requires { length self.old.entries < self.old.count }
+        ensures { self.new ≡ entry_fed self.old entry }
+    {
+        self.entries = Past::told(&self.entries, looks);
         self.entry += 1;
     }
 

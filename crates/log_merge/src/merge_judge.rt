@@ -102,8 +102,8 @@ impl<J: ReferenceObject<KernelObject>> Keeps for MergeJudge<J> {
         self.judge.begin_log(count)
     }
 
-    fn event(&mut self, event: Event<KernelObject>) -> Result<(), OutOfMemory> {
-        self.judge.event(event)
+    fn event(&mut self, event: Event<KernelObject>, text: &[u8]) -> Result<(), OutOfMemory> {
+        self.judge.event(event, text)
     }
 
     fn end_log(&mut self) -> Result<(), OutOfMemory> {
@@ -112,6 +112,19 @@ impl<J: ReferenceObject<KernelObject>> Keeps for MergeJudge<J> {
 
     fn begin_transcript(&mut self, count: u64) -> Result<(), OutOfMemory> {
         self.judge.begin_transcript(count)
+    }
+
+    #[inline(always)]
+    fn knows(&mut self, object: u8, looks: u64, tail: &[u8]) -> Result<bool, OutOfMemory> {
+        self.entries.reserve(1)?;
+        let known = self.judge.knows(object, looks, tail)?;
+        if known {
+            self.entries.push_reserved(EntryShape {
+                object,
+                is_done: true,
+            });
+        }
+        Ok(known)
     }
 
     fn entry(&mut self, entry: Entry<KernelObject>) -> Result<(), OutOfMemory> {

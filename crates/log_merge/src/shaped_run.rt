@@ -1,20 +1,22 @@
 //! A judged run, with the shapes of its entries.
 
 ghost use Rattle.std.specs.Prelude.{◌≡◌, map, option_map, slice_get};
-ghost use Rattle.std.specs.Option.{option_copied};
 ghost use Rattle.log_merge.specs.Shapes.{shape_of};
+ghost use Rattle.scripts.specs.Reading.{words};
+ghost use Rattle.scripts.specs.RecordText.{step_words};
+ghost use Rattle.scripts.specs.Words.{separated};
 ghost use Rattle.sound_run.specs.Sound.{log_of};
 
 use crate::run_shape::{EntryShape, RunShape};
 use auditor::JudgedRun;
-use event_log::{Series, Step};
-use scripts::KernelObject;
+use event_log::Series;
+use scripts::{KernelObject, StepTexts};
 use std::marker::Model;
 
-/// A sound run of a record: two bytes of each entry, and of each event its CPU and its steps. Contracts alone know the rest.
+/// A sound run of a record: two bytes of each entry, and of each event its CPU and the text of its steps. Contracts alone know the rest.
 #[derive(Drop)]
 pub struct ShapedRun {
-    run: JudgedRun<KernelObject>,
+    run: JudgedRun<KernelObject, StepTexts>,
     transcripts: Vec<Series<EntryShape>>,
 }
 
@@ -33,7 +35,7 @@ impl Model for ShapedRun {
 impl ShapedRun {
     /// The run whose entries have these shapes.
     pub(crate) fn new(
-        run: JudgedRun<KernelObject>,
+        run: JudgedRun<KernelObject, StepTexts>,
         transcripts: Vec<Series<EntryShape>>,
     ) -> ShapedRun
         requires { transcripts.items ≡ map (map shape_of) run.transcripts }
@@ -42,12 +44,12 @@ impl ShapedRun {
         ShapedRun { run, transcripts }
     }
 
-    /// The steps of the event at that index of the object's log, if there is one.
+    /// The text of the steps of the event at that index of the object's log, if there is one: their words.
     #[inline(always)]
-    pub(crate) fn steps(&self, object: usize, index: usize) -> Option<&[Step<KernelObject>]>
-        ensures { option_copied result ≡ option_map (λ e. e.steps.list.items) (slice_get (log_of object self.now) index) }
+    pub(crate) fn text(&self, object: usize, index: usize) -> Option<&[u8]>
+        ensures { option_map (λ text. words text.now) result ≡ option_map (λ e. separated (map step_words e.steps.list.items)) (slice_get (log_of object self.now) index) }
     {
-        self.run.steps(object, index)
+        self.run.text(object, index)
     }
 }
 

@@ -5,6 +5,7 @@ pub mod Kernel
 pub mod Ranges
 pub mod Row
 pub mod Rows
+pub mod StepTexts
 pub mod Tables
 pub mod Words
 pub mod Reading

@@ -1,14 +1,16 @@
 //! Who keeps of a record what is needed later.
 
-ghost use Rattle.std.specs.Prelude.{true, ◌≡◌, ◌<◌, ◌≤◌, length, OnOk, OnErr};
+ghost use Rattle.std.specs.Prelude.{true, false, ◌≡◌, ◌<◌, ◌≤◌, List, Ok, length, OnOk, OnErr};
 ghost use Rattle.event_log.specs.declared.logged.TheConstants.{MOST_EVENTS};
 ghost use Rattle.scripts.specs.declared.record.form.Form.TheVariants.{Two};
 ghost use Rattle.scripts.specs.declared.script.cpu_scripts.TheConstants.{MOST_ENTRIES};
 ghost use Rattle.scripts.specs.Keeping.{Parts, no_parts, with_count, with_event, with_log, with_entry, with_transcript, InLogs, InTranscripts, IsAtHead};
+ghost use Rattle.scripts.specs.KernelTypes.{KernelStep};
 ghost use Rattle.scripts.specs.RecordRanges.{EventFits, EntryFits};
 ghost use Rattle.scripts.specs.Settings.{SettingsFit};
+ghost use Rattle.scripts.specs.StepTexts.{SpellsSteps, SpellsTail, entry_of};
 
-use crate::{KernelObject, ObjectSettings};
+use crate::{KCall, KernelObject, ObjectSettings};
 use event_log::{Entry, Event, OutOfMemory};
 
 /// Who is handed over the parts of a record as they are read, in their order, and keeps of them what it needs. Contracts
@@ -32,12 +34,13 @@ pub trait Keeps: Drop {
         ensures ok { OnOk result (keeps self.new ≡ with_count (keeps self.old) count) }
         ensures err { OnErr result (keeps self.new ≡ keeps self.old) };
 
-    /// The log's next event.
-    fn event(&mut self, event: Event<KernelObject>) -> Result<(), OutOfMemory>
+    /// The log's next event, and the text of its steps.
+    fn event(&mut self, event: Event<KernelObject>, text: &[u8]) -> Result<(), OutOfMemory>
         requires place { InLogs (keeps self.old) }
         requires begun { (keeps self.old).begun ≡ true }
         requires more { length (keeps self.old).events < (keeps self.old).count }
         requires fit { EventFits Two (keeps self.old).settings.cpus event }
+        requires text { SpellsSteps text.now event.steps.list.items }
         ensures ok { OnOk result (keeps self.new ≡ with_event (keeps self.old) event) }
         ensures err { OnErr result (keeps self.new ≡ keeps self.old) };
 
@@ -55,6 +58,18 @@ pub trait Keeps: Drop {
         requires head { IsAtHead (keeps self.old) (keeps self.old).entries }
         requires few { count ≤ MOST_ENTRIES }
         ensures ok { OnOk result (keeps self.new ≡ with_count (keeps self.old) count) }
+        ensures err { OnErr result (keeps self.new ≡ keeps self.old) };
+
+    /// Whether the transcript's next entry is known by its object, its looks and the text behind them. Then it is handed over
+    /// by that. A keeper may always say no: then it is read, and handed over by `entry`.
+    fn knows(&mut self, object: u8, looks: u64, tail: &[u8]) -> Result<bool, OutOfMemory>
+        requires place { InTranscripts (keeps self.old) }
+        requires begun { (keeps self.old).begun ≡ true }
+        requires more { length (keeps self.old).entries < (keeps self.old).count }
+        requires object { object < length (keeps self.old).settings.objects }
+        ensures known { result ≡ Ok true → (asked : List KCall) × (steps : List KernelStep) × SpellsTail tail.now asked steps ×
+            (keeps self.new ≡ with_entry (keeps self.old) (entry_of object looks asked steps)) }
+        ensures unknown { result ≡ Ok false → keeps self.new ≡ keeps self.old }
         ensures err { OnErr result (keeps self.new ≡ keeps self.old) };
 
     /// The transcript's next entry.

@@ -18,13 +18,21 @@ pub(crate) fn is_taken(objects: &[ObjectSettings], name: &[u8]) -> bool
     objects.iter().any(|object| object.name() == name)
 }
 
+/// Whether the bytes are the same.
+#[inline(never)]
+fn are_same(a: &[u8], b: &[u8]) -> bool
+    ensures { result ≡ bytes_eq a.now b.now }
+{
+    a == b
+}
+
 /// Whether it is the object's name. Names that differ mostly have another length, or end otherwise.
 #[inline(always)]
 fn is_named(object: &ObjectSettings, name: &[u8]) -> bool
     ensures { result ≡ bytes_eq object.now.name name.now }
 {
     let own = object.name();
-    own.len() == name.len() && own.last() == name.last() && own == name
+    own.len() == name.len() && own.last() == name.last() && are_same(own, name)
 }
 
 /// The place of the object of that name, from 0.

@@ -147,6 +147,24 @@ fn one_digit<'a>(high: u64, at: Words<'a>) -> Option<(u64, Words<'a>)>
     }
 }
 
+/// The number of two digits that is next.
+#[inline(always)]
+fn two_digits<'a>(high: u64, at: Words<'a>) -> Option<(u64, Words<'a>)>
+    ensures { IfSome result (λ x. (x.0 ≤ high) × (number_at high (left at.entry) ≡ Some (x.0, left x.1))) }
+{
+    let (first, rest) = at?.split_first()?;
+    let tens = digit(*first)?;
+    let (second, rest) = rest.split_first()?;
+    let ones = digit(*second)?;
+    let rest = behind(rest)?;
+    let number = tens * 10 + ones;
+    if tens > 0 && number <= high {
+        Some((number, rest))
+    } else {
+        None
+    }
+}
+
 /// The number of at most `high` that is next.
 #[tactic(auto, unfolding(crate::specs::Reading::number_at))]
 #[inline(always)]
@@ -160,4 +178,16 @@ pub fn number<'a>(high: u64, at: Words<'a>) -> Option<(u64, Words<'a>)>
     let (word, rest) = word(at)?;
     let number = number_of(word, high)?;
     Some((number, rest))
+}
+
+/// The number of at most `high` that is next, where many have two digits.
+#[inline(always)]
+pub(crate) fn long_number<'a>(high: u64, at: Words<'a>) -> Option<(u64, Words<'a>)>
+    ensures value { option_map (λ x. (x.0, left x.1)) result ≡ number_at high (left at.entry) }
+    ensures bound { IfSome result (λ x. x.0 ≤ high) }
+{
+    if let Some(found) = two_digits(high, at) {
+        return Some(found);
+    }
+    number(high, at)
 }
