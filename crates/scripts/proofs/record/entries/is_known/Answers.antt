@@ -12,4 +12,4 @@ knows-requires-clause-object g c =
 pub returns-in-Some-clause-known : goal.returns-in-Some-clause-known
 returns-in-Some-clause-known g c = λ yes.
     let front = ap (λ os. front_at os (words c.args.line.now)) (sym c.as_slice.ensures.value) ∙ c.in-Some.ensures in
-    known_entry c.args.at.now (g.K.Keeps.keeps c.args.keeper.now) _ (words c.args.line.now) (words c.in-Some.tail.now) c.in-Some.object c.in-Some.looks (let h = c.if-eq.false in let k = c.if-eq.ensures in let e = c.eq.ensures in ?) front (c.knows.ensures.known yes)
+    known_entry c.args.at.now (g.K.Keeps.keeps c.args.keeper.now) _ (words c.args.line.now) (words c.in-Some.tail.now) c.in-Some.object c.in-Some.looks (λ one. let no = rw one at c.if-eq.ensures in absurd cc) front (c.knows.ensures.known yes)
