@@ -1,5 +1,5 @@
 -- An entry that is known by its front and the text behind it.
-use Rattle.std.proofs.Common.{◌≡◌, ◌&&◌, ℕ, ◌<◌, true, if◌then◌else◌, length, List, [], ◌∷◌, Option, Some, None, ap, sym, ◌∙◌, refl, subst, codes}
+use Rattle.std.proofs.Common.{◌≡◌, ℕ, ◌<◌, length, List, Some, ap, sym, ◌∙◌, refl, subst, codes}
 use Rattle.std.proofs.lemmas.Option.{cond_some}
 use Rattle.event_log.specs.declared.entry.Done.TheVariants.{Steps}
 use Rattle.scripts.specs.declared.objects.kernel_call.KCall.{KCall}

@@ -1,4 +1,4 @@
-use Rattle.std.proofs.Common.{sym, ap, ◌∙◌, Some}
+use Rattle.std.proofs.Common.{sym, ap, ◌∙◌}
 use Rattle.scripts.specs.Reading.{words}
 use Rattle.scripts.specs.StepTexts.{front_at}
 use Rattle.scripts.proofs.KnownEntries.{known_bound, known_entry}
