@@ -39,6 +39,7 @@ pub mod ParameterLaws
 pub mod Forms
 pub mod RecordSteps
 pub mod Keepers
+pub mod KnownEntries
 pub mod KeptSteps
 pub mod RecordWords
 pub mod Digits

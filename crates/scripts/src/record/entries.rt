@@ -1,6 +1,6 @@
 //! Handing over the entries of a record.
 
-ghost use Rattle.std.specs.Prelude.{◌≡◌, ◌<◌, true, false, length, Some, None, Ok, Err, OnOk, OnErr};
+ghost use Rattle.std.specs.Prelude.{◌≡◌, true, false, Some, None, Ok, Err, OnOk, OnErr};
 ghost use Rattle.scripts.specs.KernelTypes.{KernelEntry};
 ghost use Rattle.scripts.specs.Keeping.{with_entry};
 ghost use Rattle.scripts.specs.Reading.{words};
