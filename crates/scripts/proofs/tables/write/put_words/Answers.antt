@@ -1,4 +1,4 @@
-use Rattle.std.proofs.Common.{◌≡◌, List, [], ◌∷◌, ℕ, true, false, refl, sym, ap, ◌∙◌}
+use Rattle.std.proofs.Common.{◌≡◌, List, [], ◌∷◌, ℕ, false, sym, ap, ◌∙◌}
 use Rattle.scripts.specs.Reading.{words}
 use Rattle.scripts.specs.RecordReading.{is_nil}
 use Rattle.scripts.specs.Words.{sentence, spaced}
