@@ -48,3 +48,7 @@ pub mod ScriptSources
 pub mod StepReading
 pub mod SettingsReading
 pub mod RecordSources
+pub mod StepMarks
+pub mod StepLines
+pub mod StepTails
+pub mod TextRows
