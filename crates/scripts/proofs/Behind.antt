@@ -38,21 +38,6 @@ digit_next line rest ws b n high is digit few small ends =
     let here : words line ≡ decimal n ∷ ws = ap words is ∙ (words_behind (b ∷ []) rest ws (space, tt) ends ∙ ap (λ w. w ∷ ws) (sym text)) in
     rw (here, number_again high n small (omega (arith, few))) refl
 
--- a number of two digits is next
-pub two_digits_next : (line more rest : List ℕ) (ws : List (List ℕ)) (b c tens ones high : ℕ) → line ≡ b ∷ more → more ≡ c ∷ rest → b ≡ 48 + tens → c ≡ 48 + ones → tens < 10 → ones < 10 → 0 < tens → tens * 10 + ones ≤ high → behind_at rest ≡ Some ws → number_at high (words line) ≡ Some (tens * 10 + ones, ws)
-unfolding number_at word_at
-two_digits_next line more rest ws b c tens ones high first second is_tens is_ones few_tens few_ones some small ends =
-    let word : List ℕ = b ∷ c ∷ [] in
-    let n : ℕ = tens * 10 + ones in
-    let digits : AreDigits word = digits_push word 1 ones (digits_push word 0 tens (λ k less. absurd (omega (arith, less))) is_tens few_tens) is_ones few_ones in
-    let alone : tens ≡ 0 * 10 + tens = omega arith in
-    let value : n ≡ digits_value 10 word = digits_more word 1 tens ones (omega arith) is_ones few_ones (alone ∙ digits_more word 0 0 tens (omega arith) is_tens few_tens refl) in
-    let text : word ≡ decimal n = digits_are word n high digits (omega arith) (λ zero. absurd (omega (arith, zero, is_tens, some))) value (omega (arith, few_tens, few_ones)) in
-    let no_space_tens : (b == 32) ≡ false = grind (arith, is_tens) in
-    let no_space_ones : (c == 32) ≡ false = grind (arith, is_ones) in
-    let here : words line ≡ decimal n ∷ ws = ap words (first ∙ ap (λ l. b ∷ l) second) ∙ (words_behind word rest ws (no_space_tens, (no_space_ones, tt)) ends ∙ ap (λ w. w ∷ ws) text) in
-    rw (here, number_again high n small (omega (arith, few_tens, few_ones))) refl
-
 -- ---- a mark: a word of one byte
 
 other_first : (s : Bool) (b m : ℕ) (ws : List (List ℕ)) → (b == m) ≡ false → key_at (m ∷ []) (cond s ([] ∷ ws) (onto_first b ws)) ≡ None

@@ -43,6 +43,7 @@ pub mod KnownEntries
 pub mod KeptSteps
 pub mod RecordWords
 pub mod Digits
+pub mod Numbers
 pub mod ScriptTexts
 pub mod ScriptSources
 pub mod StepReading

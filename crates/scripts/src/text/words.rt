@@ -4,7 +4,7 @@ ghost use Rattle.std.specs.Prelude.{◌≡◌, ◌∷◌, ◌++◌, [], ◌≤�
 ghost use Rattle.std.specs.Int.{IsInRange};
 ghost use Rattle.std.specs.Option.{option_map};
 ghost use Rattle.std.specs.Str.Parse.{digits_value};
-ghost use Rattle.scripts.specs.Reading.{AreDigits, left, word_at, behind_at, key_at, number_in, number_at};
+ghost use Rattle.scripts.specs.Reading.{AreDigits, left, word_at, behind_at, key_at, number_in, number_at, words};
 ghost use Rattle.scripts.specs.Row.{IsPlain};
 
 use crate::text::split::split_once;
@@ -147,26 +147,33 @@ fn one_digit<'a>(high: u64, at: Words<'a>) -> Option<(u64, Words<'a>)>
     }
 }
 
-/// The number of two digits that is next.
-#[inline(always)]
-fn two_digits<'a>(high: u64, at: Words<'a>) -> Option<(u64, Words<'a>)>
-    ensures { IfSome result (λ x. (x.0 ≤ high) × (number_at high (left at.entry) ≡ Some (x.0, left x.1))) }
+/// The number of at most `high` whose decimal text is at the front of the bytes, a digit at a time.
+#[inline(never)]
+fn long_number(high: u64, bytes: &[u8]) -> Option<(u64, Words<'_>)>
+    ensures value { option_map (λ x. (x.0, left x.1)) result ≡ number_at high (words bytes.now) }
+    ensures bound { IfSome result (λ x. x.0 ≤ high) }
 {
-    let (first, rest) = at?.split_first()?;
-    let tens = digit(*first)?;
-    let (second, rest) = rest.split_first()?;
-    let ones = digit(*second)?;
-    let rest = behind(rest)?;
-    let number = tens * 10 + ones;
-    if tens > 0 && number <= high {
-        Some((number, rest))
-    } else {
-        None
+    let (first, rest) = bytes.split_first()?;
+    let mut number = digit(*first)?;
+    let mut left = rest;
+    while let [byte, more @ ..] = left {
+        if *byte == b' ' {
+            break;
+        }
+        if number == 0 {
+            return None;
+        }
+        number = number.checked_mul(10)?.checked_add(digit(*byte)?)?;
+        left = more;
     }
+    if number > high {
+        return None;
+    }
+    Some((number, behind(left)?))
 }
 
 /// The number of at most `high` that is next.
-#[tactic(auto, unfolding(crate::specs::Reading::number_at))]
+#[tactic(auto, unfolding(crate::specs::Reading::number_at, crate::specs::Reading::word_at))]
 #[inline(always)]
 pub fn number<'a>(high: u64, at: Words<'a>) -> Option<(u64, Words<'a>)>
     ensures value { option_map (λ x. (x.0, left x.1)) result ≡ number_at high (left at.entry) }
@@ -175,19 +182,5 @@ pub fn number<'a>(high: u64, at: Words<'a>) -> Option<(u64, Words<'a>)>
     if let Some(found) = one_digit(high, at) {
         return Some(found);
     }
-    let (word, rest) = word(at)?;
-    let number = number_of(word, high)?;
-    Some((number, rest))
-}
-
-/// The number of at most `high` that is next, where many have two digits.
-#[inline(always)]
-pub(crate) fn long_number<'a>(high: u64, at: Words<'a>) -> Option<(u64, Words<'a>)>
-    ensures value { option_map (λ x. (x.0, left x.1)) result ≡ number_at high (left at.entry) }
-    ensures bound { IfSome result (λ x. x.0 ≤ high) }
-{
-    if let Some(found) = two_digits(high, at) {
-        return Some(found);
-    }
-    number(high, at)
+    long_number(high, at?)
 }
