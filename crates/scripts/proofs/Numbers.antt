@@ -173,10 +173,10 @@ module _ (high : ℕ) (small : high < 2 ^ 64) where
     none_ten past =
         let on = next bytes left number h one differs in
         none_at bytes (λ n few text.
-          let same = decimal_value (first_of bytes) n (omega (arith, few, small)) text in
-          let part = digits_value-take-le 10 (first_of bytes) (h.count + 1) (omega arith) in
-          let sum = digits_value_more 10 (first_of bytes) h.count on.0 in
-          omega (arith, same, part, sum, h.value, past, few))
+        let same = decimal_value (first_of bytes) n (omega (arith, few, small)) text in
+        let part = digits_value-take-le 10 (first_of bytes) (h.count + 1) (omega arith) in
+        let sum = digits_value_more 10 (first_of bytes) h.count on.0 in
+        omega (arith, same, part, sum, h.value, past, few))
 
     -- the number is too great with this digit
     pub none_more : (d : ℕ) → (number ≡ 0 → ⊥) → byte left ≡ 48 + d → d < 10 → high < number * 10 + d → None ≡ number_at high (words bytes)

@@ -21,7 +21,7 @@ pub returns-in_err-checked_mul-clause-value : goal.returns-in_err-checked_mul-cl
 returns-in_err-checked_mul-clause-value c =
     let high : c.loop-left.number * 10 < 18446744073709551616 → ⊥ = c.in_err-checked_mul.ensures in
     ap (option_map _) c.from_residual-in_err-checked_mul.ensures
-        ∙ none_ten c.args.high c.ranges.high.fits c.args.bytes.now c.loop-left.left.now c.loop-left.number c.loop-left.invariant c.in-len1-up.len_at_least c.if-byte-eq32.false (grind (arith, c.ranges.high.fits, high))
+    ∙ none_ten c.args.high c.ranges.high.fits c.args.bytes.now c.loop-left.left.now c.loop-left.number c.loop-left.invariant c.in-len1-up.len_at_least c.if-byte-eq32.false (grind (arith, c.ranges.high.fits, high))
 
 pub returns-in_err-digit-clause-value : goal.returns-in_err-digit-clause-value
 returns-in_err-digit-clause-value c = ap (option_map _) c.from_residual-in_err-digit.ensures
@@ -33,7 +33,7 @@ returns-in_err-number-2-clause-value c =
     let times = c.in_ok-checked_mul.ensures.1 in
     let found = c.in_ok-digit.ensures.found in
     ap (option_map _) c.from_residual-in_err-number-2.ensures
-        ∙ none_more c.args.high c.ranges.high.fits c.args.bytes.now c.loop-left.left.now c.loop-left.number c.loop-left.invariant c.in-len1-up.len_at_least c.if-byte-eq32.false c.in_ok-digit.field-0 c.if-number-eq0.false found.0 found.1 (grind (arith, c.ranges.high.fits, high, times))
+    ∙ none_more c.args.high c.ranges.high.fits c.args.bytes.now c.loop-left.left.now c.loop-left.number c.loop-left.invariant c.in-len1-up.len_at_least c.if-byte-eq32.false c.in_ok-digit.field-0 c.if-number-eq0.false found.0 found.1 (grind (arith, c.ranges.high.fits, high, times))
 
 pub loop-left-preserved : goal.loop-left-preserved
 loop-left-preserved c =
