@@ -1,15 +1,13 @@
 -- What stands behind a word at the front of a line.
-use Rattle.std.proofs.Common.{◌≡◌, ℕ, ◌+◌, ◌*◌, ◌<◌, ◌≤◌, ◌==◌, Bool, true, false, cond, Some, None, List, [], ◌∷◌, ◌++◌, length, decimal, refl, sym, ap, ◌∙◌, arith}
+use Rattle.std.proofs.Common.{◌≡◌, ℕ, ◌+◌, ◌<◌, ◌≤◌, ◌==◌, Bool, true, false, cond, Some, None, List, [], ◌∷◌, ◌++◌, length, decimal, refl, sym, ap, ◌∙◌, arith}
 use Rattle.std.specs.List.{AllByRecursion, onto_first}
 use Rattle.std.proofs.lemmas.Bool.{eqb-true}
 use Rattle.std.proofs.lemmas.Fmt.{decimal_digit}
 use Rattle.std.proofs.lemmas.List.{append-nil}
 use Rattle.std.proofs.lemmas.Option.{cond_some}
-use Rattle.std.specs.Str.Parse.{digits_value}
-use Rattle.scripts.specs.Reading.{AreDigits, words, word_at, key_at, number_at, behind_at}
+use Rattle.scripts.specs.Reading.{words, word_at, key_at, number_at, behind_at}
 use Rattle.scripts.specs.Row.{IsPlain}
 use Rattle.scripts.proofs.Cuts.{words_cut, words_whole, number_again}
-use Rattle.scripts.proofs.Digits.{digits_more, digits_push, digits_are}
 use Rattle.scripts.proofs.Sentences.{no_space}
 
 eqb-refl : (m : ℕ) → (m == m) ≡ true
