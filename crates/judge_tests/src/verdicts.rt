@@ -7,8 +7,8 @@ mod sources;
 mod verdict_text;
 mod worked;
 
-use auditor::{Verdict, audit};
-use scripts::{Record, RecordFault};
+use auditor::{RecordJudge, ReferenceKernelObject, Verdict, audit};
+use scripts::{Record, RecordFault, read_text_keeping};
 use std::alloc::Global;
 use std::test::Fail;
 
@@ -48,11 +48,39 @@ a 1 enq 1 | enq 1 = ok
 end
 ";
 
-/// The verdict on the record that the bytes spell, if they spell one.
-pub fn verdict_on(alloc: Global, text: &[u8]) -> Result<Option<Verdict>, Fail> {
-    match Record::read(alloc, text) {
-        Ok(record) => Ok(Some(audit(alloc, &record)?)),
+/// An entry that asks for more behind the call that was refused.
+pub const REFUSED: &str = "record 2
+cpus 1
+objects 1
+object q ticket 10 queue 8
+log q 2
+0 enq 3 = ok ; enq 3 = already
+0 deq = thread 3
+cpu 0 2
+q 1 enq 3 ; enq 3 ; enq 5 | enq 3 = ok ; enq 3 = already
+q 1 deq | deq = thread 3
+end
+";
+
+/// The verdict of a judge that reads the bytes, if they spell a record.
+fn judged(alloc: Global, text: &[u8]) -> Result<Option<Verdict>, Fail> {
+    let judge = RecordJudge::<ReferenceKernelObject>::new(alloc);
+    match read_text_keeping(alloc, text, judge) {
+        Ok(kept) => Ok(Some(kept.1.verdict())),
         Err(RecordFault::Line(_)) => Ok(None),
         Err(RecordFault::OutOfMemory) => Err(Fail::new("out of memory")),
     }
+}
+
+/// The verdict on the record that the bytes spell, if they spell one. A judge that reads them has to say the same.
+pub fn verdict_on(alloc: Global, text: &[u8]) -> Result<Option<Verdict>, Fail> {
+    let verdict = match Record::read(alloc, text) {
+        Ok(record) => Some(audit(alloc, &record)?),
+        Err(RecordFault::Line(_)) => None,
+        Err(RecordFault::OutOfMemory) => return Err(Fail::new("out of memory")),
+    };
+    if judged(alloc, text)? != verdict {
+        return Err(Fail::new("a judge that reads says otherwise"));
+    }
+    Ok(verdict)
 }

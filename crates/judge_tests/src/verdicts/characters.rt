@@ -1,6 +1,6 @@
 //! Records of which one character is changed: none of them is called sound but those that still are.
 
-use super::{CROSSED, IN_AND_OUT, verdict_on};
+use super::{CROSSED, IN_AND_OUT, REFUSED, verdict_on};
 use auditor::Verdict;
 use std::alloc::Global;
 use std::test::Fail;
@@ -50,5 +50,14 @@ fn of_one_object(rt: HostRuntime) -> Result<(), Fail> {
 fn of_two_objects(rt: HostRuntime) -> Result<(), Fail> {
     let count = sound_changes(rt.alloc(), CROSSED.as_bytes())?;
     assert_eq!(rt; count, 1 + 2 * (17 + 6) + 4 * 9);
+    Ok(())
+}
+
+/// Sound are the record in the first form, 17 other limits, 5 other numbers of threads above 3, 9 other looks of each of the two
+/// entries, and 9 other threads in the call that was asked behind the refused one.
+#[test]
+fn of_a_refused_call(rt: HostRuntime) -> Result<(), Fail> {
+    let count = sound_changes(rt.alloc(), REFUSED.as_bytes())?;
+    assert_eq!(rt; count, 1 + 17 + 5 + 2 * 9 + 9);
     Ok(())
 }
