@@ -50,7 +50,7 @@ module _ {O P C R J W : Type 0} (meaning : Ghosts O P C R) (shows : J → O) whe
   noted_at a b c k n h = subst (λ (z : Fed O P C R × Option Fault × Option (Replay O J W P C R) × List (KeptLog O W P C R) × ℕ). IsNoted meaning shows z.0 z.1 z.2 z.3 z.4) (λ j. (a j, b j, c j, k j, n j)) h
 
   -- before anything is fed
-  pub noted_nothing : (cpus objects room : ℕ) → objects ≤ room → IsRightWith meaning shows (nothing cpus objects) None [] room
+  pub noted_nothing : (cpus objects room : ℕ) → objects ≤ room → IsRightWith {W = W} meaning shows (nothing cpus objects) None [] room
   noted_nothing cpus objects room le = record {
     right = right_nothing meaning cpus objects;
     cpus = λ k e at. cc;
