@@ -49,12 +49,12 @@ fn with_list<T>(past: &Past<Series<T>>, list: &Past<T>) -> Past<Series<T>>
     Past::told(past, list)
 }
 
-/// Entries that the caller names.
-fn named<O: SeqObject>(entries: &Past<Entry<O>>) -> Past<Entry<O>>
-    ghost next: { List (Shown O O.Params O.Call O.Reply) }
+/// Values that the caller names.
+fn named<T>(past: &Past<T>) -> Past<T>
+    ghost next: { List T }
     ensures { result.items ≡ next }
 {
-    Past::told(entries, entries)
+    Past::told(past, past)
 }
 
 impl<O: SeqObject> Told<O> {

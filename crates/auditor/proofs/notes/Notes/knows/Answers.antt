@@ -1,15 +1,15 @@
-use Rattle.std.proofs.Common.{◌≡◌, ◌+◌, ◌<◌, length, get_or, refl, sym, ap, subst, ◌∙◌, arith}
+use Rattle.std.proofs.Common.{◌≡◌, ◌+◌, ◌<◌, length, get_or, slice_get, refl, sym, subst, ◌∙◌, arith}
 use Rattle.std.specs.Vec.{vec_capacity}
 use Rattle.std.proofs.Math.ListN.{set}
-use Rattle.std.proofs.lemmas.List.{set-get_or}
 use Rattle.sound_run.specs.Sound.{done_on}
-use Rattle.sound_run.proofs.Slices.{read_get, some_at}
+use Rattle.sound_run.proofs.Slices.{read_get, some_at, one_of}
+use Rattle.auditor.specs.declared.kept_log.KeptLog.{KeptLog}
 use Rattle.auditor.specs.Fed.{done_by, done_entry, entry_fed}
 use Rattle.auditor.specs.NextEvents.{IsAt}
+use Rattle.auditor.specs.Noted.{IsRightWith}
 use Rattle.auditor.proofs.Judging.{all_right}
 use Rattle.auditor.proofs.NextEventSteps.{there, any_default}
 use Rattle.auditor.proofs.NotesSoFar.{none_found, still_none, entry_noted}
-use Rattle.auditor.proofs.notes.Notes.knows.Goals.{then-place-len-via-then-place-len, then-place-len-via-else-place-len+then-not-is_told}
 use Rattle.auditor.proofs.notes.Notes.knows.Goals as goal
 
 pub is_told-requires : goal.is_told-requires
@@ -19,23 +19,12 @@ is_told-requires g c =
     let all = none_found g.O.SeqObject g.J.ReferenceObject.shows d n.fault n.replay n.logs.items (vec_capacity n.logs) (sym c.is_some.ensures ∙ c.if-is_some.false) c.requires.noted in
     let x = c.args.object in
     let lt : x < length n.logs.items = (let a = all.logs.count in let b = c.requires.transcripts.logs.logs in let o = c.requires.object in omega (arith, a, b, o)) in
-    let kept = c.index_mut-kept.result.now in
-    let k = all.logs.each x kept (read_get n.logs.items x kept lt c.index_mut-kept.ensures.value) in
+    let kept = c.index-kept.result.now in
+    let k = all.logs.each x kept (read_get n.logs.items x kept lt c.index-kept.ensures) in
     let within = (k.place c.requires.transcripts.cpus).within in
     let off = c.if-place-len.false in
     let m = c.len.ensures in
     omega (arith, within, off, m)
-
-pub returns-then-place-len-clause-unknown : goal.returns-then-place-len-clause-unknown
-returns-then-place-len-clause-unknown g c = λ no.
-    let n = c.args.self.now in
-    let x = c.args.object in
-    let kept = c.index_mut-kept.result.now in
-    let same : set n.logs.items x kept ≡ n.logs.items = ap (λ k. set n.logs.items x k) c.index_mut-kept.ensures.value ∙ set-get_or n.logs.items x kept in
-    elim c.then-place-len.branch [
-      then-place-len-via-then-place-len w ↦ w.self-is ∙ (λ j. record n { logs = record n.logs { items = same j } })
-      | then-place-len-via-else-place-len+then-not-is_told w ↦ w.self-is ∙ (λ j. record n { logs = record n.logs { items = same j } })
-    ]
 
 pub index-requires : goal.index-requires
 index-requires g c =
@@ -44,8 +33,8 @@ index-requires g c =
     let all = none_found g.O.SeqObject g.J.ReferenceObject.shows d n.fault n.replay n.logs.items (vec_capacity n.logs) (sym c.is_some.ensures ∙ c.if-is_some.false) c.requires.noted in
     let x = c.args.object in
     let lt : x < length n.logs.items = (let a = all.logs.count in let b = c.requires.transcripts.logs.logs in let o = c.requires.object in omega (arith, a, b, o)) in
-    let kept = c.index_mut-kept.result.now in
-    let k = all.logs.each x kept (read_get n.logs.items x kept lt c.index_mut-kept.ensures.value) in
+    let kept = c.index-kept.result.now in
+    let k = all.logs.each x kept (read_get n.logs.items x kept lt c.index-kept.ensures) in
     let within = (k.place c.requires.transcripts.cpus).within in
     let off = c.if-place-len.false in
     let m = c.len.ensures in
@@ -60,8 +49,8 @@ returns-clause-known g c = λ yes.
     let all = none_found g.O.SeqObject g.J.ReferenceObject.shows d n.fault n.replay n.logs.items (vec_capacity n.logs) none c.requires.noted in
     let x = c.args.object in
     let lt : x < length n.logs.items = (let a = all.logs.count in let b = c.requires.transcripts.logs.logs in let o = c.requires.object in omega (arith, a, b, o)) in
-    let kept = c.index_mut-kept.result.now in
-    let at = read_get n.logs.items x kept lt c.index_mut-kept.ensures.value in
+    let kept = c.index-kept.result.now in
+    let at = read_get n.logs.items x kept lt c.index-kept.ensures in
     let k = all.logs.each x kept at in
     let here = k.place c.requires.transcripts.cpus in
     let within : kept.place < length kept.log = (let w = here.within in let off = c.if-place-len.false in let m = c.len.ensures in omega (arith, w, off, m)) in
@@ -75,10 +64,13 @@ returns-clause-known g c = λ yes.
     let long = k.next_events.events in
     let value : c.index.result.now ≡ get_or next kept.place 0 = c.index.ensures ∙ any_default next kept.place c.index.result.now 0 (omega (arith, within, long)) in
     let right = all_right cpu kept.log taken kept.place here g.O.SeqObject kept.limit (done_by steps) event.steps some refl within refl (record { items = told.0 }) next told.2 k.next_events.nexts in
+    let new = c.index_mut.result.now in
+    let same : kept ≡ new = one_of kept new (slice_get n.logs.items x) at (read_get n.logs.items x new lt c.index_mut.ensures.value) in
     (
       told.0,
       steps,
       told.1,
       λ looks. still_none g.O.SeqObject g.J.ReferenceObject.shows (entry_fed d (done_entry x looks told.0 steps)) n.fault n.replay _ _ none
-      (entry_noted g.O.SeqObject g.J.ReferenceObject.shows d n.replay n.logs.items (vec_capacity n.logs) all c.requires.transcripts.logs (done_entry x looks told.0 steps) kept at c.index.result.now right.0 (subst (λ j. IsAt cpu kept.log (taken + 1) j) (sym value) right.1)),
+      (subst (λ (v : KeptLog _ _ _ _ _). IsRightWith g.O.SeqObject g.J.ReferenceObject.shows (entry_fed d (done_entry x looks told.0 steps)) n.replay (set n.logs.items x (record v { place = c.index.result.now })) (vec_capacity n.logs)) same
+      (entry_noted g.O.SeqObject g.J.ReferenceObject.shows d n.replay n.logs.items (vec_capacity n.logs) all c.requires.transcripts.logs (done_entry x looks told.0 steps) kept at c.index.result.now right.0 (subst (λ j. IsAt cpu kept.log (taken + 1) j) (sym value) right.1))),
     )
