@@ -113,8 +113,8 @@ impl<O: SeqObject, J: ReferenceObject<O>, R: StepRows<O>> Judged<O, J, R> {
         self.told.tell_transcript(count);
     }
 
-    /// Whether the text behind the looks of the transcript's next entry spells its CPU's next event on the object, and the event is
-    /// what was asked. Then it is fed.
+    /// Whether the text behind the looks of the transcript's next entry spells its CPU's next event on the object, and the event
+    /// is what was asked. Then it is fed.
     #[inline(always)]
     pub fn knows(&mut self, object: u8, looks: u64, tail: &[u8]) -> bool
         requires transcripts { IsInTranscripts self.old }
