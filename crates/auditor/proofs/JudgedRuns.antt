@@ -40,31 +40,31 @@ index_map f (y ∷ ys) zero x e = let same : y ≡ x = cc in ap f same
 index_map f (y ∷ ys) (suc i) x e = index_map f ys i x e
 
 -- the logs that were kept are those that were fed
-pub kept_are : {O P C R J : Type 0} (meaning : Ghosts O P C R) (shows : J → O) (d : Fed O P C R) (replay : Option (Replay O J P C R)) (logs : List (KeptLog O P C R)) (room : ℕ) → IsRightWith meaning shows d replay logs room → events_in logs ≡ d.logs
-kept_are meaning shows d replay logs room all = same_map (λ (l : KeptLog _ _ _ _). l.log) logs d.logs all.logs.count (λ x l at. (all.logs.each x l at).log)
+pub kept_are : {O P C R J W : Type 0} (meaning : Ghosts O P C R) (shows : J → O) (d : Fed O P C R) (replay : Option (Replay O J W P C R)) (logs : List (KeptLog O W P C R)) (room : ℕ) → IsRightWith meaning shows d replay logs room → events_in logs ≡ d.logs
+kept_are meaning shows d replay logs room all = same_map (λ (l : KeptLog _ _ _ _ _). l.log) logs d.logs all.logs.count (λ x l at. (all.logs.each x l at).log)
 
-module _ {O P C R J : Type 0} (meaning : Ghosts O P C R) (shows : J → O) (d : Fed O P C R) (replay : Option (Replay O J P C R)) (logs : List (KeptLog O P C R)) (room : ℕ) (all : IsRightWith meaning shows d replay logs room) (whole : HasLogs d) (cpus : length d.transcripts ≡ d.cpus) (idle : d.entries ≡ [])
+module _ {O P C R J W : Type 0} (meaning : Ghosts O P C R) (shows : J → O) (d : Fed O P C R) (replay : Option (Replay O J W P C R)) (logs : List (KeptLog O W P C R)) (room : ℕ) (all : IsRightWith meaning shows d replay logs room) (whole : HasLogs d) (cpus : length d.transcripts ≡ d.cpus) (idle : d.entries ≡ [])
     (given : IsRunOf meaning d.opened (run_of d)) where
   itself : IsWith meaning d d.opened (run_of d)
   itself = with_itself meaning d whole cpus idle given
 
-  same_logs : map (λ (l : KeptLog O P C R). l.log) logs ≡ d.logs
+  same_logs : map (λ (l : KeptLog O W P C R). l.log) logs ≡ d.logs
   same_logs = kept_are meaning shows d replay logs room all
 
-  are : AreEnds meaning (opened_by d.opened) (run_of d) (length d.transcripts) (map (λ (l : KeptLog O P C R). l.end) logs)
+  are : AreEnds meaning (opened_by d.opened) (run_of d) (length d.transcripts) (map (λ (l : KeptLog O W P C R). l.end) logs)
   are x lt =
       let l = some_at logs x (let n = all.logs.count in omega (arith, lt, n)) in
-      subst (λ (e : ℕ). IsEnd meaning (opened_by d.opened) (run_of d) (length d.transcripts) x e) (sym (index_map (λ (k : KeptLog O P C R). k.end) logs x l.0 l.1)) ((all.logs.each x l.0 l.1).end d.opened (run_of d) itself)
+      subst (λ (e : ℕ). IsEnd meaning (opened_by d.opened) (run_of d) (length d.transcripts) x e) (sym (index_map (λ (k : KeptLog O W P C R). k.end) logs x l.0 l.1)) ((all.logs.each x l.0 l.1).end d.opened (run_of d) itself)
 
-  pub all_taken : AreTaken (map (λ (l : KeptLog O P C R). l.log) logs) (map (λ (l : KeptLog O P C R). l.end) logs) (length logs) → HasNoFault meaning d.opened (run_of d)
+  pub all_taken : AreTaken (map (λ (l : KeptLog O W P C R). l.log) logs) (map (λ (l : KeptLog O W P C R). l.end) logs) (length logs) → HasNoFault meaning d.opened (run_of d)
   all_taken taken =
-      let here : AreTaken d.logs (map (λ (l : KeptLog O P C R). l.end) logs) (length d.logs) = subst (λ (z : List (List (Event O P C R)) × ℕ). AreTaken z.0 (map (λ (l : KeptLog O P C R). l.end) logs) z.1) (λ j. (same_logs j, all.logs.count j)) taken in
-      none_left meaning d.opened (run_of d) given (all.right.logs d.opened (run_of d) itself) (all.right.transcripts d.opened (run_of d) itself) (map (λ (l : KeptLog O P C R). l.end) logs) are here
+      let here : AreTaken d.logs (map (λ (l : KeptLog O W P C R). l.end) logs) (length d.logs) = subst (λ (z : List (List (Event O P C R)) × ℕ). AreTaken z.0 (map (λ (l : KeptLog O W P C R). l.end) logs) z.1) (λ j. (same_logs j, all.logs.count j)) taken in
+      none_left meaning d.opened (run_of d) given (all.right.logs d.opened (run_of d) itself) (all.right.transcripts d.opened (run_of d) itself) (map (λ (l : KeptLog O W P C R). l.end) logs) are here
 
-  pub one_left : (x e : ℕ) → IsFirstLeft (map (λ (l : KeptLog O P C R). l.log) logs) (map (λ (l : KeptLog O P C R). l.end) logs) x e → IsFirstFault meaning (opened_by d.opened) (run_of d) (fault.Unclaimed x e)
+  pub one_left : (x e : ℕ) → IsFirstLeft (map (λ (l : KeptLog O W P C R). l.log) logs) (map (λ (l : KeptLog O W P C R). l.end) logs) x e → IsFirstFault meaning (opened_by d.opened) (run_of d) (fault.Unclaimed x e)
   one_left x e left =
-      let here : IsFirstLeft d.logs (map (λ (l : KeptLog O P C R). l.end) logs) x e = subst (λ (z : List (List (Event O P C R))). IsFirstLeft z (map (λ (l : KeptLog O P C R). l.end) logs) x e) same_logs left in
-      first_unclaimed meaning d.opened (run_of d) given (all.right.logs d.opened (run_of d) itself) (all.right.transcripts d.opened (run_of d) itself) (map (λ (l : KeptLog O P C R). l.end) logs) are x e here
+      let here : IsFirstLeft d.logs (map (λ (l : KeptLog O W P C R). l.end) logs) x e = subst (λ (z : List (List (Event O P C R))). IsFirstLeft z (map (λ (l : KeptLog O W P C R). l.end) logs) x e) same_logs left in
+      first_unclaimed meaning d.opened (run_of d) given (all.right.logs d.opened (run_of d) itself) (all.right.transcripts d.opened (run_of d) itself) (map (λ (l : KeptLog O W P C R). l.end) logs) are x e here
 
 module _ {O P C R : Type 0} (meaning : Ghosts O P C R) (objects : List (Opened P)) (run : Run O P C R) (none : Sound meaning objects run → (f : Fault) → IsFault meaning objects run f → ⊥) (one : (f g : Fault) → IsFirstFault meaning objects run f → IsFirstFault meaning objects run g → f ≡ g) where
   -- what is found is exact

@@ -5,6 +5,8 @@ pub mod NextEventSteps
 pub mod Judging
 pub mod Fronts
 pub mod PackedSteps
+pub mod PackedLogs
+pub mod Lives
 pub mod Ranked
 pub mod Verdicts
 pub mod Compares

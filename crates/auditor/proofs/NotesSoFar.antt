@@ -30,27 +30,27 @@ use Rattle.auditor.proofs.LogsSoFar.{right_nothing, opened_last, in_log, right_b
 use Rattle.auditor.proofs.NextEventSteps.{get_push}
 use Rattle.auditor.proofs.WrongSteps.{replay_more}
 
-module _ {O P C R J : Type 0} (meaning : Ghosts O P C R) (shows : J → O) where
+module _ {O P C R J W : Type 0} (meaning : Ghosts O P C R) (shows : J → O) where
   -- a fault that was found stays the first
-  pub fault_stays : (d e : Fed O P C R) (f : Option Fault) (r s : Option (Replay O J P C R)) (logs news : List (KeptLog O P C R)) (room space : ℕ) → is_some f ≡ true → IsNoted meaning shows d f r logs room
+  pub fault_stays : (d e : Fed O P C R) (f : Option Fault) (r s : Option (Replay O J W P C R)) (logs news : List (KeptLog O W P C R)) (room space : ℕ) → is_some f ≡ true → IsNoted meaning shows d f r logs room
       → ((o : List (OpenedObject O P C R)) (g : Run O P C R) → IsWith meaning e o g → IsWith meaning d o g) → IsNoted meaning shows e f s news space
   fault_stays d e (Some f) r s logs news room space is noted back = λ o g h. noted o g (back o g h)
   fault_stays d e None r s logs news room space is noted back = absurd (true≢false (sym is))
 
   -- where none was found, all was right
-  pub none_found : (d : Fed O P C R) (f : Option Fault) (r : Option (Replay O J P C R)) (logs : List (KeptLog O P C R)) (room : ℕ) → is_some f ≡ false → IsNoted meaning shows d f r logs room → IsRightWith meaning shows d r logs room
+  pub none_found : (d : Fed O P C R) (f : Option Fault) (r : Option (Replay O J W P C R)) (logs : List (KeptLog O W P C R)) (room : ℕ) → is_some f ≡ false → IsNoted meaning shows d f r logs room → IsRightWith meaning shows d r logs room
   none_found d (Some f) r logs room is noted = absurd (true≢false is)
   none_found d None r logs room is noted = noted
 
-  pub still_none : (d : Fed O P C R) (f : Option Fault) (r : Option (Replay O J P C R)) (logs : List (KeptLog O P C R)) (room : ℕ) → is_some f ≡ false → IsRightWith meaning shows d r logs room → IsNoted meaning shows d f r logs room
+  pub still_none : (d : Fed O P C R) (f : Option Fault) (r : Option (Replay O J W P C R)) (logs : List (KeptLog O W P C R)) (room : ℕ) → is_some f ≡ false → IsRightWith meaning shows d r logs room → IsNoted meaning shows d f r logs room
   still_none d (Some f) r logs room is right = absurd (true≢false is)
   still_none d None r logs room is right = right
 
-  pub noted_at : {d e : Fed O P C R} {f g : Option Fault} {r s : Option (Replay O J P C R)} {logs news : List (KeptLog O P C R)} {room space : ℕ} → d ≡ e → f ≡ g → r ≡ s → logs ≡ news → room ≡ space → IsNoted meaning shows d f r logs room → IsNoted meaning shows e g s news space
-  noted_at a b c k n h = subst (λ (z : Fed O P C R × Option Fault × Option (Replay O J P C R) × List (KeptLog O P C R) × ℕ). IsNoted meaning shows z.0 z.1 z.2 z.3 z.4) (λ j. (a j, b j, c j, k j, n j)) h
+  pub noted_at : {d e : Fed O P C R} {f g : Option Fault} {r s : Option (Replay O J W P C R)} {logs news : List (KeptLog O W P C R)} {room space : ℕ} → d ≡ e → f ≡ g → r ≡ s → logs ≡ news → room ≡ space → IsNoted meaning shows d f r logs room → IsNoted meaning shows e g s news space
+  noted_at a b c k n h = subst (λ (z : Fed O P C R × Option Fault × Option (Replay O J W P C R) × List (KeptLog O W P C R) × ℕ). IsNoted meaning shows z.0 z.1 z.2 z.3 z.4) (λ j. (a j, b j, c j, k j, n j)) h
 
   -- before anything is fed
-  pub noted_nothing : (cpus objects room : ℕ) → objects ≤ room → IsRightWith meaning shows (nothing cpus objects) None [] room
+  pub noted_nothing : (cpus objects room : ℕ) → objects ≤ room → IsRightWith {W = W} meaning shows (nothing cpus objects) None [] room
   noted_nothing cpus objects room le = record {
     right = right_nothing meaning cpus objects;
     cpus = λ k e at. cc;
@@ -60,25 +60,25 @@ module _ {O P C R J : Type 0} (meaning : Ghosts O P C R) (shows : J → O) where
   }
 
   module _ (d : Fed O P C R) where
-    held_entry : (e : Entry O P C R) (r : Option (Replay O J P C R)) → IsHeld meaning shows d r → IsHeld meaning shows (entry_fed d e) r
+    held_entry : (e : Entry O P C R) (r : Option (Replay O J W P C R)) → IsHeld meaning shows d r → IsHeld meaning shows (entry_fed d e) r
     held_entry e (Some r) held = (held.0, record { opened = held.1.opened; object = held.1.object; limit = held.1.limit; log = held.1.log; state = held.1.state })
     held_entry e None held = held
 
-    held_transcript : (n : ℕ) (r : Option (Replay O J P C R)) → IsHeld meaning shows d r → IsHeld meaning shows (transcript_begun d n) r
+    held_transcript : (n : ℕ) (r : Option (Replay O J W P C R)) → IsHeld meaning shows d r → IsHeld meaning shows (transcript_begun d n) r
     held_transcript n (Some r) held = (held.0, record { opened = held.1.opened; object = held.1.object; limit = held.1.limit; log = held.1.log; state = held.1.state })
     held_transcript n None held = held
 
-    held_end : (r : Option (Replay O J P C R)) → IsHeld meaning shows d r → IsHeld meaning shows (transcript_ended d) r
+    held_end : (r : Option (Replay O J W P C R)) → IsHeld meaning shows d r → IsHeld meaning shows (transcript_ended d) r
     held_end (Some r) held = (held.0, record { opened = held.1.opened; object = held.1.object; limit = held.1.limit; log = held.1.log; state = held.1.state })
     held_end None held = held
 
-  module _ (d : Fed O P C R) (old : Option (Replay O J P C R)) (logs : List (KeptLog O P C R)) (room : ℕ) (all : IsRightWith meaning shows d old logs room) where
+  module _ (d : Fed O P C R) (old : Option (Replay O J W P C R)) (logs : List (KeptLog O W P C R)) (room : ℕ) (all : IsRightWith meaning shows d old logs room) where
     -- a log begins
     module _ (before : IsBeforeLog d) (t : OpenedObject O P C R) (n : ℕ) where
       pub too_long : (x : ℕ) → x ≡ length logs → t.limit < n → IsFaultSoFar meaning (log_begun d t n) (fault.TooLong x)
       too_long x is lt = subst (λ (k : ℕ). IsFaultSoFar meaning (log_begun d t n) (fault.TooLong k)) (sym (is ∙ all.logs.count)) (long_so_far meaning d all.right before t n lt)
 
-      pub begun : (r : Replay O J P C R) → n ≤ t.limit → shows r.object ≡ meaning.opening t.params → r.limit ≡ t.limit → r.log ≡ [] → IsRightWith meaning shows (log_begun d t n) (Some r) logs room
+      pub begun : (r : Replay O J W P C R) → n ≤ t.limit → shows r.object ≡ meaning.opening t.params → r.limit ≡ t.limit → r.log ≡ [] → IsRightWith meaning shows (log_begun d t n) (Some r) logs room
       begun r le state limit log = record {
         right = right_begun meaning d all.right before t n le;
         cpus = all.cpus;
@@ -113,7 +113,7 @@ module _ {O P C R J : Type 0} (meaning : Ghosts O P C R) (shows : J → O) where
     }
 
     -- an entry comes
-    module _ (whole : HasLogs d) (e : Entry O P C R) (l : KeptLog O P C R) (at : slice_get logs e.object ≡ Some l) where
+    module _ (whole : HasLogs d) (e : Entry O P C R) (l : KeptLog O W P C R) (at : slice_get logs e.object ≡ Some l) where
       log_here : log_in e.object d.logs ≡ l.log
       log_here = ap (λ o. unwrap_or o []) (all.logs.each e.object l at).log
 
@@ -136,7 +136,7 @@ module _ {O P C R J : Type 0} (meaning : Ghosts O P C R) (shows : J → O) where
           }
 
     -- a transcript ends
-    pub turned : (new : List (KeptLog O P C R)) → HasLogs d → length d.transcripts < d.cpus → length new ≡ length logs → ((x : ℕ) (k l : KeptLog O P C R) → slice_get logs x ≡ Some k → slice_get new x ≡ Some l → IsTurned (length d.transcripts + 1) k l) → IsRightWith meaning shows (transcript_ended d) old new room
+    pub turned : (new : List (KeptLog O W P C R)) → HasLogs d → length d.transcripts < d.cpus → length new ≡ length logs → ((x : ℕ) (k l : KeptLog O W P C R) → slice_get logs x ≡ Some k → slice_get new x ≡ Some l → IsTurned (length d.transcripts + 1) k l) → IsRightWith meaning shows (transcript_ended d) old new room
     turned new whole more same each = record {
       right = right_transcript meaning d all.right whole;
       cpus = all.cpus;
@@ -146,15 +146,15 @@ module _ {O P C R J : Type 0} (meaning : Ghosts O P C R) (shows : J → O) where
     }
 
   -- a transcript begins, whatever was found
-  pub noted_transcript : (d : Fed O P C R) (f : Option Fault) (r : Option (Replay O J P C R)) (logs : List (KeptLog O P C R)) (room n : ℕ) → HasLogs d → IsNoted meaning shows d f r logs room → IsNoted meaning shows (transcript_begun d n) f r logs room
+  pub noted_transcript : (d : Fed O P C R) (f : Option Fault) (r : Option (Replay O J W P C R)) (logs : List (KeptLog O W P C R)) (room n : ℕ) → HasLogs d → IsNoted meaning shows d f r logs room → IsNoted meaning shows (transcript_begun d n) f r logs room
   noted_transcript d (Some f) r logs room n whole noted = λ o g h. noted o g (from_transcript meaning d o g n whole h)
   noted_transcript d None r logs room n whole noted = transcript_noted d r logs room noted n whole
 
   -- where a log is being read, its replay is held
-  pub none_held : (d : Fed O P C R) (r : Option (Replay O J P C R)) (logs : List (KeptLog O P C R)) (room : ℕ) → IsRightWith meaning shows d r logs room → r ≡ None → IsInLog d → ⊥
-  none_held d r logs room all is i = subst (λ (v : Option (Replay O J P C R)). IsHeld meaning shows d v) is all.held i
+  pub none_held : (d : Fed O P C R) (r : Option (Replay O J W P C R)) (logs : List (KeptLog O W P C R)) (room : ℕ) → IsRightWith meaning shows d r logs room → r ≡ None → IsInLog d → ⊥
+  none_held d r logs room all is i = subst (λ (v : Option (Replay O J W P C R)). IsHeld meaning shows d v) is all.held i
 
-  module _ (d : Fed O P C R) (r : Replay O J P C R) (logs : List (KeptLog O P C R)) (room : ℕ) (all : IsRightWith meaning shows d (Some r) logs room) where
+  module _ (d : Fed O P C R) (r : Replay O J W P C R) (logs : List (KeptLog O W P C R)) (room : ℕ) (all : IsRightWith meaning shows d (Some r) logs room) where
     -- an event comes
     module _ (e : Event O P C R) where
       pub step_wrong : (x n k : ℕ) → x ≡ length logs → n ≡ length d.events → IsFirstWrong meaning (shows r.object) e.steps.list.items k → IsFaultSoFar meaning (event_fed d e) (fault.WrongStep x n k)
@@ -163,7 +163,7 @@ module _ {O P C R J : Type 0} (meaning : Ghosts O P C R) (shows : J → O) where
           let here : IsFirstWrong meaning (replay_from meaning (meaning.opening held.opened.params) d.events) e.steps.list.items k = subst (λ (s : O). IsFirstWrong meaning s e.steps.list.items k) held.state w in
           subst (λ (z : ℕ × ℕ). IsFaultSoFar meaning (event_fed d e) (fault.WrongStep z.0 z.1 k)) (λ j. (sym (is ∙ all.logs.count) j, sym place j)) (wrong_so_far meaning d all.right e all.held.0 held.opened held.object k here)
 
-      pub event_noted : (s : Replay O J P C R) → e.cpu < d.cpus → HasSteps e → AreRight meaning (shows r.object) e.steps.list.items (shows s.object) → s.limit ≡ r.limit → s.log ≡ r.log ++ e ∷ [] → IsRightWith meaning shows (event_fed d e) (Some s) logs room
+      pub event_noted : (s : Replay O J W P C R) → e.cpu < d.cpus → HasSteps e → AreRight meaning (shows r.object) e.steps.list.items (shows s.object) → s.limit ≡ r.limit → s.log ≡ r.log ++ e ∷ [] → IsRightWith meaning shows (event_fed d e) (Some s) logs room
       event_noted s cpu steps right limit log =
           let held = all.held.1 in
           let S = meaning.opening held.opened.params in
@@ -186,7 +186,7 @@ module _ {O P C R J : Type 0} (meaning : Ghosts O P C R) (shows : J → O) where
           }
 
     -- a log ends
-    pub ended : (new : KeptLog O P C R) → length d.events ≡ d.count → d.transcripts ≡ [] → d.entries ≡ [] → new.limit ≡ r.limit → new.log ≡ r.log → AreNextEvents d.cpus new.log new.next_events.first.items new.next_events.next.items
+    pub ended : (new : KeptLog O W P C R) → length d.events ≡ d.count → d.transcripts ≡ [] → d.entries ≡ [] → new.limit ≡ r.limit → new.log ≡ r.log → AreNextEvents d.cpus new.log new.next_events.first.items new.next_events.next.items
         → (0 < length new.next_events.first.items → new.place ≡ slice_index new.next_events.first.items 0) → new.end ≡ length new.log → IsRightWith meaning shows (log_ended d) None (logs ++ new ∷ []) room
     ended new count none idle limit log next place end =
         let held = all.held.1 in

@@ -1,7 +1,8 @@
 -- What a judge was fed so far, and how it grows.
-use Rattle.std.specs.Prelude.{ℕ, List, [], ◌∷◌, ◌++◌, length}
+use Rattle.std.specs.Prelude.{ℕ, List, [], ◌∷◌, ◌++◌, length, Option, Some, None}
 use Rattle.event_log.specs.declared.event.Event.{Event}
 use Rattle.event_log.specs.declared.event.Step.{Step}
+use Rattle.event_log.specs.declared.entry.Done.{Done}
 use Rattle.event_log.specs.declared.entry.Done.TheVariants.{Steps}
 use Rattle.event_log.specs.declared.entry.Entry.{Entry}
 use Rattle.event_log.specs.declared.entry.Run.{Run}
@@ -44,9 +45,18 @@ module _ {O P C R : Type 0} where
   abbrev pub entry_fed : Fed O P C R → Entry O P C R → Fed O P C R
   entry_fed d e = record d { entries = d.entries ++ e ∷ [] }
 
+  -- these steps were done
+  abbrev pub done_by : List (Step O P C R) → Done O P C R
+  done_by steps = Steps (record { list = record { items = steps } })
+
   -- an entry on the object whose steps were done
   abbrev pub done_entry : ℕ → ℕ → List C → List (Step O P C R) → Entry O P C R
-  done_entry object looks asked steps = record { object = object; asked = record { items = asked }; done = Steps (record { list = record { items = steps } }); looks = looks }
+  done_entry object looks asked steps = record { object = object; asked = record { items = asked }; done = done_by steps; looks = looks }
+
+  -- the entry on the object of which that is told: what was asked and what was done
+  abbrev pub told_entry : ℕ → ℕ → Option (List C × Done O P C R) → Entry O P C R
+  told_entry object looks (Some told) = record { object = object; asked = record { items = told.0 }; done = told.1; looks = looks }
+  told_entry object looks None = done_entry object looks [] []
 
   -- the transcript is whole
   abbrev pub transcript_ended : Fed O P C R → Fed O P C R

@@ -15,9 +15,9 @@ use Rattle.auditor.specs.Passes.{IsEnd}
 use Rattle.auditor.specs.SoFar.{IsInLog, IsWith, IsFaultSoFar, IsRightSoFar}
 use Rattle.auditor.specs.Transcripts.{opened_by}
 
-module _ {O P C R J : Type 0} (meaning : Ghosts O P C R) (shows : J → O) (d : Fed O P C R) where
+module _ {O P C R J W : Type 0} (meaning : Ghosts O P C R) (shows : J → O) (d : Fed O P C R) where
   -- the log that is being read
-  pub record IsReplay (r : Replay O J P C R) : Type 0 where
+  pub record IsReplay (r : Replay O J W P C R) : Type 0 where
     pub opened : OpenedObject O P C R
     pub object : slice_get d.opened (length d.logs) ≡ Some opened
     pub limit : r.limit ≡ opened.limit
@@ -25,13 +25,13 @@ module _ {O P C R J : Type 0} (meaning : Ghosts O P C R) (shows : J → O) (d : 
     pub state : shows r.object ≡ replay_from meaning (meaning.opening opened.params) d.events
 
   -- it is held where one is being read
-  abbrev pub IsHeld : Option (Replay O J P C R) → Type 0
+  abbrev pub IsHeld : Option (Replay O J W P C R) → Type 0
   IsHeld (Some r) = IsInLog d × IsReplay r
   IsHeld None = IsInLog d → ⊥
 
-module _ {O P C R : Type 0} (meaning : Ghosts O P C R) (d : Fed O P C R) where
+module _ {O P C R W : Type 0} (meaning : Ghosts O P C R) (d : Fed O P C R) where
   -- log x, whose events before the end are taken by earlier CPUs, and those of the next CPU before the place by its entries
-  pub record IsKeptLog (x : ℕ) (l : KeptLog O P C R) : Type 0 where
+  pub record IsKeptLog (x : ℕ) (l : KeptLog O W P C R) : Type 0 where
     pub opened : OpenedObject O P C R
     pub object : slice_get d.opened x ≡ Some opened
     pub limit : l.limit ≡ opened.limit
@@ -41,13 +41,13 @@ module _ {O P C R : Type 0} (meaning : Ghosts O P C R) (d : Fed O P C R) where
     pub end : (opened_objects : List (OpenedObject O P C R)) (run : Run O P C R) → IsWith meaning d opened_objects run → IsEnd meaning (opened_by opened_objects) run (length d.transcripts) x l.end
 
   -- all whole logs
-  pub record AreKeptLogs (logs : List (KeptLog O P C R)) : Type 0 where
+  pub record AreKeptLogs (logs : List (KeptLog O W P C R)) : Type 0 where
     pub count : length logs ≡ length d.logs
-    pub each : (x : ℕ) (l : KeptLog O P C R) → slice_get logs x ≡ Some l → IsKeptLog x l
+    pub each : (x : ℕ) (l : KeptLog O W P C R) → slice_get logs x ≡ Some l → IsKeptLog x l
 
-module _ {O P C R J : Type 0} (meaning : Ghosts O P C R) (shows : J → O) (d : Fed O P C R) where
+module _ {O P C R J W : Type 0} (meaning : Ghosts O P C R) (shows : J → O) (d : Fed O P C R) where
   -- nothing was found wrong
-  pub record IsRightWith (replay : Option (Replay O J P C R)) (kept : List (KeptLog O P C R)) (space : ℕ) : Type 0 where
+  pub record IsRightWith (replay : Option (Replay O J W P C R)) (kept : List (KeptLog O W P C R)) (space : ℕ) : Type 0 where
     pub right : IsRightSoFar meaning d
     pub cpus : (k : ℕ) (e : Event O P C R) → slice_get d.events k ≡ Some e → e.cpu < d.cpus
     pub held : IsHeld meaning shows d replay
@@ -55,6 +55,6 @@ module _ {O P C R J : Type 0} (meaning : Ghosts O P C R) (shows : J → O) (d : 
     pub room : d.objects ≤ space
 
   -- the first fault, or what later parts are compared with
-  abbrev pub IsNoted : Option Fault → Option (Replay O J P C R) → List (KeptLog O P C R) → ℕ → Type 0
+  abbrev pub IsNoted : Option Fault → Option (Replay O J W P C R) → List (KeptLog O W P C R) → ℕ → Type 0
   IsNoted (Some f) replay kept space = IsFaultSoFar meaning d f
   IsNoted None replay kept space = IsRightWith replay kept space

@@ -1,10 +1,10 @@
 //! A judge that is fed a run's events and entries one after the other.
 
 ghost use Rattle.event_log.specs.declared.event.Step.{Step};
-ghost use Rattle.std.specs.Prelude.{◌≡◌, ◌↔◌, ◌<◌, true, false, [], List, length, IsTrue, IfOk, IfErr, OnOk, OnErr};
+ghost use Rattle.std.specs.Prelude.{◌≡◌, ◌↔◌, ◌<◌, true, false, [], List, Some, length, IsTrue, IfOk, IfErr, OnOk, OnErr};
 ghost use Rattle.sound_run.specs.Sound.{Sound};
 ghost use Rattle.auditor.specs.Faults.{HasSteps, IsFirstFault};
-ghost use Rattle.auditor.specs.Fed.{Fed, nothing, log_begun, event_fed, log_ended, transcript_begun, entry_fed, done_entry, transcript_ended, run_of};
+ghost use Rattle.auditor.specs.Fed.{Fed, nothing, log_begun, event_fed, log_ended, transcript_begun, entry_fed, done_by, done_entry, transcript_ended, run_of};
 ghost use Rattle.auditor.specs.Passes.{IsRunOf};
 ghost use Rattle.auditor.specs.SoFar.{IsBeforeLog, IsInLog, HasLogs, IsInTranscripts};
 ghost use Rattle.auditor.specs.Transcripts.{opened_by};
@@ -113,20 +113,20 @@ impl<O: SeqObject, J: ReferenceObject<O>, R: StepRows<O>> Judged<O, J, R> {
         self.told.tell_transcript(count);
     }
 
-    /// Whether the text behind the looks of the transcript's next entry spells its CPU's next event on the object, and the event is
-    /// what was asked. Then it is fed.
+    /// Whether the text behind the looks of the transcript's next entry spells its CPU's next event on the object, and the event
+    /// is what was asked. Then it is fed.
     #[inline(always)]
     pub fn knows(&mut self, object: u8, looks: u64, tail: &[u8]) -> bool
         requires transcripts { IsInTranscripts self.old }
         requires count { length self.old.entries < self.old.count }
         requires object { object < self.old.objects }
-        ensures known { IsTrue result → (asked : List O.Call) × (steps : List (Step O O.Params O.Call O.Reply)) × R.tells tail.now asked steps × (self.new ≡ entry_fed self.old (done_entry object looks asked steps)) }
+        ensures known { IsTrue result → (asked : List O.Call) × (steps : List (Step O O.Params O.Call O.Reply)) × (R.tells tail.now ≡ Some (asked, done_by steps)) × (self.new ≡ entry_fed self.old (done_entry object looks asked steps)) }
         ensures unknown { result ≡ false → self.new ≡ self.old }
     {
         if !self.notes.knows(&self.told, object, tail) {
             return false;
         }
-        self.told.tell_known(&looks);
+        self.told.tell_known(object, looks, tail);
         true
     }
 

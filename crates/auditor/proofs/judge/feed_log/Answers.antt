@@ -18,7 +18,7 @@ event-requires g c =
     let own = c.requires.events i e (read_get log i e c.loop-event-test.true c.event-item.is) in
     let cpu = own.0 in
     let same = ap (λ (k : Fed _ _ _ _). k.cpus) c.loop-event.invariant in
-    (g.met.O.SeqObject.event_fits, (still_in_log old opened log j i c.loop-event.invariant c.requires.before, (more_events old opened log j i c.loop-event.invariant c.loop-event-test.true, (omega (arith, cpu, same), own.1))))
+    (g.met.O.SeqObject.event_fits, (still_in_log old opened log j i c.loop-event.invariant c.requires.before, (more_events old opened log j i c.loop-event.invariant c.loop-event-test.true, (omega (arith, cpu, same), (own.1, tt)))))
 
 pub loop-event-preserved : goal.loop-event-preserved
 loop-event-preserved g c = events_next c.args.judged.now c.args.opened.now c.args.log.now c.loop-event.judged c.event.new.self c.loop-event.event-index c.event-item.result c.loop-event.invariant c.loop-event-test.true c.event-item.is c.in_ok-event.ensures.ok

@@ -11,9 +11,9 @@ returns-then-kept-len g c =
     let x = c.loop-object.object in
     let kept = c.index-logs-object.result in
     let at = read_get logs x kept c.loop-object-test.true c.index-logs-object.is in
-    let end = index_map (λ (k : KeptLog _ _ _ _). k.end) logs x kept at in
+    let end = index_map (λ (k : KeptLog _ _ _ _ _). k.end) logs x kept at in
     let n = c.len.ensures in
-    left_here (map (λ (k : KeptLog _ _ _ _). k.log) logs) (map (λ (k : KeptLog _ _ _ _). k.end) logs) x kept.log (map_get (λ (k : KeptLog _ _ _ _). k.log) logs x kept at) c.loop-object.invariant kept.end (sym end) (omega (arith, n))
+    left_here (map (λ (k : KeptLog _ _ _ _ _). k.log) logs) (map (λ (k : KeptLog _ _ _ _ _). k.end) logs) x kept.log (map_get (λ (k : KeptLog _ _ _ _ _). k.log) logs x kept at) c.loop-object.invariant kept.end (sym end) (omega (arith, n))
 
 pub loop-object-preserved : goal.loop-object-preserved
 loop-object-preserved g c =
@@ -21,6 +21,6 @@ loop-object-preserved g c =
     let x = c.loop-object.object in
     let kept = c.index-logs-object.result in
     let at = read_get logs x kept c.loop-object-test.true c.index-logs-object.is in
-    let end = index_map (λ (k : KeptLog _ _ _ _). k.end) logs x kept at in
+    let end = index_map (λ (k : KeptLog _ _ _ _ _). k.end) logs x kept at in
     let n = c.len.ensures in
-    taken_more (map (λ (k : KeptLog _ _ _ _). k.log) logs) (map (λ (k : KeptLog _ _ _ _). k.end) logs) x kept.log (map_get (λ (k : KeptLog _ _ _ _). k.log) logs x kept at) c.loop-object.invariant (omega (arith, n, end))
+    taken_more (map (λ (k : KeptLog _ _ _ _ _). k.log) logs) (map (λ (k : KeptLog _ _ _ _ _). k.end) logs) x kept.log (map_get (λ (k : KeptLog _ _ _ _ _). k.log) logs x kept at) c.loop-object.invariant (omega (arith, n, end))

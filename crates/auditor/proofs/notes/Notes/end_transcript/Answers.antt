@@ -24,7 +24,7 @@ returns g c =
     let value = c.as_mut_slice.ensures.value in
     let new = c.turn_all.new.logs in
     let is : take n.logs.len (new ++ drop (length new) n.logs.items) ≡ new = refilled n.logs.len new c.as_mut_slice.result.now n.logs.items c.turn_all.ensures.count c.as_mut_slice.ensures.len in
-    subst (λ (l : List (KeptLog _ _ _ _)). IsNoted g.O.SeqObject g.J.ReferenceObject.shows (transcript_ended d) n.fault n.replay l (vec_capacity n.logs)) (sym is)
+    subst (λ (l : List (KeptLog _ _ _ _ _)). IsNoted g.O.SeqObject g.J.ReferenceObject.shows (transcript_ended d) n.fault n.replay l (vec_capacity n.logs)) (sym is)
     (still_none g.O.SeqObject g.J.ReferenceObject.shows (transcript_ended d) n.fault n.replay c.turn_all.new.logs (vec_capacity n.logs) none
     (turned g.O.SeqObject g.J.ReferenceObject.shows d n.replay n.logs.items (vec_capacity n.logs) all c.turn_all.new.logs c.requires.transcripts.logs c.requires.transcripts.cpus (c.turn_all.ensures.count ∙ ap length value)
     (λ x k l at found. subst (λ (m : ℕ). IsTurned m k l) c.next_cpu.ensures (c.turn_all.ensures.each x k l (ap (λ z. slice_get z x) value ∙ at) found))))
