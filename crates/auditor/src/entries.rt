@@ -5,10 +5,10 @@ ghost use Rattle.auditor.specs.Claims.{IsJudged};
 ghost use Rattle.auditor.specs.NextEvents.{IsAt, AreNextEvents};
 ghost use Rattle.auditor.specs.Passes.{fault_at};
 
-use crate::{Fault, StepRows};
 use crate::compare::fulfil;
 use crate::next_events::NextEvents;
 use crate::packed_log::PackedLog;
+use crate::{Fault, StepRows};
 use event_log::{Done, Entry, SeqObject};
 
 /// What can be wrong with an entry.

@@ -65,12 +65,11 @@ returns-clause-known g c = λ yes.
     let value : c.index.result.now ≡ get_or next kept.place 0 = c.index.ensures ∙ any_default next kept.place c.index.result.now 0 (omega (arith, within, long)) in
     let right = all_right cpu kept.log taken kept.place here g.O.SeqObject kept.limit (done_by steps) event.steps some refl within refl (record { items = told.0 }) next told.2 k.next_events.nexts in
     let new = c.index_mut.result.now in
-    let same : kept ≡ new = one_of kept new (slice_get n.logs.items x) at (read_get n.logs.items x new lt c.index_mut.ensures.value) in
-    (
+    let same : kept ≡ new = one_of kept new (slice_get n.logs.items x) at (read_get n.logs.items x new lt c.index_mut.ensures.value) in (
       told.0,
       steps,
       told.1,
       λ looks. still_none g.O.SeqObject g.J.ReferenceObject.shows (entry_fed d (done_entry x looks told.0 steps)) n.fault n.replay _ _ none
-      (subst (λ (v : KeptLog _ _ _ _ _). IsRightWith g.O.SeqObject g.J.ReferenceObject.shows (entry_fed d (done_entry x looks told.0 steps)) n.replay (set n.logs.items x (record v { place = c.index.result.now })) (vec_capacity n.logs)) same
-      (entry_noted g.O.SeqObject g.J.ReferenceObject.shows d n.replay n.logs.items (vec_capacity n.logs) all c.requires.transcripts.logs (done_entry x looks told.0 steps) kept at c.index.result.now right.0 (subst (λ j. IsAt cpu kept.log (taken + 1) j) (sym value) right.1))),
+          (subst (λ (v : KeptLog _ _ _ _ _). IsRightWith g.O.SeqObject g.J.ReferenceObject.shows (entry_fed d (done_entry x looks told.0 steps)) n.replay (set n.logs.items x (record v { place = c.index.result.now })) (vec_capacity n.logs)) same
+          (entry_noted g.O.SeqObject g.J.ReferenceObject.shows d n.replay n.logs.items (vec_capacity n.logs) all c.requires.transcripts.logs (done_entry x looks told.0 steps) kept at c.index.result.now right.0 (subst (λ j. IsAt cpu kept.log (taken + 1) j) (sym value) right.1))),
     )
