@@ -16,7 +16,7 @@
    - No pointer is NULL, not even where it points to nothing, and `room` and `told` are aligned as C aligns them, to 8 bytes.
    - Each size is right, 0 too, if what it counts has at most PTRDIFF_MAX bytes. No array of C has more.
 
-   The functions keep nothing between two calls, so several threads may call them at once. A call takes at most 5,120 bytes of
+   The functions keep nothing between two calls, so several threads may call them at once. A call takes at most 6,144 bytes of
    stack, and of memory at one time at most 4 bytes for each byte of the text, and 300,000 more. All of it is given back before
    the call returns. tools/check/metal and tools/check/judge_c hold the calls to these figures, which aren't proved. */
 #ifndef MC2_JUDGE_H
