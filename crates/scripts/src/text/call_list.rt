@@ -11,7 +11,7 @@ use arrayvec::ArrayVec;
 use event_log::{MOST_CALLS, Step};
 
 /// What lines have lists of.
-pub(crate) trait ListItem: Default + Drop {
+pub trait ListItem: Default + Drop {
     ghost use Rattle.std.specs.Prelude.{ℕ, List, Option};
 
     /// The item that is next, and the words behind it.
@@ -50,7 +50,7 @@ impl ListItem for Step<KernelObject> {
 
 /// Puts 1 to 8 items, each but the first behind a semicolon, into an empty list, and answers the words behind them.
 #[inline(always)]
-pub(crate) fn list<'a, T: ListItem>(
+pub fn list<'a, T: ListItem>(
     at: Words<'a>,
     items: &mut ArrayVec<T, MOST_CALLS>,
 ) -> Option<Words<'a>>

@@ -24,7 +24,7 @@ fn makes_name(first: u8, others: &[u8]) -> bool
 }
 
 /// Whether the bytes are a name: a lower-case letter, and then such letters or digits, 1 to 16 bytes.
-pub(crate) fn is_name(bytes: &[u8]) -> bool
+pub fn is_name(bytes: &[u8]) -> bool
     ensures { result ≡ is_name bytes.now }
 {
     match bytes.split_first() {
@@ -46,7 +46,7 @@ pub(crate) fn name_of(text: &str) -> Option<ArrayString<16>>
 }
 
 /// The bytes as text, if they are a name.
-pub(crate) fn name_in(bytes: &[u8]) -> Option<ArrayString<16>>
+pub fn name_in(bytes: &[u8]) -> Option<ArrayString<16>>
     ensures { option_map (λ x. x.bytes) result ≡ if is_name bytes.now then Some bytes.now else None }
 {
     match std::str::from_utf8(bytes) {

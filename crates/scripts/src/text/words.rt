@@ -49,7 +49,7 @@ fn behind(bytes: &[u8]) -> Option<Words<'_>>
 
 /// What follows the byte, if a word of it alone is next.
 #[inline(always)]
-pub(crate) fn mark(mark: u8, at: Words<'_>) -> Option<Words<'_>>
+pub fn mark(mark: u8, at: Words<'_>) -> Option<Words<'_>>
     ensures { option_map left result ≡ key_at (mark ∷ []) (left at.entry) }
 {
     let (first, rest) = at?.split_first()?;

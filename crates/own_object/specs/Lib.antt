@@ -1,0 +1,6 @@
+pub mod Said
+pub mod Own
+pub mod Settings
+pub mod Ranges
+pub mod Keeping
+pub mod Padding
