@@ -1,6 +1,7 @@
 //! What is said: a word, and the numbers behind it.
 
 ghost use Rattle.std.specs.Prelude.{◌≡◌, ◌≤◌, ◌<◌, ◌++◌, ◌∷◌, [], length};
+ghost use Rattle.own_object.specs.Said.{padded};
 
 use std::marker::Model;
 
@@ -71,5 +72,19 @@ impl Spoken {
         ensures { result.now ≡ self.now.numbers }
     {
         &self.values[..self.value_count as usize]
+    }
+
+    /// The word, with zeros behind it.
+    pub fn letters(&self) -> [u8; MOST_LETTERS]
+        ensures { result ≡ padded MOST_LETTERS self.now.word }
+    {
+        self.letters
+    }
+
+    /// The numbers, with zeros behind them.
+    pub fn values(&self) -> [u64; MOST_NUMBERS]
+        ensures { result ≡ padded MOST_NUMBERS self.now.numbers }
+    {
+        self.values
     }
 }
