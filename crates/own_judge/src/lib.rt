@@ -1,0 +1,6 @@
+//! Judges records of objects whose kinds are the writer's own: sound, or the first fault, by how many steps of each log are right.
+#![tactic(auto)]
+
+mod answered;
+
+pub use answered::{Answer, Answered, Told};
