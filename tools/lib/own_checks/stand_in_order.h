@@ -1,0 +1,154 @@
+/* One order of a sound record's entries, or a cycle. Each place goes to the least CPU whose next entry can come. */
+#ifndef STAND_IN_ORDER_H
+#define STAND_IN_ORDER_H
+
+#include "stand_in.h"
+
+enum { SET_WORDS = MC2_OWN_CPUS / 64 };
+
+/* A set of CPUs. */
+struct set {
+    uint64_t bits[SET_WORDS];
+};
+
+struct front {
+    /* How many entries of each CPU were placed, and how many events of each object. */
+    uint64_t at[MC2_OWN_CPUS], placed[MC2_OWN_OBJECTS];
+    /* Whose next entry can come, and who waits until an object's log is at its end. */
+    struct set ready, waiting[MC2_OWN_OBJECTS];
+};
+
+static void tell(struct mc2_told *told, uint32_t kind, uint64_t first, uint64_t second, uint64_t third) {
+    told->kind = kind;
+    told->first = first;
+    told->second = second;
+    told->third = third;
+}
+
+static void add(struct set *set, uint32_t cpu) { set->bits[cpu / 64] |= (uint64_t)1 << cpu % 64; }
+
+static void add_all(struct set *set, const struct set *more) {
+    for (uint32_t at = 0; at < SET_WORDS; at++)
+        set->bits[at] |= more->bits[at];
+}
+
+/* Takes the least, or says that there is none. */
+static uint32_t take_least(struct set *set) {
+    uint32_t at = 0;
+    while (at < SET_WORDS && set->bits[at] == 0)
+        at++;
+    if (at == SET_WORDS)
+        return MC2_OWN_CPUS;
+    uint32_t bit = (uint32_t)__builtin_ctzll(set->bits[at]);
+    set->bits[at] &= set->bits[at] - 1;
+    return 64 * at + bit;
+}
+
+/* The CPU's next entry. */
+static bool next_entry(const struct record *r, const struct front *front, uint32_t cpu, uint16_t *entry) {
+    size_t at = r->firsts[cpu] + front->at[cpu];
+    *entry = at < r->firsts[cpu + 1] ? r->entries[at] : 0;
+    return at < r->firsts[cpu + 1];
+}
+
+/* The CPU of the object's next event, or that of no CPU. */
+static uint32_t next_of(const struct record *r, const struct front *front, uint32_t x) {
+    size_t at = r->begins[x] + front->placed[x];
+    return at < r->begins[x + 1] ? r->events[at].cpu : MC2_OWN_CPUS;
+}
+
+/* The CPU's next entry can come, or waits for its object. */
+static void look(const struct record *r, struct front *front, uint32_t cpu) {
+    uint16_t entry;
+    if (!next_entry(r, front, cpu, &entry))
+        return;
+    uint32_t x = entry % NO_ROOM_BIT, next = next_of(r, front, x);
+    bool has_no_room = entry & NO_ROOM_BIT;
+    if (next == (has_no_room ? MC2_OWN_CPUS : cpu))
+        add(&front->ready, cpu);
+    else if (has_no_room)
+        add(&front->waiting[x], cpu);
+}
+
+/* Places the CPU's next entry, and looks who can come now. */
+static void place(const struct record *r, struct front *front, uint32_t cpu) {
+    uint16_t entry, other;
+    next_entry(r, front, cpu, &entry);
+    front->at[cpu]++;
+    if (!(entry & NO_ROOM_BIT)) {
+        front->placed[entry]++;
+        uint32_t next = next_of(r, front, entry);
+        if (next == MC2_OWN_CPUS)
+            add_all(&front->ready, &front->waiting[entry]);
+        else if (next != cpu && next_entry(r, front, next, &other) && other == entry)
+            add(&front->ready, next);
+    }
+    look(r, front, cpu);
+}
+
+static size_t put_in_order(const struct record *r, struct front *front, uint8_t *order) {
+    size_t count = 0;
+    for (uint32_t cpu = 0; cpu < r->cpus; cpu++)
+        look(r, front, cpu);
+    for (uint32_t cpu = take_least(&front->ready); cpu < MC2_OWN_CPUS; cpu = take_least(&front->ready)) {
+        order[count++] = (uint8_t)cpu;
+        place(r, front, cpu);
+    }
+    return count;
+}
+
+/* Whom the CPU waits for, which has an entry left. */
+static uint32_t waits_for(const struct record *r, const struct front *front, uint32_t cpu) {
+    uint16_t entry;
+    next_entry(r, front, cpu, &entry);
+    return next_of(r, front, entry % NO_ROOM_BIT);
+}
+
+/* The least CPU of the cycle that is found from the least CPU with entries left. After as many steps as there are CPUs it is
+   one of the cycle's. */
+static uint32_t least_of_cycle(const struct record *r, const struct front *front) {
+    uint16_t entry;
+    uint32_t cpu = 0;
+    while (!next_entry(r, front, cpu, &entry))
+        cpu++;
+    for (uint32_t it = 0; it < r->cpus; it++)
+        cpu = waits_for(r, front, cpu);
+    uint32_t least = cpu;
+    for (uint32_t it = waits_for(r, front, cpu); it != cpu; it = waits_for(r, front, it))
+        least = it < least ? it : least;
+    return least;
+}
+
+static void tell_cycle(const struct record *r, const struct front *front, struct mc2_turn *room, size_t turns,
+                       struct mc2_told *told) {
+    uint32_t least = least_of_cycle(r, front), cpu = least, count = 1;
+    while ((cpu = waits_for(r, front, cpu)) != least)
+        count++;
+    tell(told, count > turns ? MC2_NO_ROOM : MC2_CYCLE, count, 0, 0);
+    for (uint32_t at = 0; at < count && count <= turns; at++, cpu = waits_for(r, front, cpu)) {
+        room[at].cpu = cpu;
+        room[at].entry = front->at[cpu];
+    }
+}
+
+static void tell_whole(const struct record *r, const uint8_t *order, struct mc2_turn *room, size_t turns,
+                       struct mc2_told *told) {
+    uint64_t at[MC2_OWN_CPUS] = {0};
+    tell(told, r->entry_count > turns ? MC2_NO_ROOM : MC2_SOUND, r->entry_count, 0, 0);
+    for (size_t n = 0; n < r->entry_count && r->entry_count <= turns; n++) {
+        room[n].cpu = order[n];
+        room[n].entry = at[order[n]]++;
+    }
+}
+
+/* `order` has a place for each entry. */
+static void tell_order(const struct record *r, uint8_t *order, struct mc2_turn *room, size_t turns, struct mc2_told *told) {
+    struct front front;
+    memset(&front, 0, sizeof front);
+    if (put_in_order(r, &front, order) == r->entry_count)
+        tell_whole(r, order, room, turns, told);
+    else
+        tell_cycle(r, &front, room, turns, told);
+}
+
+#endif
