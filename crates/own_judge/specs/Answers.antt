@@ -2,6 +2,7 @@
 use Rattle.std.specs.Prelude.{Bool, true, false}
 use Rattle.event_log.specs.declared.object.SeqObject.{Ghosts}
 use Rattle.event_log.specs.declared.event.Step.{Step}
+use Rattle.event_log.specs.declared.event.Steps.{Steps}
 use Rattle.event_log.specs.declared.event.Event.{Event}
 use Rattle.event_log.specs.declared.entry.Done.{Done}
 use Rattle.event_log.specs.declared.entry.Entry.{Entry}
@@ -36,6 +37,10 @@ answered = record { in_range = answered_in_range; opening = answered_opening; an
 -- a call with its answer
 abbrev pub ToldStep : Type 0
 ToldStep = Step Answered (Unit {0}) Told Answer
+
+-- the steps of an event
+abbrev pub ToldSteps : Type 0
+ToldSteps = Steps Answered (Unit {0}) Told Answer
 
 -- what one CPU did in one go
 abbrev pub ToldEvent : Type 0

@@ -1,2 +1,4 @@
 pub mod Answers
 pub mod Padding
+pub mod Translated
+pub mod Models
