@@ -1,2 +1,3 @@
 pub mod ToldLogs
 pub mod ToldEntries
+pub mod ToldRuns
