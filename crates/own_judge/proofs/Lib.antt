@@ -1,3 +1,4 @@
 pub mod ToldLogs
 pub mod ToldEntries
 pub mod ToldRuns
+pub mod FirstFaults
