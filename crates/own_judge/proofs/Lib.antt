@@ -2,3 +2,4 @@ pub mod ToldLogs
 pub mod ToldEntries
 pub mod ToldRuns
 pub mod FirstFaults
+pub mod SoundRuns
