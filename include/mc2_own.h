@@ -75,12 +75,11 @@ enum mc2_own_kind {
 
 /* A call or a reply. */
 struct mc2_own_said {
-    /* Where its word begins in the text, and the length of the word. */
-    uint64_t word;
-    uint32_t word_length;
-    /* How many numbers stand behind the word, and these. */
-    uint32_t count;
+    /* Its word, with zeros behind it: a word of 16 letters has none. */
+    uint8_t word[16];
+    /* The numbers behind the word, of which there are `count`. */
     uint64_t numbers[6];
+    uint64_t count;
 };
 
 /* A call, and the reply to it. */
@@ -88,7 +87,7 @@ struct mc2_own_step {
     struct mc2_own_said call, reply;
 };
 
-/* A line. What isn't told of its kind isn't to be read. */
+/* A line. What is not said of its kind here is not told of it. */
 struct mc2_own_line {
     /* One of mc2_own_kind. */
     uint32_t kind;
@@ -98,16 +97,12 @@ struct mc2_own_line {
     uint64_t next;
     /* Of an object EVENTS, the most events of its log; of a log K, how many lines of events follow. */
     uint64_t limit;
-    /* Of an object and of a log: where its name begins in the text, and the length of the name. */
-    uint64_t name;
-    uint32_t name_length;
-    /* Of an object: where the word for its lock begins, and the length of that; the same of its kind. */
-    uint32_t lock_length;
-    uint64_t lock;
-    uint64_t object_kind;
-    uint32_t kind_length;
-    /* How many numbers an object has, or an event steps, and these. */
-    uint32_t count;
+    /* How many numbers an object has, or an event steps. */
+    uint64_t count;
+    /* Of an object and of a log: its name, with zeros behind it. */
+    uint8_t name[16];
+    /* Of an object: its kind, likewise. */
+    uint8_t object_kind[16];
     uint64_t numbers[32];
     struct mc2_own_step steps[8];
 };
@@ -133,33 +128,31 @@ void mc2_own_merge(const uint8_t *text, size_t length, const uint64_t *right, si
    A model is a state that is told what was called and what was answered, and says whether the object may have answered so. It
    may let many answers pass, or none. What is right leads it to its next state. One thing is asked of it: what it says hangs on
    the numbers of its opening and on the steps that it was told since, and on nothing else. If call and reply don't tell the
-   next state, let the model keep all states that are possible, and call a step wrong that leaves none.
-
-   `text` is the record's, in which words are known by their places: mc2_own_is compares one. */
+   next state, let the model keep all states that are possible, and call a step wrong that leaves none. */
 struct mc2_model {
     /* The word that a record has for this kind of object. */
     const char *kind;
     /* The state at the first event, or NULL: no object has these numbers, or there is no memory. */
-    void *(*open)(const uint64_t *numbers, uint32_t count);
+    void *(*open)(const uint64_t *numbers, uint64_t count);
     /* NULL if the step is right, and else why it isn't, in a few words of yours. The model is closed after a wrong step. */
-    const char *(*step)(void *state, const char *text, const struct mc2_own_step *step);
+    const char *(*step)(void *state, const struct mc2_own_step *step);
     void (*close)(void *state);
     /* May be NULL. Prints into `out`, of `room` bytes with the 0 at the end, what would have been right in place of the reply.
        */
-    void (*says)(void *state, const char *text, const struct mc2_own_said *call, char *out, size_t room);
+    void (*says)(void *state, const struct mc2_own_said *call, char *out, size_t room);
 };
 
-/* Whether the bytes of the text are that word. */
-static inline bool mc2_own_is_word(const char *text, uint64_t at, uint32_t length, const char *word) {
-    uint32_t same = 0;
-    while (same < length && word[same] && text[at + same] == word[same])
+/* Whether that is the word. */
+static inline bool mc2_own_is_word(const uint8_t *padded, const char *word) {
+    size_t same = 0;
+    while (same < MC2_OWN_LETTERS && word[same] && padded[same] == (uint8_t)word[same])
         same++;
-    return same == length && !word[same];
+    return !word[same] && (same == MC2_OWN_LETTERS || !padded[same]);
 }
 
 /* Whether it is that word, with so many numbers. */
-static inline bool mc2_own_is(const char *text, const struct mc2_own_said *said, const char *word, uint32_t numbers) {
-    return said->count == numbers && mc2_own_is_word(text, said->word, said->word_length, word);
+static inline bool mc2_own_is(const struct mc2_own_said *said, const char *word, uint64_t numbers) {
+    return said->count == numbers && mc2_own_is_word(said->word, word);
 }
 
 /* Where the lines of the objects and of their logs begin, and how many steps of each log are right. */
@@ -198,19 +191,18 @@ static inline void mc2_own_find(const uint8_t *text, size_t length, struct mc2_o
 }
 
 /* The model of the object whose line that is, or NULL. */
-static inline const struct mc2_model *mc2_own_model(const uint8_t *text, const struct mc2_own_line *object,
-                                                    const struct mc2_model *models, size_t count) {
+static inline const struct mc2_model *mc2_own_model(const struct mc2_own_line *object, const struct mc2_model *models,
+                                                    size_t count) {
     size_t at = 0;
-    while (at < count && !mc2_own_is_word((const char *)text, object->object_kind, object->kind_length, models[at].kind))
+    while (at < count && !mc2_own_is_word(object->object_kind, models[at].kind))
         at++;
     return at < count ? &models[at] : NULL;
 }
 
 /* How many steps of the event are right, from the first on. */
-static inline uint32_t mc2_own_count_steps(const uint8_t *text, const struct mc2_own_line *event, const struct mc2_model *model,
-                                           void *state) {
-    uint32_t right = 0;
-    while (right < event->count && !model->step(state, (const char *)text, &event->steps[right]))
+static inline uint64_t mc2_own_count_steps(const struct mc2_own_line *event, const struct mc2_model *model, void *state) {
+    uint64_t right = 0;
+    while (right < event->count && !model->step(state, &event->steps[right]))
         right++;
     return right;
 }
@@ -219,13 +211,12 @@ static inline uint32_t mc2_own_count_steps(const uint8_t *text, const struct mc2
 static inline uint64_t mc2_own_count(const uint8_t *text, size_t length, size_t log, const struct mc2_model *model,
                                      void *state) {
     struct mc2_own_line line;
-    uint64_t right = 0;
-    uint32_t in_event = 0;
+    uint64_t right = 0, in_event = 0;
     mc2_own_line(text, length, log, &line);
     bool goes_on = line.kind == MC2_OWN_LOG;
     while (goes_on) {
         mc2_own_line(text, length, (size_t)line.next, &line);
-        in_event = line.kind == MC2_OWN_EVENT ? mc2_own_count_steps(text, &line, model, state) : 0;
+        in_event = line.kind == MC2_OWN_EVENT ? mc2_own_count_steps(&line, model, state) : 0;
         goes_on = line.kind == MC2_OWN_EVENT && in_event == line.count;
         right += in_event;
     }
@@ -238,7 +229,7 @@ static inline bool mc2_own_ask(const uint8_t *text, size_t length, const struct 
                                struct mc2_own_asked *asked, size_t object) {
     struct mc2_own_line line;
     mc2_own_line(text, length, (size_t)asked->object[object], &line);
-    const struct mc2_model *model = mc2_own_model(text, &line, models, count);
+    const struct mc2_model *model = mc2_own_model(&line, models, count);
     void *state = model ? model->open(line.numbers, line.count) : NULL;
     asked->right[object] = state ? mc2_own_count(text, length, (size_t)asked->log[object], model, state) : 0;
     if (state)
@@ -281,27 +272,22 @@ static inline void mc2_own_judge(const uint8_t *text, size_t length, const struc
 #endif
 
 MC2_HAS(mc2_own_said, word, 0);
-MC2_HAS(mc2_own_said, word_length, 8);
-MC2_HAS(mc2_own_said, count, 12);
 MC2_HAS(mc2_own_said, numbers, 16);
-MC2_HAS_SIZE(mc2_own_said, 64);
+MC2_HAS(mc2_own_said, count, 64);
+MC2_HAS_SIZE(mc2_own_said, 72);
 MC2_HAS(mc2_own_step, call, 0);
-MC2_HAS(mc2_own_step, reply, 64);
-MC2_HAS_SIZE(mc2_own_step, 128);
+MC2_HAS(mc2_own_step, reply, 72);
+MC2_HAS_SIZE(mc2_own_step, 144);
 MC2_HAS(mc2_own_line, kind, 0);
 MC2_HAS(mc2_own_line, cpu, 4);
 MC2_HAS(mc2_own_line, next, 8);
 MC2_HAS(mc2_own_line, limit, 16);
-MC2_HAS(mc2_own_line, name, 24);
-MC2_HAS(mc2_own_line, name_length, 32);
-MC2_HAS(mc2_own_line, lock_length, 36);
-MC2_HAS(mc2_own_line, lock, 40);
+MC2_HAS(mc2_own_line, count, 24);
+MC2_HAS(mc2_own_line, name, 32);
 MC2_HAS(mc2_own_line, object_kind, 48);
-MC2_HAS(mc2_own_line, kind_length, 56);
-MC2_HAS(mc2_own_line, count, 60);
 MC2_HAS(mc2_own_line, numbers, 64);
 MC2_HAS(mc2_own_line, steps, 320);
-MC2_HAS_SIZE(mc2_own_line, 1344);
+MC2_HAS_SIZE(mc2_own_line, 1472);
 
 #undef MC2_HAS
 #undef MC2_HAS_SIZE

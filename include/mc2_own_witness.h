@@ -10,8 +10,7 @@
 
 /* A step: where its line begins, which event of its log that is, and which step of that, from 0. */
 struct mc2_own_place {
-    uint64_t line, event;
-    uint32_t step;
+    uint64_t line, event, step;
 };
 
 /* The steps that are kept. The last is the wrong one, and not counted. */
@@ -37,7 +36,7 @@ static inline struct mc2_own_trial mc2_own_try(const uint8_t *text, size_t lengt
     trial.text = text;
     trial.length = length;
     mc2_own_line(text, length, (size_t)asked->object[object], &trial.object);
-    trial.model = mc2_own_model(text, &trial.object, models, count);
+    trial.model = mc2_own_model(&trial.object, models, count);
     return trial;
 }
 
@@ -79,7 +78,7 @@ static inline size_t mc2_own_tell(const struct mc2_own_trial *trial, void *state
         if (read == 0 || read != steps[at].line)
             mc2_own_line(trial->text, trial->length, (size_t)steps[at].line, &line);
         read = steps[at].line;
-        why = trial->model->step(state, (const char *)trial->text, &line.steps[steps[at].step]);
+        why = trial->model->step(state, &line.steps[steps[at].step]);
         at = why ? at : at + 1 == from ? to : at + 1;
     }
     return at;
@@ -97,7 +96,7 @@ static inline const char *mc2_own_reason(const struct mc2_own_trial *trial, stru
     witness->left -= witness->left < asked ? witness->left : asked;
     if (state && mc2_own_tell(trial, state, witness->steps, witness->count, from, to) == witness->count) {
         mc2_own_line(trial->text, trial->length, (size_t)last->line, &line);
-        why = trial->model->step(state, (const char *)trial->text, &line.steps[last->step]);
+        why = trial->model->step(state, &line.steps[last->step]);
     }
     if (state)
         trial->model->close(state);
@@ -155,7 +154,7 @@ static inline void mc2_own_say(const struct mc2_own_trial *trial, const struct m
         out[0] = 0;
     if (state && mc2_own_tell(trial, state, steps, right, 0, 0) == right) {
         mc2_own_line(trial->text, trial->length, (size_t)steps[right].line, &line);
-        trial->model->says(state, (const char *)trial->text, &line.steps[steps[right].step].call, out, room);
+        trial->model->says(state, &line.steps[steps[right].step].call, out, room);
     }
     if (state)
         trial->model->close(state);

@@ -27,7 +27,7 @@ struct runq {
     bool waits[RUNQ_THREADS];
 };
 
-static void *runq_open(const uint64_t *numbers, uint32_t count) {
+static void *runq_open(const uint64_t *numbers, uint64_t count) {
     struct runq *q = count == 1 && numbers[0] <= RUNQ_THREADS ? (struct runq *)calloc(1, sizeof *q) : NULL;
     if (q)
         q->threads = numbers[0];
@@ -64,26 +64,26 @@ static const char *runq_take(struct runq *q, uint64_t thread) {
     return NULL;
 }
 
-static const char *runq_step(void *state, const char *text, const struct mc2_own_step *step) {
+static const char *runq_step(void *state, const struct mc2_own_step *step) {
     struct runq *q = (struct runq *)state;
     const uint64_t *in = step->call.numbers;
-    if (mc2_own_is(text, &step->call, "put", 2) && mc2_own_is(text, &step->reply, "ok", 0))
+    if (mc2_own_is(&step->call, "put", 2) && mc2_own_is(&step->reply, "ok", 0))
         return runq_put(q, in[0], in[1]);
-    if (!mc2_own_is(text, &step->call, "take", 0))
+    if (!mc2_own_is(&step->call, "take", 0))
         return NO_SUCH_CALL;
-    if (mc2_own_is(text, &step->reply, "empty", 0))
+    if (mc2_own_is(&step->reply, "empty", 0))
         return q->waiting == 0 ? NULL : "a thread waits";
-    return mc2_own_is(text, &step->reply, "thread", 1) ? runq_take(q, step->reply.numbers[0]) : NO_SUCH_CALL;
+    return mc2_own_is(&step->reply, "thread", 1) ? runq_take(q, step->reply.numbers[0]) : NO_SUCH_CALL;
 }
 
-static void runq_says(void *state, const char *text, const struct mc2_own_said *call, char *out, size_t room) {
+static void runq_says(void *state, const struct mc2_own_said *call, char *out, size_t room) {
     struct runq *q = (struct runq *)state;
     uint64_t first = runq_first(q);
-    if (mc2_own_is(text, call, "put", 2) && call->numbers[0] < q->threads && !q->waits[call->numbers[0]])
+    if (mc2_own_is(call, "put", 2) && call->numbers[0] < q->threads && !q->waits[call->numbers[0]])
         snprintf(out, room, "ok");
-    else if (mc2_own_is(text, call, "take", 0) && q->waiting == 0)
+    else if (mc2_own_is(call, "take", 0) && q->waiting == 0)
         snprintf(out, room, "empty");
-    else if (mc2_own_is(text, call, "take", 0))
+    else if (mc2_own_is(call, "take", 0))
         snprintf(out, room, "thread %llu, or another that waits with priority %llu", wide(first), wide(q->priority[first]));
 }
 
@@ -108,7 +108,7 @@ struct buddy {
     uint8_t given[1 << BUDDY_HEIGHT];
 };
 
-static void *buddy_open(const uint64_t *numbers, uint32_t count) {
+static void *buddy_open(const uint64_t *numbers, uint64_t count) {
     struct buddy *b = count == 1 && numbers[0] <= BUDDY_HEIGHT ? (struct buddy *)calloc(1, sizeof *b) : NULL;
     if (!b)
         return NULL;
@@ -150,16 +150,16 @@ static void buddy_mark(struct buddy *b, uint64_t page, uint32_t order, bool give
     buddy_count(b, page, order, gives);
 }
 
-static const char *buddy_alloc(struct buddy *b, uint64_t order, const char *text, const struct mc2_own_said *reply) {
+static const char *buddy_alloc(struct buddy *b, uint64_t order, const struct mc2_own_said *reply) {
     bool is_order = order <= b->height;
-    if (mc2_own_is(text, reply, "badorder", 0))
+    if (mc2_own_is(reply, "badorder", 0))
         return is_order ? "there are blocks of this order" : NULL;
     if (!is_order)
         return "there is no such order";
-    if (mc2_own_is(text, reply, "none", 0))
+    if (mc2_own_is(reply, "none", 0))
         return b->free_blocks[order] == 0 ? NULL : "a block of this order is free";
     uint64_t page = reply->numbers[0];
-    if (!mc2_own_is(text, reply, "page", 1) || page >> b->height || page % (1u << order))
+    if (!mc2_own_is(reply, "page", 1) || page >> b->height || page % (1u << order))
         return "no block of this order begins there";
     if (!buddy_is_free(b, page, (uint32_t)order))
         return "the block, or a part of it, is given";
@@ -167,23 +167,23 @@ static const char *buddy_alloc(struct buddy *b, uint64_t order, const char *text
     return NULL;
 }
 
-static const char *buddy_free(struct buddy *b, uint64_t page, const char *text, const struct mc2_own_said *reply) {
+static const char *buddy_free(struct buddy *b, uint64_t page, const struct mc2_own_said *reply) {
     bool is_given = page >> b->height == 0 && b->given[page] > 0;
-    if (mc2_own_is(text, reply, "notgiven", 0))
+    if (mc2_own_is(reply, "notgiven", 0))
         return is_given ? "a block that begins there is given" : NULL;
-    if (!is_given || !mc2_own_is(text, reply, "ok", 0))
+    if (!is_given || !mc2_own_is(reply, "ok", 0))
         return "no block that begins there is given";
     buddy_mark(b, page, b->given[page] - 1u, false);
     return NULL;
 }
 
-static const char *buddy_step(void *state, const char *text, const struct mc2_own_step *step) {
+static const char *buddy_step(void *state, const struct mc2_own_step *step) {
     struct buddy *b = (struct buddy *)state;
-    if (mc2_own_is(text, &step->call, "alloc", 1))
-        return buddy_alloc(b, step->call.numbers[0], text, &step->reply);
-    if (mc2_own_is(text, &step->call, "free", 1))
-        return buddy_free(b, step->call.numbers[0], text, &step->reply);
-    if (!mc2_own_is(text, &step->call, "left", 0) || !mc2_own_is(text, &step->reply, "count", 1))
+    if (mc2_own_is(&step->call, "alloc", 1))
+        return buddy_alloc(b, step->call.numbers[0], &step->reply);
+    if (mc2_own_is(&step->call, "free", 1))
+        return buddy_free(b, step->call.numbers[0], &step->reply);
+    if (!mc2_own_is(&step->call, "left", 0) || !mc2_own_is(&step->reply, "count", 1))
         return NO_SUCH_CALL;
     return step->reply.numbers[0] == b->left ? NULL : "another number of pages is free";
 }
@@ -196,18 +196,18 @@ static uint64_t buddy_first(const struct buddy *b, uint32_t order) {
     return page;
 }
 
-static void buddy_says(void *state, const char *text, const struct mc2_own_said *call, char *out, size_t room) {
+static void buddy_says(void *state, const struct mc2_own_said *call, char *out, size_t room) {
     struct buddy *b = (struct buddy *)state;
     uint64_t number = call->numbers[0];
-    if (mc2_own_is(text, call, "left", 0))
+    if (mc2_own_is(call, "left", 0))
         snprintf(out, room, "count %u", b->left);
-    else if (mc2_own_is(text, call, "free", 1))
+    else if (mc2_own_is(call, "free", 1))
         snprintf(out, room, "%s", number >> b->height == 0 && b->given[number] > 0 ? "ok" : "notgiven");
-    else if (mc2_own_is(text, call, "alloc", 1) && number > b->height)
+    else if (mc2_own_is(call, "alloc", 1) && number > b->height)
         snprintf(out, room, "badorder");
-    else if (mc2_own_is(text, call, "alloc", 1) && b->free_blocks[number] == 0)
+    else if (mc2_own_is(call, "alloc", 1) && b->free_blocks[number] == 0)
         snprintf(out, room, "none");
-    else if (mc2_own_is(text, call, "alloc", 1))
+    else if (mc2_own_is(call, "alloc", 1))
         snprintf(out, room, b->free_blocks[number] == 1 ? "page %llu" : "page %llu, or another free block of this order",
                  wide(buddy_first(b, (uint32_t)number)));
 }
@@ -227,7 +227,7 @@ struct pipe {
     uint8_t bytes[PIPE_BYTES];
 };
 
-static void *pipe_open(const uint64_t *numbers, uint32_t count) {
+static void *pipe_open(const uint64_t *numbers, uint64_t count) {
     bool is_right = count == 2 && numbers[0] >= 1 && numbers[0] <= PIPE_BYTES;
     struct pipe *p = is_right ? (struct pipe *)calloc(1, sizeof *p) : NULL;
     if (p) {
@@ -237,12 +237,11 @@ static void *pipe_open(const uint64_t *numbers, uint32_t count) {
     return p;
 }
 
-static const char *pipe_write(struct pipe *p, uint64_t byte, uint64_t count, const char *text,
-                              const struct mc2_own_said *reply) {
+static const char *pipe_write(struct pipe *p, uint64_t byte, uint64_t count, const struct mc2_own_said *reply) {
     uint64_t room = p->room - p->count, least = count <= p->whole ? count : 1, wrote = reply->numbers[0];
-    if (mc2_own_is(text, reply, "full", 0))
+    if (mc2_own_is(reply, "full", 0))
         return room < least ? NULL : "there is room";
-    if (!mc2_own_is(text, reply, "wrote", 1) || wrote > count)
+    if (!mc2_own_is(reply, "wrote", 1) || wrote > count)
         return "there is no such reply";
     if (wrote < least)
         return "it may write all or nothing";
@@ -260,11 +259,11 @@ static uint64_t pipe_sum(const struct pipe *p, uint64_t count) {
     return sum;
 }
 
-static const char *pipe_read(struct pipe *p, uint64_t count, const char *text, const struct mc2_own_said *reply) {
+static const char *pipe_read(struct pipe *p, uint64_t count, const struct mc2_own_said *reply) {
     uint64_t got = reply->numbers[0];
-    if (mc2_own_is(text, reply, "empty", 0))
+    if (mc2_own_is(reply, "empty", 0))
         return p->count == 0 ? NULL : "bytes wait";
-    if (!mc2_own_is(text, reply, "got", 2) || got < 1 || got > count)
+    if (!mc2_own_is(reply, "got", 2) || got < 1 || got > count)
         return "there is no such reply";
     if (got > p->count)
         return "fewer bytes wait";
@@ -275,17 +274,17 @@ static const char *pipe_read(struct pipe *p, uint64_t count, const char *text, c
     return NULL;
 }
 
-static const char *pipe_step(void *state, const char *text, const struct mc2_own_step *step) {
+static const char *pipe_step(void *state, const struct mc2_own_step *step) {
     struct pipe *p = (struct pipe *)state;
     const uint64_t *in = step->call.numbers;
-    if (mc2_own_is(text, &step->call, "write", 2))
-        return pipe_write(p, in[0], in[1], text, &step->reply);
-    return mc2_own_is(text, &step->call, "read", 1) ? pipe_read(p, in[0], text, &step->reply) : NO_SUCH_CALL;
+    if (mc2_own_is(&step->call, "write", 2))
+        return pipe_write(p, in[0], in[1], &step->reply);
+    return mc2_own_is(&step->call, "read", 1) ? pipe_read(p, in[0], &step->reply) : NO_SUCH_CALL;
 }
 
-static void pipe_says(void *state, const char *text, const struct mc2_own_said *call, char *out, size_t room) {
+static void pipe_says(void *state, const struct mc2_own_said *call, char *out, size_t room) {
     struct pipe *p = (struct pipe *)state;
-    bool writes = mc2_own_is(text, call, "write", 2), reads = mc2_own_is(text, call, "read", 1);
+    bool writes = mc2_own_is(call, "write", 2), reads = mc2_own_is(call, "read", 1);
     uint64_t wanted = call->numbers[writes], has = writes ? p->room - p->count : p->count, most = wanted < has ? wanted : has;
     uint64_t least = writes && wanted <= p->whole ? wanted : 1;
     if ((writes || reads) && (has < least || wanted == 0))
@@ -298,13 +297,13 @@ static void pipe_says(void *state, const char *text, const struct mc2_own_said *
 
 /* ---- any: whatever such an object answers is right. It is for records whose replies aren't to be judged. */
 
-static void *any_open(const uint64_t *numbers, uint32_t count) {
+static void *any_open(const uint64_t *numbers, uint64_t count) {
     (void)numbers, (void)count;
     return malloc(1);
 }
 
-static const char *any_step(void *state, const char *text, const struct mc2_own_step *step) {
-    (void)state, (void)text, (void)step;
+static const char *any_step(void *state, const struct mc2_own_step *step) {
+    (void)state, (void)step;
     return NULL;
 }
 

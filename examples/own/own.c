@@ -58,7 +58,7 @@ static void put_line(uint64_t at) {
 static void put_name(uint64_t object) {
     struct mc2_own_line line;
     mc2_own_line(bytes(), length, (size_t)asked.object[object], &line);
-    printf("%.*s", (int)line.name_length, text + line.name);
+    printf("%.*s", MC2_OWN_LETTERS, (const char *)line.name);
 }
 
 /* Prints the line of each event that has a step of these. */
