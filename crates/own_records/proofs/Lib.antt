@@ -1,0 +1,12 @@
+pub mod NewNames
+pub mod PlainLines
+pub mod OwnLaws
+pub mod LineLaws
+pub mod Parts
+pub mod Spells
+pub mod Steps
+pub mod Runs
+pub mod Ends
+pub mod Texts
+pub mod Keepers
+pub mod KeptSteps

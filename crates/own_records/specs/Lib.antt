@@ -1,0 +1,4 @@
+pub mod RecordText
+pub mod RecordStates
+pub mod RecordParts
+pub mod RecordFaults
