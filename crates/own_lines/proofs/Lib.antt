@@ -1,1 +1,6 @@
 pub mod LineSteps
+pub mod SaidLaws
+pub mod ItemLaws
+pub mod NameLaws
+pub mod StepLaws
+pub mod LineLaws

@@ -1,0 +1,261 @@
+-- Each line of a record 3 is read as what it spells, and nothing else is.
+use Rattle.std.proofs.Common.{◌≡◌, ℕ, ◌<◌, ◌≤◌, ◌^◌, true, Some, List, [], ◌∷◌, ◌++◌, length, map, refl, sym, ◌∙◌, ap, subst, arith, rules, codes, decimal, nat_le, nat_lt}
+use Rattle.std.proofs.lemmas.Bool.{leb-true, le-leb, lt-ltb, ltb-true}
+use Rattle.std.proofs.lemmas.List.{append-nil}
+use Rattle.std.proofs.lemmas.Option.{cond_some}
+use Rattle.std.specs.List.{AllByRecursion}
+use Rattle.event_log.proofs.Each.{all_append}
+use Rattle.own_lines.specs.LineReading.{most_number, said_at, own_steps_at, own_done_at, own_event_at, own_place_at, own_entry_at, own_events_at, own_object_at, sizes_at, new_words_at, refuses_at, first_at, cpus_at, count_at, log_at, cpu_at, last_at}
+use Rattle.own_lines.specs.LineText.{number_words, said_words, own_step_words, own_done_words, own_event_words, own_entry_words, own_object_words, refuses_words, first_words, cpus_words, count_words, log_words, cpu_words, last_words}
+use Rattle.own_object.specs.declared.settings.TheConstants.{MOST_OWN_CPUS, MOST_OWN_OBJECTS, MOST_SIZES, MOST_WORDS}
+use Rattle.own_object.specs.Own.{OwnEvent, OwnEntry}
+use Rattle.own_object.specs.Ranges.{most_lines, SaidFits, OwnSettingsFit, Differ, HeadFits, EventFits, EntryFits}
+use Rattle.own_object.specs.Settings.{OwnSettings, OwnHead, names_of, word_in}
+use Rattle.scripts.specs.Reading.{key_at, number_at}
+use Rattle.scripts.specs.RecordReading.{is_nil, list_at, name_word_at}
+use Rattle.scripts.specs.Row.{IsPlain}
+use Rattle.scripts.specs.Settings.{is_name}
+use Rattle.scripts.specs.Words.{separated}
+use Rattle.scripts.proofs.ListLaws.{key_takes, key_again, key_other}
+use Rattle.scripts.proofs.Names.{name_plain}
+use Rattle.scripts.proofs.Readings.{bind_some, plain_decimal, number_at_takes, number_at_again}
+use Rattle.scripts.proofs.RecordLineLaws.{fixed_takes, fixed_again, head_takes, head_again}
+use Rattle.scripts.proofs.RecordWords.{name_takes, name_again}
+use Rattle.own_lines.proofs.ItemLaws.{list_takes, list_again, list_plain}
+use Rattle.own_lines.proofs.NameLaws.{name_of_object, place_takes, place_again, new_words_take, new_words_again, names_plain}
+use Rattle.own_lines.proofs.SaidLaws.{sizes_take, sizes_again, sizes_plain}
+use Rattle.own_lines.proofs.StepLaws.{nothing_behind, reads_said, steps_take, steps_again, steps_plain, done_takes, done_again, done_plain}
+
+-- the words make a line: there is one, and neither a line end nor a space is in any
+abbrev pub IsLineOf : List (List ℕ) → Type 0
+IsLineOf ws = (0 < length ws) × AllByRecursion IsPlain ws
+
+-- ---- events
+
+module _ (head : OwnHead) where
+  -- what is read is what the line spells
+  pub event_spells : (ws : List (List ℕ)) (e : OwnEvent) → own_event_at head ws ≡ Some e → (ws ≡ own_event_words e) × EventFits head e
+  unfolding own_event_at
+  event_spells ws e is =
+      bind_some (number_at 255 ws) _ e is (λ cpu found_cpu behind_cpu.
+      bind_some (own_steps_at head.refusing cpu.1) _ e behind_cpu (λ steps found_steps last.
+      let whole = cond_some (nat_lt cpu.0 head.cpus) (record { cpu = cpu.0; steps = record { list = record { items = steps } } }) e last in
+      let number = number_at_takes 255 cpu.0 ws cpu.1 found_cpu in
+      let taken = steps_take head cpu.1 steps found_steps in
+      subst (λ (v : OwnEvent). (ws ≡ own_event_words v) × EventFits head v) whole.1
+      (number.0 ∙ ap (λ l. decimal cpu.0 ∷ l) taken.0, record { cpu = ltb-true cpu.0 head.cpus whole.0; steps = taken.1 })))
+
+  -- what is spelled is read again
+  pub event_said : HeadFits head → (e : OwnEvent) → EventFits head e → own_event_at head (own_event_words e) ≡ Some e
+  unfolding own_event_at
+  event_said fits e fit =
+      let cpu = fit.cpu in
+      let most = fits.cpus.1 in
+      rw (number_at_again 255 e.cpu (separated (map own_step_words e.steps.list.items)) (omega (arith, cpu, most)) (omega (arith, cpu, most)), steps_again head e.steps.list.items fit.steps, lt-ltb e.cpu head.cpus fit.cpu)
+
+  -- the words of an event make a line
+  pub event_plain : HeadFits head → (e : OwnEvent) → EventFits head e → IsLineOf (own_event_words e)
+  event_plain fits e fit =
+      let cpu = fit.cpu in
+      let most = fits.cpus.1 in
+      (omega arith, (plain_decimal e.cpu (omega (arith, cpu, most)), steps_plain head e.steps.list.items fit.steps))
+
+  -- ---- entries of a transcript
+
+  -- what is read is what the line spells
+  pub entry_spells : (ws : List (List ℕ)) (e : OwnEntry) → own_entry_at head ws ≡ Some e → (ws ≡ own_entry_words head e) × EntryFits head e
+  unfolding own_entry_at
+  entry_spells ws e is =
+      bind_some (own_place_at head.objects ws) _ e is (λ object found_object behind_object.
+      bind_some (number_at most_number object.1) _ e behind_object (λ looks found_looks behind_looks.
+      bind_some (list_at said_at looks.1) _ e behind_looks (λ calls found_calls behind_calls.
+      bind_some (key_at (codes "|") calls.1) _ e behind_calls (λ rest found_bar behind_bar.
+      bind_some (own_done_at head.refusing rest) _ e behind_bar (λ done found_done last.
+      let value : ◌≡◌ {A = OwnEntry} (record { object = object.0; asked = record { items = calls.0 }; done = done; looks = looks.0 }) e = cc in
+      let named = place_takes head ws object found_object in
+      let number = number_at_takes most_number looks.0 object.1 looks.1 found_looks in
+      let most = number.1 in
+      let asked = list_takes said_words SaidFits said_at reads_said looks.1 calls found_calls in
+      let taken = done_takes head rest done found_done in
+      let end : calls.1 ≡ codes "|" ∷ own_done_words done = key_takes (codes "|") calls.1 rest found_bar ∙ ap (λ l. codes "|" ∷ l) taken.0 in
+      let spells : looks.1 ≡ separated (map said_words calls.0) ++ (codes "|" ∷ own_done_words done) = asked.text ∙ ap (λ l. separated (map said_words calls.0) ++ l) end in
+      subst (λ (v : OwnEntry). (ws ≡ own_entry_words head v) × EntryFits head v) value (
+        named.text ∙ ap (λ l. word_in (names_of head) object.0 ∷ l) (number.0 ∙ ap (λ l. decimal looks.0 ∷ l) spells),
+        record { object = named.bound; looks = omega (arith, most); some = asked.some; few = asked.few; calls = asked.fit; done = taken.1 },
+      ))))))
+
+  -- what is spelled is read again
+  pub entry_said : HeadFits head → (e : OwnEntry) → EntryFits head e → own_entry_at head (own_entry_words head e) ≡ Some e
+  unfolding own_entry_at
+  entry_said fits e fit =
+      let end : List (List ℕ) = codes "|" ∷ own_done_words e.done in
+      let calls : List (List ℕ) = separated (map said_words e.asked.items) ++ end in
+      let looks = fit.looks in
+      rw (
+        place_again head e.object (decimal e.looks ∷ calls) fits.names fit.object,
+        number_at_again most_number e.looks calls (omega (arith, looks)) fit.looks,
+        list_again said_words SaidFits said_at reads_said e.asked.items end fit.some fit.few fit.calls (key_other (codes ";") (codes "|") (own_done_words e.done) refl) refl,
+        key_again (codes "|") (own_done_words e.done),
+        done_again head e.done fit.done,
+      )
+
+  -- the words of an entry make a line
+  pub entry_plain : HeadFits head → (e : OwnEntry) → EntryFits head e → IsLineOf (own_entry_words head e)
+  entry_plain fits e fit = (
+    omega arith,
+    (
+      name_plain _ (name_of_object head fits e.object fit.object),
+      (
+        plain_decimal e.looks fit.looks,
+        all_append IsPlain (separated (map said_words e.asked.items)) (codes "|" ∷ own_done_words e.done) (list_plain said_words SaidFits said_at reads_said e.asked.items fit.calls) ((omega arith, tt), done_plain head e.done fit.done),
+      ),
+    ),
+  )
+
+-- ---- objects
+
+-- the number is next, and it is in its range
+events_take : (ws : List (List ℕ)) (read : ℕ × List (List ℕ)) → own_events_at ws ≡ Some read → (ws ≡ decimal read.0 ∷ read.1) × (1 ≤ read.0) × (read.0 ≤ most_lines)
+unfolding own_events_at
+events_take ws read e = bind_some (number_at most_lines ws) _ read e (λ n found last.
+    let whole = cond_some (nat_le 1 n.0) n read last in
+    let number = number_at_takes most_lines n.0 ws n.1 found in
+    subst (λ (p : ℕ × List (List ℕ)). (ws ≡ decimal p.0 ∷ p.1) × (1 ≤ p.0) × (p.0 ≤ most_lines)) whole.1 (number.0, leb-true 1 n.0 whole.0, number.1))
+
+events_again : (n : ℕ) (rest : List (List ℕ)) → 1 ≤ n → n ≤ most_lines → own_events_at (decimal n ∷ rest) ≡ Some (n, rest)
+unfolding own_events_at
+events_again n rest above below = rw (number_at_again most_lines n rest below (omega (arith, below)), le-leb 1 n above)
+
+-- what is read is what the line spells
+pub object_spells : (ws : List (List ℕ)) (o : OwnSettings) → own_object_at ws ≡ Some o → (ws ≡ own_object_words o) × OwnSettingsFit o
+unfolding own_object_at
+object_spells ws o e =
+    bind_some (key_at (codes "object") ws) _ o e (λ rest found_key behind_key.
+    bind_some (name_word_at rest) _ o behind_key (λ name found_name behind_name.
+    bind_some (name_word_at name.1) _ o behind_name (λ lock found_lock behind_lock.
+    bind_some (own_events_at lock.1) _ o behind_lock (λ events found_events behind_events.
+    bind_some (name_word_at events.1) _ o behind_events (λ kind found_kind behind_kind.
+    bind_some (sizes_at MOST_SIZES kind.1) _ o behind_kind (λ numbers found_numbers last.
+    let whole = cond_some (is_nil numbers.1) (record { name = name.0; lock = lock.0; events = events.0; kind = kind.0; numbers = numbers.0 }) o last in
+    let named = name_takes rest name found_name in
+    let locked = name_takes name.1 lock found_lock in
+    let number = events_take lock.1 events found_events in
+    let kinded = name_takes events.1 kind found_kind in
+    let sizes = sizes_take MOST_SIZES kind.1 numbers found_numbers in
+    let behind : kind.1 ≡ number_words numbers.0 = sizes.text ∙ nothing_behind (number_words numbers.0) numbers.1 whole.0 in
+    subst (λ (v : OwnSettings). (ws ≡ own_object_words v) × OwnSettingsFit v) whole.1 (
+      key_takes (codes "object") ws rest found_key ∙ ap (λ l. codes "object" ∷ l) (named.0 ∙ ap (λ l. name.0 ∷ l) (locked.0 ∙ ap (λ l. lock.0 ∷ l) (number.0 ∙ ap (λ l. decimal events.0 ∷ l) (kinded.0 ∙ ap (λ l. kind.0 ∷ l) behind)))),
+      record { name = named.1; lock = locked.1; events = (number.1, number.2); kind = kinded.1; few = sizes.few; numbers = sizes.fit },
+    )))))))
+
+-- what is spelled is read again
+pub object_said : (o : OwnSettings) → OwnSettingsFit o → own_object_at (own_object_words o) ≡ Some o
+unfolding own_object_at
+object_said o fit =
+    let numbers : List (List ℕ) = number_words o.numbers in
+    let read : sizes_at MOST_SIZES numbers ≡ Some (o.numbers, []) = ap (sizes_at MOST_SIZES) (sym (append-nil numbers)) ∙ sizes_again MOST_SIZES o.numbers [] fit.few fit.numbers refl in
+    rw (
+      key_again (codes "object") (o.name ∷ o.lock ∷ decimal o.events ∷ o.kind ∷ numbers),
+      name_again o.name (o.lock ∷ decimal o.events ∷ o.kind ∷ numbers) fit.name,
+      name_again o.lock (decimal o.events ∷ o.kind ∷ numbers) fit.lock,
+      events_again o.events (o.kind ∷ numbers) fit.events.0 fit.events.1,
+      name_again o.kind numbers fit.kind,
+      read,
+    )
+
+-- the words of an object make a line
+pub object_plain : (o : OwnSettings) → OwnSettingsFit o → IsLineOf (own_object_words o)
+object_plain o fit = (omega arith, (object_word, (name_plain o.name fit.name, (name_plain o.lock fit.lock, (let most = fit.events.1 in plain_decimal o.events (omega (arith, most)), (name_plain o.kind fit.kind, sizes_plain o.numbers fit.numbers))))))
+  where
+    object_word : IsPlain (codes "object")
+    object_word = search (rules, arith)
+
+-- ---- words that refuse
+
+-- at most 32 words, which are names and differ
+pub record AreRefusing (refusing : List (List ℕ)) : Type 0 where
+  pub few : length refusing ≤ MOST_WORDS
+  pub words : AllByRecursion (λ w. is_name w ≡ true) refusing
+  pub once : Differ refusing
+
+-- what is read is what the line spells
+pub refuses_spells : (ws refusing : List (List ℕ)) → refuses_at ws ≡ Some refusing → (ws ≡ refuses_words refusing) × AreRefusing refusing
+unfolding refuses_at
+refuses_spells ws refusing e = bind_some (key_at (codes "refuses") ws) (λ rest. new_words_at [] MOST_WORDS rest) refusing e (λ rest found last.
+    let new = new_words_take [] MOST_WORDS rest refusing last in
+    let is : rest ≡ refusing = new.text in (
+      key_takes (codes "refuses") ws rest found ∙ ap (λ l. codes "refuses" ∷ l) is,
+      record { few = subst (λ (l : List (List ℕ)). length l ≤ MOST_WORDS) is new.few; words = subst (λ l. AllByRecursion (λ w. is_name w ≡ true) l) is new.each; once = new.once (λ i j li lj alike. absurd (omega (arith, li))) },
+    ))
+
+-- what is spelled is read again
+pub refuses_said : (refusing : List (List ℕ)) → AreRefusing refusing → refuses_at (refuses_words refusing) ≡ Some refusing
+unfolding refuses_at
+refuses_said refusing fit = rw (key_again (codes "refuses") refusing, new_words_again [] MOST_WORDS refusing fit.few fit.words fit.once)
+
+-- the words of the line make one
+pub refuses_plain : (refusing : List (List ℕ)) → AreRefusing refusing → IsLineOf (refuses_words refusing)
+refuses_plain refusing fit = (omega arith, (refuses_word_plain, names_plain refusing fit.words))
+  where
+    refuses_word_plain : IsPlain (codes "refuses")
+    refuses_word_plain = search (rules, arith)
+
+-- those of a head that fits
+pub refusing_of : (head : OwnHead) → HeadFits head → AreRefusing head.refusing
+refusing_of head fits = record { few = fits.few; words = fits.words; once = fits.once }
+
+-- ---- the lines at the head of a record and of its parts
+
+pub first_spells : (ws : List (List ℕ)) (u : Unit {0}) → first_at ws ≡ Some u → ws ≡ first_words
+first_spells ws u e = fixed_takes first_words ws u e
+
+pub first_said : first_at first_words ≡ Some tt
+first_said = fixed_again first_words
+
+pub first_plain : IsLineOf first_words
+first_plain = (omega arith, search (rules, arith))
+
+pub cpus_spells : (ws : List (List ℕ)) (n : ℕ) → cpus_at ws ≡ Some n → (ws ≡ cpus_words n) × (1 ≤ n) × (n ≤ MOST_OWN_CPUS)
+cpus_spells ws n e = head_takes (codes "cpus" ∷ []) 1 MOST_OWN_CPUS n ws e
+
+pub cpus_said : (n : ℕ) → 1 ≤ n → n ≤ MOST_OWN_CPUS → cpus_at (cpus_words n) ≡ Some n
+cpus_said n above below = head_again (codes "cpus" ∷ []) 1 MOST_OWN_CPUS n above below (omega arith)
+
+pub cpus_plain : (n : ℕ) → n ≤ MOST_OWN_CPUS → IsLineOf (cpus_words n)
+cpus_plain n below = (omega arith, (search (rules, arith), (plain_decimal n (omega (arith, below)), tt)))
+
+pub count_spells : (ws : List (List ℕ)) (n : ℕ) → count_at ws ≡ Some n → (ws ≡ count_words n) × (1 ≤ n) × (n ≤ MOST_OWN_OBJECTS)
+count_spells ws n e = head_takes (codes "objects" ∷ []) 1 MOST_OWN_OBJECTS n ws e
+
+pub count_said : (n : ℕ) → 1 ≤ n → n ≤ MOST_OWN_OBJECTS → count_at (count_words n) ≡ Some n
+count_said n above below = head_again (codes "objects" ∷ []) 1 MOST_OWN_OBJECTS n above below (omega arith)
+
+pub count_plain : (n : ℕ) → n ≤ MOST_OWN_OBJECTS → IsLineOf (count_words n)
+count_plain n below = (omega arith, (search (rules, arith), (plain_decimal n (omega (arith, below)), tt)))
+
+pub log_spells : (name : List ℕ) (ws : List (List ℕ)) (n : ℕ) → log_at name ws ≡ Some n → (ws ≡ log_words name n) × (n ≤ most_lines)
+log_spells name ws n e = let is = head_takes (codes "log" ∷ name ∷ []) 0 most_lines n ws e in (is.0, is.2)
+
+pub log_said : (name : List ℕ) (n : ℕ) → n ≤ most_lines → log_at name (log_words name n) ≡ Some n
+log_said name n below = head_again (codes "log" ∷ name ∷ []) 0 most_lines n (omega arith) below (omega arith)
+
+pub log_plain : (name : List ℕ) (n : ℕ) → is_name name ≡ true → n ≤ most_lines → IsLineOf (log_words name n)
+log_plain name n named below = (omega arith, (search (rules, arith), (name_plain name named, (plain_decimal n (omega (arith, below)), tt))))
+
+pub cpu_spells : (cpu : ℕ) (ws : List (List ℕ)) (n : ℕ) → cpu_at cpu ws ≡ Some n → (ws ≡ cpu_words cpu n) × (n ≤ most_lines)
+cpu_spells cpu ws n e = let is = head_takes (codes "cpu" ∷ decimal cpu ∷ []) 0 most_lines n ws e in (is.0, is.2)
+
+pub cpu_said : (cpu n : ℕ) → n ≤ most_lines → cpu_at cpu (cpu_words cpu n) ≡ Some n
+cpu_said cpu n below = head_again (codes "cpu" ∷ decimal cpu ∷ []) 0 most_lines n (omega arith) below (omega arith)
+
+pub cpu_plain : (cpu n : ℕ) → cpu < 2 ^ 64 → n ≤ most_lines → IsLineOf (cpu_words cpu n)
+cpu_plain cpu n small below = (omega arith, (search (rules, arith), (plain_decimal cpu small, (plain_decimal n (omega (arith, below)), tt))))
+
+pub last_spells : (ws : List (List ℕ)) (u : Unit {0}) → last_at ws ≡ Some u → ws ≡ last_words
+last_spells ws u e = fixed_takes last_words ws u e
+
+pub last_said : last_at last_words ≡ Some tt
+last_said = fixed_again last_words
+
+pub last_plain : IsLineOf last_words
+last_plain = (omega arith, search (rules, arith))
