@@ -3,3 +3,4 @@ pub mod ToldEntries
 pub mod ToldRuns
 pub mod FirstFaults
 pub mod SoundRuns
+pub mod ToldNext

@@ -2,3 +2,4 @@ pub mod Answers
 pub mod Padding
 pub mod Translated
 pub mod Models
+pub mod Heard

@@ -2,5 +2,7 @@
 #![tactic(auto)]
 
 mod answered;
+mod heard;
+mod telling;
 
 pub use answered::{Answer, Answered, Told};

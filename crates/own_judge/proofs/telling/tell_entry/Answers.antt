@@ -1,0 +1,11 @@
+use Rattle.std.proofs.Common.{◌≡◌, length, sym, ap, ◌∙◌, arith}
+use Rattle.own_judge.specs.Translated.{told_asked}
+use Rattle.own_judge.proofs.ToldNext.{entry_done, entry_none}
+use Rattle.own_judge.proofs.telling.tell_entry.Goals as goal
+
+pub returns-in-Steps : goal.returns-in-Steps
+returns-in-Steps c =
+    let s = c.in-Steps.steps in
+    let few = c.as_slice.ensures.fits in
+    let n = ap (λ l. length l) c.as_slice.ensures.value in
+    entry_done c.args.entry.now s c.tell_asked.result c.tell_steps.result c.in-Steps.is (c.tell_asked.ensures ∙ (λ j. told_asked (c.as_slice-asked.ensures.value j) (c.as_slice.ensures.value j))) c.tell_steps.ensures (omega (arith, few, n))
