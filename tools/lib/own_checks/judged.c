@@ -14,7 +14,7 @@
 #include <string.h>
 #include <sys/mman.h>
 
-enum { PAGE = 4096, MOST_TEXT = 1 << 16, MOST_TURNS = 4096, UNTOUCHED = 0xa5 };
+enum { PAGE = 4096, MOST_TEXT = 1 << 16, MOST_TURNS = 128, UNTOUCHED = 0xa5 };
 
 static uint8_t *behind_text;
 static struct mc2_turn room[MOST_TURNS + 1];
