@@ -52,7 +52,10 @@ enum mc2_verdict {
     MC2_BAD_LINE = 8,
     MC2_OUT_OF_MEMORY = 9,
     /* The order, or the cycle, has no room, and nothing was written to it: how many places are needed. */
-    MC2_NO_ROOM = 10
+    MC2_NO_ROOM = 10,
+    /* Told by the functions of mc2_own.h alone. The text is a record, but a count is missing, one too many, or above the steps
+       of its log: the first such object. */
+    MC2_MISTOLD = 11
 };
 
 /* One of mc2_verdict, and its numbers. Those that it has not are 0. */

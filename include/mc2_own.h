@@ -50,12 +50,10 @@ enum {
     MC2_OWN_LETTERS = 16
 };
 
-/* What is told beside the kinds of mc2_judge.h. */
-enum mc2_own_verdict {
-    /* The text is a record. A count is missing, one too many, or above the steps of its log: the first such object. */
-    MC2_MISTOLD = 11,
-    /* The library never tells this; mc2_own_judge does. The text is a record. No model has the object's kind, or the model
-       takes other numbers, or it got no memory: the object. */
+/* What mc2_own_judge tells beside enum mc2_verdict, and the library never does. */
+enum {
+    /* The text is a record. No model has the object's kind, or the model takes other numbers, or it got no memory: the object.
+       */
     MC2_NO_MODEL = 12
 };
 
@@ -87,7 +85,7 @@ struct mc2_own_step {
     struct mc2_own_said call, reply;
 };
 
-/* A line. What is not said of its kind here is not told of it. */
+/* A line. `next` is told of each kind but MC2_OWN_NONE, and each other field of the kinds that it names. */
 struct mc2_own_line {
     /* One of mc2_own_kind. */
     uint32_t kind;

@@ -23,8 +23,9 @@ static unsigned long long wide(uint64_t number) { return number; }
 enum { RUNQ_THREADS = 1 << 16 };
 
 struct runq {
-    uint64_t threads, waiting, priority[RUNQ_THREADS];
-    bool waits[RUNQ_THREADS];
+    uint64_t threads;
+    /* One more than the priority of a thread that waits, and else 0. */
+    uint64_t rank[RUNQ_THREADS];
 };
 
 static void *runq_open(const uint64_t *numbers, uint64_t count) {
@@ -34,57 +35,46 @@ static void *runq_open(const uint64_t *numbers, uint64_t count) {
     return q;
 }
 
-/* The first thread of the highest priority, if any waits. */
-static uint64_t runq_first(const struct runq *q) {
-    uint64_t first = 0;
-    for (uint64_t it = 1; it < q->threads; it++)
-        if (q->waits[it] && (!q->waits[first] || q->priority[it] > q->priority[first]))
-            first = it;
-    return first;
-}
-
-static const char *runq_put(struct runq *q, uint64_t thread, uint64_t priority) {
-    if (thread >= q->threads)
-        return "there is no such thread";
-    if (q->waits[thread])
-        return "the thread waits";
-    q->waits[thread] = true;
-    q->priority[thread] = priority;
-    q->waiting++;
-    return NULL;
+static uint64_t runq_highest(const struct runq *q) {
+    uint64_t highest = 0;
+    for (uint64_t thread = 0; thread < q->threads; thread++)
+        highest = q->rank[thread] > highest ? q->rank[thread] : highest;
+    return highest;
 }
 
 static const char *runq_take(struct runq *q, uint64_t thread) {
-    if (thread >= q->threads || !q->waits[thread])
+    if (thread >= q->threads || q->rank[thread] == 0)
         return "the thread doesn't wait";
-    if (q->priority[thread] < q->priority[runq_first(q)])
+    if (q->rank[thread] < runq_highest(q))
         return "a thread of a higher priority waits";
-    q->waits[thread] = false;
-    q->waiting--;
+    q->rank[thread] = 0;
     return NULL;
 }
 
 static const char *runq_step(void *state, const struct mc2_own_step *step) {
     struct runq *q = (struct runq *)state;
     const uint64_t *in = step->call.numbers;
-    if (mc2_own_is(&step->call, "put", 2) && mc2_own_is(&step->reply, "ok", 0))
-        return runq_put(q, in[0], in[1]);
-    if (!mc2_own_is(&step->call, "take", 0))
+    if (mc2_own_is(&step->call, "take", 0) && mc2_own_is(&step->reply, "thread", 1))
+        return runq_take(q, step->reply.numbers[0]);
+    if (mc2_own_is(&step->call, "take", 0) && mc2_own_is(&step->reply, "empty", 0))
+        return runq_highest(q) == 0 ? NULL : "a thread waits";
+    if (!mc2_own_is(&step->call, "put", 2) || !mc2_own_is(&step->reply, "ok", 0) || in[0] >= q->threads || in[1] == UINT64_MAX)
         return NO_SUCH_CALL;
-    if (mc2_own_is(&step->reply, "empty", 0))
-        return q->waiting == 0 ? NULL : "a thread waits";
-    return mc2_own_is(&step->reply, "thread", 1) ? runq_take(q, step->reply.numbers[0]) : NO_SUCH_CALL;
+    if (q->rank[in[0]] > 0)
+        return "the thread waits";
+    q->rank[in[0]] = in[1] + 1;
+    return NULL;
 }
 
 static void runq_says(void *state, const struct mc2_own_said *call, char *out, size_t room) {
     struct runq *q = (struct runq *)state;
-    uint64_t first = runq_first(q);
-    if (mc2_own_is(call, "put", 2) && call->numbers[0] < q->threads && !q->waits[call->numbers[0]])
-        snprintf(out, room, "ok");
-    else if (mc2_own_is(call, "take", 0) && q->waiting == 0)
-        snprintf(out, room, "empty");
+    uint64_t highest = runq_highest(q), thread = 0;
+    while (highest > 0 && q->rank[thread] < highest)
+        thread++;
+    if (mc2_own_is(call, "take", 0) && highest > 0)
+        snprintf(out, room, "thread %llu, or another that waits with priority %llu", wide(thread), wide(highest - 1));
     else if (mc2_own_is(call, "take", 0))
-        snprintf(out, room, "thread %llu, or another that waits with priority %llu", wide(first), wide(q->priority[first]));
+        snprintf(out, room, "empty");
 }
 
 /* ---- buddy HEIGHT: 2^HEIGHT pages. A block of order K is 2^K pages, the first a multiple of 2^K.
