@@ -1,2 +1,3 @@
 pub mod Told
 pub mod Orders
+pub mod OwnLines

@@ -3,8 +3,12 @@
 
 mod audit;
 mod merge;
+mod own_line;
+mod own_told;
 mod told;
 
 pub use audit::mc2_audit;
 pub use merge::{Turn, mc2_merge};
+pub use own_line::mc2_own_line;
+pub use own_told::{LineTold, SaidTold, StepTold};
 pub use told::Told;

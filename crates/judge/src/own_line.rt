@@ -1,0 +1,138 @@
+//! Single lines of records of one's own, for callers in C.
+
+ghost use Rattle.std.specs.Prelude.{◌≡◌, ◌≤◌, length, IfSome, IfNone};
+ghost use Rattle.std.specs.Option.{option_map};
+ghost use Rattle.judge.specs.OwnLines.{IsLineAt, IsLineTold, any_head, any_log_at, told_object, told_log, told_event, told_words};
+ghost use Rattle.own_lines.specs.LineReading.{own_object_at, own_event_at};
+ghost use Rattle.scripts.specs.Reading.{left, words};
+ghost use Rattle.scripts.specs.RecordReading.{name_word_at};
+
+use crate::LineTold;
+use crate::own_told::{put_numbers, put_steps};
+use event_log::{Event, Steps};
+use own_lines::{event_line, log_line, object_line};
+use own_object::{OwnHead, OwnName, OwnObject, OwnSettings, Spoken};
+use scripts::{Words, name_in, split_line, word};
+use std::alloc::Global;
+
+/// No line with its end begins there.
+pub const NO_LINE: u32 = 0;
+
+/// An object's line.
+pub const OBJECT_LINE: u32 = 1;
+
+/// The head of a log.
+pub const LOG_LINE: u32 = 2;
+
+/// An event's line.
+pub const EVENT_LINE: u32 = 3;
+
+/// Another line.
+pub const OTHER_LINE: u32 = 4;
+
+/// The line that begins at that byte, if it has its end.
+fn line_from(text: &[u8], at: usize) -> Option<&[u8]>
+    ensures found { IfSome result (λ line. IsLineAt text.now at line.now) }
+    ensures none { (line : _) → IfNone result (IsLineAt text.now at line → ⊥) }
+{
+    if at > text.len() {
+        return None;
+    }
+    let (_, rest) = text.split_at(at);
+    let (line, _) = split_line(rest)?;
+    Some(line)
+}
+
+/// The name that is next.
+#[tactic(auto, unfolding(scripts::specs::RecordReading::name_word_at))]
+fn name(at: Words<'_>) -> Option<OwnName>
+    ensures { option_map (λ x. x.bytes) result ≡ option_map (λ x. x.0) (name_word_at (left at.entry)) }
+{
+    let (word, _) = word(at)?;
+    name_in(word)
+}
+
+/// The name of a log, and how many events its head says that it has.
+#[tactic(auto, unfolding(crate::specs::OwnLines::any_log_at))]
+fn any_log(line: &[u8]) -> Option<(OwnName, u32)>
+    ensures { option_map (λ x. (x.0.bytes, x.1)) result ≡ any_log_at (words line.now) }
+{
+    let (_, rest) = word(Some(line))?;
+    let name = name(rest)?;
+    let count = log_line(name.as_str().as_bytes(), line)?;
+    Some((name, count))
+}
+
+/// A head of 256 CPUs and no objects, in which no word refuses.
+fn head_of_any(alloc: Global) -> OwnHead
+    ensures { result ≡ any_head }
+{
+    OwnHead {
+        cpus: 256,
+        objects: Vec::new(alloc),
+        refusing: Vec::new(alloc),
+    }
+}
+
+fn tell_object(object: &OwnSettings, told: &mut LineTold)
+    ensures { told.new ≡ told_object told.old object.now }
+{
+    told.kind = OBJECT_LINE;
+    told.limit = u64::from(object.events);
+    told.count = object.numbers.len() as u64;
+    told.name = Spoken::of_word(object.name.as_str().as_bytes()).letters();
+    told.object_kind = Spoken::of_word(object.kind.as_str().as_bytes()).letters();
+    put_numbers(object.numbers.as_slice(), &mut told.numbers);
+}
+
+fn tell_log(name: &[u8], count: u32, told: &mut LineTold)
+    requires { length name.now ≤ 16 }
+    ensures { told.new ≡ told_log told.old (name.now, count) }
+{
+    told.kind = LOG_LINE;
+    told.limit = u64::from(count);
+    told.name = Spoken::of_word(name).letters();
+}
+
+fn tell_event(event: &Event<OwnObject>, told: &mut LineTold)
+    ensures { told.new ≡ told_event told.old event.now }
+{
+    told.kind = EVENT_LINE;
+    told.cpu = u32::from(event.cpu);
+    told.count = event.steps.list.len() as u64;
+    put_steps(event.steps.list.as_slice(), &mut told.steps);
+}
+
+/// Tells what the line is.
+fn tell_line(alloc: Global, line: &[u8], told: &mut LineTold)
+    ensures { told.new ≡ told_words told.old (own_object_at (words line.now)) (any_log_at (words line.now)) (own_event_at any_head (words line.now)) }
+{
+    if let Some(object) = object_line(line) {
+        return tell_object(&object, told);
+    }
+    if let Some((name, count)) = any_log(line) {
+        return tell_log(name.as_str().as_bytes(), count, told);
+    }
+    let mut event = Event {
+        cpu: 0,
+        steps: Steps::default(),
+    };
+    match event_line(&head_of_any(alloc), line, &mut event) {
+        Some(()) => tell_event(&event, told),
+        None => told.kind = OTHER_LINE,
+    }
+}
+
+/// Tells what the line is that begins at that byte of the text, and where the one behind it begins.
+#[unsafe(no_mangle)]
+pub extern "C" fn mc2_own_line(alloc: Global, text: &[u8], at: usize, told: &mut LineTold)
+    ensures { IsLineTold text.now at told.old told.new }
+{
+    match line_from(text, at) {
+        None => told.kind = NO_LINE,
+        Some(line) => {
+            told.next = (at + line.len() + 1) as u64;
+            tell_line(alloc, line, told);
+        }
+    }
+}
