@@ -4,3 +4,4 @@ pub mod ToldRuns
 pub mod FirstFaults
 pub mod SoundRuns
 pub mod ToldNext
+pub mod CodedSteps

@@ -3,3 +3,5 @@ pub mod Padding
 pub mod Translated
 pub mod Models
 pub mod Heard
+pub mod Coded
+pub mod Judging

@@ -3,6 +3,10 @@
 
 mod answered;
 mod heard;
+mod judge;
+mod step_bytes;
 mod telling;
+mod told_rows;
 
 pub use answered::{Answer, Answered, Told};
+pub use judge::{Mistold, OwnJudge};
