@@ -58,7 +58,8 @@ static const char *runq_step(void *state, const struct mc2_own_step *step) {
         return runq_take(q, step->reply.numbers[0]);
     if (mc2_own_is(&step->call, "take", 0) && mc2_own_is(&step->reply, "empty", 0))
         return runq_highest(q) == 0 ? NULL : "a thread waits";
-    if (!mc2_own_is(&step->call, "put", 2) || !mc2_own_is(&step->reply, "ok", 0) || in[0] >= q->threads || in[1] == UINT64_MAX)
+    if (!mc2_own_is(&step->call, "put", 2) || !mc2_own_is(&step->reply, "ok", 0) || in[0] >= q->threads ||
+        in[1] == UINT64_MAX)
         return NO_SUCH_CALL;
     if (q->rank[in[0]] > 0)
         return "the thread waits";

@@ -12,7 +12,8 @@ EXAMPLES = ROOT / "examples/own"
 INCLUDE = f"-I{ROOT / 'include'}"
 CPP17 = ["-std=c++17", *STRICT, INCLUDE]
 RUST = ["rustc", "-O", "--edition", "2021", "-D", "warnings"]
-SANITIZED = ["-O1", "-g", "-fsanitize=address,undefined", "-fno-sanitize-recover=all", "-Wall", "-Wextra", "-pedantic", "-Werror"]
+WARNINGS = ["-Wall", "-Wextra", "-pedantic", "-Werror"]
+SANITIZED = ["-O1", "-g", "-fsanitize=address,undefined", "-fno-sanitize-recover=all", *WARNINGS]
 # A text that includes all headers, and what is left out of warnings: clang warns of one string of mc2_record.h.
 ALL_HEADERS = '#include "mc2_own_witness.h"\n#include "mc2_own_note.h"\nint main(void) { return 0; }\n'
 NO_STRING_WARNING = "-Wno-string-concatenation"
@@ -37,16 +38,29 @@ def library_side():
 def stand_in_side(folder, how=("-O2",)):
     """The stand-in, built so."""
     name = f"stand_in{len(list(folder.glob('libstand_in*')))}"
-    run([*C11, *how, *(() if "-Wall" in how else STRICT), INCLUDE, "-c", "-o", folder / f"{name}.o", FOLDER / "stand_in.c"])
+    words = [*C11, *how, *(() if "-Wall" in how else STRICT), INCLUDE, "-c", "-o", folder / f"{name}.o"]
+    run([*words, FOLDER / "stand_in.c"], timeout=BUILD_SECONDS)
     run(["ar", "rcs", folder / f"lib{name}.a", folder / f"{name}.o"])
     return Side("the stand-in", [folder / f"lib{name}.a"], ["-L", folder, "-l", f"static={name}"])
 
 
 def build_c(source, out, side=None, how=("-O2",)):
     """Builds a program in C, warnings being errors."""
-    words = [*C11, *how, *(() if "-Wall" in how else STRICT), INCLUDE, "-o", out, source, *(side.links if side else ()), "-pthread"]
-    run(words, timeout=BUILD_SECONDS)
+    words = [*C11, *how, *(() if "-Wall" in how else STRICT), INCLUDE, "-o", out, source]
+    run([*words, *(side.links if side else ()), "-pthread"], timeout=BUILD_SECONDS)
     return Path(out)
+
+
+def build_refusals(folder, is_stand_in):
+    """Builds own_refusals.c, which has the heap of what it judges by."""
+    links = []
+    if is_stand_in:
+        names = [f"-D{it}=stand_in_{it}" for it in ("malloc", "realloc", "free")]
+        run([*C11, *SANITIZED, INCLUDE, *names, "-c", "-o", folder / "refusing.o", FOLDER / "stand_in.c"])
+        links = [folder / "refusing.o"]
+    else:
+        links = [build_library("judge")]
+    return build_c(FOLDER / "own_refusals.c", folder / "own_refusals", Side("", links, []), SANITIZED)
 
 
 def build_cpp(compiler, out, side):
@@ -65,7 +79,8 @@ def compilers(*names):
 
 def compile_headers():
     """Compiles all headers by each compiler that is here, as C and as C++, and once without a C library."""
-    plans = [(it, "-std=c11", "c") for it in compilers("gcc", "clang")] + [(it, "-std=c++17", "c++") for it in compilers("g++", "clang++")]
+    plans = [(it, "-std=c11", "c") for it in compilers("gcc", "clang")]
+    plans += [(it, "-std=c++17", "c++") for it in compilers("g++", "clang++")]
     for compiler, standard, language in plans:
         more = [NO_STRING_WARNING] if "clang" in compiler else []
         run([compiler, standard, *STRICT, *more, INCLUDE, "-fsyntax-only", "-x", language, "-"], input=ALL_HEADERS.encode())

@@ -1,9 +1,9 @@
 /* use: judged < CASES
 
-   Judges texts by the three functions of mc2_own.h, for tools/check/own, and prints what is told. Each case is, as numbers of 64
-   bits, the length of a text, how many counts there are and how many places the room has; then the counts, and the text. For each
-   case a line is printed: the kind and the numbers that mc2_own_audit tells, those that mc2_own_merge tells, the places of the
-   room that it wrote, and a digest of what mc2_own_line tells of each line, at its beginning and one byte further on.
+   Judges texts by the three functions of mc2_own.h, for tools/check/own, and prints what is told. Each case is, as numbers of
+   64 bits, the length of a text, how many counts there are and how many places the room has; then the counts, and the text. For
+   each case a line is printed: the kind and the numbers that mc2_own_audit tells, those that mc2_own_merge tells, the places of
+   the room that it wrote, and a digest of what mc2_own_line tells of each line, at its beginning and one byte further on.
 
    The text ends where a page begins that nobody may read, and behind the room nothing may be written. The status is 0, 1 at the
    first answer that can't be, and 3 where the system refuses something. */

@@ -1,4 +1,5 @@
-"""Large sound records 3, for tools/measure/own: run queues, page allocators and pipes that CPUs use in turn, one call an entry."""
+"""Large sound records 3, for tools/measure/own: run queues, page allocators and pipes that CPUs use in turn. An entry has one
+call."""
 import random
 from bisect import insort
 

@@ -4,8 +4,10 @@ import re
 BYTES = b"\n\n 0019az=|;-A\t\r\x00\xff"
 NUMBERS = [0, 1, 2, 3, 7, 8, 9, 31, 32, 33, 255, 256, 257, 4294967294, 4294967295, 4294967296, 18446744073709551614]
 NUMBERS += [18446744073709551615, 18446744073709551616, 99999999999999999999, 100000000000000000000]
-WORDS = [b"noroom", b"object", b"log", b"cpu", b"end", b"refuses", b"a", b"abcdefghijklmnop", b"abcdefghijklmnopq", b"a1", b"1a", b";", b"="]
-WORDS += [b"|", b"", b"record", b"007", b"= ok", b"; a", b" ", b"a 1 2 3 4 5 6", b"a 1 2 3 4 5 6 7", b"a = b" + 7 * b" ; a = b", b"a" + 8 * b" ; a"]
+WORDS = [b"noroom", b"object", b"log", b"cpu", b"end", b"refuses", b"record", b"a", b"a1", b"1a", b"007", b""]
+WORDS += [b"=", b";", b"|", b" "]
+WORDS += [b"abcdefghijklmnop", b"abcdefghijklmnopq", b"= ok", b"; a", b"a 1 2 3 4 5 6", b"a 1 2 3 4 5 6 7", b"a" + 8 * b" ; a"]
+WORDS += [b"a = b" + 7 * b" ; a = b"]
 # A word or a number with what is before it.
 PART = re.compile(rb"[^ \n]+")
 

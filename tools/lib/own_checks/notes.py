@@ -21,9 +21,11 @@ CASES = {
 # What is said of the kernel with each fault, in each run.
 FAULTS = {
     "right": r"sound\n",
-    "early": r"unsound: log p event 2 step 1: wrong step\nbytes wait:\n  event 1: 0 write 10 4 = wrote 4\n  event 2: 1 read 4 = empty\n"
+    "early": r"unsound: log p event 2 step 1: wrong step\nbytes wait:\n"
+    r"  event 1: 0 write 10 4 = wrote 4\n  event 2: 1 read 4 = empty\n"
     r"right would have been: got 4 308866, or fewer bytes of these\n",
-    "drops": r"unsound: log zone event \d+ step 1: wrong step\na block of this order is free:\n  event (\d+: \d+ alloc \d) = none\n"
+    "drops": r"unsound: log zone event \d+ step 1: wrong step\na block of this order is free:\n"
+    r"  event (\d+: \d+ alloc \d) = none\n"
     r"right would have been: page \d+(, or another free block of this order)?\n",
 }
 CPUS, CALLS, RUNS = 4, 500, 5
@@ -57,7 +59,8 @@ def judge_cases(own, program):
 def freestanding(folder):
     """Without a C library it asks for two functions alone."""
     out = folder / "freestanding.o"
-    run([*C11, *STRICT, INCLUDE, "-ffreestanding", "-c", "-o", out, "-x", "c", "-"], input=CALLED.encode(), timeout=BUILD_SECONDS)
+    words = [*C11, *STRICT, INCLUDE, "-ffreestanding", "-c", "-o", out, "-x", "c", "-"]
+    run(words, input=CALLED.encode(), timeout=BUILD_SECONDS)
     named = {line.split()[-1] for line in run(["nm", "-u", out], text=True).stdout.splitlines()}
     if not named <= ALLOWED:
         raise Stop(f"it asks for {', '.join(sorted(named - ALLOWED))}")
@@ -106,6 +109,7 @@ def check_kernel(checks, folder, own, has_them):
         sanitized = build_c(EXAMPLES / "kernel.c", folder / "kernel_s", None, SANITIZED)
         checks.check("kernel with sanitizers", judge_kernel, own, sanitized, "right")
     if has_sanitizers(folder, THREADS):
-        checks.check("kernel with the sanitizer of threads", has_no_race, build_c(EXAMPLES / "kernel.c", folder / "kernel_t", None, THREADS))
+        sanitized = build_c(EXAMPLES / "kernel.c", folder / "kernel_t", None, THREADS)
+        checks.check("kernel with the sanitizer of threads", has_no_race, sanitized)
     else:
         left_out("the kernel with the sanitizer of threads", "gcc can't build with it, or what it builds doesn't run")

@@ -68,7 +68,7 @@ def check_form(texts, lines):
 
 
 def counts_for(text, chosen):
-    """As many as the logs have steps, if the text is a record; now and then one is another number, or missing, or one too many."""
+    """As many as the logs have steps, if the text is a record; now and then one is another number, missing, or one too many."""
     counts = [log.partition(b"\ncpu ")[0].count(b" = ") for log in text.split(b"\nlog ")[1:]]
     what = chosen.randrange(8)
     if what == 0:

@@ -1,8 +1,8 @@
 /* use: timed read|ask|audit|merge FILE [COUNT..]
 
-   One part of the judging of a record 3, for tools/measure/own: reads the file and does nothing; asks the models of examples/own
-   about all logs, and prints the counts; or hands these to mc2_own_audit or mc2_own_merge, and prints what is told with a digest of
-   the order. The status is 0, 2 for wrong words, and 3 where something is refused. */
+   One part of the judging of a record 3, for tools/measure/own: reads the file and does nothing; asks the models of
+   examples/own about all logs, and prints the counts; or hands these to mc2_own_audit or mc2_own_merge, and prints what is told
+   with a digest of the order. The status is 0, 2 for wrong words, and 3 where something is refused. */
 #include "../../../examples/own/models.h"
 #include <string.h>
 

@@ -1,0 +1,223 @@
+/* use: own_refusals FILE..
+
+   Judges the record of each file by libjudge.a with a heap of its own, with the counts of the models of examples/own. Each
+   block is refused in turn: then memory is told to be out, the room is as it was, and nothing is lost. And a merge is given too
+   little room, and just enough. Prints for each file the bytes of its text, the blocks that were taken, and the most bytes that
+   were taken at one time. The stand-in is built so that it takes memory here too.
+
+   Status: 0; 1 at the first answer that can't be, which a line on standard error names; 2 for wrong words; 3 if a file can't be
+   read, or the system refuses memory. */
+#include "../../../examples/own/models.h"
+#include <string.h>
+
+enum { MOST_TURNS = 1 << 16, BEHIND = 3, UNTOUCHED = 0xa5 };
+
+/* ---- The heap, which refuses one block */
+
+struct taken {
+    bool is_there;
+    void *at;
+};
+
+/* A block's head. */
+struct block {
+    size_t size, unused;
+};
+
+static struct {
+    size_t asked, refused, blocks, bytes, most;
+} heap;
+
+struct taken rattle_alloc(size_t size, size_t align);
+struct taken rattle_realloc(void *old, size_t kept, size_t size, size_t align);
+void rattle_dealloc(void *at);
+void *stand_in_malloc(size_t size);
+void *stand_in_realloc(void *old, size_t size);
+void stand_in_free(void *at);
+
+static void fail(const char *what) {
+    perror(what);
+    exit(3);
+}
+
+struct taken rattle_alloc(size_t size, size_t align) {
+    static size_t nowhere;
+    if (++heap.asked == heap.refused)
+        return (struct taken){false, &nowhere};
+    size = size > 0 ? size : align;
+    struct block *block = malloc(sizeof *block + size);
+    if (!block)
+        fail("memory");
+    block->size = size;
+    heap.blocks++;
+    heap.bytes += size;
+    heap.most = heap.bytes > heap.most ? heap.bytes : heap.most;
+    return (struct taken){true, block + 1};
+}
+
+void rattle_dealloc(void *at) {
+    struct block *block = (struct block *)at - 1;
+    heap.blocks--;
+    heap.bytes -= block->size;
+    free(block);
+}
+
+struct taken rattle_realloc(void *old, size_t kept, size_t size, size_t align) {
+    struct taken taken = rattle_alloc(size, align);
+    if (taken.is_there) {
+        memcpy(taken.at, old, kept);
+        rattle_dealloc(old);
+    }
+    return taken;
+}
+
+void *stand_in_malloc(size_t size) {
+    struct taken taken = rattle_alloc(size, 1);
+    return taken.is_there ? taken.at : NULL;
+}
+
+void *stand_in_realloc(void *old, size_t size) {
+    if (!old)
+        return stand_in_malloc(size);
+    size_t had = ((struct block *)old - 1)->size;
+    struct taken taken = rattle_realloc(old, had < size ? had : size, size, 1);
+    return taken.is_there ? taken.at : NULL;
+}
+
+void stand_in_free(void *at) {
+    if (at)
+        rattle_dealloc(at);
+}
+
+/* ---- The calls */
+
+static struct {
+    const char *file;
+    uint8_t *bytes;
+    size_t length;
+    struct mc2_own_asked asked;
+} text;
+
+/* A call, with so many places of room and some behind them, and what it was told. */
+struct call {
+    bool merges;
+    size_t turns;
+    struct mc2_turn *room;
+    struct mc2_told told;
+};
+
+#define CHECK(what) check(what, #what, __LINE__)
+
+static void check(bool is_so, const char *what, int line) {
+    if (!is_so) {
+        fprintf(stderr, "own_refusals.c:%d: not so of %s: %s\n", line, text.file, what);
+        exit(1);
+    }
+}
+
+static void open_call(struct call *call, bool merges, size_t turns) {
+    *call = (struct call){merges, turns, malloc((turns + BEHIND) * sizeof *call->room), {0, 0, 0, 0}};
+    if (!call->room)
+        fail("memory");
+}
+
+/* Judges the text, where the block of that number is refused, or none. */
+static void judge(struct call *call, size_t refused) {
+    memset(call->room, UNTOUCHED, (call->turns + BEHIND) * sizeof *call->room);
+    memset(&call->told, UNTOUCHED, sizeof call->told);
+    heap.asked = 0;
+    heap.refused = refused;
+    if (call->merges)
+        mc2_own_merge(text.bytes, text.length, text.asked.right, text.asked.objects, call->room, call->turns, &call->told);
+    else
+        mc2_own_audit(text.bytes, text.length, text.asked.right, text.asked.objects, &call->told);
+    CHECK(heap.blocks == 0 && heap.bytes == 0);
+}
+
+static bool are_untouched(const struct mc2_turn *turns, size_t count) {
+    const uint8_t *bytes = (const uint8_t *)turns;
+    size_t at = 0;
+    while (at < count * sizeof *turns && bytes[at] == UNTOUCHED)
+        at++;
+    return at == count * sizeof *turns;
+}
+
+static bool is_told(const struct mc2_told *told, uint32_t kind, uint64_t first) {
+    return told->kind == kind && told->first == first && told->second == 0 && told->third == 0;
+}
+
+static bool has_turns(const struct mc2_told *told) { return told->kind == MC2_SOUND || told->kind == MC2_CYCLE; }
+
+/* Refuses each block of a call in turn, and returns how many there are. */
+static size_t check_memory(bool merges) {
+    struct call call;
+    open_call(&call, merges, merges ? MOST_TURNS : 0);
+    judge(&call, 0);
+    CHECK(call.told.kind != MC2_OUT_OF_MEMORY && call.told.kind != MC2_NO_ROOM);
+    size_t blocks = heap.asked, told = merges && has_turns(&call.told) ? call.told.first : 0;
+    CHECK(are_untouched(call.room + told, call.turns + BEHIND - told));
+    call.turns = told < 100 ? told : 100;
+    for (size_t at = 1; at <= blocks; at++) {
+        judge(&call, at);
+        CHECK(is_told(&call.told, MC2_OUT_OF_MEMORY, 0) && are_untouched(call.room, call.turns + BEHIND));
+    }
+    free(call.room);
+    return blocks;
+}
+
+/* Merges with that many places, of which so many are needed. */
+static void check_turns(const struct call *whole, size_t turns) {
+    struct call call;
+    size_t needed = whole->told.first;
+    open_call(&call, true, turns);
+    judge(&call, 0);
+    if (turns < needed) {
+        CHECK(is_told(&call.told, MC2_NO_ROOM, needed) && are_untouched(call.room, turns + BEHIND));
+    } else {
+        CHECK(is_told(&call.told, whole->told.kind, needed) && are_untouched(call.room + needed, turns + BEHIND - needed));
+        CHECK(memcmp(call.room, whole->room, needed * sizeof *call.room) == 0);
+    }
+    free(call.room);
+}
+
+static void check_room(void) {
+    struct call whole;
+    open_call(&whole, true, MOST_TURNS);
+    judge(&whole, 0);
+    size_t needed = whole.told.first;
+    for (size_t turns = 0; has_turns(&whole.told) && turns <= needed + 1; turns++)
+        if (turns < 3 || turns + 3 > needed)
+            check_turns(&whole, turns);
+    free(whole.room);
+}
+
+static void read_text(const char *name) {
+    FILE *file = fopen(name, "rb");
+    if (!file || fseek(file, 0, SEEK_END) != 0)
+        fail(name);
+    text.file = name;
+    text.length = (size_t)ftell(file);
+    text.bytes = malloc(text.length + 1);
+    rewind(file);
+    if (!text.bytes || fread(text.bytes, 1, text.length, file) != text.length)
+        fail(name);
+    fclose(file);
+}
+
+int main(int count, char **words) {
+    if (count < 2) {
+        fputs("use: own_refusals FILE..\n", stderr);
+        return 2;
+    }
+    for (int at = 1; at < count; at++) {
+        read_text(words[at]);
+        heap.refused = 0;
+        mc2_own_ask_all(text.bytes, text.length, models, MODELS, &text.asked);
+        heap.most = 0;
+        size_t blocks = check_memory(false) + check_memory(true);
+        check_room();
+        printf("%zu %zu %zu\n", text.length, blocks, heap.most);
+        free(text.bytes);
+    }
+    return 0;
+}
