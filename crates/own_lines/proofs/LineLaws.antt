@@ -172,37 +172,29 @@ object_plain o fit = (omega arith, (object_word, (name_plain o.name fit.name, (n
 
 -- ---- words that refuse
 
--- at most 32 words, which are names and differ
-pub record AreRefusing (refusing : List (List ℕ)) : Type 0 where
-  pub few : length refusing ≤ MOST_WORDS
-  pub words : AllByRecursion (λ w. is_name w ≡ true) refusing
-  pub once : Differ refusing
-
--- what is read is what the line spells
-pub refuses_spells : (ws refusing : List (List ℕ)) → refuses_at ws ≡ Some refusing → (ws ≡ refuses_words refusing) × AreRefusing refusing
+-- what is read is what the line spells: at most 32 names, which differ
+pub refuses_spells : (ws refusing : List (List ℕ)) → refuses_at ws ≡ Some refusing → (ws ≡ refuses_words refusing) × (length refusing ≤ MOST_WORDS) × AllByRecursion (λ w. is_name w ≡ true) refusing × Differ refusing
 unfolding refuses_at
 refuses_spells ws refusing e = bind_some (key_at (codes "refuses") ws) (λ rest. new_words_at [] MOST_WORDS rest) refusing e (λ rest found last.
     let new = new_words_take [] MOST_WORDS rest refusing last in
     let is : rest ≡ refusing = new.text in (
       key_takes (codes "refuses") ws rest found ∙ ap (λ l. codes "refuses" ∷ l) is,
-      record { few = subst (λ (l : List (List ℕ)). length l ≤ MOST_WORDS) is new.few; words = subst (λ l. AllByRecursion (λ w. is_name w ≡ true) l) is new.each; once = new.once (λ i j li lj alike. absurd (omega (arith, li))) },
+      subst (λ (l : List (List ℕ)). length l ≤ MOST_WORDS) is new.few,
+      subst (λ l. AllByRecursion (λ w. is_name w ≡ true) l) is new.each,
+      new.once (λ i j li lj alike. absurd (omega (arith, li))),
     ))
 
 -- what is spelled is read again
-pub refuses_said : (refusing : List (List ℕ)) → AreRefusing refusing → refuses_at (refuses_words refusing) ≡ Some refusing
+pub refuses_said : (refusing : List (List ℕ)) → length refusing ≤ MOST_WORDS → AllByRecursion (λ w. is_name w ≡ true) refusing → Differ refusing → refuses_at (refuses_words refusing) ≡ Some refusing
 unfolding refuses_at
-refuses_said refusing fit = rw (key_again (codes "refuses") refusing, new_words_again [] MOST_WORDS refusing fit.few fit.words fit.once)
+refuses_said refusing few names once = rw (key_again (codes "refuses") refusing, new_words_again [] MOST_WORDS refusing few names once)
 
 -- the words of the line make one
-pub refuses_plain : (refusing : List (List ℕ)) → AreRefusing refusing → IsLineOf (refuses_words refusing)
-refuses_plain refusing fit = (omega arith, (refuses_word_plain, names_plain refusing fit.words))
+pub refuses_plain : (refusing : List (List ℕ)) → AllByRecursion (λ w. is_name w ≡ true) refusing → IsLineOf (refuses_words refusing)
+refuses_plain refusing names = (omega arith, (refuses_word_plain, names_plain refusing names))
   where
     refuses_word_plain : IsPlain (codes "refuses")
     refuses_word_plain = search (rules, arith)
-
--- those of a head that fits
-pub refusing_of : (head : OwnHead) → HeadFits head → AreRefusing head.refusing
-refusing_of head fits = record { few = fits.few; words = fits.words; once = fits.once }
 
 -- ---- the lines at the head of a record and of its parts
 
