@@ -1,11 +1,11 @@
 -- Whatever was read of a record, some record's lines begin with it.
-use Rattle.std.proofs.Common.{◌≡◌, ℕ, zero, suc, ◌-◌, ◌≤◌, List, [], ◌∷◌, ◌++◌, length, length-append, map, append_assoc, replicate, true, refl, sym, ap, ◌∙◌, subst, arith, codes}
+use Rattle.std.proofs.Common.{◌≡◌, ℕ, zero, suc, ◌-◌, ◌≤◌, List, [], ◌∷◌, ◌++◌, length, length-append, map, append_assoc, replicate, refl, sym, ap, ◌∙◌, subst, arith, codes}
 use Rattle.std.proofs.lemmas.List.{append-nil, length-replicate, map-append}
 use Rattle.std.specs.List.{AllByRecursion}
 use Rattle.event_log.proofs.Each.{all_append, all_push}
 use Rattle.event_log.specs.declared.entry.Done.TheVariants.{NoRoom}
 use Rattle.own_lines.specs.LineText.{first_words, cpus_words, count_words, own_object_words, own_event_words, own_entry_words, refuses_words, last_words}
-use Rattle.own_object.specs.Own.{OwnEvent, OwnEntry, OwnRun}
+use Rattle.own_object.specs.Own.{OwnEvent, OwnEntry}
 use Rattle.own_object.specs.Ranges.{OwnRecord, OwnRecordFits, OwnSettingsFit, HeadFits, SaidFits, EventFits, EntryFits, LogFits, TranscriptFits}
 use Rattle.own_object.specs.Said.{Said}
 use Rattle.own_object.specs.Settings.{OwnSettings, OwnHead, refuses_word}

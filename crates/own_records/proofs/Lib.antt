@@ -1,6 +1,4 @@
 pub mod NewNames
-pub mod PlainLines
-pub mod OwnLaws
 pub mod LineLaws
 pub mod Parts
 pub mod Spells

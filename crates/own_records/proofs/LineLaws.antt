@@ -1,16 +1,14 @@
 -- A line of a record is read as what it spells, and nothing else is.
-use Rattle.std.proofs.Common.{◌≡◌, ℕ, ◌<◌, ◌≤◌, ◌^◌, Bool, true, false, Option, Some, None, List, [], ◌∷◌, ◌++◌, length, length-append, map, refl, sym, ◌∙◌, ap, cond, arith, codes, decimal}
+use Rattle.std.proofs.Common.{◌≡◌, ℕ, ◌<◌, ◌≤◌, ◌^◌, Bool, true, false, Option, Some, None, List, [], ◌∷◌, ◌++◌, length, length-append, refl, sym, ◌∙◌, ap, cond, arith, decimal}
 use Rattle.std.specs.List.{AllByRecursion}
 use Rattle.std.specs.Option.{option_map_or}
 use Rattle.event_log.proofs.Each.{all_append}
 use Rattle.own_lines.specs.LineReading.{own_event_at, own_entry_at, own_object_at, refuses_at}
 use Rattle.own_lines.specs.LineText.{own_event_words, own_entry_words, own_object_words, refuses_words}
 use Rattle.own_object.specs.declared.settings.TheConstants.{MOST_WORDS}
-use Rattle.own_object.specs.Own.{OwnEvent, OwnEntry}
 use Rattle.own_object.specs.Ranges.{OwnSettingsFit, HeadFits, EventFits, EntryFits, Differ}
 use Rattle.own_object.specs.Settings.{OwnSettings, OwnHead}
-use Rattle.own_records.proofs.OwnLaws.{event_spells, event_said, entry_spells, entry_said, object_spells, object_said, refuses_spells, refuses_said}
-use Rattle.own_records.proofs.PlainLines.{ArePlain, event_plain, entry_plain, object_plain, refuses_plain}
+use Rattle.own_lines.proofs.LineLaws.{IsLineOf, event_spells, event_said, event_plain, entry_spells, entry_said, entry_plain, object_spells, object_said, object_plain, refuses_spells, refuses_said, refuses_plain}
 use Rattle.own_records.specs.RecordStates.{is_taken, new_object_at}
 use Rattle.scripts.specs.RecordReading.{fixed_at, head_at}
 use Rattle.scripts.specs.Row.{IsPlain}
@@ -18,43 +16,38 @@ use Rattle.scripts.specs.Settings.{is_name}
 use Rattle.scripts.proofs.Readings.{plain_decimal}
 use Rattle.scripts.proofs.RecordLineLaws.{fixed_takes, fixed_again, head_takes, head_again}
 
--- the words make a line: there is one, and neither a line end nor a space is in any
-pub record IsLine (ws : List (List ℕ)) : Type 0 where
-  pub some : 0 < length ws
-  pub plain : ArePlain ws
-
 -- a line is read as what it spells, and nothing else is
 pub record ReadsLines {X : Type 0} (words_of : X → List (List ℕ)) (fits : X → Type 0) (read : List (List ℕ) → Option X) : Type 0 where
   pub takes : (ws : List (List ℕ)) (x : X) → read ws ≡ Some x → (ws ≡ words_of x) × fits x
   pub again : (x : X) → fits x → read (words_of x) ≡ Some x
-  pub plain : (x : X) → fits x → IsLine (words_of x)
+  pub plain : (x : X) → fits x → IsLineOf (words_of x)
 
 -- a line of fixed words
-pub reads_fixed : (keys : List (List ℕ)) → IsLine keys → ReadsLines (λ (u : Unit {0}). keys) (λ u. Unit {0}) (fixed_at keys)
+pub reads_fixed : (keys : List (List ℕ)) → IsLineOf keys → ReadsLines (λ (u : Unit {0}). keys) (λ u. Unit {0}) (fixed_at keys)
 reads_fixed keys line = record { takes = λ ws u e. (fixed_takes keys ws u e, tt); again = λ u fit. fixed_again keys; plain = λ u fit. line }
 
 -- a line of fixed words and a number
-pub reads_head : (keys : List (List ℕ)) (low high : ℕ) → ArePlain keys → high < 2 ^ 64 → ReadsLines (λ n. keys ++ decimal n ∷ []) (λ n. (low ≤ n) × (n ≤ high)) (head_at keys low high)
+pub reads_head : (keys : List (List ℕ)) (low high : ℕ) → AllByRecursion IsPlain keys → high < 2 ^ 64 → ReadsLines (λ n. keys ++ decimal n ∷ []) (λ n. (low ≤ n) × (n ≤ high)) (head_at keys low high)
 reads_head keys low high plain small = record {
   takes = λ ws n e. let is = head_takes keys low high n ws e in (is.0, (is.1, is.2));
   again = λ n fit. head_again keys low high n fit.0 fit.1 small;
   plain = λ n fit.
       let below = fit.1 in
-      record { some = omega (arith, length-append keys (decimal n ∷ [])); plain = all_append IsPlain keys (decimal n ∷ []) plain (plain_decimal n (omega (arith, below, small)), tt) };
+      (omega (arith, length-append keys (decimal n ∷ [])), all_append IsPlain keys (decimal n ∷ []) plain (plain_decimal n (omega (arith, below, small)), tt));
 }
 
 module _ (head : OwnHead) (fits : HeadFits head) where
   -- an event
   pub reads_event : ReadsLines own_event_words (EventFits head) (own_event_at head)
-  reads_event = record { takes = λ ws e read. event_spells head ws e read; again = λ e fit. event_said head fits e fit; plain = λ e fit. record { some = omega arith; plain = event_plain head fits e fit } }
+  reads_event = record { takes = event_spells head; again = event_said head fits; plain = event_plain head fits }
 
   -- an entry of a transcript
   pub reads_entry : ReadsLines (own_entry_words head) (EntryFits head) (own_entry_at head)
-  reads_entry = record { takes = λ ws e read. entry_spells head ws e read; again = λ e fit. entry_said head fits e fit; plain = λ e fit. record { some = omega arith; plain = entry_plain head fits e fit } }
+  reads_entry = record { takes = entry_spells head; again = entry_said head fits; plain = entry_plain head fits }
 
 -- an object
 pub reads_object : ReadsLines own_object_words OwnSettingsFit own_object_at
-reads_object = record { takes = λ ws o read. object_spells ws o read; again = λ o fit. object_said o fit; plain = λ o fit. record { some = omega arith; plain = object_plain o fit } }
+reads_object = record { takes = object_spells; again = object_said; plain = object_plain }
 
 -- at most 32 different words
 pub record WordsFit (ws : List (List ℕ)) : Type 0 where
@@ -67,7 +60,7 @@ pub reads_refuses : ReadsLines refuses_words WordsFit refuses_at
 reads_refuses = record {
   takes = λ ws found read. let is = refuses_spells ws found read in (is.0, record { few = is.1; words = is.2; once = is.3 });
   again = λ found fit. refuses_said found fit.few fit.words fit.once;
-  plain = λ found fit. record { some = omega arith; plain = refuses_plain found fit.words };
+  plain = λ found fit. refuses_plain found fit.words;
 }
 
 -- ---- an object whose name is none of the earlier

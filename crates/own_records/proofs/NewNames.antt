@@ -1,5 +1,5 @@
 -- Names that differ, and names that no object has.
-use Rattle.std.proofs.Common.{◌≡◌, ℕ, zero, suc, ◌+◌, ◌≤◌, ◌<◌, ◌^◌, ◌/◌, ◌%◌, ◌⊎◌, inl, inr, Bool, true, false, nat_lt, List, [], ◌∷◌, ◌++◌, length, length-append, append_assoc, map, refl, sym, ap, ◌∙◌, subst, cond, arith, ◌||◌, bytes_eq, codes, decimal}
+use Rattle.std.proofs.Common.{◌≡◌, ℕ, zero, suc, ◌+◌, ◌≤◌, ◌<◌, ◌^◌, ◌%◌, ◌⊎◌, inl, inr, Bool, true, false, nat_lt, List, [], ◌∷◌, ◌++◌, length, length-append, append_assoc, map, refl, sym, ap, ◌∙◌, subst, cond, arith, ◌||◌, bytes_eq, codes, decimal}
 use Rattle.std.proofs.Math.Nat.{eq-or-lt_of_le}
 use Rattle.std.proofs.lemmas.Bool.{and_parts, le-leb, ltb-true, ltb-false, false_from_ne_true, false≢true}
 use Rattle.std.specs.Cmp.Derive.{both_true}
@@ -159,8 +159,8 @@ digits_few : (n : ℕ) → n < 2 ^ 64 → AreFew n (decimal n)
 digits_few n fits = decimal_by_steps AreFew
     (λ n less. (both_true (digit_plain n less) refl, (λ h. omega arith), (λ h. omega arith), λ h. omega arith))
     (λ n ds more fewer.
-        let longer = length-append ds ((48 + n % 10) ∷ []) in
-        (letters_push ds (48 + n % 10) fewer.0 (digit_plain (n % 10) (omega arith)), (λ h. absurd (omega (arith, h, more))), (λ h. let few = fewer.1 (omega (arith, h)) in omega (arith, few, longer)), λ h. let few = fewer.2 (omega (arith, h)) in omega (arith, few, longer)))
+    let longer = length-append ds ((48 + n % 10) ∷ []) in
+    (letters_push ds (48 + n % 10) fewer.0 (digit_plain (n % 10) (omega arith)), (λ h. absurd (omega (arith, h, more))), (λ h. let few = fewer.1 (omega (arith, h)) in omega (arith, few, longer)), λ h. let few = fewer.2 (omega (arith, h)) in omega (arith, few, longer)))
     n fits
 
 numbered_name : (n : ℕ) → n < 1000 → is_name (numbered n) ≡ true

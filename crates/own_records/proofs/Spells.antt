@@ -1,24 +1,26 @@
 -- What was read of a record spells just the lines that were taken, and stays within all limits.
-use Rattle.std.proofs.Common.{◌≡◌, ℕ, ◌<◌, ◌≤◌, ◌^◌, List, [], ◌∷◌, ◌++◌, length, length-append, map, append_assoc, Option, Some, None, refl, sym, ap, ◌∙◌, subst, arith, rules, codes, decimal, nat_lt}
+use Rattle.std.proofs.Common.{◌≡◌, ℕ, ◌<◌, ◌≤◌, List, [], ◌∷◌, ◌++◌, length, length-append, map, append_assoc, Option, Some, refl, sym, ap, ◌∙◌, subst, arith, rules, codes, nat_lt}
 use Rattle.std.proofs.lemmas.Bool.{ltb-true, ltb-false, cond_both}
 use Rattle.std.proofs.lemmas.List.{append-nil, map-append}
 use Rattle.std.specs.List.{AllByRecursion}
 use Rattle.event_log.proofs.Each.{all_push}
-use Rattle.own_lines.specs.LineText.{first_words, cpus_words, count_words, own_object_words, own_event_words, own_entry_words, refuses_words, last_words}
+use Rattle.own_lines.specs.LineText.{first_words, cpus_words, count_words, own_object_words, own_event_words, own_entry_words, last_words}
+use Rattle.own_lines.proofs.LineLaws.{IsLineOf, first_plain, last_plain}
+use Rattle.own_lines.proofs.NameLaws.{name_of_object}
 use Rattle.own_object.specs.declared.settings.TheConstants.{MOST_OWN_CPUS, MOST_OWN_OBJECTS}
 use Rattle.own_object.specs.Own.{OwnEvent, OwnEntry}
 use Rattle.own_object.specs.Ranges.{OwnSettingsFit, HeadFits, EventFits, EntryFits, LogFits, TranscriptFits, Differ, most_lines}
-use Rattle.own_object.specs.Settings.{OwnSettings, OwnHead, names_of}
+use Rattle.own_object.specs.Settings.{OwnSettings, OwnHead}
 use Rattle.own_records.specs.declared.state.Next.{Next}
 use Rattle.own_records.specs.declared.state.Next.TheVariants.{First, Cpus, Count, Object, Refuses, Log, Event, Cpu, Entry, End, Done}
-use Rattle.own_records.specs.RecordStates.{OwnState, nothing_read, no_head, behind_object, behind_log, behind_events, behind_transcript, behind_entries, behind_line_at, StepsTo, TakesLine, FewCpus, ObjectsFit, AllObjectsFit, LogsFit, TranscriptsFit, FitsAt, Fits}
+use Rattle.own_records.specs.RecordStates.{OwnState, nothing_read, behind_object, behind_log, behind_events, behind_transcript, behind_entries, behind_line_at, StepsTo, TakesLine, ObjectsFit, LogsFit, TranscriptsFit, FitsAt, Fits}
 use Rattle.own_records.specs.RecordText.{own_head_lines}
-use Rattle.own_records.proofs.LineLaws.{IsLine, ReadsLines, WordsFit, Joins, reads_fixed, reads_head, reads_event, reads_entry, reads_new, reads_refuses}
+use Rattle.own_records.proofs.LineLaws.{ReadsLines, Joins, reads_fixed, reads_head, reads_event, reads_entry, reads_new, reads_refuses}
 use Rattle.own_records.proofs.NewNames.{names, differ_more}
 use Rattle.own_records.proofs.Parts.{log_head, cpu_head, logs_front, transcripts_front}
-use Rattle.own_records.proofs.PlainLines.{name_at_plain}
 use Rattle.scripts.specs.LineMachine.{TakesEach}
 use Rattle.scripts.specs.Reading.{◌>>=◌, words}
+use Rattle.scripts.proofs.Names.{name_plain}
 use Rattle.scripts.proofs.Readings.{bind_some, plain_decimal}
 use Rattle.scripts.proofs.RecordParts.{Lines, part_lines, part_whole, items_more}
 
@@ -139,7 +141,7 @@ entries_spells s lines h each few most more text =
 
 -- what a line that is taken behind others is: a line of words, and one line more of what is spelled
 abbrev Behind : Lines → List (List ℕ) → OwnState → Type 0
-Behind front ws t = IsLine ws × Spells (front ++ ws ∷ []) t
+Behind front ws t = IsLineOf ws × Spells (front ++ ws ∷ []) t
 
 -- a line that is read by a law
 by_law : {X : Type 0} {words_of : X → List (List ℕ)} {fits : X → Type 0} {read : List (List ℕ) → Option X} → ReadsLines words_of fits read → (next : X → OwnState) (front : Lines) (ws : List (List ℕ)) (t : OwnState)
@@ -148,13 +150,6 @@ by_law {X} {words_of} {fits} {read} law next front ws t e each = bind_some (read
     let is = law.takes ws x found in
     let state : next x ≡ t = cc in
     subst (λ l. Behind front l t) (sym is.0) (law.plain x is.1, subst (Spells (front ++ words_of x ∷ [])) state (each x is.1)))
-
--- the words of fixed lines are plain
-first_plain : IsLine first_words
-first_plain = record { some = omega arith; plain = search (rules, arith) }
-
-end_plain : IsLine last_words
-end_plain = record { some = omega arith; plain = search (rules, arith) }
 
 -- the number of objects
 count_behind : (s t : OwnState) (ws : List (List ℕ)) → FitsAt Count s → behind_line_at Count s ws ≡ Some t → Behind (spelled_at Count s) ws t
@@ -198,7 +193,7 @@ refuses_behind s t ws h e = by_law reads_refuses (λ refusing. record s { awaits
 log_behind : (s t : OwnState) (ws : List (List ℕ)) → FitsAt Log s → behind_line_at Log s ws ≡ Some t → Behind (spelled_at Log s) ws t
 unfolding behind_line_at
 log_behind s t ws h e =
-    let law = reads_head (log_head s.head (length s.logs)) 0 most_lines (search (rules, arith), (name_at_plain s.head.objects (length s.logs) h.0.head.each h.2, tt)) (omega arith) in
+    let law = reads_head (log_head s.head (length s.logs)) 0 most_lines (search (rules, arith), (name_plain _ (name_of_object s.head h.0.head (length s.logs) h.2), tt)) (omega arith) in
     by_law law (λ n. behind_events (record s { count = n })) (logs_spelled s) ws t e (λ n fits. events_spells (record s { count = n }) _
     (record { head = h.0.head; logs = h.0.logs; transcripts = h.0.transcripts; entries = h.0.entries })
     (subst (λ l. AllByRecursion (EventFits s.head) l) (sym h.1.0) tt) (subst (λ (l : List OwnEvent). length l ≤ n) (sym h.1.0) (omega arith)) fits.1 h.2
@@ -240,7 +235,7 @@ line_at Entry s t ws h e =
     (record { head = h.0.head; log_count = h.0.log_count; logs = h.0.logs; events = h.0.events; transcripts = h.0.transcripts })
     (all_push (EntryFits s.head) s.entries v h.1.0 fits) (omega (arith, more, length-append s.entries (v ∷ []))) h.1.2 h.2
     (items_more cpu_head (own_entry_words s.head) (transcripts_spelled s) (length s.transcripts) s.count s.entries (v ∷ [])))
-line_at End s t ws h e = by_law (reads_fixed last_words end_plain) (λ u. record s { awaits = Done }) (transcripts_spelled s) ws t e (λ u fits.
+line_at End s t ws h e = by_law (reads_fixed last_words last_plain) (λ u. record s { awaits = Done }) (transcripts_spelled s) ws t e (λ u fits.
     (record { fit = record { head = h.fit.head; log_count = h.fit.log_count; logs = h.fit.logs; events = h.fit.events; transcripts = h.fit.transcripts }; none = h.none; all = h.all }, refl))
 line_at Done s t ws h e = absurd cc
 
@@ -258,6 +253,6 @@ lines_spell (line ∷ lines) s t h run =
     let rest = lines_spell lines run.0 t one.0 run.2 in
     (rest.0, rest.1 ∙ (ap (λ l. l ++ map words lines) one.1 ∙ append_assoc (spelled s) (words line ∷ []) (map words lines)))
 
-pub lines_are : (lines : Lines) (s t : OwnState) → Fits s → TakesEach StepsTo lines s t → AllByRecursion IsLine lines
+pub lines_are : (lines : Lines) (s t : OwnState) → Fits s → TakesEach StepsTo lines s t → AllByRecursion IsLineOf lines
 lines_are [] s t h run = tt
 lines_are (ws ∷ lines) s t h run = let one = line_spells s run.0 ws h run.1 in (one.0, lines_are lines run.0 t one.1.0 run.2)

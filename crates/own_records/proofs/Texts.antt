@@ -1,14 +1,15 @@
 -- What lines that are taken, one after the other, say of the bytes that they are the front of.
-use Rattle.std.proofs.Common.{◌≡◌, ℕ, suc, ◌⊎◌, ◌<◌, List, [], ◌∷◌, ◌++◌, length, map, Option, Some, None, inl, inr, refl, sym, ap, ◌∙◌, subst, arith}
+use Rattle.std.proofs.Common.{◌≡◌, ℕ, suc, ◌⊎◌, ◌<◌, ◌==◌, true, List, [], ◌∷◌, ◌++◌, length, map, Option, Some, None, inl, inr, refl, sym, ap, ◌∙◌, subst, arith}
+use Rattle.std.proofs.lemmas.Bool.{eqb-true}
 use Rattle.std.proofs.lemmas.List.{append-nil, map-append}
 use Rattle.std.specs.List.{AllByRecursion}
+use Rattle.own_lines.proofs.LineLaws.{IsLineOf}
 use Rattle.own_object.specs.Ranges.{OwnRecord, OwnRecordFits}
 use Rattle.own_records.specs.declared.state.Next.TheVariants.{Done}
 use Rattle.own_records.specs.RecordFaults.{AgreesOwn, IsBadOwnLine, IsOwnText}
 use Rattle.own_records.specs.RecordStates.{OwnState, behind_line_at, nothing_read, record_of, StepsTo, TakesLine, RefusesLine, AllRead, FitsAt}
 use Rattle.own_records.specs.RecordText.{own_record_lines, own_text}
 use Rattle.own_records.proofs.Ends.{begins_at, done_is}
-use Rattle.own_records.proofs.LineLaws.{IsLine}
 use Rattle.own_records.proofs.Runs.{record_run, done_with}
 use Rattle.own_records.proofs.Spells.{Spells, lines_spell, lines_are, spelled_at}
 use Rattle.scripts.specs.LineMachine.{TakesEach, TakesText}
@@ -19,19 +20,24 @@ use Rattle.scripts.proofs.FirstLines.{text_append, line_behind, same_line, no_su
 use Rattle.scripts.proofs.RecordParts.{Lines}
 use Rattle.scripts.proofs.Sentences.{words_sentence, sentence_words, sentence_no_end}
 
+-- bytes that are counted to none
+pub empty_is : (bytes : List ℕ) → (length bytes == 0) ≡ true → bytes ≡ []
+empty_is [] e = refl
+empty_is (b ∷ bytes) e = absurd (omega (arith, eqb-true (length (b ∷ bytes)) 0 e))
+
 -- ---- lines and their words
 
-of_words : (lines : Lines) (s t : OwnState) → AllByRecursion IsLine lines → TakesEach StepsTo lines s t → TakesEach TakesLine (map sentence lines) s t
+of_words : (lines : Lines) (s t : OwnState) → AllByRecursion IsLineOf lines → TakesEach StepsTo lines s t → TakesEach TakesLine (map sentence lines) s t
 of_words [] s t are run = run
-of_words (ws ∷ lines) s t are run = (run.0, subst (λ l. StepsTo l s run.0) (sym (words_sentence ws are.0.some are.0.plain)) run.1, of_words lines run.0 t are.1 run.2)
+of_words (ws ∷ lines) s t are run = (run.0, subst (λ l. StepsTo l s run.0) (sym (words_sentence ws are.0.0 are.0.1)) run.1, of_words lines run.0 t are.1 run.2)
 
 same_lines : (ls : List (List ℕ)) → map sentence (map words ls) ≡ ls
 same_lines [] = refl
 same_lines (l ∷ ls) = λ i. sentence_words l i ∷ same_lines ls i
 
-no_ends : (lines : Lines) → AllByRecursion IsLine lines → AllByRecursion NoEnd (map sentence lines)
+no_ends : (lines : Lines) → AllByRecursion IsLineOf lines → AllByRecursion NoEnd (map sentence lines)
 no_ends [] are = tt
-no_ends (ws ∷ lines) are = (sentence_no_end ws are.0.plain, no_ends lines are.1)
+no_ends (ws ∷ lines) are = (sentence_no_end ws are.0.1, no_ends lines are.1)
 
 -- ---- records
 
@@ -43,7 +49,7 @@ text_is : (r : OwnRecord) → own_text r ≡ text_of_lines (text_lines r)
 unfolding own_text
 text_is r = refl
 
-record_are : (r : OwnRecord) → OwnRecordFits r → AllByRecursion IsLine (own_record_lines r)
+record_are : (r : OwnRecord) → OwnRecordFits r → AllByRecursion IsLineOf (own_record_lines r)
 record_are r fit = lines_are (own_record_lines r) nothing_read (done_with r) refl (record_run r fit)
 
 text_plain : (r : OwnRecord) → OwnRecordFits r → AllByRecursion NoEnd (text_lines r)

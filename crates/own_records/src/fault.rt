@@ -2,6 +2,8 @@
 
 ghost use Rattle.std.specs.Prelude.{◌≡◌};
 
+use event_log::OutOfMemory;
+
 /// Why a record was not read.
 #[derive(Clone, Copy, Debug, PartialEq, Eq, Drop)]
 pub enum OwnFault {
@@ -16,4 +18,14 @@ pub(crate) enum LineFault {
     OutOfMemory,
     /// It can't come there.
     Refused,
+}
+
+impl From<OutOfMemory> for LineFault {
+    ghost use Rattle.own_records.specs.declared.fault.LineFault.TheVariants.{OutOfMemory};
+
+    ghost from_gives = { λ _ fault. fault ≡ OutOfMemory };
+
+    fn from(_refused: OutOfMemory) -> LineFault {
+        LineFault::OutOfMemory
+    }
 }

@@ -2,6 +2,7 @@
 #![tactic(auto)]
 
 mod fault;
+mod heads;
 mod place;
 mod reader;
 mod state;
