@@ -252,12 +252,16 @@ static void *work(void *at) {
     return NULL;
 }
 
-// What is done after all else, so that the fault `drops` shows in each run: all blocks are given back, and 40 more that CPU 0
-// gets for it. Then it asks for all pages at once.
-static void do_closing(void) {
+static void give_all_back(void) {
     for (unsigned at = 0; at < cpus; at += all[at].held == 0)
         if (all[at].held > 0)
             give_back(&all[at]);
+}
+
+// What is done after all else, so that the fault `drops` shows in each run: all blocks are given back, and 40 more that CPU 0
+// gets for it. Then it asks for all pages at once.
+static void do_closing(void) {
+    give_all_back();
     for (unsigned at = 0; at < LOST_EACH; at++) {
         ask_for(&all[0], 0);
         if (all[0].held > 0)

@@ -104,16 +104,24 @@ static uint32_t waits_for(const struct record *r, const struct front *front, uin
     return next_of(r, front, entry % NO_ROOM_BIT);
 }
 
-/* The least CPU of the cycle that is found from the least CPU with entries left. After as many steps as there are CPUs it is
-   one of the cycle's. */
-static uint32_t least_of_cycle(const struct record *r, const struct front *front) {
+static uint32_t first_left(const struct record *r, const struct front *front) {
     uint16_t entry;
     uint32_t cpu = 0;
     while (!next_entry(r, front, cpu, &entry))
         cpu++;
+    return cpu;
+}
+
+/* A CPU of the cycle that is found from the least CPU with entries left: it is one after as many steps as there are CPUs. */
+static uint32_t one_of_cycle(const struct record *r, const struct front *front) {
+    uint32_t cpu = first_left(r, front);
     for (uint32_t it = 0; it < r->cpus; it++)
         cpu = waits_for(r, front, cpu);
-    uint32_t least = cpu;
+    return cpu;
+}
+
+static uint32_t least_of_cycle(const struct record *r, const struct front *front) {
+    uint32_t cpu = one_of_cycle(r, front), least = cpu;
     for (uint32_t it = waits_for(r, front, cpu); it != cpu; it = waits_for(r, front, it))
         least = it < least ? it : least;
     return least;

@@ -1,0 +1,81 @@
+"""Records 2 of rows/mc2, made records 3: the program in C has to say what mc2 says, but for wrong replies and for limits."""
+import os
+import re
+
+from common import ROOT, Stop, run
+
+ROWS = ROOT / "rows/mc2"
+REFUSING = "badthread already empty absent badowner none overquota badpage nottaken notyours badchannel badcall"
+KINDS = ("queue", "pool", "console", "sched")
+# A record 3 has no such limits, or others.
+OTHER_LIMITS = {
+    "a_record_1_has_no_overquota",
+    "a_record_1_has_no_overquota_in_an_entry",
+    "a_record_1_has_no_quotas",
+    "a_record_1_of_nine_cpus",
+    "a_record_2_of_fifteen_quotas",
+    "a_record_2_of_seventeen_quotas",
+    "a_record_2_with_a_quota_of_4097",
+    "a_record_2_without_quotas",
+    "audit_refuses_10001_entries",
+    "audit_refuses_65537_events",
+    "audit_refuses_65_cpus",
+}
+
+
+def made_third(text):
+    """The record with another first line, kinds that answer anything, and a line of the words that refuse."""
+    lines = re.sub(rf"^(object \S+ \S+ \S+) (?:{'|'.join(KINDS)})\b", r"\1 any", text, flags=re.MULTILINE).split("\n")
+    lines[0] = "record 3"
+    heads = [at for at, line in enumerate(lines) if line.startswith("object ")]
+    if heads:
+        lines.insert(heads[-1] + 1, f"refuses {REFUSING}")
+    return "\n".join(lines)
+
+
+def read(row, name):
+    return (row / name).read_bytes().decode(errors="replace") if (row / name).is_file() else ""
+
+
+def record_of(row):
+    """The command and the text of a row that audits or merges a record."""
+    words = read(row, "words").split("\n")
+    file = next((row / it for it in words[1:] if it and (row / it).is_file()), row / "stdin")
+    text = file.read_bytes().decode(errors="replace") if file.is_file() else ""
+    is_one = words[0] in ("audit", "merge") and text.startswith(("record 1\n", "record 2\n")) and "\ufffd" not in text
+    return words[0], text if is_one else None
+
+
+def line_in(said):
+    found = re.search(r"\bline (\d+)", said)
+    return int(found[1]) if found else None
+
+
+def agree(row, command, text, ran):
+    """Whether the verdicts are the same. Behind the objects each line is one further down."""
+    said, wanted = ran.stdout.decode() + ran.stderr.decode(), read(row, "stdout") + read(row, "stderr")
+    if line_in(wanted) is not None and "E9" in wanted:
+        objects = [at for at, line in enumerate(text.split("\n"), 1) if line.startswith("object ")]
+        return line_in(said) == line_in(wanted) + (bool(objects) and line_in(wanted) > objects[-1])
+    if "E11" in wanted:
+        return said.startswith("cycle:\n")
+    if command == "merge" and "unsound" not in wanted:
+        return said.count("\n") == wanted.count("\n") and ran.returncode == 0
+    return said == wanted.replace("mc2: E10 ", "")
+
+
+def like_mc2(own):
+    """Judges each such record, and says how many are judged alike."""
+    alike = left = 0
+    for row in sorted(it for it in ROWS.iterdir() if it.is_dir()):
+        command, text = record_of(row)
+        if text is None or row.name in OTHER_LIMITS:
+            continue
+        if "wrong step" in read(row, "stdout") + read(row, "stderr"):
+            left += 1
+            continue
+        ran = run([own, command], wanted=None, input=os.fsencode(made_third(text)), timeout=60)
+        if not agree(row, command, text, ran):
+            raise Stop(f"{row.name}: {(ran.stdout + ran.stderr).decode()[:200]!r}")
+        alike += 1
+    return f"{alike} records, and {len(OTHER_LIMITS)} left out for limits and {left} for wrong replies"
