@@ -1,5 +1,5 @@
-/* Judging records of objects of your own, from C or C++, by the static library libjudge.a. docs/RECORDS.md says how such a
-   record, a record 3, is written. mc2_judge.h says how a program links the library, and has the verdicts that are told.
+/* Judging records of objects of your own, from C or C++, by the static library libjudge.a. docs/FORMATS.md has the form of such
+   a record, a record 3. mc2_judge.h says how a program links the library, and has the verdicts that are told.
 
    The library knows no kind of object of yours. It knows what a record is, who did what, and in which order. A *model* of yours
    says which replies are right. The library never calls it: you ask it about the steps of each log, from the first on, and hand
@@ -85,7 +85,8 @@ struct mc2_own_step {
     struct mc2_own_said call, reply;
 };
 
-/* A line. `next` is told of each kind but MC2_OWN_NONE, and each other field of the kinds that it names. */
+/* A line. `next` is told of each kind but MC2_OWN_NONE, and each other field of the kinds that it names. What isn't told stays
+   as it was. */
 struct mc2_own_line {
     /* One of mc2_own_kind. */
     uint32_t kind;
