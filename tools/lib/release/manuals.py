@@ -12,11 +12,13 @@ PAGES = [
         ("docs/FORMATS.md", ["The program's words", "Refusals"])]),
     ("mc2-view", 1, "shows runs on shared kernel objects, step by step and as pictures", [("docs/SEEING.md", [])]),
     ("mc2-record", 5, "settings, scripts, schedules and records of mc2", [
-        ("docs/FORMATS.md", ["Settings", "Scripts", "Schedules", "Records", "Reports", "Verdicts", "Merged order", "Limits"])]),
+        ("docs/FORMATS.md", ["Settings", "Scripts", "Schedules", "Records", "Records of objects of your own",
+                               "Reports", "Verdicts", "Merged order", "Limits"])]),
     ("mc2_cells", 3, "objects behind proved locks, from C", [("include/mc2_cells.h", [])]),
     ("mc2_judge", 3, "judges records, from C", [("include/mc2_judge.h", [])]),
+    ("mc2_own", 3, "judges records of objects of one's own, from C", [("include/mc2_own.h", [])]),
 ]
-SEE_ALSO = "**mc2**(1), **mc2-view**(1), **mc2-record**(5), **mc2_cells**(3), **mc2_judge**(3)"
+SEE_ALSO = "**mc2**(1), **mc2-view**(1), **mc2-record**(5), **mc2_cells**(3), **mc2_judge**(3), **mc2_own**(3)"
 
 
 def has_converter():
