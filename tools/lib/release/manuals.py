@@ -18,6 +18,8 @@ PAGES = [
     ("mc2_judge", 3, "judges records, from C", [("include/mc2_judge.h", [])]),
     ("mc2_own", 3, "judges records of objects of one's own, from C", [("include/mc2_own.h", [])]),
 ]
+# The library that a header's functions are in, where it has another name.
+LIBRARY_OF = {"mc2_own": "mc2_judge"}
 SEE_ALSO = "**mc2**(1), **mc2-view**(1), **mc2-record**(5), **mc2_cells**(3), **mc2_judge**(3), **mc2_own**(3)"
 
 
@@ -63,7 +65,7 @@ def header(path):
             names = re.sub(r" \{\s*$", ";", re.sub(r"^static inline ", "", found[2].strip(), flags=re.M))
             functions.append(f"```c\n{names}\n```\n\n{comment_text((found[1] or '').splitlines())}\n")
     name = Path(path).name
-    link = name.removesuffix(".h")
+    link = LIBRARY_OF.get(name.removesuffix(".h"), name.removesuffix(".h"))
     return (f"## Synopsis\n\n```c\n#include <{name}>\n```\n\n    cc program.c $(pkg-config --cflags --libs {link})\n\n"
             f"## Description\n\n{plain(first)}\n\n## Functions\n\n" + "\n".join(functions))
 
