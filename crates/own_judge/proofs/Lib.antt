@@ -5,3 +5,5 @@ pub mod FirstFaults
 pub mod SoundRuns
 pub mod ToldNext
 pub mod CodedSteps
+pub mod FedOwn
+pub mod WholeOwn

@@ -43,6 +43,12 @@ abbrev pub IsFirstWithout : List ℕ → List (List OwnEvent) → Option ℕ →
 IsFirstWithout counts logs None = (y : ℕ) → y < length logs → HasCount counts logs y
 IsFirstWithout counts logs (Some x) = (x < length logs) × (HasCount counts logs x → ⊥) × ((y : ℕ) → y < x → HasCount counts logs y)
 
+-- one log more is whole, behind so many, of which so many steps were still to be right
+abbrev pub IsNextWithout : List ℕ → ℕ → ℕ → Option ℕ → Option ℕ → Type 0
+IsNextWithout counts log left (Some x) new = new ≡ Some x
+IsNextWithout counts log left None None = (log < length counts) × (left ≡ 0)
+IsNextWithout counts log left None (Some x) = (x ≡ log) × ((log < length counts) × (left ≡ 0) → ⊥)
+
 -- the judge was fed what is told of the parts
 pub record IsFedOwn (p : OwnParts) (counts most : List ℕ) (log rest : ℕ) (none : Option ℕ) (d : ToldFed) : Type 0 where
   pub limits : most ≡ map (λ (o : OwnSettings). o.events) p.head.objects

@@ -4,6 +4,7 @@ ghost use Rattle.std.specs.Prelude.{◌≡◌, ◌↔◌, ◌∷◌, [], ℕ, Er
 ghost use Rattle.own_object.specs.Keeping.{no_own_parts, kept_own, IsWholeOwn};
 ghost use Rattle.own_object.specs.Ranges.{OwnRecordFits};
 ghost use Rattle.own_object.specs.Settings.{OwnSettings as Shown};
+ghost use Rattle.own_judge.specs.Judging.{IsNextWithout};
 ghost use Rattle.own_judge.specs.Models.{IsMistold, IsVerdictByCounts};
 
 use crate::answered::Answered;
@@ -59,6 +60,25 @@ fn count_at(counts: &[u64], place: usize) -> u64
         Some(count) => *count,
         None => 0,
     }
+}
+
+/// The first log that has no count or one that is more than its steps, once one log more is whole, of which so many steps were
+/// still to be right.
+fn next_without(
+    counts: &[u64],
+    log: usize,
+    left: u64,
+    without: Option<usize>,
+) -> Option<usize>
+    ensures { IsNextWithout counts.now log left without result }
+{
+    if without.is_some() {
+        return without;
+    }
+    if log < counts.len() && left == 0 {
+        return None;
+    }
+    Some(log)
 }
 
 /// The most events of each object's log.
@@ -139,10 +159,7 @@ impl OwnKeeps for OwnJudge {
 
     fn end_log(&mut self) -> Result<(), OutOfMemory> {
         self.judged.end_log()?;
-        let is_counted = self.log < self.right.len() && self.left == 0;
-        if self.without.is_none() && !is_counted {
-            self.without = Some(self.log);
-        }
+        self.without = next_without(self.right.as_slice(), self.log, self.left, self.without);
         self.log += 1;
         self.left = count_at(self.right.as_slice(), self.log);
         self.heard.tell_log_end();
