@@ -1,0 +1,13 @@
+-- Numbers beside the fields whose values they are.
+use Rattle.std.proofs.Common.{◌≡◌, ℕ, false, List, [], ◌∷◌, length, refl, arith}
+use Rattle.std.proofs.lemmas.Bool.{and_right}
+use Rattle.scripts.specs.declared.tables.field.Field.{Field}
+use Rattle.scripts.specs.Row.{in_range}
+use Rattle.own_kernel.specs.KernelModel.{are_in_ranges}
+
+-- more or fewer numbers don't fit
+pub in_ranges_count : (fs : List Field) (ns : List ℕ) → (length ns ≡ length fs → ⊥) → are_in_ranges fs ns ≡ false
+in_ranges_count [] [] other = absurd (other refl)
+in_ranges_count [] (n ∷ ns) other = refl
+in_ranges_count (f ∷ fs) [] other = refl
+in_ranges_count (f ∷ fs) (n ∷ ns) other = and_right (in_range (record f { value = n })) (are_in_ranges fs ns) (in_ranges_count fs ns (λ e. other (omega (arith, e))))

@@ -1,0 +1,2 @@
+pub mod KernelModel
+pub mod Quotas

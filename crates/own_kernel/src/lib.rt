@@ -1,0 +1,9 @@
+//! The four kinds of objects of the kernel as models of records of one's own.
+#![tactic(auto)]
+
+mod model;
+mod params;
+mod said;
+
+pub use model::KernelModel;
+pub use params::kernel_params;
