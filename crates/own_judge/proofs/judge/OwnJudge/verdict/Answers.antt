@@ -28,7 +28,7 @@ returns-then-len-clause-mistold c = λ x.
     let lt = c.if-len.true in
     let more : length i.heard.head.objects < length i.right.items = omega (arith, a, b, lt, long) in
     let first = mistold_more i.heard i.right.items i.limits.items i.log i.left i.without i.judged c.self.invariant whole fit c.in_default.is more in
-    let here : IsMistold (kept_own i.heard.head i.heard) i.right.items c.len-then-len.result = subst (IsMistold (kept_own i.heard.head i.heard) i.right.items) (sym (c.len-then-len.ensures ∙ long)) first in
+    let here : IsMistold (kept_own i.heard.head i.heard) i.right.items c.len-then-len.result = subst (IsMistold (kept_own i.heard.head i.heard) i.right.items) (let d = c.len-then-len.ensures in omega (arith, d, long)) first in
     let at = mistold_exactly i.heard i.right.items i.limits.items i.log i.left i.without i.judged c.self.invariant whole fit c.len-then-len.result x here in
     ((λ e. subst (λ (v : Counted). IsMistold (kept_own v.parts.head v.parts) v.counts x) c.self.view_is (at.0 e)), (λ h. at.1 (subst (λ (v : Counted). IsMistold (kept_own v.parts.head v.parts) v.counts x) (sym c.self.view_is) h)))
 

@@ -1,6 +1,7 @@
-use Rattle.std.proofs.Common.{◌≡◌, ◌+◌, length, refl, sym, ap, ◌∙◌, subst}
+use Rattle.std.proofs.Common.{◌≡◌, ℕ, List, ◌+◌, length, refl, sym, ap, ◌∙◌, subst}
+use Rattle.std.specs.Prelude.{slice_index}
 use Rattle.own_object.specs.Keeping.{OwnParts, InLogs}
-use Rattle.own_judge.specs.Judging.{Counted, ToldFed, IsFedOwn}
+use Rattle.own_judge.specs.Judging.{Counted, ToldFed, IsNextWithout, IsFedOwn}
 use Rattle.own_judge.proofs.FedOwn.{in_log, logs_left, all_events, log_more}
 use Rattle.own_judge.proofs.judge.OwnJudgeOwnKeeps.end_log.Goals as goal
 
@@ -25,7 +26,7 @@ end_log-requires-clause-count c =
 pub invariant_of-self-2 : goal.invariant_of-self-2
 invariant_of-self-2 c =
     let i = c.self.inside in
-    let more = log_more i.heard i.right.items i.limits.items i.log i.left i.without i.judged c.self.invariant (i.log + 1) c.count_at-self-inside.result c.next_without-self-inside.result (ap (λ (v : Counted). v.parts.begun) c.self.view_is ∙ c.requires.begun) refl ? ? in
+    let more = log_more i.heard i.right.items i.limits.items i.log i.left i.without i.judged c.self.invariant (i.log + 1) c.count_at-self-inside.result c.next_without-self-inside.result (ap (λ (v : Counted). v.parts.begun) c.self.view_is ∙ c.requires.begun) refl (c.count_at-self-inside.ensures ∙ ap (λ l. slice_index l (i.log + 1)) c.as_slice-2.ensures.value) (subst (λ (l : List ℕ). IsNextWithout l i.log i.left i.without c.next_without-self-inside.result) c.as_slice.ensures.value c.next_without-self-inside.ensures) in
     let heard = c.tell_log_end.ensures in
     let fed = c.in_ok-end_log.ensures.ok in
     subst (λ (z : OwnParts × ToldFed). IsFedOwn z.0 i.right.items i.limits.items (i.log + 1) c.count_at-self-inside.result c.next_without-self-inside.result z.1) (λ j. (sym heard j, sym fed j)) more
