@@ -46,7 +46,7 @@ among_at (x ∷ ws) s e = elim (or_true (bytes_eq x s) (is_among ws s) e) [
 ]
 
 -- a new word behind words that differ
-pub differ_more : (ws : List (List ℕ)) (w : List ℕ) → Differ ws → is_among ws w ≡ false → Differ (ws ++ w ∷ [])
+differ_more : (ws : List (List ℕ)) (w : List ℕ) → Differ ws → is_among ws w ≡ false → Differ (ws ++ w ∷ [])
 differ_more ws w differ fresh i j li lj same =
     let count = length-append ws (w ∷ []) in
     let apart : (k : ℕ) → k < length ws → word_in ws k ≡ w → ⊥ = λ k less e. false≢true (sym fresh ∙ among ws k w less e) in
@@ -196,18 +196,26 @@ any_named (o ∷ os) name = ap (λ b. bytes_eq o.name name || b) (any_named os n
 abbrev shown_object : List ℕ → OwnSettings
 shown_object name = record { name = name; lock = codes "a"; events = 1; kind = codes "a"; numbers = [] }
 
--- so many objects more, each with a new name
-pub more_new : (n : ℕ) (front : List OwnSettings) → length front + n ≤ 256 → Differ (names front) → (os : List OwnSettings) × (length os ≡ n) × Differ (names (front ++ os)) × AllByRecursion OwnSettingsFit os
+-- an object of a new name behind the others
+pub names_more : (front : List OwnSettings) (o : OwnSettings) → Differ (names front) → is_among (names front) o.name ≡ false → Differ (names (front ++ o ∷ []))
+names_more front o differ fresh = subst Differ (sym (map-append (λ (x : OwnSettings). x.name) front (o ∷ []))) (differ_more (names front) o.name differ fresh)
+
+-- so many objects can follow, each with a new name
+abbrev HasNew : ℕ → List OwnSettings → Type 0
+HasNew n front = (os : List OwnSettings) × (length os ≡ n) × Differ (names (front ++ os)) × AllByRecursion OwnSettingsFit os
+
+one_first : (n : ℕ) (front : List OwnSettings) (o : OwnSettings) → OwnSettingsFit o → HasNew n (front ++ o ∷ []) → HasNew (suc n) front
+one_first n front o fits rest = (o ∷ rest.0, ap suc rest.1, subst (λ l. Differ (names l)) (append_assoc front (o ∷ []) rest.0) rest.2, (fits, rest.3))
+
+shown_fits : (name : List ℕ) → is_name name ≡ true → OwnSettingsFit (shown_object name)
+shown_fits name named = record { name = named; lock = refl; events = (omega arith, omega arith); kind = refl; few = omega arith; numbers = tt }
+
+names_count : (os : List OwnSettings) → length (names os) ≡ length os
+names_count [] = refl
+names_count (o ∷ os) = ap suc (names_count os)
+
+pub more_new : (n : ℕ) (front : List OwnSettings) → length front + n ≤ 256 → Differ (names front) → HasNew n front
 more_new zero front few differ = ([], refl, subst (λ l. Differ (names l)) (sym (append-nil front)) differ, tt)
 more_new (suc n) front few differ =
-    let count : length (names front) ≡ length front = omega (arith, map_count front) in
-    let new = new_name (names front) (omega (arith, few, count)) in
-    let o = shown_object new.0 in
-    let grown : Differ (names (front ++ o ∷ [])) = subst Differ (sym (map-append (λ (o : OwnSettings). o.name) front (o ∷ []))) (differ_more (names front) new.0 differ new.2) in
-    let rest = more_new n (front ++ o ∷ []) (omega (arith, few, length-append front (o ∷ []))) grown in
-    let fits : OwnSettingsFit o = record { name = new.1; lock = refl; events = (omega arith, omega arith); kind = refl; few = omega arith; numbers = tt } in
-    (o ∷ rest.0, ap suc rest.1, subst (λ l. Differ (names l)) (append_assoc front (o ∷ []) rest.0) rest.2, (fits, rest.3))
-  where
-    map_count : (os : List OwnSettings) → length (names os) ≡ length os
-    map_count [] = refl
-    map_count (o ∷ os) = ap suc (map_count os)
+    let new = new_name (names front) (omega (arith, few, names_count front)) in
+    one_first n front (shown_object new.0) (shown_fits new.0 new.1) (more_new n (front ++ shown_object new.0 ∷ []) (omega (arith, few, length-append front (shown_object new.0 ∷ []))) (names_more front (shown_object new.0) differ new.2))

@@ -16,7 +16,7 @@ use Rattle.own_records.specs.declared.state.Next.TheVariants.{First, Cpus, Count
 use Rattle.own_records.specs.RecordStates.{OwnState, nothing_read, behind_object, behind_log, behind_events, behind_transcript, behind_entries, behind_line_at, StepsTo, TakesLine, ObjectsFit, LogsFit, TranscriptsFit, FitsAt, Fits}
 use Rattle.own_records.specs.RecordText.{own_head_lines}
 use Rattle.own_records.proofs.LineLaws.{ReadsLines, Joins, reads_fixed, reads_head, reads_event, reads_entry, reads_new, reads_refuses}
-use Rattle.own_records.proofs.NewNames.{names, differ_more}
+use Rattle.own_records.proofs.NewNames.{names, names_more}
 use Rattle.own_records.proofs.Parts.{log_head, cpu_head, logs_front, transcripts_front}
 use Rattle.scripts.specs.LineMachine.{TakesEach}
 use Rattle.scripts.specs.Reading.{◌>>=◌, words}
@@ -72,7 +72,7 @@ object_spells s o h joins =
     let more = h.more in
     let few = h.few in
     let each : AllByRecursion OwnSettingsFit os = all_push OwnSettingsFit s.head.objects o h.each joins.0 in
-    let differ : Differ (names os) = subst Differ (sym (map-append (λ (x : OwnSettings). x.name) s.head.objects (o ∷ []))) (differ_more (names s.head.objects) o.name h.names joins.1) in
+    let differ : Differ (names os) = names_more s.head.objects o h.names joins.1 in
     let nothing : next ≡ record nothing_read { awaits = Object; head = record head { refusing = [] }; count = s.count } = ap {A = OwnState} {B = OwnState} (λ x. record x { head = record x.head { objects = os } }) h.nothing in
     let no_words : s.head.refusing ≡ [] = ap (λ (t : OwnState). t.head.refusing) h.nothing in
     let text : spelled_at Object next ≡ lines = ap (λ l. first_words ∷ cpus_words s.head.cpus ∷ count_words s.count ∷ l) (map-append own_object_words s.head.objects (o ∷ [])) in
