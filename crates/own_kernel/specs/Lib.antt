@@ -1,2 +1,3 @@
 pub mod KernelModel
 pub mod Quotas
+pub mod Counts
