@@ -7,3 +7,4 @@ pub mod ToldNext
 pub mod CodedSteps
 pub mod FedOwn
 pub mod WholeOwn
+pub mod SomeModel

@@ -5,3 +5,4 @@ pub mod Models
 pub mod Heard
 pub mod Coded
 pub mod Judging
+pub mod Merged

@@ -1,18 +1,25 @@
 //! A record of objects of their writer's that is judged while it is read.
 
-ghost use Rattle.std.specs.Prelude.{◌≡◌, ◌↔◌, ◌∷◌, [], ℕ, Err, length, map, slice_index, IfOk};
+ghost use Rattle.std.specs.Prelude.{◌≡◌, ◌↔◌, ◌∷◌, [], ℕ, Err, length, map, slice_index, IfOk, IfErr};
+ghost use Rattle.auditor.specs.Faults.{IsFirstFault};
+ghost use Rattle.log_merge.specs.Shapes.{shape_of};
 ghost use Rattle.own_object.specs.Keeping.{no_own_parts, kept_own, IsWholeOwn};
 ghost use Rattle.own_object.specs.Ranges.{OwnRecordFits};
 ghost use Rattle.own_object.specs.Settings.{OwnSettings as Shown};
+ghost use Rattle.own_judge.specs.Answers.{answered};
 ghost use Rattle.own_judge.specs.Judging.{IsNextWithout};
-ghost use Rattle.own_judge.specs.Models.{IsMistold, IsVerdictByCounts};
+ghost use Rattle.own_judge.specs.Models.{IsMistold, IsVerdictByCounts, opened};
+ghost use Rattle.own_judge.specs.Translated.{told_run};
+ghost use Rattle.sound_run.specs.Sound.{Sound};
 
 use crate::answered::Answered;
 use crate::heard::Heard;
+use crate::shape::OwnShape;
 use crate::telling::{tell_entry, tell_event};
 use crate::told_rows::ToldRows;
-use auditor::{Judged, OpenedObject, Verdict};
-use event_log::{Entry, Event, OutOfMemory};
+use auditor::{Fault, Judged, OpenedObject, Verdict};
+use event_log::{Entry, Event, OutOfMemory, Series};
+use log_merge::EntryShape;
 use own_object::{OwnHead, OwnKeeps, OwnObject, OwnSettings};
 use std::alloc::Global;
 use std::marker::Model;
@@ -126,6 +133,23 @@ impl OwnJudge {
             });
         }
         Ok(self.judged.verdict())
+    }
+
+    /// The run that was read in its shape, if it is sound, or else its first fault. It takes no memory.
+    pub(crate) fn into_shape(
+        self,
+        transcripts: Vec<Series<EntryShape>>,
+    ) -> Result<OwnShape, Fault>
+        requires whole { IsWholeOwn self.parts.head self.parts }
+        requires fit { OwnRecordFits (kept_own self.parts.head self.parts) }
+        requires shapes { transcripts.items ≡ map (map shape_of) self.parts.transcripts }
+        ensures run { IfOk result (λ s. s ≡ (kept_own self.parts.head self.parts).run) }
+        ensures sound { IfOk result (λ s. Sound answered (opened self.parts.head) (told_run self.counts (kept_own self.parts.head self.parts).run)) }
+        ensures fault { IfErr result (IsFirstFault answered (opened self.parts.head) (told_run self.counts (kept_own self.parts.head self.parts).run)) }
+    {
+        let OwnJudge { heard, judged, .. } = self;
+        let run = judged.into_run()?;
+        Ok(OwnShape::new(run, heard, transcripts))
     }
 }
 

@@ -4,9 +4,14 @@
 mod answered;
 mod heard;
 mod judge;
+mod law;
+mod merge;
+mod shape;
 mod step_bytes;
 mod telling;
 mod told_rows;
 
 pub use answered::{Answer, Answered, Told};
 pub use judge::{Mistold, OwnJudge};
+pub use law::some_model_has_the_counts;
+pub use merge::{OwnMergeFault, OwnMergeJudge};

@@ -1,0 +1,157 @@
+//! A record of objects of their writer's that is judged while it is read, and then merged.
+
+ghost use Rattle.std.specs.Prelude.{◌≡◌, ◌↔◌, ℕ, Err, List, IfOk, IfErr};
+ghost use Rattle.own_object.specs.Keeping.{no_own_parts, kept_own, IsWholeOwn};
+ghost use Rattle.own_object.specs.Ranges.{OwnRecordFits};
+ghost use Rattle.own_judge.specs.Merged.{IsMergedBy, HasCycleBy};
+ghost use Rattle.own_judge.specs.Models.{Model as Any, AreCounts, IsMistold, IsFirstFaultBy, SoundBy};
+ghost use Rattle.sound_run.specs.Orders.{HasOrder};
+
+use crate::judge::{Mistold, OwnJudge};
+use crate::shape::shape;
+use auditor::Fault;
+use event_log::{Entry, Event, OutOfMemory, Series};
+use log_merge::{EntryShape, Merging, merge_run};
+use own_object::{OwnHead, OwnKeeps, OwnObject};
+use sound_run::Place;
+use std::alloc::Global;
+use std::marker::Model;
+use std::mem;
+
+/// Why no order is given.
+#[derive(Debug, Drop)]
+pub enum OwnMergeFault {
+    OutOfMemory,
+    /// The counts don't fit the record.
+    Mistold(Mistold),
+    /// The record isn't sound: the first fault.
+    Unsound(Fault),
+    /// There is no order: entries of different CPUs, each of which has to come behind one that comes behind the next one, and
+    /// the last behind one that comes behind the first.
+    Cycle(Series<Place>),
+}
+
+impl From<OutOfMemory> for OwnMergeFault {
+    ghost use Rattle.own_judge.specs.declared.merge.OwnMergeFault.TheVariants.{OutOfMemory};
+
+    ghost from_gives = { λ _ fault. fault ≡ OutOfMemory };
+
+    fn from(fault: OutOfMemory) -> OwnMergeFault {
+        let OutOfMemory = fault;
+        OwnMergeFault::OutOfMemory
+    }
+}
+
+/// Judges a record while it is read, and keeps two bytes of each entry beside what the judge keeps.
+#[derive(Drop)]
+pub struct OwnMergeJudge {
+    alloc: Global,
+    judge: OwnJudge,
+    transcripts: Vec<Series<EntryShape>>,
+    entries: Vec<EntryShape>,
+}
+
+impl Model for OwnMergeJudge {
+    ghost use Rattle.std.specs.Prelude.{◌≡◌, map};
+    ghost use Rattle.log_merge.specs.Shapes.{shape_of};
+    ghost use Rattle.own_judge.specs.Judging.{Counted};
+
+    ghost Value = { Counted };
+
+    ghost view = { λ m. m.judge };
+
+    ghost invariant = { λ m. (m.transcripts.items ≡ map (map shape_of) m.judge.parts.transcripts) × (m.entries.items ≡ map shape_of m.judge.parts.entries) };
+}
+
+impl OwnMergeJudge {
+    /// Nothing was read yet, and so many steps of each log will be called right. It takes no memory.
+    pub fn new(alloc: Global, right: Vec<u64>) -> OwnMergeJudge
+        ensures { result ≡ record { parts = no_own_parts; counts = right.items } }
+    {
+        OwnMergeJudge {
+            alloc,
+            judge: OwnJudge::new(alloc, right),
+            transcripts: Vec::new(alloc),
+            entries: Vec::new(alloc),
+        }
+    }
+
+    /// One order over all entries of the record that was read. What is said is said by every model that has these counts.
+    pub fn into_merged(self) -> Result<Series<Place>, OwnMergeFault>
+        requires whole { IsWholeOwn self.parts.head self.parts }
+        requires fit { OwnRecordFits (kept_own self.parts.head self.parts) }
+        ensures mistold { (x : ℕ) → (result ≡ Err (OwnMergeFault.Mistold (record { object = x }))) ↔ IsMistold (kept_own self.parts.head self.parts) self.counts x }
+        ensures unsound { (f : Fault) → result ≡ Err (OwnMergeFault.Unsound f) →
+            (model : Any) → AreCounts model (kept_own self.parts.head self.parts) self.counts → IsFirstFaultBy model (kept_own self.parts.head self.parts) f }
+        ensures order { IfOk result (λ places. (model : Any) → AreCounts model (kept_own self.parts.head self.parts) self.counts →
+            IsMergedBy model (kept_own self.parts.head self.parts) places) }
+        ensures cycle { (c : List Place) → result ≡ Err (OwnMergeFault.Cycle c) →
+            (model : Any) → AreCounts model (kept_own self.parts.head self.parts) self.counts → HasCycleBy model (kept_own self.parts.head self.parts) c }
+        ensures given { (model : Any) → AreCounts model (kept_own self.parts.head self.parts) self.counts → SoundBy model (kept_own self.parts.head self.parts) →
+            HasOrder (kept_own self.parts.head self.parts).run → IfErr result (λ f. f ≡ OwnMergeFault.OutOfMemory) }
+    {
+        let OwnMergeJudge {
+            alloc,
+            judge,
+            transcripts,
+            entries: _,
+        } = self;
+        if let Err(mistold) = judge.verdict() {
+            return Err(OwnMergeFault::Mistold(mistold));
+        }
+        let shape = match judge.into_shape(transcripts) {
+            Err(fault) => return Err(OwnMergeFault::Unsound(fault)),
+            Ok(shape) => shape,
+        };
+        let merging = merge_run(alloc, &shape)?;
+        match merging {
+            Merging::Order(places) => Ok(places),
+            Merging::Cycle(cycle) => Err(OwnMergeFault::Cycle(cycle)),
+        }
+    }
+}
+
+impl OwnKeeps for OwnMergeJudge {
+    ghost keeps = { λ m. m.parts };
+
+    fn begin(&mut self, head: &OwnHead) -> Result<(), OutOfMemory> {
+        self.judge.begin(head)
+    }
+
+    fn begin_log(&mut self, count: u32) -> Result<(), OutOfMemory> {
+        self.judge.begin_log(count)
+    }
+
+    fn event(&mut self, event: &Event<OwnObject>) -> Result<(), OutOfMemory> {
+        self.judge.event(event)
+    }
+
+    fn end_log(&mut self) -> Result<(), OutOfMemory> {
+        self.judge.end_log()
+    }
+
+    fn begin_transcript(&mut self, count: u32) -> Result<(), OutOfMemory> {
+        self.judge.begin_transcript(count)
+    }
+
+    fn entry(&mut self, entry: &Entry<OwnObject>) -> Result<(), OutOfMemory> {
+        self.entries.reserve(1)?;
+        self.judge.entry(entry)?;
+        self.entries.push_reserved(shape(entry));
+        Ok(())
+    }
+
+    fn end_transcript(&mut self) -> Result<(), OutOfMemory> {
+        self.transcripts.reserve(1)?;
+        self.judge.end_transcript()?;
+        let entries = mem::replace(&mut self.entries, Vec::new(self.alloc));
+        self.transcripts.push_reserved(Series::from_vec(entries));
+        Ok(())
+    }
+
+    fn forget(&mut self) {
+        self.judge.forget();
+        self.transcripts = Vec::new(self.alloc);
+        self.entries = Vec::new(self.alloc);
+    }
+}
