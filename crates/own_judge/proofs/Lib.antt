@@ -8,3 +8,4 @@ pub mod CodedSteps
 pub mod FedOwn
 pub mod WholeOwn
 pub mod SomeModel
+pub mod MergedOwn

@@ -33,7 +33,7 @@ use Rattle.own_judge.proofs.SoundRuns.{sound_to, sound_from}
 use Rattle.own_judge.proofs.FedOwn.{fed_logs, all_opened, has_logs, transcripts_count, told_sizes}
 
 -- what holds of each list, and of none, holds of the list at a place
-list_at : {X : Type 0} (Q : List X → Type 0) (lists : List (List X)) (i : ℕ) → AllByRecursion Q lists → Q [] → Q (unwrap_or (slice_get lists i) [])
+pub list_at : {X : Type 0} (Q : List X → Type 0) (lists : List (List X)) (i : ℕ) → AllByRecursion Q lists → Q [] → Q (unwrap_or (slice_get lists i) [])
 list_at Q [] i all none = none
 list_at Q (l ∷ lists) zero all none = all.0
 list_at Q (l ∷ lists) (suc i) all none = list_at Q lists i all.1 none
@@ -77,7 +77,7 @@ module _ (r : OwnRecord) (counts : List ℕ) (fit : OwnRecordFits r) (terms : Li
             omega (arith, c, logs, k, same);
       }
 
-same_opened : (objects : List OwnSettings) → opened_by (map terms_of objects) ≡ map (λ (o : OwnSettings). record { params = tt; limit = o.events }) objects
+pub same_opened : (objects : List OwnSettings) → opened_by (map terms_of objects) ≡ map (λ (o : OwnSettings). record { params = tt; limit = o.events }) objects
 same_opened [] = refl
 same_opened (o ∷ objects) = ap (λ l. record { params = tt; limit = o.events } ∷ l) (same_opened objects)
 

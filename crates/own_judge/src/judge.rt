@@ -148,8 +148,10 @@ impl OwnJudge {
         ensures fault { IfErr result (IsFirstFault answered (opened self.parts.head) (told_run self.counts (kept_own self.parts.head self.parts).run)) }
     {
         let OwnJudge { heard, judged, .. } = self;
-        let run = judged.into_run()?;
-        Ok(OwnShape::new(run, heard, transcripts))
+        match judged.into_run() {
+            Err(fault) => Err(fault),
+            Ok(run) => Ok(OwnShape::new(run, heard, transcripts)),
+        }
     }
 }
 
