@@ -1,3 +1,4 @@
 pub mod KernelModel
 pub mod Quotas
 pub mod Counts
+pub mod Lines

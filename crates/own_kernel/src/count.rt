@@ -1,6 +1,7 @@
 //! How many steps of an object of the kernel are right.
 
-ghost use Rattle.std.specs.Prelude.{◌≡◌, ◌+◌, ◌<◌, ◌^◌, ◌++◌, ◌∷◌, [], true, length, IfOk};
+ghost use Rattle.std.specs.Prelude.{◌≡◌, ◌+◌, ◌<◌, ◌≤◌, ◌^◌, ◌++◌, ◌∷◌, [], true, length, IfOk};
+ghost use Rattle.event_log.specs.declared.event.TheConstants.{MOST_CALLS};
 ghost use Rattle.own_kernel.specs.Counts.{none_counted, answers_of, IsCountOf};
 ghost use Rattle.scripts.specs.Kernel.{kernel_in_range};
 
@@ -75,6 +76,7 @@ impl KernelCount {
         requires { length self.old.steps + length event.now.steps.list.items < 2 ^ 64 }
         ensures params { self.new.params ≡ self.old.params }
         ensures steps { self.new.steps ≡ self.old.steps ++ event.now.steps.list.items }
+        ensures few { length self.new.steps ≤ length self.old.steps + MOST_CALLS }
     {
         for step in event.steps.list.as_slice() {
             self.step(step);

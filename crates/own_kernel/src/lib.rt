@@ -2,10 +2,12 @@
 #![tactic(auto)]
 
 mod count;
+mod lines;
 mod model;
 mod params;
 mod said;
 
 pub use count::KernelCount;
+pub use lines::kernel_count;
 pub use model::KernelModel;
 pub use params::kernel_params;

@@ -1,9 +1,10 @@
 //! What an object of the kernel is opened with.
 
-ghost use Rattle.std.specs.Prelude.{◌≡◌, nat_le, ◌&&◌, if◌then◌else◌, Some, None};
+ghost use Rattle.std.specs.Prelude.{◌≡◌, nat_le, ◌&&◌, if◌then◌else◌, true, Some, None, IfSome};
 ghost use Rattle.own_kernel.specs.KernelModel.{opened_from, params_of};
 ghost use Rattle.own_kernel.specs.Quotas.{are_quotas};
 ghost use Rattle.scripts.specs.declared.objects.kind.Kind.TheVariants as kind;
+ghost use Rattle.scripts.specs.Kernel.{kernel_in_range};
 
 use console_ring::MOST_BYTES;
 use page_pool::{MOST_PAGES, OWNERS, PoolParams};
@@ -87,7 +88,8 @@ fn sched_params(numbers: &[u64]) -> Option<KParams>
 /// What an object of that kind is opened with by these numbers, if one can be.
 #[tactic(auto, unfolding(crate::specs::KernelModel::params_of))]
 pub fn kernel_params(kind: &[u8], numbers: &[u64]) -> Option<KParams>
-    ensures { result ≡ params_of kind.now numbers.now }
+    ensures params { result ≡ params_of kind.now numbers.now }
+    ensures able { IfSome result (λ p. kernel_in_range p ≡ true) }
 {
     match Kind::of_word(kind)? {
         Kind::Queue => queue_params(numbers),

@@ -64,7 +64,7 @@ pub(crate) fn call_of(said: &Spoken) -> Option<KCall>
 fn have_values(fields: &[Field], numbers: &[u64]) -> bool
     ensures { result ≡ bytes_eq (map (λ f. f.value) fields.now) numbers.now }
 {
-    if numbers.len() != fields.len() {
+    if fields.len() != numbers.len() {
         return false;
     }
     for i in 0..fields.len() {

@@ -1,4 +1,4 @@
-use Rattle.std.proofs.Common.{◌≡◌, ◌<◌, length, get_or, sym, ◌∙◌, ap, arith, bytes_eq}
+use Rattle.std.proofs.Common.{◌<◌, length, get_or, sym, ◌∙◌, ap, arith, bytes_eq}
 use Rattle.std.proofs.lemmas.List.{get_or_default}
 use Rattle.shared_queue.specs.declared.call.QueueCall.TheVariants.{Enq}
 use Rattle.scripts.specs.declared.objects.kernel_call.KCall.TheVariants.{Queue}
