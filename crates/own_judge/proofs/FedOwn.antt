@@ -1,30 +1,22 @@
 -- A judge that was fed what is told of a record's parts.
-use Rattle.std.proofs.Common.{◌≡◌, ◌⊎◌, inl, inr, ⊎_elim, ℕ, zero, suc, ◌+◌, ◌-◌, ◌<◌, ◌≤◌, Bool, true, false, if◌then◌else◌, List, [], ◌∷◌, ◌++◌, length, map, take, get_or, Option, Some, None, slice_get, refl, sym, ap, ◌∙◌, subst, arith, length-append, append_assoc}
+use Rattle.std.proofs.Common.{◌≡◌, ◌⊎◌, inl, inr, ⊎_elim, ℕ, zero, suc, ◌+◌, ◌-◌, ◌<◌, ◌≤◌, Bool, true, false, if◌then◌else◌, List, [], ◌∷◌, ◌++◌, length, map, take, get_or, Option, Some, None, slice_get, refl, sym, ap, ◌∙◌, subst, arith, length-append}
 use Rattle.std.specs.Prelude.{unwrap_or, slice_index}
-use Rattle.std.specs.List.{AllByRecursion}
 use Rattle.std.proofs.lemmas.List.{length-map, length-take-le, take_more, take_all}
 use Rattle.std.proofs.lemmas.Option.{slice_get_within, get_or_from_slice_get}
 use Rattle.event_log.specs.Log.{steps_of}
-use Rattle.event_log.proofs.Each.{all_map}
-use Rattle.sound_run.specs.Sound.{Opened, transcript_of, log_of}
-use Rattle.sound_run.proofs.Slices.{map_get, get_map, some_at, one_of}
-use Rattle.auditor.specs.declared.opened_object.OpenedObject.{OpenedObject}
+use Rattle.sound_run.proofs.Slices.{map_get, some_at}
 use Rattle.auditor.specs.Faults.{HasSteps}
-use Rattle.auditor.specs.Fed.{Fed, run_of, log_begun, event_fed, log_ended}
-use Rattle.auditor.specs.Passes.{IsRunOf}
+use Rattle.auditor.specs.Fed.{log_begun, event_fed, log_ended}
 use Rattle.auditor.specs.SoFar.{IsBeforeLog, IsInLog, HasLogs, IsInTranscripts}
-use Rattle.auditor.specs.Transcripts.{judged_by, opened_by}
-use Rattle.auditor.proofs.Verdicts.{all_at}
-use Rattle.own_object.specs.Keeping.{OwnParts, with_count, with_event, with_log, kept_own, InLogs, InTranscripts, IsAtHead, IsWholeOwn}
-use Rattle.own_object.specs.Own.{OwnEvent, OwnEntry, OwnRun}
-use Rattle.own_object.specs.Ranges.{OwnRecord, OwnRecordFits, EventFits, EntryFits, LogFits, TranscriptFits}
-use Rattle.own_object.specs.Settings.{OwnSettings, OwnHead}
-use Rattle.own_judge.specs.Answers.{answered, ToldEvent, ToldEntry, ToldRun}
+use Rattle.own_object.specs.Keeping.{OwnParts, with_count, with_event, with_log, InLogs, InTranscripts, IsAtHead}
+use Rattle.own_object.specs.Own.{OwnEvent, OwnEntry}
+use Rattle.own_object.specs.Ranges.{EventFits, EntryFits}
+use Rattle.own_object.specs.Settings.{OwnSettings}
+use Rattle.own_judge.specs.Answers.{ToldEvent}
 use Rattle.own_judge.specs.Judging.{ToldFed, ToldTerms, terms_of, begun_logs, HasCount, IsFirstWithout, IsNextWithout, IsFedOwn}
-use Rattle.own_judge.specs.Models.{opened}
-use Rattle.own_judge.specs.Translated.{told_event, told_log, told_logs, told_entry, told_run}
+use Rattle.own_judge.specs.Translated.{told_event, told_log, told_logs, told_entry}
 use Rattle.own_judge.proofs.ToldLogs.{count_steps, count_events}
-use Rattle.own_judge.proofs.ToldRuns.{logs_count, log_told, transcript_told}
+use Rattle.own_judge.proofs.ToldRuns.{logs_count}
 
 steps_push : (log : List OwnEvent) (e : OwnEvent) → length (steps_of (log ++ e ∷ [])) ≡ length (steps_of log) + length e.steps.list.items
 steps_push [] e = let n = length-append e.steps.list.items [] in omega (arith, n)
@@ -68,10 +60,13 @@ without_next counts logs events log rest old new here left next before = by old 
   where
     keep : (y : ℕ) → y < length logs → HasCount counts logs y → HasCount counts (logs ++ events ∷ []) y
     keep y lt h = record { count = h.count; there = h.there; within = let w = h.within in let n = ap (λ o. length (steps_of (unwrap_or o []))) (earlier_there logs events y lt) in omega (arith, w, n) }
+
     back : (y : ℕ) → y < length logs → HasCount counts (logs ++ events ∷ []) y → HasCount counts logs y
     back y lt h = record { count = h.count; there = h.there; within = let w = h.within in let n = ap (λ o. length (steps_of (unwrap_or o []))) (earlier_there logs events y lt) in omega (arith, w, n) }
+
     longer : length (logs ++ events ∷ []) ≡ length logs + 1
     longer = length-append logs (events ∷ [])
+
     last_has : HasCount counts (logs ++ events ∷ []) (length logs) → (log < length counts) × (rest ≡ 0)
     last_has h =
         let w = h.within in
@@ -79,17 +74,20 @@ without_next counts logs events log rest old new here left next before = by old 
         let i = index_of counts (length logs) h.count h.there in
         let lt = slice_get_within counts (length logs) h.count h.there in
         (omega (arith, lt, here), omega (arith, left, w, n, i))
+
     has_last : log < length counts → rest ≡ 0 → HasCount counts (logs ++ events ∷ []) (length logs)
     has_last lt none =
         let c = some_at counts (length logs) (omega (arith, lt, here)) in
         let n = ap (λ o. length (steps_of (unwrap_or o []))) (last_there logs events) in
         let i = index_of counts (length logs) c.0 c.1 in
         record { count = c.0; there = c.1; within = omega (arith, left, none, n, i) }
+
     order : (m n : ℕ) → m < n + 1 → (m < n) ⊎ (m ≡ n)
     order zero zero lt = inr refl
     order zero (suc n) lt = inl (omega arith)
     order (suc m) zero lt = absurd (omega (arith, lt))
     order (suc m) (suc n) lt = ⊎_elim (λ less. inl (omega arith)) (λ e. inr (ap suc e)) (order m n (omega (arith, lt)))
+
     by : (a b : Option ℕ) → IsNextWithout counts log rest a b → IsFirstWithout counts logs a → IsFirstWithout counts (logs ++ events ∷ []) b
     by (Some x) None step first = absurd (cc)
     by (Some x) (Some y) step first =

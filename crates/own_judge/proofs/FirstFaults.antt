@@ -1,18 +1,17 @@
 -- The first fault by a model, and the first of what is told.
-use Rattle.std.proofs.Common.{◌≡◌, ◌≢◌, ◌⊎◌, inl, inr, ⊎_elim, ℕ, zero, suc, ◌+◌, ◌-◌, ◌<◌, ◌≤◌, Bool, true, false, true≢false, List, [], ◌∷◌, ◌++◌, length, map, take, Option, Some, None, slice_get, refl, sym, ap, ◌∙◌, subst, arith, length-append}
+use Rattle.std.proofs.Common.{◌≡◌, ◌⊎◌, inl, inr, ⊎_elim, ℕ, zero, suc, ◌+◌, ◌<◌, ◌≤◌, true≢false, List, [], ◌∷◌, ◌++◌, length, take, Some, slice_get, refl, sym, ap, ◌∙◌, subst, arith, length-append}
 use Rattle.std.specs.Prelude.{unwrap_or, slice_index}
-use Rattle.std.proofs.lemmas.List.{length-map}
 use Rattle.event_log.specs.Log.{steps_of}
 use Rattle.sound_run.specs.Sound.{Opened, log_of}
-use Rattle.sound_run.proofs.Slices.{map_get, get_map, one_of, some_at}
+use Rattle.sound_run.proofs.Slices.{map_get, get_map, some_at}
 use Rattle.auditor.specs.declared.fault.Fault.{Fault}
 use Rattle.auditor.specs.declared.fault.Fault.TheVariants as fault
-use Rattle.auditor.specs.Faults.{IsFault, IsFirstFault, IsBefore, place, HasWrongStep, IsTooLong}
-use Rattle.own_object.specs.Own.{OwnStep, OwnEvent, OwnRun, own}
+use Rattle.auditor.specs.Faults.{IsFault, IsFirstFault, IsBefore, place, HasWrongStep}
+use Rattle.own_object.specs.Own.{OwnStep, OwnEvent}
 use Rattle.own_object.specs.Ranges.{OwnRecord}
 use Rattle.own_object.specs.Settings.{OwnSettings}
 use Rattle.own_judge.specs.Answers.{answered, ToldRun}
-use Rattle.own_judge.specs.Models.{Model, opened, AreRight, IsCount, AreCounts, IsBehindRefusing, HasWrongStepBy, IsFaultBy, IsFirstFaultBy}
+use Rattle.own_judge.specs.Models.{Model, opened, IsCount, AreCounts, HasWrongStepBy, IsFaultBy, IsFirstFaultBy}
 use Rattle.own_judge.specs.Translated.{told_run}
 use Rattle.own_judge.proofs.ToldLogs.{EventAt, find_event, order}
 use Rattle.own_judge.proofs.ToldRuns.{long_to, long_from, step_to, step_from, room_to, room_from, asked_to, asked_from, unclaimed_to, unclaimed_from, other_to, other_from}
@@ -94,6 +93,7 @@ steps_to (x ∷ log) (suc e) i d at lt =
     past : (xs ys : List OwnStep) (n : ℕ) → take (length xs + n) (xs ++ ys) ≡ xs ++ take n ys
     past [] ys n = let e : 0 + n ≡ n = omega arith in ap (λ k. take k ys) e
     past (x ∷ xs) ys n = let e : suc (length xs) + n ≡ suc (length xs + n) = omega arith in ap (λ k. take k (x ∷ (xs ++ ys))) e ∙ ap (λ l. x ∷ l) (past xs ys n)
+
     joined : (xs ys zs : List OwnStep) → xs ++ (ys ++ zs) ≡ (xs ++ ys) ++ zs
     joined [] ys zs = refl
     joined (x ∷ xs) ys zs = ap (λ l. x ∷ l) (joined xs ys zs)
@@ -121,6 +121,7 @@ module _ (model : Model) (r : OwnRecord) (counts : List ℕ) (are : AreCounts mo
       within [] i y e = cc
       within (z ∷ zs) zero y e = omega arith
       within (z ∷ zs) (suc i) y e = let h = within zs i y e in omega (arith, h)
+
       index_at : (xs : List ℕ) (i : ℕ) (y : ℕ) → slice_get xs i ≡ Some y → slice_index xs i ≡ y
       index_at [] i y e = cc
       index_at (z ∷ zs) zero y e = let same : z ≡ y = cc in same

@@ -1,5 +1,5 @@
 -- A record that was merged.
-use Rattle.std.proofs.Common.{◌≡◌, ◌≢◌, ◌⊎◌, inl, inr, ⊎_elim, ℕ, zero, suc, ◌+◌, ◌-◌, ◌<◌, ◌≤◌, List, [], ◌∷◌, length, map, Option, Some, None, slice_get, refl, sym, ap, ◌∙◌, subst, arith, ne_eqb}
+use Rattle.std.proofs.Common.{◌≡◌, ◌≢◌, ⊎_elim, ℕ, zero, suc, ◌-◌, ◌<◌, List, [], ◌∷◌, length, map, Option, Some, None, slice_get, refl, sym, ap, ◌∙◌, subst, arith, ne_eqb}
 use Rattle.std.specs.Prelude.{option_map, unwrap_or, slice_index}
 use Rattle.std.specs.List.{AllByRecursion}
 use Rattle.event_log.proofs.Each.{all_map}
@@ -15,16 +15,15 @@ use Rattle.log_merge.specs.Nexts.{IsWhole}
 use Rattle.log_merge.specs.Prefixes.{IsMatched}
 use Rattle.log_merge.specs.Shapes.{shape_of}
 use Rattle.own_object.specs.Keeping.{OwnParts, kept_own, IsWholeOwn}
-use Rattle.own_object.specs.Own.{OwnEvent, OwnEntry, OwnRun}
-use Rattle.own_object.specs.Ranges.{OwnRecord, OwnRecordFits, EventFits, EntryFits, LogFits, TranscriptFits}
-use Rattle.own_object.specs.Settings.{OwnSettings}
+use Rattle.own_object.specs.Own.{OwnEvent, OwnEntry}
+use Rattle.own_object.specs.Ranges.{OwnRecord, OwnRecordFits, EntryFits, LogFits, TranscriptFits}
 use Rattle.own_judge.specs.Answers.{answered, ToldEvent, ToldRun}
 use Rattle.own_judge.specs.Judging.{ToldFed, terms_of, IsFedOwn}
 use Rattle.own_judge.specs.Merged.{IsShapedAs}
-use Rattle.own_judge.specs.Models.{Model, opened, AreCounts, SoundBy, IsFirstFaultBy, IsTold, IsMistold}
+use Rattle.own_judge.specs.Models.{Model, opened, AreCounts, SoundBy, IsFirstFaultBy, IsMistold}
 use Rattle.own_judge.specs.Translated.{told_log, told_run}
 use Rattle.own_judge.proofs.ToldRuns.{logs_count, log_told}
-use Rattle.own_judge.proofs.FirstFaults.{first_from, first_to}
+use Rattle.own_judge.proofs.FirstFaults.{first_from}
 use Rattle.own_judge.proofs.SoundRuns.{sound_to, sound_from}
 use Rattle.own_judge.proofs.SomeModel.{some_model}
 use Rattle.own_judge.proofs.WholeOwn.{list_at, same_opened, sizes_of, run_told, whole_opened}

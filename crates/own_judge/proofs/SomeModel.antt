@@ -1,5 +1,5 @@
 -- Some model has counts of which none is mistold.
-use Rattle.std.proofs.Common.{◌≡◌, ◌⊎◌, inl, inr, ⊎_elim, ℕ, zero, suc, ◌+◌, ◌<◌, ◌≤◌, Bool, true, false, cond, true≢false, List, [], ◌∷◌, length, map, take, Option, Some, None, slice_get, refl, sym, ap, ◌∙◌, subst, arith}
+use Rattle.std.proofs.Common.{◌≡◌, inl, inr, ⊎_elim, ℕ, zero, suc, ◌+◌, ◌<◌, ◌≤◌, Bool, true, false, cond, List, [], ◌∷◌, length, take, Option, Some, None, slice_get, refl, sym, ap, ◌∙◌, subst, arith}
 use Rattle.std.specs.Prelude.{ltb, unwrap_or}
 use Rattle.std.specs.Str.{bytes_eq}
 use Rattle.std.proofs.lemmas.Bool.{ltb-true, lt-ltb}
@@ -8,7 +8,7 @@ use Rattle.std.proofs.lemmas.Option.{slice_get_within}
 use Rattle.std.proofs.lemmas.Slice.Eq.{bytes_eq-Decides}
 use Rattle.event_log.specs.Log.{steps_of}
 use Rattle.sound_run.specs.Sound.{log_of}
-use Rattle.sound_run.proofs.Slices.{map_get, some_at, one_of}
+use Rattle.sound_run.proofs.Slices.{map_get, one_of}
 use Rattle.auditor.proofs.Splits.{take_length}
 use Rattle.own_object.specs.Own.{OwnStep}
 use Rattle.own_object.specs.Ranges.{OwnRecord, OwnRecordFits}
@@ -95,12 +95,15 @@ module _ (r : OwnRecord) (counts : List ℕ) (fit : OwnRecordFits r) (none : (x 
       by false e = e
 
   pub some_model : (model : Model) × AreCounts model r counts
-  some_model = (counting r.head.objects counts, record {
-    counted = as_many;
-    each = λ x o n on at.
-        let t = told_all x (slice_get_within r.head.objects x o on) in
-        let same = one_of t.count n (slice_get counts x) t.there at in
-        let few = t.within in
-        let found = count_found r.head.objects counts x o n on at (λ y u lt there. names_differ x y o u on lt there) in
-        counts_so (steps_of (log_of x r.run)) (counting r.head.objects counts o) n (λ l. ap (λ k. ltb (length l) (suc k)) found) (omega (arith, few, same));
-  })
+  some_model = (
+    counting r.head.objects counts,
+    record {
+      counted = as_many;
+      each = λ x o n on at.
+          let t = told_all x (slice_get_within r.head.objects x o on) in
+          let same = one_of t.count n (slice_get counts x) t.there at in
+          let few = t.within in
+          let found = count_found r.head.objects counts x o n on at (λ y u lt there. names_differ x y o u on lt there) in
+          counts_so (steps_of (log_of x r.run)) (counting r.head.objects counts o) n (λ l. ap (λ k. ltb (length l) (suc k)) found) (omega (arith, few, same));
+    },
+  )

@@ -1,24 +1,24 @@
 -- A run is sound by a model, and what is told of it is sound.
-use Rattle.std.proofs.Common.{◌≡◌, ◌⊎◌, inl, inr, ⊎_elim, ℕ, zero, suc, ◌+◌, ◌<◌, ◌≤◌, Bool, true, false, List, [], ◌∷◌, length, map, take, Option, Some, None, slice_get, refl, sym, ap, ◌∙◌, subst, arith}
+use Rattle.std.proofs.Common.{◌≡◌, ⊎_elim, ℕ, zero, suc, ◌<◌, ◌≤◌, Bool, true, false, List, [], ◌∷◌, length, map, Some, slice_get, sym, ap, ◌∙◌, subst, arith}
 use Rattle.std.specs.Prelude.{unwrap_or, slice_index}
 use Rattle.std.specs.List.{AllByRecursion}
 use Rattle.std.proofs.lemmas.List.{length-map}
 use Rattle.event_log.specs.declared.entry.Done.TheVariants as done
-use Rattle.event_log.specs.Log.{Fulfils, LegalFrom, steps_of}
+use Rattle.event_log.specs.Log.{LegalFrom, steps_of}
 use Rattle.sound_run.specs.Sound.{Opened, Sound, LogIsSound, EntryIsSound, Answers, transcript_of, log_of, done_on, steps_by, NoneAfterFull}
 use Rattle.sound_run.proofs.Slices.{map_get, get_map, some_at}
 use Rattle.auditor.specs.Faults.{HasSteps}
-use Rattle.own_object.specs.Own.{OwnStep, OwnSteps, OwnEvent, OwnDone, OwnEntry, OwnRun, own}
+use Rattle.own_object.specs.Own.{OwnStep, OwnEvent, OwnDone, OwnEntry, own}
 use Rattle.own_object.specs.Ranges.{OwnRecord}
 use Rattle.own_object.specs.Said.{Said}
 use Rattle.own_object.specs.Settings.{OwnSettings}
 use Rattle.own_judge.specs.Answers.{answered, answered_opening, ToldEvent, ToldEntry, ToldRun}
-use Rattle.own_judge.specs.Models.{Model, opened, AreRight, IsCount, AreCounts, IsRunBy, LogIsSoundBy, SoundBy}
+use Rattle.own_judge.specs.Models.{Model, opened, AreRight, IsCount, AreCounts, SoundBy}
 use Rattle.own_judge.specs.Translated.{right_steps, told_log, told_asked, told_done, told_entry, told_run, done_steps}
 use Rattle.own_judge.proofs.ToldLogs.{count_events, order, legal_if, legal_right, legal_ends}
 use Rattle.own_judge.proofs.ToldEntries.{same_steps, same_images, fulfils_to, fulfils_from, done_told, by_told, full_to, full_from}
 use Rattle.own_judge.proofs.ToldRuns.{transcript_told, logs_count, log_to, log_from}
-use Rattle.own_judge.proofs.FirstFaults.{count_at, object_or}
+use Rattle.own_judge.proofs.FirstFaults.{count_at}
 
 all_to : {X Y : Type 0} (f : X → Y) (Q : X → Type 0) (S : Y → Type 0) → ((x : X) → Q x → S (f x)) → (xs : List X) → AllByRecursion Q xs → AllByRecursion S (map f xs)
 all_to f Q S h [] all = tt
@@ -72,8 +72,8 @@ module _ (model : Model) (r : OwnRecord) (counts : List ℕ) (are : AreCounts mo
   pub sound_to : SoundBy model r → Sound answered Objects T
   sound_to s =
       let right : (x : ℕ) (log : List OwnEvent) → slice_get r.run.logs x ≡ Some log → length (steps_of log) ≤ slice_index counts x = λ x log at.
-          let o = object_of x log at in
-          right_here (model o.0) (steps_of log) (slice_index counts x) (count_here x o.0 log o.1 at) ((s.logs x o.0 log o.1 at).legal.steps) in
+      let o = object_of x log at in
+      right_here (model o.0) (steps_of log) (slice_index counts x) (count_here x o.0 log o.1 at) ((s.logs x o.0 log o.1 at).legal.steps) in
       record {
         counted = logs_count counts r.run.logs ∙ (counted ∙ sym (length-map r.head.objects limit_of));
         logs = λ x opened t on at.
@@ -96,8 +96,8 @@ module _ (model : Model) (r : OwnRecord) (counts : List ℕ) (are : AreCounts mo
   pub sound_from : Sound answered Objects T → SoundBy model r
   sound_from s =
       let legal : (x : ℕ) (log : List OwnEvent) → slice_get r.run.logs x ≡ Some log → LegalFrom answered (answered_opening tt) (told_log (slice_index counts x) log) = λ x log at.
-          let o = object_of x log at in
-          (s.logs x (limit_of o.0) (told_log (slice_index counts x) log) (map_get limit_of r.head.objects x o.0 o.1) (log_to counts r.run.logs x log at)).legal in
+      let o = object_of x log at in
+      (s.logs x (limit_of o.0) (told_log (slice_index counts x) log) (map_get limit_of r.head.objects x o.0 o.1) (log_to counts r.run.logs x log at)).legal in
       record {
         counted = counted;
         logs = λ x o log on at.
@@ -111,7 +111,7 @@ module _ (model : Model) (r : OwnRecord) (counts : List ℕ) (are : AreCounts mo
         taken = λ cpu x log at.
             let right = legal_right (answered_opening tt) (slice_index counts x) log (legal x log at) in
             same_images right_steps same_steps (done_on x (transcript_of cpu r.run)) (steps_by cpu log)
-                (sym (done_told x (transcript_of cpu r.run)) ∙ (ap (done_on x) (sym (transcript_told Objects counts r.run cpu)) ∙ (s.taken cpu x (told_log (slice_index counts x) log) (log_to counts r.run.logs x log at) ∙ by_told cpu (slice_index counts x) log right)));
+            (sym (done_told x (transcript_of cpu r.run)) ∙ (ap (done_on x) (sym (transcript_told Objects counts r.run cpu)) ∙ (s.taken cpu x (told_log (slice_index counts x) log) (log_to counts r.run.logs x log at) ∙ by_told cpu (slice_index counts x) log right)));
         entries = λ cpu. all_from told_entry (λ e. EntryIsSound own Objects r.run e) (λ e. EntryIsSound answered Objects T e)
             (λ e h.
             let l = log_from counts r.run.logs e.object h.log h.logged in

@@ -1,19 +1,15 @@
 -- What is told of entries, where all steps are right.
-use Rattle.std.proofs.Common.{◌≡◌, ◌≢◌, ℕ, zero, suc, ◌+◌, ◌-◌, ◌<◌, ◌≤◌, ◌==◌, Bool, true, false, cond, List, [], ◌∷◌, ◌++◌, length, map, take, Option, Some, None, slice_get, refl, sym, ap, ◌∙◌, subst, arith, length-append, eq-eqb, ne_eqb}
+use Rattle.std.proofs.Common.{◌≡◌, ℕ, zero, suc, ◌-◌, ◌≤◌, ◌==◌, true, false, cond, List, [], ◌∷◌, length, map, take, Some, slice_get, refl, sym, ap, ◌∙◌, arith, length-append}
 use Rattle.std.proofs.lemmas.List.{length-map}
-use mathlib.Core.Logic.{dite}
-use native.Mathlib.Decide.{ℕ_discrete}
 use Rattle.event_log.specs.declared.entry.Done.TheVariants as done
 use Rattle.event_log.specs.Log.{Fulfils, calls_of, last_refuses, of, steps_of}
 use Rattle.sound_run.specs.Sound.{done_on, steps_by, with_steps, NoneAfterFull}
-use Rattle.own_object.specs.declared.object.OwnReply.{OwnReply}
-use Rattle.own_object.specs.Own.{OwnStep, OwnSteps, OwnEvent, OwnDone, OwnEntry, OwnRun, own}
+use Rattle.own_object.specs.Own.{OwnStep, OwnSteps, OwnEvent, OwnDone, OwnEntry, own}
 use Rattle.own_object.specs.Said.{Said}
-use Rattle.own_judge.specs.declared.answered.Answer.{Answer}
 use Rattle.own_judge.specs.declared.answered.Told.{Told}
-use Rattle.own_judge.specs.Answers.{answered, answered_refusing, ToldStep, ToldSteps, ToldEvent, ToldDone, ToldEntry}
-use Rattle.own_judge.specs.Translated.{answer_of, told_call, right_step, right_steps, told_steps, told_event, told_log, told_asked, told_done, told_entry, done_steps}
-use Rattle.own_judge.proofs.ToldLogs.{refuses_same, told_right, count_steps}
+use Rattle.own_judge.specs.Answers.{answered, answered_refusing, ToldStep, ToldSteps, ToldEvent}
+use Rattle.own_judge.specs.Translated.{answer_of, told_call, right_step, right_steps, told_event, told_log, told_asked, told_done, told_entry}
+use Rattle.own_judge.proofs.ToldLogs.{refuses_same, told_right}
 
 module _ {X Y : Type 0} (f : X → Y) (one : (x y : X) → f x ≡ f y → x ≡ y) where
   -- lists with the same images are the same

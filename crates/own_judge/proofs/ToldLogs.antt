@@ -1,20 +1,15 @@
 -- What is told of steps, events and logs.
-use Rattle.std.proofs.Common.{◌≡◌, ◌⊎◌, inl, inr, ⊎_elim, ℕ, zero, suc, ◌+◌, ◌-◌, ◌<◌, ◌≤◌, Bool, true, false, true≢false, cond, List, [], ◌∷◌, ◌++◌, length, map, take, get_or, Option, Some, None, slice_get, refl, sym, ap, ◌∙◌, subst, arith, length-append, eq-eqb, ne_eqb}
-use Rattle.std.specs.Prelude.{unwrap_or, slice_index}
+use Rattle.std.proofs.Common.{◌≡◌, ◌⊎◌, inl, inr, ⊎_elim, ℕ, zero, suc, ◌+◌, ◌-◌, ◌<◌, ◌≤◌, Bool, true, false, true≢false, cond, List, [], ◌∷◌, length, map, take, Some, slice_get, refl, sym, ap, ◌∙◌, subst, arith, length-append}
 use Rattle.std.specs.List.{AllByRecursion}
-use mathlib.Core.Logic.{dite}
-use native.Mathlib.Decide.{ℕ_discrete}
-use Rattle.event_log.specs.Log.{AreAnswers, LegalFrom, IsNext, after, of, steps_of}
-use Rattle.sound_run.specs.Sound.{log_of}
+use Rattle.event_log.specs.Log.{AreAnswers, LegalFrom, after, steps_of}
 use Rattle.auditor.specs.Faults.{HasSteps, StepIsWrong, EventIsWrong}
 use Rattle.own_object.specs.declared.object.OwnReply.{OwnReply}
-use Rattle.own_object.specs.Own.{OwnStep, OwnEvent, OwnRun}
-use Rattle.own_judge.specs.declared.answered.Answer.{Answer}
+use Rattle.own_object.specs.Own.{OwnStep, OwnEvent}
 use Rattle.own_judge.specs.declared.answered.Answer.TheVariants as answer
 use Rattle.own_judge.specs.declared.answered.Answered.{Answered}
-use Rattle.own_judge.specs.Answers.{answered, answered_refusing, ToldStep, ToldEvent}
+use Rattle.own_judge.specs.Answers.{answered, answered_refusing, ToldStep}
 use Rattle.own_judge.specs.Models.{IsBehindRefusing, NoneBehindRefusing}
-use Rattle.own_judge.specs.Translated.{answer_of, right_step, told_steps, told_event, told_log, told_logs, told_run}
+use Rattle.own_judge.specs.Translated.{answer_of, right_step, told_steps, told_log}
 
 -- a reply refuses on both sides
 pub refuses_same : (r : OwnReply) → answered_refusing (answer_of r) ≡ r.refuses

@@ -1,18 +1,17 @@
 -- What is told of a run, and its faults.
-use Rattle.std.proofs.Common.{◌≡◌, ◌≢◌, ◌⊎◌, inl, inr, ⊎_elim, ℕ, zero, suc, ◌+◌, ◌-◌, ◌<◌, ◌≤◌, ◌==◌, Bool, true, false, cond, List, [], ◌∷◌, ◌++◌, length, map, take, Option, Some, None, slice_get, refl, sym, ap, ◌∙◌, subst, arith, length-append}
+use Rattle.std.proofs.Common.{◌≡◌, ◌⊎◌, inl, inr, ⊎_elim, ℕ, zero, suc, ◌+◌, ◌-◌, ◌<◌, ◌≤◌, ◌==◌, true, false, cond, List, [], ◌∷◌, length, map, take, Some, slice_get, refl, sym, ap, ◌∙◌, subst, arith}
 use Rattle.std.specs.Prelude.{unwrap_or, slice_index}
-use Rattle.std.proofs.lemmas.List.{length-map}
 use Rattle.event_log.specs.declared.entry.Done.TheVariants as done
 use Rattle.event_log.specs.Log.{Fulfils, of, steps_of}
 use Rattle.sound_run.specs.Sound.{Opened, transcript_of, log_of, done_on, steps_by}
 use Rattle.sound_run.proofs.Slices.{map_get, get_map}
 use Rattle.auditor.specs.Faults.{IsTooLong, HasWrongStep, HadRoom, IsNotItsEvent, IsNotAsked, IsUnclaimed, EventIsWrong, done_before, events_before}
-use Rattle.own_object.specs.Own.{OwnStep, OwnSteps, OwnEvent, OwnDone, OwnEntry, OwnRun, own}
-use Rattle.own_judge.specs.Answers.{answered, answered_opening, ToldStep, ToldSteps, ToldEvent, ToldEntry, ToldRun}
+use Rattle.own_object.specs.Own.{OwnStep, OwnEvent, OwnDone, OwnEntry, OwnRun, own}
+use Rattle.own_judge.specs.Answers.{answered, answered_opening, ToldSteps, ToldEvent, ToldEntry, ToldRun}
 use Rattle.own_judge.specs.Models.{IsBehindRefusing}
 use Rattle.own_judge.specs.Translated.{right_steps, told_event, told_log, told_logs, told_asked, told_done, told_entry, told_run}
 use Rattle.own_judge.proofs.ToldLogs.{count_events, EventAt, event_wrong_only, event_wrong_if}
-use Rattle.own_judge.proofs.ToldEntries.{same_step, same_steps, same_image_at, fulfils_to, fulfils_from, none_to, none_from, steps_from, done_told, done_count, before_count, by_count, by_told}
+use Rattle.own_judge.proofs.ToldEntries.{same_steps, same_image_at, fulfils_to, fulfils_from, none_to, none_from, steps_from, done_count, before_count, by_count, by_told}
 
 -- lists at a place
 list_told : {X Y : Type 0} (f : X → Y) (lists : List (List X)) (i : ℕ) → unwrap_or (slice_get (map (λ l. map f l) lists) i) [] ≡ map f (unwrap_or (slice_get lists i) [])

@@ -1,13 +1,11 @@
 -- What is said of a record that was handed over whole.
-use Rattle.std.proofs.Common.{◌≡◌, ◌⊎◌, inl, inr, ⊎_elim, ℕ, zero, suc, ◌+◌, ◌-◌, ◌<◌, ◌≤◌, Bool, true, false, List, [], ◌∷◌, length, map, take, Option, Some, None, slice_get, refl, sym, ap, ◌∙◌, subst, arith}
+use Rattle.std.proofs.Common.{◌≡◌, inl, inr, ⊎_elim, ℕ, zero, suc, ◌-◌, ◌<◌, ◌≤◌, List, [], ◌∷◌, length, map, Option, Some, None, slice_get, refl, sym, ap, ◌∙◌, subst, arith}
 use Rattle.std.specs.Prelude.{◌↔◌, unwrap_or, slice_index, Result, Ok, Err}
 use Rattle.std.specs.List.{AllByRecursion}
 use Rattle.std.proofs.lemmas.List.{length-map}
-use Rattle.std.proofs.lemmas.Option.{slice_get_within}
-use Rattle.event_log.specs.Log.{steps_of}
 use Rattle.event_log.proofs.Each.{all_map}
 use Rattle.sound_run.specs.Sound.{Opened, Sound, transcript_of, log_of}
-use Rattle.sound_run.proofs.Slices.{map_get, get_map, some_at}
+use Rattle.sound_run.proofs.Slices.{get_map}
 use Rattle.auditor.specs.declared.fault.Fault.{Fault}
 use Rattle.auditor.specs.declared.fault.Verdict.{Verdict}
 use Rattle.auditor.specs.declared.fault.Verdict.TheVariants as verdict
@@ -15,22 +13,22 @@ use Rattle.auditor.specs.Faults.{HasSteps, IsFirstFault}
 use Rattle.auditor.specs.Fed.{run_of}
 use Rattle.auditor.specs.Passes.{IsRunOf}
 use Rattle.auditor.specs.SoFar.{HasLogs}
-use Rattle.auditor.specs.Transcripts.{judged_by, opened_by}
+use Rattle.auditor.specs.Transcripts.{opened_by}
 use Rattle.auditor.proofs.Verdicts.{all_at}
 use Rattle.own_object.specs.Keeping.{OwnParts, kept_own, IsWholeOwn}
-use Rattle.own_object.specs.Own.{OwnEvent, OwnEntry, OwnRun}
+use Rattle.own_object.specs.Own.{OwnEvent}
 use Rattle.own_object.specs.Ranges.{OwnRecord, OwnRecordFits, EventFits, EntryFits, LogFits, TranscriptFits}
-use Rattle.own_object.specs.Settings.{OwnSettings, OwnHead}
+use Rattle.own_object.specs.Settings.{OwnSettings}
 use Rattle.own_judge.specs.declared.judge.Mistold.{Mistold}
 use Rattle.own_judge.specs.Answers.{answered, ToldEvent, ToldEntry, ToldRun}
 use Rattle.own_judge.specs.Judging.{ToldFed, ToldTerms, terms_of, HasCount, IsFirstWithout, IsFedOwn}
-use Rattle.own_judge.specs.Models.{Model, opened, AreCounts, IsVerdictBy, IsVerdictByCounts, IsTold, IsMistold}
-use Rattle.own_judge.specs.Translated.{told_event, told_log, told_logs, told_entry, told_run}
+use Rattle.own_judge.specs.Models.{opened, IsVerdictByCounts, IsTold, IsMistold}
+use Rattle.own_judge.specs.Translated.{told_event, told_log, told_entry, told_run}
 use Rattle.own_judge.proofs.ToldLogs.{order}
 use Rattle.own_judge.proofs.ToldRuns.{logs_count, log_told, transcript_told}
 use Rattle.own_judge.proofs.FirstFaults.{first_to, first_from}
 use Rattle.own_judge.proofs.SoundRuns.{sound_to, sound_from}
-use Rattle.own_judge.proofs.FedOwn.{fed_logs, all_opened, has_logs, transcripts_count, told_sizes}
+use Rattle.own_judge.proofs.FedOwn.{all_opened, has_logs, transcripts_count, told_sizes}
 
 -- what holds of each list, and of none, holds of the list at a place
 pub list_at : {X : Type 0} (Q : List X → Type 0) (lists : List (List X)) (i : ℕ) → AllByRecursion Q lists → Q [] → Q (unwrap_or (slice_get lists i) [])

@@ -1,5 +1,5 @@
 -- What a judge knows of what it was handed over.
-use Rattle.std.specs.Prelude.{◌≡◌, ℕ, ◌+◌, ◌-◌, ◌<◌, ◌≤◌, Bool, if◌then◌else◌, List, [], length, map, take, Option, Some, None, slice_get, slice_index, unwrap_or}
+use Rattle.std.specs.Prelude.{◌≡◌, ℕ, ◌+◌, ◌-◌, ◌<◌, ◌≤◌, if◌then◌else◌, List, [], length, map, take, Option, Some, None, slice_get, slice_index, unwrap_or}
 use Rattle.event_log.specs.Log.{steps_of}
 use Rattle.auditor.specs.declared.opened_object.OpenedObject.{OpenedObject}
 use Rattle.auditor.specs.Fed.{Fed}

@@ -1,5 +1,5 @@
 -- That `==` on calls that carry their answers is equality. It is proved here, as the laws of a trait cite specs/ alone; nothing in it has to be believed.
-use Rattle.std.proofs.Common.{◌≡◌, true, false, ◌&&◌, true≢false, refl, sym}
+use Rattle.std.proofs.Common.{◌≡◌, true, ◌&&◌, true≢false, refl, sym}
 use Rattle.std.proofs.lemmas.Bool.{and_parts}
 use Rattle.own_object.specs.Padding.{said_eq, same_said}
 use Rattle.own_judge.specs.contracts.answered.AnswerPartialEq.TheImpl.{ghosts as on_answers}

@@ -1,7 +1,7 @@
 //! An object whose calls carry the answers that they get.
 
-use event_log::{OpenFault, OutOfMemory, SeqObject};
 use auditor::ReferenceObject;
+use event_log::{OpenFault, OutOfMemory, SeqObject};
 use own_object::Spoken;
 use std::alloc::Global;
 

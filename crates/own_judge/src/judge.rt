@@ -71,12 +71,7 @@ fn count_at(counts: &[u64], place: usize) -> u64
 
 /// The first log that has no count or one that is more than its steps, once one log more is whole, of which so many steps were
 /// still to be right.
-fn next_without(
-    counts: &[u64],
-    log: usize,
-    left: u64,
-    without: Option<usize>,
-) -> Option<usize>
+fn next_without(counts: &[u64], log: usize, left: u64, without: Option<usize>) -> Option<usize>
     ensures { IsNextWithout counts.now log left without result }
 {
     if without.is_some() {
@@ -136,10 +131,7 @@ impl OwnJudge {
     }
 
     /// The run that was read in its shape, if it is sound, or else its first fault. It takes no memory.
-    pub(crate) fn into_shape(
-        self,
-        transcripts: Vec<Series<EntryShape>>,
-    ) -> Result<OwnShape, Fault>
+    pub(crate) fn into_shape(self, transcripts: Vec<Series<EntryShape>>) -> Result<OwnShape, Fault>
         requires whole { IsWholeOwn self.parts.head self.parts }
         requires fit { OwnRecordFits (kept_own self.parts.head self.parts) }
         requires shapes { transcripts.items ≡ map (map shape_of) self.parts.transcripts }

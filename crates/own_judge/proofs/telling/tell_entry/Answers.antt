@@ -1,6 +1,6 @@
-use Rattle.std.proofs.Common.{◌≡◌, length, sym, ap, ◌∙◌, arith}
+use Rattle.std.proofs.Common.{length, ap, ◌∙◌, arith}
 use Rattle.own_judge.specs.Translated.{told_asked}
-use Rattle.own_judge.proofs.ToldNext.{entry_done, entry_none}
+use Rattle.own_judge.proofs.ToldNext.{entry_done}
 use Rattle.own_judge.proofs.telling.tell_entry.Goals as goal
 
 pub returns-in-Steps : goal.returns-in-Steps

@@ -1,4 +1,4 @@
-use Rattle.std.proofs.Common.{◌≡◌, List, length, map, sym, ap, ◌∙◌, subst}
+use Rattle.std.proofs.Common.{map, sym, ap, ◌∙◌, subst}
 use Rattle.auditor.specs.Faults.{IsFirstFault}
 use Rattle.log_merge.specs.Shapes.{shape_of}
 use Rattle.own_object.specs.Keeping.{kept_own, IsWholeOwn}

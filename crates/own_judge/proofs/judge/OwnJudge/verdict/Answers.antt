@@ -1,11 +1,11 @@
-use Rattle.std.proofs.Common.{◌≡◌, ◌<◌, ◌≤◌, ℕ, length, map, sym, ap, ◌∙◌, subst, arith}
+use Rattle.std.proofs.Common.{◌≡◌, ◌<◌, ◌≤◌, length, sym, ap, ◌∙◌, subst, arith}
 use Rattle.std.proofs.lemmas.List.{length-map}
 use Rattle.own_object.specs.Keeping.{kept_own, IsWholeOwn}
 use Rattle.own_object.specs.Ranges.{OwnRecordFits}
 use Rattle.own_object.specs.Settings.{OwnSettings}
 use Rattle.own_judge.specs.Judging.{Counted}
 use Rattle.own_judge.specs.Models.{IsMistold, IsVerdictByCounts}
-use Rattle.own_judge.proofs.WholeOwn.{whole_logs, whole_cpus, whole_entries, whole_run, verdict_by, mistold_log, mistold_more, mistold_none, mistold_exactly, none_exactly}
+use Rattle.own_judge.proofs.WholeOwn.{whole_logs, whole_cpus, whole_run, verdict_by, mistold_log, mistold_more, mistold_none, mistold_exactly, none_exactly}
 use Rattle.own_judge.proofs.judge.OwnJudge.verdict.Goals as goal
 
 pub returns-in-Some-clause-mistold : goal.returns-in-Some-clause-mistold
@@ -73,4 +73,4 @@ returns-clause-verdict c =
     let whole = subst (λ (v : Counted). IsWholeOwn v.parts.head v.parts) (sym c.self.view_is) c.requires.whole in
     let fit = subst (λ (v : Counted). OwnRecordFits (kept_own v.parts.head v.parts)) (sym c.self.view_is) c.requires.fit in
     subst (λ (v : Counted). IsVerdictByCounts (kept_own v.parts.head v.parts) v.counts c.verdict.result) c.self.view_is
-        (verdict_by i.heard i.right.items i.limits.items i.log i.left i.without i.judged c.self.invariant whole fit c.verdict.result c.verdict.ensures.sound c.verdict.ensures.fault)
+    (verdict_by i.heard i.right.items i.limits.items i.log i.left i.without i.judged c.self.invariant whole fit c.verdict.result c.verdict.ensures.sound c.verdict.ensures.fault)

@@ -1,4 +1,4 @@
-use Rattle.std.proofs.Common.{◌≡◌, sym, ap, ◌∙◌, subst}
+use Rattle.std.proofs.Common.{sym, ap, subst}
 use Rattle.own_object.specs.Keeping.{OwnParts, InLogs, IsAtHead}
 use Rattle.own_judge.specs.Judging.{Counted, ToldFed, IsFedOwn}
 use Rattle.own_judge.proofs.FedOwn.{before_log, log_opened}

@@ -1,4 +1,4 @@
-use Rattle.std.proofs.Common.{◌≡◌, ◌<◌, ◌-◌, length, sym, ap, ◌∙◌, subst, arith}
+use Rattle.std.proofs.Common.{◌<◌, ◌-◌, length, sym, ap, ◌∙◌, subst, arith}
 use Rattle.own_object.specs.Keeping.{OwnParts, InLogs}
 use Rattle.own_object.specs.Ranges.{EventFits}
 use Rattle.own_judge.specs.Answers.{ToldEvent}
@@ -11,11 +11,19 @@ pub event-requires : goal.event-requires
 event-requires c =
     let i = c.self.inside in
     let back = sym (ap (λ (v : Counted). v.parts) c.self.view_is) in
-    let fits = subst (λ (p : OwnParts). EventFits p.head c.args.event.now) back c.requires.fit in
-    (omega arith, (in_log i.heard i.right.items i.limits.items i.log i.left i.without i.judged c.self.invariant (subst InLogs back c.requires.place) (ap (λ (v : Counted). v.parts.begun) c.self.view_is ∙ c.requires.begun),
-    (event_few i.heard i.right.items i.limits.items i.log i.left i.without i.judged c.self.invariant (subst (λ (p : OwnParts). length p.events < p.count) back c.requires.more),
-    (subst (λ (t : ToldEvent). t.cpu < i.judged.cpus) (sym c.tell_event.ensures) (told_cpu i.heard i.right.items i.limits.items i.log i.left i.without i.judged c.self.invariant c.args.event.now i.left fits),
-    (subst (λ (t : ToldEvent). HasSteps t) (sym c.tell_event.ensures) (told_sizes i.left c.args.event.now fits.steps.some fits.steps.few), tt)))))
+    let fits = subst (λ (p : OwnParts). EventFits p.head c.args.event.now) back c.requires.fit in (
+      omega arith,
+      (
+        in_log i.heard i.right.items i.limits.items i.log i.left i.without i.judged c.self.invariant (subst InLogs back c.requires.place) (ap (λ (v : Counted). v.parts.begun) c.self.view_is ∙ c.requires.begun),
+        (
+          event_few i.heard i.right.items i.limits.items i.log i.left i.without i.judged c.self.invariant (subst (λ (p : OwnParts). length p.events < p.count) back c.requires.more),
+          (
+            subst (λ (t : ToldEvent). t.cpu < i.judged.cpus) (sym c.tell_event.ensures) (told_cpu i.heard i.right.items i.limits.items i.log i.left i.without i.judged c.self.invariant c.args.event.now i.left fits),
+            (subst (λ (t : ToldEvent). HasSteps t) (sym c.tell_event.ensures) (told_sizes i.left c.args.event.now fits.steps.some fits.steps.few), tt),
+          ),
+        ),
+      ),
+    )
 
 pub invariant_of-self-2 : goal.invariant_of-self-2
 invariant_of-self-2 c =

@@ -1,8 +1,7 @@
-use Rattle.std.proofs.Common.{◌≡◌, ℕ, List, Ok, Err, refl, sym, ap, ◌∙◌, subst}
-use Rattle.own_object.specs.Keeping.{kept_own, IsWholeOwn}
+use Rattle.std.proofs.Common.{◌≡◌, ℕ, Err, refl, sym, ap, ◌∙◌, subst}
+use Rattle.own_object.specs.Keeping.{kept_own}
 use Rattle.own_object.specs.Own.{OwnRun}
-use Rattle.own_object.specs.Ranges.{OwnRecord, OwnRecordFits}
-use Rattle.log_merge.specs.Merging.{IsLeastOrder, IsCycleFound, IsMerging}
+use Rattle.log_merge.specs.Merging.{IsCycleFound, IsMerging}
 use Rattle.log_merge.specs.declared.run_merge.Merging.{Merging}
 use Rattle.log_merge.specs.declared.run_merge.Merging.TheVariants as merging
 use Rattle.sound_run.specs.Sound.{Sound}
@@ -22,9 +21,10 @@ use Rattle.own_judge.proofs.merge.OwnMergeJudge.into_merged.Goals as goal
 pub returns-in-Err-clause-mistold : goal.returns-in-Err-clause-mistold
 returns-in-Err-clause-mistold c = λ x.
     let m : Mistold = record { object = x } in
-    let at = c.in-Err.ensures.mistold x in
-    ((λ e. let same : c.in-Err.mistold ≡ m = cc in subst (λ (v : Counted). IsMistold (kept_own v.parts.head v.parts) v.counts x) c.self.view_is (at.0 (ap Err same))),
-        (λ h. let e = at.1 (subst (λ (v : Counted). IsMistold (kept_own v.parts.head v.parts) v.counts x) (sym c.self.view_is) h) in let same : c.in-Err.mistold ≡ m = cc in ap (λ (n : Mistold). Err (fault.Mistold n)) same))
+    let at = c.in-Err.ensures.mistold x in (
+      (λ e. let same : c.in-Err.mistold ≡ m = cc in subst (λ (v : Counted). IsMistold (kept_own v.parts.head v.parts) v.counts x) c.self.view_is (at.0 (ap Err same))),
+      (λ h. let e = at.1 (subst (λ (v : Counted). IsMistold (kept_own v.parts.head v.parts) v.counts x) (sym c.self.view_is) h) in let same : c.in-Err.mistold ≡ m = cc in ap (λ (n : Mistold). Err (fault.Mistold n)) same),
+    )
 
 pub returns-in-Err-clause-given : goal.returns-in-Err-clause-given
 returns-in-Err-clause-given c = λ model are sound order.
@@ -59,7 +59,7 @@ merge_run-requires-clause-matched c =
     let same : c.in-Ok.shape ≡ r.run = c.in-Ok.ensures.run ∙ ap (λ (v : Counted). (kept_own v.parts.head v.parts).run) c.self.view_is in
     let sound = subst (λ (v : Counted). Sound answered (opened v.parts.head) (told_run v.counts (kept_own v.parts.head v.parts).run)) c.self.view_is c.in-Ok.ensures.sound in
     let none : (x : ℕ) → IsMistold r c.args.self.counts x → ⊥ = λ x h.
-        c.in_default.not-Err (record { object = x }) ((c.verdict.ensures.mistold x).1 (subst (λ (v : Counted). IsMistold (kept_own v.parts.head v.parts) v.counts x) (sym c.self.view_is) h)) in
+    c.in_default.not-Err (record { object = x }) ((c.verdict.ensures.mistold x).1 (subst (λ (v : Counted). IsMistold (kept_own v.parts.head v.parts) v.counts x) (sym c.self.view_is) h)) in
     subst (λ (run : OwnRun). IsMatched run) (sym same) (matched_told r c.args.self.counts c.requires.fit none sound)
 
 pub returns-in-Order-clause-order : goal.returns-in-Order-clause-order
