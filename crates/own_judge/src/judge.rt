@@ -112,6 +112,21 @@ impl OwnJudge {
         }
     }
 
+    /// How many steps of each log are called right.
+    pub fn right(&self) -> &[u64]
+        ensures { result.now ≡ self.now.counts }
+    {
+        self.right.as_slice()
+    }
+
+    /// How many steps of each log are called right. A reader of records leaves them as they were told, but no clause of
+    /// `OwnKeeps` says so: whoever relies on it compares.
+    pub fn counts(&self) -> &[u64]
+        ensures { result.now ≡ self.now.counts }
+    {
+        self.right.as_slice()
+    }
+
     /// The verdict on the record that was read by every model that has these counts, or where they fit no model.
     pub fn verdict(&self) -> Result<Verdict, Mistold>
         requires whole { IsWholeOwn self.now.parts.head self.now.parts }
