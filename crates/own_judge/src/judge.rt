@@ -112,16 +112,9 @@ impl OwnJudge {
         }
     }
 
-    /// How many steps of each log are called right.
-    pub fn right(&self) -> &[u64]
-        ensures { result.now ≡ self.now.counts }
-    {
-        self.right.as_slice()
-    }
-
     /// How many steps of each log are called right. A reader of records leaves them as they were told, but no clause of
     /// `OwnKeeps` says so: whoever relies on it compares.
-    pub fn counts(&self) -> &[u64]
+    pub fn right(&self) -> &[u64]
         ensures { result.now ≡ self.now.counts }
     {
         self.right.as_slice()

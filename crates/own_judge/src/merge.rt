@@ -83,13 +83,6 @@ impl OwnMergeJudge {
         self.judge.right()
     }
 
-    /// How many steps of each log are called right, as of an `OwnJudge`.
-    pub fn counts(&self) -> &[u64]
-        ensures { result.now ≡ self.now.counts }
-    {
-        self.judge.counts()
-    }
-
     /// One order over all entries of the record that was read. What is said is said by every model that has these counts.
     pub fn into_merged(self) -> Result<Series<Place>, OwnMergeFault>
         requires whole { IsWholeOwn self.parts.head self.parts }
