@@ -1,3 +1,5 @@
 pub mod Told
 pub mod Orders
 pub mod OwnLines
+pub mod OwnTold
+pub mod OwnOrders

@@ -32,7 +32,7 @@ fn put_turns(places: &[Place], room: &mut [Turn])
 }
 
 /// Tells the places under that kind, if there is room for them.
-fn tell_turns(kind: u32, places: &[Place], room: &mut [Turn]) -> Told
+pub(crate) fn tell_turns(kind: u32, places: &[Place], room: &mut [Turn]) -> Told
     ensures told { result ≡ told_places kind (length room.old) places.now }
     ensures room { room.new ≡ room_with places.now room.old }
 {

@@ -38,6 +38,9 @@ pub const OUT_OF_MEMORY: u32 = 9;
 /// The caller's room is too small: how many entries have to have room.
 pub const NO_ROOM: u32 = 10;
 
+/// A count of right steps is missing, one too many, or above the steps of its log: the first such object.
+pub const MISTOLD: u32 = 11;
+
 /// What is told of a text: its kind, and its numbers, which are 0 where the kind has fewer. Objects, events, steps, CPUs and
 /// entries are numbered from 0.
 #[derive(Clone, Copy, Debug, PartialEq, Eq, Drop)]

@@ -1,0 +1,37 @@
+use Rattle.std.proofs.Common.{◌≡◌, ℕ, List, Ok, Err, sym, subst, ◌∙◌}
+use Rattle.own_judge.specs.Models.{IsMistold, IsVerdictByCounts}
+use Rattle.own_object.specs.Keeping.{kept_own}
+use Rattle.own_object.specs.Settings.{OwnHead}
+use Rattle.own_records.specs.RecordFaults.{IsOwnText, NamesBadOwnLine}
+use Rattle.own_records.specs.declared.fault.OwnFault.TheVariants.{Line}
+use Rattle.judge.specs.OwnTold.{judged, mistold, bad_line, AreFitting}
+use Rattle.judge.proofs.Mistold.{verdict_isnt, same_counts}
+use Rattle.judge.proofs.own_audit.verdict_of.Goals as goal
+
+pub returns-in-Err-Line : goal.returns-in-Err-Line
+returns-in-Err-Line c =
+    let is : c.in-Err-Line.field-0 ≡ Line c.in-Err-Line.line = cc in
+    record { outcome = bad_line c.in-Err-Line.line; right = subst (NamesBadOwnLine c.args.text.now) is c.in-Err-Line.ensures.fault; same = cc }
+
+pub returns-in-Ok-verdict : goal.returns-in-Ok-verdict
+returns-in-Ok-verdict c =
+    let j = c.in-Ok-read_own.kept.1 in let p = j.parts in let r = kept_own p.head p in let v = c.in-Ok-verdict.verdict in
+    let read = subst (λ (h : OwnHead). IsOwnText c.args.text.now (kept_own h p)) (sym c.in-Ok-read_own.ensures.whole.told) c.in-Ok-read_own.ensures.found in
+    let same : j.counts ≡ c.args.right.now = sym c.right.ensures ∙ same_counts c.right.result.now c.args.right.now c.ne.result c.ne.ensures c.if-ne.false in
+    let fitting : AreFitting r j.counts = λ x m. verdict_isnt v (record { object = x }) ((c.in-Ok-verdict.ensures.mistold x).1 m) in
+    record {
+      outcome = judged v;
+      right = (r, read, subst (λ (n : List ℕ). AreFitting r n) same fitting, subst (λ (n : List ℕ). IsVerdictByCounts r n v) same c.in-Ok-verdict.ensures.verdict);
+      same = c.of_verdict.ensures;
+    }
+
+pub returns : goal.returns
+returns c =
+    let j = c.in-Ok-read_own.kept.1 in let p = j.parts in let r = kept_own p.head p in let x = c.in-Err.mistold.object in
+    let read = subst (λ (h : OwnHead). IsOwnText c.args.text.now (kept_own h p)) (sym c.in-Ok-read_own.ensures.whole.told) c.in-Ok-read_own.ensures.found in
+    let same : j.counts ≡ c.args.right.now = sym c.right.ensures ∙ same_counts c.right.result.now c.args.right.now c.ne.result c.ne.ensures c.if-ne.false in
+    record {
+      outcome = mistold x;
+      right = (r, read, subst (λ (n : List ℕ). IsMistold r n x) same ((c.in-Err.ensures.mistold x).0 cc));
+      same = c.new-in-Err.ensures;
+    }

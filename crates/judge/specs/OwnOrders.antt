@@ -1,0 +1,61 @@
+-- What is told of a record of one's own whose entries were put in order.
+use Rattle.std.specs.Prelude.{◌≡◌, ℕ, List, length}
+use Rattle.auditor.specs.declared.fault.Fault.{Fault}
+use Rattle.sound_run.specs.declared.place.Place.{Place}
+use Rattle.own_judge.specs.Merged.{IsMergedBy, HasCycleBy}
+use Rattle.own_judge.specs.Models.{Model, AreCounts, IsFirstFaultBy, IsMistold}
+use Rattle.own_object.specs.Ranges.{OwnRecord}
+use Rattle.own_records.specs.RecordFaults.{IsOwnText, IsBadOwnLine}
+use Rattle.judge.specs.Orders.{told_places, room_with}
+use Rattle.judge.specs.OwnTold.{AreFitting}
+use Rattle.judge.specs.Told.{told, told_fault}
+use Rattle.judge.specs.declared.merge.Turn.{Turn}
+use Rattle.judge.specs.declared.told.Told.{Told}
+
+-- what becomes of a text and counts
+pub data OwnOrder : Type 0 where
+  order : List Place → OwnOrder
+  cycle : List Place → OwnOrder
+  unsound : Fault → OwnOrder
+  mistold : ℕ → OwnOrder
+  bad_line : ℕ → OwnOrder
+  out_of_memory : OwnOrder
+
+-- that holds of the record that the bytes spell, whose counts fit it, by every model that has these counts
+abbrev pub HoldsByEach : List ℕ → List ℕ → (Model → OwnRecord → Type 0) → Type 0
+HoldsByEach bytes counts holds = (r : OwnRecord) × IsOwnText bytes r × AreFitting r counts × ((model : Model) → AreCounts model r counts → holds model r)
+
+-- the order of the record that the bytes spell; the cycle that excludes one; its first fault; the first count that fits no model;
+-- the first line with which no record goes on
+abbrev pub IsOwnOrder : List ℕ → List ℕ → OwnOrder → Type 0
+IsOwnOrder bytes counts (order places) = HoldsByEach bytes counts (λ model r. IsMergedBy model r places)
+IsOwnOrder bytes counts (cycle places) = HoldsByEach bytes counts (λ model r. HasCycleBy model r places)
+IsOwnOrder bytes counts (unsound f) = HoldsByEach bytes counts (λ model r. IsFirstFaultBy model r f)
+IsOwnOrder bytes counts (mistold x) = (r : OwnRecord) × IsOwnText bytes r × IsMistold r counts x
+IsOwnOrder bytes counts (bad_line n) = IsBadOwnLine bytes n
+IsOwnOrder bytes counts out_of_memory = Unit {0}
+
+-- what is told of an outcome, where there is room for so many places
+abbrev pub told_own_order : ℕ → OwnOrder → Told
+told_own_order room (order places) = told_places 0 room places
+told_own_order room (cycle places) = told_places 7 room places
+told_own_order room (unsound f) = told_fault f
+told_own_order room (mistold x) = told 11 x 0 0
+told_own_order room (bad_line n) = told 8 n 0 0
+told_own_order room out_of_memory = told 9 0 0 0
+
+-- the room after an outcome
+abbrev pub own_room_after : OwnOrder → List Turn → List Turn
+own_room_after (order places) room = room_with places room
+own_room_after (cycle places) room = room_with places room
+own_room_after (unsound f) room = room
+own_room_after (mistold x) room = room
+own_room_after (bad_line n) room = room
+own_room_after out_of_memory room = room
+
+-- what is told, and the room, are those of what becomes of the bytes and the counts
+pub record IsOwnOrderTold (bytes counts : List ℕ) (old new : List Turn) (t : Told) : Type 0 where
+  pub outcome : OwnOrder
+  pub right : IsOwnOrder bytes counts outcome
+  pub same : t ≡ told_own_order (length old) outcome
+  pub room : new ≡ own_room_after outcome old

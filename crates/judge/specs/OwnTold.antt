@@ -1,0 +1,41 @@
+-- What is told of a record of one's own that was judged by counts: of each log how many steps, from the first on, are right.
+use Rattle.std.specs.Prelude.{◌≡◌, ℕ, List, length}
+use Rattle.auditor.specs.declared.fault.Fault.{Fault}
+use Rattle.auditor.specs.declared.fault.Verdict.{Verdict}
+use Rattle.own_judge.specs.Models.{IsMistold, IsVerdictByCounts}
+use Rattle.own_object.specs.Ranges.{OwnRecord}
+use Rattle.own_records.specs.RecordFaults.{IsOwnText, IsBadOwnLine}
+use Rattle.judge.specs.Told.{told, told_verdict}
+use Rattle.judge.specs.declared.told.Told.{Told}
+
+-- what becomes of a text and counts
+pub data OwnOutcome : Type 0 where
+  judged : Verdict → OwnOutcome
+  mistold : ℕ → OwnOutcome
+  bad_line : ℕ → OwnOutcome
+  out_of_memory : OwnOutcome
+
+-- no count is missing, one too many, or above the steps of its log
+abbrev pub AreFitting : OwnRecord → List ℕ → Type 0
+AreFitting r counts = (x : ℕ) → IsMistold r counts x → ⊥
+
+-- the verdict on the record that the bytes spell, by every model that has these counts; the first count that fits no model; the
+-- first line with which no record goes on
+abbrev pub IsOwnOutcome : List ℕ → List ℕ → OwnOutcome → Type 0
+IsOwnOutcome bytes counts (judged v) = (r : OwnRecord) × IsOwnText bytes r × AreFitting r counts × IsVerdictByCounts r counts v
+IsOwnOutcome bytes counts (mistold x) = (r : OwnRecord) × IsOwnText bytes r × IsMistold r counts x
+IsOwnOutcome bytes counts (bad_line n) = IsBadOwnLine bytes n
+IsOwnOutcome bytes counts out_of_memory = Unit {0}
+
+-- what is told of an outcome
+abbrev pub told_own : OwnOutcome → Told
+told_own (judged v) = told_verdict v
+told_own (mistold x) = told 11 x 0 0
+told_own (bad_line n) = told 8 n 0 0
+told_own out_of_memory = told 9 0 0 0
+
+-- what is told is what becomes of the bytes and the counts
+pub record IsOwnVerdictTold (bytes counts : List ℕ) (t : Told) : Type 0 where
+  pub outcome : OwnOutcome
+  pub right : IsOwnOutcome bytes counts outcome
+  pub same : t ≡ told_own outcome

@@ -1,0 +1,51 @@
+//! Verdicts on records of one's own, for callers in C.
+
+ghost use Rattle.std.specs.Prelude.{◌≡◌, IfOk};
+ghost use Rattle.judge.specs.OwnTold.{IsOwnVerdictTold};
+
+use crate::Told;
+use crate::told::{BAD_LINE, MISTOLD, OUT_OF_MEMORY};
+use event_log::OutOfMemory;
+use own_judge::OwnJudge;
+use own_records::{OwnFault, read_own};
+use std::alloc::Global;
+
+/// The counts once more.
+pub(crate) fn copied(alloc: Global, counts: &[u64]) -> Result<Vec<u64>, OutOfMemory>
+    ensures { IfOk result (λ copy. copy.items ≡ counts.now) }
+{
+    let mut copy = Vec::with_capacity(alloc, counts.len())?;
+    copy.extend_from_slice(counts)?;
+    Ok(copy)
+}
+
+/// What is told of the record that the bytes spell, if of each log so many steps are right.
+fn verdict_of(alloc: Global, text: &[u8], right: &[u64]) -> Told
+    ensures { IsOwnVerdictTold text.now right.now result }
+{
+    let Ok(counts) = copied(alloc, right) else {
+        return Told::new(OUT_OF_MEMORY, 0, 0, 0);
+    };
+    let kept = match read_own(alloc, text, OwnJudge::new(alloc, counts)) {
+        Ok(kept) => kept,
+        Err(OwnFault::OutOfMemory) => return Told::new(OUT_OF_MEMORY, 0, 0, 0),
+        Err(OwnFault::Line(line)) => return Told::new(BAD_LINE, line, 0, 0),
+    };
+    // No clause says that a keeper's own numbers stay while it is handed a record, so they are compared.
+    if kept.1.right() != right {
+        return Told::new(OUT_OF_MEMORY, 0, 0, 0);
+    }
+    match kept.1.verdict() {
+        Ok(verdict) => Told::of_verdict(verdict),
+        Err(mistold) => Told::new(MISTOLD, mistold.object, 0, 0),
+    }
+}
+
+/// Judges the record that the bytes spell, if of each log so many steps, from the first on, are right: tells whether it is sound,
+/// or its first fault, by every model that has these counts.
+#[unsafe(no_mangle)]
+pub extern "C" fn mc2_own_audit(alloc: Global, text: &[u8], right: &[u64], told: &mut Told)
+    ensures { IsOwnVerdictTold text.now right.now told.new }
+{
+    *told = verdict_of(alloc, text, right);
+}

@@ -1,0 +1,51 @@
+//! Orders of records of one's own, for callers in C.
+
+ghost use Rattle.judge.specs.OwnOrders.{IsOwnOrderTold};
+
+use crate::merge::tell_turns;
+use crate::own_audit::copied;
+use crate::told::{BAD_LINE, CYCLE, MISTOLD, OUT_OF_MEMORY, SOUND};
+use crate::{Told, Turn};
+use own_judge::{OwnMergeFault, OwnMergeJudge};
+use own_records::{OwnFault, read_own};
+use std::alloc::Global;
+
+/// What is told of the record that the bytes spell, if of each log so many steps are right.
+fn order_of(alloc: Global, text: &[u8], right: &[u64], room: &mut [Turn]) -> Told
+    ensures { IsOwnOrderTold text.now right.now room.old room.new result }
+{
+    let Ok(counts) = copied(alloc, right) else {
+        return Told::new(OUT_OF_MEMORY, 0, 0, 0);
+    };
+    let kept = match read_own(alloc, text, OwnMergeJudge::new(alloc, counts)) {
+        Ok(kept) => kept,
+        Err(OwnFault::OutOfMemory) => return Told::new(OUT_OF_MEMORY, 0, 0, 0),
+        Err(OwnFault::Line(line)) => return Told::new(BAD_LINE, line, 0, 0),
+    };
+    // No clause says that a keeper's own numbers stay while it is handed a record, so they are compared.
+    if kept.1.right() != right {
+        return Told::new(OUT_OF_MEMORY, 0, 0, 0);
+    }
+    match kept.1.into_merged() {
+        Ok(places) => tell_turns(SOUND, places.as_slice(), room),
+        Err(OwnMergeFault::Cycle(cycle)) => tell_turns(CYCLE, cycle.as_slice(), room),
+        Err(OwnMergeFault::Unsound(fault)) => Told::of_fault(fault),
+        Err(OwnMergeFault::Mistold(mistold)) => Told::new(MISTOLD, mistold.object, 0, 0),
+        Err(OwnMergeFault::OutOfMemory) => Told::new(OUT_OF_MEMORY, 0, 0, 0),
+    }
+}
+
+/// Puts the entries of the record that the bytes spell in one order, if of each log so many steps, from the first on, are right,
+/// and writes it at the front of the room; or the cycle that excludes one.
+#[unsafe(no_mangle)]
+pub extern "C" fn mc2_own_merge(
+    alloc: Global,
+    text: &[u8],
+    right: &[u64],
+    room: &mut [Turn],
+    told: &mut Told,
+)
+    ensures { IsOwnOrderTold text.now right.now room.old room.new told.new }
+{
+    *told = order_of(alloc, text, right, room);
+}
