@@ -50,11 +50,13 @@ enum {
     MC2_OWN_LETTERS = 16
 };
 
-/* What mc2_own_judge tells beside enum mc2_verdict, and the library never does. */
+/* What is told beside enum mc2_verdict. */
 enum {
-    /* The text is a record. No model has the object's kind, or the model takes other numbers, or it got no memory: the object.
-       */
-    MC2_NO_MODEL = 12
+    /* From mc2_own_judge: the text is a record. No model has the object's kind, or the model takes other numbers, or it got no
+       memory: the object. From mc2_own_kernel: no line of such an object begins there, or no head of a log. */
+    MC2_NO_MODEL = 12,
+    /* From mc2_own_kernel: how many steps of the log are right. */
+    MC2_OWN_COUNTED = 13
 };
 
 /* What a line is. */
@@ -109,6 +111,10 @@ struct mc2_own_line {
 /* Tells of the line that begins at byte `at`. It asks for no record: what stands before that byte, or behind the line, is
    nothing to it. */
 void mc2_own_line(const uint8_t *text, size_t length, size_t at, struct mc2_own_line *line);
+
+/* A model of the four kinds that mc2 has, queue, pool, console and sched: tells how many steps of the log whose head begins at
+   byte `log`, from the first on, are as the object answers whose line begins at byte `object`. */
+void mc2_own_kernel(const uint8_t *text, size_t length, size_t object, size_t log, struct mc2_told *told);
 
 /* Tells whether the record of this text is sound, or else its first fault, if of each log so many steps are right as is said.
    The next step is then the wrong one, if there is one. */
@@ -222,14 +228,24 @@ static inline uint64_t mc2_own_count(const uint8_t *text, size_t length, size_t 
     return right;
 }
 
-/* Asks the models about one object's log, and says whether there is a model. Logs may be asked about at once, each on a thread
-   of its own. */
+/* Asks the library's model about one object's log, and says whether the object is of one of the kinds that mc2 has. */
+static inline bool mc2_own_ask_kernel(const uint8_t *text, size_t length, struct mc2_own_asked *asked, size_t object) {
+    struct mc2_told told;
+    mc2_own_kernel(text, length, (size_t)asked->object[object], (size_t)asked->log[object], &told);
+    asked->right[object] = told.kind == MC2_OWN_COUNTED ? told.first : 0;
+    return told.kind == MC2_OWN_COUNTED;
+}
+
+/* Asks the models about one object's log, and the library if none has its kind; says whether there is a model. Logs may be
+   asked about at once, each on a thread of its own. */
 static inline bool mc2_own_ask(const uint8_t *text, size_t length, const struct mc2_model *models, size_t count,
                                struct mc2_own_asked *asked, size_t object) {
     struct mc2_own_line line;
     mc2_own_line(text, length, (size_t)asked->object[object], &line);
     const struct mc2_model *model = mc2_own_model(&line, models, count);
-    void *state = model ? model->open(line.numbers, line.count) : NULL;
+    if (!model)
+        return mc2_own_ask_kernel(text, length, asked, object);
+    void *state = model->open(line.numbers, line.count);
     asked->right[object] = state ? mc2_own_count(text, length, (size_t)asked->log[object], model, state) : 0;
     if (state)
         model->close(state);

@@ -85,14 +85,15 @@ static void put_witness(uint64_t object) {
     free(witness.steps);
 }
 
-/* Whether the step is wrong by the model, and not for standing behind one that refused: the steps before it are all that are
-   right. */
+/* Whether the step is wrong by a model that is here, and not for standing behind one that refused: the steps before it are all
+   that are right. The library's model gives no reasons. */
 static bool is_wrong_by_model(const struct mc2_told *told) {
     struct mc2_own_trial trial = mc2_own_try(bytes(), length, models, MODELS, &asked, (size_t)told->first);
     size_t wanted = (size_t)asked.right[told->first] + 1;
     struct mc2_own_place *steps = get(wanted, sizeof *steps);
     size_t found = mc2_own_places(&trial, (size_t)asked.log[told->first], steps, wanted);
-    bool is_wrong = found == wanted && steps[wanted - 1].event == told->second && steps[wanted - 1].step == told->third;
+    bool is_there = trial.model && found == wanted && steps[wanted - 1].event == told->second;
+    bool is_wrong = is_there && steps[wanted - 1].step == told->third;
     free(steps);
     return is_wrong;
 }

@@ -3,3 +3,4 @@ pub mod Orders
 pub mod OwnLines
 pub mod OwnTold
 pub mod OwnOrders
+pub mod KernelLogs

@@ -1,6 +1,5 @@
 -- What is told of a single line of a record of one's own.
 use Rattle.std.specs.Prelude.{ℕ, ◌≡◌, ◌+◌, List, [], ◌∷◌, ◌++◌, length, map, drop, Option, Some, None}
-use Rattle.event_log.specs.declared.event.Step.{Step}
 use Rattle.own_lines.specs.LineReading.{log_at, own_object_at, own_event_at}
 use Rattle.own_object.specs.Own.{OwnStep, OwnEvent}
 use Rattle.own_object.specs.Said.{Said, padded}

@@ -1,6 +1,5 @@
 -- What is told of a record of one's own that was judged by counts: of each log how many steps, from the first on, are right.
-use Rattle.std.specs.Prelude.{◌≡◌, ℕ, List, length}
-use Rattle.auditor.specs.declared.fault.Fault.{Fault}
+use Rattle.std.specs.Prelude.{◌≡◌, ℕ, List}
 use Rattle.auditor.specs.declared.fault.Verdict.{Verdict}
 use Rattle.own_judge.specs.Models.{IsMistold, IsVerdictByCounts}
 use Rattle.own_object.specs.Ranges.{OwnRecord}

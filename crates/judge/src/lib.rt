@@ -2,6 +2,7 @@
 #![tactic(auto)]
 
 mod audit;
+mod kernel_log;
 mod merge;
 mod own_audit;
 mod own_line;
@@ -10,6 +11,7 @@ mod own_told;
 mod told;
 
 pub use audit::mc2_audit;
+pub use kernel_log::mc2_own_kernel;
 pub use merge::{Turn, mc2_merge};
 pub use own_audit::mc2_own_audit;
 pub use own_line::mc2_own_line;

@@ -15,8 +15,8 @@ NUMBERS = {"NO_LINE": "MC2_OWN_NONE", "OBJECT_LINE": "MC2_OWN_OBJECT", "LOG_LINE
 NUMBERS |= {"EVENT_LINE": "MC2_OWN_EVENT", "OTHER_LINE": "MC2_OWN_OTHER", "MISTOLD": "MC2_MISTOLD"}
 NUMBERS |= {"MOST_OWN_CPUS": "MC2_OWN_CPUS", "MOST_OWN_OBJECTS": "MC2_OWN_OBJECTS", "MOST_SIZES": "MC2_OWN_SIZES"}
 NUMBERS |= {"MOST_WORDS": "MC2_OWN_REFUSING", "MOST_LETTERS": "MC2_OWN_LETTERS", "MOST_NUMBERS": "MC2_OWN_NUMBERS"}
-NUMBERS |= {"MOST_CALLS": "MC2_OWN_CALLS"}
-EXPORTS = {"mc2_own_line", "mc2_own_audit", "mc2_own_merge"}
+NUMBERS |= {"MOST_CALLS": "MC2_OWN_CALLS", "NO_MODEL": "MC2_NO_MODEL", "COUNTED": "MC2_OWN_COUNTED"}
+EXPORTS = {"mc2_own_line", "mc2_own_audit", "mc2_own_merge", "mc2_own_kernel"}
 # Each of these makes the sources wrong, so the header must no longer fit.
 SWAPS = {
     "fields of LineTold": ("    pub next: u64,\n    pub limit: u64,", "    pub limit: u64,\n    pub next: u64,"),

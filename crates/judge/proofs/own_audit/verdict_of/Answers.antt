@@ -1,4 +1,4 @@
-use Rattle.std.proofs.Common.{◌≡◌, ℕ, List, Ok, Err, sym, subst, ◌∙◌}
+use Rattle.std.proofs.Common.{◌≡◌, ℕ, List, sym, subst, ◌∙◌}
 use Rattle.own_judge.specs.Models.{IsMistold, IsVerdictByCounts}
 use Rattle.own_object.specs.Keeping.{kept_own}
 use Rattle.own_object.specs.Settings.{OwnHead}

@@ -1,4 +1,4 @@
-use Rattle.std.proofs.Common.{refl, sym, ap, ◌∙◌}
+use Rattle.std.proofs.Common.{refl, ap, ◌∙◌}
 use Rattle.judge.specs.OwnLines.{told_line}
 use Rattle.judge.proofs.LinesAt.{one_line}
 use Rattle.judge.proofs.own_line.mc2_own_line.Goals as goal

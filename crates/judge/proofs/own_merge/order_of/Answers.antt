@@ -1,4 +1,4 @@
-use Rattle.std.proofs.Common.{◌≡◌, ℕ, List, length, Ok, Err, refl, sym, subst, ap, ◌∙◌}
+use Rattle.std.proofs.Common.{◌≡◌, ℕ, List, length, Err, refl, sym, subst, ap, ◌∙◌}
 use Rattle.own_judge.specs.declared.merge.OwnMergeFault.TheVariants as fault
 use Rattle.own_judge.specs.Merged.{IsMergedBy, HasCycleBy}
 use Rattle.own_judge.specs.Models.{Model, AreCounts, IsFirstFaultBy, IsMistold}

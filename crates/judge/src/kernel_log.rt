@@ -1,0 +1,41 @@
+//! Logs of the kernel's four kinds in records of one's own, for callers in C.
+
+ghost use Rattle.std.specs.Prelude.{◌≡◌};
+ghost use Rattle.judge.specs.KernelLogs.{IsKernelTold};
+
+use crate::Told;
+use crate::told::OUT_OF_MEMORY;
+use own_kernel::kernel_count;
+use std::alloc::Global;
+
+/// No object of one of the kernel's kinds has its line there, or no head of a log is there.
+pub const NO_MODEL: u32 = 12;
+
+/// How many steps of a log are right, from the first on.
+pub const COUNTED: u32 = 13;
+
+/// What is told of the log.
+fn count_of(alloc: Global, text: &[u8], object: usize, log: usize) -> Told
+    ensures { IsKernelTold text.now object log result }
+{
+    match kernel_count(alloc, text, object, log) {
+        Ok(Some(right)) => Told::new(COUNTED, right as usize, 0, 0),
+        Ok(None) => Told::new(NO_MODEL, 0, 0, 0),
+        Err(_) => Told::new(OUT_OF_MEMORY, 0, 0, 0),
+    }
+}
+
+/// Tells how many steps of the log whose head begins at the byte `log`, from the first on, are as the object answers whose line
+/// begins at the byte `object`, if that is a queue, a pool, a console or a sched.
+#[unsafe(no_mangle)]
+pub extern "C" fn mc2_own_kernel(
+    alloc: Global,
+    text: &[u8],
+    object: usize,
+    log: usize,
+    told: &mut Told,
+)
+    ensures { IsKernelTold text.now object log told.new }
+{
+    *told = count_of(alloc, text, object, log);
+}
