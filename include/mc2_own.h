@@ -13,7 +13,8 @@
    What is proved. Say that `right` has the counts of a model: the first right[x] steps of log x are right by it, each after
    those before it, and the next one isn't, if there is one. Then mc2_own_audit tells that the record is sound just if it is
    sound by that model, and else its first fault by that model. mc2_own_merge tells one order of a sound record, or a cycle that
-   excludes one. And mc2_own_line tells of the line what stands there. This holds of every model, whatever it says.
+   excludes one. And mc2_own_line tells of the line what stands there. This holds of every model, whatever it says. A model of
+   the kinds that mc2 has is in the library, and its counts are proved too: mc2_own_kernel.
 
    What isn't proved. The half that is inline here isn't, so nor is that your counts are the model's: too small a count makes a
    log unsound, and too large a one may hide a wrong step. Nor is mc2_own_witness.h, which finds a few steps that show a wrong
@@ -27,7 +28,9 @@
    - No pointer is NULL, not even where it points to nothing. All but `text` are aligned as C aligns them, to 8 bytes.
    - Each size is right, 0 too, if what it counts has at most PTRDIFF_MAX bytes. `at` may be any number.
 
-   The functions keep nothing between two calls, so several threads may call them at once. */
+   The functions keep nothing between two calls, so several threads may call them at once. mc2_own_audit and mc2_own_merge took
+   up to 20,600 bytes of stack where that was measured, and mc2_own_line and mc2_own_kernel 10,400. Beside the text the first two
+   took less memory than the text has bytes, where the text was large. None of this is proved. */
 #ifndef MC2_OWN_H
 #define MC2_OWN_H
 
