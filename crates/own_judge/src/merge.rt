@@ -4,7 +4,7 @@ ghost use Rattle.std.specs.Prelude.{◌≡◌, ◌↔◌, ℕ, Err, List, IfOk, 
 ghost use Rattle.own_object.specs.Keeping.{no_own_parts, kept_own, IsWholeOwn};
 ghost use Rattle.own_object.specs.Ranges.{OwnRecordFits};
 ghost use Rattle.own_judge.specs.Merged.{IsMergedBy, HasCycleBy};
-ghost use Rattle.own_judge.specs.Models.{Model as Any, AreCounts, IsMistold, IsFirstFaultBy, SoundBy};
+ghost use Rattle.own_judge.specs.Models.{Model as AnyModel, AreCounts, IsMistold, IsFirstFaultBy, SoundBy};
 ghost use Rattle.sound_run.specs.Orders.{HasOrder};
 
 use crate::judge::{Mistold, OwnJudge};
@@ -89,12 +89,12 @@ impl OwnMergeJudge {
         requires fit { OwnRecordFits (kept_own self.parts.head self.parts) }
         ensures mistold { (x : ℕ) → (result ≡ Err (OwnMergeFault.Mistold (record { object = x }))) ↔ IsMistold (kept_own self.parts.head self.parts) self.counts x }
         ensures unsound { (f : Fault) → result ≡ Err (OwnMergeFault.Unsound f) →
-            (model : Any) → AreCounts model (kept_own self.parts.head self.parts) self.counts → IsFirstFaultBy model (kept_own self.parts.head self.parts) f }
-        ensures order { IfOk result (λ places. (model : Any) → AreCounts model (kept_own self.parts.head self.parts) self.counts →
+            (model : AnyModel) → AreCounts model (kept_own self.parts.head self.parts) self.counts → IsFirstFaultBy model (kept_own self.parts.head self.parts) f }
+        ensures order { IfOk result (λ places. (model : AnyModel) → AreCounts model (kept_own self.parts.head self.parts) self.counts →
             IsMergedBy model (kept_own self.parts.head self.parts) places) }
         ensures cycle { (c : List Place) → result ≡ Err (OwnMergeFault.Cycle c) →
-            (model : Any) → AreCounts model (kept_own self.parts.head self.parts) self.counts → HasCycleBy model (kept_own self.parts.head self.parts) c }
-        ensures given { (model : Any) → AreCounts model (kept_own self.parts.head self.parts) self.counts → SoundBy model (kept_own self.parts.head self.parts) →
+            (model : AnyModel) → AreCounts model (kept_own self.parts.head self.parts) self.counts → HasCycleBy model (kept_own self.parts.head self.parts) c }
+        ensures given { (model : AnyModel) → AreCounts model (kept_own self.parts.head self.parts) self.counts → SoundBy model (kept_own self.parts.head self.parts) →
             HasOrder (kept_own self.parts.head self.parts).run → IfErr result (λ f. f ≡ OwnMergeFault.OutOfMemory) }
     {
         let OwnMergeJudge {
