@@ -15,7 +15,7 @@ ghost use Rattle.sound_run.specs.Sound.{Sound};
 use crate::answered::Answered;
 use crate::heard::Heard;
 use crate::shape::OwnShape;
-use crate::telling::{tell_entry, tell_event};
+use crate::telling::{no_entry, no_event, tell_entry, tell_event};
 use crate::told_rows::ToldRows;
 use auditor::{Fault, Judged, OpenedObject, Verdict};
 use event_log::{Entry, Event, OutOfMemory, Series};
@@ -47,6 +47,9 @@ pub struct OwnJudge {
     without: Option<usize>,
     heard: Heard,
     judged: Judged<Answered, Answered, ToldRows>,
+    /// Room for what is told, which is told anew each time: to make it anew takes longer than to judge it.
+    event: Event<Answered>,
+    entry: Entry<Answered>,
 }
 
 impl Model for OwnJudge {
@@ -109,6 +112,8 @@ impl OwnJudge {
             without: None,
             heard: Heard::new(),
             judged: Judged::empty(alloc),
+            event: no_event(),
+            entry: no_entry(),
         }
     }
 
@@ -177,7 +182,8 @@ impl OwnKeeps for OwnJudge {
     }
 
     fn event(&mut self, event: &Event<OwnObject>) -> Result<(), OutOfMemory> {
-        self.judged.event(&tell_event(event, self.left), &[])?;
+        tell_event(event, self.left, &mut self.event);
+        self.judged.event(&self.event, &[])?;
         self.left = self.left.saturating_sub(event.steps.list.len() as u64);
         self.heard.tell_event(event);
         Ok(())
@@ -199,7 +205,8 @@ impl OwnKeeps for OwnJudge {
     }
 
     fn entry(&mut self, entry: &Entry<OwnObject>) -> Result<(), OutOfMemory> {
-        self.judged.entry(&tell_entry(entry));
+        tell_entry(entry, &mut self.entry);
+        self.judged.entry(&self.entry);
         self.heard.tell_entry(entry);
         Ok(())
     }

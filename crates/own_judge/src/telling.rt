@@ -8,6 +8,24 @@ use arrayvec::ArrayVec;
 use event_log::{Done, Entry, Event, MOST_CALLS, Step, Steps};
 use own_object::{OwnObject, OwnReply, Spoken};
 
+/// An event without steps.
+pub fn no_event() -> Event<Answered> {
+    Event {
+        cpu: 0,
+        steps: Steps::default(),
+    }
+}
+
+/// An entry that asked nothing.
+pub fn no_entry() -> Entry<Answered> {
+    Entry {
+        object: 0,
+        asked: ArrayVec::new(),
+        done: Done::NoRoom,
+        looks: 0,
+    }
+}
+
 /// What a reply of a record is here.
 fn answer_to(reply: &OwnReply) -> Answer
     ensures { result ≡ answer_of reply.now }
@@ -35,25 +53,22 @@ fn tell_step(step: &Step<OwnObject>, is_right: bool) -> Step<Answered>
     }
 }
 
-/// Steps, of which the first ones are right.
-fn tell_steps(steps: &Steps<OwnObject>, right: u64) -> Steps<Answered>
-    ensures { result.list.items ≡ told_steps right steps.now.list.items }
+/// Makes of any steps these, of which the first ones are right.
+fn tell_steps(steps: &Steps<OwnObject>, right: u64, told: &mut Steps<Answered>)
+    ensures { told.new.list.items ≡ told_steps right steps.now.list.items }
 {
-    let mut told = Steps::default();
+    told.list.clear();
     for (i, step) in steps.list.as_slice().iter().enumerate() {
         told.list.push(tell_step(step, (i as u64) < right));
     }
-    told
 }
 
-/// An event, of which the first steps are right.
-pub fn tell_event(event: &Event<OwnObject>, right: u64) -> Event<Answered>
-    ensures { result ≡ told_event right event.now }
+/// Makes of any event this one, of which the first steps are right.
+pub fn tell_event(event: &Event<OwnObject>, right: u64, told: &mut Event<Answered>)
+    ensures { told.new ≡ told_event right event.now }
 {
-    Event {
-        cpu: event.cpu,
-        steps: tell_steps(&event.steps, right),
-    }
+    told.cpu = event.cpu;
+    tell_steps(&event.steps, right, &mut told.steps);
 }
 
 /// A call that was asked, with the reply that it got, if it got one.
@@ -74,35 +89,46 @@ fn tell_call(call: &Spoken, step: Option<&Step<OwnObject>>) -> Told
     }
 }
 
-/// The calls that were asked, with the replies that they got.
-fn tell_asked(asked: &[Spoken], steps: &[Step<OwnObject>]) -> ArrayVec<Told, MOST_CALLS>
+/// Makes of any calls those that were asked, with the replies that they got.
+fn tell_asked(asked: &[Spoken], steps: &[Step<OwnObject>], told: &mut ArrayVec<Told, MOST_CALLS>)
     requires { length asked.now ≤ MOST_CALLS }
-    ensures { result.items ≡ told_asked asked.now steps.now }
+    ensures { told.new.items ≡ told_asked asked.now steps.now }
 {
-    let mut told = ArrayVec::new();
+    told.clear();
     for (i, call) in asked.iter().enumerate() {
         told.push(tell_call(call, steps.get(i)));
     }
-    told
 }
 
-/// An entry, whose steps are right.
-pub fn tell_entry(entry: &Entry<OwnObject>) -> Entry<Answered>
-    ensures { result ≡ told_entry entry.now }
+/// Makes of what became of any entry that these steps were done, which are right.
+fn tell_done(steps: &Steps<OwnObject>, told: &mut Done<Answered>)
+    ensures { told.new ≡ Done.Steps (record { list = record { items = told_steps MOST_CALLS steps.now.list.items } }) }
+{
+    match told {
+        Done::Steps(room) => tell_steps(steps, MOST_CALLS as u64, room),
+        Done::NoRoom => {
+            let mut room = Steps::default();
+            tell_steps(steps, MOST_CALLS as u64, &mut room);
+            *told = Done::Steps(room);
+        }
+    }
+}
+
+/// Makes of any entry this one, whose steps are right.
+pub fn tell_entry(entry: &Entry<OwnObject>, told: &mut Entry<Answered>)
+    ensures { told.new ≡ told_entry entry.now }
 {
     let asked = entry.asked.as_slice();
+    told.object = entry.object;
+    told.looks = entry.looks;
     match &entry.done {
-        Done::Steps(steps) => Entry {
-            object: entry.object,
-            asked: tell_asked(asked, steps.list.as_slice()),
-            done: Done::Steps(tell_steps(steps, MOST_CALLS as u64)),
-            looks: entry.looks,
-        },
-        Done::NoRoom => Entry {
-            object: entry.object,
-            asked: tell_asked(asked, &[]),
-            done: Done::NoRoom,
-            looks: entry.looks,
-        },
+        Done::Steps(steps) => {
+            tell_asked(asked, steps.list.as_slice(), &mut told.asked);
+            tell_done(steps, &mut told.done);
+        }
+        Done::NoRoom => {
+            tell_asked(asked, &[], &mut told.asked);
+            told.done = Done::NoRoom;
+        }
     }
 }
