@@ -12,7 +12,7 @@ use crate::own_told::{put_numbers, put_steps};
 use event_log::{Event, Steps};
 use own_lines::{event_line, log_line, object_line};
 use own_object::{OwnHead, OwnName, OwnObject, OwnSettings, Spoken};
-use scripts::{Words, name_in, split_line, word};
+use scripts::{Words, key, name_in, split_line, word};
 use std::alloc::Global;
 
 /// No line with its end begins there.
@@ -53,11 +53,10 @@ fn name(at: Words<'_>) -> Option<OwnName>
 }
 
 /// The name of a log, and how many events its head says that it has.
-#[tactic(auto, unfolding(crate::specs::OwnLines::any_log_at))]
 fn any_log(line: &[u8]) -> Option<(OwnName, u32)>
     ensures { option_map (λ x. (x.0.bytes, x.1)) result ≡ any_log_at (words line.now) }
 {
-    let (_, rest) = word(Some(line))?;
+    let rest = key(b"log", Some(line))?;
     let name = name(rest)?;
     let count = log_line(name.as_str().as_bytes(), line)?;
     Some((name, count))

@@ -5,7 +5,7 @@ use Rattle.arrayvec.specs.ArrayVec.{ArrayVec}
 use Rattle.event_log.specs.declared.entry.Done.TheVariants as done
 use Rattle.own_object.specs.Own.{OwnStep, OwnSteps, OwnDone, OwnEntry}
 use Rattle.own_object.specs.Said.{Said}
-use Rattle.own_judge.specs.Answers.{ToldStep, ToldSteps}
+use Rattle.own_judge.specs.Answers.{ToldStep, ToldDone}
 use Rattle.own_judge.specs.declared.answered.Told.{Told}
 use Rattle.own_judge.specs.Translated.{right_step, wrong_step, told_steps, told_asked, told_done, told_entry, done_steps}
 use Rattle.own_judge.proofs.ToldLogs.{told_right}
@@ -33,12 +33,12 @@ pub asked_next : (asked : List Said) (steps : List OwnStep) (i : ℕ) (c : Said)
 asked_next asked steps i c t lt is e = rw (add-one i) (asked_suc asked steps i c t lt is e)
 
 -- an entry whose steps were done
-pub entry_done : (e : OwnEntry) (s : OwnSteps) (asked : ArrayVec Told) (told : ToldSteps) → e.done ≡ done.Steps s → asked.items ≡ told_asked e.asked.items s.list.items → told.list.items ≡ told_steps 8 s.list.items → length s.list.items ≤ 8
-    → record { object = e.object; asked = asked; done = done.Steps told; looks = e.looks } ≡ told_entry e
-entry_done e s asked told is calls steps few =
+pub entry_done : (e : OwnEntry) (s : OwnSteps) (asked : ArrayVec Told) (did : ToldDone) → e.done ≡ done.Steps s → asked.items ≡ told_asked e.asked.items s.list.items → did ≡ done.Steps (record { list = record { items = told_steps 8 s.list.items } }) → length s.list.items ≤ 8
+    → record { object = e.object; asked = asked; done = did; looks = e.looks } ≡ told_entry e
+entry_done e s asked did is calls steps few =
     let a = calls ∙ ap (λ (d : OwnDone). told_asked e.asked.items (done_steps d)) (sym is) in
-    let b = steps ∙ told_right 8 s.list.items few in
-    let d : done.Steps told ≡ told_done e.done = (λ j. done.Steps (record { list = record { items = b j } })) ∙ ap told_done (sym is) in
+    let right : told_steps 8 s.list.items ≡ _ = told_right 8 s.list.items few in
+    let d : did ≡ told_done e.done = steps ∙ ((λ j. done.Steps (record { list = record { items = right j } })) ∙ ap told_done (sym is)) in
     λ j. record { object = e.object; asked = record { items = a j }; done = d j; looks = e.looks }
 
 -- an entry without room

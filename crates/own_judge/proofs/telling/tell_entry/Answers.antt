@@ -8,4 +8,4 @@ returns-in-Steps c =
     let s = c.in-Steps.steps in
     let few = c.as_slice.ensures.fits in
     let n = ap (λ l. length l) c.as_slice.ensures.value in
-    entry_done c.args.entry.now s c.tell_asked.result c.tell_steps.result c.in-Steps.is (c.tell_asked.ensures ∙ (λ j. told_asked (c.as_slice-asked.ensures.value j) (c.as_slice.ensures.value j))) c.tell_steps.ensures (omega (arith, few, n))
+    entry_done c.args.entry.now s c.tell_asked.new.told c.tell_done.new.told c.in-Steps.is (c.tell_asked.ensures ∙ (λ j. told_asked (c.as_slice-asked.ensures.value j) (c.as_slice.ensures.value j))) c.tell_done.ensures (omega (arith, few, n))

@@ -28,7 +28,7 @@ event-requires c =
 pub invariant_of-self-2 : goal.invariant_of-self-2
 invariant_of-self-2 c =
     let i = c.self.inside in
-    let more = event_more i.heard i.right.items i.limits.items i.log i.left i.without i.judged c.self.invariant c.args.event.now c.tell_event.result c.saturating_sub-self-inside.result c.tell_event.ensures (c.saturating_sub-self-inside.ensures ∙ ap (λ n. i.left - n) c.len.ensures.value) in
+    let more = event_more i.heard i.right.items i.limits.items i.log i.left i.without i.judged c.self.invariant c.args.event.now c.tell_event.new.told c.saturating_sub-self-inside.result c.tell_event.ensures (c.saturating_sub-self-inside.ensures ∙ ap (λ n. i.left - n) c.len.ensures.value) in
     let heard = c.tell_event-2.ensures in
     let fed = c.in_ok-event.ensures.ok in
     subst (λ (z : OwnParts × ToldFed). IsFedOwn z.0 i.right.items i.limits.items i.log c.saturating_sub-self-inside.result i.without z.1) (λ j. (sym heard j, sym fed j)) more
