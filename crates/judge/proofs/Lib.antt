@@ -1,3 +1,4 @@
 pub mod Fronts
 pub mod LinesAt
+pub mod LogHeads
 pub mod Mistold

@@ -1,12 +1,10 @@
 -- The head of a log begins with its first word.
-use Rattle.std.proofs.Common.{◌≡◌, ℕ, Option, Some, None, List, [], ◌∷◌, refl, sym, ap, ◌∙◌, subst, codes}
-use Rattle.own_lines.specs.LineReading.{log_at}
+use Rattle.std.proofs.Common.{◌≡◌, ℕ, Option, Some, None, List, [], ◌∷◌, refl, ap, ◌∙◌, codes}
 use Rattle.scripts.specs.Reading.{◌>>=◌, word_at, key_at}
 use Rattle.scripts.specs.RecordReading.{name_word_at, head_at, keys_at, last_at}
-use Rattle.scripts.proofs.ListLaws.{key_takes}
 use Rattle.judge.specs.OwnLines.{any_log_at}
 
-no_more : {A B : Type 0} (o : Option A) → (o >>= λ (a : A). None {A = B}) ≡ None
+no_more : {A B : Type 0} (o : Option A) → ◌>>=◌ {A = A} {B = B} o (λ a. None) ≡ None
 no_more None = refl
 no_more (Some a) = refl
 
@@ -15,8 +13,3 @@ pub no_head : (ws : List (List ℕ)) → key_at (codes "log") ws ≡ None → an
 unfolding any_log_at word_at head_at keys_at
 no_head [] other = refl
 no_head (w ∷ ws) other = ap (λ (o : Option (List (List ℕ))). name_word_at ws >>= λ name. ((o >>= λ rest. keys_at (name.0 ∷ []) rest) >>= λ rest. last_at 0 4294967295 rest) >>= λ count. Some (name.0, count)) other ∙ no_more (name_word_at ws)
-
--- behind the first word comes the name
-pub head : (ws rest : List (List ℕ)) → key_at (codes "log") ws ≡ Some rest → any_log_at ws ≡ (name_word_at rest >>= λ name. log_at name.0 ws >>= λ count. Some (name.0, count))
-unfolding any_log_at word_at
-head ws rest first = let is = key_takes (codes "log") ws rest first in rw (is) refl

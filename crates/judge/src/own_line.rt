@@ -53,10 +53,15 @@ fn name(at: Words<'_>) -> Option<OwnName>
 }
 
 /// The name of a log, and how many events its head says that it has.
+#[tactic(auto, unfolding(crate::specs::OwnLines::any_log_at))]
 fn any_log(line: &[u8]) -> Option<(OwnName, u32)>
     ensures { option_map (λ x. (x.0.bytes, x.1)) result ≡ any_log_at (words line.now) }
 {
-    let rest = key(b"log", Some(line))?;
+    // Most lines are events, which have another first word.
+    let Some(_) = key(b"log", Some(line)) else {
+        return None;
+    };
+    let (_, rest) = word(Some(line))?;
     let name = name(rest)?;
     let count = log_line(name.as_str().as_bytes(), line)?;
     Some((name, count))
