@@ -28,9 +28,9 @@
    - No pointer is NULL, not even where it points to nothing. All but `text` are aligned as C aligns them, to 8 bytes.
    - Each size is right, 0 too, if what it counts has at most PTRDIFF_MAX bytes. `at` may be any number.
 
-   The functions keep nothing between two calls, so several threads may call them at once. mc2_own_audit and mc2_own_merge took
-   up to 20,600 bytes of stack where that was measured, and mc2_own_line and mc2_own_kernel 10,400. Beside the text the first two
-   took less memory than the text has bytes, where the text was large. None of this is proved. */
+   The functions keep nothing between two calls, so several threads may call them at once. mc2_own_audit was seen to take at
+   most 14,336 bytes of stack, mc2_own_merge 30,720, mc2_own_line 6,144 and mc2_own_kernel 7,168, as tools/check/own checks.
+   Beside the text the first two took less memory than the text has bytes, where the text was large. None of this is proved. */
 #ifndef MC2_OWN_H
 #define MC2_OWN_H
 
