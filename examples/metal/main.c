@@ -1,7 +1,8 @@
-// A kernel without a C library. Its CPUs share a queue, a page pool, a console and a scheduler by the cells of libcells.a. Each CPU
-// calls them CALLS times, and its timer's interrupts call them by tries, in the middle of whatever the CPU does between two steps
-// of the library. What was done is noted by mc2_record.h, and goes out over the serial port as a record; a few words about it go
-// to qemu's debug console. docs/IN_A_KERNEL.md goes through all that. Nothing here is proved.
+// A kernel without a C library. Its CPUs share a queue, a page pool, a console and a scheduler by the cells of libcells.a. Each
+// CPU calls them CALLS times, and its timer's interrupts call them by tries, in the middle of whatever the CPU does between two
+// steps of the library. What was done is noted by mc2_note.h, in memory of each CPU's own. It goes out over the serial port as
+// a record, and a few words about it go to qemu's debug console. docs/IN_A_KERNEL.md goes through all that. Nothing here is
+// proved.
 //
 // The Makefile has the settings: CPUS, CALLS, TIMER_COUNT, MASKED, JUDGE, NO_SSE and STAND_IN.
 #include "machine.h"
@@ -16,9 +17,14 @@
     })
 #include "mc2_cells.h"
 #include "mc2_heap.h"
+#include "mc2_note.h"
 
-// A CPU has its own number, and its interrupts have one behind those of all CPUs: each is a CPU of its own for the cells.
+// A CPU has its own number, and its interrupts have one behind those of all CPUs: each is a CPU of its own for the cells, and
+// has notes of its own, for so many entries of one call each.
 enum { NUMBERS = TIMER_COUNT > 0 ? 2 * CPUS : CPUS, ENTRIES = CALLS + 1000, EVENTS = CPUS * ENTRIES };
+enum { PIECES = 2 * ENTRIES + MC2_NOTE_PIECES - 1 };
+_Static_assert((int)ENTRIES <= (int)MC2_MOST_ENTRIES, "a record has 10,000 entries of a CPU at most: fewer CALLS");
+_Static_assert((int)EVENTS <= (int)MC2_MOST_EVENTS, "a log has 65,536 events at most: fewer CALLS, or fewer CPUS");
 
 #ifdef STAND_IN
 // What stand_in.c has, in place of the library.
@@ -33,14 +39,19 @@ static const uint32_t quotas[MC2_OWNERS] = {16, 3, 2, 16, 16, 16, 16, 16, 16, 16
 static const struct mc2_object objects[4] = {
     {"threads", MC2_QUEUE, MC2_TICKET, EVENTS, 16, 0, NULL},
     {"pages", MC2_POOL, MC2_MCS, EVENTS, 16, 0, QUOTAS},
-    {"bytes", MC2_CONSOLE, MC2_TICKET, CALLS / 2, 32, 0, NULL},     // its log gets full where there are CPUs enough
+    {"bytes", MC2_CONSOLE, MC2_TICKET, CALLS / 2, 32, 0, NULL},     // its log gets full where there are CPUs enough, by intent
     {"tasks", MC2_SCHED, MC2_MCS, EVENTS, 16, CHANNELS, NULL},
 };
 
 static struct mc2_cell cells[OBJECTS];
 static struct mc2_caller callers[OBJECTS][NUMBERS];
-static struct mc2_recorder recorder;
+static struct mc2_notes notes[NUMBERS];
+static struct mc2_turns turns[4];
+static struct mc2_turns *const turns_of_each[4] = {&turns[0], &turns[1], &turns[2], &turns[3]};
+static const struct mc2_noted noted = {objects, turns_of_each, OBJECTS, notes, NUMBERS};
 static uint32_t cpus_ready, cpus_done, random[NUMBERS];
+// How many calls of each number had no turn, as the object's log was full. They did nothing.
+static uint32_t without_turn[NUMBERS];
 static volatile uint64_t interrupts[CPUS];
 // Answers that can't be. They are counted, and not the end, so that the record is judged all the same.
 static uint32_t wrong;
@@ -57,33 +68,37 @@ static struct mc2_call any_call(uint32_t object, uint32_t number) {
     return mc2_ask(word, draw(number, 18), draw(number, 18));
 }
 
-// Does the call by a caller that has the object, and notes the event. Says whether there was room for it.
-static bool apply(uint32_t object, uint32_t number, struct mc2_call asked, struct mc2_step *step) {
-    bool has_room = mc2_room(&recorder, object, number) == MC2_DONE;
-    struct mc2_reply reply = {0, 0};
-    uint32_t told = MC2_STEP(mc2_caller_apply(&callers[object][number], &asked, &reply));
-    *step = mc2_answer(asked, reply.word, reply.number);
-    bool is_done = told == MC2_CELL_DONE && mc2_event(&recorder, object, number, step, 1) == MC2_DONE;
-    wrong += is_done != has_room || told != (is_done ? MC2_CELL_DONE : MC2_CELL_FULL);
-    return is_done;
+// Does the call by a caller that has the object, and answers the CPU's turn there. If the object's log is full there is none:
+// the log that the library keeps itself is full then too, so it does nothing. A call that isn't done has no reply, and such a
+// step can't be noted.
+static uint32_t apply(uint32_t object, uint32_t number, struct mc2_step *step) {
+    struct mc2_reply reply = {MC2_REPLY_WORDS, 0};
+    uint32_t turn = mc2_take_turn(&turns[object], &notes[number]);
+    uint32_t told = MC2_STEP(mc2_caller_apply(&callers[object][number], &step->call, &reply));
+    *step = mc2_answer(step->call, reply.word, reply.number);
+    wrong += told != (turn == MC2_NO_TURN ? MC2_CELL_FULL : MC2_CELL_DONE);
+    return turn;
 }
 
-// Calls the object once, and notes that: an event under its lock, an entry behind it. A try that finds another there does nothing.
+// Calls the object once, and notes that, when the object is given back. A try that finds another there does nothing. Nor does a
+// number whose memory is full: without a turn it would end the notes of that object for all others too.
 static void call(uint32_t object, uint32_t number, bool waits) {
     struct mc2_caller *caller = &callers[object][number];
-    struct mc2_call asked = any_call(object, number);
-    struct mc2_step step;
+    struct mc2_step step = {any_call(object, number), MC2_REPLY_WORDS, 0};
     uint64_t looks = 1;
+    if (!mc2_has_note_room(&notes[number]))
+        return;
     uint32_t got = waits ? mc2_acquire(caller, &looks) : MC2_STEP(mc2_caller_try(caller));
     if (got == MC2_CELL_BUSY)
         return;
     must(got == MC2_CELL_ENTERED || got == MC2_CELL_FOUND, "acquire", got);
-    bool is_noted = mc2_room(&recorder, object, number) != MC2_TRANSCRIPT_FULL;
-    bool is_done = is_noted && apply(object, number, asked, &step);
+    uint32_t turn = apply(object, number, &step);
     uint32_t left = mc2_release(caller);
     must(left == MC2_CELL_LEFT, "release", left);
-    if (is_noted)
-        wrong += mc2_entry(&recorder, object, number, looks, &asked, 1, &step, is_done) != MC2_DONE;
+    if (turn == MC2_NO_TURN)
+        without_turn[number]++;
+    else
+        wrong += mc2_note(&notes[number], object, turn, looks, &step, 1, 1) != MC2_DONE;
 }
 
 void interrupt(struct frame *frame) {
@@ -119,6 +134,21 @@ static void *take(size_t size) {
     return taken.at;
 }
 
+static void open_notes(void) {
+    for (uint32_t number = 0; number < NUMBERS; number++) {
+        int opened = mc2_open_notes(&notes[number], take(PIECES * sizeof(union mc2_note_piece)), PIECES);
+        must(opened == MC2_DONE, "opening notes", (uint64_t)opened);
+    }
+}
+
+// An object has as many turns as the library's own log of it may have events.
+static void open_turns(void) {
+    for (uint32_t object = 0; object < OBJECTS; object++) {
+        int opened = mc2_open_turns(&turns[object], objects[object].events);
+        must(opened == MC2_DONE, "opening turns", (uint64_t)opened);
+    }
+}
+
 static void open_all(void) {
     for (uint32_t object = 0; object < OBJECTS; object++) {
         uint32_t told = mc2_cell_open(&cells[object], &objects[object], NUMBERS);
@@ -132,7 +162,29 @@ static void open_all(void) {
         random[number] = number * 7919;
 }
 
-// Ends a cell, and compares its own log, which the library has kept, with the one that was noted.
+// Whether the CPU that the library's log tells of has noted the same of that turn, and once. The places are how far the notes
+// of each were read.
+static bool is_noted(uint32_t object, uint32_t turn, const struct mc2_logged_step *told, size_t *places) {
+    struct mc2_call call;
+    struct mc2_step step;
+    const union mc2_note_piece *note = NULL;
+    if (told->cpu >= NUMBERS || mc2_pass_turn(&notes[told->cpu], &places[told->cpu], object, turn, &note) != 1 ||
+        note->head.asked != 1 || note->head.done != 1)
+        return false;
+    mc2_read_note(note, &call, &step);
+    return call.word == told->step.call.word && step.reply == told->step.reply && step.number == told->step.number;
+}
+
+// Compares a closed cell's own log, which the library has kept, with what was noted.
+static void compare_log(uint32_t object) {
+    size_t places[NUMBERS] = {0};
+    struct mc2_logged_step told;
+    uint32_t turn = 0;
+    for (; mc2_cell_step(&cells[object], turn, 0, &told) == MC2_CELL_DONE; turn++)
+        wrong += !is_noted(object, turn, &told, places);
+    wrong += turn != turns[object].next;
+}
+
 static void end_cell(uint32_t object) {
     for (uint32_t number = 0; number < NUMBERS; number++) {
         uint32_t told = mc2_cell_take_back(&cells[object], &callers[object][number]);
@@ -141,16 +193,21 @@ static void end_cell(uint32_t object) {
     }
     uint32_t closed = mc2_cell_close(&cells[object]);
     must(closed == MC2_CELL_DONE, "closing a cell", closed);
-    struct mc2_logged_step told;
-    size_t event = 0;
-    for (; mc2_cell_step(&cells[object], event, 0, &told) == MC2_CELL_DONE; event++) {
-        const struct mc2_event_line *noted = &recorder.logs[object].events[event];
-        wrong += event >= recorder.logs[object].count || noted->cpu != told.cpu || noted->count != 1 ||
-                 noted->steps[0].call.word != told.step.call.word || noted->steps[0].reply != told.step.reply ||
-                 noted->steps[0].number != told.step.number;
-    }
-    wrong += event != recorder.logs[object].count;
+    compare_log(object);
     must(mc2_cell_free(&cells[object]) == MC2_CELL_DONE, "freeing a cell", object);
+}
+
+// Says how much was noted, and forgets it.
+static void end_notes(void) {
+    uint64_t calls = 0, pieces = 0, not_noted = 0;
+    for (uint32_t number = 0; number < NUMBERS; number++) {
+        calls += notes[number].count;
+        pieces += notes[number].used;
+        not_noted += without_turn[number];
+        rattle_dealloc(notes[number].memory);
+    }
+    say_both("# calls noted in # bytes, ", calls, pieces * sizeof(union mc2_note_piece));
+    say("# without a turn\n", not_noted);
 }
 
 #ifdef JUDGE
@@ -169,18 +226,18 @@ static bool text_take(void *to, const char *piece, size_t length) {
 
 // Has the library of crates/judge judge the record here.
 static void judge(void) {
-    enum { TURNS = NUMBERS * ENTRIES, ROOM = 128 * TURNS };
+    enum { MOST = NUMBERS * ENTRIES, ROOM = 128 * MOST };
     struct text text = {take(ROOM), 0, ROOM};
-    must(mc2_write_to(&recorder, text_take, &text) == MC2_DONE, "the record as a text", text.length);
-    struct mc2_turn *turns = take(TURNS * sizeof *turns);
+    must(mc2_write_notes(&noted, text_take, &text) == MC2_DONE, "the record as a text", text.length);
+    struct mc2_turn *order = take(MOST * sizeof *order);
     struct mc2_told audited, merged;
     stack_forget(0);
     mc2_audit((const uint8_t *)text.at, text.length, &audited);
-    mc2_merge((const uint8_t *)text.at, text.length, turns, TURNS, &merged);
+    mc2_merge((const uint8_t *)text.at, text.length, order, MOST, &merged);
     say("judged here: kind #, ", audited.kind);
     say_both("merged: kind #, # entries\n", merged.kind, merged.first);
     say("stack of the judge: #\n", stack_used(0));
-    rattle_dealloc(turns);
+    rattle_dealloc(order);
     rattle_dealloc(text.at);
 }
 #else
@@ -191,9 +248,9 @@ static void end_all(size_t free_before) {
     for (uint32_t object = 0; object < OBJECTS; object++)
         end_cell(object);
     judge();
-    int written = mc2_write_to(&recorder, serial_take, NULL);
+    int written = mc2_write_notes(&noted, serial_take, NULL);
     must(written == MC2_DONE, "the record", (uint64_t)written);
-    rattle_dealloc(recorder.memory);
+    end_notes();
     size_t blocks, left = mc2_heap_free(&blocks);
     for (uint32_t cpu = 0; cpu < CPUS; cpu++)
         say_both("cpu #: # interrupts\n", cpu, interrupts[cpu]);
@@ -246,14 +303,14 @@ static void say_whole_calls(void) {
 }
 #endif
 
-// What CPU 0 does before all others: the heap, the recorder, the cells.
+// What CPU 0 does before all others: the heap, the notes, the cells.
 static size_t begin(void) {
-    size_t blocks, size = mc2_memory_of(objects, OBJECTS, NUMBERS, ENTRIES);
+    size_t blocks;
     serial_open();
     mc2_heap_add(kernel_end, (size_t)(memory_end - kernel_end));
     size_t free_before = mc2_heap_free(&blocks);
-    int opened = mc2_open_in(&recorder, objects, OBJECTS, NUMBERS, ENTRIES, take(size), size);
-    must(opened == MC2_DONE, "the recorder", (uint64_t)opened);
+    open_notes();
+    open_turns();
     stack_forget(0);
     open_all();
     say("stack of an opening: #\n", stack_used(0));

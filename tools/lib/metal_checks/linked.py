@@ -28,6 +28,10 @@ CPU_BYTES = {"ticket": 0, "mcs": 16}
 OBJECT_BYTES = {"queue": 9 * 1024, "pool": 8 * 4096 + 4096 // 8, "console": 4096, "sched": 9 * 1024 + 12 * 64}
 EXAMPLES = {"queue": 9952, "pool": 33968, "console": 4768}
 HARDLY = 32
+# The same of notes by mc2_note.h: of one call, of a CPU beside its notes and with the 16 of the heap, and of an object.
+NOTE_BYTES, NOTING_CPU_BYTES, TURNS_BYTES = 32, 304, 12
+# How examples/metal compiles its files, beside what each freestanding file is compiled by here.
+AS_A_KERNEL = ["-fno-pie", "-fno-stack-protector", "-mcmodel=kernel", "-mno-red-zone", "-mgeneral-regs-only"]
 
 
 def compiler_headers():
@@ -57,7 +61,7 @@ def asks(path, allowed):
     asked = symbols("--undefined-only", path) - symbols("--defined-only", path)
     if not asked <= allowed:
         raise Stop(f"it asks for {', '.join(sorted(asked - allowed))}")
-    return f"asks for {', '.join(sorted(asked))}"
+    return f"asks for {', '.join(sorted(asked)) or 'nothing'}"
 
 
 def sections(path):
@@ -73,8 +77,23 @@ def sections(path):
 
 
 def header_asks(source, folder, freestanding):
-    run([*freestanding, *STRICT, "-O2", "-c", "-o", folder / "header.o", source])
-    return asks(folder / "header.o", {"memcpy", "memset"})
+    """What it asks for, compiled freestanding, and then as examples/metal compiles its files."""
+    for words in ([], AS_A_KERNEL):
+        run([*freestanding, *words, *STRICT, "-O2", "-c", "-o", folder / "header.o", source])
+        told = asks(folder / "header.o", {"memcpy", "memset"})
+    return told
+
+
+def note_memory(freestanding):
+    """The sizes of what mc2_note.h keeps are those of the page."""
+    held = {
+        "2 * sizeof(union mc2_note_piece)": NOTE_BYTES,
+        "sizeof(struct mc2_notes) + (MC2_NOTE_PIECES - 1) * sizeof(union mc2_note_piece) + 16": NOTING_CPU_BYTES,
+        "sizeof(struct mc2_turns)": TURNS_BYTES,
+    }
+    lines = ['#include "mc2_note.h"', *(f'_Static_assert({what} == {it}, "");' for what, it in held.items())]
+    run([*freestanding, *STRICT, "-fsyntax-only", "-x", "c", "-"], input="\n".join(lines).encode() + b"\n")
+    return f"{NOTE_BYTES} bytes for each call, {NOTING_CPU_BYTES} for each CPU, {TURNS_BYTES} for each object"
 
 
 def steps(folder):
@@ -131,6 +150,7 @@ def heap(folder, cells):
 def page(stacks):
     """The page has the figures to which the libraries are held, and those of the stacks."""
     figures = [CELL_BYTES, EVENT_BYTES, CALLER_BYTES, *EXAMPLES.values(), MOST_CELLS_BYTES, *stacks]
+    figures += [NOTE_BYTES, NOTING_CPU_BYTES, TURNS_BYTES]
     missing = [f"{it:,}" for it in figures if not re.search(rf"(?<![\d,]){it:,}(?!,?\d)", PAGE.read_text())]
     if missing:
         raise Stop(f"it doesn't have {', '.join(missing)}")
@@ -158,6 +178,7 @@ def check_headers(counts, folder):
     counts.check("headers freestanding", compile_headers, [*freestanding, "-x", "c"])
     counts.check("mc2_record.h freestanding", header_asks, CHECKS / "record.c", folder, freestanding)
     counts.check("mc2_note.h freestanding", header_asks, NOTE_CALLS, folder, freestanding)
+    counts.check("memory of mc2_note.h", note_memory, freestanding)
     counts.check("MC2_STEP of mc2_cells.h", steps, folder)
 
 
