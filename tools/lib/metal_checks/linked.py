@@ -113,9 +113,10 @@ def size(path):
 
 
 def is_for_a_kernel(path):
-    """No instruction names a register of SSE, or memory below the stack's pointer."""
+    """No instruction names a register of SSE, or a fixed place below the stack's pointer. With an index register such a place may
+    lie above it, as where the end of an array on the stack is compared, and the compiler was told of no red zone."""
     code = run(["objdump", "-d", "--no-show-raw-insn", path], text=True).stdout
-    wrong = re.search(r".*(?:%[xyz]mm|-0x[0-9a-f]+\(%rsp).*", code)
+    wrong = re.search(r".*(?:%[xyz]mm|-0x[0-9a-f]+\(%rsp\)).*", code)
     if wrong:
         raise Stop(f"{wrong[0].strip()}")
     return f"{code.count(chr(10)):,} lines of code, without SSE and red zone"
