@@ -1,0 +1,4 @@
+pub mod BoxProofs
+pub mod EitherLaws
+pub mod NumberLaws
+pub mod ReplayedProofs
