@@ -167,6 +167,16 @@ impl Shown<'_> {
         }
     }
 
+    /// Whether the number of each entry that isn't judged is known to be that of its looks.
+    pub fn has_looks(&self) -> bool {
+        matches!(self, Shown::Kernel(_))
+    }
+
+    /// The word for that number.
+    pub fn note_word(&self) -> &'static str {
+        if self.has_looks() { "looks" } else { "note" }
+    }
+
     /// What became of the entry at a place.
     pub fn done_words(&self, alloc: Global, place: Place) -> Result<String, AllocError> {
         match self {

@@ -53,6 +53,16 @@ fn thread_name(alloc: Global, tid: u64, object: usize, cpu: usize) -> Result<Val
     json!(in alloc; {"name": "thread_name", "ph": "M", "pid": pid, "tid": tid, "args": {"name": name}})
 }
 
+/// The word for the number of an entry that isn't judged, and the entry's number from 1 before it.
+fn notes(alloc: Global, record: &Shown<'_>, place: Place, looks: u64) -> Result<Value, AllocError> {
+    let own = (place.entry as u64).saturating_add(1);
+    if record.has_looks() {
+        json!(in alloc; {"entry": own, "looks": looks})
+    } else {
+        json!(in alloc; {"entry": own, "note": looks})
+    }
+}
+
 /// The event of an entry, at its place in the order.
 fn entry_event(
     alloc: Global,
@@ -67,15 +77,11 @@ fn entry_event(
         process_of(entry.object),
         thread_of(record, entry.object, place.cpu),
     );
-    let (at, own, looks) = (
-        number as u64,
-        (place.entry as u64).saturating_add(1),
-        entry.looks,
-    );
     let done = record.done_words(alloc, place)?;
-    let name = done.as_str();
+    let (at, name) = (number as u64, done.as_str());
+    let notes = notes(alloc, record, place, entry.looks)?;
     let event =
-        json!(in alloc; {"name": name, "ph": "X", "ts": at, "dur": 1u64, "pid": pid, "tid": tid, "args": {"entry": own, "looks": looks}})?;
+        json!(in alloc; {"name": name, "ph": "X", "ts": at, "dur": 1u64, "pid": pid, "tid": tid, "args": notes})?;
     Ok(Some(event))
 }
 

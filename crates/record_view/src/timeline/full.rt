@@ -33,9 +33,24 @@ const SIGNS: [&str; 4] = [
     TO_READ_ONE,
 ];
 
+/// The same where it isn't known that notes of entries are looks.
+const SIGNS_WITHOUT_LOOKS: [&str; 3] = [
+    "A box is an entry that was done; from left to right they are in the one order of all.",
+    "Hatched: the log had no room, and nothing was done.",
+    TO_READ_ONE,
+];
+
 /// What is said of the boxes; without any there is none to read.
-fn signs_of(entries: usize) -> &'static [&'static str] {
-    if entries == 0 { &SIGNS[..3] } else { &SIGNS }
+fn signs_of(entries: usize, has_looks: bool) -> &'static [&'static str] {
+    let signs: &[&str] = if has_looks {
+        &SIGNS
+    } else {
+        &SIGNS_WITHOUT_LOOKS
+    };
+    match signs.split_last() {
+        Some((_, rest)) if entries == 0 => rest,
+        _ => signs,
+    }
 }
 
 /// How wide a place in the order is, and the box in it; whether words stand in the box; and how often the places are counted.
@@ -160,7 +175,41 @@ fn put_label(
     )
 }
 
-/// Puts the box of an entry, and its tail, which may begin where the box before it ended.
+/// Puts the tail of the box of an entry there, which may begin where the box before it ended.
+fn put_tail(
+    picture: &mut Picture,
+    entry: EntrySeen,
+    start: (usize, usize),
+    free_from: usize,
+) -> Result<(), AllocError> {
+    let (x, y) = start;
+    let (colour, _ink) = colours_of(entry.object);
+    let tail = tail_length(entry.looks, x.saturating_sub(free_from));
+    let area = Area {
+        x: x.saturating_sub(tail),
+        y: y.saturating_add(BOX / 4),
+        width: tail,
+        height: BOX / 2,
+    };
+    picture.tail(area, colour)
+}
+
+/// What is shown where one points at the box of an entry.
+fn told_of(
+    alloc: Global,
+    record: &Shown<'_>,
+    number: usize,
+    place: Place,
+    entry: EntrySeen,
+    done: &str,
+) -> Result<String, AllocError> {
+    let (order, own) = (number.saturating_add(1), place.entry.saturating_add(1));
+    let (cpu, name) = (place.cpu, record.name(entry.object));
+    let (note, looks) = (record.note_word(), entry.looks);
+    format!(in alloc; "{order}: CPU {cpu}, entry {own}, on {name}, {note} {looks}: {done}")
+}
+
+/// Puts the box of an entry, and its tail if notes are looks.
 fn put_entry(
     alloc: Global,
     picture: &mut Picture,
@@ -177,33 +226,18 @@ fn put_entry(
         scale.start(number),
         row_top(place.cpu).saturating_add((ROW - BOX) / 2),
     );
-    let object = entry.object;
-    let (colour, _ink) = colours_of(object);
-    let tail = tail_length(entry.looks, x.saturating_sub(free_from));
-    let tail_area = Area {
-        x: x.saturating_sub(tail),
-        y: y.saturating_add(BOX / 4),
-        width: tail,
-        height: BOX / 2,
-    };
-    picture.tail(tail_area, colour)?;
+    if record.has_looks() {
+        put_tail(picture, entry, (x, y), free_from)?;
+    }
     let area = Area {
         x,
         y,
         width: scale.width,
         height: BOX,
     };
-    let fill = fill_of(alloc, object, entry.had_room)?;
-    let (name, done) = (record.name(object), record.done_words(alloc, place)?);
-    let (order, own, cpu, looks) = (
-        number.saturating_add(1),
-        place.entry.saturating_add(1),
-        place.cpu,
-        entry.looks,
-    );
-    let told = format!(in alloc;
-        "{order}: CPU {cpu}, entry {own}, on {name}, looks {looks}: {done}"
-    )?;
+    let fill = fill_of(alloc, entry.object, entry.had_room)?;
+    let done = record.done_words(alloc, place)?;
+    let told = told_of(alloc, record, number, place, entry, done.as_str())?;
     picture.told_area(area, fill.as_str(), told.as_str())?;
     if scale.labelled {
         put_label(alloc, picture, scale, (x, y), entry, done.as_str())?;
@@ -242,7 +276,7 @@ pub fn draw_full(
     let (cpus, objects) = (record.cpus(), record.objects());
     let scale = Scale::of(boxes.len());
     let width = scale.start(boxes.len()).saturating_add(24).max(LEAST_WIDTH);
-    let signs = signs_of(boxes.len());
+    let signs = signs_of(boxes.len(), record.has_looks());
     let legend_top = row_top(cpus).saturating_add(20);
     let height = legend_top.saturating_add(legend_height(width, objects, signs.len()));
     let (entries, end) = (boxes.len(), record.heading_end());
