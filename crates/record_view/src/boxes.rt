@@ -5,7 +5,7 @@ ghost use Rattle.record_view.specs.Boxes.{AreBoxesOf, boxes_from};
 
 use crate::sight::Sight;
 use event_log::{OutOfMemory, Series};
-use log_merge::Place;
+use sound_run::Place;
 use std::alloc::Global;
 
 /// The box of an entry, and the column that it is in.

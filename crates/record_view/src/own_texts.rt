@@ -7,8 +7,8 @@ ghost use Rattle.record_view.specs.OwnTexts.{own_cycle_text, own_fault_text, own
 
 use auditor::Fault;
 use event_log::OutOfMemory;
-use log_merge::Place;
 use own_object::OwnHead;
+use sound_run::Place;
 use std::alloc::{AllocError, Global};
 
 /// The name of the object of that number, or none.

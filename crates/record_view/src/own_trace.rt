@@ -8,8 +8,8 @@ use crate::shown::{OwnShown, Shown};
 use crate::sight::Sight;
 use crate::trace::{NoTrace, trace};
 use auditor::Fault;
-use log_merge::Place;
 use own_records::OwnRecord;
+use sound_run::Place;
 use std::alloc::Global;
 
 /// The refusal of a record with that first fault.

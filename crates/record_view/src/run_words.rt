@@ -2,8 +2,8 @@
 
 use crate::worded::Worded;
 use event_log::{Done, Entry, Event, Plain, Run, SeqObject, Sink, Step};
-use log_merge::Place;
 use scripts::{Buffered, put_word};
+use sound_run::Place;
 use std::alloc::{AllocError, Global};
 
 /// What is seen of an entry beside its words: its object's number, its looks, and whether the log had room.

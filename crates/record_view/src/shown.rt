@@ -6,11 +6,10 @@ use crate::run_words::{
 };
 use crate::timeline::held::{held_before, right_step};
 use crate::timeline::short::shortened;
-use log_merge::Place;
 use own_object::OwnSettings;
 use own_records::OwnRecord;
 use scripts::{KParams, ObjectSettings, Record};
-use sound_run::LockKind;
+use sound_run::{LockKind, Place};
 use std::alloc::{AllocError, Global};
 
 /// A record of objects of its writer's: whether its replies were judged, and the numbers of the events that a witness kept.

@@ -10,9 +10,10 @@ ghost use Rattle.record_view.specs.Sights.{EndsIn, HasFault, IsCycleOf, IsTraceO
 use crate::shown::Shown;
 use crate::sight::{Sight, sight_of};
 use auditor::{Fault, fault_text};
-use log_merge::{Place, cycle_text};
+use log_merge::cycle_text;
 use scripts::Record;
 use serde_json::{Value, json};
+use sound_run::Place;
 use std::alloc::{AllocError, Global};
 
 /// Why a record has no trace: it isn't sound, or has no order.

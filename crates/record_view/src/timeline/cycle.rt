@@ -9,7 +9,7 @@ use crate::shown::Shown;
 use crate::timeline::colours::{colours_of, fill_of, put_hatchings};
 use crate::timeline::legend::{legend_height, put_legend};
 use crate::timeline::short::shortened;
-use log_merge::Place;
+use sound_run::Place;
 use std::alloc::{AllocError, Global};
 
 /// Where the boxes begin, how large they are, and how far apart.

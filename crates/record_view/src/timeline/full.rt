@@ -10,7 +10,7 @@ use crate::shown::Shown;
 use crate::timeline::colours::{colours_of, fill_of, put_hatchings};
 use crate::timeline::legend::{TO_READ_ONE, legend_height, put_legend};
 use crate::timeline::short::label_of;
-use log_merge::Place;
+use sound_run::Place;
 use std::alloc::{AllocError, Global};
 
 /// Where the boxes begin.

@@ -3,7 +3,7 @@
 use crate::shown::Shown;
 use crate::timeline::short::shortened;
 use auditor::Fault;
-use log_merge::Place;
+use sound_run::Place;
 use std::alloc::{AllocError, Global};
 
 /// The most letters of a line.

@@ -10,7 +10,7 @@ use crate::timeline::legend::{TO_READ_ONE, legend_height, put_legend};
 use crate::timeline::reason::{Reason, reason_of};
 use crate::timeline::short::label_of;
 use auditor::Fault;
-use log_merge::Place;
+use sound_run::Place;
 use std::alloc::{AllocError, Global};
 
 /// Where the boxes begin, how large they are, and how far apart.
