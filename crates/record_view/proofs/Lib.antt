@@ -1,4 +1,5 @@
 pub mod BoxProofs
 pub mod EitherLaws
 pub mod NumberLaws
+pub mod OwnAnswers
 pub mod ReplayedProofs
