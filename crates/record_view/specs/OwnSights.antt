@@ -11,8 +11,8 @@ use Rattle.own_records.specs.RecordFaults.{IsBadOwnLine, IsOwnText}
 use Rattle.sound_run.specs.declared.place.Place.{Place}
 use Rattle.record_view.specs.OwnTexts.{own_cycle_text, own_fault_text}
 use Rattle.record_view.specs.Sights.{EndsIn}
-use Rattle.record_view.specs.declared.own_sight.OwnUnseen.{OwnUnseen}
-use Rattle.record_view.specs.declared.own_sight.OwnUnseen.TheVariants as unseen
+use Rattle.record_view.specs.declared.by_counts.OwnUnseen.{OwnUnseen}
+use Rattle.record_view.specs.declared.by_counts.OwnUnseen.TheVariants as unseen
 use Rattle.record_view.specs.declared.sight.Sight.{Sight}
 use Rattle.record_view.specs.declared.sight.Sight.TheVariants as sights
 use Rattle.record_view.specs.declared.trace.NoTrace.{NoTrace}

@@ -2,13 +2,13 @@
 #![tactic(auto)]
 
 mod boxes;
+mod by_counts;
+mod drawn;
 mod either;
 mod numbers;
-mod own_sight;
 mod own_texts;
 mod own_trace;
 mod picture;
-mod pictured;
 mod replayed;
 mod run_words;
 mod shown;
@@ -18,10 +18,10 @@ mod trace;
 mod worded;
 
 pub use boxes::EntryBox;
+pub use by_counts::{OwnUnseen, own_sight};
+pub use drawn::{own_pictured, pictured};
 pub use either::{Either, read_either};
 pub use numbers::numbers_in;
-pub use own_sight::{OwnUnseen, own_sight};
 pub use own_trace::own_traced;
-pub use pictured::{own_pictured, pictured};
 pub use sight::{Sight, sight_of};
 pub use trace::{NoTrace, traced};

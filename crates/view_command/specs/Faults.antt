@@ -5,8 +5,8 @@ use Rattle.program.specs.declared.refusal.Refusal.{Refusal}
 use Rattle.program.specs.declared.refusal.Refusal.TheVariants as refusal
 use Rattle.program.specs.declared.words.WordsFault.{WordsFault}
 use Rattle.program.specs.Refusals as common
-use Rattle.record_view.specs.declared.own_sight.OwnUnseen.{OwnUnseen}
-use Rattle.record_view.specs.declared.own_sight.OwnUnseen.TheVariants as unseen
+use Rattle.record_view.specs.declared.by_counts.OwnUnseen.{OwnUnseen}
+use Rattle.record_view.specs.declared.by_counts.OwnUnseen.TheVariants as unseen
 use Rattle.record_view.specs.declared.trace.NoTrace.{NoTrace}
 use Rattle.record_view.specs.declared.trace.NoTrace.TheVariants as none
 use Rattle.view_command.specs.declared.draft.DraftFault.{DraftFault}

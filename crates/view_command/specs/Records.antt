@@ -14,7 +14,7 @@ use Rattle.record_view.specs.Sights.{EndsIn}
 use Rattle.record_view.specs.declared.boxes.EntryBox.{EntryBox}
 use Rattle.record_view.specs.declared.either.Either.{Either}
 use Rattle.record_view.specs.declared.either.Either.TheVariants as either
-use Rattle.record_view.specs.declared.own_sight.OwnUnseen.{OwnUnseen}
+use Rattle.record_view.specs.declared.by_counts.OwnUnseen.{OwnUnseen}
 use Rattle.record_view.specs.declared.sight.Sight.{Sight}
 use Rattle.record_view.specs.declared.trace.NoTrace.{NoTrace}
 use Rattle.scripts.specs.RecordFaults.{IsBadLine}
