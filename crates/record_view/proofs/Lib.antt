@@ -3,3 +3,4 @@ pub mod EitherLaws
 pub mod NumberLaws
 pub mod OwnAnswers
 pub mod ReplayedProofs
+pub mod StepCounts

@@ -42,14 +42,12 @@ const SIGNS_WITHOUT_LOOKS: [&str; 3] = [
 
 /// What is said of the boxes; without any there is none to read.
 fn signs_of(entries: usize, has_looks: bool) -> &'static [&'static str] {
-    let signs: &[&str] = if has_looks {
-        &SIGNS
+    if has_looks {
+        if entries == 0 { &SIGNS[..3] } else { &SIGNS }
+    } else if entries == 0 {
+        &SIGNS_WITHOUT_LOOKS[..2]
     } else {
         &SIGNS_WITHOUT_LOOKS
-    };
-    match signs.split_last() {
-        Some((_, rest)) if entries == 0 => rest,
-        _ => signs,
     }
 }
 
