@@ -139,18 +139,6 @@ pub not_made : (held : Option (List ℕ) → Option (List ℕ)) (settings script
 not_made held settings scripts draft.OutOfMemory long = inr (inr refl)
 not_made held settings scripts draft.TooLong long = inr (inl (refl, long refl))
 
--- why a record has no trace is no failed read
-pub no_read : {X : Type 0} (cause : NoTrace) → tells_read_failed {X = X} (Err (of_no_trace cause)) ≡ false
-no_read none.OutOfMemory = refl
-no_read (none.Unsound text) = refl
-no_read (none.Cycle text) = refl
-
--- nor is why nothing is told of one
-pub no_read_unseen : {X : Type 0} (cause : OwnUnseen) → tells_read_failed {X = X} (Err (of_unseen cause)) ≡ false
-no_read_unseen unseen.OutOfMemory = refl
-no_read_unseen (unseen.Line n) = refl
-no_read_unseen (unseen.Mistold x) = refl
-
 -- a status below 3 says that no read failed
 pub none_failed : (f : Fault) (status old new : ℕ) → status ≡ status_of f → new ≡ counted (tells_read_failed {X = ℕ} (Err f)) old → status ≤ 2 → new ≡ old
 none_failed (fault.Common cause) status old new is count few = causes.none_failed cause status old new is count few
