@@ -1,16 +1,14 @@
 -- What is left of a source, behind what was read of it.
-use Rattle.std.proofs.Common.{◌≡◌, ℕ, ◌<◌, ◌≤◌, ◌⊎◌, inl, inr, Bool, true, false, List, ◌++◌, length, length-append, take, unwrap_or, Option, Some, None, refl, sym, ◌∙◌, ap, subst, arith, codes, bytes_eq}
+use Rattle.std.proofs.Common.{◌≡◌, ℕ, ◌<◌, ◌≤◌, List, ◌++◌, length, length-append, take, unwrap_or, Option, Some, None, refl, sym, ◌∙◌, ap, arith, codes}
 use Rattle.std.proofs.lemmas.Option.{none-some}
-use Rattle.std.proofs.lemmas.Slice.Eq.{bytes_eq-Decides}
 use Rattle.std.proofs.Math.Seq.{take-append_seam}
 use Rattle.std.specs.Io.KnownBytes.{Consumes}
-use Rattle.scripts.specs.RecordFaults.{IsBadLine}
 use Rattle.scripts.specs.RecordSources.{SpellsRecord, NamesBadLineOfRest}
 use Rattle.scripts.specs.ScriptFaults.{IsRest}
 use Rattle.scripts.specs.declared.record.source.RecordReadFault.{RecordReadFault}
 use Rattle.scripts.specs.declared.record.source.RecordReadFault.TheVariants.{OutOfMemory, ReadFailed, Line}
 use Rattle.scripts.specs.RecordRanges.{Record}
-use Rattle.record_view.specs.Either.{behind, BeginsOwn, IsOwnForm, IsKernelForm, IsNoLine, RefusesEither}
+use Rattle.record_view.specs.Either.{behind, IsOwnForm, IsKernelForm, IsNoLine, RefusesEither}
 
 abbrev own_line : List ℕ
 own_line = codes "record 3\n"

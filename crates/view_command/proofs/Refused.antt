@@ -1,5 +1,5 @@
 -- Why words are refused, by their causes.
-use Rattle.std.proofs.Common.{◌≡◌, ◌⊎◌, ◌≤◌, inl, inr, ℕ, false, List, Option, String, Global, Result, Ok, Err, IfErr, refl, sym, ◌∙◌, ap, subst, arith}
+use Rattle.std.proofs.Common.{◌≡◌, ◌⊎◌, ◌≤◌, inl, inr, ℕ, List, Option, String, Global, Err, refl, sym, ◌∙◌, ap, subst, arith}
 use Rattle.std.specs.Borrow.{Bor}
 use Rattle.auditor.specs.declared.fault.Fault.{Fault as RecordFault}
 use Rattle.event_log.specs.Stream.{counted}
@@ -25,7 +25,7 @@ use Rattle.view_command.specs.declared.fault.Fault.TheVariants as fault
 use Rattle.view_command.specs.Answers.{FindsNoOrder, IsCommon, IsMemory, IsOwnWithoutOrder, IsWithoutOrder, Refuses, RefusesBoth, RefusesLong, RefusesMade, RefusesSteps, RefusesTimeline, RefusesTo, RefusesTrace}
 use Rattle.view_command.specs.Asked.{AskedBy}
 use Rattle.view_command.specs.Faults.{of_draft, of_no_trace, of_unseen, status_of, tells_read_failed}
-use Rattle.view_command.specs.Records.{ReadsOwnText, RefusesOwnText, RefusesOwnTrace}
+use Rattle.view_command.specs.Records.{ReadsOwnText, RefusesOwnTrace}
 
 -- something was found of a record
 abbrev IsFound : Fault → Type 0

@@ -1,4 +1,4 @@
-use Rattle.std.proofs.Common.{◌≡◌, ◌∙◌, sym, ap, map, ◌-◌, ◌^◌, refl, arith}
+use Rattle.std.proofs.Common.{◌∙◌, sym, ap, map, ◌-◌, ◌^◌, arith}
 use Rattle.std.proofs.lemmas.Iterator.Consumers.{YieldsList-turn, YieldsList-end}
 use Rattle.std.proofs.lemmas.Iterator.Splits.{YieldsList-from_str_split}
 use Rattle.scripts.specs.Reading.{number_in}
