@@ -32,10 +32,12 @@ ONE_RECORD = Form(0, 1)
 FORMS = {
     "mc2": {"run": Form(0, 1, ("--settings",)), "sim": Form(2, 2, ("--settings",)),
             **dict.fromkeys(("report", "audit", "merge", "upgrade"), ONE_RECORD)},
-    "view": {"steps": Form(2, 2, ("--settings",), ("--json",)), "timeline": ONE_RECORD, "trace": ONE_RECORD,
+    "view": {"steps": Form(2, 2, ("--settings",), ("--json",)), "timeline": Form(0, 1, ("--right", "--kept")),
+             "trace": ONE_RECORD,
              "schedule": Form(1, 1, ("--settings", "--seed"), ("--rounds",))},
 }
 NEEDS_SETTINGS = "sim", "steps", "schedule"
+OPTIONS = "--settings", "--seed", "--json", "--rounds", "--right", "--kept"
 
 
 class BadWords(Exception):
@@ -50,6 +52,10 @@ def is_seed(word):
     return word.isascii() and word.isdecimal() and (word == "0" or word[0] != "0") and int(word) < 2**64
 
 
+def is_list(word):
+    return all(is_seed(it) for it in word.split(","))
+
+
 def read_words(program, words):
     """The files and the values of options. Words of which only the program is to judge end with NotSure."""
     for word in words:
@@ -57,9 +63,9 @@ def read_words(program, words):
             os.fsencode(word).decode()
         except UnicodeDecodeError:
             raise BadWords from None
-    if any(it == "--" or it.startswith(("--settings=", "--seed=")) for it in words):
+    if any(it == "--" or it.startswith(("--settings=", "--seed=", "--right=", "--kept=")) for it in words):
         raise BadWords
-    if program == "view" and any(it.startswith("-") and it not in ("--settings", "--seed", "--json", "--rounds") for it in words):
+    if program == "view" and any(it.startswith("-") and it not in OPTIONS for it in words):
         # (help and the version, which may stand anywhere)
         raise NotSure
     if not words or words[0] not in FORMS[program]:
@@ -77,6 +83,9 @@ def read_words(program, words):
             files.append(word)
     is_wanted = words[0] in NEEDS_SETTINGS and "--settings" not in values
     has_turns = "--seed" in values and ("--rounds" in values or not is_seed(values["--seed"]))
+    no_lists = not all(is_list(values[it]) for it in ("--right", "--kept") if it in values)
+    if no_lists or ("--kept" in values and "--right" not in values):
+        raise BadWords
     if is_wanted or has_turns or not form.least <= len(files) <= form.most:
         raise BadWords
     return files, values

@@ -3,9 +3,11 @@
 
 mod fault;
 mod heads;
+mod lists;
 mod place;
 mod reader;
 mod state;
 
 pub use fault::OwnFault;
+pub use lists::{OwnRecord, read_lists};
 pub use reader::read_own;

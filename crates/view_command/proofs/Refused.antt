@@ -1,5 +1,5 @@
 -- Why words are refused, by their causes.
-use Rattle.std.proofs.Common.{◌≡◌, ◌⊎◌, ◌≤◌, inl, inr, ℕ, false, List, Option, String, Global, Result, Ok, Err, IfErr, refl, sym, ◌∙◌, ap, subst, arith}
+use Rattle.std.proofs.Common.{◌≡◌, ◌⊎◌, ◌≤◌, inl, inr, ℕ, List, Option, String, Global, Err, refl, sym, ◌∙◌, ap, subst, arith}
 use Rattle.std.specs.Borrow.{Bor}
 use Rattle.auditor.specs.declared.fault.Fault.{Fault as RecordFault}
 use Rattle.event_log.specs.Stream.{counted}
@@ -7,6 +7,13 @@ use Rattle.program.proofs.Refused as causes
 use Rattle.program.specs.Inputs.{bytes_of}
 use Rattle.program.specs.declared.refusal.Refusal.{Refusal}
 use Rattle.program.specs.declared.refusal.Refusal.TheVariants as refusal
+use Rattle.own_object.specs.Ranges.{OwnRecord}
+use Rattle.record_view.specs.OwnSights.{HasOwnFault, IsOwnCycle, RefusesOwnOrder, all_steps}
+use Rattle.record_view.specs.Sights.{HasFault, IsCycleOf, RefusesOrder}
+use Rattle.record_view.specs.declared.by_counts.OwnUnseen.{OwnUnseen}
+use Rattle.record_view.specs.declared.by_counts.OwnUnseen.TheVariants as unseen
+use Rattle.record_view.specs.declared.trace.NoTrace.{NoTrace}
+use Rattle.record_view.specs.declared.trace.NoTrace.TheVariants as none
 use Rattle.scripts.specs.RecordRanges.{Record}
 use Rattle.sound_run.specs.declared.place.Place.{Place}
 use Rattle.view_command.specs.declared.arguments.Arguments.{Arguments}
@@ -15,10 +22,10 @@ use Rattle.view_command.specs.declared.draft.DraftFault.{DraftFault}
 use Rattle.view_command.specs.declared.draft.DraftFault.TheVariants as draft
 use Rattle.view_command.specs.declared.fault.Fault.{Fault}
 use Rattle.view_command.specs.declared.fault.Fault.TheVariants as fault
-use Rattle.view_command.specs.Answers.{FindsNoOrder, IsCommon, IsMemory, Refuses, RefusesBoth, RefusesLong, RefusesMade, RefusesSteps, RefusesTimeline, RefusesTo, RefusesTrace}
+use Rattle.view_command.specs.Answers.{FindsNoOrder, IsCommon, IsMemory, IsOwnWithoutOrder, IsWithoutOrder, Refuses, RefusesBoth, RefusesLong, RefusesMade, RefusesSteps, RefusesTimeline, RefusesTo, RefusesTrace}
 use Rattle.view_command.specs.Asked.{AskedBy}
-use Rattle.view_command.specs.Faults.{of_draft, status_of, tells_read_failed}
-use Rattle.view_command.specs.Sights.{HasFault, IsCycleOf, RefusesOrder}
+use Rattle.view_command.specs.Faults.{of_draft, of_no_trace, of_unseen, status_of, tells_read_failed}
+use Rattle.view_command.specs.Records.{ReadsOwnText, RefusesOwnTrace}
 
 -- something was found of a record
 abbrev IsFound : Fault → Type 0
@@ -26,6 +33,7 @@ IsFound (fault.Common cause) = ⊥
 IsFound (fault.Unsound text) = Unit {0}
 IsFound (fault.Cycle text) = Unit {0}
 IsFound fault.TooLong = ⊥
+IsFound (fault.Mistold object) = ⊥
 
 -- which status 1 says
 found_with : (f : Fault) → status_of f ≡ 1 → IsFound f
@@ -33,6 +41,13 @@ found_with (fault.Common cause) e = causes.not_one cause e
 found_with (fault.Unsound text) e = tt
 found_with (fault.Cycle text) e = tt
 found_with fault.TooLong e = absurd (omega arith)
+found_with (fault.Mistold object) e = absurd (omega arith)
+
+-- nothing was found where nothing is told of a record
+nothing_unseen : (cause : OwnUnseen) → IsFound (of_unseen cause) → ⊥
+nothing_unseen unseen.OutOfMemory h = h
+nothing_unseen (unseen.Line n) h = h
+nothing_unseen (unseen.Mistold x) h = h
 
 module _ (f : Fault) (found : IsFound f) where
   no_common : (P : Refusal → Type 0) → IsCommon P f → ⊥
@@ -47,11 +62,20 @@ module _ (f : Fault) (found : IsFound f) where
   no_long : f ≡ fault.TooLong → ⊥
   no_long e = subst IsFound e found
 
-found_of : (r : Record) (f : Fault) → IsFound f → RefusesOrder r f → ((cause : RecordFault) × HasFault r cause) ⊎ ((cycle : List Place) × IsCycleOf r cycle)
-found_of r (fault.Common cause) found h = absurd found
-found_of r (fault.Unsound text) found h = inl (h.0, h.1)
-found_of r (fault.Cycle text) found h = inr (h.0, h.1)
-found_of r fault.TooLong found h = absurd found
+  no_unseen : (cause : OwnUnseen) → f ≡ of_unseen cause → ⊥
+  no_unseen cause e = nothing_unseen cause (subst IsFound e found)
+
+-- what was found of a record without a trace
+found_of : (r : Record) (cause : NoTrace) → IsFound (of_no_trace cause) → RefusesOrder r cause → ((cause : RecordFault) × HasFault r cause) ⊎ ((cycle : List Place) × IsCycleOf r cycle)
+found_of r none.OutOfMemory found h = absurd found
+found_of r (none.Unsound text) found h = inl (h.0, h.1)
+found_of r (none.Cycle text) found h = inr (h.0, h.1)
+
+-- the same of one of its writer's objects
+found_of_own : (r : OwnRecord) (cause : NoTrace) → IsFound (of_no_trace cause) → RefusesOwnOrder r cause → ((cause : RecordFault) × HasOwnFault r (all_steps r) cause) ⊎ ((cycle : List Place) × IsOwnCycle r (all_steps r) cycle)
+found_of_own r none.OutOfMemory found h = absurd found
+found_of_own r (none.Unsound text) found h = inl (h.0, h.1)
+found_of_own r (none.Cycle text) found h = inr (h.0, h.1)
 
 module _ (held : Option (List ℕ) → Option (List ℕ)) (words : List (String Global)) (f : Fault) (found : IsFound f) where
   not_both : (settings scripts : List ℕ) → RefusesBoth held settings scripts f → ⊥
@@ -68,17 +92,28 @@ module _ (held : Option (List ℕ) → Option (List ℕ)) (words : List (String 
   in_made settings scripts (inr (inl h)) = no_long f found h.0
   in_made settings scripts (inr (inr h)) = no_memory f found h
 
-  not_timeline : (name : Option (List ℕ)) → RefusesTimeline held name f → ⊥
-  not_timeline name (inl h) = no_common f found _ h
-  not_timeline name (inr h) = no_memory f found h
+  not_timeline : (name right kept : Option (List ℕ)) → RefusesTimeline held name right kept f → ⊥
+  not_timeline name right kept (inl (inl h)) = no_common f found _ h
+  not_timeline name right kept (inl (inr h)) = no_memory f found h
+  not_timeline name right kept (inr (inl h)) = no_words f found h.0
+  not_timeline name right kept (inr (inr h)) = no_unseen f found h.4.0 h.4.1
+
+  -- of a record of its writer's objects
+  of_own : (name : Option (List ℕ)) (text : List ℕ) → ReadsOwnText held name text → RefusesOwnTrace text f → IsOwnWithoutOrder held name
+  of_own name text read h = (h.0, (text, read, h.1), found_of_own h.0 h.2 (subst IsFound h.3 found) h.4)
+
+  in_events : (name : Option (List ℕ)) → RefusesTrace held name f → IsWithoutOrder held name ⊎ IsOwnWithoutOrder held name
+  in_events name (inl h) = absurd (no_common f found _ h)
+  in_events name (inr (inl h)) = inl (h.0, h.1, found_of h.0 h.2 (subst IsFound h.3 found) h.4)
+  in_events name (inr (inr (text, read, inl h))) = absurd (no_unseen f found h.0 h.1)
+  in_events name (inr (inr (text, read, inr h))) = inr (of_own name text read h)
 
   in_trace : (name : Option (Bor (List ℕ))) → AskedBy words (forms.Trace name) → RefusesTrace held (bytes_of name) f → FindsNoOrder held words
-  in_trace name asked (inl h) = absurd (no_common f found _ h)
-  in_trace name asked (inr h) = (name, asked, h.0, h.1, found_of h.0 f found h.2)
+  in_trace name asked h = (name, asked, in_events (bytes_of name) h)
 
   by_command : (a : Arguments) → AskedBy words a → RefusesTo held a f → FindsNoOrder held words
   by_command (forms.Steps form settings scripts schedule) asked h = absurd (not_steps settings.now scripts.now schedule.now h)
-  by_command (forms.Timeline name) asked h = absurd (not_timeline (bytes_of name) h)
+  by_command (forms.Timeline name right kept) asked h = absurd (not_timeline (bytes_of name) (bytes_of right) (bytes_of kept) h)
   by_command (forms.Trace name) asked h = in_trace name asked h
   by_command (forms.Schedule settings scripts turns) asked h = absurd (in_made settings.now scripts.now h)
 
@@ -104,24 +139,10 @@ pub not_made : (held : Option (List ℕ) → Option (List ℕ)) (settings script
 not_made held settings scripts draft.OutOfMemory long = inr (inr refl)
 not_made held settings scripts draft.TooLong long = inr (inl (refl, long refl))
 
--- why a record has no trace is no failed read
-pub no_read : {X : Type 0} (r : Record) (answer : Result X Fault) → IfErr answer (RefusesOrder r) → tells_read_failed answer ≡ false
-no_read r (Ok x) h = refl
-no_read r (Err (fault.Common refusal.OutOfMemory)) h = refl
-no_read r (Err (fault.Common (refusal.BadSettings bad))) h = refl
-no_read r (Err (fault.Common (refusal.BadScripts n))) h = refl
-no_read r (Err (fault.Common (refusal.BadSchedule n))) h = refl
-no_read r (Err (fault.Common (refusal.BadRecord n))) h = refl
-no_read r (Err (fault.Common refusal.ReadFailed)) h = absurd h
-no_read r (Err (fault.Common refusal.WriteFailed)) h = refl
-no_read r (Err (fault.Common refusal.BadWords)) h = refl
-no_read r (Err (fault.Unsound text)) h = refl
-no_read r (Err (fault.Cycle text)) h = refl
-no_read r (Err fault.TooLong) h = refl
-
 -- a status below 3 says that no read failed
 pub none_failed : (f : Fault) (status old new : ℕ) → status ≡ status_of f → new ≡ counted (tells_read_failed {X = ℕ} (Err f)) old → status ≤ 2 → new ≡ old
 none_failed (fault.Common cause) status old new is count few = causes.none_failed cause status old new is count few
 none_failed (fault.Unsound text) status old new is count few = count
 none_failed (fault.Cycle text) status old new is count few = count
 none_failed fault.TooLong status old new is count few = count
+none_failed (fault.Mistold object) status old new is count few = count

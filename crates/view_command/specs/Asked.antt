@@ -12,7 +12,7 @@ use Rattle.view_command.specs.declared.arguments.Asked.TheVariants as asked
 -- the name of each command
 abbrev pub command_name : Arguments → List ℕ
 command_name (forms.Steps form settings scripts schedule) = codes "steps"
-command_name (forms.Timeline name) = codes "timeline"
+command_name (forms.Timeline name right kept) = codes "timeline"
 command_name (forms.Trace name) = codes "trace"
 command_name (forms.Schedule settings scripts turns) = codes "schedule"
 

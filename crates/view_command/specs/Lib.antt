@@ -1,10 +1,8 @@
 pub mod Answers
 pub mod Asked
-pub mod Boxes
 pub mod Drafts
 pub mod Faults
-pub mod Replayed
-pub mod Sights
+pub mod Records
 pub mod StepLines
 pub mod StepNames
 pub mod Stepping

@@ -1,6 +1,6 @@
 //! The program's words.
 
-ghost use Rattle.std.specs.Prelude.{◌≡◌, ◌⊎◌, string_bytes, IfOk, IfErr};
+ghost use Rattle.std.specs.Prelude.{◌≡◌, ◌⊎◌, codes, string_bytes, IfOk, IfErr};
 ghost use Rattle.std.specs.List.{list_any};
 ghost use Rattle.view_command.specs.Asked.{IsAskedBy, AsksHelp, command_name, is_help};
 
@@ -22,8 +22,11 @@ pub enum Arguments<'a> {
         scripts: &'a str,
         schedule: &'a str,
     },
+    /// With how many steps of each log are right, and the events that a witness kept, if the words say so.
     Timeline {
         record: Option<&'a str>,
+        right: Option<&'a str>,
+        kept: Option<&'a str>,
     },
     Trace {
         record: Option<&'a str>,
@@ -109,9 +112,25 @@ fn schedule_form<'a>(alloc: Global) -> Result<Command<'a>, AllocError> {
         .arg(scripts_file(alloc))
 }
 
+/// The command `timeline`.
+fn timeline_form<'a>(alloc: Global) -> Result<Command<'a>, AllocError> {
+    let right = Arg::new(alloc, "right")
+        .long("right")
+        .value_name("N,N,..")
+        .action(ArgAction::Set)
+        .help("Of a record 3: how many steps of each log are right");
+    let kept = Arg::new(alloc, "kept")
+        .long("kept")
+        .value_name("E,E,..")
+        .action(ArgAction::Set)
+        .help("With --right: the events of a witness, which are framed");
+    on_record(alloc, "timeline", "Draw a record as an SVG picture")?
+        .arg(right)?
+        .arg(kept)
+}
+
 /// All forms of words that there are.
 fn forms<'a>(alloc: Global) -> Result<Command<'a>, AllocError> {
-    let timeline = on_record(alloc, "timeline", "Draw a record as an SVG picture")?;
     let trace = on_record(
         alloc,
         "trace",
@@ -125,7 +144,7 @@ fn forms<'a>(alloc: Global) -> Result<Command<'a>, AllocError> {
         .no_binary_name(true)
         .subcommand_required(true)
         .subcommand(steps_form(alloc)?)?
-        .subcommand(timeline)?
+        .subcommand(timeline_form(alloc)?)?
         .subcommand(trace)?
         .subcommand(schedule_form(alloc)?)
 }
@@ -176,6 +195,21 @@ fn turns(found: &ArgMatches<'_>) -> Result<Turns, BadName> {
     }
 }
 
+/// What the words of `timeline` ask for. Kept events are those of a fault by counts.
+fn timeline<'a>(found: &ArgMatches<'a>) -> Result<Arguments<'a>, BadName>
+    ensures { IfOk result (λ a. codes "timeline" ≡ command_name a) }
+{
+    let (right, kept) = (found.get_str("right"), found.get_str("kept"));
+    if right.is_none() && kept.is_some() {
+        return Err(BadName);
+    }
+    Ok(Arguments::Timeline {
+        record: file(found, "RECORD")?,
+        right,
+        kept,
+    })
+}
+
 /// What the words of the command of that name ask for.
 fn asked_by<'a>(name: &str, found: &ArgMatches<'a>) -> Result<Arguments<'a>, BadName>
     ensures { IfOk result (λ a. name.now ≡ command_name a) }
@@ -191,9 +225,7 @@ fn asked_by<'a>(name: &str, found: &ArgMatches<'a>) -> Result<Arguments<'a>, Bad
             scripts: wanted_file(found, "SCRIPTS")?,
             schedule: wanted_file(found, "SCHEDULE")?,
         }),
-        "timeline" => Ok(Arguments::Timeline {
-            record: file(found, "RECORD")?,
-        }),
+        "timeline" => timeline(found),
         "trace" => Ok(Arguments::Trace {
             record: file(found, "RECORD")?,
         }),
@@ -208,7 +240,8 @@ fn asked_by<'a>(name: &str, found: &ArgMatches<'a>) -> Result<Arguments<'a>, Bad
 
 /// Whether the word is one that a command line often takes, but no form has.
 fn is_no_form(word: &str) -> bool {
-    word == "--" || word.starts_with("--settings=") || word.starts_with("--seed=")
+    const NO_FORMS: [&str; 4] = ["--settings=", "--seed=", "--right=", "--kept="];
+    word == "--" || NO_FORMS.iter().any(|start| word.starts_with(*start))
 }
 
 /// Reads the words after the program's name. Words that are no form are bad words, unless memory was wanting. The first of

@@ -58,7 +58,11 @@ fn answer_to<I: Inputs>(
             scripts,
             schedule,
         } => steps_answer(alloc, inputs, form, settings, scripts, schedule),
-        Arguments::Timeline { record } => match timeline_answer(alloc, inputs, record) {
+        Arguments::Timeline {
+            record,
+            right,
+            kept,
+        } => match timeline_answer(alloc, inputs, record, right, kept) {
             Ok((_, _, text)) => Ok(text),
             Err(fault) => Err(fault),
         },

@@ -1,11 +1,12 @@
 //! Why the program didn't do what its words ask for.
 
 ghost use Rattle.std.specs.Prelude.{◌≡◌};
-ghost use Rattle.view_command.specs.Faults.{of_draft, of_memory, of_refusal, of_words, status_of};
+ghost use Rattle.view_command.specs.Faults.{of_draft, of_memory, of_no_trace, of_refusal, of_unseen, of_words, status_of};
 
 use crate::draft::DraftFault;
 use event_log::OutOfMemory;
 use program::{Refusal, WordsFault};
+use record_view::{NoTrace, OwnUnseen};
 use thiserror::Error;
 
 /// A refusal, which is printed as one line. What is refused for the same cause has the same number in `mc2`.
@@ -19,6 +20,9 @@ pub enum Fault {
     Cycle(String),
     #[error("view: E15 the scripts do not end within 100000 words")]
     TooLong,
+    /// The first object, from 1, whose number of right steps it can't have.
+    #[error("view: E16 right: object {0}")]
+    Mistold(usize),
 }
 
 impl Fault {
@@ -28,7 +32,7 @@ impl Fault {
     {
         match self {
             Fault::Unsound(_) | Fault::Cycle(_) => 1,
-            Fault::TooLong => 2,
+            Fault::TooLong | Fault::Mistold(_) => 2,
             Fault::Common(refusal) => refusal.status(),
         }
     }
@@ -74,6 +78,30 @@ impl From<DraftFault> for Fault {
         match cause {
             DraftFault::OutOfMemory => Fault::Common(Refusal::OutOfMemory),
             DraftFault::TooLong => Fault::TooLong,
+        }
+    }
+}
+
+impl From<NoTrace> for Fault {
+    ghost from_gives = { λ cause fault. fault ≡ of_no_trace cause };
+
+    fn from(cause: NoTrace) -> Fault {
+        match cause {
+            NoTrace::OutOfMemory => Fault::Common(Refusal::OutOfMemory),
+            NoTrace::Unsound(text) => Fault::Unsound(text),
+            NoTrace::Cycle(text) => Fault::Cycle(text),
+        }
+    }
+}
+
+impl From<OwnUnseen> for Fault {
+    ghost from_gives = { λ cause fault. fault ≡ of_unseen cause };
+
+    fn from(cause: OwnUnseen) -> Fault {
+        match cause {
+            OwnUnseen::OutOfMemory => Fault::Common(Refusal::OutOfMemory),
+            OwnUnseen::Line(line) => Fault::Common(Refusal::BadRecord(line)),
+            OwnUnseen::Mistold(object) => Fault::Mistold(object.saturating_add(1)),
         }
     }
 }

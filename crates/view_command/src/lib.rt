@@ -4,29 +4,24 @@
 
 mod answers;
 mod arguments;
-mod boxes;
 mod commands;
 mod draft;
 mod fault;
 mod made_schedule;
 mod opening;
-mod picture;
 mod random;
-mod replayed;
-mod sight;
+mod records;
 mod step_json;
 mod step_names;
 mod step_text;
 mod stepped;
 mod steps;
-mod timeline;
-mod trace;
 mod turns;
 
 pub use answers::{schedule_answer, steps_answer, timeline_answer, trace_answer};
 pub use arguments::{Arguments, Asked, read_words};
-pub use boxes::EntryBox;
 pub use commands::{command, refuse};
 pub use fault::Fault;
+pub use record_view::EntryBox;
 pub use step_names::LineForm;
 pub use turns::Turns;

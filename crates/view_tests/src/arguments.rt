@@ -22,6 +22,23 @@ fn steps(form: LineForm) -> Arguments<'static> {
     }
 }
 
+fn timeline(record: Option<&'static str>) -> Arguments<'static> {
+    Arguments::Timeline {
+        record,
+        right: None,
+        kept: None,
+    }
+}
+
+/// A picture by counts, with the events of a witness.
+fn counted(kept: Option<&'static str>) -> Arguments<'static> {
+    Arguments::Timeline {
+        record: Some("r"),
+        right: Some("3,4"),
+        kept,
+    }
+}
+
 fn schedule(turns: Turns) -> Arguments<'static> {
     Arguments::Schedule {
         settings: "s",
@@ -39,8 +56,10 @@ fn words_that_are_taken(rt: HostRuntime) -> Result<(), Fail> {
     let rows = [
         ("steps --settings s a b", steps(LineForm::Words)),
         ("steps a b --settings s --json", steps(LineForm::Json)),
-        ("timeline", Arguments::Timeline { record: None }),
-        ("timeline r", Arguments::Timeline { record: Some("r") }),
+        ("timeline", timeline(None)),
+        ("timeline r", timeline(Some("r"))),
+        ("timeline --right 3,4 r", counted(None)),
+        ("timeline r --kept 1 --right 3,4", counted(Some("1"))),
         ("trace", Arguments::Trace { record: None }),
         ("trace r", Arguments::Trace { record: Some("r") }),
         ("schedule --settings s a", schedule(drawn(0))),
@@ -83,6 +102,12 @@ fn words_that_are_refused(rt: HostRuntime) -> Result<(), Fail> {
         "timeline ",
         "timeline -- r",
         "timeline --json",
+        "timeline --kept 1 r",
+        "timeline --right r --right",
+        "timeline --right=1 r",
+        "timeline --right 1 --right 1 r",
+        "timeline --right 1 --kept=1 r",
+        "trace --right 1 r",
         "trace r r",
         "trace --settings s",
         "schedule a",
@@ -133,6 +158,8 @@ fn help_and_version(rt: HostRuntime) -> Result<(), Fail> {
         ("schedule -h", "--seed <N>"),
         ("schedule -h", "--rounds"),
         ("timeline --help", "[RECORD]"),
+        ("timeline --help", "--right <N,N,..>"),
+        ("timeline --help", "--kept <E,E,..>"),
         ("trace --help", "[RECORD]"),
     ];
     for (line, part) in rows {

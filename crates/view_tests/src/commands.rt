@@ -1,5 +1,6 @@
 //! Whole commands: the status, what was written, and the line of each refusal.
 
+mod own_objects;
 mod pictures;
 mod schedules;
 mod stepping;

@@ -10,12 +10,13 @@ _mc2_words() {
         run | sim) options='--settings' ;;
         steps) options='--settings --json --help' ;;
         schedule) options='--settings --seed --rounds --help' ;;
-        timeline | trace) options='--help' ;;
+        timeline) options='--right --kept --help' ;;
+        trace) options='--help' ;;
     esac
     COMPREPLY=()
     if [ "$COMP_CWORD" = 1 ]; then
         mapfile -t COMPREPLY < <(compgen -W "$commands" -- "$word")
-    elif [ "$before" = --seed ]; then
+    elif [[ $before == --seed || $before == --right || $before == --kept ]]; then
         return
     elif [ "$before" != --settings ] && [[ $word == -* ]]; then
         mapfile -t COMPREPLY < <(compgen -W "$options" -- "$word")

@@ -1,0 +1,6 @@
+pub mod BoxProofs
+pub mod EitherLaws
+pub mod NumberLaws
+pub mod OwnAnswers
+pub mod ReplayedProofs
+pub mod StepCounts

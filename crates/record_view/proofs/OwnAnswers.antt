@@ -1,0 +1,37 @@
+-- Answers that aren't that a count was mistold, and counts that are the same.
+use Rattle.std.proofs.Common.{◌≡◌, ℕ, Bool, true, false, not, List, Result, Ok, Err, refl, sym, subst, ◌∙◌, bytes_eq}
+use Rattle.std.proofs.lemmas.Slice.Eq.{bytes_eq-Decides}
+use Rattle.auditor.specs.declared.fault.Fault.{Fault}
+use Rattle.own_judge.specs.declared.judge.Mistold.{Mistold}
+use Rattle.own_judge.specs.declared.merge.OwnMergeFault.{OwnMergeFault}
+use Rattle.own_judge.specs.declared.merge.OwnMergeFault.TheVariants as fault
+use Rattle.sound_run.specs.declared.place.Place.{Place}
+
+-- it is another answer of a merge
+abbrev IsOther : Result (List Place) OwnMergeFault → Type 0
+IsOther (Err (fault.Mistold m)) = ⊥
+IsOther (Err fault.OutOfMemory) = Unit {0}
+IsOther (Err (fault.Unsound f)) = Unit {0}
+IsOther (Err (fault.Cycle c)) = Unit {0}
+IsOther (Ok places) = Unit {0}
+
+-- an order isn't that
+pub order_isnt : (places : List Place) (m : Mistold) → ◌≡◌ {A = Result (List Place) OwnMergeFault} (Ok places) (Err (fault.Mistold m)) → ⊥
+order_isnt places m e = subst IsOther e tt
+
+-- nor is a fault
+pub fault_isnt : (f : Fault) (m : Mistold) → ◌≡◌ {A = Result (List Place) OwnMergeFault} (Err (fault.Unsound f)) (Err (fault.Mistold m)) → ⊥
+fault_isnt f m e = subst IsOther e tt
+
+-- nor is a cycle
+pub cycle_isnt : (places : List Place) (m : Mistold) → ◌≡◌ {A = Result (List Place) OwnMergeFault} (Err (fault.Cycle places)) (Err (fault.Mistold m)) → ⊥
+cycle_isnt places m e = subst IsOther e tt
+
+-- what isn't false is true
+not_false : (t : Bool) → not t ≡ false → t ≡ true
+not_false true e = refl
+not_false false e = sym e
+
+-- counts that don't differ are the same
+pub same_counts : (a b : List ℕ) (differ : Bool) → differ ≡ not (bytes_eq a b) → differ ≡ false → a ≡ b
+same_counts a b differ is same = (bytes_eq-Decides a b).0 (not_false (bytes_eq a b) (sym is ∙ same))
