@@ -1,8 +1,9 @@
-/* use: own audit|merge [FILE]
+/* use: own audit|merge|counts [FILE]
 
    Judges a record 3 by the models of models.h, as `mc2` judges a record 2, from a file or from standard input. Behind the
    verdict on a wrong step comes why it is wrong, in the model's words, and a few of the steps before it after which it is wrong
-   for the same reason. `merge` prints the entries of a sound record in one order, or a cycle of them.
+   for the same reason. `merge` prints the entries of a sound record in one order, or a cycle of them. `counts` prints how many
+   steps of each log its model calls right, as `view timeline --right` takes them.
 
        gcc -std=c11 -O2 -Iinclude -o /tmp/own examples/own/own.c crates/judge/out/libjudge.a KIT/c/liblibc_c.a -pthread
 
@@ -145,21 +146,30 @@ static int put_order(const struct mc2_told *told, const struct mc2_turn *room) {
     return told->kind == MC2_CYCLE;
 }
 
+static int put_counts(const struct mc2_told *told) {
+    if (told->kind > MC2_UNCLAIMED)
+        return refuse(told);
+    for (size_t at = 0; at < asked.objects; at++)
+        printf("%llu%c", wide(asked.right[at]), at + 1 < asked.objects ? ',' : '\n');
+    return 0;
+}
+
 /* An entry has no shorter line than `a 0 a | a = a`. */
 static size_t most_entries(void) { return length / 14; }
 
 int main(int count, char **words) {
     struct mc2_told told;
     bool merges = count > 1 && strcmp(words[1], "merge") == 0;
-    if (count < 2 || count > 3 || (!merges && strcmp(words[1], "audit") != 0)) {
-        fputs("use: own audit|merge [FILE]\n", stderr);
+    bool counts = count > 1 && strcmp(words[1], "counts") == 0;
+    if (count < 2 || count > 3 || (!merges && !counts && strcmp(words[1], "audit") != 0)) {
+        fputs("use: own audit|merge|counts [FILE]\n", stderr);
         return 2;
     }
     read_text(count > 2 ? fopen(words[2], "rb") : stdin);
     struct mc2_turn *room = merges ? get(most_entries(), sizeof *room) : NULL;
     mc2_own_judge(bytes(), length, models, MODELS, &asked, room, merges ? most_entries() : 0, &told);
     bool has_order = merges && (told.kind == MC2_SOUND || told.kind == MC2_CYCLE);
-    int status = has_order ? put_order(&told, room) : told.kind == MC2_SOUND ? puts("sound") < 0 : tell(&told);
+    int status = counts ? put_counts(&told) : has_order ? put_order(&told, room) : told.kind == MC2_SOUND ? puts("sound") < 0 : tell(&told);
     free(room);
     free(text);
     return status;

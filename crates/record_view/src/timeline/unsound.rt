@@ -43,7 +43,7 @@ const SIGNS: [&str; 3] = [
 /// What is said of the boxes where a witness kept some.
 const WITNESS_SIGNS: [&str; 3] = [
     "The box in the red frame has the first fault. Those in blue frames are the events that the words of the command name: a",
-    "witness, as the program says that has the model. Behind these alone the step is wrong for the same reason.",
+    "witness, by the program that has the model. Behind these alone the step is wrong for the same reason.",
     TO_READ_ONE,
 ];
 
