@@ -12,7 +12,7 @@ use Rattle.scripts.specs.contracts.objects.kernel_object.KernelObjectSeqObject.T
 use Rattle.scripts.specs.Runs.{opened_of}
 use Rattle.scripts.specs.KernelTypes.{KernelEvent, KernelEntry}
 use Rattle.scripts.specs.RecordRanges.{Record, RecordFits, EventFits}
-use Rattle.scripts.specs.declared.record.form.Form.TheVariants.{Two}
+use Rattle.scripts.specs.declared.record.form.TheConstants.{WRITTEN}
 use Rattle.scripts.specs.declared.objects.kernel_call.KParams.{KParams}
 use Rattle.scripts.specs.declared.objects.kernel_call.KCall.{KCall}
 use Rattle.scripts.specs.declared.objects.kernel_call.KReply.{KReply}
@@ -51,7 +51,7 @@ module _ (r : Record) (fits : RecordFits r) where
 
   step_small : (x n i : ℕ) (e : KernelEvent) → slice_get (log_of x r.run) n ≡ Some e → i < length e.steps.list.items → i < 2 ^ 63
   step_small x n i e there lt =
-      let fit = all_at (EventFits Two r.settings.cpus) (log_of x r.run) (log_fits r fits x).1 n e there in
+      let fit = all_at (EventFits WRITTEN r.settings.cpus) (log_of x r.run) (log_fits r fits x).1 n e there in
       omega (arith, fit.steps.few, lt)
 
   -- a fault that is there can be told

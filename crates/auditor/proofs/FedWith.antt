@@ -6,7 +6,7 @@ use Rattle.std.proofs.lemmas.Option.{slice_get_within, get_or_from_slice_get}
 use Rattle.sound_run.specs.Sound.{Opened}
 use Rattle.sound_run.proofs.Slices.{map_get, get_map}
 use Rattle.scripts.specs.contracts.objects.kernel_object.KernelObjectSeqObject.TheImpl.{ghosts as kernel}
-use Rattle.scripts.specs.declared.record.form.Form.TheVariants.{Two}
+use Rattle.scripts.specs.declared.record.form.TheConstants.{WRITTEN}
 use Rattle.scripts.specs.declared.objects.kernel_call.KParams.{KParams}
 use Rattle.scripts.specs.declared.objects.kernel_call.KCall.{KCall}
 use Rattle.scripts.specs.declared.objects.kernel_call.KReply.{KReply}
@@ -37,11 +37,11 @@ module _ (cpus : ℕ) (objects : List ObjectSettings) (begun : Bool) (opened : L
   fed_count n is few = ap length fed.begun ∙ (ap (λ k. length (take k opened)) is ∙ length-take-le n opened (omega (arith, few, opened_count)))
 
   -- what is opened at a place has parameters in range
-  pub opened_able : (x : ℕ) (t : KernelTerms) → AllByRecursion (ObjectFits Two) objects → slice_get opened x ≡ Some t → kernel.in_range t.params ≡ true
+  pub opened_able : (x : ℕ) (t : KernelTerms) → AllByRecursion (ObjectFits WRITTEN) objects → slice_get opened x ≡ Some t → kernel.in_range t.params ≡ true
   opened_able x t fits at =
       let o = get_map object_opened objects x (judged_by t) (ap (λ l. slice_get l x) (sym fed.same) ∙ map_get judged_by opened x t at) in
       let params : o.0.params ≡ t.params = ap (λ (v : Opened KParams). v.params) o.2 in
-      ap kernel_in_range (sym params) ∙ (all_at (ObjectFits Two) objects fits x o.0 o.1).params
+      ap kernel_in_range (sym params) ∙ (all_at (ObjectFits WRITTEN) objects fits x o.0 o.1).params
 
   pub before_log : InLogs P → IsAtHead P d.events → IsBeforeLog d
   before_log at head =

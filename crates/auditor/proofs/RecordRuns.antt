@@ -6,7 +6,7 @@ use Rattle.std.proofs.lemmas.List.{length-map}
 use Rattle.sound_run.specs.Sound.{Opened, transcript_of, log_of}
 use Rattle.sound_run.proofs.Slices.{map_get, get_map}
 use Rattle.scripts.specs.contracts.objects.kernel_object.KernelObjectSeqObject.TheImpl.{ghosts as kernel}
-use Rattle.scripts.specs.declared.record.form.Form.TheVariants.{Two}
+use Rattle.scripts.specs.declared.record.form.TheConstants.{WRITTEN}
 use Rattle.scripts.specs.declared.objects.kernel_call.KParams.{KParams}
 use Rattle.scripts.specs.declared.objects.kernel_call.KCall.{KCall}
 use Rattle.scripts.specs.declared.objects.kernel_call.KReply.{KReply}
@@ -32,11 +32,11 @@ list_at Q [] i all none = none
 list_at Q (l ∷ lists) zero all none = all.0
 list_at Q (l ∷ lists) (suc i) all none = list_at Q lists i all.1 none
 
-pub log_fits : (r : Record) → RecordFits r → (x : ℕ) → LogFits Two r.settings.cpus (log_of x r.run)
-log_fits r fits x = list_at (LogFits Two r.settings.cpus) r.run.logs x fits.1.logs (omega arith, tt)
+pub log_fits : (r : Record) → RecordFits r → (x : ℕ) → LogFits WRITTEN r.settings.cpus (log_of x r.run)
+log_fits r fits x = list_at (LogFits WRITTEN r.settings.cpus) r.run.logs x fits.1.logs (omega arith, tt)
 
-pub transcript_fits : (r : Record) → RecordFits r → (cpu : ℕ) → TranscriptFits Two (length r.settings.objects) (transcript_of cpu r.run)
-transcript_fits r fits cpu = list_at (TranscriptFits Two (length r.settings.objects)) r.run.transcripts cpu fits.1.transcripts (omega arith, tt)
+pub transcript_fits : (r : Record) → RecordFits r → (cpu : ℕ) → TranscriptFits WRITTEN (length r.settings.objects) (transcript_of cpu r.run)
+transcript_fits r fits cpu = list_at (TranscriptFits WRITTEN (length r.settings.objects)) r.run.transcripts cpu fits.1.transcripts (omega arith, tt)
 
 pub record_run : (r : Record) (opened_objects : List KernelTerms) → RecordFits r → opened_by opened_objects ≡ opened_of r.settings → IsRunOf kernel opened_objects r.run
 record_run r opened_objects fit same =
@@ -51,14 +51,14 @@ record_run r opened_objects fit same =
       able = λ x t e.
           let o = get_map object_opened r.settings.objects x (judged_by t) (ap (λ l. slice_get l x) (sym same) ∙ map_get judged_by opened_objects x t e) in
           let params : o.0.params ≡ t.params = ap (λ (v : Opened KParams). v.params) o.2 in
-          let fits = (all_at (ObjectFits Two) r.settings.objects fit.0.each x o.0 o.1).params in
+          let fits = (all_at (ObjectFits WRITTEN) r.settings.objects fit.0.each x o.0 o.1).params in
           ap kernel_in_range (sym params) ∙ fits;
       events = λ x k e at.
-          let f = all_at (EventFits Two r.settings.cpus) (log_of x r.run) (log_fits r fit x).1 k e at in
+          let f = all_at (EventFits WRITTEN r.settings.cpus) (log_of x r.run) (log_fits r fit x).1 k e at in
           let c = f.cpu in
           (omega (arith, c, cpus), record { some = f.steps.some; few = f.steps.few });
       entries = λ cpu k e at.
-          let f = all_at (EntryFits Two (length r.settings.objects)) (transcript_of cpu r.run) (transcript_fits r fit cpu).1 k e at in
+          let f = all_at (EntryFits WRITTEN (length r.settings.objects)) (transcript_of cpu r.run) (transcript_fits r fit cpu).1 k e at in
           let c = f.object in
           omega (arith, c, logs);
     }

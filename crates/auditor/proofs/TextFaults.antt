@@ -2,8 +2,8 @@
 use Rattle.std.proofs.Common.{◌≡◌, ℕ, List, Option, Result, Ok, Err, sym, ap, subst}
 use Rattle.std.specs.Prelude.{◌↔◌}
 use Rattle.std.specs.Result.{IsErrAnd, IfErr}
-use Rattle.scripts.specs.declared.record.source.RecordReadFault.{RecordReadFault}
-use Rattle.scripts.specs.declared.record.source.RecordReadFault.TheVariants as read_fault
+use Rattle.scripts.specs.declared.text.fault.TextFault.{TextFault}
+use Rattle.scripts.specs.declared.text.fault.TextFault.TheVariants as text_fault
 use Rattle.scripts.specs.contracts.objects.kernel_object.KernelObjectSeqObject.TheImpl.{ghosts as kernel}
 use Rattle.scripts.specs.Keeping.{Parts, kept_record, IsWholeWith}
 use Rattle.scripts.specs.RecordRanges.{Record}
@@ -14,39 +14,32 @@ use Rattle.sound_run.specs.Sound.{Sound}
 use Rattle.auditor.specs.declared.fault.Fault.{Fault}
 use Rattle.auditor.specs.declared.fault.Verdict.{Verdict}
 use Rattle.auditor.specs.declared.fault.Verdict.TheVariants as verdict
-use Rattle.auditor.specs.declared.texts.TextFault.{TextFault}
-use Rattle.auditor.specs.declared.texts.TextFault.TheVariants as text_fault
-use Rattle.auditor.specs.Audits.{IsTextFault, IsAudited, IsVerdict, of_record}
+use Rattle.auditor.specs.Audits.{IsTextFault, IsAudited, IsVerdict}
 use Rattle.auditor.specs.Faults.{IsFirstFault}
 
-named : (remaining : Option (List ℕ)) (cause : RecordReadFault) → NamesBadLineOfRest remaining cause → IsTextFault remaining (of_record cause)
-named remaining read_fault.OutOfMemory names = tt
-named remaining read_fault.ReadFailed names = tt
-named remaining (read_fault.Line n) names = names
-
 -- the bad line is that of the reading
-pub text_named : {X : Type 0} (remaining : Option (List ℕ)) (cause : RecordReadFault) (result : Result X TextFault) → IsErrAnd result (λ f. f ≡ of_record cause) → NamesBadLineOfRest remaining cause → IfErr result (IsTextFault remaining)
+pub text_named : {X : Type 0} (remaining : Option (List ℕ)) (cause : TextFault) (result : Result X TextFault) → IsErrAnd result (λ f. f ≡ cause) → NamesBadLineOfRest remaining cause → IfErr result (IsTextFault remaining)
 text_named remaining cause (Ok x) is names = tt
-text_named remaining cause (Err f) is names = subst (IsTextFault remaining) (sym is) (named remaining cause names)
+text_named remaining cause (Err f) is names = subst (IsTextFault remaining) (sym is) names
 
-judged : (r : Record) (cause : RecordReadFault) → IsReadFrom r (Err cause) → IsAudited r (Err (of_record cause))
-judged r read_fault.OutOfMemory read = tt
-judged r read_fault.ReadFailed read = tt
-judged r (read_fault.Line n) read = read
+judged : (r : Record) (cause : TextFault) → IsReadFrom r (Err cause) → IsAudited r (Err cause)
+judged r text_fault.OutOfMemory read = tt
+judged r text_fault.ReadFailed read = tt
+judged r (text_fault.BadLine n) read = read
 
 -- a record's text isn't refused
-pub text_judged : (r : Record) (cause : RecordReadFault) (result : Result Verdict TextFault) → IsErrAnd result (λ f. f ≡ of_record cause) → IsReadFrom r (Err cause) → IsAudited r result
+pub text_judged : (r : Record) (cause : TextFault) (result : Result Verdict TextFault) → IsErrAnd result (λ f. f ≡ cause) → IsReadFrom r (Err cause) → IsAudited r result
 text_judged r cause (Ok v) is read = absurd is
 text_judged r cause (Err f) is read = subst (λ g. IsAudited r (Err g)) (sym is) (judged r cause read)
 
 -- where neither memory ran out nor reading failed, the source was read to its end
-pub text_read_out : {X Y : Type 0} (old new : Option (List ℕ)) (cause : RecordReadFault) (result : Result X TextFault) → IsErrAnd result (λ f. f ≡ of_record cause)
-    → ((◌≡◌ {A = Result Y RecordReadFault} (Err cause) (Err read_fault.OutOfMemory) → ⊥) → (◌≡◌ {A = Result Y RecordReadFault} (Err cause) (Err read_fault.ReadFailed) → ⊥) → IsReadOut old new)
+pub text_read_out : {X Y : Type 0} (old new : Option (List ℕ)) (cause : TextFault) (result : Result X TextFault) → IsErrAnd result (λ f. f ≡ cause)
+    → ((◌≡◌ {A = Result Y TextFault} (Err cause) (Err text_fault.OutOfMemory) → ⊥) → (◌≡◌ {A = Result Y TextFault} (Err cause) (Err text_fault.ReadFailed) → ⊥) → IsReadOut old new)
     → (result ≡ Err text_fault.OutOfMemory → ⊥) → (result ≡ Err text_fault.ReadFailed → ⊥) → IsReadOut old new
 text_read_out old new cause (Ok x) is out no_memory no_failure = absurd is
-text_read_out old new read_fault.OutOfMemory (Err f) is out no_memory no_failure = absurd (no_memory (ap Err is))
-text_read_out old new read_fault.ReadFailed (Err f) is out no_memory no_failure = absurd (no_failure (ap Err is))
-text_read_out old new (read_fault.Line n) (Err f) is out no_memory no_failure = out (λ e. absurd cc) (λ e. absurd cc)
+text_read_out old new text_fault.OutOfMemory (Err f) is out no_memory no_failure = absurd (no_memory (ap Err is))
+text_read_out old new text_fault.ReadFailed (Err f) is out no_memory no_failure = absurd (no_failure (ap Err is))
+text_read_out old new (text_fault.BadLine n) (Err f) is out no_memory no_failure = out (λ e. absurd cc) (λ e. absurd cc)
 
 -- the verdict on what a keeper was handed over is that on the record
 pub verdict_on_kept : (settings : Settings) (p : Parts) (v : Verdict) → IsWholeWith settings p

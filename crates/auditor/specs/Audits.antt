@@ -1,47 +1,35 @@
 -- What is said of a record, and of a text.
-use Rattle.std.specs.Prelude.{◌≡◌, ◌↔◌, ℕ, List, Option, Some, Result, Ok, Err}
+use Rattle.std.specs.Prelude.{◌≡◌, ◌↔◌, ℕ, List, Option, Result, Ok, Err}
 use Rattle.scripts.specs.contracts.objects.kernel_object.KernelObjectSeqObject.TheImpl.{ghosts as kernel}
-use Rattle.scripts.specs.declared.record.source.RecordReadFault.{RecordReadFault}
-use Rattle.scripts.specs.declared.record.source.RecordReadFault.TheVariants as read_fault
-use Rattle.scripts.specs.RecordFaults.{IsWhole, IsBadLine}
+use Rattle.scripts.specs.declared.text.fault.TextFault.{TextFault}
+use Rattle.scripts.specs.declared.text.fault.TextFault.TheVariants as text_fault
+use Rattle.scripts.specs.RecordFaults.{IsWhole}
 use Rattle.scripts.specs.RecordRanges.{Record}
+use Rattle.scripts.specs.RecordSources.{NamesBadLineOfRest}
 use Rattle.scripts.specs.Runs.{opened_of}
+use Rattle.scripts.specs.ScriptFaults.{IsRest}
 use Rattle.sound_run.specs.Sound.{Sound}
-use Rattle.auditor.specs.declared.texts.TextFault.{TextFault}
-use Rattle.auditor.specs.declared.texts.TextFault.TheVariants as text_fault
 use Rattle.auditor.specs.declared.fault.Fault.{Fault}
 use Rattle.auditor.specs.declared.fault.Verdict.{Verdict}
 use Rattle.auditor.specs.declared.fault.Verdict.TheVariants as verdict
 use Rattle.auditor.specs.Faults.{IsFirstFault}
-
--- why it wasn't read, as why it wasn't judged
-abbrev pub of_record : RecordReadFault → TextFault
-of_record read_fault.OutOfMemory = text_fault.OutOfMemory
-of_record read_fault.ReadFailed = text_fault.ReadFailed
-of_record (read_fault.Line n) = text_fault.BadLine n
 
 -- a sound record is called so, and an unsound one by its first fault
 pub record IsVerdict (r : Record) (v : Verdict) : Type 0 where
   pub sound : (v ≡ verdict.Sound) ↔ Sound kernel (opened_of r.settings) r.run
   pub fault : (f : Fault) → (v ≡ verdict.Unsound f) ↔ IsFirstFault kernel (opened_of r.settings) r.run f
 
--- the bytes are all that the source had, where it tells them
-abbrev pub AreAll : Option (List ℕ) → List ℕ → Type 0
-AreAll remaining bytes = (all : List ℕ) → remaining ≡ Some all → bytes ≡ all
-
 -- the verdict on the record that the source's bytes spell
 pub record IsVerdictOnText (remaining : Option (List ℕ)) (v : Verdict) : Type 0 where
   pub bytes : List ℕ
-  pub all : AreAll remaining bytes
+  pub all : IsRest remaining bytes
   pub of : Record
   pub spelled : IsWhole bytes of
   pub is : IsVerdict of v
 
 -- a bad line is the first with which no record goes on
 abbrev pub IsTextFault : Option (List ℕ) → TextFault → Type 0
-IsTextFault remaining text_fault.OutOfMemory = Unit {0}
-IsTextFault remaining text_fault.ReadFailed = Unit {0}
-IsTextFault remaining (text_fault.BadLine n) = (bytes : List ℕ) × AreAll remaining bytes × IsBadLine bytes n
+IsTextFault remaining fault = NamesBadLineOfRest remaining fault
 
 -- the record was judged, unless memory ran out or reading failed
 abbrev pub IsAudited : Record → Result Verdict TextFault → Type 0

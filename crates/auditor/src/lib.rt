@@ -40,6 +40,7 @@ pub use references::{
     ReferenceConsole, ReferenceKernelObject, ReferenceObject, ReferencePool, ReferenceQueue,
     ReferenceSched,
 };
+pub use scripts::TextFault;
 pub use step_rows::StepRows;
-pub use texts::{TextFault, audit_text};
+pub use texts::audit_text;
 pub use verdict_text::{fault_text, verdict_line};

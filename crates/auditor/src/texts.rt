@@ -9,42 +9,9 @@ ghost use Rattle.scripts.specs.RecordSources.{IsReadOut};
 ghost use Rattle.auditor.specs.Audits.{IsVerdictOnText, IsTextFault, IsAudited};
 
 use crate::{RecordJudge, ReferenceKernelObject, Verdict};
-use event_log::{OutOfMemory, Source};
-use scripts::{RecordReadFault, read_keeping};
+use event_log::Source;
+use scripts::{TextFault, read_keeping};
 use std::alloc::Global;
-
-/// Why a text was not judged.
-#[derive(Clone, Copy, Debug, PartialEq, Eq, Drop)]
-pub enum TextFault {
-    OutOfMemory,
-    /// The first line, from 1, with which no record goes on.
-    BadLine(usize),
-    ReadFailed,
-}
-
-impl From<OutOfMemory> for TextFault {
-    ghost use Rattle.auditor.specs.declared.texts.TextFault.TheVariants.{OutOfMemory};
-
-    ghost from_gives = { λ _ fault. fault ≡ OutOfMemory };
-
-    fn from(_failed: OutOfMemory) -> TextFault {
-        TextFault::OutOfMemory
-    }
-}
-
-impl From<RecordReadFault> for TextFault {
-    ghost use Rattle.auditor.specs.Audits.{of_record};
-
-    ghost from_gives = { λ cause fault. fault ≡ of_record cause };
-
-    fn from(fault: RecordReadFault) -> TextFault {
-        match fault {
-            RecordReadFault::OutOfMemory => TextFault::OutOfMemory,
-            RecordReadFault::ReadFailed => TextFault::ReadFailed,
-            RecordReadFault::Line(line) => TextFault::BadLine(line),
-        }
-    }
-}
 
 /// Reads the source to its end, in pieces of 4,096 bytes at most, and judges the record that its bytes spell. A bad line
 /// never hides that reading failed behind it.

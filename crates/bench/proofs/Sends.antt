@@ -25,6 +25,7 @@ use Rattle.word_rule.specs.contracts.pass.Pass as Pass
 use Rattle.word_rule.proofs.Sends.{pass_field_send}
 use Rattle.ticket_lock.proofs.cell.TicketCell.TheSendSync.{the_send as ticket_send, the_sync as ticket_sync}
 use Rattle.mcs_lock.proofs.cell.McsCell.TheSendSync.{the_send as mcs_send, the_sync as mcs_sync}
+use Rattle.toggle_lock.proofs.cell.ToggleCell.TheSendSync.{the_send as toggle_send, the_sync as toggle_sync}
 use Rattle.guarded_cell.proofs.cell.AnyCell.TheSendSync.{the_send as any_send, the_sync as any_sync}
 use Rattle.event_log.proofs.logged.Logged.TheSendSync.{the_send as logged_send}
 use Rattle.event_log.specs.contracts.logged.Logged as Logged
@@ -39,6 +40,7 @@ use Rattle.bench.specs.contracts.fault.Fault as Fault
 use Rattle.bench.specs.contracts.span.Span as Span
 use Rattle.bench.specs.contracts.by_lock.ByTicket as ByTicket
 use Rattle.bench.specs.contracts.by_lock.ByMcs as ByMcs
+use Rattle.bench.specs.contracts.by_lock.ByToggle as ByToggle
 use Rattle.bench.specs.contracts.by_lock.ByAny as ByAny
 
 -- the queue's parameters
@@ -57,6 +59,12 @@ by_mcs_send =
     let shared = mcs_sync Queue.the_row (UInt w32) Call.the_row Reply.the_row _ (clones _) (equals _) (compares _) (defaults _) (clones _) (equals _) (compares _) (defaults _) queue_send number_send call_send reply_send in
     struct_send (fields ByMcs.the_type) (Arc-send _ cell shared, (pass_field_send Queue.the_row (UInt w32) Call.the_row Reply.the_row _ (compares _) (defaults _) (compares _) (defaults _) queue_send number_send call_send reply_send, tt))
 
+by_toggle_send : IsSend ByToggle.the_field.row
+by_toggle_send =
+    let cell = toggle_send Queue.the_row (UInt w32) Call.the_row Reply.the_row _ (clones _) (equals _) (compares _) (defaults _) (clones _) (equals _) (compares _) (defaults _) queue_send number_send call_send reply_send in
+    let shared = toggle_sync Queue.the_row (UInt w32) Call.the_row Reply.the_row _ (clones _) (equals _) (compares _) (defaults _) (clones _) (equals _) (compares _) (defaults _) queue_send number_send call_send reply_send in
+    struct_send (fields ByToggle.the_type) (Arc-send _ cell shared, (pass_field_send Queue.the_row (UInt w32) Call.the_row Reply.the_row _ (compares _) (defaults _) (compares _) (defaults _) queue_send number_send call_send reply_send, tt))
+
 by_any_send : IsSend ByAny.the_field.row
 by_any_send =
     let cell = any_send Queue.the_row (UInt w32) Call.the_row Reply.the_row seq (copied Call.the_row) call_eq call_compares call_default (copied Reply.the_row) reply_eq reply_compares reply_default queue_send number_send call_send reply_send in
@@ -66,7 +74,7 @@ by_any_send =
 caller_send : IsSend Caller.the_field.row
 caller_send =
     let queue = logged_send Queue.the_row (UInt w32) Call.the_row Reply.the_row seq call_compares call_default reply_compares reply_default queue_send number_send call_send reply_send in
-    enum_send (shape Caller.the_type) ((by_ticket_send, tt), ((by_mcs_send, tt), ((by_any_send, tt), ((Arc-send (Mutex.the_row (Logged.the_row Queue.the_row (UInt w32) Call.the_row Reply.the_row seq call_compares call_default reply_compares reply_default)) (search (crosses, queue)) (search (crosses, queue)), tt), tt))))
+    enum_send (shape Caller.the_type) ((by_ticket_send, tt), ((by_mcs_send, tt), ((by_toggle_send, tt), ((by_any_send, tt), ((Arc-send (Mutex.the_row (Logged.the_row Queue.the_row (UInt w32) Call.the_row Reply.the_row seq call_compares call_default reply_compares reply_default)) (search (crosses, queue)) (search (crosses, queue)), tt), tt)))))
 
 place_send : IsSend Place.the_row
 place_send = recorded_send _ _ _ Place.the_type.to_one (struct_send (fields Place.the_type) (caller_send, (search sendable depth 40, tt)))

@@ -8,7 +8,7 @@ use std::rt::Env;
 use std::{env, io};
 
 pub const USAGE: &str = "usage: bench KIND[,KIND..] CPUS CALLS ROUNDS [batch|hold] [unkept]
-  KIND    ticket, mcs, any-ticket, any-mcs or mutex
+  KIND    ticket, mcs, toggle, any-ticket, any-mcs or mutex
   CPUS    1 to 64, a thread for each
   CALLS   of each CPU in a round; a round has at most 8388608 calls
   ROUNDS  of each kind

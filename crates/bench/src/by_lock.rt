@@ -4,6 +4,7 @@ ghost use Rattle.std.specs.Prelude.{◌≡◌};
 ghost use Rattle.std.specs.Arc.{arc_value};
 ghost use Rattle.ticket_lock.specs.Passes.{IsPassOf as IsTicketPass};
 ghost use Rattle.mcs_lock.specs.Passes.{IsPassOf as IsMcsPass};
+ghost use Rattle.toggle_lock.specs.Passes.{IsPassOf as IsTogglePass};
 ghost use Rattle.guarded_cell.specs.Kinds.{IsPassOf as IsAnyPass};
 ghost use Rattle.std.proofs.Props.{props};
 
@@ -14,6 +15,7 @@ use mcs_lock::McsCell;
 use shared_queue::ThreadQueue;
 use std::sync::{Arc, Wait};
 use ticket_lock::TicketCell;
+use toggle_lock::ToggleCell;
 use word_rule::Pass;
 
 /// A caller of a queue behind a ticket lock.
@@ -54,6 +56,27 @@ impl ByMcs {
 
     pub fn tally<R: Wait>(self, rt: &R) -> Tally {
         let ByMcs { cell, pass } = self;
+        tally_cell(rt, &*cell, pass)
+    }
+}
+
+/// A caller of a queue behind a toggle lock.
+#[derive(Drop)]
+pub struct ByToggle {
+    pub cell: Arc<ToggleCell<ThreadQueue>>,
+    pub pass: Pass<ThreadQueue>,
+    pub ghost ours: { IsTogglePass (arc_value cell) pass } by { Prim.hlevel props },
+}
+
+impl ByToggle {
+    pub fn call<R: Wait>(self, rt: &R, calls: &Calls) -> ByToggle {
+        let ByToggle { cell, pass } = self;
+        let pass = calls.on_cell(rt, &*cell, pass);
+        ByToggle { cell, pass }
+    }
+
+    pub fn tally<R: Wait>(self, rt: &R) -> Tally {
+        let ByToggle { cell, pass } = self;
         tally_cell(rt, &*cell, pass)
     }
 }

@@ -1,6 +1,6 @@
 //! A CPU that calls a queue, whatever guards it.
 
-use crate::by_lock::{ByAny, ByMcs, ByTicket};
+use crate::by_lock::{ByAny, ByMcs, ByTicket, ByToggle};
 use crate::calls::Calls;
 use crate::tally::Tally;
 use event_log::Logged;
@@ -14,6 +14,7 @@ pub type InMutex = Arc<Mutex<Logged<ThreadQueue>>>;
 pub enum Caller {
     Ticket(ByTicket),
     Mcs(ByMcs),
+    Toggle(ByToggle),
     Any(ByAny),
     Mutex(InMutex),
 }
@@ -24,6 +25,7 @@ impl Caller {
         match self {
             Caller::Ticket(caller) => Caller::Ticket(caller.call(rt, calls)),
             Caller::Mcs(caller) => Caller::Mcs(caller.call(rt, calls)),
+            Caller::Toggle(caller) => Caller::Toggle(caller.call(rt, calls)),
             Caller::Any(caller) => Caller::Any(caller.call(rt, calls)),
             Caller::Mutex(queue) => {
                 calls.in_mutex(rt, &*queue);
@@ -37,6 +39,7 @@ impl Caller {
         match self {
             Caller::Ticket(caller) => caller.tally(rt),
             Caller::Mcs(caller) => caller.tally(rt),
+            Caller::Toggle(caller) => caller.tally(rt),
             Caller::Any(caller) => caller.tally(rt),
             Caller::Mutex(queue) => Tally::of(queue.lock(rt).log()),
         }

@@ -6,6 +6,7 @@ use std::fmt;
 pub enum Kind {
     Ticket,
     Mcs,
+    Toggle,
     AnyTicket,
     AnyMcs,
     Mutex,
@@ -17,6 +18,7 @@ impl Kind {
         match name {
             "ticket" => Some(Kind::Ticket),
             "mcs" => Some(Kind::Mcs),
+            "toggle" => Some(Kind::Toggle),
             "any-ticket" => Some(Kind::AnyTicket),
             "any-mcs" => Some(Kind::AnyMcs),
             "mutex" => Some(Kind::Mutex),
@@ -28,6 +30,7 @@ impl Kind {
         match self {
             Kind::Ticket => "ticket",
             Kind::Mcs => "mcs",
+            Kind::Toggle => "toggle",
             Kind::AnyTicket => "any-ticket",
             Kind::AnyMcs => "any-mcs",
             Kind::Mutex => "mutex",

@@ -2,7 +2,7 @@
 
 ghost use Rattle.std.specs.Prelude.{◌≡◌, ◌<◌, ◌≤◌};
 
-use crate::by_lock::{ByAny, ByMcs, ByTicket};
+use crate::by_lock::{ByAny, ByMcs, ByTicket, ByToggle};
 use crate::caller::Caller;
 use crate::kind::Kind;
 use event_log::{Logged, OutOfMemory};
@@ -13,6 +13,7 @@ use sound_run::{LockKind, MOST_CPUS};
 use std::alloc::Global;
 use std::sync::{Arc, Mutex};
 use ticket_lock::TicketCell;
+use toggle_lock::ToggleCell;
 
 /// The first ticket of a ticket lock.
 const FIRST_TICKET: u32 = 0;
@@ -49,6 +50,26 @@ fn open_mcs(alloc: Global, queue: Logged<ThreadQueue>, cpus: u8) -> Result<Vec<C
     for pass in passes {
         let cell = Arc::try_clone(&shared)?;
         callers.push(Caller::Mcs(ByMcs { cell, pass }))?;
+    }
+    Ok(callers)
+}
+
+fn open_toggle(
+    alloc: Global,
+    queue: Logged<ThreadQueue>,
+    cpus: u8,
+) -> Result<Vec<Caller>, OutOfMemory>
+    requires some { 0 < cpus }
+    requires few { cpus ≤ MOST_CPUS }
+{
+    let Ok((cell, passes)) = ToggleCell::new(alloc, queue, cpus) else {
+        return Err(OutOfMemory);
+    };
+    let shared = Arc::new(alloc, cell)?;
+    let mut callers = Vec::new(alloc);
+    for pass in passes {
+        let cell = Arc::try_clone(&shared)?;
+        callers.push(Caller::Toggle(ByToggle { cell, pass }))?;
     }
     Ok(callers)
 }
@@ -101,6 +122,7 @@ pub fn open(
     match kind {
         Kind::Ticket => open_ticket(alloc, queue, cpus),
         Kind::Mcs => open_mcs(alloc, queue, cpus),
+        Kind::Toggle => open_toggle(alloc, queue, cpus),
         Kind::AnyTicket => open_any(alloc, LockKind::Ticket, queue, cpus),
         Kind::AnyMcs => open_any(alloc, LockKind::Mcs, queue, cpus),
         Kind::Mutex => open_mutex(alloc, queue, cpus),

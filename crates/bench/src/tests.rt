@@ -16,9 +16,10 @@ use std::test::Fail;
 use std::thread::Threads;
 use std::time::{Clock, Duration};
 
-const KINDS: [Kind; 5] = [
+const KINDS: [Kind; 6] = [
     Kind::Ticket,
     Kind::Mcs,
+    Kind::Toggle,
     Kind::AnyTicket,
     Kind::AnyMcs,
     Kind::Mutex,

@@ -12,12 +12,11 @@ use event_log::{Event, Logged, Todo};
 use guarded_cell::AnyPass;
 use mcs_lock::{Entered, McsCell};
 use shared_queue::{QueueCall as Call, ThreadQueue};
-use sound_run::LockKind;
 use std::alloc::Global;
 use std::process::Abort;
 use std::test::Fail;
 use ticket_lock::TicketCell;
-use word_rule::{CellSpec, LockCell, Machine, StepDone};
+use word_rule::{CellSpec, LockAlgorithm, LockCell, Machine, StepDone};
 
 /// A script of one call, which puts the thread into the queue.
 fn script_of(alloc: Global, thread: u32) -> Result<Vec<Todo<ThreadQueue>>, Fail>
@@ -41,7 +40,7 @@ fn scripts_of_two(alloc: Global) -> Result<Vec<Vec<Todo<ThreadQueue>>>, Fail>
 }
 
 /// One cell around a queue of 8 threads.
-fn one_cell(alloc: Global, kind: LockKind) -> Result<Vec<CellSpec<ThreadQueue>>, Fail>
+fn one_cell(alloc: Global, kind: LockAlgorithm) -> Result<Vec<CellSpec<ThreadQueue>>, Fail>
     ensures empty { IfOk result (λ cells. AllByRecursion (λ c. c.logged.log ≡ []) cells.items) }
     ensures stored { IfOk result (λ cells. AreStored cells.items) }
 {
@@ -56,7 +55,7 @@ fn one_cell(alloc: Global, kind: LockKind) -> Result<Vec<CellSpec<ThreadQueue>>,
 }
 
 /// A machine of one cell, and of two CPUs that put a thread each into its queue.
-fn machine_of_two(alloc: Global, kind: LockKind) -> Result<Machine<ThreadQueue>, Fail>
+fn machine_of_two(alloc: Global, kind: LockAlgorithm) -> Result<Machine<ThreadQueue>, Fail>
     ensures { IfOk result (λ m. length m.scripts ≡ 2) }
 {
     let cells = one_cell(alloc, kind)?;
@@ -147,7 +146,7 @@ fn has_log<R: Abort>(rt: &R, machine: Machine<ThreadQueue>, wanted: &[Event<Thre
 #[test]
 fn a_ticket_lock_steps_as_the_machine(rt: HostRuntime) -> Result<(), Fail> {
     let (cell, zero, one) = ticket_cell(rt.alloc())?;
-    let mut machine = machine_of_two(rt.alloc(), LockKind::Ticket)?;
+    let mut machine = machine_of_two(rt.alloc(), LockAlgorithm::Ticket)?;
     let zero = cell.draw(zero);
     does(&rt, &mut machine, 0, StepDone::Draw);
     let one = cell.draw(one);
@@ -183,7 +182,7 @@ fn a_ticket_lock_steps_as_the_machine(rt: HostRuntime) -> Result<(), Fail> {
 #[test]
 fn an_mcs_lock_steps_as_the_machine(rt: HostRuntime) -> Result<(), Fail> {
     let (cell, zero, one) = mcs_cell(rt.alloc())?;
-    let mut machine = machine_of_two(rt.alloc(), LockKind::Mcs)?;
+    let mut machine = machine_of_two(rt.alloc(), LockAlgorithm::Mcs)?;
     let zero = cell.clear(zero);
     does(&rt, &mut machine, 0, StepDone::Clear);
     let hold = match cell.enter(zero) {

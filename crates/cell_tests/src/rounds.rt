@@ -9,11 +9,12 @@ ghost use Rattle.word_rule.specs.Machine.SoundWorld.{IsTodo};
 use arrayvec::ArrayVec;
 use event_log::{Logged, Todo};
 use shared_queue::{QueueCall as Call, ThreadQueue};
-use sound_run::LockKind;
 use std::alloc::Global;
 use std::process::Abort;
 use std::test::Fail;
-use word_rule::{CellSpec, Machine, StepDone, calls_end, scripts_end, someone_gets_on};
+use word_rule::{
+    CellSpec, LockAlgorithm, Machine, StepDone, calls_end, scripts_end, someone_gets_on,
+};
 
 /// A script of so many entries, each one call.
 fn script_of(alloc: Global, entries: u32) -> Result<Vec<Todo<ThreadQueue>>, Fail>
@@ -44,7 +45,7 @@ fn scripts_of(alloc: Global, each: &[u32]) -> Result<Vec<Vec<Todo<ThreadQueue>>>
 }
 
 /// One cell around a queue of 8 threads.
-fn one_cell(alloc: Global, kind: LockKind) -> Result<Vec<CellSpec<ThreadQueue>>, Fail>
+fn one_cell(alloc: Global, kind: LockAlgorithm) -> Result<Vec<CellSpec<ThreadQueue>>, Fail>
     ensures empty { IfOk result (λ cells. AllByRecursion (λ c. c.logged.log ≡ []) cells.items) }
     ensures stored { IfOk result (λ cells. AreStored cells.items) }
 {
@@ -61,7 +62,7 @@ fn one_cell(alloc: Global, kind: LockKind) -> Result<Vec<CellSpec<ThreadQueue>>,
 /// A machine of one cell, and of 1 to 8 CPUs whose scripts have so many entries, with the number of its CPUs.
 fn machine_of(
     alloc: Global,
-    kind: LockKind,
+    kind: LockAlgorithm,
     each: &[u32],
 ) -> Result<(Machine<ThreadQueue>, u8), Fail>
     ensures count { IfOk result (λ r. length r.0.scripts ≡ r.1) }
@@ -114,7 +115,7 @@ fn rounds_until_done(machine: Machine<ThreadQueue>, cpus: u8, most: u32) -> Opti
 fn takes_rounds<R: Abort>(
     rt: &R,
     alloc: Global,
-    kind: LockKind,
+    kind: LockAlgorithm,
     each: &[u32],
     rounds: u32,
     most: u32,
@@ -153,7 +154,12 @@ fn gets_one_on(machine: &mut Machine<ThreadQueue>, cpus: u8) -> bool
 
 /// A call of CPU 0 ends within so many rounds, as the law of calls says, while three others have more to do; and in each of them
 /// somebody gets on.
-fn ends_within<R: Abort>(rt: &R, alloc: Global, kind: LockKind, rounds: u32) -> Result<(), Fail> {
+fn ends_within<R: Abort>(
+    rt: &R,
+    alloc: Global,
+    kind: LockAlgorithm,
+    rounds: u32,
+) -> Result<(), Fail> {
     let (machine, cpus) = machine_of(alloc, kind, &[1, 90, 90, 90])?;
     let mut machine = machine;
     calls_end::<ThreadQueue>();
@@ -166,21 +172,38 @@ fn ends_within<R: Abort>(rt: &R, alloc: Global, kind: LockKind, rounds: u32) -> 
 
 #[test]
 fn a_cpu_alone_at_a_ticket_lock_takes_all_its_rounds(rt: HostRuntime) -> Result<(), Fail> {
-    takes_rounds(&rt, rt.alloc(), LockKind::Ticket, &[1], 3, 3)?;
-    takes_rounds(&rt, rt.alloc(), LockKind::Ticket, &[7], 21, 3 * 7)?;
-    takes_rounds(&rt, rt.alloc(), LockKind::Ticket, &[0, 7], 21, 3 * 7)
+    takes_rounds(&rt, rt.alloc(), LockAlgorithm::Ticket, &[1], 3, 3)?;
+    takes_rounds(&rt, rt.alloc(), LockAlgorithm::Ticket, &[7], 21, 3 * 7)?;
+    takes_rounds(&rt, rt.alloc(), LockAlgorithm::Ticket, &[0, 7], 21, 3 * 7)
 }
 
 #[test]
 fn scripts_are_done_before_all_rounds(rt: HostRuntime) -> Result<(), Fail> {
-    takes_rounds(&rt, rt.alloc(), LockKind::Ticket, &[3, 3, 3, 3], 16, 3 * 12)?;
-    takes_rounds(&rt, rt.alloc(), LockKind::Mcs, &[1], 4, 9)?;
-    takes_rounds(&rt, rt.alloc(), LockKind::Mcs, &[0, 5, 1], 26, 9 * 6)?;
-    takes_rounds(&rt, rt.alloc(), LockKind::Mcs, &[3, 3, 3, 3], 30, 9 * 12)
+    takes_rounds(
+        &rt,
+        rt.alloc(),
+        LockAlgorithm::Ticket,
+        &[3, 3, 3, 3],
+        16,
+        3 * 12,
+    )?;
+    takes_rounds(&rt, rt.alloc(), LockAlgorithm::Mcs, &[1], 4, 9)?;
+    takes_rounds(&rt, rt.alloc(), LockAlgorithm::Mcs, &[0, 5, 1], 26, 9 * 6)?;
+    takes_rounds(
+        &rt,
+        rt.alloc(),
+        LockAlgorithm::Mcs,
+        &[3, 3, 3, 3],
+        30,
+        9 * 12,
+    )?;
+    takes_rounds(&rt, rt.alloc(), LockAlgorithm::Toggle, &[1], 3, 5)?;
+    takes_rounds(&rt, rt.alloc(), LockAlgorithm::Toggle, &[0, 7], 21, 5 * 7)
 }
 
 #[test]
 fn a_call_ends_while_others_go_on(rt: HostRuntime) -> Result<(), Fail> {
-    ends_within(&rt, rt.alloc(), LockKind::Ticket, 3 * (4 + 1))?;
-    ends_within(&rt, rt.alloc(), LockKind::Mcs, 9 * (4 + 1))
+    ends_within(&rt, rt.alloc(), LockAlgorithm::Ticket, 3 * (4 + 1))?;
+    ends_within(&rt, rt.alloc(), LockAlgorithm::Mcs, 9 * (4 + 1))?;
+    ends_within(&rt, rt.alloc(), LockAlgorithm::Toggle, 5 * (4 + 1))
 }

@@ -26,6 +26,8 @@ use Rattle.scripts.proofs.objects.kernel_object.KernelObject.TheSendSync.{the_se
 use Rattle.scripts.proofs.objects.kernel_call.KParams.TheSendSync.{the_send as params_send}
 use Rattle.scripts.proofs.objects.kernel_call.KCall.TheSendSync.{the_send as call_send}
 use Rattle.scripts.proofs.objects.kernel_call.KReply.TheSendSync.{the_send as reply_send}
+use Rattle.word_rule.specs.contracts.caller.Outside as Outside
+use Rattle.word_rule.specs.contracts.caller.Inside as Inside
 use Rattle.word_rule.specs.contracts.pass.Pass as Pass
 use Rattle.word_rule.specs.contracts.hold.Hold as Hold
 use Rattle.word_rule.proofs.cpu.Cpu.TheSendSync as cpu
@@ -49,32 +51,38 @@ use Rattle.cells.specs.Handles.{row}
 
 -- a caller goes where its object, the object's parameters, calls and replies go
 module _ (O P C R : RattleType) (g : Ghosts O.Denot P.Denot C.Denot R.Denot) (ce : Compares C.Denot) (cd : Defaults C.Denot) (re : Compares R.Denot) (rd : Defaults R.Denot) (o : IsSend O) (p : IsSend P) (c : IsSend C) (r : IsSend R) where
+  outside_send : IsSend (Outside.the_field O P C R g ce cd re rd).row
+  outside_send = struct_send (fields (Outside.the_type O P C R g ce cd re rd)) (cpu.the_field_send, (search crosses, (seat_send _ _ (slot_send O P C R g ce cd re rd o p c r), tt)))
+
+  inside_send : IsSend (Inside.the_field O P C R g ce cd re rd).row
+  inside_send = struct_send (fields (Inside.the_type O P C R g ce cd re rd)) (outside_send, (logged.the_send O P C R g ce cd re rd o p c r, (loan.the_field_send, tt)))
+
   drawn_send : IsSend (Drawn.the_field O P C R g ce cd re rd).row
-  drawn_send = struct_send (fields (Drawn.the_type O P C R g ce cd re rd)) (cpu.the_field_send, (search sendable, (search crosses, (seat_send _ _ (slot_send O P C R g ce cd re rd o p c r), tt))))
+  drawn_send = struct_send (fields (Drawn.the_type O P C R g ce cd re rd)) (outside_send, (search sendable, tt))
 
   ready_send : IsSend (Ready.the_field O P C R g ce cd re rd).row
-  ready_send = struct_send (fields (Ready.the_type O P C R g ce cd re rd)) (cpu.the_field_send, (search crosses, (seat_send _ _ (slot_send O P C R g ce cd re rd o p c r), tt)))
+  ready_send = struct_send (fields (Ready.the_type O P C R g ce cd re rd)) (outside_send, tt)
 
   behind_send : IsSend (Behind.the_field O P C R g ce cd re rd).row
-  behind_send = struct_send (fields (Behind.the_type O P C R g ce cd re rd)) (cpu.the_field_send, (search sendable, (search crosses, (seat_send _ _ (slot_send O P C R g ce cd re rd o p c r), tt))))
+  behind_send = struct_send (fields (Behind.the_type O P C R g ce cd re rd)) (outside_send, (search sendable, tt))
 
   armed_send : IsSend (Armed.the_field O P C R g ce cd re rd).row
-  armed_send = struct_send (fields (Armed.the_type O P C R g ce cd re rd)) (cpu.the_field_send, (search sendable, (search crosses, (seat_send _ _ (slot_send O P C R g ce cd re rd o p c r), tt))))
+  armed_send = struct_send (fields (Armed.the_type O P C R g ce cd re rd)) (outside_send, (search sendable, tt))
 
   waiting_send : IsSend (Waiting.the_field O P C R g ce cd re rd).row
-  waiting_send = struct_send (fields (Waiting.the_type O P C R g ce cd re rd)) (cpu.the_field_send, (search crosses, (seat_send _ _ (slot_send O P C R g ce cd re rd o p c r), tt)))
+  waiting_send = struct_send (fields (Waiting.the_type O P C R g ce cd re rd)) (outside_send, tt)
 
   hold_send : IsSend (Hold.the_field O P C R g ce cd re rd).row
-  hold_send = struct_send (fields (Hold.the_type O P C R g ce cd re rd)) (cpu.the_field_send, (search sendable, (logged.the_send O P C R g ce cd re rd o p c r, (loan.the_field_send, (search crosses, (seat_send _ _ (slot_send O P C R g ce cd re rd o p c r), tt))))))
+  hold_send = struct_send (fields (Hold.the_type O P C R g ce cd re rd)) (inside_send, (search sendable, tt))
 
   alone_send : IsSend (Alone.the_field O P C R g ce cd re rd).row
-  alone_send = struct_send (fields (Alone.the_type O P C R g ce cd re rd)) (cpu.the_field_send, (logged.the_send O P C R g ce cd re rd o p c r, (loan.the_field_send, (search crosses, (seat_send _ _ (slot_send O P C R g ce cd re rd o p c r), tt)))))
+  alone_send = struct_send (fields (Alone.the_type O P C R g ce cd re rd)) (inside_send, tt)
 
   leaving_send : IsSend (Leaving.the_field O P C R g ce cd re rd).row
-  leaving_send = struct_send (fields (Leaving.the_type O P C R g ce cd re rd)) (cpu.the_field_send, (logged.the_send O P C R g ce cd re rd o p c r, (loan.the_field_send, (search crosses, (seat_send _ _ (slot_send O P C R g ce cd re rd o p c r), tt)))))
+  leaving_send = struct_send (fields (Leaving.the_type O P C R g ce cd re rd)) (inside_send, tt)
 
   passing_send : IsSend (Passing.the_field O P C R g ce cd re rd).row
-  passing_send = struct_send (fields (Passing.the_type O P C R g ce cd re rd)) (cpu.the_field_send, (search sendable, (logged.the_send O P C R g ce cd re rd o p c r, (loan.the_field_send, (search crosses, (seat_send _ _ (slot_send O P C R g ce cd re rd o p c r), tt))))))
+  passing_send = struct_send (fields (Passing.the_type O P C R g ce cd re rd)) (inside_send, (search sendable, tt))
 
   state_send : IsSend (CallerState.the_field O P C R g ce cd re rd).row
   state_send = enum_send (shape (CallerState.the_type O P C R g ce cd re rd))

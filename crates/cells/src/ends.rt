@@ -136,7 +136,7 @@ impl<O: SeqObject> OpenCell<O> {
         let Caller { cell, state } = caller;
         match state {
             CallerState::Idle(pass) => {
-                if self.back < self.cpus && pass.cpu.number == self.back {
+                if self.back < self.cpus && pass.outside.cpu.number == self.back {
                     return (self.with_back(pass), None);
                 }
                 let state = CallerState::Idle(pass);

@@ -21,8 +21,10 @@ fn read(alloc: Global, scripts: &str) -> Result<(Settings, Scripts), Refusal>
 {
     let settings = Settings::built_in(alloc)?;
     let mut source = Plain::new(scripts.as_bytes());
-    let scripts = Scripts::read_from(alloc, &mut source, &settings)?;
-    Ok((settings, scripts))
+    match Scripts::read_from(alloc, &mut source, &settings) {
+        Ok(scripts) => Ok((settings, scripts)),
+        Err(fault) => Err(Refusal::of_scripts(fault)),
+    }
 }
 
 /// Writes the record of the run that the scripts ask for.

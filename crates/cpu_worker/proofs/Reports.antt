@@ -6,7 +6,7 @@ use Rattle.std.proofs.lemmas.List.Elements.{filter-append}
 use Rattle.std.proofs.lemmas.List.Folds.{length-flat_map-take}
 use Rattle.std.specs.List.{fold, sum, count_by, enumerate_from, AllByRecursion}
 use Rattle.scripts.specs.KernelTypes.{KernelEntry}
-use Rattle.scripts.specs.declared.record.form.Form.TheVariants.{Two}
+use Rattle.scripts.specs.declared.record.form.TheConstants.{WRITTEN}
 use Rattle.scripts.specs.RecordRanges.{Record, RecordFits, TranscriptFits}
 use Rattle.scripts.specs.Settings.{ObjectSettings}
 use Rattle.scripts.specs.Words.{sentence, text_of_lines}
@@ -97,7 +97,7 @@ room_for_transcript place transcripts i t h is few =
     record { entries = omega (arith, all, on); noroom = omega (arith, all, on, without) }
 
 -- ---- how many entries a record has
-few_of : (objects : ℕ) (transcripts : List (List KernelEntry)) → AllByRecursion (TranscriptFits Two objects) transcripts → length (all_entries transcripts) ≤ length transcripts * 10000
+few_of : (objects : ℕ) (transcripts : List (List KernelEntry)) → AllByRecursion (TranscriptFits WRITTEN objects) transcripts → length (all_entries transcripts) ≤ length transcripts * 10000
 few_of objects [] fit = omega arith
 few_of objects (t ∷ ts) fit =
     let here : length t ≤ 10000 = fit.0.0 in

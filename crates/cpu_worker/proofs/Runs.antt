@@ -15,7 +15,7 @@ use Rattle.scripts.specs.KernelTypes.{KernelEntry, KernelTodo, KernelRun}
 use Rattle.scripts.specs.Runs.{TranscriptAsks, opened_of}
 use Rattle.scripts.specs.ScriptText.{TodoFits, ScriptFits, ScriptsFit}
 use Rattle.scripts.specs.Settings.{Settings, SettingsFit, ObjectFits}
-use Rattle.scripts.specs.declared.record.form.Form.TheVariants.{Two}
+use Rattle.scripts.specs.declared.record.form.TheConstants.{WRITTEN}
 use Rattle.scripts.proofs.Names.{each_at}
 use Rattle.event_log.specs.declared.logged.TheConstants.{MOST_EVENTS}
 use Rattle.scripts.proofs.SoundRanges.{all_at as all_by_place}
@@ -146,5 +146,5 @@ pub stored_passes : {S : Type 0} (pass_view : S → KernelView) (settings : Sett
 stored_passes pass_view settings passes scripts transcripts fit all = all_by_place (λ p. (pass_view p).caller.cell.limit ≤ MOST_EVENTS) passes (λ k p at.
     let o = some_at settings.objects k (omega (arith, all.objects, length-map passes pass_view, length-map settings.objects (cell_for settings.cpus), slice_get_within passes k p at)) in
     let is = all.of_cells k (cell_for settings.cpus o.0) (pass_view p) (map_get (cell_for settings.cpus) settings.objects k o.0 o.1) (map_get pass_view passes k p at) in
-    let fits = each_at (ObjectFits Two) settings.objects k o.0 fit.each o.1 in
+    let fits = each_at (ObjectFits WRITTEN) settings.objects k o.0 fit.each o.1 in
     subst (λ (c : FixedCell). c.limit ≤ MOST_EVENTS) (sym is) fits.events.1)

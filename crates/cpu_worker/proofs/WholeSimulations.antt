@@ -1,5 +1,5 @@
 -- A simulation behind which nothing is left holds all entries; and the world that it begins with is one before its first step.
-use Rattle.std.proofs.Common.{◌≡◌, ℕ, suc, Some, List, [], ◌∷◌, ◌++◌, map, length, refl, sym, ◌∙◌, ap, subst, arith}
+use Rattle.std.proofs.Common.{◌≡◌, ◌≤◌, ℕ, suc, Some, List, [], ◌∷◌, ◌++◌, map, length, refl, sym, ◌∙◌, ap, subst, arith}
 use Rattle.std.specs.Prelude.{slice_get}
 use Rattle.std.specs.List.{AllByRecursion}
 use Rattle.std.proofs.lemmas.List.{append-nil, length-map}
@@ -13,7 +13,9 @@ use Rattle.scripts.specs.KernelTypes.{KernelTodo}
 use Rattle.scripts.specs.Runs.{AsksFor}
 use Rattle.scripts.specs.ScriptText.{ScriptFits, ScriptsFit}
 use Rattle.scripts.specs.Settings.{Settings, SettingsFit}
+use Rattle.sound_run.specs.declared.limits.TheConstants.{MOST_CPUS}
 use Rattle.sound_run.proofs.Slices.{get_map}
+use Rattle.word_rule.specs.Algorithms.{algorithm_of}
 use Rattle.word_rule.proofs.Openings.{all_at}
 use Rattle.word_rule.proofs.LockLaws.{few_fit}
 use Rattle.word_rule.specs.Machine.Opening.{IsOpening, IsOpeningCell, opening_cpu}
@@ -59,7 +61,7 @@ module _ (settings : Settings) (scripts : List (List KernelTodo)) where
     is_opening = record {
       cells = λ x c e.
           let a = get_map new_cell settings.objects x c e in
-          subst (λ k. IsOpeningCell (length (new_world settings scripts).cpus) k) a.2 record { first = 0; fits = few_fit a.0.lock (length (new_world settings scripts).cpus) (omega (arith, cpu_count, fit.cpus.1)); free = refl; empty = refl };
+          subst (λ k. IsOpeningCell (length (new_world settings scripts).cpus) k) a.2 record { first = 0; fits = few_fit (algorithm_of a.0.lock) (length (new_world settings scripts).cpus) (subst (λ n. n ≤ MOST_CPUS) (sym cpu_count) fit.cpus.1); free = refl; empty = refl };
       cpus = λ i c e. let a = get_map opening_cpu scripts i c e in subst (λ (k : KernelCpu). k ≡ opening_cpu k.todo) a.2 refl;
       able = λ i c e.
           let a = get_map opening_cpu scripts i c e in

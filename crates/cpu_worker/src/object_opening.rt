@@ -3,7 +3,7 @@
 ghost use Rattle.std.specs.Prelude.{◌≡◌, ◌≤◌, IfOk};
 ghost use Rattle.event_log.specs.History.{IsKept, opened_history};
 ghost use Rattle.scripts.specs.Settings.{ObjectFits};
-ghost use Rattle.scripts.specs.declared.record.form.Form.TheVariants.{Two};
+ghost use Rattle.scripts.specs.declared.record.form.TheConstants.{WRITTEN};
 
 use event_log::{Logged, MOST_EVENTS, OpenFault, OutOfMemory, SeqObject};
 use scripts::{KernelObject, ObjectSettings};
@@ -14,7 +14,7 @@ pub fn open_object(
     alloc: Global,
     object: &ObjectSettings,
 ) -> Result<Logged<KernelObject>, OutOfMemory>
-    requires { ObjectFits Two object.now }
+    requires { ObjectFits WRITTEN object.now }
     ensures opened { IfOk result (λ l. l ≡ opened_history object.now.params object.now.events (⟦<KernelObject as SeqObject>⟧.opening object.now.params)) }
     ensures stored { IfOk result (λ l. l.limit ≤ MOST_EVENTS) }
     ensures kept { IfOk result (λ l. IsKept ⟦<KernelObject as SeqObject>⟧ l) }

@@ -8,6 +8,7 @@ use Rattle.event_log.specs.Log.{calls_of}
 use Rattle.event_log.proofs.Beginnings.{begins_rest}
 use Rattle.sound_run.specs.declared.lock_kind.LockKind.{LockKind}
 use Rattle.word_rule.specs.declared.view.TraceStep.{TraceStep}
+use Rattle.word_rule.specs.Algorithms.{algorithm_of}
 use Rattle.word_rule.specs.Cell.{Caller, PassView, first_pass}
 use Rattle.guarded_cell.specs.Calls.{IsEnded, asked_by}
 use Rattle.guarded_cell.specs.Held.{EndedInOrder}
@@ -27,7 +28,7 @@ module _ {O P C R : Type 0} (meaning : Ghosts O P C R) where
       (subst (λ z. EndedInOrder meaning log p.caller run xs q.caller z ys) is_other e)))
 
   -- the events that the two have added
-  pub ended_count : (kind : LockKind) (before after : History O P C R) (xs ys : List C) → IsEnded meaning (first_pass kind 0 before 2 0) xs (first_pass kind 0 before 2 1) ys after
+  pub ended_count : (kind : LockKind) (before after : History O P C R) (xs ys : List C) → IsEnded meaning (first_pass (algorithm_of kind) 0 before 2 0) xs (first_pass (algorithm_of kind) 0 before 2 1) ys after
       → length after.log ≡ length before.log + (length xs + length ys)
   ended_count kind before after xs ys e =
       added_by_two (λ (x : Event O P C R). x.cpu) (λ (x : Event O P C R). calls_of x.steps.list.items) before.log (drop (length before.log) after.log) after.log xs ys
@@ -35,7 +36,7 @@ module _ {O P C R : Type 0} (meaning : Ghosts O P C R) where
 
   -- the same where they have done the first of their calls
   pub ended_count_first : (kind : LockKind) (before after : History O P C R) (xs ys : List C) (n m : ℕ) → n ≤ length xs → m ≤ length ys
-      → IsEnded meaning (first_pass kind 0 before 2 0) (take n xs) (first_pass kind 0 before 2 1) (take m ys) after → length after.log ≡ length before.log + (n + m)
+      → IsEnded meaning (first_pass (algorithm_of kind) 0 before 2 0) (take n xs) (first_pass (algorithm_of kind) 0 before 2 1) (take m ys) after → length after.log ≡ length before.log + (n + m)
   ended_count_first kind before after xs ys n m few less e =
       let total = ended_count kind before after (take n xs) (take m ys) e in
       let first = length-take-le n xs few in

@@ -2,6 +2,7 @@
 
 ghost use Rattle.std.specs.Prelude.{◌≡◌, ◌≤◌, ◌+◌, ◌*◌, ◌^◌, ◌-◌, IfSome, length, take};
 ghost use Rattle.event_log.specs.Log.{Begins};
+ghost use Rattle.word_rule.specs.Algorithms.{algorithm_of};
 ghost use Rattle.word_rule.specs.Cell.{first_pass};
 ghost use Rattle.guarded_cell.specs.Calls.{IsEnded};
 ghost use Rattle.forever.specs.Turns.{puts_and_takes};
@@ -26,8 +27,8 @@ pub fn called_further<R: Threads + Wait + Sync>(
     ensures goes_on { IfSome result (λ c. Begins queue.log c.queue.log) }
     ensures unkept { IfSome result (λ c. c.queue.limit ≡ 2 ^ 64 - 1) }
     ensures ended { IfSome result (λ c. IsEnded ⟦<ThreadQueue as SeqObject>⟧
-        (first_pass kind 0 (record queue { limit = 2 ^ 64 - 1 }) 2 0) (take c.first (puts_and_takes 0 count))
-        (first_pass kind 0 (record queue { limit = 2 ^ 64 - 1 }) 2 1) (take c.second (puts_and_takes 1 count)) c.queue) }
+        (first_pass (algorithm_of kind) 0 (record queue { limit = 2 ^ 64 - 1 }) 2 0) (take c.first (puts_and_takes 0 count))
+        (first_pass (algorithm_of kind) 0 (record queue { limit = 2 ^ 64 - 1 }) 2 1) (take c.second (puts_and_takes 1 count)) c.queue) }
     ensures counted { IfSome result (λ c. length c.queue.log ≡ length queue.log + (c.first + c.second)) }
 {
     let unkept = queue.into_unkept(alloc);

@@ -3,6 +3,7 @@
 ghost use Rattle.std.specs.Prelude.{◌≡◌, ◌≤◌, ◌+◌, ◌*◌, [], IfSome, length, take};
 ghost use Rattle.event_log.specs.History.{opened_history};
 ghost use Rattle.shared_queue.specs.State.{opening_state};
+ghost use Rattle.word_rule.specs.Algorithms.{algorithm_of};
 ghost use Rattle.word_rule.specs.Cell.{first_pass};
 ghost use Rattle.guarded_cell.specs.Calls.{IsEnded, asked_by};
 ghost use Rattle.guarded_cell.specs.Held.{EndedInOrder, holds_of};
@@ -46,13 +47,13 @@ pub fn called_by_two<R: Threads + Wait + Sync>(
     count: u32,
 ) -> Option<Called>
     ensures ended { IfSome result (λ c. IsEnded ⟦<ThreadQueue as SeqObject>⟧
-        (first_pass kind 0 queue 2 0) (take c.first (puts_and_takes 0 count))
-        (first_pass kind 0 queue 2 1) (take c.second (puts_and_takes 1 count)) c.queue) }
+        (first_pass (algorithm_of kind) 0 queue 2 0) (take c.first (puts_and_takes 0 count))
+        (first_pass (algorithm_of kind) 0 queue 2 1) (take c.second (puts_and_takes 1 count)) c.queue) }
     ensures room { length queue.log + 2 * count ≤ queue.limit → IfSome result (λ c. (c.first ≡ count) × (c.second ≡ count)) }
     ensures counted { IfSome result (λ c. length c.queue.log ≡ length queue.log + (c.first + c.second)) }
     ensures order_run { IfSome result (λ c. EndedInOrder ⟦<ThreadQueue as SeqObject>⟧ c.queue.log
-        (first_pass kind 0 queue 2 0).caller [] (holds_of (puts_and_takes 0 count) c.first)
-        (first_pass kind 0 queue 2 1).caller [] (holds_of (puts_and_takes 1 count) c.second)) }
+        (first_pass (algorithm_of kind) 0 queue 2 0).caller [] (holds_of (puts_and_takes 0 count) c.first)
+        (first_pass (algorithm_of kind) 0 queue 2 1).caller [] (holds_of (puts_and_takes 1 count) c.second)) }
 {
     let Ok((cell, mut passes)) = AnyCell::open(alloc, kind, queue, 2) else {
         return None;

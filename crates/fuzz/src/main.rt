@@ -29,6 +29,7 @@ use crate::outcome::{Counts, Outcome, fuzz};
 use crate::words::{Asked, USAGE, words_given};
 use event_log::Plain;
 use scripts::write_text;
+use std::io::Print;
 use std::process::ExitCode;
 
 /// The status of wrong words.
@@ -36,6 +37,19 @@ const BAD_WORDS: u8 = 2;
 
 /// The status where a text is read in two ways, or where something was refused to the program.
 const FAILED: u8 = 1;
+
+/// Prints how many texts were tried, and what they were.
+fn print_counts<R: Print>(rt: &R, count: u32, counts: Counts) -> Result<(), Fault> {
+    let Counts {
+        records,
+        scripts,
+        settings,
+        schedules,
+    } = counts;
+    println!(rt;
+        "{count} texts: {records} records, {scripts} scripts, {settings} settings, {schedules} schedules, 0 disagreements"
+    ).map_err(|_| Fault::WriteFailed)
+}
 
 fn main(rt: HostRuntime) -> ExitCode {
     let words = match words_given(&rt, rt.alloc()) {
@@ -50,18 +64,7 @@ fn main(rt: HostRuntime) -> ExitCode {
         return ExitCode::from(BAD_WORDS);
     };
     let printed = match fuzz(rt.alloc(), &asked) {
-        Ok(Outcome::Agreed(counts)) => {
-            let Counts {
-                records,
-                scripts,
-                settings,
-                schedules,
-            } = counts;
-            let count = asked.count;
-            println!(rt;
-                "{count} texts: {records} records, {scripts} scripts, {settings} settings, {schedules} schedules, 0 disagreements"
-            ).map_err(|_| Fault::WriteFailed)
-        }
+        Ok(Outcome::Agreed(counts)) => print_counts(&rt, asked.count, counts),
         Ok(
             Outcome::Disagreed {
                 number,

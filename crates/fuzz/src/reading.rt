@@ -4,10 +4,10 @@ ghost use Rattle.std.specs.Prelude.{◌≡◌, true};
 ghost use Rattle.fuzz.specs.Readings.{IsSame};
 
 use crate::fault::Fault;
-use event_log::Plain;
+use event_log::{OutOfMemory, Plain};
 use scripts::{
-    BadSettings, ReadFault, Record, RecordFault, RecordReadFault, ScheduleFault, ScriptsFault,
-    ScriptsReadFault, SettingsFault, write_record,
+    BadSettings, LinesFault, Record, ScheduleFault, SettingsFault, SourceFault, TextFault,
+    write_record,
 };
 use std::alloc::Global;
 
@@ -58,40 +58,21 @@ pub trait Refuses {
     fn refusal(self) -> Option<Refusal>;
 }
 
-impl Refuses for RecordFault {
+impl Refuses for LinesFault {
     fn refusal(self) -> Option<Refusal> {
         match self {
-            RecordFault::Line(number) => Some(Refusal::Line(number)),
-            RecordFault::OutOfMemory => None,
+            LinesFault::Line(number) => Some(Refusal::Line(number)),
+            LinesFault::OutOfMemory => None,
         }
     }
 }
 
-impl Refuses for RecordReadFault {
+impl Refuses for TextFault {
     fn refusal(self) -> Option<Refusal> {
         match self {
-            RecordReadFault::Line(number) => Some(Refusal::Line(number)),
-            RecordReadFault::ReadFailed => Some(Refusal::ReadFailed),
-            RecordReadFault::OutOfMemory => None,
-        }
-    }
-}
-
-impl Refuses for ScriptsFault {
-    fn refusal(self) -> Option<Refusal> {
-        match self {
-            ScriptsFault::Line(number) => Some(Refusal::Line(number)),
-            ScriptsFault::OutOfMemory => None,
-        }
-    }
-}
-
-impl Refuses for ScriptsReadFault {
-    fn refusal(self) -> Option<Refusal> {
-        match self {
-            ScriptsReadFault::Line(number) => Some(Refusal::Line(number)),
-            ScriptsReadFault::ReadFailed => Some(Refusal::ReadFailed),
-            ScriptsReadFault::OutOfMemory => None,
+            TextFault::BadLine(number) => Some(Refusal::Line(number)),
+            TextFault::ReadFailed => Some(Refusal::ReadFailed),
+            TextFault::OutOfMemory => None,
         }
     }
 }
@@ -105,11 +86,17 @@ impl Refuses for SettingsFault {
     }
 }
 
-impl Refuses for ReadFault {
+impl Refuses for OutOfMemory {
+    fn refusal(self) -> Option<Refusal> {
+        None
+    }
+}
+
+impl<F: Refuses> Refuses for SourceFault<F> {
     fn refusal(self) -> Option<Refusal> {
         match self {
-            ReadFault::ReadFailed => Some(Refusal::ReadFailed),
-            ReadFault::OutOfMemory => None,
+            SourceFault::ReadFailed => Some(Refusal::ReadFailed),
+            SourceFault::Told(fault) => fault.refusal(),
         }
     }
 }

@@ -52,7 +52,7 @@ impl<O: SeqObject> LockCell<O> for AnyCell<O> {
 
     #[inline]
     fn logged(hold: &Hold<O>) -> &Logged<O> {
-        &hold.logged
+        &hold.inside.logged
     }
 
     #[inline]
@@ -97,5 +97,5 @@ impl<O: SeqObject> LockCell<O> for AnyCell<O> {
 
     ghost pass_has_run = { λ _ pass _. pass.idle.ran };
 
-    ghost hold_has_run = { λ _ hold _. record { log = hold.seat.me.0.main.seen; ran = hold.holds.ran; added = hold.holds.added.begins } };
+    ghost hold_has_run = { λ _ hold _. record { log = hold.inside.outside.seat.me.0.main.seen; ran = hold.holds.ran; added = hold.holds.added.begins } };
 }

@@ -7,8 +7,8 @@ use Rattle.auditor.specs.declared.fault.Verdict.{Verdict}
 use Rattle.auditor.specs.declared.fault.Verdict.TheVariants.{Sound, Unsound}
 use Rattle.scripts.specs.RecordFaults.{IsWhole, NamesBadLine}
 use Rattle.scripts.specs.RecordRanges.{Record}
-use Rattle.scripts.specs.declared.record.fault.RecordFault.{RecordFault}
-use Rattle.scripts.specs.declared.record.fault.RecordFault.TheVariants.{OutOfMemory, Line}
+use Rattle.scripts.specs.declared.text.fault.LinesFault.{LinesFault}
+use Rattle.scripts.specs.declared.text.fault.LinesFault.TheVariants.{OutOfMemory, Line}
 use Rattle.judge.specs.declared.told.Told.{Told}
 
 -- a kind with its numbers
@@ -30,18 +30,18 @@ told_verdict Sound = told 0 0 0 0
 told_verdict (Unsound fault) = told_fault fault
 
 -- a verdict, or why there is none
-abbrev pub told_answer : Result Verdict RecordFault → Told
+abbrev pub told_answer : Result Verdict LinesFault → Told
 told_answer (Ok v) = told_verdict v
 told_answer (Err (Line n)) = told 8 n 0 0
 told_answer (Err OutOfMemory) = told 9 0 0 0
 
 -- the verdict on the record that the bytes spell, or the first line with which no record goes on
-abbrev pub IsVerdictOn : List ℕ → Result Verdict RecordFault → Type 0
+abbrev pub IsVerdictOn : List ℕ → Result Verdict LinesFault → Type 0
 IsVerdictOn bytes (Ok v) = (r : Record) × IsWhole bytes r × IsVerdict r v
 IsVerdictOn bytes (Err fault) = NamesBadLine bytes fault
 
 -- what is told is the verdict, or why there is none
 pub record IsVerdictTold (bytes : List ℕ) (t : Told) : Type 0 where
-  pub answer : Result Verdict RecordFault
+  pub answer : Result Verdict LinesFault
   pub right : IsVerdictOn bytes answer
   pub same : t ≡ told_answer answer

@@ -5,7 +5,7 @@ ghost use Rattle.judge.specs.Told.{IsVerdictTold};
 use crate::Told;
 use crate::told::{BAD_LINE, OUT_OF_MEMORY};
 use auditor::{RecordJudge, ReferenceKernelObject};
-use scripts::{RecordFault, read_text_keeping};
+use scripts::{LinesFault, read_text_keeping};
 use std::alloc::Global;
 
 /// What is told of the record that the bytes spell.
@@ -15,8 +15,8 @@ fn verdict_of(alloc: Global, text: &[u8]) -> Told
     let judge = RecordJudge::<ReferenceKernelObject>::new(alloc);
     match read_text_keeping(alloc, text, judge) {
         Ok(kept) => Told::of_verdict(kept.1.verdict()),
-        Err(RecordFault::OutOfMemory) => Told::new(OUT_OF_MEMORY, 0, 0, 0),
-        Err(RecordFault::Line(line)) => Told::new(BAD_LINE, line, 0, 0),
+        Err(LinesFault::OutOfMemory) => Told::new(OUT_OF_MEMORY, 0, 0, 0),
+        Err(LinesFault::Line(line)) => Told::new(BAD_LINE, line, 0, 0),
     }
 }
 

@@ -7,7 +7,7 @@ use crate::Told;
 use crate::told::{BAD_LINE, CYCLE, NO_ROOM, OUT_OF_MEMORY, SOUND};
 use auditor::ReferenceKernelObject;
 use log_merge::{MergeFault, MergeJudge, Place};
-use scripts::{RecordFault, read_text_keeping};
+use scripts::{LinesFault, read_text_keeping};
 use std::alloc::Global;
 
 /// An entry by its place: a CPU and the index of one of its entries, both from 0.
@@ -50,8 +50,8 @@ fn order_of(alloc: Global, text: &[u8], room: &mut [Turn]) -> Told
     let judge = MergeJudge::<ReferenceKernelObject>::new(alloc);
     let kept = match read_text_keeping(alloc, text, judge) {
         Ok(kept) => kept,
-        Err(RecordFault::OutOfMemory) => return Told::new(OUT_OF_MEMORY, 0, 0, 0),
-        Err(RecordFault::Line(line)) => return Told::new(BAD_LINE, line, 0, 0),
+        Err(LinesFault::OutOfMemory) => return Told::new(OUT_OF_MEMORY, 0, 0, 0),
+        Err(LinesFault::Line(line)) => return Told::new(BAD_LINE, line, 0, 0),
     };
     match kept.1.into_merged() {
         Ok(ordered) => tell_turns(SOUND, ordered.1.places.as_slice(), room),

@@ -7,7 +7,8 @@ use crate::Told;
 use crate::told::{BAD_LINE, MISTOLD, OUT_OF_MEMORY};
 use event_log::OutOfMemory;
 use own_judge::OwnJudge;
-use own_records::{OwnFault, read_own};
+use own_records::read_own;
+use scripts::LinesFault;
 use std::alloc::Global;
 
 /// The counts once more.
@@ -28,8 +29,8 @@ fn verdict_of(alloc: Global, text: &[u8], right: &[u64]) -> Told
     };
     let kept = match read_own(alloc, text, OwnJudge::new(alloc, counts)) {
         Ok(kept) => kept,
-        Err(OwnFault::OutOfMemory) => return Told::new(OUT_OF_MEMORY, 0, 0, 0),
-        Err(OwnFault::Line(line)) => return Told::new(BAD_LINE, line, 0, 0),
+        Err(LinesFault::OutOfMemory) => return Told::new(OUT_OF_MEMORY, 0, 0, 0),
+        Err(LinesFault::Line(line)) => return Told::new(BAD_LINE, line, 0, 0),
     };
     // No clause says that a keeper's own numbers stay while it is handed a record, so they are compared.
     if kept.1.right() != right {

@@ -7,7 +7,8 @@ use crate::own_audit::copied;
 use crate::told::{BAD_LINE, CYCLE, MISTOLD, OUT_OF_MEMORY, SOUND};
 use crate::{Told, Turn};
 use own_judge::{OwnMergeFault, OwnMergeJudge};
-use own_records::{OwnFault, read_own};
+use own_records::read_own;
+use scripts::LinesFault;
 use std::alloc::Global;
 
 /// What is told of the record that the bytes spell, if of each log so many steps are right.
@@ -19,8 +20,8 @@ fn order_of(alloc: Global, text: &[u8], right: &[u64], room: &mut [Turn]) -> Tol
     };
     let kept = match read_own(alloc, text, OwnMergeJudge::new(alloc, counts)) {
         Ok(kept) => kept,
-        Err(OwnFault::OutOfMemory) => return Told::new(OUT_OF_MEMORY, 0, 0, 0),
-        Err(OwnFault::Line(line)) => return Told::new(BAD_LINE, line, 0, 0),
+        Err(LinesFault::OutOfMemory) => return Told::new(OUT_OF_MEMORY, 0, 0, 0),
+        Err(LinesFault::Line(line)) => return Told::new(BAD_LINE, line, 0, 0),
     };
     // No clause says that a keeper's own numbers stay while it is handed a record, so they are compared.
     if kept.1.right() != right {

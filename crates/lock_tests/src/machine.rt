@@ -2,9 +2,8 @@
 
 use crate::machine::scene::{Left, Setting, Turn, leaves, open, plays, two_cpus};
 use shared_queue::{QueueCall as Call, QueueReply as Reply};
-use sound_run::LockKind;
 use std::test::Fail;
-use word_rule::StepDone;
+use word_rule::{LockAlgorithm, StepDone};
 
 mod memory;
 mod plain;
@@ -32,7 +31,7 @@ fn a_later_ticket_waits(rt: HostRuntime) -> Result<(), Fail> {
             &[(0, Call::Enq(4), Some(Reply::Ok), 3)],
         ],
     };
-    let mut scene = two_cpus(rt.alloc(), LockKind::Ticket)?;
+    let mut scene = two_cpus(rt.alloc(), LockAlgorithm::Ticket)?;
     plays(&rt, &mut scene, &turns)?;
     leaves(&rt, rt.alloc(), scene, &left)
 }
@@ -62,7 +61,7 @@ fn a_holder_waits_for_the_link(rt: HostRuntime) -> Result<(), Fail> {
             &[(0, Call::Enq(4), Some(Reply::Ok), 1)],
         ],
     };
-    let mut scene = two_cpus(rt.alloc(), LockKind::Mcs)?;
+    let mut scene = two_cpus(rt.alloc(), LockAlgorithm::Mcs)?;
     plays(&rt, &mut scene, &turns)?;
     leaves(&rt, rt.alloc(), scene, &left)
 }
@@ -90,15 +89,63 @@ fn a_follower_waits_for_the_pass(rt: HostRuntime) -> Result<(), Fail> {
             &[(0, Call::Enq(4), Some(Reply::Ok), 2)],
         ],
     };
-    let mut scene = two_cpus(rt.alloc(), LockKind::Mcs)?;
+    let mut scene = two_cpus(rt.alloc(), LockAlgorithm::Mcs)?;
     plays(&rt, &mut scene, &turns)?;
     leaves(&rt, rt.alloc(), scene, &left)
 }
 
+/// CPU 0 passes the object on, so its toggle is turned, and it comes again with that: the tail is 1 of CPU 0 with its toggle as it
+/// was, 3 of CPU 1, and 2 of CPU 0 with its toggle turned.
+#[test]
+fn a_pass_turns_the_toggle(rt: HostRuntime) -> Result<(), Fail> {
+    let setting = Setting {
+        locks: &[(LockAlgorithm::Toggle, 0)],
+        limit: 100,
+        scripts: &[
+            &[(0, Call::Enq(3)), (0, Call::Enq(5))],
+            &[(0, Call::Enq(4))],
+        ],
+    };
+    let turns: [Turn<'_>; 13] = [
+        (0, StepDone::Clear, &[&[0, 0, 0]]),
+        (0, StepDone::Enter(true), &[&[1, 0, 0]]),
+        (1, StepDone::Clear, &[&[1, 0, 0]]),
+        (1, StepDone::Enter(false), &[&[3, 0, 0]]),
+        (1, StepDone::Look(false), &[&[3, 0, 0]]),
+        (0, StepDone::Empty(false), &[&[3, 0, 0]]),
+        (1, StepDone::Look(false), &[&[3, 0, 0]]),
+        (0, StepDone::Pass, &[&[3, 1, 0]]),
+        (1, StepDone::Look(true), &[&[3, 1, 0]]),
+        (1, StepDone::Empty(true), &[&[0, 1, 0]]),
+        (0, StepDone::Clear, &[&[0, 1, 0]]),
+        (0, StepDone::Enter(true), &[&[2, 1, 0]]),
+        (0, StepDone::Empty(true), &[&[0, 1, 0]]),
+    ];
+    let mut scene = open(rt.alloc(), &setting)?;
+    plays(&rt, &mut scene, &turns)?;
+    leaves(&rt, rt.alloc(), scene, &PASSED_ON)
+}
+
+/// What that schedule leaves.
+const PASSED_ON: Left<'static> = Left {
+    logs: &[&[
+        (0, Call::Enq(3), Reply::Ok),
+        (1, Call::Enq(4), Reply::Ok),
+        (0, Call::Enq(5), Reply::Ok),
+    ]],
+    transcripts: &[
+        &[
+            (0, Call::Enq(3), Some(Reply::Ok), 0),
+            (0, Call::Enq(5), Some(Reply::Ok), 0),
+        ],
+        &[(0, Call::Enq(4), Some(Reply::Ok), 3)],
+    ],
+};
+
 #[test]
 fn both_kinds_beside_each_other(rt: HostRuntime) -> Result<(), Fail> {
     let setting = Setting {
-        locks: &[(LockKind::Ticket, 0), (LockKind::Mcs, 0)],
+        locks: &[(LockAlgorithm::Ticket, 0), (LockAlgorithm::Mcs, 0)],
         limit: 100,
         scripts: &[&[(0, Call::Enq(3)), (1, Call::Enq(4))]],
     };
@@ -129,7 +176,7 @@ fn both_kinds_beside_each_other(rt: HostRuntime) -> Result<(), Fail> {
 #[test]
 fn a_done_script_is_idle(rt: HostRuntime) -> Result<(), Fail> {
     let setting = Setting {
-        locks: &[(LockKind::Ticket, 0)],
+        locks: &[(LockAlgorithm::Ticket, 0)],
         limit: 100,
         scripts: &[&[(0, Call::Enq(3))], &[]],
     };
@@ -160,7 +207,7 @@ fn an_open_hold_leaves_nothing(rt: HostRuntime) -> Result<(), Fail> {
         logs: &[&[]],
         transcripts: &[&[], &[]],
     };
-    let mut scene = two_cpus(rt.alloc(), LockKind::Ticket)?;
+    let mut scene = two_cpus(rt.alloc(), LockAlgorithm::Ticket)?;
     plays(&rt, &mut scene, &turns)?;
     leaves(&rt, rt.alloc(), scene, &left)
 }
@@ -168,7 +215,7 @@ fn an_open_hold_leaves_nothing(rt: HostRuntime) -> Result<(), Fail> {
 #[test]
 fn after_the_greatest_ticket_comes_zero(rt: HostRuntime) -> Result<(), Fail> {
     let setting = Setting {
-        locks: &[(LockKind::Ticket, 4294967295)],
+        locks: &[(LockAlgorithm::Ticket, 4294967295)],
         limit: 100,
         scripts: &[&[(0, Call::Enq(3)), (0, Call::Deq)]],
     };
@@ -198,7 +245,7 @@ fn after_the_greatest_ticket_comes_zero(rt: HostRuntime) -> Result<(), Fail> {
 #[test]
 fn a_full_log_has_no_room(rt: HostRuntime) -> Result<(), Fail> {
     let setting = Setting {
-        locks: &[(LockKind::Ticket, 0)],
+        locks: &[(LockAlgorithm::Ticket, 0)],
         limit: 1,
         scripts: &[&[(0, Call::Enq(3)), (0, Call::Deq)]],
     };
@@ -231,7 +278,7 @@ fn a_run_is_its_steps(rt: HostRuntime) -> Result<(), Fail> {
             &[(0, Call::Enq(4), Some(Reply::Ok), 1)],
         ],
     };
-    let mut scene = two_cpus(rt.alloc(), LockKind::Ticket)?;
+    let mut scene = two_cpus(rt.alloc(), LockAlgorithm::Ticket)?;
     if scene.cpus != 2 {
         return Err(Fail::new("not two CPUs"));
     }

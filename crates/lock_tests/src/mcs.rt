@@ -6,17 +6,17 @@ ghost use Rattle.mcs_lock.specs.Passes.{IsPassOf, IsBehindOf, IsWaitingOf, IsHol
 ghost use Rattle.mcs_lock.specs.Passes.{view_of_behind, view_of_waiting, view_of_leaving};
 ghost use Rattle.word_rule.specs.Passes.{view_of_pass, view_of_hold};
 
-use event_log::{Event, Logged, NoRoom, Steps};
+use crate::interface::{ended, enq, in_turn};
+use event_log::Logged;
 use mcs_lock::{Behind, Entered, Hold, Leaving, McsCell, Pass, Waiting};
-use shared_queue::{QueueCall as Call, QueueReply as Reply, ThreadQueue};
+use shared_queue::ThreadQueue;
 use std::alloc::Global;
 use std::process::Abort;
-use std::sync::Wait;
 use std::test::Fail;
 use word_rule::LockCell;
 
 /// A cell of one CPU around the queue.
-fn cell_of_one(
+pub fn cell_of_one(
     alloc: Global,
     queue: Logged<ThreadQueue>,
 ) -> Result<(McsCell<ThreadQueue>, Pass<ThreadQueue>), Logged<ThreadQueue>>
@@ -32,44 +32,8 @@ fn cell_of_one(
     }
 }
 
-/// Does one call as a whole, and tells the reply and the number of looks.
-fn reply_to<R: Wait>(
-    rt: &R,
-    cell: &McsCell<ThreadQueue>,
-    pass: Pass<ThreadQueue>,
-    call: Call,
-) -> (Pass<ThreadQueue>, Option<Reply>, u64)
-    requires { IsPassOf cell.now pass }
-    ensures { IsPassOf cell.now result.0 }
-{
-    let (mut hold, looks) = cell.acquire(rt, pass);
-    let done = McsCell::apply(&mut hold, &[call]);
-    let pass = cell.release(rt, hold);
-    let reply = match done {
-        Ok(steps) => match steps.list.as_slice() {
-            [step] => Some(step.reply),
-            _ => None,
-        },
-        Err(NoRoom) => None,
-    };
-    (pass, reply, looks)
-}
-
-#[test]
-fn a_free_lock_takes_no_look(rt: HostRuntime) -> Result<(), Fail> {
-    let queue = Logged::<ThreadQueue>::open(rt.alloc(), 8, 100)?;
-    let Ok((cell, pass)) = cell_of_one(rt.alloc(), queue) else {
-        return Err(Fail::new("no memory"));
-    };
-    let (pass, reply, looks) = reply_to(&rt, &cell, pass, Call::Enq(3));
-    assert_eq!(rt; (reply, looks), (Some(Reply::Ok), 0));
-    let (_, reply, looks) = reply_to(&rt, &cell, pass, Call::Deq);
-    assert_eq!(rt; (reply, looks), (Some(Reply::Thread(3)), 0));
-    Ok(())
-}
-
 /// A cell of two CPUs around a queue of 8 threads.
-fn cell_of_two(
+pub fn cell_of_two(
     alloc: Global,
 ) -> Result<(McsCell<ThreadQueue>, Pass<ThreadQueue>, Pass<ThreadQueue>), Fail>
     ensures zero { IfOk result (λ r. IsPassOf r.0 r.1) }
@@ -131,22 +95,6 @@ fn seen(cell: &McsCell<ThreadQueue>, behind: Behind<ThreadQueue>) -> Waiting<Thr
 {
     let armed = cell.arm(behind);
     cell.link(armed)
-}
-
-/// Puts the thread into the queue.
-fn enq(
-    cell: &McsCell<ThreadQueue>,
-    hold: Hold<ThreadQueue>,
-    thread: u32,
-) -> (Hold<ThreadQueue>, Result<Steps<ThreadQueue>, NoRoom>)
-    requires { IsHoldOf cell.now hold }
-    ensures hold { IsHoldOf cell.now result.0 }
-    ensures caller { (view_of_hold result.0).caller ≡ (view_of_hold hold).caller }
-{
-    let _ = cell;
-    let mut hold = hold;
-    let done = McsCell::apply(&mut hold, &[Call::Enq(thread)]);
-    (hold, done)
 }
 
 /// Sees nobody behind it, isn't the last, and still sees nobody.
@@ -224,43 +172,6 @@ fn gets<R: Abort>(
     }
 }
 
-/// The queue with its log, once the two callers, who own every number, have met and become one.
-fn ended(
-    cell: McsCell<ThreadQueue>,
-    first: Pass<ThreadQueue>,
-    second: Pass<ThreadQueue>,
-) -> Logged<ThreadQueue>
-    requires first { IsPassOf cell first }
-    requires second { IsPassOf cell second }
-    requires all { OwnTogether (view_of_pass first).caller (view_of_pass second).caller }
-{
-    let (first, second) = cell.meet(first, second);
-    let pass = cell.join(first, second);
-    cell.close(pass)
-}
-
-/// The log of two events, the first of CPU 0.
-fn in_turn(
-    queue: &Logged<ThreadQueue>,
-    first: Result<Steps<ThreadQueue>, NoRoom>,
-    second: Result<Steps<ThreadQueue>, NoRoom>,
-) -> bool {
-    let (Ok(first), Ok(second)) = (first, second) else {
-        return false;
-    };
-    let wanted = [
-        Event {
-            cpu: 0,
-            steps: first,
-        },
-        Event {
-            cpu: 1,
-            steps: second,
-        },
-    ];
-    queue.log() == wanted.as_slice()
-}
-
 #[test]
 fn a_late_follower_gets_the_object(rt: HostRuntime) -> Result<(), Fail> {
     let (cell, zero, one) = cell_of_two(rt.alloc())?;
@@ -327,29 +238,6 @@ fn an_early_follower_is_seen(rt: HostRuntime) -> Result<(), Fail> {
     let hold = gets(&rt, &cell, waiting);
     let one = ends(&rt, &cell, hold);
     drop((zero, one));
-    Ok(())
-}
-
-/// To be run with each allocation refused in turn: the queue that comes back, or that comes out of a cell, is as it was.
-#[test]
-fn a_queue_goes_in_and_comes_out(rt: HostRuntime) -> Result<(), Fail> {
-    let mut queue = match Logged::<ThreadQueue>::open(rt.alloc(), 8, 100) {
-        Ok(queue) => queue,
-        Err(_) => Logged::<ThreadQueue>::open(rt.alloc(), 8, 100)?,
-    };
-    let steps = queue.apply(5, &[Call::Enq(3)])?;
-    let wanted = [Event { cpu: 5, steps }];
-    let mut queue = match cell_of_one(rt.alloc(), queue) {
-        Ok((cell, pass)) => cell.close(pass),
-        Err(queue) => queue,
-    };
-    assert_eq!(rt; (*queue.params(), queue.limit()), (8, 100));
-    assert!(rt; queue.log() == wanted.as_slice());
-    let steps = queue.apply(5, &[Call::Deq])?;
-    let [step] = steps.list.as_slice() else {
-        return Err(Fail::new("not one step"));
-    };
-    assert_eq!(rt; step.reply, Reply::Thread(3));
     Ok(())
 }
 

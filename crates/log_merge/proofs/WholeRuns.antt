@@ -6,7 +6,7 @@ use Rattle.std.proofs.lemmas.Option.{slice_get_within}
 use Rattle.sound_run.specs.Sound.{transcript_of}
 use Rattle.scripts.specs.declared.script.cpu_scripts.TheConstants.{MOST_ENTRIES}
 use Rattle.scripts.specs.KernelTypes.{KernelRun}
-use Rattle.scripts.specs.declared.record.form.Form.TheVariants.{Two}
+use Rattle.scripts.specs.declared.record.form.TheConstants.{WRITTEN}
 use Rattle.scripts.specs.RecordRanges.{EntryFits, LogFits, TranscriptFits, RunFits}
 use Rattle.scripts.specs.Settings.{Settings}
 use Rattle.sound_run.specs.declared.place.Place.{Place}
@@ -27,15 +27,15 @@ one_at Q (y ∷ xs) zero x all e = let same : y ≡ x = cc in subst Q same all.0
 one_at Q (y ∷ xs) (suc i) x all e = one_at Q xs i x all.1 e
 
 module _ (settings : Settings) (run : KernelRun) (fit : RunFits settings run) where
-  transcript : (cpu : ℕ) → TranscriptFits Two (length settings.objects) (transcript_of cpu run)
-  transcript cpu = list_at (TranscriptFits Two (length settings.objects)) run.transcripts cpu fit.transcripts (omega arith, tt)
+  transcript : (cpu : ℕ) → TranscriptFits WRITTEN (length settings.objects) (transcript_of cpu run)
+  transcript cpu = list_at (TranscriptFits WRITTEN (length settings.objects)) run.transcripts cpu fit.transcripts (omega arith, tt)
 
   pub whole_of_fits : IsWhole run
   whole_of_fits = record {
     entries = λ cpu. let few = (transcript cpu).0 in omega (arith, few);
-    events = λ x. let few = (list_at (LogFits Two settings.cpus) run.logs x fit.logs (omega arith, tt)).0 in omega (arith, few);
+    events = λ x. let few = (list_at (LogFits WRITTEN settings.cpus) run.logs x fit.logs (omega arith, tt)).0 in omega (arith, few);
     objects = λ cpu n e there.
-        let on = (one_at (EntryFits Two (length settings.objects)) (transcript_of cpu run) n e (transcript cpu).1 there).object in
+        let on = (one_at (EntryFits WRITTEN (length settings.objects)) (transcript_of cpu run) n e (transcript cpu).1 there).object in
         let logs = fit.log_count in
         omega (arith, on, logs);
   }

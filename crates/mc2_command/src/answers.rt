@@ -17,7 +17,7 @@ ghost use Rattle.mc2_command.specs.Refused.{IsCommon, IsNoOrder, RefusesMerge, R
 use crate::fault::Fault;
 use crate::input::settings_of;
 use auditor::{RecordJudge, ReferenceKernelObject, Verdict, fault_text, verdict_line};
-use cpu_worker::{AlwaysAllowed, OpenGate, report, run_owned, simulate};
+use cpu_worker::{AlwaysAllowed, OpenGate, report, run_owned, simulate_owned};
 use event_log::OutOfMemory;
 use log_merge::{MergeFault, MergeJudge, OrderedRecord, cycle_text};
 use program::{
@@ -63,7 +63,7 @@ pub fn sim_answer<I: Inputs>(
     let settings = read_settings(alloc, inputs, settings)?;
     let scripts = read_scripts(alloc, inputs, Some(scripts), &settings)?;
     let schedule = read_schedule(alloc, inputs, schedule, &settings)?;
-    match simulate(alloc, &settings, &scripts, &schedule) {
+    match simulate_owned(alloc, settings, scripts, &schedule) {
         Ok(record) => Ok(record),
         Err(OutOfMemory) => Err(Fault::Common(Refusal::OutOfMemory)),
     }

@@ -1,5 +1,5 @@
 -- What each step of the code asks of an MCS lock's rule, and what it leaves with a caller.
-use Rattle.std.proofs.Common.{◌≡◌, ℕ, ◌+◌, ◌<◌, ◌==◌, Bool, true, false, true≢false, List, [], ◌∷◌, ◌++◌, refl, sym, ap, ◌∙◌, subst, arith, Option, Some, None}
+use Rattle.std.proofs.Common.{◌≡◌, ℕ, ◌+◌, ◌==◌, Bool, true, false, List, [], ◌∷◌, ◌++◌, refl, sym, ◌∙◌, subst, arith, Option, Some, None}
 use mathlib.Core.Option.{none}
 use prog.Atomic.{either}
 use Rattle.atomic_table.specs.Table.{step, rest}
@@ -17,18 +17,16 @@ use Rattle.word_rule.specs.OneHold.{silently, Releases}
 use Rattle.word_rule.specs.StepKinds.{arrives, ends_hold, is_look}
 use Rattle.word_rule.specs.declared.lock_kind.Stage.TheVariants.{Idle, Mcs, Trying}
 use Rattle.word_rule.specs.declared.lock_kind.McsStage.TheVariants.{Ready, Behind, Armed, Waiting, Holding, Alone, Leaving, Passing}
-use Rattle.word_rule.specs.Cell.{Cell, HoldView, Grows, OwnsAll}
-use Rattle.sound_run.specs.declared.lock_kind.LockKind.{LockKind}
-use Rattle.sound_run.specs.declared.lock_kind.LockKind.TheVariants as kinds
+use Rattle.word_rule.specs.Cell.{Cell, HoldView, Grows}
+use Rattle.word_rule.specs.declared.lock_algorithm.LockAlgorithm.{LockAlgorithm}
+use Rattle.word_rule.specs.declared.lock_algorithm.LockAlgorithm.TheVariants as kinds
 use Rattle.word_rule.specs.Rule.Definition.{IsTurn, IsTry, IsPreparing}
-use Rattle.word_rule.specs.CallerState.{CallerState, IsOther, Moves}
+use Rattle.word_rule.specs.CallerState.{CallerState, Moves}
 use Rattle.word_rule.specs.Rule.CellInvariant.{Caller, EachFrom}
 use Rattle.word_rule.specs.Rule.Seats.{Seat, shown, at, moved_on, taken_in, keeping, letting}
-use Rattle.word_rule.specs.Rule.Announced.{IsElse, Lacks, Learns, Goes, Lags}
-use Rattle.word_rule.specs.Rule.Callers.{caller_of, hold_view_of, state_with, IsWithout, IsWith}
-use Rattle.word_rule.proofs.Lists.{grows_then}
+use Rattle.word_rule.specs.Rule.Announced.{IsElse, Learns, Goes}
+use Rattle.word_rule.specs.Rule.Callers.{hold_view_of, state_with, IsWithout, IsWith}
 use Rattle.word_rule.proofs.Known.{AllIdle, idle_alone}
-use Rattle.word_rule.proofs.Known.{value_of}
 use Rattle.word_rule.proofs.OneHolds.{HeldSince, since_more, count_append}
 use Rattle.mcs_lock.specs.Seen.{IsSeen}
 use Rattle.mcs_lock.specs.Steps.{clears, prepares, arms, links, Names, enters, tries, looks, sees, sees_again, empties, passes}
@@ -49,12 +47,12 @@ module _ {O P C R : Type 0} (meaning : Ghosts O P C R) (h : Cell O P C R) (kind 
 
   pub prepare_now : (m : Seat O P C R) → IsWithout meaning h cpu Idle m → IsPreparing meaning h.kind h slots id m (1 + cpu) (λ _. 0) (λ _. prepares meaning (step slots (1 + cpu) 0 0 none) m 0)
   prepare_now m w =
-      let Goal : LockKind × ℕ → Type 0 = λ z. IsPreparing meaning z.0 h slots id m (1 + z.1) (λ _. 0) (λ _. prepares meaning (step slots (1 + z.1) 0 0 none) m 0) in
+      let Goal : LockAlgorithm × ℕ → Type 0 = λ z. IsPreparing meaning z.0 h slots id m (1 + z.1) (λ _. 0) (λ _. prepares meaning (step slots (1 + z.1) 0 0 none) m 0) in
       subst Goal (λ i. (sym kind i, w.at.number i)) (preparing meaning h slots id m w.pass_view.caller.acts w.at.stands)
 
   pub try_now : (m : Seat O P C R) → IsWithout meaning h cpu Trying m → IsTry meaning h.kind h 0 slots id m 0 (λ k. either (k == 0) (cpu + 1) k) (tries meaning (step slots 0 0 (cpu + 1) none) m)
   try_now m w =
-      let Goal : LockKind × ℕ → Type 0 = λ z. IsTry meaning z.0 h 0 slots id m 0 (λ k. either (k == 0) (z.1 + 1) k) (tries meaning (step slots 0 0 (z.1 + 1) none) m) in
+      let Goal : LockAlgorithm × ℕ → Type 0 = λ z. IsTry meaning z.0 h 0 slots id m 0 (λ k. either (k == 0) (z.1 + 1) k) (tries meaning (step slots 0 0 (z.1 + 1) none) m) in
       subst Goal (λ i. (sym kind i, w.at.number i)) (trying meaning h slots id m w.pass_view.caller.acts w.at.stands (idle_alone m.0.others w.at.alone))
 
   pub arm_now : (n q : ℕ) (m : Seat O P C R) → h.numbers ≡ n → IsWithout meaning h cpu (Mcs (Behind q)) m → IsTurn meaning h.kind h slots id m (1 + n + cpu) (λ _. 1) (λ _. arms meaning (step slots (1 + n + cpu) 1 0 none) m 1)
@@ -97,20 +95,6 @@ module _ {O P C R : Type 0} (meaning : Ghosts O P C R) (h : Cell O P C R) (kind 
       (passing meaning h slots id (m.0, (0, Some x) ∷ rest m.1) w.hold_view.caller.acts x (rest m.1) one refl w.added w.hold_view.valid w.hold_view.replayed j w.at.stands))
 
 module _ {O P C R : Type 0} where
-  -- who owns every number owns the one that a word named
-  pub not_else : (h : Cell O P C R) (m : Seat O P C R) (j : ℕ) → m.0.told ≡ h ∷ [] → IsElse m.0 j → OwnsAll (caller_of h m.0) → ⊥
-  not_else h m j told other all = true≢false (sym (all.each j (other.inside h told)) ∙ other.other)
-
-  -- that is a CPU of the cell which isn't the caller's
-  pub is_other : (h : Cell O P C R) (m : Seat O P C R) (j : ℕ) → m.0.told ≡ h ∷ [] → IsElse m.0 j → IsOther (caller_of h m.0) j
-  is_other h m j told other = record { other = other.other; inside = other.inside h told }
-
-  pub else_below : (h : Cell O P C R) (n j : ℕ) (m : Seat O P C R) → h.numbers ≡ n → m.0.told ≡ h ∷ [] → IsElse m.0 j → j < n
-  else_below h n j m is told other = let below = other.inside h told in omega arith
-
-  pub else_now : (meaning : Ghosts O P C R) (q : Stage) (done : List StepDone) (m m' : Seat O P C R) (j : ℕ) → Goes meaning q done m m' → IsElse m.0 j → IsElse m'.0 j
-  else_now meaning q done m m' j g other = subst (λ (z : Seat O P C R). IsElse z.0 j) (sym g.seat) record { other = other.other; inside = other.inside }
-
   -- a joined seat has the first caller of the first
   pub else_of : (m w m1 : Seat O P C R) (j : ℕ) → m1 ≡ (taken_in m.0 w.0, m.1) → IsElse m1.0 j → IsElse m.0 j
   else_of m w m1 j e other = let both = subst (λ (z : Seat O P C R). IsElse z.0 j) e other in record { other = both.other; inside = both.inside }
@@ -146,43 +130,12 @@ module _ {O P C R : Type 0} where
   pub same_held : (meaning : Ghosts O P C R) (h k : Cell O P C R) (p q s t : Stage) (done : List StepDone) (x y : History O P C R) (m m' : Seat O P C R) → Moves meaning p q done (state_with h s x m) (state_with k t y m') → hold_view_of k y m'.0 ≡ hold_view_of h x m.0
   same_held meaning h k p q s t done x y m m' moved = λ i. record { caller = moved.caller i; history = history_in x (moved.has i) }
 
-  -- what a caller has seen grows step by step
-  pub grows_on : (before after : CallerState O P C R) (log : List (Event O P C R)) → after.caller ≡ before.caller → Grows before.caller.owned before.seen after.seen → Grows after.caller.owned after.seen log → Grows before.caller.owned before.seen log
-  grows_on before after log same one two = grows_then before.caller.owned before.seen after.seen log one (subst (λ k. Grows k.owned after.seen log) same two)
-
   -- the CPU that a word named, by the number that the code has
   pub named : (meaning : Ghosts O P C R) (at : ℕ → Stage) (done : List StepDone) (n k : ℕ) (m m' : Seat O P C R) → Names meaning at done m n m' → n ≡ k + 1 → Goes meaning (at k) done m m' × IsElse m.0 k
   named meaning at done n k m m' t is =
       let w = t.word in
       let same : t.cpu ≡ k = omega arith in
       (subst (λ (z : ℕ). Goes meaning (at z) done m m') same t.goes, subst (IsElse m.0) same t.other)
-
-module _ {O P C R : Type 0} (meaning : Ghosts O P C R) where
-  -- a caller acts as a number of the cell
-  pub below_without : (h : Cell O P C R) (n cpu : ℕ) (p : Stage) (m : Seat O P C R) → h.numbers ≡ n → IsWithout meaning h cpu p m → cpu < n
-  below_without h n cpu p m is w = let below = w.pass_view.caller.below m.0.main.cpu w.pass_view.caller.acts in let number = w.at.number in omega arith
-
-  pub below_with : (h : Cell O P C R) (n cpu : ℕ) (p : Stage) (x : History O P C R) (m : Seat O P C R) → h.numbers ≡ n → IsWith meaning h cpu p x m → cpu < n
-  below_with h n cpu p x m is w = let below = w.hold_view.caller.below m.0.main.cpu w.hold_view.caller.acts in let number = w.at.number in omega arith
-
-  -- the object was put into the slot, the step left it there, and it was taken out again
-  pub came_back : (q : Stage) (done : List StepDone) (m m1 m2 m3 : Seat O P C R) (x y : History O P C R) (r : Option (History O P C R)) → m.1 ≡ (0, None) ∷ [] → m1 ≡ (m.0, (0, Some x) ∷ rest m.1) → Lags meaning q done m1 m2
-      → m2.1 ≡ (0, r) ∷ rest m2.1 → m3 ≡ (m2.0, (0, None) ∷ rest m2.1) → r ≡ Some y → Lags meaning q done m m3 × (x ≡ y)
-  came_back q done m m1 m2 m3 x y r had filled went slot out is =
-      let g = went.goes in
-      let there : m2 ≡ (moved_on m.0 q g.log g.run, (0, Some x) ∷ []) = g.seat ∙ ((λ i. (moved_on (filled i).0 q g.log g.run, (filled i).1)) ∙ (λ i. (moved_on m.0 q g.log g.run, (0, Some x) ∷ rest (had i)))) in (
-        record {
-          goes = record {
-            log = g.log;
-            run = g.run;
-            seat = out ∙ ((λ i. ((there i).0, (0, None) ∷ rest (there i).1)) ∙ (λ i. (moved_on m.0 q g.log g.run, sym had i)));
-            learns = subst (λ (z : Seat O P C R). Learns meaning z.0 (silently z.0.main.cpu done) g.log g.run) filled g.learns;
-            still = subst (λ (z : Seat O P C R). holding z.0.main.stage ≡ true → g.log ≡ z.0.main.seen) filled g.still;
-          };
-          lacks = subst (λ (z : Seat O P C R). Lacks z.0) filled went.lacks;
-        },
-        ap (value_of x) (sym (ap (λ (z : Seat O P C R). z.1) there) ∙ (slot ∙ ap (λ (z : Option (History O P C R)). (0, z) ∷ rest m2.1) is)),
-      )
 
 module _ {O P C R : Type 0} (meaning : Ghosts O P C R) where
   -- a holder has looked for its follower once more

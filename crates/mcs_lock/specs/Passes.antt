@@ -7,7 +7,7 @@ use Rattle.word_rule.specs.declared.lock_kind.McsStage.TheVariants.{Ready, Behin
 use Rattle.word_rule.specs.Cell.{PassView, HoldView}
 use Rattle.word_rule.specs.CallerState.{CallerState}
 use Rattle.word_rule.specs.Passes.{IsPassAt, IsHoldAt}
-use Rattle.word_rule.specs.Rule.Callers.{IsAt, pass_view_of, hold_view_of, state_without, state_with}
+use Rattle.word_rule.specs.Sides.{IsOutsideAt, IsInsideAt, view_of_outside, view_of_inside, state_outside, state_inside}
 use Rattle.mcs_lock.specs.declared.cell.McsCell.{McsCell}
 use Rattle.word_rule.specs.declared.pass.Pass.{Pass}
 use Rattle.mcs_lock.specs.declared.states.Ready.{Ready as ReadyCaller}
@@ -29,69 +29,69 @@ module _ {O P C R : Type 0} {g : Ghosts O P C R} {call_eq : Eq C} {call_default 
   IsPassOf c p = IsPassAt c.table p
 
   abbrev pub IsReadyOf : McsCell O P C R → ReadyCaller O P C R g call_eq call_default reply_eq reply_default → Type 0
-  IsReadyOf c r = IsAt c.table.table.shared.table_id c.table.table.shared.key r.seat.table_id r.key.value
+  IsReadyOf c r = IsOutsideAt c.table r.outside
 
   abbrev pub IsTryingOf : McsCell O P C R → TryingCaller O P C R g call_eq call_default reply_eq reply_default → Type 0
-  IsTryingOf c t = IsAt c.table.table.shared.table_id c.table.table.shared.key t.seat.table_id t.key.value
+  IsTryingOf c t = IsOutsideAt c.table t.outside
 
   abbrev pub IsBehindOf : McsCell O P C R → BehindCaller O P C R g call_eq call_default reply_eq reply_default → Type 0
-  IsBehindOf c b = IsAt c.table.table.shared.table_id c.table.table.shared.key b.seat.table_id b.key.value
+  IsBehindOf c b = IsOutsideAt c.table b.outside
 
   abbrev pub IsArmedOf : McsCell O P C R → ArmedCaller O P C R g call_eq call_default reply_eq reply_default → Type 0
-  IsArmedOf c a = IsAt c.table.table.shared.table_id c.table.table.shared.key a.seat.table_id a.key.value
+  IsArmedOf c a = IsOutsideAt c.table a.outside
 
   abbrev pub IsWaitingOf : McsCell O P C R → WaitingCaller O P C R g call_eq call_default reply_eq reply_default → Type 0
-  IsWaitingOf c w = IsAt c.table.table.shared.table_id c.table.table.shared.key w.seat.table_id w.key.value
+  IsWaitingOf c w = IsOutsideAt c.table w.outside
 
   abbrev pub IsHoldOf : McsCell O P C R → Hold O P C R g call_eq call_default reply_eq reply_default → Type 0
   IsHoldOf c h = IsHoldAt c.table h
 
   abbrev pub IsAloneOf : McsCell O P C R → AloneCaller O P C R g call_eq call_default reply_eq reply_default → Type 0
-  IsAloneOf c a = IsAt c.table.table.shared.table_id c.table.table.shared.key a.seat.table_id a.key.value
+  IsAloneOf c a = IsInsideAt c.table a.inside
 
   abbrev pub IsLeavingOf : McsCell O P C R → LeavingCaller O P C R g call_eq call_default reply_eq reply_default → Type 0
-  IsLeavingOf c l = IsAt c.table.table.shared.table_id c.table.table.shared.key l.seat.table_id l.key.value
+  IsLeavingOf c l = IsInsideAt c.table l.inside
 
   abbrev pub IsPassingOf : McsCell O P C R → PassingCaller O P C R g call_eq call_default reply_eq reply_default → Type 0
-  IsPassingOf c p = IsAt c.table.table.shared.table_id c.table.table.shared.key p.seat.table_id p.key.value
+  IsPassingOf c p = IsInsideAt c.table p.inside
 
   -- what each knows: without the object, and with it
   abbrev pub view_of_behind : BehindCaller O P C R g call_eq call_default reply_eq reply_default → PassView O P C R
-  view_of_behind b = pass_view_of b.key.value b.seat.me.0
+  view_of_behind b = view_of_outside b.outside
 
   abbrev pub view_of_waiting : WaitingCaller O P C R g call_eq call_default reply_eq reply_default → PassView O P C R
-  view_of_waiting w = pass_view_of w.key.value w.seat.me.0
+  view_of_waiting w = view_of_outside w.outside
 
   abbrev pub view_of_leaving : LeavingCaller O P C R g call_eq call_default reply_eq reply_default → HoldView O P C R
-  view_of_leaving l = hold_view_of l.key.value l.logged l.seat.me.0
+  view_of_leaving l = view_of_inside l.inside
 
   abbrev pub view_of_passing : PassingCaller O P C R g call_eq call_default reply_eq reply_default → HoldView O P C R
-  view_of_passing p = hold_view_of p.key.value p.logged p.seat.me.0
+  view_of_passing p = view_of_inside p.inside
 
   -- where each stands
   abbrev pub state_of_ready : ReadyCaller O P C R g call_eq call_default reply_eq reply_default → CallerState O P C R
-  state_of_ready r = state_without r.key.value (Mcs Ready) r.seat.me
+  state_of_ready r = state_outside (Mcs Ready) r.outside
 
   abbrev pub state_of_trying : TryingCaller O P C R g call_eq call_default reply_eq reply_default → CallerState O P C R
-  state_of_trying t = state_without t.key.value Trying t.seat.me
+  state_of_trying t = state_outside Trying t.outside
 
   abbrev pub state_of_behind : BehindCaller O P C R g call_eq call_default reply_eq reply_default → CallerState O P C R
-  state_of_behind b = state_without b.key.value (Mcs (Behind b.ahead)) b.seat.me
+  state_of_behind b = state_outside (Mcs (Behind b.ahead)) b.outside
 
   abbrev pub state_of_armed : ArmedCaller O P C R g call_eq call_default reply_eq reply_default → CallerState O P C R
-  state_of_armed a = state_without a.key.value (Mcs (Armed a.ahead)) a.seat.me
+  state_of_armed a = state_outside (Mcs (Armed a.ahead)) a.outside
 
   abbrev pub state_of_waiting : WaitingCaller O P C R g call_eq call_default reply_eq reply_default → CallerState O P C R
-  state_of_waiting w = state_without w.key.value (Mcs Waiting) w.seat.me
+  state_of_waiting w = state_outside (Mcs Waiting) w.outside
 
   abbrev pub state_of_alone : AloneCaller O P C R g call_eq call_default reply_eq reply_default → CallerState O P C R
-  state_of_alone a = state_with a.key.value (Mcs Alone) a.logged a.seat.me
+  state_of_alone a = state_inside (Mcs Alone) a.inside
 
   abbrev pub state_of_leaving : LeavingCaller O P C R g call_eq call_default reply_eq reply_default → CallerState O P C R
-  state_of_leaving l = state_with l.key.value (Mcs Leaving) l.logged l.seat.me
+  state_of_leaving l = state_inside (Mcs Leaving) l.inside
 
   abbrev pub state_of_passing : PassingCaller O P C R g call_eq call_default reply_eq reply_default → CallerState O P C R
-  state_of_passing p = state_with p.key.value (Mcs (Passing p.follower)) p.logged p.seat.me
+  state_of_passing p = state_inside (Mcs (Passing p.follower)) p.inside
 
   -- this holds of what a caller that has entered is
   abbrev pub IfHold : Entered O P C R g call_eq call_default reply_eq reply_default → (Hold O P C R g call_eq call_default reply_eq reply_default → Type 0) → Type 0

@@ -4,6 +4,7 @@ ghost use Rattle.mcs_lock.specs.Passes.{IsPassOf, IsHoldOf};
 ghost use Rattle.word_rule.specs.Passes.{view_of_pass, view_of_hold, run_of_pass, run_of_hold};
 
 use crate::cell::McsCell;
+use crate::states::Entered;
 use event_log::{Logged, NoRoom, SeqObject, Steps};
 use std::sync::Wait;
 use word_rule::{Hold, LockCell, Pass};
@@ -25,13 +26,21 @@ impl<O: SeqObject> LockCell<O> for McsCell<O> {
 
     ghost hold_run = { run_of_hold };
 
+    /// Enters, and where another is before it looks until it gets the object.
     #[inline]
     fn acquire<R: Wait>(&self, rt: &R, pass: Pass<O>) -> (Hold<O>, u64) {
-        self.wait(rt, pass)
+        self.resting.stay_outside(rt);
+        let ready = self.clear(pass);
+        match self.enter(ready) {
+            Entered::Hold(hold) => (hold, 0),
+            Entered::Behind(behind) => self.wait_behind(rt, behind),
+        }
     }
 
+    /// Clears its `next`, and tries: one store and one compare-and-exchange.
     fn try_acquire(&self, pass: Pass<O>) -> Result<Hold<O>, Pass<O>> {
-        self.attempt(pass)
+        let trying = self.prepare(pass);
+        self.try_enter(trying)
     }
 
     #[inline]
@@ -46,12 +55,23 @@ impl<O: SeqObject> LockCell<O> for McsCell<O> {
 
     #[inline]
     fn logged(hold: &Hold<O>) -> &Logged<O> {
-        &hold.logged
+        &hold.inside.logged
     }
 
+    /// Gives the object back: to the one behind it, or, where nobody is, with the tail empty.
     #[inline]
     fn release<R: Wait>(&self, rt: &R, hold: Hold<O>) -> Pass<O> {
-        self.leave(rt, hold)
+        let alone = match self.see(hold) {
+            Ok(passing) => return self.pass_on(passing),
+            Err(alone) => alone,
+        };
+        match self.empty(alone) {
+            Ok(pass) => pass,
+            Err(leaving) => {
+                let passing = self.wait_follower(rt, leaving);
+                self.pass_on(passing)
+            }
+        }
     }
 
     fn meet(&self, first: Pass<O>, second: Pass<O>) -> (Pass<O>, Pass<O>) {
@@ -76,5 +96,5 @@ impl<O: SeqObject> LockCell<O> for McsCell<O> {
 
     ghost pass_has_run = { λ _ pass _. pass.idle.ran };
 
-    ghost hold_has_run = { λ _ hold _. record { log = hold.seat.me.0.main.seen; ran = hold.holds.ran; added = hold.holds.added.begins } };
+    ghost hold_has_run = { λ _ hold _. record { log = hold.inside.outside.seat.me.0.main.seen; ran = hold.holds.ran; added = hold.holds.added.begins } };
 }

@@ -9,7 +9,7 @@ use crate::cell::McsCell;
 use crate::rule::{Arm, Clear, Empty, Enter, Link, Look, PassOn, See, SeeAgain};
 use crate::states::{Alone, Armed, Behind, Entered, Leaving, Passing, Ready, Waiting};
 use event_log::SeqObject;
-use word_rule::{Hold, Pass, locked_index, next_index};
+use word_rule::{Hold, Inside, Pass, locked_index, next_index};
 
 impl<O: SeqObject> McsCell<O> {
     /// Clears its `next`: one store.
@@ -18,10 +18,10 @@ impl<O: SeqObject> McsCell<O> {
         ensures ready { IsReadyOf self.now result }
         ensures step { IsClear O.SeqObject (state_of_pass pass) (state_of_ready result) }
     {
-        let Pass { cpu, key, mut seat } = pass;
+        let mut outside = pass.outside;
         self.table
-            .store::<Clear>(&mut seat, next_index(cpu.number), 0);
-        Ready { cpu, key, seat }
+            .store::<Clear>(&mut outside.seat, next_index(outside.cpu.number), 0);
+        Ready { outside }
     }
 
     /// Puts itself into the tail: one swap. The object comes where nobody was there; a caller that owns every number of
@@ -31,28 +31,21 @@ impl<O: SeqObject> McsCell<O> {
         ensures got { IfHold result (λ h. IsHoldOf self.now h × IsEnter O.SeqObject (state_of_ready ready) (state_of_hold h) true) }
         ensures queued { IfBehind result (λ b. IsBehindOf self.now b × IsEnter O.SeqObject (state_of_ready ready) (state_of_behind b) false) }
     {
-        let Ready { cpu, key, mut seat } = ready;
+        let Ready { mut outside } = ready;
         let found = self
             .table
-            .swap::<Enter>(&mut seat, 0, cpu.number as u64 + 1);
+            .swap::<Enter>(&mut outside.seat, 0, outside.cpu.number as u64 + 1);
         if found == 0 {
-            let (logged, loan) = self.table.take(&mut seat);
-            Entered::Hold(Hold {
-                cpu,
-                ticket: 0,
+            let (logged, loan) = self.table.take(&mut outside.seat);
+            let inside = Inside {
+                outside,
                 logged,
                 loan,
-                key,
-                seat,
-            })
+            };
+            Entered::Hold(Hold { inside, mark: 0 })
         } else {
             let ahead = (found - 1) as u8;
-            Entered::Behind(Behind {
-                cpu,
-                ahead,
-                key,
-                seat,
-            })
+            Entered::Behind(Behind { outside, ahead })
         }
     }
 
@@ -62,20 +55,10 @@ impl<O: SeqObject> McsCell<O> {
         ensures armed { IsArmedOf self.now result }
         ensures step { IsArm O.SeqObject (state_of_behind behind) (state_of_armed result) }
     {
-        let Behind {
-            cpu,
-            ahead,
-            key,
-            mut seat,
-        } = behind;
-        self.table
-            .store::<Arm>(&mut seat, locked_index(self.cpus, cpu.number), 1);
-        Armed {
-            cpu,
-            ahead,
-            key,
-            seat,
-        }
+        let Behind { mut outside, ahead } = behind;
+        let locked = locked_index(self.cpus, outside.cpu.number);
+        self.table.store::<Arm>(&mut outside.seat, locked, 1);
+        Armed { outside, ahead }
     }
 
     /// Names itself in the `next` of the one before it: one store.
@@ -84,15 +67,11 @@ impl<O: SeqObject> McsCell<O> {
         ensures waiting { IsWaitingOf self.now result }
         ensures step { IsLink O.SeqObject (state_of_armed armed) (state_of_waiting result) }
     {
-        let Armed {
-            cpu,
-            ahead,
-            key,
-            mut seat,
-        } = armed;
+        let Armed { mut outside, ahead } = armed;
+        let next = next_index(ahead);
         self.table
-            .store::<Link>(&mut seat, next_index(ahead), cpu.number as u64 + 1);
-        Waiting { cpu, key, seat }
+            .store::<Link>(&mut outside.seat, next, outside.cpu.number as u64 + 1);
+        Waiting { outside }
     }
 
     /// Looks whether its `locked` is clear: one load. The object comes where it is.
@@ -101,22 +80,19 @@ impl<O: SeqObject> McsCell<O> {
         ensures got { IfOk result (λ h. IsHoldOf self.now h × IsWaitingLook O.SeqObject (state_of_waiting waiting) (state_of_hold h) true) }
         ensures missed { IfErr result (λ w. IsWaitingOf self.now w × IsWaitingLook O.SeqObject (state_of_waiting waiting) (state_of_waiting w) false) }
     {
-        let Waiting { cpu, key, mut seat } = waiting;
-        let found = self
-            .table
-            .load::<Look>(&mut seat, locked_index(self.cpus, cpu.number));
+        let Waiting { mut outside } = waiting;
+        let locked = locked_index(self.cpus, outside.cpu.number);
+        let found = self.table.load::<Look>(&mut outside.seat, locked);
         if found == 0 {
-            let (logged, loan) = self.table.take(&mut seat);
-            Ok(Hold {
-                cpu,
-                ticket: 0,
+            let (logged, loan) = self.table.take(&mut outside.seat);
+            let inside = Inside {
+                outside,
                 logged,
                 loan,
-                key,
-                seat,
-            })
+            };
+            Ok(Hold { inside, mark: 0 })
         } else {
-            Err(Waiting { cpu, key, seat })
+            Err(Waiting { outside })
         }
     }
 
@@ -126,33 +102,15 @@ impl<O: SeqObject> McsCell<O> {
         ensures found { IfOk result (λ p. IsPassingOf self.now p × IsSee O.SeqObject (state_of_hold hold) (state_of_passing p) true) }
         ensures none { IfErr result (λ a. IsAloneOf self.now a × IsSee O.SeqObject (state_of_hold hold) (state_of_alone a) false) }
     {
-        let Hold {
-            cpu,
-            ticket: _,
-            logged,
-            loan,
-            key,
-            mut seat,
-        } = hold;
-        let found = self.table.load::<See>(&mut seat, next_index(cpu.number));
+        let Hold { inside, mark: _ } = hold;
+        let mut inside = inside;
+        let next = next_index(inside.outside.cpu.number);
+        let found = self.table.load::<See>(&mut inside.outside.seat, next);
         if found == 0 {
-            Err(Alone {
-                cpu,
-                logged,
-                loan,
-                key,
-                seat,
-            })
+            Err(Alone { inside })
         } else {
             let follower = (found - 1) as u8;
-            Ok(Passing {
-                cpu,
-                follower,
-                logged,
-                loan,
-                key,
-                seat,
-            })
+            Ok(Passing { inside, follower })
         }
     }
 
@@ -163,27 +121,27 @@ impl<O: SeqObject> McsCell<O> {
         ensures home { IfOk result (λ p. IsPassOf self.now p × IsEmpty O.SeqObject (state_of_alone alone) (state_of_pass p) true) }
         ensures missed { IfErr result (λ l. IsLeavingOf self.now l × IsEmpty O.SeqObject (state_of_alone alone) (state_of_leaving l) false) }
     {
-        let Alone {
-            cpu,
+        let Alone { inside } = alone;
+        let Inside {
+            mut outside,
             logged,
             loan,
-            key,
-            mut seat,
-        } = alone;
-        self.table.put_back(&mut seat, logged, loan);
-        let last = cpu.number as u64 + 1;
-        let found = self.table.compare_exchange::<Empty>(&mut seat, 0, last, 0);
+        } = inside;
+        self.table.put_back(&mut outside.seat, logged, loan);
+        let last = outside.cpu.number as u64 + 1;
+        let found = self
+            .table
+            .compare_exchange::<Empty>(&mut outside.seat, 0, last, 0);
         if found == last {
-            Ok(Pass { cpu, key, seat })
+            Ok(Pass { outside })
         } else {
-            let (logged, loan) = self.table.take(&mut seat);
-            Err(Leaving {
-                cpu,
+            let (logged, loan) = self.table.take(&mut outside.seat);
+            let inside = Inside {
+                outside,
                 logged,
                 loan,
-                key,
-                seat,
-            })
+            };
+            Err(Leaving { inside })
         }
     }
 
@@ -193,34 +151,14 @@ impl<O: SeqObject> McsCell<O> {
         ensures found { IfOk result (λ p. IsPassingOf self.now p × IsSeeAgain O.SeqObject (state_of_leaving leaving) (state_of_passing p) true) }
         ensures missed { IfErr result (λ l. IsLeavingOf self.now l × IsSeeAgain O.SeqObject (state_of_leaving leaving) (state_of_leaving l) false) }
     {
-        let Leaving {
-            cpu,
-            logged,
-            loan,
-            key,
-            mut seat,
-        } = leaving;
-        let found = self
-            .table
-            .load::<SeeAgain>(&mut seat, next_index(cpu.number));
+        let Leaving { mut inside } = leaving;
+        let next = next_index(inside.outside.cpu.number);
+        let found = self.table.load::<SeeAgain>(&mut inside.outside.seat, next);
         if found == 0 {
-            Err(Leaving {
-                cpu,
-                logged,
-                loan,
-                key,
-                seat,
-            })
+            Err(Leaving { inside })
         } else {
             let follower = (found - 1) as u8;
-            Ok(Passing {
-                cpu,
-                follower,
-                logged,
-                loan,
-                key,
-                seat,
-            })
+            Ok(Passing { inside, follower })
         }
     }
 
@@ -231,17 +169,15 @@ impl<O: SeqObject> McsCell<O> {
         ensures pass { IsPassOf self.now result }
         ensures step { IsPass O.SeqObject (state_of_passing passing) (state_of_pass result) }
     {
-        let Passing {
-            cpu,
-            follower,
+        let Passing { inside, follower } = passing;
+        let Inside {
+            mut outside,
             logged,
             loan,
-            key,
-            mut seat,
-        } = passing;
-        self.table.put_back(&mut seat, logged, loan);
-        self.table
-            .store::<PassOn>(&mut seat, locked_index(self.cpus, follower), 0);
-        Pass { cpu, key, seat }
+        } = inside;
+        self.table.put_back(&mut outside.seat, logged, loan);
+        let locked = locked_index(self.cpus, follower);
+        self.table.store::<PassOn>(&mut outside.seat, locked, 0);
+        Pass { outside }
     }
 }

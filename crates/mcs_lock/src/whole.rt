@@ -3,42 +3,24 @@
 ghost use Rattle.std.specs.Prelude.{◌≡◌, true, []};
 ghost use Rattle.word_rule.specs.Cell.{Grows, OwnTogether};
 ghost use Rattle.word_rule.specs.LockRuns.{Extends};
-ghost use Rattle.word_rule.specs.Mcs.Steps.{IsWaitingLook, IsPass, IsSeeAgain};
-ghost use Rattle.word_rule.specs.OneHold.{HasAcquired, HasReleased};
+ghost use Rattle.word_rule.specs.Mcs.Steps.{IsWaitingLook, IsSeeAgain};
 ghost use Rattle.word_rule.specs.Queued.{IsQueued};
 ghost use Rattle.mcs_lock.specs.Seen.{IsSeen};
 ghost use Rattle.mcs_lock.specs.Passes.{IsPassOf, IsBehindOf, IsWaitingOf, IsHoldOf, IsLeavingOf, IsPassingOf, view_of_behind, view_of_waiting, view_of_leaving, view_of_passing, state_of_behind, state_of_waiting, state_of_leaving, state_of_passing};
-ghost use Rattle.word_rule.specs.Passes.{view_of_pass, view_of_hold, run_of_pass, run_of_hold, state_of_pass, state_of_hold};
+ghost use Rattle.word_rule.specs.Passes.{view_of_pass, view_of_hold, run_of_pass, run_of_hold, state_of_hold};
 
 use crate::cell::McsCell;
 use crate::rule::{Look, SeeAgain};
-use crate::states::{Behind, Entered, Leaving, Passing, Waiting};
+use crate::states::{Behind, Leaving, Passing, Waiting};
 use crossbeam_utils::Backoff;
 use event_log::SeqObject;
 use std::sync::Wait;
-use word_rule::{Hold, Pass, locked_index, next_index};
+use word_rule::{Hold, Inside, Pass, locked_index, next_index};
 
 impl<O: SeqObject> McsCell<O> {
-    /// Enters, and where another is before it looks until it gets the object. The number is that of the looks.
-    #[inline]
-    pub(crate) fn wait<R: Wait>(&self, rt: &R, pass: Pass<O>) -> (Hold<O>, u64)
-        requires { IsPassOf self.now pass }
-        ensures hold { IsHoldOf self.now result.0 }
-        ensures caller { (view_of_hold result.0).caller ≡ (view_of_pass pass).caller }
-        ensures grows { Grows (view_of_pass pass).caller.owned (view_of_pass pass).seen (view_of_hold result.0).history.log }
-        ensures run { HasAcquired (view_of_pass pass).caller (run_of_pass pass) result.1 (view_of_hold result.0).history.log (run_of_hold result.0) }
-    {
-        self.resting.stay_outside(rt);
-        let ready = self.clear(pass);
-        match self.enter(ready) {
-            Entered::Hold(hold) => (hold, 0),
-            Entered::Behind(behind) => self.wait_behind(rt, behind),
-        }
-    }
-
     // Lets itself be seen by the one before it, and looks until it gets the object, with a pause between two looks.
     #[inline(never)]
-    fn wait_behind<R: Wait>(&self, rt: &R, behind: Behind<O>) -> (Hold<O>, u64)
+    pub(crate) fn wait_behind<R: Wait>(&self, rt: &R, behind: Behind<O>) -> (Hold<O>, u64)
         requires { IsBehindOf self.now behind }
         ensures hold { IsHoldOf self.now result.0 }
         ensures caller { (view_of_hold result.0).caller ≡ (view_of_behind behind).caller }
@@ -63,31 +45,9 @@ impl<O: SeqObject> McsCell<O> {
         unreachable!()
     }
 
-    /// Gives the object back: to the one behind it, or, where nobody is, with the tail empty.
-    #[inline]
-    pub(crate) fn leave<R: Wait>(&self, rt: &R, hold: Hold<O>) -> Pass<O>
-        requires { IsHoldOf self.now hold }
-        ensures pass { IsPassOf self.now result }
-        ensures caller { (view_of_pass result).caller ≡ (view_of_hold hold).caller }
-        ensures seen { (view_of_pass result).seen ≡ (view_of_hold hold).history.log }
-        ensures run { HasReleased (view_of_hold hold) (run_of_hold hold) (run_of_pass result) }
-    {
-        let alone = match self.see(hold) {
-            Ok(passing) => return self.pass_on(passing),
-            Err(alone) => alone,
-        };
-        match self.empty(alone) {
-            Ok(pass) => pass,
-            Err(leaving) => {
-                let passing = self.wait_follower(rt, leaving);
-                self.pass_on(passing)
-            }
-        }
-    }
-
     // Looks who is behind it until it sees one, with a pause between two looks.
     #[inline(never)]
-    fn wait_follower<R: Wait>(&self, rt: &R, leaving: Leaving<O>) -> Passing<O>
+    pub(crate) fn wait_follower<R: Wait>(&self, rt: &R, leaving: Leaving<O>) -> Passing<O>
         requires { IsLeavingOf self.now leaving }
         ensures passing { IsPassingOf self.now result }
         ensures held { view_of_passing result ≡ view_of_leaving leaving }
@@ -120,34 +80,20 @@ impl<O: SeqObject> McsCell<O> {
         ensures one_run { run_of_pass result.1 ≡ run_of_hold result.0 }
         ensures run { Extends (view_of_pass pass).caller.owned (run_of_pass pass) [] (run_of_pass result.1) }
     {
-        let Waiting { cpu, key, mut seat } = waiting;
-        let Pass {
-            cpu: other,
-            key: told,
-            seat: theirs,
-        } = pass;
-        self.table.join_seat(&mut seat, theirs);
-        let found = self
-            .table
-            .load::<Look>(&mut seat, locked_index(self.cpus, cpu.number));
+        let Waiting { mut outside } = waiting;
+        let mut other = pass.outside;
+        self.table.join_seat(&mut outside.seat, other.seat);
+        let locked = locked_index(self.cpus, outside.cpu.number);
+        let found = self.table.load::<Look>(&mut outside.seat, locked);
         prove!(found == 0);
-        let (logged, loan) = self.table.take(&mut seat);
-        let theirs = self.table.split_seat(&mut seat);
-        (
-            Hold {
-                cpu,
-                ticket: 0,
-                logged,
-                loan,
-                key,
-                seat,
-            },
-            Pass {
-                cpu: other,
-                key: told,
-                seat: theirs,
-            },
-        )
+        let (logged, loan) = self.table.take(&mut outside.seat);
+        other.seat = self.table.split_seat(&mut outside.seat);
+        let inside = Inside {
+            outside,
+            logged,
+            loan,
+        };
+        (Hold { inside, mark: 0 }, Pass { outside: other })
     }
 
     /// One look by a holder, that isn't the last, for who is behind it, where it owns every number of the cell together
@@ -162,39 +108,14 @@ impl<O: SeqObject> McsCell<O> {
         ensures waiting { IsWaitingOf self.now result.1 }
         ensures waits { state_of_waiting result.1 ≡ state_of_waiting waiting }
     {
-        let Leaving {
-            cpu,
-            logged,
-            loan,
-            key,
-            mut seat,
-        } = leaving;
-        let Waiting {
-            cpu: other,
-            key: told,
-            seat: theirs,
-        } = waiting;
-        self.table.join_seat(&mut seat, theirs);
-        let found = self
-            .table
-            .load::<SeeAgain>(&mut seat, next_index(cpu.number));
+        let Leaving { mut inside } = leaving;
+        let Waiting { outside: mut other } = waiting;
+        self.table.join_seat(&mut inside.outside.seat, other.seat);
+        let next = next_index(inside.outside.cpu.number);
+        let found = self.table.load::<SeeAgain>(&mut inside.outside.seat, next);
         prove!(found != 0);
         let follower = (found - 1) as u8;
-        let theirs = self.table.split_seat(&mut seat);
-        (
-            Passing {
-                cpu,
-                follower,
-                logged,
-                loan,
-                key,
-                seat,
-            },
-            Waiting {
-                cpu: other,
-                key: told,
-                seat: theirs,
-            },
-        )
+        other.seat = self.table.split_seat(&mut inside.outside.seat);
+        (Passing { inside, follower }, Waiting { outside: other })
     }
 }

@@ -2,8 +2,8 @@
 use Rattle.std.specs.Prelude.{ℕ, ◌≡◌, ◌<◌, List, Result, Ok, Err}
 use Rattle.own_object.specs.Ranges.{OwnRecord, OwnRecordFits}
 use Rattle.scripts.specs.RecordFaults.{first_lines}
-use Rattle.own_records.specs.declared.fault.OwnFault.{OwnFault}
-use Rattle.own_records.specs.declared.fault.OwnFault.TheVariants.{OutOfMemory, Line}
+use Rattle.scripts.specs.declared.text.fault.LinesFault.{LinesFault}
+use Rattle.scripts.specs.declared.text.fault.LinesFault.TheVariants.{OutOfMemory, Line}
 use Rattle.own_records.specs.RecordText.{own_text}
 
 -- the bytes are the text of the record, which is within all limits
@@ -23,12 +23,12 @@ pub record IsBadOwnLine (bytes : List ℕ) (n : ℕ) : Type 0 where
   pub before : (k : ℕ) → k < n → AgreesOwn k bytes
 
 -- the line that is named is the first bad one
-abbrev pub NamesBadOwnLine : List ℕ → OwnFault → Type 0
+abbrev pub NamesBadOwnLine : List ℕ → LinesFault → Type 0
 NamesBadOwnLine bytes OutOfMemory = Unit {0}
 NamesBadOwnLine bytes (Line n) = IsBadOwnLine bytes n
 
 -- this was read, unless memory ran out
-abbrev pub IsReadOwn : {X : Type 0} → X → Result X OwnFault → Type 0
+abbrev pub IsReadOwn : {X : Type 0} → X → Result X LinesFault → Type 0
 IsReadOwn x (Ok y) = y ≡ x
 IsReadOwn x (Err OutOfMemory) = Unit {0}
 IsReadOwn x (Err (Line n)) = ⊥

@@ -7,10 +7,9 @@ ghost use Rattle.own_records.specs.RecordFaults.{IsOwnText, IsReadOwn, NamesBadO
 ghost use Rattle.own_records.specs.RecordText.{own_text};
 ghost use Rattle.scripts.specs.Then.{ok_map};
 
-use crate::fault::{LineFault, OwnFault};
 use crate::state::RecordState;
 use own_object::{OwnHead, OwnKeeps};
-use scripts::split_line;
+use scripts::{LineFault, LinesFault, split_line};
 use std::alloc::Global;
 
 /// The head of the record that the text spells, and the keeper, which was handed over the rest of it. Where the text spells none,
@@ -19,7 +18,7 @@ pub fn read_own<K: OwnKeeps>(
     alloc: Global,
     text: &[u8],
     keeper: K,
-) -> Result<(OwnHead, K), OwnFault>
+) -> Result<(OwnHead, K), LinesFault>
     requires { K.keeps keeper ≡ no_own_parts }
     ensures found { IfOk result (λ given. IsOwnText text.now (kept_own given.0 (K.keeps given.1))) }
     ensures whole { IfOk result (λ given. IsWholeOwn given.0 (K.keeps given.1)) }
@@ -32,18 +31,18 @@ pub fn read_own<K: OwnKeeps>(
     let mut number = 1;
     while !state.is_done() {
         let Some((line, after)) = split_line(rest) else {
-            return Err(OwnFault::Line(number));
+            return Err(LinesFault::Line(number));
         };
         match state.take(line) {
             Ok(()) => {}
-            Err(LineFault::OutOfMemory) => return Err(OwnFault::OutOfMemory),
-            Err(LineFault::Refused) => return Err(OwnFault::Line(number)),
+            Err(LineFault::OutOfMemory) => return Err(LinesFault::OutOfMemory),
+            Err(LineFault::Refused) => return Err(LinesFault::Line(number)),
         }
         number += 1;
         rest = after;
     }
     if !rest.is_empty() {
-        return Err(OwnFault::Line(number));
+        return Err(LinesFault::Line(number));
     }
     Ok(state.into_kept())
 }

@@ -16,4 +16,4 @@ pub use refusal::{Refusal, write_line};
 pub use shell::start;
 pub use system::System;
 pub use texts::{read_kept, read_record, read_schedule, read_scripts, read_settings};
-pub use words::{WordsFault, words_given};
+pub use words::words_given;

@@ -1,15 +1,11 @@
 //! The refusals that programs share.
 
 ghost use Rattle.std.specs.Prelude.{◌≡◌};
-ghost use Rattle.program.specs.Refusals.{of_memory, of_name, of_record, of_schedule, of_scripts, of_settings, of_words, of_write, status_of};
+ghost use Rattle.program.specs.Refusals.{of_memory, of_name, of_record, of_schedule, of_scripts, of_settings, of_write, status_of};
 
 use crate::file_names::BadName;
-use crate::words::WordsFault;
 use event_log::{OutOfMemory, Sink};
-use scripts::{
-    BadSettings, Buffered, RecordReadFault, ScheduleReadFault, ScriptsReadFault, SettingsReadFault,
-    WriteFailed,
-};
+use scripts::{BadSettings, Buffered, ScheduleFault, SettingsFault, TextFault, WriteFailed};
 use std::fmt::{Display, Write};
 use thiserror::Error;
 
@@ -38,6 +34,28 @@ pub enum Refusal {
 }
 
 impl Refusal {
+    /// Why scripts were not read.
+    pub fn of_scripts(fault: TextFault) -> Refusal
+        ensures { result ≡ of_scripts fault }
+    {
+        match fault {
+            TextFault::OutOfMemory => Refusal::OutOfMemory,
+            TextFault::ReadFailed => Refusal::ReadFailed,
+            TextFault::BadLine(number) => Refusal::BadScripts(number),
+        }
+    }
+
+    /// Why a record was not read.
+    pub fn of_record(fault: TextFault) -> Refusal
+        ensures { result ≡ of_record fault }
+    {
+        match fault {
+            TextFault::OutOfMemory => Refusal::OutOfMemory,
+            TextFault::ReadFailed => Refusal::ReadFailed,
+            TextFault::BadLine(number) => Refusal::BadRecord(number),
+        }
+    }
+
     /// The status that a program ends with: 2 for what the caller wrote, 3 for what the machine refused.
     pub fn status(&self) -> u8
         ensures { result ≡ status_of self.now }
@@ -79,61 +97,24 @@ impl From<WriteFailed> for Refusal {
     }
 }
 
-impl From<SettingsReadFault> for Refusal {
+impl From<SettingsFault> for Refusal {
     ghost from_gives = { λ cause fault. fault ≡ of_settings cause };
 
-    fn from(fault: SettingsReadFault) -> Refusal {
+    fn from(fault: SettingsFault) -> Refusal {
         match fault {
-            SettingsReadFault::OutOfMemory => Refusal::OutOfMemory,
-            SettingsReadFault::ReadFailed => Refusal::ReadFailed,
-            SettingsReadFault::Refused(bad) => Refusal::BadSettings(bad),
+            SettingsFault::OutOfMemory => Refusal::OutOfMemory,
+            SettingsFault::Refused(bad) => Refusal::BadSettings(bad),
         }
     }
 }
 
-impl From<ScriptsReadFault> for Refusal {
-    ghost from_gives = { λ cause fault. fault ≡ of_scripts cause };
-
-    fn from(fault: ScriptsReadFault) -> Refusal {
-        match fault {
-            ScriptsReadFault::OutOfMemory => Refusal::OutOfMemory,
-            ScriptsReadFault::ReadFailed => Refusal::ReadFailed,
-            ScriptsReadFault::Line(number) => Refusal::BadScripts(number),
-        }
-    }
-}
-
-impl From<ScheduleReadFault> for Refusal {
+impl From<ScheduleFault> for Refusal {
     ghost from_gives = { λ cause fault. fault ≡ of_schedule cause };
 
-    fn from(fault: ScheduleReadFault) -> Refusal {
+    fn from(fault: ScheduleFault) -> Refusal {
         match fault {
-            ScheduleReadFault::OutOfMemory => Refusal::OutOfMemory,
-            ScheduleReadFault::ReadFailed => Refusal::ReadFailed,
-            ScheduleReadFault::Word(number) => Refusal::BadSchedule(number),
-        }
-    }
-}
-
-impl From<RecordReadFault> for Refusal {
-    ghost from_gives = { λ cause fault. fault ≡ of_record cause };
-
-    fn from(fault: RecordReadFault) -> Refusal {
-        match fault {
-            RecordReadFault::OutOfMemory => Refusal::OutOfMemory,
-            RecordReadFault::ReadFailed => Refusal::ReadFailed,
-            RecordReadFault::Line(number) => Refusal::BadRecord(number),
-        }
-    }
-}
-
-impl From<WordsFault> for Refusal {
-    ghost from_gives = { λ cause fault. fault ≡ of_words cause };
-
-    fn from(fault: WordsFault) -> Refusal {
-        match fault {
-            WordsFault::OutOfMemory => Refusal::OutOfMemory,
-            WordsFault::BadWords => Refusal::BadWords,
+            ScheduleFault::OutOfMemory => Refusal::OutOfMemory,
+            ScheduleFault::Word(number) => Refusal::BadSchedule(number),
         }
     }
 }

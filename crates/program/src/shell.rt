@@ -33,6 +33,6 @@ pub fn start<
             &mut out,
             &mut faults,
         ),
-        Err(fault) => refuse(Refusal::from(fault), &mut faults),
+        Err(fault) => refuse(fault, &mut faults),
     }
 }

@@ -11,7 +11,9 @@ ghost use Rattle.scripts.specs.ScriptText.{ScriptsFit};
 use crate::inputs::Inputs;
 use crate::refusal::Refusal;
 use event_log::StreamFailed;
-use scripts::{Keeps, Record, Schedule, Scripts, Settings, read_keeping};
+use scripts::{
+    Keeps, Record, Schedule, Scripts, Settings, SettingsFault, SourceFault, read_keeping,
+};
 use std::alloc::Global;
 
 /// The reader of the input of that name. No call on it has failed.
@@ -44,7 +46,12 @@ pub fn read_settings<I: Inputs>(
     let mut input = opened(inputs, Some(name))?;
     let settings = Settings::read_from(alloc, &mut input);
     inputs.close(input);
-    Ok(settings?)
+    match settings {
+        Ok(settings) => Ok(settings),
+        Err(SourceFault::ReadFailed) => Err(Refusal::ReadFailed),
+        Err(SourceFault::Told(SettingsFault::OutOfMemory)) => Err(Refusal::OutOfMemory),
+        Err(SourceFault::Told(SettingsFault::Refused(bad))) => Err(Refusal::BadSettings(bad)),
+    }
 }
 
 /// The scripts that the input of that name spells. Where a line can't come, no more is read.
@@ -63,7 +70,10 @@ pub fn read_scripts<I: Inputs>(
     let mut input = opened(inputs, name)?;
     let scripts = Scripts::read_from(alloc, &mut input, settings);
     inputs.close(input);
-    Ok(scripts?)
+    match scripts {
+        Ok(scripts) => Ok(scripts),
+        Err(fault) => Err(Refusal::of_scripts(fault)),
+    }
 }
 
 /// The schedule that the file of that name spells. Where a word can't come, no more is read.
@@ -80,7 +90,11 @@ pub fn read_schedule<I: Inputs>(
     let mut input = opened(inputs, Some(name))?;
     let schedule = Schedule::read_from(alloc, &mut input, settings);
     inputs.close(input);
-    Ok(schedule?)
+    match schedule {
+        Ok(schedule) => Ok(schedule),
+        Err(SourceFault::ReadFailed) => Err(Refusal::ReadFailed),
+        Err(SourceFault::Told(fault)) => Err(Refusal::from(fault)),
+    }
 }
 
 /// The record that the input of that name spells. Of its text no more is held than a line and a piece.
@@ -96,7 +110,10 @@ pub fn read_record<I: Inputs>(
     let mut input = opened(inputs, name)?;
     let record = Record::read_from(alloc, &mut input);
     inputs.close(input);
-    Ok(record?)
+    match record {
+        Ok(record) => Ok(record),
+        Err(fault) => Err(Refusal::of_record(fault)),
+    }
 }
 
 /// The settings of the record that the input of that name spells, and the keeper, which was handed over the rest of it.
@@ -116,5 +133,8 @@ pub fn read_kept<I: Inputs, K: Keeps>(
     let mut input = opened(inputs, name)?;
     let kept = read_keeping(alloc, &mut input, keeper);
     inputs.close(input);
-    Ok(kept?)
+    match kept {
+        Ok(kept) => Ok(kept),
+        Err(fault) => Err(Refusal::of_record(fault)),
+    }
 }

@@ -1,5 +1,9 @@
 //! The words that the program was started with.
 
+ghost use Rattle.std.specs.Prelude.{IfErr};
+ghost use Rattle.program.specs.Shell.{IsOfWords};
+
+use crate::refusal::Refusal;
 use std::alloc::Global;
 use std::env::FillError;
 use std::rt::Env;
@@ -7,14 +11,6 @@ use std::{env, io};
 
 #[cfg(test)]
 mod tests;
-
-/// Why the words aren't known.
-#[derive(Clone, Copy, Debug, PartialEq, Eq, Drop)]
-pub enum WordsFault {
-    OutOfMemory,
-    /// One of them is no text.
-    BadWords,
-}
 
 /// What the program was started with, but for the first word: that is its own path, which need not be text.
 #[derive(Drop)]
@@ -40,18 +36,20 @@ impl<E: Env> Env for AfterPath<'_, E> {
 }
 
 /// The words after the program's path. One that isn't UTF-8 is refused.
-pub fn words_given<E: Env>(env: &E, alloc: Global) -> Result<Vec<String>, WordsFault> {
+pub fn words_given<E: Env>(env: &E, alloc: Global) -> Result<Vec<String>, Refusal>
+    ensures refused { IfErr result IsOfWords }
+{
     let mut words = Vec::new(alloc);
     match env::args(&(AfterPath { env }, alloc)) {
         Ok(all) => {
             for word in all {
                 if words.push(word).is_err() {
-                    return Err(WordsFault::OutOfMemory);
+                    return Err(Refusal::OutOfMemory);
                 }
             }
             Ok(words)
         }
-        Err(error) if error.kind() == io::ErrorKind::OutOfMemory => Err(WordsFault::OutOfMemory),
-        Err(_) => Err(WordsFault::BadWords),
+        Err(error) if error.kind() == io::ErrorKind::OutOfMemory => Err(Refusal::OutOfMemory),
+        Err(_) => Err(Refusal::BadWords),
     }
 }

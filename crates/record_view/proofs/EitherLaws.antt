@@ -5,8 +5,8 @@ use Rattle.std.proofs.Math.Seq.{take-append_seam}
 use Rattle.std.specs.Io.KnownBytes.{Consumes}
 use Rattle.scripts.specs.RecordSources.{SpellsRecord, NamesBadLineOfRest}
 use Rattle.scripts.specs.ScriptFaults.{IsRest}
-use Rattle.scripts.specs.declared.record.source.RecordReadFault.{RecordReadFault}
-use Rattle.scripts.specs.declared.record.source.RecordReadFault.TheVariants.{OutOfMemory, ReadFailed, Line}
+use Rattle.scripts.specs.declared.text.fault.TextFault.{TextFault}
+use Rattle.scripts.specs.declared.text.fault.TextFault.TheVariants.{OutOfMemory, ReadFailed, BadLine}
 use Rattle.scripts.specs.RecordRanges.{Record}
 use Rattle.record_view.specs.Either.{behind, IsOwnForm, IsKernelForm, IsNoLine, RefusesEither}
 
@@ -49,13 +49,13 @@ kernel_form old new front read few whole isnt = λ all e begins.
     isnt (fronts_agree front a.0 begins.0 (omega (arith, few, enough, long)) both)
 
 -- a refusal that names no line
-pub no_line : (old : Option (List ℕ)) (f : RecordReadFault) → IsNoLine f → RefusesEither old f
+pub no_line : (old : Option (List ℕ)) (f : TextFault) → IsNoLine f → RefusesEither old f
 no_line old OutOfMemory h = tt
 no_line old ReadFailed h = tt
-no_line old (Line n) h = absurd h
+no_line old (BadLine n) h = absurd h
 
 -- a refusal of a record of the kernel's objects
-pub bad_line : (old new : Option (List ℕ)) (front : List ℕ) (f : RecordReadFault) → Consumes old new front → IsKernelForm old → NamesBadLineOfRest (behind front new) f → RefusesEither old f
+pub bad_line : (old new : Option (List ℕ)) (front : List ℕ) (f : TextFault) → Consumes old new front → IsKernelForm old → NamesBadLineOfRest (behind front new) f → RefusesEither old f
 bad_line old new front OutOfMemory read form h = tt
 bad_line old new front ReadFailed read form h = tt
-bad_line old new front (Line n) read form h = (form, (h.0, rest_of old new front h.0 read h.1, h.2))
+bad_line old new front (BadLine n) read form h = (form, (h.0, rest_of old new front h.0 read h.1, h.2))

@@ -4,10 +4,11 @@ use Rattle.std.specs.Option.{option_map}
 use Rattle.scripts.specs.RecordFaults.{IsBadLine}
 use Rattle.scripts.specs.RecordSources.{SpellsRecord}
 use Rattle.scripts.specs.ScriptFaults.{IsRest}
-use Rattle.scripts.specs.declared.record.source.RecordReadFault.{RecordReadFault}
-use Rattle.scripts.specs.declared.record.source.RecordReadFault.TheVariants.{OutOfMemory, ReadFailed, Line}
-use Rattle.scripts.specs.declared.streams.source_reader.ReadFault.{ReadFault}
-use Rattle.scripts.specs.declared.streams.source_reader.ReadFault.TheVariants as read
+use Rattle.scripts.specs.declared.text.fault.TextFault.{TextFault}
+use Rattle.scripts.specs.declared.text.fault.TextFault.TheVariants.{OutOfMemory, ReadFailed, BadLine}
+use Rattle.event_log.specs.declared.object.OutOfMemory.{OutOfMemory as Memory}
+use Rattle.scripts.specs.declared.streams.feeding.SourceFault.{SourceFault}
+use Rattle.scripts.specs.declared.streams.feeding.SourceFault.TheVariants as read
 use Rattle.record_view.specs.declared.either.Either.{Either}
 use Rattle.record_view.specs.declared.either.Either.TheVariants as either
 
@@ -33,25 +34,25 @@ IsReadAs remaining (either.Kernel r) = IsKernelForm remaining × SpellsRecord re
 IsReadAs remaining (either.Own text) = IsOwnForm remaining × IsRest remaining text.items
 
 -- why no record was read: a line of a record of the kernel's objects, if it isn't one of the writer's
-abbrev pub RefusesEither : Option (List ℕ) → RecordReadFault → Type 0
+abbrev pub RefusesEither : Option (List ℕ) → TextFault → Type 0
 RefusesEither remaining OutOfMemory = Unit {0}
 RefusesEither remaining ReadFailed = Unit {0}
-RefusesEither remaining (Line n) = IsKernelForm remaining × ((bytes : List ℕ) × IsRest remaining bytes × IsBadLine bytes n)
+RefusesEither remaining (BadLine n) = IsKernelForm remaining × ((bytes : List ℕ) × IsRest remaining bytes × IsBadLine bytes n)
 
 -- it says that a read failed
-abbrev pub says_failed : {X : Type 0} → Result X RecordReadFault → Bool
+abbrev pub says_failed : {X : Type 0} → Result X TextFault → Bool
 says_failed (Ok x) = false
 says_failed (Err OutOfMemory) = false
 says_failed (Err ReadFailed) = true
-says_failed (Err (Line n)) = false
+says_failed (Err (BadLine n)) = false
 
 -- the same cause of a record that isn't read
-abbrev pub of_text : ReadFault → RecordReadFault
-of_text read.OutOfMemory = OutOfMemory
+abbrev pub of_text : SourceFault Memory → TextFault
+of_text (read.Told memory) = OutOfMemory
 of_text read.ReadFailed = ReadFailed
 
 -- it is none of a line
-abbrev pub IsNoLine : RecordReadFault → Type 0
+abbrev pub IsNoLine : TextFault → Type 0
 IsNoLine OutOfMemory = Unit {0}
 IsNoLine ReadFailed = Unit {0}
-IsNoLine (Line n) = ⊥
+IsNoLine (BadLine n) = ⊥

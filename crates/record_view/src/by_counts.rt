@@ -11,7 +11,8 @@ use crate::sight::Sight;
 use event_log::{Event, OutOfMemory};
 use own_judge::{OwnMergeFault, OwnMergeJudge};
 use own_object::OwnObject;
-use own_records::{OwnFault, OwnRecord, read_lists, read_own};
+use own_records::{OwnRecord, read_lists, read_own};
+use scripts::LinesFault;
 use std::alloc::Global;
 
 /// Why nothing is told of a record.
@@ -120,8 +121,8 @@ pub fn own_sight(
 {
     let record = match read_lists(alloc, text) {
         Ok(record) => record,
-        Err(OwnFault::OutOfMemory) => return Err(OwnUnseen::OutOfMemory),
-        Err(OwnFault::Line(line)) => return Err(OwnUnseen::Line(line)),
+        Err(LinesFault::OutOfMemory) => return Err(OwnUnseen::OutOfMemory),
+        Err(LinesFault::Line(line)) => return Err(OwnUnseen::Line(line)),
     };
     let Some(counts) = right else {
         return unjudged(alloc, text, record);

@@ -6,8 +6,8 @@ ghost use Rattle.scripts.specs.RecordSources.{SpellsRecord, NamesBadLineOfRest};
 ghost use Rattle.scripts.specs.ScriptFaults.{IsRest};
 ghost use Rattle.record_view.specs.Either.{IsReadAs, IsNoLine, RefusesEither, of_text as of_text_fault, says_failed, behind};
 
-use event_log::{Source, StreamFailed};
-use scripts::{ReadFault, Record, RecordReadFault, read_all, read_up_to};
+use event_log::{OutOfMemory, Source, StreamFailed};
+use scripts::{Record, SourceFault, TextFault, read_all, read_up_to};
 use std::alloc::Global;
 
 /// What was read: a record of the kernel's objects, or the text of one of its writer's.
@@ -46,21 +46,17 @@ impl<S: Source> Source for Behind<'_, S> {
 }
 
 /// The same cause.
-fn of_text(fault: ReadFault) -> RecordReadFault
+fn of_text(fault: SourceFault<OutOfMemory>) -> TextFault
     ensures { result ≡ of_text_fault fault }
 {
     match fault {
-        ReadFault::OutOfMemory => RecordReadFault::OutOfMemory,
-        ReadFault::ReadFailed => RecordReadFault::ReadFailed,
+        SourceFault::Told(OutOfMemory) => TextFault::OutOfMemory,
+        SourceFault::ReadFailed => TextFault::ReadFailed,
     }
 }
 
 /// The text of these bytes and of the source behind them, whole.
-fn read_text<S: Source>(
-    alloc: Global,
-    front: &[u8],
-    source: S,
-) -> (Result<Vec<u8>, RecordReadFault>, S)
+fn read_text<S: Source>(alloc: Global, front: &[u8], source: S) -> (Result<Vec<u8>, TextFault>, S)
     ensures text { IfOk result.0 (λ text. IsRest (behind front.now (S.remaining source)) text.items) }
     ensures refused { IfErr result.0 IsNoLine }
     ensures failures { S.failed result.1 ≡ counted (says_failed result.0) (S.failed source) }
@@ -75,11 +71,7 @@ fn read_text<S: Source>(
 }
 
 /// The record of these bytes and of the source behind them.
-fn read_kernel<S: Source>(
-    alloc: Global,
-    front: &[u8],
-    source: S,
-) -> (Result<Record, RecordReadFault>, S)
+fn read_kernel<S: Source>(alloc: Global, front: &[u8], source: S) -> (Result<Record, TextFault>, S)
     ensures found { IfOk result.0 (SpellsRecord (behind front.now (S.remaining source))) }
     ensures refused { IfErr result.0 (NamesBadLineOfRest (behind front.now (S.remaining source))) }
     ensures failures { S.failed result.1 ≡ counted (says_failed result.0) (S.failed source) }
@@ -92,7 +84,7 @@ fn read_kernel<S: Source>(
 
 /// Reads the source to its end. If its first line says that the objects are its writer's, the whole text comes out, and else
 /// the record, of whose text no more is held than a line and a piece.
-pub fn read_either<S: Source>(alloc: Global, mut source: S) -> (Result<Either, RecordReadFault>, S)
+pub fn read_either<S: Source>(alloc: Global, mut source: S) -> (Result<Either, TextFault>, S)
     ensures found { IfOk result.0 (IsReadAs (S.remaining source)) }
     ensures refused { IfErr result.0 (RefusesEither (S.remaining source)) }
     ensures failures { S.failed result.1 ≡ counted (says_failed result.0) (S.failed source) }

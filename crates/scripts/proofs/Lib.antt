@@ -1,4 +1,6 @@
+pub mod KindLaws
 pub mod KernelRanges
+pub mod Feeding
 pub mod LogRanges
 pub mod Cuts
 pub mod Behind
@@ -15,6 +17,7 @@ pub mod Dealt
 pub mod ScriptLines
 pub mod ScriptVerdicts
 pub mod Sentences
+pub mod SettingsKeys
 pub mod SettingsTables
 pub mod SettingsFits
 pub mod Lists

@@ -13,7 +13,7 @@ use Rattle.scripts.specs.RecordReading.{object_at, new_object_at}
 use Rattle.scripts.specs.RecordText.{object_words}
 use Rattle.scripts.specs.Settings.{ObjectSettings, ObjectFits, is_name, is_letter, is_digit}
 use Rattle.scripts.proofs.RecordLineLaws.{ReadsLines, reads_object}
-use Rattle.scripts.proofs.ParameterLaws.{tells_queue}
+use Rattle.scripts.proofs.KindLaws.Queue.{queue_told}
 use Rattle.scripts.proofs.SettingsFits.{Joins, Differ, name_in, name_before, name_here, differ_more}
 
 -- the name is one of theirs
@@ -92,7 +92,7 @@ shown_new : (form : Form) (earlier : List ObjectSettings) → length earlier < 1
 shown_new form earlier few =
     let letters = diagonal_letters 1 earlier in
     let name : is_name (97 ∷ diagonal 1 earlier) ≡ true = rw (letters.0, le-leb (length (diagonal 1 earlier)) 15 (omega (arith, letters.1, few))) refl in
-    (record { name = 97 ∷ diagonal 1 earlier; lock = Ticket; events = 1; params = Queue 1 }, (record { name = name; events = (omega arith, omega arith); params = refl; told = tells_queue form 1 }, fresh (97 ∷ []) earlier 1 refl))
+    (record { name = 97 ∷ diagonal 1 earlier; lock = Ticket; events = 1; params = Queue 1 }, (record { name = name; events = (omega arith, omega arith); params = refl; told = queue_told form 1 }, fresh (97 ∷ []) earlier 1 refl))
 
 -- ---- names that differ
 

@@ -3,13 +3,17 @@ use Rattle.std.proofs.Common.{◌≡◌, ℕ, Bool, List, [], ◌++◌, take, ap
 use Rattle.std.proofs.lemmas.List.{append-nil}
 use Rattle.std.specs.Io.KnownBytes.{Consumes, IsAtEnd}
 use Rattle.std.specs.Result.{IsErrAnd, IfErr}
-use Rattle.scripts.specs.declared.text.line_machine.PieceFault.{PieceFault}
-use Rattle.scripts.specs.declared.text.line_machine.PieceFault.TheVariants as piece
-use Rattle.scripts.specs.declared.script.reader.ScriptsFault.{ScriptsFault}
-use Rattle.scripts.specs.declared.script.reader.ScriptsFault.TheVariants.{OutOfMemory, Line}
-use Rattle.scripts.specs.declared.script.source.ScriptsReadFault.{ScriptsReadFault}
-use Rattle.scripts.specs.LineMachine.{HasTaken, RefusesLine}
-use Rattle.scripts.specs.ScriptFaults.{ScriptState, TakesScriptLine, RefusesScriptLine, FitsScriptLine, HasRead, no_entries, IsRest, IsFirstBadOfRest, NamesFirstBad, NamesFirstBadOfRest, of_piece, of_text}
+use Rattle.scripts.specs.declared.streams.feeding.SourceFault.{SourceFault}
+use Rattle.scripts.specs.declared.streams.feeding.SourceFault.TheVariants.{ReadFailed, Told}
+use Rattle.scripts.specs.declared.text.fault.LinesFault.{LinesFault}
+use Rattle.scripts.specs.declared.text.fault.LinesFault.TheVariants.{OutOfMemory, Line}
+use Rattle.scripts.specs.declared.text.fault.TextFault.{TextFault}
+use Rattle.scripts.specs.declared.text.line_machine.Pieces.{Pieces}
+use Rattle.scripts.specs.Feeding.{HasRefused}
+use Rattle.scripts.specs.LineMachine.{RefusesLine}
+use Rattle.scripts.specs.Pieces.{RefusesPieces}
+use Rattle.scripts.specs.ScriptFaults.{ScriptState, TakesScriptLine, RefusesScriptLine, FitsScriptLine, no_entries, IsRest, NamesFirstBad, NamesFirstBadOfRest}
+use Rattle.scripts.specs.TextFaults.{of_lines, of_source}
 use Rattle.scripts.specs.ScriptText.{IsFirstBad}
 use Rattle.scripts.specs.Settings.{Settings}
 use Rattle.scripts.proofs.ScriptTexts.{line_refused}
@@ -43,44 +47,24 @@ of_rest P (Some xs) None seen c h = absurd c
 of_rest P (Some xs) (Some ys) seen c h = (seen ++ ys, (λ all e. let same : xs ≡ all = cc in sym c ∙ same), h ys)
 
 module _ (settings : Settings) where
-  -- what was read so far of a source
-  pub record HasReadOf (old now : Option (List ℕ)) (state : ScriptState) (number : ℕ) (passing : Bool) (pending : List ℕ) : Type 0 where
-    pub seen : List ℕ
-    pub consumed : Consumes old now seen
-    pub read : HasRead settings seen state number passing pending
+  source_names : (old new : Option (List ℕ)) (first : Pieces ScriptState) (cause : SourceFault LinesFault) → first.lines ≡ no_entries settings → ((f : LinesFault) → cause ≡ Told f → HasRefused (RefusesPieces TakesScriptLine RefusesScriptLine FitsScriptLine first) old new f) → NamesFirstBadOfRest settings old (of_source cause)
+  source_names old new first ReadFailed is refused = tt
+  source_names old new first (Told OutOfMemory) is refused = tt
+  source_names old new first (Told (Line m)) is refused =
+      let bad = refused (Line m) refl in
+      of_rest (λ text. IsFirstBad settings text m) old new bad.0 bad.1
+      (λ more. line_refused settings bad.0 more m (subst (λ (s : ScriptState). RefusesLine TakesScriptLine RefusesScriptLine FitsScriptLine bad.0 s 1 m) is bad.2))
 
-  pub read_starts : (old : Option (List ℕ)) (start state : ScriptState) (number : ℕ) (passing : Bool) (pending : List ℕ) → HasTaken TakesScriptLine start [] state number passing pending → start ≡ no_entries settings → HasReadOf old old state number passing pending
-  read_starts old start state number passing pending taken is = record { seen = []; consumed = consumes_none old; read = subst (λ (s : ScriptState). HasTaken TakesScriptLine s [] state number passing pending) is taken }
+  -- a source's refusal that is handed on
+  pub read_refused : {X : Type 0} (old new : Option (List ℕ)) (first : Pieces ScriptState) (cause : SourceFault LinesFault) (r : Result X TextFault) → IsErrAnd r (λ f. f ≡ of_source cause) → first.lines ≡ no_entries settings → ((f : LinesFault) → cause ≡ Told f → HasRefused (RefusesPieces TakesScriptLine RefusesScriptLine FitsScriptLine first) old new f) → IfErr r (NamesFirstBadOfRest settings old)
+  read_refused old new first cause (Ok x) is same refused = tt
+  read_refused old new first cause (Err f) is same refused = subst (NamesFirstBadOfRest settings old) (sym is) (source_names old new first cause same refused)
 
-  module _ (old between now : Option (List ℕ)) (piece : List ℕ) (state : ScriptState) (number : ℕ) (passing : Bool) (pending : List ℕ) (read : HasReadOf old between state number passing pending) (consumed : Consumes between now piece) where
-    -- a piece more
-    pub read_piece : (new : ScriptState) (next : ℕ) (passes : Bool) (after : List ℕ) → ((start : ScriptState) (text : List ℕ) → HasTaken TakesScriptLine start text state number passing pending → HasTaken TakesScriptLine start (text ++ piece) new next passes after) → HasReadOf old now new next passes after
-    read_piece new next passes after takes = record {
-      seen = read.seen ++ piece;
-      consumed = consumes_then old between now read.seen piece read.consumed consumed;
-      read = takes (no_entries settings) read.seen read.read;
-    }
-
-    -- a piece with a bad line
-    pub piece_refused : (m : ℕ) → ((start : ScriptState) (text : List ℕ) → HasTaken TakesScriptLine start text state number passing pending → RefusesLine TakesScriptLine RefusesScriptLine FitsScriptLine (text ++ piece) start 1 m) → IsFirstBadOfRest settings old m
-    piece_refused m refuses =
-        of_rest (λ text. IsFirstBad settings text m) old now (read.seen ++ piece) (consumes_then old between now read.seen piece read.consumed consumed)
-        (λ more. line_refused settings (read.seen ++ piece) more m (refuses (no_entries settings) read.seen read.read))
-
-  piece_names : (old : Option (List ℕ)) (fault : PieceFault) → ((m : ℕ) → fault ≡ piece.Line m → IsFirstBadOfRest settings old m) → NamesFirstBadOfRest settings old (of_text (of_piece fault))
-  piece_names old piece.OutOfMemory first = tt
-  piece_names old (piece.Line m) first = first m refl
-
-  -- a piece's refusal that is handed on
-  pub read_refused : {X : Type 0} (old : Option (List ℕ)) (fault : PieceFault) (r : Result X ScriptsReadFault) → IsErrAnd r (λ f. f ≡ of_text (of_piece fault)) → ((m : ℕ) → fault ≡ piece.Line m → IsFirstBadOfRest settings old m) → IfErr r (NamesFirstBadOfRest settings old)
-  read_refused old fault (Ok x) is first = tt
-  read_refused old fault (Err f) is first = subst (NamesFirstBadOfRest settings old) (sym is) (piece_names old fault first)
-
-  text_names : (old : Option (List ℕ)) (text : List ℕ) (fault : ScriptsFault) → IsRest old text → NamesFirstBad settings text fault → NamesFirstBadOfRest settings old (of_text fault)
+  text_names : (old : Option (List ℕ)) (text : List ℕ) (fault : LinesFault) → IsRest old text → NamesFirstBad settings text fault → NamesFirstBadOfRest settings old (of_lines fault)
   text_names old text OutOfMemory rest names = tt
   text_names old text (Line m) rest names = (text, rest, names)
 
   -- a text's refusal that is handed on
-  pub end_refused : {X : Type 0} (old : Option (List ℕ)) (text : List ℕ) (fault : ScriptsFault) (r : Result X ScriptsReadFault) → IsErrAnd r (λ f. f ≡ of_text fault) → IsRest old text → NamesFirstBad settings text fault → IfErr r (NamesFirstBadOfRest settings old)
+  pub end_refused : {X : Type 0} (old : Option (List ℕ)) (text : List ℕ) (fault : LinesFault) (r : Result X TextFault) → IsErrAnd r (λ f. f ≡ of_lines fault) → IsRest old text → NamesFirstBad settings text fault → IfErr r (NamesFirstBadOfRest settings old)
   end_refused old text fault (Ok x) is rest names = tt
   end_refused old text fault (Err f) is rest names = subst (NamesFirstBadOfRest settings old) (sym is) (text_names old text fault rest names)

@@ -2,13 +2,11 @@
 use Rattle.std.proofs.Common.{◌≡◌, ◌==◌, ◌↔◌, ℕ, ◌<◌, Bool, true, false, List, [], ◌∷◌, ◌++◌, length, replicate, inl, inr, Result, Ok, Err, refl, sym, ◌∙◌, subst, arith, IsErrAnd, IfOk, IfErr}
 use Rattle.std.proofs.lemmas.Bool.{eqb-true, eqb-false}
 use Rattle.std.proofs.lemmas.List.{append-nil, length-replicate}
-use Rattle.scripts.specs.declared.text.line_machine.PieceFault.{PieceFault}
-use Rattle.scripts.specs.declared.text.line_machine.PieceFault.TheVariants as piece
-use Rattle.scripts.specs.declared.script.reader.ScriptsFault.{ScriptsFault}
-use Rattle.scripts.specs.declared.script.reader.ScriptsFault.TheVariants.{OutOfMemory, Line}
+use Rattle.scripts.specs.declared.text.fault.LinesFault.{LinesFault}
+use Rattle.scripts.specs.declared.text.fault.LinesFault.TheVariants.{OutOfMemory, Line}
 use Rattle.scripts.specs.KernelTypes.{KernelTodo}
 use Rattle.scripts.specs.LineMachine.{TakesText, RefusesText, RefusesLine, ChangesNothing, HasTaken}
-use Rattle.scripts.specs.ScriptFaults.{ScriptState, TakesScriptLine, RefusesScriptLine, FitsScriptLine, IsNotTaken, NamesFirstBad, HasRead, no_entries, of_piece}
+use Rattle.scripts.specs.ScriptFaults.{ScriptState, TakesScriptLine, RefusesScriptLine, FitsScriptLine, IsNotTaken, NamesFirstBad, HasRead, no_entries}
 use Rattle.scripts.specs.ScriptText.{AreRequests, IsFirstBad, AreScripts, ScriptsFit, ScriptsWithin}
 use Rattle.scripts.specs.Settings.{Settings, SettingsFit}
 use Rattle.scripts.specs.Words.{NoEnd, text_of_lines}
@@ -58,17 +56,17 @@ module _ (settings : Settings) where
       let is = taken text [] state m takes in
       record { requests = is.requests; spelled = subst (λ t. AreRequests settings t is.requests) (sym (takes.parts ∙ append-nil (text_of_lines takes.lines))) (good text [] state m takes); each = is.each }
 
-  names_by : (text : List ℕ) (fault : PieceFault) → ((m : ℕ) → fault ≡ piece.Line m → IsFirstBad settings text m) → NamesFirstBad settings text (of_piece fault)
-  names_by text piece.OutOfMemory first = tt
-  names_by text (piece.Line m) first = first m refl
+  names_by : (text : List ℕ) (fault : LinesFault) → ((m : ℕ) → fault ≡ Line m → IsFirstBad settings text m) → NamesFirstBad settings text fault
+  names_by text OutOfMemory first = tt
+  names_by text (Line m) first = first m refl
 
   -- a piece's refusal that is handed on
-  pub refusal_names : {X : Type 0} (text : List ℕ) (fault : PieceFault) (r : Result X ScriptsFault) → IsErrAnd r (λ f. f ≡ of_piece fault) → ((m : ℕ) → fault ≡ piece.Line m → IsFirstBad settings text m) → IfErr r (NamesFirstBad settings text)
+  pub refusal_names : {X : Type 0} (text : List ℕ) (fault : LinesFault) (r : Result X LinesFault) → IsErrAnd r (λ f. f ≡ fault) → ((m : ℕ) → fault ≡ Line m → IsFirstBad settings text m) → IfErr r (NamesFirstBad settings text)
   refusal_names text fault (Ok x) is first = tt
   refusal_names text fault (Err f) is first = subst (NamesFirstBad settings text) (sym is) (names_by text fault first)
 
   -- a text that is refused spells no scripts
-  pub no_scripts : {X : Type 0} (text : List ℕ) (r : Result X ScriptsFault) → SettingsFit settings → IfErr r (NamesFirstBad settings text) → (n : ℕ) (scripts : List (List KernelTodo)) → r ≡ Err (Line n) → AreScripts settings text scripts → ⊥
+  pub no_scripts : {X : Type 0} (text : List ℕ) (r : Result X LinesFault) → SettingsFit settings → IfErr r (NamesFirstBad settings text) → (n : ℕ) (scripts : List (List KernelTodo)) → r ≡ Err (Line n) → AreScripts settings text scripts → ⊥
   no_scripts text (Ok x) fit names n scripts is are = absurd cc
   no_scripts text (Err OutOfMemory) fit names n scripts is are = absurd cc
   no_scripts text (Err (Line m)) fit names n scripts is are = bad_is_not_good settings fit text m scripts are names

@@ -2,13 +2,12 @@
 use Rattle.std.proofs.Common.{◌≡◌, ℕ, ◌+◌, ◌<◌, ◌≤◌, inl, inr, List, ◌++◌, take, length, length-append, Option, Some, None, Result, Ok, Err, refl, sym, subst, arith}
 use Rattle.std.proofs.lemmas.List.{length-take-le}
 use Rattle.std.specs.Io.KnownBytes.{Consumes, Keeps}
-use Rattle.std.specs.Result.{IsErrAnd, IfErr}
 use Rattle.scripts.specs.declared.settings.fault.SettingsFault.{SettingsFault}
 use Rattle.scripts.specs.declared.settings.fault.SettingsFault.TheVariants as fault
-use Rattle.scripts.specs.declared.settings.source.SettingsReadFault.{SettingsReadFault}
 use Rattle.scripts.specs.declared.settings.source.TheConstants.{MOST_SETTINGS_BYTES}
+use Rattle.scripts.specs.declared.streams.feeding.SourceFault.TheVariants.{Told}
 use Rattle.scripts.specs.ScriptFaults.{IsRest}
-use Rattle.scripts.specs.SettingsSources.{ReadsAtMost, IsFaultOfSettings, NamesFirstFaultOfRest, of_settings}
+use Rattle.scripts.specs.SettingsSources.{ReadsAtMost, IsFaultOfSettings, NamesFirstFaultOfRest}
 use Rattle.scripts.specs.SettingsText.{NamesFirstFault, not_toml}
 use Rattle.scripts.proofs.ScriptSources.{consumes_then, of_rest}
 
@@ -30,14 +29,10 @@ read_after most count a b c bytes front p q within few = (bytes ++ take count fr
 
 -- ---- settings
 
-settings_names : (old : Option (List ℕ)) (text : List ℕ) (cause : SettingsFault) → IsRest old text → length text ≤ MOST_SETTINGS_BYTES → NamesFirstFault text cause → NamesFirstFaultOfRest old (of_settings cause)
+-- a text's refusal
+pub settings_names : (old : Option (List ℕ)) (text : List ℕ) (cause : SettingsFault) → IsRest old text → length text ≤ MOST_SETTINGS_BYTES → NamesFirstFault text cause → NamesFirstFaultOfRest old (Told cause)
 settings_names old text fault.OutOfMemory rest few named = tt
 settings_names old text (fault.Refused bad) rest few named = (text, rest, inl (few, named))
-
--- a text's refusal that is handed on
-pub settings_refused : {X : Type 0} (old : Option (List ℕ)) (text : List ℕ) (cause : SettingsFault) (r : Result X SettingsReadFault) → IsErrAnd r (λ f. f ≡ of_settings cause) → IsRest old text → length text ≤ MOST_SETTINGS_BYTES → NamesFirstFault text cause → IfErr r (NamesFirstFaultOfRest old)
-settings_refused old text cause (Ok x) is rest few named = tt
-settings_refused old text cause (Err f) is rest few named = subst (NamesFirstFaultOfRest old) (sym is) (settings_names old text cause rest few named)
 
 -- a text that is too long
 pub long_refused : (old now : Option (List ℕ)) (bytes : List ℕ) → Consumes old now bytes → MOST_SETTINGS_BYTES < length bytes → (text : List ℕ) × IsRest old text × IsFaultOfSettings text not_toml

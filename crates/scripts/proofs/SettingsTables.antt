@@ -16,7 +16,9 @@ use Rattle.scripts.specs.declared.settings.fault.SettingsFault.{SettingsFault}
 use Rattle.scripts.specs.declared.settings.fault.SettingsFault.TheVariants.{OutOfMemory, Refused}
 use Rattle.scripts.specs.declared.settings.fault.SettingsKey.{SettingsKey}
 use Rattle.scripts.specs.Then.{◌>>=◌, ok_map}
-use Rattle.scripts.specs.SettingsText.{count_items, are_integers, quota_from, each_quota, at_key, key_word, has_only, object_from, objects_from, settings_of, Settles, NamesFirstFault}
+use Rattle.scripts.specs.Kinds.Pool.{are_integers, quota_from, each_quota}
+use Rattle.scripts.specs.SettingsKeys.{count_items, at_key, key_word, has_only}
+use Rattle.scripts.specs.SettingsText.{object_from, objects_from, settings_of, Settles, NamesFirstFault}
 
 -- an array has as many items as values
 pub items_counted : (vs : List Value) → count_items (items_view vs) ≡ length vs

@@ -1,6 +1,6 @@
 -- Records that record 1 can tell are sound exactly if they were before owners of pages had quotas: a pool with full quotas
 -- answers as one without.
-use Rattle.std.proofs.Common.{◌≡◌, ◌↔◌, ℕ, false, List, [], ◌∷◌, map, refl, sym, ap, subst}
+use Rattle.std.proofs.Common.{◌≡◌, ◌↔◌, ℕ, false, List, [], ◌∷◌, map, refl, sym, ap, subst, rules}
 use Rattle.std.specs.List.{AllByRecursion}
 use Rattle.arrayvec.specs.ArrayVec.{ArrayVec}
 use Rattle.event_log.proofs.Each.{all_map}
@@ -29,7 +29,8 @@ use Rattle.scripts.specs.declared.objects.kernel_call.KReply.{KReply}
 use Rattle.scripts.specs.declared.objects.kernel_object.KernelObject.{KernelObject}
 use Rattle.scripts.specs.declared.objects.kernel_object.KernelObject.TheVariants as Object
 use Rattle.scripts.specs.Forms.{TellsParams}
-use Rattle.scripts.specs.Kernel.{kernel_answer, kernel_opening, of_pool}
+use Rattle.scripts.specs.Kernel.{kernel_answer, kernel_opening}
+use Rattle.scripts.specs.Kinds.Pool.{of_pool}
 use Rattle.scripts.specs.RecordRanges.{Record, RecordFitsIn}
 use Rattle.scripts.specs.Runs.{opened_of}
 use Rattle.scripts.specs.Settings.{ObjectSettings}
@@ -85,12 +86,7 @@ module _ (opens : (p : PoolParams) → IsPoolOf p (opening_state p)) (stays : (p
   stays_full : (o : KernelObject) (c : KCall) → IsFull o → IsFull (kernel_answer o c).0
   stays_full (Object.Pool s) (Call.Pool c) full = let is = stays (full_quotas s.pages) s c full in subst (λ n. IsPoolOf (full_quotas n) (pool_answer s c).0) (sym is.pages) is
   stays_full (Object.Pool s) c full = full
-  stays_full (Object.Queue q) (Call.Queue c) full = tt
-  stays_full (Object.Queue q) c full = tt
-  stays_full (Object.Console s) (Call.Console c) full = tt
-  stays_full (Object.Console s) c full = tt
-  stays_full (Object.Sched s) (Call.Sched c) full = tt
-  stays_full (Object.Sched s) c full = tt
+  stays_full o c full = search rules
 
   opens_full : (p : KParams) → TellsParams One p → IsFull (kernel_opening p)
   opens_full (Params.Pool p) told = subst (λ q. IsPoolOf q (opening_state p)) told (opens p)

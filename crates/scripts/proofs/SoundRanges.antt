@@ -12,7 +12,7 @@ use Rattle.event_log.specs.Log.{Begins, calls_of, LegalFrom, Legal, after, of}
 use Rattle.sound_run.specs.Sound.{Opened, Sound, Answers, EntryIsSound, done_on, with_steps, steps_by, transcript_of}
 use Rattle.sound_run.proofs.Slices.{some_at, map_get}
 use Rattle.scripts.specs.contracts.objects.kernel_object.KernelObjectSeqObject.TheImpl.{ghosts as kernel}
-use Rattle.scripts.specs.declared.record.form.Form.TheVariants.{Two}
+use Rattle.scripts.specs.declared.record.form.TheConstants.{WRITTEN}
 use Rattle.scripts.specs.declared.objects.kernel_call.KParams.{KParams}
 use Rattle.scripts.specs.declared.objects.kernel_call.KCall.{KCall}
 use Rattle.scripts.specs.declared.objects.kernel_object.KernelObject.{KernelObject}
@@ -163,13 +163,13 @@ module _ (settings : Settings) (fit : SettingsFit settings) (run : KernelRun) (s
           let none : [] ≡ steps_by cpu log = sym (ap (λ o. done_on x (unwrap_or o [])) (slice_get_past run.transcripts cpu past)) ∙ sound.taken cpu x log at in
           subst (λ (l : List KernelSteps). AllByRecursion (λ s. Asked s × (cpu < settings.cpus)) l) none tt
 
-  log_fits : (x : ℕ) (log : List KernelEvent) → slice_get run.logs x ≡ Some log → LogFits Two settings.cpus log
+  log_fits : (x : ℕ) (log : List KernelEvent) → slice_get run.logs x ≡ Some log → LogFits WRITTEN settings.cpus log
   log_fits x log at =
       let within : x < objects = omega (arith, slice_get_within run.logs x log at, sound.counted, opened_count) in
       let object = some_at settings.objects x within in
       let o = object.0 in
       let is = sound.logs x _ log (map_get one_opened settings.objects x o object.1) at in
-      let good = each_at (ObjectFits Two) settings.objects x o fit.each object.1 in
+      let good = each_at (ObjectFits WRITTEN) settings.objects x o fit.each object.1 in
       let events = each_event (λ cpu s. Asked s × (cpu < settings.cpus)) log (λ cpu. cpu_steps cpu x log at) in
       let asked = asks_all log (all_map (λ e h. h.0) log events) in
       let replied = answers_all log (replies o.params log good.params is.legal asked) in
@@ -193,7 +193,7 @@ module _ (settings : Settings) (fit : SettingsFit settings) (run : KernelRun) (s
   done_fits (Steps s) h = h
   done_fits NoRoom h = tt
 
-  transcript_fits : (cpu : ℕ) (entries : List KernelEntry) → slice_get run.transcripts cpu ≡ Some entries → TranscriptFits Two objects entries
+  transcript_fits : (cpu : ℕ) (entries : List KernelEntry) → slice_get run.transcripts cpu ≡ Some entries → TranscriptFits WRITTEN objects entries
   transcript_fits cpu entries at =
       let same : transcript_of cpu run ≡ entries = ap (λ o. unwrap_or o []) at in
       let asked = each_at (TranscriptAsks objects) run.transcripts cpu entries asks at in
@@ -203,7 +203,7 @@ module _ (settings : Settings) (fit : SettingsFit settings) (run : KernelRun) (s
   pub run_fits : RunFits settings run
   run_fits = record {
     log_count = sound.counted ∙ opened_count;
-    logs = all_at (LogFits Two settings.cpus) run.logs log_fits;
+    logs = all_at (LogFits WRITTEN settings.cpus) run.logs log_fits;
     transcript_count = count;
-    transcripts = all_at (TranscriptFits Two objects) run.transcripts transcript_fits;
+    transcripts = all_at (TranscriptFits WRITTEN objects) run.transcripts transcript_fits;
   }

@@ -3,20 +3,22 @@ use Rattle.std.proofs.Common.{◌≡◌, ℕ, ◌+◌, ◌<◌, ◌≤◌, ◌�
 use Rattle.std.proofs.lemmas.Bool.{cases_lt}
 use Rattle.std.proofs.lemmas.Fmt.{length-decimal-le}
 use Rattle.std.proofs.lemmas.List.{append-nil, map-append, take_more}
-use Rattle.std.specs.Io.KnownBytes.{Consumes}
 use Rattle.std.specs.List.{AllByRecursion}
-use Rattle.std.specs.Result.{IsErrAnd, IfErr, OnOk}
+use Rattle.std.specs.Result.{IfErr, OnOk}
 use Rattle.event_log.proofs.Each.{all_push}
 use Rattle.sound_run.specs.declared.limits.TheConstants.{MOST_CPUS}
 use Rattle.scripts.specs.declared.schedule.ScheduleFault.{ScheduleFault}
 use Rattle.scripts.specs.declared.schedule.ScheduleFault.TheVariants.{OutOfMemory, Word}
 use Rattle.scripts.specs.declared.schedule.TheConstants.{MOST_STEPS}
-use Rattle.scripts.specs.declared.schedule.source.ScheduleReadFault.{ScheduleReadFault}
-use Rattle.scripts.specs.ScheduleReading.{HasReadSteps, EndsWord, NamesFirstBadWordOfRest, of_schedule}
+use Rattle.scripts.specs.declared.schedule.step_reader.StepReader.{StepReader}
+use Rattle.scripts.specs.declared.streams.feeding.SourceFault.{SourceFault}
+use Rattle.scripts.specs.declared.streams.feeding.SourceFault.TheVariants.{ReadFailed, Told}
+use Rattle.scripts.specs.Feeding.{HasRefused}
+use Rattle.scripts.specs.ScheduleReading.{HasReadSteps, EndsWord, NamesFirstBadWordOfRest, RefusesSteps}
 use Rattle.scripts.specs.ScheduleText.{is_gap, schedule_words, IsSchedule, NamesNoCpu, IsFirstBadWord}
 use Rattle.scripts.specs.ScriptFaults.{IsRest}
 use Rattle.scripts.proofs.Schedules.{gap_first, no_words, word_alone, word_first}
-use Rattle.scripts.proofs.ScriptSources.{consumes_none, consumes_then, of_rest}
+use Rattle.scripts.proofs.ScriptSources.{of_rest}
 
 -- ---- answers
 
@@ -177,35 +179,21 @@ fed_bad cpus text piece more i n less =
     (append_assoc text (take i piece) (get_or piece i 0 ∷ (after ++ more)) ∙ (ap (λ l. text ++ l) (sym (append_assoc (take i piece) (get_or piece i 0 ∷ after) more) ∙ ap (λ l. l ++ more) whole) ∙ sym (append_assoc text piece more)))
 
 module _ (cpus : ℕ) where
-  -- what was read so far of a source
-  pub record HasStepsOf (old now : Option (List ℕ)) (steps word : List ℕ) : Type 0 where
-    pub seen : List ℕ
-    pub consumed : Consumes old now seen
-    pub read : HasReadSteps cpus seen steps word
+  -- what was read of a source is refused
+  pub source_names : (old new : Option (List ℕ)) (first : StepReader) (cause : SourceFault ScheduleFault) → first.cpus ≡ cpus → ((f : ScheduleFault) → cause ≡ Told f → HasRefused (RefusesSteps first) old new f) → NamesFirstBadWordOfRest cpus old cause
+  source_names old new first ReadFailed is refused = tt
+  source_names old new first (Told OutOfMemory) is refused = tt
+  source_names old new first (Told (Word m)) is refused =
+      let bad = refused (Word m) refl in
+      of_rest (λ text. IsFirstBadWord cpus text m) old new bad.0 bad.1 (λ more. subst (λ (k : ℕ). IsFirstBadWord k (bad.0 ++ more) m) is (bad.2 more))
 
-  pub steps_start : (old : Option (List ℕ)) (steps word : List ℕ) → HasReadSteps cpus [] steps word → HasStepsOf old old steps word
-  steps_start old steps word read = record { seen = []; consumed = consumes_none old; read = read }
+  -- all of it is refused
+  pub end_names : (old : Option (List ℕ)) (text : List ℕ) (fault : ScheduleFault) → IsRest old text → ((m : ℕ) → fault ≡ Word m → IsFirstBadWord cpus text m) → NamesFirstBadWordOfRest cpus old (Told fault)
+  end_names old text OutOfMemory rest first = tt
+  end_names old text (Word m) rest first = (text, rest, first m refl)
 
-  module _ (old between now : Option (List ℕ)) (piece steps word : List ℕ) (read : HasStepsOf old between steps word) (consumed : Consumes between now piece) where
-    -- a piece more
-    pub steps_piece : (after longer : List ℕ) → ((text : List ℕ) → HasReadSteps cpus text steps word → HasReadSteps cpus (text ++ piece) after longer) → HasStepsOf old now after longer
-    steps_piece after longer takes = record {
-      seen = read.seen ++ piece;
-      consumed = consumes_then old between now read.seen piece read.consumed consumed;
-      read = takes read.seen read.read;
-    }
-
-    -- a piece with a bad word
-    pub steps_refused : (m : ℕ) → ((text more : List ℕ) → HasReadSteps cpus text steps word → IsFirstBadWord cpus ((text ++ piece) ++ more) m) → (text : List ℕ) × IsRest old text × IsFirstBadWord cpus text m
-    steps_refused m refuses =
-        of_rest (λ text. IsFirstBadWord cpus text m) old now (read.seen ++ piece) (consumes_then old between now read.seen piece read.consumed consumed)
-        (λ more. refuses read.seen more read.read)
-
-  word_names : (old : Option (List ℕ)) (fault : ScheduleFault) → ((m : ℕ) → fault ≡ Word m → (text : List ℕ) × IsRest old text × IsFirstBadWord cpus text m) → NamesFirstBadWordOfRest cpus old (of_schedule fault)
-  word_names old OutOfMemory first = tt
-  word_names old (Word m) first = first m refl
-
-  -- a refusal that is handed on
-  pub word_refused : {X : Type 0} (old : Option (List ℕ)) (fault : ScheduleFault) (r : Result X ScheduleReadFault) → IsErrAnd r (λ f. f ≡ of_schedule fault) → ((m : ℕ) → fault ≡ Word m → (text : List ℕ) × IsRest old text × IsFirstBadWord cpus text m) → IfErr r (NamesFirstBadWordOfRest cpus old)
-  word_refused old fault (Ok x) is first = tt
-  word_refused old fault (Err f) is first = subst (NamesFirstBadWordOfRest cpus old) (sym is) (word_names old fault first)
+-- a fault that names the first bad word alone
+pub piece_refused : {X : Type 0} (first : StepReader) (text : List ℕ) (r : Result X ScheduleFault) → ((m : ℕ) (more : List ℕ) → r ≡ Err (Word m) → IsFirstBadWord first.cpus (text ++ more) m) → IfErr r (RefusesSteps first text)
+piece_refused first text (Ok x) refused = tt
+piece_refused first text (Err OutOfMemory) refused = tt
+piece_refused first text (Err (Word m)) refused = λ more. refused m more refl

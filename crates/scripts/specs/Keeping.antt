@@ -2,7 +2,7 @@
 use Rattle.std.specs.Prelude.{ℕ, Bool, true, false, ◌≡◌, ◌<◌, ◌≤◌, List, [], ◌∷◌, ◌++◌, length}
 use Rattle.std.specs.List.{AllByRecursion}
 use Rattle.event_log.specs.declared.logged.TheConstants.{MOST_EVENTS}
-use Rattle.scripts.specs.declared.record.form.Form.TheVariants.{Two}
+use Rattle.scripts.specs.declared.record.form.TheConstants.{WRITTEN}
 use Rattle.scripts.specs.declared.script.cpu_scripts.TheConstants.{MOST_ENTRIES}
 use Rattle.scripts.specs.KernelTypes.{KernelEvent, KernelEntry}
 use Rattle.scripts.specs.RecordRanges.{Record, EventFits, EntryFits, LogFits, TranscriptFits}
@@ -50,9 +50,9 @@ kept_record settings p = record { settings = settings; run = record { logs = p.l
 -- a log is read, or its head comes: all is within its limits
 pub record InLogs (p : Parts) : Type 0 where
   pub settings : SettingsFit p.settings
-  pub logs : AllByRecursion (LogFits Two p.settings.cpus) p.logs
+  pub logs : AllByRecursion (LogFits WRITTEN p.settings.cpus) p.logs
   pub more : length p.logs < length p.settings.objects
-  pub events : AllByRecursion (EventFits Two p.settings.cpus) p.events
+  pub events : AllByRecursion (EventFits WRITTEN p.settings.cpus) p.events
   pub few : p.count ≤ MOST_EVENTS
   pub transcripts : p.transcripts ≡ []
   pub entries : p.entries ≡ []
@@ -61,11 +61,11 @@ pub record InLogs (p : Parts) : Type 0 where
 pub record InTranscripts (p : Parts) : Type 0 where
   pub settings : SettingsFit p.settings
   pub log_count : length p.logs ≡ length p.settings.objects
-  pub logs : AllByRecursion (LogFits Two p.settings.cpus) p.logs
+  pub logs : AllByRecursion (LogFits WRITTEN p.settings.cpus) p.logs
   pub events : p.events ≡ []
-  pub transcripts : AllByRecursion (TranscriptFits Two (length p.settings.objects)) p.transcripts
+  pub transcripts : AllByRecursion (TranscriptFits WRITTEN (length p.settings.objects)) p.transcripts
   pub more : length p.transcripts < p.settings.cpus
-  pub entries : AllByRecursion (EntryFits Two (length p.settings.objects)) p.entries
+  pub entries : AllByRecursion (EntryFits WRITTEN (length p.settings.objects)) p.entries
   pub few : p.count ≤ MOST_ENTRIES
 
 -- those settings were told, and all that was begun is whole

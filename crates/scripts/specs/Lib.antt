@@ -1,6 +1,7 @@
 pub mod Limits
 pub mod Forms
 pub mod Parameters
+pub mod Kinds
 pub mod Kernel
 pub mod Ranges
 pub mod Row
@@ -12,6 +13,7 @@ pub mod Reading
 pub mod Output
 pub mod KernelTypes
 pub mod Settings
+pub mod SettingsKeys
 pub mod SettingsText
 pub mod ScriptText
 pub mod RecordText
@@ -22,6 +24,8 @@ pub mod ScheduleReading
 pub mod SettingsSources
 pub mod RecordReading
 pub mod Then
+pub mod Feeding
+pub mod TextFaults
 pub mod LineMachine
 pub mod Pieces
 pub mod RecordStates

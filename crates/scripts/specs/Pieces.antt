@@ -1,7 +1,9 @@
 -- What who reads a text in pieces has taken of it.
 use Rattle.std.specs.Prelude.{List, ℕ}
+use Rattle.scripts.specs.declared.text.fault.LinesFault.{LinesFault}
+use Rattle.scripts.specs.declared.text.fault.LinesFault.TheVariants.{OutOfMemory, Line}
 use Rattle.scripts.specs.declared.text.line_machine.Pieces.{Pieces}
-use Rattle.scripts.specs.LineMachine.{HasTaken, IsKept}
+use Rattle.scripts.specs.LineMachine.{HasTaken, IsHeld, IsKept, RefusesLine}
 use Rattle.scripts.specs.ScriptFaults.{HasRead, ScriptState}
 use Rattle.scripts.specs.Settings.{Settings}
 
@@ -13,6 +15,15 @@ module _ {S : Type 0} (takes : List ℕ → S → S → Type 0) where
   -- that is kept of a line without an end
   abbrev pub Keeps : Pieces S → List ℕ → Type 0
   Keeps p unended = IsKept takes p.lines unended p.passing p.pending.items
+
+  -- from the first on the text was taken, of which no more is held than of a line without an end
+  abbrev pub TakesPieces : Pieces S → List ℕ → Pieces S → Type 0
+  TakesPieces first text p = HasFed first.lines text p × IsHeld takes p.lines p.pending.items
+
+  -- the line that is named is refused, whatever follows the text
+  abbrev pub RefusesPieces : (List ℕ → S → Type 0) → (ℕ → ℕ → Type 0) → Pieces S → List ℕ → LinesFault → Type 0
+  RefusesPieces refuses fits first text OutOfMemory = Unit {0}
+  RefusesPieces refuses fits first text (Line n) = RefusesLine takes refuses fits text first.lines 1 n
 
 -- the whole lines of the text were read as scripts, and what follows them is kept
 abbrev pub HasReadScripts : Settings → List ℕ → Pieces ScriptState → Type 0

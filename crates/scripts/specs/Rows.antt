@@ -1,55 +1,24 @@
 -- How calls and replies are spelled: of each type the rows, a value of each word, and the value of the same word
 -- with other numbers.
-use Rattle.std.specs.Prelude.{ℕ, List, [], ◌∷◌, codes}
-use Rattle.shared_queue.specs.declared.call.QueueCall.TheVariants.{Enq, Deq, Remove, Len}
-use Rattle.page_pool.specs.declared.call.PoolCall.TheVariants.{Alloc, Free, Left}
-use Rattle.console_ring.specs.declared.call.ConsoleCall.TheVariants.{Put, Get, Level}
-use Rattle.wake_list.specs.declared.call.SchedCall.TheVariants.{Ready, Next, Sleep, Wake, WakeAll}
+use Rattle.std.specs.Prelude.{ℕ, List, [], ◌∷◌, map, codes}
+use Rattle.std.specs.List.{flat_map}
 use Rattle.scripts.specs.declared.objects.kernel_call.KCall.{KCall}
-use Rattle.scripts.specs.declared.objects.kernel_call.KCall.TheVariants.{Queue, Pool, Console, Sched}
 use Rattle.scripts.specs.declared.objects.kernel_call.KReply.{KReply}
 use Rattle.scripts.specs.declared.objects.kernel_call.KReply.TheVariants.{Ok, Already, BadThread, Thread, Empty, Absent, Count, Page, NoPage, OverQuota, BadOwner, NotYours, NotTaken, BadPage, Dropped, Byte, BadChannel, BadCall}
-use Rattle.scripts.specs.Row.{Row, first, others, wide, byte}
+use Rattle.scripts.specs.Kinds.All.{definition_of, all_kinds, on_call, call_of}
+use Rattle.scripts.specs.Row.{Row, first, wide, byte}
 
 -- how a call is spelled
 abbrev pub call_row : KCall → Row
-call_row (Queue (Enq t)) = record { word = codes "enq"; fields = wide t ∷ [] }
-call_row (Queue Deq) = record { word = codes "deq"; fields = [] }
-call_row (Queue (Remove t)) = record { word = codes "remove"; fields = wide t ∷ [] }
-call_row (Queue Len) = record { word = codes "len"; fields = [] }
-call_row (Pool (Alloc o)) = record { word = codes "alloc"; fields = wide o ∷ [] }
-call_row (Pool (Free o p)) = record { word = codes "free"; fields = wide o ∷ wide p ∷ [] }
-call_row (Pool Left) = record { word = codes "left"; fields = [] }
-call_row (Console (Put b)) = record { word = codes "put"; fields = byte b ∷ [] }
-call_row (Console Get) = record { word = codes "get"; fields = [] }
-call_row (Console Level) = record { word = codes "level"; fields = [] }
-call_row (Sched (Ready t)) = record { word = codes "ready"; fields = wide t ∷ [] }
-call_row (Sched Next) = record { word = codes "next"; fields = [] }
-call_row (Sched (Sleep c t)) = record { word = codes "sleep"; fields = wide c ∷ wide t ∷ [] }
-call_row (Sched (Wake c)) = record { word = codes "wake"; fields = wide c ∷ [] }
-call_row (Sched (WakeAll c)) = record { word = codes "wakeall"; fields = wide c ∷ [] }
+call_row c = on_call (λ k own. (definition_of k).row own) c
 
 -- the call of the same word with these numbers
 abbrev pub call_filled : KCall → List ℕ → KCall
-call_filled (Queue (Enq _)) ns = Queue (Enq (first ns))
-call_filled (Queue Deq) ns = Queue Deq
-call_filled (Queue (Remove _)) ns = Queue (Remove (first ns))
-call_filled (Queue Len) ns = Queue Len
-call_filled (Pool (Alloc _)) ns = Pool (Alloc (first ns))
-call_filled (Pool (Free _ _)) ns = Pool (Free (first ns) (first (others ns)))
-call_filled (Pool Left) ns = Pool Left
-call_filled (Console (Put _)) ns = Console (Put (first ns))
-call_filled (Console Get) ns = Console Get
-call_filled (Console Level) ns = Console Level
-call_filled (Sched (Ready _)) ns = Sched (Ready (first ns))
-call_filled (Sched Next) ns = Sched Next
-call_filled (Sched (Sleep _ _)) ns = Sched (Sleep (first ns) (first (others ns)))
-call_filled (Sched (Wake _)) ns = Sched (Wake (first ns))
-call_filled (Sched (WakeAll _)) ns = Sched (WakeAll (first ns))
+call_filled c ns = on_call (λ k own. call_of k ((definition_of k).filled own ns)) c
 
 -- a call of each word
 abbrev pub call_samples : List KCall
-call_samples = Queue (Enq 0) ∷ Queue Deq ∷ Queue (Remove 0) ∷ Queue Len ∷ Pool (Alloc 0) ∷ Pool (Free 0 0) ∷ Pool Left ∷ Console (Put 0) ∷ Console Get ∷ Console Level ∷ Sched (Ready 0) ∷ Sched Next ∷ Sched (Sleep 0 0) ∷ Sched (Wake 0) ∷ Sched (WakeAll 0) ∷ []
+call_samples = flat_map (λ kind. map (call_of kind) (definition_of kind).samples) all_kinds
 
 -- how a reply is spelled
 abbrev pub reply_row : KReply → Row

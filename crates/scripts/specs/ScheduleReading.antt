@@ -2,10 +2,12 @@
 use Rattle.std.specs.Prelude.{ℕ, ◌≡◌, ◌<◌, ◌≤◌, ◌⊎◌, false, List, [], ◌∷◌, ◌++◌, map, length, decimal, Option}
 use Rattle.std.specs.List.{AllByRecursion}
 use Rattle.scripts.specs.declared.schedule.ScheduleFault.{ScheduleFault}
-use Rattle.scripts.specs.declared.schedule.ScheduleFault.TheVariants as schedule_fault
+use Rattle.scripts.specs.declared.schedule.ScheduleFault.TheVariants.{OutOfMemory, Word}
+use Rattle.sound_run.specs.declared.limits.TheConstants.{MOST_CPUS}
 use Rattle.scripts.specs.declared.schedule.TheConstants.{MOST_STEPS}
-use Rattle.scripts.specs.declared.schedule.source.ScheduleReadFault.{ScheduleReadFault}
-use Rattle.scripts.specs.declared.schedule.source.ScheduleReadFault.TheVariants.{OutOfMemory, ReadFailed, Word}
+use Rattle.scripts.specs.declared.schedule.step_reader.StepReader.{StepReader}
+use Rattle.scripts.specs.declared.streams.feeding.SourceFault.{SourceFault}
+use Rattle.scripts.specs.declared.streams.feeding.SourceFault.TheVariants.{ReadFailed, Told}
 use Rattle.scripts.specs.ScheduleText.{is_gap, schedule_words, IsSchedule, IsFirstBadWord}
 use Rattle.scripts.specs.ScriptFaults.{IsRest}
 
@@ -26,12 +28,19 @@ abbrev pub SpellsScheduleRest : ℕ → Option (List ℕ) → List ℕ → Type 
 SpellsScheduleRest cpus remaining steps = (text : List ℕ) × IsRest remaining text × IsSchedule cpus text steps
 
 -- the word that is named is the first of the rest of a source that can't come
-abbrev pub NamesFirstBadWordOfRest : ℕ → Option (List ℕ) → ScheduleReadFault → Type 0
-NamesFirstBadWordOfRest cpus remaining OutOfMemory = Unit {0}
+abbrev pub NamesFirstBadWordOfRest : ℕ → Option (List ℕ) → SourceFault ScheduleFault → Type 0
 NamesFirstBadWordOfRest cpus remaining ReadFailed = Unit {0}
-NamesFirstBadWordOfRest cpus remaining (Word n) = (text : List ℕ) × IsRest remaining text × IsFirstBadWord cpus text n
+NamesFirstBadWordOfRest cpus remaining (Told OutOfMemory) = Unit {0}
+NamesFirstBadWordOfRest cpus remaining (Told (Word n)) = (text : List ℕ) × IsRest remaining text × IsFirstBadWord cpus text n
 
--- the same refusal of a text and of a source
-abbrev pub of_schedule : ScheduleFault → ScheduleReadFault
-of_schedule schedule_fault.OutOfMemory = OutOfMemory
-of_schedule (schedule_fault.Word n) = Word n
+-- from the first on the text was read, for as many CPUs
+pub record TakesSteps (first : StepReader) (text : List ℕ) (now : StepReader) : Type 0 where
+  pub some : 1 ≤ first.cpus
+  pub few : first.cpus ≤ MOST_CPUS
+  pub same : now.cpus ≡ first.cpus
+  pub read : HasReadSteps first.cpus text now.steps.items now.word.items
+
+-- the word that is named is the first that can't come, whatever follows the text
+abbrev pub RefusesSteps : StepReader → List ℕ → ScheduleFault → Type 0
+RefusesSteps first text OutOfMemory = Unit {0}
+RefusesSteps first text (Word n) = (more : List ℕ) → IsFirstBadWord first.cpus (text ++ more) n

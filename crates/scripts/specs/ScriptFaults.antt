@@ -1,14 +1,12 @@
 -- What a line of the scripts does, and what reading them answers.
 use Rattle.std.specs.Prelude.{ℕ, ◌≡◌, ◌<◌, ◌≤◌, ◌⊎◌, Bool, List, [], ◌∷◌, ◌++◌, length, Option, Some, slice_get, slice_set}
-use Rattle.scripts.specs.declared.text.line_machine.PieceFault.{PieceFault}
-use Rattle.scripts.specs.declared.text.line_machine.PieceFault.TheVariants as piece
 use Rattle.scripts.specs.declared.text.line_machine.TheConstants.{MOST_BYTES}
 use Rattle.scripts.specs.declared.script.request.Request.{Request}
 use Rattle.scripts.specs.declared.script.cpu_scripts.TheConstants.{MOST_ENTRIES}
-use Rattle.scripts.specs.declared.script.reader.ScriptsFault.{ScriptsFault}
-use Rattle.scripts.specs.declared.script.reader.ScriptsFault.TheVariants.{OutOfMemory, Line}
-use Rattle.scripts.specs.declared.script.source.ScriptsReadFault.{ScriptsReadFault}
-use Rattle.scripts.specs.declared.script.source.ScriptsReadFault.TheVariants as stream
+use Rattle.scripts.specs.declared.text.fault.LinesFault.{LinesFault}
+use Rattle.scripts.specs.declared.text.fault.LinesFault.TheVariants.{OutOfMemory, Line}
+use Rattle.scripts.specs.declared.text.fault.TextFault.{TextFault}
+use Rattle.scripts.specs.declared.text.fault.TextFault.TheVariants as stream
 use Rattle.scripts.specs.KernelTypes.{KernelTodo}
 use Rattle.scripts.specs.LineMachine.{HasTaken}
 use Rattle.scripts.specs.ScriptText.{IsBlank, IsRequest, IsFirstBad, AreScripts, dealt}
@@ -36,7 +34,7 @@ module _ (settings : Settings) where
     pub no_room : (r : Request) → IsRequest settings line r → IsFull scripts r.cpu
 
 -- the line that is named is the first that can't come
-abbrev pub NamesFirstBad : Settings → List ℕ → ScriptsFault → Type 0
+abbrev pub NamesFirstBad : Settings → List ℕ → LinesFault → Type 0
 NamesFirstBad settings text OutOfMemory = Unit {0}
 NamesFirstBad settings text (Line n) = IsFirstBad settings text n
 
@@ -79,17 +77,7 @@ abbrev pub IsFirstBadOfRest : Settings → Option (List ℕ) → ℕ → Type 0
 IsFirstBadOfRest settings remaining n = (text : List ℕ) × IsRest remaining text × IsFirstBad settings text n
 
 -- the line that is named is the first that can't come
-abbrev pub NamesFirstBadOfRest : Settings → Option (List ℕ) → ScriptsReadFault → Type 0
+abbrev pub NamesFirstBadOfRest : Settings → Option (List ℕ) → TextFault → Type 0
 NamesFirstBadOfRest settings remaining stream.OutOfMemory = Unit {0}
 NamesFirstBadOfRest settings remaining stream.ReadFailed = Unit {0}
-NamesFirstBadOfRest settings remaining (stream.Line n) = IsFirstBadOfRest settings remaining n
-
--- the same refusal of a text and of a source
-abbrev pub of_text : ScriptsFault → ScriptsReadFault
-of_text OutOfMemory = stream.OutOfMemory
-of_text (Line n) = stream.Line n
-
--- the same refusal of a piece and of a text
-abbrev pub of_piece : PieceFault → ScriptsFault
-of_piece piece.OutOfMemory = OutOfMemory
-of_piece (piece.Line n) = Line n
+NamesFirstBadOfRest settings remaining (stream.BadLine n) = IsFirstBadOfRest settings remaining n

@@ -9,7 +9,7 @@ use Rattle.sound_run.specs.declared.limits.TheConstants.{MOST_CELLS}
 use Rattle.scripts.specs.declared.objects.kernel_call.KParams.{KParams}
 use Rattle.scripts.specs.declared.objects.kernel_call.KParams.TheVariants.{Queue}
 use Rattle.scripts.specs.declared.record.form.Form.{Form}
-use Rattle.scripts.specs.declared.record.form.Form.TheVariants.{Two}
+use Rattle.scripts.specs.declared.record.form.TheConstants.{WRITTEN}
 use Rattle.scripts.specs.Forms.{most_cpus, TellsParams}
 use Rattle.scripts.specs.Kernel.{kernel_in_range}
 
@@ -60,7 +60,7 @@ pub record SettingsFitIn (form : Form) (s : Settings) : Type 0 where
 
 -- settings within all limits: those of record 2, which tells all
 abbrev pub SettingsFit : Settings → Type 0
-SettingsFit s = SettingsFitIn Two s
+SettingsFit s = SettingsFitIn WRITTEN s
 
 -- two CPUs, and one queue of 8 threads behind a ticket lock, with at most 100 events
 abbrev pub built_in_settings : Settings

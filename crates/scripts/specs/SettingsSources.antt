@@ -3,10 +3,10 @@ use Rattle.std.specs.Prelude.{ℕ, ◌≡◌, ◌<◌, ◌≤◌, ◌⊎◌, Lis
 use Rattle.std.specs.Io.KnownBytes.{Consumes}
 use Rattle.scripts.specs.declared.settings.fault.BadSettings.{BadSettings}
 use Rattle.scripts.specs.declared.settings.fault.SettingsFault.{SettingsFault}
-use Rattle.scripts.specs.declared.settings.fault.SettingsFault.TheVariants as settings_fault
-use Rattle.scripts.specs.declared.settings.source.SettingsReadFault.{SettingsReadFault}
-use Rattle.scripts.specs.declared.settings.source.SettingsReadFault.TheVariants.{OutOfMemory, ReadFailed, Refused}
+use Rattle.scripts.specs.declared.settings.fault.SettingsFault.TheVariants.{OutOfMemory, Refused}
 use Rattle.scripts.specs.declared.settings.source.TheConstants.{MOST_SETTINGS_BYTES}
+use Rattle.scripts.specs.declared.streams.feeding.SourceFault.{SourceFault}
+use Rattle.scripts.specs.declared.streams.feeding.SourceFault.TheVariants.{ReadFailed, Told}
 use Rattle.scripts.specs.ScriptFaults.{IsRest}
 use Rattle.scripts.specs.Settings.{Settings}
 use Rattle.scripts.specs.SettingsText.{SpellsSettings, IsSettingsFault, not_toml}
@@ -28,12 +28,7 @@ abbrev pub SpellsSettingsRest : Option (List ℕ) → Settings → Type 0
 SpellsSettingsRest remaining settings = (text : List ℕ) × IsRest remaining text × SpellsShortSettings text settings
 
 -- the fault that is named is the first of the rest of a source
-abbrev pub NamesFirstFaultOfRest : Option (List ℕ) → SettingsReadFault → Type 0
-NamesFirstFaultOfRest remaining OutOfMemory = Unit {0}
+abbrev pub NamesFirstFaultOfRest : Option (List ℕ) → SourceFault SettingsFault → Type 0
 NamesFirstFaultOfRest remaining ReadFailed = Unit {0}
-NamesFirstFaultOfRest remaining (Refused bad) = (text : List ℕ) × IsRest remaining text × IsFaultOfSettings text bad
-
--- the same refusal of a text and of a source
-abbrev pub of_settings : SettingsFault → SettingsReadFault
-of_settings settings_fault.OutOfMemory = OutOfMemory
-of_settings (settings_fault.Refused bad) = Refused bad
+NamesFirstFaultOfRest remaining (Told OutOfMemory) = Unit {0}
+NamesFirstFaultOfRest remaining (Told (Refused bad)) = (text : List ℕ) × IsRest remaining text × IsFaultOfSettings text bad

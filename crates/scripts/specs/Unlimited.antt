@@ -8,7 +8,8 @@ use Rattle.scripts.specs.declared.objects.kernel_call.KCall.TheVariants.{Pool as
 use Rattle.scripts.specs.declared.objects.kernel_call.KReply.{KReply}
 use Rattle.scripts.specs.declared.objects.kernel_object.KernelObject.{KernelObject}
 use Rattle.scripts.specs.declared.objects.kernel_object.KernelObject.TheVariants.{Pool as PoolObject}
-use Rattle.scripts.specs.Kernel.{kernel_answer, of_pool}
+use Rattle.scripts.specs.Kernel.{kernel_answer}
+use Rattle.scripts.specs.Kinds.Pool.{of_pool}
 use Rattle.scripts.specs.RecordRanges.{Record}
 use Rattle.scripts.specs.Runs.{opened_of}
 

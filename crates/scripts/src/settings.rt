@@ -4,6 +4,7 @@ ghost use Rattle.std.specs.Prelude.{◌≡◌, IfOk};
 ghost use Rattle.scripts.specs.Settings.{SettingsFit, built_in_settings};
 
 pub mod fault;
+pub mod keys;
 pub mod lookup;
 pub mod source;
 pub mod text;

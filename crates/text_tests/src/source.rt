@@ -2,8 +2,8 @@
 
 use event_log::{Source, StreamFailed};
 use scripts::{
-    Cause, MOST_SETTINGS_BYTES, Schedule, ScheduleReadFault, Scripts, ScriptsFault,
-    ScriptsReadFault, Settings, SettingsReadFault,
+    Cause, MOST_SETTINGS_BYTES, Schedule, ScheduleFault, Scripts, ScriptsFault, Settings,
+    SettingsFault, SourceFault, TextFault,
 };
 use std::alloc::Global;
 use std::test::Fail;
@@ -48,7 +48,7 @@ fn read_pieces(
     size: usize,
     calls: usize,
     settings: &Settings,
-) -> Result<Scripts, ScriptsReadFault> {
+) -> Result<Scripts, TextFault> {
     let mut source = Pieces {
         rest: text.as_bytes(),
         size,
@@ -77,7 +77,7 @@ fn pieces_of_each_size(rt: HostRuntime) -> Result<(), Fail> {
         );
         let refused = read_pieces(rt.alloc(), BAD, size, BAD.len() + 1, &settings);
         assert!(rt;
-            matches!(refused, Err(ScriptsReadFault::Line(4))),
+            matches!(refused, Err(TextFault::BadLine(4))),
             "{size} bytes"
         );
     }
@@ -88,9 +88,9 @@ fn pieces_of_each_size(rt: HostRuntime) -> Result<(), Fail> {
 fn nothing_is_read_behind_a_bad_line(rt: HostRuntime) -> Result<(), Fail> {
     let settings = Settings::built_in(rt.alloc())?;
     let refused = read_pieces(rt.alloc(), "x\nx\nx\nx\n", 4, 1, &settings);
-    assert!(rt; matches!(refused, Err(ScriptsReadFault::Line(1))));
+    assert!(rt; matches!(refused, Err(TextFault::BadLine(1))));
     let failed = read_pieces(rt.alloc(), GOOD, 30, 2, &settings);
-    assert!(rt; matches!(failed, Err(ScriptsReadFault::ReadFailed)));
+    assert!(rt; matches!(failed, Err(TextFault::ReadFailed)));
     Ok(())
 }
 
@@ -99,7 +99,7 @@ fn a_last_line_without_end(rt: HostRuntime) -> Result<(), Fail> {
     let settings = Settings::built_in(rt.alloc())?;
     let text = "0 q0 deq\n1 q0 len";
     let refused = read_pieces(rt.alloc(), text, 5, 9, &settings);
-    assert!(rt; matches!(refused, Err(ScriptsReadFault::Line(2))));
+    assert!(rt; matches!(refused, Err(TextFault::BadLine(2))));
     let whole = Scripts::read(rt.alloc(), text.as_bytes(), &settings);
     assert!(rt; matches!(whole, Err(ScriptsFault::Line(2))));
     Ok(())
@@ -112,7 +112,7 @@ fn read_steps(
     size: usize,
     calls: usize,
     settings: &Settings,
-) -> Result<Schedule, ScheduleReadFault> {
+) -> Result<Schedule, SourceFault<ScheduleFault>> {
     let mut source = Pieces {
         rest: text,
         size,
@@ -134,7 +134,7 @@ fn schedules_in_pieces_of_each_size(rt: HostRuntime) -> Result<(), Fail> {
         for bad in ["0\n 1 2 0 1", "0 1\n1x 0 1", "0 1 000000", "0 1  1x"] {
             let refused = read_steps(rt.alloc(), bad.as_bytes(), size, 13, &settings);
             assert!(rt;
-                matches!(refused, Err(ScheduleReadFault::Word(3))),
+                matches!(refused, Err(SourceFault::Told(ScheduleFault::Word(3)))),
                 "{bad:?}, {size} bytes"
             );
         }
@@ -148,14 +148,11 @@ fn nothing_is_read_behind_a_bad_word(rt: HostRuntime) -> Result<(), Fail> {
     for text in ["0 111111", "0 1x 1 1", "0 2 1 1 "] {
         let refused = read_steps(rt.alloc(), text.as_bytes(), 5, 1, &settings);
         assert!(rt;
-            matches!(refused, Err(ScheduleReadFault::Word(2))),
+            matches!(refused, Err(SourceFault::Told(ScheduleFault::Word(2)))),
             "{text:?}"
         );
         let failed = read_steps(rt.alloc(), text.as_bytes(), 3, 1, &settings);
-        assert!(rt;
-            matches!(failed, Err(ScheduleReadFault::ReadFailed)),
-            "{text:?}"
-        );
+        assert!(rt; matches!(failed, Err(SourceFault::ReadFailed)), "{text:?}");
     }
     Ok(())
 }
@@ -171,7 +168,12 @@ fn a_step_too_many_without_its_end(rt: HostRuntime) -> Result<(), Fail> {
     assert!(rt; matches!(&read, Ok(schedule) if schedule.steps().len() == 100_000));
     text.push(b'1')?;
     let refused = read_steps(rt.alloc(), text.as_slice(), 4096, 49, &settings);
-    assert!(rt; matches!(refused, Err(ScheduleReadFault::Word(100_001))));
+    assert!(rt;
+        matches!(
+            refused,
+            Err(SourceFault::Told(ScheduleFault::Word(100_001)))
+        )
+    );
     Ok(())
 }
 
@@ -192,7 +194,7 @@ fn read_settings(
     text: &[u8],
     size: usize,
     calls: usize,
-) -> Result<Settings, SettingsReadFault> {
+) -> Result<Settings, SourceFault<SettingsFault>> {
     let mut source = Pieces {
         rest: text,
         size,
@@ -213,7 +215,7 @@ fn settings_of_the_most_bytes(rt: HostRuntime) -> Result<(), Fail> {
         );
     }
     let failed = read_settings(rt.alloc(), most.as_slice(), 4096, 16);
-    assert!(rt; matches!(failed, Err(SettingsReadFault::ReadFailed)));
+    assert!(rt; matches!(failed, Err(SourceFault::ReadFailed)));
     Ok(())
 }
 
@@ -223,7 +225,10 @@ fn settings_of_a_byte_too_many(rt: HostRuntime) -> Result<(), Fail> {
         let text = with_comment(rt.alloc(), MOST_SETTINGS_BYTES + more)?;
         let refused = read_settings(rt.alloc(), text.as_slice(), 4096, 17);
         assert!(rt;
-            matches!(refused, Err(SettingsReadFault::Refused(bad)) if bad.cause == Cause::NotToml),
+            matches!(
+                refused,
+                Err(SourceFault::Told(SettingsFault::Refused(bad))) if bad.cause == Cause::NotToml
+            ),
             "{more} bytes too many"
         );
     }

@@ -3,7 +3,6 @@ use Rattle.std.specs.Prelude.{ℕ, ◌+◌, ◌-◌, ◌^◌, min, Bool, false, 
 use Rattle.event_log.specs.declared.object.OutOfMemory.{OutOfMemory}
 use Rattle.program.specs.declared.refusal.Refusal.{Refusal}
 use Rattle.program.specs.declared.refusal.Refusal.TheVariants as refusal
-use Rattle.program.specs.declared.words.WordsFault.{WordsFault}
 use Rattle.program.specs.Refusals as common
 use Rattle.record_view.specs.declared.by_counts.OwnUnseen.{OwnUnseen}
 use Rattle.record_view.specs.declared.by_counts.OwnUnseen.TheVariants as unseen
@@ -19,9 +18,6 @@ of_refusal cause = fault.Common cause
 
 abbrev pub of_memory : OutOfMemory → Fault
 of_memory e = fault.Common refusal.OutOfMemory
-
-abbrev pub of_words : WordsFault → Fault
-of_words cause = fault.Common (common.of_words cause)
 
 abbrev pub of_draft : DraftFault → Fault
 of_draft draft.OutOfMemory = fault.Common refusal.OutOfMemory

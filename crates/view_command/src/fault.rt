@@ -1,11 +1,11 @@
 //! Why the program didn't do what its words ask for.
 
 ghost use Rattle.std.specs.Prelude.{◌≡◌};
-ghost use Rattle.view_command.specs.Faults.{of_draft, of_memory, of_no_trace, of_refusal, of_unseen, of_words, status_of};
+ghost use Rattle.view_command.specs.Faults.{of_draft, of_memory, of_no_trace, of_refusal, of_unseen, status_of};
 
 use crate::draft::DraftFault;
 use event_log::OutOfMemory;
-use program::{Refusal, WordsFault};
+use program::Refusal;
 use record_view::{NoTrace, OwnUnseen};
 use thiserror::Error;
 
@@ -60,14 +60,6 @@ impl From<OutOfMemory> for Fault {
     fn from(cause: OutOfMemory) -> Fault {
         let OutOfMemory = cause;
         Fault::Common(Refusal::OutOfMemory)
-    }
-}
-
-impl From<WordsFault> for Fault {
-    ghost from_gives = { λ cause fault. fault ≡ of_words cause };
-
-    fn from(cause: WordsFault) -> Fault {
-        Fault::Common(Refusal::from(cause))
     }
 }
 

@@ -28,7 +28,10 @@ pub fn read_any<I: Inputs>(
     };
     let (read, input) = read_either(alloc, input);
     inputs.close(input);
-    Ok(read?)
+    match read {
+        Ok(read) => Ok(read),
+        Err(fault) => Err(Refusal::of_record(fault)),
+    }
 }
 
 /// The numbers that a word lists, if there is one.

@@ -1,9 +1,11 @@
 pub mod LineAfter
 pub mod LockInterface
 pub mod LockStates
+pub mod LineEnds
 pub mod Moves
 pub mod Ticket
 pub mod Mcs
+pub mod Toggle
 pub mod Lists
 pub mod RunLists
 pub mod Runs
@@ -14,6 +16,8 @@ pub mod Known
 pub mod Meetings
 pub mod Ends
 pub mod LockLaws
+pub mod CallerSteps
+pub mod CallerFacts
 pub mod Acting
 pub mod Dealing
 pub mod WholeCalls

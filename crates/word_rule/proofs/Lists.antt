@@ -13,7 +13,7 @@ use Rattle.event_log.specs.Distinct.{has, AreDistinctBelow}
 use Rattle.event_log.specs.Log.{Begins, of}
 use Rattle.event_log.proofs.Beginnings.{begins_self, begins_then, begins_rest}
 use Rattle.word_rule.specs.Cell.{Grows}
-use Rattle.word_rule.specs.Line.{is_first}
+use Rattle.word_rule.specs.Line.{behind, is_first}
 use Rattle.word_rule.specs.Rule.CellInvariant.{EachFrom}
 
 pub or_none : (b : Bool) → (b || false) ≡ b
@@ -56,6 +56,10 @@ one_place n (y ∷ xs) d (suc i) (suc j) x e f = ap suc (one_place n xs d.2 i j 
 pub first_is : (line : List ℕ) (p : ℕ) → get_elem? line 0 ≡ some p → (rest : List ℕ) × (line ≡ p ∷ rest)
 first_is [] p e = absurd (some-ne-none p (sym e))
 first_is (q ∷ rest) p e = (rest, λ i. some-injective q p e i ∷ rest)
+
+-- the first and those behind it
+pub split_line : (i : ℕ) (rest cpus : List ℕ) → cpus ≡ i ∷ rest → cpus ≡ i ∷ behind cpus
+split_line i rest cpus e = e ∙ ap (λ r. i ∷ r) (sym (ap behind e))
 
 -- the first stands at the place 0
 pub first_at : (i : ℕ) (line : List ℕ) → is_first i line ≡ true → get_elem? line 0 ≡ some i

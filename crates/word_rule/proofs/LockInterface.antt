@@ -1,10 +1,12 @@
 -- What each lock proves of its definition: all else is proved from this.
-use Rattle.std.proofs.Common.{◌≡◌, ◌≢◌, ℕ, ◌<◌, ◌^◌, ◌==◌, Bool, true, false, cond, List, []}
+use Rattle.std.proofs.Common.{◌≡◌, ◌≢◌, ℕ, ◌<◌, ◌≤◌, ◌==◌, Bool, true, false, cond, List, []}
 use Rattle.event_log.specs.Distinct.{has}
+use Rattle.sound_run.specs.declared.limits.TheConstants.{MOST_CPUS}
 use Rattle.word_rule.specs.declared.machine.step_done.StepDone.{StepDone}
 use Rattle.word_rule.specs.declared.machine.step_done.StepDone.TheVariants as steps
 use Rattle.word_rule.specs.declared.lock_kind.Stage.{Stage}
-use Rattle.word_rule.specs.declared.lock_kind.Stage.TheVariants.{Idle, Trying}
+use Rattle.word_rule.specs.declared.lock_kind.Stage.TheVariants.{Idle, Toggle, Trying}
+use Rattle.word_rule.specs.declared.toggle_stage.ToggleStage.TheVariants as toggle
 use Rattle.word_rule.specs.Line.{First, moved}
 use Rattle.word_rule.specs.LockDefinition.{LockDefinition, LockState, IsState, opening_state}
 use Rattle.word_rule.specs.Locks.{holding}
@@ -13,6 +15,7 @@ use Rattle.word_rule.proofs.LineAfter.{LineAfter}
 -- whether one that stands there has prepared a try
 abbrev pub is_trying : Stage → Bool
 is_trying Trying = true
+is_trying (Toggle (toggle.Trying own)) = true
 is_trying q = false
 
 -- no CPU stands at such a place
@@ -50,14 +53,14 @@ module _ (d : LockDefinition) where
     -- a lock before its first step is a state of it, and erased alike whatever its first ticket
     pub begins : (n first : ℕ) → d.fits n ≡ true → IsState d n (opening_state d first)
     pub opens_erased : (first first' : ℕ) → d.erase (opening_state d first) ≡ d.erase (opening_state d first')
-    -- it is for as many CPUs as a byte can count; a state of it is one for as many as it fits
-    pub few_fit : (n : ℕ) → n < 2 ^ 8 → d.fits n ≡ true
+    -- it is for as many CPUs as a cell may have; a state of it is one for as many as it fits
+    pub few_fit : (n : ℕ) → n ≤ MOST_CPUS → d.fits n ≡ true
     pub fits : (n : ℕ) (l : LockState d.Extra) → IsState d n l → d.fits n ≡ true
     -- who is idle isn't in line; who has the object is the first
-    pub outside : (cpus : List ℕ) (out : Bool) (x : ℕ) (extra : d.Extra) → d.Stands cpus out x extra Idle → has x cpus ≡ false
-    pub first : (cpus : List ℕ) (out : Bool) (x : ℕ) (extra : d.Extra) (q : Stage) → holding q ≡ true → d.Stands cpus out x extra q → First cpus out x true
+    pub outside : (n : ℕ) (cpus : List ℕ) (out : Bool) (x : ℕ) (extra : d.Extra) → d.Stands n cpus out x extra Idle → has x cpus ≡ false
+    pub first : (n : ℕ) (cpus : List ℕ) (out : Bool) (x : ℕ) (extra : d.Extra) (q : Stage) → holding q ≡ true → d.Stands n cpus out x extra q → First cpus out x true
     -- a holder stands where it has the object
-    pub holds : (ticket : ℕ) → holding (d.holder ticket) ≡ true
+    pub holds : (mark : ℕ) → holding (d.holder mark) ≡ true
     -- each turn keeps the lock
     pub goes : (n : ℕ) (l : LockState d.Extra) (i : ℕ) → IsState d n l → i < n → Goes n l i (d.turn l i)
     -- no turn prepares a try
@@ -71,5 +74,5 @@ module _ (d : LockDefinition) where
     -- two locks that go by one number do so after one step of both
     pub counts : (l l' : LockState d.Extra) (i : ℕ) → (d.turn l i).1 ≡ (d.turn l' i).1 → d.served l.extra ≡ d.served l'.extra → d.served (d.turn l i).0.extra ≡ d.served (d.turn l' i).0.extra
     -- no try, and no preparing of one, moves another CPU; nor does one that finds somebody change the line
-    pub tries : (l : LockState d.Extra) (i ticket : ℕ) → Tries l i (d.attempt l i ticket)
+    pub tries : (l : LockState d.Extra) (i seen : ℕ) → Tries l i (d.attempt l i seen)
     pub prepares : (l : LockState d.Extra) (i x : ℕ) → x ≢ i → (d.prepare l i).line.stage x ≡ l.line.stage x

@@ -12,8 +12,8 @@ use Rattle.word_rule.proofs.Moves.{each_moved}
 
 module _ (d : LockDefinition) (n : ℕ) (l : LockState d.Extra) (h : IsState d n l) where
   -- where a CPU stands, by its stage
-  pub stands_at : (x : ℕ) (q : Stage) → x < n → l.line.stage x ≡ q → d.Stands l.line.cpus l.line.out x l.extra q
-  stands_at x q below is = subst (d.Stands l.line.cpus l.line.out x l.extra) is (h.stood x below)
+  pub stands_at : (x : ℕ) (q : Stage) → x < n → l.line.stage x ≡ q → d.Stands n l.line.cpus l.line.out x l.extra q
+  stands_at x q below is = subst (d.Stands n l.line.cpus l.line.out x l.extra) is (h.stood x below)
 
   -- only the lock's CPUs are in line
   pub in_line_below : (x : ℕ) → has x l.line.cpus ≡ true → x < n
@@ -26,10 +26,10 @@ module _ (d : LockDefinition) (n : ℕ) (l : LockState d.Extra) (h : IsState d n
   line_fits = distinct_length n l.line.cpus h.distinct
 
   -- only the stage of p changes
-  pub restaged : (p : ℕ) (q : Stage) → d.Stands l.line.cpus l.line.out p l.extra q → IsState d n (record l { line = going l.line p q })
+  pub restaged : (p : ℕ) (q : Stage) → d.Stands n l.line.cpus l.line.out p l.extra q → IsState d n (record l { line = going l.line p q })
   restaged p q s = record {
     distinct = h.distinct;
     busy = h.busy;
-    stood = each_moved l.line.stage (λ x q. d.Stands l.line.cpus l.line.out x l.extra q) n p q s (λ x in_it _. h.stood x in_it);
+    stood = each_moved l.line.stage (λ x q. d.Stands n l.line.cpus l.line.out x l.extra q) n p q s (λ x in_it _. h.stood x in_it);
     extra = h.extra;
   }

@@ -84,7 +84,7 @@ module _ {O P C R : Type 0} (cells : List (CellSpec O P C R)) (scripts : List (V
 
   pub opening_is : length scripts ≤ MOST_CPUS → AllByRecursion (λ (c : CellSpec O P C R). c.logged.log ≡ []) cells → AllByRecursion (λ (s : Vec (Todo O P C R) Global). AllByRecursion (λ t. IsTodo (length cells) t) s.items) scripts → IsOpening W
   opening_is few empty able = record {
-    cells = λ x c e. let a = cell_at x c e in subst (λ k. IsOpeningCell (length W.cpus) k) a.2 record { first = a.0.first; fits = few_fit a.0.kind (length W.cpus) (omega (arith, cpus_are, few)); free = refl; empty = all_at (λ (c : CellSpec O P C R). c.logged.log ≡ []) cells x a.0 empty a.1 };
+    cells = λ x c e. let a = cell_at x c e in subst (λ k. IsOpeningCell (length W.cpus) k) a.2 record { first = a.0.first; fits = few_fit a.0.kind (length W.cpus) (subst (λ n. n ≤ MOST_CPUS) (sym cpus_are) few); free = refl; empty = all_at (λ (c : CellSpec O P C R). c.logged.log ≡ []) cells x a.0 empty a.1 };
     cpus = λ i c e. let a = cpu_at i c e in subst (λ (k : CpuState O P C R). k ≡ opening_cpu k.todo) a.2 refl;
     able = λ i c e. let a = cpu_at i c e in
         subst (λ (k : CpuState O P C R). AllByRecursion (λ t. IsTodo (length W.cells) t) k.todo) a.2

@@ -13,11 +13,11 @@ pub record LockState (Extra : Type 0) : Type 0 where
 pub record LockDefinition : Type 1 where
   -- what it has beside its line
   pub Extra : Type 0
-  -- the same before the first step, where this is the first ticket
+  -- the same before the first step, by the number with which the lock begins: a ticket lock's first ticket
   pub opening : ℕ → Extra
   -- a CPU's next step: the lock afterwards, and what the step was
   pub turn : LockState Extra → ℕ → LockState Extra × StepDone
-  -- a CPU's try, which found that ticket served: the lock afterwards, and the steps that it has done
+  -- a CPU's try, by the number that it has read before: the lock afterwards, and the steps that it has done
   pub attempt : LockState Extra → ℕ → ℕ → LockState Extra × List StepDone
   -- what prepares a CPU's try
   pub prepare : LockState Extra → ℕ → LockState Extra
@@ -25,25 +25,25 @@ pub record LockDefinition : Type 1 where
   pub words : ℕ → LockState Extra → List ℕ
   -- whether it is for so many CPUs
   pub fits : ℕ → Bool
-  -- the CPU x stands there: of the line its CPUs, whether the object is out, x, what the lock has beside
-  pub Stands : List ℕ → Bool → ℕ → Extra → Stage → Type 0
+  -- for n CPUs, the CPU x stands there: of the line its CPUs, whether the object is out, x, what the lock has beside
+  pub Stands : ℕ → List ℕ → Bool → ℕ → Extra → Stage → Type 0
   -- what is true beside, for n CPUs
   pub KeepsExtra : ℕ → Extra → List ℕ → Type 0
   -- the lock without the parts that may differ between a cell's lock and the one that its run makes. A step of a CPU that has
   -- prepared no try goes by none of these parts
   pub erase : LockState Extra → LockState Extra
-  -- the ticket that is served, which its words go by beside the line; 0 where there are no tickets
+  -- the number that its words go by beside the line, and that a try reads: a ticket lock's ticket that is served, else 0
   pub served : Extra → ℕ
   -- whether one that stands there has the object
   pub holding : Stage → Bool
-  -- where a holder stands, which can still do calls: where there are tickets, with this one
+  -- where a holder stands, which can still do calls, by what the lock keeps for it
   pub holder : ℕ → Stage
 
 -- a state of the lock for n CPUs: a line of distinct CPUs, and places that agree with it
 pub record IsState (d : LockDefinition) (n : ℕ) (l : LockState d.Extra) : Type 0 where
   pub distinct : AreDistinctBelow n l.line.cpus
   pub busy : l.line.out ≡ true → 0 < length l.line.cpus
-  pub stood : (x : ℕ) → x < n → d.Stands l.line.cpus l.line.out x l.extra (l.line.stage x)
+  pub stood : (x : ℕ) → x < n → d.Stands n l.line.cpus l.line.out x l.extra (l.line.stage x)
   pub extra : d.KeepsExtra n l.extra l.line.cpus
 
 -- these are the words of such a state

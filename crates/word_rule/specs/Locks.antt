@@ -1,26 +1,28 @@
 -- Which locks there are, and what all else takes of a lock.
 use Rattle.std.specs.Prelude.{◌≡◌, ℕ, ◌||◌, Bool, true, List}
-use Rattle.sound_run.specs.declared.lock_kind.LockKind.{LockKind}
-use Rattle.sound_run.specs.declared.lock_kind.LockKind.TheVariants as kinds
+use Rattle.word_rule.specs.declared.lock_algorithm.LockAlgorithm.{LockAlgorithm}
+use Rattle.word_rule.specs.declared.lock_algorithm.LockAlgorithm.TheVariants as kinds
 use Rattle.word_rule.specs.declared.machine.step_done.StepDone.{StepDone}
 use Rattle.word_rule.specs.declared.lock_kind.Stage.{Stage}
 use Rattle.word_rule.specs.Line.{Line}
 use Rattle.word_rule.specs.LockDefinition.{LockDefinition, LockState, IsState, opening_state}
 use Rattle.word_rule.specs.Mcs.Definition.{mcs_lock}
 use Rattle.word_rule.specs.Ticket.Definition.{ticket_lock}
+use Rattle.word_rule.specs.Toggle.Definition.{toggle_lock}
 
 -- one line for each lock
-abbrev pub definition_of : LockKind → LockDefinition
+abbrev pub definition_of : LockAlgorithm → LockDefinition
 definition_of kinds.Ticket = ticket_lock
 definition_of kinds.Mcs = mcs_lock
+definition_of kinds.Toggle = toggle_lock
 
 -- whether a caller that stands there has the object, at some lock
 abbrev pub holding : Stage → Bool
-holding q = ticket_lock.holding q || mcs_lock.holding q
+holding q = ticket_lock.holding q || mcs_lock.holding q || toggle_lock.holding q
 
 -- a lock of some kind: its line, and what that kind has beside
 pub record Lock : Type 0 where
-  pub kind : LockKind
+  pub kind : LockAlgorithm
   pub line : Line
   pub extra : (definition_of kind).Extra
 
@@ -29,20 +31,20 @@ abbrev pub state_of : (l : Lock) → LockState (definition_of l.kind).Extra
 state_of l = record { line = l.line; extra = l.extra }
 
 -- the lock of that kind with this state
-abbrev pub lock_of : (kind : LockKind) → LockState (definition_of kind).Extra → Lock
+abbrev pub lock_of : (kind : LockAlgorithm) → LockState (definition_of kind).Extra → Lock
 lock_of kind s = record { kind = kind; line = s.line; extra = s.extra }
 
 -- a lock before its first step
-abbrev pub opening_lock : LockKind → ℕ → Lock
+abbrev pub opening_lock : LockAlgorithm → ℕ → Lock
 opening_lock kind first = lock_of kind (opening_state (definition_of kind) first)
 
 -- a CPU's next step on the lock
 abbrev pub turn : Lock → ℕ → Lock × StepDone
 turn l i = let t = (definition_of l.kind).turn (state_of l) i in (lock_of l.kind t.0, t.1)
 
--- a CPU's try at the lock, which found that ticket served: the lock afterwards, and the steps that it has done
+-- a CPU's try at the lock, by the number that it has read before: the lock afterwards, and the steps that it has done
 abbrev pub attempt : Lock → ℕ → ℕ → Lock × List StepDone
-attempt l i ticket = let t = (definition_of l.kind).attempt (state_of l) i ticket in (lock_of l.kind t.0, t.1)
+attempt l i seen = let t = (definition_of l.kind).attempt (state_of l) i seen in (lock_of l.kind t.0, t.1)
 
 -- what prepares a CPU's try
 abbrev pub prepare : Lock → ℕ → Lock
@@ -56,17 +58,17 @@ lock_words n l = (definition_of l.kind).words n (state_of l)
 abbrev pub erase : Lock → Lock
 erase l = lock_of l.kind ((definition_of l.kind).erase (state_of l))
 
--- the ticket that is served, which its words go by beside the line; 0 where there are no tickets
+-- the number that its words go by beside the line: a ticket lock's ticket that is served, else 0
 abbrev pub served : Lock → ℕ
 served l = (definition_of l.kind).served l.extra
 
 -- whether a lock of that kind is for so many CPUs
-abbrev pub Fits : LockKind → ℕ → Type 0
+abbrev pub Fits : LockAlgorithm → ℕ → Type 0
 Fits kind n = (definition_of kind).fits n ≡ true
 
--- where a holder stands, which can still do calls, at such a lock: where there are tickets, with this one
-abbrev pub holder : LockKind → ℕ → Stage
-holder kind ticket = (definition_of kind).holder ticket
+-- where a holder stands, which can still do calls, at such a lock, by what this keeps for it
+abbrev pub holder : LockAlgorithm → ℕ → Stage
+holder kind mark = (definition_of kind).holder mark
 
 -- a state of a lock for n CPUs
 abbrev pub IsLock : ℕ → Lock → Type 0

@@ -11,34 +11,34 @@ use Rattle.word_rule.specs.declared.pass.Pass.{Pass}
 use Rattle.word_rule.specs.declared.hold.Hold.{Hold}
 use Rattle.word_rule.specs.Cell.{PassView, HoldView}
 use Rattle.word_rule.specs.CallerState.{CallerState}
-use Rattle.word_rule.specs.Rule.Callers.{IsAt, pass_view_of, hold_view_of, state_without, state_with}
+use Rattle.word_rule.specs.Sides.{IsOutsideAt, IsInsideAt, view_of_outside, view_of_inside, state_outside, state_inside}
 
 -- The types of callers are over all that an object is bound by.
 module _ {O P C R : Type 0} {g : Ghosts O P C R} {call_eq : Eq C} {call_default : Default C} {reply_eq : Eq R} {reply_default : Default R} where
   -- a caller of the cell whose table it is
   abbrev pub IsPassAt : LockTable O P C R → Pass O P C R g call_eq call_default reply_eq reply_default → Type 0
-  IsPassAt t p = IsAt t.table.shared.table_id t.table.shared.key p.seat.table_id p.key.value
+  IsPassAt t p = IsOutsideAt t p.outside
 
   abbrev pub IsHoldAt : LockTable O P C R → Hold O P C R g call_eq call_default reply_eq reply_default → Type 0
-  IsHoldAt t h = IsAt t.table.shared.table_id t.table.shared.key h.seat.table_id h.key.value
+  IsHoldAt t h = IsInsideAt t h.inside
 
   -- what a pass knows, and what a hold knows
   abbrev pub view_of_pass : Pass O P C R g call_eq call_default reply_eq reply_default → PassView O P C R
-  view_of_pass p = pass_view_of p.key.value p.seat.me.0
+  view_of_pass p = view_of_outside p.outside
 
   abbrev pub view_of_hold : Hold O P C R g call_eq call_default reply_eq reply_default → HoldView O P C R
-  view_of_hold h = hold_view_of h.key.value h.logged h.seat.me.0
+  view_of_hold h = view_of_inside h.inside
 
   -- where each stands
   abbrev pub state_of_pass : Pass O P C R g call_eq call_default reply_eq reply_default → CallerState O P C R
-  state_of_pass p = state_without p.key.value Idle p.seat.me
+  state_of_pass p = state_outside Idle p.outside
 
   abbrev pub state_of_hold : Hold O P C R g call_eq call_default reply_eq reply_default → CallerState O P C R
-  state_of_hold h = state_with h.key.value h.seat.me.0.main.stage h.logged h.seat.me
+  state_of_hold h = state_inside h.inside.outside.seat.me.0.main.stage h.inside
 
   -- the run that each has seen
   abbrev pub run_of_pass : Pass O P C R g call_eq call_default reply_eq reply_default → List (TraceStep (Event O P C R))
-  run_of_pass p = p.seat.me.0.main.run
+  run_of_pass p = p.outside.seat.me.0.main.run
 
   abbrev pub run_of_hold : Hold O P C R g call_eq call_default reply_eq reply_default → List (TraceStep (Event O P C R))
-  run_of_hold h = h.seat.me.0.main.run
+  run_of_hold h = h.inside.outside.seat.me.0.main.run

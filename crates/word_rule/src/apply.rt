@@ -13,8 +13,8 @@ impl<O: SeqObject> Hold<O> {
     pub fn apply(&mut self, calls: &[O::Call]) -> Result<Steps<O>, NoRoom>
         requires some { 0 < length calls.now }
         requires few { length calls.now ≤ MOST_CALLS }
-        ensures table { (self.new.seat.table_id ≡ self.old.seat.table_id) × (self.new.key.value ≡ self.old.key.value) }
-        ensures stage { self.new.seat.me.0.main.stage ≡ self.old.seat.me.0.main.stage }
+        ensures table { (self.new.inside.outside.seat.table_id ≡ self.old.inside.outside.seat.table_id) × (self.new.inside.outside.key.value ≡ self.old.inside.outside.key.value) }
+        ensures stage { self.new.inside.outside.seat.me.0.main.stage ≡ self.old.inside.outside.seat.me.0.main.stage }
         ensures run { run_of_hold self.new ≡ run_of_hold self.old }
         ensures caller { (view_of_hold self.new).caller ≡ (view_of_hold self.old).caller }
         ensures room { IsErr result ↔ (length (view_of_hold self.old).history.log ≡ (view_of_hold self.old).history.limit) }
@@ -23,14 +23,15 @@ impl<O: SeqObject> Hold<O> {
         ensures after { IfOk result (λ s. (view_of_hold self.new).history ≡ after_steps O.SeqObject (view_of_hold self.old) s) }
         ensures full { OnErr result (view_of_hold self.new ≡ view_of_hold self.old) }
     {
-        self.logged.apply(self.cpu.number, calls)
+        let cpu = self.inside.outside.cpu.number;
+        self.inside.logged.apply(cpu, calls)
     }
 
     /// Does a call as one event of the acting CPU. It takes no memory.
     #[inline]
     pub fn apply_one(&mut self, call: &O::Call) -> Result<O::Reply, NoRoom>
-        ensures table { (self.new.seat.table_id ≡ self.old.seat.table_id) × (self.new.key.value ≡ self.old.key.value) }
-        ensures stage { self.new.seat.me.0.main.stage ≡ self.old.seat.me.0.main.stage }
+        ensures table { (self.new.inside.outside.seat.table_id ≡ self.old.inside.outside.seat.table_id) × (self.new.inside.outside.key.value ≡ self.old.inside.outside.key.value) }
+        ensures stage { self.new.inside.outside.seat.me.0.main.stage ≡ self.old.inside.outside.seat.me.0.main.stage }
         ensures run { run_of_hold self.new ≡ run_of_hold self.old }
         ensures caller { (view_of_hold self.new).caller ≡ (view_of_hold self.old).caller }
         ensures room { IsErr result ↔ (length (view_of_hold self.old).history.log ≡ (view_of_hold self.old).history.limit) }
@@ -38,6 +39,7 @@ impl<O: SeqObject> Hold<O> {
         ensures after { IfOk result (λ r. (view_of_hold self.new).history ≡ after_steps O.SeqObject (view_of_hold self.old) (one_step call.now r)) }
         ensures full { OnErr result (view_of_hold self.new ≡ view_of_hold self.old) }
     {
-        self.logged.call(self.cpu.number, call)
+        let cpu = self.inside.outside.cpu.number;
+        self.inside.logged.call(cpu, call)
     }
 }

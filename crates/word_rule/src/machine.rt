@@ -1,4 +1,4 @@
-//! The pure step machine: cells of either kind under any schedule, one atomic step at a time.
+//! The pure step machine: cells of any kind under any schedule, one atomic step at a time.
 
 ghost use Rattle.std.specs.Prelude.{◌≡◌, ◌<◌, ◌≤◌, [], All, length, map, vec_len, Some, slice_get, IfOk, IfErr};
 ghost use Rattle.std.specs.List.{AllByRecursion};
@@ -19,6 +19,7 @@ mod progress;
 mod room;
 mod step_done;
 mod ticket;
+mod toggle;
 
 use crate::machine::hold::count_step;
 use crate::machine::lock_words::LockWords;
@@ -36,7 +37,7 @@ use std::alloc::Global;
 use std::marker::Model;
 pub use step_done::StepDone;
 
-/// Cells of either kind, and CPUs that do the entries of their scripts on them, one atomic step at a time. All its memory
+/// Cells of any kind, and CPUs that do the entries of their scripts on them, one atomic step at a time. All its memory
 /// is taken when it is made.
 #[derive(Drop)]
 pub struct Machine<O: SeqObject> {
@@ -145,7 +146,8 @@ impl<O: SeqObject> Machine<O> {
     }
 
     /// The words of a cell: of a ticket lock one, with the next ticket in its high half and the one that is served in its low
-    /// half; of an MCS lock the tail, then each CPU's `next`, then each CPU's `locked`.
+    /// half; of an MCS lock the tail, then each CPU's `next`, then each CPU's `locked`; of a toggle lock the tail, then each
+    /// CPU's toggle.
     pub fn words(&self, cell: u8) -> &[u64]
         requires { cell < length self.now.cells }
         ensures { HasWords O.SeqObject self.now cell result.now }

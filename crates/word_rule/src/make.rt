@@ -4,16 +4,15 @@ ghost use Rattle.std.specs.Prelude.{◌≡◌, ◌<◌, ◌≤◌, [], ◌∷◌
 ghost use Rattle.atomic_table.specs.Table.{opening};
 ghost use Rattle.word_rule.specs.Cell.{Lawful, EachAt, OwnsAll, cell_of, opening_pass, first_pass, stored};
 ghost use Rattle.word_rule.specs.LockRuns.{endings_in, arrivals_in};
-ghost use Rattle.word_rule.specs.Locks.{opening_lock};
+ghost use Rattle.word_rule.specs.Locks.{Fits, opening_lock};
 ghost use Rattle.word_rule.specs.Rule.CellInvariant.{CellInvariant};
 ghost use Rattle.word_rule.specs.Rule.LockStates.{IsLockOf};
 ghost use Rattle.word_rule.specs.Passes.{IsPassAt, view_of_pass, run_of_pass};
 ghost use Rattle.word_rule.specs.Rule.Seats.{first_view};
 
-use crate::{Cpu, Key, LockTable, Pass, Seat};
+use crate::{Cpu, Key, LockAlgorithm, LockTable, Outside, Pass, Seat};
 use atomic_table::{Refused, Table};
 use event_log::{Logged, OutOfMemory, SeqObject};
-use sound_run::LockKind;
 use std::alloc::Global;
 use std::snapshot::Snapshot;
 
@@ -23,7 +22,7 @@ impl<O: SeqObject> LockTable<O> {
     /// comes back as it was.
     pub fn open(
         alloc: Global,
-        kind: LockKind,
+        kind: LockAlgorithm,
         first: u32,
         words: &[u64],
         logged: Logged<O>,
@@ -87,17 +86,19 @@ impl<O: SeqObject> LockTable<O> {
         requires seat { (seat.table_id ≡ self.now.table.shared.table_id) × (seat.me ≡ (first_view key.now, [])) × (key.now.numbers ≡ cpus) }
         requires room { (passes.items ≡ []) × (cpus ≤ vec_capacity passes) }
         requires valid { Lawful O.SeqObject key.now key.now.opening }
+        requires fits { Fits key.now.kind key.now.numbers }
         ensures passes { EachAt (λ k p. IsPassAt self.now p × (view_of_pass p ≡ opening_pass key.now k)) result.items }
         ensures runs { EachAt (λ k p. run_of_pass p ≡ []) result.items }
         ensures count { vec_len result ≡ cpus }
     {
         for cpu in 0..cpus {
             let theirs = self.split_seat(&mut seat);
-            passes.push_reserved(Pass {
+            let outside = Outside {
                 cpu: Cpu::numbered(cpu),
                 key: Snapshot::of(key),
                 seat: theirs,
-            });
+            };
+            passes.push_reserved(Pass { outside });
         }
         passes
     }
@@ -111,7 +112,7 @@ impl<O: SeqObject> LockTable<O> {
         ensures run { endings_in (run_of_pass pass) ≡ arrivals_in (run_of_pass pass) }
     {
         let LockTable { table } = self;
-        let mut closed = table.close_with(pass.seat);
+        let mut closed = table.close_with(pass.outside.seat);
         let slot = closed.take(0);
         closed.free();
         slot.unwrap()

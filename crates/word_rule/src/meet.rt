@@ -23,19 +23,12 @@ impl<O: SeqObject> LockTable<O> {
         ensures first_run { Extends (view_of_pass one).caller.owned (run_of_pass one) [] (run_of_pass result) }
         ensures second_run { Extends (view_of_pass two).caller.owned (run_of_pass two) [] (run_of_pass result) }
     {
-        let Pass { cpu, key, mut seat } = one;
-        let Pass {
-            cpu: other,
-            key: _,
-            seat: theirs,
-        } = two;
-        self.join_seat(&mut seat, theirs);
-        self.table.shared.load::<Merge>(&mut seat, 0);
-        Pass {
-            cpu: Cpu::numbered(cpu.number.min(other.number)),
-            key,
-            seat,
-        }
+        let mut outside = one.outside;
+        let other = two.outside;
+        self.join_seat(&mut outside.seat, other.seat);
+        self.table.shared.load::<Merge>(&mut outside.seat, 0);
+        outside.cpu = Cpu::numbered(outside.cpu.number.min(other.cpu.number));
+        Pass { outside }
     }
 
     /// Both have seen one log and one run, which begin with what each had seen: one load of the two callers together.
@@ -53,23 +46,12 @@ impl<O: SeqObject> LockTable<O> {
         ensures first_run { Extends (view_of_pass one).caller.owned (run_of_pass one) [] (run_of_pass result.0) }
         ensures second_run { Extends (view_of_pass two).caller.owned (run_of_pass two) [] (run_of_pass result.1) }
     {
-        let Pass { cpu, key, mut seat } = one;
-        let Pass {
-            cpu: other,
-            key: told,
-            seat: theirs,
-        } = two;
-        self.join_seat(&mut seat, theirs);
-        self.table.shared.load::<Meet>(&mut seat, 0);
-        let theirs = self.split_seat(&mut seat);
-        (
-            Pass { cpu, key, seat },
-            Pass {
-                cpu: other,
-                key: told,
-                seat: theirs,
-            },
-        )
+        let mut outside = one.outside;
+        let mut other = two.outside;
+        self.join_seat(&mut outside.seat, other.seat);
+        self.table.shared.load::<Meet>(&mut outside.seat, 0);
+        other.seat = self.split_seat(&mut outside.seat);
+        (Pass { outside }, Pass { outside: other })
     }
 
     /// No two holds of one cell exist, so no run comes here: one load by each caller.
@@ -79,22 +61,8 @@ impl<O: SeqObject> LockTable<O> {
         requires some { 0 < self.now.table.shared.table_id.words }
         ensures { ⊥ }
     {
-        let Hold {
-            cpu: _,
-            ticket: _,
-            logged: _first,
-            loan: _one,
-            key: _,
-            mut seat,
-        } = one;
-        let Hold {
-            cpu: _,
-            ticket: _,
-            logged: _second,
-            loan: _two,
-            key: _,
-            seat: mut theirs,
-        } = two;
+        let mut seat = one.inside.outside.seat;
+        let mut theirs = two.inside.outside.seat;
         self.table.shared.load::<ReturnSlot>(&mut theirs, 0);
         self.table
             .shared

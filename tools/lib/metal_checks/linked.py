@@ -160,9 +160,9 @@ def page(stacks):
 
 def build_libraries(folder):
     """Builds the libraries of cells and of judge at once, each as the kit does, and then for a kernel."""
-    toolchain = kernel_toolchain(folder / "toolchain")
 
     def build_both(crate):
+        toolchain = kernel_toolchain(folder / f"toolchain/{crate}")
         return build_library(crate), build_library(crate, toolchain, folder / f"kernel/lib{crate}.a")
 
     with ThreadPoolExecutor(2) as pool:

@@ -4,8 +4,7 @@ use super::line_of;
 use super::streams::FailingSource;
 use auditor::{TextFault, audit_text};
 use scripts::{
-    BadSettings, Record, RecordReader, Schedule, ScheduleFault, Scripts, ScriptsReadFault,
-    Settings, SettingsFault,
+    BadSettings, Record, RecordReader, Schedule, ScheduleFault, Scripts, Settings, SettingsFault,
 };
 use std::test::Fail;
 
@@ -29,11 +28,11 @@ fn one_endless_line(rt: HostRuntime) -> Result<(), Fail> {
 fn long_lines_of_scripts(rt: HostRuntime) -> Result<(), Fail> {
     let settings = Settings::built_in(rt.alloc())?;
     for (first, end, wanted) in [
-        ("0", "\n", Some(ScriptsReadFault::Line(2))),
-        ("0", "", Some(ScriptsReadFault::Line(2))),
-        ("#", "", Some(ScriptsReadFault::Line(2))),
+        ("0", "\n", Some(TextFault::BadLine(2))),
+        ("0", "", Some(TextFault::BadLine(2))),
+        ("#", "", Some(TextFault::BadLine(2))),
         ("#", "\n0 q0 deq\n", None),
-        ("#", "\nx\n", Some(ScriptsReadFault::Line(3))),
+        ("#", "\nx\n", Some(TextFault::BadLine(3))),
     ] {
         let mut text = String::new(rt.alloc());
         text.push_str("0 q0 enq 3\n")?;

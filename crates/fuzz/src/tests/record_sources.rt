@@ -5,7 +5,7 @@ use super::{FORMS, IN_AND_OUT, with_line};
 use crate::judging::line_behind;
 use crate::reading::written;
 use crate::upgraded::upgraded;
-use scripts::{Record, RecordReadFault};
+use scripts::{Record, TextFault};
 use std::alloc::Global;
 use std::process::Abort;
 use std::test::Fail;
@@ -18,7 +18,7 @@ fn fault_of(
     alloc: Global,
     source: &mut FailingSource<'_>,
     text: &[u8],
-) -> Result<Option<RecordReadFault>, Fail> {
+) -> Result<Option<TextFault>, Fail> {
     let record = match Record::read_from(alloc, source) {
         Ok(record) => record,
         Err(fault) => return Ok(Some(fault)),
@@ -37,13 +37,13 @@ fn fail_each_call<R: Abort>(
     alloc: Global,
     text: &[u8],
     most: usize,
-    wanted: Option<RecordReadFault>,
+    wanted: Option<TextFault>,
 ) -> Result<(), Fail> {
     let calls = FailingSource::calls(text, most);
     for before in 0..calls {
         let mut source = FailingSource::new(text, most, before);
         let fault = fault_of(alloc, &mut source, text)?;
-        assert_eq!(rt; fault, Some(RecordReadFault::ReadFailed), "call {before}");
+        assert_eq!(rt; fault, Some(TextFault::ReadFailed), "call {before}");
         assert_eq!(rt; source.failed, 1, "call {before}");
     }
     let mut source = FailingSource::new(text, most, calls);
@@ -69,7 +69,7 @@ fn of_a_record(rt: HostRuntime) -> Result<(), Fail> {
 fn of_a_bad_text(rt: HostRuntime) -> Result<(), Fail> {
     for number in [1, 5, 12] {
         let text = with_line(rt.alloc(), IN_AND_OUT, number, "x")?;
-        let wanted = Some(RecordReadFault::Line(number));
+        let wanted = Some(TextFault::BadLine(number));
         for most in [1, 7, 100, MOST] {
             fail_each_call(&rt, rt.alloc(), text.as_bytes(), most, wanted)?;
         }
@@ -81,7 +81,7 @@ fn of_a_bad_text(rt: HostRuntime) -> Result<(), Fail> {
 #[test]
 fn of_one_long_line(rt: HostRuntime) -> Result<(), Fail> {
     let text = vec![in rt.alloc(); b'0'; 100_000]?;
-    let wanted = Some(RecordReadFault::Line(1));
+    let wanted = Some(TextFault::BadLine(1));
     for most in [1000, MOST] {
         fail_each_call(&rt, rt.alloc(), text.as_slice(), most, wanted)?;
     }
@@ -94,7 +94,7 @@ fn fronts_are_bad<R: Abort>(rt: &R, alloc: Global, text: &[u8]) -> Result<(), Fa
         let (front, _) = text.split_at(count);
         let mut source = FailingSource::new(front, 30, usize::MAX);
         let fault = fault_of(alloc, &mut source, front)?;
-        let wanted = Some(RecordReadFault::Line(line_behind(front)));
+        let wanted = Some(TextFault::BadLine(line_behind(front)));
         assert_eq!(rt; fault, wanted, "{count} bytes");
     }
     Ok(())

@@ -9,11 +9,10 @@ use crate::machine::NEXT;
 use crate::machine::scene::{Left, Scene, Setting, Turn, cells_of, leaves, plays, scripts_of};
 use event_log::{OutOfMemory, Todo};
 use shared_queue::{QueueCall as Call, QueueReply as Reply, ThreadQueue};
-use sound_run::LockKind;
 use std::alloc::Global;
 use std::process::Abort;
 use std::test::Fail;
-use word_rule::{CellSpec, Machine, StepDone};
+use word_rule::{CellSpec, LockAlgorithm, Machine, StepDone};
 
 /// The cells are those of the setting, without events.
 fn are_cells_of<R: Abort>(rt: &R, setting: &Setting<'_>, cells: &[CellSpec<ThreadQueue>]) {
@@ -83,7 +82,7 @@ fn made<R: Abort>(
 #[test]
 fn a_machine_without_memory(rt: HostRuntime) -> Result<(), Fail> {
     let setting = Setting {
-        locks: &[(LockKind::Ticket, 7), (LockKind::Mcs, 0)],
+        locks: &[(LockAlgorithm::Ticket, 7), (LockAlgorithm::Mcs, 0)],
         limit: 100,
         scripts: &[&[(0, Call::Enq(3)), (1, Call::Enq(4))], &[(1, Call::Deq)]],
     };

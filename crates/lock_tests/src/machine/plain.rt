@@ -1,13 +1,12 @@
-//! Every short schedule of two CPUs, beside the rules of both locks written out plainly.
+//! Every short schedule of two CPUs, beside the rules of the locks written out plainly.
 
 use crate::machine::scene::{step, two_cpus};
 use event_log::Event;
 use shared_queue::ThreadQueue;
-use sound_run::LockKind;
 use std::alloc::Global;
 use std::process::Abort;
 use std::test::Fail;
-use word_rule::StepDone;
+use word_rule::{LockAlgorithm, StepDone};
 
 /// How far a CPU is in its only call.
 #[derive(Clone, Copy, Debug, PartialEq, Eq, Drop)]
@@ -113,14 +112,42 @@ impl Plain {
         }
     }
 
+    /// A step of a toggle lock: to read one's toggle, to enter the line, to look until one is the first, and to empty the
+    /// tail or to turn the toggle.
+    fn toggle(&mut self, cpu: u8, stage: Stage) -> Result<(Stage, StepDone), Fail> {
+        match stage {
+            Stage::Start => Ok((Stage::Cleared, StepDone::Clear)),
+            Stage::Cleared => {
+                self.line.push(cpu)?;
+                if self.line.len() == 1 {
+                    return Ok((Stage::Inside, StepDone::Enter(true)));
+                }
+                Ok((Stage::Waiting, StepDone::Enter(false)))
+            }
+            Stage::Waiting if self.line.first() != Some(&cpu) => Ok((stage, StepDone::Look(false))),
+            Stage::Waiting => Ok((Stage::Inside, StepDone::Look(true))),
+            Stage::Inside if self.line.len() > 1 => Ok((Stage::Passing, StepDone::Empty(false))),
+            Stage::Inside => {
+                self.end(cpu)?;
+                Ok((Stage::Done, StepDone::Empty(true)))
+            }
+            Stage::Passing => {
+                self.end(cpu)?;
+                Ok((Stage::Done, StepDone::Pass))
+            }
+            _ => Ok((stage, StepDone::Idle)),
+        }
+    }
+
     /// The next step of a CPU.
-    fn step(&mut self, kind: LockKind, cpu: u8) -> Result<StepDone, Fail> {
+    fn step(&mut self, kind: LockAlgorithm, cpu: u8) -> Result<StepDone, Fail> {
         let Some(stage) = self.stages.get(cpu as usize).copied() else {
             return Err(Fail::new("no such CPU"));
         };
         let (next, done) = match kind {
-            LockKind::Ticket => self.ticket(cpu, stage)?,
-            LockKind::Mcs => self.mcs_in(cpu, stage)?,
+            LockAlgorithm::Ticket => self.ticket(cpu, stage)?,
+            LockAlgorithm::Mcs => self.mcs_in(cpu, stage)?,
+            LockAlgorithm::Toggle => self.toggle(cpu, stage)?,
         };
         if let Some(stage) = self.stages.get_mut(cpu as usize) {
             *stage = next;
@@ -139,7 +166,7 @@ fn cpus_of(alloc: Global, log: &[Event<ThreadQueue>]) -> Result<Vec<u8>, Fail> {
 }
 
 /// Plays a schedule of at most 10 steps on both: the binary digits of the number below its first, the lowest first.
-fn agrees<R: Abort>(rt: &R, alloc: Global, kind: LockKind, number: u32) -> Result<(), Fail> {
+fn agrees<R: Abort>(rt: &R, alloc: Global, kind: LockAlgorithm, number: u32) -> Result<(), Fail> {
     let mut scene = two_cpus(alloc, kind)?;
     let mut plain = Plain::new(alloc);
     let mut rest = number;
@@ -171,7 +198,7 @@ fn agrees<R: Abort>(rt: &R, alloc: Global, kind: LockKind, number: u32) -> Resul
 #[test]
 fn a_ticket_lock_by_its_rules(rt: HostRuntime) -> Result<(), Fail> {
     for number in 2..2048 {
-        agrees(&rt, rt.alloc(), LockKind::Ticket, number)?;
+        agrees(&rt, rt.alloc(), LockAlgorithm::Ticket, number)?;
     }
     Ok(())
 }
@@ -179,7 +206,15 @@ fn a_ticket_lock_by_its_rules(rt: HostRuntime) -> Result<(), Fail> {
 #[test]
 fn an_mcs_lock_by_its_rules(rt: HostRuntime) -> Result<(), Fail> {
     for number in 2..2048 {
-        agrees(&rt, rt.alloc(), LockKind::Mcs, number)?;
+        agrees(&rt, rt.alloc(), LockAlgorithm::Mcs, number)?;
+    }
+    Ok(())
+}
+
+#[test]
+fn a_toggle_lock_by_its_rules(rt: HostRuntime) -> Result<(), Fail> {
+    for number in 2..2048 {
+        agrees(&rt, rt.alloc(), LockAlgorithm::Toggle, number)?;
     }
     Ok(())
 }

@@ -8,17 +8,16 @@ ghost use Rattle.word_rule.specs.Machine.SoundWorld.{IsTodo};
 use arrayvec::ArrayVec;
 use event_log::{Done, Entry, Event, Logged, Run, Todo};
 use shared_queue::{QueueCall as Call, QueueReply as Reply, ThreadQueue};
-use sound_run::LockKind;
 use std::alloc::Global;
 use std::process::Abort;
 use std::test::Fail;
-use word_rule::{CellSpec, Machine, StepDone};
+use word_rule::{CellSpec, LockAlgorithm, Machine, StepDone};
 
 /// What a machine is made of: its locks with their first tickets, the limit of each log, and each CPU's calls, each on
 /// one of the cells.
 #[derive(Clone, Copy, Drop)]
 pub struct Setting<'a> {
-    pub locks: &'a [(LockKind, u64)],
+    pub locks: &'a [(LockAlgorithm, u64)],
     pub limit: u32,
     pub scripts: &'a [&'a [(u8, Call)]],
 }
@@ -118,7 +117,7 @@ pub fn open(alloc: Global, setting: &Setting<'_>) -> Result<Scene, Fail> {
 }
 
 /// A machine of one cell, and of two CPUs that put a thread each into its queue.
-pub fn two_cpus(alloc: Global, kind: LockKind) -> Result<Scene, Fail> {
+pub fn two_cpus(alloc: Global, kind: LockAlgorithm) -> Result<Scene, Fail> {
     open(
         alloc,
         &Setting {

@@ -1,6 +1,6 @@
 //! Words that aren't text: the program's own path doesn't matter, and any other is refused.
 
-use super::{WordsFault, words_given};
+use super::{Refusal, words_given};
 use std::env::FillError;
 use std::rt::Env;
 use std::test::Fail;
@@ -61,5 +61,5 @@ fn a_word_that_is_no_text(rt: HostRuntime) {
         words: &[b"./program", b"run", b"\xff"],
     };
     let refused = words_given(&start, rt.alloc());
-    assert!(rt; matches!(refused, Err(WordsFault::BadWords)));
+    assert!(rt; matches!(refused, Err(Refusal::BadWords)));
 }

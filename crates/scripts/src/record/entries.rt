@@ -12,7 +12,7 @@ use crate::Form;
 use crate::record::keeps::Keeps;
 use crate::record::lines::{entry_front, entry_line};
 use crate::record::place::Place;
-use crate::text::line_machine::LineFault;
+use crate::text::fault::LineFault;
 use arrayvec::ArrayVec;
 use event_log::{Done, Entry, OutOfMemory, Steps};
 

@@ -13,12 +13,15 @@ use sound_run::MOST_CPUS;
 pub const FIRST_MOST_CPUS: u8 = 8;
 
 /// The form of a record's text: the word behind `record`, the most CPUs, how a pool's parameters are spelled, and which
-/// replies there are. Records are written as record 2. Record 1 is the form from before owners had quotas.
+/// replies there are. Record 1 is the form from before owners had quotas.
 #[derive(Clone, Copy, Debug, PartialEq, Eq, Drop)]
 pub enum Form {
     One,
     Two,
 }
+
+/// The form in which records are written.
+pub const WRITTEN: Form = Form::Two;
 
 /// Whether record 1 has words for the replies of all steps.
 fn are_old(steps: &[Step<KernelObject>]) -> bool

@@ -2,7 +2,7 @@
 
 ghost use Rattle.std.specs.Prelude.{true, false, ◌≡◌, ◌<◌, ◌≤◌, List, Ok, length, OnOk, OnErr};
 ghost use Rattle.event_log.specs.declared.logged.TheConstants.{MOST_EVENTS};
-ghost use Rattle.scripts.specs.declared.record.form.Form.TheVariants.{Two};
+ghost use Rattle.scripts.specs.declared.record.form.TheConstants.{WRITTEN};
 ghost use Rattle.scripts.specs.declared.script.cpu_scripts.TheConstants.{MOST_ENTRIES};
 ghost use Rattle.scripts.specs.Keeping.{Parts, no_parts, with_count, with_event, with_log, with_entry, with_transcript, InLogs, InTranscripts, IsAtHead};
 ghost use Rattle.scripts.specs.KernelTypes.{KernelStep};
@@ -39,7 +39,7 @@ pub trait Keeps: Drop {
         requires place { InLogs (keeps self.old) }
         requires begun { (keeps self.old).begun ≡ true }
         requires more { length (keeps self.old).events < (keeps self.old).count }
-        requires fit { EventFits Two (keeps self.old).settings.cpus event }
+        requires fit { EventFits WRITTEN (keeps self.old).settings.cpus event }
         requires text { SpellsSteps text.now event.steps.list.items }
         ensures ok { OnOk result (keeps self.new ≡ with_event (keeps self.old) event) }
         ensures err { OnErr result (keeps self.new ≡ keeps self.old) };
@@ -77,7 +77,7 @@ pub trait Keeps: Drop {
         requires place { InTranscripts (keeps self.old) }
         requires begun { (keeps self.old).begun ≡ true }
         requires more { length (keeps self.old).entries < (keeps self.old).count }
-        requires fit { EntryFits Two (length (keeps self.old).settings.objects) entry }
+        requires fit { EntryFits WRITTEN (length (keeps self.old).settings.objects) entry }
         ensures ok { OnOk result (keeps self.new ≡ with_entry (keeps self.old) entry) }
         ensures err { OnErr result (keeps self.new ≡ keeps self.old) };
 

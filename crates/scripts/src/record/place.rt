@@ -6,7 +6,7 @@ ghost use Rattle.scripts.specs.RecordParts.{shown, Agree, place_behind_log, plac
 ghost use Rattle.scripts.specs.RecordStates.{nothing_read};
 
 use crate::record::state::Next;
-use crate::{Form, ObjectSettings};
+use crate::{Form, ObjectSettings, WRITTEN};
 use std::alloc::Global;
 
 /// Which line can come next, the form, the settings, how many of what is being read its head told, and how many were read.
@@ -31,7 +31,7 @@ impl Place {
     {
         Place {
             awaits: Next::First,
-            form: Form::Two,
+            form: WRITTEN,
             cpus: 0,
             objects: Vec::new(alloc),
             count: 0,

@@ -12,11 +12,11 @@ ghost use Rattle.scripts.specs.Then.{ok_map};
 
 use crate::record::keeps::Keeps;
 use crate::record::reader::whole_parts;
-use crate::record::source::{PIECE, read_on};
 use crate::record::state::RecordState;
-use crate::text::line_machine::{PieceFault, Pieces};
-use crate::{RecordReadFault, Settings};
-use event_log::Source;
+use crate::streams::feeding::{TakesPieces, feed_all};
+use crate::text::line_machine::Pieces;
+use crate::{LinesFault, Settings, SourceFault, TextFault};
+use event_log::{OutOfMemory, Source};
 use std::alloc::Global;
 
 /// Reads the source to its end: the settings of the record that its bytes spell, and the keeper, which was handed over the
@@ -26,7 +26,7 @@ pub fn read_keeping<S: Source, K: Keeps>(
     alloc: Global,
     source: &mut S,
     keeper: K,
-) -> Result<(Settings, K), RecordReadFault>
+) -> Result<(Settings, K), TextFault>
     requires { K.keeps keeper ≡ no_parts }
     ensures found { IfOk result (λ given. SpellsRecord (S.remaining source.old) (kept_record given.0 (K.keeps given.1))) }
     ensures whole { IfOk result (λ given. IsWholeWith given.0 (K.keeps given.1)) }
@@ -34,29 +34,44 @@ pub fn read_keeping<S: Source, K: Keeps>(
     ensures only { (form : Form) (r : Shown) → RecordFitsIn form r → S.remaining source.old ≡ Some (text_in form r) →
         IsReadFrom r (ok_map (λ given. kept_record given.0 (K.keeps given.1)) result) }
     ensures fault { IfErr result (NamesBadLineOfRest (S.remaining source.old)) }
-    ensures to_end { (result ≡ Err RecordReadFault.OutOfMemory → ⊥) → (result ≡ Err RecordReadFault.ReadFailed → ⊥) →
+    ensures to_end { (result ≡ Err TextFault.OutOfMemory → ⊥) → (result ≡ Err TextFault.ReadFailed → ⊥) →
         IsReadOut (S.remaining source.old) (S.remaining source.new) }
-    ensures one_failed { result ≡ Err RecordReadFault.ReadFailed → S.failed source.new ≡ counted true (S.failed source.old) }
-    ensures no_other { (result ≡ Err RecordReadFault.ReadFailed → ⊥) → S.failed source.new ≡ S.failed source.old }
+    ensures one_failed { result ≡ Err TextFault.ReadFailed → S.failed source.new ≡ counted true (S.failed source.old) }
+    ensures no_other { (result ≡ Err TextFault.ReadFailed → ⊥) → S.failed source.new ≡ S.failed source.old }
 {
     let mut pieces = Pieces::new(alloc, RecordState::new(alloc, keeper));
-    let mut buffer = [0u8; PIECE];
-    for _ in 0..u64::MAX {
-        let Ok(count) = source.read(&mut buffer) else {
-            return Err(RecordReadFault::ReadFailed);
-        };
-        if count == 0 {
-            return Ok(whole_parts(pieces)?);
-        }
-        match pieces.feed(&buffer[..count]) {
-            Ok(()) => {}
-            Err(PieceFault::OutOfMemory) => return Err(RecordReadFault::OutOfMemory),
-            Err(PieceFault::Line(number)) => {
-                read_on(source)?;
-                return Err(RecordReadFault::Line(number));
+    let mut buffer = [0u8; 4096];
+    match feed_all(source, &mut pieces, &mut buffer) {
+        Ok(()) => Ok(whole_parts(pieces)?),
+        Err(SourceFault::Told(LinesFault::Line(number))) => {
+            match feed_all(source, &mut Skipping, &mut buffer) {
+                Ok(()) => Err(TextFault::BadLine(number)),
+                Err(SourceFault::ReadFailed) => Err(TextFault::ReadFailed),
+                Err(SourceFault::Told(OutOfMemory)) => Err(TextFault::OutOfMemory),
             }
         }
+        Err(fault) => Err(TextFault::from(fault)),
     }
-    // No record has as many bytes, and no memory could hold one.
-    Err(RecordReadFault::OutOfMemory)
+}
+
+/// Takes all that is read, and keeps nothing of it.
+#[derive(Drop)]
+struct Skipping;
+
+impl TakesPieces for Skipping {
+    ghost use Rattle.scripts.specs.Feeding.{TakesAny, RefusesAny};
+
+    type Fault = OutOfMemory;
+
+    ghost takes = { TakesAny };
+
+    ghost refuses = { RefusesAny };
+
+    fn take_piece(&mut self, _piece: &[u8]) -> Result<(), OutOfMemory> {
+        Ok(())
+    }
+
+    fn out_of_memory() -> OutOfMemory {
+        OutOfMemory
+    }
 }

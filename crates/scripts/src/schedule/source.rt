@@ -6,31 +6,10 @@ ghost use Rattle.sound_run.specs.declared.limits.TheConstants.{MOST_CPUS};
 ghost use Rattle.scripts.specs.ScheduleReading.{SpellsScheduleRest, NamesFirstBadWordOfRest};
 
 use crate::schedule::step_reader::StepReader;
+use crate::streams::feeding::{SourceFault, feed_all};
 use crate::{Schedule, ScheduleFault, Settings};
 use event_log::Source;
 use std::alloc::Global;
-
-/// Why a schedule was not read from a source.
-#[derive(Clone, Copy, Debug, PartialEq, Eq, Drop)]
-pub enum ScheduleReadFault {
-    OutOfMemory,
-    ReadFailed,
-    /// The first word, from 1, that is no CPU's number, or that is one too many.
-    Word(usize),
-}
-
-impl From<ScheduleFault> for ScheduleReadFault {
-    ghost use Rattle.scripts.specs.ScheduleReading.{of_schedule};
-
-    ghost from_gives = { λ cause fault. fault ≡ of_schedule cause };
-
-    fn from(cause: ScheduleFault) -> ScheduleReadFault {
-        match cause {
-            ScheduleFault::OutOfMemory => ScheduleReadFault::OutOfMemory,
-            ScheduleFault::Word(number) => ScheduleReadFault::Word(number),
-        }
-    }
-}
 
 impl Schedule {
     /// Reads the rest of the source, as `read` does its text. A word that can't come is refused as soon as that is known, and
@@ -39,12 +18,12 @@ impl Schedule {
         alloc: Global,
         source: &mut S,
         settings: &Settings,
-    ) -> Result<Schedule, ScheduleReadFault>
+    ) -> Result<Schedule, SourceFault<ScheduleFault>>
         ensures found { IfOk result (λ steps. SpellsScheduleRest settings.now.cpus (S.remaining source.old) steps) }
         ensures fault { IfErr result (NamesFirstBadWordOfRest settings.now.cpus (S.remaining source.old)) }
         ensures none_failed { OnOk result (S.failed source.new ≡ S.failed source.old) }
-        ensures one_failed { result ≡ Err ScheduleReadFault.ReadFailed → S.failed source.new ≡ counted true (S.failed source.old) }
-        ensures no_other { (result ≡ Err ScheduleReadFault.ReadFailed → ⊥) → S.failed source.new ≡ S.failed source.old }
+        ensures one_failed { result ≡ Err SourceFault.ReadFailed → S.failed source.new ≡ counted true (S.failed source.old) }
+        ensures no_other { (result ≡ Err SourceFault.ReadFailed → ⊥) → S.failed source.new ≡ S.failed source.old }
     {
         let steps = steps_from(alloc, source, settings.cpus())?;
         Ok(Schedule { steps })
@@ -56,24 +35,22 @@ fn steps_from<S: Source>(
     alloc: Global,
     source: &mut S,
     cpus: u8,
-) -> Result<Vec<u8>, ScheduleReadFault>
+) -> Result<Vec<u8>, SourceFault<ScheduleFault>>
     requires { (1 ≤ cpus) × (cpus ≤ MOST_CPUS) }
     ensures found { IfOk result (λ steps. SpellsScheduleRest cpus (S.remaining source.old) steps.items) }
     ensures fault { IfErr result (NamesFirstBadWordOfRest cpus (S.remaining source.old)) }
     ensures none_failed { OnOk result (S.failed source.new ≡ S.failed source.old) }
-    ensures one_failed { result ≡ Err ScheduleReadFault.ReadFailed → S.failed source.new ≡ counted true (S.failed source.old) }
-    ensures no_other { (result ≡ Err ScheduleReadFault.ReadFailed → ⊥) → S.failed source.new ≡ S.failed source.old }
+    ensures one_failed { result ≡ Err SourceFault.ReadFailed → S.failed source.new ≡ counted true (S.failed source.old) }
+    ensures no_other { (result ≡ Err SourceFault.ReadFailed → ⊥) → S.failed source.new ≡ S.failed source.old }
 {
     let mut reader = StepReader::new(alloc, cpus);
     let mut buffer = [0u8; 4096];
-    for _ in 0..u64::MAX {
-        let Ok(count) = source.read(&mut buffer) else {
-            return Err(ScheduleReadFault::ReadFailed);
-        };
-        if count == 0 {
-            return Ok(reader.finish()?);
-        }
-        reader.feed(&buffer[..count])?;
+    match feed_all(source, &mut reader, &mut buffer) {
+        Ok(()) => {}
+        Err(fault) => return Err(fault),
     }
-    Err(ScheduleReadFault::OutOfMemory)
+    match reader.finish() {
+        Ok(steps) => Ok(steps),
+        Err(fault) => Err(SourceFault::Told(fault)),
+    }
 }

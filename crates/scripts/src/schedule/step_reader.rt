@@ -6,6 +6,7 @@ ghost use Rattle.scripts.specs.ScheduleText.{is_gap, IsSchedule, NamesNoCpu, IsF
 ghost use Rattle.scripts.specs.ScheduleReading.{HasReadSteps, EndsWord};
 
 use crate::schedule::{MOST_STEPS, ScheduleFault};
+use crate::streams::feeding::TakesPieces;
 use crate::text::words::number_of;
 use arrayvec::ArrayVec;
 use std::alloc::Global;
@@ -134,6 +135,24 @@ impl StepReader {
         }
         self.word.push(byte);
         Ok(())
+    }
+}
+
+impl TakesPieces for StepReader {
+    ghost use Rattle.scripts.specs.ScheduleReading.{TakesSteps, RefusesSteps};
+
+    type Fault = ScheduleFault;
+
+    ghost takes = { TakesSteps };
+
+    ghost refuses = { RefusesSteps };
+
+    fn take_piece(&mut self, piece: &[u8]) -> Result<(), ScheduleFault> {
+        self.feed(piece)
+    }
+
+    fn out_of_memory() -> ScheduleFault {
+        ScheduleFault::OutOfMemory
     }
 }
 

@@ -8,8 +8,9 @@ ghost use Rattle.scripts.specs.Settings.{Settings as Shown, SettingsFit};
 
 use crate::script::cpu_scripts::MOST_ENTRIES;
 use crate::script::request_line::request;
-use crate::text::line_machine::{LineFault, MOST_BYTES, Pieces, TakesLines};
-use crate::{KernelObject, Request, Scripts, ScriptsFault, Settings};
+use crate::text::fault::LineFault;
+use crate::text::line_machine::{MOST_BYTES, Pieces, TakesLines};
+use crate::{KernelObject, LinesFault, Request, Scripts, Settings};
 use event_log::Todo;
 use std::alloc::Global;
 use std::marker::Model;
@@ -35,12 +36,9 @@ impl<'s> Model for ScriptLists<'s> {
 
 impl<'s> ScriptLists<'s> {
     /// No entries yet.
-    pub(crate) fn new(
-        alloc: Global,
-        settings: &'s Settings,
-    ) -> Result<ScriptLists<'s>, ScriptsFault>
+    pub(crate) fn new(alloc: Global, settings: &'s Settings) -> Result<ScriptLists<'s>, LinesFault>
         ensures lists { IfOk result (λ s. s ≡ record { settings = settings.now; lists = dealt settings.now.cpus [] }) }
-        ensures fault { IfErr result (λ f. f ≡ ScriptsFault.OutOfMemory) }
+        ensures fault { IfErr result (λ f. f ≡ LinesFault.OutOfMemory) }
         ensures fit { SettingsFit settings.now }
     {
         let lists = empty_lists(alloc, settings.cpus())?;
@@ -90,13 +88,13 @@ impl TakesLines for ScriptLists<'_> {
 }
 
 /// The scripts that were read, if the text was whole lines.
-pub(crate) fn whole_scripts(pieces: Pieces<ScriptLists<'_>>) -> Result<Scripts, ScriptsFault>
+pub(crate) fn whole_scripts(pieces: Pieces<ScriptLists<'_>>) -> Result<Scripts, LinesFault>
     requires { (settings : Shown) × (text : List ℕ) × HasReadScripts settings text pieces }
     ensures found { (settings : Shown) (text : List ℕ) → HasReadScripts settings text pieces.entry → IfOk result (AreScripts settings text) }
     ensures fault { (settings : Shown) (text : List ℕ) → HasReadScripts settings text pieces.entry → IfErr result (NamesFirstBad settings text) }
 {
     if !pieces.is_whole() {
-        return Err(ScriptsFault::Line(pieces.number()));
+        return Err(LinesFault::Line(pieces.number()));
     }
     Ok(Scripts::of(pieces.into_lines().into_lists()))
 }
@@ -112,15 +110,15 @@ fn is_blank(line: &[u8]) -> bool
 }
 
 /// An empty list for each CPU.
-fn empty_lists(alloc: Global, cpus: u8) -> Result<Vec<Vec<Todo<KernelObject>>>, ScriptsFault>
+fn empty_lists(alloc: Global, cpus: u8) -> Result<Vec<Vec<Todo<KernelObject>>>, LinesFault>
     ensures lists { IfOk result (λ lists. map (λ l. l.items) lists.items ≡ dealt cpus []) }
-    ensures fault { IfErr result (λ f. f ≡ ScriptsFault.OutOfMemory) }
+    ensures fault { IfErr result (λ f. f ≡ LinesFault.OutOfMemory) }
 {
     let mut lists = Vec::new(alloc);
     for _ in 0..cpus {
         match lists.push(Vec::new(alloc)) {
             Ok(()) => {}
-            Err(_) => return Err(ScriptsFault::OutOfMemory),
+            Err(_) => return Err(LinesFault::OutOfMemory),
         }
     }
     Ok(lists)

@@ -1,7 +1,7 @@
 //! Why settings are refused.
 
 ghost use Rattle.std.specs.Prelude.{◌≡◌};
-ghost use Rattle.scripts.specs.SettingsText.{key_word};
+ghost use Rattle.scripts.specs.SettingsKeys.{key_word};
 
 use std::fmt;
 

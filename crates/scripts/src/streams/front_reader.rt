@@ -6,8 +6,8 @@ ghost use Rattle.event_log.specs.Stream.{counted};
 ghost use Rattle.scripts.specs.ScriptFaults.{IsRest};
 ghost use Rattle.scripts.specs.SettingsSources.{ReadsAtMost};
 
-use crate::ReadFault;
-use event_log::Source;
+use crate::SourceFault;
+use event_log::{OutOfMemory, Source};
 use std::alloc::Global;
 
 /// The first bytes of the source: so many, or all if it has fewer. No more are read.
@@ -15,14 +15,14 @@ pub fn read_up_to<S: Source>(
     alloc: Global,
     source: &mut S,
     most: usize,
-) -> Result<Vec<u8>, ReadFault>
+) -> Result<Vec<u8>, SourceFault<OutOfMemory>>
     ensures few { IfOk result (λ bytes. length bytes.items ≤ most) }
     ensures front { IfOk result (λ bytes. Consumes (S.remaining source.old) (S.remaining source.new) bytes.items) }
     ensures whole { IfOk result (λ bytes. length bytes.items < most → IsRest (S.remaining source.old) bytes.items) }
     ensures few_read { ReadsAtMost most (S.remaining source.old) (S.remaining source.new) }
     ensures none_failed { OnOk result (S.failed source.new ≡ S.failed source.old) }
-    ensures one_failed { result ≡ Err ReadFault.ReadFailed → S.failed source.new ≡ counted true (S.failed source.old) }
-    ensures no_other { (result ≡ Err ReadFault.ReadFailed → ⊥) → S.failed source.new ≡ S.failed source.old }
+    ensures one_failed { result ≡ Err SourceFault.ReadFailed → S.failed source.new ≡ counted true (S.failed source.old) }
+    ensures no_other { (result ≡ Err SourceFault.ReadFailed → ⊥) → S.failed source.new ≡ S.failed source.old }
 {
     let mut bytes = Vec::new(alloc);
     let mut left = most;
@@ -31,13 +31,13 @@ pub fn read_up_to<S: Source>(
         let room = smaller(left, buffer.len());
         let front = &mut buffer[..room];
         let Ok(count) = source.read(front) else {
-            return Err(ReadFault::ReadFailed);
+            return Err(SourceFault::ReadFailed);
         };
         if count == 0 {
             return Ok(bytes);
         }
         if bytes.extend_from_slice(&front[..count]).is_err() {
-            return Err(ReadFault::OutOfMemory);
+            return Err(SourceFault::Told(OutOfMemory));
         }
         left -= count;
     }

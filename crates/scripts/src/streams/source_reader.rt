@@ -3,36 +3,46 @@
 ghost use Rattle.std.specs.Prelude.{◌≡◌, true, ℕ, List, Some, Err, IfOk, OnOk};
 ghost use Rattle.event_log.specs.Stream.{counted};
 
-use event_log::Source;
+use crate::streams::feeding::{SourceFault, TakesPieces, feed_all};
+use event_log::{OutOfMemory, Source};
 use std::alloc::Global;
 
-/// Why a source was not read.
-#[derive(Clone, Copy, Debug, PartialEq, Eq, Drop)]
-pub enum ReadFault {
-    OutOfMemory,
-    ReadFailed,
-}
-
 /// All bytes of the source.
-pub fn read_all<S: Source>(alloc: Global, source: &mut S) -> Result<Vec<u8>, ReadFault>
+pub fn read_all<S: Source>(
+    alloc: Global,
+    source: &mut S,
+) -> Result<Vec<u8>, SourceFault<OutOfMemory>>
     ensures whole { IfOk result (λ bytes. (all : List ℕ) → S.remaining source.old ≡ Some all → bytes.items ≡ all) }
     ensures none_failed { OnOk result (S.failed source.new ≡ S.failed source.old) }
-    ensures one_failed { result ≡ Err ReadFault.ReadFailed → S.failed source.new ≡ counted true (S.failed source.old) }
-    ensures no_other { (result ≡ Err ReadFault.ReadFailed → ⊥) → S.failed source.new ≡ S.failed source.old }
+    ensures one_failed { result ≡ Err SourceFault.ReadFailed → S.failed source.new ≡ counted true (S.failed source.old) }
+    ensures no_other { (result ≡ Err SourceFault.ReadFailed → ⊥) → S.failed source.new ≡ S.failed source.old }
 {
     let mut bytes = Vec::new(alloc);
     let mut buffer = [0u8; 65536];
-    for _ in 0..u64::MAX {
-        let Ok(count) = source.read(&mut buffer) else {
-            return Err(ReadFault::ReadFailed);
-        };
-        if count == 0 {
-            return Ok(bytes);
-        }
-        if bytes.extend_from_slice(&buffer[..count]).is_err() {
-            return Err(ReadFault::OutOfMemory);
+    match feed_all(source, &mut bytes, &mut buffer) {
+        Ok(()) => Ok(bytes),
+        Err(fault) => Err(fault),
+    }
+}
+
+impl TakesPieces for Vec<u8> {
+    ghost use Rattle.std.specs.Prelude.{◌≡◌, ◌++◌};
+    ghost use Rattle.scripts.specs.Feeding.{RefusesAny};
+
+    type Fault = OutOfMemory;
+
+    ghost takes = { λ first text now. now.items ≡ first.items ++ text };
+
+    ghost refuses = { RefusesAny };
+
+    fn take_piece(&mut self, piece: &[u8]) -> Result<(), OutOfMemory> {
+        match self.extend_from_slice(piece) {
+            Ok(()) => Ok(()),
+            Err(_) => Err(OutOfMemory),
         }
     }
-    // Each turn took a byte at least, and memory holds fewer than 2^63.
-    unreachable!()
+
+    fn out_of_memory() -> OutOfMemory {
+        OutOfMemory
+    }
 }

@@ -1,6 +1,7 @@
 //! The tables of calls and replies.
 
-use crate::tables::spelling::{first, second};
+use crate::kinds::{console, pool, queue, sched};
+use crate::tables::spelling::first;
 use crate::{Field, KCall, KReply, Spelled, Spelling};
 use console_ring::ConsoleCall;
 use page_pool::PoolCall;
@@ -22,30 +23,10 @@ impl Spelled for KCall {
     #[inline(always)]
     fn spelling(&self) -> Spelling {
         match *self {
-            KCall::Queue(QueueCall::Enq(thread)) => Spelling::one(b"enq", Field::wide(thread)),
-            KCall::Queue(QueueCall::Deq) => Spelling::word(b"deq"),
-            KCall::Queue(QueueCall::Remove(thread)) => Spelling::one(
-                b"remove",
-                Field::wide(thread),
-            ),
-            KCall::Queue(QueueCall::Len) => Spelling::word(b"len"),
-            KCall::Pool(PoolCall::Alloc(owner)) => Spelling::one(b"alloc", Field::wide(owner)),
-            KCall::Pool(PoolCall::Free { owner, page }) => {
-                Spelling::two(b"free", Field::wide(owner), Field::wide(page))
-            }
-            KCall::Pool(PoolCall::Left) => Spelling::word(b"left"),
-            KCall::Console(ConsoleCall::Put(byte)) => Spelling::one(b"put", Field::byte(byte)),
-            KCall::Console(ConsoleCall::Get) => Spelling::word(b"get"),
-            KCall::Console(ConsoleCall::Level) => Spelling::word(b"level"),
-            KCall::Sched(SchedCall::Ready(thread)) => Spelling::one(b"ready", Field::wide(thread)),
-            KCall::Sched(SchedCall::Next) => Spelling::word(b"next"),
-            KCall::Sched(SchedCall::Sleep { channel, thread }) => {
-                Spelling::two(b"sleep", Field::wide(channel), Field::wide(thread))
-            }
-            KCall::Sched(SchedCall::Wake(channel)) => Spelling::one(b"wake", Field::wide(channel)),
-            KCall::Sched(SchedCall::WakeAll(channel)) => {
-                Spelling::one(b"wakeall", Field::wide(channel))
-            }
+            KCall::Queue(call) => queue::spelling(call),
+            KCall::Pool(call) => pool::spelling(call),
+            KCall::Console(call) => console::spelling(call),
+            KCall::Sched(call) => sched::spelling(call),
         }
     }
 
@@ -75,34 +56,10 @@ impl Spelled for KCall {
     #[inline(always)]
     fn with_numbers(&self, numbers: &[u32]) -> KCall {
         match *self {
-            KCall::Queue(QueueCall::Enq(_)) => KCall::Queue(QueueCall::Enq(first(numbers))),
-            KCall::Queue(QueueCall::Deq) => KCall::Queue(QueueCall::Deq),
-            KCall::Queue(QueueCall::Remove(_)) => KCall::Queue(QueueCall::Remove(first(numbers))),
-            KCall::Queue(QueueCall::Len) => KCall::Queue(QueueCall::Len),
-            KCall::Pool(PoolCall::Alloc(_)) => KCall::Pool(PoolCall::Alloc(first(numbers))),
-            KCall::Pool(PoolCall::Free { owner: _, page: _ }) => KCall::Pool(PoolCall::Free {
-                owner: first(numbers),
-                page: second(numbers),
-            }),
-            KCall::Pool(PoolCall::Left) => KCall::Pool(PoolCall::Left),
-            KCall::Console(ConsoleCall::Put(_)) => {
-                KCall::Console(ConsoleCall::Put(first(numbers) as u8))
-            }
-            KCall::Console(ConsoleCall::Get) => KCall::Console(ConsoleCall::Get),
-            KCall::Console(ConsoleCall::Level) => KCall::Console(ConsoleCall::Level),
-            KCall::Sched(SchedCall::Ready(_)) => KCall::Sched(SchedCall::Ready(first(numbers))),
-            KCall::Sched(SchedCall::Next) => KCall::Sched(SchedCall::Next),
-            KCall::Sched(
-                SchedCall::Sleep {
-                    channel: _,
-                    thread: _,
-                },
-            ) => KCall::Sched(SchedCall::Sleep {
-                channel: first(numbers),
-                thread: second(numbers),
-            }),
-            KCall::Sched(SchedCall::Wake(_)) => KCall::Sched(SchedCall::Wake(first(numbers))),
-            KCall::Sched(SchedCall::WakeAll(_)) => KCall::Sched(SchedCall::WakeAll(first(numbers))),
+            KCall::Queue(call) => KCall::Queue(queue::with_numbers(call, numbers)),
+            KCall::Pool(call) => KCall::Pool(pool::with_numbers(call, numbers)),
+            KCall::Console(call) => KCall::Console(console::with_numbers(call, numbers)),
+            KCall::Sched(call) => KCall::Sched(sched::with_numbers(call, numbers)),
         }
     }
 }

@@ -5,47 +5,13 @@ ghost use Rattle.scripts.specs.LineMachine.{RefusesText, RefusesLine, Passes, Ch
 ghost use Rattle.scripts.specs.Pieces.{HasFed, Keeps};
 ghost use Rattle.scripts.specs.Words.{NoEnd};
 
+use crate::streams::feeding::TakesPieces;
+use crate::text::fault::{LineFault, LinesFault};
 use crate::text::split::split_line;
-use event_log::OutOfMemory;
-use std::alloc::{AllocFailed, Global};
+use std::alloc::Global;
 
 /// No line of a record has more bytes, and no entry of scripts.
 pub const MOST_BYTES: usize = 1024;
-
-/// Why a line was not taken.
-#[derive(Clone, Copy, Debug, PartialEq, Eq, Drop)]
-pub(crate) enum LineFault {
-    OutOfMemory,
-    Refused,
-}
-
-impl<T: Drop> From<AllocFailed<T>> for LineFault {
-    ghost use Rattle.scripts.specs.declared.text.line_machine.LineFault.TheVariants.{OutOfMemory};
-
-    ghost from_gives = { λ _ fault. fault ≡ OutOfMemory };
-
-    fn from(_failed: AllocFailed<T>) -> LineFault {
-        LineFault::OutOfMemory
-    }
-}
-
-impl From<OutOfMemory> for LineFault {
-    ghost use Rattle.scripts.specs.declared.text.line_machine.LineFault.TheVariants.{OutOfMemory};
-
-    ghost from_gives = { λ _ fault. fault ≡ OutOfMemory };
-
-    fn from(_refused: OutOfMemory) -> LineFault {
-        LineFault::OutOfMemory
-    }
-}
-
-/// Why a piece of a text was not taken.
-#[derive(Clone, Copy, Debug, PartialEq, Eq, Drop)]
-pub(crate) enum PieceFault {
-    OutOfMemory,
-    /// The first line, from 1, that can't come there.
-    Line(usize),
-}
 
 /// A state that takes the lines of a text, one after the other.
 pub(crate) trait TakesLines: Drop {
@@ -91,6 +57,7 @@ pub(crate) struct Pieces<L: TakesLines> {
 impl<L: TakesLines> Pieces<L> {
     /// Nothing was taken yet.
     pub(crate) fn new(alloc: Global, lines: L) -> Pieces<L>
+        ensures lines { result.lines ≡ lines }
         ensures taken { HasFed L.takes lines [] result }
         ensures empty { result.pending.items ≡ [] }
     {
@@ -127,11 +94,11 @@ impl<L: TakesLines> Pieces<L> {
     }
 
     /// Takes the next piece of the text. A line that can't come is refused as soon as that is known.
-    pub(crate) fn feed(&mut self, piece: &[u8]) -> Result<(), PieceFault>
+    pub(crate) fn feed(&mut self, piece: &[u8]) -> Result<(), LinesFault>
         requires { NoEnd self.old.pending.items }
         ensures no_end { OnOk result (NoEnd self.new.pending.items) }
         ensures ok { (start : L) (text : List ℕ) → HasFed L.takes start text self.old → OnOk result (HasFed L.takes start (text ++ piece.now) self.new) }
-        ensures refused { (start : L) (text : List ℕ) (n : ℕ) → HasFed L.takes start text self.old → result ≡ Err (PieceFault.Line n) →
+        ensures refused { (start : L) (text : List ℕ) (n : ℕ) → HasFed L.takes start text self.old → result ≡ Err (LinesFault.Line n) →
             RefusesLine L.takes L.refuses L.fits (text ++ piece.now) start 1 n }
         ensures short { IsShort L.fits self.old.pending.items → OnOk result (IsShort L.fits self.new.pending.items) }
         ensures held { IsHeld L.takes self.old.lines self.old.pending.items → OnOk result (IsHeld L.takes self.new.lines self.new.pending.items) }
@@ -148,13 +115,13 @@ impl<L: TakesLines> Pieces<L> {
     }
 
     /// Takes the line that ends with these bytes, and counts it.
-    fn end_line(&mut self, end: &[u8]) -> Result<(), PieceFault>
+    fn end_line(&mut self, end: &[u8]) -> Result<(), LinesFault>
         requires pending { NoEnd self.old.pending.items }
         requires end { NoEnd end.now }
         ensures no_end { OnOk result (NoEnd self.new.pending.items) }
         ensures ok { (start : L) (text : List ℕ) → HasFed L.takes start text self.old →
             OnOk result (HasFed L.takes start (text ++ (end.now ++ 10 ∷ [])) self.new) }
-        ensures refused { (start : L) (text after : List ℕ) (n : ℕ) → HasFed L.takes start text self.old → result ≡ Err (PieceFault.Line n) →
+        ensures refused { (start : L) (text after : List ℕ) (n : ℕ) → HasFed L.takes start text self.old → result ≡ Err (LinesFault.Line n) →
             RefusesText L.takes L.refuses (text ++ (end.now ++ 10 ∷ after)) start 1 n }
         ensures short { IsShort L.fits self.old.pending.items → OnOk result (IsShort L.fits self.new.pending.items) }
         ensures held { IsHeld L.takes self.old.lines self.old.pending.items → OnOk result (IsHeld L.takes self.new.lines self.new.pending.items) }
@@ -165,7 +132,7 @@ impl<L: TakesLines> Pieces<L> {
         }
         // A text of 2^64 lines has no place in memory, and a source with as many is never read to its end.
         let Some(next) = self.number.checked_add(1) else {
-            return Err(PieceFault::OutOfMemory);
+            return Err(LinesFault::OutOfMemory);
         };
         self.number = next;
         Ok(())
@@ -267,6 +234,24 @@ impl<L: TakesLines> Pieces<L> {
     }
 }
 
+impl<L: TakesLines> TakesPieces for Pieces<L> {
+    ghost use Rattle.scripts.specs.Pieces.{TakesPieces, RefusesPieces};
+
+    type Fault = LinesFault;
+
+    ghost takes = { TakesPieces L.takes };
+
+    ghost refuses = { RefusesPieces L.takes L.refuses L.fits };
+
+    fn take_piece(&mut self, piece: &[u8]) -> Result<(), LinesFault> {
+        self.feed(piece)
+    }
+
+    fn out_of_memory() -> LinesFault {
+        LinesFault::OutOfMemory
+    }
+}
+
 /// The first byte of both.
 fn first_of(front: &[u8], back: &[u8]) -> Option<u8>
     ensures first { IfSome result (λ first. (rest : List ℕ) × (front.now ++ back.now ≡ first ∷ rest)) }
@@ -282,11 +267,11 @@ fn first_of(front: &[u8], back: &[u8]) -> Option<u8>
 }
 
 /// That the line of that number was not taken.
-fn fault_at(fault: LineFault, number: usize) -> PieceFault
-    ensures { (n : ℕ) → result ≡ PieceFault.Line n → (fault ≡ LineFault.Refused) × (n ≡ number) }
+fn fault_at(fault: LineFault, number: usize) -> LinesFault
+    ensures { (n : ℕ) → result ≡ LinesFault.Line n → (fault ≡ LineFault.Refused) × (n ≡ number) }
 {
     match fault {
-        LineFault::OutOfMemory => PieceFault::OutOfMemory,
-        LineFault::Refused => PieceFault::Line(number),
+        LineFault::OutOfMemory => LinesFault::OutOfMemory,
+        LineFault::Refused => LinesFault::Line(number),
     }
 }

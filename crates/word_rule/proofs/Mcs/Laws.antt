@@ -15,9 +15,11 @@ use Rattle.word_rule.specs.Mcs.Definition.{mcs_lock, mcs_turn}
 use Rattle.word_rule.specs.Mcs.Release.{see}
 use Rattle.word_rule.specs.Mcs.State.{McsLock, follower, if_linked, naming, erased_next, untried, without_tries}
 use Rattle.word_rule.proofs.LockInterface.{Goes, SameTurn, LockLaws, NoneTries, is_idle, is_trying, moved_whole}
+use Rattle.word_rule.proofs.Lists.{split_line}
 use Rattle.word_rule.proofs.LockStates.{stands_at}
 use Rattle.word_rule.proofs.Mcs.Erased.{Alike, erased_twice, erased_moved, next_erased, next_twice, linked_erased}
 use Rattle.word_rule.proofs.Mcs.Stands.{outside, first_if}
+use Rattle.word_rule.proofs.LineEnds as ends
 use Rattle.word_rule.proofs.Mcs.States as queue
 use Rattle.word_rule.proofs.Mcs.Tries.{tries}
 use Rattle.word_rule.proofs.Mcs.Turns.{starts_mcs}
@@ -31,16 +33,12 @@ module _ (l : McsLock) (i : ℕ) where
   abbrev pub Emptied : Bool → McsLock × StepDone
   Emptied b = cond b (record l { line = leaving l.line i }, steps.Empty true) (record l { line = going l.line i (Mcs Leaving) }, steps.Empty false)
 
--- the first and those behind it
-split_line : (i : ℕ) (rest cpus : List ℕ) → cpus ≡ i ∷ rest → cpus ≡ i ∷ behind cpus
-split_line i rest cpus e = e ∙ ap (λ r. i ∷ r) (sym (ap behind e))
-
 module _ (n : ℕ) (l : McsLock) (i : ℕ) (h : IsState mcs_lock n l) (below : i < n) where
   abbrev GoesTo : McsLock × StepDone → Type 0
   GoesTo = Goes mcs_lock n l i
 
   enter_goes : l.line.stage i ≡ Mcs Ready → (o : Option ℕ) → last l.line.cpus ≡ o → GoesTo (enter l i o)
-  enter_goes e None f = record { state = queue.enters_first n l h i below (queue.ready_clear n l h i below e) f; line = ap (λ cpus. cpus ++ i ∷ []) (sym (queue.no_last l.line.cpus f)) }
+  enter_goes e None f = record { state = queue.enters_first n l h i below (queue.ready_clear n l h i below e) f; line = ap (λ cpus. cpus ++ i ∷ []) (sym (ends.no_last l.line.cpus f)) }
   enter_goes e (Some p) f = record { state = queue.enters_behind n l h i below p e f; line = refl }
 
   look_goes : l.line.stage i ≡ Mcs Waiting → (b : Bool) → is_first i l.line.cpus ≡ b → GoesTo (Looked l i b)
@@ -59,7 +57,7 @@ module _ (n : ℕ) (l : McsLock) (i : ℕ) (h : IsState mcs_lock n l) (below : i
       that : (o : Option ℕ) → is_named i o ≡ true → o ≡ Some i
       that None f = cc
       that (Some k) f = ap Some (eqb-true k i f)
-  empty_goes e false f = record { state = queue.stays_on n l h i below e (λ g. true≢false (sym (queue.names_itself i) ∙ (sym (ap (is_named i) g) ∙ f))); line = refl }
+  empty_goes e false f = record { state = queue.stays_on n l h i below e (λ g. true≢false (sym (ends.names_itself i) ∙ (sym (ap (is_named i) g) ∙ f))); line = refl }
 
   goes_by : (q : Stage) → l.line.stage i ≡ q → GoesTo (mcs_turn l i q)
   goes_by Idle e = record { state = queue.clears n l h i below e; line = refl }
@@ -230,8 +228,8 @@ mcs_laws = record {
   opens_erased = λ first first'. refl;
   few_fit = λ n few. refl;
   fits = λ n l h. refl;
-  outside = outside;
-  first = first_if;
+  outside = λ n. outside;
+  first = λ n. first_if;
   holds = λ ticket. refl;
   goes = λ n l i h below. goes_by n l i h below (l.line.stage i) refl;
   whole = λ l i h. whole_by l i h (l.line.stage i);

@@ -8,7 +8,7 @@ use native.Mathlib.Decide.{ℕ_discrete}
 use lib.ListN.{get_elem?}
 use Rattle.event_log.specs.Distinct.{has}
 use Rattle.word_rule.specs.declared.machine.step_done.StepDone.{StepDone}
-use Rattle.sound_run.specs.declared.lock_kind.LockKind.TheVariants as kinds
+use Rattle.word_rule.specs.declared.lock_algorithm.LockAlgorithm.TheVariants as kinds
 use Rattle.word_rule.specs.declared.lock_kind.Stage.{Stage}
 use Rattle.word_rule.specs.declared.lock_kind.Stage.TheVariants.{Idle, Mcs, Trying}
 use Rattle.word_rule.specs.declared.lock_kind.McsStage.TheVariants.{Ready, Behind, Armed, Waiting, Holding, Alone, Leaving, Passing}
@@ -27,7 +27,7 @@ use Rattle.word_rule.proofs.LockInterface.{is_trying}
 use Rattle.word_rule.proofs.LockProgress.{FirstOn, LockFairness, LockProgress, one_on}
 use Rattle.word_rule.proofs.LockStates.{in_cell, stands_at}
 use Rattle.word_rule.proofs.Mcs.Laws.{Looked, Emptied, mcs_laws}
-use Rattle.word_rule.proofs.Mcs.States as queue
+use Rattle.word_rule.proofs.LineEnds as ends
 use Rattle.word_rule.proofs.Moves.{moved_same, moved_else}
 
 -- a clear, an enter, an arm, a link, a look that gets the object, a see, an empty, a see that finds a follower, and a pass
@@ -243,7 +243,7 @@ module _ (n : ℕ) (l : McsLock) (i : ℕ) (h : IsState mcs_lock n l) (below : i
     stays_by (Mcs Waiting) e on = first_stays (mcs_lock.turn l i).1 i j l.line.cpus new.cpus (let g = mcs_laws.goes n l i h below in g.line) ne on
     stays_by (Mcs Leaving) e on =
         let s = stands_at mcs_lock n l h j (Mcs Leaving) j_below e in
-        let t = queue.another n l h j s.0.there s.1 in
+        let t = ends.another mcs_lock n l h j s.0.there s.1 in
         let r = two_are l.line.cpus j t.0 s.0.there t.1 in
         let linked : is_linked (l.line.stage t.0) ≡ true = subst (λ c. linked_at l.line (second c) ≡ true) r.1 on in
         ap (linked_at new) (second_stays t.0 r.0 r.1) ∙ linked_stays t.0 r.0 r.1 linked
@@ -263,7 +263,7 @@ module _ (n : ℕ) (l : McsLock) (x : ℕ) (h : IsState mcs_lock n l) (there : g
   first_by (Mcs Waiting) e = inl (at_first x l.line.cpus there)
   first_by (Mcs Leaving) e =
       let s = stands_at mcs_lock n l h x (Mcs Leaving) (in_cell mcs_lock n l h 0 x there) e in
-      let t = queue.another n l h x there s.1 in
+      let t = ends.another mcs_lock n l h x there s.1 in
       let r = two_are l.line.cpus x t.0 there t.1 in
       ⊎_elim (λ on. inl on)
       (λ off. inr (t.0, t.1, second_on t.0 t.1 t.2 (subst (λ c. linked_at l.line (second c) ≡ false) r.1 off) (l.line.stage t.0) refl))

@@ -1,6 +1,5 @@
 -- An MCS lock's turns, apart from words: each leaves a state of the lock.
-use Rattle.std.proofs.Common.{◌≡◌, ◌≢◌, inl, ⊎_elim, ℕ, zero, suc, ◌<◌, Bool, true, false, true≢false, cond, eq-eqb, List, [], ◌∷◌, ◌++◌, length, refl, sym, ap, ◌∙◌, subst, arith, length-append, Option, Some, None}
-use Rattle.std.proofs.lemmas.Bool.{false_from_ne_true}
+use Rattle.std.proofs.Common.{◌≡◌, ◌≢◌, inl, ⊎_elim, ℕ, suc, ◌<◌, Bool, true, false, true≢false, cond, List, [], ◌∷◌, ◌++◌, length, refl, sym, ap, ◌∙◌, subst, arith, length-append, Option, Some, None}
 use mathlib.Core.Logic.{dite}
 use mathlib.Core.Option.{some, some-injective, some-ne-none}
 use native.Mathlib.Decide.{ℕ_discrete}
@@ -11,7 +10,7 @@ use Rattle.event_log.proofs.Distinct.{distinct_push}
 use Rattle.word_rule.specs.declared.lock_kind.Stage.{Stage}
 use Rattle.word_rule.specs.declared.lock_kind.Stage.TheVariants.{Idle, Mcs, Trying}
 use Rattle.word_rule.specs.declared.lock_kind.McsStage.TheVariants.{Ready, Behind, Armed, Waiting, Holding, Alone, Leaving, Passing}
-use Rattle.word_rule.specs.Line.{is_first, lined, last, last_from, is_named, second, behind, going, joining, taking, leaving, First}
+use Rattle.word_rule.specs.Line.{is_first, lined, last, second, behind, going, joining, taking, leaving, First}
 use Rattle.word_rule.specs.LockDefinition.{IsState}
 use Rattle.word_rule.specs.Locks.{holding}
 use Rattle.word_rule.specs.Mcs.Acquire.{clear, arm, link}
@@ -19,45 +18,11 @@ use Rattle.word_rule.specs.Mcs.Definition.{mcs_lock}
 use Rattle.word_rule.specs.Mcs.Release.{pass}
 use Rattle.word_rule.specs.Mcs.State.{McsLock, if_linked, is_linked, follower, naming, Follows, StandsInQueue}
 use Rattle.word_rule.specs.Mcs.Try.{prepare}
-use Rattle.word_rule.proofs.Lists.{has_at, at_below, one_place, one_at, not_at, there_is, two_are, one_is, first_at, at_first}
+use Rattle.word_rule.proofs.LineEnds.{at_end, last_at, last_in, last_push, no_last}
+use Rattle.word_rule.proofs.Lists.{has_at, at_below, one_place, one_at, not_at, two_are, one_is, first_at, at_first}
 use Rattle.word_rule.proofs.LockStates.{stands_at, in_cell, restaged}
 use Rattle.word_rule.proofs.Mcs.Stands.{first_if, naming_same, naming_else, none_some, other_next, longer_queue, first_queue, taken_by, emptied_by, passed_by, stands_in}
 use Rattle.word_rule.proofs.Moves.{each_moved}
-
--- the last is at the end
-pub last_at : (xs : List ℕ) (p : ℕ) → last xs ≡ Some p → (i : ℕ) × (get_elem? xs i ≡ some p) × (length xs ≡ suc i)
-last_at [] p e = cc
-last_at (x ∷ xs) p e = go x xs (let f : last_from x xs ≡ p = cc in f)
-  where
-    go : (x : ℕ) (xs : List ℕ) → last_from x xs ≡ p → (i : ℕ) × (get_elem? (x ∷ xs) i ≡ some p) × (length (x ∷ xs) ≡ suc i)
-    go x [] e = (0, ap some e, refl)
-    go x (y ∷ ys) e = let t = go y ys e in (suc t.0, t.1, ap suc t.2)
-
-pub at_end : (xs : List ℕ) (i p : ℕ) → get_elem? xs i ≡ some p → length xs ≡ suc i → last xs ≡ Some p
-at_end [] i p e long = absurd (some-ne-none p (sym e))
-at_end (x ∷ xs) i p e long = ap Some (go x xs i e long)
-  where
-    go : (x : ℕ) (xs : List ℕ) (i : ℕ) → get_elem? (x ∷ xs) i ≡ some p → length (x ∷ xs) ≡ suc i → last_from x xs ≡ p
-    go x [] zero e long = some-injective x p e
-    go x [] (suc i) e long = absurd (some-ne-none p (sym e))
-    go x (y ∷ ys) zero e long = absurd (omega arith)
-    go x (y ∷ ys) (suc i) e long = go y ys i e (omega arith)
-
-pub last_push : (xs : List ℕ) (p : ℕ) → last (xs ++ p ∷ []) ≡ Some p
-last_push [] p = refl
-last_push (x ∷ xs) p = ap Some (go x xs)
-  where
-    go : (x : ℕ) (xs : List ℕ) → last_from x (xs ++ p ∷ []) ≡ p
-    go x [] = refl
-    go x (y ∷ ys) = go y ys
-
-pub no_last : (xs : List ℕ) → last xs ≡ None → xs ≡ []
-no_last [] e = refl
-no_last (x ∷ xs) e = cc
-
--- the one that is named is named
-pub names_itself : (i : ℕ) → is_named i (Some i) ≡ true
-names_itself i = eq-eqb i i refl
 
 second_at : (cpus : List ℕ) (j : ℕ) → second cpus ≡ Some j → get_elem? cpus 1 ≡ some j
 second_at [] j e = cc
@@ -74,18 +39,6 @@ module _ (n : ℕ) (l : McsLock) (h : IsState mcs_lock n l) where
       let k : f.at ≡ i = omega arith in
       ap l.extra (sym (one_at l.line.cpus t.0 p k f.ahead ahead)) ∙ f.link)
       (stands_in l.extra l.line.cpus l.line.out j (l.line.stage j) (has_at l.line.cpus (suc i) j there) (h.stood j (in_cell mcs_lock n l h (suc i) j there)))
-
-  -- the second isn't the first
-  pub not_both : (p j : ℕ) → get_elem? l.line.cpus 0 ≡ some p → get_elem? l.line.cpus 1 ≡ some j → j ≢ p
-  not_both p j first second e = let k = one_place n l.line.cpus h.distinct 0 1 p first (second ∙ ap some e) in absurd (omega arith)
-
-  -- there is one behind p, the first
-  pub another : (p : ℕ) → get_elem? l.line.cpus 0 ≡ some p → 1 < length l.line.cpus → (j : ℕ) × (get_elem? l.line.cpus 1 ≡ some j) × (j ≢ p)
-  another p first long = let t = there_is l.line.cpus 1 long in (t.0, t.1, not_both p t.0 first t.1)
-
-  -- the one that is last is in line
-  pub last_in : (p : ℕ) → last l.line.cpus ≡ Some p → (has p l.line.cpus ≡ true) × (p < n)
-  last_in p e = let t = last_at l.line.cpus p e in (has_at l.line.cpus t.0 p t.1, in_cell mcs_lock n l h t.0 p t.1)
 
   module _ (i : ℕ) (below : i < n) where
     abbrev here : (q : Stage) → l.line.stage i ≡ q → StandsInQueue l.line.cpus l.line.out i l.extra q
@@ -111,10 +64,6 @@ module _ (n : ℕ) (l : McsLock) (h : IsState mcs_lock n l) where
     pub prepares : l.line.stage i ≡ Idle → IsState mcs_lock n (prepare l i)
     prepares = clears_to Trying (λ _ outside named. (outside, named))
 
-    -- where nobody is last, the object is at home
-    pub nobody_home : last l.line.cpus ≡ None → l.line.out ≡ false
-    nobody_home none = false_from_ne_true l.line.out (λ o. let some_one = h.busy o in let long : length l.line.cpus ≡ 0 = ap length (no_last l.line.cpus none) in absurd (omega arith))
-
     pub enters_first : l.extra i ≡ None → last l.line.cpus ≡ None → IsState mcs_lock n (record l { line = lined (i ∷ []) true l.line.stage i (Mcs Holding) })
     enters_first clear none =
         let empty : l.line.cpus ≡ [] = no_last l.line.cpus none in
@@ -136,11 +85,11 @@ module _ (n : ℕ) (l : McsLock) (h : IsState mcs_lock n l) where
 
     -- the one that is last is another than one that prepares a try
     pub trying_last : (p : ℕ) → l.line.stage i ≡ Trying → last l.line.cpus ≡ Some p → p ≢ i
-    trying_last p e there is = let s = here Trying e in true≢false (sym (last_in p there).0 ∙ (ap (λ z. has z l.line.cpus) is ∙ s.0))
+    trying_last p e there is = let s = here Trying e in true≢false (sym (last_in mcs_lock n l h p there).0 ∙ (ap (λ z. has z l.line.cpus) is ∙ s.0))
 
     -- the one that is last is another than one that isn't in the queue yet
     pub other_last : (p : ℕ) → l.line.stage i ≡ Mcs Ready → last l.line.cpus ≡ Some p → p ≢ i
-    other_last p e there is = let s = here (Mcs Ready) e in true≢false (sym (last_in p there).0 ∙ (ap (λ z. has z l.line.cpus) is ∙ s.0))
+    other_last p e there is = let s = here (Mcs Ready) e in true≢false (sym (last_in mcs_lock n l h p there).0 ∙ (ap (λ z. has z l.line.cpus) is ∙ s.0))
 
     pub gives_up : l.line.stage i ≡ Trying → IsState mcs_lock n (record l { line = going l.line i Idle })
     gives_up e = let s = here Trying e in restaged mcs_lock n l h i Idle s.0

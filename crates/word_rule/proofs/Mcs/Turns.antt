@@ -18,6 +18,7 @@ use Rattle.word_rule.specs.Mcs.State.{McsLock, word_of, is_armed, is_linked, fol
 use Rattle.word_rule.specs.Mcs.Try.{prepare, try_queue}
 use Rattle.word_rule.proofs.Lists.{one_place, first_at}
 use Rattle.word_rule.proofs.LockStates.{stands_at, in_cell}
+use Rattle.word_rule.proofs.LineEnds as ends
 use Rattle.word_rule.proofs.Mcs.States as queue
 use Rattle.word_rule.proofs.Mcs.Words as words
 use Rattle.word_rule.proofs.Moves.{moved_same, each_moved}
@@ -96,7 +97,7 @@ module _ (n : ℕ) (ws : List ℕ) (l : McsLock) (h : IsTied mcs_lock n ws l) wh
     where
       by : (o : Option ℕ) → last l.line.cpus ≡ o → word_of o ≤ n
       by None e = omega arith
-      by (Some p) e = let lt = (queue.last_in n l h.state p e).1 in omega (arith, lt)
+      by (Some p) e = let lt = (ends.last_in mcs_lock n l h.state p e).1 in omega (arith, lt)
 
   module _ (i : ℕ) (below : i < n) where
     pub clears : l.line.stage i ≡ Idle → IsTied mcs_lock n (set ws (1 + i) 0) (clear l i)
@@ -108,7 +109,7 @@ module _ (n : ℕ) (ws : List ℕ) (l : McsLock) (h : IsTied mcs_lock n ws l) wh
     -- one that isn't armed enters an empty queue
     enters_free : (q : Stage) → l.line.stage i ≡ q → 0 ≡ locked_by q i l.line.cpus → l.extra i ≡ None → last l.line.cpus ≡ None → IsTied mcs_lock n (set ws 0 (i + 1)) (record l { line = lined (i ∷ []) true l.line.stage i (Mcs Holding) })
     enters_free q e free clear none =
-        let empty = queue.no_last l.line.cpus none in
+        let empty = ends.no_last l.line.cpus none in
         record {
           state = queue.enters_first n l h.state i below clear none;
           words = words.tail_stored n ws l h.words (record l { line = lined (i ∷ []) true l.line.stage i (Mcs Holding) }) (i + 1) refl refl
@@ -129,7 +130,7 @@ module _ (n : ℕ) (ws : List ℕ) (l : McsLock) (h : IsTied mcs_lock n ws l) wh
     pub enters_behind : (p : ℕ) → l.line.stage i ≡ Mcs Ready → last l.line.cpus ≡ Some p → IsTied mcs_lock n (set ws 0 (i + 1)) (record l { line = joining l.line i (Mcs (Behind p)) })
     enters_behind p e there = record {
       state = queue.enters_behind n l h.state i below p e there;
-      words = words.tail_stored n ws l h.words (record l { line = joining l.line i (Mcs (Behind p)) }) (i + 1) refl (ap word_of (queue.last_push l.line.cpus i))
+      words = words.tail_stored n ws l h.words (record l { line = joining l.line i (Mcs (Behind p)) }) (i + 1) refl (ap word_of (ends.last_push l.line.cpus i))
           (words.locked_moved l.line.stage n i (Mcs (Behind p)) l.line.cpus (l.line.cpus ++ i ∷ []) (ap (λ z. locked_by z i l.line.cpus) (sym e))
           (λ x _ _. ap (λ z. cond (is_armed (l.line.stage x) && not z) 1 0) (first_longer x i p l.line.cpus there)));
     }
@@ -255,7 +256,7 @@ module _ (l : McsLock) (i : ℕ) where
   tried cpus is = ap (λ z. cond (is_empty z) (tried_by l i, steps.Clear ∷ steps.Enter true ∷ []) (record l { line = going l.line i Idle }, [])) is
 
   pub tries_first : last l.line.cpus ≡ None → try_queue l i ≡ (tried_by l i, steps.Clear ∷ steps.Enter true ∷ [])
-  tries_first none = tried [] (queue.no_last l.line.cpus none)
+  tries_first none = tried [] (ends.no_last l.line.cpus none)
 
   pub tries_busy : (p : ℕ) → last l.line.cpus ≡ Some p → try_queue l i ≡ (record l { line = going l.line i Idle }, [])
   tries_busy p there = by l.line.cpus refl there

@@ -1,5 +1,5 @@
 -- What a ticket lock proves of its definition.
-use Rattle.std.proofs.Common.{◌≡◌, ℕ, ◌+◌, ◌%◌, ◌<◌, ◌==◌, Bool, true, false, cond, List, [], ◌∷◌, ◌++◌, length, refl, sym, ap, ◌∙◌, arith}
+use Rattle.std.proofs.Common.{◌≡◌, ℕ, ◌+◌, ◌%◌, ◌<◌, ◌==◌, Bool, true, false, cond, List, [], ◌∷◌, ◌++◌, length, refl, sym, ◌∙◌, arith}
 use Rattle.std.proofs.lemmas.Bool.{ltb-true, lt-ltb}
 use Rattle.word_rule.specs.declared.machine.step_done.StepDone.{StepDone}
 use Rattle.word_rule.specs.declared.machine.step_done.StepDone.TheVariants as steps
@@ -12,6 +12,7 @@ use Rattle.word_rule.specs.StepKinds.{ends_hold}
 use Rattle.word_rule.specs.Ticket.Definition.{ticket_lock, ticket_turn}
 use Rattle.word_rule.specs.Ticket.State.{TicketLock, tickets, ticket_words, without_ticket, without_tickets}
 use Rattle.word_rule.proofs.LockInterface.{Goes, SameTurn, LockLaws, NoneTries, is_idle, moved_whole}
+use Rattle.word_rule.proofs.Lists.{split_line}
 use Rattle.word_rule.proofs.LockStates.{stands_at}
 use Rattle.word_rule.proofs.Ticket.Tries.{tries}
 use Rattle.word_rule.proofs.Ticket.Turns.{outside, first_if, draws, takes, holder_first, serves_state, starts_ticket}
@@ -20,10 +21,6 @@ use Rattle.word_rule.proofs.Ticket.Turns.{outside, first_if, draws, takes, holde
 module _ (l : TicketLock) (i t : ℕ) where
   abbrev pub Looked : Bool → TicketLock × StepDone
   Looked b = cond b (record l { line = taking l.line i (Ticket (Served t)) }, steps.Look true) (l, steps.Look false)
-
--- the first and those behind it
-split_line : (i : ℕ) (rest cpus : List ℕ) → cpus ≡ i ∷ rest → cpus ≡ i ∷ behind cpus
-split_line i rest cpus e = e ∙ ap (λ r. i ∷ r) (sym (ap behind e))
 
 module _ (n : ℕ) (l : TicketLock) (i : ℕ) (h : IsState ticket_lock n l) (below : i < n) where
   tied : IsTied ticket_lock n (ticket_words l) l
@@ -109,8 +106,8 @@ ticket_laws = record {
   opens_erased = λ first first'. refl;
   few_fit = λ n few. lt-ltb n tickets (omega arith);
   fits = λ n l h. lt-ltb n tickets h.extra.1;
-  outside = outside;
-  first = first_if;
+  outside = λ n. outside;
+  first = λ n. first_if;
   holds = λ ticket. refl;
   goes = λ n l i h below. goes_by n l i h below (l.line.stage i) refl;
   whole = λ l i h. whole_by l i (l.line.stage i) h;

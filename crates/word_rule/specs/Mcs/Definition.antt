@@ -30,15 +30,15 @@ mcs_lock = record {
   Extra = ℕ → Option ℕ;
   opening = λ first x. None;
   turn = λ l i. mcs_turn l i (l.line.stage i);
-  attempt = λ l i ticket. try_queue l i;
+  attempt = λ l i seen. try_queue l i;
   prepare = prepare;
   words = mcs_words;
   fits = λ n. true;
-  Stands = StandsInQueue;
+  Stands = λ n. StandsInQueue;
   -- nobody has linked itself to the last of the queue
   KeepsExtra = λ n next cpus. (p : ℕ) → last cpus ≡ Some p → next p ≡ None;
   erase = without_tries;
   served = λ next. 0;
   holding = is_at_head;
-  holder = λ ticket. Mcs Holding;
+  holder = λ mark. Mcs Holding;
 }

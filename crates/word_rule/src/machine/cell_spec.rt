@@ -1,12 +1,12 @@
 //! What a cell of the step machine is made of.
 
+use crate::LockAlgorithm;
 use event_log::{Logged, SeqObject};
-use sound_run::LockKind;
 
-/// A cell for the step machine: its lock, the first ticket (modulo 2^32; 0 for an MCS lock), and the object with its log.
+/// A cell for the step machine: its lock, the first ticket (modulo 2^32; 0 for a lock without tickets), and the object with its log.
 #[derive(Drop)]
 pub struct CellSpec<O: SeqObject> {
-    pub kind: LockKind,
+    pub kind: LockAlgorithm,
     pub first: u64,
     pub logged: Logged<O>,
 }

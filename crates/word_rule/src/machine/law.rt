@@ -51,7 +51,7 @@ pub fn sound_runs<O: SeqObject>()
         Sound O.SeqObject (opened_in w) (run_of (run O.SeqObject schedule w)) }
 {}
 
-/// Under every schedule, over cells of either kind, all entries have one order: that in which their holds came to an end. Each
+/// Under every schedule, over cells of any kind, all entries have one order: that in which their holds came to an end. Each
 /// CPU's entries stand in theirs, those done on a cell in its log's, and those without room behind all that were done there.
 pub fn ends_are_an_order<O: SeqObject>()
     ensures { (w : World O O.Params O.Call O.Reply) → IsOpening w → (schedule : List ℕ) →
@@ -67,9 +67,9 @@ pub fn someone_gets_on<O: SeqObject>()
         GetsOn (run O.SeqObject schedule w) i → GetsOn (step O.SeqObject (run O.SeqObject schedule w) j).0 i }
 {}
 
-/// Every fair schedule finishes. From every world on, after 3 rounds for each entry that is left at a ticket lock, and 9 for each at an
-/// MCS lock, every script is done. So it is after 9 for each entry. A round is a stretch of the schedule that names each CPU. Those
-/// of a schedule that goes round are rounds.
+/// Every fair schedule finishes. From every world on, every script is done after so many rounds for each entry that is left: 3
+/// at a ticket lock, 9 at an MCS lock and 5 at a toggle lock. So it is after 9 for each entry. A round is a stretch of the
+/// schedule that names each CPU. Those of a schedule that goes round are rounds.
 pub fn scripts_end<O: SeqObject>()
     ensures steps { (w : World O O.Params O.Call O.Reply) → IsOpening w → (schedule more : List ℕ) →
         HasRounds (length w.cpus) (steps_to_do (run O.SeqObject schedule w)) more → AllDone (run O.SeqObject more (run O.SeqObject schedule w)) }
@@ -79,9 +79,9 @@ pub fn scripts_end<O: SeqObject>()
     ensures rounds { (cpus times : ℕ) → HasRounds cpus times (go_round cpus times) }
 {}
 
-/// Every call ends, whatever the others still have to do. An entry that a CPU is doing, or would begin next, ends within 9 rounds for
-/// each CPU and 9 more. At a ticket lock 3 are enough in place of 9. The entry of a CPU in line ends within so many rounds for each CPU
-/// ahead, and twice so many more.
+/// Every call ends, whatever the others still have to do. An entry that a CPU is doing, or would begin next, ends within 9
+/// rounds for each CPU and 9 more. At a ticket lock 3 are enough in place of 9, and 5 at a toggle lock. The entry of a CPU in
+/// line ends within so many rounds for each CPU ahead, and twice so many more.
 pub fn calls_end<O: SeqObject>()
     ensures ends { (w : World O O.Params O.Call O.Reply) → IsOpening w → (schedule more : List ℕ) (i x : ℕ) →
         is_at (run O.SeqObject schedule w) i x ≡ true → HasRounds (length w.cpus) (most_steps * (length w.cpus + 1)) more →

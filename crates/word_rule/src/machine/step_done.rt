@@ -9,7 +9,7 @@ pub enum StepDone {
     /// The CPU's script is done.
     Idle,
     Draw,
-    /// A look at either lock.
+    /// A look at a lock of any kind.
     Look(bool),
     Serve,
     Clear,

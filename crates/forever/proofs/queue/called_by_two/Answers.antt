@@ -3,6 +3,7 @@ use denote.Param.Send.{param_send, arg_send}
 use Rattle.std.proofs.Common.{rules, ◌≡◌, Some, slice_get, length, ap, ◌∙◌, arith}
 use Rattle.shared_queue.specs.contracts.queue.ThreadQueueSeqObject.TheImpl.{ghosts}
 use Rattle.shared_queue.specs.declared.call.QueueCall.TheVariants.{Enq, Deq}
+use Rattle.word_rule.specs.Algorithms.{algorithm_of}
 use Rattle.word_rule.specs.Cell.{first_pass}
 use Rattle.word_rule.specs.Passes.{view_of_pass, run_of_pass}
 use Rattle.word_rule.proofs.Owners.{own_both}
@@ -38,7 +39,7 @@ pub returns-clause-ended : goal.returns-clause-ended
 returns-clause-ended g c =
     let zero : slice_get c.in-Ok.passes.items 0 ≡ Some c.unwrap-zero.result = search rules in
     let one : slice_get c.in-Ok.passes.items 1 ≡ Some c.unwrap-one.result = search rules in
-    ended_as ghosts (view_of_pass c.unwrap-zero.result) (first_pass c.args.kind 0 c.args.queue 2 0) (view_of_pass c.unwrap-one.result) (first_pass c.args.kind 0 c.args.queue 2 1) _ _ _
+    ended_as ghosts (view_of_pass c.unwrap-zero.result) (first_pass (algorithm_of c.args.kind) 0 c.args.queue 2 0) (view_of_pass c.unwrap-one.result) (first_pass (algorithm_of c.args.kind) 0 c.args.queue 2 1) _ _ _
     (c.in-Ok.ensures.passes 0 c.unwrap-zero.result zero).1 (c.in-Ok.ensures.passes 1 c.unwrap-one.result one).1 c.two_in_turn-ended.ensures.ended
 
 pub returns-clause-counted : goal.returns-clause-counted
@@ -67,7 +68,7 @@ pub returns-clause-order_run : goal.returns-clause-order_run
 returns-clause-order_run g c =
     let zero : slice_get c.in-Ok.passes.items 0 ≡ Some c.unwrap-zero.result = search rules in
     let one : slice_get c.in-Ok.passes.items 1 ≡ Some c.unwrap-one.result = search rules in
-    ordered_as ghosts _ (view_of_pass c.unwrap-zero.result) (first_pass c.args.kind 0 c.args.queue 2 0) (view_of_pass c.unwrap-one.result) (first_pass c.args.kind 0 c.args.queue 2 1)
+    ordered_as ghosts _ (view_of_pass c.unwrap-zero.result) (first_pass (algorithm_of c.args.kind) 0 c.args.queue 2 0) (view_of_pass c.unwrap-one.result) (first_pass (algorithm_of c.args.kind) 0 c.args.queue 2 1)
     (run_of_pass c.unwrap-zero.result) _ (run_of_pass c.unwrap-one.result) _ _ _
     (c.in-Ok.ensures.passes 0 c.unwrap-zero.result zero).1 (c.in-Ok.ensures.passes 1 c.unwrap-one.result one).1
     (c.in-Ok.ensures.runs 0 c.unwrap-zero.result zero) (c.in-Ok.ensures.runs 1 c.unwrap-one.result one) c.two_in_turn-ended.ensures.order_run

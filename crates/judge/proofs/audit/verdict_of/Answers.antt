@@ -1,5 +1,5 @@
 use Rattle.std.proofs.Common.{◌≡◌, Ok, Err, sym, subst}
-use Rattle.scripts.specs.declared.record.fault.RecordFault.TheVariants.{OutOfMemory, Line}
+use Rattle.scripts.specs.declared.text.fault.LinesFault.TheVariants.{OutOfMemory, Line}
 use Rattle.scripts.specs.Keeping.{kept_record}
 use Rattle.scripts.specs.RecordFaults.{IsWhole, NamesBadLine}
 use Rattle.scripts.specs.Settings.{Settings}

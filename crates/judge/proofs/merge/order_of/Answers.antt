@@ -2,7 +2,7 @@ use Rattle.std.proofs.Common.{◌≡◌, refl, sym, subst, length, ◌∙◌, ap
 use Rattle.scripts.specs.Keeping.{kept_record}
 use Rattle.scripts.specs.RecordFaults.{IsWhole, NamesBadLine}
 use Rattle.scripts.specs.Settings.{Settings}
-use Rattle.scripts.specs.declared.record.fault.RecordFault.TheVariants.{Line}
+use Rattle.scripts.specs.declared.text.fault.LinesFault.TheVariants.{Line}
 use Rattle.judge.specs.Orders.{order, cycle, unsound, bad_line, told_places, room_with}
 use Rattle.judge.proofs.merge.order_of.Goals as goal
 

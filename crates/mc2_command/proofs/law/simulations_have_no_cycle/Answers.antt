@@ -11,7 +11,7 @@ use Rattle.scripts.specs.declared.objects.kernel_call.KParams.{KParams}
 use Rattle.scripts.specs.declared.objects.kernel_call.KCall.{KCall}
 use Rattle.scripts.specs.declared.objects.kernel_call.KReply.{KReply}
 use Rattle.scripts.specs.declared.objects.kernel_object.KernelObject.{KernelObject}
-use Rattle.scripts.specs.declared.record.form.Form.TheVariants.{Two}
+use Rattle.scripts.specs.declared.record.form.TheConstants.{WRITTEN}
 use Rattle.scripts.specs.RecordFaults.{text_in, text_of}
 use Rattle.scripts.specs.RecordRanges.{Record, RecordFits}
 use Rattle.scripts.specs.Runs.{opened_of}
@@ -24,7 +24,7 @@ is_same : (c : goal.After-sound_has_no_fault) (later : Option (List ℕ) → Opt
 is_same c later name r of fit there read =
     let form = read.2.form in
     let text : text_in form of ≡ text_of r ++ [] = sym read.2.text ∙ (read.1 (text_of r) there ∙ sym (append-nil (text_of r))) in
-    (c.no_text_begins_another.ensures Two form r of [] fit read.2.fit text).1
+    (c.no_text_begins_another.ensures WRITTEN form r of [] fit read.2.fit text).1
 
 pub returns-clause-cycle : goal.returns-clause-cycle
 returns-clause-cycle c = λ held later settings scripts schedule r sim fit name answer there refused.

@@ -5,4 +5,4 @@ pub returns-in-Ok : goal.returns-in-Ok
 returns-in-Ok g c = inl (_, _, c.command.ensures)
 
 pub returns-in-Err : goal.returns-in-Err
-returns-in-Err g c = inr (c.in-Err.fault, _, c.from.ensures, _, _, c.refuse.ensures)
+returns-in-Err g c = inr (_, c.in-Err.ensures.refused, _, _, c.refuse.ensures)

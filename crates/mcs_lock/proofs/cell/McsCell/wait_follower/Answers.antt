@@ -16,6 +16,6 @@ returns-in-Ok-clause-run g c = seen_more g.O.SeqObject true _ _ (state_of_leavin
 pub loop-preserved : goal.loop-preserved
 loop-preserved g c = let l = c.loop.leaving in let again = c.in-Err.again in let e = c.in-Err.ensures.missed in record {
   leaving = e.0;
-  hold_view = same_held g.O.SeqObject l.key.value again.key.value _ _ (Mcs Leaving) (Mcs Leaving) _ l.logged again.logged l.seat.me again.seat.me e.1.made ∙ c.loop.invariant.hold_view;
+  hold_view = same_held g.O.SeqObject l.inside.outside.key.value again.inside.outside.key.value _ _ (Mcs Leaving) (Mcs Leaving) _ l.inside.logged again.inside.logged l.inside.outside.seat.me again.inside.outside.seat.me e.1.made ∙ c.loop.invariant.hold_view;
   seen = seen_more g.O.SeqObject false _ _ (state_of_leaving c.args.leaving) (state_of_leaving l) (state_of_leaving again) c.loop.invariant.seen e.1.made refl;
 }

@@ -1,7 +1,7 @@
 use Rattle.std.proofs.Common.{◌<◌, ◌≤◌, length, ap, sym, subst, arith}
 use Rattle.scripts.specs.declared.settings.source.TheConstants.{MOST_SETTINGS_BYTES}
 use Rattle.scripts.specs.ScriptFaults.{IsRest}
-use Rattle.scripts.proofs.SettingsReading.{settings_refused, long_refused}
+use Rattle.scripts.proofs.SettingsReading.{settings_names, long_refused}
 use Rattle.scripts.proofs.settings.Settings.read_from.Goals as goal
 
 pub returns-then-len-gt-MOST_SETTINGS_BYTES-clause-fault : goal.returns-then-len-gt-MOST_SETTINGS_BYTES-clause-fault
@@ -9,8 +9,8 @@ returns-then-len-gt-MOST_SETTINGS_BYTES-clause-fault g c =
     let long : MOST_SETTINGS_BYTES < length c.in-Ok.bytes.items = (let over = c.if-len-gt-MOST_SETTINGS_BYTES.true in omega (arith, over, c.len.ensures)) in
     long_refused _ _ c.in-Ok.bytes.items c.in-Ok.ensures.front long
 
-pub returns-in_err-read-clause-fault : goal.returns-in_err-read-clause-fault
-returns-in_err-read-clause-fault g c =
+pub returns-clause-fault : goal.returns-clause-fault
+returns-clause-fault g c =
     let few : length c.in-Ok.bytes.items ≤ MOST_SETTINGS_BYTES = (let within = c.if-len-gt-MOST_SETTINGS_BYTES.false in omega (arith, within, c.len.ensures)) in
     let rest = subst (IsRest (g.S.Source.remaining c.args.source.now)) (sym c.as_slice.ensures.value) (c.in-Ok.ensures.whole (omega (arith, few))) in
-    settings_refused _ c.as_slice.result.now c.in_err-read.field-0.0 c.from_residual.result c.from_residual.ensures.1 rest (omega (arith, few, ap length c.as_slice.ensures.value)) c.in_err-read.ensures.fault
+    settings_names _ c.as_slice.result.now c.in-Err.fault rest (omega (arith, few, ap length c.as_slice.ensures.value)) c.in-Err.ensures.fault

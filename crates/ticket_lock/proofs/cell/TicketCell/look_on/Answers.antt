@@ -22,8 +22,8 @@ returns-in-Ok-clause-caller g c = let got = c.in-Ok.ensures.got.1.1 in got.calle
 
 pub returns-in-Ok-clause-grows : goal.returns-in-Ok-clause-grows
 returns-in-Ok-clause-grows g c = let i = c.loop.invariant in let d = c.loop.drawn in let h = c.in-Ok.hold in let b = view_of_drawn c.args.drawn in
-    let taken = takes_log g.O.SeqObject _ _ _ h.logged (state_of_drawn d) (state_of_hold h) c.in-Ok.ensures.got.1.1 refl in
-    grows_then b.caller.owned b.seen (view_of_drawn d).seen h.logged.log i.grows (subst (λ k. Grows k.owned (view_of_drawn d).seen h.logged.log) i.caller taken)
+    let taken = takes_log g.O.SeqObject _ _ _ h.inside.logged (state_of_drawn d) (state_of_hold h) c.in-Ok.ensures.got.1.1 refl in
+    grows_then b.caller.owned b.seen (view_of_drawn d).seen h.inside.logged.log i.grows (subst (λ k. Grows k.owned (view_of_drawn d).seen h.inside.logged.log) i.caller taken)
 
 pub returns-in-Ok-clause-run : goal.returns-in-Ok-clause-run
 returns-in-Ok-clause-run g c = let i = c.loop.invariant in let d = c.loop.drawn in let h = c.in-Ok.hold in let b = c.args.drawn in let done = i.done.0 in let waits = i.done.1 in let got = c.in-Ok.ensures.got.1.1 in record {
@@ -32,7 +32,7 @@ returns-in-Ok-clause-run g c = let i = c.loop.invariant in let d = c.loop.drawn 
   got = waits.got;
   unended = waits.unended;
   looked = looks_more c.loop.looks c.saturating_add-looks.result (steps.Look false ∷ done) true waits.looked c.saturating_add-looks.ensures;
-  left = found_left g.O.SeqObject (view_of_drawn b).caller h.logged _ _ (steps.Look true ∷ []) (state_of_drawn d) (state_of_hold h) i.done.2.0 got refl h.holds.ran.left;
+  left = found_left g.O.SeqObject (view_of_drawn b).caller h.inside.logged _ _ (steps.Look true ∷ []) (state_of_drawn d) (state_of_hold h) i.done.2.0 got refl h.holds.ran.left;
   extends = since_more (view_of_drawn b).caller (state_of_drawn b).run (run_of_hold h) done (steps.Look true ∷ []) (state_of_drawn d) i.done.2 got.extends;
 }
 

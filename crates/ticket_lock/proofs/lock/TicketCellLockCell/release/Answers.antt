@@ -7,6 +7,6 @@ use Rattle.word_rule.proofs.RunLists.{extends_self}
 use Rattle.ticket_lock.proofs.lock.TicketCellLockCell.release.Goals as goal
 
 pub returns-clause-run : goal.returns-clause-run
-returns-clause-run g c = let h = c.args.hold in let s = c.serve.ensures.step in
+returns-clause-run g c = let h = c.args.hold in let o = h.inside.outside in let s = c.serve.ensures.step in
     released_by g.O.SeqObject (view_of_hold h) (run_of_hold h) [] steps.Serve _ _ (state_of_hold h) (state_of_pass c.serve.result) record { ended = refl; unended = refl; stays = refl; blind = refl } h.holds.ran.left
-    (refl, extends_self (caller_of h.key.value h.seat.me.0).owned (run_of_hold h)) refl s.1
+    (refl, extends_self (caller_of o.key.value o.seat.me.0).owned (run_of_hold h)) refl s.1

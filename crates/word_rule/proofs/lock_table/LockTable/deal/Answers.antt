@@ -1,15 +1,12 @@
-use Rattle.std.proofs.Common.{rules, ◌<◌, ◌^◌, sym, ap, subst, ◌∙◌, arith}
+use Rattle.std.proofs.Common.{rules, ◌<◌, sym, ap, subst, ◌∙◌}
 use Rattle.word_rule.specs.declared.lock_kind.Stage.TheVariants.{Idle}
 use Rattle.word_rule.specs.Rule.Callers.{IsWithout}
-use Rattle.word_rule.proofs.LockLaws.{few_fit}
 use Rattle.word_rule.proofs.Dealing.{goes_on, is_one, one_rests, part_first, each_push}
 use Rattle.word_rule.proofs.lock_table.LockTable.deal.Goals as goal
 
 pub invariant_of-push_reserved : goal.invariant_of-push_reserved
 invariant_of-push_reserved g c = let h = c.args.key.now in let i = c.loop-cpu.invariant in let k = c.loop-cpu.cpu in let below = subst (λ n. k < n) (sym c.requires.seat.2) c.loop-cpu-test.true in
-    let numbers = c.requires.seat.2 in
-    let few : h.numbers < 2 ^ 8 = omega (arith, numbers) in
-    let rests = one_rests g.O.SeqObject h c.of.result.value k c.split_seat-theirs.result.me c.of.ensures below (few_fit h.kind h.numbers few) c.requires.valid (is_one h k c.loop-cpu.seat.me c.split_seat-theirs.result.me below i.seat.1 c.split_seat-theirs.ensures.4) in
+    let rests = one_rests g.O.SeqObject h c.of.result.value k c.split_seat-theirs.result.me c.of.ensures below c.requires.fits c.requires.valid (is_one h k c.loop-cpu.seat.me c.split_seat-theirs.result.me below i.seat.1 c.split_seat-theirs.ensures.4) in
     record { idle = subst (λ n. IsWithout g.O.SeqObject c.of.result.value n Idle c.split_seat-theirs.result.me) (sym c.numbered.ensures) rests }
 
 pub loop-cpu-preserved : goal.loop-cpu-preserved

@@ -1,9 +1,11 @@
 use Rattle.std.proofs.Common.{rules, [], ◌∷◌, sym, ap, subst, ◌∙◌, Some}
 use Rattle.atomic_table.specs.Table.{opening}
 use Rattle.word_rule.specs.Cell.{Lawful, opening_pass}
+use Rattle.word_rule.specs.Locks.{Fits, opening_lock}
 use Rattle.word_rule.specs.Rule.CellInvariant.{CellInvariant}
 use Rattle.word_rule.specs.Rule.Seats.{first_view}
 use Rattle.word_rule.proofs.Ends.{opens, opens_valid}
+use Rattle.word_rule.proofs.LockLaws.{fits}
 use Rattle.word_rule.proofs.lock_table.LockTable.open.Goals as goal
 
 pub make-requires : goal.make-requires
@@ -24,7 +26,10 @@ deal-passes-requires g c = let k = c.of-key.ensures.value in (
         (c.in_ok-table.ensures.seat.0, c.in_ok-table.ensures.seat.1, ap (λ z. z.numbers) k),
         (
           search rules,
-          subst (λ z. Lawful g.O.SeqObject z z.opening) (sym k) (opens_valid g.O.SeqObject c.args.kind c.args.first c.args.logged c.args.cpus c.of-key.ensures.kept),
+          (
+            subst (λ z. Lawful g.O.SeqObject z z.opening) (sym k) (opens_valid g.O.SeqObject c.args.kind c.args.first c.args.logged c.args.cpus c.of-key.ensures.kept),
+            subst (λ z. Fits z.kind z.numbers) (sym k) (fits c.args.cpus (opening_lock c.args.kind c.args.first) c.requires.defined.state),
+          ),
         ),
       ),
     ),

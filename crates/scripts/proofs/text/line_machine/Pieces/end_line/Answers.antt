@@ -1,5 +1,5 @@
 use Rattle.std.proofs.Common.{◌≡◌, ◌+◌, ◌++◌, ◌∷◌, ◌∙◌, ℕ, Err, sym, ap, subst}
-use Rattle.scripts.specs.declared.text.line_machine.PieceFault.TheVariants.{Line}
+use Rattle.scripts.specs.declared.text.fault.LinesFault.TheVariants.{Line}
 use Rattle.scripts.specs.LineMachine.{RefusesText}
 use Rattle.scripts.proofs.LineMachine.{line_ended, end_refused}
 use Rattle.scripts.proofs.text.line_machine.Pieces.end_line.Goals as goal

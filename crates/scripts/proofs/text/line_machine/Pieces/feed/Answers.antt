@@ -1,5 +1,5 @@
 use Rattle.std.proofs.Common.{rules, ◌≡◌, ◌++◌, ◌∷◌, ◌∙◌, ℕ, List, [], Err, inl, inr, refl, sym, ap, subst}
-use Rattle.scripts.specs.declared.text.line_machine.PieceFault.TheVariants.{Line}
+use Rattle.scripts.specs.declared.text.fault.LinesFault.TheVariants.{Line}
 use Rattle.scripts.specs.LineMachine.{HasTaken, RefusesText, RefusesRest}
 use Rattle.scripts.specs.Words.{NoEnd}
 use Rattle.scripts.proofs.LineMachine.{handed_on, line_behind, more_kept, more_refused}

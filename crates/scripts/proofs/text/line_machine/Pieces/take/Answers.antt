@@ -1,6 +1,6 @@
 use Rattle.std.proofs.Common.{◌≡◌, ◌++◌, ◌∙◌, ℕ, List, [], Err, ap, subst}
 use Rattle.std.proofs.lemmas.List.{append-nil}
-use Rattle.scripts.specs.declared.text.line_machine.LineFault.TheVariants.{Refused}
+use Rattle.scripts.specs.declared.text.fault.LineFault.TheVariants.{Refused}
 use Rattle.scripts.proofs.LineMachine.{handed_on}
 use Rattle.scripts.proofs.text.line_machine.Pieces.take.Goals as goal
 

@@ -1,0 +1,77 @@
+-- A scheduler, as one record.
+use Rattle.std.specs.Prelude.{ℕ, List, [], ◌∷◌, Option, Some, Result, Ok as Read, codes, decimal}
+use Rattle.wake_list.specs.State as state
+use Rattle.wake_list.specs.Answer.{sched_answer}
+use Rattle.wake_list.specs.declared.call.SchedCall.{SchedCall}
+use Rattle.wake_list.specs.declared.call.SchedCall.TheVariants.{Ready, Next, Sleep, Wake, WakeAll}
+use Rattle.wake_list.specs.declared.call.SchedReply.{SchedReply}
+use Rattle.wake_list.specs.declared.call.SchedReply.TheVariants as Sched
+use Rattle.wake_list.specs.declared.sched.SchedParams.{SchedParams}
+use Rattle.wake_list.specs.declared.sched.TheConstants.{MOST_THREADS, MOST_CHANNELS}
+use Rattle.toml.specs.Data.{Members}
+use Rattle.scripts.specs.declared.objects.kernel_call.KReply.{KReply}
+use Rattle.scripts.specs.declared.objects.kernel_call.KReply.TheVariants.{Ok, Already, BadThread, BadChannel, Thread, Empty, Count}
+use Rattle.scripts.specs.declared.settings.fault.BadSettings.{BadSettings}
+use Rattle.scripts.specs.declared.settings.fault.Place.{Place}
+use Rattle.scripts.specs.declared.settings.fault.SettingsKey.TheVariants.{Threads, Channels}
+use Rattle.scripts.specs.Kinds.Definition.{KindDefinition}
+use Rattle.scripts.specs.Reading.{◌>>=◌}
+use Rattle.scripts.specs.Row.{Row, first, others, wide, limit, field_at}
+use Rattle.scripts.specs.SettingsKeys.{key_in, number_from}
+use Rattle.scripts.specs.Then.{◌>>=◌ as ◌then◌}
+
+-- a scheduler's reply, as the reply with its text
+abbrev pub of_sched : SchedReply → KReply
+of_sched Sched.Ok = Ok
+of_sched Sched.BadThread = BadThread
+of_sched Sched.BadChannel = BadChannel
+of_sched Sched.Already = Already
+of_sched Sched.Empty = Empty
+of_sched (Sched.Thread t) = Thread t
+of_sched (Sched.Count n) = Count n
+
+-- how a call is spelled
+abbrev pub sched_row : SchedCall → Row
+sched_row (Ready t) = record { word = codes "ready"; fields = wide t ∷ [] }
+sched_row Next = record { word = codes "next"; fields = [] }
+sched_row (Sleep c t) = record { word = codes "sleep"; fields = wide c ∷ wide t ∷ [] }
+sched_row (Wake c) = record { word = codes "wake"; fields = wide c ∷ [] }
+sched_row (WakeAll c) = record { word = codes "wakeall"; fields = wide c ∷ [] }
+
+-- the call of the same word with these numbers
+abbrev pub sched_filled : SchedCall → List ℕ → SchedCall
+sched_filled (Ready _) ns = Ready (first ns)
+sched_filled Next ns = Next
+sched_filled (Sleep _ _) ns = Sleep (first ns) (first (others ns))
+sched_filled (Wake _) ns = Wake (first ns)
+sched_filled (WakeAll _) ns = WakeAll (first ns)
+
+-- the threads and the channels that are next
+unfoldable pub sched_params_at : List (List ℕ) → Option (SchedParams × List (List ℕ))
+sched_params_at ws = do
+  threads ← field_at (limit MOST_THREADS 0) ws
+  channels ← field_at (limit MOST_CHANNELS 0) threads.1
+  Some (record { threads = threads.0; channels = channels.0 }, channels.1)
+
+-- the threads and the channels of settings
+unfoldable pub sched_params_in : Place → Members → Result SchedParams BadSettings
+sched_params_in place ms = key_in place Threads (number_from MOST_THREADS) ms then λ threads. key_in place Channels (number_from MOST_CHANNELS) ms then λ channels. Read (record { threads = threads; channels = channels })
+
+abbrev pub sched_kind : KindDefinition
+sched_kind = record {
+  Params = SchedParams;
+  State = state.SchedState;
+  Call = SchedCall;
+  in_range = state.is_in_range;
+  opening = state.opening_state;
+  answer = λ s c. ((sched_answer s c).0, of_sched (sched_answer s c).1);
+  word = codes "sched";
+  ToldByFirst = λ p. Unit {0};
+  params_words = λ form p. decimal p.threads ∷ decimal p.channels ∷ [];
+  params_at = λ form ws. sched_params_at ws;
+  row = sched_row;
+  filled = sched_filled;
+  samples = Ready 0 ∷ Next ∷ Sleep 0 0 ∷ Wake 0 ∷ WakeAll 0 ∷ [];
+  params_in = sched_params_in;
+  keys = Threads ∷ Channels ∷ [];
+}

@@ -1,0 +1,2 @@
+pub mod ToggleRule
+pub mod ToggleActing

@@ -1,0 +1,75 @@
+use Rattle.std.proofs.Common.{rules, refl, ◌≡◌, ◌<◌, true, [], ◌∷◌, sym, ap, subst, ◌∙◌, arith, Some}
+use Rattle.atomic_table.specs.Table.{rest}
+use Rattle.event_log.specs.Distinct.{has}
+use Rattle.word_rule.specs.declared.machine.step_done.StepDone.TheVariants as steps
+use Rattle.word_rule.specs.declared.lock_kind.Stage.TheVariants.{Idle, Toggle}
+use Rattle.word_rule.specs.declared.toggle_stage.ToggleStage.TheVariants.{Behind, Holding}
+use Rattle.word_rule.specs.Cell.{Lawful}
+use Rattle.word_rule.specs.LockRuns.{Extends, HasRun}
+use Rattle.word_rule.specs.Rule.Callers.{IsWithout, caller_of}
+use Rattle.word_rule.proofs.CallerFacts.{else_below}
+use Rattle.word_rule.proofs.Known.{AllIdle}
+use Rattle.word_rule.proofs.Acting.{TookLast, last_taken, all_together, holds_now, takes_now, sees_without}
+use Rattle.toggle_lock.proofs.ToggleActing.{byte_is, held_with, look_now}
+use Rattle.toggle_lock.proofs.cell.ToggleCell.last_look.Goals as goal
+use Rattle.toggle_lock.proofs.cell.ToggleCell.last_look.Given as given
+
+pub load-found-requires : goal.load-found-requires
+load-found-requires g c = let s = c.args.self.now in let a = c.args.behind in let o = a.outside in let key = s.table.table.shared.key in let words = s.sized.0 in let e = c.join_seat.ensures.2 in
+    let w = subst (λ k. IsWithout g.O.SeqObject k o.cpu.number (Toggle (Behind a.ahead a.own)) o.seat.me) c.requires.behind.told a.behind in
+    let below = else_below key s.cpus a.ahead.cpu o.seat.me s.sized.1 w.at.told a.other in (
+      g.met.O.SeqObject.event_fits,
+      (
+        search rules,
+        omega (arith, c.toggle_index-index.ensures),
+        rw c.toggle_index-index.ensures (look_now g.O.SeqObject key s.kind _ _ o.cpu.number a.ahead a.own c.join_seat.new.seat.me (subst (λ z. has z.0.main.cpu z.0.main.owned ≡ true) (sym e) a.behind.pass_view.caller.acts)
+            (ap (λ z. z.0.main.stage) e ∙ a.behind.at.stands) (subst (λ z. AllIdle z.0.others) (sym e) (c.args.pass.idle.at.stands, tt))),
+      ),
+    )
+
+pub prove-unreachable-requires : goal.prove-unreachable-requires
+prove-unreachable-requires g c = let a = c.args.behind.outside in let p = c.args.pass.outside in let e = c.join_seat.ensures.2 in
+    let miss = (c.load-found.ensures.2 c.args.behind.ahead c.args.behind.own (ap (λ z. z.0.main.stage) c.join_seat.ensures.2 ∙ c.args.behind.behind.at.stands)).miss (c.if-prove.true ∙ byte_is c.args.behind.ahead.toggle) in
+    let same = c.requires.pass.told ∙ sym c.requires.behind.told in
+    miss.lacks a.key.value (all_together g.O.SeqObject a.key.value a.seat.me p.seat.me c.join_seat.new.seat.me c.args.behind.behind.at.told e (λ k below. c.requires.all k (subst (λ z. k < z.numbers) (sym same) below)))
+
+pub take-logged-requires : goal.take-logged-requires
+take-logged-requires g c = let t = (c.load-found.ensures.2 c.args.behind.ahead c.args.behind.own (ap (λ z. z.0.main.stage) c.join_seat.ensures.2 ∙ c.args.behind.behind.at.stands)).hit (λ e. c.if-prove.false (e ∙ sym (byte_is c.args.behind.ahead.toggle))) in
+    (g.met.O.SeqObject.event_fits, (c.load-found.ensures.0 ∙ (c.join_seat.ensures.0 ∙ c.requires.behind.table), (t.object, ap (λ z. z.1) t.seat ∙ ap (λ z. (0, Some t.object) ∷ rest z.1) (sym t.seat))))
+
+-- what the look gave, and what each of the two has seen
+last : (g : given.Over) (c : goal.After-split_seat g)
+    → TookLast g.O.SeqObject c.args.behind.outside.key.value (Toggle (Holding c.args.behind.own)) (steps.Look true ∷ []) c.take-logged.result.0 c.args.behind.outside.seat.me c.args.pass.outside.seat.me c.split_seat.new.seat.me c.split_seat.result.me
+last g c = let a = c.args.behind.outside in let p = c.args.pass.outside in let e = c.join_seat.ensures.2 in let y = c.take-logged.result.0 in let s = c.split_seat in let same = c.requires.pass.told ∙ sym c.requires.behind.told in
+    let got = (c.load-found.ensures.2 c.args.behind.ahead c.args.behind.own (ap (λ z. z.0.main.stage) c.join_seat.ensures.2 ∙ c.args.behind.behind.at.stands)).hit (λ e. c.if-prove.false (e ∙ sym (byte_is c.args.behind.ahead.toggle))) in
+    last_taken g.O.SeqObject a.key.value a.cpu.number p.cpu.number (Toggle (Behind c.args.behind.ahead c.args.behind.own)) (Toggle (Holding c.args.behind.own)) (steps.Look true ∷ []) (Some y) y a.seat.me p.seat.me c.join_seat.new.seat.me c.load-found.new.seat.me c.take-logged.new.seat.me s.new.seat.me s.result.me c.args.behind.behind
+    (subst (λ k. IsWithout g.O.SeqObject k p.cpu.number Idle p.seat.me) same c.args.pass.idle) e got c.take-logged.ensures.2 c.take-logged.ensures.3 refl s.ensures.2 s.ensures.4
+
+pub invariant_of-result : goal.invariant_of-result
+invariant_of-result g c = let a = c.args.behind in let o = a.outside in let y = c.take-logged.result.0 in let l = last g c in record {
+  holds = holds_now g.O.SeqObject o.key.value o.cpu.number (Toggle (Behind c.args.behind.ahead c.args.behind.own)) (Toggle (Holding c.args.behind.own)) y l.run o.seat.me c.split_seat.new.seat.me a.behind l.see.valid l.see.ran l.replayed l.first;
+  there = (ap (λ z. z.0.main.stage) l.first) ∙ held_with o.key.value a.own (ap (λ k. k.kind) c.requires.behind.told ∙ c.args.self.now.kind);
+}
+
+pub invariant_of-result-2 : goal.invariant_of-result-2
+invariant_of-result-2 g c = let p = c.args.pass in let o = p.outside in let y = c.take-logged.result.0 in let l = last g c.before in let same = c.requires.pass.told ∙ sym c.requires.behind.told in
+    record { idle = sees_without g.O.SeqObject o.key.value o.cpu.number Idle Idle y.log l.run o.seat.me c.split_seat.result.me p.idle (subst (λ k. Lawful g.O.SeqObject k y.log) (sym same) l.see.valid) (subst (λ k. HasRun k y.log l.run) (sym same) l.see.ran) l.second }
+
+pub returns-clause-look : goal.returns-clause-look
+returns-clause-look g c = let a = c.args.behind.outside in let l = last g c.before.before in
+    (c.args.behind.ahead, c.args.behind.own, takes_now g.O.SeqObject a.key.value (Toggle (Behind c.args.behind.ahead c.args.behind.own)) (Toggle (Holding c.args.behind.own)) (steps.Look true ∷ []) c.take-logged.result.0 l.run a.seat.me c.split_seat.new.seat.me l.see.first_grows l.see.first_run l.see.valid l.replayed l.first)
+
+pub returns-clause-caller : goal.returns-clause-caller
+returns-clause-caller g c = ap (λ z. caller_of c.args.pass.outside.key.value z.0) (last g c.before.before).second
+
+pub returns-clause-seen : goal.returns-clause-seen
+returns-clause-seen g c = ap (λ z. z.0.main.seen) (last g c.before.before).second
+
+pub returns-clause-grows : goal.returns-clause-grows
+returns-clause-grows g c = (last g c.before.before).see.second_grows
+
+pub returns-clause-one_run : goal.returns-clause-one_run
+returns-clause-one_run g c = let l = last g c.before.before in ap (λ z. z.0.main.run) l.second ∙ sym (ap (λ z. z.0.main.run) l.first)
+
+pub returns-clause-run : goal.returns-clause-run
+returns-clause-run g c = let l = last g c.before.before in subst (Extends (caller_of c.args.pass.outside.key.value c.args.pass.outside.seat.me.0).owned c.args.pass.outside.seat.me.0.main.run []) (sym (ap (λ z. z.0.main.run) l.second)) l.see.second_run

@@ -1,0 +1,22 @@
+use Rattle.std.proofs.Common.{subst, arith}
+use Rattle.word_rule.specs.declared.lock_kind.Stage.TheVariants.{Idle, Toggle}
+use Rattle.word_rule.specs.declared.toggle_stage.ToggleStage.TheVariants.{Trying}
+use Rattle.word_rule.specs.Rule.Callers.{IsWithout}
+use Rattle.word_rule.proofs.Acting.{goes_without, moves_without}
+use Rattle.word_rule.proofs.CallerFacts.{below_without}
+use Rattle.toggle_lock.proofs.ToggleActing.{prepare_now, as_read}
+use Rattle.toggle_lock.proofs.cell.ToggleCell.prepare.Goals as goal
+
+pub load_for_try-word-requires : goal.load_for_try-word-requires
+load_for_try-word-requires g c = let s = c.args.self.now in let a = c.args.pass in let o = a.outside in let key = s.table.table.shared.key in let words = s.sized.0 in
+    let w = subst (λ k. IsWithout g.O.SeqObject k o.cpu.number Idle o.seat.me) c.requires.told a.idle in
+    let below = below_without g.O.SeqObject key s.cpus o.cpu.number Idle o.seat.me s.sized.1 w in
+    (g.met.O.SeqObject.event_fits, (c.requires.table, omega (arith, c.toggle_index-index.ensures), rw c.toggle_index-index.ensures (prepare_now g.O.SeqObject key s.kind _ _ o.cpu.number o.seat.me w)))
+
+pub invariant_of-result : goal.invariant_of-result
+invariant_of-result g c = let a = c.args.pass in let o = a.outside in let t = as_read g.O.SeqObject (λ own. Toggle (Trying own)) _ _ _ _ c.load_for_try-word.ensures.2 in
+    record { tries = goes_without g.O.SeqObject o.key.value o.cpu.number _ _ _ o.seat.me c.load_for_try-word.new.seat.me a.idle t }
+
+pub returns-clause-step : goal.returns-clause-step
+returns-clause-step g c = let a = c.args.pass in let o = a.outside in let t = as_read g.O.SeqObject (λ own. Toggle (Trying own)) _ _ _ _ c.load_for_try-word.ensures.2 in
+    (_, moves_without g.O.SeqObject o.key.value o.cpu.number _ _ _ o.seat.me c.load_for_try-word.new.seat.me a.idle t)
