@@ -30,6 +30,12 @@ def stands_on(top=ROOT):
     return {head.split()[0]: names.split() for head, colon, names in lines if colon}
 
 
+def is_static(crate):
+    """Whether crates.txt has the crate as a static library."""
+    heads = (line.partition("#")[0].partition(":")[0].split() for line in (ROOT / "crates.txt").read_text().splitlines())
+    return any(it[:1] == [crate] and "staticlib" in it for it in heads)
+
+
 def words_of(crate):
     """The words by which the kit's compiler reads the crate, over the crates below it."""
     crates = stands_on()
@@ -37,12 +43,15 @@ def words_of(crate):
     for name in below:
         below += [it for it in crates.get(name, []) if it not in below]
     own = {it: ROOT / f"crates/{it}/out/rlib" for it in below if it in crates}
-    words = ["--crate-name", crate, "src/lib.rt", "--extern", f"std={kit()}/rlibs/std.rlib", "-L", f"dependency={kit()}/rlibs"]
+    main = "src/main.rt" if (ROOT / f"crates/{crate}/src/main.rt").is_file() else "src/lib.rt"
+    words = ["--crate-name", crate, main, "--extern", f"std={kit()}/rlibs/std.rlib", "-L", f"dependency={kit()}/rlibs"]
     for name in crates[crate]:
         words += ["--extern", f"{name}={own.get(name, kit() / 'rlibs')}/{name}.rlib"]
     for name, folder in own.items():
-        words += ["-L", f"dependency={folder}", "--links", f"{name}="]
-    words += ["--links", f"{crate}=", "--crate-type", "staticlib"]
+        words += ["-L", f"dependency={folder}"]
+    if is_static(crate):
+        words += [word for name in own for word in ("--links", f"{name}=")] + ["--crate-type", "staticlib"]
+    words += ["--links", f"{crate}="]
     return [*words, "--antt-project", kit() / "rattle/logic/antt-project.json"]
 
 

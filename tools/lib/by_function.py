@@ -1,0 +1,225 @@
+"""Edits of a crate, many in one check of the functions that they touch: which of them the prover refuses.
+
+A function is checked against the contracts of those that it calls, and not against their bodies. So edits in the bodies of
+different functions don't meet. One check reads these functions alone, over the libraries that `rt ci` left, and tells of each.
+"""
+import re
+import shutil
+import tempfile
+from collections import defaultdict
+from pathlib import Path
+from typing import NamedTuple
+
+from common import ROOT, Stop, run
+from edit_files import changes_of
+from libraries import kit, stands_on, words_of
+
+FN = re.compile(r"( *)(?:pub(?:\([a-z]+\))? )?(?:const )?fn (\w+)")
+IMPL = re.compile(r"impl(?:<.*?>)? (?:(\w+)(?:<.*>)? for )?(\w+)")
+TRAIT = re.compile(r"(?:pub )?trait (\w+)")
+TYPE = re.compile(r"^(?:pub(?:\([a-z]+\))? )?(?:struct|enum) (\w+)", re.MULTILINE)
+TOLD = re.compile(r"fn (\S+): (.*)")
+# What a check says of a function that it refuses for a goal of its own, and not for a function that it calls.
+UNPROVED = "`search` did not prove"
+# What it says of a proof file that names a goal, or a step of the code, that isn't there.
+GONE = re.compile(r"^\./proofs/(\S+)/\w+\.antt:\d+:\d+: error: .*has no (?:field `|`\S+` that can be named)", re.MULTILINE)
+# A check of so many functions tells of all, where one of each costs more by what it reads before.
+MOST_AT_ONCE = 6
+
+
+class Edit(NamedTuple):
+    """An edit that is to be tried: its name, its changes, and the paths of what it touches: of a function, or of the module
+    with the functions of a trait's methods. None if it is elsewhere."""
+
+    name: str
+    changes: list
+    paths: frozenset
+
+
+class Body(NamedTuple):
+    """The body of a function: its lines, and the path."""
+
+    first: int
+    last: int
+    path: str
+
+
+def module_of(file):
+    """The words of a module's path, by its file in src/."""
+    module = file.removesuffix(".rt")
+    return () if module in ("lib", "main") else tuple(module.split("/"))
+
+
+def homes_of_types(folder):
+    """The words of the modules that have a type of each name."""
+    homes = defaultdict(list)
+    for file in sorted((folder / "src").rglob("*.rt")):
+        for name in TYPE.findall(file.read_text(encoding="utf-8")):
+            homes[name].append(module_of(str(file.relative_to(folder / "src"))))
+    return homes
+
+
+def home_of(name, module, homes):
+    """The words of the module of the type that a module means by the name: its own, or else the first one."""
+    return module if module in homes[name] or not homes[name] else homes[name][0]
+
+
+def path_in(line, module, homes):
+    """The words of the path under which the functions are that come behind such a line, or None if it opens no such block."""
+    if found := TRAIT.match(line):
+        return (*module, found[1])
+    found = IMPL.match(line)
+    if not found:
+        return None
+    # (how the kit names the impl of a trait hangs on its types, so all of its module is taken)
+    return () if found[1] else (*home_of(found[2], module, homes), found[2])
+
+
+def bodies(file, text, homes):
+    """The bodies in a formatted file: each ends with a brace that is as far in as its `fn`."""
+    module = module_of(file.removeprefix("src/"))
+    lines, found, owner = text.splitlines(), [], module
+    for at, line in enumerate(lines):
+        if line == "}":
+            owner = module
+        within = path_in(line, module, homes)
+        owner = owner if within is None else within
+        if fn := FN.match(line):
+            ends = [it for it in range(at, len(lines)) if lines[it] == f"{fn[1]}}}"]
+            opens = [it for it in range(at, len(lines)) if re.match(rf"{fn[1]}(\S.*)?{{$", lines[it])]
+            if ends and opens and opens[0] < ends[0]:
+                path = (*owner, fn[2]) if owner or not module else module
+                found.append(Body(opens[0] + 1, ends[0], "::".join(path)))
+    return found
+
+
+def touched(folder, changes, homes):
+    """The paths of what the changes are in, or none if one is elsewhere."""
+    found = set()
+    for file, old, _ in changes:
+        text = (folder / file).read_text(encoding="utf-8")
+        line = text[: text.find(old)].count("\n")
+        within = [it for it in bodies(file, text, homes) if it.first <= line < it.last] if file.startswith("src/") else []
+        if text.count(old) != 1 or not within:
+            return frozenset()
+        found.add(within[-1].path)
+    return frozenset(found)
+
+
+def read_edits(folder, edits):
+    """The edits of the crate in that folder, with what they touch."""
+    homes = homes_of_types(folder)
+    return [Edit(it.name, changes_of(it), touched(folder, changes_of(it), homes)) for it in edits]
+
+
+def is_in(path, other):
+    return f"{path}::".startswith(f"{other}::")
+
+
+def is_apart(edit, others):
+    """Whether it touches nothing that one of the others does."""
+    pairs = ((path, theirs) for other in others for path in edit.paths for theirs in other.paths)
+    return not any(is_in(path, theirs) or is_in(theirs, path) for path, theirs in pairs)
+
+
+def in_rounds(edits):
+    """Rounds of edits, no two of which touch one function. One that is elsewhere has a round of its own."""
+    rounds = []
+    for edit in edits:
+        free = (it for it in rounds if edit.paths and it[0].paths and len(it) < MOST_AT_ONCE and is_apart(edit, it))
+        into = next(free, None)
+        if into is None:
+            rounds.append([edit])
+        else:
+            into.append(edit)
+    return rounds
+
+
+def refused_functions(crate, told):
+    """The functions that a check refuses for goals of their own, and all that it names. One isn't among the first if a proof
+    file of its own names what is gone, for that may be all that is wrong."""
+    states = {path.removeprefix(f"{crate}::"): state for path, state in TOLD.findall(told)}
+    gone = {it[1].replace("/", "::") for it in GONE.finditer(told)}
+    refused = set()
+    for path, state in states.items():
+        own = f"`Rattle.{crate}.proofs.{path.replace('::', '.')}."
+        if (UNPROVED in state or own in state) and path not in gone:
+            refused.add(path)
+    return refused, set(states)
+
+
+def changed(text, changes):
+    """The text with the changes, each an old text, which is there once, and a new one. None reads what another writes."""
+    for at, old, new in sorted(((text.find(old), old, new) for old, new in changes), reverse=True):
+        text = text[:at] + new + text[at + len(old) :]
+    return text
+
+
+def change(folder, edits):
+    """Makes the edits in the folder. The changes of one may read what those before them made, if it is alone."""
+    changes = defaultdict(list)
+    for edit in edits:
+        for file, old, new in edit.changes:
+            changes[folder / file].append((old, new))
+    for path, pairs in changes.items():
+        text = path.read_text(encoding="utf-8")
+        if len(edits) == 1:
+            for old, new in pairs:
+                text = text.replace(old, new, 1)
+        else:
+            text = changed(text, pairs)
+        path.write_text(text, encoding="utf-8")
+
+
+def check(crate, edits, paths):
+    """What the check of a copy of the crate with the edits says. It reads the functions of these paths, or all."""
+    only = [word for it in sorted(paths) for word in ("--only", it)]
+    words = [kit() / "bin/rattle", "check", *words_of(crate), "--logic-built", kit() / "logic_built", "--jobs", "1", "--allow-holes"]
+    with tempfile.TemporaryDirectory(prefix="edit-") as room:
+        folder = Path(room) / crate
+        shutil.copytree(ROOT / "crates" / crate, folder, ignore=shutil.ignore_patterns("out"))
+        change(folder, edits)
+        ran = run([*words, *only], wanted=None, cwd=folder)
+    return (ran.stdout + ran.stderr).decode(errors="replace")
+
+
+def try_round(crate, edits):
+    """Tries these edits in one check, or by halves if one of them leaves nothing that can be checked. Returns a line for each
+    that was refused, and the others."""
+    paths = frozenset().union(*(it.paths for it in edits))
+    refused, functions = refused_functions(crate, check(crate, edits, paths))
+    half = len(edits) // 2
+    if half and not functions:
+        first, second = try_round(crate, edits[:half]), try_round(crate, edits[half:])
+        return first[0] + second[0], first[1] + second[1]
+    lines, others = [], []
+    for edit in edits:
+        where = sorted(it for it in refused if not edit.paths or any(is_in(it, path) for path in edit.paths))
+        if where:
+            lines.append(f"{crate}/{edit.name}: refused, in {', '.join(where)}")
+        else:
+            others.append(edit)
+    return lines, others
+
+
+def try_whole(crate, edit):
+    """Tries the edit in a check of the whole crate. Returns the line for it, and whether it was refused."""
+    told = check(crate, [edit], [])
+    refused, _ = refused_functions(crate, told)
+    if refused:
+        return f"{crate}/{edit.name}: refused, in {', '.join(sorted(refused))}", True
+    said = [it for it in told.splitlines() if "error" in it] or ["no clause is against it, or it was refused for its form alone"]
+    return f"{crate}/{edit.name}: NOT REFUSED: {said[0]}", False
+
+
+def need_built(crate):
+    """Stops if a library below the crate isn't built, or a file of one has changed since."""
+    crates, below = stands_on(), [crate]
+    for name in below:
+        below += [it for it in crates[name] if it in crates and it not in below]
+    for name in below[1:]:
+        built = ROOT / f"crates/{name}/out/rlib/{name}.rlib/format"
+        parts = [ROOT / "crates" / name / it for it in ("src", "specs", "proofs")]
+        newest = max(it.stat().st_mtime for part in parts for it in part.rglob("*") if it.is_file())
+        if not built.is_file() or built.stat().st_ctime < newest:
+            raise Stop(f"the library {name} isn't built from what is there: `rt lib` in crates/{name} builds it, and so does `rt ci`", 2)
