@@ -173,13 +173,13 @@ def change(folder, edits):
 
 def check(crate, edits, paths):
     """What the check of a copy of the crate with the edits says. It reads the functions of these paths, or all."""
-    only = [word for it in sorted(paths) for word in ("--only", it)]
-    words = [kit() / "bin/rattle", "check", *words_of(crate), "--logic-built", kit() / "logic_built", "--jobs", "1", "--allow-holes"]
+    how = ["--logic-built", kit() / "logic_built", "--jobs", "1", "--allow-holes"]
+    how += [word for it in sorted(paths) for word in ("--only", it)]
     with tempfile.TemporaryDirectory(prefix="edit-") as room:
         folder = Path(room) / crate
         shutil.copytree(ROOT / "crates" / crate, folder, ignore=shutil.ignore_patterns("out"))
         change(folder, edits)
-        ran = run([*words, *only], wanted=None, cwd=folder)
+        ran = run([kit() / "bin/rattle", "check", *words_of(crate), *how], wanted=None, cwd=folder)
     return (ran.stdout + ran.stderr).decode(errors="replace")
 
 
@@ -208,8 +208,9 @@ def try_whole(crate, edit):
     refused, _ = refused_functions(crate, told)
     if refused:
         return f"{crate}/{edit.name}: refused, in {', '.join(sorted(refused))}", True
-    said = [it for it in told.splitlines() if "error" in it] or ["no clause is against it, or it was refused for its form alone"]
-    return f"{crate}/{edit.name}: NOT REFUSED: {said[0]}", False
+    errors = [it for it in told.splitlines() if "error" in it]
+    why = errors[0] if errors else "no clause is against it, or it was refused for its form alone"
+    return f"{crate}/{edit.name}: NOT REFUSED: {why}", False
 
 
 def need_built(crate):
@@ -222,4 +223,4 @@ def need_built(crate):
         parts = [ROOT / "crates" / name / it for it in ("src", "specs", "proofs")]
         newest = max(it.stat().st_mtime for part in parts for it in part.rglob("*") if it.is_file())
         if not built.is_file() or built.stat().st_ctime < newest:
-            raise Stop(f"the library {name} isn't built from what is there: `rt lib` in crates/{name} builds it, and so does `rt ci`", 2)
+            raise Stop(f"{name} isn't built from what is there: `rt lib` in crates/{name} builds it, and so does `rt ci`", 2)
