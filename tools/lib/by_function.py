@@ -175,6 +175,8 @@ def check(crate, edits, paths):
     """What the check of a copy of the crate with the edits says. It reads the functions of these paths, or all."""
     how = ["--logic-built", kit() / "logic_built", "--jobs", "1", "--allow-holes"]
     how += [word for it in sorted(paths) for word in ("--only", it)]
+    # What such a crate has is there for its tests alone.
+    how += ["--test"] if crate.endswith("_tests") else []
     with tempfile.TemporaryDirectory(prefix="edit-") as room:
         folder = Path(room) / crate
         shutil.copytree(ROOT / "crates" / crate, folder, ignore=shutil.ignore_patterns("out"))
