@@ -1,5 +1,5 @@
 -- What is known of the entries fed so far, and after one more.
-use Rattle.std.proofs.Common.{◌≡◌, ◌≢◌, ℕ, ◌+◌, List, [], ◌∷◌, ◌++◌, length, Err, Some, slice_get, refl, sym, ap, ◌∙◌, subst, arith, length-append, append_assoc}
+use Rattle.std.proofs.Common.{◌≡◌, ◌≢◌, ℕ, ◌+◌, List, [], ◌∷◌, ◌++◌, length, Some, slice_get, refl, sym, ap, ◌∙◌, subst, arith, length-append, append_assoc}
 use Rattle.std.proofs.lemmas.List.{append-nil}
 use mathlib.Core.Logic.{dite}
 use native.Mathlib.Decide.{ℕ_discrete}
@@ -13,15 +13,14 @@ use Rattle.event_log.specs.declared.entry.Run.{Run}
 use Rattle.sound_run.specs.Sound.{transcript_of, done_on, with_steps}
 use Rattle.sound_run.proofs.Entries.{done_append, done_here, done_elsewhere}
 use Rattle.sound_run.proofs.Slices.{one_of}
-use Rattle.auditor.specs.declared.entries.EntryFault.{EntryFault}
 use Rattle.auditor.specs.declared.opened_object.OpenedObject.{OpenedObject}
-use Rattle.auditor.specs.Claims.{taken, IsRight, IsJudged}
+use Rattle.auditor.specs.Claims.{taken, IsRight}
 use Rattle.auditor.specs.Faults.{done_before}
 use Rattle.auditor.specs.Fed.{Fed, entry_fed, transcript_ended}
-use Rattle.auditor.specs.Passes.{AreSoundBefore, AreRightTo, fault_at}
+use Rattle.auditor.specs.Passes.{AreSoundBefore, AreRightTo}
 use Rattle.auditor.specs.SoFar.{IsInLog, HasLogs, IsWith, IsFaultSoFar, IsRightSoFar}
-use Rattle.auditor.specs.Transcripts.{log_in, IsRightAt, IsWrongAt, AreRightBefore}
-use Rattle.auditor.proofs.EntryFaults.{first_entry, right_more}
+use Rattle.auditor.specs.Transcripts.{log_in, IsRightAt, AreRightBefore}
+use Rattle.auditor.proofs.EntryFaults.{EntryFault, fault_at, IsWrongBy, IsWrongAt, first_entry, right_more}
 use Rattle.auditor.proofs.Fronts.{same_front, get_behind, take_front, take_whole}
 use Rattle.auditor.proofs.GoingOn.{from_entry, from_transcript_end, transcript_here, all_logs, all_opened}
 use Rattle.auditor.proofs.LogsSoFar.{no_entry}
@@ -65,13 +64,13 @@ module _ {O P C R : Type 0} (meaning : Ghosts O P C R) (opened_objects : List (O
         subst (λ (z : ℕ × Entry O P C R). IsRightAt meaning opened_objects logs cpu (es ++ e ∷ []) z.0 z.1) (λ j. (sym here j, same j)) a)
         (λ off. right_front (e ∷ []) all i f (let n = length-append es (e ∷ []) in omega (arith, n, lt, off)) there)
 
-    pub wrong_behind : (more : List (Entry O P C R)) (f : EntryFault) → IsJudged meaning cpu t.limit (log_in e.object logs) (length (done_on e.object es)) e (Err f) → IsWrongAt meaning opened_objects logs cpu (es ++ e ∷ more) (length es) f
+    pub wrong_behind : (more : List (Entry O P C R)) (f : EntryFault) → IsWrongBy meaning cpu t.limit (log_in e.object logs) (length (done_on e.object es)) e f → IsWrongAt meaning opened_objects logs cpu (es ++ e ∷ more) (length es) f
     wrong_behind more f w = record {
       entry = e;
       there = get_behind es more e;
       opened = t;
       object = at;
-      wrong = subst (λ (k : ℕ). IsJudged meaning cpu t.limit (log_in e.object logs) k e (Err f)) (sym (done_all e.object es (e ∷ more))) w;
+      wrong = subst (λ (k : ℕ). IsWrongBy meaning cpu t.limit (log_in e.object logs) k e f) (sym (done_all e.object es (e ∷ more))) w;
     }
 
 module _ {O P C R : Type 0} (meaning : Ghosts O P C R) (d : Fed O P C R) (right : IsRightSoFar meaning d) (all : HasLogs d) where
@@ -83,7 +82,7 @@ module _ {O P C R : Type 0} (meaning : Ghosts O P C R) (d : Fed O P C R) (right 
 
   -- an entry comes
   module _ (e : Entry O P C R) (t : OpenedObject O P C R) (at : slice_get d.opened e.object ≡ Some t) where
-    pub wrong_entry : (f : EntryFault) → IsJudged meaning (length d.transcripts) t.limit (log_in e.object d.logs) (length (done_on e.object d.entries)) e (Err f) → IsFaultSoFar meaning (entry_fed d e) (fault_at (length d.transcripts) (length d.entries) f)
+    pub wrong_entry : (f : EntryFault) → IsWrongBy meaning (length d.transcripts) t.limit (log_in e.object d.logs) (length (done_on e.object d.entries)) e f → IsFaultSoFar meaning (entry_fed d e) (fault_at (length d.transcripts) (length d.entries) f)
     wrong_entry f w o r h =
         let cpu = length d.transcripts in
         let n = length d.entries in

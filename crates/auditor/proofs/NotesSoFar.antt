@@ -8,22 +8,21 @@ use Rattle.event_log.specs.declared.entry.Entry.{Entry}
 use Rattle.event_log.specs.declared.entry.Run.{Run}
 use Rattle.event_log.specs.Log.{replay_from}
 use Rattle.sound_run.specs.Sound.{done_on}
-use Rattle.auditor.specs.declared.entries.EntryFault.{EntryFault}
 use Rattle.auditor.specs.declared.fault.Fault.{Fault}
 use Rattle.auditor.specs.declared.fault.Fault.TheVariants as fault
 use Rattle.auditor.specs.declared.kept_log.KeptLog.{KeptLog}
 use Rattle.auditor.specs.declared.opened_object.OpenedObject.{OpenedObject}
 use Rattle.auditor.specs.declared.replay.Replay.{Replay}
-use Rattle.auditor.specs.Claims.{taken, IsRight, IsJudged}
+use Rattle.auditor.specs.Claims.{taken, IsRight, IsWrong}
 use Rattle.auditor.specs.Faults.{HasSteps, AreRight, IsFirstWrong}
 use Rattle.auditor.specs.Fed.{Fed, nothing, log_begun, event_fed, log_ended, transcript_begun, entry_fed, transcript_ended}
 use Rattle.auditor.specs.NextEvents.{IsAt, AreNextEvents}
 use Rattle.auditor.specs.Noted.{IsHeld, IsRightWith, IsNoted}
-use Rattle.auditor.specs.Passes.{fault_at}
 use Rattle.auditor.specs.SoFar.{IsInLog, IsBeforeLog, HasLogs, IsWith, IsFaultSoFar}
 use Rattle.auditor.specs.Transcripts.{log_in}
 use Rattle.auditor.specs.Turns.{IsTurned}
 use Rattle.auditor.proofs.EntriesSoFar.{wrong_entry, right_entry, right_transcript}
+use Rattle.auditor.proofs.EntryFaults.{kind_of}
 use Rattle.auditor.proofs.GoingOn.{from_transcript}
 use Rattle.auditor.proofs.KeptLogs.{kept_begun, kept_event, kept_ended, kept_transcript, kept_entry, kept_turned}
 use Rattle.auditor.proofs.LogsSoFar.{right_nothing, opened_last, in_log, right_begun, long_so_far, wrong_so_far, right_event, right_ended}
@@ -117,11 +116,12 @@ module _ {O P C R J W : Type 0} (meaning : Ghosts O P C R) (shows : J → O) whe
       log_here : log_in e.object d.logs ≡ l.log
       log_here = ap (λ o. unwrap_or o []) (all.logs.each e.object l at).log
 
-      pub entry_wrong : (f : EntryFault) (cpu n : ℕ) → cpu ≡ length d.transcripts → n ≡ length d.entries → IsJudged meaning (length d.transcripts) l.limit l.log (length (done_on e.object d.entries)) e (Err f) → IsFaultSoFar meaning (entry_fed d e) (fault_at cpu n f)
-      entry_wrong f cpu n is place w =
+      pub entry_wrong : (f : Fault) → IsWrong meaning (length d.transcripts) l.limit l.log (length d.entries) (length (done_on e.object d.entries)) e f → IsFaultSoFar meaning (entry_fed d e) f
+      entry_wrong f w =
           let k = all.logs.each e.object l at in
-          let here : IsJudged meaning (length d.transcripts) k.opened.limit (log_in e.object d.logs) (length (done_on e.object d.entries)) e (Err f) = subst (λ (z : ℕ × List (Event O P C R)). IsJudged meaning (length d.transcripts) z.0 z.1 (length (done_on e.object d.entries)) e (Err f)) (λ j. (k.limit j, sym log_here j)) w in
-          subst (λ (z : ℕ × ℕ). IsFaultSoFar meaning (entry_fed d e) (fault_at z.0 z.1 f)) (λ j. (sym is j, sym place j)) (wrong_entry meaning d all.right whole e k.opened k.object f here)
+          let here : IsWrong meaning (length d.transcripts) k.opened.limit (log_in e.object d.logs) (length d.entries) (length (done_on e.object d.entries)) e f = subst (λ (z : ℕ × List (Event O P C R)). IsWrong meaning (length d.transcripts) z.0 z.1 (length d.entries) (length (done_on e.object d.entries)) e f) (λ j. (k.limit j, sym log_here j)) w in
+          let g = kind_of meaning (length d.transcripts) k.opened.limit (log_in e.object d.logs) (length d.entries) (length (done_on e.object d.entries)) e f here in
+          subst (λ (h : Fault). IsFaultSoFar meaning (entry_fed d e) h) (sym g.1) (wrong_entry meaning d all.right whole e k.opened k.object g.0 g.2)
 
       pub entry_noted : (place : ℕ) → IsRight meaning (length d.transcripts) l.limit l.log (length (done_on e.object d.entries)) e.asked e.done → IsAt (length d.transcripts) l.log (taken (length (done_on e.object d.entries)) e.done) place → IsRightWith meaning shows (entry_fed d e) old (set logs e.object (record l { place = place })) room
       entry_noted place r next =

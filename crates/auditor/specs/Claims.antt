@@ -9,8 +9,8 @@ use Rattle.event_log.specs.declared.entry.Entry.{Entry}
 use Rattle.event_log.specs.Log.{Fulfils}
 use Rattle.sound_run.specs.Sound.{steps_by}
 use Rattle.auditor.specs.NextEvents.{IsAt}
-use Rattle.auditor.specs.declared.entries.EntryFault.{EntryFault}
-use Rattle.auditor.specs.declared.entries.EntryFault.TheVariants as fault
+use Rattle.auditor.specs.declared.fault.Fault.{Fault}
+use Rattle.auditor.specs.declared.fault.Fault.TheVariants as fault
 
 module _ {O P C R : Type 0} where
   -- how many events were taken, after what became of one entry more
@@ -39,9 +39,14 @@ module _ {O P C R : Type 0} (meaning : Ghosts O P C R) (cpu limit : ℕ) (log : 
   IsUnasked k asked (done.Steps s) = (slice_get (steps_by cpu log) k ≡ Some s) × (Fulfils meaning asked.items s.list.items → ⊥)
   IsUnasked k asked done.NoRoom = ⊥
 
-  -- what is answered of an entry: the place of the CPU's next event, or what is wrong
-  abbrev pub IsJudged : ℕ → Entry O P C R → Result ℕ EntryFault → Type 0
-  IsJudged k e (Ok j) = IsRight k e.asked e.done × IsAt cpu log (taken k e.done) j
-  IsJudged k e (Err fault.RoomWasLeft) = HasRoom k e.done
-  IsJudged k e (Err fault.NotItsEvent) = IsOther k e.done
-  IsJudged k e (Err fault.NotAsked) = IsUnasked k e.asked e.done
+  -- entry n has this fault
+  abbrev pub IsWrong : ℕ → ℕ → Entry O P C R → Fault → Type 0
+  IsWrong n k e (fault.RoomWasLeft c m) = (c ≡ cpu) × (m ≡ n) × HasRoom k e.done
+  IsWrong n k e (fault.NotItsEvent c m) = (c ≡ cpu) × (m ≡ n) × IsOther k e.done
+  IsWrong n k e (fault.NotAsked c m) = (c ≡ cpu) × (m ≡ n) × IsUnasked k e.asked e.done
+  IsWrong n k e f = ⊥
+
+  -- what is answered of entry n: the place of the CPU's next event, or what is wrong
+  abbrev pub IsJudged : ℕ → ℕ → Entry O P C R → Result ℕ Fault → Type 0
+  IsJudged n k e (Ok j) = IsRight k e.asked e.done × IsAt cpu log (taken k e.done) j
+  IsJudged n k e (Err f) = IsWrong n k e f

@@ -1,13 +1,12 @@
 -- A CPU's transcript against the logs.
-use Rattle.std.specs.Prelude.{◌≡◌, ℕ, ◌<◌, List, [], map, Err, Some, slice_get, unwrap_or}
+use Rattle.std.specs.Prelude.{◌≡◌, ℕ, ◌<◌, List, [], map, Some, slice_get, unwrap_or}
 use Rattle.event_log.specs.declared.object.SeqObject.{Ghosts}
 use Rattle.event_log.specs.declared.event.Event.{Event}
 use Rattle.event_log.specs.declared.entry.Entry.{Entry}
 use Rattle.sound_run.specs.Sound.{Opened}
 use Rattle.auditor.specs.declared.opened_object.OpenedObject.{OpenedObject}
-use Rattle.auditor.specs.declared.entries.EntryFault.{EntryFault}
 use Rattle.auditor.specs.Faults.{done_before}
-use Rattle.auditor.specs.Claims.{IsRight, IsJudged}
+use Rattle.auditor.specs.Claims.{IsRight}
 
 module _ {O P C R : Type 0} where
   -- what an object is judged by
@@ -28,14 +27,6 @@ module _ {O P C R : Type 0} (meaning : Ghosts O P C R) (opened_objects : List (O
     pub opened : OpenedObject O P C R
     pub object : slice_get opened_objects e.object ≡ Some opened
     pub right : IsRight meaning cpu opened.limit (log_in e.object logs) (done_before e.object n transcript) e.asked e.done
-
-  -- entry n has this fault
-  pub record IsWrongAt (n : ℕ) (f : EntryFault) : Type 0 where
-    pub entry : Entry O P C R
-    pub there : slice_get transcript n ≡ Some entry
-    pub opened : OpenedObject O P C R
-    pub object : slice_get opened_objects entry.object ≡ Some opened
-    pub wrong : IsJudged meaning cpu opened.limit (log_in entry.object logs) (done_before entry.object n transcript) entry (Err f)
 
   -- the first n entries are as they must be
   abbrev pub AreRightBefore : ℕ → Type 0

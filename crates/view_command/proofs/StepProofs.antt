@@ -6,7 +6,7 @@ use Rattle.scripts.specs.contracts.objects.kernel_object.KernelObjectSeqObject.T
 use Rattle.scripts.specs.Settings.{Settings}
 use Rattle.cpu_worker.specs.Simulation.{KernelWorld}
 use Rattle.word_rule.specs.Machine.World.{World, run, step}
-use Rattle.view_command.specs.declared.step_names.LineForm.{LineForm}
+use Rattle.view_command.specs.declared.line_form.LineForm.{LineForm}
 use Rattle.view_command.specs.StepLines.{json_outcome, line_of}
 use Rattle.view_command.specs.Steps.{seen_of, step_line, lines_from}
 use Rattle.view_command.specs.Stepping.{words_on}

@@ -25,7 +25,7 @@ use Rattle.view_command.specs.declared.arguments.Arguments.{Arguments}
 use Rattle.view_command.specs.declared.arguments.Arguments.TheVariants as forms
 use Rattle.view_command.specs.declared.fault.Fault.{Fault}
 use Rattle.view_command.specs.declared.fault.Fault.TheVariants as fault
-use Rattle.view_command.specs.declared.step_names.LineForm.{LineForm}
+use Rattle.view_command.specs.declared.line_form.LineForm.{LineForm}
 use Rattle.view_command.specs.declared.turns.Turns.{Turns}
 use Rattle.view_command.specs.Asked.{AskedBy, AsksHelp}
 use Rattle.view_command.specs.Drafts.{ComeSo, EndsAll, MayBeTooLong}

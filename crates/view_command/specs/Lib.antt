@@ -4,6 +4,5 @@ pub mod Drafts
 pub mod Faults
 pub mod Records
 pub mod StepLines
-pub mod StepNames
 pub mod Stepping
 pub mod Steps

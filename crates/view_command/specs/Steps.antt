@@ -6,7 +6,7 @@ use Rattle.scripts.specs.contracts.objects.kernel_object.KernelObjectSeqObject.T
 use Rattle.scripts.specs.KernelTypes.{KernelTodo}
 use Rattle.scripts.specs.Settings.{Settings}
 use Rattle.cpu_worker.specs.Simulation.{KernelWorld, new_world}
-use Rattle.view_command.specs.declared.step_names.LineForm.{LineForm}
+use Rattle.view_command.specs.declared.line_form.LineForm.{LineForm}
 use Rattle.view_command.specs.declared.stepped.Seen.{Seen}
 use Rattle.view_command.specs.StepLines.{line_of}
 use Rattle.view_command.specs.Stepping.{words_on}

@@ -11,9 +11,9 @@ ghost use Rattle.view_command.specs.Faults.{of_no_trace, tells_read_failed};
 ghost use Rattle.view_command.specs.Records.{IsOwnPicture, IsOwnTextTrace, RefusesOwnText, RefusesOwnTrace};
 
 use crate::fault::Fault;
+use crate::line_form::LineForm;
 use crate::made_schedule::{made_schedule, schedule_text};
 use crate::records::{listed, read_any};
-use crate::step_names::LineForm;
 use crate::steps::steps;
 use crate::turns::Turns;
 use event_log::{OutOfMemory, Series};

@@ -4,7 +4,7 @@ ghost use Rattle.std.specs.Prelude.{◌≡◌, ◌⊎◌, codes, string_bytes, I
 ghost use Rattle.std.specs.List.{list_any};
 ghost use Rattle.view_command.specs.Asked.{IsAskedBy, AsksHelp, command_name, is_help};
 
-use crate::step_names::LineForm;
+use crate::line_form::LineForm;
 use crate::turns::Turns;
 use clap::error::ErrorKind;
 use clap::{Arg, ArgAction, ArgMatches, Command, Error};

@@ -2,16 +2,15 @@
 //!
 //! Nothing in it has to be escaped: names of objects are letters and digits, and all else is numbers and fixed words.
 
-ghost use Rattle.std.specs.Prelude.{◌≡◌, ◌++◌, string_bytes, OnOk};
-ghost use Rattle.view_command.specs.StepLines.{json_line, json_list, json_lock, json_named, json_on_object, json_outcome, json_start};
+ghost use Rattle.std.specs.Prelude.{◌≡◌, ◌++◌, map, string_bytes, OnOk};
+ghost use Rattle.word_rule.specs.Labels.{shown_by};
+ghost use Rattle.view_command.specs.StepLines.{json_groups, json_line, json_list, json_lock, json_named, json_on_object, json_outcome, json_start};
 
-use crate::step_names::{kind_of, object_at, outcome_of};
-use crate::step_text::{TICKETS, put_each};
+use crate::step_text::{object_at, put_each};
 use crate::stepped::Seen;
 use scripts::{ObjectSettings, Settings};
-use sound_run::LockKind;
 use std::alloc::AllocError;
-use word_rule::StepDone;
+use word_rule::{Labels, LockAlgorithm, StepDone, next_ticket, served_ticket};
 
 /// Puts the numbers as an array.
 fn put_list(text: &mut String, numbers: &[u64]) -> Result<(), AllocError>
@@ -27,24 +26,39 @@ fn put_list(text: &mut String, numbers: &[u64]) -> Result<(), AllocError>
     }
 }
 
-/// Puts the words of a lock for so many CPUs, by name.
-fn put_lock(text: &mut String, kind: LockKind, cpus: usize, words: &[u64]) -> Result<(), AllocError>
-    ensures { OnOk result (string_bytes text.new ≡ string_bytes text.old ++ json_lock kind cpus words.now) }
+/// Puts groups of so many words, each as an array by its label.
+fn put_groups(
+    text: &mut String,
+    labels: &[&'static str],
+    cpus: usize,
+    words: &[u64],
+) -> Result<(), AllocError>
+    ensures { OnOk result (string_bytes text.new ≡ string_bytes text.old ++ json_groups cpus (map (λ label. label.now) labels.now) words.now) }
+{
+    let Some((label, labels)) = labels.split_first() else {
+        return Ok(());
+    };
+    let (group, words) = words.split_at(cpus.min(words.len()));
+    write!(text, ",\"{label}\":")?;
+    put_list(text, group)?;
+    put_groups(text, labels, cpus, words)
+}
+
+/// Puts the words of a lock for so many CPUs, each by its label.
+fn put_lock(text: &mut String, labels: Labels, cpus: usize, words: &[u64]) -> Result<(), AllocError>
+    ensures { OnOk result (string_bytes text.new ≡ string_bytes text.old ++ json_lock (shown_by labels) cpus words.now) }
 {
     let Some((first, others)) = words.split_first() else {
         return Ok(());
     };
-    match kind {
-        LockKind::Ticket => {
-            let (next, serving) = (*first / TICKETS, *first % TICKETS);
-            write!(text, ",\"next\":{next},\"serving\":{serving}")
+    match labels {
+        Labels::Halves(high, low) => {
+            let (next, served) = (next_ticket(*first), served_ticket(*first));
+            write!(text, ",\"{high}\":{next},\"{low}\":{served}")
         }
-        LockKind::Mcs => {
-            let (next, locked) = others.split_at(cpus.min(others.len()));
-            write!(text, ",\"tail\":{first},\"next\":")?;
-            put_list(text, next)?;
-            text.push_str(",\"locked\":")?;
-            put_list(text, locked)
+        Labels::Groups(label, labels) => {
+            write!(text, ",\"{label}\":{first}")?;
+            put_groups(text, labels, cpus, others)
         }
     }
 }
@@ -88,9 +102,10 @@ fn put_on_object(
     ensures { OnOk result (string_bytes text.new ≡ string_bytes text.old ++ json_on_object cpus number cpu done words.now object.now) }
 {
     put_start(text, number, cpu)?;
-    put_named(text, object.name_str(), kind_of(done))?;
-    put_outcome(text, outcome_of(done))?;
-    put_lock(text, object.lock(), cpus, words)?;
+    put_named(text, object.name_str(), done.name())?;
+    put_outcome(text, done.outcome())?;
+    let labels = LockAlgorithm::of(object.lock()).labels();
+    put_lock(text, labels, cpus, words)?;
     text.push_str("}\n")
 }
 
@@ -113,7 +128,7 @@ pub fn put_json_line(
         }
         None => {
             put_start(text, number, cpu)?;
-            let kind = kind_of(done);
+            let kind = done.name();
             writeln!(text, ",\"kind\":\"{kind}\"}}")
         }
     }

@@ -1,18 +1,25 @@
 //! A step as a line of words.
 
-ghost use Rattle.std.specs.Prelude.{◌≡◌, ◌++◌, ◌/◌, ◌%◌, string_bytes, OnOk};
-ghost use Rattle.view_command.specs.StepNames.{outcome_of};
-ghost use Rattle.view_command.specs.StepLines.{after_each, lock_text, outcome_text, words_on_object, words_line};
+ghost use Rattle.std.specs.Prelude.{◌≡◌, ◌++◌, map, string_bytes, OnOk};
+ghost use Rattle.std.specs.Option.{option_map};
+ghost use Rattle.word_rule.specs.Labels.{shown_by};
+ghost use Rattle.word_rule.specs.StepNames.{outcome_of};
+ghost use Rattle.view_command.specs.StepLines.{after_each, groups_text, lock_text, object_at, outcome_text, words_on_object, words_line};
 
-use crate::step_names::{kind_of, object_at, outcome_of};
 use crate::stepped::Seen;
 use scripts::{ObjectSettings, Settings};
-use sound_run::LockKind;
 use std::alloc::AllocError;
-use word_rule::StepDone;
+use word_rule::{Labels, LockAlgorithm, StepDone, next_ticket, served_ticket};
 
-/// How many tickets there are: a ticket lock's word is the next ticket times this, and the ticket that is served.
-pub const TICKETS: u64 = 4_294_967_296;
+/// The object of that number, if there is one.
+pub fn object_at(settings: &Settings, object: Option<u8>) -> Option<&ObjectSettings>
+    ensures { option_map (λ o. o.now) result ≡ object_at settings.entry.now object }
+{
+    match object {
+        Some(place) => settings.objects().get(place as usize),
+        None => None,
+    }
+}
 
 /// Puts the numbers, each behind the mark.
 pub fn put_each(text: &mut String, mark: &str, numbers: &[u64]) -> Result<(), AllocError>
@@ -24,24 +31,39 @@ pub fn put_each(text: &mut String, mark: &str, numbers: &[u64]) -> Result<(), Al
     Ok(())
 }
 
-/// Puts the words of a lock for so many CPUs, by name.
-fn put_lock(text: &mut String, kind: LockKind, cpus: usize, words: &[u64]) -> Result<(), AllocError>
-    ensures { OnOk result (string_bytes text.new ≡ string_bytes text.old ++ lock_text kind cpus words.now) }
+/// Puts groups of so many words, each behind its label.
+fn put_groups(
+    text: &mut String,
+    labels: &[&'static str],
+    cpus: usize,
+    words: &[u64],
+) -> Result<(), AllocError>
+    ensures { OnOk result (string_bytes text.new ≡ string_bytes text.old ++ groups_text cpus (map (λ label. label.now) labels.now) words.now) }
+{
+    let Some((label, labels)) = labels.split_first() else {
+        return Ok(());
+    };
+    let (group, words) = words.split_at(cpus.min(words.len()));
+    write!(text, " {label}")?;
+    put_each(text, " ", group)?;
+    put_groups(text, labels, cpus, words)
+}
+
+/// Puts the words of a lock for so many CPUs, each behind its label.
+fn put_lock(text: &mut String, labels: Labels, cpus: usize, words: &[u64]) -> Result<(), AllocError>
+    ensures { OnOk result (string_bytes text.new ≡ string_bytes text.old ++ lock_text (shown_by labels) cpus words.now) }
 {
     let Some((first, others)) = words.split_first() else {
         return Ok(());
     };
-    match kind {
-        LockKind::Ticket => {
-            let (next, serving) = (*first / TICKETS, *first % TICKETS);
-            write!(text, " next {next} serving {serving}")
+    match labels {
+        Labels::Halves(high, low) => {
+            let (next, served) = (next_ticket(*first), served_ticket(*first));
+            write!(text, " {high} {next} {low} {served}")
         }
-        LockKind::Mcs => {
-            let (next, locked) = others.split_at(cpus.min(others.len()));
-            write!(text, " tail {first} next")?;
-            put_each(text, " ", next)?;
-            text.push_str(" locked")?;
-            put_each(text, " ", locked)
+        Labels::Groups(label, labels) => {
+            write!(text, " {label} {first}")?;
+            put_groups(text, labels, cpus, others)
         }
     }
 }
@@ -50,7 +72,7 @@ fn put_lock(text: &mut String, kind: LockKind, cpus: usize, words: &[u64]) -> Re
 fn put_outcome(text: &mut String, done: StepDone) -> Result<(), AllocError>
     ensures { OnOk result (string_bytes text.new ≡ string_bytes text.old ++ outcome_text (outcome_of done)) }
 {
-    let outcome = outcome_of(done);
+    let outcome = done.outcome();
     if outcome.is_empty() {
         return Ok(());
     }
@@ -69,11 +91,12 @@ fn put_on_object(
 ) -> Result<(), AllocError>
     ensures { OnOk result (string_bytes text.new ≡ string_bytes text.old ++ words_on_object cpus number cpu done words.now object.now) }
 {
-    let (name, kind) = (object.name_str(), kind_of(done));
+    let (name, kind) = (object.name_str(), done.name());
     write!(text, "{number} cpu {cpu} {name} {kind}")?;
     put_outcome(text, done)?;
     text.push_str(" |")?;
-    put_lock(text, object.lock(), cpus, words)?;
+    let labels = LockAlgorithm::of(object.lock()).labels();
+    put_lock(text, labels, cpus, words)?;
     text.push_str("\n")
 }
 
@@ -96,7 +119,7 @@ pub fn put_words_line(
             put_on_object(text, cpus, number, cpu, object, done, words)
         }
         None => {
-            let kind = kind_of(done);
+            let kind = done.name();
             writeln!(text, "{number} cpu {cpu} {kind}")
         }
     }

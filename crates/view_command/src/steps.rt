@@ -6,9 +6,9 @@ ghost use Rattle.std.specs.List.{AllByRecursion};
 ghost use Rattle.view_command.specs.StepLines.{line_of};
 ghost use Rattle.view_command.specs.Steps.{steps_text};
 
+use crate::line_form::LineForm;
 use crate::opening::opened;
 use crate::step_json::put_json_line;
-use crate::step_names::LineForm;
 use crate::step_text::put_words_line;
 use crate::stepped::Seen;
 use event_log::OutOfMemory;

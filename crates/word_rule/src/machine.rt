@@ -18,6 +18,7 @@ mod mcs;
 mod progress;
 mod room;
 mod step_done;
+mod step_names;
 mod ticket;
 mod toggle;
 
