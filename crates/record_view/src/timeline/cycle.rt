@@ -31,6 +31,19 @@ const SIGNS: [&str; 2] = [
     "which comes no earlier than that CPU's entry here. So each of these entries would have to come behind itself.",
 ];
 
+/// What the box of a CPU's entry on an object says.
+fn entry_words(
+    alloc: Global,
+    record: &Shown<'_>,
+    place: Place,
+    object: usize,
+) -> Result<String, AllocError> {
+    let name = record.name(object);
+    let (cpu, own) = (place.cpu, place.entry.saturating_add(1));
+    let done = record.done_words(alloc, place)?;
+    format!(in alloc; "CPU {cpu}, entry {own}, on {name}: {done}")
+}
+
 /// Puts the box of an entry of the cycle.
 fn put_entry(
     alloc: Global,
@@ -46,10 +59,7 @@ fn put_entry(
     let y = number.saturating_mul(PITCH).saturating_add(TOP);
     let fill = fill_of(alloc, object, entry.had_room)?;
     let (colour, _) = colours_of(object);
-    let name = record.name(object);
-    let (cpu, own) = (place.cpu, place.entry.saturating_add(1));
-    let done = record.done_words(alloc, place)?;
-    let told = format!(in alloc; "CPU {cpu}, entry {own}, on {name}: {done}")?;
+    let told = entry_words(alloc, record, place, object)?;
     let mark = Area {
         x: LEFT,
         y,

@@ -30,6 +30,33 @@ pub fn legend_height(width: usize, objects: usize, signs: usize) -> usize {
     rows.saturating_mul(ITEM_HEIGHT).saturating_add(16)
 }
 
+/// Puts the item of an object, whose corner is there.
+fn put_item(
+    alloc: Global,
+    picture: &mut Picture,
+    record: &Shown<'_>,
+    number: usize,
+    x: usize,
+    y: usize,
+) -> Result<(), AllocError> {
+    let (colour, _) = colours_of(number);
+    let area = Area {
+        x,
+        y,
+        width: 16,
+        height: 16,
+    };
+    picture.area(area, colour)?;
+    let words = record.object_words(alloc, number)?;
+    picture.words(
+        x.saturating_add(24),
+        y.saturating_add(13),
+        Anchor::Start,
+        INK,
+        words.as_str(),
+    )
+}
+
 /// Puts an item for each object, and behind them a line for each sign.
 pub fn put_legend(
     alloc: Global,
@@ -47,31 +74,14 @@ pub fn put_legend(
         let y = (number / columns)
             .saturating_mul(ITEM_HEIGHT)
             .saturating_add(top);
-        let (colour, _) = colours_of(number);
-        let area = Area {
-            x,
-            y,
-            width: 16,
-            height: 16,
-        };
-        picture.area(area, colour)?;
-        let words = record.object_words(alloc, number)?;
-        picture.words(
-            x.saturating_add(24),
-            y.saturating_add(13),
-            Anchor::Start,
-            INK,
-            words.as_str(),
-        )?;
+        put_item(alloc, picture, record, number, x, y)?;
     }
     let rows = record.objects().saturating_sub(1) / columns;
-    put_signs(
-        picture,
-        rows.saturating_add(1)
-            .saturating_mul(ITEM_HEIGHT)
-            .saturating_add(top),
-        signs,
-    )
+    let below = rows
+        .saturating_add(1)
+        .saturating_mul(ITEM_HEIGHT)
+        .saturating_add(top);
+    put_signs(picture, below, signs)
 }
 
 /// Puts a line for each sign.
