@@ -1,4 +1,3 @@
 pub mod Fronts
 pub mod LinesAt
 pub mod LogHeads
-pub mod Mistold

@@ -1,6 +1,5 @@
 pub mod BoxProofs
 pub mod EitherLaws
 pub mod NumberLaws
-pub mod OwnAnswers
 pub mod ReplayedProofs
 pub mod StepCounts
