@@ -9,4 +9,4 @@ pub mod FedOwn
 pub mod WholeOwn
 pub mod SomeModel
 pub mod MergedOwn
-pub mod Mistold
+pub mod MistoldCounts

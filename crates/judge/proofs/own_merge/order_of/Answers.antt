@@ -9,7 +9,7 @@ use Rattle.scripts.specs.declared.text.fault.LinesFault.TheVariants.{Line}
 use Rattle.judge.specs.Orders.{told_places, room_with}
 use Rattle.judge.specs.OwnOrders.{order, cycle, unsound, mistold, bad_line}
 use Rattle.judge.specs.OwnTold.{AreFitting}
-use Rattle.own_judge.proofs.Mistold.{order_isnt, cycle_isnt, fault_isnt, same_counts}
+use Rattle.own_judge.proofs.MistoldCounts.{order_isnt, cycle_isnt, fault_isnt, same_counts}
 use Rattle.judge.proofs.own_merge.order_of.Goals as goal
 
 pub returns-in-Err-Line : goal.returns-in-Err-Line

@@ -3,7 +3,7 @@ use Rattle.own_judge.specs.Models.{IsMistold}
 use Rattle.own_judge.specs.declared.merge.OwnMergeFault.TheVariants as fault
 use Rattle.own_object.specs.Keeping.{kept_own}
 use Rattle.record_view.specs.OwnSights.{AreFitting, HasOwnFault, HasOwnOrder, IsOwnCycle}
-use Rattle.own_judge.proofs.Mistold.{cycle_isnt, fault_isnt, order_isnt, same_counts}
+use Rattle.own_judge.proofs.MistoldCounts.{cycle_isnt, fault_isnt, order_isnt, same_counts}
 use Rattle.record_view.proofs.by_counts.told.Goals as goal
 
 pub returns-in-Ok : goal.returns-in-Ok
