@@ -2,7 +2,6 @@
 
 A function is checked against the contracts of those that it calls, and not against their bodies. So edits in the bodies of
 different functions don't meet. One check reads these functions alone, over the libraries that `rt ci` left, and tells of each.
-What it has checked beside them it keeps in a folder, where a later check of the crate finds it.
 """
 import re
 import shutil
@@ -172,9 +171,8 @@ def change(folder, edits):
         path.write_text(text, encoding="utf-8")
 
 
-def check(crate, kept, edits, paths):
-    """What the check of a copy of the crate with the edits says. It reads the functions of these paths, or all, and uses a folder
-    of those that are free."""
+def check(crate, edits, paths):
+    """What the check of a copy of the crate with the edits says. It reads the functions of these paths, or all."""
     how = ["--logic-built", kit() / "logic_built", "--jobs", "1", "--allow-holes"]
     how += [word for it in sorted(paths) for word in ("--only", it)]
     # What such a crate has is there for its tests alone.
@@ -183,23 +181,18 @@ def check(crate, kept, edits, paths):
         folder = Path(room) / crate
         shutil.copytree(ROOT / "crates" / crate, folder, ignore=shutil.ignore_patterns("out"))
         change(folder, edits)
-        free = kept.get()
-        try:
-            words = [*words_of(crate), *how, "--incremental", free]
-            ran = run([kit() / "bin/rattle", "check", *words], wanted=None, cwd=folder)
-        finally:
-            kept.put(free)
+        ran = run([kit() / "bin/rattle", "check", *words_of(crate), *how], wanted=None, cwd=folder)
     return (ran.stdout + ran.stderr).decode(errors="replace")
 
 
-def try_round(crate, kept, edits):
+def try_round(crate, edits):
     """Tries these edits in one check, or by halves if one of them leaves nothing that can be checked. Returns a line for each
     that was refused, and the others."""
     paths = frozenset().union(*(it.paths for it in edits))
-    refused, functions = refused_functions(crate, check(crate, kept, edits, paths))
+    refused, functions = refused_functions(crate, check(crate, edits, paths))
     half = len(edits) // 2
     if half and not functions:
-        first, second = try_round(crate, kept, edits[:half]), try_round(crate, kept, edits[half:])
+        first, second = try_round(crate, edits[:half]), try_round(crate, edits[half:])
         return first[0] + second[0], first[1] + second[1]
     lines, others = [], []
     for edit in edits:
@@ -211,9 +204,9 @@ def try_round(crate, kept, edits):
     return lines, others
 
 
-def try_whole(crate, kept, edit):
+def try_whole(crate, edit):
     """Tries the edit in a check of the whole crate. Returns the line for it, and whether it was refused."""
-    told = check(crate, kept, [edit], [])
+    told = check(crate, [edit], [])
     refused, _ = refused_functions(crate, told)
     if refused:
         return f"{crate}/{edit.name}: refused, in {', '.join(sorted(refused))}", True
