@@ -2,19 +2,22 @@
 
 A function is checked against the contracts of those that it calls, and not against their bodies. So edits in the bodies of
 different functions don't meet. One check reads these functions alone, over the libraries that `rt ci` left, and tells of each.
+It also checks what they call. So the crate is checked once as it is, into a folder from which each check takes what is the same.
 """
 import re
 import shutil
 import tempfile
 from collections import defaultdict
 from pathlib import Path
+from queue import SimpleQueue
 from typing import NamedTuple
 
 from common import ROOT, Stop, run
 from edit_files import changes_of
 from libraries import kit, stands_on, words_of
 
-FN = re.compile(r"( *)(?:pub(?:\([a-z]+\))? )?(?:const )?fn (\w+)")
+FN = re.compile(r"( *)(?:pub(?:\([a-z]+\))? )?(?:const )?(?:extern \"C\" )?fn (\w+)")
+CONST = re.compile(r"(?:pub(?:\([a-z]+\))? )?const (\w+):")
 IMPL = re.compile(r"impl(?:<.*?>)? (?:(\w+)(?:<.*>)? for )?(\w+)")
 TRAIT = re.compile(r"(?:pub )?trait (\w+)")
 TYPE = re.compile(r"^(?:pub(?:\([a-z]+\))? )?(?:struct|enum) (\w+)", re.MULTILINE)
@@ -93,17 +96,40 @@ def bodies(file, text, homes):
     return found
 
 
+def users(folder, files, name, homes):
+    """The paths of the functions in these files whose bodies have the name."""
+    found = set()
+    for file in files:
+        text = file.read_text(encoding="utf-8")
+        lines = text.splitlines()
+        for body in bodies(str(file.relative_to(folder)), text, homes):
+            if re.search(rf"\b{name}\b", "\n".join(lines[body.first : body.last])):
+                found.add(body.path)
+    return found
+
+
+def touched_by(folder, change, homes):
+    """The paths of what a change is in. Of a constant these are the functions that name it, and of a `use` none."""
+    file, old, new = change
+    text = (folder / file).read_text(encoding="utf-8")
+    if text.count(old) != 1:
+        # (it reads what an earlier change of the edit made)
+        return None
+    line = text[: text.find(old)].count("\n")
+    within = [it for it in bodies(file, text, homes) if it.first <= line < it.last]
+    if within:
+        return {within[-1].path}
+    if const := CONST.match(old):
+        return users(folder, (folder / "src").rglob("*.rt"), const[1], homes)
+    if const := CONST.match(new):
+        return users(folder, [folder / file], const[1], homes)
+    return set() if old.startswith("use ") else None
+
+
 def touched(folder, changes, homes):
     """The paths of what the changes are in, or none if one is elsewhere."""
-    found = set()
-    for file, old, _ in changes:
-        text = (folder / file).read_text(encoding="utf-8")
-        line = text[: text.find(old)].count("\n")
-        within = [it for it in bodies(file, text, homes) if it.first <= line < it.last] if file.startswith("src/") else []
-        if text.count(old) != 1 or not within:
-            return frozenset()
-        found.add(within[-1].path)
-    return frozenset(found)
+    found = [touched_by(folder, it, homes) for it in changes]
+    return frozenset() if None in found else frozenset().union(*found)
 
 
 def read_edits(folder, edits):
@@ -171,9 +197,10 @@ def change(folder, edits):
         path.write_text(text, encoding="utf-8")
 
 
-def check(crate, edits, paths):
-    """What the check of a copy of the crate with the edits says. It reads the functions of these paths, or all."""
-    how = ["--logic-built", kit() / "logic_built", "--jobs", "1", "--allow-holes"]
+def check(crate, kept, edits, paths, jobs=1):
+    """What the check of a copy of the crate with the edits says. It reads the functions of these paths, or all, and takes from the
+    folder `kept` what was checked before."""
+    how = ["--logic-built", kit() / "logic_built", "--incremental", kept, "--jobs", str(jobs), "--allow-holes"]
     how += [word for it in sorted(paths) for word in ("--only", it)]
     # What such a crate has is there for its tests alone.
     how += ["--test"] if crate.endswith("_tests") else []
@@ -185,34 +212,62 @@ def check(crate, edits, paths):
     return (ran.stdout + ran.stderr).decode(errors="replace")
 
 
-def try_round(crate, edits):
+class Kept(NamedTuple):
+    """The crate whose edits are tried, and the folders of checked parts that no check uses now: each is for one check at a time."""
+
+    crate: str
+    free: SimpleQueue
+
+    def check(self, edits, paths):
+        folder = self.free.get()
+        try:
+            return check(self.crate, folder, edits, paths)
+        finally:
+            self.free.put(folder)
+
+
+def keep(crate, room, count, is_checked):
+    """Makes that many folders in the room. If asked, it checks the crate as it is into each."""
+    folders = [Path(room) / str(it) for it in range(count)]
+    folders[0].mkdir()
+    if is_checked:
+        check(crate, folders[0], [], [], jobs=count)
+    kept = Kept(crate, SimpleQueue())
+    for it in folders:
+        if it != folders[0]:
+            shutil.copytree(folders[0], it)
+        kept.free.put(it)
+    return kept
+
+
+def try_round(kept, edits):
     """Tries these edits in one check, or by halves if one of them leaves nothing that can be checked. Returns a line for each
     that was refused, and the others."""
     paths = frozenset().union(*(it.paths for it in edits))
-    refused, functions = refused_functions(crate, check(crate, edits, paths))
+    refused, functions = refused_functions(kept.crate, kept.check(edits, paths))
     half = len(edits) // 2
     if half and not functions:
-        first, second = try_round(crate, edits[:half]), try_round(crate, edits[half:])
+        first, second = try_round(kept, edits[:half]), try_round(kept, edits[half:])
         return first[0] + second[0], first[1] + second[1]
     lines, others = [], []
     for edit in edits:
         where = sorted(it for it in refused if not edit.paths or any(is_in(it, path) for path in edit.paths))
         if where:
-            lines.append(f"{crate}/{edit.name}: refused, in {', '.join(where)}")
+            lines.append(f"{kept.crate}/{edit.name}: refused, in {', '.join(where)}")
         else:
             others.append(edit)
     return lines, others
 
 
-def try_whole(crate, edit):
+def try_whole(kept, edit):
     """Tries the edit in a check of the whole crate. Returns the line for it, and whether it was refused."""
-    told = check(crate, [edit], [])
-    refused, _ = refused_functions(crate, told)
+    told = kept.check([edit], [])
+    refused, _ = refused_functions(kept.crate, told)
     if refused:
-        return f"{crate}/{edit.name}: refused, in {', '.join(sorted(refused))}", True
+        return f"{kept.crate}/{edit.name}: refused, in {', '.join(sorted(refused))}", True
     errors = [it for it in told.splitlines() if "error" in it]
     why = errors[0] if errors else "no clause is against it, or it was refused for its form alone"
-    return f"{crate}/{edit.name}: NOT REFUSED: {why}", False
+    return f"{kept.crate}/{edit.name}: NOT REFUSED: {why}", False
 
 
 def need_built(crate):
