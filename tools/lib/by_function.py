@@ -265,7 +265,7 @@ def try_whole(kept, edit):
     refused, _ = refused_functions(kept.crate, told)
     if refused:
         return f"{kept.crate}/{edit.name}: refused, in {', '.join(sorted(refused))}", True
-    errors = [it for it in told.splitlines() if "error" in it]
+    errors = [it for it in told.splitlines() if re.search(r"\berror[:[]", it)]
     why = errors[0] if errors else "no clause is against it, or it was refused for its form alone"
     return f"{kept.crate}/{edit.name}: NOT REFUSED: {why}", False
 
