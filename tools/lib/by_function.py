@@ -1,8 +1,8 @@
 """Edits of a crate, many in one check of the functions that they touch: which of them the prover refuses.
 
 A function is checked against the contracts of those that it calls, and not against their bodies. So edits in the bodies of
-different functions don't meet. One check reads these functions alone, over the libraries that `rt ci` left, and tells of each.
-It also checks what they call. So the crate is checked once as it is, into a folder from which each check takes what is the same.
+different functions don't meet. One check reads these functions and what they call, over the libraries that `rt ci` left, and
+tells of each. First the crate is checked as it is, into a folder from which each check takes what is the same.
 """
 import re
 import shutil
@@ -198,8 +198,8 @@ def change(folder, edits):
 
 
 def check(crate, kept, edits, paths, jobs=1):
-    """What the check of a copy of the crate with the edits says. It reads the functions of these paths, or all, and takes from the
-    folder `kept` what was checked before."""
+    """What the check of a copy of the crate with the edits says. It reads the functions of these paths, or all. What was checked
+    before it takes from the folder `kept`."""
     how = ["--logic-built", kit() / "logic_built", "--incremental", kept, "--jobs", str(jobs), "--allow-holes"]
     how += [word for it in sorted(paths) for word in ("--only", it)]
     # What such a crate has is there for its tests alone.
@@ -213,7 +213,7 @@ def check(crate, kept, edits, paths, jobs=1):
 
 
 class Kept(NamedTuple):
-    """The crate whose edits are tried, and the folders of checked parts that no check uses now: each is for one check at a time."""
+    """The crate whose edits are tried, and the folders of checked parts that no check uses now, each for one check at a time."""
 
     crate: str
     free: SimpleQueue
@@ -227,7 +227,7 @@ class Kept(NamedTuple):
 
 
 def keep(crate, room, count, is_checked):
-    """Makes that many folders in the room. If asked, it checks the crate as it is into each."""
+    """Makes that many folders in the room. If asked, it checks the crate as it is into the first, and copies that."""
     folders = [Path(room) / str(it) for it in range(count)]
     folders[0].mkdir()
     if is_checked:
