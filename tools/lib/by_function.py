@@ -198,8 +198,8 @@ def change(folder, edits):
 
 
 def check(crate, kept, edits, paths, jobs=1):
-    """What the check of a copy of the crate with the edits says. It reads the functions of these paths, or all. What was checked
-    before it takes from the folder `kept`."""
+    """What the check of a copy of the crate with the edits says. It reads the functions of these paths, or all. What was
+    checked before it takes from the folder `kept`."""
     how = ["--logic-built", kit() / "logic_built", "--incremental", kept, "--jobs", str(jobs), "--allow-holes"]
     how += [word for it in sorted(paths) for word in ("--only", it)]
     # What such a crate has is there for its tests alone.
@@ -213,7 +213,7 @@ def check(crate, kept, edits, paths, jobs=1):
 
 
 class Kept(NamedTuple):
-    """The crate whose edits are tried, and the folders of checked parts that no check uses now, each for one check at a time."""
+    """The crate whose edits are tried, and the folders of checked parts that no check uses now, each for one check."""
 
     crate: str
     free: SimpleQueue
