@@ -119,7 +119,7 @@ module _ (held : Option (List ℕ) → Option (List ℕ)) (words : List (String 
 
   by_words : Refuses held words f → FindsNoOrder held words
   by_words (inl (inl h)) = absurd (no_memory f found h)
-  by_words (inl (inr h)) = absurd (no_words f found h)
+  by_words (inl (inr h)) = absurd (no_words f found h.0)
   by_words (inr h) = by_command h.0 h.1 h.2
 
 -- a refusal with status 1 is of a trace, and tells what was found

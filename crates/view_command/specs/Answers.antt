@@ -27,7 +27,7 @@ use Rattle.view_command.specs.declared.fault.Fault.{Fault}
 use Rattle.view_command.specs.declared.fault.Fault.TheVariants as fault
 use Rattle.view_command.specs.declared.line_form.LineForm.{LineForm}
 use Rattle.view_command.specs.declared.turns.Turns.{Turns}
-use Rattle.view_command.specs.Asked.{AskedBy, AsksHelp}
+use Rattle.view_command.specs.Asked.{AskNothing, AskedBy, MayHelp}
 use Rattle.view_command.specs.Drafts.{ComeSo, EndsAll, MayBeTooLong}
 use Rattle.view_command.specs.Faults.{of_no_trace, status_of}
 use Rattle.view_command.specs.Records.{AreListed, IsOwnPicture, IsOwnTextTrace, ListsNone, ReadsKernel, ReadsOwn, ReadsOwnText, RefusesForm, RefusesOwnText, RefusesOwnTrace}
@@ -151,11 +151,11 @@ module _ (held : Option (List ℕ) → Option (List ℕ)) where
 
   -- the text answers the words, by the command that they ask for; or they ask for help
   abbrev pub Answers : List (String Global) → List ℕ → Type 0
-  Answers words text = ((arguments : Arguments) × AskedBy words arguments × AnswersTo arguments text) ⊎ AsksHelp words
+  Answers words text = ((arguments : Arguments) × AskedBy words arguments × AnswersTo arguments text) ⊎ MayHelp words
 
-  -- the words are refused so: as no form, or by the command that they ask for
+  -- the words are refused so: as they ask for nothing, or by the command that they ask for
   abbrev pub Refuses : List (String Global) → Fault → Type 0
-  Refuses words f = (IsMemory f ⊎ (f ≡ fault.Common refusal.BadWords)) ⊎ ((arguments : Arguments) × AskedBy words arguments × RefusesTo arguments f)
+  Refuses words f = (IsMemory f ⊎ ((f ≡ fault.Common refusal.BadWords) × AskNothing words)) ⊎ ((arguments : Arguments) × AskedBy words arguments × RefusesTo arguments f)
 
   -- such a refusal has that status
   abbrev pub RefusesWith : List (String Global) → ℕ → Type 0

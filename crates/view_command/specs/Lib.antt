@@ -2,7 +2,9 @@ pub mod Answers
 pub mod Asked
 pub mod Drafts
 pub mod Faults
+pub mod Forms
 pub mod Records
 pub mod StepLines
 pub mod Stepping
 pub mod Steps
+pub mod Table

@@ -1,0 +1,8 @@
+use Rattle.view_command.proofs.FormsTaken.{asked, asked_unseeded}
+use Rattle.view_command.proofs.law.forms_are_asked.Goals as goal
+
+pub returns-clause-each : goal.returns-clause-each
+returns-clause-each c = asked
+
+pub returns-clause-unseeded : goal.returns-clause-unseeded
+returns-clause-unseeded c = asked_unseeded
