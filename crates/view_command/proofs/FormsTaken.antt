@@ -1,14 +1,15 @@
 -- Words that are a form ask for what the form says.
-use Rattle.std.proofs.Common.{◌≡◌, ◌==◌, ◌≤◌, ◌<◌, ◌-◌, ◌^◌, ◌∙◌, sym, subst, ℕ, Bool, true, false, List, [], ◌∷◌, ◌++◌, map, codes, refl, Option, Some, None, is_some, option_map, slice_get, decimal, String, Global, string_bytes, if◌then◌else◌, arith}
+use Rattle.std.proofs.Common.{◌≡◌, ◌⊎◌, inl, inr, ap, ◌==◌, ◌≤◌, ◌<◌, ◌-◌, ◌^◌, ◌∙◌, sym, subst, ℕ, Bool, true, false, List, [], ◌∷◌, ◌++◌, map, codes, refl, Option, Some, None, is_some, option_map, slice_get, decimal, String, Global, string_bytes, if◌then◌else◌, arith}
 use Rattle.std.proofs.lemmas.Bool.{eqb-false, ne_eqb}
 use Rattle.std.specs.Borrow.{Bor}
 use Rattle.std.specs.List.{list_any}
 use Rattle.clap.specs.Words.{Row, Text, fault_of, first_of, subcommand_of}
 use Rattle.clap.proofs.OnLiterals.{clap_on_literals}
+use Rattle.clap.specs.declared.error.kind.ErrorKind.TheVariants.{DisplayHelp, DisplayVersion}
 use Rattle.program.specs.FileNames.{IsFile, IsWanted}
 use Rattle.program.specs.Inputs.{bytes_of}
 use Rattle.scripts.proofs.Digits.{decimal_digits, decimal_some}
-use Rattle.view_command.specs.Asked.{AreFound, AreTurns, AskedBy, command_name, has_no_form, is_no_form, is_set}
+use Rattle.view_command.specs.Asked.{AreFound, AreTurns, AskedBy, MustHelp, command_name, has_no_form, is_help, is_no_form, is_set}
 use Rattle.view_command.specs.Forms.{forms}
 use Rattle.view_command.specs.Table.{CanBeAsked, ComeTogether, IsPlainIfGiven, IsPlainWord, IsSeed, form_words, if_given, option_words, turns_words, words_for}
 use Rattle.view_command.specs.declared.arguments.Arguments.{Arguments}
@@ -211,3 +212,20 @@ asked words a is can = asks_for words a (subst (Taken (command_name a) (λ rows.
 -- without a seed it is 0
 pub asked_unseeded : (words : List (String Global)) (f s : Bor Text) → map string_bytes words ≡ codes "schedule" ∷ codes "--settings" ∷ f.now ∷ s.now ∷ [] → IsPlainWord f.now → IsPlainWord s.now → AskedBy words (asks.Schedule f s (Drawn 0))
 asked_unseeded words f s is e g = asks_for words (asks.Schedule f s (Drawn 0)) (subst (Taken (codes "schedule") (ScheduleFound f.now s.now (Drawn 0))) (sym is) (unseeded_taken f.now s.now e g))
+
+help_met : fault_of forms (codes "--help" ∷ []) ≡ DisplayHelp ∷ []
+unfolding clap_on_literals
+help_met = refl
+
+version_met : fault_of forms (codes "--version" ∷ []) ≡ DisplayVersion ∷ []
+unfolding clap_on_literals
+version_met = refl
+
+help_in_words : (words : List (String Global)) → list_any (λ word. is_help (string_bytes word)) words ≡ list_any is_help (map string_bytes words)
+help_in_words [] = refl
+help_in_words (w ∷ words) = rw (help_in_words words) refl
+
+-- the words for help and for the version alone come to a text
+pub must_help : (words : List (String Global)) → (map string_bytes words ≡ codes "--help" ∷ []) ⊎ (map string_bytes words ≡ codes "--version" ∷ []) → MustHelp words
+must_help words (inl is) = record { in_forms = in_words words ∙ ap (list_any is_no_form) is; asked = help_in_words words ∙ ap (list_any is_help) is; only = inl (ap (fault_of forms) is ∙ help_met) }
+must_help words (inr is) = record { in_forms = in_words words ∙ ap (list_any is_no_form) is; asked = help_in_words words ∙ ap (list_any is_help) is; only = inr (ap (fault_of forms) is ∙ version_met) }
