@@ -1,7 +1,9 @@
 -- Words that are a form ask for what the form says.
-use Rattle.std.proofs.Common.{◌≡◌, inl, inr, ◌∙◌, sym, subst, List, [], ◌∷◌, map, codes, refl, Option, Some, None, option_map, slice_get, String, Global, string_bytes}
+use Rattle.std.proofs.Common.{◌≡◌, inl, inr, ◌∙◌, sym, subst, List, [], ◌∷◌, map, codes, refl, Option, Some, None, String, Global, string_bytes}
+use Rattle.std.proofs.lemmas.Option.{slice_get-map}
 use Rattle.std.specs.List.{list_any}
 use Rattle.clap.specs.Words.{Row, Text, first_of, subcommand_of}
+use Rattle.clap.proofs.WalkLemmas.{list_any-map}
 use Rattle.mc2_command.specs.Asked.{AreFiles, Asks, command_name, is_no_form}
 use Rattle.program.specs.Inputs.{bytes_of}
 use Rattle.mc2_command.specs.Forms.{forms}
@@ -102,16 +104,8 @@ by_form (asked.Audit name) words is named = audit_form (bytes_of name) words is 
 by_form (asked.Merge name) words is named = merge_form (bytes_of name) words is named
 by_form (asked.Upgrade name) words is named = upgrade_form (bytes_of name) words is named
 
-in_words : (words : List (String Global)) → list_any (λ word. is_no_form (string_bytes word)) words ≡ list_any is_no_form (map string_bytes words)
-in_words [] = refl
-in_words (w ∷ words) = rw (in_words words) refl
-
-first_word : (words : List (String Global)) → option_map string_bytes (slice_get words 0) ≡ slice_get (map string_bytes words) 0
-first_word [] = refl
-first_word (w ∷ words) = refl
-
 -- such words ask for that
 pub asks : (words : List (String Global)) (a : Arguments) → IsForm a (map string_bytes words) → AreNamed a → Asks words a
 asks words a is named =
     let t = by_form a (map string_bytes words) is named in
-    record { in_forms = in_words words ∙ t.in_forms; taken = t.taken; rows = t.rows; read = t.read; first = first_word words ∙ t.first; files = t.files }
+    record { in_forms = list_any-map is_no_form string_bytes words ∙ t.in_forms; taken = t.taken; rows = t.rows; read = t.read; first = sym (slice_get-map string_bytes words 0) ∙ t.first; files = t.files }
