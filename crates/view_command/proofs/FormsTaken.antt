@@ -1,17 +1,15 @@
 -- Words that are a form ask for what the form says.
-use Rattle.std.proofs.Common.{◌≡◌, ◌⊎◌, inl, inr, ap, ◌==◌, ◌≤◌, ◌<◌, ◌-◌, ◌^◌, ◌∙◌, sym, subst, ℕ, Bool, true, false, List, [], ◌∷◌, ◌++◌, map, codes, refl, Option, Some, None, is_some, decimal, String, Global, string_bytes, if◌then◌else◌, arith}
+use Rattle.std.proofs.Common.{◌≡◌, ◌⊎◌, inl, inr, ap, ◌==◌, ◌≤◌, ◌<◌, ◌-◌, ◌^◌, ◌∙◌, sym, subst, ℕ, Bool, true, false, List, [], ◌∷◌, ◌++◌, map, codes, refl, Option, Some, None, is_some, option_map, slice_get, decimal, String, Global, string_bytes, if◌then◌else◌, arith}
 use Rattle.std.proofs.lemmas.Bool.{eqb-false, ne_eqb}
 use Rattle.std.specs.Borrow.{Bor}
-use Rattle.std.proofs.lemmas.Option.{slice_get-map}
 use Rattle.std.specs.List.{list_any}
 use Rattle.clap.specs.Words.{Row, Text, fault_of, first_of, subcommand_of}
 use Rattle.clap.proofs.OnLiterals.{clap_on_literals}
-use Rattle.clap.proofs.WalkLemmas.{list_any-map}
 use Rattle.clap.specs.declared.error.kind.ErrorKind.TheVariants.{DisplayHelp, DisplayVersion}
 use Rattle.program.specs.FileNames.{IsFile, IsWanted}
 use Rattle.program.specs.Inputs.{bytes_of}
 use Rattle.scripts.proofs.Digits.{decimal_digits, decimal_some}
-use Rattle.view_command.specs.Asked.{AreFound, AreTurns, AskedBy, MustHelp, command_name, is_help, is_no_form, is_set}
+use Rattle.view_command.specs.Asked.{AreFound, AreTurns, AskedBy, MustHelp, command_name, has_no_form, is_help, is_no_form, is_set}
 use Rattle.view_command.specs.Forms.{forms}
 use Rattle.view_command.specs.Table.{CanBeAsked, ComeTogether, IsPlainIfGiven, IsPlainWord, IsSeed, form_words, if_given, option_words, turns_words, words_for}
 use Rattle.view_command.specs.declared.arguments.Arguments.{Arguments}
@@ -195,9 +193,17 @@ by_form (asks.Timeline name right kept) can =
 by_form (asks.Trace name) can = trace_taken (bytes_of name) can
 by_form (asks.Schedule settings scripts turns) can = schedule_taken settings.now scripts.now turns can.0 can.1 can.2
 
+in_words : (words : List (String Global)) → has_no_form words ≡ list_any is_no_form (map string_bytes words)
+in_words [] = refl
+in_words (w ∷ words) = rw (in_words words) refl
+
+first_word : (words : List (String Global)) → option_map string_bytes (slice_get words 0) ≡ slice_get (map string_bytes words) 0
+first_word [] = refl
+first_word (w ∷ words) = refl
+
 -- words of which that holds ask for the arguments
 asks_for : (words : List (String Global)) (a : Arguments) → Taken (command_name a) (λ rows. AreFound rows a) (map string_bytes words) → AskedBy words a
-asks_for words a t = record { in_forms = list_any-map is_no_form string_bytes words ∙ t.in_forms; taken = t.taken; rows = t.rows; read = t.read; first = sym (slice_get-map string_bytes words 0) ∙ t.first; found = t.found }
+asks_for words a t = record { in_forms = in_words words ∙ t.in_forms; taken = t.taken; rows = t.rows; read = t.read; first = first_word words ∙ t.first; found = t.found }
 
 -- the words for arguments ask for them
 pub asked : (words : List (String Global)) (a : Arguments) → map string_bytes words ≡ words_for a → CanBeAsked a → AskedBy words a
@@ -215,7 +221,11 @@ version_met : fault_of forms (codes "--version" ∷ []) ≡ DisplayVersion ∷ [
 unfolding clap_on_literals
 version_met = refl
 
+help_in_words : (words : List (String Global)) → list_any (λ word. is_help (string_bytes word)) words ≡ list_any is_help (map string_bytes words)
+help_in_words [] = refl
+help_in_words (w ∷ words) = rw (help_in_words words) refl
+
 -- the words for help and for the version alone come to a text
 pub must_help : (words : List (String Global)) → (map string_bytes words ≡ codes "--help" ∷ []) ⊎ (map string_bytes words ≡ codes "--version" ∷ []) → MustHelp words
-must_help words (inl is) = record { in_forms = list_any-map is_no_form string_bytes words ∙ ap (list_any is_no_form) is; asked = list_any-map is_help string_bytes words ∙ ap (list_any is_help) is; only = inl (ap (fault_of forms) is ∙ help_met) }
-must_help words (inr is) = record { in_forms = list_any-map is_no_form string_bytes words ∙ ap (list_any is_no_form) is; asked = list_any-map is_help string_bytes words ∙ ap (list_any is_help) is; only = inr (ap (fault_of forms) is ∙ version_met) }
+must_help words (inl is) = record { in_forms = in_words words ∙ ap (list_any is_no_form) is; asked = help_in_words words ∙ ap (list_any is_help) is; only = inl (ap (fault_of forms) is ∙ help_met) }
+must_help words (inr is) = record { in_forms = in_words words ∙ ap (list_any is_no_form) is; asked = help_in_words words ∙ ap (list_any is_help) is; only = inr (ap (fault_of forms) is ∙ version_met) }

@@ -11,7 +11,7 @@ ghost use Rattle.view_command.specs.declared.arguments.Arguments.TheVariants.{Sc
 ghost use Rattle.view_command.specs.declared.turns.Turns.TheVariants.{Drawn};
 
 /// Words that are one of the forms, as a plain list of words, ask for what the form says: `read_words` never refuses them as
-/// bad. Without a seed it is 0. Nor does it refuse `--help` or `--version` alone as bad.
+/// bad. Without a seed it is 0. Nor does it refuse the word for help or for the version.
 pub fn forms_are_asked()
     ensures each { (words : List (String Global)) (arguments : Arguments) → map string_bytes words ≡ words_for arguments → CanBeAsked arguments → AskedBy words arguments }
     ensures unseeded { (words : List (String Global)) (settings scripts : Bor Text) → map string_bytes words ≡ codes "schedule" ∷ codes "--settings" ∷ settings.now ∷ scripts.now ∷ []
