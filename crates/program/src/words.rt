@@ -9,9 +9,6 @@ use std::env::FillError;
 use std::rt::Env;
 use std::{env, io};
 
-#[cfg(test)]
-mod tests;
-
 /// What the program was started with, but for the first word: that is its own path, which need not be text.
 #[derive(Drop)]
 struct AfterPath<'a, E> {

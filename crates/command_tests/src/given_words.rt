@@ -1,6 +1,6 @@
 //! Words that aren't text: the program's own path doesn't matter, and any other is refused.
 
-use super::{Refusal, words_given};
+use program::{Refusal, words_given};
 use std::env::FillError;
 use std::rt::Env;
 use std::test::Fail;
