@@ -1,46 +1,8 @@
 //! What two callers did on a new cell, whichever its lock is, the step machine does with their calls as scripts.
 
-ghost use Rattle.std.specs.Prelude.{◌≡◌, ℕ, [], List, if◌then◌else◌};
-ghost use Rattle.event_log.specs.declared.event.Event.{Event};
-ghost use Rattle.word_rule.specs.declared.view.TraceStep.{TraceStep};
-ghost use Rattle.word_rule.specs.Cell.{OwnTogether};
-ghost use Rattle.word_rule.specs.LockRuns.{HasRun};
-ghost use Rattle.word_rule.specs.Replay.{IsReplay, entries_for};
-ghost use Rattle.guarded_cell.specs.Held.{holds_of};
-
-use crate::scene::{KINDS, Pair, calls_from, cell_of_two};
-use event_log::{Logged, SeqObject};
-use guarded_cell::two_callers;
-use std::sync::Wait;
+use crate::scene::{KINDS, calls_from, cell_of_two};
+use guarded_cell::two_are_replayed;
 use std::test::Fail;
-use std::thread::Threads;
-use word_rule::{LockCell, holds_are_scripts, runs_replay};
-
-/// Two callers with every number of a new cell do their calls on two threads and end the cell. There is a run of the cell's lock,
-/// and the step machine that is scheduled by it does it with the callers' calls as scripts: it leaves the same log, and no entry.
-fn two_are_replayed<O: SeqObject + Send, C: LockCell<O> + Sync, R: Threads + Wait + Sync>(
-    rt: &R,
-    cell: C,
-    passes: Pair<C::Pass>,
-    first_calls: &[O::Call],
-    second_calls: &[O::Call],
-) -> (Logged<O>, usize, usize)
-where
-    O::Params: Send,
-    O::Call: Send + Sync,
-    O::Reply: Send,
-    C::Pass: Send,
-    requires first { C.is_pass_of cell passes.0 }
-    requires second { C.is_pass_of cell passes.1 }
-    requires all { OwnTogether (C.pass_view passes.0).caller (C.pass_view passes.1).caller }
-    requires new { (C.pass_run passes.0 ≡ []) × (C.pass_run passes.1 ≡ []) }
-    ensures replayed { (run : List (TraceStep (Event O O.Params O.Call O.Reply))) × HasRun (C.pass_view passes.0).caller.cell result.0.log run
-        × ((ticket : ℕ) → IsReplay O.SeqObject (C.pass_view passes.0).caller.cell (λ k. if (C.pass_view passes.0).caller.owned k then entries_for (C.pass_view passes.0).caller k (holds_of first_calls.now result.1) else entries_for (C.pass_view passes.1).caller k (holds_of second_calls.now result.2)) (λ _. []) ticket result.0.log run) }
-{
-    runs_replay::<O>();
-    holds_are_scripts::<O>();
-    two_callers(rt, cell, passes, first_calls, second_calls)
-}
 
 #[test]
 fn what_two_threads_did_is_replayed(rt: HostRuntime) -> Result<(), Fail> {

@@ -1,42 +1,12 @@
 //! The pool of pages: worked answers, the limits of an opening, and a plain program that answers the same.
 
-ghost use Rattle.std.specs.Prelude.{◌≡◌, ◌<◌, ℕ, Some};
-ghost use Rattle.page_pool.specs.Table.{owner_of};
-ghost use Rattle.page_pool.specs.Answer.{pool_answer};
-ghost use Rattle.page_pool.specs.Owning.{IsLeastFree};
-ghost use Rattle.page_pool.specs.declared.call.PoolCall.TheVariants.{Alloc, Free};
-ghost use Rattle.page_pool.specs.declared.call.PoolReply.TheVariants.{Ok, Page};
-
 mod quotas;
 
 use event_log::{Logged, OpenFault, SeqObject, Step};
-use page_pool::{
-    MOST_PAGES, OWNERS, PagePool, PoolCall as Call, PoolParams, PoolReply as Reply, frees_its_own,
-    gives_the_least, stays_whole,
-};
+use page_pool::{MOST_PAGES, OWNERS, PagePool, PoolCall as Call, PoolParams, PoolReply as Reply};
 use std::alloc::Global;
 use std::process::Abort;
 use std::test::Fail;
-
-/// What the laws say of any pool with its log: which page is given next, and which can be freed.
-fn laws_of(pool: &Logged<PagePool>)
-    ensures gives { (o p : ℕ) → (pool_answer pool.now.state (Alloc o)).1 ≡ Page p → IsLeastFree pool.now.state p }
-    ensures frees { (o p : ℕ) → (pool_answer pool.now.state (Free o p)).1 ≡ Ok → owner_of pool.now.state.owners p ≡ Some o }
-{
-    let _ = pool.log();
-    stays_whole();
-    gives_the_least();
-    frees_its_own();
-}
-
-#[test]
-fn the_laws_are_of_a_logged_pool(rt: HostRuntime) -> Result<(), Fail> {
-    let mut pool = Logged::<PagePool>::open(rt.alloc(), PoolParams::unlimited(3), 10)?;
-    assert_eq!(rt; pool.call(0, &Call::Alloc(2))?, Reply::Page(0));
-    laws_of(&pool);
-    assert_eq!(rt; pool.call(0, &Call::Alloc(2))?, Reply::Page(1));
-    Ok(())
-}
 
 #[test]
 fn worked_answers(rt: HostRuntime) -> Result<(), Fail> {
