@@ -27,6 +27,8 @@ VIEW = ROOT / "crates/view/out/view"
 FOREVER = ROOT / "crates/forever/out/forever"
 # The most CPUs of a cell.
 MOST_CPUS = 64
+# What `rt version` prints of the logic that all is proved in.
+LOGIC = "logic dac8208d650f15bf"
 HOW_TO_BUILD = {
     MC2: "`rt run` in crates/mc2 builds crates/mc2/out/mc2, and so does `rt ci`",
     BENCH: "`rt run` in crates/bench builds crates/bench/out/bench",
@@ -181,11 +183,12 @@ def tell_time(name=TOOL):
         subprocess.Popen(teller, stdin=subprocess.DEVNULL, stdout=subprocess.DEVNULL)
 
 
-def end(main):
-    """Calls the tool's main, and ends the process with its status."""
+def end(main, tells=True):
+    """Calls the tool's main, and ends the process with its status. At a terminal it tells the time meanwhile."""
     try:
         try:
-            tell_time()
+            if tells:
+                tell_time()
             status = main()
         except Stop as stop:
             print(f"{TOOL}: {stop}", file=sys.stderr)
