@@ -1,13 +1,11 @@
-//! Whole records: worked ones, each fault, and records of which one character is changed. Reference objects beside the objects
-//! that they stand for, and the texts of verdicts.
+//! A record for each verdict, judged as lists and while it is read; records of which one character is changed; sources that
+//! fail; and reference objects beside the objects that they stand for.
 
 mod characters;
 mod references;
 mod sources;
-mod verdict_text;
-mod worked;
 
-use auditor::{RecordJudge, ReferenceKernelObject, Verdict, audit};
+use auditor::{RecordJudge, ReferenceKernelObject, Verdict, audit, verdict_line};
 use scripts::{Record, RecordFault, read_text_keeping};
 use std::alloc::Global;
 use std::test::Fail;
@@ -48,19 +46,42 @@ a 1 enq 1 | enq 1 = ok
 end
 ";
 
-/// An entry that asks for more behind the call that was refused.
-pub const REFUSED: &str = "record 2
-cpus 1
-objects 1
-object q ticket 10 queue 8
-log q 2
-0 enq 3 = ok ; enq 3 = already
-0 deq = thread 3
-cpu 0 2
-q 1 enq 3 ; enq 3 ; enq 5 | enq 3 = ok ; enq 3 = already
-q 1 deq | deq = thread 3
-end
-";
+/// The crossed record with one part in place of another, and the line of its verdict.
+static LINES: [(&str, &str, &str); 7] = [
+    ("end", "end", "sound\n"),
+    ("ticket 10", "ticket 1", "unsound: log a: too long\n"),
+    (
+        "log b 2\n0 enq 2 = ok",
+        "log b 2\n0 enq 2 = already",
+        "unsound: log b event 1 step 1: wrong step\n",
+    ),
+    (
+        "| enq 2 = ok",
+        "| noroom",
+        "unsound: cpu 0 entry 1: room was left\n",
+    ),
+    (
+        "b 1 enq 1 | enq 1",
+        "b 1 enq 2 | enq 2",
+        "unsound: cpu 1 entry 1: not its event\n",
+    ),
+    (
+        "b 1 enq 2 |",
+        "b 1 enq 2 ; len |",
+        "unsound: cpu 0 entry 2: not what was asked\n",
+    ),
+    (
+        "cpu 1 2\nb 1 enq 1 | enq 1 = ok\na 1 enq 1 | enq 1 = ok\n",
+        "cpu 1 0\n",
+        "unsound: log a event 1: unclaimed\n",
+    ),
+];
+
+/// The text, of which one part is replaced where it stands first.
+pub fn changed(alloc: Global, text: &str, old: &str, new: &str) -> Result<String, Fail> {
+    let (front, back) = text.split_once(old).ok_or("no such part")?;
+    Ok(format!(in alloc; "{front}{new}{back}")?)
+}
 
 /// The verdict of a judge that reads the bytes, if they spell a record.
 fn judged(alloc: Global, text: &[u8]) -> Result<Option<Verdict>, Fail> {
@@ -83,4 +104,16 @@ pub fn verdict_on(alloc: Global, text: &[u8]) -> Result<Option<Verdict>, Fail> {
         return Err(Fail::new("a judge that reads says otherwise"));
     }
     Ok(verdict)
+}
+
+#[test]
+fn a_line_for_each_verdict(rt: HostRuntime) -> Result<(), Fail> {
+    for (old, new, wanted) in LINES {
+        let text = changed(rt.alloc(), CROSSED, old, new)?;
+        let verdict = verdict_on(rt.alloc(), text.as_bytes())?.ok_or("no record")?;
+        let record = Record::read(rt.alloc(), text.as_bytes())?;
+        let line = verdict_line(rt.alloc(), record.settings(), verdict)?;
+        assert_eq!(rt; line.as_str(), wanted);
+    }
+    Ok(())
 }

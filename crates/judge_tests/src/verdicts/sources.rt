@@ -51,18 +51,6 @@ fn pieces_of_each_size(rt: HostRuntime) -> Result<(), Fail> {
     Ok(())
 }
 
-/// The record stops before its last line.
-#[test]
-fn without_its_end(rt: HostRuntime) -> Result<(), Fail> {
-    let text = IN_AND_OUT.strip_suffix("end\n").ok_or("another end")?;
-    let mut source = in_pieces(text, 16, 99);
-    assert_eq!(rt;
-        audit_text(rt.alloc(), &mut source),
-        Err(TextFault::BadLine(12))
-    );
-    Ok(())
-}
-
 /// Each call in turn fails, and no verdict comes in place of that.
 #[test]
 fn a_call_fails(rt: HostRuntime) -> Result<(), Fail> {
