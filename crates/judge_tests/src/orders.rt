@@ -7,29 +7,11 @@ use log_merge::{MergeFault, Place, merge, write_merged};
 use scripts::Record;
 use std::test::Fail;
 
-/// An owner of pages asks for two on either CPU, and may have one.
-const OVER_QUOTA: &str = "record 2
-cpus 2
-objects 1
-object p mcs 9 pool 3 3 1 3 3 3 3 3 3 3 3 3 3 3 3 3 3
-log p 4
-1 alloc 1 = page 0
-0 alloc 1 = overquota
-1 free 1 0 = ok
-0 alloc 1 = page 0 ; alloc 1 = overquota
-cpu 0 2
-p 1 alloc 1 ; left | alloc 1 = overquota
-p 0 alloc 1 ; alloc 1 ; left | alloc 1 = page 0 ; alloc 1 = overquota
-cpu 1 2
-p 0 alloc 1 | alloc 1 = page 0
-p 1 free 1 0 | free 1 0 = ok
-end
-";
-
-const IN_ORDER: &str = "1 p alloc 1 = page 0
-0 p alloc 1 = overquota
-1 p free 1 0 = ok
-0 p alloc 1 = page 0 ; alloc 1 = overquota
+/// The crossed record once CPU 1 asks for the same objects in the other order.
+const IN_ORDER: &str = "1 a enq 1 = ok
+0 a enq 2 = ok
+0 b enq 2 = ok
+1 b enq 1 = ok
 ";
 
 #[test]
@@ -47,10 +29,11 @@ fn two_cpus_crossed(rt: HostRuntime) -> Result<(), Fail> {
 fn an_unsound_record(rt: HostRuntime) -> Result<(), Fail> {
     let text = changed(rt.alloc(), IN_AND_OUT, "= thread 3", "= thread 4")?;
     let record = Record::read(rt.alloc(), text.as_bytes())?;
+    let (object, event, step) = (0, 1, 0);
     let wanted = Fault::WrongStep {
-        object: 0,
-        event: 1,
-        step: 0,
+        object,
+        event,
+        step,
     };
     let answer = merge(rt.alloc(), &record);
     assert!(rt; matches!(answer, Err(MergeFault::Unsound(fault)) if fault == wanted));
@@ -86,7 +69,10 @@ impl Sink for Failing {
 /// An order that is written as a whole, or up to the call that fails.
 #[test]
 fn failing_sinks(rt: HostRuntime) -> Result<(), Fail> {
-    let record = Record::read(rt.alloc(), OVER_QUOTA.as_bytes())?;
+    let old = "b 1 enq 1 | enq 1 = ok\na 1 enq 1 | enq 1 = ok";
+    let new = "a 1 enq 1 | enq 1 = ok\nb 1 enq 1 | enq 1 = ok";
+    let text = changed(rt.alloc(), CROSSED, old, new)?;
+    let record = Record::read(rt.alloc(), text.as_bytes())?;
     let merged = merge(rt.alloc(), &record)?;
     for calls_left in 0..IN_ORDER.len().div_ceil(7) + 2 {
         let mut out = Failing {

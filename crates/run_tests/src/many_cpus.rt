@@ -14,8 +14,8 @@ const OBJECTS: usize = 16;
 /// The locks, which alternate.
 static LOCKS: [&str; 2] = ["ticket", "mcs"];
 
-/// Each kind, and a pool without quotas too: what it is opened with, and what is asked of it. Some of it is refused.
-static KINDS: [(&str, &str, [&str; 8]); 5] = [
+/// Each kind, and a pool without quotas too: what it is opened with, and eight things that are asked of it.
+static KINDS: [(&str, &str, &str); 5] = [
     ("queue", "threads = 8", QUEUE),
     ("pool", "pages = 4", POOL),
     (
@@ -27,49 +27,18 @@ static KINDS: [(&str, &str, [&str; 8]); 5] = [
     ("sched", "threads = 8\nchannels = 2", SCHED),
 ];
 
-const QUEUE: [&str; 8] = [
-    "enq 1",
-    "enq 2 ; enq 3 ; len",
-    "deq",
-    "remove 3",
-    "enq 8",
-    "enq 4 ; enq 4 ; deq",
-    "deq ; deq ; deq",
-    "alloc 1",
-];
+// Some of it is refused, and some is for another kind.
+const QUEUE: &str =
+    "enq 1, enq 2 ; enq 3 ; len, deq, remove 3, enq 8, enq 4 ; enq 4 ; deq, deq ; deq ; deq, alloc 1";
 
-const POOL: [&str; 8] = [
-    "alloc 1",
-    "alloc 2 ; alloc 3 ; left",
-    "free 1 0",
-    "left",
-    "free 2 4",
-    "alloc 16 ; left",
-    "free 1 1 ; free 1 2",
-    "deq",
-];
+const POOL: &str =
+    "alloc 1, alloc 2 ; alloc 3 ; left, free 1 0, left, free 2 4, alloc 16 ; left, free 1 1 ; free 1 2, deq";
 
-const CONSOLE: [&str; 8] = [
-    "put 65",
-    "put 66 ; put 67 ; put 68 ; level",
-    "get",
-    "level",
-    "get ; get",
-    "put 0 ; get",
-    "get ; get ; get ; get ; get",
-    "next",
-];
+const CONSOLE: &str =
+    "put 65, put 66 ; put 67 ; put 68 ; level, get, level, get ; get, put 0 ; get, get ; get ; get ; get ; get, next";
 
-const SCHED: [&str; 8] = [
-    "ready 1",
-    "sleep 0 2 ; sleep 1 3 ; ready 2",
-    "next",
-    "wake 0",
-    "wakeall 1",
-    "sleep 2 1 ; next",
-    "next ; next ; next",
-    "get",
-];
+const SCHED: &str =
+    "ready 1, sleep 0 2 ; sleep 1 3 ; ready 2, next, wake 0, wakeall 1, sleep 2 1 ; next, next ; next ; next, get";
 
 /// The objects: the locks are the other way round if `turned` is 1. The logs of some have room for so many events.
 fn settings_of(alloc: Global, cpus: u8, few: u32, turned: usize) -> Result<Settings, Fail> {
@@ -96,15 +65,13 @@ fn scripts_of(
 ) -> Result<Scripts, Fail> {
     let mut text = String::new(alloc);
     for cpu in 0..cpus {
+        let first = cpu as usize;
         for index in 0..entries {
-            let turn = index + cpu as usize;
-            let place = turn % OBJECTS;
+            let place = (index + first) % OBJECTS;
             let (_, _, asked) = &KINDS[place % 5];
-            writeln!(
-                text,
-                "{cpu} o{place} {}",
-                asked[(index / OBJECTS + cpu as usize) % 8]
-            )?;
+            let turn = (index / OBJECTS + first) % 8;
+            let calls = asked.split(", ").nth(turn).ok_or("nothing is asked")?;
+            writeln!(text, "{cpu} o{place} {calls}")?;
         }
     }
     Ok(Scripts::read(alloc, text.as_bytes(), settings)?)

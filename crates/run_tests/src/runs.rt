@@ -7,7 +7,7 @@ mod starters;
 
 use event_log::Plain;
 use scripts::{Record, write_record};
-use std::alloc::Global;
+use std::alloc::{AllocError, Global};
 use std::test::Fail;
 
 /// What is written of the record.
@@ -18,8 +18,8 @@ pub fn written(alloc: Global, record: &Record) -> Result<Vec<u8>, Fail> {
 }
 
 /// A queue behind that lock, which so many CPUs call.
-fn one_queue(alloc: Global, cpus: u8, lock: &str, events: u32) -> Result<String, Fail> {
-    Ok(format!(in alloc;
+fn one_queue(alloc: Global, cpus: u8, lock: &str, events: u32) -> Result<String, AllocError> {
+    format!(in alloc;
         "cpus = {cpus}\n[[object]]\nname = \"q0\"\nkind = \"queue\"\nlock = \"{lock}\"\nevents = {events}\nthreads = 8\n"
-    )?)
+    )
 }

@@ -100,16 +100,11 @@ fn answers_as_the_objects(rt: HostRuntime) -> Result<(), Fail> {
     let queues = [1, 7, 1024].map(KParams::Queue);
     let consoles = [1, 6, 4096].map(KParams::Console);
     let pools = [1, 5, 4096].map(|pages| pool(pages, [pages; 16]));
-    let quotas = [
-        pool(1, [0; 16]),
-        pool(5, [1; 16]),
-        pool(40, [3; 16]),
-        pool(40, each_another),
-        pool(40, one_alone),
-        pool(4096, each_another),
-    ];
+    let alike = [(1, 0), (5, 1), (40, 3)].map(|(pages, quota)| pool(pages, [quota; 16]));
+    let other = [(40, each_another), (40, one_alone), (4096, each_another)];
+    let other = other.map(|(pages, quotas)| pool(pages, quotas));
     let scheds = [sched(1, 1), sched(7, 3), sched(3, 64), sched(1024, 64)];
-    for rows in [&queues[..], &consoles, &pools, &quotas, &scheds] {
+    for rows in [&queues[..], &consoles, &pools, &alike, &other, &scheds] {
         for params in rows {
             assert!(rt; agree(rt.alloc(), *params, 5000)?, "{params:?}");
         }

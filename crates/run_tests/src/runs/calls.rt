@@ -30,12 +30,19 @@ impl Calls {
         }
     }
 
-    /// Whether each CPU has called before so many entries, and after as many, each time in its turn.
-    pub fn are(&self, wanted: &[usize; 4]) -> bool {
-        let are_so_many = self.calls.iter().zip(wanted.iter()).all(|(calls, wanted)| calls.load(
-            Ordering::SeqCst,
-        ) == 2 * *wanted);
-        are_so_many && self.faults.load(Ordering::SeqCst) == 0
+    /// Whether each CPU below that one has called before so many entries and after each, every time in its turn, and no other
+    /// CPU has called.
+    pub fn are_below(&self, cpu: u8, entries: &[usize; 4]) -> bool {
+        let mut are_right = self.faults.load(Ordering::SeqCst) == 0;
+        for (other, calls) in self.calls.iter().enumerate() {
+            let wanted = if other < cpu as usize {
+                2 * entries[other]
+            } else {
+                0
+            };
+            are_right = are_right && calls.load(Ordering::SeqCst) == wanted;
+        }
+        are_right
     }
 }
 

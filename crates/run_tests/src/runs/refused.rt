@@ -2,6 +2,7 @@
 //! each thread, refused in turn: what isn't refused is as ever, and so is the next time after what is.
 
 use super::calls::Calls;
+use super::one_queue;
 use cpu_worker::{AlwaysAllowed, RunFault, report, run_with, simulate};
 use event_log::{OutOfMemory, Plain};
 use scripts::{Record, Schedule, Scripts, Settings, write_record};
@@ -32,31 +33,12 @@ fn has_text(alloc: Global, record: &Record, text: &str) -> Result<bool, Fail> {
 }
 
 const FOUR_CPUS: &str = r#"cpus = 4
-[[object]]
-name = "q0"
-kind = "queue"
-lock = "ticket"
-events = 100
-threads = 8
-[[object]]
-name = "p0"
-kind = "pool"
-lock = "mcs"
-events = 1
-pages = 3
-[[object]]
-name = "c0"
-kind = "console"
-lock = "ticket"
-events = 100
-bytes = 1
-[[object]]
-name = "s0"
-kind = "sched"
-lock = "mcs"
-events = 100
-threads = 8
-channels = 1
+object = [
+    { name = "q0", kind = "queue", lock = "ticket", events = 100, threads = 8 },
+    { name = "p0", kind = "pool", lock = "mcs", events = 1, pages = 3 },
+    { name = "c0", kind = "console", lock = "ticket", events = 100, bytes = 1 },
+    { name = "s0", kind = "sched", lock = "mcs", events = 100, threads = 8, channels = 1 },
+]
 "#;
 
 /// Each CPU has an object of its own, so each run has the same record.
@@ -100,16 +82,8 @@ s0 0 next | next = empty
 end
 ";
 
-/// How often each CPU calls the gate, on either side of its entries, if the CPUs below that one are started.
-fn calls_below(cpu: u8) -> [usize; 4] {
-    match cpu {
-        0 => [0, 0, 0, 0],
-        1 => [1, 0, 0, 0],
-        2 => [1, 2, 0, 0],
-        3 => [1, 2, 1, 0],
-        _ => [1, 2, 1, 3],
-    }
-}
+/// How many entries each CPU has.
+const ENTRIES: [usize; 4] = [1, 2, 1, 3];
 
 /// Whether a run was refused memory or a thread. Without memory no worker has begun; without a thread those of the CPUs below
 /// have ended. Where nothing was refused it ends with its record, each CPU having called the gate at each entry.
@@ -123,10 +97,10 @@ fn is_refused<R: Threads + Wait + Sync + AllocGlobal>(
     let (refused, right) = match run {
         Ok(record) => (
             false,
-            has_text(rt.alloc(), &record, OF_FOUR_CPUS)? && calls.are(&calls_below(4)),
+            has_text(rt.alloc(), &record, OF_FOUR_CPUS)? && calls.are_below(4, &ENTRIES),
         ),
-        Err(RunFault::OutOfMemory) => (true, calls.are(&calls_below(0))),
-        Err(RunFault::NoThreadStarted(cpu)) => { (true, cpu < 4 && calls.are(&calls_below(cpu))) }
+        Err(RunFault::OutOfMemory) => (true, calls.are_below(0, &ENTRIES)),
+        Err(RunFault::NoThreadStarted(cpu)) => (true, cpu < 4 && calls.are_below(cpu, &ENTRIES)),
     };
     if right {
         Ok(refused)
@@ -146,15 +120,6 @@ fn a_run_without_memory(rt: HostRuntime) -> Result<(), Fail> {
     Ok(())
 }
 
-const TWO_CPUS: &str = r#"cpus = 2
-[[object]]
-name = "q0"
-kind = "queue"
-lock = "ticket"
-events = 100
-threads = 8
-"#;
-
 const OF_TWO_CPUS: &str = "record 2
 cpus 2
 objects 1
@@ -172,7 +137,8 @@ end
 #[test]
 fn a_simulation_without_memory(rt: HostRuntime) -> Result<(), Fail> {
     let alloc = rt.alloc();
-    let settings = again(|| Settings::read(alloc, TWO_CPUS.as_bytes()))?;
+    let text = again(|| one_queue(alloc, 2, "ticket", 100))?;
+    let settings = again(|| Settings::read(alloc, text.as_bytes()))?;
     let scripts = again(|| Scripts::read(alloc, b"0 q0 enq 3\n1 q0 enq 4\n", &settings))?;
     let schedule = again(|| Schedule::read(alloc, b"0 1 1 1 0 0 1 1", &settings))?;
     let record = again(|| simulate(alloc, &settings, &scripts, &schedule))?;

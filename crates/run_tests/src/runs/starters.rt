@@ -37,8 +37,7 @@ fn fault<S: Starter, R: Threads + Wait + Sync + AllocGlobal>(
     let scripts = Scripts::read(rt.alloc(), scripts.as_bytes(), &settings)?;
     let calls = Calls::none();
     let run = run_with(rt, rt.alloc(), &settings, &scripts, &calls, starter);
-    let wanted = [0, 1, 2, 3].map(|cpu| (cpu < started) as usize);
-    Ok((run.err(), calls.are(&wanted)))
+    Ok((run.err(), calls.are_below(started, &[1; 4])))
 }
 
 // The CPUs behind it aren't started, and the workers before it have ended their scripts.
