@@ -1,4 +1,4 @@
-//! Tests of `auditor` and `log_merge`: verdicts on records, and their orders.
+//! Tests of `auditor` and `log_merge`: verdicts on records, and their orders, by calls on the libraries.
 #![tactic(auto)]
 
 #[cfg(test)]

@@ -3,6 +3,7 @@
 use super::{CROSSED, IN_AND_OUT};
 use auditor::{TextFault, Verdict, audit_text};
 use event_log::{Source, StreamFailed};
+use std::alloc::Global;
 use std::test::Fail;
 
 /// A source that gives a text in pieces of so many bytes, and fails at one call more than it is allowed.
@@ -31,35 +32,23 @@ impl Source for Pieces<'_> {
     }
 }
 
-/// The text in pieces of so many bytes, with so many calls.
-fn in_pieces(text: &str, size: usize, calls_left: usize) -> Pieces<'_> {
-    Pieces {
+/// What is said of the text in pieces of so many bytes, with so many calls.
+fn told(alloc: Global, text: &str, size: usize, calls_left: usize) -> Result<Verdict, TextFault> {
+    let mut source = Pieces {
         rest: text.as_bytes(),
         size,
         calls_left,
         failed: 0,
-    }
+    };
+    audit_text(alloc, &mut source)
 }
 
 #[test]
 fn pieces_of_each_size(rt: HostRuntime) -> Result<(), Fail> {
     for size in 1..=CROSSED.len() {
-        let mut source = in_pieces(CROSSED, size, CROSSED.len() + 1);
-        let verdict = audit_text(rt.alloc(), &mut source);
+        let verdict = told(rt.alloc(), CROSSED, size, CROSSED.len() + 1);
         assert_eq!(rt; verdict, Ok(Verdict::Sound), "{size} bytes");
     }
-    Ok(())
-}
-
-/// The record stops before its last line.
-#[test]
-fn without_its_end(rt: HostRuntime) -> Result<(), Fail> {
-    let text = IN_AND_OUT.strip_suffix("end\n").ok_or("another end")?;
-    let mut source = in_pieces(text, 16, 99);
-    assert_eq!(rt;
-        audit_text(rt.alloc(), &mut source),
-        Err(TextFault::BadLine(12))
-    );
     Ok(())
 }
 
@@ -67,8 +56,7 @@ fn without_its_end(rt: HostRuntime) -> Result<(), Fail> {
 #[test]
 fn a_call_fails(rt: HostRuntime) -> Result<(), Fail> {
     for calls in 0..8 {
-        let mut source = in_pieces(IN_AND_OUT, 20, calls);
-        let verdict = audit_text(rt.alloc(), &mut source);
+        let verdict = told(rt.alloc(), IN_AND_OUT, 20, calls);
         assert_eq!(rt; verdict, Err(TextFault::ReadFailed), "{calls} calls");
     }
     Ok(())

@@ -3,57 +3,55 @@
 use cpu_worker::Gate;
 use std::sync::atomic::{AtomicUsize, Ordering};
 
-/// How often each of four CPUs has called, before its entries and after them.
+/// How often each of four CPUs has called, and how many calls came out of turn: each CPU is to call before each entry and
+/// after it, in their order.
 #[derive(Drop)]
 pub struct Calls {
-    before: [AtomicUsize; 4],
-    after: [AtomicUsize; 4],
-}
-
-fn zeros() -> [AtomicUsize; 4] {
-    [
-        AtomicUsize::new(0),
-        AtomicUsize::new(0),
-        AtomicUsize::new(0),
-        AtomicUsize::new(0),
-    ]
-}
-
-fn count(calls: &[AtomicUsize; 4], cpu: u8) {
-    if let Some(calls) = calls.get(cpu as usize) {
-        calls.fetch_add(1, Ordering::SeqCst);
-    }
-}
-
-fn are(calls: &[AtomicUsize; 4], wanted: &[usize; 4]) -> bool {
-    calls
-        .iter()
-        .zip(wanted.iter())
-        .all(|(calls, wanted)| calls.load(Ordering::SeqCst) == *wanted)
+    calls: [AtomicUsize; 4],
+    faults: AtomicUsize,
 }
 
 impl Calls {
     pub fn none() -> Calls {
         Calls {
-            before: zeros(),
-            after: zeros(),
+            calls: [
+                AtomicUsize::new(0),
+                AtomicUsize::new(0),
+                AtomicUsize::new(0),
+                AtomicUsize::new(0),
+            ],
+            faults: AtomicUsize::new(0),
         }
     }
 
-    /// Whether each CPU has called so often before its entries, and as often after them.
-    pub fn are(&self, wanted: &[usize; 4]) -> bool {
-        are(&self.before, wanted) && are(&self.after, wanted)
+    fn call(&self, cpu: u8, turn: usize) {
+        if self.calls[cpu as usize].fetch_add(1, Ordering::SeqCst) != turn {
+            self.faults.fetch_add(1, Ordering::SeqCst);
+        }
+    }
+
+    /// Whether each CPU below that one has called before so many entries and after each, every time in its turn, and no other
+    /// CPU has called.
+    pub fn are_below(&self, cpu: u8, entries: &[usize; 4]) -> bool {
+        let mut are_right = self.faults.load(Ordering::SeqCst) == 0;
+        for (other, calls) in self.calls.iter().enumerate() {
+            let wanted = if other < cpu as usize {
+                2 * entries[other]
+            } else {
+                0
+            };
+            are_right = are_right && calls.load(Ordering::SeqCst) == wanted;
+        }
+        are_right
     }
 }
 
 impl Gate for Calls {
     fn before(&self, cpu: u8, index: u32) {
-        let _ = index;
-        count(&self.before, cpu);
+        self.call(cpu, 2 * index as usize);
     }
 
     fn after(&self, cpu: u8, index: u32) {
-        let _ = index;
-        count(&self.after, cpu);
+        self.call(cpu, 2 * index as usize + 1);
     }
 }

@@ -1,7 +1,9 @@
 //! What gates see of workers: that two of them run at the same time, and when a gate is called.
 
-use super::{run_texts, written};
-use cpu_worker::Gate;
+use super::calls::Calls;
+use super::{one_queue, written};
+use cpu_worker::{Gate, run};
+use scripts::{Record, Scripts, Settings};
 use std::sync::Wait;
 use std::sync::atomic::{AtomicBool, AtomicUsize, Ordering};
 use std::test::Fail;
@@ -22,216 +24,121 @@ fn comes(there: &AtomicBool) -> bool {
     false
 }
 
-/// Where each of two CPUs looks for the other before its first entry.
+/// A call of a gate: before that entry of the CPU, or after it.
+#[derive(Clone, Copy, PartialEq, Eq, Drop)]
+enum At {
+    Before(u8, u32),
+    After(u8, u32),
+}
+
+/// A gate for two CPUs, each of which tells at one call that it is there, and waits at one until the other is.
 #[derive(Drop)]
 struct Meeting {
-    zero_is_there: AtomicBool,
-    one_is_there: AtomicBool,
-    zero_saw_one: AtomicBool,
-    one_saw_zero: AtomicBool,
+    tells: [At; 2],
+    waits: [At; 2],
+    is_there: [AtomicBool; 2],
+    missed: AtomicUsize,
 }
 
 impl Meeting {
-    fn new() -> Meeting {
+    fn new(tells: [At; 2], waits: [At; 2]) -> Meeting {
         Meeting {
-            zero_is_there: AtomicBool::new(false),
-            one_is_there: AtomicBool::new(false),
-            zero_saw_one: AtomicBool::new(false),
-            one_saw_zero: AtomicBool::new(false),
+            tells,
+            waits,
+            is_there: [AtomicBool::new(false), AtomicBool::new(false)],
+            missed: AtomicUsize::new(0),
         }
     }
-}
 
-/// Shows that a CPU is there and looks for the other, until it sees it or has looked for it often enough.
-fn look_for_other(own: &AtomicBool, other: &AtomicBool, seen: &AtomicBool) {
-    own.store(true, Ordering::SeqCst);
-    if comes(other) {
-        seen.store(true, Ordering::SeqCst);
+    fn call(&self, cpu: usize, at: At) {
+        if self.tells[cpu] == at {
+            self.is_there[cpu].store(true, Ordering::SeqCst);
+        }
+        if self.waits[cpu] == at && !comes(&self.is_there[1 - cpu]) {
+            self.missed.fetch_add(1, Ordering::SeqCst);
+        }
     }
 }
 
 impl Gate for Meeting {
     fn before(&self, cpu: u8, index: u32) {
-        match (cpu, index) {
-            (0, 0) => look_for_other(&self.zero_is_there, &self.one_is_there, &self.zero_saw_one),
-            (1, 0) => look_for_other(&self.one_is_there, &self.zero_is_there, &self.one_saw_zero),
-            _ => {}
-        }
+        self.call(cpu as usize, At::Before(cpu, index));
     }
 
     fn after(&self, cpu: u8, index: u32) {
-        let _ = (cpu, index);
+        self.call(cpu as usize, At::After(cpu, index));
     }
 }
 
-const TWO_CPUS_TICKET: &str = r#"cpus = 2
-[[object]]
-name = "q0"
-kind = "queue"
-lock = "ticket"
-events = 100
-threads = 8
-"#;
+/// The record of the scripts' run on a queue.
+fn run_on_queue<G: Gate + Sync, R: Threads + Wait + Sync + AllocGlobal>(
+    rt: &R,
+    settings: &str,
+    scripts: &str,
+    gate: &G,
+) -> Result<Record, Fail> {
+    let settings = Settings::read(rt.alloc(), settings.as_bytes())?;
+    let scripts = Scripts::read(rt.alloc(), scripts.as_bytes(), &settings)?;
+    Ok(run(rt, rt.alloc(), &settings, &scripts, gate)?)
+}
 
-const TWO_CPUS_MCS: &str = r#"cpus = 2
-[[object]]
-name = "q0"
-kind = "queue"
-lock = "mcs"
-events = 100
-threads = 8
-"#;
+/// Whether the CPUs meet behind either lock, CPU 0 with one entry and CPU 1 with two, and the record has these lines.
+fn meet<R: Threads + Wait + Sync + AllocGlobal>(
+    rt: &R,
+    tells: [At; 2],
+    waits: [At; 2],
+    lines: &str,
+) -> Result<bool, Fail> {
+    for lock in ["ticket", "mcs"] {
+        let settings = one_queue(rt.alloc(), 2, lock, 100)?;
+        let meeting = Meeting::new(tells, waits);
+        let scripts = "0 q0 enq 3\n1 q0 enq 4\n1 q0 enq 5\n";
+        let record = run_on_queue(rt, settings.as_str(), scripts, &meeting)?;
+        let text = String::from_utf8(written(rt.alloc(), &record)?)?;
+        if meeting.missed.load(Ordering::SeqCst) > 0 || !text.contains(lines) {
+            return Ok(false);
+        }
+    }
+    Ok(true)
+}
 
 // A worker that began only where the other had ended would never see it.
 #[test]
 fn workers_run_at_the_same_time(rt: HostRuntime) -> Result<(), Fail> {
-    for settings in [TWO_CPUS_TICKET, TWO_CPUS_MCS] {
-        let meeting = Meeting::new();
-        run_texts(&rt, settings, "0 q0 enq 3\n1 q0 enq 4\n", &meeting)?;
-        assert!(rt; meeting.zero_saw_one.load(Ordering::SeqCst));
-        assert!(rt; meeting.one_saw_zero.load(Ordering::SeqCst));
-    }
+    let both = [At::Before(0, 0), At::Before(1, 0)];
+    assert!(rt; meet(&rt, both, both, "log q0 3\n")?);
     Ok(())
 }
 
-/// Counts its calls, which are CPU 0's, before and after each entry in their order, and those that aren't.
-#[derive(Drop)]
-struct Counting {
-    calls: AtomicUsize,
-    faults: AtomicUsize,
+// CPU 1 begins once CPU 0 is behind its entry, and CPU 0 ends once CPU 1 is before its second. Were an entry done after both
+// calls, CPU 0's would come behind CPU 1's first.
+#[test]
+fn an_entry_is_done_before_the_second_call(rt: HostRuntime) -> Result<(), Fail> {
+    let lines = "log q0 3\n0 enq 3 = ok\n1 enq 4 = ok\n1 enq 5 = ok\ncpu 0 1\n";
+    let tells = [At::After(0, 0), At::Before(1, 1)];
+    let waits = [At::After(0, 0), At::Before(1, 0)];
+    assert!(rt; meet(&rt, tells, waits, lines)?);
+    Ok(())
 }
 
-impl Counting {
-    fn call(&self, cpu: u8, wanted: usize) {
-        let calls = self.calls.fetch_add(1, Ordering::SeqCst);
-        if cpu != 0 || calls != wanted {
-            self.faults.fetch_add(1, Ordering::SeqCst);
-        }
-    }
+// CPU 1 goes on to its second entry once CPU 0 is before its own, and CPU 0 goes on once CPU 1 has ended. Were an entry done
+// before both calls, CPU 0's would come ahead of CPU 1's second.
+#[test]
+fn an_entry_is_done_behind_the_first_call(rt: HostRuntime) -> Result<(), Fail> {
+    let lines = "log q0 3\n1 enq 4 = ok\n1 enq 5 = ok\n0 enq 3 = ok\ncpu 0 1\n";
+    let tells = [At::Before(0, 0), At::After(1, 1)];
+    let waits = [At::Before(0, 0), At::After(1, 0)];
+    assert!(rt; meet(&rt, tells, waits, lines)?);
+    Ok(())
 }
-
-impl Gate for Counting {
-    fn before(&self, cpu: u8, index: u32) {
-        self.call(cpu, 2 * index as usize);
-    }
-
-    fn after(&self, cpu: u8, index: u32) {
-        self.call(cpu, 2 * index as usize + 1);
-    }
-}
-
-const ONE_CPU: &str = r#"cpus = 1
-[[object]]
-name = "q0"
-kind = "queue"
-lock = "ticket"
-events = 3
-threads = 8
-"#;
 
 // An entry that finds the log full has its calls too.
 #[test]
 fn gates_before_and_after(rt: HostRuntime) -> Result<(), Fail> {
+    let settings = one_queue(rt.alloc(), 1, "ticket", 3)?;
     let scripts = "0 q0 enq 3\n0 q0 enq 3\n0 q0 deq\n0 q0 len\n0 q0 deq\n";
-    let counting = Counting {
-        calls: AtomicUsize::new(0),
-        faults: AtomicUsize::new(0),
-    };
-    run_texts(&rt, ONE_CPU, scripts, &counting)?;
-    assert_eq!(rt; counting.calls.load(Ordering::SeqCst), 10);
-    assert_eq!(rt; counting.faults.load(Ordering::SeqCst), 0);
-    Ok(())
-}
-
-/// Whether the log is one entry of CPU 0 and two of CPU 1, in the order of these lines.
-fn has_log<R: Threads + Wait + Sync + AllocGlobal, G: Gate + Sync>(
-    rt: &R,
-    settings: &str,
-    gate: &G,
-    log: &str,
-) -> Result<bool, Fail> {
-    let scripts = "0 q0 enq 3\n1 q0 enq 4\n1 q0 enq 5\n";
-    let record = run_texts(rt, settings, scripts, gate)?;
-    let text = String::from_utf8(written(rt.alloc(), &record)?)?;
-    Ok(text.contains(log))
-}
-
-/// CPU 1 begins once CPU 0 is behind its entry, and CPU 0 ends once CPU 1 is before its second.
-#[derive(Drop)]
-struct Behind {
-    zero_is_behind: AtomicBool,
-    one_goes_on: AtomicBool,
-}
-
-impl Gate for Behind {
-    fn before(&self, cpu: u8, index: u32) {
-        match (cpu, index) {
-            (1, 0) => {
-                let _ = comes(&self.zero_is_behind);
-            }
-            (1, 1) => self.one_goes_on.store(true, Ordering::SeqCst),
-            _ => {}
-        }
-    }
-
-    fn after(&self, cpu: u8, index: u32) {
-        if (cpu, index) == (0, 0) {
-            self.zero_is_behind.store(true, Ordering::SeqCst);
-            let _ = comes(&self.one_goes_on);
-        }
-    }
-}
-
-// Were an entry done after both calls, CPU 0's would come behind CPU 1's first.
-#[test]
-fn an_entry_is_done_before_the_second_call(rt: HostRuntime) -> Result<(), Fail> {
-    for settings in [TWO_CPUS_TICKET, TWO_CPUS_MCS] {
-        let gate = Behind {
-            zero_is_behind: AtomicBool::new(false),
-            one_goes_on: AtomicBool::new(false),
-        };
-        let log = "log q0 3\n0 enq 3 = ok\n1 enq 4 = ok\n1 enq 5 = ok\ncpu 0 1\n";
-        assert!(rt; has_log(&rt, settings, &gate, log)?);
-    }
-    Ok(())
-}
-
-/// CPU 1 goes on to its second entry once CPU 0 is before its own, and CPU 0 goes on once CPU 1 has ended.
-#[derive(Drop)]
-struct Ahead {
-    zero_is_before: AtomicBool,
-    one_has_ended: AtomicBool,
-}
-
-impl Gate for Ahead {
-    fn before(&self, cpu: u8, index: u32) {
-        if (cpu, index) == (0, 0) {
-            self.zero_is_before.store(true, Ordering::SeqCst);
-            let _ = comes(&self.one_has_ended);
-        }
-    }
-
-    fn after(&self, cpu: u8, index: u32) {
-        match (cpu, index) {
-            (1, 0) => {
-                let _ = comes(&self.zero_is_before);
-            }
-            (1, 1) => self.one_has_ended.store(true, Ordering::SeqCst),
-            _ => {}
-        }
-    }
-}
-
-// Were an entry done before both calls, CPU 0's would come ahead of CPU 1's second.
-#[test]
-fn an_entry_is_done_behind_the_first_call(rt: HostRuntime) -> Result<(), Fail> {
-    for settings in [TWO_CPUS_TICKET, TWO_CPUS_MCS] {
-        let gate = Ahead {
-            zero_is_before: AtomicBool::new(false),
-            one_has_ended: AtomicBool::new(false),
-        };
-        let log = "log q0 3\n1 enq 4 = ok\n1 enq 5 = ok\n0 enq 3 = ok\ncpu 0 1\n";
-        assert!(rt; has_log(&rt, settings, &gate, log)?);
-    }
+    let calls = Calls::none();
+    run_on_queue(&rt, settings.as_str(), scripts, &calls)?;
+    assert!(rt; calls.are_below(1, &[5; 4]));
     Ok(())
 }

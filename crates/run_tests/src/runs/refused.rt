@@ -1,11 +1,8 @@
 //! Runs, simulations and reports for which memory or a thread is refused. Each test is to be run with each allocation, and
 //! each thread, refused in turn: what isn't refused is as ever, and so is the next time after what is.
 
-ghost use Rattle.std.specs.Prelude.{◌≡◌, ◌<◌, length, IfOk};
-ghost use Rattle.std.specs.List.{AllByRecursion};
-ghost use Rattle.scripts.specs.ScriptText.{ScriptsFit};
-
 use super::calls::Calls;
+use super::one_queue;
 use cpu_worker::{AlwaysAllowed, RunFault, report, run_with, simulate};
 use event_log::{OutOfMemory, Plain};
 use scripts::{Record, Schedule, Scripts, Settings, write_record};
@@ -14,31 +11,14 @@ use std::sync::Wait;
 use std::test::Fail;
 use std::thread::Threads;
 
-/// The settings, read once more if that was refused.
-fn settings_of(alloc: Global, text: &str) -> Result<Settings, Fail> {
-    match Settings::read(alloc, text.as_bytes()) {
-        Ok(settings) => Ok(settings),
-        Err(_) => Ok(Settings::read(alloc, text.as_bytes())?),
-    }
-}
-
-/// The scripts, read once more if that was refused.
-fn scripts_of(alloc: Global, text: &str, settings: &Settings) -> Result<Scripts, Fail>
-    ensures { IfOk result (λ s. ScriptsFit settings.now.cpus (length settings.now.objects) s) }
+/// What the call answers, which is made once more if it was refused.
+fn again<T: Drop, E: Drop, F: FnMut() -> Result<T, E>>(mut call: F) -> Result<T, Fail>
+where
+    Fail: From<E>,
 {
-    match Scripts::read(alloc, text.as_bytes(), settings) {
-        Ok(scripts) => Ok(scripts),
-        Err(_) => Ok(Scripts::read(alloc, text.as_bytes(), settings)?),
-    }
-}
-
-/// The schedule, read once more if that was refused.
-fn schedule_of(alloc: Global, text: &str, settings: &Settings) -> Result<Schedule, Fail>
-    ensures { IfOk result (λ s. AllByRecursion (λ cpu. cpu < settings.now.cpus) s) }
-{
-    match Schedule::read(alloc, text.as_bytes(), settings) {
-        Ok(schedule) => Ok(schedule),
-        Err(_) => Ok(Schedule::read(alloc, text.as_bytes(), settings)?),
+    match call() {
+        Ok(answer) => Ok(answer),
+        Err(_) => Ok(call()?),
     }
 }
 
@@ -53,31 +33,12 @@ fn has_text(alloc: Global, record: &Record, text: &str) -> Result<bool, Fail> {
 }
 
 const FOUR_CPUS: &str = r#"cpus = 4
-[[object]]
-name = "q0"
-kind = "queue"
-lock = "ticket"
-events = 100
-threads = 8
-[[object]]
-name = "p0"
-kind = "pool"
-lock = "mcs"
-events = 1
-pages = 3
-[[object]]
-name = "c0"
-kind = "console"
-lock = "ticket"
-events = 100
-bytes = 1
-[[object]]
-name = "s0"
-kind = "sched"
-lock = "mcs"
-events = 100
-threads = 8
-channels = 1
+object = [
+    { name = "q0", kind = "queue", lock = "ticket", events = 100, threads = 8 },
+    { name = "p0", kind = "pool", lock = "mcs", events = 1, pages = 3 },
+    { name = "c0", kind = "console", lock = "ticket", events = 100, bytes = 1 },
+    { name = "s0", kind = "sched", lock = "mcs", events = 100, threads = 8, channels = 1 },
+]
 "#;
 
 /// Each CPU has an object of its own, so each run has the same record.
@@ -121,54 +82,25 @@ s0 0 next | next = empty
 end
 ";
 
-/// How often each CPU calls the gate, on either side of its entries, if the CPUs below that one are started.
-fn calls_below(cpu: u8) -> [usize; 4] {
-    match cpu {
-        0 => [0, 0, 0, 0],
-        1 => [1, 0, 0, 0],
-        2 => [1, 2, 0, 0],
-        3 => [1, 2, 1, 0],
-        _ => [1, 2, 1, 3],
-    }
-}
-
-/// Whether a run ends with its record, each CPU having called the gate at each entry.
-fn is_run<R: Threads + Wait + Sync + AllocGlobal>(
-    rt: &R,
-    settings: &Settings,
-    scripts: &Scripts,
-) -> Result<bool, Fail>
-    requires { ScriptsFit settings.now.cpus (length settings.now.objects) scripts.now }
-{
-    let calls = Calls::none();
-    let record = run_with(rt, rt.alloc(), settings, scripts, &calls, &AlwaysAllowed)?;
-    Ok(has_text(rt.alloc(), &record, OF_FOUR_CPUS)? && calls.are(&calls_below(4)))
-}
+/// How many entries each CPU has.
+const ENTRIES: [usize; 4] = [1, 2, 1, 3];
 
 /// Whether a run was refused memory or a thread. Without memory no worker has begun; without a thread those of the CPUs below
-/// have ended. Where nothing was refused it ends with its record.
+/// have ended. Where nothing was refused it ends with its record, each CPU having called the gate at each entry.
 fn is_refused<R: Threads + Wait + Sync + AllocGlobal>(
     rt: &R,
     settings: &Settings,
     scripts: &Scripts,
-) -> Result<bool, Fail>
-    requires { ScriptsFit settings.now.cpus (length settings.now.objects) scripts.now }
-{
+) -> Result<bool, Fail> {
     let calls = Calls::none();
-    let (refused, right) = match run_with(
-        rt,
-        rt.alloc(),
-        settings,
-        scripts,
-        &calls,
-        &AlwaysAllowed,
-    ) {
+    let run = run_with(rt, rt.alloc(), settings, scripts, &calls, &AlwaysAllowed);
+    let (refused, right) = match run {
         Ok(record) => (
             false,
-            has_text(rt.alloc(), &record, OF_FOUR_CPUS)? && calls.are(&calls_below(4)),
+            has_text(rt.alloc(), &record, OF_FOUR_CPUS)? && calls.are_below(4, &ENTRIES),
         ),
-        Err(RunFault::OutOfMemory) => (true, calls.are(&calls_below(0))),
-        Err(RunFault::NoThreadStarted(cpu)) => { (true, cpu < 4 && calls.are(&calls_below(cpu))) }
+        Err(RunFault::OutOfMemory) => (true, calls.are_below(0, &ENTRIES)),
+        Err(RunFault::NoThreadStarted(cpu)) => (true, cpu < 4 && calls.are_below(cpu, &ENTRIES)),
     };
     if right {
         Ok(refused)
@@ -179,22 +111,14 @@ fn is_refused<R: Threads + Wait + Sync + AllocGlobal>(
 
 #[test]
 fn a_run_without_memory(rt: HostRuntime) -> Result<(), Fail> {
-    let settings = settings_of(rt.alloc(), FOUR_CPUS)?;
-    let scripts = scripts_of(rt.alloc(), EACH_ITS_OWN, &settings)?;
+    let alloc = rt.alloc();
+    let settings = again(|| Settings::read(alloc, FOUR_CPUS.as_bytes()))?;
+    let scripts = again(|| Scripts::read(alloc, EACH_ITS_OWN.as_bytes(), &settings))?;
     if is_refused(&rt, &settings, &scripts)? {
-        assert!(rt; is_run(&rt, &settings, &scripts)?);
+        assert!(rt; !is_refused(&rt, &settings, &scripts)?);
     }
     Ok(())
 }
-
-const TWO_CPUS: &str = r#"cpus = 2
-[[object]]
-name = "q0"
-kind = "queue"
-lock = "ticket"
-events = 100
-threads = 8
-"#;
 
 const OF_TWO_CPUS: &str = "record 2
 cpus 2
@@ -210,70 +134,32 @@ q0 3 enq 4 | enq 4 = ok
 end
 ";
 
-/// The record of the simulation, which is begun anew if that was refused.
-fn simulated(
-    alloc: Global,
-    settings: &Settings,
-    scripts: &Scripts,
-    schedule: &Schedule,
-) -> Result<Record, Fail>
-    requires scripts { ScriptsFit settings.now.cpus (length settings.now.objects) scripts.now }
-    requires schedule { AllByRecursion (λ cpu. cpu < settings.now.cpus) schedule.now }
-{
-    match simulate(alloc, settings, scripts, schedule) {
-        Ok(record) => Ok(record),
-        Err(OutOfMemory) => Ok(simulate(alloc, settings, scripts, schedule)?),
-    }
-}
-
-/// Whether the simulation ends with its record.
-fn is_simulated(alloc: Global, settings: &Settings, scripts: &Scripts) -> Result<bool, Fail>
-    requires { ScriptsFit settings.now.cpus (length settings.now.objects) scripts.now }
-{
-    let schedule = schedule_of(alloc, "0 1 1 1 0 0 1 1", settings)?;
-    let record = simulated(alloc, settings, scripts, &schedule)?;
-    has_text(alloc, &record, OF_TWO_CPUS)
-}
-
 #[test]
 fn a_simulation_without_memory(rt: HostRuntime) -> Result<(), Fail> {
-    let settings = settings_of(rt.alloc(), TWO_CPUS)?;
-    let scripts = scripts_of(rt.alloc(), "0 q0 enq 3\n1 q0 enq 4\n", &settings)?;
-    assert!(rt; is_simulated(rt.alloc(), &settings, &scripts)?);
+    let alloc = rt.alloc();
+    let text = again(|| one_queue(alloc, 2, "ticket", 100))?;
+    let settings = again(|| Settings::read(alloc, text.as_bytes()))?;
+    let scripts = again(|| Scripts::read(alloc, b"0 q0 enq 3\n1 q0 enq 4\n", &settings))?;
+    let schedule = again(|| Schedule::read(alloc, b"0 1 1 1 0 0 1 1", &settings))?;
+    let record = again(|| simulate(alloc, &settings, &scripts, &schedule))?;
+    assert!(rt; has_text(alloc, &record, OF_TWO_CPUS)?);
     Ok(())
-}
-
-/// The record, read once more if that was refused.
-fn record_of(alloc: Global, text: &str) -> Result<Record, Fail> {
-    match Record::read(alloc, text.as_bytes()) {
-        Ok(record) => Ok(record),
-        Err(_) => Ok(Record::read(alloc, text.as_bytes())?),
-    }
 }
 
 const REPORT: &str = "q0 ticket entries 2 noroom 0 looks 4 most 3\ncpus 2 entries 2\n";
 
-/// The report on a record that is still as it was.
-fn report_again(alloc: Global, record: &Record) -> Result<String, Fail> {
-    if has_text(alloc, record, OF_TWO_CPUS)? {
-        Ok(report(alloc, record)?)
-    } else {
-        Err(Fail::new("another record"))
-    }
-}
-
-/// The report, told once more if that was refused.
-fn report_of(alloc: Global, record: &Record) -> Result<String, Fail> {
-    match report(alloc, record) {
-        Ok(told) => Ok(told),
-        Err(OutOfMemory) => report_again(alloc, record),
-    }
-}
-
+/// A record of which no report was made is still as it was.
 #[test]
 fn a_report_without_memory(rt: HostRuntime) -> Result<(), Fail> {
-    let record = record_of(rt.alloc(), OF_TWO_CPUS)?;
-    let told = report_of(rt.alloc(), &record)?;
+    let alloc = rt.alloc();
+    let record = again(|| Record::read(alloc, OF_TWO_CPUS.as_bytes()))?;
+    let told = match report(alloc, &record) {
+        Ok(told) => told,
+        Err(OutOfMemory) => {
+            assert!(rt; has_text(alloc, &record, OF_TWO_CPUS)?);
+            report(alloc, &record)?
+        }
+    };
     assert_eq!(rt; told.as_str(), REPORT);
     Ok(())
 }
