@@ -1,12 +1,7 @@
-//! Whole commands: the status, what was written, and the line of each refusal.
+//! Whole commands on inputs that fail, which inputs are opened, and sinks that fail.
 
-pub mod before;
-mod judging;
-mod refusals;
-mod upgrading;
-
-use crate::inputs::{FILES, Named, OVER_QUOTA, RECORD, SCRIPTS};
-use crate::worked::{HEAD, WORKED};
+use crate::inputs::{Named, RECORD, SCRIPTS};
+use crate::sinks::{Failing, Failure};
 use event_log::{Plain, Sink};
 use mc2_command::command;
 use std::process::Abort;
@@ -28,7 +23,6 @@ fn told<R: Threads + Wait + Sync + AllocGlobal, W: Sink, F: Sink>(
     }
     let mut inputs = Named {
         standard,
-        files: &FILES,
         opened: 0,
         failed: 0,
     };
@@ -36,146 +30,159 @@ fn told<R: Threads + Wait + Sync + AllocGlobal, W: Sink, F: Sink>(
     Ok((status, inputs.opened))
 }
 
-/// What a command ended in: the status, how many inputs were opened, what was printed, and the line of a refusal.
-#[derive(Debug, PartialEq, Eq, Drop)]
-struct Ended {
-    status: u8,
-    opened: usize,
-    out: String,
-    line: String,
+/// Commands: the status, and how many inputs are opened.
+static OPENED: [(&str, u8, usize); 23] = [
+    ("run", 0, 1),
+    ("run scripts", 0, 1),
+    ("run --settings settings", 0, 2),
+    ("run scripts --settings settings", 0, 2),
+    ("sim --settings settings scripts schedule", 0, 3),
+    ("report record", 0, 1),
+    ("audit record", 0, 1),
+    ("merge record", 0, 1),
+    ("upgrade record", 0, 1),
+    ("upgrade", 2, 1),
+    ("run none", 3, 1),
+    ("run --settings none scripts", 3, 1),
+    ("run --settings bad none", 2, 1),
+    ("run --settings settings bad", 2, 2),
+    ("sim --settings none scripts schedule", 3, 1),
+    ("sim --settings bad none none", 2, 1),
+    ("sim --settings settings bad none", 2, 2),
+    ("sim --settings settings none schedule", 3, 2),
+    ("sim --settings settings scripts bad", 2, 3),
+    ("sim --settings settings scripts none", 3, 3),
+    ("sim scripts schedule", 2, 0),
+    ("upgrade record record", 2, 0),
+    ("merge --settings settings", 2, 0),
+];
+
+/// Each input is judged before the next is opened, and bad words before the first.
+#[test]
+fn opened_inputs(rt: HostRuntime) -> Result<(), Fail> {
+    for (line, status, opened) in OPENED.iter() {
+        let mut out = Plain::new(Vec::new(rt.alloc()));
+        let mut faults = Plain::new(Vec::new(rt.alloc()));
+        let found = told(&rt, line, SCRIPTS, &mut out, &mut faults)?;
+        assert!(rt; found == (*status, *opened), "{line:?}: {found:?}");
+    }
+    Ok(())
 }
 
-/// What the program answers to the text on standard input.
-fn judged<R: Threads + Wait + Sync + AllocGlobal>(
+const READ_FAILED: &str = "mc2: E12 read failed\n";
+
+const WRITE_FAILED: &str = "mc2: E13 write failed\n";
+
+/// Commands on texts whose ends can't be read: the status, how many inputs are opened, and the line.
+static BROKEN: [(&str, u8, usize, &str); 5] = [
+    ("run broken", 3, 1, READ_FAILED),
+    ("upgrade broken", 3, 1, READ_FAILED),
+    ("sim --settings settings broken schedule", 3, 2, READ_FAILED),
+    ("sim --settings settings scripts torn", 3, 3, READ_FAILED),
+    (
+        "sim --settings settings scripts broken",
+        2,
+        3,
+        "mc2: E8 schedule: word 2\n",
+    ),
+];
+
+#[test]
+fn inputs_that_fail(rt: HostRuntime) -> Result<(), Fail> {
+    for (line, status, opened, refusal) in BROKEN.iter() {
+        let mut out = Plain::new(Vec::new(rt.alloc()));
+        let mut faults = Plain::new(Vec::new(rt.alloc()));
+        let found = told(&rt, line, "", &mut out, &mut faults)?;
+        assert!(rt; found == (*status, *opened), "{line:?}: {found:?}");
+        assert!(rt; out.inner.is_empty(), "{line:?}");
+        assert!(rt; faults.inner.as_slice() == refusal.as_bytes(), "{line:?}");
+    }
+    Ok(())
+}
+
+static FAILURES: [Failure; 2] = [Failure::Error, Failure::NothingTaken];
+
+/// Scripts, the status, and the line, if standard output fails at its first call.
+static UNWRITTEN: [(&str, u8, &str); 2] = [
+    (SCRIPTS, 3, WRITE_FAILED),
+    ("x\n", 2, "mc2: E7 scripts: line 1\n"),
+];
+
+/// A fault stream that fails changes no status.
+#[test]
+fn sinks_that_fail(rt: HostRuntime) -> Result<(), Fail> {
+    for failure in FAILURES.iter() {
+        for (standard, status, refusal) in UNWRITTEN.iter() {
+            for (calls, line) in [(0, ""), (1, *refusal)] {
+                let mut out = Plain::new(Failing::after(rt.alloc(), 0, *failure));
+                let mut faults = Plain::new(Failing::after(rt.alloc(), calls, *failure));
+                let (found, _) = told(&rt, "run", standard, &mut out, &mut faults)?;
+                assert!(rt; found == *status, "{standard:?} {failure:?}");
+                assert!(rt; out.inner.taken.is_empty());
+                assert!(rt;
+                    faults.inner.taken.as_slice() == line.as_bytes(),
+                    "{standard:?} {failure:?}"
+                );
+            }
+        }
+    }
+    Ok(())
+}
+
+/// What the command prints, and its status.
+fn printed<R: Threads + Wait + Sync + AllocGlobal>(
     rt: &R,
     line: &str,
     standard: &str,
-) -> Result<Ended, Fail> {
+) -> Result<(u8, Vec<u8>), Fail> {
     let mut out = Plain::new(Vec::new(rt.alloc()));
     let mut faults = Plain::new(Vec::new(rt.alloc()));
-    let (status, opened) = told(rt, line, standard, &mut out, &mut faults)?;
-    let Ok(out) = String::from_utf8(out.inner) else {
-        return Err(Fail::from("no text was printed"));
-    };
-    let Ok(line) = String::from_utf8(faults.inner) else {
-        return Err(Fail::from("the line is no text"));
-    };
-    Ok(Ended {
-        status,
-        opened,
-        out,
-        line,
-    })
+    let (status, _) = told(rt, line, standard, &mut out, &mut faults)?;
+    Ok((status, out.inner))
 }
 
-/// What is wanted of a command: the status, how many inputs are opened, what is printed, and the line of a refusal.
-type Wanted<'a> = (u8, usize, &'a str, &'a str);
-
-/// Does the command of these words, with that text on standard input. If it ends otherwise than is wanted, both are printed.
-fn same<R: Threads + Wait + Sync + AllocGlobal + Abort>(
+/// A sink that fails after ever more calls has a beginning of the text, until it has all of it.
+fn fails_until_whole<R: Threads + Wait + Sync + AllocGlobal + Abort>(
     rt: &R,
     line: &str,
     standard: &str,
-    wanted: Wanted,
+    failure: Failure,
 ) -> Result<(), Fail> {
-    let told = judged(rt, line, standard)?;
-    let found = (
-        told.status,
-        told.opened,
-        told.out.as_str(),
-        told.line.as_str(),
-    );
-    assert!(rt;
-        found == wanted,
-        "{line:?} on {standard:?}: {found:?} in place of {wanted:?}"
-    );
-    Ok(())
-}
-
-#[test]
-fn worked_runs(rt: HostRuntime) -> Result<(), Fail> {
-    for (scripts, rest) in WORKED.iter() {
-        let wanted = format!(in rt.alloc(); "{HEAD}{rest}")?;
-        same(&rt, "run", scripts, (0, 1, wanted.as_str(), ""))?;
+    let (ended, whole) = printed(rt, line, standard)?;
+    for calls in 0..whole.len() + 1 {
+        let mut out = Plain::new(Failing::after(rt.alloc(), calls, failure));
+        let mut faults = Plain::new(Vec::new(rt.alloc()));
+        let (status, _) = told(rt, line, standard, &mut out, &mut faults)?;
+        assert!(rt;
+            whole.starts_with(out.inner.taken.as_slice()),
+            "{line:?} {calls}"
+        );
+        if out.inner.taken.len() == whole.len() {
+            assert!(rt; status == ended && out.failed_calls() == 0 && faults.inner.is_empty());
+            return Ok(());
+        }
+        assert!(rt; status == 3 && out.failed_calls() == 1, "{line:?} {calls}");
+        assert!(rt; faults.inner.as_slice() == WRITE_FAILED.as_bytes());
     }
-    Ok(())
+    Err(Fail::from("it never has all"))
 }
 
-#[test]
-fn a_file_of_scripts(rt: HostRuntime) -> Result<(), Fail> {
-    let standard = judged(&rt, "run", SCRIPTS)?;
-    same(&rt, "run scripts", "x", (0, 1, standard.out.as_str(), ""))?;
-    assert!(rt; standard.status == 0 && standard.opened == 1);
-    assert!(rt; standard.line.is_empty());
-    Ok(())
-}
-
-/// Simulations, and what is printed of them after the head.
-static SIMULATIONS: [(&str, &str); 3] = [
-    (
-        "sim --settings settings both turns",
-        "log q0 2\n0 enq 3 = ok\n1 enq 4 = ok\ncpu 0 1\nq0 1 enq 3 | enq 3 = ok\ncpu 1 1\nq0 3 enq 4 | enq 4 = ok\nend\n",
-    ),
-    (
-        "sim --settings settings both held",
-        "log q0 0\ncpu 0 0\ncpu 1 0\nend\n",
-    ),
-    (
-        "sim --settings settings alone idle",
-        "log q0 1\n0 enq 3 = ok\ncpu 0 1\nq0 1 enq 3 | enq 3 = ok\ncpu 1 0\nend\n",
-    ),
-];
+/// A record with a reply that a queue wouldn't give.
+const UNSOUND: &str =
+    "record 2\ncpus 1\nobjects 1\nobject q0 ticket 9 queue 8\nlog q0 1\n0 deq = thread 3\ncpu 0 0\nend\n";
 
 #[test]
-fn worked_simulations(rt: HostRuntime) -> Result<(), Fail> {
-    for (line, rest) in SIMULATIONS.iter() {
-        let wanted = format!(in rt.alloc(); "{HEAD}{rest}")?;
-        same(&rt, line, "x", (0, 3, wanted.as_str(), ""))?;
+fn failing_sinks(rt: HostRuntime) -> Result<(), Fail> {
+    let mut scripts = String::new(rt.alloc());
+    for _ in 0..100 {
+        scripts.push_str("0 q0 len\n")?;
     }
-    Ok(())
-}
-
-/// The record of the run of `SCRIPTS` behind an MCS lock.
-const BEHIND_MCS: &str =
-    "record 2\ncpus 2\nobjects 1\nobject q0 mcs 100 queue 8\nlog q0 2\n0 enq 3 = ok\n0 deq = thread 3\ncpu 0 2\nq0 0 enq 3 | enq 3 = ok\nq0 0 deq | deq = thread 3\ncpu 1 0\nend\n";
-
-static ON_MCS: [&str; 3] = [
-    "run --settings mcs scripts",
-    "run scripts --settings mcs",
-    "run --settings mcs",
-];
-
-#[test]
-fn a_run_on_other_settings(rt: HostRuntime) -> Result<(), Fail> {
-    for line in ON_MCS.iter() {
-        same(&rt, line, SCRIPTS, (0, 2, BEHIND_MCS, ""))?;
-    }
-    Ok(())
-}
-
-static ON_QUOTAS: [(&str, usize); 3] = [
-    ("run --settings quotas", 2),
-    ("run --settings quotas taken", 2),
-    ("sim --settings quotas taken long", 3),
-];
-
-/// A run and a simulation on a pool with quotas.
-#[test]
-fn an_owner_over_its_quota(rt: HostRuntime) -> Result<(), Fail> {
-    for (line, opened) in ON_QUOTAS.iter() {
-        let standard = "0 q0 alloc 1\n0 q0 alloc 1\n";
-        same(&rt, line, standard, (0, *opened, OVER_QUOTA, ""))?;
-    }
-    Ok(())
-}
-
-static REPORTS: [(&str, &str); 2] = [("report", RECORD), ("report record", "x")];
-
-#[test]
-fn reports(rt: HostRuntime) -> Result<(), Fail> {
-    for (line, standard) in REPORTS.iter() {
-        let wanted = "q0 ticket entries 2 noroom 0 looks 4 most 3\ncpus 2 entries 2\n";
-        same(&rt, line, standard, (0, 1, wanted, ""))?;
+    for failure in FAILURES.iter() {
+        fails_until_whole(&rt, "run", scripts.as_str(), *failure)?;
+        for line in ["report", "audit", "merge", "upgrade"] {
+            fails_until_whole(&rt, line, RECORD, *failure)?;
+        }
+        fails_until_whole(&rt, "audit", UNSOUND, *failure)?;
     }
     Ok(())
 }

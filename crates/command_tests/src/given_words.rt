@@ -1,6 +1,6 @@
-//! Words that aren't text: the program's own path doesn't matter, and any other is refused.
+//! The words of a start: the program's own path is none of them, and need not be text.
 
-use program::{Refusal, words_given};
+use program::words_given;
 use std::env::FillError;
 use std::rt::Env;
 use std::test::Fail;
@@ -53,13 +53,4 @@ fn no_words(rt: HostRuntime) -> Result<(), Fail> {
         assert!(rt; words_given(&Start { words }, rt.alloc())?.is_empty());
     }
     Ok(())
-}
-
-#[test]
-fn a_word_that_is_no_text(rt: HostRuntime) {
-    let start = Start {
-        words: &[b"./program", b"run", b"\xff"],
-    };
-    let refused = words_given(&start, rt.alloc());
-    assert!(rt; matches!(refused, Err(Refusal::BadWords)));
 }

@@ -1,7 +1,5 @@
-//! Tests of `view_command`: its words, whole commands, and what they print.
+//! Tests of `view_command` that no row can be: inputs and sinks that fail, and which inputs are opened.
 #![tactic(auto)]
 
-#[cfg(test)]
-mod arguments;
 #[cfg(test)]
 mod commands;
