@@ -10,20 +10,17 @@ use std::test::Fail;
 /// Entries with a comment and an empty line.
 const GOOD: &str = "0 q0 enq 3 ; deq\n# a comment\n1 q0 len\n\n0 q0 remove 4\n1 q0 deq\n";
 
-/// The same with a fourth line that is none.
-const BAD: &str =
-    "0 q0 enq 3 ; deq\n# a comment\n1 q0 len\n1 q0 nothing\n0 q0 remove 4\n1 q0 deq\n";
+/// Entries and a fourth line that is none.
+const BAD: &str = "0 q0 enq 3 ; deq\n# a comment\n1 q0 len\n1 q0 nothing\n0 q0 remove 4\n";
 
 /// Settings of a queue for one CPU.
 const QUEUE: &str =
     "cpus = 1\n[[object]]\nname = \"q0\"\nkind = \"queue\"\nlock = \"mcs\"\nevents = 9\nthreads = 8\n";
 
 /// Records of one CPU in both forms.
-const ONE: &str =
-    "record 1\ncpus 1\nobjects 1\nobject c mcs 1 console 4096\nlog c 0\ncpu 0 0\nend\n";
+const ONE: &str = "record 1\ncpus 1\nobjects 1\nobject c mcs 1 queue 8\nlog c 0\ncpu 0 0\nend\n";
 
-const TWO: &str =
-    "record 2\ncpus 1\nobjects 1\nobject c mcs 1 console 4096\nlog c 0\ncpu 0 0\nend\n";
+const TWO: &str = "record 2\ncpus 1\nobjects 1\nobject c mcs 1 queue 8\nlog c 0\ncpu 0 0\nend\n";
 
 /// What a text is.
 #[derive(Clone, Copy, Debug, PartialEq, Eq)]
@@ -79,13 +76,11 @@ fn told(
         failed: 0,
     };
     let told = read(alloc, kind, text, &mut source)?;
-    if source.failed != if told == Err(ReadFailed) { 1 } else { 0 } {
-        return Err(Fail::new("another number of failed calls"));
+    let is_read_out = kind != Kind::Record || source.failed > 0 || source.rest.is_empty();
+    if source.failed == if told == Err(ReadFailed) { 1 } else { 0 } && is_read_out {
+        return Ok(told);
     }
-    if kind == Kind::Record && source.failed == 0 && !source.rest.is_empty() {
-        return Err(Fail::new("it wasn't read to its end"));
-    }
-    Ok(told)
+    Err(Fail::new("another number of failed calls, or a rest"))
 }
 
 /// Texts that are read, and texts of which a part is refused.
