@@ -1,15 +1,11 @@
-//! Tests of `scripts`: settings, scripts, schedules, records, and the words of all objects.
+//! Tests of `scripts`: texts from sources that fail, in pieces and with each byte changed, and sinks that fail.
 #![tactic(auto)]
 
 #[cfg(test)]
-mod changed_lines;
-#[cfg(test)]
 mod record;
 #[cfg(test)]
-mod schedule;
+mod sinks;
 #[cfg(test)]
-mod settings;
+mod sources;
 #[cfg(test)]
-mod source;
-#[cfg(test)]
-mod words;
+mod streams;
