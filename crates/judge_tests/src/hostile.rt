@@ -1,4 +1,4 @@
-//! Records in both forms of which one byte is changed. Those that still are records are judged and merged, and both answers fit.
+//! Records in both forms of which one byte is changed. Those that still are records are judged and merged: both answers fit.
 
 use crate::verdicts::{CROSSED, IN_AND_OUT};
 use auditor::{Verdict, audit};
@@ -46,9 +46,9 @@ fn outcomes(alloc: Global, text: &[u8]) -> Result<[u32; 3], Fail> {
     Ok(counts)
 }
 
-/// Of one object 50 of 100 records are sound: with 26 other limits, 5 other numbers of threads, 9 other looks of each of the two
-/// entries, and the one in the other form. Of two objects 83 of 203 are, and none has an order: for each object with 17 other
-/// limits and 6 other numbers of threads, with 9 other looks of each of the four entries, and the one in the other form.
+/// Of one object 50 of 100 records are sound: with 26 other limits, 5 other numbers of threads, 9 other looks of each of the
+/// two entries, and the one in the other form. Of two objects 83 of 203 are, and none has an order: for each object with 17
+/// other limits and 6 other numbers of threads, with 9 other looks of each of the four entries, and the one in the other form.
 #[test]
 fn each_byte_of_both_forms_changed(rt: HostRuntime) -> Result<(), Fail> {
     for (two, wanted) in [(IN_AND_OUT, [50, 0, 50]), (CROSSED, [0, 83, 120])] {

@@ -61,8 +61,8 @@ fn fed(alloc: Global, text: &[u8], most: usize) -> Result<RecordReader, RecordFa
     Ok(reader)
 }
 
-/// Each shorter front is taken, and its bad line is the one where it ends, however it is read. In pieces of each size the text is
-/// a record, and with more behind it only its front is one.
+/// Each shorter front is taken, and its bad line is the one where it ends, however it is read. In pieces of each size the text
+/// is a record, and with more behind it only its front is one.
 #[test]
 fn fronts_and_pieces(rt: HostRuntime) -> Result<(), Fail> {
     for form in FORMS {
@@ -145,9 +145,9 @@ fn change_bytes(alloc: Global, text: &[u8]) -> Result<[u32; 3], Fail> {
 }
 
 /// One change makes record 2 of record 1, or record 1 of record 2. Where the byte is in a number that counts no lines, another
-/// number may stand: these are 34 changes of the object's line, 20 of the events' and 45 of the entries'. The bad line is a later
-/// one where it says how many CPUs (so many changes), objects (8), events (9) or entries (18) there are, or is one of the object's
-/// name (60). There can be 1 to 8 CPUs in a record 1, and 1 to 64 in a record 2.
+/// number may stand: these are 34 changes of the object's line, 20 of the events' and 45 of the entries'. The bad line is a
+/// later one where it says how many CPUs (so many changes), objects (8), events (9) or entries (18) there are, or is one of the
+/// object's name (60). There can be 1 to 8 CPUs in a record 1, and 1 to 64 in a record 2.
 #[test]
 fn each_byte_changed(rt: HostRuntime) -> Result<(), Fail> {
     for (form, cpus) in FORMS.iter().zip([7, 8]) {
