@@ -1,55 +1,20 @@
-//! The console: worked answers, the limits of an opening, and a plain program that answers the same.
+//! The console: the limits of an opening, and a plain program that answers the same.
 
+use crate::compare::{answers, compare};
 use console_ring::{Console, ConsoleCall as Call, ConsoleReply as Reply, MOST_BYTES};
-use event_log::{Logged, OpenFault};
+use event_log::{Logged, OpenFault, SeqObject};
 use std::test::Fail;
 
 #[test]
-fn worked_answers(rt: HostRuntime) -> Result<(), Fail> {
-    let rows: [(u32, &[(Call, Reply)]); 2] = [
-        (
-            1,
-            &[
-                (Call::Put(65), Reply::Ok),
-                (Call::Put(66), Reply::Dropped(65)),
-                (Call::Get, Reply::Byte(66)),
-                (Call::Get, Reply::Empty),
-            ],
-        ),
-        (
-            2,
-            &[
-                (Call::Level, Reply::Count(0)),
-                (Call::Put(1), Reply::Ok),
-                (Call::Put(2), Reply::Ok),
-                (Call::Put(3), Reply::Dropped(1)),
-                (Call::Level, Reply::Count(2)),
-                (Call::Get, Reply::Byte(2)),
-                (Call::Get, Reply::Byte(3)),
-                (Call::Get, Reply::Empty),
-            ],
-        ),
-    ];
-    for (capacity, row) in rows {
-        let mut console = Logged::<Console>::open(rt.alloc(), capacity, 100)?;
-        for (call, reply) in row {
-            assert_eq!(rt; console.call(0, call)?, *reply, "to {call:?} of {row:?}");
-        }
-    }
-    Ok(())
-}
-
-#[test]
 fn limits_of_an_opening(rt: HostRuntime) {
-    let rows = [
-        (0, Some(OpenFault::BadLimit)),
-        (1, None),
-        (4096, None),
-        (4097, Some(OpenFault::BadLimit)),
-    ];
-    for (capacity, fault) in rows {
-        let opened = Logged::<Console>::open(rt.alloc(), capacity, 1);
-        assert_eq!(rt; opened.err(), fault, "for {capacity} bytes");
+    for (capacity, is_opened) in [(0, false), (1, true), (4096, true), (4097, false)] {
+        let fault = Console::open(rt.alloc(), &capacity).err();
+        let wanted = if is_opened {
+            None
+        } else {
+            Some(OpenFault::BadLimit)
+        };
+        assert_eq!(rt; fault, wanted, "for {capacity} bytes");
     }
 }
 
@@ -67,10 +32,13 @@ fn an_opening_without_memory(rt: HostRuntime) -> Result<(), Fail> {
 
 #[test]
 fn a_full_console(rt: HostRuntime) -> Result<(), Fail> {
-    let mut console = Logged::<Console>::open(rt.alloc(), MOST_BYTES, 5000)?;
+    let mut console = Console::open(rt.alloc(), &MOST_BYTES)?;
     for number in 0..MOST_BYTES {
-        let byte = (number % 251) as u8;
-        assert_eq!(rt; console.call(0, &Call::Put(byte))?, Reply::Ok);
+        answers(
+            &rt,
+            &mut console,
+            &[(Call::Put((number % 251) as u8), Reply::Ok)],
+        );
     }
     let rows = [
         (Call::Level, Reply::Count(4096)),
@@ -80,51 +48,41 @@ fn a_full_console(rt: HostRuntime) -> Result<(), Fail> {
         (Call::Put(8), Reply::Ok),
         (Call::Put(9), Reply::Dropped(2)),
     ];
-    for (call, reply) in rows {
-        assert_eq!(rt; console.call(0, &call)?, reply, "to {call:?}");
-    }
+    answers(&rt, &mut console, &rows);
     Ok(())
 }
 
 /// The answer of a console that is a plain list of at most 5 bytes.
 fn plain_answer(list: &mut Vec<u8>, call: Call) -> Result<Reply, Fail> {
-    match call {
+    Ok(match call {
         Call::Put(byte) => {
             list.push(byte)?;
             if list.len() > 5 {
-                Ok(Reply::Dropped(list.remove(0)))
+                Reply::Dropped(list.remove(0))
             } else {
-                Ok(Reply::Ok)
+                Reply::Ok
             }
         }
-        Call::Get if list.is_empty() => Ok(Reply::Empty),
-        Call::Get => Ok(Reply::Byte(list.remove(0))),
-        Call::Level => Ok(Reply::Count(u32::try_from(list.len())?)),
-    }
-}
-
-/// A call that the number stands for.
-fn call_of(number: u64) -> Call {
-    match (number >> 40) % 5 {
-        0..=2 => Call::Put((number >> 56) as u8),
-        3 => Call::Get,
-        _ => Call::Level,
-    }
+        Call::Get if list.is_empty() => Reply::Empty,
+        Call::Get => Reply::Byte(list.remove(0)),
+        Call::Level => Reply::Count(u32::try_from(list.len())?),
+    })
 }
 
 #[test]
 fn answers_as_a_plain_program(rt: HostRuntime) -> Result<(), Fail> {
-    let mut console = Logged::<Console>::open(rt.alloc(), 5, 5000)?;
     let mut list = Vec::new(rt.alloc());
-    let mut number = 1u64;
-    for turn in 0..5000 {
-        // Knuth's numbers for a linear congruential generator.
-        number = number
-            .wrapping_mul(6364136223846793005)
-            .wrapping_add(1442695040888963407);
-        let call = call_of(number);
-        let wanted = plain_answer(&mut list, call)?;
-        assert_eq!(rt; console.call(0, &call)?, wanted, "to {call:?}, turn {turn}");
-    }
-    Ok(())
+    let call_of = |number: u64, _: u32| match (number >> 40) % 5 {
+        0..=2 => Call::Put((number >> 56) as u8),
+        3 => Call::Get,
+        _ => Call::Level,
+    };
+    let mut console = Console::open(rt.alloc(), &5)?;
+    compare(
+        &rt,
+        &mut console,
+        5000,
+        &call_of,
+        &mut |call| plain_answer(&mut list, call),
+    )
 }

@@ -1,10 +1,10 @@
-//! Tests of `event_log`, with its streams, and of the four objects: `shared_queue`, `console_ring`, `page_pool` and `wake_list`.
+//! Tests of the four objects, `shared_queue`, `console_ring`, `page_pool` and `wake_list`, and of the streams of `event_log`.
 #![tactic(auto)]
 
 #[cfg(test)]
-mod console;
+mod compare;
 #[cfg(test)]
-mod log;
+mod console;
 #[cfg(test)]
 mod pool;
 #[cfg(test)]

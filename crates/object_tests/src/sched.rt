@@ -1,6 +1,7 @@
-//! The scheduler: worked answers, the limits of an opening, and a plain program that answers the same.
+//! The scheduler: the limits of an opening, and a plain program that answers the same.
 
-use event_log::{Logged, OpenFault, SeqObject, Step};
+use crate::compare::{answers, compare};
+use event_log::{Logged, OpenFault, SeqObject};
 use std::alloc::Global;
 use std::process::Abort;
 use std::test::Fail;
@@ -18,85 +19,15 @@ fn sleep(channel: u32, thread: u32) -> Call {
 }
 
 #[test]
-fn worked_answers(rt: HostRuntime) -> Result<(), Fail> {
-    let rows: [(u32, &[(Call, Reply)]); 2] = [
-        (
-            1,
-            &[
-                (sleep(0, 5), Reply::Ok),
-                (sleep(0, 2), Reply::Ok),
-                (Call::WakeAll(0), Reply::Count(2)),
-                (Call::Next, Reply::Thread(5)),
-                (Call::Next, Reply::Thread(2)),
-                (Call::WakeAll(0), Reply::Count(0)),
-            ],
-        ),
-        (
-            2,
-            &[
-                (sleep(0, 1), Reply::Ok),
-                (sleep(1, 2), Reply::Ok),
-                (Call::Ready(1), Reply::Already),
-                (Call::Wake(1), Reply::Thread(2)),
-                (Call::Ready(2), Reply::Already),
-                (Call::Wake(1), Reply::Empty),
-                (sleep(2, 9), Reply::BadChannel),
-                (sleep(0, 9), Reply::BadThread),
-                (Call::Next, Reply::Thread(2)),
-                (Call::Next, Reply::Empty),
-                (Call::WakeAll(0), Reply::Count(1)),
-                (Call::Next, Reply::Thread(1)),
-                (Call::WakeAll(2), Reply::BadChannel),
-            ],
-        ),
-    ];
-    for (channels, row) in rows {
-        let mut sched = open(rt.alloc(), 8, channels)?;
-        for (call, reply) in row {
-            assert_eq!(rt; sched.call(0, call)?, *reply, "to {call:?} of {row:?}");
-        }
-    }
-    Ok(())
-}
-
-#[test]
-fn a_batch_ends_with_a_refusal(rt: HostRuntime) -> Result<(), Fail> {
-    let mut sched = open(rt.alloc(), 8, 2)?;
-    let steps = sched.apply(0, &[sleep(1, 3), Call::Ready(3), Call::Next])?;
-    let wanted = [
-        Step {
-            call: sleep(1, 3),
-            reply: Reply::Ok,
-        },
-        Step {
-            call: Call::Ready(3),
-            reply: Reply::Already,
-        },
-    ];
-    assert!(rt; steps.list.as_slice() == wanted.as_slice());
-    assert_eq!(rt; sched.call(0, &Call::WakeAll(1))?, Reply::Count(1));
-    Ok(())
-}
-
-#[test]
 fn limits_of_an_opening(rt: HostRuntime) {
-    let rows = [
-        (0, 1, Some(OpenFault::BadLimit)),
-        (1, 1, None),
-        (1024, 1, None),
-        (1025, 1, Some(OpenFault::BadLimit)),
-        (1, 0, Some(OpenFault::BadLimit)),
-        (1, 64, None),
-        (1, 65, Some(OpenFault::BadLimit)),
-        (1024, 64, None),
-    ];
-    for (threads, channels, fault) in rows {
+    for (threads, channels) in [(1, 1), (1024, 1), (1, 64), (1024, 64)] {
         let opened = open(rt.alloc(), threads, channels);
-        assert_eq!(rt;
-            opened.err(),
-            fault,
-            "for {threads} threads and {channels} channels"
-        );
+        assert!(rt; opened.is_ok(), "{threads} threads, {channels} channels");
+    }
+    for (threads, channels) in [(0, 1), (1025, 1), (1, 0), (1, 65)] {
+        let fault = open(rt.alloc(), threads, channels).err();
+        let wanted = Some(OpenFault::BadLimit);
+        assert_eq!(rt; fault, wanted, "{threads} threads, {channels} channels");
     }
 }
 
@@ -114,13 +45,13 @@ fn an_opening_without_memory(rt: HostRuntime) -> Result<(), Fail> {
 
 #[test]
 fn a_channel_of_all_its_threads(rt: HostRuntime) -> Result<(), Fail> {
-    let mut sched = open(rt.alloc(), MOST_THREADS, MOST_CHANNELS)?;
+    let params = SchedParams {
+        threads: MOST_THREADS,
+        channels: MOST_CHANNELS,
+    };
+    let mut sched = Sched::open(rt.alloc(), &params)?;
     for thread in 0..MOST_THREADS {
-        assert_eq!(rt;
-            sched.call(0, &sleep(63, thread))?,
-            Reply::Ok,
-            "thread {thread}"
-        );
+        answers(&rt, &mut sched, &[(sleep(63, thread), Reply::Ok)]);
     }
     let rows = [
         (Call::Ready(1023), Reply::Already),
@@ -139,9 +70,7 @@ fn a_channel_of_all_its_threads(rt: HostRuntime) -> Result<(), Fail> {
         (Call::Wake(63), Reply::Thread(1)),
         (Call::Next, Reply::Thread(2)),
     ];
-    for (call, reply) in rows {
-        assert_eq!(rt; sched.call(0, &call)?, reply, "to {call:?}");
-    }
+    answers(&rt, &mut sched, &rows);
     Ok(())
 }
 
@@ -167,86 +96,42 @@ fn plain_take(list: &mut Vec<Standing>, channel: Option<u32>) -> Option<u32> {
     Some(list.remove(place).thread)
 }
 
+/// Puts the first thread of the channel at the end of the ready ones.
+fn plain_wake(list: &mut Vec<Standing>, channel: u32) -> Result<Reply, Fail> {
+    let Some(thread) = plain_take(list, Some(channel)) else {
+        return Ok(Reply::Empty);
+    };
+    plain_put(list, None, thread)?;
+    Ok(Reply::Thread(thread))
+}
+
 /// Puts each thread of the channel at the end of the ready ones, and counts them.
-fn plain_wake_all(alloc: Global, list: &mut Vec<Standing>, channel: u32) -> Result<Reply, Fail> {
-    let mut woken = Vec::new(alloc);
-    for other in list.iter() {
-        if other.channel == Some(channel) {
-            woken.push(Standing {
-                channel: None,
-                thread: other.thread,
-            })?;
-        }
+fn plain_wake_all(list: &mut Vec<Standing>, channel: u32) -> Result<Reply, Fail> {
+    let mut woken = 0;
+    while let Reply::Thread(_) = plain_wake(list, channel)? {
+        woken += 1;
     }
-    list.retain(|other| other.channel != Some(channel));
-    list.extend_from_slice(woken.as_slice())?;
-    Ok(Reply::Count(u32::try_from(woken.len())?))
-}
-
-/// Whether the call names a channel that isn't one of that many.
-fn names_no_channel(call: Call, channels: u32) -> bool {
-    match call {
-        Call::Sleep { channel, .. } => channel >= channels,
-        Call::Wake(channel) | Call::WakeAll(channel) => channel >= channels,
-        Call::Ready(_) | Call::Next => false,
-    }
-}
-
-/// Whether the call names a thread that isn't one of that many.
-fn names_no_thread(call: Call, threads: u32) -> bool {
-    match call {
-        Call::Sleep { thread, .. } => thread >= threads,
-        Call::Ready(thread) => thread >= threads,
-        Call::Next | Call::Wake(_) | Call::WakeAll(_) => false,
-    }
+    Ok(Reply::Count(woken))
 }
 
 /// The answer of a scheduler that is one plain list in order of arrival.
-fn plain_answer(
-    alloc: Global,
-    list: &mut Vec<Standing>,
-    params: SchedParams,
-    call: Call,
-) -> Result<Reply, Fail> {
-    if names_no_channel(call, params.channels) {
-        return Ok(Reply::BadChannel);
-    }
-    if names_no_thread(call, params.threads) {
-        return Ok(Reply::BadThread);
-    }
+fn plain_answer(list: &mut Vec<Standing>, params: SchedParams, call: Call) -> Result<Reply, Fail> {
     match call {
+        Call::Sleep { channel, .. } | Call::Wake(channel) | Call::WakeAll(channel)
+            if channel >= params.channels => { Ok(Reply::BadChannel) }
+        Call::Sleep { thread, .. } | Call::Ready(thread) if thread >= params.threads => {
+            Ok(Reply::BadThread)
+        }
         Call::Ready(thread) => plain_put(list, None, thread),
         Call::Sleep { channel, thread } => plain_put(list, Some(channel), thread),
-        Call::Next => match plain_take(list, None) {
-            Some(thread) => Ok(Reply::Thread(thread)),
-            None => Ok(Reply::Empty),
-        },
-        Call::Wake(channel) => match plain_take(list, Some(channel)) {
-            Some(thread) => {
-                plain_put(list, None, thread)?;
-                Ok(Reply::Thread(thread))
-            }
-            None => Ok(Reply::Empty),
-        },
-        Call::WakeAll(channel) => plain_wake_all(alloc, list, channel),
+        Call::Next => Ok(plain_take(list, None).map_or(Reply::Empty, Reply::Thread)),
+        Call::Wake(channel) => plain_wake(list, channel),
+        Call::WakeAll(channel) => plain_wake_all(list, channel),
     }
 }
 
-/// A call that the number stands for, on one of the threads 0 to `threads` and the channels 0 to `channels`.
-fn call_of(number: u64, params: SchedParams) -> Call {
-    let thread = (number >> 48) as u32 % params.threads.saturating_add(1);
-    let channel = (number >> 40) as u32 % params.channels.saturating_add(1);
-    match (number >> 33) % 16 {
-        0..=3 => Call::Ready(thread),
-        4..=8 => sleep(channel, thread),
-        9..=10 => Call::Wake(channel),
-        11 => Call::WakeAll(channel),
-        _ => Call::Next,
-    }
-}
-
-/// Makes that many calls on a scheduler, and holds each reply to that of the plain program.
-fn compare<R: Abort>(
+/// Compares on a scheduler, with calls on the threads 0 to `threads` and the channels 0 to `channels`.
+fn agrees<R: Abort>(
     rt: &R,
     alloc: Global,
     threads: u32,
@@ -254,30 +139,33 @@ fn compare<R: Abort>(
     turns: u32,
 ) -> Result<(), Fail> {
     let params = SchedParams { threads, channels };
-    let mut sched = Sched::open(alloc, &params)?;
     let mut list = Vec::new(alloc);
-    let mut number = 1u64;
-    for turn in 0..turns {
-        // Knuth's numbers for a linear congruential generator.
-        number = number
-            .wrapping_mul(6364136223846793005)
-            .wrapping_add(1442695040888963407);
-        let call = call_of(number, params);
-        let wanted = plain_answer(alloc, &mut list, params, call)?;
-        assert_eq!(rt;
-            sched.apply(&call),
-            wanted,
-            "to {call:?}, turn {turn} of {params:?}"
-        );
-    }
-    Ok(())
+    let call_of = |number: u64, _: u32| {
+        let thread = (number >> 48) as u32 % (threads + 1);
+        let channel = (number >> 40) as u32 % (channels + 1);
+        match (number >> 33) % 16 {
+            0..=3 => Call::Ready(thread),
+            4..=8 => sleep(channel, thread),
+            9..=10 => Call::Wake(channel),
+            11 => Call::WakeAll(channel),
+            _ => Call::Next,
+        }
+    };
+    let mut sched = Sched::open(alloc, &params)?;
+    compare(
+        rt,
+        &mut sched,
+        turns,
+        &call_of,
+        &mut |call| plain_answer(&mut list, params, call),
+    )
 }
 
 #[test]
 fn answers_as_a_plain_program(rt: HostRuntime) -> Result<(), Fail> {
     for threads in [1, 2, 7, 63, 64, 65] {
         for channels in [1, 3, MOST_CHANNELS] {
-            compare(&rt, rt.alloc(), threads, channels, 5000)?;
+            agrees(&rt, rt.alloc(), threads, channels, 5000)?;
         }
     }
     Ok(())
@@ -285,6 +173,6 @@ fn answers_as_a_plain_program(rt: HostRuntime) -> Result<(), Fail> {
 
 #[test]
 fn answers_as_a_plain_program_of_all_threads(rt: HostRuntime) -> Result<(), Fail> {
-    compare(&rt, rt.alloc(), MOST_THREADS, 1, 5000)?;
-    compare(&rt, rt.alloc(), MOST_THREADS, MOST_CHANNELS, 100_000)
+    agrees(&rt, rt.alloc(), MOST_THREADS, 1, 5000)?;
+    agrees(&rt, rt.alloc(), MOST_THREADS, MOST_CHANNELS, 100_000)
 }
