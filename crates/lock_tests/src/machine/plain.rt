@@ -1,12 +1,19 @@
-//! Every short schedule of two CPUs, beside the rules of the locks written out plainly.
+//! Every short schedule of two CPUs, by the machine and by callers of a real cell, beside the rules of the locks written out
+//! plainly.
 
-use crate::machine::scene::{step, two_cpus};
-use event_log::Event;
-use shared_queue::ThreadQueue;
+use crate::interface::{Stands, does, of_two, queue};
+use crate::machine::scene::{Setting, open};
+use crate::{mcs, ticket, toggle};
+use event_log::{Logged, Run};
+use mcs_lock::McsCell;
+use shared_queue::{QueueCall as Call, ThreadQueue};
 use std::alloc::Global;
 use std::process::Abort;
+use std::slice;
 use std::test::Fail;
-use word_rule::{LockAlgorithm, StepDone};
+use ticket_lock::TicketCell;
+use toggle_lock::ToggleCell;
+use word_rule::{LockAlgorithm, LockCell, StepDone};
 
 /// How far a CPU is in its only call.
 #[derive(Clone, Copy, Debug, PartialEq, Eq, Drop)]
@@ -156,65 +163,119 @@ impl Plain {
     }
 }
 
-/// The CPUs of the events, in order.
-fn cpus_of(alloc: Global, log: &[Event<ThreadQueue>]) -> Result<Vec<u8>, Fail> {
-    let mut cpus = Vec::new(alloc);
-    for event in log {
-        cpus.push(event.cpu)?;
+/// The steps of a schedule, each with its CPU: ten by the binary digits of the number, and then each CPU in turn.
+fn steps_of(
+    alloc: Global,
+    plain: &mut Plain,
+    kind: LockAlgorithm,
+    number: u32,
+) -> Result<Vec<(u8, StepDone)>, Fail> {
+    let mut steps = Vec::new(alloc);
+    for turn in 0..34 {
+        let cpu = if turn < 10 {
+            number >> turn & 1
+        } else {
+            turn & 1
+        } as u8;
+        steps.push((cpu, plain.step(kind, cpu)?))?;
     }
-    Ok(cpus)
+    Ok(steps)
 }
 
-/// Plays a schedule of at most 10 steps on both: the binary digits of the number below its first, the lowest first.
-fn agrees<R: Abort>(rt: &R, alloc: Global, kind: LockAlgorithm, number: u32) -> Result<(), Fail> {
-    let mut scene = two_cpus(alloc, kind)?;
-    let mut plain = Plain::new(alloc);
-    let mut rest = number;
-    for turn in 0..10 {
-        if rest < 2 {
-            break;
+/// Two callers of a real cell make these steps and end the cell.
+fn cell_steps<C: LockCell<ThreadQueue>, S: Stands<C>, R: Abort>(
+    rt: &R,
+    callers: (C, S, S),
+    steps: &[(u8, StepDone)],
+) -> Logged<ThreadQueue> {
+    let (cell, mut zero, mut one) = callers;
+    for (cpu, done) in steps {
+        if *cpu == 0 {
+            zero = does(rt, &cell, zero, 3, slice::from_ref(done));
+        } else {
+            one = does(rt, &cell, one, 4, slice::from_ref(done));
         }
-        let cpu = (rest % 2) as u8;
-        rest /= 2;
-        assert_eq!(rt;
-            step(&mut scene, cpu)?,
-            plain.step(kind, cpu)?,
-            "step {turn} of schedule {number}"
-        );
     }
-    let run = scene.machine.record();
-    let [log] = run.logs.as_slice() else {
-        return Err(Fail::new("not one log"));
+    let pass = cell.join(zero.pass(rt), one.pass(rt));
+    cell.close(pass)
+}
+
+/// A machine of one cell, and of two CPUs that put a thread each into its queue, makes these steps.
+fn machine_steps<R: Abort>(
+    rt: &R,
+    alloc: Global,
+    kind: LockAlgorithm,
+    steps: &[(u8, StepDone)],
+) -> Result<Run<ThreadQueue>, Fail> {
+    let setting = Setting {
+        locks: &[(kind, 0)],
+        scripts: &[&[(0, Call::Enq(3))], &[(0, Call::Enq(4))]],
     };
-    assert_eq!(rt;
-        cpus_of(alloc, log.as_slice())?.as_slice(),
-        plain.ended.as_slice(),
-        "order of schedule {number}"
-    );
+    let mut machine = open(alloc, &setting)?;
+    for (cpu, done) in steps {
+        assert_eq!(rt; machine.step(*cpu), *done);
+    }
+    Ok(machine.record())
+}
+
+/// The plain rules, the machine and a real cell agree on each schedule that begins with ten steps of its own.
+fn agrees<C: LockCell<ThreadQueue>, S: Stands<C>, R: Abort>(
+    rt: &R,
+    alloc: Global,
+    kind: LockAlgorithm,
+    callers_of: &dyn Fn(Logged<ThreadQueue>) -> Result<(C, S, S), Fail>,
+) -> Result<(), Fail> {
+    for number in 0..1024 {
+        let mut plain = Plain::new(alloc);
+        let steps = steps_of(alloc, &mut plain, kind, number)?;
+        let run = machine_steps(rt, alloc, kind, steps.as_slice())?;
+        let log = run.logs.as_slice()[0].as_slice();
+        let queue = cell_steps(rt, callers_of(queue(alloc)?)?, steps.as_slice());
+        assert!(rt; queue.log() == log, "log of schedule {number}");
+        assert_eq!(rt; log.len(), plain.ended.len());
+        for x in 0..log.len() {
+            assert_eq!(rt; log[x].cpu, plain.ended[x], "order of schedule {number}");
+        }
+    }
     Ok(())
 }
 
-/// All 2,046 schedules of 1 to 10 steps.
+/// The cell's first ticket is the greatest.
 #[test]
 fn a_ticket_lock_by_its_rules(rt: HostRuntime) -> Result<(), Fail> {
-    for number in 2..2048 {
-        agrees(&rt, rt.alloc(), LockAlgorithm::Ticket, number)?;
-    }
-    Ok(())
+    agrees(
+        &rt,
+        rt.alloc(),
+        LockAlgorithm::Ticket,
+        &|queue| {
+            let (cell, zero, one) = of_two(TicketCell::new(rt.alloc(), queue, 2, u32::MAX))?;
+            Ok((cell, ticket::At::Out(zero), ticket::At::Out(one)))
+        },
+    )
 }
 
 #[test]
 fn an_mcs_lock_by_its_rules(rt: HostRuntime) -> Result<(), Fail> {
-    for number in 2..2048 {
-        agrees(&rt, rt.alloc(), LockAlgorithm::Mcs, number)?;
-    }
-    Ok(())
+    agrees(
+        &rt,
+        rt.alloc(),
+        LockAlgorithm::Mcs,
+        &|queue| {
+            let (cell, zero, one) = of_two(McsCell::new(rt.alloc(), queue, 2))?;
+            Ok((cell, mcs::At::Out(zero), mcs::At::Out(one)))
+        },
+    )
 }
 
 #[test]
 fn a_toggle_lock_by_its_rules(rt: HostRuntime) -> Result<(), Fail> {
-    for number in 2..2048 {
-        agrees(&rt, rt.alloc(), LockAlgorithm::Toggle, number)?;
-    }
-    Ok(())
+    agrees(
+        &rt,
+        rt.alloc(),
+        LockAlgorithm::Toggle,
+        &|queue| {
+            let (cell, zero, one) = of_two(ToggleCell::new(rt.alloc(), queue, 2))?;
+            Ok((cell, toggle::At::Out(zero), toggle::At::Out(one)))
+        },
+    )
 }
