@@ -1,4 +1,4 @@
-//! Tests of `guarded_cell`: cells of both kinds, over objects of `shared_queue` and `wake_list`.
+//! Tests of `guarded_cell`: cells of both kinds, over the four objects; and of threads that call any cell.
 #![tactic(auto)]
 
 #[cfg(test)]
@@ -8,13 +8,7 @@ mod holds;
 #[cfg(test)]
 mod looks;
 #[cfg(test)]
-mod machine;
-#[cfg(test)]
 mod objects;
-#[cfg(test)]
-mod replays;
-#[cfg(test)]
-mod rounds;
 #[cfg(test)]
 mod scene;
 #[cfg(test)]

@@ -1,7 +1,5 @@
 //! A caller that waits for another counts its looks.
 
-ghost use Rattle.std.specs.Prelude.{◌≡◌};
-
 use crate::scene::{KINDS, Pair, calls_from, cell_of_two};
 use event_log::SeqObject;
 use std::sync::Wait;
@@ -29,10 +27,7 @@ fn keep<O: SeqObject, C: LockCell<O>, R: Wait>(
     cell: &C,
     pass: C::Pass,
     calls: &[O::Call],
-) -> (C::Pass, u64)
-    requires { C.is_pass_of cell.now pass }
-    ensures { C.is_pass_of cell.now result.0 }
-{
+) -> (C::Pass, u64) {
     come.fetch_add(1, Ordering::SeqCst);
     let (mut hold, looks) = cell.acquire(rt, pass);
     wait_for_both(come);
@@ -54,21 +49,13 @@ where
     O::Call: Send + Sync,
     O::Reply: Send,
     C::Pass: Send,
-    requires first { C.is_pass_of cell.now passes.0 }
-    requires second { C.is_pass_of cell.now passes.1 }
 {
     let (first, second) = passes;
     let come = &AtomicUsize::new(0);
     let ((_, one), (_, other)) = thread::join(
         rt,
-        move || -> (C::Pass, u64)
-            requires pass { C.is_pass_of cell.now first }
-            ensures pass { C.is_pass_of cell.entry.now result.0 }
-        { keep(rt, come, cell, first, calls) },
-        move || -> (C::Pass, u64)
-            requires pass { C.is_pass_of cell.now second }
-            ensures pass { C.is_pass_of cell.entry.now result.0 }
-        { keep(rt, come, cell, second, calls) },
+        move || keep(rt, come, cell, first, calls),
+        move || keep(rt, come, cell, second, calls),
     );
     one.max(other)
 }

@@ -1,18 +1,12 @@
-//! Objects in cells of both kinds: a queue of threads and a scheduler.
+//! A queue of threads in cells of both kinds.
 
-ghost use Rattle.word_rule.specs.Cell.{OwnTogether};
-ghost use Rattle.guarded_cell.specs.Kinds.{IsPassOf};
-ghost use Rattle.word_rule.specs.Passes.{view_of_pass};
-
-use crate::scene::{KINDS, are_steps, cell_of_one, cell_of_two};
+use crate::scene::{KINDS, are_steps, cell_of_one};
 use event_log::{Logged, NoRoom, SeqObject};
-use guarded_cell::{AnyCell, AnyPass};
 use shared_queue::{QueueCall as Call, QueueReply as Reply, ThreadQueue};
 use sound_run::LockKind;
 use std::alloc::Global;
 use std::sync::Wait;
 use std::test::Fail;
-use wake_list::{Sched, SchedCall, SchedParams, SchedReply};
 use word_rule::LockCell;
 
 /// Does a call on a cell of one CPU, and gives the object back with the reply and the number of looks.
@@ -47,101 +41,6 @@ fn a_queue_goes_from_lock_to_lock(rt: HostRuntime) -> Result<(), Fail> {
         };
         assert!(rt; are_steps(&enq.steps, &[(Call::Enq(3), Reply::Ok)]));
         assert!(rt; are_steps(&deq.steps, &[(Call::Deq, Reply::Thread(3))]));
-    }
-    Ok(())
-}
-
-/// CPU 0 makes the first call, the passes meet, CPU 1 makes the second, and the cell is ended.
-fn meet_between<R: Wait>(
-    rt: &R,
-    cell: AnyCell<ThreadQueue>,
-    passes: (AnyPass<ThreadQueue>, AnyPass<ThreadQueue>),
-    first: Call,
-    second: Call,
-) -> (Logged<ThreadQueue>, [(Result<Reply, NoRoom>, u64); 2])
-    requires zero { IsPassOf cell passes.0 }
-    requires one { IsPassOf cell passes.1 }
-    requires all { OwnTogether (view_of_pass passes.0).caller (view_of_pass passes.1).caller }
-{
-    let (zero, one) = passes;
-    let (zero, put, first_looks) = cell.call(rt, zero, &first);
-    let (zero, one) = cell.meet(zero, one);
-    let (one, got, second_looks) = cell.call(rt, one, &second);
-    let pass = cell.join(zero, one);
-    (cell.close(pass), [(put, first_looks), (got, second_looks)])
-}
-
-#[test]
-fn two_cpus_meet(rt: HostRuntime) -> Result<(), Fail> {
-    for (kind, looks) in [(LockKind::Ticket, 1u64), (LockKind::Mcs, 0)] {
-        let (cell, passes) = cell_of_two(rt.alloc(), kind, 100)?;
-        assert_eq!(rt; cell.kind(), kind);
-        let (mut queue, replies) = meet_between(&rt, cell, passes, Call::Enq(3), Call::Deq);
-        assert_eq!(rt;
-            replies,
-            [(Ok(Reply::Ok), looks), (Ok(Reply::Thread(3)), looks)]
-        );
-        let [enq, deq] = queue.log() else {
-            return Err(Fail::new("not two events"));
-        };
-        assert_eq!(rt; (enq.cpu, deq.cpu), (0, 1));
-        let steps = queue.apply(0, &[Call::Len])?;
-        assert!(rt; are_steps(&steps, &[(Call::Len, Reply::Count(0))]));
-    }
-    Ok(())
-}
-
-#[test]
-fn a_scheduler(rt: HostRuntime) -> Result<(), Fail> {
-    let rows = [
-        (
-            SchedCall::Sleep {
-                channel: 0,
-                thread: 5,
-            },
-            SchedReply::Ok,
-        ),
-        (
-            SchedCall::Sleep {
-                channel: 0,
-                thread: 2,
-            },
-            SchedReply::Ok,
-        ),
-        (SchedCall::WakeAll(0), SchedReply::Count(2)),
-        (SchedCall::Next, SchedReply::Thread(5)),
-        (SchedCall::Next, SchedReply::Thread(2)),
-        (SchedCall::WakeAll(0), SchedReply::Count(0)),
-    ];
-    for kind in KINDS {
-        let params = SchedParams {
-            threads: 8,
-            channels: 1,
-        };
-        let mut sched = Logged::<Sched>::open(rt.alloc(), params, 100)?;
-        for (asked, wanted) in rows {
-            let (back, reply, _) = call_alone(&rt, rt.alloc(), kind, sched, &asked)?;
-            sched = back;
-            assert_eq!(rt; reply, Ok(wanted));
-        }
-        assert_eq!(rt; sched.log().len(), 6);
-    }
-    Ok(())
-}
-
-#[test]
-fn a_batch_ends_at_a_refusal(rt: HostRuntime) -> Result<(), Fail> {
-    for kind in KINDS {
-        let queue = Logged::<ThreadQueue>::open(rt.alloc(), 8, 100)?;
-        let Ok((cell, pass)) = cell_of_one(rt.alloc(), kind, queue) else {
-            return Err(Fail::new("no memory"));
-        };
-        let asked = [Call::Enq(3), Call::Enq(3), Call::Deq];
-        let (pass, done, _) = cell.batch(&rt, pass, &asked);
-        let queue = cell.close(pass);
-        let wanted = [(Call::Enq(3), Reply::Ok), (Call::Enq(3), Reply::Already)];
-        assert!(rt; are_steps(&done?, &wanted));
-        assert_eq!(rt; queue.log().len(), 1);
     }
     Ok(())
 }

@@ -1,11 +1,6 @@
 //! Cells of both kinds around a queue of 8 threads, calls on them, and what their logs have to be.
 
-ghost use Rattle.std.specs.Prelude.{◌≡◌, [], IfOk};
-ghost use Rattle.word_rule.specs.Cell.{OwnsAll, OwnTogether};
-ghost use Rattle.guarded_cell.specs.Kinds.{IsPassOf};
-ghost use Rattle.word_rule.specs.Passes.{view_of_pass, run_of_pass};
-
-use event_log::{Logged, SeqObject, Steps};
+use event_log::{Event, Logged, SeqObject, Steps};
 use guarded_cell::{AnyCell, AnyPass};
 use shared_queue::{QueueCall as Call, ThreadQueue};
 use sound_run::LockKind;
@@ -14,7 +9,7 @@ use std::test::Fail;
 
 pub const KINDS: [LockKind; 2] = [LockKind::Ticket, LockKind::Mcs];
 
-/// The passes of two callers.
+/// Two of a kind.
 pub type Pair<P> = (P, P);
 
 /// A cell of one CPU around the object.
@@ -22,10 +17,7 @@ pub fn cell_of_one<O: SeqObject>(
     alloc: Global,
     kind: LockKind,
     logged: Logged<O>,
-) -> Result<(AnyCell<O>, AnyPass<O>), Logged<O>>
-    ensures pass { IfOk result (λ r. IsPassOf r.0 r.1) }
-    ensures all { IfOk result (λ r. OwnsAll (view_of_pass r.1).caller) }
-{
+) -> Result<(AnyCell<O>, AnyPass<O>), Logged<O>> {
     match AnyCell::open(alloc, kind, logged, 1) {
         Ok((cell, mut passes)) => {
             let pass = passes.pop().unwrap();
@@ -40,18 +32,7 @@ pub fn cell_of_two(
     alloc: Global,
     kind: LockKind,
     limit: u32,
-) -> Result<
-    (
-        AnyCell<ThreadQueue>,
-        (AnyPass<ThreadQueue>, AnyPass<ThreadQueue>),
-    ),
-    Fail,
->
-    ensures zero { IfOk result (λ r. IsPassOf r.0 r.1.0) }
-    ensures one { IfOk result (λ r. IsPassOf r.0 r.1.1) }
-    ensures all { IfOk result (λ r. OwnTogether (view_of_pass r.1.0).caller (view_of_pass r.1.1).caller) }
-    ensures new { IfOk result (λ r. (run_of_pass r.1.0 ≡ []) × (run_of_pass r.1.1 ≡ [])) }
-{
+) -> Result<(AnyCell<ThreadQueue>, Pair<AnyPass<ThreadQueue>>), Fail> {
     let queue = Logged::<ThreadQueue>::open(alloc, 8, limit)?;
     let Ok((cell, mut passes)) = AnyCell::open(alloc, kind, queue, 2) else {
         return Err(Fail::new("no memory"));
@@ -65,7 +46,7 @@ pub fn cell_of_two(
 pub fn calls_from(alloc: Global, start: u32, count: u32) -> Result<Vec<Call>, Fail> {
     let mut calls = Vec::new(alloc);
     for i in 0..count {
-        let call = match (start % 5 + i % 5) % 5 {
+        let call = match (start + i) % 5 {
             0 => Call::Enq(i % 8),
             1 => Call::Enq(i % 3),
             2 => Call::Deq,
@@ -86,9 +67,9 @@ pub fn are_steps<O: SeqObject>(steps: &Steps<O>, wanted: &[(O::Call, O::Reply)])
 }
 
 /// Whether the CPU's events are these calls, each once and in order.
-pub fn are_calls_of(queue: &Logged<ThreadQueue>, cpu: u8, wanted: &[Call]) -> bool {
-    let count = queue.log().iter().filter(|event| event.cpu == cpu).count();
-    let mine = queue.log().iter().filter(|event| event.cpu == cpu);
+pub fn are_calls_of<O: SeqObject>(log: &[Event<O>], cpu: u8, wanted: &[O::Call]) -> bool {
+    let count = log.iter().filter(|event| event.cpu == cpu).count();
+    let mine = log.iter().filter(|event| event.cpu == cpu);
     count == wanted.len()
         && mine.zip(wanted.iter()).all(|(event, call)| match event.steps.list.as_slice() {
             [step] => step.call == *call,
@@ -96,10 +77,10 @@ pub fn are_calls_of(queue: &Logged<ThreadQueue>, cpu: u8, wanted: &[Call]) -> bo
         })
 }
 
-/// Whether a queue that begins anew gives the log's replies to its calls.
-pub fn is_replayed(alloc: Global, queue: &Logged<ThreadQueue>) -> Result<bool, Fail> {
-    let mut fresh = ThreadQueue::open(alloc, &8)?;
-    for event in queue.log() {
+/// Whether an object that is opened anew gives the log's replies to its calls.
+pub fn is_replayed<O: SeqObject>(alloc: Global, logged: &Logged<O>) -> Result<bool, Fail> {
+    let mut fresh = O::open(alloc, logged.params())?;
+    for event in logged.log() {
         for step in event.steps.list.as_slice() {
             if fresh.apply(&step.call) != step.reply {
                 return Ok(false);

@@ -1,11 +1,6 @@
 //! Tries on cells of both kinds.
 
-ghost use Rattle.std.specs.Prelude.{◌≡◌};
-ghost use Rattle.word_rule.specs.Cell.{OwnTogether};
-
-use crate::scene::{
-    KINDS, Pair, are_calls_of, are_steps, calls_from, cell_of_one, cell_of_two, is_replayed,
-};
+use crate::scene::{KINDS, Pair, are_calls_of, calls_from, cell_of_two, is_replayed};
 use event_log::{Logged, SeqObject};
 use guarded_cell::{AnyCell, Declined, call, try_call};
 use shared_queue::{QueueCall as Call, QueueReply as Reply, ThreadQueue};
@@ -14,29 +9,6 @@ use std::test::Fail;
 use std::thread;
 use std::thread::Threads;
 use word_rule::LockCell;
-
-#[test]
-fn a_try_alone_gets_the_object(rt: HostRuntime) -> Result<(), Fail> {
-    for kind in KINDS {
-        let queue = Logged::<ThreadQueue>::open(rt.alloc(), 8, 2)?;
-        let Ok((cell, pass)) = cell_of_one(rt.alloc(), kind, queue) else {
-            return Err(Fail::new("no memory"));
-        };
-        let (pass, reply) = cell.try_call(&rt, pass, &Call::Enq(3));
-        assert_eq!(rt; reply, Ok(Reply::Ok));
-        let (pass, done) = cell.try_batch(&rt, pass, &[Call::Enq(4), Call::Enq(3), Call::Deq]);
-        let Ok(steps) = done else {
-            return Err(Fail::new("the batch wasn't done"));
-        };
-        let wanted = [(Call::Enq(4), Reply::Ok), (Call::Enq(3), Reply::Already)];
-        assert!(rt; are_steps(&steps, &wanted));
-        let (pass, reply) = cell.try_call(&rt, pass, &Call::Len);
-        assert_eq!(rt; reply, Err(Declined::NoRoom));
-        let queue = cell.close(pass);
-        assert_eq!(rt; queue.log().len(), 2);
-    }
-    Ok(())
-}
 
 #[test]
 fn a_try_beside_a_holder_is_busy(rt: HostRuntime) -> Result<(), Fail> {
@@ -65,11 +37,7 @@ fn try_all<O: SeqObject, C: LockCell<O>, R: Wait>(
     cell: &C,
     pass: C::Pass,
     calls: &[O::Call],
-) -> (C::Pass, u64)
-    requires { C.is_pass_of cell.now pass }
-    ensures pass { C.is_pass_of cell.now result.0 }
-    ensures caller { (C.pass_view result.0).caller ≡ (C.pass_view pass).caller }
-{
+) -> (C::Pass, u64) {
     let mut pass = pass;
     let mut busy = 0u64;
     for asked in calls {
@@ -84,8 +52,7 @@ fn try_all<O: SeqObject, C: LockCell<O>, R: Wait>(
     (pass, busy)
 }
 
-/// Two callers, who own every number of the cell together, do their calls on two threads, by tries and by calls that wait, and
-/// end the cell.
+/// Two callers do their calls on two threads, by tries and by calls that wait, and end the cell.
 fn two_try_their_calls<O: SeqObject + Send, C: LockCell<O> + Sync, R: Threads + Wait + Sync>(
     rt: &R,
     cell: C,
@@ -98,24 +65,13 @@ where
     O::Call: Send + Sync,
     O::Reply: Send,
     C::Pass: Send,
-    requires first { C.is_pass_of cell passes.0 }
-    requires second { C.is_pass_of cell passes.1 }
-    requires all { OwnTogether (C.pass_view passes.0).caller (C.pass_view passes.1).caller }
 {
     let (first, second) = passes;
     let shared = &cell;
     let ((zero, _), (one, _)) = thread::join(
         rt,
-        move || -> (C::Pass, u64)
-            requires pass { C.is_pass_of shared.now first }
-            ensures pass { C.is_pass_of shared.entry.now result.0 }
-            ensures caller { (C.pass_view result.0).caller ≡ (C.pass_view first).caller }
-        { try_all(rt, shared, first, first_calls) },
-        move || -> (C::Pass, u64)
-            requires pass { C.is_pass_of shared.now second }
-            ensures pass { C.is_pass_of shared.entry.now result.0 }
-            ensures caller { (C.pass_view result.0).caller ≡ (C.pass_view second).caller }
-        { try_all(rt, shared, second, second_calls) },
+        move || try_all(rt, shared, first, first_calls),
+        move || try_all(rt, shared, second, second_calls),
     );
     let pass = cell.join(zero, one);
     cell.close(pass)
@@ -129,8 +85,8 @@ fn two_threads_call_and_try(rt: HostRuntime) -> Result<(), Fail> {
         let (cell, passes) = cell_of_two(rt.alloc(), kind, 5000)?;
         let queue = two_try_their_calls(&rt, cell, passes, first.as_slice(), second.as_slice());
         assert_eq!(rt; queue.log().len(), 5000);
-        assert!(rt; are_calls_of(&queue, 0, first.as_slice()));
-        assert!(rt; are_calls_of(&queue, 1, second.as_slice()));
+        assert!(rt; are_calls_of(queue.log(), 0, first.as_slice()));
+        assert!(rt; are_calls_of(queue.log(), 1, second.as_slice()));
         assert!(rt; is_replayed(rt.alloc(), &queue)?);
     }
     Ok(())
