@@ -19,7 +19,7 @@ from datetime import datetime, timezone
 from pathlib import Path
 
 ROOT = Path(__file__).resolve().parent.parent.parent
-TOOL = "/".join(Path(sys.argv[0]).resolve().parts[-3:])
+TOOL = os.path.relpath(Path(sys.argv[0]).resolve(), ROOT)
 MC2 = ROOT / "crates/mc2/out/mc2"
 BENCH = ROOT / "crates/bench/out/bench"
 COSTS = ROOT / "crates/costs/out/costs"
