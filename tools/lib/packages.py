@@ -7,7 +7,9 @@ from pathlib import Path
 from common import ROOT, last_line
 
 LIST = ROOT / "tools/packages.txt"
-SECONDS = 600
+SECONDS = 300
+# A machine that reaches no mirror says so soon.
+WORDS = ["apt-get", "-o", "Acquire::Retries=1", "-o", "Acquire::http::Timeout=20"]
 
 
 def listed():
@@ -31,7 +33,7 @@ def install():
     how = {"stdin": subprocess.DEVNULL, "capture_output": True, "timeout": SECONDS, "env": {**os.environ, "DEBIAN_FRONTEND": "noninteractive"}}
     for words in (["update"], ["install", "-y", "--no-install-recommends", *wanted]) if wanted else ():
         try:
-            ran = subprocess.run(["apt-get", *words], check=False, **how)
+            ran = subprocess.run([*WORDS, *words], check=False, **how)
             said = last_line(ran.stderr, ran.stdout) if ran.returncode else ""
         except (OSError, subprocess.TimeoutExpired) as error:
             said = str(error)
