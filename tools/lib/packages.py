@@ -28,7 +28,7 @@ def missing():
 
 
 def install():
-    """Installs what is missing by apt-get, and returns whether nothing is missing any more. What went wrong is printed."""
+    """Installs what is missing by apt-get, and returns what is still missing. What went wrong is printed."""
     wanted = [package for package, _ in missing()]
     how = {"stdin": subprocess.DEVNULL, "capture_output": True, "timeout": SECONDS, "env": {**os.environ, "DEBIAN_FRONTEND": "noninteractive"}}
     for words in (["update"], ["install", "-y", "--no-install-recommends", *wanted]) if wanted else ():
@@ -39,4 +39,4 @@ def install():
             said = str(error)
         if said:
             print(f"apt-get {' '.join(words)}: {said}", flush=True)
-    return not missing()
+    return [package for package, _ in missing()]
