@@ -1,34 +1,65 @@
-//! The calls of a round.
+//! The calls of a CPU on one queue.
 
-ghost use Rattle.std.specs.Prelude.{◌≡◌};
-ghost use Rattle.guarded_cell.specs.Kinds.{IsPassOf};
+ghost use Rattle.std.specs.Prelude.{◌≡◌, ◌<◌, [], ◌∷◌, length};
+ghost use Rattle.std.specs.List.{All};
 
-use crate::form::Form;
-use crate::tally::Tally;
+use crate::load::{Form, TOGETHER};
+use arrayvec::ArrayVec;
 use event_log::{Logged, MOST_CALLS};
-use guarded_cell::{AnyCell, AnyPass};
+use guarded_cell::{MOST_GROUPS, batch, call, with_hold};
 use shared_queue::{QueueCall, ThreadQueue};
 use std::sync::{Mutex, Wait};
 use word_rule::LockCell;
 
+/// A group of calls, which is one event.
+type Group = ArrayVec<QueueCall, MOST_CALLS>;
+
 /// Whose calls they are, how many, and in which form.
-#[derive(Clone, Copy, Debug, PartialEq, Eq, Drop)]
+#[derive(Clone, Copy, Drop)]
 pub struct Calls {
     pub cpu: u8,
     pub count: u32,
     pub form: Form,
 }
 
+/// A group of one call.
+fn group_of(call: QueueCall) -> Group
+    ensures { result.items ≡ call ∷ [] }
+{
+    let mut group = ArrayVec::new();
+    group.push(call);
+    group
+}
+
+/// Calls one after another on a queue that is held.
+fn call_each(queue: &mut Logged<ThreadQueue>, cpu: u8, calls: &[QueueCall]) {
+    for call in calls {
+        let _reply = queue.call(cpu, call);
+    }
+}
+
 impl Calls {
-    /// Enq of the CPU's number and deq, which are called in turn.
-    pub fn in_turn(&self) -> [QueueCall; 2] {
-        [QueueCall::Enq(u32::from(self.cpu)), QueueCall::Deq]
+    /// Enq of the CPU's number and deq, in turn.
+    fn eight(&self) -> [QueueCall; MOST_CALLS] {
+        let (enq, deq) = (QueueCall::Enq(u32::from(self.cpu)), QueueCall::Deq);
+        [enq, deq, enq, deq, enq, deq, enq, deq]
     }
 
-    /// Eight of them.
-    pub fn eight(&self) -> [QueueCall; MOST_CALLS] {
-        let [enq, deq] = self.in_turn();
-        [enq, deq, enq, deq, enq, deq, enq, deq]
+    /// The same, each a group of its own.
+    fn groups(&self) -> [Group; MOST_GROUPS]
+        ensures { All (λ g. 0 < length g.items) result }
+    {
+        let [a, b, c, d, e, f, g, h] = self.eight();
+        [
+            group_of(a),
+            group_of(b),
+            group_of(c),
+            group_of(d),
+            group_of(e),
+            group_of(f),
+            group_of(g),
+            group_of(h),
+        ]
     }
 
     /// Makes the calls on a cell.
@@ -41,46 +72,49 @@ impl Calls {
         requires { C.is_pass_of cell.now pass }
         ensures { C.is_pass_of cell.now result }
     {
+        let (eight, groups) = (self.eight(), self.groups());
+        let mut pass = pass;
         match self.form {
-            Form::Each => self.each_on_cell(rt, cell, pass),
-            Form::Batch => self.batches_on_cell(rt, cell, pass),
-            Form::Hold => self.holds_on_cell(rt, cell, pass),
-        }
-    }
-
-    /// Makes the calls on a cell of either kind.
-    pub fn on_either<R: Wait>(
-        &self,
-        rt: &R,
-        cell: &AnyCell<ThreadQueue>,
-        pass: AnyPass<ThreadQueue>,
-    ) -> AnyPass<ThreadQueue>
-        requires { IsPassOf cell.now pass }
-        ensures { IsPassOf cell.now result }
-    {
-        match self.form {
-            Form::Each => self.each_on_either(rt, cell, pass),
-            Form::Batch => self.batches_on_either(rt, cell, pass),
-            Form::Hold => self.holds_on_either(rt, cell, pass),
+            Form::Each => {
+                for k in 0..self.count {
+                    pass = call(rt, cell, pass, &eight[(k % 2) as usize]).0;
+                }
+                pass
+            }
+            Form::Batch => {
+                for _ in 0..self.count / TOGETHER {
+                    pass = batch(rt, cell, pass, &eight).0;
+                }
+                pass
+            }
+            Form::Hold => {
+                for _ in 0..self.count / TOGETHER {
+                    pass = with_hold(rt, cell, pass, &groups, &mut ArrayVec::new()).0;
+                }
+                pass
+            }
         }
     }
 
     /// Makes the calls on a queue in the mutex.
     pub fn in_mutex<R: Wait>(&self, rt: &R, queue: &Mutex<Logged<ThreadQueue>>) {
+        let eight = self.eight();
         match self.form {
-            Form::Each => self.each_in_mutex(rt, queue),
-            Form::Batch => self.batches_in_mutex(rt, queue),
-            Form::Hold => self.holds_in_mutex(rt, queue),
+            Form::Each => {
+                for k in 0..self.count {
+                    let _reply = queue.lock(rt).call(self.cpu, &eight[(k % 2) as usize]);
+                }
+            }
+            Form::Batch => {
+                for _ in 0..self.count / TOGETHER {
+                    let _done = queue.lock(rt).apply(self.cpu, &eight);
+                }
+            }
+            Form::Hold => {
+                for _ in 0..self.count / TOGETHER {
+                    call_each(&mut *queue.lock(rt), self.cpu, &eight);
+                }
+            }
         }
     }
-}
-
-/// Counts what is in the log of a cell.
-pub fn tally_cell<C: LockCell<ThreadQueue>, R: Wait>(rt: &R, cell: &C, pass: C::Pass) -> Tally
-    requires { C.is_pass_of cell.now pass }
-{
-    let (hold, _looks) = cell.acquire(rt, pass);
-    let tally = Tally::of(C::logged(&hold).log());
-    let _pass = cell.release(rt, hold);
-    tally
 }

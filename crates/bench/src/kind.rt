@@ -1,8 +1,8 @@
 //! What may guard the queue.
 
-use std::fmt;
+use crate::fault::Fault;
 
-#[derive(Clone, Copy, Debug, PartialEq, Eq, Drop)]
+#[derive(Clone, Copy, Drop)]
 pub enum Kind {
     Ticket,
     Mcs,
@@ -14,15 +14,15 @@ pub enum Kind {
 
 impl Kind {
     /// The kind of that name.
-    pub fn named(name: &str) -> Option<Kind> {
+    pub fn named(name: &str) -> Result<Kind, Fault> {
         match name {
-            "ticket" => Some(Kind::Ticket),
-            "mcs" => Some(Kind::Mcs),
-            "toggle" => Some(Kind::Toggle),
-            "any-ticket" => Some(Kind::AnyTicket),
-            "any-mcs" => Some(Kind::AnyMcs),
-            "mutex" => Some(Kind::Mutex),
-            _ => None,
+            "ticket" => Ok(Kind::Ticket),
+            "mcs" => Ok(Kind::Mcs),
+            "toggle" => Ok(Kind::Toggle),
+            "any-ticket" => Ok(Kind::AnyTicket),
+            "any-mcs" => Ok(Kind::AnyMcs),
+            "mutex" => Ok(Kind::Mutex),
+            _ => Err(Fault::WrongWords),
         }
     }
 
@@ -35,11 +35,5 @@ impl Kind {
             Kind::AnyMcs => "any-mcs",
             Kind::Mutex => "mutex",
         }
-    }
-}
-
-impl fmt::Display for Kind {
-    fn fmt<W: fmt::Write>(&self, f: &mut fmt::Formatter<W>) -> fmt::Result {
-        f.write_str(self.name())
     }
 }

@@ -1,57 +1,49 @@
-//! Rounds of calls on a queue that several CPUs share, timed inside: `bench KIND CPUS CALLS ROUNDS`.
+//! Rounds of calls on a queue that several CPUs share, timed inside: `bench KIND[,KIND..] CPUS CALLS ROUNDS [batch|hold] [unkept]`.
 #![tactic(auto)]
 
-mod arguments;
-mod batches;
-mod by_lock;
+
 mod caller;
 mod calls;
-mod crew;
-mod each;
 mod fault;
-mod form;
 mod gate;
-mod holds;
 mod kind;
 mod load;
-mod opening;
-mod place;
-mod rounds;
-mod span;
+mod lock;
 mod tally;
-#[cfg(test)]
-mod tests;
-mod threads;
+mod round;
+mod words;
+mod worker;
 
-use crate::arguments::{Settings, USAGE, WordsFault, words_given};
 use crate::fault::Fault;
-use crate::rounds::print_rounds;
+use crate::round::print_rounds;
+use crate::words::{Settings, USAGE, words_given};
+use std::alloc::Global;
+use std::io::Print;
 use std::process::ExitCode;
+use std::rt::Env;
+use std::sync::Wait;
+use std::thread::Threads;
+use std::time::Clock;
 
 /// The status of wrong words.
 const BAD_WORDS: u8 = 2;
 
-/// The status where something was refused to the program.
-const REFUSED: u8 = 1;
+/// Does what the words ask for.
+fn bench<R: Env + Threads + Wait + Clock + Print + Sync>(rt: &R, alloc: Global) -> Result<(), Fault> {
+    let words = words_given(rt, alloc)?;
+    print_rounds(rt, alloc, &Settings::read(alloc, words.as_slice())?)
+}
 
 fn main(rt: HostRuntime) -> ExitCode {
-    let settings = match words_given(&rt, rt.alloc()) {
-        Ok(words) => Settings::read(rt.alloc(), words.as_slice()),
-        Err(fault) => Err(fault),
-    };
-    let outcome = match settings {
-        Ok(settings) => print_rounds(&rt, rt.alloc(), &settings),
-        Err(WordsFault::OutOfMemory) => Err(Fault::OutOfMemory),
-        Err(WordsFault::NoForm) => {
-            let _ = eprintln!(rt; "{USAGE}");
-            return ExitCode::from(BAD_WORDS);
-        }
-    };
-    match outcome {
+    match bench(&rt, rt.alloc()) {
         Ok(()) => ExitCode::SUCCESS,
+        Err(Fault::WrongWords) => {
+            let _ = eprintln!(rt; "{USAGE}");
+            ExitCode::from(BAD_WORDS)
+        }
         Err(fault) => {
             let _ = eprintln!(rt; "bench: {fault}");
-            ExitCode::from(REFUSED)
+            ExitCode::FAILURE
         }
     }
 }

@@ -1,31 +1,22 @@
 //! What is counted in logs.
 
-use event_log::{Event, SeqObject};
+use event_log::Event;
+use shared_queue::ThreadQueue;
 
 /// How many events there are, and how often the CPU changed from one event to the next.
-#[derive(Clone, Copy, Debug, PartialEq, Eq, Drop)]
+#[derive(Clone, Copy, Drop)]
 pub struct Tally {
     pub events: usize,
     pub turns: usize,
 }
 
 impl Tally {
-    pub const NOTHING: Tally = Tally {
-        events: 0,
-        turns: 0,
-    };
-
     /// The tally of a log.
-    pub fn of<O: SeqObject>(log: &[Event<O>]) -> Tally {
-        let later = log.iter().skip(1);
-        let turns = log
-            .iter()
-            .zip(later)
-            .filter(|(event, next)| event.cpu != next.cpu)
-            .count();
+    pub fn of(log: &[Event<ThreadQueue>]) -> Tally {
+        let pairs = log.iter().zip(log.iter().skip(1));
         Tally {
             events: log.len(),
-            turns,
+            turns: pairs.filter(|(event, next)| event.cpu != next.cpu).count(),
         }
     }
 
