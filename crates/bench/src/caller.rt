@@ -5,25 +5,28 @@ ghost use Rattle.std.specs.Arc.{arc_value};
 
 use crate::calls::Calls;
 use crate::fault::Fault;
-use crate::kind::Kind;
-use crate::lock::TimedCell;
-use crate::tally::Tally;
-use event_log::Logged;
+use crate::load::Load;
+use crate::lock::{Pass, TimedCell};
+use crate::words::Kind;
+use event_log::{Event, Logged};
 use shared_queue::ThreadQueue;
-use sound_run::MOST_CPUS;
 use std::alloc::{AllocError, Global};
 use std::sync::{Arc, Mutex, Wait};
 
+/// How many events a log has, and how often the CPU changes from one to the next.
+pub type Tally = (usize, usize);
+
+fn tally_of(log: &[Event<ThreadQueue>]) -> Tally {
+    let pairs = log.iter().zip(log.iter().skip(1));
+    (
+        log.len(),
+        pairs.filter(|(event, next)| event.cpu != next.cpu).count(),
+    )
+}
+
 pub trait Caller: Drop {
-    /// Guards the queue in the way of the kind: a caller for each CPU, in order.
-    fn open(
-        alloc: Global,
-        kind: Kind,
-        queue: Logged<ThreadQueue>,
-        cpus: u8,
-    ) -> Result<Vec<Self>, Fault>
-        requires some { 0 < cpus }
-        requires few { cpus ≤ MOST_CPUS };
+    /// Opens a queue for that share of the load: a caller for each CPU, in order.
+    fn open(alloc: Global, kind: Kind, load: &Load, share: u32) -> Result<Vec<Self>, Fault>;
 
     /// Makes the calls.
     fn call<R: Wait>(self, rt: &R, calls: &Calls) -> Self;
@@ -36,18 +39,13 @@ pub trait Caller: Drop {
 #[derive(Drop)]
 pub struct ByLock<C: TimedCell> {
     cell: Arc<C>,
-    pass: C::Pass,
+    pass: Pass,
     ghost ours: { ∥ C.is_pass_of (arc_value cell) pass ∥₁ },
 }
 
 impl<C: TimedCell> Caller for ByLock<C> {
-    fn open(
-        alloc: Global,
-        kind: Kind,
-        queue: Logged<ThreadQueue>,
-        cpus: u8,
-    ) -> Result<Vec<Self>, Fault> {
-        let Ok((cell, passes)) = C::open(alloc, kind, queue, cpus) else {
+    fn open(alloc: Global, kind: Kind, load: &Load, share: u32) -> Result<Vec<Self>, Fault> {
+        let Ok((cell, passes)) = C::open(alloc, kind, load, load.open_queue(alloc, share)?) else {
             return Err(Fault::from(AllocError));
         };
         let shared = Arc::new(alloc, cell)?;
@@ -68,7 +66,7 @@ impl<C: TimedCell> Caller for ByLock<C> {
     fn tally<R: Wait>(self, rt: &R) -> Tally {
         let ByLock { cell, pass } = self;
         let (hold, _looks) = cell.acquire(rt, pass);
-        let tally = Tally::of(C::logged(&hold).log());
+        let tally = tally_of(C::logged(&hold).log());
         let _pass = cell.release(rt, hold);
         tally
     }
@@ -79,15 +77,10 @@ impl<C: TimedCell> Caller for ByLock<C> {
 pub struct InMutex(Arc<Mutex<Logged<ThreadQueue>>>);
 
 impl Caller for InMutex {
-    fn open(
-        alloc: Global,
-        _kind: Kind,
-        queue: Logged<ThreadQueue>,
-        cpus: u8,
-    ) -> Result<Vec<Self>, Fault> {
-        let shared = Arc::new(alloc, Mutex::new(queue))?;
+    fn open(alloc: Global, _kind: Kind, load: &Load, share: u32) -> Result<Vec<Self>, Fault> {
+        let shared = Arc::new(alloc, Mutex::new(load.open_queue(alloc, share)?))?;
         let mut callers = Vec::new(alloc);
-        for _ in 0..cpus {
+        for _ in 0..load.cpus {
             callers.push(InMutex(Arc::try_clone(&shared)?))?;
         }
         Ok(callers)
@@ -99,6 +92,6 @@ impl Caller for InMutex {
     }
 
     fn tally<R: Wait>(self, rt: &R) -> Tally {
-        Tally::of(self.0.lock(rt).log())
+        tally_of(self.0.lock(rt).log())
     }
 }

@@ -1,18 +1,18 @@
-//! The calls of a CPU on one queue.
+//! The calls of a CPU on one queue: enq of its number and deq, in turn.
 
 ghost use Rattle.std.specs.Prelude.{◌≡◌, ◌<◌, [], ◌∷◌, length};
 ghost use Rattle.std.specs.List.{All};
 
 use crate::load::{Form, TOGETHER};
+use crate::lock::{Pass, TimedCell};
 use arrayvec::ArrayVec;
 use event_log::{Logged, MOST_CALLS};
-use guarded_cell::{MOST_GROUPS, batch, call, with_hold};
+use guarded_cell::MOST_GROUPS;
 use shared_queue::{QueueCall, ThreadQueue};
 use std::sync::{Mutex, Wait};
-use word_rule::LockCell;
 
 /// A group of calls, which is one event.
-type Group = ArrayVec<QueueCall, MOST_CALLS>;
+pub type Group = ArrayVec<QueueCall, MOST_CALLS>;
 
 /// Whose calls they are, how many, and in which form.
 #[derive(Clone, Copy, Drop)]
@@ -39,36 +39,20 @@ fn call_each(queue: &mut Logged<ThreadQueue>, cpu: u8, calls: &[QueueCall]) {
 }
 
 impl Calls {
-    /// Enq of the CPU's number and deq, in turn.
     fn eight(&self) -> [QueueCall; MOST_CALLS] {
         let (enq, deq) = (QueueCall::Enq(u32::from(self.cpu)), QueueCall::Deq);
         [enq, deq, enq, deq, enq, deq, enq, deq]
     }
 
-    /// The same, each a group of its own.
+    /// Eight calls, each a group of its own.
     fn groups(&self) -> [Group; MOST_GROUPS]
         ensures { All (λ g. 0 < length g.items) result }
     {
-        let [a, b, c, d, e, f, g, h] = self.eight();
-        [
-            group_of(a),
-            group_of(b),
-            group_of(c),
-            group_of(d),
-            group_of(e),
-            group_of(f),
-            group_of(g),
-            group_of(h),
-        ]
+        self.eight().map(group_of)
     }
 
     /// Makes the calls on a cell.
-    pub fn on_cell<C: LockCell<ThreadQueue>, R: Wait>(
-        &self,
-        rt: &R,
-        cell: &C,
-        pass: C::Pass,
-    ) -> C::Pass
+    pub fn on_cell<C: TimedCell, R: Wait>(&self, rt: &R, cell: &C, pass: Pass) -> Pass
         requires { C.is_pass_of cell.now pass }
         ensures { C.is_pass_of cell.now result }
     {
@@ -77,23 +61,21 @@ impl Calls {
         match self.form {
             Form::Each => {
                 for k in 0..self.count {
-                    pass = call(rt, cell, pass, &eight[(k % 2) as usize]).0;
+                    pass = cell.one(rt, pass, &eight[(k % 2) as usize]);
                 }
-                pass
             }
             Form::Batch => {
                 for _ in 0..self.count / TOGETHER {
-                    pass = batch(rt, cell, pass, &eight).0;
+                    pass = cell.eight(rt, pass, &eight);
                 }
-                pass
             }
             Form::Hold => {
                 for _ in 0..self.count / TOGETHER {
-                    pass = with_hold(rt, cell, pass, &groups, &mut ArrayVec::new()).0;
+                    pass = cell.hold(rt, pass, &groups);
                 }
-                pass
             }
         }
+        pass
     }
 
     /// Makes the calls on a queue in the mutex.

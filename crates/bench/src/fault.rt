@@ -5,7 +5,6 @@ use thiserror::Error;
 
 #[derive(Debug, Drop, Error)]
 pub enum Fault {
-    /// The words are not of the form.
     #[error("wrong words")]
     WrongWords,
     #[error("out of memory")]

@@ -1,6 +1,6 @@
 //! How much is called in a round.
 
-ghost use Rattle.std.specs.Prelude.{◌≡◌, ◌<◌, ◌≤◌, IfOk, IfSome, sum};
+ghost use Rattle.std.specs.Prelude.{◌≡◌, ◌<◌, ◌≤◌, IfOk, sum};
 ghost use Rattle.sound_run.specs.declared.limits.TheConstants.{MOST_CPUS};
 
 use crate::fault::Fault;
@@ -27,7 +27,7 @@ pub enum Form {
 }
 
 /// How many CPUs call, how many calls each makes in a round and in which form, and whether the events are in memory.
-#[derive(Clone, Copy, Drop)]
+#[derive(Drop)]
 pub struct Load {
     pub cpus: u8,
     pub calls: u32,
@@ -44,10 +44,17 @@ impl Load {
         if cpus == 0 || cpus > MOST_CPUS || calls == 0 {
             return None;
         }
-        if calls > MOST_ROUND_CALLS / u32::from(cpus) || form != Form::Each && calls % TOGETHER > 0 {
+        if calls > MOST_ROUND_CALLS / u32::from(cpus)
+            || form != Form::Each && calls % TOGETHER > 0
+        {
             return None;
         }
-        Some(Load { cpus, calls, form, is_kept })
+        Some(Load {
+            cpus,
+            calls,
+            form,
+            is_kept,
+        })
     }
 
     /// The calls of each CPU on one queue after another: as many as a log has room for, each as an event, in whole eights.
@@ -55,8 +62,7 @@ impl Load {
         ensures { IfOk result (λ s. sum s.items ≡ self.now.calls) }
     {
         let most = MOST_EVENTS / u32::from(self.cpus) / TOGETHER * TOGETHER;
-        let whole = (self.calls / most) as usize;
-        let mut shares = vec![in alloc; most; whole]?;
+        let mut shares = vec![in alloc; most; (self.calls / most) as usize]?;
         let rest = self.calls % most;
         if rest > 0 {
             shares.push(rest)?;
@@ -67,10 +73,15 @@ impl Load {
     /// A queue of 1,024 threads. A log that is kept has room for just the events of this share of each CPU.
     pub fn open_queue(&self, alloc: Global, share: u32) -> Result<Logged<ThreadQueue>, Fault> {
         let calls = share.saturating_mul(u32::from(self.cpus));
-        let opened = match (self.is_kept, self.form) {
-            (false, _) => Logged::<ThreadQueue>::open_unkept(alloc, MOST_THREADS),
-            (true, Form::Batch) => Logged::<ThreadQueue>::open(alloc, MOST_THREADS, calls / TOGETHER),
-            (true, _) => Logged::<ThreadQueue>::open(alloc, MOST_THREADS, calls),
+        let events = if self.form == Form::Batch {
+            calls / TOGETHER
+        } else {
+            calls
+        };
+        let opened = if self.is_kept {
+            Logged::<ThreadQueue>::open(alloc, MOST_THREADS, events)
+        } else {
+            Logged::<ThreadQueue>::open_unkept(alloc, MOST_THREADS)
         };
         opened.map_err(|_| Fault::from(AllocError))
     }

@@ -3,14 +3,12 @@
 use crate::caller::{ByLock, Caller, InMutex};
 use crate::calls::Calls;
 use crate::fault::Fault;
-use crate::kind::Kind;
 use crate::load::Load;
-use crate::tally::Tally;
-use crate::words::Settings;
-use crate::worker::{Places, on_threads};
+use crate::threads::{Places, on_threads};
+use crate::words::{Kind, Settings};
 use guarded_cell::AnyCell;
 use mcs_lock::McsCell;
-use shared_queue::ThreadQueue;
+use shared_queue::ThreadQueue as Queue;
 use std::alloc::Global;
 use std::io::Print;
 use std::sync::Wait;
@@ -26,7 +24,7 @@ fn open_all<P: Caller>(alloc: Global, kind: Kind, load: &Load) -> Result<Vec<Pla
         crew.push(Vec::new(alloc))?;
     }
     for count in load.shares(alloc)? {
-        let callers = P::open(alloc, kind, load.open_queue(alloc, count)?, load.cpus)?;
+        let callers = P::open(alloc, kind, load, count)?;
         for ((cpu, places), caller) in (0..load.cpus).zip(crew.iter_mut()).zip(callers) {
             let form = load.form;
             places.push((caller, Calls { cpu, count, form }))?;
@@ -35,47 +33,45 @@ fn open_all<P: Caller>(alloc: Global, kind: Kind, load: &Load) -> Result<Vec<Pla
     Ok(crew)
 }
 
-/// A round, and its line. The nanoseconds are from the first start to the last end.
-fn print_round<P: Caller + Send, R: Threads + Wait + Clock + Print + Sync>(
+/// A round, which is told in nanoseconds, events and turns.
+fn one_round<P: Caller + Send, R: Threads + Wait + Clock + Sync>(
     rt: &R,
     alloc: Global,
     kind: Kind,
     load: &Load,
-) -> Result<(), Fault> {
+) -> Result<(u128, usize, usize), Fault> {
     let ended = on_threads(rt, alloc, open_all::<P>(alloc, kind, load)?)?;
     let nanoseconds = ended.end.saturating_sub(ended.start).as_nanos();
-    let mut all = Tally { events: 0, turns: 0 };
+    let (mut events, mut turns) = (0usize, 0usize);
     for caller in ended.callers {
-        all = all.with(caller.tally(rt));
+        let tally = caller.tally(rt);
+        events = events.saturating_add(tally.0);
+        turns = turns.saturating_add(tally.1);
     }
-    println!(rt; "{} {nanoseconds} {} {}", kind.name(), all.events, all.turns).map_err(|_| Fault::WriteFailed)
+    Ok((nanoseconds, events, turns))
 }
 
-/// A round of the kind, printed in a line of its own.
-fn print_one<R: Threads + Wait + Clock + Print + Sync>(
-    rt: &R,
-    alloc: Global,
-    kind: Kind,
-    load: &Load,
-) -> Result<(), Fault> {
-    match kind {
-        Kind::Ticket => print_round::<ByLock<TicketCell<ThreadQueue>>, R>(rt, alloc, kind, load),
-        Kind::Mcs => print_round::<ByLock<McsCell<ThreadQueue>>, R>(rt, alloc, kind, load),
-        Kind::Toggle => print_round::<ByLock<ToggleCell<ThreadQueue>>, R>(rt, alloc, kind, load),
-        Kind::AnyTicket | Kind::AnyMcs => print_round::<ByLock<AnyCell<ThreadQueue>>, R>(rt, alloc, kind, load),
-        Kind::Mutex => print_round::<InMutex, R>(rt, alloc, kind, load),
-    }
-}
-
-/// All rounds, a round of each kind after another.
+/// All rounds, a round of each kind after another, each printed in a line of its own.
 pub fn print_rounds<R: Threads + Wait + Clock + Print + Sync>(
     rt: &R,
     alloc: Global,
     settings: &Settings,
 ) -> Result<(), Fault> {
+    let load = &settings.load;
     for _ in 0..settings.rounds {
-        for kind in &settings.kinds {
-            print_one(rt, alloc, *kind, &settings.load)?;
+        for (name, kind) in &settings.kinds {
+            let kind = *kind;
+            let (nanoseconds, events, turns) = match kind {
+                Kind::Ticket => one_round::<ByLock<TicketCell<Queue>>, R>(rt, alloc, kind, load),
+                Kind::Mcs => one_round::<ByLock<McsCell<Queue>>, R>(rt, alloc, kind, load),
+                Kind::Toggle => one_round::<ByLock<ToggleCell<Queue>>, R>(rt, alloc, kind, load),
+                Kind::AnyTicket | Kind::AnyMcs => one_round::<ByLock<AnyCell<Queue>>, R>(
+                    rt, alloc, kind, load,
+                ),
+                Kind::Mutex => one_round::<InMutex, R>(rt, alloc, kind, load),
+            }?;
+            let written = println!(rt; "{name} {nanoseconds} {events} {turns}");
+            written.map_err(|_| Fault::WriteFailed)?;
         }
     }
     Ok(())

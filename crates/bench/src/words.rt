@@ -1,7 +1,6 @@
 //! The program's words.
 
 use crate::fault::Fault;
-use crate::kind::Kind;
 use crate::load::{Form, Load};
 use std::alloc::{AllocError, Global};
 use std::rt::Env;
@@ -17,10 +16,30 @@ pub const USAGE: &str = "usage: bench KIND[,KIND..] CPUS CALLS ROUNDS [batch|hol
   unkept  no log is kept: EVENTS and TURNS are 0
 A line is `KIND NANOSECONDS EVENTS TURNS`.";
 
-/// What the words ask for.
+/// What may guard the queue.
+#[derive(Clone, Copy, Drop)]
+pub enum Kind {
+    Ticket,
+    Mcs,
+    Toggle,
+    AnyTicket,
+    AnyMcs,
+    Mutex,
+}
+
+const KINDS: [(&str, Kind); 6] = [
+    ("ticket", Kind::Ticket),
+    ("mcs", Kind::Mcs),
+    ("toggle", Kind::Toggle),
+    ("any-ticket", Kind::AnyTicket),
+    ("any-mcs", Kind::AnyMcs),
+    ("mutex", Kind::Mutex),
+];
+
+/// What the words ask for: the kinds with their names, and the rounds of each.
 #[derive(Drop)]
 pub struct Settings {
-    pub kinds: Vec<Kind>,
+    pub kinds: Vec<(&'static str, Kind)>,
     pub load: Load,
     pub rounds: u32,
 }
@@ -34,42 +53,37 @@ pub fn words_given<E: Env>(env: &E, alloc: Global) -> Result<Vec<String>, Fault>
     }
 }
 
-/// Whether the last word is this one, and the words before it.
-fn without<'w>(words: &'w [String], wanted: &str) -> (&'w [String], bool) {
-    match words {
-        [first @ .., last] if last.as_str() == wanted => (first, true),
-        _ => (words, false),
-    }
+/// The kind of that name.
+fn kind_named(name: &str) -> Result<(&'static str, Kind), Fault> {
+    let found = KINDS.iter().find(|(word, _)| *word == name);
+    found.copied().ok_or(Fault::WrongWords)
 }
 
-/// The form of the calls, and the words before that one.
-fn read_form(words: &[String]) -> (&[String], Form) {
-    let (words, is_batch) = without(words, "batch");
-    if is_batch {
-        return (words, Form::Batch);
-    }
-    let (words, is_hold) = without(words, "hold");
-    (words, if is_hold { Form::Hold } else { Form::Each })
-}
-
-/// A number of that range.
-fn read_number(word: &str) -> Result<u32, Fault> {
-    word.parse().map_err(|_| Fault::WrongWords)
+fn read_number(word: &String) -> Result<u32, Fault> {
+    word.as_str().parse().map_err(|_| Fault::WrongWords)
 }
 
 impl Settings {
     /// Reads the words after the program's name.
     pub fn read(alloc: Global, words: &[String]) -> Result<Settings, Fault> {
-        let (words, is_unkept) = without(words, "unkept");
-        let (words, form) = read_form(words);
-        let [kinds, cpus, calls, rounds] = words else {
+        let (words, is_kept) = match words {
+            [first @ .., last] if last.as_str() == "unkept" => (first, false),
+            _ => (words, true),
+        };
+        let (words, form) = match words {
+            [first @ .., last] if last.as_str() == "batch" => (first, Form::Batch),
+            [first @ .., last] if last.as_str() == "hold" => (first, Form::Hold),
+            _ => (words, Form::Each),
+        };
+        let [names, cpus, calls, rounds] = words else {
             return Err(Fault::WrongWords);
         };
-        let (cpus, calls) = (read_number(cpus.as_str())?, read_number(calls.as_str())?);
-        let rounds = read_number(rounds.as_str())?;
-        match Load::new(cpus, calls, form, !is_unkept) {
+        let kinds = names.as_str().split(',').map(|name| kind_named(name));
+        let load = Load::new(read_number(cpus)?, read_number(calls)?, form, is_kept);
+        let rounds = read_number(rounds)?;
+        match load {
             Some(load) if rounds > 0 => Ok(Settings {
-                kinds: kinds.as_str().split(',').map(|name| Kind::named(name)).try_collect(alloc)?,
+                kinds: kinds.try_collect(alloc)?,
                 load,
                 rounds,
             }),
