@@ -22,9 +22,7 @@ ROOT = Path(__file__).resolve().parent.parent.parent
 TOOL = os.path.relpath(Path(sys.argv[0]).resolve(), ROOT)
 MC2 = ROOT / "crates/mc2/out/mc2"
 BENCH = ROOT / "crates/bench/out/bench"
-COSTS = ROOT / "crates/costs/out/costs"
 VIEW = ROOT / "crates/view/out/view"
-FOREVER = ROOT / "crates/forever/out/forever"
 # The most CPUs of a cell.
 MOST_CPUS = 64
 # What `rt version` prints of the logic that all is proved in.
@@ -32,9 +30,7 @@ LOGIC = "logic dac8208d650f15bf"
 HOW_TO_BUILD = {
     MC2: "`rt run` in crates/mc2 builds crates/mc2/out/mc2, and so does `rt ci`",
     BENCH: "`rt run` in crates/bench builds crates/bench/out/bench",
-    COSTS: "`rt run` in crates/costs builds crates/costs/out/costs, and so does `rt ci`",
     VIEW: "`rt run` in crates/view builds crates/view/out/view, and so does `rt ci`",
-    FOREVER: "`rt run` in crates/forever builds crates/forever/out/forever, and so does `rt ci`",
 }
 HOW_TO_GET = {
     "rt": "it is the command of the kit that README.md names",

@@ -1,13 +1,14 @@
 //! Why there are no rounds, or no further ones.
 
-use event_log::OutOfMemory;
 use std::alloc::AllocError;
 use thiserror::Error;
 
-#[derive(Clone, Copy, Debug, PartialEq, Eq, Drop, Error)]
+#[derive(Debug, Drop, Error)]
 pub enum Fault {
+    #[error("wrong words")]
+    WrongWords,
     #[error("out of memory")]
-    OutOfMemory,
+    OutOfMemory(#[from(alloc)] AllocError),
     /// The other threads of the round have ended.
     #[error("a thread was not started")]
     NoThreadStarted,
@@ -15,18 +16,4 @@ pub enum Fault {
     NoClock,
     #[error("write failed")]
     WriteFailed,
-}
-
-impl From<OutOfMemory> for Fault {
-    fn from(fault: OutOfMemory) -> Fault {
-        let _ = fault;
-        Fault::OutOfMemory
-    }
-}
-
-impl From<AllocError> for Fault {
-    fn from(fault: AllocError) -> Fault {
-        let _ = fault;
-        Fault::OutOfMemory
-    }
 }

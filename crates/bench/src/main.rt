@@ -1,57 +1,42 @@
 //! Rounds of calls on a queue that several CPUs share, timed inside: `bench KIND CPUS CALLS ROUNDS`.
 #![tactic(auto)]
 
-mod arguments;
-mod batches;
-mod by_lock;
 mod caller;
 mod calls;
-mod crew;
-mod each;
 mod fault;
-mod form;
-mod gate;
-mod holds;
-mod kind;
 mod load;
-mod opening;
-mod place;
-mod rounds;
-mod span;
-mod tally;
-#[cfg(test)]
-mod tests;
+mod lock;
+mod round;
 mod threads;
+mod words;
 
-use crate::arguments::{Settings, USAGE, WordsFault, words_given};
 use crate::fault::Fault;
-use crate::rounds::print_rounds;
+use crate::round::print_rounds;
+use crate::words::{Settings, USAGE, words_given};
 use std::process::ExitCode;
 
 /// The status of wrong words.
 const BAD_WORDS: u8 = 2;
 
-/// The status where something was refused to the program.
-const REFUSED: u8 = 1;
-
 fn main(rt: HostRuntime) -> ExitCode {
-    let settings = match words_given(&rt, rt.alloc()) {
-        Ok(words) => Settings::read(rt.alloc(), words.as_slice()),
+    let alloc = rt.alloc();
+    let settings = match words_given(&rt, alloc) {
+        Ok(words) => Settings::read(alloc, words.as_slice()),
         Err(fault) => Err(fault),
     };
     let outcome = match settings {
-        Ok(settings) => print_rounds(&rt, rt.alloc(), &settings),
-        Err(WordsFault::OutOfMemory) => Err(Fault::OutOfMemory),
-        Err(WordsFault::NoForm) => {
-            let _ = eprintln!(rt; "{USAGE}");
-            return ExitCode::from(BAD_WORDS);
-        }
+        Ok(settings) => print_rounds(&rt, alloc, &settings),
+        Err(fault) => Err(fault),
     };
     match outcome {
         Ok(()) => ExitCode::SUCCESS,
+        Err(Fault::WrongWords) => {
+            let _ = eprintln!(rt; "{USAGE}");
+            ExitCode::from(BAD_WORDS)
+        }
         Err(fault) => {
             let _ = eprintln!(rt; "bench: {fault}");
-            ExitCode::from(REFUSED)
+            ExitCode::FAILURE
         }
     }
 }

@@ -1,77 +1,105 @@
-//! Workers on threads of their own, which begin together.
+//! A thread for each CPU, which begin together.
 
-use crate::crew::Crew;
+use crate::caller::Caller;
+use crate::calls::Calls;
 use crate::fault::Fault;
-use crate::gate::Gate;
-use crate::place::Ended;
-use crate::span::Span;
 use std::alloc::Global;
-use std::collections::VecDeque;
 use std::sync::Wait;
+use std::sync::atomic::{AtomicUsize, Ordering};
 use std::thread;
-use std::thread::{JoinHandle, Scope, Threads};
-use std::time::Clock;
+use std::thread::Threads;
+use std::time::{Clock, Duration};
 
-/// What a worker's thread gives back.
-type Outcome = Result<Ended, Fault>;
+/// A CPU's places, each at one queue, in the order in which it goes to them.
+pub type Places<P> = Vec<(P, Calls)>;
 
-/// Starts a thread for each worker. Where one isn't started, no further one is.
-fn start_all<'s, E, R: Threads + Wait + Clock + Sync>(
-    scope: &Scope<'s, E>,
-    rt: &'s R,
-    gate: &'s Gate,
-    crew: Crew,
-    handles: &mut Vec<JoinHandle<Outcome>>,
-) -> Result<(), Fault> {
-    let mut crew = crew;
-    for _ in 0..crew.len() {
-        let Some(worker) = crew.pop_front() else {
-            break;
-        };
-        let Ok(handle) = scope.spawn(move || worker.work(rt, gate)) else {
-            return Err(Fault::NoThreadStarted);
-        };
-        if handles.push(handle).is_err() {
-            return Err(Fault::OutOfMemory);
-        }
-    }
-    Ok(())
+/// What a CPU, or all CPUs together, leave: the callers, and the times of the first start and the last end.
+#[derive(Drop)]
+pub struct Ended<P> {
+    pub callers: Vec<P>,
+    pub start: Duration,
+    pub end: Duration,
 }
 
-/// What two outcomes leave together: the places of the second.
-fn both(first: Outcome, second: Outcome) -> Outcome {
-    let (first, second) = (first?, second?);
+/// Waits until so many are at the gate.
+fn pass_gate<R: Wait>(rt: &R, gate: &AtomicUsize, awaited: usize) {
+    gate.fetch_add(1, Ordering::SeqCst);
+    for _ in rt.forever() {
+        if gate.load(Ordering::SeqCst) >= awaited {
+            return;
+        }
+        thread::yield_now();
+    }
+    unreachable!()
+}
+
+fn now<R: Clock>(rt: &R) -> Result<Duration, Fault> {
+    rt.monotonic().map_err(|_| Fault::NoClock)
+}
+
+/// Makes the calls of all places, one place after another, once so many are at the gate. Memory is taken before.
+fn work<P: Caller, R: Wait + Clock>(
+    rt: &R,
+    alloc: Global,
+    gate: &AtomicUsize,
+    awaited: usize,
+    places: Places<P>,
+) -> Result<Ended<P>, Fault> {
+    let room = Vec::with_capacity(alloc, places.len());
+    pass_gate(rt, gate, awaited);
+    let mut callers = room?;
+    let start = now(rt)?;
+    for (caller, calls) in places {
+        callers.push(caller.call(rt, &calls))?;
+    }
+    let end = now(rt)?;
     Ok(Ended {
-        places: second.places,
-        span: first.span.widest(second.span),
+        callers,
+        start,
+        end,
     })
 }
 
-/// Waits for all threads. The places are those of the last.
-fn join_all<R: Threads>(rt: &R, alloc: Global, handles: Vec<JoinHandle<Outcome>>) -> Outcome {
-    let mut outcome = Ok(Ended {
-        places: VecDeque::new(alloc),
-        span: Span::NONE,
-    });
-    for handle in handles {
-        outcome = both(outcome, handle.join(rt));
-    }
-    outcome
-}
-
-/// Lets each worker make its calls on a thread of its own, all from one moment on, and waits for all of them. Where a
-/// thread isn't started the gate is opened, so that those that run come to their end.
-pub fn on_threads<R: Threads + Wait + Clock + Sync>(rt: &R, alloc: Global, crew: Crew) -> Outcome {
+/// Lets each CPU make its calls on a thread of its own, all from one moment on, and waits for all of them: the callers are
+/// those of the last. Where a thread isn't started the gate is opened, so that those that run come to their end.
+pub fn on_threads<P: Caller + Send, R: Threads + Wait + Clock + Sync>(
+    rt: &R,
+    alloc: Global,
+    crew: Vec<Places<P>>,
+) -> Result<Ended<P>, Fault> {
     let mut handles = Vec::with_capacity(alloc, crew.len())?;
-    let own = Gate::new(crew.len());
+    let (own, awaited) = (AtomicUsize::new(0), crew.len());
     let gate = &own;
-    thread::scope(thread::scope_env(), rt, move |scope| -> Outcome {
-        let started = start_all(scope, rt, gate, crew, &mut handles);
-        if started.is_err() {
-            gate.open();
-        }
-        let outcome = join_all(rt, alloc, handles);
-        started?;
-        outcome
-    })
+    thread::scope(
+        thread::scope_env(),
+        rt,
+        move |scope| -> Result<Ended<P>, Fault> {
+            for places in crew {
+                let started = scope.spawn(move || work(rt, alloc, gate, awaited, places));
+                let Ok(Ok(())) = started.map(|handle| handles.push(handle)) else {
+                    gate.fetch_add(awaited, Ordering::SeqCst);
+                    return Err(Fault::NoThreadStarted);
+                };
+            }
+            let mut all = Ended {
+                callers: Vec::new(alloc),
+                start: Duration::MAX,
+                end: Duration::ZERO,
+            };
+            for handle in handles {
+                let Ended {
+                    callers,
+                    start,
+                    end,
+                } = handle.join(rt)?;
+                let (start, end) = (all.start.min(start), all.end.max(end));
+                all = Ended {
+                    callers,
+                    start,
+                    end,
+                };
+            }
+            Ok(all)
+        },
+    )
 }
