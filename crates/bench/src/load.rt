@@ -1,88 +1,62 @@
 //! How much is called in a round.
 
-ghost use Rattle.std.specs.Prelude.{◌≡◌, ◌<◌, ◌≤◌, IfOk, sum};
+ghost use Rattle.std.specs.Prelude.{◌≡◌, ◌<◌, ◌≤◌, IfOk, IfSome, sum};
 ghost use Rattle.sound_run.specs.declared.limits.TheConstants.{MOST_CPUS};
 
-use crate::Fault;
-use event_log::{Logged, MOST_EVENTS};
-use shared_queue::{MOST_THREADS, ThreadQueue};
+use crate::form::{Form, TOGETHER};
+use event_log::{MOST_EVENTS, OutOfMemory};
 use sound_run::MOST_CPUS;
-use std::alloc::{AllocError, Global};
+use std::alloc::Global;
 
 /// The most calls of a round. An event takes 144 bytes of a log.
-const MOST_ROUND_CALLS: u32 = 128 * MOST_EVENTS;
+pub const MOST_ROUND_CALLS: u32 = 128 * MOST_EVENTS;
 
-/// How many calls are made together, by one acquire and one release.
-pub const TOGETHER: u32 = 8;
-
-/// The forms in which calls are made.
-#[derive(Clone, Copy, PartialEq, Eq, Drop)]
-pub enum Form {
-    /// Each call by itself.
-    Each,
-    /// Eight calls as one event.
-    Batch,
-    /// Eight groups of one call under one hold, an event for each.
-    Hold,
+/// Whether the events of a queue's log are in memory.
+#[derive(Clone, Copy, Debug, PartialEq, Eq, Drop)]
+pub enum Log {
+    Kept,
+    Unkept,
 }
 
-/// How many CPUs call, how many calls each makes in a round and in which form, and whether the events are in memory.
-#[derive(Drop)]
+/// How many CPUs call, how many calls each makes in a round and in which form, and what is kept of them.
+#[derive(Clone, Copy, Debug, PartialEq, Eq, Drop)]
 pub struct Load {
     pub cpus: u8,
     pub calls: u32,
     pub form: Form,
-    is_kept: bool,
+    pub log: Log,
     ghost some: { 0 < cpus },
     ghost few: { cpus ≤ MOST_CPUS },
 }
 
 impl Load {
     /// From 1 CPU to the most of a cell, and from 1 call to the most of a round, as many as fit the form.
-    pub fn new(cpus: u32, calls: u32, form: Form, is_kept: bool) -> Option<Load> {
-        let cpus = u8::try_from(cpus).ok()?;
-        if cpus == 0 || cpus > MOST_CPUS || calls == 0 {
+    pub fn new(cpus: u8, calls: u32, form: Form, log: Log) -> Option<Load> {
+        if cpus == 0 || cpus > MOST_CPUS || calls == 0 || !form.fits(calls) {
             return None;
         }
-        if calls > MOST_ROUND_CALLS / u32::from(cpus)
-            || form != Form::Each && calls % TOGETHER > 0
-        {
+        if calls > MOST_ROUND_CALLS / u32::from(cpus) {
             return None;
         }
         Some(Load {
             cpus,
             calls,
             form,
-            is_kept,
+            log,
         })
     }
 
-    /// The calls of each CPU on one queue after another, in whole eights: as many as a kept log has room for, each as an event.
-    pub fn shares(&self, alloc: Global) -> Result<Vec<u32>, Fault>
+    /// The calls of each CPU on one queue after another: as many as a log has room for, each as an event, in whole eights.
+    pub fn shares(&self, alloc: Global) -> Result<Vec<u32>, OutOfMemory>
         ensures { IfOk result (λ s. sum s.items ≡ self.now.calls) }
     {
-        let room = if self.is_kept {
-            MOST_EVENTS
-        } else {
-            MOST_ROUND_CALLS
-        };
-        let most = room / u32::from(self.cpus) / TOGETHER * TOGETHER;
-        let mut shares = vec![in alloc; most; (self.calls / most) as usize]?;
+        let most = MOST_EVENTS / u32::from(self.cpus) / TOGETHER * TOGETHER;
+        let whole = (self.calls / most) as usize;
+        let mut shares = vec![in alloc; most; whole]?;
         let rest = self.calls % most;
         if rest > 0 {
             shares.push(rest)?;
         }
         Ok(shares)
-    }
-
-    /// A queue of 1,024 threads. A log that is kept has room for just the events of this share of each CPU.
-    pub fn open_queue(&self, alloc: Global, share: u32) -> Result<Logged<ThreadQueue>, Fault> {
-        let calls = share.saturating_mul(u32::from(self.cpus));
-        let opened = match (self.is_kept, self.form) {
-            (false, _) => Logged::<ThreadQueue>::open_unkept(alloc, MOST_THREADS),
-            (_, Form::Batch) => Logged::<ThreadQueue>::open(alloc, MOST_THREADS, calls / TOGETHER),
-            (_, _) => Logged::<ThreadQueue>::open(alloc, MOST_THREADS, calls),
-        };
-        opened.map_err(|_| Fault::from(AllocError))
     }
 }

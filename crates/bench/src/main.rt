@@ -1,53 +1,55 @@
 //! Rounds of calls on a queue that several CPUs share, timed inside: `bench KIND CPUS CALLS ROUNDS`.
 #![tactic(auto)]
 
+mod arguments;
+mod batches;
+mod by_lock;
 mod caller;
-mod cells;
+mod calls;
+mod crew;
+mod each;
+mod fault;
+mod form;
+mod gate;
+mod holds;
+mod kind;
 mod load;
-mod round;
-mod words;
+mod opening;
+mod place;
+mod rounds;
+mod span;
+mod tally;
+mod threads;
 
-use crate::round::print_rounds;
-use crate::words::{Settings, USAGE, words_given};
-use std::alloc::AllocError;
+use crate::arguments::{Settings, USAGE, WordsFault, words_given};
+use crate::fault::Fault;
+use crate::rounds::print_rounds;
 use std::process::ExitCode;
-use thiserror::Error;
 
 /// The status of wrong words.
 const BAD_WORDS: u8 = 2;
 
-/// Why there are no rounds, or no further ones.
-#[derive(Debug, Drop, Error)]
-pub enum Fault {
-    #[error("{USAGE}")]
-    WrongWords,
-    #[error("bench: out of memory")]
-    OutOfMemory(#[from(alloc)] AllocError),
-    /// The other threads of the round have ended.
-    #[error("bench: a thread was not started")]
-    NoThreadStarted,
-    #[error("bench: the clock can't be read")]
-    NoClock,
-    #[error("bench: write failed")]
-    WriteFailed,
-}
+/// The status where something was refused to the program.
+const REFUSED: u8 = 1;
 
 fn main(rt: HostRuntime) -> ExitCode {
-    let alloc = rt.alloc();
-    let settings = match words_given(&rt, alloc) {
-        Ok(words) => Settings::read(alloc, words.as_slice()),
+    let settings = match words_given(&rt, rt.alloc()) {
+        Ok(words) => Settings::read(rt.alloc(), words.as_slice()),
         Err(fault) => Err(fault),
     };
     let outcome = match settings {
-        Ok(settings) => print_rounds(&rt, alloc, &settings),
-        Err(fault) => Err(fault),
+        Ok(settings) => print_rounds(&rt, rt.alloc(), &settings),
+        Err(WordsFault::OutOfMemory) => Err(Fault::OutOfMemory),
+        Err(WordsFault::NoForm) => {
+            let _ = eprintln!(rt; "{USAGE}");
+            return ExitCode::from(BAD_WORDS);
+        }
     };
-    let Err(fault) = outcome else {
-        return ExitCode::SUCCESS;
-    };
-    let _ = eprintln!(rt; "{fault}");
-    match fault {
-        Fault::WrongWords => ExitCode::from(BAD_WORDS),
-        _ => ExitCode::FAILURE,
+    match outcome {
+        Ok(()) => ExitCode::SUCCESS,
+        Err(fault) => {
+            let _ = eprintln!(rt; "bench: {fault}");
+            ExitCode::from(REFUSED)
+        }
     }
 }
