@@ -1,15 +1,14 @@
 //! A CPU that calls a queue, whatever guards it.
 
-ghost use Rattle.std.specs.Prelude.{◌≡◌, ◌<◌, ◌≤◌};
+ghost use Rattle.std.specs.Prelude.{◌≡◌};
 ghost use Rattle.std.specs.Arc.{arc_value};
 
-use crate::calls::Calls;
-use crate::fault::Fault;
+use crate::Fault;
+use crate::cells::{Calls, Queue, TimedCell};
 use crate::load::Load;
-use crate::lock::{Pass, TimedCell};
-use crate::words::Kind;
-use event_log::{Event, Logged};
+use event_log::Event;
 use shared_queue::ThreadQueue;
+use sound_run::LockKind;
 use std::alloc::{AllocError, Global};
 use std::sync::{Arc, Mutex, Wait};
 
@@ -26,9 +25,8 @@ fn tally_of(log: &[Event<ThreadQueue>]) -> Tally {
 
 pub trait Caller: Drop {
     /// Opens a queue for that share of the load: a caller for each CPU, in order.
-    fn open(alloc: Global, kind: Kind, load: &Load, share: u32) -> Result<Vec<Self>, Fault>;
+    fn open(alloc: Global, chosen: LockKind, load: &Load, share: u32) -> Result<Vec<Self>, Fault>;
 
-    /// Makes the calls.
     fn call<R: Wait>(self, rt: &R, calls: &Calls) -> Self;
 
     /// Counts what is in the queue's log.
@@ -39,13 +37,13 @@ pub trait Caller: Drop {
 #[derive(Drop)]
 pub struct ByLock<C: TimedCell> {
     cell: Arc<C>,
-    pass: Pass,
+    pass: C::Pass,
     ghost ours: { ∥ C.is_pass_of (arc_value cell) pass ∥₁ },
 }
 
 impl<C: TimedCell> Caller for ByLock<C> {
-    fn open(alloc: Global, kind: Kind, load: &Load, share: u32) -> Result<Vec<Self>, Fault> {
-        let Ok((cell, passes)) = C::open(alloc, kind, load, load.open_queue(alloc, share)?) else {
+    fn open(alloc: Global, chosen: LockKind, load: &Load, share: u32) -> Result<Vec<Self>, Fault> {
+        let Ok((cell, passes)) = C::open(alloc, chosen, load, load.open_queue(alloc, share)?) else {
             return Err(Fault::from(AllocError));
         };
         let shared = Arc::new(alloc, cell)?;
@@ -59,7 +57,7 @@ impl<C: TimedCell> Caller for ByLock<C> {
 
     fn call<R: Wait>(self, rt: &R, calls: &Calls) -> Self {
         let ByLock { cell, pass } = self;
-        let pass = calls.on_cell(rt, &*cell, pass);
+        let pass = cell.make(rt, pass, calls);
         ByLock { cell, pass }
     }
 
@@ -74,10 +72,10 @@ impl<C: TimedCell> Caller for ByLock<C> {
 
 /// A caller of a queue with its log in the mutex of std.
 #[derive(Drop)]
-pub struct InMutex(Arc<Mutex<Logged<ThreadQueue>>>);
+pub struct InMutex(Arc<Mutex<Queue>>);
 
 impl Caller for InMutex {
-    fn open(alloc: Global, _kind: Kind, load: &Load, share: u32) -> Result<Vec<Self>, Fault> {
+    fn open(alloc: Global, _chosen: LockKind, load: &Load, share: u32) -> Result<Vec<Self>, Fault> {
         let shared = Arc::new(alloc, Mutex::new(load.open_queue(alloc, share)?))?;
         let mut callers = Vec::new(alloc);
         for _ in 0..load.cpus {

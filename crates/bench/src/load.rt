@@ -3,7 +3,7 @@
 ghost use Rattle.std.specs.Prelude.{◌≡◌, ◌<◌, ◌≤◌, IfOk, sum};
 ghost use Rattle.sound_run.specs.declared.limits.TheConstants.{MOST_CPUS};
 
-use crate::fault::Fault;
+use crate::Fault;
 use event_log::{Logged, MOST_EVENTS};
 use shared_queue::{MOST_THREADS, ThreadQueue};
 use sound_run::MOST_CPUS;
@@ -57,11 +57,16 @@ impl Load {
         })
     }
 
-    /// The calls of each CPU on one queue after another: as many as a log has room for, each as an event, in whole eights.
+    /// The calls of each CPU on one queue after another, in whole eights: as many as a kept log has room for, each as an event.
     pub fn shares(&self, alloc: Global) -> Result<Vec<u32>, Fault>
         ensures { IfOk result (λ s. sum s.items ≡ self.now.calls) }
     {
-        let most = MOST_EVENTS / u32::from(self.cpus) / TOGETHER * TOGETHER;
+        let room = if self.is_kept {
+            MOST_EVENTS
+        } else {
+            MOST_ROUND_CALLS
+        };
+        let most = room / u32::from(self.cpus) / TOGETHER * TOGETHER;
         let mut shares = vec![in alloc; most; (self.calls / most) as usize]?;
         let rest = self.calls % most;
         if rest > 0 {
@@ -73,15 +78,10 @@ impl Load {
     /// A queue of 1,024 threads. A log that is kept has room for just the events of this share of each CPU.
     pub fn open_queue(&self, alloc: Global, share: u32) -> Result<Logged<ThreadQueue>, Fault> {
         let calls = share.saturating_mul(u32::from(self.cpus));
-        let events = if self.form == Form::Batch {
-            calls / TOGETHER
-        } else {
-            calls
-        };
-        let opened = if self.is_kept {
-            Logged::<ThreadQueue>::open(alloc, MOST_THREADS, events)
-        } else {
-            Logged::<ThreadQueue>::open_unkept(alloc, MOST_THREADS)
+        let opened = match (self.is_kept, self.form) {
+            (false, _) => Logged::<ThreadQueue>::open_unkept(alloc, MOST_THREADS),
+            (_, Form::Batch) => Logged::<ThreadQueue>::open(alloc, MOST_THREADS, calls / TOGETHER),
+            (_, _) => Logged::<ThreadQueue>::open(alloc, MOST_THREADS, calls),
         };
         opened.map_err(|_| Fault::from(AllocError))
     }

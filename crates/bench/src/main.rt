@@ -2,21 +2,35 @@
 #![tactic(auto)]
 
 mod caller;
-mod calls;
-mod fault;
+mod cells;
 mod load;
-mod lock;
 mod round;
-mod threads;
 mod words;
 
-use crate::fault::Fault;
 use crate::round::print_rounds;
 use crate::words::{Settings, USAGE, words_given};
+use std::alloc::AllocError;
 use std::process::ExitCode;
+use thiserror::Error;
 
 /// The status of wrong words.
 const BAD_WORDS: u8 = 2;
+
+/// Why there are no rounds, or no further ones.
+#[derive(Debug, Drop, Error)]
+pub enum Fault {
+    #[error("{USAGE}")]
+    WrongWords,
+    #[error("bench: out of memory")]
+    OutOfMemory(#[from(alloc)] AllocError),
+    /// The other threads of the round have ended.
+    #[error("bench: a thread was not started")]
+    NoThreadStarted,
+    #[error("bench: the clock can't be read")]
+    NoClock,
+    #[error("bench: write failed")]
+    WriteFailed,
+}
 
 fn main(rt: HostRuntime) -> ExitCode {
     let alloc = rt.alloc();
@@ -28,15 +42,12 @@ fn main(rt: HostRuntime) -> ExitCode {
         Ok(settings) => print_rounds(&rt, alloc, &settings),
         Err(fault) => Err(fault),
     };
-    match outcome {
-        Ok(()) => ExitCode::SUCCESS,
-        Err(Fault::WrongWords) => {
-            let _ = eprintln!(rt; "{USAGE}");
-            ExitCode::from(BAD_WORDS)
-        }
-        Err(fault) => {
-            let _ = eprintln!(rt; "bench: {fault}");
-            ExitCode::FAILURE
-        }
+    let Err(fault) = outcome else {
+        return ExitCode::SUCCESS;
+    };
+    let _ = eprintln!(rt; "{fault}");
+    match fault {
+        Fault::WrongWords => ExitCode::from(BAD_WORDS),
+        _ => ExitCode::FAILURE,
     }
 }

@@ -1,30 +1,42 @@
-//! Rounds, each of one kind.
+//! Rounds, each of one kind, with a thread for each CPU.
 
+use crate::Fault;
 use crate::caller::{ByLock, Caller, InMutex};
-use crate::calls::Calls;
-use crate::fault::Fault;
+use crate::cells::Calls;
 use crate::load::Load;
-use crate::threads::{Places, on_threads};
 use crate::words::{Kind, Settings};
 use guarded_cell::AnyCell;
 use mcs_lock::McsCell;
 use shared_queue::ThreadQueue as Queue;
+use sound_run::LockKind;
 use std::alloc::Global;
 use std::io::Print;
 use std::sync::Wait;
+use std::sync::atomic::{AtomicUsize, Ordering};
+use std::thread;
 use std::thread::Threads;
-use std::time::Clock;
+use std::time::{Clock, Duration};
 use ticket_lock::TicketCell;
 use toggle_lock::ToggleCell;
 
+/// A CPU's places, each at one queue, in the order in which it goes to them.
+type Places<P> = Vec<(P, Calls)>;
+
+/// What a CPU, or all CPUs together, leave: the callers, and the times of the first start and the last end.
+type Ended<P> = Result<(Vec<P>, Duration, Duration), Fault>;
+
 /// Opens a queue for each share of the calls, and gives each CPU a place at each.
-fn open_all<P: Caller>(alloc: Global, kind: Kind, load: &Load) -> Result<Vec<Places<P>>, Fault> {
+fn open_all<P: Caller>(
+    alloc: Global,
+    chosen: LockKind,
+    load: &Load,
+) -> Result<Vec<Places<P>>, Fault> {
     let mut crew = Vec::new(alloc);
     for _ in 0..load.cpus {
         crew.push(Vec::new(alloc))?;
     }
     for count in load.shares(alloc)? {
-        let callers = P::open(alloc, kind, load, count)?;
+        let callers = P::open(alloc, chosen, load, count)?;
         for ((cpu, places), caller) in (0..load.cpus).zip(crew.iter_mut()).zip(callers) {
             let form = load.form;
             places.push((caller, Calls { cpu, count, form }))?;
@@ -33,25 +45,86 @@ fn open_all<P: Caller>(alloc: Global, kind: Kind, load: &Load) -> Result<Vec<Pla
     Ok(crew)
 }
 
-/// A round, which is told in nanoseconds, events and turns.
-fn one_round<P: Caller + Send, R: Threads + Wait + Clock + Sync>(
+/// Waits until so many are at the gate.
+fn pass_gate<R: Wait>(rt: &R, gate: &AtomicUsize, awaited: usize) {
+    gate.fetch_add(1, Ordering::SeqCst);
+    for _ in rt.forever() {
+        if gate.load(Ordering::SeqCst) >= awaited {
+            return;
+        }
+        thread::yield_now();
+    }
+    unreachable!()
+}
+
+fn now<R: Clock>(rt: &R) -> Result<Duration, Fault> {
+    rt.monotonic().map_err(|_| Fault::NoClock)
+}
+
+/// Makes the calls of all places, one place after another, once so many are at the gate. Memory is taken before.
+fn work<P: Caller, R: Wait + Clock>(
     rt: &R,
     alloc: Global,
-    kind: Kind,
+    (gate, awaited): (&AtomicUsize, usize),
+    places: Places<P>,
+) -> Ended<P> {
+    let room = Vec::with_capacity(alloc, places.len());
+    pass_gate(rt, gate, awaited);
+    let mut callers = room?;
+    let start = now(rt)?;
+    for (caller, calls) in places {
+        callers.push(caller.call(rt, &calls))?;
+    }
+    Ok((callers, start, now(rt)?))
+}
+
+/// Lets each CPU make its calls on a thread of its own, all from one moment on, and waits for all of them: the callers are
+/// those of the last. Where a thread isn't started the gate is opened, so that those that run come to their end.
+fn on_threads<P: Caller + Send, R: Threads + Wait + Clock + Sync>(
+    rt: &R,
+    alloc: Global,
+    crew: Vec<Places<P>>,
+) -> Ended<P> {
+    let mut handles = Vec::with_capacity(alloc, crew.len())?;
+    let (own, awaited) = (AtomicUsize::new(0), crew.len());
+    let gate = &own;
+    thread::scope(thread::scope_env(), rt, move |scope| -> Ended<P> {
+        for places in crew {
+            let started = scope.spawn(move || work(rt, alloc, (gate, awaited), places));
+            let Ok(Ok(())) = started.map(|handle| handles.push(handle)) else {
+                gate.fetch_add(awaited, Ordering::SeqCst);
+                return Err(Fault::NoThreadStarted);
+            };
+        }
+        let mut all = (Vec::new(alloc), Duration::MAX, Duration::ZERO);
+        for handle in handles {
+            let (callers, start, end) = handle.join(rt)?;
+            all = (callers, all.1.min(start), all.2.max(end));
+        }
+        Ok(all)
+    })
+}
+
+/// A round, printed in a line of its own: nanoseconds, events, and how often the CPU changed from one to the next.
+fn print_round<P: Caller + Send, R: Threads + Wait + Clock + Print + Sync>(
+    rt: &R,
+    alloc: Global,
+    (name, chosen): (&str, LockKind),
     load: &Load,
-) -> Result<(u128, usize, usize), Fault> {
-    let ended = on_threads(rt, alloc, open_all::<P>(alloc, kind, load)?)?;
-    let nanoseconds = ended.end.saturating_sub(ended.start).as_nanos();
+) -> Result<(), Fault> {
+    let (callers, start, end) = on_threads(rt, alloc, open_all::<P>(alloc, chosen, load)?)?;
     let (mut events, mut turns) = (0usize, 0usize);
-    for caller in ended.callers {
+    for caller in callers {
         let tally = caller.tally(rt);
         events = events.saturating_add(tally.0);
         turns = turns.saturating_add(tally.1);
     }
-    Ok((nanoseconds, events, turns))
+    let nanoseconds = end.saturating_sub(start).as_nanos();
+    let written = println!(rt; "{name} {nanoseconds} {events} {turns}");
+    written.map_err(|_| Fault::WriteFailed)
 }
 
-/// All rounds, a round of each kind after another, each printed in a line of its own.
+/// All rounds, a round of each kind after another.
 pub fn print_rounds<R: Threads + Wait + Clock + Print + Sync>(
     rt: &R,
     alloc: Global,
@@ -60,18 +133,19 @@ pub fn print_rounds<R: Threads + Wait + Clock + Print + Sync>(
     let load = &settings.load;
     for _ in 0..settings.rounds {
         for (name, kind) in &settings.kinds {
-            let kind = *kind;
-            let (nanoseconds, events, turns) = match kind {
-                Kind::Ticket => one_round::<ByLock<TicketCell<Queue>>, R>(rt, alloc, kind, load),
-                Kind::Mcs => one_round::<ByLock<McsCell<Queue>>, R>(rt, alloc, kind, load),
-                Kind::Toggle => one_round::<ByLock<ToggleCell<Queue>>, R>(rt, alloc, kind, load),
-                Kind::AnyTicket | Kind::AnyMcs => one_round::<ByLock<AnyCell<Queue>>, R>(
-                    rt, alloc, kind, load,
+            let it = (*name, LockKind::Ticket);
+            match *kind {
+                Kind::Ticket => print_round::<ByLock<TicketCell<Queue>>, R>(rt, alloc, it, load),
+                Kind::Mcs => print_round::<ByLock<McsCell<Queue>>, R>(rt, alloc, it, load),
+                Kind::Toggle => print_round::<ByLock<ToggleCell<Queue>>, R>(rt, alloc, it, load),
+                Kind::Any(lock) => print_round::<ByLock<AnyCell<Queue>>, R>(
+                    rt,
+                    alloc,
+                    (*name, lock),
+                    load,
                 ),
-                Kind::Mutex => one_round::<InMutex, R>(rt, alloc, kind, load),
+                Kind::Mutex => print_round::<InMutex, R>(rt, alloc, it, load),
             }?;
-            let written = println!(rt; "{name} {nanoseconds} {events} {turns}");
-            written.map_err(|_| Fault::WriteFailed)?;
         }
     }
     Ok(())

@@ -1,7 +1,8 @@
 //! The program's words.
 
-use crate::fault::Fault;
+use crate::Fault;
 use crate::load::{Form, Load};
+use sound_run::LockKind;
 use std::alloc::{AllocError, Global};
 use std::rt::Env;
 use std::{env, io};
@@ -22,8 +23,7 @@ pub enum Kind {
     Ticket,
     Mcs,
     Toggle,
-    AnyTicket,
-    AnyMcs,
+    Any(LockKind),
     Mutex,
 }
 
@@ -31,8 +31,8 @@ const KINDS: [(&str, Kind); 6] = [
     ("ticket", Kind::Ticket),
     ("mcs", Kind::Mcs),
     ("toggle", Kind::Toggle),
-    ("any-ticket", Kind::AnyTicket),
-    ("any-mcs", Kind::AnyMcs),
+    ("any-ticket", Kind::Any(LockKind::Ticket)),
+    ("any-mcs", Kind::Any(LockKind::Mcs)),
     ("mutex", Kind::Mutex),
 ];
 
@@ -80,14 +80,13 @@ impl Settings {
         };
         let kinds = names.as_str().split(',').map(|name| kind_named(name));
         let load = Load::new(read_number(cpus)?, read_number(calls)?, form, is_kept);
-        let rounds = read_number(rounds)?;
-        match load {
-            Some(load) if rounds > 0 => Ok(Settings {
+        match (load, read_number(rounds)?) {
+            (None, _) | (_, 0) => Err(Fault::WrongWords),
+            (Some(load), rounds) => Ok(Settings {
                 kinds: kinds.try_collect(alloc)?,
                 load,
                 rounds,
             }),
-            _ => Err(Fault::WrongWords),
         }
     }
 }

@@ -1,0 +1,10 @@
+use Rattle.bench.proofs.cells.Calls.on_cell.Given as goal
+
+abbrev pub invariant-loop-k : goal.invariant-loop-k
+invariant-loop-k g l = g.C.LockCell.is_pass_of l.cell l.pass
+
+abbrev pub invariant-loop : goal.invariant-loop
+invariant-loop g l = g.C.LockCell.is_pass_of l.cell l.pass
+
+abbrev pub invariant-loop-2 : goal.invariant-loop-2
+invariant-loop-2 g l = g.C.LockCell.is_pass_of l.cell l.pass
