@@ -1,26 +1,28 @@
-//! The cells whose calls are timed, and their calls.
+//! The cells whose calls are timed, their callers, and the mutex beside them.
 
-ghost use Rattle.std.specs.Prelude.{◌≡◌, ◌<◌, ◌≤◌, [], ◌∷◌, IfOk, length};
+ghost use Rattle.std.specs.Prelude.{◌≡◌, ◌<◌, [], ◌∷◌, IfOk, length};
+ghost use Rattle.std.specs.Arc.{arc_value};
 ghost use Rattle.std.specs.List.{All};
 ghost use Rattle.std.proofs.Props.{props};
 ghost use Rattle.word_rule.specs.Cell.{EachAt};
 ghost use Rattle.guarded_cell.specs.Kinds.{IsPassOf};
 ghost use Rattle.guarded_cell.specs.declared.cell.AnyCell.TheVariants.{Ticket, Mcs};
 
-use crate::load::{Form, Load, TOGETHER};
+use crate::Fault;
+use crate::words::{Form, Load, TOGETHER};
 use arrayvec::ArrayVec;
-use event_log::{Logged, MOST_CALLS, OutOfMemory};
+use event_log::{Event, Logged, MOST_CALLS, OutOfMemory};
 use guarded_cell::{AnyCell, MOST_GROUPS, batch, call, with_hold};
 use mcs_lock::McsCell;
 use shared_queue::{QueueCall, ThreadQueue};
 use sound_run::LockKind;
-use std::alloc::Global;
-use std::sync::{Mutex, Wait};
+use std::alloc::{AllocError, Global};
+use std::sync::{Arc, Mutex, Wait};
 use ticket_lock::TicketCell;
 use toggle_lock::ToggleCell;
 use word_rule::LockCell;
 
-pub type Queue = Logged<ThreadQueue>;
+type Queue = Logged<ThreadQueue>;
 
 type Pass = word_rule::Pass<ThreadQueue>;
 
@@ -28,6 +30,29 @@ type Opened<C, P> = Result<(C, Vec<P>), (OutOfMemory, Queue)>;
 
 /// A group of calls, which is one event.
 type Group = ArrayVec<QueueCall, MOST_CALLS>;
+
+/// Goes on as the form says: call by call, the first turn being 0, or eight by eight, by a batch or under a hold.
+macro_rules! in_form {
+    ($calls:expr, $turn:ident, $each:expr, $batch:expr, $hold:expr) => {
+        match $calls.form {
+            Form::Each => {
+                for $turn in 0..$calls.count {
+                    let _ = $each;
+                }
+            }
+            Form::Batch => {
+                for _ in 0..$calls.count / TOGETHER {
+                    let _ = $batch;
+                }
+            }
+            Form::Hold => {
+                for _ in 0..$calls.count / TOGETHER {
+                    let _ = $hold;
+                }
+            }
+        }
+    };
+}
 
 /// Whose calls on a queue they are, how many, and in which form. Enq of the CPU's number and deq are called in turn.
 #[derive(Clone, Copy, Drop)]
@@ -68,37 +93,20 @@ impl Calls {
     }
 
     /// Makes the calls on a cell.
-    pub fn on_cell<C: LockCell<ThreadQueue>, R: Wait>(
-        &self,
-        rt: &R,
-        cell: &C,
-        pass: C::Pass,
-    ) -> C::Pass
+    fn on_cell<C: LockCell<ThreadQueue>, R: Wait>(&self, rt: &R, cell: &C, pass: C::Pass) -> C::Pass
         requires { C.is_pass_of cell.now pass }
         ensures { C.is_pass_of cell.now result }
     {
         let (eight, groups) = (self.eight(), self.groups());
         let mut pass = pass;
-        match self.form {
-            Form::Each => {
-                for k in 0..self.count {
-                    pass = call(rt, cell, pass, &eight[(k % 2) as usize]).0;
-                }
-                pass
-            }
-            Form::Batch => {
-                for _ in 0..self.count / TOGETHER {
-                    pass = batch(rt, cell, pass, &eight).0;
-                }
-                pass
-            }
-            Form::Hold => {
-                for _ in 0..self.count / TOGETHER {
-                    pass = with_hold(rt, cell, pass, &groups, &mut ArrayVec::new()).0;
-                }
-                pass
-            }
-        }
+        in_form!(
+            self,
+            k,
+            pass = call(rt, cell, pass, &eight[(k % 2) as usize]).0,
+            pass = batch(rt, cell, pass, &eight).0,
+            pass = with_hold(rt, cell, pass, &groups, &mut ArrayVec::new()).0
+        );
+        pass
     }
 
     /// Makes the calls on a cell of either kind by its own functions, which find out once for a call which lock it has.
@@ -108,48 +116,26 @@ impl Calls {
     {
         let (eight, groups) = (self.eight(), self.groups());
         let mut pass = pass;
-        match self.form {
-            Form::Each => {
-                for k in 0..self.count {
-                    pass = cell.call(rt, pass, &eight[(k % 2) as usize]).0;
-                }
-                pass
-            }
-            Form::Batch => {
-                for _ in 0..self.count / TOGETHER {
-                    pass = cell.batch(rt, pass, &eight).0;
-                }
-                pass
-            }
-            Form::Hold => {
-                for _ in 0..self.count / TOGETHER {
-                    pass = cell.with_hold(rt, pass, &groups, &mut ArrayVec::new()).0;
-                }
-                pass
-            }
-        }
+        in_form!(
+            self,
+            k,
+            pass = cell.call(rt, pass, &eight[(k % 2) as usize]).0,
+            pass = cell.batch(rt, pass, &eight).0,
+            pass = cell.with_hold(rt, pass, &groups, &mut ArrayVec::new()).0
+        );
+        pass
     }
 
     /// Makes the calls on a queue in the mutex.
-    pub fn in_mutex<R: Wait>(&self, rt: &R, queue: &Mutex<Queue>) {
+    fn in_mutex<R: Wait>(&self, rt: &R, queue: &Mutex<Queue>) {
         let eight = self.eight();
-        match self.form {
-            Form::Each => {
-                for k in 0..self.count {
-                    let _reply = queue.lock(rt).call(self.cpu, &eight[(k % 2) as usize]);
-                }
-            }
-            Form::Batch => {
-                for _ in 0..self.count / TOGETHER {
-                    let _done = queue.lock(rt).apply(self.cpu, &eight);
-                }
-            }
-            Form::Hold => {
-                for _ in 0..self.count / TOGETHER {
-                    call_each(&mut *queue.lock(rt), self.cpu, &eight);
-                }
-            }
-        }
+        in_form!(
+            self,
+            k,
+            queue.lock(rt).call(self.cpu, &eight[(k % 2) as usize]),
+            queue.lock(rt).apply(self.cpu, &eight),
+            call_each(&mut *queue.lock(rt), self.cpu, &eight)
+        );
     }
 }
 
@@ -204,5 +190,84 @@ impl TimedCell for AnyCell<ThreadQueue> {
 
     fn make<R: Wait>(&self, rt: &R, pass: Pass, calls: &Calls) -> Pass {
         calls.on_either(rt, self, pass)
+    }
+}
+
+/// How many events a log has, and how often the CPU changes from one to the next.
+type Tally = (usize, usize);
+
+fn tally_of(log: &[Event<ThreadQueue>]) -> Tally {
+    let pairs = log.iter().zip(log.iter().skip(1));
+    (
+        log.len(),
+        pairs.filter(|(event, next)| event.cpu != next.cpu).count(),
+    )
+}
+
+pub trait Caller: Drop {
+    /// Opens a queue for that share of the load: a caller for each CPU, in order.
+    fn open(alloc: Global, chosen: LockKind, load: &Load, share: u32) -> Result<Vec<Self>, Fault>;
+
+    fn call<R: Wait>(self, rt: &R, calls: &Calls) -> Self;
+
+    /// Counts what is in the queue's log.
+    fn tally<R: Wait>(self, rt: &R) -> Tally;
+}
+
+/// A caller of a cell.
+#[derive(Drop)]
+pub struct ByLock<C: TimedCell> {
+    cell: Arc<C>,
+    pass: C::Pass,
+    ghost ours: { C.is_pass_of (arc_value cell) pass } by { C.one_way (arc_value cell) pass },
+}
+
+impl<C: TimedCell> Caller for ByLock<C> {
+    fn open(alloc: Global, chosen: LockKind, load: &Load, share: u32) -> Result<Vec<Self>, Fault> {
+        let Ok((cell, passes)) = C::open(alloc, chosen, load, load.open_queue(alloc, share)?) else {
+            return Err(Fault::from(AllocError));
+        };
+        let shared = Arc::new(alloc, cell)?;
+        let mut callers = Vec::new(alloc);
+        for pass in passes {
+            let cell = Arc::try_clone(&shared)?;
+            callers.push(ByLock { cell, pass })?;
+        }
+        Ok(callers)
+    }
+
+    fn call<R: Wait>(self, rt: &R, calls: &Calls) -> Self {
+        let ByLock { cell, pass } = self;
+        let pass = cell.make(rt, pass, calls);
+        ByLock { cell, pass }
+    }
+
+    fn tally<R: Wait>(self, rt: &R) -> Tally {
+        let ByLock { cell, pass } = self;
+        let (hold, _looks) = cell.acquire(rt, pass);
+        let tally = tally_of(C::logged(&hold).log());
+        let _pass = cell.release(rt, hold);
+        tally
+    }
+}
+
+/// A caller of a queue with its log in the mutex of std.
+#[derive(Drop)]
+pub struct InMutex(Arc<Mutex<Queue>>);
+
+impl Caller for InMutex {
+    fn open(alloc: Global, _chosen: LockKind, load: &Load, share: u32) -> Result<Vec<Self>, Fault> {
+        let shared = Arc::new(alloc, Mutex::new(load.open_queue(alloc, share)?))?;
+        let callers = (0..load.cpus).map(|_| Arc::try_clone(&shared).map(|queue| InMutex(queue)));
+        Ok(callers.try_collect(alloc)?)
+    }
+
+    fn call<R: Wait>(self, rt: &R, calls: &Calls) -> Self {
+        calls.in_mutex(rt, &*self.0);
+        self
+    }
+
+    fn tally<R: Wait>(self, rt: &R) -> Tally {
+        tally_of(self.0.lock(rt).log())
     }
 }

@@ -1,14 +1,11 @@
 //! Rounds of calls on a queue that several CPUs share, timed inside: `bench KIND CPUS CALLS ROUNDS`.
 #![tactic(auto)]
 
-mod caller;
 mod cells;
-mod load;
 mod round;
 mod words;
 
 use crate::round::print_rounds;
-use crate::words::{Settings, USAGE, words_given};
 use std::alloc::AllocError;
 use std::process::ExitCode;
 use thiserror::Error;
@@ -19,7 +16,7 @@ const BAD_WORDS: u8 = 2;
 /// Why there are no rounds, or no further ones.
 #[derive(Debug, Drop, Error)]
 pub enum Fault {
-    #[error("{USAGE}")]
+    #[error("usage: bench KIND[,KIND..] CPUS CALLS ROUNDS [batch|hold] [unkept]")]
     WrongWords,
     #[error("bench: out of memory")]
     OutOfMemory(#[from(alloc)] AllocError),
@@ -33,16 +30,7 @@ pub enum Fault {
 }
 
 fn main(rt: HostRuntime) -> ExitCode {
-    let alloc = rt.alloc();
-    let settings = match words_given(&rt, alloc) {
-        Ok(words) => Settings::read(alloc, words.as_slice()),
-        Err(fault) => Err(fault),
-    };
-    let outcome = match settings {
-        Ok(settings) => print_rounds(&rt, alloc, &settings),
-        Err(fault) => Err(fault),
-    };
-    let Err(fault) = outcome else {
+    let Err(fault) = print_rounds(&rt, rt.alloc()) else {
         return ExitCode::SUCCESS;
     };
     let _ = eprintln!(rt; "{fault}");

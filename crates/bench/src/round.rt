@@ -1,16 +1,15 @@
 //! Rounds, each of one kind, with a thread for each CPU.
 
 use crate::Fault;
-use crate::caller::{ByLock, Caller, InMutex};
-use crate::cells::Calls;
-use crate::load::Load;
-use crate::words::{Kind, Settings};
+use crate::cells::{ByLock, Caller, Calls, InMutex};
+use crate::words::{Kind, Load, Settings};
 use guarded_cell::AnyCell;
 use mcs_lock::McsCell;
 use shared_queue::ThreadQueue as Queue;
 use sound_run::LockKind;
 use std::alloc::Global;
 use std::io::Print;
+use std::rt::Env;
 use std::sync::Wait;
 use std::sync::atomic::{AtomicUsize, Ordering};
 use std::thread;
@@ -31,10 +30,7 @@ fn open_all<P: Caller>(
     chosen: LockKind,
     load: &Load,
 ) -> Result<Vec<Places<P>>, Fault> {
-    let mut crew = Vec::new(alloc);
-    for _ in 0..load.cpus {
-        crew.push(Vec::new(alloc))?;
-    }
+    let mut crew: Vec<Places<P>> = (0..load.cpus).map(|_| Vec::new(alloc)).collect(alloc)?;
     for count in load.shares(alloc)? {
         let callers = P::open(alloc, chosen, load, count)?;
         for ((cpu, places), caller) in (0..load.cpus).zip(crew.iter_mut()).zip(callers) {
@@ -124,28 +120,35 @@ fn print_round<P: Caller + Send, R: Threads + Wait + Clock + Print + Sync>(
     written.map_err(|_| Fault::WriteFailed)
 }
 
-/// All rounds, a round of each kind after another.
-pub fn print_rounds<R: Threads + Wait + Clock + Print + Sync>(
+fn print_one<R: Threads + Wait + Clock + Print + Sync>(
     rt: &R,
     alloc: Global,
-    settings: &Settings,
+    (name, kind): (&str, Kind),
+    load: &Load,
 ) -> Result<(), Fault> {
-    let load = &settings.load;
-    for _ in 0..settings.rounds {
-        for (name, kind) in &settings.kinds {
-            let it = (*name, LockKind::Ticket);
-            match *kind {
-                Kind::Ticket => print_round::<ByLock<TicketCell<Queue>>, R>(rt, alloc, it, load),
-                Kind::Mcs => print_round::<ByLock<McsCell<Queue>>, R>(rt, alloc, it, load),
-                Kind::Toggle => print_round::<ByLock<ToggleCell<Queue>>, R>(rt, alloc, it, load),
-                Kind::Any(lock) => print_round::<ByLock<AnyCell<Queue>>, R>(
-                    rt,
-                    alloc,
-                    (*name, lock),
-                    load,
-                ),
-                Kind::Mutex => print_round::<InMutex, R>(rt, alloc, it, load),
-            }?;
+    let it = (name, LockKind::Ticket);
+    match kind {
+        Kind::Ticket => print_round::<ByLock<TicketCell<Queue>>, R>(rt, alloc, it, load),
+        Kind::Mcs => print_round::<ByLock<McsCell<Queue>>, R>(rt, alloc, it, load),
+        Kind::Toggle => print_round::<ByLock<ToggleCell<Queue>>, R>(rt, alloc, it, load),
+        Kind::Any(lock) => print_round::<ByLock<AnyCell<Queue>>, R>(rt, alloc, (name, lock), load),
+        Kind::Mutex => print_round::<InMutex, R>(rt, alloc, it, load),
+    }
+}
+
+/// All rounds that the program's words ask for, a round of each kind after another.
+pub fn print_rounds<R: Threads + Wait + Clock + Print + Env + Sync>(
+    rt: &R,
+    alloc: Global,
+) -> Result<(), Fault> {
+    let Settings {
+        kinds,
+        load,
+        rounds,
+    } = Settings::read(rt, alloc)?;
+    for _ in 0..rounds {
+        for (name, kind) in &kinds {
+            print_one(rt, alloc, (*name, *kind), &load)?;
         }
     }
     Ok(())

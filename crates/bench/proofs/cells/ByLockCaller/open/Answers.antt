@@ -1,9 +1,8 @@
 use Rattle.std.proofs.Common.{◌≡◌, ℕ, suc, List, [], ◌∷◌, Some, slice_get, refl, sym, subst}
-use Rattle.std.proofs.lemmas.Grind.{merely}
 use Rattle.std.specs.List.{AllByRecursion}
 use Rattle.std.specs.Arc.{arc_value}
 use Rattle.std.specs.Vec.Iter.{into_iter_items}
-use Rattle.bench.proofs.caller.ByLockCaller.open.Goals as goal
+use Rattle.bench.proofs.cells.ByLockCaller.open.Goals as goal
 
 -- what holds of the element at each index
 each_all : {X : Type 0} (P : X → Type 0) (xs : List X) → ((k : ℕ) (x : X) → slice_get xs k ≡ Some x → P x) → AllByRecursion P xs
@@ -26,4 +25,4 @@ pub invariant_of-push : goal.invariant_of-push
 invariant_of-push g c =
     let next : into_iter_items c.loop-pass.pass-iterator ≡ c.in-Some.pass ∷ into_iter_items c.next.new.self = c.in-Some.ensures.steps.0 in
     let ours = (rw next at c.loop-pass.invariant).0 in
-    record { ours = merely (subst (λ cell. g.C.LockCell.is_pass_of cell c.in-Some.pass) (sym c.in_ok-cell.ensures) ours) }
+    record { ours = subst (λ cell. g.C.LockCell.is_pass_of cell c.in-Some.pass) (sym c.in_ok-cell.ensures) ours }
