@@ -80,6 +80,21 @@ pub fn is_busy<C: LockCell<ThreadQueue>, R: Abort>(rt: &R, cell: &C, pass: C::Pa
     }
 }
 
+/// Whether CPU 0 has put the thread 3 into the queue, and CPU 1 then the thread 4.
+pub fn in_turn(queue: &Logged<ThreadQueue>) -> bool {
+    let wanted = [
+        Event {
+            cpu: 0,
+            steps: Steps::one(Call::Enq(3), Reply::Ok),
+        },
+        Event {
+            cpu: 1,
+            steps: Steps::one(Call::Enq(4), Reply::Ok),
+        },
+    ];
+    queue.log() == wanted.as_slice()
+}
+
 /// A queue in which the thread 3 is. Where memory is refused it is opened once more.
 fn queue_of_one(alloc: Global) -> Result<Logged<ThreadQueue>, Fail> {
     let mut opened = match queue(alloc) {

@@ -1,6 +1,6 @@
 //! An MCS lock around a queue of threads, step by step.
 
-use crate::interface::{Stands, does, enq, gets, of_two, queue};
+use crate::interface::{Stands, does, enq, gets, in_turn, of_two, queue};
 use mcs_lock::{
     Alone, Armed, Behind, Entered, Hold, Leaving, McsCell, Pass, Passing, Ready, Waiting,
 };
@@ -60,6 +60,45 @@ impl Stands<McsCell<ThreadQueue>> for At {
             _other => panic!(rt; "its call hasn't ended"),
         }
     }
+}
+
+#[test]
+fn the_last_see_and_the_last_look(rt: HostRuntime) -> Result<(), Fail> {
+    let (cell, zero, one) = of_two(McsCell::new(rt.alloc(), queue(rt.alloc())?, 2))?;
+    let zero = does(
+        &rt,
+        &cell,
+        At::Out(zero),
+        3,
+        &[StepDone::Clear, StepDone::Enter(true)],
+    );
+    let one = does(
+        &rt,
+        &cell,
+        At::Out(one),
+        4,
+        &[StepDone::Clear, StepDone::Enter(false)],
+    );
+    let stays = [
+        StepDone::See(false),
+        StepDone::Empty(false),
+        StepDone::See(false),
+    ];
+    let zero = does(&rt, &cell, zero, 3, &stays);
+    let one = does(&rt, &cell, one, 4, &[StepDone::Arm, StepDone::Link]);
+    let (leaving, waiting) = match (zero, one) {
+        (At::Leaving(leaving), At::Waiting(waiting)) => (leaving, waiting),
+        _others => panic!(rt; "they stand elsewhere"),
+    };
+    let (passing, waiting) = cell.last_see(leaving, waiting);
+    assert_eq!(rt; passing.follower(), 1);
+    let zero = cell.pass_on(passing);
+    let (hold, zero) = cell.last_look(waiting, zero);
+    let hold = enq(&cell, hold, 4);
+    let one = cell.release(&rt, hold);
+    let pass = cell.join(zero, one);
+    assert!(rt; in_turn(&cell.close(pass)));
+    Ok(())
 }
 
 #[test]

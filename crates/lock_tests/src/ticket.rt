@@ -1,11 +1,11 @@
 //! A ticket lock around a queue of threads, step by step.
 
-use crate::interface::{Stands, does, enq, gets, is_busy, of_two, queue};
+use crate::interface::{Stands, does, enq, gets, in_turn, is_busy, of_two, queue};
 use shared_queue::ThreadQueue;
 use std::process::Abort;
 use std::test::Fail;
 use ticket_lock::{Drawn, Hold, Pass, TicketCell};
-use word_rule::StepDone;
+use word_rule::{LockCell, StepDone};
 
 /// Where a caller stands.
 pub enum At {
@@ -34,6 +34,39 @@ impl Stands<TicketCell<ThreadQueue>> for At {
             _other => panic!(rt; "its call hasn't ended"),
         }
     }
+}
+
+#[test]
+fn the_last_look(rt: HostRuntime) -> Result<(), Fail> {
+    let opened = TicketCell::new(rt.alloc(), queue(rt.alloc())?, 2, 4294967295);
+    let (cell, zero, one) = of_two(opened)?;
+    let zero = does(&rt, &cell, At::Out(zero), 3, &[StepDone::Draw]);
+    let one = does(
+        &rt,
+        &cell,
+        At::Out(one),
+        4,
+        &[StepDone::Draw, StepDone::Look(false)],
+    );
+    let zero = does(
+        &rt,
+        &cell,
+        zero,
+        3,
+        &[StepDone::Look(true), StepDone::Serve],
+    )
+    .pass(&rt);
+    let drawn = match one {
+        At::Drawn(drawn) => drawn,
+        _other => panic!(rt; "it isn't in line"),
+    };
+    assert_eq!(rt; drawn.ticket(), 0);
+    let (hold, zero) = cell.last_look(drawn, zero);
+    let hold = enq(&cell, hold, 4);
+    let one = cell.serve(hold);
+    let pass = cell.join(zero, one);
+    assert!(rt; in_turn(&cell.close(pass)));
+    Ok(())
 }
 
 #[test]
