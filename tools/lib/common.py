@@ -19,20 +19,18 @@ from datetime import datetime, timezone
 from pathlib import Path
 
 ROOT = Path(__file__).resolve().parent.parent.parent
-TOOL = "/".join(Path(sys.argv[0]).resolve().parts[-3:])
+TOOL = os.path.relpath(Path(sys.argv[0]).resolve(), ROOT)
 MC2 = ROOT / "crates/mc2/out/mc2"
 BENCH = ROOT / "crates/bench/out/bench"
-COSTS = ROOT / "crates/costs/out/costs"
 VIEW = ROOT / "crates/view/out/view"
-FOREVER = ROOT / "crates/forever/out/forever"
 # The most CPUs of a cell.
 MOST_CPUS = 64
+# What `rt version` prints of the logic that all is proved in.
+LOGIC = "logic dac8208d650f15bf"
 HOW_TO_BUILD = {
     MC2: "`rt run` in crates/mc2 builds crates/mc2/out/mc2, and so does `rt ci`",
     BENCH: "`rt run` in crates/bench builds crates/bench/out/bench",
-    COSTS: "`rt run` in crates/costs builds crates/costs/out/costs, and so does `rt ci`",
     VIEW: "`rt run` in crates/view builds crates/view/out/view, and so does `rt ci`",
-    FOREVER: "`rt run` in crates/forever builds crates/forever/out/forever, and so does `rt ci`",
 }
 HOW_TO_GET = {
     "rt": "it is the command of the kit that README.md names",
@@ -181,11 +179,12 @@ def tell_time(name=TOOL):
         subprocess.Popen(teller, stdin=subprocess.DEVNULL, stdout=subprocess.DEVNULL)
 
 
-def end(main):
-    """Calls the tool's main, and ends the process with its status."""
+def end(main, tells=True):
+    """Calls the tool's main, and ends the process with its status. At a terminal it tells the time meanwhile."""
     try:
         try:
-            tell_time()
+            if tells:
+                tell_time()
             status = main()
         except Stop as stop:
             print(f"{TOOL}: {stop}", file=sys.stderr)

@@ -19,8 +19,6 @@ mod place;
 mod rounds;
 mod span;
 mod tally;
-#[cfg(test)]
-mod tests;
 mod threads;
 
 use crate::arguments::{Settings, USAGE, WordsFault, words_given};

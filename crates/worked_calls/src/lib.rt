@@ -8,8 +8,12 @@ mod judges;
 #[cfg(test)]
 mod locks;
 #[cfg(test)]
+mod mcs_steps;
+#[cfg(test)]
 mod objects;
 #[cfg(test)]
 mod runs;
 #[cfg(test)]
 mod texts;
+#[cfg(test)]
+mod ticket_steps;

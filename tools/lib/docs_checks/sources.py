@@ -52,6 +52,8 @@ class Sources:
         stem, dot, kind = parts[-1].rpartition(".")
         if parts[0] == "include":
             self.read_header((self.top / name).read_text(encoding="utf-8"))
+        if parts[0] == "tests" and kind == "rattle":
+            self.read_rattle((self.top / name).read_text(encoding="utf-8"), parts[1])
         if parts[0] != "crates" or not dot:
             return
         if kind in ("edit", "misuse"):

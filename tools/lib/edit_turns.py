@@ -1,0 +1,60 @@
+"""Which edits a run of the gate tries beside those of must-fail/: a few of one crate by turns, and those of what changed."""
+import re
+
+from by_function import need_built
+from common import ROOT, Stop
+from edit_files import TOGETHER, changes_of, edits_of
+from slices import changed_files, git
+
+# How many of the crate whose turn it is, and at most of what changed.
+BY_TURNS, CHANGED = 6, 24
+GREEN = re.compile(r"Last green as a whole: ([0-9a-f]{8,40})\.")
+
+
+def others(crate):
+    """The crate's edits that aren't in must-fail/."""
+    return [it for it in edits_of(ROOT / "crates" / crate) if it.file == TOGETHER]
+
+
+def is_built(crate):
+    try:
+        need_built(crate)
+    except Stop:
+        return False
+    return True
+
+
+def turn_of(crates):
+    """The crate whose turn it is by the commit, and its edits."""
+    head = git("rev-parse", "HEAD")
+    number = int(head, 16) if head else 0
+    able = [it for it in crates if others(it) and is_built(it)]
+    if not able:
+        raise Stop("no crate with edits stands on libraries that are built", 2)
+    crate = able[number % len(able)]
+    its, first = others(crate), number // len(able)
+    return crate, [its[(first + it) % len(its)] for it in range(min(BY_TURNS, len(its)))]
+
+
+def changed(crates):
+    """The edits of files that changed since the last commit that was green as a whole, by crate; and how many more there are."""
+    told = GREEN.search((ROOT / "docs/GATE.md").read_text(encoding="utf-8"))
+    if not told or git("cat-file", "-e", told[1]) is None:
+        return {}, 0
+    files, found, count = {*changed_files(told[1])}, {}, 0
+    for crate in filter(is_built, crates):
+        for edit in others(crate):
+            if any(f"crates/{crate}/{file}" in files for file, _, _ in changes_of(edit)):
+                count += 1
+                if count <= CHANGED:
+                    found.setdefault(crate, []).append(edit)
+    return found, max(0, count - CHANGED)
+
+
+def turns(crates):
+    """The names of the edits that are tried now, by crate."""
+    found, left = changed(crates)
+    crate, its = turn_of(crates)
+    found.setdefault(crate, []).extend(it for it in its if it not in found.get(crate, []))
+    print(f"by turns: {len(its)} edits of {crate}; of files that changed: {sum(map(len, found.values())) - len(its)}, and {left} not")
+    return {crate: {it.name for it in edits} for crate, edits in found.items()}
