@@ -1,25 +1,32 @@
-//! Two CPUs call one queue of threads, each on a thread of its own.
+//! Two CPUs call one queue of threads, each on a thread of its own: behind an MCS lock, and then behind a ticket lock with a log
+//! that is kept no longer.
 #![tactic(auto)]
 
+mod meet;
+
+use crate::meet::meet;
 use event_log::Logged;
-use guarded_cell::{AnyCell, two_callers};
 use shared_queue::{QueueCall as Call, ThreadQueue};
 use sound_run::LockKind;
 use std::process::ExitCode;
+
+const PUTS: [Call; 2] = [Call::Enq(3), Call::Enq(4)];
+const TAKES: [Call; 1] = [Call::Deq];
 
 fn main(rt: HostRuntime) -> ExitCode {
     let Ok(queue) = Logged::<ThreadQueue>::open(rt.alloc(), 8, 100) else {
         return ExitCode::FAILURE;
     };
-    let Ok((cell, mut passes)) = AnyCell::open(rt.alloc(), LockKind::Mcs, queue, 2) else {
+    let Some((queue, put, taken)) = meet(&rt, rt.alloc(), LockKind::Mcs, queue, &PUTS, &TAKES) else {
         return ExitCode::FAILURE;
     };
-    let one = passes.pop().unwrap();
-    let zero = passes.pop().unwrap();
-    let (puts, takes) = ([Call::Enq(3), Call::Enq(4)], [Call::Deq]);
-    let (queue, put, taken) = two_callers(&rt, cell, (zero, one), &puts, &takes);
-    match println!(rt; "{put} and {taken} calls, {} events", queue.log().len()) {
-        Ok(()) => ExitCode::SUCCESS,
-        Err(_) => ExitCode::FAILURE,
+    let first = println!(rt; "{put} and {taken} calls, {} events", queue.log().len());
+    let queue = queue.into_unkept(rt.alloc());
+    let Some((_, put, taken)) = meet(&rt, rt.alloc(), LockKind::Ticket, queue, &PUTS, &TAKES) else {
+        return ExitCode::FAILURE;
+    };
+    match (first, println!(rt; "{put} and {taken} calls more")) {
+        (Ok(()), Ok(())) => ExitCode::SUCCESS,
+        _ => ExitCode::FAILURE,
     }
 }
