@@ -11,13 +11,15 @@ use sound_run::LockKind;
 use std::process::ExitCode;
 
 const PUTS: [Call; 2] = [Call::Enq(3), Call::Enq(4)];
+
 const TAKES: [Call; 1] = [Call::Deq];
 
 fn main(rt: HostRuntime) -> ExitCode {
     let Ok(queue) = Logged::<ThreadQueue>::open(rt.alloc(), 8, 100) else {
         return ExitCode::FAILURE;
     };
-    let Some((queue, put, taken)) = meet(&rt, rt.alloc(), LockKind::Mcs, queue, &PUTS, &TAKES) else {
+    let Some((queue, put, taken)) = meet(&rt, rt.alloc(), LockKind::Mcs, queue, &PUTS, &TAKES)
+    else {
         return ExitCode::FAILURE;
     };
     let first = println!(rt; "{put} and {taken} calls, {} events", queue.log().len());

@@ -1,6 +1,6 @@
 use denote.Exit.{yes}
 use denote.Param.Send.{param_send, arg_send}
-use Rattle.std.proofs.Common.{rules, ◌≡◌, Some, slice_get, length, ap, ◌∙◌, subst, arith}
+use Rattle.std.proofs.Common.{rules, ◌≡◌, Some, slice_get, length, take, ap, ◌∙◌, subst, arith}
 use Rattle.shared_queue.specs.contracts.queue.ThreadQueueSeqObject.TheImpl.{ghosts}
 use Rattle.word_rule.specs.Algorithms.{algorithm_of}
 use Rattle.word_rule.specs.Cell.{first_pass}
@@ -36,8 +36,10 @@ returns-clause-ended g c =
     let zero : slice_get c.in-Ok.passes.items 0 ≡ Some c.unwrap-zero.result = search rules in
     let one : slice_get c.in-Ok.passes.items 1 ≡ Some c.unwrap-one.result = search rules in
     let left = c.two_callers-left.result in
-    subst (λ p. IsEnded ghosts p _ (first_pass (algorithm_of c.args.kind) 0 c.args.queue 2 1) _ left.0) (c.in-Ok.ensures.passes 0 c.unwrap-zero.result zero).1
-    (subst (λ p. IsEnded ghosts (view_of_pass c.unwrap-zero.result) _ p _ left.0) (c.in-Ok.ensures.passes 1 c.unwrap-one.result one).1 c.two_callers-left.ensures.ended)
+    let firsts = take left.1 c.args.puts.now in
+    let seconds = take left.2 c.args.takes.now in
+    subst (λ p. IsEnded ghosts p firsts (first_pass (algorithm_of c.args.kind) 0 c.args.queue 2 1) seconds left.0) (c.in-Ok.ensures.passes 0 c.unwrap-zero.result zero).1
+    (subst (λ p. IsEnded ghosts (view_of_pass c.unwrap-zero.result) firsts p seconds left.0) (c.in-Ok.ensures.passes 1 c.unwrap-one.result one).1 c.two_callers-left.ensures.ended)
 
 pub returns-clause-counted : goal.returns-clause-counted
 returns-clause-counted g c =
