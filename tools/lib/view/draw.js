@@ -25,8 +25,10 @@ function fit(shown, pen, wide, high) {
 }
 
 function layout() {
-  const room = byId("scroll").clientHeight;
-  rowHeight = Math.max(isTall ? 22 : 8, Math.min(44, Math.floor((room - 2) / D.rows.length)));
+  fit(overview, strip, byId("scroll").clientWidth, STRIP + AXIS);
+  const room = Math.max(1, byId("scroll").clientHeight);
+  const least = isTall ? 22 : D.rows.length <= 32 ? 17 : 8;
+  rowHeight = Math.max(least, Math.min(44, Math.floor((room - 2) / D.rows.length)));
   byId("tall").style.height = Math.max(room, rowHeight * D.rows.length) + "px";
   width = byId("scroll").clientWidth;
   fit(canvas, context, width, room);

@@ -7,7 +7,6 @@ import tempfile
 from texts.record import read_record, steps_of
 
 GOING_ON = {"ok", "thread", "count", "page", "dropped", "byte"}  # replies that don't refuse
-NUMBERS = {"queue": ["threads"], "pool": ["pages"], "console": ["bytes"], "sched": ["threads", "channels"]}
 MOST_CALLS, MOST_EVENTS = 80_000, 65_536  # of one CPU: 10,000 entries of 8 calls; and of a log
 
 
@@ -80,11 +79,8 @@ def right_reply(mc2, named, before, call):
     if len(calls) > MOST_CALLS - 8:
         return None
     entries = [" ; ".join(calls[at:at + 8]) for at in range(0, len(calls), 8)] + [call]
-    settings = ["cpus = 1", "[[object]]", 'name = "x"', 'lock = "ticket"', f"events = {MOST_EVENTS}", f'kind = "{named.kind}"']
-    settings += [f"{key} = {number}" for key, number in zip(NUMBERS[named.kind], named.numbers)]
-    settings += [f"quotas = {list(named.numbers[1:])}"] * (named.kind == "pool")
     with tempfile.NamedTemporaryFile("w", suffix=".toml") as file:
-        file.write("\n".join(settings))
+        file.write("cpus = 1\n" + named._replace(name="x", events=MOST_EVENTS).table())
         file.flush()
         scripts = "".join(f"0 x {entry}\n" for entry in entries)
         status, said, _ = mc2.ask(["run", "--settings", file.name], scripts.encode())

@@ -121,9 +121,9 @@ async function start() {
   const button = (object, number) =>
     make("button", { title: object.said + ": its entries alone", "data-object": number, onclick: () => light(number) },
       make("i", { style: `background:${D.colours[number % 16]}` }), object.name);
-  const terms = `cpu 3, enq 5   noroom   ${D.note} > 100${D.marked.length ? "   wrong" : ""}`;
-  const field = make("input", { id: "search", type: "search", placeholder: `search: ${terms}`, title: `such as: ${terms}`,
-    "aria-label": "search the entries" });
+  const terms = `such as: cpu 3, enq 5; or noroom; or ${D.note} > 100${D.marked.length ? "; or wrong" : ""}`;
+  const field = make("input", { id: "search", type: "search", placeholder: "search, such as: cpu 3, enq 5", title: terms,
+    "aria-label": `search the entries, ${terms}` });
   byId("tools").append(...D.objects.map(button), field, make("span", { id: "found", className: "grey", role: "status" }));
   canvas = make("canvas", { tabIndex: 0, role: "application", "aria-label": `${D.title}. The arrows go from entry to entry.` });
   overview = make("canvas", { role: "img", "aria-label": "the whole run, and which part of it is in sight" });

@@ -5,9 +5,10 @@ judge's. For one that is unsound it is one that the logs allow whatever the repl
 all, there is a row for each log and one for each CPU; a box's place is then its number in its row."""
 from typing import NamedTuple
 
+from texts.record import KEYS
 from view.asked import bad_verdict
 from view.claims import Claims, Placing, verdict_by_claims
-from view.held import NUMBERS, held_before
+from view.held import held_before
 
 MOST_HELD, MOST_LETTERS = 3000, 180  # the most events of whose objects a page says what they held; and how much of each
 
@@ -89,11 +90,12 @@ class Model:
     def title(self):
         cpus, entries = self.record.cpus, sum(map(len, self.record.transcripts))
         many = f"{cpus} CPU{'s' * (cpus != 1)}, {entries:,} entr{'ies' if entries != 1 else 'y'}"
+        told = f"{many}, in their one order"
         if self.verdict.fault:
-            return self.verdict.line
-        if self.verdict.cycle:
-            return f"A cycle of {len(self.verdict.cycle)} entries: this record has no order"
-        return f"{many}, in their one order" + ("" if self.verdict.is_judged else "; replies not judged")
+            told = self.verdict.line
+        elif self.verdict.cycle:
+            told = f"A cycle of {len(self.verdict.cycle)} entries: this record has no order"
+        return told if self.verdict.is_judged else f"{told}; replies not judged"
 
     def means(self):
         """What left to right is."""
@@ -112,7 +114,7 @@ class Model:
 
     def is_known(self, named):
         """Whether the object is one of mc2's."""
-        return self.record.form < 3 and named.kind in NUMBERS
+        return self.record.form < 3 and named.kind in KEYS
 
 
 def shortened(text):
