@@ -2,7 +2,7 @@
 import re
 
 from texts.record import steps_of
-from view.held import held_at, right_reply
+from view.held import held_at
 from view.svg import LETTER
 
 NEAR = 3  # how many neighbours a fault has at each side
@@ -105,10 +105,7 @@ def explained(model, it, number):
 def wrong_step(model, it, number):
     named, log = model.record.objects[number], model.record.logs[number]
     call, reply = steps_of(log[it.event - 1].steps)[it.step - 1]
-    right = None
-    if model.is_known(named) and model.mc2:
-        before, _ = held_at(named, log, it.event, it.step)
-        right = right_reply(model.mc2, named, before, call)
+    right = model.right_reply(number, it.event, it.step, call)
     if right == reply or not model.verdict.is_judged:
         return f"A step before it in this event refused, so it wasn't to be done. The record has: {call} = {reply}."
     return (f"It should have answered: {call} = {right}. " if right else "") + f"The record has: {call} = {reply}."

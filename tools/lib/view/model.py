@@ -8,7 +8,7 @@ from typing import NamedTuple
 from texts.record import KEYS
 from view.asked import bad_verdict
 from view.claims import Claims, Placing, verdict_by_claims
-from view.held import held_before
+from view.held import held_at, held_before, right_reply
 
 MOST_HELD, MOST_LETTERS = 3000, 180  # the most events of whose objects a page says what they held; and how much of each
 
@@ -30,7 +30,7 @@ class Box(NamedTuple):
 class Model:
     def __init__(self, record, verdict, mc2=None):
         """Without a verdict the record is one of objects of the writer's own, which nobody judged. mc2 is asked for a right reply."""
-        self.record, self.mc2, self.claims, self.texts = record, mc2, Claims(record), {}
+        self.record, self.mc2, self.claims, self.texts, self.right = record, mc2, Claims(record), {}, None
         self.verdict = verdict or verdict_by_claims(record, self.claims)
         if not self.verdict.is_of(record):
             raise bad_verdict("it is of another record")
@@ -111,6 +111,14 @@ class Model:
             return []
         both = zip(self.record.objects, self.record.logs)
         return [[shortened(it) for it in held_before(named, log)] if self.is_known(named) else [] for named, log in both]
+
+    def right_reply(self, number, event, step, call):
+        """What an object of mc2's should have answered there, if that can be told. It is asked once."""
+        named = self.record.objects[number]
+        if self.right is None and self.is_known(named) and self.mc2:
+            before, _ = held_at(named, self.record.logs[number], event, step)
+            self.right = right_reply(self.mc2, named, before, call)
+        return self.right
 
     def is_known(self, named):
         """Whether the object is one of mc2's."""

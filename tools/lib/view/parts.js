@@ -11,12 +11,12 @@ function drawParts() {
   const sights = inRow.map((list) => [firstFrom(list, from + 1), firstFrom(list, end)]);
   // A row is full at twice what a part has on the whole, so that one crowded part doesn't flatten all others.
   const all = sights.reduce((sum, [first, end]) => sum + end - first, 0), full = Math.max(1, (2 * all) / parts / inRow.length);
-  const fill = filler(new Uint32Array(image.data.buffer), canvas.width, canvas.height, wide);
+  const pixels = new Uint32Array(image.data.buffer), fill = filler(pixels, canvas.width, canvas.height, Math.round(wide) - 1);
   const colours = D.colours.map(pixelOf), [dim, wait, ...shades] = [ink.dim, ink.wait, ink.shade, ink.paper].map(pixelOf);
   for (const [row, list] of rows) {
     const has = countParts(list, sights[row], parts);
     const [top, bottom] = [topOf(row), topOf(row + 1)].map((y) => Math.round(y * dots)), room = bottom - top - 2;
-    fill(0, bottom, top, shades[row % 2], false, canvas.width);
+    pixels.fill(shades[row % 2], Math.max(0, top) * canvas.width, Math.max(0, bottom) * canvas.width);
     for (let part = 0; part < parts; part++) {
       if (!has.total[part]) continue;
       const left = Math.round(GUTTER * dots + part * wide), unit = room / Math.max(full, has.total[part]);
@@ -45,11 +45,9 @@ function countParts(list, [first, end], parts) {
 
 // Fills a part of the pixels from below to above, hatched or whole.
 function filler(pixels, across, down, wide) {
-  const usual = Math.round(wide) - 1;
-  return (left, below, above, colour, isHatched = false, width = usual) => {
-    const right = Math.min(left + width, across), end = Math.min(down, Math.round(below));
+  return (left, below, above, colour, isHatched = false) => {
+    const right = Math.min(left + wide, across), end = Math.min(down, Math.round(below));
     for (let y = Math.max(0, Math.round(above)); y < end; y++)
-      if (isHatched) for (let x = left; x < right; x++) (x + y) % 4 < 2 && (pixels[y * across + x] = colour);
-      else pixels.fill(colour, y * across + left, y * across + right);
+      for (let x = left, at = y * across + left; x < right; x++, at++) if (!isHatched || (x + y) % 4 < 2) pixels[at] = colour;
   };
 }
