@@ -137,6 +137,6 @@ function drawNames() {
     context.fillStyle = D.colours[row % 16];
     if (isLog(row)) context.fillRect(0, topOf(row) + 1, 5, rowHeight - 2);
     context.fillStyle = ink.ink;
-    if (row % each === 0) context.fillText(D.rows[row], 10, topOf(row + 0.5) + 1, GUTTER - 18);
+    if (row % each === 0) context.fillText(D.rows[row], 10, Math.max(topOf(row + 0.5) + 1, row ? -9 : 8), GUTTER - 18);
   }
 }

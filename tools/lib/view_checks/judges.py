@@ -1,6 +1,7 @@
 """Judges of one's own, good and bad: what the script `view` makes of what they say, and of a disk that is full."""
 import os
 import re
+import shlex
 import subprocess
 import tempfile
 import xml.etree.ElementTree as xml
@@ -43,7 +44,7 @@ class Judge:
     """A judge that is a script, with a file for it."""
 
     def __init__(self, folder, program):
-        self.file, self.environment = Path(folder) / "judge", {**os.environ, "MC2": str(program)}
+        self.file, self.environment = Path(folder) / "judge", {**os.environ, "MC2": shlex.quote(str(program))}
 
     def view(self, record, script, *words, **how):
         self.file.write_text(f"cat > /dev/null\n{script}\n")
