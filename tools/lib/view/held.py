@@ -42,12 +42,13 @@ class Held:
             del line[: said == "dropped"]
 
     def __str__(self):
-        if self.kind == "pool":
-            return "; ".join(f"page {page} of owner {self.owners[page]}" for page in sorted(self.owners)) or "no page is taken"
-        what = {"queue": "threads", "console": "bytes", "sched": "ready"}[self.kind]
-        ready = f"{what} {' '.join(self.lines[None]) or 'none'}"
-        channels = sorted((int(c), line) for c, line in self.lines.items() if c and line)
-        return "; ".join([ready] + [f"at channel {c} {' '.join(line)}" for c, line in channels])
+        what = {"queue": "threads", "console": "bytes", "sched": "ready"}.get(self.kind)
+        groups = {what: self.lines[None]}
+        for page, owner in sorted(self.owners.items()):
+            groups.setdefault(f"pages of owner {owner}:", []).append(str(page))
+        for channel in sorted(filter(None, self.lines), key=int):
+            groups[f"asleep at channel {channel}:"] = self.lines[channel]
+        return "; ".join(f"{name} {', '.join(line)}" for name, line in groups.items() if line) or "nothing"
 
 
 def held_before(named, log):

@@ -123,6 +123,9 @@ class Browser:
             self.ask("Input.dispatchKeyEvent", type="keyDown", key=key, **text)
             self.ask("Input.dispatchKeyEvent", type="keyUp", key=key)
 
+    def resize(self, wide, high):
+        self.ask("Emulation.setDeviceMetricsOverride", width=wide, height=high, deviceScaleFactor=1, mobile=False)
+
     def dark(self, is_dark):
         features = [{"name": "prefers-color-scheme", "value": "dark" if is_dark else "light"}]
         self.ask("Emulation.setEmulatedMedia", features=features)

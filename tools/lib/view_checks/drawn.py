@@ -1,4 +1,5 @@
 """Records of runs that are drawn, changed ones, and large ones."""
+import random
 import subprocess
 
 from drawn_runs import draw_objects, draw_scripts, scripts_text
@@ -59,6 +60,19 @@ def with_a_change(record, draw):
         asked, _, done = lines[place].partition(" | ")
         lines[place] = draw.choice([f"{asked} | noroom", f"{asked} ; len | {done}", f"{asked} | {with_reply(done, 'ok', draw)}"])
     return "\n".join(lines)
+
+
+def shown_run(program, folder):
+    """The record of the picture of a page: 8 CPUs on a queue, a pool and a sched, by a schedule, so it is always the same."""
+    draw, files = random.Random(8), [folder / name for name in ("settings", "scripts", "schedule")]
+    calls = {"q0": ["enq {}", "deq", "len"], "p0": ["alloc {}", "left", "alloc {}"], "s0": ["ready {}", "sleep 0 {}", "wake 0", "next"]}
+    tables = ["queue\"\nthreads = 16\nlock = \"mcs", "pool\"\npages = 40\nlock = \"ticket", "sched\"\nthreads = 16\nchannels = 2\nlock = \"mcs"]
+    both = "".join(f'[[object]]\nname = "{name}"\nevents = 60\nkind = "{table}"\n' for name, table in zip(calls, tables))
+    files[0].write_text(f"cpus = 8\n{both}")
+    entries = [(cpu, draw.choice([*calls])) for cpu in range(8) for _ in range(draw.randint(14, 30))]
+    files[1].write_text("".join(f"{cpu} {name} {draw.choice(calls[name]).format(draw.randrange(16))}\n" for cpu, name in entries))
+    files[2].write_text("".join(f"{draw.randrange(8)}\n" for _ in range(8_000)))
+    return subprocess.run([program, "sim", "--settings", *files], capture_output=True, check=True).stdout
 
 
 def with_reply(line, reply, draw):

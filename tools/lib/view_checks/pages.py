@@ -3,7 +3,7 @@ import random
 import tempfile
 from pathlib import Path
 
-from common import ROOT
+from common import ROOT, run
 from texts.record import read_record
 from view.claims import Claims, Placing
 from view.model import Model
@@ -11,7 +11,7 @@ from view.page import timeline
 from view.play import steps_page
 from view.verdict import Verdict, by_mc2, by_said
 from view_checks.browser import Browser, Lost
-from view_checks.drawn import drawn_entries, record_of
+from view_checks.drawn import drawn_entries, record_of, shown_run
 from view_checks.judges import MARKUP, OWN, WRONG
 from view_checks.models import same
 
@@ -60,7 +60,7 @@ def check_card(pages):
     same(pages.browser.run("document.activeElement.value") == "cpu 2, get", "the search hasn't the words")
     pages.browser.run("search(byId('search').value); nextHit(1)")
     said = pages.browser.run("byId('one').innerText")
-    for part in ("place 6", "CPU 2", "entry 2", "= byte 65", "c0: console, MCS lock", "event 3 of 3", "held before: bytes 65 66"):
+    for part in ("place 6", "CPU 2", "entry 2", "= byte 65", "c0: console, MCS lock", "event 3 of 3", "held before: bytes 65, 66"):
         same(part in said, f"{part!r} isn't in the card: {said!r}")
     pages.look("four_cpus")
 
@@ -113,6 +113,19 @@ def check_steps(pages):
         same(pages.browser.run("byId('said').innerText").startswith("2: CPU"), "no step is named")
         same(not pages.browser.errors, f"its console says {pages.browser.errors}")
     pages.look("steps")
+
+
+def draw_documents(checks):
+    """The pictures of pages in docs/SEEING.md: a run, and a kernel in C whose lock is released too early."""
+    with tempfile.TemporaryDirectory(prefix="views-") as folder, Browser() as browser:
+        pages, folder = Pages(checks, browser, Path(folder)), Path(folder)
+        (folder / "run").write_bytes(shown_run(checks.program, folder))
+        run(["cc", "-std=c11", "-O2", "-pthread", "-o", folder / "foreign", ROOT / "examples/foreign/foreign.c"])
+        (folder / "early").write_bytes(run([folder / "foreign", "ticket", "early"]).stdout)
+        for name, record, high, fragment in ("seen_page.png", "run", 500, "#from=30&to=64&at=46"), ("seen_fault.png", "early", 560, ""):
+            browser.resize(1120, high)
+            pages.open(timeline(pages.judged(folder / record)), fragment)
+            browser.picture(ROOT / "docs" / name)
 
 
 PAGES = {"a card": check_card, "80,000 entries": check_large, "a fault": check_fault, "a cycle": check_cycle, "markup": check_markup,
