@@ -1,12 +1,14 @@
 """How the proved programs and a judge of one's own are asked, and what `view` refuses."""
 import os
 import re
+import resource
 import signal
 import subprocess
 import sys
 import tempfile
+from functools import partial
 
-SECONDS = 60  # how long a judge of one's own may take
+SECONDS, MOST_BYTES = 60, 1 << 26  # how long a judge of one's own may take, and how much it may write
 
 
 class Refused(Exception):
@@ -29,8 +31,7 @@ class Program:
         with tempfile.TemporaryFile() as given, tempfile.TemporaryFile() as said:
             given.write(text)
             given.seek(0)
-            started = self.start([*self.words, *words], stdin=given, stdout=said, stderr=subprocess.PIPE)
-            with started:
+            with start([*self.words, *words], stdin=given, stdout=said, stderr=subprocess.PIPE) as started:
                 for line in started.stderr:
                     found = re.fullmatch(rb"\w+: (E\d+ .*)\n", line)
                     refusal = found[1].decode() if found else refusal
@@ -44,11 +45,13 @@ class Program:
             raise Refused(None if self.told else f"{self.words[0]} ended with status {started.returncode}", 125)
         return started.returncode, printed, refusal
 
-    def start(self, words, **how):
-        try:
-            return subprocess.Popen(words, **how)
-        except OSError as error:
-            raise Refused(f"{words[0]} can't be started: {error.strerror}", 125) from None
+
+def start(words, **how):
+    try:
+        return subprocess.Popen(words, **how)
+    except OSError as error:
+        line = f"{words[0]} can't be started: {error.strerror}"
+        raise bad_verdict(line) if "start_new_session" in how else Refused(line, 125) from None
 
 
 def bad_verdict(cause):
@@ -60,10 +63,8 @@ def ask_judge(words, text):
     with tempfile.TemporaryFile() as given, tempfile.TemporaryFile() as said:
         given.write(text)
         given.seek(0)
-        try:
-            started = subprocess.Popen(words, stdin=given, stdout=said, start_new_session=True)
-        except OSError as error:
-            raise bad_verdict(f"{words[0]} can't be started: {error.strerror}") from None
+        bound = partial(resource.setrlimit, resource.RLIMIT_FSIZE, (MOST_BYTES, MOST_BYTES))
+        started = start(words, stdin=given, stdout=said, start_new_session=True, preexec_fn=bound)
         try:
             status = started.wait(SECONDS)
         except subprocess.TimeoutExpired:

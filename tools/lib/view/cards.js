@@ -10,20 +10,15 @@ function card(i) {
   for (const [call, reply] of rows)
     table.append(make("tr", {}, make("td", {}, call), make("td", { className: reply.startsWith("=") ? "" : "grey" }, reply)));
   const places = [D.isOrder && `place ${byNumber(box.at[i])}`, `CPU ${box.cpu[i]}`,
-    box.entry[i] ? `entry ${byNumber(box.entry[i])}` : "no entry has this event", isMarked[i] && mark()];
+    box.entry[i] ? `entry ${byNumber(box.entry[i])}` : "no entry has this event",
+    isMarked[i] && (D.marked.length > 1 ? "in the cycle" : "the first fault")];
   const [event, events, most] = [box.event[i], ofObject[box.object[i]].length, object.most].map(byNumber);
   const held = box.event[i] && (D.held[box.object[i]] || [])[box.event[i] - 1];
   const log = box.event[i] ? `event ${event} of ${events} in its log, at most ${most}` : "no event of its log";
-  const lines = [`${object.said}; ${log}`, looked(i), held && `held before: ${held}`];
+  const looks = D.boxes.looks[i], looked = `looked ${byNumber(looks)} time${looks === 1 ? "" : "s"} at the lock`;
+  const lines = [`${object.said}; ${log}`, D.note === "note" ? `note ${looks}` : looked, held && `held before: ${held}`];
   return [make("b", { className: isMarked[i] ? "mark" : "" }, places.filter(Boolean).join(" · ")), table,
     make("div", { className: "grey" }, ...lines.filter(Boolean).map((line) => make("div", {}, line)))];
-}
-
-const mark = () => (D.marked.length > 1 ? "in the cycle" : "the first fault");
-
-function looked(i) {
-  const looks = D.boxes.looks[i];
-  return D.note === "note" ? `note ${looks}` : `looked ${byNumber(looks)} time${looks === 1 ? "" : "s"} at the lock`;
 }
 
 // A part of a row, where entries are folded.
@@ -34,7 +29,7 @@ function partCard(row, list) {
   const looks = list.reduce((greatest, i) => Math.max(greatest, box.looks[i]), 0);
   return [make("b", {}, `${D.rows[row]} · place${first === last ? "" : "s"} ${first}${first === last ? "" : " to " + last}`),
     make("div", {}, `${list.length} entr${list.length > 1 ? "ies" : "y"}: ${counts.join(", ")}`),
-    make("div", { className: "grey" }, `most ${D.note === "note" ? "of the notes" : "looks"}: ${byNumber(looks)}. Zoom in to see each.`)];
+    make("div", { className: "grey" }, `most ${D.note}: ${byNumber(looks)}. Zoom in to see each.`)];
 }
 
 // The events before and behind this one in its object's log.

@@ -1,5 +1,5 @@
-"""What logs and transcripts say of each other, whatever the replies are: which event is which entry's, an order that keeps all of
-them, and of a record 3 that nobody judged its first fault or a cycle."""
+"""What logs and transcripts say of each other, whatever the replies are: which event is which entry's, an order that keeps all
+of them, and of a record 3 that nobody judged its first fault or a cycle."""
 import heapq
 
 from texts.record import steps_of
@@ -7,8 +7,8 @@ from view.verdict import Verdict
 
 
 class Claims:
-    """Each entry's event in the log, from 1, and each event's (CPU, entry): a CPU's done entries on an object, in order, have its
-    events there, in order. Where the record is unsound some have none."""
+    """Each entry's event in the log, from 1, and each event's (CPU, entry): a CPU's done entries on an object, in order, have
+    its events there, in order. Where the record is unsound some have none."""
 
     def __init__(self, record):
         self.record, self.event_of, self.entry_of = record, {}, {}
@@ -43,17 +43,14 @@ class Placing:
             self.place(heapq.heappop(self.ready))
 
     def entry(self, cpu):
-        """The object and the event of this CPU's next entry."""
-        number = self.next_entry[cpu]
-        return self.record.transcripts[cpu][number - 1].object, self.claims.event_of.get((cpu, number))
-
-    def is_done(self, cpu):
-        return self.next_entry[cpu] > len(self.record.transcripts[cpu])
+        """The object and the event of this CPU's next entry; of one that has none left, None."""
+        number, its = self.next_entry[cpu], self.record.transcripts[cpu]
+        return its[number - 1].object if number <= len(its) else None, self.claims.event_of.get((cpu, number))
 
     def look(self, cpu):
-        if self.is_done(cpu):
-            return
         number, event = self.entry(cpu)
+        if number is None:
+            return
         if event == self.next_event[number]:
             heapq.heappush(self.ready, cpu)
         elif event is None:
@@ -67,7 +64,7 @@ class Placing:
         if event:
             self.next_event[number] = next(self.left[number], None)
             other = self.holds_up(number)
-            waiting += [other] if other not in (None, cpu) and not self.is_done(other) and self.entry(other)[0] == number else []
+            waiting += [other] if other not in (None, cpu) and self.entry(other)[0] == number else []
             if self.next_event[number] is None:
                 waiting += self.at_end[number]
                 self.at_end[number] = []
@@ -84,7 +81,7 @@ class Placing:
 
     def cycle(self):
         """From the least CPU with entries left on each is followed by the one that holds it up, until one comes again."""
-        cpu, walk = next(cpu for cpu in range(self.record.cpus) if not self.is_done(cpu)), []
+        cpu, walk = next(cpu for cpu in range(self.record.cpus) if self.entry(cpu)[0] is not None), []
         while cpu not in walk:
             walk.append(cpu)
             cpu = self.holds_up(self.entry(cpu)[0])
@@ -95,13 +92,9 @@ class Placing:
 
 def verdict_by_claims(record, claims):
     """The verdict on a record 3 without a judge: as if each reply were right, but those of steps behind one that refused."""
-    fault = next(faults(record, claims), None)
-    if fault:
-        return Verdict(fault, is_judged=False)
-    placing = Placing(claims)
-    if placing.is_whole():
-        return Verdict(order=placing.order, is_judged=False)
-    return Verdict(cycle=placing.cycle(), is_judged=False)
+    fault, placing = next(faults(record, claims), None), Placing(claims)
+    found = {"fault": fault} if fault else {"order": placing.order} if placing.is_whole() else {"cycle": placing.cycle()}
+    return Verdict(**found, is_judged=False)
 
 
 def faults(record, claims):
@@ -109,9 +102,9 @@ def faults(record, claims):
         if len(log) > named.events:
             yield f"log {named.name}: too long"
         for event, (_, steps) in enumerate(log, 1):
-            refusing = [step for step, it in enumerate(steps_of(steps)[:-1], 1) if refuses(record, it)]
-            if refusing:
-                yield f"log {named.name} event {event} step {refusing[0] + 1}: wrong step"
+            for step, (_, reply) in enumerate(steps_of(steps)[:-1], 2):
+                if reply.split(" ", 1)[0] in record.refuses:
+                    yield f"log {named.name} event {event} step {step}: wrong step"
     for cpu, transcript in enumerate(record.transcripts):
         for number, it in enumerate(transcript, 1):
             what = entry_fault(record, claims, cpu, number, it)
@@ -121,10 +114,6 @@ def faults(record, claims):
         for event in range(1, len(log) + 1):
             if (number, event) not in claims.entry_of:
                 yield f"log {record.objects[number].name} event {event}: unclaimed"
-
-
-def refuses(record, step):
-    return step[1].split(" ", 1)[0] in record.refuses
 
 
 def entry_fault(record, claims, cpu, number, entry):
@@ -139,5 +128,5 @@ def entry_fault(record, claims, cpu, number, entry):
         return "not its event"
     asked, done = entry.asked.split(" ; "), steps_of(entry.done)
     calls = [call for call, _ in done]
-    is_whole = len(calls) == len(asked) or refuses(record, done[-1])
+    is_whole = len(calls) == len(asked) or done[-1][1].split(" ", 1)[0] in record.refuses
     return None if calls == asked[: len(calls)] and is_whole else "not what was asked"

@@ -44,8 +44,7 @@ def holds_up(model, cpu, number, waiting):
     its, event_of = model.record.transcripts[cpu], model.claims.event_of
     on, limit = model.record.transcripts[waiting[0]][waiting[1] - 1].object, event_of.get(waiting, math.inf)
     found = (at for at in range(number, len(its) + 1) if its[at - 1].object == on and event_of.get((cpu, at), math.inf) < limit)
-    # (a judge of one's own may name what is no cycle)
-    return next(found, number)
+    return next(found, number)  # (a judge of one's own may name what is no cycle)
 
 
 def arrow(drawn, path, x, y, way=0):

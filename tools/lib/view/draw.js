@@ -1,5 +1,5 @@
-// Drawing: rows, boxes with their words, frames, and the way of an object that is lit. The canvas has what is in sight; `scrolled`
-// is how far the rows are scrolled.
+// Drawing: rows, boxes with their words, frames, and the way of an object that is lit. The canvas has what is in sight;
+// `scrolled` is how far the rows are scrolled.
 let scrolled = 0;
 const topOf = (row) => row * rowHeight - scrolled;
 const gap = () => (scale > 12 ? scale * 0.1 : scale > 5 ? 1 : 0);
@@ -17,13 +17,6 @@ function readInk() {
   });
 }
 
-function fit(shown, pen, wide, high) {
-  const dots = devicePixelRatio || 1;
-  Object.assign(shown, { width: wide * dots, height: high * dots });
-  Object.assign(shown.style, { width: wide + "px", height: high + "px" });
-  pen.setTransform(dots, 0, 0, dots, 0, 0);
-}
-
 function layout() {
   fit(overview, strip, byId("scroll").clientWidth, STRIP + AXIS);
   const room = Math.max(1, byId("scroll").clientHeight);
@@ -37,9 +30,7 @@ function layout() {
   whole = null;
 }
 
-function redraw() {
-  asked = asked || requestAnimationFrame(() => { asked = 0; draw(); });
-}
+const redraw = () => (asked = asked || requestAnimationFrame(() => { asked = 0; draw(); }));
 
 function rowsInSight() {
   const first = Math.floor(scrolled / rowHeight), end = Math.ceil((scrolled + byId("scroll").clientHeight) / rowHeight);

@@ -35,17 +35,8 @@ def strip(drawn, model, boxes, name, marked, kept=()):
     drawn.width, drawn.y = max(drawn.width, int(x + 8)), y + 52
 
 
-def row_of(boxes, row):
-    return [box for box in boxes if box.row == row]
-
-
-def near(boxes, at):
-    return [box for box in boxes if abs(box.at - at) <= NEAR]
-
-
-def witness_of(reasons):
-    """The events that the judge's reasons name."""
-    return {int(found[1]) for found in (re.match(r" *event (\d{1,9}):", line) for line in reasons) if found}
+def near(boxes, row, at):
+    return [box for box in boxes if box.row == row and abs(box.at - at) <= NEAR]
 
 
 def fault(drawn, model, it):
@@ -53,18 +44,19 @@ def fault(drawn, model, it):
     marked = {(box.row, box.at) for box in apart if model.is_marked(box, True)}
     if it.log is not None:
         number = [named.name for named in record.objects].index(it.log)
-        log, at = row_of(apart, number), it.event or record.objects[number].events + 1
-        witness = witness_of(model.verdict.reasons)
-        shown = [box for box in log if box.at in witness | {at}] if witness else near(log, at)
+        witness = {int(event) for event in re.findall(r"^ *event (\d{1,9}):", "\n".join(model.verdict.reasons), re.M)}
+        at = it.event or record.objects[number].events + 1
+        named = [box for box in apart if box.row == number and box.at in witness | {at}]
+        shown = named if witness else near(apart, number, at)
         drawn.say(f"The log of {it.log}" + (", as far as it shows the fault:" if witness else ", around the first fault:"))
         strip(drawn, model, shown, "event", marked, witness)
     else:
-        number, mine = record.transcripts[it.cpu][it.entry - 1].object, row_of(apart, len(record.logs) + it.cpu)
+        number = record.transcripts[it.cpu][it.entry - 1].object
         drawn.say(f"The entries of CPU {it.cpu}, around the first fault:")
-        strip(drawn, model, near(mine, it.entry), "entry", marked)
+        strip(drawn, model, near(apart, len(record.logs) + it.cpu, it.entry), "entry", marked)
         event = model.claims.event_of.get((it.cpu, it.entry)) or len(record.logs[number])
         drawn.say(f"The log of {record.objects[number].name} there:")
-        strip(drawn, model, near(row_of(apart, number), event), "event", marked)
+        strip(drawn, model, near(apart, number, event), "event", marked)
     for words, kind in [*said_held(model, it, number), *explained(model, it, number)]:
         drawn.say(words, kind)
 
@@ -99,7 +91,8 @@ def explained(model, it, number):
         done = sum(entry.object == number and entry.done is not None for entry in record.transcripts[cpu])
         yield f"CPU {cpu} has {done} entries that were done on {named.name}, and none is left for this event.", "bad"
     else:
-        yield from wrong_entry(record.transcripts[it.cpu][it.entry - 1], model.claims.event_of.get((it.cpu, it.entry)), it, log, named)
+        entry, event = record.transcripts[it.cpu][it.entry - 1], model.claims.event_of.get((it.cpu, it.entry))
+        yield from wrong_entry(entry, event, it, log, named)
 
 
 def wrong_step(model, it, number):

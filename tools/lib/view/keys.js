@@ -51,32 +51,27 @@ function listenToMouse() {
   canvas.onpointerup = (event) => {
     const at = held && !held.isMoved && hit(event.offsetX, event.offsetY + scrolled);
     held = null;
-    remember();
-    if (at !== false) choose(at ? at.i : -1, false);
+    at === false ? show() : choose(at ? at.i : -1, false);
   };
   canvas.onpointerleave = () => point(null);
   canvas.ondblclick = (event) => zoom(6, event.offsetX);
 }
 
 function listen() {
-  const goTo = (event) => {
-    if (!event.buttons) return;
-    from = ((event.offsetX - GUTTER) / (width - GUTTER - 8)) * most - (width - GUTTER) / scale / 2;
-    remember();
-    redraw();
-  };
-  overview.onpointerdown = overview.onpointermove = goTo;
+  const goTo = (part) => ((from = part * most - (width - GUTTER) / scale / 2), show());
+  overview.onpointerdown = overview.onpointermove = (event) =>
+    event.buttons && goTo((event.offsetX - GUTTER) / (width - GUTTER - 8));
   document.onkeydown = press;
   let waits = 0;
   byId("search").oninput = (event) => { clearTimeout(waits); waits = setTimeout(() => search(event.target.value), 120); };
   byId("scroll").onscroll = redraw;
-  onresize = () => { layout(); redraw(); };
-  darkOrLight.onchange = onresize;
+  onresize = darkOrLight.onchange = () => { layout(); redraw(); };
 }
 
-// What is in sight stands behind the # of the address, so that it can be kept or sent.
+// Draws anew, and keeps behind the # of the address what is in sight, so that it can be sent.
 let remembers = 0;
-function remember() {
+function show() {
+  redraw();
   clearTimeout(remembers);
   remembers = setTimeout(() => {
     const values = { from: from.toFixed(1), to: (from + (width - GUTTER) / scale).toFixed(1) };
@@ -129,7 +124,8 @@ async function start() {
   overview = make("canvas", { role: "img", "aria-label": "the whole run, and which part of it is in sight" });
   [context, strip] = [canvas, overview].map((it) => it.getContext("2d"));
   const parts = [make("div", { id: "one", "aria-live": "polite" }), make("div", { id: "near" }), help()];
-  byId("main").append(overview, make("div", { id: "scroll" }, make("div", { id: "tall" }, canvas)), make("footer", {}, ...parts));
+  const scroll = make("div", { id: "scroll" }, make("div", { id: "tall" }, canvas));
+  byId("main").append(overview, scroll, make("footer", {}, ...parts));
   document.body.append(make("div", { id: "card", hidden: true }));
   layout();
   listenToMouse();

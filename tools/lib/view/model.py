@@ -29,7 +29,7 @@ class Box(NamedTuple):
 
 class Model:
     def __init__(self, record, verdict, mc2=None):
-        """Without a verdict the record is one of objects of the writer's own, which nobody judged. mc2 is asked for a right reply."""
+        """Without a verdict the record is one of objects of the writer's own. mc2 is asked for a right reply."""
         self.record, self.mc2, self.claims, self.texts, self.right = record, mc2, Claims(record), {}, None
         self.verdict = verdict or verdict_by_claims(record, self.claims)
         if not self.verdict.is_of(record):

@@ -10,8 +10,7 @@ function choose(i, isShown = true) {
     if (at < from + sight * 0.05 || at > from + sight * 0.95) from = at - sight / 2;
     if (above < 0 || above + rowHeight > scroll.clientHeight) scroll.scrollTop += above - scroll.clientHeight / 2;
   }
-  remember();
-  redraw();
+  show();
 }
 
 function zoom(factor, pixel = (width + GUTTER) / 2) {
@@ -19,30 +18,22 @@ function zoom(factor, pixel = (width + GUTTER) / 2) {
   scale *= factor;
   limit();
   from = place - (pixel - GUTTER) / scale;
-  remember();
-  redraw();
+  show();
 }
 
 function showAll(low = 0, high = most) {
-  scale = (width - GUTTER - 8) / (high - low + 1);
-  from = low - 0.5;
-  remember();
-  redraw();
+  [scale, from] = [(width - GUTTER - 8) / (high - low + 1), low - 0.5];
+  show();
 }
 
 // Part of what is in sight to the right, or with a number below 0 to the left.
-function pan(part) {
-  from += (part * (width - GUTTER)) / scale;
-  remember();
-  redraw();
-}
+const pan = (part) => ((from += (part * (width - GUTTER)) / scale), show());
 
 function light(number) {
   only = only === number ? -1 : number;
   whole = null;
   document.querySelectorAll("button[data-object]").forEach((button, at) => button.setAttribute("aria-pressed", at === only));
-  remember();
-  redraw();
+  show();
 }
 
 // All that can be searched of an entry, between spaces.
@@ -67,8 +58,7 @@ function search(query) {
   }
   whole = null;
   byId("found").textContent = found ? `${byNumber(hits.length)} found` : "";
-  remember();
-  redraw();
+  show();
 }
 
 function nextHit(way) {
@@ -116,10 +106,5 @@ function moveInLog(way) {
 }
 
 // To the first fault, or around the cycle.
-function moveToFault() {
-  if (D.marked.length) choose(D.marked[(D.marked.indexOf(chosen) + 1) % D.marked.length]);
-}
-
-function scrollRows(way) {
-  byId("scroll").scrollTop += way * byId("scroll").clientHeight * 0.8;
-}
+const moveToFault = () => D.marked.length && choose(D.marked[(D.marked.indexOf(chosen) + 1) % D.marked.length]);
+const scrollRows = (way) => (byId("scroll").scrollTop += way * byId("scroll").clientHeight * 0.8);

@@ -1,6 +1,6 @@
 // Drawing where boxes are folded. Of each part every row has a bar, the higher the more entries it has there, in the objects'
-// colours. Behind it stands a pale one, the higher the more was looked. There may be 100,000 such pieces, so they are written as
-// pixels.
+// colours. Behind it stands a pale one, the higher the more was looked. There may be 100,000 such pieces, so they are written
+// as pixels.
 
 // A colour such as #0072b2, of six digits, as a pixel's four bytes.
 const pixelOf = (colour) => (0xff000000 | parseInt(colour.slice(5, 7) + colour.slice(3, 5) + colour.slice(1, 3), 16)) >>> 0;

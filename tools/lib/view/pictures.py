@@ -57,7 +57,7 @@ def order(drawn, model):
             drawn.text(left + wide * 0.44, top - 6, str(box.at), "grey", "middle")
         last[box.cpu] = box.at
     drawn.y += 14
-    drawn.say(model.means() + (" A pale tail grows with an entry's looks at the lock." if model.note == "looks" else ""), "grey")
+    drawn.say(model.means() + " A pale tail grows with an entry's looks at the lock." * (model.note == "looks"), "grey")
     if any(box.is_noroom() for box in model.boxes):
         drawn.say("Hatched: the log had no room, and nothing was done.", "grey")
 

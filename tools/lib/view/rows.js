@@ -1,7 +1,6 @@
 // The rows of boxes of a record's page, as columns of numbers (model.py says which), what is in sight of them, and where.
 const GUTTER = 78, STRIP = 22, AXIS = 20, LETTER = 7.25;
-// Boxes narrower than FOLD pixels are counted into parts of PART pixels.
-const FOLD = 3, PART = 5;
+const FOLD = 3, PART = 5; // boxes narrower than FOLD pixels are counted into parts of PART pixels
 let D, n, box, inRow, ofObject, isNoroom, isMarked, most;       // what is shown; `most` is the greatest place
 let from = 0, scale = 1, rowHeight = 20, width = 0, ink = {};   // how: the place at the left edge, and pixels for a place
 let chosen = -1, pointed = null, only = -1, found = null, hits = [];
@@ -24,7 +23,8 @@ function unfolded(column, groups) {
 function prepare() {
   const { cpu, object, looks, text, entry, event, row = cpu } = D.boxes;
   n = cpu.length;
-  box = { entry: unfolded(entry, cpu), event: unfolded(event, object), at: unfolded(new Array(n).fill(0), D.isOrder ? [] : row) };
+  const at = unfolded(new Array(n).fill(0), D.isOrder ? [] : row);
+  box = { at, entry: unfolded(entry, cpu), event: unfolded(event, object) };
   for (const [key, column] of Object.entries({ cpu, object, looks, text, row })) box[key] = Float64Array.from(column);
   box.long = box.looks.map((looks) => Math.log2(1 + looks));
   most = box.at.reduce((a, b) => Math.max(a, b), 1);

@@ -23,7 +23,7 @@ def colour(number):
 
 def ink(number):
     """The class of a text on this colour."""
-    red, green, blue = (int(colour(number)[at:at + 2], 16) for at in (1, 3, 5))
+    red, green, blue = bytes.fromhex(colour(number)[1:])
     return "dark" if 299 * red + 587 * green + 114 * blue > 140_000 else "white"
 
 

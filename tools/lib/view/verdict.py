@@ -14,7 +14,8 @@ from view.asked import Refused, ask_judge, bad_verdict
 
 FAULT = re.compile(r"(?:log (?P<log>\w{1,16})(?: event (?P<event>[1-9]\d{0,18}))?(?: step (?P<step>[1-9]))?"
                    r"|cpu (?P<cpu>\d{1,18}) entry (?P<entry>[1-9]\d{0,18})): (?P<what>[a-z ]{1,40})")
-ENTRY_FAULTS = {"room was left", "not its event", "not what was asked"}
+FAULTS = {"too long": ["log"], "wrong step": ["log", "event", "step"], "unclaimed": ["log", "event"],
+          **dict.fromkeys(("room was left", "not its event", "not what was asked"), ["cpu"])}
 MOST_REASONS, MOST_LETTERS = 40, 300
 
 
@@ -23,20 +24,12 @@ class Fault:
 
     def __init__(self, text):
         found = FAULT.fullmatch(text)
-        if not found:
+        has = [part for part in ("log", "event", "step", "cpu") if found and found[part]]
+        if not has or has != FAULTS.get(found["what"]):
             raise bad_verdict(f"this names no fault: {cut(text, 80)}")
         self.log, self.what = found["log"], found["what"]
         self.event, self.step, self.cpu, self.entry = (
             None if found[part] is None else int(found[part]) for part in ("event", "step", "cpu", "entry"))
-        if not self.is_whole():
-            raise bad_verdict(f"this names no fault: {cut(text, 80)}")
-
-    def is_whole(self):
-        if self.log is None:
-            return self.what in ENTRY_FAULTS
-        if self.what == "wrong step":
-            return None not in (self.event, self.step)
-        return self.step is None and {"unclaimed": True, "too long": False}.get(self.what) is (self.event is not None)
 
 
 class Verdict:

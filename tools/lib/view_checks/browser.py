@@ -13,6 +13,7 @@ import time
 NAMES = ("chromium", "chromium-browser", "google-chrome")
 WORDS = ["--headless=new", "--no-sandbox", "--disable-gpu", "--hide-scrollbars", "--no-first-run", "--remote-debugging-pipe"]
 SECONDS = 90
+LOCAL = ("file:", "data:", "blob:", "about:")
 
 
 class Lost(Exception):
@@ -57,16 +58,13 @@ class Browser:
         message = {"id": number, "method": method, "params": values}
         if self.session:
             message["sessionId"] = self.session
-        os.write(self.out, json.dumps(message).encode() + b"\0") if len(json.dumps(message)) < 60_000 else self.write_long(message)
+        text = json.dumps(message).encode() + b"\0"
+        while text:
+            text = text[os.write(self.out, text):]
         answer = self.wait_for(lambda it: it.get("id") == number)
         if "error" in answer:
             raise Lost(f"{method}: {answer['error']['message']}")
         return answer["result"]
-
-    def write_long(self, message):
-        text = json.dumps(message).encode() + b"\0"
-        while text:
-            text = text[os.write(self.out, text):]
 
     def wait_for(self, is_it):
         end = time.monotonic() + SECONDS
@@ -97,7 +95,7 @@ class Browser:
             self.errors.append(" ".join(str(arg.get("value", arg.get("description"))) for arg in it["args"]))
         elif method == "Log.entryAdded" and it["entry"]["level"] == "error":
             self.errors.append(it["entry"]["text"])
-        elif method == "Network.requestWillBeSent" and not it["request"]["url"].startswith(("file:", "data:", "blob:", "about:")):
+        elif method == "Network.requestWillBeSent" and not it["request"]["url"].startswith(LOCAL):
             self.errors.append(f"it asks for {it['request']['url']}")
 
     def open(self, path, fragment=""):

@@ -3,7 +3,7 @@ import random
 import subprocess
 
 from drawn_runs import draw_objects, draw_scripts, scripts_text
-from texts.record import record_fault
+from texts.record import Object, record_fault
 
 CALLS = {
     "queue": ["thread 1", "ok", "already", "empty", "absent", "badthread", "count 1"],
@@ -19,9 +19,8 @@ def drawn_record(program, folder, draw, cpus, most):
     asked = draw_scripts(draw, cpus, kinds, most)
     settings = folder / f"settings{draw.randrange(10**9)}"
     settings.write_text(f"cpus = {cpus}\n{tables}", encoding="ascii")
-    ran = subprocess.run([program, "run", "--settings", settings], input=scripts_text(asked).encode(), capture_output=True, check=True)
-    settings.unlink()
-    return ran.stdout
+    how = {"input": scripts_text(asked).encode(), "capture_output": True, "check": True}
+    return subprocess.run([program, "run", "--settings", settings], **how).stdout
 
 
 def changed(record, draw):
@@ -58,19 +57,22 @@ def with_a_change(record, draw):
             lines[head - 1] = f"cpu {cpu} {len(record.transcripts[cpu]) - 1}"
             return "\n".join(lines)
         asked, _, done = lines[place].partition(" | ")
-        lines[place] = draw.choice([f"{asked} | noroom", f"{asked} ; len | {done}", f"{asked} | {with_reply(done, 'ok', draw)}"])
+        other = with_reply(done, "ok", draw)
+        lines[place] = draw.choice([f"{asked} | noroom", f"{asked} ; len | {done}", f"{asked} | {other}"])
     return "\n".join(lines)
 
 
 def shown_run(program, folder):
     """The record of the picture of a page: 8 CPUs on a queue, a pool and a sched, by a schedule, so it is always the same."""
     draw, files = random.Random(8), [folder / name for name in ("settings", "scripts", "schedule")]
-    calls = {"q0": ["enq {}", "deq", "len"], "p0": ["alloc {}", "left", "alloc {}"], "s0": ["ready {}", "sleep 0 {}", "wake 0", "next"]}
-    tables = ["queue\"\nthreads = 16\nlock = \"mcs", "pool\"\npages = 40\nlock = \"ticket", "sched\"\nthreads = 16\nchannels = 2\nlock = \"mcs"]
-    both = "".join(f'[[object]]\nname = "{name}"\nevents = 60\nkind = "{table}"\n' for name, table in zip(calls, tables))
-    files[0].write_text(f"cpus = 8\n{both}")
+    calls = {"q0": ["enq {}", "deq", "len"], "p0": ["alloc {}", "left", "alloc {}"],
+             "s0": ["ready {}", "sleep 0 {}", "wake 0", "next"]}
+    objects = [Object("q0", "mcs", 60, "queue", (16,)), Object("p0", "ticket", 60, "pool", (40, *[40] * 16)),
+               Object("s0", "mcs", 60, "sched", (16, 2))]
+    files[0].write_text("cpus = 8\n" + "".join(it.table() for it in objects))
     entries = [(cpu, draw.choice([*calls])) for cpu in range(8) for _ in range(draw.randint(14, 30))]
-    files[1].write_text("".join(f"{cpu} {name} {draw.choice(calls[name]).format(draw.randrange(16))}\n" for cpu, name in entries))
+    asked = ((cpu, name, draw.choice(calls[name]).format(draw.randrange(16))) for cpu, name in entries)
+    files[1].write_text("".join(f"{cpu} {name} {call}\n" for cpu, name, call in asked))
     files[2].write_text("".join(f"{draw.randrange(8)}\n" for _ in range(8_000)))
     return subprocess.run([program, "sim", "--settings", *files], capture_output=True, check=True).stdout
 

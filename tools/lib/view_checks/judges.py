@@ -37,6 +37,7 @@ BAD = {
     "true": "this is none: ",
     "echo sound; exit 3": "the judge ended with status 3",
     "kill -9 $$": "the judge was ended by signal 9",
+    "exec yes": "the judge was ended by signal 25",
 }
 
 
@@ -121,7 +122,8 @@ def check_orders(judge):
         script = f"[ $1 = audit ] && echo sound && exit\ntail -n +2 {judge.file.with_name('said')}"
         same(judge.view(record, script, "timeline", "--svg").stdout.decode() == judged, "--judge and --said differ")
         ran = judge.view(record, script, "trace")
-        same(ran.returncode == status and bool(ran.stdout) == (status == 0), f"the trace has status {ran.returncode}: {ran.stderr!r}")
+        is_so = ran.returncode == status and bool(ran.stdout) == (status == 0)
+        same(is_so, f"the trace has status {ran.returncode}: {ran.stderr!r}")
 
 
 def check_own(_):
@@ -139,9 +141,9 @@ def check_full(judge):
         same((ran.returncode, ran.stderr) == (3, b"view: E13 write failed\n"), f"{words}: {ran.returncode}, {ran.stderr!r}")
 
 
-CHECKS = {"a witness": check_witness, "markup": check_markup, "what is no verdict": check_refused, "a judge that never ends": check_never,
-          "a judge that isn't there": check_missing, "a judge's order and cycle": check_orders, "records 3": check_own,
-          "a full disk": check_full}
+CHECKS = {"a witness": check_witness, "markup": check_markup, "what is no verdict": check_refused,
+          "a judge that never ends": check_never, "a judge that isn't there": check_missing,
+          "a judge's order and cycle": check_orders, "records 3": check_own, "a full disk": check_full}
 
 
 def check_judges(checks):

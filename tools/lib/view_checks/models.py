@@ -40,9 +40,9 @@ def unfolded(column, groups):
 def page_boxes(data):
     """The boxes as the page shows them: (row, cpu, entry, object, looks, event, words)."""
     has = data["boxes"]
-    columns = [has.get("row", has["cpu"]), has["cpu"], unfolded(has["entry"], has["cpu"]), has["object"], map(int, has["looks"]),
-               unfolded(has["event"], has["object"]), (data["texts"][at] for at in has["text"])]
-    return list(zip(*columns))
+    entries, events = unfolded(has["entry"], has["cpu"]), unfolded(has["event"], has["object"])
+    texts = (data["texts"][at] for at in has["text"])
+    return list(zip(has.get("row", has["cpu"]), has["cpu"], entries, has["object"], map(int, has["looks"]), events, texts))
 
 
 def drawn(it):
@@ -73,7 +73,8 @@ def check_sound(model):
     for box in model.boxes:
         if box.event:
             events.setdefault(box.object, []).append(box.event)
-            same(record.logs[box.object][box.event - 1] == (box.cpu, record.transcripts[box.cpu][box.entry - 1].done), "not its event")
+            done = record.transcripts[box.cpu][box.entry - 1].done
+            same(record.logs[box.object][box.event - 1] == (box.cpu, done), "a box isn't its event's")
     same(all(events.get(at, []) == list(range(1, len(log) + 1)) for at, log in enumerate(record.logs)), "a log is out of order")
 
 
@@ -91,8 +92,9 @@ def check_picture(model):
     root = xml.fromstring(picture(model))
     wide, high = float(root.get("width")), float(root.get("height"))
     titled = [it for it in root.iter(f"{SVG}rect") if it.find(f"{SVG}title") is not None]
-    rects = sorted((*(float(it.get(key)) for key in ("y", "x", "width", "height")), it.find(f"{SVG}title").text) for it in titled)
-    same(all(x + width <= wide and y + height <= high for y, x, width, height, _ in rects), "a box is beyond the picture's edge")
+    sides = "y", "x", "width", "height"
+    rects = sorted((*(float(it.get(key)) for key in sides), it.find(f"{SVG}title").text) for it in titled)
+    same(all(x + width <= wide and y + height <= high for y, x, width, height, _ in rects), "a box is beyond the edge")
     same(all(float(it.get("y")) <= high for it in root.iter(f"{SVG}text")), "words are beyond the picture's edge")
     for one, other in zip(rects, rects[1:]):
         same(one[0] != other[0] or one[1] + one[2] <= other[1], f"{one} and {other} overlap")
@@ -117,7 +119,8 @@ def check_model(model):
 
 def check_fault(model, data, fault):
     """The page marks the place of the fault, which another judge named, and says the right reply that another model gives."""
-    log, event, step, cpu, entry = re.match(r"(?:log (\w+)(?: event (\d+)(?: step (\d+))?)?|cpu (\d+) entry (\d+)):", fault).groups()
+    named = r"(?:log (\w+)(?: event (\d+)(?: step (\d+))?)?|cpu (\d+) entry (\d+)):"
+    log, event, step, cpu, entry = re.match(named, fault).groups()
     names = [named.name for named in model.record.objects]
     marked = [page_boxes(data)[at] for at in data["marked"]]
     if log is None:

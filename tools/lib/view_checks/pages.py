@@ -41,7 +41,8 @@ class Pages:
         self.open(timeline(model))
         found = self.browser.run((HERE / "timeline.js").read_text())
         same(found == f"{len(model.boxes) if boxes is None else boxes} boxes", f"it has {found}")
-        paper = self.browser.run("new Promise((done) => setTimeout(() => done(byId('print').querySelectorAll('svg rect').length), 50))")
+        count = "byId('print').querySelectorAll('svg rect').length"
+        paper = self.browser.run(f"new Promise((done) => setTimeout(() => done({count}), 50))")
         same(paper > 0 and self.browser.paper().startswith(b"%PDF"), "there is nothing to print")
         same(not self.browser.errors, f"its console says {self.browser.errors}")
 
@@ -60,7 +61,8 @@ def check_card(pages):
     same(pages.browser.run("document.activeElement.value") == "cpu 2, get", "the search hasn't the words")
     pages.browser.run("search(byId('search').value); nextHit(1)")
     said = pages.browser.run("byId('one').innerText")
-    for part in ("place 6", "CPU 2", "entry 2", "= byte 65", "c0: console, MCS lock", "event 3 of 3", "held before: bytes 65, 66"):
+    words = "place 6/CPU 2/entry 2/= byte 65/c0: console, MCS lock/event 3 of 3/held before: bytes 65, 66"
+    for part in words.split("/"):
         same(part in said, f"{part!r} isn't in the card: {said!r}")
     pages.look("four_cpus")
 
@@ -74,7 +76,8 @@ def check_large(pages):
     took = pages.open(timeline(model))
     pages.look("80000_entries")
     speeds = pages.browser.run((HERE / "speed.js").read_text())
-    print(f"80,000 entries: drawn after {took:.0f} ms, and again in {', '.join(f'{it:.1f}' for it in speeds)} ms, from far to near")
+    again = ", ".join(f"{it:.1f}" for it in speeds)
+    print(f"80,000 entries: drawn after {took:.0f} ms, and again in {again} ms, from far to near")
     same(took < DRAWN and max(speeds) < REDRAWN, "that is slow")
     pages.browser.press("r")
     pages.look("80000_entries_taller")
@@ -122,14 +125,15 @@ def draw_documents(checks):
         (folder / "run").write_bytes(shown_run(checks.program, folder))
         run(["cc", "-std=c11", "-O2", "-pthread", "-o", folder / "foreign", ROOT / "examples/foreign/foreign.c"])
         (folder / "early").write_bytes(run([folder / "foreign", "ticket", "early"]).stdout)
-        for name, record, high, fragment in ("seen_page.png", "run", 500, "#from=30&to=64&at=46"), ("seen_fault.png", "early", 560, ""):
+        shown = [("seen_page.png", "run", 500, "#from=30&to=64&at=46"), ("seen_fault.png", "early", 560, "")]
+        for name, record, high, fragment in shown:
             browser.resize(1120, high)
             pages.open(timeline(pages.judged(folder / record)), fragment)
             browser.picture(ROOT / "docs" / name)
 
 
-PAGES = {"a card": check_card, "80,000 entries": check_large, "a fault": check_fault, "a cycle": check_cycle, "markup": check_markup,
-         "steps": check_steps}
+PAGES = {"a card": check_card, "80,000 entries": check_large, "a fault": check_fault, "a cycle": check_cycle,
+         "markup": check_markup, "steps": check_steps}
 
 
 def check_pages(checks):
