@@ -1,5 +1,4 @@
 // What an entry has, in words.
-
 function card(i) {
   const text = D.texts[box.text[i]], apart = text.split(" | "), object = objectOf(i), table = make("table");
   const inOne = (part, at) => [part, ["asked", "answered", "but in the log"][at]];
