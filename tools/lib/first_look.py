@@ -59,7 +59,7 @@ def read_words(program, words):
     form, files, settings = FORMS[command], [], None
     while rest:
         word = rest.pop(0)
-        is_settings = word == "--settings" and form.has_settings and settings is None and rest
+        is_settings = word == "--settings" and form.has_settings and settings is None and bool(rest)
         name = rest.pop(0) if is_settings else word
         if name == "" or name.startswith("-"):
             raise BadWords
