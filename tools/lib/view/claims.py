@@ -1,6 +1,7 @@
 """What logs and transcripts say of each other, whatever the replies are: which event is which entry's, an order that keeps all
 of them, and of a record 3 that nobody judged its first fault or a cycle."""
 import heapq
+from collections import defaultdict, deque
 
 from texts.record import steps_of
 from view.verdict import Verdict
@@ -8,86 +9,70 @@ from view.verdict import Verdict
 
 class Claims:
     """Each entry's event in the log, from 1, and each event's (CPU, entry): a CPU's done entries on an object, in order, have
-    its events there, in order. Where the record is unsound some have none."""
+    its events there, in order. Where the record is unsound some have none, and an entry without room may have come too early:
+    an event of its CPU was left."""
 
     def __init__(self, record):
-        self.record, self.event_of, self.entry_of = record, {}, {}
-        self.own = [[[] for _ in range(record.cpus)] for _ in record.logs]
+        self.record, self.event_of, self.entry_of, self.early = record, {}, {}, set()
+        left = defaultdict(deque)
         for number, log in enumerate(record.logs):
             for event, (cpu, _) in enumerate(log, 1):
-                self.own[number][cpu].append(event)
+                left[number, cpu].append(event)
         for cpu, transcript in enumerate(record.transcripts):
-            self.claim(cpu, transcript)
-
-    def claim(self, cpu, transcript):
-        taken = [iter(own[cpu]) for own in self.own]
-        for entry, (number, _, _, done) in enumerate(transcript, 1):
-            event = None if done is None else next(taken[number], None)
-            if event:
-                self.event_of[cpu, entry], self.entry_of[number, event] = event, (cpu, entry)
+            for entry, it in enumerate(transcript, 1):
+                its = left[it.object, cpu]
+                if its and it.done is None:
+                    self.early.add((cpu, entry))
+                elif its:
+                    event = its.popleft()
+                    self.event_of[cpu, entry], self.entry_of[it.object, event] = event, (cpu, entry)
 
 
 class Placing:
-    """Places entries as long as one can come, at each place that of the least CPU: an entry whose event is the next of its log
-    that an entry has, or without an event one whose log is placed whole."""
+    """Places entries as long as one can come, at each place that of the least CPU. With an event an entry comes behind all that
+    have an earlier one in its log, and without an event behind all that have one."""
 
     def __init__(self, claims):
-        self.record, self.claims = claims.record, claims
-        self.left = [iter([event for event in range(1, len(log) + 1) if (number, event) in claims.entry_of])
-                     for number, log in enumerate(self.record.logs)]
-        self.next_event = [next(left, None) for left in self.left]
-        self.next_entry, self.at_end, self.ready, self.order = [1] * self.record.cpus, [[] for _ in self.left], [], []
-        for cpu in range(self.record.cpus):
-            self.look(cpu)
-        while self.ready:
-            self.place(heapq.heappop(self.ready))
+        its, self.order = claims.record.transcripts, []
+        self.left = [deque(((cpu, number), it.object) for number, it in enumerate(its[cpu], 1)) for cpu in range(len(its))]
+        events = [[claims.entry_of.get((number, event)) for event in range(1, len(log) + 1)]
+                  for number, log in enumerate(claims.record.logs)]
+        self.logs = [deque(filter(None, entries)) for entries in events]
+        # (at least these CPUs' next entries can come)
+        ready = list(range(len(its)))
+        while ready:
+            cpu = heapq.heappop(ready)
+            if self.left[cpu] and self.first(cpu) == self.left[cpu][0][0]:
+                for it in self.place(cpu):
+                    heapq.heappush(ready, it)
 
-    def entry(self, cpu):
-        """The object and the event of this CPU's next entry; of one that has none left, None."""
-        number, its = self.next_entry[cpu], self.record.transcripts[cpu]
-        return its[number - 1].object if number <= len(its) else None, self.claims.event_of.get((cpu, number))
-
-    def look(self, cpu):
-        number, event = self.entry(cpu)
-        if number is None:
-            return
-        if event == self.next_event[number]:
-            heapq.heappush(self.ready, cpu)
-        elif event is None:
-            self.at_end[number].append(cpu)
+    def first(self, cpu):
+        """The entry that has to come before this CPU's next one, or that one itself."""
+        entry, number = self.left[cpu][0]
+        return self.logs[number][0] if self.logs[number] else entry
 
     def place(self, cpu):
-        number, event = self.entry(cpu)
-        self.order.append((cpu, self.next_entry[cpu]))
-        self.next_entry[cpu] += 1
-        waiting = [cpu]
-        if event:
-            self.next_event[number] = next(self.left[number], None)
-            other = self.holds_up(number)
-            waiting += [other] if other not in (None, cpu) and self.entry(other)[0] == number else []
-            if self.next_event[number] is None:
-                waiting += self.at_end[number]
-                self.at_end[number] = []
-        for it in waiting:
-            self.look(it)
-
-    def holds_up(self, number):
-        """Whose event is the next of this log."""
-        event = self.next_event[number]
-        return event and self.record.logs[number][event - 1].cpu
+        """Places this CPU's next entry. The CPUs whose next entries may come now."""
+        entry, number = self.left[cpu].popleft()
+        self.order.append(entry)
+        log = self.logs[number]
+        if not log:
+            return [cpu]
+        log.popleft()
+        return [cpu, log[0][0]] if log else range(len(self.left))
 
     def is_whole(self):
-        return len(self.order) == sum(map(len, self.record.transcripts))
+        return not any(self.left)
 
     def cycle(self):
         """From the least CPU with entries left on each is followed by the one that holds it up, until one comes again."""
-        cpu, walk = next(cpu for cpu in range(self.record.cpus) if self.entry(cpu)[0] is not None), []
+        cpu, walk = next(cpu for cpu, its in enumerate(self.left) if its), []
         while cpu not in walk:
             walk.append(cpu)
-            cpu = self.holds_up(self.entry(cpu)[0])
+            cpu = self.first(cpu)[0]
         walk = walk[walk.index(cpu):]
         least = walk.index(min(walk))
-        return [(cpu, self.next_entry[cpu]) for cpu in walk[least:] + walk[:least]]
+        return [self.left[cpu][0][0] for cpu in walk[least:] + walk[:least]]
 
 
 def verdict_by_claims(record, claims):
@@ -107,7 +92,7 @@ def faults(record, claims):
                     yield f"log {named.name} event {event} step {step}: wrong step"
     for cpu, transcript in enumerate(record.transcripts):
         for number, it in enumerate(transcript, 1):
-            what = entry_fault(record, claims, cpu, number, it)
+            what = entry_fault(record, claims, (cpu, number), it)
             if what:
                 yield f"cpu {cpu} entry {number}: {what}"
     for number, log in enumerate(record.logs):
@@ -116,14 +101,10 @@ def faults(record, claims):
                 yield f"log {record.objects[number].name} event {event}: unclaimed"
 
 
-def entry_fault(record, claims, cpu, number, entry):
-    log = record.logs[entry.object]
+def entry_fault(record, claims, place, entry):
+    log, event = record.logs[entry.object], claims.event_of.get(place)
     if entry.done is None:
-        # (a CPU's entries take its events in order, so the last one tells whether any is left)
-        last = claims.own[entry.object][cpu][-1:]
-        is_left = last and claims.entry_of.get((entry.object, last[0]), (cpu, number)) >= (cpu, number)
-        return "room was left" if len(log) < record.objects[entry.object].events or is_left else None
-    event = claims.event_of.get((cpu, number))
+        return "room was left" if len(log) < record.objects[entry.object].events or place in claims.early else None
     if event is None or log[event - 1].steps != entry.done:
         return "not its event"
     asked, done = entry.asked.split(" ; "), steps_of(entry.done)

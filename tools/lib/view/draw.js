@@ -5,9 +5,8 @@ const topOf = (row) => row * rowHeight - scrolled;
 const gap = () => (scale > 12 ? scale * 0.1 : scale > 5 ? 1 : 0);
 
 function readInk() {
-  for (const name of ["ink", "grey", "paper", "shade", "line", "bad", "link", "dim", "wait"]) ink[name] = styled("--" + name);
-  const light = D.colours.map((c) => [1, 3, 5].map((at) => parseInt(c.slice(at, at + 2), 16)));
-  ink.on = light.map(([r, g, b]) => (0.299 * r + 0.587 * g + 0.114 * b > 140 ? "#1f2328" : "#fff"));
+  for (const name of ["ink", "grey", "paper", "shade", "bad", "link", "dim", "wait", "dark", "white"])
+    ink[name] = styled("--" + name);
   hatched = D.colours.map((colour) => {
     const tile = make("canvas", { width: 6, height: 6 }), pen = tile.getContext("2d");
     pen.strokeStyle = colour;
@@ -18,7 +17,6 @@ function readInk() {
 }
 
 function layout() {
-  fit(overview, strip, byId("scroll").clientWidth, STRIP + AXIS);
   const room = Math.max(1, byId("scroll").clientHeight);
   const least = isTall ? 22 : D.rows.length <= 32 ? 17 : 8;
   rowHeight = Math.max(least, Math.min(44, Math.floor((room - 2) / D.rows.length)));
@@ -40,10 +38,8 @@ function rowsInSight() {
 function draw() {
   limit();
   scrolled = byId("scroll").scrollTop;
-  context.fillStyle = ink.paper;
-  context.fillRect(0, 0, width, canvas.height);
-  context.fillStyle = ink.shade;
-  for (const [row] of rowsInSight()) if (row % 2 === 0) context.fillRect(0, topOf(row), width, rowHeight);
+  paint(context, ink.paper, 0, 0, width, canvas.height);
+  for (const [row] of rowsInSight()) if (row % 2 === 0) paint(context, ink.shade, 0, topOf(row), width, rowHeight);
   scale < FOLD ? drawParts() : drawBoxes();
   drawPath();
   D.marked.forEach((i) => frame(i, ink.bad, 3));
@@ -70,18 +66,13 @@ function drawBoxes() {
 }
 
 function drawBox(list, k, y) {
-  const i = list[k], left = x(box.at[i] - 1) + gap(), wide = Math.max(1, scale - gap()), colour = box.object[i] % 16;
-  const high = rowHeight - 4, long = tail(list, k) * scale;
-  context.fillStyle = isDim(i) ? ink.dim : D.colours[colour];
+  const i = list[k], left = x(box.at[i] - 1) + gap(), wide = Math.max(1, scale - gap());
+  const high = rowHeight - 4, long = tail(list, k) * scale, colour = isDim(i) ? ink.dim : D.colours[box.object[i] % 16];
   context.globalAlpha = 0.38;
-  if (long > 0.5) context.fillRect(left - long, y + high * 0.28, long, high * 0.44);
+  if (long > 0.5) paint(context, colour, left - long, y + high * 0.28, long, high * 0.44);
   context.globalAlpha = 1;
-  if (isNoroom[i]) {
-    context.fillStyle = ink.paper;
-    context.fillRect(left, y, wide, high);
-    context.fillStyle = isDim(i) ? ink.dim : hatched[colour];
-  }
-  context.fillRect(left, y, wide, high);
+  if (isNoroom[i]) paint(context, ink.paper, left, y, wide, high);
+  paint(context, isNoroom[i] && !isDim(i) ? hatched[box.object[i] % 16] : colour, left, y, wide, high);
   if (rowHeight >= 14) label(list, k, left, wide, y + high / 2 + 0.5);
 }
 
@@ -90,18 +81,11 @@ function label(list, k, left, wide, y) {
   const i = list[k], text = D.texts[box.text[i]];
   const next = k + 1 < list.length ? x(box.at[list[k + 1]] - 1 - tail(list, k + 1)) : width;
   const fits = Math.floor((wide - 7) / LETTER), isBeside = text.length > fits && wide < 70 && !isDim(i);
-  if (isBeside && (next - left - wide - 9) / LETTER >= text.length) {
-    context.fillStyle = ink.grey;
-    context.fillText(text, left + wide + 4, y);
-  } else if (fits >= 4) {
-    const shown = text.length > fits ? text.slice(0, fits - 1) + "…" : text;
-    if (isNoroom[i]) {
-      context.fillStyle = ink.paper;
-      context.fillRect(left + 3, y - 7, shown.length * LETTER + 2, 14);
-    }
-    context.fillStyle = isNoroom[i] || isDim(i) ? ink.ink : ink.on[box.object[i] % 16];
-    context.fillText(shown, left + 4, y);
-  }
+  if (isBeside && (next - left - wide - 9) / LETTER >= text.length) return write(context, ink.grey, text, left + wide + 4, y);
+  if (fits < 4) return;
+  const shown = text.length > fits ? text.slice(0, fits - 1) + "…" : text;
+  if (isNoroom[i]) paint(context, ink.paper, left + 3, y - 7, shown.length * LETTER + 2, 14);
+  write(context, ink[isNoroom[i] || isDim(i) ? "ink" : D.inks[box.object[i] % 16]], shown, left + 4, y);
 }
 
 // The way of the object that was chosen to be seen alone, from CPU to CPU.
@@ -119,15 +103,13 @@ function drawPath() {
 }
 
 function drawNames() {
-  context.fillStyle = ink.paper;
-  context.fillRect(0, 0, GUTTER - 4, canvas.height);
+  paint(context, ink.paper, 0, 0, GUTTER - 4, canvas.height);
   context.font = "13px system-ui, sans-serif";
   context.textBaseline = "middle";
   const each = Math.ceil(15 / rowHeight);
   for (const [row] of rowsInSight()) {
-    context.fillStyle = D.colours[row % 16];
-    if (isLog(row)) context.fillRect(0, topOf(row) + 1, 5, rowHeight - 2);
-    context.fillStyle = ink.ink;
-    if (row % each === 0) context.fillText(D.rows[row], 10, Math.max(topOf(row + 0.5) + 1, row ? -9 : 8), GUTTER - 18);
+    if (isLog(row)) paint(context, D.colours[row % 16], 0, topOf(row) + 1, 5, rowHeight - 2);
+    const y = Math.max(topOf(row + 0.5) + 1, row ? -9 : 8);
+    if (row % each === 0) write(context, ink.ink, D.rows[row], 10, y, GUTTER - 18);
   }
 }

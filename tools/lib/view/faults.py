@@ -1,5 +1,6 @@
 """The picture of a record's first fault: what stands around it, what the object held, and what there should have been."""
 import re
+from contextlib import suppress
 
 from texts.record import steps_of
 from view.held import held_at
@@ -44,72 +45,63 @@ def fault(drawn, model, it):
     marked = {(box.row, box.at) for box in apart if model.is_marked(box, True)}
     if it.log is not None:
         number = [named.name for named in record.objects].index(it.log)
+        event = it.event or record.objects[number].events + 1
         witness = {int(event) for event in re.findall(r"^ *event (\d{1,9}):", "\n".join(model.verdict.reasons), re.M)}
-        at = it.event or record.objects[number].events + 1
-        named = [box for box in apart if box.row == number and box.at in witness | {at}]
-        shown = named if witness else near(apart, number, at)
+        named = [box for box in apart if box.row == number and box.at in witness | {event}]
+        shown = named if witness else near(apart, number, event)
         drawn.say(f"The log of {it.log}" + (", as far as it shows the fault:" if witness else ", around the first fault:"))
         strip(drawn, model, shown, "event", marked, witness)
     else:
-        number = record.transcripts[it.cpu][it.entry - 1].object
+        number, event = record.transcripts[it.cpu][it.entry - 1].object, model.claims.event_of.get((it.cpu, it.entry))
         drawn.say(f"The entries of CPU {it.cpu}, around the first fault:")
         strip(drawn, model, near(apart, len(record.logs) + it.cpu, it.entry), "entry", marked)
-        event = model.claims.event_of.get((it.cpu, it.entry)) or len(record.logs[number])
         drawn.say(f"The log of {record.objects[number].name} there:")
-        strip(drawn, model, near(apart, number, event), "event", marked)
-    for words, kind in [*said_held(model, it, number), *explained(model, it, number)]:
+        strip(drawn, model, near(apart, number, event or len(record.logs[number])), "event", marked)
+    place = it, record.objects[number], record.logs[number], event
+    for words, kind in [*said_held(model, *place), *explained(model, number, *place)]:
         drawn.say(words, kind)
 
 
-def said_held(model, it, number):
+def said_held(model, it, named, log, event):
     """What the object held there, as lines of text with their kinds."""
-    named, log = model.record.objects[number], model.record.logs[number]
-    event = it.event or (model.claims.event_of.get((it.cpu, it.entry)) if it.log is None else named.events + 1)
-    if not model.is_known(named):
-        if not model.verdict.reasons:
-            yield f"What {named.name} held, only its model knows.", None
-        return
-    place = f"Before step {it.step or 1} of event {event}" if event else "Behind its last event"
-    try:
-        yield f"{place} {named.name} held: {held_at(named, log, event or len(log) + 1, it.step or 1)[1]}.", None
-    except (LookupError, ValueError):
+    if model.is_known(named):
+        place = f"Before step {it.step or 1} of event {event}" if event else "Behind its last event"
         # (a log that is too long may have wrong replies too)
-        return
+        with suppress(LookupError, ValueError):
+            yield f"{place} {named.name} held: {held_at(named, log, event or len(log) + 1, it.step or 1)[1]}.", None
+    elif not model.verdict.reasons:
+        yield f"What {named.name} held, only its model knows.", None
 
 
-def explained(model, it, number):
+def explained(model, number, it, named, log, event):
     """What the fault means."""
-    record, named, log = model.record, model.record.objects[number], model.record.logs[number]
     if model.verdict.reasons:
         yield from ((line, "mono") for line in model.verdict.reasons)
     elif it.what == "wrong step":
-        yield wrong_step(model, it, number), "bad"
+        yield wrong_step(model, number, it, *steps_of(log[event - 1].steps)[it.step - 1]), "bad"
     elif it.what == "too long":
         yield f"The log has {len(log)} events, and may have {named.events}.", "bad"
     elif it.what == "unclaimed":
-        cpu = log[it.event - 1].cpu
-        done = sum(entry.object == number and entry.done is not None for entry in record.transcripts[cpu])
+        cpu = log[event - 1].cpu
+        done = sum(entry.object == number and entry.done is not None for entry in model.record.transcripts[cpu])
         yield f"CPU {cpu} has {done} entries that were done on {named.name}, and none is left for this event.", "bad"
+    elif it.what == "room was left":
+        yield f"The entry found no room. The log has {len(log)} events, and may have {named.events}.", "bad"
+        yield "If it is full, it has an event of this CPU that no earlier entry took.", None
     else:
-        entry, event = record.transcripts[it.cpu][it.entry - 1], model.claims.event_of.get((it.cpu, it.entry))
-        yield from wrong_entry(entry, event, it, log, named)
+        yield from wrong_entry(model.record.transcripts[it.cpu][it.entry - 1], it, named, log, event)
 
 
-def wrong_step(model, it, number):
-    named, log = model.record.objects[number], model.record.logs[number]
-    call, reply = steps_of(log[it.event - 1].steps)[it.step - 1]
+def wrong_step(model, number, it, call, reply):
     right = model.right_reply(number, it.event, it.step, call)
     if right == reply or not model.verdict.is_judged:
         return f"A step before it in this event refused, so it wasn't to be done. The record has: {call} = {reply}."
     return (f"It should have answered: {call} = {right}. " if right else "") + f"The record has: {call} = {reply}."
 
 
-def wrong_entry(entry, event, it, log, named):
-    next_one = f"event {event}: {log[event - 1].steps}" if event else "none"
-    if it.what == "room was left":
-        yield f"The entry found no room. The log has {len(log)} events, and may have {named.events}.", "bad"
-        yield "If it is full, it has an event of this CPU that no earlier entry took.", None
-    elif it.what == "not its event":
+def wrong_entry(entry, it, named, log, event):
+    if it.what == "not its event":
+        next_one = f"event {event}: {log[event - 1].steps}" if event else "none"
         yield f"The entry has: {entry.done}. The CPU's next event on {named.name} is {next_one}.", "bad"
     else:
         yield f"Asked was: {entry.asked}. Done was: {entry.done}.", "bad"

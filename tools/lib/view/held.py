@@ -4,9 +4,9 @@ No answer is computed here. Up to the first wrong step all replies are right, an
 reply to the call of that step comes from the proved program: it does the same calls once more, on one CPU."""
 import tempfile
 
+from texts.calls import GOING_ON
 from texts.record import read_record, steps_of
 
-GOING_ON = {"ok", "thread", "count", "page", "dropped", "byte"}  # replies that don't refuse
 MOST_CALLS, MOST_EVENTS = 80_000, 65_536  # of one CPU: 10,000 entries of 8 calls; and of a log
 
 
@@ -84,5 +84,5 @@ def right_reply(mc2, named, before, call):
         file.write("cpus = 1\n" + named._replace(name="x", events=MOST_EVENTS).table())
         file.flush()
         scripts = "".join(f"0 x {entry}\n" for entry in entries)
-        status, said, _ = mc2.ask(["run", "--settings", file.name], scripts.encode())
-    return None if status else steps_of(read_record(said).logs[0][-1].steps)[0][1]
+        said = mc2.ask(["run", "--settings", file.name], scripts.encode())
+    return steps_of(read_record(said).logs[0][-1].steps)[0][1]

@@ -105,7 +105,7 @@ function help() {
   const table = make("table");
   const fault = D.marked.length ? [["f", D.marked.length > 1 ? "the next entry of the cycle" : "the first fault"]] : [];
   for (const [keys, does] of [...HELP, ...fault]) table.append(make("tr", {}, make("td", {}, keys), make("td", {}, does)));
-  const tails = D.isOrder && D.note === "looks" ? " A pale tail grows with the looks at the lock." : "";
+  const tails = hasTails() ? " A pale tail grows with the looks at the lock." : "";
   return make("div", { id: "keys" }, make("div", {}, `${D.means}${tails} Hatched: no room in the log.`), table);
 }
 
@@ -121,7 +121,8 @@ async function start() {
     "aria-label": `search the entries, ${terms}` });
   byId("tools").append(...D.objects.map(button), field, make("span", { id: "found", className: "grey", role: "status" }));
   canvas = make("canvas", { tabIndex: 0, role: "application", "aria-label": `${D.title}. The arrows go from entry to entry.` });
-  overview = make("canvas", { role: "img", "aria-label": "the whole run, and which part of it is in sight" });
+  const about = "the whole run, and which part of it is in sight";
+  overview = make("canvas", { height: STRIP + AXIS, role: "img", "aria-label": about });
   [context, strip] = [canvas, overview].map((it) => it.getContext("2d"));
   const parts = [make("div", { id: "one", "aria-live": "polite" }), make("div", { id: "near" }), help()];
   const scroll = make("div", { id: "scroll" }, make("div", { id: "tall" }, canvas));

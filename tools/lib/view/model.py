@@ -3,12 +3,14 @@
 With an order (`is_order`) the rows are CPUs, and a box's place is its entry's place in the order. A sound record's order is the
 judge's. For one that is unsound it is one that the logs allow whatever the replies are. Without an order, for a cycle above
 all, there is a row for each log and one for each CPU; a box's place is then its number in its row."""
+from functools import cache
 from typing import NamedTuple
 
 from texts.record import KEYS
 from view.asked import bad_verdict
 from view.claims import Claims, Placing, verdict_by_claims
 from view.held import held_at, held_before, right_reply
+from view.verdict import cut
 
 MOST_HELD, MOST_LETTERS = 3000, 180  # the most events of whose objects a page says what they held; and how much of each
 
@@ -30,7 +32,7 @@ class Box(NamedTuple):
 class Model:
     def __init__(self, record, verdict, mc2=None):
         """Without a verdict the record is one of objects of the writer's own. mc2 is asked for a right reply."""
-        self.record, self.mc2, self.claims, self.texts, self.right = record, mc2, Claims(record), {}, None
+        self.record, self.mc2, self.claims, self.right = record, mc2, Claims(record), None
         self.verdict = verdict or verdict_by_claims(record, self.claims)
         if not self.verdict.is_of(record):
             raise bad_verdict("it is of another record")
@@ -52,10 +54,7 @@ class Model:
 
     def entry(self, row, at, cpu, number):
         it, event = self.record.transcripts[cpu][number - 1], self.claims.event_of.get((cpu, number), 0)
-        key = it.asked, it.done
-        if key not in self.texts:
-            self.texts[key] = worded(it)
-        text, logged = self.texts[key], self.record.logs[it.object][event - 1].steps if event else None
+        text, logged = worded(it.asked, it.done), self.record.logs[it.object][event - 1].steps if event else None
         if event and logged != it.done:  # (then the record is unsound)
             text = f"{it.asked} | {it.done} | {logged}"
         return Box(row, at, cpu, number, it.object, it.looks, event, text)
@@ -101,16 +100,15 @@ class Model:
         """What left to right is."""
         if not self.is_order:
             return "There is no one order: each row counts its own events or entries."
-        if self.verdict.fault:
-            return "From left to right is an order that the logs allow, and no time."
-        return "From left to right is the one order of all entries, and no time."
+        order = "an order that the logs allow" if self.verdict.fault else "the one order of all entries"
+        return f"From left to right is {order}, and no time."
 
     def held(self):
         """For each object what it held before each of its events, where there are few; else nothing."""
         if sum(map(len, self.record.logs)) > MOST_HELD:
             return []
-        both = zip(self.record.objects, self.record.logs)
-        return [[shortened(it) for it in held_before(named, log)] if self.is_known(named) else [] for named, log in both]
+        return [[cut(it, MOST_LETTERS) for it in held_before(named, log)] if self.is_known(named) else []
+                for named, log in zip(self.record.objects, self.record.logs)]
 
     def right_reply(self, number, event, step, call):
         """What an object of mc2's should have answered there, if that can be told. It is asked once."""
@@ -125,16 +123,13 @@ class Model:
         return self.record.form < 3 and named.kind in KEYS
 
 
-def shortened(text):
-    return text if len(text) <= MOST_LETTERS else text[:MOST_LETTERS] + "…"
-
-
-def worded(entry):
+@cache
+def worded(asked, done):
     """What was asked and answered, in one text: calls that weren't done have no reply. Where what was done isn't a beginning
     of what was asked, both are there with a bar between."""
-    if entry.done is None:
-        return entry.asked
-    asked, done = entry.asked.split(" ; "), entry.done.split(" ; ")
-    if [step.split(" = ")[0] for step in done] != asked[: len(done)]:
-        return f"{entry.asked} | {entry.done}"
-    return " ; ".join(done + asked[len(done) :])
+    if done is None:
+        return asked
+    calls, steps = asked.split(" ; "), done.split(" ; ")
+    if [step.split(" = ")[0] for step in steps] != calls[: len(steps)]:
+        return f"{asked} | {done}"
+    return " ; ".join(steps + calls[len(steps) :])

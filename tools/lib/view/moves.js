@@ -82,12 +82,10 @@ function point(event) {
   if (scale >= FOLD) redraw();
 }
 
-const inSightFirst = () => Math.max(0, box.at.findIndex((at) => at - 1 >= from));
-
 // To the entry before or behind, in the order or in the row.
 function move(way) {
   if (!n) return;
-  if (chosen < 0) return choose(D.marked.length ? D.marked[0] : inSightFirst());
+  if (chosen < 0) return choose(D.marked.length ? D.marked[0] : Math.max(0, box.at.findIndex((at) => at - 1 >= from)));
   if (D.isOrder) return choose(Math.max(0, Math.min(n - 1, chosen + way)));
   const list = inRow[box.row[chosen]], k = list.indexOf(chosen) + way;
   if (list[k] !== undefined) choose(list[k]);

@@ -7,40 +7,46 @@ const pixelOf = (colour) => (0xff000000 | parseInt(colour.slice(5, 7) + colour.s
 
 function drawParts() {
   const dots = devicePixelRatio || 1, image = context.createImageData(canvas.width, canvas.height), wide = PART * dots;
-  const parts = Math.ceil((width - GUTTER) / PART), end = from + 1 + (parts * PART) / scale, rows = rowsInSight();
-  const sights = inRow.map((list) => [firstFrom(list, from + 1), firstFrom(list, end)]);
+  const parts = Math.ceil((width - GUTTER) / PART), end = from + 1 + (parts * PART) / scale;
+  const sights = inRow.map((list) => list.slice(firstFrom(list, from + 1), firstFrom(list, end)));
   // A row is full at twice what a part has on the whole, so that one crowded part doesn't flatten all others.
-  const all = sights.reduce((sum, [first, end]) => sum + end - first, 0), full = Math.max(1, (2 * all) / parts / inRow.length);
+  const all = sights.reduce((sum, list) => sum + list.length, 0), full = Math.max(1, (2 * all) / parts / inRow.length);
   const pixels = new Uint32Array(image.data.buffer), fill = filler(pixels, canvas.width, canvas.height, Math.round(wide) - 1);
+  const leftOf = (part) => Math.round(GUTTER * dots + part * wide);
   const colours = D.colours.map(pixelOf), [dim, wait, ...shades] = [ink.dim, ink.wait, ink.shade, ink.paper].map(pixelOf);
-  for (const [row, list] of rows) {
-    const has = countParts(list, sights[row], parts);
+  for (const [row] of rowsInSight()) {
+    const has = countParts(sights[row], parts, partOf);
     const [top, bottom] = [topOf(row), topOf(row + 1)].map((y) => Math.round(y * dots)), room = bottom - top - 2;
     pixels.fill(shades[row % 2], Math.max(0, top) * canvas.width, Math.max(0, bottom) * canvas.width);
-    for (let part = 0; part < parts; part++) {
-      if (!has.total[part]) continue;
-      const left = Math.round(GUTTER * dots + part * wide), unit = room / Math.max(full, has.total[part]);
-      if (has.looks) fill(left, bottom - 1, bottom - 1 - Math.min(1, has.looks[part] / has.total[part] / 10) * room, wait);
-      for (let kind = 0, base = bottom - 1; kind < has.kinds; kind++) {
-        const high = has.counts[part * has.kinds + kind] * unit;
-        if (high) fill(left, base, (base -= high), kind ? colours[((kind - 1) >> 1) % 16] : dim, kind && kind % 2 === 0);
-      }
-    }
+    const lookHigh = (part) => Math.min(1, has.looks[part] / has.total[part] / 10) * room;
+    for (let part = 0; hasTails() && part < parts; part++) fill(leftOf(part), bottom - 1, bottom - 1 - lookHigh(part), wait);
+    eachPiece(has, full, room, (part, object, low, high, isHatched) =>
+      fill(leftOf(part), bottom - 1 - low, bottom - 1 - high, object < 0 ? dim : colours[object % 16], isHatched));
   }
   context.putImageData(image, 0, 0);
 }
 
-// Of each part of a row how many entries each object has, with and without room; those that aren't lit come first.
-function countParts(list, [first, end], parts) {
+// Of each part how many entries each object has, with and without room; those that aren't lit come first.
+function countParts(list, parts, part) {
   const kinds = 2 * D.objects.length + 1, counts = new Uint32Array(parts * kinds);
-  const total = new Uint32Array(parts), looks = D.isOrder && D.note === "looks" ? new Float32Array(parts) : null;
-  for (let k = first; k < end; k++) {
-    const i = list[k], part = Math.min(parts - 1, partOf(i));
-    counts[part * kinds + (isDim(i) ? 0 : 1 + 2 * box.object[i] + isNoroom[i])]++;
-    total[part]++;
-    if (looks) looks[part] += box.long[i];
+  const total = new Uint32Array(parts), looks = new Float32Array(parts);
+  for (const i of list) {
+    const at = Math.min(parts - 1, part(i));
+    counts[at * kinds + (isDim(i) ? 0 : 1 + 2 * box.object[i] + isNoroom[i])]++;
+    total[at]++;
+    looks[at] += box.long[i];
   }
   return { kinds, counts, total, looks };
+}
+
+// The pieces of the bars, from below to above: the part, the object or -1, and from where to where.
+function eachPiece({ kinds, counts, total }, full, room, draw) {
+  for (let part = 0; part < total.length; part++)
+    for (let kind = 0, low = 0; total[part] && kind < kinds; kind++) {
+      const high = low + counts[part * kinds + kind] * (room / Math.max(full, total[part]));
+      if (high > low) draw(part, (kind - 1) >> 1, low, high, kind && kind % 2 === 0);
+      low = high;
+    }
 }
 
 // Fills a part of the pixels from below to above, hatched or whole.

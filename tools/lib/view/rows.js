@@ -1,7 +1,7 @@
 // The rows of boxes of a record's page, as columns of numbers (model.py says which), what is in sight of them, and where.
 const GUTTER = 78, STRIP = 22, AXIS = 20, LETTER = 7.25;
 const FOLD = 3, PART = 5; // boxes narrower than FOLD pixels are counted into parts of PART pixels
-let D, n, box, inRow, ofObject, isNoroom, isMarked, most;       // what is shown; `most` is the greatest place
+let D, n, inRow, ofObject, isNoroom, isMarked, most, box = {};  // what is shown; `most` is the greatest place
 let from = 0, scale = 1, rowHeight = 20, width = 0, ink = {};   // how: the place at the left edge, and pixels for a place
 let chosen = -1, pointed = null, only = -1, found = null, hits = [];
 let canvas, context, overview, strip, hatched = [], asked = 0, isTall = false;
@@ -11,21 +11,15 @@ const x = (place) => GUTTER + (place - from) * scale;
 const placeAt = (pixel) => from + (pixel - GUTTER) / scale;
 const partOf = (i) => Math.floor(((box.at[i] - 1 - from) * scale) / PART);
 const objectOf = (i) => D.objects[box.object[i]];
+const hasTails = () => D.isOrder && D.note === "looks";
 const isLog = (row) => !D.isOrder && row < D.objects.length;
 const isDim = (i) => (only >= 0 && box.object[i] !== only) || (found && !found[i]);
 
-// The numbers of a column that says how far each is from the one behind its group's last; null is 0.
-function unfolded(column, groups) {
-  const last = [];
-  return Float64Array.from(column, (more, i) => (more === null ? 0 : (last[groups[i]] = (last[groups[i]] || 0) + 1 + more)));
-}
-
 function prepare() {
-  const { cpu, object, looks, text, entry, event, row = cpu } = D.boxes;
-  n = cpu.length;
-  const at = unfolded(new Array(n).fill(0), D.isOrder ? [] : row);
-  box = { at, entry: unfolded(entry, cpu), event: unfolded(event, object) };
-  for (const [key, column] of Object.entries({ cpu, object, looks, text, row })) box[key] = Float64Array.from(column);
+  n = D.boxes.cpu.length;
+  for (const [key, column] of Object.entries({ row: D.boxes.cpu, ...D.boxes })) box[key] = Float64Array.from(column);
+  const reached = D.rows.map(() => 0);
+  box.at = box.row.map((row, i) => (D.isOrder ? i + 1 : ++reached[row]));
   box.long = box.looks.map((looks) => Math.log2(1 + looks));
   most = box.at.reduce((a, b) => Math.max(a, b), 1);
   [inRow, ofObject] = [D.rows.map(() => []), D.objects.map(() => [])];
@@ -51,7 +45,7 @@ function firstFrom(list, least, column = box.at) {
 
 // How long a tail is, in places: more by the same for each doubling of the looks, as far as there is room in the row.
 function tail(list, k) {
-  if (D.note !== "looks" || !D.isOrder) return 0;
+  if (!hasTails()) return 0;
   const room = box.at[list[k]] - 1 - (k ? box.at[list[k - 1]] : 0) + 0.1;
   return Math.min(0.25 * box.long[list[k]], room);
 }

@@ -3,20 +3,16 @@ let whole = null; // the strip without what is in sight, which is kept
 
 function drawStrip() {
   const wide = width - GUTTER - 8;
-  strip.fillStyle = ink.paper;
-  strip.fillRect(0, 0, width, STRIP + AXIS);
+  paint(strip, ink.paper, 0, 0, width, STRIP + AXIS);
   if (!whole) drawWhole(wide);
   strip.drawImage(whole, GUTTER, 3);
   const onStrip = (place) => GUTTER + Math.max(0, Math.min(1, place / most)) * wide;
-  for (const [list, colour] of [[hits.slice(0, 5000), ink.link], [D.marked, ink.bad]]) {
-    strip.fillStyle = colour;
-    for (const i of list) strip.fillRect(onStrip(box.at[i] - 0.5) - 1, 0, 2, STRIP);
-  }
+  for (const [list, colour] of [[hits.slice(0, 5000), ink.link], [D.marked, ink.bad]])
+    for (const i of list) paint(strip, colour, onStrip(box.at[i] - 0.5) - 1, 0, 2, STRIP);
   const left = onStrip(from), right = onStrip(placeAt(width));
-  strip.fillStyle = ink.paper;
   strip.globalAlpha = 0.72;
-  strip.fillRect(GUTTER, 2, left - GUTTER, STRIP - 4);
-  strip.fillRect(right, 2, GUTTER + wide - right, STRIP - 4);
+  paint(strip, ink.paper, GUTTER, 2, left - GUTTER, STRIP - 4);
+  paint(strip, ink.paper, right, 2, GUTTER + wide - right, STRIP - 4);
   strip.globalAlpha = 1;
   strip.strokeStyle = ink.ink;
   strip.strokeRect(left, 1.5, Math.max(2, right - left), STRIP - 3);
@@ -37,21 +33,13 @@ function drawPlaces() {
   strip.fillText(D.isOrder ? "place" : "number", 10, STRIP + 15);
 }
 
-// Of each part of the whole run how many entries each object has; those that aren't lit come first, in grey.
 function drawWhole(wide) {
   whole = make("canvas", { width: Math.max(1, wide), height: STRIP - 6 });
-  const parts = Math.max(1, Math.min(most, Math.ceil(wide / 4))), kinds = D.objects.length + 1, pen = whole.getContext("2d");
-  const counts = new Uint32Array(parts * kinds), total = new Uint32Array(parts);
-  for (let i = 0; i < n; i++) {
-    const part = Math.min(parts - 1, Math.floor(((box.at[i] - 1) / most) * parts));
-    counts[part * kinds + (isDim(i) ? 0 : 1 + box.object[i])]++;
-    total[part]++;
-  }
-  const unit = whole.height / total.reduce((a, b) => Math.max(a, b), 1);
-  for (let part = 0; part < parts; part++)
-    for (let kind = 0, base = whole.height; kind < kinds; kind++) {
-      const high = counts[part * kinds + kind] * unit;
-      pen.fillStyle = kind ? D.colours[(kind - 1) % 16] : ink.dim;
-      if (high) pen.fillRect((part * wide) / parts, (base -= high), wide / parts + 0.3, high);
-    }
+  const parts = Math.max(1, Math.min(most, Math.ceil(wide / 4))), pen = whole.getContext("2d");
+  const has = countParts([...box.at.keys()], parts, (i) => Math.floor(((box.at[i] - 1) / most) * parts));
+  const full = has.total.reduce((a, b) => Math.max(a, b), 1);
+  eachPiece(has, full, whole.height, (part, object, low, high) => {
+    const colour = object < 0 ? ink.dim : D.colours[object % 16];
+    paint(pen, colour, (part * wide) / parts, whole.height - high, wide / parts + 0.3, high - low);
+  });
 }

@@ -1,5 +1,6 @@
 """A picture of plain SVG, an element a line, light or dark as the reader's system is: `class` says what a thing is, and the
 style at its front has the colours. The colours of objects are Okabe and Ito's, which the colour-blind tell apart."""
+import textwrap
 from xml.sax.saxutils import escape, quoteattr
 
 COLOURS = ["#0072b2", "#e69f00", "#009e73", "#cc79a7", "#56b4e9", "#b8a800", "#8c6bb1", "#7a7a7a"]
@@ -47,15 +48,10 @@ class Picture:
 
     def say(self, words, kind=None, x=16):
         """A line of text below all that is there; a long one is broken between words."""
-        most, line = int((self.width - x - 16) / (LETTER if kind == "mono" else 6.8)), ""
-        pieces = [word[at:at + most] for word in words.split(" ") for at in range(0, len(word) or 1, most)]
-        for word in [*pieces, None]:
-            if word is None or len(line) + len(word) > most:
-                self.y += 22
-                self.text(x, self.y, line, kind)
-                line = ""
-            if word is not None:
-                line += " " * bool(line) + word
+        most = int((self.width - x - 16) / (LETTER if kind == "mono" else 6.8)) + 1
+        for line in textwrap.wrap(words.strip(), most, break_on_hyphens=False) or [""]:
+            self.y += 22
+            self.text(x, self.y, line, kind)
 
     def box(self, x, y, width, height, number, words, about, is_noroom=False):
         """A box of an object's colour with its words, as many as fit."""

@@ -7,17 +7,12 @@ from view.pictures import tail_of
 CPUS, OBJECTS = 1, 2
 
 
-def name_of(pid, tid, name):
-    kind = "thread_name" if tid else "process_name"
-    return {"ph": "M", "pid": pid, **({"tid": tid} if tid else {}), "name": kind, "args": {"name": name}}
-
-
 def trace(model):
     """The text of a model with an order, an event a line."""
-    events = [name_of(CPUS, 0, "CPUs"), name_of(OBJECTS, 0, "objects")]
-    for pid, names in ((CPUS, model.rows), (OBJECTS, [named.said() for named in model.record.objects])):
-        events += [name_of(pid, tid, name) for tid, name in enumerate(names, 1)]
-    last = {}
+    names, last = {CPUS: model.rows, OBJECTS: [named.said() for named in model.record.objects]}, {}
+    threads = [({"pid": pid, "tid": tid}, "thread", name) for pid in names for tid, name in enumerate(names[pid], 1)]
+    named = [({"pid": CPUS}, "process", "CPUs"), ({"pid": OBJECTS}, "process", "objects"), *threads]
+    events = [{"ph": "M", **it, "name": f"{kind}_name", "args": {"name": name}} for it, kind, name in named]
     for box in model.boxes:
         events += slices(model, box, last.get(box.cpu, 0))
         last[box.cpu] = box.at

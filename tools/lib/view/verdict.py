@@ -72,50 +72,45 @@ def cut(text, most):
 
 def by_mc2(mc2, text):
     """The verdict of the proved program: `merge` names the order, the first fault or a cycle."""
-    status, said, refusal = mc2.ask(["merge"], text)
-    if status == 0:
-        return Verdict(order=list(counted(said.decode())))
-    if refusal.startswith("E10 unsound: "):
-        return Verdict(refusal.removeprefix("E10 unsound: "))
-    if refusal.startswith("E11 cycle: "):
-        return Verdict(cycle=named_entries(refusal))
-    raise Refused(refusal, status)
+    try:
+        return Verdict(order=list(counted(mc2.ask(["merge"], text).decode().splitlines())))
+    except Refused as refused:
+        kind, _, named = (refused.line or "").partition(": ")
+        if kind == "E10 unsound":
+            return Verdict(named)
+        if kind == "E11 cycle":
+            return Verdict(cycle=named_entries(named))
+        raise
 
 
 def by_judge(words, text):
     """The verdict of a program of one's own."""
     audited = ask_judge([*words, "audit"], text)
-    return of_words(audited, ask_judge([*words, "merge"], text) if audited.split("\n", 1)[0] == "sound" else "")
+    merged = ask_judge([*words, "merge"], text) if audited.split("\n", 1)[0] == "sound" else ""
+    return by_said(audited.rstrip("\n") + "\n" + merged)
 
 
 def by_said(said):
     """The verdict that such a program printed, for `audit` and then for `merge`. Of an unsound record both print the same."""
-    first, _, rest = said.partition("\n")
-    if first == "sound":
-        return of_words(first, rest)
-    return of_words(f"{first}\n" + f"\n{rest}".partition(f"\n{first}\n")[0].removeprefix("\n"), "")
-
-
-def of_words(audited, merged):
-    line, *reasons = audited.splitlines() or [""]
+    line, *rest = said.splitlines() or [""]
     if line.startswith("unsound: "):
-        return Verdict(line.removeprefix("unsound: "), reasons)
+        return Verdict(line.removeprefix("unsound: "), rest[: [*rest, line].index(line)])
     if line != "sound":
         raise bad_verdict(f"this is none: {cut(line, 80)}")
-    named = named_entries(merged)
-    if "cycle" in merged.split("cpu", 1)[0]:
+    named = named_entries(said)
+    if "cycle" in said.split("cpu", 1)[0]:
         return Verdict(cycle=named)
-    return Verdict(order=named or list(counted(merged)))
+    return Verdict(order=named or list(counted(rest)))
 
 
 def named_entries(text):
     return [(int(cpu), int(entry)) for cpu, entry in re.findall(r"\bcpu (\d{1,18}) entry (\d{1,18})\b", text)]
 
 
-def counted(merged):
+def counted(lines):
     """The entries of the lines of `mc2 merge`, each the next one of its CPU."""
     reached = {}
-    for line in merged.splitlines():
+    for line in lines:
         cpu = line.split(" ", 1)[0]
         if not re.fullmatch(r"\d{1,18}", cpu):
             raise bad_verdict(f"this is no entry of an order: {cut(line, 80)}")

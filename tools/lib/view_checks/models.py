@@ -7,7 +7,7 @@ import zlib
 from collections import Counter
 
 from texts.answers import apply, opened, steps_of
-from view.page import timeline
+from view.pages import timeline
 from view.pictures import MOST, picture
 from view.trace import CPUS, OBJECTS, trace
 
@@ -28,21 +28,11 @@ def page_data(page):
     return json.loads(zlib.decompress(base64.b64decode(text)) if kind == "deflate" else text)
 
 
-def unfolded(column, groups):
-    """The numbers of a column, each of which is told by how far it is from the one behind its group's last."""
-    last = {}
-    for more, group in zip(column, groups):
-        if more is not None:
-            last[group] = last.get(group, 0) + 1 + more
-        yield 0 if more is None else last[group]
-
-
 def page_boxes(data):
     """The boxes as the page shows them: (row, cpu, entry, object, looks, event, words)."""
     has = data["boxes"]
-    entries, events = unfolded(has["entry"], has["cpu"]), unfolded(has["event"], has["object"])
-    texts = (data["texts"][at] for at in has["text"])
-    return list(zip(has.get("row", has["cpu"]), has["cpu"], entries, has["object"], map(int, has["looks"]), events, texts))
+    row, texts = has.get("row", has["cpu"]), (data["texts"][at] for at in has["text"])
+    return list(zip(row, has["cpu"], has["entry"], has["object"], map(int, has["looks"]), has["event"], texts))
 
 
 def drawn(it):

@@ -7,8 +7,7 @@ from common import ROOT, run
 from texts.record import read_record
 from view.claims import Claims, Placing
 from view.model import Model
-from view.page import timeline
-from view.play import steps_page
+from view.pages import steps_page, timeline
 from view.verdict import Verdict, by_mc2, by_said
 from view_checks.browser import Browser, Lost
 from view_checks.drawn import drawn_entries, record_of, shown_run

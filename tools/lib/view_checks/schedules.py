@@ -9,7 +9,7 @@ from unittest.mock import patch
 from common import run
 from drawn_runs import CPUS, draw_objects, draw_scripts, scripts_text
 from view.asked import Refused
-from view.schedule import Drawn, schedule
+from view.schedule import WAITS, schedule, words_by
 
 QUEUE = '[[object]]\nname = "q0"\nkind = "queue"\nlock = "{}"\nevents = 65536\nthreads = 8\n'
 
@@ -60,7 +60,7 @@ def at_the_most(mc2):
         with tempfile.TemporaryDirectory(prefix="schedules-") as folder:
             given = Given(mc2, folder, cpus, QUEUE.format(lock), scripts)
             drawn, turns = given.made(3), given.made(3, True)
-            with patch.object(Drawn, "keeps", lambda *_: False):
+            with patch("view.schedule.words_by", lambda *how: None if WAITS in how else words_by(*how)):
                 name = f"{len(scripts.splitlines()):,} entries of {cpus} CPUs at one {lock} lock"
                 yield f"{name} by turns", given.faults(turns, given.made(3))
             yield name, given.faults(drawn, given.made(3)) + ["another seed makes the same one"] * (drawn == given.made(4))
