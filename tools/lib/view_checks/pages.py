@@ -104,8 +104,8 @@ def check_markup(pages):
 
 def check_steps(pages):
     """The page that plays steps: each step by a key, and the lock's line behind the last one."""
-    for name in ("steps_at_an_mcs_lock", "steps_at_a_ticket_lock"):
-        lines = (ROOT / "rows/view" / name / "stdout").read_text()
+    for name in ("at_a_ticket_lock", "at_an_mcs_lock"):
+        lines = (ROOT / "rows/steps" / name / "stdout").read_text()
         pages.open(steps_page(lines))
         count = len(lines.splitlines())
         pages.browser.press("End")
