@@ -17,6 +17,7 @@ function readInk() {
 }
 
 function layout() {
+  fit(overview, strip, byId("scroll").clientWidth, STRIP + AXIS);
   const room = Math.max(1, byId("scroll").clientHeight);
   const least = isTall ? 22 : D.rows.length <= 32 ? 17 : 8;
   rowHeight = Math.max(least, Math.min(44, Math.floor((room - 2) / D.rows.length)));

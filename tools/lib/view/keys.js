@@ -121,8 +121,7 @@ async function start() {
     "aria-label": `search the entries, ${terms}` });
   byId("tools").append(...D.objects.map(button), field, make("span", { id: "found", className: "grey", role: "status" }));
   canvas = make("canvas", { tabIndex: 0, role: "application", "aria-label": `${D.title}. The arrows go from entry to entry.` });
-  const about = "the whole run, and which part of it is in sight";
-  overview = make("canvas", { height: STRIP + AXIS, role: "img", "aria-label": about });
+  overview = make("canvas", { role: "img", "aria-label": "the whole run, and which part of it is in sight" });
   [context, strip] = [canvas, overview].map((it) => it.getContext("2d"));
   const parts = [make("div", { id: "one", "aria-live": "polite" }), make("div", { id: "near" }), help()];
   const scroll = make("div", { id: "scroll" }, make("div", { id: "tall" }, canvas));
