@@ -33,17 +33,17 @@ pub works : {O P C R : Type 0} (cpu : Option (CpuState O P C R)) → first_cell 
 works None = refl
 works (Some cpu) = refl
 
-module _ (w : KernelWorld) (i : ℕ) (lists : List (Bor (List KernelTodo))) (each : (j : ℕ) → left_at lists j ≡ left_to j w) (old new : Bor (List KernelTodo)) (here : slice_get lists i ≡ Some old) (goes : new.now ≡ cond (ends_hold (step kernel w i).1) (left old.now) old.now) where
-  own : left_at (set lists i new) i ≡ left_to i (step kernel w i).0
-  own =
-      let was : old.now ≡ left_to i w = sym (ap (λ (o : Option (Bor (List KernelTodo))). option_map_or (λ l. l.now) o []) here) ∙ each i in
-      ap (λ (o : Option (Bor (List KernelTodo))). option_map_or (λ l. l.now) o []) (get_set_same lists i new old here)
-      ∙ (goes ∙ (ap (λ l. cond (ends_hold (step kernel w i).1) (left l) l) was ∙ sym (cpus_stepped kernel w i).own))
+module _ (w : KernelWorld) (i : ℕ) (lists : List (Bor (List KernelTodo))) (each : (j : ℕ) → left_at lists j ≡ left_to j w) where
+  -- what is left of the script of a CPU
+  pub left_of : (old : Bor (List KernelTodo)) → slice_get lists i ≡ Some old → old.now ≡ left_to i w
+  left_of old here = sym (ap (λ (o : Option (Bor (List KernelTodo))). option_map_or (λ l. l.now) o []) here) ∙ each i
 
-  -- what is left behind a step of CPU i, of which that list is left
-  pub left_behind : (j : ℕ) → left_at (set lists i new) j ≡ left_to j (step kernel w i).0
-  left_behind j = dite (ℕ_discrete j i)
-      (λ is. subst (λ k. left_at (set lists i new) k ≡ left_to k (step kernel w i).0) (sym is) own)
+  -- and behind its step
+  pub left_behind : (old new : Bor (List KernelTodo)) → slice_get lists i ≡ Some old → new.now ≡ cond (ends_hold (step kernel w i).1) (left old.now) old.now → (j : ℕ) → left_at (set lists i new) j ≡ left_to j (step kernel w i).0
+  left_behind old new here goes j = dite (ℕ_discrete j i)
+      (λ is. subst (λ k. left_at (set lists i new) k ≡ left_to k (step kernel w i).0) (sym is)
+      (ap (λ (o : Option (Bor (List KernelTodo))). option_map_or (λ l. l.now) o []) (get_set_same lists i new old here)
+      ∙ (goes ∙ (ap (λ l. cond (ends_hold (step kernel w i).1) (left l) l) (left_of old here) ∙ sym (cpus_stepped kernel w i).own))))
       (λ ne. ap (λ (o : Option (Bor (List KernelTodo))). option_map_or (λ l. l.now) o []) (get_set_other lists i j new (λ e. ne (sym e))) ∙ (each j ∙ sym ((cpus_stepped kernel w i).others j ne)))
 
 -- the line of the next step, and those that are left
