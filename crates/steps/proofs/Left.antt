@@ -1,10 +1,11 @@
 -- What is left of each script, step by step, and the lines of the steps.
-use Rattle.std.proofs.Common.{◌≡◌, ℕ, zero, suc, ◌+◌, ◌<◌, cond, List, [], ◌∷◌, ◌++◌, map, length, get_or, slice_get, drop, Some, None, Option, option_map_or, refl, sym, ap, ◌∙◌, subst, append_assoc}
+use Rattle.std.proofs.Common.{◌≡◌, ℕ, zero, suc, ◌+◌, ◌<◌, cond, List, [], ◌∷◌, ◌++◌, map, length, get_or, slice_get, drop, Some, None, Option, refl, sym, ap, ◌∙◌, subst, append_assoc}
 use mathlib.Core.Logic.{dite}
 use native.Mathlib.Decide.{ℕ_discrete}
 use Rattle.std.proofs.Math.ListN.{set}
 use Rattle.std.proofs.lemmas.List.{drop_more}
 use Rattle.std.specs.Borrow.{Bor}
+use Rattle.std.specs.Option.{option_map_or}
 use Rattle.scripts.specs.contracts.objects.kernel_object.KernelObjectSeqObject.TheImpl.{ghosts as kernel}
 use Rattle.scripts.specs.KernelTypes.{KernelTodo}
 use Rattle.scripts.specs.Settings.{Settings}

@@ -20,8 +20,8 @@ returns-in-Some-get c = λ w shows.
     let words = c.words-words.ensures w cell.0 shows cell.1 ∙ sym (ap (words_in (length w.cpus)) cell.1) in
     let line : line_at c.cpus.result a.number a.cpu a.done c.words-words.result.now o ≡ line_of s a.number a.cpu a.object a.done w
     = ap (λ n. line_at n a.number a.cpu a.done c.words-words.result.now o) c.cpus.ensures.cpus
-        ∙ (ap (λ ws. line_at s.cpus a.number a.cpu a.done ws o) words
-        ∙ sym (ap (λ (p : Option ℕ). line_of s a.number a.cpu p a.done w) c.in-Some.is ∙ ap (λ (p : Option ObjectSettings). line_if s a.number a.cpu x p a.done w) at)) in
+    ∙ (ap (λ ws. line_at s.cpus a.number a.cpu a.done ws o) words
+    ∙ sym (ap (λ (p : Option ℕ). line_of s a.number a.cpu p a.done w) c.in-Some.is ∙ ap (λ (p : Option ObjectSettings). line_if s a.number a.cpu x p a.done w) at)) in
     subst (λ l. OnOk c.put_at.result (string_bytes c.put_at.new.text ≡ string_bytes a.text.now ++ l)) line c.put_at.ensures
 
 pub returns-in-None : goal.returns-in-None
