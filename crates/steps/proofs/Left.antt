@@ -1,10 +1,11 @@
 -- What is left of each script, step by step, and the lines of the steps.
-use Rattle.std.proofs.Common.{◌≡◌, ℕ, zero, suc, ◌+◌, ◌<◌, cond, List, [], ◌∷◌, ◌++◌, map, length, get_or, slice_get, drop, Some, None, Option, refl, sym, ap, ◌∙◌, subst, append_assoc}
+use Rattle.std.proofs.Common.{◌≡◌, ℕ, zero, suc, ◌+◌, ◌<◌, cond, List, [], ◌∷◌, ◌++◌, map, length, get_or, slice_get, drop, Some, None, Option, refl, sym, ap, ◌∙◌, subst, arith, append_assoc}
 use mathlib.Core.Logic.{dite}
 use native.Mathlib.Decide.{ℕ_discrete}
 use Rattle.std.proofs.Math.ListN.{set}
 use Rattle.std.proofs.lemmas.List.{drop_more}
 use Rattle.std.specs.Borrow.{Bor}
+use Rattle.std.specs.List.{AllByRecursion}
 use Rattle.std.specs.Option.{option_map_or}
 use Rattle.scripts.specs.contracts.objects.kernel_object.KernelObjectSeqObject.TheImpl.{ghosts as kernel}
 use Rattle.scripts.specs.KernelTypes.{KernelTodo}
@@ -46,6 +47,12 @@ module _ (w : KernelWorld) (i : ℕ) (lists : List (Bor (List KernelTodo))) (eac
       (ap (λ (o : Option (Bor (List KernelTodo))). option_map_or (λ l. l.now) o []) (get_set_same lists i new old here)
       ∙ (goes ∙ (ap (λ l. cond (ends_hold (step kernel w i).1) (left l) l) (left_of old here) ∙ sym (cpus_stepped kernel w i).own))))
       (λ ne. ap (λ (o : Option (Bor (List KernelTodo))). option_map_or (λ l. l.now) o []) (get_set_other lists i j new (λ e. ne (sym e))) ∙ (each j ∙ sym ((cpus_stepped kernel w i).others j ne)))
+
+-- each word of a schedule is a CPU
+pub is_below : (cpus : ℕ) (steps : List ℕ) (n : ℕ) → AllByRecursion (λ cpu. cpu < cpus) steps → n < length steps → get_or steps n 0 < cpus
+is_below cpus [] n each less = absurd (omega (arith, less))
+is_below cpus (i ∷ steps) zero each less = each.0
+is_below cpus (i ∷ steps) (suc n) each less = is_below cpus steps n each.1 (omega (arith, less))
 
 -- the line of the next step, and those that are left
 pub line_more : (settings : Settings) (steps : List ℕ) (n : ℕ) (w : KernelWorld) (text whole : List ℕ) → n < length steps → text ++ lines_from settings (n + 1) (drop n steps) w ≡ whole

@@ -1,6 +1,7 @@
 use Rattle.std.proofs.Common.{◌≡◌, ℕ, ◌+◌, ◌<◌, ◌++◌, cond, List, drop, get_or, length, length-set, map, slice_get, Some, sym, ap, subst, ◌∙◌, arith, rules, string_bytes}
 use Rattle.std.proofs.lemmas.List.{append-nil, drop_all, length-map}
 use Rattle.std.specs.Borrow.{Bor}
+use Rattle.std.specs.List.{AllByRecursion}
 use Rattle.scripts.specs.contracts.objects.kernel_object.KernelObjectSeqObject.TheImpl.{ghosts as kernel}
 use Rattle.scripts.specs.KernelTypes.{KernelTodo}
 use Rattle.sound_run.proofs.Slices.{read_get}
@@ -13,7 +14,7 @@ use Rattle.word_rule.specs.Replay.{entries_left}
 use Rattle.word_rule.specs.StepKinds.{ends_hold}
 use Rattle.cpu_worker.specs.Simulation.{KernelWorld, new_world}
 use Rattle.steps.specs.Lines.{line_of, lines_from, steps_text}
-use Rattle.steps.proofs.Left.{all_left, left_behind, left_of, line_more, works}
+use Rattle.steps.proofs.Left.{all_left, is_below, left_behind, left_of, line_more, works}
 use Rattle.steps.proofs.lines.lines.Goals as goal
 
 pub loop-place-init : goal.loop-place-init
@@ -44,7 +45,8 @@ loop-place-preserved c =
     let v : KernelWorld = (step kernel w cpu).0 in
     let lists = c.loop-place.left.items in
     let old : Bor (List KernelTodo) = c.index-todos.result.now in
-    let within : cpu < length lists = search rules in
+    let below = is_below settings.cpus items n (subst (λ (s : List ℕ). AllByRecursion (λ i. i < settings.cpus) s) (sym c.steps-cpu-items.ensures.steps) c.requires.schedule) c.loop-place-test.true in
+    let within : cpu < length lists = subst (λ m. cpu < m) (sym i.count) below in
     let here : slice_get lists cpu ≡ Some old = read_get lists cpu old within c.index-todos.ensures in
     let done : c.step-done.result ≡ (step kernel w cpu).1 = c.step-done.ensures.done w i.shows in
     let shows : Represents kernel c.step-done.new.self v = c.step-done.ensures.shows w i.shows in
