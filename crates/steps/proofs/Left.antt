@@ -1,10 +1,12 @@
 -- What is left of each script, step by step, and the lines of the steps.
-use Rattle.std.proofs.Common.{◌≡◌, ℕ, zero, suc, ◌+◌, ◌<◌, cond, List, [], ◌∷◌, ◌++◌, map, length, get_or, slice_get, drop, Some, None, Option, option_map_or, refl, sym, ap, ◌∙◌, subst, append_assoc}
+use Rattle.std.proofs.Common.{◌≡◌, ℕ, zero, suc, ◌+◌, ◌<◌, cond, List, [], ◌∷◌, ◌++◌, map, length, get_or, slice_get, drop, Some, None, Option, refl, sym, ap, ◌∙◌, subst, arith, append_assoc}
 use mathlib.Core.Logic.{dite}
 use native.Mathlib.Decide.{ℕ_discrete}
 use Rattle.std.proofs.Math.ListN.{set}
 use Rattle.std.proofs.lemmas.List.{drop_more}
 use Rattle.std.specs.Borrow.{Bor}
+use Rattle.std.specs.List.{AllByRecursion}
+use Rattle.std.specs.Option.{option_map_or}
 use Rattle.scripts.specs.contracts.objects.kernel_object.KernelObjectSeqObject.TheImpl.{ghosts as kernel}
 use Rattle.scripts.specs.KernelTypes.{KernelTodo}
 use Rattle.scripts.specs.Settings.{Settings}
@@ -33,18 +35,24 @@ pub works : {O P C R : Type 0} (cpu : Option (CpuState O P C R)) → first_cell 
 works None = refl
 works (Some cpu) = refl
 
-module _ (w : KernelWorld) (i : ℕ) (lists : List (Bor (List KernelTodo))) (each : (j : ℕ) → left_at lists j ≡ left_to j w) (old new : Bor (List KernelTodo)) (here : slice_get lists i ≡ Some old) (goes : new.now ≡ cond (ends_hold (step kernel w i).1) (left old.now) old.now) where
-  own : left_at (set lists i new) i ≡ left_to i (step kernel w i).0
-  own =
-      let was : old.now ≡ left_to i w = sym (ap (λ (o : Option (Bor (List KernelTodo))). option_map_or (λ l. l.now) o []) here) ∙ each i in
-      ap (λ (o : Option (Bor (List KernelTodo))). option_map_or (λ l. l.now) o []) (get_set_same lists i new old here)
-      ∙ (goes ∙ (ap (λ l. cond (ends_hold (step kernel w i).1) (left l) l) was ∙ sym (cpus_stepped kernel w i).own))
+module _ (w : KernelWorld) (i : ℕ) (lists : List (Bor (List KernelTodo))) (each : (j : ℕ) → left_at lists j ≡ left_to j w) where
+  -- what is left of the script of a CPU
+  pub left_of : (old : Bor (List KernelTodo)) → slice_get lists i ≡ Some old → old.now ≡ left_to i w
+  left_of old here = sym (ap (λ (o : Option (Bor (List KernelTodo))). option_map_or (λ l. l.now) o []) here) ∙ each i
 
-  -- what is left behind a step of CPU i, of which that list is left
-  pub left_behind : (j : ℕ) → left_at (set lists i new) j ≡ left_to j (step kernel w i).0
-  left_behind j = dite (ℕ_discrete j i)
-      (λ is. subst (λ k. left_at (set lists i new) k ≡ left_to k (step kernel w i).0) (sym is) own)
+  -- and behind its step
+  pub left_behind : (old new : Bor (List KernelTodo)) → slice_get lists i ≡ Some old → new.now ≡ cond (ends_hold (step kernel w i).1) (left old.now) old.now → (j : ℕ) → left_at (set lists i new) j ≡ left_to j (step kernel w i).0
+  left_behind old new here goes j = dite (ℕ_discrete j i)
+      (λ is. subst (λ k. left_at (set lists i new) k ≡ left_to k (step kernel w i).0) (sym is)
+      (ap (λ (o : Option (Bor (List KernelTodo))). option_map_or (λ l. l.now) o []) (get_set_same lists i new old here)
+      ∙ (goes ∙ (ap (λ l. cond (ends_hold (step kernel w i).1) (left l) l) (left_of old here) ∙ sym (cpus_stepped kernel w i).own))))
       (λ ne. ap (λ (o : Option (Bor (List KernelTodo))). option_map_or (λ l. l.now) o []) (get_set_other lists i j new (λ e. ne (sym e))) ∙ (each j ∙ sym ((cpus_stepped kernel w i).others j ne)))
+
+-- each word of a schedule is a CPU
+pub is_below : (cpus : ℕ) (steps : List ℕ) (n : ℕ) → AllByRecursion (λ cpu. cpu < cpus) steps → n < length steps → get_or steps n 0 < cpus
+is_below cpus [] n each less = absurd (omega (arith, less))
+is_below cpus (i ∷ steps) zero each less = each.0
+is_below cpus (i ∷ steps) (suc n) each less = is_below cpus steps n each.1 (omega (arith, less))
 
 -- the line of the next step, and those that are left
 pub line_more : (settings : Settings) (steps : List ℕ) (n : ℕ) (w : KernelWorld) (text whole : List ℕ) → n < length steps → text ++ lines_from settings (n + 1) (drop n steps) w ≡ whole

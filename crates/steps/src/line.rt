@@ -93,12 +93,7 @@ fn put_at(
 }
 
 /// Puts the line of a step at no object.
-fn put_alone(
-    text: &mut String,
-    number: usize,
-    cpu: u8,
-    done: StepDone,
-) -> Result<(), AllocError>
+fn put_alone(text: &mut String, number: usize, cpu: u8, done: StepDone) -> Result<(), AllocError>
     ensures { OnOk result (string_bytes text.new ≡ string_bytes text.old ++ line_alone number cpu done) }
 {
     let kind = done.name();
@@ -125,7 +120,15 @@ pub fn put_line(
     match settings.objects().get(x as usize) {
         Some(object) => {
             let words = machine.words(x);
-            put_at(text, settings.cpus() as usize, number, cpu, done, words, object)
+            put_at(
+                text,
+                settings.cpus() as usize,
+                number,
+                cpu,
+                done,
+                words,
+                object,
+            )
         }
         None => put_alone(text, number, cpu, done),
     }

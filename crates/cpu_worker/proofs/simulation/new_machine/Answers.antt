@@ -1,4 +1,4 @@
-use Rattle.std.proofs.Common.{◌≡◌, List, map, length, vec_len, sym, ap, subst, ◌∙◌, arith, lit<}
+use Rattle.std.proofs.Common.{◌≡◌, ℕ, List, map, length, vec_len, sym, ap, subst, ◌∙◌, arith, lit<, Vec, Global}
 use Rattle.std.proofs.lemmas.List.{length-map}
 use Rattle.std.specs.List.{AllByRecursion}
 use Rattle.scripts.specs.contracts.objects.kernel_object.KernelObjectSeqObject.TheImpl.{ghosts as kernel}
@@ -18,16 +18,14 @@ cell_count c =
     c.in_ok-cells.cells.ok.0 ∙ (sym (length-map cells (λ d. opening_cell d.kind d.first d.logged)) ∙ (ap length c.in_ok-cells.ensures.cells ∙ length-map c.args.settings.now.objects new_cell))
 
 -- and as many lists as CPUs
-list_count : (c : After-into_lists) → vec_len c.into_lists.result ≡ c.args.settings.now.cpus
-list_count c =
-    let lists = c.into_lists.result in
-    lists.ok.0 ∙ (sym (length-map lists.items (λ l. l.items)) ∙ (ap length c.into_lists.ensures.lists ∙ c.requires.0))
+list_count : (lists : List (Vec KernelTodo Global)) (scripts : List (List KernelTodo)) (cpus : ℕ) → map (λ l. l.items) lists ≡ scripts → length scripts ≡ cpus → length lists ≡ cpus
+list_count lists scripts cpus same count = sym (length-map lists (λ l. l.items)) ∙ (ap length same ∙ count)
 
 pub new-requires : goal.new-requires
 new-requires c =
     let objects = cell_count c in
-    let cpus = list_count c in
     let lists = c.into_lists.result in
+    let cpus = lists.ok.0 ∙ list_count lists.items c.args.scripts c.args.settings.now.cpus c.into_lists.ensures.lists c.requires.0 in
     let fit = c.in_ok-cells.ensures.fit in (
       lit< tt,
       (
@@ -57,4 +55,4 @@ pub returns-in-Ok-clause-opened : goal.returns-in-Ok-clause-opened
 returns-in-Ok-clause-opened c = c.in-Ok.ensures.opened ∙ c.in_ok-cells.ensures.opened
 
 pub returns-in-Ok-clause-cpus : goal.returns-in-Ok-clause-cpus
-returns-in-Ok-clause-cpus c = ap length c.in-Ok.ensures.scripts ∙ (sym c.into_lists.result.ok.0 ∙ list_count c.before)
+returns-in-Ok-clause-cpus c = ap length c.in-Ok.ensures.scripts ∙ list_count c.into_lists.result.items c.args.scripts c.args.settings.now.cpus c.into_lists.ensures.lists c.requires.0

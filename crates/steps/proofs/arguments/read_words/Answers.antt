@@ -28,7 +28,10 @@ returns-in-Ok-files-clause-asked c = record {
 }
 
 pub returns-in-Ok-try_get_matches_from-clause-refused : goal.returns-in-Ok-try_get_matches_from-clause-refused
-returns-in-Ok-try_get_matches_from-clause-refused c = inr (refl, record {
-  none = λ a asked. c.in-Err-files.ensures.refused a (subst (λ (rows : List Row). AreFound rows a) (sym (found _ c.in-Ok.ensures _ _ c.in-Ok-try_get_matches_from.ensures.matches)) asked.found);
-  no_help = λ m. no_help (faults c.args.words.now) (taken _ c.in-Ok.ensures _ c.in-Ok-try_get_matches_from.ensures.kinds) m.only;
-})
+returns-in-Ok-try_get_matches_from-clause-refused c = inr (
+  refl,
+  record {
+    none = λ a asked. c.in-Err-files.ensures.refused a (subst (λ (rows : List Row). AreFound rows a) (sym (found _ c.in-Ok.ensures _ _ c.in-Ok-try_get_matches_from.ensures.matches)) asked.found);
+    no_help = λ m. no_help (faults c.args.words.now) (taken _ c.in-Ok.ensures _ c.in-Ok-try_get_matches_from.ensures.kinds) m.only;
+  },
+)
