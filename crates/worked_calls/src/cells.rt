@@ -16,15 +16,13 @@ use std::test::Fail;
 
 const KINDS: [LockKind; 2] = [LockKind::Ticket, LockKind::Mcs];
 
+type Pass = AnyPass<ThreadQueue>;
+
 /// A cell, and the passes of its two CPUs.
-type Two = (
-    AnyCell<ThreadQueue>,
-    AnyPass<ThreadQueue>,
-    AnyPass<ThreadQueue>,
-);
+pub type Two = (AnyCell<ThreadQueue>, Pass, Pass);
 
 /// A cell of two CPUs around a queue of 8 threads with room for 3 events.
-fn cell_of_two(alloc: Global, kind: LockKind) -> Result<Two, Fail>
+pub fn cell_of_two(alloc: Global, kind: LockKind) -> Result<Two, Fail>
     ensures zero { IfOk result (λ r. IsPassOf r.0 r.1) }
     ensures one { IfOk result (λ r. IsPassOf r.0 r.2) }
     ensures all { IfOk result (λ r. OwnTogether (view_of_pass r.1).caller (view_of_pass r.2).caller) }

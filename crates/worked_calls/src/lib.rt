@@ -4,16 +4,12 @@
 #[cfg(test)]
 mod cells;
 #[cfg(test)]
-mod judges;
-#[cfg(test)]
 mod locks;
-#[cfg(test)]
-mod mcs_steps;
 #[cfg(test)]
 mod objects;
 #[cfg(test)]
 mod runs;
 #[cfg(test)]
-mod texts;
+mod steps;
 #[cfg(test)]
-mod ticket_steps;
+mod texts;

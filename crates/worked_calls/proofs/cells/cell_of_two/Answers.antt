@@ -1,4 +1,4 @@
-use Rattle.std.proofs.Common.{rules, ◌≡◌, Some, slice_get}
+use Rattle.std.proofs.Common.{rules}
 use Rattle.word_rule.specs.Passes.{view_of_pass}
 use Rattle.word_rule.proofs.Owners.{own_both}
 use Rattle.worked_calls.proofs.cells.cell_of_two.Goals as goal
