@@ -5,7 +5,7 @@ from concurrent.futures import ThreadPoolExecutor
 from itertools import permutations
 
 from common import ROOT, Stop, run
-from libraries import build_library, kernel_toolchain
+from libraries import build_library
 
 CHECKS = ROOT / "tools/lib/metal_checks"
 NOTE_CALLS = ROOT / "tools/lib/foreign_checks/note_freestanding.c"
@@ -162,8 +162,7 @@ def build_libraries(folder):
     """Builds the libraries of cells and of judge at once, each as the kit does, and then for a kernel."""
 
     def build_both(crate):
-        toolchain = kernel_toolchain(folder / f"toolchain/{crate}")
-        return build_library(crate), build_library(crate, toolchain, folder / f"kernel/lib{crate}.a")
+        return build_library(crate), build_library(crate, "kernel_clang", folder / f"kernel/lib{crate}.a")
 
     with ThreadPoolExecutor(2) as pool:
         return pool.map(build_both, ("cells", "judge"))
