@@ -176,6 +176,8 @@ def check_headers(counts, folder):
     ends = [it for order in (("mc2_cells.hpp", *HEADERS), (*HEADERS, "mc2_cells.hpp")) for it in (order, order)]
     counts.check("mc2_cells.hpp beside them", compile_headers, ["g++", "-std=c++17", "-fno-exceptions", "-x", "c++"], ends)
     counts.check("headers freestanding", compile_headers, [*freestanding, "-x", "c"])
+    ends = [("mc2_cells_record.h", *HEADERS), (*HEADERS, "mc2_cells_record.h")]
+    counts.check("mc2_cells_record.h beside them", compile_headers, [*freestanding, "-x", "c"], ends)
     counts.check("mc2_record.h freestanding", header_asks, CHECKS / "record.c", folder, freestanding)
     counts.check("mc2_note.h freestanding", header_asks, NOTE_CALLS, folder, freestanding)
     counts.check("memory of mc2_note.h", note_memory, freestanding)
