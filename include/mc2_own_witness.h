@@ -1,5 +1,5 @@
-/* A witness for a step that a model calls wrong: a few of the steps before it, after which it is wrong for the same reason, and
-   the same would have been right in place of its reply. If that takes more than 14 steps, the same reason is enough.
+/* A witness for a step that a model calls wrong: a few of the steps before it, after which it is wrong for the same reason,
+   and the same would have been right in place of its reply. If that takes more than 14 steps, the same reason is enough.
 
    It is for MC2_WRONG_STEP where the step isn't wrong for standing behind one that refused; mc2_own.h has the models. First go
    the steps that have numbers of their own, as those on another slot, and then pieces of the log, the oldest first. The last one

@@ -128,8 +128,8 @@ static void refuse_object(uint64_t object) {
     struct mc2_own_line line;
     mc2_own_line(bytes(), length, (size_t)asked.object[object], &line);
     bool is_there = mc2_own_model(&line, models, MODEL_COUNT) != NULL;
-    const char *why = is_there ? "its model refuses its numbers, or got no memory" : "there is no model of it with these numbers";
-    fprintf(stderr, "own: object %" PRIu64 ", of kind %.*s: %s\n", object + 1, MC2_OWN_LETTERS, (const char *)line.object_kind, why);
+    fprintf(stderr, "own: object %" PRIu64 ", of kind %.*s: ", object + 1, MC2_OWN_LETTERS, (const char *)line.object_kind);
+    fputs(is_there ? "its model refuses its numbers, or got no memory\n" : "there is no model of it with these numbers\n", stderr);
 }
 
 static int refuse(const struct mc2_told *told) {

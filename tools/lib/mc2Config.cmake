@@ -1,5 +1,5 @@
-# For find_package(mc2 CONFIG): the targets mc2::cells and mc2::judge, which tools/develop/install puts into lib/. Each is a static
-# library with its heap in it.
+# For find_package(mc2 CONFIG): the targets mc2::cells and mc2::judge, which tools/develop/install puts into lib/. Each is a
+# static library with its heap in it.
 include(CMakeFindDependencyMacro)
 find_dependency(Threads)
 get_filename_component(mc2_prefix "${CMAKE_CURRENT_LIST_DIR}/../../.." ABSOLUTE)
