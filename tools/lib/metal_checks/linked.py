@@ -5,6 +5,7 @@ from concurrent.futures import ThreadPoolExecutor
 from itertools import permutations
 
 from common import ROOT, Stop, run
+from compiled import KEPT
 from libraries import build_library
 
 CHECKS = ROOT / "tools/lib/metal_checks"
@@ -158,11 +159,16 @@ def page(stacks):
     return f"has the {len(figures)} figures that are held here"
 
 
-def build_libraries(folder):
+def kernel_folder(folder, make):
+    """Where the libraries for a kernel go: the unproved ones where they are kept."""
+    return folder / "kernel" if make is build_library else KEPT / "kernel"
+
+
+def build_libraries(folder, make):
     """Builds the libraries of cells and of judge at once, each as the kit does, and then for a kernel."""
 
     def build_both(crate):
-        return build_library(crate), build_library(crate, "kernel_clang", folder / f"kernel/lib{crate}.a")
+        return make(crate), make(crate, "kernel_clang", kernel_folder(folder, make) / f"lib{crate}.a")
 
     with ThreadPoolExecutor(2) as pool:
         return pool.map(build_both, ("cells", "judge"))
@@ -184,16 +190,16 @@ def check_headers(counts, folder):
     counts.check("MC2_STEP of mc2_cells.h", steps, folder)
 
 
-def check_libraries(counts, folder):
-    """Builds and checks the libraries, and returns where those of cells, of judge, and for a kernel are."""
-    cells, judge = build_libraries(folder)
+def check_libraries(counts, folder, make):
+    """Makes and checks the libraries, and returns where those of cells, of judge, and for a kernel are."""
+    cells, judge = build_libraries(folder, make)
     for crate, (of_kit, library), allowed in (("cells", cells, CELLS_ASKS), ("judge", judge, JUDGE_ASKS)):
         counts.check(f"lib{crate}.a", asks, of_kit, allowed)
         counts.check(f"lib{crate}.a for a kernel", asks, library, allowed)
         counts.check(f"sections of lib{crate}.a", sections, of_kit)
         counts.check(f"sections of lib{crate}.a for a kernel", sections, library)
         counts.check(f"code of lib{crate}.a for a kernel", is_for_a_kernel, library)
-    counts.check("size of libcells.a", size, cells[0])
-    counts.check("size of libcells.a for a kernel", size, cells[1])
+    for library, what in zip(cells, ("", " for a kernel") if make is build_library else ()):
+        counts.check(f"size of libcells.a{what}", size, library)
     counts.check("mc2_heap.h", heap, folder, cells[0])
-    return cells[0], judge[0], folder / "kernel"
+    return cells[0], judge[0], kernel_folder(folder, make)

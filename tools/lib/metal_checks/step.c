@@ -1,5 +1,4 @@
-// Checks that MC2_STEP stands around each call of the library in the inline functions of include/mc2_cells.h and
-// mc2_cells_record.h, and around one at a
+// Checks that MC2_STEP stands around each call of the library in the inline functions of include/mc2_cells.h, and around one at a
 // time: then no interrupt that a kernel masks there comes within the library. In its place are the functions below. Each tells
 // what has the header's loops go on, and in the end what ends them.
 //
@@ -8,7 +7,7 @@ static unsigned begin_step(void);
 static unsigned end_step(unsigned told);
 
 #define MC2_STEP(call) end_step((begin_step(), (call)))
-#include "../../../include/mc2_cells_record.h"
+#include "../../../include/mc2_cells.h"
 
 static unsigned within, steps, calls;
 
@@ -66,42 +65,16 @@ uint32_t mc2_cell_take_back(struct mc2_cell *cell, struct mc2_caller *caller) {
 
 uint32_t mc2_cell_close(struct mc2_cell *cell) { return (void)cell, answer(&none, MC2_CELL_DONE); }
 
-// A log of two events, of two steps and of one, and then none.
-uint32_t mc2_cell_step(struct mc2_cell *cell, size_t event, size_t step, struct mc2_logged_step *told) {
-    static const struct mc2_logged_step logged = {0, {{MC2_LEN, 0, 0}, MC2_COUNT, 0}};
-    *told = logged;
-    return (void)cell, answer(&none, event < 2 && step < 2 - event ? MC2_CELL_DONE : MC2_CELL_NOT_THERE);
-}
-
 // So many calls of the library were made by then.
 static void made(unsigned count, const char *what) {
     must(calls == count && within == 0, what);
     calls = steps = 0;
 }
 
-static bool drop(void *to, const char *text, size_t length) { return (void)to, (void)text, length > 0; }
-
-// A cell with its callers, and its record: the library's log is as above.
-static void all_at_once(const struct mc2_object *object) {
-    struct mc2_caller callers[3];
-    struct mc2_cell cell;
-    static struct mc2_cell_note note;
-    const struct mc2_call call = {MC2_LEN, 0, 0};
-    must(mc2_cells_open(&cell, object, callers, 3) == MC2_CELL_DONE, "a cell with callers");
-    made(8, "opening a cell and each of three callers is two calls");
-    must(mc2_cell_note_call(callers, &call, &note) == MC2_CELL_DONE, "a call that is noted");
-    made(2, "the call, a step back");
-    must(mc2_cells_close(&cell, callers, 3) == MC2_CELL_DONE, "closing");
-    made(7, "each caller is taken back and freed, and the cell closed");
-    const struct mc2_cell_noted noted = {&note, 1};
-    must(mc2_cell_write_record_to(&cell, object, &noted, 1, drop, NULL) == MC2_DONE, "a record");
-    made(8, "three looks for an event, and the steps of two with the end of each");
-}
-
 int main(void) {
     struct mc2_object object = {"q", MC2_QUEUE, MC2_MCS, 0, 8, 0, NULL};
     struct mc2_cell cell;
-    struct mc2_caller caller;
+    struct mc2_caller caller, callers[3];
     struct mc2_call call = {0, 0, 0};
     struct mc2_batch batch = {1, {{0, 0, 0}}};
     struct mc2_reply reply;
@@ -122,7 +95,9 @@ int main(void) {
     made(2, "the try, a step back");
     must(mc2_caller_free(&caller) == MC2_CELL_DONE && mc2_cell_free(&cell) == MC2_CELL_DONE, "freeing");
     made(2, "each freeing is a call");
-    object.events = 2;
-    all_at_once(&object);
+    must(mc2_cells_open(&cell, &object, callers, 3) == MC2_CELL_DONE, "a cell with callers");
+    made(8, "opening a cell and each of three callers is two calls");
+    must(mc2_cells_close(&cell, callers, 3) == MC2_CELL_DONE, "closing");
+    made(7, "each caller is taken back and freed, and the cell closed");
     return 0;
 }

@@ -1,9 +1,13 @@
-/* Models of a buffer and of references, for the faults that tools/lib/own_checks/planted.py plants.
+/* Two more models, of a buffer and of references, for own.c: -DMC2_MODELS='"more_models.h"'. tools/check/own plants faults in
+   such objects. For C11 and C++17; nothing is proved.
 
    buffer ITEMS                     refs SLOTS: who calls, C, is a number of the call
      put A B = ok | full              make C S = now 1     C has one reference to a slot that nobody has
      get = item A B | empty           keep C S = now N     C has one more, and all together N
      level = count N                  drop C S = now N     C has one less */
+#ifndef MORE_MODELS_H
+#define MORE_MODELS_H
+
 #include "mc2_own.h"
 #include <inttypes.h>
 #include <stdio.h>
@@ -97,3 +101,5 @@ static const struct mc2_model models[] = {
     {"buffer", buffer_open, buffer_step, free, buffer_says},
     {"refs", refs_open, refs_step, free, refs_says},
 };
+
+#endif
