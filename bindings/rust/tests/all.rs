@@ -30,7 +30,8 @@ fn four_threads_are_sound_and_an_edit_is_not() {
     for lock in [Lock::Ticket, Lock::Mcs] {
         let cell = Cell::open(PAGES, lock, 4, 65_536).unwrap();
         let entries: Vec<_> = std::thread::scope(|scope| {
-            let threads: Vec<_> = (0..4).map(|_| cell.caller().unwrap()).map(|it| scope.spawn(|| work(it))).collect();
+            let callers = [0, 1, 2, 3].map(|cpu| cell.caller_of(cpu).unwrap());
+            let threads = callers.map(|it| scope.spawn(|| work(it)));
             threads.into_iter().map(|it| it.join().unwrap()).collect()
         });
         let (mut text, mut room) = (String::new(), [Turn::default(); 8000]);
