@@ -13,6 +13,7 @@ use std::sync::{Mutex, Wait};
 use word_rule::LockCell;
 
 pub type Queue = Logged<ThreadQueue>;
+
 pub type Pass = word_rule::Pass<ThreadQueue>;
 
 /// Whose calls on a queue they are, in which form, and how often. Enq of the CPU's number and deq are called in turn.
@@ -54,7 +55,7 @@ impl Calls {
     }
 
     /// Makes the calls on a cell of one lock.
-    fn on_lock<C: LockCell<ThreadQueue>, R: Wait>(&self, rt: &R, cell: &C, pass: C::Pass) -> C::Pass
+    pub fn on<C: LockCell<ThreadQueue>, R: Wait>(&self, rt: &R, cell: &C, pass: C::Pass) -> C::Pass
         requires { C.is_pass_of cell.now pass }
         ensures { C.is_pass_of cell.now result }
     {
@@ -71,7 +72,7 @@ impl Calls {
     }
 
     /// Makes the calls on a cell of either kind by its own functions, which find out once for a call which lock it has.
-    fn on_either<R: Wait>(&self, rt: &R, cell: &AnyCell<ThreadQueue>, pass: Pass) -> Pass
+    pub fn on_either<R: Wait>(&self, rt: &R, cell: &AnyCell<ThreadQueue>, pass: Pass) -> Pass
         requires { IsPassOf cell.now pass }
         ensures { IsPassOf cell.now result }
     {

@@ -58,12 +58,6 @@ fn share(alloc: Global, cell: Cell, passes: Vec<Pass>) -> Result<Vec<Caller>, Fa
     Ok(callers)
 }
 
-fn share_mutex(alloc: Global, queue: Queue, cpus: u8) -> Result<Vec<Caller>, Fault> {
-    let shared = Arc::new(alloc, InMutex(Mutex::new(queue)))?;
-    let callers = (0..cpus).map(|_| Arc::try_clone(&shared).map(|queue| Caller::InMutex(queue)));
-    Ok(callers.try_collect(alloc)?)
-}
-
 /// The callers of a cell that was opened.
 macro_rules! shared {
     ($alloc:expr, $cell:path, $opened:expr) => {
@@ -82,7 +76,11 @@ pub fn open(alloc: Global, kind: Kind, load: &Load, calls: u32) -> Result<Vec<Ca
         Kind::Mcs => shared!(alloc, Cell::Mcs, McsCell::new(alloc, queue, cpus)),
         Kind::Toggle => shared!(alloc, Cell::Toggle, ToggleCell::new(alloc, queue, cpus)),
         Kind::Any(lock) => shared!(alloc, Cell::Any, AnyCell::open(alloc, lock, queue, cpus)),
-        Kind::Mutex => share_mutex(alloc, queue, cpus),
+        Kind::Mutex => {
+            let shared = Arc::new(alloc, InMutex(Mutex::new(queue)))?;
+            let callers = (0..cpus).map(|_| Arc::try_clone(&shared).map(|it| Caller::InMutex(it)));
+            Ok(callers.try_collect(alloc)?)
+        }
     }
 }
 
@@ -110,9 +108,9 @@ impl Caller {
         match self {
             Caller::ByLock(ByLock { cell, pass }) => {
                 let pass = match &*cell {
-                    Cell::Ticket(cell) => calls.on_lock(rt, cell, pass),
-                    Cell::Mcs(cell) => calls.on_lock(rt, cell, pass),
-                    Cell::Toggle(cell) => calls.on_lock(rt, cell, pass),
+                    Cell::Ticket(cell) => calls.on(rt, cell, pass),
+                    Cell::Mcs(cell) => calls.on(rt, cell, pass),
+                    Cell::Toggle(cell) => calls.on(rt, cell, pass),
                     Cell::Any(cell) => calls.on_either(rt, cell, pass),
                 };
                 Caller::ByLock(ByLock { cell, pass })

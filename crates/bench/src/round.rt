@@ -34,7 +34,8 @@ fn place(crew: &mut [Places], callers: Vec<Caller>, load: &Load, count: u32) -> 
 fn open_all(alloc: Global, kind: Kind, load: &Load) -> Result<Vec<Places>, Fault> {
     let mut crew: Vec<Places> = (0..load.cpus).map(|_| Vec::new(alloc)).collect(alloc)?;
     for count in load.shares(alloc)? {
-        place(crew.as_mut_slice(), open(alloc, kind, load, count)?, load, count)?;
+        let callers = open(alloc, kind, load, count)?;
+        place(crew.as_mut_slice(), callers, load, count)?;
     }
     Ok(crew)
 }
