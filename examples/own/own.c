@@ -3,7 +3,7 @@
    Judges a record 3 by the models of models.h, as `mc2` judges a record 2, from a file or from standard input. Behind the
    verdict on a wrong step comes why it is wrong, in the model's words, and a few of the steps before it after which it is wrong
    for the same reason. `merge` prints the entries of a sound record in one order, or a cycle of them. `counts` prints how many
-   steps of each log its model calls right, as `view timeline --right` takes them.
+   steps of each log its model calls right.
 
        gcc -std=c11 -O2 -Iinclude -o /tmp/own examples/own/own.c crates/judge/out/libjudge.a KIT/c/liblibc_c.a -pthread
 

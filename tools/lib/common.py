@@ -22,7 +22,7 @@ ROOT = Path(__file__).resolve().parent.parent.parent
 TOOL = os.path.relpath(Path(sys.argv[0]).resolve(), ROOT)
 MC2 = ROOT / "crates/mc2/out/mc2"
 BENCH = ROOT / "crates/bench/out/bench"
-VIEW = ROOT / "crates/view/out/view"
+STEPS = ROOT / "crates/steps/out/steps"
 # The most CPUs of a cell.
 MOST_CPUS = 64
 # What `rt version` prints of the logic that all is proved in.
@@ -30,7 +30,7 @@ LOGIC = "logic dac8208d650f15bf"
 HOW_TO_BUILD = {
     MC2: "`rt run` in crates/mc2 builds crates/mc2/out/mc2, and so does `rt ci`",
     BENCH: "`rt run` in crates/bench builds crates/bench/out/bench",
-    VIEW: "`rt run` in crates/view builds crates/view/out/view, and so does `rt ci`",
+    STEPS: "`rt run` in crates/steps builds crates/steps/out/steps, and so does `rt ci`",
 }
 HOW_TO_GET = {
     "rt": "it is the command of the kit that README.md names",

@@ -8,7 +8,7 @@ from typing import NamedTuple
 from texts.scripts import scripts_fault
 from texts.settings import BUILT_IN, BadKey, Fault, read_settings, tomllib
 
-BAD_WORDS = {"mc2": "E14 bad words", "view": "E14 bad words (view --help has the forms)"}
+BAD_WORDS = {"mc2": "E14 bad words", "steps": "E14 bad words (steps --help has the form)"}
 READ_FAILED = "E12 read failed"
 # What a file of scripts may have at most to be judged here.
 MOST_BYTES = 4 << 20
@@ -20,24 +20,17 @@ class Refusal(NamedTuple):
 
 
 class Form(NamedTuple):
-    """The words of a command: how many files it takes, the options with a value and those without."""
+    """The words of a command: how many files it takes, and whether settings may be named, or have to be."""
 
     least: int
     most: int
-    valued: tuple = ()
-    flags: tuple = ()
+    has_settings: bool = False
+    needs_settings: bool = False
 
 
 ONE_RECORD = Form(0, 1)
-FORMS = {
-    "mc2": {"run": Form(0, 1, ("--settings",)), "sim": Form(2, 2, ("--settings",)),
-            **dict.fromkeys(("report", "audit", "merge", "upgrade"), ONE_RECORD)},
-    "view": {"steps": Form(2, 2, ("--settings",), ("--json",)), "timeline": Form(0, 1, ("--right", "--kept")),
-             "trace": ONE_RECORD,
-             "schedule": Form(1, 1, ("--settings", "--seed"), ("--rounds",))},
-}
-NEEDS_SETTINGS = "sim", "steps", "schedule"
-OPTIONS = "--settings", "--seed", "--json", "--rounds", "--right", "--kept"
+# The words of `steps` are those of `sim`, without the command's name.
+FORMS = {"run": Form(0, 1, True), "sim": Form(2, 2, True, True), **dict.fromkeys(("report", "audit", "merge", "upgrade"), ONE_RECORD)}
 
 
 class BadWords(Exception):
@@ -48,47 +41,35 @@ class NotSure(Exception):
     pass
 
 
-def is_seed(word):
-    return word.isascii() and word.isdecimal() and (word == "0" or word[0] != "0") and int(word) < 2**64
-
-
-def is_list(word):
-    return all(is_seed(it) for it in word.split(","))
-
-
 def read_words(program, words):
-    """The files and the values of options. Words of which only the program is to judge end with NotSure."""
+    """The command, the file of settings, and the others. Words of which only the program is to judge end with NotSure."""
     for word in words:
         try:
             os.fsencode(word).decode()
         except UnicodeDecodeError:
             raise BadWords from None
-    if any(it == "--" or it.startswith(("--settings=", "--seed=", "--right=", "--kept=")) for it in words):
+    if any(it == "--" or it.startswith("--settings=") for it in words):
         raise BadWords
-    if program == "view" and any(it.startswith("-") and it not in OPTIONS for it in words):
+    if program == "steps" and any(it.startswith("-") and it != "--settings" for it in words):
         # (help and the version, which may stand anywhere)
         raise NotSure
-    if not words or words[0] not in FORMS[program]:
+    command, *rest = ["sim", *words] if program == "steps" else words or [""]
+    if command not in FORMS:
         raise BadWords
-    form, files, values, rest = FORMS[program][words[0]], [], {}, words[1:]
+    form, files, settings = FORMS[command], [], None
     while rest:
         word = rest.pop(0)
-        if word in form.valued or word in form.flags:
-            if word in values or (word in form.valued and (not rest or rest[0] == "" or rest[0].startswith("-"))):
-                raise BadWords
-            values[word] = rest.pop(0) if word in form.valued else ""
-        elif word == "" or word.startswith("-"):
+        is_settings = word == "--settings" and form.has_settings and settings is None and bool(rest)
+        name = rest.pop(0) if is_settings else word
+        if name == "" or name.startswith("-"):
             raise BadWords
+        if is_settings:
+            settings = name
         else:
-            files.append(word)
-    is_wanted = words[0] in NEEDS_SETTINGS and "--settings" not in values
-    has_turns = "--seed" in values and ("--rounds" in values or not is_seed(values["--seed"]))
-    no_lists = not all(is_list(values[it]) for it in ("--right", "--kept") if it in values)
-    if no_lists or ("--kept" in values and "--right" not in values):
+            files.append(name)
+    if (form.needs_settings and settings is None) or not form.least <= len(files) <= form.most:
         raise BadWords
-    if is_wanted or has_turns or not form.least <= len(files) <= form.most:
-        raise BadWords
-    return files, values
+    return command, settings, files
 
 
 def can_read(file):
@@ -104,14 +85,13 @@ def content(file):
         return opened.read()
 
 
-def read_inputs(command, files, values):
+def read_inputs(command, settings, files):
     """Whether the first input that isn't right is a file that can't be read. The inputs before it have to be right."""
-    settings = values.get("--settings")
     if settings is not None and not can_read(settings):
         return True
     if all(can_read(it) for it in files):
         return False
-    if command not in ("run", *NEEDS_SETTINGS):
+    if not FORMS[command].has_settings:
         return True
     if tomllib is None:
         raise NotSure
@@ -124,8 +104,7 @@ def read_inputs(command, files, values):
 def first_look(program, words):
     """What the program is sure to answer at once, if it refuses the words, or a file that can't be read."""
     try:
-        files, values = read_words(program, list(words))
-        return Refusal(READ_FAILED, 3) if read_inputs(words[0], files, values) else None
+        return Refusal(READ_FAILED, 3) if read_inputs(*read_words(program, list(words))) else None
     except BadWords:
         return Refusal(BAD_WORDS[program], 2)
     except (NotSure, Fault, BadKey, OSError):

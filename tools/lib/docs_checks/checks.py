@@ -100,6 +100,9 @@ class Checks:
         """The crates that the block names, and the folders `rows`, `examples`, `tools`; the document's own is one of them."""
         words = {it for _, text in block.spans() for it in re.split(r"[^\w]", text)} | set(re.split(r"[^\w.]", block.text))
         named = words & (self.sources.crates | self.sources.kit)
+        if not re.search(r"\[steps\]|crates/steps|`steps[ `]", block.text):
+            # (this is a word, too)
+            named.discard("steps")
         named |= {it for it in ("rows", "examples", "tools") if f"`{it}/" in block.text}
         named |= LOCKS if BOTH_LOCKS.search(block.text) else set()
         return named | ({self.own} if self.own else set())

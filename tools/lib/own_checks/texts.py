@@ -4,12 +4,12 @@ from collections import Counter
 from common import Stop
 from own_checks import small
 from own_checks.cases import answer_of, answers_of, case, lines_of
-from own_checks.form import bad_line
 from own_checks.mutants import mutant
+from texts.record import record_fault
 
 SMALL, CROSSED, TURNS = 12_000, 1_000, 64
 BAD_LINE = 8
-# Each so many is read by the regular expressions too, and so many are judged at once.
+# Each so many is read by the tools' reader too, and so many are judged at once.
 READ_EACH, AT_ONCE = 10, 20_000
 KINDS = {0: "sound", 1: "too long", 2: "wrong step", 3: "room was left", 4: "not its event", 5: "not asked", 6: "unclaimed"}
 KINDS |= {7: "a cycle", 8: "a bad line", 9: "out of memory", 10: "no room", 11: "mistold"}
@@ -59,8 +59,14 @@ def crossed_records(program, chosen):
     return "; ".join(f"{shown(judge_small(program, records, told, turns))} with room for {turns}" for turns in (TURNS, 4, 0))
 
 
+def bad_line(text):
+    """The first line with which no record 3 goes on, by the tools' own reader."""
+    fault = record_fault(text, (b"3",))
+    return fault and fault.line
+
+
 def check_form(texts, lines):
-    """The regular expressions find the same first bad line."""
+    """The tools' reader finds the same first bad line."""
     for text, line in zip(texts, lines):
         bad, told = bad_line(text), answer_of(line).audit
         if (told[0] == BAD_LINE) != (bad is not None) or (bad is not None and told != (BAD_LINE, bad, 0, 0)):

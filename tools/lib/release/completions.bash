@@ -8,17 +8,17 @@ _mc2_words() {
     esac
     case $command in
         run | sim) options='--settings' ;;
-        steps) options='--settings --json --help' ;;
+        steps) options='--page --settings --help' ;;
         schedule) options='--settings --seed --rounds --help' ;;
-        timeline) options='--right --kept --help' ;;
-        trace) options='--help' ;;
+        timeline) options='--svg --judge --said --help' ;;
+        trace) options='--judge --said --help' ;;
     esac
     COMPREPLY=()
     if [ "$COMP_CWORD" = 1 ]; then
         mapfile -t COMPREPLY < <(compgen -W "$commands" -- "$word")
-    elif [[ $before == --seed || $before == --right || $before == --kept ]]; then
+    elif [[ $before == --seed ]]; then
         return
-    elif [ "$before" != --settings ] && [[ $word == -* ]]; then
+    elif [[ $before != --settings && $before != --said && $before != --judge && $word == -* ]]; then
         mapfile -t COMPREPLY < <(compgen -W "$options" -- "$word")
     else
         compopt -o filenames 2> /dev/null

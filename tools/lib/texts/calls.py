@@ -14,6 +14,8 @@ REPLIES = {
     **dict.fromkeys([b"badthread", b"already", b"empty", b"absent", b"badowner", b"none", b"overquota", b"badpage", b"nottaken",
                      b"notyours", b"badchannel", b"badcall"], []),
 }
+# The replies that don't refuse.
+GOING_ON = {"ok", "thread", "count", "page", "dropped", "byte"}
 NAMES = {"T": "a thread", "O": "an owner", "P": "a page", "B": "a byte", "C": "a channel", "N": "a count"}
 MOST_CALLS = 8
 

@@ -1,0 +1,2 @@
+pub mod FormTaken
+pub mod Left

@@ -1,0 +1,4 @@
+pub mod Answers
+pub mod Asked
+pub mod Form
+pub mod Lines

@@ -1,6 +1,0 @@
-use Rattle.std.proofs.Common.{length}
-use Rattle.view_command.proofs.step_json.+put_groups.Given as goal
-
--- the labels that are left
-abbrev pub decreases-put_groups : goal.decreases-put_groups
-decreases-put_groups l = length l.labels.now

@@ -1,0 +1,3 @@
+cat > /dev/null
+echo sound
+exit 3

@@ -1,0 +1,53 @@
+"""The picture of a cycle: entries of which each had to come before another, all around."""
+import math
+
+from view.faults import about
+
+LEFT, RIGHT, WIDE = 84, 560, 360
+
+
+def cycle(drawn, model):
+    """A row for each CPU of the cycle: its next entry at the left, and at the right the event of its that another one's next
+    entry has to follow. Arrows lead from what comes first to what comes behind it."""
+    around, places = model.verdict.cycle, []
+    drawn.say("Each arrow leads from what comes first to what comes behind it, and they lead in a circle.", "grey")
+    for place, (cpu, number) in enumerate(around):
+        first = holds_up(model, cpu, number, around[place - 1])
+        places.append(row(drawn, model, cpu, number, first))
+    for (y, _), (from_y, from_x) in zip(places, places[1:] + places[:1]):
+        way, bend = (-1, 0) if from_y > y else (1, 30)
+        tip, start, middle = (y - 6 if way > 0 else y + 36), from_y + bend, (from_y + y) / 2 + 15
+        path = f"M{from_x + 150} {start}C{from_x + 150} {middle} {LEFT + 250} {middle} {LEFT + 250} {tip - 8 * way}"
+        arrow(drawn, path, LEFT + 250, tip, way)
+    drawn.y -= 10
+
+
+def row(drawn, model, cpu, number, first):
+    """The two entries of a CPU, the first of which is the later one. Where its row is, and where that one stands."""
+    y, right = drawn.y + 34, RIGHT if first != number else LEFT
+    drawn.text(16, y + 20, f"CPU {cpu}")
+    for x, at in {LEFT: number, right: first}.items():
+        box = model.entry(0, at, cpu, at)
+        event = f"event {box.event}" if box.event else "no room"
+        drawn.text(x, y - 10, f"entry {at} on {model.record.objects[box.object].name}, {event}", "grey")
+        drawn.box(x, y, WIDE, 30, box.object, box.text, about(model, box), box.is_noroom())
+    drawn.add("rect", class_="frame", x=LEFT - 4, y=y - 4, width=WIDE + 8, height=38, rx=4)
+    if first != number:
+        arrow(drawn, f"M{LEFT + WIDE + 6} {y + 15}H{RIGHT - 10}", RIGHT - 2, y + 15)
+        drawn.text((LEFT + WIDE + RIGHT) / 2, y + 9, "then", "link", "middle")
+    drawn.y = y + 62
+    return y, right
+
+
+def holds_up(model, cpu, number, waiting):
+    """The first entry of this CPU, from this one on, whose event the waiting entry has to follow, on the same object."""
+    its, event_of = model.record.transcripts[cpu], model.claims.event_of
+    on, limit = model.record.transcripts[waiting[0]][waiting[1] - 1].object, event_of.get(waiting, math.inf)
+    found = (at for at in range(number, len(its) + 1) if its[at - 1].object == on and event_of.get((cpu, at), math.inf) < limit)
+    return next(found, number)  # (a judge of one's own may name what is no cycle)
+
+
+def arrow(drawn, path, x, y, way=0):
+    """A line with a head at its end, which leads down (1), up (-1) or to the right."""
+    drawn.add("path", class_="arrow", d=path)
+    drawn.add("path", class_="link", d=f"M{x} {y}l-5 {-9 * way}h10z" if way else f"M{x} {y}l-9 -5v10z")
