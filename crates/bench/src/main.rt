@@ -1,55 +1,39 @@
 //! Rounds of calls on a queue that several CPUs share, timed inside: `bench KIND CPUS CALLS ROUNDS`.
 #![tactic(auto)]
 
-mod arguments;
-mod batches;
-mod by_lock;
-mod caller;
 mod calls;
-mod crew;
-mod each;
-mod fault;
-mod form;
-mod gate;
-mod holds;
-mod kind;
-mod load;
-mod opening;
-mod place;
-mod rounds;
-mod span;
-mod tally;
-mod threads;
+mod cells;
+mod round;
+mod words;
 
-use crate::arguments::{Settings, USAGE, WordsFault, words_given};
-use crate::fault::Fault;
-use crate::rounds::print_rounds;
+use crate::round::print_rounds;
+use std::alloc::AllocError;
 use std::process::ExitCode;
+use thiserror::Error;
 
-/// The status of wrong words.
-const BAD_WORDS: u8 = 2;
-
-/// The status where something was refused to the program.
-const REFUSED: u8 = 1;
+/// Why there are no rounds, or no further ones.
+#[derive(Debug, Drop, Error)]
+pub enum Fault {
+    #[error("usage: bench KIND[,KIND..] CPUS CALLS ROUNDS [batch|hold] [unkept]")]
+    WrongWords,
+    #[error("bench: out of memory")]
+    OutOfMemory(#[from(alloc)] AllocError),
+    /// The other threads of the round have ended.
+    #[error("bench: a thread was not started")]
+    NoThreadStarted,
+    #[error("bench: the clock can't be read")]
+    NoClock,
+    #[error("bench: write failed")]
+    WriteFailed,
+}
 
 fn main(rt: HostRuntime) -> ExitCode {
-    let settings = match words_given(&rt, rt.alloc()) {
-        Ok(words) => Settings::read(rt.alloc(), words.as_slice()),
-        Err(fault) => Err(fault),
+    let Err(fault) = print_rounds(&rt, rt.alloc()) else {
+        return ExitCode::SUCCESS;
     };
-    let outcome = match settings {
-        Ok(settings) => print_rounds(&rt, rt.alloc(), &settings),
-        Err(WordsFault::OutOfMemory) => Err(Fault::OutOfMemory),
-        Err(WordsFault::NoForm) => {
-            let _ = eprintln!(rt; "{USAGE}");
-            return ExitCode::from(BAD_WORDS);
-        }
-    };
-    match outcome {
-        Ok(()) => ExitCode::SUCCESS,
-        Err(fault) => {
-            let _ = eprintln!(rt; "bench: {fault}");
-            ExitCode::from(REFUSED)
-        }
+    let _ = eprintln!(rt; "{fault}");
+    match fault {
+        Fault::WrongWords => ExitCode::from(2),
+        _ => ExitCode::FAILURE,
     }
 }

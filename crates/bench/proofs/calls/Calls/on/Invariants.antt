@@ -1,4 +1,4 @@
-use Rattle.bench.proofs.calls.Calls.each_on_cell.Given as goal
+use Rattle.bench.proofs.calls.Calls.on.Given as goal
 
 abbrev pub invariant-loop-k : goal.invariant-loop-k
 invariant-loop-k g l = g.C.LockCell.is_pass_of l.cell l.pass

@@ -1,4 +1,0 @@
-use Rattle.bench.proofs.calls.Calls.holds_on_cell.Given as goal
-
-abbrev pub invariant-loop : goal.invariant-loop
-invariant-loop g l = g.C.LockCell.is_pass_of l.cell l.pass
