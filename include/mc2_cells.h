@@ -1,9 +1,13 @@
 // Cells from C or C++: an object behind a lock, and callers of it, by the static library libcells.a.
 //
-// `tools/develop/library cells` builds the library over what `rt ci` left, at crates/cells/out/libcells.a. A program links it,
-// and behind it the kit's heap, liblibc_c.a in the folder c of the kit, which takes memory by malloc and gives it back by free:
+// `tools/develop/library cells --unproved` makes the library in a minute or two, at .unproved/libcells.a, and without the last
+// word it proves it, at crates/cells/out/libcells.a. A program links it, and behind it the kit's heap, liblibc_c.a in the folder c
+// of the kit, which takes memory by malloc and gives it back by free:
 //
-//     gcc -Iinclude examples/c_cells/c_cells.c crates/cells/out/libcells.a KIT/c/liblibc_c.a -pthread
+//     gcc -Iinclude examples/c_cells/c_cells.c .unproved/libcells.a KIT/c/liblibc_c.a -pthread
+//
+// mc2_cells_open opens a cell with its callers, mc2_cell_call does a call, and mc2_cells_close ends it. mc2_cells_record.h writes
+// its record.
 //
 // Each call is an event of the cell's log. A cell that is opened with 1 to 65,536 events keeps its log in memory, which is taken
 // at once. Then mc2_cell_step reads the log once the cell is closed, for a record that `mc2 audit` judges. A log that is full
@@ -77,7 +81,8 @@ enum mc2_cell_told {
     MC2_CELL_ENTERED = 2, MC2_CELL_FOUND = 3,
     // The object is given back, and the caller idle.
     MC2_CELL_LEFT = 4,
-    // Nothing was done, as the cell or the caller isn't at a place where this fits.
+    // Nothing was done, as the cell or the caller isn't at a place where this fits: say a caller that is taken back before that of
+    // a lesser CPU, or a cell that is closed while a caller isn't back.
     MC2_CELL_REFUSED = 5,
     // Of a try: another has the object, or is in line for it. Of a closing: all callers were taken back, and the cell is shared
     // still, which no use in keeping with this header leads to.
@@ -170,7 +175,8 @@ uint32_t mc2_caller_batch(struct mc2_caller *caller, const struct mc2_batch *bat
 uint32_t mc2_caller_try_call(struct mc2_caller *caller, const struct mc2_call *call, struct mc2_reply *reply);
 
 // Takes an idle caller back, whose CPU has to be the least that wasn't taken back yet. The caller has nothing then. It refuses
-// any other caller, and what is no open cell.
+// any other caller, and what is no open cell. Callers are dealt from the greatest CPU down, so the last that was dealt goes back
+// first; one out of turn stays as it was, and goes back once those of lesser CPUs have. mc2_cells_close does all in turn.
 uint32_t mc2_cell_take_back(struct mc2_cell *cell, struct mc2_caller *caller);
 
 // Ends the cell, once all callers were taken back; before that it refuses. What is left is the object with its log.
@@ -223,6 +229,47 @@ static inline uint32_t mc2_cell_free(struct mc2_cell *cell) {
 static inline uint32_t mc2_caller_free(struct mc2_caller *caller) {
     struct mc2_handle handle = {caller->own};
     return MC2_STEP(mc2_handle_free(handle));
+}
+
+// Gives the memory of a cell and of its idle callers back, of those that were opened.
+static inline void mc2_cells_free(struct mc2_cell *cell, struct mc2_caller *callers, uint32_t count) {
+    for (uint32_t at = 0; at < count; at++)
+        if (callers[at].own && mc2_caller_free(&callers[at]) == MC2_CELL_DONE)
+            callers[at].own = NULL;
+    if (cell->own)
+        mc2_cell_free(cell);
+    cell->own = NULL;
+}
+
+// Opens a cell around such an object with a caller for each of so many CPUs: callers[k] is that of CPU k. Unless it tells
+// MC2_CELL_DONE nothing is left that has to be freed.
+static inline uint32_t mc2_cells_open(struct mc2_cell *cell, const struct mc2_object *object, struct mc2_caller *callers,
+                                      uint32_t cpus) {
+    uint32_t told = mc2_cell_open(cell, object, cpus), first = cpus;
+    while (told == MC2_CELL_DONE && first > 0)
+        told = mc2_caller_open(cell, &callers[--first]);
+    if (told != MC2_CELL_DONE)
+        mc2_cells_free(cell, callers + first, cpus - first);
+    return told;
+}
+
+// Takes an idle caller back and frees it, unless that was done.
+static inline uint32_t mc2_caller_close(struct mc2_cell *cell, struct mc2_caller *caller) {
+    uint32_t told = caller->own ? MC2_STEP(mc2_cell_take_back(cell, caller)) : (uint32_t)MC2_CELL_DONE;
+    if (caller->own && told == MC2_CELL_DONE) {
+        mc2_caller_free(caller);
+        caller->own = NULL;
+    }
+    return told;
+}
+
+// Takes all callers back, frees them, and closes the cell, whose log can then be read, and which mc2_cell_free frees. It refuses
+// the first caller that isn't idle: that and those behind it stay, and this can be called again.
+static inline uint32_t mc2_cells_close(struct mc2_cell *cell, struct mc2_caller *callers, uint32_t cpus) {
+    uint32_t told = MC2_CELL_DONE;
+    for (uint32_t cpu = 0; cpu < cpus && told == MC2_CELL_DONE; cpu++)
+        told = mc2_caller_close(cell, &callers[cpu]);
+    return told == MC2_CELL_DONE ? MC2_STEP(mc2_cell_close(cell)) : told;
 }
 
 // Waits for the object, and counts the looks.

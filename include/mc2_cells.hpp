@@ -6,7 +6,11 @@
 #ifndef MC2_CELLS_HPP
 #define MC2_CELLS_HPP
 
-#include "mc2_cells.h"
+#if __cplusplus < 201703L
+#error "mc2_cells.hpp is for C++17: g++ -std=c++17"
+#endif
+
+#include "mc2_cells_record.h"
 #include <memory>
 #include <new>
 #include <optional>
@@ -143,6 +147,11 @@ class cell {
     std::optional<mc2_logged_step> step(size_t event, size_t step) {
         mc2_logged_step told = {};
         return mc2_cell_step(own_.get(), event, step, &told) == MC2_CELL_DONE ? std::optional(told) : std::nullopt;
+    }
+
+    // Writes the record of a cell that was closed, of which noted[k] are the notes of CPU k: one of mc2_result.
+    int write_record(const mc2_object &object, const mc2_cell_noted *noted, uint32_t cpus, mc2_take take, void *to) {
+        return mc2_cell_write_record_to(own_.get(), &object, noted, cpus, take, to);
     }
 
   private:

@@ -1,9 +1,10 @@
 /* Judging the text of a record, of either form, from C or C++, by the static library libjudge.a.
 
-   `tools/develop/library judge` builds the library over what `rt ci` left, at crates/judge/out/libjudge.a. A program links it,
-   and behind it the kit's heap, liblibc_c.a in the folder c of the kit, which takes memory by malloc and gives it back by free:
+   `tools/develop/library judge --unproved` makes the library in a minute or two, at .unproved/libjudge.a, and without the last
+   word it proves it, at crates/judge/out/libjudge.a. A program links it, and behind it the kit's heap, liblibc_c.a in the folder
+   c of the kit, which takes memory by malloc and gives it back by free:
 
-       gcc -Iinclude examples/judge/judge.c crates/judge/out/libjudge.a KIT/c/liblibc_c.a -pthread
+       gcc -Iinclude examples/judge/judge.c .unproved/libjudge.a KIT/c/liblibc_c.a -pthread
 
    A kernel without a C library links it alone, and has memcpy, memmove, memset, rattle_alloc, rattle_realloc and rattle_dealloc,
    of which mc2_heap.h has the last three.

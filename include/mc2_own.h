@@ -136,7 +136,8 @@ void mc2_own_merge(const uint8_t *text, size_t length, const uint64_t *right, si
    A model is a state that is told what was called and what was answered, and says whether the object may have answered so. It
    may let many answers pass, or none. What is right leads it to its next state. One thing is asked of it: what it says hangs on
    the numbers of its opening and on the steps that it was told since, and on nothing else. If call and reply don't tell the
-   next state, let the model keep all states that are possible, and call a step wrong that leaves none. */
+   next state, let the model keep all states that are possible, and call a step wrong that leaves none. It isn't told which CPU
+   has called: if that matters, as of who gives a lock or a reference back, let the call have the CPU as one of its numbers. */
 struct mc2_model {
     /* The word that a record has for this kind of object. */
     const char *kind;

@@ -5,24 +5,16 @@
    try that finds the object busy is followed by a call that waits. Prints the record, which `mc2 audit` judges.
 
    Status: 0; 1 if a call is told what it can't be; 2 for wrong words; 3 if memory or a thread is refused. */
-#include "mc2_cells.h"
+#include "mc2_cells_record.h"
 #include <pthread.h>
 
 enum { MOST_THREADS = MC2_MOST_CPUS, MOST_CALLS = MC2_MOST_ENTRIES };
 
-/* What a caller asked, and what it was told. */
-struct note {
-    uint64_t looks;
-    struct mc2_batch asked;
-    struct mc2_replies replies;
-    uint32_t told;
-};
-
 struct worker {
     pthread_t thread;
-    struct mc2_caller caller;
-    uint32_t cpu, kind, calls, random;
-    struct note *notes;
+    struct mc2_caller *caller;
+    uint32_t kind, calls, random;
+    struct mc2_cell_note *notes;
 };
 
 static void must(uint32_t told, uint32_t wanted, const char *what) {
@@ -44,35 +36,35 @@ static struct mc2_call any_call(struct worker *worker) {
 }
 
 /* One call by single steps: it waits for the object, or the caller has it already. */
-static void call_by_steps(struct worker *worker, struct note *note, int is_held) {
+static void call_by_steps(struct worker *worker, struct mc2_cell_note *note, int is_held) {
     if (!is_held) {
-        uint32_t got = mc2_acquire(&worker->caller, &note->looks);
+        uint32_t got = mc2_acquire(worker->caller, &note->looks);
         must(got == MC2_CELL_ENTERED || got == MC2_CELL_FOUND, 1, "acquire");
     }
-    note->told = mc2_caller_apply(&worker->caller, note->asked.calls, note->replies.replies);
-    must(mc2_release(&worker->caller), MC2_CELL_LEFT, "release");
+    note->told = mc2_caller_apply(worker->caller, note->asked.calls, note->replies.replies);
+    must(mc2_release(worker->caller), MC2_CELL_LEFT, "release");
 }
 
-static void call_whole(struct worker *worker, struct note *note) {
-    note->told = mc2_cell_call(&worker->caller, note->asked.calls, note->replies.replies, &note->looks);
+static void call_whole(struct worker *worker, struct mc2_cell_note *note) {
+    note->told = mc2_cell_call(worker->caller, note->asked.calls, note->replies.replies, &note->looks);
 }
 
-static void try_by_steps(struct worker *worker, struct note *note) {
-    uint32_t tried = mc2_caller_try(&worker->caller);
+static void try_by_steps(struct worker *worker, struct mc2_cell_note *note) {
+    uint32_t tried = mc2_caller_try(worker->caller);
     if (tried != MC2_CELL_FOUND)
         must(tried, MC2_CELL_BUSY, "try");
     note->looks = 1;
     call_by_steps(worker, note, tried == MC2_CELL_FOUND);
 }
 
-static void try_whole(struct worker *worker, struct note *note) {
+static void try_whole(struct worker *worker, struct mc2_cell_note *note) {
     note->looks = 1;
-    note->told = mc2_cell_try_call(&worker->caller, note->asked.calls, note->replies.replies);
+    note->told = mc2_cell_try_call(worker->caller, note->asked.calls, note->replies.replies);
     if (note->told == MC2_CELL_BUSY)
         call_whole(worker, note);
 }
 
-static void call(struct worker *worker, struct note *note, uint32_t way) {
+static void call(struct worker *worker, struct mc2_cell_note *note, uint32_t way) {
     note->asked.count = way >= 5 ? 1 + draw(worker, MC2_MOST_CALLS) : 1;
     for (uint32_t at = 0; at < note->asked.count; at++)
         note->asked.calls[at] = any_call(worker);
@@ -86,7 +78,7 @@ static void call(struct worker *worker, struct note *note, uint32_t way) {
     else if (way == 4)
         try_whole(worker, note);
     else
-        note->told = mc2_cell_batch(&worker->caller, &note->asked, &note->replies, &note->looks);
+        note->told = mc2_cell_batch(worker->caller, &note->asked, &note->replies, &note->looks);
     if (note->told != MC2_CELL_FULL)
         must(note->told, MC2_CELL_DONE, "call");
 }
@@ -99,58 +91,21 @@ static void *work(void *given) {
 }
 
 static void run(struct mc2_cell *cell, struct worker *workers, uint32_t threads) {
-    for (uint32_t at = threads; at-- > 0;)
-        must(mc2_caller_open(cell, &workers[at].caller), MC2_CELL_DONE, "a caller");
     must(mc2_cell_close(cell), MC2_CELL_REFUSED, "closing too early");
     for (uint32_t at = 0; at < threads; at++)
         if (pthread_create(&workers[at].thread, NULL, work, &workers[at]) != 0)
             must(MC2_CELL_NO_MEMORY, MC2_CELL_DONE, "a thread");
     for (uint32_t at = 0; at < threads; at++)
         pthread_join(workers[at].thread, NULL);
-    for (uint32_t at = 0; at < threads; at++) {
-        must(mc2_caller_leave(&workers[at].caller), MC2_CELL_REFUSED, "leaving without the object");
-        must(mc2_cell_take_back(cell, &workers[at].caller), MC2_CELL_DONE, "taking back");
-        must(mc2_caller_advance(&workers[at].caller), MC2_CELL_REFUSED, "a step of a caller that is back");
-        must(mc2_caller_free(&workers[at].caller), MC2_CELL_DONE, "freeing a caller");
-    }
-    must(mc2_cell_close(cell), MC2_CELL_DONE, "closing");
-}
-
-static void note_events(struct mc2_recorder *recorder, struct mc2_cell *cell) {
-    struct mc2_logged_step told;
-    for (size_t event = 0; mc2_cell_step(cell, event, 0, &told) == MC2_CELL_DONE; event++) {
-        struct mc2_step steps[MC2_MOST_CALLS];
-        uint32_t count = 0;
-        while (mc2_cell_step(cell, event, count, &told) == MC2_CELL_DONE)
-            steps[count++] = told.step;
-        must((uint32_t)mc2_event(recorder, 0, told.cpu, steps, count), MC2_DONE, "noting an event");
-    }
-}
-
-static void note_entries(struct mc2_recorder *recorder, const struct worker *worker) {
-    for (uint32_t at = 0; at < worker->calls; at++) {
-        const struct note *note = &worker->notes[at];
-        uint32_t done = note->told == MC2_CELL_DONE ? note->replies.count : 0;
-        struct mc2_step steps[MC2_MOST_CALLS];
-        for (uint32_t step = 0; step < done; step++) {
-            const struct mc2_reply *reply = &note->replies.replies[step];
-            steps[step] = mc2_answer(note->asked.calls[step], reply->word, reply->number);
-        }
-        must((uint32_t)mc2_entry(recorder, 0, worker->cpu, note->looks, note->asked.calls, note->asked.count, steps, done),
-             MC2_DONE, "noting an entry");
-    }
-}
-
-static void print_record(const struct mc2_object *object, struct mc2_cell *cell, const struct worker *workers,
-                         uint32_t threads) {
-    static struct mc2_recorder recorder;
-    if (mc2_open(&recorder, object, 1, threads, workers[0].calls) != MC2_DONE)
-        must(MC2_CELL_NO_MEMORY, MC2_CELL_DONE, "the record");
-    note_events(&recorder, cell);
     for (uint32_t at = 0; at < threads; at++)
-        note_entries(&recorder, &workers[at]);
-    must((uint32_t)mc2_write(&recorder, stdout), MC2_DONE, "writing");
-    mc2_close(&recorder);
+        must(mc2_caller_leave(workers[at].caller), MC2_CELL_REFUSED, "leaving without the object");
+}
+
+static void print_record(struct mc2_cell *cell, const struct mc2_object *object, const struct worker *workers, uint32_t threads) {
+    struct mc2_cell_noted noted[MOST_THREADS];
+    for (uint32_t at = 0; at < threads; at++)
+        noted[at] = (struct mc2_cell_noted){workers[at].notes, workers[at].calls};
+    must((uint32_t)mc2_cell_write_record(cell, object, noted, threads, stdout), MC2_DONE, "writing");
 }
 
 static int place_of(const char *word, const char *const *words, int count) {
@@ -163,6 +118,7 @@ static int place_of(const char *word, const char *const *words, int count) {
 int main(int count, char **words) {
     static const char *const locks[] = {"ticket", "mcs"}, *const kinds[] = {"queue", "pool", "console", "sched"};
     static struct worker workers[MOST_THREADS];
+    static struct mc2_caller callers[MOST_THREADS];
     int lock = count > 2 ? place_of(words[1], locks, 2) : 2, kind = count > 2 ? place_of(words[2], kinds, 4) : 4;
     long threads = count > 3 ? atol(words[3]) : 8, calls = count > 4 ? atol(words[4]) : 10000;
     if (lock == 2 || kind == 4 || count > 5 || threads < 1 || threads > MOST_THREADS || calls < 1 || calls > MOST_CALLS) {
@@ -171,14 +127,16 @@ int main(int count, char **words) {
     }
     struct mc2_object object = {"shared", (uint32_t)kind, (uint32_t)lock, MC2_MOST_EVENTS, 12, kind == MC2_SCHED ? 4 : 0, NULL};
     for (uint32_t at = 0; at < (uint32_t)threads; at++) {
-        struct note *notes = calloc((size_t)calls, sizeof *notes);
+        struct mc2_cell_note *notes = calloc((size_t)calls, sizeof *notes);
         must(notes ? MC2_CELL_DONE : MC2_CELL_NO_MEMORY, MC2_CELL_DONE, "memory");
-        workers[at] = (struct worker){.cpu = at, .kind = (uint32_t)kind, .calls = (uint32_t)calls, .random = at, .notes = notes};
+        workers[at] = (struct worker){.caller = &callers[at], .kind = (uint32_t)kind, .calls = (uint32_t)calls, .random = at};
+        workers[at].notes = notes;
     }
     struct mc2_cell cell;
-    must(mc2_cell_open(&cell, &object, (uint32_t)threads), MC2_CELL_DONE, "opening");
+    must(mc2_cells_open(&cell, &object, callers, (uint32_t)threads), MC2_CELL_DONE, "opening");
     run(&cell, workers, (uint32_t)threads);
-    print_record(&object, &cell, workers, (uint32_t)threads);
+    must(mc2_cells_close(&cell, callers, (uint32_t)threads), MC2_CELL_DONE, "closing");
+    print_record(&cell, &object, workers, (uint32_t)threads);
     must(mc2_cell_free(&cell), MC2_CELL_DONE, "freeing the cell");
     for (uint32_t at = 0; at < (uint32_t)threads; at++)
         free(workers[at].notes);

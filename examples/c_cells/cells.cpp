@@ -14,14 +14,6 @@
 
 enum { QUEUE = 12 };
 
-// What a caller asked, and what it was told.
-struct note {
-    uint64_t looks;
-    mc2_batch asked;
-    mc2_replies replies;
-    mc2_cell_told told;
-};
-
 static void must(bool is_so, const char *what, mc2_cell_told told = MC2_CELL_REFUSED) {
     if (is_so)
         return;
@@ -35,27 +27,27 @@ static mc2_call call_of(uint32_t cpu, uint32_t number) {
     return mc2_ask(words[(number * 7 + cpu * 3) % 5], (number + cpu * 5) % (QUEUE + 1), 0);
 }
 
-static void write(note &it, mc2::expected<mc2_reply> reply) {
+static void write(mc2_cell_note &it, mc2::expected<mc2_reply> reply) {
     it.told = reply.told();
     it.replies.count = reply ? 1 : 0;
     it.replies.replies[0] = reply ? *reply : mc2_reply();
 }
 
 // The call under a hold, which is given back at its end. While it lasts, the caller gets no other.
-static void call_held(mc2::caller &caller, mc2::hold held, note &it) {
+static void call_held(mc2::caller &caller, mc2::hold held, mc2_cell_note &it) {
     must(!caller.acquire() && !caller.try_acquire(), "a second hold");
     it.looks = held.looks();
     write(it, held.call(it.asked.calls[0]));
 }
 
-static void call_batch(mc2::caller &caller, note &it) {
+static void call_batch(mc2::caller &caller, mc2_cell_note &it) {
     mc2::expected<mc2_replies> replies = caller.batch(it.asked, &it.looks);
     it.told = replies.told();
     it.replies = replies ? *replies : mc2_replies();
 }
 
-static note call(mc2::caller &caller, uint32_t cpu, uint32_t number) {
-    note it = {1, {1, {}}, {}, MC2_CELL_BUSY};
+static mc2_cell_note call(mc2::caller &caller, uint32_t cpu, uint32_t number) {
+    mc2_cell_note it = {1, {1, {}}, {}, MC2_CELL_BUSY};
     it.asked.count = number % 8 == 3 ? 1 + number / 8 % MC2_MOST_CALLS : 1;
     for (uint32_t at = 0; at < it.asked.count; at++)
         it.asked.calls[at] = call_of(cpu, number + at);
@@ -75,26 +67,11 @@ static note call(mc2::caller &caller, uint32_t cpu, uint32_t number) {
     return it;
 }
 
-static void print_record(mc2::cell &cell, const mc2_object &object, const std::vector<std::vector<note>> &notes) {
-    static mc2_recorder recorder;
-    must(mc2_open(&recorder, &object, 1, (uint32_t)notes.size(), (uint32_t)notes[0].size()) == MC2_DONE, "the record",
-         MC2_CELL_NO_MEMORY);
-    mc2_step steps[MC2_MOST_CALLS] = {};
-    for (size_t event = 0; std::optional<mc2_logged_step> first = cell.step(event, 0); event++) {
-        uint32_t calls = 0;
-        while (std::optional<mc2_logged_step> step = cell.step(event, calls))
-            steps[calls++] = step->step;
-        must(mc2_event(&recorder, 0, first->cpu, steps, calls) == MC2_DONE, "noting an event");
-    }
-    for (uint32_t cpu = 0; cpu < notes.size(); cpu++)
-        for (const note &it : notes[cpu]) {
-            for (uint32_t at = 0; at < it.replies.count; at++)
-                steps[at] = mc2_answer(it.asked.calls[at], it.replies.replies[at].word, it.replies.replies[at].number);
-            must(mc2_entry(&recorder, 0, cpu, it.looks, it.asked.calls, it.asked.count, steps, it.replies.count) == MC2_DONE,
-                 "noting an entry");
-        }
-    must(mc2_write(&recorder, stdout) == MC2_DONE, "writing");
-    mc2_close(&recorder);
+static void print_record(mc2::cell &cell, const mc2_object &object, const std::vector<std::vector<mc2_cell_note>> &notes) {
+    std::vector<mc2_cell_noted> noted;
+    for (const std::vector<mc2_cell_note> &own : notes)
+        noted.push_back({own.data(), (uint32_t)own.size()});
+    must(cell.write_record(object, noted.data(), (uint32_t)noted.size(), mc2_to_file, stdout) == MC2_DONE, "writing");
 }
 
 // The callers, that of the least CPU first.
@@ -110,8 +87,8 @@ static std::vector<mc2::caller> callers_of(mc2::cell &cell, uint32_t cpus) {
 }
 
 // Each caller on a thread of its own.
-static std::vector<std::vector<note>> run(std::vector<mc2::caller> &callers, uint32_t calls) {
-    std::vector<std::vector<note>> notes(callers.size());
+static std::vector<std::vector<mc2_cell_note>> run(std::vector<mc2::caller> &callers, uint32_t calls) {
+    std::vector<std::vector<mc2_cell_note>> notes(callers.size());
     std::vector<std::thread> threads;
     for (uint32_t cpu = 0; cpu < callers.size(); cpu++)
         threads.emplace_back([&, cpu] {
@@ -147,7 +124,7 @@ int main(int count, char **words) {
     mc2::expected<mc2::cell> cell = mc2::cell::open(object, (uint32_t)cpus), other = mc2::cell::open(object, 1);
     must(cell && other, "opening", cell.told());
     std::vector<mc2::caller> callers = callers_of(*cell, (uint32_t)cpus);
-    std::vector<std::vector<note>> notes = run(callers, (uint32_t)calls);
+    std::vector<std::vector<mc2_cell_note>> notes = run(callers, (uint32_t)calls);
     end(*cell, *other, callers);
     print_record(*cell, object, notes);
     return 0;

@@ -317,6 +317,27 @@ static long refused_openings(uint32_t events, uint32_t cpus) {
     return at - 1;
 }
 
+/* A cell with all of its callers: if it isn't opened, nothing is left. It isn't closed while a caller has the object. */
+static long refused_at_once(uint32_t events, uint32_t cpus) {
+    struct mc2_object object = {"q", MC2_QUEUE, lock, events, 8, 0, NULL};
+    struct mc2_caller callers[MC2_MOST_CPUS];
+    struct mc2_cell cell;
+    uint64_t looks, at = 0;
+    must(mc2_cells_open(&cell, &object, callers, 65), MC2_CELL_BAD_OPENING, "opening for too many CPUs");
+    for (uint32_t told = MC2_CELL_NO_MEMORY; told != MC2_CELL_DONE; at++) {
+        must_be(told == MC2_CELL_NO_MEMORY && blocks == 0, "nothing is left");
+        left = (long)at;
+        told = mc2_cells_open(&cell, &object, callers, cpus);
+        left = MANY;
+    }
+    must_be(mc2_acquire(&callers[cpus - 1], &looks) != MC2_CELL_REFUSED, "the object");
+    must(mc2_cells_close(&cell, callers, cpus), MC2_CELL_REFUSED, "closing while a caller has the object");
+    must(mc2_release(&callers[cpus - 1]), MC2_CELL_LEFT, "giving it back");
+    must(mc2_cells_close(&cell, callers, cpus) + mc2_cell_free(&cell), 2 * MC2_CELL_DONE, "closing and freeing");
+    must_be(blocks == 0, "all memory is given back");
+    return (long)at - 1;
+}
+
 static long refused_reopenings(uint32_t events, uint32_t cpus) {
     struct mc2_cell_opening opening = opening_of(events, 1);
     struct mc2_cell cell = new_cell();
@@ -367,7 +388,7 @@ int main(int count, char **words) {
     for (int at = 0; at < 4; at++)
         for (uint32_t events = 0; events <= 200; events += 200) {
             live(events, cpus[at]);
-            refused += refused_openings(events, cpus[at]);
+            refused += refused_openings(events, cpus[at]) + refused_at_once(events, cpus[at]);
             refused += refused_reopenings(events, cpus[at]);
         }
     all_wrong();

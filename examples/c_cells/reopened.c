@@ -72,6 +72,7 @@ static uint32_t live(struct mc2_cell *cell, struct worker *workers, uint32_t thr
         pthread_join(workers[at].thread, NULL);
     for (uint32_t at = 0; at < threads; at++) {
         must(mc2_cell_take_back(cell, &workers[at].caller), MC2_CELL_DONE, "taking back");
+        must(mc2_caller_advance(&workers[at].caller), MC2_CELL_REFUSED, "a step of a caller that is back");
         must(mc2_caller_free(&workers[at].caller), MC2_CELL_DONE, "freeing a caller");
         refused += workers[at].refused;
         workers[at].refused = 0;

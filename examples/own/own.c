@@ -5,13 +5,23 @@
    for the same reason. `merge` prints the entries of a sound record in one order, or a cycle of them. `counts` prints how many
    steps of each log its model calls right.
 
-       gcc -std=c11 -O2 -Iinclude -o /tmp/own examples/own/own.c crates/judge/out/libjudge.a KIT/c/liblibc_c.a -pthread
+       gcc -std=c11 -O2 -Iinclude -o /tmp/own examples/own/own.c .unproved/libjudge.a KIT/c/liblibc_c.a -pthread
+
+   With -I. -DMC2_MODELS='"mine.h"' it judges by the models of mine.h: it has to have an array `models` as models.h has.
 
    Status: 0; 1 if the record is unsound, or has a cycle; 2 for wrong words, for what is no record, or for an object without a
    model; 3 if the file can't be read, or memory is refused. */
-#include "models.h"
 #include "mc2_own_witness.h"
+#include <inttypes.h>
+#include <stdio.h>
+#include <stdlib.h>
 #include <string.h>
+#ifndef MC2_MODELS
+#define MC2_MODELS "models.h"
+#endif
+#include MC2_MODELS
+
+enum { MODEL_COUNT = sizeof models / sizeof *models };
 
 /* How many steps the search for a witness may ask the model about. */
 #define MOST_ASKED 20000000u
@@ -66,30 +76,27 @@ static void put_name(uint64_t object) {
 static void put_steps(const struct mc2_own_place *steps, size_t count) {
     for (size_t at = 0; at < count; at++)
         if (at == 0 || steps[at].line != steps[at - 1].line) {
-            printf("  event %llu: ", wide(steps[at].event + 1));
+            printf("  event %" PRIu64 ": ", steps[at].event + 1);
             put_line(steps[at].line);
         }
 }
 
 static void put_witness(uint64_t object) {
-    char right[200];
     size_t count = (size_t)asked.right[object], log = (size_t)asked.log[object];
-    struct mc2_own_trial trial = mc2_own_try(bytes(), length, models, MODELS, &asked, (size_t)object);
-    struct mc2_own_witness witness = {get(count + 1, sizeof *witness.steps), 0, MOST_ASKED};
-    mc2_own_places(&trial, log, witness.steps, count + 1);
-    mc2_own_say(&trial, witness.steps, count, right, sizeof right);
+    struct mc2_own_trial trial = mc2_own_try(bytes(), length, models, MODEL_COUNT, &asked, (size_t)object);
+    struct mc2_own_witness witness = {get(count + 1, sizeof *witness.steps), 0, MOST_ASKED, "", false};
     const char *reason = mc2_own_find_witness(&trial, log, count, &witness);
     printf("%s:\n", reason);
     put_steps(witness.steps, witness.count + 1);
-    if (right[0])
-        printf("right would have been: %s\n", right);
+    if (witness.right[0])
+        printf("right would have been%s: %s\n", witness.is_by_reason ? " behind all of the log" : "", witness.right);
     free(witness.steps);
 }
 
 /* Whether the step is wrong by a model that is here, and not for standing behind one that refused: the steps before it are all
    that are right. The library's model gives no reasons. */
 static bool is_wrong_by_model(const struct mc2_told *told) {
-    struct mc2_own_trial trial = mc2_own_try(bytes(), length, models, MODELS, &asked, (size_t)told->first);
+    struct mc2_own_trial trial = mc2_own_try(bytes(), length, models, MODEL_COUNT, &asked, (size_t)told->first);
     size_t wanted = (size_t)asked.right[told->first] + 1;
     struct mc2_own_place *steps = get(wanted, sizeof *steps);
     size_t found = mc2_own_places(&trial, (size_t)asked.log[told->first], steps, wanted);
@@ -105,23 +112,31 @@ static void put_fault(const struct mc2_told *told) {
     bool is_of_cpu = told->kind >= MC2_ROOM_WAS_LEFT && told->kind <= MC2_NOT_ASKED;
     printf("unsound: ");
     if (is_of_cpu) {
-        printf("cpu %llu entry %llu", wide(told->first), wide(told->second + 1));
+        printf("cpu %" PRIu64 " entry %" PRIu64, told->first, told->second + 1);
     } else {
         printf("log ");
         put_name(told->first);
     }
     if (told->kind == MC2_WRONG_STEP || told->kind == MC2_UNCLAIMED)
-        printf(" event %llu", wide(told->second + 1));
+        printf(" event %" PRIu64, told->second + 1);
     if (told->kind == MC2_WRONG_STEP)
-        printf(" step %llu", wide(told->third + 1));
+        printf(" step %" PRIu64, told->third + 1);
     printf(": %s\n", words[told->kind]);
+}
+
+static void refuse_object(uint64_t object) {
+    struct mc2_own_line line;
+    mc2_own_line(bytes(), length, (size_t)asked.object[object], &line);
+    bool is_there = mc2_own_model(&line, models, MODEL_COUNT) != NULL;
+    fprintf(stderr, "own: object %" PRIu64 ", of kind %.*s: ", object + 1, MC2_OWN_LETTERS, (const char *)line.object_kind);
+    fputs(is_there ? "its model refuses its numbers, or got no memory\n" : "there is no model of it with these numbers\n", stderr);
 }
 
 static int refuse(const struct mc2_told *told) {
     if (told->kind == MC2_BAD_LINE)
-        fprintf(stderr, "own: line %llu: no record goes on so\n", wide(told->first));
+        fprintf(stderr, "own: line %" PRIu64 ": no record goes on so\n", told->first);
     else if (told->kind == MC2_NO_MODEL)
-        fprintf(stderr, "own: object %llu has no model, or other numbers than its model takes\n", wide(told->first + 1));
+        refuse_object(told->first);
     else
         fprintf(stderr, "own: kind %u\n", (unsigned)told->kind);
     return told->kind == MC2_BAD_LINE || told->kind == MC2_NO_MODEL ? 2 : 3;
@@ -142,7 +157,7 @@ static int put_order(const struct mc2_told *told, const struct mc2_turn *room) {
     if (told->kind == MC2_CYCLE)
         puts("cycle:");
     for (uint64_t at = 0; at < told->first; at++)
-        printf("cpu %llu entry %llu\n", wide(room[at].cpu), wide(room[at].entry + 1));
+        printf("cpu %" PRIu64 " entry %" PRIu64 "\n", room[at].cpu, room[at].entry + 1);
     return told->kind == MC2_CYCLE;
 }
 
@@ -150,7 +165,7 @@ static int put_counts(const struct mc2_told *told) {
     if (told->kind > MC2_UNCLAIMED)
         return refuse(told);
     for (size_t at = 0; at < asked.objects; at++)
-        printf("%llu%c", wide(asked.right[at]), at + 1 < asked.objects ? ',' : '\n');
+        printf("%" PRIu64 "%c", asked.right[at], at + 1 < asked.objects ? ',' : '\n');
     return 0;
 }
 
@@ -167,7 +182,7 @@ int main(int count, char **words) {
     }
     read_text(count > 2 ? fopen(words[2], "rb") : stdin);
     struct mc2_turn *room = merges ? get(most_entries(), sizeof *room) : NULL;
-    mc2_own_judge(bytes(), length, models, MODELS, &asked, room, merges ? most_entries() : 0, &told);
+    mc2_own_judge(bytes(), length, models, MODEL_COUNT, &asked, room, merges ? most_entries() : 0, &told);
     bool has_order = merges && (told.kind == MC2_SOUND || told.kind == MC2_CYCLE);
     int status = counts ? put_counts(&told) : has_order ? put_order(&told, room) : told.kind == MC2_SOUND ? puts("sound") < 0 : tell(&told);
     free(room);

@@ -55,39 +55,39 @@ def words_of(crate):
     return [*words, "--antt-project", kit() / "rattle/logic/antt-project.json"]
 
 
-def build_library(crate, toolchain=None, library=None):
-    """Builds the crate's library over the crates below it, which it doesn't prove once more, and returns its path. The crate
-    itself is proved, unless the compiler takes what is left of its last proof, as nothing that it has read has changed."""
-    if toolchain is None:
-        with tempfile.TemporaryDirectory() as folder:
-            return build_library(crate, toolchain_of("library_clang", Path(folder) / "toolchain"), library)
-    folder = ROOT / "crates" / crate
-    library = library or folder / f"out/lib{crate}.a"
-    checked = folder / f"out/{crate}.checked"
-    words = words_of(crate)
-    build = [kit() / "bin/rattle", "build", *words, "--crate-checked", checked, "--toolchain", toolchain, "-o", library]
-    library.parent.mkdir(parents=True, exist_ok=True)
-    # (the compiler hands its clang no variable)
-    (toolchain / "words").write_text(CLANG_WORDS.get(crate, ""))
-    if not checked.exists() or run(build, wanted=None, cwd=folder).returncode != 0:
-        proof = ["--jobs", "2", "--logic-built", kit() / "logic_built", "-o", checked]
-        run([kit() / "bin/rattle", "check", *words, *proof], cwd=folder)
-        run(build, cwd=folder)
-    # What is left is the names that a linker needs.
-    run(["strip", "--strip-unneeded", library])
-    return library
-
-
-def toolchain_of(clang, folder):
-    """Makes a toolchain in the folder, which is the kit's but for its clang: that is the one of this name in tools/lib."""
+def make_toolchain(folder, own, programs):
+    """Makes the kit's toolchain in the folder, but for these of its programs: they are that one of tools/lib."""
     (folder / "bin").mkdir(parents=True)
     (folder / "kit").symlink_to(kit() / "toolchain")
     (folder / "lib").symlink_to(kit() / "toolchain/lib")
     for program in (kit() / "toolchain/bin").iterdir():
-        (folder / "bin" / program.name).symlink_to(ROOT / "tools/lib" / clang if program.name == "clang" else program)
-    return folder
+        (folder / "bin" / program.name).symlink_to(ROOT / "tools/lib" / own if program.name in programs else program)
 
 
-def kernel_toolchain(folder):
-    """Makes the toolchain of tools/develop/kernel_library in the folder."""
-    return toolchain_of("kernel_clang", folder)
+def make_library_toolchain(folder, crate, clang):
+    """Makes the toolchain of the crate's library in the folder, with that clang: library_clang or kernel_clang."""
+    make_toolchain(folder, clang, ["clang"])
+    # (the compiler hands its clang no variable)
+    (folder / "words").write_text(CLANG_WORDS.get(crate, ""))
+
+
+def build_library(crate, clang="library_clang", library=None):
+    """Builds the crate's library over the crates below it, which it doesn't prove once more, and returns its path. The crate
+    itself is proved, unless the compiler takes what is left of its last proof, as nothing that it has read has changed."""
+    folder = ROOT / "crates" / crate
+    library = library or folder / f"out/lib{crate}.a"
+    checked = folder / f"out/{crate}.checked"
+    library.parent.mkdir(parents=True, exist_ok=True)
+    with tempfile.TemporaryDirectory() as room:
+        make_library_toolchain(Path(room), crate, clang)
+        words = words_of(crate)
+        new = Path(room) / f"lib{crate}.a"
+        build = [kit() / "bin/rattle", "build", *words, "--crate-checked", checked, "--toolchain", room, "-o", new]
+        if not checked.exists() or run(build, wanted=None, cwd=folder).returncode != 0:
+            proof = ["--jobs", "2", "--logic-built", kit() / "logic_built", "-o", checked]
+            run([kit() / "bin/rattle", "check", *words, *proof], cwd=folder)
+            run(build, cwd=folder)
+        # What is left is the names that a linker needs.
+        run(["strip", "--strip-unneeded", new])
+        shutil.copy(new, library)
+    return library

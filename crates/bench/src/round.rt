@@ -104,7 +104,8 @@ fn print_round<R: Threads + Wait + Clock + Print + Sync>(
     let (mut events, mut turns) = (0usize, 0usize);
     for caller in callers {
         let tally = caller.tally(rt);
-        (events, turns) = (events.saturating_add(tally.0), turns.saturating_add(tally.1));
+        events = events.saturating_add(tally.0);
+        turns = turns.saturating_add(tally.1);
     }
     let nanoseconds = end.saturating_sub(start).as_nanos();
     let written = println!(rt; "{name} {nanoseconds} {events} {turns}");

@@ -5,7 +5,8 @@ from concurrent.futures import ThreadPoolExecutor
 from itertools import permutations
 
 from common import ROOT, Stop, run
-from libraries import build_library, kernel_toolchain
+from compiled import KEPT
+from libraries import build_library
 
 CHECKS = ROOT / "tools/lib/metal_checks"
 NOTE_CALLS = ROOT / "tools/lib/foreign_checks/note_freestanding.c"
@@ -158,12 +159,16 @@ def page(stacks):
     return f"has the {len(figures)} figures that are held here"
 
 
-def build_libraries(folder):
+def kernel_folder(folder, make):
+    """Where the libraries for a kernel go: the unproved ones where they are kept."""
+    return folder / "kernel" if make is build_library else KEPT / "kernel"
+
+
+def build_libraries(folder, make):
     """Builds the libraries of cells and of judge at once, each as the kit does, and then for a kernel."""
 
     def build_both(crate):
-        toolchain = kernel_toolchain(folder / f"toolchain/{crate}")
-        return build_library(crate), build_library(crate, toolchain, folder / f"kernel/lib{crate}.a")
+        return make(crate), make(crate, "kernel_clang", kernel_folder(folder, make) / f"lib{crate}.a")
 
     with ThreadPoolExecutor(2) as pool:
         return pool.map(build_both, ("cells", "judge"))
@@ -177,22 +182,24 @@ def check_headers(counts, folder):
     ends = [it for order in (("mc2_cells.hpp", *HEADERS), (*HEADERS, "mc2_cells.hpp")) for it in (order, order)]
     counts.check("mc2_cells.hpp beside them", compile_headers, ["g++", "-std=c++17", "-fno-exceptions", "-x", "c++"], ends)
     counts.check("headers freestanding", compile_headers, [*freestanding, "-x", "c"])
+    ends = [("mc2_cells_record.h", *HEADERS), (*HEADERS, "mc2_cells_record.h")]
+    counts.check("mc2_cells_record.h beside them", compile_headers, [*freestanding, "-x", "c"], ends)
     counts.check("mc2_record.h freestanding", header_asks, CHECKS / "record.c", folder, freestanding)
     counts.check("mc2_note.h freestanding", header_asks, NOTE_CALLS, folder, freestanding)
     counts.check("memory of mc2_note.h", note_memory, freestanding)
     counts.check("MC2_STEP of mc2_cells.h", steps, folder)
 
 
-def check_libraries(counts, folder):
-    """Builds and checks the libraries, and returns where those of cells, of judge, and for a kernel are."""
-    cells, judge = build_libraries(folder)
+def check_libraries(counts, folder, make):
+    """Makes and checks the libraries, and returns where those of cells, of judge, and for a kernel are."""
+    cells, judge = build_libraries(folder, make)
     for crate, (of_kit, library), allowed in (("cells", cells, CELLS_ASKS), ("judge", judge, JUDGE_ASKS)):
         counts.check(f"lib{crate}.a", asks, of_kit, allowed)
         counts.check(f"lib{crate}.a for a kernel", asks, library, allowed)
         counts.check(f"sections of lib{crate}.a", sections, of_kit)
         counts.check(f"sections of lib{crate}.a for a kernel", sections, library)
         counts.check(f"code of lib{crate}.a for a kernel", is_for_a_kernel, library)
-    counts.check("size of libcells.a", size, cells[0])
-    counts.check("size of libcells.a for a kernel", size, cells[1])
+    for library, what in zip(cells, ("", " for a kernel") if make is build_library else ()):
+        counts.check(f"size of libcells.a{what}", size, library)
     counts.check("mc2_heap.h", heap, folder, cells[0])
-    return cells[0], judge[0], folder / "kernel"
+    return cells[0], judge[0], kernel_folder(folder, make)

@@ -59,6 +59,12 @@ uint32_t mc2_caller_try_call(struct mc2_caller *caller, const struct mc2_call *c
     return (void)caller, (void)call, (void)reply, answer(&none, MC2_CELL_DONE_KEPT);
 }
 
+uint32_t mc2_cell_take_back(struct mc2_cell *cell, struct mc2_caller *caller) {
+    return (void)cell, (void)caller, answer(&none, MC2_CELL_DONE);
+}
+
+uint32_t mc2_cell_close(struct mc2_cell *cell) { return (void)cell, answer(&none, MC2_CELL_DONE); }
+
 // So many calls of the library were made by then.
 static void made(unsigned count, const char *what) {
     must(calls == count && within == 0, what);
@@ -68,7 +74,7 @@ static void made(unsigned count, const char *what) {
 int main(void) {
     struct mc2_object object = {"q", MC2_QUEUE, MC2_MCS, 0, 8, 0, NULL};
     struct mc2_cell cell;
-    struct mc2_caller caller;
+    struct mc2_caller caller, callers[3];
     struct mc2_call call = {0, 0, 0};
     struct mc2_batch batch = {1, {{0, 0, 0}}};
     struct mc2_reply reply;
@@ -89,5 +95,9 @@ int main(void) {
     made(2, "the try, a step back");
     must(mc2_caller_free(&caller) == MC2_CELL_DONE && mc2_cell_free(&cell) == MC2_CELL_DONE, "freeing");
     made(2, "each freeing is a call");
+    must(mc2_cells_open(&cell, &object, callers, 3) == MC2_CELL_DONE, "a cell with callers");
+    made(8, "opening a cell and each of three callers is two calls");
+    must(mc2_cells_close(&cell, callers, 3) == MC2_CELL_DONE, "closing");
+    made(7, "each caller is taken back and freed, and the cell closed");
     return 0;
 }

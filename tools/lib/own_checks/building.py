@@ -5,7 +5,7 @@ from pathlib import Path
 
 from common import ROOT, run
 from foreign_checks.judging import BUILD_SECONDS, C11, STRICT
-from libraries import build_library, heap
+from libraries import heap
 
 FOLDER = ROOT / "tools/lib/own_checks"
 EXAMPLES = ROOT / "examples/own"
@@ -29,8 +29,7 @@ class Side:
     rust: list
 
 
-def library_side():
-    library = build_library("judge")
+def library_side(library):
     folders = ["-L", library.parent, "-L", heap().parent]
     return Side("the library", [library, heap(), "-pthread"], [*folders, "-l", "static=judge", "-l", "static=libc_c"])
 
@@ -51,15 +50,13 @@ def build_c(source, out, side=None, how=("-O2",)):
     return Path(out)
 
 
-def build_refusals(folder, is_stand_in):
-    """Builds own_refusals.c, which has the heap of what it judges by."""
-    links = []
-    if is_stand_in:
+def build_refusals(folder, library):
+    """Builds own_refusals.c over the library, or over the stand-in if there is none. It has the heap of what it judges by."""
+    links = [library]
+    if library is None:
         names = [f"-D{it}=stand_in_{it}" for it in ("malloc", "realloc", "free")]
         run([*C11, *SANITIZED, INCLUDE, *names, "-c", "-o", folder / "refusing.o", FOLDER / "stand_in.c"])
         links = [folder / "refusing.o"]
-    else:
-        links = [build_library("judge")]
     return build_c(FOLDER / "own_refusals.c", folder / "own_refusals", Side("", links, []), SANITIZED)
 
 

@@ -25,8 +25,8 @@ FAULTS = {
     r"  event 1: 0 write 10 4 = wrote 4\n  event 2: 1 read 4 = empty\n"
     r"right would have been: got 4 308866, or fewer bytes of these\n",
     "drops": r"unsound: log zone event \d+ step 1: wrong step\na block of this order is free:\n"
-    r"  event (\d+: \d+ alloc \d) = none\n"
-    r"right would have been: page \d+(, or another free block of this order)?\n",
+    r"(  event \d+: .*\n){0,14}  event (\d+: \d+ alloc \d) = none\n"
+    r"right would have been( behind all of the log)?: page \d+(, or another free block of this order)?\n",
 }
 CPUS, CALLS, RUNS = 4, 500, 5
 THREADS = ["-O1", "-g", "-fsanitize=thread", "-Wall", "-Wextra", "-pedantic", "-Werror"]
@@ -81,7 +81,7 @@ def judge_kernel(own, kernel, fault):
     """The verdict is the same in each run."""
     for _ in range(RUNS):
         record = run([kernel, fault, str(CPUS), str(CALLS)], timeout=SECONDS).stdout
-        said = verdict_of(own, record, 10)
+        said = verdict_of(own, record, 20)
         if not re.fullmatch(FAULTS[fault], said):
             raise Stop(f"{said!r}")
     return f"{RUNS} times " + said.splitlines()[0]

@@ -2,7 +2,8 @@
 
    Checks include/mc2_own_witness.h: makes that many logs of run queues, allocators and pipes, the last step of which is wrong
    by its model, and finds a witness of each. The steps that are kept have to be right in their order, and the last one wrong
-   for the reason that is told. Without any one of them it mustn't be so, unless the search was ended early, which is tried too.
+   for the reason that is told, where what is told would have been right. Without any one of them, but for the last one, it mustn't
+   be so, unless the search was ended early, which is tried too.
    Prints how many steps there were and how many were kept. The status is 0, or 1 at the first check that fails. */
 #include "../../../examples/own/models.h"
 #include "mc2_own_witness.h"
@@ -81,14 +82,17 @@ static uint64_t make_log(unsigned kind, const struct mc2_model *model, void *sta
     return count;
 }
 
-/* Why the last step is wrong behind the others but one, or NULL. */
-static const char *reason_without(const struct mc2_own_trial *trial, const struct mc2_own_witness *witness, size_t left_out) {
+/* Why the last step is wrong behind the others but one, or NULL; and what would have been right. */
+static const char *reason_without(const struct mc2_own_trial *trial, const struct mc2_own_witness *witness, size_t left_out,
+                                  char *right) {
     void *state = trial->model->open(trial->object.numbers, trial->object.count);
     const char *why = NULL;
     size_t at = 0;
     for (; at <= witness->count && !why; at++) {
         struct mc2_own_line line;
         mc2_own_line(trial->text, trial->length, (size_t)witness->steps[at].line, &line);
+        right[0] = 0;
+        trial->model->says(state, &line.steps[witness->steps[at].step].call, right, MC2_OWN_RIGHT);
         why = at == left_out ? NULL : trial->model->step(state, &line.steps[witness->steps[at].step]);
     }
     trial->model->close(state);
@@ -97,18 +101,20 @@ static const char *reason_without(const struct mc2_own_trial *trial, const struc
 
 static void check_witness(const struct mc2_own_trial *trial, const struct mc2_own_witness *witness, const char *reason,
                           bool is_whole) {
-    const char *why = reason_without(trial, witness, SIZE_MAX);
+    char right[MC2_OWN_RIGHT];
+    const char *why = reason_without(trial, witness, SIZE_MAX, right);
     CHECK(reason && why && strcmp(why, reason) == 0);
-    for (size_t at = 0; is_whole && at < witness->count; at++) {
-        why = reason_without(trial, witness, at);
-        CHECK(!why || strcmp(why, reason) != 0);
+    CHECK(witness->is_by_reason || strcmp(right, witness->right) == 0);
+    for (size_t at = 0; is_whole && at + 1 < witness->count; at++) {
+        why = reason_without(trial, witness, at, right);
+        CHECK(!why || strcmp(why, reason) != 0 || (!witness->is_by_reason && strcmp(right, witness->right) != 0));
     }
 }
 
 /* Finds a witness by that many questions, and says how many steps are kept. */
 static size_t find(const struct mc2_own_asked *asked, uint64_t left) {
     struct mc2_own_place steps[2 * MOST_STEPS + 1];
-    struct mc2_own_witness witness = {steps, 0, left};
+    struct mc2_own_witness witness = {steps, 0, left, "", false};
     struct mc2_own_trial trial = mc2_own_try((const uint8_t *)text.bytes, text.length, models, MODELS, asked, 0);
     const char *reason = mc2_own_find_witness(&trial, (size_t)asked->log[0], (size_t)asked->right[0], &witness);
     check_witness(&trial, &witness, reason, left == PLENTY);

@@ -1,0 +1,81 @@
+//! What objects answer, and why there is no answer.
+use crate::ffi::Answered;
+use core::fmt;
+
+/// A page of a pool, from 0.
+#[derive(Clone, Copy, Debug, PartialEq, Eq, PartialOrd, Ord, Hash)]
+pub struct Page(pub u32);
+impl From<Page> for u32 {
+    fn from(page: Page) -> u32 { page.0 }
+}
+
+macro_rules! refusals {
+    ($($name:ident $word:literal),*) => {
+        /// Why an object refused a call, which changed nothing and is in the log. Each call says what refuses it.
+        #[derive(Clone, Copy, Debug, PartialEq, Eq)]
+        #[allow(missing_docs)]
+        pub enum Refusal { $($name),* }
+        const REFUSALS: [Refusal; 12] = [$(Refusal::$name),*];
+        const WORDS: [&str; 18] = ["ok", "thread", "count", "page", "dropped", "byte", $($word),*];
+    };
+}
+refusals! {
+    BadThread "badthread", Already "already", Empty "empty", Absent "absent", BadOwner "badowner", NoPage "none", OverQuota
+    "overquota", BadPage "badpage", NotTaken "nottaken", NotYours "notyours", BadChannel "badchannel", BadCall "badcall"
+}
+
+/// What an object said to a call. It is shown as a record has it.
+#[derive(Clone, Copy, Debug, PartialEq, Eq)]
+pub struct Reply(pub(crate) Answered);
+impl Reply {
+    /// The answer, if it is one of this type, or else `Refused`, or `Unexpected`.
+    pub fn answer<T: Answer>(self) -> Result<T, Error> {
+        let refusal = REFUSALS.get((self.0[0] as usize).wrapping_sub(6));
+        T::of(self).ok_or(refusal.map_or(Error::Unexpected(self.0[0]), |why| Error::Refused(*why)))
+    }
+}
+impl fmt::Display for Reply {
+    fn fmt(&self, f: &mut fmt::Formatter) -> fmt::Result {
+        let [word, number] = self.0;
+        f.write_str(WORDS.get(word as usize).unwrap_or(&""))?;
+        if (1..6).contains(&word) { write!(f, " {number}") } else { Ok(()) }
+    }
+}
+
+/// What can be the answer to a call: that it was done, a thread or a count, a byte, a page, or any reply.
+pub trait Answer: Sized {
+    #[doc(hidden)]
+    fn of(reply: Reply) -> Option<Self>;
+}
+macro_rules! answers {
+    ($($type:ty: $it:pat => $answer:expr;)*) => { $(impl Answer for $type { fn of($it: Reply) -> Option<Self> { $answer } })* };
+}
+answers! {
+    (): Reply([word, _]) => (word == 0).then_some(());
+    u32: Reply([word, number]) => (word == 1 || word == 2).then_some(number);
+    Page: Reply([word, number]) => (word == 3).then_some(Page(number));
+    Option<u8>: Reply([word, number]) => (word == 0 || word == 4).then_some((word == 4).then_some(number as u8));
+    u8: Reply([word, number]) => (word == 5).then_some(number as u8);
+    Reply: reply => Some(reply);
+}
+
+/// Why there is no answer. Nothing was done, or the object refused.
+#[derive(Clone, Copy, Debug, PartialEq, Eq)]
+pub enum Error {
+    /// The object refused the call.
+    Refused(Refusal),
+    /// The log is full, and stays so.
+    Full,
+    /// Of a try: another has the object, or is in line. Of a closing: a caller was leaked, as by `mem::forget`.
+    Busy,
+    /// Of an opening: memory was refused.
+    NoMemory,
+    /// Of an opening: a number is out of its range. Of a batch: it hasn't 1 to 8 calls.
+    BadNumber,
+    /// The answer is of another type, or the library told a number that no use of this crate leads to.
+    Unexpected(u32),
+}
+impl core::error::Error for Error {}
+impl fmt::Display for Error {
+    fn fmt(&self, f: &mut fmt::Formatter) -> fmt::Result { write!(f, "{self:?}") }
+}

@@ -1,0 +1,46 @@
+//! How callers of a cell wait, and include/mc2_wait.h says why. Without std nobody naps, and nobody stays outside.
+use crate::ffi::{LOOKED, STEPPED};
+use core::sync::atomic::{AtomicU64, Ordering::Relaxed};
+
+const NAPS: bool = cfg!(feature = "std");
+// From this look in vain on a caller in line naps.
+const LONG_WAIT: u64 = 120;
+const OUTSIDE: u64 = 1 << 32;
+
+fn nap(_microseconds: u64) {
+    #[cfg(feature = "std")]
+    std::thread::sleep(core::time::Duration::from_micros(_microseconds));
+}
+
+/// Who rests at a cell: the low half counts those who nap in line, the high half those outside.
+#[derive(Default)]
+pub struct Resting(AtomicU64);
+
+impl Resting {
+    /// Stays outside for one nap, if somebody naps in line.
+    pub fn stay_outside(&self) {
+        if NAPS && self.0.load(Relaxed) % OUTSIDE != 0 {
+            let others = self.0.fetch_add(OUTSIDE, Relaxed) / OUTSIDE;
+            nap(1000 + 250 * others.min(64));
+            self.0.fetch_sub(OUTSIDE, Relaxed);
+        }
+    }
+    fn rest(&self, vain: u64) {
+        if !NAPS || vain < LONG_WAIT {
+            return (0..1 << (vain % 6)).for_each(|_| core::hint::spin_loop());
+        }
+        self.0.fetch_add(u64::from(vain == LONG_WAIT), Relaxed);
+        nap(100);
+    }
+    /// Does steps until one is the last: what it told, and how many looked in vain.
+    pub fn steps(&self, mut step: impl FnMut() -> u32) -> (u32, u64) {
+        let (mut told, mut vain) = (step(), 0);
+        while told == STEPPED || told == LOOKED {
+            vain += u64::from(told == LOOKED);
+            if told == LOOKED { self.rest(vain) }
+            told = step();
+        }
+        if NAPS && vain >= LONG_WAIT { self.0.fetch_sub(1, Relaxed); }
+        (told, vain)
+    }
+}
