@@ -40,30 +40,32 @@ class Given:
 
 
 def by_chance(mc2, seed):
-    """Schedules of settings and scripts that are drawn."""
+    """Schedules of settings and scripts that are drawn. Where no draw ends them, CPUs take turns."""
     for number in range(20):
         draw = random.Random(f"{seed} {number}")
         cpus, (kinds, tables) = draw.choice(CPUS[:-1]), draw_objects(draw)
         scripts = scripts_text(draw_scripts(draw, cpus, kinds, draw.choice([0, 1, 5, 160 // cpus])))
         with tempfile.TemporaryDirectory(prefix="schedules-") as folder:
             given = Given(mc2, folder, cpus, tables, scripts)
-            words = given.made(number)
-            faults = given.faults(words) + ["the same seed makes another one"] * (words != given.made(number))
+            words, is_closer = given.made(number), number % 4 == 0
+            faults = given.faults(words) + ["the same seed makes another one"] * (is_closer and words != given.made(number))
             faults += ["another seed makes the same one"] * (cpus > 1 and len(words) > 200 and words == given.made(number + 1))
             yield f"schedule {number} of {cpus} CPUs", faults
-            yield f"schedule {number} of {cpus} CPUs by turns", given.faults(given.made(number, True))
+            turns = given.made(number, True)
+            with patch("view.schedule.words_by", lambda *how: None if WAITS in how else words_by(*how)):
+                faults = ["no draw ends them, and others come"] * (is_closer and turns != given.made(number))
+            yield f"schedule {number} of {cpus} CPUs by turns", given.faults(turns) + faults
 
 
-def at_the_most(mc2):
-    """Schedules of as many entries as are never refused, at one lock. Where no draw ends them, CPUs take turns."""
+def at_the_most(mc2, is_few):
+    """Schedules of as many entries as are never refused, at one lock."""
     for lock, cpus in ("ticket", 8), ("mcs", 8), ("ticket", 64):
         scripts = "".join(f"{number % cpus} q0 len\n" for number in range(100_000 // (9 * cpus)))
         with tempfile.TemporaryDirectory(prefix="schedules-") as folder:
             given, name = Given(mc2, folder, cpus, QUEUE.format(lock), scripts), f"as many entries of {cpus} CPUs at one {lock} lock"
-            yield name, given.faults(given.made(3))
-            turns = given.made(3, True)
-            with patch("view.schedule.words_by", lambda *how: None if WAITS in how else words_by(*how)):
-                yield f"{name} by turns", given.faults(turns) + ["no draw ends them, and others come"] * (turns != given.made(3))
+            yield f"{name} by turns", given.faults(given.made(3, True))
+            if not is_few:
+                yield name, given.faults(given.made(3))
 
 
 def too_many(mc2):
@@ -79,8 +81,8 @@ def too_many(mc2):
             yield f"a schedule of too many entries{' by turns' * rounds}", faults
 
 
-def schedules(mc2, seed):
+def schedules(mc2, seed, is_few):
     """What is looked at, each with a list of what is wrong."""
     yield from by_chance(mc2, seed)
-    yield from at_the_most(mc2)
+    yield from at_the_most(mc2, is_few)
     yield from too_many(mc2)
