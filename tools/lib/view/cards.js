@@ -13,7 +13,7 @@ function card(i) {
     isMarked[i] && (D.marked.length > 1 ? "in the cycle" : "the first fault")];
   const [event, events, most] = [box.event[i], ofObject[box.object[i]].length, object.most].map(byNumber);
   const held = box.event[i] && (D.held[box.object[i]] || [])[box.event[i] - 1];
-  const log = box.event[i] ? `event ${event} of ${events} in its log, at most ${most}` : "no event of its log";
+  const log = box.event[i] ? `event ${event} of ${events} in its log, which may have ${most}` : "no event of its log";
   const looks = D.boxes.looks[i], looked = `looked ${byNumber(looks)} time${looks === 1 ? "" : "s"} at the lock`;
   const lines = [`${object.said}; ${log}`, D.note === "note" ? `note ${looks}` : looked, held && `held before: ${held}`];
   return [make("b", { className: isMarked[i] ? "mark" : "" }, places.filter(Boolean).join(" · ")), table,

@@ -4,6 +4,7 @@ import math
 from view.faults import about
 
 LEFT, RIGHT, WIDE = 84, 560, 360
+TIP, EDGE = LEFT + WIDE - 20, RIGHT + WIDE + 44  # where arrows end, beyond what stands above a box; and where one leads down
 
 
 def cycle(drawn, model):
@@ -14,12 +15,12 @@ def cycle(drawn, model):
     for place, (cpu, number) in enumerate(around):
         first = holds_up(model, cpu, number, around[place - 1])
         places.append(row(drawn, model, cpu, number, first))
-    for (y, _), (from_y, from_x) in zip(places, places[1:] + places[:1]):
-        way, bend = (-1, 0) if from_y > y else (1, 30)
-        tip, start, middle = (y - 6 if way > 0 else y + 36), from_y + bend, (from_y + y) / 2 + 15
-        path = f"M{from_x + 150} {start}C{from_x + 150} {middle} {LEFT + 250} {middle} {LEFT + 250} {tip - 8 * way}"
-        arrow(drawn, path, LEFT + 250, tip, way)
-    drawn.y -= 10
+    for (y, _), (from_y, from_x) in zip(places, places[1:]):
+        start, middle, tip = from_x + WIDE - 20, y + 50, y + 36
+        arrow(drawn, f"M{start} {from_y}C{start} {middle} {TIP} {middle} {TIP} {tip + 8}", TIP, tip, True)
+    (last, _), (first, x) = places[-1], places[0]
+    path = f"M{x + WIDE} {first + 15}H{EDGE - 10}q10 0 10 10V{last + 46}q0 10 -10 10H{TIP + 10}q-10 0 -10 -10"
+    arrow(drawn, path, TIP, last + 36, True)
 
 
 def row(drawn, model, cpu, number, first):
@@ -47,7 +48,7 @@ def holds_up(model, cpu, number, waiting):
     return next(found, number)  # (a judge of one's own may name what is no cycle)
 
 
-def arrow(drawn, path, x, y, way=0):
-    """A line with a head at its end, which leads down (1), up (-1) or to the right."""
+def arrow(drawn, path, x, y, is_up=False):
+    """A line with a head at its end, which leads up or to the right."""
     drawn.add("path", class_="arrow", d=path)
-    drawn.add("path", class_="link", d=f"M{x} {y}l-5 {-9 * way}h10z" if way else f"M{x} {y}l-9 -5v10z")
+    drawn.add("path", class_="link", d=f"M{x} {y}l-5 9h10z" if is_up else f"M{x} {y}l-9 -5v10z")

@@ -29,11 +29,11 @@ def strip(drawn, model, boxes, name, marked, kept=()):
         drawn.text(x + wide / 2, y - 9, f"{name} {box.at}", "bad" if is_marked else "grey", "middle")
         drawn.box(x, y, wide, 30, box.object, box.text, about(model, box), box.is_noroom())
         below = f"by CPU {box.cpu}" if name == "event" else f"on {model.record.objects[box.object].name}"
-        drawn.text(x + wide / 2, y + 46, below, "grey", "middle")
+        drawn.text(x + wide / 2, y + 50, below, "grey", "middle")
         if is_marked or box.at in kept:
             drawn.add("rect", class_="frame" if is_marked else "kept", x=x - 4, y=y - 4, width=wide + 8, height=38, rx=4)
         x, last = x + wide + 12, box.at
-    drawn.width, drawn.y = max(drawn.width, int(x + 8)), y + 52
+    drawn.width, drawn.y = max(drawn.width, int(x + 8)), y + 56
 
 
 def near(boxes, row, at):

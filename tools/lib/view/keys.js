@@ -13,6 +13,7 @@ const KEYS = {
 
 function press(event) {
   if (event.ctrlKey || event.metaKey || event.altKey) return;
+  if (["top", "foot"].includes(event.target.id) && /^(Arrow|Page|Home|End)/.test(event.key)) return; // (these scroll)
   if (event.target === byId("search")) {
     if (event.key === "Enter") nextHit(event.shiftKey ? -1 : 1);
     if (event.key === "Escape") event.target.blur(), KEYS.Escape();
@@ -86,7 +87,7 @@ function show() {
 function recall() {
   const values = new URLSearchParams(location.hash.slice(1)), near = D.marked.length ? box.at[D.marked[0]] : 0;
   if (+values.get("to") > 0) showAll((+values.get("from") || 0) + 0.5, +values.get("to") - 0.5);
-  else near && most > 40 ? showAll(near - 12, near + 12) : showAll();
+  else near && most > 40 ? showAll(near - 5, near + 5) : showAll();
   if (values.has("tall")) KEYS.r();
   if (values.has("q")) search((byId("search").value = values.get("q")));
   const object = D.objects.findIndex((object) => object.name === values.get("only"));
@@ -96,16 +97,17 @@ function recall() {
 }
 
 const HELP = [
-  ["← → ↑ ↓", "the entry before or behind, above or below"], ["[ ]", "the event before or behind in the object's log"],
-  ["+ − wheel", "closer, farther; 0 all, Enter near the chosen one"], ["shift ← →", "along the run; drag does it too"],
-  ["o", "the chosen one's object alone; r taller rows"], ["/", "search; n N next, before; Esc clear"],
+  ["← →", "entry before, behind"], ["+ −", "closer, farther (wheel)"], ["↑ ↓", "row above, below"], ["0", "the whole run"],
+  ["[ ]", "event in the object's log"], ["Enter", "close to the chosen entry"], ["/", "search"], ["shift ← →", "along the run (drag)"],
+  ["n N", "found: next, before"], ["r", "taller rows"], ["o", "its object alone"],
 ];
 
 function help() {
   const table = make("table");
-  const fault = D.marked.length ? [["f", D.marked.length > 1 ? "the next entry of the cycle" : "the first fault"]] : [];
-  for (const [keys, does] of [...HELP, ...fault]) table.append(make("tr", {}, make("td", {}, keys), make("td", {}, does)));
-  const tails = hasTails() ? " A pale tail grows with the looks at the lock." : "";
+  const fault = D.marked.length > 1 ? "next in the cycle; Esc clears" : "the first fault; Esc clears";
+  const cells = [...HELP, D.marked.length ? ["f", fault] : ["Esc", "clear all"]].map((row) => row.map((it) => make("td", {}, it)));
+  for (let at = 0; at < cells.length; at += 2) table.append(make("tr", {}, ...cells[at], ...cells[at + 1]));
+  const tails = hasTails() ? " A pale tail grows with how often the CPU looked at the lock." : "";
   return make("div", { id: "keys" }, make("div", {}, `${D.means}${tails} Hatched: no room in the log.`), table);
 }
 
@@ -116,8 +118,9 @@ async function start() {
   const button = (object, number) =>
     make("button", { title: object.said + ": its entries alone", "data-object": number, onclick: () => light(number) },
       make("i", { style: `background:${D.colours[number % 16]}` }), object.name);
-  const terms = `such as: cpu 3, enq 5; or noroom; or ${D.note} > 100${D.marked.length ? "; or wrong" : ""}`;
-  const field = make("input", { id: "search", type: "search", placeholder: "search, such as: cpu 3, enq 5", title: terms,
+  const sample = n ? `cpu ${box.cpu[0]}, ${D.texts[box.text[0]].split(/ [=|;] /)[0]}` : "cpu 3";
+  const terms = `such as: ${sample}; or noroom; or ${D.note} > 100${D.marked.length ? "; or wrong" : ""}`;
+  const field = make("input", { id: "search", type: "search", placeholder: `search, such as: ${sample}`, title: terms,
     "aria-label": `search the entries, ${terms}` });
   byId("tools").append(...D.objects.map(button), field, make("span", { id: "found", className: "grey", role: "status" }));
   canvas = make("canvas", { tabIndex: 0, role: "application", "aria-label": `${D.title}. The arrows go from entry to entry.` });
@@ -125,7 +128,8 @@ async function start() {
   [context, strip] = [canvas, overview].map((it) => it.getContext("2d"));
   const parts = [make("div", { id: "one", "aria-live": "polite" }), make("div", { id: "near" }), help()];
   const scroll = make("div", { id: "scroll" }, make("div", { id: "tall" }, canvas));
-  byId("main").append(overview, scroll, make("footer", {}, ...parts));
+  byId("main").append(overview, scroll, make("footer", { id: "foot", tabIndex: 0 }, ...parts));
+  if (byId("top").firstChild) byId("top").tabIndex = 0;
   document.body.append(make("div", { id: "card", hidden: true }));
   layout();
   listenToMouse();

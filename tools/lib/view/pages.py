@@ -9,7 +9,7 @@ from pathlib import Path
 
 from view.asked import Refused
 from view.pictures import picture
-from view.svg import COLOURS, DARKER, ink
+from view.svg import COLOURS, ink
 
 HERE = Path(__file__).parent
 MOST_PLAIN, MOST_BOXES = 30_000, 1_500_000
@@ -18,8 +18,7 @@ STEP = re.compile(r"\d+ cpu (\d+) (?:idle|(\w+) (\w+)(?: ([a-z ]+))? \| ([a-z0-9
 
 
 def whole(title, scripts, data, top=""):
-    text = json.dumps({"colours": COLOURS + DARKER, **data}, separators=(",", ":"), ensure_ascii=True)
-    kind = "application/json"
+    kind, text = "application/json", json.dumps({"colours": COLOURS, **data}, separators=(",", ":"), ensure_ascii=True)
     if len(text) > MOST_PLAIN:
         kind, text = "application/deflate", base64.b64encode(zlib.compress(text.encode(), 9)).decode()
     parts = {

@@ -30,6 +30,7 @@ function drawPlaces() {
     if (at > GUTTER + 8) strip.fillText(byNumber(place), Math.min(at, width - half - 2), STRIP + 15);
   }
   strip.textAlign = "left";
+  strip.fillText("whole run", 10, STRIP - 7);
   strip.fillText(D.isOrder ? "place" : "number", 10, STRIP + 15);
 }
 

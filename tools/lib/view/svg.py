@@ -1,11 +1,11 @@
 """A picture of plain SVG, an element a line, light or dark as the reader's system is: `class` says what a thing is, and the
-style at its front has the colours. The colours of objects are Okabe and Ito's, which the colour-blind tell apart."""
+style at its front has the colours. The colours of objects are five of Okabe and Ito's, and others that are as far from these
+and from each other as can be, also for the colour-blind; none is red, which marks faults."""
 import textwrap
 from xml.sax.saxutils import escape, quoteattr
 
-COLOURS = ["#0072b2", "#e69f00", "#009e73", "#cc79a7", "#56b4e9", "#b8a800", "#8c6bb1", "#7a7a7a"]
-# (the objects from the ninth on have the same colours, darker, and from the seventeenth on all come again)
-DARKER = ["#004a75", "#9a6a00", "#00664a", "#94436f", "#2279a8", "#766c00", "#573c7d", "#4a4a4a"]
+COLOURS = ["#0072b2", "#e69f00", "#009e73", "#cc79a7", "#56b4e9", "#545400", "#9cc06c", "#783c60",
+           "#9084fc", "#90780c", "#3c603c", "#900c84", "#d8a8a8", "#6c9048", "#6054cc", "#90c0d8"]  # (then they come again)
 FONT = "system-ui, -apple-system, 'Segoe UI', Roboto, Arial, 'DejaVu Sans', sans-serif"
 MONO = "ui-monospace, 'DejaVu Sans Mono', Menlo, Consolas, monospace"
 LETTER = 7.3  # the width of one in a box
@@ -19,13 +19,13 @@ STYLE = f"""text{{font-family:{FONT};font-size:13px;fill:#1f2328}} .mono{{font-f
 
 
 def colour(number):
-    return (COLOURS + DARKER)[number % 16]
+    return COLOURS[number % len(COLOURS)]
 
 
 def ink(number):
-    """The class of a text on this colour."""
-    red, green, blue = bytes.fromhex(colour(number)[1:])
-    return "dark" if 299 * red + 587 * green + 114 * blue > 140_000 else "white"
+    """The class of a text on this colour, by how bright it is: that which one reads better."""
+    red, green, blue = ((it / 255) ** 2.2 for it in bytes.fromhex(colour(number)[1:]))
+    return "dark" if 0.2126 * red + 0.7152 * green + 0.0722 * blue > 0.215 else "white"
 
 
 class Picture:
@@ -47,7 +47,8 @@ class Picture:
         self.add("text", escape(words), x=x, y=y, class_=kind, text_anchor=anchor)
 
     def say(self, words, kind=None, x=16):
-        """A line of text below all that is there; a long one is broken between words."""
+        """A line of text below all that is there, as far in as it begins; a long one is broken between words."""
+        x += (len(words) - len(words.lstrip())) * LETTER
         most = int((self.width - x - 16) / (LETTER if kind == "mono" else 6.8)) + 1
         for line in textwrap.wrap(words.strip(), most, break_on_hyphens=False) or [""]:
             self.y += 22

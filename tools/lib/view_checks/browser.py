@@ -103,7 +103,7 @@ class Browser:
         self.errors = []
         self.ask("Page.navigate", url="about:blank")
         self.ask("Page.navigate", url=f"file://{path}{fragment}")
-        self.wait_for(lambda it: it.get("method") == "Page.loadEventFired")
+        self.run("new Promise((done) => document.readyState === 'complete' ? done() : addEventListener('load', done))")
         return self.run("ready.then(() => performance.getEntriesByName('drawn').map((it) => it.startTime)[0] || 0)")
 
     def run(self, script):
