@@ -38,6 +38,7 @@ HOW_TO_GET = {
     "ar": "on Debian `apt-get install binutils` installs it",
     "dpkg-deb": "it is a program of Debian's package dpkg",
     "pkg-config": "on Debian `apt-get install pkgconf` installs it",
+    "pandoc": "on Debian `apt-get install pandoc` installs it",
     "g++": "on Debian `apt-get install g++` installs it",
     "make": "on Debian `apt-get install make` installs it",
     "qemu-system-x86_64": "on Debian `apt-get install qemu-system-x86` installs it",

@@ -15,8 +15,11 @@ MOST_BYTES = 4 << 20
 
 
 class Refusal(NamedTuple):
+    """A line and a status of the program's, and the file that can't be read, if it is that."""
+
     line: str
     status: int
+    file: str = ""
 
 
 class Form(NamedTuple):
@@ -85,26 +88,27 @@ def content(file):
         return opened.read()
 
 
-def read_inputs(command, settings, files):
-    """Whether the first input that isn't right is a file that can't be read. The inputs before it have to be right."""
+def unread_input(command, settings, files):
+    """The file that can't be read, if that is the first input that isn't right. The inputs before it have to be right."""
+    unread = [it for it in files if not can_read(it)]
     if settings is not None and not can_read(settings):
-        return True
-    if all(can_read(it) for it in files):
-        return False
-    if not FORMS[command].has_settings:
-        return True
-    if tomllib is None:
-        raise NotSure
-    found = read_settings(BUILT_IN.encode() if settings is None else content(settings))
-    if can_read(files[0]) and scripts_fault(content(files[0]), found.cpus, found.kinds) is not None:
-        raise NotSure
-    return True
+        return settings
+    if not unread:
+        return None
+    if FORMS[command].has_settings:
+        if tomllib is None:
+            raise NotSure
+        found = read_settings(BUILT_IN.encode() if settings is None else content(settings))
+        if unread[0] != files[0] and scripts_fault(content(files[0]), found.cpus, found.kinds) is not None:
+            raise NotSure
+    return unread[0]
 
 
 def first_look(program, words):
     """What the program is sure to answer at once, if it refuses the words, or a file that can't be read."""
     try:
-        return Refusal(READ_FAILED, 3) if read_inputs(*read_words(program, list(words))) else None
+        file = unread_input(*read_words(program, list(words)))
+        return None if file is None else Refusal(READ_FAILED, 3, file)
     except BadWords:
         return Refusal(BAD_WORDS[program], 2)
     except (NotSure, Fault, BadKey, OSError):

@@ -1,9 +1,9 @@
-# Completion for mc2 and mc2-view: commands, options, and the names of files.
+# Completion for mc2 and mc2-view, and for ./mc2 and ./view: commands, options, and the names of files.
 _mc2_words() {
     local word=${COMP_WORDS[COMP_CWORD]} before=${COMP_WORDS[COMP_CWORD - 1]} command=${COMP_WORDS[1]-}
     local commands options=
     case ${COMP_WORDS[0]##*/} in
-        mc2-view) commands='steps timeline trace schedule --help --version' ;;
+        mc2-view | view) commands='steps timeline trace schedule --help --version' ;;
         *) commands='run sim report audit merge upgrade' ;;
     esac
     case $command in
@@ -25,4 +25,4 @@ _mc2_words() {
         mapfile -t COMPREPLY < <(compgen -f -- "$word")
     fi
 }
-complete -F _mc2_words mc2 mc2-view
+complete -F _mc2_words mc2 mc2-view ./mc2 ./view

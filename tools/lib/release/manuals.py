@@ -1,10 +1,15 @@
-"""The man pages, made from the documents and the headers by pandoc."""
+"""The man pages, which lie in the folder man: made from the documents and the headers by pandoc.
+
+The head of a page has a sum of what pandoc made it of, and one of the rest of the page. So one sees without pandoc whether it is
+current."""
+import hashlib
 import re
-import shutil
 from pathlib import Path
 
 from common import ROOT, Stop, run
 
+MANUALS = ROOT / "man"
+HEAD = '.\\" Made by tools/develop/manuals of a text with the sum {}; the page has {}\n'
 # Each page: its name and part, what it is in a line, and what it is made of: sections of a document (all, if none are named), or
 # a header.
 PAGES = [
@@ -21,10 +26,6 @@ PAGES = [
 # The library that a header's functions are in, where it has another name.
 LIBRARY_OF = {"mc2_own": "mc2_judge"}
 SEE_ALSO = "**mc2**(1), **mc2-view**(1), **mc2-record**(5), **mc2_cells**(3), **mc2_judge**(3), **mc2_own**(3)"
-
-
-def has_converter():
-    return shutil.which("pandoc") is not None
 
 
 def plain(text):
@@ -78,12 +79,39 @@ def source(name, part, what, made_of):
     return f"# NAME\n\n{name} - {what}\n\n{body}\n\n# SEE ALSO\n\n{SEE_ALSO}\n"
 
 
-def write_manuals(folder, version):
-    """Writes the pages below the folder, and returns how many."""
+def texts(version):
+    """Each page's place in the folder, its text as pandoc reads it, and the words for pandoc."""
     for name, part, what, made_of in PAGES:
-        out = folder / f"man{part}"
-        out.mkdir(parents=True, exist_ok=True)
         about = ["-M", f"title={name.upper()}", "-M", f"section={part}", "-M", f"footer=mc2 {version}"]
-        words = ["pandoc", "--standalone", "--from", "gfm", "--to", "man", *about, "-o", out / f"{name}.{part}"]
-        run(words, input=source(name, part, what, made_of).encode())
+        words = ["pandoc", "--standalone", "--from", "gfm", "--to", "man", *about]
+        yield f"man{part}/{name}.{part}", source(name, part, what, made_of), words
+
+
+def sum_of(text):
+    return hashlib.sha256(text.encode()).hexdigest()[:32]
+
+
+def with_head(text, words, page):
+    """The page that these words made of this text, behind its first line."""
+    return HEAD.format(sum_of("\0".join([text, *words])), sum_of(page)) + page
+
+
+def write_manuals(version):
+    """Makes all pages by pandoc, and returns how many."""
+    for at, text, words in texts(version):
+        page = MANUALS / at
+        page.parent.mkdir(parents=True, exist_ok=True)
+        page.write_text(with_head(text, words, run(words, input=text.encode()).stdout.decode()))
     return len(PAGES)
+
+
+def faults(version):
+    """What is wrong with the pages: one that isn't there or isn't current, and a file that is none."""
+    wanted = {at: (text, words) for at, text, words in texts(version)}
+    have = {str(it.relative_to(MANUALS)): it.read_text() for it in MANUALS.glob("*/*")}
+    yield from (f"man/{at}: no such page is made" for at in have if at not in wanted)
+    for at, made_of in wanted.items():
+        if at not in have:
+            yield f"man/{at}: it isn't there: tools/develop/manuals makes it"
+        elif have[at] != with_head(*made_of, have[at].partition("\n")[2]):
+            yield f"man/{at}: it isn't what tools/develop/manuals makes now"

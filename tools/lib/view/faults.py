@@ -1,4 +1,4 @@
-"""The picture of a record's first fault: what stands around it, what the object held, and what there should have been."""
+"""A record's first fault: what the object held, what there should have been, and the picture of what stands around it."""
 import re
 from contextlib import suppress
 
@@ -43,23 +43,39 @@ def near(boxes, row, at):
 def fault(drawn, model, it):
     record, apart = model.record, list(model.apart())
     marked = {(box.row, box.at) for box in apart if model.is_marked(box, True)}
+    number, event = place_of(model, it)
     if it.log is not None:
-        number = [named.name for named in record.objects].index(it.log)
-        event = it.event or record.objects[number].events + 1
+        event = event or record.objects[number].events + 1
         witness = {int(event) for event in re.findall(r"^ *event (\d{1,9}):", "\n".join(model.verdict.reasons), re.M)}
         named = [box for box in apart if box.row == number and box.at in witness | {event}]
         shown = named if witness else near(apart, number, event)
         drawn.say(f"The log of {it.log}" + (", as far as it shows the fault:" if witness else ", around the first fault:"))
         strip(drawn, model, shown, "event", marked, witness)
     else:
-        number, event = record.transcripts[it.cpu][it.entry - 1].object, model.claims.event_of.get((it.cpu, it.entry))
         drawn.say(f"The entries of CPU {it.cpu}, around the first fault:")
         strip(drawn, model, near(apart, len(record.logs) + it.cpu, it.entry), "entry", marked)
         drawn.say(f"The log of {record.objects[number].name} there:")
         strip(drawn, model, near(apart, number, event or len(record.logs[number])), "event", marked)
-    place = it, record.objects[number], record.logs[number], event
-    for words, kind in [*said_held(model, *place), *explained(model, number, *place)]:
+    for words, kind in told(model, it):
         drawn.say(words, kind)
+
+
+def place_of(model, it):
+    """The number of the object that the fault is at, and the event, if it is at one."""
+    if it.log is None:
+        return model.record.transcripts[it.cpu][it.entry - 1].object, model.claims.event_of.get((it.cpu, it.entry))
+    return [named.name for named in model.record.objects].index(it.log), it.event
+
+
+def told(model, it):
+    """What the object held at the fault, and what there should have been: lines of text with their kinds."""
+    number, event = place_of(model, it)
+    named = model.record.objects[number]
+    if it.log is not None:
+        event = event or named.events + 1
+    place = it, named, model.record.logs[number], event
+    yield from said_held(model, *place)
+    yield from explained(model, number, *place)
 
 
 def said_held(model, it, named, log, event):
