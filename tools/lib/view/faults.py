@@ -45,7 +45,6 @@ def fault(drawn, model, it):
     marked = {(box.row, box.at) for box in apart if model.is_marked(box, True)}
     number, event = place_of(model, it)
     if it.log is not None:
-        event = event or record.objects[number].events + 1
         witness = {int(event) for event in re.findall(r"^ *event (\d{1,9}):", "\n".join(model.verdict.reasons), re.M)}
         named = [box for box in apart if box.row == number and box.at in witness | {event}]
         shown = named if witness else near(apart, number, event)
@@ -61,19 +60,17 @@ def fault(drawn, model, it):
 
 
 def place_of(model, it):
-    """The number of the object that the fault is at, and the event, if it is at one."""
+    """The numbers of the object that the fault is at, and of its event: the first too many, if a log is too long."""
     if it.log is None:
         return model.record.transcripts[it.cpu][it.entry - 1].object, model.claims.event_of.get((it.cpu, it.entry))
-    return [named.name for named in model.record.objects].index(it.log), it.event
+    number = [named.name for named in model.record.objects].index(it.log)
+    return number, it.event or model.record.objects[number].events + 1
 
 
 def told(model, it):
     """What the object held at the fault, and what there should have been: lines of text with their kinds."""
     number, event = place_of(model, it)
-    named = model.record.objects[number]
-    if it.log is not None:
-        event = event or named.events + 1
-    place = it, named, model.record.logs[number], event
+    place = it, model.record.objects[number], model.record.logs[number], event
     yield from said_held(model, *place)
     yield from explained(model, number, *place)
 

@@ -97,16 +97,16 @@ function recall() {
 }
 
 const HELP = [
-  ["← →", "entry before, behind"], ["+ −", "closer, farther (wheel)"], ["↑ ↓", "row above, below"], ["0", "the whole run"],
-  ["[ ]", "event in the object's log"], ["Enter", "close to the chosen entry"], ["/", "search"], ["shift ← →", "along the run (drag)"],
-  ["n N", "found: next, before"], ["r", "taller rows"], ["o", "its object alone"],
+  ["← →", "before, behind"], ["+ −", "closer, farther (wheel)"], ["↑ ↓", "above, below"], ["0", "whole run"],
+  ["[ ]", "event in the object's log"], ["Enter", "close to the chosen entry"], ["/", "search"],
+  ["shift ← →", "along the run (drag)"], ["n N", "found: next, before"], ["r", "taller rows"], ["o", "its object alone"],
 ];
 
 function help() {
   const table = make("table");
   const fault = D.marked.length > 1 ? "next in the cycle; Esc clears" : "the first fault; Esc clears";
-  const cells = [...HELP, D.marked.length ? ["f", fault] : ["Esc", "clear all"]].map((row) => row.map((it) => make("td", {}, it)));
-  for (let at = 0; at < cells.length; at += 2) table.append(make("tr", {}, ...cells[at], ...cells[at + 1]));
+  const cells = [...HELP, D.marked.length ? ["f", fault] : ["Esc", "clear all"]].flat().map((it) => make("td", {}, it));
+  while (cells.length) table.append(make("tr", {}, ...cells.splice(0, 4)));
   const tails = hasTails() ? " A pale tail grows with how often the CPU looked at the lock." : "";
   return make("div", { id: "keys" }, make("div", {}, `${D.means}${tails} Hatched: no room in the log.`), table);
 }

@@ -9,11 +9,9 @@ from pathlib import Path
 from view.asked import STEPS, Refused
 
 MOST_WORDS, MOST_CPUS = 100_000, 64
-# What an entry takes at least: at a ticket lock it draws, looks and serves.
-LEAST_STEPS = 3
+LEAST_STEPS = 3  # what an entry takes at least: at a ticket lock it draws, looks and serves
 ENDS = {"serve", "pass", "empty the lock is free"}
-# What changes nothing if the CPU did it by its last step too.
-WAITS = {"look in vain", "see nobody"}
+WAITS = {"look in vain", "see nobody"}  # what changes nothing if the CPU did it by its last step too
 
 
 class Scripts:
