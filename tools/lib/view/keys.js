@@ -97,7 +97,7 @@ function recall() {
 }
 
 const HELP = [
-  ["← →", "before, behind"], ["+ −", "closer, farther (wheel)"], ["↑ ↓", "above, below"], ["0", "whole run"],
+  ["← →", "entry before, behind"], ["+ −", "closer, farther; wheel"], ["↑ ↓", "row above, below"], ["0", "whole run"],
   ["[ ]", "event in the object's log"], ["Enter", "close to the chosen entry"], ["/", "search"],
   ["shift ← →", "along the run (drag)"], ["n N", "found: next, before"], ["r", "taller rows"], ["o", "its object alone"],
 ];
