@@ -13,8 +13,8 @@ STYLE = f"""text{{font-family:{FONT};font-size:13px;fill:#1f2328}} .mono{{font-f
 .grey{{fill:#57606a}} .bad{{fill:#c0182b}} .link{{fill:#0757a8}} .head{{font-size:16px;font-weight:bold}}
 .dark{{fill:#1f2328}} .white{{fill:#fff}} .paper{{fill:#f6f8fa;stroke:#d0d7de}} .line{{fill:none;stroke:#d0d7de}}
 .frame{{fill:none;stroke:#c0182b;stroke-width:3}} .arrow,.kept{{fill:none;stroke:#0757a8;stroke-width:2}}
-@media(prefers-color-scheme:dark){{text{{fill:#e6edf3}} .grey{{fill:#9198a1}} .bad{{fill:#ff7b72}} .link{{fill:#79b8ff}}
-.dark{{fill:#1f2328}} .white{{fill:#fff}} .paper{{fill:#161b22;stroke:#30363d}} .line{{stroke:#30363d}}
+@media screen and (prefers-color-scheme:dark){{text{{fill:#e6edf3}} .grey{{fill:#9198a1}} .bad{{fill:#ff7b72}}
+.link{{fill:#79b8ff}} .dark{{fill:#1f2328}} .white{{fill:#fff}} .paper{{fill:#161b22;stroke:#30363d}} .line{{stroke:#30363d}}
 .frame{{stroke:#ff5a52}} .arrow,.kept{{stroke:#79b8ff}}}}"""
 
 
