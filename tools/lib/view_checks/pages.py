@@ -1,16 +1,14 @@
 """Pages in Chromium, each opened from its file: its boxes, keys, search and cards, its console, and how it looks."""
-import random
 import tempfile
 from pathlib import Path
 
 from common import ROOT, run
 from texts.record import read_record
-from view.claims import Claims, Placing
 from view.model import Model
 from view.pages import steps_page, timeline
-from view.verdict import Verdict, by_mc2, by_said
+from view.verdict import by_mc2, by_said
 from view_checks.browser import Browser, Lost
-from view_checks.drawn import drawn_entries, record_of, shown_run
+from view_checks.drawn import shown_run
 from view_checks.judges import MARKUP, OWN, WRONG
 from view_checks.models import same
 
@@ -67,10 +65,8 @@ def check_card(pages):
 
 
 def check_large(pages):
-    """80,000 entries of 64 CPUs: how soon they are drawn, and how fast again."""
-    text = record_of(64, 8, drawn_entries(random.Random(1), 64, 8, 80_000)).encode()
-    record = read_record(text)
-    model = Model(record, Verdict(order=Placing(Claims(record)).order))
+    """The model of 80,000 entries of 64 CPUs: how soon they are drawn, and how fast again."""
+    model = pages.checks.large_model
     pages.walk(model)
     took = pages.open(timeline(model))
     pages.look("80000_entries")

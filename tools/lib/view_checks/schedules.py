@@ -39,9 +39,9 @@ class Given:
         return found + ["a shorter beginning ends all scripts"] * bool(words and self.is_whole(words[: words[:-1].rfind("\n") + 1]))
 
 
-def by_chance(mc2, seed):
+def by_chance(mc2, seed, count):
     """Schedules of settings and scripts that are drawn. Where no draw ends them, CPUs take turns."""
-    for number in range(20):
+    for number in range(count):
         draw = random.Random(f"{seed} {number}")
         cpus, (kinds, tables) = draw.choice(CPUS[:-1]), draw_objects(draw)
         scripts = scripts_text(draw_scripts(draw, cpus, kinds, draw.choice([0, 1, 5, 160 // cpus])))
@@ -59,7 +59,7 @@ def by_chance(mc2, seed):
 
 def at_the_most(mc2, is_few):
     """Schedules of as many entries as are never refused, at one lock."""
-    for lock, cpus in ("ticket", 8), ("mcs", 8), ("ticket", 64):
+    for lock, cpus in (("mcs", 8), ("ticket", 64)) if is_few else (("ticket", 8), ("mcs", 8), ("ticket", 64)):
         scripts = "".join(f"{number % cpus} q0 len\n" for number in range(100_000 // (9 * cpus)))
         with tempfile.TemporaryDirectory(prefix="schedules-") as folder:
             given, name = Given(mc2, folder, cpus, QUEUE.format(lock), scripts), f"as many entries of {cpus} CPUs at one {lock} lock"
@@ -83,6 +83,6 @@ def too_many(mc2):
 
 def schedules(mc2, seed, is_few):
     """What is looked at, each with a list of what is wrong."""
-    yield from by_chance(mc2, seed)
+    yield from by_chance(mc2, seed, 8 if is_few else 20)
     yield from at_the_most(mc2, is_few)
     yield from too_many(mc2)
