@@ -1,5 +1,5 @@
-// A module for Linux whose CPUs call cells. Each has a kthread, which waits for an object; now and then it interrupts the next CPU,
-// whose handler tries, in a hard interrupt, and leaves a tasklet behind, which tries in a softirq. What was done is noted by
+// A module for Linux whose CPUs call cells. Each has a kthread, which waits for an object; now and then it interrupts the next
+// CPU, whose handler tries, in a hard interrupt, and leaves a tasklet behind, which tries in a softirq. What was done is noted by
 // mc2_note.h, in memory of each caller's own. The record is read from /proc/mc2_record, and a few words about it go to the
 // kernel's log. Nothing here is proved.
 //
@@ -51,7 +51,7 @@ static struct mc2_object objects[OBJECTS] = {
 
 // What a number has for itself, on a line of its own.
 static struct own {
-    u32 random, done, busy, full, wrong;
+    u32 random, done, busy, full, lost, wrong;
     u64 took;
 } ____cacheline_aligned_in_smp own[NUMBERS];
 
@@ -162,11 +162,13 @@ static void call_hard(void *none) {
 
 static void call_nothing(void *none) {}
 
-// Nobody takes the CPU from who has an object or is in line for it.
+// Nobody takes the CPU from who has an object or is in line for it; or else it counts how often that was done.
 static void call_staying(u32 number) {
+    unsigned long lost = current->nivcsw;
     if (stays)
         preempt_disable();
     call(number, tries ? TRIES_ON : WAITS);
+    own[number].lost += current->nivcsw - lost;
     if (stays)
         preempt_enable();
 }
@@ -279,14 +281,15 @@ static u32 close_cells(void) {
 }
 
 static void say_calls(u32 wrong) {
-    u32 calls_in[CONTEXTS] = {0}, busy = 0, full = 0;
+    u32 calls_in[CONTEXTS] = {0}, busy = 0, full = 0, lost = 0;
     for (u32 number = 0; number < numbers; number++) {
         calls_in[number / cpus] += own[number].done;
         busy += own[number].busy;
         full += own[number].full;
+        lost += own[number].lost;
     }
     pr_notice("calls of kthreads: %u, of hard interrupts: %u, of softirqs: %u\n", calls_in[TASK], calls_in[HARD], calls_in[SOFT]);
-    pr_notice("%u busy, %u without room, %u answers that can't be\n", busy, full, wrong);
+    pr_notice("%u busy, %u without room, %u lost their CPU, %u answers that can't be\n", busy, full, lost, wrong);
 }
 
 static int load(void) {
