@@ -3,7 +3,7 @@
 // mc2_note.h, in memory of each caller's own. The record is read from /proc/mc2_record, and a few words about it go to the
 // kernel's log. Nothing here is proved.
 //
-// insmod does the whole load, and fails if something isn't as it has to be. The words are below. No CPU may go or come meanwhile.
+// insmod does the whole load, and fails if something isn't as it has to be. No CPU may go or come meanwhile.
 #define pr_fmt(text) "mc2_load: " text
 
 #include <linux/completion.h>
@@ -82,20 +82,14 @@ static struct mc2_call any_call(u32 object, u32 number) {
     return mc2_ask(first[object] + some, draw(number, THREADS), draw(number, THREADS));
 }
 
-// Gets the object, or tells MC2_CELL_BUSY.
-static u32 get(struct mc2_caller *caller, enum how how, u64 *looks) {
-    u32 told = how == WAITS ? mc2_acquire(caller, looks) : MC2_STEP(mc2_caller_try(caller));
-    for (; how == TRIES_ON && told == MC2_CELL_BUSY; told = MC2_STEP(mc2_caller_try(caller)))
-        cpu_relax();
-    return told;
-}
-
 // A call by a caller of the cell, and the turn that it was. A number has a turn for each event of a log that both have begun
 // together, so either both are full or none is.
 static bool call_cell(u32 object, u32 number, enum how how, struct mc2_step *step, u64 *looks, u32 *turn) {
     struct mc2_caller *caller = &callers[object][number];
     struct mc2_reply reply = {MC2_REPLY_WORDS, 0};
-    u32 got = get(caller, how, looks), told;
+    u32 got = how == WAITS ? mc2_acquire(caller, looks) : MC2_STEP(mc2_caller_try(caller)), told;
+    for (; how == TRIES_ON && got == MC2_CELL_BUSY; got = MC2_STEP(mc2_caller_try(caller)))
+        cpu_relax();
     if (got == MC2_CELL_BUSY)
         return false;
     own[number].wrong += got != MC2_CELL_ENTERED && got != MC2_CELL_FOUND;
@@ -235,8 +229,8 @@ static void end_interrupts(void) {
 static int open_notes(void) {
     size_t pieces = 2 * (size_t)calls + MC2_NOTE_PIECES;
     for (u32 number = 0; number < numbers; number++) {
-        union mc2_note_piece *memory = mc2_get_block(pieces * sizeof *memory);
-        if (mc2_open_notes(&notes[number], memory, pieces) != MC2_DONE)
+        struct mc2_taken memory = rattle_alloc(pieces * sizeof(union mc2_note_piece), 0);
+        if (!memory.is_there || mc2_open_notes(&notes[number], memory.at, pieces) != MC2_DONE)
             return -ENOMEM;
         own[number].random = number + 1;
     }
@@ -248,7 +242,7 @@ static int open_notes(void) {
 
 static void free_notes(void) {
     for (u32 number = 0; number < NUMBERS; number++) {
-        mc2_free_block(notes[number].memory);
+        rattle_dealloc(notes[number].memory);
         notes[number].memory = NULL;
     }
 }
@@ -262,19 +256,15 @@ static int open_cells(void) {
     return 0;
 }
 
-// Closes a cell, whose log has an event for each turn.
-static u32 close_cell(u32 object) {
-    u32 wrong = mc2_cells_close(&cells[object], callers[object], numbers) != MC2_CELL_DONE, turn = 0;
-    struct mc2_logged_step told;
-    while (mc2_cell_step(&cells[object], turn, 0, &told) == MC2_CELL_DONE)
-        turn++;
-    return wrong + (turn != turns[object].next);
-}
-
+// Closes the cells, each of whose logs ends with the last turn, and tells what went wrong till then.
 static u32 close_cells(void) {
+    struct mc2_logged_step told;
     u32 wrong = 0;
-    for (u32 object = 0; object < object_count && way == CELLS; object++)
-        wrong += close_cell(object);
+    for (u32 object = 0; object < object_count && way == CELLS; object++) {
+        wrong += mc2_cells_close(&cells[object], callers[object], numbers) != MC2_CELL_DONE;
+        wrong += turns[object].next > 0 && mc2_cell_step(&cells[object], turns[object].next - 1, 0, &told) != MC2_CELL_DONE;
+        wrong += mc2_cell_step(&cells[object], turns[object].next, 0, &told) != MC2_CELL_NOT_THERE;
+    }
     for (u32 number = 0; number < numbers; number++)
         wrong += own[number].wrong;
     return wrong;
@@ -332,7 +322,7 @@ static void begin(void) {
     noted.object_count = object_count;
     noted.cpus = numbers;
     for (u32 object = 0; object < OBJECTS; object++)
-        objects[object].events = min_t(u32, EVENTS, numbers * calls);
+        objects[object].events = min_t(u32, MC2_MOST_EVENTS, numbers * calls);
     for (u32 cpu = 0; cpu < cpus; cpu++)
         tasklet_setup(&tasklets[cpu], call_softly);
 }
@@ -348,8 +338,8 @@ static int __init load_init(void) {
     }
     begin();
     failure = speed ? say_stack() ?: time_all() : load();
-    if (!failure && !speed && !proc_create_single("mc2_record", 0400, NULL, show_record))
-        failure = -ENOMEM;
+    if (!speed && !failure)
+        failure = proc_create_single("mc2_record", 0400, NULL, show_record) ? 0 : -ENOMEM;
     if (failure) {
         free_notes();
         pr_notice("failed: %d; %ld blocks not given back\n", failure, atomic_long_read(&mc2_blocks));

@@ -4,7 +4,6 @@
 
 #include <linux/irqflags.h>
 #include <linux/kernel.h>
-#include <linux/processor.h>
 
 // No C library, so no naps either: a caller that waits has preemption off.
 #define MC2_FREESTANDING
@@ -24,17 +23,12 @@
 // What opens, closes and frees calls the kernel's heap, which may sleep.
 #define MC2_OPENING(call) (call)
 
-#define MC2_PAUSE(looks) \
-    do { \
-        for (uint32_t mc2_left = (uint32_t)1 << (looks) % MC2_ROUND; mc2_left > 0; mc2_left--) \
-            cpu_relax(); \
-    } while (0)
-
 #include "mc2_cells.h"
 
-// A block of memory, or NULL; and one is given back.
-void *mc2_get_block(size_t size);
-void mc2_free_block(void *at);
+// A block of memory, and whether it is there; and one is given back, or NULL.
+struct mc2_taken { bool is_there; void *at; };
+struct mc2_taken rattle_alloc(size_t size, size_t align);
+void rattle_dealloc(void *at);
 
 // How many blocks were taken and not given back; and from 1 on, which is refused, counted down.
 extern atomic_long_t mc2_blocks;

@@ -1,4 +1,4 @@
-// What load.c measures: the stack that the library takes, and the time of calls.
+// What load.c measures: the stack that the library takes, and the time of calls beside those behind the kernel's spinlock.
 enum { MARK = 0x5a, NEAR = 128 };
 
 static int run_all(void);
@@ -32,21 +32,15 @@ static noinline size_t stack_used(void) {
         mc2_is_done; \
     })
 
-static struct mc2_batch batch = {MC2_MOST_CALLS};
-
-static void draw_batch(u32 object) {
-    for (u32 at = 0; at < MC2_MOST_CALLS; at++)
-        batch.calls[at] = any_call(object, 0);
-}
-
 static int say_stack(void) {
+    static struct mc2_batch batch = {MC2_MOST_CALLS};
     static struct mc2_replies replies;
     size_t openings = 0, whole = 0, batches = 0;
     struct mc2_reply reply;
     u64 looks;
     bool is_right = true;
     for (u32 at = 0; at < OBJECTS && is_right; at++) {
-        draw_batch(at);
+        batch.calls[0] = any_call(at, 0);
         is_right = USES(openings, mc2_cells_open(&measured, &objects[at], of_measured, 1)) &&
                    USES(whole, mc2_cell_call(of_measured, &batch.calls[0], &reply, &looks)) &&
                    USES(batches, mc2_cell_batch(of_measured, &batch, &replies, &looks));
@@ -99,8 +93,5 @@ static int time_one(const char *name, u32 lock_word) {
 static int time_all(void) {
     int failure = time_one("ticket cell", MC2_TICKET) ?: time_one("mcs cell", MC2_MCS);
     way = SPIN;
-    plain.log = mc2_get_block(EVENTS * sizeof *plain.log);
-    failure = failure ?: plain.log ? time_one("the kernel's spinlock", MC2_TICKET) : -ENOMEM;
-    mc2_free_block(plain.log);
-    return failure;
+    return failure ?: time_one("the kernel's spinlock", MC2_TICKET);
 }

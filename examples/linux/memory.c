@@ -7,39 +7,24 @@
 
 enum { ALIGNED = 16 };
 
-struct mc2_taken {
-    bool is_there;
-    void *at;
-};
-
-struct mc2_taken rattle_alloc(size_t size, size_t align);
-void rattle_dealloc(void *at);
-
 atomic_long_t mc2_blocks;
 uint mc2_refused;
 
-// Up to a page kmalloc aligns blocks whose size is a power of two to that size, and kvmalloc aligns longer ones to more.
-void *mc2_get_block(size_t size) {
-    size_t room = size > PAGE_SIZE ? size : roundup_pow_of_two(max_t(size_t, size, ALIGNED));
+// Up to a page kmalloc aligns blocks whose size is a power of two to that size, and kvmalloc aligns longer ones to more. The second
+// word is never NULL.
+struct mc2_taken rattle_alloc(size_t size, size_t align) {
+    size_t wanted = max_t(size_t, size > 0 ? size : align, ALIGNED);
     bool is_refused = mc2_refused > 0 && --mc2_refused == 0;
-    void *at = is_refused ? NULL : kvmalloc(room, GFP_KERNEL);
+    void *at = is_refused ? NULL : kvmalloc(wanted > PAGE_SIZE ? wanted : roundup_pow_of_two(wanted), GFP_KERNEL);
     WARN_ON_ONCE(irqs_disabled() || (uintptr_t)at % ALIGNED != 0);
     if (at)
         atomic_long_inc(&mc2_blocks);
-    return at;
+    return (struct mc2_taken){at != NULL, at ? at : &mc2_blocks};
 }
 
-void mc2_free_block(void *at) {
+void rattle_dealloc(void *at) {
     WARN_ON_ONCE(irqs_disabled());
     if (at)
         atomic_long_dec(&mc2_blocks);
     kvfree(at);
 }
-
-// The second word is never NULL.
-struct mc2_taken rattle_alloc(size_t size, size_t align) {
-    void *at = mc2_get_block(size > 0 ? size : align);
-    return (struct mc2_taken){at != NULL, at ? at : &mc2_blocks};
-}
-
-void rattle_dealloc(void *at) { mc2_free_block(at); }
