@@ -30,7 +30,7 @@ WORD(lock, charp, "cells; or a queue in C behind the kernel's own spinlock, or b
 static bool tries;
 WORD(tries, bool, "kthreads try again and again too, so that nobody is in line");
 static bool stays = true;
-WORD(stays, bool, "0: a kthread may lose its CPU while it is in line or has an object");
+WORD(stays, bool, "0: a kthread may lose its CPU while it is in line, and now and then gives it up while it has an object");
 static bool speed;
 WORD(speed, bool, "in place of the load measures stack, and the time of calls beside those behind the kernel's spinlock");
 WORD(mc2_refused, uint, "from 1 on: which block of memory is refused; then insmod fails, and loses none");
@@ -38,7 +38,7 @@ WORD(mc2_refused, uint, "from 1 on: which block of memory is refused; then insmo
 // Each CPU has a number for each context in which it calls, and each is a CPU of its own for the cells.
 enum { TASK, HARD, SOFT, CONTEXTS };
 enum { MOST_LINUX_CPUS = MC2_MOST_CPUS / CONTEXTS, NUMBERS = MOST_LINUX_CPUS * CONTEXTS, OBJECTS = 4 };
-enum { CALLS_TO_INTERRUPT = 4, CALLS_TO_RESCHEDULE = 64, MOST_PAUSES = 64 };
+enum { CALLS_TO_INTERRUPT = 4, CALLS_TO_YIELD = 16, CALLS_TO_RESCHEDULE = 64, MOST_PAUSES = 64 };
 enum { THREADS = 18, SIZE = 16, BYTES = 32, CHANNELS = 4 };
 
 // A log has room for all calls of a load, if a log can have it.
@@ -94,6 +94,8 @@ static bool call_cell(u32 object, u32 number, enum how how, struct mc2_step *ste
         return false;
     own[number].wrong += got != MC2_CELL_ENTERED && got != MC2_CELL_FOUND;
     *turn = mc2_take_turn(&turns[object], &notes[number]);
+    if (!stays && how == WAITS && *turn % CALLS_TO_YIELD == 0)
+        yield();
     told = MC2_STEP(mc2_caller_apply(caller, &step->call, &reply));
     own[number].wrong += told != (*turn == MC2_NO_TURN ? MC2_CELL_FULL : MC2_CELL_DONE);
     own[number].wrong += mc2_release(caller) != MC2_CELL_LEFT;
@@ -158,11 +160,11 @@ static void call_nothing(void *none) {}
 
 // Nobody takes the CPU from who has an object or is in line for it; or else it counts how often that was done.
 static void call_staying(u32 number) {
-    unsigned long lost = current->nivcsw;
+    unsigned long lost = current->nivcsw + current->nvcsw;
     if (stays)
         preempt_disable();
     call(number, tries ? TRIES_ON : WAITS);
-    own[number].lost += current->nivcsw - lost;
+    own[number].lost += current->nivcsw + current->nvcsw - lost;
     if (stays)
         preempt_enable();
 }
