@@ -8,8 +8,7 @@ use Rattle.sound_run.specs.declared.limits.TheConstants.{MOST_CPUS}
 use Rattle.word_rule.specs.declared.lock_algorithm.LockAlgorithm.{LockAlgorithm}
 use Rattle.word_rule.specs.declared.lock_algorithm.LockAlgorithm.TheVariants as kinds
 use Rattle.word_rule.specs.declared.lock_kind.Stage.{Stage}
-use Rattle.word_rule.specs.declared.lock_kind.Stage.TheVariants.{Idle, Toggle, Trying}
-use Rattle.word_rule.specs.declared.toggle_stage.ToggleStage.TheVariants as toggle
+use Rattle.word_rule.specs.declared.lock_kind.Stage.TheVariants.{Idle, Trying}
 use Rattle.word_rule.specs.Line.{First}
 use Rattle.word_rule.specs.LockDefinition.{LockState}
 use Rattle.word_rule.specs.Locks.{Fits, IsLock, Lock, definition_of, holder, holding, lock_of, served, opening_lock, erase, prepare, state_of, turn}
@@ -19,13 +18,11 @@ use Rattle.word_rule.proofs.LockInterface.{LockLaws, NoneTries, Tries, is_idle, 
 use Rattle.word_rule.proofs.LockStates as states
 use Rattle.word_rule.proofs.Mcs.Laws.{mcs_laws}
 use Rattle.word_rule.proofs.Ticket.Laws.{ticket_laws}
-use Rattle.word_rule.proofs.Toggle.Laws.{toggle_laws}
 
 -- one line for each lock
 pub laws_of : (kind : LockAlgorithm) → LockLaws (definition_of kind)
 laws_of kinds.Ticket = ticket_laws
 laws_of kinds.Mcs = mcs_laws
-laws_of kinds.Toggle = toggle_laws
 
 -- what is shown of each state of a definition is shown of each lock of its kind
 pub at_kind : (kind : LockAlgorithm) (P : Lock → Type 0) → ((s : LockState (definition_of kind).Extra) → P (lock_of kind s)) → (l : Lock) → l.kind ≡ kind → P l
@@ -49,7 +46,6 @@ holds kind mark = (laws_of kind).holds mark
 -- one that has the object has prepared no try
 pub held_untried : (q : Stage) → holding q ≡ true → is_trying q ≡ false
 held_untried Trying e = absurd (true≢false (sym e))
-held_untried (Toggle (toggle.Trying own)) e = absurd (true≢false (sym e))
 held_untried q e = refl
 
 module _ (n : ℕ) (l : Lock) (h : IsLock n l) where

@@ -17,20 +17,17 @@ use Rattle.word_rule.proofs.LockLaws.{turn_keeps, turn_whole}
 use Rattle.word_rule.proofs.LockProgress.{FirstOn, LockFairness, LockProgress, OneOnAt}
 use Rattle.word_rule.proofs.Mcs.Progress.{mcs_fairness, mcs_progress}
 use Rattle.word_rule.proofs.Ticket.Progress.{ticket_fairness, ticket_progress}
-use Rattle.word_rule.proofs.Toggle.Progress.{toggle_fairness, toggle_progress}
 
 -- one line for each lock
 pub progress_of : (kind : LockAlgorithm) → LockProgress (definition_of kind) (most_steps_of kind)
 progress_of kinds.Ticket = ticket_progress
 progress_of kinds.Mcs = mcs_progress
-progress_of kinds.Toggle = toggle_progress
 
 -- one line for each lock at which every call ends
 pub fairness_of : (kind : LockAlgorithm) → LockFairness (definition_of kind) (most_steps_of kind) (progress_of kind)
 unfolding progress_of
 fairness_of kinds.Ticket = ticket_fairness
 fairness_of kinds.Mcs = mcs_fairness
-fairness_of kinds.Toggle = toggle_fairness
 
 -- whether a CPU's next turn gets it on
 abbrev pub gets_on : Lock → ℕ → Bool
@@ -51,7 +48,6 @@ some_left l i = let p = progress_of l.kind in p.some_left (l.line.stage i)
 pub most_few : (kind : LockAlgorithm) → most_steps_of kind ≤ most_steps
 most_few kinds.Ticket = omega arith
 most_few kinds.Mcs = omega arith
-most_few kinds.Toggle = omega arith
 
 pub few_left : (l : Lock) (i : ℕ) → left_at l i ≤ most_steps_of l.kind
 few_left l i = let p = progress_of l.kind in p.few_left (l.line.stage i)

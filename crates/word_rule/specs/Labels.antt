@@ -19,4 +19,3 @@ shown_by (labels.Groups first others) = groups first.now (map (λ label. label.n
 abbrev pub labels_of : LockAlgorithm → WordLabels
 labels_of kinds.Ticket = halves (codes "next") (codes "serving")
 labels_of kinds.Mcs = groups (codes "tail") (codes "next" ∷ codes "locked" ∷ [])
-labels_of kinds.Toggle = groups (codes "tail") (codes "toggle" ∷ [])

@@ -8,17 +8,15 @@ use Rattle.word_rule.specs.Line.{Line}
 use Rattle.word_rule.specs.LockDefinition.{LockDefinition, LockState, IsState, opening_state}
 use Rattle.word_rule.specs.Mcs.Definition.{mcs_lock}
 use Rattle.word_rule.specs.Ticket.Definition.{ticket_lock}
-use Rattle.word_rule.specs.Toggle.Definition.{toggle_lock}
 
 -- one line for each lock
 abbrev pub definition_of : LockAlgorithm → LockDefinition
 definition_of kinds.Ticket = ticket_lock
 definition_of kinds.Mcs = mcs_lock
-definition_of kinds.Toggle = toggle_lock
 
 -- whether a caller that stands there has the object, at some lock
 abbrev pub holding : Stage → Bool
-holding q = ticket_lock.holding q || mcs_lock.holding q || toggle_lock.holding q
+holding q = ticket_lock.holding q || mcs_lock.holding q
 
 -- a lock of some kind: its line, and what that kind has beside
 pub record Lock : Type 0 where

@@ -22,7 +22,6 @@ impl LockAlgorithm {
         match self {
             LockAlgorithm::Ticket => Labels::Halves("next", "serving"),
             LockAlgorithm::Mcs => Labels::Groups("tail", &["next", "locked"]),
-            LockAlgorithm::Toggle => Labels::Groups("tail", &["toggle"]),
         }
     }
 }

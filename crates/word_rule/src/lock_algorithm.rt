@@ -12,8 +12,6 @@ pub enum LockAlgorithm {
     Ticket,
     /// An MCS lock (Mellor-Crummey and Scott 1991).
     Mcs,
-    /// A toggle lock (after Graunke and Thakkar 1990).
-    Toggle,
 }
 
 impl LockAlgorithm {

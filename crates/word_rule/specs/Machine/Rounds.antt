@@ -28,7 +28,6 @@ go_round n (suc k) = numbers 0 n ++ go_round n k
 abbrev pub most_steps_of : LockAlgorithm → ℕ
 most_steps_of kinds.Ticket = 3
 most_steps_of kinds.Mcs = 9
-most_steps_of kinds.Toggle = 5
 
 -- the most of them at any lock
 abbrev pub most_steps : ℕ

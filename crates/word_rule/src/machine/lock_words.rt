@@ -8,7 +8,6 @@ ghost use Rattle.word_rule.specs.Rule.LockStates.{IsLockOf};
 use crate::machine::mcs::turn_mcs;
 use crate::machine::step_done::StepDone;
 use crate::machine::ticket::turn_ticket;
-use crate::machine::toggle::turn_toggle;
 use crate::{LockAlgorithm, Stage, TICKETS, word_with};
 use event_log::OutOfMemory;
 use sound_run::MOST_CPUS;
@@ -52,7 +51,6 @@ impl LockWords {
         match self.kind {
             LockAlgorithm::Ticket => turn_ticket(&mut self.words, &mut self.stages, cpu),
             LockAlgorithm::Mcs => turn_mcs(&mut self.words, &mut self.stages, cpu),
-            LockAlgorithm::Toggle => turn_toggle(&mut self.words, &mut self.stages, cpu),
         }
     }
 }
@@ -73,6 +71,5 @@ fn new_words(
             Ok(vec![in alloc; word_with(first, first); 1]?)
         }
         LockAlgorithm::Mcs => Ok(vec![in alloc; 0; 1 + 2 * cpus]?),
-        LockAlgorithm::Toggle => Ok(vec![in alloc; 0; 1 + cpus]?),
     }
 }
