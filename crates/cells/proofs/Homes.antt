@@ -9,7 +9,6 @@ use Rattle.event_log.specs.declared.object.SeqObject.{Ghosts}
 use Rattle.event_log.specs.History.{History}
 use Rattle.sound_run.specs.declared.lock_kind.LockKind.{LockKind}
 use Rattle.word_rule.specs.declared.pass.Pass.{Pass}
-use Rattle.word_rule.specs.Algorithms.{algorithm_of}
 use Rattle.word_rule.specs.Cell.{EachAt, OwnsAll, first_pass}
 use Rattle.word_rule.specs.Passes.{view_of_pass}
 use Rattle.sound_run.proofs.Slices.{some_at}
@@ -82,7 +81,7 @@ module _ {O P C R : Type 0} {g : Ghosts O P C R} {call_eq : Eq C} {call_default 
 
   -- the passes of a new cell
   module _ (kind : LockKind) (logged : History O P C R) (cpus : ℕ) (cell : AnyCell O P C R) (ps : List (Pass O P C R g call_eq call_default reply_eq reply_default))
-      (new : EachAt (λ k p. IsPassOf cell p × (view_of_pass p ≡ first_pass (algorithm_of kind) 0 logged cpus k)) ps) where
+      (new : EachAt (λ k p. IsPassOf cell p × (view_of_pass p ≡ first_pass kind 0 logged cpus k)) ps) where
     pub new_home : AreHome cell ps
     new_home k p there =
         let is = (new k p there).1 in

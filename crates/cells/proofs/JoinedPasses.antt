@@ -10,7 +10,6 @@ use Rattle.event_log.specs.History.{History, IsKept}
 use Rattle.sound_run.specs.declared.lock_kind.LockKind.{LockKind}
 use Rattle.sound_run.proofs.Slices.{some_at}
 use Rattle.word_rule.specs.declared.pass.Pass.{Pass}
-use Rattle.word_rule.specs.Algorithms.{algorithm_of}
 use Rattle.word_rule.specs.Cell.{EachAt, Grows, OwnsAll, cell_of, first_pass, stored}
 use Rattle.word_rule.specs.Passes.{view_of_pass}
 use Rattle.word_rule.proofs.Lists.{same_log, of_opening}
@@ -84,11 +83,11 @@ module _ {O P C R : Type 0} {g : Ghosts O P C R} {call_eq : Eq C} {call_default 
 
   -- the passes of a new cell
   module _ (kind : LockKind) (logged : History O P C R) (cpus : ℕ) (cell : AnyCell O P C R) (ps : List (Pass O P C R g call_eq call_default reply_eq reply_default))
-      (new : EachAt (λ k p. IsPassOf cell p × (view_of_pass p ≡ first_pass (algorithm_of kind) 0 logged cpus k)) ps) where
+      (new : EachAt (λ k p. IsPassOf cell p × (view_of_pass p ≡ first_pass kind 0 logged cpus k)) ps) where
     pub new_unused : EachAt (λ _ p. IsUnused cell p) ps
     new_unused k p there =
         let is = new k p there in
-        let fixed : fixed_of cell ≡ cell_of (algorithm_of kind) 0 cpus logged = sym (told_of cell p is.0) ∙ ap (λ v. v.caller.cell) is.1 in
+        let fixed : fixed_of cell ≡ cell_of kind 0 cpus logged = sym (told_of cell p is.0) ∙ ap (λ v. v.caller.cell) is.1 in
         record { pass = is.0; none = λ j mine. ap (λ v. of j v.seen) is.1 ∙ sym (ap (λ h. of j h.opening) fixed) }
 
     pub new_each : EachAt (λ k p. (view_of_pass p).caller.owned k ≡ true) ps
@@ -98,5 +97,5 @@ module _ {O P C R : Type 0} {g : Ghosts O P C R} {call_eq : Eq C} {call_default 
     new_left some kept =
         let one = some_at ps 0 some in
         let is = new 0 one.0 one.1 in
-        let fixed : fixed_of cell ≡ cell_of (algorithm_of kind) 0 cpus logged = sym (told_of cell one.0 is.0) ∙ ap (λ v. v.caller.cell) is.1 in
+        let fixed : fixed_of cell ≡ cell_of kind 0 cpus logged = sym (told_of cell one.0 is.0) ∙ ap (λ v. v.caller.cell) is.1 in
         ap (λ h. stored g h h.opening) fixed ∙ ap (λ s. record logged { state = s }) (sym kept.replayed)

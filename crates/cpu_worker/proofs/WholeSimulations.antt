@@ -15,7 +15,6 @@ use Rattle.scripts.specs.ScriptText.{ScriptFits, ScriptsFit}
 use Rattle.scripts.specs.Settings.{Settings, SettingsFit}
 use Rattle.sound_run.specs.declared.limits.TheConstants.{MOST_CPUS}
 use Rattle.sound_run.proofs.Slices.{get_map}
-use Rattle.word_rule.specs.Algorithms.{algorithm_of}
 use Rattle.word_rule.proofs.Openings.{all_at}
 use Rattle.word_rule.proofs.LockLaws.{few_fit}
 use Rattle.word_rule.specs.Machine.Opening.{IsOpening, IsOpeningCell, opening_cpu}
@@ -61,7 +60,7 @@ module _ (settings : Settings) (scripts : List (List KernelTodo)) where
     is_opening = record {
       cells = λ x c e.
           let a = get_map new_cell settings.objects x c e in
-          subst (λ k. IsOpeningCell (length (new_world settings scripts).cpus) k) a.2 record { first = 0; fits = few_fit (algorithm_of a.0.lock) (length (new_world settings scripts).cpus) (subst (λ n. n ≤ MOST_CPUS) (sym cpu_count) fit.cpus.1); free = refl; empty = refl };
+          subst (λ k. IsOpeningCell (length (new_world settings scripts).cpus) k) a.2 record { first = 0; fits = few_fit a.0.lock (length (new_world settings scripts).cpus) (subst (λ n. n ≤ MOST_CPUS) (sym cpu_count) fit.cpus.1); free = refl; empty = refl };
       cpus = λ i c e. let a = get_map opening_cpu scripts i c e in subst (λ (k : KernelCpu). k ≡ opening_cpu k.todo) a.2 refl;
       able = λ i c e.
           let a = get_map opening_cpu scripts i c e in

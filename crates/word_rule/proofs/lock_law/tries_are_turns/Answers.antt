@@ -1,5 +1,5 @@
 use Rattle.std.proofs.Common.{◌≡◌, ◌<◌, [], ◌∷◌, ap}
-use Rattle.word_rule.specs.declared.lock_algorithm.LockAlgorithm.TheVariants as kinds
+use Rattle.sound_run.specs.declared.lock_kind.LockKind.TheVariants as kinds
 use Rattle.word_rule.specs.declared.lock_kind.Stage.TheVariants.{Idle}
 use Rattle.word_rule.specs.Locks.{Lock, attempt, lock_of, served, prepare, turn}
 use Rattle.word_rule.specs.Ticket.State.{tickets}

@@ -1,5 +1,5 @@
 use Rattle.std.proofs.Common.{◌∷◌, [], ◌∙◌, ap, arith, sym, subst}
-use Rattle.word_rule.specs.declared.lock_algorithm.LockAlgorithm.TheVariants as kinds
+use Rattle.sound_run.specs.declared.lock_kind.LockKind.TheVariants as kinds
 use Rattle.word_rule.specs.LockDefinition.{opening_state}
 use Rattle.word_rule.specs.Locks.{definition_of, opening_lock}
 use Rattle.word_rule.specs.Rule.LockStates.{IsLockOf}
