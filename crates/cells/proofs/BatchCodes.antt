@@ -1,6 +1,6 @@
 -- Calls of a batch, one after another.
 use Rattle.std.proofs.Common.{◌≡◌, ℕ, zero, suc, ◌<◌, ◌≤◌, List, [], ◌∷◌, ◌∙◌, length, get_or, map, take, ap, refl, arith, Option, Some, None}
-use Rattle.scripts.specs.declared.objects.kernel_call.KCall.{KCall}
+use Rattle.kernel_object.specs.declared.call.KCall.{KCall}
 use Rattle.cells.specs.declared.coding.Asked.{Asked}
 use Rattle.cells.specs.Coding.{called_of}
 use Rattle.cells.specs.BatchCodes.{with_call, calls_of}

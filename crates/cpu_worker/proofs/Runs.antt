@@ -6,12 +6,12 @@ use Rattle.std.proofs.lemmas.Simd.{map-map}
 use Rattle.std.proofs.lemmas.Option.{slice_get_within}
 use Rattle.event_log.specs.Entries.{asked_of}
 use Rattle.event_log.proofs.Each.{all_map}
+use Rattle.kernel_object.specs.declared.call.KParams.{KParams}
+use Rattle.kernel_object.specs.contracts.object.KernelObjectSeqObject.TheImpl.{ghosts as kernel}
+use Rattle.kernel_object.specs.KernelTypes.{KernelEntry, KernelTodo, KernelRun}
 use Rattle.guarded_cell.specs.Workers.{ArePasses, HasDone, opened_of_cell}
 use Rattle.guarded_cell.specs.Runs.{EachJoins, Worked, AllWorked, run_left}
 use Rattle.guarded_cell.proofs.Workers.{views_of}
-use Rattle.scripts.specs.contracts.objects.kernel_object.KernelObjectSeqObject.TheImpl.{ghosts as kernel}
-use Rattle.scripts.specs.declared.objects.kernel_call.KParams.{KParams}
-use Rattle.scripts.specs.KernelTypes.{KernelEntry, KernelTodo, KernelRun}
 use Rattle.scripts.specs.Runs.{TranscriptAsks, opened_of}
 use Rattle.scripts.specs.ScriptText.{TodoFits, ScriptFits, ScriptsFit}
 use Rattle.scripts.specs.Settings.{Settings, SettingsFit, ObjectFits}

@@ -5,7 +5,7 @@ use Rattle.std.specs.Option.{option_map_or}
 use Rattle.std.proofs.Math.ListN.{set}
 use Rattle.std.proofs.lemmas.Option.{slice_get_within}
 use Rattle.event_log.specs.declared.entry.Done.TheVariants as done
-use Rattle.scripts.specs.KernelTypes.{KernelEvent, KernelDone, KernelSteps, KernelRun}
+use Rattle.kernel_object.specs.KernelTypes.{KernelEvent, KernelDone, KernelSteps, KernelRun}
 use Rattle.scripts.specs.RecordText.{step_words, done_words}
 use Rattle.scripts.specs.Settings.{Settings, name_at}
 use Rattle.scripts.specs.Words.{separated}

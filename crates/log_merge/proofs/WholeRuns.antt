@@ -4,8 +4,8 @@ use Rattle.std.specs.Prelude.{unwrap_or}
 use Rattle.std.specs.List.{AllByRecursion}
 use Rattle.std.proofs.lemmas.Option.{slice_get_within}
 use Rattle.sound_run.specs.Sound.{transcript_of}
+use Rattle.kernel_object.specs.KernelTypes.{KernelRun}
 use Rattle.scripts.specs.declared.script.cpu_scripts.TheConstants.{MOST_ENTRIES}
-use Rattle.scripts.specs.KernelTypes.{KernelRun}
 use Rattle.scripts.specs.declared.record.form.TheConstants.{WRITTEN}
 use Rattle.scripts.specs.RecordRanges.{EntryFits, LogFits, TranscriptFits, RunFits}
 use Rattle.scripts.specs.Settings.{Settings}

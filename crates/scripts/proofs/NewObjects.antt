@@ -7,7 +7,7 @@ use Rattle.std.proofs.lemmas.Slice.Eq.{bytes_eq-Decides}
 use Rattle.std.specs.List.{AllByRecursion, list_all, list_any}
 use Rattle.std.specs.Option.{option_map_or}
 use Rattle.sound_run.specs.declared.lock_kind.LockKind.TheVariants.{Ticket}
-use Rattle.scripts.specs.declared.objects.kernel_call.KParams.TheVariants.{Queue}
+use Rattle.kernel_object.specs.declared.call.KParams.TheVariants.{Queue}
 use Rattle.scripts.specs.declared.record.form.Form.{Form}
 use Rattle.scripts.specs.RecordReading.{object_at, new_object_at}
 use Rattle.scripts.specs.RecordText.{object_words}

@@ -10,19 +10,21 @@ use Rattle.toml.specs.Data.{Data, Items, no_items, item, Members, as_str, as_arr
 use Rattle.sound_run.specs.declared.limits.TheConstants.{MOST_CPUS}
 use Rattle.sound_run.specs.declared.limits.TheConstants.{MOST_CELLS}
 use Rattle.event_log.specs.declared.logged.TheConstants.{MOST_EVENTS}
+use Rattle.kernel_object.specs.declared.call.KParams.{KParams}
+use Rattle.kernel_object.specs.declared.kind.Kind.{Kind}
+use Rattle.kernel_object.specs.Kernel.{kernel_in_range}
+use Rattle.kernel_object.specs.Kinds.All.{params_of}
+use Rattle.kernel_object.proofs.KindLaws.{by_kind_is}
 use Rattle.scripts.specs.declared.record.form.Form.{Form}
 use Rattle.scripts.specs.declared.record.form.TheConstants.{WRITTEN}
-use Rattle.scripts.specs.declared.objects.kernel_call.KParams.{KParams}
 use Rattle.scripts.specs.declared.settings.fault.Place.{Place}
 use Rattle.scripts.specs.declared.settings.fault.Place.TheVariants.{Top, Object}
 use Rattle.scripts.specs.declared.settings.fault.SettingsKey.TheVariants as Key
-use Rattle.scripts.specs.declared.objects.kind.Kind.{Kind}
-use Rattle.scripts.specs.Kernel.{kernel_in_range}
-use Rattle.scripts.specs.Kinds.All.{definition_of, params_of}
+use Rattle.scripts.specs.Kinds.All.{text_of}
 use Rattle.scripts.specs.Settings.{Settings, ObjectSettings, ObjectFits, SettingsFit, is_name}
 use Rattle.scripts.specs.SettingsKeys.{number_from, count_items, key_in, has_only}
 use Rattle.scripts.specs.SettingsText.{name_from, items_from, kind_from, lock_from, keys_of, params_by, params_in, object_in, object_from, objects_from, settings_in}
-use Rattle.scripts.proofs.KindLaws.All.{laws_of, by_kind_is}
+use Rattle.scripts.proofs.KindLaws.All.{laws_of}
 use Rattle.scripts.proofs.ParameterLaws.{range_of}
 use Rattle.scripts.proofs.SettingsKeys.{bind_ok, key_ok, map_or_ok, if_ok, if_not, number_in}
 
@@ -51,7 +53,7 @@ items_ok d ds e =
 params_ok : (place : Place) (kind : Kind) (ms : Members) (p : KParams) → params_in place kind ms ≡ Ok p → kernel_in_range p ≡ true
 unfolding params_in
 params_ok place kind ms p e =
-    let there = bind_ok ((definition_of kind).params_in place ms) _ p (sym (by_kind_is (params_by place ms) kind) ∙ e) in
+    let there = bind_ok ((text_of kind).params_in place ms) _ p (sym (by_kind_is (params_by place ms) kind) ∙ e) in
     let same : params_of kind there.0 ≡ p = cc in
     subst (λ q. kernel_in_range q ≡ true) same (range_of kind there.0 ((laws_of kind).set place ms there.0 there.1))
 

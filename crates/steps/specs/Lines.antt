@@ -1,6 +1,8 @@
 -- What is printed: a line for each step of the schedule.
 use Rattle.std.specs.Prelude.{ℕ, ◌+◌, ◌/◌, ◌%◌, List, [], ◌∷◌, ◌++◌, length, take, drop, codes, decimal, Option, Some, None, slice_get}
 use Rattle.std.specs.List.{flat_map}
+use Rattle.kernel_object.specs.contracts.object.KernelObjectSeqObject.TheImpl.{ghosts as kernel}
+use Rattle.kernel_object.specs.KernelTypes.{KernelTodo}
 use Rattle.word_rule.specs.Labels.{WordLabels, labels_of}
 use Rattle.word_rule.specs.Locks.{lock_words}
 use Rattle.word_rule.specs.Machine.Orders.{works_on}
@@ -8,8 +10,6 @@ use Rattle.word_rule.specs.Machine.World.{step}
 use Rattle.word_rule.specs.StepNames.{name_of, outcome_of}
 use Rattle.word_rule.specs.Ticket.State.{tickets}
 use Rattle.word_rule.specs.declared.machine.step_done.StepDone.{StepDone}
-use Rattle.scripts.specs.contracts.objects.kernel_object.KernelObjectSeqObject.TheImpl.{ghosts as kernel}
-use Rattle.scripts.specs.KernelTypes.{KernelTodo}
 use Rattle.scripts.specs.Settings.{Settings, ObjectSettings}
 use Rattle.cpu_worker.specs.Simulation.{KernelWorld, MachineCell, new_world}
 

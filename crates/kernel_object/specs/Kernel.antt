@@ -1,15 +1,15 @@
 -- What any object of the kernel answers: what its kind answers, or badcall where the call is of another kind.
 use Rattle.std.specs.Prelude.{Bool, true, false}
-use Rattle.scripts.specs.declared.objects.kind.Kind.{Kind}
-use Rattle.scripts.specs.declared.objects.kind.Kind.TheVariants as kinds
-use Rattle.scripts.specs.declared.objects.kernel_call.KParams.{KParams}
-use Rattle.scripts.specs.declared.objects.kernel_call.KCall.{KCall}
-use Rattle.scripts.specs.declared.objects.kernel_call.KCall.TheVariants as Call
-use Rattle.scripts.specs.declared.objects.kernel_call.KReply.{KReply}
-use Rattle.scripts.specs.declared.objects.kernel_call.KReply.TheVariants.{Ok, Already, BadThread, Thread, Empty, Absent, Count, Page, NoPage, OverQuota, BadOwner, NotYours, NotTaken, BadPage, Dropped, Byte, BadChannel, BadCall}
-use Rattle.scripts.specs.declared.objects.kernel_object.KernelObject.{KernelObject}
-use Rattle.scripts.specs.declared.objects.kernel_object.KernelObject.TheVariants as Object
-use Rattle.scripts.specs.Kinds.All.{definition_of, on_params, object_of}
+use Rattle.kernel_object.specs.declared.kind.Kind.{Kind}
+use Rattle.kernel_object.specs.declared.kind.Kind.TheVariants as kinds
+use Rattle.kernel_object.specs.declared.call.KParams.{KParams}
+use Rattle.kernel_object.specs.declared.call.KCall.{KCall}
+use Rattle.kernel_object.specs.declared.call.KCall.TheVariants as Call
+use Rattle.kernel_object.specs.declared.call.KReply.{KReply}
+use Rattle.kernel_object.specs.declared.call.KReply.TheVariants.{Ok, Already, BadThread, Thread, Empty, Absent, Count, Page, NoPage, OverQuota, BadOwner, NotYours, NotTaken, BadPage, Dropped, Byte, BadChannel, BadCall}
+use Rattle.kernel_object.specs.declared.object.KernelObject.{KernelObject}
+use Rattle.kernel_object.specs.declared.object.KernelObject.TheVariants as Object
+use Rattle.kernel_object.specs.Kinds.All.{definition_of, on_params, object_of}
 
 -- whether an object can be opened with the parameters
 abbrev pub kernel_in_range : KParams → Bool

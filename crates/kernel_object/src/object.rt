@@ -18,7 +18,7 @@ pub enum KernelObject {
 }
 
 impl SeqObject for KernelObject {
-    ghost use Rattle.scripts.specs.Kernel.{kernel_in_range, kernel_opening, kernel_answer, kernel_refusing};
+    ghost use Rattle.kernel_object.specs.Kernel.{kernel_in_range, kernel_opening, kernel_answer, kernel_refusing};
     ghost use Rattle.std.proofs.Common.{lit<, rules};
 
     type Params = KParams;

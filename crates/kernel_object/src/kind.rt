@@ -1,7 +1,7 @@
 //! The kinds of objects.
 
 ghost use Rattle.std.specs.Prelude.{◌≡◌};
-ghost use Rattle.scripts.specs.Parameters.{kind_word, kind_of};
+ghost use Rattle.kernel_object.specs.KindWords.{kind_word, kind_of};
 
 /// The kind of an object.
 #[derive(Clone, Copy, Debug, PartialEq, Eq, Drop)]
@@ -26,7 +26,7 @@ impl Kind {
     }
 
     /// The kind that the word stands for.
-    #[tactic(auto, unfolding(crate::specs::Parameters::kind_of))]
+    #[tactic(auto, unfolding(crate::specs::KindWords::kind_of))]
     pub fn of_word(word: &[u8]) -> Option<Kind>
         ensures { result ≡ kind_of word.now }
     {

@@ -1,7 +1,7 @@
 use Rattle.std.proofs.Common.{codes, arith, sym, ap}
 use Rattle.std.proofs.lemmas.Slice.Eq.{text_from_reads}
-use Rattle.scripts.specs.Parameters.{kind_of}
-use Rattle.scripts.proofs.objects.kind.Kind.of_word.Goals as goal
+use Rattle.kernel_object.specs.KindWords.{kind_of}
+use Rattle.kernel_object.proofs.kind.Kind.of_word.Goals as goal
 
 pub returns-in-console : goal.returns-in-console
 unfolding kind_of
