@@ -1,7 +1,7 @@
 //! The place of a caller: that of an idle caller's pass, and that of any other. A call that meets nobody changes the first alone.
 
 ghost use Rattle.std.specs.Prelude.{◌≡◌, None, Some, IsSome};
-ghost use Rattle.cells.specs.Places.{place_of, Between};
+ghost use Rattle.cells.specs.Places.{place_of, IsAway, Between};
 
 use crate::CallerState;
 use core::mem::{replace, replace_with};
@@ -71,6 +71,17 @@ impl<O: SeqObject> Place<O> {
             let (state, told) = f(place.into_state(), x);
             (Place::of(state), told)
         })
+    }
+
+    /// The caller stands there, once its call isn't on its way any more.
+    pub fn put(&mut self, state: CallerState<O>)
+        requires { IsAway self.old }
+        ensures { place_of self.new ≡ Some state }
+    {
+        match state {
+            CallerState::Idle(pass) => self.pass = Some(pass),
+            other => put_line(&mut self.line, other),
+        }
     }
 }
 

@@ -7,9 +7,14 @@ ghost use Rattle.guarded_cell.specs.declared.cell.AnyCell.TheVariants.{Ticket, M
 ghost use Rattle.cells.specs.declared.caller_state.CallerState.TheVariants as at;
 ghost use Rattle.cells.specs.declared.codes.TheConstants.{LOOKED};
 ghost use Rattle.ticket_lock.specs.Passes.{IsPassOf as IsTicketPassOf};
-ghost use Rattle.mcs_lock.specs.Passes.{IsPassOf as IsMcsPassOf, IsBehindOf};
+ghost use Rattle.mcs_lock.specs.Passes.{IsPassOf as IsMcsPassOf, IsBehindOf, IsPassingOf, state_of_passing};
+ghost use Rattle.word_rule.specs.Mcs.Steps.{IsPass};
+ghost use Rattle.word_rule.specs.Passes.{state_of_pass};
+ghost use Rattle.kernel_object.specs.contracts.object.KernelObjectSeqObject.TheImpl.{ghosts};
+ghost use Rattle.cells.specs.CallerStates.{IfMcs};
+ghost use Rattle.cells.specs.HandleContents.{KernelState};
 ghost use Rattle.std_alloc.specs.Arc.{arc_value};
-ghost use Rattle.cells.specs.CallReports.{ReportsCalled};
+ghost use Rattle.cells.specs.CallReports.{GoesBehind, ReportsCalled, ReportsCalledAt};
 ghost use Rattle.cells.specs.Codes.{kept_code, looks_after};
 ghost use Rattle.cells.specs.Places.{place_of, IsAway, IsPlaceOf};
 
@@ -73,17 +78,17 @@ fn come_behind(
     call: KCall,
     answered: &mut Answered,
     looks: &mut u64,
-) -> u32 {
+) -> u32
+    requires cell { IfMcs any.now (λ c. IsBehindOf c behind) }
+    requires away { IsAway place.old }
+    ensures place { IsPlaceOf any.now place.new }
+    ensures reports { (p : KernelState) → GoesBehind any.now p behind → ReportsCalledAt any.now call p (answered.old, looks.old) result place.new (answered.new, looks.new) }
+{
     let AnyCell::Mcs(cell) = any else {
         unreachable!()
     };
     let (state, whole) = call_arrived(any, line_up(cell, behind), &call);
-    let Place {
-        pass: None,
-        line: None,
-    } = replace(place, Place::of(state)) else {
-        unreachable!()
-    };
+    place.put(state);
     call_code(whole, answered, looks)
 }
 
@@ -102,7 +107,11 @@ fn keep(line: &mut Line, leaving: Leaving<KernelObject>, told: u32) -> u32
 // Apart, since somebody is seldom behind it.
 #[cold]
 #[inline(never)]
-fn pass_on(cell: &McsCell<KernelObject>, passing: Passing<KernelObject>) -> Pass<KernelObject> {
+fn pass_on(cell: &McsCell<KernelObject>, passing: Passing<KernelObject>) -> Pass<KernelObject>
+    requires { IsPassingOf cell.now passing }
+    ensures pass { IsMcsPassOf cell.now result }
+    ensures step { IsPass ghosts (state_of_passing passing) (state_of_pass result) }
+{
     cell.pass_on(passing)
 }
 
@@ -118,7 +127,7 @@ fn straight_ticket(
     requires pass { IsTicketPassOf cell.now pass }
     requires away { IsAway place.old }
     ensures place { IsPlaceOf (Ticket cell.now) place.new }
-    ensures reports { ReportsCalled (Ticket cell.now) call (at.Idle pass) (answered.old, looks.old) result place.new (answered.new, looks.new) }
+    ensures reports { ReportsCalledAt (Ticket cell.now) call (at.Idle pass) (answered.old, looks.old) result place.new (answered.new, looks.new) }
 {
     match cell.look(cell.draw(pass)) {
         Ok(mut hold) => {
@@ -145,7 +154,7 @@ fn straight_mcs(
     requires pass { IsMcsPassOf cell.now pass }
     requires away { IsAway place.old }
     ensures place { IsPlaceOf (Mcs cell.now) place.new }
-    ensures reports { ReportsCalled (Mcs cell.now) call (at.Idle pass) (answered.old, looks.old) result place.new (answered.new, looks.new) }
+    ensures reports { ReportsCalledAt (Mcs cell.now) call (at.Idle pass) (answered.old, looks.old) result place.new (answered.new, looks.new) }
 {
     let mut hold = match cell.enter(cell.clear(pass)) {
         Entered::Hold(hold) => hold,
