@@ -59,6 +59,19 @@ pub fn apply_held<O: SeqObject>(hold: &mut Hold<O>, asked: &O::Call) -> Result<O
     hold.apply_one(asked)
 }
 
+/// The same, once in the library for the calls that needn't be the fastest.
+#[inline(never)]
+pub fn shared_apply_held<O: SeqObject>(
+    hold: &mut Hold<O>,
+    asked: &O::Call,
+) -> Result<O::Reply, NoRoom>
+    ensures of { (cell : AnyCell O O.Params O.Call O.Reply) → IsHoldOf cell hold.old → IsHoldOf cell hold.new }
+    ensures caller { (state_of_hold hold.new).caller ≡ (state_of_hold hold.old).caller }
+    ensures applied { IsHeldApply O.SeqObject hold.old asked.now result hold.new }
+{
+    apply_held(hold, asked)
+}
+
 #[inline]
 fn call_held<O: SeqObject>(
     cell: &AnyCell<O>,
@@ -70,7 +83,7 @@ fn call_held<O: SeqObject>(
     ensures caller { (state_of result.0).caller ≡ (state_of_hold hold).caller }
     ensures called { IsHeldCall O.SeqObject (λ h k. IsHeldApply O.SeqObject h asked.now result.1 k) cell.now hold result.2 result.0 }
 {
-    let done = apply_held(&mut hold, asked);
+    let done = shared_apply_held(&mut hold, asked);
     let (state, is_back) = depart(cell, hold);
     (state, done, is_back)
 }
