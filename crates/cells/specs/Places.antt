@@ -24,7 +24,7 @@ module _ {O P C R : Type 0} {g : Ghosts O P C R} {call_eq : Eq C} {call_default 
   abbrev pub IsAway : Place O P C R g call_eq call_default reply_eq reply_default → Type 0
   IsAway place = (place.pass ≡ None) × (place.line ≡ None)
 
-  -- a caller that stands there is of the cell, and owns one CPU
+  -- the caller that stands there is of the cell, and owns one CPU
   abbrev pub IsPlaceOf : AnyCell O P C R → Place O P C R g call_eq call_default reply_eq reply_default → Type 0
   IsPlaceOf cell place = (s : CallerState O P C R g call_eq call_default reply_eq reply_default) × (place_of place ≡ Some s) × IsOf cell s × IsOne (state_of s).caller
 

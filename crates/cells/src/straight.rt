@@ -7,16 +7,16 @@ ghost use Rattle.guarded_cell.specs.declared.cell.AnyCell.TheVariants.{Ticket, M
 ghost use Rattle.cells.specs.declared.caller_state.CallerState.TheVariants as at;
 ghost use Rattle.cells.specs.declared.codes.TheConstants.{LOOKED};
 ghost use Rattle.ticket_lock.specs.Passes.{IsPassOf as IsTicketPassOf};
-ghost use Rattle.mcs_lock.specs.Passes.{IsPassOf as IsMcsPassOf, IsBehindOf, IsPassingOf, state_of_passing};
+ghost use Rattle.mcs_lock.specs.Passes.{IsPassOf as IsMcsPassOf, IsBehindOf, IsPassingOf, state_of_behind, state_of_passing};
 ghost use Rattle.word_rule.specs.Mcs.Steps.{IsPass};
 ghost use Rattle.word_rule.specs.Passes.{state_of_pass};
 ghost use Rattle.kernel_object.specs.contracts.object.KernelObjectSeqObject.TheImpl.{ghosts};
-ghost use Rattle.cells.specs.CallerStates.{IfMcs};
+ghost use Rattle.cells.specs.CallerStates.{IfMcs, IsOne};
 ghost use Rattle.cells.specs.HandleContents.{KernelState};
 ghost use Rattle.std_alloc.specs.Arc.{arc_value};
 ghost use Rattle.cells.specs.CallReports.{GoesBehind, ReportsCalled, ReportsCalledAt};
 ghost use Rattle.cells.specs.Codes.{kept_code, looks_after};
-ghost use Rattle.cells.specs.Places.{place_of, IsAway, IsPlaceOf};
+ghost use Rattle.cells.specs.Places.{IsAway, IsPlaceOf};
 
 use crate::arrival::line_up;
 use crate::codes::{DONE, FULL, LOOKED, answer_code, call_code, count_look, kept_code};
@@ -80,6 +80,7 @@ fn come_behind(
     looks: &mut u64,
 ) -> u32
     requires cell { IfMcs any.now (λ c. IsBehindOf c behind) }
+    requires one { IsOne (state_of_behind behind).caller }
     requires away { IsAway place.old }
     ensures place { IsPlaceOf any.now place.new }
     ensures reports { (p : KernelState) → GoesBehind any.now p behind → ReportsCalledAt any.now call p (answered.old, looks.old) result place.new (answered.new, looks.new) }
@@ -125,6 +126,7 @@ fn straight_ticket(
     looks: &mut u64,
 ) -> u32
     requires pass { IsTicketPassOf cell.now pass }
+    requires one { IsOne (state_of_pass pass).caller }
     requires away { IsAway place.old }
     ensures place { IsPlaceOf (Ticket cell.now) place.new }
     ensures reports { ReportsCalledAt (Ticket cell.now) call (at.Idle pass) (answered.old, looks.old) result place.new (answered.new, looks.new) }
@@ -152,6 +154,7 @@ fn straight_mcs(
 ) -> u32
     requires cell { any.now ≡ Mcs cell.now }
     requires pass { IsMcsPassOf cell.now pass }
+    requires one { IsOne (state_of_pass pass).caller }
     requires away { IsAway place.old }
     ensures place { IsPlaceOf (Mcs cell.now) place.new }
     ensures reports { ReportsCalledAt (Mcs cell.now) call (at.Idle pass) (answered.old, looks.old) result place.new (answered.new, looks.new) }
