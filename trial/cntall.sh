@@ -1,0 +1,2 @@
+#!/bin/bash
+cd /tmp/kw; python3 cnt6.py "$@"
