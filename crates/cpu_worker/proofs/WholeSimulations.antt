@@ -4,6 +4,7 @@ use Rattle.std.specs.Prelude.{slice_get}
 use Rattle.std.specs.List.{AllByRecursion}
 use Rattle.std.proofs.lemmas.List.{append-nil, length-map}
 use Rattle.event_log.specs.Entries.{asked_of}
+use Rattle.event_log.proofs.Each.{each_at}
 use Rattle.kernel_object.specs.declared.call.KParams.{KParams}
 use Rattle.kernel_object.specs.declared.call.KCall.{KCall}
 use Rattle.kernel_object.specs.declared.call.KReply.{KReply}
@@ -15,7 +16,6 @@ use Rattle.scripts.specs.ScriptText.{ScriptFits, ScriptsFit}
 use Rattle.scripts.specs.Settings.{Settings, SettingsFit}
 use Rattle.sound_run.specs.declared.limits.TheConstants.{MOST_CPUS}
 use Rattle.sound_run.proofs.Slices.{get_map}
-use Rattle.word_rule.proofs.Openings.{all_at}
 use Rattle.word_rule.proofs.LockLaws.{few_fit}
 use Rattle.word_rule.specs.Machine.Opening.{IsOpening, IsOpeningCell, opening_cpu}
 use Rattle.word_rule.specs.Machine.Rounds.{AllDone}
@@ -65,5 +65,5 @@ module _ (settings : Settings) (scripts : List (List KernelTodo)) where
       able = λ i c e.
           let a = get_map opening_cpu scripts i c e in
           subst (λ (k : KernelCpu). AllByRecursion (λ t. IsTodo (length (new_world settings scripts).cells) t) k.todo) a.2
-          (able_todos (length (new_world settings scripts).cells) (length settings.objects) cell_count a.0 (all_at (ScriptFits (length settings.objects)) scripts i a.0 all.1 a.1).1);
+          (able_todos (length (new_world settings scripts).cells) (length settings.objects) cell_count a.0 (each_at (ScriptFits (length settings.objects)) scripts i a.0 all.1 a.1).1);
     }

@@ -1,9 +1,9 @@
 -- What settings of a TOML table are: within all limits.
-use Rattle.std.proofs.Common.{◌≡◌, ℕ, zero, suc, ◌+◌, ◌<◌, ◌≤◌, Bool, true, false, ◌&&◌, nat_le, List, [], ◌∷◌, ◌++◌, length, length-append, Ok, Err, refl, ap, sym, ◌∙◌, subst, arith, inl, inr, if◌then◌else◌, ◌||◌, bytes_eq}
+use Rattle.std.proofs.Common.{◌≡◌, ℕ, zero, suc, ◌+◌, ◌<◌, ◌≤◌, true, false, ◌&&◌, nat_le, List, [], ◌∷◌, ◌++◌, length, length-append, Ok, Err, refl, ap, sym, ◌∙◌, subst, arith, inl, inr, if◌then◌else◌, ◌||◌, bytes_eq}
 use Rattle.std.specs.List.{list_any, slice_get, AllByRecursion}
 use Rattle.std.specs.Option.{option_map_or}
 use Rattle.std.proofs.Math.Nat.{eq-or-lt_of_le}
-use Rattle.std.proofs.lemmas.Bool.{and_parts, leb-true, false≢true}
+use Rattle.std.proofs.lemmas.Bool.{and_parts, leb-true, false≢true, or_right}
 use Rattle.std.proofs.lemmas.Slice.Eq.{bytes_eq-Decides}
 use Rattle.event_log.proofs.Each.{all_push}
 use Rattle.toml.specs.Data.{Data, Items, no_items, item, Members, as_str, as_array, as_table}
@@ -98,14 +98,10 @@ pub name_here : (front os : List ObjectSettings) (o : ObjectSettings) → name_i
 name_here [] os o = refl
 name_here (x ∷ front) os o = name_here front os o
 
-or_true : (b c : Bool) → c ≡ true → (b || c) ≡ true
-or_true true c e = refl
-or_true false c e = e
-
 pub taken : (os : List ObjectSettings) (i : ℕ) (s : List ℕ) → i < length os → name_in os i ≡ s → list_any (λ o. bytes_eq o.name s) os ≡ true
 taken [] i s less e = absurd (omega (arith, less))
 taken (x ∷ os) zero s less e = ap (λ b. b || list_any (λ o. bytes_eq o.name s) os) ((bytes_eq-Decides x.name s).1 e)
-taken (x ∷ os) (suc i) s less e = or_true (bytes_eq x.name s) (list_any (λ o. bytes_eq o.name s) os) (taken os i s (omega (arith, less)) e)
+taken (x ∷ os) (suc i) s less e = or_right (bytes_eq x.name s) (list_any (λ o. bytes_eq o.name s) os) (taken os i s (omega (arith, less)) e)
 
 -- an object of a new name is found by it, and the others are still found
 pub differ_more : (os : List ObjectSettings) (o : ObjectSettings) → Differ os → list_any (λ x. bytes_eq x.name o.name) os ≡ false → Differ (os ++ o ∷ [])

@@ -3,7 +3,7 @@
 use Rattle.std.proofs.Common.{◌≡◌, ◌↔◌, ℕ, false, List, [], ◌∷◌, map, refl, sym, ap, subst, rules}
 use Rattle.std.specs.List.{AllByRecursion}
 use Rattle.arrayvec.specs.ArrayVec.{ArrayVec}
-use Rattle.event_log.proofs.Each.{all_map}
+use Rattle.event_log.proofs.Each.{all_map, each_at}
 use Rattle.event_log.specs.declared.object.SeqObject.{Ghosts}
 use Rattle.event_log.specs.declared.event.Step.{Step}
 use Rattle.event_log.specs.declared.event.Event.{Event}
@@ -35,7 +35,6 @@ use Rattle.scripts.specs.RecordRanges.{Record, RecordFitsIn}
 use Rattle.scripts.specs.Runs.{opened_of}
 use Rattle.scripts.specs.Settings.{ObjectSettings}
 use Rattle.scripts.specs.Unlimited.{unlimited_kernel_answer, without_quotas, WasSound}
-use Rattle.scripts.proofs.Names.{each_at}
 
 -- ---- two meanings of the same replies that refuse, where the first one's legal logs are the second one's
 

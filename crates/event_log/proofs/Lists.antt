@@ -1,5 +1,5 @@
--- A list and another that begins with it.
-use Rattle.std.proofs.Common.{◌≡◌, ℕ, zero, suc, ◌+◌, ◌<◌, ◌≤◌, List, [], ◌∷◌, ◌++◌, length, take, drop, get_or, Some, slice_get, refl, ap, arith, add-one}
+-- Lists of anything: what stands at a place, and a list that another begins with.
+use Rattle.std.proofs.Common.{◌≡◌, ◌⊎◌, inl, inr, ⊎_elim, ℕ, zero, suc, ◌+◌, ◌<◌, ◌≤◌, List, [], ◌∷◌, ◌++◌, length, take, drop, get_or, Some, slice_get, refl, ap, arith, add-one}
 use Rattle.std.specs.Prelude.{unwrap_or}
 
 module _ {X : Type 0} where
@@ -18,6 +18,23 @@ module _ {X : Type 0} where
   pub get_behind : (a r : List X) (x : X) → slice_get (a ++ x ∷ r) (length a) ≡ Some x
   get_behind [] r x = refl
   get_behind (y ∷ ys) r x = get_behind ys r x
+
+  pub get_last : (xs : List X) (x : X) → slice_get (xs ++ x ∷ []) (length xs) ≡ Some x
+  get_last [] x = refl
+  get_last (z ∷ zs) x = get_last zs x
+
+  -- with one more at the end, an element stands there already, or is that one
+  pub get_push : (xs : List X) (x : X) (k : ℕ) (y : X) → slice_get (xs ++ x ∷ []) k ≡ Some y → (slice_get xs k ≡ Some y) ⊎ ((k ≡ length xs) × (x ≡ y))
+  get_push [] x zero y e = inr (refl, let same : x ≡ y = cc in same)
+  get_push [] x (suc k) y e = absurd (cc)
+  get_push (z ∷ zs) x zero y e = inl e
+  get_push (z ∷ zs) x (suc k) y e = ⊎_elim (λ old. inl old) (λ q. inr (ap suc q.0, q.1)) (get_push zs x k y e)
+
+  -- what stands at a place
+  pub some_at : (xs : List X) (i : ℕ) → i < length xs → (x : X) × (slice_get xs i ≡ Some x)
+  some_at [] i lt = absurd (omega arith)
+  some_at (y ∷ ys) zero lt = (y, refl)
+  some_at (y ∷ ys) (suc i) lt = some_at ys i (omega arith)
 
   pub take_front : (a r : List X) (i : ℕ) → i ≤ length a → take i (a ++ r) ≡ take i a
   take_front [] r zero le = refl
