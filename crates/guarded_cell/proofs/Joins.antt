@@ -1,5 +1,5 @@
 -- A pass that another is joined to, among the passes of one CPU.
-use Rattle.std.proofs.Common.{◌≡◌, ℕ, List, [], ◌∷◌, ◌++◌, length, map, refl, sym, ◌∙◌, ap, subst, arith, slice_get, Some, ◌⊎◌, inl, inr}
+use Rattle.std.proofs.Common.{◌≡◌, ℕ, List, [], ◌∷◌, ◌++◌, length, map, sym, ◌∙◌, ap, subst, arith, slice_get, Some, ◌⊎◌, inl, inr}
 use Rattle.std.proofs.Math.ListN.{set}
 use Rattle.std.proofs.lemmas.Option.{slice_get_within}
 use mathlib.Core.Logic.{dite}
@@ -33,11 +33,6 @@ module _ {O P C R : Type 0} where
   each_then xs ys zs wide p q x a c e f =
       let b = some_at ys x (let lt = slice_get_within zs x c f in omega (arith, lt, wide)) in
       joins_then a b.0 c (p x a b.0 e b.1) (q x b.0 c b.1 f)
-
--- the element behind a beginning
-pub seam_get : {X : Type 0} (xs : List X) (y : X) (ys : List X) → slice_get (xs ++ y ∷ ys) (length xs) ≡ Some y
-seam_get [] y ys = refl
-seam_get (x ∷ xs) y ys = seam_get xs y ys
 
 module _ {S O P C R : Type 0} (view : S → PassView O P C R) where
   -- one pass more that joined the one at its place
