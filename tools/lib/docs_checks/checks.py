@@ -17,6 +17,8 @@ HEADS_OF_NAMES = re.compile(r"Contract|Call|Name|`\w+`")
 CAPITALS = re.compile(r"(?<![\w.])(?:[A-Z][A-Z0-9]{3,}|XXX|TBD)(?!\w)(?!\.\w)")
 NUMBERED = re.compile(r"\b(?:T[1-9]|D[1-9]|D[12]\d|W[1-9]|W[1-3]\d|W40|R[1-9]|R1[0-6]|(?:[Rr]ow|[Ii]ssue)s? #?\d+)\b")
 COLUMNS = 128
+# What has one of these in its path is built, and isn't looked for.
+BUILT = {"out", ".unproved"}
 
 
 class Checks:
@@ -94,7 +96,7 @@ class Checks:
         found = [(line, it) for line, text in enumerate(lines, start=block.line) for it in SOURCE.findall(text)]
         if block.kind != "code":
             found += [(line, it.strip(",;:")) for line, text in block.spans() for it in text.split()]
-        return [(line, it) for line, it in found if PATH.fullmatch(it) and "out" not in it.split("/")]
+        return [(line, it) for line, it in found if PATH.fullmatch(it) and not BUILT & set(it.split("/"))]
 
     def named_in(self, block):
         """The crates that the block names, and the folders `rows`, `examples`, `tools`; the document's own is one of them."""

@@ -73,8 +73,10 @@ class Room:
     def __init__(self, path, top, program):
         self.path = path
         for name in FOLDERS:
-            copy = shutil.copytree if (top / name).is_dir() else shutil.copy
-            copy(top / name, path / name)
+            if (top / name).is_dir():
+                shutil.copytree(top / name, path / name, ignore=shutil.ignore_patterns("out"))
+            else:
+                shutil.copy(top / name, path / name)
         (path / "mc2").symlink_to(program)
 
     def run(self, commands):
