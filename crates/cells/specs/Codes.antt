@@ -1,7 +1,7 @@
 -- What C is told: a number for each thing that is reported.
 use Rattle.std.specs.Prelude.{ℕ, ◌+◌, ◌%◌, ◌^◌, Bool, true, false, Option, Some, None, Result, Ok, Err}
 use Rattle.event_log.specs.declared.logged.NoRoom.{NoRoom}
-use Rattle.scripts.specs.declared.objects.kernel_call.KReply.{KReply}
+use Rattle.kernel_object.specs.declared.call.KReply.{KReply}
 use Rattle.cells.specs.declared.coding.Answered.{Answered}
 use Rattle.cells.specs.declared.codes.TheConstants.{STEPPED, LOOKED, ENTERED, FOUND, LEFT, REFUSED, BUSY, DONE, FULL, DONE_KEPT, FULL_KEPT}
 use Rattle.cells.specs.declared.progress.Progress.{Progress}

@@ -2,8 +2,8 @@
 use Rattle.std.specs.Prelude.{◌≡◌, ℕ, ◌==◌, ◌||◌, nat_lt, List, Bool, true, false, Option, Some, None, Result, Ok, Err}
 use Rattle.core.specs.Mem.{manually_drop_value}
 use Rattle.event_log.specs.declared.logged.NoRoom.{NoRoom}
-use Rattle.scripts.specs.declared.objects.kernel_call.KCall.{KCall}
-use Rattle.scripts.specs.declared.objects.kernel_call.KReply.{KReply}
+use Rattle.kernel_object.specs.declared.call.KCall.{KCall}
+use Rattle.kernel_object.specs.declared.call.KReply.{KReply}
 use Rattle.cells.specs.declared.handle_content.HandleContent.{HandleContent}
 use Rattle.cells.specs.declared.coding.Asked.{Asked}
 use Rattle.cells.specs.declared.coding.Answered.{Answered}

@@ -3,15 +3,15 @@ use Rattle.std.specs.Prelude.{◌≡◌, Bool, List, Option, None, Result}
 use Rattle.std_alloc.specs.Arc.{arc_value}
 use Rattle.event_log.specs.declared.event.Steps.{Steps}
 use Rattle.event_log.specs.declared.logged.NoRoom.{NoRoom}
-use Rattle.scripts.specs.declared.objects.kernel_call.KCall.{KCall}
-use Rattle.scripts.specs.declared.objects.kernel_call.KReply.{KReply}
-use Rattle.scripts.specs.contracts.objects.kernel_object.KernelObjectSeqObject.TheImpl.{ghosts}
-use Rattle.scripts.specs.declared.objects.kernel_call.KParams.{KParams}
-use Rattle.scripts.specs.declared.objects.kernel_object.KernelObject.{KernelObject}
-use Rattle.scripts.specs.contracts.objects.kernel_call.KCallPartialEq.TheImpl.{ghosts as call_compares}
-use Rattle.scripts.specs.contracts.objects.kernel_call.KCallDefault.TheImpl.{ghosts as call_defaults}
-use Rattle.scripts.specs.contracts.objects.kernel_call.KReplyPartialEq.TheImpl.{ghosts as reply_compares}
-use Rattle.scripts.specs.contracts.objects.kernel_call.KReplyDefault.TheImpl.{ghosts as reply_defaults}
+use Rattle.kernel_object.specs.declared.call.KCall.{KCall}
+use Rattle.kernel_object.specs.declared.call.KReply.{KReply}
+use Rattle.kernel_object.specs.declared.call.KParams.{KParams}
+use Rattle.kernel_object.specs.declared.object.KernelObject.{KernelObject}
+use Rattle.kernel_object.specs.contracts.object.KernelObjectSeqObject.TheImpl.{ghosts}
+use Rattle.kernel_object.specs.contracts.call.KCallPartialEq.TheImpl.{ghosts as call_compares}
+use Rattle.kernel_object.specs.contracts.call.KCallDefault.TheImpl.{ghosts as call_defaults}
+use Rattle.kernel_object.specs.contracts.call.KReplyPartialEq.TheImpl.{ghosts as reply_compares}
+use Rattle.kernel_object.specs.contracts.call.KReplyDefault.TheImpl.{ghosts as reply_defaults}
 use Rattle.cells.specs.declared.caller.Caller.{Caller as CallerOf}
 use Rattle.cells.specs.declared.handle_content.HandleContent.{HandleContent}
 use Rattle.cells.specs.declared.handle_content.HandleContent.TheVariants.{Caller}

@@ -7,7 +7,7 @@ use crate::ends::{NoNewCaller, NotClosed};
 use crate::logged_step::{LoggedStep, step_at};
 use crate::opening::{NotOpened, Opening, open_cell};
 use crate::{Caller, CallerState, HandleContent};
-use scripts::KernelObject;
+use kernel_object::KernelObject;
 use std::alloc::Global;
 
 impl HandleContent {

@@ -10,7 +10,7 @@ use crate::coding::{Answered, reply_code};
 use crate::opening::NotOpened;
 use crate::{Progress, Whole};
 use event_log::{NoRoom, Steps};
-use scripts::{KReply, KernelObject};
+use kernel_object::{KReply, KernelObject};
 
 /// What a step has reported: a number for each.
 pub const STEPPED: u32 = 0;

@@ -6,7 +6,7 @@ ghost use Rattle.cells.specs.HandleContents.{IsAcquireStepIn, IsReleaseStepIn, I
 
 use crate::{Caller, OpenCell, Progress, TriedCall, Whole};
 use event_log::{Logged, NoRoom, Steps};
-use scripts::{KCall, KReply, KernelObject};
+use kernel_object::{KCall, KReply, KernelObject};
 
 /// What a handle has. It can't be dropped.
 pub enum HandleContent {

@@ -14,7 +14,7 @@ use crate::logged_step::LoggedStep;
 use crate::opening::Opening;
 use crate::parts::Parts;
 use crate::{Caller, CallerState, Handle, HandleContent};
-use scripts::KernelObject;
+use kernel_object::KernelObject;
 use std::alloc::Global;
 use std::mem::ManuallyDrop;
 
