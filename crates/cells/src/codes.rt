@@ -103,6 +103,13 @@ pub fn shared_answer_code(
     answer_code(done, done_as, full_as, answered)
 }
 
+/// The same as was told of a call, where the object isn't given back yet.
+pub fn kept_code(told: u32) -> u32
+    ensures { result ≡ kept_code told }
+{
+    if told == DONE { DONE_KEPT } else { FULL_KEPT }
+}
+
 /// One look more, if that was one.
 #[inline]
 pub fn count_look(looked: bool, looks: &mut u64)

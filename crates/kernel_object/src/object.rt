@@ -60,6 +60,7 @@ impl SeqObject for KernelObject {
         })
     }
 
+    #[inline]
     fn apply(&mut self, call: &KCall) -> KReply {
         match (self, call) {
             (KernelObject::Queue(queue), KCall::Queue(call)) => {

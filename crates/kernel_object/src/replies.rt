@@ -14,6 +14,7 @@ use wake_list::SchedReply;
 
 impl KReply {
     /// A queue's reply, as the reply with its text.
+    #[inline]
     pub fn of_queue(reply: QueueReply) -> KReply
         ensures { result ≡ of_queue reply }
     {
@@ -29,6 +30,7 @@ impl KReply {
     }
 
     /// A page pool's reply, as the reply with its text.
+    #[inline]
     pub fn of_pool(reply: PoolReply) -> KReply
         ensures { result ≡ of_pool reply }
     {
@@ -46,6 +48,7 @@ impl KReply {
     }
 
     /// A console's reply, as the reply with its text.
+    #[inline]
     pub fn of_console(reply: ConsoleReply) -> KReply
         ensures { result ≡ of_console reply }
     {
@@ -59,6 +62,7 @@ impl KReply {
     }
 
     /// A scheduler's reply, as the reply with its text.
+    #[inline]
     pub fn of_sched(reply: SchedReply) -> KReply
         ensures { result ≡ of_sched reply }
     {
