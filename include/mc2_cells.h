@@ -6,8 +6,8 @@
 //
 //     gcc -Iinclude examples/c_cells/c_cells.c .unproved/libcells.a KIT/c/liblibc_c.a -pthread
 //
-// mc2_cells_open opens a cell with its callers, mc2_cell_call does a call, and mc2_cells_close ends it. mc2_cells_record.h writes
-// its record.
+// mc2_cells_open opens a cell with its callers, mc2_cell_call does a call, and mc2_cells_close ends it. mc2_by_name.h has each call
+// as a function of its own, as mc2_queue_enq. mc2_cells_record.h writes its record.
 //
 // Each call is an event of the cell's log. A cell that is opened with 1 to 65,536 events keeps its log in memory, which is taken
 // at once. Then mc2_cell_step reads the log once the cell is closed, for a record that `mc2 audit` judges. A log that is full
@@ -199,6 +199,9 @@ uint32_t mc2_cell_forget(struct mc2_cell *cell);
 }
 #endif
 
+// The calls by name: mc2_queue_enq, mc2_pool_alloc, and so on.
+#include "mc2_by_name.h"
+
 // Opens a cell around such an object, for so many CPUs. The object's name isn't looked at. With 0 events the log isn't kept.
 // The cell has to be freed once, after MC2_CELL_BAD_OPENING too, and after MC2_CELL_NO_MEMORY unless `own` is NULL then.
 static inline uint32_t mc2_cell_open(struct mc2_cell *cell, const struct mc2_object *object, uint32_t cpus) {
@@ -309,13 +312,14 @@ static inline uint32_t mc2_end_call(struct mc2_caller *caller, uint32_t told) {
     return left == MC2_CELL_LEFT ? told - (MC2_CELL_DONE_KEPT - MC2_CELL_DONE) : left;
 }
 
-// Goes on with a whole call, which has reported that: waits in line while it looks in vain, and gives back what it has kept.
-MC2_SELDOM uint32_t mc2_call_on(struct mc2_caller *caller, const struct mc2_call *call, struct mc2_reply *reply, uint64_t *looks,
+// Goes on with a whole call, which has reported that: waits in line while it looks in vain, and gives back what it has kept. The
+// call comes by its value, so that it needn't lie in memory on the way of most calls.
+MC2_SELDOM uint32_t mc2_call_on(struct mc2_caller *caller, struct mc2_call call, struct mc2_reply *reply, uint64_t *looks,
                                 uint32_t told) {
     uint64_t vain = 0;
     while (told == MC2_CELL_LOOKED) {
         mc2_rest(caller->resting, ++vain);
-        told = MC2_STEP(mc2_caller_call(caller, call, reply, looks));
+        told = MC2_STEP(mc2_caller_call(caller, &call, reply, looks));
     }
     mc2_rise(caller->resting, vain);
     return mc2_end_call(caller, told);
@@ -335,10 +339,11 @@ MC2_SELDOM uint32_t mc2_batch_on(struct mc2_caller *caller, const struct mc2_bat
 // Waits for the object, does the call, and gives the object back: MC2_CELL_DONE, or why it wasn't done. It counts the looks.
 static inline uint32_t mc2_cell_call(struct mc2_caller *caller, const struct mc2_call *call, struct mc2_reply *reply,
                                      uint64_t *looks) {
+    struct mc2_call asked = *call;
     *looks = 0;
     mc2_stay_outside(caller->resting);
-    uint32_t told = MC2_STEP(mc2_caller_call(caller, call, reply, looks));
-    return told == MC2_CELL_DONE ? told : mc2_call_on(caller, call, reply, looks, told);
+    uint32_t told = MC2_STEP(mc2_call_once(caller, asked, reply, looks));
+    return told == MC2_CELL_DONE ? told : mc2_call_on(caller, asked, reply, looks, told);
 }
 
 // The same of 1 to 8 calls as one event.

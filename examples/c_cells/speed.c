@@ -1,16 +1,20 @@
-/* use: speed KIND THREADS CALLS
+/* use: speed KIND THREADS CALLS [unkept]
 
    THREADS threads call one queue of 8 threads CALLS times each, `enq` and `deq` in turn, and each call is an event of a log.
-   Prints the nanoseconds from the first thread's start to the last one's end.
+   Prints the nanoseconds from the first thread's start to the last one's end, and the page faults in between. The memory of
+   each kind's log was written before, so only the threads' own stacks fault.
 
-   KIND  cell-ticket, cell-mcs: a cell of crates/cells, by whole calls (mc2_cell_call)
-         steps-ticket, steps-mcs: the same by single steps (mc2_acquire, mc2_caller_apply, mc2_release)
-         mutex: a queue in C with a log, the least that one would write, behind a pthread_mutex_t
-         ck-ticket, ck-mcs: the same queue behind a lock of Concurrency Kit, with WITH_CK
+   KIND    cell-ticket, cell-mcs: a cell of crates/cells, by whole calls (mc2_cell_call)
+           steps-ticket, steps-mcs: the same by single steps (mc2_acquire, mc2_caller_apply, mc2_release)
+           mutex: a queue in C with a log, the least that one would write, behind a pthread_mutex_t
+           ck-ticket, ck-mcs: the same queue behind a lock of Concurrency Kit, with WITH_CK
+   unkept  no kind keeps a log
 
    Status: 0; 1 if a call is told what it can't be; 2 for wrong words. */
 #include "mc2_cells.h"
+#include <malloc.h>
 #include <pthread.h>
+#include <sys/resource.h>
 #include <time.h>
 #ifdef WITH_CK
 #include <ck_spinlock.h>
@@ -18,7 +22,7 @@
 
 enum { MOST_THREADS = 8, QUEUE = 8 };
 
-/* ---- the baseline: a queue with its log */
+/* ---- the baseline: a queue with its log, or without */
 
 struct event { uint32_t cpu; struct mc2_call call; struct mc2_reply reply; };
 
@@ -28,6 +32,8 @@ static struct {
     struct event log[MC2_MOST_EVENTS];
     size_t events;
 } plain;
+
+static int is_kept;
 
 static struct mc2_reply queue_call(const struct mc2_call *call) {
     struct mc2_reply reply = {MC2_OK, 0};
@@ -55,7 +61,8 @@ static struct mc2_reply queue_call(const struct mc2_call *call) {
 
 static void call_plain(uint32_t cpu, const struct mc2_call *call, struct mc2_reply *reply) {
     *reply = queue_call(call);
-    plain.log[plain.events++] = (struct event){cpu, *call, *reply};
+    if (is_kept)
+        plain.log[plain.events++] = (struct event){cpu, *call, *reply};
 }
 
 /* ---- the kinds */
@@ -133,7 +140,7 @@ static void *work(void *given) {
 }
 
 static void open_cell(int lock, uint32_t threads) {
-    struct mc2_object object = {"shared", MC2_QUEUE, (uint32_t)lock, MC2_MOST_EVENTS, QUEUE, 0, NULL};
+    struct mc2_object object = {"shared", MC2_QUEUE, (uint32_t)lock, is_kept ? MC2_MOST_EVENTS : 0, QUEUE, 0, NULL};
     if (mc2_cell_open(&cell, &object, threads) != MC2_CELL_DONE)
         exit(1);
     for (uint32_t cpu = threads; cpu-- > 0;)
@@ -147,27 +154,44 @@ static long long now(void) {
     return time.tv_sec * 1000000000LL + time.tv_nsec;
 }
 
+static long faults(void) {
+    struct rusage used;
+    getrusage(RUSAGE_SELF, &used);
+    return used.ru_minflt;
+}
+
+static int run(long threads) {
+    pthread_t started[MOST_THREADS];
+    pthread_barrier_init(&start, NULL, (unsigned)threads + 1);
+    for (long at = 0; at < threads; at++)
+        if (pthread_create(&started[at], NULL, work, (void *)(size_t)at) != 0)
+            return 1;
+    long met = faults();
+    long long began = now();
+    pthread_barrier_wait(&start);
+    for (long at = 0; at < threads; at++)
+        pthread_join(started[at], NULL);
+    long long took = now() - began;
+    printf("%lld %ld\n", took, faults() - met);
+    return 0;
+}
+
 int main(int count, char **words) {
     size_t kind = 0, kinds = sizeof KINDS / sizeof *KINDS;
     while (count > 3 && kind < kinds && strcmp(words[1], KINDS[kind].name) != 0)
         kind++;
     long threads = count > 3 ? atol(words[2]) : 0;
     calls = count > 3 ? atol(words[3]) : 0;
-    if (count != 4 || kind == kinds || threads < 1 || threads > MOST_THREADS || calls < 1 || threads * calls > MC2_MOST_EVENTS)
+    is_kept = count != 5 || strcmp(words[4], "unkept") != 0;
+    if (count != (is_kept ? 4 : 5) || kind == kinds || threads < 1 || threads > MOST_THREADS || calls < 1)
+        return 2;
+    if (is_kept && calls > MC2_MOST_EVENTS / threads)
         return 2;
     call = KINDS[kind].call;
+    /* malloc writes all memory that it gives, and the baseline's log is written too. */
+    mallopt(M_PERTURB, 1);
     if (KINDS[kind].lock >= 0)
         open_cell(KINDS[kind].lock, (uint32_t)threads);
     memset(plain.log, 1, sizeof plain.log);
-    pthread_t started[MOST_THREADS];
-    pthread_barrier_init(&start, NULL, (unsigned)threads + 1);
-    for (long at = 0; at < threads; at++)
-        if (pthread_create(&started[at], NULL, work, (void *)(size_t)at) != 0)
-            return 1;
-    long long began = now();
-    pthread_barrier_wait(&start);
-    for (long at = 0; at < threads; at++)
-        pthread_join(started[at], NULL);
-    printf("%lld\n", now() - began);
-    return 0;
+    return run(threads);
 }

@@ -5,10 +5,10 @@ from pathlib import Path
 
 from common import ROOT, Stop, run
 
-# What clang is told besides, by library. With these words that of cells is smaller by 5 in 100, and so are the instructions of a
-# call by 2: fewer functions are copied into others, and a match of less than 6 cases is compared, as a table to jump by takes a
-# relocation of 24 bytes for each.
-CLANG_WORDS = {"cells": "-mllvm -inline-threshold=90 -mllvm -min-jump-table-entries=6"}
+# What clang is told besides, by library. Of cells fewer functions are copied into others than by its own limit; but those with
+# the hint `inline` are copied whatever they take, so that in a call by name nothing is left of the other calls. A match of less
+# than 6 cases is compared, as a table to jump by takes a relocation of 24 bytes for each.
+CLANG_WORDS = {"cells": "-mllvm -inline-threshold=90 -mllvm -inlinehint-threshold=40000 -mllvm -min-jump-table-entries=6"}
 
 
 def kit():

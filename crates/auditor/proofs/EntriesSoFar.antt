@@ -10,6 +10,7 @@ use Rattle.event_log.specs.declared.entry.Done.{Done}
 use Rattle.event_log.specs.declared.entry.Done.TheVariants as done
 use Rattle.event_log.specs.declared.entry.Entry.{Entry}
 use Rattle.event_log.specs.declared.entry.Run.{Run}
+use Rattle.event_log.proofs.Lists.{same_front, get_behind, take_front, take_whole}
 use Rattle.sound_run.specs.Sound.{transcript_of, done_on, with_steps}
 use Rattle.sound_run.proofs.Entries.{done_append, done_here, done_elsewhere}
 use Rattle.sound_run.proofs.Slices.{one_of}
@@ -21,7 +22,6 @@ use Rattle.auditor.specs.Passes.{AreSoundBefore, AreRightTo}
 use Rattle.auditor.specs.SoFar.{IsInLog, HasLogs, IsWith, IsFaultSoFar, IsRightSoFar}
 use Rattle.auditor.specs.Transcripts.{log_in, IsRightAt, AreRightBefore}
 use Rattle.auditor.proofs.EntryFaults.{EntryFault, fault_at, IsWrongBy, IsWrongAt, first_entry, right_more}
-use Rattle.auditor.proofs.Fronts.{same_front, get_behind, take_front, take_whole}
 use Rattle.auditor.proofs.GoingOn.{from_entry, from_transcript_end, transcript_here, all_logs, all_opened}
 use Rattle.auditor.proofs.LogsSoFar.{no_entry}
 

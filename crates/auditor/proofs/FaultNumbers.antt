@@ -8,15 +8,15 @@ use Rattle.event_log.specs.declared.event.Step.{Step}
 use Rattle.event_log.specs.declared.event.Event.{Event}
 use Rattle.event_log.specs.Log.{after}
 use Rattle.sound_run.specs.Sound.{Opened, transcript_of, log_of}
-use Rattle.scripts.specs.contracts.objects.kernel_object.KernelObjectSeqObject.TheImpl.{ghosts as kernel}
+use Rattle.kernel_object.specs.declared.call.KParams.{KParams}
+use Rattle.kernel_object.specs.declared.call.KCall.{KCall}
+use Rattle.kernel_object.specs.declared.call.KReply.{KReply}
+use Rattle.kernel_object.specs.declared.object.KernelObject.{KernelObject}
+use Rattle.kernel_object.specs.contracts.object.KernelObjectSeqObject.TheImpl.{ghosts as kernel}
+use Rattle.kernel_object.specs.KernelTypes.{KernelEvent, KernelEntry}
 use Rattle.scripts.specs.Runs.{opened_of}
-use Rattle.scripts.specs.KernelTypes.{KernelEvent, KernelEntry}
 use Rattle.scripts.specs.RecordRanges.{Record, RecordFits, EventFits}
 use Rattle.scripts.specs.declared.record.form.TheConstants.{WRITTEN}
-use Rattle.scripts.specs.declared.objects.kernel_call.KParams.{KParams}
-use Rattle.scripts.specs.declared.objects.kernel_call.KCall.{KCall}
-use Rattle.scripts.specs.declared.objects.kernel_call.KReply.{KReply}
-use Rattle.scripts.specs.declared.objects.kernel_object.KernelObject.{KernelObject}
 use Rattle.auditor.specs.Faults.{StepIsWrong, EventIsWrong, IsFault, IsFirstFault}
 use Rattle.auditor.specs.VerdictText.{IsNamed, CanBeTold}
 use Rattle.auditor.specs.declared.fault.Fault.{Fault}

@@ -1,5 +1,6 @@
 -- Faults in the order of their places.
-use Rattle.std.proofs.Common.{◌≡◌, inl, inr, ⊎_elim, ℕ, zero, suc, ◌<◌, ◌≤◌, Bool, true, false, List, [], ◌∷◌, length, slice_get, refl, sym, ap, ◌∙◌, arith}
+use Rattle.std.proofs.Common.{◌≡◌, inl, inr, ⊎_elim, ℕ, zero, suc, ◌<◌, Bool, true, false, List, [], ◌∷◌, length, slice_get, refl, sym, ap, ◌∙◌, arith}
+use Rattle.std.proofs.lemmas.Bool.{cases_lt}
 use Rattle.std.specs.Prelude.{◌⊎◌}
 use Rattle.event_log.specs.declared.object.SeqObject.{Ghosts}
 use Rattle.event_log.specs.declared.entry.Entry.{Entry}
@@ -9,12 +10,6 @@ use Rattle.sound_run.proofs.Slices.{one_of}
 use Rattle.auditor.specs.declared.fault.Fault.{Fault}
 use Rattle.auditor.specs.declared.fault.Fault.TheVariants as fault
 use Rattle.auditor.specs.Faults.{HadRoom, IsNotItsEvent, IsFault, IsFirstFault, place, IsBefore}
-
-pub order : (m n : ℕ) → (m < n) ⊎ (n ≤ m)
-order zero zero = inr (omega arith)
-order zero (suc n) = inl (omega arith)
-order (suc m) zero = inr (omega arith)
-order (suc m) (suc n) = ⊎_elim (λ less. inl (omega arith)) (λ le. inr (omega arith)) (order m n)
 
 -- nothing comes before itself
 pub not_itself : (xs : List ℕ) → IsBefore xs xs → ⊥
@@ -40,8 +35,8 @@ three (x ∷ xs) (y ∷ ys) e = ⊎_elim
     (λ ge.
     let same : x ≡ y = omega arith in
     ⊎_elim (λ b. inl (inr (same, b))) (λ r. ⊎_elim (λ s. inr (inl (λ j. same j ∷ s j))) (λ a. inr (inr (inr (sym same, a)))) r) (three xs ys (omega (arith, e))))
-    (order y x))
-    (order x y)
+    (cases_lt y x))
+    (cases_lt x y)
 
 four : (f : Fault) → length (place f) ≡ 4
 four (fault.TooLong x) = refl

@@ -5,13 +5,13 @@ use Rattle.std.proofs.lemmas.List.{length-map, length-take-le, take_more, take_a
 use Rattle.std.proofs.lemmas.Option.{slice_get_within, get_or_from_slice_get}
 use Rattle.sound_run.specs.Sound.{Opened}
 use Rattle.sound_run.proofs.Slices.{map_get, get_map}
-use Rattle.scripts.specs.contracts.objects.kernel_object.KernelObjectSeqObject.TheImpl.{ghosts as kernel}
+use Rattle.kernel_object.specs.declared.call.KParams.{KParams}
+use Rattle.kernel_object.specs.declared.call.KCall.{KCall}
+use Rattle.kernel_object.specs.declared.call.KReply.{KReply}
+use Rattle.kernel_object.specs.declared.object.KernelObject.{KernelObject}
+use Rattle.kernel_object.specs.contracts.object.KernelObjectSeqObject.TheImpl.{ghosts as kernel}
+use Rattle.kernel_object.specs.Kernel.{kernel_in_range}
 use Rattle.scripts.specs.declared.record.form.TheConstants.{WRITTEN}
-use Rattle.scripts.specs.declared.objects.kernel_call.KParams.{KParams}
-use Rattle.scripts.specs.declared.objects.kernel_call.KCall.{KCall}
-use Rattle.scripts.specs.declared.objects.kernel_call.KReply.{KReply}
-use Rattle.scripts.specs.declared.objects.kernel_object.KernelObject.{KernelObject}
-use Rattle.scripts.specs.Kernel.{kernel_in_range}
 use Rattle.scripts.specs.Keeping.{Parts, InLogs, InTranscripts, IsAtHead, IsWholeWith, kept_record}
 use Rattle.scripts.specs.RecordRanges.{RecordFits}
 use Rattle.scripts.specs.Runs.{opened_of}

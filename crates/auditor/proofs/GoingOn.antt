@@ -6,13 +6,12 @@ use Rattle.event_log.specs.declared.object.SeqObject.{Ghosts}
 use Rattle.event_log.specs.declared.event.Event.{Event}
 use Rattle.event_log.specs.declared.entry.Entry.{Entry}
 use Rattle.event_log.specs.declared.entry.Run.{Run}
+use Rattle.event_log.proofs.Lists.{get_front, list_behind, no_more, some_at}
 use Rattle.sound_run.specs.Sound.{transcript_of, log_of}
-use Rattle.sound_run.proofs.Slices.{some_at}
 use Rattle.auditor.specs.declared.opened_object.OpenedObject.{OpenedObject}
 use Rattle.auditor.specs.Fed.{Fed, log_begun, event_fed, log_ended, transcript_begun, entry_fed, transcript_ended, run_of}
 use Rattle.auditor.specs.Passes.{IsRunOf}
 use Rattle.auditor.specs.SoFar.{GoesOnFrom, IsInLog, HasLogs, IsWith}
-use Rattle.auditor.proofs.Fronts.{get_front, list_behind, no_more}
 
 -- what begins with more begins with less
 back : {X : Type 0} (a b : List X) (x : X) → GoesOnFrom (a ++ x ∷ []) b → GoesOnFrom a b

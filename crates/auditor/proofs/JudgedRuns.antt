@@ -4,8 +4,8 @@ use Rattle.std.specs.Prelude.{◌↔◌, slice_index}
 use Rattle.event_log.specs.declared.object.SeqObject.{Ghosts}
 use Rattle.event_log.specs.declared.event.Event.{Event}
 use Rattle.event_log.specs.declared.entry.Run.{Run}
+use Rattle.event_log.proofs.Lists.{some_at}
 use Rattle.sound_run.specs.Sound.{Opened, Sound}
-use Rattle.sound_run.proofs.Slices.{some_at}
 use Rattle.auditor.specs.declared.fault.Fault.{Fault}
 use Rattle.auditor.specs.declared.fault.Fault.TheVariants as fault
 use Rattle.auditor.specs.declared.fault.Verdict.{Verdict}

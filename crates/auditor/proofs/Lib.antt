@@ -3,7 +3,6 @@ pub mod WrongSteps
 pub mod OwnEvents
 pub mod NextEventSteps
 pub mod Judging
-pub mod Fronts
 pub mod PackedSteps
 pub mod PackedLogs
 pub mod Lives

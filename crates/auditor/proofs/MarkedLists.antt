@@ -1,11 +1,12 @@
 -- How a table of marks follows its list.
-use Rattle.std.proofs.Common.{◌≡◌, ◌≢◌, ℕ, zero, suc, ◌<◌, ◌==◌, ◌||◌, Bool, true, false, not, cond, List, [], ◌∷◌, ◌++◌, length, get_or, set, replicate, refl, sym, ap, ◌∙◌, subst, arith}
+use Rattle.std.proofs.Common.{◌≡◌, ◌≢◌, ℕ, ◌<◌, ◌==◌, ◌||◌, Bool, true, false, not, List, [], ◌∷◌, ◌++◌, length, get_or, set, replicate, refl, sym, ap, ◌∙◌, subst, arith}
 use Rattle.std.specs.List.Sorted.{IsPermutation}
 use Rattle.std.proofs.lemmas.Bool.Decides.{nat_tests}
 use Rattle.std.proofs.lemmas.List.{get_or-set_same, get_or-set_other, length-set}
 use Rattle.std.proofs.lemmas.List.Folds.{list_any-append}
 use Rattle.std.proofs.lemmas.List.Sorted.{list_any-IsPermutation}
 use Rattle.event_log.specs.Distinct.{has, without, AreDistinctBelow}
+use Rattle.event_log.proofs.Cells.{has_without, gone, none_flagged}
 use Rattle.event_log.proofs.Distinct.{distinct_push, distinct_filter, distinct_permuted, distinct_length_missing}
 use Rattle.auditor.specs.Marks.{AreMarked}
 
@@ -23,14 +24,9 @@ marks_written table list new t b lt h here there u = same_or t u (get_or (set ta
 still : (table : List Bool) (t : ℕ) (b : Bool) (list : List ℕ) → AreDistinctBelow (length table) list → AreDistinctBelow (length (set table t b)) list
 still table t b list q = subst (λ n. AreDistinctBelow n list) (sym (length-set table t b)) q
 
-none_at : (n t : ℕ) → get_or (replicate n false) t false ≡ false
-none_at zero t = refl
-none_at (suc n) zero = refl
-none_at (suc n) (suc t) = none_at n t
-
 -- no thread stands in the empty list
 pub marked_none : (n : ℕ) → AreMarked (replicate n false) []
-marked_none n = record { distinct = tt; marks = none_at n }
+marked_none n = record { distinct = tt; marks = none_flagged n }
 
 -- a number that differs isn't the one
 apart : (t u : ℕ) → u ≢ t → (t == u) ≡ false
@@ -60,24 +56,6 @@ marked_put table list t lt absent h =
       distinct = still table t true new (distinct_push (length table) list t h.distinct lt (sym (h.marks t) ∙ absent));
       marks = marks_written table list new t true lt h here there;
     }
-
-has_without : (t u : ℕ) (list : List ℕ) → u ≢ t → has u (without t list) ≡ has u list
-has_without t u [] n = refl
-has_without t u (x ∷ list) n =
-    let rest = has_without t u list n in
-    elim (x == t) as (λ b. (x == t) ≡ b → has u (cond (not b) (x ∷ without t list) (without t list)) ≡ ((x == u) || has u list)) [
-      | true ↦ λ e. let other : (x == u) ≡ false = grind (arith, nat_tests, e, n) in rest ∙ ap (λ b. b || has u list) (sym other)
-      | false ↦ λ e. ap (λ b. (x == u) || b) rest
-    ] refl
-
-gone : (t : ℕ) (list : List ℕ) → has t (without t list) ≡ false
-gone t [] = refl
-gone t (x ∷ list) =
-    let rest = gone t list in
-    elim (x == t) as (λ b. (x == t) ≡ b → has t (cond (not b) (x ∷ without t list) (without t list)) ≡ false) [
-      | true ↦ λ e. rest
-      | false ↦ λ e. ap (λ b. b || has t (without t list)) e ∙ rest
-    ] refl
 
 -- one of them leaves
 pub marked_without : (table : List Bool) (list : List ℕ) (t : ℕ) → t < length table → AreMarked table list → AreMarked (set table t false) (without t list)

@@ -7,6 +7,7 @@ use Rattle.event_log.specs.declared.event.Event.{Event}
 use Rattle.event_log.specs.declared.entry.Entry.{Entry}
 use Rattle.event_log.specs.declared.entry.Run.{Run}
 use Rattle.event_log.specs.Log.{replay_from}
+use Rattle.event_log.proofs.Lists.{get_push}
 use Rattle.sound_run.specs.Sound.{done_on}
 use Rattle.auditor.specs.declared.fault.Fault.{Fault}
 use Rattle.auditor.specs.declared.fault.Fault.TheVariants as fault
@@ -26,7 +27,6 @@ use Rattle.auditor.proofs.EntryFaults.{kind_of}
 use Rattle.auditor.proofs.GoingOn.{from_transcript}
 use Rattle.auditor.proofs.KeptLogs.{kept_begun, kept_event, kept_ended, kept_transcript, kept_entry, kept_turned}
 use Rattle.auditor.proofs.LogsSoFar.{right_nothing, opened_last, in_log, right_begun, long_so_far, wrong_so_far, right_event, right_ended}
-use Rattle.auditor.proofs.NextEventSteps.{get_push}
 use Rattle.auditor.proofs.WrongSteps.{replay_more}
 
 module _ {O P C R J W : Type 0} (meaning : Ghosts O P C R) (shows : J → O) where

@@ -1,17 +1,16 @@
 -- The run of a record is one over the objects of its settings.
-use Rattle.std.proofs.Common.{◌≡◌, ℕ, zero, suc, List, [], ◌∷◌, length, slice_get, sym, ap, ◌∙◌, arith}
-use Rattle.std.specs.Prelude.{unwrap_or}
-use Rattle.std.specs.List.{AllByRecursion}
+use Rattle.std.proofs.Common.{◌≡◌, ℕ, List, length, slice_get, sym, ap, ◌∙◌, arith}
 use Rattle.std.proofs.lemmas.List.{length-map}
+use Rattle.event_log.proofs.Each.{each_list_at}
 use Rattle.sound_run.specs.Sound.{Opened, transcript_of, log_of}
 use Rattle.sound_run.proofs.Slices.{map_get, get_map}
-use Rattle.scripts.specs.contracts.objects.kernel_object.KernelObjectSeqObject.TheImpl.{ghosts as kernel}
+use Rattle.kernel_object.specs.declared.call.KParams.{KParams}
+use Rattle.kernel_object.specs.declared.call.KCall.{KCall}
+use Rattle.kernel_object.specs.declared.call.KReply.{KReply}
+use Rattle.kernel_object.specs.declared.object.KernelObject.{KernelObject}
+use Rattle.kernel_object.specs.contracts.object.KernelObjectSeqObject.TheImpl.{ghosts as kernel}
+use Rattle.kernel_object.specs.Kernel.{kernel_in_range}
 use Rattle.scripts.specs.declared.record.form.TheConstants.{WRITTEN}
-use Rattle.scripts.specs.declared.objects.kernel_call.KParams.{KParams}
-use Rattle.scripts.specs.declared.objects.kernel_call.KCall.{KCall}
-use Rattle.scripts.specs.declared.objects.kernel_call.KReply.{KReply}
-use Rattle.scripts.specs.declared.objects.kernel_object.KernelObject.{KernelObject}
-use Rattle.scripts.specs.Kernel.{kernel_in_range}
 use Rattle.scripts.specs.RecordRanges.{Record, RecordFits, EventFits, EntryFits, LogFits, TranscriptFits}
 use Rattle.scripts.specs.Runs.{opened_of}
 use Rattle.scripts.specs.Settings.{ObjectSettings, ObjectFits}
@@ -26,17 +25,11 @@ KernelTerms = OpenedObject KernelObject KParams KCall KReply
 abbrev pub object_opened : ObjectSettings → Opened KParams
 object_opened o = record { params = o.params; limit = o.events }
 
--- one of several lists, or none
-list_at : {X : Type 0} (Q : List X → Type 0) (lists : List (List X)) (i : ℕ) → AllByRecursion Q lists → Q [] → Q (unwrap_or (slice_get lists i) [])
-list_at Q [] i all none = none
-list_at Q (l ∷ lists) zero all none = all.0
-list_at Q (l ∷ lists) (suc i) all none = list_at Q lists i all.1 none
-
 pub log_fits : (r : Record) → RecordFits r → (x : ℕ) → LogFits WRITTEN r.settings.cpus (log_of x r.run)
-log_fits r fits x = list_at (LogFits WRITTEN r.settings.cpus) r.run.logs x fits.1.logs (omega arith, tt)
+log_fits r fits x = each_list_at (LogFits WRITTEN r.settings.cpus) r.run.logs x fits.1.logs (omega arith, tt)
 
 pub transcript_fits : (r : Record) → RecordFits r → (cpu : ℕ) → TranscriptFits WRITTEN (length r.settings.objects) (transcript_of cpu r.run)
-transcript_fits r fits cpu = list_at (TranscriptFits WRITTEN (length r.settings.objects)) r.run.transcripts cpu fits.1.transcripts (omega arith, tt)
+transcript_fits r fits cpu = each_list_at (TranscriptFits WRITTEN (length r.settings.objects)) r.run.transcripts cpu fits.1.transcripts (omega arith, tt)
 
 pub record_run : (r : Record) (opened_objects : List KernelTerms) → RecordFits r → opened_by opened_objects ≡ opened_of r.settings → IsRunOf kernel opened_objects r.run
 record_run r opened_objects fit same =

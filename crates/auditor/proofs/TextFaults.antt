@@ -2,9 +2,9 @@
 use Rattle.std.proofs.Common.{◌≡◌, ℕ, List, Option, Result, Ok, Err, sym, ap, subst}
 use Rattle.std.specs.Prelude.{◌↔◌}
 use Rattle.std.specs.Result.{IsErrAnd, IfErr}
+use Rattle.kernel_object.specs.contracts.object.KernelObjectSeqObject.TheImpl.{ghosts as kernel}
 use Rattle.scripts.specs.declared.text.fault.TextFault.{TextFault}
 use Rattle.scripts.specs.declared.text.fault.TextFault.TheVariants as text_fault
-use Rattle.scripts.specs.contracts.objects.kernel_object.KernelObjectSeqObject.TheImpl.{ghosts as kernel}
 use Rattle.scripts.specs.Keeping.{Parts, kept_record, IsWholeWith}
 use Rattle.scripts.specs.RecordRanges.{Record}
 use Rattle.scripts.specs.RecordSources.{NamesBadLineOfRest, IsReadFrom, IsReadOut}

@@ -1,5 +1,6 @@
 -- A run without the auditor's faults is sound, and a sound run has none.
 use Rattle.std.proofs.Common.{◌≡◌, ⊎_elim, ℕ, zero, suc, ◌+◌, ◌<◌, ◌≤◌, List, [], ◌∷◌, ◌++◌, length, take, drop, slice_get, Option, Some, None, refl, sym, ap, ◌∙◌, subst, arith, length-append}
+use Rattle.std.proofs.lemmas.Option.{slice_get_within}
 use Rattle.std.specs.Prelude.{unwrap_or}
 use Rattle.std.specs.List.{AllByRecursion}
 use Rattle.std.proofs.lemmas.List.{length-map}
@@ -11,8 +12,9 @@ use Rattle.event_log.specs.declared.entry.Done.{Done}
 use Rattle.event_log.specs.declared.entry.Done.TheVariants as done
 use Rattle.event_log.specs.declared.entry.Entry.{Entry}
 use Rattle.event_log.specs.declared.entry.Run.{Run}
+use Rattle.event_log.proofs.Lists.{some_at}
 use Rattle.sound_run.specs.Sound.{Opened, Sound, LogIsSound, EntryIsSound, Answers, NoneAfterFull, transcript_of, log_of, done_on, steps_by}
-use Rattle.sound_run.proofs.Slices.{some_at, one_of, map_get, get_map}
+use Rattle.sound_run.proofs.Slices.{one_of, map_get, get_map}
 use Rattle.sound_run.proofs.Entries.{done_append, done_without}
 use Rattle.auditor.specs.declared.fault.Fault.{Fault}
 use Rattle.auditor.specs.declared.fault.Fault.TheVariants as fault
@@ -22,7 +24,6 @@ use Rattle.auditor.specs.Claims.{IsRight}
 use Rattle.auditor.specs.Passes.{AreSoundBefore}
 use Rattle.auditor.specs.Transcripts.{judged_by, opened_by, IsRightAt}
 use Rattle.auditor.specs.NoFaults.{HasNoFault}
-use Rattle.auditor.proofs.NextEventSteps.{get_within}
 use Rattle.auditor.proofs.OwnEvents.{own_steps}
 use Rattle.auditor.proofs.Ranked.{done_at, done_of}
 use Rattle.auditor.proofs.LogFaults.{none_long, none_wrong}
@@ -81,14 +82,14 @@ module _ {O P C R : Type 0} (meaning : Ghosts O P C R) (opened_objects : List (O
 
   module _ (h : HasNoFault meaning opened_objects run) where
     right_at : (cpu n : ℕ) (e : Entry O P C R) → slice_get (transcript_of cpu run) n ≡ Some e → IsRightAt meaning opened_objects run.logs cpu (transcript_of cpu run) n e
-    right_at cpu n e at = h.right cpu n e (get_within (transcript_of cpu run) n e at) at
+    right_at cpu n e at = h.right cpu n e (slice_get_within (transcript_of cpu run) n e at) at
 
     taken_all : (cpu x : ℕ) → x < length run.logs → done_on x (transcript_of cpu run) ≡ steps_by cpu (log_of x run)
     taken_all cpu x lt = same_lists (done_on x (transcript_of cpu run)) (steps_by cpu (log_of x run)) each (h.claimed cpu x lt)
       where
         each : (r : ℕ) (s : Steps O P C R) → slice_get (done_on x (transcript_of cpu run)) r ≡ Some s → slice_get (steps_by cpu (log_of x run)) r ≡ Some s
         each r s at =
-            let d = done_of x r (transcript_of cpu run) (get_within (done_on x (transcript_of cpu run)) r s at) in
+            let d = done_of x r (transcript_of cpu run) (slice_get_within (done_on x (transcript_of cpu run)) r s at) in
             let mine = done_at x (transcript_of cpu run) d.index d.entry d.steps d.there d.object d.done in
             let same : d.steps ≡ s = one_of d.steps s (slice_get (done_on x (transcript_of cpu run)) r) (ap (λ k. slice_get (done_on x (transcript_of cpu run)) k) (sym d.rank) ∙ mine) at in
             let i = right_at cpu d.index d.entry d.there in
@@ -130,7 +131,7 @@ module _ {O P C R : Type 0} (meaning : Ghosts O P C R) (opened_objects : List (O
     sound_of = record {
       counted = h.counted ∙ sym (length-map opened_objects judged_by);
       logs = log_is;
-      taken = λ cpu x log e. taken_all cpu x (get_within run.logs x log e) ∙ ap (steps_by cpu) (log_at x log e);
+      taken = λ cpu x log e. taken_all cpu x (slice_get_within run.logs x log e) ∙ ap (steps_by cpu) (log_at x log e);
       entries = λ cpu. all_from (EntryIsSound meaning objects run) (transcript_of cpu run) (entry_is cpu);
       full = λ cpu. none_from (transcript_of cpu run) (none_later cpu);
     }
@@ -173,7 +174,7 @@ module _ {O P C R : Type 0} (meaning : Ghosts O P C R) (opened_objects : List (O
         by None none = let at : slice_get (log_of x run) e ≡ Some f.event = f.there in let no : log_of x run ≡ [] = ap (λ o. unwrap_or o []) none in let bad : slice_get (let l : List (Event O P C R) = [] in l) e ≡ Some f.event = ap (λ l. slice_get l e) (sym no) ∙ at in absurd (cc)
         by (Some log) found =
             let is : log_of x run ≡ log = ap (λ o. unwrap_or o []) found in
-            let lt = get_within (steps_by f.event.cpu (log_of x run)) (events_before f.event.cpu e (log_of x run)) f.event.steps (own_steps f.event.cpu (log_of x run) e f.event f.there refl) in
+            let lt = slice_get_within (steps_by f.event.cpu (log_of x run)) (events_before f.event.cpu e (log_of x run)) f.event.steps (own_steps f.event.cpu (log_of x run) e f.event f.there refl) in
             let all = ap length (sound.taken f.event.cpu x log found ∙ ap (steps_by f.event.cpu) (sym is)) in
             let none = f.none in
             absurd (omega (arith, lt, all, none))

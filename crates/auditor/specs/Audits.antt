@@ -1,6 +1,6 @@
 -- What is said of a record, and of a text.
 use Rattle.std.specs.Prelude.{◌≡◌, ◌↔◌, ℕ, List, Option, Result, Ok, Err}
-use Rattle.scripts.specs.contracts.objects.kernel_object.KernelObjectSeqObject.TheImpl.{ghosts as kernel}
+use Rattle.kernel_object.specs.contracts.object.KernelObjectSeqObject.TheImpl.{ghosts as kernel}
 use Rattle.scripts.specs.declared.text.fault.TextFault.{TextFault}
 use Rattle.scripts.specs.declared.text.fault.TextFault.TheVariants as text_fault
 use Rattle.scripts.specs.RecordFaults.{IsWhole}

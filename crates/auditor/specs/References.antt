@@ -1,6 +1,6 @@
 -- What a reference object shows.
-use Rattle.scripts.specs.declared.objects.kernel_object.KernelObject.{KernelObject}
-use Rattle.scripts.specs.declared.objects.kernel_object.KernelObject.TheVariants.{Queue, Pool, Console, Sched}
+use Rattle.kernel_object.specs.declared.object.KernelObject.{KernelObject}
+use Rattle.kernel_object.specs.declared.object.KernelObject.TheVariants.{Queue, Pool, Console, Sched}
 use Rattle.auditor.specs.declared.references.object.ReferenceKernelObject.{ReferenceKernelObject}
 use Rattle.auditor.specs.declared.references.object.ReferenceKernelObject.TheVariants as reference
 

@@ -10,7 +10,6 @@ use Rattle.shared_queue.specs.declared.call.QueueReply.{QueueReply}
 use Rattle.word_rule.specs.declared.pass.Pass.{Pass}
 use Rattle.ticket_lock.specs.Passes.{IsPassOf as IsTicketPass}
 use Rattle.mcs_lock.specs.Passes.{IsPassOf as IsMcsPass}
-use Rattle.toggle_lock.specs.Passes.{IsPassOf as IsTogglePass}
 use Rattle.guarded_cell.specs.Kinds.{IsPassOf as IsEitherPass}
 use Rattle.guarded_cell.specs.declared.cell.AnyCell.TheVariants as either
 use Rattle.bench.specs.declared.cells.Cell.{Cell}
@@ -21,13 +20,11 @@ module _ {g : Ghosts ThreadQueue ℕ QueueCall QueueReply} {ce : Eq QueueCall} {
   abbrev pub IsPassOf : Cell → Pass ThreadQueue ℕ QueueCall QueueReply g ce cd re rd → Type 0
   IsPassOf (cells.Ticket c) p = IsTicketPass c p
   IsPassOf (cells.Mcs c) p = IsMcsPass c p
-  IsPassOf (cells.Toggle c) p = IsTogglePass c p
   IsPassOf (cells.Any c) p = IsEitherPass c p
 
   -- and is so in one way at most
   pub IsPassOf-prop : (c : Cell) (p : Pass ThreadQueue ℕ QueueCall QueueReply g ce cd re rd) → IsProp (IsPassOf c p)
   IsPassOf-prop (cells.Ticket c) p = hlevel props
   IsPassOf-prop (cells.Mcs c) p = hlevel props
-  IsPassOf-prop (cells.Toggle c) p = hlevel props
   IsPassOf-prop (cells.Any (either.Ticket c)) p = hlevel props
   IsPassOf-prop (cells.Any (either.Mcs c)) p = hlevel props

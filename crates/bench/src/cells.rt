@@ -15,7 +15,6 @@ use shared_queue::ThreadQueue;
 use std::alloc::{AllocError, Global};
 use std::sync::{Arc, Mutex, Wait};
 use ticket_lock::TicketCell;
-use toggle_lock::ToggleCell;
 use word_rule::LockCell;
 
 /// A queue behind one lock, or behind a lock that was chosen.
@@ -23,7 +22,6 @@ use word_rule::LockCell;
 pub enum Cell {
     Ticket(TicketCell<ThreadQueue>),
     Mcs(McsCell<ThreadQueue>),
-    Toggle(ToggleCell<ThreadQueue>),
     Any(AnyCell<ThreadQueue>),
 }
 
@@ -74,7 +72,6 @@ pub fn open(alloc: Global, kind: Kind, load: &Load, calls: u32) -> Result<Vec<Ca
     match kind {
         Kind::Ticket => shared!(alloc, Cell::Ticket, TicketCell::new(alloc, queue, cpus, 0)),
         Kind::Mcs => shared!(alloc, Cell::Mcs, McsCell::new(alloc, queue, cpus)),
-        Kind::Toggle => shared!(alloc, Cell::Toggle, ToggleCell::new(alloc, queue, cpus)),
         Kind::Any(lock) => shared!(alloc, Cell::Any, AnyCell::open(alloc, lock, queue, cpus)),
         Kind::Mutex => {
             let shared = Arc::new(alloc, InMutex(Mutex::new(queue)))?;
@@ -108,7 +105,6 @@ impl Caller {
                 let pass = match &*cell {
                     Cell::Ticket(cell) => calls.on(rt, cell, pass),
                     Cell::Mcs(cell) => calls.on(rt, cell, pass),
-                    Cell::Toggle(cell) => calls.on(rt, cell, pass),
                     Cell::Any(cell) => calls.on_either(rt, cell, pass),
                 };
                 Caller::ByLock(ByLock { cell, pass })
@@ -126,7 +122,6 @@ impl Caller {
             Caller::ByLock(ByLock { cell, pass }) => match &*cell {
                 Cell::Ticket(cell) => tally_lock(rt, cell, pass),
                 Cell::Mcs(cell) => tally_lock(rt, cell, pass),
-                Cell::Toggle(cell) => tally_lock(rt, cell, pass),
                 Cell::Any(cell) => tally_lock(rt, cell, pass),
             },
             Caller::InMutex(queue) => tally_of(queue.0.lock(rt).log()),

@@ -16,15 +16,13 @@ use std::{env, io};
 pub enum Kind {
     Ticket,
     Mcs,
-    Toggle,
     Any(LockKind),
     Mutex,
 }
 
-const KINDS: [(&str, Kind); 6] = [
+const KINDS: [(&str, Kind); 5] = [
     ("ticket", Kind::Ticket),
     ("mcs", Kind::Mcs),
-    ("toggle", Kind::Toggle),
     ("any-ticket", Kind::Any(LockKind::Ticket)),
     ("any-mcs", Kind::Any(LockKind::Mcs)),
     ("mutex", Kind::Mutex),

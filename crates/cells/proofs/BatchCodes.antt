@@ -1,6 +1,6 @@
 -- Calls of a batch, one after another.
-use Rattle.std.proofs.Common.{◌≡◌, ℕ, zero, suc, ◌<◌, ◌≤◌, List, [], ◌∷◌, ◌∙◌, length, get_or, map, take, ap, refl, arith, Option, Some, None}
-use Rattle.scripts.specs.declared.objects.kernel_call.KCall.{KCall}
+use Rattle.std.proofs.Common.{◌≡◌, ℕ, zero, suc, ◌<◌, List, [], ◌∷◌, ◌∙◌, length, get_or, map, ap, refl, arith, Option, Some, None}
+use Rattle.kernel_object.specs.declared.call.KCall.{KCall}
 use Rattle.cells.specs.declared.coding.Asked.{Asked}
 use Rattle.cells.specs.Coding.{called_of}
 use Rattle.cells.specs.BatchCodes.{with_call, calls_of}
@@ -24,10 +24,3 @@ pub one_lacks : (xs : List Asked) (k : ℕ) (d : Asked) → k < length xs → ca
 one_lacks [] k d lt none = absurd (omega arith)
 one_lacks (x ∷ xs) zero d lt none = ap (λ o. with_call o (calls_of xs)) none
 one_lacks (x ∷ xs) (suc k) d lt none = ap (λ r. with_call (called_of x) r) (one_lacks xs k d (omega arith) none) ∙ none_after (called_of x)
-
--- a list is all of itself
-pub take_over : (xs : List Asked) (i : ℕ) → length xs ≤ i → take i xs ≡ xs
-take_over [] zero le = refl
-take_over [] (suc i) le = refl
-take_over (x ∷ xs) zero le = absurd (omega arith)
-take_over (x ∷ xs) (suc i) le = ap (λ l. x ∷ l) (take_over xs i (omega arith))

@@ -1,5 +1,6 @@
 -- The passes of a cell that nobody has called, joined.
-use Rattle.std.proofs.Common.{◌≡◌, ℕ, ◌<◌, ◌||◌, Bool, true, false, List, [], ◌∷◌, ◌++◌, length, refl, sym, ap, subst, ◌∙◌, arith, slice_get, Some, ◌⊎◌, inl, inr}
+use Rattle.std.proofs.Common.{◌≡◌, ℕ, ◌<◌, ◌||◌, true, List, [], ◌∷◌, ◌++◌, length, refl, sym, ap, subst, ◌∙◌, arith, slice_get, Some, inl, inr}
+use Rattle.std.proofs.lemmas.Bool.{or_right, or_left, or_cases}
 use Rattle.std.specs.declared.cmp.PartialEq.{Ghosts as Eq}
 use Rattle.std.specs.declared.default.Default.{Ghosts as Default}
 use mathlib.Core.Logic.{dite}
@@ -7,23 +8,17 @@ use native.Mathlib.Decide.{dec_lt}
 use Rattle.event_log.specs.declared.object.SeqObject.{Ghosts}
 use Rattle.event_log.specs.Log.{of}
 use Rattle.event_log.specs.History.{History, IsKept}
+use Rattle.event_log.proofs.Lists.{some_at, get_push, get_front, get_last}
 use Rattle.sound_run.specs.declared.lock_kind.LockKind.{LockKind}
-use Rattle.sound_run.proofs.Slices.{some_at}
 use Rattle.word_rule.specs.declared.pass.Pass.{Pass}
-use Rattle.word_rule.specs.Algorithms.{algorithm_of}
 use Rattle.word_rule.specs.Cell.{EachAt, Grows, OwnsAll, cell_of, first_pass, stored}
 use Rattle.word_rule.specs.Passes.{view_of_pass}
 use Rattle.word_rule.proofs.Lists.{same_log, of_opening}
 use Rattle.guarded_cell.specs.declared.cell.AnyCell.{AnyCell}
 use Rattle.guarded_cell.specs.Kinds.{IsPassOf}
-use Rattle.guarded_cell.proofs.Joins.{at_snoc}
 use Rattle.cells.specs.CallerStates.{fixed_of}
 use Rattle.cells.specs.Unused.{IsUnused, Covers}
-use Rattle.cells.proofs.Homes.{told_of, get_front, get_last, or_left, or_right, same_number}
-
-one_true : (a b : Bool) → (a || b) ≡ true → (a ≡ true) ⊎ (b ≡ true)
-one_true true b e = inl refl
-one_true false b e = inr e
+use Rattle.cells.proofs.Homes.{told_of, same_number}
 
 -- what each of a list has, all but the last have, and the last
 pub front_each : {A : Type 0} (Q : A → Type 0) (ps xs : List A) (x : A) → ps ≡ xs ++ x ∷ [] → EachAt (λ _ p. Q p) ps → EachAt (λ _ p. Q p) xs
@@ -39,7 +34,7 @@ module _ {O P C R : Type 0} {g : Ghosts O P C R} {call_eq : Eq C} {call_default 
       → Grows (view_of_pass a).caller.owned (view_of_pass a).seen (view_of_pass j).seen → Grows (view_of_pass b).caller.owned (view_of_pass b).seen (view_of_pass j).seen → IsUnused cell j
   joined_unused cell a b j ua ub of_cell owned ga gb = record {
     pass = of_cell;
-    none = λ k mine. elim (one_true ((view_of_pass a).caller.owned k) ((view_of_pass b).caller.owned k) (sym (owned k) ∙ mine)) [ inl e ↦ ga.own k e ∙ ua.none k e | inr e ↦ gb.own k e ∙ ub.none k e ];
+    none = λ k mine. elim (or_cases ((view_of_pass a).caller.owned k) ((view_of_pass b).caller.owned k) (sym (owned k) ∙ mine)) [ inl e ↦ ga.own k e ∙ ua.none k e | inr e ↦ gb.own k e ∙ ub.none k e ];
   }
 
   pub covers_first : (a b j : Pass O P C R g call_eq call_default reply_eq reply_default) → ((k : ℕ) → (view_of_pass j).caller.owned k ≡ ((view_of_pass a).caller.owned k || (view_of_pass b).caller.owned k)) → Covers a j
@@ -51,7 +46,7 @@ module _ {O P C R : Type 0} {g : Ghosts O P C R} {call_eq : Eq C} {call_default 
   -- the passes so far, and one more, are covered by the pass that is joined of both
   pub covers_more : (ps : List (Pass O P C R g call_eq call_default reply_eq reply_default)) (a b j : Pass O P C R g call_eq call_default reply_eq reply_default) → ((k : ℕ) → (view_of_pass j).caller.owned k ≡ ((view_of_pass a).caller.owned k || (view_of_pass b).caller.owned k))
       → EachAt (λ _ p. Covers p a) ps → EachAt (λ _ p. Covers p j) (ps ++ b ∷ [])
-  covers_more ps a b j owned each k x there = elim (at_snoc ps b k x there) [ inl e ↦ λ n o. covers_first a b j owned n (each k x e n o) | inr e ↦ subst (λ p. Covers p j) e.1 (covers_second a b j owned) ]
+  covers_more ps a b j owned each k x there = elim (get_push ps b k x there) [ inl e ↦ λ n o. covers_first a b j owned n (each k x e n o) | inr e ↦ subst (λ p. Covers p j) e.1 (covers_second a b j owned) ]
 
   -- a pass that covers all of them owns each CPU
   pub owns_each : (cell : AnyCell O P C R) (ps rest : List (Pass O P C R g call_eq call_default reply_eq reply_default)) (last whole : Pass O P C R g call_eq call_default reply_eq reply_default) → ps ≡ rest ++ last ∷ [] → IsPassOf cell whole → (fixed_of cell).numbers ≡ length ps
@@ -63,7 +58,7 @@ module _ {O P C R : Type 0} {g : Ghosts O P C R} {call_eq : Eq C} {call_default 
           let under : k < length ps = subst (λ n. k < n) count (subst (λ h. k < h.numbers) (told_of cell whole is) below) in
           let one = some_at ps k under in
           let its = each k one.0 one.1 in
-          let covered : Covers one.0 whole = elim (at_snoc rest last k one.0 (subst (λ l. slice_get l k ≡ Some one.0) split one.1)) [ inl e ↦ others k one.0 e | inr e ↦ subst (λ p. Covers p whole) e.1 first ] in
+          let covered : Covers one.0 whole = elim (get_push rest last k one.0 (subst (λ l. slice_get l k ≡ Some one.0) split one.1)) [ inl e ↦ others k one.0 e | inr e ↦ subst (λ p. Covers p whole) e.1 first ] in
           covered k its
 
   -- what a pass of all CPUs has seen, if they have done nothing
@@ -84,11 +79,11 @@ module _ {O P C R : Type 0} {g : Ghosts O P C R} {call_eq : Eq C} {call_default 
 
   -- the passes of a new cell
   module _ (kind : LockKind) (logged : History O P C R) (cpus : ℕ) (cell : AnyCell O P C R) (ps : List (Pass O P C R g call_eq call_default reply_eq reply_default))
-      (new : EachAt (λ k p. IsPassOf cell p × (view_of_pass p ≡ first_pass (algorithm_of kind) 0 logged cpus k)) ps) where
+      (new : EachAt (λ k p. IsPassOf cell p × (view_of_pass p ≡ first_pass kind 0 logged cpus k)) ps) where
     pub new_unused : EachAt (λ _ p. IsUnused cell p) ps
     new_unused k p there =
         let is = new k p there in
-        let fixed : fixed_of cell ≡ cell_of (algorithm_of kind) 0 cpus logged = sym (told_of cell p is.0) ∙ ap (λ v. v.caller.cell) is.1 in
+        let fixed : fixed_of cell ≡ cell_of kind 0 cpus logged = sym (told_of cell p is.0) ∙ ap (λ v. v.caller.cell) is.1 in
         record { pass = is.0; none = λ j mine. ap (λ v. of j v.seen) is.1 ∙ sym (ap (λ h. of j h.opening) fixed) }
 
     pub new_each : EachAt (λ k p. (view_of_pass p).caller.owned k ≡ true) ps
@@ -98,5 +93,5 @@ module _ {O P C R : Type 0} {g : Ghosts O P C R} {call_eq : Eq C} {call_default 
     new_left some kept =
         let one = some_at ps 0 some in
         let is = new 0 one.0 one.1 in
-        let fixed : fixed_of cell ≡ cell_of (algorithm_of kind) 0 cpus logged = sym (told_of cell one.0 is.0) ∙ ap (λ v. v.caller.cell) is.1 in
+        let fixed : fixed_of cell ≡ cell_of kind 0 cpus logged = sym (told_of cell one.0 is.0) ∙ ap (λ v. v.caller.cell) is.1 in
         ap (λ h. stored g h h.opening) fixed ∙ ap (λ s. record logged { state = s }) (sym kept.replayed)

@@ -1,7 +1,7 @@
 -- Batches of calls, by the numbers that C has for them.
 use Rattle.std.specs.Prelude.{◌≡◌, List, [], ◌∷◌, length, take, map, Option, Some, None}
-use Rattle.scripts.specs.KernelTypes.{KernelStep}
-use Rattle.scripts.specs.declared.objects.kernel_call.KCall.{KCall}
+use Rattle.kernel_object.specs.declared.call.KCall.{KCall}
+use Rattle.kernel_object.specs.KernelTypes.{KernelStep}
 use Rattle.cells.specs.declared.coding.Asked.{Asked}
 use Rattle.cells.specs.declared.batching.Batch.{Batch}
 use Rattle.cells.specs.declared.batching.Replies.{Replies}

@@ -1,5 +1,5 @@
 -- What is done with what a handle has: a cell is opened, gives passes out, takes callers back and ends, or nothing is done.
-use Rattle.std.specs.Prelude.{◌≡◌, ℕ, nat_lt, Bool, true, false, Option, Some, None, Result, Ok, Err, if◌then◌else◌}
+use Rattle.std.specs.Prelude.{◌≡◌, ℕ, is_some, nat_lt, Bool, true, false, Option, Some, None, Result, Ok, Err, if◌then◌else◌}
 use Rattle.event_log.specs.declared.logged.TheConstants.{MOST_EVENTS}
 use Rattle.std_alloc.specs.Arc.{arc_value}
 use Rattle.cells.specs.declared.handle_content.HandleContent.{HandleContent}
@@ -14,7 +14,6 @@ use Rattle.cells.specs.declared.ends.NotClosed.TheVariants.{NotAllBack}
 use Rattle.cells.specs.declared.logged_step.LoggedStep.{LoggedStep}
 use Rattle.cells.specs.HandleContents.{KernelCaller}
 use Rattle.cells.specs.LoggedSteps.{logged_step}
-use Rattle.cells.specs.CallerStates.{is_idle}
 use Rattle.cells.specs.Ends.{IsSame, IsNewCaller, IsReturned, HasClosed, IsWhyOpen}
 use Rattle.cells.specs.Openings.{IsOpened, IsUnfit}
 
@@ -62,5 +61,5 @@ step_of before i j = None
 
 -- all but a caller that isn't idle
 abbrev pub may_be_freed : HandleContent → Bool
-may_be_freed (Caller c) = is_idle c.state
+may_be_freed (Caller c) = is_some c.place.pass
 may_be_freed content = true

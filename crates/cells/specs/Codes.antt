@@ -1,7 +1,7 @@
 -- What C is told: a number for each thing that is reported.
-use Rattle.std.specs.Prelude.{ℕ, ◌+◌, ◌%◌, ◌^◌, Bool, true, false, Option, Some, None, Result, Ok, Err}
+use Rattle.std.specs.Prelude.{ℕ, ◌+◌, ◌%◌, ◌^◌, ◌==◌, Bool, true, false, Option, Some, None, Result, Ok, Err, if◌then◌else◌}
 use Rattle.event_log.specs.declared.logged.NoRoom.{NoRoom}
-use Rattle.scripts.specs.declared.objects.kernel_call.KReply.{KReply}
+use Rattle.kernel_object.specs.declared.call.KReply.{KReply}
 use Rattle.cells.specs.declared.coding.Answered.{Answered}
 use Rattle.cells.specs.declared.codes.TheConstants.{STEPPED, LOOKED, ENTERED, FOUND, LEFT, REFUSED, BUSY, DONE, FULL, DONE_KEPT, FULL_KEPT}
 use Rattle.cells.specs.declared.progress.Progress.{Progress}
@@ -33,6 +33,10 @@ answer_code done full old (Err why) = (full, old)
 abbrev pub apply_code : Answered → Option (Result KReply NoRoom) → ℕ × Answered
 apply_code old (Some said) = answer_code DONE FULL old said
 apply_code old None = (REFUSED, old)
+
+-- what is told of a call whose object isn't given back yet, for what is told of it without that
+abbrev pub kept_code : ℕ → ℕ
+kept_code told = if told == DONE then DONE_KEPT else FULL_KEPT
 
 abbrev pub call_code : Answered → Whole (Result KReply NoRoom) → ℕ × Answered
 call_code old (whole.Done said looked) = answer_code DONE FULL old said

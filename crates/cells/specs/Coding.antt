@@ -1,13 +1,13 @@
 -- Calls and replies by the numbers that C has for them.
 use Rattle.std.specs.Prelude.{ℕ, ◌==◌, ◌&&◌, ◌%◌, nat_lt, List, [], ◌∷◌, Option, None, slice_get, if◌then◌else◌}
-use Rattle.scripts.specs.declared.objects.kernel_call.KCall.{KCall}
-use Rattle.scripts.specs.declared.objects.kernel_call.KCall.TheVariants.{Queue, Pool, Console, Sched}
-use Rattle.scripts.specs.declared.objects.kernel_call.KReply.{KReply}
-use Rattle.scripts.specs.declared.objects.kernel_call.KReply.TheVariants as reply
 use Rattle.shared_queue.specs.declared.call.QueueCall.TheVariants as queue
 use Rattle.page_pool.specs.declared.call.PoolCall.TheVariants as pool
 use Rattle.console_ring.specs.declared.call.ConsoleCall.TheVariants as console
 use Rattle.wake_list.specs.declared.call.SchedCall.TheVariants as sched
+use Rattle.kernel_object.specs.declared.call.KCall.{KCall}
+use Rattle.kernel_object.specs.declared.call.KCall.TheVariants.{Queue, Pool, Console, Sched}
+use Rattle.kernel_object.specs.declared.call.KReply.{KReply}
+use Rattle.kernel_object.specs.declared.call.KReply.TheVariants as reply
 use Rattle.cells.specs.declared.coding.Asked.{Asked}
 use Rattle.cells.specs.declared.coding.Answered.{Answered}
 

@@ -18,6 +18,7 @@ use Rattle.cells.specs.declared.ends.NoNewCaller.TheVariants.{NoneLeft, NoShare}
 use Rattle.cells.specs.declared.ends.NotClosed.{NotClosed}
 use Rattle.cells.specs.declared.ends.NotClosed.TheVariants.{NotAllBack, Shared}
 use Rattle.cells.specs.OpenCells.{TakesIn}
+use Rattle.cells.specs.Places.{place_of, Between}
 
 module _ {O P C R : Type 0} {g : Ghosts O P C R} {call_eq : Eq C} {call_default : Default C} {reply_eq : Eq R} {reply_default : Default R} where
   -- nothing was done
@@ -30,7 +31,7 @@ module _ {O P C R : Type 0} {g : Ghosts O P C R} {call_eq : Eq C} {call_default 
   -- a caller has the last of the passes
   pub record HasNewCaller (before : OpenCell O P C R g call_eq call_default reply_eq reply_default) (caller : Caller O P C R g call_eq call_default reply_eq reply_default) (after : OpenCell O P C R g call_eq call_default reply_eq reply_default) : Type 0 where
     pub pass : Pass O P C R g call_eq call_default reply_eq reply_default
-    pub idle : caller.state ≡ at.Idle pass
+    pub idle : place_of caller.place ≡ Some (at.Idle pass)
     pub of : arc_value caller.cell ≡ arc_value before.cell
     pub cell : arc_value after.cell ≡ arc_value before.cell
     pub passes : before.passes.items ≡ after.passes.items ++ pass ∷ []
@@ -51,7 +52,7 @@ module _ {O P C R : Type 0} {g : Ghosts O P C R} {call_eq : Eq C} {call_default 
   -- an idle caller's pass was taken in
   pub record HasReturned (before : OpenCell O P C R g call_eq call_default reply_eq reply_default) (caller : Caller O P C R g call_eq call_default reply_eq reply_default) (after : OpenCell O P C R g call_eq call_default reply_eq reply_default) : Type 0 where
     pub pass : Pass O P C R g call_eq call_default reply_eq reply_default
-    pub idle : caller.state ≡ at.Idle pass
+    pub idle : place_of caller.place ≡ Some (at.Idle pass)
     pub cell : arc_value after.cell ≡ arc_value before.cell
     pub passes : after.passes.items ≡ before.passes.items
     pub next : (view_of_pass pass).caller.acting ≡ before.back
@@ -61,7 +62,7 @@ module _ {O P C R : Type 0} {g : Ghosts O P C R} {call_eq : Eq C} {call_default 
   -- a caller was given back; or it isn't the next, is there as it was, and nothing was done
   abbrev pub IsReturned : OpenCell O P C R g call_eq call_default reply_eq reply_default → Caller O P C R g call_eq call_default reply_eq reply_default → Option (Caller O P C R g call_eq call_default reply_eq reply_default) → OpenCell O P C R g call_eq call_default reply_eq reply_default → Type 0
   IsReturned before caller None after = HasReturned before caller after
-  IsReturned before caller (Some left) after = (is_next before caller.state ≡ false) × IsSame before after × (arc_value left.cell ≡ arc_value caller.cell) × (left.state ≡ caller.state)
+  IsReturned before caller (Some left) after = IsSame before after × (arc_value left.cell ≡ arc_value caller.cell) × Between caller.place left.place (λ p q. (is_next before p ≡ false) × (q ≡ p))
 
   -- all callers were given back, the pass of all CPUs has seen the log that is left, and each that has arrived in line has ended
   -- its hold

@@ -2,8 +2,8 @@
 use Rattle.std.specs.Prelude.{◌≡◌, ℕ, ◌==◌, ◌||◌, nat_lt, List, Bool, true, false, Option, Some, None, Result, Ok, Err}
 use Rattle.core.specs.Mem.{manually_drop_value}
 use Rattle.event_log.specs.declared.logged.NoRoom.{NoRoom}
-use Rattle.scripts.specs.declared.objects.kernel_call.KCall.{KCall}
-use Rattle.scripts.specs.declared.objects.kernel_call.KReply.{KReply}
+use Rattle.kernel_object.specs.declared.call.KCall.{KCall}
+use Rattle.kernel_object.specs.declared.call.KReply.{KReply}
 use Rattle.cells.specs.declared.handle_content.HandleContent.{HandleContent}
 use Rattle.cells.specs.declared.coding.Asked.{Asked}
 use Rattle.cells.specs.declared.coding.Answered.{Answered}
@@ -19,6 +19,7 @@ use Rattle.cells.specs.declared.handle.Handle.{Handle}
 use Rattle.cells.specs.declared.progress.Progress.{Progress}
 use Rattle.cells.specs.HandleContents.{IsAcquireStepIn, IsReleaseStepIn, IsTryIn, IsApplyIn, IsCallIn, IsBatchIn, IsTryCallIn, KernelSteps}
 use Rattle.cells.specs.Coding.{called_of}
+use Rattle.cells.specs.CallReports.{ReportsCallOf}
 use Rattle.cells.specs.Codes.{progress_code, try_code, apply_code, call_code, try_call_code, looks_after, has_looked}
 
 -- what the handle has
@@ -45,7 +46,7 @@ ReportsApply before asked old n after new = IfCall (called_of asked) (λ call. (
 
 -- the same of a whole call, with the looks before and after
 abbrev pub ReportsCall : HandleContent → Asked → Answered × ℕ → ℕ → HandleContent → Answered × ℕ → Type 0
-ReportsCall before asked old n after new = IfCall (called_of asked) (λ call. (told : Whole (Result KReply NoRoom)) × ((n, new.0) ≡ call_code old.0 told) × (new.1 ≡ looks_after (has_looked told) old.1) × IsCallIn call before told after) before old n after new
+ReportsCall before asked old n after new = IfCall (called_of asked) (λ call. ReportsCallOf call before old n after new) before old n after new
 
 -- the number that is reported of a batch, with the numbers for done and for full, and the replies, which are written where it was done
 abbrev pub ReportsAll : ℕ → ℕ → Result KernelSteps NoRoom → ℕ → Replies → Replies → Type 0

@@ -3,15 +3,15 @@ use Rattle.std.specs.Prelude.{◌≡◌, Bool, List, Option, None, Result}
 use Rattle.std_alloc.specs.Arc.{arc_value}
 use Rattle.event_log.specs.declared.event.Steps.{Steps}
 use Rattle.event_log.specs.declared.logged.NoRoom.{NoRoom}
-use Rattle.scripts.specs.declared.objects.kernel_call.KCall.{KCall}
-use Rattle.scripts.specs.declared.objects.kernel_call.KReply.{KReply}
-use Rattle.scripts.specs.contracts.objects.kernel_object.KernelObjectSeqObject.TheImpl.{ghosts}
-use Rattle.scripts.specs.declared.objects.kernel_call.KParams.{KParams}
-use Rattle.scripts.specs.declared.objects.kernel_object.KernelObject.{KernelObject}
-use Rattle.scripts.specs.contracts.objects.kernel_call.KCallPartialEq.TheImpl.{ghosts as call_compares}
-use Rattle.scripts.specs.contracts.objects.kernel_call.KCallDefault.TheImpl.{ghosts as call_defaults}
-use Rattle.scripts.specs.contracts.objects.kernel_call.KReplyPartialEq.TheImpl.{ghosts as reply_compares}
-use Rattle.scripts.specs.contracts.objects.kernel_call.KReplyDefault.TheImpl.{ghosts as reply_defaults}
+use Rattle.kernel_object.specs.declared.call.KCall.{KCall}
+use Rattle.kernel_object.specs.declared.call.KReply.{KReply}
+use Rattle.kernel_object.specs.declared.call.KParams.{KParams}
+use Rattle.kernel_object.specs.declared.object.KernelObject.{KernelObject}
+use Rattle.kernel_object.specs.contracts.object.KernelObjectSeqObject.TheImpl.{ghosts}
+use Rattle.kernel_object.specs.contracts.call.KCallPartialEq.TheImpl.{ghosts as call_compares}
+use Rattle.kernel_object.specs.contracts.call.KCallDefault.TheImpl.{ghosts as call_defaults}
+use Rattle.kernel_object.specs.contracts.call.KReplyPartialEq.TheImpl.{ghosts as reply_compares}
+use Rattle.kernel_object.specs.contracts.call.KReplyDefault.TheImpl.{ghosts as reply_defaults}
 use Rattle.cells.specs.declared.caller.Caller.{Caller as CallerOf}
 use Rattle.cells.specs.declared.handle_content.HandleContent.{HandleContent}
 use Rattle.cells.specs.declared.handle_content.HandleContent.TheVariants.{Caller}
@@ -25,6 +25,9 @@ use Rattle.cells.specs.declared.whole.Whole.TheVariants as whole
 use Rattle.cells.specs.declared.whole.TriedCall.{TriedCall}
 use Rattle.cells.specs.declared.whole.TriedCall.TheVariants as tried
 use Rattle.cells.specs.declared.caller_state.CallerState.{CallerState}
+use Rattle.mcs_lock.specs.declared.states.Behind.{Behind}
+use Rattle.cells.specs.declared.place.Place.{Place}
+use Rattle.cells.specs.Places.{Between}
 use Rattle.guarded_cell.specs.declared.cell.AnyCell.{AnyCell}
 
 -- a caller of a cell around an object of the kernel
@@ -37,9 +40,15 @@ KernelSteps = Steps KernelObject KParams KCall KReply
 abbrev pub KernelState : Type 0
 KernelState = CallerState KernelObject KParams KCall KReply ghosts call_compares call_defaults reply_compares reply_defaults
 
+abbrev pub KernelBehind : Type 0
+KernelBehind = Behind KernelObject KParams KCall KReply ghosts call_compares call_defaults reply_compares reply_defaults
+
+abbrev pub KernelPlace : Type 0
+KernelPlace = Place KernelObject KParams KCall KReply ghosts call_compares call_defaults reply_compares reply_defaults
+
 -- a caller of the same cell has done that, and reports r; what is no caller reports that nothing was done
 abbrev pub IsDoneIn : {R : Type 0} → (AnyCell KernelObject KParams KCall KReply → KernelState → R → KernelState → Type 0) → R → HandleContent → R → HandleContent → Type 0
-IsDoneIn Q none (Caller c) r (Caller d) = (arc_value d.cell ≡ arc_value c.cell) × Q (arc_value c.cell) c.state r d.state
+IsDoneIn Q none (Caller c) r (Caller d) = (arc_value d.cell ≡ arc_value c.cell) × Between c.place d.place (λ p q. Q (arc_value c.cell) p r q)
 IsDoneIn Q none before r after = (r ≡ none) × (after ≡ before)
 
 -- a step towards the object, a step to give it back, a try, and a call under a hold

@@ -5,6 +5,7 @@ pub mod Applies
 pub mod Arrivals
 pub mod Wholes
 pub mod Facts
+pub mod Places
 pub mod OpenCells
 pub mod Unused
 pub mod Ends
@@ -13,6 +14,7 @@ pub mod HandleContents
 pub mod Coding
 pub mod Codes
 pub mod BatchCodes
+pub mod CallReports
 pub mod Exports
 pub mod NewCells
 pub mod Openings

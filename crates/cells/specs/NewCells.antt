@@ -6,7 +6,6 @@ use Rattle.std_alloc.specs.Arc.{arc_value}
 use Rattle.event_log.specs.declared.object.SeqObject.{Ghosts}
 use Rattle.event_log.specs.History.{History}
 use Rattle.sound_run.specs.declared.lock_kind.LockKind.{LockKind}
-use Rattle.word_rule.specs.Algorithms.{algorithm_of}
 use Rattle.word_rule.specs.Cell.{EachAt, first_pass}
 use Rattle.word_rule.specs.Passes.{view_of_pass}
 use Rattle.guarded_cell.specs.Kinds.{kind_of}
@@ -20,4 +19,4 @@ module _ {O P C R : Type 0} {g : Ghosts O P C R} {call_eq : Eq C} {call_default 
     pub cpus : c.cpus ≡ n
     pub back : c.back ≡ 0
     pub home : c.home ≡ None
-    pub passes : EachAt (λ k p. view_of_pass p ≡ first_pass (algorithm_of lock) 0 h n k) c.passes.items
+    pub passes : EachAt (λ k p. view_of_pass p ≡ first_pass lock 0 h n k) c.passes.items

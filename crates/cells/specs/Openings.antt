@@ -7,13 +7,13 @@ use Rattle.event_log.specs.History.{opened_history}
 use Rattle.sound_run.specs.declared.limits.TheConstants.{MOST_CPUS}
 use Rattle.sound_run.specs.declared.lock_kind.LockKind.{LockKind}
 use Rattle.sound_run.specs.declared.lock_kind.LockKind.TheVariants.{Ticket, Mcs}
-use Rattle.scripts.specs.declared.objects.kernel_call.KParams.{KParams}
-use Rattle.scripts.specs.declared.objects.kernel_call.KParams.TheVariants.{Queue, Pool, Console, Sched}
-use Rattle.scripts.specs.declared.objects.kernel_call.KCall.{KCall}
-use Rattle.scripts.specs.declared.objects.kernel_call.KReply.{KReply}
-use Rattle.scripts.specs.declared.objects.kernel_object.KernelObject.{KernelObject}
-use Rattle.scripts.specs.contracts.objects.kernel_object.KernelObjectSeqObject.TheImpl.{ghosts}
-use Rattle.scripts.specs.Kernel.{kernel_opening, kernel_in_range}
+use Rattle.kernel_object.specs.declared.call.KParams.{KParams}
+use Rattle.kernel_object.specs.declared.call.KParams.TheVariants.{Queue, Pool, Console, Sched}
+use Rattle.kernel_object.specs.declared.call.KCall.{KCall}
+use Rattle.kernel_object.specs.declared.call.KReply.{KReply}
+use Rattle.kernel_object.specs.declared.object.KernelObject.{KernelObject}
+use Rattle.kernel_object.specs.contracts.object.KernelObjectSeqObject.TheImpl.{ghosts}
+use Rattle.kernel_object.specs.Kernel.{kernel_opening, kernel_in_range}
 use Rattle.cells.specs.declared.opening.Opening.{Opening}
 use Rattle.cells.specs.declared.open_cell.OpenCell.{OpenCell}
 use Rattle.cells.specs.NewCells.{IsOpenedOn}

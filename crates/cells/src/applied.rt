@@ -5,6 +5,7 @@ ghost use Rattle.cells.specs.CallerStates.{IsOf, state_of};
 ghost use Rattle.cells.specs.Applies.{IsApplied};
 
 use crate::CallerState;
+use crate::whole::shared_apply_held;
 use event_log::{NoRoom, SeqObject};
 use guarded_cell::AnyCell;
 
@@ -22,7 +23,7 @@ pub fn apply<O: SeqObject>(
     let _ = cell;
     match state {
         CallerState::Holding(mut hold) => {
-            let done = hold.apply_one(call);
+            let done = shared_apply_held(&mut hold, call);
             (CallerState::Holding(hold), Some(done))
         }
         other => (other, None),

@@ -7,7 +7,7 @@ ghost use Rattle.cells.specs.BatchCodes.{batch_calls, AreRepliesTo};
 use crate::coding::{Answered, Asked, reply_code, shared_called_of};
 use arrayvec::ArrayVec;
 use event_log::{MOST_CALLS, Step};
-use scripts::{KCall, KernelObject};
+use kernel_object::{KCall, KernelObject};
 
 /// Up to 8 calls, as many as the count says. The others aren't looked at.
 #[derive(Clone, Copy, Debug, PartialEq, Eq, Drop)]

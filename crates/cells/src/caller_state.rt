@@ -1,8 +1,5 @@
 //! Where a caller of a cell stands.
 
-ghost use Rattle.std.specs.Prelude.{◌≡◌};
-ghost use Rattle.cells.specs.CallerStates.{is_idle};
-
 use event_log::SeqObject;
 use mcs_lock::{Alone, Armed, Behind, Leaving, Passing, Ready, Waiting};
 use ticket_lock::Drawn;
@@ -30,14 +27,4 @@ pub enum CallerState<O: SeqObject> {
     Leaving(Leaving<O>),
     /// The same, and it has seen who is behind it.
     Passing(Passing<O>),
-}
-
-impl<O: SeqObject> CallerState<O> {
-    /// Whether it isn't in line.
-    #[inline]
-    pub fn is_idle(&self) -> bool
-        ensures { result ≡ is_idle self.now }
-    {
-        matches!(self, CallerState::Idle(_))
-    }
 }

@@ -6,8 +6,8 @@ ghost use Rattle.cells.specs.CellContents.{IsOpenedBy, IsBadOpening, IsNewCaller
 use crate::ends::{NoNewCaller, NotClosed};
 use crate::logged_step::{LoggedStep, step_at};
 use crate::opening::{NotOpened, Opening, open_cell};
-use crate::{Caller, CallerState, HandleContent};
-use scripts::KernelObject;
+use crate::{Caller, HandleContent};
+use kernel_object::KernelObject;
 use std::alloc::Global;
 
 impl HandleContent {
@@ -83,10 +83,7 @@ impl HandleContent {
         ensures { result ≡ may_be_freed self.now }
     {
         match self {
-            HandleContent::Caller(caller) => match &caller.state {
-                CallerState::Idle(_) => true,
-                _ => false,
-            },
+            HandleContent::Caller(caller) => caller.place.is_idle(),
             _ => true,
         }
     }

@@ -10,7 +10,7 @@ use crate::coding::{Answered, reply_code};
 use crate::opening::NotOpened;
 use crate::{Progress, Whole};
 use event_log::{NoRoom, Steps};
-use scripts::{KReply, KernelObject};
+use kernel_object::{KReply, KernelObject};
 
 /// What a step has reported: a number for each.
 pub const STEPPED: u32 = 0;
@@ -101,6 +101,13 @@ pub fn shared_answer_code(
     ensures { (result, answered.new) ≡ answer_code done_as full_as answered.old done }
 {
     answer_code(done, done_as, full_as, answered)
+}
+
+/// The same as was told of a call, where the object isn't given back yet.
+pub fn kept_code(told: u32) -> u32
+    ensures { result ≡ kept_code told }
+{
+    if told == DONE { DONE_KEPT } else { FULL_KEPT }
 }
 
 /// One look more, if that was one.

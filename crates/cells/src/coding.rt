@@ -4,8 +4,8 @@ ghost use Rattle.std.specs.Prelude.{◌≡◌};
 ghost use Rattle.cells.specs.Coding.{called_of, reply_code};
 
 use console_ring::ConsoleCall;
+use kernel_object::{KCall, KReply};
 use page_pool::PoolCall;
-use scripts::{KCall, KReply};
 use shared_queue::QueueCall;
 use wake_list::SchedCall;
 

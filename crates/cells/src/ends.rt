@@ -8,7 +8,7 @@ ghost use Rattle.cells.specs.NewCells.{IsOpenedOn};
 ghost use Rattle.cells.specs.Ends.{IsNewCaller, IsReturned, IsClosed};
 
 use crate::unused::end_unused;
-use crate::{Caller, CallerState, OpenCell};
+use crate::{Caller, CallerState, OpenCell, Place};
 use event_log::{Logged, SeqObject};
 use guarded_cell::AnyCell;
 use sound_run::{LockKind, MOST_CPUS};
@@ -94,7 +94,7 @@ impl<O: SeqObject> OpenCell<O> {
         };
         let caller = Caller {
             cell: shared,
-            state: CallerState::Idle(pass),
+            place: Place::of(CallerState::Idle(pass)),
         };
         (rest, Ok(caller))
     }
@@ -133,16 +133,19 @@ impl<O: SeqObject> OpenCell<O> {
         requires { arc_value caller.cell ≡ arc_value self.cell }
         ensures { IsReturned self caller result.1 result.0 }
     {
-        let Caller { cell, state } = caller;
-        match state {
+        let Caller { cell, place } = caller;
+        match place.into_state() {
             CallerState::Idle(pass) => {
-                if self.back < self.cpus && pass.outside.cpu.number == self.back {
+                if self.back < self.cpus && pass.outside.cpu.number == u32::from(self.back) {
                     return (self.with_back(pass), None);
                 }
-                let state = CallerState::Idle(pass);
-                (self, Some(Caller { cell, state }))
+                let place = Place::of(CallerState::Idle(pass));
+                (self, Some(Caller { cell, place }))
             }
-            state => (self, Some(Caller { cell, state })),
+            state => {
+                let place = Place::of(state);
+                (self, Some(Caller { cell, place }))
+            }
         }
     }
 

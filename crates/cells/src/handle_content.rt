@@ -3,10 +3,14 @@
 ghost use Rattle.std.specs.Prelude.{◌<◌, ◌≤◌, length};
 ghost use Rattle.event_log.specs.declared.event.TheConstants.{MOST_CALLS};
 ghost use Rattle.cells.specs.HandleContents.{IsAcquireStepIn, IsReleaseStepIn, IsTryIn, IsApplyIn, IsCallIn, IsBatchIn, IsTryCallIn};
+ghost use Rattle.cells.specs.CallReports.{ReportsCallOf};
 
+use crate::codes::REFUSED;
+use crate::coding::Answered;
+use crate::straight::call_straight;
 use crate::{Caller, OpenCell, Progress, TriedCall, Whole};
 use event_log::{Logged, NoRoom, Steps};
-use scripts::{KCall, KReply, KernelObject};
+use kernel_object::{KCall, KReply, KernelObject};
 
 /// What a handle has. It can't be dropped.
 pub enum HandleContent {
@@ -62,13 +66,24 @@ impl HandleContent {
     }
 
     /// A caller's whole call, as far as it comes without waiting.
-    #[inline]
     pub fn call(&mut self, call: &KCall) -> Whole<Result<KReply, NoRoom>>
         ensures { IsCallIn call.now self.old result self.new }
     {
         match self {
             HandleContent::Caller(caller) => caller.call(call),
             _ => Whole::Refused,
+        }
+    }
+
+    /// The same of a call that is known by name, with what is reported of it. The reply is written where it was done, and the look
+    /// is counted.
+    #[inline]
+    pub fn call_by_name(&mut self, call: KCall, answered: &mut Answered, looks: &mut u64) -> u32
+        ensures { ReportsCallOf call self.old (answered.old, looks.old) result self.new (answered.new, looks.new) }
+    {
+        match self {
+            HandleContent::Caller(caller) => call_straight(caller, call, answered, looks),
+            _ => REFUSED,
         }
     }
 

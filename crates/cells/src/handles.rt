@@ -14,7 +14,7 @@ use crate::logged_step::LoggedStep;
 use crate::opening::Opening;
 use crate::parts::Parts;
 use crate::{Caller, CallerState, Handle, HandleContent};
-use scripts::KernelObject;
+use kernel_object::KernelObject;
 use std::alloc::Global;
 use std::mem::ManuallyDrop;
 
@@ -37,9 +37,9 @@ fn put_content(handle: &mut Handle, content: HandleContent)
 
 // An idle caller's pass is lost, and so its cell can't be closed any more.
 fn drop_caller(caller: Caller<KernelObject>) {
-    let Caller { cell, state } = caller;
+    let Caller { cell, place } = caller;
     drop(cell);
-    match state {
+    match place.into_state() {
         CallerState::Idle(pass) => drop(pass),
         other => {
             let _left = unsafe { ManuallyDrop::new_unchecked(other) };

@@ -17,12 +17,15 @@ mod handle;
 mod handle_content;
 mod handles;
 mod logged_step;
+mod names;
 mod open_cell;
 mod opening;
 mod parts;
+mod place;
 mod progress;
 mod releasing;
 mod reopening;
+mod straight;
 mod tried;
 mod unused;
 mod whole;
@@ -46,9 +49,13 @@ pub use handles::{
     mc2_handle_deal, mc2_handle_free, mc2_handle_new, mc2_handle_open,
 };
 pub use logged_step::LoggedStep;
+pub use names::{
+    mc2_call_alloc, mc2_call_deq, mc2_call_enq, mc2_call_free, mc2_call_get, mc2_call_left, mc2_call_len, mc2_call_level, mc2_call_next, mc2_call_put, mc2_call_ready, mc2_call_remove, mc2_call_sleep, mc2_call_wake, mc2_call_wakeall,
+};
 pub use open_cell::OpenCell;
 pub use opening::Opening;
+pub use place::Place;
 pub use progress::Progress;
 pub use releasing::release_step;
 pub use tried::try_hold;
-pub use whole::{TriedCall, Whole, batch, call, call_in_line, try_call};
+pub use whole::{TriedCall, Whole, batch, call_in_line, try_call};

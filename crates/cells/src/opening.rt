@@ -3,13 +3,13 @@
 ghost use Rattle.std.specs.Prelude.{◌≡◌, ◌<◌, ◌≤◌, ◌↔◌, ◌⊎◌, false, IfOk, IfErr, OnErr, Err};
 ghost use Rattle.sound_run.specs.declared.limits.TheConstants.{MOST_CPUS};
 ghost use Rattle.event_log.specs.History.{opened_history};
-ghost use Rattle.scripts.specs.Kernel.{kernel_in_range, kernel_opening};
+ghost use Rattle.kernel_object.specs.Kernel.{kernel_in_range, kernel_opening};
 ghost use Rattle.cells.specs.Openings.{params_of, lock_numbered, cpus_numbered, limit_of, IsUnfit, IsOpened};
 
 use crate::OpenCell;
 use event_log::{Logged, MOST_EVENTS, OpenFault};
+use kernel_object::{KParams, KernelObject};
 use page_pool::{OWNERS, PoolParams};
-use scripts::{KParams, KernelObject};
 use sound_run::{LockKind, MOST_CPUS};
 use std::alloc::Global;
 use wake_list::SchedParams;

@@ -16,14 +16,12 @@ ghost use Rattle.cells.specs.Arrivals.{IsArrival, arrived};
 ghost use Rattle.cells.specs.Wholes.{IsHeldCall, IsCalled, IsBatched, IsTryCalled};
 
 use crate::CallerState;
-use crate::arrival::{Arrival, arrive, line_up};
-use crate::departure::{depart, depart_mcs};
+use crate::arrival::{Arrival, arrive};
+use crate::departure::depart;
 use crate::tried::try_pass;
 use event_log::{NoRoom, SeqObject, Steps};
 use guarded_cell::AnyCell;
-use mcs_lock::{Entered, McsCell};
-use ticket_lock::TicketCell;
-use word_rule::{Hold, Pass};
+use word_rule::Hold;
 
 /// How far a whole call came.
 #[derive(Drop)]
@@ -53,12 +51,25 @@ pub enum TriedCall<D> {
 
 /// Does the call as one event, unless the log is full.
 #[inline]
-fn apply_held<O: SeqObject>(hold: &mut Hold<O>, asked: &O::Call) -> Result<O::Reply, NoRoom>
+pub fn apply_held<O: SeqObject>(hold: &mut Hold<O>, asked: &O::Call) -> Result<O::Reply, NoRoom>
     ensures of { (cell : AnyCell O O.Params O.Call O.Reply) → IsHoldOf cell hold.old → IsHoldOf cell hold.new }
     ensures caller { (state_of_hold hold.new).caller ≡ (state_of_hold hold.old).caller }
     ensures applied { IsHeldApply O.SeqObject hold.old asked.now result hold.new }
 {
     hold.apply_one(asked)
+}
+
+/// The same, once in the library for the calls that needn't be the fastest.
+#[inline(never)]
+pub fn shared_apply_held<O: SeqObject>(
+    hold: &mut Hold<O>,
+    asked: &O::Call,
+) -> Result<O::Reply, NoRoom>
+    ensures of { (cell : AnyCell O O.Params O.Call O.Reply) → IsHoldOf cell hold.old → IsHoldOf cell hold.new }
+    ensures caller { (state_of_hold hold.new).caller ≡ (state_of_hold hold.old).caller }
+    ensures applied { IsHeldApply O.SeqObject hold.old asked.now result hold.new }
+{
+    apply_held(hold, asked)
 }
 
 #[inline]
@@ -72,7 +83,7 @@ fn call_held<O: SeqObject>(
     ensures caller { (state_of result.0).caller ≡ (state_of_hold hold).caller }
     ensures called { IsHeldCall O.SeqObject (λ h k. IsHeldApply O.SeqObject h asked.now result.1 k) cell.now hold result.2 result.0 }
 {
-    let done = apply_held(&mut hold, asked);
+    let done = shared_apply_held(&mut hold, asked);
     let (state, is_back) = depart(cell, hold);
     (state, done, is_back)
 }
@@ -80,7 +91,7 @@ fn call_held<O: SeqObject>(
 // A whole call of a caller that has arrived.
 #[cold]
 #[inline(never)]
-fn call_arrived<O: SeqObject>(
+pub fn call_arrived<O: SeqObject>(
     cell: &AnyCell<O>,
     arrival: Arrival<O>,
     asked: &O::Call,
@@ -114,85 +125,6 @@ pub fn call_in_line<O: SeqObject>(
     match arrive(cell, state) {
         Ok(arrival) => call_arrived(cell, arrival, asked),
         Err(state) => (state, Whole::Refused),
-    }
-}
-
-// A whole call of an idle caller, straight on.
-#[inline]
-fn call_ticket<O: SeqObject>(
-    cell: &TicketCell<O>,
-    pass: Pass<O>,
-    asked: &O::Call,
-) -> (CallerState<O>, Whole<Result<O::Reply, NoRoom>>)
-    requires { IsTicketPassOf cell.now pass }
-    ensures of { IsOf (Ticket cell.now) result.0 }
-    ensures caller { (state_of result.0).caller ≡ (state_of_pass pass).caller }
-    ensures called { IsCalled O.SeqObject (Ticket cell.now) (Idle pass) asked.now result.1 result.0 }
-{
-    match cell.look(cell.draw(pass)) {
-        Ok(mut hold) => {
-            let done = apply_held(&mut hold, asked);
-            (CallerState::Idle(cell.serve(hold)), Whole::Done(done, true))
-        }
-        Err(drawn) => (CallerState::Drawn(drawn), Whole::Waits),
-    }
-}
-
-#[inline]
-fn call_entered<O: SeqObject>(
-    cell: &McsCell<O>,
-    mut hold: Hold<O>,
-    asked: &O::Call,
-) -> (CallerState<O>, Whole<Result<O::Reply, NoRoom>>)
-    requires { IsMcsHoldOf cell.now hold }
-    ensures of { IsOf (Mcs cell.now) result.0 }
-    ensures caller { (state_of result.0).caller ≡ (state_of_hold hold).caller }
-    ensures called { (p : _) → IsArrival O.SeqObject (Mcs cell.now) p (Got hold false) → IsCalled O.SeqObject (Mcs cell.now) p asked.now result.1 result.0 }
-{
-    let done = apply_held(&mut hold, asked);
-    match depart_mcs(cell, hold) {
-        (state, true) => (state, Whole::Done(done, false)),
-        (state, false) => (state, Whole::Kept(done, false)),
-    }
-}
-
-#[inline]
-fn call_mcs<O: SeqObject>(
-    any: &AnyCell<O>,
-    cell: &McsCell<O>,
-    pass: Pass<O>,
-    asked: &O::Call,
-) -> (CallerState<O>, Whole<Result<O::Reply, NoRoom>>)
-    requires cell { any.now ≡ Mcs cell.now }
-    requires pass { IsMcsPassOf cell.now pass }
-    ensures of { IsOf (Mcs cell.now) result.0 }
-    ensures caller { (state_of result.0).caller ≡ (state_of_pass pass).caller }
-    ensures called { IsCalled O.SeqObject (Mcs cell.now) (Idle pass) asked.now result.1 result.0 }
-{
-    match cell.enter(cell.clear(pass)) {
-        Entered::Hold(hold) => call_entered(cell, hold, asked),
-        Entered::Behind(behind) => call_arrived(any, line_up(cell, behind), asked),
-    }
-}
-
-/// A whole call, as far as it comes without waiting.
-#[inline]
-pub fn call<O: SeqObject>(
-    cell: &AnyCell<O>,
-    state: CallerState<O>,
-    asked: &O::Call,
-) -> (CallerState<O>, Whole<Result<O::Reply, NoRoom>>)
-    requires { IsOf cell.now state }
-    ensures of { IsOf cell.now result.0 }
-    ensures caller { (state_of result.0).caller ≡ (state_of state).caller }
-    ensures called { IsCalled O.SeqObject cell.now state asked.now result.1 result.0 }
-{
-    match state {
-        CallerState::Idle(pass) => match cell {
-            AnyCell::Ticket(ticket) => call_ticket(ticket, pass, asked),
-            AnyCell::Mcs(mcs) => call_mcs(cell, mcs, pass, asked),
-        },
-        other => call_in_line(cell, other, asked),
     }
 }
 

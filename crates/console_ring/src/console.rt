@@ -103,6 +103,7 @@ impl SeqObject for Console {
         Ok(Console { capacity, bytes })
     }
 
+    #[inline]
     fn apply(&mut self, call: &ConsoleCall) -> ConsoleReply {
         match *call {
             ConsoleCall::Put(byte) => self.put(byte),

@@ -2,7 +2,7 @@
 use Rattle.std.proofs.Common.{◌≡◌, ◌⊎◌, inl, inr, ℕ, ◌<◌, ◌≤◌, List, [], ◌∷◌, ◌++◌, length, refl, sym, ap, subst, ◌∙◌, arith, length-set, length-append, slice_get, Some, Vec, Global, vec_capacity}
 use Rattle.std.specs.Prelude.{slice_set}
 use Rattle.std.proofs.lemmas.Option.{slice_get_within}
-use Rattle.guarded_cell.proofs.Joins.{at_snoc}
+use Rattle.event_log.proofs.Lists.{get_push}
 use Rattle.sound_run.proofs.Slices.{one_of, get_set_same, get_set_other}
 
 module _ {T : Type 0} where
@@ -25,7 +25,7 @@ module _ {T : Type 0} where
       let long = length-append given (x ∷ []) in
       record {
         count = length-set mid k b ∙ d.count;
-        dealt = λ j p q y e f h. here j p q y e f (at_snoc given x j y h);
+        dealt = λ j p q y e f h. here j p q y e f (get_push given x j y h);
         others = λ j p q le e f. d.others j p q (omega (arith, le, long)) e (sym (get_set_other mid k j b (λ same. absurd (omega (arith, le, long, at, same)))) ∙ f);
       }
     where

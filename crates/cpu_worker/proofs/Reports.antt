@@ -5,7 +5,7 @@ use Rattle.std.proofs.lemmas.List.Sums.{fold-append, sum_by-append, length-filte
 use Rattle.std.proofs.lemmas.List.Elements.{filter-append}
 use Rattle.std.proofs.lemmas.List.Folds.{length-flat_map-take}
 use Rattle.std.specs.List.{fold, sum, count_by, enumerate_from, AllByRecursion}
-use Rattle.scripts.specs.KernelTypes.{KernelEntry}
+use Rattle.kernel_object.specs.KernelTypes.{KernelEntry}
 use Rattle.scripts.specs.declared.record.form.TheConstants.{WRITTEN}
 use Rattle.scripts.specs.RecordRanges.{Record, RecordFits, TranscriptFits}
 use Rattle.scripts.specs.Settings.{ObjectSettings}

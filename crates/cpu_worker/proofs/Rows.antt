@@ -2,7 +2,7 @@
 use Rattle.std.proofs.Common.{◌≡◌, ◌⊎◌, inl, inr, ℕ, ◌+◌, List, [], ◌∷◌, ◌++◌, length, sym, ap, subst, ◌∙◌, arith, length-append, slice_get, Some}
 use Rattle.std.proofs.lemmas.List.{map-append}
 use Rattle.std.proofs.lemmas.Option.{slice_get_within}
-use Rattle.guarded_cell.proofs.Joins.{at_snoc}
+use Rattle.event_log.proofs.Lists.{get_push}
 use Rattle.word_rule.specs.Cell.{opening_pass}
 use Rattle.cpu_worker.specs.Opening.{IsRow}
 use Rattle.cpu_worker.specs.Work.{FixedCell, KernelView}
@@ -19,7 +19,7 @@ module _ {T S : Type 0} (is_pass_of : T → S → Type 0) (pass_view : S → Ker
     row_more = record {
       passes = record {
         count = length-append row (p ∷ []) ∙ (ap (λ n. n + 1) r.passes.count ∙ sym (length-append opened (t ∷ [])));
-        each = λ x d q e f. at_place x d q (at_snoc opened t x d e) (at_snoc row p x q f);
+        each = λ x d q e f. at_place x d q (get_push opened t x d e) (get_push row p x q f);
       };
       views = map-append pass_view row (p ∷ []) ∙ ((λ i. r.views i ++ view i ∷ []) ∙ sym (map-append (λ d. opening_pass d k) cells (c ∷ [])));
     }

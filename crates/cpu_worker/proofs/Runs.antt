@@ -5,25 +5,25 @@ use Rattle.std.proofs.lemmas.List.{append-nil, length-map}
 use Rattle.std.proofs.lemmas.Simd.{map-map}
 use Rattle.std.proofs.lemmas.Option.{slice_get_within}
 use Rattle.event_log.specs.Entries.{asked_of}
-use Rattle.event_log.proofs.Each.{all_map}
+use Rattle.event_log.proofs.Each.{all_map, each_at}
+use Rattle.event_log.proofs.Lists.{some_at}
+use Rattle.kernel_object.specs.declared.call.KParams.{KParams}
+use Rattle.kernel_object.specs.contracts.object.KernelObjectSeqObject.TheImpl.{ghosts as kernel}
+use Rattle.kernel_object.specs.KernelTypes.{KernelEntry, KernelTodo, KernelRun}
 use Rattle.guarded_cell.specs.Workers.{ArePasses, HasDone, opened_of_cell}
 use Rattle.guarded_cell.specs.Runs.{EachJoins, Worked, AllWorked, run_left}
 use Rattle.guarded_cell.proofs.Workers.{views_of}
-use Rattle.scripts.specs.contracts.objects.kernel_object.KernelObjectSeqObject.TheImpl.{ghosts as kernel}
-use Rattle.scripts.specs.declared.objects.kernel_call.KParams.{KParams}
-use Rattle.scripts.specs.KernelTypes.{KernelEntry, KernelTodo, KernelRun}
 use Rattle.scripts.specs.Runs.{TranscriptAsks, opened_of}
 use Rattle.scripts.specs.ScriptText.{TodoFits, ScriptFits, ScriptsFit}
 use Rattle.scripts.specs.Settings.{Settings, SettingsFit, ObjectFits}
 use Rattle.scripts.specs.declared.record.form.TheConstants.{WRITTEN}
-use Rattle.scripts.proofs.Names.{each_at}
 use Rattle.event_log.specs.declared.logged.TheConstants.{MOST_EVENTS}
 use Rattle.scripts.proofs.SoundRanges.{all_at as all_by_place}
 use Rattle.word_rule.specs.Cell.{EachAt, IsPassView, opening_pass}
 use Rattle.word_rule.specs.Machine.SoundWorld.{IsTodo}
 use Rattle.sound_run.specs.Sound.{Opened, Sound}
-use Rattle.word_rule.proofs.Openings.{all_at, zip_at}
-use Rattle.sound_run.proofs.Slices.{some_at, get_map, map_get}
+use Rattle.word_rule.proofs.Openings.{zip_at}
+use Rattle.sound_run.proofs.Slices.{get_map, map_get}
 use Rattle.cpu_worker.proofs.Simulations.{asks_each}
 use Rattle.cpu_worker.specs.Opening.{IsRow, cell_for, cells_for}
 use Rattle.cpu_worker.specs.Work.{FixedCell, KernelView, IsReady, IsDone}
@@ -56,7 +56,7 @@ module _ {T S : Type 0} (is_pass_of : T → S → Type 0) (pass_view : S → Ker
         let l = left k todos entries a b in
         record {
           after = map pass_view l.after;
-          able = able (length settings.objects) (length cells) (length-map settings.objects (cell_for settings.cpus)) todos (all_at (ScriptFits (length settings.objects)) scripts k todos fit.1 a).1;
+          able = able (length settings.objects) (length cells) (length-map settings.objects (cell_for settings.cpus)) todos (each_at (ScriptFits (length settings.objects)) scripts k todos fit.1 a).1;
           done = subst (λ v. HasDone kernel v todos entries (map pass_view l.after)) l.begun.views l.done.done;
           joins = l.joins;
         }
@@ -97,7 +97,7 @@ module _ {T S : Type 0} (is_pass_of : T → S → Type 0) (pass_view : S → Ker
         let long = fit.0 in
         let todos = some_at scripts k (omega (arith, within, count, long)) in
         let w = worked k todos.0 entries todos.1 e in
-        asks (length settings.objects) entries todos.0 w.done.asked (all_at (ScriptFits (length settings.objects)) scripts k todos.0 fit.1 todos.1) w.done.looks)
+        asks (length settings.objects) entries todos.0 w.done.asked (each_at (ScriptFits (length settings.objects)) scripts k todos.0 fit.1 todos.1) w.done.looks)
 
 -- jobs, which each have a script of the list and a row of passes, and what became of each
 module _ {T S J R : Type 0} (is_pass_of : T → S → Type 0) (pass_view : S → KernelView) (settings : Settings) (scripts : List (List KernelTodo)) (opened : List T) (todos_in : J → List KernelTodo) (passes_in : J → List S) (row_in : R → List S) (jobs : List J) (rows : List R)
@@ -112,8 +112,8 @@ module _ {T S J R : Type 0} (is_pass_of : T → S → Type 0) (pass_view : S →
       → AllByRecursion (λ j. IsReady is_pass_of opened (passes_in j) (todos_in j) (transcript_in j) (capacity_in j)) jobs
   all_ready transcript_in capacity_in fit wide room = all_by_place (λ j. IsReady is_pass_of opened (passes_in j) (todos_in j) (transcript_in j) (capacity_in j)) jobs (λ k j at.
       let there : slice_get scripts k ≡ Some (todos_in j) = ap (λ l. slice_get l k) (sym scripts_are) ∙ map_get todos_in jobs k j at in
-      let fits = all_at (ScriptFits (length settings.objects)) scripts k (todos_in j) fit.1 there in
-      let has = all_at (λ i. (transcript_in i ≡ []) × (length (todos_in i) ≤ capacity_in i)) jobs k j room at in
+      let fits = each_at (ScriptFits (length settings.objects)) scripts k (todos_in j) fit.1 there in
+      let has = each_at (λ i. (transcript_in i ≡ []) × (length (todos_in i) ≤ capacity_in i)) jobs k j room at in
       record { passes = (begins k j at).passes; able = able (length settings.objects) (length opened) wide (todos_in j) fits.1; few = fits.0; empty = has.0; room = has.1 })
 
   module _ {F : Type 0} (after_in : F → List S) (entries_in : F → List KernelEntry) (finished : List F) (passes : List S) (done : AllZip (λ j f. IsDone is_pass_of pass_view opened (passes_in j) (todos_in j) (after_in f) (entries_in f)) jobs finished)
@@ -128,7 +128,7 @@ module _ {T S J R : Type 0} (is_pass_of : T → S → Type 0) (pass_view : S →
           after = after_in f.0;
           begun = begins k j.0 j.1;
           done = subst (λ t. IsDone is_pass_of pass_view opened (passes_in j.0) t (after_in f.0) entries) j.2 (subst (λ e. IsDone is_pass_of pass_view opened (passes_in j.0) (todos_in j.0) (after_in f.0) e) f.2 d);
-          joins = all_at (λ f. EachJoins (map pass_view (after_in f)) (map pass_view passes)) finished k f.0 joins f.1;
+          joins = each_at (λ f. EachJoins (map pass_view (after_in f)) (map pass_view passes)) finished k f.0 joins f.1;
         }
 
 -- the run that is handed out is the one that was left

@@ -6,13 +6,13 @@ use Rattle.std.proofs.lemmas.List.{length-map}
 use Rattle.std.proofs.lemmas.Simd.{map-map}
 use Rattle.event_log.proofs.Beginnings.{begins_append}
 use Rattle.event_log.specs.Log.{Begins}
-use Rattle.scripts.specs.contracts.objects.kernel_object.KernelObjectSeqObject.TheImpl.{ghosts as kernel}
-use Rattle.scripts.specs.declared.objects.kernel_call.KParams.{KParams}
-use Rattle.scripts.specs.declared.objects.kernel_call.KCall.{KCall}
-use Rattle.scripts.specs.declared.objects.kernel_call.KReply.{KReply}
-use Rattle.scripts.specs.declared.objects.kernel_object.KernelObject.{KernelObject}
-use Rattle.scripts.specs.KernelTypes.{KernelEntry, KernelTodo, KernelRun}
 use Rattle.event_log.specs.Entries.{asked_of}
+use Rattle.kernel_object.specs.declared.call.KParams.{KParams}
+use Rattle.kernel_object.specs.declared.call.KCall.{KCall}
+use Rattle.kernel_object.specs.declared.call.KReply.{KReply}
+use Rattle.kernel_object.specs.declared.object.KernelObject.{KernelObject}
+use Rattle.kernel_object.specs.contracts.object.KernelObjectSeqObject.TheImpl.{ghosts as kernel}
+use Rattle.kernel_object.specs.KernelTypes.{KernelEntry, KernelTodo, KernelRun}
 use Rattle.scripts.specs.Runs.{AsksFirst, EntryAsks, TranscriptAsks}
 use Rattle.scripts.specs.ScriptText.{TodoFits, ScriptFits, ScriptsFit}
 use Rattle.scripts.specs.Settings.{Settings, ObjectSettings}

@@ -4,19 +4,18 @@ use Rattle.std.specs.Prelude.{slice_get}
 use Rattle.std.specs.List.{AllByRecursion}
 use Rattle.std.proofs.lemmas.List.{append-nil, length-map}
 use Rattle.event_log.specs.Entries.{asked_of}
-use Rattle.scripts.specs.contracts.objects.kernel_object.KernelObjectSeqObject.TheImpl.{ghosts as kernel}
-use Rattle.scripts.specs.declared.objects.kernel_call.KParams.{KParams}
-use Rattle.scripts.specs.declared.objects.kernel_call.KCall.{KCall}
-use Rattle.scripts.specs.declared.objects.kernel_call.KReply.{KReply}
-use Rattle.scripts.specs.declared.objects.kernel_object.KernelObject.{KernelObject}
-use Rattle.scripts.specs.KernelTypes.{KernelTodo}
+use Rattle.event_log.proofs.Each.{each_at}
+use Rattle.kernel_object.specs.declared.call.KParams.{KParams}
+use Rattle.kernel_object.specs.declared.call.KCall.{KCall}
+use Rattle.kernel_object.specs.declared.call.KReply.{KReply}
+use Rattle.kernel_object.specs.declared.object.KernelObject.{KernelObject}
+use Rattle.kernel_object.specs.contracts.object.KernelObjectSeqObject.TheImpl.{ghosts as kernel}
+use Rattle.kernel_object.specs.KernelTypes.{KernelTodo}
 use Rattle.scripts.specs.Runs.{AsksFor}
 use Rattle.scripts.specs.ScriptText.{ScriptFits, ScriptsFit}
 use Rattle.scripts.specs.Settings.{Settings, SettingsFit}
 use Rattle.sound_run.specs.declared.limits.TheConstants.{MOST_CPUS}
 use Rattle.sound_run.proofs.Slices.{get_map}
-use Rattle.word_rule.specs.Algorithms.{algorithm_of}
-use Rattle.word_rule.proofs.Openings.{all_at}
 use Rattle.word_rule.proofs.LockLaws.{few_fit}
 use Rattle.word_rule.specs.Machine.Opening.{IsOpening, IsOpeningCell, opening_cpu}
 use Rattle.word_rule.specs.Machine.Rounds.{AllDone}
@@ -61,10 +60,10 @@ module _ (settings : Settings) (scripts : List (List KernelTodo)) where
     is_opening = record {
       cells = λ x c e.
           let a = get_map new_cell settings.objects x c e in
-          subst (λ k. IsOpeningCell (length (new_world settings scripts).cpus) k) a.2 record { first = 0; fits = few_fit (algorithm_of a.0.lock) (length (new_world settings scripts).cpus) (subst (λ n. n ≤ MOST_CPUS) (sym cpu_count) fit.cpus.1); free = refl; empty = refl };
+          subst (λ k. IsOpeningCell (length (new_world settings scripts).cpus) k) a.2 record { first = 0; fits = few_fit a.0.lock (length (new_world settings scripts).cpus) (subst (λ n. n ≤ MOST_CPUS) (sym cpu_count) fit.cpus.1); free = refl; empty = refl };
       cpus = λ i c e. let a = get_map opening_cpu scripts i c e in subst (λ (k : KernelCpu). k ≡ opening_cpu k.todo) a.2 refl;
       able = λ i c e.
           let a = get_map opening_cpu scripts i c e in
           subst (λ (k : KernelCpu). AllByRecursion (λ t. IsTodo (length (new_world settings scripts).cells) t) k.todo) a.2
-          (able_todos (length (new_world settings scripts).cells) (length settings.objects) cell_count a.0 (all_at (ScriptFits (length settings.objects)) scripts i a.0 all.1 a.1).1);
+          (able_todos (length (new_world settings scripts).cells) (length settings.objects) cell_count a.0 (each_at (ScriptFits (length settings.objects)) scripts i a.0 all.1 a.1).1);
     }

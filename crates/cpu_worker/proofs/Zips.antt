@@ -1,5 +1,5 @@
 -- Lists that are related place by place.
-use Rattle.std.proofs.Common.{◌≡◌, List, [], ◌∷◌, Result, Ok, Err, IfErr, sym, subst, ◌∙◌}
+use Rattle.std.proofs.Common.{◌≡◌, List, [], ◌∷◌, Result, Ok, Err, IfErr, sym, subst}
 use Rattle.std.specs.List.{AllByRecursion, AllZip}
 use Rattle.std.specs.Result.{IsErrAnd}
 
@@ -17,10 +17,6 @@ zip_right f [] [] z = tt
 zip_right f [] (y ∷ ys) z = absurd z
 zip_right f (x ∷ xs) [] z = tt
 zip_right f (x ∷ xs) (y ∷ ys) z = (f x y z.0, zip_right f xs ys z.1)
-
-pub err_is : {X E : Type 0} (r : Result X E) (f g : E) → IsErrAnd r (λ h. h ≡ f) → r ≡ Err g → f ≡ g
-err_is (Ok x) f g is e = absurd is
-err_is (Err h) f g is e = sym is ∙ (let same : h ≡ g = cc in same)
 
 -- what is true of the error that came is true of the one that goes on
 pub err_has : {X E : Type 0} (P : E → Type 0) (r : Result X E) (f : E) → IsErrAnd r (λ h. h ≡ f) → P f → IfErr r P

@@ -2,13 +2,12 @@
 use Rattle.std.specs.Prelude.{◌≡◌, ℕ, List, [], map}
 use Rattle.guarded_cell.specs.Workers.{ArePasses}
 use Rattle.scripts.specs.Settings.{Settings, ObjectSettings}
-use Rattle.word_rule.specs.Algorithms.{algorithm_of}
 use Rattle.word_rule.specs.Cell.{opening_pass}
 use Rattle.cpu_worker.specs.Work.{FixedCell, KernelView}
 
 -- the cell around an object of the settings, for so many CPUs
 abbrev pub cell_for : ℕ → ObjectSettings → FixedCell
-cell_for cpus o = record { kind = algorithm_of o.lock; first = 0; params = o.params; limit = o.events; numbers = cpus; opening = [] }
+cell_for cpus o = record { kind = o.lock; first = 0; params = o.params; limit = o.events; numbers = cpus; opening = [] }
 
 -- a cell for each object
 abbrev pub cells_for : Settings → List FixedCell

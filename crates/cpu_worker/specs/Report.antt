@@ -2,7 +2,7 @@
 use Rattle.std.specs.Prelude.{ℕ, ◌+◌, ◌-◌, ◌^◌, min, max, Bool, true, false, ◌==◌, List, [], ◌∷◌, ◌++◌, map, length, codes, decimal}
 use Rattle.std.specs.List.{filter, flat_map, fold, sum, count_by, enumerate_from}
 use Rattle.event_log.specs.declared.entry.Done.TheVariants.{Steps, NoRoom}
-use Rattle.scripts.specs.KernelTypes.{KernelDone, KernelEntry}
+use Rattle.kernel_object.specs.KernelTypes.{KernelDone, KernelEntry}
 use Rattle.scripts.specs.RecordRanges.{Record}
 use Rattle.scripts.specs.Parameters.{lock_word}
 use Rattle.scripts.specs.Settings.{ObjectSettings}

@@ -1,15 +1,14 @@
 -- What a simulation does: scripts on the objects of the settings, one atomic step at a time, in the order of a schedule.
 use Rattle.std.specs.Prelude.{ℕ, List, [], map}
-use Rattle.word_rule.specs.Algorithms.{algorithm_of}
+use Rattle.kernel_object.specs.declared.call.KParams.{KParams}
+use Rattle.kernel_object.specs.declared.call.KCall.{KCall}
+use Rattle.kernel_object.specs.declared.call.KReply.{KReply}
+use Rattle.kernel_object.specs.declared.object.KernelObject.{KernelObject}
+use Rattle.kernel_object.specs.contracts.object.KernelObjectSeqObject.TheImpl.{ghosts as kernel}
+use Rattle.kernel_object.specs.KernelTypes.{KernelTodo, KernelRun}
 use Rattle.word_rule.specs.Locks.{opening_lock}
 use Rattle.word_rule.specs.Machine.Opening.{opening_cpu}
 use Rattle.word_rule.specs.Machine.World.{World, CellState, run, run_of}
-use Rattle.scripts.specs.contracts.objects.kernel_object.KernelObjectSeqObject.TheImpl.{ghosts as kernel}
-use Rattle.scripts.specs.declared.objects.kernel_call.KParams.{KParams}
-use Rattle.scripts.specs.declared.objects.kernel_call.KCall.{KCall}
-use Rattle.scripts.specs.declared.objects.kernel_call.KReply.{KReply}
-use Rattle.scripts.specs.declared.objects.kernel_object.KernelObject.{KernelObject}
-use Rattle.scripts.specs.KernelTypes.{KernelTodo, KernelRun}
 use Rattle.scripts.specs.Settings.{Settings, ObjectSettings}
 
 abbrev pub KernelWorld : Type 0
@@ -20,7 +19,7 @@ MachineCell = CellState KernelObject KParams KCall KReply
 
 -- an object of the settings behind its lock, with the first ticket 0 and an empty log
 abbrev pub new_cell : ObjectSettings → MachineCell
-new_cell o = record { opened = record { params = o.params; limit = o.events }; lock = opening_lock (algorithm_of o.lock) 0; log = [] }
+new_cell o = record { opened = record { params = o.params; limit = o.events }; lock = opening_lock o.lock 0; log = [] }
 
 -- the objects of the settings, and each CPU with its script, before the first step
 abbrev pub new_world : Settings → List (List KernelTodo) → KernelWorld

@@ -1,10 +1,10 @@
 //! What simulations come to, on a function without effect.
 
 ghost use Rattle.std.specs.Prelude.{◌*◌, ℕ, List, length};
+ghost use Rattle.kernel_object.specs.contracts.object.KernelObjectSeqObject.TheImpl.{ghosts as kernel};
+ghost use Rattle.kernel_object.specs.KernelTypes.{KernelTodo};
 ghost use Rattle.word_rule.specs.Machine.Rounds.{AllDone, HasRounds, entries_to_do, most_steps};
 ghost use Rattle.word_rule.specs.Machine.World.{run};
-ghost use Rattle.scripts.specs.contracts.objects.kernel_object.KernelObjectSeqObject.TheImpl.{ghosts as kernel};
-ghost use Rattle.scripts.specs.KernelTypes.{KernelTodo};
 ghost use Rattle.scripts.specs.Runs.{AsksFor};
 ghost use Rattle.scripts.specs.ScriptText.{ScriptsFit};
 ghost use Rattle.scripts.specs.Settings.{Settings, SettingsFit};

@@ -77,7 +77,7 @@ none_linked : (n p : List ℕ) (c : ℕ) → AllZip (IsChain n p) (replicate c n
 none_linked n p zero = tt
 none_linked n p (suc c) = (refl, none_linked n p c)
 
-none_flagged : (k t : ℕ) → get_or (replicate k false) t false ≡ false
+pub none_flagged : (k t : ℕ) → get_or (replicate k false) t false ≡ false
 none_flagged zero t = refl
 none_flagged (suc k) zero = refl
 none_flagged (suc k) (suc t) = none_flagged k t
@@ -101,18 +101,18 @@ set_flag : (s : List Bool) (t u : ℕ) (b : Bool) → t < length s → get_or s 
 set_flag s t u b lt h =
     elim (cases_eq u t) as (λ _. get_or (set s t true) u false ≡ (b || ((t == u) || false))) [ inl e ↦ subst (λ v. get_or (set s t true) v false ≡ (b || ((t == v) || false))) (sym e) (get_or-set_same s t true false lt ∙ sym (or_right b ((t == t) || false) (or_left (t == t) false (eq-eqb t t refl)))) | inr ne ↦ get_or-set_other s t u true false ne ∙ (h ∙ sym (ap (λ v. b || (v || false)) (ne_eqb t u (λ x. ne (sym x))) ∙ or_none b)) ]
 
-gone : (t : ℕ) (xs : List ℕ) → has t (without t xs) ≡ false
+pub gone : (t : ℕ) (xs : List ℕ) → has t (without t xs) ≡ false
 gone t [] = refl
 gone t (x ∷ xs) = cond_both (not (x == t)) (x ∷ without t xs) (without t xs) (λ l. has t l ≡ false) (λ e. or_from (x == t) (has t (without t xs)) (not-true (x == t) e) (gone t xs)) (λ e. gone t xs)
 
-left : (t u : ℕ) (xs : List ℕ) → u ≢ t → has u (without t xs) ≡ has u xs
-left t u [] ne = refl
-left t u (x ∷ xs) ne =
-    cond_both (not (x == t)) (x ∷ without t xs) (without t xs) (λ l. has u l ≡ has u (x ∷ xs)) (λ e. ap (λ b. (x == u) || b) (left t u xs ne)) (λ e. left t u xs ne ∙ sym (ap (λ b. b || has u xs) (ne_eqb x u (λ k. ne (sym k ∙ eqb-true x t (not-false (x == t) e))))))
+pub has_without : (t u : ℕ) (xs : List ℕ) → u ≢ t → has u (without t xs) ≡ has u xs
+has_without t u [] ne = refl
+has_without t u (x ∷ xs) ne =
+    cond_both (not (x == t)) (x ∷ without t xs) (without t xs) (λ l. has u l ≡ has u (x ∷ xs)) (λ e. ap (λ b. (x == u) || b) (has_without t u xs ne)) (λ e. has_without t u xs ne ∙ sym (ap (λ b. b || has u xs) (ne_eqb x u (λ k. ne (sym k ∙ eqb-true x t (not-false (x == t) e))))))
 
 clear_flag : (s : List Bool) (t u : ℕ) (xs : List ℕ) → t < length s → get_or s u false ≡ has u xs → get_or (set s t false) u false ≡ has u (without t xs)
 clear_flag s t u xs lt h =
-    elim (cases_eq u t) as (λ _. get_or (set s t false) u false ≡ has u (without t xs)) [ inl e ↦ subst (λ v. get_or (set s t false) v false ≡ has v (without t xs)) (sym e) (get_or-set_same s t false false lt ∙ sym (gone t xs)) | inr ne ↦ get_or-set_other s t u false false ne ∙ (h ∙ sym (left t u xs ne)) ]
+    elim (cases_eq u t) as (λ _. get_or (set s t false) u false ≡ has u (without t xs)) [ inl e ↦ subst (λ v. get_or (set s t false) v false ≡ has v (without t xs)) (sym e) (get_or-set_same s t false false lt ∙ sym (gone t xs)) | inr ne ↦ get_or-set_other s t u false false ne ∙ (h ∙ sym (has_without t u xs ne)) ]
 
 -- a number goes out of its list
 has_at : (ls : List (List ℕ)) (c t : ℕ) → has t (get_or ls c []) ≡ true → has t (concat ls) ≡ true

@@ -1,5 +1,6 @@
 -- What holds of each element of a list.
-use Rattle.std.proofs.Common.{List, [], ◌∷◌, ◌++◌}
+use Rattle.std.proofs.Common.{◌≡◌, ℕ, zero, suc, List, [], ◌∷◌, ◌++◌, Some, slice_get, subst}
+use Rattle.std.specs.Prelude.{unwrap_or}
 use Rattle.std.specs.List.{AllByRecursion}
 
 module _ {X : Type 0} where
@@ -21,3 +22,15 @@ module _ {X : Type 0} where
   -- one element more
   pub all_push : (P : X → Type 0) (xs : List X) (x : X) → AllByRecursion P xs → P x → AllByRecursion P (xs ++ x ∷ [])
   all_push P xs x h p = all_append P xs (x ∷ []) h (p, tt)
+
+-- what holds of each element holds of the one at a place
+pub each_at : {X : Type 0} (P : X → Type 0) (xs : List X) (i : ℕ) (x : X) → AllByRecursion P xs → slice_get xs i ≡ Some x → P x
+each_at P [] i x all e = absurd cc
+each_at P (y ∷ ys) zero x all e = let is : y ≡ x = cc in subst P is all.0
+each_at P (y ∷ ys) (suc i) x all e = each_at P ys i x all.1 e
+
+-- what holds of each list, and of none, holds of the list at a place
+pub each_list_at : {X : Type 0} (Q : List X → Type 0) (lists : List (List X)) (i : ℕ) → AllByRecursion Q lists → Q [] → Q (unwrap_or (slice_get lists i) [])
+each_list_at Q [] i all none = none
+each_list_at Q (l ∷ lists) zero all none = all.0
+each_list_at Q (l ∷ lists) (suc i) all none = each_list_at Q lists i all.1 none

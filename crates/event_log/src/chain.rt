@@ -94,6 +94,7 @@ impl Chains {
     }
 
     /// Puts a number that stands in no list at the end of this one.
+    #[inline]
     pub fn put(&mut self, chain: usize, number: u32)
         requires chain { chain < length self.old.lists }
         requires number { number < self.old.numbers }
@@ -111,6 +112,7 @@ impl Chains {
     }
 
     /// Takes the number out of the list in which it stands; the rest keeps its order.
+    #[inline]
     pub fn take_out(&mut self, chain: usize, number: u32)
         requires chain { chain < length self.old.lists }
         requires present { has number (get_or self.old.lists chain []) ≡ true }
@@ -122,6 +124,7 @@ impl Chains {
     }
 
     /// Takes the first number of a list that has one.
+    #[inline]
     pub fn take_first(&mut self, chain: usize) -> u32
         requires chain { chain < length self.old.lists }
         requires some { 0 < length (get_or self.old.lists chain []) }
@@ -150,6 +153,7 @@ impl Chains {
 }
 
 /// Links the one chain's last number and the other's first, and gives the ends of both together.
+#[inline]
 fn join(next: &mut Vec<u32>, previous: &mut Vec<u32>, front: Ends, back: Ends) -> Ends
     requires front { 0 < front.count → front.last < length next.old.items }
     requires back { 0 < back.count → back.first < length previous.old.items }
@@ -172,6 +176,7 @@ fn join(next: &mut Vec<u32>, previous: &mut Vec<u32>, front: Ends, back: Ends) -
 }
 
 /// Links the numbers before and behind this one, and gives the ends of the chain without it.
+#[inline]
 fn cut(next: &mut Vec<u32>, previous: &mut Vec<u32>, ends: Ends, number: u32) -> Ends
     requires some { 0 < ends.count }
     requires next { number < length next.old.items }

@@ -1,20 +1,14 @@
 -- A pass that another is joined to, among the passes of one CPU.
-use Rattle.std.proofs.Common.{◌≡◌, ℕ, zero, suc, List, [], ◌∷◌, ◌++◌, length, map, refl, sym, ◌∙◌, ap, subst, arith, slice_get, Some, ◌⊎◌, inl, inr}
+use Rattle.std.proofs.Common.{◌≡◌, ℕ, List, [], ◌∷◌, ◌++◌, length, map, sym, ◌∙◌, ap, subst, arith, slice_get, Some, ◌⊎◌, inl, inr}
 use Rattle.std.proofs.Math.ListN.{set}
 use Rattle.std.proofs.lemmas.Option.{slice_get_within}
 use mathlib.Core.Logic.{dite}
 use native.Mathlib.Decide.{ℕ_discrete}
+use Rattle.event_log.proofs.Lists.{some_at, get_push}
 use Rattle.word_rule.specs.Cell.{PassView}
-use Rattle.sound_run.proofs.Slices.{some_at, one_of, get_set_same, get_set_other, get_map, map_get}
+use Rattle.sound_run.proofs.Slices.{one_of, get_set_same, get_set_other, get_map, map_get}
 use Rattle.guarded_cell.specs.Runs.{Joins, EachJoins}
 use Rattle.guarded_cell.proofs.SoundRuns.{joins_self, joins_then}
-
--- the last of a longer list
-pub at_snoc : {X : Type 0} (xs : List X) (y : X) (k : ℕ) (z : X) → slice_get (xs ++ y ∷ []) k ≡ Some z → (slice_get xs k ≡ Some z) ⊎ ((k ≡ length xs) × (y ≡ z))
-at_snoc [] y zero z e = inr (refl, let g : y ≡ z = cc in g)
-at_snoc [] y (suc k) z e = absurd (cc)
-at_snoc (x ∷ xs) y zero z e = inl e
-at_snoc (x ∷ xs) y (suc k) z e = elim (at_snoc xs y k z e) [ inl h ↦ inl h | inr h ↦ inr (ap suc h.0, h.1) ]
 
 module _ {S O P C R : Type 0} (view : S → PassView O P C R) where
   -- where the pass at x joined, each did
@@ -40,17 +34,12 @@ module _ {O P C R : Type 0} where
       let b = some_at ys x (let lt = slice_get_within zs x c f in omega (arith, lt, wide)) in
       joins_then a b.0 c (p x a b.0 e b.1) (q x b.0 c b.1 f)
 
--- the element behind a beginning
-pub seam_get : {X : Type 0} (xs : List X) (y : X) (ys : List X) → slice_get (xs ++ y ∷ ys) (length xs) ≡ Some y
-seam_get [] y ys = refl
-seam_get (x ∷ xs) y ys = seam_get xs y ys
-
 module _ {S O P C R : Type 0} (view : S → PassView O P C R) where
   -- one pass more that joined the one at its place
   pub each_snoc : (xs : List S) (y : S) (x : ℕ) (after : List (PassView O P C R)) → x ≡ length xs → EachJoins (map view xs) after → ((b : PassView O P C R) → slice_get after x ≡ Some b → Joins (view y) b) → EachJoins (map view (xs ++ y ∷ [])) after
   each_snoc xs y x after at h joins k a b e f =
       let s = get_map view (xs ++ y ∷ []) k a e in
-      by s.0 s.2 (at_snoc xs y k s.0 s.1)
+      by s.0 s.2 (get_push xs y k s.0 s.1)
     where
       by : (z : S) → view z ≡ a → ((slice_get xs k ≡ Some z) ⊎ ((k ≡ length xs) × (y ≡ z))) → Joins a b
       by z is (inl there) = h k a b (map_get view xs k z there ∙ ap (λ p. Some p) is) f

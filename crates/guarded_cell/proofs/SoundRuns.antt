@@ -1,9 +1,9 @@
 -- What callers leave who did their scripts on new cells and joined is a sound run.
-use Rattle.std.proofs.Common.{◌≡◌, ◌⊎◌, inl, inr, ℕ, ◌+◌, ◌<◌, ◌≤◌, ◌||◌, Bool, true, false, List, [], ◌∷◌, ◌++◌, length, map, drop, refl, sym, ◌∙◌, ap, subst, arith, length-append, slice_get, Some}
+use Rattle.std.proofs.Common.{◌≡◌, ◌⊎◌, inl, inr, ℕ, ◌+◌, ◌<◌, ◌≤◌, ◌||◌, true, List, [], ◌∷◌, ◌++◌, length, map, drop, refl, sym, ◌∙◌, ap, subst, arith, length-append, slice_get, Some}
 use Rattle.std.specs.List.{AllByRecursion}
 use Rattle.std.specs.Prelude.{unwrap_or}
 use Rattle.std.proofs.lemmas.List.{length-map, map-id}
-use Rattle.std.proofs.lemmas.Bool.{cases_lt, eq-eqb}
+use Rattle.std.proofs.lemmas.Bool.{cases_lt, eq-eqb, or_right, or_left}
 use Rattle.std.proofs.lemmas.Option.{slice_get_within, slice_get_past}
 use Rattle.arrayvec.specs.ArrayVec.{ArrayVec}
 use Rattle.event_log.specs.declared.object.SeqObject.{Ghosts}
@@ -18,12 +18,13 @@ use Rattle.event_log.specs.Entries.{asked_of}
 use Rattle.event_log.specs.Log.{of}
 use Rattle.event_log.proofs.Each.{all_map, all_both}
 use Rattle.event_log.proofs.Beginnings.{begins_rest}
+use Rattle.event_log.proofs.Lists.{some_at}
 use Rattle.word_rule.specs.Cell.{Cell, PassView, Grows, Lawful, OwnsAll, opening_pass}
 use Rattle.word_rule.specs.Answered.{events_by}
 use Rattle.sound_run.specs.Sound.{Opened, Sound, LogIsSound, EntryIsSound, Answers, NoneAfterFull, done_on, steps_by, transcript_of}
 use Rattle.word_rule.specs.Machine.SoundWorld.{IsTodo}
 use Rattle.word_rule.proofs.Lists.{of_opening, grows_self, grows_then}
-use Rattle.sound_run.proofs.Slices.{some_at, one_of, get_map, map_get}
+use Rattle.sound_run.proofs.Slices.{one_of, get_map, map_get}
 use Rattle.word_rule.proofs.SoundRuns.{maps_equal}
 use Rattle.guarded_cell.specs.Workers.{opened_of_cell, DidOn}
 use Rattle.guarded_cell.specs.Runs.{Joins, Worked, AllWorked, run_left}
@@ -31,14 +32,6 @@ use Rattle.guarded_cell.specs.Runs.{Joins, Worked, AllWorked, run_left}
 all_unmap : {X Y : Type 0} (Q : Y → Type 0) (f : X → Y) (xs : List X) → AllByRecursion Q (map f xs) → AllByRecursion (λ x. Q (f x)) xs
 all_unmap Q f [] h = tt
 all_unmap Q f (x ∷ xs) h = (h.0, all_unmap Q f xs h.1)
-
-or_left : (a b : Bool) → a ≡ true → (a || b) ≡ true
-or_left true b e = refl
-or_left false b e = absurd (cc)
-
-or_right : (a b : Bool) → b ≡ true → (a || b) ≡ true
-or_right true b e = refl
-or_right false b e = e
 
 module _ {O P C R : Type 0} where
   -- what holds of the entries on each object holds of all

@@ -15,12 +15,13 @@ use Rattle.event_log.specs.declared.entry.Todo.{Todo}
 use Rattle.event_log.specs.Entries.{asked_of}
 use Rattle.event_log.specs.Log.{of}
 use Rattle.event_log.proofs.Beginnings.{begins_rest}
+use Rattle.event_log.proofs.Lists.{some_at}
 use Rattle.word_rule.specs.Cell.{PassView, IsPassView}
 use Rattle.word_rule.specs.Answered.{IsAnswered, IsRefused, events_by}
 use Rattle.sound_run.specs.Sound.{Opened, Answers, done_on, with_steps}
 use Rattle.event_log.proofs.Each.{all_map, all_push}
 use Rattle.sound_run.proofs.Entries.{done_append, done_here, done_elsewhere, done_without, full_push}
-use Rattle.sound_run.proofs.Slices.{some_at, one_of, get_set_same, get_set_other, get_map, map_get, map_none}
+use Rattle.sound_run.proofs.Slices.{one_of, get_set_same, get_set_other, get_map, map_get, map_none}
 use Rattle.std.proofs.lemmas.Option.{slice_get_within}
 use Rattle.guarded_cell.specs.Workers.{ArePasses, opened_of_cell, Did, DidAt, DidOn, HasDone}
 

@@ -1,7 +1,6 @@
 //! A new cell of the kind that is asked for, with a pass for each CPU.
 
 ghost use Rattle.std.specs.Prelude.{◌≡◌, ◌<◌, ◌≤◌, [], IfOk, IfErr, vec_len};
-ghost use Rattle.word_rule.specs.Algorithms.{algorithm_of};
 ghost use Rattle.word_rule.specs.Cell.{EachAt, first_pass};
 ghost use Rattle.word_rule.specs.Passes.{view_of_pass, run_of_pass};
 ghost use Rattle.guarded_cell.specs.Kinds.{IsPassOf, kind_of};
@@ -31,7 +30,7 @@ impl<O: SeqObject> AnyCell<O> {
         requires few { cpus ≤ MOST_CPUS }
         ensures kind { IfOk result (λ r. kind_of r.0 ≡ kind) }
         ensures count { IfOk result (λ r. vec_len r.1 ≡ cpus) }
-        ensures passes { IfOk result (λ r. EachAt (λ k p. IsPassOf r.0 p × (view_of_pass p ≡ first_pass (algorithm_of kind) 0 logged cpus k)) r.1.items) }
+        ensures passes { IfOk result (λ r. EachAt (λ k p. IsPassOf r.0 p × (view_of_pass p ≡ first_pass kind 0 logged cpus k)) r.1.items) }
         ensures runs { IfOk result (λ r. EachAt (λ k p. run_of_pass p ≡ []) r.1.items) }
         ensures unchanged { IfErr result (λ e. e.1 ≡ logged) }
     {

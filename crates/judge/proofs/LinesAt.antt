@@ -1,5 +1,5 @@
 -- The line that begins at a byte of a text.
-use Rattle.std.proofs.Common.{◌≡◌, ℕ, List, ◌∷◌, ◌++◌, length, drop, sym, ap, ◌∙◌, Option, Some, None, IfNone}
+use Rattle.std.proofs.Common.{◌≡◌, ℕ, List, ◌∷◌, ◌++◌, length, drop, sym, ap, ◌∙◌}
 use Rattle.std.proofs.Math.Seq.{drop-append_seam}
 use Rattle.judge.specs.OwnLines.{IsLineAt}
 use Rattle.scripts.proofs.FirstLines.{same_line, no_such_end}
@@ -16,8 +16,3 @@ one_line text at a b l m = (same_line a b l.rest m.rest l.no_end m.no_end (sym (
 -- there is none where no line ends
 pub no_line : (text back : List ℕ) (at : ℕ) (line : List ℕ) → back ≡ drop at text → NoEnd back → IsLineAt text at line → ⊥
 no_line text back at line behind no_end l = no_such_end line back l.rest no_end (sym (behind ∙ from_there text at line l))
-
--- what holds at all holds at None
-pub at_none : {A P : Type 0} (found : Option A) → P → IfNone found P
-at_none None p = p
-at_none (Some x) p = tt

@@ -1,10 +1,10 @@
 -- What is told of a text whose entries were put in order.
 use Rattle.std.specs.Prelude.{◌≡◌, ℕ, List, ◌++◌, length, map, drop, nat_lt, if◌then◌else◌}
+use Rattle.kernel_object.specs.contracts.object.KernelObjectSeqObject.TheImpl.{ghosts as kernel}
 use Rattle.auditor.specs.Faults.{IsFirstFault}
 use Rattle.auditor.specs.declared.fault.Fault.{Fault}
 use Rattle.log_merge.specs.MergedRecords.{IsMerged, HasCycle}
 use Rattle.sound_run.specs.declared.place.Place.{Place}
-use Rattle.scripts.specs.contracts.objects.kernel_object.KernelObjectSeqObject.TheImpl.{ghosts as kernel}
 use Rattle.scripts.specs.RecordFaults.{IsWhole, IsBadLine}
 use Rattle.scripts.specs.RecordRanges.{Record}
 use Rattle.scripts.specs.Runs.{opened_of}

@@ -1,11 +1,11 @@
 -- The line of a place of an order, and the events that are counted behind it.
-use Rattle.std.proofs.Common.{◌≡◌, ℕ, zero, suc, ◌+◌, ◌<◌, true, false, List, [], ◌∷◌, length, map, take, get_or, slice_get, Some, refl, ap, ◌∙◌, subst, arith}
+use Rattle.std.proofs.Common.{◌≡◌, ℕ, ◌+◌, ◌<◌, true, false, List, [], ◌∷◌, length, map, take, get_or, slice_get, Some, ap, ◌∙◌, subst, arith}
 use Rattle.std.specs.Prelude.{option_map, codes, decimal}
 use Rattle.std.specs.Option.{option_map_or}
 use Rattle.std.proofs.Math.ListN.{set}
 use Rattle.std.proofs.lemmas.Option.{slice_get_within}
 use Rattle.event_log.specs.declared.entry.Done.TheVariants as done
-use Rattle.scripts.specs.KernelTypes.{KernelEvent, KernelDone, KernelSteps, KernelRun}
+use Rattle.kernel_object.specs.KernelTypes.{KernelEvent, KernelDone, KernelSteps, KernelRun}
 use Rattle.scripts.specs.RecordText.{step_words, done_words}
 use Rattle.scripts.specs.Settings.{Settings, name_at}
 use Rattle.scripts.specs.Words.{separated}
@@ -18,12 +18,6 @@ use Rattle.log_merge.specs.Shapes.{shape_of}
 use Rattle.log_merge.specs.Written.{AreWritten}
 use Rattle.log_merge.proofs.Shaped.{HasShape, shaped, steps_of, full_of}
 use Rattle.log_merge.proofs.WrittenEvents.{done_written, full_written, next_written}
-
--- what is read within a list is there
-pub there_at : {X : Type 0} (xs : List X) (i : ℕ) (d : X) → i < length xs → slice_get xs i ≡ Some (get_or xs i d)
-there_at [] i d lt = absurd (omega (arith, lt))
-there_at (x ∷ xs) zero d lt = refl
-there_at (x ∷ xs) (suc i) d lt = there_at xs i d (omega (arith, lt))
 
 module _ (run : KernelRun) (places : List Place) (i : ℕ) (written : List ℕ) (so_far : AreWritten run (take i places) written) (p : Place) (at : slice_get places i ≡ Some p) (shape : EntryShape) (is : Some shape ≡ option_map shape_of (entry_at run p)) (settings : Settings) where
   its : HasShape (entry_at run p) shape

@@ -1,9 +1,9 @@
 -- A sound record has no fault.
 use Rattle.std.proofs.Common.{◌≡◌, List, [], ◌∷◌, map, refl, sym, ap, subst}
 use Rattle.sound_run.specs.Sound.{Opened, Sound}
-use Rattle.scripts.specs.contracts.objects.kernel_object.KernelObjectSeqObject.TheImpl.{ghosts as kernel}
-use Rattle.scripts.specs.declared.objects.kernel_call.KParams.{KParams}
-use Rattle.scripts.specs.KernelTypes.{KernelRun}
+use Rattle.kernel_object.specs.declared.call.KParams.{KParams}
+use Rattle.kernel_object.specs.contracts.object.KernelObjectSeqObject.TheImpl.{ghosts as kernel}
+use Rattle.kernel_object.specs.KernelTypes.{KernelRun}
 use Rattle.scripts.specs.Runs.{opened_of}
 use Rattle.scripts.specs.Settings.{ObjectSettings, Settings}
 use Rattle.auditor.specs.declared.fault.Fault.{Fault}

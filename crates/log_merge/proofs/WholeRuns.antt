@@ -1,11 +1,11 @@
 -- The lists of a record's run are as long as they may be.
-use Rattle.std.proofs.Common.{◌≡◌, ℕ, zero, suc, ◌<◌, List, [], ◌∷◌, length, slice_get, Some, subst, arith}
-use Rattle.std.specs.Prelude.{unwrap_or}
+use Rattle.std.proofs.Common.{ℕ, ◌<◌, List, [], ◌∷◌, length, arith}
 use Rattle.std.specs.List.{AllByRecursion}
 use Rattle.std.proofs.lemmas.Option.{slice_get_within}
+use Rattle.event_log.proofs.Each.{each_at, each_list_at}
 use Rattle.sound_run.specs.Sound.{transcript_of}
+use Rattle.kernel_object.specs.KernelTypes.{KernelRun}
 use Rattle.scripts.specs.declared.script.cpu_scripts.TheConstants.{MOST_ENTRIES}
-use Rattle.scripts.specs.KernelTypes.{KernelRun}
 use Rattle.scripts.specs.declared.record.form.TheConstants.{WRITTEN}
 use Rattle.scripts.specs.RecordRanges.{EntryFits, LogFits, TranscriptFits, RunFits}
 use Rattle.scripts.specs.Settings.{Settings}
@@ -14,28 +14,16 @@ use Rattle.log_merge.specs.Chains.{Chain, Cyclic}
 use Rattle.log_merge.specs.Nexts.{IsWhole}
 use Rattle.log_merge.specs.Tangles.{WaitsFor}
 
--- what holds of each list, and of none, holds of the list at a place
-list_at : {E : Type 0} (Q : List E → Type 0) (lists : List (List E)) (i : ℕ) → AllByRecursion Q lists → Q [] → Q (unwrap_or (slice_get lists i) [])
-list_at Q [] i all none = none
-list_at Q (l ∷ lists) zero all none = all.0
-list_at Q (l ∷ lists) (suc i) all none = list_at Q lists i all.1 none
-
--- what holds of each element holds of one
-one_at : {E : Type 0} (Q : E → Type 0) (xs : List E) (i : ℕ) (x : E) → AllByRecursion Q xs → slice_get xs i ≡ Some x → Q x
-one_at Q [] i x all e = cc
-one_at Q (y ∷ xs) zero x all e = let same : y ≡ x = cc in subst Q same all.0
-one_at Q (y ∷ xs) (suc i) x all e = one_at Q xs i x all.1 e
-
 module _ (settings : Settings) (run : KernelRun) (fit : RunFits settings run) where
   transcript : (cpu : ℕ) → TranscriptFits WRITTEN (length settings.objects) (transcript_of cpu run)
-  transcript cpu = list_at (TranscriptFits WRITTEN (length settings.objects)) run.transcripts cpu fit.transcripts (omega arith, tt)
+  transcript cpu = each_list_at (TranscriptFits WRITTEN (length settings.objects)) run.transcripts cpu fit.transcripts (omega arith, tt)
 
   pub whole_of_fits : IsWhole run
   whole_of_fits = record {
     entries = λ cpu. let few = (transcript cpu).0 in omega (arith, few);
-    events = λ x. let few = (list_at (LogFits WRITTEN settings.cpus) run.logs x fit.logs (omega arith, tt)).0 in omega (arith, few);
+    events = λ x. let few = (each_list_at (LogFits WRITTEN settings.cpus) run.logs x fit.logs (omega arith, tt)).0 in omega (arith, few);
     objects = λ cpu n e there.
-        let on = (one_at (EntryFits WRITTEN (length settings.objects)) (transcript_of cpu run) n e (transcript cpu).1 there).object in
+        let on = (each_at (EntryFits WRITTEN (length settings.objects)) (transcript_of cpu run) n e (transcript cpu).1 there).object in
         let logs = fit.log_count in
         omega (arith, on, logs);
   }

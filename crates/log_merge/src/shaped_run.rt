@@ -22,7 +22,7 @@ pub struct ShapedRun {
 
 impl Model for ShapedRun {
     ghost use Rattle.std.specs.Prelude.{◌≡◌, map};
-    ghost use Rattle.scripts.specs.KernelTypes.{KernelRun};
+    ghost use Rattle.kernel_object.specs.KernelTypes.{KernelRun};
     ghost use Rattle.log_merge.specs.Shapes.{shape_of};
 
     ghost Value = { KernelRun };

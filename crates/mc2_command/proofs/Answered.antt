@@ -1,6 +1,7 @@
 -- What holds of an answer, and of a refusal.
 use Rattle.std.proofs.Common.{◌≡◌, ◌⊎◌, ◌≤◌, ℕ, Err, List, Option, String, Global, string_bytes, inl, inr, refl, sym, ◌∙◌, subst, ap, arith}
 use Rattle.std.specs.Prelude.{◌↔◌}
+use Rattle.kernel_object.specs.contracts.object.KernelObjectSeqObject.TheImpl.{ghosts as kernel}
 use Rattle.auditor.specs.Faults.{IsFirstFault}
 use Rattle.auditor.specs.VerdictText.{verdict_text}
 use Rattle.auditor.specs.declared.fault.Fault.{Fault as RecordFault}
@@ -15,7 +16,6 @@ use Rattle.program.proofs.Refused as causes
 use Rattle.program.specs.Texts.{SpellsRecordOf}
 use Rattle.program.specs.declared.refusal.Refusal.{Refusal}
 use Rattle.program.specs.declared.refusal.Refusal.TheVariants as refusal
-use Rattle.scripts.specs.contracts.objects.kernel_object.KernelObjectSeqObject.TheImpl.{ghosts as kernel}
 use Rattle.scripts.specs.Keeping.{Parts, kept_record, IsWholeWith}
 use Rattle.scripts.specs.RecordRanges.{Record}
 use Rattle.scripts.specs.Runs.{opened_of}

@@ -1,6 +1,7 @@
 -- Why a command refuses what its words ask for: for which cause, and what was read before.
 use Rattle.std.specs.Prelude.{◌≡◌, ◌⊎◌, ◌<◌, ℕ, List, Option, Some, None, String, string_bytes}
 use Rattle.std.specs.Global.{Global}
+use Rattle.kernel_object.specs.KernelTypes.{KernelTodo}
 use Rattle.auditor.specs.VerdictText.{fault_text}
 use Rattle.log_merge.specs.CycleText.{cycle_text}
 use Rattle.log_merge.specs.declared.record_merge.MergeFault.{MergeFault}
@@ -9,7 +10,6 @@ use Rattle.program.specs.Inputs.{bytes_of}
 use Rattle.program.specs.Texts.{RefusesRecord, RefusesSchedule, RefusesScripts, RefusesSettings, SpellsScriptsOf}
 use Rattle.program.specs.declared.refusal.Refusal.{Refusal}
 use Rattle.program.specs.declared.refusal.Refusal.TheVariants as refusal
-use Rattle.scripts.specs.KernelTypes.{KernelTodo}
 use Rattle.scripts.specs.Settings.{Settings}
 use Rattle.mc2_command.specs.declared.arguments.Arguments.{Arguments}
 use Rattle.mc2_command.specs.declared.arguments.Arguments.TheVariants as forms

@@ -18,8 +18,8 @@ use Rattle.word_rule.specs.StepKinds.{arrives, ends_hold, is_look}
 use Rattle.word_rule.specs.declared.lock_kind.Stage.TheVariants.{Idle, Mcs, Trying}
 use Rattle.word_rule.specs.declared.lock_kind.McsStage.TheVariants.{Ready, Behind, Armed, Waiting, Holding, Alone, Leaving, Passing}
 use Rattle.word_rule.specs.Cell.{Cell, HoldView, Grows}
-use Rattle.word_rule.specs.declared.lock_algorithm.LockAlgorithm.{LockAlgorithm}
-use Rattle.word_rule.specs.declared.lock_algorithm.LockAlgorithm.TheVariants as kinds
+use Rattle.sound_run.specs.declared.lock_kind.LockKind.{LockKind}
+use Rattle.sound_run.specs.declared.lock_kind.LockKind.TheVariants as kinds
 use Rattle.word_rule.specs.Rule.Definition.{IsTurn, IsTry, IsPreparing}
 use Rattle.word_rule.specs.CallerState.{CallerState, Moves}
 use Rattle.word_rule.specs.Rule.CellInvariant.{Caller, EachFrom}
@@ -47,12 +47,12 @@ module _ {O P C R : Type 0} (meaning : Ghosts O P C R) (h : Cell O P C R) (kind 
 
   pub prepare_now : (m : Seat O P C R) → IsWithout meaning h cpu Idle m → IsPreparing meaning h.kind h slots id m (1 + cpu) (λ _. 0) (λ _. prepares meaning (step slots (1 + cpu) 0 0 none) m 0)
   prepare_now m w =
-      let Goal : LockAlgorithm × ℕ → Type 0 = λ z. IsPreparing meaning z.0 h slots id m (1 + z.1) (λ _. 0) (λ _. prepares meaning (step slots (1 + z.1) 0 0 none) m 0) in
+      let Goal : LockKind × ℕ → Type 0 = λ z. IsPreparing meaning z.0 h slots id m (1 + z.1) (λ _. 0) (λ _. prepares meaning (step slots (1 + z.1) 0 0 none) m 0) in
       subst Goal (λ i. (sym kind i, w.at.number i)) (preparing meaning h slots id m w.pass_view.caller.acts w.at.stands)
 
   pub try_now : (m : Seat O P C R) → IsWithout meaning h cpu Trying m → IsTry meaning h.kind h 0 slots id m 0 (λ k. either (k == 0) (cpu + 1) k) (tries meaning (step slots 0 0 (cpu + 1) none) m)
   try_now m w =
-      let Goal : LockAlgorithm × ℕ → Type 0 = λ z. IsTry meaning z.0 h 0 slots id m 0 (λ k. either (k == 0) (z.1 + 1) k) (tries meaning (step slots 0 0 (z.1 + 1) none) m) in
+      let Goal : LockKind × ℕ → Type 0 = λ z. IsTry meaning z.0 h 0 slots id m 0 (λ k. either (k == 0) (z.1 + 1) k) (tries meaning (step slots 0 0 (z.1 + 1) none) m) in
       subst Goal (λ i. (sym kind i, w.at.number i)) (trying meaning h slots id m w.pass_view.caller.acts w.at.stands (idle_alone m.0.others w.at.alone))
 
   pub arm_now : (n q : ℕ) (m : Seat O P C R) → h.numbers ≡ n → IsWithout meaning h cpu (Mcs (Behind q)) m → IsTurn meaning h.kind h slots id m (1 + n + cpu) (λ _. 1) (λ _. arms meaning (step slots (1 + n + cpu) 1 0 none) m 1)

@@ -2,7 +2,7 @@
 
 ghost use Rattle.std.specs.Prelude.{◌≡◌, ◌≤◌, ◌+◌, ◌*◌};
 ghost use Rattle.sound_run.specs.declared.limits.TheConstants.{MOST_CPUS};
-ghost use Rattle.word_rule.specs.declared.lock_algorithm.LockAlgorithm.TheVariants.{Mcs};
+ghost use Rattle.sound_run.specs.declared.lock_kind.LockKind.TheVariants.{Mcs};
 
 use event_log::SeqObject;
 use word_rule::{LockTable, Resting};

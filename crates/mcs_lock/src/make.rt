@@ -1,16 +1,16 @@
 //! A new MCS lock, with a pass for each CPU.
 
 ghost use Rattle.std.specs.Prelude.{◌≡◌, ◌<◌, ◌≤◌, [], IfOk, IfErr, vec_len};
-ghost use Rattle.word_rule.specs.declared.lock_algorithm.LockAlgorithm.TheVariants.{Mcs};
+ghost use Rattle.sound_run.specs.declared.lock_kind.LockKind.TheVariants.{Mcs};
 ghost use Rattle.word_rule.specs.Cell.{EachAt, first_pass};
 ghost use Rattle.word_rule.specs.Passes.{view_of_pass, run_of_pass};
 ghost use Rattle.mcs_lock.specs.Passes.{IsPassOf};
 
 use crate::cell::McsCell;
 use event_log::{Logged, OutOfMemory, SeqObject};
-use sound_run::MOST_CPUS;
+use sound_run::{LockKind, MOST_CPUS};
 use std::alloc::Global;
-use word_rule::{LockAlgorithm, LockTable, Pass, Resting};
+use word_rule::{LockTable, Pass, Resting};
 
 // The words of the greatest cell.
 const MOST_WORDS: usize = 1 + 2 * MOST_CPUS as usize;
@@ -32,7 +32,7 @@ impl<O: SeqObject> McsCell<O> {
     {
         let zeros = [0u64; MOST_WORDS];
         let words = &zeros[..1 + 2 * cpus as usize];
-        let (table, passes) = LockTable::open(alloc, LockAlgorithm::Mcs, 0, words, logged, cpus)?;
+        let (table, passes) = LockTable::open(alloc, LockKind::Mcs, 0, words, logged, cpus)?;
         let resting = Resting::new();
         Ok((
             McsCell {

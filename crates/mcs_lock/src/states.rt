@@ -25,14 +25,14 @@ pub struct Trying<O: SeqObject> {
 /// A caller in the queue behind the CPU `ahead`. It can't be dropped: it ends in `arm`.
 pub struct Behind<O: SeqObject> {
     pub(crate) outside: Outside<O>,
-    pub(crate) ahead: u8,
+    pub(crate) ahead: u32,
     pub ghost behind: { StandsOutside O.SeqObject (Mcs (Behind ahead)) outside } by { Prim.hlevel legal_props },
     pub ghost other: { IsElse outside.seat.me.0 ahead },
 }
 
 impl<O: SeqObject> Behind<O> {
     /// The CPU that it is behind.
-    pub fn ahead(&self) -> u8
+    pub fn ahead(&self) -> u32
         ensures { result ≡ self.now.ahead }
     {
         self.ahead
@@ -42,7 +42,7 @@ impl<O: SeqObject> Behind<O> {
 /// The same, whose `locked` is set. It can't be dropped: it ends in `link`.
 pub struct Armed<O: SeqObject> {
     pub(crate) outside: Outside<O>,
-    pub(crate) ahead: u8,
+    pub(crate) ahead: u32,
     pub ghost armed: { StandsOutside O.SeqObject (Mcs (Armed ahead)) outside } by { Prim.hlevel legal_props },
     pub ghost other: { IsElse outside.seat.me.0 ahead },
 }
@@ -68,14 +68,14 @@ pub struct Leaving<O: SeqObject> {
 /// A holder that saw the CPU `follower` behind it. It can't be dropped: it ends in `pass_on`.
 pub struct Passing<O: SeqObject> {
     pub(crate) inside: Inside<O>,
-    pub(crate) follower: u8,
+    pub(crate) follower: u32,
     pub ghost passes: { StandsInside O.SeqObject (Mcs (Passing follower)) inside } by { Prim.hlevel legal_props },
     pub ghost other: { IsElse inside.outside.seat.me.0 follower },
 }
 
 impl<O: SeqObject> Passing<O> {
     /// The CPU that it saw behind it.
-    pub fn follower(&self) -> u8
+    pub fn follower(&self) -> u32
         ensures { result ≡ self.now.follower }
     {
         self.follower

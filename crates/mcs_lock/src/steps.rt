@@ -44,7 +44,7 @@ impl<O: SeqObject> McsCell<O> {
             };
             Entered::Hold(Hold { inside, mark: 0 })
         } else {
-            let ahead = (found - 1) as u8;
+            let ahead = (found - 1) as u32;
             Entered::Behind(Behind { outside, ahead })
         }
     }
@@ -109,7 +109,7 @@ impl<O: SeqObject> McsCell<O> {
         if found == 0 {
             Err(Alone { inside })
         } else {
-            let follower = (found - 1) as u8;
+            let follower = (found - 1) as u32;
             Ok(Passing { inside, follower })
         }
     }
@@ -157,7 +157,7 @@ impl<O: SeqObject> McsCell<O> {
         if found == 0 {
             Err(Leaving { inside })
         } else {
-            let follower = (found - 1) as u8;
+            let follower = (found - 1) as u32;
             Ok(Passing { inside, follower })
         }
     }

@@ -114,7 +114,7 @@ impl<O: SeqObject> McsCell<O> {
         let next = next_index(inside.outside.cpu.number);
         let found = self.table.load::<SeeAgain>(&mut inside.outside.seat, next);
         prove!(found != 0);
-        let follower = (found - 1) as u8;
+        let follower = (found - 1) as u32;
         other.seat = self.table.split_seat(&mut inside.outside.seat);
         (Passing { inside, follower }, Waiting { outside: other })
     }

@@ -11,7 +11,6 @@ use Rattle.event_log.specs.History.{History}
 use Rattle.event_log.specs.Log.{calls_of}
 use Rattle.event_log.proofs.Beginnings.{begins_rest}
 use Rattle.sound_run.specs.declared.lock_kind.LockKind.{LockKind}
-use Rattle.word_rule.specs.Algorithms.{algorithm_of}
 use Rattle.word_rule.specs.Cell.{first_pass}
 use Rattle.guarded_cell.specs.Calls.{IsEnded}
 
@@ -61,7 +60,7 @@ module _ {E C : Type 0} (cpu : E → ℕ) (calls_in : E → List C) where
 
 -- the events that two CPUs leave of a cell of their own, who have done the first of their calls
 pub ended_count : {O P C R : Type 0} (meaning : Ghosts O P C R) (kind : LockKind) (before after : History O P C R) (xs ys : List C) (n m : ℕ) → n ≤ length xs → m ≤ length ys
-    → IsEnded meaning (first_pass (algorithm_of kind) 0 before 2 0) (take n xs) (first_pass (algorithm_of kind) 0 before 2 1) (take m ys) after → length after.log ≡ length before.log + (n + m)
+    → IsEnded meaning (first_pass kind 0 before 2 0) (take n xs) (first_pass kind 0 before 2 1) (take m ys) after → length after.log ≡ length before.log + (n + m)
 ended_count {O} {P} {C} {R} meaning kind before after xs ys n m few less e =
     let total = added_by_two (λ (x : Event O P C R). x.cpu) (λ (x : Event O P C R). calls_of x.steps.list.items) before.log (drop (length before.log) after.log) after.log (take n xs) (take m ys)
     (begins_rest before.log after.log e.valid.begins) e.valid.numbered e.first_calls.mine e.second_calls.mine in

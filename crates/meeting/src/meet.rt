@@ -1,7 +1,6 @@
 //! Two CPUs and their calls on one queue: with room for all calls none is refused.
 
 ghost use Rattle.std.specs.Prelude.{◌≡◌, ◌≤◌, ◌+◌, IfSome, length, take};
-ghost use Rattle.word_rule.specs.Algorithms.{algorithm_of};
 ghost use Rattle.word_rule.specs.Cell.{first_pass};
 ghost use Rattle.guarded_cell.specs.Calls.{IsEnded};
 
@@ -27,8 +26,8 @@ pub fn meet<R: Threads + Wait + Sync>(
     takes: &[Call],
 ) -> Option<Left>
     ensures ended { IfSome result (λ l. IsEnded ⟦<ThreadQueue as SeqObject>⟧
-        (first_pass (algorithm_of kind) 0 queue 2 0) (take l.1 puts.now)
-        (first_pass (algorithm_of kind) 0 queue 2 1) (take l.2 takes.now) l.0) }
+        (first_pass kind 0 queue 2 0) (take l.1 puts.now)
+        (first_pass kind 0 queue 2 1) (take l.2 takes.now) l.0) }
     ensures counted { IfSome result (λ l. length l.0.log ≡ length queue.log + (l.1 + l.2)) }
     ensures room { length queue.log + (length puts.now + length takes.now) ≤ queue.limit
         → IfSome result (λ l. (l.1 ≡ length puts.now) × (l.2 ≡ length takes.now)) }

@@ -4,7 +4,8 @@ use Rattle.std.specs.Prelude.{unwrap_or, slice_index}
 use Rattle.std.proofs.lemmas.List.{length-map, length-take-le, take_more, take_all}
 use Rattle.std.proofs.lemmas.Option.{slice_get_within, get_or_from_slice_get}
 use Rattle.event_log.specs.Log.{steps_of}
-use Rattle.sound_run.proofs.Slices.{map_get, some_at}
+use Rattle.event_log.proofs.Lists.{some_at}
+use Rattle.sound_run.proofs.Slices.{map_get}
 use Rattle.auditor.specs.Faults.{HasSteps}
 use Rattle.auditor.specs.Fed.{log_begun, event_fed, log_ended}
 use Rattle.auditor.specs.SoFar.{IsBeforeLog, IsInLog, HasLogs, IsInTranscripts}

@@ -1,9 +1,11 @@
 -- The first fault by a model, and the first of what is told.
 use Rattle.std.proofs.Common.{◌≡◌, ◌⊎◌, inl, inr, ⊎_elim, ℕ, zero, suc, ◌+◌, ◌<◌, ◌≤◌, true≢false, List, [], ◌∷◌, ◌++◌, length, take, Some, slice_get, refl, sym, ap, ◌∙◌, subst, arith, length-append}
+use Rattle.std.proofs.lemmas.Bool.{cases_lt}
 use Rattle.std.specs.Prelude.{unwrap_or, slice_index}
 use Rattle.event_log.specs.Log.{steps_of}
+use Rattle.event_log.proofs.Lists.{some_at}
 use Rattle.sound_run.specs.Sound.{Opened, log_of}
-use Rattle.sound_run.proofs.Slices.{map_get, get_map, some_at}
+use Rattle.sound_run.proofs.Slices.{map_get, get_map}
 use Rattle.auditor.specs.declared.fault.Fault.{Fault}
 use Rattle.auditor.specs.declared.fault.Fault.TheVariants as fault
 use Rattle.auditor.specs.Faults.{IsFault, IsFirstFault, IsBefore, place, HasWrongStep}
@@ -13,7 +15,7 @@ use Rattle.own_object.specs.Settings.{OwnSettings}
 use Rattle.own_judge.specs.Answers.{answered, ToldRun}
 use Rattle.own_judge.specs.Models.{Model, opened, IsCount, AreCounts, HasWrongStepBy, IsFaultBy, IsFirstFaultBy}
 use Rattle.own_judge.specs.Translated.{told_run}
-use Rattle.own_judge.proofs.ToldLogs.{EventAt, find_event, order}
+use Rattle.own_judge.proofs.ToldLogs.{EventAt, find_event}
 use Rattle.own_judge.proofs.ToldRuns.{long_to, long_from, step_to, step_from, room_to, room_from, asked_to, asked_from, unclaimed_to, unclaimed_from, other_to, other_from}
 
 pub before_trans : (xs ys zs : List ℕ) → IsBefore xs ys → IsBefore ys zs → IsBefore xs zs
@@ -70,8 +72,8 @@ earlier log e i k f j m a b lt = ⊎_elim
     let q = b.place in
     let n = ap (λ (g : ℕ). length (steps_of (take g log))) same in
     inr (same, omega (arith, p, q, n, lt)))
-    (order f e))
-    (order e f)
+    (cases_lt f e))
+    (cases_lt e f)
 
 -- the steps up to one and with it
 pub steps_to : (log : List OwnEvent) (e i : ℕ) (d : OwnEvent) → slice_get log e ≡ Some d → i < length d.steps.list.items → take (length (steps_of (take e log)) + i + 1) (steps_of log) ≡ steps_of (take e log) ++ take (i + 1) d.steps.list.items
@@ -132,7 +134,7 @@ module _ (model : Model) (r : OwnRecord) (counts : List ℕ) (are : AreCounts mo
   object_or x = ⊎_elim
       (λ lt. inl (some_at r.head.objects x lt))
       (λ le. inr (none_there r.run.logs x (omega (arith, counted, le))))
-      (order x (length r.head.objects))
+      (cases_lt x (length r.head.objects))
     where
       none_there : (logs : List (List OwnEvent)) (i : ℕ) → length logs ≤ i → unwrap_or (slice_get logs i) [] ≡ []
       none_there [] i le = refl
@@ -167,7 +169,7 @@ module _ (model : Model) (r : OwnRecord) (counts : List ℕ) (are : AreCounts mo
       (λ wrong. inl (⊎_elim
       (λ less. absurd (true≢false (sym ((count_at x f.object f.there).all k less) ∙ (ap (model f.object) (steps_to (log_of x r.run) e i f.event f.at f.within) ∙ wrong))))
       (λ le. le)
-      (order k n)))
+      (cases_lt k n)))
       (λ b. inr b)
       f.wrong)
 
@@ -189,7 +191,7 @@ module _ (model : Model) (r : OwnRecord) (counts : List ℕ) (are : AreCounts mo
       (λ ge.
       let same : k ≡ n = omega (arith, le, ge) in
       first_by x e i o.0 o.1 (omega (arith, le, ge, inside)) (record { event = h.0.event; there = h.0.there; within = h.0.within; place = same }))
-      (order n k))
+      (cases_lt n k))
       (λ b. record { object = o.0; there = o.1; event = h.0.event; at = h.0.there; within = h.0.within; wrong = inr b })
       h.1
 
@@ -201,7 +203,7 @@ module _ (model : Model) (r : OwnRecord) (counts : List ℕ) (are : AreCounts mo
       let f = find_event (log_of x r.run) (slice_index counts x) less in
       absurd (none x f.0 f.1 (first_told x f.0 f.1 o.0 o.1 f.2)))
       (λ le. le)
-      (order (slice_index counts x) (length (steps_of (log_of x r.run)))))
+      (cases_lt (slice_index counts x) (length (steps_of (log_of x r.run)))))
       (λ empty. let n = ap (λ l. length (steps_of l)) empty in omega (arith, n))
       (object_or x)
 
@@ -212,7 +214,7 @@ module _ (model : Model) (r : OwnRecord) (counts : List ℕ) (are : AreCounts mo
       let f = find_event (log_of x r.run) (slice_index counts x) less in
       absurd (none x f.0 f.1 (first_by x f.0 f.1 o.0 o.1 less f.2)))
       (λ le. le)
-      (order (slice_index counts x) (length (steps_of (log_of x r.run)))))
+      (cases_lt (slice_index counts x) (length (steps_of (log_of x r.run)))))
       (λ empty. let n = ap (λ l. length (steps_of l)) empty in omega (arith, n))
       (object_or x)
 
@@ -268,7 +270,7 @@ module _ (model : Model) (r : OwnRecord) (counts : List ℕ) (are : AreCounts mo
       (λ ge.
       let same : k ≡ n = omega (arith, le, ge) in
       none x e i b (first_by x e i o.0 o.1 (omega (arith, le, ge, inside)) (record { event = h.0.event; there = h.0.there; within = h.0.within; place = same })))
-      (order n k))
+      (cases_lt n k))
       (λ c. none x e i b (record { object = o.0; there = o.1; event = h.0.event; at = h.0.there; within = h.0.within; wrong = inr c }))
       h.1
 

@@ -2,9 +2,9 @@
 use Rattle.std.proofs.Common.{◌≡◌, ◌≢◌, ⊎_elim, ℕ, zero, suc, ◌-◌, ◌<◌, List, [], ◌∷◌, length, map, Option, Some, None, slice_get, refl, sym, ap, ◌∙◌, subst, arith, ne_eqb}
 use Rattle.std.specs.Prelude.{option_map, unwrap_or, slice_index}
 use Rattle.std.specs.List.{AllByRecursion}
-use Rattle.event_log.proofs.Each.{all_map}
+use Rattle.event_log.proofs.Each.{all_map, each_list_at}
+use Rattle.event_log.proofs.Lists.{some_at}
 use Rattle.sound_run.specs.Sound.{Opened, Sound, transcript_of, log_of, done_on, steps_by}
-use Rattle.sound_run.proofs.Slices.{some_at}
 use Rattle.auditor.specs.declared.fault.Fault.{Fault}
 use Rattle.auditor.specs.Faults.{IsFault, IsFirstFault}
 use Rattle.auditor.specs.Fed.{run_of}
@@ -26,7 +26,7 @@ use Rattle.own_judge.proofs.ToldRuns.{logs_count, log_told}
 use Rattle.own_judge.proofs.FirstFaults.{first_from}
 use Rattle.own_judge.proofs.SoundRuns.{sound_to, sound_from}
 use Rattle.own_judge.proofs.SomeModel.{some_model}
-use Rattle.own_judge.proofs.WholeOwn.{list_at, same_opened, sizes_of, run_told, whole_opened}
+use Rattle.own_judge.proofs.WholeOwn.{same_opened, sizes_of, run_told, whole_opened}
 
 cpu_at : (n : ℕ) (log : List OwnEvent) (i : ℕ) → option_map (λ (e : ToldEvent). e.cpu) (slice_get (told_log n log) i) ≡ option_map (λ (e : OwnEvent). e.cpu) (slice_get log i)
 cpu_at n [] i = refl
@@ -44,10 +44,10 @@ shaped_told r counts shapes is = record {
 -- the lists of a record are as long as they may be
 pub own_whole : (r : OwnRecord) → OwnRecordFits r → IsWhole r.run
 own_whole r fit = record {
-  entries = λ cpu. let few = (list_at (TranscriptFits r.head) r.run.transcripts cpu fit.1.transcripts (omega arith, tt)).0 in omega (arith, few);
-  events = λ x. let few = (list_at (LogFits r.head) r.run.logs x fit.1.logs (omega arith, tt)).0 in omega (arith, few);
+  entries = λ cpu. let few = (each_list_at (TranscriptFits r.head) r.run.transcripts cpu fit.1.transcripts (omega arith, tt)).0 in omega (arith, few);
+  events = λ x. let few = (each_list_at (LogFits r.head) r.run.logs x fit.1.logs (omega arith, tt)).0 in omega (arith, few);
   objects = λ cpu n e there.
-      let on = (all_at (EntryFits r.head) (transcript_of cpu r.run) (list_at (TranscriptFits r.head) r.run.transcripts cpu fit.1.transcripts (omega arith, tt)).1 n e there).object in
+      let on = (all_at (EntryFits r.head) (transcript_of cpu r.run) (each_list_at (TranscriptFits r.head) r.run.transcripts cpu fit.1.transcripts (omega arith, tt)).1 n e there).object in
       let logs = fit.1.log_count in
       omega (arith, on, logs);
 }

@@ -1,5 +1,6 @@
 -- Answers that aren't that a count was mistold, and counts that are the same.
-use Rattle.std.proofs.Common.{◌≡◌, ℕ, Bool, true, false, not, List, Result, Ok, Err, refl, sym, subst, ◌∙◌, bytes_eq}
+use Rattle.std.proofs.Common.{◌≡◌, ℕ, Bool, false, not, List, Result, Ok, Err, sym, subst, ◌∙◌, bytes_eq}
+use Rattle.std.proofs.lemmas.Bool.{not-false}
 use Rattle.std.proofs.lemmas.Slice.Eq.{bytes_eq-Decides}
 use Rattle.auditor.specs.declared.fault.Fault.{Fault}
 use Rattle.auditor.specs.declared.fault.Verdict.{Verdict}
@@ -37,11 +38,6 @@ fault_isnt f m e = subst IsOther e tt
 pub cycle_isnt : (places : List Place) (m : Mistold) → ◌≡◌ {A = Result (List Place) OwnMergeFault} (Err (fault.Cycle places)) (Err (fault.Mistold m)) → ⊥
 cycle_isnt places m e = subst IsOther e tt
 
--- what isn't false is true
-not_false : (t : Bool) → not t ≡ false → t ≡ true
-not_false true e = refl
-not_false false e = sym e
-
 -- counts that don't differ are the same
 pub same_counts : (a b : List ℕ) (differ : Bool) → differ ≡ not (bytes_eq a b) → differ ≡ false → a ≡ b
-same_counts a b differ is same = (bytes_eq-Decides a b).0 (not_false (bytes_eq a b) (sym is ∙ same))
+same_counts a b differ is same = (bytes_eq-Decides a b).0 (not-false (bytes_eq a b) (sym is ∙ same))

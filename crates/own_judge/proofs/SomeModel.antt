@@ -2,7 +2,7 @@
 use Rattle.std.proofs.Common.{◌≡◌, inl, inr, ⊎_elim, ℕ, zero, suc, ◌+◌, ◌<◌, ◌≤◌, Bool, true, false, cond, List, [], ◌∷◌, length, take, Option, Some, None, slice_get, refl, sym, ap, ◌∙◌, subst, arith}
 use Rattle.std.specs.Prelude.{ltb, unwrap_or}
 use Rattle.std.specs.Str.{bytes_eq}
-use Rattle.std.proofs.lemmas.Bool.{ltb-true, lt-ltb}
+use Rattle.std.proofs.lemmas.Bool.{ltb-true, lt-ltb, cases_lt}
 use Rattle.std.proofs.lemmas.List.{length-map}
 use Rattle.std.proofs.lemmas.Option.{slice_get_within}
 use Rattle.std.proofs.lemmas.Slice.Eq.{bytes_eq-Decides}
@@ -14,7 +14,6 @@ use Rattle.own_object.specs.Own.{OwnStep}
 use Rattle.own_object.specs.Ranges.{OwnRecord, OwnRecordFits}
 use Rattle.own_object.specs.Settings.{OwnSettings, names_of, word_in}
 use Rattle.own_judge.specs.Models.{Model, AreCounts, IsCount, IsTold, IsMistold}
-use Rattle.own_judge.proofs.ToldLogs.{order}
 
 -- the count of the object of that name
 abbrev count_for : List OwnSettings → List ℕ → List ℕ → ℕ
@@ -58,14 +57,14 @@ module _ (r : OwnRecord) (counts : List ℕ) (fit : OwnRecordFits r) (none : (x 
       let before = told_below n (omega (arith, le)) in
       let mis : (IsTold r counts n → ⊥) → IsMistold r counts n = λ no. record { some = inl (omega (arith, le)); wrong = no; first = before } in
       let here : IsTold r counts n = by n (omega (arith, le)) (λ no. none n (mis no)) (slice_get counts n) refl in
-      ⊎_elim (λ less. before y less) (λ ge. let same : n ≡ y = omega (arith, lt, ge) in subst (IsTold r counts) same here) (order y n)
+      ⊎_elim (λ less. before y less) (λ ge. let same : n ≡ y = omega (arith, lt, ge) in subst (IsTold r counts) same here) (cases_lt y n)
     where
       by : (k : ℕ) → k < length r.head.objects → ((IsTold r counts k → ⊥) → ⊥) → (o : Option ℕ) → slice_get counts k ≡ o → IsTold r counts k
       by k inside never None at = absurd (never (λ t. let bad : Some t.count ≡ None = sym t.there ∙ at in absurd (cc)))
       by k inside never (Some c) at = ⊎_elim
           (λ less. absurd (never (λ t. let same = one_of t.count c (slice_get counts k) t.there at in let w = t.within in absurd (omega (arith, less, same, w)))))
           (λ le. record { object = inside; count = c; there = at; within = le })
-          (order (length (steps_of (log_of k r.run))) c)
+          (cases_lt (length (steps_of (log_of k r.run))) c)
 
   told_all : (y : ℕ) → y < length r.head.objects → IsTold r counts y
   told_all y lt = told_below (length r.head.objects) (omega arith) y lt
@@ -76,8 +75,8 @@ module _ (r : OwnRecord) (counts : List ℕ) (fit : OwnRecordFits r) (none : (x 
       (λ le. ⊎_elim
       (λ more. absurd (none (length r.head.objects) (record { some = inr more; wrong = (λ t. let lt = t.object in absurd (omega (arith, lt))); first = told_all })))
       (λ ge. omega (arith, le, ge))
-      (order (length r.head.objects) (length counts)))
-      (order (length counts) (length r.head.objects))
+      (cases_lt (length r.head.objects) (length counts)))
+      (cases_lt (length counts) (length r.head.objects))
 
   name_at : (x : ℕ) (o : OwnSettings) → slice_get r.head.objects x ≡ Some o → word_in (names_of r.head) x ≡ o.name
   name_at x o on = ap (λ v. unwrap_or v []) (map_get (λ (v : OwnSettings). v.name) r.head.objects x o on)

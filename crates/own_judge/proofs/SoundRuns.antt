@@ -1,12 +1,14 @@
 -- A run is sound by a model, and what is told of it is sound.
 use Rattle.std.proofs.Common.{◌≡◌, ⊎_elim, ℕ, zero, suc, ◌<◌, ◌≤◌, Bool, true, false, List, [], ◌∷◌, length, map, Some, slice_get, sym, ap, ◌∙◌, subst, arith}
+use Rattle.std.proofs.lemmas.Bool.{cases_lt}
 use Rattle.std.specs.Prelude.{unwrap_or, slice_index}
 use Rattle.std.specs.List.{AllByRecursion}
 use Rattle.std.proofs.lemmas.List.{length-map}
 use Rattle.event_log.specs.declared.entry.Done.TheVariants as done
 use Rattle.event_log.specs.Log.{LegalFrom, steps_of}
+use Rattle.event_log.proofs.Lists.{some_at}
 use Rattle.sound_run.specs.Sound.{Opened, Sound, LogIsSound, EntryIsSound, Answers, transcript_of, log_of, done_on, steps_by, NoneAfterFull}
-use Rattle.sound_run.proofs.Slices.{map_get, get_map, some_at}
+use Rattle.sound_run.proofs.Slices.{map_get, get_map}
 use Rattle.auditor.specs.Faults.{HasSteps}
 use Rattle.own_object.specs.Own.{OwnStep, OwnEvent, OwnDone, OwnEntry, own}
 use Rattle.own_object.specs.Ranges.{OwnRecord}
@@ -15,7 +17,7 @@ use Rattle.own_object.specs.Settings.{OwnSettings}
 use Rattle.own_judge.specs.Answers.{answered, answered_opening, ToldEvent, ToldEntry, ToldRun}
 use Rattle.own_judge.specs.Models.{Model, opened, AreRight, IsCount, AreCounts, SoundBy}
 use Rattle.own_judge.specs.Translated.{right_steps, told_log, told_asked, told_done, told_entry, told_run, done_steps}
-use Rattle.own_judge.proofs.ToldLogs.{count_events, order, legal_if, legal_right, legal_ends}
+use Rattle.own_judge.proofs.ToldLogs.{count_events, legal_if, legal_right, legal_ends}
 use Rattle.own_judge.proofs.ToldEntries.{same_steps, same_images, fulfils_to, fulfils_from, done_told, by_told, full_to, full_from}
 use Rattle.own_judge.proofs.ToldRuns.{transcript_told, logs_count, log_to, log_from}
 use Rattle.own_judge.proofs.FirstFaults.{count_at}
@@ -91,7 +93,7 @@ module _ (model : Model) (r : OwnRecord) (counts : List ℕ) (are : AreCounts mo
       }
     where
       right_here : (right : List OwnStep → Bool) (steps : List OwnStep) (n : ℕ) → IsCount right steps n → AreRight right steps (length steps) → length steps ≤ n
-      right_here right steps n c all = ⊎_elim (λ less. let bad : true ≡ false = sym (all n less) ∙ c.next less in absurd (cc)) (λ le. le) (order n (length steps))
+      right_here right steps n c all = ⊎_elim (λ less. let bad : true ≡ false = sym (all n less) ∙ c.next less in absurd (cc)) (λ le. le) (cases_lt n (length steps))
 
   pub sound_from : Sound answered Objects T → SoundBy model r
   sound_from s =

@@ -1,5 +1,6 @@
 -- What is told of steps, events and logs.
 use Rattle.std.proofs.Common.{◌≡◌, ◌⊎◌, inl, inr, ⊎_elim, ℕ, zero, suc, ◌+◌, ◌-◌, ◌<◌, ◌≤◌, Bool, true, false, true≢false, cond, List, [], ◌∷◌, length, map, take, Some, slice_get, refl, sym, ap, ◌∙◌, subst, arith, length-append}
+use Rattle.std.proofs.lemmas.Bool.{cases_lt}
 use Rattle.std.specs.List.{AllByRecursion}
 use Rattle.event_log.specs.Log.{AreAnswers, LegalFrom, after, steps_of}
 use Rattle.auditor.specs.Faults.{HasSteps, StepIsWrong, EventIsWrong}
@@ -94,12 +95,6 @@ event_wrong_if s n (y ∷ log) (suc e) i x at lt h =
     let m = length-append y.steps.list.items (steps_of (take e log)) in
     event_wrong_if (after answered s (told_steps n y.steps.list.items)) (n - length y.steps.list.items) log e i x at lt (⊎_elim (λ le. inl (omega (arith, m, le))) (λ b. inr b) h)
 
-pub order : (m n : ℕ) → (m < n) ⊎ (n ≤ m)
-order zero zero = inr (omega arith)
-order zero (suc n) = inl (omega arith)
-order (suc m) zero = inr (omega arith)
-order (suc m) (suc n) = ⊎_elim (λ less. inl (omega arith)) (λ le. inr (omega arith)) (order m n)
-
 -- the event that has the step at a place among all steps of a log
 pub find_event : (log : List OwnEvent) (k : ℕ) → k < length (steps_of log) → (e : ℕ) × (i : ℕ) × EventAt log e i k
 find_event [] k lt = absurd (omega arith)
@@ -111,7 +106,7 @@ find_event (x ∷ log) k lt = ⊎_elim
     let p = h.2.place in
     let q = length-append x.steps.list.items (steps_of (take h.0 log)) in
     (suc h.0, h.1, record { event = h.2.event; there = h.2.there; within = h.2.within; place = omega (arith, p, q, le) }))
-    (order k (length x.steps.list.items))
+    (cases_lt k (length x.steps.list.items))
 
 -- steps that are all right
 pub told_right : (n : ℕ) (steps : List OwnStep) → length steps ≤ n → told_steps n steps ≡ map right_step steps

@@ -1,9 +1,10 @@
 -- What is said of a record that was handed over whole.
 use Rattle.std.proofs.Common.{◌≡◌, inl, inr, ⊎_elim, ℕ, zero, suc, ◌-◌, ◌<◌, ◌≤◌, List, [], ◌∷◌, length, map, Option, Some, None, slice_get, refl, sym, ap, ◌∙◌, subst, arith}
-use Rattle.std.specs.Prelude.{◌↔◌, unwrap_or, slice_index, Result, Ok, Err}
+use Rattle.std.proofs.lemmas.Bool.{cases_lt}
+use Rattle.std.specs.Prelude.{◌↔◌, slice_index, Result, Ok, Err}
 use Rattle.std.specs.List.{AllByRecursion}
 use Rattle.std.proofs.lemmas.List.{length-map}
-use Rattle.event_log.proofs.Each.{all_map}
+use Rattle.event_log.proofs.Each.{all_map, each_list_at}
 use Rattle.sound_run.specs.Sound.{Opened, Sound, transcript_of, log_of}
 use Rattle.sound_run.proofs.Slices.{get_map}
 use Rattle.auditor.specs.declared.fault.Fault.{Fault}
@@ -24,17 +25,10 @@ use Rattle.own_judge.specs.Answers.{answered, ToldEvent, ToldEntry, ToldRun}
 use Rattle.own_judge.specs.Judging.{ToldFed, ToldTerms, terms_of, HasCount, IsFirstWithout, IsFedOwn}
 use Rattle.own_judge.specs.Models.{opened, IsVerdictByCounts, IsTold, IsMistold}
 use Rattle.own_judge.specs.Translated.{told_event, told_log, told_entry, told_run}
-use Rattle.own_judge.proofs.ToldLogs.{order}
 use Rattle.own_judge.proofs.ToldRuns.{logs_count, log_told, transcript_told}
 use Rattle.own_judge.proofs.FirstFaults.{first_to, first_from}
 use Rattle.own_judge.proofs.SoundRuns.{sound_to, sound_from}
 use Rattle.own_judge.proofs.FedOwn.{all_opened, has_logs, transcripts_count, told_sizes}
-
--- what holds of each list, and of none, holds of the list at a place
-pub list_at : {X : Type 0} (Q : List X → Type 0) (lists : List (List X)) (i : ℕ) → AllByRecursion Q lists → Q [] → Q (unwrap_or (slice_get lists i) [])
-list_at Q [] i all none = none
-list_at Q (l ∷ lists) zero all none = all.0
-list_at Q (l ∷ lists) (suc i) all none = list_at Q lists i all.1 none
 
 -- an event as told
 event_of : (n : ℕ) (log : List OwnEvent) (k : ℕ) (t : ToldEvent) → slice_get (told_log n log) k ≡ Some t → (m : ℕ) × (e : OwnEvent) × (slice_get log k ≡ Some e) × (t ≡ told_event m e)
@@ -63,13 +57,13 @@ module _ (r : OwnRecord) (counts : List ℕ) (fit : OwnRecordFits r) (terms : Li
         able = λ x t at. refl;
         events = λ x k t at.
             let e = event_of (slice_index counts x) (log_of x r.run) k t (ap (λ l. slice_get l k) (sym (log_told (opened r.head) counts r.run x)) ∙ at) in
-            let f = all_at (EventFits r.head) (log_of x r.run) (list_at (LogFits r.head) r.run.logs x fit.1.logs (omega arith, tt)).1 k e.1 e.2 in
+            let f = all_at (EventFits r.head) (log_of x r.run) (each_list_at (LogFits r.head) r.run.logs x fit.1.logs (omega arith, tt)).1 k e.1 e.2 in
             let c = f.cpu in
             let same = ap (λ (v : ToldEvent). v.cpu) e.3 in
             (omega (arith, c, cpus, some, same), subst HasSteps (sym e.3) (told_sizes e.0 e.1 f.steps.some f.steps.few));
         entries = λ cpu n t at.
             let e = get_map told_entry (transcript_of cpu r.run) n t (ap (λ l. slice_get l n) (sym (transcript_told (opened r.head) counts r.run cpu)) ∙ at) in
-            let f = all_at (EntryFits r.head) (transcript_of cpu r.run) (list_at (TranscriptFits r.head) r.run.transcripts cpu fit.1.transcripts (omega arith, tt)).1 n e.0 e.1 in
+            let f = all_at (EntryFits r.head) (transcript_of cpu r.run) (each_list_at (TranscriptFits r.head) r.run.transcripts cpu fit.1.transcripts (omega arith, tt)).1 n e.0 e.1 in
             let c = f.object in
             let same = ap (λ (v : ToldEntry). v.object) e.2 in
             omega (arith, c, logs, k, same);
@@ -123,7 +117,7 @@ module _ (p : OwnParts) (counts most : List ℕ) (log rest : ℕ) (none : Option
 
   -- one place alone is mistold
   pub one_mistold : (x y : ℕ) → IsMistold R counts x → IsMistold R counts y → x ≡ y
-  one_mistold x y a b = ⊎_elim (λ less. absurd (a.wrong (b.first x less))) (λ le. ⊎_elim (λ less. absurd (b.wrong (a.first y less))) (λ ge. omega (arith, le, ge)) (order y x)) (order x y)
+  one_mistold x y a b = ⊎_elim (λ less. absurd (a.wrong (b.first x less))) (λ le. ⊎_elim (λ less. absurd (b.wrong (a.first y less))) (λ ge. omega (arith, le, ge)) (cases_lt y x)) (cases_lt x y)
 
   pub mistold_log : (x : ℕ) → none ≡ Some x → IsMistold R counts x
   mistold_log x e =

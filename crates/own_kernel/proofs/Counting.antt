@@ -3,13 +3,13 @@ use Rattle.std.proofs.Common.{◌≡◌, ⊎_elim, ℕ, ◌+◌, ◌<◌, Bool, 
 use Rattle.std.specs.Option.{option_map_or}
 use Rattle.std.proofs.lemmas.Bool.{cases_lt}
 use Rattle.std.proofs.lemmas.List.{append_assoc, take_all, take-append-le}
+use Rattle.kernel_object.specs.declared.call.KCall.{KCall}
+use Rattle.kernel_object.specs.declared.call.KParams.{KParams}
+use Rattle.kernel_object.specs.declared.object.KernelObject.{KernelObject}
+use Rattle.kernel_object.specs.Kernel.{kernel_opening, kernel_answer}
 use Rattle.own_object.specs.Own.{OwnStep}
 use Rattle.own_kernel.specs.Counts.{AreRight, IsCountOf, Counted, none_counted, answers_of, LeadsTo, IsCounting}
 use Rattle.own_kernel.specs.KernelModel.{call_of, answers_last}
-use Rattle.scripts.specs.declared.objects.kernel_call.KCall.{KCall}
-use Rattle.scripts.specs.declared.objects.kernel_call.KParams.{KParams}
-use Rattle.scripts.specs.declared.objects.kernel_object.KernelObject.{KernelObject}
-use Rattle.scripts.specs.Kernel.{kernel_opening, kernel_answer}
 
 -- a step behind the others changes none of the earlier beginnings
 earlier : (steps : List OwnStep) (s : OwnStep) (k : ℕ) → k < length steps → take (k + 1) (steps ++ s ∷ []) ≡ take (k + 1) steps

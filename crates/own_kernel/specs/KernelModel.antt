@@ -2,17 +2,17 @@
 use Rattle.std.specs.Prelude.{ℕ, Bool, true, false, ◌&&◌, if◌then◌else◌, List, [], ◌∷◌, Option, Some, None}
 use Rattle.std.specs.Option.{option_map_or}
 use Rattle.std.specs.Str.{bytes_eq}
+use Rattle.kernel_object.specs.declared.call.KCall.{KCall}
+use Rattle.kernel_object.specs.declared.call.KParams.{KParams}
+use Rattle.kernel_object.specs.declared.call.KParams.TheVariants.{Queue, Pool, Console, Sched}
+use Rattle.kernel_object.specs.declared.call.KReply.{KReply}
+use Rattle.kernel_object.specs.declared.object.KernelObject.{KernelObject}
+use Rattle.kernel_object.specs.declared.kind.Kind.{Kind}
+use Rattle.kernel_object.specs.Kernel.{kernel_in_range, kernel_opening, kernel_answer}
+use Rattle.kernel_object.specs.KindWords.{kind_of}
 use Rattle.own_object.specs.Own.{OwnStep}
 use Rattle.own_object.specs.Said.{Said}
 use Rattle.scripts.specs.declared.tables.field.Field.{Field}
-use Rattle.scripts.specs.declared.objects.kernel_call.KCall.{KCall}
-use Rattle.scripts.specs.declared.objects.kernel_call.KParams.{KParams}
-use Rattle.scripts.specs.declared.objects.kernel_call.KParams.TheVariants.{Queue, Pool, Console, Sched}
-use Rattle.scripts.specs.declared.objects.kernel_call.KReply.{KReply}
-use Rattle.scripts.specs.declared.objects.kernel_object.KernelObject.{KernelObject}
-use Rattle.scripts.specs.declared.objects.kind.Kind.{Kind}
-use Rattle.scripts.specs.Kernel.{kernel_in_range, kernel_opening, kernel_answer}
-use Rattle.scripts.specs.Parameters.{kind_of}
 use Rattle.scripts.specs.Reading.{◌>>=◌}
 use Rattle.scripts.specs.Row.{in_range, sample_at, values}
 use Rattle.scripts.specs.Rows.{call_row, call_samples, call_filled, reply_row}

@@ -2,8 +2,8 @@
 
 ghost use Rattle.std.specs.Prelude.{◌≡◌, ◌+◌, ◌<◌, ◌≤◌, ◌^◌, ◌++◌, ◌∷◌, [], true, length, IfOk};
 ghost use Rattle.event_log.specs.declared.event.TheConstants.{MOST_CALLS};
+ghost use Rattle.kernel_object.specs.Kernel.{kernel_in_range};
 ghost use Rattle.own_kernel.specs.Counts.{none_counted, answers_of, IsCountOf};
-ghost use Rattle.scripts.specs.Kernel.{kernel_in_range};
 
 use crate::KernelModel;
 use event_log::{Event, OutOfMemory, Past, Step};

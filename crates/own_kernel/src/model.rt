@@ -1,8 +1,8 @@
 //! An object of the kernel that judges steps.
 
 ghost use Rattle.std.specs.Prelude.{◌≡◌, ◌∷◌, [], true, Some, None, IfSome, IfNone, IfOk, IfErr, OnOk};
+ghost use Rattle.kernel_object.specs.Kernel.{kernel_in_range, kernel_opening, kernel_answer};
 ghost use Rattle.own_kernel.specs.KernelModel.{params_of, call_of, said_of, is_said, answers_last};
-ghost use Rattle.scripts.specs.Kernel.{kernel_in_range, kernel_opening, kernel_answer};
 
 use crate::params::kernel_params;
 use crate::said::{call_of, says};
@@ -20,7 +20,7 @@ pub struct KernelModel {
 }
 
 impl Model for KernelModel {
-    ghost use Rattle.scripts.specs.declared.objects.kernel_object.KernelObject.{KernelObject};
+    ghost use Rattle.kernel_object.specs.declared.object.KernelObject.{KernelObject};
     ghost use Rattle.auditor.specs.References.{shown};
 
     ghost Value = { KernelObject };

@@ -1,10 +1,10 @@
 //! What an object of the kernel is opened with.
 
 ghost use Rattle.std.specs.Prelude.{◌≡◌, nat_le, ◌&&◌, if◌then◌else◌, true, Some, None, IfSome};
+ghost use Rattle.kernel_object.specs.declared.kind.Kind.TheVariants as kind;
+ghost use Rattle.kernel_object.specs.Kernel.{kernel_in_range};
 ghost use Rattle.own_kernel.specs.KernelModel.{opened_from, params_of};
 ghost use Rattle.own_kernel.specs.Quotas.{are_quotas};
-ghost use Rattle.scripts.specs.declared.objects.kind.Kind.TheVariants as kind;
-ghost use Rattle.scripts.specs.Kernel.{kernel_in_range};
 
 use console_ring::MOST_BYTES;
 use page_pool::{MOST_PAGES, OWNERS, PoolParams};

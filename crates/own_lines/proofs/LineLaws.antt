@@ -19,12 +19,12 @@ use Rattle.scripts.specs.Words.{separated}
 use Rattle.scripts.proofs.ListLaws.{key_takes, key_again, key_other}
 use Rattle.scripts.proofs.Names.{name_plain}
 use Rattle.scripts.proofs.Readings.{bind_some, plain_decimal, number_at_takes, number_at_again}
-use Rattle.scripts.proofs.RecordLineLaws.{fixed_takes, fixed_again, head_takes, head_again}
+use Rattle.scripts.proofs.RecordLineLaws.{fixed_takes, fixed_again, head_takes, head_again, nothing_behind}
 use Rattle.scripts.proofs.RecordWords.{name_takes, name_again}
 use Rattle.own_lines.proofs.ItemLaws.{list_takes, list_again, list_plain}
 use Rattle.own_lines.proofs.NameLaws.{name_of_object, place_takes, place_again, new_words_take, new_words_again, names_plain}
 use Rattle.own_lines.proofs.SaidLaws.{sizes_take, sizes_again, sizes_plain}
-use Rattle.own_lines.proofs.StepLaws.{nothing_behind, reads_said, steps_take, steps_again, steps_plain, done_takes, done_again, done_plain}
+use Rattle.own_lines.proofs.StepLaws.{reads_said, steps_take, steps_again, steps_plain, done_takes, done_again, done_plain}
 
 -- the words make a line: there is one, and neither a line end nor a space is in any
 abbrev pub IsLineOf : List (List ℕ) → Type 0

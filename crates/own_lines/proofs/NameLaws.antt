@@ -1,28 +1,22 @@
 -- Names, the objects that they name, and words that differ.
-use Rattle.std.proofs.Common.{◌≡◌, ◌⊎◌, ℕ, zero, suc, ◌<◌, ◌≤◌, Bool, true, false, eq-or-lt_of_le, Some, None, List, [], ◌∷◌, ◌++◌, length, length-append, append_assoc, refl, sym, ◌∙◌, ap, subst, cond, arith, position, get_or, inl, inr, nat_lt, not, ◌&&◌, ◌||◌, bytes_eq, option_map, unwrap_or}
-use Rattle.std.proofs.lemmas.Bool.{and_parts, false_from_ne_true, false≢true, lt-ltb}
+use Rattle.std.proofs.Common.{◌≡◌, ℕ, zero, suc, ◌<◌, ◌≤◌, true, false, eq-or-lt_of_le, Some, List, [], ◌∷◌, ◌++◌, length, length-append, append_assoc, refl, sym, ◌∙◌, ap, subst, arith, position, inl, inr, not, ◌&&◌, ◌||◌, bytes_eq, option_map, unwrap_or}
+use Rattle.std.proofs.lemmas.Bool.{and_parts, false_from_ne_true, false≢true, or_right, or_cases, not-true}
 use Rattle.std.proofs.lemmas.List.{append-nil, length-map}
-use Rattle.std.proofs.lemmas.List.Quantifiers.{position-Some}
-use Rattle.std.proofs.lemmas.List.Sums.{position_or_len_is}
-use Rattle.std.proofs.lemmas.Option.{cond_some, slice_get-get_or, slice_get-map, slice_get_cases}
+use Rattle.std.proofs.lemmas.Option.{cond_some, slice_get-map}
 use Rattle.std.proofs.lemmas.Slice.Eq.{bytes_eq-Decides}
-use Rattle.std.specs.List.{AllByRecursion, slice_get, position_or_len}
+use Rattle.std.specs.List.{AllByRecursion, slice_get}
+use Rattle.event_log.proofs.Each.{each_at}
+use Rattle.event_log.proofs.Lists.{some_at}
 use Rattle.own_lines.specs.LineReading.{own_place_at, new_name_in, new_words_at}
 use Rattle.own_object.specs.Ranges.{OwnSettingsFit, Differ, HeadFits}
 use Rattle.own_object.specs.Settings.{OwnSettings, OwnHead, names_of, word_in, refuses_word}
 use Rattle.scripts.specs.Reading.{word_at}
 use Rattle.scripts.specs.Row.{IsPlain}
 use Rattle.scripts.specs.Settings.{is_name}
-use Rattle.scripts.proofs.Names.{each_at, name_plain}
+use Rattle.scripts.proofs.Names.{name_plain, named_by, first_at}
 use Rattle.scripts.proofs.Readings.{bind_some, same}
 
 -- ---- the object at a place
-
-pub member_there : {X : Type 0} (xs : List X) (i : ℕ) → i < length xs → (x : X) × (slice_get xs i ≡ Some x)
-member_there xs i less = elim (slice_get_cases xs i).1 [
-  | inl h ↦ (h.0, h.2)
-  | inr h ↦ absurd (let past = h.0 in omega (arith, past, less))
-]
 
 -- the name of the object at a place
 named : (head : OwnHead) (i : ℕ) (o : OwnSettings) → slice_get head.objects i ≡ Some o → word_in (names_of head) i ≡ o.name
@@ -31,23 +25,9 @@ named head i o at = ap (λ v. unwrap_or v []) (slice_get-map (λ (o : OwnSetting
 -- each object has a name
 pub name_of_object : (head : OwnHead) → HeadFits head → (i : ℕ) → i < length head.objects → is_name (word_in (names_of head) i) ≡ true
 name_of_object head fit i less =
-    let there = member_there head.objects i less in
+    let there = some_at head.objects i less in
     let fits : OwnSettingsFit there.0 = each_at OwnSettingsFit head.objects i there.0 fit.each there.1 in
     ap is_name (named head i there.0 there.1) ∙ fits.name
-
-named_by : {X : Type 0} (test : X → Bool) (xs : List X) (i : ℕ) → position test xs ≡ Some i → (x : X) × (slice_get xs i ≡ Some x) × (test x ≡ true) × (i < length xs)
-named_by test [] i e = absurd cc
-named_by test (x ∷ xs) i e =
-    let found = position-Some test (x ∷ xs) i x e in
-    (get_or (x ∷ xs) i x, slice_get-get_or (x ∷ xs) i x found.0, found.1, found.0)
-
-first_at : {X : Type 0} (test : X → Bool) (xs : List X) (i : ℕ) → i < length xs → ((k : ℕ) (x : X) → k < i → slice_get xs k ≡ Some x → test x ≡ false) → ((x : X) → slice_get xs i ≡ Some x → test x ≡ true) → position test xs ≡ Some i
-first_at test [] i less before here = absurd (omega (arith, less))
-first_at test (x ∷ xs) i less before here =
-    let at : position_or_len test (x ∷ xs) ≡ i = position_or_len_is test (x ∷ xs) i x (omega (arith, less))
-    (λ k lower. before k (get_or (x ∷ xs) k x) lower (slice_get-get_or (x ∷ xs) k x (omega (arith, lower, less))))
-    (λ inside. here (get_or (x ∷ xs) i x) (slice_get-get_or (x ∷ xs) i x less)) in
-    ap (λ n. cond (nat_lt n (length (x ∷ xs))) (Some n) None) at ∙ ap (λ b. cond b (Some i) None) (lt-ltb i (length (x ∷ xs)) less)
 
 -- the name is next, and it is that of the object at the place
 pub record IsNamed (head : OwnHead) (ws : List (List ℕ)) (read : ℕ × List (List ℕ)) : Type 0 where
@@ -76,22 +56,14 @@ place_again head i rest names less =
 
 -- ---- words that differ
 
-word_before : (front ws : List (List ℕ)) (i : ℕ) → i < length front → word_in (front ++ ws) i ≡ word_in front i
+pub word_before : (front ws : List (List ℕ)) (i : ℕ) → i < length front → word_in (front ++ ws) i ≡ word_in front i
 word_before [] ws i less = absurd (omega (arith, less))
 word_before (x ∷ front) ws zero less = refl
 word_before (x ∷ front) ws (suc i) less = word_before front ws i (omega (arith, less))
 
-word_here : (front ws : List (List ℕ)) (w : List ℕ) → word_in (front ++ w ∷ ws) (length front) ≡ w
+pub word_here : (front ws : List (List ℕ)) (w : List ℕ) → word_in (front ++ w ∷ ws) (length front) ≡ w
 word_here [] ws w = refl
 word_here (x ∷ front) ws w = word_here front ws w
-
-or_right : (b c : Bool) → c ≡ true → (b || c) ≡ true
-or_right true c e = refl
-or_right false c e = e
-
-or_true : (b c : Bool) → (b || c) ≡ true → (b ≡ true) ⊎ (c ≡ true)
-or_true true c e = inl refl
-or_true false c e = inr e
 
 -- a word that stands somewhere is among them
 among : (ws : List (List ℕ)) (i : ℕ) (w : List ℕ) → i < length ws → word_in ws i ≡ w → refuses_word ws w ≡ true
@@ -102,7 +74,7 @@ among (x ∷ ws) (suc i) w less e = or_right (bytes_eq x w) (refuses_word ws w) 
 -- a word that is among them stands somewhere
 stands_at : (ws : List (List ℕ)) (w : List ℕ) → refuses_word ws w ≡ true → (i : ℕ) × (i < length ws) × (word_in ws i ≡ w)
 stands_at [] w e = absurd cc
-stands_at (x ∷ ws) w e = elim (or_true (bytes_eq x w) (refuses_word ws w) e) [
+stands_at (x ∷ ws) w e = elim (or_cases (bytes_eq x w) (refuses_word ws w) e) [
   | inl here ↦ (0, omega arith, (bytes_eq-Decides x w).0 here)
   | inr later ↦ (let at = stands_at ws w later in (suc at.0, omega (arith, at.1), at.2))
 ]
@@ -146,10 +118,6 @@ pub record AreNew (earlier : List (List ℕ)) (n : ℕ) (ws all : List (List ℕ
   pub each : AllByRecursion IsName ws
   pub once : Differ earlier → Differ all
 
-not_true : (b : Bool) → not b ≡ true → b ≡ false
-not_true true e = absurd cc
-not_true false e = refl
-
 pub new_words_take : (earlier : List (List ℕ)) (n : ℕ) (ws all : List (List ℕ)) → new_words_at earlier n ws ≡ Some all → AreNew earlier n ws all
 unfolding new_words_at new_name_in
 new_words_take earlier zero [] all e = let is : earlier ≡ all = cc in record { text = append-nil earlier ∙ is; few = omega arith; each = tt; once = λ d. subst Differ is d }
@@ -163,7 +131,7 @@ new_words_take earlier (suc n) (w ∷ ws) all e = bind_some (new_name_in earlier
       text = ap (λ v. earlier ++ v ∷ ws) new.1 ∙ (sym (append_assoc earlier (name ∷ []) ws) ∙ more.text);
       few = let few = more.few in omega (arith, few);
       each = (tests.0, more.each);
-      once = λ d. more.once (subst (λ v. Differ (earlier ++ v ∷ [])) new.1 (differ_more earlier w d (not_true (refuses_word earlier w) tests.1)));
+      once = λ d. more.once (subst (λ v. Differ (earlier ++ v ∷ [])) new.1 (differ_more earlier w d (not-true (refuses_word earlier w) tests.1)));
     })
 
 pub new_words_again : (earlier : List (List ℕ)) (n : ℕ) (ws : List (List ℕ)) → length ws ≤ n → AllByRecursion IsName ws → Differ (earlier ++ ws) → new_words_at earlier n ws ≡ Some (earlier ++ ws)

@@ -1,9 +1,10 @@
 -- Whatever was read of a record, some record's lines begin with it.
-use Rattle.std.proofs.Common.{◌≡◌, ℕ, zero, suc, ◌-◌, ◌≤◌, List, [], ◌∷◌, ◌++◌, length, length-append, map, append_assoc, replicate, refl, sym, ap, ◌∙◌, subst, arith, codes}
+use Rattle.std.proofs.Common.{◌≡◌, ℕ, ◌-◌, ◌≤◌, List, [], ◌∷◌, ◌++◌, length, length-append, map, append_assoc, replicate, refl, sym, ap, ◌∙◌, subst, arith, codes}
 use Rattle.std.proofs.lemmas.List.{append-nil, length-replicate, map-append}
 use Rattle.std.specs.List.{AllByRecursion}
 use Rattle.event_log.proofs.Each.{all_append, all_push}
 use Rattle.event_log.specs.declared.entry.Done.TheVariants.{NoRoom}
+use Rattle.scripts.proofs.RecordEnds.{all_same}
 use Rattle.own_lines.specs.LineText.{first_words, cpus_words, count_words, own_object_words, own_event_words, own_entry_words, refuses_words, last_words}
 use Rattle.own_object.specs.Own.{OwnEvent, OwnEntry}
 use Rattle.own_object.specs.Ranges.{OwnRecord, OwnRecordFits, OwnSettingsFit, HeadFits, SaidFits, EventFits, EntryFits, LogFits, TranscriptFits}
@@ -28,10 +29,6 @@ pub record Begins (front : Lines) : Type 0 where
 -- and so with fewer
 fewer : (a b : Lines) → Begins (a ++ b) → Begins a
 fewer a b on = record { shown = on.shown; fit = on.fit; more = b ++ on.more; lines = on.lines ∙ append_assoc a b on.more }
-
-all_same : {X : Type 0} (P : X → Type 0) (x : X) (n : ℕ) → P x → AllByRecursion P (replicate n x)
-all_same P x zero p = tt
-all_same P x (suc n) p = (p, all_same P x n p)
 
 -- the last part can be filled up with items of one kind
 part_begins : {T : Type 0} (head : ℕ → List (List ℕ)) (words_of : T → List (List ℕ)) (fits : T → Type 0) (x : T) (front : Lines) (parts : List (List T)) (n : ℕ) (items : List T) → fits x → length items ≤ n → AllByRecursion fits items

@@ -1,7 +1,7 @@
 -- Names that differ, and names that no object has.
 use Rattle.std.proofs.Common.{◌≡◌, ℕ, zero, suc, ◌+◌, ◌≤◌, ◌<◌, ◌^◌, ◌%◌, ◌⊎◌, inl, inr, Bool, true, false, nat_lt, List, [], ◌∷◌, ◌++◌, length, length-append, append_assoc, map, refl, sym, ap, ◌∙◌, subst, cond, arith, ◌||◌, bytes_eq, codes, decimal}
 use Rattle.std.proofs.Math.Nat.{eq-or-lt_of_le}
-use Rattle.std.proofs.lemmas.Bool.{and_parts, le-leb, ltb-true, ltb-false, false_from_ne_true, false≢true}
+use Rattle.std.proofs.lemmas.Bool.{and_parts, le-leb, ltb-true, ltb-false, false_from_ne_true, false≢true, or_right, or_cases}
 use Rattle.std.specs.Cmp.Derive.{both_true}
 use Rattle.std.proofs.lemmas.Fmt.{decimal_by_steps, decimal_injective}
 use Rattle.std.proofs.lemmas.List.{append-nil, map-append}
@@ -9,27 +9,11 @@ use Rattle.std.proofs.lemmas.Slice.Eq.{bytes_eq-Decides}
 use Rattle.std.specs.List.{AllByRecursion, list_all, list_any}
 use Rattle.own_object.specs.Ranges.{Differ, OwnSettingsFit}
 use Rattle.own_object.specs.Settings.{OwnSettings, word_in}
+use Rattle.own_lines.proofs.NameLaws.{word_before, word_here}
 use Rattle.own_records.specs.RecordStates.{is_among}
 use Rattle.scripts.specs.Settings.{is_name, is_letter, is_digit}
 
 -- ---- words that differ
-
-word_before : (front ws : List (List ℕ)) (i : ℕ) → i < length front → word_in (front ++ ws) i ≡ word_in front i
-word_before [] ws i less = absurd (omega (arith, less))
-word_before (x ∷ front) ws zero less = refl
-word_before (x ∷ front) ws (suc i) less = word_before front ws i (omega (arith, less))
-
-word_here : (front ws : List (List ℕ)) (w : List ℕ) → word_in (front ++ w ∷ ws) (length front) ≡ w
-word_here [] ws w = refl
-word_here (x ∷ front) ws w = word_here front ws w
-
-or_right : (b c : Bool) → c ≡ true → (b || c) ≡ true
-or_right true c e = refl
-or_right false c e = e
-
-or_true : (b c : Bool) → (b || c) ≡ true → (b ≡ true) ⊎ (c ≡ true)
-or_true true c e = inl refl
-or_true false c e = inr e
 
 -- a word at some place is one of them
 among : (ws : List (List ℕ)) (i : ℕ) (s : List ℕ) → i < length ws → word_in ws i ≡ s → is_among ws s ≡ true
@@ -40,7 +24,7 @@ among (x ∷ ws) (suc i) s less e = or_right (bytes_eq x s) (is_among ws s) (amo
 -- one of them stands somewhere
 among_at : (ws : List (List ℕ)) (s : List ℕ) → is_among ws s ≡ true → (i : ℕ) × (i < length ws) × (word_in ws i ≡ s)
 among_at [] s e = absurd cc
-among_at (x ∷ ws) s e = elim (or_true (bytes_eq x s) (is_among ws s) e) [
+among_at (x ∷ ws) s e = elim (or_cases (bytes_eq x s) (is_among ws s) e) [
   | inl here ↦ (0, omega arith, (bytes_eq-Decides x s).0 here)
   | inr later ↦ (let at = among_at ws s later in (suc at.0, omega (arith, at.1), at.2))
 ]

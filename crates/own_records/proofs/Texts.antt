@@ -3,6 +3,7 @@ use Rattle.std.proofs.Common.{◌≡◌, ℕ, suc, ◌⊎◌, ◌<◌, ◌==◌,
 use Rattle.std.proofs.lemmas.Bool.{eqb-true}
 use Rattle.std.proofs.lemmas.List.{append-nil, map-append}
 use Rattle.std.specs.List.{AllByRecursion}
+use Rattle.scripts.proofs.RecordTexts.{same_lines}
 use Rattle.own_lines.proofs.LineLaws.{IsLineOf}
 use Rattle.own_object.specs.Ranges.{OwnRecord, OwnRecordFits}
 use Rattle.own_records.specs.declared.state.Next.TheVariants.{Done}
@@ -18,7 +19,7 @@ use Rattle.scripts.specs.RecordFaults.{first_lines}
 use Rattle.scripts.specs.Words.{NoEnd, sentence, text_of_lines}
 use Rattle.scripts.proofs.FirstLines.{text_append, line_behind, same_line, no_such_end, first_within, first_same, first_none, first_is}
 use Rattle.scripts.proofs.RecordParts.{Lines}
-use Rattle.scripts.proofs.Sentences.{words_sentence, sentence_words, sentence_no_end}
+use Rattle.scripts.proofs.Sentences.{words_sentence, sentence_no_end}
 
 -- bytes that are counted to none
 pub empty_is : (bytes : List ℕ) → (length bytes == 0) ≡ true → bytes ≡ []
@@ -30,10 +31,6 @@ empty_is (b ∷ bytes) e = absurd (omega (arith, eqb-true (length (b ∷ bytes))
 of_words : (lines : Lines) (s t : OwnState) → AllByRecursion IsLineOf lines → TakesEach StepsTo lines s t → TakesEach TakesLine (map sentence lines) s t
 of_words [] s t are run = run
 of_words (ws ∷ lines) s t are run = (run.0, subst (λ l. StepsTo l s run.0) (sym (words_sentence ws are.0.0 are.0.1)) run.1, of_words lines run.0 t are.1 run.2)
-
-same_lines : (ls : List (List ℕ)) → map sentence (map words ls) ≡ ls
-same_lines [] = refl
-same_lines (l ∷ ls) = λ i. sentence_words l i ∷ same_lines ls i
 
 no_ends : (lines : Lines) → AllByRecursion IsLineOf lines → AllByRecursion NoEnd (map sentence lines)
 no_ends [] are = tt

@@ -135,6 +135,7 @@ impl SeqObject for PagePool {
         })
     }
 
+    #[inline]
     fn apply(&mut self, call: &PoolCall) -> PoolReply {
         match *call {
             PoolCall::Alloc(owner) => self.give(owner),

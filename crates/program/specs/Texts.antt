@@ -1,9 +1,9 @@
 -- What is read of the inputs of a command: settings, scripts, a schedule or a record, and why one is refused.
 use Rattle.std.specs.Prelude.{ℕ, List, Option, Some}
+use Rattle.kernel_object.specs.KernelTypes.{KernelTodo}
 use Rattle.program.specs.Inputs.{Reads}
 use Rattle.program.specs.declared.refusal.Refusal.{Refusal}
 use Rattle.program.specs.declared.refusal.Refusal.TheVariants as refusal
-use Rattle.scripts.specs.KernelTypes.{KernelTodo}
 use Rattle.scripts.specs.RecordFaults.{IsBadLine, IsWhole}
 use Rattle.scripts.specs.RecordRanges.{Record}
 use Rattle.scripts.specs.ScheduleText.{IsFirstBadWord, IsSchedule}

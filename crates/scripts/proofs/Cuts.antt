@@ -1,7 +1,7 @@
 -- Cutting a list at the first member that passes a test.
 use Rattle.std.proofs.Common.{◌≡◌, ℕ, zero, suc, ◌+◌, ◌^◌, ◌<◌, ◌≤◌, ◌==◌, decimal, subst, not, cond, nat_lt, Bool, true, false, Some, None, List, [], ◌∷◌, ◌++◌, length, take, drop, get_or, position, refl, sym, ◌∙◌, ap, arith, nat_le, ◌&&◌, bytes_eq}
 use Rattle.std.specs.List.{AllByRecursion, prefix_len, position_or_len, slice_split}
-use Rattle.std.proofs.lemmas.Bool.{eqb-true, ltb-false, and_parts, leb-true, le-leb}
+use Rattle.std.proofs.lemmas.Bool.{eqb-true, ltb-false, and_parts, leb-true, le-leb, false_from_ne_true}
 use Rattle.std.proofs.lemmas.List.{take-append-drop, drop_more, take_all}
 use Rattle.std.proofs.lemmas.List.Elements.{All-from_recursion}
 use Rattle.std.proofs.lemmas.List.Quantifiers.{position-Some}
@@ -35,18 +35,14 @@ cut_found bytes byte i e =
     let at = position-Some (λ b. b == byte) bytes i 0 e in
     cut_at bytes byte i at.0 at.1 at.2
 
-not_true : (b : Bool) → (b ≡ true → ⊥) → b ≡ false
-not_true true h = absurd (h refl)
-not_true false h = refl
-
 -- the first byte that a search found
 pub cut_first : (bytes : List ℕ) (byte i : ℕ) → IsFirstByte (is_byte byte) bytes (Some i)
     → AllByRecursion (λ b. (b == byte) ≡ false) (take i bytes) × (bytes ≡ take i bytes ++ byte ∷ drop 1 (drop i bytes))
-cut_first bytes byte i h = cut_at bytes byte i h.0.high h.1 (λ k less. not_true (get_or bytes k 0 == byte) (h.0.before k (omega arith) less))
+cut_first bytes byte i h = cut_at bytes byte i h.0.high h.1 (λ k less. false_from_ne_true (get_or bytes k 0 == byte) (h.0.before k (omega arith) less))
 
 -- a search that found none
 pub cut_none : (bytes : List ℕ) (byte : ℕ) → IsFirstByte (is_byte byte) bytes None → AllByRecursion (λ b. (b == byte) ≡ false) bytes
-cut_none bytes byte h = subst (λ (l : List ℕ). AllByRecursion (λ b. (b == byte) ≡ false) l) (take_all (length bytes) bytes (omega arith)) (none_below (λ b. b == byte) bytes (length bytes) (λ k less. not_true (get_or bytes k 0 == byte) (h k (omega arith) less)))
+cut_none bytes byte h = subst (λ (l : List ℕ). AllByRecursion (λ b. (b == byte) ≡ false) l) (take_all (length bytes) bytes (omega arith)) (none_below (λ b. b == byte) bytes (length bytes) (λ k less. false_from_ne_true (get_or bytes k 0 == byte) (h k (omega arith) less)))
 
 all_before : (test : ℕ → Bool) (xs : List ℕ) → length xs ≤ prefix_len (λ b. not (test b)) xs → AllByRecursion (λ b. test b ≡ false) xs
 all_before test [] h = tt

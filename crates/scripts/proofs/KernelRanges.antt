@@ -2,19 +2,23 @@
 use Rattle.std.proofs.Common.{◌≡◌, true, List, refl}
 use Rattle.event_log.specs.Log.{Legal}
 use Rattle.event_log.specs.declared.event.Event.{Event}
-use Rattle.scripts.specs.declared.objects.kernel_call.KParams.{KParams}
-use Rattle.scripts.specs.declared.objects.kernel_call.KParams.TheVariants as Params
-use Rattle.scripts.specs.declared.objects.kernel_call.KCall.{KCall}
-use Rattle.scripts.specs.declared.objects.kernel_call.KCall.TheVariants as Call
-use Rattle.scripts.specs.declared.objects.kernel_call.KReply.{KReply}
-use Rattle.scripts.specs.declared.objects.kernel_object.KernelObject.{KernelObject}
-use Rattle.scripts.specs.declared.objects.kernel_object.KernelObject.TheVariants as Object
-use Rattle.scripts.specs.contracts.objects.kernel_object.KernelObjectSeqObject.TheImpl.{ghosts as kernel}
-use Rattle.scripts.specs.Kernel.{kernel_answer, kernel_opening, kernel_in_range}
-use Rattle.scripts.specs.Kinds.Queue.{queue_kind}
-use Rattle.scripts.specs.Kinds.Pool.{pool_kind}
-use Rattle.scripts.specs.Kinds.Console.{console_kind}
-use Rattle.scripts.specs.Kinds.Sched.{sched_kind}
+use Rattle.kernel_object.specs.declared.call.KParams.{KParams}
+use Rattle.kernel_object.specs.declared.call.KParams.TheVariants as Params
+use Rattle.kernel_object.specs.declared.call.KCall.{KCall}
+use Rattle.kernel_object.specs.declared.call.KCall.TheVariants as Call
+use Rattle.kernel_object.specs.declared.call.KReply.{KReply}
+use Rattle.kernel_object.specs.declared.object.KernelObject.{KernelObject}
+use Rattle.kernel_object.specs.declared.object.KernelObject.TheVariants as Object
+use Rattle.kernel_object.specs.contracts.object.KernelObjectSeqObject.TheImpl.{ghosts as kernel}
+use Rattle.kernel_object.specs.Kernel.{kernel_answer, kernel_opening, kernel_in_range}
+use Rattle.kernel_object.specs.Kinds.Queue.{queue_kind}
+use Rattle.kernel_object.specs.Kinds.Pool.{pool_kind}
+use Rattle.kernel_object.specs.Kinds.Console.{console_kind}
+use Rattle.kernel_object.specs.Kinds.Sched.{sched_kind}
+use Rattle.scripts.specs.Kinds.Queue.{queue_text}
+use Rattle.scripts.specs.Kinds.Pool.{pool_text}
+use Rattle.scripts.specs.Kinds.Console.{console_text}
+use Rattle.scripts.specs.Kinds.Sched.{sched_text}
 use Rattle.scripts.specs.Ranges.{call_fits, reply_fits, log_asks, log_answers}
 use Rattle.scripts.proofs.KindLaws.Laws.{KindKeeps}
 use Rattle.scripts.proofs.LogRanges.{Keeps, legal_fits}
@@ -23,7 +27,7 @@ use Rattle.scripts.proofs.LogRanges.{Keeps, legal_fits}
 keeps_as : {S : Type 0} (Good : S → Type 0) (Any : KernelObject → Type 0) (object : S → KernelObject) → ((s : S) → Good s → Any (object s)) → (a : S × KReply) → Keeps Good reply_fits a → Keeps Any reply_fits (object a.0, a.1)
 keeps_as Good Any object turn a k = record { good = turn a.0 k.good; fits = k.fits }
 
-module _ (queue : KindKeeps queue_kind) (pool : KindKeeps pool_kind) (console : KindKeeps console_kind) (sched : KindKeeps sched_kind) where
+module _ (queue : KindKeeps queue_text) (pool : KindKeeps pool_text) (console : KindKeeps console_text) (sched : KindKeeps sched_text) where
   -- a state of an object that was opened with these parameters, which are in range
   abbrev Good : KParams → KernelObject → Type 0
   Good (Params.Queue p) (Object.Queue s) = queue.Good p s

@@ -2,13 +2,13 @@
 use Rattle.std.proofs.Common.{◌≡◌, ℕ, ◌<◌, length, List, Some, ap, sym, ◌∙◌, refl, subst, codes}
 use Rattle.std.proofs.lemmas.Option.{cond_some}
 use Rattle.event_log.specs.declared.entry.Done.TheVariants.{Steps}
-use Rattle.scripts.specs.declared.objects.kernel_call.KCall.{KCall}
+use Rattle.kernel_object.specs.declared.call.KCall.{KCall}
+use Rattle.kernel_object.specs.KernelTypes.{KernelDone, KernelEntry, KernelStep}
 use Rattle.scripts.specs.declared.record.form.Form.{Form}
 use Rattle.scripts.specs.declared.record.form.Form.TheVariants.{One, Two}
 use Rattle.scripts.specs.declared.record.place.Place.{Place}
 use Rattle.scripts.specs.declared.record.state.Next.TheVariants.{Entry}
 use Rattle.scripts.specs.Keeping.{Parts, with_entry}
-use Rattle.scripts.specs.KernelTypes.{KernelDone, KernelEntry, KernelStep}
 use Rattle.scripts.specs.Reading.{key_at, number_at}
 use Rattle.scripts.specs.RecordParts.{Agree}
 use Rattle.scripts.specs.RecordReading.{is_nil, call_at, list_at, done_at, place_at, entry_at}

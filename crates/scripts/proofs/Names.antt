@@ -8,7 +8,7 @@ use Rattle.std.proofs.lemmas.List.Sums.{position_or_len_is}
 use Rattle.std.proofs.lemmas.Slice.Eq.{bytes_eq-Decides}
 use Rattle.std.specs.List.{AllByRecursion, list_all, slice_get, position_or_len}
 use Rattle.std.specs.Option.{option_map_or}
-use Rattle.event_log.proofs.Each.{all_map}
+use Rattle.event_log.proofs.Each.{all_map, each_at}
 use Rattle.scripts.specs.Reading.{word_at}
 use Rattle.scripts.specs.Row.{IsPlain}
 use Rattle.scripts.specs.declared.record.form.Form.{Form}
@@ -62,24 +62,19 @@ object_there settings i less = elim (slice_get_cases settings.objects i).1 [
   | inr h ↦ absurd (let past = h.0 in omega (arith, past, less))
 ]
 
-pub each_at : {X : Type 0} (P : X → Type 0) (xs : List X) (i : ℕ) (x : X) → AllByRecursion P xs → slice_get xs i ≡ Some x → P x
-each_at P [] i x all e = absurd cc
-each_at P (y ∷ ys) zero x all e = let is : y ≡ x = cc in subst P is all.0
-each_at P (y ∷ ys) (suc i) x all e = each_at P ys i x all.1 e
-
 pub name_at_plain : {form : Form} (settings : Settings) → SettingsFitIn form settings → (i : ℕ) → i < length settings.objects → IsPlain (name_at settings i)
 name_at_plain {form} settings fit i less =
     let there = object_there settings i less in
     let fits : ObjectFits form there.0 = each_at (ObjectFits form) settings.objects i there.0 fit.each there.1 in
     subst IsPlain (sym (ap (λ o. option_map_or (λ v. v.name) o []) there.1)) (name_plain there.0.name fits.name)
 
-named_by : {X : Type 0} (test : X → Bool) (xs : List X) (i : ℕ) → position test xs ≡ Some i → (x : X) × (slice_get xs i ≡ Some x) × (test x ≡ true) × (i < length xs)
+pub named_by : {X : Type 0} (test : X → Bool) (xs : List X) (i : ℕ) → position test xs ≡ Some i → (x : X) × (slice_get xs i ≡ Some x) × (test x ≡ true) × (i < length xs)
 named_by test [] i e = absurd cc
 named_by test (x ∷ xs) i e =
     let found = position-Some test (x ∷ xs) i x e in
     (get_or (x ∷ xs) i x, slice_get-get_or (x ∷ xs) i x found.0, found.1, found.0)
 
-first_at : {X : Type 0} (test : X → Bool) (xs : List X) (i : ℕ) → i < length xs → ((k : ℕ) (x : X) → k < i → slice_get xs k ≡ Some x → test x ≡ false) → ((x : X) → slice_get xs i ≡ Some x → test x ≡ true) → position test xs ≡ Some i
+pub first_at : {X : Type 0} (test : X → Bool) (xs : List X) (i : ℕ) → i < length xs → ((k : ℕ) (x : X) → k < i → slice_get xs k ≡ Some x → test x ≡ false) → ((x : X) → slice_get xs i ≡ Some x → test x ≡ true) → position test xs ≡ Some i
 first_at test [] i less before here = absurd (omega (arith, less))
 first_at test (x ∷ xs) i less before here =
     let at : position_or_len test (x ∷ xs) ≡ i = position_or_len_is test (x ∷ xs) i x (omega (arith, less))

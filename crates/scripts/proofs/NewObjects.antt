@@ -1,13 +1,13 @@
 -- Objects of different names are read as what they spell, and nothing else is.
-use Rattle.std.proofs.Common.{◌≡◌, ℕ, zero, suc, ◌+◌, ◌≤◌, ◌<◌, ◌==◌, ◌⊎◌, get_or, inl, inr, Bool, true, false, List, [], ◌∷◌, ◌++◌, length, length-append, append_assoc, Option, Some, None, refl, sym, ap, ◌∙◌, subst, cond, arith, ◌||◌, bytes_eq}
-use Rattle.std.proofs.lemmas.Bool.{le-leb, eq-eqb, eqb-true, cond_both, false_from_ne_true}
+use Rattle.std.proofs.Common.{◌≡◌, ℕ, zero, suc, ◌+◌, ◌≤◌, ◌<◌, ◌==◌, get_or, inl, inr, Bool, true, false, List, [], ◌∷◌, ◌++◌, length, length-append, append_assoc, Option, Some, None, refl, sym, ap, ◌∙◌, subst, cond, arith, ◌||◌, bytes_eq}
+use Rattle.std.proofs.lemmas.Bool.{le-leb, eq-eqb, eqb-true, cond_both, false_from_ne_true, or_cases}
 use Rattle.std.specs.Cmp.Derive.{both_true}
 use Rattle.std.proofs.lemmas.List.{append-nil}
 use Rattle.std.proofs.lemmas.Slice.Eq.{bytes_eq-Decides}
 use Rattle.std.specs.List.{AllByRecursion, list_all, list_any}
 use Rattle.std.specs.Option.{option_map_or}
 use Rattle.sound_run.specs.declared.lock_kind.LockKind.TheVariants.{Ticket}
-use Rattle.scripts.specs.declared.objects.kernel_call.KParams.TheVariants.{Queue}
+use Rattle.kernel_object.specs.declared.call.KParams.TheVariants.{Queue}
 use Rattle.scripts.specs.declared.record.form.Form.{Form}
 use Rattle.scripts.specs.RecordReading.{object_at, new_object_at}
 use Rattle.scripts.specs.RecordText.{object_words}
@@ -96,14 +96,10 @@ shown_new form earlier few =
 
 -- ---- names that differ
 
-or_true : (b c : Bool) → (b || c) ≡ true → (b ≡ true) ⊎ (c ≡ true)
-or_true true c e = inl refl
-or_true false c e = inr e
-
 -- a name that is taken stands somewhere
 taken_at : (os : List ObjectSettings) (name : List ℕ) → is_taken name os ≡ true → (i : ℕ) × (i < length os) × (name_in os i ≡ name)
 taken_at [] name e = absurd cc
-taken_at (o ∷ os) name e = elim (or_true (bytes_eq o.name name) (is_taken name os) e) [
+taken_at (o ∷ os) name e = elim (or_cases (bytes_eq o.name name) (is_taken name os) e) [
   | inl here ↦ (0, omega arith, (bytes_eq-Decides o.name name).0 here)
   | inr later ↦ (let at = taken_at os name later in (suc at.0, omega (arith, at.1), at.2))
 ]

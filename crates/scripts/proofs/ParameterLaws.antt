@@ -1,18 +1,21 @@
 -- What objects are opened with is read as what it spells, and nothing else is.
 use Rattle.std.proofs.Common.{◌≡◌, ℕ, ◌≤◌, Bool, true, false, cond, Option, Some, List, [], ◌∷◌, ◌++◌, refl, sym, ◌∙◌, ap, subst, arith, bytes_eq}
 use Rattle.std.specs.List.{AllByRecursion}
+use Rattle.kernel_object.specs.declared.kind.Kind.{Kind}
+use Rattle.kernel_object.specs.declared.call.KParams.{KParams}
+use Rattle.kernel_object.specs.Kernel.{kernel_in_range}
+use Rattle.kernel_object.specs.Kinds.All.{definition_of, all_kinds, params_kind, own_params, params_of}
+use Rattle.kernel_object.specs.KindWords.{kind_word, kind_among, kind_of}
+use Rattle.kernel_object.proofs.KindLaws.{same_params, of_any, by_kind_is, on_own, kind_again}
 use Rattle.scripts.specs.declared.record.form.Form.{Form}
-use Rattle.scripts.specs.declared.objects.kind.Kind.{Kind}
-use Rattle.scripts.specs.declared.objects.kernel_call.KParams.{KParams}
 use Rattle.scripts.specs.Forms.{TellsParams}
-use Rattle.scripts.specs.Kernel.{kernel_in_range}
-use Rattle.scripts.specs.Kinds.All.{definition_of, all_kinds, params_kind, own_params, params_of}
+use Rattle.scripts.specs.Kinds.All.{text_of}
 use Rattle.scripts.specs.Kinds.Definition.{Tells}
-use Rattle.scripts.specs.Parameters.{kind_word, kind_among, kind_of, params_words}
+use Rattle.scripts.specs.Parameters.{params_words}
 use Rattle.scripts.specs.Reading.{◌>>=◌, word_at}
 use Rattle.scripts.specs.RecordReading.{kind_behind, params_behind, params_at}
 use Rattle.scripts.specs.Row.{IsPlain}
-use Rattle.scripts.proofs.KindLaws.All.{laws_of, same_params, of_any, by_kind_is, on_own, kind_again}
+use Rattle.scripts.proofs.KindLaws.All.{laws_of}
 use Rattle.scripts.proofs.Readings.{bind_some, same}
 use Rattle.scripts.proofs.RecordLengths.{long}
 
@@ -44,8 +47,8 @@ pub range_of : (k : Kind) (p : (definition_of k).Params) → (definition_of k).i
 range_of k p h = on_own (λ k own. (definition_of k).in_range own) (params_of k p) ∙ of_any (λ k p. (definition_of k).in_range p ≡ true) k p h
 
 -- their words are the kind's, and those of the kind's own parameters
-words_are : (form : Form) (p : KParams) → params_words form p ≡ kind_word (params_kind p) ∷ (definition_of (params_kind p)).params_words form (own_params p)
-words_are form p = on_own (λ k own. kind_word k ∷ (definition_of k).params_words form own) p
+words_are : (form : Form) (p : KParams) → params_words form p ≡ kind_word (params_kind p) ∷ (text_of (params_kind p)).params_words form (own_params p)
+words_are form p = on_own (λ k own. kind_word k ∷ (text_of k).params_words form own) p
 
 -- the words are those of parameters in their ranges, which the form tells
 pub record IsParams (form : Form) (ws : List (List ℕ)) (read : KParams × List (List ℕ)) : Type 0 where
@@ -55,13 +58,13 @@ pub record IsParams (form : Form) (ws : List (List ℕ)) (read : KParams × List
 
 behind_takes : (form : Form) (k : Kind) (ws : List (List ℕ)) (read : KParams × List (List ℕ)) → params_behind form k ws ≡ Some read → IsParams form (kind_word k ∷ ws) read
 unfolding params_behind
-behind_takes form k ws read e = bind_some ((definition_of k).params_at form ws) _ read (sym (by_kind_is (kind_behind form ws) k) ∙ e) (λ p found last.
+behind_takes form k ws read e = bind_some ((text_of k).params_at form ws) _ read (sym (by_kind_is (kind_behind form ws) k) ∙ e) (λ p found last.
     let is : ◌≡◌ {A = KParams × List (List ℕ)} (params_of k p.0, p.1) read = cc in
     let reads = (laws_of k).take form ws p found in
     subst (IsParams form (kind_word k ∷ ws)) is (record {
-      text = of_any (λ j q. kind_word k ∷ ws ≡ kind_word j ∷ (definition_of j).params_words form q ++ p.1) k p.0 (ap (λ l. kind_word k ∷ l) reads.text) ∙ ap (λ l. l ++ p.1) (sym (words_are form (params_of k p.0)));
+      text = of_any (λ j q. kind_word k ∷ ws ≡ kind_word j ∷ (text_of j).params_words form q ++ p.1) k p.0 (ap (λ l. kind_word k ∷ l) reads.text) ∙ ap (λ l. l ++ p.1) (sym (words_are form (params_of k p.0)));
       fits = range_of k p.0 reads.fits;
-      told = of_any (λ j q. Tells (definition_of j) form q) k p.0 reads.told;
+      told = of_any (λ j q. Tells (text_of j) form q) k p.0 reads.told;
     }))
 
 -- what is read is what the words spell
@@ -75,7 +78,7 @@ pub params_again : (form : Form) (p : KParams) (rest : List (List ℕ)) → kern
 unfolding params_at params_behind word_at
 params_again form p rest fits told =
     let k = params_kind p in
-    let own = (definition_of k).params_words form (own_params p) ++ rest in
+    let own = (text_of k).params_words form (own_params p) ++ rest in
     ap (λ ws. params_at form (ws ++ rest)) (words_are form p)
     ∙ (ap (λ o. o >>= λ kind. params_behind form kind own) (kind_again k)
     ∙ (by_kind_is (kind_behind form own) k

@@ -4,7 +4,7 @@ use Rattle.std.proofs.lemmas.Bool.{and_parts, lt-ltb, ltb-true}
 use Rattle.std.proofs.lemmas.List.{append-nil}
 use Rattle.std.proofs.lemmas.Option.{cond_some}
 use Rattle.std.specs.List.{AllByRecursion}
-use Rattle.scripts.specs.declared.objects.kernel_call.KCall.{KCall}
+use Rattle.kernel_object.specs.declared.call.KCall.{KCall}
 use Rattle.scripts.specs.declared.script.request.Request.{Request}
 use Rattle.scripts.specs.Ranges.{call_fits}
 use Rattle.scripts.specs.Reading.{words, number_at}

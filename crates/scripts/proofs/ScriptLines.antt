@@ -5,12 +5,12 @@ use Rattle.std.proofs.lemmas.Bool.{eqb-true}
 use Rattle.std.proofs.lemmas.List.FromFn.{length-map-range_with_len}
 use Rattle.std.proofs.lemmas.List.Sums.{fold-append}
 use Rattle.std.specs.List.{AllByRecursion}
+use Rattle.kernel_object.specs.KernelTypes.{KernelTodo}
 use Rattle.scripts.specs.declared.script.request.Request.{Request}
 use Rattle.scripts.specs.declared.script.cpu_scripts.TheConstants.{MOST_ENTRIES}
 use Rattle.scripts.specs.ScriptText.{IsBlank, AskFor, IsRefused, AreScripts, TodoFits, ScriptFits, ScriptsFit, count_of, script_of, dealt}
 use Rattle.scripts.specs.LineMachine.{TakesEach}
 use Rattle.scripts.specs.ScriptFaults.{ScriptState, TakesLine, TakesScriptLine, IsNotTaken}
-use Rattle.scripts.specs.KernelTypes.{KernelTodo}
 use Rattle.scripts.specs.Settings.{Settings}
 use Rattle.scripts.proofs.Dealt.{dealt_push, dealt_get, dealt_all, script_length}
 

@@ -4,7 +4,7 @@ use Rattle.std.proofs.Common.{◌≡◌, ◌≤◌, ℕ, true, nat_lt, List, [],
 use Rattle.std.proofs.lemmas.Bool.{and_parts, ltb-true, lt-ltb}
 use Rattle.std.specs.List.{list_all, AllByRecursion}
 use Rattle.event_log.proofs.Each.{all_map}
-use Rattle.scripts.specs.KernelTypes.{KernelTodo}
+use Rattle.kernel_object.specs.KernelTypes.{KernelTodo}
 use Rattle.scripts.specs.ScriptText.{TodoFits, ScriptFits}
 
 module _ (n : ℕ) where

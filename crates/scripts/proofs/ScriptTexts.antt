@@ -2,9 +2,9 @@
 use Rattle.std.proofs.Common.{◌≡◌, ◌==◌, ◌↔◌, ℕ, ◌<◌, Bool, true, false, List, [], ◌∷◌, ◌++◌, length, replicate, inl, inr, Result, Ok, Err, refl, sym, ◌∙◌, subst, arith, IsErrAnd, IfOk, IfErr}
 use Rattle.std.proofs.lemmas.Bool.{eqb-true, eqb-false}
 use Rattle.std.proofs.lemmas.List.{append-nil, length-replicate}
+use Rattle.kernel_object.specs.KernelTypes.{KernelTodo}
 use Rattle.scripts.specs.declared.text.fault.LinesFault.{LinesFault}
 use Rattle.scripts.specs.declared.text.fault.LinesFault.TheVariants.{OutOfMemory, Line}
-use Rattle.scripts.specs.KernelTypes.{KernelTodo}
 use Rattle.scripts.specs.LineMachine.{TakesText, RefusesText, RefusesLine, ChangesNothing, HasTaken}
 use Rattle.scripts.specs.ScriptFaults.{ScriptState, TakesScriptLine, RefusesScriptLine, FitsScriptLine, IsNotTaken, NamesFirstBad, HasRead, no_entries}
 use Rattle.scripts.specs.ScriptText.{AreRequests, IsFirstBad, AreScripts, ScriptsFit, ScriptsWithin}

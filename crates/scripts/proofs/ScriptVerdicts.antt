@@ -3,11 +3,11 @@ use Rattle.std.proofs.Common.{◌≡◌, ℕ, ◌<◌, ◌≤◌, ◌^◌, ◌==
 use Rattle.std.specs.List.{AllByRecursion}
 use Rattle.std.proofs.lemmas.Bool.{eq-eqb}
 use Rattle.std.proofs.lemmas.List.Sums.{sum_by-append, sum_by-cons}
+use Rattle.kernel_object.specs.KernelTypes.{KernelTodo}
 use Rattle.scripts.specs.declared.script.request.Request.{Request}
 use Rattle.scripts.specs.declared.script.cpu_scripts.TheConstants.{MOST_ENTRIES}
 use Rattle.scripts.specs.Reading.{AreDigits}
 use Rattle.scripts.specs.ScriptText.{IsBlank, IsRequest, AskFor, AreRequests, AreScripts, IsRefused, IsFirstBad, count_of}
-use Rattle.scripts.specs.KernelTypes.{KernelTodo}
 use Rattle.scripts.specs.Settings.{Settings, SettingsFit}
 use Rattle.scripts.specs.Words.{text_of_lines, NoEnd}
 use Rattle.scripts.proofs.Digits.{decimal_digits, decimal_some}

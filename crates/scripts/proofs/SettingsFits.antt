@@ -1,28 +1,30 @@
 -- What settings of a TOML table are: within all limits.
-use Rattle.std.proofs.Common.{◌≡◌, ℕ, zero, suc, ◌+◌, ◌<◌, ◌≤◌, Bool, true, false, ◌&&◌, nat_le, List, [], ◌∷◌, ◌++◌, length, length-append, Ok, Err, refl, ap, sym, ◌∙◌, subst, arith, inl, inr, if◌then◌else◌, ◌||◌, bytes_eq}
+use Rattle.std.proofs.Common.{◌≡◌, ℕ, zero, suc, ◌+◌, ◌<◌, ◌≤◌, true, false, ◌&&◌, nat_le, List, [], ◌∷◌, ◌++◌, length, length-append, Ok, Err, refl, ap, sym, ◌∙◌, subst, arith, inl, inr, if◌then◌else◌, ◌||◌, bytes_eq}
 use Rattle.std.specs.List.{list_any, slice_get, AllByRecursion}
 use Rattle.std.specs.Option.{option_map_or}
 use Rattle.std.proofs.Math.Nat.{eq-or-lt_of_le}
-use Rattle.std.proofs.lemmas.Bool.{and_parts, leb-true, false≢true}
+use Rattle.std.proofs.lemmas.Bool.{and_parts, leb-true, false≢true, or_right}
 use Rattle.std.proofs.lemmas.Slice.Eq.{bytes_eq-Decides}
 use Rattle.event_log.proofs.Each.{all_push}
 use Rattle.toml.specs.Data.{Data, Items, no_items, item, Members, as_str, as_array, as_table}
 use Rattle.sound_run.specs.declared.limits.TheConstants.{MOST_CPUS}
 use Rattle.sound_run.specs.declared.limits.TheConstants.{MOST_CELLS}
 use Rattle.event_log.specs.declared.logged.TheConstants.{MOST_EVENTS}
+use Rattle.kernel_object.specs.declared.call.KParams.{KParams}
+use Rattle.kernel_object.specs.declared.kind.Kind.{Kind}
+use Rattle.kernel_object.specs.Kernel.{kernel_in_range}
+use Rattle.kernel_object.specs.Kinds.All.{params_of}
+use Rattle.kernel_object.proofs.KindLaws.{by_kind_is}
 use Rattle.scripts.specs.declared.record.form.Form.{Form}
 use Rattle.scripts.specs.declared.record.form.TheConstants.{WRITTEN}
-use Rattle.scripts.specs.declared.objects.kernel_call.KParams.{KParams}
 use Rattle.scripts.specs.declared.settings.fault.Place.{Place}
 use Rattle.scripts.specs.declared.settings.fault.Place.TheVariants.{Top, Object}
 use Rattle.scripts.specs.declared.settings.fault.SettingsKey.TheVariants as Key
-use Rattle.scripts.specs.declared.objects.kind.Kind.{Kind}
-use Rattle.scripts.specs.Kernel.{kernel_in_range}
-use Rattle.scripts.specs.Kinds.All.{definition_of, params_of}
+use Rattle.scripts.specs.Kinds.All.{text_of}
 use Rattle.scripts.specs.Settings.{Settings, ObjectSettings, ObjectFits, SettingsFit, is_name}
 use Rattle.scripts.specs.SettingsKeys.{number_from, count_items, key_in, has_only}
 use Rattle.scripts.specs.SettingsText.{name_from, items_from, kind_from, lock_from, keys_of, params_by, params_in, object_in, object_from, objects_from, settings_in}
-use Rattle.scripts.proofs.KindLaws.All.{laws_of, by_kind_is}
+use Rattle.scripts.proofs.KindLaws.All.{laws_of}
 use Rattle.scripts.proofs.ParameterLaws.{range_of}
 use Rattle.scripts.proofs.SettingsKeys.{bind_ok, key_ok, map_or_ok, if_ok, if_not, number_in}
 
@@ -51,7 +53,7 @@ items_ok d ds e =
 params_ok : (place : Place) (kind : Kind) (ms : Members) (p : KParams) → params_in place kind ms ≡ Ok p → kernel_in_range p ≡ true
 unfolding params_in
 params_ok place kind ms p e =
-    let there = bind_ok ((definition_of kind).params_in place ms) _ p (sym (by_kind_is (params_by place ms) kind) ∙ e) in
+    let there = bind_ok ((text_of kind).params_in place ms) _ p (sym (by_kind_is (params_by place ms) kind) ∙ e) in
     let same : params_of kind there.0 ≡ p = cc in
     subst (λ q. kernel_in_range q ≡ true) same (range_of kind there.0 ((laws_of kind).set place ms there.0 there.1))
 
@@ -96,14 +98,10 @@ pub name_here : (front os : List ObjectSettings) (o : ObjectSettings) → name_i
 name_here [] os o = refl
 name_here (x ∷ front) os o = name_here front os o
 
-or_true : (b c : Bool) → c ≡ true → (b || c) ≡ true
-or_true true c e = refl
-or_true false c e = e
-
 pub taken : (os : List ObjectSettings) (i : ℕ) (s : List ℕ) → i < length os → name_in os i ≡ s → list_any (λ o. bytes_eq o.name s) os ≡ true
 taken [] i s less e = absurd (omega (arith, less))
 taken (x ∷ os) zero s less e = ap (λ b. b || list_any (λ o. bytes_eq o.name s) os) ((bytes_eq-Decides x.name s).1 e)
-taken (x ∷ os) (suc i) s less e = or_true (bytes_eq x.name s) (list_any (λ o. bytes_eq o.name s) os) (taken os i s (omega (arith, less)) e)
+taken (x ∷ os) (suc i) s less e = or_right (bytes_eq x.name s) (list_any (λ o. bytes_eq o.name s) os) (taken os i s (omega (arith, less)) e)
 
 -- an object of a new name is found by it, and the others are still found
 pub differ_more : (os : List ObjectSettings) (o : ObjectSettings) → Differ os → list_any (λ x. bytes_eq x.name o.name) os ≡ false → Differ (os ++ o ∷ [])

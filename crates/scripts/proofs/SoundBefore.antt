@@ -3,7 +3,7 @@
 use Rattle.std.proofs.Common.{◌≡◌, ◌↔◌, ℕ, false, List, [], ◌∷◌, map, refl, sym, ap, subst, rules}
 use Rattle.std.specs.List.{AllByRecursion}
 use Rattle.arrayvec.specs.ArrayVec.{ArrayVec}
-use Rattle.event_log.proofs.Each.{all_map}
+use Rattle.event_log.proofs.Each.{all_map, each_at}
 use Rattle.event_log.specs.declared.object.SeqObject.{Ghosts}
 use Rattle.event_log.specs.declared.event.Step.{Step}
 use Rattle.event_log.specs.declared.event.Event.{Event}
@@ -19,23 +19,22 @@ use Rattle.page_pool.specs.declared.params.PoolParams.{PoolParams}
 use Rattle.page_pool.specs.declared.call.PoolCall.{PoolCall}
 use Rattle.page_pool.proofs.SameLogs.{legal_same}
 use Rattle.sound_run.specs.Sound.{Opened, Sound, EntryIsSound, Answers, transcript_of}
-use Rattle.scripts.specs.contracts.objects.kernel_object.KernelObjectSeqObject.TheImpl.{ghosts as kernel}
+use Rattle.kernel_object.specs.declared.call.KParams.{KParams}
+use Rattle.kernel_object.specs.declared.call.KParams.TheVariants as Params
+use Rattle.kernel_object.specs.declared.call.KCall.{KCall}
+use Rattle.kernel_object.specs.declared.call.KCall.TheVariants as Call
+use Rattle.kernel_object.specs.declared.call.KReply.{KReply}
+use Rattle.kernel_object.specs.declared.object.KernelObject.{KernelObject}
+use Rattle.kernel_object.specs.declared.object.KernelObject.TheVariants as Object
+use Rattle.kernel_object.specs.contracts.object.KernelObjectSeqObject.TheImpl.{ghosts as kernel}
+use Rattle.kernel_object.specs.Kernel.{kernel_answer, kernel_opening}
+use Rattle.kernel_object.specs.Kinds.Pool.{of_pool}
 use Rattle.scripts.specs.declared.record.form.Form.TheVariants.{One}
-use Rattle.scripts.specs.declared.objects.kernel_call.KParams.{KParams}
-use Rattle.scripts.specs.declared.objects.kernel_call.KParams.TheVariants as Params
-use Rattle.scripts.specs.declared.objects.kernel_call.KCall.{KCall}
-use Rattle.scripts.specs.declared.objects.kernel_call.KCall.TheVariants as Call
-use Rattle.scripts.specs.declared.objects.kernel_call.KReply.{KReply}
-use Rattle.scripts.specs.declared.objects.kernel_object.KernelObject.{KernelObject}
-use Rattle.scripts.specs.declared.objects.kernel_object.KernelObject.TheVariants as Object
 use Rattle.scripts.specs.Forms.{TellsParams}
-use Rattle.scripts.specs.Kernel.{kernel_answer, kernel_opening}
-use Rattle.scripts.specs.Kinds.Pool.{of_pool}
 use Rattle.scripts.specs.RecordRanges.{Record, RecordFitsIn}
 use Rattle.scripts.specs.Runs.{opened_of}
 use Rattle.scripts.specs.Settings.{ObjectSettings}
 use Rattle.scripts.specs.Unlimited.{unlimited_kernel_answer, without_quotas, WasSound}
-use Rattle.scripts.proofs.Names.{each_at}
 
 -- ---- two meanings of the same replies that refuse, where the first one's legal logs are the second one's
 

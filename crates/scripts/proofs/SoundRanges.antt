@@ -5,24 +5,24 @@ use Rattle.std.specs.List.{list_all, AllByRecursion}
 use Rattle.std.proofs.lemmas.Bool.{and_parts, eq-eqb, ltb-true, ltb-false}
 use Rattle.std.proofs.lemmas.List.{length-map}
 use Rattle.std.proofs.lemmas.Option.{slice_get_past, slice_get_within}
-use Rattle.event_log.proofs.Each.{all_map, all_both}
+use Rattle.event_log.proofs.Each.{all_map, all_both, each_at}
 use Rattle.event_log.specs.declared.entry.Done.TheVariants.{Steps, NoRoom}
 use Rattle.event_log.specs.declared.event.TheConstants.{MOST_CALLS}
 use Rattle.event_log.specs.Log.{Begins, calls_of, LegalFrom, Legal, after, of}
+use Rattle.event_log.proofs.Lists.{some_at}
 use Rattle.sound_run.specs.Sound.{Opened, Sound, Answers, EntryIsSound, done_on, with_steps, steps_by, transcript_of}
-use Rattle.sound_run.proofs.Slices.{some_at, map_get}
-use Rattle.scripts.specs.contracts.objects.kernel_object.KernelObjectSeqObject.TheImpl.{ghosts as kernel}
+use Rattle.sound_run.proofs.Slices.{map_get}
+use Rattle.kernel_object.specs.declared.call.KParams.{KParams}
+use Rattle.kernel_object.specs.declared.call.KCall.{KCall}
+use Rattle.kernel_object.specs.declared.object.KernelObject.{KernelObject}
+use Rattle.kernel_object.specs.contracts.object.KernelObjectSeqObject.TheImpl.{ghosts as kernel}
+use Rattle.kernel_object.specs.Kernel.{kernel_in_range}
+use Rattle.kernel_object.specs.KernelTypes.{KernelStep, KernelSteps, KernelEvent, KernelDone, KernelEntry, KernelRun}
 use Rattle.scripts.specs.declared.record.form.TheConstants.{WRITTEN}
-use Rattle.scripts.specs.declared.objects.kernel_call.KParams.{KParams}
-use Rattle.scripts.specs.declared.objects.kernel_call.KCall.{KCall}
-use Rattle.scripts.specs.declared.objects.kernel_object.KernelObject.{KernelObject}
-use Rattle.scripts.specs.Kernel.{kernel_in_range}
-use Rattle.scripts.specs.KernelTypes.{KernelStep, KernelSteps, KernelEvent, KernelDone, KernelEntry, KernelRun}
 use Rattle.scripts.specs.Ranges.{call_fits, reply_fits, steps_ask, steps_answer, log_asks, log_answers}
 use Rattle.scripts.specs.RecordRanges.{StepsFit, DoneFits, LogFits, TranscriptFits, RunFits}
 use Rattle.scripts.specs.Runs.{opened_of, EntryAsks, TranscriptAsks}
 use Rattle.scripts.specs.Settings.{Settings, ObjectSettings, SettingsFit, ObjectFits}
-use Rattle.scripts.proofs.Names.{each_at}
 
 -- what holds at each place holds of each member
 pub all_at : {X : Type 0} (P : X → Type 0) (xs : List X) → ((i : ℕ) (x : X) → slice_get xs i ≡ Some x → P x) → AllByRecursion P xs

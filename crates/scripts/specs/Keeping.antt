@@ -2,9 +2,9 @@
 use Rattle.std.specs.Prelude.{ℕ, Bool, true, false, ◌≡◌, ◌<◌, ◌≤◌, List, [], ◌∷◌, ◌++◌, length}
 use Rattle.std.specs.List.{AllByRecursion}
 use Rattle.event_log.specs.declared.logged.TheConstants.{MOST_EVENTS}
+use Rattle.kernel_object.specs.KernelTypes.{KernelEvent, KernelEntry}
 use Rattle.scripts.specs.declared.record.form.TheConstants.{WRITTEN}
 use Rattle.scripts.specs.declared.script.cpu_scripts.TheConstants.{MOST_ENTRIES}
-use Rattle.scripts.specs.KernelTypes.{KernelEvent, KernelEntry}
 use Rattle.scripts.specs.RecordRanges.{Record, EventFits, EntryFits, LogFits, TranscriptFits}
 use Rattle.scripts.specs.Settings.{Settings, SettingsFit}
 

@@ -2,7 +2,6 @@ pub mod Limits
 pub mod Forms
 pub mod Parameters
 pub mod Kinds
-pub mod Kernel
 pub mod Ranges
 pub mod Row
 pub mod Rows
@@ -11,7 +10,6 @@ pub mod Tables
 pub mod Words
 pub mod Reading
 pub mod Output
-pub mod KernelTypes
 pub mod Settings
 pub mod SettingsKeys
 pub mod SettingsText

@@ -2,23 +2,24 @@
 -- with other numbers.
 use Rattle.std.specs.Prelude.{ℕ, List, [], ◌∷◌, map, codes}
 use Rattle.std.specs.List.{flat_map}
-use Rattle.scripts.specs.declared.objects.kernel_call.KCall.{KCall}
-use Rattle.scripts.specs.declared.objects.kernel_call.KReply.{KReply}
-use Rattle.scripts.specs.declared.objects.kernel_call.KReply.TheVariants.{Ok, Already, BadThread, Thread, Empty, Absent, Count, Page, NoPage, OverQuota, BadOwner, NotYours, NotTaken, BadPage, Dropped, Byte, BadChannel, BadCall}
-use Rattle.scripts.specs.Kinds.All.{definition_of, all_kinds, on_call, call_of}
+use Rattle.kernel_object.specs.declared.call.KCall.{KCall}
+use Rattle.kernel_object.specs.declared.call.KReply.{KReply}
+use Rattle.kernel_object.specs.declared.call.KReply.TheVariants.{Ok, Already, BadThread, Thread, Empty, Absent, Count, Page, NoPage, OverQuota, BadOwner, NotYours, NotTaken, BadPage, Dropped, Byte, BadChannel, BadCall}
+use Rattle.kernel_object.specs.Kinds.All.{all_kinds, on_call, call_of}
+use Rattle.scripts.specs.Kinds.All.{text_of}
 use Rattle.scripts.specs.Row.{Row, first, wide, byte}
 
 -- how a call is spelled
 abbrev pub call_row : KCall → Row
-call_row c = on_call (λ k own. (definition_of k).row own) c
+call_row c = on_call (λ k own. (text_of k).row own) c
 
 -- the call of the same word with these numbers
 abbrev pub call_filled : KCall → List ℕ → KCall
-call_filled c ns = on_call (λ k own. call_of k ((definition_of k).filled own ns)) c
+call_filled c ns = on_call (λ k own. call_of k ((text_of k).filled own ns)) c
 
 -- a call of each word
 abbrev pub call_samples : List KCall
-call_samples = flat_map (λ kind. map (call_of kind) (definition_of kind).samples) all_kinds
+call_samples = flat_map (λ kind. map (call_of kind) (text_of kind).samples) all_kinds
 
 -- how a reply is spelled
 abbrev pub reply_row : KReply → Row

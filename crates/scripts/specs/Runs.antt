@@ -4,9 +4,9 @@ use Rattle.std.specs.List.{AllByRecursion, AllZip}
 use Rattle.event_log.specs.Entries.{asked_of}
 use Rattle.event_log.specs.Log.{Begins}
 use Rattle.sound_run.specs.Sound.{Opened}
-use Rattle.scripts.specs.declared.objects.kernel_call.KParams.{KParams}
+use Rattle.kernel_object.specs.declared.call.KParams.{KParams}
+use Rattle.kernel_object.specs.KernelTypes.{KernelEntry, KernelTodo, KernelRun}
 use Rattle.scripts.specs.declared.script.cpu_scripts.TheConstants.{MOST_ENTRIES}
-use Rattle.scripts.specs.KernelTypes.{KernelEntry, KernelTodo, KernelRun}
 use Rattle.scripts.specs.ScriptText.{TodoFits}
 use Rattle.scripts.specs.Settings.{Settings}
 

@@ -1,5 +1,6 @@
 -- What a line of the scripts does, and what reading them answers.
 use Rattle.std.specs.Prelude.{ℕ, ◌≡◌, ◌<◌, ◌≤◌, ◌⊎◌, Bool, List, [], ◌∷◌, ◌++◌, length, Option, Some, slice_get, slice_set}
+use Rattle.kernel_object.specs.KernelTypes.{KernelTodo}
 use Rattle.scripts.specs.declared.text.line_machine.TheConstants.{MOST_BYTES}
 use Rattle.scripts.specs.declared.script.request.Request.{Request}
 use Rattle.scripts.specs.declared.script.cpu_scripts.TheConstants.{MOST_ENTRIES}
@@ -7,7 +8,6 @@ use Rattle.scripts.specs.declared.text.fault.LinesFault.{LinesFault}
 use Rattle.scripts.specs.declared.text.fault.LinesFault.TheVariants.{OutOfMemory, Line}
 use Rattle.scripts.specs.declared.text.fault.TextFault.{TextFault}
 use Rattle.scripts.specs.declared.text.fault.TextFault.TheVariants as stream
-use Rattle.scripts.specs.KernelTypes.{KernelTodo}
 use Rattle.scripts.specs.LineMachine.{HasTaken}
 use Rattle.scripts.specs.ScriptText.{IsBlank, IsRequest, IsFirstBad, AreScripts, dealt}
 use Rattle.scripts.specs.Settings.{Settings}

@@ -4,9 +4,9 @@ use Rattle.std.specs.List.{list_all, AllByRecursion, filter, range_with_len}
 use Rattle.event_log.specs.declared.event.TheConstants.{MOST_CALLS}
 use Rattle.sound_run.specs.declared.limits.TheConstants.{MOST_CPUS}
 use Rattle.sound_run.specs.declared.limits.TheConstants.{MOST_CELLS}
+use Rattle.kernel_object.specs.KernelTypes.{KernelTodo}
 use Rattle.scripts.specs.declared.script.request.Request.{Request}
 use Rattle.scripts.specs.declared.script.cpu_scripts.TheConstants.{MOST_ENTRIES}
-use Rattle.scripts.specs.KernelTypes.{KernelTodo}
 use Rattle.scripts.specs.Ranges.{call_fits}
 use Rattle.scripts.specs.Row.{spelled}
 use Rattle.scripts.specs.Rows.{call_row}

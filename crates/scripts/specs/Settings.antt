@@ -6,12 +6,12 @@ use Rattle.event_log.specs.declared.logged.TheConstants.{MOST_EVENTS}
 use Rattle.sound_run.specs.declared.lock_kind.LockKind.{LockKind}
 use Rattle.sound_run.specs.declared.lock_kind.LockKind.TheVariants.{Ticket}
 use Rattle.sound_run.specs.declared.limits.TheConstants.{MOST_CELLS}
-use Rattle.scripts.specs.declared.objects.kernel_call.KParams.{KParams}
-use Rattle.scripts.specs.declared.objects.kernel_call.KParams.TheVariants.{Queue}
+use Rattle.kernel_object.specs.declared.call.KParams.{KParams}
+use Rattle.kernel_object.specs.declared.call.KParams.TheVariants.{Queue}
+use Rattle.kernel_object.specs.Kernel.{kernel_in_range}
 use Rattle.scripts.specs.declared.record.form.Form.{Form}
 use Rattle.scripts.specs.declared.record.form.TheConstants.{WRITTEN}
 use Rattle.scripts.specs.Forms.{most_cpus, TellsParams}
-use Rattle.scripts.specs.Kernel.{kernel_in_range}
 
 -- an object's name, its lock, the most events of its log, and what it is opened with
 pub record ObjectSettings : Type 0 where

@@ -8,8 +8,10 @@ use Rattle.toml.specs.Data.{Data, Items, no_items, item, Members, as_str, as_arr
 use Rattle.event_log.specs.declared.logged.TheConstants.{MOST_EVENTS}
 use Rattle.sound_run.specs.declared.limits.TheConstants.{MOST_CPUS, MOST_CELLS}
 use Rattle.sound_run.specs.declared.lock_kind.LockKind.{LockKind}
-use Rattle.scripts.specs.declared.objects.kernel_call.KParams.{KParams}
-use Rattle.scripts.specs.declared.objects.kind.Kind.{Kind}
+use Rattle.kernel_object.specs.declared.call.KParams.{KParams}
+use Rattle.kernel_object.specs.declared.kind.Kind.{Kind}
+use Rattle.kernel_object.specs.Kinds.All.{by_kind, params_of}
+use Rattle.kernel_object.specs.KindWords.{kind_of}
 use Rattle.scripts.specs.declared.settings.fault.BadSettings.{BadSettings}
 use Rattle.scripts.specs.declared.settings.fault.SettingsFault.{SettingsFault}
 use Rattle.scripts.specs.declared.settings.fault.SettingsFault.TheVariants.{OutOfMemory, Refused}
@@ -19,8 +21,8 @@ use Rattle.scripts.specs.declared.settings.fault.Place.{Place}
 use Rattle.scripts.specs.declared.settings.fault.Place.TheVariants.{Top, Object}
 use Rattle.scripts.specs.declared.settings.fault.SettingsKey.{SettingsKey}
 use Rattle.scripts.specs.declared.settings.fault.SettingsKey.TheVariants as Key
-use Rattle.scripts.specs.Kinds.All.{definition_of, by_kind, params_of}
-use Rattle.scripts.specs.Parameters.{kind_of, lock_of}
+use Rattle.scripts.specs.Kinds.All.{text_of}
+use Rattle.scripts.specs.Parameters.{lock_of}
 use Rattle.scripts.specs.Settings.{Settings, ObjectSettings, is_name}
 use Rattle.scripts.specs.SettingsKeys.{number_from, count_items, key_in, has_only, unknown_key}
 use Rattle.scripts.specs.Then.{◌>>=◌}
@@ -47,7 +49,7 @@ items_from d = option_map_or (λ ds. if nat_le 1 (count_items ds) && nat_le (cou
 
 -- the parameters of the kind
 abbrev pub params_by : Place → Members → Kind → Result KParams BadSettings
-params_by place ms kind = (definition_of kind).params_in place ms >>= λ p. Ok (params_of kind p)
+params_by place ms kind = (text_of kind).params_in place ms >>= λ p. Ok (params_of kind p)
 
 -- the parameters of that kind
 unfoldable pub params_in : Place → Kind → Members → Result KParams BadSettings
@@ -55,7 +57,7 @@ params_in place kind ms = by_kind (params_by place ms) kind
 
 -- the keys of every object, and those of its kind
 abbrev pub keys_of : Kind → List SettingsKey
-keys_of kind = Key.Name ∷ Key.Kind ∷ Key.Lock ∷ Key.Events ∷ (definition_of kind).keys
+keys_of kind = Key.Name ∷ Key.Kind ∷ Key.Lock ∷ Key.Events ∷ (text_of kind).keys
 
 -- an object's table, behind earlier objects
 unfoldable pub object_in : Place → List ObjectSettings → Members → Result ObjectSettings BadSettings

@@ -2,14 +2,14 @@
 use Rattle.event_log.specs.declared.object.SeqObject.{Ghosts}
 use Rattle.page_pool.specs.Unlimited.{unlimited_answer}
 use Rattle.sound_run.specs.Sound.{Sound}
-use Rattle.scripts.specs.declared.objects.kernel_call.KParams.{KParams}
-use Rattle.scripts.specs.declared.objects.kernel_call.KCall.{KCall}
-use Rattle.scripts.specs.declared.objects.kernel_call.KCall.TheVariants.{Pool as PoolCalled}
-use Rattle.scripts.specs.declared.objects.kernel_call.KReply.{KReply}
-use Rattle.scripts.specs.declared.objects.kernel_object.KernelObject.{KernelObject}
-use Rattle.scripts.specs.declared.objects.kernel_object.KernelObject.TheVariants.{Pool as PoolObject}
-use Rattle.scripts.specs.Kernel.{kernel_answer}
-use Rattle.scripts.specs.Kinds.Pool.{of_pool}
+use Rattle.kernel_object.specs.declared.call.KParams.{KParams}
+use Rattle.kernel_object.specs.declared.call.KCall.{KCall}
+use Rattle.kernel_object.specs.declared.call.KCall.TheVariants.{Pool as PoolCalled}
+use Rattle.kernel_object.specs.declared.call.KReply.{KReply}
+use Rattle.kernel_object.specs.declared.object.KernelObject.{KernelObject}
+use Rattle.kernel_object.specs.declared.object.KernelObject.TheVariants.{Pool as PoolObject}
+use Rattle.kernel_object.specs.Kernel.{kernel_answer}
+use Rattle.kernel_object.specs.Kinds.Pool.{of_pool}
 use Rattle.scripts.specs.RecordRanges.{Record}
 use Rattle.scripts.specs.Runs.{opened_of}
 

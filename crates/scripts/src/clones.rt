@@ -2,9 +2,9 @@
 
 ghost use Rattle.std.specs.Prelude.{◌≡◌, IfOk};
 
-use crate::KernelObject;
 use arrayvec::ArrayVec;
 use event_log::{OutOfMemory, Todo};
+use kernel_object::KernelObject;
 use std::alloc::Global;
 
 /// What can be had once more without taking memory.

@@ -17,8 +17,9 @@ pub mod sched;
 
 use crate::tables::write::put_word;
 use crate::text::words::Words;
-use crate::{BadSettings, Buffered, Form, KParams, Kind, Place, SettingsKey};
+use crate::{BadSettings, Buffered, Form, Place, SettingsKey};
 use event_log::Sink;
+use kernel_object::{KParams, Kind};
 use toml::Table;
 
 /// What an object of that kind is opened with, behind the kind's word.

@@ -4,7 +4,6 @@
 mod clones;
 mod kinds;
 mod limit_law;
-mod objects;
 mod record;
 mod schedule;
 mod script;
@@ -13,10 +12,8 @@ mod streams;
 mod tables;
 mod text;
 
+pub use kernel_object::{KCall, KParams, KReply, KernelObject, Kind};
 pub use limit_law::shows_limits;
-pub use objects::kernel_call::{KCall, KParams, KReply};
-pub use objects::kernel_object::KernelObject;
-pub use objects::kind::Kind;
 pub use record::Record;
 pub use record::before_quotas::sound_as_before;
 pub use record::form::{FIRST_MOST_CPUS, Form, WRITTEN};

@@ -9,10 +9,10 @@ pub mod lookup;
 pub mod source;
 pub mod text;
 
-use crate::KParams;
 use crate::clones::{CopyOut, copy_all};
 use arrayvec::ArrayString;
 use event_log::{OutOfMemory, Series};
+use kernel_object::KParams;
 use sound_run::LockKind;
 use std::alloc::Global;
 use std::marker::Model;

@@ -21,11 +21,6 @@ module _ {X : Type 0} where
   read_get (y ∷ ys) zero x lt e = ap (λ z. Some z) (sym e)
   read_get (y ∷ ys) (suc i) x lt e = read_get ys i x (omega arith) e
 
-  pub some_at : (xs : List X) (i : ℕ) → i < length xs → (x : X) × (slice_get xs i ≡ Some x)
-  some_at [] i lt = absurd (omega arith)
-  some_at (y ∷ ys) zero lt = (y, refl)
-  some_at (y ∷ ys) (suc i) lt = some_at ys i (omega arith)
-
   pub one_of : (x y : X) (o : Option X) → o ≡ Some x → o ≡ Some y → x ≡ y
   one_of x y o e f = let g : Some x ≡ Some y = sym e ∙ f in cc
 

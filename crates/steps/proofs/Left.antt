@@ -7,8 +7,8 @@ use Rattle.std.proofs.lemmas.List.{drop_more}
 use Rattle.std.specs.Borrow.{Bor}
 use Rattle.std.specs.List.{AllByRecursion}
 use Rattle.std.specs.Option.{option_map_or}
-use Rattle.scripts.specs.contracts.objects.kernel_object.KernelObjectSeqObject.TheImpl.{ghosts as kernel}
-use Rattle.scripts.specs.KernelTypes.{KernelTodo}
+use Rattle.kernel_object.specs.contracts.object.KernelObjectSeqObject.TheImpl.{ghosts as kernel}
+use Rattle.kernel_object.specs.KernelTypes.{KernelTodo}
 use Rattle.scripts.specs.Settings.{Settings}
 use Rattle.sound_run.proofs.Slices.{get_set_same, get_set_other}
 use Rattle.word_rule.specs.Machine.Opening.{opening_cpu}

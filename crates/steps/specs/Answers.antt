@@ -1,11 +1,11 @@
 -- What the program answers by its words, and what it refuses.
 use Rattle.std.specs.Prelude.{◌≡◌, ◌⊎◌, ℕ, List, Option, Some, String}
 use Rattle.std.specs.Global.{Global}
+use Rattle.kernel_object.specs.KernelTypes.{KernelTodo}
 use Rattle.program.specs.Refusals.{status_of}
 use Rattle.program.specs.Texts.{RefusesSchedule, RefusesScripts, RefusesSettings, SpellsScheduleOf, SpellsScriptsOf, SpellsSettingsOf}
 use Rattle.program.specs.declared.refusal.Refusal.{Refusal}
 use Rattle.program.specs.declared.refusal.Refusal.TheVariants as refusal
-use Rattle.scripts.specs.KernelTypes.{KernelTodo}
 use Rattle.scripts.specs.Settings.{Settings}
 use Rattle.steps.specs.Asked.{AskNothing, AskedBy, MayHelp}
 use Rattle.steps.specs.Lines.{steps_text}

@@ -1,7 +1,8 @@
 -- What is printed: a line for each step of the schedule.
 use Rattle.std.specs.Prelude.{ℕ, ◌+◌, ◌/◌, ◌%◌, List, [], ◌∷◌, ◌++◌, length, take, drop, codes, decimal, Option, Some, None, slice_get}
 use Rattle.std.specs.List.{flat_map}
-use Rattle.word_rule.specs.Algorithms.{algorithm_of}
+use Rattle.kernel_object.specs.contracts.object.KernelObjectSeqObject.TheImpl.{ghosts as kernel}
+use Rattle.kernel_object.specs.KernelTypes.{KernelTodo}
 use Rattle.word_rule.specs.Labels.{WordLabels, labels_of}
 use Rattle.word_rule.specs.Locks.{lock_words}
 use Rattle.word_rule.specs.Machine.Orders.{works_on}
@@ -9,8 +10,6 @@ use Rattle.word_rule.specs.Machine.World.{step}
 use Rattle.word_rule.specs.StepNames.{name_of, outcome_of}
 use Rattle.word_rule.specs.Ticket.State.{tickets}
 use Rattle.word_rule.specs.declared.machine.step_done.StepDone.{StepDone}
-use Rattle.scripts.specs.contracts.objects.kernel_object.KernelObjectSeqObject.TheImpl.{ghosts as kernel}
-use Rattle.scripts.specs.KernelTypes.{KernelTodo}
 use Rattle.scripts.specs.Settings.{Settings, ObjectSettings}
 use Rattle.cpu_worker.specs.Simulation.{KernelWorld, MachineCell, new_world}
 
@@ -36,7 +35,7 @@ outcome_text (b ∷ bs) = 32 ∷ b ∷ bs
 
 -- `N cpu C NAME KIND OUTCOME | WORDS`
 abbrev pub line_at : ℕ → ℕ → ℕ → StepDone → List ℕ → ObjectSettings → List ℕ
-line_at cpus n cpu done words o = decimal n ++ (codes " cpu " ++ (decimal cpu ++ (codes " " ++ (o.name ++ (codes " " ++ (name_of done ++ (outcome_text (outcome_of done) ++ (codes " |" ++ (lock_text (labels_of (algorithm_of o.lock)) cpus words ++ codes "\n")))))))))
+line_at cpus n cpu done words o = decimal n ++ (codes " cpu " ++ (decimal cpu ++ (codes " " ++ (o.name ++ (codes " " ++ (name_of done ++ (outcome_text (outcome_of done) ++ (codes " |" ++ (lock_text (labels_of o.lock) cpus words ++ codes "\n")))))))))
 
 -- `N cpu C idle`
 abbrev pub line_alone : ℕ → ℕ → StepDone → List ℕ

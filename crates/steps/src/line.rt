@@ -11,7 +11,7 @@ ghost use Rattle.steps.specs.Lines.{groups_text, line_alone, line_at, line_of, l
 use event_log::SeqObject;
 use scripts::{KernelObject, ObjectSettings, Settings};
 use std::alloc::AllocError;
-use word_rule::{Labels, LockAlgorithm, Machine, StepDone, next_ticket, served_ticket};
+use word_rule::{Labels, Machine, StepDone, next_ticket, served_ticket};
 
 /// Puts the numbers, each behind a space.
 fn put_spaced(text: &mut String, numbers: &[u64]) -> Result<(), AllocError>
@@ -87,7 +87,7 @@ fn put_at(
     write!(text, "{number} cpu {cpu} {name} {kind}")?;
     put_outcome(text, done)?;
     text.push_str(" |")?;
-    let labels = LockAlgorithm::of(object.lock()).labels();
+    let labels = Labels::of(object.lock());
     put_lock(text, labels, cpus, words)?;
     text.push_str("\n")
 }

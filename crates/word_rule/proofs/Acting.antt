@@ -1,6 +1,7 @@
 -- What a step leaves with a caller: the types of every lock's callers stay true, and the step is one of its kind.
-use Rattle.std.proofs.Common.{◌≡◌, ℕ, ◌<◌, ◌≤◌, ◌||◌, Bool, true, false, true≢false, List, [], ◌∷◌, ◌++◌, map, min, length, drop, refl, sym, ap, ◌∙◌, subst, ⊎_elim, arith, Option, Some, None, Result, Ok, Err, IfOk, OnErr, append_assoc, ◌==◌}
+use Rattle.std.proofs.Common.{◌≡◌, ℕ, ◌<◌, ◌≤◌, ◌||◌, true, List, [], ◌∷◌, ◌++◌, map, min, length, drop, refl, sym, ap, ◌∙◌, subst, ⊎_elim, arith, Option, Some, None, Result, Ok, Err, IfOk, OnErr, append_assoc, ◌==◌}
 use Rattle.std.proofs.Math.Seq.{drop-append_seam}
+use Rattle.std.proofs.lemmas.Bool.{or_right, or_left}
 use Rattle.std.specs.List.{AllByRecursion}
 use Rattle.std.proofs.lemmas.List.Folds.{list_any-append}
 use mathlib.Core.Logic.{dite}
@@ -249,22 +250,14 @@ module _ {O P C R : Type 0} where
 has_both : (xs ys : List ℕ) (k : ℕ) → has k (xs ++ ys) ≡ (has k xs || has k ys)
 has_both xs ys k = list_any-append (λ y. y == k) xs ys
 
-true_or : (a b : Bool) → a ≡ true → (a || b) ≡ true
-true_or true b e = refl
-true_or false b e = absurd (true≢false (sym e))
-
-or_there : (a b : Bool) → b ≡ true → (a || b) ≡ true
-or_there true b e = refl
-or_there false b e = e
-
 module _ {O P C R : Type 0} (meaning : Ghosts O P C R) where
   -- one caller with the numbers of two
   pub both_callers : (h : Cell O P C R) (p q r : ℕ) (xs ys : List ℕ) → r ≡ min p q → IsCaller {O = O} {P = P} {C = C} {R = R} record { cell = h; owned = λ k. has k xs; acting = p } → IsCaller {O = O} {P = P} {C = C} {R = R} record { cell = h; owned = λ k. has k ys; acting = q }
       → IsCaller {O = O} {P = P} {C = C} {R = R} record { cell = h; owned = λ k. has k (xs ++ ys); acting = r }
   both_callers h p q r xs ys is one two = record {
     acts = dite (dec_le p q)
-        (λ le. let e : r ≡ p = omega arith in subst (λ (z : ℕ). has z (xs ++ ys) ≡ true) (sym e) (has_both xs ys p ∙ true_or (has p xs) (has p ys) one.acts))
-        (λ gt. let e : r ≡ q = omega arith in subst (λ (z : ℕ). has z (xs ++ ys) ≡ true) (sym e) (has_both xs ys q ∙ or_there (has q xs) (has q ys) two.acts));
+        (λ le. let e : r ≡ p = omega arith in subst (λ (z : ℕ). has z (xs ++ ys) ≡ true) (sym e) (has_both xs ys p ∙ or_left (has p xs) (has p ys) one.acts))
+        (λ gt. let e : r ≡ q = omega arith in subst (λ (z : ℕ). has z (xs ++ ys) ≡ true) (sym e) (has_both xs ys q ∙ or_right (has q xs) (has q ys) two.acts));
     least = λ x hx. ⊎_elim {0, 0, 0} (λ a. let f = one.least x a in omega arith) (λ a. let f = two.least x a in omega arith) (has_append x xs ys hx);
     below = λ x hx. ⊎_elim {0, 0, 0} (one.below x) (two.below x) (has_append x xs ys hx);
   }

@@ -1,11 +1,11 @@
 -- The CPUs of a line up to one of them and the one behind it, and how many steps these have left.
-use Rattle.std.proofs.Common.{◌≡◌, ◌≢◌, ◌⊎◌, inl, inr, ⊎_elim, ℕ, zero, suc, ◌+◌, ◌*◌, ◌<◌, ◌≤◌, ◌==◌, ◌||◌, Bool, true, false, cond, eq-eqb, eqb-true, ne_eqb, List, [], ◌∷◌, ◌++◌, length, refl, sym, ap, ◌∙◌, subst, arith}
-use Rattle.std.proofs.lemmas.Bool.{or_parts}
+use Rattle.std.proofs.Common.{◌≡◌, ◌≢◌, ◌⊎◌, ⊎_elim, ℕ, zero, suc, ◌+◌, ◌*◌, ◌<◌, ◌≤◌, ◌==◌, ◌||◌, Bool, true, false, cond, eq-eqb, eqb-true, ne_eqb, List, [], ◌∷◌, ◌++◌, length, refl, sym, ap, ◌∙◌, subst, arith}
+use Rattle.std.proofs.lemmas.Bool.{or_parts, or_right, or_cases}
 use mathlib.Core.Option.{some, some-injective, some-ne-none}
 use lib.ListN.{get_elem?}
 use Rattle.event_log.specs.Distinct.{has}
 use Rattle.word_rule.specs.Line.{is_first}
-use Rattle.word_rule.proofs.LineChanges.{first_longer, has_more, never, or_second}
+use Rattle.word_rule.proofs.LineChanges.{first_longer, has_more, never}
 use Rattle.word_rule.proofs.Lists.{has_at}
 
 -- the steps of the one behind, or the most there can be while nobody is there
@@ -25,10 +25,6 @@ among i (x ∷ xs) j = (x == j) || cond (x == i) (is_first j xs) (among i xs j)
 
 has_self : (x : ℕ) (xs : List ℕ) → has x (x ∷ xs) ≡ true
 has_self x xs = has_at (x ∷ xs) zero x refl
-
-or_cases : (b c : Bool) → (b || c) ≡ true → (b ≡ true) ⊎ (c ≡ true)
-or_cases true c e = inl refl
-or_cases false c e = inr e
 
 module _ (most i : ℕ) where
   module _ (f g : ℕ → ℕ) where
@@ -145,7 +141,7 @@ module _ (i : ℕ) where
   pub among_second : (j : ℕ) (xs : List ℕ) → get_elem? xs 1 ≡ some j → among i xs j ≡ true
   among_second j [] e = absurd (some-ne-none j (sym e))
   among_second j (x ∷ []) e = absurd (some-ne-none j (sym e))
-  among_second j (x ∷ y ∷ ys) e = or_second (x == j) (cond (x == i) (is_first j (y ∷ ys)) (among i (y ∷ ys) j)) (by (x == i))
+  among_second j (x ∷ y ∷ ys) e = or_right (x == j) (cond (x == i) (is_first j (y ∷ ys)) (among i (y ∷ ys) j)) (by (x == i))
     where
       same : (y == j) ≡ true
       same = eq-eqb y j (some-injective y j e)

@@ -7,6 +7,7 @@ use native.Mathlib.Decide.{ℕ_discrete}
 use Rattle.event_log.specs.declared.object.SeqObject.{Ghosts}
 use Rattle.event_log.specs.declared.entry.Todo.{Todo}
 use Rattle.event_log.specs.Distinct.{has, AreDistinctBelow}
+use Rattle.event_log.proofs.Lists.{some_at}
 use Rattle.word_rule.specs.Locks.{Lock}
 use Rattle.word_rule.specs.StepKinds.{ends_hold}
 use Rattle.word_rule.specs.Replay.{entries_left}
@@ -21,7 +22,6 @@ use Rattle.word_rule.proofs.Lists.{has_pushed}
 use Rattle.word_rule.proofs.Openings.{opening_sound}
 use Rattle.word_rule.proofs.Orders.{AreLocks, IsCell, Lines, line_in, locks_stay, same_cpus, stepped}
 use Rattle.word_rule.proofs.ProgressLaws.{gets_on, moves_on, on_moves, someone_at, stays, stays_or}
-use Rattle.sound_run.proofs.Slices.{some_at}
 use Rattle.word_rule.proofs.SoundSteps.{sound_step}
 use Rattle.word_rule.proofs.WorldSteps.{StepsCpus, StepsCell, left_to, at_stays, at_entry, cpu_below, cpus_stepped, cell_stepped}
 

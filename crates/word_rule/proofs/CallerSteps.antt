@@ -6,7 +6,7 @@ use Rattle.event_log.specs.declared.object.SeqObject.{Ghosts}
 use Rattle.event_log.specs.declared.event.Event.{Event}
 use Rattle.event_log.specs.Distinct.{has}
 use Rattle.event_log.specs.History.{History}
-use Rattle.word_rule.specs.declared.lock_algorithm.LockAlgorithm.{LockAlgorithm}
+use Rattle.sound_run.specs.declared.lock_kind.LockKind.{LockKind}
 use Rattle.word_rule.specs.declared.machine.step_done.StepDone.{StepDone}
 use Rattle.word_rule.specs.declared.lock_kind.Stage.{Stage}
 use Rattle.word_rule.specs.declared.lock_kind.Stage.TheVariants.{Idle}
@@ -34,7 +34,7 @@ use Rattle.word_rule.proofs.Stays.{Runs, given, kept, taken, turned_once}
 abbrev pub by_turn : Lock → ℕ → Lock × List StepDone
 by_turn l i = ((turn l i).0, (turn l i).1 ∷ [])
 
-module _ {O P C R : Type 0} (meaning : Ghosts O P C R) (kind : LockAlgorithm) (h : Cell O P C R) (slots id : ℕ) (me : Seat O P C R) where
+module _ {O P C R : Type 0} (meaning : Ghosts O P C R) (kind : LockKind) (h : Cell O P C R) (slots id : ℕ) (me : Seat O P C R) where
   abbrev d : LockDefinition
   d = definition_of kind
 

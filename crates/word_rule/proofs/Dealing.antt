@@ -1,9 +1,9 @@
 -- The callers of a new cell's first seat go to seats of their own, one by one.
-use Rattle.std.proofs.Common.{◌≡◌, ◌⊎◌, inl, inr, ℕ, zero, suc, ◌+◌, ◌-◌, ◌<◌, ◌==◌, Bool, List, [], ◌∷◌, ◌++◌, length, refl, sym, ap, ◌∙◌, subst, ⊎_elim, arith, Some}
-use Rattle.std.specs.Prelude.{slice_get}
+use Rattle.std.proofs.Common.{◌≡◌, ◌⊎◌, ℕ, suc, ◌+◌, ◌-◌, ◌<◌, ◌==◌, Bool, List, [], ◌∷◌, ◌++◌, length, refl, sym, ap, ◌∙◌, subst, ⊎_elim, arith}
 use Rattle.std.proofs.lemmas.Bool.Decides.{nat_tests}
 use Rattle.event_log.specs.declared.object.SeqObject.{Ghosts}
 use Rattle.event_log.specs.Distinct.{has}
+use Rattle.event_log.proofs.Lists.{get_push}
 use Rattle.word_rule.specs.declared.lock_kind.Stage.TheVariants.{Idle}
 use Rattle.word_rule.specs.Cell.{Cell, Lawful, EachAt, opening_pass}
 use Rattle.word_rule.specs.Locks.{Fits}
@@ -51,11 +51,5 @@ module _ {O P C R : Type 0} (meaning : Ghosts O P C R) where
   pub part_first : (h told : Cell O P C R) (k : ℕ) (m : Seat O P C R) → told ≡ h → m ≡ (one_of h k, []) → pass_view_of told m.0 ≡ opening_pass h k
   part_first h told k m is me = (λ i. pass_view_of (is i) (me i).0) ∙ (λ i. record { caller = record { cell = h; owned = ((has_one_is k) ∙ (λ i j. swap k j i)) i; acting = k }; seen = h.opening })
 
-snoc_cases : {A : Type 0} (xs : List A) (a b : A) (k : ℕ) → slice_get (xs ++ a ∷ []) k ≡ Some b → (slice_get xs k ≡ Some b) ⊎ ((k ≡ length xs) × (a ≡ b))
-snoc_cases [] a b zero e = let q : a ≡ b = cc in inr (refl, q)
-snoc_cases [] a b (suc k) e = absurd (cc)
-snoc_cases (x ∷ xs) a b zero e = inl e
-snoc_cases (x ∷ xs) a b (suc k) e = ⊎_elim inl (λ t. inr (ap suc t.0, t.1)) (snoc_cases xs a b k e)
-
 pub each_push : {A : Type 0} (P : ℕ → A → Type 0) (k : ℕ) (xs ys : List A) (p : A) → EachAt P xs → length xs ≡ k → ys ≡ xs ++ p ∷ [] → P k p → EachAt P ys
-each_push {A} P k xs ys p all len more here = subst (λ l. EachAt P l) (sym more) (λ j q e. ⊎_elim {0, 0, 0} (all j q) (λ t. subst (λ (z : ℕ × A). P z.0 z.1) (λ i. (sym (t.0 ∙ len) i, t.1 i)) here) (snoc_cases xs p q j e))
+each_push {A} P k xs ys p all len more here = subst (λ l. EachAt P l) (sym more) (λ j q e. ⊎_elim {0, 0, 0} (all j q) (λ t. subst (λ (z : ℕ × A). P z.0 z.1) (λ i. (sym (t.0 ∙ len) i, t.1 i)) here) (get_push xs p j q e))

@@ -12,7 +12,7 @@ use Rattle.event_log.specs.declared.event.Event.{Event}
 use Rattle.event_log.specs.Distinct.{has}
 use Rattle.event_log.specs.History.{History, IsKept}
 use Rattle.event_log.proofs.Beginnings.{begins_self}
-use Rattle.word_rule.specs.declared.lock_algorithm.LockAlgorithm.{LockAlgorithm}
+use Rattle.sound_run.specs.declared.lock_kind.LockKind.{LockKind}
 use Rattle.word_rule.specs.declared.lock_kind.Stage.TheVariants.{Idle}
 use Rattle.word_rule.specs.declared.view.TraceStep.{TraceStep}
 use Rattle.word_rule.specs.Cell.{Cell, cell_of, Lawful, OwnsAll, IsPassView, stored}
@@ -29,7 +29,7 @@ use Rattle.word_rule.proofs.RunLists.{extends_self, same_run, all_inside}
 use Rattle.word_rule.proofs.RunOrder.{all_ended}
 use Rattle.word_rule.proofs.Runs.{no_run}
 
-module _ {O P C R : Type 0} (h : Cell O P C R) (kind : LockAlgorithm) (first : ℕ) where
+module _ {O P C R : Type 0} (h : Cell O P C R) (kind : LockKind) (first : ℕ) where
   abbrev start : GhostState O P C R
   start = record { committed = h.opening; run = []; lock = opening_lock kind first; owner = λ x. (0, x + 1) }
 
@@ -69,7 +69,7 @@ module _ {O P C R : Type 0} (h : Cell O P C R) (kind : LockAlgorithm) (first : �
 
 module _ {O P C R : Type 0} (meaning : Ghosts O P C R) where
   -- the opening log is lawful for the cell
-  pub opens_valid : (k : LockAlgorithm) (f : ℕ) (x : History O P C R) (n : ℕ) → IsKept meaning x → Lawful meaning (cell_of k f n x) x.log
+  pub opens_valid : (k : LockKind) (f : ℕ) (x : History O P C R) (n : ℕ) → IsKept meaning x → Lawful meaning (cell_of k f n x) x.log
   opens_valid k f x n kept = record {
     begins = begins_self x.log;
     legal = kept.legal;
@@ -78,10 +78,10 @@ module _ {O P C R : Type 0} (meaning : Ghosts O P C R) where
   }
 
   -- and what it is made of is what it stores
-  pub opens_stored : (k : LockAlgorithm) (f : ℕ) (x : History O P C R) (n : ℕ) → IsKept meaning x → x ≡ stored meaning (cell_of k f n x) x.log
+  pub opens_stored : (k : LockKind) (f : ℕ) (x : History O P C R) (n : ℕ) → IsKept meaning x → x ≡ stored meaning (cell_of k f n x) x.log
   opens_stored k f x n kept i = record { params = x.params; limit = x.limit; log = x.log; state = kept.replayed i }
 
-module _ {O P C R : Type 0} (meaning : Ghosts O P C R) (kind : LockAlgorithm) where
+module _ {O P C R : Type 0} (meaning : Ghosts O P C R) (kind : LockKind) where
   pub opens : (ws : List ℕ) (x : History O P C R) (n first : ℕ) → IsKept meaning x → IsLockOf kind n ws (opening_lock kind first) → CellInvariant meaning kind (cell_of kind first n x) (opening ws (Some x ∷ []) (first_view (cell_of kind first n x)))
   opens ws x n first kept tied = record {
     state = start (cell_of kind first n x) kind first;

@@ -1,5 +1,6 @@
 -- What a caller has held for is what its CPUs do by their scripts.
 use Rattle.std.proofs.Common.{◌≡◌, ◌≢◌, ℕ, ◌==◌, Bool, true, false, cond, List, [], ◌∷◌, ◌++◌, map, length, drop, refl, sym, ap, ◌∙◌, subst, arith, append_assoc, append-nil, eq-eqb, ne_eqb, true≢false}
+use Rattle.std.proofs.lemmas.List.{append_cancel_left}
 use Rattle.std.specs.List.{AllByRecursion, filter}
 use mathlib.Core.Logic.{dite}
 use native.Mathlib.Decide.{ℕ_discrete}
@@ -16,7 +17,7 @@ use Rattle.word_rule.specs.OneHold.{how_many, leaving, silently, HasHeld}
 use Rattle.word_rule.specs.Replay.{todo_of, entries_for, DoesStep, DoesRun}
 use Rattle.word_rule.specs.StepKinds.{ends_hold}
 use Rattle.word_rule.proofs.OneHolds.{count_append}
-use Rattle.word_rule.proofs.RunLists.{by_append, by_other, same_front, silent_own}
+use Rattle.word_rule.proofs.RunLists.{by_append, by_other, silent_own}
 
 -- the step ends no hold
 abbrev EndsNone : {E : Type 0} → TraceStep E → Type 0
@@ -107,7 +108,7 @@ module _ {O P C R : Type 0} (meaning : Ghosts O P C R) (caller : Caller O P C R)
 
   -- what came since, of that CPU
   since : (a added b : List (TraceStep (Event O P C R))) → Extends caller.owned a added b → by_cpu k added ≡ by_cpu k (drop (length a) b)
-  since a added b e = same_front (by_cpu k a) (by_cpu k added) (by_cpu k (drop (length a) b)) (sym (by_append k a added) ∙ (sym (e.own k owns) ∙ (ap (by_cpu k) (begins_rest a b e.begins) ∙ by_append k a (drop (length a) b))))
+  since a added b e = append_cancel_left (by_cpu k a) (by_cpu k added) (by_cpu k (drop (length a) b)) (sym (by_append k a added) ∙ (sym (e.own k owns) ∙ (ap (by_cpu k) (begins_rest a b e.begins) ∙ by_append k a (drop (length a) b))))
 
   -- a CPU of the caller that did none of the steps
   played_beside : (a added b : List (TraceStep (Event O P C R))) (script : List (Todo O P C R)) → Extends caller.owned a added b → by_cpu k added ≡ [] → Plays a script [] → Plays b script []

@@ -4,6 +4,7 @@ use Rattle.std.specs.List.{AllByRecursion}
 use Rattle.std.proofs.lemmas.Option.{slice_get_within}
 use Rattle.event_log.specs.declared.object.SeqObject.{Ghosts}
 use Rattle.event_log.specs.declared.entry.Todo.{Todo}
+use Rattle.event_log.proofs.Lists.{some_at}
 use Rattle.word_rule.specs.declared.machine.step_done.StepDone.TheVariants as steps
 use Rattle.word_rule.specs.Locks.{IsLock, Lock, turn}
 use Rattle.word_rule.specs.Machine.Opening.{IsOpening}
@@ -13,7 +14,6 @@ use Rattle.word_rule.proofs.LockInterface.{NoneTries, is_idle}
 use Rattle.word_rule.proofs.LockLaws.{begins, turn_acts, turn_whole}
 use Rattle.word_rule.proofs.Openings.{opening_sound}
 use Rattle.word_rule.proofs.Orders.{Keeps, AreLocks, IsCell, locks_run, same_cpus}
-use Rattle.sound_run.proofs.Slices.{some_at}
 use Rattle.word_rule.proofs.SoundSteps.{sound_run}
 use Rattle.word_rule.proofs.TurnsKeep.{locks_keep}
 

@@ -15,7 +15,7 @@ use Rattle.event_log.specs.Distinct.{has}
 use Rattle.event_log.specs.History.{History}
 use Rattle.event_log.specs.Log.{Begins}
 use Rattle.event_log.proofs.Beginnings.{begins_rest}
-use Rattle.word_rule.specs.declared.lock_algorithm.LockAlgorithm.{LockAlgorithm}
+use Rattle.sound_run.specs.declared.lock_kind.LockKind.{LockKind}
 use Rattle.word_rule.specs.declared.machine.step_done.StepDone.{StepDone}
 use Rattle.word_rule.specs.declared.lock_kind.Stage.{Stage}
 use Rattle.word_rule.specs.declared.lock_kind.Stage.TheVariants.{Idle}
@@ -54,7 +54,7 @@ module _ {O P C R : Type 0} where
   value_of d ((n, Some x) ∷ cs) = x
   value_of d ((n, None) ∷ cs) = d
 
-module _ {O P C R : Type 0} (meaning : Ghosts O P C R) (kind : LockAlgorithm) (h : Cell O P C R) where
+module _ {O P C R : Type 0} (meaning : Ghosts O P C R) (kind : LockKind) (h : Cell O P C R) where
   abbrev pub Rule : Table O P C R → Type 0
   Rule = CellInvariant meaning kind h
 

@@ -5,7 +5,6 @@ pub mod LineEnds
 pub mod Moves
 pub mod Ticket
 pub mod Mcs
-pub mod Toggle
 pub mod Lists
 pub mod RunLists
 pub mod Runs

@@ -1,5 +1,6 @@
 -- A step joins a CPU to the end of a line, or takes it from the front, or leaves the line; who is first stays so.
-use Rattle.std.proofs.Common.{◌≡◌, ◌≢◌, ◌⊎◌, inl, inr, ℕ, ◌||◌, ◌==◌, Bool, true, false, true≢false, List, [], ◌∷◌, ◌++◌, eqb-true, refl, sym, ap, ◌∙◌}
+use Rattle.std.proofs.Common.{◌≡◌, ◌≢◌, ◌⊎◌, inl, inr, ℕ, ◌==◌, true, false, true≢false, List, [], ◌∷◌, ◌++◌, eqb-true, refl, sym, ap, ◌∙◌}
+use Rattle.std.proofs.lemmas.Bool.{or_right}
 use lib.ListN.{get_elem?}
 use mathlib.Core.Option.{some}
 use Rattle.event_log.specs.Distinct.{has}
@@ -49,12 +50,8 @@ first_stays s i j old new a ne e = by (changed s i old new a)
     by (inr (inl t)) = absurd (ne (sym (eqb-true i j (sym (ap (is_first j) t.0) ∙ e))))
     by (inr (inr t)) = ap (is_first j) t.0 ∙ e
 
-pub or_second : (b c : Bool) → c ≡ true → (b || c) ≡ true
-or_second true c e = refl
-or_second false c e = e
-
 pub has_more : (x y : ℕ) (xs : List ℕ) → has x xs ≡ true → has x (y ∷ xs) ≡ true
-has_more x y xs e = or_second (y == x) (has x xs) e
+has_more x y xs e = or_right (y == x) (has x xs) e
 
 -- where one is in line, someone is first
 pub head_of : (cpus : List ℕ) (x : ℕ) → has x cpus ≡ true → (y : ℕ) × (get_elem? cpus 0 ≡ some y)

@@ -5,8 +5,7 @@ use Rattle.sound_run.specs.declared.limits.TheConstants.{MOST_CPUS}
 use Rattle.word_rule.specs.declared.machine.step_done.StepDone.{StepDone}
 use Rattle.word_rule.specs.declared.machine.step_done.StepDone.TheVariants as steps
 use Rattle.word_rule.specs.declared.lock_kind.Stage.{Stage}
-use Rattle.word_rule.specs.declared.lock_kind.Stage.TheVariants.{Idle, Toggle, Trying}
-use Rattle.word_rule.specs.declared.toggle_stage.ToggleStage.TheVariants as toggle
+use Rattle.word_rule.specs.declared.lock_kind.Stage.TheVariants.{Idle, Trying}
 use Rattle.word_rule.specs.Line.{First, moved}
 use Rattle.word_rule.specs.LockDefinition.{LockDefinition, LockState, IsState, opening_state}
 use Rattle.word_rule.specs.Locks.{holding}
@@ -15,7 +14,6 @@ use Rattle.word_rule.proofs.LineAfter.{LineAfter}
 -- whether one that stands there has prepared a try
 abbrev pub is_trying : Stage → Bool
 is_trying Trying = true
-is_trying (Toggle (toggle.Trying own)) = true
 is_trying q = false
 
 -- no CPU stands at such a place

@@ -5,11 +5,10 @@ use mathlib.Core.Option.{some, some-injective}
 use lib.ListN.{get_elem?}
 use Rattle.event_log.specs.Distinct.{has}
 use Rattle.sound_run.specs.declared.limits.TheConstants.{MOST_CPUS}
-use Rattle.word_rule.specs.declared.lock_algorithm.LockAlgorithm.{LockAlgorithm}
-use Rattle.word_rule.specs.declared.lock_algorithm.LockAlgorithm.TheVariants as kinds
+use Rattle.sound_run.specs.declared.lock_kind.LockKind.{LockKind}
+use Rattle.sound_run.specs.declared.lock_kind.LockKind.TheVariants as kinds
 use Rattle.word_rule.specs.declared.lock_kind.Stage.{Stage}
-use Rattle.word_rule.specs.declared.lock_kind.Stage.TheVariants.{Idle, Toggle, Trying}
-use Rattle.word_rule.specs.declared.toggle_stage.ToggleStage.TheVariants as toggle
+use Rattle.word_rule.specs.declared.lock_kind.Stage.TheVariants.{Idle, Trying}
 use Rattle.word_rule.specs.Line.{First}
 use Rattle.word_rule.specs.LockDefinition.{LockState}
 use Rattle.word_rule.specs.Locks.{Fits, IsLock, Lock, definition_of, holder, holding, lock_of, served, opening_lock, erase, prepare, state_of, turn}
@@ -19,37 +18,34 @@ use Rattle.word_rule.proofs.LockInterface.{LockLaws, NoneTries, Tries, is_idle, 
 use Rattle.word_rule.proofs.LockStates as states
 use Rattle.word_rule.proofs.Mcs.Laws.{mcs_laws}
 use Rattle.word_rule.proofs.Ticket.Laws.{ticket_laws}
-use Rattle.word_rule.proofs.Toggle.Laws.{toggle_laws}
 
 -- one line for each lock
-pub laws_of : (kind : LockAlgorithm) → LockLaws (definition_of kind)
+pub laws_of : (kind : LockKind) → LockLaws (definition_of kind)
 laws_of kinds.Ticket = ticket_laws
 laws_of kinds.Mcs = mcs_laws
-laws_of kinds.Toggle = toggle_laws
 
 -- what is shown of each state of a definition is shown of each lock of its kind
-pub at_kind : (kind : LockAlgorithm) (P : Lock → Type 0) → ((s : LockState (definition_of kind).Extra) → P (lock_of kind s)) → (l : Lock) → l.kind ≡ kind → P l
+pub at_kind : (kind : LockKind) (P : Lock → Type 0) → ((s : LockState (definition_of kind).Extra) → P (lock_of kind s)) → (l : Lock) → l.kind ≡ kind → P l
 at_kind kind P each l is = subst (λ k. ((s : LockState (definition_of k).Extra) → P (lock_of k s)) → P l) is (λ each. each (state_of l)) each
 
 -- a lock before its first step
-pub begins : (n first : ℕ) (kind : LockAlgorithm) → Fits kind n → IsLock n (opening_lock kind first)
+pub begins : (n first : ℕ) (kind : LockKind) → Fits kind n → IsLock n (opening_lock kind first)
 begins n first kind fits = (laws_of kind).begins n first fits
 
 -- each lock is for as many CPUs as a cell may have
-pub few_fit : (kind : LockAlgorithm) (n : ℕ) → n ≤ MOST_CPUS → Fits kind n
+pub few_fit : (kind : LockKind) (n : ℕ) → n ≤ MOST_CPUS → Fits kind n
 few_fit kind n few = (laws_of kind).few_fit n few
 
-pub opens_erased : (kind : LockAlgorithm) (first first' : ℕ) → erase (opening_lock kind first) ≡ erase (opening_lock kind first')
+pub opens_erased : (kind : LockKind) (first first' : ℕ) → erase (opening_lock kind first) ≡ erase (opening_lock kind first')
 opens_erased kind first first' = ap (lock_of kind) ((laws_of kind).opens_erased first first')
 
 -- a holder that can still do calls has the object
-pub holds : (kind : LockAlgorithm) (mark : ℕ) → holding (holder kind mark) ≡ true
+pub holds : (kind : LockKind) (mark : ℕ) → holding (holder kind mark) ≡ true
 holds kind mark = (laws_of kind).holds mark
 
 -- one that has the object has prepared no try
 pub held_untried : (q : Stage) → holding q ≡ true → is_trying q ≡ false
 held_untried Trying e = absurd (true≢false (sym e))
-held_untried (Toggle (toggle.Trying own)) e = absurd (true≢false (sym e))
 held_untried q e = refl
 
 module _ (n : ℕ) (l : Lock) (h : IsLock n l) where

@@ -9,6 +9,7 @@ use native.Mathlib.Decide.{ℕ_discrete}
 use Rattle.event_log.specs.declared.object.SeqObject.{Ghosts}
 use Rattle.event_log.specs.declared.entry.Todo.{Todo}
 use Rattle.event_log.specs.History.{History, IsKept}
+use Rattle.event_log.proofs.Lists.{some_at}
 use Rattle.word_rule.specs.declared.machine.cell_spec.CellSpec.{CellSpec}
 use Rattle.word_rule.specs.declared.machine.lock_words.LockWords.{LockWords}
 use Rattle.word_rule.specs.declared.machine.progress.Progress.{Progress}
@@ -21,7 +22,7 @@ use Rattle.sound_run.specs.Sound.{Opened}
 use Rattle.word_rule.specs.Machine.SoundWorld.{IsTodo}
 use Rattle.word_rule.specs.StepKinds.{ends_hold}
 use Rattle.word_rule.specs.Machine.World.{World, CellState, CpuState, with_done, entry_of, left, finished, counted, outcome, cell_after, cpu_after, world_after, step_on, step_of, step_by, step}
-use Rattle.sound_run.proofs.Slices.{get_set_same, get_set_other, read_get, some_at, one_of}
+use Rattle.sound_run.proofs.Slices.{get_set_same, get_set_other, read_get, one_of}
 
 pub drop_at : {X : Type 0} (xs : List X) (i : ℕ) (x : X) → slice_get xs i ≡ Some x → drop i xs ≡ x ∷ drop (suc i) xs
 drop_at [] i x e = cc

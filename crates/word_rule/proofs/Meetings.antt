@@ -7,7 +7,7 @@ use Rattle.atomic_table.specs.Table.{step, keeps, gives, rest, Allows, Splits, J
 use Rattle.atomic_table.proofs.Lists.{at_set}
 use Rattle.event_log.specs.declared.object.SeqObject.{Ghosts}
 use Rattle.event_log.specs.Distinct.{has}
-use Rattle.word_rule.specs.declared.lock_algorithm.LockAlgorithm.{LockAlgorithm}
+use Rattle.sound_run.specs.declared.lock_kind.LockKind.{LockKind}
 use Rattle.word_rule.specs.declared.lock_kind.Stage.TheVariants.{Idle}
 use Rattle.word_rule.specs.Cell.{Cell}
 use Rattle.word_rule.specs.Locks.{holding}
@@ -61,7 +61,7 @@ module _ {O P C R : Type 0} where
   abbrev pub renamed : GhostState O P C R → (ℕ × ℕ → ℕ × ℕ) → GhostState O P C R
   renamed b f = record { committed = b.committed; run = b.run; lock = b.lock; owner = λ x. f (b.owner x) }
 
-module _ {O P C R : Type 0} (meaning : Ghosts O P C R) (kind : LockAlgorithm) (h : Cell O P C R) where
+module _ {O P C R : Type 0} (meaning : Ghosts O P C R) (kind : LockKind) (h : Cell O P C R) where
   abbrev pub Rule : Table O P C R → Type 0
   Rule = CellInvariant meaning kind h
 

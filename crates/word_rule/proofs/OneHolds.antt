@@ -1,5 +1,6 @@
 -- From what single steps say of a run to what whole calls say.
 use Rattle.std.proofs.Common.{◌≡◌, ℕ, ◌+◌, ◌-◌, ◌^◌, min, Bool, true, false, List, [], ◌∷◌, ◌++◌, length, refl, sym, ap, ◌∙◌, subst, arith, append_assoc, length-append, Some, Result, Ok, Err, IfOk}
+use Rattle.std.proofs.lemmas.List.{append_cancel_left}
 use Rattle.std.specs.List.{filter}
 use Rattle.std.proofs.lemmas.List.Elements.{filter-append}
 use Rattle.event_log.specs.declared.object.SeqObject.{Ghosts}
@@ -16,7 +17,7 @@ use Rattle.word_rule.specs.LockRuns.{Extends, ExtendsUntil, events_in}
 use Rattle.word_rule.specs.OneHold.{gets_object, how_many, Acquires, Releases, looks_in, leaving, silently, HasAcquired, HasReleased, HasHeld}
 use Rattle.word_rule.specs.Queued.{IsQueued}
 use Rattle.word_rule.specs.StepKinds.{arrives, ends_hold, is_look}
-use Rattle.word_rule.proofs.RunLists.{extends_then, until_then, until_since, silently_append, same_front}
+use Rattle.word_rule.proofs.RunLists.{extends_then, until_then, until_since, silently_append}
 
 pub count_append : (test : StepDone → Bool) (a b : List StepDone) → how_many test (a ++ b) ≡ how_many test a + how_many test b
 count_append test a b = ap length (filter-append test a b) ∙ length-append (filter test a) (filter test b)
@@ -154,7 +155,7 @@ module _ {O P C R : Type 0} where
   held_once caller before looks h k run run' after events a is same still longer r =
       let who : k.caller ≡ caller = same ∙ is in
       let front : k.caller.cell.opening ++ events_in run' ≡ h.history.log = (λ i. (who i).cell.opening ++ events_in (still i)) ∙ sym a.left in
-      let left : r.events ≡ events = same_front h.history.log r.events events (ap (λ l. l ++ r.events) (sym front) ∙ (sym r.added ∙ longer)) in
+      let left : r.events ≡ events = append_cancel_left h.history.log r.events events (ap (λ l. l ++ r.events) (sym front) ∙ (sym r.added ∙ longer)) in
       record {
         got = a.done;
         acquires = a.acquires;

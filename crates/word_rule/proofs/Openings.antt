@@ -7,6 +7,7 @@ use Rattle.std.proofs.lemmas.List.{length-map, take_more as one_more}
 use Rattle.std.proofs.lemmas.Slice.Zip.{AllZip-long}
 use Rattle.event_log.specs.declared.object.SeqObject.{Ghosts}
 use Rattle.event_log.specs.declared.entry.Todo.{Todo}
+use Rattle.event_log.proofs.Each.{each_at}
 use Rattle.word_rule.specs.declared.machine.cell_spec.CellSpec.{CellSpec}
 use Rattle.word_rule.specs.declared.machine.lock_words.LockWords.{LockWords}
 use Rattle.word_rule.specs.declared.machine.progress.Progress.{Progress}
@@ -27,11 +28,6 @@ zip_at R [] ys k x y z e f = cc
 zip_at R (a ∷ xs) [] k x y z e f = absurd z
 zip_at R (a ∷ xs) (b ∷ ys) zero x y z e f = subst (λ (t : _ × _). R t.0 t.1) (λ j. ((let p : a ≡ x = cc in p) j, (let q : b ≡ y = cc in q) j)) z.0
 zip_at R (a ∷ xs) (b ∷ ys) (suc k) x y z e f = zip_at R xs ys k x y z.1 e f
-
-pub all_at : {X : Type 0} (P : X → Type 0) (xs : List X) (k : ℕ) (x : X) → AllByRecursion P xs → slice_get xs k ≡ Some x → P x
-all_at P [] k x h e = cc
-all_at P (a ∷ xs) zero x h e = subst P (let p : a ≡ x = cc in p) h.0
-all_at P (a ∷ xs) (suc k) x h e = all_at P xs k x h.1 e
 
 module _ {O P C R : Type 0} (meaning : Ghosts O P C R) (w : World O P C R) (o : IsOpening w) where
   no_entries : (i : ℕ) → entries_by i w ≡ []
@@ -84,11 +80,11 @@ module _ {O P C R : Type 0} (cells : List (CellSpec O P C R)) (scripts : List (V
 
   pub opening_is : length scripts ≤ MOST_CPUS → AllByRecursion (λ (c : CellSpec O P C R). c.logged.log ≡ []) cells → AllByRecursion (λ (s : Vec (Todo O P C R) Global). AllByRecursion (λ t. IsTodo (length cells) t) s.items) scripts → IsOpening W
   opening_is few empty able = record {
-    cells = λ x c e. let a = cell_at x c e in subst (λ k. IsOpeningCell (length W.cpus) k) a.2 record { first = a.0.first; fits = few_fit a.0.kind (length W.cpus) (subst (λ n. n ≤ MOST_CPUS) (sym cpus_are) few); free = refl; empty = all_at (λ (c : CellSpec O P C R). c.logged.log ≡ []) cells x a.0 empty a.1 };
+    cells = λ x c e. let a = cell_at x c e in subst (λ k. IsOpeningCell (length W.cpus) k) a.2 record { first = a.0.first; fits = few_fit a.0.kind (length W.cpus) (subst (λ n. n ≤ MOST_CPUS) (sym cpus_are) few); free = refl; empty = each_at (λ (c : CellSpec O P C R). c.logged.log ≡ []) cells x a.0 empty a.1 };
     cpus = λ i c e. let a = cpu_at i c e in subst (λ (k : CpuState O P C R). k ≡ opening_cpu k.todo) a.2 refl;
     able = λ i c e. let a = cpu_at i c e in
         subst (λ (k : CpuState O P C R). AllByRecursion (λ t. IsTodo (length W.cells) t) k.todo) a.2
-        (subst (λ n. AllByRecursion (λ t. IsTodo n t) a.0.items) (sym cells_are) (all_at (λ (s : Vec (Todo O P C R) Global). AllByRecursion (λ t. IsTodo (length cells) t) s.items) scripts i a.0 able a.1));
+        (subst (λ n. AllByRecursion (λ t. IsTodo n t) a.0.items) (sym cells_are) (each_at (λ (s : Vec (Todo O P C R) Global). AllByRecursion (λ t. IsTodo (length cells) t) s.items) scripts i a.0 able a.1));
   }
 
   module _ (meaning : Ghosts O P C R) (locks : List LockWords) (done : List (Progress O P C R)) (fresh : FreshLocks meaning (length scripts) cells locks) (begun : FreshDone scripts done) where

@@ -13,6 +13,7 @@ use Rattle.event_log.specs.declared.entry.Done.{Done}
 use Rattle.event_log.specs.declared.entry.Done.TheVariants as done
 use Rattle.event_log.specs.declared.entry.Entry.{Entry}
 use Rattle.event_log.specs.declared.entry.Run.{Run}
+use Rattle.event_log.proofs.Lists.{get_last, same_front}
 use Rattle.sound_run.specs.declared.place.Place.{Place}
 use Rattle.word_rule.specs.Machine.World.{with_done}
 use Rattle.sound_run.specs.Orders.{numbers, entries_of, with_event, with_entry, entry_at, events_on, NoneBehindFull, IsOrder}
@@ -34,16 +35,6 @@ all_within n (p ∷ places) each = (
       (λ own. (subst (λ l. AllByRecursion (λ k. k < n cpu) l) (entries_own cpu p places own) (each cpu)).1)
       (λ off. subst (λ l. AllByRecursion (λ k. k < n cpu) l) (entries_other cpu p places off) (each cpu))),
 )
-
--- reading a list that is longer at its end
-get_front : {X : Type 0} (xs ys : List X) (k : ℕ) → k < length xs → slice_get (xs ++ ys) k ≡ slice_get xs k
-get_front [] ys k lt = absurd (omega (arith, lt))
-get_front (x ∷ xs) ys zero lt = refl
-get_front (x ∷ xs) ys (suc k) lt = get_front xs ys k (omega (arith, lt))
-
-get_last : {X : Type 0} (xs : List X) (x : X) → slice_get (xs ++ x ∷ []) (length xs) ≡ Some x
-get_last [] x = refl
-get_last (y ∷ xs) x = get_last xs x
 
 module _ {O P C R : Type 0} where
   -- an entry's event, at the end of the log
@@ -90,7 +81,7 @@ module _ {O P C R : Type 0} (run : Run O P C R) (i : ℕ) (e : Entry O P C R) (l
     at_old q lt = dite (ℕ_discrete i q.cpu)
         (λ own.
         let here : slice_get (transcript_of i next) q.entry ≡ slice_get (transcript_of i run) q.entry
-        = ap (λ l. slice_get l q.entry) mine ∙ (get_front entries (e ∷ []) q.entry (subst (λ l. q.entry < length l) was (subst (λ (k : ℕ). q.entry < length (transcript_of k run)) (sym own) lt)) ∙ ap (λ l. slice_get l q.entry) (sym was)) in
+        = ap (λ l. slice_get l q.entry) mine ∙ (same_front entries (e ∷ []) q.entry (subst (λ l. q.entry < length l) was (subst (λ (k : ℕ). q.entry < length (transcript_of k run)) (sym own) lt)) ∙ ap (λ l. slice_get l q.entry) (sym was)) in
         subst (λ (k : ℕ). slice_get (transcript_of k next) q.entry ≡ slice_get (transcript_of k run) q.entry) own here)
         (λ off. ap (λ l. slice_get l q.entry) (theirs q.cpu off))
 

@@ -1,7 +1,7 @@
 -- Callers who own every number of a cell, alone or together.
 use Rattle.std.proofs.Common.{◌≡◌, ℕ, zero, suc, ◌<◌, ◌==◌, ◌||◌, true, refl, sym, ap, subst, ◌∙◌, arith}
 use Rattle.event_log.specs.History.{History}
-use Rattle.word_rule.specs.declared.lock_algorithm.LockAlgorithm.{LockAlgorithm}
+use Rattle.sound_run.specs.declared.lock_kind.LockKind.{LockKind}
 use Rattle.word_rule.specs.Cell.{Cell, Caller, PassView, OwnsAll, OwnTogether, first_pass}
 
 module _ {O P C R : Type 0} where
@@ -21,7 +21,7 @@ module _ {O P C R : Type 0} where
     each = λ k below. both k ∙ ((λ i. two k i || other k i) ∙ ((λ i. ((is_a i).owned k || (is_b i).owned k) || ((is_c i).owned k || (is_d i).owned k)) ∙ all k (subst (λ (z : Cell O P C R). k < z.numbers) (cell ∙ (front ∙ ap (λ z. z.cell) is_a)) below)));
   }
 
-module _ {O P C R : Type 0} {kind : LockAlgorithm} {ticket : ℕ} where
+module _ {O P C R : Type 0} {kind : LockKind} {ticket : ℕ} where
   -- the only pass of a cell of one CPU
   pub owns_alone : (x : History O P C R) (p : PassView O P C R) → p ≡ first_pass kind ticket x 1 0 → OwnsAll p.caller
   owns_alone x p is = subst (λ (z : PassView O P C R). OwnsAll z.caller) (sym is) (record { each = alone })

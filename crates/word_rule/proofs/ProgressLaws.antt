@@ -6,8 +6,8 @@ use mathlib.Core.Option.{some}
 use native.Mathlib.Decide.{ℕ_discrete}
 use lib.ListN.{get_elem?}
 use Rattle.event_log.specs.Distinct.{has}
-use Rattle.word_rule.specs.declared.lock_algorithm.LockAlgorithm.{LockAlgorithm}
-use Rattle.word_rule.specs.declared.lock_algorithm.LockAlgorithm.TheVariants as kinds
+use Rattle.sound_run.specs.declared.lock_kind.LockKind.{LockKind}
+use Rattle.sound_run.specs.declared.lock_kind.LockKind.TheVariants as kinds
 use Rattle.word_rule.specs.Locks.{Lock, definition_of, holding, state_of, turn}
 use Rattle.word_rule.specs.Machine.Rounds.{most_steps, most_steps_of}
 use Rattle.word_rule.specs.StepKinds.{ends_hold}
@@ -17,20 +17,17 @@ use Rattle.word_rule.proofs.LockLaws.{turn_keeps, turn_whole}
 use Rattle.word_rule.proofs.LockProgress.{FirstOn, LockFairness, LockProgress, OneOnAt}
 use Rattle.word_rule.proofs.Mcs.Progress.{mcs_fairness, mcs_progress}
 use Rattle.word_rule.proofs.Ticket.Progress.{ticket_fairness, ticket_progress}
-use Rattle.word_rule.proofs.Toggle.Progress.{toggle_fairness, toggle_progress}
 
 -- one line for each lock
-pub progress_of : (kind : LockAlgorithm) → LockProgress (definition_of kind) (most_steps_of kind)
+pub progress_of : (kind : LockKind) → LockProgress (definition_of kind) (most_steps_of kind)
 progress_of kinds.Ticket = ticket_progress
 progress_of kinds.Mcs = mcs_progress
-progress_of kinds.Toggle = toggle_progress
 
 -- one line for each lock at which every call ends
-pub fairness_of : (kind : LockAlgorithm) → LockFairness (definition_of kind) (most_steps_of kind) (progress_of kind)
+pub fairness_of : (kind : LockKind) → LockFairness (definition_of kind) (most_steps_of kind) (progress_of kind)
 unfolding progress_of
 fairness_of kinds.Ticket = ticket_fairness
 fairness_of kinds.Mcs = mcs_fairness
-fairness_of kinds.Toggle = toggle_fairness
 
 -- whether a CPU's next turn gets it on
 abbrev pub gets_on : Lock → ℕ → Bool
@@ -48,10 +45,9 @@ pub some_left : (l : Lock) (i : ℕ) → 0 < left_at l i
 some_left l i = let p = progress_of l.kind in p.some_left (l.line.stage i)
 
 -- no lock has more than the most of any
-pub most_few : (kind : LockAlgorithm) → most_steps_of kind ≤ most_steps
+pub most_few : (kind : LockKind) → most_steps_of kind ≤ most_steps
 most_few kinds.Ticket = omega arith
 most_few kinds.Mcs = omega arith
-most_few kinds.Toggle = omega arith
 
 pub few_left : (l : Lock) (i : ℕ) → left_at l i ≤ most_steps_of l.kind
 few_left l i = let p = progress_of l.kind in p.few_left (l.line.stage i)

@@ -5,7 +5,7 @@ use lib.ListN.{get_elem?}
 use Rattle.event_log.specs.declared.object.SeqObject.{Ghosts}
 use Rattle.event_log.specs.declared.event.Event.{Event}
 use Rattle.event_log.specs.Distinct.{has}
-use Rattle.word_rule.specs.declared.lock_algorithm.LockAlgorithm.{LockAlgorithm}
+use Rattle.sound_run.specs.declared.lock_kind.LockKind.{LockKind}
 use Rattle.word_rule.specs.declared.lock_kind.Stage.{Stage}
 use Rattle.word_rule.specs.declared.machine.step_done.StepDone.{StepDone}
 use Rattle.word_rule.specs.declared.view.TraceStep.{TraceStep}
@@ -18,7 +18,7 @@ use Rattle.word_rule.specs.Rule.LockStates.{IsLockOf}
 use Rattle.word_rule.specs.Rule.Seats.{Seat}
 use Rattle.word_rule.proofs.LockLaws.{at_kind}
 
-module _ (kind : LockAlgorithm) where
+module _ (kind : LockKind) where
   pub tied_state : (n : ℕ) (ws : List ℕ) (l : LockState (definition_of kind).Extra) → IsLockOf kind n ws (lock_of kind l) → IsTied (definition_of kind) n ws l
   tied_state n ws l h = record { state = h.state; words = h.words }
 
@@ -29,7 +29,7 @@ module _ (kind : LockAlgorithm) where
   pub tried_lock : (l : LockState (definition_of kind).Extra) (i t : ℕ) (r : LockState (definition_of kind).Extra × List StepDone) → (definition_of kind).attempt l i t ≡ r → attempt (lock_of kind l) i t ≡ (lock_of kind r.0, r.1)
   tried_lock l i t r is = ap (λ z. (lock_of kind z.0, z.1)) is
 
-module _ {O P C R : Type 0} (meaning : Ghosts O P C R) (kind : LockAlgorithm) (h : Cell O P C R) (s : Table O P C R) where
+module _ {O P C R : Type 0} (meaning : Ghosts O P C R) (kind : LockKind) (h : Cell O P C R) (s : Table O P C R) where
   -- what the rule says of this lock
   pub record RuleOf (l : Lock) : Type 0 where
     pub committed : List (Event O P C R)
@@ -50,7 +50,7 @@ module _ {O P C R : Type 0} (meaning : Ghosts O P C R) (kind : LockAlgorithm) (h
   by_state G each r = at_kind kind (λ l. (x : RuleOf l) → G (rule_of l x)) each r.state.lock r.tied.kind_is
       record { committed = r.state.committed; run = r.state.run; owner = r.state.owner; tied = r.tied; ran = r.ran; made = r.made; valid = r.valid; at_home = r.at_home; each = r.each }
 
-module _ {O P C R : Type 0} (meaning : Ghosts O P C R) (kind : LockAlgorithm) (h : Cell O P C R) (slots id : ℕ) (me : Seat O P C R) where
+module _ {O P C R : Type 0} (meaning : Ghosts O P C R) (kind : LockKind) (h : Cell O P C R) (slots id : ℕ) (me : Seat O P C R) where
   -- the seat's caller stands there, in a table with so many slots whose lock has that state
   pub record StandsIn (stage : Stage) (s : Table O P C R) (l : LockState (definition_of kind).Extra) : Type 0 where
     pub rule : RuleOf meaning kind h s (lock_of kind l)

@@ -75,10 +75,6 @@ module _ {E : Type 0} where
   pub silently_append : (cpu : ℕ) (a b : List StepDone) → silently {E = E} cpu (a ++ b) ≡ silently cpu a ++ silently cpu b
   silently_append cpu a b = map-append (λ s. leaving {E = E} cpu s []) a b
 
-pub same_front : {A : Type 0} (a b c : List A) → a ++ b ≡ a ++ c → b ≡ c
-same_front [] b c e = e
-same_front (x ∷ xs) b c e = same_front xs b c (cc)
-
 pub silent_own : (E : Type 0) (cpu : ℕ) (done : List StepDone) → AllByRecursion (λ (m : TraceStep E). m.cpu ≡ cpu) (silently {E = E} cpu done)
 silent_own E cpu [] = tt
 silent_own E cpu (s ∷ ss) = (refl, silent_own E cpu ss)

@@ -5,6 +5,7 @@ use mathlib.Core.Logic.{dite}
 use native.Mathlib.Decide.{ℕ_discrete}
 use Rattle.event_log.specs.declared.object.SeqObject.{Ghosts}
 use Rattle.event_log.specs.declared.entry.Todo.{Todo}
+use Rattle.event_log.proofs.Each.{each_at}
 use Rattle.word_rule.specs.declared.machine.step_done.StepDone.{StepDone}
 use Rattle.word_rule.specs.declared.machine.step_done.StepDone.TheVariants as steps
 use Rattle.word_rule.specs.Locks.{Lock, turn}
@@ -16,7 +17,6 @@ use Rattle.word_rule.specs.Machine.Rounds.{AllDone, HasRounds, cell_steps, cpu_s
 use Rattle.word_rule.specs.Machine.World.{World, CellState, CpuState, left, run, step, step_by, step_of}
 use Rattle.word_rule.proofs.Alive.{Alive, On, alive_first, alive_run, alive_step, cell_of_entry, cpus_stay, on_stays_or, someone, whole_at}
 use Rattle.word_rule.proofs.Fairness.{Fair, reaches}
-use Rattle.word_rule.proofs.Openings.{all_at}
 use Rattle.word_rule.proofs.ProgressLaws.{few_left, gets_on, left_at, most_few, nearer, no_further, others_stay, some_left}
 use Rattle.sound_run.proofs.Slices.{one_of}
 use Rattle.word_rule.proofs.WorldSteps.{StepsCell, StepsCpus, at_entry, cell_stepped, cpu_below, cpus_stepped, entry_steps_stay, left_to, works_at}
@@ -193,7 +193,7 @@ module _ {O P C R : Type 0} (meaning : Ghosts O P C R) where
     where
       by : (o : Option (CpuState O P C R)) → slice_get w.cpus k ≡ o → step meaning w k ≡ (w, steps.Idle)
       by None e = ap (λ (o : Option (CpuState O P C R)). step_by meaning w k o) e
-      by (Some cpu) e = ap (λ (o : Option (CpuState O P C R)). step_by meaning w k o) e ∙ ap (λ l. step_of meaning w k cpu l) (all_at (λ (c : CpuState O P C R). c.todo ≡ []) w.cpus k cpu d e)
+      by (Some cpu) e = ap (λ (o : Option (CpuState O P C R)). step_by meaning w k o) e ∙ ap (λ l. step_of meaning w k cpu l) (each_at (λ (c : CpuState O P C R). c.todo ≡ []) w.cpus k cpu d e)
 
   module _ (n : ℕ) where
     abbrev Good : World O P C R → Type 0

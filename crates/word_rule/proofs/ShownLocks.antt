@@ -1,6 +1,6 @@
 -- What is kept of a lock is what is kept of a state of its definition.
 use Rattle.std.proofs.Common.{◌≡◌, ℕ, List, refl, sym, subst}
-use Rattle.word_rule.specs.declared.lock_algorithm.LockAlgorithm.{LockAlgorithm}
+use Rattle.sound_run.specs.declared.lock_kind.LockKind.{LockKind}
 use Rattle.word_rule.specs.declared.machine.step_done.StepDone.{StepDone}
 use Rattle.word_rule.specs.declared.lock_kind.Stage.{Stage}
 use Rattle.word_rule.specs.LockDefinition.{IsTied, LockState}
@@ -8,7 +8,7 @@ use Rattle.word_rule.specs.Locks.{Lock, definition_of, lock_of, turn}
 use Rattle.word_rule.specs.Rule.LockStates.{IsLockOf, RepresentsLock, RepresentsState}
 use Rattle.word_rule.proofs.LockLaws.{at_kind}
 
-module _ (kind : LockAlgorithm) (n : ℕ) where
+module _ (kind : LockKind) (n : ℕ) where
   pub tied_lock : (ws : List ℕ) (s : LockState (definition_of kind).Extra) → IsTied (definition_of kind) n ws s → IsLockOf kind n ws (lock_of kind s)
   tied_lock ws s h = record { kind_is = refl; state = h.state; words = h.words }
 
@@ -29,7 +29,7 @@ module _ (kind : LockAlgorithm) (n : ℕ) where
       (λ s h. let t = each s (state_shown ws stages s h) in (t.0, lock_shown ws' stages' ((definition_of kind).turn s i).0 t.1)) l h.tied.kind_is h
 
 -- the same where what is kept lies in slices: they had the words us and the places ps, and have vs and qs now
-module _ (kind k : LockAlgorithm) (is : k ≡ kind) (n m : ℕ) (ws us : List ℕ) (stages ps : List Stage) (words_are : us ≡ ws) (stages_are : ps ≡ stages) (long : m ≡ n) where
+module _ (kind k : LockKind) (is : k ≡ kind) (n m : ℕ) (ws us : List ℕ) (stages ps : List Stage) (words_are : us ≡ ws) (stages_are : ps ≡ stages) (long : m ≡ n) where
   pub some_kept : (l : Lock) → RepresentsLock n k ws stages l → (s : LockState (definition_of kind).Extra) × RepresentsState (definition_of kind) m us ps s
   some_kept l h =
       let t = some_state kind n ws stages l (subst (λ z. RepresentsLock n z ws stages l) is h) in

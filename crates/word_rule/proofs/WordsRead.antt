@@ -7,7 +7,7 @@ use Rattle.atomic_table.specs.Table.{keeps, stepped}
 use Rattle.event_log.specs.declared.object.SeqObject.{Ghosts}
 use Rattle.event_log.specs.Distinct.{has}
 use Rattle.event_log.specs.History.{History}
-use Rattle.word_rule.specs.declared.lock_algorithm.LockAlgorithm.{LockAlgorithm}
+use Rattle.sound_run.specs.declared.lock_kind.LockKind.{LockKind}
 use Rattle.word_rule.specs.Cell.{Cell}
 use Rattle.word_rule.specs.Rule.LockStates.{IsLockOf}
 use Rattle.word_rule.specs.Rule.CellInvariant.{SeatView, Table, CellInvariant}
@@ -20,7 +20,7 @@ use Rattle.word_rule.proofs.Stays.{seats_stay}
 pub one_word : (a b : ℕ) → Some a ≡ Some b → a ≡ b
 one_word a b e = cc
 
-module _ {O P C R : Type 0} (meaning : Ghosts O P C R) (kind : LockAlgorithm) (h : Cell O P C R) (s : Table O P C R) (r : CellInvariant meaning kind h s) (id : ℕ) (v : SeatView O P C R) (there : get_elem? s.views id ≡ some v) where
+module _ {O P C R : Type 0} (meaning : Ghosts O P C R) (kind : LockKind) (h : Cell O P C R) (s : Table O P C R) (r : CellInvariant meaning kind h s) (id : ℕ) (v : SeatView O P C R) (there : get_elem? s.views id ≡ some v) where
   -- the word 0 was read, and the first caller keeps it
   abbrev pub notes : (cs : List (ℕ × Option (History O P C R))) → CellInvariant meaning kind h (stepped s 0 (get_or s.words 0 0) id cs (noted v (get_or s.words 0 0)) keeps)
   notes cs =

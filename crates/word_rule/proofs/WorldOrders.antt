@@ -12,6 +12,7 @@ use Rattle.event_log.specs.declared.entry.Entry.{Entry}
 use Rattle.event_log.specs.declared.entry.Todo.{Todo}
 use Rattle.event_log.specs.declared.entry.Run.{Run}
 use Rattle.event_log.specs.Log.{answers, replay}
+use Rattle.event_log.proofs.Each.{each_at}
 use Rattle.word_rule.specs.declared.machine.step_done.StepDone.{StepDone}
 use Rattle.sound_run.specs.declared.place.Place.{Place}
 use Rattle.word_rule.specs.Locks.{Lock, turn}
@@ -22,7 +23,7 @@ use Rattle.word_rule.specs.Machine.Opening.{IsOpening}
 use Rattle.word_rule.specs.Machine.Orders.{ended}
 use Rattle.word_rule.specs.Machine.SoundWorld.{entries_of, entries_by, SoundWorld}
 use Rattle.word_rule.specs.Machine.World.{World, CellState, CpuState, with_done, entry_of, finished, counted, outcome, world_after, step_on, step_of, step_by, step, run, run_of}
-use Rattle.word_rule.proofs.Openings.{all_at, opening_sound, opening_order}
+use Rattle.word_rule.proofs.Openings.{opening_sound, opening_order}
 use Rattle.word_rule.proofs.OrderedRuns.{order_more}
 use Rattle.sound_run.proofs.Slices.{map_get, map_set, one_of}
 use Rattle.word_rule.proofs.SoundRuns.{transcript_is}
@@ -59,7 +60,7 @@ module _ {O P C R : Type 0} (meaning : Ghosts O P C R) where
     -- who found a log full didn't find this one full
     room : (s : Steps O P C R) → d ≡ done.Steps s → (q : Place) (f : Entry O P C R) → entry_at (run_of w) q ≡ Some f → f.done ≡ done.NoRoom → todo.object ≢ f.object
     room s is q f at none same =
-        let a = all_at _ (entries_by q.cpu w) q.entry f (h.answers q.cpu) (ap (λ l. slice_get l q.entry) (sym (transcript_is meaning w h q.cpu)) ∙ at) in
+        let a = each_at _ (entries_by q.cpu w) q.entry f (h.answers q.cpu) (ap (λ l. slice_get l q.entry) (sym (transcript_is meaning w h q.cpu)) ∙ at) in
         let one : a.cell ≡ c = one_of a.cell c (slice_get w.cells todo.object) (ap (λ k. slice_get w.cells k) same ∙ a.there) cell_is in
         let full : length a.cell.log ≡ a.cell.opened.limit = subst (λ d. Answers meaning a.cell.opened a.cell.log f.asked d) none a.answers in
         not_full c.opened c.log todo.calls.items s is (subst (λ (k : CellState O P C R). length k.log ≡ k.opened.limit) one full)

@@ -6,11 +6,11 @@ use Rattle.event_log.specs.declared.event.Event.{Event}
 use Rattle.event_log.specs.declared.event.Steps.{Steps}
 use Rattle.event_log.specs.Log.{Begins, Legal, after, replay, of}
 use Rattle.event_log.specs.History.{History, with_event}
-use Rattle.word_rule.specs.declared.lock_algorithm.LockAlgorithm.{LockAlgorithm}
+use Rattle.sound_run.specs.declared.lock_kind.LockKind.{LockKind}
 
 -- what was fixed when a cell was opened; a ticket lock serves the first ticket first; its CPUs are the numbers below `numbers`
 pub record Cell (O P C R : Type 0) : Type 0 where
-  pub kind : LockAlgorithm
+  pub kind : LockKind
   pub first : ℕ
   pub params : P
   pub limit : ℕ
@@ -44,7 +44,7 @@ EachAt {A} P xs = (k : ℕ) (x : A) → slice_get xs k ≡ Some x → P k x
 
 module _ {O P C R : Type 0} where
   -- the cell behind such a lock, with that first ticket, that is made of this history for n CPUs
-  abbrev pub cell_of : LockAlgorithm → ℕ → ℕ → History O P C R → Cell O P C R
+  abbrev pub cell_of : LockKind → ℕ → ℕ → History O P C R → Cell O P C R
   cell_of k f n h = record { kind = k; first = f; params = h.params; limit = h.limit; numbers = n; opening = h.log }
 
   -- the view of pass k of a cell that was just opened
@@ -52,7 +52,7 @@ module _ {O P C R : Type 0} where
   opening_pass h k = record { caller = record { cell = h; owned = (λ j. j == k); acting = k }; seen = h.opening }
 
   -- the view of pass i of a cell behind such a lock, with that first ticket, that was made of this history for n CPUs
-  abbrev pub first_pass : LockAlgorithm → ℕ → History O P C R → ℕ → ℕ → PassView O P C R
+  abbrev pub first_pass : LockKind → ℕ → History O P C R → ℕ → ℕ → PassView O P C R
   first_pass k f h n i = opening_pass (cell_of k f n h) i
 
   -- log b begins with log a, and has the same events of the owned numbers

@@ -2,8 +2,8 @@
 use Rattle.std.specs.Prelude.{ℕ, List, [], ◌∷◌, map, codes}
 use Rattle.word_rule.specs.declared.labels.Labels.{Labels}
 use Rattle.word_rule.specs.declared.labels.Labels.TheVariants as labels
-use Rattle.word_rule.specs.declared.lock_algorithm.LockAlgorithm.{LockAlgorithm}
-use Rattle.word_rule.specs.declared.lock_algorithm.LockAlgorithm.TheVariants as kinds
+use Rattle.sound_run.specs.declared.lock_kind.LockKind.{LockKind}
+use Rattle.sound_run.specs.declared.lock_kind.LockKind.TheVariants as kinds
 
 -- the names of one word's high and low half; or of the first word, and of each group of words behind it
 pub data WordLabels : Type 0 where
@@ -16,7 +16,6 @@ shown_by (labels.Halves high low) = halves high.now low.now
 shown_by (labels.Groups first others) = groups first.now (map (λ label. label.now) others.now)
 
 -- one line for each lock
-abbrev pub labels_of : LockAlgorithm → WordLabels
+abbrev pub labels_of : LockKind → WordLabels
 labels_of kinds.Ticket = halves (codes "next") (codes "serving")
 labels_of kinds.Mcs = groups (codes "tail") (codes "next" ∷ codes "locked" ∷ [])
-labels_of kinds.Toggle = groups (codes "tail") (codes "toggle" ∷ [])

@@ -1,28 +1,26 @@
 -- Which locks there are, and what all else takes of a lock.
 use Rattle.std.specs.Prelude.{◌≡◌, ℕ, ◌||◌, Bool, true, List}
-use Rattle.word_rule.specs.declared.lock_algorithm.LockAlgorithm.{LockAlgorithm}
-use Rattle.word_rule.specs.declared.lock_algorithm.LockAlgorithm.TheVariants as kinds
+use Rattle.sound_run.specs.declared.lock_kind.LockKind.{LockKind}
+use Rattle.sound_run.specs.declared.lock_kind.LockKind.TheVariants as kinds
 use Rattle.word_rule.specs.declared.machine.step_done.StepDone.{StepDone}
 use Rattle.word_rule.specs.declared.lock_kind.Stage.{Stage}
 use Rattle.word_rule.specs.Line.{Line}
 use Rattle.word_rule.specs.LockDefinition.{LockDefinition, LockState, IsState, opening_state}
 use Rattle.word_rule.specs.Mcs.Definition.{mcs_lock}
 use Rattle.word_rule.specs.Ticket.Definition.{ticket_lock}
-use Rattle.word_rule.specs.Toggle.Definition.{toggle_lock}
 
 -- one line for each lock
-abbrev pub definition_of : LockAlgorithm → LockDefinition
+abbrev pub definition_of : LockKind → LockDefinition
 definition_of kinds.Ticket = ticket_lock
 definition_of kinds.Mcs = mcs_lock
-definition_of kinds.Toggle = toggle_lock
 
 -- whether a caller that stands there has the object, at some lock
 abbrev pub holding : Stage → Bool
-holding q = ticket_lock.holding q || mcs_lock.holding q || toggle_lock.holding q
+holding q = ticket_lock.holding q || mcs_lock.holding q
 
 -- a lock of some kind: its line, and what that kind has beside
 pub record Lock : Type 0 where
-  pub kind : LockAlgorithm
+  pub kind : LockKind
   pub line : Line
   pub extra : (definition_of kind).Extra
 
@@ -31,11 +29,11 @@ abbrev pub state_of : (l : Lock) → LockState (definition_of l.kind).Extra
 state_of l = record { line = l.line; extra = l.extra }
 
 -- the lock of that kind with this state
-abbrev pub lock_of : (kind : LockAlgorithm) → LockState (definition_of kind).Extra → Lock
+abbrev pub lock_of : (kind : LockKind) → LockState (definition_of kind).Extra → Lock
 lock_of kind s = record { kind = kind; line = s.line; extra = s.extra }
 
 -- a lock before its first step
-abbrev pub opening_lock : LockAlgorithm → ℕ → Lock
+abbrev pub opening_lock : LockKind → ℕ → Lock
 opening_lock kind first = lock_of kind (opening_state (definition_of kind) first)
 
 -- a CPU's next step on the lock
@@ -63,11 +61,11 @@ abbrev pub served : Lock → ℕ
 served l = (definition_of l.kind).served l.extra
 
 -- whether a lock of that kind is for so many CPUs
-abbrev pub Fits : LockAlgorithm → ℕ → Type 0
+abbrev pub Fits : LockKind → ℕ → Type 0
 Fits kind n = (definition_of kind).fits n ≡ true
 
 -- where a holder stands, which can still do calls, at such a lock, by what this keeps for it
-abbrev pub holder : LockAlgorithm → ℕ → Stage
+abbrev pub holder : LockKind → ℕ → Stage
 holder kind mark = (definition_of kind).holder mark
 
 -- a state of a lock for n CPUs

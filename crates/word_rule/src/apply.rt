@@ -23,7 +23,7 @@ impl<O: SeqObject> Hold<O> {
         ensures after { IfOk result (λ s. (view_of_hold self.new).history ≡ after_steps O.SeqObject (view_of_hold self.old) s) }
         ensures full { OnErr result (view_of_hold self.new ≡ view_of_hold self.old) }
     {
-        let cpu = self.inside.outside.cpu.number;
+        let cpu = self.inside.outside.cpu.byte();
         self.inside.logged.apply(cpu, calls)
     }
 
@@ -39,7 +39,7 @@ impl<O: SeqObject> Hold<O> {
         ensures after { IfOk result (λ r. (view_of_hold self.new).history ≡ after_steps O.SeqObject (view_of_hold self.old) (one_step call.now r)) }
         ensures full { OnErr result (view_of_hold self.new ≡ view_of_hold self.old) }
     {
-        let cpu = self.inside.outside.cpu.number;
+        let cpu = self.inside.outside.cpu.byte();
         self.inside.logged.call(cpu, call)
     }
 }

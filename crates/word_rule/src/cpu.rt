@@ -1,12 +1,13 @@
 //! The number of a CPU.
 
-ghost use Rattle.std.specs.Prelude.{◌≡◌};
+ghost use Rattle.std.specs.Prelude.{◌≡◌, ◌<◌};
 
-/// The number of a CPU, as a caller has it. It is a type of its own since a caller whose field is a lone byte is moved by
-/// more instructions: `docs/SPEED.md` has what was counted.
+/// The number of a CPU, as a caller has it. It is wider than it need be: behind a lone byte there are seven that no number of LLVM
+/// has, and a caller is then moved through memory. `docs/SPEED.md` has what was counted.
 #[derive(Drop)]
 pub struct Cpu {
-    pub number: u8,
+    pub number: u32,
+    pub ghost small: { number < 256 },
 }
 
 impl Cpu {
@@ -15,6 +16,16 @@ impl Cpu {
     pub fn numbered(number: u8) -> Cpu
         ensures { result.number ≡ number }
     {
-        Cpu { number }
+        Cpu {
+            number: u32::from(number),
+        }
+    }
+
+    /// The same as a byte.
+    #[inline]
+    pub fn byte(&self) -> u8
+        ensures { result ≡ self.now.number }
+    {
+        self.number as u8
     }
 }

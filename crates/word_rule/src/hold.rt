@@ -9,8 +9,8 @@ use crate::Inside;
 use event_log::SeqObject;
 
 /// A caller with the object. It can't be dropped: it ends where its lock takes the object back. Its fields are for the
-/// crates of the locks. The mark is what its lock keeps for a holder: the ticket by which it came to a ticket lock, its own
-/// toggle (0 or 1) at a toggle lock, and 0 at an MCS lock.
+/// crates of the locks. The mark is what its lock keeps for a holder: the ticket by which it came to a ticket lock, and 0 at an
+/// MCS lock.
 pub struct Hold<O: SeqObject> {
     pub inside: Inside<O>,
     pub mark: u32,

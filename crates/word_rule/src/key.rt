@@ -4,8 +4,8 @@ ghost use Rattle.std.specs.Prelude.{◌≡◌};
 ghost use Rattle.event_log.specs.History.{IsKept};
 ghost use Rattle.word_rule.specs.Cell.{cell_of};
 
-use crate::LockAlgorithm;
 use event_log::{Logged, SeqObject};
+use sound_run::LockKind;
 use std::marker::Model;
 use std::snapshot::Snapshot;
 
@@ -13,7 +13,7 @@ use std::snapshot::Snapshot;
 /// its opening log and the number of CPUs. It carries no log of its own.
 #[derive(Drop)]
 pub struct Key<O: SeqObject> {
-    kind: LockAlgorithm,
+    kind: LockKind,
     first: u32,
     cpus: u8,
     opened: Snapshot<Logged<O>>,
@@ -29,7 +29,7 @@ impl<O: SeqObject> Model for Key<O> {
 
 impl<O: SeqObject> Key<O> {
     /// The constants of a cell behind such a lock, with this first ticket, that is made of this object for so many CPUs.
-    pub fn of(kind: LockAlgorithm, first: u32, cpus: u8, logged: &Logged<O>) -> Key<O>
+    pub fn of(kind: LockKind, first: u32, cpus: u8, logged: &Logged<O>) -> Key<O>
         ensures value { result ≡ cell_of kind first cpus logged.now }
         ensures kept { IsKept O.SeqObject logged.now }
     {

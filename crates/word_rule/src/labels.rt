@@ -3,7 +3,7 @@
 ghost use Rattle.std.specs.Prelude.{◌≡◌};
 ghost use Rattle.word_rule.specs.Labels.{labels_of, shown_by};
 
-use crate::LockAlgorithm;
+use sound_run::LockKind;
 
 /// What the words of a lock are called.
 #[derive(Clone, Copy, Debug, PartialEq, Eq, Drop)]
@@ -14,15 +14,14 @@ pub enum Labels {
     Groups(&'static str, &'static [&'static str]),
 }
 
-impl LockAlgorithm {
-    /// What its words are called.
-    pub fn labels(self) -> Labels
-        ensures { shown_by result ≡ labels_of self }
+impl Labels {
+    /// What the words of that lock are called.
+    pub fn of(lock: LockKind) -> Labels
+        ensures { shown_by result ≡ labels_of lock }
     {
-        match self {
-            LockAlgorithm::Ticket => Labels::Halves("next", "serving"),
-            LockAlgorithm::Mcs => Labels::Groups("tail", &["next", "locked"]),
-            LockAlgorithm::Toggle => Labels::Groups("tail", &["toggle"]),
+        match lock {
+            LockKind::Ticket => Labels::Halves("next", "serving"),
+            LockKind::Mcs => Labels::Groups("tail", &["next", "locked"]),
         }
     }
 }

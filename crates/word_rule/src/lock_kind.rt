@@ -1,7 +1,5 @@
 //! Where a caller stands at each lock.
 
-use crate::ToggleStage;
-
 /// What a caller has done last, and so what it may do next. A caller that owns several CPU numbers stands at this place
 /// with the number that it acts as; its others are idle.
 #[derive(Clone, Copy, Debug, PartialEq, Eq, Drop)]
@@ -12,8 +10,6 @@ pub enum Stage {
     Ticket(TicketStage),
     /// It is at an MCS lock.
     Mcs(McsStage),
-    /// It is at a toggle lock.
-    Toggle(ToggleStage),
     /// It has cleared its `next` word for a try, and isn't in line. The step machine has no tries, so no CPU of it stands here.
     Trying,
 }

@@ -20,7 +20,6 @@ mod room;
 mod step_done;
 mod step_names;
 mod ticket;
-mod toggle;
 
 use crate::machine::hold::count_step;
 use crate::machine::lock_words::LockWords;
@@ -147,8 +146,7 @@ impl<O: SeqObject> Machine<O> {
     }
 
     /// The words of a cell: of a ticket lock one, with the next ticket in its high half and the one that is served in its low
-    /// half; of an MCS lock the tail, then each CPU's `next`, then each CPU's `locked`; of a toggle lock the tail, then each
-    /// CPU's toggle.
+    /// half; of an MCS lock the tail, then each CPU's `next`, then each CPU's `locked`.
     pub fn words(&self, cell: u8) -> &[u64]
         requires { cell < length self.now.cells }
         ensures { HasWords O.SeqObject self.now cell result.now }

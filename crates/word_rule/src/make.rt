@@ -10,9 +10,10 @@ ghost use Rattle.word_rule.specs.Rule.LockStates.{IsLockOf};
 ghost use Rattle.word_rule.specs.Passes.{IsPassAt, view_of_pass, run_of_pass};
 ghost use Rattle.word_rule.specs.Rule.Seats.{first_view};
 
-use crate::{Cpu, Key, LockAlgorithm, LockTable, Outside, Pass, Seat};
+use crate::{Cpu, Key, LockTable, Outside, Pass, Seat};
 use atomic_table::{Refused, Table};
 use event_log::{Logged, OutOfMemory, SeqObject};
+use sound_run::LockKind;
 use std::alloc::Global;
 use std::snapshot::Snapshot;
 
@@ -22,7 +23,7 @@ impl<O: SeqObject> LockTable<O> {
     /// comes back as it was.
     pub fn open(
         alloc: Global,
-        kind: LockAlgorithm,
+        kind: LockKind,
         first: u32,
         words: &[u64],
         logged: Logged<O>,

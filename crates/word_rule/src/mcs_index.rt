@@ -5,7 +5,7 @@ ghost use Rattle.std.specs.Prelude.{◌≡◌, ◌+◌};
 
 /// The index of a CPU's `next`.
 #[inline]
-pub fn next_index(cpu: u8) -> usize
+pub fn next_index(cpu: u32) -> usize
     ensures { result ≡ 1 + cpu }
 {
     1 + cpu as usize
@@ -13,7 +13,7 @@ pub fn next_index(cpu: u8) -> usize
 
 /// The index of a CPU's `locked`, at a lock for so many CPUs.
 #[inline]
-pub fn locked_index(cpus: u8, cpu: u8) -> usize
+pub fn locked_index(cpus: u8, cpu: u32) -> usize
     ensures { result ≡ 1 + cpus + cpu }
 {
     1 + cpus as usize + cpu as usize

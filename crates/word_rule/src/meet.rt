@@ -27,7 +27,7 @@ impl<O: SeqObject> LockTable<O> {
         let other = two.outside;
         self.join_seat(&mut outside.seat, other.seat);
         self.table.shared.load::<Merge>(&mut outside.seat, 0);
-        outside.cpu = Cpu::numbered(outside.cpu.number.min(other.cpu.number));
+        outside.cpu = Cpu::numbered(outside.cpu.byte().min(other.cpu.byte()));
         Pass { outside }
     }
 

@@ -115,18 +115,6 @@ impl<O: SeqObject> LockTable<O> {
         self.table.shared.store::<M>(seat, word, new);
     }
 
-    /// A load that prepares a try.
-    pub fn load_for_try<M: Play<Option<Logged<O>>, View<Key<O>, Event<O>>>>(
-        &self,
-        seat: &mut Seat<O>,
-        word: usize,
-    ) -> u64
-        requires { AsksReadying O.SeqObject self.now seat.old word (λ n. n) (M.then (step_on self.now word 0 0) seat.old.me) }
-        ensures { Stepped seat.old seat.new (M.then (step_on self.now word 0 0) seat.old.me result seat.new.me) }
-    {
-        self.table.shared.load::<M>(seat, word)
-    }
-
     /// A compare-and-exchange that is a try.
     pub fn try_exchange<M: Play<Option<Logged<O>>, View<Key<O>, Event<O>>>>(
         &self,

@@ -14,7 +14,7 @@ NOTE_CALLS = ROOT / "tools/lib/foreign_checks/note_freestanding.c"
 SECONDS = 120
 INCLUDE = f"-I{ROOT / 'include'}"
 STRICT = ["-Wall", "-Wextra", "-pedantic", "-Werror", INCLUDE]
-HEADERS = ("mc2_record.h", "mc2_note.h", "mc2_wait.h", "mc2_cells.h", "mc2_judge.h")
+HEADERS = ("mc2_record.h", "mc2_note.h", "mc2_wait.h", "mc2_cells.h", "mc2_by_name.h", "mc2_judge.h")
 # What a library may ask of a kernel, and the most bytes of the file of that of cells.
 CELLS_ASKS = {"memcpy", "memmove", "memset", "rattle_alloc", "rattle_dealloc"}
 JUDGE_ASKS = CELLS_ASKS | {"rattle_realloc"}

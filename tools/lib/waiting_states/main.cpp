@@ -55,8 +55,7 @@ static int refuse(const Graph &graph, const Way &way) {
 
 int main(int count, char **words) {
     if (count < 5) return 2;
-    const std::string lock = words[1];
-    Waiting waiting{lock == "mcs" ? MCS : lock == "toggle" ? TOGGLE : TICKET, atoi(words[2]), atoi(words[3]), {}};
+    Waiting waiting{words[1] == std::string("mcs"), atoi(words[2]), atoi(words[3]), {}};
     for (int k = 5; k < count; k++)
         if (!choose(waiting.form, words[k])) return 2;
     int property = all;

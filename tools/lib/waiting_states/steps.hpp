@@ -11,7 +11,7 @@ enum { MOST = 4, TICKETS = 8, OUTSIDE = 16 };
 // RISE on.
 #define PLACES(P) \
     P(IDLE, "resting.load") P(GO_OUT, "resting.fetch_add(OUTSIDE)") P(ASLEEP, "its timer") \
-    P(COME_IN, "resting.fetch_sub(OUTSIDE)") P(DRAW, "draw") P(CLEAR, "clear") P(READY, "ready") P(ENTER, "enter") P(ARM, "arm") P(LINK, "link") \
+    P(COME_IN, "resting.fetch_sub(OUTSIDE)") P(DRAW, "draw") P(CLEAR, "clear") P(ENTER, "enter") P(ARM, "arm") P(LINK, "link") \
     P(LOOK, "look") P(LIE_DOWN, "resting.fetch_add(1)") P(NAP, "its timer") P(RISE, "resting.fetch_sub(1)") \
     P(SERVE, "serve") P(SEE, "see") P(EMPTY, "empty") P(SEE_AGAIN, "see again") P(PASS_ON, "pass on")
 
@@ -26,14 +26,11 @@ enum { MOST = 4, TICKETS = 8, OUTSIDE = 16 };
     C(each_nap, 0)          /* whether each nap is counted */ \
     C(rises_behind, 0)      /* how much later than by the first look behind a nap it rises */ \
     C(serves, 1)            /* by how many tickets a serve goes on */ \
-    C(passes, FOLLOWER)     /* whose `locked` a pass clears; a pass of a toggle lock is for nobody but its follower */ \
-    C(waits_follower, 1) C(arms_first, 1) \
-    C(names_own, 1)         /* whether it enters with its own toggle, and not with the other value */ \
-    C(empties_all, 0)       /* whether it empties the tail whoever is last */
+    C(passes, FOLLOWER)     /* whose `locked` a pass clears */ \
+    C(waits_follower, 1) C(arms_first, 1)
 enum Door { OPEN, SHUT, SHUT_BY_NAPS, SHUT_BY_STAYS, SHUT_BY_BOTH };
 enum Moment { BEFORE_LINE, AT_ENTER, IN_LINE, ELSE };
 enum Heir { NOBODY, ITSELF, FOLLOWER };
-enum Lock { TICKET, MCS, TOGGLE };
 
 #define NAMED(name, text) name,
 #define ALONE(name) name,
@@ -46,7 +43,7 @@ struct Form {
 struct Caller {
     Place place;
     uint8_t looks;  // the number of its next look; those behind the first nap are one
-    uint8_t other;  // its ticket; or the CPU before it, and then the one behind it; or the tail that it found at a toggle lock
+    uint8_t other;  // its ticket; or the CPU before it, and then the one behind it
     uint8_t stays;  // how often it has slept outside in this call, until it arrives
 
     bool has_object() const { return place >= RISE; }
@@ -57,7 +54,7 @@ struct Caller {
 // that is served.
 struct State {
     Caller callers[MOST];
-    uint8_t resting, tickets, tail, next[MOST], locked[MOST], toggles[MOST];
+    uint8_t resting, tickets, tail, next[MOST], locked[MOST];
     uint8_t line[MOST], length;
 
     bool is_in_line(int i) const { return memchr(line, i, length) != nullptr; }
@@ -65,7 +62,7 @@ struct State {
 
 class Waiting {
 public:
-    Lock lock;
+    bool is_mcs;
     int callers, long_wait;
     Form form;
 
@@ -84,8 +81,7 @@ public:
     bool has_turn(const State &s, int i) const {
         const Caller &c = s.callers[i];
         if (c.has_object() || !s.is_in_line(i)) return false;
-        if (lock == TOGGLE) return s.toggles[c.other / 2 - 1] != c.other % 2;
-        return lock == MCS ? c.place != ARM && c.place != LINK && !s.locked[i] : c.other == 0;
+        return is_mcs ? c.place != ARM && c.place != LINK && !s.locked[i] : c.other == 0;
     }
 
 private:
@@ -103,7 +99,7 @@ private:
     // `stay_outside` of Resting.
     void stay_outside(State &s, int i) const {
         Caller &c = s.callers[i];
-        const Place first = lock == MCS ? CLEAR : lock == TOGGLE ? READY : DRAW;
+        const Place first = is_mcs ? CLEAR : DRAW;
         if (c.place == IDLE) {
             go_on(s, c, BEFORE_LINE, first);
         } else if (c.place == GO_OUT) {
@@ -119,27 +115,23 @@ private:
         }
     }
 
-    // The number in the tail of a toggle lock that names the CPU with that toggle; 0 is an empty tail.
-    static int named(int i, int toggle) { return (i + 1) * 2 + toggle; }
-
-    // `draw` of a ticket lock; `clear`, `enter`, `arm` and `link` of an MCS lock; `ready` and `enter` of a toggle lock.
+    // `draw` of a ticket lock; `clear`, `enter`, `arm` and `link` of an MCS lock.
     void arrive(State &s, int i) const {
         Caller &c = s.callers[i];
-        const Place step = c.place, last = lock == TOGGLE ? ENTER : lock == TICKET ? DRAW : form.arms_first ? LINK : ARM;
+        const Place step = c.place, last = is_mcs ? form.arms_first ? LINK : ARM : DRAW;
         c.looks = 1;
         if (step == DRAW || step == ENTER) s.line[s.length++] = i;
         if (step == DRAW) c.other = s.tickets++;
         if (step == CLEAR) s.next[i] = 0;
         if (step == ARM) s.locked[i] = 1;
         if (step == LINK) s.next[c.other] = i + 1, c.other = 0;
-        if (step == READY) c.other = s.toggles[i] == form.names_own;
         if (step == ENTER) {
             const int found = s.tail;
-            s.tail = lock == MCS ? i + 1 : named(i, c.other);
+            s.tail = i + 1;
             if (found == 0) return hold(c);
-            c.other = lock == MCS ? found - 1 : found;
+            c.other = found - 1;
         }
-        const Place to = step == last ? LOOK : step == CLEAR || step == READY ? ENTER : (step == ENTER) == form.arms_first ? ARM : LINK;
+        const Place to = step == last ? LOOK : step == CLEAR ? ENTER : (step == ENTER) == form.arms_first ? ARM : LINK;
         go_on(s, c, step == last ? IN_LINE : step == ENTER ? AT_ENTER : ELSE, to);
     }
 
@@ -169,30 +161,22 @@ private:
         else hold(c);
     }
 
-    void hold(Caller &c) const { c = Caller{lock == MCS ? SEE : lock == TOGGLE ? EMPTY : SERVE, 0, 0, 0}; }
+    void hold(Caller &c) const { c = Caller{is_mcs ? SEE : SERVE, 0, 0, 0}; }
 
-    // `serve` of a ticket lock, `release` of an MCS lock, `empty` and `pass_on` of a toggle lock.
+    // `serve` of a ticket lock, `release` of an MCS lock.
     void release(State &s, int i) const {
         Caller &c = s.callers[i];
         if (c.place == SEE || c.place == SEE_AGAIN) {
             if (s.next[i]) c.other = s.next[i] - 1;
             c.place = s.next[i] ? PASS_ON : c.place == SEE ? EMPTY : SEE_AGAIN;
-            return;
+        } else if (c.place == EMPTY && s.tail != i + 1 && form.waits_follower) {
+            c.place = SEE_AGAIN;
+        } else {
+            if (c.place == SERVE) serve(s);
+            if (c.place == EMPTY && s.tail == i + 1) s.tail = 0;
+            if (c.place == PASS_ON && form.passes != NOBODY) s.locked[form.passes == ITSELF ? i : c.other] = 0;
+            leave(s, i);
         }
-        const bool is_last = s.tail == (lock == MCS ? i + 1 : named(i, s.toggles[i] == form.names_own));
-        if (c.place == EMPTY && (is_last || form.empties_all)) s.tail = 0;
-        if (c.place == EMPTY && !is_last && form.waits_follower) {
-            c.place = lock == MCS ? SEE_AGAIN : PASS_ON;
-            return;
-        }
-        if (c.place == SERVE) serve(s);
-        if (c.place == PASS_ON && form.passes != NOBODY) pass_on(s, i);
-        leave(s, i);
-    }
-
-    void pass_on(State &s, int i) const {
-        if (lock == TOGGLE) s.toggles[i] ^= 1;
-        else s.locked[form.passes == ITSELF ? i : s.callers[i].other] = 0;
     }
 
     // All tickets are counted from the served one, so each is that much smaller.

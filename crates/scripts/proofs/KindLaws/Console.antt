@@ -7,8 +7,9 @@ use Rattle.console_ring.specs.Answer.{console_answer}
 use Rattle.console_ring.specs.declared.call.ConsoleCall.{ConsoleCall}
 use Rattle.console_ring.specs.declared.call.ConsoleCall.TheVariants.{Put, Get, Level}
 use Rattle.console_ring.specs.declared.console.TheConstants.{MOST_BYTES}
+use Rattle.kernel_object.specs.Kinds.Console.{of_console}
 use Rattle.scripts.specs.declared.settings.fault.SettingsKey.TheVariants.{Bytes}
-use Rattle.scripts.specs.Kinds.Console.{of_console, console_row, console_kind}
+use Rattle.scripts.specs.Kinds.Console.{console_row, console_text}
 use Rattle.scripts.specs.Ranges.{reply_fits}
 use Rattle.scripts.specs.Row.{in_range, row_fits, byte, limit}
 use Rattle.scripts.proofs.KindLaws.Laws.{KindLaws, KindKeeps, all_told, limit_again, small_number, wide_fits}
@@ -18,9 +19,9 @@ use Rattle.scripts.proofs.RecordLengths.{number_le}
 use Rattle.scripts.proofs.SettingsKeys.{number_in, one_fits}
 use Rattle.scripts.proofs.Spellings.{field_takes}
 
-pub console_laws : KindLaws console_kind
+pub console_laws : KindLaws console_text
 console_laws = record {
-  take = λ form ws read e. let number = field_takes (limit MOST_BYTES 0) ws read e in record { text = number.text; fits = number.fit; told = all_told console_kind (λ p. tt) form read.0 };
+  take = λ form ws read e. let number = field_takes (limit MOST_BYTES 0) ws read e in record { text = number.text; fits = number.fit; told = all_told console_text (λ p. tt) form read.0 };
   again = λ form b rest fits told. limit_again MOST_BYTES b rest (omega arith) fits;
   plain_word = search (rules, arith);
   plain = λ form b fits. (plain_decimal b (small_number b MOST_BYTES (omega arith) fits), tt);
@@ -60,7 +61,7 @@ answer_keeps n s Get few fits good = search (rules, byte_fits)
 answer_keeps n s Level few fits good = record { good = good.bytes; fits = wide_fits (length s.bytes) (let w = good.is.within in omega (arith, w, few)) }
 
 -- by the law of a console's states
-pub console_keeps : ((n : ℕ) → is_in_range n ≡ true → IsConsoleOf n (opening_state n)) → ((n : ℕ) (s : ConsoleState) (c : ConsoleCall) → IsConsoleOf n s → IsConsoleOf n (console_answer s c).0) → KindKeeps console_kind
+pub console_keeps : ((n : ℕ) → is_in_range n ≡ true → IsConsoleOf n (opening_state n)) → ((n : ℕ) (s : ConsoleState) (c : ConsoleCall) → IsConsoleOf n s → IsConsoleOf n (console_answer s c).0) → KindKeeps console_text
 console_keeps opens stays = record {
   Good = λ n s. (n ≤ 4096) × GoodConsole n s;
   opens = λ n range. (leb-true n 4096 (and_parts (nat_le 1 n) (nat_le n 4096) range).1, record { is = opens n range; bytes = tt });

@@ -3,10 +3,11 @@ use Rattle.std.proofs.Common.{◌≡◌, ℕ, ◌<◌, ◌≤◌, ◌^◌, true,
 use Rattle.std.proofs.lemmas.Bool.{and_parts, leb-true, le-leb}
 use Rattle.std.specs.List.{AllByRecursion}
 use Rattle.toml.specs.Data.{Members}
+use Rattle.kernel_object.specs.Kinds.Definition.{KindDefinition}
 use Rattle.scripts.specs.declared.record.form.Form.{Form}
 use Rattle.scripts.specs.declared.record.form.Form.TheVariants.{One, Two}
 use Rattle.scripts.specs.declared.settings.fault.Place.{Place}
-use Rattle.scripts.specs.Kinds.Definition.{KindDefinition, Tells}
+use Rattle.scripts.specs.Kinds.Definition.{KindText, Tells}
 use Rattle.scripts.specs.Ranges.{reply_fits}
 use Rattle.scripts.specs.Row.{IsPlain, in_range, row_fits, wide, limit, field_at}
 use Rattle.scripts.proofs.LogRanges.{Keeps}
@@ -14,37 +15,37 @@ use Rattle.scripts.proofs.Readings.{number_at_again}
 use Rattle.scripts.proofs.RecordLengths.{long}
 
 -- the words are those of parameters in their ranges, which the form tells
-pub record ReadsParams (d : KindDefinition) (form : Form) (ws : List (List ℕ)) (read : d.Params × List (List ℕ)) : Type 0 where
-  pub text : ws ≡ d.params_words form read.0 ++ read.1
+pub record ReadsParams {d : KindDefinition} (t : KindText d) (form : Form) (ws : List (List ℕ)) (read : d.Params × List (List ℕ)) : Type 0 where
+  pub text : ws ≡ t.params_words form read.0 ++ read.1
   pub fits : d.in_range read.0 ≡ true
-  pub told : Tells d form read.0
+  pub told : Tells t form read.0
 
-pub record KindLaws (d : KindDefinition) : Type 0 where
+pub record KindLaws {d : KindDefinition} (t : KindText d) : Type 0 where
   -- what is read is what the words spell
-  pub take : (form : Form) (ws : List (List ℕ)) (read : d.Params × List (List ℕ)) → d.params_at form ws ≡ Some read → ReadsParams d form ws read
+  pub take : (form : Form) (ws : List (List ℕ)) (read : d.Params × List (List ℕ)) → t.params_at form ws ≡ Some read → ReadsParams t form ws read
   -- what is spelled is read again
-  pub again : (form : Form) (p : d.Params) (rest : List (List ℕ)) → d.in_range p ≡ true → Tells d form p → d.params_at form (d.params_words form p ++ rest) ≡ Some (p, rest)
+  pub again : (form : Form) (p : d.Params) (rest : List (List ℕ)) → d.in_range p ≡ true → Tells t form p → t.params_at form (t.params_words form p ++ rest) ≡ Some (p, rest)
   -- neither a line end nor a space is in its words
   pub plain_word : IsPlain d.word
-  pub plain : (form : Form) (p : d.Params) → d.in_range p ≡ true → AllByRecursion IsPlain (d.params_words form p)
+  pub plain : (form : Form) (p : d.Params) → d.in_range p ≡ true → AllByRecursion IsPlain (t.params_words form p)
   -- they are short
   pub short_word : length d.word ≤ 16
-  pub short : (form : Form) (p : d.Params) → d.in_range p ≡ true → long (d.params_words form p) ≤ 380
+  pub short : (form : Form) (p : d.Params) → d.in_range p ≡ true → long (t.params_words form p) ≤ 380
   -- parameters of settings are in their ranges
-  pub set : (place : Place) (ms : Members) (p : d.Params) → d.params_in place ms ≡ Ok p → d.in_range p ≡ true
+  pub set : (place : Place) (ms : Members) (p : d.Params) → t.params_in place ms ≡ Ok p → d.in_range p ≡ true
 
 -- what its states keep, from the opening on, so that replies are in range where calls are
-pub record KindKeeps (d : KindDefinition) : Type 1 where
+pub record KindKeeps {d : KindDefinition} (t : KindText d) : Type 1 where
   pub Good : d.Params → d.State → Type 0
   pub opens : (p : d.Params) → d.in_range p ≡ true → Good p (d.opening p)
-  pub keeps : (p : d.Params) (s : d.State) (c : d.Call) → Good p s → row_fits (d.row c) ≡ true → Keeps (Good p) reply_fits (d.answer s c)
+  pub keeps : (p : d.Params) (s : d.State) (c : d.Call) → Good p s → row_fits (t.row c) ≡ true → Keeps (Good p) reply_fits (d.answer s c)
 
 -- ---- what kinds have in common
 
 -- a kind all of whose parameters record 1 tells
-pub all_told : (d : KindDefinition) → ((p : d.Params) → d.ToldByFirst p) → (form : Form) (p : d.Params) → Tells d form p
-all_told d told One p = told p
-all_told d told Two p = tt
+pub all_told : {d : KindDefinition} (t : KindText d) → ((p : d.Params) → t.ToldByFirst p) → (form : Form) (p : d.Params) → Tells t form p
+all_told t told One p = told p
+all_told t told Two p = tt
 
 -- a number in its range is read again
 pub limit_again : (high n : ℕ) (rest : List (List ℕ)) → high < 2 ^ 64 → (nat_le 1 n && nat_le n high) ≡ true → field_at (limit high 0) (decimal n ∷ rest) ≡ Some (n, rest)

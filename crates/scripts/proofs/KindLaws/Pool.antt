@@ -12,13 +12,14 @@ use Rattle.page_pool.specs.Answer.{pool_answer}
 use Rattle.page_pool.specs.declared.call.PoolCall.{PoolCall}
 use Rattle.page_pool.specs.declared.params.PoolParams.{PoolParams}
 use Rattle.page_pool.specs.declared.params.TheConstants.{MOST_PAGES, OWNERS}
+use Rattle.kernel_object.specs.Kinds.Pool.{of_pool}
 use Rattle.scripts.specs.declared.record.form.Form.{Form}
 use Rattle.scripts.specs.declared.record.form.Form.TheVariants.{One, Two}
 use Rattle.scripts.specs.declared.settings.fault.Place.{Place}
 use Rattle.scripts.specs.declared.settings.fault.SettingsKey.TheVariants.{Pages, Quotas as QuotasKey}
 use Rattle.scripts.specs.declared.tables.field.Field.{Field}
 use Rattle.scripts.specs.Kinds.Definition.{Tells}
-use Rattle.scripts.specs.Kinds.Pool.{of_pool, pool_kind, quota_words, all_quotas_at, quotas_at, pool_params_at, are_integers, quota_from, each_quota, quotas_from, pool_params_in}
+use Rattle.scripts.specs.Kinds.Pool.{quota_words, all_quotas_at, quotas_at, pool_params_at, are_integers, quota_from, each_quota, quotas_from, pool_params_in, pool_text}
 use Rattle.scripts.specs.Ranges.{reply_fits}
 use Rattle.scripts.specs.Row.{IsPlain, in_range, refill, limit, up_to, field_at, numbers_at}
 use Rattle.scripts.specs.SettingsKeys.{key_in, key_or, number_from, count_items}
@@ -107,7 +108,7 @@ full_are n e = record { count = refl; each = all_full n 16 e }
 record Quotas (form : Form) (n : ℕ) (ws : List (List ℕ)) (read : List ℕ × List (List ℕ)) : Type 0 where
   text : ws ≡ quota_words form read.0 ++ read.1
   are : AreQuotas read.0
-  told : Tells pool_kind form (record { pages = n; quotas = read.0 })
+  told : Tells pool_text form (record { pages = n; quotas = read.0 })
 
 quotas_take : (form : Form) (n : ℕ) (ws : List (List ℕ)) (read : List ℕ × List (List ℕ)) → is_quota n ≡ true → quotas_at form n ws ≡ Some read → Quotas form n ws read
 unfolding quotas_at
@@ -116,7 +117,7 @@ quotas_take One n ws read small e =
     subst (Quotas One n ws) is (record { text = refl; are = full_are n small; told = refl })
 quotas_take Two n ws read small e = let taken = all_quotas_take ws read e in record { text = taken.0; are = taken.1; told = tt }
 
-quotas_again : (form : Form) (p : PoolParams) (rest : List (List ℕ)) → AreQuotas p.quotas → Tells pool_kind form p → quotas_at form p.pages (quota_words form p.quotas ++ rest) ≡ Some (p.quotas, rest)
+quotas_again : (form : Form) (p : PoolParams) (rest : List (List ℕ)) → AreQuotas p.quotas → Tells pool_text form p → quotas_at form p.pages (quota_words form p.quotas ++ rest) ≡ Some (p.quotas, rest)
 unfolding quotas_at
 quotas_again One p rest are told = ap (λ (q : PoolParams). Some (q.quotas, rest)) (sym told)
 quotas_again Two p rest are told = all_quotas_again p.quotas rest are
@@ -131,19 +132,19 @@ pool_parts p range =
 pool_in_range : (p : PoolParams) → (nat_le 1 p.pages && nat_le p.pages 4096) ≡ true → AreQuotas p.quotas → is_in_range p ≡ true
 pool_in_range p pages are = both_true pages (rw (are.count, are.each) refl)
 
-pool_take : (form : Form) (ws : List (List ℕ)) (read : PoolParams × List (List ℕ)) → pool_params_at form ws ≡ Some read → ReadsParams pool_kind form ws read
+pool_take : (form : Form) (ws : List (List ℕ)) (read : PoolParams × List (List ℕ)) → pool_params_at form ws ≡ Some read → ReadsParams pool_text form ws read
 unfolding pool_params_at
 pool_take form ws read e = bind_some (field_at (limit MOST_PAGES 0) ws) _ read e (λ n found next. bind_some (quotas_at form n.0 n.1) _ read next (λ qs more last.
     let is : ◌≡◌ {A = PoolParams × List (List ℕ)} (record { pages = n.0; quotas = qs.0 }, qs.1) read = cc in
     let number = field_takes (limit MOST_PAGES 0) ws n found in
     let quotas = quotas_take form n.0 n.1 qs (and_parts (nat_le 1 n.0) (nat_le n.0 4096) number.fit).1 more in
-    subst (ReadsParams pool_kind form ws) is (record {
+    subst (ReadsParams pool_text form ws) is (record {
       text = number.text ∙ ap (λ l. decimal n.0 ∷ l) quotas.text;
       fits = pool_in_range (record { pages = n.0; quotas = qs.0 }) number.fit quotas.are;
       told = quotas.told;
     })))
 
-pool_again : (form : Form) (p : PoolParams) (rest : List (List ℕ)) → is_in_range p ≡ true → Tells pool_kind form p → pool_params_at form (decimal p.pages ∷ quota_words form p.quotas ++ rest) ≡ Some (p, rest)
+pool_again : (form : Form) (p : PoolParams) (rest : List (List ℕ)) → is_in_range p ≡ true → Tells pool_text form p → pool_params_at form (decimal p.pages ∷ quota_words form p.quotas ++ rest) ≡ Some (p, rest)
 unfolding pool_params_at
 pool_again form p rest fits told =
     let parts = pool_parts p fits in
@@ -218,7 +219,7 @@ pool_set place ms p e =
     let all = quotas_in place ms pages.0 quotas.0 (le-leb pages.0 MOST_PAGES number.1) quotas.1 in
     subst (λ q. is_in_range q ≡ true) same (pool_in_range (record { pages = pages.0; quotas = quotas.0 }) (one_fits pages.0 MOST_PAGES number) all)
 
-pub pool_laws : KindLaws pool_kind
+pub pool_laws : KindLaws pool_text
 pool_laws = record {
   take = pool_take;
   again = pool_again;
@@ -235,7 +236,7 @@ pool_fits : (p : PoolParams) (s : PoolState) (c : PoolCall) → p.pages ≤ 4096
 pool_fits = search (rules, position-Some, count_by-le-length, wide_fits)
 
 -- by the law of a pool's states
-pub pool_keeps : ((p : PoolParams) → IsPoolOf p (opening_state p)) → ((p : PoolParams) (s : PoolState) (c : PoolCall) → IsPoolOf p s → IsPoolOf p (pool_answer s c).0) → KindKeeps pool_kind
+pub pool_keeps : ((p : PoolParams) → IsPoolOf p (opening_state p)) → ((p : PoolParams) (s : PoolState) (c : PoolCall) → IsPoolOf p s → IsPoolOf p (pool_answer s c).0) → KindKeeps pool_text
 pool_keeps opens stays = record {
   Good = λ p s. (p.pages ≤ 4096) × IsPoolOf p s;
   opens = λ p range. (search rules, opens p);

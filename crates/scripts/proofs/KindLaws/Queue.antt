@@ -6,10 +6,11 @@ use Rattle.shared_queue.specs.State.{QueueState, IsQueueOf, opening_state}
 use Rattle.shared_queue.specs.Answer.{queue_answer}
 use Rattle.shared_queue.specs.declared.call.QueueCall.{QueueCall}
 use Rattle.shared_queue.specs.declared.queue.TheConstants.{MOST_THREADS}
+use Rattle.kernel_object.specs.Kinds.Queue.{of_queue}
 use Rattle.scripts.specs.declared.record.form.Form.{Form}
 use Rattle.scripts.specs.declared.settings.fault.SettingsKey.TheVariants.{Threads}
 use Rattle.scripts.specs.Kinds.Definition.{Tells}
-use Rattle.scripts.specs.Kinds.Queue.{of_queue, queue_kind}
+use Rattle.scripts.specs.Kinds.Queue.{queue_text}
 use Rattle.scripts.specs.Ranges.{reply_fits}
 use Rattle.scripts.specs.Row.{limit}
 use Rattle.scripts.proofs.KindLaws.Laws.{KindLaws, KindKeeps, all_told, limit_again, small_number, wide_fits}
@@ -18,10 +19,10 @@ use Rattle.scripts.proofs.RecordLengths.{number_le}
 use Rattle.scripts.proofs.SettingsKeys.{number_in, one_fits}
 use Rattle.scripts.proofs.Spellings.{field_takes}
 
-pub queue_told : (form : Form) (t : ℕ) → Tells queue_kind form t
-queue_told form t = all_told queue_kind (λ p. tt) form t
+pub queue_told : (form : Form) (t : ℕ) → Tells queue_text form t
+queue_told form t = all_told queue_text (λ p. tt) form t
 
-pub queue_laws : KindLaws queue_kind
+pub queue_laws : KindLaws queue_text
 queue_laws = record {
   take = λ form ws read e. let number = field_takes (limit MOST_THREADS 0) ws read e in record { text = number.text; fits = number.fit; told = queue_told form read.0 };
   again = λ form t rest fits told. limit_again MOST_THREADS t rest (omega arith) fits;
@@ -36,7 +37,7 @@ queue_fits : (n : ℕ) (q : QueueState) (c : QueueCall) → n ≤ 1024 → IsQue
 queue_fits = search (rules, distinct_length, wide_fits)
 
 -- by the law of a queue's states
-pub queue_keeps : ((n : ℕ) → IsQueueOf n (opening_state n)) → ((n : ℕ) (q : QueueState) (c : QueueCall) → IsQueueOf n q → IsQueueOf n (queue_answer q c).0) → KindKeeps queue_kind
+pub queue_keeps : ((n : ℕ) → IsQueueOf n (opening_state n)) → ((n : ℕ) (q : QueueState) (c : QueueCall) → IsQueueOf n q → IsQueueOf n (queue_answer q c).0) → KindKeeps queue_text
 queue_keeps opens stays = record {
   Good = λ n q. (n ≤ 1024) × IsQueueOf n q;
   opens = λ n range. (leb-true n 1024 (and_parts (nat_le 1 n) (nat_le n 1024) range).1, opens n);

@@ -14,10 +14,11 @@ use Rattle.wake_list.specs.declared.call.SchedReply.{SchedReply}
 use Rattle.wake_list.specs.declared.call.SchedReply.TheVariants.{BadChannel}
 use Rattle.wake_list.specs.declared.sched.SchedParams.{SchedParams}
 use Rattle.wake_list.specs.declared.sched.TheConstants.{MOST_THREADS, MOST_CHANNELS}
+use Rattle.kernel_object.specs.Kinds.Sched.{of_sched}
 use Rattle.scripts.specs.declared.record.form.Form.{Form}
 use Rattle.scripts.specs.declared.settings.fault.Place.{Place}
 use Rattle.scripts.specs.declared.settings.fault.SettingsKey.TheVariants.{Threads, Channels}
-use Rattle.scripts.specs.Kinds.Sched.{of_sched, sched_kind, sched_params_at, sched_params_in}
+use Rattle.scripts.specs.Kinds.Sched.{sched_params_at, sched_params_in, sched_text}
 use Rattle.scripts.specs.Ranges.{reply_fits}
 use Rattle.scripts.specs.Row.{limit, field_at}
 use Rattle.scripts.specs.SettingsKeys.{key_in, number_from}
@@ -39,16 +40,16 @@ sched_parts p range =
 sched_range : (p : SchedParams) → (nat_le 1 p.threads && nat_le p.threads MOST_THREADS) ≡ true → (nat_le 1 p.channels && nat_le p.channels MOST_CHANNELS) ≡ true → is_in_range p ≡ true
 sched_range p threads channels = let both = and_parts (nat_le 1 p.channels) (nat_le p.channels 64) channels in both_true (both_true threads both.0) both.1
 
-sched_take : (form : Form) (ws : List (List ℕ)) (read : SchedParams × List (List ℕ)) → sched_params_at ws ≡ Some read → ReadsParams sched_kind form ws read
+sched_take : (form : Form) (ws : List (List ℕ)) (read : SchedParams × List (List ℕ)) → sched_params_at ws ≡ Some read → ReadsParams sched_text form ws read
 unfolding sched_params_at
 sched_take form ws read e = bind_some (field_at (limit MOST_THREADS 0) ws) _ read e (λ n found next. bind_some (field_at (limit MOST_CHANNELS 0) n.1) _ read next (λ m more last.
     let is : ◌≡◌ {A = SchedParams × List (List ℕ)} (record { threads = n.0; channels = m.0 }, m.1) read = cc in
     let threads = field_takes (limit MOST_THREADS 0) ws n found in
     let channels = field_takes (limit MOST_CHANNELS 0) n.1 m more in
-    subst (ReadsParams sched_kind form ws) is (record {
+    subst (ReadsParams sched_text form ws) is (record {
       text = threads.text ∙ ap (λ l. decimal n.0 ∷ l) channels.text;
       fits = sched_range (record { threads = n.0; channels = m.0 }) threads.fit channels.fit;
-      told = all_told sched_kind (λ p. tt) form (record { threads = n.0; channels = m.0 });
+      told = all_told sched_text (λ p. tt) form (record { threads = n.0; channels = m.0 });
     })))
 
 sched_again : (p : SchedParams) (rest : List (List ℕ)) → is_in_range p ≡ true → sched_params_at (decimal p.threads ∷ decimal p.channels ∷ rest) ≡ Some (p, rest)
@@ -66,7 +67,7 @@ sched_set place ms p e =
     subst (λ q. is_in_range q ≡ true) same (sched_range (record { threads = threads.0; channels = channels.0 })
     (one_fits threads.0 MOST_THREADS (number_in place Threads MOST_THREADS ms threads.0 threads.1)) (one_fits channels.0 MOST_CHANNELS (number_in place Channels MOST_CHANNELS ms channels.0 channels.1)))
 
-pub sched_laws : KindLaws sched_kind
+pub sched_laws : KindLaws sched_text
 sched_laws = record {
   take = sched_take;
   again = λ form p rest fits told. sched_again p rest fits;
@@ -112,7 +113,7 @@ answer_fits n s (Wake c) few had once = wake_fits n s c (nat_le (length s.channe
 answer_fits n s (WakeAll c) few had once = search (rules, distinct_length, length-append, wide_fits)
 
 -- by the law of a scheduler's states
-pub sched_keeps : ((p : SchedParams) → IsSchedOf p (opening_state p)) → ((p : SchedParams) (s : SchedState) (c : SchedCall) → IsSchedOf p s → IsSchedOf p (sched_answer s c).0) → KindKeeps sched_kind
+pub sched_keeps : ((p : SchedParams) → IsSchedOf p (opening_state p)) → ((p : SchedParams) (s : SchedState) (c : SchedCall) → IsSchedOf p s → IsSchedOf p (sched_answer s c).0) → KindKeeps sched_text
 sched_keeps opens stays = record {
   Good = λ p s. (p.threads ≤ 1024) × IsSchedOf p s;
   opens = λ p range. (search rules, opens p);

@@ -1,7 +1,7 @@
--- What a kind of object is: the record that each kind gives one value of.
-use Rattle.std.specs.Prelude.{ℕ, Bool, List, Option, Result}
+-- How a kind of object is spelled: the record that each kind gives one value of.
+use Rattle.std.specs.Prelude.{ℕ, List, Option, Result}
 use Rattle.toml.specs.Data.{Members}
-use Rattle.scripts.specs.declared.objects.kernel_call.KReply.{KReply}
+use Rattle.kernel_object.specs.Kinds.Definition.{KindDefinition}
 use Rattle.scripts.specs.declared.record.form.Form.{Form}
 use Rattle.scripts.specs.declared.record.form.Form.TheVariants.{One, Two}
 use Rattle.scripts.specs.declared.settings.fault.BadSettings.{BadSettings}
@@ -9,37 +9,25 @@ use Rattle.scripts.specs.declared.settings.fault.Place.{Place}
 use Rattle.scripts.specs.declared.settings.fault.SettingsKey.{SettingsKey}
 use Rattle.scripts.specs.Row.{Row}
 
-pub record KindDefinition : Type 1 where
-  -- what an object is opened with
-  pub Params : Type 0
-  pub State : Type 0
-  pub Call : Type 0
-  -- whether an object can be opened with the parameters
-  pub in_range : Params → Bool
-  -- a new object
-  pub opening : Params → State
-  -- the state afterwards, and the reply with the text of the kind's own
-  pub answer : State → Call → State × KReply
-  -- the word that stands for the kind
-  pub word : List ℕ
+pub record KindText (d : KindDefinition) : Type 1 where
   -- record 1 tells these parameters
-  pub ToldByFirst : Params → Type 0
+  pub ToldByFirst : d.Params → Type 0
   -- how parameters are spelled behind the kind's word
-  pub params_words : Form → Params → List (List ℕ)
+  pub params_words : Form → d.Params → List (List ℕ)
   -- the parameters that are next, and the words behind them
-  pub params_at : Form → List (List ℕ) → Option (Params × List (List ℕ))
+  pub params_at : Form → List (List ℕ) → Option (d.Params × List (List ℕ))
   -- how a call is spelled
-  pub row : Call → Row
+  pub row : d.Call → Row
   -- the call of the same word with these numbers
-  pub filled : Call → List ℕ → Call
+  pub filled : d.Call → List ℕ → d.Call
   -- a call of each word
-  pub samples : List Call
+  pub samples : List d.Call
   -- the parameters of a table of settings
-  pub params_in : Place → Members → Result Params BadSettings
+  pub params_in : Place → Members → Result d.Params BadSettings
   -- the keys of settings that are its own
   pub keys : List SettingsKey
 
 -- the form tells these parameters of the kind
-abbrev pub Tells : (d : KindDefinition) → Form → d.Params → Type 0
-Tells d Two p = Unit {0}
-Tells d One p = d.ToldByFirst p
+abbrev pub Tells : {d : KindDefinition} → KindText d → Form → d.Params → Type 0
+Tells t Two p = Unit {0}
+Tells t One p = t.ToldByFirst p

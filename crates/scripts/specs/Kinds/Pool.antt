@@ -1,18 +1,13 @@
--- A pool of pages, as one record.
+-- How a pool of pages is spelled.
 use Rattle.std.specs.Prelude.{◌≡◌, ℕ, pos, nat_abs, int_le, true, false, ◌&&◌, ◌==◌, if◌then◌else◌, Bool, replicate, List, [], ◌∷◌, map, Option, Some, Result, Ok as Read, Err, codes, decimal}
 use Rattle.std.specs.Option.{option_map_or}
-use Rattle.page_pool.specs.State as state
-use Rattle.page_pool.specs.Answer.{pool_answer}
 use Rattle.page_pool.specs.Unlimited.{full_quotas}
 use Rattle.page_pool.specs.declared.call.PoolCall.{PoolCall}
 use Rattle.page_pool.specs.declared.call.PoolCall.TheVariants.{Alloc, Free, Left}
-use Rattle.page_pool.specs.declared.call.PoolReply.{PoolReply}
-use Rattle.page_pool.specs.declared.call.PoolReply.TheVariants as Pool
 use Rattle.page_pool.specs.declared.params.PoolParams.{PoolParams}
 use Rattle.page_pool.specs.declared.params.TheConstants.{MOST_PAGES, OWNERS}
 use Rattle.toml.specs.Data.{Data, Items, no_items, item, Members, as_integer, as_array}
-use Rattle.scripts.specs.declared.objects.kernel_call.KReply.{KReply}
-use Rattle.scripts.specs.declared.objects.kernel_call.KReply.TheVariants.{Ok, Count, Page, NoPage, OverQuota, BadOwner, NotYours, NotTaken, BadPage}
+use Rattle.kernel_object.specs.Kinds.Pool.{pool_kind}
 use Rattle.scripts.specs.declared.record.form.Form.{Form}
 use Rattle.scripts.specs.declared.record.form.Form.TheVariants.{One, Two}
 use Rattle.scripts.specs.declared.settings.fault.BadSettings.{BadSettings}
@@ -20,23 +15,11 @@ use Rattle.scripts.specs.declared.settings.fault.Cause.{Cause}
 use Rattle.scripts.specs.declared.settings.fault.Cause.TheVariants.{WrongType, OutOfRange}
 use Rattle.scripts.specs.declared.settings.fault.Place.{Place}
 use Rattle.scripts.specs.declared.settings.fault.SettingsKey.TheVariants.{Pages, Quotas}
-use Rattle.scripts.specs.Kinds.Definition.{KindDefinition}
 use Rattle.scripts.specs.Reading.{◌>>=◌}
 use Rattle.scripts.specs.Row.{Row, first, others, wide, limit, up_to, field_at, numbers_at}
 use Rattle.scripts.specs.SettingsKeys.{key_in, key_or, number_from, count_items}
 use Rattle.scripts.specs.Then.{◌>>=◌ as ◌then◌}
-
--- a page pool's reply, as the reply with its text
-abbrev pub of_pool : PoolReply → KReply
-of_pool Pool.Ok = Ok
-of_pool (Pool.Page p) = Page p
-of_pool Pool.NoPage = NoPage
-of_pool Pool.OverQuota = OverQuota
-of_pool Pool.BadOwner = BadOwner
-of_pool Pool.NotYours = NotYours
-of_pool Pool.NotTaken = NotTaken
-of_pool Pool.BadPage = BadPage
-of_pool (Pool.Count n) = Count n
+use Rattle.scripts.specs.Kinds.Definition.{KindText}
 
 -- how a call is spelled
 abbrev pub pool_row : PoolCall → Row
@@ -99,15 +82,8 @@ pool_params_in place ms = key_in place Pages (number_from MOST_PAGES) ms then λ
 
 -- ---- the record
 
-abbrev pub pool_kind : KindDefinition
-pool_kind = record {
-  Params = PoolParams;
-  State = state.PoolState;
-  Call = PoolCall;
-  in_range = state.is_in_range;
-  opening = state.opening_state;
-  answer = λ s c. ((pool_answer s c).0, of_pool (pool_answer s c).1);
-  word = codes "pool";
+abbrev pub pool_text : KindText pool_kind
+pool_text = record {
   -- without quotas, only a pool whose quotas are all its number of pages
   ToldByFirst = λ p. p ≡ full_quotas p.pages;
   params_words = λ form p. decimal p.pages ∷ quota_words form p.quotas;

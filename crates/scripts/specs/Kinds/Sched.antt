@@ -1,34 +1,19 @@
--- A scheduler, as one record.
+-- How a scheduler is spelled.
 use Rattle.std.specs.Prelude.{ℕ, List, [], ◌∷◌, Option, Some, Result, Ok as Read, codes, decimal}
-use Rattle.wake_list.specs.State as state
-use Rattle.wake_list.specs.Answer.{sched_answer}
 use Rattle.wake_list.specs.declared.call.SchedCall.{SchedCall}
 use Rattle.wake_list.specs.declared.call.SchedCall.TheVariants.{Ready, Next, Sleep, Wake, WakeAll}
-use Rattle.wake_list.specs.declared.call.SchedReply.{SchedReply}
-use Rattle.wake_list.specs.declared.call.SchedReply.TheVariants as Sched
 use Rattle.wake_list.specs.declared.sched.SchedParams.{SchedParams}
 use Rattle.wake_list.specs.declared.sched.TheConstants.{MOST_THREADS, MOST_CHANNELS}
 use Rattle.toml.specs.Data.{Members}
-use Rattle.scripts.specs.declared.objects.kernel_call.KReply.{KReply}
-use Rattle.scripts.specs.declared.objects.kernel_call.KReply.TheVariants.{Ok, Already, BadThread, BadChannel, Thread, Empty, Count}
+use Rattle.kernel_object.specs.Kinds.Sched.{sched_kind}
 use Rattle.scripts.specs.declared.settings.fault.BadSettings.{BadSettings}
 use Rattle.scripts.specs.declared.settings.fault.Place.{Place}
 use Rattle.scripts.specs.declared.settings.fault.SettingsKey.TheVariants.{Threads, Channels}
-use Rattle.scripts.specs.Kinds.Definition.{KindDefinition}
 use Rattle.scripts.specs.Reading.{◌>>=◌}
 use Rattle.scripts.specs.Row.{Row, first, others, wide, limit, field_at}
 use Rattle.scripts.specs.SettingsKeys.{key_in, number_from}
 use Rattle.scripts.specs.Then.{◌>>=◌ as ◌then◌}
-
--- a scheduler's reply, as the reply with its text
-abbrev pub of_sched : SchedReply → KReply
-of_sched Sched.Ok = Ok
-of_sched Sched.BadThread = BadThread
-of_sched Sched.BadChannel = BadChannel
-of_sched Sched.Already = Already
-of_sched Sched.Empty = Empty
-of_sched (Sched.Thread t) = Thread t
-of_sched (Sched.Count n) = Count n
+use Rattle.scripts.specs.Kinds.Definition.{KindText}
 
 -- how a call is spelled
 abbrev pub sched_row : SchedCall → Row
@@ -57,15 +42,8 @@ sched_params_at ws = do
 unfoldable pub sched_params_in : Place → Members → Result SchedParams BadSettings
 sched_params_in place ms = key_in place Threads (number_from MOST_THREADS) ms then λ threads. key_in place Channels (number_from MOST_CHANNELS) ms then λ channels. Read (record { threads = threads; channels = channels })
 
-abbrev pub sched_kind : KindDefinition
-sched_kind = record {
-  Params = SchedParams;
-  State = state.SchedState;
-  Call = SchedCall;
-  in_range = state.is_in_range;
-  opening = state.opening_state;
-  answer = λ s c. ((sched_answer s c).0, of_sched (sched_answer s c).1);
-  word = codes "sched";
+abbrev pub sched_text : KindText sched_kind
+sched_text = record {
   ToldByFirst = λ p. Unit {0};
   params_words = λ form p. decimal p.threads ∷ decimal p.channels ∷ [];
   params_at = λ form ws. sched_params_at ws;

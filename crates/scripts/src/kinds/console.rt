@@ -3,12 +3,12 @@
 ghost use Rattle.std.specs.Prelude.{◌≡◌, true};
 ghost use Rattle.std.specs.Option.{option_map};
 ghost use Rattle.toml.specs.View.{table_view};
-ghost use Rattle.scripts.specs.Kinds.Console.{console_kind, of_console, console_row, console_filled};
+ghost use Rattle.kernel_object.specs.declared.kind.Kind.TheVariants.{Console};
+ghost use Rattle.scripts.specs.Kinds.Console.{console_text, console_row, console_filled};
 ghost use Rattle.scripts.specs.Output.{PutsWords};
 ghost use Rattle.scripts.specs.Reading.{left};
 ghost use Rattle.scripts.specs.Row.{limit, field_at, row_fits, refilled_row};
 ghost use Rattle.scripts.specs.SettingsText.{keys_of};
-ghost use Rattle.scripts.specs.declared.objects.kind.Kind.TheVariants.{Console};
 ghost use Rattle.scripts.specs.declared.record.form.TheConstants.{WRITTEN};
 
 use crate::settings::keys::number_of;
@@ -16,25 +16,10 @@ use crate::tables::read::limited;
 use crate::tables::spelling::first;
 use crate::tables::write::put_number;
 use crate::text::words::Words;
-use crate::{BadSettings, Buffered, Field, KReply, Place, SettingsKey, Spelling};
-use console_ring::{ConsoleCall, ConsoleReply, MOST_BYTES};
+use crate::{BadSettings, Buffered, Field, Place, SettingsKey, Spelling};
+use console_ring::{ConsoleCall, MOST_BYTES};
 use event_log::Sink;
 use toml::Table;
-
-impl KReply {
-    /// A console's reply, as the reply with its text.
-    pub fn of_console(reply: ConsoleReply) -> KReply
-        ensures { result ≡ of_console reply }
-    {
-        match reply {
-            ConsoleReply::Ok => KReply::Ok,
-            ConsoleReply::Dropped(byte) => KReply::Dropped(byte),
-            ConsoleReply::Empty => KReply::Empty,
-            ConsoleReply::Byte(byte) => KReply::Byte(byte),
-            ConsoleReply::Count(count) => KReply::Count(count),
-        }
-    }
-}
 
 /// How a call is spelled.
 #[inline(always)]
@@ -71,14 +56,14 @@ pub(crate) fn params(at: Words<'_>) -> Option<(u32, Words<'_>)>
 
 /// Puts the number of bytes.
 pub(crate) fn put_params<W: Sink>(text: &mut Buffered<W>, bytes: u32)
-    ensures { PutsWords W.Sink text.old text.new (console_kind.params_words WRITTEN bytes) }
+    ensures { PutsWords W.Sink text.old text.new (console_text.params_words WRITTEN bytes) }
 {
     put_number(text, u64::from(bytes));
 }
 
 /// The number of bytes of a table of settings.
 pub(crate) fn params_in(table: &Table, place: Place) -> Result<u32, BadSettings>
-    ensures { result ≡ console_kind.params_in place (table_view table.now) }
+    ensures { result ≡ console_text.params_in place (table_view table.now) }
 {
     number_of(table, place, SettingsKey::Bytes, MOST_BYTES)
 }

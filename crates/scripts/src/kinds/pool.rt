@@ -3,12 +3,12 @@
 ghost use Rattle.std.specs.Prelude.{◌≡◌, length, map, replicate, decimal};
 ghost use Rattle.std.specs.Option.{option_map};
 ghost use Rattle.toml.specs.View.{view, table_view, items_view};
-ghost use Rattle.scripts.specs.Kinds.Pool.{pool_kind, of_pool, pool_row, pool_filled, all_quotas_at, quotas_at, pool_params_at, are_integers, quota_from, each_quota, quotas_from, pool_params_in};
+ghost use Rattle.kernel_object.specs.declared.kind.Kind.TheVariants.{Pool};
+ghost use Rattle.scripts.specs.Kinds.Pool.{pool_text, pool_row, pool_filled, all_quotas_at, quotas_at, pool_params_at, are_integers, quota_from, each_quota, quotas_from, pool_params_in};
 ghost use Rattle.scripts.specs.Output.{PutsWords};
 ghost use Rattle.scripts.specs.Reading.{left};
 ghost use Rattle.scripts.specs.SettingsKeys.{key_or};
 ghost use Rattle.scripts.specs.SettingsText.{keys_of};
-ghost use Rattle.scripts.specs.declared.objects.kind.Kind.TheVariants.{Pool};
 ghost use Rattle.scripts.specs.declared.record.form.TheConstants.{WRITTEN};
 
 use crate::settings::keys::{at, get, number_of};
@@ -16,29 +16,10 @@ use crate::tables::read::{limited, quota as next_quota};
 use crate::tables::spelling::{first, second};
 use crate::tables::write::put_number;
 use crate::text::words::Words;
-use crate::{BadSettings, Buffered, Cause, Field, Form, KReply, Place, SettingsKey, Spelling};
+use crate::{BadSettings, Buffered, Cause, Field, Form, Place, SettingsKey, Spelling};
 use event_log::Sink;
-use page_pool::{MOST_PAGES, OWNERS, PoolCall, PoolParams, PoolReply};
+use page_pool::{MOST_PAGES, OWNERS, PoolCall, PoolParams};
 use toml::{Table, Value};
-
-impl KReply {
-    /// A page pool's reply, as the reply with its text.
-    pub fn of_pool(reply: PoolReply) -> KReply
-        ensures { result ≡ of_pool reply }
-    {
-        match reply {
-            PoolReply::Ok => KReply::Ok,
-            PoolReply::Page(page) => KReply::Page(page),
-            PoolReply::NoPage => KReply::NoPage,
-            PoolReply::OverQuota => KReply::OverQuota,
-            PoolReply::BadOwner => KReply::BadOwner,
-            PoolReply::NotYours => KReply::NotYours,
-            PoolReply::NotTaken => KReply::NotTaken,
-            PoolReply::BadPage => KReply::BadPage,
-            PoolReply::Count(count) => KReply::Count(count),
-        }
-    }
-}
 
 /// How a call is spelled.
 #[inline(always)]
@@ -116,7 +97,7 @@ fn put_numbers<W: Sink>(text: &mut Buffered<W>, numbers: &[u32])
 
 /// Puts the number of pages and the quotas.
 pub(crate) fn put_params<W: Sink>(text: &mut Buffered<W>, params: &PoolParams)
-    ensures { PutsWords W.Sink text.old text.new (pool_kind.params_words WRITTEN params.now) }
+    ensures { PutsWords W.Sink text.old text.new (pool_text.params_words WRITTEN params.now) }
 {
     put_number(text, u64::from(params.pages));
     put_numbers(text, &params.quotas);

@@ -3,12 +3,12 @@
 ghost use Rattle.std.specs.Prelude.{◌≡◌};
 ghost use Rattle.std.specs.Option.{option_map};
 ghost use Rattle.toml.specs.View.{table_view};
-ghost use Rattle.scripts.specs.Kinds.Queue.{queue_kind, of_queue, queue_row, queue_filled};
+ghost use Rattle.kernel_object.specs.declared.kind.Kind.TheVariants.{Queue};
+ghost use Rattle.scripts.specs.Kinds.Queue.{queue_text, queue_row, queue_filled};
 ghost use Rattle.scripts.specs.Output.{PutsWords};
 ghost use Rattle.scripts.specs.Reading.{left};
 ghost use Rattle.scripts.specs.Row.{limit, field_at};
 ghost use Rattle.scripts.specs.SettingsText.{keys_of};
-ghost use Rattle.scripts.specs.declared.objects.kind.Kind.TheVariants.{Queue};
 ghost use Rattle.scripts.specs.declared.record.form.TheConstants.{WRITTEN};
 
 use crate::settings::keys::number_of;
@@ -16,27 +16,10 @@ use crate::tables::read::limited;
 use crate::tables::spelling::first;
 use crate::tables::write::put_number;
 use crate::text::words::Words;
-use crate::{BadSettings, Buffered, Field, KReply, Place, SettingsKey, Spelling};
+use crate::{BadSettings, Buffered, Field, Place, SettingsKey, Spelling};
 use event_log::Sink;
-use shared_queue::{MOST_THREADS, QueueCall, QueueReply};
+use shared_queue::{MOST_THREADS, QueueCall};
 use toml::Table;
-
-impl KReply {
-    /// A queue's reply, as the reply with its text.
-    pub fn of_queue(reply: QueueReply) -> KReply
-        ensures { result ≡ of_queue reply }
-    {
-        match reply {
-            QueueReply::Ok => KReply::Ok,
-            QueueReply::BadThread => KReply::BadThread,
-            QueueReply::Already => KReply::Already,
-            QueueReply::Empty => KReply::Empty,
-            QueueReply::Absent => KReply::Absent,
-            QueueReply::Thread(thread) => KReply::Thread(thread),
-            QueueReply::Count(count) => KReply::Count(count),
-        }
-    }
-}
 
 /// How a call is spelled.
 #[inline(always)]
@@ -74,14 +57,14 @@ pub(crate) fn params(at: Words<'_>) -> Option<(u32, Words<'_>)>
 
 /// Puts the number of threads.
 pub(crate) fn put_params<W: Sink>(text: &mut Buffered<W>, threads: u32)
-    ensures { PutsWords W.Sink text.old text.new (queue_kind.params_words WRITTEN threads) }
+    ensures { PutsWords W.Sink text.old text.new (queue_text.params_words WRITTEN threads) }
 {
     put_number(text, u64::from(threads));
 }
 
 /// The number of threads of a table of settings.
 pub(crate) fn params_in(table: &Table, place: Place) -> Result<u32, BadSettings>
-    ensures { result ≡ queue_kind.params_in place (table_view table.now) }
+    ensures { result ≡ queue_text.params_in place (table_view table.now) }
 {
     number_of(table, place, SettingsKey::Threads, MOST_THREADS)
 }

@@ -3,11 +3,11 @@
 ghost use Rattle.std.specs.Prelude.{◌≡◌};
 ghost use Rattle.std.specs.Option.{option_map};
 ghost use Rattle.toml.specs.View.{table_view};
-ghost use Rattle.scripts.specs.Kinds.Sched.{sched_kind, of_sched, sched_row, sched_filled, sched_params_at, sched_params_in};
+ghost use Rattle.kernel_object.specs.declared.kind.Kind.TheVariants.{Sched};
+ghost use Rattle.scripts.specs.Kinds.Sched.{sched_text, sched_row, sched_filled, sched_params_at, sched_params_in};
 ghost use Rattle.scripts.specs.Output.{PutsWords};
 ghost use Rattle.scripts.specs.Reading.{left};
 ghost use Rattle.scripts.specs.SettingsText.{keys_of};
-ghost use Rattle.scripts.specs.declared.objects.kind.Kind.TheVariants.{Sched};
 ghost use Rattle.scripts.specs.declared.record.form.TheConstants.{WRITTEN};
 
 use crate::settings::keys::number_of;
@@ -15,27 +15,10 @@ use crate::tables::read::limited;
 use crate::tables::spelling::{first, second};
 use crate::tables::write::put_number;
 use crate::text::words::Words;
-use crate::{BadSettings, Buffered, Field, KReply, Place, SettingsKey, Spelling};
+use crate::{BadSettings, Buffered, Field, Place, SettingsKey, Spelling};
 use event_log::Sink;
 use toml::Table;
-use wake_list::{MOST_CHANNELS, MOST_THREADS, SchedCall, SchedParams, SchedReply};
-
-impl KReply {
-    /// A scheduler's reply, as the reply with its text.
-    pub fn of_sched(reply: SchedReply) -> KReply
-        ensures { result ≡ of_sched reply }
-    {
-        match reply {
-            SchedReply::Ok => KReply::Ok,
-            SchedReply::BadThread => KReply::BadThread,
-            SchedReply::BadChannel => KReply::BadChannel,
-            SchedReply::Already => KReply::Already,
-            SchedReply::Empty => KReply::Empty,
-            SchedReply::Thread(thread) => KReply::Thread(thread),
-            SchedReply::Count(count) => KReply::Count(count),
-        }
-    }
-}
+use wake_list::{MOST_CHANNELS, MOST_THREADS, SchedCall, SchedParams};
 
 /// How a call is spelled.
 #[inline(always)]
@@ -86,7 +69,7 @@ pub(crate) fn params(at: Words<'_>) -> Option<(SchedParams, Words<'_>)>
 
 /// Puts the numbers of threads and channels.
 pub(crate) fn put_params<W: Sink>(text: &mut Buffered<W>, params: &SchedParams)
-    ensures { PutsWords W.Sink text.old text.new (sched_kind.params_words WRITTEN params.now) }
+    ensures { PutsWords W.Sink text.old text.new (sched_text.params_words WRITTEN params.now) }
 {
     put_number(text, u64::from(params.threads));
     put_number(text, u64::from(params.channels));

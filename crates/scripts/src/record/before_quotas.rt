@@ -7,8 +7,8 @@ ghost use Rattle.scripts.specs.RecordRanges.{Record, RecordFitsIn};
 ghost use Rattle.scripts.specs.Runs.{opened_of};
 ghost use Rattle.scripts.specs.Unlimited.{WasSound};
 
-use crate::KernelObject;
 use event_log::SeqObject;
+use kernel_object::KernelObject;
 use page_pool::{stays_whole, unlimited_by_full_quotas};
 
 /// A law of records that record 1 can tell, without effect: they are sound exactly if they were by the definitions from

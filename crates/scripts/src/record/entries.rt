@@ -1,7 +1,7 @@
 //! Handing over the entries of a record.
 
 ghost use Rattle.std.specs.Prelude.{◌≡◌, true, false, Some, None, Ok, Err, OnOk, OnErr};
-ghost use Rattle.scripts.specs.KernelTypes.{KernelEntry};
+ghost use Rattle.kernel_object.specs.KernelTypes.{KernelEntry};
 ghost use Rattle.scripts.specs.Keeping.{with_entry};
 ghost use Rattle.scripts.specs.Reading.{words};
 ghost use Rattle.scripts.specs.RecordParts.{Agree};

@@ -5,8 +5,8 @@ ghost use Rattle.std.specs.List.{list_all};
 ghost use Rattle.scripts.specs.declared.record.form.Form.TheVariants.{One};
 ghost use Rattle.scripts.specs.Forms.{version, most_cpus, has_reply, has_steps, has_done};
 
-use crate::{KReply, KernelObject};
 use event_log::{Done, Step};
+use kernel_object::{KReply, KernelObject};
 use sound_run::MOST_CPUS;
 
 /// The most CPUs of a record 1.

@@ -2,16 +2,17 @@
 
 ghost use Rattle.std.specs.Prelude.{true, false, ◌≡◌, ◌<◌, ◌≤◌, List, Ok, length, OnOk, OnErr};
 ghost use Rattle.event_log.specs.declared.logged.TheConstants.{MOST_EVENTS};
+ghost use Rattle.kernel_object.specs.KernelTypes.{KernelStep};
 ghost use Rattle.scripts.specs.declared.record.form.TheConstants.{WRITTEN};
 ghost use Rattle.scripts.specs.declared.script.cpu_scripts.TheConstants.{MOST_ENTRIES};
 ghost use Rattle.scripts.specs.Keeping.{Parts, no_parts, with_count, with_event, with_log, with_entry, with_transcript, InLogs, InTranscripts, IsAtHead};
-ghost use Rattle.scripts.specs.KernelTypes.{KernelStep};
 ghost use Rattle.scripts.specs.RecordRanges.{EventFits, EntryFits};
 ghost use Rattle.scripts.specs.Settings.{SettingsFit};
 ghost use Rattle.scripts.specs.StepTexts.{SpellsSteps, SpellsTail, entry_of};
 
-use crate::{KCall, KernelObject, ObjectSettings};
+use crate::ObjectSettings;
 use event_log::{Entry, Event, OutOfMemory};
+use kernel_object::{KCall, KernelObject};
 
 /// Who is handed over the parts of a record as they are read, in their order, and keeps of them what it needs. Contracts
 /// speak of all that was handed over, of which nothing has to lie in memory.

@@ -4,9 +4,10 @@ ghost use Rattle.std.specs.Prelude.{◌≡◌, ◌↔◌, IsTrue, length, map, n
 ghost use Rattle.std.specs.List.{list_all};
 ghost use Rattle.scripts.specs.ScriptText.{ScriptsFit, ScriptsWithin};
 
+use crate::Settings;
 use crate::clones::copy_all;
-use crate::{KernelObject, Settings};
 use event_log::{OutOfMemory, Todo};
+use kernel_object::KernelObject;
 use std::alloc::Global;
 use std::marker::Model;
 
@@ -22,7 +23,7 @@ pub struct Scripts {
 
 impl Model for Scripts {
     ghost use Rattle.std.specs.Prelude.{List, map};
-    ghost use Rattle.scripts.specs.KernelTypes.{KernelTodo};
+    ghost use Rattle.kernel_object.specs.KernelTypes.{KernelTodo};
     ghost use Rattle.scripts.specs.ScriptText.{ScriptsWithin};
 
     ghost Value = { List (List KernelTodo) };

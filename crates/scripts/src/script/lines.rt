@@ -10,8 +10,9 @@ use crate::script::cpu_scripts::MOST_ENTRIES;
 use crate::script::request_line::request;
 use crate::text::fault::LineFault;
 use crate::text::line_machine::{MOST_BYTES, Pieces, TakesLines};
-use crate::{KernelObject, LinesFault, Request, Scripts, Settings};
+use crate::{LinesFault, Request, Scripts, Settings};
 use event_log::Todo;
+use kernel_object::KernelObject;
 use std::alloc::Global;
 use std::marker::Model;
 

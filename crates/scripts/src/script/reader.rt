@@ -1,7 +1,7 @@
 //! Reading scripts.
 
 ghost use Rattle.std.specs.Prelude.{◌≡◌, ℕ, List, length, Err, IfOk, IfErr};
-ghost use Rattle.scripts.specs.KernelTypes.{KernelTodo};
+ghost use Rattle.kernel_object.specs.KernelTypes.{KernelTodo};
 ghost use Rattle.scripts.specs.ScriptFaults.{NamesFirstBad};
 ghost use Rattle.scripts.specs.ScriptText.{AreScripts, ScriptsFit};
 

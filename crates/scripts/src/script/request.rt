@@ -1,7 +1,7 @@
 //! What a line of the scripts asks for.
 
-use crate::KernelObject;
 use event_log::Todo;
+use kernel_object::KernelObject;
 
 /// An entry of the scripts, with its CPU.
 #[derive(Drop)]

@@ -9,9 +9,10 @@ ghost use Rattle.scripts.specs.Settings.{SettingsFit};
 use crate::settings::lookup::place;
 use crate::text::call_list::list;
 use crate::text::words::number;
-use crate::{KCall, Request, Settings};
+use crate::{Request, Settings};
 use arrayvec::ArrayVec;
 use event_log::Todo;
+use kernel_object::KCall;
 
 /// What the words of the line spell, read from left to right.
 #[tactic(auto, using(crate::proofs::Sentences::words_some), unfolding(crate::specs::RecordReading::request_at))]

@@ -15,11 +15,10 @@ use crate::settings::keys::{at, find, number_of, refuse_others};
 use crate::settings::lookup::is_taken;
 use crate::tables::lock_words::lock_of_word;
 use crate::text::name::name_of;
-use crate::{
-    BadSettings, Cause, Kind, ObjectSettings, Place, Settings, SettingsFault, SettingsKey,
-};
+use crate::{BadSettings, Cause, ObjectSettings, Place, Settings, SettingsFault, SettingsKey};
 use arrayvec::ArrayString;
 use event_log::{MOST_EVENTS, Series};
+use kernel_object::Kind;
 use sound_run::{LockKind, MOST_CELLS, MOST_CPUS};
 use std::alloc::Global;
 use toml::{Table, Value};

@@ -1,9 +1,10 @@
 //! Values that are found fast.
 
+use crate::Spelled;
 use crate::tables::read::value_of;
 use crate::text::words::Words;
-use crate::{KCall, KReply, Spelled};
 use console_ring::ConsoleCall;
+use kernel_object::{KCall, KReply};
 use page_pool::PoolCall;
 use shared_queue::QueueCall;
 use wake_list::SchedCall;

@@ -5,9 +5,10 @@ ghost use Rattle.std.specs.Option.{option_map};
 ghost use Rattle.scripts.specs.Reading.{left};
 ghost use Rattle.scripts.specs.RecordReading.{params_at};
 
+use crate::Form;
 use crate::kinds::params_of;
 use crate::text::words::{Words, word};
-use crate::{Form, KParams, Kind};
+use kernel_object::{KParams, Kind};
 
 /// What an object is opened with, and the words behind it.
 #[tactic(auto, unfolding(crate::specs::RecordReading::params_at))]

@@ -2,8 +2,9 @@
 
 use crate::kinds::{console, pool, queue, sched};
 use crate::tables::spelling::first;
-use crate::{Field, KCall, KReply, Spelled, Spelling};
+use crate::{Field, Spelled, Spelling};
 use console_ring::ConsoleCall;
+use kernel_object::{KCall, KReply};
 use page_pool::PoolCall;
 use shared_queue::QueueCall;
 use wake_list::SchedCall;

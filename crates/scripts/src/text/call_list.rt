@@ -6,9 +6,10 @@ ghost use Rattle.scripts.specs.Reading.{left};
 ghost use Rattle.scripts.specs.RecordReading.{list_at};
 
 use crate::text::words::{Words, mark};
-use crate::{KCall, KernelObject, value};
+use crate::value;
 use arrayvec::ArrayVec;
 use event_log::{MOST_CALLS, Step};
+use kernel_object::{KCall, KernelObject};
 
 /// What lines have lists of.
 pub trait ListItem: Default + Drop {

@@ -2,8 +2,8 @@
 use Rattle.std.proofs.Common.{◌≡◌, ℕ, ◌+◌, ◌%◌, ◌<◌, Bool, true, false, cond, List, [], ◌∷◌, ◌++◌, length, length-append, refl, sym, ap, ◌∙◌, subst, arith}
 use Rattle.std.proofs.Math.Nat.{mod-add-mod, mod-lt, mod-eq_of_lt}
 use Rattle.event_log.specs.declared.object.SeqObject.{Ghosts}
-use Rattle.word_rule.specs.declared.lock_algorithm.LockAlgorithm.{LockAlgorithm}
-use Rattle.word_rule.specs.declared.lock_algorithm.LockAlgorithm.TheVariants as kinds
+use Rattle.sound_run.specs.declared.lock_kind.LockKind.{LockKind}
+use Rattle.sound_run.specs.declared.lock_kind.LockKind.TheVariants as kinds
 use Rattle.word_rule.specs.declared.machine.step_done.StepDone.TheVariants as steps
 use Rattle.word_rule.specs.declared.view.TraceStep.{TraceStep}
 use Rattle.word_rule.specs.Cell.{Cell}
@@ -43,7 +43,7 @@ module _ {E : Type 0} where
       run_serves ms (turn l m.cpu).0 kind below (ap behind_of are)
       ∙ (ap (λ (k : ℕ). (k + length (endings_in ms)) % tickets) now ∙ one_end (ends_hold m.step) (served l) m.cpu (endings_in ms))
 
-module _ {O P C R : Type 0} (meaning : Ghosts O P C R) (k : LockAlgorithm) (h : Cell O P C R) (s : Table O P C R) (r : CellInvariant meaning k h s) (kind : h.kind ≡ kinds.Ticket) where
+module _ {O P C R : Type 0} (meaning : Ghosts O P C R) (k : LockKind) (h : Cell O P C R) (s : Table O P C R) (r : CellInvariant meaning k h s) (kind : h.kind ≡ kinds.Ticket) where
   pub serves_next : served r.state.lock ≡ (h.first + length (endings_in r.state.run)) % tickets
   serves_next =
       let opens : served (opening_lock h.kind h.first) ≡ h.first % tickets = ap (λ z. served (opening_lock z h.first)) kind in

@@ -4,7 +4,7 @@ use Rattle.std.specs.List.{AllByRecursion}
 use Rattle.std.specs.declared.alloc.Global.{Global}
 use Rattle.event_log.specs.declared.entry.Todo.{Todo}
 use Rattle.event_log.specs.History.{History}
-use Rattle.word_rule.specs.declared.lock_algorithm.LockAlgorithm.{LockAlgorithm}
+use Rattle.sound_run.specs.declared.lock_kind.LockKind.{LockKind}
 use Rattle.word_rule.specs.Locks.{Fits, opening_lock}
 use Rattle.word_rule.specs.declared.machine.cell_spec.CellSpec.{CellSpec}
 use Rattle.word_rule.specs.Machine.SoundWorld.{IsTodo}
@@ -12,7 +12,7 @@ use Rattle.word_rule.specs.Machine.World.{World, CellState, CpuState}
 
 module _ {O P C R : Type 0} where
   -- a cell of that kind, with this first ticket, that is made of this object
-  abbrev pub opening_cell : LockAlgorithm → ℕ → History O P C R → CellState O P C R
+  abbrev pub opening_cell : LockKind → ℕ → History O P C R → CellState O P C R
   opening_cell kind first h = record { opened = record { params = h.params; limit = h.limit }; lock = opening_lock kind first; log = h.log }
 
   -- a CPU that hasn't begun

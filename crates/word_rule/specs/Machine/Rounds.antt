@@ -3,8 +3,8 @@ use Rattle.std.specs.Prelude.{◌≡◌, ◌≢◌, ℕ, zero, suc, ◌+◌, ◌
 use Rattle.std.specs.List.{AllByRecursion}
 use Rattle.event_log.specs.declared.entry.Todo.{Todo}
 use Rattle.event_log.specs.Distinct.{has}
-use Rattle.word_rule.specs.declared.lock_algorithm.LockAlgorithm.{LockAlgorithm}
-use Rattle.word_rule.specs.declared.lock_algorithm.LockAlgorithm.TheVariants as kinds
+use Rattle.sound_run.specs.declared.lock_kind.LockKind.{LockKind}
+use Rattle.sound_run.specs.declared.lock_kind.LockKind.TheVariants as kinds
 use Rattle.word_rule.specs.Locks.{turn}
 use Rattle.word_rule.specs.Machine.Orders.{is_at}
 use Rattle.sound_run.specs.Orders.{numbers}
@@ -25,10 +25,9 @@ go_round n zero = []
 go_round n (suc k) = numbers 0 n ++ go_round n k
 
 -- the most steps of a call that get its CPU on, at a lock of that kind
-abbrev pub most_steps_of : LockAlgorithm → ℕ
+abbrev pub most_steps_of : LockKind → ℕ
 most_steps_of kinds.Ticket = 3
 most_steps_of kinds.Mcs = 9
-most_steps_of kinds.Toggle = 5
 
 -- the most of them at any lock
 abbrev pub most_steps : ℕ

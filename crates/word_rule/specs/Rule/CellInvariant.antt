@@ -7,7 +7,7 @@ use Rattle.event_log.specs.declared.object.SeqObject.{Ghosts}
 use Rattle.event_log.specs.declared.event.Event.{Event}
 use Rattle.event_log.specs.Distinct.{has}
 use Rattle.event_log.specs.History.{History}
-use Rattle.word_rule.specs.declared.lock_algorithm.LockAlgorithm.{LockAlgorithm}
+use Rattle.sound_run.specs.declared.lock_kind.LockKind.{LockKind}
 use Rattle.word_rule.specs.declared.lock_kind.Stage.TheVariants.{Idle}
 use Rattle.word_rule.specs.declared.view.TraceStep.{TraceStep}
 use Rattle.word_rule.specs.declared.view.CallerView.{CallerView}
@@ -73,7 +73,7 @@ pub record IsMade {O P C R : Type 0} (h : Cell O P C R) (l : Lock) (run : List (
 
 -- the rule, for such a lock: the words are those of a state of it, which is the one that the run makes; the run left the committed
 -- log, of which the object at home is the replay
-pub record CellInvariant {O P C R : Type 0} (meaning : Ghosts O P C R) (kind : LockAlgorithm) (h : Cell O P C R) (s : Table O P C R) : Type 0 where
+pub record CellInvariant {O P C R : Type 0} (meaning : Ghosts O P C R) (kind : LockKind) (h : Cell O P C R) (s : Table O P C R) : Type 0 where
   pub state : GhostState O P C R
   pub tied : IsLockOf kind h.numbers s.words state.lock
   pub ran : HasRun h state.committed state.run

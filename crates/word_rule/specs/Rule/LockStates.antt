@@ -1,6 +1,6 @@
 -- What is true of a lock at all times, and what keeps it.
 use Rattle.std.specs.Prelude.{◌≡◌, ℕ, ◌<◌, List, length, slice_index_or}
-use Rattle.word_rule.specs.declared.lock_algorithm.LockAlgorithm.{LockAlgorithm}
+use Rattle.sound_run.specs.declared.lock_kind.LockKind.{LockKind}
 use Rattle.word_rule.specs.declared.lock_kind.Stage.{Stage}
 use Rattle.word_rule.specs.declared.machine.step_done.StepDone.{StepDone}
 use Rattle.word_rule.specs.declared.lock_kind.Stage.TheVariants.{Idle}
@@ -8,7 +8,7 @@ use Rattle.word_rule.specs.LockDefinition.{IsTied, LockDefinition, LockState}
 use Rattle.word_rule.specs.Locks.{Lock, IsLock, lock_words}
 
 -- these are the words of that lock, which is of that kind and for n CPUs
-pub record IsLockOf (kind : LockAlgorithm) (n : ℕ) (ws : List ℕ) (l : Lock) : Type 0 where
+pub record IsLockOf (kind : LockKind) (n : ℕ) (ws : List ℕ) (l : Lock) : Type 0 where
   pub kind_is : l.kind ≡ kind
   pub state : IsLock n l
   pub words : ws ≡ lock_words n l
@@ -29,7 +29,7 @@ module _ (d : LockDefinition) (n : ℕ) where
   TurnsTo ws stages i step ws' stages' = (l : LockState d.Extra) → RepresentsState d n ws stages l → (step ≡ (d.turn l i).1) × RepresentsState d n ws' stages' (d.turn l i).0
 
 -- these are the words of the lock, and the places at which its n CPUs stand
-pub record RepresentsLock (n : ℕ) (kind : LockAlgorithm) (ws : List ℕ) (stages : List Stage) (l : Lock) : Type 0 where
+pub record RepresentsLock (n : ℕ) (kind : LockKind) (ws : List ℕ) (stages : List Stage) (l : Lock) : Type 0 where
   pub tied : IsLockOf kind n ws l
   pub size : length stages ≡ n
   pub stages_are : (k : ℕ) → k < n → slice_index_or stages k Idle ≡ l.line.stage k

@@ -68,8 +68,8 @@ pub fn someone_gets_on<O: SeqObject>()
 {}
 
 /// Every fair schedule finishes. From every world on, every script is done after so many rounds for each entry that is left: 3
-/// at a ticket lock, 9 at an MCS lock and 5 at a toggle lock. So it is after 9 for each entry. A round is a stretch of the
-/// schedule that names each CPU. Those of a schedule that goes round are rounds.
+/// at a ticket lock and 9 at an MCS lock. So it is after 9 for each entry. A round is a stretch of the schedule that names each
+/// CPU. Those of a schedule that goes round are rounds.
 pub fn scripts_end<O: SeqObject>()
     ensures steps { (w : World O O.Params O.Call O.Reply) → IsOpening w → (schedule more : List ℕ) →
         HasRounds (length w.cpus) (steps_to_do (run O.SeqObject schedule w)) more → AllDone (run O.SeqObject more (run O.SeqObject schedule w)) }
@@ -80,8 +80,8 @@ pub fn scripts_end<O: SeqObject>()
 {}
 
 /// Every call ends, whatever the others still have to do. An entry that a CPU is doing, or would begin next, ends within 9
-/// rounds for each CPU and 9 more. At a ticket lock 3 are enough in place of 9, and 5 at a toggle lock. The entry of a CPU in
-/// line ends within so many rounds for each CPU ahead, and twice so many more.
+/// rounds for each CPU and 9 more. At a ticket lock 3 are enough in place of 9. The entry of a CPU in line ends within so many
+/// rounds for each CPU ahead, and twice so many more.
 pub fn calls_end<O: SeqObject>()
     ensures ends { (w : World O O.Params O.Call O.Reply) → IsOpening w → (schedule more : List ℕ) (i x : ℕ) →
         is_at (run O.SeqObject schedule w) i x ≡ true → HasRounds (length w.cpus) (most_steps * (length w.cpus + 1)) more →

@@ -8,16 +8,15 @@ ghost use Rattle.word_rule.specs.Rule.LockStates.{IsLockOf};
 use crate::machine::mcs::turn_mcs;
 use crate::machine::step_done::StepDone;
 use crate::machine::ticket::turn_ticket;
-use crate::machine::toggle::turn_toggle;
-use crate::{LockAlgorithm, Stage, TICKETS, word_with};
+use crate::{Stage, TICKETS, word_with};
 use event_log::OutOfMemory;
-use sound_run::MOST_CPUS;
+use sound_run::{LockKind, MOST_CPUS};
 use std::alloc::Global;
 
 /// The words of a lock of any kind, and where each CPU stands at it.
 #[derive(Drop)]
 pub struct LockWords {
-    pub kind: LockAlgorithm,
+    pub kind: LockKind,
     pub words: Vec<u64>,
     pub stages: Vec<Stage>,
 }
@@ -26,7 +25,7 @@ impl LockWords {
     /// A lock for so many CPUs before the first step.
     pub fn new(
         alloc: Global,
-        kind: LockAlgorithm,
+        kind: LockKind,
         first: u64,
         cpus: usize,
     ) -> Result<LockWords, OutOfMemory>
@@ -50,9 +49,8 @@ impl LockWords {
         ensures { TurnsLock (vec_len self.old.stages) self.old cpu result self.new }
     {
         match self.kind {
-            LockAlgorithm::Ticket => turn_ticket(&mut self.words, &mut self.stages, cpu),
-            LockAlgorithm::Mcs => turn_mcs(&mut self.words, &mut self.stages, cpu),
-            LockAlgorithm::Toggle => turn_toggle(&mut self.words, &mut self.stages, cpu),
+            LockKind::Ticket => turn_ticket(&mut self.words, &mut self.stages, cpu),
+            LockKind::Mcs => turn_mcs(&mut self.words, &mut self.stages, cpu),
         }
     }
 }
@@ -60,7 +58,7 @@ impl LockWords {
 /// The words of a new lock.
 fn new_words(
     alloc: Global,
-    kind: LockAlgorithm,
+    kind: LockKind,
     first: u64,
     cpus: usize,
 ) -> Result<Vec<u64>, OutOfMemory>
@@ -68,11 +66,10 @@ fn new_words(
     ensures { IfOk result (λ w. IsLockOf kind cpus w.items (opening_lock kind first)) }
 {
     match kind {
-        LockAlgorithm::Ticket => {
+        LockKind::Ticket => {
             let first = (first % TICKETS) as u32;
             Ok(vec![in alloc; word_with(first, first); 1]?)
         }
-        LockAlgorithm::Mcs => Ok(vec![in alloc; 0; 1 + 2 * cpus]?),
-        LockAlgorithm::Toggle => Ok(vec![in alloc; 0; 1 + cpus]?),
+        LockKind::Mcs => Ok(vec![in alloc; 0; 1 + 2 * cpus]?),
     }
 }

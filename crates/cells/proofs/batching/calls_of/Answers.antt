@@ -1,7 +1,8 @@
 use Rattle.std.proofs.Common.{◌≡◌, ◌∙◌, None, IfNone, ap, map, subst, sym, take}
+use Rattle.std.proofs.lemmas.List.{take_all}
 use Rattle.cells.specs.Coding.{called_of}
 use Rattle.cells.specs.BatchCodes.{batch_calls}
-use Rattle.cells.proofs.BatchCodes.{all_there, one_lacks, take_over}
+use Rattle.cells.proofs.BatchCodes.{all_there, one_lacks}
 use Rattle.cells.proofs.batching.calls_of.Goals as goal
 
 pub returns-in_err-shared_called_of-clause-not_there : goal.returns-in_err-shared_called_of-clause-not_there
@@ -14,5 +15,5 @@ returns-in_err-shared_called_of-clause-not_there c =
 pub returns-clause-there : goal.returns-clause-there
 returns-clause-there c =
     let asked = take c.args.batch.now.count c.args.batch.now.calls in
-    let all = take_over asked c.loop-asked.asked-index c.loop-asked-test.false in
+    let all = take_all c.loop-asked.asked-index asked c.loop-asked-test.false in
     all_there asked c.loop-asked.calls.items (ap (λ l. map called_of l) (sym all) ∙ c.loop-asked.invariant.1)

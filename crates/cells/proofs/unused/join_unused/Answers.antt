@@ -1,8 +1,8 @@
 use Rattle.std.proofs.Common.{◌≡◌, ◌∷◌, [], ◌++◌, length, sym, ap, subst, ◌∙◌, append_assoc, slice_get}
 use Rattle.std.proofs.lemmas.List.{append-nil, nil_from_length}
 use Rattle.std.specs.Vec.Iter.{into_iter_items}
+use Rattle.event_log.proofs.Lists.{get_behind}
 use Rattle.word_rule.specs.Cell.{EachAt}
-use Rattle.guarded_cell.proofs.Joins.{seam_get}
 use Rattle.cells.specs.Unused.{Covers}
 use Rattle.cells.proofs.JoinedPasses.{joined_unused, covers_first, covers_more}
 use Rattle.cells.proofs.unused.join_unused.Goals as goal
@@ -17,7 +17,7 @@ join-whole-requires g c =
     let i = c.loop-pass.invariant in
     let next : into_iter_items c.loop-pass.pass-iterator ≡ c.in-Some.pass ∷ into_iter_items c.next.new.self = c.in-Some.ensures.steps.0 in
     let split : c.loop-pass.yielded ++ c.in-Some.pass ∷ into_iter_items c.next.new.self ≡ c.args.others.items = rw next at i.split in
-    let there = ap (λ l. slice_get l (length c.loop-pass.yielded)) (sym split) ∙ seam_get c.loop-pass.yielded c.in-Some.pass (into_iter_items c.next.new.self) in
+    let there = ap (λ l. slice_get l (length c.loop-pass.yielded)) (sym split) ∙ get_behind c.loop-pass.yielded (into_iter_items c.next.new.self) c.in-Some.pass in
     let unused = i.given (length c.loop-pass.yielded) c.in-Some.pass there in
     record { first = i.unused.pass; second = unused.pass }
 
@@ -26,7 +26,7 @@ loop-pass-preserved g c =
     let i = c.loop-pass.invariant in
     let next : into_iter_items c.loop-pass.pass-iterator ≡ c.in-Some.pass ∷ into_iter_items c.next.new.self = c.in-Some.ensures.steps.0 in
     let split : c.loop-pass.yielded ++ c.in-Some.pass ∷ into_iter_items c.next.new.self ≡ c.args.others.items = rw next at i.split in
-    let there = ap (λ l. slice_get l (length c.loop-pass.yielded)) (sym split) ∙ seam_get c.loop-pass.yielded c.in-Some.pass (into_iter_items c.next.new.self) in
+    let there = ap (λ l. slice_get l (length c.loop-pass.yielded)) (sym split) ∙ get_behind c.loop-pass.yielded (into_iter_items c.next.new.self) c.in-Some.pass in
     let unused = i.given (length c.loop-pass.yielded) c.in-Some.pass there in
     let j = c.join-whole.ensures in
     let a = c.loop-pass.whole in let b = c.in-Some.pass in let w = c.join-whole.result in

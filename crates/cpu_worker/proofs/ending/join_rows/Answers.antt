@@ -1,8 +1,9 @@
 use Rattle.std.proofs.Common.{◌≡◌, ◌∷◌, [], ◌++◌, ◌+◌, length, map, refl, sym, ap, subst, ◌∙◌, append_assoc, arith, length-append, slice_get}
 use Rattle.std.proofs.lemmas.List.{append-nil, nil_from_length, length-map}
 use Rattle.std.specs.Vec.Iter.{into_iter_items}
+use Rattle.event_log.proofs.Lists.{get_behind}
 use Rattle.guarded_cell.specs.Runs.{EachJoins}
-use Rattle.guarded_cell.proofs.Joins.{each_self, each_then, seam_get, each_snoc}
+use Rattle.guarded_cell.proofs.Joins.{each_self, each_then, each_snoc}
 use Rattle.cpu_worker.proofs.ending.join_rows.Goals as goal
 
 pub loop-pass-init : goal.loop-pass-init
@@ -25,7 +26,7 @@ join_at-requires g c =
     let total = ap length (sym split) ∙ length-append c.loop-pass.yielded (c.in-Some.pass ∷ into_iter_items c.next.new.self) in
     let count = i.given.count in
     let at = i.at in
-    let there = ap (λ k. slice_get c.args.row.items k) at ∙ (ap (λ l. slice_get l (length c.loop-pass.yielded)) (sym split) ∙ seam_get c.loop-pass.yielded c.in-Some.pass (into_iter_items c.next.new.self)) in
+    let there = ap (λ k. slice_get c.args.row.items k) at ∙ (ap (λ l. slice_get l (length c.loop-pass.yielded)) (sym split) ∙ get_behind c.loop-pass.yielded (into_iter_items c.next.new.self) c.in-Some.pass) in
     record { there = omega (arith, total, count, at); merged = i.merged; pass = λ d e. i.given.each c.loop-pass.x d c.in-Some.pass e there }
 
 pub loop-pass-preserved : goal.loop-pass-preserved

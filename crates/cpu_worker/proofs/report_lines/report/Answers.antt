@@ -1,5 +1,5 @@
 use Rattle.std.proofs.Common.{◌≡◌, ◌∙◌, ap}
-use Rattle.scripts.specs.KernelTypes.{KernelRun}
+use Rattle.kernel_object.specs.KernelTypes.{KernelRun}
 use Rattle.cpu_worker.specs.Report.{all_entries}
 use Rattle.cpu_worker.proofs.Reports.{few_entries, object_more, report_whole}
 use Rattle.cpu_worker.proofs.report_lines.report.Goals as goal

@@ -1,8 +1,9 @@
 use Rattle.std.proofs.Common.{◌≡◌, ◌∷◌, [], ◌+◌, ◌<◌, ◌≤◌, length, refl, sym, ap, subst, ◌∙◌, append_assoc, arith, length-append, slice_get, Some, vec_len, vec_capacity, Vec, Global}
 use Rattle.std.proofs.lemmas.List.{append-nil, nil_from_length}
 use Rattle.std.specs.Vec.Iter.{into_iter_items}
-use Rattle.word_rule.proofs.Openings.{all_at}
-use Rattle.sound_run.proofs.Slices.{some_at, read_get}
+use Rattle.event_log.proofs.Each.{each_at}
+use Rattle.event_log.proofs.Lists.{some_at}
+use Rattle.sound_run.proofs.Slices.{read_get}
 use Rattle.cpu_worker.proofs.Deals.{none_dealt, one_dealt, row_there}
 use Rattle.cpu_worker.proofs.run_preparation.deal.Given as given
 use Rattle.cpu_worker.proofs.run_preparation.deal.Goals as goal
@@ -36,7 +37,7 @@ push_reserved-requires g c =
     let old = some_at c.args.rows.now.items c.loop-x.k within in
     let past : length c.loop-x.yielded ≤ c.loop-x.k = let at = i.at in omega (arith, at) in
     let same : row ≡ old.0 = i.dealt.others c.loop-x.k old.0 row past old.1 (there g c) in
-    let room : length old.0.items < vec_capacity old.0 = all_at (λ (r : Vec g.row.T.Denot Global). length r.items < vec_capacity r) c.args.rows.now.items c.loop-x.k old.0 c.requires.room old.1 in
+    let room : length old.0.items < vec_capacity old.0 = each_at (λ (r : Vec g.row.T.Denot Global). length r.items < vec_capacity r) c.args.rows.now.items c.loop-x.k old.0 c.requires.room old.1 in
     let fits : length row.items < vec_capacity row = subst (λ (r : Vec g.row.T.Denot Global). length r.items < vec_capacity r) (sym same) room in
     let len = row.ok.0 in
     omega (arith, fits, len)

@@ -1,14 +1,13 @@
 use Rattle.std.proofs.Common.{◌≡◌, ◌∷◌, [], ◌++◌, ◌+◌, ◌<◌, ℕ, List, length, map, take, sym, ap, subst, ◌∙◌, arith, length-append, vec_capacity}
 use Rattle.std.proofs.lemmas.List.{map-append, take_all}
 use Rattle.std.proofs.lemmas.Option.{slice_get_within}
+use Rattle.event_log.proofs.Lists.{some_at}
 use Rattle.guarded_cell.specs.Kinds.{IsPassOf}
 use Rattle.scripts.specs.Settings.{ObjectSettings}
 use Rattle.scripts.proofs.SoundRanges.{all_at as all_by_place}
-use Rattle.word_rule.specs.Algorithms.{algorithm_of}
 use Rattle.word_rule.specs.Cell.{cell_of, opening_pass}
 use Rattle.word_rule.specs.Passes.{view_of_pass}
 use Rattle.word_rule.proofs.Openings.{take_more}
-use Rattle.sound_run.proofs.Slices.{some_at}
 use Rattle.cpu_worker.specs.Opening.{IsRow, cell_for}
 use Rattle.cpu_worker.proofs.Rows.{row_next}
 use Rattle.cpu_worker.proofs.run_preparation.open_cells.Goals as goal
@@ -49,7 +48,7 @@ loop-object-preserved c =
           let d = c.deal.ensures.dealt k old.0 new pass.0 old.1 e pass.1 in
           let r = i.rows k old.0 old.1 in
           let told = c.in-Ok.ensures.passes k pass.0 pass.1 in
-          let view : view_of_pass pass.0 ≡ opening_pass (cell_for n o) k = told.1 ∙ (λ j. opening_pass (cell_of (algorithm_of (c.lock.ensures j)) 0 (c.cpus-in-loop-object.ensures.cpus j) (c.in_ok-logged.ensures.opened j)) k) in
+          let view : view_of_pass pass.0 ≡ opening_pass (cell_for n o) k = told.1 ∙ (λ j. opening_pass (cell_of (c.lock.ensures j) 0 (c.cpus-in-loop-object.ensures.cpus j) (c.in_ok-logged.ensures.opened j)) k) in
           let room = r.1 in let same = d.1 in (
             row_next IsPassOf view_of_pass before c.loop-object.cells.items k old.0.items (cell_for n o) c.in-Ok.cell pass.0 r.0 told.0 view
                 (map (cell_for n) (take (c.loop-object.object-index + 1) items)) c.push_reserved.new.self.items new.items all p.items d.0,

@@ -1,8 +1,8 @@
 use Rattle.std.proofs.Common.{◌≡◌, ℕ, List, map, length, vec_len, sym, ap, subst, ◌∙◌, arith, lit<, Vec, Global}
 use Rattle.std.proofs.lemmas.List.{length-map}
 use Rattle.std.specs.List.{AllByRecursion}
-use Rattle.scripts.specs.contracts.objects.kernel_object.KernelObjectSeqObject.TheImpl.{ghosts as kernel}
-use Rattle.scripts.specs.KernelTypes.{KernelTodo}
+use Rattle.kernel_object.specs.contracts.object.KernelObjectSeqObject.TheImpl.{ghosts as kernel}
+use Rattle.kernel_object.specs.KernelTypes.{KernelTodo}
 use Rattle.scripts.specs.ScriptText.{ScriptFits}
 use Rattle.word_rule.specs.Machine.Opening.{opening_cell, opening_world}
 use Rattle.word_rule.specs.Machine.Shown.{Represents}

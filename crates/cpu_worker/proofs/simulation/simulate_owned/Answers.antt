@@ -1,12 +1,12 @@
 use Rattle.std.proofs.Common.{◌≡◌, ℕ, List, length, sym, ap, subst, ◌∙◌}
 use Rattle.std.specs.List.{AllByRecursion}
-use Rattle.scripts.specs.contracts.objects.kernel_object.KernelObjectSeqObject.TheImpl.{ghosts as kernel}
-use Rattle.scripts.specs.KernelTypes.{KernelRun}
+use Rattle.kernel_object.specs.declared.call.KParams.{KParams}
+use Rattle.kernel_object.specs.contracts.object.KernelObjectSeqObject.TheImpl.{ghosts as kernel}
+use Rattle.kernel_object.specs.KernelTypes.{KernelRun}
 use Rattle.scripts.specs.RecordRanges.{Record}
 use Rattle.scripts.specs.Runs.{opened_of, AsksFirst, TranscriptAsks}
 use Rattle.word_rule.specs.Machine.World.{run, run_of}
 use Rattle.sound_run.specs.Sound.{Sound, Opened}
-use Rattle.scripts.specs.declared.objects.kernel_call.KParams.{KParams}
 use Rattle.cpu_worker.specs.Simulation.{new_world, simulated}
 use Rattle.cpu_worker.proofs.Simulations.{simulated_asks}
 use Rattle.cpu_worker.proofs.simulation.simulate_owned.Goals as goal

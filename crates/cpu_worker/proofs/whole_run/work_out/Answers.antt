@@ -3,11 +3,11 @@ use Rattle.std.specs.List.{AllByRecursion}
 use Rattle.std.proofs.lemmas.List.{length-map}
 use Rattle.std.proofs.lemmas.Slice.Zip.{AllZip-long}
 use Rattle.event_log.specs.Entries.{asked_of}
+use Rattle.kernel_object.specs.contracts.object.KernelObjectSeqObject.TheImpl.{ghosts as kernel}
+use Rattle.kernel_object.specs.KernelTypes.{KernelEntry, KernelRun, KernelTodo}
 use Rattle.guarded_cell.specs.Kinds.{IsPassOf}
 use Rattle.guarded_cell.specs.Runs.{AllWorked}
 use Rattle.guarded_cell.specs.Workers.{ArePasses}
-use Rattle.scripts.specs.contracts.objects.kernel_object.KernelObjectSeqObject.TheImpl.{ghosts as kernel}
-use Rattle.scripts.specs.KernelTypes.{KernelEntry, KernelRun, KernelTodo}
 use Rattle.scripts.specs.RecordRanges.{RunFits}
 use Rattle.scripts.specs.Runs.{opened_of, TranscriptAsks}
 use Rattle.scripts.proofs.SoundRanges.{all_at as all_by_place}

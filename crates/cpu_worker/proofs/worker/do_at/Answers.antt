@@ -1,9 +1,9 @@
 use Rattle.std.proofs.Common.{◌≡◌, ℕ, ◌+◌, ◌-◌, ◌<◌, length, get_or, ap, ◌∙◌, subst, arith, lit<}
 use Rattle.std.proofs.Math.ListN.{set}
 use Rattle.std.specs.List.{SwappedAt}
-use Rattle.scripts.specs.contracts.objects.kernel_object.KernelObjectSeqObject.TheImpl.{ghosts as kernel}
 use Rattle.event_log.specs.Entries.{asked_of}
 use Rattle.sound_run.proofs.Slices.{read_get}
+use Rattle.kernel_object.specs.contracts.object.KernelObjectSeqObject.TheImpl.{ghosts as kernel}
 use Rattle.cpu_worker.proofs.Places.{put_back}
 use Rattle.guarded_cell.proofs.Workers.{kept_places, did_at}
 use Rattle.cpu_worker.proofs.worker.do_at.Given as given

@@ -1,10 +1,10 @@
 use Rattle.std.proofs.Common.{refl}
+use Rattle.std.proofs.lemmas.Option.{slice_get-get_or}
 use Rattle.scripts.proofs.Lines.{no_lines}
 use Rattle.sound_run.specs.declared.place.Place.{Place}
 use Rattle.log_merge.specs.MergedText.{place_words}
 use Rattle.log_merge.proofs.NextLines.{line_next}
 use Rattle.log_merge.proofs.Placing.{get_zeros}
-use Rattle.log_merge.proofs.PlaceLines.{there_at}
 use Rattle.log_merge.proofs.WrittenEvents.{none_written}
 use Rattle.log_merge.proofs.run_lines.put_order.Goals as goal
 
@@ -20,6 +20,6 @@ loop-index-preserved g c =
     let places = c.args.places.now in
     let index = c.loop-index.index in
     record {
-      puts = line_next g.W.Sink (place_words c.args.settings.now c.args.run.now) places index none c.loop-index-test.true c.loop-index.invariant.puts (c.put_place.ensures.puts _ (there_at places index none c.loop-index-test.true));
+      puts = line_next g.W.Sink (place_words c.args.settings.now c.args.run.now) places index none c.loop-index-test.true c.loop-index.invariant.puts (c.put_place.ensures.puts _ (slice_get-get_or places index none c.loop-index-test.true));
       written = c.put_place.ensures.written;
     }

@@ -2,7 +2,6 @@ use denote.Exit.{yes}
 use denote.Param.Send.{param_send, arg_send}
 use Rattle.std.proofs.Common.{rules, ◌≡◌, Some, slice_get, length, take, ap, ◌∙◌, subst, arith}
 use Rattle.shared_queue.specs.contracts.queue.ThreadQueueSeqObject.TheImpl.{ghosts}
-use Rattle.word_rule.specs.Algorithms.{algorithm_of}
 use Rattle.word_rule.specs.Cell.{first_pass}
 use Rattle.word_rule.specs.Passes.{view_of_pass}
 use Rattle.word_rule.proofs.Owners.{own_both}
@@ -38,7 +37,7 @@ returns-clause-ended g c =
     let left = c.two_callers-left.result in
     let firsts = take left.1 c.args.puts.now in
     let seconds = take left.2 c.args.takes.now in
-    subst (λ p. IsEnded ghosts p firsts (first_pass (algorithm_of c.args.kind) 0 c.args.queue 2 1) seconds left.0) (c.in-Ok.ensures.passes 0 c.unwrap-zero.result zero).1
+    subst (λ p. IsEnded ghosts p firsts (first_pass c.args.kind 0 c.args.queue 2 1) seconds left.0) (c.in-Ok.ensures.passes 0 c.unwrap-zero.result zero).1
     (subst (λ p. IsEnded ghosts (view_of_pass c.unwrap-zero.result) firsts p seconds left.0) (c.in-Ok.ensures.passes 1 c.unwrap-one.result one).1 c.two_callers-left.ensures.ended)
 
 pub returns-clause-counted : goal.returns-clause-counted

@@ -1,12 +1,11 @@
 use Rattle.std.proofs.Common.{◌≡◌, ◌<◌, [], ◌∷◌, ap}
-use Rattle.word_rule.specs.declared.lock_algorithm.LockAlgorithm.TheVariants as kinds
+use Rattle.sound_run.specs.declared.lock_kind.LockKind.TheVariants as kinds
 use Rattle.word_rule.specs.declared.lock_kind.Stage.TheVariants.{Idle}
 use Rattle.word_rule.specs.Locks.{Lock, attempt, lock_of, served, prepare, turn}
 use Rattle.word_rule.specs.Ticket.State.{tickets}
 use Rattle.word_rule.proofs.LockLaws.{at_kind, prepares, tries}
 use Rattle.word_rule.proofs.Mcs.Tries as mcs
 use Rattle.word_rule.proofs.Ticket.Tries as ticket
-use Rattle.word_rule.proofs.Toggle.Tries as toggle
 use Rattle.word_rule.proofs.lock_law.tries_are_turns.Goals as goal
 
 pub returns-clause-ticket : goal.returns-clause-ticket
@@ -16,10 +15,6 @@ returns-clause-ticket c = λ l i t. at_kind kinds.Ticket (λ (l : Lock). l.line.
 pub returns-clause-mcs : goal.returns-clause-mcs
 returns-clause-mcs c = λ l i t. at_kind kinds.Mcs (λ (l : Lock). l.line.stage i ≡ Idle → l.line.cpus ≡ [] → attempt (prepare l i) i t ≡ ((turn (turn l i).0 i).0, (turn l i).1 ∷ (turn (turn l i).0 i).1 ∷ []))
     (λ s idle none. ap (λ z. (lock_of kinds.Mcs z.0, z.1)) (mcs.clears_and_enters s i idle none)) l
-
-pub returns-clause-toggle : goal.returns-clause-toggle
-returns-clause-toggle c = λ l i t. at_kind kinds.Toggle (λ (l : Lock). l.line.stage i ≡ Idle → l.line.cpus ≡ [] → attempt (prepare l i) i t ≡ ((turn (turn l i).0 i).0, (turn l i).1 ∷ (turn (turn l i).0 i).1 ∷ []))
-    (λ s idle none. ap (λ z. (lock_of kinds.Toggle z.0, z.1)) (toggle.readies_and_enters s i idle none)) l
 
 pub returns-clause-busy : goal.returns-clause-busy
 returns-clause-busy c = λ l i t. (tries l i t).busy
@@ -32,6 +27,3 @@ returns-clause-prepared c = prepares
 
 pub returns-clause-names : goal.returns-clause-names
 returns-clause-names c = λ l i t x ne. mcs.names_still l i x ne
-
-pub returns-clause-toggles : goal.returns-clause-toggles
-returns-clause-toggles c = λ l i t. toggle.toggles_still l i

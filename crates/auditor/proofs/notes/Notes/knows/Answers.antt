@@ -1,14 +1,16 @@
 use Rattle.std.proofs.Common.{◌≡◌, ◌+◌, ◌<◌, length, get_or, slice_get, refl, sym, subst, ◌∙◌, arith}
+use Rattle.std.proofs.lemmas.List.{get_or_default}
+use Rattle.std.proofs.lemmas.Option.{slice_get-get_or}
 use Rattle.std.specs.Vec.{vec_capacity}
 use Rattle.std.proofs.Math.ListN.{set}
+use Rattle.event_log.proofs.Lists.{some_at}
 use Rattle.sound_run.specs.Sound.{done_on}
-use Rattle.sound_run.proofs.Slices.{read_get, some_at, one_of}
+use Rattle.sound_run.proofs.Slices.{read_get, one_of}
 use Rattle.auditor.specs.declared.kept_log.KeptLog.{KeptLog}
 use Rattle.auditor.specs.Fed.{done_by, done_entry, entry_fed}
 use Rattle.auditor.specs.NextEvents.{IsAt}
 use Rattle.auditor.specs.Noted.{IsRightWith}
 use Rattle.auditor.proofs.Judging.{all_right}
-use Rattle.auditor.proofs.NextEventSteps.{there, any_default}
 use Rattle.auditor.proofs.NotesSoFar.{none_found, still_none, entry_noted}
 use Rattle.auditor.proofs.notes.Notes.knows.Goals as goal
 
@@ -56,13 +58,13 @@ returns-clause-known g c = λ yes.
     let within : kept.place < length kept.log = (let w = here.within in let off = c.if-place-len.false in let m = c.len.ensures in omega (arith, w, off, m)) in
     let some = (some_at kept.log kept.place within).0 in
     let event = get_or kept.log kept.place some in
-    let told = c.is_told.ensures event c.if-not-is_told.false (there kept.log kept.place some within) in
+    let told = c.is_told.ensures event c.if-not-is_told.false (slice_get-get_or kept.log kept.place some within) in
     let steps = event.steps.list.items in
     let cpu = length d.transcripts in
     let taken = length (done_on x d.entries) in
     let next = kept.next_events.next.items in
     let long = k.next_events.events in
-    let value : c.index.result.now ≡ get_or next kept.place 0 = c.index.ensures ∙ any_default next kept.place c.index.result.now 0 (omega (arith, within, long)) in
+    let value : c.index.result.now ≡ get_or next kept.place 0 = c.index.ensures ∙ get_or_default next kept.place c.index.result.now 0 (omega (arith, within, long)) in
     let right = all_right cpu kept.log taken kept.place here g.O.SeqObject kept.limit (done_by steps) event.steps some refl within refl (record { items = told.0 }) next told.2 k.next_events.nexts in
     let new = c.index_mut.result.now in
     let same : kept ≡ new = one_of kept new (slice_get n.logs.items x) at (read_get n.logs.items x new lt c.index_mut.ensures.value) in (

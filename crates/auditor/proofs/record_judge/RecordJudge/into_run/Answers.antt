@@ -1,9 +1,9 @@
 use Rattle.std.proofs.Common.{List, Result, Ok, Err, sym, subst}
 use Rattle.std.specs.Prelude.{IfOk, IfErr}
 use Rattle.sound_run.specs.Sound.{Opened, Sound}
-use Rattle.scripts.specs.contracts.objects.kernel_object.KernelObjectSeqObject.TheImpl.{ghosts as kernel}
-use Rattle.scripts.specs.declared.objects.kernel_call.KParams.{KParams}
-use Rattle.scripts.specs.KernelTypes.{KernelRun}
+use Rattle.kernel_object.specs.declared.call.KParams.{KParams}
+use Rattle.kernel_object.specs.contracts.object.KernelObjectSeqObject.TheImpl.{ghosts as kernel}
+use Rattle.kernel_object.specs.KernelTypes.{KernelRun}
 use Rattle.scripts.specs.Keeping.{Parts, kept_record, IsWholeWith}
 use Rattle.scripts.specs.RecordRanges.{RecordFits}
 use Rattle.scripts.specs.Runs.{opened_of}

@@ -1,7 +1,7 @@
 use Rattle.std.proofs.Common.{rules, ◌+◌, ◌*◌, arith}
 use Rattle.std.proofs.lemmas.List.{take-replicate}
 use Rattle.sound_run.specs.declared.limits.TheConstants.{MOST_CPUS}
-use Rattle.word_rule.specs.declared.lock_algorithm.LockAlgorithm.TheVariants as kinds
+use Rattle.sound_run.specs.declared.lock_kind.LockKind.TheVariants as kinds
 use Rattle.word_rule.specs.LockDefinition.{opening_state}
 use Rattle.word_rule.specs.Mcs.Definition.{mcs_lock}
 use Rattle.word_rule.proofs.Mcs.Turns.{starts_mcs}

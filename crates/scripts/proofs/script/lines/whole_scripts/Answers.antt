@@ -1,5 +1,5 @@
 use Rattle.std.proofs.Common.{ℕ, List, sym, subst, ◌∙◌, ap}
-use Rattle.scripts.specs.KernelTypes.{KernelTodo}
+use Rattle.kernel_object.specs.KernelTypes.{KernelTodo}
 use Rattle.scripts.specs.ScriptFaults.{ScriptState, no_entries}
 use Rattle.scripts.specs.ScriptText.{AreScripts, ScriptsWithin, IsFirstBad}
 use Rattle.scripts.specs.Settings.{SettingsFit}

@@ -1,12 +1,11 @@
 use Rattle.std.proofs.Common.{◌∷◌, [], ◌∙◌, ap, arith, sym, subst}
-use Rattle.word_rule.specs.declared.lock_algorithm.LockAlgorithm.TheVariants as kinds
+use Rattle.sound_run.specs.declared.lock_kind.LockKind.TheVariants as kinds
 use Rattle.word_rule.specs.LockDefinition.{opening_state}
 use Rattle.word_rule.specs.Locks.{definition_of, opening_lock}
 use Rattle.word_rule.specs.Rule.LockStates.{IsLockOf}
 use Rattle.word_rule.proofs.Mcs.Turns.{starts_mcs}
 use Rattle.word_rule.proofs.ShownLocks.{tied_lock}
 use Rattle.word_rule.proofs.Ticket.Turns.{starts_ticket}
-use Rattle.word_rule.proofs.Toggle.Turns.{starts_toggle}
 use Rattle.word_rule.proofs.machine.lock_words.new_words.Goals as goal
 
 pub returns-in_ok-vec-in-Ticket : goal.returns-in_ok-vec-in-Ticket
@@ -16,7 +15,3 @@ returns-in_ok-vec-in-Ticket c = subst (λ k. IsLockOf k c.args.cpus c.in_ok-vec-
 pub returns-in_ok-vec-in-Mcs : goal.returns-in_ok-vec-in-Mcs
 returns-in_ok-vec-in-Mcs c = subst (λ k. IsLockOf k c.args.cpus c.in_ok-vec-in-Mcs.field-0.items (opening_lock k c.args.first)) (sym c.in-Mcs.is)
     (tied_lock kinds.Mcs c.args.cpus _ (opening_state (definition_of kinds.Mcs) c.args.first) (starts_mcs c.args.cpus c.args.first c.in_ok-vec-in-Mcs.field-0.items (c.in_ok-vec-in-Mcs.ensures.items_if_clones_equal (λ y e. e))))
-
-pub returns-in_ok-vec-in-Toggle : goal.returns-in_ok-vec-in-Toggle
-returns-in_ok-vec-in-Toggle c = subst (λ k. IsLockOf k c.args.cpus c.in_ok-vec-in-Toggle.field-0.items (opening_lock k c.args.first)) (sym c.in-Toggle.is)
-    (tied_lock kinds.Toggle c.args.cpus _ (opening_state (definition_of kinds.Toggle) c.args.first) (starts_toggle c.args.cpus c.args.first c.in_ok-vec-in-Toggle.field-0.items (c.in_ok-vec-in-Toggle.ensures.items_if_clones_equal (λ y e. e))))

@@ -1,0 +1,226 @@
+//! The calls by name that C has on a caller: each is a whole call, as far as it comes without waiting. Which call it is is known when
+//! this is compiled, so that nothing of the others is in its way. At an object of another kind it is answered `badcall`.
+
+ghost use Rattle.cells.specs.Exports.{content_of};
+ghost use Rattle.cells.specs.CallReports.{ReportsCallOf};
+ghost use Rattle.kernel_object.specs.declared.call.KCall.TheVariants.{Queue, Pool, Console, Sched};
+ghost use Rattle.shared_queue.specs.declared.call.QueueCall.TheVariants as queue;
+ghost use Rattle.page_pool.specs.declared.call.PoolCall.TheVariants as pool;
+ghost use Rattle.console_ring.specs.declared.call.ConsoleCall.TheVariants as console;
+ghost use Rattle.wake_list.specs.declared.call.SchedCall.TheVariants as sched;
+
+use crate::Handle;
+use crate::coding::Answered;
+use crate::handle::at_content;
+use console_ring::ConsoleCall;
+use kernel_object::KCall;
+use page_pool::PoolCall;
+use shared_queue::QueueCall;
+use wake_list::SchedCall;
+
+#[inline]
+fn call_by_name(
+    caller: &mut Handle,
+    call: KCall,
+    answered: &mut Answered,
+    looks: &mut u64,
+) -> u32
+    ensures { ReportsCallOf call (content_of caller.old) (answered.old, looks.old) result (content_of caller.new) (answered.new, looks.new) }
+{
+    at_content(
+        caller,
+        (call, answered, looks),
+        |content, (call, answered, looks)| content.call_by_name(call, answered, looks),
+    )
+}
+
+/// It puts the thread at the end of a queue.
+#[unsafe(no_mangle)]
+pub extern "C" fn mc2_call_enq(
+    caller: &mut Handle,
+    thread: u32,
+    answered: &mut Answered,
+    looks: &mut u64,
+) -> u32
+    ensures { ReportsCallOf (Queue (queue.Enq thread)) (content_of caller.old) (answered.old, looks.old) result (content_of caller.new) (answered.new, looks.new) }
+{
+    call_by_name(caller, KCall::Queue(QueueCall::Enq(thread)), answered, looks)
+}
+
+/// It takes the first thread of a queue.
+#[unsafe(no_mangle)]
+pub extern "C" fn mc2_call_deq(
+    caller: &mut Handle,
+    answered: &mut Answered,
+    looks: &mut u64,
+) -> u32
+    ensures { ReportsCallOf (Queue queue.Deq) (content_of caller.old) (answered.old, looks.old) result (content_of caller.new) (answered.new, looks.new) }
+{
+    call_by_name(caller, KCall::Queue(QueueCall::Deq), answered, looks)
+}
+
+/// It takes the thread out of a queue.
+#[unsafe(no_mangle)]
+pub extern "C" fn mc2_call_remove(
+    caller: &mut Handle,
+    thread: u32,
+    answered: &mut Answered,
+    looks: &mut u64,
+) -> u32
+    ensures { ReportsCallOf (Queue (queue.Remove thread)) (content_of caller.old) (answered.old, looks.old) result (content_of caller.new) (answered.new, looks.new) }
+{
+    call_by_name(caller, KCall::Queue(QueueCall::Remove(thread)), answered, looks)
+}
+
+/// It counts the threads of a queue.
+#[unsafe(no_mangle)]
+pub extern "C" fn mc2_call_len(
+    caller: &mut Handle,
+    answered: &mut Answered,
+    looks: &mut u64,
+) -> u32
+    ensures { ReportsCallOf (Queue queue.Len) (content_of caller.old) (answered.old, looks.old) result (content_of caller.new) (answered.new, looks.new) }
+{
+    call_by_name(caller, KCall::Queue(QueueCall::Len), answered, looks)
+}
+
+/// It gives the least free page of a pool to the owner.
+#[unsafe(no_mangle)]
+pub extern "C" fn mc2_call_alloc(
+    caller: &mut Handle,
+    owner: u32,
+    answered: &mut Answered,
+    looks: &mut u64,
+) -> u32
+    ensures { ReportsCallOf (Pool (pool.Alloc owner)) (content_of caller.old) (answered.old, looks.old) result (content_of caller.new) (answered.new, looks.new) }
+{
+    call_by_name(caller, KCall::Pool(PoolCall::Alloc(owner)), answered, looks)
+}
+
+/// It takes the page back from the owner.
+#[unsafe(no_mangle)]
+pub extern "C" fn mc2_call_free(
+    caller: &mut Handle,
+    owner: u32,
+    page: u32,
+    answered: &mut Answered,
+    looks: &mut u64,
+) -> u32
+    ensures { ReportsCallOf (Pool (pool.Free owner page)) (content_of caller.old) (answered.old, looks.old) result (content_of caller.new) (answered.new, looks.new) }
+{
+    call_by_name(caller, KCall::Pool(PoolCall::Free { owner, page }), answered, looks)
+}
+
+/// It counts the free pages of a pool.
+#[unsafe(no_mangle)]
+pub extern "C" fn mc2_call_left(
+    caller: &mut Handle,
+    answered: &mut Answered,
+    looks: &mut u64,
+) -> u32
+    ensures { ReportsCallOf (Pool pool.Left) (content_of caller.old) (answered.old, looks.old) result (content_of caller.new) (answered.new, looks.new) }
+{
+    call_by_name(caller, KCall::Pool(PoolCall::Left), answered, looks)
+}
+
+/// It puts the byte at the end of a console.
+#[unsafe(no_mangle)]
+pub extern "C" fn mc2_call_put(
+    caller: &mut Handle,
+    byte: u8,
+    answered: &mut Answered,
+    looks: &mut u64,
+) -> u32
+    ensures { ReportsCallOf (Console (console.Put byte)) (content_of caller.old) (answered.old, looks.old) result (content_of caller.new) (answered.new, looks.new) }
+{
+    call_by_name(caller, KCall::Console(ConsoleCall::Put(byte)), answered, looks)
+}
+
+/// It takes the first byte of a console.
+#[unsafe(no_mangle)]
+pub extern "C" fn mc2_call_get(
+    caller: &mut Handle,
+    answered: &mut Answered,
+    looks: &mut u64,
+) -> u32
+    ensures { ReportsCallOf (Console console.Get) (content_of caller.old) (answered.old, looks.old) result (content_of caller.new) (answered.new, looks.new) }
+{
+    call_by_name(caller, KCall::Console(ConsoleCall::Get), answered, looks)
+}
+
+/// It counts the bytes of a console.
+#[unsafe(no_mangle)]
+pub extern "C" fn mc2_call_level(
+    caller: &mut Handle,
+    answered: &mut Answered,
+    looks: &mut u64,
+) -> u32
+    ensures { ReportsCallOf (Console console.Level) (content_of caller.old) (answered.old, looks.old) result (content_of caller.new) (answered.new, looks.new) }
+{
+    call_by_name(caller, KCall::Console(ConsoleCall::Level), answered, looks)
+}
+
+/// It puts the thread at the end of the ready list.
+#[unsafe(no_mangle)]
+pub extern "C" fn mc2_call_ready(
+    caller: &mut Handle,
+    thread: u32,
+    answered: &mut Answered,
+    looks: &mut u64,
+) -> u32
+    ensures { ReportsCallOf (Sched (sched.Ready thread)) (content_of caller.old) (answered.old, looks.old) result (content_of caller.new) (answered.new, looks.new) }
+{
+    call_by_name(caller, KCall::Sched(SchedCall::Ready(thread)), answered, looks)
+}
+
+/// It takes the first ready thread.
+#[unsafe(no_mangle)]
+pub extern "C" fn mc2_call_next(
+    caller: &mut Handle,
+    answered: &mut Answered,
+    looks: &mut u64,
+) -> u32
+    ensures { ReportsCallOf (Sched sched.Next) (content_of caller.old) (answered.old, looks.old) result (content_of caller.new) (answered.new, looks.new) }
+{
+    call_by_name(caller, KCall::Sched(SchedCall::Next), answered, looks)
+}
+
+/// It puts the thread at the end of the channel.
+#[unsafe(no_mangle)]
+pub extern "C" fn mc2_call_sleep(
+    caller: &mut Handle,
+    channel: u32,
+    thread: u32,
+    answered: &mut Answered,
+    looks: &mut u64,
+) -> u32
+    ensures { ReportsCallOf (Sched (sched.Sleep channel thread)) (content_of caller.old) (answered.old, looks.old) result (content_of caller.new) (answered.new, looks.new) }
+{
+    call_by_name(caller, KCall::Sched(SchedCall::Sleep { channel, thread }), answered, looks)
+}
+
+/// It makes the first sleeper of the channel ready.
+#[unsafe(no_mangle)]
+pub extern "C" fn mc2_call_wake(
+    caller: &mut Handle,
+    channel: u32,
+    answered: &mut Answered,
+    looks: &mut u64,
+) -> u32
+    ensures { ReportsCallOf (Sched (sched.Wake channel)) (content_of caller.old) (answered.old, looks.old) result (content_of caller.new) (answered.new, looks.new) }
+{
+    call_by_name(caller, KCall::Sched(SchedCall::Wake(channel)), answered, looks)
+}
+
+/// It makes all sleepers of the channel ready.
+#[unsafe(no_mangle)]
+pub extern "C" fn mc2_call_wakeall(
+    caller: &mut Handle,
+    channel: u32,
+    answered: &mut Answered,
+    looks: &mut u64,
+) -> u32
+    ensures { ReportsCallOf (Sched (sched.WakeAll channel)) (content_of caller.old) (answered.old, looks.old) result (content_of caller.new) (answered.new, looks.new) }
+{
+    call_by_name(caller, KCall::Sched(SchedCall::WakeAll(channel)), answered, looks)
+}

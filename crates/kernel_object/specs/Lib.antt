@@ -1,0 +1,4 @@
+pub mod Kinds
+pub mod KindWords
+pub mod Kernel
+pub mod KernelTypes

@@ -1,8 +1,0 @@
-use Rattle.std.proofs.Common.{codes, arith, sym, ap}
-use Rattle.std.proofs.lemmas.Slice.Eq.{text_from_reads}
-use Rattle.scripts.specs.Parameters.{kind_of}
-use Rattle.scripts.proofs.objects.kind.Kind.of_word.Goals as goal
-
-pub returns-in-console : goal.returns-in-console
-unfolding kind_of
-returns-in-console c = sym (ap kind_of (text_from_reads c.args.word.now (codes "console") (omega arith) (omega arith, (omega arith, (omega arith, (omega arith, (omega arith, (omega arith, (omega arith, tt)))))))))

@@ -1,2 +1,0 @@
-pub mod ToggleRule
-pub mod ToggleActing
