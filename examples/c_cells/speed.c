@@ -4,7 +4,8 @@
    Prints the nanoseconds from the first thread's start to the last one's end, and the page faults in between. The memory of
    each kind's log was written before, so only the threads' own stacks fault.
 
-   KIND    cell-ticket, cell-mcs: a cell of crates/cells, by whole calls (mc2_cell_call)
+   KIND    name-ticket, name-mcs: a cell of crates/cells, by calls with names (mc2_queue_enq, mc2_queue_deq)
+           cell-ticket, cell-mcs: the same by whole calls (mc2_cell_call)
            steps-ticket, steps-mcs: the same by single steps (mc2_acquire, mc2_caller_apply, mc2_release)
            mutex: a queue in C with a log, the least that one would write, behind a pthread_mutex_t
            ck-ticket, ck-mcs: the same queue behind a lock of Concurrency Kit, with WITH_CK
@@ -12,7 +13,6 @@
 
    Status: 0; 1 if a call is told what it can't be; 2 for wrong words. */
 #include "mc2_cells.h"
-#include <malloc.h>
 #include <pthread.h>
 #include <sys/resource.h>
 #include <time.h>
@@ -77,6 +77,14 @@ static ck_spinlock_mcs_t ck_mcs = CK_SPINLOCK_MCS_INITIALIZER;
 
 typedef int (*caller_t)(uint32_t cpu, const struct mc2_call *call, struct mc2_reply *reply);
 
+static int by_name(uint32_t cpu, const struct mc2_call *call, struct mc2_reply *reply) {
+    uint64_t looks;
+    struct mc2_caller *caller = &callers[cpu];
+    if (call->word == MC2_ENQ)
+        return mc2_queue_enq(caller, call->first, reply, &looks) == MC2_CELL_DONE;
+    return mc2_queue_deq(caller, reply, &looks) == MC2_CELL_DONE;
+}
+
 static int by_cell(uint32_t cpu, const struct mc2_call *call, struct mc2_reply *reply) {
     uint64_t looks;
     return mc2_cell_call(&callers[cpu], call, reply, &looks) == MC2_CELL_DONE;
@@ -114,6 +122,7 @@ static int by_ck_mcs(uint32_t cpu, const struct mc2_call *call, struct mc2_reply
 #endif
 
 static const struct { const char *name; caller_t call; int lock; } KINDS[] = {
+    {"name-ticket", by_name, MC2_TICKET}, {"name-mcs", by_name, MC2_MCS},
     {"cell-ticket", by_cell, MC2_TICKET}, {"cell-mcs", by_cell, MC2_MCS}, {"mutex", by_mutex, -1},
     {"steps-ticket", by_steps, MC2_TICKET}, {"steps-mcs", by_steps, MC2_MCS},
 #ifdef WITH_CK
@@ -188,8 +197,7 @@ int main(int count, char **words) {
     if (is_kept && calls > MC2_MOST_EVENTS / threads)
         return 2;
     call = KINDS[kind].call;
-    /* malloc writes all memory that it gives, and the baseline's log is written too. */
-    mallopt(M_PERTURB, 1);
+    /* a cell that is opened writes its log's memory, so the baseline's is written too */
     if (KINDS[kind].lock >= 0)
         open_cell(KINDS[kind].lock, (uint32_t)threads);
     memset(plain.log, 1, sizeof plain.log);
