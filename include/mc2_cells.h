@@ -10,7 +10,8 @@
 // as a function of its own, as mc2_queue_enq. mc2_cells_record.h writes its record.
 //
 // Each call is an event of the cell's log. A cell that is opened with 1 to 65,536 events keeps its log in memory, which is taken
-// at once. Then mc2_cell_step reads the log once the cell is closed, for a record that `mc2 audit` judges. A log that is full
+// at once: 208 bytes an event. All of it is written once then, some 10 ms for 65,536, so that no call waits for a page of it.
+// mc2_cell_step reads the log once the cell is closed, for a record that `mc2 audit` judges. A log that is full
 // stays full: each later call answers MC2_CELL_FULL, and does nothing. A cell that is opened with 0 events doesn't keep its log:
 // that takes no memory, and no step can be read. Such a log has room for 2^64 - 1 events, which last for 584 years at one in a
 // nanosecond. So take 0 for a kernel that calls without end and needs no record; all other calls are as ever.

@@ -61,11 +61,16 @@ impl Calls {
     {
         let (eight, groups) = (self.eight(), self.groups());
         let mut pass = pass;
-        for k in 0..self.turns {
+        if let Form::Each = self.form {
+            for k in 0..self.turns {
+                pass = call(rt, cell, pass, &eight[(k % 2) as usize]).0;
+            }
+            return pass;
+        }
+        for _ in 0..self.turns {
             pass = match self.form {
-                Form::Each => call(rt, cell, pass, &eight[(k % 2) as usize]).0,
                 Form::Batch => batch(rt, cell, pass, &eight).0,
-                Form::Hold => with_hold(rt, cell, pass, &groups, &mut ArrayVec::new()).0,
+                _ => with_hold(rt, cell, pass, &groups, &mut ArrayVec::new()).0,
             };
         }
         pass
@@ -91,16 +96,20 @@ impl Calls {
     /// Makes the calls on a queue in the mutex.
     pub fn in_mutex<R: Wait>(&self, rt: &R, queue: &Mutex<Queue>) {
         let eight = self.eight();
-        for k in 0..self.turns {
+        if let Form::Each = self.form {
+            for k in 0..self.turns {
+                let mut held = queue.lock(rt);
+                let _reply = held.call(self.cpu, &eight[(k % 2) as usize]);
+            }
+            return;
+        }
+        for _ in 0..self.turns {
             let mut held = queue.lock(rt);
             match self.form {
-                Form::Each => {
-                    let _reply = held.call(self.cpu, &eight[(k % 2) as usize]);
-                }
                 Form::Batch => {
                     let _replies = held.apply(self.cpu, &eight);
                 }
-                Form::Hold => call_each(&mut *held, self.cpu, &eight),
+                _ => call_each(&mut *held, self.cpu, &eight),
             }
         }
     }

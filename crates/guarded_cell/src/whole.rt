@@ -40,6 +40,7 @@ pub fn batch<O: SeqObject, C: LockCell<O>, R: Wait>(
 }
 
 /// Does a call as one event of the acting CPU.
+#[inline(always)]
 pub fn call<O: SeqObject, C: LockCell<O>, R: Wait>(
     rt: &R,
     cell: &C,

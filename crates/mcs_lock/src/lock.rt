@@ -27,7 +27,7 @@ impl<O: SeqObject> LockCell<O> for McsCell<O> {
     ghost hold_run = { run_of_hold };
 
     /// Enters, and where another is before it looks until it gets the object.
-    #[inline]
+    #[inline(always)]
     fn acquire<R: Wait>(&self, rt: &R, pass: Pass<O>) -> (Hold<O>, u64) {
         self.resting.stay_outside(rt);
         let ready = self.clear(pass);
@@ -59,7 +59,7 @@ impl<O: SeqObject> LockCell<O> for McsCell<O> {
     }
 
     /// Gives the object back: to the one behind it, or, where nobody is, with the tail empty.
-    #[inline]
+    #[inline(always)]
     fn release<R: Wait>(&self, rt: &R, hold: Hold<O>) -> Pass<O> {
         let alone = match self.see(hold) {
             Ok(passing) => return self.pass_on(passing),

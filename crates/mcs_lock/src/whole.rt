@@ -19,6 +19,7 @@ use word_rule::{Hold, Inside, Pass, locked_index, next_index};
 
 impl<O: SeqObject> McsCell<O> {
     // Lets itself be seen by the one before it, and looks until it gets the object, with a pause between two looks.
+    #[cold]
     #[inline(never)]
     pub(crate) fn wait_behind<R: Wait>(&self, rt: &R, behind: Behind<O>) -> (Hold<O>, u64)
         requires { IsBehindOf self.now behind }
@@ -46,6 +47,7 @@ impl<O: SeqObject> McsCell<O> {
     }
 
     // Looks who is behind it until it sees one, with a pause between two looks.
+    #[cold]
     #[inline(never)]
     pub(crate) fn wait_follower<R: Wait>(&self, rt: &R, leaving: Leaving<O>) -> Passing<O>
         requires { IsLeavingOf self.now leaving }

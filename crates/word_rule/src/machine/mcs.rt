@@ -19,7 +19,7 @@ pub fn turn_mcs(words: &mut [u64], stages: &mut [Stage], cpu: u8) -> StepDone
     let i = cpu as usize;
     match stages[i] {
         Stage::Idle => {
-            words[next_index(u32::from(cpu))] = 0;
+            words[next_index(cpu as u32)] = 0;
             stages[i] = Stage::Mcs(McsStage::Ready);
             StepDone::Clear
         }
@@ -41,21 +41,21 @@ fn turn_in_queue(words: &mut [u64], stages: &mut [Stage], cpu: u8, stage: McsSta
     match stage {
         McsStage::Ready => enter(words, stages, cpu),
         McsStage::Behind(ahead) => {
-            words[locked_index(n, u32::from(cpu))] = 1;
+            words[locked_index(n, cpu as u32)] = 1;
             stages[i] = Stage::Mcs(McsStage::Armed(ahead));
             StepDone::Arm
         }
         McsStage::Armed(ahead) => {
-            words[next_index(u32::from(ahead))] = cpu as u64 + 1;
+            words[next_index(ahead as u32)] = cpu as u64 + 1;
             stages[i] = Stage::Mcs(McsStage::Waiting);
             StepDone::Link
         }
         McsStage::Waiting => look(words, stages, cpu),
-        McsStage::Holding => see(words[next_index(u32::from(cpu))], McsStage::Alone, &mut stages[i]),
+        McsStage::Holding => see(words[next_index(cpu as u32)], McsStage::Alone, &mut stages[i]),
         McsStage::Alone => empty(words, stages, cpu),
-        McsStage::Leaving => see(words[next_index(u32::from(cpu))], McsStage::Leaving, &mut stages[i]),
+        McsStage::Leaving => see(words[next_index(cpu as u32)], McsStage::Leaving, &mut stages[i]),
         McsStage::Passing(behind) => {
-            words[locked_index(n, u32::from(behind))] = 0;
+            words[locked_index(n, behind as u32)] = 0;
             stages[i] = Stage::Idle;
             StepDone::Pass
         }
@@ -89,7 +89,7 @@ fn look(words: &mut [u64], stages: &mut [Stage], cpu: u8) -> StepDone
     requires stands { slice_index_or stages.old cpu Stage.Idle ≡ Stage.Mcs McsStage.Waiting }
     ensures { TurnsTo mcs_lock (length stages.old) words.old stages.old cpu result words.new stages.new }
 {
-    if words[locked_index(stages.len() as u8, u32::from(cpu))] != 0 {
+    if words[locked_index(stages.len() as u8, cpu as u32)] != 0 {
         return StepDone::Look(false);
     }
     stages[cpu as usize] = Stage::Mcs(McsStage::Holding);

@@ -3,8 +3,8 @@ use Rattle.word_rule.specs.Replay.{DoesRun, entries_for}
 use Rattle.guarded_cell.specs.Held.{holds_of}
 use Rattle.guarded_cell.proofs.replays.two_are_replayed.Goals as goal
 
-pub returns : goal.returns
-returns g c =
+pub returns-clause-replayed : goal.returns-clause-replayed
+returns-clause-replayed g c =
     let first = (g.C.LockCell.pass_view c.args.passes.0).caller in
     let second = (g.C.LockCell.pass_view c.args.passes.1).caller in
     let called = c.two_callers in
@@ -18,4 +18,4 @@ returns g c =
     let all = λ (k : ℕ) (lt : k < first.cell.numbers).
     let own = c.requires.all k (subst (λ z. k < z.numbers) (sym o.one_cell) lt) in
     elim (first.owned k) as (λ b. first.owned k ≡ b → (b || second.owned k) ≡ true → DoesRun g.O.SeqObject k first.cell.limit first.cell.opening o.run (cond b (entries_for first k firsts) (entries_for second k seconds)) []) [ true ↦ (λ is _. by_first k is) | false ↦ (λ _ own. by_second k own) ] refl own in
-    record { replayed = (o.run, o.ran, λ ticket. c.runs_replay.ensures first.cell called.result.0.log o.run _ (λ _. []) o.ran called.ensures.ended.valid.legal called.ensures.ended.valid.within all ticket) }
+    (o.run, o.ran, λ ticket. c.runs_replay.ensures first.cell called.result.0.log o.run _ (λ _. []) o.ran called.ensures.ended.valid.legal called.ensures.ended.valid.within all ticket)

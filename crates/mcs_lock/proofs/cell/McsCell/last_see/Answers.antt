@@ -1,4 +1,4 @@
-use Rattle.std.proofs.Common.{rules, ◌≡◌, ℕ, ◌-◌, ◌<◌, true, [], ◌∷◌, refl, sym, ap, subst, ◌∙◌, arith}
+use Rattle.std.proofs.Common.{rules, ◌≡◌, ℕ, ◌-◌, ◌^◌, ◌<◌, true, [], ◌∷◌, refl, sym, ap, subst, ◌∙◌, arith}
 use Rattle.event_log.specs.Distinct.{has}
 use Rattle.word_rule.specs.declared.machine.step_done.StepDone.TheVariants as steps
 use Rattle.word_rule.specs.declared.lock_kind.Stage.TheVariants.{Mcs}
@@ -34,7 +34,7 @@ pub overflow_cast-follower : goal.overflow_cast-follower
 overflow_cast-follower g c = let s = c.args.self.now in let a = c.args.leaving in let few = s.few in let t = c.load-found.ensures.2.found c.if-prove.false in let word = t.word in
     let told = ap (λ z. z.0.told) c.join_seat.ensures.2 ∙ (a.leaves.at.told ∙ ap (λ k. k ∷ []) c.requires.leaving.told) in
     let below = else_below s.table.table.shared.key s.cpus t.cpu c.join_seat.new.seat.me s.sized.1 told t.other in
-    let small : c.load-found.result - 1 < 256 = omega arith in record { fits = small }
+    let small : c.load-found.result - 1 < 2 ^ 32 = omega arith in record { fits = small }
 
 -- the first caller moved, the second is as it was, and the word named another CPU
 saw : (g : given.Over) (c : goal.After-split_seat g) → let a = c.args.leaving in let o = a.inside.outside in let w = c.args.waiting.outside in let s = c.split_seat in let k : ℕ = c.load-found.result - 1 in

@@ -1,4 +1,4 @@
-use Rattle.std.proofs.Common.{rules, ℕ, ◌-◌, ◌<◌, true, false, [], ◌∷◌, ap, subst, ◌∙◌, arith}
+use Rattle.std.proofs.Common.{rules, ℕ, ◌-◌, ◌^◌, ◌<◌, true, false, [], ◌∷◌, ap, subst, ◌∙◌, arith}
 use Rattle.word_rule.specs.declared.machine.step_done.StepDone.TheVariants as steps
 use Rattle.word_rule.specs.declared.lock_kind.Stage.TheVariants.{Mcs}
 use Rattle.word_rule.specs.declared.lock_kind.McsStage.TheVariants.{Holding, Alone, Passing}
@@ -25,7 +25,7 @@ invariant_of-result g c = let a = c.args.hold in let o = a.inside.outside in
 pub overflow_cast-follower : goal.overflow_cast-follower
 overflow_cast-follower g c = let s = c.args.self.now in let a = c.args.hold in let few = s.few in let t = c.load-found.ensures.2.found c.if-found-eq0.false in let word = t.word in
     let below = else_below s.table.table.shared.key s.cpus t.cpu a.inside.outside.seat.me s.sized.1 (a.holds.at.told ∙ ap (λ k. k ∷ []) c.requires.told) t.other in
-    let small : c.load-found.result - 1 < 256 = omega arith in record { fits = small }
+    let small : c.load-found.result - 1 < 2 ^ 32 = omega arith in record { fits = small }
 
 pub invariant_of-result-else-found-eq0 : goal.invariant_of-result-else-found-eq0
 invariant_of-result-else-found-eq0 g c = let a = c.args.hold in let o = a.inside.outside in let some_one = c.if-found-eq0.false in let k : ℕ = c.load-found.result - 1 in
