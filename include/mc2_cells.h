@@ -48,7 +48,7 @@
 //   refuses, the caller stays as it was.
 // - MC2_CELL_NO_MEMORY comes only if memory was refused. A cell whose log isn't kept takes no memory for it.
 // - The kit's shared pointer, by which callers share a cell, refuses a caller or a closing only for the reasons told below.
-// - The structs and numbers of this header and of mc2_record.h are those of the library (crates/cells/specs/Coding.antt).
+// - The structs and numbers of this header and of mc2_record.h are those of the library (crates/cell_callers/specs/Coding.antt).
 #ifndef MC2_CELLS_H
 #define MC2_CELLS_H
 

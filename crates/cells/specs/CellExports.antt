@@ -1,26 +1,20 @@
 -- What each call from C on a cell does, and tells.
 use Rattle.std.specs.Prelude.{◌≡◌, ℕ, Bool, true, false, Option, Some, None, Result, Ok, Err}
-use Rattle.cells.specs.declared.codes.TheConstants.{REFUSED, BUSY, DONE, NOT_THERE}
-use Rattle.cells.specs.declared.codes.TheConstants.{NO_MEMORY, BAD_OPENING}
-use Rattle.cells.specs.declared.handle_content.HandleContent.{HandleContent}
-use Rattle.cells.specs.declared.handle_content.HandleContent.TheVariants.{Empty, Caller}
-use Rattle.cells.specs.declared.opening.Opening.{Opening}
-use Rattle.cells.specs.declared.opening.NotOpened.{NotOpened}
-use Rattle.cells.specs.declared.opening.NotOpened.TheVariants.{NotEmpty, BadOpening, OutOfMemory}
-use Rattle.cells.specs.declared.ends.NoNewCaller.{NoNewCaller}
-use Rattle.cells.specs.declared.ends.NoNewCaller.TheVariants.{NoneLeft, NoShare}
-use Rattle.cells.specs.declared.ends.NotClosed.{NotClosed}
-use Rattle.cells.specs.declared.ends.NotClosed.TheVariants.{NotAllBack, Shared}
-use Rattle.cells.specs.HandleContents.{KernelCaller}
-use Rattle.cells.specs.declared.logged_step.LoggedStep.{LoggedStep}
-use Rattle.cells.specs.Reopenings.{IsReopenedBy, IsForgotten}
-use Rattle.cells.specs.CellContents.{IsOpenedBy, IsNewCallerIn, IsOwn, IsReturnedTo, IsClosedBy, step_of, may_be_freed}
-
-abbrev pub opening_code : Result (Unit {0}) NotOpened → ℕ
-opening_code (Ok u) = DONE
-opening_code (Err NotEmpty) = REFUSED
-opening_code (Err OutOfMemory) = NO_MEMORY
-opening_code (Err BadOpening) = BAD_OPENING
+use Rattle.cell_callers.specs.declared.codes.TheConstants.{REFUSED, BUSY, DONE, NOT_THERE}
+use Rattle.cell_callers.specs.declared.codes.TheConstants.{NO_MEMORY}
+use Rattle.cell_callers.specs.Codes.{opening_code}
+use Rattle.cell_callers.specs.declared.handle_content.HandleContent.{HandleContent}
+use Rattle.cell_callers.specs.declared.handle_content.HandleContent.TheVariants.{Empty, Caller}
+use Rattle.cell_callers.specs.declared.opening.Opening.{Opening}
+use Rattle.cell_callers.specs.declared.opening.NotOpened.{NotOpened}
+use Rattle.cell_callers.specs.declared.ends.NoNewCaller.{NoNewCaller}
+use Rattle.cell_callers.specs.declared.ends.NoNewCaller.TheVariants.{NoneLeft, NoShare}
+use Rattle.cell_callers.specs.declared.ends.NotClosed.{NotClosed}
+use Rattle.cell_callers.specs.declared.ends.NotClosed.TheVariants.{NotAllBack, Shared}
+use Rattle.cell_callers.specs.HandleContents.{KernelCaller}
+use Rattle.cell_callers.specs.declared.logged_step.LoggedStep.{LoggedStep}
+use Rattle.cell_callers.specs.Reopenings.{IsReopenedBy, IsForgotten}
+use Rattle.cell_callers.specs.CellContents.{IsOpenedBy, IsNewCallerIn, IsOwn, IsReturnedTo, IsClosedBy, step_of, may_be_freed}
 
 abbrev pub ReportsOpening : HandleContent → Opening → ℕ → HandleContent → Type 0
 ReportsOpening before o n after = (told : Result (Unit {0}) NotOpened) × (n ≡ opening_code told) × IsOpenedBy before o told after

@@ -1,26 +1,25 @@
 -- What each call from C does, and tells.
-use Rattle.std.specs.Prelude.{◌≡◌, ℕ, ◌==◌, ◌||◌, nat_lt, List, Bool, true, false, Option, Some, None, Result, Ok, Err}
+use Rattle.std.specs.Prelude.{◌≡◌, ℕ, ◌==◌, ◌||◌, nat_lt, List, Bool, true, false, Option, Some, None, Result}
 use Rattle.core.specs.Mem.{manually_drop_value}
 use Rattle.event_log.specs.declared.logged.NoRoom.{NoRoom}
 use Rattle.kernel_object.specs.declared.call.KCall.{KCall}
 use Rattle.kernel_object.specs.declared.call.KReply.{KReply}
-use Rattle.cells.specs.declared.handle_content.HandleContent.{HandleContent}
-use Rattle.cells.specs.declared.coding.Asked.{Asked}
-use Rattle.cells.specs.declared.coding.Answered.{Answered}
-use Rattle.cells.specs.declared.codes.TheConstants.{LOOKED, REFUSED, DONE, FULL, DONE_KEPT, FULL_KEPT, NOT_THERE}
+use Rattle.cell_callers.specs.declared.handle_content.HandleContent.{HandleContent}
+use Rattle.cell_callers.specs.declared.coding.Asked.{Asked}
+use Rattle.cell_callers.specs.declared.coding.Answered.{Answered}
+use Rattle.cell_callers.specs.declared.codes.TheConstants.{REFUSED, NOT_THERE}
 use Rattle.event_log.specs.declared.event.TheConstants.{MOST_CALLS}
-use Rattle.cells.specs.declared.batching.Batch.{Batch}
-use Rattle.cells.specs.declared.batching.Replies.{Replies}
-use Rattle.cells.specs.declared.whole.Whole.TheVariants as whole
-use Rattle.cells.specs.BatchCodes.{batch_calls, AreRepliesTo}
-use Rattle.cells.specs.declared.whole.Whole.{Whole}
-use Rattle.cells.specs.declared.whole.TriedCall.{TriedCall}
-use Rattle.cells.specs.declared.handle.Handle.{Handle}
-use Rattle.cells.specs.declared.progress.Progress.{Progress}
-use Rattle.cells.specs.HandleContents.{IsAcquireStepIn, IsReleaseStepIn, IsTryIn, IsApplyIn, IsCallIn, IsBatchIn, IsTryCallIn, KernelSteps}
-use Rattle.cells.specs.Coding.{called_of}
-use Rattle.cells.specs.CallReports.{ReportsCallOf}
-use Rattle.cells.specs.Codes.{progress_code, try_code, apply_code, call_code, try_call_code, looks_after, has_looked}
+use Rattle.cell_callers.specs.declared.batching.Batch.{Batch}
+use Rattle.cell_callers.specs.declared.batching.Replies.{Replies}
+use Rattle.cell_callers.specs.BatchCodes.{batch_calls, ReportsWhole}
+use Rattle.cell_callers.specs.declared.whole.Whole.{Whole}
+use Rattle.cell_callers.specs.declared.whole.TriedCall.{TriedCall}
+use Rattle.cell_callers.specs.declared.handle.Handle.{Handle}
+use Rattle.cell_callers.specs.declared.progress.Progress.{Progress}
+use Rattle.cell_callers.specs.HandleContents.{IsAcquireStepIn, IsReleaseStepIn, IsTryIn, IsApplyIn, IsCallIn, IsBatchIn, IsTryCallIn, KernelSteps}
+use Rattle.cell_callers.specs.Coding.{called_of}
+use Rattle.cell_callers.specs.CallReports.{ReportsCallOf}
+use Rattle.cell_callers.specs.Codes.{progress_code, try_code, apply_code, try_call_code, looks_after, has_looked}
 
 -- what the handle has
 abbrev pub content_of : Handle → HandleContent
@@ -47,17 +46,6 @@ ReportsApply before asked old n after new = IfCall (called_of asked) (λ call. (
 -- the same of a whole call, with the looks before and after
 abbrev pub ReportsCall : HandleContent → Asked → Answered × ℕ → ℕ → HandleContent → Answered × ℕ → Type 0
 ReportsCall before asked old n after new = IfCall (called_of asked) (λ call. ReportsCallOf call before old n after new) before old n after new
-
--- the number that is reported of a batch, with the numbers for done and for full, and the replies, which are written where it was done
-abbrev pub ReportsAll : ℕ → ℕ → Result KernelSteps NoRoom → ℕ → Replies → Replies → Type 0
-ReportsAll done full (Ok steps) n old new = (n ≡ done) × AreRepliesTo steps.list.items new
-ReportsAll done full (Err why) n old new = (n ≡ full) × (new ≡ old)
-
-abbrev pub ReportsWhole : Whole (Result KernelSteps NoRoom) → ℕ → Replies → Replies → Type 0
-ReportsWhole (whole.Done said looked) n old new = ReportsAll DONE FULL said n old new
-ReportsWhole (whole.Kept said looked) n old new = ReportsAll DONE_KEPT FULL_KEPT said n old new
-ReportsWhole whole.Waits n old new = (n ≡ LOOKED) × (new ≡ old)
-ReportsWhole whole.Refused n old new = (n ≡ REFUSED) × (new ≡ old)
 
 -- a batch of these calls; where one isn't there, nothing was done, nor written
 abbrev pub ReportsBatchOf : Option (List KCall) → HandleContent → Replies × ℕ → ℕ → HandleContent → Replies × ℕ → Type 0

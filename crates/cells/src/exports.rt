@@ -2,14 +2,11 @@
 
 ghost use Rattle.cells.specs.Exports.{content_of, ReportsAcquireStep, ReportsReleaseStep, ReportsTry, ReportsApply, ReportsCall, ReportsBatch, ReportsTryCall};
 
-use crate::batching::{Batch, Replies, calls_of};
-use crate::codes::{
-    BUSY, DONE, DONE_KEPT, FULL, FULL_KEPT, NOT_THERE, REFUSED, batch_code, call_code,
-    progress_code, shared_answer_code, try_code,
+use cell_callers::{
+    Answered, Asked, BUSY, Batch, DONE, DONE_KEPT, FULL, FULL_KEPT, Handle, NOT_THERE, REFUSED,
+    Replies, TriedCall, at_content, batch_code, call_code, called_of, calls_of, progress_code,
+    shared_answer_code, shared_called_of, try_code,
 };
-use crate::coding::{Answered, Asked, called_of, shared_called_of};
-use crate::handle::at_content;
-use crate::{Handle, TriedCall};
 use event_log::MOST_CALLS;
 
 /// The caller's next step towards the object.

@@ -1,19 +1,16 @@
 //! The calls that C has on a cell, and on a new handle.
 
 ghost use Rattle.std.specs.Prelude.{◌≡◌, ◌⊎◌, ◌↔◌};
-ghost use Rattle.cells.specs.declared.codes.TheConstants.{BAD_OPENING, DONE, NO_MEMORY};
+ghost use Rattle.cell_callers.specs.declared.codes.TheConstants.{BAD_OPENING, DONE, NO_MEMORY};
 ghost use Rattle.cells.specs.Exports.{content_of};
-ghost use Rattle.cells.specs.CellContents.{IsBadOpening};
+ghost use Rattle.cell_callers.specs.CellContents.{IsBadOpening};
 ghost use Rattle.cells.specs.CellExports.{ReportsOpening, ReportsReopening, ReportsForgetting, ReportsNewCaller, ReportsReturn, ReportsClosing, ReportsFreeing, ReportsStep, owns_back};
-ghost use Rattle.cells.specs.declared.handle_content.HandleContent.TheVariants.{Empty};
+ghost use Rattle.cell_callers.specs.declared.handle_content.HandleContent.TheVariants.{Empty};
 
-use crate::codes::{BUSY, DONE, NO_MEMORY, NOT_THERE, REFUSED, opening_code};
-use crate::ends::{NoNewCaller, NotClosed};
-use crate::handle::with_content;
-use crate::logged_step::LoggedStep;
-use crate::opening::Opening;
-use crate::parts::Parts;
-use crate::{Caller, CallerState, Handle, HandleContent};
+use cell_callers::{
+    BUSY, Caller, CallerState, DONE, Handle, HandleContent, LoggedStep, NO_MEMORY, NOT_THERE,
+    NoNewCaller, NotClosed, Opening, Parts, REFUSED, opening_code, with_content,
+};
 use kernel_object::KernelObject;
 use std::alloc::Global;
 use std::mem::ManuallyDrop;

@@ -2,16 +2,14 @@
 //! this is compiled, so that nothing of the others is in its way. At an object of another kind it is answered `badcall`.
 
 ghost use Rattle.cells.specs.Exports.{content_of};
-ghost use Rattle.cells.specs.CallReports.{ReportsCallOf};
+ghost use Rattle.cell_callers.specs.CallReports.{ReportsCallOf};
 ghost use Rattle.kernel_object.specs.declared.call.KCall.TheVariants.{Queue, Pool, Console, Sched};
 ghost use Rattle.shared_queue.specs.declared.call.QueueCall.TheVariants as queue;
 ghost use Rattle.page_pool.specs.declared.call.PoolCall.TheVariants as pool;
 ghost use Rattle.console_ring.specs.declared.call.ConsoleCall.TheVariants as console;
 ghost use Rattle.wake_list.specs.declared.call.SchedCall.TheVariants as sched;
 
-use crate::Handle;
-use crate::coding::Answered;
-use crate::handle::at_content;
+use cell_callers::{Answered, Handle, at_content};
 use console_ring::ConsoleCall;
 use kernel_object::KCall;
 use page_pool::PoolCall;

@@ -1,0 +1,23 @@
+use Rattle.std.proofs.Common.{sym, subst}
+use Rattle.std_alloc.specs.Arc.{arc_value}
+use Rattle.guarded_cell.specs.Kinds.{IsPassOf}
+use Rattle.cell_callers.specs.OpenCells.{AreHome}
+use Rattle.cell_callers.proofs.Homes.{front_home, last_home}
+use Rattle.cell_callers.proofs.open_cell.OpenCell.new_caller.Goals as goal
+
+pub invariant_of-caller : goal.invariant_of-caller
+invariant_of-caller g c =
+    let cell = arc_value c.args.self.cell in
+    let left = c.pop-dealt.new.self.items in
+    let home = last_home cell left c.in-Some.pass (subst (AreHome cell) c.in-Some.ensures.items c.args.self.of) in
+    record { of = subst (λ z. IsPassOf z c.in-Some.pass) (sym c.in-Ok.ensures) home.of; one = home.one }
+
+pub invariant_of-rest-2 : goal.invariant_of-rest-2
+invariant_of-rest-2 g c =
+    let cell = arc_value c.args.self.cell in
+    record {
+      of = front_home cell c.pop-dealt.new.self.items c.in-Some.pass (subst (AreHome cell) c.in-Some.ensures.items c.args.self.of);
+      returned = c.args.self.returned;
+      some = c.args.self.some;
+      any = c.args.self.any;
+    }

@@ -1,0 +1,71 @@
+-- What C is told: a number for each thing that is reported.
+use Rattle.std.specs.Prelude.{ℕ, ◌+◌, ◌%◌, ◌^◌, ◌==◌, Bool, true, false, Option, Some, None, Result, Ok, Err, if◌then◌else◌}
+use Rattle.event_log.specs.declared.logged.NoRoom.{NoRoom}
+use Rattle.kernel_object.specs.declared.call.KReply.{KReply}
+use Rattle.cell_callers.specs.declared.coding.Answered.{Answered}
+use Rattle.cell_callers.specs.declared.codes.TheConstants.{STEPPED, LOOKED, ENTERED, FOUND, LEFT, REFUSED, BUSY, DONE, FULL, DONE_KEPT, FULL_KEPT, NO_MEMORY, BAD_OPENING}
+use Rattle.cell_callers.specs.declared.opening.NotOpened.{NotOpened}
+use Rattle.cell_callers.specs.declared.opening.NotOpened.TheVariants.{NotEmpty, BadOpening, OutOfMemory}
+use Rattle.cell_callers.specs.declared.progress.Progress.{Progress}
+use Rattle.cell_callers.specs.declared.progress.Progress.TheVariants as told
+use Rattle.cell_callers.specs.declared.whole.Whole.{Whole}
+use Rattle.cell_callers.specs.declared.whole.Whole.TheVariants as whole
+use Rattle.cell_callers.specs.declared.whole.TriedCall.{TriedCall}
+use Rattle.cell_callers.specs.declared.whole.TriedCall.TheVariants as tried
+use Rattle.cell_callers.specs.Coding.{reply_code}
+
+abbrev pub progress_code : Option Progress → ℕ
+progress_code (Some told.Stepped) = STEPPED
+progress_code (Some told.Looked) = LOOKED
+progress_code (Some told.Entered) = ENTERED
+progress_code (Some told.Found) = FOUND
+progress_code (Some told.Left) = LEFT
+progress_code None = REFUSED
+
+abbrev pub try_code : Option Bool → ℕ
+try_code (Some true) = FOUND
+try_code (Some false) = BUSY
+try_code None = REFUSED
+
+-- of what was answered, with the numbers for done and for full, and the answer, which is written where the call was done
+abbrev pub answer_code : ℕ → ℕ → Answered → Result KReply NoRoom → ℕ × Answered
+answer_code done full old (Ok reply) = (done, reply_code reply)
+answer_code done full old (Err why) = (full, old)
+
+abbrev pub apply_code : Answered → Option (Result KReply NoRoom) → ℕ × Answered
+apply_code old (Some said) = answer_code DONE FULL old said
+apply_code old None = (REFUSED, old)
+
+-- what is told of a call whose object isn't given back yet, for what is told of it without that
+abbrev pub kept_code : ℕ → ℕ
+kept_code told = if told == DONE then DONE_KEPT else FULL_KEPT
+
+abbrev pub call_code : Answered → Whole (Result KReply NoRoom) → ℕ × Answered
+call_code old (whole.Done said looked) = answer_code DONE FULL old said
+call_code old (whole.Kept said looked) = answer_code DONE_KEPT FULL_KEPT old said
+call_code old whole.Waits = (LOOKED, old)
+call_code old whole.Refused = (REFUSED, old)
+
+abbrev pub try_call_code : Answered → TriedCall (Result KReply NoRoom) → ℕ × Answered
+try_call_code old (tried.Done said) = answer_code DONE FULL old said
+try_call_code old (tried.Kept said) = answer_code DONE_KEPT FULL_KEPT old said
+try_call_code old tried.Busy = (BUSY, old)
+try_call_code old tried.Refused = (REFUSED, old)
+
+-- the looks, counted on by one where there was one; 2^64 is 0 again
+abbrev pub looks_after : Bool → ℕ → ℕ
+looks_after true n = (n + 1) % 2 ^ 64
+looks_after false n = n
+
+abbrev pub has_looked : {D : Type 0} → Whole D → Bool
+has_looked (whole.Done said looked) = looked
+has_looked (whole.Kept said looked) = looked
+has_looked whole.Waits = true
+has_looked whole.Refused = false
+
+-- of an opening
+abbrev pub opening_code : Result (Unit {0}) NotOpened → ℕ
+opening_code (Ok u) = DONE
+opening_code (Err NotEmpty) = REFUSED
+opening_code (Err OutOfMemory) = NO_MEMORY
+opening_code (Err BadOpening) = BAD_OPENING

@@ -1,0 +1,84 @@
+-- What is done with a cell that C has opened: passes are given out and given back, and it ends.
+use Rattle.std.specs.declared.cmp.PartialEq.{Ghosts as Eq}
+use Rattle.std.specs.declared.default.Default.{Ghosts as Default}
+use Rattle.std.specs.Prelude.{◌≡◌, ◌==◌, ◌&&◌, nat_lt, ◌<◌, ◌≤◌, ◌+◌, Bool, false, [], ◌∷◌, ◌++◌, Option, Some, None, Result, Ok, Err, vec_len}
+use Rattle.std_alloc.specs.Arc.{arc_value}
+use Rattle.event_log.specs.declared.object.SeqObject.{Ghosts}
+use Rattle.event_log.specs.History.{History}
+use Rattle.word_rule.specs.declared.pass.Pass.{Pass}
+use Rattle.word_rule.specs.Cell.{stored}
+use Rattle.word_rule.specs.LockRuns.{endings_in, arrivals_in}
+use Rattle.word_rule.specs.Passes.{view_of_pass, run_of_pass}
+use Rattle.cell_callers.specs.declared.caller_state.CallerState.{CallerState}
+use Rattle.cell_callers.specs.declared.caller_state.CallerState.TheVariants as at
+use Rattle.cell_callers.specs.declared.caller.Caller.{Caller}
+use Rattle.cell_callers.specs.declared.open_cell.OpenCell.{OpenCell}
+use Rattle.cell_callers.specs.declared.ends.NoNewCaller.{NoNewCaller}
+use Rattle.cell_callers.specs.declared.ends.NoNewCaller.TheVariants.{NoneLeft, NoShare}
+use Rattle.cell_callers.specs.declared.ends.NotClosed.{NotClosed}
+use Rattle.cell_callers.specs.declared.ends.NotClosed.TheVariants.{NotAllBack, Shared}
+use Rattle.cell_callers.specs.OpenCells.{TakesIn}
+use Rattle.cell_callers.specs.Places.{place_of, Between}
+
+module _ {O P C R : Type 0} {g : Ghosts O P C R} {call_eq : Eq C} {call_default : Default C} {reply_eq : Eq R} {reply_default : Default R} where
+  -- nothing was done
+  pub record IsSame (before after : OpenCell O P C R g call_eq call_default reply_eq reply_default) : Type 0 where
+    pub cell : arc_value after.cell ≡ arc_value before.cell
+    pub passes : after.passes.items ≡ before.passes.items
+    pub home : after.home ≡ before.home
+    pub back : after.back ≡ before.back
+
+  -- a caller has the last of the passes
+  pub record HasNewCaller (before : OpenCell O P C R g call_eq call_default reply_eq reply_default) (caller : Caller O P C R g call_eq call_default reply_eq reply_default) (after : OpenCell O P C R g call_eq call_default reply_eq reply_default) : Type 0 where
+    pub pass : Pass O P C R g call_eq call_default reply_eq reply_default
+    pub idle : place_of caller.place ≡ Some (at.Idle pass)
+    pub of : arc_value caller.cell ≡ arc_value before.cell
+    pub cell : arc_value after.cell ≡ arc_value before.cell
+    pub passes : before.passes.items ≡ after.passes.items ++ pass ∷ []
+    pub home : after.home ≡ before.home
+    pub back : after.back ≡ before.back
+
+  -- a pass was given out; or nothing was done, since none was left, or since the cell gave no share of itself
+  abbrev pub IsNewCaller : OpenCell O P C R g call_eq call_default reply_eq reply_default → Result (Caller O P C R g call_eq call_default reply_eq reply_default) NoNewCaller → OpenCell O P C R g call_eq call_default reply_eq reply_default → Type 0
+  IsNewCaller before (Ok caller) after = HasNewCaller before caller after
+  IsNewCaller before (Err NoneLeft) after = IsSame before after × (vec_len before.passes ≡ 0)
+  IsNewCaller before (Err NoShare) after = IsSame before after × (0 < vec_len before.passes)
+
+  -- the caller is idle, and its CPU is the least that wasn't given back yet
+  abbrev pub is_next : OpenCell O P C R g call_eq call_default reply_eq reply_default → CallerState O P C R g call_eq call_default reply_eq reply_default → Bool
+  is_next o (at.Idle p) = nat_lt o.back o.cpus && ((view_of_pass p).caller.acting == o.back)
+  is_next o state = false
+
+  -- an idle caller's pass was taken in
+  pub record HasReturned (before : OpenCell O P C R g call_eq call_default reply_eq reply_default) (caller : Caller O P C R g call_eq call_default reply_eq reply_default) (after : OpenCell O P C R g call_eq call_default reply_eq reply_default) : Type 0 where
+    pub pass : Pass O P C R g call_eq call_default reply_eq reply_default
+    pub idle : place_of caller.place ≡ Some (at.Idle pass)
+    pub cell : arc_value after.cell ≡ arc_value before.cell
+    pub passes : after.passes.items ≡ before.passes.items
+    pub next : (view_of_pass pass).caller.acting ≡ before.back
+    pub home : TakesIn before.home pass after.home
+    pub back : after.back ≡ before.back + 1
+
+  -- a caller was given back; or it isn't the next, is there as it was, and nothing was done
+  abbrev pub IsReturned : OpenCell O P C R g call_eq call_default reply_eq reply_default → Caller O P C R g call_eq call_default reply_eq reply_default → Option (Caller O P C R g call_eq call_default reply_eq reply_default) → OpenCell O P C R g call_eq call_default reply_eq reply_default → Type 0
+  IsReturned before caller None after = HasReturned before caller after
+  IsReturned before caller (Some left) after = IsSame before after × (arc_value left.cell ≡ arc_value caller.cell) × Between caller.place left.place (λ p q. (is_next before p ≡ false) × (q ≡ p))
+
+  -- all callers were given back, the pass of all CPUs has seen the log that is left, and each that has arrived in line has ended
+  -- its hold
+  pub record HasClosed (before : OpenCell O P C R g call_eq call_default reply_eq reply_default) (left : History O P C R) : Type 0 where
+    pub pass : Pass O P C R g call_eq call_default reply_eq reply_default
+    pub home : before.home ≡ Some pass
+    pub all : before.cpus ≤ before.back
+    pub log : left ≡ stored g (view_of_pass pass).caller.cell (view_of_pass pass).seen
+    pub run : endings_in (run_of_pass pass) ≡ arrivals_in (run_of_pass pass)
+
+  -- why a cell goes on: a caller wasn't given back, or all were and another shares the cell
+  abbrev pub IsWhyOpen : OpenCell O P C R g call_eq call_default reply_eq reply_default → NotClosed → Type 0
+  IsWhyOpen o NotAllBack = o.back < o.cpus
+  IsWhyOpen o Shared = o.cpus ≤ o.back
+
+  -- the cell has ended, or it is there as it was
+  abbrev pub IsClosed : OpenCell O P C R g call_eq call_default reply_eq reply_default → Result (History O P C R) (OpenCell O P C R g call_eq call_default reply_eq reply_default × NotClosed) → Type 0
+  IsClosed before (Ok left) = HasClosed before left
+  IsClosed before (Err left) = IsSame before left.0 × IsWhyOpen before left.1

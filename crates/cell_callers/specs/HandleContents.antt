@@ -1,0 +1,75 @@
+-- What is done with what a handle has: a caller's step, or nothing.
+use Rattle.std.specs.Prelude.{◌≡◌, Bool, List, Option, None, Result}
+use Rattle.std_alloc.specs.Arc.{arc_value}
+use Rattle.event_log.specs.declared.event.Steps.{Steps}
+use Rattle.event_log.specs.declared.logged.NoRoom.{NoRoom}
+use Rattle.kernel_object.specs.declared.call.KCall.{KCall}
+use Rattle.kernel_object.specs.declared.call.KReply.{KReply}
+use Rattle.kernel_object.specs.declared.call.KParams.{KParams}
+use Rattle.kernel_object.specs.declared.object.KernelObject.{KernelObject}
+use Rattle.kernel_object.specs.contracts.object.KernelObjectSeqObject.TheImpl.{ghosts}
+use Rattle.kernel_object.specs.contracts.call.KCallPartialEq.TheImpl.{ghosts as call_compares}
+use Rattle.kernel_object.specs.contracts.call.KCallDefault.TheImpl.{ghosts as call_defaults}
+use Rattle.kernel_object.specs.contracts.call.KReplyPartialEq.TheImpl.{ghosts as reply_compares}
+use Rattle.kernel_object.specs.contracts.call.KReplyDefault.TheImpl.{ghosts as reply_defaults}
+use Rattle.cell_callers.specs.declared.caller.Caller.{Caller as CallerOf}
+use Rattle.cell_callers.specs.declared.handle_content.HandleContent.{HandleContent}
+use Rattle.cell_callers.specs.declared.handle_content.HandleContent.TheVariants.{Caller}
+use Rattle.cell_callers.specs.declared.progress.Progress.{Progress}
+use Rattle.cell_callers.specs.Steps.{IsAcquireStep, IsReleaseStep}
+use Rattle.cell_callers.specs.Tries.{IsTried}
+use Rattle.cell_callers.specs.Applies.{IsApplied}
+use Rattle.cell_callers.specs.Wholes.{IsCalled, IsBatched, IsTryCalled}
+use Rattle.cell_callers.specs.declared.whole.Whole.{Whole}
+use Rattle.cell_callers.specs.declared.whole.Whole.TheVariants as whole
+use Rattle.cell_callers.specs.declared.whole.TriedCall.{TriedCall}
+use Rattle.cell_callers.specs.declared.whole.TriedCall.TheVariants as tried
+use Rattle.cell_callers.specs.declared.caller_state.CallerState.{CallerState}
+use Rattle.mcs_lock.specs.declared.states.Behind.{Behind}
+use Rattle.cell_callers.specs.declared.place.Place.{Place}
+use Rattle.cell_callers.specs.Places.{Between}
+use Rattle.guarded_cell.specs.declared.cell.AnyCell.{AnyCell}
+
+-- a caller of a cell around an object of the kernel
+abbrev pub KernelCaller : Type 0
+KernelCaller = CallerOf KernelObject KParams KCall KReply ghosts call_compares call_defaults reply_compares reply_defaults
+
+abbrev pub KernelSteps : Type 0
+KernelSteps = Steps KernelObject KParams KCall KReply
+
+abbrev pub KernelState : Type 0
+KernelState = CallerState KernelObject KParams KCall KReply ghosts call_compares call_defaults reply_compares reply_defaults
+
+abbrev pub KernelBehind : Type 0
+KernelBehind = Behind KernelObject KParams KCall KReply ghosts call_compares call_defaults reply_compares reply_defaults
+
+abbrev pub KernelPlace : Type 0
+KernelPlace = Place KernelObject KParams KCall KReply ghosts call_compares call_defaults reply_compares reply_defaults
+
+-- a caller of the same cell has done that, and reports r; what is no caller reports that nothing was done
+abbrev pub IsDoneIn : {R : Type 0} → (AnyCell KernelObject KParams KCall KReply → KernelState → R → KernelState → Type 0) → R → HandleContent → R → HandleContent → Type 0
+IsDoneIn Q none (Caller c) r (Caller d) = (arc_value d.cell ≡ arc_value c.cell) × Between c.place d.place (λ p q. Q (arc_value c.cell) p r q)
+IsDoneIn Q none before r after = (r ≡ none) × (after ≡ before)
+
+-- a step towards the object, a step to give it back, a try, and a call under a hold
+abbrev pub IsAcquireStepIn : HandleContent → Option Progress → HandleContent → Type 0
+IsAcquireStepIn = IsDoneIn (IsAcquireStep ghosts) None
+
+abbrev pub IsReleaseStepIn : HandleContent → Option Progress → HandleContent → Type 0
+IsReleaseStepIn = IsDoneIn (IsReleaseStep ghosts) None
+
+abbrev pub IsTryIn : HandleContent → Option Bool → HandleContent → Type 0
+IsTryIn = IsDoneIn (λ cell. IsTried ghosts) None
+
+abbrev pub IsApplyIn : KCall → HandleContent → Option (Result KReply NoRoom) → HandleContent → Type 0
+IsApplyIn call = IsDoneIn (λ cell before. IsApplied ghosts before call) None
+
+-- a whole call, a batch, and a call that is a try
+abbrev pub IsCallIn : KCall → HandleContent → Whole (Result KReply NoRoom) → HandleContent → Type 0
+IsCallIn call = IsDoneIn (λ cell before. IsCalled ghosts cell before call) whole.Refused
+
+abbrev pub IsBatchIn : List KCall → HandleContent → Whole (Result KernelSteps NoRoom) → HandleContent → Type 0
+IsBatchIn calls = IsDoneIn (λ cell before. IsBatched ghosts cell before calls) whole.Refused
+
+abbrev pub IsTryCallIn : KCall → HandleContent → TriedCall (Result KReply NoRoom) → HandleContent → Type 0
+IsTryCallIn call = IsDoneIn (λ cell before. IsTryCalled ghosts cell before call) tried.Refused

@@ -1,0 +1,41 @@
+-- A cell is opened on the object that another has ended with, and its log goes on.
+use Rattle.std.specs.Prelude.{◌≡◌, ℕ, ◌^◌, ◌-◌, Bool, true, false, Option, Some, Result, Ok, Err}
+use Rattle.event_log.specs.History.{History}
+use Rattle.sound_run.specs.declared.lock_kind.LockKind.{LockKind}
+use Rattle.cell_callers.specs.declared.handle_content.HandleContent.{HandleContent}
+use Rattle.cell_callers.specs.declared.handle_content.HandleContent.TheVariants.{Cell, Ended}
+use Rattle.cell_callers.specs.declared.opening.NotOpened.{NotOpened}
+use Rattle.cell_callers.specs.declared.opening.NotOpened.TheVariants.{NotEmpty, BadOpening, OutOfMemory}
+use Rattle.cell_callers.specs.NewCells.{IsOpenedOn}
+use Rattle.cell_callers.specs.Openings.{lock_numbered, cpus_numbered}
+
+abbrev pub has_ended : HandleContent → Bool
+has_ended (Ended h) = true
+has_ended content = false
+
+-- a lock and a count of CPUs that fit
+abbrev pub fit : Option LockKind → Option ℕ → Bool
+fit (Some lock) (Some n) = true
+fit lock n = false
+
+-- what had ended has a new cell with its log; or all is as it was, since no cell had ended, a number didn't fit, or there was no
+-- memory
+abbrev pub IsReopenedAs : HandleContent → Option LockKind → Option ℕ → Result (Unit {0}) NotOpened → HandleContent → Type 0
+IsReopenedAs (Ended h) (Some lock) (Some n) (Ok u) (Cell c) = IsOpenedOn lock n h c
+IsReopenedAs before lock n (Ok u) after = ⊥
+IsReopenedAs before lock n (Err NotEmpty) after = (has_ended before ≡ false) × (after ≡ before)
+IsReopenedAs before lock n (Err BadOpening) after = (has_ended before ≡ true) × (fit lock n ≡ false) × (after ≡ before)
+IsReopenedAs before lock n (Err OutOfMemory) after = (has_ended before ≡ true) × (fit lock n ≡ true) × (after ≡ before)
+
+-- the same, of their numbers
+abbrev pub IsReopenedBy : HandleContent → ℕ → ℕ → Result (Unit {0}) NotOpened → HandleContent → Type 0
+IsReopenedBy before lock n told after = IsReopenedAs before (lock_numbered lock) (cpus_numbered n) told after
+
+-- a log goes on with the greatest limit, and isn't kept in memory any more
+abbrev pub without_log : {O P C R : Type 0} → History O P C R → History O P C R
+without_log h = record { params = h.params; limit = 2 ^ 64 - 1; log = h.log; state = h.state }
+
+-- the log of a cell that has ended isn't kept any more, or all is as it was
+abbrev pub IsForgotten : HandleContent → Bool → HandleContent → Type 0
+IsForgotten (Ended h) true (Ended k) = k ≡ without_log h
+IsForgotten before told after = (has_ended before ≡ false) × (told ≡ false) × (after ≡ before)

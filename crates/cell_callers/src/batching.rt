@@ -1,0 +1,55 @@
+//! Batches of calls, by the numbers that C has for them.
+
+ghost use Rattle.std.specs.Prelude.{◌≡◌, ◌≤◌, Some, None, IfSome, IfNone, length};
+ghost use Rattle.event_log.specs.declared.event.TheConstants.{MOST_CALLS};
+ghost use Rattle.cell_callers.specs.BatchCodes.{batch_calls, AreRepliesTo};
+
+use crate::coding::{Answered, Asked, reply_code, shared_called_of};
+use arrayvec::ArrayVec;
+use event_log::{MOST_CALLS, Step};
+use kernel_object::{KCall, KernelObject};
+
+/// Up to 8 calls, as many as the count says. The others aren't looked at.
+#[derive(Clone, Copy, Debug, PartialEq, Eq, Drop)]
+#[repr(C)]
+pub struct Batch {
+    pub count: u32,
+    pub calls: [Asked; MOST_CALLS],
+}
+
+/// Up to 8 replies, as many as the count says.
+#[derive(Clone, Copy, Debug, PartialEq, Eq, Drop)]
+#[repr(C)]
+pub struct Replies {
+    pub count: u32,
+    pub list: [Answered; MOST_CALLS],
+}
+
+/// The calls of these numbers, if each is there.
+#[inline(never)]
+pub fn calls_of(batch: &Batch) -> Option<ArrayVec<KCall, MOST_CALLS>>
+    requires { batch.now.count ≤ MOST_CALLS }
+    ensures there { IfSome result (λ v. batch_calls batch.now ≡ Some v.items) }
+    ensures count { IfSome result (λ v. length v.items ≡ batch.now.count) }
+    ensures not_there { IfNone result (batch_calls batch.now ≡ None) }
+{
+    let mut calls = ArrayVec::new();
+    for asked in &batch.calls[..batch.count as usize] {
+        calls.push(shared_called_of(asked)?);
+    }
+    Some(calls)
+}
+
+/// Writes the replies of the steps.
+#[inline(never)]
+pub fn write_replies(steps: &[Step<KernelObject>], replies: &mut Replies)
+    requires { length steps.now ≤ MOST_CALLS }
+    ensures { AreRepliesTo steps.now replies.new }
+{
+    let mut count = 0usize;
+    for step in steps {
+        replies.list[count] = reply_code(step.reply);
+        count += 1;
+    }
+    replies.count = count as u32;
+}

@@ -1,0 +1,117 @@
+//! A caller of a cell.
+
+ghost use Rattle.std.specs.Prelude.{◌≡◌, ◌<◌, ◌≤◌, length, IsSome, IfSome};
+ghost use Rattle.event_log.specs.declared.event.TheConstants.{MOST_CALLS};
+ghost use Rattle.std_alloc.specs.Arc.{arc_value};
+ghost use Rattle.event_log.proofs.Props.{legal_props};
+ghost use Rattle.cell_callers.specs.CallerStates.{IsOf, IsOne, state_of};
+ghost use Rattle.cell_callers.specs.Steps.{IsAcquireStep, IsReleaseStep};
+ghost use Rattle.cell_callers.specs.Tries.{IsTried};
+ghost use Rattle.cell_callers.specs.Applies.{IsApplied};
+ghost use Rattle.cell_callers.specs.Wholes.{IsCalled, IsBatched, IsTryCalled};
+ghost use Rattle.cell_callers.specs.Facts.{of_props};
+ghost use Rattle.cell_callers.specs.Places.{place_of, Between};
+
+use crate::{
+    Place, Progress, TriedCall, Whole, acquire_step, apply, batch, call_in_line, release_step,
+    try_call, try_hold,
+};
+use event_log::{NoRoom, SeqObject, Steps};
+use guarded_cell::AnyCell;
+use std::alloc::Global;
+use std::sync::Arc;
+
+/// A caller of a cell, as one CPU, wherever it stands. It shares the cell, which so can't end before it does. It can't be
+/// dropped.
+pub struct Caller<O: SeqObject> {
+    pub cell: Arc<AnyCell<O>, Global>,
+    pub place: Place<O>,
+    pub ghost there: { IsSome (place_of place) },
+    pub ghost of: { IfSome (place_of place) (λ s. IsOf (arc_value cell) s) } by { Prim.hlevel of_props },
+    pub ghost one: { IfSome (place_of place) (λ s. IsOne (state_of s).caller) } by { Prim.hlevel of_props },
+}
+
+impl<O: SeqObject> Caller<O> {
+    /// Its next step towards the object.
+    pub fn acquire_step(&mut self) -> Option<Progress>
+        ensures cell { arc_value self.new.cell ≡ arc_value self.old.cell }
+        ensures step { Between self.old.place self.new.place (λ p q. IsAcquireStep O.SeqObject (arc_value self.old.cell) p result q) }
+    {
+        let cell = &*self.cell;
+        self.place.change(cell,
+            |state, cell| acquire_step(cell, state),
+        )
+    }
+
+    /// Its next step to give the object back.
+    pub fn release_step(&mut self) -> Option<Progress>
+        ensures cell { arc_value self.new.cell ≡ arc_value self.old.cell }
+        ensures step { Between self.old.place self.new.place (λ p q. IsReleaseStep O.SeqObject (arc_value self.old.cell) p result q) }
+    {
+        let cell = &*self.cell;
+        self.place.change(cell,
+            |state, cell| release_step(cell, state),
+        )
+    }
+
+    /// A try.
+    pub fn try_hold(&mut self) -> Option<bool>
+        ensures cell { arc_value self.new.cell ≡ arc_value self.old.cell }
+        ensures tried { Between self.old.place self.new.place (λ p q. IsTried O.SeqObject p result q) }
+    {
+        let cell = &*self.cell;
+        self.place.change(cell, |state, cell| try_hold(cell, state))
+    }
+
+    /// A call, under its hold.
+    pub fn apply(&mut self, asked: &O::Call) -> Option<Result<O::Reply, NoRoom>>
+        ensures cell { arc_value self.new.cell ≡ arc_value self.old.cell }
+        ensures applied { Between self.old.place self.new.place (λ p q. IsApplied O.SeqObject p asked.now result q) }
+    {
+        let how = (&*self.cell, asked);
+        self.place.change(how,
+            |state, (cell, asked)| apply(cell, state, asked),
+        )
+    }
+
+    /// A whole call, as far as it comes without waiting.
+    pub fn call(&mut self, asked: &O::Call) -> Whole<Result<O::Reply, NoRoom>>
+        ensures cell { arc_value self.new.cell ≡ arc_value self.old.cell }
+        ensures called { Between self.old.place self.new.place (λ p q. IsCalled O.SeqObject (arc_value self.old.cell) p asked.now result q) }
+    {
+        let how = (&*self.cell, asked);
+        self.place
+            .change(how, |state, (cell, asked)| call_in_line(cell, state, asked))
+    }
+
+    /// A batch of 1 to 8 calls, as far as it comes without waiting.
+    pub fn batch(&mut self, asked: &[O::Call]) -> Whole<Result<Steps<O>, NoRoom>>
+        requires some { 0 < length asked.now }
+        requires few { length asked.now ≤ MOST_CALLS }
+        ensures cell { arc_value self.new.cell ≡ arc_value self.old.cell }
+        ensures called { Between self.old.place self.new.place (λ p q. IsBatched O.SeqObject (arc_value self.old.cell) p asked.now result q) }
+    {
+        let how = (&*self.cell, asked);
+        self.place.change(how,
+            |state, (cell, asked)|
+                requires state { IsOf cell.now state }
+                requires some { 0 < length asked.now }
+                requires few { length asked.now ≤ MOST_CALLS }
+                ensures of { IsOf cell.entry.now result.0 }
+                ensures caller { (state_of result.0).caller ≡ (state_of state).caller }
+                ensures called { IsBatched O.SeqObject cell.entry.now state asked.entry.now result.1 result.0 }
+            { batch(cell, state, asked) },
+        )
+    }
+
+    /// A whole call, if nobody has the object or is in line for it.
+    pub fn try_call(&mut self, asked: &O::Call) -> TriedCall<Result<O::Reply, NoRoom>>
+        ensures cell { arc_value self.new.cell ≡ arc_value self.old.cell }
+        ensures called { Between self.old.place self.new.place (λ p q. IsTryCalled O.SeqObject (arc_value self.old.cell) p asked.now result q) }
+    {
+        let how = (&*self.cell, asked);
+        self.place.change(how,
+            |state, (cell, asked)| try_call(cell, state, asked),
+        )
+    }
+}

@@ -1,0 +1,90 @@
+//! What is done with what a handle has, of cells.
+
+ghost use Rattle.std.specs.Prelude.{◌≡◌, ◌↔◌, Err};
+ghost use Rattle.cell_callers.specs.CellContents.{IsOpenedBy, IsBadOpening, IsNewCallerIn, IsOwn, IsReturnedTo, IsClosedBy, step_of, may_be_freed};
+
+use crate::ends::{NoNewCaller, NotClosed};
+use crate::logged_step::{LoggedStep, step_at};
+use crate::opening::{NotOpened, Opening, open_cell};
+use crate::{Caller, HandleContent};
+use kernel_object::KernelObject;
+use std::alloc::Global;
+
+impl HandleContent {
+    /// A new cell, where there is nothing.
+    pub fn open(self, alloc: Global, opening: &Opening) -> (HandleContent, Result<(), NotOpened>)
+        ensures opened { IsOpenedBy self opening.now result.1 result.0 }
+        ensures judged { IsBadOpening self opening.now ↔ (result.1 ≡ Err NotOpened.BadOpening) }
+    {
+        match self {
+            HandleContent::Empty => match open_cell(alloc, opening) {
+                Ok(cell) => (HandleContent::Cell(cell), Ok(())),
+                Err(why) => (HandleContent::Empty, Err(why)),
+            },
+            other => (other, Err(NotOpened::NotEmpty)),
+        }
+    }
+
+    /// A caller of a cell that has a pass left.
+    pub fn new_caller(self) -> (HandleContent, Result<Caller<KernelObject>, NoNewCaller>)
+        ensures { IsNewCallerIn self result.1 result.0 }
+    {
+        match self {
+            HandleContent::Cell(cell) => {
+                let (cell, caller) = cell.new_caller();
+                (HandleContent::Cell(cell), caller)
+            }
+            other => (other, Err(NoNewCaller::NoneLeft)),
+        }
+    }
+
+    /// A caller comes back to its cell.
+    pub fn return_caller(
+        self,
+        caller: Caller<KernelObject>,
+    ) -> (HandleContent, Option<Caller<KernelObject>>)
+        requires { IsOwn self caller }
+        ensures { IsReturnedTo self caller result.1 result.0 }
+    {
+        match self {
+            HandleContent::Cell(cell) => {
+                let (cell, left) = cell.return_caller(caller);
+                (HandleContent::Cell(cell), left)
+            }
+            other => (other, Some(caller)),
+        }
+    }
+
+    /// A cell ends, once all callers are back.
+    pub fn close(self) -> (HandleContent, Result<(), NotClosed>)
+        ensures { IsClosedBy self result.1 result.0 }
+    {
+        match self {
+            HandleContent::Cell(cell) => match cell.close() {
+                Ok(logged) => (HandleContent::Ended(logged), Ok(())),
+                Err((cell, why)) => (HandleContent::Cell(cell), Err(why)),
+            },
+            other => (other, Err(NotClosed::NotAllBack)),
+        }
+    }
+
+    /// A step of the log of a cell that has ended.
+    pub fn step_at(&self, event: usize, step: usize) -> Option<LoggedStep>
+        ensures { result ≡ step_of self.now event step }
+    {
+        match self {
+            HandleContent::Ended(logged) => step_at(logged.log(), event, step),
+            _ => None,
+        }
+    }
+
+    /// Whether it may be dropped: all but a caller that isn't idle.
+    pub fn is_free(&self) -> bool
+        ensures { result ≡ may_be_freed self.now }
+    {
+        match self {
+            HandleContent::Caller(caller) => caller.place.is_idle(),
+            _ => true,
+        }
+    }
+}

@@ -1,0 +1,46 @@
+//! On the way back from the object, as far as a holder comes without waiting.
+
+ghost use Rattle.std.specs.Prelude.{◌≡◌};
+ghost use Rattle.guarded_cell.specs.declared.cell.AnyCell.TheVariants.{Mcs};
+ghost use Rattle.guarded_cell.specs.Kinds.{IsHoldOf};
+ghost use Rattle.cell_callers.specs.declared.caller_state.CallerState.TheVariants.{Holding};
+ghost use Rattle.mcs_lock.specs.Passes.{IsHoldOf as IsMcsHoldOf};
+ghost use Rattle.word_rule.specs.Passes.{state_of_hold};
+ghost use Rattle.cell_callers.specs.CallerStates.{IsOf, state_of};
+ghost use Rattle.cell_callers.specs.Arrivals.{IsDeparture};
+
+use crate::CallerState;
+use event_log::SeqObject;
+use guarded_cell::AnyCell;
+use mcs_lock::McsCell;
+use word_rule::Hold;
+
+#[inline]
+pub fn depart_mcs<O: SeqObject>(cell: &McsCell<O>, hold: Hold<O>) -> (CallerState<O>, bool)
+    requires { IsMcsHoldOf cell.now hold }
+    ensures of { IsOf (Mcs cell.now) result.0 }
+    ensures caller { (state_of result.0).caller ≡ (state_of_hold hold).caller }
+    ensures departure { IsDeparture O.SeqObject (Mcs cell.now) (Holding hold) result.1 result.0 }
+{
+    match cell.see(hold) {
+        Ok(passing) => (CallerState::Idle(cell.pass_on(passing)), true),
+        Err(alone) => match cell.empty(alone) {
+            Ok(pass) => (CallerState::Idle(pass), true),
+            Err(leaving) => (CallerState::Leaving(leaving), false),
+        },
+    }
+}
+
+/// The holder gives the object back, unless the one behind it has to link itself first: whether it has.
+#[inline(never)]
+pub fn depart<O: SeqObject>(cell: &AnyCell<O>, hold: Hold<O>) -> (CallerState<O>, bool)
+    requires { IsHoldOf cell.now hold }
+    ensures of { IsOf cell.now result.0 }
+    ensures caller { (state_of result.0).caller ≡ (state_of_hold hold).caller }
+    ensures departure { IsDeparture O.SeqObject cell.now (Holding hold) result.1 result.0 }
+{
+    match cell {
+        AnyCell::Ticket(cell) => (CallerState::Idle(cell.serve(hold)), true),
+        AnyCell::Mcs(cell) => depart_mcs(cell, hold),
+    }
+}

@@ -1,0 +1,56 @@
+//! Callers of cells, for a language that has neither passes nor holds: a caller takes its lock and gives it back step by step, or
+//! calls whole, and stands where it stands between two of them.
+#![tactic(auto)]
+
+mod acquiring;
+mod applied;
+mod arrival;
+mod batching;
+mod caller;
+mod caller_state;
+mod cell_content;
+mod codes;
+mod coding;
+mod departure;
+mod ends;
+mod handle;
+mod handle_content;
+mod logged_step;
+mod open_cell;
+mod opening;
+mod parts;
+mod place;
+mod progress;
+mod releasing;
+mod reopening;
+mod straight;
+mod tried;
+mod unused;
+mod whole;
+
+pub use acquiring::acquire_step;
+pub use applied::apply;
+pub use arrival::{Arrival, arrive};
+pub use batching::{Batch, Replies, calls_of};
+pub use caller::Caller;
+pub use caller_state::CallerState;
+pub use codes::{
+    BAD_OPENING, BUSY, DONE, DONE_KEPT, ENTERED, FOUND, FULL, FULL_KEPT, LEFT, LOOKED, NO_MEMORY,
+    NOT_THERE, REFUSED, STEPPED, batch_code, call_code, opening_code, progress_code,
+    shared_answer_code, try_code,
+};
+pub use coding::{Answered, Asked, called_of, shared_called_of};
+pub use departure::{depart, depart_mcs};
+pub use ends::{NoNewCaller, NotClosed};
+pub use handle::{Handle, at_content, with_content};
+pub use handle_content::HandleContent;
+pub use logged_step::LoggedStep;
+pub use open_cell::OpenCell;
+pub use opening::{NotOpened, Opening};
+pub use parts::Parts;
+pub use place::Place;
+pub use progress::Progress;
+pub use releasing::release_step;
+pub use straight::call_straight;
+pub use tried::try_hold;
+pub use whole::{TriedCall, Whole, batch, call_in_line, try_call};

@@ -1,0 +1,45 @@
+//! A cell that has ended goes on.
+
+ghost use Rattle.cell_callers.specs.Reopenings.{IsReopenedBy, IsForgotten};
+
+use crate::opening::{NotOpened, cpus_numbered, lock_numbered};
+use crate::{HandleContent, OpenCell};
+use std::alloc::Global;
+
+impl HandleContent {
+    /// A new cell of that lock and so many CPUs, on the object of one that has ended: the log goes on.
+    pub fn reopen(
+        self,
+        alloc: Global,
+        lock: u32,
+        cpus: u32,
+    ) -> (HandleContent, Result<(), NotOpened>)
+        ensures { IsReopenedBy self lock cpus result.1 result.0 }
+    {
+        match self {
+            HandleContent::Ended(logged) => {
+                let Some(lock) = lock_numbered(lock) else {
+                    return (HandleContent::Ended(logged), Err(NotOpened::BadOpening));
+                };
+                let Some(cpus) = cpus_numbered(cpus) else {
+                    return (HandleContent::Ended(logged), Err(NotOpened::BadOpening));
+                };
+                match OpenCell::open(alloc, lock, logged, cpus) {
+                    Ok(cell) => (HandleContent::Cell(cell), Ok(())),
+                    Err(logged) => (HandleContent::Ended(logged), Err(NotOpened::OutOfMemory)),
+                }
+            }
+            other => (other, Err(NotOpened::NotEmpty)),
+        }
+    }
+
+    /// The log of a cell that has ended isn't kept any more, and has room for 2^64 - 1 events.
+    pub fn forget(self, alloc: Global) -> (HandleContent, bool)
+        ensures { IsForgotten self result.1 result.0 }
+    {
+        match self {
+            HandleContent::Ended(logged) => (HandleContent::Ended(logged.into_unkept(alloc)), true),
+            other => (other, false),
+        }
+    }
+}

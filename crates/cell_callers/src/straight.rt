@@ -1,0 +1,199 @@
+//! The way of most calls: an idle caller that meets nobody comes to the object, does the call, and gives the object back. What is
+//! seldom is in functions of its own, which report by themselves, so that its locals aren't cleared on this way.
+
+ghost use Rattle.std.specs.Prelude.{◌≡◌, true, None, Some};
+ghost use Rattle.guarded_cell.specs.declared.cell.AnyCell.{AnyCell};
+ghost use Rattle.guarded_cell.specs.declared.cell.AnyCell.TheVariants.{Ticket, Mcs};
+ghost use Rattle.cell_callers.specs.declared.caller_state.CallerState.TheVariants as at;
+ghost use Rattle.cell_callers.specs.declared.codes.TheConstants.{LOOKED};
+ghost use Rattle.ticket_lock.specs.Passes.{IsPassOf as IsTicketPassOf};
+ghost use Rattle.mcs_lock.specs.Passes.{IsPassOf as IsMcsPassOf, IsBehindOf, IsPassingOf, state_of_behind, state_of_passing};
+ghost use Rattle.word_rule.specs.Mcs.Steps.{IsPass};
+ghost use Rattle.word_rule.specs.Passes.{state_of_pass};
+ghost use Rattle.kernel_object.specs.contracts.object.KernelObjectSeqObject.TheImpl.{ghosts};
+ghost use Rattle.cell_callers.specs.CallerStates.{IfMcs, IsOne};
+ghost use Rattle.cell_callers.specs.HandleContents.{KernelState};
+ghost use Rattle.std_alloc.specs.Arc.{arc_value};
+ghost use Rattle.cell_callers.specs.CallReports.{GoesBehind, ReportsCalled, ReportsCalledAt};
+ghost use Rattle.cell_callers.specs.Codes.{kept_code, looks_after};
+ghost use Rattle.cell_callers.specs.Places.{IsAway, IsPlaceOf};
+
+use crate::arrival::line_up;
+use crate::codes::{DONE, FULL, LOOKED, answer_code, call_code, count_look, kept_code};
+use crate::coding::Answered;
+use crate::place::put_line;
+use crate::whole::{apply_held, call_arrived};
+use crate::{Caller, CallerState, Place, call_in_line};
+use core::mem::replace;
+use guarded_cell::AnyCell;
+use kernel_object::{KCall, KernelObject};
+use mcs_lock::{Behind, Entered, Leaving, McsCell, Passing};
+use ticket_lock::{Drawn, TicketCell};
+use word_rule::Pass;
+
+type Line = Option<CallerState<KernelObject>>;
+
+// A caller that isn't idle goes on where it stands.
+#[cold]
+#[inline(never)]
+fn go_on(
+    cell: &AnyCell<KernelObject>,
+    place: &mut Place<KernelObject>,
+    call: KCall,
+    answered: &mut Answered,
+    looks: &mut u64,
+) -> u32
+    requires { IsPlaceOf cell.now place.old }
+    ensures place { IsPlaceOf cell.now place.new }
+    ensures reports { ReportsCalled cell.now call place.old (answered.old, looks.old) result place.new (answered.new, looks.new) }
+{
+    let whole = place.change(
+        (cell, &call),
+        |state, (cell, call)| call_in_line(cell, state, call),
+    );
+    call_code(whole, answered, looks)
+}
+
+// It has looked in vain.
+#[cold]
+#[inline(never)]
+fn wait_drawn(line: &mut Line, drawn: Drawn<KernelObject>, looks: &mut u64) -> u32
+    requires { line.old ≡ None }
+    ensures line { line.new ≡ Some (at.Drawn drawn) }
+    ensures looks { looks.new ≡ looks_after true looks.old }
+    ensures told { result ≡ LOOKED }
+{
+    put_line(line, CallerState::Drawn(drawn));
+    count_look(true, looks);
+    LOOKED
+}
+
+// It is behind another: it arms itself, links itself, and looks.
+#[cold]
+#[inline(never)]
+fn come_behind(
+    any: &AnyCell<KernelObject>,
+    place: &mut Place<KernelObject>,
+    behind: Behind<KernelObject>,
+    call: KCall,
+    answered: &mut Answered,
+    looks: &mut u64,
+) -> u32
+    requires cell { IfMcs any.now (λ c. IsBehindOf c behind) }
+    requires one { IsOne (state_of_behind behind).caller }
+    requires away { IsAway place.old }
+    ensures place { IsPlaceOf any.now place.new }
+    ensures reports { (p : KernelState) → GoesBehind any.now p behind → ReportsCalledAt any.now call p (answered.old, looks.old) result place.new (answered.new, looks.new) }
+{
+    let AnyCell::Mcs(cell) = any else {
+        unreachable!()
+    };
+    let (state, whole) = call_arrived(any, line_up(cell, behind), &call);
+    place.put(state);
+    call_code(whole, answered, looks)
+}
+
+// It keeps the object, as who is behind it has to link itself first.
+#[cold]
+#[inline(never)]
+fn keep(line: &mut Line, leaving: Leaving<KernelObject>, told: u32) -> u32
+    requires { line.old ≡ None }
+    ensures line { line.new ≡ Some (at.Leaving leaving) }
+    ensures told { result ≡ kept_code told }
+{
+    put_line(line, CallerState::Leaving(leaving));
+    kept_code(told)
+}
+
+// Apart, since somebody is seldom behind it.
+#[cold]
+#[inline(never)]
+fn pass_on(cell: &McsCell<KernelObject>, passing: Passing<KernelObject>) -> Pass<KernelObject>
+    requires { IsPassingOf cell.now passing }
+    ensures pass { IsMcsPassOf cell.now result }
+    ensures step { IsPass ghosts (state_of_passing passing) (state_of_pass result) }
+{
+    cell.pass_on(passing)
+}
+
+#[inline]
+fn straight_ticket(
+    cell: &TicketCell<KernelObject>,
+    pass: Pass<KernelObject>,
+    place: &mut Place<KernelObject>,
+    call: KCall,
+    answered: &mut Answered,
+    looks: &mut u64,
+) -> u32
+    requires pass { IsTicketPassOf cell.now pass }
+    requires one { IsOne (state_of_pass pass).caller }
+    requires away { IsAway place.old }
+    ensures place { IsPlaceOf (Ticket cell.now) place.new }
+    ensures reports { ReportsCalledAt (Ticket cell.now) call (at.Idle pass) (answered.old, looks.old) result place.new (answered.new, looks.new) }
+{
+    match cell.look(cell.draw(pass)) {
+        Ok(mut hold) => {
+            let told = answer_code(apply_held(&mut hold, &call), DONE, FULL, answered);
+            place.pass = Some(cell.serve(hold));
+            count_look(true, looks);
+            told
+        }
+        Err(drawn) => wait_drawn(&mut place.line, drawn, looks),
+    }
+}
+
+#[inline]
+fn straight_mcs(
+    any: &AnyCell<KernelObject>,
+    cell: &McsCell<KernelObject>,
+    pass: Pass<KernelObject>,
+    place: &mut Place<KernelObject>,
+    call: KCall,
+    answered: &mut Answered,
+    looks: &mut u64,
+) -> u32
+    requires cell { any.now ≡ Mcs cell.now }
+    requires pass { IsMcsPassOf cell.now pass }
+    requires one { IsOne (state_of_pass pass).caller }
+    requires away { IsAway place.old }
+    ensures place { IsPlaceOf (Mcs cell.now) place.new }
+    ensures reports { ReportsCalledAt (Mcs cell.now) call (at.Idle pass) (answered.old, looks.old) result place.new (answered.new, looks.new) }
+{
+    let mut hold = match cell.enter(cell.clear(pass)) {
+        Entered::Hold(hold) => hold,
+        Entered::Behind(behind) => return come_behind(any, place, behind, call, answered, looks),
+    };
+    let told = answer_code(apply_held(&mut hold, &call), DONE, FULL, answered);
+    let back = match cell.see(hold) {
+        Ok(passing) => pass_on(cell, passing),
+        Err(alone) => match cell.empty(alone) {
+            Ok(pass) => pass,
+            Err(leaving) => return keep(&mut place.line, leaving, told),
+        },
+    };
+    place.pass = Some(back);
+    told
+}
+
+/// A whole call, as far as it comes without waiting, and what is reported of it. The reply is written where it was done, and the
+/// look is counted.
+#[inline]
+pub fn call_straight(
+    caller: &mut Caller<KernelObject>,
+    call: KCall,
+    answered: &mut Answered,
+    looks: &mut u64,
+) -> u32
+    ensures cell { arc_value caller.new.cell ≡ arc_value caller.old.cell }
+    ensures reports { ReportsCalled (arc_value caller.old.cell) call caller.old.place (answered.old, looks.old) result caller.new.place (answered.new, looks.new) }
+{
+    let any = &*caller.cell;
+    let place = &mut caller.place;
+    let Some(pass) = replace(&mut place.pass, None) else {
+        return go_on(any, place, call, answered, looks);
+    };
+    match any {
+        AnyCell::Ticket(cell) => straight_ticket(cell, pass, place, call, answered, looks),
+        AnyCell::Mcs(cell) => straight_mcs(any, cell, pass, place, call, answered, looks),
+    }
+}

@@ -1,6 +1,0 @@
-use Rattle.std.proofs.Common.{◌≡◌, length, map, take, Some}
-use Rattle.cells.specs.Coding.{called_of}
-use Rattle.cells.proofs.batching.calls_of.Given as goal
-
-abbrev pub invariant-loop-asked : goal.invariant-loop-asked
-invariant-loop-asked l = (length l.calls.items ≡ l.asked-index) × (map called_of (take l.asked-index l.asked-items) ≡ map (λ c. Some c) l.calls.items)
