@@ -76,7 +76,7 @@ pub fn cpus_numbered(number: u32) -> Option<u8>
     Some(number as u8)
 }
 
-/// A new object with its log; with 0 events the log isn't kept in memory.
+/// A new object with its log, whose memory is written once; with 0 events the log isn't kept in memory.
 fn open_object(
     alloc: Global,
     params: KParams,
@@ -88,7 +88,9 @@ fn open_object(
     if events == 0 {
         return Logged::open_unkept(alloc, params);
     }
-    Logged::open(alloc, params, events)
+    let mut logged = Logged::open(alloc, params, events)?;
+    logged.touch();
+    Ok(logged)
 }
 
 /// A new cell. There is none if a number doesn't fit, which is judged first, or if memory is refused.
