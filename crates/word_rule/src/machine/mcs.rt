@@ -51,9 +51,17 @@ fn turn_in_queue(words: &mut [u64], stages: &mut [Stage], cpu: u8, stage: McsSta
             StepDone::Link
         }
         McsStage::Waiting => look(words, stages, cpu),
-        McsStage::Holding => see(words[next_index(cpu as u32)], McsStage::Alone, &mut stages[i]),
+        McsStage::Holding => see(
+            words[next_index(cpu as u32)],
+            McsStage::Alone,
+            &mut stages[i],
+        ),
         McsStage::Alone => empty(words, stages, cpu),
-        McsStage::Leaving => see(words[next_index(cpu as u32)], McsStage::Leaving, &mut stages[i]),
+        McsStage::Leaving => see(
+            words[next_index(cpu as u32)],
+            McsStage::Leaving,
+            &mut stages[i],
+        ),
         McsStage::Passing(behind) => {
             words[locked_index(n, behind as u32)] = 0;
             stages[i] = Stage::Idle;
