@@ -4,3 +4,7 @@ pub mod BatchCodes
 pub mod Homes
 pub mod Sends
 pub mod JoinedPasses
+pub mod Places
+pub mod Behind
+pub mod OneCalls
+pub mod Departures

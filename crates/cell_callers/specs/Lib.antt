@@ -4,6 +4,7 @@ pub mod Tries
 pub mod Applies
 pub mod Arrivals
 pub mod Wholes
+pub mod OneCalls
 pub mod Facts
 pub mod Places
 pub mod OpenCells

@@ -37,10 +37,10 @@ impl<O: SeqObject> Caller<O> {
         ensures cell { arc_value self.new.cell ≡ arc_value self.old.cell }
         ensures step { Between self.old.place self.new.place (λ p q. IsAcquireStep O.SeqObject (arc_value self.old.cell) p result q) }
     {
-        let cell = &*self.cell;
-        self.place.change(cell,
-            |state, cell| acquire_step(cell, state),
-        )
+        let place = &mut self.place;
+        let (state, told) = acquire_step(&self.cell, place.take());
+        place.put(state);
+        told
     }
 
     /// Its next step to give the object back.
@@ -48,10 +48,10 @@ impl<O: SeqObject> Caller<O> {
         ensures cell { arc_value self.new.cell ≡ arc_value self.old.cell }
         ensures step { Between self.old.place self.new.place (λ p q. IsReleaseStep O.SeqObject (arc_value self.old.cell) p result q) }
     {
-        let cell = &*self.cell;
-        self.place.change(cell,
-            |state, cell| release_step(cell, state),
-        )
+        let place = &mut self.place;
+        let (state, told) = release_step(&self.cell, place.take());
+        place.put(state);
+        told
     }
 
     /// A try.
@@ -59,8 +59,10 @@ impl<O: SeqObject> Caller<O> {
         ensures cell { arc_value self.new.cell ≡ arc_value self.old.cell }
         ensures tried { Between self.old.place self.new.place (λ p q. IsTried O.SeqObject p result q) }
     {
-        let cell = &*self.cell;
-        self.place.change(cell, |state, cell| try_hold(cell, state))
+        let place = &mut self.place;
+        let (state, told) = try_hold(&self.cell, place.take());
+        place.put(state);
+        told
     }
 
     /// A call, under its hold.
@@ -68,10 +70,10 @@ impl<O: SeqObject> Caller<O> {
         ensures cell { arc_value self.new.cell ≡ arc_value self.old.cell }
         ensures applied { Between self.old.place self.new.place (λ p q. IsApplied O.SeqObject p asked.now result q) }
     {
-        let how = (&*self.cell, asked);
-        self.place.change(how,
-            |state, (cell, asked)| apply(cell, state, asked),
-        )
+        let place = &mut self.place;
+        let (state, told) = apply(&self.cell, place.take(), asked);
+        place.put(state);
+        told
     }
 
     /// A whole call, as far as it comes without waiting.
@@ -79,9 +81,10 @@ impl<O: SeqObject> Caller<O> {
         ensures cell { arc_value self.new.cell ≡ arc_value self.old.cell }
         ensures called { Between self.old.place self.new.place (λ p q. IsCalled O.SeqObject (arc_value self.old.cell) p asked.now result q) }
     {
-        let how = (&*self.cell, asked);
-        self.place
-            .change(how, |state, (cell, asked)| call_in_line(cell, state, asked))
+        let place = &mut self.place;
+        let (state, told) = call_in_line(&self.cell, place.take(), asked);
+        place.put(state);
+        told
     }
 
     /// A batch of 1 to 8 calls, as far as it comes without waiting.
@@ -91,17 +94,10 @@ impl<O: SeqObject> Caller<O> {
         ensures cell { arc_value self.new.cell ≡ arc_value self.old.cell }
         ensures called { Between self.old.place self.new.place (λ p q. IsBatched O.SeqObject (arc_value self.old.cell) p asked.now result q) }
     {
-        let how = (&*self.cell, asked);
-        self.place.change(how,
-            |state, (cell, asked)|
-                requires state { IsOf cell.now state }
-                requires some { 0 < length asked.now }
-                requires few { length asked.now ≤ MOST_CALLS }
-                ensures of { IsOf cell.entry.now result.0 }
-                ensures caller { (state_of result.0).caller ≡ (state_of state).caller }
-                ensures called { IsBatched O.SeqObject cell.entry.now state asked.entry.now result.1 result.0 }
-            { batch(cell, state, asked) },
-        )
+        let place = &mut self.place;
+        let (state, told) = batch(&self.cell, place.take(), asked);
+        place.put(state);
+        told
     }
 
     /// A whole call, if nobody has the object or is in line for it.
@@ -109,9 +105,9 @@ impl<O: SeqObject> Caller<O> {
         ensures cell { arc_value self.new.cell ≡ arc_value self.old.cell }
         ensures called { Between self.old.place self.new.place (λ p q. IsTryCalled O.SeqObject (arc_value self.old.cell) p asked.now result q) }
     {
-        let how = (&*self.cell, asked);
-        self.place.change(how,
-            |state, (cell, asked)| try_call(cell, state, asked),
-        )
+        let place = &mut self.place;
+        let (state, told) = try_call(&self.cell, place.take(), asked);
+        place.put(state);
+        told
     }
 }

@@ -6,6 +6,7 @@ mod acquiring;
 mod applied;
 mod arrival;
 mod batching;
+mod call_law;
 mod caller;
 mod caller_state;
 mod cell_content;
@@ -32,6 +33,7 @@ pub use acquiring::acquire_step;
 pub use applied::apply;
 pub use arrival::{Arrival, arrive};
 pub use batching::{Batch, Replies, calls_of};
+pub use call_law::one_call_is_a_hold;
 pub use caller::Caller;
 pub use caller_state::CallerState;
 pub use codes::{

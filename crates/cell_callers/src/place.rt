@@ -1,10 +1,10 @@
 //! The place of a caller: that of an idle caller's pass, and that of any other. A call that meets nobody changes the first alone.
 
-ghost use Rattle.std.specs.Prelude.{◌≡◌, None, Some, IsSome};
-ghost use Rattle.cell_callers.specs.Places.{place_of, IsAway, Between};
+ghost use Rattle.std.specs.Prelude.{◌≡◌, None, Some, is_some, IsSome};
+ghost use Rattle.cell_callers.specs.Places.{place_of, IsAway};
 
 use crate::CallerState;
-use core::mem::{replace, replace_with};
+use core::mem::replace;
 use event_log::SeqObject;
 use word_rule::Pass;
 
@@ -52,28 +52,30 @@ impl<O: SeqObject> Place<O> {
     }
 
     /// Whether an idle caller stands there.
-    pub fn is_idle(&self) -> bool {
+    pub fn is_idle(&self) -> bool
+        ensures { result ≡ is_some self.now.pass }
+    {
         self.pass.is_some()
     }
 
-    /// Does f with where the caller stands, and puts back what f makes of it.
+    /// Takes out where the caller stands, as its call begins.
     #[inline(never)]
-    pub fn change<X, R, F: FnOnce(CallerState<O>, X) -> (CallerState<O>, R)>(
-        &mut self,
-        x: X,
-        f: F,
-    ) -> R
-        requires some { IsSome (place_of self.old) }
-        requires pre { (p : _) → place_of self.old ≡ Some p → F.pre f p x }
-        ensures { Between self.old self.new (λ p q. F.post f p x (q, result)) }
+    pub fn take(&mut self) -> CallerState<O>
+        requires { IsSome (place_of self.old) }
+        ensures state { place_of self.old ≡ Some result }
+        ensures away { IsAway self.new }
     {
-        replace_with(self, (x, f), |place, (x, f)| {
-            let (state, told) = f(place.into_state(), x);
-            (Place::of(state), told)
-        })
+        match replace(&mut self.pass, None) {
+            Some(pass) => CallerState::Idle(pass),
+            None => match replace(&mut self.line, None) {
+                Some(state) => state,
+                None => unreachable!(),
+            },
+        }
     }
 
     /// The caller stands there, once its call isn't on its way any more.
+    #[inline(never)]
     pub fn put(&mut self, state: CallerState<O>)
         requires { IsAway self.old }
         ensures { place_of self.new ≡ Some state }

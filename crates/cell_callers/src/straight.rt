@@ -47,10 +47,8 @@ fn go_on(
     ensures place { IsPlaceOf cell.now place.new }
     ensures reports { ReportsCalled cell.now call place.old (answered.old, looks.old) result place.new (answered.new, looks.new) }
 {
-    let whole = place.change(
-        (cell, &call),
-        |state, (cell, call)| call_in_line(cell, state, call),
-    );
+    let (state, whole) = call_in_line(cell, place.take(), &call);
+    place.put(state);
     call_code(whole, answered, looks)
 }
 

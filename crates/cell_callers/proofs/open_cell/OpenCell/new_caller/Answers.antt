@@ -1,7 +1,10 @@
-use Rattle.std.proofs.Common.{sym, subst}
+use Rattle.std.proofs.Common.{ap, is_some, sym, subst}
 use Rattle.std_alloc.specs.Arc.{arc_value}
 use Rattle.guarded_cell.specs.Kinds.{IsPassOf}
+use Rattle.cell_callers.specs.declared.caller_state.CallerState.TheVariants as at
+use Rattle.cell_callers.specs.CallerStates.{IsOf, IsOne, state_of}
 use Rattle.cell_callers.specs.OpenCells.{AreHome}
+use Rattle.cell_callers.proofs.Places.{placed}
 use Rattle.cell_callers.proofs.Homes.{front_home, last_home}
 use Rattle.cell_callers.proofs.open_cell.OpenCell.new_caller.Goals as goal
 
@@ -10,7 +13,11 @@ invariant_of-caller g c =
     let cell = arc_value c.args.self.cell in
     let left = c.pop-dealt.new.self.items in
     let home = last_home cell left c.in-Some.pass (subst (AreHome cell) c.in-Some.ensures.items c.args.self.of) in
-    record { of = subst (λ z. IsPassOf z c.in-Some.pass) (sym c.in-Ok.ensures) home.of; one = home.one }
+    record {
+      there = ap is_some c.of.ensures;
+      of = placed c.of.result (at.Idle c.in-Some.pass) (λ s. IsOf (arc_value c.in-Ok.shared) s) c.of.ensures (subst (λ z. IsPassOf z c.in-Some.pass) (sym c.in-Ok.ensures) home.of);
+      one = placed c.of.result (at.Idle c.in-Some.pass) (λ s. IsOne (state_of s).caller) c.of.ensures home.one;
+    }
 
 pub invariant_of-rest-2 : goal.invariant_of-rest-2
 invariant_of-rest-2 g c =

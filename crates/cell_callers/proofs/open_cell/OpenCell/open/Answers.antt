@@ -56,4 +56,5 @@ returns-in-Ok-new-clause-opened g c =
       back = refl;
       home = refl;
       passes = λ k x there. (is.passes k x there).1;
+      runs = is.runs;
     }

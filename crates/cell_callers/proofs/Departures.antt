@@ -1,0 +1,39 @@
+-- A holder of an MCS lock that has given the object back.
+use Rattle.std.specs.declared.cmp.PartialEq.{Ghosts as Eq}
+use Rattle.std.specs.declared.default.Default.{Ghosts as Default}
+use Rattle.std.proofs.Common.{◌≡◌, ◌∙◌, ℕ, true, ap, Result, Ok, Err}
+use Rattle.event_log.specs.declared.object.SeqObject.{Ghosts}
+use Rattle.event_log.specs.declared.logged.NoRoom.{NoRoom}
+use Rattle.kernel_object.specs.declared.call.KReply.{KReply}
+use Rattle.word_rule.specs.declared.hold.Hold.{Hold}
+use Rattle.word_rule.specs.declared.pass.Pass.{Pass}
+use Rattle.word_rule.specs.Passes.{state_of_pass, state_of_hold}
+use Rattle.mcs_lock.specs.declared.cell.McsCell.{McsCell}
+use Rattle.mcs_lock.specs.Passes.{IsPassOf}
+use Rattle.guarded_cell.specs.declared.cell.AnyCell.TheVariants as cells
+use Rattle.cell_callers.specs.declared.caller_state.CallerState.TheVariants as at
+use Rattle.cell_callers.specs.declared.codes.TheConstants.{DONE, FULL, DONE_KEPT, FULL_KEPT}
+use Rattle.cell_callers.specs.declared.coding.Answered.{Answered}
+use Rattle.cell_callers.specs.Arrivals.{IsDeparture}
+use Rattle.cell_callers.specs.Codes.{answer_code, kept_code}
+use Rattle.cell_callers.specs.Coding.{reply_code}
+
+module _ {O P C R : Type 0} {g : Ghosts O P C R} {call_eq : Eq C} {call_default : Default C} {reply_eq : Eq R} {reply_default : Default R} where
+  -- the holder has this pass then
+  pub record HasLeft (cell : McsCell O P C R) (hold : Hold O P C R g call_eq call_default reply_eq reply_default) (back : Pass O P C R g call_eq call_default reply_eq reply_default) : Type 0 where
+    pub pass : IsPassOf cell back
+    pub caller : (state_of_pass back).caller ≡ (state_of_hold hold).caller
+    pub gone : IsDeparture g (cells.Mcs cell) (at.Holding hold) true (at.Idle back)
+
+-- what is told where the object isn't given back yet
+pub kept_told : (said : Result KReply NoRoom) (old new : Answered) (n m : ℕ) → (n, new) ≡ answer_code DONE FULL old said → m ≡ kept_code n → (m, new) ≡ answer_code DONE_KEPT FULL_KEPT old said
+kept_told (Ok reply) old new n m e k =
+    let number : n ≡ DONE = ap (λ z. z.0) e in
+    let told : m ≡ DONE_KEPT = k ∙ ap kept_code number in
+    let reads : new ≡ reply_code reply = ap (λ z. z.1) e in
+    λ i. (told i, reads i)
+kept_told (Err why) old new n m e k =
+    let number : n ≡ FULL = ap (λ z. z.0) e in
+    let told : m ≡ FULL_KEPT = k ∙ ap kept_code number in
+    let stays : new ≡ old = ap (λ z. z.1) e in
+    λ i. (told i, stays i)
