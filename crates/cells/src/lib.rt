@@ -14,5 +14,7 @@ pub use handles::{
     mc2_handle_deal, mc2_handle_free, mc2_handle_new, mc2_handle_open,
 };
 pub use names::{
-    mc2_call_alloc, mc2_call_deq, mc2_call_enq, mc2_call_free, mc2_call_get, mc2_call_left, mc2_call_len, mc2_call_level, mc2_call_next, mc2_call_put, mc2_call_ready, mc2_call_remove, mc2_call_sleep, mc2_call_wake, mc2_call_wakeall,
+    mc2_call_alloc, mc2_call_deq, mc2_call_enq, mc2_call_free, mc2_call_get, mc2_call_left,
+    mc2_call_len, mc2_call_level, mc2_call_next, mc2_call_put, mc2_call_ready, mc2_call_remove,
+    mc2_call_sleep, mc2_call_wake, mc2_call_wakeall,
 };

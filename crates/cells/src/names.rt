@@ -17,12 +17,7 @@ use shared_queue::QueueCall;
 use wake_list::SchedCall;
 
 #[inline]
-fn call_by_name(
-    caller: &mut Handle,
-    call: KCall,
-    answered: &mut Answered,
-    looks: &mut u64,
-) -> u32
+fn call_by_name(caller: &mut Handle, call: KCall, answered: &mut Answered, looks: &mut u64) -> u32
     ensures { ReportsCallOf call (content_of caller.old) (answered.old, looks.old) result (content_of caller.new) (answered.new, looks.new) }
 {
     at_content(
@@ -42,16 +37,17 @@ pub extern "C" fn mc2_call_enq(
 ) -> u32
     ensures { ReportsCallOf (Queue (queue.Enq thread)) (content_of caller.old) (answered.old, looks.old) result (content_of caller.new) (answered.new, looks.new) }
 {
-    call_by_name(caller, KCall::Queue(QueueCall::Enq(thread)), answered, looks)
+    call_by_name(
+        caller,
+        KCall::Queue(QueueCall::Enq(thread)),
+        answered,
+        looks,
+    )
 }
 
 /// It takes the first thread of a queue.
 #[unsafe(no_mangle)]
-pub extern "C" fn mc2_call_deq(
-    caller: &mut Handle,
-    answered: &mut Answered,
-    looks: &mut u64,
-) -> u32
+pub extern "C" fn mc2_call_deq(caller: &mut Handle, answered: &mut Answered, looks: &mut u64) -> u32
     ensures { ReportsCallOf (Queue queue.Deq) (content_of caller.old) (answered.old, looks.old) result (content_of caller.new) (answered.new, looks.new) }
 {
     call_by_name(caller, KCall::Queue(QueueCall::Deq), answered, looks)
@@ -67,16 +63,17 @@ pub extern "C" fn mc2_call_remove(
 ) -> u32
     ensures { ReportsCallOf (Queue (queue.Remove thread)) (content_of caller.old) (answered.old, looks.old) result (content_of caller.new) (answered.new, looks.new) }
 {
-    call_by_name(caller, KCall::Queue(QueueCall::Remove(thread)), answered, looks)
+    call_by_name(
+        caller,
+        KCall::Queue(QueueCall::Remove(thread)),
+        answered,
+        looks,
+    )
 }
 
 /// It counts the threads of a queue.
 #[unsafe(no_mangle)]
-pub extern "C" fn mc2_call_len(
-    caller: &mut Handle,
-    answered: &mut Answered,
-    looks: &mut u64,
-) -> u32
+pub extern "C" fn mc2_call_len(caller: &mut Handle, answered: &mut Answered, looks: &mut u64) -> u32
     ensures { ReportsCallOf (Queue queue.Len) (content_of caller.old) (answered.old, looks.old) result (content_of caller.new) (answered.new, looks.new) }
 {
     call_by_name(caller, KCall::Queue(QueueCall::Len), answered, looks)
@@ -106,7 +103,12 @@ pub extern "C" fn mc2_call_free(
 ) -> u32
     ensures { ReportsCallOf (Pool (pool.Free owner page)) (content_of caller.old) (answered.old, looks.old) result (content_of caller.new) (answered.new, looks.new) }
 {
-    call_by_name(caller, KCall::Pool(PoolCall::Free { owner, page }), answered, looks)
+    call_by_name(
+        caller,
+        KCall::Pool(PoolCall::Free { owner, page }),
+        answered,
+        looks,
+    )
 }
 
 /// It counts the free pages of a pool.
@@ -131,16 +133,17 @@ pub extern "C" fn mc2_call_put(
 ) -> u32
     ensures { ReportsCallOf (Console (console.Put byte)) (content_of caller.old) (answered.old, looks.old) result (content_of caller.new) (answered.new, looks.new) }
 {
-    call_by_name(caller, KCall::Console(ConsoleCall::Put(byte)), answered, looks)
+    call_by_name(
+        caller,
+        KCall::Console(ConsoleCall::Put(byte)),
+        answered,
+        looks,
+    )
 }
 
 /// It takes the first byte of a console.
 #[unsafe(no_mangle)]
-pub extern "C" fn mc2_call_get(
-    caller: &mut Handle,
-    answered: &mut Answered,
-    looks: &mut u64,
-) -> u32
+pub extern "C" fn mc2_call_get(caller: &mut Handle, answered: &mut Answered, looks: &mut u64) -> u32
     ensures { ReportsCallOf (Console console.Get) (content_of caller.old) (answered.old, looks.old) result (content_of caller.new) (answered.new, looks.new) }
 {
     call_by_name(caller, KCall::Console(ConsoleCall::Get), answered, looks)
@@ -168,7 +171,12 @@ pub extern "C" fn mc2_call_ready(
 ) -> u32
     ensures { ReportsCallOf (Sched (sched.Ready thread)) (content_of caller.old) (answered.old, looks.old) result (content_of caller.new) (answered.new, looks.new) }
 {
-    call_by_name(caller, KCall::Sched(SchedCall::Ready(thread)), answered, looks)
+    call_by_name(
+        caller,
+        KCall::Sched(SchedCall::Ready(thread)),
+        answered,
+        looks,
+    )
 }
 
 /// It takes the first ready thread.
@@ -194,7 +202,12 @@ pub extern "C" fn mc2_call_sleep(
 ) -> u32
     ensures { ReportsCallOf (Sched (sched.Sleep channel thread)) (content_of caller.old) (answered.old, looks.old) result (content_of caller.new) (answered.new, looks.new) }
 {
-    call_by_name(caller, KCall::Sched(SchedCall::Sleep { channel, thread }), answered, looks)
+    call_by_name(
+        caller,
+        KCall::Sched(SchedCall::Sleep { channel, thread }),
+        answered,
+        looks,
+    )
 }
 
 /// It makes the first sleeper of the channel ready.
@@ -207,7 +220,12 @@ pub extern "C" fn mc2_call_wake(
 ) -> u32
     ensures { ReportsCallOf (Sched (sched.Wake channel)) (content_of caller.old) (answered.old, looks.old) result (content_of caller.new) (answered.new, looks.new) }
 {
-    call_by_name(caller, KCall::Sched(SchedCall::Wake(channel)), answered, looks)
+    call_by_name(
+        caller,
+        KCall::Sched(SchedCall::Wake(channel)),
+        answered,
+        looks,
+    )
 }
 
 /// It makes all sleepers of the channel ready.
@@ -220,5 +238,10 @@ pub extern "C" fn mc2_call_wakeall(
 ) -> u32
     ensures { ReportsCallOf (Sched (sched.WakeAll channel)) (content_of caller.old) (answered.old, looks.old) result (content_of caller.new) (answered.new, looks.new) }
 {
-    call_by_name(caller, KCall::Sched(SchedCall::WakeAll(channel)), answered, looks)
+    call_by_name(
+        caller,
+        KCall::Sched(SchedCall::WakeAll(channel)),
+        answered,
+        looks,
+    )
 }
