@@ -84,17 +84,19 @@ module _ {O P C R : Type 0} (g : Ghosts O P C R) where
       → gets_object s ≡ true → how_many gets_object (s ∷ []) ≡ 1 → how_many ends_hold (s ∷ []) ≡ 0 → joined p + how_many arrives (s ∷ []) ≡ 1 → looks ≡ min (n + how_many is_look (s ∷ [])) (2 ^ 64 - 1)
       → b.has ≡ Some x → b.seen ≡ b.caller.cell.opening ++ events_in b.run → Came caller before n a → HasAcquired caller before looks x.log b.run × (b.caller ≡ caller)
   came_got caller before n looks x p q s a b t gets got unended joins counted has left came =
-      let total : how_many is_look (came.done ++ s ∷ []) ≡ n + how_many is_look (s ∷ []) = count_append is_look came.done (s ∷ []) ∙ ap (λ (z : ℕ). z + how_many is_look (s ∷ [])) came.looked in
-      (acquired_at_once g caller before looks x came.done (s ∷ []) p q a b
-      record {
-        before = came.done;
-        last = s;
-        is = refl;
-        got = gets;
-        once = let c = count_append gets_object came.done (s ∷ []) in let z = came.got in omega (arith, c, z, got);
-        arrived = let c = count_append arrives came.done (s ∷ []) in let z = came.arrived in let from = ap joined t.from in omega (arith, c, z, from, joins);
-        unended = let c = count_append ends_hold came.done (s ∷ []) in let z = came.unended in omega (arith, c, z, unended);
-      } (counted ∙ ap (λ (z : ℕ). min z (2 ^ 64 - 1)) (sym total)) came.since t has left, t.caller ∙ came.since.0)
+      let total : how_many is_look (came.done ++ s ∷ []) ≡ n + how_many is_look (s ∷ []) = count_append is_look came.done (s ∷ []) ∙ ap (λ (z : ℕ). z + how_many is_look (s ∷ [])) came.looked in (
+        acquired_at_once g caller before looks x came.done (s ∷ []) p q a b
+            record {
+              before = came.done;
+              last = s;
+              is = refl;
+              got = gets;
+              once = let c = count_append gets_object came.done (s ∷ []) in let z = came.got in omega (arith, c, z, got);
+              arrived = let c = count_append arrives came.done (s ∷ []) in let z = came.arrived in let from = ap joined t.from in omega (arith, c, z, from, joins);
+              unended = let c = count_append ends_hold came.done (s ∷ []) in let z = came.unended in omega (arith, c, z, unended);
+            } (counted ∙ ap (λ (z : ℕ). min z (2 ^ 64 - 1)) (sym total)) came.since t has left,
+        t.caller ∙ came.since.0,
+      )
 
   held_more : (hold : HoldView O P C R) (before : List (TraceStep (Event O P C R))) (p q : Stage) (s : StepDone) (a b : StepState O P C R) → Moves g p q (s ∷ []) a b → holding p ≡ true
       → how_many ends_hold (s ∷ []) ≡ 0 → how_many arrives (s ∷ []) ≡ 0 → how_many is_look (s ∷ []) ≡ 0 → Held hold before a → Held hold before b

@@ -44,6 +44,7 @@ use Rattle.mcs_lock.specs.contracts.states.Passing as Passing
 use Rattle.guarded_cell.specs.contracts.cell.AnyCell as AnyCell
 use Rattle.guarded_cell.proofs.cell.AnyCell.TheSendSync.{the_send as any_send, the_sync as any_sync}
 use Rattle.cell_callers.specs.contracts.caller_state.CallerState as CallerState
+use Rattle.cell_callers.specs.contracts.place.Place as Place
 use Rattle.cell_callers.specs.contracts.caller.Caller as Caller
 use Rattle.cell_callers.specs.contracts.open_cell.OpenCell as OpenCell
 use Rattle.cell_callers.specs.contracts.handle_content.HandleContent as HandleContent
@@ -88,6 +89,14 @@ module _ (O P C R : RattleType) (g : Ghosts O.Denot P.Denot C.Denot R.Denot) (ce
   state_send = enum_send (shape (CallerState.the_type O P C R g ce cd re rd))
       ((pass_field_send O P C R g ce cd re rd o p c r, tt), ((drawn_send, tt), ((ready_send, tt), ((behind_send, tt), ((armed_send, tt), ((waiting_send, tt), ((hold_send, tt), ((alone_send, tt), ((leaving_send, tt), ((passing_send, tt), tt))))))))))
 
+  state_row_send : IsSend (CallerState.the_row O P C R g ce cd re rd)
+  state_row_send =
+      let t = CallerState.the_type O P C R g ce cd re rd in
+      recorded_send _ _ _ t.to_one state_send
+
+  place_send : IsSend (Place.the_field O P C R g ce cd re rd).row
+  place_send = struct_send (fields (Place.the_type O P C R g ce cd re rd)) (search (sendable, pass_send O P C R g ce cd re rd o p c r) depth 40, (search (sendable, state_row_send) depth 40, tt))
+
 -- a cell around an object of the kernel, and its passes
 abbrev cell : RattleType
 cell = AnyCell.the_row Object.the_row Params.the_row Call.the_row Reply.the_row kernel (copied Call.the_row) call_eq call_compares call_defaults (copied Reply.the_row) reply_eq reply_compares reply_defaults
@@ -106,7 +115,7 @@ kernel_pass_send = pass_send Object.the_row Params.the_row Call.the_row Reply.th
 
 caller_send : IsSend (Caller.the_field Object.the_row Params.the_row Call.the_row Reply.the_row kernel call_compares call_defaults reply_compares reply_defaults (copied Call.the_row) call_eq (copied Reply.the_row) reply_eq).row
 caller_send = struct_send (fields (Caller.the_type Object.the_row Params.the_row Call.the_row Reply.the_row kernel call_compares call_defaults reply_compares reply_defaults (copied Call.the_row) call_eq (copied Reply.the_row) reply_eq))
-    (Arc-send cell cell_send cell_sync, (state_send Object.the_row Params.the_row Call.the_row Reply.the_row kernel call_compares call_defaults reply_compares reply_defaults object_send params_send call_send reply_send, tt))
+    (Arc-send cell cell_send cell_sync, (place_send Object.the_row Params.the_row Call.the_row Reply.the_row kernel call_compares call_defaults reply_compares reply_defaults object_send params_send call_send reply_send, tt))
 
 open_cell_send : IsSend (OpenCell.the_field Object.the_row Params.the_row Call.the_row Reply.the_row kernel call_compares call_defaults reply_compares reply_defaults (copied Call.the_row) call_eq (copied Reply.the_row) reply_eq).row
 open_cell_send = struct_send (fields (OpenCell.the_type Object.the_row Params.the_row Call.the_row Reply.the_row kernel call_compares call_defaults reply_compares reply_defaults (copied Call.the_row) call_eq (copied Reply.the_row) reply_eq))

@@ -24,5 +24,4 @@ pub fn one_call_is_a_hold<O: SeqObject>(
     ensures { (n : ℕ) (m : _) (said : Result O.Reply NoRoom) (looked : Bool) →
         LooksInVain O.SeqObject cell.now (at.Idle pass.now) call.now n m → IsCalled O.SeqObject cell.now m call.now (whole.Done said looked) (at.Idle back.now) →
         HasCalled (view_of_pass pass.now).caller (run_of_pass pass.now) (looks_of n looked) call.now said (run_of_pass back.now) }
-{
-}
+{}

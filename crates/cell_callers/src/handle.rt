@@ -98,11 +98,7 @@ fn at_block<X, R, F: FnOnce(&mut HandleContent, X) -> R>(handle: Handle, x: X, f
 
 /// Does f with what the handle has, in its place.
 #[inline]
-pub fn at_content<X, R, F: FnOnce(&mut HandleContent, X) -> R>(
-    handle: &mut Handle,
-    x: X,
-    f: F,
-) -> R
+pub fn at_content<X, R, F: FnOnce(&mut HandleContent, X) -> R>(handle: &mut Handle, x: X, f: F) -> R
     requires { (p : MutBor HandleContent) → p.now ≡ manually_drop_value handle.old.slot → F.pre f p x }
     ensures { (p q : MutBor HandleContent) × (p.now ≡ manually_drop_value handle.old.slot) × F.post f p x result q × (q.now ≡ manually_drop_value handle.new.slot) }
 {

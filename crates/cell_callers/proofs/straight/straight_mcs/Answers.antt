@@ -1,4 +1,4 @@
-use Rattle.std.proofs.Common.{◌≡◌, ◌∙◌, zero, suc, false, inl, inr, refl, ap, subst, sym}
+use Rattle.std.proofs.Common.{◌∙◌, zero, suc, false, inl, inr, refl, subst, sym}
 use Rattle.guarded_cell.specs.declared.cell.AnyCell.TheVariants.{Mcs}
 use Rattle.mcs_lock.specs.Passes.{IsBehindOf}
 use Rattle.cell_callers.specs.declared.caller_state.CallerState.TheVariants as at
@@ -40,25 +40,30 @@ pub returns-in-Err-empty-clause-reports : goal.returns-in-Err-empty-clause-repor
 returns-in-Err-empty-clause-reports c =
     let leaving = c.in-Err-empty.leaving in
     let done = c.apply_held.result in
-    let told = kept_told done c.args.answered.now c.answer_code-told.new.answered c.answer_code-told.result c.keep.result c.answer_code-told.ensures c.keep.ensures.told in
-    (whole.Kept done false, at.Leaving leaving, (told, refl), stands_in_line c.args.place.now.pass c.keep.new.line (at.Leaving leaving) c.requires.away.0 c.keep.ensures.line, record {
-      steps = suc zero;
-      got = c.in-Hold.hold;
-      there = (at.Ready c.clear.result, c.clear.ensures.step, c.in-Hold.ensures.got.1);
-      held = record { left = c.apply_held.new.hold; done = c.apply_held.ensures.applied; back = (suc zero, (at.Alone c.in-Err.alone, inr c.in-Err.ensures.none.1, c.in-Err-empty.ensures.missed.1), refl) };
-    })
+    let told = kept_told done c.args.answered.now c.answer_code-told.new.answered c.answer_code-told.result c.keep.result c.answer_code-told.ensures c.keep.ensures.told in (
+      whole.Kept done false,
+      at.Leaving leaving,
+      (told, refl),
+      stands_in_line c.args.place.now.pass c.keep.new.line (at.Leaving leaving) c.requires.away.0 c.keep.ensures.line,
+      record {
+        steps = suc zero;
+        got = c.in-Hold.hold;
+        there = (at.Ready c.clear.result, c.clear.ensures.step, c.in-Hold.ensures.got.1);
+        held = record { left = c.apply_held.new.hold; done = c.apply_held.ensures.applied; back = (suc zero, (at.Alone c.in-Err.alone, inr c.in-Err.ensures.none.1, c.in-Err-empty.ensures.missed.1), refl) };
+      },
+    )
 
 pub returns : goal.returns
 returns c =
     let back = c.match-see.back in
     let hold = c.apply_held.new.hold in
     let left : HasLeft c.args.cell.now hold back = elim c.match-see.branch [
-      in-Ok w ↦ subst (λ z. HasLeft c.args.cell.now hold z) (sym w.back-is) record {
+      | in-Ok w ↦ subst (λ z. HasLeft c.args.cell.now hold z) (sym w.back-is) record {
         pass = w.pass_on-back.ensures.pass;
         caller = w.pass_on-back.ensures.step.2.caller ∙ w.in-Ok.ensures.found.1.2.made.caller;
         gone = (suc zero, (at.Passing w.in-Ok.passing, inl w.in-Ok.ensures.found.1, w.pass_on-back.ensures.step));
       }
-    | in-Err+in-Ok-empty w ↦ subst (λ z. HasLeft c.args.cell.now hold z) (sym w.back-is) record {
+      | in-Err+in-Ok-empty w ↦ subst (λ z. HasLeft c.args.cell.now hold z) (sym w.back-is) record {
         pass = w.in-Ok-empty.ensures.home.0;
         caller = w.in-Ok-empty.ensures.home.1.caller ∙ w.in-Err.ensures.none.1.caller;
         gone = (suc zero, (at.Alone w.in-Err.alone, inr w.in-Err.ensures.none.1, w.in-Ok-empty.ensures.home.1));
@@ -68,10 +73,16 @@ returns c =
     let stands = stands_idle back c.args.place.now.line c.requires.away.1 in
     record {
       place = (at.Idle back, stands, left.pass, subst IsOne (sym same) c.requires.one);
-      reports = (whole.Done c.apply_held.result false, at.Idle back, (c.answer_code-told.ensures, refl), stands, record {
-        steps = suc zero;
-        got = c.in-Hold.hold;
-        there = (at.Ready c.clear.result, c.clear.ensures.step, c.in-Hold.ensures.got.1);
-        held = record { left = hold; done = c.apply_held.ensures.applied; back = left.gone };
-      });
+      reports = (
+        whole.Done c.apply_held.result false,
+        at.Idle back,
+        (c.answer_code-told.ensures, refl),
+        stands,
+        record {
+          steps = suc zero;
+          got = c.in-Hold.hold;
+          there = (at.Ready c.clear.result, c.clear.ensures.step, c.in-Hold.ensures.got.1);
+          held = record { left = hold; done = c.apply_held.ensures.applied; back = left.gone };
+        },
+      );
     }

@@ -1,4 +1,4 @@
-use Rattle.std.proofs.Common.{◌≡◌, ◌∙◌, zero, suc, true, ap, subst, sym}
+use Rattle.std.proofs.Common.{◌∙◌, zero, suc, true, ap, subst, sym}
 use Rattle.guarded_cell.specs.declared.cell.AnyCell.TheVariants.{Ticket}
 use Rattle.cell_callers.specs.declared.caller_state.CallerState.TheVariants as at
 use Rattle.cell_callers.specs.declared.whole.Whole.TheVariants as whole
@@ -15,13 +15,18 @@ returns-in-Ok-clause-place c =
     (at.Idle c.serve.result, stands_idle c.serve.result c.args.place.now.line c.requires.away.1, c.serve.ensures.pass, subst IsOne (sym same) c.requires.one)
 
 pub returns-in-Ok-clause-reports : goal.returns-in-Ok-clause-reports
-returns-in-Ok-clause-reports c =
-    (whole.Done c.apply_held.result true, at.Idle c.serve.result, (c.answer_code-told.ensures, c.count_look.ensures), stands_idle c.serve.result c.args.place.now.line c.requires.away.1, record {
-      steps = suc zero;
-      got = c.in-Ok.hold;
-      there = (at.Drawn c.draw.result, c.draw.ensures.step, c.in-Ok.ensures.got.1);
-      held = record { left = c.apply_held.new.hold; done = c.apply_held.ensures.applied; back = (zero, c.serve.ensures.step) };
-    })
+returns-in-Ok-clause-reports c = (
+  whole.Done c.apply_held.result true,
+  at.Idle c.serve.result,
+  (c.answer_code-told.ensures, c.count_look.ensures),
+  stands_idle c.serve.result c.args.place.now.line c.requires.away.1,
+  record {
+    steps = suc zero;
+    got = c.in-Ok.hold;
+    there = (at.Drawn c.draw.result, c.draw.ensures.step, c.in-Ok.ensures.got.1);
+    held = record { left = c.apply_held.new.hold; done = c.apply_held.ensures.applied; back = (zero, c.serve.ensures.step) };
+  },
+)
 
 pub returns-in-Err-clause-place : goal.returns-in-Err-clause-place
 returns-in-Err-clause-place c =

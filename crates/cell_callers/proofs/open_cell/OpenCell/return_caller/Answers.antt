@@ -1,4 +1,4 @@
-use Rattle.std.proofs.Common.{◌≡◌, ◌∙◌, ◌==◌, ◌&&◌, ◌≤◌, ℕ, nat_lt, Bool, false, ap, refl, sym, rules, arith, Some}
+use Rattle.std.proofs.Common.{◌≡◌, ◌∙◌, ◌==◌, ◌&&◌, ◌≤◌, ℕ, nat_lt, false, ap, refl, sym, rules, arith, Some}
 use Rattle.std.proofs.lemmas.Bool.Decides.{nat_tests}
 use Rattle.word_rule.specs.Passes.{view_of_pass}
 use Rattle.cell_callers.specs.declared.caller_state.CallerState.TheVariants as at
@@ -32,8 +32,8 @@ returns-else-self g c =
     let pass = c.in-Idle.pass in
     let number = pass.idle.at.number in
     let other : is_next self (at.Idle pass) ≡ false = elim c.else-self.branch [
-      else-self-via-then-self+else-pass-from w ↦ not_here self.back self.cpus (view_of_pass pass).caller.acting (λ e. w.if-pass-from.false (sym number ∙ (e ∙ sym w.from.ensures)))
-    | else-self-via-else-self w ↦ past_all self.back self.cpus (view_of_pass pass).caller.acting w.if-self.false
+      | else-self-via-then-self+else-pass-from w ↦ not_here self.back self.cpus (view_of_pass pass).caller.acting (λ e. w.if-pass-from.false (sym number ∙ (e ∙ sym w.from.ensures)))
+      | else-self-via-else-self w ↦ past_all self.back self.cpus (view_of_pass pass).caller.acting w.if-self.false
     ] in
     (record { cell = refl; passes = refl; home = refl; back = refl }, refl, (at.Idle pass, at.Idle pass, c.into_state.ensures ∙ ap Some c.in-Idle.is, c.of-place.ensures, (other, refl)))
 
