@@ -20,11 +20,18 @@ use wake_list::SchedCall;
 fn call_by_name(caller: &mut Handle, call: KCall, answered: &mut Answered, looks: &mut u64) -> u32
     ensures { ReportsCallOf call (content_of caller.old) (answered.old, looks.old) result (content_of caller.new) (answered.new, looks.new) }
 {
-    at_content(
+    let (told, said, looked) = at_content(
         caller,
-        (call, answered, looks),
-        |content, (call, answered, looks)| content.call_by_name(call, answered, looks),
-    )
+        (call, *answered, *looks),
+        |content, (call, answered, looks)| {
+            let (mut answered, mut looks) = (answered, looks);
+            let told = content.call_by_name(call, &mut answered, &mut looks);
+            (told, answered, looks)
+        },
+    );
+    *answered = said;
+    *looks = looked;
+    told
 }
 
 /// It puts the thread at the end of a queue.
