@@ -20,6 +20,7 @@ use wake_list::SchedCall;
 fn call_by_name(caller: &mut Handle, call: KCall, answered: &mut Answered, looks: &mut u64) -> u32
     ensures { ReportsCallOf call (content_of caller.old) (answered.old, looks.old) result (content_of caller.new) (answered.new, looks.new) }
 {
+    // (by their values, as `at_content` says nothing of what is left behind a borrow that it hands on)
     let (told, said, looked) = at_content(
         caller,
         (call, *answered, *looks),
