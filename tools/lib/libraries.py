@@ -7,8 +7,8 @@ from common import ROOT, Stop, run
 
 # What clang is told besides, by library. Of cells fewer functions are copied into others than by its own limit; but those with
 # the hint `inline` are copied whatever they take, so that in a call by name nothing is left of the other calls. A match of less
-# than 6 cases is compared, as a table to jump by takes a relocation of 24 bytes for each.
-CLANG_WORDS = {"cells": "-mllvm -inline-threshold=90 -mllvm -inlinehint-threshold=40000 -mllvm -min-jump-table-entries=6"}
+# than 24 cases is compared, as a table to jump by takes a relocation of 24 bytes for each.
+CLANG_WORDS = {"cells": "-mllvm -inline-threshold=90 -mllvm -inlinehint-threshold=40000 -mllvm -min-jump-table-entries=24"}
 
 
 def kit():

@@ -59,7 +59,7 @@ impl<O: SeqObject> Place<O> {
     }
 
     /// Takes out where the caller stands, as its call begins.
-    #[inline(never)]
+    #[inline]
     pub fn take(&mut self) -> CallerState<O>
         requires { IsSome (place_of self.old) }
         ensures state { place_of self.old ≡ Some result }
@@ -75,7 +75,7 @@ impl<O: SeqObject> Place<O> {
     }
 
     /// The caller stands there, once its call isn't on its way any more.
-    #[inline(never)]
+    #[inline]
     pub fn put(&mut self, state: CallerState<O>)
         requires { IsAway self.old }
         ensures { place_of self.new ≡ Some state }
