@@ -20,11 +20,20 @@ use wake_list::SchedCall;
 fn call_by_name(caller: &mut Handle, call: KCall, answered: &mut Answered, looks: &mut u64) -> u32
     ensures { ReportsCallOf call (content_of caller.old) (answered.old, looks.old) result (content_of caller.new) (answered.new, looks.new) }
 {
-    at_content(
+    // (what a closure leaves behind a reference isn't known to who passes it on, so values go in and out)
+    let (told, reply, counted) = at_content(
         caller,
-        (call, answered, looks),
-        |content, (call, answered, looks)| content.call_by_name(call, answered, looks),
-    )
+        (call, *answered, *looks),
+        |content, (call, reply, counted)| {
+            let mut reply = reply;
+            let mut counted = counted;
+            let told = content.call_by_name(call, &mut reply, &mut counted);
+            (told, reply, counted)
+        },
+    );
+    *answered = reply;
+    *looks = counted;
+    told
 }
 
 /// It puts the thread at the end of a queue.
