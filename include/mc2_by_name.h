@@ -2,6 +2,7 @@
 //
 // Each, as mc2_queue_enq, waits for the object, does the call, and gives the object back: MC2_CELL_DONE, or why it wasn't done. It
 // counts the looks. At an object of another kind the call is an event as well, and the reply MC2_BADCALL.
+#include "mc2_cells.h"
 #ifndef MC2_BY_NAME_H
 #define MC2_BY_NAME_H
 
