@@ -15,10 +15,10 @@ SECONDS = 120
 INCLUDE = f"-I{ROOT / 'include'}"
 STRICT = ["-Wall", "-Wextra", "-pedantic", "-Werror", INCLUDE]
 HEADERS = ("mc2_record.h", "mc2_note.h", "mc2_wait.h", "mc2_cells.h", "mc2_judge.h")
-# What a library may ask of a kernel, and the most bytes of the file of that of cells.
+# What a library may ask of a kernel, and the most bytes of the file of that of cells, as the kit builds it and for a kernel.
 CELLS_ASKS = {"memcpy", "memmove", "memset", "rattle_alloc", "rattle_dealloc"}
 JUDGE_ASKS = CELLS_ASKS | {"rattle_realloc"}
-MOST_CELLS_BYTES = 72 * 1024
+MOST_CELLS_BYTES = {"": 72 * 1024, " for a kernel": 80 * 1024}
 # How the names of sections begin that have storage of threads, constructors or destructors.
 NOT_FOR_A_KERNEL = (".tdata", ".tbss", ".preinit_array", ".init", ".fini", ".ctors", ".dtors")
 # The most bytes of memory that cells take, as docs/IN_A_KERNEL.md has them: a cell by itself, an event, a caller, each CPU by
@@ -103,13 +103,13 @@ def steps(folder):
     return "stands around each call of the library"
 
 
-def size(path):
+def size(path, most):
     """The bytes of the library's file, and those of code, constants and variables that a program gets of it."""
     *_, total = run(["size", "-t", path], text=True).stdout.splitlines()
     found = path.stat().st_size
     said = f"a file of {found:,} bytes, {int(total.split()[3]):,} of them code and constants"
-    if found > MOST_CELLS_BYTES:
-        raise Stop(f"{said}, and at most {MOST_CELLS_BYTES:,}")
+    if found > most:
+        raise Stop(f"{said}, and at most {most:,}")
     return said
 
 
@@ -151,7 +151,7 @@ def heap(folder, cells):
 
 def page(stacks):
     """The page has the figures to which the libraries are held, and those of the stacks."""
-    figures = [CELL_BYTES, EVENT_BYTES, CALLER_BYTES, *EXAMPLES.values(), MOST_CELLS_BYTES, *stacks]
+    figures = [CELL_BYTES, EVENT_BYTES, CALLER_BYTES, *EXAMPLES.values(), *MOST_CELLS_BYTES.values(), *stacks]
     figures += [NOTE_BYTES, NOTING_CPU_BYTES, TURNS_BYTES]
     missing = [f"{it:,}" for it in figures if not re.search(rf"(?<![\d,]){it:,}(?!,?\d)", PAGE.read_text())]
     if missing:
@@ -201,6 +201,6 @@ def check_libraries(counts, folder, make):
         counts.check(f"sections of lib{crate}.a for a kernel", sections, library)
         counts.check(f"code of lib{crate}.a for a kernel", is_for_a_kernel, library)
     for library, what in zip(cells, ("", " for a kernel") if make is build_library else ()):
-        counts.check(f"size of libcells.a{what}", size, library)
+        counts.check(f"size of libcells.a{what}", size, library, MOST_CELLS_BYTES[what])
     counts.check("mc2_heap.h", heap, folder, cells[0])
     return cells[0], judge[0], kernel_folder(folder, make)
