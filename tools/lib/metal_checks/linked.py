@@ -25,7 +25,7 @@ NOT_FOR_A_KERNEL = (".tdata", ".tbss", ".preinit_array", ".init", ".fini", ".cto
 # its lock, the object; and a cell of 2 CPUs behind a ticket lock without a log, as its example: so many, or hardly fewer.
 PAGE = ROOT / "docs/IN_A_KERNEL.md"
 CELL_BYTES, EVENT_BYTES, CALLER_BYTES = 850, 208, 80
-CPU_BYTES = {"ticket": 0, "mcs": 16}
+CPU_BYTES = {"ticket": 4, "mcs": 20}
 OBJECT_BYTES = {"queue": 9 * 1024, "pool": 8 * 4096 + 4096 // 8, "console": 4096, "sched": 9 * 1024 + 12 * 64}
 EXAMPLES = {"queue": 9952, "pool": 33968, "console": 4768}
 HARDLY = 32
