@@ -14,9 +14,9 @@ use Rattle.kernel_object.specs.declared.call.KReply.{KReply}
 use Rattle.kernel_object.specs.declared.object.KernelObject.{KernelObject}
 use Rattle.kernel_object.specs.contracts.object.KernelObjectSeqObject.TheImpl.{ghosts as kernel}
 use Rattle.kernel_object.specs.KernelTypes.{KernelEvent, KernelEntry}
-use Rattle.scripts.specs.Runs.{opened_of}
-use Rattle.scripts.specs.RecordRanges.{Record, RecordFits, EventFits}
-use Rattle.scripts.specs.declared.record.form.TheConstants.{WRITTEN}
+use Rattle.records.specs.Runs.{opened_of}
+use Rattle.records.specs.RecordRanges.{Record, RecordFits, EventFits}
+use Rattle.kernel_words.specs.declared.form.TheConstants.{WRITTEN}
 use Rattle.auditor.specs.Faults.{StepIsWrong, EventIsWrong, IsFault, IsFirstFault}
 use Rattle.auditor.specs.VerdictText.{IsNamed, CanBeTold}
 use Rattle.auditor.specs.declared.fault.Fault.{Fault}

@@ -11,11 +11,11 @@ use Rattle.kernel_object.specs.declared.call.KReply.{KReply}
 use Rattle.kernel_object.specs.declared.object.KernelObject.{KernelObject}
 use Rattle.kernel_object.specs.contracts.object.KernelObjectSeqObject.TheImpl.{ghosts as kernel}
 use Rattle.kernel_object.specs.Kernel.{kernel_in_range}
-use Rattle.scripts.specs.declared.record.form.TheConstants.{WRITTEN}
-use Rattle.scripts.specs.Keeping.{Parts, InLogs, InTranscripts, IsAtHead, IsWholeWith, kept_record}
-use Rattle.scripts.specs.RecordRanges.{RecordFits}
-use Rattle.scripts.specs.Runs.{opened_of}
-use Rattle.scripts.specs.Settings.{ObjectSettings, ObjectFits}
+use Rattle.kernel_words.specs.declared.form.TheConstants.{WRITTEN}
+use Rattle.records.specs.Keeping.{Parts, InLogs, InTranscripts, IsAtHead, IsWholeWith, kept_record}
+use Rattle.records.specs.RecordRanges.{RecordFits}
+use Rattle.records.specs.Runs.{opened_of}
+use Rattle.records.specs.Settings.{ObjectSettings, ObjectFits}
 use Rattle.auditor.specs.Fed.{Fed, run_of}
 use Rattle.auditor.specs.JudgedParts.{parts_of, begun_logs, IsFedWith}
 use Rattle.auditor.specs.Passes.{IsRunOf}

@@ -10,10 +10,10 @@ use Rattle.kernel_object.specs.declared.call.KReply.{KReply}
 use Rattle.kernel_object.specs.declared.object.KernelObject.{KernelObject}
 use Rattle.kernel_object.specs.contracts.object.KernelObjectSeqObject.TheImpl.{ghosts as kernel}
 use Rattle.kernel_object.specs.Kernel.{kernel_in_range}
-use Rattle.scripts.specs.declared.record.form.TheConstants.{WRITTEN}
-use Rattle.scripts.specs.RecordRanges.{Record, RecordFits, EventFits, EntryFits, LogFits, TranscriptFits}
-use Rattle.scripts.specs.Runs.{opened_of}
-use Rattle.scripts.specs.Settings.{ObjectSettings, ObjectFits}
+use Rattle.kernel_words.specs.declared.form.TheConstants.{WRITTEN}
+use Rattle.records.specs.RecordRanges.{Record, RecordFits, EventFits, EntryFits, LogFits, TranscriptFits}
+use Rattle.records.specs.Runs.{opened_of}
+use Rattle.records.specs.Settings.{ObjectSettings, ObjectFits}
 use Rattle.auditor.specs.declared.opened_object.OpenedObject.{OpenedObject}
 use Rattle.auditor.specs.Passes.{IsRunOf}
 use Rattle.auditor.specs.Transcripts.{judged_by, opened_by}

@@ -3,13 +3,14 @@ use Rattle.std.proofs.Common.{◌≡◌, ℕ, List, Option, Result, Ok, Err, sym
 use Rattle.std.specs.Prelude.{◌↔◌}
 use Rattle.std.specs.Result.{IsErrAnd, IfErr}
 use Rattle.kernel_object.specs.contracts.object.KernelObjectSeqObject.TheImpl.{ghosts as kernel}
-use Rattle.scripts.specs.declared.text.fault.TextFault.{TextFault}
-use Rattle.scripts.specs.declared.text.fault.TextFault.TheVariants as text_fault
-use Rattle.scripts.specs.Keeping.{Parts, kept_record, IsWholeWith}
-use Rattle.scripts.specs.RecordRanges.{Record}
-use Rattle.scripts.specs.RecordSources.{NamesBadLineOfRest, IsReadFrom, IsReadOut}
-use Rattle.scripts.specs.Runs.{opened_of}
-use Rattle.scripts.specs.Settings.{Settings}
+use Rattle.record_lines.specs.declared.text.fault.TextFault.{TextFault}
+use Rattle.record_lines.specs.declared.text.fault.TextFault.TheVariants as text_fault
+use Rattle.records.specs.Keeping.{Parts, kept_record, IsWholeWith}
+use Rattle.records.specs.RecordRanges.{Record}
+use Rattle.records.specs.RecordSources.{NamesBadLineOfRest, IsReadFrom}
+use Rattle.record_lines.specs.Sources.{IsReadOut}
+use Rattle.records.specs.Runs.{opened_of}
+use Rattle.records.specs.Settings.{Settings}
 use Rattle.sound_run.specs.Sound.{Sound}
 use Rattle.auditor.specs.declared.fault.Fault.{Fault}
 use Rattle.auditor.specs.declared.fault.Verdict.{Verdict}

@@ -1,13 +1,13 @@
 -- What is said of a record, and of a text.
 use Rattle.std.specs.Prelude.{◌≡◌, ◌↔◌, ℕ, List, Option, Result, Ok, Err}
 use Rattle.kernel_object.specs.contracts.object.KernelObjectSeqObject.TheImpl.{ghosts as kernel}
-use Rattle.scripts.specs.declared.text.fault.TextFault.{TextFault}
-use Rattle.scripts.specs.declared.text.fault.TextFault.TheVariants as text_fault
-use Rattle.scripts.specs.RecordFaults.{IsWhole}
-use Rattle.scripts.specs.RecordRanges.{Record}
-use Rattle.scripts.specs.RecordSources.{NamesBadLineOfRest}
-use Rattle.scripts.specs.Runs.{opened_of}
-use Rattle.scripts.specs.ScriptFaults.{IsRest}
+use Rattle.record_lines.specs.declared.text.fault.TextFault.{TextFault}
+use Rattle.record_lines.specs.declared.text.fault.TextFault.TheVariants as text_fault
+use Rattle.records.specs.RecordFaults.{IsWhole}
+use Rattle.records.specs.RecordRanges.{Record}
+use Rattle.records.specs.RecordSources.{NamesBadLineOfRest}
+use Rattle.records.specs.Runs.{opened_of}
+use Rattle.record_lines.specs.Sources.{IsRest}
 use Rattle.sound_run.specs.Sound.{Sound}
 use Rattle.auditor.specs.declared.fault.Fault.{Fault}
 use Rattle.auditor.specs.declared.fault.Verdict.{Verdict}

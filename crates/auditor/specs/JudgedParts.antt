@@ -4,9 +4,9 @@ use Rattle.kernel_object.specs.declared.object.KernelObject.{KernelObject}
 use Rattle.kernel_object.specs.declared.call.KParams.{KParams}
 use Rattle.kernel_object.specs.declared.call.KCall.{KCall}
 use Rattle.kernel_object.specs.declared.call.KReply.{KReply}
-use Rattle.scripts.specs.Keeping.{Parts}
-use Rattle.scripts.specs.Runs.{opened_of}
-use Rattle.scripts.specs.Settings.{ObjectSettings}
+use Rattle.records.specs.Keeping.{Parts}
+use Rattle.records.specs.Runs.{opened_of}
+use Rattle.records.specs.Settings.{ObjectSettings}
 use Rattle.auditor.specs.declared.opened_object.OpenedObject.{OpenedObject}
 use Rattle.auditor.specs.Fed.{Fed}
 use Rattle.auditor.specs.Transcripts.{opened_by}

@@ -1,6 +1,6 @@
 -- The text of a verdict.
 use Rattle.std.specs.Prelude.{ℕ, ◌+◌, ◌<◌, ◌^◌, List, [], ◌∷◌, ◌++◌, length, codes, decimal}
-use Rattle.scripts.specs.Settings.{Settings, name_at}
+use Rattle.records.specs.Settings.{Settings, name_at}
 use Rattle.auditor.specs.declared.fault.Fault.{Fault}
 use Rattle.auditor.specs.declared.fault.Fault.TheVariants.{TooLong, WrongStep, RoomWasLeft, NotItsEvent, NotAsked, Unclaimed}
 use Rattle.auditor.specs.declared.fault.Verdict.{Verdict}

@@ -2,7 +2,7 @@
 
 ghost use Rattle.std.specs.Prelude.{◌≡◌, ◌↔◌, IfOk};
 ghost use Rattle.sound_run.specs.Sound.{Sound};
-ghost use Rattle.scripts.specs.Runs.{opened_of};
+ghost use Rattle.records.specs.Runs.{opened_of};
 ghost use Rattle.auditor.specs.Faults.{IsFirstFault};
 ghost use Rattle.auditor.specs.VerdictText.{CanBeTold};
 

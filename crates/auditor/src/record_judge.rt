@@ -2,9 +2,9 @@
 
 ghost use Rattle.std.specs.Prelude.{◌≡◌, ◌↔◌, IfOk, IfErr};
 ghost use Rattle.sound_run.specs.Sound.{Sound};
-ghost use Rattle.scripts.specs.Keeping.{no_parts, kept_record, IsWholeWith};
-ghost use Rattle.scripts.specs.RecordRanges.{RecordFits};
-ghost use Rattle.scripts.specs.Runs.{opened_of};
+ghost use Rattle.records.specs.Keeping.{no_parts, kept_record, IsWholeWith};
+ghost use Rattle.records.specs.RecordRanges.{RecordFits};
+ghost use Rattle.records.specs.Runs.{opened_of};
 ghost use Rattle.auditor.specs.Faults.{IsFirstFault};
 ghost use Rattle.auditor.specs.Transcripts.{opened_by};
 ghost use Rattle.auditor.specs.VerdictText.{CanBeTold, IsNamed};
@@ -47,7 +47,7 @@ pub struct RecordJudge<J: ReferenceObject<KernelObject>> {
 }
 
 impl<J: ReferenceObject<KernelObject>> Model for RecordJudge<J> {
-    ghost use Rattle.scripts.specs.Keeping.{Parts};
+    ghost use Rattle.records.specs.Keeping.{Parts};
     ghost use Rattle.auditor.specs.JudgedParts.{parts_of, IsFedWith};
 
     ghost Value = { Parts };

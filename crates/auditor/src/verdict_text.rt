@@ -1,7 +1,7 @@
 //! The text of a verdict.
 
 ghost use Rattle.std.specs.Prelude.{◌≡◌, ◌<◌, ◌++◌, length, string_bytes, IfOk, OnOk};
-ghost use Rattle.scripts.specs.Settings.{name_at};
+ghost use Rattle.records.specs.Settings.{name_at};
 ghost use Rattle.auditor.specs.VerdictText.{IsNamed, CanBeTold, fault_text, verdict_text};
 
 use crate::{Fault, Verdict};

@@ -6,10 +6,10 @@ use Rattle.std.proofs.lemmas.List.Elements.{filter-append}
 use Rattle.std.proofs.lemmas.List.Folds.{length-flat_map-take}
 use Rattle.std.specs.List.{fold, sum, count_by, enumerate_from, AllByRecursion}
 use Rattle.kernel_object.specs.KernelTypes.{KernelEntry}
-use Rattle.scripts.specs.declared.record.form.TheConstants.{WRITTEN}
-use Rattle.scripts.specs.RecordRanges.{Record, RecordFits, TranscriptFits}
-use Rattle.scripts.specs.Settings.{ObjectSettings}
-use Rattle.scripts.specs.Words.{sentence, text_of_lines}
+use Rattle.kernel_words.specs.declared.form.TheConstants.{WRITTEN}
+use Rattle.records.specs.RecordRanges.{Record, RecordFits, TranscriptFits}
+use Rattle.records.specs.Settings.{ObjectSettings}
+use Rattle.record_lines.specs.Words.{sentence, text_of_lines}
 use Rattle.sound_run.specs.declared.limits.TheConstants.{MOST_CPUS}
 use Rattle.cpu_worker.specs.declared.sums.Sums.{Sums}
 use Rattle.cpu_worker.specs.Report.{all_entries, entries_on, lacks_room, greatest, sums_of, joined, object_words, objects_words, run_words, report_text}

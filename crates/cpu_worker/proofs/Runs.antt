@@ -13,12 +13,13 @@ use Rattle.kernel_object.specs.KernelTypes.{KernelEntry, KernelTodo, KernelRun}
 use Rattle.guarded_cell.specs.Workers.{ArePasses, HasDone, opened_of_cell}
 use Rattle.guarded_cell.specs.Runs.{EachJoins, Worked, AllWorked, run_left}
 use Rattle.guarded_cell.proofs.Workers.{views_of}
-use Rattle.scripts.specs.Runs.{TranscriptAsks, opened_of}
-use Rattle.scripts.specs.ScriptText.{TodoFits, ScriptFits, ScriptsFit}
-use Rattle.scripts.specs.Settings.{Settings, SettingsFit, ObjectFits}
-use Rattle.scripts.specs.declared.record.form.TheConstants.{WRITTEN}
+use Rattle.records.specs.Runs.{TranscriptAsks, opened_of}
+use Rattle.scripts.specs.ScriptText.{ScriptFits, ScriptsFit}
+use Rattle.records.specs.RecordRanges.{TodoFits}
+use Rattle.records.specs.Settings.{Settings, SettingsFit, ObjectFits}
+use Rattle.kernel_words.specs.declared.form.TheConstants.{WRITTEN}
 use Rattle.event_log.specs.declared.logged.TheConstants.{MOST_EVENTS}
-use Rattle.scripts.proofs.SoundRanges.{all_at as all_by_place}
+use Rattle.records.proofs.SoundRanges.{all_at as all_by_place}
 use Rattle.word_rule.specs.Cell.{EachAt, IsPassView, opening_pass}
 use Rattle.word_rule.specs.Machine.SoundWorld.{IsTodo}
 use Rattle.sound_run.specs.Sound.{Opened, Sound}

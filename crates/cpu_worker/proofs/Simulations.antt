@@ -13,9 +13,10 @@ use Rattle.kernel_object.specs.declared.call.KReply.{KReply}
 use Rattle.kernel_object.specs.declared.object.KernelObject.{KernelObject}
 use Rattle.kernel_object.specs.contracts.object.KernelObjectSeqObject.TheImpl.{ghosts as kernel}
 use Rattle.kernel_object.specs.KernelTypes.{KernelEntry, KernelTodo, KernelRun}
-use Rattle.scripts.specs.Runs.{AsksFirst, EntryAsks, TranscriptAsks}
-use Rattle.scripts.specs.ScriptText.{TodoFits, ScriptFits, ScriptsFit}
-use Rattle.scripts.specs.Settings.{Settings, ObjectSettings}
+use Rattle.records.specs.Runs.{AsksFirst, EntryAsks, TranscriptAsks}
+use Rattle.scripts.specs.ScriptText.{ScriptFits, ScriptsFit}
+use Rattle.records.specs.RecordRanges.{TodoFits}
+use Rattle.records.specs.Settings.{Settings, ObjectSettings}
 use Rattle.sound_run.specs.Sound.{Opened}
 use Rattle.sound_run.proofs.Slices.{get_map, one_of}
 use Rattle.word_rule.specs.Machine.Opening.{opening_cpu}

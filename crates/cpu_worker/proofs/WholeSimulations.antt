@@ -11,9 +11,9 @@ use Rattle.kernel_object.specs.declared.call.KReply.{KReply}
 use Rattle.kernel_object.specs.declared.object.KernelObject.{KernelObject}
 use Rattle.kernel_object.specs.contracts.object.KernelObjectSeqObject.TheImpl.{ghosts as kernel}
 use Rattle.kernel_object.specs.KernelTypes.{KernelTodo}
-use Rattle.scripts.specs.Runs.{AsksFor}
+use Rattle.records.specs.Runs.{AsksFor}
 use Rattle.scripts.specs.ScriptText.{ScriptFits, ScriptsFit}
-use Rattle.scripts.specs.Settings.{Settings, SettingsFit}
+use Rattle.records.specs.Settings.{Settings, SettingsFit}
 use Rattle.sound_run.specs.declared.limits.TheConstants.{MOST_CPUS}
 use Rattle.sound_run.proofs.Slices.{get_map}
 use Rattle.word_rule.proofs.LockLaws.{few_fit}

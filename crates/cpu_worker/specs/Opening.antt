@@ -1,7 +1,7 @@
 -- The cells of a run before their first calls, and a CPU's passes of them.
 use Rattle.std.specs.Prelude.{◌≡◌, ℕ, List, [], map}
 use Rattle.guarded_cell.specs.Workers.{ArePasses}
-use Rattle.scripts.specs.Settings.{Settings, ObjectSettings}
+use Rattle.records.specs.Settings.{Settings, ObjectSettings}
 use Rattle.word_rule.specs.Cell.{opening_pass}
 use Rattle.cpu_worker.specs.Work.{FixedCell, KernelView}
 

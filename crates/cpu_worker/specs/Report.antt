@@ -3,10 +3,10 @@ use Rattle.std.specs.Prelude.{ℕ, ◌+◌, ◌-◌, ◌^◌, min, max, Bool, tr
 use Rattle.std.specs.List.{filter, flat_map, fold, sum, count_by, enumerate_from}
 use Rattle.event_log.specs.declared.entry.Done.TheVariants.{Steps, NoRoom}
 use Rattle.kernel_object.specs.KernelTypes.{KernelDone, KernelEntry}
-use Rattle.scripts.specs.RecordRanges.{Record}
-use Rattle.scripts.specs.Parameters.{lock_word}
-use Rattle.scripts.specs.Settings.{ObjectSettings}
-use Rattle.scripts.specs.Words.{sentence, text_of_lines}
+use Rattle.records.specs.RecordRanges.{Record}
+use Rattle.kernel_words.specs.Parameters.{lock_word}
+use Rattle.records.specs.Settings.{ObjectSettings}
+use Rattle.record_lines.specs.Words.{sentence, text_of_lines}
 use Rattle.cpu_worker.specs.declared.sums.Sums.{Sums}
 
 -- the entries of all transcripts

@@ -9,7 +9,7 @@ use Rattle.kernel_object.specs.KernelTypes.{KernelTodo, KernelRun}
 use Rattle.word_rule.specs.Locks.{opening_lock}
 use Rattle.word_rule.specs.Machine.Opening.{opening_cpu}
 use Rattle.word_rule.specs.Machine.World.{World, CellState, run, run_of}
-use Rattle.scripts.specs.Settings.{Settings, ObjectSettings}
+use Rattle.records.specs.Settings.{Settings, ObjectSettings}
 
 abbrev pub KernelWorld : Type 0
 KernelWorld = World KernelObject KParams KCall KReply

@@ -8,7 +8,7 @@ use Rattle.kernel_object.specs.declared.object.KernelObject.{KernelObject}
 use Rattle.kernel_object.specs.contracts.object.KernelObjectSeqObject.TheImpl.{ghosts as kernel}
 use Rattle.kernel_object.specs.KernelTypes.{KernelTodo, KernelEntry}
 use Rattle.guarded_cell.specs.Workers.{ArePasses, HasDone}
-use Rattle.scripts.specs.declared.script.cpu_scripts.TheConstants.{MOST_ENTRIES}
+use Rattle.records.specs.declared.record.TheConstants.{MOST_ENTRIES}
 use Rattle.word_rule.specs.Cell.{Cell, PassView}
 use Rattle.word_rule.specs.Machine.SoundWorld.{IsTodo}
 

@@ -5,9 +5,9 @@ ghost use Rattle.kernel_object.specs.contracts.object.KernelObjectSeqObject.TheI
 ghost use Rattle.kernel_object.specs.KernelTypes.{KernelTodo};
 ghost use Rattle.word_rule.specs.Machine.Rounds.{AllDone, HasRounds, entries_to_do, most_steps};
 ghost use Rattle.word_rule.specs.Machine.World.{run};
-ghost use Rattle.scripts.specs.Runs.{AsksFor};
+ghost use Rattle.records.specs.Runs.{AsksFor};
 ghost use Rattle.scripts.specs.ScriptText.{ScriptsFit};
-ghost use Rattle.scripts.specs.Settings.{Settings, SettingsFit};
+ghost use Rattle.records.specs.Settings.{Settings, SettingsFit};
 ghost use Rattle.cpu_worker.specs.Simulation.{new_world, simulated};
 
 use scripts::KernelObject;

@@ -2,8 +2,8 @@
 
 ghost use Rattle.std.specs.Prelude.{◌≡◌, ◌≤◌, IfOk};
 ghost use Rattle.event_log.specs.History.{IsKept, opened_history};
-ghost use Rattle.scripts.specs.Settings.{ObjectFits};
-ghost use Rattle.scripts.specs.declared.record.form.TheConstants.{WRITTEN};
+ghost use Rattle.records.specs.Settings.{ObjectFits};
+ghost use Rattle.kernel_words.specs.declared.form.TheConstants.{WRITTEN};
 
 use event_log::{Logged, MOST_EVENTS, OpenFault, OutOfMemory, SeqObject};
 use scripts::{KernelObject, ObjectSettings};

@@ -1,7 +1,7 @@
 //! The report of a run: what the entries on each object cost.
 
 ghost use Rattle.std.specs.Prelude.{◌≡◌, ◌<◌, ◌^◌, [], ◌∷◌, ◌++◌, length, string_bytes, IfOk, OnOk};
-ghost use Rattle.scripts.specs.Words.{sentence, text_of_lines};
+ghost use Rattle.record_lines.specs.Words.{sentence, text_of_lines};
 ghost use Rattle.cpu_worker.specs.Report.{all_entries, object_words, run_words, report_text};
 
 use crate::sums::Sums;

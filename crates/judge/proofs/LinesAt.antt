@@ -2,8 +2,8 @@
 use Rattle.std.proofs.Common.{◌≡◌, ℕ, List, ◌∷◌, ◌++◌, length, drop, sym, ap, ◌∙◌}
 use Rattle.std.proofs.Math.Seq.{drop-append_seam}
 use Rattle.judge.specs.OwnLines.{IsLineAt}
-use Rattle.scripts.proofs.FirstLines.{same_line, no_such_end}
-use Rattle.scripts.specs.Words.{NoEnd}
+use Rattle.record_lines.proofs.FirstLines.{same_line, no_such_end}
+use Rattle.record_lines.specs.Words.{NoEnd}
 
 -- from that byte on the text begins with the line
 from_there : (text : List ℕ) (at : ℕ) (line : List ℕ) (l : IsLineAt text at line) → drop at text ≡ line ++ 10 ∷ l.rest

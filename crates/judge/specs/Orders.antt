@@ -5,9 +5,9 @@ use Rattle.auditor.specs.Faults.{IsFirstFault}
 use Rattle.auditor.specs.declared.fault.Fault.{Fault}
 use Rattle.log_merge.specs.MergedRecords.{IsMerged, HasCycle}
 use Rattle.sound_run.specs.declared.place.Place.{Place}
-use Rattle.scripts.specs.RecordFaults.{IsWhole, IsBadLine}
-use Rattle.scripts.specs.RecordRanges.{Record}
-use Rattle.scripts.specs.Runs.{opened_of}
+use Rattle.records.specs.RecordFaults.{IsWhole, IsBadLine}
+use Rattle.records.specs.RecordRanges.{Record}
+use Rattle.records.specs.Runs.{opened_of}
 use Rattle.judge.specs.Told.{told, told_fault}
 use Rattle.judge.specs.declared.merge.Turn.{Turn}
 use Rattle.judge.specs.declared.told.Told.{Told}

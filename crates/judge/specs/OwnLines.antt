@@ -4,9 +4,9 @@ use Rattle.own_lines.specs.LineReading.{log_at, own_object_at, own_event_at}
 use Rattle.own_object.specs.Own.{OwnStep, OwnEvent}
 use Rattle.own_object.specs.Said.{Said, padded}
 use Rattle.own_object.specs.Settings.{OwnSettings, OwnHead}
-use Rattle.scripts.specs.Reading.{◌>>=◌, words, word_at}
-use Rattle.scripts.specs.RecordReading.{name_word_at}
-use Rattle.scripts.specs.Words.{NoEnd}
+use Rattle.record_lines.specs.Reading.{◌>>=◌, words, word_at}
+use Rattle.record_lines.specs.LineParts.{name_word_at}
+use Rattle.record_lines.specs.Words.{NoEnd}
 use Rattle.judge.specs.declared.own_told.LineTold.{LineTold}
 use Rattle.judge.specs.declared.own_told.SaidTold.{SaidTold}
 use Rattle.judge.specs.declared.own_told.StepTold.{StepTold}

@@ -5,10 +5,10 @@ use Rattle.auditor.specs.declared.fault.Fault.{Fault}
 use Rattle.auditor.specs.declared.fault.Fault.TheVariants.{TooLong, WrongStep, RoomWasLeft, NotItsEvent, NotAsked, Unclaimed}
 use Rattle.auditor.specs.declared.fault.Verdict.{Verdict}
 use Rattle.auditor.specs.declared.fault.Verdict.TheVariants.{Sound, Unsound}
-use Rattle.scripts.specs.RecordFaults.{IsWhole, NamesBadLine}
-use Rattle.scripts.specs.RecordRanges.{Record}
-use Rattle.scripts.specs.declared.text.fault.LinesFault.{LinesFault}
-use Rattle.scripts.specs.declared.text.fault.LinesFault.TheVariants.{OutOfMemory, Line}
+use Rattle.records.specs.RecordFaults.{IsWhole, NamesBadLine}
+use Rattle.records.specs.RecordRanges.{Record}
+use Rattle.record_lines.specs.declared.text.fault.LinesFault.{LinesFault}
+use Rattle.record_lines.specs.declared.text.fault.LinesFault.TheVariants.{OutOfMemory, Line}
 use Rattle.judge.specs.declared.told.Told.{Told}
 
 -- a kind with its numbers

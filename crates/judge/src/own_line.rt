@@ -4,8 +4,8 @@ ghost use Rattle.std.specs.Prelude.{◌≡◌, ◌≤◌, length, IfSome, IfNone
 ghost use Rattle.std.specs.Option.{option_map};
 ghost use Rattle.judge.specs.OwnLines.{IsLineAt, IsLineTold, any_head, any_log_at, told_object, told_log, told_event, told_words};
 ghost use Rattle.own_lines.specs.LineReading.{own_object_at, own_event_at};
-ghost use Rattle.scripts.specs.Reading.{left, words};
-ghost use Rattle.scripts.specs.RecordReading.{name_word_at};
+ghost use Rattle.record_lines.specs.Reading.{left, words};
+ghost use Rattle.record_lines.specs.LineParts.{name_word_at};
 
 use crate::LineTold;
 use crate::own_told::{put_numbers, put_steps};
@@ -44,7 +44,7 @@ fn line_from(text: &[u8], at: usize) -> Option<&[u8]>
 }
 
 /// The name that is next.
-#[tactic(auto, unfolding(scripts::specs::RecordReading::name_word_at))]
+#[tactic(auto, unfolding(record_lines::specs::LineParts::name_word_at))]
 fn name(at: Words<'_>) -> Option<OwnName>
     ensures { option_map (λ x. x.bytes) result ≡ option_map (λ x. x.0) (name_word_at (left at.entry)) }
 {

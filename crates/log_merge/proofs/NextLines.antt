@@ -2,9 +2,9 @@
 use Rattle.std.proofs.Common.{ℕ, ◌+◌, ◌<◌, List, [], ◌∷◌, length, map, take, get_or}
 use Rattle.std.proofs.lemmas.List.{get_or_default}
 use Rattle.event_log.specs.declared.stream.Sink.{Ghosts}
-use Rattle.scripts.specs.declared.streams.buffer.Buffered.{Buffered}
-use Rattle.scripts.specs.Output.{PutsLines}
-use Rattle.scripts.proofs.Lines.{line_then}
+use Rattle.record_lines.specs.declared.streams.buffer.Buffered.{Buffered}
+use Rattle.record_lines.specs.Output.{PutsLines}
+use Rattle.record_lines.proofs.Lines.{line_then}
 
 pub line_next : {W X : Type 0} (sink : Ghosts W) {a b c : Buffered W} (f : X → List (List ℕ)) (xs : List X) (i : ℕ) (d : X) → i < length xs
     → PutsLines sink a b (map f (take i xs)) → PutsLines sink b c (f (get_or xs i d) ∷ []) → PutsLines sink a c (map f (take (i + 1) xs))

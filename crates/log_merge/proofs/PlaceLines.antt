@@ -6,9 +6,9 @@ use Rattle.std.proofs.Math.ListN.{set}
 use Rattle.std.proofs.lemmas.Option.{slice_get_within}
 use Rattle.event_log.specs.declared.entry.Done.TheVariants as done
 use Rattle.kernel_object.specs.KernelTypes.{KernelEvent, KernelDone, KernelSteps, KernelRun}
-use Rattle.scripts.specs.RecordText.{step_words, done_words}
-use Rattle.scripts.specs.Settings.{Settings, name_at}
-use Rattle.scripts.specs.Words.{separated}
+use Rattle.kernel_words.specs.ItemText.{step_words, done_words}
+use Rattle.records.specs.Settings.{Settings, name_at}
+use Rattle.record_lines.specs.Words.{separated}
 use Rattle.sound_run.specs.declared.place.Place.{Place}
 use Rattle.sound_run.specs.Sound.{log_of}
 use Rattle.sound_run.specs.Orders.{entry_at, IsOrder}

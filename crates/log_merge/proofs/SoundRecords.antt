@@ -4,8 +4,8 @@ use Rattle.sound_run.specs.Sound.{Opened, Sound}
 use Rattle.kernel_object.specs.declared.call.KParams.{KParams}
 use Rattle.kernel_object.specs.contracts.object.KernelObjectSeqObject.TheImpl.{ghosts as kernel}
 use Rattle.kernel_object.specs.KernelTypes.{KernelRun}
-use Rattle.scripts.specs.Runs.{opened_of}
-use Rattle.scripts.specs.Settings.{ObjectSettings, Settings}
+use Rattle.records.specs.Runs.{opened_of}
+use Rattle.records.specs.Settings.{ObjectSettings, Settings}
 use Rattle.auditor.specs.declared.fault.Fault.{Fault}
 use Rattle.auditor.specs.Faults.{IsFault, IsFirstFault}
 use Rattle.auditor.specs.Transcripts.{opened_by}

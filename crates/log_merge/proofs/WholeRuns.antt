@@ -5,10 +5,10 @@ use Rattle.std.proofs.lemmas.Option.{slice_get_within}
 use Rattle.event_log.proofs.Each.{each_at, each_list_at}
 use Rattle.sound_run.specs.Sound.{transcript_of}
 use Rattle.kernel_object.specs.KernelTypes.{KernelRun}
-use Rattle.scripts.specs.declared.script.cpu_scripts.TheConstants.{MOST_ENTRIES}
-use Rattle.scripts.specs.declared.record.form.TheConstants.{WRITTEN}
-use Rattle.scripts.specs.RecordRanges.{EntryFits, LogFits, TranscriptFits, RunFits}
-use Rattle.scripts.specs.Settings.{Settings}
+use Rattle.records.specs.declared.record.TheConstants.{MOST_ENTRIES}
+use Rattle.kernel_words.specs.declared.form.TheConstants.{WRITTEN}
+use Rattle.records.specs.RecordRanges.{EntryFits, LogFits, TranscriptFits, RunFits}
+use Rattle.records.specs.Settings.{Settings}
 use Rattle.sound_run.specs.declared.place.Place.{Place}
 use Rattle.log_merge.specs.Chains.{Chain, Cyclic}
 use Rattle.log_merge.specs.Nexts.{IsWhole}

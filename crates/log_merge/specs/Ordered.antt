@@ -1,6 +1,6 @@
 -- A record in one order.
 use Rattle.std.specs.Prelude.{List}
-use Rattle.scripts.specs.RecordRanges.{Record}
+use Rattle.records.specs.RecordRanges.{Record}
 use Rattle.sound_run.specs.declared.place.Place.{Place}
 
 -- the record, and its entries in that order

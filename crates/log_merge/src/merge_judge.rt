@@ -5,9 +5,9 @@ ghost use Rattle.std.specs.List.{AllByRecursion};
 ghost use Rattle.auditor.specs.Faults.{IsFirstFault};
 ghost use Rattle.auditor.specs.VerdictText.{IsNamed};
 ghost use Rattle.log_merge.specs.MergedRecords.{IsMerged, HasCycle};
-ghost use Rattle.scripts.specs.Keeping.{no_parts, kept_record, IsWholeWith};
-ghost use Rattle.scripts.specs.RecordRanges.{RecordFits};
-ghost use Rattle.scripts.specs.Runs.{opened_of};
+ghost use Rattle.records.specs.Keeping.{no_parts, kept_record, IsWholeWith};
+ghost use Rattle.records.specs.RecordRanges.{RecordFits};
+ghost use Rattle.records.specs.Runs.{opened_of};
 ghost use Rattle.sound_run.specs.Orders.{HasOrder};
 ghost use Rattle.sound_run.specs.Sound.{Sound};
 
@@ -35,7 +35,7 @@ pub struct MergeJudge<J: ReferenceObject<KernelObject>> {
 
 impl<J: ReferenceObject<KernelObject>> Model for MergeJudge<J> {
     ghost use Rattle.std.specs.Prelude.{◌≡◌, map};
-    ghost use Rattle.scripts.specs.Keeping.{Parts};
+    ghost use Rattle.records.specs.Keeping.{Parts};
     ghost use Rattle.log_merge.specs.Shapes.{shape_of};
 
     ghost Value = { Parts };

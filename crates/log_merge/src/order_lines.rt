@@ -4,8 +4,8 @@ ghost use Rattle.std.specs.Prelude.{◌≡◌, true, [], ◌∷◌, map, OnOk, O
 ghost use Rattle.std.specs.Io.KnownBytes.{Appends};
 ghost use Rattle.event_log.specs.Stream.{counted};
 ghost use Rattle.log_merge.specs.MergedText.{entry_words, place_words, merged_text};
-ghost use Rattle.scripts.specs.Output.{AppendsBeginning, PutsLines};
-ghost use Rattle.scripts.specs.Settings.{name_at};
+ghost use Rattle.record_lines.specs.Output.{AppendsBeginning, PutsLines};
+ghost use Rattle.records.specs.Settings.{name_at};
 
 use crate::look_up::entry_at;
 use crate::record_merge::Merged;

@@ -4,7 +4,7 @@ ghost use Rattle.std.specs.Prelude.{◌≡◌, true, OnOk, OnErr};
 ghost use Rattle.std.specs.Io.KnownBytes.{Appends};
 ghost use Rattle.event_log.specs.Stream.{counted};
 ghost use Rattle.log_merge.specs.MergedText.{merged_text};
-ghost use Rattle.scripts.specs.Output.{AppendsBeginning};
+ghost use Rattle.record_lines.specs.Output.{AppendsBeginning};
 ghost use Rattle.sound_run.specs.Orders.{IsOrder};
 
 use crate::record_merge::Merged;

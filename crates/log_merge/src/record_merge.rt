@@ -5,7 +5,7 @@ ghost use Rattle.std.specs.List.{AllByRecursion};
 ghost use Rattle.auditor.specs.Faults.{IsFirstFault};
 ghost use Rattle.auditor.specs.VerdictText.{IsNamed};
 ghost use Rattle.log_merge.specs.MergedRecords.{IsMerged, HasCycle};
-ghost use Rattle.scripts.specs.Runs.{opened_of};
+ghost use Rattle.records.specs.Runs.{opened_of};
 ghost use Rattle.sound_run.specs.Orders.{HasOrder};
 ghost use Rattle.sound_run.specs.Sound.{Sound};
 

@@ -16,10 +16,10 @@ use Rattle.program.proofs.Refused as causes
 use Rattle.program.specs.Texts.{SpellsRecordOf}
 use Rattle.program.specs.declared.refusal.Refusal.{Refusal}
 use Rattle.program.specs.declared.refusal.Refusal.TheVariants as refusal
-use Rattle.scripts.specs.Keeping.{Parts, kept_record, IsWholeWith}
-use Rattle.scripts.specs.RecordRanges.{Record}
-use Rattle.scripts.specs.Runs.{opened_of}
-use Rattle.scripts.specs.Settings.{Settings}
+use Rattle.records.specs.Keeping.{Parts, kept_record, IsWholeWith}
+use Rattle.records.specs.RecordRanges.{Record}
+use Rattle.records.specs.Runs.{opened_of}
+use Rattle.records.specs.Settings.{Settings}
 use Rattle.sound_run.specs.Sound.{Sound}
 use Rattle.sound_run.specs.declared.place.Place.{Place}
 use Rattle.mc2_command.specs.declared.arguments.Arguments.{Arguments}

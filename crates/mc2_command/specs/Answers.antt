@@ -21,12 +21,12 @@ use Rattle.sound_run.specs.Orders.{HasOrder}
 use Rattle.sound_run.specs.Sound.{Sound}
 use Rattle.program.specs.Inputs.{bytes_of, Reads}
 use Rattle.program.specs.Texts.{SpellsRecordOf, SpellsSettingsOf}
-use Rattle.scripts.specs.RecordFaults.{text_of}
-use Rattle.scripts.specs.RecordRanges.{Record}
-use Rattle.scripts.specs.Runs.{opened_of, AsksFor}
+use Rattle.records.specs.RecordFaults.{text_of}
+use Rattle.records.specs.RecordRanges.{Record}
+use Rattle.records.specs.Runs.{opened_of, AsksFor}
 use Rattle.scripts.specs.ScheduleText.{IsSchedule}
 use Rattle.scripts.specs.ScriptText.{AreScripts}
-use Rattle.scripts.specs.Settings.{Settings, built_in_settings}
+use Rattle.records.specs.Settings.{Settings, built_in_settings}
 use Rattle.mc2_command.specs.declared.arguments.Arguments.{Arguments}
 use Rattle.mc2_command.specs.declared.arguments.Arguments.TheVariants as forms
 use Rattle.mc2_command.specs.Asked.{Asks}

@@ -3,7 +3,7 @@ use Rattle.std.specs.Prelude.{ℕ, List, string_bytes}
 use Rattle.auditor.specs.declared.fault.Verdict.{Verdict}
 use Rattle.auditor.specs.declared.fault.Verdict.TheVariants as verdicts
 use Rattle.log_merge.specs.MergedText.{merged_text}
-use Rattle.scripts.specs.RecordFaults.{text_of}
+use Rattle.records.specs.RecordFaults.{text_of}
 use Rattle.mc2_command.specs.declared.commands.Answer.{Answer}
 use Rattle.mc2_command.specs.declared.commands.Answer.TheVariants as answers
 

@@ -5,7 +5,7 @@ ghost use Rattle.std.specs.Prelude.{◌≡◌, ◌<◌, List, Some, IfOk, IfErr,
 ghost use Rattle.std.specs.List.{AllByRecursion};
 ghost use Rattle.auditor.specs.VerdictText.{IsNamed};
 ghost use Rattle.auditor.specs.declared.fault.Fault.{Fault as AuditFault};
-ghost use Rattle.scripts.specs.declared.script.cpu_scripts.TheConstants.{MOST_ENTRIES};
+ghost use Rattle.records.specs.declared.record.TheConstants.{MOST_ENTRIES};
 ghost use Rattle.sound_run.specs.declared.place.Place.{Place};
 ghost use Rattle.mc2_command.specs.Answers.{AnswersRun, AnswersSim, AnswersReport, AnswersAudit, AnswersMerge};
 ghost use Rattle.event_log.specs.Stream.{counted};

@@ -8,7 +8,7 @@ ghost use Rattle.mc2_command.specs.Printed.{printed, status_with};
 ghost use Rattle.mc2_command.specs.Faults.{status_of, tells_read_failed};
 ghost use Rattle.mc2_command.specs.Refused.{Refuses, RefusesTo, RefusesWith};
 ghost use Rattle.program.specs.Printing.{Prints, PrintsSome};
-ghost use Rattle.scripts.specs.Output.{AppendsBeginning};
+ghost use Rattle.record_lines.specs.Output.{AppendsBeginning};
 
 use crate::answers::{
     audit_answer, merge_answer, report_answer, run_answer, sim_answer, upgrade_answer,

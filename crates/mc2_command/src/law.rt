@@ -6,8 +6,8 @@ ghost use Rattle.mc2_command.specs.Asked.{Asks};
 ghost use Rattle.mc2_command.specs.Table.{AreNamed, IsForm};
 ghost use Rattle.mc2_command.specs.declared.arguments.Arguments.{Arguments};
 ghost use Rattle.mc2_command.specs.Answers.{AnswersSim, RefusesCycle, RefusesUnsound};
-ghost use Rattle.scripts.specs.RecordFaults.{text_of};
-ghost use Rattle.scripts.specs.RecordRanges.{RecordFits, Record as Shown};
+ghost use Rattle.records.specs.RecordFaults.{text_of};
+ghost use Rattle.records.specs.RecordRanges.{RecordFits, Record as Shown};
 
 use auditor::sound_has_no_fault;
 use scripts::{KernelObject, no_text_begins_another};

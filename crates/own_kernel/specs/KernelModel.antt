@@ -12,10 +12,10 @@ use Rattle.kernel_object.specs.Kernel.{kernel_in_range, kernel_opening, kernel_a
 use Rattle.kernel_object.specs.KindWords.{kind_of}
 use Rattle.own_object.specs.Own.{OwnStep}
 use Rattle.own_object.specs.Said.{Said}
-use Rattle.scripts.specs.declared.tables.field.Field.{Field}
-use Rattle.scripts.specs.Reading.{◌>>=◌}
-use Rattle.scripts.specs.Row.{in_range, sample_at, values}
-use Rattle.scripts.specs.Rows.{call_row, call_samples, call_filled, reply_row}
+use Rattle.kernel_words.specs.declared.tables.field.Field.{Field}
+use Rattle.record_lines.specs.Reading.{◌>>=◌}
+use Rattle.kernel_words.specs.Row.{in_range, sample_at, values}
+use Rattle.kernel_words.specs.Rows.{call_row, call_samples, call_filled, reply_row}
 
 -- what an object of that kind is opened with by these numbers
 abbrev pub params_from : Kind → List ℕ → Option KParams

@@ -4,15 +4,15 @@ ghost use Rattle.std.specs.Prelude.{◌≡◌, ◌≤◌, length, map, if◌then
 ghost use Rattle.std.specs.Option.{option_map};
 ghost use Rattle.std.specs.Str.{bytes_eq};
 ghost use Rattle.own_kernel.specs.KernelModel.{are_in_ranges, with_numbers, call_of, said_of, is_said};
-ghost use Rattle.scripts.specs.Row.{sample_at};
-ghost use Rattle.scripts.specs.Rows.{call_row, call_samples};
+ghost use Rattle.kernel_words.specs.Row.{sample_at};
+ghost use Rattle.kernel_words.specs.Rows.{call_row, call_samples};
 
 use arrayvec::ArrayVec;
 use own_object::Spoken;
 use scripts::{Field, KCall, KReply, Spelled};
 
 /// The sample of that word.
-#[tactic(auto, unfolding(scripts::specs::Row::sample_at))]
+#[tactic(auto, unfolding(kernel_words::specs::Row::sample_at))]
 fn sample(word: &[u8]) -> Option<KCall>
     ensures { result ≡ sample_at call_row call_samples word.now }
 {

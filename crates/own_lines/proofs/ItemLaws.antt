@@ -5,12 +5,12 @@ use Rattle.std.specs.Option.{option_map_or}
 use Rattle.event_log.specs.declared.event.TheConstants.{MOST_CALLS}
 use Rattle.event_log.proofs.Each.{all_append}
 use Rattle.own_lines.specs.LineReading.{number_next}
-use Rattle.scripts.specs.Reading.{◌>>=◌, key_at}
-use Rattle.scripts.specs.Row.{IsPlain}
-use Rattle.scripts.specs.Words.{separated}
-use Rattle.scripts.specs.RecordReading.{more_at, list_at}
-use Rattle.scripts.proofs.ListLaws.{key_takes, key_again}
-use Rattle.scripts.proofs.Readings.{bind_some}
+use Rattle.record_lines.specs.Reading.{◌>>=◌, key_at}
+use Rattle.record_lines.specs.Words.{IsPlain}
+use Rattle.record_lines.specs.Words.{separated}
+use Rattle.record_lines.specs.LineParts.{more_at, list_at}
+use Rattle.record_lines.proofs.ListLaws.{key_takes, key_again}
+use Rattle.record_lines.proofs.Readings.{bind_some}
 
 module _ {T : Type 0} (words_of : T → List (List ℕ)) (fits : T → Type 0) (item_at : List (List ℕ) → Option (T × List (List ℕ))) where
   -- the words are the item's, which is in its ranges, and those behind it

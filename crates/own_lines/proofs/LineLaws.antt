@@ -11,16 +11,16 @@ use Rattle.own_object.specs.declared.settings.TheConstants.{MOST_OWN_CPUS, MOST_
 use Rattle.own_object.specs.Own.{OwnEvent, OwnEntry}
 use Rattle.own_object.specs.Ranges.{most_lines, SaidFits, OwnSettingsFit, Differ, HeadFits, EventFits, EntryFits}
 use Rattle.own_object.specs.Settings.{OwnSettings, OwnHead, names_of, word_in}
-use Rattle.scripts.specs.Reading.{key_at, number_at}
-use Rattle.scripts.specs.RecordReading.{is_nil, list_at, name_word_at}
-use Rattle.scripts.specs.Row.{IsPlain}
-use Rattle.scripts.specs.Settings.{is_name}
-use Rattle.scripts.specs.Words.{separated}
-use Rattle.scripts.proofs.ListLaws.{key_takes, key_again, key_other}
-use Rattle.scripts.proofs.Names.{name_plain}
-use Rattle.scripts.proofs.Readings.{bind_some, plain_decimal, number_at_takes, number_at_again}
-use Rattle.scripts.proofs.RecordLineLaws.{fixed_takes, fixed_again, head_takes, head_again, nothing_behind}
-use Rattle.scripts.proofs.RecordWords.{name_takes, name_again}
+use Rattle.record_lines.specs.Reading.{key_at, number_at}
+use Rattle.record_lines.specs.LineParts.{is_nil, list_at, name_word_at}
+use Rattle.record_lines.specs.Words.{IsPlain}
+use Rattle.record_lines.specs.Names.{is_name}
+use Rattle.record_lines.specs.Words.{separated}
+use Rattle.record_lines.proofs.ListLaws.{key_takes, key_again, key_other}
+use Rattle.record_lines.proofs.Names.{name_plain}
+use Rattle.record_lines.proofs.Readings.{bind_some, plain_decimal, number_at_takes, number_at_again}
+use Rattle.record_lines.proofs.LineLaws.{fixed_takes, fixed_again, head_takes, head_again, nothing_behind}
+use Rattle.record_lines.proofs.Names.{name_takes, name_again}
 use Rattle.own_lines.proofs.ItemLaws.{list_takes, list_again, list_plain}
 use Rattle.own_lines.proofs.NameLaws.{name_of_object, place_takes, place_again, new_words_take, new_words_again, names_plain}
 use Rattle.own_lines.proofs.SaidLaws.{sizes_take, sizes_again, sizes_plain}

@@ -5,12 +5,12 @@ use Rattle.std.specs.Borrow.{Bor}
 use Rattle.std.specs.List.{list_any, onto_first}
 use Rattle.std.specs.Option.{is_some}
 use Rattle.own_lines.specs.LineReading.{number_next, sizes_at, new_name_in, new_words_at, most_number}
-use Rattle.scripts.specs.Reading.{◌>>=◌, words, left, word_at, number_at}
-use Rattle.scripts.specs.RecordReading.{is_nil}
-use Rattle.scripts.specs.Settings.{is_digit}
-use Rattle.scripts.proofs.Readings.{bind_grown}
-use Rattle.scripts.proofs.FastReads.{word_in_front}
-use Rattle.scripts.proofs.Sentences.{words_some}
+use Rattle.record_lines.specs.Reading.{◌>>=◌, words, left, word_at, number_at}
+use Rattle.record_lines.specs.LineParts.{is_nil}
+use Rattle.record_lines.specs.Names.{is_digit}
+use Rattle.record_lines.proofs.Readings.{bind_grown}
+use Rattle.record_lines.proofs.Readings.{word_in_front}
+use Rattle.record_lines.proofs.Sentences.{words_some}
 
 -- a test of each member's picture
 pub any_mapped : {X Y : Type 0} (p : Y → Bool) (h : X → Y) (xs : List X) → list_any p (map h xs) ≡ list_any (λ x. p (h x)) xs

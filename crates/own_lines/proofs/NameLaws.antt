@@ -10,11 +10,11 @@ use Rattle.event_log.proofs.Lists.{some_at}
 use Rattle.own_lines.specs.LineReading.{own_place_at, new_name_in, new_words_at}
 use Rattle.own_object.specs.Ranges.{OwnSettingsFit, Differ, HeadFits}
 use Rattle.own_object.specs.Settings.{OwnSettings, OwnHead, names_of, word_in, refuses_word}
-use Rattle.scripts.specs.Reading.{word_at}
-use Rattle.scripts.specs.Row.{IsPlain}
-use Rattle.scripts.specs.Settings.{is_name}
-use Rattle.scripts.proofs.Names.{name_plain, named_by, first_at}
-use Rattle.scripts.proofs.Readings.{bind_some, same}
+use Rattle.record_lines.specs.Reading.{word_at}
+use Rattle.record_lines.specs.Words.{IsPlain}
+use Rattle.record_lines.specs.Names.{is_name}
+use Rattle.record_lines.proofs.Names.{name_plain, named_by, first_at}
+use Rattle.record_lines.proofs.Readings.{bind_some, same}
 
 -- ---- the object at a place
 

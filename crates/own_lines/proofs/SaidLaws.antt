@@ -9,13 +9,13 @@ use Rattle.own_lines.specs.LineText.{number_words, said_words}
 use Rattle.own_object.specs.declared.spoken.TheConstants.{MOST_NUMBERS}
 use Rattle.own_object.specs.Ranges.{IsNumber, SaidFits}
 use Rattle.own_object.specs.Said.{Said}
-use Rattle.scripts.specs.Reading.{◌>>=◌, number_at}
-use Rattle.scripts.specs.RecordReading.{name_word_at}
-use Rattle.scripts.specs.Row.{IsPlain}
-use Rattle.scripts.specs.Settings.{is_digit}
-use Rattle.scripts.proofs.Names.{name_plain}
-use Rattle.scripts.proofs.Readings.{bind_some, plain_decimal, number_at_takes, number_at_again}
-use Rattle.scripts.proofs.RecordWords.{name_takes, name_again}
+use Rattle.record_lines.specs.Reading.{◌>>=◌, number_at}
+use Rattle.record_lines.specs.LineParts.{name_word_at}
+use Rattle.record_lines.specs.Words.{IsPlain}
+use Rattle.record_lines.specs.Names.{is_digit}
+use Rattle.record_lines.proofs.Names.{name_plain}
+use Rattle.record_lines.proofs.Readings.{bind_some, plain_decimal, number_at_takes, number_at_again}
+use Rattle.record_lines.proofs.Names.{name_takes, name_again}
 
 -- ---- numbers
 

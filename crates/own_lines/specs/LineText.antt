@@ -4,7 +4,7 @@ use Rattle.event_log.specs.declared.entry.Done.TheVariants.{Steps, NoRoom}
 use Rattle.own_object.specs.Own.{OwnStep, OwnEvent, OwnDone, OwnEntry}
 use Rattle.own_object.specs.Said.{Said}
 use Rattle.own_object.specs.Settings.{OwnSettings, OwnHead, names_of, word_in}
-use Rattle.scripts.specs.Words.{separated}
+use Rattle.record_lines.specs.Words.{separated}
 
 -- the decimal texts of the numbers
 abbrev pub number_words : List ℕ → List (List ℕ)

@@ -5,8 +5,8 @@ ghost use Rattle.std.specs.Option.{option_map};
 ghost use Rattle.std.specs.Str.{bytes_eq};
 ghost use Rattle.own_lines.specs.LineReading.{own_place_at, own_done_at, own_entry_at};
 ghost use Rattle.own_object.specs.declared.settings.TheConstants.{MOST_OWN_OBJECTS};
-ghost use Rattle.scripts.specs.Reading.{left, words};
-ghost use Rattle.scripts.specs.RecordReading.{fixed_at};
+ghost use Rattle.record_lines.specs.Reading.{left, words};
+ghost use Rattle.record_lines.specs.LineParts.{fixed_at};
 
 use crate::events::all_steps;
 use crate::items::list;
@@ -41,7 +41,7 @@ fn place<'a>(objects: &[OwnSettings], at: Words<'a>) -> Option<(u8, Words<'a>)>
 }
 
 /// Whether `noroom` alone is left.
-#[tactic(auto, using(scripts::proofs::Sentences::words_some), unfolding(scripts::specs::RecordReading::fixed_at, scripts::specs::RecordReading::keys_at))]
+#[tactic(auto, using(record_lines::proofs::Sentences::words_some), unfolding(record_lines::specs::LineParts::fixed_at, record_lines::specs::LineParts::keys_at))]
 fn no_room(at: Words<'_>) -> Option<()>
     ensures { result ≡ fixed_at (codes "noroom" ∷ []) (left at.entry) }
 {

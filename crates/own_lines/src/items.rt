@@ -2,8 +2,8 @@
 
 ghost use Rattle.std.specs.Prelude.{◌≡◌, [], map};
 ghost use Rattle.std.specs.Option.{option_map};
-ghost use Rattle.scripts.specs.Reading.{left};
-ghost use Rattle.scripts.specs.RecordReading.{list_at};
+ghost use Rattle.record_lines.specs.Reading.{left};
+ghost use Rattle.record_lines.specs.LineParts.{list_at};
 
 use crate::refusing::is_refusing;
 use crate::said::said;

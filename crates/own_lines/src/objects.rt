@@ -4,7 +4,7 @@ ghost use Rattle.std.specs.Prelude.{◌≡◌};
 ghost use Rattle.std.specs.Option.{option_map};
 ghost use Rattle.own_lines.specs.LineReading.{sizes_at, own_events_at, own_object_at};
 ghost use Rattle.own_object.specs.declared.settings.TheConstants.{MOST_SIZES};
-ghost use Rattle.scripts.specs.Reading.{left, words};
+ghost use Rattle.record_lines.specs.Reading.{left, words};
 
 use crate::said::{is_number_next, name as next_name};
 use arrayvec::ArrayVec;
@@ -42,7 +42,7 @@ fn sizes(at: Words<'_>) -> Option<(ArrayVec<u64, MOST_SIZES>, Words<'_>)>
 }
 
 /// `object NAME LOCK EVENTS KIND NUMBERS`
-#[tactic(auto, using(scripts::proofs::Sentences::words_some), unfolding(crate::specs::LineReading::own_object_at))]
+#[tactic(auto, using(record_lines::proofs::Sentences::words_some), unfolding(crate::specs::LineReading::own_object_at))]
 pub fn object_line(line: &[u8]) -> Option<OwnSettings>
     ensures { result ≡ own_object_at (words line.now) }
 {

@@ -7,7 +7,7 @@ ghost use Rattle.std.specs.Str.{bytes_eq};
 ghost use Rattle.own_lines.specs.LineReading.{refuses_at, new_name_in, new_words_at};
 ghost use Rattle.own_object.specs.declared.settings.TheConstants.{MOST_WORDS};
 ghost use Rattle.own_object.specs.Settings.{refuses_word};
-ghost use Rattle.scripts.specs.Reading.{left, words};
+ghost use Rattle.record_lines.specs.Reading.{left, words};
 
 use event_log::OutOfMemory;
 use own_object::{MOST_WORDS, OwnName};

@@ -4,9 +4,9 @@ ghost use Rattle.std.specs.Prelude.{◌≡◌, [], IfSome};
 ghost use Rattle.std.specs.Option.{option_map};
 ghost use Rattle.own_lines.specs.LineReading.{number_next, sizes_at, said_at};
 ghost use Rattle.own_object.specs.declared.spoken.TheConstants.{MOST_NUMBERS};
-ghost use Rattle.scripts.specs.Reading.{left};
-ghost use Rattle.scripts.specs.RecordReading.{name_word_at};
-ghost use Rattle.scripts.specs.Settings.{is_digit};
+ghost use Rattle.record_lines.specs.Reading.{left};
+ghost use Rattle.record_lines.specs.LineParts.{name_word_at};
+ghost use Rattle.record_lines.specs.Names.{is_digit};
 
 use own_object::{MOST_NUMBERS, OwnName, Spoken};
 use scripts::{Words, is_name, name_in, number, word};
@@ -32,7 +32,7 @@ pub(crate) fn is_number_next(at: Words<'_>) -> bool
 }
 
 /// The next word, if it is a name.
-#[tactic(auto, unfolding(scripts::specs::RecordReading::name_word_at))]
+#[tactic(auto, unfolding(record_lines::specs::LineParts::name_word_at))]
 pub(crate) fn name(at: Words<'_>) -> Option<(OwnName, Words<'_>)>
     ensures { option_map (λ x. (x.0.bytes, left x.1)) result ≡ name_word_at (left at.entry) }
 {
@@ -42,7 +42,7 @@ pub(crate) fn name(at: Words<'_>) -> Option<(OwnName, Words<'_>)>
 }
 
 /// What the next word says, without numbers, if it is a name.
-#[tactic(auto, using(scripts::proofs::RecordLengths::name_le), unfolding(scripts::specs::RecordReading::name_word_at))]
+#[tactic(auto, using(record_lines::proofs::Names::name_le), unfolding(record_lines::specs::LineParts::name_word_at))]
 fn spoken_word(at: Words<'_>) -> Option<(Spoken, Words<'_>)>
     ensures read { option_map (λ x. (x.0.word, left x.1)) result ≡ name_word_at (left at.entry) }
     ensures none { IfSome result (λ x. x.0.numbers ≡ []) }

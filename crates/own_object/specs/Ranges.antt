@@ -8,7 +8,7 @@ use Rattle.own_object.specs.declared.spoken.TheConstants.{MOST_NUMBERS}
 use Rattle.own_object.specs.Own.{OwnStep, OwnEvent, OwnDone, OwnEntry, OwnRun}
 use Rattle.own_object.specs.Said.{Said}
 use Rattle.own_object.specs.Settings.{OwnSettings, OwnHead, names_of, word_in, refuses_word}
-use Rattle.scripts.specs.Settings.{is_name}
+use Rattle.record_lines.specs.Names.{is_name}
 
 -- the most events of a log, and entries of a transcript
 abbrev pub most_lines : ℕ

@@ -4,7 +4,7 @@ use Rattle.std.proofs.lemmas.List.{append-nil, length-replicate, map-append}
 use Rattle.std.specs.List.{AllByRecursion}
 use Rattle.event_log.proofs.Each.{all_append, all_push}
 use Rattle.event_log.specs.declared.entry.Done.TheVariants.{NoRoom}
-use Rattle.scripts.proofs.RecordEnds.{all_same}
+use Rattle.record_lines.proofs.Parts.{all_same}
 use Rattle.own_lines.specs.LineText.{first_words, cpus_words, count_words, own_object_words, own_event_words, own_entry_words, refuses_words, last_words}
 use Rattle.own_object.specs.Own.{OwnEvent, OwnEntry}
 use Rattle.own_object.specs.Ranges.{OwnRecord, OwnRecordFits, OwnSettingsFit, HeadFits, SaidFits, EventFits, EntryFits, LogFits, TranscriptFits}
@@ -17,7 +17,7 @@ use Rattle.own_records.specs.RecordText.{own_head_lines, own_record_lines}
 use Rattle.own_records.proofs.NewNames.{more_new}
 use Rattle.own_records.proofs.Parts.{log_head, cpu_head, logs_front, transcripts_front, record_parts}
 use Rattle.own_records.proofs.Spells.{spelled_at}
-use Rattle.scripts.proofs.RecordParts.{Lines, part_lines, parts_lines, parts_append, part_whole, items_more}
+use Rattle.record_lines.proofs.Parts.{Lines, part_lines, parts_lines, parts_append, part_whole, items_more}
 
 -- some record's lines begin with these
 pub record Begins (front : Lines) : Type 0 where

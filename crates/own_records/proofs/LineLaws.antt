@@ -10,11 +10,11 @@ use Rattle.own_object.specs.Ranges.{OwnSettingsFit, HeadFits, EventFits, EntryFi
 use Rattle.own_object.specs.Settings.{OwnSettings, OwnHead}
 use Rattle.own_lines.proofs.LineLaws.{IsLineOf, event_spells, event_said, event_plain, entry_spells, entry_said, entry_plain, object_spells, object_said, object_plain, refuses_spells, refuses_said, refuses_plain}
 use Rattle.own_records.specs.RecordStates.{is_taken, new_object_at}
-use Rattle.scripts.specs.RecordReading.{fixed_at, head_at}
-use Rattle.scripts.specs.Row.{IsPlain}
-use Rattle.scripts.specs.Settings.{is_name}
-use Rattle.scripts.proofs.Readings.{plain_decimal}
-use Rattle.scripts.proofs.RecordLineLaws.{fixed_takes, fixed_again, head_takes, head_again}
+use Rattle.record_lines.specs.LineParts.{fixed_at, head_at}
+use Rattle.record_lines.specs.Words.{IsPlain}
+use Rattle.record_lines.specs.Names.{is_name}
+use Rattle.record_lines.proofs.Readings.{plain_decimal}
+use Rattle.record_lines.proofs.LineLaws.{fixed_takes, fixed_again, head_takes, head_again}
 
 -- a line is read as what it spells, and nothing else is
 pub record ReadsLines {X : Type 0} (words_of : X → List (List ℕ)) (fits : X → Type 0) (read : List (List ℕ) → Option X) : Type 0 where

@@ -11,7 +11,7 @@ use Rattle.own_object.specs.Ranges.{Differ, OwnSettingsFit}
 use Rattle.own_object.specs.Settings.{OwnSettings, word_in}
 use Rattle.own_lines.proofs.NameLaws.{word_before, word_here}
 use Rattle.own_records.specs.RecordStates.{is_among}
-use Rattle.scripts.specs.Settings.{is_name, is_letter, is_digit}
+use Rattle.record_lines.specs.Names.{is_name, is_letter, is_digit}
 
 -- ---- words that differ
 

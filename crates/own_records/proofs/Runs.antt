@@ -16,9 +16,9 @@ use Rattle.own_records.proofs.LineLaws.{WordsFit, reads_new, reads_refuses, read
 use Rattle.own_records.proofs.NewNames.{names, free}
 use Rattle.own_records.proofs.Parts.{log_head, cpu_head, logs_front, transcripts_front, record_parts}
 use Rattle.own_records.proofs.Steps.{object_more, object_last, refuses_takes, event_more, event_last, log_some, log_empty, entry_more, entry_last, cpu_some, cpu_empty}
-use Rattle.scripts.specs.LineMachine.{TakesEach}
-use Rattle.scripts.proofs.RecordLineLaws.{head_again, fixed_again}
-use Rattle.scripts.proofs.RecordParts.{Lines, part_lines, parts_lines}
+use Rattle.record_lines.specs.LineMachine.{TakesEach}
+use Rattle.record_lines.proofs.LineLaws.{head_again, fixed_again}
+use Rattle.record_lines.proofs.Parts.{Lines, part_lines, parts_lines}
 
 -- lines behind others
 each_append : (a b : Lines) (s t u : OwnState) → TakesEach StepsTo a s t → TakesEach StepsTo b t u → TakesEach StepsTo (a ++ b) s u

@@ -18,11 +18,11 @@ use Rattle.own_records.specs.RecordText.{own_head_lines}
 use Rattle.own_records.proofs.LineLaws.{ReadsLines, Joins, reads_fixed, reads_head, reads_event, reads_entry, reads_new, reads_refuses}
 use Rattle.own_records.proofs.NewNames.{names, names_more}
 use Rattle.own_records.proofs.Parts.{log_head, cpu_head, logs_front, transcripts_front}
-use Rattle.scripts.specs.LineMachine.{TakesEach}
-use Rattle.scripts.specs.Reading.{◌>>=◌, words}
-use Rattle.scripts.proofs.Names.{name_plain}
-use Rattle.scripts.proofs.Readings.{bind_some, plain_decimal}
-use Rattle.scripts.proofs.RecordParts.{Lines, part_lines, part_whole, items_more}
+use Rattle.record_lines.specs.LineMachine.{TakesEach}
+use Rattle.record_lines.specs.Reading.{◌>>=◌, words}
+use Rattle.record_lines.proofs.Names.{name_plain}
+use Rattle.record_lines.proofs.Readings.{bind_some, plain_decimal}
+use Rattle.record_lines.proofs.Parts.{Lines, part_lines, part_whole, items_more}
 
 -- ---- what is spelled
 

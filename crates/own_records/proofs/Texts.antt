@@ -3,7 +3,7 @@ use Rattle.std.proofs.Common.{◌≡◌, ℕ, suc, ◌⊎◌, ◌<◌, ◌==◌,
 use Rattle.std.proofs.lemmas.Bool.{eqb-true}
 use Rattle.std.proofs.lemmas.List.{append-nil, map-append}
 use Rattle.std.specs.List.{AllByRecursion}
-use Rattle.scripts.proofs.RecordTexts.{same_lines}
+use Rattle.record_lines.proofs.Sentences.{same_lines}
 use Rattle.own_lines.proofs.LineLaws.{IsLineOf}
 use Rattle.own_object.specs.Ranges.{OwnRecord, OwnRecordFits}
 use Rattle.own_records.specs.declared.state.Next.TheVariants.{Done}
@@ -13,13 +13,13 @@ use Rattle.own_records.specs.RecordText.{own_record_lines, own_text}
 use Rattle.own_records.proofs.Ends.{begins_at, done_is}
 use Rattle.own_records.proofs.Runs.{record_run, done_with}
 use Rattle.own_records.proofs.Spells.{Spells, lines_spell, lines_are, spelled_at}
-use Rattle.scripts.specs.LineMachine.{TakesEach, TakesText}
-use Rattle.scripts.specs.Reading.{words}
-use Rattle.scripts.specs.RecordFaults.{first_lines}
-use Rattle.scripts.specs.Words.{NoEnd, sentence, text_of_lines}
-use Rattle.scripts.proofs.FirstLines.{text_append, line_behind, same_line, no_such_end, first_within, first_same, first_none, first_is}
-use Rattle.scripts.proofs.RecordParts.{Lines}
-use Rattle.scripts.proofs.Sentences.{words_sentence, sentence_no_end}
+use Rattle.record_lines.specs.LineMachine.{TakesEach, TakesText}
+use Rattle.record_lines.specs.Reading.{words}
+use Rattle.record_lines.specs.FirstLines.{first_lines}
+use Rattle.record_lines.specs.Words.{NoEnd, sentence, text_of_lines}
+use Rattle.record_lines.proofs.FirstLines.{text_append, line_behind, same_line, no_such_end, first_within, first_same, first_none, first_is}
+use Rattle.record_lines.proofs.Parts.{Lines}
+use Rattle.record_lines.proofs.Sentences.{words_sentence, sentence_no_end}
 
 -- bytes that are counted to none
 pub empty_is : (bytes : List ℕ) → (length bytes == 0) ≡ true → bytes ≡ []

@@ -1,9 +1,9 @@
 -- Which line of a text is the first that no record continues.
 use Rattle.std.specs.Prelude.{ℕ, ◌≡◌, ◌<◌, List, Result, Ok, Err}
 use Rattle.own_object.specs.Ranges.{OwnRecord, OwnRecordFits}
-use Rattle.scripts.specs.RecordFaults.{first_lines}
-use Rattle.scripts.specs.declared.text.fault.LinesFault.{LinesFault}
-use Rattle.scripts.specs.declared.text.fault.LinesFault.TheVariants.{OutOfMemory, Line}
+use Rattle.record_lines.specs.FirstLines.{first_lines}
+use Rattle.record_lines.specs.declared.text.fault.LinesFault.{LinesFault}
+use Rattle.record_lines.specs.declared.text.fault.LinesFault.TheVariants.{OutOfMemory, Line}
 use Rattle.own_records.specs.RecordText.{own_text}
 
 -- the bytes are the text of the record, which is within all limits

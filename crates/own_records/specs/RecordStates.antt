@@ -11,8 +11,8 @@ use Rattle.own_lines.specs.LineReading.{own_event_at, own_entry_at, own_object_a
 use Rattle.own_lines.specs.LineText.{first_words, last_words}
 use Rattle.own_records.specs.declared.state.Next.{Next}
 use Rattle.own_records.specs.declared.state.Next.TheVariants.{First, Cpus, Count, Object, Refuses, Log, Event, Cpu, Entry, End, Done}
-use Rattle.scripts.specs.Reading.{words, ◌>>=◌}
-use Rattle.scripts.specs.RecordReading.{fixed_at, head_at}
+use Rattle.record_lines.specs.Reading.{words, ◌>>=◌}
+use Rattle.record_lines.specs.LineParts.{fixed_at, head_at}
 
 -- which line can come next, and what was read: the head, whole logs and transcripts, the events or the entries behind them, and
 -- how many of what is being read its head told

@@ -5,7 +5,7 @@ ghost use Rattle.own_object.specs.Keeping.{no_own_parts, kept_own, IsWholeOwn};
 ghost use Rattle.own_object.specs.Ranges.{OwnRecord, OwnRecordFits};
 ghost use Rattle.own_records.specs.RecordFaults.{IsOwnText, IsReadOwn, NamesBadOwnLine};
 ghost use Rattle.own_records.specs.RecordText.{own_text};
-ghost use Rattle.scripts.specs.Then.{ok_map};
+ghost use Rattle.record_lines.specs.Then.{ok_map};
 
 use crate::state::RecordState;
 use own_object::{OwnHead, OwnKeeps};

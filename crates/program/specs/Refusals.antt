@@ -8,9 +8,9 @@ use Rattle.scripts.specs.declared.schedule.ScheduleFault.{ScheduleFault}
 use Rattle.scripts.specs.declared.schedule.ScheduleFault.TheVariants as schedule
 use Rattle.scripts.specs.declared.settings.fault.SettingsFault.{SettingsFault}
 use Rattle.scripts.specs.declared.settings.fault.SettingsFault.TheVariants as settings
-use Rattle.scripts.specs.declared.streams.text_writer.WriteFailed.{WriteFailed}
-use Rattle.scripts.specs.declared.text.fault.TextFault.{TextFault}
-use Rattle.scripts.specs.declared.text.fault.TextFault.TheVariants as text
+use Rattle.record_lines.specs.declared.streams.text_writer.WriteFailed.{WriteFailed}
+use Rattle.record_lines.specs.declared.text.fault.TextFault.{TextFault}
+use Rattle.record_lines.specs.declared.text.fault.TextFault.TheVariants as text
 
 abbrev pub of_memory : OutOfMemory → Refusal
 of_memory e = refusal.OutOfMemory

@@ -4,11 +4,11 @@ use Rattle.kernel_object.specs.KernelTypes.{KernelTodo}
 use Rattle.program.specs.Inputs.{Reads}
 use Rattle.program.specs.declared.refusal.Refusal.{Refusal}
 use Rattle.program.specs.declared.refusal.Refusal.TheVariants as refusal
-use Rattle.scripts.specs.RecordFaults.{IsBadLine, IsWhole}
-use Rattle.scripts.specs.RecordRanges.{Record}
+use Rattle.records.specs.RecordFaults.{IsBadLine, IsWhole}
+use Rattle.records.specs.RecordRanges.{Record}
 use Rattle.scripts.specs.ScheduleText.{IsFirstBadWord, IsSchedule}
 use Rattle.scripts.specs.ScriptText.{AreScripts, IsFirstBad}
-use Rattle.scripts.specs.Settings.{Settings}
+use Rattle.records.specs.Settings.{Settings}
 use Rattle.scripts.specs.SettingsSources.{IsFaultOfSettings, SpellsShortSettings}
 
 module _ (held : Option (List ℕ) → Option (List ℕ)) where

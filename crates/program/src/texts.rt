@@ -4,8 +4,8 @@ ghost use Rattle.std.specs.Prelude.{◌≡◌, ℕ, List, Some, None, length, If
 ghost use Rattle.event_log.specs.Stream.{counted};
 ghost use Rattle.program.specs.Inputs.{bytes_of, says_read_failed};
 ghost use Rattle.program.specs.Texts.{RefusesRecord, RefusesSchedule, RefusesScripts, RefusesSettings, SpellsRecordOf, SpellsScheduleOf, SpellsScriptsOf, SpellsSettingsOf};
-ghost use Rattle.scripts.specs.Keeping.{no_parts, kept_record, IsWholeWith};
-ghost use Rattle.scripts.specs.RecordRanges.{RecordFits};
+ghost use Rattle.records.specs.Keeping.{no_parts, kept_record, IsWholeWith};
+ghost use Rattle.records.specs.RecordRanges.{RecordFits};
 ghost use Rattle.scripts.specs.ScriptText.{ScriptsFit};
 
 use crate::inputs::Inputs;

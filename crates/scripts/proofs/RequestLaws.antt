@@ -1,36 +1,27 @@
 -- A line of the scripts is read as what it spells, and nothing else is.
-use Rattle.std.proofs.Common.{◌≡◌, ℕ, Some, List, [], ◌∷◌, ◌++◌, map, sym, ◌∙◌, ap, subst, arith, decimal, nat_lt, ◌&&◌}
+use Rattle.std.proofs.Common.{◌≡◌, ℕ, Some, List, [], ◌∷◌, ◌++◌, map, sym, ◌∙◌, ap, subst, arith, decimal, nat_lt, ◌&&◌, ◌≤◌, length}
 use Rattle.std.proofs.lemmas.Bool.{and_parts, lt-ltb, ltb-true}
 use Rattle.std.proofs.lemmas.List.{append-nil}
 use Rattle.std.proofs.lemmas.Option.{cond_some}
 use Rattle.std.specs.List.{AllByRecursion}
-use Rattle.kernel_object.specs.declared.call.KCall.{KCall}
 use Rattle.scripts.specs.declared.script.request.Request.{Request}
-use Rattle.scripts.specs.Ranges.{call_fits}
-use Rattle.scripts.specs.Reading.{words, number_at}
-use Rattle.scripts.specs.Row.{IsPlain, spelled}
-use Rattle.scripts.specs.Rows.{call_row, call_samples, call_filled}
+use Rattle.kernel_words.specs.Ranges.{call_fits}
+use Rattle.record_lines.specs.Reading.{words, number_at}
+use Rattle.record_lines.specs.Words.{IsPlain}
 use Rattle.scripts.specs.ScriptText.{IsRequest, request_words}
-use Rattle.scripts.specs.Settings.{Settings, SettingsFit, name_at}
-use Rattle.scripts.specs.Tables.{call_table}
-use Rattle.scripts.specs.Words.{sentence, separated}
-use Rattle.scripts.specs.RecordReading.{is_nil, call_at, list_at, place_at, request_at}
-use Rattle.scripts.proofs.ListLaws.{ReadsItems, nil_is, key_end, list_takes, list_again, list_plain}
-use Rattle.scripts.proofs.Names.{name_at_plain, place_takes, place_again}
-use Rattle.scripts.proofs.Readings.{bind_some, plain_decimal, number_at_takes, number_at_again}
-use Rattle.scripts.proofs.Sentences.{words_sentence, sentence_words}
-use Rattle.scripts.proofs.Spellings.{value_takes, value_again, value_plain}
-
--- the words of a call
-abbrev pub call_words : KCall → List (List ℕ)
-call_words c = spelled (call_row c)
-
-pub reads_calls : ReadsItems call_words call_fits call_at
-reads_calls = record {
-  takes = λ ws read e. let is = value_takes call_row call_samples call_filled call_table ws read e in record { text = is.text; fit = is.fits };
-  again = value_again call_row call_samples call_filled call_table;
-  plain = value_plain call_row call_samples call_filled call_table;
-}
+use Rattle.records.specs.Settings.{Settings, SettingsFit, name_at}
+use Rattle.record_lines.specs.Words.{sentence, separated}
+use Rattle.records.specs.RecordReading.{place_at}
+use Rattle.scripts.specs.RequestReading.{request_at}
+use Rattle.kernel_words.specs.ItemReading.{call_at}
+use Rattle.record_lines.specs.LineParts.{is_nil, list_at}
+use Rattle.record_lines.proofs.ListLaws.{nil_is, key_end, list_takes, list_again, list_plain}
+use Rattle.records.proofs.NamedObjects.{name_at_plain, place_takes, place_again, name_at_le}
+use Rattle.record_lines.proofs.Readings.{bind_some, plain_decimal, number_at_takes, number_at_again}
+use Rattle.record_lines.proofs.Sentences.{words_sentence, sentence_words}
+use Rattle.record_lines.proofs.Lengths.{separated_le, number_le, sentence_le}
+use Rattle.kernel_words.proofs.RecordLengths.{each_call}
+use Rattle.kernel_words.proofs.CallLaws.{reads_calls, call_words}
 
 module _ (settings : Settings) (fit : SettingsFit settings) where
   -- what is read of a line is what it asks for
@@ -69,3 +60,12 @@ module _ (settings : Settings) (fit : SettingsFit settings) where
       let cpu = asked.cpu in
       let read : list_at call_at calls ≡ Some (r.todo.calls.items, []) = ap (list_at call_at) (sym (append-nil calls)) ∙ list_again call_words call_fits call_at reads_calls r.todo.calls.items [] asked.todo.some asked.todo.few asked.todo.calls (key_end _) in
       rw (text, number_at_again 255 r.cpu (name_at settings r.todo.object ∷ calls) (omega (arith, cpu, cpus.1)) (omega (arith, cpu, cpus.1)), place_again settings r.todo.object calls fit.names asked.todo.object, read, lt-ltb r.cpu settings.cpus asked.cpu)
+
+-- an entry of scripts has at most 1,024 bytes
+pub long_no_request : (settings : Settings) → SettingsFit settings → (line : List ℕ) (r : Request) → IsRequest settings line r → length line ≤ 1024
+long_no_request settings fit line r asked =
+    let most = fit.cpus.1 in
+    let less = asked.cpu in
+    let name = name_at_le settings fit r.todo.object asked.todo.object in
+    let calls = separated_le call_words r.todo.calls.items (each_call r.todo.calls.items asked.todo.calls) asked.todo.few in
+    omega (arith, ap length asked.text, sentence_le (request_words settings r), number_le r.cpu (omega (arith, less, most)), name, calls)

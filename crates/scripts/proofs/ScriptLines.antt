@@ -7,11 +7,12 @@ use Rattle.std.proofs.lemmas.List.Sums.{fold-append}
 use Rattle.std.specs.List.{AllByRecursion}
 use Rattle.kernel_object.specs.KernelTypes.{KernelTodo}
 use Rattle.scripts.specs.declared.script.request.Request.{Request}
-use Rattle.scripts.specs.declared.script.cpu_scripts.TheConstants.{MOST_ENTRIES}
-use Rattle.scripts.specs.ScriptText.{IsBlank, AskFor, IsRefused, AreScripts, TodoFits, ScriptFits, ScriptsFit, count_of, script_of, dealt}
-use Rattle.scripts.specs.LineMachine.{TakesEach}
+use Rattle.records.specs.declared.record.TheConstants.{MOST_ENTRIES}
+use Rattle.scripts.specs.ScriptText.{IsBlank, AskFor, IsRefused, AreScripts, ScriptFits, ScriptsFit, count_of, script_of, dealt}
+use Rattle.records.specs.RecordRanges.{TodoFits}
+use Rattle.record_lines.specs.LineMachine.{TakesEach}
 use Rattle.scripts.specs.ScriptFaults.{ScriptState, TakesLine, TakesScriptLine, IsNotTaken}
-use Rattle.scripts.specs.Settings.{Settings}
+use Rattle.records.specs.Settings.{Settings}
 use Rattle.scripts.proofs.Dealt.{dealt_push, dealt_get, dealt_all, script_length}
 
 count_by_more : (cpu : ℕ) (requests : List Request) (r : Request) → count_of cpu (requests ++ r ∷ []) ≡ count_of cpu requests + cond (r.cpu == cpu) 1 0

@@ -5,7 +5,8 @@ use Rattle.std.proofs.lemmas.Bool.{and_parts, ltb-true, lt-ltb}
 use Rattle.std.specs.List.{list_all, AllByRecursion}
 use Rattle.event_log.proofs.Each.{all_map}
 use Rattle.kernel_object.specs.KernelTypes.{KernelTodo}
-use Rattle.scripts.specs.ScriptText.{TodoFits, ScriptFits}
+use Rattle.scripts.specs.ScriptText.{ScriptFits}
+use Rattle.records.specs.RecordRanges.{TodoFits}
 
 module _ (n : ℕ) where
   todos_fit : (m : ℕ) (script : List KernelTodo) → AllByRecursion (TodoFits m) script → list_all (λ t. nat_lt t.object n) script ≡ true → AllByRecursion (TodoFits n) script

@@ -3,17 +3,17 @@ use Rattle.std.proofs.Common.{◌≡◌, ◌==◌, ◌↔◌, ℕ, ◌<◌, Bool
 use Rattle.std.proofs.lemmas.Bool.{eqb-true, eqb-false}
 use Rattle.std.proofs.lemmas.List.{append-nil, length-replicate}
 use Rattle.kernel_object.specs.KernelTypes.{KernelTodo}
-use Rattle.scripts.specs.declared.text.fault.LinesFault.{LinesFault}
-use Rattle.scripts.specs.declared.text.fault.LinesFault.TheVariants.{OutOfMemory, Line}
-use Rattle.scripts.specs.LineMachine.{TakesText, RefusesText, RefusesLine, ChangesNothing, HasTaken}
+use Rattle.record_lines.specs.declared.text.fault.LinesFault.{LinesFault}
+use Rattle.record_lines.specs.declared.text.fault.LinesFault.TheVariants.{OutOfMemory, Line}
+use Rattle.record_lines.specs.LineMachine.{TakesText, RefusesText, RefusesLine, ChangesNothing, HasTaken}
 use Rattle.scripts.specs.ScriptFaults.{ScriptState, TakesScriptLine, RefusesScriptLine, FitsScriptLine, IsNotTaken, NamesFirstBad, HasRead, no_entries}
 use Rattle.scripts.specs.ScriptText.{AreRequests, IsFirstBad, AreScripts, ScriptsFit, ScriptsWithin}
-use Rattle.scripts.specs.Settings.{Settings, SettingsFit}
-use Rattle.scripts.specs.Words.{NoEnd, text_of_lines}
-use Rattle.scripts.proofs.FirstLines.{refused_on}
+use Rattle.records.specs.Settings.{Settings, SettingsFit}
+use Rattle.record_lines.specs.Words.{NoEnd, text_of_lines}
+use Rattle.record_lines.proofs.FirstLines.{refused_on}
 use Rattle.scripts.proofs.ScriptLines.{Asked, each_taken, refused, scripts_fit}
 use Rattle.scripts.proofs.ScriptRanges.{scripts_within}
-use Rattle.scripts.proofs.RecordLengths.{long_no_request}
+use Rattle.scripts.proofs.RequestLaws.{long_no_request}
 use Rattle.scripts.proofs.ScriptVerdicts.{bad_is_not_good}
 
 module _ (settings : Settings) where

@@ -5,13 +5,13 @@ use Rattle.std.proofs.lemmas.Bool.{eq-eqb}
 use Rattle.std.proofs.lemmas.List.Sums.{sum_by-append, sum_by-cons}
 use Rattle.kernel_object.specs.KernelTypes.{KernelTodo}
 use Rattle.scripts.specs.declared.script.request.Request.{Request}
-use Rattle.scripts.specs.declared.script.cpu_scripts.TheConstants.{MOST_ENTRIES}
-use Rattle.scripts.specs.Reading.{AreDigits}
+use Rattle.records.specs.declared.record.TheConstants.{MOST_ENTRIES}
+use Rattle.record_lines.specs.Reading.{AreDigits}
 use Rattle.scripts.specs.ScriptText.{IsBlank, IsRequest, AskFor, AreRequests, AreScripts, IsRefused, IsFirstBad, count_of}
-use Rattle.scripts.specs.Settings.{Settings, SettingsFit}
-use Rattle.scripts.specs.Words.{text_of_lines, NoEnd}
-use Rattle.scripts.proofs.Digits.{decimal_digits, decimal_some}
-use Rattle.scripts.proofs.FirstLines.{line_first, same_line, no_such_end, lines_front}
+use Rattle.records.specs.Settings.{Settings, SettingsFit}
+use Rattle.record_lines.specs.Words.{text_of_lines, NoEnd}
+use Rattle.record_lines.proofs.Digits.{decimal_digits, decimal_some}
+use Rattle.record_lines.proofs.FirstLines.{line_first, same_line, no_such_end, lines_front}
 use Rattle.scripts.proofs.RequestLaws.{request_again}
 
 -- a request after others is counted too

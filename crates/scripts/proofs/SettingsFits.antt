@@ -1,10 +1,7 @@
 -- What settings of a TOML table are: within all limits.
-use Rattle.std.proofs.Common.{◌≡◌, ℕ, zero, suc, ◌+◌, ◌<◌, ◌≤◌, true, false, ◌&&◌, nat_le, List, [], ◌∷◌, ◌++◌, length, length-append, Ok, Err, refl, ap, sym, ◌∙◌, subst, arith, inl, inr, if◌then◌else◌, ◌||◌, bytes_eq}
-use Rattle.std.specs.List.{list_any, slice_get, AllByRecursion}
-use Rattle.std.specs.Option.{option_map_or}
-use Rattle.std.proofs.Math.Nat.{eq-or-lt_of_le}
-use Rattle.std.proofs.lemmas.Bool.{and_parts, leb-true, false≢true, or_right}
-use Rattle.std.proofs.lemmas.Slice.Eq.{bytes_eq-Decides}
+use Rattle.std.proofs.Common.{◌≡◌, ℕ, ◌+◌, ◌≤◌, true, false, ◌&&◌, nat_le, List, [], ◌∷◌, ◌++◌, length, length-append, Ok, Err, refl, sym, ◌∙◌, subst, arith, if◌then◌else◌, bytes_eq}
+use Rattle.std.specs.List.{list_any}
+use Rattle.std.proofs.lemmas.Bool.{and_parts, leb-true}
 use Rattle.event_log.proofs.Each.{all_push}
 use Rattle.toml.specs.Data.{Data, Items, no_items, item, Members, as_str, as_array, as_table}
 use Rattle.sound_run.specs.declared.limits.TheConstants.{MOST_CPUS}
@@ -15,18 +12,19 @@ use Rattle.kernel_object.specs.declared.kind.Kind.{Kind}
 use Rattle.kernel_object.specs.Kernel.{kernel_in_range}
 use Rattle.kernel_object.specs.Kinds.All.{params_of}
 use Rattle.kernel_object.proofs.KindLaws.{by_kind_is}
-use Rattle.scripts.specs.declared.record.form.Form.{Form}
-use Rattle.scripts.specs.declared.record.form.TheConstants.{WRITTEN}
+use Rattle.kernel_words.specs.declared.form.TheConstants.{WRITTEN}
 use Rattle.scripts.specs.declared.settings.fault.Place.{Place}
 use Rattle.scripts.specs.declared.settings.fault.Place.TheVariants.{Top, Object}
 use Rattle.scripts.specs.declared.settings.fault.SettingsKey.TheVariants as Key
-use Rattle.scripts.specs.Kinds.All.{text_of}
-use Rattle.scripts.specs.Settings.{Settings, ObjectSettings, ObjectFits, SettingsFit, is_name}
+use Rattle.scripts.specs.KindKeys.All.{keys_by}
+use Rattle.records.specs.Settings.{Settings, ObjectSettings, ObjectFits, SettingsFit}
+use Rattle.record_lines.specs.Names.{is_name}
 use Rattle.scripts.specs.SettingsKeys.{number_from, count_items, key_in, has_only}
 use Rattle.scripts.specs.SettingsText.{name_from, items_from, kind_from, lock_from, keys_of, params_by, params_in, object_in, object_from, objects_from, settings_in}
-use Rattle.scripts.proofs.KindLaws.All.{laws_of}
-use Rattle.scripts.proofs.ParameterLaws.{range_of}
+use Rattle.scripts.proofs.KindKeyLaws.{sets_in_range}
+use Rattle.kernel_words.proofs.ParameterLaws.{range_of}
 use Rattle.scripts.proofs.SettingsKeys.{bind_ok, key_ok, map_or_ok, if_ok, if_not, number_in}
+use Rattle.records.proofs.JoinedObjects.{AreObjects, Joins, differ_more}
 
 -- ---- values
 
@@ -53,15 +51,11 @@ items_ok d ds e =
 params_ok : (place : Place) (kind : Kind) (ms : Members) (p : KParams) → params_in place kind ms ≡ Ok p → kernel_in_range p ≡ true
 unfolding params_in
 params_ok place kind ms p e =
-    let there = bind_ok ((text_of kind).params_in place ms) _ p (sym (by_kind_is (params_by place ms) kind) ∙ e) in
+    let there = bind_ok ((keys_by kind).params_in place ms) _ p (sym (by_kind_is (params_by place ms) kind) ∙ e) in
     let same : params_of kind there.0 ≡ p = cc in
-    subst (λ q. kernel_in_range q ≡ true) same (range_of kind there.0 ((laws_of kind).set place ms there.0 there.1))
+    subst (λ q. kernel_in_range q ≡ true) same (range_of kind there.0 (sets_in_range kind place ms there.0 there.1))
 
 -- ---- objects
-
--- an object within the limits of the form, and of a new name
-abbrev pub Joins : Form → List ObjectSettings → ObjectSettings → Type 0
-Joins form earlier o = ObjectFits form o × (list_any (λ x. bytes_eq x.name o.name) earlier ≡ false)
 
 object_in_ok : (place : Place) (earlier : List ObjectSettings) (ms : Members) (o : ObjectSettings) → object_in place earlier ms ≡ Ok o → Joins WRITTEN earlier o
 unfolding object_in
@@ -82,50 +76,6 @@ unfolding object_from
 object_ok earlier d o e = let there = map_or_ok (as_table d) _ _ o e in object_in_ok (Object (length earlier + 1)) earlier there.0 o there.2
 
 -- ---- names
-
-abbrev pub name_in : List ObjectSettings → ℕ → List ℕ
-name_in os i = option_map_or (λ o. o.name) (slice_get os i) []
-
-abbrev pub Differ : List ObjectSettings → Type 0
-Differ os = (i j : ℕ) → i < length os → j < length os → name_in os i ≡ name_in os j → i ≡ j
-
-pub name_before : (front os : List ObjectSettings) (i : ℕ) → i < length front → name_in (front ++ os) i ≡ name_in front i
-name_before [] os i less = absurd (omega (arith, less))
-name_before (x ∷ front) os zero less = refl
-name_before (x ∷ front) os (suc i) less = name_before front os i (omega (arith, less))
-
-pub name_here : (front os : List ObjectSettings) (o : ObjectSettings) → name_in (front ++ o ∷ os) (length front) ≡ o.name
-name_here [] os o = refl
-name_here (x ∷ front) os o = name_here front os o
-
-pub taken : (os : List ObjectSettings) (i : ℕ) (s : List ℕ) → i < length os → name_in os i ≡ s → list_any (λ o. bytes_eq o.name s) os ≡ true
-taken [] i s less e = absurd (omega (arith, less))
-taken (x ∷ os) zero s less e = ap (λ b. b || list_any (λ o. bytes_eq o.name s) os) ((bytes_eq-Decides x.name s).1 e)
-taken (x ∷ os) (suc i) s less e = or_right (bytes_eq x.name s) (list_any (λ o. bytes_eq o.name s) os) (taken os i s (omega (arith, less)) e)
-
--- an object of a new name is found by it, and the others are still found
-pub differ_more : (os : List ObjectSettings) (o : ObjectSettings) → Differ os → list_any (λ x. bytes_eq x.name o.name) os ≡ false → Differ (os ++ o ∷ [])
-differ_more os o differ fresh i j li lj same =
-    let count = length-append os (o ∷ []) in
-    let apart : (k : ℕ) → k < length os → name_in os k ≡ o.name → ⊥ = λ k less e. false≢true (sym fresh ∙ taken os k o.name less e) in
-    let i_end : i ≤ length os = omega (arith, li, count) in
-    let j_end : j ≤ length os = omega (arith, lj, count) in
-    elim (eq-or-lt_of_le i_end) [
-      | inl a ↦ elim (eq-or-lt_of_le j_end) [
-        | inl b ↦ a ∙ sym b
-        | inr b ↦ absurd (apart j b (sym (name_before os (o ∷ []) j b) ∙ (sym same ∙ (ap (name_in (os ++ o ∷ [])) a ∙ name_here os [] o))))
-      ]
-      | inr a ↦ elim (eq-or-lt_of_le j_end) [
-        | inl b ↦ absurd (apart i a (sym (name_before os (o ∷ []) i a) ∙ (same ∙ (ap (name_in (os ++ o ∷ [])) b ∙ name_here os [] o))))
-        | inr b ↦ differ i j a b (sym (name_before os (o ∷ []) i a) ∙ (same ∙ name_before os (o ∷ []) j b))
-      ]
-    ]
-
--- the objects, as many as items
-pub record AreObjects (count : ℕ) (os : List ObjectSettings) : Type 0 where
-  pub count_is : length os ≡ count
-  pub each : AllByRecursion (ObjectFits WRITTEN) os
-  pub names : Differ os
 
 objects_ok : (ds : Items) (earlier os : List ObjectSettings) (n : ℕ) → AreObjects n earlier → objects_from earlier ds ≡ Ok os → AreObjects (n + count_items ds) os
 unfolding objects_from

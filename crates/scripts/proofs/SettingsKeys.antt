@@ -7,7 +7,7 @@ use Rattle.scripts.specs.declared.settings.fault.Cause.{Cause}
 use Rattle.scripts.specs.declared.settings.fault.Place.{Place}
 use Rattle.scripts.specs.declared.settings.fault.SettingsKey.{SettingsKey}
 use Rattle.scripts.specs.SettingsKeys.{number_from, key_word, at_key, find_key, key_in, key_or}
-use Rattle.scripts.specs.Then.{◌>>=◌}
+use Rattle.record_lines.specs.Then.{◌>>=◌}
 
 -- ---- answers in parts
 

@@ -1,31 +1,16 @@
 -- Settings from a source.
-use Rattle.std.proofs.Common.{◌≡◌, ℕ, ◌+◌, ◌<◌, ◌≤◌, inl, inr, List, ◌++◌, take, length, length-append, Option, Some, None, Result, Ok, Err, refl, sym, subst, arith}
-use Rattle.std.proofs.lemmas.List.{length-take-le}
-use Rattle.std.specs.Io.KnownBytes.{Consumes, Keeps}
+use Rattle.std.proofs.Common.{ℕ, ◌<◌, ◌≤◌, inl, inr, List, length, length-append, Option, refl, arith}
+use Rattle.std.specs.Io.KnownBytes.{Consumes}
 use Rattle.scripts.specs.declared.settings.fault.SettingsFault.{SettingsFault}
 use Rattle.scripts.specs.declared.settings.fault.SettingsFault.TheVariants as fault
-use Rattle.scripts.specs.declared.settings.source.TheConstants.{MOST_SETTINGS_BYTES}
-use Rattle.scripts.specs.declared.streams.feeding.SourceFault.TheVariants.{Told}
-use Rattle.scripts.specs.ScriptFaults.{IsRest}
-use Rattle.scripts.specs.SettingsSources.{ReadsAtMost, IsFaultOfSettings, NamesFirstFaultOfRest}
+use Rattle.scripts.specs.declared.settings.reading.TheConstants.{MOST_SETTINGS_BYTES}
+use Rattle.record_lines.specs.declared.streams.feeding.SourceFault.TheVariants.{Told}
+use Rattle.record_lines.specs.Sources.{IsRest}
+use Rattle.scripts.specs.SettingsSources.{IsFaultOfSettings, NamesFirstFaultOfRest}
 use Rattle.scripts.specs.SettingsText.{NamesFirstFault, not_toml}
-use Rattle.scripts.proofs.ScriptSources.{consumes_then, of_rest}
+use Rattle.record_lines.proofs.Consuming.{of_rest}
 
 -- ---- bytes
-
--- a read that failed consumed nothing
-kept_after : (a b c : Option (List ℕ)) (bytes : List ℕ) → Consumes a b bytes → Keeps b c → Consumes a c bytes
-kept_after None b c bytes p q = tt
-kept_after (Some xs) None c bytes p q = absurd p
-kept_after (Some xs) (Some ys) None bytes p q = absurd q
-kept_after (Some xs) (Some ys) (Some zs) bytes p q = subst (λ (l : List ℕ). xs ≡ bytes ++ l) (sym q) p
-
-pub failed_after : (most : ℕ) (a b c : Option (List ℕ)) (bytes : List ℕ) → Consumes a b bytes → length bytes ≤ most → Keeps b c → ReadsAtMost most a c
-failed_after most a b c bytes p few q = (bytes, kept_after a b c bytes p q, few)
-
--- a read more
-pub read_after : (most count : ℕ) (a b c : Option (List ℕ)) (bytes front : List ℕ) → Consumes a b bytes → Consumes b c (take count front) → count ≤ length front → length bytes + count ≤ most → ReadsAtMost most a c
-read_after most count a b c bytes front p q within few = (bytes ++ take count front, consumes_then a b c bytes (take count front) p q, omega (arith, few, within, length-append bytes (take count front), length-take-le count front within))
 
 -- ---- settings
 

@@ -8,15 +8,15 @@ use Rattle.toml.specs.Data.{Data, Items, no_items, item, as_integer}
 use Rattle.toml.specs.Parse.{parse_document}
 use Rattle.toml.specs.View.{view, items_view, members_view}
 use Rattle.toml.specs.declared.value.Value.{Value}
-use Rattle.scripts.specs.Settings.{ObjectSettings, Settings}
+use Rattle.records.specs.Settings.{ObjectSettings, Settings}
 use Rattle.scripts.specs.declared.settings.fault.BadSettings.{BadSettings}
 use Rattle.scripts.specs.declared.settings.fault.Cause.{Cause}
 use Rattle.scripts.specs.declared.settings.fault.Place.{Place}
 use Rattle.scripts.specs.declared.settings.fault.SettingsFault.{SettingsFault}
 use Rattle.scripts.specs.declared.settings.fault.SettingsFault.TheVariants.{OutOfMemory, Refused}
 use Rattle.scripts.specs.declared.settings.fault.SettingsKey.{SettingsKey}
-use Rattle.scripts.specs.Then.{◌>>=◌, ok_map}
-use Rattle.scripts.specs.Kinds.Pool.{are_integers, quota_from, each_quota}
+use Rattle.record_lines.specs.Then.{◌>>=◌, ok_map}
+use Rattle.scripts.specs.KindKeys.Pool.{are_integers, quota_from, each_quota}
 use Rattle.scripts.specs.SettingsKeys.{count_items, at_key, key_word, has_only}
 use Rattle.scripts.specs.SettingsText.{object_from, objects_from, settings_of, Settles, NamesFirstFault}
 

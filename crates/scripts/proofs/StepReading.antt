@@ -4,32 +4,23 @@ use Rattle.std.proofs.lemmas.Bool.{cases_lt}
 use Rattle.std.proofs.lemmas.Fmt.{length-decimal-le}
 use Rattle.std.proofs.lemmas.List.{append-nil, map-append, take_more}
 use Rattle.std.specs.List.{AllByRecursion}
-use Rattle.std.specs.Result.{IfErr, OnOk}
+use Rattle.std.specs.Result.{IfErr}
 use Rattle.event_log.proofs.Each.{all_push}
 use Rattle.sound_run.specs.declared.limits.TheConstants.{MOST_CPUS}
 use Rattle.scripts.specs.declared.schedule.ScheduleFault.{ScheduleFault}
 use Rattle.scripts.specs.declared.schedule.ScheduleFault.TheVariants.{OutOfMemory, Word}
 use Rattle.scripts.specs.declared.schedule.TheConstants.{MOST_STEPS}
 use Rattle.scripts.specs.declared.schedule.step_reader.StepReader.{StepReader}
-use Rattle.scripts.specs.declared.streams.feeding.SourceFault.{SourceFault}
-use Rattle.scripts.specs.declared.streams.feeding.SourceFault.TheVariants.{ReadFailed, Told}
-use Rattle.scripts.specs.Feeding.{HasRefused}
+use Rattle.record_lines.specs.declared.streams.feeding.SourceFault.{SourceFault}
+use Rattle.record_lines.specs.declared.streams.feeding.SourceFault.TheVariants.{ReadFailed, Told}
+use Rattle.record_lines.specs.Feeding.{HasRefused}
 use Rattle.scripts.specs.ScheduleReading.{HasReadSteps, EndsWord, NamesFirstBadWordOfRest, RefusesSteps}
 use Rattle.scripts.specs.ScheduleText.{is_gap, schedule_words, IsSchedule, NamesNoCpu, IsFirstBadWord}
-use Rattle.scripts.specs.ScriptFaults.{IsRest}
+use Rattle.record_lines.specs.Sources.{IsRest}
 use Rattle.scripts.proofs.Schedules.{gap_first, no_words, word_alone, word_first}
-use Rattle.scripts.proofs.ScriptSources.{of_rest}
+use Rattle.record_lines.proofs.Consuming.{of_rest}
 
 -- ---- answers
-
--- what follows from one fact of a result, or from two
-pub on_ok : {A E P Q : Type 0} (r : Result A E) → OnOk r P → (P → Q) → OnOk r Q
-on_ok (Ok x) p f = f p
-on_ok (Err e) p f = tt
-
-pub on_both : {A E P Q R : Type 0} (r : Result A E) → OnOk r P → OnOk r Q → (P → Q → R) → OnOk r R
-on_both (Ok x) p q f = f p q
-on_both (Err e) p q f = tt
 
 -- ---- words
 

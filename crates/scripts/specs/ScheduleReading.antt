@@ -6,10 +6,10 @@ use Rattle.scripts.specs.declared.schedule.ScheduleFault.TheVariants.{OutOfMemor
 use Rattle.sound_run.specs.declared.limits.TheConstants.{MOST_CPUS}
 use Rattle.scripts.specs.declared.schedule.TheConstants.{MOST_STEPS}
 use Rattle.scripts.specs.declared.schedule.step_reader.StepReader.{StepReader}
-use Rattle.scripts.specs.declared.streams.feeding.SourceFault.{SourceFault}
-use Rattle.scripts.specs.declared.streams.feeding.SourceFault.TheVariants.{ReadFailed, Told}
+use Rattle.record_lines.specs.declared.streams.feeding.SourceFault.{SourceFault}
+use Rattle.record_lines.specs.declared.streams.feeding.SourceFault.TheVariants.{ReadFailed, Told}
 use Rattle.scripts.specs.ScheduleText.{is_gap, schedule_words, IsSchedule, IsFirstBadWord}
-use Rattle.scripts.specs.ScriptFaults.{IsRest}
+use Rattle.record_lines.specs.Sources.{IsRest}
 
 -- the text's words are those of the steps, and then come the bytes of a word that may go on, if there are any
 pub record HasReadSteps (cpus : ℕ) (text steps word : List ℕ) : Type 0 where

@@ -1,16 +1,18 @@
 -- What a line of the scripts does, and what reading them answers.
 use Rattle.std.specs.Prelude.{ℕ, ◌≡◌, ◌<◌, ◌≤◌, ◌⊎◌, Bool, List, [], ◌∷◌, ◌++◌, length, Option, Some, slice_get, slice_set}
 use Rattle.kernel_object.specs.KernelTypes.{KernelTodo}
-use Rattle.scripts.specs.declared.text.line_machine.TheConstants.{MOST_BYTES}
+use Rattle.record_lines.specs.declared.text.line_machine.TheConstants.{MOST_BYTES}
 use Rattle.scripts.specs.declared.script.request.Request.{Request}
-use Rattle.scripts.specs.declared.script.cpu_scripts.TheConstants.{MOST_ENTRIES}
-use Rattle.scripts.specs.declared.text.fault.LinesFault.{LinesFault}
-use Rattle.scripts.specs.declared.text.fault.LinesFault.TheVariants.{OutOfMemory, Line}
-use Rattle.scripts.specs.declared.text.fault.TextFault.{TextFault}
-use Rattle.scripts.specs.declared.text.fault.TextFault.TheVariants as stream
-use Rattle.scripts.specs.LineMachine.{HasTaken}
+use Rattle.records.specs.declared.record.TheConstants.{MOST_ENTRIES}
+use Rattle.record_lines.specs.declared.text.fault.LinesFault.{LinesFault}
+use Rattle.record_lines.specs.declared.text.fault.LinesFault.TheVariants.{OutOfMemory, Line}
+use Rattle.record_lines.specs.declared.text.fault.TextFault.{TextFault}
+use Rattle.record_lines.specs.declared.text.fault.TextFault.TheVariants as stream
+use Rattle.record_lines.specs.LineMachine.{HasTaken}
 use Rattle.scripts.specs.ScriptText.{IsBlank, IsRequest, IsFirstBad, AreScripts, dealt}
-use Rattle.scripts.specs.Settings.{Settings}
+use Rattle.records.specs.Settings.{Settings}
+use Rattle.record_lines.specs.declared.text.line_machine.Pieces.{Pieces}
+use Rattle.record_lines.specs.Sources.{IsRest}
 
 -- an entry is added to its CPU's script, which has room for it
 pub record Adds (old new : List (List KernelTodo)) (r : Request) : Type 0 where
@@ -64,10 +66,6 @@ no_entries settings = record { settings = settings; lists = dealt settings.cpus 
 abbrev pub HasRead : Settings → List ℕ → ScriptState → ℕ → Bool → List ℕ → Type 0
 HasRead settings text state number passing pending = HasTaken TakesScriptLine (no_entries settings) text state number passing pending
 
--- what is read is a source's rest, where it tells it
-abbrev pub IsRest : Option (List ℕ) → List ℕ → Type 0
-IsRest remaining text = (all : List ℕ) → remaining ≡ Some all → text ≡ all
-
 -- the scripts that the rest of a source spells
 abbrev pub SpellsRest : Settings → Option (List ℕ) → List (List KernelTodo) → Type 0
 SpellsRest settings remaining scripts = (text : List ℕ) × IsRest remaining text × AreScripts settings text scripts
@@ -81,3 +79,7 @@ abbrev pub NamesFirstBadOfRest : Settings → Option (List ℕ) → TextFault �
 NamesFirstBadOfRest settings remaining stream.OutOfMemory = Unit {0}
 NamesFirstBadOfRest settings remaining stream.ReadFailed = Unit {0}
 NamesFirstBadOfRest settings remaining (stream.BadLine n) = IsFirstBadOfRest settings remaining n
+
+-- the whole lines of the text were read as scripts, and what follows them is kept
+abbrev pub HasReadScripts : Settings → List ℕ → Pieces ScriptState → Type 0
+HasReadScripts settings text p = HasRead settings text p.lines p.number p.passing p.pending.items

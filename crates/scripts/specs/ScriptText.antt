@@ -1,24 +1,16 @@
 -- The text of scripts: what each CPU does, one entry a line.
-use Rattle.std.specs.Prelude.{ℕ, ◌+◌, ◌≡◌, ◌<◌, ◌≤◌, ◌==◌, ◌⊎◌, true, List, [], ◌∷◌, ◌++◌, map, length, decimal, count_by}
-use Rattle.std.specs.List.{list_all, AllByRecursion, filter, range_with_len}
-use Rattle.event_log.specs.declared.event.TheConstants.{MOST_CALLS}
+use Rattle.std.specs.Prelude.{ℕ, ◌+◌, ◌≡◌, ◌<◌, ◌≤◌, ◌==◌, ◌⊎◌, List, [], ◌∷◌, ◌++◌, map, length, decimal, count_by}
+use Rattle.std.specs.List.{AllByRecursion, filter, range_with_len}
 use Rattle.sound_run.specs.declared.limits.TheConstants.{MOST_CPUS}
 use Rattle.sound_run.specs.declared.limits.TheConstants.{MOST_CELLS}
 use Rattle.kernel_object.specs.KernelTypes.{KernelTodo}
 use Rattle.scripts.specs.declared.script.request.Request.{Request}
-use Rattle.scripts.specs.declared.script.cpu_scripts.TheConstants.{MOST_ENTRIES}
-use Rattle.scripts.specs.Ranges.{call_fits}
-use Rattle.scripts.specs.Row.{spelled}
-use Rattle.scripts.specs.Rows.{call_row}
-use Rattle.scripts.specs.Settings.{Settings, name_at}
-use Rattle.scripts.specs.Words.{sentence, separated, text_of_lines, NoEnd}
-
--- 1 to 8 calls, in their ranges, on one of so many objects
-pub record TodoFits (objects : ℕ) (todo : KernelTodo) : Type 0 where
-  pub object : todo.object < objects
-  pub some : 0 < length todo.calls.items
-  pub few : length todo.calls.items ≤ MOST_CALLS
-  pub calls : list_all call_fits todo.calls.items ≡ true
+use Rattle.records.specs.declared.record.TheConstants.{MOST_ENTRIES}
+use Rattle.kernel_words.specs.Row.{spelled}
+use Rattle.kernel_words.specs.Rows.{call_row}
+use Rattle.records.specs.Settings.{Settings, name_at}
+use Rattle.record_lines.specs.Words.{sentence, separated, text_of_lines, NoEnd}
+use Rattle.records.specs.RecordRanges.{TodoFits}
 
 -- at most 10,000 entries on so many objects
 abbrev pub ScriptFits : ℕ → List KernelTodo → Type 0

@@ -10,7 +10,7 @@ use Rattle.scripts.specs.declared.settings.fault.Cause.TheVariants.{Missing, Wro
 use Rattle.scripts.specs.declared.settings.fault.Place.{Place}
 use Rattle.scripts.specs.declared.settings.fault.SettingsKey.{SettingsKey}
 use Rattle.scripts.specs.declared.settings.fault.SettingsKey.TheVariants as Key
-use Rattle.scripts.specs.Then.{◌>>=◌}
+use Rattle.record_lines.specs.Then.{◌>>=◌}
 
 -- a whole number from 1 to high
 unfoldable pub number_from : ℕ → Data → Result ℕ Cause

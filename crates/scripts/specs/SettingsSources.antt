@@ -1,19 +1,14 @@
 -- The settings that the rest of a source spells, of which so many bytes are read at the most.
 use Rattle.std.specs.Prelude.{ℕ, ◌≡◌, ◌<◌, ◌≤◌, ◌⊎◌, List, length, Option}
-use Rattle.std.specs.Io.KnownBytes.{Consumes}
 use Rattle.scripts.specs.declared.settings.fault.BadSettings.{BadSettings}
 use Rattle.scripts.specs.declared.settings.fault.SettingsFault.{SettingsFault}
 use Rattle.scripts.specs.declared.settings.fault.SettingsFault.TheVariants.{OutOfMemory, Refused}
-use Rattle.scripts.specs.declared.settings.source.TheConstants.{MOST_SETTINGS_BYTES}
-use Rattle.scripts.specs.declared.streams.feeding.SourceFault.{SourceFault}
-use Rattle.scripts.specs.declared.streams.feeding.SourceFault.TheVariants.{ReadFailed, Told}
-use Rattle.scripts.specs.ScriptFaults.{IsRest}
-use Rattle.scripts.specs.Settings.{Settings}
+use Rattle.scripts.specs.declared.settings.reading.TheConstants.{MOST_SETTINGS_BYTES}
+use Rattle.record_lines.specs.declared.streams.feeding.SourceFault.{SourceFault}
+use Rattle.record_lines.specs.declared.streams.feeding.SourceFault.TheVariants.{ReadFailed, Told}
+use Rattle.record_lines.specs.Sources.{IsRest}
+use Rattle.records.specs.Settings.{Settings}
 use Rattle.scripts.specs.SettingsText.{SpellsSettings, IsSettingsFault, not_toml}
-
--- at most so many bytes of a source were read, where it tells its bytes
-abbrev pub ReadsAtMost : ℕ → Option (List ℕ) → Option (List ℕ) → Type 0
-ReadsAtMost most old new = (seen : List ℕ) × Consumes old new seen × (length seen ≤ most)
 
 -- a text that isn't too long spells the settings
 abbrev pub SpellsShortSettings : List ℕ → Settings → Type 0

@@ -21,11 +21,12 @@ use Rattle.scripts.specs.declared.settings.fault.Place.{Place}
 use Rattle.scripts.specs.declared.settings.fault.Place.TheVariants.{Top, Object}
 use Rattle.scripts.specs.declared.settings.fault.SettingsKey.{SettingsKey}
 use Rattle.scripts.specs.declared.settings.fault.SettingsKey.TheVariants as Key
-use Rattle.scripts.specs.Kinds.All.{text_of}
-use Rattle.scripts.specs.Parameters.{lock_of}
-use Rattle.scripts.specs.Settings.{Settings, ObjectSettings, is_name}
+use Rattle.scripts.specs.KindKeys.All.{keys_by}
+use Rattle.kernel_words.specs.Parameters.{lock_of}
+use Rattle.records.specs.Settings.{Settings, ObjectSettings}
+use Rattle.record_lines.specs.Names.{is_name}
 use Rattle.scripts.specs.SettingsKeys.{number_from, count_items, key_in, has_only, unknown_key}
-use Rattle.scripts.specs.Then.{◌>>=◌}
+use Rattle.record_lines.specs.Then.{◌>>=◌}
 
 -- ---- values
 
@@ -49,7 +50,7 @@ items_from d = option_map_or (λ ds. if nat_le 1 (count_items ds) && nat_le (cou
 
 -- the parameters of the kind
 abbrev pub params_by : Place → Members → Kind → Result KParams BadSettings
-params_by place ms kind = (text_of kind).params_in place ms >>= λ p. Ok (params_of kind p)
+params_by place ms kind = (keys_by kind).params_in place ms >>= λ p. Ok (params_of kind p)
 
 -- the parameters of that kind
 unfoldable pub params_in : Place → Kind → Members → Result KParams BadSettings
@@ -57,7 +58,7 @@ params_in place kind ms = by_kind (params_by place ms) kind
 
 -- the keys of every object, and those of its kind
 abbrev pub keys_of : Kind → List SettingsKey
-keys_of kind = Key.Name ∷ Key.Kind ∷ Key.Lock ∷ Key.Events ∷ (text_of kind).keys
+keys_of kind = Key.Name ∷ Key.Kind ∷ Key.Lock ∷ Key.Events ∷ (keys_by kind).keys
 
 -- an object's table, behind earlier objects
 unfoldable pub object_in : Place → List ObjectSettings → Members → Result ObjectSettings BadSettings

@@ -3,7 +3,10 @@
 ghost use Rattle.std.specs.Prelude.{◌≡◌};
 ghost use Rattle.scripts.specs.Limits.{most_settings_bytes, most_entries, most_steps, most_line_bytes, most_cpus_of_record_1};
 
-use crate::{FIRST_MOST_CPUS, MOST_BYTES, MOST_ENTRIES, MOST_SETTINGS_BYTES, MOST_STEPS};
+use crate::{MOST_SETTINGS_BYTES, MOST_STEPS};
+use kernel_words::FIRST_MOST_CPUS;
+use record_lines::MOST_BYTES;
+use records::MOST_ENTRIES;
 
 /// The constants are these numbers. It does nothing.
 pub fn shows_limits()

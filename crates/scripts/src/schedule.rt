@@ -8,8 +8,8 @@ ghost use Rattle.scripts.specs.ScheduleText.{IsSchedule, ScheduleWithin, IsFirst
 pub mod source;
 mod step_reader;
 
-use crate::Settings;
 use crate::schedule::step_reader::StepReader;
+use records::Settings;
 use std::alloc::Global;
 use std::marker::Model;
 

@@ -9,7 +9,7 @@ use Rattle.std.specs.List.{AllByRecursion}
 use Rattle.std.specs.Option.{option_map_or}
 use Rattle.kernel_object.specs.contracts.object.KernelObjectSeqObject.TheImpl.{ghosts as kernel}
 use Rattle.kernel_object.specs.KernelTypes.{KernelTodo}
-use Rattle.scripts.specs.Settings.{Settings}
+use Rattle.records.specs.Settings.{Settings}
 use Rattle.sound_run.proofs.Slices.{get_set_same, get_set_other}
 use Rattle.word_rule.specs.Machine.Opening.{opening_cpu}
 use Rattle.word_rule.specs.Machine.Orders.{first_cell, works_on}

@@ -6,7 +6,7 @@ use Rattle.program.specs.Refusals.{status_of}
 use Rattle.program.specs.Texts.{RefusesSchedule, RefusesScripts, RefusesSettings, SpellsScheduleOf, SpellsScriptsOf, SpellsSettingsOf}
 use Rattle.program.specs.declared.refusal.Refusal.{Refusal}
 use Rattle.program.specs.declared.refusal.Refusal.TheVariants as refusal
-use Rattle.scripts.specs.Settings.{Settings}
+use Rattle.records.specs.Settings.{Settings}
 use Rattle.steps.specs.Asked.{AskNothing, AskedBy, MayHelp}
 use Rattle.steps.specs.Lines.{steps_text}
 use Rattle.steps.specs.declared.arguments.Arguments.{Arguments}

@@ -10,7 +10,7 @@ use Rattle.word_rule.specs.Machine.World.{step}
 use Rattle.word_rule.specs.StepNames.{name_of, outcome_of}
 use Rattle.word_rule.specs.Ticket.State.{tickets}
 use Rattle.word_rule.specs.declared.machine.step_done.StepDone.{StepDone}
-use Rattle.scripts.specs.Settings.{Settings, ObjectSettings}
+use Rattle.records.specs.Settings.{Settings, ObjectSettings}
 use Rattle.cpu_worker.specs.Simulation.{KernelWorld, MachineCell, new_world}
 
 -- the numbers, each behind a space

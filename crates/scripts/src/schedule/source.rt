@@ -6,9 +6,10 @@ ghost use Rattle.sound_run.specs.declared.limits.TheConstants.{MOST_CPUS};
 ghost use Rattle.scripts.specs.ScheduleReading.{SpellsScheduleRest, NamesFirstBadWordOfRest};
 
 use crate::schedule::step_reader::StepReader;
-use crate::streams::feeding::{SourceFault, feed_all};
-use crate::{Schedule, ScheduleFault, Settings};
+use crate::{Schedule, ScheduleFault};
 use event_log::Source;
+use record_lines::{SourceFault, feed_all};
+use records::Settings;
 use std::alloc::Global;
 
 impl Schedule {

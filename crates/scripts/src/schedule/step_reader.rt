@@ -6,9 +6,8 @@ ghost use Rattle.scripts.specs.ScheduleText.{is_gap, IsSchedule, NamesNoCpu, IsF
 ghost use Rattle.scripts.specs.ScheduleReading.{HasReadSteps, EndsWord};
 
 use crate::schedule::{MOST_STEPS, ScheduleFault};
-use crate::streams::feeding::TakesPieces;
-use crate::text::words::number_of;
 use arrayvec::ArrayVec;
+use record_lines::{TakesPieces, number_of};
 use std::alloc::Global;
 
 /// The most digits of a CPU's number.

@@ -4,15 +4,11 @@ ghost use Rattle.std.specs.Prelude.{◌≡◌, ◌↔◌, IsTrue, length, map, n
 ghost use Rattle.std.specs.List.{list_all};
 ghost use Rattle.scripts.specs.ScriptText.{ScriptsFit, ScriptsWithin};
 
-use crate::Settings;
-use crate::clones::copy_all;
 use event_log::{OutOfMemory, Todo};
 use kernel_object::KernelObject;
+use records::{Settings, copy_all};
 use std::alloc::Global;
 use std::marker::Model;
-
-/// The most entries of one CPU.
-pub const MOST_ENTRIES: usize = 10_000;
 
 /// For each CPU its entries in order: at most 64 CPUs and 10,000 entries of each, every entry with 1 to 8 calls on one
 /// of at most 16 objects.

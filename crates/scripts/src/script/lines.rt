@@ -1,18 +1,17 @@
 //! The lines of scripts: one entry each.
 
 ghost use Rattle.std.specs.Prelude.{◌≡◌, ◌<◌, ◌↔◌, ℕ, List, [], map, length, Err, IsTrue, IfOk, IfErr, OnOk};
-ghost use Rattle.scripts.specs.Pieces.{HasReadScripts};
+ghost use Rattle.scripts.specs.ScriptFaults.{HasReadScripts};
 ghost use Rattle.scripts.specs.ScriptFaults.{Adds, IsFull, NamesFirstBad};
 ghost use Rattle.scripts.specs.ScriptText.{IsBlank, AreScripts, dealt};
-ghost use Rattle.scripts.specs.Settings.{Settings as Shown, SettingsFit};
+ghost use Rattle.records.specs.Settings.{Settings as Shown, SettingsFit};
 
-use crate::script::cpu_scripts::MOST_ENTRIES;
 use crate::script::request_line::request;
-use crate::text::fault::LineFault;
-use crate::text::line_machine::{MOST_BYTES, Pieces, TakesLines};
-use crate::{LinesFault, Request, Scripts, Settings};
+use crate::{Request, Scripts};
 use event_log::Todo;
 use kernel_object::KernelObject;
+use record_lines::{LineFault, LinesFault, MOST_BYTES, Pieces, TakesLines};
+use records::{MOST_ENTRIES, Settings};
 use std::alloc::Global;
 use std::marker::Model;
 
@@ -26,7 +25,7 @@ pub(crate) struct ScriptLists<'s> {
 impl<'s> Model for ScriptLists<'s> {
     ghost use Rattle.std.specs.Prelude.{◌≡◌, length, map};
     ghost use Rattle.scripts.specs.ScriptFaults.{ScriptState};
-    ghost use Rattle.scripts.specs.Settings.{SettingsFit};
+    ghost use Rattle.records.specs.Settings.{SettingsFit};
 
     ghost Value = { ScriptState };
 

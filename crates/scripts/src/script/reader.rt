@@ -5,9 +5,10 @@ ghost use Rattle.kernel_object.specs.KernelTypes.{KernelTodo};
 ghost use Rattle.scripts.specs.ScriptFaults.{NamesFirstBad};
 ghost use Rattle.scripts.specs.ScriptText.{AreScripts, ScriptsFit};
 
+use crate::Scripts;
 use crate::script::lines::{ScriptLists, whole_scripts};
-use crate::text::line_machine::Pieces;
-use crate::{LinesFault, Scripts, Settings};
+use record_lines::{LinesFault, Pieces};
+use records::Settings;
 use std::alloc::Global;
 
 impl Scripts {

@@ -1,21 +1,21 @@
 //! Reading a line of the scripts.
 
 ghost use Rattle.std.specs.Prelude.{◌≡◌, IfSome};
-ghost use Rattle.scripts.specs.Reading.{words};
-ghost use Rattle.scripts.specs.RecordReading.{request_at};
+ghost use Rattle.record_lines.specs.Reading.{words};
+ghost use Rattle.scripts.specs.RequestReading.{request_at};
 ghost use Rattle.scripts.specs.ScriptText.{IsRequest};
-ghost use Rattle.scripts.specs.Settings.{SettingsFit};
+ghost use Rattle.records.specs.Settings.{SettingsFit};
 
-use crate::settings::lookup::place;
-use crate::text::call_list::list;
-use crate::text::words::number;
-use crate::{Request, Settings};
+use crate::Request;
 use arrayvec::ArrayVec;
 use event_log::Todo;
 use kernel_object::KCall;
+use kernel_words::list;
+use record_lines::number;
+use records::{Settings, place};
 
 /// What the words of the line spell, read from left to right.
-#[tactic(auto, using(crate::proofs::Sentences::words_some), unfolding(crate::specs::RecordReading::request_at))]
+#[tactic(auto, using(record_lines::proofs::Sentences::words_some), unfolding(crate::specs::RequestReading::request_at))]
 fn read(settings: &Settings, line: &[u8]) -> Option<Request>
     ensures value { result ≡ request_at settings.now (words line.now) }
     ensures fit { SettingsFit settings.now }

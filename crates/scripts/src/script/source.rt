@@ -5,11 +5,11 @@ ghost use Rattle.event_log.specs.Stream.{counted};
 ghost use Rattle.scripts.specs.ScriptFaults.{SpellsRest, NamesFirstBadOfRest};
 ghost use Rattle.scripts.specs.ScriptText.{ScriptsFit};
 
+use crate::Scripts;
 use crate::script::lines::{ScriptLists, whole_scripts};
-use crate::streams::feeding::feed_all;
-use crate::text::line_machine::Pieces;
-use crate::{Scripts, Settings, TextFault};
 use event_log::Source;
+use record_lines::{Pieces, TextFault, feed_all};
+use records::Settings;
 use std::alloc::Global;
 
 impl Scripts {

@@ -7,7 +7,7 @@ ghost use Rattle.std.specs.Str.{bytes_eq};
 ghost use Rattle.toml.specs.Data.{get_member};
 ghost use Rattle.toml.specs.View.{view, table_view};
 ghost use Rattle.scripts.specs.SettingsKeys.{key_word, key_in, at_key, find_key, number_from, has_only, unknown_key};
-ghost use Rattle.scripts.specs.Then.{ok_map};
+ghost use Rattle.record_lines.specs.Then.{ok_map};
 
 use crate::{BadSettings, Cause, Place, SettingsKey};
 use toml::{Table, Value};

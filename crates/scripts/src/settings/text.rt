@@ -1,24 +1,22 @@
 //! Reading settings, a TOML text.
 
-ghost use Rattle.std.specs.Prelude.{◌≡◌, ◌≤◌, [], length, None, IsUtf8, IfOk, IfErr};
+ghost use Rattle.std.specs.Prelude.{◌≡◌, ◌≤◌, [], length, None, IfOk};
 ghost use Rattle.std.specs.List.{list_any};
 ghost use Rattle.std.specs.Str.{bytes_eq};
-ghost use Rattle.toml.specs.Parse.{parse_document};
 ghost use Rattle.toml.specs.View.{view, table_view, items_view};
-ghost use Rattle.scripts.specs.Settings.{SettingsFit};
 ghost use Rattle.scripts.specs.SettingsKeys.{key_in};
-ghost use Rattle.scripts.specs.SettingsText.{Settles, SpellsSettings, NamesFirstFault, name_from, kind_from, lock_from, items_from, object_in, object_from, objects_from, settings_in, settings_of};
-ghost use Rattle.scripts.specs.Then.{ok_map};
+ghost use Rattle.scripts.specs.SettingsText.{Settles, name_from, kind_from, lock_from, items_from, object_in, object_from, objects_from, settings_in};
+ghost use Rattle.record_lines.specs.Then.{ok_map};
 
-use crate::kinds::{keys_of, params_in};
 use crate::settings::keys::{at, find, number_of, refuse_others};
-use crate::settings::lookup::is_taken;
-use crate::tables::lock_words::lock_of_word;
-use crate::text::name::name_of;
-use crate::{BadSettings, Cause, ObjectSettings, Place, Settings, SettingsFault, SettingsKey};
+use crate::settings::kinds::{keys_of, params_in};
+use crate::{BadSettings, Cause, Place, SettingsFault, SettingsKey};
 use arrayvec::ArrayString;
 use event_log::{MOST_EVENTS, Series};
 use kernel_object::Kind;
+use kernel_words::lock_of_word;
+use record_lines::name_of;
+use records::{ObjectSettings, Settings, is_taken};
 use sound_run::{LockKind, MOST_CELLS, MOST_CPUS};
 use std::alloc::Global;
 use toml::{Table, Value};
@@ -184,33 +182,11 @@ fn items_of(table: &Table) -> Result<&[Value], BadSettings>
 }
 
 /// The settings of the table.
-fn settings(alloc: Global, table: &Table) -> Result<Settings, SettingsFault>
+pub(crate) fn settings(alloc: Global, table: &Table) -> Result<Settings, SettingsFault>
     ensures { Settles result (settings_in (table_view table.now)) }
 {
     let cpus = number_of(table, Place::Top, SettingsKey::Cpus, MOST_CPUS as u32)?;
     let objects = objects(alloc, items_of(table)?)?;
     refuse_others(table, Place::Top, &[SettingsKey::Cpus, SettingsKey::Object])?;
     Ok(Settings::new(cpus as u8, Series::from_vec(objects)))
-}
-
-impl Settings {
-    /// Reads settings. Where memory doesn't run out, it answers what the text spells, or the first fault: `not toml` where
-    /// the text isn't UTF-8 or no TOML, and else in the order of the keys.
-    pub fn read(alloc: Global, text: &[u8]) -> Result<Settings, SettingsFault>
-        ensures utf8 { IsUtf8 text.now → Settles result (settings_of (parse_document text.now)) }
-        ensures not_utf8 { (IsUtf8 text.now → ⊥) → Settles result (settings_of None) }
-        ensures found { IfOk result (SpellsSettings text.now) }
-        ensures fault { IfErr result (NamesFirstFault text.now) }
-        ensures fit { IfOk result (λ s. SettingsFit s) }
-    {
-        match toml::table_from_slice(alloc, text) {
-            Ok(table) => settings(alloc, &table),
-            Err(fault) if fault.is_memory() => Err(SettingsFault::OutOfMemory),
-            Err(_) => Err(SettingsFault::Refused(BadSettings {
-                place: Place::Top,
-                key: SettingsKey::Text,
-                cause: Cause::NotToml,
-            })),
-        }
-    }
 }

@@ -4,7 +4,7 @@ use Rattle.sound_run.specs.Sound.{Opened}
 use Rattle.kernel_object.specs.declared.call.KParams.{KParams}
 use Rattle.kernel_object.specs.contracts.object.KernelObjectSeqObject.TheImpl.{ghosts as kernel}
 use Rattle.kernel_object.specs.KernelTypes.{KernelRun}
-use Rattle.scripts.specs.Runs.{opened_of}
+use Rattle.records.specs.Runs.{opened_of}
 use Rattle.auditor.specs.declared.fault.Verdict.TheVariants as verdict
 use Rattle.auditor.specs.Faults.{IsFirstFault}
 use Rattle.auditor.specs.Passes.{IsRunOf}

@@ -1,6 +1,6 @@
 use Rattle.std.proofs.Common.{◌≡◌, subst}
-use Rattle.scripts.specs.Keeping.{kept_record}
-use Rattle.scripts.specs.RecordRanges.{Record}
+use Rattle.records.specs.Keeping.{kept_record}
+use Rattle.records.specs.RecordRanges.{Record}
 use Rattle.auditor.specs.Audits.{IsVerdict}
 use Rattle.auditor.proofs.TextFaults.{text_named, text_judged, text_read_out, verdict_on_kept}
 use Rattle.auditor.proofs.texts.audit_text.Goals as goal

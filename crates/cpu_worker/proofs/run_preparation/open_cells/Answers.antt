@@ -3,8 +3,8 @@ use Rattle.std.proofs.lemmas.List.{map-append, take_all}
 use Rattle.std.proofs.lemmas.Option.{slice_get_within}
 use Rattle.event_log.proofs.Lists.{some_at}
 use Rattle.guarded_cell.specs.Kinds.{IsPassOf}
-use Rattle.scripts.specs.Settings.{ObjectSettings}
-use Rattle.scripts.proofs.SoundRanges.{all_at as all_by_place}
+use Rattle.records.specs.Settings.{ObjectSettings}
+use Rattle.records.proofs.SoundRanges.{all_at as all_by_place}
 use Rattle.word_rule.specs.Cell.{cell_of, opening_pass}
 use Rattle.word_rule.specs.Passes.{view_of_pass}
 use Rattle.word_rule.proofs.Openings.{take_more}

@@ -3,8 +3,8 @@ use Rattle.std.specs.List.{AllByRecursion}
 use Rattle.kernel_object.specs.declared.call.KParams.{KParams}
 use Rattle.kernel_object.specs.contracts.object.KernelObjectSeqObject.TheImpl.{ghosts as kernel}
 use Rattle.kernel_object.specs.KernelTypes.{KernelRun}
-use Rattle.scripts.specs.RecordRanges.{Record}
-use Rattle.scripts.specs.Runs.{opened_of, AsksFirst, TranscriptAsks}
+use Rattle.records.specs.RecordRanges.{Record}
+use Rattle.records.specs.Runs.{opened_of, AsksFirst, TranscriptAsks}
 use Rattle.word_rule.specs.Machine.World.{run, run_of}
 use Rattle.sound_run.specs.Sound.{Sound, Opened}
 use Rattle.cpu_worker.specs.Simulation.{new_world, simulated}

@@ -8,9 +8,9 @@ use Rattle.kernel_object.specs.KernelTypes.{KernelEntry, KernelRun, KernelTodo}
 use Rattle.guarded_cell.specs.Kinds.{IsPassOf}
 use Rattle.guarded_cell.specs.Runs.{AllWorked}
 use Rattle.guarded_cell.specs.Workers.{ArePasses}
-use Rattle.scripts.specs.RecordRanges.{RunFits}
-use Rattle.scripts.specs.Runs.{opened_of, TranscriptAsks}
-use Rattle.scripts.proofs.SoundRanges.{all_at as all_by_place}
+use Rattle.records.specs.RecordRanges.{RunFits}
+use Rattle.records.specs.Runs.{opened_of, TranscriptAsks}
+use Rattle.records.proofs.SoundRanges.{all_at as all_by_place}
 use Rattle.word_rule.specs.Cell.{OwnsAll}
 use Rattle.word_rule.specs.Passes.{view_of_pass}
 use Rattle.sound_run.specs.Sound.{Sound}

@@ -4,7 +4,7 @@ use Rattle.std.specs.Vec.Iter.{into_iter_items}
 use Rattle.kernel_object.specs.contracts.object.KernelObjectSeqObject.TheImpl.{ghosts as kernel}
 use Rattle.word_rule.specs.Machine.SoundWorld.{IsTodo}
 use Rattle.guarded_cell.specs.Workers.{ArePasses, HasDone}
-use Rattle.scripts.specs.declared.script.cpu_scripts.TheConstants.{MOST_ENTRIES}
+use Rattle.records.specs.declared.record.TheConstants.{MOST_ENTRIES}
 use Rattle.cpu_worker.proofs.worker.do_script.Given as goal
 
 abbrev pub invariant-loop-todo : goal.invariant-loop-todo

@@ -1,8 +1,8 @@
 use Rattle.std.proofs.Common.{◌≡◌, Ok, Err, sym, subst}
-use Rattle.scripts.specs.declared.text.fault.LinesFault.TheVariants.{OutOfMemory, Line}
-use Rattle.scripts.specs.Keeping.{kept_record}
-use Rattle.scripts.specs.RecordFaults.{IsWhole, NamesBadLine}
-use Rattle.scripts.specs.Settings.{Settings}
+use Rattle.record_lines.specs.declared.text.fault.LinesFault.TheVariants.{OutOfMemory, Line}
+use Rattle.records.specs.Keeping.{kept_record}
+use Rattle.records.specs.RecordFaults.{IsWhole, NamesBadLine}
+use Rattle.records.specs.Settings.{Settings}
 use Rattle.judge.proofs.audit.verdict_of.Goals as goal
 
 pub returns-in-Err-OutOfMemory : goal.returns-in-Err-OutOfMemory

@@ -1,8 +1,8 @@
 use Rattle.std.proofs.Common.{◌≡◌, refl, sym, subst, length, ◌∙◌, ap}
-use Rattle.scripts.specs.Keeping.{kept_record}
-use Rattle.scripts.specs.RecordFaults.{IsWhole, NamesBadLine}
-use Rattle.scripts.specs.Settings.{Settings}
-use Rattle.scripts.specs.declared.text.fault.LinesFault.TheVariants.{Line}
+use Rattle.records.specs.Keeping.{kept_record}
+use Rattle.records.specs.RecordFaults.{IsWhole, NamesBadLine}
+use Rattle.records.specs.Settings.{Settings}
+use Rattle.record_lines.specs.declared.text.fault.LinesFault.TheVariants.{Line}
 use Rattle.judge.specs.Orders.{order, cycle, unsound, bad_line, told_places, room_with}
 use Rattle.judge.proofs.merge.order_of.Goals as goal
 

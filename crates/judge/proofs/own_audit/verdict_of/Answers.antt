@@ -3,7 +3,7 @@ use Rattle.own_judge.specs.Models.{IsMistold, IsVerdictByCounts}
 use Rattle.own_object.specs.Keeping.{kept_own}
 use Rattle.own_object.specs.Settings.{OwnHead}
 use Rattle.own_records.specs.RecordFaults.{IsOwnText, NamesBadOwnLine}
-use Rattle.scripts.specs.declared.text.fault.LinesFault.TheVariants.{Line}
+use Rattle.record_lines.specs.declared.text.fault.LinesFault.TheVariants.{Line}
 use Rattle.judge.specs.OwnTold.{judged, mistold, bad_line, AreFitting}
 use Rattle.own_judge.proofs.MistoldCounts.{verdict_isnt, same_counts}
 use Rattle.judge.proofs.own_audit.verdict_of.Goals as goal

@@ -1,5 +1,5 @@
 use Rattle.std.proofs.Common.{sym, ap, ◌∙◌, option_map}
-use Rattle.scripts.specs.Reading.{left, words}
+use Rattle.record_lines.specs.Reading.{left, words}
 use Rattle.judge.proofs.LogHeads.{no_head}
 use Rattle.judge.proofs.own_line.any_log.Goals as goal
 

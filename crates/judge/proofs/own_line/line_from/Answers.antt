@@ -1,4 +1,4 @@
-use Rattle.scripts.proofs.Readings.{if_none}
+use Rattle.record_lines.proofs.Readings.{if_none}
 use Rattle.judge.proofs.LinesAt.{no_line}
 use Rattle.judge.proofs.own_line.line_from.Goals as goal
 

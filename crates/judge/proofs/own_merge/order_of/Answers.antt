@@ -5,7 +5,7 @@ use Rattle.own_judge.specs.Models.{Model, AreCounts, IsFirstFaultBy, IsMistold}
 use Rattle.own_object.specs.Keeping.{kept_own}
 use Rattle.own_object.specs.Settings.{OwnHead}
 use Rattle.own_records.specs.RecordFaults.{IsOwnText, NamesBadOwnLine}
-use Rattle.scripts.specs.declared.text.fault.LinesFault.TheVariants.{Line}
+use Rattle.record_lines.specs.declared.text.fault.LinesFault.TheVariants.{Line}
 use Rattle.judge.specs.Orders.{told_places, room_with}
 use Rattle.judge.specs.OwnOrders.{order, cycle, unsound, mistold, bad_line}
 use Rattle.judge.specs.OwnTold.{AreFitting}

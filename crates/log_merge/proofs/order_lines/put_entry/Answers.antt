@@ -1,4 +1,4 @@
-use Rattle.scripts.proofs.Lines.{line_of_words, words_then}
+use Rattle.record_lines.proofs.Lines.{line_of_words, words_then}
 use Rattle.log_merge.proofs.order_lines.put_entry.Goals as goal
 
 pub returns : goal.returns

@@ -1,5 +1,5 @@
 use Rattle.std.proofs.Common.{take, map}
-use Rattle.scripts.specs.Output.{PutsLines}
+use Rattle.record_lines.specs.Output.{PutsLines}
 use Rattle.log_merge.specs.MergedText.{place_words}
 use Rattle.log_merge.proofs.order_lines.put_places.Given as goal
 

@@ -1,6 +1,6 @@
 use Rattle.std.proofs.Common.{rules}
 use Rattle.log_merge.specs.MergedText.{merged_text}
-use Rattle.scripts.proofs.Outputs.{finished_ok, finished_err}
+use Rattle.record_lines.proofs.Outputs.{finished_ok, finished_err}
 use Rattle.log_merge.proofs.order_lines.write_merged.Goals as goal
 
 pub returns-clause-ok : goal.returns-clause-ok

@@ -2,7 +2,7 @@ use Rattle.std.proofs.Common.{◌≡◌, refl, sym, ap, ◌∙◌, subst}
 use Rattle.kernel_object.specs.KernelTypes.{KernelRun}
 use Rattle.auditor.specs.declared.fault.Verdict.TheVariants as verdict
 use Rattle.auditor.specs.VerdictText.{CanBeTold}
-use Rattle.scripts.specs.Runs.{opened_of}
+use Rattle.records.specs.Runs.{opened_of}
 use Rattle.log_merge.specs.declared.run_merge.Merging.{Merging}
 use Rattle.log_merge.specs.declared.run_merge.Merging.TheVariants as merging
 use Rattle.log_merge.specs.Merging.{IsCycleFound, IsMerging}

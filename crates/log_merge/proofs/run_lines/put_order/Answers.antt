@@ -1,6 +1,6 @@
 use Rattle.std.proofs.Common.{refl}
 use Rattle.std.proofs.lemmas.Option.{slice_get-get_or}
-use Rattle.scripts.proofs.Lines.{no_lines}
+use Rattle.record_lines.proofs.Lines.{no_lines}
 use Rattle.sound_run.specs.declared.place.Place.{Place}
 use Rattle.log_merge.specs.MergedText.{place_words}
 use Rattle.log_merge.proofs.NextLines.{line_next}

@@ -1,5 +1,5 @@
 use Rattle.std.proofs.Common.{take, map}
-use Rattle.scripts.specs.Output.{PutsLines}
+use Rattle.record_lines.specs.Output.{PutsLines}
 use Rattle.log_merge.specs.MergedText.{place_words}
 use Rattle.log_merge.specs.Written.{AreWritten}
 use Rattle.log_merge.proofs.run_lines.put_order.Given as goal

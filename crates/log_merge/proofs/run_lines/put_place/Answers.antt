@@ -1,10 +1,10 @@
 use Rattle.std.proofs.Common.{◌+◌, ◌<◌, ◌∷◌, [], map, take, get_or, slice_get, sym, ap, ◌∙◌, subst, arith, rules}
 use Rattle.std.proofs.lemmas.Option.{slice_get-get_or}
 use Rattle.std.specs.Prelude.{codes}
-use Rattle.scripts.specs.Output.{PutsWords, PutsLines}
-use Rattle.scripts.specs.RecordText.{step_words}
-use Rattle.scripts.specs.Words.{separated}
-use Rattle.scripts.proofs.Lines.{line_of_words, lines_same, words_then}
+use Rattle.record_lines.specs.Output.{PutsWords, PutsLines}
+use Rattle.kernel_words.specs.ItemText.{step_words}
+use Rattle.record_lines.specs.Words.{separated}
+use Rattle.record_lines.proofs.Lines.{line_of_words, lines_same, words_then}
 use Rattle.sound_run.proofs.Slices.{one_of}
 use Rattle.log_merge.specs.MergedText.{place_words}
 use Rattle.log_merge.specs.Shapes.{shape_of}

@@ -1,6 +1,6 @@
 use Rattle.std.proofs.Common.{subst}
 use Rattle.auditor.specs.VerdictText.{CanBeTold}
-use Rattle.scripts.specs.Settings.{Settings}
+use Rattle.records.specs.Settings.{Settings}
 use Rattle.mc2_command.proofs.Answered.{audited}
 use Rattle.mc2_command.proofs.answers.audit_answer.Goals as goal
 

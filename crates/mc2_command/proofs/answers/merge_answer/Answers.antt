@@ -1,7 +1,7 @@
 use Rattle.std.proofs.Common.{Err, sym, ap, subst}
 use Rattle.program.specs.Inputs.{bytes_of}
-use Rattle.scripts.specs.Keeping.{kept_record}
-use Rattle.scripts.specs.Settings.{Settings}
+use Rattle.records.specs.Keeping.{kept_record}
+use Rattle.records.specs.Settings.{Settings}
 use Rattle.mc2_command.specs.Refused.{IsNoOrder}
 use Rattle.mc2_command.proofs.Answered.{no_order, read_of}
 use Rattle.mc2_command.proofs.answers.merge_answer.Goals as goal

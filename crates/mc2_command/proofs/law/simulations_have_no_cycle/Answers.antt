@@ -11,11 +11,11 @@ use Rattle.auditor.specs.Transcripts.{judged_by, opened_by}
 use Rattle.auditor.specs.declared.opened_object.OpenedObject.{OpenedObject}
 use Rattle.sound_run.specs.Orders.{HasOrder}
 use Rattle.sound_run.specs.Sound.{Opened, Sound}
-use Rattle.scripts.specs.declared.record.form.TheConstants.{WRITTEN}
-use Rattle.scripts.specs.RecordFaults.{text_in, text_of}
-use Rattle.scripts.specs.RecordRanges.{Record, RecordFits}
-use Rattle.scripts.specs.Runs.{opened_of}
-use Rattle.scripts.specs.Settings.{Settings, ObjectSettings}
+use Rattle.kernel_words.specs.declared.form.TheConstants.{WRITTEN}
+use Rattle.records.specs.RecordFaults.{text_in, text_of}
+use Rattle.records.specs.RecordRanges.{Record, RecordFits}
+use Rattle.records.specs.Runs.{opened_of}
+use Rattle.records.specs.Settings.{Settings, ObjectSettings}
 use Rattle.program.specs.Texts.{SpellsRecordOf}
 use Rattle.mc2_command.proofs.law.simulations_have_no_cycle.Goals as goal
 

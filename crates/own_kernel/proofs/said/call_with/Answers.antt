@@ -1,6 +1,6 @@
 use Rattle.std.proofs.Common.{◌≡◌, Some, None, cond, sym, ap, ◌∙◌, option_map}
 use Rattle.own_kernel.specs.KernelModel.{are_in_ranges}
-use Rattle.scripts.specs.Rows.{call_row, call_filled}
+use Rattle.kernel_words.specs.Rows.{call_row, call_filled}
 use Rattle.own_kernel.proofs.Fields.{found_fit}
 use Rattle.own_kernel.proofs.said.call_with.Goals as goal
 

@@ -2,8 +2,8 @@ use Rattle.std.proofs.Common.{◌<◌, length, get_or, sym, ◌∙◌, ap, arith
 use Rattle.std.proofs.lemmas.List.{get_or_default}
 use Rattle.shared_queue.specs.declared.call.QueueCall.TheVariants.{Enq}
 use Rattle.kernel_object.specs.declared.call.KCall.TheVariants.{Queue}
-use Rattle.scripts.specs.Rows.{call_row, call_samples}
-use Rattle.scripts.proofs.Lookups.{sample_hit, sample_miss, sample_none}
+use Rattle.kernel_words.specs.Rows.{call_row, call_samples}
+use Rattle.kernel_words.proofs.Lookups.{sample_hit, sample_miss, sample_none}
 use Rattle.own_kernel.proofs.said.sample.Goals as goal
 
 pub loop-sample-preserved : goal.loop-sample-preserved

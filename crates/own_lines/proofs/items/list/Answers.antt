@@ -1,7 +1,7 @@
 use Rattle.std.proofs.Common.{◌≡◌, suc, ◌+◌, ◌-◌, length, length-append, map, [], ◌∷◌, sym, ◌∙◌, ap, arith, option_map}
 use Rattle.event_log.specs.declared.event.TheConstants.{MOST_CALLS}
-use Rattle.scripts.specs.Reading.{left}
-use Rattle.scripts.proofs.Lists.{behind, list_first, list_none, more_step, more_none, more_end, more_full}
+use Rattle.record_lines.specs.Reading.{left}
+use Rattle.record_lines.proofs.Lists.{behind, list_first, list_none, more_step, more_none, more_end, more_full}
 use Rattle.own_lines.proofs.items.list.Goals as goal
 use Rattle.own_lines.proofs.items.list.Goals.{else-loop-test, then-loop-test+in_default}
 

@@ -1,8 +1,8 @@
 use Rattle.std.proofs.Common.{◌≡◌, ◌-◌, length, map}
 use Rattle.event_log.specs.declared.event.TheConstants.{MOST_CALLS}
-use Rattle.scripts.specs.Reading.{left}
-use Rattle.scripts.specs.RecordReading.{list_at}
-use Rattle.scripts.proofs.Lists.{behind}
+use Rattle.record_lines.specs.Reading.{left}
+use Rattle.record_lines.specs.LineParts.{list_at}
+use Rattle.record_lines.proofs.Lists.{behind}
 use Rattle.own_lines.proofs.items.list.Given as goal
 
 abbrev pub invariant-loop : goal.invariant-loop

@@ -2,7 +2,7 @@ use Rattle.std.proofs.Common.{◌≡◌, ◌-◌, length}
 use Rattle.own_lines.specs.LineReading.{sizes_at}
 use Rattle.own_lines.proofs.LineSteps.{behind_sizes}
 use Rattle.own_object.specs.declared.settings.TheConstants.{MOST_SIZES}
-use Rattle.scripts.specs.Reading.{left}
+use Rattle.record_lines.specs.Reading.{left}
 use Rattle.own_lines.proofs.objects.sizes.Given as goal
 
 abbrev pub invariant-loop : goal.invariant-loop

@@ -3,7 +3,7 @@ use Rattle.std.proofs.lemmas.List.{map-append}
 use Rattle.own_lines.specs.LineReading.{new_name_in}
 use Rattle.own_lines.proofs.LineSteps.{left_some, left_none, new_done, new_full, new_step, new_wrong, no_word_left}
 use Rattle.own_object.specs.declared.settings.TheConstants.{MOST_WORDS}
-use Rattle.scripts.specs.Reading.{left}
+use Rattle.record_lines.specs.Reading.{left}
 use Rattle.own_lines.proofs.refusing.names.Goals as goal
 use Rattle.own_lines.proofs.refusing.names.Goals.{else-loop-test, then-loop-test+in_default}
 

@@ -1,7 +1,7 @@
 use Rattle.std.proofs.Common.{◌≡◌, ◌-◌, length, map, []}
 use Rattle.own_lines.specs.LineReading.{new_words_at}
 use Rattle.own_object.specs.declared.settings.TheConstants.{MOST_WORDS}
-use Rattle.scripts.specs.Reading.{left}
+use Rattle.record_lines.specs.Reading.{left}
 use Rattle.own_lines.proofs.refusing.names.Given as goal
 
 abbrev pub invariant-loop : goal.invariant-loop

@@ -1,7 +1,7 @@
 use Rattle.std.proofs.Common.{◌≡◌, suc, ◌+◌, ◌-◌, length, length-append, [], ◌∷◌, sym, ◌∙◌, ap, arith, option_map}
 use Rattle.own_lines.proofs.LineSteps.{sizes_step, sizes_none, sizes_end, sizes_full}
 use Rattle.own_object.specs.declared.spoken.TheConstants.{MOST_NUMBERS}
-use Rattle.scripts.specs.Reading.{left}
+use Rattle.record_lines.specs.Reading.{left}
 use Rattle.own_lines.proofs.said.add_numbers.Goals as goal
 use Rattle.own_lines.proofs.said.add_numbers.Goals.{else-loop-test, then-loop-test+then-not-is_number_next}
 

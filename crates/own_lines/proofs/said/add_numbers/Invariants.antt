@@ -2,7 +2,7 @@ use Rattle.std.proofs.Common.{◌≡◌, ◌-◌, length}
 use Rattle.own_lines.specs.LineReading.{sizes_at}
 use Rattle.own_lines.proofs.LineSteps.{behind_sizes}
 use Rattle.own_object.specs.declared.spoken.TheConstants.{MOST_NUMBERS}
-use Rattle.scripts.specs.Reading.{left}
+use Rattle.record_lines.specs.Reading.{left}
 use Rattle.own_lines.proofs.said.add_numbers.Given as goal
 
 abbrev pub invariant-loop : goal.invariant-loop

@@ -1,5 +1,5 @@
 use Rattle.std.proofs.Common.{sym, ap, ◌∙◌}
-use Rattle.scripts.specs.Reading.{left}
+use Rattle.record_lines.specs.Reading.{left}
 use Rattle.own_lines.specs.LineReading.{number_next}
 use Rattle.own_lines.proofs.LineSteps.{number_first, number_none}
 use Rattle.own_lines.proofs.said.is_number_next.Goals as goal

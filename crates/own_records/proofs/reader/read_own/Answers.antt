@@ -4,7 +4,7 @@ use Rattle.own_records.specs.RecordFaults.{IsOwnText}
 use Rattle.own_records.specs.RecordStates.{nothing_read, TakesLine}
 use Rattle.own_records.proofs.Texts.{end_is_bad, line_is_bad, more_is_bad, bad_is_none, is_whole, read_is, empty_is}
 use Rattle.own_records.proofs.reader.read_own.Goals as goal
-use Rattle.scripts.proofs.LineMachine.{text_more_line}
+use Rattle.record_lines.proofs.LineMachine.{text_more_line}
 
 pub returns-in_default-clause-fault : goal.returns-in_default-clause-fault
 returns-in_default-clause-fault g c = end_is_bad c.args.text.now c.loop-rest.rest.now c.loop-rest.state c.loop-rest.number c.loop-rest.invariant.0 c.in_default.ensures.none (λ at. let both : false ≡ true = subst IsTrue c.loop-rest-test.true (c.is_done.ensures.1 at) in absurd cc)

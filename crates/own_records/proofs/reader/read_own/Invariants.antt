@@ -1,7 +1,7 @@
 use Rattle.std.proofs.Common.{◌+◌, ◌≤◌, length}
 use Rattle.own_records.specs.RecordStates.{nothing_read, TakesLine}
 use Rattle.own_records.proofs.reader.read_own.Given as goal
-use Rattle.scripts.specs.LineMachine.{TakesText}
+use Rattle.record_lines.specs.LineMachine.{TakesText}
 
 -- whole lines were taken, and the line number is no greater than the number of bytes behind us
 abbrev pub invariant-loop-rest : goal.invariant-loop-rest

@@ -1,7 +1,7 @@
 use Rattle.std.proofs.Common.{◌≡◌, ◌∙◌, ◌<◌, ◌++◌, ℕ, List, OnOk, Option, Some, None, ap, arith, length, slice_get, string_bytes, subst, sym}
 use Rattle.std.proofs.lemmas.List.{length-map}
 use Rattle.event_log.proofs.Lists.{some_at}
-use Rattle.scripts.specs.Settings.{ObjectSettings}
+use Rattle.records.specs.Settings.{ObjectSettings}
 use Rattle.sound_run.proofs.Slices.{read_get}
 use Rattle.word_rule.proofs.MachineKeeps.{not_found}
 use Rattle.steps.specs.Lines.{line_at, line_if, line_of, words_in}

@@ -1,6 +1,6 @@
 use Rattle.std.proofs.Common.{◌≡◌, ℕ, ◌+◌, ◌++◌, drop, length, string_bytes}
 use Rattle.kernel_object.specs.contracts.object.KernelObjectSeqObject.TheImpl.{ghosts as kernel}
-use Rattle.scripts.specs.Runs.{opened_of}
+use Rattle.records.specs.Runs.{opened_of}
 use Rattle.word_rule.specs.Machine.Shown.{Represents, opened_by}
 use Rattle.word_rule.proofs.WorldSteps.{left_to}
 use Rattle.cpu_worker.specs.Simulation.{KernelWorld}

@@ -4,9 +4,9 @@ use Rattle.sound_run.specs.Sound.{Opened, Sound}
 use Rattle.kernel_object.specs.declared.call.KParams.{KParams}
 use Rattle.kernel_object.specs.contracts.object.KernelObjectSeqObject.TheImpl.{ghosts as kernel}
 use Rattle.kernel_object.specs.KernelTypes.{KernelRun}
-use Rattle.scripts.specs.Keeping.{Parts, kept_record, IsWholeWith}
-use Rattle.scripts.specs.RecordRanges.{RecordFits}
-use Rattle.scripts.specs.Runs.{opened_of}
+use Rattle.records.specs.Keeping.{Parts, kept_record, IsWholeWith}
+use Rattle.records.specs.RecordRanges.{RecordFits}
+use Rattle.records.specs.Runs.{opened_of}
 use Rattle.auditor.specs.declared.fault.Fault.{Fault}
 use Rattle.auditor.specs.Faults.{IsFirstFault}
 use Rattle.auditor.specs.Fed.{run_of}

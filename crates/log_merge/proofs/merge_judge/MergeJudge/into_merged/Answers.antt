@@ -2,8 +2,8 @@ use Rattle.std.proofs.Common.{◌≡◌, refl, sym, ap, ◌∙◌, subst}
 use Rattle.sound_run.specs.Sound.{Sound}
 use Rattle.kernel_object.specs.contracts.object.KernelObjectSeqObject.TheImpl.{ghosts as kernel}
 use Rattle.kernel_object.specs.KernelTypes.{KernelRun}
-use Rattle.scripts.specs.Keeping.{Parts, kept_record}
-use Rattle.scripts.specs.Runs.{opened_of}
+use Rattle.records.specs.Keeping.{Parts, kept_record}
+use Rattle.records.specs.Runs.{opened_of}
 use Rattle.auditor.specs.Faults.{IsFirstFault}
 use Rattle.log_merge.specs.declared.run_merge.Merging.{Merging}
 use Rattle.log_merge.specs.declared.run_merge.Merging.TheVariants as merging

@@ -1,5 +1,5 @@
 use Rattle.std.proofs.Common.{sym, ◌∙◌}
-use Rattle.scripts.proofs.Readings.{if_some}
+use Rattle.record_lines.proofs.Readings.{if_some}
 use Rattle.scripts.proofs.RequestLaws.{request_takes, request_again}
 use Rattle.scripts.proofs.script.request_line.request.Goals as goal
 

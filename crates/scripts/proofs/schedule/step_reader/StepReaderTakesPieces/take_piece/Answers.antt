@@ -1,6 +1,6 @@
 use Rattle.std.proofs.Common.{◌++◌, ◌∙◌, ℕ, sym, subst}
 use Rattle.scripts.specs.ScheduleReading.{HasReadSteps}
-use Rattle.scripts.proofs.StepReading.{on_ok}
+use Rattle.record_lines.proofs.Consuming.{on_ok}
 use Rattle.scripts.proofs.schedule.step_reader.StepReaderTakesPieces.take_piece.Goals as goal
 
 pub returns-clause-ok : goal.returns-clause-ok

@@ -1,6 +1,6 @@
 use Rattle.std.proofs.Common.{[], Err, ap, ◌∙◌}
 use Rattle.scripts.specs.ScriptFaults.{TakesScriptLine}
-use Rattle.scripts.proofs.LineMachine.{pending_no_end}
+use Rattle.record_lines.proofs.LineMachine.{pending_no_end}
 use Rattle.scripts.proofs.ScriptTexts.{has_read, text_is_bad, refusal_names, no_scripts, fit_by}
 use Rattle.scripts.proofs.script.cpu_scripts.Scripts.read.Goals as goal
 

@@ -1,5 +1,5 @@
 use Rattle.std.proofs.Common.{Err, ap, ◌∙◌, subst}
-use Rattle.scripts.specs.Pieces.{HasFed}
+use Rattle.record_lines.specs.Pieces.{HasFed}
 use Rattle.scripts.specs.ScriptFaults.{ScriptState, TakesScriptLine}
 use Rattle.scripts.proofs.ScriptLines.{scripts_fit}
 use Rattle.scripts.proofs.ScriptSources.{read_refused, end_refused}

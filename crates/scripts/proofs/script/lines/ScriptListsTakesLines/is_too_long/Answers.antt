@@ -1,7 +1,7 @@
 use Rattle.std.proofs.Common.{◌<◌, subst, arith}
 use Rattle.std.proofs.lemmas.Bool.{ltb-true}
 use Rattle.scripts.specs.ScriptFaults.{ScriptState}
-use Rattle.scripts.specs.Settings.{SettingsFit}
+use Rattle.records.specs.Settings.{SettingsFit}
 use Rattle.scripts.proofs.ScriptTexts.{long_refused}
 use Rattle.scripts.proofs.script.lines.ScriptListsTakesLines.is_too_long.Goals as goal
 

@@ -1,6 +1,6 @@
 use Rattle.std.proofs.Common.{subst}
 use Rattle.scripts.specs.ScriptFaults.{ScriptState}
-use Rattle.scripts.specs.Settings.{SettingsFit}
+use Rattle.records.specs.Settings.{SettingsFit}
 use Rattle.scripts.proofs.ScriptTexts.{passes_exactly}
 use Rattle.scripts.proofs.script.lines.ScriptListsTakesLines.passes.Goals as goal
 

@@ -1,0 +1,10 @@
+pub mod KindLaws
+pub mod KernelRanges
+pub mod LogRanges
+pub mod Lookups
+pub mod Spellings
+pub mod FastReads
+pub mod RecordLengths
+pub mod ParameterLaws
+pub mod RecordWords
+pub mod CallLaws

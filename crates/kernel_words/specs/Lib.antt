@@ -1,0 +1,10 @@
+pub mod Forms
+pub mod Parameters
+pub mod Kinds
+pub mod Ranges
+pub mod Row
+pub mod Rows
+pub mod Tables
+pub mod ItemReading
+pub mod ItemText
+pub mod ParameterReading

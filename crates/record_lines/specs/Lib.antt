@@ -1,0 +1,12 @@
+pub mod Words
+pub mod Reading
+pub mod Output
+pub mod Then
+pub mod Feeding
+pub mod TextFaults
+pub mod LineMachine
+pub mod Pieces
+pub mod FirstLines
+pub mod LineParts
+pub mod Names
+pub mod Sources

@@ -1,0 +1,15 @@
+use Rattle.std.proofs.Common.{◌∙◌, sym, ap}
+use Rattle.record_lines.specs.Reading.{words}
+use Rattle.records.specs.RecordStates.{behind_line_at}
+use Rattle.records.proofs.KeptSteps.{first_leads}
+use Rattle.records.proofs.record.state.RecordState.take_first.Goals as goal
+
+pub returns-in_default-clause-refused : goal.returns-in_default-clause-refused
+unfolding behind_line_at
+returns-in_default-clause-refused g c = λ _. rw (c.requires, ← c.first_line.ensures, c.in_default.is)
+
+pub invariant_of-self : goal.invariant_of-self
+invariant_of-self g c = (first_leads c.self.inside.at (g.K.Keeps.keeps c.self.inside.keeper) (words c.args.line.now) c.in-Some.form (ap (λ v. v.awaits) c.self.view_is ∙ c.requires) c.self.invariant (sym c.first_line.ensures ∙ c.in-Some.is)).1
+
+pub returns-clause-ok : goal.returns-clause-ok
+returns-clause-ok g c = rw (← c.self.view_is) (first_leads c.self.inside.at (g.K.Keeps.keeps c.self.inside.keeper) (words c.args.line.now) c.in-Some.form (ap (λ v. v.awaits) c.self.view_is ∙ c.requires) c.self.invariant (sym c.first_line.ensures ∙ c.in-Some.is)).0

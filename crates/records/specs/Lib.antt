@@ -1,0 +1,14 @@
+pub mod StepTexts
+pub mod Settings
+pub mod RecordText
+pub mod RecordRanges
+pub mod RecordReading
+pub mod RecordStates
+pub mod Keeping
+pub mod RecordParts
+pub mod RecordPieces
+pub mod RecordFaults
+pub mod FormFaults
+pub mod RecordSources
+pub mod Runs
+pub mod Unlimited

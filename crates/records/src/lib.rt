@@ -1,0 +1,19 @@
+//! Records of runs: settings, logs and transcripts, and their text.
+#![tactic(auto)]
+
+mod clones;
+mod record;
+mod settings;
+
+pub use clones::copy_all;
+pub use record::before_quotas::sound_as_before;
+pub use record::form_faults::bad_line_of_form;
+pub use record::keeps::Keeps;
+pub use record::read_keeping::read_keeping;
+pub use record::reader::{RecordReader, no_text_begins_another, read_text_keeping};
+pub use record::run_ranges::{replies_fit, sound_runs_fit};
+pub use record::step_texts::StepTexts;
+pub use record::writer::{put_done, write_record};
+pub use record::{MOST_ENTRIES, Record};
+pub use settings::lookup::{is_taken, place};
+pub use settings::{ObjectSettings, Settings};

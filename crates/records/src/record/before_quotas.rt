@@ -1,0 +1,21 @@
+//! Records from before owners of pages had quotas.
+
+ghost use Rattle.std.specs.Prelude.{◌↔◌};
+ghost use Rattle.sound_run.specs.Sound.{Sound};
+ghost use Rattle.kernel_words.specs.declared.form.Form.TheVariants.{One};
+ghost use Rattle.records.specs.RecordRanges.{Record, RecordFitsIn};
+ghost use Rattle.records.specs.Runs.{opened_of};
+ghost use Rattle.records.specs.Unlimited.{WasSound};
+
+use event_log::SeqObject;
+use kernel_object::KernelObject;
+use page_pool::{stays_whole, unlimited_by_full_quotas};
+
+/// A law of records that record 1 can tell, without effect: they are sound exactly if they were by the definitions from
+/// before quotas.
+pub fn sound_as_before()
+    ensures { (r : Record) → RecordFitsIn One r → Sound ⟦<KernelObject as SeqObject>⟧ (opened_of r.settings) r.run ↔ WasSound ⟦<KernelObject as SeqObject>⟧ r }
+{
+    stays_whole();
+    unlimited_by_full_quotas();
+}

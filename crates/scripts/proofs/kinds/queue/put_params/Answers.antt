@@ -1,4 +1,0 @@
-use Rattle.scripts.proofs.kinds.queue.put_params.Goals as goal
-
-pub returns : goal.returns
-returns g c = rw c.from.ensures at c.put_number.ensures

@@ -1,5 +1,0 @@
-use Rattle.scripts.proofs.FormFaults.{bad_in_form}
-use Rattle.scripts.proofs.record.form_faults.bad_line_of_form.Goals as goal
-
-pub returns : goal.returns
-returns c = bad_in_form

@@ -1,5 +1,0 @@
-use Rattle.scripts.proofs.SoundRanges.{run_fits}
-use Rattle.scripts.proofs.record.run_ranges.sound_runs_fit.Goals as goal
-
-pub returns : goal.returns
-returns c = λ settings run fit sound count asks. run_fits settings fit run sound count asks c.replies_fit.ensures

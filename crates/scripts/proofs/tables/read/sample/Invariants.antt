@@ -1,6 +1,0 @@
-use Rattle.std.proofs.Common.{◌≡◌, drop}
-use Rattle.scripts.specs.Row.{sample_at}
-use Rattle.scripts.proofs.tables.read.sample.Given as goal
-
-abbrev pub invariant-loop-sample : goal.invariant-loop-sample
-invariant-loop-sample g l = sample_at g.T.Spelled.row_of g.T.Spelled.table l.fn.word ≡ sample_at g.T.Spelled.row_of (drop l.sample-index g.T.Spelled.table) l.fn.word
