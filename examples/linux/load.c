@@ -191,7 +191,7 @@ static int work(void *at) {
     own[number].took = now();
     for (u32 call = 0; call < calls; call++) {
         if (speed)
-            call_timed(number, mc2_ask(call % 2 ? MC2_DEQ : MC2_ENQ, number % SIZE, 0));
+            call_timed(number, call % 2 == 0);
         else
             call_staying(number);
         pause_and_interrupt(number, call);

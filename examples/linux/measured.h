@@ -56,17 +56,20 @@ static u64 now(void) {
     return timespec64_to_ns(&time);
 }
 
-static void call_timed(u32 number, struct mc2_call call) {
+static void call_timed(u32 number, bool puts) {
+    struct mc2_caller *caller = &of_measured[number];
     struct mc2_reply reply;
     unsigned long flags;
     u64 looks;
+    u32 told;
     if (way == CELLS) {
         preempt_disable();
-        own[number].wrong += mc2_cell_call(&of_measured[number], &call, &reply, &looks) != MC2_CELL_DONE;
+        told = puts ? mc2_queue_enq(caller, number % SIZE, &reply, &looks) : mc2_queue_deq(caller, &reply, &looks);
+        own[number].wrong += told != MC2_CELL_DONE;
         preempt_enable();
     } else {
         raw_spin_lock_irqsave(&spinlock, flags);
-        plain_answer(number, call);
+        plain_answer(number, mc2_ask(puts ? MC2_ENQ : MC2_DEQ, number % SIZE, 0));
         raw_spin_unlock_irqrestore(&spinlock, flags);
     }
 }
