@@ -60,8 +60,7 @@ static void call_timed(u32 number, bool puts) {
     struct mc2_caller *caller = &of_measured[number];
     struct mc2_reply reply;
     unsigned long flags;
-    u64 looks;
-    u32 told;
+    u64 looks, told;
     if (way == CELLS) {
         preempt_disable();
         told = puts ? mc2_queue_enq(caller, number % SIZE, &reply, &looks) : mc2_queue_deq(caller, &reply, &looks);
