@@ -39,10 +39,10 @@ index_map f (y ∷ ys) zero x e = let same : y ≡ x = cc in ap f same
 index_map f (y ∷ ys) (suc i) x e = index_map f ys i x e
 
 -- the logs that were kept are those that were fed
-pub kept_are : {T O P C R J W : Type 0} (model : StepModel T O P C R) (shows : J → T) (d : Fed T O P C R) (replay : Option (Replay O J W P C R)) (logs : List (KeptLog O W P C R)) (room : ℕ) → IsRightWith model shows d replay logs room → events_in logs ≡ d.logs
+pub kept_are : {T O P C R J W : Type 0} (model : StepModel T O P C R) (shows : J → T) (d : Fed T O P C R) (replay : Option (Replay O J W P C R T)) (logs : List (KeptLog O W P C R)) (room : ℕ) → IsRightWith model shows d replay logs room → events_in logs ≡ d.logs
 kept_are model shows d replay logs room all = same_map (λ (l : KeptLog _ _ _ _ _). l.log) logs d.logs all.logs.count (λ x l at. (all.logs.each x l at).log)
 
-module _ {T O P C R J W : Type 0} (model : StepModel T O P C R) (shows : J → T) (d : Fed T O P C R) (replay : Option (Replay O J W P C R)) (logs : List (KeptLog O W P C R)) (room : ℕ) (all : IsRightWith model shows d replay logs room) (whole : HasLogs d) (cpus : length d.transcripts ≡ d.cpus) (idle : d.entries ≡ [])
+module _ {T O P C R J W : Type 0} (model : StepModel T O P C R) (shows : J → T) (d : Fed T O P C R) (replay : Option (Replay O J W P C R T)) (logs : List (KeptLog O W P C R)) (room : ℕ) (all : IsRightWith model shows d replay logs room) (whole : HasLogs d) (cpus : length d.transcripts ≡ d.cpus) (idle : d.entries ≡ [])
     (given : IsRunOver d.opened (run_of d)) where
   itself : IsWith d d.opened (run_of d)
   itself = with_itself d whole cpus idle given

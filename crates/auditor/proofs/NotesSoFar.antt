@@ -30,22 +30,22 @@ use Rattle.auditor.specs.Terms.{Terms}
 
 module _ {T O P C R J W : Type 0} (model : StepModel T O P C R) (shows : J → T) where
   -- a fault that was found stays the first
-  pub fault_stays : (d e : Fed T O P C R) (f : Option Fault) (r s : Option (Replay O J W P C R)) (logs news : List (KeptLog O W P C R)) (room space : ℕ) → is_some f ≡ true → IsNoted model shows d f r logs room
+  pub fault_stays : (d e : Fed T O P C R) (f : Option Fault) (r s : Option (Replay O J W P C R T)) (logs news : List (KeptLog O W P C R)) (room space : ℕ) → is_some f ≡ true → IsNoted model shows d f r logs room
       → ((o : List (Terms P T)) (g : Run O P C R) → IsWith e o g → IsWith d o g) → IsNoted model shows e f s news space
   fault_stays d e (Some f) r s logs news room space is noted back = λ o g h. noted o g (back o g h)
   fault_stays d e None r s logs news room space is noted back = absurd (true≢false (sym is))
 
   -- where none was found, all was right
-  pub none_found : (d : Fed T O P C R) (f : Option Fault) (r : Option (Replay O J W P C R)) (logs : List (KeptLog O W P C R)) (room : ℕ) → is_some f ≡ false → IsNoted model shows d f r logs room → IsRightWith model shows d r logs room
+  pub none_found : (d : Fed T O P C R) (f : Option Fault) (r : Option (Replay O J W P C R T)) (logs : List (KeptLog O W P C R)) (room : ℕ) → is_some f ≡ false → IsNoted model shows d f r logs room → IsRightWith model shows d r logs room
   none_found d (Some f) r logs room is noted = absurd (true≢false is)
   none_found d None r logs room is noted = noted
 
-  pub still_none : (d : Fed T O P C R) (f : Option Fault) (r : Option (Replay O J W P C R)) (logs : List (KeptLog O W P C R)) (room : ℕ) → is_some f ≡ false → IsRightWith model shows d r logs room → IsNoted model shows d f r logs room
+  pub still_none : (d : Fed T O P C R) (f : Option Fault) (r : Option (Replay O J W P C R T)) (logs : List (KeptLog O W P C R)) (room : ℕ) → is_some f ≡ false → IsRightWith model shows d r logs room → IsNoted model shows d f r logs room
   still_none d (Some f) r logs room is right = absurd (true≢false is)
   still_none d None r logs room is right = right
 
-  pub noted_at : {d e : Fed T O P C R} {f g : Option Fault} {r s : Option (Replay O J W P C R)} {logs news : List (KeptLog O W P C R)} {room space : ℕ} → d ≡ e → f ≡ g → r ≡ s → logs ≡ news → room ≡ space → IsNoted model shows d f r logs room → IsNoted model shows e g s news space
-  noted_at a b c k n h = subst (λ (z : Fed T O P C R × Option Fault × Option (Replay O J W P C R) × List (KeptLog O W P C R) × ℕ). IsNoted model shows z.0 z.1 z.2 z.3 z.4) (λ j. (a j, b j, c j, k j, n j)) h
+  pub noted_at : {d e : Fed T O P C R} {f g : Option Fault} {r s : Option (Replay O J W P C R T)} {logs news : List (KeptLog O W P C R)} {room space : ℕ} → d ≡ e → f ≡ g → r ≡ s → logs ≡ news → room ≡ space → IsNoted model shows d f r logs room → IsNoted model shows e g s news space
+  noted_at a b c k n h = subst (λ (z : Fed T O P C R × Option Fault × Option (Replay O J W P C R T) × List (KeptLog O W P C R) × ℕ). IsNoted model shows z.0 z.1 z.2 z.3 z.4) (λ j. (a j, b j, c j, k j, n j)) h
 
   -- before anything is fed
   pub noted_nothing : (cpus objects room : ℕ) → objects ≤ room → IsRightWith {W = W} model shows (nothing cpus objects) None [] room
@@ -58,25 +58,25 @@ module _ {T O P C R J W : Type 0} (model : StepModel T O P C R) (shows : J → T
   }
 
   module _ (d : Fed T O P C R) where
-    held_entry : (e : Entry O P C R) (r : Option (Replay O J W P C R)) → IsHeld model shows d r → IsHeld model shows (entry_fed d e) r
+    held_entry : (e : Entry O P C R) (r : Option (Replay O J W P C R T)) → IsHeld model shows d r → IsHeld model shows (entry_fed d e) r
     held_entry e (Some r) held = (held.0, record { opened = held.1.opened; object = held.1.object; limit = held.1.limit; log = held.1.log; state = held.1.state })
     held_entry e None held = held
 
-    held_transcript : (n : ℕ) (r : Option (Replay O J W P C R)) → IsHeld model shows d r → IsHeld model shows (transcript_begun d n) r
+    held_transcript : (n : ℕ) (r : Option (Replay O J W P C R T)) → IsHeld model shows d r → IsHeld model shows (transcript_begun d n) r
     held_transcript n (Some r) held = (held.0, record { opened = held.1.opened; object = held.1.object; limit = held.1.limit; log = held.1.log; state = held.1.state })
     held_transcript n None held = held
 
-    held_end : (r : Option (Replay O J W P C R)) → IsHeld model shows d r → IsHeld model shows (transcript_ended d) r
+    held_end : (r : Option (Replay O J W P C R T)) → IsHeld model shows d r → IsHeld model shows (transcript_ended d) r
     held_end (Some r) held = (held.0, record { opened = held.1.opened; object = held.1.object; limit = held.1.limit; log = held.1.log; state = held.1.state })
     held_end None held = held
 
-  module _ (d : Fed T O P C R) (old : Option (Replay O J W P C R)) (logs : List (KeptLog O W P C R)) (room : ℕ) (all : IsRightWith model shows d old logs room) where
+  module _ (d : Fed T O P C R) (old : Option (Replay O J W P C R T)) (logs : List (KeptLog O W P C R)) (room : ℕ) (all : IsRightWith model shows d old logs room) where
     -- a log begins
     module _ (before : IsBeforeLog d) (t : Terms P T) (n : ℕ) where
       pub too_long : (x : ℕ) → x ≡ length logs → t.limit < n → IsFaultSoFar model (log_begun d t n) (fault.TooLong x)
       too_long x is lt = subst (λ (k : ℕ). IsFaultSoFar model (log_begun d t n) (fault.TooLong k)) (sym (is ∙ all.logs.count)) (long_so_far model d all.right before t n lt)
 
-      pub begun : (r : Replay O J W P C R) → n ≤ t.limit → shows r.judge ≡ t.state → r.limit ≡ t.limit → r.log ≡ [] → IsRightWith model shows (log_begun d t n) (Some r) logs room
+      pub begun : (r : Replay O J W P C R T) → n ≤ t.limit → shows r.judge ≡ t.state → r.limit ≡ t.limit → r.log ≡ [] → IsRightWith model shows (log_begun d t n) (Some r) logs room
       begun r le state limit log = record {
         right = right_begun model d all.right before t n le;
         cpus = all.cpus;
@@ -145,15 +145,15 @@ module _ {T O P C R J W : Type 0} (model : StepModel T O P C R) (shows : J → T
     }
 
   -- a transcript begins, whatever was found
-  pub noted_transcript : (d : Fed T O P C R) (f : Option Fault) (r : Option (Replay O J W P C R)) (logs : List (KeptLog O W P C R)) (room n : ℕ) → HasLogs d → IsNoted model shows d f r logs room → IsNoted model shows (transcript_begun d n) f r logs room
+  pub noted_transcript : (d : Fed T O P C R) (f : Option Fault) (r : Option (Replay O J W P C R T)) (logs : List (KeptLog O W P C R)) (room n : ℕ) → HasLogs d → IsNoted model shows d f r logs room → IsNoted model shows (transcript_begun d n) f r logs room
   noted_transcript d (Some f) r logs room n whole noted = λ o g h. noted o g (from_transcript d o g n whole h)
   noted_transcript d None r logs room n whole noted = transcript_noted d r logs room noted n whole
 
   -- where a log is being read, its replay is held
-  pub none_held : (d : Fed T O P C R) (r : Option (Replay O J W P C R)) (logs : List (KeptLog O W P C R)) (room : ℕ) → IsRightWith model shows d r logs room → r ≡ None → IsInLog d → ⊥
-  none_held d r logs room all is i = subst (λ (v : Option (Replay O J W P C R)). IsHeld model shows d v) is all.held i
+  pub none_held : (d : Fed T O P C R) (r : Option (Replay O J W P C R T)) (logs : List (KeptLog O W P C R)) (room : ℕ) → IsRightWith model shows d r logs room → r ≡ None → IsInLog d → ⊥
+  none_held d r logs room all is i = subst (λ (v : Option (Replay O J W P C R T)). IsHeld model shows d v) is all.held i
 
-  module _ (d : Fed T O P C R) (r : Replay O J W P C R) (logs : List (KeptLog O W P C R)) (room : ℕ) (all : IsRightWith model shows d (Some r) logs room) where
+  module _ (d : Fed T O P C R) (r : Replay O J W P C R T) (logs : List (KeptLog O W P C R)) (room : ℕ) (all : IsRightWith model shows d (Some r) logs room) where
     -- an event comes
     module _ (e : Event O P C R) where
       pub step_wrong : (x n k : ℕ) → x ≡ length logs → n ≡ length d.events → IsFirstWrong model (shows r.judge) e.steps.list.items k → IsFaultSoFar model (event_fed d e) (fault.WrongStep x n k)
@@ -162,7 +162,7 @@ module _ {T O P C R J W : Type 0} (model : StepModel T O P C R) (shows : J → T
           let here : IsFirstWrong model (replay_by model (held.opened.state) d.events) e.steps.list.items k = subst (λ (s : O). IsFirstWrong model s e.steps.list.items k) held.state w in
           subst (λ (z : ℕ × ℕ). IsFaultSoFar model (event_fed d e) (fault.WrongStep z.0 z.1 k)) (λ j. (sym (is ∙ all.logs.count) j, sym place j)) (wrong_so_far model d all.right e all.held.0 held.opened held.object k here)
 
-      pub event_noted : (s : Replay O J W P C R) → e.cpu < d.cpus → HasSteps e → AreRight model (shows r.judge) e.steps.list.items (shows s.judge) → s.limit ≡ r.limit → s.log ≡ r.log ++ e ∷ [] → IsRightWith model shows (event_fed d e) (Some s) logs room
+      pub event_noted : (s : Replay O J W P C R T) → e.cpu < d.cpus → HasSteps e → AreRight model (shows r.judge) e.steps.list.items (shows s.judge) → s.limit ≡ r.limit → s.log ≡ r.log ++ e ∷ [] → IsRightWith model shows (event_fed d e) (Some s) logs room
       event_noted s cpu steps right limit log =
           let held = all.held.1 in
           let S = held.opened.state in

@@ -16,7 +16,7 @@ use Rattle.auditor.specs.Terms.{Terms, opened_list}
 
 module _ {T O P C R J W : Type 0} (model : StepModel T O P C R) (shows : J → T) (d : Fed T O P C R) where
   -- the log that is being read
-  pub record IsReplay (r : Replay O J W P C R) : Type 0 where
+  pub record IsReplay (r : Replay O J W P C R T) : Type 0 where
     pub opened : Terms P T
     pub object : slice_get d.opened (length d.logs) ≡ Some opened
     pub limit : r.limit ≡ opened.limit
@@ -24,7 +24,7 @@ module _ {T O P C R J W : Type 0} (model : StepModel T O P C R) (shows : J → T
     pub state : shows r.judge ≡ replay_by model opened.state d.events
 
   -- it is held where one is being read
-  abbrev pub IsHeld : Option (Replay O J W P C R) → Type 0
+  abbrev pub IsHeld : Option (Replay O J W P C R T) → Type 0
   IsHeld (Some r) = IsInLog d × IsReplay r
   IsHeld None = IsInLog d → ⊥
 
@@ -46,7 +46,7 @@ module _ {T O P C R W : Type 0} (meaning : Ghosts O P C R) (d : Fed T O P C R) w
 
 module _ {T O P C R J W : Type 0} (model : StepModel T O P C R) (shows : J → T) (d : Fed T O P C R) where
   -- nothing was found wrong
-  pub record IsRightWith (replay : Option (Replay O J W P C R)) (kept : List (KeptLog O W P C R)) (space : ℕ) : Type 0 where
+  pub record IsRightWith (replay : Option (Replay O J W P C R T)) (kept : List (KeptLog O W P C R)) (space : ℕ) : Type 0 where
     pub right : IsRightSoFar model d
     pub cpus : (k : ℕ) (e : Event O P C R) → slice_get d.events k ≡ Some e → e.cpu < d.cpus
     pub held : IsHeld model shows d replay
@@ -54,6 +54,6 @@ module _ {T O P C R J W : Type 0} (model : StepModel T O P C R) (shows : J → T
     pub room : d.objects ≤ space
 
   -- the first fault, or what later parts are compared with
-  abbrev pub IsNoted : Option Fault → Option (Replay O J W P C R) → List (KeptLog O W P C R) → ℕ → Type 0
+  abbrev pub IsNoted : Option Fault → Option (Replay O J W P C R T) → List (KeptLog O W P C R) → ℕ → Type 0
   IsNoted (Some f) replay kept space = IsFaultSoFar model d f
   IsNoted None replay kept space = IsRightWith replay kept space

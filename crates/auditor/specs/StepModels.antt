@@ -16,6 +16,15 @@ module _ {T O P C R : Type 0} where
   abbrev pub model_by : Ghosts O P C R → (T → Step O P C R → Type 0) → (T → Step O P C R → T) → StepModel T O P C R
   model_by meaning right behind = record { meaning = meaning; Right = right; behind = behind }
 
+module _ {O P C R : Type 0} where
+  -- so many steps more are right
+  abbrev pub IsCounted : ℕ → Step O P C R → Type 0
+  IsCounted n x = 0 < n
+
+  -- behind one of them
+  abbrev pub one_less : ℕ → Step O P C R → ℕ
+  one_less n x = n - 1
+
 module _ {O P C R : Type 0} (meaning : Ghosts O P C R) where
   -- the reply is the object's answer
   abbrev pub IsAnswer : O → Step O P C R → Type 0
@@ -28,14 +37,6 @@ module _ {O P C R : Type 0} (meaning : Ghosts O P C R) where
   -- a step of an object is right if its reply is the object's answer
   abbrev pub object_model : StepModel O O P C R
   object_model = model_by meaning IsAnswer state_behind
-
-  -- so many steps more are right
-  abbrev pub IsCounted : ℕ → Step O P C R → Type 0
-  IsCounted n x = 0 < n
-
-  -- behind one of them
-  abbrev pub one_less : ℕ → Step O P C R → ℕ
-  one_less n x = n - 1
 
   -- of a log so many steps, from the first on, are right
   abbrev pub counted_model : StepModel ℕ O P C R

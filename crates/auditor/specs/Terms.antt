@@ -1,7 +1,8 @@
 -- What a log is judged by.
-use Rattle.std.specs.Prelude.{ℕ, List, map}
+use Rattle.std.specs.Prelude.{ℕ, List, [], ◌∷◌, map}
 use Rattle.event_log.specs.declared.object.SeqObject.{Ghosts}
 use Rattle.sound_run.specs.Sound.{Opened}
+use Rattle.auditor.specs.declared.opened_object.OpenedObject.{OpenedObject}
 
 -- what its object was opened with, the most events, and the state before its first step
 pub record Terms (P T : Type 0) : Type 0 where
@@ -26,3 +27,14 @@ module _ {O P C R : Type 0} (meaning : Ghosts O P C R) where
   -- those of all objects
   abbrev pub starts : List (Opened P) → List (Terms P O)
   starts objects = map start objects
+
+module _ {T O P C R : Type 0} where
+  -- an object's terms, and the state before the first step
+  abbrev pub terms_at : OpenedObject O P C R → T → Terms P T
+  terms_at t s = record { params = t.params; limit = t.limit; state = s }
+
+  -- those of objects, with a judge in its state for each
+  abbrev pub terms_with : {J : Type 0} → (J → T) → List (OpenedObject O P C R) → List J → List (Terms P T)
+  terms_with shows [] judges = []
+  terms_with shows (t ∷ opened) [] = []
+  terms_with shows (t ∷ opened) (j ∷ judges) = terms_at t (shows j) ∷ terms_with shows opened judges

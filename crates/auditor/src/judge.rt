@@ -8,26 +8,29 @@ ghost use Rattle.auditor.specs.Faults.{HasSteps, IsFirstFault};
 ghost use Rattle.auditor.specs.Fed.{nothing, log_fed, logs_fed, transcript_fed, run_fed};
 ghost use Rattle.auditor.specs.Passes.{IsRunOf};
 ghost use Rattle.auditor.specs.SoFar.{IsBeforeLog, IsInTranscripts};
-ghost use Rattle.auditor.specs.Transcripts.{opened_by};
+ghost use Rattle.auditor.specs.Terms.{start, starts};
+ghost use Rattle.auditor.specs.Transcripts.{judged_by, opened_by};
 
 use crate::judged::Judged;
 use crate::packed_steps::PackedSteps;
-use crate::{Fault, OpenedObject, ReferenceObject, Verdict};
+use crate::{Fault, OpenedObject, ReferenceObject, Replayed, Verdict};
 use event_log::{Entry, Event, OutOfMemory, Run, SeqObject};
 use std::alloc::Global;
 
 /// Feeds a log.
 fn feed_log<O: SeqObject, J: ReferenceObject<O>>(
-    judged: &mut Judged<O, J, PackedSteps<O>>,
+    alloc: Global,
+    judged: &mut Judged<O, Replayed<J>, PackedSteps<O>>,
     opened: &OpenedObject<O>,
     log: &[Event<O>],
 ) -> Result<(), OutOfMemory>
     requires able { O.in_range opened.now.params ≡ true }
     requires before { IsBeforeLog judged.old }
     requires events { (k : ℕ) (e : Shown O O.Params O.Call O.Reply) → slice_get log.now k ≡ Some e → (e.cpu < judged.old.cpus) × HasSteps e }
-    ensures { OnOk result (judged.new ≡ log_fed judged.old opened.now log.now) }
+    ensures { OnOk result (judged.new ≡ log_fed judged.old (start O.SeqObject (judged_by opened.now)) log.now) }
 {
-    judged.begin_log(opened, log.len())?;
+    let object = J::open(alloc, &opened.params)?;
+    judged.begin_log(opened, Replayed { object }, log.len())?;
     for event in log {
         judged.event(event, &[])?;
     }
@@ -37,24 +40,25 @@ fn feed_log<O: SeqObject, J: ReferenceObject<O>>(
 
 /// Feeds the logs, each whole before the next.
 fn feed_logs<O: SeqObject, J: ReferenceObject<O>>(
-    judged: &mut Judged<O, J, PackedSteps<O>>,
+    alloc: Global,
+    judged: &mut Judged<O, Replayed<J>, PackedSteps<O>>,
     opened_objects: &[OpenedObject<O>],
     run: &Run<O>,
 ) -> Result<(), OutOfMemory>
     requires run { IsRunOf O.SeqObject opened_objects.now run.now }
     requires nothing { judged.old ≡ nothing (length run.now.transcripts) (length run.now.logs) }
-    ensures { OnOk result (judged.new ≡ logs_fed opened_objects.now run.now) }
+    ensures { OnOk result (judged.new ≡ logs_fed (starts O.SeqObject (opened_by opened_objects.now)) run.now) }
 {
     let logs = run.logs.as_slice();
     for (object, log) in logs.iter().enumerate() {
-        feed_log(judged, &opened_objects[object], log.as_slice())?;
+        feed_log(alloc, judged, &opened_objects[object], log.as_slice())?;
     }
     Ok(())
 }
 
 /// Feeds a transcript.
 fn feed_transcript<O: SeqObject, J: ReferenceObject<O>>(
-    judged: &mut Judged<O, J, PackedSteps<O>>,
+    judged: &mut Judged<O, Replayed<J>, PackedSteps<O>>,
     transcript: &[Entry<O>],
 )
     requires transcripts { IsInTranscripts judged.old }
@@ -71,13 +75,13 @@ fn feed_transcript<O: SeqObject, J: ReferenceObject<O>>(
 
 /// Feeds the transcripts, each whole before the next.
 fn feed_transcripts<O: SeqObject, J: ReferenceObject<O>>(
-    judged: &mut Judged<O, J, PackedSteps<O>>,
+    judged: &mut Judged<O, Replayed<J>, PackedSteps<O>>,
     opened_objects: &[OpenedObject<O>],
     run: &Run<O>,
 )
     requires run { IsRunOf O.SeqObject opened_objects.now run.now }
-    requires logs { judged.old ≡ logs_fed opened_objects.now run.now }
-    ensures { judged.new ≡ run_fed opened_objects.now run.now }
+    requires logs { judged.old ≡ logs_fed (starts O.SeqObject (opened_by opened_objects.now)) run.now }
+    ensures { judged.new ≡ run_fed (starts O.SeqObject (opened_by opened_objects.now)) run.now }
 {
     let transcripts = run.transcripts.as_slice();
     for entries in transcripts {
@@ -96,8 +100,9 @@ pub fn judge_run<O: SeqObject, J: ReferenceObject<O>>(
     ensures fault { (f : Fault) → IfOk result (λ v. (v ≡ Verdict.Unsound f) ↔ IsFirstFault O.SeqObject (opened_by opened_objects.now) run.now f) }
 {
     let cpus = run.transcripts.as_slice().len();
-    let mut judged = Judged::<O, J, PackedSteps<O>>::new(alloc, cpus, run.logs.as_slice().len())?;
-    feed_logs(&mut judged, opened_objects, run)?;
+    let objects = run.logs.as_slice().len();
+    let mut judged = Judged::<O, Replayed<J>, PackedSteps<O>>::new(alloc, cpus, objects)?;
+    feed_logs(alloc, &mut judged, opened_objects, run)?;
     feed_transcripts(&mut judged, opened_objects, run);
     Ok(judged.verdict())
 }

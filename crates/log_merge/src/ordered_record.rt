@@ -11,14 +11,14 @@ use crate::record_merge::Merged;
 use crate::run_lines::write_order;
 use crate::shaped_run::ShapedRun;
 use event_log::Sink;
-use scripts::{Settings, WriteFailed};
+use scripts::{KernelObject, Settings, StepTexts, WriteFailed};
 use std::marker::Model;
 
 /// The settings of a record, its run in its shape, and the one order of its entries.
 #[derive(Drop)]
 pub struct OrderedRecord {
     settings: Settings,
-    run: ShapedRun,
+    run: ShapedRun<KernelObject, StepTexts>,
     merged: Merged,
 }
 
@@ -35,7 +35,7 @@ impl Model for OrderedRecord {
 
 impl OrderedRecord {
     /// The record of these settings and this run, in that order.
-    pub fn new(settings: Settings, run: ShapedRun, merged: Merged) -> OrderedRecord
+    pub fn new(settings: Settings, run: ShapedRun<KernelObject, StepTexts>, merged: Merged) -> OrderedRecord
         requires { IsOrder run merged.places }
         ensures { result ≡ record { of = record { settings = settings; run = run }; places = merged.places } }
     {
