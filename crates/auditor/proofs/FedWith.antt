@@ -16,13 +16,13 @@ use Rattle.scripts.specs.Keeping.{Parts, InLogs, InTranscripts, IsAtHead, IsWhol
 use Rattle.scripts.specs.RecordRanges.{RecordFits}
 use Rattle.scripts.specs.Runs.{opened_of}
 use Rattle.scripts.specs.Settings.{ObjectSettings, ObjectFits}
-use Rattle.auditor.specs.Fed.{Fed, run_of}
+use Rattle.auditor.specs.Fed.{Fed, log_begun, run_of}
 use Rattle.auditor.specs.JudgedParts.{parts_of, begun_logs, IsFedWith}
 use Rattle.auditor.specs.Passes.{IsRunOver}
 use Rattle.auditor.specs.SoFar.{IsBeforeLog, IsInLog, HasLogs, IsInTranscripts}
-use Rattle.auditor.specs.Terms.{Terms, start, starts}
+use Rattle.auditor.specs.Terms.{Terms, terms_at, start, starts}
 use Rattle.auditor.specs.Transcripts.{judged_by, opened_by}
-use Rattle.auditor.proofs.JudgeTerms.{run_over}
+use Rattle.auditor.proofs.JudgeTerms.{started, run_over}
 use Rattle.auditor.proofs.RecordRuns.{KernelTerms, object_opened, record_run}
 use Rattle.auditor.proofs.Verdicts.{all_at}
 
@@ -98,6 +98,16 @@ module _ (cpus : ℕ) (objects : List ObjectSettings) (begun : Bool) (opened : L
       let there = term_here t here in
       let before : d.opened ≡ take (length d.logs) all = fed.begun ∙ ap (λ b. take (if b then length d.logs + 1 else length d.logs) all) is in
       ap (λ l. l ++ term ∷ []) before ∙ sym (take_more all (length d.logs) term (slice_get_within all (length d.logs) term there) ∙ ap (λ v. take (length d.logs) all ++ v ∷ []) (get_or_from_slice_get all (length d.logs) term term there))
+
+  pub log_more : (t : KernelTerms) (s : KernelObject) (n : ℕ) → s ≡ kernel.opening t.params → InLogs P → begun ≡ false → slice_get opened (length d.logs) ≡ Some t
+      → IsFedWith (parts_of cpus objects true (log_begun d (terms_at t s) n)) opened log (log_begun d (terms_at t s) n)
+  log_more t s n is at idle here = record {
+    cpus = fed.cpus;
+    objects = fed.objects;
+    same = fed.same;
+    begun = ap (λ u. d.opened ++ u ∷ []) (started kernel t s is) ∙ begun_more t at idle here;
+    whole = fed.whole;
+  }
 
   -- where all is whole, it was fed a run over the objects of the settings
   pub whole_run : IsWholeWith P.settings P → RecordFits (kept_record P.settings P) → HasLogs d × (length d.transcripts ≡ d.cpus) × (d.entries ≡ []) × IsRunOver d.opened (run_of d) × (d.opened ≡ starts kernel (opened_of P.settings))

@@ -159,7 +159,7 @@ module _ {T O P C R J W : Type 0} (model : StepModel T O P C R) (shows : J → T
       pub step_wrong : (x n k : ℕ) → x ≡ length logs → n ≡ length d.events → IsFirstWrong model (shows r.judge) e.steps.list.items k → IsFaultSoFar model (event_fed d e) (fault.WrongStep x n k)
       step_wrong x n k is place w =
           let held = all.held.1 in
-          let here : IsFirstWrong model (replay_by model (held.opened.state) d.events) e.steps.list.items k = subst (λ (s : O). IsFirstWrong model s e.steps.list.items k) held.state w in
+          let here : IsFirstWrong model (replay_by model (held.opened.state) d.events) e.steps.list.items k = subst (λ (s : T). IsFirstWrong model s e.steps.list.items k) held.state w in
           subst (λ (z : ℕ × ℕ). IsFaultSoFar model (event_fed d e) (fault.WrongStep z.0 z.1 k)) (λ j. (sym (is ∙ all.logs.count) j, sym place j)) (wrong_so_far model d all.right e all.held.0 held.opened held.object k here)
 
       pub event_noted : (s : Replay O J W P C R T) → e.cpu < d.cpus → HasSteps e → AreRight model (shows r.judge) e.steps.list.items (shows s.judge) → s.limit ≡ r.limit → s.log ≡ r.log ++ e ∷ [] → IsRightWith model shows (event_fed d e) (Some s) logs room

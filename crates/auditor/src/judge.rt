@@ -8,17 +8,36 @@ ghost use Rattle.auditor.specs.Faults.{HasSteps, IsFirstFault};
 ghost use Rattle.auditor.specs.Fed.{nothing, log_fed, logs_fed, transcript_fed, run_fed};
 ghost use Rattle.auditor.specs.Passes.{IsRunOf};
 ghost use Rattle.auditor.specs.SoFar.{IsBeforeLog, IsInTranscripts};
-ghost use Rattle.auditor.specs.Terms.{start, starts};
+ghost use Rattle.auditor.specs.Terms.{terms_at, start, starts};
 ghost use Rattle.auditor.specs.Transcripts.{judged_by, opened_by};
 
 use crate::judged::Judged;
 use crate::packed_steps::PackedSteps;
-use crate::{Fault, OpenedObject, ReferenceObject, Replayed, Verdict};
+use crate::{Fault, OpenedObject, ReferenceObject, Replayed, StepJudge, Verdict};
 use event_log::{Entry, Event, OutOfMemory, Run, SeqObject};
 use std::alloc::Global;
 
-/// Feeds a log.
-fn feed_log<O: SeqObject, J: ReferenceObject<O>>(
+/// Feeds a log, whose steps that judge judges.
+fn feed_log<O: SeqObject, J: StepJudge<O>>(
+    judged: &mut Judged<O, J, PackedSteps<O>>,
+    opened: &OpenedObject<O>,
+    judge: J,
+    log: &[Event<O>],
+) -> Result<(), OutOfMemory>
+    requires before { IsBeforeLog judged.old }
+    requires events { (k : ℕ) (e : Shown O O.Params O.Call O.Reply) → slice_get log.now k ≡ Some e → (e.cpu < judged.old.cpus) × HasSteps e }
+    ensures { OnOk result (judged.new ≡ log_fed judged.old (terms_at opened.now (J.shows judge)) log.now) }
+{
+    judged.begin_log(opened, judge, log.len())?;
+    for event in log {
+        judged.event(event, &[])?;
+    }
+    judged.end_log()?;
+    Ok(())
+}
+
+/// Feeds the log of an object, whose calls are answered again.
+fn feed_object<O: SeqObject, J: ReferenceObject<O>>(
     alloc: Global,
     judged: &mut Judged<O, Replayed<J>, PackedSteps<O>>,
     opened: &OpenedObject<O>,
@@ -30,12 +49,7 @@ fn feed_log<O: SeqObject, J: ReferenceObject<O>>(
     ensures { OnOk result (judged.new ≡ log_fed judged.old (start O.SeqObject (judged_by opened.now)) log.now) }
 {
     let object = J::open(alloc, &opened.params)?;
-    judged.begin_log(opened, Replayed { object }, log.len())?;
-    for event in log {
-        judged.event(event, &[])?;
-    }
-    judged.end_log()?;
-    Ok(())
+    feed_log(judged, opened, Replayed { object }, log)
 }
 
 /// Feeds the logs, each whole before the next.
@@ -51,7 +65,7 @@ fn feed_logs<O: SeqObject, J: ReferenceObject<O>>(
 {
     let logs = run.logs.as_slice();
     for (object, log) in logs.iter().enumerate() {
-        feed_log(alloc, judged, &opened_objects[object], log.as_slice())?;
+        feed_object(alloc, judged, &opened_objects[object], log.as_slice())?;
     }
     Ok(())
 }

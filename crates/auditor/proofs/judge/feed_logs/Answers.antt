@@ -19,8 +19,8 @@ offset_bounds-opened_objects-object g c = let n = c.requires.run.counted in let 
 pub loop-object-init : goal.loop-object-init
 loop-object-init g c = c.requires.nothing
 
-pub feed_log-requires : goal.feed_log-requires
-feed_log-requires g c =
+pub feed_object-requires : goal.feed_object-requires
+feed_object-requires g c =
     let objects = c.args.opened_objects.now in
     let terms = starts g.O.SeqObject (opened_by objects) in
     let over = run_over g.O.SeqObject objects c.args.run.now c.requires.run in
@@ -39,7 +39,7 @@ pub loop-object-preserved : goal.loop-object-preserved
 loop-object-preserved g c =
     let m = ap length c.as_slice-logs.ensures in
     let here = read_from c.as_slice-logs.result.now c.args.run.now.logs c.loop-object.object c.index-logs-object.result c.as_slice.result.now c.as_slice-logs.ensures c.loop-object-test.true c.index-logs-object.is c.as_slice.ensures in
-    logs_next (starts g.O.SeqObject (opened_by c.args.opened_objects.now)) c.args.run.now (run_over g.O.SeqObject c.args.opened_objects.now c.args.run.now c.requires.run) c.loop-object.judged c.loop-object.object c.feed_log.new.judged (start g.O.SeqObject (judged_by c.index-opened_objects-object.result)) c.as_slice.result.now c.loop-object.invariant (omega (arith, m)) (start_read g.O.SeqObject c.args.opened_objects.now c.loop-object.object c.index-opened_objects-object.result c.index-opened_objects-object.is) here c.in_ok-feed_log.ensures
+    logs_next (starts g.O.SeqObject (opened_by c.args.opened_objects.now)) c.args.run.now (run_over g.O.SeqObject c.args.opened_objects.now c.args.run.now c.requires.run) c.loop-object.judged c.loop-object.object c.feed_object.new.judged (start g.O.SeqObject (judged_by c.index-opened_objects-object.result)) c.as_slice.result.now c.loop-object.invariant (omega (arith, m)) (start_read g.O.SeqObject c.args.opened_objects.now c.loop-object.object c.index-opened_objects-object.result c.index-opened_objects-object.is) here c.in_ok-feed_object.ensures
 
 pub returns : goal.returns
 returns g c = let m = ap length c.as_slice-logs.ensures in logs_end (starts g.O.SeqObject (opened_by c.args.opened_objects.now)) c.args.run.now (run_over g.O.SeqObject c.args.opened_objects.now c.args.run.now c.requires.run) c.loop-object.judged c.loop-object.object c.loop-object.invariant (omega (arith, m))

@@ -1,4 +1,5 @@
-use Rattle.std.proofs.Common.{subst}
+use Rattle.std.proofs.Common.{subst, sym, ap, ◌∙◌}
+use Rattle.event_log.specs.declared.entry.Run.{Run}
 use Rattle.std.specs.Vec.{vec_capacity}
 use Rattle.auditor.specs.Fed.{run_of}
 use Rattle.auditor.specs.Noted.{IsNoted}
@@ -20,3 +21,4 @@ new-requires g c =
     let d = c.args.told in
     kept_are (model_by g.O.SeqObject g.J.StepJudge.right g.J.StepJudge.behind) g.J.StepJudge.shows d n.replay n.logs.items (vec_capacity n.logs)
     (subst (λ f. IsNoted (model_by g.O.SeqObject g.J.StepJudge.right g.J.StepJudge.behind) g.J.StepJudge.shows d f n.replay n.logs.items (vec_capacity n.logs)) c.in_default.is c.requires.noted)
+    ∙ sym (ap (λ (r : Run _ _ _ _). r.logs) c.into_run.ensures)
