@@ -5,9 +5,9 @@ ghost use Rattle.event_log.specs.declared.event.Event.{Event as Shown};
 ghost use Rattle.event_log.specs.declared.entry.Entry.{Entry as ShownEntry};
 ghost use Rattle.sound_run.specs.Sound.{Sound};
 ghost use Rattle.auditor.specs.Faults.{HasSteps, IsFirstFault};
-ghost use Rattle.auditor.specs.Fed.{nothing, log_fed, logs_fed, transcript_fed, run_fed};
+ghost use Rattle.auditor.specs.Fed.{nothing, event_fed, log_fed, logs_fed, transcript_fed, run_fed};
 ghost use Rattle.auditor.specs.Passes.{IsRunOf};
-ghost use Rattle.auditor.specs.SoFar.{IsBeforeLog, IsInTranscripts};
+ghost use Rattle.auditor.specs.SoFar.{IsBeforeLog, IsInLog, IsInTranscripts};
 ghost use Rattle.auditor.specs.Terms.{terms_at, start, starts};
 ghost use Rattle.auditor.specs.Transcripts.{judged_by, opened_by};
 
@@ -16,6 +16,20 @@ use crate::packed_steps::PackedSteps;
 use crate::{Fault, OpenedObject, ReferenceObject, Replayed, StepJudge, Verdict};
 use event_log::{Entry, Event, OutOfMemory, Run, SeqObject};
 use std::alloc::Global;
+
+/// Feeds an event.
+fn feed_event<O: SeqObject, J: StepJudge<O>>(
+    judged: &mut Judged<O, J, PackedSteps<O>>,
+    event: &Event<O>,
+) -> Result<(), OutOfMemory>
+    requires log { IsInLog judged.old }
+    requires count { length judged.old.events < judged.old.count }
+    requires cpu { event.now.cpu < judged.old.cpus }
+    requires steps { HasSteps event.now }
+    ensures { OnOk result (judged.new ≡ event_fed judged.old event.now) }
+{
+    judged.event(event, &[])
+}
 
 /// Feeds a log, whose steps that judge judges.
 fn feed_log<O: SeqObject, J: StepJudge<O>>(
@@ -30,7 +44,7 @@ fn feed_log<O: SeqObject, J: StepJudge<O>>(
 {
     judged.begin_log(opened, judge, log.len())?;
     for event in log {
-        judged.event(event, &[])?;
+        feed_event(judged, event)?;
     }
     judged.end_log()?;
     Ok(())

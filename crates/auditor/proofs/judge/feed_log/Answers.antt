@@ -8,8 +8,8 @@ use Rattle.auditor.proofs.judge.feed_log.Goals as goal
 pub loop-event-init : goal.loop-event-init
 loop-event-init g c = events_begin c.args.judged.now (terms_at c.args.opened.now (g.J.StepJudge.shows c.args.judge)) c.args.log.now c.begin_log.new.self c.requires.before.events c.in_ok-begin_log.ensures.ok
 
-pub event-requires : goal.event-requires
-event-requires g c =
+pub feed_event-requires : goal.feed_event-requires
+feed_event-requires g c =
     let old = c.args.judged.now in
     let opened = (terms_at c.args.opened.now (g.J.StepJudge.shows c.args.judge)) in
     let log = c.args.log.now in
@@ -19,10 +19,10 @@ event-requires g c =
     let own = c.requires.events i e (read_get log i e c.loop-event-test.true c.event-item.is) in
     let cpu = own.0 in
     let same = ap (λ (k : Fed _ _ _ _ _). k.cpus) c.loop-event.invariant in
-    (g.met.O.SeqObject.event_fits, (still_in_log old opened log j i c.loop-event.invariant c.requires.before, (more_events old opened log j i c.loop-event.invariant c.loop-event-test.true, (omega (arith, cpu, same), (own.1, tt)))))
+    (g.met.O.SeqObject.event_fits, (still_in_log old opened log j i c.loop-event.invariant c.requires.before, (more_events old opened log j i c.loop-event.invariant c.loop-event-test.true, (omega (arith, cpu, same), own.1))))
 
 pub loop-event-preserved : goal.loop-event-preserved
-loop-event-preserved g c = events_next c.args.judged.now (terms_at c.args.opened.now (g.J.StepJudge.shows c.args.judge)) c.args.log.now c.loop-event.judged c.event.new.self c.loop-event.event-index c.event-item.result c.loop-event.invariant c.loop-event-test.true c.event-item.is c.in_ok-event.ensures.ok
+loop-event-preserved g c = events_next c.args.judged.now (terms_at c.args.opened.now (g.J.StepJudge.shows c.args.judge)) c.args.log.now c.loop-event.judged c.feed_event.new.judged c.loop-event.event-index c.event-item.result c.loop-event.invariant c.loop-event-test.true c.event-item.is c.in_ok-feed_event.ensures
 
 pub end_log-requires-clause-log : goal.end_log-requires-clause-log
 end_log-requires-clause-log g c = still_in_log c.args.judged.now (terms_at c.args.opened.now (g.J.StepJudge.shows c.args.judge)) c.args.log.now c.loop-event.judged c.loop-event.event-index c.loop-event.invariant c.requires.before
