@@ -1,7 +1,7 @@
 -- The first fault by a model, and the first by the counts.
 use Rattle.std.proofs.Common.{◌≡◌, ◌⊎◌, inl, inr, ⊎_elim, ℕ, zero, suc, ◌+◌, ◌<◌, ◌≤◌, true≢false, List, [], ◌∷◌, ◌++◌, length, take, Some, slice_get, refl, sym, ap, ◌∙◌, subst, arith, length-append}
 use Rattle.std.proofs.lemmas.Bool.{cases_lt}
-use Rattle.std.specs.Prelude.{unwrap_or, slice_index}
+use Rattle.std.specs.Prelude.{slice_index}
 use Rattle.event_log.specs.Log.{steps_of}
 use Rattle.event_log.proofs.Lists.{some_at}
 use Rattle.sound_run.specs.Sound.{Opened, log_of}
@@ -129,18 +129,6 @@ module _ (model : Model) (r : OwnRecord) (counts : List ℕ) (are : AreCounts mo
       index_at [] i y e = cc
       index_at (z ∷ zs) zero y e = let same : z ≡ y = cc in same
       index_at (z ∷ zs) (suc i) y e = index_at zs i y e
-
-  -- an object is there, or its log has no steps
-  pub object_or : (x : ℕ) → ((o : OwnSettings) × (slice_get r.head.objects x ≡ Some o)) ⊎ (log_of x r.run ≡ [])
-  object_or x = ⊎_elim
-      (λ lt. inl (some_at r.head.objects x lt))
-      (λ le. inr (none_there r.run.logs x (omega (arith, counted, le))))
-      (cases_lt x (length r.head.objects))
-    where
-      none_there : (logs : List (List OwnEvent)) (i : ℕ) → length logs ≤ i → unwrap_or (slice_get logs i) [] ≡ []
-      none_there [] i le = refl
-      none_there (l ∷ logs) zero le = absurd (omega arith)
-      none_there (l ∷ logs) (suc i) le = none_there logs i (omega arith)
 
   -- a step that is wrong by the counts, in the words of its log
   step_to : (x e i : ℕ) (o : OwnSettings) (d : OwnEvent) → slice_get r.head.objects x ≡ Some o → slice_get (log_of x r.run) e ≡ Some d → i < length d.steps.list.items → (slice_index counts x ≤ length (steps_of (take e (log_of x r.run))) + i) ⊎ IsBehindRefusing d.steps.list.items i → WrongStep x e i
