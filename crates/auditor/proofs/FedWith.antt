@@ -1,5 +1,5 @@
 -- A judge that was fed the parts of a record.
-use Rattle.std.proofs.Common.{◌≡◌, ◌≤◌, ◌+◌, ◌++◌, ℕ, Bool, true, false, if◌then◌else◌, List, [], ◌∷◌, length, take, Some, slice_get, sym, ap, ◌∙◌, arith}
+use Rattle.std.proofs.Common.{◌≡◌, ◌≤◌, ◌+◌, ◌++◌, ℕ, Bool, true, false, if◌then◌else◌, List, [], ◌∷◌, length, take, Some, slice_get, sym, ap, ◌∙◌, subst, arith}
 use Rattle.std.specs.List.{AllByRecursion}
 use Rattle.std.proofs.lemmas.List.{length-map, length-take-le, take_more, take_all}
 use Rattle.std.proofs.lemmas.Option.{slice_get_within, get_or_from_slice_get}
@@ -16,15 +16,17 @@ use Rattle.records.specs.Keeping.{Parts, InLogs, InTranscripts, IsAtHead, IsWhol
 use Rattle.records.specs.RecordRanges.{RecordFits}
 use Rattle.records.specs.Runs.{opened_of}
 use Rattle.records.specs.Settings.{ObjectSettings, ObjectFits}
-use Rattle.auditor.specs.Fed.{Fed, run_of}
+use Rattle.auditor.specs.Fed.{Fed, log_begun, run_of}
 use Rattle.auditor.specs.JudgedParts.{parts_of, begun_logs, IsFedWith}
-use Rattle.auditor.specs.Passes.{IsRunOf}
+use Rattle.auditor.specs.Passes.{IsRunOver}
 use Rattle.auditor.specs.SoFar.{IsBeforeLog, IsInLog, HasLogs, IsInTranscripts}
+use Rattle.auditor.specs.Terms.{Terms, terms_at, start, starts}
 use Rattle.auditor.specs.Transcripts.{judged_by, opened_by}
+use Rattle.auditor.proofs.JudgeTerms.{started, run_over}
 use Rattle.auditor.proofs.RecordRuns.{KernelTerms, object_opened, record_run}
 use Rattle.auditor.proofs.Verdicts.{all_at}
 
-module _ (cpus : ℕ) (objects : List ObjectSettings) (begun : Bool) (opened : List KernelTerms) (log : ℕ) (d : Fed KernelObject KParams KCall KReply) (fed : IsFedWith (parts_of cpus objects begun d) opened log d) where
+module _ (cpus : ℕ) (objects : List ObjectSettings) (begun : Bool) (opened : List KernelTerms) (log : ℕ) (d : Fed KernelObject KernelObject KParams KCall KReply) (fed : IsFedWith (parts_of cpus objects begun d) opened log d) where
   abbrev P : Parts
   P = parts_of cpus objects begun d
 
@@ -32,9 +34,16 @@ module _ (cpus : ℕ) (objects : List ObjectSettings) (begun : Bool) (opened : L
   pub opened_count : length opened ≡ length objects
   opened_count = sym (length-map opened judged_by) ∙ (ap length fed.same ∙ length-map objects object_opened)
 
+  -- the terms of all of them
+  abbrev all : List (Terms KParams KernelObject)
+  all = starts kernel (opened_of P.settings)
+
+  all_count : length all ≡ length objects
+  all_count = length-map (opened_of P.settings) (start kernel) ∙ length-map objects object_opened
+
   -- so many logs were begun
   fed_count : (n : ℕ) → begun_logs P ≡ n → n ≤ length objects → length d.opened ≡ n
-  fed_count n is few = ap length fed.begun ∙ (ap (λ k. length (take k opened)) is ∙ length-take-le n opened (omega (arith, few, opened_count)))
+  fed_count n is few = ap length fed.begun ∙ (ap (λ k. length (take k all)) is ∙ length-take-le n all (omega (arith, few, all_count)))
 
   -- what is opened at a place has parameters in range
   pub opened_able : (x : ℕ) (t : KernelTerms) → AllByRecursion (ObjectFits WRITTEN) objects → slice_get opened x ≡ Some t → kernel.in_range t.params ≡ true
@@ -59,33 +68,51 @@ module _ (cpus : ℕ) (objects : List ObjectSettings) (begun : Bool) (opened : L
       let more = at.more in
       fed_count (length d.logs + 1) (ap (λ b. if b then length d.logs + 1 else length d.logs) is) (omega (arith, more))
 
-  all_logs : (b : Bool) → length d.logs ≡ length objects → take (if b then length d.logs + 1 else length d.logs) opened ≡ opened
-  all_logs true all = take_all (length d.logs + 1) opened (omega (arith, all, opened_count))
-  all_logs false all = take_all (length d.logs) opened (omega (arith, all, opened_count))
+  all_logs : (b : Bool) → length d.logs ≡ length objects → take (if b then length d.logs + 1 else length d.logs) all ≡ all
+  all_logs true whole = take_all (length d.logs + 1) all (omega (arith, whole, all_count))
+  all_logs false whole = take_all (length d.logs) all (omega (arith, whole, all_count))
 
-  pub all_opened : length d.logs ≡ length objects → d.opened ≡ opened
-  all_opened all = fed.begun ∙ all_logs begun all
+  pub all_opened : length d.logs ≡ length objects → d.opened ≡ all
+  all_opened whole = fed.begun ∙ all_logs begun whole
 
   pub has_logs : length d.logs ≡ length objects → d.events ≡ [] → HasLogs d
-  has_logs all none = record {
-    logs = all ∙ sym fed.objects;
-    opened = ap length (all_opened all) ∙ (opened_count ∙ sym fed.objects);
+  has_logs whole none = record {
+    logs = whole ∙ sym fed.objects;
+    opened = ap length (all_opened whole) ∙ (all_count ∙ sym fed.objects);
     events = none;
   }
 
   pub in_transcripts : InTranscripts P → IsInTranscripts d
   in_transcripts at = let more = at.more in record { logs = has_logs at.log_count at.events; cpus = omega (arith, fed.cpus, more) }
 
+  -- the terms at a place
+  term_here : (t : KernelTerms) → slice_get opened (length d.logs) ≡ Some t → slice_get all (length d.logs) ≡ Some (start kernel (judged_by t))
+  term_here t here =
+      let at : slice_get (opened_of P.settings) (length d.logs) ≡ Some (judged_by t) = ap (λ l. slice_get l (length d.logs)) (sym fed.same) ∙ map_get judged_by opened (length d.logs) t here in
+      map_get (start kernel) (opened_of P.settings) (length d.logs) (judged_by t) at
+
   -- a log more is begun
-  pub begun_more : (t : KernelTerms) → InLogs P → begun ≡ false → slice_get opened (length d.logs) ≡ Some t → d.opened ++ t ∷ [] ≡ take (length d.logs + 1) opened
+  pub begun_more : (t : KernelTerms) → InLogs P → begun ≡ false → slice_get opened (length d.logs) ≡ Some t → d.opened ++ start kernel (judged_by t) ∷ [] ≡ take (length d.logs + 1) all
   begun_more t at is here =
-      let before : d.opened ≡ take (length d.logs) opened = fed.begun ∙ ap (λ b. take (if b then length d.logs + 1 else length d.logs) opened) is in
-      ap (λ l. l ++ t ∷ []) before ∙ sym (take_more opened (length d.logs) t (slice_get_within opened (length d.logs) t here) ∙ ap (λ v. take (length d.logs) opened ++ v ∷ []) (get_or_from_slice_get opened (length d.logs) t t here))
+      let term = start kernel (judged_by t) in
+      let there = term_here t here in
+      let before : d.opened ≡ take (length d.logs) all = fed.begun ∙ ap (λ b. take (if b then length d.logs + 1 else length d.logs) all) is in
+      ap (λ l. l ++ term ∷ []) before ∙ sym (take_more all (length d.logs) term (slice_get_within all (length d.logs) term there) ∙ ap (λ v. take (length d.logs) all ++ v ∷ []) (get_or_from_slice_get all (length d.logs) term term there))
+
+  pub log_more : (t : KernelTerms) (s : KernelObject) (n : ℕ) → s ≡ kernel.opening t.params → InLogs P → begun ≡ false → slice_get opened (length d.logs) ≡ Some t
+      → IsFedWith (parts_of cpus objects true (log_begun d (terms_at t s) n)) opened log (log_begun d (terms_at t s) n)
+  log_more t s n is at idle here = record {
+    cpus = fed.cpus;
+    objects = fed.objects;
+    same = fed.same;
+    begun = ap (λ u. d.opened ++ u ∷ []) (started kernel t s is) ∙ begun_more t at idle here;
+    whole = fed.whole;
+  }
 
   -- where all is whole, it was fed a run over the objects of the settings
-  pub whole_run : IsWholeWith P.settings P → RecordFits (kept_record P.settings P) → HasLogs d × (length d.transcripts ≡ d.cpus) × (d.entries ≡ []) × IsRunOf kernel d.opened (run_of d) × (opened_by d.opened ≡ opened_of P.settings)
+  pub whole_run : IsWholeWith P.settings P → RecordFits (kept_record P.settings P) → HasLogs d × (length d.transcripts ≡ d.cpus) × (d.entries ≡ []) × IsRunOver d.opened (run_of d) × (d.opened ≡ starts kernel (opened_of P.settings))
   whole_run whole fits =
       let run = fits.1 in
-      let all = run.log_count in
-      let same : opened_by d.opened ≡ opened_of P.settings = ap opened_by (all_opened all) ∙ fed.same in
-      (has_logs all whole.events, run.transcript_count ∙ sym fed.cpus, whole.entries, record_run (kept_record P.settings P) d.opened fits same, same)
+      let same = all_opened run.log_count in
+      let over = run_over kernel opened (run_of d) (record_run (kept_record P.settings P) opened fits fed.same) in
+      (has_logs run.log_count whole.events, run.transcript_count ∙ sym fed.cpus, whole.entries, subst (λ (ts : List (Terms KParams KernelObject)). IsRunOver ts (run_of d)) (ap (starts kernel) fed.same ∙ sym same) over, same)

@@ -31,3 +31,5 @@ pub mod CountedPages
 pub mod FaultNumbers
 pub mod Unrefused
 pub mod TextFaults
+pub mod JudgeTerms
+pub mod ObjectModels

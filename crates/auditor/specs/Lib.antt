@@ -1,6 +1,9 @@
 pub mod Faults
 pub mod NextEvents
 pub mod Claims
+pub mod Terms
+pub mod StepModels
+pub mod ByModels
 pub mod Transcripts
 pub mod Passes
 pub mod NoFaults

@@ -1,20 +1,18 @@
 //! A judge that is fed a run's events and entries one after the other.
 
 ghost use Rattle.event_log.specs.declared.event.Step.{Step};
-ghost use Rattle.std.specs.Prelude.{◌≡◌, ◌↔◌, ◌<◌, true, false, [], List, Some, length, IsTrue, IfOk, IfErr, OnOk, OnErr};
-ghost use Rattle.sound_run.specs.Sound.{Sound};
-ghost use Rattle.auditor.specs.Faults.{HasSteps, IsFirstFault};
+ghost use Rattle.std.specs.Prelude.{◌≡◌, ◌↔◌, ◌<◌, false, [], List, Some, length, IsTrue, IfOk, IfErr, OnOk, OnErr};
+ghost use Rattle.auditor.specs.ByModels.{SoundBy, IsFirstFaultBy};
+ghost use Rattle.auditor.specs.Faults.{HasSteps};
 ghost use Rattle.auditor.specs.Fed.{Fed, nothing, log_begun, event_fed, log_ended, transcript_begun, entry_fed, done_by, done_entry, transcript_ended, run_of};
-ghost use Rattle.auditor.specs.Passes.{IsRunOf};
+ghost use Rattle.auditor.specs.Passes.{IsRunOver};
 ghost use Rattle.auditor.specs.SoFar.{IsBeforeLog, IsInLog, HasLogs, IsInTranscripts};
-ghost use Rattle.auditor.specs.Transcripts.{opened_by};
+ghost use Rattle.auditor.specs.StepModels.{model_by};
+ghost use Rattle.auditor.specs.Terms.{terms_at};
 
 use crate::notes::Notes;
-use crate::told::Told;
-use crate::{
-    Fault, JudgedRun, OpenedObject, ReferenceObject, StepRows, Verdict, first_faults_agree,
-    sound_has_no_fault,
-};
+use crate::told::{Told, of_one};
+use crate::{Fault, JudgedRun, OpenedObject, StepJudge, StepRows, Verdict};
 use event_log::{Entry, Event, OutOfMemory, SeqObject};
 use std::alloc::Global;
 use std::marker::Model;
@@ -22,25 +20,26 @@ use std::marker::Model;
 /// Judges a run while it is read: all logs, then all transcripts. Of an event it keeps its steps, packed, and of an entry
 /// nothing. What it was fed is known to contracts alone.
 #[derive(Drop)]
-pub struct Judged<O: SeqObject, J: ReferenceObject<O>, R: StepRows<O>> {
+pub struct Judged<O: SeqObject, J: StepJudge<O>, R: StepRows<O>> {
     alloc: Global,
-    told: Told<O>,
+    told: Told<O, J>,
     notes: Notes<O, J, R>,
 }
 
-impl<O: SeqObject, J: ReferenceObject<O>, R: StepRows<O>> Model for Judged<O, J, R> {
+impl<O: SeqObject, J: StepJudge<O>, R: StepRows<O>> Model for Judged<O, J, R> {
     ghost use Rattle.std.specs.Prelude.{vec_capacity};
     ghost use Rattle.auditor.specs.Fed.{Fed};
     ghost use Rattle.auditor.specs.Noted.{IsNoted};
+    ghost use Rattle.auditor.specs.StepModels.{model_by};
 
-    ghost Value = { Fed O O.Params O.Call O.Reply };
+    ghost Value = { Fed J.State O O.Params O.Call O.Reply };
 
     ghost view = { λ j. j.told };
 
-    ghost invariant = { λ j. IsNoted O.SeqObject J.shows j.told j.notes.fault j.notes.replay j.notes.logs.items (vec_capacity j.notes.logs) };
+    ghost invariant = { λ j. IsNoted (model_by O.SeqObject J.right J.behind) J.shows j.told j.notes.fault j.notes.replay j.notes.logs.items (vec_capacity j.notes.logs) };
 }
 
-impl<O: SeqObject, J: ReferenceObject<O>, R: StepRows<O>> Judged<O, J, R> {
+impl<O: SeqObject, J: StepJudge<O>, R: StepRows<O>> Judged<O, J, R> {
     /// Before anything is fed of a run of no CPUs and no objects. It takes no memory.
     pub fn empty(alloc: Global) -> Judged<O, J, R>
         ensures { result ≡ nothing 0 0 }
@@ -63,15 +62,21 @@ impl<O: SeqObject, J: ReferenceObject<O>, R: StepRows<O>> Judged<O, J, R> {
         })
     }
 
-    /// The next object's log begins, which will have so many events. An `Err` changes nothing.
-    pub fn begin_log(&mut self, opened: &OpenedObject<O>, count: usize) -> Result<(), OutOfMemory>
-        requires able { O.in_range opened.now.params ≡ true }
-        requires before { IsBeforeLog self.old }
-        ensures ok { OnOk result (self.new ≡ log_begun self.old opened.now count) }
+    /// The next object's log begins, which will have so many events, and whose steps that judge judges. An `Err` changes nothing.
+    pub fn begin_log(
+        &mut self,
+        opened: &OpenedObject<O>,
+        judge: J,
+        count: usize,
+    ) -> Result<(), OutOfMemory>
+        requires { IsBeforeLog self.old }
+        ensures ok { OnOk result (self.new ≡ log_begun self.old (terms_at opened.now (J.shows judge)) count) }
         ensures err { OnErr result (self.new ≡ self.old) }
     {
-        self.notes.begin_log(self.alloc, &self.told, opened, count)?;
-        self.told.tell_log(opened, count);
+        let first = of_one(&judge);
+        self.notes
+            .begin_log(self.alloc, &self.told, opened, judge, count)?;
+        self.told.tell_log(opened, &first, count);
         Ok(())
     }
 
@@ -155,12 +160,10 @@ impl<O: SeqObject, J: ReferenceObject<O>, R: StepRows<O>> Judged<O, J, R> {
         requires logs { HasLogs self.now }
         requires transcripts { length self.now.transcripts ≡ self.now.cpus }
         requires entries { self.now.entries ≡ [] }
-        requires run { IsRunOf O.SeqObject self.now.opened (run_of self.now) }
-        ensures sound { (result ≡ Verdict.Sound) ↔ Sound O.SeqObject (opened_by self.now.opened) (run_of self.now) }
-        ensures fault { (f : Fault) → (result ≡ Verdict.Unsound f) ↔ IsFirstFault O.SeqObject (opened_by self.now.opened) (run_of self.now) f }
+        requires run { IsRunOver self.now.opened (run_of self.now) }
+        ensures sound { (result ≡ Verdict.Sound) ↔ SoundBy (model_by O.SeqObject J.right J.behind) self.now.opened (run_of self.now) }
+        ensures fault { (f : Fault) → (result ≡ Verdict.Unsound f) ↔ IsFirstFaultBy (model_by O.SeqObject J.right J.behind) self.now.opened (run_of self.now) f }
     {
-        sound_has_no_fault::<O>();
-        first_faults_agree::<O>();
         self.notes.verdict(&self.told)
     }
 
@@ -169,10 +172,10 @@ impl<O: SeqObject, J: ReferenceObject<O>, R: StepRows<O>> Judged<O, J, R> {
         requires logs { HasLogs self }
         requires transcripts { length self.transcripts ≡ self.cpus }
         requires entries { self.entries ≡ [] }
-        requires run { IsRunOf O.SeqObject self.opened (run_of self) }
+        requires run { IsRunOver self.opened (run_of self) }
         ensures run { IfOk result (λ r. r ≡ run_of self) }
-        ensures sound { IfOk result (λ r. Sound O.SeqObject (opened_by self.opened) (run_of self)) }
-        ensures fault { IfErr result (IsFirstFault O.SeqObject (opened_by self.opened) (run_of self)) }
+        ensures sound { IfOk result (λ r. SoundBy (model_by O.SeqObject J.right J.behind) self.opened (run_of self)) }
+        ensures fault { IfErr result (IsFirstFaultBy (model_by O.SeqObject J.right J.behind) self.opened (run_of self)) }
     {
         let Judged {
             alloc: _,

@@ -20,6 +20,7 @@ mod record_audit;
 mod record_judge;
 mod references;
 mod replay;
+mod step_judge;
 mod step_rows;
 mod steps;
 mod texts;
@@ -41,6 +42,7 @@ pub use references::{
     ReferenceConsole, ReferenceKernelObject, ReferenceObject, ReferencePool, ReferenceQueue,
     ReferenceSched,
 };
+pub use step_judge::{Counted, Replayed, StepJudge};
 pub use step_rows::StepRows;
 pub use texts::audit_text;
 pub use verdict_text::{fault_text, verdict_line};

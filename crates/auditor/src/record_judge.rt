@@ -10,7 +10,7 @@ ghost use Rattle.auditor.specs.Transcripts.{opened_by};
 ghost use Rattle.auditor.specs.VerdictText.{CanBeTold, IsNamed};
 
 use crate::judged::Judged;
-use crate::{Fault, JudgedRun, OpenedObject, ReferenceObject, Verdict};
+use crate::{Fault, JudgedRun, OpenedObject, ReferenceObject, Replayed, Verdict};
 use event_log::{Entry, Event, OutOfMemory, Past, SeqObject};
 use kernel_object::KernelObject;
 use records::{Keeps, ObjectSettings, StepTexts};
@@ -44,7 +44,7 @@ pub struct RecordJudge<J: ReferenceObject<KernelObject>> {
     opened: Vec<OpenedObject<KernelObject>>,
     begun: bool,
     log: usize,
-    judged: Judged<KernelObject, J, StepTexts>,
+    judged: Judged<KernelObject, Replayed<J>, StepTexts>,
 }
 
 impl<J: ReferenceObject<KernelObject>> Model for RecordJudge<J> {
@@ -114,7 +114,9 @@ impl<J: ReferenceObject<KernelObject>> Keeps for RecordJudge<J> {
 
     fn begin_log(&mut self, count: u64) -> Result<(), OutOfMemory> {
         let opened = &self.opened[self.log];
-        self.judged.begin_log(opened, count as usize)?;
+        let object = J::open(self.alloc, &opened.params)?;
+        self.judged
+            .begin_log(opened, Replayed { object }, count as usize)?;
         self.begun = true;
         Ok(())
     }

@@ -1,16 +1,17 @@
 //! What a judge was told, as contracts see it.
 
 ghost use Rattle.std.specs.Prelude.{◌≡◌, ◌<◌, ◌+◌, ◌∷◌, [], ◌++◌, List, length};
-ghost use Rattle.auditor.specs.Fed.{nothing, log_begun, event_fed, log_ended, transcript_begun, entry_fed, transcript_ended};
+ghost use Rattle.auditor.specs.Fed.{nothing, log_begun, event_fed, log_ended, transcript_begun, entry_fed, transcript_ended, run_of};
+ghost use Rattle.auditor.specs.Terms.{terms_at};
 ghost use Rattle.event_log.specs.declared.entry.Entry.{Entry as Shown};
 
-use crate::OpenedObject;
+use crate::{OpenedObject, StepJudge};
 use event_log::{Entry, Event, Past, SeqObject, Series};
 use std::marker::Model;
 
 /// Lists that contracts alone know, and how far the last of them have come.
 #[derive(Drop)]
-pub struct Told<O: SeqObject> {
+pub struct Told<O: SeqObject, J: StepJudge<O>> {
     cpus: usize,
     objects: usize,
     count: usize,
@@ -18,21 +19,23 @@ pub struct Told<O: SeqObject> {
     cpu: usize,
     entry: usize,
     opened: Past<OpenedObject<O>>,
+    judges: Past<J>,
     logs: Past<Series<Event<O>>>,
     events: Past<Event<O>>,
     transcripts: Past<Series<Entry<O>>>,
     entries: Past<Entry<O>>,
 }
 
-impl<O: SeqObject> Model for Told<O> {
+impl<O: SeqObject, J: StepJudge<O>> Model for Told<O, J> {
     ghost use Rattle.std.specs.Prelude.{◌≡◌, length};
     ghost use Rattle.auditor.specs.Fed.{Fed};
+    ghost use Rattle.auditor.specs.Terms.{terms_with};
 
-    ghost Value = { Fed O O.Params O.Call O.Reply };
+    ghost Value = { Fed J.State O O.Params O.Call O.Reply };
 
-    ghost view = { λ t. record { cpus = t.cpus; objects = t.objects; count = t.count; opened = t.opened.items; logs = t.logs.items; events = t.events.items; transcripts = t.transcripts.items; entries = t.entries.items } };
+    ghost view = { λ t. record { cpus = t.cpus; objects = t.objects; count = t.count; opened = terms_with J.shows t.opened.items t.judges.items; logs = t.logs.items; events = t.events.items; transcripts = t.transcripts.items; entries = t.entries.items } };
 
-    ghost invariant = { λ t. (t.event ≡ length t.events.items) × (t.cpu ≡ length t.transcripts.items) × (t.entry ≡ length t.entries.items) };
+    ghost invariant = { λ t. (t.event ≡ length t.events.items) × (t.cpu ≡ length t.transcripts.items) × (t.entry ≡ length t.entries.items) × (length t.judges.items ≡ length t.opened.items) };
 }
 
 /// One value more.
@@ -40,6 +43,20 @@ fn with_one<T>(past: &Past<T>, one: &T) -> Past<T>
     ensures { result.items ≡ past.now.items ++ one.now ∷ [] }
 {
     Past::told(past, one)
+}
+
+/// One value alone.
+pub fn of_one<T>(one: &T) -> Past<T>
+    ensures { result.items ≡ one.now ∷ [] }
+{
+    Past::told(&Past::new(), one)
+}
+
+/// One behind the other.
+fn joined<T>(past: &Past<T>, more: &Past<T>) -> Past<T>
+    ensures { result.items ≡ past.now.items ++ more.now.items }
+{
+    Past::told(past, more)
 }
 
 /// One list more.
@@ -57,8 +74,8 @@ fn named<T>(past: &Past<T>) -> Past<T>
     Past::told(past, past)
 }
 
-impl<O: SeqObject> Told<O> {
-    pub fn new(cpus: usize, objects: usize) -> Told<O>
+impl<O: SeqObject, J: StepJudge<O>> Told<O, J> {
+    pub fn new(cpus: usize, objects: usize) -> Told<O, J>
         ensures { result ≡ nothing cpus objects }
     {
         Told {
@@ -69,6 +86,7 @@ impl<O: SeqObject> Told<O> {
             cpu: 0,
             entry: 0,
             opened: Past::new(),
+            judges: Past::new(),
             logs: Past::new(),
             events: Past::new(),
             transcripts: Past::new(),
@@ -114,10 +132,13 @@ impl<O: SeqObject> Told<O> {
         self.entry
     }
 
-    pub fn tell_log(&mut self, opened: &OpenedObject<O>, count: usize)
-        ensures { self.new ≡ log_begun self.old opened.now count }
+    /// A log of that object, whose steps that one judge judges.
+    pub fn tell_log(&mut self, opened: &OpenedObject<O>, judge: &Past<J>, count: usize)
+        requires { length judge.now.items ≡ 1 }
+        ensures { (j : J) → judge.now.items ≡ j ∷ [] → self.new ≡ log_begun self.old (terms_at opened.now (J.shows j)) count }
     {
         self.opened = with_one(&self.opened, opened);
+        self.judges = joined(&self.judges, judge);
         self.count = count;
     }
 
@@ -176,4 +197,31 @@ impl<O: SeqObject> Told<O> {
         self.entry = 0;
         self.count = 0;
     }
+
+    /// The run, once all is whole.
+    pub fn into_run(self) -> ToldRun<O>
+        ensures { result ≡ run_of self }
+    {
+        let Told {
+            logs,
+            transcripts,
+            ..
+        } = self;
+        ToldRun { logs, transcripts }
+    }
+}
+
+/// The lists of a whole run, which contracts alone know.
+#[derive(Drop)]
+pub struct ToldRun<O: SeqObject> {
+    logs: Past<Series<Event<O>>>,
+    transcripts: Past<Series<Entry<O>>>,
+}
+
+impl<O: SeqObject> Model for ToldRun<O> {
+    ghost use Rattle.event_log.specs.declared.entry.Run.{Run};
+
+    ghost Value = { Run O O.Params O.Call O.Reply };
+
+    ghost view = { λ t. record { logs = t.logs.items; transcripts = t.transcripts.items } };
 }

@@ -18,7 +18,7 @@ use crate::shaped_run::ShapedRun;
 use auditor::{Fault, RecordJudge, ReferenceObject};
 use event_log::{Done, Entry, Event, OutOfMemory, SeqObject, Series};
 use kernel_object::KernelObject;
-use records::{Keeps, MOST_ENTRIES, ObjectSettings};
+use records::{Keeps, MOST_ENTRIES, ObjectSettings, StepTexts};
 use sound_run::Place;
 use std::alloc::Global;
 use std::marker::Model;
@@ -60,7 +60,7 @@ impl<J: ReferenceObject<KernelObject>> MergeJudge<J> {
     }
 
     /// One order over all entries of the record that was read, and its run. What `merge` says of a record is said of this one.
-    pub fn into_merged(self) -> Result<(ShapedRun, Merged), MergeFault>
+    pub fn into_merged(self) -> Result<(ShapedRun<KernelObject, StepTexts>, Merged), MergeFault>
         requires whole { IsWholeWith self.settings self }
         requires fit { RecordFits (kept_record self.settings self) }
         ensures unsound { (f : Fault) → result ≡ Err (MergeFault.Unsound f) →

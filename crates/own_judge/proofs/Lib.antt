@@ -1,9 +1,7 @@
-pub mod ToldLogs
-pub mod ToldEntries
-pub mod ToldRuns
+pub mod CountedLogs
+pub mod OwnTerms
 pub mod FirstFaults
 pub mod SoundRuns
-pub mod ToldNext
 pub mod CodedSteps
 pub mod FedOwn
 pub mod WholeOwn

@@ -1,40 +1,31 @@
 -- What is said of a record that was handed over whole.
-use Rattle.std.proofs.Common.{◌≡◌, inl, inr, ⊎_elim, ℕ, zero, suc, ◌-◌, ◌<◌, ◌≤◌, List, [], ◌∷◌, length, map, Option, Some, None, slice_get, refl, sym, ap, ◌∙◌, subst, arith}
+use Rattle.std.proofs.Common.{◌≡◌, inl, inr, ⊎_elim, ℕ, ◌<◌, ◌≤◌, List, [], length, Option, Some, None, slice_get, refl, sym, ap, ◌∙◌, subst, arith}
 use Rattle.std.proofs.lemmas.Bool.{cases_lt}
-use Rattle.std.specs.Prelude.{◌↔◌, slice_index, Result, Ok, Err}
+use Rattle.std.specs.Prelude.{◌↔◌, Result, Ok, Err}
 use Rattle.std.specs.List.{AllByRecursion}
-use Rattle.std.proofs.lemmas.List.{length-map}
 use Rattle.event_log.proofs.Each.{all_map, each_list_at}
-use Rattle.sound_run.specs.Sound.{Opened, Sound, transcript_of, log_of}
-use Rattle.sound_run.proofs.Slices.{get_map}
+use Rattle.sound_run.specs.Sound.{transcript_of, log_of}
 use Rattle.auditor.specs.declared.fault.Fault.{Fault}
 use Rattle.auditor.specs.declared.fault.Verdict.{Verdict}
 use Rattle.auditor.specs.declared.fault.Verdict.TheVariants as verdict
-use Rattle.auditor.specs.Faults.{HasSteps, IsFirstFault}
+use Rattle.auditor.specs.ByModels.{SoundBy as CountedSound, IsFirstFaultBy as CountedFirst}
+use Rattle.auditor.specs.Faults.{HasSteps}
 use Rattle.auditor.specs.Fed.{run_of}
-use Rattle.auditor.specs.Passes.{IsRunOf}
+use Rattle.auditor.specs.Passes.{IsRunOver}
 use Rattle.auditor.specs.SoFar.{HasLogs}
-use Rattle.auditor.specs.Transcripts.{opened_by}
 use Rattle.auditor.proofs.Verdicts.{all_at}
-use Rattle.own_object.specs.Keeping.{OwnParts, kept_own, IsWholeOwn}
+use Rattle.own_object.specs.Keeping.{kept_own, IsWholeOwn}
 use Rattle.own_object.specs.Own.{OwnEvent}
 use Rattle.own_object.specs.Ranges.{OwnRecord, OwnRecordFits, EventFits, EntryFits, LogFits, TranscriptFits}
-use Rattle.own_object.specs.Settings.{OwnSettings}
+use Rattle.own_object.specs.Settings.{OwnHead}
 use Rattle.own_judge.specs.declared.judge.Mistold.{Mistold}
-use Rattle.own_judge.specs.Answers.{answered, ToldEvent, ToldEntry, ToldRun}
-use Rattle.own_judge.specs.Judging.{ToldFed, ToldTerms, terms_of, HasCount, IsFirstWithout, IsFedOwn}
-use Rattle.own_judge.specs.Models.{opened, IsVerdictByCounts, IsTold, IsMistold}
-use Rattle.own_judge.specs.Translated.{told_event, told_log, told_entry, told_run}
-use Rattle.own_judge.proofs.ToldRuns.{logs_count, log_told, transcript_told}
+use Rattle.own_judge.specs.Judging.{OwnFed, OwnTerms, own_terms, own_parts, HasCount, IsFirstWithout, IsFedOwn}
+use Rattle.own_judge.specs.Models.{IsVerdictByCounts, IsTold, IsMistold}
+use Rattle.own_judge.proofs.CountedLogs.{by_count}
 use Rattle.own_judge.proofs.FirstFaults.{first_to, first_from}
 use Rattle.own_judge.proofs.SoundRuns.{sound_to, sound_from}
-use Rattle.own_judge.proofs.FedOwn.{all_opened, has_logs, transcripts_count, told_sizes}
-
--- an event as told
-event_of : (n : ℕ) (log : List OwnEvent) (k : ℕ) (t : ToldEvent) → slice_get (told_log n log) k ≡ Some t → (m : ℕ) × (e : OwnEvent) × (slice_get log k ≡ Some e) × (t ≡ told_event m e)
-event_of n [] k t at = cc
-event_of n (x ∷ log) zero t at = let same : t ≡ told_event n x = cc in (n, x, refl, same)
-event_of n (x ∷ log) (suc k) t at = event_of (n - length x.steps.list.items) log k t at
+use Rattle.own_judge.proofs.FedOwn.{all_opened, has_logs}
+use Rattle.own_judge.proofs.OwnTerms.{terms_count}
 
 -- the sizes of the events of a record
 pub sizes_of : (r : OwnRecord) → OwnRecordFits r → (x : ℕ) (log : List OwnEvent) → slice_get r.run.logs x ≡ Some log → AllByRecursion HasSteps log
@@ -42,77 +33,57 @@ sizes_of r fit x log at =
     let fits = all_at (LogFits r.head) r.run.logs fit.1.logs x log at in
     all_map (λ e (f : EventFits r.head e). record { some = f.steps.some; few = f.steps.few }) log fits.1
 
-module _ (r : OwnRecord) (counts : List ℕ) (fit : OwnRecordFits r) (terms : List ToldTerms) (is : terms ≡ map terms_of r.head.objects) where
-  -- a run over the objects of the head
-  pub run_of_told : IsRunOf answered terms (told_run counts r.run)
-  run_of_told =
-      let n = ap length is in
-      let m = length-map r.head.objects terms_of in
-      let k = logs_count counts r.run.logs in
-      let logs = fit.1.log_count in
-      let cpus = fit.1.transcript_count in
-      let some = length-map r.run.transcripts (λ entries. map told_entry entries) in
-      record {
-        counted = omega (arith, n, m, k, logs);
-        able = λ x t at. refl;
-        events = λ x k t at.
-            let e = event_of (slice_index counts x) (log_of x r.run) k t (ap (λ l. slice_get l k) (sym (log_told (opened r.head) counts r.run x)) ∙ at) in
-            let f = all_at (EventFits r.head) (log_of x r.run) (each_list_at (LogFits r.head) r.run.logs x fit.1.logs (omega arith, tt)).1 k e.1 e.2 in
-            let c = f.cpu in
-            let same = ap (λ (v : ToldEvent). v.cpu) e.3 in
-            (omega (arith, c, cpus, some, same), subst HasSteps (sym e.3) (told_sizes e.0 e.1 f.steps.some f.steps.few));
-        entries = λ cpu n t at.
-            let e = get_map told_entry (transcript_of cpu r.run) n t (ap (λ l. slice_get l n) (sym (transcript_told (opened r.head) counts r.run cpu)) ∙ at) in
-            let f = all_at (EntryFits r.head) (transcript_of cpu r.run) (each_list_at (TranscriptFits r.head) r.run.transcripts cpu fit.1.transcripts (omega arith, tt)).1 n e.0 e.1 in
-            let c = f.object in
-            let same = ap (λ (v : ToldEntry). v.object) e.2 in
-            omega (arith, c, logs, k, same);
-      }
+-- a run over the objects of the head
+pub own_run : (r : OwnRecord) (counts : List ℕ) → OwnRecordFits r → IsRunOver (own_terms counts r.head.objects) r.run
+own_run r counts fit =
+    let logs = fit.1.log_count in
+    let cpus = fit.1.transcript_count in
+    record {
+      counted = logs ∙ sym (terms_count counts r.head.objects);
+      events = λ x k e at.
+          let f = all_at (EventFits r.head) (log_of x r.run) (each_list_at (LogFits r.head) r.run.logs x fit.1.logs (omega arith, tt)).1 k e at in
+          let c = f.cpu in
+          (omega (arith, c, cpus), record { some = f.steps.some; few = f.steps.few });
+      entries = λ cpu n e at.
+          let f = all_at (EntryFits r.head) (transcript_of cpu r.run) (each_list_at (TranscriptFits r.head) r.run.transcripts cpu fit.1.transcripts (omega arith, tt)).1 n e at in
+          let c = f.object in
+          omega (arith, c, logs);
+    }
 
-pub same_opened : (objects : List OwnSettings) → opened_by (map terms_of objects) ≡ map (λ (o : OwnSettings). record { params = tt; limit = o.events }) objects
-same_opened [] = refl
-same_opened (o ∷ objects) = ap (λ l. record { params = tt; limit = o.events } ∷ l) (same_opened objects)
-
-module _ (p : OwnParts) (counts most : List ℕ) (log rest : ℕ) (none : Option ℕ) (d : ToldFed) (fed : IsFedOwn p counts most log rest none d) (whole : IsWholeOwn p.head p) (fit : OwnRecordFits (kept_own p.head p)) where
+module _ (head : OwnHead) (begun : Bool) (counts most : List ℕ) (log rest : ℕ) (none : Option ℕ) (d : OwnFed) (fed : IsFedOwn (own_parts head begun d) counts most log rest none d) (whole : IsWholeOwn head (own_parts head begun d)) (fit : OwnRecordFits (kept_own head (own_parts head begun d))) where
   abbrev R : OwnRecord
-  R = kept_own p.head p
-
-  pub run_told : run_of d ≡ told_run counts R.run
-  run_told = λ j. record { logs = fed.logs j; transcripts = fed.transcripts j }
+  R = kept_own head (own_parts head begun d)
 
   pub whole_logs : HasLogs d
-  whole_logs = has_logs p counts most log rest none d fed fit.1.log_count whole.events
+  whole_logs = has_logs head begun counts most log rest none d fed fit.1.log_count whole.events
 
   pub whole_cpus : length d.transcripts ≡ d.cpus
-  whole_cpus = transcripts_count p counts most log rest none d fed ∙ (fit.1.transcript_count ∙ sym fed.cpus)
+  whole_cpus = fit.1.transcript_count ∙ sym fed.cpus
 
   pub whole_entries : d.entries ≡ []
-  whole_entries = fed.entries ∙ ap (map told_entry) whole.entries
+  whole_entries = whole.entries
 
-  terms : d.opened ≡ map terms_of p.head.objects
-  terms = all_opened p counts most log rest none d fed fit.1.log_count
+  pub whole_terms : d.opened ≡ own_terms counts head.objects
+  whole_terms = all_opened head begun counts most log rest none d fed fit.1.log_count
 
-  pub whole_run : IsRunOf answered d.opened (run_of d)
-  whole_run = subst (λ (run : ToldRun). IsRunOf answered d.opened run) (sym run_told) (run_of_told R counts fit d.opened terms)
-
-  pub whole_opened : opened_by d.opened ≡ opened p.head
-  whole_opened = ap opened_by terms ∙ same_opened p.head.objects
+  pub whole_run : IsRunOver d.opened (run_of d)
+  whole_run = subst (λ (ts : List OwnTerms). IsRunOver ts (run_of d)) (sym whole_terms) (own_run R counts fit)
 
   -- the verdict by every model that has these counts
-  pub verdict_by : (v : Verdict) → (v ≡ verdict.Sound) ↔ Sound answered (opened_by d.opened) (run_of d) → ((f : Fault) → (v ≡ verdict.Unsound f) ↔ IsFirstFault answered (opened_by d.opened) (run_of d) f) → IsVerdictByCounts R counts v
+  pub verdict_by : (v : Verdict) → (v ≡ verdict.Sound) ↔ CountedSound by_count d.opened (run_of d) → ((f : Fault) → (v ≡ verdict.Unsound f) ↔ CountedFirst by_count d.opened (run_of d) f) → IsVerdictByCounts R counts v
   verdict_by v sound fault = λ model are.
-      let at : (Q : List (Opened (Unit {0})) → ToldRun → Type 0) → Q (opened_by d.opened) (run_of d) → Q (opened p.head) (told_run counts R.run) = λ Q q. subst (λ (z : List (Opened (Unit {0})) × ToldRun). Q z.0 z.1) (λ j. (whole_opened j, run_told j)) q in
-      let back : (Q : List (Opened (Unit {0})) → ToldRun → Type 0) → Q (opened p.head) (told_run counts R.run) → Q (opened_by d.opened) (run_of d) = λ Q q. subst (λ (z : List (Opened (Unit {0})) × ToldRun). Q z.0 z.1) (λ j. (sym whole_opened j, sym run_told j)) q in
+      let there = subst (λ (ts : List OwnTerms). (v ≡ verdict.Sound) ↔ CountedSound by_count ts (run_of d)) whole_terms sound in
+      let first : (f : Fault) → (v ≡ verdict.Unsound f) ↔ CountedFirst by_count (own_terms counts head.objects) (run_of d) f = λ f. subst (λ (ts : List OwnTerms). (v ≡ verdict.Unsound f) ↔ CountedFirst by_count ts (run_of d) f) whole_terms (fault f) in
       record {
-        sound = ((λ e. sound_from model R counts are fit.1.log_count (sizes_of R fit) (at (λ os run. Sound answered os run) (sound.0 e))), (λ s. sound.1 (back (λ os run. Sound answered os run) (sound_to model R counts are fit.1.log_count (sizes_of R fit) s))));
-        fault = λ f. ((λ e. first_from model R counts are fit.1.log_count f (at (λ os run. IsFirstFault answered os run f) ((fault f).0 e))), (λ s. (fault f).1 (back (λ os run. IsFirstFault answered os run f) (first_to model R counts are fit.1.log_count f s))));
+        sound = ((λ e. sound_from model R counts are fit.1.log_count (sizes_of R fit) (there.0 e)), (λ s. there.1 (sound_to model R counts are fit.1.log_count (sizes_of R fit) s)));
+        fault = λ f. ((λ e. first_from model R counts are fit.1.log_count f ((first f).0 e)), (λ s. (first f).1 (first_to model R counts are fit.1.log_count f s)));
       }
 
   -- a place with a count
-  told_of : (x : ℕ) → x < length p.head.objects → HasCount counts p.logs x → IsTold R counts x
+  told_of : (x : ℕ) → x < length head.objects → HasCount counts d.logs x → IsTold R counts x
   told_of x lt h = record { object = lt; count = h.count; there = h.there; within = h.within }
 
-  count_of : (x : ℕ) → IsTold R counts x → HasCount counts p.logs x
+  count_of : (x : ℕ) → IsTold R counts x → HasCount counts d.logs x
   count_of x t = record { count = t.count; there = t.there; within = t.within }
 
   -- one place alone is mistold
@@ -121,7 +92,7 @@ module _ (p : OwnParts) (counts most : List ℕ) (log rest : ℕ) (none : Option
 
   pub mistold_log : (x : ℕ) → none ≡ Some x → IsMistold R counts x
   mistold_log x e =
-      let first = subst (IsFirstWithout counts p.logs) e fed.without in
+      let first = subst (IsFirstWithout counts d.logs) e fed.without in
       let all = fit.1.log_count in
       let lt = first.0 in
       record {
@@ -130,9 +101,9 @@ module _ (p : OwnParts) (counts most : List ℕ) (log rest : ℕ) (none : Option
         first = λ y less. told_of y (omega (arith, all, lt, less)) (first.2 y less);
       }
 
-  pub mistold_more : none ≡ None → length p.head.objects < length counts → IsMistold R counts (length p.head.objects)
+  pub mistold_more : none ≡ None → length head.objects < length counts → IsMistold R counts (length head.objects)
   mistold_more e more =
-      let first = subst (IsFirstWithout counts p.logs) e fed.without in
+      let first = subst (IsFirstWithout counts d.logs) e fed.without in
       let all = fit.1.log_count in
       record {
         some = inr more;
@@ -140,11 +111,11 @@ module _ (p : OwnParts) (counts most : List ℕ) (log rest : ℕ) (none : Option
         first = λ y less. told_of y less (first y (omega (arith, all, less)));
       }
 
-  pub mistold_none : none ≡ None → length counts ≤ length p.head.objects → (x : ℕ) → IsMistold R counts x → ⊥
+  pub mistold_none : none ≡ None → length counts ≤ length head.objects → (x : ℕ) → IsMistold R counts x → ⊥
   mistold_none e few x h =
-      let first = subst (IsFirstWithout counts p.logs) e fed.without in
+      let first = subst (IsFirstWithout counts d.logs) e fed.without in
       let all = fit.1.log_count in
-      let lt : x < length p.head.objects = ⊎_elim (λ less. less) (λ less. omega (arith, few, less)) h.some in
+      let lt : x < length head.objects = ⊎_elim (λ less. less) (λ less. omega (arith, few, less)) h.some in
       h.wrong (told_of x lt (first x (omega (arith, all, lt))))
 
   -- the place that is answered is the mistold one

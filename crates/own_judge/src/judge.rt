@@ -1,25 +1,18 @@
 //! A record of objects of their writer's that is judged while it is read.
 
-ghost use Rattle.std.specs.Prelude.{◌≡◌, ◌↔◌, ◌∷◌, [], ℕ, Err, length, map, slice_index, IfOk, IfErr};
-ghost use Rattle.auditor.specs.Faults.{IsFirstFault};
-ghost use Rattle.log_merge.specs.Shapes.{shape_of};
+ghost use Rattle.std.specs.Prelude.{◌≡◌, ◌↔◌, ◌∷◌, [], ℕ, Err, map, slice_index, IfOk, IfErr};
+ghost use Rattle.auditor.specs.ByModels.{SoundBy, IsFirstFaultBy};
+ghost use Rattle.auditor.specs.StepModels.{counted_model};
 ghost use Rattle.own_object.specs.Keeping.{no_own_parts, kept_own, IsWholeOwn};
+ghost use Rattle.own_object.specs.Own.{own};
 ghost use Rattle.own_object.specs.Ranges.{OwnRecordFits};
 ghost use Rattle.own_object.specs.Settings.{OwnSettings as Shown};
-ghost use Rattle.own_judge.specs.Answers.{answered};
-ghost use Rattle.own_judge.specs.Judging.{IsNextWithout};
-ghost use Rattle.own_judge.specs.Models.{IsMistold, IsVerdictByCounts, opened};
-ghost use Rattle.own_judge.specs.Translated.{told_run};
-ghost use Rattle.sound_run.specs.Sound.{Sound};
+ghost use Rattle.own_judge.specs.Judging.{IsNextWithout, own_terms};
+ghost use Rattle.own_judge.specs.Models.{IsMistold, IsVerdictByCounts};
 
-use crate::answered::Answered;
-use crate::heard::Heard;
-use crate::shape::OwnShape;
-use crate::telling::{no_entry, no_event, tell_entry, tell_event};
-use crate::told_rows::ToldRows;
-use auditor::{Fault, Judged, OpenedObject, Verdict};
-use event_log::{Entry, Event, OutOfMemory, Series};
-use log_merge::EntryShape;
+use crate::own_rows::OwnRows;
+use auditor::{Counted, Fault, Judged, JudgedRun, OpenedObject, Verdict};
+use event_log::{Entry, Event, OutOfMemory, Past};
 use own_object::{OwnHead, OwnKeeps, OwnObject, OwnSettings};
 use std::alloc::Global;
 use std::marker::Model;
@@ -45,21 +38,19 @@ pub struct OwnJudge {
     left: u64,
     /// The first whole log without a count, or with one that is more than its steps.
     without: Option<usize>,
-    heard: Heard,
-    judged: Judged<Answered, Answered, ToldRows>,
-    /// Room for what is told, which is told anew each time: to make it anew takes longer than to judge it.
-    event: Event<Answered>,
-    entry: Entry<Answered>,
+    head: Past<OwnHead>,
+    begun: bool,
+    judged: Judged<OwnObject, Counted, OwnRows>,
 }
 
 impl Model for OwnJudge {
-    ghost use Rattle.own_judge.specs.Judging.{Counted, IsFedOwn};
+    ghost use Rattle.own_judge.specs.Judging.{Counted as Shown, head_of, own_parts, IsFedOwn};
 
-    ghost Value = { Counted };
+    ghost Value = { Shown };
 
-    ghost view = { λ j. record { parts = j.heard; counts = j.right.items } };
+    ghost view = { λ j. record { parts = own_parts (head_of j.head.items) j.begun j.judged; counts = j.right.items } };
 
-    ghost invariant = { λ j. IsFedOwn j.heard j.right.items j.limits.items j.log j.left j.without j.judged };
+    ghost invariant = { λ j. IsFedOwn (own_parts (head_of j.head.items) j.begun j.judged) j.right.items j.limits.items j.log j.left j.without j.judged };
 }
 
 /// The count at a place, or none.
@@ -86,6 +77,13 @@ fn next_without(counts: &[u64], log: usize, left: u64, without: Option<usize>) -
     Some(log)
 }
 
+/// The head alone, as contracts see it.
+fn head_alone(head: &OwnHead) -> Past<OwnHead>
+    ensures { result.items ≡ head.now ∷ [] }
+{
+    Past::told(&Past::new(), head)
+}
+
 /// The most events of each object's log.
 fn limits_of(alloc: Global, objects: &[OwnSettings]) -> Result<Vec<u32>, OutOfMemory>
     ensures { IfOk result (λ limits. limits.items ≡ map (λ (o : Shown). o.events) objects.now) }
@@ -110,10 +108,9 @@ impl OwnJudge {
             log: 0,
             left,
             without: None,
-            heard: Heard::new(),
+            head: Past::new(),
+            begun: false,
             judged: Judged::empty(alloc),
-            event: no_event(),
-            entry: no_entry(),
         }
     }
 
@@ -143,20 +140,16 @@ impl OwnJudge {
         Ok(self.judged.verdict())
     }
 
-    /// The run that was read in its shape, if it is sound, or else its first fault. It takes no memory.
-    pub(crate) fn into_shape(self, transcripts: Vec<Series<EntryShape>>) -> Result<OwnShape, Fault>
+    /// The run that was read, if it is sound, or else its first fault. It takes no memory.
+    pub(crate) fn into_run(self) -> Result<JudgedRun<OwnObject, OwnRows>, Fault>
         requires whole { IsWholeOwn self.parts.head self.parts }
         requires fit { OwnRecordFits (kept_own self.parts.head self.parts) }
-        requires shapes { transcripts.items ≡ map (map shape_of) self.parts.transcripts }
-        ensures run { IfOk result (λ s. s ≡ (kept_own self.parts.head self.parts).run) }
-        ensures sound { IfOk result (λ s. Sound answered (opened self.parts.head) (told_run self.counts (kept_own self.parts.head self.parts).run)) }
-        ensures fault { IfErr result (IsFirstFault answered (opened self.parts.head) (told_run self.counts (kept_own self.parts.head self.parts).run)) }
+        ensures run { IfOk result (λ r. r ≡ (kept_own self.parts.head self.parts).run) }
+        ensures sound { IfOk result (λ r. SoundBy (counted_model own) (own_terms self.counts self.parts.head.objects) (kept_own self.parts.head self.parts).run) }
+        ensures fault { IfErr result (IsFirstFaultBy (counted_model own) (own_terms self.counts self.parts.head.objects) (kept_own self.parts.head self.parts).run) }
     {
-        let OwnJudge { heard, judged, .. } = self;
-        match judged.into_run() {
-            Err(fault) => Err(fault),
-            Ok(run) => Ok(OwnShape::new(run, heard, transcripts)),
-        }
+        let OwnJudge { judged, .. } = self;
+        judged.into_run()
     }
 }
 
@@ -167,7 +160,7 @@ impl OwnKeeps for OwnJudge {
         let limits = limits_of(self.alloc, head.objects.as_slice())?;
         self.judged = Judged::new(self.alloc, head.cpus as usize, head.objects.len())?;
         self.limits = limits;
-        self.heard.tell_head(head);
+        self.head = head_alone(head);
         Ok(())
     }
 
@@ -176,16 +169,15 @@ impl OwnKeeps for OwnJudge {
             params: (),
             limit: self.limits[self.log],
         };
-        self.judged.begin_log(&opened, count as usize)?;
-        self.heard.tell_count(count);
+        let counted = Counted { left: self.left };
+        self.judged.begin_log(&opened, counted, count as usize)?;
+        self.begun = true;
         Ok(())
     }
 
     fn event(&mut self, event: &Event<OwnObject>) -> Result<(), OutOfMemory> {
-        tell_event(event, self.left, &mut self.event);
-        self.judged.event(&self.event, &[])?;
+        self.judged.event(event, &[])?;
         self.left = self.left.saturating_sub(event.steps.list.len() as u64);
-        self.heard.tell_event(event);
         Ok(())
     }
 
@@ -194,26 +186,24 @@ impl OwnKeeps for OwnJudge {
         self.without = next_without(self.right.as_slice(), self.log, self.left, self.without);
         self.log += 1;
         self.left = count_at(self.right.as_slice(), self.log);
-        self.heard.tell_log_end();
+        self.begun = false;
         Ok(())
     }
 
     fn begin_transcript(&mut self, count: u32) -> Result<(), OutOfMemory> {
         self.judged.begin_transcript(count as usize);
-        self.heard.tell_count(count);
+        self.begun = true;
         Ok(())
     }
 
     fn entry(&mut self, entry: &Entry<OwnObject>) -> Result<(), OutOfMemory> {
-        tell_entry(entry, &mut self.entry);
-        self.judged.entry(&self.entry);
-        self.heard.tell_entry(entry);
+        self.judged.entry(entry);
         Ok(())
     }
 
     fn end_transcript(&mut self) -> Result<(), OutOfMemory> {
         self.judged.end_transcript();
-        self.heard.tell_transcript_end();
+        self.begun = false;
         Ok(())
     }
 

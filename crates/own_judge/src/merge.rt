@@ -8,10 +8,9 @@ ghost use Rattle.own_judge.specs.Models.{Model as AnyModel, AreCounts, IsMistold
 ghost use Rattle.sound_run.specs.Orders.{HasOrder};
 
 use crate::judge::{Mistold, OwnJudge};
-use crate::shape::shape;
 use auditor::Fault;
 use event_log::{Entry, Event, OutOfMemory, Series};
-use log_merge::{EntryShape, Merging, merge_run};
+use log_merge::{EntryShape, Merging, ShapedRun, merge_run};
 use own_object::{OwnHead, OwnKeeps, OwnObject};
 use sound_run::Place;
 use std::alloc::Global;
@@ -106,11 +105,11 @@ impl OwnMergeJudge {
         if let Err(mistold) = judge.verdict() {
             return Err(OwnMergeFault::Mistold(mistold));
         }
-        let shape = match judge.into_shape(transcripts) {
+        let run = match judge.into_run() {
             Err(fault) => return Err(OwnMergeFault::Unsound(fault)),
-            Ok(shape) => shape,
+            Ok(run) => ShapedRun::new(run, transcripts),
         };
-        let merging = merge_run(alloc, &shape)?;
+        let merging = merge_run(alloc, &run)?;
         match merging {
             Merging::Order(places) => Ok(places),
             Merging::Cycle(cycle) => Err(OwnMergeFault::Cycle(cycle)),
@@ -144,7 +143,7 @@ impl OwnKeeps for OwnMergeJudge {
     fn entry(&mut self, entry: &Entry<OwnObject>) -> Result<(), OutOfMemory> {
         self.entries.reserve(1)?;
         self.judge.entry(entry)?;
-        self.entries.push_reserved(shape(entry));
+        self.entries.push_reserved(EntryShape::of(entry));
         Ok(())
     }
 

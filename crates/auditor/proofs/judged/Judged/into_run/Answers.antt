@@ -1,17 +1,17 @@
 use Rattle.std.proofs.Common.{◌≡◌, [], length, sym, subst}
 use Rattle.auditor.specs.Fed.{Fed, run_of}
-use Rattle.auditor.specs.Passes.{IsRunOf}
+use Rattle.auditor.specs.Passes.{IsRunOver}
 use Rattle.auditor.specs.SoFar.{HasLogs}
 use Rattle.auditor.proofs.judged.Judged.into_run.Goals as goal
 
 pub into_run-requires-clause-logs : goal.into_run-requires-clause-logs
-into_run-requires-clause-logs g c = subst (λ (d : Fed _ _ _ _). HasLogs d) (sym c.self.view_is) c.requires.logs
+into_run-requires-clause-logs g c = subst (λ (d : Fed _ _ _ _ _). HasLogs d) (sym c.self.view_is) c.requires.logs
 
 pub into_run-requires-clause-transcripts : goal.into_run-requires-clause-transcripts
-into_run-requires-clause-transcripts g c = subst (λ (d : Fed _ _ _ _). length d.transcripts ≡ d.cpus) (sym c.self.view_is) c.requires.transcripts
+into_run-requires-clause-transcripts g c = subst (λ (d : Fed _ _ _ _ _). length d.transcripts ≡ d.cpus) (sym c.self.view_is) c.requires.transcripts
 
 pub into_run-requires-clause-entries : goal.into_run-requires-clause-entries
-into_run-requires-clause-entries g c = subst (λ (d : Fed _ _ _ _). d.entries ≡ []) (sym c.self.view_is) c.requires.entries
+into_run-requires-clause-entries g c = subst (λ (d : Fed _ _ _ _ _). d.entries ≡ []) (sym c.self.view_is) c.requires.entries
 
 pub into_run-requires-clause-run : goal.into_run-requires-clause-run
-into_run-requires-clause-run g c = subst (λ (d : Fed _ _ _ _). IsRunOf g.O.SeqObject d.opened (run_of d)) (sym c.self.view_is) c.requires.run
+into_run-requires-clause-run g c = subst (λ (d : Fed _ _ _ _ _). IsRunOver d.opened (run_of d)) (sym c.self.view_is) c.requires.run

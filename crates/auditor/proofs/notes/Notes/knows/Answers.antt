@@ -12,13 +12,14 @@ use Rattle.auditor.specs.NextEvents.{IsAt}
 use Rattle.auditor.specs.Noted.{IsRightWith}
 use Rattle.auditor.proofs.Judging.{all_right}
 use Rattle.auditor.proofs.NotesSoFar.{none_found, still_none, entry_noted}
+use Rattle.auditor.specs.StepModels.{model_by}
 use Rattle.auditor.proofs.notes.Notes.knows.Goals as goal
 
 pub is_told-requires : goal.is_told-requires
 is_told-requires g c =
     let n = c.args.self.now in
     let d = c.args.told.now in
-    let all = none_found g.O.SeqObject g.J.ReferenceObject.shows d n.fault n.replay n.logs.items (vec_capacity n.logs) (sym c.is_some.ensures ∙ c.if-is_some.false) c.requires.noted in
+    let all = none_found (model_by g.O.SeqObject g.J.StepJudge.right g.J.StepJudge.behind) g.J.StepJudge.shows d n.fault n.replay n.logs.items (vec_capacity n.logs) (sym c.is_some.ensures ∙ c.if-is_some.false) c.requires.noted in
     let x = c.args.object in
     let lt : x < length n.logs.items = (let a = all.logs.count in let b = c.requires.transcripts.logs.logs in let o = c.requires.object in omega (arith, a, b, o)) in
     let kept = c.index-kept.result.now in
@@ -32,7 +33,7 @@ pub index-requires : goal.index-requires
 index-requires g c =
     let n = c.args.self.now in
     let d = c.args.told.now in
-    let all = none_found g.O.SeqObject g.J.ReferenceObject.shows d n.fault n.replay n.logs.items (vec_capacity n.logs) (sym c.is_some.ensures ∙ c.if-is_some.false) c.requires.noted in
+    let all = none_found (model_by g.O.SeqObject g.J.StepJudge.right g.J.StepJudge.behind) g.J.StepJudge.shows d n.fault n.replay n.logs.items (vec_capacity n.logs) (sym c.is_some.ensures ∙ c.if-is_some.false) c.requires.noted in
     let x = c.args.object in
     let lt : x < length n.logs.items = (let a = all.logs.count in let b = c.requires.transcripts.logs.logs in let o = c.requires.object in omega (arith, a, b, o)) in
     let kept = c.index-kept.result.now in
@@ -48,7 +49,7 @@ returns-clause-known g c = λ yes.
     let n = c.args.self.now in
     let d = c.args.told.now in
     let none = sym c.is_some.ensures ∙ c.if-is_some.false in
-    let all = none_found g.O.SeqObject g.J.ReferenceObject.shows d n.fault n.replay n.logs.items (vec_capacity n.logs) none c.requires.noted in
+    let all = none_found (model_by g.O.SeqObject g.J.StepJudge.right g.J.StepJudge.behind) g.J.StepJudge.shows d n.fault n.replay n.logs.items (vec_capacity n.logs) none c.requires.noted in
     let x = c.args.object in
     let lt : x < length n.logs.items = (let a = all.logs.count in let b = c.requires.transcripts.logs.logs in let o = c.requires.object in omega (arith, a, b, o)) in
     let kept = c.index-kept.result.now in
@@ -71,7 +72,7 @@ returns-clause-known g c = λ yes.
       told.0,
       steps,
       told.1,
-      λ looks. still_none g.O.SeqObject g.J.ReferenceObject.shows (entry_fed d (done_entry x looks told.0 steps)) n.fault n.replay _ _ none
-          (subst (λ (v : KeptLog _ _ _ _ _). IsRightWith g.O.SeqObject g.J.ReferenceObject.shows (entry_fed d (done_entry x looks told.0 steps)) n.replay (set n.logs.items x (record v { place = c.index.result.now })) (vec_capacity n.logs)) same
-          (entry_noted g.O.SeqObject g.J.ReferenceObject.shows d n.replay n.logs.items (vec_capacity n.logs) all c.requires.transcripts.logs (done_entry x looks told.0 steps) kept at c.index.result.now right.0 (subst (λ j. IsAt cpu kept.log (taken + 1) j) (sym value) right.1))),
+      λ looks. still_none (model_by g.O.SeqObject g.J.StepJudge.right g.J.StepJudge.behind) g.J.StepJudge.shows (entry_fed d (done_entry x looks told.0 steps)) n.fault n.replay _ _ none
+          (subst (λ (v : KeptLog _ _ _ _ _). IsRightWith (model_by g.O.SeqObject g.J.StepJudge.right g.J.StepJudge.behind) g.J.StepJudge.shows (entry_fed d (done_entry x looks told.0 steps)) n.replay (set n.logs.items x (record v { place = c.index.result.now })) (vec_capacity n.logs)) same
+          (entry_noted (model_by g.O.SeqObject g.J.StepJudge.right g.J.StepJudge.behind) g.J.StepJudge.shows d n.replay n.logs.items (vec_capacity n.logs) all c.requires.transcripts.logs (done_entry x looks told.0 steps) kept at c.index.result.now right.0 (subst (λ j. IsAt cpu kept.log (taken + 1) j) (sym value) right.1))),
     )

@@ -1,32 +1,19 @@
-use Rattle.std.proofs.Common.{◌≡◌, ℕ, List, ◌+◌, length, refl, sym, ap, ◌∙◌, subst}
+use Rattle.std.proofs.Common.{◌≡◌, false, ℕ, List, ◌+◌, length, refl, sym, ap, ◌∙◌, subst}
 use Rattle.std.specs.Prelude.{slice_index}
 use Rattle.own_object.specs.Keeping.{OwnParts, InLogs}
-use Rattle.own_judge.specs.Judging.{Counted, ToldFed, IsNextWithout, IsFedOwn}
-use Rattle.own_judge.proofs.FedOwn.{in_log, logs_left, all_events, log_more}
+use Rattle.own_judge.specs.Judging.{head_of, own_parts, Counted, OwnFed, IsNextWithout, IsFedOwn}
+use Rattle.own_judge.proofs.FedOwn.{in_log, log_more}
 use Rattle.own_judge.proofs.judge.OwnJudgeOwnKeeps.end_log.Goals as goal
 
 pub end_log-requires-clause-log : goal.end_log-requires-clause-log
 end_log-requires-clause-log c =
     let i = c.self.inside in
     let back = sym (ap (λ (v : Counted). v.parts) c.self.view_is) in
-    in_log i.heard i.right.items i.limits.items i.log i.left i.without i.judged c.self.invariant (subst InLogs back c.requires.place) (ap (λ (v : Counted). v.parts.begun) c.self.view_is ∙ c.requires.begun)
-
-pub end_log-requires-clause-objects : goal.end_log-requires-clause-objects
-end_log-requires-clause-objects c =
-    let i = c.self.inside in
-    let back = sym (ap (λ (v : Counted). v.parts) c.self.view_is) in
-    logs_left i.heard i.right.items i.limits.items i.log i.left i.without i.judged c.self.invariant (subst InLogs back c.requires.place)
-
-pub end_log-requires-clause-count : goal.end_log-requires-clause-count
-end_log-requires-clause-count c =
-    let i = c.self.inside in
-    let back = sym (ap (λ (v : Counted). v.parts) c.self.view_is) in
-    all_events i.heard i.right.items i.limits.items i.log i.left i.without i.judged c.self.invariant (subst (λ (p : OwnParts). length p.events ≡ p.count) back c.requires.all)
+    in_log (head_of i.head.items) i.begun i.right.items i.limits.items i.log i.left i.without i.judged c.self.invariant (subst InLogs back c.requires.place) (ap (λ (v : Counted). v.parts.begun) c.self.view_is ∙ c.requires.begun)
 
 pub invariant_of-self-2 : goal.invariant_of-self-2
 invariant_of-self-2 c =
     let i = c.self.inside in
-    let more = log_more i.heard i.right.items i.limits.items i.log i.left i.without i.judged c.self.invariant (i.log + 1) c.count_at-self-inside.result c.next_without-self-inside.result (ap (λ (v : Counted). v.parts.begun) c.self.view_is ∙ c.requires.begun) refl (c.count_at-self-inside.ensures ∙ ap (λ l. slice_index l (i.log + 1)) c.as_slice-2.ensures.value) (subst (λ (l : List ℕ). IsNextWithout l i.log i.left i.without c.next_without-self-inside.result) c.as_slice.ensures.value c.next_without-self-inside.ensures) in
-    let heard = c.tell_log_end.ensures in
+    let more = log_more (head_of i.head.items) i.begun i.right.items i.limits.items i.log i.left i.without i.judged c.self.invariant (i.log + 1) c.count_at-self-inside.result c.next_without-self-inside.result (ap (λ (v : Counted). v.parts.begun) c.self.view_is ∙ c.requires.begun) refl (c.count_at-self-inside.ensures ∙ ap (λ l. slice_index l (i.log + 1)) c.as_slice-2.ensures.value) (subst (λ (l : List ℕ). IsNextWithout l i.log i.left i.without c.next_without-self-inside.result) c.as_slice.ensures.value c.next_without-self-inside.ensures) in
     let fed = c.in_ok-end_log.ensures.ok in
-    subst (λ (z : OwnParts × ToldFed). IsFedOwn z.0 i.right.items i.limits.items (i.log + 1) c.count_at-self-inside.result c.next_without-self-inside.result z.1) (λ j. (sym heard j, sym fed j)) more
+    subst (λ (z : OwnFed). IsFedOwn (own_parts (head_of i.head.items) false z) i.right.items i.limits.items (i.log + 1) c.count_at-self-inside.result c.next_without-self-inside.result z) (sym fed) more
