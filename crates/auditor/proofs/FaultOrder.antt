@@ -8,8 +8,7 @@ use Rattle.sound_run.specs.Sound.{transcript_of}
 use Rattle.sound_run.proofs.Slices.{one_of}
 use Rattle.auditor.specs.declared.fault.Fault.{Fault}
 use Rattle.auditor.specs.declared.fault.Fault.TheVariants as fault
-use Rattle.auditor.specs.Faults.{HadRoom, IsNotItsEvent, place, IsBefore}
-use Rattle.auditor.specs.ByModels.{IsFaultBy, IsFirstFaultBy}
+use Rattle.auditor.specs.Faults.{HadRoom, IsNotItsEvent, place, IsBefore, IsFaultBy, IsFirstFaultBy}
 use Rattle.auditor.specs.StepModels.{StepModel}
 use Rattle.auditor.specs.Terms.{Terms, opened_list}
 

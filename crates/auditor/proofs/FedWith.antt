@@ -21,7 +21,7 @@ use Rattle.auditor.specs.JudgedParts.{parts_of, begun_logs, IsFedWith}
 use Rattle.auditor.specs.Passes.{IsRunOver}
 use Rattle.auditor.specs.SoFar.{IsBeforeLog, IsInLog, HasLogs, IsInTranscripts}
 use Rattle.auditor.specs.Terms.{Terms, terms_at, start, starts}
-use Rattle.auditor.specs.Transcripts.{judged_by, opened_by}
+use Rattle.auditor.specs.Transcripts.{judged_by}
 use Rattle.auditor.proofs.JudgeTerms.{started, run_over}
 use Rattle.auditor.proofs.RecordRuns.{KernelTerms, object_opened, record_run}
 use Rattle.auditor.proofs.Verdicts.{all_at}

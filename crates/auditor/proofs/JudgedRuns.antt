@@ -17,7 +17,8 @@ use Rattle.auditor.specs.Passes.{IsRunOver, AreEnds, IsEnd, AreTaken, IsFirstLef
 use Rattle.auditor.specs.SoFar.{HasLogs, IsWith, IsFound}
 use Rattle.auditor.proofs.GoingOn.{with_itself}
 use Rattle.auditor.proofs.LeftEvents.{first_unclaimed, none_left}
-use Rattle.auditor.specs.ByModels.{SoundBy, IsFaultBy, IsFirstFaultBy}
+use Rattle.auditor.specs.ByModels.{SoundBy}
+use Rattle.auditor.specs.Faults.{IsFaultBy, IsFirstFaultBy}
 use Rattle.auditor.specs.NoFaults.{HasNoFaultBy}
 use Rattle.auditor.specs.StepModels.{StepModel}
 use Rattle.auditor.specs.Terms.{Terms, opened_list}

@@ -16,14 +16,14 @@ use Rattle.sound_run.proofs.Slices.{one_of, map_get}
 use Rattle.sound_run.proofs.Entries.{done_append, done_without}
 use Rattle.auditor.specs.declared.fault.Fault.{Fault}
 use Rattle.auditor.specs.declared.fault.Fault.TheVariants as fault
-use Rattle.auditor.specs.Faults.{done_before, events_before, HadRoom, IsNotItsEvent, IsNotAsked, IsUnclaimed}
+use Rattle.auditor.specs.Faults.{done_before, events_before, HadRoom, IsNotItsEvent, IsNotAsked, IsUnclaimed, IsFaultBy}
 use Rattle.auditor.specs.Claims.{IsRight}
 use Rattle.auditor.specs.Passes.{AreSoundBefore}
 use Rattle.auditor.specs.Transcripts.{IsRightAt}
 use Rattle.auditor.proofs.OwnEvents.{own_steps}
 use Rattle.auditor.proofs.Ranked.{done_at, done_of}
 use Rattle.auditor.proofs.LogFaults.{none_long, none_wrong}
-use Rattle.auditor.specs.ByModels.{SoundBy, IsFaultBy}
+use Rattle.auditor.specs.ByModels.{SoundBy}
 use Rattle.auditor.specs.NoFaults.{HasNoFaultBy}
 use Rattle.auditor.specs.StepModels.{StepModel}
 use Rattle.auditor.specs.Terms.{Terms, opened_as, opened_list}

@@ -1,8 +1,8 @@
+pub mod Terms
+pub mod StepModels
 pub mod Faults
 pub mod NextEvents
 pub mod Claims
-pub mod Terms
-pub mod StepModels
 pub mod ByModels
 pub mod Transcripts
 pub mod Passes

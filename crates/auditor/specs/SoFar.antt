@@ -5,7 +5,8 @@ use Rattle.sound_run.specs.Sound.{transcript_of, log_of}
 use Rattle.auditor.specs.declared.fault.Fault.{Fault}
 use Rattle.auditor.specs.declared.fault.Verdict.{Verdict}
 use Rattle.auditor.specs.declared.fault.Verdict.TheVariants as verdict
-use Rattle.auditor.specs.ByModels.{SoundBy, IsFirstFaultBy}
+use Rattle.auditor.specs.ByModels.{SoundBy}
+use Rattle.auditor.specs.Faults.{IsFirstFaultBy}
 use Rattle.auditor.specs.Fed.{Fed}
 use Rattle.auditor.specs.Passes.{IsRunOver, AreSoundBefore, AreRightTo}
 use Rattle.auditor.specs.StepModels.{StepModel, LegalBy}

@@ -2,8 +2,8 @@
 
 ghost use Rattle.event_log.specs.declared.event.Step.{Step};
 ghost use Rattle.std.specs.Prelude.{◌≡◌, ◌↔◌, ◌<◌, false, [], List, Some, length, IsTrue, IfOk, IfErr, OnOk, OnErr};
-ghost use Rattle.auditor.specs.ByModels.{SoundBy, IsFirstFaultBy};
-ghost use Rattle.auditor.specs.Faults.{HasSteps};
+ghost use Rattle.auditor.specs.ByModels.{SoundBy};
+ghost use Rattle.auditor.specs.Faults.{HasSteps, IsFirstFaultBy};
 ghost use Rattle.auditor.specs.Fed.{Fed, nothing, log_begun, event_fed, log_ended, transcript_begun, entry_fed, done_by, done_entry, transcript_ended, run_of};
 ghost use Rattle.auditor.specs.Passes.{IsRunOver};
 ghost use Rattle.auditor.specs.SoFar.{IsBeforeLog, IsInLog, HasLogs, IsInTranscripts};

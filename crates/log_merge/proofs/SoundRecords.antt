@@ -8,10 +8,10 @@ use Rattle.auditor.specs.declared.fault.Fault.{Fault}
 use Rattle.auditor.specs.Faults.{IsFirstFault}
 use Rattle.auditor.specs.StepModels.{object_model}
 use Rattle.auditor.specs.Terms.{starts}
-use Rattle.auditor.proofs.ObjectModels.{sound_to, fault_to}
+use Rattle.auditor.proofs.ObjectModels.{sound_to}
 use Rattle.auditor.proofs.Verdicts.{no_fault}
 
 pub none_first : (settings : Settings) (run : KernelRun) → Sound kernel (opened_of settings) run → (f : Fault) → IsFirstFault kernel (opened_of settings) run f → ⊥
 none_first settings run sound f first =
     let objects = opened_of settings in
-    no_fault (object_model kernel) (starts kernel objects) run (sound_to kernel objects run sound) f (fault_to kernel objects run f first.there)
+    no_fault (object_model kernel) (starts kernel objects) run (sound_to kernel objects run sound) f first.there

@@ -9,7 +9,7 @@ use Rattle.sound_run.proofs.Slices.{map_get}
 use Rattle.auditor.specs.Fed.{log_begun, event_fed, log_ended}
 use Rattle.auditor.specs.SoFar.{IsBeforeLog, IsInLog, HasLogs, IsInTranscripts}
 use Rattle.own_object.specs.Keeping.{InLogs, InTranscripts, IsAtHead}
-use Rattle.own_object.specs.Own.{OwnEvent, OwnEntry}
+use Rattle.own_object.specs.Own.{OwnEvent}
 use Rattle.own_object.specs.Settings.{OwnSettings, OwnHead}
 use Rattle.own_judge.specs.Judging.{OwnFed, OwnTerms, own_terms, own_parts, begun_logs, HasCount, IsFirstWithout, IsNextWithout, IsFedOwn}
 use Rattle.own_judge.proofs.OwnTerms.{terms_count, term_at}

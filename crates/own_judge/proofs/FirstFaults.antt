@@ -7,8 +7,7 @@ use Rattle.event_log.proofs.Lists.{some_at}
 use Rattle.sound_run.specs.Sound.{Opened, log_of}
 use Rattle.auditor.specs.declared.fault.Fault.{Fault}
 use Rattle.auditor.specs.declared.fault.Fault.TheVariants as fault
-use Rattle.auditor.specs.ByModels.{HasWrongStepBy as CountedWrong, IsFaultBy as CountedFault, IsFirstFaultBy as CountedFirst}
-use Rattle.auditor.specs.Faults.{IsFault, IsBefore, place}
+use Rattle.auditor.specs.Faults.{IsTooLong, HadRoom, IsNotItsEvent, IsNotAsked, IsUnclaimed, IsBefore, place, HasWrongStepBy as CountedWrong, IsFaultBy as CountedFault, IsFirstFaultBy as CountedFirst}
 use Rattle.auditor.specs.StepModels.{EventIsWrongBy}
 use Rattle.auditor.specs.Terms.{opened_list}
 use Rattle.own_object.specs.Own.{OwnStep, OwnEvent, own}
@@ -202,21 +201,21 @@ module _ (model : Model) (r : OwnRecord) (counts : List ℕ) (are : AreCounts mo
 
   -- the fault by the model is one by the counts
   fault_to : (g : Fault) → IsFaultBy model r g → CountedFault by_count Terms r.run g
-  fault_to (fault.TooLong x) h = same_faults (λ os. IsFault own os r.run (fault.TooLong x)) h
+  fault_to (fault.TooLong x) h = same_faults (λ os. IsTooLong own os r.run x) h
   fault_to (fault.WrongStep x e i) h = told_of_by x e i h
-  fault_to (fault.RoomWasLeft cpu n) h = same_faults (λ os. IsFault own os r.run (fault.RoomWasLeft cpu n)) h
-  fault_to (fault.NotItsEvent cpu n) h = same_faults (λ os. IsFault own os r.run (fault.NotItsEvent cpu n)) h
-  fault_to (fault.NotAsked cpu n) h = same_faults (λ os. IsFault own os r.run (fault.NotAsked cpu n)) h
-  fault_to (fault.Unclaimed x e) h = same_faults (λ os. IsFault own os r.run (fault.Unclaimed x e)) h
+  fault_to (fault.RoomWasLeft cpu n) h = same_faults (λ os. HadRoom own os r.run cpu n) h
+  fault_to (fault.NotItsEvent cpu n) h = same_faults (λ os. IsNotItsEvent own os r.run cpu n) h
+  fault_to (fault.NotAsked cpu n) h = same_faults (λ os. IsNotAsked own os r.run cpu n) h
+  fault_to (fault.Unclaimed x e) h = same_faults (λ os. IsUnclaimed own os r.run x e) h
 
   -- a fault by the counts is one by the model, where no earlier step is wrong
   fault_from : (g : Fault) → ((x e i : ℕ) → IsBefore (place (fault.WrongStep x e i)) (place g) → WrongStep x e i → ⊥) → CountedFault by_count Terms r.run g → IsFaultBy model r g
-  fault_from (fault.TooLong x) none h = back_faults (λ os. IsFault own os r.run (fault.TooLong x)) h
+  fault_from (fault.TooLong x) none h = back_faults (λ os. IsTooLong own os r.run x) h
   fault_from (fault.WrongStep x e i) none h = by_of_told x e i h (λ f j b. none x f j (step_place x f j e i b))
-  fault_from (fault.RoomWasLeft cpu n) none h = back_faults (λ os. IsFault own os r.run (fault.RoomWasLeft cpu n)) h
-  fault_from (fault.NotItsEvent cpu n) none h = back_faults (λ os. IsFault own os r.run (fault.NotItsEvent cpu n)) h
-  fault_from (fault.NotAsked cpu n) none h = back_faults (λ os. IsFault own os r.run (fault.NotAsked cpu n)) h
-  fault_from (fault.Unclaimed x e) none h = back_faults (λ os. IsFault own os r.run (fault.Unclaimed x e)) h
+  fault_from (fault.RoomWasLeft cpu n) none h = back_faults (λ os. HadRoom own os r.run cpu n) h
+  fault_from (fault.NotItsEvent cpu n) none h = back_faults (λ os. IsNotItsEvent own os r.run cpu n) h
+  fault_from (fault.NotAsked cpu n) none h = back_faults (λ os. IsNotAsked own os r.run cpu n) h
+  fault_from (fault.Unclaimed x e) none h = back_faults (λ os. IsUnclaimed own os r.run x e) h
 
   pub first_from : (f : Fault) → CountedFirst by_count Terms r.run f → IsFirstFaultBy model r f
   first_from f h = record { there = fault_from f (λ x e i b w. h.first (fault.WrongStep x e i) b w) h.there; first = λ g b w. h.first g b (fault_to g w) }

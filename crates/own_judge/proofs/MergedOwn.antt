@@ -6,7 +6,8 @@ use Rattle.event_log.proofs.Each.{all_map, each_list_at}
 use Rattle.event_log.proofs.Lists.{some_at}
 use Rattle.sound_run.specs.Sound.{transcript_of, log_of, done_on, steps_by}
 use Rattle.auditor.specs.declared.fault.Fault.{Fault}
-use Rattle.auditor.specs.ByModels.{SoundBy as CountedSound, IsFirstFaultBy as CountedFirst}
+use Rattle.auditor.specs.ByModels.{SoundBy as CountedSound}
+use Rattle.auditor.specs.Faults.{IsFirstFaultBy as CountedFirst}
 use Rattle.auditor.proofs.Verdicts.{all_at, no_fault}
 use Rattle.log_merge.specs.Nexts.{IsWhole}
 use Rattle.log_merge.specs.Prefixes.{IsMatched}

@@ -1,5 +1,5 @@
 -- What the logs of a record are judged by.
-use Rattle.std.proofs.Common.{◌≡◌, ℕ, zero, suc, List, [], ◌∷◌, length, Some, slice_get, refl, sym, ap, ◌∙◌}
+use Rattle.std.proofs.Common.{◌≡◌, ℕ, zero, suc, List, [], ◌∷◌, length, Some, slice_get, refl, ap}
 use Rattle.std.specs.Prelude.{slice_index}
 use Rattle.auditor.specs.Terms.{opened_list}
 use Rattle.own_object.specs.Settings.{OwnSettings, OwnHead}

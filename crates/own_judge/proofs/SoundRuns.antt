@@ -1,10 +1,10 @@
 -- A run is sound by a model, and by its counts.
-use Rattle.std.proofs.Common.{◌≡◌, ⊎_elim, ℕ, ◌<◌, ◌≤◌, Bool, true, false, List, length, Some, slice_get, sym, ap, ◌∙◌, subst, arith}
+use Rattle.std.proofs.Common.{◌≡◌, ⊎_elim, ℕ, ◌≤◌, Bool, true, false, List, length, Some, slice_get, sym, ap, ◌∙◌, subst, arith}
 use Rattle.std.proofs.lemmas.Bool.{cases_lt}
 use Rattle.std.specs.Prelude.{unwrap_or, slice_index}
 use Rattle.std.specs.List.{AllByRecursion}
 use Rattle.event_log.specs.Log.{steps_of}
-use Rattle.sound_run.specs.Sound.{Opened, EntryIsSound, transcript_of, log_of}
+use Rattle.sound_run.specs.Sound.{Opened, EntryIsSound, transcript_of}
 use Rattle.auditor.specs.ByModels.{LogIsSoundBy as CountedLog, SoundBy as CountedSound}
 use Rattle.auditor.specs.Faults.{HasSteps}
 use Rattle.own_object.specs.Own.{OwnStep, OwnEvent, own}

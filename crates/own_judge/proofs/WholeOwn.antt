@@ -1,5 +1,5 @@
 -- What is said of a record that was handed over whole.
-use Rattle.std.proofs.Common.{◌≡◌, inl, inr, ⊎_elim, ℕ, ◌<◌, ◌≤◌, List, [], length, Option, Some, None, slice_get, refl, sym, ap, ◌∙◌, subst, arith}
+use Rattle.std.proofs.Common.{◌≡◌, inl, inr, ⊎_elim, ℕ, ◌<◌, ◌≤◌, List, length, Option, Some, None, slice_get, sym, ap, ◌∙◌, subst, arith}
 use Rattle.std.proofs.lemmas.Bool.{cases_lt}
 use Rattle.std.specs.Prelude.{◌↔◌, Result, Ok, Err}
 use Rattle.std.specs.List.{AllByRecursion}
@@ -8,8 +8,8 @@ use Rattle.sound_run.specs.Sound.{transcript_of, log_of}
 use Rattle.auditor.specs.declared.fault.Fault.{Fault}
 use Rattle.auditor.specs.declared.fault.Verdict.{Verdict}
 use Rattle.auditor.specs.declared.fault.Verdict.TheVariants as verdict
-use Rattle.auditor.specs.ByModels.{SoundBy as CountedSound, IsFirstFaultBy as CountedFirst}
-use Rattle.auditor.specs.Faults.{HasSteps}
+use Rattle.auditor.specs.ByModels.{SoundBy as CountedSound}
+use Rattle.auditor.specs.Faults.{HasSteps, IsFirstFaultBy as CountedFirst}
 use Rattle.auditor.specs.Fed.{run_of}
 use Rattle.auditor.specs.Passes.{IsRunOver}
 use Rattle.auditor.specs.SoFar.{HasLogs}
@@ -59,9 +59,6 @@ module _ (head : OwnHead) (begun : Bool) (counts most : List ℕ) (log rest : �
 
   pub whole_cpus : length d.transcripts ≡ d.cpus
   whole_cpus = fit.1.transcript_count ∙ sym fed.cpus
-
-  pub whole_entries : d.entries ≡ []
-  whole_entries = whole.entries
 
   pub whole_terms : d.opened ≡ own_terms counts head.objects
   whole_terms = all_opened head begun counts most log rest none d fed fit.1.log_count

@@ -1,7 +1,8 @@
 //! A record of objects of their writer's that is judged while it is read.
 
 ghost use Rattle.std.specs.Prelude.{◌≡◌, ◌↔◌, ◌∷◌, [], ℕ, Err, map, slice_index, IfOk, IfErr};
-ghost use Rattle.auditor.specs.ByModels.{SoundBy, IsFirstFaultBy};
+ghost use Rattle.auditor.specs.ByModels.{SoundBy};
+ghost use Rattle.auditor.specs.Faults.{IsFirstFaultBy};
 ghost use Rattle.auditor.specs.StepModels.{counted_model};
 ghost use Rattle.own_object.specs.Keeping.{no_own_parts, kept_own, IsWholeOwn};
 ghost use Rattle.own_object.specs.Own.{own};

@@ -1,14 +1,15 @@
 use Rattle.std.proofs.Common.{subst}
 use Rattle.std.specs.Prelude.{◌≡◌, ◌↔◌}
 use Rattle.auditor.specs.declared.fault.Verdict.TheVariants as verdict
-use Rattle.auditor.specs.ByModels.{SoundBy, IsFirstFaultBy}
+use Rattle.auditor.specs.ByModels.{SoundBy}
+use Rattle.auditor.specs.Faults.{IsFirstFaultBy}
 use Rattle.auditor.specs.StepModels.{object_model}
 use Rattle.auditor.specs.Terms.{starts}
 use Rattle.auditor.specs.Fed.{Fed, run_of}
 use Rattle.auditor.specs.Transcripts.{opened_by}
 use Rattle.auditor.proofs.Feeding.{has_logs, whole_run, all_transcripts, none_open}
 use Rattle.auditor.proofs.JudgeTerms.{run_over}
-use Rattle.auditor.proofs.ObjectModels.{sound_both, first_both}
+use Rattle.auditor.proofs.ObjectModels.{sound_both}
 use Rattle.auditor.proofs.judge.judge_run.Goals as goal
 
 pub verdict-requires-clause-logs : goal.verdict-requires-clause-logs
@@ -28,5 +29,4 @@ returns-clause-sound g c = sound_both g.O.SeqObject (opened_by c.args.opened_obj
     (subst (λ (d : Fed _ _ _ _ _). (c.verdict.result ≡ verdict.Sound) ↔ SoundBy (object_model g.O.SeqObject) d.opened (run_of d)) c.feed_transcripts.ensures c.verdict.ensures.sound)
 
 pub returns-clause-fault : goal.returns-clause-fault
-returns-clause-fault g c = λ f. first_both g.O.SeqObject (opened_by c.args.opened_objects.now) c.args.run.now f
-    (subst (λ (d : Fed _ _ _ _ _). (c.verdict.result ≡ verdict.Unsound f) ↔ IsFirstFaultBy (object_model g.O.SeqObject) d.opened (run_of d) f) c.feed_transcripts.ensures (c.verdict.ensures.fault f))
+returns-clause-fault g c = λ f. subst (λ (d : Fed _ _ _ _ _). (c.verdict.result ≡ verdict.Unsound f) ↔ IsFirstFaultBy (object_model g.O.SeqObject) d.opened (run_of d) f) c.feed_transcripts.ensures (c.verdict.ensures.fault f)

@@ -1,7 +1,8 @@
 use Rattle.std.proofs.Common.{◌≡◌, [], length, sym, subst}
 use Rattle.std.specs.Prelude.{◌↔◌}
 use Rattle.auditor.specs.declared.fault.Verdict.TheVariants as verdict
-use Rattle.auditor.specs.ByModels.{SoundBy, IsFirstFaultBy}
+use Rattle.auditor.specs.ByModels.{SoundBy}
+use Rattle.auditor.specs.Faults.{IsFirstFaultBy}
 use Rattle.auditor.specs.Fed.{Fed, run_of}
 use Rattle.auditor.specs.Passes.{IsRunOver}
 use Rattle.auditor.specs.SoFar.{HasLogs}

@@ -9,15 +9,15 @@ use Rattle.records.specs.Keeping.{Parts, kept_record, IsWholeWith}
 use Rattle.records.specs.RecordRanges.{RecordFits}
 use Rattle.records.specs.Runs.{opened_of}
 use Rattle.auditor.specs.declared.fault.Fault.{Fault}
-use Rattle.auditor.specs.ByModels.{SoundBy, IsFirstFaultBy}
-use Rattle.auditor.specs.Faults.{IsFirstFault}
+use Rattle.auditor.specs.ByModels.{SoundBy}
+use Rattle.auditor.specs.Faults.{IsFirstFault, IsFirstFaultBy}
 use Rattle.auditor.specs.Fed.{run_of}
 use Rattle.auditor.specs.VerdictText.{IsNamed}
 use Rattle.auditor.proofs.FaultNumbers.{first_is_named}
 use Rattle.auditor.proofs.FedWith.{whole_run}
 use Rattle.auditor.specs.StepModels.{object_model}
 use Rattle.auditor.specs.Terms.{Terms}
-use Rattle.auditor.proofs.ObjectModels.{sound_from, first_from, if_ok, if_err}
+use Rattle.auditor.proofs.ObjectModels.{sound_from, if_ok}
 use Rattle.auditor.proofs.record_judge.RecordJudge.into_run.Goals as goal
 
 pub into_run-requires-clause-run : goal.into_run-requires-clause-run
@@ -40,7 +40,7 @@ returns-clause-fault g c =
     let back = sym c.self.view_is in
     let same = (whole_run i.cpus i.objects.items i.begun i.opened.items i.log i.judged c.self.invariant (subst (λ (p : Parts). IsWholeWith p.settings p) back c.requires.whole) (subst (λ (p : Parts). RecordFits (kept_record p.settings p)) back c.requires.fit)).4 in
     subst (λ (p : Parts). IfErr c.into_run.result (IsFirstFault kernel (opened_of p.settings) (kept_record p.settings p).run)) c.self.view_is
-    (if_err c.into_run.result (first_from kernel (opened_of (record { cpus = i.cpus; objects = i.objects.items })) (run_of i.judged)) (subst (λ (os : List (Terms KParams KernelObject)). IfErr c.into_run.result (IsFirstFaultBy (object_model kernel) os (run_of i.judged))) same c.into_run.ensures.fault))
+    (subst (λ (os : List (Terms KParams KernelObject)). IfErr c.into_run.result (IsFirstFaultBy (object_model kernel) os (run_of i.judged))) same c.into_run.ensures.fault)
 
 named : (p : Parts) → RecordFits (kept_record p.settings p) → (r : Result KernelRun Fault) → IfErr r (IsFirstFault kernel (opened_of p.settings) (kept_record p.settings p).run) → IfErr r (IsNamed p.settings)
 named p fit (Ok run) h = tt

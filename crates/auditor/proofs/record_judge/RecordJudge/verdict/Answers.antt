@@ -9,14 +9,14 @@ use Rattle.records.specs.RecordRanges.{RecordFits}
 use Rattle.records.specs.Runs.{opened_of}
 use Rattle.auditor.specs.declared.fault.Fault.{Fault}
 use Rattle.auditor.specs.declared.fault.Verdict.TheVariants as verdict
-use Rattle.auditor.specs.ByModels.{SoundBy, IsFirstFaultBy}
-use Rattle.auditor.specs.Faults.{IsFirstFault}
+use Rattle.auditor.specs.ByModels.{SoundBy}
+use Rattle.auditor.specs.Faults.{IsFirstFault, IsFirstFaultBy}
 use Rattle.auditor.specs.Fed.{run_of}
 use Rattle.auditor.proofs.FaultNumbers.{can_be_told}
 use Rattle.auditor.proofs.FedWith.{whole_run}
 use Rattle.auditor.specs.StepModels.{object_model}
 use Rattle.auditor.specs.Terms.{Terms}
-use Rattle.auditor.proofs.ObjectModels.{sound_both, first_both}
+use Rattle.auditor.proofs.ObjectModels.{sound_both}
 use Rattle.auditor.proofs.record_judge.RecordJudge.verdict.Goals as goal
 
 pub verdict-requires-clause-run : goal.verdict-requires-clause-run
@@ -39,7 +39,7 @@ returns-clause-fault g c = λ f.
     let back = sym c.self.view_is in
     let same = (whole_run i.cpus i.objects.items i.begun i.opened.items i.log i.judged c.self.invariant (subst (λ (p : Parts). IsWholeWith p.settings p) back c.requires.whole) (subst (λ (p : Parts). RecordFits (kept_record p.settings p)) back c.requires.fit)).4 in
     subst (λ (p : Parts). (c.verdict.result ≡ verdict.Unsound f) ↔ IsFirstFault kernel (opened_of p.settings) (kept_record p.settings p).run f) c.self.view_is
-    (first_both kernel (opened_of (record { cpus = i.cpus; objects = i.objects.items })) (run_of i.judged) f (subst (λ (os : List (Terms KParams KernelObject)). (c.verdict.result ≡ verdict.Unsound f) ↔ IsFirstFaultBy (object_model kernel) os (run_of i.judged) f) same (c.verdict.ensures.fault f)))
+    (subst (λ (os : List (Terms KParams KernelObject)). (c.verdict.result ≡ verdict.Unsound f) ↔ IsFirstFaultBy (object_model kernel) os (run_of i.judged) f) same (c.verdict.ensures.fault f))
 
 pub returns-clause-told : goal.returns-clause-told
 returns-clause-told g c = can_be_told (kept_record c.args.self.now.settings c.args.self.now) c.requires.fit {E = Fault} (Ok c.verdict.result) (returns-clause-fault g c)

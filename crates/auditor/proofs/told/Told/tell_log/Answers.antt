@@ -1,4 +1,4 @@
-use Rattle.std.proofs.Common.{◌≡◌, [], ◌∷◌, ◌++◌, length, ap, sym, ◌∙◌, arith, length-append}
+use Rattle.std.proofs.Common.{◌≡◌, [], ◌∷◌, ◌++◌, length, ap, ◌∙◌, arith, length-append}
 use Rattle.auditor.specs.Fed.{Fed, log_begun}
 use Rattle.auditor.specs.Terms.{terms_at, terms_with}
 use Rattle.auditor.proofs.JudgeTerms.{terms_more}

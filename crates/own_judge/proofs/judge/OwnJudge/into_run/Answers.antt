@@ -1,12 +1,13 @@
-use Rattle.std.proofs.Common.{List, sym, ap, ◌∙◌, subst}
+use Rattle.std.proofs.Common.{List, sym, subst}
 use Rattle.std.specs.Prelude.{IfOk, IfErr}
-use Rattle.auditor.specs.ByModels.{SoundBy, IsFirstFaultBy}
+use Rattle.auditor.specs.ByModels.{SoundBy}
+use Rattle.auditor.specs.Faults.{IsFirstFaultBy}
 use Rattle.auditor.specs.Fed.{run_of}
 use Rattle.own_object.specs.Keeping.{kept_own, IsWholeOwn}
 use Rattle.own_object.specs.Ranges.{OwnRecordFits}
-use Rattle.own_judge.specs.Judging.{head_of, own_parts, own_terms, OwnTerms, Counted}
+use Rattle.own_judge.specs.Judging.{head_of, own_terms, OwnTerms, Counted}
 use Rattle.own_judge.proofs.CountedLogs.{by_count}
-use Rattle.own_judge.proofs.WholeOwn.{whole_logs, whole_cpus, whole_entries, whole_terms, whole_run}
+use Rattle.own_judge.proofs.WholeOwn.{whole_logs, whole_cpus, whole_terms, whole_run}
 use Rattle.own_judge.proofs.judge.OwnJudge.into_run.Goals as goal
 
 pub into_run-requires-clause-logs : goal.into_run-requires-clause-logs

@@ -5,7 +5,7 @@ use Rattle.own_object.specs.Ranges.{OwnRecordFits}
 use Rattle.own_object.specs.Settings.{OwnSettings}
 use Rattle.own_judge.specs.Judging.{head_of, own_parts, Counted}
 use Rattle.own_judge.specs.Models.{IsMistold, IsVerdictByCounts}
-use Rattle.own_judge.proofs.WholeOwn.{whole_logs, whole_cpus, whole_entries, whole_run, verdict_by, mistold_log, mistold_more, mistold_none, mistold_exactly, none_exactly}
+use Rattle.own_judge.proofs.WholeOwn.{whole_logs, whole_cpus, whole_run, verdict_by, mistold_log, mistold_more, mistold_none, mistold_exactly, none_exactly}
 use Rattle.own_judge.proofs.judge.OwnJudge.verdict.Goals as goal
 
 pub returns-in-Some-clause-mistold : goal.returns-in-Some-clause-mistold

@@ -1,6 +1,6 @@
-use Rattle.std.proofs.Common.{◌≡◌, false, ℕ, List, ◌+◌, length, refl, sym, ap, ◌∙◌, subst}
+use Rattle.std.proofs.Common.{false, ℕ, List, ◌+◌, refl, sym, ap, ◌∙◌, subst}
 use Rattle.std.specs.Prelude.{slice_index}
-use Rattle.own_object.specs.Keeping.{OwnParts, InLogs}
+use Rattle.own_object.specs.Keeping.{InLogs}
 use Rattle.own_judge.specs.Judging.{head_of, own_parts, Counted, OwnFed, IsNextWithout, IsFedOwn}
 use Rattle.own_judge.proofs.FedOwn.{in_log, log_more}
 use Rattle.own_judge.proofs.judge.OwnJudgeOwnKeeps.end_log.Goals as goal

@@ -1,6 +1,6 @@
 use Rattle.std.proofs.Common.{sym, ap, subst}
 use Rattle.own_object.specs.Keeping.{InTranscripts}
-use Rattle.own_judge.specs.Judging.{head_of, own_parts, Counted}
+use Rattle.own_judge.specs.Judging.{head_of, Counted}
 use Rattle.own_judge.proofs.FedOwn.{in_transcripts}
 use Rattle.own_judge.proofs.judge.OwnJudgeOwnKeeps.end_transcript.Goals as goal
 

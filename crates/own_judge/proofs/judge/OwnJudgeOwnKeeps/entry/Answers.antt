@@ -1,7 +1,7 @@
 use Rattle.std.proofs.Common.{◌<◌, length, sym, ap, subst, arith}
 use Rattle.own_object.specs.Keeping.{OwnParts, InTranscripts}
 use Rattle.own_object.specs.Ranges.{EntryFits}
-use Rattle.own_judge.specs.Judging.{head_of, own_parts, Counted}
+use Rattle.own_judge.specs.Judging.{head_of, Counted}
 use Rattle.own_judge.proofs.FedOwn.{in_transcripts}
 use Rattle.own_judge.proofs.judge.OwnJudgeOwnKeeps.entry.Goals as goal
 

@@ -4,7 +4,8 @@ use Rattle.own_object.specs.Own.{OwnRun}
 use Rattle.log_merge.specs.Merging.{IsCycleFound, IsMerging}
 use Rattle.log_merge.specs.declared.run_merge.Merging.{Merging}
 use Rattle.log_merge.specs.declared.run_merge.Merging.TheVariants as merging
-use Rattle.auditor.specs.ByModels.{SoundBy as CountedSound, IsFirstFaultBy as CountedFirst}
+use Rattle.auditor.specs.ByModels.{SoundBy as CountedSound}
+use Rattle.auditor.specs.Faults.{IsFirstFaultBy as CountedFirst}
 use Rattle.log_merge.specs.Nexts.{IsWhole}
 use Rattle.log_merge.specs.Prefixes.{IsMatched}
 use Rattle.log_merge.proofs.Exclusion.{tangle_excludes}
