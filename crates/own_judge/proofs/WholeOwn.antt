@@ -1,6 +1,7 @@
 -- What is said of a record that was handed over whole.
-use Rattle.std.proofs.Common.{◌≡◌, inl, inr, ⊎_elim, ℕ, ◌<◌, ◌≤◌, List, length, Option, Some, None, slice_get, sym, ap, ◌∙◌, subst, arith}
+use Rattle.std.proofs.Common.{◌≡◌, inl, inr, ⊎_elim, ℕ, ◌<◌, ◌≤◌, Bool, List, length, Option, Some, None, slice_get, sym, ap, ◌∙◌, subst, arith}
 use Rattle.std.proofs.lemmas.Bool.{cases_lt}
+use Rattle.std.proofs.lemmas.List.{length-map}
 use Rattle.std.specs.Prelude.{◌↔◌, Result, Ok, Err}
 use Rattle.std.specs.List.{AllByRecursion}
 use Rattle.event_log.proofs.Each.{all_map, each_list_at}
@@ -15,11 +16,11 @@ use Rattle.auditor.specs.Passes.{IsRunOver}
 use Rattle.auditor.specs.SoFar.{HasLogs}
 use Rattle.auditor.proofs.Verdicts.{all_at}
 use Rattle.own_object.specs.Keeping.{kept_own, IsWholeOwn}
-use Rattle.own_object.specs.Own.{OwnEvent}
+use Rattle.own_object.specs.Own.{OwnEvent, OwnRun}
 use Rattle.own_object.specs.Ranges.{OwnRecord, OwnRecordFits, EventFits, EntryFits, LogFits, TranscriptFits}
-use Rattle.own_object.specs.Settings.{OwnHead}
+use Rattle.own_object.specs.Settings.{OwnSettings, OwnHead}
 use Rattle.own_judge.specs.declared.judge.Mistold.{Mistold}
-use Rattle.own_judge.specs.Judging.{OwnFed, OwnTerms, own_terms, own_parts, HasCount, IsFirstWithout, IsFedOwn}
+use Rattle.own_judge.specs.Judging.{Counted, OwnFed, OwnTerms, own_terms, own_parts, HasCount, IsFirstWithout, IsFedOwn}
 use Rattle.own_judge.specs.Models.{IsVerdictByCounts, IsTold, IsMistold}
 use Rattle.own_judge.proofs.CountedLogs.{by_count}
 use Rattle.own_judge.proofs.FirstFaults.{first_to, first_from}
@@ -50,9 +51,15 @@ own_run r counts fit =
           omega (arith, c, logs);
     }
 
-module _ (head : OwnHead) (begun : Bool) (counts most : List ℕ) (log rest : ℕ) (none : Option ℕ) (d : OwnFed) (fed : IsFedOwn (own_parts head begun d) counts most log rest none d) (whole : IsWholeOwn head (own_parts head begun d)) (fit : OwnRecordFits (kept_own head (own_parts head begun d))) where
+module _ (head : OwnHead) (begun : Bool) (counts most : List ℕ) (log rest : ℕ) (none : Option ℕ) (d : OwnFed) (fed : IsFedOwn (own_parts head begun d) counts most log rest none d) (v : Counted) (view : ◌≡◌ {A = Counted} (record { parts = own_parts head begun d; counts = counts }) v) (is_whole : IsWholeOwn v.parts.head v.parts) (fits : OwnRecordFits (kept_own v.parts.head v.parts)) where
   abbrev R : OwnRecord
   R = kept_own head (own_parts head begun d)
+
+  whole : IsWholeOwn head (own_parts head begun d)
+  whole = subst (λ (w : Counted). IsWholeOwn w.parts.head w.parts) (sym view) is_whole
+
+  fit : OwnRecordFits R
+  fit = subst (λ (w : Counted). OwnRecordFits (kept_own w.parts.head w.parts)) (sym view) fits
 
   pub whole_logs : HasLogs d
   whole_logs = has_logs head begun counts most log rest none d fed fit.1.log_count whole.events
@@ -60,20 +67,26 @@ module _ (head : OwnHead) (begun : Bool) (counts most : List ℕ) (log rest : �
   pub whole_cpus : length d.transcripts ≡ d.cpus
   whole_cpus = fit.1.transcript_count ∙ sym fed.cpus
 
-  pub whole_terms : d.opened ≡ own_terms counts head.objects
+  whole_terms : d.opened ≡ own_terms counts head.objects
   whole_terms = all_opened head begun counts most log rest none d fed fit.1.log_count
 
   pub whole_run : IsRunOver d.opened (run_of d)
   whole_run = subst (λ (ts : List OwnTerms). IsRunOver ts (run_of d)) (sym whole_terms) (own_run R counts fit)
 
+  -- what is so of the run that was fed is so of the record that was handed over
+  pub of_record : (Q : List OwnTerms → OwnRun → Type 0) → Q d.opened (run_of d) → Q (own_terms v.counts v.parts.head.objects) (kept_own v.parts.head v.parts).run
+  of_record Q q = subst (λ (w : Counted). Q (own_terms w.counts w.parts.head.objects) (kept_own w.parts.head w.parts).run) view (subst (λ (ts : List OwnTerms). Q ts (run_of d)) whole_terms q)
+
   -- the verdict by every model that has these counts
-  pub verdict_by : (v : Verdict) → (v ≡ verdict.Sound) ↔ CountedSound by_count d.opened (run_of d) → ((f : Fault) → (v ≡ verdict.Unsound f) ↔ CountedFirst by_count d.opened (run_of d) f) → IsVerdictByCounts R counts v
-  verdict_by v sound fault = λ model are.
-      let there = subst (λ (ts : List OwnTerms). (v ≡ verdict.Sound) ↔ CountedSound by_count ts (run_of d)) whole_terms sound in
-      let first : (f : Fault) → (v ≡ verdict.Unsound f) ↔ CountedFirst by_count (own_terms counts head.objects) (run_of d) f = λ f. subst (λ (ts : List OwnTerms). (v ≡ verdict.Unsound f) ↔ CountedFirst by_count ts (run_of d) f) whole_terms (fault f) in
+  pub verdict_by : (a : Verdict) → (a ≡ verdict.Sound) ↔ CountedSound by_count d.opened (run_of d) → ((f : Fault) → (a ≡ verdict.Unsound f) ↔ CountedFirst by_count d.opened (run_of d) f) → IsVerdictByCounts (kept_own v.parts.head v.parts) v.counts a
+  verdict_by a sound fault = λ model are.
+      let r = kept_own v.parts.head v.parts in
+      let logs = fits.1.log_count in
+      let there = of_record (λ ts run. (a ≡ verdict.Sound) ↔ CountedSound by_count ts run) sound in
+      let first : (f : Fault) → (a ≡ verdict.Unsound f) ↔ CountedFirst by_count (own_terms v.counts r.head.objects) r.run f = λ f. of_record (λ ts run. (a ≡ verdict.Unsound f) ↔ CountedFirst by_count ts run f) (fault f) in
       record {
-        sound = ((λ e. sound_from model R counts are fit.1.log_count (sizes_of R fit) (there.0 e)), (λ s. there.1 (sound_to model R counts are fit.1.log_count (sizes_of R fit) s)));
-        fault = λ f. ((λ e. first_from model R counts are fit.1.log_count f ((first f).0 e)), (λ s. (first f).1 (first_to model R counts are fit.1.log_count f s)));
+        sound = ((λ e. sound_from model r v.counts are logs (sizes_of r fits) (there.0 e)), (λ s. there.1 (sound_to model r v.counts are logs (sizes_of r fits) s)));
+        fault = λ f. ((λ e. first_from model r v.counts are logs f ((first f).0 e)), (λ s. (first f).1 (first_to model r v.counts are logs f s)));
       }
 
   -- a place with a count
@@ -84,50 +97,56 @@ module _ (head : OwnHead) (begun : Bool) (counts most : List ℕ) (log rest : �
   count_of x t = record { count = t.count; there = t.there; within = t.within }
 
   -- one place alone is mistold
-  pub one_mistold : (x y : ℕ) → IsMistold R counts x → IsMistold R counts y → x ≡ y
+  one_mistold : (x y : ℕ) → IsMistold R counts x → IsMistold R counts y → x ≡ y
   one_mistold x y a b = ⊎_elim (λ less. absurd (a.wrong (b.first x less))) (λ le. ⊎_elim (λ less. absurd (b.wrong (a.first y less))) (λ ge. omega (arith, le, ge)) (cases_lt y x)) (cases_lt x y)
-
-  pub mistold_log : (x : ℕ) → none ≡ Some x → IsMistold R counts x
-  mistold_log x e =
-      let first = subst (IsFirstWithout counts d.logs) e fed.without in
-      let all = fit.1.log_count in
-      let lt = first.0 in
-      record {
-        some = inl (omega (arith, all, lt));
-        wrong = λ t. first.1 (count_of x t);
-        first = λ y less. told_of y (omega (arith, all, lt, less)) (first.2 y less);
-      }
-
-  pub mistold_more : none ≡ None → length head.objects < length counts → IsMistold R counts (length head.objects)
-  mistold_more e more =
-      let first = subst (IsFirstWithout counts d.logs) e fed.without in
-      let all = fit.1.log_count in
-      record {
-        some = inr more;
-        wrong = λ t. let lt = t.object in absurd (omega (arith, lt));
-        first = λ y less. told_of y less (first y (omega (arith, all, less)));
-      }
-
-  pub mistold_none : none ≡ None → length counts ≤ length head.objects → (x : ℕ) → IsMistold R counts x → ⊥
-  mistold_none e few x h =
-      let first = subst (IsFirstWithout counts d.logs) e fed.without in
-      let all = fit.1.log_count in
-      let lt : x < length head.objects = ⊎_elim (λ less. less) (λ less. omega (arith, few, less)) h.some in
-      h.wrong (told_of x lt (first x (omega (arith, all, lt))))
 
   -- the place that is answered is the mistold one
   abbrev object_in : Result Verdict Mistold → ℕ → ℕ
-  object_in (Ok v) other = other
+  object_in (Ok a) other = other
   object_in (Err m) other = m.object
 
   abbrev at_object : ℕ → Result Verdict Mistold
   at_object x = Err (record { object = x })
 
   abbrev of_verdict : Verdict → Result Verdict Mistold
-  of_verdict v = Ok v
+  of_verdict a = Ok a
 
-  pub mistold_exactly : (x y : ℕ) → IsMistold R counts x → (at_object x ≡ at_object y) ↔ IsMistold R counts y
-  mistold_exactly x y h = ((λ e. subst (IsMistold R counts) (ap (λ (a : Result Verdict Mistold). object_in a x) e) h), (λ k. ap at_object (one_mistold x y h k)))
+  abbrev IsExact : Result Verdict Mistold → ℕ → Type 0
+  IsExact a y = (a ≡ at_object y) ↔ IsMistold (kept_own v.parts.head v.parts) v.counts y
 
-  pub none_exactly : (v : Verdict) (y : ℕ) → ((x : ℕ) → IsMistold R counts x → ⊥) → (of_verdict v ≡ at_object y) ↔ IsMistold R counts y
-  none_exactly v y none = ((λ e. absurd (cc)), (λ k. absurd (none y k)))
+  exactly : (a : Result Verdict Mistold) (y : ℕ) → (a ≡ at_object y) ↔ IsMistold R counts y → IsExact a y
+  exactly a y h = subst (λ (w : Counted). (a ≡ at_object y) ↔ IsMistold (kept_own w.parts.head w.parts) w.counts y) view h
+
+  mistold_exactly : (x y : ℕ) → IsMistold R counts x → IsExact (at_object x) y
+  mistold_exactly x y h = exactly (at_object x) y ((λ e. subst (IsMistold R counts) (ap (λ (a : Result Verdict Mistold). object_in a x) e) h), (λ k. ap at_object (one_mistold x y h k)))
+
+  pub log_exactly : (x : ℕ) → none ≡ Some x → (y : ℕ) → IsExact (at_object x) y
+  log_exactly x e y =
+      let first = subst (IsFirstWithout counts d.logs) e fed.without in
+      let all = fit.1.log_count in
+      let lt = first.0 in
+      mistold_exactly x y (record {
+        some = inl (omega (arith, all, lt));
+        wrong = λ t. first.1 (count_of x t);
+        first = λ z less. told_of z (omega (arith, all, lt, less)) (first.2 z less);
+      })
+
+  pub more_exactly : none ≡ None → (n : ℕ) → n ≡ length most → n < length counts → (y : ℕ) → IsExact (at_object n) y
+  more_exactly e n is more y =
+      let first = subst (IsFirstWithout counts d.logs) e fed.without in
+      let all = fit.1.log_count in
+      let here : n ≡ length head.objects = is ∙ (ap length fed.limits ∙ length-map head.objects (λ (o : OwnSettings). o.events)) in
+      mistold_exactly n y (record {
+        some = inr more;
+        wrong = λ t. let lt = t.object in absurd (omega (arith, here, lt));
+        first = λ z less. told_of z (omega (arith, here, less)) (first z (omega (arith, all, here, less)));
+      })
+
+  pub none_exactly : none ≡ None → length counts ≤ length most → (a : Verdict) (y : ℕ) → IsExact (of_verdict a) y
+  none_exactly e few a y =
+      let first = subst (IsFirstWithout counts d.logs) e fed.without in
+      let all = fit.1.log_count in
+      let long = ap length fed.limits ∙ length-map head.objects (λ (o : OwnSettings). o.events) in
+      exactly (of_verdict a) y ((λ e. absurd (cc)), (λ h.
+      let lt : y < length head.objects = ⊎_elim (λ less. less) (λ less. omega (arith, few, long, less)) h.some in
+      absurd (h.wrong (told_of y lt (first y (omega (arith, all, lt)))))))
