@@ -1,10 +1,11 @@
 -- A judge that was fed the parts of a record.
-use Rattle.std.proofs.Common.{◌≡◌, ◌⊎◌, inl, inr, ⊎_elim, ℕ, zero, suc, ◌+◌, ◌-◌, ◌<◌, ◌≤◌, Bool, true, false, if◌then◌else◌, List, [], ◌∷◌, ◌++◌, length, map, take, get_or, Option, Some, None, slice_get, refl, sym, ap, ◌∙◌, subst, arith, length-append}
+use Rattle.std.proofs.Common.{◌≡◌, ◌⊎◌, ⊎_elim, ℕ, ◌+◌, ◌-◌, ◌<◌, ◌≤◌, Bool, true, false, if◌then◌else◌, List, [], ◌∷◌, ◌++◌, length, map, take, get_or, Option, Some, None, slice_get, sym, ap, ◌∙◌, subst, arith, length-append}
 use Rattle.std.specs.Prelude.{unwrap_or, slice_index}
+use Rattle.std.proofs.lemmas.Bool.{cases_lt}
 use Rattle.std.proofs.lemmas.List.{length-take-le, take_more, take_all}
 use Rattle.std.proofs.lemmas.Option.{slice_get_within, get_or_from_slice_get}
 use Rattle.event_log.specs.Log.{steps_of}
-use Rattle.event_log.proofs.Lists.{some_at}
+use Rattle.event_log.proofs.Lists.{same_front, get_last, some_at}
 use Rattle.sound_run.proofs.Slices.{map_get}
 use Rattle.auditor.specs.Fed.{log_begun, event_fed, log_ended}
 use Rattle.auditor.specs.SoFar.{IsBeforeLog, IsInLog, HasLogs, IsInTranscripts}
@@ -22,30 +23,15 @@ steps_push (x ∷ log) e =
     let h = steps_push log e in
     omega (arith, n, m, h)
 
--- a list at a place, and the last of them
-last_there : (logs : List (List OwnEvent)) (log : List OwnEvent) → slice_get (logs ++ log ∷ []) (length logs) ≡ Some log
-last_there [] log = refl
-last_there (l ∷ logs) log = last_there logs log
-
-earlier_there : (logs : List (List OwnEvent)) (log : List OwnEvent) (y : ℕ) → y < length logs → slice_get (logs ++ log ∷ []) y ≡ slice_get logs y
-earlier_there [] log y lt = absurd (omega arith)
-earlier_there (l ∷ logs) log zero lt = refl
-earlier_there (l ∷ logs) log (suc y) lt = earlier_there logs log y (omega arith)
-
-index_of : (counts : List ℕ) (x n : ℕ) → slice_get counts x ≡ Some n → slice_index counts x ≡ n
-index_of [] x n e = cc
-index_of (c ∷ counts) zero n e = let same : c ≡ n = cc in same
-index_of (c ∷ counts) (suc x) n e = index_of counts x n e
-
 -- the logs that have no count, one log more
 pub without_next : (counts : List ℕ) (logs : List (List OwnEvent)) (events : List OwnEvent) (log rest : ℕ) (old new : Option ℕ) → log ≡ length logs → rest ≡ slice_index counts (length logs) - length (steps_of events) → IsNextWithout counts log rest old new → IsFirstWithout counts logs old → IsFirstWithout counts (logs ++ events ∷ []) new
 without_next counts logs events log rest old new here left next before = by old new next before
   where
     keep : (y : ℕ) → y < length logs → HasCount counts logs y → HasCount counts (logs ++ events ∷ []) y
-    keep y lt h = record { count = h.count; there = h.there; within = let w = h.within in let n = ap (λ o. length (steps_of (unwrap_or o []))) (earlier_there logs events y lt) in omega (arith, w, n) }
+    keep y lt h = record { count = h.count; there = h.there; within = let w = h.within in let n = ap (λ o. length (steps_of (unwrap_or o []))) (same_front logs (events ∷ []) y lt) in omega (arith, w, n) }
 
     back : (y : ℕ) → y < length logs → HasCount counts (logs ++ events ∷ []) y → HasCount counts logs y
-    back y lt h = record { count = h.count; there = h.there; within = let w = h.within in let n = ap (λ o. length (steps_of (unwrap_or o []))) (earlier_there logs events y lt) in omega (arith, w, n) }
+    back y lt h = record { count = h.count; there = h.there; within = let w = h.within in let n = ap (λ o. length (steps_of (unwrap_or o []))) (same_front logs (events ∷ []) y lt) in omega (arith, w, n) }
 
     longer : length (logs ++ events ∷ []) ≡ length logs + 1
     longer = length-append logs (events ∷ [])
@@ -53,23 +39,17 @@ without_next counts logs events log rest old new here left next before = by old 
     last_has : HasCount counts (logs ++ events ∷ []) (length logs) → (log < length counts) × (rest ≡ 0)
     last_has h =
         let w = h.within in
-        let n = ap (λ o. length (steps_of (unwrap_or o []))) (last_there logs events) in
-        let i = index_of counts (length logs) h.count h.there in
+        let n = ap (λ o. length (steps_of (unwrap_or o []))) (get_last logs events) in
+        let i : slice_index counts (length logs) ≡ h.count = get_or_from_slice_get counts (length logs) h.count 0 h.there in
         let lt = slice_get_within counts (length logs) h.count h.there in
         (omega (arith, lt, here), omega (arith, left, w, n, i))
 
     has_last : log < length counts → rest ≡ 0 → HasCount counts (logs ++ events ∷ []) (length logs)
     has_last lt none =
         let c = some_at counts (length logs) (omega (arith, lt, here)) in
-        let n = ap (λ o. length (steps_of (unwrap_or o []))) (last_there logs events) in
-        let i = index_of counts (length logs) c.0 c.1 in
+        let n = ap (λ o. length (steps_of (unwrap_or o []))) (get_last logs events) in
+        let i : slice_index counts (length logs) ≡ c.0 = get_or_from_slice_get counts (length logs) c.0 0 c.1 in
         record { count = c.0; there = c.1; within = omega (arith, left, none, n, i) }
-
-    order : (m n : ℕ) → m < n + 1 → (m < n) ⊎ (m ≡ n)
-    order zero zero lt = inr refl
-    order zero (suc n) lt = inl (omega arith)
-    order (suc m) zero lt = absurd (omega (arith, lt))
-    order (suc m) (suc n) lt = ⊎_elim (λ less. inl (omega arith)) (λ e. inr (ap suc e)) (order m n (omega (arith, lt)))
 
     by : (a b : Option ℕ) → IsNextWithout counts log rest a b → IsFirstWithout counts logs a → IsFirstWithout counts (logs ++ events ∷ []) b
     by (Some x) None step first = absurd (cc)
@@ -77,7 +57,7 @@ without_next counts logs events log rest old new here left next before = by old 
         let same : x ≡ y = sym (let e : y ≡ x = cc in e) in
         let lt = first.0 in
         subst (λ (z : ℕ). IsFirstWithout counts (logs ++ events ∷ []) (Some z)) same (omega (arith, lt, longer), (λ h. first.1 (back x first.0 h)), (λ z less. keep z (omega (arith, less, lt)) (first.2 z less)))
-    by None None step first = λ y lt. ⊎_elim (λ less. keep y less (first y less)) (λ e. subst (HasCount counts (logs ++ events ∷ [])) (sym e) (has_last step.0 step.1)) (order y (length logs) (omega (arith, lt, longer)))
+    by None None step first = λ y lt. ⊎_elim (λ less. keep y less (first y less)) (λ ge. let e : length logs ≡ y = omega (arith, lt, longer, ge) in subst (HasCount counts (logs ++ events ∷ [])) e (has_last step.0 step.1)) (cases_lt y (length logs))
     by None (Some y) step first =
         let same : length logs ≡ y = sym here ∙ sym step.0 in
         subst (λ (z : ℕ). IsFirstWithout counts (logs ++ events ∷ []) (Some z)) same (omega (arith, longer), (λ h. step.1 (last_has h)), (λ z less. keep z less (first z less)))

@@ -1,6 +1,8 @@
 -- The first fault by a model, and the first by the counts.
-use Rattle.std.proofs.Common.{◌≡◌, ◌⊎◌, inl, inr, ⊎_elim, ℕ, zero, suc, ◌+◌, ◌<◌, ◌≤◌, true≢false, List, [], ◌∷◌, ◌++◌, length, take, Some, slice_get, refl, sym, ap, ◌∙◌, subst, arith, length-append}
+use Rattle.std.proofs.Common.{◌≡◌, ◌⊎◌, inl, inr, ⊎_elim, ℕ, zero, suc, ◌+◌, ◌<◌, ◌≤◌, true≢false, List, [], ◌∷◌, ◌++◌, length, take, Some, slice_get, refl, sym, ap, ◌∙◌, subst, arith, append_assoc, length-append}
 use Rattle.std.proofs.lemmas.Bool.{cases_lt}
+use Rattle.std.proofs.lemmas.List.{take-append-le}
+use Rattle.std.proofs.lemmas.Option.{slice_get_within, get_or_from_slice_get}
 use Rattle.std.specs.Prelude.{slice_index}
 use Rattle.event_log.specs.Log.{steps_of}
 use Rattle.event_log.proofs.Lists.{some_at}
@@ -82,23 +84,14 @@ steps_to (x ∷ log) zero i d at lt =
     let same : x ≡ d = cc in
     let here = ap (λ (v : OwnEvent). length v.steps.list.items) same in
     let n : 0 + i + 1 ≡ i + 1 = omega arith in
-    ap (λ k. take k (x.steps.list.items ++ steps_of log)) n ∙ (take_front x.steps.list.items (steps_of log) (i + 1) (omega (arith, here, lt)) ∙ ap (λ (v : OwnEvent). take (i + 1) v.steps.list.items) same)
-  where
-    take_front : (xs ys : List OwnStep) (n : ℕ) → n ≤ length xs → take n (xs ++ ys) ≡ take n xs
-    take_front xs ys zero le = refl
-    take_front [] ys (suc n) le = absurd (omega arith)
-    take_front (x ∷ xs) ys (suc n) le = ap (λ l. x ∷ l) (take_front xs ys n (omega arith))
+    ap (λ k. take k (x.steps.list.items ++ steps_of log)) n ∙ (take-append-le (i + 1) x.steps.list.items (steps_of log) (omega (arith, here, lt)) ∙ ap (λ (v : OwnEvent). take (i + 1) v.steps.list.items) same)
 steps_to (x ∷ log) (suc e) i d at lt =
     let n : length (x.steps.list.items ++ steps_of (take e log)) + i + 1 ≡ length x.steps.list.items + (length (steps_of (take e log)) + i + 1) = let m = length-append x.steps.list.items (steps_of (take e log)) in omega (arith, m) in
-    ap (λ k. take k (x.steps.list.items ++ steps_of log)) n ∙ (past x.steps.list.items (steps_of log) (length (steps_of (take e log)) + i + 1) ∙ (ap (λ l. x.steps.list.items ++ l) (steps_to log e i d at lt) ∙ joined x.steps.list.items (steps_of (take e log)) (take (i + 1) d.steps.list.items)))
+    ap (λ k. take k (x.steps.list.items ++ steps_of log)) n ∙ (past x.steps.list.items (steps_of log) (length (steps_of (take e log)) + i + 1) ∙ (ap (λ l. x.steps.list.items ++ l) (steps_to log e i d at lt) ∙ sym (append_assoc x.steps.list.items (steps_of (take e log)) (take (i + 1) d.steps.list.items))))
   where
     past : (xs ys : List OwnStep) (n : ℕ) → take (length xs + n) (xs ++ ys) ≡ xs ++ take n ys
     past [] ys n = let e : 0 + n ≡ n = omega arith in ap (λ k. take k ys) e
     past (x ∷ xs) ys n = let e : suc (length xs) + n ≡ suc (length xs + n) = omega arith in ap (λ k. take k (x ∷ (xs ++ ys))) e ∙ ap (λ l. x ∷ l) (past xs ys n)
-
-    joined : (xs ys zs : List OwnStep) → xs ++ (ys ++ zs) ≡ (xs ++ ys) ++ zs
-    joined [] ys zs = refl
-    joined (x ∷ xs) ys zs = ap (λ l. x ∷ l) (joined xs ys zs)
 
 -- the place of a step comes before a later one's
 step_place : (x e i f j : ℕ) → (e < f) ⊎ ((e ≡ f) × (i < j)) → IsBefore (place (fault.WrongStep x e i)) (place (fault.WrongStep x f j))
@@ -115,19 +108,9 @@ module _ (model : Model) (r : OwnRecord) (counts : List ℕ) (are : AreCounts mo
   pub count_at : (x : ℕ) (o : OwnSettings) → slice_get r.head.objects x ≡ Some o → IsCount (model o) (steps_of (log_of x r.run)) (slice_index counts x)
   count_at x o on =
       let n = are.counted in
-      let lt = within r.head.objects x o on in
+      let lt = slice_get_within r.head.objects x o on in
       let c = some_at counts x (omega (arith, n, lt)) in
-      subst (λ (k : ℕ). IsCount (model o) (steps_of (log_of x r.run)) k) (sym (index_at counts x c.0 c.1)) (are.each x o c.0 on c.1)
-    where
-      within : (xs : List OwnSettings) (i : ℕ) (y : OwnSettings) → slice_get xs i ≡ Some y → i < length xs
-      within [] i y e = cc
-      within (z ∷ zs) zero y e = omega arith
-      within (z ∷ zs) (suc i) y e = let h = within zs i y e in omega (arith, h)
-
-      index_at : (xs : List ℕ) (i : ℕ) (y : ℕ) → slice_get xs i ≡ Some y → slice_index xs i ≡ y
-      index_at [] i y e = cc
-      index_at (z ∷ zs) zero y e = let same : z ≡ y = cc in same
-      index_at (z ∷ zs) (suc i) y e = index_at zs i y e
+      subst (λ (k : ℕ). IsCount (model o) (steps_of (log_of x r.run)) k) (sym (get_or_from_slice_get counts x c.0 0 c.1)) (are.each x o c.0 on c.1)
 
   -- a step that is wrong by the counts, in the words of its log
   step_to : (x e i : ℕ) (o : OwnSettings) (d : OwnEvent) → slice_get r.head.objects x ≡ Some o → slice_get (log_of x r.run) e ≡ Some d → i < length d.steps.list.items → (slice_index counts x ≤ length (steps_of (take e (log_of x r.run))) + i) ⊎ IsBehindRefusing d.steps.list.items i → WrongStep x e i

@@ -1,5 +1,5 @@
 -- What a judge knows of what it was handed over.
-use Rattle.std.specs.Prelude.{◌≡◌, ℕ, ◌+◌, ◌-◌, ◌<◌, ◌≤◌, Bool, if◌then◌else◌, List, [], ◌∷◌, length, map, take, Option, Some, None, slice_get, slice_index, unwrap_or}
+use Rattle.std.specs.Prelude.{◌≡◌, ℕ, ◌+◌, ◌-◌, ◌<◌, ◌≤◌, Bool, if◌then◌else◌, List, [], ◌∷◌, length, map, take, drop, Option, Some, None, slice_get, slice_index, unwrap_or}
 use Rattle.event_log.specs.Log.{steps_of}
 use Rattle.auditor.specs.Fed.{Fed}
 use Rattle.auditor.specs.Terms.{Terms}
@@ -35,8 +35,7 @@ term_of o n = record { params = tt; limit = o.events; state = n }
 -- those of all logs; where there is no count no step is right
 abbrev pub own_terms : List ℕ → List OwnSettings → List OwnTerms
 own_terms counts [] = []
-own_terms [] (o ∷ objects) = term_of o 0 ∷ own_terms [] objects
-own_terms (n ∷ counts) (o ∷ objects) = term_of o n ∷ own_terms counts objects
+own_terms counts (o ∷ objects) = term_of o (slice_index counts 0) ∷ own_terms (drop 1 counts) objects
 
 -- what the judge was fed, as parts of a record with that head
 abbrev pub own_parts : OwnHead → Bool → OwnFed → OwnParts

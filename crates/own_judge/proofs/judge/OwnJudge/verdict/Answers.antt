@@ -1,4 +1,4 @@
-use Rattle.std.proofs.Common.{◌≡◌, ◌<◌, ◌≤◌, length, arith}
+use Rattle.std.proofs.Common.{arith}
 use Rattle.own_judge.specs.Judging.{head_of}
 use Rattle.own_judge.proofs.WholeOwn.{whole_logs, whole_cpus, whole_run, verdict_by, log_exactly, more_exactly, none_exactly}
 use Rattle.own_judge.proofs.judge.OwnJudge.verdict.Goals as goal
