@@ -17,3 +17,7 @@ pub mod Consuming
 pub mod Lengths
 pub mod LineLaws
 pub mod Parts
+pub mod FormSteps
+pub mod FormSinks
+pub mod FormMoves
+pub mod Recognised
