@@ -1,6 +1,6 @@
 //! What a form of records is.
 
-ghost use Rattle.std.specs.Prelude.{◌≡◌, ℕ, List, Option, Bool, ◌<◌, ◌≤◌, true, false, OnOk, OnErr, Err, Some, None, IfSome};
+ghost use Rattle.std.specs.Prelude.{◌≡◌, ℕ, List, Option, Bool, ◌<◌, ◌≤◌, ◌^◌, true, false, OnOk, OnErr, Err, Some, None, IfSome};
 ghost use Rattle.std.specs.Option.{option_map};
 
 use crate::LineFault;
@@ -161,6 +161,9 @@ pub trait RecordForm: Drop {
     /// Whether the line ends the record.
     fn end_line(line: &[u8]) -> bool
         ensures { result ≡ ends line.now };
+
+    /// Events and entries can be counted.
+    ghost few: { (most_events < 2 ^ 64) × (most_entries < 2 ^ 64) };
 
     /// A whole head names objects and CPUs.
     ghost some: { (h : Self.Head) → HeadFits h → (0 < objects h) × (0 < cpus h) };
