@@ -21,3 +21,8 @@ pub mod FormSteps
 pub mod FormSinks
 pub mod FormMoves
 pub mod Recognised
+pub mod FormParts
+pub mod FormSpells
+pub mod FormRuns
+pub mod FormEnds
+pub mod FormTexts

@@ -14,3 +14,6 @@ pub mod Received
 pub mod FormPlaces
 pub mod FormStates
 pub mod FormAgreed
+pub mod FormText
+pub mod FormLaws
+pub mod WholeFaults
