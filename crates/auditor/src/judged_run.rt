@@ -12,7 +12,8 @@ use crate::StepRows;
 use crate::kept_log::KeptLog;
 use crate::told::Told;
 use event_log::SeqObject;
-use scripts::{KernelObject, StepTexts};
+use kernel_object::KernelObject;
+use records::StepTexts;
 use std::marker::Model;
 
 /// A run that is sound. Of its events it has the CPU and the steps, packed, and of its entries nothing. Contracts alone know

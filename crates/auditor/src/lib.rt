@@ -40,7 +40,7 @@ pub use references::{
     ReferenceConsole, ReferenceKernelObject, ReferenceObject, ReferencePool, ReferenceQueue,
     ReferenceSched,
 };
-pub use scripts::TextFault;
+pub use record_lines::TextFault;
 pub use step_rows::StepRows;
 pub use texts::audit_text;
 pub use verdict_text::{fault_text, verdict_line};

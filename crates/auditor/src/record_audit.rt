@@ -11,7 +11,8 @@ use crate::record_judge::objects_of;
 use crate::references::ReferenceKernelObject;
 use crate::{Fault, ReferenceObject, Verdict};
 use event_log::{OutOfMemory, SeqObject};
-use scripts::{KernelObject, Record};
+use kernel_object::KernelObject;
+use records::Record;
 use std::alloc::Global;
 
 /// The verdict on a record, whose calls are answered a second time by values of that type.

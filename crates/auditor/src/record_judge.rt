@@ -12,7 +12,8 @@ ghost use Rattle.auditor.specs.VerdictText.{CanBeTold, IsNamed};
 use crate::judged::Judged;
 use crate::{Fault, JudgedRun, OpenedObject, ReferenceObject, Verdict};
 use event_log::{Entry, Event, OutOfMemory, Past, SeqObject};
-use scripts::{Keeps, KernelObject, ObjectSettings, StepTexts};
+use kernel_object::KernelObject;
+use records::{Keeps, ObjectSettings, StepTexts};
 use std::alloc::Global;
 use std::marker::Model;
 

@@ -10,7 +10,8 @@ ghost use Rattle.auditor.specs.Audits.{IsVerdictOnText, IsTextFault, IsAudited};
 
 use crate::{RecordJudge, ReferenceKernelObject, Verdict};
 use event_log::Source;
-use scripts::{TextFault, read_keeping};
+use record_lines::TextFault;
+use records::read_keeping;
 use std::alloc::Global;
 
 /// Reads the source to its end, in pieces of 4,096 bytes at most, and judges the record that its bytes spell. A bad line

@@ -6,7 +6,7 @@ ghost use Rattle.auditor.specs.VerdictText.{IsNamed, CanBeTold, fault_text, verd
 
 use crate::{Fault, Verdict};
 use event_log::OutOfMemory;
-use scripts::Settings;
+use records::Settings;
 use std::alloc::{AllocError, Global};
 
 fn name_of(settings: &Settings, object: usize) -> &str

@@ -5,7 +5,8 @@ ghost use Rattle.judge.specs.Told.{IsVerdictTold};
 use crate::Told;
 use crate::told::{BAD_LINE, OUT_OF_MEMORY};
 use auditor::{RecordJudge, ReferenceKernelObject};
-use scripts::{LinesFault, read_text_keeping};
+use record_lines::LinesFault;
+use records::read_text_keeping;
 use std::alloc::Global;
 
 /// What is told of the record that the bytes spell.

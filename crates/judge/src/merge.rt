@@ -7,7 +7,8 @@ use crate::Told;
 use crate::told::{BAD_LINE, CYCLE, NO_ROOM, OUT_OF_MEMORY, SOUND};
 use auditor::ReferenceKernelObject;
 use log_merge::{MergeFault, MergeJudge, Place};
-use scripts::{LinesFault, read_text_keeping};
+use record_lines::LinesFault;
+use records::read_text_keeping;
 use std::alloc::Global;
 
 /// An entry by its place: a CPU and the index of one of its entries, both from 0.

@@ -8,7 +8,7 @@ use crate::told::{BAD_LINE, MISTOLD, OUT_OF_MEMORY};
 use event_log::OutOfMemory;
 use own_judge::OwnJudge;
 use own_records::read_own;
-use scripts::LinesFault;
+use record_lines::LinesFault;
 use std::alloc::Global;
 
 /// The counts once more.

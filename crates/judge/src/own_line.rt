@@ -12,7 +12,7 @@ use crate::own_told::{put_numbers, put_steps};
 use event_log::{Event, Steps};
 use own_lines::{event_line, log_line, object_line};
 use own_object::{OwnHead, OwnName, OwnObject, OwnSettings, Spoken};
-use scripts::{Words, key, name_in, split_line, word};
+use record_lines::{Words, key, name_in, split_line, word};
 use std::alloc::Global;
 
 /// No line with its end begins there.

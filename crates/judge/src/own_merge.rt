@@ -8,7 +8,7 @@ use crate::told::{BAD_LINE, CYCLE, MISTOLD, OUT_OF_MEMORY, SOUND};
 use crate::{Told, Turn};
 use own_judge::{OwnMergeFault, OwnMergeJudge};
 use own_records::read_own;
-use scripts::LinesFault;
+use record_lines::LinesFault;
 use std::alloc::Global;
 
 /// What is told of the record that the bytes spell, if of each log so many steps are right.

@@ -19,7 +19,7 @@ use Rattle.kernel_words.specs.Rows.{call_row, reply_row}
 use Rattle.kernel_words.specs.Tables.{call_table, reply_table}
 use Rattle.record_lines.specs.Words.{separated}
 use Rattle.kernel_words.proofs.CallLaws.{call_words}
-use Rattle.record_lines.proofs.Lengths.{long, long_append, separated_le}
+use Rattle.record_lines.proofs.Lengths.{long, separated_le, long_append}
 
 -- ---- numbers and rows
 

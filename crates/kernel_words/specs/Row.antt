@@ -3,7 +3,7 @@ use Rattle.std.specs.Prelude.{◌≡◌, ℕ, nat_le, ◌&&◌, Bool, true, if�
 use Rattle.std.specs.List.{list_all}
 use Rattle.std.specs.Str.{bytes_eq}
 use Rattle.kernel_words.specs.declared.tables.field.Field.{Field}
-use Rattle.record_lines.specs.Reading.{word_at, number_at}
+use Rattle.record_lines.specs.Reading.{◌>>=◌, word_at, number_at}
 use Rattle.record_lines.specs.Words.{IsPlain}
 
 -- a word, and then its numbers, each with its range

@@ -6,7 +6,7 @@ ghost use Rattle.log_merge.specs.CycleText.{place_text, cycle_text};
 
 use crate::Place;
 use event_log::OutOfMemory;
-use scripts::MOST_ENTRIES;
+use records::MOST_ENTRIES;
 use std::alloc::{AllocError, Global};
 
 /// Puts `cpu C entry N`, with entries counted from 1.

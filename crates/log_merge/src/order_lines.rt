@@ -10,9 +10,9 @@ ghost use Rattle.records.specs.Settings.{name_at};
 use crate::look_up::entry_at;
 use crate::record_merge::Merged;
 use event_log::{Entry, Run, Sink};
-use scripts::{
-    Buffered, KernelObject, Record, Settings, WriteFailed, begin_line, end_line, put_done, put_word,
-};
+use kernel_object::KernelObject;
+use record_lines::{Buffered, WriteFailed, begin_line, end_line, put_word};
+use records::{Record, Settings, put_done};
 use sound_run::Place;
 
 /// The name of the object at that place, from 0.

@@ -11,7 +11,8 @@ use crate::record_merge::Merged;
 use crate::run_lines::write_order;
 use crate::shaped_run::ShapedRun;
 use event_log::Sink;
-use scripts::{Settings, WriteFailed};
+use record_lines::WriteFailed;
+use records::Settings;
 use std::marker::Model;
 
 /// The settings of a record, its run in its shape, and the one order of its entries.

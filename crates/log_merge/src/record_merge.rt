@@ -12,7 +12,8 @@ ghost use Rattle.sound_run.specs.Sound.{Sound};
 use crate::run_merge::{Merging, merge_run};
 use auditor::{Fault, Verdict, audit};
 use event_log::{OutOfMemory, SeqObject, Series};
-use scripts::{KernelObject, MOST_ENTRIES, Record};
+use kernel_object::KernelObject;
+use records::{MOST_ENTRIES, Record};
 use sound_run::Place;
 use std::alloc::Global;
 

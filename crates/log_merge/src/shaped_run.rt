@@ -10,7 +10,8 @@ ghost use Rattle.sound_run.specs.Sound.{log_of};
 use crate::run_shape::{EntryShape, RunShape};
 use auditor::JudgedRun;
 use event_log::Series;
-use scripts::{KernelObject, StepTexts};
+use kernel_object::KernelObject;
+use records::StepTexts;
 use std::marker::Model;
 
 /// A sound run of a record: two bytes of each entry, and of each event its CPU and the text of its steps. Contracts alone know the rest.

@@ -7,8 +7,8 @@ ghost use Rattle.own_kernel.specs.Counts.{none_counted, answers_of, IsCountOf};
 
 use crate::KernelModel;
 use event_log::{Event, OutOfMemory, Past, Step};
+use kernel_object::KParams;
 use own_object::OwnObject;
-use scripts::KParams;
 use std::alloc::Global;
 use std::marker::Model;
 

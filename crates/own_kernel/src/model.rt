@@ -8,8 +8,8 @@ use crate::params::kernel_params;
 use crate::said::{call_of, says};
 use auditor::{ReferenceKernelObject, ReferenceObject};
 use event_log::{OutOfMemory, Step};
+use kernel_object::{KParams, KernelObject};
 use own_object::{OwnObject, OwnSettings};
-use scripts::{KParams, KernelObject};
 use std::alloc::Global;
 use std::marker::Model;
 

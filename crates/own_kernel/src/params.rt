@@ -7,8 +7,8 @@ ghost use Rattle.own_kernel.specs.KernelModel.{opened_from, params_of};
 ghost use Rattle.own_kernel.specs.Quotas.{are_quotas};
 
 use console_ring::MOST_BYTES;
+use kernel_object::{KParams, Kind};
 use page_pool::{MOST_PAGES, OWNERS, PoolParams};
-use scripts::{KParams, Kind};
 use shared_queue::MOST_THREADS;
 use wake_list::{MOST_CHANNELS, MOST_THREADS as MOST_SCHEDULED, SchedParams};
 

@@ -12,7 +12,7 @@ use crate::events::all_steps;
 use crate::items::list;
 use event_log::{Done, Entry};
 use own_object::{MOST_OWN_OBJECTS, OwnHead, OwnName, OwnObject, OwnSettings, Spoken};
-use scripts::{Words, key, mark, number, word};
+use record_lines::{Words, key, mark, number, word};
 
 /// Whether it is the object's name.
 fn is_named(object: &OwnSettings, name: &[u8]) -> bool

@@ -10,7 +10,7 @@ use crate::said::said;
 use arrayvec::ArrayVec;
 use event_log::{MOST_CALLS, Step};
 use own_object::{OwnName, OwnObject, OwnReply, Spoken};
-use scripts::{Words, mark};
+use record_lines::{Words, mark};
 
 /// What lines have lists of.
 pub(crate) trait Item: Default + Drop {

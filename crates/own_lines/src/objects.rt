@@ -9,7 +9,7 @@ ghost use Rattle.record_lines.specs.Reading.{left, words};
 use crate::said::{is_number_next, name as next_name};
 use arrayvec::ArrayVec;
 use own_object::{MOST_SIZES, OwnSettings};
-use scripts::{Words, key, number};
+use record_lines::{Words, key, number};
 
 /// The most events of a log that are next: 1 to 4,294,967,295.
 #[tactic(auto, unfolding(crate::specs::LineReading::own_events_at))]

@@ -11,7 +11,7 @@ ghost use Rattle.record_lines.specs.Reading.{left, words};
 
 use event_log::OutOfMemory;
 use own_object::{MOST_WORDS, OwnName};
-use scripts::{Words, key, name_in, word};
+use record_lines::{Words, key, name_in, word};
 use std::alloc::Global;
 
 /// Whether the word is among those.

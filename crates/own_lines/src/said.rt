@@ -9,7 +9,7 @@ ghost use Rattle.record_lines.specs.LineParts.{name_word_at};
 ghost use Rattle.record_lines.specs.Names.{is_digit};
 
 use own_object::{MOST_NUMBERS, OwnName, Spoken};
-use scripts::{Words, is_name, name_in, number, word};
+use record_lines::{Words, is_name, name_in, number, word};
 
 /// Whether the byte is a digit.
 fn is_digit(byte: u8) -> bool

@@ -2,11 +2,13 @@
 #![tactic(auto)]
 
 mod keeps;
+mod limit_law;
 mod object;
 mod settings;
 mod spoken;
 
 pub use keeps::OwnKeeps;
+pub use limit_law::shows_limits;
 pub use object::{OwnObject, OwnReply};
 pub use settings::{
     MOST_OWN_CPUS, MOST_OWN_OBJECTS, MOST_SIZES, MOST_WORDS, OwnHead, OwnName, OwnSettings,

@@ -9,7 +9,7 @@ ghost use Rattle.record_lines.specs.Then.{ok_map};
 
 use crate::state::RecordState;
 use own_object::{OwnHead, OwnKeeps};
-use scripts::{LineFault, LinesFault, split_line};
+use record_lines::{LineFault, LinesFault, split_line};
 use std::alloc::Global;
 
 /// The head of the record that the text spells, and the keeper, which was handed over the rest of it. Where the text spells none,

@@ -12,7 +12,7 @@ use Rattle.kernel_words.specs.declared.form.Form.{Form}
 use Rattle.records.specs.Settings.{Settings, ObjectSettings, SettingsFitIn, ObjectFits, NamesDiffer, name_at}
 use Rattle.records.specs.RecordReading.{place_at}
 use Rattle.record_lines.proofs.Readings.{bind_some, same}
-use Rattle.record_lines.proofs.Names.{name_plain, named_by, first_at, name_le}
+use Rattle.record_lines.proofs.Names.{named_by, first_at, name_plain, name_le}
 
 -- the object at a place
 pub object_there : (settings : Settings) (i : ℕ) → i < length settings.objects → (o : ObjectSettings) × (slice_get settings.objects i ≡ Some o)

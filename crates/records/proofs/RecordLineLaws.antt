@@ -34,7 +34,7 @@ use Rattle.kernel_words.proofs.RecordWords.{no_steps, steps_take, steps_again, s
 use Rattle.record_lines.proofs.Names.{name_takes, name_again}
 use Rattle.kernel_words.proofs.CallLaws.{call_words, reads_calls}
 use Rattle.kernel_words.proofs.ParameterLaws.{params_take, params_again, params_plain, params_le}
-use Rattle.record_lines.proofs.LineLaws.{nothing_behind, IsLine, ReadsLines}
+use Rattle.record_lines.proofs.LineLaws.{ReadsLines, nothing_behind, IsLine}
 
 -- ---- lines of fixed words
 

@@ -8,7 +8,7 @@ use Rattle.kernel_words.specs.declared.form.Form.{Form}
 use Rattle.kernel_words.specs.declared.form.TheConstants.{WRITTEN}
 use Rattle.records.specs.declared.record.TheConstants.{MOST_ENTRIES}
 use Rattle.kernel_words.specs.Forms.{has_steps, has_done}
-use Rattle.kernel_words.specs.Ranges.{call_fits, DoneFits, StepsFit}
+use Rattle.kernel_words.specs.Ranges.{call_fits, StepsFit, DoneFits}
 use Rattle.records.specs.Settings.{Settings, SettingsFitIn}
 
 -- an event of one of so many CPUs

@@ -11,9 +11,9 @@ use Rattle.record_lines.specs.Reading.{◌>>=◌, word_at, key_at, number_at}
 use Rattle.kernel_words.specs.Forms.{version, has_steps, has_done}
 use Rattle.kernel_words.specs.Row.{field_at, limit}
 use Rattle.records.specs.Settings.{ObjectSettings}
-use Rattle.record_lines.specs.LineParts.{list_at, is_nil, name_word_at, fixed_at}
+use Rattle.record_lines.specs.LineParts.{name_word_at, is_nil, list_at, fixed_at}
 use Rattle.kernel_words.specs.ItemReading.{step_at, call_at, done_at}
-use Rattle.kernel_words.specs.ParameterReading.{params_at, lock_at}
+use Rattle.kernel_words.specs.ParameterReading.{lock_at, params_at}
 
 -- all words, as an event of one of so many CPUs
 unfoldable pub event_at : Form → ℕ → List (List ℕ) → Option KernelEvent

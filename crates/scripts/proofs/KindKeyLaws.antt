@@ -11,7 +11,7 @@ use Rattle.scripts.specs.declared.settings.fault.SettingsKey.TheVariants.{Pages,
 use Rattle.scripts.specs.KindKeys.Pool.{are_integers, quota_from, each_quota, quotas_from, pool_params_in}
 use Rattle.scripts.specs.SettingsKeys.{key_in, key_or, number_from, count_items}
 use Rattle.scripts.proofs.SettingsKeys.{bind_ok, map_or_ok, if_ok, number_in, one_fits, key_or_ok}
-use Rattle.kernel_words.proofs.KindLaws.Pool.{pool_in_range, full_are, AreQuotas, is_quota}
+use Rattle.kernel_words.proofs.KindLaws.Pool.{is_quota, full_are, pool_in_range, AreQuotas}
 use Rattle.wake_list.specs.State.{is_in_range as sched_in_range}
 use Rattle.wake_list.specs.declared.sched.SchedParams.{SchedParams}
 use Rattle.wake_list.specs.declared.sched.TheConstants.{MOST_THREADS, MOST_CHANNELS}

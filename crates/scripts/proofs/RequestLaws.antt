@@ -19,9 +19,9 @@ use Rattle.record_lines.proofs.ListLaws.{nil_is, key_end, list_takes, list_again
 use Rattle.records.proofs.NamedObjects.{name_at_plain, place_takes, place_again, name_at_le}
 use Rattle.record_lines.proofs.Readings.{bind_some, plain_decimal, number_at_takes, number_at_again}
 use Rattle.record_lines.proofs.Sentences.{words_sentence, sentence_words}
-use Rattle.record_lines.proofs.Lengths.{separated_le, number_le, sentence_le}
+use Rattle.record_lines.proofs.Lengths.{number_le, separated_le, sentence_le}
 use Rattle.kernel_words.proofs.RecordLengths.{each_call}
-use Rattle.kernel_words.proofs.CallLaws.{reads_calls, call_words}
+use Rattle.kernel_words.proofs.CallLaws.{call_words, reads_calls}
 
 module _ (settings : Settings) (fit : SettingsFit settings) where
   -- what is read of a line is what it asks for

@@ -24,7 +24,7 @@ use Rattle.scripts.specs.SettingsText.{name_from, items_from, kind_from, lock_fr
 use Rattle.scripts.proofs.KindKeyLaws.{sets_in_range}
 use Rattle.kernel_words.proofs.ParameterLaws.{range_of}
 use Rattle.scripts.proofs.SettingsKeys.{bind_ok, key_ok, map_or_ok, if_ok, if_not, number_in}
-use Rattle.records.proofs.JoinedObjects.{AreObjects, Joins, differ_more}
+use Rattle.records.proofs.JoinedObjects.{Joins, differ_more, AreObjects}
 
 -- ---- values
 

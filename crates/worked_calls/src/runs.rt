@@ -5,7 +5,7 @@ use auditor::{Verdict, audit};
 use cpu_worker::{OpenGate, report, run, simulate};
 use event_log::Plain;
 use log_merge::{merge, write_merged};
-use scripts::{Record, Schedule, Scripts, Settings};
+use scripts::{ReadSettings, Record, Schedule, Scripts, Settings};
 use std::alloc::Global;
 use std::sync::Wait;
 use std::test::Fail;

@@ -1,7 +1,7 @@
 //! Texts: settings and a record are read, and the record is written as it was. Scripts and a schedule are read by `runs`.
 
 use event_log::Plain;
-use scripts::{Record, Settings, write_record};
+use scripts::{ReadSettings, Record, Settings, write_record};
 use std::alloc::Global;
 use std::test::Fail;
 

@@ -3,7 +3,7 @@
 use crate::ReferenceObject;
 use crate::references::{ReferenceConsole, ReferencePool, ReferenceQueue, ReferenceSched};
 use event_log::OutOfMemory;
-use scripts::{KCall, KParams, KReply, KernelObject};
+use kernel_object::{KCall, KParams, KReply, KernelObject};
 use std::alloc::Global;
 
 /// A second object of one of the four kinds.

@@ -8,6 +8,7 @@ use Rattle.page_pool.specs.declared.params.TheConstants.{MOST_PAGES, OWNERS}
 use Rattle.kernel_object.specs.Kinds.Pool.{pool_kind}
 use Rattle.kernel_words.specs.declared.form.Form.{Form}
 use Rattle.kernel_words.specs.declared.form.Form.TheVariants.{One, Two}
+use Rattle.record_lines.specs.Reading.{◌>>=◌}
 use Rattle.kernel_words.specs.Row.{Row, first, others, wide, limit, up_to, field_at, numbers_at}
 use Rattle.kernel_words.specs.Kinds.Definition.{KindText}
 

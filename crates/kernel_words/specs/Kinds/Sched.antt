@@ -5,6 +5,7 @@ use Rattle.wake_list.specs.declared.call.SchedCall.TheVariants.{Ready, Next, Sle
 use Rattle.wake_list.specs.declared.sched.SchedParams.{SchedParams}
 use Rattle.wake_list.specs.declared.sched.TheConstants.{MOST_THREADS, MOST_CHANNELS}
 use Rattle.kernel_object.specs.Kinds.Sched.{sched_kind}
+use Rattle.record_lines.specs.Reading.{◌>>=◌}
 use Rattle.kernel_words.specs.Row.{Row, first, others, wide, limit, field_at}
 use Rattle.kernel_words.specs.Kinds.Definition.{KindText}
 

@@ -6,7 +6,7 @@ ghost use Rattle.kernel_words.specs.Row.{spelled};
 
 use crate::Spelled;
 use event_log::Sink;
-use record_lines::Buffered;
+use record_lines::{Buffered, put_number, put_word};
 
 /// Puts the words of a value, each behind a space.
 pub fn put_value<T: Spelled, W: Sink>(text: &mut Buffered<W>, value: &T)

@@ -1,11 +1,15 @@
 //! Reading settings, from memory or from a source.
 
-ghost use Rattle.std.specs.Prelude.{◌≡◌, ◌+◌, true, Err, IfOk, IfErr, OnOk};
+ghost use Rattle.std.specs.Prelude.{◌≡◌, ◌+◌, true, None, Err, IfOk, IfErr, IsUtf8, OnOk};
+ghost use Rattle.toml.specs.Parse.{parse_document};
+ghost use Rattle.toml.specs.View.{table_view};
 ghost use Rattle.event_log.specs.Stream.{counted};
 ghost use Rattle.records.specs.Settings.{SettingsFit};
+ghost use Rattle.scripts.specs.SettingsText.{Settles, SpellsSettings, NamesFirstFault, not_toml, settings_of};
 ghost use Rattle.scripts.specs.SettingsSources.{SpellsSettingsRest, NamesFirstFaultOfRest};
 ghost use Rattle.record_lines.specs.Sources.{ReadsAtMost};
 
+use crate::settings::text::settings;
 use crate::{BadSettings, Cause, Place, SettingsFault, SettingsKey};
 use event_log::{OutOfMemory, Source};
 use record_lines::{SourceFault, read_up_to};
@@ -14,6 +18,17 @@ use std::alloc::Global;
 
 /// The most bytes of settings that come from a source.
 pub const MOST_SETTINGS_BYTES: usize = 65_536;
+
+/// A text that isn't UTF-8 or no TOML.
+fn not_toml() -> BadSettings
+    ensures { result ≡ not_toml }
+{
+    BadSettings {
+        place: Place::Top,
+        key: SettingsKey::Text,
+        cause: Cause::NotToml,
+    }
+}
 
 /// Reads settings. Their type is lower, so that no judge of records stands on what reads it.
 pub trait ReadSettings: Drop {
@@ -40,11 +55,7 @@ impl ReadSettings for Settings {
         match toml::table_from_slice(alloc, text) {
             Ok(table) => settings(alloc, &table),
             Err(fault) if fault.is_memory() => Err(SettingsFault::OutOfMemory),
-            Err(_) => Err(SettingsFault::Refused(BadSettings {
-                place: Place::Top,
-                key: SettingsKey::Text,
-                cause: Cause::NotToml,
-            })),
+            Err(_) => Err(SettingsFault::Refused(not_toml())),
         }
     }
 
@@ -70,11 +81,7 @@ impl ReadSettings for Settings {
             }
         };
         if bytes.len() > MOST_SETTINGS_BYTES {
-            return Err(SourceFault::Told(SettingsFault::Refused(BadSettings {
-                place: Place::Top,
-                key: SettingsKey::Text,
-                cause: Cause::NotToml,
-            })));
+            return Err(SourceFault::Told(SettingsFault::Refused(not_toml())));
         }
         match Settings::read(alloc, bytes.as_slice()) {
             Ok(settings) => Ok(settings),
