@@ -12,3 +12,4 @@ pub mod FormFaults
 pub mod RecordSources
 pub mod Runs
 pub mod Unlimited
+pub mod KernelForm

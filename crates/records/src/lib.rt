@@ -9,6 +9,8 @@ pub use clones::copy_all;
 pub use record::before_quotas::sound_as_before;
 pub use record::form_faults::bad_line_of_form;
 pub use record::keeps::Keeps;
+pub use record::kernel_form::KernelForm;
+pub use record::kernel_head::{HeadNext, KernelHead};
 pub use record::read_keeping::read_keeping;
 pub use record::reader::{RecordReader, no_text_begins_another, read_text_keeping};
 pub use record::run_ranges::{replies_fit, sound_runs_fit};

@@ -8,6 +8,8 @@ pub mod entries;
 pub mod form_faults;
 pub mod head_lines;
 pub mod keeps;
+pub mod kernel_form;
+pub mod kernel_head;
 pub mod lines;
 pub mod lists;
 pub mod place;
