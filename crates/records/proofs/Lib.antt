@@ -22,3 +22,5 @@ pub mod StepTails
 pub mod TextRows
 pub mod JoinedObjects
 pub mod NamedObjects
+pub mod KernelHeads
+pub mod KernelFormLaws

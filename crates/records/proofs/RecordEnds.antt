@@ -44,19 +44,19 @@ part_begins {T} form head words_of fits x front parts n items fit few each next 
     (subst (Begins form) (part_whole head words_of front parts (items ++ rest) n all ∙ items_more head words_of so_far (length parts) n items rest) (next (items ++ rest) all (all_append fits items rest each (all_same fits x (n - length items) fit))))
 
 -- an event of the first CPU
-abbrev shown_event : KernelEvent
+abbrev pub shown_event : KernelEvent
 shown_event = record { cpu = 0; steps = record { list = record { items = record { call = Queue Deq; reply = Reply.Ok } ∷ [] } } }
 
 -- an entry on the first object
-abbrev shown_entry : KernelEntry
+abbrev pub shown_entry : KernelEntry
 shown_entry = record { object = 0; asked = record { items = Queue Deq ∷ [] }; done = NoRoom; looks = 0 }
 
 -- each form has words for them
-event_told : (form : Form) → has_steps form shown_event.steps.list.items ≡ true
+pub event_told : (form : Form) → has_steps form shown_event.steps.list.items ≡ true
 event_told One = refl
 event_told Two = refl
 
-entry_told : (form : Form) → has_done form shown_entry.done ≡ true
+pub entry_told : (form : Form) → has_done form shown_entry.done ≡ true
 entry_told One = refl
 entry_told Two = refl
 
