@@ -178,7 +178,7 @@ first_plain : (form : Form) → IsLine (first_line form)
 first_plain One = record { some = omega arith; plain = search (rules, arith); short = omega arith }
 first_plain Two = record { some = omega arith; plain = search (rules, arith); short = omega arith }
 
-end_plain : IsLine (codes "end" ∷ [])
+pub end_plain : IsLine (codes "end" ∷ [])
 end_plain = record { some = omega arith; plain = search (rules, arith); short = omega arith }
 
 -- the first line of a form is read again
