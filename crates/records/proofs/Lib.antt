@@ -4,17 +4,11 @@ pub mod SoundBefore
 pub mod RecordLineLaws
 pub mod NewObjects
 pub mod RecordParts
-pub mod RecordRuns
-pub mod RecordSpells
-pub mod RecordEnds
 pub mod RecordTexts
 pub mod FormFaults
 pub mod RecordPieces
 pub mod Forms
-pub mod RecordSteps
-pub mod Keepers
 pub mod KnownEntries
-pub mod KeptSteps
 pub mod RecordSources
 pub mod StepMarks
 pub mod StepLines
@@ -24,3 +18,5 @@ pub mod JoinedObjects
 pub mod NamedObjects
 pub mod KernelHeads
 pub mod KernelFormLaws
+pub mod HeadWords
+pub mod KernelRecords

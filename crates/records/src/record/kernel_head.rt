@@ -2,13 +2,14 @@
 
 ghost use Rattle.std.specs.Prelude.{◌≡◌, Some, None, OnOk, OnErr, Err};
 ghost use Rattle.record_lines.specs.Reading.{words};
-ghost use Rattle.records.specs.KernelForm.{head_after};
+ghost use Rattle.records.specs.KernelForm.{head_after, settings_in, HeadFits};
 ghost use Rattle.records.specs.RecordReading.{new_object_at};
 
-use crate::ObjectSettings;
 use crate::record::head_lines::{cpus_line, first_line, objects_line};
 use crate::record::lines::object_line;
 use crate::settings::lookup::is_taken;
+use crate::{ObjectSettings, Settings};
+use event_log::Series;
 use kernel_words::Form;
 use record_lines::LineFault;
 use std::marker::Model;
@@ -43,6 +44,17 @@ impl Model for KernelHead {
     ghost Value = { Head };
 
     ghost view = { λ h. record { awaits = h.awaits; form = h.form; cpus = h.cpus; count = h.count; objects = h.objects.items } };
+}
+
+impl KernelHead {
+    /// The settings that a whole head tells.
+    pub fn into_settings(self) -> Settings
+        requires { HeadFits self }
+        ensures { result ≡ settings_in self }
+    {
+        let KernelHead { cpus, objects, .. } = self;
+        Settings::new(cpus, Series::from_vec(objects))
+    }
 }
 
 /// What the line spells, if it is an object whose name is none of the others'.
