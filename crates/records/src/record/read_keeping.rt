@@ -14,10 +14,9 @@ ghost use Rattle.record_lines.specs.Then.{ok_map};
 use crate::Settings;
 use crate::record::kernel_form::KernelForm;
 use crate::record::reader::whole_parts;
+use crate::record::state::RecordState;
 use event_log::{OutOfMemory, Source};
-use record_lines::{
-    LinesFault, Pieces, RecordSink, RecordState, SourceFault, TakesPieces, TextFault, feed_all,
-};
+use record_lines::{LinesFault, Pieces, RecordSink, SourceFault, TakesPieces, TextFault, feed_all};
 use std::alloc::Global;
 
 /// Reads the source to its end: the settings of the record that its bytes spell, and the keeper, which was handed over the
@@ -40,7 +39,7 @@ pub fn read_keeping<S: Source, K: RecordSink<KernelForm>>(
     ensures one_failed { result ≡ Err TextFault.ReadFailed → S.failed source.new ≡ counted true (S.failed source.old) }
     ensures no_other { (result ≡ Err TextFault.ReadFailed → ⊥) → S.failed source.new ≡ S.failed source.old }
 {
-    let mut pieces = Pieces::new(alloc, RecordState::<KernelForm, K>::new(alloc, keeper));
+    let mut pieces = Pieces::new(alloc, RecordState::new(alloc, keeper));
     let mut buffer = [0u8; 4096];
     match feed_all(source, &mut pieces, &mut buffer) {
         Ok(()) => Ok(whole_parts(pieces)?),
