@@ -20,3 +20,4 @@ pub mod KernelHeads
 pub mod KernelFormLaws
 pub mod HeadWords
 pub mod KernelRecords
+pub mod ToKeeper

@@ -6,6 +6,7 @@ pub mod RecordReading
 pub mod KernelForm
 pub mod RecordStates
 pub mod Keeping
+pub mod HandedOver
 pub mod RecordPieces
 pub mod RecordFaults
 pub mod FormFaults

@@ -8,6 +8,7 @@ mod settings;
 pub use clones::copy_all;
 pub use record::before_quotas::sound_as_before;
 pub use record::form_faults::bad_line_of_form;
+pub use record::keeps::Keeps;
 pub use record::kernel_form::KernelForm;
 pub use record::kernel_head::{HeadNext, KernelHead};
 pub use record::read_keeping::read_keeping;

@@ -6,6 +6,7 @@ ghost use Rattle.records.specs.RecordRanges.{RecordFits};
 pub mod before_quotas;
 pub mod form_faults;
 pub mod head_lines;
+pub mod keeps;
 pub mod kernel_form;
 pub mod kernel_head;
 pub mod lines;
@@ -16,6 +17,7 @@ pub mod run_ranges;
 pub mod source;
 pub mod state;
 pub mod step_texts;
+pub mod to_keeper;
 pub mod writer;
 
 use crate::Settings;

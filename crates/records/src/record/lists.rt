@@ -4,13 +4,10 @@ ghost use Rattle.std.specs.Prelude.{◌≡◌};
 ghost use Rattle.records.specs.Keeping.{no_parts, kept_record};
 ghost use Rattle.records.specs.RecordRanges.{RecordFits};
 
-use crate::record::kernel_form::{KernelForm, empty_entry, empty_event};
-use crate::record::kernel_head::{HeadNext, KernelHead};
+use crate::record::keeps::Keeps;
 use crate::{ObjectSettings, Record, Settings};
 use event_log::{Entry, Event, OutOfMemory, Past, Run, Series};
 use kernel_object::KernelObject;
-use kernel_words::{Form, WRITTEN};
-use record_lines::RecordSink;
 use std::alloc::Global;
 use std::mem;
 
@@ -18,10 +15,7 @@ use std::mem;
 #[derive(Drop)]
 pub struct Lists {
     alloc: Global,
-    awaits: HeadNext,
-    form: Form,
     cpus: u8,
-    object_count: u64,
     objects: Past<ObjectSettings>,
     begun: bool,
     count: u64,
@@ -34,14 +28,11 @@ pub struct Lists {
 impl Lists {
     /// None yet. It takes no memory.
     pub fn new(alloc: Global) -> Lists
-        ensures { ⟦<Lists as RecordSink<KernelForm>>⟧.received result ≡ no_parts }
+        ensures { ⟦<Lists as Keeps>⟧.keeps result ≡ no_parts }
     {
         Lists {
             alloc,
-            awaits: HeadNext::First,
-            form: WRITTEN,
             cpus: 0,
-            object_count: 0,
             objects: Past::new(),
             begun: false,
             count: 0,
@@ -54,8 +45,8 @@ impl Lists {
 
     /// The record of the settings and of what is whole, without taking memory.
     pub fn into_record(self, settings: Settings) -> Record
-        requires { RecordFits (kept_record settings (⟦<Lists as RecordSink<KernelForm>>⟧.received self)) }
-        ensures { result ≡ kept_record settings (⟦<Lists as RecordSink<KernelForm>>⟧.received self) }
+        requires { RecordFits (kept_record settings (⟦<Lists as Keeps>⟧.keeps self)) }
+        ensures { result ≡ kept_record settings (⟦<Lists as Keeps>⟧.keeps self) }
     {
         let Lists {
             logs,
@@ -70,15 +61,12 @@ impl Lists {
     }
 }
 
-impl RecordSink<KernelForm> for Lists {
-    ghost received = { λ l. record { head = record { awaits = l.awaits; form = l.form; cpus = l.cpus; count = l.object_count; objects = l.objects.items }; begun = l.begun; count = l.count; logs = l.logs.items; events = l.events.items; transcripts = l.transcripts.items; entries = l.entries.items } };
+impl Keeps for Lists {
+    ghost keeps = { λ l. record { settings = record { cpus = l.cpus; objects = l.objects.items }; begun = l.begun; count = l.count; logs = l.logs.items; events = l.events.items; transcripts = l.transcripts.items; entries = l.entries.items } };
 
-    fn begin(&mut self, head: &KernelHead) -> Result<(), OutOfMemory> {
-        self.awaits = head.awaits;
-        self.form = head.form;
-        self.cpus = head.cpus;
-        self.object_count = head.count;
-        self.objects = Past::told(&self.objects, &head.objects.as_slice());
+    fn begin(&mut self, cpus: u8, objects: &[ObjectSettings]) -> Result<(), OutOfMemory> {
+        self.cpus = cpus;
+        self.objects = Past::told(&self.objects, &objects);
         Ok(())
     }
 
@@ -88,9 +76,9 @@ impl RecordSink<KernelForm> for Lists {
         Ok(())
     }
 
-    fn event(&mut self, event: &mut Event<KernelObject>, text: &[u8]) -> Result<(), OutOfMemory> {
+    fn event(&mut self, event: Event<KernelObject>, text: &[u8]) -> Result<(), OutOfMemory> {
         let _ = text;
-        self.events.push(mem::replace(event, empty_event()))?;
+        self.events.push(event)?;
         Ok(())
     }
 
@@ -109,14 +97,14 @@ impl RecordSink<KernelForm> for Lists {
         Ok(())
     }
 
-    fn recognises(&mut self, object: u8, looks: u64, tail: &[u8]) -> Result<bool, OutOfMemory> {
+    fn knows(&mut self, object: u8, looks: u64, tail: &[u8]) -> Result<bool, OutOfMemory> {
         let _ = (object, looks);
         let _ = tail;
         Ok(false)
     }
 
-    fn entry(&mut self, entry: &mut Entry<KernelObject>) -> Result<(), OutOfMemory> {
-        self.entries.push(mem::replace(entry, empty_entry()))?;
+    fn entry(&mut self, entry: Entry<KernelObject>) -> Result<(), OutOfMemory> {
+        self.entries.push(entry)?;
         Ok(())
     }
 

@@ -12,27 +12,27 @@ ghost use Rattle.record_lines.specs.Sources.{IsReadOut};
 ghost use Rattle.record_lines.specs.Then.{ok_map};
 
 use crate::Settings;
-use crate::record::kernel_form::KernelForm;
+use crate::record::keeps::Keeps;
 use crate::record::reader::whole_parts;
 use crate::record::state::RecordState;
 use event_log::{OutOfMemory, Source};
-use record_lines::{LinesFault, Pieces, RecordSink, SourceFault, TakesPieces, TextFault, feed_all};
+use record_lines::{LinesFault, Pieces, SourceFault, TakesPieces, TextFault, feed_all};
 use std::alloc::Global;
 
 /// Reads the source to its end: the settings of the record that its bytes spell, and the keeper, which was handed over the
 /// rest of the record. Of the bytes no more is held than a line and a piece. A bad line is known as soon as it is there, and
 /// then nothing is kept; but the source is read on, so that a bad line never hides that reading failed.
-pub fn read_keeping<S: Source, K: RecordSink<KernelForm>>(
+pub fn read_keeping<S: Source, K: Keeps>(
     alloc: Global,
     source: &mut S,
     keeper: K,
 ) -> Result<(Settings, K), TextFault>
-    requires { K.received keeper ≡ no_parts }
-    ensures found { IfOk result (λ given. SpellsRecord (S.remaining source.old) (kept_record given.0 (K.received given.1))) }
-    ensures whole { IfOk result (λ given. IsWholeWith given.0 (K.received given.1)) }
-    ensures fit { IfOk result (λ given. RecordFits (kept_record given.0 (K.received given.1))) }
+    requires { K.keeps keeper ≡ no_parts }
+    ensures found { IfOk result (λ given. SpellsRecord (S.remaining source.old) (kept_record given.0 (K.keeps given.1))) }
+    ensures whole { IfOk result (λ given. IsWholeWith given.0 (K.keeps given.1)) }
+    ensures fit { IfOk result (λ given. RecordFits (kept_record given.0 (K.keeps given.1))) }
     ensures only { (form : Form) (r : Shown) → RecordFitsIn form r → S.remaining source.old ≡ Some (text_in form r) →
-        IsReadFrom r (ok_map (λ given. kept_record given.0 (K.received given.1)) result) }
+        IsReadFrom r (ok_map (λ given. kept_record given.0 (K.keeps given.1)) result) }
     ensures fault { IfErr result (NamesBadLineOfRest (S.remaining source.old)) }
     ensures to_end { (result ≡ Err TextFault.OutOfMemory → ⊥) → (result ≡ Err TextFault.ReadFailed → ⊥) →
         IsReadOut (S.remaining source.old) (S.remaining source.new) }
