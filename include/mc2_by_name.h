@@ -51,8 +51,8 @@ static inline uint32_t mc2_call_once(struct mc2_caller *caller, struct mc2_call 
     case MC2_WAKEALL: return mc2_call_wakeall(caller, call.first, reply, looks);
     // (by its number: a call that isn't there, as that of a byte of more than 255)
     default:
-        return call.word == MC2_PUT && call.first <= UINT8_MAX ? mc2_call_put(caller, (uint8_t)call.first, reply, looks)
-                                                               : mc2_caller_call(caller, &call, reply, looks);
+        return call.word == MC2_PUT && call.first <= 255 ? mc2_call_put(caller, (uint8_t)call.first, reply, looks)
+                                                         : mc2_caller_call(caller, &call, reply, looks);
     }
 }
 

@@ -55,15 +55,21 @@
 #include "mc2_record.h"
 #include "mc2_wait.h"
 
-// Stands around each call of the library in the functions below: a single step, a whole call, and what opens and frees. A kernel
-// masks interrupts here, so that none comes within such a call. Any may come between two of them: while a caller waits, and
+// Stands around each call of the library in the functions below: a single step, a whole call, and what opens, closes and frees. A
+// kernel masks interrupts here, so that none comes within such a call. Any may come between two of them: while a caller waits, and
 // while it has the object by single steps, or has kept it behind a whole call.
 #ifndef MC2_STEP
 #define MC2_STEP(call) (call)
 #endif
 
+// Stands around what opens, closes and frees, which alone takes memory and gives it back. A kernel whose heap may sleep, and so
+// isn't called with interrupts masked, makes it the bare call. Then no handler calls a cell meanwhile.
+#ifndef MC2_OPENING
+#define MC2_OPENING(call) MC2_STEP(call)
+#endif
+
 // What is called seldom, and so isn't put in the place of its call.
-#define MC2_SELDOM __attribute__((noinline, cold, unused)) static
+#define MC2_SELDOM __attribute__((__noinline__, __cold__, __unused__)) static
 
 #ifdef __cplusplus
 extern "C" {
@@ -211,28 +217,28 @@ static inline uint32_t mc2_cell_open(struct mc2_cell *cell, const struct mc2_obj
         opening.quotas[owner] = object->quotas ? object->quotas[owner] : object->size;
     cell->own = NULL;
     cell->resting.word = 0;
-    uint32_t told = MC2_STEP(mc2_handle_new(&cell->own));
-    return told == MC2_CELL_DONE ? MC2_STEP(mc2_handle_open(cell, &opening)) : told;
+    uint32_t told = MC2_OPENING(mc2_handle_new(&cell->own));
+    return told == MC2_CELL_DONE ? MC2_OPENING(mc2_handle_open(cell, &opening)) : told;
 }
 
 // Makes a caller of the greatest CPU of the cell that has none yet. It has to be freed as a cell has, after MC2_CELL_REFUSED too.
 static inline uint32_t mc2_caller_open(struct mc2_cell *cell, struct mc2_caller *caller) {
     caller->own = NULL;
     caller->resting = &cell->resting;
-    uint32_t told = MC2_STEP(mc2_handle_new(&caller->own));
-    return told == MC2_CELL_DONE ? MC2_STEP(mc2_handle_deal(cell, caller)) : told;
+    uint32_t told = MC2_OPENING(mc2_handle_new(&caller->own));
+    return told == MC2_CELL_DONE ? MC2_OPENING(mc2_handle_deal(cell, caller)) : told;
 }
 
 // Gives the memory back: of a cell at any time, after which its callers are still right, but it can't be closed any more; of a
 // caller that is idle or has nothing.
 static inline uint32_t mc2_cell_free(struct mc2_cell *cell) {
     struct mc2_handle handle = {cell->own};
-    return MC2_STEP(mc2_handle_free(handle));
+    return MC2_OPENING(mc2_handle_free(handle));
 }
 
 static inline uint32_t mc2_caller_free(struct mc2_caller *caller) {
     struct mc2_handle handle = {caller->own};
-    return MC2_STEP(mc2_handle_free(handle));
+    return MC2_OPENING(mc2_handle_free(handle));
 }
 
 // Gives the memory of a cell and of its idle callers back, of those that were opened.
@@ -259,7 +265,7 @@ static inline uint32_t mc2_cells_open(struct mc2_cell *cell, const struct mc2_ob
 
 // Takes an idle caller back and frees it, unless that was done.
 static inline uint32_t mc2_caller_close(struct mc2_cell *cell, struct mc2_caller *caller) {
-    uint32_t told = caller->own ? MC2_STEP(mc2_cell_take_back(cell, caller)) : (uint32_t)MC2_CELL_DONE;
+    uint32_t told = caller->own ? MC2_OPENING(mc2_cell_take_back(cell, caller)) : (uint32_t)MC2_CELL_DONE;
     if (caller->own && told == MC2_CELL_DONE) {
         mc2_caller_free(caller);
         caller->own = NULL;
@@ -273,7 +279,7 @@ static inline uint32_t mc2_cells_close(struct mc2_cell *cell, struct mc2_caller 
     uint32_t told = MC2_CELL_DONE;
     for (uint32_t cpu = 0; cpu < cpus && told == MC2_CELL_DONE; cpu++)
         told = mc2_caller_close(cell, &callers[cpu]);
-    return told == MC2_CELL_DONE ? MC2_STEP(mc2_cell_close(cell)) : told;
+    return told == MC2_CELL_DONE ? MC2_OPENING(mc2_cell_close(cell)) : told;
 }
 
 // Waits for the object, and counts the looks.

@@ -23,8 +23,12 @@
 #ifndef MC2_JUDGE_H
 #define MC2_JUDGE_H
 
+#ifdef MC2_TYPES
+#include MC2_TYPES
+#else
 #include <stddef.h>
 #include <stdint.h>
+#endif
 
 #ifdef __cplusplus
 extern "C" {

@@ -9,7 +9,11 @@
 #ifndef MC2_WAIT_H
 #define MC2_WAIT_H
 
+#ifdef MC2_TYPES
+#include MC2_TYPES
+#else
 #include <stdint.h>
+#endif
 
 // Lets about so many microseconds go by, or fewer, while others run. Without an operating system it isn't there, unless you
 // define it: then callers look again and again, and nobody stays outside.
@@ -52,7 +56,7 @@ static inline void mc2_pause(uint64_t looks) {
 
 #ifdef MC2_NAP
 // Stays outside for one nap.
-__attribute__((noinline, cold, unused)) static void mc2_nap_outside(struct mc2_resting *resting) {
+__attribute__((__noinline__, __cold__, __unused__)) static void mc2_nap_outside(struct mc2_resting *resting) {
     const uint64_t outside = (uint64_t)1 << 32;
     uint32_t others = (uint32_t)(__atomic_fetch_add(&resting->word, outside, __ATOMIC_RELAXED) / outside);
     others = others > MC2_MOST_OTHERS ? (uint32_t)MC2_MOST_OTHERS : others;

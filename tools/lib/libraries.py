@@ -10,6 +10,10 @@ from common import ROOT, Stop, run
 # than 24 cases is compared, as a table to jump by takes a relocation of 24 bytes for each.
 CLANG_WORDS = {"cells": "-mllvm -inline-threshold=90 -mllvm -inlinehint-threshold=40000 -mllvm -min-jump-table-entries=24"}
 
+# The attributes that kernel_clang gives each function. In a module of Linux objtool asks for two more: no tables to jump by, and
+# each return by the kernel's own thunk, which the kernel changes where it starts.
+ATTRIBUTES = {"kernel_clang": "noredzone", "linux_clang": 'noredzone "no-jump-tables"="true" fn_ret_thunk_extern'}
+
 
 def kit():
     """The folder of the kit, whose command rt is."""
@@ -65,10 +69,18 @@ def make_toolchain(folder, own, programs):
 
 
 def make_library_toolchain(folder, crate, clang):
-    """Makes the toolchain of the crate's library in the folder, with that clang: library_clang or kernel_clang."""
-    make_toolchain(folder, clang, ["clang"])
+    """Makes the toolchain of the crate's library in the folder, with that clang: library_clang, kernel_clang, or linux_clang, which
+    is kernel_clang with more attributes."""
+    make_toolchain(folder, "kernel_clang" if clang in ATTRIBUTES else clang, ["clang"])
     # (the compiler hands its clang no variable)
     (folder / "words").write_text(CLANG_WORDS.get(crate, ""))
+    (folder / "attributes").write_text(ATTRIBUTES.get(clang, ""))
+
+
+def strip_for(clang, library):
+    """What is left is the names that a linker needs; for Linux those of all functions, which its traces of the stack name."""
+    if clang != "linux_clang":
+        run(["strip", "--strip-unneeded", library])
 
 
 def build_library(crate, clang="library_clang", library=None):
@@ -87,7 +99,6 @@ def build_library(crate, clang="library_clang", library=None):
             proof = ["--jobs", "2", "--logic-built", kit() / "logic_built", "-o", checked]
             run([kit() / "bin/rattle", "check", *words, *proof], cwd=folder)
             run(build, cwd=folder)
-        # What is left is the names that a linker needs.
-        run(["strip", "--strip-unneeded", new])
+        strip_for(clang, new)
         shutil.copy(new, library)
     return library

@@ -36,11 +36,11 @@ pub use law::{first_faults_agree, no_fault_is_sound, sound_has_no_fault};
 pub use opened_object::OpenedObject;
 pub use record_audit::audit;
 pub use record_judge::RecordJudge;
+pub use record_lines::TextFault;
 pub use references::{
     ReferenceConsole, ReferenceKernelObject, ReferenceObject, ReferencePool, ReferenceQueue,
     ReferenceSched,
 };
-pub use record_lines::TextFault;
 pub use step_rows::StepRows;
 pub use texts::audit_text;
 pub use verdict_text::{fault_text, verdict_line};

@@ -1,6 +1,7 @@
 pub mod Arrivals
 pub mod AsBox
 pub mod BatchCodes
+pub mod Batches
 pub mod Homes
 pub mod Sends
 pub mod JoinedPasses

@@ -26,6 +26,7 @@ use Rattle.cell_callers.specs.declared.whole.TriedCall.{TriedCall}
 use Rattle.cell_callers.specs.declared.whole.TriedCall.TheVariants as tried
 use Rattle.cell_callers.specs.declared.caller_state.CallerState.{CallerState}
 use Rattle.mcs_lock.specs.declared.states.Behind.{Behind}
+use Rattle.word_rule.specs.declared.hold.Hold.{Hold}
 use Rattle.cell_callers.specs.declared.place.Place.{Place}
 use Rattle.cell_callers.specs.Places.{Between}
 use Rattle.guarded_cell.specs.declared.cell.AnyCell.{AnyCell}
@@ -33,6 +34,12 @@ use Rattle.guarded_cell.specs.declared.cell.AnyCell.{AnyCell}
 -- a caller of a cell around an object of the kernel
 abbrev pub KernelCaller : Type 0
 KernelCaller = CallerOf KernelObject KParams KCall KReply ghosts call_compares call_defaults reply_compares reply_defaults
+
+abbrev pub KernelCell : Type 0
+KernelCell = AnyCell KernelObject KParams KCall KReply
+
+abbrev pub KernelHold : Type 0
+KernelHold = Hold KernelObject KParams KCall KReply ghosts call_compares call_defaults reply_compares reply_defaults
 
 abbrev pub KernelSteps : Type 0
 KernelSteps = Steps KernelObject KParams KCall KReply

@@ -16,6 +16,7 @@ pub mod Coding
 pub mod Codes
 pub mod BatchCodes
 pub mod CallReports
+pub mod BatchReports
 pub mod NewCells
 pub mod Openings
 pub mod LoggedSteps

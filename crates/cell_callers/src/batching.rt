@@ -1,6 +1,6 @@
 //! Batches of calls, by the numbers that C has for them.
 
-ghost use Rattle.std.specs.Prelude.{◌≡◌, ◌≤◌, Some, None, IfSome, IfNone, length};
+ghost use Rattle.std.specs.Prelude.{◌≡◌, ◌≤◌, true, false, Some, None, length};
 ghost use Rattle.event_log.specs.declared.event.TheConstants.{MOST_CALLS};
 ghost use Rattle.cell_callers.specs.BatchCodes.{batch_calls, AreRepliesTo};
 
@@ -25,19 +25,22 @@ pub struct Replies {
     pub list: [Answered; MOST_CALLS],
 }
 
-/// The calls of these numbers, if each is there.
+/// Writes the calls of these numbers, if each is there: whether it is.
 #[inline(never)]
-pub fn calls_of(batch: &Batch) -> Option<ArrayVec<KCall, MOST_CALLS>>
+pub fn write_calls(batch: &Batch, calls: &mut ArrayVec<KCall, MOST_CALLS>) -> bool
     requires { batch.now.count ≤ MOST_CALLS }
-    ensures there { IfSome result (λ v. batch_calls batch.now ≡ Some v.items) }
-    ensures count { IfSome result (λ v. length v.items ≡ batch.now.count) }
-    ensures not_there { IfNone result (batch_calls batch.now ≡ None) }
+    ensures there { result ≡ true → batch_calls batch.now ≡ Some calls.new.items }
+    ensures count { result ≡ true → length calls.new.items ≡ batch.now.count }
+    ensures not_there { result ≡ false → batch_calls batch.now ≡ None }
 {
-    let mut calls = ArrayVec::new();
+    *calls = ArrayVec::new();
     for asked in &batch.calls[..batch.count as usize] {
-        calls.push(shared_called_of(asked)?);
+        let Some(call) = shared_called_of(asked) else {
+            return false;
+        };
+        calls.push(call);
     }
-    Some(calls)
+    true
 }
 
 /// Writes the replies of the steps.

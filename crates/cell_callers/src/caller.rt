@@ -1,22 +1,21 @@
 //! A caller of a cell.
 
-ghost use Rattle.std.specs.Prelude.{◌≡◌, ◌<◌, ◌≤◌, length, IsSome, IfSome};
-ghost use Rattle.event_log.specs.declared.event.TheConstants.{MOST_CALLS};
+ghost use Rattle.std.specs.Prelude.{◌≡◌, IsSome, IfSome};
 ghost use Rattle.std_alloc.specs.Arc.{arc_value};
 ghost use Rattle.event_log.proofs.Props.{legal_props};
 ghost use Rattle.cell_callers.specs.CallerStates.{IsOf, IsOne, state_of};
 ghost use Rattle.cell_callers.specs.Steps.{IsAcquireStep, IsReleaseStep};
 ghost use Rattle.cell_callers.specs.Tries.{IsTried};
 ghost use Rattle.cell_callers.specs.Applies.{IsApplied};
-ghost use Rattle.cell_callers.specs.Wholes.{IsCalled, IsBatched, IsTryCalled};
+ghost use Rattle.cell_callers.specs.Wholes.{IsCalled, IsTryCalled};
 ghost use Rattle.cell_callers.specs.Facts.{of_props};
 ghost use Rattle.cell_callers.specs.Places.{place_of, Between};
 
 use crate::{
-    Place, Progress, TriedCall, Whole, acquire_step, apply, batch, call_in_line, release_step,
-    try_call, try_hold,
+    Place, Progress, TriedCall, Whole, acquire_step, apply, call_in_line, release_step, try_call,
+    try_hold,
 };
-use event_log::{NoRoom, SeqObject, Steps};
+use event_log::{NoRoom, SeqObject};
 use guarded_cell::AnyCell;
 use std::alloc::Global;
 use std::sync::Arc;
@@ -83,19 +82,6 @@ impl<O: SeqObject> Caller<O> {
     {
         let place = &mut self.place;
         let (state, told) = call_in_line(&self.cell, place.take(), asked);
-        place.put(state);
-        told
-    }
-
-    /// A batch of 1 to 8 calls, as far as it comes without waiting.
-    pub fn batch(&mut self, asked: &[O::Call]) -> Whole<Result<Steps<O>, NoRoom>>
-        requires some { 0 < length asked.now }
-        requires few { length asked.now ≤ MOST_CALLS }
-        ensures cell { arc_value self.new.cell ≡ arc_value self.old.cell }
-        ensures called { Between self.old.place self.new.place (λ p q. IsBatched O.SeqObject (arc_value self.old.cell) p asked.now result q) }
-    {
-        let place = &mut self.place;
-        let (state, told) = batch(&self.cell, place.take(), asked);
         place.put(state);
         told
     }

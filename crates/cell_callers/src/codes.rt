@@ -2,7 +2,7 @@
 
 ghost use Rattle.std.specs.Prelude.{◌≡◌};
 ghost use Rattle.cell_callers.specs.Codes.{progress_code, try_code, answer_code, kept_code, call_code, looks_after, has_looked, opening_code};
-ghost use Rattle.cell_callers.specs.BatchCodes.{ReportsAll, ReportsWhole};
+ghost use Rattle.cell_callers.specs.BatchCodes.{ReportsAll};
 
 use crate::batching::{Replies, write_replies};
 use crate::coding::{Answered, reply_code};
@@ -157,32 +157,6 @@ pub fn steps_code(
             done_as
         }
         Err(NoRoom) => full_as,
-    }
-}
-
-/// What is reported of a batch. The replies are written where it was done, and the look is counted.
-pub fn batch_code(
-    whole: Whole<Result<Steps<KernelObject>, NoRoom>>,
-    replies: &mut Replies,
-    looks: &mut u64,
-) -> u32
-    ensures code { ReportsWhole whole result replies.old replies.new }
-    ensures looks { looks.new ≡ looks_after (has_looked whole) looks.old }
-{
-    match whole {
-        Whole::Done(done, looked) => {
-            count_look(looked, looks);
-            steps_code(done, DONE, FULL, replies)
-        }
-        Whole::Kept(done, looked) => {
-            count_look(looked, looks);
-            steps_code(done, DONE_KEPT, FULL_KEPT, replies)
-        }
-        Whole::Waits => {
-            count_look(true, looks);
-            LOOKED
-        }
-        Whole::Refused => REFUSED,
     }
 }
 

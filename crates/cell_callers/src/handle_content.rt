@@ -2,14 +2,17 @@
 
 ghost use Rattle.std.specs.Prelude.{◌<◌, ◌≤◌, length};
 ghost use Rattle.event_log.specs.declared.event.TheConstants.{MOST_CALLS};
-ghost use Rattle.cell_callers.specs.HandleContents.{IsAcquireStepIn, IsReleaseStepIn, IsTryIn, IsApplyIn, IsCallIn, IsBatchIn, IsTryCallIn};
+ghost use Rattle.cell_callers.specs.HandleContents.{IsAcquireStepIn, IsReleaseStepIn, IsTryIn, IsApplyIn, IsCallIn, IsTryCallIn};
+ghost use Rattle.cell_callers.specs.BatchReports.{ReportsBatchIn};
 ghost use Rattle.cell_callers.specs.CallReports.{ReportsCallOf};
 
+use crate::batched::batch_in_place;
+use crate::batching::Replies;
 use crate::codes::REFUSED;
 use crate::coding::Answered;
 use crate::straight::call_straight;
 use crate::{Caller, OpenCell, Progress, TriedCall, Whole};
-use event_log::{Logged, NoRoom, Steps};
+use event_log::{Logged, NoRoom};
 use kernel_object::{KCall, KReply, KernelObject};
 
 /// What a handle has. It can't be dropped.
@@ -87,15 +90,16 @@ impl HandleContent {
         }
     }
 
-    /// A caller's batch of 1 to 8 calls, as far as it comes without waiting.
-    pub fn batch(&mut self, calls: &[KCall]) -> Whole<Result<Steps<KernelObject>, NoRoom>>
+    /// A caller's batch of 1 to 8 calls, as far as it comes without waiting, with what is reported of it. The replies are written
+    /// where it was done, and the look is counted.
+    pub fn batch(&mut self, calls: &[KCall], replies: &mut Replies, looks: &mut u64) -> u32
         requires some { 0 < length calls.now }
         requires few { length calls.now ≤ MOST_CALLS }
-        ensures { IsBatchIn calls.now self.old result self.new }
+        ensures { ReportsBatchIn calls.now self.old (replies.old, looks.old) result self.new (replies.new, looks.new) }
     {
         match self {
-            HandleContent::Caller(caller) => caller.batch(calls),
-            _ => Whole::Refused,
+            HandleContent::Caller(caller) => batch_in_place(caller, calls, replies, looks),
+            _ => REFUSED,
         }
     }
 

@@ -5,6 +5,7 @@
 mod acquiring;
 mod applied;
 mod arrival;
+mod batched;
 mod batching;
 mod call_law;
 mod caller;
@@ -32,14 +33,15 @@ mod whole;
 pub use acquiring::acquire_step;
 pub use applied::apply;
 pub use arrival::{Arrival, arrive};
-pub use batching::{Batch, Replies, calls_of};
+pub use batched::batch_in_place;
+pub use batching::{Batch, Replies, write_calls};
 pub use call_law::one_call_is_a_hold;
 pub use caller::Caller;
 pub use caller_state::CallerState;
 pub use codes::{
     BAD_OPENING, BUSY, DONE, DONE_KEPT, ENTERED, FOUND, FULL, FULL_KEPT, LEFT, LOOKED, NO_MEMORY,
-    NOT_THERE, REFUSED, STEPPED, batch_code, call_code, opening_code, progress_code,
-    shared_answer_code, try_code,
+    NOT_THERE, REFUSED, STEPPED, call_code, opening_code, progress_code, shared_answer_code,
+    try_code,
 };
 pub use coding::{Answered, Asked, called_of, shared_called_of};
 pub use departure::{depart, depart_mcs};
@@ -55,4 +57,4 @@ pub use progress::Progress;
 pub use releasing::release_step;
 pub use straight::call_straight;
 pub use tried::try_hold;
-pub use whole::{TriedCall, Whole, batch, call_in_line, try_call};
+pub use whole::{TriedCall, Whole, call_in_line, try_call};

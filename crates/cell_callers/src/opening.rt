@@ -39,6 +39,7 @@ pub enum NotOpened {
 }
 
 /// The parameters of an object of that kind.
+#[inline(never)]
 fn params_of(opening: &Opening) -> Option<KParams>
     ensures { result ≡ params_of opening.now }
 {
@@ -76,7 +77,9 @@ pub fn cpus_numbered(number: u32) -> Option<u8>
     Some(number as u8)
 }
 
-/// A new object with its log, whose memory is written once; with 0 events the log isn't kept in memory.
+/// A new object with its log, whose memory is written once; with 0 events the log isn't kept in memory. It is apart, as what it
+/// has on the stack is long, and gone before the cell is opened.
+#[inline(never)]
 fn open_object(
     alloc: Global,
     params: KParams,

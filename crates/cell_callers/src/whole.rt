@@ -1,7 +1,6 @@
 //! Whole calls, as far as they come without waiting: to the object, the call, and back.
 
-ghost use Rattle.std.specs.Prelude.{◌≡◌, ◌<◌, ◌≤◌, false, length};
-ghost use Rattle.event_log.specs.declared.event.TheConstants.{MOST_CALLS};
+ghost use Rattle.std.specs.Prelude.{◌≡◌, false};
 ghost use Rattle.guarded_cell.specs.Kinds.{IsHoldOf};
 ghost use Rattle.guarded_cell.specs.declared.cell.AnyCell.{AnyCell};
 ghost use Rattle.guarded_cell.specs.declared.cell.AnyCell.TheVariants.{Ticket, Mcs};
@@ -11,15 +10,15 @@ ghost use Rattle.cell_callers.specs.declared.arrival.Arrival.TheVariants.{Got};
 ghost use Rattle.cell_callers.specs.declared.caller_state.CallerState.TheVariants.{Holding, Idle};
 ghost use Rattle.word_rule.specs.Passes.{state_of_pass, state_of_hold};
 ghost use Rattle.cell_callers.specs.CallerStates.{IsOf, state_of};
-ghost use Rattle.cell_callers.specs.Applies.{IsHeldApply, IsHeldBatch};
+ghost use Rattle.cell_callers.specs.Applies.{IsHeldApply};
 ghost use Rattle.cell_callers.specs.Arrivals.{IsArrival, arrived};
-ghost use Rattle.cell_callers.specs.Wholes.{IsHeldCall, IsCalled, IsBatched, IsTryCalled};
+ghost use Rattle.cell_callers.specs.Wholes.{IsHeldCall, IsCalled, IsTryCalled};
 
 use crate::CallerState;
 use crate::arrival::{Arrival, arrive};
 use crate::departure::depart;
 use crate::tried::try_pass;
-use event_log::{NoRoom, SeqObject, Steps};
+use event_log::{NoRoom, SeqObject};
 use guarded_cell::AnyCell;
 use word_rule::Hold;
 
@@ -124,78 +123,6 @@ pub fn call_in_line<O: SeqObject>(
 {
     match arrive(cell, state) {
         Ok(arrival) => call_arrived(cell, arrival, asked),
-        Err(state) => (state, Whole::Refused),
-    }
-}
-
-/// Does the calls as one event, unless the log is full.
-#[inline(never)]
-fn apply_all_held<O: SeqObject>(hold: &mut Hold<O>, asked: &[O::Call]) -> Result<Steps<O>, NoRoom>
-    requires some { 0 < length asked.now }
-    requires few { length asked.now ≤ MOST_CALLS }
-    ensures of { (cell : AnyCell O O.Params O.Call O.Reply) → IsHoldOf cell hold.old → IsHoldOf cell hold.new }
-    ensures caller { (state_of_hold hold.new).caller ≡ (state_of_hold hold.old).caller }
-    ensures applied { IsHeldBatch O.SeqObject hold.old asked.now result hold.new }
-{
-    hold.apply(asked)
-}
-
-fn batch_held<O: SeqObject>(
-    cell: &AnyCell<O>,
-    mut hold: Hold<O>,
-    asked: &[O::Call],
-) -> (CallerState<O>, Result<Steps<O>, NoRoom>, bool)
-    requires hold { IsHoldOf cell.now hold }
-    requires some { 0 < length asked.now }
-    requires few { length asked.now ≤ MOST_CALLS }
-    ensures of { IsOf cell.now result.0 }
-    ensures caller { (state_of result.0).caller ≡ (state_of_hold hold).caller }
-    ensures called { IsHeldCall O.SeqObject (λ h k. IsHeldBatch O.SeqObject h asked.now result.1 k) cell.now hold result.2 result.0 }
-{
-    let done = apply_all_held(&mut hold, asked);
-    let (state, is_back) = depart(cell, hold);
-    (state, done, is_back)
-}
-
-// A batch of a caller that has arrived.
-#[inline(never)]
-fn batch_arrived<O: SeqObject>(
-    cell: &AnyCell<O>,
-    arrival: Arrival<O>,
-    asked: &[O::Call],
-) -> (CallerState<O>, Whole<Result<Steps<O>, NoRoom>>)
-    requires arrival { IsOf cell.now (arrived arrival) }
-    requires some { 0 < length asked.now }
-    requires few { length asked.now ≤ MOST_CALLS }
-    ensures of { IsOf cell.now result.0 }
-    ensures caller { (state_of result.0).caller ≡ (state_of (arrived arrival)).caller }
-    ensures called { (p : _) → IsArrival O.SeqObject cell.now p arrival → IsBatched O.SeqObject cell.now p asked.now result.1 result.0 }
-{
-    match arrival {
-        Arrival::Got(hold, looked) => match batch_held(cell, hold, asked) {
-            (state, done, true) => (state, Whole::Done(done, looked)),
-            (state, done, false) => (state, Whole::Kept(done, looked)),
-        },
-        Arrival::Waits(state) => (state, Whole::Waits),
-    }
-}
-
-/// A batch of 1 to 8 calls, which are one event, as far as it comes without waiting.
-#[inline(never)]
-pub fn batch<O: SeqObject>(
-    cell: &AnyCell<O>,
-    state: CallerState<O>,
-    asked: &[O::Call],
-) -> (CallerState<O>, Whole<Result<Steps<O>, NoRoom>>)
-    requires state { IsOf cell.now state }
-    requires some { 0 < length asked.now }
-    requires few { length asked.now ≤ MOST_CALLS }
-    ensures of { IsOf cell.now result.0 }
-    ensures caller { (state_of result.0).caller ≡ (state_of state).caller }
-    ensures called { IsBatched O.SeqObject cell.now state asked.now result.1 result.0 }
-{
-    match arrive(cell, state) {
-        Ok(arrival) => batch_arrived(cell, arrival, asked),
         Err(state) => (state, Whole::Refused),
     }
 }

@@ -2,10 +2,11 @@
 
 ghost use Rattle.cells.specs.Exports.{content_of, ReportsAcquireStep, ReportsReleaseStep, ReportsTry, ReportsApply, ReportsCall, ReportsBatch, ReportsTryCall};
 
+use arrayvec::ArrayVec;
 use cell_callers::{
     Answered, Asked, BUSY, Batch, DONE, DONE_KEPT, FULL, FULL_KEPT, Handle, NOT_THERE, REFUSED,
-    Replies, TriedCall, at_content, batch_code, call_code, called_of, calls_of, progress_code,
-    shared_answer_code, shared_called_of, try_code,
+    Replies, TriedCall, at_content, call_code, called_of, progress_code, shared_answer_code,
+    shared_called_of, try_code, write_calls,
 };
 use event_log::MOST_CALLS;
 
@@ -82,15 +83,23 @@ pub extern "C" fn mc2_caller_batch(
     if batch.count == 0 || batch.count > MOST_CALLS as u32 {
         return REFUSED;
     }
-    let Some(calls) = calls_of(batch) else {
+    let mut calls = ArrayVec::new();
+    if !write_calls(batch, &mut calls) {
         return NOT_THERE;
-    };
-    let whole = at_content(
+    }
+    // (by their values, as `at_content` says nothing of what is left behind a borrow that it hands on)
+    let (told, said, looked) = at_content(
         caller,
-        calls.as_slice(),
-        |content, calls| content.batch(calls),
+        (calls.as_slice(), *replies, *looks),
+        |content, (calls, replies, looks)| {
+            let (mut replies, mut looks) = (replies, looks);
+            let told = content.batch(calls, &mut replies, &mut looks);
+            (told, replies, looks)
+        },
     );
-    batch_code(whole, replies, looks)
+    *replies = said;
+    *looks = looked;
+    told
 }
 
 /// A whole call, if nobody has the object or is in line for it. Where it is done, the reply is written.

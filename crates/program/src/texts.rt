@@ -11,7 +11,10 @@ ghost use Rattle.scripts.specs.ScriptText.{ScriptsFit};
 use crate::inputs::Inputs;
 use crate::refusal::Refusal;
 use event_log::StreamFailed;
-use scripts::{Keeps, ReadSettings, Record, Schedule, Scripts, Settings, SettingsFault, SourceFault, read_keeping};
+use scripts::{
+    Keeps, ReadSettings, Record, Schedule, Scripts, Settings, SettingsFault, SourceFault,
+    read_keeping,
+};
 use std::alloc::Global;
 
 /// The reader of the input of that name. No call on it has failed.

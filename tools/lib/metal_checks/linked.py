@@ -98,9 +98,10 @@ def note_memory(freestanding):
 
 
 def steps(folder):
-    run(["gcc", "-std=c11", "-D_DEFAULT_SOURCE", "-O1", *STRICT, "-o", folder / "step", CHECKS / "step.c"])
-    run([folder / "step"], timeout=SECONDS)
-    return "stands around each call of the library"
+    for words in ([], ["-DAPART"]):
+        run(["gcc", "-std=c11", "-D_DEFAULT_SOURCE", "-O1", *words, *STRICT, "-o", folder / "step", CHECKS / "step.c"])
+        run([folder / "step"], timeout=SECONDS)
+    return "stands around each call of the library, or MC2_OPENING around those that open, close and free"
 
 
 def size(path, most):

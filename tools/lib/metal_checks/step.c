@@ -1,17 +1,27 @@
 // Checks that MC2_STEP stands around each call of the library in the inline functions of include/mc2_cells.h, and around one at a
 // time: then no interrupt that a kernel masks there comes within the library. In its place are the functions below. Each tells
-// what has the header's loops go on, and in the end what ends them.
+// what has the header's loops go on, and in the end what ends them. With APART it checks that MC2_OPENING stands around just those
+// that open, close and free.
 //
 // The status is 0, or 1 at the first check that fails, which a line on standard error names.
 static unsigned begin_step(void);
+static inline unsigned begin_opening(void);
 static unsigned end_step(unsigned told);
 
 #define MC2_STEP(call) end_step((begin_step(), (call)))
+#ifdef APART
+#define MC2_OPENING(call) end_step((begin_opening(), (call)))
+enum { IS_APART = 1 };
+#else
+enum { IS_APART = 0 };
+#endif
 #include "../../../include/mc2_cells.h"
 
-static unsigned within, steps, calls;
+static unsigned within, steps, openings, calls;
 
 static unsigned begin_step(void) { return steps++, within++; }
+
+static inline unsigned begin_opening(void) { return openings++, begin_step(); }
 
 static unsigned end_step(unsigned told) { return within--, told; }
 
@@ -112,10 +122,10 @@ uint32_t mc2_cell_take_back(struct mc2_cell *cell, struct mc2_caller *caller) {
 
 uint32_t mc2_cell_close(struct mc2_cell *cell) { return (void)cell, answer(&none, MC2_CELL_DONE); }
 
-// So many calls of the library were made by then.
-static void made(unsigned count, const char *what) {
-    must(calls == count && within == 0, what);
-    calls = steps = 0;
+// So many calls of the library were made by then, all of which open, close or free, or none.
+static void made(unsigned count, bool are_openings, const char *what) {
+    must(calls == count && within == 0 && openings == (IS_APART && are_openings ? count : 0), what);
+    calls = steps = openings = 0;
 }
 
 int main(void) {
@@ -129,22 +139,22 @@ int main(void) {
     uint64_t looks;
     to_the_object = back = to_call = to_batch = 2;
     must(mc2_cell_open(&cell, &object, 1) == MC2_CELL_DONE, "a cell");
-    made(2, "opening a cell is two calls");
+    made(2, true, "opening a cell is two calls");
     must(mc2_caller_open(&cell, &caller) == MC2_CELL_DONE, "a caller");
-    made(2, "opening a caller is two calls");
+    made(2, true, "opening a caller is two calls");
     must(mc2_acquire(&caller, &looks) == MC2_CELL_FOUND && mc2_release(&caller) == MC2_CELL_LEFT, "single steps");
-    made(6, "two looks in vain before each end of the steps");
+    made(6, false, "two looks in vain before each end of the steps");
     must(mc2_cell_call(&caller, &call, &reply, &looks) == MC2_CELL_DONE, "a whole call");
-    made(4, "two looks in vain, the call, a step back");
+    made(4, false, "two looks in vain, the call, a step back");
     must(mc2_cell_batch(&caller, &batch, &replies, &looks) == MC2_CELL_DONE, "a batch");
-    made(4, "two looks in vain, the batch, a step back");
+    made(4, false, "two looks in vain, the batch, a step back");
     must(mc2_cell_try_call(&caller, &call, &reply) == MC2_CELL_DONE, "a try");
-    made(2, "the try, a step back");
+    made(2, false, "the try, a step back");
     must(mc2_caller_free(&caller) == MC2_CELL_DONE && mc2_cell_free(&cell) == MC2_CELL_DONE, "freeing");
-    made(2, "each freeing is a call");
+    made(2, true, "each freeing is a call");
     must(mc2_cells_open(&cell, &object, callers, 3) == MC2_CELL_DONE, "a cell with callers");
-    made(8, "opening a cell and each of three callers is two calls");
+    made(8, true, "opening a cell and each of three callers is two calls");
     must(mc2_cells_close(&cell, callers, 3) == MC2_CELL_DONE, "closing");
-    made(7, "each caller is taken back and freed, and the cell closed");
+    made(7, true, "each caller is taken back and freed, and the cell closed");
     return 0;
 }

@@ -71,8 +71,8 @@ numbers_count (f ∷ fs) ws read e = bind_some (field_at f ws) _ read e (λ n fo
 
 -- quotas of all owners, each in its range
 pub record AreQuotas (qs : List ℕ) : Type 0 where
-  count : length qs ≡ 16
-  each : list_all is_quota qs ≡ true
+  pub count : length qs ≡ 16
+  pub each : list_all is_quota qs ≡ true
 
 all_quotas_take : (ws : List (List ℕ)) (read : List ℕ × List (List ℕ)) → all_quotas_at ws ≡ Some read → (ws ≡ map decimal read.0 ++ read.1) × AreQuotas read.0
 unfolding all_quotas_at

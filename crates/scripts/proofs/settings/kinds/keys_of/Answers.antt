@@ -1,6 +1,6 @@
 use Rattle.std.proofs.Common.{sym, ap, ◌∙◌}
 use Rattle.scripts.specs.SettingsText.{keys_of}
-use Rattle.kernel_words.proofs.kinds.keys_of.Goals as goal
+use Rattle.scripts.proofs.settings.kinds.keys_of.Goals as goal
 
 pub returns-in-Queue : goal.returns-in-Queue
 returns-in-Queue c = c.keys.ensures ∙ ap keys_of (sym c.in-Queue.is)

@@ -2,7 +2,7 @@ use Rattle.std.proofs.Common.{◌≡◌, ◌≤◌, ◌+◌, ◌∙◌, Ok, sym,
 use Rattle.std.proofs.lemmas.List.{drop_all, take_all, take_more_set}
 use Rattle.toml.specs.View.{view, items_view}
 use Rattle.scripts.proofs.SettingsTables.{item_there, error_is, quotas_behind, quotas_more, quotas_none, quotas_end}
-use Rattle.kernel_words.proofs.kinds.pool.each_quota.Goals as goal
+use Rattle.scripts.proofs.settings.kinds.pool.each_quota.Goals as goal
 
 pub returns-in_err-quotas : goal.returns-in_err-quotas
 returns-in_err-quotas c =

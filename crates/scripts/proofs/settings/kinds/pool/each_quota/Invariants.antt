@@ -3,7 +3,7 @@ use Rattle.toml.specs.View.{items_view}
 use Rattle.page_pool.specs.declared.params.TheConstants.{OWNERS}
 use Rattle.scripts.specs.KindKeys.Pool.{each_quota}
 use Rattle.scripts.proofs.SettingsTables.{quotas_behind}
-use Rattle.kernel_words.proofs.kinds.pool.each_quota.Given as goal
+use Rattle.scripts.proofs.settings.kinds.pool.each_quota.Given as goal
 
 abbrev pub invariant-loop-owner : goal.invariant-loop-owner
 invariant-loop-owner l = record {

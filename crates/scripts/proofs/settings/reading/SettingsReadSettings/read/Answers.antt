@@ -12,11 +12,11 @@ returns-in-Ok-clause-utf8 c utf8 = rw (c.in-Ok.ensures.ok.1) c.settings.ensures
 
 pub returns-in-Err-2-clause-utf8 : goal.returns-in-Err-2-clause-utf8
 unfolding settings_of
-returns-in-Err-2-clause-utf8 c utf8 = rw (c.in-Err.ensures.refused (λ memory. false≢true (subst IsTrue c.if-is_memory.false (c.is_memory.ensures.1 memory))) utf8)
+returns-in-Err-2-clause-utf8 c utf8 = rw (c.in-Err.ensures.refused (λ memory. false≢true (subst IsTrue c.if-is_memory.false (c.is_memory.ensures.1 memory))) utf8, c.not_toml.ensures) refl
 
 pub returns-in-Err-2-clause-not_utf8 : goal.returns-in-Err-2-clause-not_utf8
 unfolding settings_of
-returns-in-Err-2-clause-not_utf8 c bad = refl
+returns-in-Err-2-clause-not_utf8 c bad = rw (c.not_toml.ensures) refl
 
 pub returns-in-Ok-clause-found : goal.returns-in-Ok-clause-found
 unfolding settings_of

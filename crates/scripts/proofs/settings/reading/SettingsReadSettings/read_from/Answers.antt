@@ -7,7 +7,7 @@ use Rattle.scripts.proofs.settings.reading.SettingsReadSettings.read_from.Goals 
 pub returns-then-len-gt-MOST_SETTINGS_BYTES-clause-fault : goal.returns-then-len-gt-MOST_SETTINGS_BYTES-clause-fault
 returns-then-len-gt-MOST_SETTINGS_BYTES-clause-fault g c =
     let long : MOST_SETTINGS_BYTES < length c.in-Ok.bytes.items = (let over = c.if-len-gt-MOST_SETTINGS_BYTES.true in omega (arith, over, c.len.ensures)) in
-    long_refused _ _ c.in-Ok.bytes.items c.in-Ok.ensures.front long
+    rw (c.not_toml.ensures) (long_refused _ _ c.in-Ok.bytes.items c.in-Ok.ensures.front long)
 
 pub returns-clause-fault : goal.returns-clause-fault
 returns-clause-fault g c =

@@ -1,0 +1,10 @@
+use Rattle.std.proofs.Common.{subst}
+use Rattle.kernel_object.specs.contracts.object.KernelObjectSeqObject.TheImpl.{ghosts}
+use Rattle.cell_callers.specs.Wholes.{IsBatched}
+use Rattle.cell_callers.proofs.batched.batch_in_place.Goals as goal
+
+pub returns-clause-reports : goal.returns-clause-reports
+returns-clause-reports c =
+    let done = c.batch-state in
+    let told = done.ensures.reports in
+    (told.0, told.1, told.2, (c.take.result, done.result.0, c.take.ensures.state, c.put.ensures, subst (λ z. IsBatched ghosts z c.take.result c.args.calls.now told.0 done.result.0) c.deref.ensures told.3))

@@ -1,0 +1,40 @@
+-- What is reported of a batch, whose replies are written where its calls are done.
+use Rattle.std.specs.Prelude.{◌≡◌, ℕ, Bool, true, false, List, Result}
+use Rattle.event_log.specs.declared.logged.NoRoom.{NoRoom}
+use Rattle.kernel_object.specs.declared.call.KCall.{KCall}
+use Rattle.kernel_object.specs.contracts.object.KernelObjectSeqObject.TheImpl.{ghosts}
+use Rattle.cell_callers.specs.declared.batching.Replies.{Replies}
+use Rattle.cell_callers.specs.declared.codes.TheConstants.{DONE, FULL, DONE_KEPT, FULL_KEPT}
+use Rattle.cell_callers.specs.declared.handle_content.HandleContent.{HandleContent}
+use Rattle.cell_callers.specs.declared.whole.Whole.{Whole}
+use Rattle.cell_callers.specs.Applies.{IsHeldBatch}
+use Rattle.cell_callers.specs.BatchCodes.{ReportsAll, ReportsWhole}
+use Rattle.cell_callers.specs.Codes.{looks_after, has_looked}
+use Rattle.cell_callers.specs.HandleContents.{IsBatchIn, KernelCell, KernelHold, KernelPlace, KernelState, KernelSteps}
+use Rattle.cell_callers.specs.Places.{Between}
+use Rattle.cell_callers.specs.Wholes.{IsBatched, IsHeldCall}
+
+-- the calls were done under the hold, or the log was full: the number of that, and the replies before and after
+abbrev pub IsRepliedHeld : List KCall → Replies → ℕ → Replies → KernelHold → KernelHold → Type 0
+IsRepliedHeld calls old n new h k = (said : Result KernelSteps NoRoom) × ReportsAll DONE FULL said n old new × IsHeldBatch ghosts h calls said k
+
+-- the number of what was done, as the object is given back, or isn't yet
+abbrev pub ReportsEnd : Bool → Result KernelSteps NoRoom → ℕ → Replies → Replies → Type 0
+ReportsEnd true said n old new = ReportsAll DONE FULL said n old new
+ReportsEnd false said n old new = ReportsAll DONE_KEPT FULL_KEPT said n old new
+
+-- a holder has done the calls, and then given the object back, or will
+abbrev pub ReportsHeldBatch : KernelCell → KernelHold → List KCall → Replies → ℕ → Replies → KernelState → Type 0
+ReportsHeldBatch cell h calls old n new q = (said : Result KernelSteps NoRoom) × (is_back : Bool) × ReportsEnd is_back said n old new × IsHeldCall ghosts (λ j k. IsHeldBatch ghosts j calls said k) cell h is_back q
+
+-- a caller that stood at p has called, and stands at q: the number, with the replies and the looks before and after
+abbrev pub ReportsBatchedAt : KernelCell → KernelState → List KCall → Replies × ℕ → ℕ → KernelState → Replies × ℕ → Type 0
+ReportsBatchedAt cell p calls old n q new = (told : Whole (Result KernelSteps NoRoom)) × ReportsWhole told n old.0 new.0 × (new.1 ≡ looks_after (has_looked told) old.1) × IsBatched ghosts cell p calls told q
+
+-- the same of a caller that lies in its place
+abbrev pub ReportsBatched : KernelCell → List KCall → KernelPlace → Replies × ℕ → ℕ → KernelPlace → Replies × ℕ → Type 0
+ReportsBatched cell calls before old n after new = (told : Whole (Result KernelSteps NoRoom)) × ReportsWhole told n old.0 new.0 × (new.1 ≡ looks_after (has_looked told) old.1) × Between before after (λ p q. IsBatched ghosts cell p calls told q)
+
+-- and of what a handle has
+abbrev pub ReportsBatchIn : List KCall → HandleContent → Replies × ℕ → ℕ → HandleContent → Replies × ℕ → Type 0
+ReportsBatchIn calls before old n after new = (told : Whole (Result KernelSteps NoRoom)) × ReportsWhole told n old.0 new.0 × (new.1 ≡ looks_after (has_looked told) old.1) × IsBatchIn calls before told after

@@ -1,0 +1,103 @@
+//! A batch of calls, as far as it comes without waiting. Its steps are long, so their replies are written where the calls are done,
+//! and what goes back is the number that is reported.
+
+ghost use Rattle.std.specs.Prelude.{◌≡◌, ◌<◌, ◌≤◌, length};
+ghost use Rattle.event_log.specs.declared.event.TheConstants.{MOST_CALLS};
+ghost use Rattle.std_alloc.specs.Arc.{arc_value};
+ghost use Rattle.guarded_cell.specs.Kinds.{IsHoldOf};
+ghost use Rattle.word_rule.specs.Passes.{state_of_hold};
+ghost use Rattle.kernel_object.specs.contracts.object.KernelObjectSeqObject.TheImpl.{ghosts};
+ghost use Rattle.cell_callers.specs.HandleContents.{KernelCell};
+ghost use Rattle.cell_callers.specs.Wholes.{IsHeldCall};
+ghost use Rattle.cell_callers.specs.CallerStates.{IsOf, state_of};
+ghost use Rattle.cell_callers.specs.BatchReports.{IsRepliedHeld, ReportsHeldBatch, ReportsBatchedAt, ReportsBatched};
+
+use crate::arrival::{Arrival, arrive};
+use crate::batching::Replies;
+use crate::codes::{DONE, FULL, LOOKED, REFUSED, count_look, kept_code, steps_code};
+use crate::departure::depart;
+use crate::{Caller, CallerState};
+use guarded_cell::AnyCell;
+use kernel_object::{KCall, KernelObject};
+use word_rule::Hold;
+
+/// Does the calls as one event and writes their replies, unless the log is full.
+#[inline(never)]
+fn apply_all_held(hold: &mut Hold<KernelObject>, calls: &[KCall], replies: &mut Replies) -> u32
+    requires some { 0 < length calls.now }
+    requires few { length calls.now ≤ MOST_CALLS }
+    ensures of { (cell : KernelCell) → IsHoldOf cell hold.old → IsHoldOf cell hold.new }
+    ensures caller { (state_of_hold hold.new).caller ≡ (state_of_hold hold.old).caller }
+    ensures applied { IsRepliedHeld calls.now replies.old result replies.new hold.old hold.new }
+{
+    steps_code(hold.apply(calls), DONE, FULL, replies)
+}
+
+// A batch under the hold, and back.
+fn batch_held(
+    cell: &AnyCell<KernelObject>,
+    mut hold: Hold<KernelObject>,
+    calls: &[KCall],
+    replies: &mut Replies,
+) -> (CallerState<KernelObject>, u32)
+    requires hold { IsHoldOf cell.now hold }
+    requires some { 0 < length calls.now }
+    requires few { length calls.now ≤ MOST_CALLS }
+    ensures of { IsOf cell.now result.0 }
+    ensures caller { (state_of result.0).caller ≡ (state_of_hold hold).caller }
+    ensures reports { ReportsHeldBatch cell.now hold calls.now replies.old result.1 replies.new result.0 }
+{
+    let told = apply_all_held(&mut hold, calls, replies);
+    match depart(cell, hold) {
+        (state, true) => (state, told),
+        (state, false) => (state, kept_code(told)),
+    }
+}
+
+/// A batch of 1 to 8 calls, which are one event, as far as it comes without waiting, and what is reported of it. The replies are
+/// written where it was done, and the look is counted.
+#[inline(never)]
+fn batch(
+    cell: &AnyCell<KernelObject>,
+    state: CallerState<KernelObject>,
+    calls: &[KCall],
+    replies: &mut Replies,
+    looks: &mut u64,
+) -> (CallerState<KernelObject>, u32)
+    requires state { IsOf cell.now state }
+    requires some { 0 < length calls.now }
+    requires few { length calls.now ≤ MOST_CALLS }
+    ensures of { IsOf cell.now result.0 }
+    ensures caller { (state_of result.0).caller ≡ (state_of state).caller }
+    ensures reports { ReportsBatchedAt cell.now state calls.now (replies.old, looks.old) result.1 result.0 (replies.new, looks.new) }
+{
+    match arrive(cell, state) {
+        Ok(Arrival::Got(hold, looked)) => {
+            count_look(looked, looks);
+            batch_held(cell, hold, calls, replies)
+        }
+        Ok(Arrival::Waits(state)) => {
+            count_look(true, looks);
+            (state, LOOKED)
+        }
+        Err(state) => (state, REFUSED),
+    }
+}
+
+/// The same of a caller that lies in its place.
+pub fn batch_in_place(
+    caller: &mut Caller<KernelObject>,
+    calls: &[KCall],
+    replies: &mut Replies,
+    looks: &mut u64,
+) -> u32
+    requires some { 0 < length calls.now }
+    requires few { length calls.now ≤ MOST_CALLS }
+    ensures cell { arc_value caller.new.cell ≡ arc_value caller.old.cell }
+    ensures reports { ReportsBatched (arc_value caller.old.cell) calls.now caller.old.place (replies.old, looks.old) result caller.new.place (replies.new, looks.new) }
+{
+    let place = &mut caller.place;
+    let (state, told) = batch(&caller.cell, place.take(), calls, replies, looks);
+    place.put(state);
+    told
+}

@@ -1,0 +1,99 @@
+// What load.c measures: the stack that the library takes, and the time of calls beside those behind the kernel's spinlock.
+enum { MARK = 0x5a, NEAR = 128 };
+
+static int run_all(void);
+
+static struct mc2_cell measured;
+static struct mc2_caller of_measured[MOST_LINUX_CPUS];
+
+// Marks what isn't used of this task's stack; and how much was used since then.
+static noinline void mark_stack(void) {
+    u8 *from = (u8 *)(end_of_stack(current) + 1);
+    unsigned long flags;
+    local_irq_save(flags);
+    memset(from, MARK, (u8 *)__builtin_frame_address(0) - NEAR - from);
+    local_irq_restore(flags);
+}
+
+static noinline size_t stack_used(void) {
+    const u8 *at = (const u8 *)(end_of_stack(current) + 1), *top = (const u8 *)__builtin_frame_address(0);
+    while (at < top && *at == MARK)
+        at++;
+    return top - at;
+}
+
+// Whether that is done, and the most stack that it and others like it have used.
+#define USES(most, call) \
+    ({ \
+        bool mc2_is_done; \
+        mark_stack(); \
+        mc2_is_done = (call) == MC2_CELL_DONE; \
+        most = max(most, stack_used()); \
+        mc2_is_done; \
+    })
+
+static int say_stack(void) {
+    static struct mc2_batch batch = {MC2_MOST_CALLS};
+    static struct mc2_replies replies;
+    size_t openings = 0, whole = 0, batches = 0;
+    struct mc2_reply reply;
+    u64 looks;
+    bool is_right = true;
+    for (u32 at = 0; at < OBJECTS && is_right; at++) {
+        batch.calls[0] = any_call(at, 0);
+        is_right = USES(openings, mc2_cells_open(&measured, &objects[at], of_measured, 1)) &&
+                   USES(whole, mc2_cell_call(of_measured, &batch.calls[0], &reply, &looks)) &&
+                   USES(batches, mc2_cell_batch(of_measured, &batch, &replies, &looks));
+        mc2_cells_free(&measured, of_measured, 1);
+    }
+    pr_notice("stack of openings %zu, of whole calls %zu, of batches %zu, of %lu\n", openings, whole, batches, THREAD_SIZE);
+    return is_right ? 0 : -ENOMEM;
+}
+
+static u64 now(void) {
+    struct timespec64 time;
+    ktime_get_raw_ts64(&time);
+    return timespec64_to_ns(&time);
+}
+
+static void call_timed(u32 number, bool puts) {
+    struct mc2_caller *caller = &of_measured[number];
+    struct mc2_reply reply;
+    unsigned long flags;
+    u64 looks, told;
+    if (way == CELLS) {
+        preempt_disable();
+        told = puts ? mc2_queue_enq(caller, number % SIZE, &reply, &looks) : mc2_queue_deq(caller, &reply, &looks);
+        own[number].wrong += told != MC2_CELL_DONE;
+        preempt_enable();
+    } else {
+        raw_spin_lock_irqsave(&spinlock, flags);
+        plain_answer(number, mc2_ask(puts ? MC2_ENQ : MC2_DEQ, number % SIZE, 0));
+        raw_spin_unlock_irqrestore(&spinlock, flags);
+    }
+}
+
+// A queue whose log is kept, behind that lock.
+static int time_one(const char *name, u32 lock_word) {
+    struct mc2_object object = objects[MC2_QUEUE];
+    u64 longest = 1;
+    int failure;
+    object.lock = lock_word;
+    if (way == CELLS && mc2_cells_open(&measured, &object, of_measured, cpus) != MC2_CELL_DONE)
+        return -ENOMEM;
+    failure = run_all();
+    mc2_cells_free(&measured, of_measured, cpus);
+    for (u32 cpu = 0; cpu < cpus; cpu++) {
+        longest = max(longest, own[cpu].took);
+        failure = failure ?: own[cpu].wrong ? -EIO : 0;
+    }
+    pr_notice("%s: %u CPUs, %llu ns a call of each, %llu calls a second\n", name, cpus, div_u64(longest, calls),
+              div64_u64((u64)cpus * calls * NSEC_PER_SEC, longest));
+    return failure;
+}
+
+static int time_all(void) {
+    int failure = time_one("ticket cell", MC2_TICKET) ?: time_one("mcs cell", MC2_MCS);
+    way = SPIN;
+    return failure ?: time_one("the kernel's spinlock", MC2_TICKET);
+}
