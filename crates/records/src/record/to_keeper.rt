@@ -1,6 +1,10 @@
 //! A keeper of records, as a sink of records in any form.
 
 ghost use Rattle.std.specs.Prelude.{◌≡◌};
+ghost use Rattle.record_lines.specs.Received.{only_head};
+ghost use Rattle.records.specs.HandedOver.{handed};
+ghost use Rattle.records.specs.Keeping.{no_parts};
+ghost use Rattle.records.specs.KernelForm.{no_head};
 
 use crate::record::keeps::Keeps;
 use crate::record::kernel_form::{KernelForm, empty_entry, empty_event};
@@ -23,10 +27,8 @@ pub struct ToKeeper<K: Keeps> {
 impl<K: Keeps> ToKeeper<K> {
     /// The keeper, before any line.
     pub fn new(keeper: K) -> ToKeeper<K>
-        ensures awaits { result.awaits ≡ HeadNext.First }
-        ensures form { result.form ≡ WRITTEN }
-        ensures count { result.count ≡ 0 }
-        ensures keeper { result.keeper ≡ keeper }
+        requires { K.keeps keeper ≡ no_parts }
+        ensures { handed result.awaits result.form result.count (K.keeps result.keeper) ≡ only_head no_head }
     {
         ToKeeper {
             awaits: HeadNext::First,
