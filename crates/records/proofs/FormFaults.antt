@@ -13,7 +13,7 @@ use Rattle.records.specs.RecordText.{record_text, record_lines}
 use Rattle.record_lines.specs.Words.{sentence, NoEnd}
 use Rattle.record_lines.proofs.FirstLines.{line_first, same_line, first_is}
 use Rattle.record_lines.proofs.Parts.{all_same}
-use Rattle.records.proofs.KernelHeads.{count_begins, one_cpu}
+use Rattle.records.proofs.KernelHeads.{some_settings}
 
 -- the first line of the first lines
 first_front : (k : ℕ) (bytes : List ℕ) → first_lines 1 (first_lines (suc k) bytes) ≡ first_lines 1 bytes
@@ -50,12 +50,12 @@ form_is f g r rest k e =
 -- there is a record of each form: of one CPU and one object, which did nothing
 some_record : (f : Form) → (r : Record) × RecordFitsIn f r
 some_record f =
-    let on = count_begins f 1 (one_cpu f) in
-    let settings : Settings = on.settings in
+    let some = some_settings f in
+    let settings : Settings = some.0 in
     let objects : ℕ = length settings.objects in (
       record { settings = settings; run = record { logs = replicate objects []; transcripts = replicate settings.cpus [] } },
       (
-        on.fit,
+        some.1,
         record {
           log_count = length-replicate {A = List KernelEvent} objects [];
           logs = all_same (LogFits f settings.cpus) [] objects (omega arith, tt);

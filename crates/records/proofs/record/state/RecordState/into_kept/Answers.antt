@@ -9,8 +9,8 @@ use Rattle.records.proofs.Forms.{record_in_written}
 use Rattle.records.proofs.KernelRecords.{KernelWhole, record_in, fits_of}
 use Rattle.records.proofs.record.state.RecordState.into_kept.Goals as goal
 
-pub into_received-requires : goal.into_received-requires
-into_received-requires g c = ap (λ (s : RecordState). s.awaits) c.self.view_is ∙ c.requires
+pub into_received-head-requires : goal.into_received-head-requires
+into_received-head-requires g c = ap (λ (s : RecordState). s.awaits) c.self.view_is ∙ c.requires
 
 pub into_settings-requires : goal.into_settings-requires
 into_settings-requires g c = let r = c.into_received-head.ensures in subst HeadFits (sym (ap (λ (w : KernelWhole). w.head) r.received)) r.fit.head
