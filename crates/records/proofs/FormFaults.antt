@@ -8,7 +8,7 @@ use Rattle.records.specs.FormFaults.{form_line, AgreesIn, IsBadLineIn}
 use Rattle.records.specs.RecordFaults.{text_in, Agrees, IsBadLine}
 use Rattle.record_lines.specs.FirstLines.{first_lines}
 use Rattle.records.specs.RecordRanges.{Record, RecordFitsIn, LogFits, TranscriptFits}
-use Rattle.records.specs.Settings.{Settings, SettingsFitIn}
+use Rattle.records.specs.Settings.{Settings}
 use Rattle.records.specs.RecordText.{record_text, record_lines}
 use Rattle.record_lines.specs.Words.{sentence, NoEnd}
 use Rattle.record_lines.proofs.FirstLines.{line_first, same_line, first_is}

@@ -5,7 +5,6 @@ use Rattle.record_lines.specs.declared.text.fault.LinesFault.{LinesFault}
 use Rattle.record_lines.specs.declared.text.fault.LinesFault.TheVariants.{OutOfMemory, Line}
 use Rattle.record_lines.specs.declared.forms.place.Next.TheVariants.{Done}
 use Rattle.record_lines.specs.FormStates.{FitsAt, behind_line_at, whole_of}
-use Rattle.record_lines.specs.FormText.{whole_text}
 use Rattle.record_lines.specs.LineMachine.{ChangesNothing, TakesText, RefusesLine as RefusesAny}
 use Rattle.record_lines.specs.Words.{NoEnd}
 use Rattle.record_lines.proofs.FormSpells.{line_spells}

@@ -5,7 +5,7 @@ use Rattle.std.proofs.Common.{arith}
 use Rattle.event_log.specs.declared.logged.TheConstants.{MOST_EVENTS}
 use Rattle.sound_run.specs.declared.limits.TheConstants.{MOST_CELLS}
 use Rattle.kernel_object.specs.declared.call.KCall.{KCall}
-use Rattle.kernel_object.specs.KernelTypes.{KernelEntry, KernelEvent, KernelStep}
+use Rattle.kernel_object.specs.KernelTypes.{KernelEntry, KernelStep}
 use Rattle.kernel_words.specs.declared.form.Form.{Form}
 use Rattle.kernel_words.specs.declared.form.TheConstants.{WRITTEN}
 use Rattle.kernel_words.specs.Forms.{version, most_cpus}
@@ -16,7 +16,7 @@ use Rattle.records.specs.declared.record.TheConstants.{MOST_ENTRIES}
 use Rattle.records.specs.declared.record.kernel_head.HeadNext.{HeadNext}
 use Rattle.records.specs.declared.record.kernel_head.HeadNext.TheVariants.{First, Cpus, Count, Object, Whole}
 use Rattle.records.specs.RecordReading.{form_at, new_object_at}
-use Rattle.records.specs.RecordText.{object_words, event_words, entry_words, head_lines}
+use Rattle.records.specs.RecordText.{object_words, head_lines}
 use Rattle.records.specs.Settings.{Settings, ObjectSettings, ObjectFits, NamesDiffer, SettingsFitIn, name_at}
 use Rattle.records.specs.StepTexts.{SpellsTail, entry_of}
 
