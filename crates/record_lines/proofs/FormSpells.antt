@@ -146,9 +146,11 @@ module _ {S H E T : Type 0} (f : Ghosts S H E T) where
     end_behind : (b : Bool) (s t : State H E T) (line : List ℕ) → f.ends line ≡ b → FitsAt f End s → (if b then Some (record s { awaits = Done }) else None) ≡ Some t → Behind (spelled_at End s) line t
     end_behind true s t line is h e =
         let state : ◌≡◌ {A = State H E T} (record s { awaits = Done }) t = cc in
-        let text = laws.ends line is in
-        (subst f.IsLine (sym text) laws.end_plain, subst (Spells (transcripts_spelled s ++ line ∷ [])) state
-        (record { fit = record { head = h.fit.head; log_count = h.fit.log_count; logs = h.fit.logs; events = h.fit.events; transcripts = h.fit.transcripts }; none = h.none; all = h.all }, ap (λ l. transcripts_spelled s ++ l ∷ []) (sym text)))
+        let text = laws.ends line is in (
+          subst f.IsLine (sym text) laws.end_plain,
+          subst (Spells (transcripts_spelled s ++ line ∷ [])) state
+              (record { fit = record { head = h.fit.head; log_count = h.fit.log_count; logs = h.fit.logs; events = h.fit.events; transcripts = h.fit.transcripts }; none = h.none; all = h.all }, ap (λ l. transcripts_spelled s ++ l ∷ []) (sym text)),
+        )
     end_behind false s t line is h e = absurd cc
 
     -- a line at each place
