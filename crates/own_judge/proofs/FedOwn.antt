@@ -7,7 +7,7 @@ use Rattle.std.proofs.lemmas.Option.{slice_get_within, get_or_from_slice_get}
 use Rattle.event_log.specs.Log.{steps_of}
 use Rattle.event_log.proofs.Lists.{same_front, get_last, some_at}
 use Rattle.sound_run.proofs.Slices.{map_get}
-use Rattle.auditor.specs.Fed.{log_begun, event_fed, log_ended}
+use Rattle.auditor.specs.Fed.{log_begun, event_fed, log_ended, transcript_begun, transcript_ended}
 use Rattle.auditor.specs.SoFar.{IsBeforeLog, IsInLog, HasLogs, IsInTranscripts}
 use Rattle.own_object.specs.Keeping.{InLogs, InTranscripts, IsAtHead}
 use Rattle.own_object.specs.Own.{OwnEvent}
@@ -150,3 +150,10 @@ module _ (head : OwnHead) (begun : Bool) (counts most : List ℕ) (log rest : �
         left = (let same : next ≡ length (d.logs ++ d.events ∷ []) = omega (arith, is, w, longer) in let e = this ∙ ap (slice_index counts) same in omega (arith, e));
         without = without_next counts d.logs d.events log rest none new fed.whole fed.left step fed.without;
       }
+
+  -- a transcript begins, and is whole
+  pub transcript_opened : (n : ℕ) → InTranscripts (own_parts head begun d) → IsFedOwn (own_parts head true (transcript_begun d n)) counts most log rest none (transcript_begun d n)
+  transcript_opened n at = record { limits = fed.limits; whole = fed.whole; cpus = fed.cpus; objects = fed.objects; opened = all_opened at.log_count ∙ sym (all_logs true at.log_count); left = fed.left; without = fed.without }
+
+  pub transcript_more : InTranscripts (own_parts head begun d) → IsFedOwn (own_parts head false (transcript_ended d)) counts most log rest none (transcript_ended d)
+  transcript_more at = record { limits = fed.limits; whole = fed.whole; cpus = fed.cpus; objects = fed.objects; opened = all_opened at.log_count ∙ sym (all_logs false at.log_count); left = fed.left; without = fed.without }
