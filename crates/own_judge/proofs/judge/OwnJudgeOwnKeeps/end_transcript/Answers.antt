@@ -1,4 +1,4 @@
-use Rattle.std.proofs.Common.{sym, ap, subst}
+use Rattle.std.proofs.Common.{false, sym, ap, subst}
 use Rattle.own_object.specs.Keeping.{InTranscripts}
 use Rattle.own_judge.specs.Judging.{head_of, own_parts, Counted, OwnFed, IsFedOwn}
 use Rattle.own_judge.proofs.FedOwn.{in_transcripts, transcript_more}
