@@ -2,14 +2,15 @@
 use Rattle.std.proofs.Common.{◌≡◌, inl, inr, ⊎_elim, ℕ, zero, suc, ◌<◌, Bool, true, false, List, [], ◌∷◌, length, slice_get, refl, sym, ap, ◌∙◌, arith}
 use Rattle.std.proofs.lemmas.Bool.{cases_lt}
 use Rattle.std.specs.Prelude.{◌⊎◌}
-use Rattle.event_log.specs.declared.object.SeqObject.{Ghosts}
 use Rattle.event_log.specs.declared.entry.Entry.{Entry}
 use Rattle.event_log.specs.declared.entry.Run.{Run}
-use Rattle.sound_run.specs.Sound.{Opened, transcript_of}
+use Rattle.sound_run.specs.Sound.{transcript_of}
 use Rattle.sound_run.proofs.Slices.{one_of}
 use Rattle.auditor.specs.declared.fault.Fault.{Fault}
 use Rattle.auditor.specs.declared.fault.Fault.TheVariants as fault
-use Rattle.auditor.specs.Faults.{HadRoom, IsNotItsEvent, IsFault, IsFirstFault, place, IsBefore}
+use Rattle.auditor.specs.Faults.{HadRoom, IsNotItsEvent, place, IsBefore, IsFaultBy, IsFirstFaultBy}
+use Rattle.auditor.specs.StepModels.{StepModel}
+use Rattle.auditor.specs.Terms.{Terms, opened_list}
 
 -- nothing comes before itself
 pub not_itself : (xs : List ℕ) → IsBefore xs xs → ⊥
@@ -69,14 +70,14 @@ at_its (fault.NotItsEvent cpu n) = refl
 at_its (fault.NotAsked cpu n) = refl
 at_its (fault.Unclaimed x e) = refl
 
-module _ {O P C R : Type 0} (meaning : Ghosts O P C R) (objects : List (Opened P)) (run : Run O P C R) where
-  not_both : (c n d m : ℕ) → c ≡ d → n ≡ m → HadRoom meaning objects run c n → IsNotItsEvent meaning objects run d m → ⊥
+module _ {T O P C R : Type 0} (model : StepModel T O P C R) (terms : List (Terms P T)) (run : Run O P C R) where
+  not_both : (c n d m : ℕ) → c ≡ d → n ≡ m → HadRoom model.meaning (opened_list terms) run c n → IsNotItsEvent model.meaning (opened_list terms) run d m → ⊥
   not_both c n d m ec en h k =
       let same : h.entry ≡ k.entry = one_of h.entry k.entry (slice_get (transcript_of d run) m) ((λ j. slice_get (transcript_of (sym ec j) run) (sym en j)) ∙ h.there) k.there in
       let done = sym h.none ∙ (ap (λ (e : Entry O P C R). e.done) same ∙ k.done) in
       cc
 
-  rooms : (f g : Fault) → place f ≡ place g → IsFault meaning objects run f → IsFault meaning objects run g → is_room f ≡ is_room g
+  rooms : (f g : Fault) → place f ≡ place g → IsFaultBy model terms run f → IsFaultBy model terms run g → is_room f ≡ is_room g
   rooms (fault.RoomWasLeft c n) (fault.RoomWasLeft d m) e h k = refl
   rooms (fault.RoomWasLeft c n) (fault.NotItsEvent d m) e h k = absurd (not_both c n d m (cc) (cc) h k)
   rooms (fault.NotItsEvent d m) (fault.RoomWasLeft c n) e h k = absurd (not_both c n d m (cc) (cc) k h)
@@ -91,7 +92,7 @@ module _ {O P C R : Type 0} (meaning : Ghosts O P C R) (objects : List (Opened P
   rooms f g e h k = refl
 
   -- a run has one first fault at most
-  pub one_first : (f g : Fault) → IsFirstFault meaning objects run f → IsFirstFault meaning objects run g → f ≡ g
+  pub one_first : (f g : Fault) → IsFirstFaultBy model terms run f → IsFirstFaultBy model terms run g → f ≡ g
   one_first f g h k = ⊎_elim
       (λ b. absurd (k.first f b h.there))
       (λ r. ⊎_elim

@@ -17,12 +17,12 @@ pub mod GoingOn
 pub mod LogsSoFar
 pub mod EntriesSoFar
 pub mod KeptLogs
-pub mod NotesSoFar
+pub mod JudgeStateSoFar
 pub mod JudgedRuns
 pub mod Feeding
 pub mod TurnedLogs
 pub mod RecordRuns
-pub mod FedWith
+pub mod ReceivedParts
 pub mod HeldLists
 pub mod MarkedLists
 pub mod Rows
@@ -31,3 +31,5 @@ pub mod CountedPages
 pub mod FaultNumbers
 pub mod Unrefused
 pub mod TextFaults
+pub mod JudgeTerms
+pub mod ObjectModels

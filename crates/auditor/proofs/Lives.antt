@@ -25,6 +25,12 @@ module _ (κ : List ℕ) where
   twice : (a : List ℕ) → κ ⊑ a → κ ⊑ a ++ ((a ++ a) ++ [])
   twice a h = and a ((a ++ a) ++ []) h (closed (a ++ a) (and a a h h))
 
+  -- as a step has them
+  pub in_step : (o p c r : List ℕ) → κ ⊑ o → κ ⊑ p → κ ⊑ c → κ ⊑ r → κ ⊑ object o p c r ++ calls c r
+  in_step o p c r ho hp hc hr =
+      let b : κ ⊑ calls c r = and c (r ++ []) hc (closed r hr) in
+      and (object o p c r) (calls c r) (and o (p ++ calls c r) ho (and p (calls c r) hp b)) b
+
   pub in_entry : (o p c r : List ℕ) → κ ⊑ o → κ ⊑ p → κ ⊑ c → κ ⊑ r → κ ⊑ entry_lives o p c r
   in_entry o p c r ho hp hc hr =
       let f = object o p c r in let b = calls c r in

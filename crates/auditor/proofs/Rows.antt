@@ -1,7 +1,6 @@
 -- A row of threads between two gates: one goes out, one comes in at the end.
-use Rattle.std.proofs.Common.{◌≡◌, ℕ, zero, suc, ◌+◌, ◌-◌, ◌<◌, ◌≤◌, ◌==◌, Bool, true, false, not, List, [], ◌∷◌, ◌++◌, length, get_or, set, replicate, refl, sym, ap, ◌∙◌, subst, arith, length-append, length-set}
+use Rattle.std.proofs.Common.{◌≡◌, ℕ, zero, suc, ◌+◌, ◌-◌, ◌<◌, ◌≤◌, ◌==◌, Bool, true, false, not, List, [], ◌∷◌, ◌++◌, length, get_or, set, refl, sym, ap, ◌∙◌, subst, arith, length-append, length-set}
 use Rattle.std.proofs.lemmas.Bool.{ne_eqb, false_from_ne_true}
-use Rattle.std.proofs.lemmas.List.{get_or-set_same, length-replicate}
 use Rattle.std.proofs.lemmas.List.Elements.{filter-append}
 use Rattle.event_log.specs.Distinct.{has, without, AreDistinctBelow}
 use Rattle.event_log.specs.Links.{walk, last_of, Linked, IsChain}
@@ -11,7 +10,7 @@ use Rattle.event_log.proofs.Chained.{here, in_front, there, member_below, distin
 use Rattle.event_log.proofs.Distinct.{distinct_push, has_push}
 use Rattle.auditor.specs.Marks.{AreMarked}
 use Rattle.auditor.specs.Row.{row_of, IsRow}
-use Rattle.auditor.proofs.MarkedLists.{marked_none, marked_put, marked_without}
+use Rattle.auditor.proofs.MarkedLists.{marked_put, marked_without}
 
 -- the row is walked through from the front gate
 row_is : (n p : List ℕ) (x : ℕ) (list : List ℕ) (back : ℕ) → Linked n p x (list ++ back ∷ []) → row_of n x (length list) ≡ list
@@ -82,14 +81,6 @@ pub walked : (table : List Bool) (n p list : List ℕ) (count : ℕ) → count �
 walked table n p list count e h =
     let is : row_of n (length table) count ≡ list = ap (λ c. row_of n (length table) c) e ∙ row_is n p (length table) list (length table + 1) h.linked in
     (is, subst (λ l. IsRow table n p l) (sym is) h)
-
--- a row of no thread
-pub row_none : (s : ℕ) → IsRow (replicate s false) (set (replicate (s + 2) 0) s (s + 1)) (set (replicate (s + 2) 0) (s + 1) s) []
-row_none s =
-    let zeros = replicate (s + 2) 0 in
-    let long = length-replicate (s + 2) 0 in
-    made (replicate s false) (set zeros s (s + 1)) (set zeros (s + 1) s) [] s (length-replicate s false) (length-set zeros s (s + 1) ∙ long) (length-set zeros (s + 1) s ∙ long)
-    (get_or-set_same zeros s (s + 1) 0 (omega (arith, long)), get_or-set_same zeros (s + 1) s 0 (omega (arith, long)), tt) (marked_none s)
 
 -- one thread fewer
 shorter : (k t : ℕ) (list : List ℕ) → AreDistinctBelow k list → has t list ≡ true → length (without t list) + 1 ≡ length list

@@ -1,22 +1,13 @@
 -- Why a text was not judged, by why its record was not read.
 use Rattle.std.proofs.Common.{◌≡◌, ℕ, List, Option, Result, Ok, Err, sym, ap, subst}
-use Rattle.std.specs.Prelude.{◌↔◌}
 use Rattle.std.specs.Result.{IsErrAnd, IfErr}
-use Rattle.kernel_object.specs.contracts.object.KernelObjectSeqObject.TheImpl.{ghosts as kernel}
 use Rattle.record_lines.specs.declared.text.fault.TextFault.{TextFault}
 use Rattle.record_lines.specs.declared.text.fault.TextFault.TheVariants as text_fault
-use Rattle.records.specs.Keeping.{Parts, kept_record, IsWholeWith}
 use Rattle.records.specs.RecordRanges.{Record}
 use Rattle.records.specs.RecordSources.{NamesBadLineOfRest, IsReadFrom}
 use Rattle.record_lines.specs.Sources.{IsReadOut}
-use Rattle.records.specs.Runs.{opened_of}
-use Rattle.records.specs.Settings.{Settings}
-use Rattle.sound_run.specs.Sound.{Sound}
-use Rattle.auditor.specs.declared.fault.Fault.{Fault}
 use Rattle.auditor.specs.declared.fault.Verdict.{Verdict}
-use Rattle.auditor.specs.declared.fault.Verdict.TheVariants as verdict
-use Rattle.auditor.specs.Audits.{IsTextFault, IsAudited, IsVerdict}
-use Rattle.auditor.specs.Faults.{IsFirstFault}
+use Rattle.auditor.specs.Audits.{IsTextFault, IsAudited}
 
 -- the bad line is that of the reading
 pub text_named : {X : Type 0} (remaining : Option (List ℕ)) (cause : TextFault) (result : Result X TextFault) → IsErrAnd result (λ f. f ≡ cause) → NamesBadLineOfRest remaining cause → IfErr result (IsTextFault remaining)
@@ -41,13 +32,3 @@ text_read_out old new cause (Ok x) is out no_memory no_failure = absurd is
 text_read_out old new text_fault.OutOfMemory (Err f) is out no_memory no_failure = absurd (no_memory (ap Err is))
 text_read_out old new text_fault.ReadFailed (Err f) is out no_memory no_failure = absurd (no_failure (ap Err is))
 text_read_out old new (text_fault.BadLine n) (Err f) is out no_memory no_failure = out (λ e. absurd cc) (λ e. absurd cc)
-
--- the verdict on what a keeper was handed over is that on the record
-pub verdict_on_kept : (settings : Settings) (p : Parts) (v : Verdict) → IsWholeWith settings p
-    → ((v ≡ verdict.Sound) ↔ Sound kernel (opened_of p.settings) (kept_record p.settings p).run)
-    → ((f : Fault) → (v ≡ verdict.Unsound f) ↔ IsFirstFault kernel (opened_of p.settings) (kept_record p.settings p).run f)
-    → IsVerdict (kept_record settings p) v
-verdict_on_kept settings p v whole sound fault = record {
-  sound = subst (λ (s : Settings). (v ≡ verdict.Sound) ↔ Sound kernel (opened_of s) (kept_record p.settings p).run) whole.told sound;
-  fault = λ f. subst (λ (s : Settings). (v ≡ verdict.Unsound f) ↔ IsFirstFault kernel (opened_of s) (kept_record p.settings p).run f) whole.told (fault f);
-}

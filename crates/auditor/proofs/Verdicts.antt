@@ -3,9 +3,7 @@ use Rattle.std.proofs.Common.{◌≡◌, ⊎_elim, ℕ, zero, suc, ◌+◌, ◌<
 use Rattle.std.proofs.lemmas.Option.{slice_get_within}
 use Rattle.std.specs.Prelude.{unwrap_or}
 use Rattle.std.specs.List.{AllByRecursion}
-use Rattle.std.proofs.lemmas.List.{length-map}
 use Rattle.arrayvec.specs.ArrayVec.{ArrayVec}
-use Rattle.event_log.specs.declared.object.SeqObject.{Ghosts}
 use Rattle.event_log.specs.declared.event.Event.{Event}
 use Rattle.event_log.specs.declared.event.Steps.{Steps}
 use Rattle.event_log.specs.declared.entry.Done.{Done}
@@ -13,20 +11,22 @@ use Rattle.event_log.specs.declared.entry.Done.TheVariants as done
 use Rattle.event_log.specs.declared.entry.Entry.{Entry}
 use Rattle.event_log.specs.declared.entry.Run.{Run}
 use Rattle.event_log.proofs.Lists.{some_at}
-use Rattle.sound_run.specs.Sound.{Opened, Sound, LogIsSound, EntryIsSound, Answers, NoneAfterFull, transcript_of, log_of, done_on, steps_by}
-use Rattle.sound_run.proofs.Slices.{one_of, map_get, get_map}
+use Rattle.sound_run.specs.Sound.{Opened, EntryIsSound, Answers, NoneAfterFull, transcript_of, log_of, done_on, steps_by}
+use Rattle.sound_run.proofs.Slices.{one_of, map_get}
 use Rattle.sound_run.proofs.Entries.{done_append, done_without}
 use Rattle.auditor.specs.declared.fault.Fault.{Fault}
 use Rattle.auditor.specs.declared.fault.Fault.TheVariants as fault
-use Rattle.auditor.specs.declared.opened_object.OpenedObject.{OpenedObject}
-use Rattle.auditor.specs.Faults.{done_before, events_before, HadRoom, IsNotItsEvent, IsNotAsked, IsUnclaimed, IsFault}
+use Rattle.auditor.specs.Faults.{done_before, events_before, HadRoom, IsNotItsEvent, IsNotAsked, IsUnclaimed, IsFaultBy}
 use Rattle.auditor.specs.Claims.{IsRight}
 use Rattle.auditor.specs.Passes.{AreSoundBefore}
-use Rattle.auditor.specs.Transcripts.{judged_by, opened_by, IsRightAt}
-use Rattle.auditor.specs.NoFaults.{HasNoFault}
+use Rattle.auditor.specs.Transcripts.{IsRightAt}
 use Rattle.auditor.proofs.OwnEvents.{own_steps}
 use Rattle.auditor.proofs.Ranked.{done_at, done_of}
 use Rattle.auditor.proofs.LogFaults.{none_long, none_wrong}
+use Rattle.auditor.specs.ByModels.{SoundBy}
+use Rattle.auditor.specs.NoFaults.{HasNoFaultBy}
+use Rattle.auditor.specs.StepModels.{StepModel}
+use Rattle.auditor.specs.Terms.{Terms, opened_as, opened_list}
 
 module _ {X : Type 0} where
   same_lists : (xs ys : List X) → ((r : ℕ) (x : X) → slice_get xs r ≡ Some x → slice_get ys r ≡ Some x) → length ys ≤ length xs → xs ≡ ys
@@ -72,16 +72,16 @@ module _ {O P C R : Type 0} where
   none_at (f ∷ es) full zero e at none = let same : f ≡ e = cc in subst (λ (g : Entry O P C R). done_on g.object es ≡ []) same (full.0 (ap (λ (g : Entry O P C R). g.done) same ∙ none))
   none_at (f ∷ es) full (suc n) e at none = none_at es full.1 n e at none
 
-module _ {O P C R : Type 0} (meaning : Ghosts O P C R) (opened_objects : List (OpenedObject O P C R)) (run : Run O P C R) where
+module _ {T O P C R : Type 0} (model : StepModel T O P C R) (terms : List (Terms P T)) (run : Run O P C R) where
   abbrev objects : List (Opened P)
-  objects = opened_by opened_objects
+  objects = opened_list terms
 
-  answers_from : (cpu : ℕ) (t : OpenedObject O P C R) (log : List (Event O P C R)) (k : ℕ) (asked : ArrayVec C) (d : Done O P C R) → IsRight meaning cpu t.limit log k asked d → length log ≤ t.limit → Answers meaning (judged_by t) log asked d
+  answers_from : (cpu : ℕ) (t : Terms P T) (log : List (Event O P C R)) (k : ℕ) (asked : ArrayVec C) (d : Done O P C R) → IsRight model.meaning cpu t.limit log k asked d → length log ≤ t.limit → Answers model.meaning (opened_as t) log asked d
   answers_from cpu t log k asked (done.Steps s) r within = r.1
   answers_from cpu t log k asked done.NoRoom r within = let full = r.0 in omega (arith, full, within)
 
-  module _ (h : HasNoFault meaning opened_objects run) where
-    right_at : (cpu n : ℕ) (e : Entry O P C R) → slice_get (transcript_of cpu run) n ≡ Some e → IsRightAt meaning opened_objects run.logs cpu (transcript_of cpu run) n e
+  module _ (h : HasNoFaultBy model terms run) where
+    right_at : (cpu n : ℕ) (e : Entry O P C R) → slice_get (transcript_of cpu run) n ≡ Some e → IsRightAt model.meaning terms run.logs cpu (transcript_of cpu run) n e
     right_at cpu n e at = h.right cpu n e (slice_get_within (transcript_of cpu run) n e at) at
 
     taken_all : (cpu x : ℕ) → x < length run.logs → done_on x (transcript_of cpu run) ≡ steps_by cpu (log_of x run)
@@ -93,66 +93,61 @@ module _ {O P C R : Type 0} (meaning : Ghosts O P C R) (opened_objects : List (O
             let mine = done_at x (transcript_of cpu run) d.index d.entry d.steps d.there d.object d.done in
             let same : d.steps ≡ s = one_of d.steps s (slice_get (done_on x (transcript_of cpu run)) r) (ap (λ k. slice_get (done_on x (transcript_of cpu run)) k) (sym d.rank) ∙ mine) at in
             let i = right_at cpu d.index d.entry d.there in
-            let j : IsRight meaning cpu i.opened.limit (log_of d.entry.object run) (done_before d.entry.object d.index (transcript_of cpu run)) d.entry.asked (done.Steps d.steps) = subst (λ (v : Done O P C R). IsRight meaning cpu i.opened.limit (log_of d.entry.object run) (done_before d.entry.object d.index (transcript_of cpu run)) d.entry.asked v) d.done i.right in
+            let j : IsRight model.meaning cpu i.opened.limit (log_of d.entry.object run) (done_before d.entry.object d.index (transcript_of cpu run)) d.entry.asked (done.Steps d.steps) = subst (λ (v : Done O P C R). IsRight model.meaning cpu i.opened.limit (log_of d.entry.object run) (done_before d.entry.object d.index (transcript_of cpu run)) d.entry.asked v) d.done i.right in
             let k : slice_get (steps_by cpu (log_of x run)) (done_before x d.index (transcript_of cpu run)) ≡ Some d.steps = subst (λ (y : ℕ). slice_get (steps_by cpu (log_of y run)) (done_before y d.index (transcript_of cpu run)) ≡ Some d.steps) d.object j.0 in
             ap (λ m. slice_get (steps_by cpu (log_of x run)) m) (sym d.rank) ∙ (k ∙ ap (λ t. Some t) same)
 
     log_at : (x : ℕ) (log : List (Event O P C R)) → slice_get run.logs x ≡ Some log → log_of x run ≡ log
     log_at x log e = ap (λ o. unwrap_or o []) e
 
-    entry_is : (cpu n : ℕ) (e : Entry O P C R) → slice_get (transcript_of cpu run) n ≡ Some e → EntryIsSound meaning objects run e
+    entry_is : (cpu n : ℕ) (e : Entry O P C R) → slice_get (transcript_of cpu run) n ≡ Some e → EntryIsSound model.meaning objects run e
     entry_is cpu n e at =
         let i = right_at cpu n e at in
         let l = some_at run.logs e.object (h.objects_in cpu n e at) in
         let sound = h.logs e.object i.opened l.0 i.object l.1 in
         record {
-          opened = judged_by i.opened;
+          opened = opened_as i.opened;
           log = l.0;
-          object = map_get judged_by opened_objects e.object i.opened i.object;
+          object = map_get opened_as terms e.object i.opened i.object;
           logged = l.1;
-          answers = answers_from cpu i.opened l.0 (done_before e.object n (transcript_of cpu run)) e.asked e.done (subst (λ (g : List (Event O P C R)). IsRight meaning cpu i.opened.limit g (done_before e.object n (transcript_of cpu run)) e.asked e.done) (log_at e.object l.0 l.1) i.right) sound.within;
+          answers = answers_from cpu i.opened l.0 (done_before e.object n (transcript_of cpu run)) e.asked e.done (subst (λ (g : List (Event O P C R)). IsRight model.meaning cpu i.opened.limit g (done_before e.object n (transcript_of cpu run)) e.asked e.done) (log_at e.object l.0 l.1) i.right) sound.within;
         }
 
     none_later : (cpu n : ℕ) (e : Entry O P C R) → slice_get (transcript_of cpu run) n ≡ Some e → e.done ≡ done.NoRoom → done_on e.object (drop (suc n) (transcript_of cpu run)) ≡ []
     none_later cpu n e at none =
         let i = right_at cpu n e at in
-        let r = subst (λ (v : Done O P C R). IsRight meaning cpu i.opened.limit (log_of e.object run) (done_before e.object n (transcript_of cpu run)) e.asked v) none i.right in
+        let r = subst (λ (v : Done O P C R). IsRight model.meaning cpu i.opened.limit (log_of e.object run) (done_before e.object n (transcript_of cpu run)) e.asked v) none i.right in
         let long = cut_done e.object (transcript_of cpu run) n e at none in
         let all = ap length (taken_all cpu e.object (h.objects_in cpu n e at)) in
         let few = r.1 in
         empty (done_on e.object (drop (suc n) (transcript_of cpu run))) (omega (arith, long, all, few))
 
-    log_is : (x : ℕ) (o : Opened P) (log : List (Event O P C R)) → slice_get objects x ≡ Some o → slice_get run.logs x ≡ Some log → LogIsSound meaning o log
-    log_is x o log eo el =
-        let t = get_map judged_by opened_objects x o eo in
-        subst (λ (p : Opened P). LogIsSound meaning p log) t.2 (h.logs x t.0 log t.1 el)
-
-    pub sound_of : Sound meaning objects run
+    pub sound_of : SoundBy model terms run
     sound_of = record {
-      counted = h.counted ∙ sym (length-map opened_objects judged_by);
-      logs = log_is;
+      counted = h.counted;
+      logs = h.logs;
       taken = λ cpu x log e. taken_all cpu x (slice_get_within run.logs x log e) ∙ ap (steps_by cpu) (log_at x log e);
-      entries = λ cpu. all_from (EntryIsSound meaning objects run) (transcript_of cpu run) (entry_is cpu);
+      entries = λ cpu. all_from (EntryIsSound model.meaning objects run) (transcript_of cpu run) (entry_is cpu);
       full = λ cpu. none_from (transcript_of cpu run) (none_later cpu);
     }
 
-  module _ (sound : Sound meaning objects run) where
-    all_sound : AreSoundBefore meaning opened_objects run (length run.logs)
-    all_sound x t log below at_opened at_log = sound.logs x (judged_by t) log (map_get judged_by opened_objects x t at_opened) at_log
+  module _ (sound : SoundBy model terms run) where
+    all_sound : AreSoundBefore model terms run (length run.logs)
+    all_sound x t log below at_opened at_log = sound.logs x t log at_opened at_log
 
-    counted : length run.logs ≡ length opened_objects
-    counted = sound.counted ∙ length-map opened_objects judged_by
+    counted : length run.logs ≡ length terms
+    counted = sound.counted
 
-    entry_at : (cpu n : ℕ) (e : Entry O P C R) → slice_get (transcript_of cpu run) n ≡ Some e → EntryIsSound meaning objects run e
-    entry_at cpu n e at = all_at (EntryIsSound meaning objects run) (transcript_of cpu run) (sound.entries cpu) n e at
+    entry_at : (cpu n : ℕ) (e : Entry O P C R) → slice_get (transcript_of cpu run) n ≡ Some e → EntryIsSound model.meaning objects run e
+    entry_at cpu n e at = all_at (EntryIsSound model.meaning objects run) (transcript_of cpu run) (sound.entries cpu) n e at
 
     taken_in : (cpu n : ℕ) (e : Entry O P C R) → slice_get (transcript_of cpu run) n ≡ Some e → done_on e.object (transcript_of cpu run) ≡ steps_by cpu (log_of e.object run)
     taken_in cpu n e at = let s = entry_at cpu n e at in sound.taken cpu e.object s.log s.logged ∙ ap (steps_by cpu) (sym (ap (λ o. unwrap_or o []) s.logged))
 
-    had_none : (cpu n : ℕ) → HadRoom meaning objects run cpu n → ⊥
+    had_none : (cpu n : ℕ) → HadRoom model.meaning objects run cpu n → ⊥
     had_none cpu n f =
         let s = entry_at cpu n f.entry f.there in
-        let full = subst (λ (d : Done O P C R). Answers meaning s.opened s.log f.entry.asked d) f.none s.answers in
+        let full = subst (λ (d : Done O P C R). Answers model.meaning s.opened s.log f.entry.asked d) f.none s.answers in
         let same : s.opened ≡ f.opened = one_of s.opened f.opened (slice_get objects f.entry.object) s.object f.object in
         let limit = ap (λ (o : Opened P). o.limit) same in
         let is = ap length (ap (λ (o : Option (List (Event O P C R))). unwrap_or o []) s.logged) in
@@ -161,13 +156,13 @@ module _ {O P C R : Type 0} (meaning : Ghosts O P C R) (opened_objects : List (O
         let all = ap length (taken_in cpu n f.entry f.there) in
         ⊎_elim (λ short. absurd (omega (arith, short, is, limit, full))) (λ own. absurd (omega (arith, own, long, after, all))) f.room
 
-    its_event : (cpu n : ℕ) → IsNotItsEvent meaning objects run cpu n → ⊥
+    its_event : (cpu n : ℕ) → IsNotItsEvent model.meaning objects run cpu n → ⊥
     its_event cpu n f = f.other (ap (λ l. slice_get l (done_before f.entry.object n (transcript_of cpu run))) (sym (taken_in cpu n f.entry f.there)) ∙ done_at f.entry.object (transcript_of cpu run) n f.entry f.steps f.there refl f.done)
 
-    was_asked : (cpu n : ℕ) → IsNotAsked meaning objects run cpu n → ⊥
-    was_asked cpu n f = let s = entry_at cpu n f.entry f.there in f.other (subst (λ (d : Done O P C R). Answers meaning s.opened s.log f.entry.asked d) f.done s.answers)
+    was_asked : (cpu n : ℕ) → IsNotAsked model.meaning objects run cpu n → ⊥
+    was_asked cpu n f = let s = entry_at cpu n f.entry f.there in f.other (subst (λ (d : Done O P C R). Answers model.meaning s.opened s.log f.entry.asked d) f.done s.answers)
 
-    was_claimed : (x e : ℕ) → IsUnclaimed meaning objects run x e → ⊥
+    was_claimed : (x e : ℕ) → IsUnclaimed model.meaning objects run x e → ⊥
     was_claimed x e f = by (slice_get run.logs x) refl
       where
         by : (o : Option (List (Event O P C R))) → slice_get run.logs x ≡ o → ⊥
@@ -180,9 +175,9 @@ module _ {O P C R : Type 0} (meaning : Ghosts O P C R) (opened_objects : List (O
             absurd (omega (arith, lt, all, none))
 
     -- a sound run has no fault
-    pub no_fault : (f : Fault) → IsFault meaning objects run f → ⊥
-    no_fault (fault.TooLong x) h = none_long meaning opened_objects run counted all_sound x h
-    no_fault (fault.WrongStep x e i) h = none_wrong meaning opened_objects run counted all_sound x e i h
+    pub no_fault : (f : Fault) → IsFaultBy model terms run f → ⊥
+    no_fault (fault.TooLong x) h = none_long model terms run counted all_sound x h
+    no_fault (fault.WrongStep x e i) h = none_wrong model terms run counted all_sound x e i h
     no_fault (fault.RoomWasLeft cpu n) h = had_none cpu n h
     no_fault (fault.NotItsEvent cpu n) h = its_event cpu n h
     no_fault (fault.NotAsked cpu n) h = was_asked cpu n h

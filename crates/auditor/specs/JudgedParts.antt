@@ -4,25 +4,27 @@ use Rattle.kernel_object.specs.declared.object.KernelObject.{KernelObject}
 use Rattle.kernel_object.specs.declared.call.KParams.{KParams}
 use Rattle.kernel_object.specs.declared.call.KCall.{KCall}
 use Rattle.kernel_object.specs.declared.call.KReply.{KReply}
-use Rattle.records.specs.Keeping.{Parts}
+use Rattle.kernel_object.specs.contracts.object.KernelObjectSeqObject.TheImpl.{ghosts as kernel}
+use Rattle.records.specs.KernelForm.{Head, settings_in}
+use Rattle.records.specs.RecordStates.{KernelReceived}
 use Rattle.records.specs.Runs.{opened_of}
-use Rattle.records.specs.Settings.{ObjectSettings}
 use Rattle.auditor.specs.declared.opened_object.OpenedObject.{OpenedObject}
-use Rattle.auditor.specs.Fed.{Fed}
+use Rattle.auditor.specs.ReceivedRun.{ReceivedRun}
+use Rattle.auditor.specs.Terms.{starts}
 use Rattle.auditor.specs.Transcripts.{opened_by}
 
--- what the judge was fed, as parts of a record of these settings
-abbrev pub parts_of : ℕ → List ObjectSettings → Bool → Fed KernelObject KParams KCall KReply → Parts
-parts_of cpus objects begun d = record { settings = record { cpus = cpus; objects = objects }; count = d.count; begun = begun; logs = d.logs; events = d.events; transcripts = d.transcripts; entries = d.entries }
+-- what the judge has received, as parts of a record with that head
+abbrev pub judged_parts : Head → Bool → ReceivedRun KernelObject KernelObject KParams KCall KReply → KernelReceived
+judged_parts head begun d = record { head = head; count = d.count; begun = begun; logs = d.logs; events = d.events; transcripts = d.transcripts; entries = d.entries }
 
 -- how many logs were begun, at least, where none is whole that wasn't
-abbrev pub begun_logs : Parts → ℕ
+abbrev pub begun_logs : KernelReceived → ℕ
 begun_logs p = if p.begun then length p.logs + 1 else length p.logs
 
--- the judge was fed those parts: so many logs were begun of the objects that the settings open
-pub record IsFedWith (p : Parts) (opened : List (OpenedObject KernelObject KParams KCall KReply)) (log : ℕ) (d : Fed KernelObject KParams KCall KReply) : Type 0 where
-  pub cpus : d.cpus ≡ p.settings.cpus
-  pub objects : d.objects ≡ length p.settings.objects
-  pub same : opened_by opened ≡ opened_of p.settings
-  pub begun : d.opened ≡ take (begun_logs p) opened
+-- the judge has received those parts: so many logs were begun of the objects that the settings open
+pub record HasReceivedParts (p : KernelReceived) (opened : List (OpenedObject KernelObject KParams KCall KReply)) (log : ℕ) (d : ReceivedRun KernelObject KernelObject KParams KCall KReply) : Type 0 where
+  pub cpus : d.cpus ≡ p.head.cpus
+  pub objects : d.objects ≡ length p.head.objects
+  pub same : opened_by opened ≡ opened_of (settings_in p.head)
+  pub begun : d.opened ≡ take (begun_logs p) (starts kernel (opened_of (settings_in p.head)))
   pub whole : log ≡ length p.logs

@@ -7,6 +7,7 @@ use Rattle.sound_run.specs.Sound.{Opened}
 use Rattle.auditor.specs.declared.opened_object.OpenedObject.{OpenedObject}
 use Rattle.auditor.specs.Faults.{done_before}
 use Rattle.auditor.specs.Claims.{IsRight}
+use Rattle.auditor.specs.Terms.{Terms}
 
 module _ {O P C R : Type 0} where
   -- what an object is judged by
@@ -21,11 +22,11 @@ module _ {O P C R : Type 0} where
   abbrev pub log_in : ℕ → List (List (Event O P C R)) → List (Event O P C R)
   log_in x logs = unwrap_or (slice_get logs x) []
 
-module _ {O P C R : Type 0} (meaning : Ghosts O P C R) (opened_objects : List (OpenedObject O P C R)) (logs : List (List (Event O P C R))) (cpu : ℕ) (transcript : List (Entry O P C R)) where
+module _ {T O P C R : Type 0} (meaning : Ghosts O P C R) (terms : List (Terms P T)) (logs : List (List (Event O P C R))) (cpu : ℕ) (transcript : List (Entry O P C R)) where
   -- entry n is as it must be
   pub record IsRightAt (n : ℕ) (e : Entry O P C R) : Type 0 where
-    pub opened : OpenedObject O P C R
-    pub object : slice_get opened_objects e.object ≡ Some opened
+    pub opened : Terms P T
+    pub object : slice_get terms e.object ≡ Some opened
     pub right : IsRight meaning cpu opened.limit (log_in e.object logs) (done_before e.object n transcript) e.asked e.done
 
   -- the first n entries are as they must be

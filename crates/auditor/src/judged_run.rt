@@ -1,7 +1,6 @@
 //! A run that was judged.
 
 ghost use Rattle.std.specs.Prelude.{◌≡◌, length, map, option_map, slice_get};
-ghost use Rattle.auditor.specs.Fed.{run_of};
 ghost use Rattle.auditor.specs.KeptLogs.{events_in};
 ghost use Rattle.record_lines.specs.Reading.{words};
 ghost use Rattle.kernel_words.specs.ItemText.{step_words};
@@ -10,7 +9,7 @@ ghost use Rattle.sound_run.specs.Sound.{log_of};
 
 use crate::StepRows;
 use crate::kept_log::KeptLog;
-use crate::told::Told;
+use crate::received_run::WholeRun;
 use event_log::SeqObject;
 use kernel_object::KernelObject;
 use records::StepTexts;
@@ -20,28 +19,27 @@ use std::marker::Model;
 /// the rest.
 #[derive(Drop)]
 pub struct JudgedRun<O: SeqObject, R: StepRows<O>> {
-    told: Told<O>,
+    told: WholeRun<O>,
     logs: Vec<KeptLog<O, R>>,
 }
 
 impl<O: SeqObject, R: StepRows<O>> Model for JudgedRun<O, R> {
     ghost use Rattle.std.specs.Prelude.{◌≡◌};
     ghost use Rattle.event_log.specs.declared.entry.Run.{Run};
-    ghost use Rattle.auditor.specs.Fed.{run_of};
     ghost use Rattle.auditor.specs.KeptLogs.{events_in};
 
     ghost Value = { Run O O.Params O.Call O.Reply };
 
-    ghost view = { λ j. run_of j.told };
+    ghost view = { λ j. j.told };
 
     ghost invariant = { λ j. events_in j.logs.items ≡ j.told.logs };
 }
 
 impl<O: SeqObject, R: StepRows<O>> JudgedRun<O, R> {
     /// The run that was told, of which these logs were kept.
-    pub(crate) fn new(told: Told<O>, logs: Vec<KeptLog<O, R>>) -> JudgedRun<O, R>
+    pub(crate) fn new(told: WholeRun<O>, logs: Vec<KeptLog<O, R>>) -> JudgedRun<O, R>
         requires { events_in logs.items ≡ told.logs }
-        ensures { result ≡ run_of told }
+        ensures { result ≡ told }
     {
         JudgedRun { told, logs }
     }

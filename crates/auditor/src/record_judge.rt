@@ -1,19 +1,22 @@
 //! A record that is judged while it is read.
 
 ghost use Rattle.std.specs.Prelude.{◌≡◌, ◌↔◌, IfOk, IfErr};
+ghost use Rattle.record_lines.specs.Received.{only_head, IsWholeWith};
+ghost use Rattle.records.specs.KernelForm.{no_head, settings_in};
 ghost use Rattle.sound_run.specs.Sound.{Sound};
-ghost use Rattle.records.specs.Keeping.{no_parts, kept_record, IsWholeWith};
 ghost use Rattle.records.specs.RecordRanges.{RecordFits};
+ghost use Rattle.records.specs.RecordStates.{received_record};
 ghost use Rattle.records.specs.Runs.{opened_of};
 ghost use Rattle.auditor.specs.Faults.{IsFirstFault};
 ghost use Rattle.auditor.specs.Transcripts.{opened_by};
 ghost use Rattle.auditor.specs.VerdictText.{CanBeTold, IsNamed};
 
-use crate::judged::Judged;
-use crate::{Fault, JudgedRun, OpenedObject, ReferenceObject, Verdict};
+use crate::run_judge::RunJudge;
+use crate::{Fault, JudgedRun, OpenedObject, ReferenceObject, Replayed, Verdict};
 use event_log::{Entry, Event, OutOfMemory, Past, SeqObject};
 use kernel_object::KernelObject;
-use records::{Keeps, ObjectSettings, StepTexts};
+use record_lines::RecordSink;
+use records::{KernelForm, KernelHead, ObjectSettings, StepTexts};
 use std::alloc::Global;
 use std::marker::Model;
 
@@ -39,88 +42,89 @@ pub(crate) fn objects_of(
 #[derive(Drop)]
 pub struct RecordJudge<J: ReferenceObject<KernelObject>> {
     alloc: Global,
-    cpus: u8,
-    objects: Past<ObjectSettings>,
+    head: Past<KernelHead>,
     opened: Vec<OpenedObject<KernelObject>>,
     begun: bool,
     log: usize,
-    judged: Judged<KernelObject, J, StepTexts>,
+    judged: RunJudge<KernelObject, Replayed<J>, StepTexts>,
 }
 
 impl<J: ReferenceObject<KernelObject>> Model for RecordJudge<J> {
-    ghost use Rattle.records.specs.Keeping.{Parts};
-    ghost use Rattle.auditor.specs.JudgedParts.{parts_of, IsFedWith};
+    ghost use Rattle.std.specs.Prelude.{get_or};
+    ghost use Rattle.records.specs.KernelForm.{no_head};
+    ghost use Rattle.records.specs.RecordStates.{KernelReceived};
+    ghost use Rattle.auditor.specs.JudgedParts.{judged_parts, HasReceivedParts};
 
-    ghost Value = { Parts };
+    ghost Value = { KernelReceived };
 
-    ghost view = { λ j. parts_of j.cpus j.objects.items j.begun j.judged };
+    ghost view = { λ j. judged_parts (get_or j.head.items 0 no_head) j.begun j.judged };
 
-    ghost invariant = { λ j. IsFedWith (parts_of j.cpus j.objects.items j.begun j.judged) j.opened.items j.log j.judged };
+    ghost invariant = { λ j. HasReceivedParts (judged_parts (get_or j.head.items 0 no_head) j.begun j.judged) j.opened.items j.log j.judged };
 }
 
 impl<J: ReferenceObject<KernelObject>> RecordJudge<J> {
     /// Nothing was read yet. It takes no memory.
     pub fn new(alloc: Global) -> RecordJudge<J>
-        ensures { result ≡ no_parts }
+        ensures { result ≡ only_head no_head }
     {
         RecordJudge {
             alloc,
-            cpus: 0,
-            objects: Past::new(),
+            head: Past::new(),
             opened: Vec::new(alloc),
             begun: false,
             log: 0,
-            judged: Judged::empty(alloc),
+            judged: RunJudge::empty(alloc),
         }
     }
 
     /// Whether the record that was read is sound, or else its first fault.
     pub fn verdict(&self) -> Verdict
-        requires whole { IsWholeWith self.now.settings self.now }
-        requires fit { RecordFits (kept_record self.now.settings self.now) }
-        ensures sound { (result ≡ Verdict.Sound) ↔ Sound ⟦<KernelObject as SeqObject>⟧ (opened_of self.now.settings) (kept_record self.now.settings self.now).run }
+        requires whole { IsWholeWith self.now.head self.now }
+        requires fit { RecordFits (received_record self.now) }
+        ensures sound { (result ≡ Verdict.Sound) ↔ Sound ⟦<KernelObject as SeqObject>⟧ (opened_of (settings_in self.now.head)) (received_record self.now).run }
         ensures fault { (f : Fault) → (result ≡ Verdict.Unsound f) ↔
-            IsFirstFault ⟦<KernelObject as SeqObject>⟧ (opened_of self.now.settings) (kept_record self.now.settings self.now).run f }
-        ensures told { CanBeTold self.now.settings result }
+            IsFirstFault ⟦<KernelObject as SeqObject>⟧ (opened_of (settings_in self.now.head)) (received_record self.now).run f }
+        ensures told { CanBeTold (settings_in self.now.head) result }
     {
         self.judged.verdict()
     }
 
     /// The run that was read, if it is sound, or else its first fault. It takes no memory.
     pub fn into_run(self) -> Result<JudgedRun<KernelObject, StepTexts>, Fault>
-        requires whole { IsWholeWith self.settings self }
-        requires fit { RecordFits (kept_record self.settings self) }
-        ensures run { IfOk result (λ r. r ≡ (kept_record self.settings self).run) }
-        ensures sound { IfOk result (λ r. Sound ⟦<KernelObject as SeqObject>⟧ (opened_of self.settings) (kept_record self.settings self).run) }
-        ensures fault { IfErr result (IsFirstFault ⟦<KernelObject as SeqObject>⟧ (opened_of self.settings) (kept_record self.settings self).run) }
-        ensures told { IfErr result (IsNamed self.settings) }
+        requires whole { IsWholeWith self.head self }
+        requires fit { RecordFits (received_record self) }
+        ensures run { IfOk result (λ r. r ≡ (received_record self).run) }
+        ensures sound { IfOk result (λ r. Sound ⟦<KernelObject as SeqObject>⟧ (opened_of (settings_in self.head)) (received_record self).run) }
+        ensures fault { IfErr result (IsFirstFault ⟦<KernelObject as SeqObject>⟧ (opened_of (settings_in self.head)) (received_record self).run) }
+        ensures told { IfErr result (IsNamed (settings_in self.head)) }
     {
         let RecordJudge { judged, .. } = self;
         judged.into_run()
     }
 }
 
-impl<J: ReferenceObject<KernelObject>> Keeps for RecordJudge<J> {
-    ghost keeps = { λ p. p };
+impl<J: ReferenceObject<KernelObject>> RecordSink<KernelForm> for RecordJudge<J> {
+    ghost received = { λ p. p };
 
-    fn begin(&mut self, cpus: u8, objects: &[ObjectSettings]) -> Result<(), OutOfMemory> {
-        let opened = objects_of(self.alloc, objects)?;
-        self.judged = Judged::new(self.alloc, cpus as usize, objects.len())?;
+    fn begin(&mut self, head: &KernelHead) -> Result<(), OutOfMemory> {
+        let opened = objects_of(self.alloc, head.objects.as_slice())?;
+        self.judged = RunJudge::new(self.alloc, head.cpus as usize, head.objects.len())?;
         self.opened = opened;
-        self.cpus = cpus;
-        self.objects = Past::told(&self.objects, &objects);
+        self.head = Past::told(&self.head, head);
         Ok(())
     }
 
     fn begin_log(&mut self, count: u64) -> Result<(), OutOfMemory> {
         let opened = &self.opened[self.log];
-        self.judged.begin_log(opened, count as usize)?;
+        let object = J::open(self.alloc, &opened.params)?;
+        self.judged
+            .begin_log(opened, Replayed { object }, count as usize)?;
         self.begun = true;
         Ok(())
     }
 
-    fn event(&mut self, event: Event<KernelObject>, text: &[u8]) -> Result<(), OutOfMemory> {
-        self.judged.event(&event, text)
+    fn event(&mut self, event: &mut Event<KernelObject>, text: &[u8]) -> Result<(), OutOfMemory> {
+        self.judged.event(event, text)
     }
 
     fn end_log(&mut self) -> Result<(), OutOfMemory> {
@@ -137,12 +141,12 @@ impl<J: ReferenceObject<KernelObject>> Keeps for RecordJudge<J> {
     }
 
     #[inline(always)]
-    fn knows(&mut self, object: u8, looks: u64, tail: &[u8]) -> Result<bool, OutOfMemory> {
-        Ok(self.judged.knows(object, looks, tail))
+    fn recognises(&mut self, object: u8, looks: u64, tail: &[u8]) -> Result<bool, OutOfMemory> {
+        Ok(self.judged.recognises(object, looks, tail))
     }
 
-    fn entry(&mut self, entry: Entry<KernelObject>) -> Result<(), OutOfMemory> {
-        self.judged.entry(&entry);
+    fn entry(&mut self, entry: &mut Entry<KernelObject>) -> Result<(), OutOfMemory> {
+        self.judged.entry(entry);
         Ok(())
     }
 

@@ -11,7 +11,7 @@ ghost use Rattle.auditor.specs.Audits.{IsVerdictOnText, IsTextFault, IsAudited};
 use crate::{RecordJudge, ReferenceKernelObject, Verdict};
 use event_log::Source;
 use record_lines::TextFault;
-use records::read_keeping;
+use records::read_into;
 use std::alloc::Global;
 
 /// Reads the source to its end, in pieces of 4,096 bytes at most, and judges the record that its bytes spell. A bad line
@@ -27,6 +27,6 @@ pub fn audit_text<R: Source>(alloc: Global, source: &mut R) -> Result<Verdict, T
     ensures no_other { (result ≡ Err TextFault.ReadFailed → ⊥) → R.failed source.new ≡ R.failed source.old }
 {
     let judge = RecordJudge::<ReferenceKernelObject>::new(alloc);
-    let read = read_keeping(alloc, source, judge)?;
+    let read = read_into(alloc, source, judge)?;
     Ok(read.1.verdict())
 }

@@ -10,7 +10,9 @@ use Rattle.auditor.specs.declared.fault.Fault.{Fault}
 use Rattle.auditor.specs.declared.fault.Fault.TheVariants as fault
 use Rattle.auditor.specs.declared.fault.Verdict.{Verdict}
 use Rattle.auditor.specs.declared.fault.Verdict.TheVariants as verdict
-use Rattle.auditor.specs.Faults.{IsTooLong, HasWrongStep, EventIsWrong, IsFault, IsBefore, IsFirstFault, place}
+use Rattle.auditor.specs.Faults.{IsTooLong, HasWrongStepBy, IsFault, IsBefore, IsFirstFault, place}
+use Rattle.auditor.specs.StepModels.{object_model, EventIsWrongBy}
+use Rattle.auditor.specs.Terms.{Terms, start, starts}
 use Rattle.auditor.proofs.FaultOrder.{rest_before, not_later}
 use Rattle.counter.specs.State.{CounterState}
 use Rattle.counter.specs.JudgedRun.{one_event, one_entry, read_after_one}
@@ -75,8 +77,8 @@ sound_if_one (Ok v) n h = ((λ e. one_is_read n (h.0 e)), (λ e. h.1 (subst (λ 
 sound_if_one (Err e) n h = tt
 
 -- what the second event has wrong, if its value isn't 1
-is_wrong : (n : ℕ) → n ≢ 1 → HasWrongStep ghosts (three ∷ []) (read_after_one n) 0 1 0
-is_wrong n ne = record { opened = three; object = refl; wrong = λ e. ne (ap value_in e) }
+is_wrong : (n : ℕ) → n ≢ 1 → HasWrongStepBy (object_model ghosts) (starts ghosts (three ∷ [])) (read_after_one n) 0 1 0
+is_wrong n ne = record { opened = start ghosts three; object = refl; wrong = λ e. ne (ap value_in e) }
 
 -- no earlier fault is there
 not_long : (n x : ℕ) → IsTooLong ghosts (three ∷ []) (read_after_one n) x → ⊥
@@ -86,12 +88,12 @@ not_long n zero f =
     absurd (omega (arith, limit, longer))
 not_long n (suc x) f = absurd (none-some _ f.object)
 
-first_right : (n i : ℕ) → EventIsWrong ghosts (ghosts.opening 3) (log_of_one n) 0 i → ⊥
+first_right : (n i : ℕ) → EventIsWrongBy (object_model ghosts) (ghosts.opening 3) (log_of_one n) 0 i → ⊥
 first_right n zero w = w refl
 first_right n (suc i) w = grind arith
 
-not_first : (n i : ℕ) → HasWrongStep ghosts (three ∷ []) (read_after_one n) 0 0 i → ⊥
-not_first n i f = first_right n i (subst (λ (o : Opened ℕ). EventIsWrong ghosts (ghosts.opening o.params) (log_of_one n) 0 i) (sym (same_Some _ _ f.object)) f.wrong)
+not_first : (n i : ℕ) → HasWrongStepBy (object_model ghosts) (starts ghosts (three ∷ [])) (read_after_one n) 0 0 i → ⊥
+not_first n i f = first_right n i (subst (λ (t : Terms ℕ CounterState). EventIsWrongBy (object_model ghosts) t.state (log_of_one n) 0 i) (sym (same_Some _ _ f.object)) f.wrong)
 
 not_at : (e i : ℕ) → IsBefore (0 ∷ 0 ∷ suc (suc e) ∷ i ∷ []) (0 ∷ 0 ∷ 2 ∷ 0 ∷ []) → ⊥
 not_at e i b =
@@ -111,8 +113,8 @@ first_of n (fault.NotItsEvent cpu m) b f = not_later 1 0 (cpu ∷ m ∷ 0 ∷ []
 first_of n (fault.NotAsked cpu m) b f = not_later 1 0 (cpu ∷ m ∷ 1 ∷ []) (0 ∷ 2 ∷ 0 ∷ []) (omega arith) b
 first_of n (fault.Unclaimed x e) b f = not_later 2 0 (x ∷ e ∷ 0 ∷ []) (0 ∷ 2 ∷ 0 ∷ []) (omega arith) b
 
-not_one : (n : ℕ) → HasWrongStep ghosts (three ∷ []) (read_after_one n) 0 1 0 → n ≢ 1
-not_one n f e = (subst (λ (o : Opened ℕ). EventIsWrong ghosts (ghosts.opening o.params) (log_of_one n) 1 0) (sym (same_Some _ _ f.object)) f.wrong) (ap reply.Value e)
+not_one : (n : ℕ) → HasWrongStepBy (object_model ghosts) (starts ghosts (three ∷ [])) (read_after_one n) 0 1 0 → n ≢ 1
+not_one n f e = (subst (λ (t : Terms ℕ CounterState). EventIsWrongBy (object_model ghosts) t.state (log_of_one n) 1 0) (sym (same_Some _ _ f.object)) f.wrong) (ap reply.Value e)
 
 pub fault_unless_one : (r : Result Verdict OutOfMemory) (n : ℕ)
     → IfOk r (λ v. (v ≡ verdict.Unsound (fault.WrongStep 0 1 0)) ↔ IsFirstFault ghosts (three ∷ []) (read_after_one n) (fault.WrongStep 0 1 0))

@@ -1,9 +1,9 @@
 -- What is told of a single line of a record of one's own.
 use Rattle.std.specs.Prelude.{ℕ, ◌≡◌, ◌+◌, List, [], ◌∷◌, ◌++◌, length, map, drop, Option, Some, None}
-use Rattle.own_lines.specs.LineReading.{log_at, own_object_at, own_event_at}
-use Rattle.own_object.specs.Own.{OwnStep, OwnEvent}
-use Rattle.own_object.specs.Said.{Said, padded}
-use Rattle.own_object.specs.Settings.{OwnSettings, OwnHead}
+use Rattle.own_records.specs.LineReading.{log_at, own_object_at, own_event_at}
+use Rattle.own_records.specs.Own.{OwnStep, OwnEvent}
+use Rattle.own_records.specs.Said.{Said, padded}
+use Rattle.own_records.specs.Settings.{OwnSettings, OwnHead}
 use Rattle.record_lines.specs.Reading.{◌>>=◌, words, word_at}
 use Rattle.record_lines.specs.LineParts.{name_word_at}
 use Rattle.record_lines.specs.Words.{NoEnd}

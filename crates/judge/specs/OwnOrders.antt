@@ -4,7 +4,7 @@ use Rattle.auditor.specs.declared.fault.Fault.{Fault}
 use Rattle.sound_run.specs.declared.place.Place.{Place}
 use Rattle.own_judge.specs.Merged.{IsMergedBy, HasCycleBy}
 use Rattle.own_judge.specs.Models.{Model, AreCounts, IsFirstFaultBy, IsMistold}
-use Rattle.own_object.specs.Ranges.{OwnRecord}
+use Rattle.own_records.specs.Ranges.{OwnRecord}
 use Rattle.own_records.specs.RecordFaults.{IsOwnText, IsBadOwnLine}
 use Rattle.judge.specs.Orders.{told_places, room_with}
 use Rattle.judge.specs.OwnTold.{AreFitting}

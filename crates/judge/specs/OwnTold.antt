@@ -2,7 +2,7 @@
 use Rattle.std.specs.Prelude.{◌≡◌, ℕ, List}
 use Rattle.auditor.specs.declared.fault.Verdict.{Verdict}
 use Rattle.own_judge.specs.Models.{IsMistold, IsVerdictByCounts}
-use Rattle.own_object.specs.Ranges.{OwnRecord}
+use Rattle.own_records.specs.Ranges.{OwnRecord}
 use Rattle.own_records.specs.RecordFaults.{IsOwnText, IsBadOwnLine}
 use Rattle.judge.specs.Told.{told, told_verdict}
 use Rattle.judge.specs.declared.told.Told.{Told}

@@ -6,7 +6,7 @@ use crate::Told;
 use crate::told::{BAD_LINE, OUT_OF_MEMORY};
 use auditor::{RecordJudge, ReferenceKernelObject};
 use record_lines::LinesFault;
-use records::read_text_keeping;
+use records::read_text_into;
 use std::alloc::Global;
 
 /// What is told of the record that the bytes spell.
@@ -14,8 +14,8 @@ fn verdict_of(alloc: Global, text: &[u8]) -> Told
     ensures { IsVerdictTold text.now result }
 {
     let judge = RecordJudge::<ReferenceKernelObject>::new(alloc);
-    match read_text_keeping(alloc, text, judge) {
-        Ok(kept) => Told::of_verdict(kept.1.verdict()),
+    match read_text_into(alloc, text, judge) {
+        Ok(read) => Told::of_verdict(read.1.verdict()),
         Err(LinesFault::OutOfMemory) => Told::new(OUT_OF_MEMORY, 0, 0, 0),
         Err(LinesFault::Line(line)) => Told::new(BAD_LINE, line, 0, 0),
     }

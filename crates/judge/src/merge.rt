@@ -8,7 +8,7 @@ use crate::told::{BAD_LINE, CYCLE, NO_ROOM, OUT_OF_MEMORY, SOUND};
 use auditor::ReferenceKernelObject;
 use log_merge::{MergeFault, MergeJudge, Place};
 use record_lines::LinesFault;
-use records::read_text_keeping;
+use records::read_text_into;
 use std::alloc::Global;
 
 /// An entry by its place: a CPU and the index of one of its entries, both from 0.
@@ -49,12 +49,12 @@ fn order_of(alloc: Global, text: &[u8], room: &mut [Turn]) -> Told
     ensures { IsOrderTold text.now room.old room.new result }
 {
     let judge = MergeJudge::<ReferenceKernelObject>::new(alloc);
-    let kept = match read_text_keeping(alloc, text, judge) {
-        Ok(kept) => kept,
+    let read = match read_text_into(alloc, text, judge) {
+        Ok(read) => read,
         Err(LinesFault::OutOfMemory) => return Told::new(OUT_OF_MEMORY, 0, 0, 0),
         Err(LinesFault::Line(line)) => return Told::new(BAD_LINE, line, 0, 0),
     };
-    match kept.1.into_merged() {
+    match read.1.into_merged() {
         Ok(ordered) => tell_turns(SOUND, ordered.1.places.as_slice(), room),
         Err(MergeFault::Cycle(cycle)) => tell_turns(CYCLE, cycle.as_slice(), room),
         Err(MergeFault::Unsound(fault)) => Told::of_fault(fault),

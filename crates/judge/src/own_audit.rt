@@ -27,16 +27,16 @@ fn verdict_of(alloc: Global, text: &[u8], right: &[u64]) -> Told
     let Ok(counts) = copied(alloc, right) else {
         return Told::new(OUT_OF_MEMORY, 0, 0, 0);
     };
-    let kept = match read_own(alloc, text, OwnJudge::new(alloc, counts)) {
-        Ok(kept) => kept,
+    let read = match read_own(alloc, text, OwnJudge::new(alloc, counts)) {
+        Ok(read) => read,
         Err(LinesFault::OutOfMemory) => return Told::new(OUT_OF_MEMORY, 0, 0, 0),
         Err(LinesFault::Line(line)) => return Told::new(BAD_LINE, line, 0, 0),
     };
-    // No clause says that a keeper's own numbers stay while it is handed a record, so they are compared.
-    if kept.1.right() != right {
+    // No clause says that a sink's own numbers stay while it is handed over a record, so they are compared.
+    if read.1.right() != right {
         return Told::new(OUT_OF_MEMORY, 0, 0, 0);
     }
-    match kept.1.verdict() {
+    match read.1.verdict() {
         Ok(verdict) => Told::of_verdict(verdict),
         Err(mistold) => Told::new(MISTOLD, mistold.object, 0, 0),
     }

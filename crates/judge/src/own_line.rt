@@ -3,15 +3,16 @@
 ghost use Rattle.std.specs.Prelude.{◌≡◌, ◌≤◌, length, IfSome, IfNone};
 ghost use Rattle.std.specs.Option.{option_map};
 ghost use Rattle.judge.specs.OwnLines.{IsLineAt, IsLineTold, any_head, any_log_at, told_object, told_log, told_event, told_words};
-ghost use Rattle.own_lines.specs.LineReading.{own_object_at, own_event_at};
+ghost use Rattle.own_records.specs.LineReading.{own_object_at, own_event_at};
 ghost use Rattle.record_lines.specs.Reading.{left, words};
 ghost use Rattle.record_lines.specs.LineParts.{name_word_at};
 
 use crate::LineTold;
 use crate::own_told::{put_numbers, put_steps};
 use event_log::{Event, Steps};
-use own_lines::{event_line, log_line, object_line};
-use own_object::{OwnHead, OwnName, OwnObject, OwnSettings, Spoken};
+use own_records::{
+    OwnHead, OwnName, OwnObject, OwnSettings, Spoken, event_line, log_line, object_line,
+};
 use record_lines::{Words, key, name_in, split_line, word};
 use std::alloc::Global;
 
@@ -122,7 +123,7 @@ fn tell_line(alloc: Global, line: &[u8], told: &mut LineTold)
         steps: Steps::default(),
     };
     match event_line(&head_of_any(alloc), line, &mut event) {
-        Some(()) => tell_event(&event, told),
+        Some(_) => tell_event(&event, told),
         None => told.kind = OTHER_LINE,
     }
 }

@@ -18,16 +18,16 @@ fn order_of(alloc: Global, text: &[u8], right: &[u64], room: &mut [Turn]) -> Tol
     let Ok(counts) = copied(alloc, right) else {
         return Told::new(OUT_OF_MEMORY, 0, 0, 0);
     };
-    let kept = match read_own(alloc, text, OwnMergeJudge::new(alloc, counts)) {
-        Ok(kept) => kept,
+    let read = match read_own(alloc, text, OwnMergeJudge::new(alloc, counts)) {
+        Ok(read) => read,
         Err(LinesFault::OutOfMemory) => return Told::new(OUT_OF_MEMORY, 0, 0, 0),
         Err(LinesFault::Line(line)) => return Told::new(BAD_LINE, line, 0, 0),
     };
-    // No clause says that a keeper's own numbers stay while it is handed a record, so they are compared.
-    if kept.1.right() != right {
+    // No clause says that a sink's own numbers stay while it is handed over a record, so they are compared.
+    if read.1.right() != right {
         return Told::new(OUT_OF_MEMORY, 0, 0, 0);
     }
-    match kept.1.into_merged() {
+    match read.1.into_merged() {
         Ok(places) => tell_turns(SOUND, places.as_slice(), room),
         Err(OwnMergeFault::Cycle(cycle)) => tell_turns(CYCLE, cycle.as_slice(), room),
         Err(OwnMergeFault::Unsound(fault)) => Told::of_fault(fault),

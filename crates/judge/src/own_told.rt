@@ -1,11 +1,11 @@
 //! What a caller in C is told of a line of a record of one's own.
 
 ghost use Rattle.std.specs.Prelude.{◌≡◌, ◌≤◌, length, map, drop, ◌++◌};
-ghost use Rattle.own_object.specs.Own.{OwnStep};
+ghost use Rattle.own_records.specs.Own.{OwnStep};
 ghost use Rattle.judge.specs.OwnLines.{at_front, said_told, step_told};
 
 use event_log::Step;
-use own_object::{MOST_LETTERS, MOST_NUMBERS, MOST_SIZES, OwnObject, Spoken};
+use own_records::{MOST_LETTERS, MOST_NUMBERS, MOST_SIZES, OwnObject, Spoken};
 
 /// A call or a reply: its word with zeros behind it, and its numbers, of which there are `count`.
 #[derive(Clone, Copy, Debug, Default, PartialEq, Eq, Drop)]

@@ -5,8 +5,10 @@ ghost use Rattle.std.specs.List.{AllByRecursion};
 ghost use Rattle.auditor.specs.Faults.{IsFirstFault};
 ghost use Rattle.auditor.specs.VerdictText.{IsNamed};
 ghost use Rattle.log_merge.specs.MergedRecords.{IsMerged, HasCycle};
-ghost use Rattle.records.specs.Keeping.{no_parts, kept_record, IsWholeWith};
+ghost use Rattle.record_lines.specs.Received.{only_head, IsWholeWith};
+ghost use Rattle.records.specs.KernelForm.{no_head, settings_in};
 ghost use Rattle.records.specs.RecordRanges.{RecordFits};
+ghost use Rattle.records.specs.RecordStates.{received_record};
 ghost use Rattle.records.specs.Runs.{opened_of};
 ghost use Rattle.sound_run.specs.Orders.{HasOrder};
 ghost use Rattle.sound_run.specs.Sound.{Sound};
@@ -18,7 +20,8 @@ use crate::shaped_run::ShapedRun;
 use auditor::{Fault, RecordJudge, ReferenceObject};
 use event_log::{Done, Entry, Event, OutOfMemory, SeqObject, Series};
 use kernel_object::KernelObject;
-use records::{Keeps, MOST_ENTRIES, ObjectSettings};
+use record_lines::RecordSink;
+use records::{KernelForm, KernelHead, MOST_ENTRIES, StepTexts};
 use sound_run::Place;
 use std::alloc::Global;
 use std::marker::Model;
@@ -36,10 +39,10 @@ pub struct MergeJudge<J: ReferenceObject<KernelObject>> {
 
 impl<J: ReferenceObject<KernelObject>> Model for MergeJudge<J> {
     ghost use Rattle.std.specs.Prelude.{◌≡◌, map};
-    ghost use Rattle.records.specs.Keeping.{Parts};
+    ghost use Rattle.records.specs.RecordStates.{KernelReceived};
     ghost use Rattle.log_merge.specs.Shapes.{shape_of};
 
-    ghost Value = { Parts };
+    ghost Value = { KernelReceived };
 
     ghost view = { λ m. m.judge };
 
@@ -49,7 +52,7 @@ impl<J: ReferenceObject<KernelObject>> Model for MergeJudge<J> {
 impl<J: ReferenceObject<KernelObject>> MergeJudge<J> {
     /// Nothing was read yet. It takes no memory.
     pub fn new(alloc: Global) -> MergeJudge<J>
-        ensures { result ≡ no_parts }
+        ensures { result ≡ only_head no_head }
     {
         MergeJudge {
             alloc,
@@ -60,17 +63,17 @@ impl<J: ReferenceObject<KernelObject>> MergeJudge<J> {
     }
 
     /// One order over all entries of the record that was read, and its run. What `merge` says of a record is said of this one.
-    pub fn into_merged(self) -> Result<(ShapedRun, Merged), MergeFault>
-        requires whole { IsWholeWith self.settings self }
-        requires fit { RecordFits (kept_record self.settings self) }
+    pub fn into_merged(self) -> Result<(ShapedRun<KernelObject, StepTexts>, Merged), MergeFault>
+        requires whole { IsWholeWith self.head self }
+        requires fit { RecordFits (received_record self) }
         ensures unsound { (f : Fault) → result ≡ Err (MergeFault.Unsound f) →
-            IsFirstFault ⟦<KernelObject as SeqObject>⟧ (opened_of self.settings) (kept_record self.settings self).run f }
-        ensures told { (f : Fault) → result ≡ Err (MergeFault.Unsound f) → IsNamed self.settings f }
-        ensures run { IfOk result (λ r. r.0 ≡ (kept_record self.settings self).run) }
-        ensures order { IfOk result (λ r. IsMerged ⟦<KernelObject as SeqObject>⟧ (opened_of self.settings) (kept_record self.settings self).run r.1.places) }
+            IsFirstFault ⟦<KernelObject as SeqObject>⟧ (opened_of (settings_in self.head)) (received_record self).run f }
+        ensures told { (f : Fault) → result ≡ Err (MergeFault.Unsound f) → IsNamed (settings_in self.head) f }
+        ensures run { IfOk result (λ r. r.0 ≡ (received_record self).run) }
+        ensures order { IfOk result (λ r. IsMerged ⟦<KernelObject as SeqObject>⟧ (opened_of (settings_in self.head)) (received_record self).run r.1.places) }
         ensures cycle { (c : List Place) → result ≡ Err (MergeFault.Cycle c) →
-            HasCycle ⟦<KernelObject as SeqObject>⟧ (opened_of self.settings) (kept_record self.settings self).run c }
-        ensures given { Sound ⟦<KernelObject as SeqObject>⟧ (opened_of self.settings) (kept_record self.settings self).run → HasOrder (kept_record self.settings self).run →
+            HasCycle ⟦<KernelObject as SeqObject>⟧ (opened_of (settings_in self.head)) (received_record self).run c }
+        ensures given { Sound ⟦<KernelObject as SeqObject>⟧ (opened_of (settings_in self.head)) (received_record self).run → HasOrder (received_record self).run →
             IfErr result (λ f. f ≡ MergeFault.OutOfMemory) }
         ensures few { (c : List Place) → result ≡ Err (MergeFault.Cycle c) → AllByRecursion (λ p. p.entry < MOST_ENTRIES) c }
     {
@@ -92,18 +95,18 @@ impl<J: ReferenceObject<KernelObject>> MergeJudge<J> {
     }
 }
 
-impl<J: ReferenceObject<KernelObject>> Keeps for MergeJudge<J> {
-    ghost keeps = { λ p. p };
+impl<J: ReferenceObject<KernelObject>> RecordSink<KernelForm> for MergeJudge<J> {
+    ghost received = { λ p. p };
 
-    fn begin(&mut self, cpus: u8, objects: &[ObjectSettings]) -> Result<(), OutOfMemory> {
-        self.judge.begin(cpus, objects)
+    fn begin(&mut self, head: &KernelHead) -> Result<(), OutOfMemory> {
+        self.judge.begin(head)
     }
 
     fn begin_log(&mut self, count: u64) -> Result<(), OutOfMemory> {
         self.judge.begin_log(count)
     }
 
-    fn event(&mut self, event: Event<KernelObject>, text: &[u8]) -> Result<(), OutOfMemory> {
+    fn event(&mut self, event: &mut Event<KernelObject>, text: &[u8]) -> Result<(), OutOfMemory> {
         self.judge.event(event, text)
     }
 
@@ -116,21 +119,21 @@ impl<J: ReferenceObject<KernelObject>> Keeps for MergeJudge<J> {
     }
 
     #[inline(always)]
-    fn knows(&mut self, object: u8, looks: u64, tail: &[u8]) -> Result<bool, OutOfMemory> {
+    fn recognises(&mut self, object: u8, looks: u64, tail: &[u8]) -> Result<bool, OutOfMemory> {
         self.entries.reserve(1)?;
-        let known = self.judge.knows(object, looks, tail)?;
-        if known {
+        let recognised = self.judge.recognises(object, looks, tail)?;
+        if recognised {
             self.entries.push_reserved(EntryShape {
                 object,
                 is_done: true,
             });
         }
-        Ok(known)
+        Ok(recognised)
     }
 
-    fn entry(&mut self, entry: Entry<KernelObject>) -> Result<(), OutOfMemory> {
+    fn entry(&mut self, entry: &mut Entry<KernelObject>) -> Result<(), OutOfMemory> {
         self.entries.reserve(1)?;
-        let shape = EntryShape::of(&entry);
+        let shape = EntryShape::of(entry);
         self.judge.entry(entry)?;
         self.entries.push_reserved(shape);
         Ok(())

@@ -7,7 +7,7 @@ ghost use Rattle.log_merge.specs.MergedText.{entry_words, place_words, merged_te
 ghost use Rattle.record_lines.specs.Output.{AppendsBeginning, PutsLines};
 ghost use Rattle.records.specs.Settings.{name_at};
 
-use crate::look_up::entry_at;
+use crate::entry_lookup::entry_at;
 use crate::record_merge::Merged;
 use event_log::{Entry, Run, Sink};
 use kernel_object::KernelObject;

@@ -11,15 +11,16 @@ use crate::record_merge::Merged;
 use crate::run_lines::write_order;
 use crate::shaped_run::ShapedRun;
 use event_log::Sink;
+use kernel_object::KernelObject;
 use record_lines::WriteFailed;
-use records::Settings;
+use records::{Settings, StepTexts};
 use std::marker::Model;
 
 /// The settings of a record, its run in its shape, and the one order of its entries.
 #[derive(Drop)]
 pub struct OrderedRecord {
     settings: Settings,
-    run: ShapedRun,
+    run: ShapedRun<KernelObject, StepTexts>,
     merged: Merged,
 }
 
@@ -36,7 +37,11 @@ impl Model for OrderedRecord {
 
 impl OrderedRecord {
     /// The record of these settings and this run, in that order.
-    pub fn new(settings: Settings, run: ShapedRun, merged: Merged) -> OrderedRecord
+    pub fn new(
+        settings: Settings,
+        run: ShapedRun<KernelObject, StepTexts>,
+        merged: Merged,
+    ) -> OrderedRecord
         requires { IsOrder run merged.places }
         ensures { result ≡ record { of = record { settings = settings; run = run }; places = merged.places } }
     {

@@ -6,8 +6,8 @@ ghost use Rattle.log_merge.specs.Least.{TakesTheLeast};
 ghost use Rattle.log_merge.specs.Nexts.{IsReady, IsWhole, left_in, IsStuck};
 ghost use Rattle.log_merge.specs.WhoCanCome.{SaysWhoCanCome};
 
-use crate::flags::Flags;
-use crate::looks::{flags_of, look, look_behind};
+use crate::number_flags::Flags;
+use crate::ready_cpus::{flags_of, look, look_behind};
 use crate::run_shape::RunShape;
 use event_log::{OutOfMemory, SeqObject};
 use sound_run::Place;

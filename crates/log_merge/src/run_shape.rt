@@ -18,7 +18,7 @@ pub struct EntryShape {
 impl EntryShape {
     /// The entry's shape.
     #[inline(always)]
-    pub(crate) fn of<O: SeqObject>(entry: &Entry<O>) -> EntryShape
+    pub fn of<O: SeqObject>(entry: &Entry<O>) -> EntryShape
         ensures { result ≡ shape_of entry.now }
     {
         EntryShape {

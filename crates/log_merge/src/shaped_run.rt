@@ -8,43 +8,42 @@ ghost use Rattle.record_lines.specs.Words.{separated};
 ghost use Rattle.sound_run.specs.Sound.{log_of};
 
 use crate::run_shape::{EntryShape, RunShape};
-use auditor::JudgedRun;
-use event_log::Series;
+use auditor::{JudgedRun, StepRows};
+use event_log::{SeqObject, Series};
 use kernel_object::KernelObject;
 use records::StepTexts;
 use std::marker::Model;
 
-/// A sound run of a record: two bytes of each entry, and of each event its CPU and the text of its steps. Contracts alone know the rest.
+/// A sound run: two bytes of each entry, and of each event its CPU and its steps as the rows keep them. Contracts alone know the rest.
 #[derive(Drop)]
-pub struct ShapedRun {
-    run: JudgedRun<KernelObject, StepTexts>,
+pub struct ShapedRun<O: SeqObject, R: StepRows<O>> {
+    run: JudgedRun<O, R>,
     transcripts: Vec<Series<EntryShape>>,
 }
 
-impl Model for ShapedRun {
+impl<O: SeqObject, R: StepRows<O>> Model for ShapedRun<O, R> {
     ghost use Rattle.std.specs.Prelude.{◌≡◌, map};
-    ghost use Rattle.kernel_object.specs.KernelTypes.{KernelRun};
+    ghost use Rattle.event_log.specs.declared.entry.Run.{Run};
     ghost use Rattle.log_merge.specs.Shapes.{shape_of};
 
-    ghost Value = { KernelRun };
+    ghost Value = { Run O O.Params O.Call O.Reply };
 
     ghost view = { λ s. s.run };
 
     ghost invariant = { λ s. s.transcripts.items ≡ map (map shape_of) s.run.transcripts };
 }
 
-impl ShapedRun {
+impl<O: SeqObject, R: StepRows<O>> ShapedRun<O, R> {
     /// The run whose entries have these shapes.
-    pub(crate) fn new(
-        run: JudgedRun<KernelObject, StepTexts>,
-        transcripts: Vec<Series<EntryShape>>,
-    ) -> ShapedRun
+    pub fn new(run: JudgedRun<O, R>, transcripts: Vec<Series<EntryShape>>) -> ShapedRun<O, R>
         requires { transcripts.items ≡ map (map shape_of) run.transcripts }
         ensures { result ≡ run }
     {
         ShapedRun { run, transcripts }
     }
+}
 
+impl ShapedRun<KernelObject, StepTexts> {
     /// The text of the steps of the event at that index of the object's log, if there is one: their words.
     #[inline(always)]
     pub(crate) fn text(&self, object: usize, index: usize) -> Option<&[u8]>
@@ -54,7 +53,7 @@ impl ShapedRun {
     }
 }
 
-impl RunShape<KernelObject> for ShapedRun {
+impl<O: SeqObject, R: StepRows<O>> RunShape<O> for ShapedRun<O, R> {
     ghost run = { λ run. run };
 
     #[inline(always)]

@@ -1,12 +1,8 @@
 -- What holds of an answer, and of a refusal.
 use Rattle.std.proofs.Common.{◌≡◌, ◌⊎◌, ◌≤◌, ℕ, Err, List, Option, String, Global, string_bytes, inl, inr, refl, sym, ◌∙◌, subst, ap, arith}
-use Rattle.std.specs.Prelude.{◌↔◌}
 use Rattle.kernel_object.specs.contracts.object.KernelObjectSeqObject.TheImpl.{ghosts as kernel}
 use Rattle.auditor.specs.Faults.{IsFirstFault}
-use Rattle.auditor.specs.VerdictText.{verdict_text}
 use Rattle.auditor.specs.declared.fault.Fault.{Fault as RecordFault}
-use Rattle.auditor.specs.declared.fault.Verdict.{Verdict}
-use Rattle.auditor.specs.declared.fault.Verdict.TheVariants as verdict
 use Rattle.event_log.specs.Stream.{counted}
 use Rattle.log_merge.specs.MergedRecords.{HasCycle}
 use Rattle.log_merge.specs.declared.record_merge.MergeFault.{MergeFault}
@@ -16,17 +12,14 @@ use Rattle.program.proofs.Refused as causes
 use Rattle.program.specs.Texts.{SpellsRecordOf}
 use Rattle.program.specs.declared.refusal.Refusal.{Refusal}
 use Rattle.program.specs.declared.refusal.Refusal.TheVariants as refusal
-use Rattle.records.specs.Keeping.{Parts, kept_record, IsWholeWith}
 use Rattle.records.specs.RecordRanges.{Record}
 use Rattle.records.specs.Runs.{opened_of}
-use Rattle.records.specs.Settings.{Settings}
-use Rattle.sound_run.specs.Sound.{Sound}
 use Rattle.sound_run.specs.declared.place.Place.{Place}
 use Rattle.mc2_command.specs.declared.arguments.Arguments.{Arguments}
 use Rattle.mc2_command.specs.declared.arguments.Arguments.TheVariants as forms
 use Rattle.mc2_command.specs.declared.fault.Fault.{Fault}
 use Rattle.mc2_command.specs.declared.fault.Fault.TheVariants as fault
-use Rattle.mc2_command.specs.Answers.{AnswersAudit, AnswersFor, AnswersWith, FindsNoOrder, RefusesCycle, RefusesUnsound}
+use Rattle.mc2_command.specs.Answers.{AnswersFor, AnswersWith, FindsNoOrder, RefusesCycle, RefusesUnsound}
 use Rattle.mc2_command.specs.Asked.{Asks}
 use Rattle.mc2_command.specs.Faults.{status_of, tells_read_failed}
 use Rattle.mc2_command.specs.Refused.{IsNoOrder, Refuses, RefusesMerge, RefusesOrder, RefusesTo}
@@ -51,22 +44,6 @@ no_order held name of (merging.Cycle c) f read unsound cycle (inl is) = inl (ref
 no_order held name of (merging.Cycle c) f read unsound cycle (inr h) =
     let why : RefusesCycle held name (string_bytes h.0) = record { of = of; read = read; cycle = c; has = cycle c refl; is = h.2 } in
     subst (RefusesMerge held name) (sym h.1) (inr why)
-
--- the record that was read for a keeper, with the settings that the keeper was told
-pub read_of : (held : Option (List ℕ) → Option (List ℕ)) (name : Option (List ℕ)) (settings : Settings) (p : Parts) → IsWholeWith settings p → SpellsRecordOf held name (kept_record settings p) → SpellsRecordOf held name (kept_record p.settings p)
-read_of held name settings p whole read = subst (λ (s : Settings). SpellsRecordOf held name (kept_record s p)) (sym whole.told) read
-
--- the verdict on it, and its line
-pub audited : (held : Option (List ℕ) → Option (List ℕ)) (name : Option (List ℕ)) (settings : Settings) (p : Parts) (v : Verdict) (text : List ℕ) → IsWholeWith settings p → SpellsRecordOf held name (kept_record settings p)
-    → ((v ≡ verdict.Sound) ↔ Sound kernel (opened_of p.settings) (kept_record p.settings p).run)
-    → ((f : RecordFault) → (v ≡ verdict.Unsound f) ↔ IsFirstFault kernel (opened_of p.settings) (kept_record p.settings p).run f)
-    → text ≡ verdict_text settings v → AnswersAudit held name v text
-audited held name settings p v text whole read sound fault is = record {
-  of = kept_record p.settings p;
-  read = read_of held name settings p whole read;
-  judged = record { sound = sound; fault = fault };
-  is = is ∙ ap (λ (s : Settings). verdict_text s v) (sym whole.told);
-}
 
 -- no refusal that programs share has status 1
 shared : (cause : Refusal) (f : Fault) → f ≡ fault.Common cause → status_of f ≡ 1 → ⊥

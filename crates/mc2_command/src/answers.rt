@@ -21,7 +21,7 @@ use cpu_worker::{AlwaysAllowed, OpenGate, report, run_owned, simulate_owned};
 use event_log::OutOfMemory;
 use log_merge::{MergeFault, MergeJudge, OrderedRecord, cycle_text};
 use program::{
-    Inputs, Refusal, read_kept, read_record, read_schedule, read_scripts, read_settings,
+    Inputs, Refusal, read_record, read_record_into, read_schedule, read_scripts, read_settings,
 };
 use scripts::{Record, Settings};
 use std::alloc::Global;
@@ -108,9 +108,9 @@ pub fn audit_answer<I: Inputs>(
     ensures failures { I.failed inputs.new ≡ counted (says_read_failed result) (I.failed inputs.old) }
 {
     let judge = RecordJudge::<ReferenceKernelObject>::new(alloc);
-    let kept = read_kept(alloc, inputs, record, judge)?;
-    let verdict = kept.1.verdict();
-    let line = verdict_line(alloc, &kept.0, verdict)?;
+    let read = read_record_into(alloc, inputs, record, judge)?;
+    let verdict = read.1.verdict();
+    let line = verdict_line(alloc, &read.0, verdict)?;
     Ok((verdict, line))
 }
 
@@ -144,7 +144,7 @@ pub fn merge_answer<I: Inputs>(
     ensures failures { I.failed inputs.new ≡ counted (tells_read_failed result) (I.failed inputs.old) }
 {
     let judge = MergeJudge::<ReferenceKernelObject>::new(alloc);
-    let (settings, judge) = read_kept(alloc, inputs, record, judge)?;
+    let (settings, judge) = read_record_into(alloc, inputs, record, judge)?;
     match judge.into_merged() {
         Ok((run, merged)) => Ok(OrderedRecord::new(settings, run, merged)),
         Err(cause) => Err(no_order(alloc, &settings, cause)),

@@ -1,11 +1,9 @@
-pub mod ToldLogs
-pub mod ToldEntries
-pub mod ToldRuns
+pub mod CountedLogs
+pub mod OwnTerms
 pub mod FirstFaults
 pub mod SoundRuns
-pub mod ToldNext
-pub mod CodedSteps
-pub mod FedOwn
+pub mod RowsOfSteps
+pub mod ReceivedOwn
 pub mod WholeOwn
 pub mod SomeModel
 pub mod MergedOwn

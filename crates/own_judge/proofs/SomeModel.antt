@@ -10,9 +10,9 @@ use Rattle.event_log.specs.Log.{steps_of}
 use Rattle.sound_run.specs.Sound.{log_of}
 use Rattle.sound_run.proofs.Slices.{map_get, one_of}
 use Rattle.auditor.proofs.Splits.{take_length}
-use Rattle.own_object.specs.Own.{OwnStep}
-use Rattle.own_object.specs.Ranges.{OwnRecord, OwnRecordFits}
-use Rattle.own_object.specs.Settings.{OwnSettings, names_of, word_in}
+use Rattle.own_records.specs.Own.{OwnStep}
+use Rattle.own_records.specs.Ranges.{OwnRecord, OwnRecordFits}
+use Rattle.own_records.specs.Settings.{OwnSettings, names_of, word_in}
 use Rattle.own_judge.specs.Models.{Model, AreCounts, IsCount, IsTold, IsMistold}
 
 -- the count of the object of that name

@@ -1,35 +1,44 @@
 -- What a judge knows of what it was handed over.
-use Rattle.std.specs.Prelude.{◌≡◌, ℕ, ◌+◌, ◌-◌, ◌<◌, ◌≤◌, if◌then◌else◌, List, [], length, map, take, Option, Some, None, slice_get, slice_index, unwrap_or}
+use Rattle.std.specs.Prelude.{◌≡◌, ℕ, ◌+◌, ◌-◌, ◌<◌, ◌≤◌, Bool, if◌then◌else◌, List, [], ◌∷◌, length, map, take, drop, Option, Some, None, slice_get, slice_index, unwrap_or}
 use Rattle.event_log.specs.Log.{steps_of}
-use Rattle.auditor.specs.declared.opened_object.OpenedObject.{OpenedObject}
-use Rattle.auditor.specs.Fed.{Fed}
-use Rattle.own_object.specs.Keeping.{OwnParts}
-use Rattle.own_object.specs.Own.{OwnEvent}
-use Rattle.own_object.specs.Settings.{OwnSettings}
-use Rattle.own_judge.specs.declared.answered.Answer.{Answer}
-use Rattle.own_judge.specs.declared.answered.Answered.{Answered}
-use Rattle.own_judge.specs.declared.answered.Told.{Told}
-use Rattle.own_judge.specs.Translated.{told_log, told_logs, told_entry}
+use Rattle.auditor.specs.ReceivedRun.{ReceivedRun}
+use Rattle.auditor.specs.Terms.{Terms}
+use Rattle.own_records.specs.declared.object.OwnObject.{OwnObject}
+use Rattle.own_records.specs.declared.object.OwnReply.{OwnReply}
+use Rattle.own_records.specs.Own.{OwnEvent}
+use Rattle.own_records.specs.OwnForm.{Head}
+use Rattle.own_records.specs.OwnReceived.{OwnReceived}
+use Rattle.own_records.specs.Said.{Said}
+use Rattle.own_records.specs.Settings.{OwnSettings}
 
 -- what was handed over, and how many steps of each log were told to be right
 pub record Counted : Type 0 where
-  pub parts : OwnParts
+  pub parts : OwnReceived
   pub counts : List ℕ
 
--- what a judge of calls that carry their answers was fed
-abbrev pub ToldFed : Type 0
-ToldFed = Fed Answered (Unit {0}) Told Answer
+-- what a judge by counts has received
+abbrev pub OwnReceivedRun : Type 0
+OwnReceivedRun = ReceivedRun ℕ OwnObject (Unit {0}) Said OwnReply
 
--- what an object is judged by there
-abbrev pub ToldTerms : Type 0
-ToldTerms = OpenedObject Answered (Unit {0}) Told Answer
+-- what a log is judged by: so many steps of it are right
+abbrev pub OwnTerms : Type 0
+OwnTerms = Terms (Unit {0}) ℕ
 
--- the most events of its log
-abbrev pub terms_of : OwnSettings → ToldTerms
-terms_of o = record { params = tt; limit = o.events }
+-- the terms of an object's log, of which so many steps are right
+abbrev pub term_of : OwnSettings → ℕ → OwnTerms
+term_of o n = record { params = tt; limit = o.events; state = n }
+
+-- those of all logs; where there is no count no step is right
+abbrev pub own_terms : List ℕ → List OwnSettings → List OwnTerms
+own_terms counts [] = []
+own_terms counts (o ∷ objects) = term_of o (slice_index counts 0) ∷ own_terms (drop 1 counts) objects
+
+-- what the judge has received, as parts of a record with that head
+abbrev pub own_parts : Head → Bool → OwnReceivedRun → OwnReceived
+own_parts head begun d = record { head = head; begun = begun; count = d.count; logs = d.logs; events = d.events; transcripts = d.transcripts; entries = d.entries }
 
 -- how many logs were begun, at least, where none is whole that wasn't
-abbrev pub begun_logs : OwnParts → ℕ
+abbrev pub begun_logs : OwnReceived → ℕ
 begun_logs p = if p.begun then length p.logs + 1 else length p.logs
 
 -- the log at that place has a count, which is no more than its steps
@@ -49,17 +58,12 @@ IsNextWithout counts log left (Some x) new = new ≡ Some x
 IsNextWithout counts log left None None = (log < length counts) × (left ≡ 0)
 IsNextWithout counts log left None (Some x) = (x ≡ log) × ((log < length counts) × (left ≡ 0) → ⊥)
 
--- the judge was fed what is told of the parts
-pub record IsFedOwn (p : OwnParts) (counts most : List ℕ) (log rest : ℕ) (none : Option ℕ) (d : ToldFed) : Type 0 where
-  pub limits : most ≡ map (λ (o : OwnSettings). o.events) p.head.objects
+-- the judge has received those parts
+pub record HasReceivedOwn (p : OwnReceived) (counts most : List ℕ) (log rest : ℕ) (none : Option ℕ) (d : OwnReceivedRun) : Type 0 where
+  pub limits : most ≡ map (λ (o : OwnSettings). o.events) p.head.told.objects
   pub whole : log ≡ length p.logs
-  pub cpus : d.cpus ≡ p.head.cpus
-  pub objects : d.objects ≡ length p.head.objects
-  pub count : d.count ≡ p.count
-  pub opened : d.opened ≡ take (begun_logs p) (map terms_of p.head.objects)
-  pub logs : d.logs ≡ told_logs counts p.logs
-  pub events : d.events ≡ told_log (slice_index counts (length p.logs)) p.events
+  pub cpus : d.cpus ≡ p.head.told.cpus
+  pub objects : d.objects ≡ length p.head.told.objects
+  pub opened : d.opened ≡ take (begun_logs p) (own_terms counts p.head.told.objects)
   pub left : rest ≡ slice_index counts (length p.logs) - length (steps_of p.events)
-  pub transcripts : d.transcripts ≡ map (λ entries. map told_entry entries) p.transcripts
-  pub entries : d.entries ≡ map told_entry p.entries
   pub without : IsFirstWithout counts p.logs none

@@ -3,14 +3,14 @@ use Rattle.std.specs.Prelude.{◌≡◌, ◌↔◌, ◌⊎◌, ℕ, ◌+◌, ◌
 use Rattle.std.specs.List.{AllByRecursion}
 use Rattle.event_log.specs.Log.{steps_of}
 use Rattle.sound_run.specs.Sound.{Opened, transcript_of, log_of, done_on, steps_by, EntryIsSound, NoneAfterFull}
-use Rattle.own_object.specs.Own.{OwnStep, OwnEvent, own}
-use Rattle.own_object.specs.Ranges.{OwnRecord}
-use Rattle.own_object.specs.Settings.{OwnSettings, OwnHead}
+use Rattle.own_records.specs.Own.{OwnStep, OwnEvent, own}
+use Rattle.own_records.specs.Ranges.{OwnRecord}
+use Rattle.own_records.specs.Settings.{OwnSettings, OwnHead}
 use Rattle.auditor.specs.declared.fault.Fault.{Fault}
 use Rattle.auditor.specs.declared.fault.Fault.TheVariants as fault
 use Rattle.auditor.specs.declared.fault.Verdict.{Verdict}
 use Rattle.auditor.specs.declared.fault.Verdict.TheVariants as verdict
-use Rattle.auditor.specs.Faults.{IsFault, IsBefore, place}
+use Rattle.auditor.specs.Faults.{IsTooLong, HadRoom, IsNotItsEvent, IsNotAsked, IsUnclaimed, IsBefore, place}
 
 -- whether the last of these steps of an object of those settings is right, if those before it were
 abbrev pub Model : Type 0
@@ -74,11 +74,11 @@ module _ (model : Model) (r : OwnRecord) where
   -- the fault is there; of all but wrong steps no model says anything
   abbrev pub IsFaultBy : Fault → Type 0
   IsFaultBy (fault.WrongStep x e i) = HasWrongStepBy x e i
-  IsFaultBy (fault.TooLong x) = IsFault own (opened r.head) r.run (fault.TooLong x)
-  IsFaultBy (fault.RoomWasLeft cpu n) = IsFault own (opened r.head) r.run (fault.RoomWasLeft cpu n)
-  IsFaultBy (fault.NotItsEvent cpu n) = IsFault own (opened r.head) r.run (fault.NotItsEvent cpu n)
-  IsFaultBy (fault.NotAsked cpu n) = IsFault own (opened r.head) r.run (fault.NotAsked cpu n)
-  IsFaultBy (fault.Unclaimed x e) = IsFault own (opened r.head) r.run (fault.Unclaimed x e)
+  IsFaultBy (fault.TooLong x) = IsTooLong own (opened r.head) r.run x
+  IsFaultBy (fault.RoomWasLeft cpu n) = HadRoom own (opened r.head) r.run cpu n
+  IsFaultBy (fault.NotItsEvent cpu n) = IsNotItsEvent own (opened r.head) r.run cpu n
+  IsFaultBy (fault.NotAsked cpu n) = IsNotAsked own (opened r.head) r.run cpu n
+  IsFaultBy (fault.Unclaimed x e) = IsUnclaimed own (opened r.head) r.run x e
 
   -- the fault is there, and none at an earlier place
   pub record IsFirstFaultBy (f : Fault) : Type 0 where

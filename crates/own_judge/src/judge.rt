@@ -1,26 +1,23 @@
 //! A record of objects of their writer's that is judged while it is read.
 
-ghost use Rattle.std.specs.Prelude.{◌≡◌, ◌↔◌, ◌∷◌, [], ℕ, Err, length, map, slice_index, IfOk, IfErr};
-ghost use Rattle.auditor.specs.Faults.{IsFirstFault};
-ghost use Rattle.log_merge.specs.Shapes.{shape_of};
-ghost use Rattle.own_object.specs.Keeping.{no_own_parts, kept_own, IsWholeOwn};
-ghost use Rattle.own_object.specs.Ranges.{OwnRecordFits};
-ghost use Rattle.own_object.specs.Settings.{OwnSettings as Shown};
-ghost use Rattle.own_judge.specs.Answers.{answered};
-ghost use Rattle.own_judge.specs.Judging.{IsNextWithout};
-ghost use Rattle.own_judge.specs.Models.{IsMistold, IsVerdictByCounts, opened};
-ghost use Rattle.own_judge.specs.Translated.{told_run};
-ghost use Rattle.sound_run.specs.Sound.{Sound};
+ghost use Rattle.std.specs.Prelude.{◌≡◌, ◌↔◌, ℕ, Err, map, slice_index, IfOk, IfErr};
+ghost use Rattle.auditor.specs.ByModels.{SoundBy};
+ghost use Rattle.auditor.specs.Faults.{IsFirstFaultBy};
+ghost use Rattle.auditor.specs.StepModels.{counted_model};
+ghost use Rattle.own_records.specs.Own.{own};
+ghost use Rattle.own_records.specs.OwnForm.{no_head};
+ghost use Rattle.own_records.specs.OwnReceived.{received_own};
+ghost use Rattle.own_records.specs.Ranges.{OwnRecordFits};
+ghost use Rattle.own_records.specs.Settings.{OwnSettings as Shown};
+ghost use Rattle.record_lines.specs.Received.{only_head, IsWholeWith};
+ghost use Rattle.own_judge.specs.Judging.{IsNextWithout, own_terms};
+ghost use Rattle.own_judge.specs.Models.{IsMistold, IsVerdictByCounts};
 
-use crate::answered::Answered;
-use crate::heard::Heard;
-use crate::shape::OwnShape;
-use crate::telling::{no_entry, no_event, tell_entry, tell_event};
-use crate::told_rows::ToldRows;
-use auditor::{Fault, Judged, OpenedObject, Verdict};
-use event_log::{Entry, Event, OutOfMemory, Series};
-use log_merge::EntryShape;
-use own_object::{OwnHead, OwnKeeps, OwnObject, OwnSettings};
+use crate::own_rows::OwnRows;
+use auditor::{Counted, Fault, JudgedRun, OpenedObject, RunJudge, Verdict};
+use event_log::{Entry, Event, OutOfMemory, Past};
+use own_records::{OwnForm, OwnFormHead, OwnObject, OwnSettings};
+use record_lines::RecordSink;
 use std::alloc::Global;
 use std::marker::Model;
 use std::mem;
@@ -33,7 +30,7 @@ pub struct Mistold {
 }
 
 /// Judges a record while it is read, by how many steps of each log, from the first on, its reader calls right. Of an event it
-/// keeps its steps, packed, and of an entry nothing. What it was handed over contracts alone know.
+/// keeps the text of its steps, and of an entry nothing. What it was handed over contracts alone know.
 #[derive(Drop)]
 pub struct OwnJudge {
     alloc: Global,
@@ -45,21 +42,21 @@ pub struct OwnJudge {
     left: u64,
     /// The first whole log without a count, or with one that is more than its steps.
     without: Option<usize>,
-    heard: Heard,
-    judged: Judged<Answered, Answered, ToldRows>,
-    /// Room for what is told, which is told anew each time: to make it anew takes longer than to judge it.
-    event: Event<Answered>,
-    entry: Entry<Answered>,
+    head: Past<OwnFormHead>,
+    begun: bool,
+    judged: RunJudge<OwnObject, Counted, OwnRows>,
 }
 
 impl Model for OwnJudge {
-    ghost use Rattle.own_judge.specs.Judging.{Counted, IsFedOwn};
+    ghost use Rattle.std.specs.Prelude.{get_or};
+    ghost use Rattle.own_records.specs.OwnForm.{no_head};
+    ghost use Rattle.own_judge.specs.Judging.{Counted as Shown, own_parts, HasReceivedOwn};
 
-    ghost Value = { Counted };
+    ghost Value = { Shown };
 
-    ghost view = { λ j. record { parts = j.heard; counts = j.right.items } };
+    ghost view = { λ j. record { parts = own_parts (get_or j.head.items 0 no_head) j.begun j.judged; counts = j.right.items } };
 
-    ghost invariant = { λ j. IsFedOwn j.heard j.right.items j.limits.items j.log j.left j.without j.judged };
+    ghost invariant = { λ j. HasReceivedOwn (own_parts (get_or j.head.items 0 no_head) j.begun j.judged) j.right.items j.limits.items j.log j.left j.without j.judged };
 }
 
 /// The count at a place, or none.
@@ -100,7 +97,7 @@ fn limits_of(alloc: Global, objects: &[OwnSettings]) -> Result<Vec<u32>, OutOfMe
 impl OwnJudge {
     /// Nothing was read yet, and so many steps of each log will be called right. It takes no memory.
     pub fn new(alloc: Global, right: Vec<u64>) -> OwnJudge
-        ensures { result ≡ record { parts = no_own_parts; counts = right.items } }
+        ensures { result ≡ record { parts = only_head no_head; counts = right.items } }
     {
         let left = count_at(right.as_slice(), 0);
         OwnJudge {
@@ -110,15 +107,14 @@ impl OwnJudge {
             log: 0,
             left,
             without: None,
-            heard: Heard::new(),
-            judged: Judged::empty(alloc),
-            event: no_event(),
-            entry: no_entry(),
+            head: Past::new(),
+            begun: false,
+            judged: RunJudge::empty(alloc),
         }
     }
 
     /// How many steps of each log are called right. A reader of records leaves them as they were told, but no clause of
-    /// `OwnKeeps` says so: whoever relies on it compares.
+    /// `RecordSink` says so: whoever relies on it compares.
     pub fn right(&self) -> &[u64]
         ensures { result.now ≡ self.now.counts }
     {
@@ -127,10 +123,10 @@ impl OwnJudge {
 
     /// The verdict on the record that was read by every model that has these counts, or where they fit no model.
     pub fn verdict(&self) -> Result<Verdict, Mistold>
-        requires whole { IsWholeOwn self.now.parts.head self.now.parts }
-        requires fit { OwnRecordFits (kept_own self.now.parts.head self.now.parts) }
-        ensures mistold { (x : ℕ) → (result ≡ Err (record { object = x })) ↔ IsMistold (kept_own self.now.parts.head self.now.parts) self.now.counts x }
-        ensures verdict { IfOk result (IsVerdictByCounts (kept_own self.now.parts.head self.now.parts) self.now.counts) }
+        requires whole { IsWholeWith self.now.parts.head self.now.parts }
+        requires fit { OwnRecordFits (received_own self.now.parts) }
+        ensures mistold { (x : ℕ) → (result ≡ Err (record { object = x })) ↔ IsMistold (received_own self.now.parts) self.now.counts x }
+        ensures verdict { IfOk result (IsVerdictByCounts (received_own self.now.parts) self.now.counts) }
     {
         if let Some(object) = self.without {
             return Err(Mistold { object });
@@ -143,49 +139,45 @@ impl OwnJudge {
         Ok(self.judged.verdict())
     }
 
-    /// The run that was read in its shape, if it is sound, or else its first fault. It takes no memory.
-    pub(crate) fn into_shape(self, transcripts: Vec<Series<EntryShape>>) -> Result<OwnShape, Fault>
-        requires whole { IsWholeOwn self.parts.head self.parts }
-        requires fit { OwnRecordFits (kept_own self.parts.head self.parts) }
-        requires shapes { transcripts.items ≡ map (map shape_of) self.parts.transcripts }
-        ensures run { IfOk result (λ s. s ≡ (kept_own self.parts.head self.parts).run) }
-        ensures sound { IfOk result (λ s. Sound answered (opened self.parts.head) (told_run self.counts (kept_own self.parts.head self.parts).run)) }
-        ensures fault { IfErr result (IsFirstFault answered (opened self.parts.head) (told_run self.counts (kept_own self.parts.head self.parts).run)) }
+    /// The run that was read, if it is sound, or else its first fault. It takes no memory.
+    pub(crate) fn into_run(self) -> Result<JudgedRun<OwnObject, OwnRows>, Fault>
+        requires whole { IsWholeWith self.parts.head self.parts }
+        requires fit { OwnRecordFits (received_own self.parts) }
+        ensures run { IfOk result (λ r. r ≡ (received_own self.parts).run) }
+        ensures sound { IfOk result (λ r. SoundBy (counted_model own) (own_terms self.counts self.parts.head.told.objects) (received_own self.parts).run) }
+        ensures fault { IfErr result (IsFirstFaultBy (counted_model own) (own_terms self.counts self.parts.head.told.objects) (received_own self.parts).run) }
     {
-        let OwnJudge { heard, judged, .. } = self;
-        match judged.into_run() {
-            Err(fault) => Err(fault),
-            Ok(run) => Ok(OwnShape::new(run, heard, transcripts)),
-        }
+        let OwnJudge { judged, .. } = self;
+        judged.into_run()
     }
 }
 
-impl OwnKeeps for OwnJudge {
-    ghost keeps = { λ j. j.parts };
+impl RecordSink<OwnForm> for OwnJudge {
+    ghost received = { λ j. j.parts };
 
-    fn begin(&mut self, head: &OwnHead) -> Result<(), OutOfMemory> {
-        let limits = limits_of(self.alloc, head.objects.as_slice())?;
-        self.judged = Judged::new(self.alloc, head.cpus as usize, head.objects.len())?;
+    fn begin(&mut self, head: &OwnFormHead) -> Result<(), OutOfMemory> {
+        let told = &head.told;
+        let limits = limits_of(self.alloc, told.objects.as_slice())?;
+        self.judged = RunJudge::new(self.alloc, told.cpus as usize, told.objects.len())?;
         self.limits = limits;
-        self.heard.tell_head(head);
+        self.head = Past::told(&self.head, head);
         Ok(())
     }
 
-    fn begin_log(&mut self, count: u32) -> Result<(), OutOfMemory> {
+    fn begin_log(&mut self, count: u64) -> Result<(), OutOfMemory> {
         let opened = OpenedObject {
             params: (),
             limit: self.limits[self.log],
         };
-        self.judged.begin_log(&opened, count as usize)?;
-        self.heard.tell_count(count);
+        let counted = Counted { left: self.left };
+        self.judged.begin_log(&opened, counted, count as usize)?;
+        self.begun = true;
         Ok(())
     }
 
-    fn event(&mut self, event: &Event<OwnObject>) -> Result<(), OutOfMemory> {
-        tell_event(event, self.left, &mut self.event);
-        self.judged.event(&self.event, &[])?;
+    fn event(&mut self, event: &mut Event<OwnObject>, text: &[u8]) -> Result<(), OutOfMemory> {
+        self.judged.event(event, text)?;
         self.left = self.left.saturating_sub(event.steps.list.len() as u64);
-        self.heard.tell_event(event);
         Ok(())
     }
 
@@ -194,26 +186,29 @@ impl OwnKeeps for OwnJudge {
         self.without = next_without(self.right.as_slice(), self.log, self.left, self.without);
         self.log += 1;
         self.left = count_at(self.right.as_slice(), self.log);
-        self.heard.tell_log_end();
+        self.begun = false;
         Ok(())
     }
 
-    fn begin_transcript(&mut self, count: u32) -> Result<(), OutOfMemory> {
+    fn begin_transcript(&mut self, count: u64) -> Result<(), OutOfMemory> {
         self.judged.begin_transcript(count as usize);
-        self.heard.tell_count(count);
+        self.begun = true;
         Ok(())
     }
 
-    fn entry(&mut self, entry: &Entry<OwnObject>) -> Result<(), OutOfMemory> {
-        tell_entry(entry, &mut self.entry);
-        self.judged.entry(&self.entry);
-        self.heard.tell_entry(entry);
+    #[inline(always)]
+    fn recognises(&mut self, object: u8, looks: u64, tail: &[u8]) -> Result<bool, OutOfMemory> {
+        Ok(self.judged.recognises(object, looks, tail))
+    }
+
+    fn entry(&mut self, entry: &mut Entry<OwnObject>) -> Result<(), OutOfMemory> {
+        self.judged.entry(entry);
         Ok(())
     }
 
     fn end_transcript(&mut self) -> Result<(), OutOfMemory> {
         self.judged.end_transcript();
-        self.heard.tell_transcript_end();
+        self.begun = false;
         Ok(())
     }
 

@@ -1,7 +1,7 @@
 //! A law of counts, on a function without effect.
 
 ghost use Rattle.std.specs.Prelude.{ℕ, List};
-ghost use Rattle.own_object.specs.Ranges.{OwnRecord, OwnRecordFits};
+ghost use Rattle.own_records.specs.Ranges.{OwnRecord, OwnRecordFits};
 ghost use Rattle.own_judge.specs.Models.{Model, AreCounts, IsMistold};
 
 /// Some model has the counts, if none is mistold: so what is said of every model that has them isn't said of none.

@@ -1,18 +1,20 @@
 //! A record of objects of their writer's that is judged while it is read, and then merged.
 
 ghost use Rattle.std.specs.Prelude.{◌≡◌, ◌↔◌, ℕ, Err, List, IfOk, IfErr};
-ghost use Rattle.own_object.specs.Keeping.{no_own_parts, kept_own, IsWholeOwn};
-ghost use Rattle.own_object.specs.Ranges.{OwnRecordFits};
+ghost use Rattle.own_records.specs.OwnForm.{no_head};
+ghost use Rattle.own_records.specs.OwnReceived.{received_own};
+ghost use Rattle.own_records.specs.Ranges.{OwnRecordFits};
+ghost use Rattle.record_lines.specs.Received.{only_head, IsWholeWith};
 ghost use Rattle.own_judge.specs.Merged.{IsMergedBy, HasCycleBy};
 ghost use Rattle.own_judge.specs.Models.{Model as AnyModel, AreCounts, IsMistold, IsFirstFaultBy, SoundBy};
 ghost use Rattle.sound_run.specs.Orders.{HasOrder};
 
 use crate::judge::{Mistold, OwnJudge};
-use crate::shape::shape;
 use auditor::Fault;
 use event_log::{Entry, Event, OutOfMemory, Series};
-use log_merge::{EntryShape, Merging, merge_run};
-use own_object::{OwnHead, OwnKeeps, OwnObject};
+use log_merge::{EntryShape, Merging, ShapedRun, merge_run};
+use own_records::{OwnForm, OwnFormHead, OwnObject};
+use record_lines::RecordSink;
 use sound_run::Place;
 use std::alloc::Global;
 use std::marker::Model;
@@ -66,7 +68,7 @@ impl Model for OwnMergeJudge {
 impl OwnMergeJudge {
     /// Nothing was read yet, and so many steps of each log will be called right. It takes no memory.
     pub fn new(alloc: Global, right: Vec<u64>) -> OwnMergeJudge
-        ensures { result ≡ record { parts = no_own_parts; counts = right.items } }
+        ensures { result ≡ record { parts = only_head no_head; counts = right.items } }
     {
         OwnMergeJudge {
             alloc,
@@ -85,17 +87,17 @@ impl OwnMergeJudge {
 
     /// One order over all entries of the record that was read. What is said is said by every model that has these counts.
     pub fn into_merged(self) -> Result<Series<Place>, OwnMergeFault>
-        requires whole { IsWholeOwn self.parts.head self.parts }
-        requires fit { OwnRecordFits (kept_own self.parts.head self.parts) }
-        ensures mistold { (x : ℕ) → (result ≡ Err (OwnMergeFault.Mistold (record { object = x }))) ↔ IsMistold (kept_own self.parts.head self.parts) self.counts x }
+        requires whole { IsWholeWith self.parts.head self.parts }
+        requires fit { OwnRecordFits (received_own self.parts) }
+        ensures mistold { (x : ℕ) → (result ≡ Err (OwnMergeFault.Mistold (record { object = x }))) ↔ IsMistold (received_own self.parts) self.counts x }
         ensures unsound { (f : Fault) → result ≡ Err (OwnMergeFault.Unsound f) →
-            (model : AnyModel) → AreCounts model (kept_own self.parts.head self.parts) self.counts → IsFirstFaultBy model (kept_own self.parts.head self.parts) f }
-        ensures order { IfOk result (λ places. (model : AnyModel) → AreCounts model (kept_own self.parts.head self.parts) self.counts →
-            IsMergedBy model (kept_own self.parts.head self.parts) places) }
+            (model : AnyModel) → AreCounts model (received_own self.parts) self.counts → IsFirstFaultBy model (received_own self.parts) f }
+        ensures order { IfOk result (λ places. (model : AnyModel) → AreCounts model (received_own self.parts) self.counts →
+            IsMergedBy model (received_own self.parts) places) }
         ensures cycle { (c : List Place) → result ≡ Err (OwnMergeFault.Cycle c) →
-            (model : AnyModel) → AreCounts model (kept_own self.parts.head self.parts) self.counts → HasCycleBy model (kept_own self.parts.head self.parts) c }
-        ensures given { (model : AnyModel) → AreCounts model (kept_own self.parts.head self.parts) self.counts → SoundBy model (kept_own self.parts.head self.parts) →
-            HasOrder (kept_own self.parts.head self.parts).run → IfErr result (λ f. f ≡ OwnMergeFault.OutOfMemory) }
+            (model : AnyModel) → AreCounts model (received_own self.parts) self.counts → HasCycleBy model (received_own self.parts) c }
+        ensures given { (model : AnyModel) → AreCounts model (received_own self.parts) self.counts → SoundBy model (received_own self.parts) →
+            HasOrder (received_own self.parts).run → IfErr result (λ f. f ≡ OwnMergeFault.OutOfMemory) }
     {
         let OwnMergeJudge {
             alloc,
@@ -106,11 +108,11 @@ impl OwnMergeJudge {
         if let Err(mistold) = judge.verdict() {
             return Err(OwnMergeFault::Mistold(mistold));
         }
-        let shape = match judge.into_shape(transcripts) {
+        let run = match judge.into_run() {
             Err(fault) => return Err(OwnMergeFault::Unsound(fault)),
-            Ok(shape) => shape,
+            Ok(run) => ShapedRun::new(run, transcripts),
         };
-        let merging = merge_run(alloc, &shape)?;
+        let merging = merge_run(alloc, &run)?;
         match merging {
             Merging::Order(places) => Ok(places),
             Merging::Cycle(cycle) => Err(OwnMergeFault::Cycle(cycle)),
@@ -118,33 +120,47 @@ impl OwnMergeJudge {
     }
 }
 
-impl OwnKeeps for OwnMergeJudge {
-    ghost keeps = { λ m. m.parts };
+impl RecordSink<OwnForm> for OwnMergeJudge {
+    ghost received = { λ m. m.parts };
 
-    fn begin(&mut self, head: &OwnHead) -> Result<(), OutOfMemory> {
+    fn begin(&mut self, head: &OwnFormHead) -> Result<(), OutOfMemory> {
         self.judge.begin(head)
     }
 
-    fn begin_log(&mut self, count: u32) -> Result<(), OutOfMemory> {
+    fn begin_log(&mut self, count: u64) -> Result<(), OutOfMemory> {
         self.judge.begin_log(count)
     }
 
-    fn event(&mut self, event: &Event<OwnObject>) -> Result<(), OutOfMemory> {
-        self.judge.event(event)
+    fn event(&mut self, event: &mut Event<OwnObject>, text: &[u8]) -> Result<(), OutOfMemory> {
+        self.judge.event(event, text)
     }
 
     fn end_log(&mut self) -> Result<(), OutOfMemory> {
         self.judge.end_log()
     }
 
-    fn begin_transcript(&mut self, count: u32) -> Result<(), OutOfMemory> {
+    fn begin_transcript(&mut self, count: u64) -> Result<(), OutOfMemory> {
         self.judge.begin_transcript(count)
     }
 
-    fn entry(&mut self, entry: &Entry<OwnObject>) -> Result<(), OutOfMemory> {
+    #[inline(always)]
+    fn recognises(&mut self, object: u8, looks: u64, tail: &[u8]) -> Result<bool, OutOfMemory> {
         self.entries.reserve(1)?;
+        let recognised = self.judge.recognises(object, looks, tail)?;
+        if recognised {
+            self.entries.push_reserved(EntryShape {
+                object,
+                is_done: true,
+            });
+        }
+        Ok(recognised)
+    }
+
+    fn entry(&mut self, entry: &mut Entry<OwnObject>) -> Result<(), OutOfMemory> {
+        self.entries.reserve(1)?;
+        let shape = EntryShape::of(entry);
         self.judge.entry(entry)?;
-        self.entries.push_reserved(shape(entry));
+        self.entries.push_reserved(shape);
         Ok(())
     }
 

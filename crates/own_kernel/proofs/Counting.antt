@@ -7,7 +7,7 @@ use Rattle.kernel_object.specs.declared.call.KCall.{KCall}
 use Rattle.kernel_object.specs.declared.call.KParams.{KParams}
 use Rattle.kernel_object.specs.declared.object.KernelObject.{KernelObject}
 use Rattle.kernel_object.specs.Kernel.{kernel_opening, kernel_answer}
-use Rattle.own_object.specs.Own.{OwnStep}
+use Rattle.own_records.specs.Own.{OwnStep}
 use Rattle.own_kernel.specs.Counts.{AreRight, IsCountOf, Counted, none_counted, answers_of, LeadsTo, IsCounting}
 use Rattle.own_kernel.specs.KernelModel.{call_of, answers_last}
 

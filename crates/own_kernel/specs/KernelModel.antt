@@ -10,8 +10,8 @@ use Rattle.kernel_object.specs.declared.object.KernelObject.{KernelObject}
 use Rattle.kernel_object.specs.declared.kind.Kind.{Kind}
 use Rattle.kernel_object.specs.Kernel.{kernel_in_range, kernel_opening, kernel_answer}
 use Rattle.kernel_object.specs.KindWords.{kind_of}
-use Rattle.own_object.specs.Own.{OwnStep}
-use Rattle.own_object.specs.Said.{Said}
+use Rattle.own_records.specs.Own.{OwnStep}
+use Rattle.own_records.specs.Said.{Said}
 use Rattle.kernel_words.specs.declared.tables.field.Field.{Field}
 use Rattle.record_lines.specs.Reading.{◌>>=◌}
 use Rattle.kernel_words.specs.Row.{in_range, sample_at, values}

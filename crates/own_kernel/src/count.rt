@@ -8,7 +8,7 @@ ghost use Rattle.own_kernel.specs.Counts.{none_counted, answers_of, IsCountOf};
 use crate::KernelModel;
 use event_log::{Event, OutOfMemory, Past, Step};
 use kernel_object::KParams;
-use own_object::OwnObject;
+use own_records::OwnObject;
 use std::alloc::Global;
 use std::marker::Model;
 

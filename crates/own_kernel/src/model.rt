@@ -9,7 +9,7 @@ use crate::said::{call_of, says};
 use auditor::{ReferenceKernelObject, ReferenceObject};
 use event_log::{OutOfMemory, Step};
 use kernel_object::{KParams, KernelObject};
-use own_object::{OwnObject, OwnSettings};
+use own_records::{OwnObject, OwnSettings};
 use std::alloc::Global;
 use std::marker::Model;
 

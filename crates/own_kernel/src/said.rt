@@ -10,7 +10,7 @@ ghost use Rattle.kernel_words.specs.Rows.{call_row, call_samples};
 use arrayvec::ArrayVec;
 use kernel_object::{KCall, KReply};
 use kernel_words::{Field, Spelled};
-use own_object::Spoken;
+use own_records::Spoken;
 
 /// The sample of that word.
 #[tactic(auto, unfolding(kernel_words::specs::Row::sample_at))]

@@ -1,5 +1,14 @@
+pub mod Limits
+pub mod Said
+pub mod Own
+pub mod Settings
+pub mod Ranges
+pub mod Padding
+pub mod Writing
+pub mod LineText
+pub mod LineReading
+pub mod StepText
 pub mod RecordText
-pub mod RecordStates
-pub mod RecordParts
 pub mod RecordFaults
-pub mod KeptHead
+pub mod OwnForm
+pub mod OwnReceived

@@ -1,6 +1,6 @@
 -- Which line of a text is the first that no record continues.
 use Rattle.std.specs.Prelude.{ℕ, ◌≡◌, ◌<◌, List, Result, Ok, Err}
-use Rattle.own_object.specs.Ranges.{OwnRecord, OwnRecordFits}
+use Rattle.own_records.specs.Ranges.{OwnRecord, OwnRecordFits}
 use Rattle.record_lines.specs.FirstLines.{first_lines}
 use Rattle.record_lines.specs.declared.text.fault.LinesFault.{LinesFault}
 use Rattle.record_lines.specs.declared.text.fault.LinesFault.TheVariants.{OutOfMemory, Line}

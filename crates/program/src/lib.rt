@@ -15,5 +15,5 @@ pub use inputs::Inputs;
 pub use refusal::{Refusal, write_line};
 pub use shell::start;
 pub use system::System;
-pub use texts::{read_kept, read_record, read_schedule, read_scripts, read_settings};
+pub use texts::{read_record, read_record_into, read_schedule, read_scripts, read_settings};
 pub use words::words_given;

@@ -4,17 +4,18 @@ ghost use Rattle.std.specs.Prelude.{◌≡◌, ℕ, List, Some, None, length, If
 ghost use Rattle.event_log.specs.Stream.{counted};
 ghost use Rattle.program.specs.Inputs.{bytes_of, says_read_failed};
 ghost use Rattle.program.specs.Texts.{RefusesRecord, RefusesSchedule, RefusesScripts, RefusesSettings, SpellsRecordOf, SpellsScheduleOf, SpellsScriptsOf, SpellsSettingsOf};
-ghost use Rattle.records.specs.Keeping.{no_parts, kept_record, IsWholeWith};
+ghost use Rattle.record_lines.specs.Received.{only_head, IsWholeWith};
+ghost use Rattle.records.specs.KernelForm.{no_head, settings_in};
 ghost use Rattle.records.specs.RecordRanges.{RecordFits};
+ghost use Rattle.records.specs.RecordStates.{received_record};
 ghost use Rattle.scripts.specs.ScriptText.{ScriptsFit};
 
 use crate::inputs::Inputs;
 use crate::refusal::Refusal;
 use event_log::StreamFailed;
-use scripts::{
-    Keeps, ReadSettings, Record, Schedule, Scripts, Settings, SettingsFault, SourceFault,
-    read_keeping,
-};
+use record_lines::RecordSink;
+use records::{KernelForm, read_into};
+use scripts::{ReadSettings, Record, Schedule, Scripts, Settings, SettingsFault, SourceFault};
 use std::alloc::Global;
 
 /// The reader of the input of that name. No call on it has failed.
@@ -117,25 +118,26 @@ pub fn read_record<I: Inputs>(
     }
 }
 
-/// The settings of the record that the input of that name spells, and the keeper, which was handed over the rest of it.
-pub fn read_kept<I: Inputs, K: Keeps>(
+/// The settings of the record that the input of that name spells, and the sink, which was handed over the rest of it.
+pub fn read_record_into<I: Inputs, K: RecordSink<KernelForm>>(
     alloc: Global,
     inputs: &mut I,
     name: Option<&str>,
-    keeper: K,
+    sink: K,
 ) -> Result<(Settings, K), Refusal>
-    requires { K.keeps keeper ≡ no_parts }
-    ensures found { IfOk result (λ given. SpellsRecordOf (I.held inputs.old) (bytes_of name.entry) (kept_record given.0 (K.keeps given.1))) }
-    ensures whole { IfOk result (λ given. IsWholeWith given.0 (K.keeps given.1)) }
-    ensures fit { IfOk result (λ given. RecordFits (kept_record given.0 (K.keeps given.1))) }
+    requires { K.received sink ≡ only_head no_head }
+    ensures found { IfOk result (λ given. SpellsRecordOf (I.held inputs.old) (bytes_of name.entry) (received_record (K.received given.1))) }
+    ensures settings { IfOk result (λ given. given.0 ≡ settings_in (K.received given.1).head) }
+    ensures whole { IfOk result (λ given. IsWholeWith (K.received given.1).head (K.received given.1)) }
+    ensures fit { IfOk result (λ given. RecordFits (received_record (K.received given.1))) }
     ensures refused { IfErr result (RefusesRecord (I.held inputs.old) (bytes_of name.entry)) }
     ensures failures { I.failed inputs.new ≡ counted (says_read_failed result) (I.failed inputs.old) }
 {
     let mut input = opened(inputs, name)?;
-    let kept = read_keeping(alloc, &mut input, keeper);
+    let read = read_into(alloc, &mut input, sink);
     inputs.close(input);
-    match kept {
-        Ok(kept) => Ok(kept),
+    match read {
+        Ok(read) => Ok(read),
         Err(fault) => Err(Refusal::of_record(fault)),
     }
 }

@@ -17,3 +17,16 @@ pub mod Consuming
 pub mod Lengths
 pub mod LineLaws
 pub mod Parts
+pub mod FormSteps
+pub mod FormSinks
+pub mod FormMoves
+pub mod Recognised
+pub mod FormParts
+pub mod FormSpells
+pub mod FormRuns
+pub mod FormEnds
+pub mod FormTexts
+pub mod StepMarks
+pub mod StepLines
+pub mod StepTails
+pub mod TextRows

@@ -10,3 +10,11 @@ pub mod FirstLines
 pub mod LineParts
 pub mod Names
 pub mod Sources
+pub mod Received
+pub mod FormPlaces
+pub mod FormStates
+pub mod FormAgreed
+pub mod FormText
+pub mod FormLaws
+pub mod WholeFaults
+pub mod StepTexts

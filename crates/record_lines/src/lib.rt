@@ -1,9 +1,16 @@
 //! Lines of text and the words in them: read piece by piece from sources, and put to sinks.
 #![tactic(auto)]
 
+mod forms;
 mod streams;
 mod text;
 
+pub use forms::form::RecordForm;
+pub use forms::lists::RecordLists;
+pub use forms::place::Next;
+pub use forms::sink::RecordSink;
+pub use forms::state::RecordState;
+pub use forms::step_texts::{Ending, StepTexts, StepWords, with_row};
 pub use streams::buffer::Buffered;
 pub use streams::feeding::{SourceFault, TakesPieces, feed_all};
 pub use streams::front_reader::read_up_to;

@@ -1,17 +1,19 @@
 -- Behind the first line of a form only texts of that form go on.
-use Rattle.std.proofs.Common.{◌≡◌, ◌↔◌, ℕ, zero, suc, ◌==◌, Bool, true, false, if◌then◌else◌, List, [], ◌∷◌, ◌++◌, map, drop, get_or, arith, rules, refl, sym, ap, ◌∙◌, subst}
+use Rattle.std.proofs.Common.{◌≡◌, ◌↔◌, ℕ, zero, suc, ◌==◌, Bool, true, false, if◌then◌else◌, List, [], ◌∷◌, ◌++◌, map, drop, length, replicate, get_or, arith, rules, refl, sym, ap, ◌∙◌, subst}
 use Rattle.kernel_words.specs.declared.form.Form.{Form}
 use Rattle.kernel_words.specs.declared.form.Form.TheVariants.{One, Two}
-use Rattle.records.specs.declared.record.state.Next.TheVariants.{Cpus}
+use Rattle.std.proofs.lemmas.List.{length-replicate}
+use Rattle.kernel_object.specs.KernelTypes.{KernelEvent, KernelEntry}
 use Rattle.records.specs.FormFaults.{form_line, AgreesIn, IsBadLineIn}
 use Rattle.records.specs.RecordFaults.{text_in, Agrees, IsBadLine}
 use Rattle.record_lines.specs.FirstLines.{first_lines}
-use Rattle.records.specs.RecordRanges.{Record, RecordFitsIn}
-use Rattle.records.specs.RecordStates.{nothing_read}
+use Rattle.records.specs.RecordRanges.{Record, RecordFitsIn, LogFits, TranscriptFits}
+use Rattle.records.specs.Settings.{Settings}
 use Rattle.records.specs.RecordText.{record_text, record_lines}
 use Rattle.record_lines.specs.Words.{sentence, NoEnd}
 use Rattle.record_lines.proofs.FirstLines.{line_first, same_line, first_is}
-use Rattle.records.proofs.RecordEnds.{begins_at}
+use Rattle.record_lines.proofs.Parts.{all_same}
+use Rattle.records.proofs.KernelHeads.{some_settings}
 
 -- the first line of the first lines
 first_front : (k : ℕ) (bytes : List ℕ) → first_lines 1 (first_lines (suc k) bytes) ≡ first_lines 1 bytes
@@ -45,10 +47,27 @@ form_is f g r rest k e =
     let found = first_is (text_in g r) (form_line f) rest (line_plain f) (sym one) in
     same_form f g (same_line (form_line f) (form_line g) found.0 front.0 (line_plain f) (line_plain g) (sym found.1 ∙ front.1)).0
 
--- there is a record of each form
+-- there is a record of each form: of one CPU and one object, which did nothing
+some_record : (f : Form) → (r : Record) × RecordFitsIn f r
+some_record f =
+    let some = some_settings f in
+    let settings : Settings = some.0 in
+    let objects : ℕ = length settings.objects in (
+      record { settings = settings; run = record { logs = replicate objects []; transcripts = replicate settings.cpus [] } },
+      (
+        some.1,
+        record {
+          log_count = length-replicate {A = List KernelEvent} objects [];
+          logs = all_same (LogFits f settings.cpus) [] objects (omega arith, tt);
+          transcript_count = length-replicate {A = List KernelEntry} settings.cpus [];
+          transcripts = all_same (TranscriptFits f objects) [] settings.cpus (omega arith, tt);
+        },
+      ),
+    )
+
 agrees_in : (f : Form) (rest : List ℕ) (k : ℕ) → Agrees k (form_line f ++ 10 ∷ rest) → AgreesIn f k (form_line f ++ 10 ∷ rest)
 unfolding first_lines
-agrees_in f rest zero a = let some = begins_at Cpus (record nothing_read { awaits = Cpus; form = f }) refl in record { shown = some.shown; fit = some.fit; same = refl }
+agrees_in f rest zero a = let some = some_record f in record { shown = some.0; fit = some.1; same = refl }
 agrees_in f rest (suc k) a =
     let is = form_is f a.form a.shown rest k a.same in
     record { shown = a.shown; fit = subst (λ g. RecordFitsIn g a.shown) (sym is) a.fit; same = a.same ∙ ap (λ g. first_lines (suc k) (text_in g a.shown)) (sym is) }

@@ -122,3 +122,15 @@ more_new form (suc n) front few differ =
     let one = shown_new form front (omega (arith, few)) in
     let rest = more_new form n (front ++ one.0 ∷ []) (omega (arith, few, length-append front (one.0 ∷ []))) (differ_more front one.0 differ one.1.1) in
     (one.0 ∷ rest.0, ap suc rest.1, subst Differ (append_assoc front (one.0 ∷ []) rest.0) rest.2, (one.1.0, rest.3))
+
+-- ---- what a reader answers
+
+-- an object whose name is one of theirs
+pub new_taken : (form : Form) (os : List ObjectSettings) (ws : List (List ℕ)) (o : ObjectSettings) → object_at form ws ≡ Some o → list_any (λ e. bytes_eq e.name o.name) os ≡ true → None ≡ new_object_at form os ws
+unfolding new_object_at
+new_taken form os ws o e taken = rw (e, taken) refl
+
+-- an object whose name is none of theirs
+pub new_free : (form : Form) (os : List ObjectSettings) (ws : List (List ℕ)) (o : ObjectSettings) → object_at form ws ≡ Some o → list_any (λ e. bytes_eq e.name o.name) os ≡ false → Some o ≡ new_object_at form os ws
+unfolding new_object_at
+new_free form os ws o e free = rw (e, free) refl

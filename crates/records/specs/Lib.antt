@@ -3,9 +3,8 @@ pub mod Settings
 pub mod RecordText
 pub mod RecordRanges
 pub mod RecordReading
+pub mod KernelForm
 pub mod RecordStates
-pub mod Keeping
-pub mod RecordParts
 pub mod RecordPieces
 pub mod RecordFaults
 pub mod FormFaults

@@ -1,5 +1,5 @@
 -- Reading the lines of records and scripts from left to right. The laws in proofs/ tie this to the texts.
-use Rattle.std.specs.Prelude.{ℕ, List, [], ◌∷◌, Option, Some, None, if◌then◌else◌, codes, ◌-◌, ◌&&◌, nat_lt, position}
+use Rattle.std.specs.Prelude.{ℕ, List, [], ◌∷◌, Option, Some, None, if◌then◌else◌, codes, ◌&&◌, nat_lt, position}
 use Rattle.std.specs.Option.{option_map_or}
 use Rattle.std.specs.List.{list_any}
 use Rattle.std.specs.Str.{bytes_eq}

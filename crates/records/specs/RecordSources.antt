@@ -1,5 +1,5 @@
 -- The record that the rest of a source spells.
-use Rattle.std.specs.Prelude.{ℕ, ◌≡◌, ◌-◌, List, Option, Result, Ok, Err}
+use Rattle.std.specs.Prelude.{ℕ, ◌≡◌, List, Option, Result, Ok, Err}
 use Rattle.record_lines.specs.declared.text.fault.TextFault.{TextFault}
 use Rattle.record_lines.specs.declared.text.fault.TextFault.TheVariants.{OutOfMemory, ReadFailed, BadLine}
 use Rattle.records.specs.RecordFaults.{IsWhole, IsBadLine}

@@ -4,14 +4,13 @@ ghost use Rattle.std.specs.Prelude.{◌≡◌};
 ghost use Rattle.records.specs.RecordRanges.{RecordFits};
 
 pub mod before_quotas;
-pub mod entries;
 pub mod form_faults;
 pub mod head_lines;
-pub mod keeps;
+pub mod kernel_form;
+pub mod kernel_head;
 pub mod lines;
 pub mod lists;
-pub mod place;
-pub mod read_keeping;
+pub mod read_into;
 pub mod reader;
 pub mod run_ranges;
 pub mod source;

@@ -14,13 +14,13 @@ pub use kernel_words::{
 pub use limit_law::shows_limits;
 pub use record_lines::{
     Buffered, LineFault, LinesFault, LinesFault as RecordFault, LinesFault as ScriptsFault,
-    MOST_BYTES, SourceFault, TextFault, Words, WriteFailed, begin_line, end_line, is_name, key,
-    mark, name_in, number, number_of, put_number, put_word, put_words, read_all, read_up_to,
-    split_line, split_once, word, write_text,
+    MOST_BYTES, RecordSink, SourceFault, TextFault, Words, WriteFailed, begin_line, end_line,
+    is_name, key, mark, name_in, number, number_of, put_number, put_word, put_words, read_all,
+    read_up_to, split_line, split_once, word, write_text,
 };
 pub use records::{
-    Keeps, MOST_ENTRIES, ObjectSettings, Record, RecordReader, Settings, StepTexts,
-    bad_line_of_form, no_text_begins_another, put_done, read_keeping, read_text_keeping,
+    KernelForm, KernelHead, MOST_ENTRIES, ObjectSettings, Record, RecordReader, Settings,
+    StepTexts, bad_line_of_form, no_text_begins_another, put_done, read_into, read_text_into,
     replies_fit, sound_as_before, sound_runs_fit, write_record,
 };
 pub use schedule::{MOST_STEPS, Schedule, ScheduleFault};

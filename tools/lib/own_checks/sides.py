@@ -30,7 +30,7 @@ SWAPS = {
 
 def sources():
     """All of the crates that have a part of it, as they are now."""
-    folders = [ROOT / "crates" / name / "src" for name in ("judge", "own_object", "event_log")]
+    folders = [ROOT / "crates" / name / "src" for name in ("judge", "own_records", "event_log")]
     return "\n".join(path.read_text() for folder in folders for path in sorted(folder.glob("*.rt")))
 
 

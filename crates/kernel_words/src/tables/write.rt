@@ -14,7 +14,12 @@ pub fn put_value<T: Spelled, W: Sink>(text: &mut Buffered<W>, value: &T)
 {
     let spelling = value.spelling();
     put_word(text, spelling.word);
-    for field in spelling.fields.as_slice() {
-        put_number(text, u64::from(field.value));
+    match spelling.fields.as_slice() {
+        [] => {}
+        [field] => put_number(text, u64::from(field.value)),
+        [first, second, ..] => {
+            put_number(text, u64::from(first.value));
+            put_number(text, u64::from(second.value));
+        }
     }
 }

@@ -40,9 +40,7 @@ impl<'a, W: Sink> Buffered<'a, W> {
         if self.waiting.is_full() {
             self.flush();
         }
-        if !self.failed {
-            self.waiting.push(byte);
-        }
+        self.waiting.push(byte);
     }
 
     fn flush(&mut self)
@@ -55,16 +53,24 @@ impl<'a, W: Sink> Buffered<'a, W> {
         self.waiting.clear();
     }
 
-    /// Puts the bytes.
+    /// Puts the bytes one by one.
+    #[cold]
+    #[inline(never)]
+    fn put_each(&mut self, bytes: &[u8])
+        ensures { Puts W.Sink self.old self.new bytes.now }
+    {
+        for byte in bytes {
+            self.put_byte(*byte);
+        }
+    }
+
+    /// Puts the bytes. After a failed write they wait too, and are never written.
     #[inline(always)]
     pub fn put(&mut self, bytes: &[u8])
         ensures { Puts W.Sink self.old self.new bytes.now }
     {
-        if self.failed || self.waiting.try_extend_from_slice(bytes).is_ok() {
-            return;
-        }
-        for byte in bytes {
-            self.put_byte(*byte);
+        if self.waiting.try_extend_from_slice(bytes).is_err() {
+            self.put_each(bytes);
         }
     }
 

@@ -9,6 +9,7 @@ use event_log::Sink;
 use itoa::Buffer;
 
 /// Puts a word behind a space.
+#[inline(always)]
 pub fn put_word<W: Sink>(text: &mut Buffered<W>, word: &[u8])
     ensures { PutsWords W.Sink text.old text.new (word.now ∷ []) }
 {
@@ -25,13 +26,16 @@ pub fn put_words<W: Sink>(text: &mut Buffered<W>, line: &[u8])
 }
 
 /// Puts a number behind a space.
+#[inline]
 pub fn put_number<W: Sink>(text: &mut Buffered<W>, number: u64)
     ensures { PutsWords W.Sink text.old text.new (decimal number ∷ []) }
 {
-    put_word(text, Buffer::new().format(number).as_bytes());
+    text.put(b" ");
+    begin_line(text, number);
 }
 
 /// Puts the end of a line.
+#[inline(always)]
 pub fn end_line<W: Sink>(text: &mut Buffered<W>)
     ensures { Puts W.Sink text.old text.new (10 ∷ []) }
 {
@@ -39,8 +43,13 @@ pub fn end_line<W: Sink>(text: &mut Buffered<W>)
 }
 
 /// Puts a number at the front of a line.
+#[inline]
 pub fn begin_line<W: Sink>(text: &mut Buffered<W>, number: u64)
     ensures { Puts W.Sink text.old text.new (decimal number) }
 {
-    text.put(Buffer::new().format(number).as_bytes());
+    if number < 10 {
+        text.put(&[b'0' + number as u8]);
+    } else {
+        text.put(Buffer::new().format(number).as_bytes());
+    }
 }

@@ -12,11 +12,10 @@ ghost use Rattle.record_lines.specs.Sources.{IsReadOut};
 ghost use Rattle.records.specs.Runs.{opened_of};
 ghost use Rattle.records.specs.Unlimited.{WasSound};
 
-use crate::record::lists::Lists;
-use crate::{Record, read_keeping, sound_as_before};
+use crate::{Record, read_into, sound_as_before};
 use event_log::{SeqObject, Source};
 use kernel_object::KernelObject;
-use record_lines::TextFault;
+use record_lines::{RecordLists, TextFault};
 use std::alloc::Global;
 
 impl Record {
@@ -35,8 +34,8 @@ impl Record {
             IfOk result (λ given. Sound ⟦<KernelObject as SeqObject>⟧ (opened_of given.settings) given.run) }
     {
         sound_as_before();
-        match read_keeping(alloc, source, Lists::new(alloc)) {
-            Ok((settings, lists)) => Ok(lists.into_record(settings)),
+        match read_into(alloc, source, RecordLists::new(alloc)) {
+            Ok((settings, lists)) => Ok(Record::from_lists(settings, lists)),
             Err(fault) => Err(fault),
         }
     }

@@ -1,8 +1,8 @@
-use Rattle.std.proofs.Common.{◌≡◌, subst}
-use Rattle.records.specs.Keeping.{kept_record}
+use Rattle.std.proofs.Common.{subst}
 use Rattle.records.specs.RecordRanges.{Record}
+use Rattle.records.specs.RecordStates.{received_record}
 use Rattle.auditor.specs.Audits.{IsVerdict}
-use Rattle.auditor.proofs.TextFaults.{text_named, text_judged, text_read_out, verdict_on_kept}
+use Rattle.auditor.proofs.TextFaults.{text_named, text_judged, text_read_out}
 use Rattle.auditor.proofs.texts.audit_text.Goals as goal
 
 pub returns-in_err-read-clause-fault : goal.returns-in_err-read-clause-fault
@@ -15,17 +15,15 @@ pub returns-in_err-read-clause-to_end : goal.returns-in_err-read-clause-to_end
 returns-in_err-read-clause-to_end g c = λ no_memory no_failure. text_read_out _ _ c.in_err-read.field-0.0 c.from_residual.result c.from_residual.ensures.1 c.in_err-read.ensures.to_end no_memory no_failure
 
 pub returns-clause-verdict : goal.returns-clause-verdict
-returns-clause-verdict g c = let read = c.in_ok-read.read in
-    record {
-      bytes = c.in_ok-read.ensures.found.0;
-      all = c.in_ok-read.ensures.found.1;
-      of = kept_record read.0 read.1;
-      spelled = c.in_ok-read.ensures.found.2;
-      is = verdict_on_kept read.0 read.1 c.verdict.result c.in_ok-read.ensures.whole c.verdict.ensures.sound c.verdict.ensures.fault;
-    }
+returns-clause-verdict g c = record {
+  bytes = c.in_ok-read.ensures.found.0;
+  all = c.in_ok-read.ensures.found.1;
+  of = received_record c.in_ok-read.read.1;
+  spelled = c.in_ok-read.ensures.found.2;
+  is = record { sound = c.verdict.ensures.sound; fault = c.verdict.ensures.fault };
+}
 
 pub returns-clause-only : goal.returns-clause-only
 returns-clause-only g c = λ form r fits e.
-    let read = c.in_ok-read.read in
-    let same : kept_record read.0 read.1 ≡ r = c.in_ok-read.ensures.only form r fits e in
-    subst (λ (s : Record). IsVerdict s c.verdict.result) same (verdict_on_kept read.0 read.1 c.verdict.result c.in_ok-read.ensures.whole c.verdict.ensures.sound c.verdict.ensures.fault)
+    let is : IsVerdict (received_record c.in_ok-read.read.1) c.verdict.result = record { sound = c.verdict.ensures.sound; fault = c.verdict.ensures.fault } in
+    subst (λ (s : Record). IsVerdict s c.verdict.result) (c.in_ok-read.ensures.only form r fits e) is

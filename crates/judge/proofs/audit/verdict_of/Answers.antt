@@ -1,8 +1,7 @@
-use Rattle.std.proofs.Common.{◌≡◌, Ok, Err, sym, subst}
+use Rattle.std.proofs.Common.{◌≡◌, Ok, Err, subst}
 use Rattle.record_lines.specs.declared.text.fault.LinesFault.TheVariants.{OutOfMemory, Line}
-use Rattle.records.specs.Keeping.{kept_record}
-use Rattle.records.specs.RecordFaults.{IsWhole, NamesBadLine}
-use Rattle.records.specs.Settings.{Settings}
+use Rattle.records.specs.RecordFaults.{NamesBadLine}
+use Rattle.records.specs.RecordStates.{received_record}
 use Rattle.judge.proofs.audit.verdict_of.Goals as goal
 
 pub returns-in-Err-OutOfMemory : goal.returns-in-Err-OutOfMemory
@@ -14,10 +13,8 @@ returns-in-Err-Line c =
     record { answer = Err (Line c.in-Err-Line.line); right = subst (NamesBadLine c.args.text.now) is c.in-Err-Line.ensures.fault; same = cc }
 
 pub returns-in-Ok : goal.returns-in-Ok
-returns-in-Ok c = let p = c.in-Ok.kept.1 in
-    let read = subst (λ (s : Settings). IsWhole c.args.text.now (kept_record s p)) (sym c.in-Ok.ensures.whole.told) c.in-Ok.ensures.found in
-    record {
-      answer = Ok c.verdict.result;
-      right = (kept_record p.settings p, read, record { sound = c.verdict.ensures.sound; fault = c.verdict.ensures.fault });
-      same = c.of_verdict.ensures;
-    }
+returns-in-Ok c = record {
+  answer = Ok c.verdict.result;
+  right = (received_record c.in-Ok.read.1, c.in-Ok.ensures.found, record { sound = c.verdict.ensures.sound; fault = c.verdict.ensures.fault });
+  same = c.of_verdict.ensures;
+}

@@ -1,7 +1,6 @@
-use Rattle.std.proofs.Common.{◌≡◌, refl, sym, subst, length, ◌∙◌, ap}
-use Rattle.records.specs.Keeping.{kept_record}
-use Rattle.records.specs.RecordFaults.{IsWhole, NamesBadLine}
-use Rattle.records.specs.Settings.{Settings}
+use Rattle.std.proofs.Common.{◌≡◌, refl, subst, length, ◌∙◌, ap}
+use Rattle.records.specs.RecordFaults.{NamesBadLine}
+use Rattle.records.specs.RecordStates.{received_record}
 use Rattle.record_lines.specs.declared.text.fault.LinesFault.TheVariants.{Line}
 use Rattle.judge.specs.Orders.{order, cycle, unsound, bad_line, told_places, room_with}
 use Rattle.judge.proofs.merge.order_of.Goals as goal
@@ -16,31 +15,28 @@ returns-in-Err-Line c =
     }
 
 pub returns-in-Ok-into_merged : goal.returns-in-Ok-into_merged
-returns-in-Ok-into_merged c = let p = c.in-Ok.kept.1 in
-    let read = subst (λ (s : Settings). IsWhole c.args.text.now (kept_record s p)) (sym c.in-Ok.ensures.whole.told) c.in-Ok.ensures.found in
+returns-in-Ok-into_merged c = let p = c.in-Ok.read.1 in
     let same_places : c.as_slice.result.now ≡ c.in-Ok-into_merged.ordered.1.places = c.as_slice.ensures in record {
       outcome = order c.in-Ok-into_merged.ordered.1.places;
-      right = (kept_record p.settings p, read, c.in-Ok-into_merged.ensures.order);
+      right = (received_record p, c.in-Ok.ensures.found, c.in-Ok-into_merged.ensures.order);
       same = c.tell_turns.ensures.told ∙ ap (λ q. told_places 0 (length c.args.room.now) q) same_places;
       room = c.tell_turns.ensures.room ∙ ap (λ q. room_with q c.args.room.now) same_places;
     }
 
 pub returns-in-Err-Cycle : goal.returns-in-Err-Cycle
-returns-in-Err-Cycle c = let p = c.in-Ok.kept.1 in
-    let read = subst (λ (s : Settings). IsWhole c.args.text.now (kept_record s p)) (sym c.in-Ok.ensures.whole.told) c.in-Ok.ensures.found in
+returns-in-Err-Cycle c = let p = c.in-Ok.read.1 in
     let same_places : c.as_slice-in-Err-Cycle.result.now ≡ c.in-Err-Cycle.cycle = c.as_slice-in-Err-Cycle.ensures in record {
       outcome = cycle c.in-Err-Cycle.cycle;
-      right = (kept_record p.settings p, read, c.in-Err-Cycle.ensures.cycle c.in-Err-Cycle.cycle cc);
+      right = (received_record p, c.in-Ok.ensures.found, c.in-Err-Cycle.ensures.cycle c.in-Err-Cycle.cycle cc);
       same = c.tell_turns-in-Err-Cycle.ensures.told ∙ ap (λ q. told_places 7 (length c.args.room.now) q) same_places;
       room = c.tell_turns-in-Err-Cycle.ensures.room ∙ ap (λ q. room_with q c.args.room.now) same_places;
     }
 
 pub returns-in-Err-Unsound : goal.returns-in-Err-Unsound
-returns-in-Err-Unsound c = let p = c.in-Ok.kept.1 in
-    let read = subst (λ (s : Settings). IsWhole c.args.text.now (kept_record s p)) (sym c.in-Ok.ensures.whole.told) c.in-Ok.ensures.found in
+returns-in-Err-Unsound c = let p = c.in-Ok.read.1 in
     record {
       outcome = unsound c.in-Err-Unsound.fault;
-      right = (kept_record p.settings p, read, c.in-Err-Unsound.ensures.unsound c.in-Err-Unsound.fault cc);
+      right = (received_record p, c.in-Ok.ensures.found, c.in-Err-Unsound.ensures.unsound c.in-Err-Unsound.fault cc);
       same = c.of_fault.ensures;
       room = refl;
     }

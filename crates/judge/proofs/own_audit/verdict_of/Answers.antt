@@ -1,8 +1,7 @@
 use Rattle.std.proofs.Common.{◌≡◌, ℕ, List, sym, subst, ◌∙◌}
 use Rattle.own_judge.specs.Models.{IsMistold, IsVerdictByCounts}
-use Rattle.own_object.specs.Keeping.{kept_own}
-use Rattle.own_object.specs.Settings.{OwnHead}
-use Rattle.own_records.specs.RecordFaults.{IsOwnText, NamesBadOwnLine}
+use Rattle.own_records.specs.OwnReceived.{received_own}
+use Rattle.own_records.specs.RecordFaults.{NamesBadOwnLine}
 use Rattle.record_lines.specs.declared.text.fault.LinesFault.TheVariants.{Line}
 use Rattle.judge.specs.OwnTold.{judged, mistold, bad_line, AreFitting}
 use Rattle.own_judge.proofs.MistoldCounts.{verdict_isnt, same_counts}
@@ -15,23 +14,21 @@ returns-in-Err-Line c =
 
 pub returns-in-Ok-verdict : goal.returns-in-Ok-verdict
 returns-in-Ok-verdict c =
-    let j = c.in-Ok-read_own.kept.1 in let p = j.parts in let r = kept_own p.head p in let v = c.in-Ok-verdict.verdict in
-    let read = subst (λ (h : OwnHead). IsOwnText c.args.text.now (kept_own h p)) (sym c.in-Ok-read_own.ensures.whole.told) c.in-Ok-read_own.ensures.found in
+    let j = c.in-Ok-read_own.read.1 in let r = received_own j.parts in let v = c.in-Ok-verdict.verdict in
     let same : j.counts ≡ c.args.right.now = sym c.right.ensures ∙ same_counts c.right.result.now c.args.right.now c.ne.result c.ne.ensures c.if-ne.false in
     let fitting : AreFitting r j.counts = λ x m. verdict_isnt v (record { object = x }) ((c.in-Ok-verdict.ensures.mistold x).1 m) in
     record {
       outcome = judged v;
-      right = (r, read, subst (λ (n : List ℕ). AreFitting r n) same fitting, subst (λ (n : List ℕ). IsVerdictByCounts r n v) same c.in-Ok-verdict.ensures.verdict);
+      right = (r, c.in-Ok-read_own.ensures.found, subst (λ (n : List ℕ). AreFitting r n) same fitting, subst (λ (n : List ℕ). IsVerdictByCounts r n v) same c.in-Ok-verdict.ensures.verdict);
       same = c.of_verdict.ensures;
     }
 
 pub returns : goal.returns
 returns c =
-    let j = c.in-Ok-read_own.kept.1 in let p = j.parts in let r = kept_own p.head p in let x = c.in-Err.mistold.object in
-    let read = subst (λ (h : OwnHead). IsOwnText c.args.text.now (kept_own h p)) (sym c.in-Ok-read_own.ensures.whole.told) c.in-Ok-read_own.ensures.found in
+    let j = c.in-Ok-read_own.read.1 in let r = received_own j.parts in let x = c.in-Err.mistold.object in
     let same : j.counts ≡ c.args.right.now = sym c.right.ensures ∙ same_counts c.right.result.now c.args.right.now c.ne.result c.ne.ensures c.if-ne.false in
     record {
       outcome = mistold x;
-      right = (r, read, subst (λ (n : List ℕ). IsMistold r n x) same ((c.in-Err.ensures.mistold x).0 cc));
+      right = (r, c.in-Ok-read_own.ensures.found, subst (λ (n : List ℕ). IsMistold r n x) same ((c.in-Err.ensures.mistold x).0 cc));
       same = c.new-in-Err.ensures;
     }

@@ -1,5 +1,5 @@
 use Rattle.std.proofs.Common.{◌≡◌, ◌++◌, suc, ◌+◌, map, take, drop, ◌∙◌, ap, subst, arith, slice_index_or, slice_set}
-use Rattle.own_object.specs.Own.{OwnStep}
+use Rattle.own_records.specs.Own.{OwnStep}
 use Rattle.judge.proofs.Fronts.{one_more}
 use Rattle.judge.specs.OwnLines.{step_told}
 use Rattle.judge.proofs.own_told.put_steps.Goals as goal

@@ -1,11 +1,16 @@
-use Rattle.std.proofs.Common.{subst}
-use Rattle.auditor.specs.VerdictText.{CanBeTold}
+use Rattle.std.proofs.Common.{◌∙◌, sym, ap, subst}
+use Rattle.auditor.specs.VerdictText.{CanBeTold, verdict_text}
+use Rattle.records.specs.RecordStates.{received_record}
 use Rattle.records.specs.Settings.{Settings}
-use Rattle.mc2_command.proofs.Answered.{audited}
 use Rattle.mc2_command.proofs.answers.audit_answer.Goals as goal
 
 pub verdict_line-requires : goal.verdict_line-requires
-verdict_line-requires g c = subst (λ (s : Settings). CanBeTold s c.verdict-verdict.result) c.in_ok-kept.ensures.whole.told c.verdict-verdict.ensures.told
+verdict_line-requires g c = subst (λ (s : Settings). CanBeTold s c.verdict-verdict.result) (sym c.in_ok-read.ensures.settings) c.verdict-verdict.ensures.told
 
 pub returns-clause-answer : goal.returns-clause-answer
-returns-clause-answer g c = audited _ _ c.in_ok-kept.kept.0 c.in_ok-kept.kept.1 c.verdict-verdict.result _ c.in_ok-kept.ensures.whole c.in_ok-kept.ensures.found c.verdict-verdict.ensures.sound c.verdict-verdict.ensures.fault c.in_ok-line.ensures
+returns-clause-answer g c = record {
+  of = received_record c.in_ok-read.read.1;
+  read = c.in_ok-read.ensures.found;
+  judged = record { sound = c.verdict-verdict.ensures.sound; fault = c.verdict-verdict.ensures.fault };
+  is = c.in_ok-line.ensures ∙ ap (λ (s : Settings). verdict_text s c.verdict-verdict.result) c.in_ok-read.ensures.settings;
+}

@@ -1,5 +1,5 @@
 use Rattle.std.proofs.Common.{◌≡◌, ◌≤◌, length, map, take, vec_capacity}
-use Rattle.own_object.specs.Settings.{OwnSettings}
+use Rattle.own_records.specs.Settings.{OwnSettings}
 use Rattle.own_judge.proofs.judge.limits_of.Given as goal
 
 abbrev pub invariant-loop-object : goal.invariant-loop-object

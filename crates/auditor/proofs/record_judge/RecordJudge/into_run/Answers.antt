@@ -1,45 +1,52 @@
-use Rattle.std.proofs.Common.{List, Result, Ok, Err, sym, subst}
+use Rattle.std.proofs.Common.{get_or, List, Result, Ok, Err, sym, subst}
 use Rattle.std.specs.Prelude.{IfOk, IfErr}
-use Rattle.sound_run.specs.Sound.{Opened, Sound}
+use Rattle.sound_run.specs.Sound.{Sound}
 use Rattle.kernel_object.specs.declared.call.KParams.{KParams}
 use Rattle.kernel_object.specs.contracts.object.KernelObjectSeqObject.TheImpl.{ghosts as kernel}
 use Rattle.kernel_object.specs.KernelTypes.{KernelRun}
-use Rattle.records.specs.Keeping.{Parts, kept_record, IsWholeWith}
+use Rattle.kernel_object.specs.declared.object.KernelObject.{KernelObject}
+use Rattle.record_lines.specs.Received.{IsWholeWith}
+use Rattle.records.specs.KernelForm.{no_head, settings_in}
 use Rattle.records.specs.RecordRanges.{RecordFits}
+use Rattle.records.specs.RecordStates.{KernelReceived, received_record}
 use Rattle.records.specs.Runs.{opened_of}
 use Rattle.auditor.specs.declared.fault.Fault.{Fault}
-use Rattle.auditor.specs.Faults.{IsFirstFault}
-use Rattle.auditor.specs.Fed.{run_of}
+use Rattle.auditor.specs.ByModels.{SoundBy}
+use Rattle.auditor.specs.Faults.{IsFirstFault, IsFirstFaultBy}
+use Rattle.auditor.specs.ReceivedRun.{run_of}
 use Rattle.auditor.specs.VerdictText.{IsNamed}
 use Rattle.auditor.proofs.FaultNumbers.{first_is_named}
-use Rattle.auditor.proofs.FedWith.{whole_run}
+use Rattle.auditor.proofs.ReceivedParts.{whole_run}
+use Rattle.auditor.specs.StepModels.{object_model}
+use Rattle.auditor.specs.Terms.{Terms}
+use Rattle.auditor.proofs.ObjectModels.{sound_from, if_ok}
 use Rattle.auditor.proofs.record_judge.RecordJudge.into_run.Goals as goal
 
 pub into_run-requires-clause-run : goal.into_run-requires-clause-run
 into_run-requires-clause-run g c =
     let i = c.self.inside in
     let back = sym c.self.view_is in
-    (whole_run i.cpus i.objects.items i.begun i.opened.items i.log i.judged c.self.invariant (subst (λ (p : Parts). IsWholeWith p.settings p) back c.requires.whole) (subst (λ (p : Parts). RecordFits (kept_record p.settings p)) back c.requires.fit)).3
+    (whole_run (get_or i.head.items 0 no_head) i.begun i.opened.items i.log i.judged c.self.invariant (subst (λ (p : KernelReceived). IsWholeWith p.head p) back c.requires.whole) (subst (λ (p : KernelReceived). RecordFits (received_record p)) back c.requires.fit)).3
 
 pub returns-clause-sound : goal.returns-clause-sound
 returns-clause-sound g c =
     let i = c.self.inside in
     let back = sym c.self.view_is in
-    let same = (whole_run i.cpus i.objects.items i.begun i.opened.items i.log i.judged c.self.invariant (subst (λ (p : Parts). IsWholeWith p.settings p) back c.requires.whole) (subst (λ (p : Parts). RecordFits (kept_record p.settings p)) back c.requires.fit)).4 in
-    subst (λ (p : Parts). IfOk c.into_run.result (λ r. Sound kernel (opened_of p.settings) (kept_record p.settings p).run)) c.self.view_is
-    (subst (λ (os : List (Opened KParams)). IfOk c.into_run.result (λ r. Sound kernel os (run_of i.judged))) same c.into_run.ensures.sound)
+    let same = (whole_run (get_or i.head.items 0 no_head) i.begun i.opened.items i.log i.judged c.self.invariant (subst (λ (p : KernelReceived). IsWholeWith p.head p) back c.requires.whole) (subst (λ (p : KernelReceived). RecordFits (received_record p)) back c.requires.fit)).4 in
+    subst (λ (p : KernelReceived). IfOk c.into_run.result (λ r. Sound kernel (opened_of (settings_in p.head)) (received_record p).run)) c.self.view_is
+    (if_ok c.into_run.result (sound_from kernel (opened_of (settings_in (get_or i.head.items 0 no_head))) (run_of i.judged)) (subst (λ (os : List (Terms KParams KernelObject)). IfOk c.into_run.result (λ r. SoundBy (object_model kernel) os (run_of i.judged))) same c.into_run.ensures.sound))
 
 pub returns-clause-fault : goal.returns-clause-fault
 returns-clause-fault g c =
     let i = c.self.inside in
     let back = sym c.self.view_is in
-    let same = (whole_run i.cpus i.objects.items i.begun i.opened.items i.log i.judged c.self.invariant (subst (λ (p : Parts). IsWholeWith p.settings p) back c.requires.whole) (subst (λ (p : Parts). RecordFits (kept_record p.settings p)) back c.requires.fit)).4 in
-    subst (λ (p : Parts). IfErr c.into_run.result (IsFirstFault kernel (opened_of p.settings) (kept_record p.settings p).run)) c.self.view_is
-    (subst (λ (os : List (Opened KParams)). IfErr c.into_run.result (IsFirstFault kernel os (run_of i.judged))) same c.into_run.ensures.fault)
+    let same = (whole_run (get_or i.head.items 0 no_head) i.begun i.opened.items i.log i.judged c.self.invariant (subst (λ (p : KernelReceived). IsWholeWith p.head p) back c.requires.whole) (subst (λ (p : KernelReceived). RecordFits (received_record p)) back c.requires.fit)).4 in
+    subst (λ (p : KernelReceived). IfErr c.into_run.result (IsFirstFault kernel (opened_of (settings_in p.head)) (received_record p).run)) c.self.view_is
+    (subst (λ (os : List (Terms KParams KernelObject)). IfErr c.into_run.result (IsFirstFaultBy (object_model kernel) os (run_of i.judged))) same c.into_run.ensures.fault)
 
-named : (p : Parts) → RecordFits (kept_record p.settings p) → (r : Result KernelRun Fault) → IfErr r (IsFirstFault kernel (opened_of p.settings) (kept_record p.settings p).run) → IfErr r (IsNamed p.settings)
+named : (p : KernelReceived) → RecordFits (received_record p) → (r : Result KernelRun Fault) → IfErr r (IsFirstFault kernel (opened_of (settings_in p.head)) (received_record p).run) → IfErr r (IsNamed (settings_in p.head))
 named p fit (Ok run) h = tt
-named p fit (Err f) h = first_is_named (kept_record p.settings p) fit f h
+named p fit (Err f) h = first_is_named (received_record p) fit f h
 
 pub returns-clause-told : goal.returns-clause-told
 returns-clause-told g c = named c.args.self c.requires.fit c.into_run.result (returns-clause-fault g c)

@@ -1,76 +1,46 @@
-use Rattle.std.proofs.Common.{◌≡◌, ◌<◌, ◌≤◌, length, sym, ap, ◌∙◌, subst, arith}
-use Rattle.std.proofs.lemmas.List.{length-map}
-use Rattle.own_object.specs.Keeping.{kept_own, IsWholeOwn}
-use Rattle.own_object.specs.Ranges.{OwnRecordFits}
-use Rattle.own_object.specs.Settings.{OwnSettings}
-use Rattle.own_judge.specs.Judging.{Counted}
-use Rattle.own_judge.specs.Models.{IsMistold, IsVerdictByCounts}
-use Rattle.own_judge.proofs.WholeOwn.{whole_logs, whole_cpus, whole_run, verdict_by, mistold_log, mistold_more, mistold_none, mistold_exactly, none_exactly}
+use Rattle.std.proofs.Common.{get_or, arith}
+use Rattle.own_records.specs.OwnForm.{no_head}
+use Rattle.own_judge.proofs.WholeOwn.{whole_logs, whole_cpus, whole_run, verdict_by, log_exactly, more_exactly, none_exactly}
 use Rattle.own_judge.proofs.judge.OwnJudge.verdict.Goals as goal
 
 pub returns-in-Some-clause-mistold : goal.returns-in-Some-clause-mistold
-returns-in-Some-clause-mistold c = λ x.
+returns-in-Some-clause-mistold c =
     let i = c.self.inside in
-    let whole = subst (λ (v : Counted). IsWholeOwn v.parts.head v.parts) (sym c.self.view_is) c.requires.whole in
-    let fit = subst (λ (v : Counted). OwnRecordFits (kept_own v.parts.head v.parts)) (sym c.self.view_is) c.requires.fit in
-    let here = mistold_log i.heard i.right.items i.limits.items i.log i.left i.without i.judged c.self.invariant whole fit c.in-Some.object c.in-Some.is in
-    let at = mistold_exactly i.heard i.right.items i.limits.items i.log i.left i.without i.judged c.self.invariant whole fit c.in-Some.object x here in
-    ((λ e. subst (λ (v : Counted). IsMistold (kept_own v.parts.head v.parts) v.counts x) c.self.view_is (at.0 e)), (λ h. at.1 (subst (λ (v : Counted). IsMistold (kept_own v.parts.head v.parts) v.counts x) (sym c.self.view_is) h)))
+    log_exactly (get_or i.head.items 0 no_head) i.begun i.right.items i.limits.items i.log i.left i.without i.judged c.self.invariant c.args.self.now c.self.view_is c.requires.whole c.requires.fit c.in-Some.object c.in-Some.is
 
 pub returns-then-len-clause-mistold : goal.returns-then-len-clause-mistold
-returns-then-len-clause-mistold c = λ x.
+returns-then-len-clause-mistold c =
     let i = c.self.inside in
-    let whole = subst (λ (v : Counted). IsWholeOwn v.parts.head v.parts) (sym c.self.view_is) c.requires.whole in
-    let fit = subst (λ (v : Counted). OwnRecordFits (kept_own v.parts.head v.parts)) (sym c.self.view_is) c.requires.fit in
-    let long : length i.limits.items ≡ length i.heard.head.objects = ap length c.self.invariant.limits ∙ length-map i.heard.head.objects (λ (o : OwnSettings). o.events) in
     let a = c.len.ensures in
     let b = c.len-2.ensures in
+    let d = c.len-then-len.ensures in
     let lt = c.if-len.true in
-    let more : length i.heard.head.objects < length i.right.items = omega (arith, a, b, lt, long) in
-    let first = mistold_more i.heard i.right.items i.limits.items i.log i.left i.without i.judged c.self.invariant whole fit c.in_default.is more in
-    let here : IsMistold (kept_own i.heard.head i.heard) i.right.items c.len-then-len.result = subst (IsMistold (kept_own i.heard.head i.heard) i.right.items) (let d = c.len-then-len.ensures in omega (arith, d, long)) first in
-    let at = mistold_exactly i.heard i.right.items i.limits.items i.log i.left i.without i.judged c.self.invariant whole fit c.len-then-len.result x here in
-    ((λ e. subst (λ (v : Counted). IsMistold (kept_own v.parts.head v.parts) v.counts x) c.self.view_is (at.0 e)), (λ h. at.1 (subst (λ (v : Counted). IsMistold (kept_own v.parts.head v.parts) v.counts x) (sym c.self.view_is) h)))
+    more_exactly (get_or i.head.items 0 no_head) i.begun i.right.items i.limits.items i.log i.left i.without i.judged c.self.invariant c.args.self.now c.self.view_is c.requires.whole c.requires.fit c.in_default.is c.len-then-len.result (omega (arith, d)) (omega (arith, a, b, d, lt))
 
 pub verdict-requires-clause-logs : goal.verdict-requires-clause-logs
 verdict-requires-clause-logs c =
     let i = c.self.inside in
-    let whole = subst (λ (v : Counted). IsWholeOwn v.parts.head v.parts) (sym c.self.view_is) c.requires.whole in
-    let fit = subst (λ (v : Counted). OwnRecordFits (kept_own v.parts.head v.parts)) (sym c.self.view_is) c.requires.fit in
-    whole_logs i.heard i.right.items i.limits.items i.log i.left i.without i.judged c.self.invariant whole fit
+    whole_logs (get_or i.head.items 0 no_head) i.begun i.right.items i.limits.items i.log i.left i.without i.judged c.self.invariant c.args.self.now c.self.view_is c.requires.whole c.requires.fit
 
 pub verdict-requires-clause-transcripts : goal.verdict-requires-clause-transcripts
 verdict-requires-clause-transcripts c =
     let i = c.self.inside in
-    let whole = subst (λ (v : Counted). IsWholeOwn v.parts.head v.parts) (sym c.self.view_is) c.requires.whole in
-    let fit = subst (λ (v : Counted). OwnRecordFits (kept_own v.parts.head v.parts)) (sym c.self.view_is) c.requires.fit in
-    whole_cpus i.heard i.right.items i.limits.items i.log i.left i.without i.judged c.self.invariant whole fit
+    whole_cpus (get_or i.head.items 0 no_head) i.begun i.right.items i.limits.items i.log i.left i.without i.judged c.self.invariant c.args.self.now c.self.view_is c.requires.whole c.requires.fit
 
 pub verdict-requires-clause-run : goal.verdict-requires-clause-run
 verdict-requires-clause-run c =
     let i = c.self.inside in
-    let whole = subst (λ (v : Counted). IsWholeOwn v.parts.head v.parts) (sym c.self.view_is) c.requires.whole in
-    let fit = subst (λ (v : Counted). OwnRecordFits (kept_own v.parts.head v.parts)) (sym c.self.view_is) c.requires.fit in
-    whole_run i.heard i.right.items i.limits.items i.log i.left i.without i.judged c.self.invariant whole fit
+    whole_run (get_or i.head.items 0 no_head) i.begun i.right.items i.limits.items i.log i.left i.without i.judged c.self.invariant c.args.self.now c.self.view_is c.requires.whole c.requires.fit
 
 pub returns-clause-mistold : goal.returns-clause-mistold
-returns-clause-mistold c = λ x.
+returns-clause-mistold c =
     let i = c.self.inside in
-    let whole = subst (λ (v : Counted). IsWholeOwn v.parts.head v.parts) (sym c.self.view_is) c.requires.whole in
-    let fit = subst (λ (v : Counted). OwnRecordFits (kept_own v.parts.head v.parts)) (sym c.self.view_is) c.requires.fit in
-    let long : length i.limits.items ≡ length i.heard.head.objects = ap length c.self.invariant.limits ∙ length-map i.heard.head.objects (λ (o : OwnSettings). o.events) in
     let a = c.len.ensures in
     let b = c.len-2.ensures in
     let le = c.if-len.false in
-    let few : length i.right.items ≤ length i.heard.head.objects = omega (arith, a, b, le, long) in
-    let none = mistold_none i.heard i.right.items i.limits.items i.log i.left i.without i.judged c.self.invariant whole fit c.in_default.is few in
-    let at = none_exactly i.heard i.right.items i.limits.items i.log i.left i.without i.judged c.self.invariant whole fit c.verdict.result x none in
-    ((λ e. subst (λ (v : Counted). IsMistold (kept_own v.parts.head v.parts) v.counts x) c.self.view_is (at.0 e)), (λ h. at.1 (subst (λ (v : Counted). IsMistold (kept_own v.parts.head v.parts) v.counts x) (sym c.self.view_is) h)))
+    none_exactly (get_or i.head.items 0 no_head) i.begun i.right.items i.limits.items i.log i.left i.without i.judged c.self.invariant c.args.self.now c.self.view_is c.requires.whole c.requires.fit c.in_default.is (omega (arith, a, b, le)) c.verdict.result
 
 pub returns-clause-verdict : goal.returns-clause-verdict
 returns-clause-verdict c =
     let i = c.self.inside in
-    let whole = subst (λ (v : Counted). IsWholeOwn v.parts.head v.parts) (sym c.self.view_is) c.requires.whole in
-    let fit = subst (λ (v : Counted). OwnRecordFits (kept_own v.parts.head v.parts)) (sym c.self.view_is) c.requires.fit in
-    subst (λ (v : Counted). IsVerdictByCounts (kept_own v.parts.head v.parts) v.counts c.verdict.result) c.self.view_is
-    (verdict_by i.heard i.right.items i.limits.items i.log i.left i.without i.judged c.self.invariant whole fit c.verdict.result c.verdict.ensures.sound c.verdict.ensures.fault)
+    verdict_by (get_or i.head.items 0 no_head) i.begun i.right.items i.limits.items i.log i.left i.without i.judged c.self.invariant c.args.self.now c.self.view_is c.requires.whole c.requires.fit c.verdict.result c.verdict.ensures.sound c.verdict.ensures.fault

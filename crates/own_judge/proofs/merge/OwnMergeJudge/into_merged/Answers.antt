@@ -1,80 +1,78 @@
-use Rattle.std.proofs.Common.{◌≡◌, ℕ, Err, refl, sym, ap, ◌∙◌, subst}
-use Rattle.own_object.specs.Keeping.{kept_own}
-use Rattle.own_object.specs.Own.{OwnRun}
+use Rattle.std.proofs.Common.{◌≡◌, Err, refl, sym, ap, ◌∙◌, subst}
+use Rattle.own_records.specs.Own.{OwnRun}
 use Rattle.log_merge.specs.Merging.{IsCycleFound, IsMerging}
 use Rattle.log_merge.specs.declared.run_merge.Merging.{Merging}
 use Rattle.log_merge.specs.declared.run_merge.Merging.TheVariants as merging
-use Rattle.sound_run.specs.Sound.{Sound}
-use Rattle.auditor.specs.Faults.{IsFirstFault}
-use Rattle.own_judge.specs.Answers.{answered}
-use Rattle.own_judge.specs.Translated.{told_run}
+use Rattle.auditor.specs.ByModels.{SoundBy as CountedSound}
+use Rattle.auditor.specs.Faults.{IsFirstFaultBy as CountedFirst}
 use Rattle.log_merge.specs.Nexts.{IsWhole}
 use Rattle.log_merge.specs.Prefixes.{IsMatched}
 use Rattle.log_merge.proofs.Exclusion.{tangle_excludes}
+use Rattle.log_merge.proofs.Matched.{matched_by_model}
+use Rattle.own_records.specs.OwnReceived.{received_own}
 use Rattle.own_judge.specs.declared.judge.Mistold.{Mistold}
 use Rattle.own_judge.specs.declared.merge.OwnMergeFault.TheVariants as fault
-use Rattle.own_judge.specs.Judging.{Counted}
-use Rattle.own_judge.specs.Models.{IsMistold, IsFirstFaultBy, opened}
-use Rattle.own_judge.proofs.MergedOwn.{own_whole, sound_by, fault_by, matched_told, none_first, none_mistold}
+use Rattle.own_judge.specs.Judging.{own_terms, Counted}
+use Rattle.own_judge.specs.Models.{IsMistold, IsFirstFaultBy}
+use Rattle.own_judge.proofs.CountedLogs.{by_count}
+use Rattle.own_judge.proofs.MergedOwn.{own_whole, sound_by, fault_by, none_first, none_mistold}
 use Rattle.own_judge.proofs.merge.OwnMergeJudge.into_merged.Goals as goal
 
 pub returns-in-Err-clause-mistold : goal.returns-in-Err-clause-mistold
 returns-in-Err-clause-mistold c = λ x.
     let m : Mistold = record { object = x } in
     let at = c.in-Err.ensures.mistold x in (
-      (λ e. let same : c.in-Err.mistold ≡ m = cc in subst (λ (v : Counted). IsMistold (kept_own v.parts.head v.parts) v.counts x) c.self.view_is (at.0 (ap Err same))),
-      (λ h. let e = at.1 (subst (λ (v : Counted). IsMistold (kept_own v.parts.head v.parts) v.counts x) (sym c.self.view_is) h) in let same : c.in-Err.mistold ≡ m = cc in ap (λ (n : Mistold). Err (fault.Mistold n)) same),
+      (λ e. let same : c.in-Err.mistold ≡ m = cc in subst (λ (v : Counted). IsMistold (received_own v.parts) v.counts x) c.self.view_is (at.0 (ap Err same))),
+      (λ h. let e = at.1 (subst (λ (v : Counted). IsMistold (received_own v.parts) v.counts x) (sym c.self.view_is) h) in let same : c.in-Err.mistold ≡ m = cc in ap (λ (n : Mistold). Err (fault.Mistold n)) same),
     )
 
 pub returns-in-Err-clause-given : goal.returns-in-Err-clause-given
 returns-in-Err-clause-given c = λ model are sound order.
     let x = c.in-Err.mistold.object in
-    let here = subst (λ (v : Counted). IsMistold (kept_own v.parts.head v.parts) v.counts x) c.self.view_is ((c.in-Err.ensures.mistold x).0 refl) in
-    let r = kept_own c.args.self.parts.head c.args.self.parts in
+    let here = subst (λ (v : Counted). IsMistold (received_own v.parts) v.counts x) c.self.view_is ((c.in-Err.ensures.mistold x).0 refl) in
+    let r = received_own c.args.self.parts in
     absurd (none_mistold r c.args.self.counts c.requires.fit x here model are)
 
 -- the first fault as told
-pub returns-in-Err-into_shape-clause-unsound : goal.returns-in-Err-into_shape-clause-unsound
-returns-in-Err-into_shape-clause-unsound c = λ f e model are.
-    let first = subst (λ (v : Counted). IsFirstFault answered (opened v.parts.head) (told_run v.counts (kept_own v.parts.head v.parts).run) c.in-Err-into_shape.fault) c.self.view_is c.in-Err-into_shape.ensures.fault in
-    let r = kept_own c.args.self.parts.head c.args.self.parts in
-    let same : c.in-Err-into_shape.fault ≡ f = cc in
-    subst (IsFirstFaultBy model r) same (fault_by r c.args.self.counts c.requires.fit c.in-Err-into_shape.fault first model are)
+pub returns-in-Err-into_run-clause-unsound : goal.returns-in-Err-into_run-clause-unsound
+returns-in-Err-into_run-clause-unsound c = λ f e model are.
+    let first = subst (λ (v : Counted). CountedFirst by_count (own_terms v.counts v.parts.head.told.objects) (received_own v.parts).run c.in-Err-into_run.fault) c.self.view_is c.in-Err-into_run.ensures.fault in
+    let r = received_own c.args.self.parts in
+    let same : c.in-Err-into_run.fault ≡ f = cc in
+    subst (IsFirstFaultBy model r) same (fault_by r c.args.self.counts c.requires.fit c.in-Err-into_run.fault first model are)
 
-pub returns-in-Err-into_shape-clause-given : goal.returns-in-Err-into_shape-clause-given
-returns-in-Err-into_shape-clause-given c = λ model are sound order.
-    let first = subst (λ (v : Counted). IsFirstFault answered (opened v.parts.head) (told_run v.counts (kept_own v.parts.head v.parts).run) c.in-Err-into_shape.fault) c.self.view_is c.in-Err-into_shape.ensures.fault in
-    let r = kept_own c.args.self.parts.head c.args.self.parts in
-    absurd (none_first r c.args.self.counts c.requires.fit c.in-Err-into_shape.fault first model are sound)
+pub returns-in-Err-into_run-clause-given : goal.returns-in-Err-into_run-clause-given
+returns-in-Err-into_run-clause-given c = λ model are sound order.
+    let first = subst (λ (v : Counted). CountedFirst by_count (own_terms v.counts v.parts.head.told.objects) (received_own v.parts).run c.in-Err-into_run.fault) c.self.view_is c.in-Err-into_run.ensures.fault in
+    let r = received_own c.args.self.parts in
+    absurd (none_first r c.args.self.counts c.requires.fit c.in-Err-into_run.fault first model are sound)
 
 pub merge_run-requires-clause-whole : goal.merge_run-requires-clause-whole
 merge_run-requires-clause-whole c =
-    let r = kept_own c.args.self.parts.head c.args.self.parts in
-    let same : c.in-Ok.shape ≡ r.run = c.in-Ok.ensures.run ∙ ap (λ (v : Counted). (kept_own v.parts.head v.parts).run) c.self.view_is in
+    let r = received_own c.args.self.parts in
+    let same : c.new-run.result ≡ r.run = c.new-run.ensures ∙ (c.in-Ok.ensures.run ∙ ap (λ (v : Counted). (received_own v.parts).run) c.self.view_is) in
     subst (λ (run : OwnRun). IsWhole run) (sym same) (own_whole r c.requires.fit)
 
 pub merge_run-requires-clause-matched : goal.merge_run-requires-clause-matched
 merge_run-requires-clause-matched c =
-    let r = kept_own c.args.self.parts.head c.args.self.parts in
-    let same : c.in-Ok.shape ≡ r.run = c.in-Ok.ensures.run ∙ ap (λ (v : Counted). (kept_own v.parts.head v.parts).run) c.self.view_is in
-    let sound = subst (λ (v : Counted). Sound answered (opened v.parts.head) (told_run v.counts (kept_own v.parts.head v.parts).run)) c.self.view_is c.in-Ok.ensures.sound in
-    let none : (x : ℕ) → IsMistold r c.args.self.counts x → ⊥ = λ x h.
-    c.in_default.not-Err (record { object = x }) ((c.verdict.ensures.mistold x).1 (subst (λ (v : Counted). IsMistold (kept_own v.parts.head v.parts) v.counts x) (sym c.self.view_is) h)) in
-    subst (λ (run : OwnRun). IsMatched run) (sym same) (matched_told r c.args.self.counts c.requires.fit none sound)
+    let r = received_own c.args.self.parts in
+    let same : c.new-run.result ≡ r.run = c.new-run.ensures ∙ (c.in-Ok.ensures.run ∙ ap (λ (v : Counted). (received_own v.parts).run) c.self.view_is) in
+    let sound = subst (λ (v : Counted). CountedSound by_count (own_terms v.counts v.parts.head.told.objects) (received_own v.parts).run) c.self.view_is c.in-Ok.ensures.sound in
+    subst (λ (run : OwnRun). IsMatched run) (sym same) (matched_by_model by_count (own_terms c.args.self.counts c.args.self.parts.head.told.objects) r.run sound)
 
 pub returns-in-Order-clause-order : goal.returns-in-Order-clause-order
 returns-in-Order-clause-order c = λ model are.
-    let r = kept_own c.args.self.parts.head c.args.self.parts in
-    let same : c.in-Ok.shape ≡ r.run = c.in-Ok.ensures.run ∙ ap (λ (v : Counted). (kept_own v.parts.head v.parts).run) c.self.view_is in
-    let sound = subst (λ (v : Counted). Sound answered (opened v.parts.head) (told_run v.counts (kept_own v.parts.head v.parts).run)) c.self.view_is c.in-Ok.ensures.sound in
+    let r = received_own c.args.self.parts in
+    let same : c.new-run.result ≡ r.run = c.new-run.ensures ∙ (c.in-Ok.ensures.run ∙ ap (λ (v : Counted). (received_own v.parts).run) c.self.view_is) in
+    let sound = subst (λ (v : Counted). CountedSound by_count (own_terms v.counts v.parts.head.told.objects) (received_own v.parts).run) c.self.view_is c.in-Ok.ensures.sound in
     let found : IsMerging r.run (merging.Order c.in-Order.places) = subst (λ (z : OwnRun × Merging). IsMerging z.0 z.1) (λ j. (same j, c.in-Order.is j)) c.in_ok-merging.ensures in
     record { sound = sound_by r c.args.self.counts c.requires.fit sound model are; ordered = found }
 
 pub returns-clause-cycle : goal.returns-clause-cycle
 returns-clause-cycle c = λ cycle e model are.
-    let r = kept_own c.args.self.parts.head c.args.self.parts in
-    let same : c.in-Ok.shape ≡ r.run = c.in-Ok.ensures.run ∙ ap (λ (v : Counted). (kept_own v.parts.head v.parts).run) c.self.view_is in
-    let sound = subst (λ (v : Counted). Sound answered (opened v.parts.head) (told_run v.counts (kept_own v.parts.head v.parts).run)) c.self.view_is c.in-Ok.ensures.sound in
+    let r = received_own c.args.self.parts in
+    let same : c.new-run.result ≡ r.run = c.new-run.ensures ∙ (c.in-Ok.ensures.run ∙ ap (λ (v : Counted). (received_own v.parts).run) c.self.view_is) in
+    let sound = subst (λ (v : Counted). CountedSound by_count (own_terms v.counts v.parts.head.told.objects) (received_own v.parts).run) c.self.view_is c.in-Ok.ensures.sound in
     let is : c.in-Cycle.cycle ≡ cycle = cc in
     let found : IsMerging r.run (merging.Cycle c.in-Cycle.cycle) = subst (λ (z : OwnRun × Merging). IsMerging z.0 z.1) (λ j. (same j, c.in-Cycle.is j)) c.in_ok-merging.ensures in
     let waiting = subst (IsCycleFound r.run) is found in

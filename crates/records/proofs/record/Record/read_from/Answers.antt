@@ -6,7 +6,7 @@ use Rattle.records.proofs.SoundBefore.{sound_given}
 use Rattle.records.proofs.record.Record.read_from.Goals as goal
 
 pub returns-in-Ok-clause-found : goal.returns-in-Ok-clause-found
-returns-in-Ok-clause-found g c = subst (SpellsRecord _) (sym c.into_record.ensures) c.in-Ok.ensures.found
+returns-in-Ok-clause-found g c = subst (SpellsRecord _) (sym c.from_lists.ensures) c.in-Ok.ensures.found
 
 pub returns-in-Ok-clause-only : goal.returns-in-Ok-clause-only
 returns-in-Ok-clause-only g c = λ form r fit e. spells_one _ _ form r (returns-in-Ok-clause-found g c) fit e

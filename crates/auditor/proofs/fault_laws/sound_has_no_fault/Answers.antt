@@ -1,0 +1,11 @@
+use Rattle.auditor.specs.StepModels.{object_model}
+use Rattle.auditor.specs.Terms.{starts}
+use Rattle.auditor.specs.Transcripts.{opened_by}
+use Rattle.auditor.proofs.ObjectModels.{sound_to}
+use Rattle.auditor.proofs.Verdicts.{no_fault}
+use Rattle.auditor.proofs.fault_laws.sound_has_no_fault.Goals as goal
+
+pub returns : goal.returns
+returns g c = λ opened_objects run sound f h.
+    let objects = opened_by opened_objects in
+    no_fault (object_model g.O.SeqObject) (starts g.O.SeqObject objects) run (sound_to g.O.SeqObject objects run sound) f h

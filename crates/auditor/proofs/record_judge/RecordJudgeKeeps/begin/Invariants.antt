@@ -1,4 +1,0 @@
-use Rattle.auditor.proofs.record_judge.RecordJudgeKeeps.begin.Given as goal
-
-abbrev pub ghost-told : goal.ghost-told
-ghost-told g a = a.about.now.now

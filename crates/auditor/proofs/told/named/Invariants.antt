@@ -1,4 +1,0 @@
-use Rattle.auditor.proofs.told.named.Given as goal
-
-abbrev pub ghost-told : goal.ghost-told
-ghost-told g a = g.next

@@ -1,6 +1,0 @@
-pub mod LineSteps
-pub mod SaidLaws
-pub mod ItemLaws
-pub mod NameLaws
-pub mod StepLaws
-pub mod LineLaws

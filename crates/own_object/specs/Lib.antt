@@ -1,7 +1,0 @@
-pub mod Limits
-pub mod Said
-pub mod Own
-pub mod Settings
-pub mod Ranges
-pub mod Keeping
-pub mod Padding
