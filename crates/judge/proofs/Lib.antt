@@ -1,3 +1,13 @@
 pub mod Fronts
 pub mod LinesAt
 pub mod LogHeads
+pub mod CountedLogs
+pub mod CustomTerms
+pub mod FirstFaults
+pub mod SoundRuns
+pub mod RowsOfSteps
+pub mod ReceivedCustom
+pub mod WholeCustom
+pub mod SomeModel
+pub mod MergedCustom
+pub mod MistoldCounts

@@ -1,6 +1,6 @@
 -- What is told of a log whose object is of one of the kernel's four kinds.
 use Rattle.std.specs.Prelude.{◌≡◌, ℕ, List}
-use Rattle.own_kernel.specs.Lines.{IsKernelCount, NoKernelLog}
+use Rattle.custom_kernel.specs.Lines.{IsKernelCount, NoKernelLog}
 use Rattle.judge.specs.Told.{told}
 use Rattle.judge.specs.declared.told.Told.{Told}
 

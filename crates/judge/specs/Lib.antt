@@ -4,3 +4,7 @@ pub mod OwnLines
 pub mod OwnTold
 pub mod OwnOrders
 pub mod KernelLogs
+pub mod Models
+pub mod Judging
+pub mod Merged
+pub mod Refusals

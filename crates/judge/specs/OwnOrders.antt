@@ -2,10 +2,10 @@
 use Rattle.std.specs.Prelude.{◌≡◌, ℕ, List, length}
 use Rattle.auditor.specs.declared.fault.Fault.{Fault}
 use Rattle.sound_run.specs.declared.place.Place.{Place}
-use Rattle.own_judge.specs.Merged.{IsMergedBy, HasCycleBy}
-use Rattle.own_judge.specs.Models.{Model, AreCounts, IsFirstFaultBy, IsMistold}
-use Rattle.own_records.specs.Ranges.{OwnRecord}
-use Rattle.own_records.specs.RecordFaults.{IsOwnText, IsBadOwnLine}
+use Rattle.judge.specs.Merged.{IsMergedBy, HasCycleBy}
+use Rattle.judge.specs.Models.{Model, AreCounts, IsFirstFaultBy, IsMistold}
+use Rattle.custom_records.specs.Ranges.{CustomRecord}
+use Rattle.custom_records.specs.RecordFaults.{IsCustomText, IsBadCustomLine}
 use Rattle.judge.specs.Orders.{told_places, room_with}
 use Rattle.judge.specs.OwnTold.{AreFitting}
 use Rattle.judge.specs.Told.{told, told_fault}
@@ -22,8 +22,8 @@ pub data OwnOrder : Type 0 where
   out_of_memory : OwnOrder
 
 -- that holds of the record that the bytes spell, whose counts fit it, by every model that has these counts
-abbrev pub HoldsByEach : List ℕ → List ℕ → (Model → OwnRecord → Type 0) → Type 0
-HoldsByEach bytes counts holds = (r : OwnRecord) × IsOwnText bytes r × AreFitting r counts × ((model : Model) → AreCounts model r counts → holds model r)
+abbrev pub HoldsByEach : List ℕ → List ℕ → (Model → CustomRecord → Type 0) → Type 0
+HoldsByEach bytes counts holds = (r : CustomRecord) × IsCustomText bytes r × AreFitting r counts × ((model : Model) → AreCounts model r counts → holds model r)
 
 -- the order of the record that the bytes spell; the cycle that excludes one; its first fault; the first count that fits no model;
 -- the first line with which no record goes on
@@ -31,8 +31,8 @@ abbrev pub IsOwnOrder : List ℕ → List ℕ → OwnOrder → Type 0
 IsOwnOrder bytes counts (order places) = HoldsByEach bytes counts (λ model r. IsMergedBy model r places)
 IsOwnOrder bytes counts (cycle places) = HoldsByEach bytes counts (λ model r. HasCycleBy model r places)
 IsOwnOrder bytes counts (unsound f) = HoldsByEach bytes counts (λ model r. IsFirstFaultBy model r f)
-IsOwnOrder bytes counts (mistold x) = (r : OwnRecord) × IsOwnText bytes r × IsMistold r counts x
-IsOwnOrder bytes counts (bad_line n) = IsBadOwnLine bytes n
+IsOwnOrder bytes counts (mistold x) = (r : CustomRecord) × IsCustomText bytes r × IsMistold r counts x
+IsOwnOrder bytes counts (bad_line n) = IsBadCustomLine bytes n
 IsOwnOrder bytes counts out_of_memory = Unit {0}
 
 -- what is told of an outcome, where there is room for so many places

@@ -1,9 +1,9 @@
 -- What is told of a record of one's own that was judged by counts: of each log how many steps, from the first on, are right.
 use Rattle.std.specs.Prelude.{◌≡◌, ℕ, List}
 use Rattle.auditor.specs.declared.fault.Verdict.{Verdict}
-use Rattle.own_judge.specs.Models.{IsMistold, IsVerdictByCounts}
-use Rattle.own_records.specs.Ranges.{OwnRecord}
-use Rattle.own_records.specs.RecordFaults.{IsOwnText, IsBadOwnLine}
+use Rattle.judge.specs.Models.{IsMistold, IsVerdictByCounts}
+use Rattle.custom_records.specs.Ranges.{CustomRecord}
+use Rattle.custom_records.specs.RecordFaults.{IsCustomText, IsBadCustomLine}
 use Rattle.judge.specs.Told.{told, told_verdict}
 use Rattle.judge.specs.declared.told.Told.{Told}
 
@@ -15,15 +15,15 @@ pub data OwnOutcome : Type 0 where
   out_of_memory : OwnOutcome
 
 -- no count is missing, one too many, or above the steps of its log
-abbrev pub AreFitting : OwnRecord → List ℕ → Type 0
+abbrev pub AreFitting : CustomRecord → List ℕ → Type 0
 AreFitting r counts = (x : ℕ) → IsMistold r counts x → ⊥
 
 -- the verdict on the record that the bytes spell, by every model that has these counts; the first count that fits no model; the
 -- first line with which no record goes on
 abbrev pub IsOwnOutcome : List ℕ → List ℕ → OwnOutcome → Type 0
-IsOwnOutcome bytes counts (judged v) = (r : OwnRecord) × IsOwnText bytes r × AreFitting r counts × IsVerdictByCounts r counts v
-IsOwnOutcome bytes counts (mistold x) = (r : OwnRecord) × IsOwnText bytes r × IsMistold r counts x
-IsOwnOutcome bytes counts (bad_line n) = IsBadOwnLine bytes n
+IsOwnOutcome bytes counts (judged v) = (r : CustomRecord) × IsCustomText bytes r × AreFitting r counts × IsVerdictByCounts r counts v
+IsOwnOutcome bytes counts (mistold x) = (r : CustomRecord) × IsCustomText bytes r × IsMistold r counts x
+IsOwnOutcome bytes counts (bad_line n) = IsBadCustomLine bytes n
 IsOwnOutcome bytes counts out_of_memory = Unit {0}
 
 -- what is told of an outcome

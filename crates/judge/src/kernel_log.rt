@@ -5,7 +5,7 @@ ghost use Rattle.judge.specs.KernelLogs.{IsKernelTold};
 
 use crate::Told;
 use crate::told::OUT_OF_MEMORY;
-use own_kernel::kernel_count;
+use custom_kernel::kernel_count;
 use std::alloc::Global;
 
 /// No object of one of the kernel's kinds has its line there, or no head of a log is there.

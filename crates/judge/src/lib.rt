@@ -1,9 +1,14 @@
-//! The judge for callers in C: a static library over `auditor` and `log_merge`.
+//! The judge for callers in C: a static library over `auditor` and `log_merge`. Records of objects whose kinds are the writer's
+//! own it judges by how many steps of each log are right.
 #![tactic(auto)]
 
 mod audit;
+mod custom_judge;
+mod custom_merge_judge;
+mod custom_rows;
 mod kernel_log;
 mod merge;
+mod model_law;
 mod own_audit;
 mod own_line;
 mod own_merge;
@@ -11,8 +16,11 @@ mod own_told;
 mod told;
 
 pub use audit::mc2_audit;
+pub use custom_judge::{CustomJudge, Mistold};
+pub use custom_merge_judge::{CustomMergeFault, CustomMergeJudge};
 pub use kernel_log::mc2_own_kernel;
 pub use merge::{Turn, mc2_merge};
+pub use model_law::some_model_has_the_counts;
 pub use own_audit::mc2_own_audit;
 pub use own_line::mc2_own_line;
 pub use own_merge::mc2_own_merge;

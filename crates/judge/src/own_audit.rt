@@ -3,11 +3,10 @@
 ghost use Rattle.std.specs.Prelude.{◌≡◌, IfOk};
 ghost use Rattle.judge.specs.OwnTold.{IsOwnVerdictTold};
 
-use crate::Told;
 use crate::told::{BAD_LINE, MISTOLD, OUT_OF_MEMORY};
+use crate::{CustomJudge, Told};
+use custom_records::read_custom;
 use event_log::OutOfMemory;
-use own_judge::OwnJudge;
-use own_records::read_own;
 use record_lines::LinesFault;
 use std::alloc::Global;
 
@@ -27,7 +26,7 @@ fn verdict_of(alloc: Global, text: &[u8], right: &[u64]) -> Told
     let Ok(counts) = copied(alloc, right) else {
         return Told::new(OUT_OF_MEMORY, 0, 0, 0);
     };
-    let read = match read_own(alloc, text, OwnJudge::new(alloc, counts)) {
+    let read = match read_custom(alloc, text, CustomJudge::new(alloc, counts)) {
         Ok(read) => read,
         Err(LinesFault::OutOfMemory) => return Told::new(OUT_OF_MEMORY, 0, 0, 0),
         Err(LinesFault::Line(line)) => return Told::new(BAD_LINE, line, 0, 0),

@@ -3,16 +3,16 @@
 ghost use Rattle.std.specs.Prelude.{◌≡◌, ◌≤◌, length, IfSome, IfNone};
 ghost use Rattle.std.specs.Option.{option_map};
 ghost use Rattle.judge.specs.OwnLines.{IsLineAt, IsLineTold, any_head, any_log_at, told_object, told_log, told_event, told_words};
-ghost use Rattle.own_records.specs.LineReading.{own_object_at, own_event_at};
+ghost use Rattle.custom_records.specs.LineReading.{custom_object_at, custom_event_at};
 ghost use Rattle.record_lines.specs.Reading.{left, words};
 ghost use Rattle.record_lines.specs.LineParts.{name_word_at};
 
 use crate::LineTold;
 use crate::own_told::{put_numbers, put_steps};
-use event_log::{Event, Steps};
-use own_records::{
-    OwnHead, OwnName, OwnObject, OwnSettings, Spoken, event_line, log_line, object_line,
+use custom_records::{
+    CustomHead, CustomName, CustomObject, CustomSettings, Spoken, event_line, log_line, object_line,
 };
+use event_log::{Event, Steps};
 use record_lines::{Words, key, name_in, split_line, word};
 use std::alloc::Global;
 
@@ -46,7 +46,7 @@ fn line_from(text: &[u8], at: usize) -> Option<&[u8]>
 
 /// The name that is next.
 #[tactic(auto, unfolding(record_lines::specs::LineParts::name_word_at))]
-fn name(at: Words<'_>) -> Option<OwnName>
+fn name(at: Words<'_>) -> Option<CustomName>
     ensures { option_map (λ x. x.bytes) result ≡ option_map (λ x. x.0) (name_word_at (left at.entry)) }
 {
     let (word, _) = word(at)?;
@@ -55,7 +55,7 @@ fn name(at: Words<'_>) -> Option<OwnName>
 
 /// The name of a log, and how many events its head says that it has.
 #[tactic(auto, unfolding(crate::specs::OwnLines::any_log_at))]
-fn any_log(line: &[u8]) -> Option<(OwnName, u32)>
+fn any_log(line: &[u8]) -> Option<(CustomName, u32)>
     ensures { option_map (λ x. (x.0.bytes, x.1)) result ≡ any_log_at (words line.now) }
 {
     // Most lines are events, which have another first word.
@@ -69,17 +69,17 @@ fn any_log(line: &[u8]) -> Option<(OwnName, u32)>
 }
 
 /// A head of 256 CPUs and no objects, in which no word refuses.
-fn head_of_any(alloc: Global) -> OwnHead
+fn head_of_any(alloc: Global) -> CustomHead
     ensures { result ≡ any_head }
 {
-    OwnHead {
+    CustomHead {
         cpus: 256,
         objects: Vec::new(alloc),
         refusing: Vec::new(alloc),
     }
 }
 
-fn tell_object(object: &OwnSettings, told: &mut LineTold)
+fn tell_object(object: &CustomSettings, told: &mut LineTold)
     ensures { told.new ≡ told_object told.old object.now }
 {
     told.kind = OBJECT_LINE;
@@ -99,7 +99,7 @@ fn tell_log(name: &[u8], count: u32, told: &mut LineTold)
     told.name = Spoken::of_word(name).letters();
 }
 
-fn tell_event(event: &Event<OwnObject>, told: &mut LineTold)
+fn tell_event(event: &Event<CustomObject>, told: &mut LineTold)
     ensures { told.new ≡ told_event told.old event.now }
 {
     told.kind = EVENT_LINE;
@@ -110,7 +110,7 @@ fn tell_event(event: &Event<OwnObject>, told: &mut LineTold)
 
 /// Tells what the line is.
 fn tell_line(alloc: Global, line: &[u8], told: &mut LineTold)
-    ensures { told.new ≡ told_words told.old (own_object_at (words line.now)) (any_log_at (words line.now)) (own_event_at any_head (words line.now)) }
+    ensures { told.new ≡ told_words told.old (custom_object_at (words line.now)) (any_log_at (words line.now)) (custom_event_at any_head (words line.now)) }
 {
     if let Some(object) = object_line(line) {
         return tell_object(&object, told);

@@ -5,9 +5,8 @@ ghost use Rattle.judge.specs.OwnOrders.{IsOwnOrderTold};
 use crate::merge::tell_turns;
 use crate::own_audit::copied;
 use crate::told::{BAD_LINE, CYCLE, MISTOLD, OUT_OF_MEMORY, SOUND};
-use crate::{Told, Turn};
-use own_judge::{OwnMergeFault, OwnMergeJudge};
-use own_records::read_own;
+use crate::{CustomMergeFault, CustomMergeJudge, Told, Turn};
+use custom_records::read_custom;
 use record_lines::LinesFault;
 use std::alloc::Global;
 
@@ -18,7 +17,7 @@ fn order_of(alloc: Global, text: &[u8], right: &[u64], room: &mut [Turn]) -> Tol
     let Ok(counts) = copied(alloc, right) else {
         return Told::new(OUT_OF_MEMORY, 0, 0, 0);
     };
-    let read = match read_own(alloc, text, OwnMergeJudge::new(alloc, counts)) {
+    let read = match read_custom(alloc, text, CustomMergeJudge::new(alloc, counts)) {
         Ok(read) => read,
         Err(LinesFault::OutOfMemory) => return Told::new(OUT_OF_MEMORY, 0, 0, 0),
         Err(LinesFault::Line(line)) => return Told::new(BAD_LINE, line, 0, 0),
@@ -29,10 +28,10 @@ fn order_of(alloc: Global, text: &[u8], right: &[u64], room: &mut [Turn]) -> Tol
     }
     match read.1.into_merged() {
         Ok(places) => tell_turns(SOUND, places.as_slice(), room),
-        Err(OwnMergeFault::Cycle(cycle)) => tell_turns(CYCLE, cycle.as_slice(), room),
-        Err(OwnMergeFault::Unsound(fault)) => Told::of_fault(fault),
-        Err(OwnMergeFault::Mistold(mistold)) => Told::new(MISTOLD, mistold.object, 0, 0),
-        Err(OwnMergeFault::OutOfMemory) => Told::new(OUT_OF_MEMORY, 0, 0, 0),
+        Err(CustomMergeFault::Cycle(cycle)) => tell_turns(CYCLE, cycle.as_slice(), room),
+        Err(CustomMergeFault::Unsound(fault)) => Told::of_fault(fault),
+        Err(CustomMergeFault::Mistold(mistold)) => Told::new(MISTOLD, mistold.object, 0, 0),
+        Err(CustomMergeFault::OutOfMemory) => Told::new(OUT_OF_MEMORY, 0, 0, 0),
     }
 }
 

@@ -1,11 +1,11 @@
 //! What a caller in C is told of a line of a record of one's own.
 
 ghost use Rattle.std.specs.Prelude.{◌≡◌, ◌≤◌, length, map, drop, ◌++◌};
-ghost use Rattle.own_records.specs.Own.{OwnStep};
+ghost use Rattle.custom_records.specs.Custom.{CustomStep};
 ghost use Rattle.judge.specs.OwnLines.{at_front, said_told, step_told};
 
+use custom_records::{CustomObject, MOST_LETTERS, MOST_NUMBERS, MOST_SIZES, Spoken};
 use event_log::Step;
-use own_records::{MOST_LETTERS, MOST_NUMBERS, MOST_SIZES, OwnObject, Spoken};
 
 /// A call or a reply: its word with zeros behind it, and its numbers, of which there are `count`.
 #[derive(Clone, Copy, Debug, Default, PartialEq, Eq, Drop)]
@@ -53,7 +53,7 @@ impl SaidTold {
 }
 
 impl StepTold {
-    pub(crate) fn of(step: &Step<OwnObject>) -> StepTold
+    pub(crate) fn of(step: &Step<CustomObject>) -> StepTold
         ensures { result ≡ step_told step.now }
     {
         StepTold {
@@ -72,7 +72,7 @@ pub(crate) fn put_numbers(numbers: &[u64], room: &mut [u64])
 }
 
 /// Writes the steps at the front of the room.
-pub(crate) fn put_steps(steps: &[Step<OwnObject>], room: &mut [StepTold])
+pub(crate) fn put_steps(steps: &[Step<CustomObject>], room: &mut [StepTold])
     requires { length steps.now ≤ length room.old }
     ensures { room.new ≡ at_front (map step_told steps.now) room.old }
 {

@@ -13,7 +13,7 @@ NAMES = {"SaidTold": "mc2_own_said", "StepTold": "mc2_own_step", "LineTold": "mc
 NAMES |= {"Told": "mc2_told", "Turn": "mc2_turn"}
 NUMBERS = {"NO_LINE": "MC2_OWN_NONE", "OBJECT_LINE": "MC2_OWN_OBJECT", "LOG_LINE": "MC2_OWN_LOG"}
 NUMBERS |= {"EVENT_LINE": "MC2_OWN_EVENT", "OTHER_LINE": "MC2_OWN_OTHER", "MISTOLD": "MC2_MISTOLD"}
-NUMBERS |= {"MOST_OWN_CPUS": "MC2_OWN_CPUS", "MOST_OWN_OBJECTS": "MC2_OWN_OBJECTS", "MOST_SIZES": "MC2_OWN_SIZES"}
+NUMBERS |= {"MOST_CUSTOM_CPUS": "MC2_OWN_CPUS", "MOST_CUSTOM_OBJECTS": "MC2_OWN_OBJECTS", "MOST_SIZES": "MC2_OWN_SIZES"}
 NUMBERS |= {"MOST_WORDS": "MC2_OWN_REFUSING", "MOST_LETTERS": "MC2_OWN_LETTERS", "MOST_NUMBERS": "MC2_OWN_NUMBERS"}
 NUMBERS |= {"MOST_CALLS": "MC2_OWN_CALLS", "NO_MODEL": "MC2_NO_MODEL", "COUNTED": "MC2_OWN_COUNTED"}
 EXPORTS = {"mc2_own_line", "mc2_own_audit", "mc2_own_merge", "mc2_own_kernel"}
@@ -30,7 +30,7 @@ SWAPS = {
 
 def sources():
     """All of the crates that have a part of it, as they are now."""
-    folders = [ROOT / "crates" / name / "src" for name in ("judge", "own_records", "event_log")]
+    folders = [ROOT / "crates" / name / "src" for name in ("judge", "custom_records", "event_log")]
     return "\n".join(path.read_text() for folder in folders for path in sorted(folder.glob("*.rt")))
 
 

@@ -1,5 +1,5 @@
 use Rattle.std.proofs.Common.{◌≡◌, Some, subst, MatchOption}
-use Rattle.own_kernel.specs.Lines.{IsKernelCount, NoKernelLog}
+use Rattle.custom_kernel.specs.Lines.{IsKernelCount, NoKernelLog}
 use Rattle.judge.specs.KernelLogs.{counted}
 use Rattle.judge.proofs.kernel_log.count_of.Goals as goal
 

@@ -1,0 +1,87 @@
+-- Record 3 is a form of records: each line is read as what it spells, and nothing else is.
+use Rattle.std.proofs.Common.{◌≡◌, ℕ, true, List, [], ◌∷◌, Option, Some, None, Result, Ok, Err, IfSome, OnOk, refl, sym, ap, ◌∙◌, arith, codes}
+use Rattle.std.specs.Option.{is_some}
+use Rattle.event_log.specs.declared.entry.Done.TheVariants.{NoRoom}
+use Rattle.custom_records.specs.LineReading.{last_at, custom_entry_at}
+use Rattle.custom_records.specs.LineText.{last_words}
+use Rattle.custom_records.specs.StepText.{custom_front_at}
+use Rattle.custom_records.proofs.LineLaws.{reads_log, reads_event, reads_cpu, reads_entry, reads_last}
+use Rattle.custom_records.proofs.StepTexts.{custom_entry_known}
+use Rattle.custom_records.proofs.NameLaws.{name_of_object}
+use Rattle.custom_records.specs.Custom.{CustomEvent, CustomEntry}
+use Rattle.custom_records.specs.Ranges.{SaidFits, EntryFits}
+use Rattle.custom_records.specs.Said.{Said}
+use Rattle.custom_records.specs.Settings.{CustomHead, refuses_word}
+use Rattle.record_lines.specs.FormLaws.{FormLaws}
+use Rattle.record_lines.specs.Reading.{words}
+use Rattle.record_lines.specs.Words.{sentence}
+use Rattle.custom_records.specs.contracts.custom_form.CustomFormRecordForm.TheImpl.{ghosts as custom_form}
+use Rattle.custom_records.specs.CustomForm.{Head, HeadFits, TellsEntry, some_in}
+use Rattle.custom_records.proofs.CustomHeads.{head_on, head_run, head_begins}
+
+-- an entry that the text behind its looks tells
+pub entry_told_by : (h : Head) (line : List ℕ) (object looks : ℕ) (tail : List ℕ) → HeadFits h → custom_front_at h.told.objects (words line) ≡ Some (object, looks, words tail) → (e : CustomEntry) → TellsEntry h.told object looks tail e
+    → (custom_entry_at h.told (words line) ≡ Some e) × EntryFits h.told e
+entry_told_by h line object looks tail fit front e (asked, steps, told, steps_fit, same) =
+    let is = custom_entry_known h.told (words line) object looks (words tail) front asked steps told.0 told.1 steps_fit ∙ ap Some (sym same) in
+    (is, ((reads_entry h.told fit.fit).takes line e is).1)
+
+-- the end
+ends_is : (line : List ℕ) (o : Option (Unit {0})) → last_at (words line) ≡ o → is_some o ≡ true → line ≡ sentence last_words
+ends_is line (Some u) e there = (reads_last.takes line u e).0
+ends_is line None e there = absurd cc
+
+-- ---- an event, and an entry
+
+-- a word without numbers
+abbrev shown_said : Said
+shown_said = record { word = codes "a"; numbers = [] }
+
+said_fits : SaidFits shown_said
+said_fits = record { word = refl; few = omega arith; numbers = tt }
+
+-- an event of the first CPU
+abbrev shown_event : CustomHead → CustomEvent
+shown_event head = record { cpu = 0; steps = record { list = record { items = record { call = shown_said; reply = record { said = shown_said; refuses = refuses_word head.refusing (codes "a") } } ∷ [] } } }
+
+-- an entry on the first object
+abbrev shown_entry : CustomEntry
+shown_entry = record { object = 0; asked = record { items = shown_said ∷ [] }; done = NoRoom; looks = 0 }
+
+-- ---- all of them
+
+pub custom_laws : FormLaws custom_form
+custom_laws = record {
+  no_end = λ line is. is;
+  head = record {
+    starts = record { part = refl; more = refl; text = refl };
+    goes_on = λ h next line part takes. let on = head_on h next line part takes.1 in record { plain = on.0; text = on.1; part = on.2.part; whole = on.2.whole };
+    begins = λ h part more. let on = head_begins h part in record { whole = on.0; fit = on.1; more = on.2.0; text = on.2.1 };
+    is_whole = λ h fit. ap (λ (u : Head). custom_form.is_whole u) fit.is;
+    again = head_run;
+    some = some_in;
+  };
+  log = λ h i fit less. reads_log _ (name_of_object h.told fit.fit i less);
+  event = λ h fit. reads_event h.told fit.fit;
+  cpu = λ h i fit less. let most = fit.fit.cpus.1 in reads_cpu i (omega (arith, less, most));
+  entry = λ h fit. reads_entry h.told fit.fit;
+  ends = λ line is. ends_is line (last_at (words line)) refl is;
+  end_again = ap is_some (reads_last.again tt tt);
+  end_plain = reads_last.plain tt tt;
+  an_event = λ h fit. (shown_event h.told, record { cpu = fit.fit.cpus.0; steps = record { some = omega arith; few = omega arith; each = (record { call = said_fits; reply = said_fits; refuses = refl }, tt) } });
+  an_entry = λ h fit. (shown_entry, record { object = fit.fit.count.0; looks = omega arith; some = omega arith; few = omega arith; calls = (said_fits, tt); done = tt });
+}
+
+-- ---- what is so of each value, and what follows from what is so
+
+pub some_of : {X : Type 0} (P : X → Type 0) (o : Option X) → ((x : X) → o ≡ Some x → P x) → IfSome o P
+some_of P None law = tt
+some_of P (Some x) law = law x refl
+
+pub some_map : {X : Type 0} (P Q : X → Type 0) (o : Option X) → ((x : X) → P x → Q x) → IfSome o P → IfSome o Q
+some_map P Q None law is = tt
+some_map P Q (Some x) law is = law x is
+
+pub ok_map : {X E : Type 0} {P Q : Type 0} (r : Result X E) → (P → Q) → OnOk r P → OnOk r Q
+ok_map (Ok x) law is = law is
+ok_map (Err e) law is = tt

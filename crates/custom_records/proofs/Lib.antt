@@ -1,0 +1,11 @@
+pub mod LineSteps
+pub mod SaidLaws
+pub mod ItemLaws
+pub mod NameLaws
+pub mod StepLaws
+pub mod LineLaws
+pub mod StepTexts
+pub mod NewObjects
+pub mod CustomHeads
+pub mod CustomFormLaws
+pub mod CustomRecords

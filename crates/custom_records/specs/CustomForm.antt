@@ -1,0 +1,119 @@
+-- The lines of record 3, as a form of records.
+use Rattle.std.specs.Prelude.{ℕ, ◌≡◌, ◌<◌, ◌≤◌, nat_lt, if◌then◌else◌, List, [], ◌∷◌, ◌++◌, map, Option, Some, None, Bool, true, false, length}
+use Rattle.std.specs.List.{AllByRecursion, list_any}
+use Rattle.std.specs.Option.{option_map_or}
+use Rattle.std.specs.Str.{bytes_eq}
+use Rattle.std.proofs.Common.{arith}
+use Rattle.custom_records.specs.declared.settings.TheConstants.{MOST_CUSTOM_CPUS, MOST_CUSTOM_OBJECTS}
+use Rattle.custom_records.specs.Custom.{CustomStep, CustomEntry}
+use Rattle.custom_records.specs.Said.{Said}
+use Rattle.custom_records.specs.Writing.{custom_writing, custom_entry_of}
+use Rattle.record_lines.specs.StepTexts.{SpellsTail}
+use Rattle.custom_records.specs.Ranges.{StepsFit, CustomSettingsFit, HeadFits as CustomHeadFits, Differ, most_lines}
+use Rattle.custom_records.specs.Settings.{CustomSettings, CustomHead, names_of}
+use Rattle.custom_records.specs.LineReading.{first_at, cpus_at, count_at, custom_object_at, refuses_at}
+use Rattle.custom_records.specs.LineText.{first_words, cpus_words, count_words, custom_object_words}
+use Rattle.custom_records.specs.declared.custom_head.CustomHeadNext.{CustomHeadNext}
+use Rattle.custom_records.specs.declared.custom_head.CustomHeadNext.TheVariants.{First, Cpus, Count, Object, Refuses, Whole}
+use Rattle.custom_records.specs.RecordText.{custom_head_lines}
+use Rattle.record_lines.specs.Reading.{◌>>=◌, words}
+use Rattle.record_lines.specs.Words.{sentence}
+
+-- which line of a head can come next, how many objects were told, and what was read
+pub record Head : Type 0 where
+  pub awaits : CustomHeadNext
+  pub count : ℕ
+  pub told : CustomHead
+
+-- nothing of a head was read
+abbrev pub no_custom_head : CustomHead
+no_custom_head = record { cpus = 0; objects = []; refusing = [] }
+
+abbrev pub no_head : Head
+no_head = record { awaits = First; count = 0; told = no_custom_head }
+
+-- the whole head
+abbrev pub head_of : CustomHead → Head
+head_of head = record { awaits = Whole; count = 0; told = head }
+
+-- an object whose name is none of the earlier
+unfoldable pub new_object_at : List CustomSettings → List (List ℕ) → Option CustomSettings
+new_object_at earlier ws = option_map_or (λ o. if list_any (λ e. bytes_eq e.name o.name) earlier then None else Some o) (custom_object_at ws) None
+
+-- behind an object: others, or the words that refuse
+unfoldable pub behind_object : Head → Head
+behind_object h = if nat_lt (length h.told.objects) h.count then h else record h { awaits = Refuses; count = 0 }
+
+-- behind a line of these words, if it can come there
+unfoldable pub behind_head_at : CustomHeadNext → Head → List (List ℕ) → Option Head
+behind_head_at First h ws = first_at ws >>= λ u. Some (record h { awaits = Cpus })
+behind_head_at Cpus h ws = cpus_at ws >>= λ n. Some (record h { awaits = Count; told = record h.told { cpus = n } })
+behind_head_at Count h ws = count_at ws >>= λ n. Some (record h { awaits = Object; count = n })
+behind_head_at Object h ws = new_object_at h.told.objects ws >>= λ o. Some (behind_object (record h { told = record h.told { objects = h.told.objects ++ o ∷ [] } }))
+behind_head_at Refuses h ws = refuses_at ws >>= λ refusing. Some (record h { awaits = Whole; told = record h.told { refusing = refusing } })
+behind_head_at Whole h ws = None
+
+-- the head after a line more
+abbrev pub head_after : Head → List ℕ → Option Head
+head_after h line = behind_head_at h.awaits h (words line)
+
+-- no line comes
+abbrev pub is_whole_at : CustomHeadNext → Bool
+is_whole_at First = false
+is_whole_at Cpus = false
+is_whole_at Count = false
+is_whole_at Object = false
+is_whole_at Refuses = false
+is_whole_at Whole = true
+
+-- objects are being read
+pub record ObjectsRead (h : Head) : Type 0 where
+  pub cpus : (1 ≤ h.told.cpus) × (h.told.cpus ≤ MOST_CUSTOM_CPUS)
+  pub more : length h.told.objects < h.count
+  pub few : h.count ≤ MOST_CUSTOM_OBJECTS
+  pub each : AllByRecursion CustomSettingsFit h.told.objects
+  pub names : Differ (names_of h.told)
+  pub none : h.told.refusing ≡ []
+
+-- all of them were
+pub record ObjectsWhole (h : Head) : Type 0 where
+  pub fit : CustomHeadFits h.told
+  pub is : h ≡ record no_head { awaits = Refuses; told = record h.told { refusing = [] } }
+
+-- what was read is within its limits, where that line can come next
+abbrev pub PartAt : CustomHeadNext → Head → Type 0
+PartAt First h = h ≡ no_head
+PartAt Cpus h = h ≡ record no_head { awaits = Cpus }
+PartAt Count h = ((1 ≤ h.told.cpus) × (h.told.cpus ≤ MOST_CUSTOM_CPUS)) × (h ≡ record no_head { awaits = Count; told = record no_custom_head { cpus = h.told.cpus } })
+PartAt Object h = ObjectsRead h
+PartAt Refuses h = ObjectsWhole h
+PartAt Whole h = ⊥
+
+-- so is a whole head
+pub record HeadFits (h : Head) : Type 0 where
+  pub is : h ≡ head_of h.told
+  pub fit : CustomHeadFits h.told
+
+-- the lines that were taken, where that line can come next
+abbrev pub words_at : CustomHeadNext → Head → List (List (List ℕ))
+words_at First h = []
+words_at Cpus h = first_words ∷ []
+words_at Count h = first_words ∷ cpus_words h.told.cpus ∷ []
+words_at Object h = first_words ∷ cpus_words h.told.cpus ∷ count_words h.count ∷ map custom_object_words h.told.objects
+words_at Refuses h = first_words ∷ cpus_words h.told.cpus ∷ count_words (length h.told.objects) ∷ map custom_object_words h.told.objects
+words_at Whole h = custom_head_lines h.told
+
+abbrev pub head_text : Head → List (List ℕ)
+head_text h = map sentence (words_at h.awaits h)
+
+-- a whole head names objects and CPUs
+pub some_in : (h : Head) → HeadFits h → (0 < length h.told.objects) × (0 < h.told.cpus)
+some_in h fit = let cpus = fit.fit.cpus.0 in let count = fit.fit.count.0 in (omega (arith, count), omega (arith, cpus))
+
+-- events and entries can be counted
+pub few_items : (most_lines < 18446744073709551616) × (most_lines < 18446744073709551616)
+few_items = (omega arith, omega arith)
+
+-- under that head, on that object, the text behind the looks tells the entry
+abbrev pub TellsEntry : CustomHead → ℕ → ℕ → List ℕ → CustomEntry → Type 0
+TellsEntry head object looks text e = (asked : List Said) × (steps : List CustomStep) × SpellsTail custom_writing text asked steps × StepsFit head steps × (e ≡ custom_entry_of object looks asked steps)

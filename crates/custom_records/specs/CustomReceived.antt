@@ -1,0 +1,13 @@
+-- What was handed over of a record 3.
+use Rattle.custom_records.specs.Custom.{CustomEvent, CustomEntry}
+use Rattle.custom_records.specs.CustomForm.{Head}
+use Rattle.custom_records.specs.Ranges.{CustomRecord}
+use Rattle.record_lines.specs.Received.{Received}
+
+-- the parts that were handed over
+abbrev pub CustomReceived : Type 0
+CustomReceived = Received Head CustomEvent CustomEntry
+
+-- the record of what the head tells and of what is whole
+abbrev pub received_custom : CustomReceived → CustomRecord
+received_custom p = record { head = p.head.told; run = record { logs = p.logs; transcripts = p.transcripts } }

@@ -1,0 +1,14 @@
+pub mod Limits
+pub mod Said
+pub mod Custom
+pub mod Settings
+pub mod Ranges
+pub mod Padding
+pub mod Writing
+pub mod LineText
+pub mod LineReading
+pub mod StepText
+pub mod RecordText
+pub mod RecordFaults
+pub mod CustomForm
+pub mod CustomReceived

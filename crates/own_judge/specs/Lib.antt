@@ -1,4 +1,0 @@
-pub mod Models
-pub mod Judging
-pub mod Merged
-pub mod Refusals

@@ -1,5 +1,0 @@
-use Rattle.std.specs.Prelude.{[], ◌∷◌, ◌++◌}
-use Rattle.own_kernel.proofs.count.with_one.Given as goal
-
-abbrev pub ghost-told : goal.ghost-told
-ghost-told g a = a.before.now.items ++ a.about.now ∷ []
