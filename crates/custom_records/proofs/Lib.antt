@@ -2,6 +2,7 @@ pub mod LineSteps
 pub mod SaidLaws
 pub mod ItemLaws
 pub mod NameLaws
+pub mod NameSteps
 pub mod StepLaws
 pub mod LineLaws
 pub mod StepTexts

@@ -29,6 +29,7 @@ pub use objects::object_line;
 pub use reader::read_custom;
 pub use record::{CustomRecord, read_lists};
 pub use refusing::{is_refusing, refuses_line};
+pub use said::is_number_next;
 pub use settings::{
     CustomHead, CustomName, CustomSettings, MOST_CUSTOM_CPUS, MOST_CUSTOM_OBJECTS, MOST_SIZES,
     MOST_WORDS,

@@ -1,15 +1,15 @@
 //! Reading what is said: a word, and the numbers behind it.
 
-ghost use Rattle.std.specs.Prelude.{◌≡◌, [], IfSome};
+ghost use Rattle.std.specs.Prelude.{◌≡◌, ◌||◌, [], IfSome};
 ghost use Rattle.std.specs.Option.{option_map};
 ghost use Rattle.custom_records.specs.LineReading.{number_next, sizes_at, said_at};
 ghost use Rattle.custom_records.specs.declared.spoken.TheConstants.{MOST_NUMBERS};
-ghost use Rattle.record_lines.specs.Reading.{left};
+ghost use Rattle.record_lines.specs.Reading.{left, words};
 ghost use Rattle.record_lines.specs.LineParts.{name_word_at};
-ghost use Rattle.record_lines.specs.Names.{is_digit};
+ghost use Rattle.record_lines.specs.Names.{is_digit, is_letter};
 
 use crate::{CustomName, MOST_NUMBERS, Spoken};
-use record_lines::{Words, is_name, name_in, number, word};
+use record_lines::{Words, name_in, number, word};
 
 /// Whether the byte is a digit.
 fn is_digit(byte: u8) -> bool
@@ -19,7 +19,7 @@ fn is_digit(byte: u8) -> bool
 }
 
 /// Whether the next word begins with a digit.
-pub(crate) fn is_number_next(at: Words<'_>) -> bool
+pub fn is_number_next(at: Words<'_>) -> bool
     ensures { result ≡ number_next (left at.entry) }
 {
     let Some(bytes) = at else {
@@ -41,18 +41,55 @@ pub(crate) fn name(at: Words<'_>) -> Option<(CustomName, Words<'_>)>
     Some((name, rest))
 }
 
+/// Whether the byte is a lower-case letter.
+fn is_letter(byte: u8) -> bool
+    ensures { result ≡ is_letter byte }
+{
+    b'a' <= byte && byte <= b'z'
+}
+
+/// Whether the byte is a lower-case letter or a digit.
+fn is_plain(byte: u8) -> bool
+    ensures { result ≡ (is_letter byte || is_digit byte) }
+{
+    is_letter(byte) || is_digit(byte)
+}
+
+/// What the word at the front of the bytes says, without numbers, if it is a name. Its letters are taken one at a time.
+#[inline(always)]
+fn word_in_front(bytes: &[u8]) -> Option<(Spoken, Words<'_>)>
+    ensures read { option_map (λ x. (x.0.word, left x.1)) result ≡ name_word_at (words bytes.now) }
+    ensures none { IfSome result (λ x. x.0.numbers ≡ []) }
+{
+    let (first, rest) = bytes.split_first()?;
+    if !is_letter(*first) {
+        return None;
+    }
+    let mut said = Spoken::of_letter(*first);
+    let mut left = rest;
+    while let [byte, more @ ..] = left {
+        if *byte == b' ' {
+            return Some((said, Some(more)));
+        }
+        if said.is_full() {
+            return None;
+        }
+        if !is_plain(*byte) {
+            return None;
+        }
+        said.push_letter(*byte);
+        left = more;
+    }
+    Some((said, None))
+}
+
 /// What the next word says, without numbers, if it is a name.
-#[tactic(auto, using(record_lines::proofs::Names::name_le), unfolding(record_lines::specs::LineParts::name_word_at))]
+#[tactic(auto, unfolding(record_lines::specs::LineParts::name_word_at, record_lines::specs::Reading::word_at))]
 fn spoken_word(at: Words<'_>) -> Option<(Spoken, Words<'_>)>
     ensures read { option_map (λ x. (x.0.word, left x.1)) result ≡ name_word_at (left at.entry) }
     ensures none { IfSome result (λ x. x.0.numbers ≡ []) }
 {
-    let (word, rest) = word(at)?;
-    if is_name(word) {
-        Some((Spoken::of_word(word), rest))
-    } else {
-        None
-    }
+    word_in_front(at?)
 }
 
 /// Adds up to 6 numbers, as long as a word that begins with a digit is next, and answers the words behind them.

@@ -1,6 +1,6 @@
 //! What is said: a word, and the numbers behind it.
 
-ghost use Rattle.std.specs.Prelude.{◌≡◌, ◌≤◌, ◌<◌, ◌++◌, ◌∷◌, [], length};
+ghost use Rattle.std.specs.Prelude.{◌≡◌, ◌≤◌, ◌<◌, ◌↔◌, ◌++◌, ◌∷◌, [], length, IsTrue};
 ghost use Rattle.custom_records.specs.Said.{padded};
 
 use std::marker::Model;
@@ -49,6 +49,38 @@ impl Spoken {
             letter_count: word.len() as u8,
             value_count: 0,
         }
+    }
+
+    /// The word of one letter alone.
+    pub(crate) fn of_letter(letter: u8) -> Spoken
+        ensures { result ≡ record { word = letter ∷ []; numbers = [] } }
+    {
+        let mut letters = [0; MOST_LETTERS];
+        letters[0] = letter;
+        Spoken {
+            letters,
+            values: [0; MOST_NUMBERS],
+            letter_count: 1,
+            value_count: 0,
+        }
+    }
+
+    /// Whether no letter more has room.
+    #[inline(always)]
+    pub(crate) fn is_full(&self) -> bool
+        ensures { IsTrue result ↔ (length self.now.word ≡ MOST_LETTERS) }
+    {
+        self.letter_count as usize == MOST_LETTERS
+    }
+
+    /// A letter or a digit of the word more.
+    #[inline(always)]
+    pub(crate) fn push_letter(&mut self, letter: u8)
+        requires { length self.old.word < MOST_LETTERS }
+        ensures { self.new ≡ record self.old { word = self.old.word ++ letter ∷ [] } }
+    {
+        self.letters[self.letter_count as usize] = letter;
+        self.letter_count += 1;
     }
 
     /// A number more.

@@ -1,6 +1,6 @@
 //! Single lines of records of one's own, for callers in C.
 
-ghost use Rattle.std.specs.Prelude.{◌≡◌, ◌≤◌, length, IfSome, IfNone};
+ghost use Rattle.std.specs.Prelude.{◌≡◌, ◌≤◌, length, None, IfSome, IfNone};
 ghost use Rattle.std.specs.Option.{option_map};
 ghost use Rattle.judge.specs.OwnLines.{IsLineAt, IsLineTold, any_head, any_log_at, told_object, told_log, told_event, told_words};
 ghost use Rattle.custom_records.specs.LineReading.{custom_object_at, custom_event_at};
@@ -10,7 +10,8 @@ ghost use Rattle.record_lines.specs.LineParts.{name_word_at};
 use crate::LineTold;
 use crate::own_told::{put_numbers, put_steps};
 use custom_records::{
-    CustomHead, CustomName, CustomObject, CustomSettings, Spoken, event_line, log_line, object_line,
+    CustomHead, CustomName, CustomObject, CustomSettings, Spoken, event_line, is_number_next,
+    log_line, object_line,
 };
 use event_log::{Event, Steps};
 use record_lines::{Words, key, name_in, split_line, word};
@@ -108,16 +109,10 @@ fn tell_event(event: &Event<CustomObject>, told: &mut LineTold)
     put_steps(event.steps.list.as_slice(), &mut told.steps);
 }
 
-/// Tells what the line is.
-fn tell_line(alloc: Global, line: &[u8], told: &mut LineTold)
-    ensures { told.new ≡ told_words told.old (custom_object_at (words line.now)) (any_log_at (words line.now)) (custom_event_at any_head (words line.now)) }
+/// Tells what the line is, which is an event's or another.
+fn tell_event_or_other(alloc: Global, line: &[u8], told: &mut LineTold)
+    ensures { told.new ≡ told_words told.old None None (custom_event_at any_head (words line.now)) }
 {
-    if let Some(object) = object_line(line) {
-        return tell_object(&object, told);
-    }
-    if let Some((name, count)) = any_log(line) {
-        return tell_log(name.as_str().as_bytes(), count, told);
-    }
     let mut event = Event {
         cpu: 0,
         steps: Steps::default(),
@@ -126,6 +121,31 @@ fn tell_line(alloc: Global, line: &[u8], told: &mut LineTold)
         Some(_) => tell_event(&event, told),
         None => told.kind = OTHER_LINE,
     }
+}
+
+/// Tells what the line is, whichever it is.
+#[inline(never)]
+fn tell_any(alloc: Global, line: &[u8], told: &mut LineTold)
+    ensures { told.new ≡ told_words told.old (custom_object_at (words line.now)) (any_log_at (words line.now)) (custom_event_at any_head (words line.now)) }
+{
+    if let Some(object) = object_line(line) {
+        return tell_object(&object, told);
+    }
+    if let Some((name, count)) = any_log(line) {
+        return tell_log(name.as_str().as_bytes(), count, told);
+    }
+    tell_event_or_other(alloc, line, told)
+}
+
+/// Tells what the line is.
+fn tell_line(alloc: Global, line: &[u8], told: &mut LineTold)
+    ensures { told.new ≡ told_words told.old (custom_object_at (words line.now)) (any_log_at (words line.now)) (custom_event_at any_head (words line.now)) }
+{
+    // Most lines are events, and no other begins with a digit.
+    if is_number_next(Some(line)) {
+        return tell_event_or_other(alloc, line, told);
+    }
+    tell_any(alloc, line, told)
 }
 
 /// Tells what the line is that begins at that byte of the text, and where the one behind it begins.

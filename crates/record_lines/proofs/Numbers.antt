@@ -26,7 +26,7 @@ words_on : (s : Bool) (b : ℕ) (bytes : List ℕ) → words bytes ≡ first_of 
 words_on true b bytes e = refl
 words_on false b bytes e = ap (onto_first b) e
 
-words_are : (bytes : List ℕ) → words bytes ≡ first_of bytes ∷ rest_of bytes
+pub words_are : (bytes : List ℕ) → words bytes ≡ first_of bytes ∷ rest_of bytes
 unfolding words
 words_are [] = refl
 words_are (b ∷ bytes) = words_on (b == 32) b bytes (words_are bytes)

@@ -1,0 +1,14 @@
+use Rattle.std.proofs.Common.{None, sym, ap, ◌∙◌}
+use Rattle.custom_records.specs.LineReading.{custom_object_at, custom_event_at}
+use Rattle.record_lines.specs.Reading.{words}
+use Rattle.judge.specs.OwnLines.{any_head, told_words}
+use Rattle.judge.proofs.EventFronts.{no_object, no_log}
+use Rattle.judge.proofs.own_line.tell_line.Goals as goal
+
+pub returns-then-is_number_next : goal.returns-then-is_number_next
+returns-then-is_number_next c =
+    let ws = words c.args.line.now in
+    let digit = sym c.is_number_next.ensures ∙ c.if-is_number_next.true in
+    c.tell_event_or_other.ensures
+    ∙ (ap (λ o. told_words c.args.told.now o None (custom_event_at any_head ws)) (sym (no_object ws digit))
+    ∙ ap (λ l. told_words c.args.told.now (custom_object_at ws) l (custom_event_at any_head ws)) (sym (no_log ws digit)))
