@@ -4,7 +4,7 @@ ghost use Rattle.std.specs.Prelude.{◌≡◌, ◌<◌, [], ◌∷◌, length};
 ghost use Rattle.std.specs.List.{All};
 ghost use Rattle.guarded_cell.specs.Kinds.{IsPassOf};
 
-use crate::words::Form;
+use crate::words::Grouping;
 use arrayvec::ArrayVec;
 use event_log::{Logged, MOST_CALLS};
 use guarded_cell::{AnyCell, MOST_GROUPS, batch, call, with_hold};
@@ -20,7 +20,7 @@ pub type Pass = word_rule::Pass<ThreadQueue>;
 #[derive(Clone, Copy, Drop)]
 pub struct Calls {
     pub cpu: u8,
-    pub form: Form,
+    pub form: Grouping,
     pub turns: u32,
 }
 
@@ -61,7 +61,7 @@ impl Calls {
     {
         let (eight, groups) = (self.eight(), self.groups());
         let mut pass = pass;
-        if let Form::Each = self.form {
+        if let Grouping::Each = self.form {
             for k in 0..self.turns {
                 pass = call(rt, cell, pass, &eight[(k % 2) as usize]).0;
             }
@@ -69,7 +69,7 @@ impl Calls {
         }
         for _ in 0..self.turns {
             pass = match self.form {
-                Form::Batch => batch(rt, cell, pass, &eight).0,
+                Grouping::Batch => batch(rt, cell, pass, &eight).0,
                 _ => with_hold(rt, cell, pass, &groups, &mut ArrayVec::new()).0,
             };
         }
@@ -85,9 +85,9 @@ impl Calls {
         let mut pass = pass;
         for k in 0..self.turns {
             pass = match self.form {
-                Form::Each => cell.call(rt, pass, &eight[(k % 2) as usize]).0,
-                Form::Batch => cell.batch(rt, pass, &eight).0,
-                Form::Hold => cell.with_hold(rt, pass, &groups, &mut ArrayVec::new()).0,
+                Grouping::Each => cell.call(rt, pass, &eight[(k % 2) as usize]).0,
+                Grouping::Batch => cell.batch(rt, pass, &eight).0,
+                Grouping::Hold => cell.with_hold(rt, pass, &groups, &mut ArrayVec::new()).0,
             };
         }
         pass
@@ -96,7 +96,7 @@ impl Calls {
     /// Makes the calls on a queue in the mutex.
     pub fn in_mutex<R: Wait>(&self, rt: &R, queue: &Mutex<Queue>) {
         let eight = self.eight();
-        if let Form::Each = self.form {
+        if let Grouping::Each = self.form {
             for k in 0..self.turns {
                 let mut held = queue.lock(rt);
                 let _reply = held.call(self.cpu, &eight[(k % 2) as usize]);
@@ -106,7 +106,7 @@ impl Calls {
         for _ in 0..self.turns {
             let mut held = queue.lock(rt);
             match self.form {
-                Form::Batch => {
+                Grouping::Batch => {
                     let _replies = held.apply(self.cpu, &eight);
                 }
                 _ => call_each(&mut *held, self.cpu, &eight),

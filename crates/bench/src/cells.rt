@@ -5,7 +5,7 @@ ghost use Rattle.std.specs.Arc.{arc_value};
 ghost use Rattle.word_rule.specs.Cell.{EachAt};
 ghost use Rattle.bench.specs.Passes.{IsPassOf, IsPassOf-prop};
 
-use crate::Fault;
+use crate::BenchFault;
 use crate::calls::{Calls, Pass, Queue};
 use crate::words::{Kind, Load};
 use event_log::Event;
@@ -44,7 +44,7 @@ pub enum Caller {
 }
 
 /// A caller for each pass.
-fn share(alloc: Global, cell: Cell, passes: Vec<Pass>) -> Result<Vec<Caller>, Fault>
+fn share(alloc: Global, cell: Cell, passes: Vec<Pass>) -> Result<Vec<Caller>, BenchFault>
     requires { EachAt (λ _ p. IsPassOf cell p) passes.items }
 {
     let shared = Arc::new(alloc, cell)?;
@@ -61,13 +61,13 @@ macro_rules! shared {
     ($alloc:expr, $cell:path, $opened:expr) => {
         match $opened {
             Ok((cell, passes)) => share($alloc, $cell(cell), passes),
-            Err(_) => Err(Fault::from(AllocError)),
+            Err(_) => Err(BenchFault::from(AllocError)),
         }
     };
 }
 
 /// Opens a queue for that share of the load: a caller for each CPU, in order.
-pub fn open(alloc: Global, kind: Kind, load: &Load, calls: u32) -> Result<Vec<Caller>, Fault> {
+pub fn open(alloc: Global, kind: Kind, load: &Load, calls: u32) -> Result<Vec<Caller>, BenchFault> {
     let (queue, cpus) = (load.open_queue(alloc, calls)?, load.cpus);
     match kind {
         Kind::Ticket => shared!(alloc, Cell::Ticket, TicketCell::new(alloc, queue, cpus, 0)),

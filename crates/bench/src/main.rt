@@ -13,7 +13,7 @@ use thiserror::Error;
 
 /// Why there are no rounds, or no further ones.
 #[derive(Debug, Drop, Error)]
-pub enum Fault {
+pub enum BenchFault {
     #[error("usage: bench KIND[,KIND..] CPUS CALLS ROUNDS [batch|hold] [unkept]")]
     WrongWords,
     #[error("bench: out of memory")]
@@ -33,7 +33,7 @@ fn main(rt: HostRuntime) -> ExitCode {
     };
     let _ = eprintln!(rt; "{fault}");
     match fault {
-        Fault::WrongWords => ExitCode::from(2),
+        BenchFault::WrongWords => ExitCode::from(2),
         _ => ExitCode::FAILURE,
     }
 }

@@ -1,6 +1,6 @@
 //! Rounds, each of one kind, with a thread for each CPU.
 
-use crate::Fault;
+use crate::BenchFault;
 use crate::calls::Calls;
 use crate::cells::{Caller, open};
 use crate::words::{Kind, Load, read};
@@ -16,10 +16,10 @@ use std::time::{Clock, Duration};
 type Places = Vec<(Caller, Calls)>;
 
 /// What a CPU, or all CPUs together, leave: the callers, and the times of the first start and the last end.
-type Ended = Result<(Vec<Caller>, Duration, Duration), Fault>;
+type Ended = Result<(Vec<Caller>, Duration, Duration), BenchFault>;
 
 /// Opens a queue for each share of the calls, and gives each CPU a place at each.
-fn open_all(alloc: Global, kind: Kind, load: &Load) -> Result<Vec<Places>, Fault> {
+fn open_all(alloc: Global, kind: Kind, load: &Load) -> Result<Vec<Places>, BenchFault> {
     let mut crew: Vec<Places> = (0..load.cpus).map(|_| Vec::new(alloc)).collect(alloc)?;
     for count in load.shares(alloc)? {
         let (form, turns) = (load.form, load.turns(count));
@@ -48,11 +48,11 @@ fn work<R: Wait + Clock>(rt: &R, alloc: Global, gate: (&AtomicUsize, usize), own
     let room = Vec::with_capacity(alloc, own.len());
     pass_gate(rt, gate.0, gate.1);
     let mut callers = room?;
-    let start = rt.monotonic().map_err(|_| Fault::NoClock)?;
+    let start = rt.monotonic().map_err(|_| BenchFault::NoClock)?;
     for (caller, calls) in own {
         callers.push(caller.call(rt, &calls))?;
     }
-    let end = rt.monotonic().map_err(|_| Fault::NoClock)?;
+    let end = rt.monotonic().map_err(|_| BenchFault::NoClock)?;
     Ok((callers, start, end))
 }
 
@@ -63,10 +63,10 @@ fn start_all<'s, E, R: Threads + Wait + Clock + Sync>(
     (gate, awaited): (&'s AtomicUsize, usize),
     crew: Vec<Places>,
     handles: &mut Vec<JoinHandle<Ended>>,
-) -> Result<(), Fault> {
+) -> Result<(), BenchFault> {
     for places in crew {
         let Ok(handle) = scope.spawn(move || work(rt, alloc, (gate, awaited), places)) else {
-            return Err(Fault::NoThreadStarted);
+            return Err(BenchFault::NoThreadStarted);
         };
         handles.push(handle)?;
     }
@@ -99,7 +99,7 @@ fn print_round<R: Threads + Wait + Clock + Print + Sync>(
     alloc: Global,
     (name, kind): (&str, Kind),
     load: &Load,
-) -> Result<(), Fault> {
+) -> Result<(), BenchFault> {
     let (callers, start, end) = on_threads(rt, alloc, open_all(alloc, kind, load)?)?;
     let (mut events, mut turns) = (0usize, 0usize);
     for caller in callers {
@@ -109,14 +109,14 @@ fn print_round<R: Threads + Wait + Clock + Print + Sync>(
     }
     let nanoseconds = end.saturating_sub(start).as_nanos();
     let written = println!(rt; "{name} {nanoseconds} {events} {turns}");
-    written.map_err(|_| Fault::WriteFailed)
+    written.map_err(|_| BenchFault::WriteFailed)
 }
 
 /// All rounds that the program's words ask for, a round of each kind after another.
 pub fn print_rounds<R: Threads + Wait + Clock + Print + Env + Sync>(
     rt: &R,
     alloc: Global,
-) -> Result<(), Fault> {
+) -> Result<(), BenchFault> {
     let asked = read(rt, alloc)?;
     for _ in 0..asked.rounds {
         for (name, kind) in &asked.kinds {

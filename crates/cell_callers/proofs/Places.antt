@@ -7,13 +7,13 @@ use Rattle.word_rule.specs.declared.pass.Pass.{Pass}
 use Rattle.guarded_cell.specs.declared.cell.AnyCell.{AnyCell}
 use Rattle.cell_callers.specs.declared.caller_state.CallerState.{CallerState}
 use Rattle.cell_callers.specs.declared.caller_state.CallerState.TheVariants as at
-use Rattle.cell_callers.specs.declared.place.Place.{Place}
+use Rattle.cell_callers.specs.declared.place.CallerPlace.{CallerPlace}
 use Rattle.cell_callers.specs.CallerStates.{IsOf, IsOne, state_of}
 use Rattle.cell_callers.specs.Places.{IsPlaceOf, place_of, stands_at}
 
 module _ {O P C R : Type 0} {g : Ghosts O P C R} {call_eq : Eq C} {call_default : Default C} {reply_eq : Eq R} {reply_default : Default R} where
   -- who stands at such a place is of its cell, and owns one CPU
-  pub at_place : (cell : AnyCell O P C R) (place : Place O P C R g call_eq call_default reply_eq reply_default) (s : CallerState O P C R g call_eq call_default reply_eq reply_default)
+  pub at_place : (cell : AnyCell O P C R) (place : CallerPlace O P C R g call_eq call_default reply_eq reply_default) (s : CallerState O P C R g call_eq call_default reply_eq reply_default)
       → IsPlaceOf cell place → place_of place ≡ Some s → IsOf cell s × IsOne (state_of s).caller
   at_place cell place s there is =
       let same : there.0 ≡ s = cc (there.1, is) in
@@ -29,7 +29,7 @@ module _ {O P C R : Type 0} {g : Ghosts O P C R} {call_eq : Eq C} {call_default 
   stands_in_line pass line s none some = ap (λ p. stands_at p line) none ∙ ap (λ l. stands_at {g = g} {call_eq = call_eq} {call_default = call_default} {reply_eq = reply_eq} {reply_default = reply_default} None l) some
 
   -- what holds of where the caller stands
-  pub placed : (place : Place O P C R g call_eq call_default reply_eq reply_default) (s : CallerState O P C R g call_eq call_default reply_eq reply_default) (Q : CallerState O P C R g call_eq call_default reply_eq reply_default → Type 0) → place_of place ≡ Some s → Q s → IfSome (place_of place) Q
+  pub placed : (place : CallerPlace O P C R g call_eq call_default reply_eq reply_default) (s : CallerState O P C R g call_eq call_default reply_eq reply_default) (Q : CallerState O P C R g call_eq call_default reply_eq reply_default → Type 0) → place_of place ≡ Some s → Q s → IfSome (place_of place) Q
   placed place s Q is holds = subst (λ o. IfSome o Q) (sym is) holds
 
   -- an idle caller stands there whose pass is there, and any other where none is

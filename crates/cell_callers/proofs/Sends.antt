@@ -44,7 +44,7 @@ use Rattle.mcs_lock.specs.contracts.states.Passing as Passing
 use Rattle.guarded_cell.specs.contracts.cell.AnyCell as AnyCell
 use Rattle.guarded_cell.proofs.cell.AnyCell.TheSendSync.{the_send as any_send, the_sync as any_sync}
 use Rattle.cell_callers.specs.contracts.caller_state.CallerState as CallerState
-use Rattle.cell_callers.specs.contracts.place.Place as Place
+use Rattle.cell_callers.specs.contracts.place.CallerPlace as CallerPlace
 use Rattle.cell_callers.specs.contracts.caller.Caller as Caller
 use Rattle.cell_callers.specs.contracts.open_cell.OpenCell as OpenCell
 use Rattle.cell_callers.specs.contracts.handle_content.HandleContent as HandleContent
@@ -94,8 +94,8 @@ module _ (O P C R : RattleType) (g : Ghosts O.Denot P.Denot C.Denot R.Denot) (ce
       let t = CallerState.the_type O P C R g ce cd re rd in
       recorded_send _ _ _ t.to_one state_send
 
-  place_send : IsSend (Place.the_field O P C R g ce cd re rd).row
-  place_send = struct_send (fields (Place.the_type O P C R g ce cd re rd)) (search (sendable, pass_send O P C R g ce cd re rd o p c r) depth 40, (search (sendable, state_row_send) depth 40, tt))
+  place_send : IsSend (CallerPlace.the_field O P C R g ce cd re rd).row
+  place_send = struct_send (fields (CallerPlace.the_type O P C R g ce cd re rd)) (search (sendable, pass_send O P C R g ce cd re rd o p c r) depth 40, (search (sendable, state_row_send) depth 40, tt))
 
 -- a cell around an object of the kernel, and its passes
 abbrev cell : RattleType

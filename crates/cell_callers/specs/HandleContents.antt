@@ -27,7 +27,7 @@ use Rattle.cell_callers.specs.declared.whole.TriedCall.TheVariants as tried
 use Rattle.cell_callers.specs.declared.caller_state.CallerState.{CallerState}
 use Rattle.mcs_lock.specs.declared.states.Behind.{Behind}
 use Rattle.word_rule.specs.declared.hold.Hold.{Hold}
-use Rattle.cell_callers.specs.declared.place.Place.{Place}
+use Rattle.cell_callers.specs.declared.place.CallerPlace.{CallerPlace}
 use Rattle.cell_callers.specs.Places.{Between}
 use Rattle.guarded_cell.specs.declared.cell.AnyCell.{AnyCell}
 
@@ -51,7 +51,7 @@ abbrev pub KernelBehind : Type 0
 KernelBehind = Behind KernelObject KParams KCall KReply ghosts call_compares call_defaults reply_compares reply_defaults
 
 abbrev pub KernelPlace : Type 0
-KernelPlace = Place KernelObject KParams KCall KReply ghosts call_compares call_defaults reply_compares reply_defaults
+KernelPlace = CallerPlace KernelObject KParams KCall KReply ghosts call_compares call_defaults reply_compares reply_defaults
 
 -- a caller of the same cell has done that, and reports r; what is no caller reports that nothing was done
 abbrev pub IsDoneIn : {R : Type 0} → (AnyCell KernelObject KParams KCall KReply → KernelState → R → KernelState → Type 0) → R → HandleContent → R → HandleContent → Type 0

@@ -7,7 +7,7 @@ use Rattle.word_rule.specs.declared.pass.Pass.{Pass}
 use Rattle.guarded_cell.specs.declared.cell.AnyCell.{AnyCell}
 use Rattle.cell_callers.specs.declared.caller_state.CallerState.{CallerState}
 use Rattle.cell_callers.specs.declared.caller_state.CallerState.TheVariants as at
-use Rattle.cell_callers.specs.declared.place.Place.{Place}
+use Rattle.cell_callers.specs.declared.place.CallerPlace.{CallerPlace}
 use Rattle.cell_callers.specs.CallerStates.{IsOf, IsOne, state_of}
 
 module _ {O P C R : Type 0} {g : Ghosts O P C R} {call_eq : Eq C} {call_default : Default C} {reply_eq : Eq R} {reply_default : Default R} where
@@ -17,17 +17,17 @@ module _ {O P C R : Type 0} {g : Ghosts O P C R} {call_eq : Eq C} {call_default 
   stands_at None (Some state) = Some state
   stands_at pass line = None
 
-  abbrev pub place_of : Place O P C R g call_eq call_default reply_eq reply_default → Option (CallerState O P C R g call_eq call_default reply_eq reply_default)
+  abbrev pub place_of : CallerPlace O P C R g call_eq call_default reply_eq reply_default → Option (CallerState O P C R g call_eq call_default reply_eq reply_default)
   place_of place = stands_at place.pass place.line
 
   -- its call is on its way
-  abbrev pub IsAway : Place O P C R g call_eq call_default reply_eq reply_default → Type 0
+  abbrev pub IsAway : CallerPlace O P C R g call_eq call_default reply_eq reply_default → Type 0
   IsAway place = (place.pass ≡ None) × (place.line ≡ None)
 
   -- the caller that stands there is of the cell, and owns one CPU
-  abbrev pub IsPlaceOf : AnyCell O P C R → Place O P C R g call_eq call_default reply_eq reply_default → Type 0
+  abbrev pub IsPlaceOf : AnyCell O P C R → CallerPlace O P C R g call_eq call_default reply_eq reply_default → Type 0
   IsPlaceOf cell place = (s : CallerState O P C R g call_eq call_default reply_eq reply_default) × (place_of place ≡ Some s) × IsOf cell s × IsOne (state_of s).caller
 
   -- it stood at one place and stands at the other, and Q holds between where it stood and where it stands
-  abbrev pub Between : Place O P C R g call_eq call_default reply_eq reply_default → Place O P C R g call_eq call_default reply_eq reply_default → (CallerState O P C R g call_eq call_default reply_eq reply_default → CallerState O P C R g call_eq call_default reply_eq reply_default → Type 0) → Type 0
+  abbrev pub Between : CallerPlace O P C R g call_eq call_default reply_eq reply_default → CallerPlace O P C R g call_eq call_default reply_eq reply_default → (CallerState O P C R g call_eq call_default reply_eq reply_default → CallerState O P C R g call_eq call_default reply_eq reply_default → Type 0) → Type 0
   Between before after Q = (p q : CallerState O P C R g call_eq call_default reply_eq reply_default) × (place_of before ≡ Some p) × (place_of after ≡ Some q) × Q p q

@@ -12,8 +12,8 @@ ghost use Rattle.cell_callers.specs.Facts.{of_props};
 ghost use Rattle.cell_callers.specs.Places.{place_of, Between};
 
 use crate::{
-    Place, Progress, TriedCall, Whole, acquire_step, apply, call_in_line, release_step, try_call,
-    try_hold,
+    CallerPlace, Progress, TriedCall, Whole, acquire_step, apply, call_in_line, release_step,
+    try_call, try_hold,
 };
 use event_log::{NoRoom, SeqObject};
 use guarded_cell::AnyCell;
@@ -24,7 +24,7 @@ use std::sync::Arc;
 /// dropped.
 pub struct Caller<O: SeqObject> {
     pub cell: Arc<AnyCell<O>, Global>,
-    pub place: Place<O>,
+    pub place: CallerPlace<O>,
     pub ghost there: { IsSome (place_of place) },
     pub ghost of: { IfSome (place_of place) (λ s. IsOf (arc_value cell) s) } by { Prim.hlevel of_props },
     pub ghost one: { IfSome (place_of place) (λ s. IsOne (state_of s).caller) } by { Prim.hlevel of_props },

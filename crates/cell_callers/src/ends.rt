@@ -8,7 +8,7 @@ ghost use Rattle.cell_callers.specs.NewCells.{IsOpenedOn};
 ghost use Rattle.cell_callers.specs.Ends.{IsNewCaller, IsReturned, IsClosed};
 
 use crate::unused::end_unused;
-use crate::{Caller, CallerState, OpenCell, Place};
+use crate::{Caller, CallerPlace, CallerState, OpenCell};
 use event_log::{Logged, SeqObject};
 use guarded_cell::AnyCell;
 use sound_run::{LockKind, MOST_CPUS};
@@ -94,7 +94,7 @@ impl<O: SeqObject> OpenCell<O> {
         };
         let caller = Caller {
             cell: shared,
-            place: Place::of(CallerState::Idle(pass)),
+            place: CallerPlace::of(CallerState::Idle(pass)),
         };
         (rest, Ok(caller))
     }
@@ -139,11 +139,11 @@ impl<O: SeqObject> OpenCell<O> {
                 if self.back < self.cpus && pass.outside.cpu.number == u32::from(self.back) {
                     return (self.with_back(pass), None);
                 }
-                let place = Place::of(CallerState::Idle(pass));
+                let place = CallerPlace::of(CallerState::Idle(pass));
                 (self, Some(Caller { cell, place }))
             }
             state => {
-                let place = Place::of(state);
+                let place = CallerPlace::of(state);
                 (self, Some(Caller { cell, place }))
             }
         }

@@ -52,7 +52,7 @@ pub use logged_step::LoggedStep;
 pub use open_cell::OpenCell;
 pub use opening::{NotOpened, Opening};
 pub use parts::Parts;
-pub use place::Place;
+pub use place::CallerPlace;
 pub use progress::Progress;
 pub use releasing::release_step;
 pub use straight::call_straight;

@@ -9,24 +9,24 @@ use event_log::SeqObject;
 use word_rule::Pass;
 
 /// Where a caller stands. While a call is on its way neither part is there. It can't be dropped.
-pub struct Place<O: SeqObject> {
+pub struct CallerPlace<O: SeqObject> {
     /// The pass of an idle caller.
     pub pass: Option<Pass<O>>,
     /// What any other has.
     pub line: Option<CallerState<O>>,
 }
 
-impl<O: SeqObject> Place<O> {
+impl<O: SeqObject> CallerPlace<O> {
     /// The place of a caller that stands there.
-    pub fn of(state: CallerState<O>) -> Place<O>
+    pub fn of(state: CallerState<O>) -> CallerPlace<O>
         ensures { place_of result ≡ Some state }
     {
         match state {
-            CallerState::Idle(pass) => Place {
+            CallerState::Idle(pass) => CallerPlace {
                 pass: Some(pass),
                 line: None,
             },
-            other => Place {
+            other => CallerPlace {
                 pass: None,
                 line: Some(other),
             },
@@ -39,11 +39,11 @@ impl<O: SeqObject> Place<O> {
         ensures { place_of self ≡ Some result }
     {
         match self {
-            Place {
+            CallerPlace {
                 pass: Some(pass),
                 line: None,
             } => CallerState::Idle(pass),
-            Place {
+            CallerPlace {
                 pass: None,
                 line: Some(state),
             } => state,

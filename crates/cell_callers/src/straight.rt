@@ -23,7 +23,7 @@ use crate::codes::{DONE, FULL, LOOKED, answer_code, call_code, count_look, kept_
 use crate::coding::Answered;
 use crate::place::put_line;
 use crate::whole::{apply_held, call_arrived};
-use crate::{Caller, CallerState, Place, call_in_line};
+use crate::{Caller, CallerPlace, CallerState, call_in_line};
 use core::mem::replace;
 use guarded_cell::AnyCell;
 use kernel_object::{KCall, KernelObject};
@@ -38,7 +38,7 @@ type Line = Option<CallerState<KernelObject>>;
 #[inline(never)]
 fn go_on(
     cell: &AnyCell<KernelObject>,
-    place: &mut Place<KernelObject>,
+    place: &mut CallerPlace<KernelObject>,
     call: KCall,
     answered: &mut Answered,
     looks: &mut u64,
@@ -71,7 +71,7 @@ fn wait_drawn(line: &mut Line, drawn: Drawn<KernelObject>, looks: &mut u64) -> u
 #[inline(never)]
 fn come_behind(
     any: &AnyCell<KernelObject>,
-    place: &mut Place<KernelObject>,
+    place: &mut CallerPlace<KernelObject>,
     behind: Behind<KernelObject>,
     call: KCall,
     answered: &mut Answered,
@@ -118,7 +118,7 @@ fn pass_on(cell: &McsCell<KernelObject>, passing: Passing<KernelObject>) -> Pass
 fn straight_ticket(
     cell: &TicketCell<KernelObject>,
     pass: Pass<KernelObject>,
-    place: &mut Place<KernelObject>,
+    place: &mut CallerPlace<KernelObject>,
     call: KCall,
     answered: &mut Answered,
     looks: &mut u64,
@@ -145,7 +145,7 @@ fn straight_mcs(
     any: &AnyCell<KernelObject>,
     cell: &McsCell<KernelObject>,
     pass: Pass<KernelObject>,
-    place: &mut Place<KernelObject>,
+    place: &mut CallerPlace<KernelObject>,
     call: KCall,
     answered: &mut Answered,
     looks: &mut u64,

@@ -1,7 +1,7 @@
 //! The program: scripts in, the record of a run out; a record in, a report out.
 #![tactic(auto)]
 
-use mc2_command::{Fault, command, refuse};
+use mc2_command::{CommandFault, command, refuse};
 use program::start;
 use std::process::ExitCode;
 
@@ -10,7 +10,7 @@ fn main(rt: HostRuntime) -> ExitCode {
         &rt,
         (rt.stdout(), rt.stderr()),
         |words, inputs, out, faults| command(&rt, rt.alloc(), words, inputs, out, faults),
-        |refusal, faults| refuse(&Fault::from(refusal), faults),
+        |refusal, faults| refuse(&CommandFault::from(refusal), faults),
     );
     ExitCode::from(status)
 }

@@ -4,7 +4,7 @@
 ghost use Rattle.std.specs.Prelude.{◌≡◌, ◌<◌, List, Some, IfOk, IfErr, string_bytes};
 ghost use Rattle.std.specs.List.{AllByRecursion};
 ghost use Rattle.auditor.specs.VerdictText.{IsNamed};
-ghost use Rattle.auditor.specs.declared.fault.Fault.{Fault as AuditFault};
+ghost use Rattle.auditor.specs.declared.fault.Fault.{Fault};
 ghost use Rattle.records.specs.declared.record.TheConstants.{MOST_ENTRIES};
 ghost use Rattle.sound_run.specs.declared.place.Place.{Place};
 ghost use Rattle.mc2_command.specs.Answers.{AnswersRun, AnswersSim, AnswersReport, AnswersAudit, AnswersMerge};
@@ -14,7 +14,7 @@ ghost use Rattle.program.specs.Texts.{RefusesRecord, SpellsRecordOf};
 ghost use Rattle.mc2_command.specs.Faults.{tells_read_failed};
 ghost use Rattle.mc2_command.specs.Refused.{IsCommon, IsNoOrder, RefusesMerge, RefusesRun, RefusesSim};
 
-use crate::fault::Fault;
+use crate::fault::CommandFault;
 use crate::input::settings_of;
 use auditor::{RecordJudge, ReferenceKernelObject, Verdict, fault_text, verdict_line};
 use cpu_worker::{AlwaysAllowed, OpenGate, report, run_owned, simulate_owned};
@@ -36,7 +36,7 @@ pub fn run_answer<R: Threads + Wait + Sync, I: Inputs>(
     inputs: &mut I,
     settings: Option<&str>,
     scripts: Option<&str>,
-) -> Result<Record, Fault>
+) -> Result<Record, CommandFault>
     ensures answer { IfOk result (AnswersRun (I.held inputs.old) (bytes_of settings.entry) (bytes_of scripts.entry)) }
     ensures refused { IfErr result (RefusesRun (I.held inputs.old) (bytes_of settings.entry) (bytes_of scripts.entry)) }
     ensures failures { I.failed inputs.new ≡ counted (tells_read_failed result) (I.failed inputs.old) }
@@ -55,7 +55,7 @@ pub fn sim_answer<I: Inputs>(
     settings: &str,
     scripts: &str,
     schedule: &str,
-) -> Result<Record, Fault>
+) -> Result<Record, CommandFault>
     ensures answer { IfOk result (AnswersSim (I.held inputs.old) settings.now scripts.now schedule.now) }
     ensures refused { IfErr result (RefusesSim (I.held inputs.old) settings.now scripts.now schedule.now) }
     ensures failures { I.failed inputs.new ≡ counted (tells_read_failed result) (I.failed inputs.old) }
@@ -65,7 +65,7 @@ pub fn sim_answer<I: Inputs>(
     let schedule = read_schedule(alloc, inputs, schedule, &settings)?;
     match simulate_owned(alloc, settings, scripts, &schedule) {
         Ok(record) => Ok(record),
-        Err(OutOfMemory) => Err(Fault::Common(Refusal::OutOfMemory)),
+        Err(OutOfMemory) => Err(CommandFault::Common(Refusal::OutOfMemory)),
     }
 }
 
@@ -115,20 +115,20 @@ pub fn audit_answer<I: Inputs>(
 }
 
 /// Why a record has no order, as a refusal.
-fn no_order(alloc: Global, settings: &Settings, cause: MergeFault) -> Fault
-    requires named { (f : AuditFault) → cause ≡ MergeFault.Unsound f → IsNamed settings.now f }
+fn no_order(alloc: Global, settings: &Settings, cause: MergeFault) -> CommandFault
+    requires named { (f : Fault) → cause ≡ MergeFault.Unsound f → IsNamed settings.now f }
     requires few { (c : List Place) → cause ≡ MergeFault.Cycle c → AllByRecursion (λ p. p.entry < MOST_ENTRIES) c }
     ensures { IsNoOrder settings.now cause result }
 {
     match cause {
-        MergeFault::OutOfMemory => Fault::Common(Refusal::OutOfMemory),
+        MergeFault::OutOfMemory => CommandFault::Common(Refusal::OutOfMemory),
         MergeFault::Unsound(fault) => match fault_text(alloc, settings, &fault) {
-            Ok(text) => Fault::Unsound(text),
-            Err(OutOfMemory) => Fault::Common(Refusal::OutOfMemory),
+            Ok(text) => CommandFault::Unsound(text),
+            Err(OutOfMemory) => CommandFault::Common(Refusal::OutOfMemory),
         },
         MergeFault::Cycle(cycle) => match cycle_text(alloc, cycle.as_slice()) {
-            Ok(text) => Fault::Cycle(text),
-            Err(OutOfMemory) => Fault::Common(Refusal::OutOfMemory),
+            Ok(text) => CommandFault::Cycle(text),
+            Err(OutOfMemory) => CommandFault::Common(Refusal::OutOfMemory),
         },
     }
 }
@@ -138,7 +138,7 @@ pub fn merge_answer<I: Inputs>(
     alloc: Global,
     inputs: &mut I,
     record: Option<&str>,
-) -> Result<OrderedRecord, Fault>
+) -> Result<OrderedRecord, CommandFault>
     ensures answer { IfOk result (λ a. AnswersMerge (I.held inputs.old) (bytes_of «record».entry) a.of a.places) }
     ensures refused { IfErr result (RefusesMerge (I.held inputs.old) (bytes_of «record».entry)) }
     ensures failures { I.failed inputs.new ≡ counted (tells_read_failed result) (I.failed inputs.old) }

@@ -14,7 +14,7 @@ use crate::answers::{
     audit_answer, merge_answer, report_answer, run_answer, sim_answer, upgrade_answer,
 };
 use crate::arguments::{Arguments, read_words};
-use crate::fault::Fault;
+use crate::fault::CommandFault;
 use auditor::Verdict;
 use event_log::Sink;
 use log_merge::OrderedRecord;
@@ -81,7 +81,7 @@ fn answer_to<R: Threads + Wait + Sync, I: Inputs>(
     alloc: Global,
     arguments: Arguments<'_>,
     inputs: &mut I,
-) -> Result<Answer, Fault>
+) -> Result<Answer, CommandFault>
     ensures answer { IfOk result (λ a. AnswersFor (I.held inputs.old) arguments.entry (status_with a) (printed a)) }
     ensures refused { IfErr result (RefusesTo (I.held inputs.old) arguments.entry) }
     ensures failures { I.failed inputs.new ≡ counted (tells_read_failed result) (I.failed inputs.old) }
@@ -124,7 +124,7 @@ fn answered<R: Threads + Wait + Sync, I: Inputs>(
     alloc: Global,
     words: &[String],
     inputs: &mut I,
-) -> Result<Answer, Fault>
+) -> Result<Answer, CommandFault>
     ensures answer { IfOk result (λ a. AnswersWith (I.held inputs.old) words.now (status_with a) (printed a)) }
     ensures refused { IfErr result (Refuses (I.held inputs.old) words.now) }
     ensures failures { I.failed inputs.new ≡ counted (tells_read_failed result) (I.failed inputs.old) }
@@ -155,22 +155,22 @@ fn perform<R: Threads + Wait + Sync, I: Inputs, W: Sink>(
     words: &[String],
     inputs: &mut I,
     out: &mut W,
-) -> Result<u8, Fault>
+) -> Result<u8, CommandFault>
     ensures done { IfOk result (λ status. Prints (AnswersWith (I.held inputs.old) words.now status) (W.contents out.old) (W.contents out.new)) }
     ensures none_failed { OnOk result (W.failed out.new ≡ W.failed out.old) }
     ensures failures { I.failed inputs.new ≡ counted (tells_read_failed result) (I.failed inputs.old) }
     ensures refused { IfErr result (λ f. (Refuses (I.held inputs.old) words.now f × (out.new ≡ out.old))
-        ⊎ ((f ≡ Fault.Common Refusal.WriteFailed) × PrintsSome (AnswersAny (I.held inputs.old) words.now) (W.contents out.old) (W.contents out.new) × (W.failed out.new ≡ counted true (W.failed out.old)))) }
+        ⊎ ((f ≡ CommandFault.Common Refusal.WriteFailed) × PrintsSome (AnswersAny (I.held inputs.old) words.now) (W.contents out.old) (W.contents out.new) × (W.failed out.new ≡ counted true (W.failed out.old)))) }
 {
     let answer = answered(rt, alloc, words, inputs)?;
     match write_answer(&answer, out) {
         Ok(()) => Ok(answer.status()),
-        Err(WriteFailed) => Err(Fault::Common(Refusal::WriteFailed)),
+        Err(WriteFailed) => Err(CommandFault::Common(Refusal::WriteFailed)),
     }
 }
 
 /// Writes the line of the refusal, and answers its status.
-pub fn refuse<F: Sink>(fault: &Fault, faults: &mut F) -> u8
+pub fn refuse<F: Sink>(fault: &CommandFault, faults: &mut F) -> u8
     ensures { result ≡ status_of fault.now }
 {
     write_line(fault, faults);

@@ -9,7 +9,7 @@ use thiserror::Error;
 
 /// A refusal, which is printed as one line.
 #[derive(Debug, Drop, Error)]
-pub enum Fault {
+pub enum CommandFault {
     #[error("mc2: {0}")]
     Common(Refusal),
     #[error("mc2: E5 no thread started for cpu {0}")]
@@ -20,34 +20,34 @@ pub enum Fault {
     Cycle(String),
 }
 
-impl Fault {
+impl CommandFault {
     /// The status that the program ends with.
     pub fn status(&self) -> u8
         ensures { result ≡ status_of self.now }
     {
         match self {
-            Fault::Common(refusal) => refusal.status(),
-            Fault::NoThreadStarted(_) => 3,
-            Fault::Unsound(_) | Fault::Cycle(_) => 1,
+            CommandFault::Common(refusal) => refusal.status(),
+            CommandFault::NoThreadStarted(_) => 3,
+            CommandFault::Unsound(_) | CommandFault::Cycle(_) => 1,
         }
     }
 }
 
-impl From<RunFault> for Fault {
+impl From<RunFault> for CommandFault {
     ghost from_gives = { λ cause fault. fault ≡ of_run cause };
 
-    fn from(fault: RunFault) -> Fault {
+    fn from(fault: RunFault) -> CommandFault {
         match fault {
-            RunFault::OutOfMemory => Fault::Common(Refusal::OutOfMemory),
-            RunFault::NoThreadStarted(cpu) => Fault::NoThreadStarted(cpu),
+            RunFault::OutOfMemory => CommandFault::Common(Refusal::OutOfMemory),
+            RunFault::NoThreadStarted(cpu) => CommandFault::NoThreadStarted(cpu),
         }
     }
 }
 
-impl From<Refusal> for Fault {
+impl From<Refusal> for CommandFault {
     ghost from_gives = { λ cause fault. fault ≡ of_refusal cause };
 
-    fn from(refusal: Refusal) -> Fault {
-        Fault::Common(refusal)
+    fn from(refusal: Refusal) -> CommandFault {
+        CommandFault::Common(refusal)
     }
 }

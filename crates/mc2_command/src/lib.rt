@@ -14,5 +14,5 @@ pub use answers::{
 };
 pub use arguments::{Arguments, read_words};
 pub use commands::{command, refuse};
-pub use fault::Fault;
+pub use fault::CommandFault;
 pub use law::{forms_are_asked, simulations_have_no_cycle};

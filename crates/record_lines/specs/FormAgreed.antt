@@ -1,7 +1,7 @@
 -- What a reader of records knows of its place, and what its sink was handed over, tell what was read.
 use Rattle.std.specs.Prelude.{ℕ, Bool, true, false, ◌≡◌, length}
 use Rattle.record_lines.specs.declared.forms.form.RecordForm.{Ghosts}
-use Rattle.record_lines.specs.declared.forms.place.Place.{Place}
+use Rattle.record_lines.specs.declared.forms.place.ReaderPlace.{ReaderPlace}
 use Rattle.record_lines.specs.declared.forms.place.Next.{Next}
 use Rattle.record_lines.specs.declared.forms.place.Next.TheVariants.{Head, Log, Event, Cpu, Entry, End, Done}
 use Rattle.record_lines.specs.Received.{Received, only_head}
@@ -9,17 +9,17 @@ use Rattle.record_lines.specs.FormStates.{State, FitsAt}
 
 module _ {H E T : Type 0} where
   -- what was read, and which line can come next
-  abbrev pub shown : Place H → Received H E T → State H E T
+  abbrev pub shown : ReaderPlace H → Received H E T → State H E T
   shown at p = record { awaits = at.awaits; head = at.head; count = at.count; logs = p.logs; events = p.events; transcripts = p.transcripts; entries = p.entries }
 
   -- the sink was told the head, whether a log or a transcript is being read, and how many items its head told
-  pub record IsTold (within : Bool) (at : Place H) (p : Received H E T) : Type 0 where
+  pub record IsTold (within : Bool) (at : ReaderPlace H) (p : Received H E T) : Type 0 where
     pub head : p.head ≡ at.head
     pub begun : p.begun ≡ within
     pub count : p.count ≡ at.count
 
   -- the numbers say how many were handed over
-  pub record IsCounted (at : Place H) (p : Received H E T) : Type 0 where
+  pub record IsCounted (at : ReaderPlace H) (p : Received H E T) : Type 0 where
     pub logs : at.log_count ≡ length p.logs
     pub events : at.event_count ≡ length p.events
     pub transcripts : at.transcript_count ≡ length p.transcripts
@@ -27,7 +27,7 @@ module _ {H E T : Type 0} where
 
 module _ {S H E T : Type 0} (f : Ghosts S H E T) where
   -- where the head isn't whole it was handed over nothing
-  abbrev pub IsToldAt : Next → Place H → Received H E T → Type 0
+  abbrev pub IsToldAt : Next → ReaderPlace H → Received H E T → Type 0
   IsToldAt Head at p = p ≡ only_head f.no_head
   IsToldAt Log at p = IsTold false at p
   IsToldAt Event at p = IsTold true at p
@@ -37,5 +37,5 @@ module _ {S H E T : Type 0} (f : Ghosts S H E T) where
   IsToldAt Done at p = IsTold false at p
 
   -- what was read is within all limits, and the reader and its sink agree on it
-  abbrev pub Agree : Place H → Received H E T → Type 0
+  abbrev pub Agree : ReaderPlace H → Received H E T → Type 0
   Agree at p = FitsAt f at.awaits (shown at p) × IsToldAt at.awaits at p × IsCounted at p

@@ -6,7 +6,7 @@ use Rattle.toml.specs.Data.{Data, Items, no_items, item, Members, as_integer, as
 use Rattle.page_pool.specs.State.{is_in_range}
 use Rattle.page_pool.specs.declared.params.PoolParams.{PoolParams}
 use Rattle.page_pool.specs.declared.params.TheConstants.{MOST_PAGES, OWNERS}
-use Rattle.scripts.specs.declared.settings.fault.Place.{Place}
+use Rattle.scripts.specs.declared.settings.fault.SettingsPlace.{SettingsPlace}
 use Rattle.scripts.specs.declared.settings.fault.SettingsKey.TheVariants.{Pages, Quotas as QuotasKey, Threads, Channels, Bytes}
 use Rattle.scripts.specs.KindKeys.Pool.{are_integers, quota_from, each_quota, quotas_from, pool_params_in}
 use Rattle.scripts.specs.SettingsKeys.{key_in, key_or, number_from, count_items}
@@ -58,10 +58,10 @@ quotas_ok d qs e =
     record { count = all.0 ∙ eqb-true (count_items there.0) OWNERS counted.0; each = all.1 }
 
 -- the quotas of a pool of so many pages
-quotas_in : (place : Place) (ms : Members) (pages : ℕ) (qs : List ℕ) → is_quota pages ≡ true → key_or place QuotasKey quotas_from (replicate OWNERS pages) ms ≡ Ok qs → AreQuotas qs
+quotas_in : (place : SettingsPlace) (ms : Members) (pages : ℕ) (qs : List ℕ) → is_quota pages ≡ true → key_or place QuotasKey quotas_from (replicate OWNERS pages) ms ≡ Ok qs → AreQuotas qs
 quotas_in place ms pages qs few e = key_or_ok AreQuotas place QuotasKey quotas_from (replicate OWNERS pages) ms qs (λ d. quotas_ok d qs) (full_are pages few) e
 
-pool_set : (place : Place) (ms : Members) (p : PoolParams) → pool_params_in place ms ≡ Ok p → is_in_range p ≡ true
+pool_set : (place : SettingsPlace) (ms : Members) (p : PoolParams) → pool_params_in place ms ≡ Ok p → is_in_range p ≡ true
 unfolding pool_params_in
 pool_set place ms p e =
     let pages = bind_ok (key_in place Pages (number_from MOST_PAGES) ms) _ p e in
@@ -71,7 +71,7 @@ pool_set place ms p e =
     let all = quotas_in place ms pages.0 quotas.0 (le-leb pages.0 MOST_PAGES number.1) quotas.1 in
     subst (λ q. is_in_range q ≡ true) same (pool_in_range (record { pages = pages.0; quotas = quotas.0 }) (one_fits pages.0 MOST_PAGES number) all)
 
-sched_set : (place : Place) (ms : Members) (p : SchedParams) → sched_params_in place ms ≡ Ok p → sched_in_range p ≡ true
+sched_set : (place : SettingsPlace) (ms : Members) (p : SchedParams) → sched_params_in place ms ≡ Ok p → sched_in_range p ≡ true
 unfolding sched_params_in
 sched_set place ms p e =
     let threads = bind_ok (key_in place Threads (number_from MOST_THREADS) ms) _ p e in
@@ -82,7 +82,7 @@ sched_set place ms p e =
 
 -- what a table of settings says is in its range
 abbrev SetsInRange : {d : KindDefinition} → KindKeys d → Type 0
-SetsInRange {d} k = (place : Place) (ms : Members) (p : d.Params) → k.params_in place ms ≡ Ok p → d.in_range p ≡ true
+SetsInRange {d} k = (place : SettingsPlace) (ms : Members) (p : d.Params) → k.params_in place ms ≡ Ok p → d.in_range p ≡ true
 
 pub sets_in_range : (k : Kind) → SetsInRange (keys_by k)
 sets_in_range kinds.Queue = λ place ms t e. one_fits t QUEUE_THREADS (number_in place Threads QUEUE_THREADS ms t e)

@@ -13,8 +13,8 @@ use Rattle.kernel_object.specs.Kernel.{kernel_in_range}
 use Rattle.kernel_object.specs.Kinds.All.{params_of}
 use Rattle.kernel_object.proofs.KindLaws.{by_kind_is}
 use Rattle.kernel_words.specs.declared.form.TheConstants.{WRITTEN}
-use Rattle.scripts.specs.declared.settings.fault.Place.{Place}
-use Rattle.scripts.specs.declared.settings.fault.Place.TheVariants.{Top, Object}
+use Rattle.scripts.specs.declared.settings.fault.SettingsPlace.{SettingsPlace}
+use Rattle.scripts.specs.declared.settings.fault.SettingsPlace.TheVariants.{Top, Object}
 use Rattle.scripts.specs.declared.settings.fault.SettingsKey.TheVariants as Key
 use Rattle.scripts.specs.KindKeys.All.{keys_by}
 use Rattle.records.specs.Settings.{Settings, ObjectSettings, ObjectFits, SettingsFit}
@@ -48,7 +48,7 @@ items_ok d ds e =
 
 -- ---- parameters
 
-params_ok : (place : Place) (kind : Kind) (ms : Members) (p : KParams) → params_in place kind ms ≡ Ok p → kernel_in_range p ≡ true
+params_ok : (place : SettingsPlace) (kind : Kind) (ms : Members) (p : KParams) → params_in place kind ms ≡ Ok p → kernel_in_range p ≡ true
 unfolding params_in
 params_ok place kind ms p e =
     let there = bind_ok ((keys_by kind).params_in place ms) _ p (sym (by_kind_is (params_by place ms) kind) ∙ e) in
@@ -57,7 +57,7 @@ params_ok place kind ms p e =
 
 -- ---- objects
 
-object_in_ok : (place : Place) (earlier : List ObjectSettings) (ms : Members) (o : ObjectSettings) → object_in place earlier ms ≡ Ok o → Joins WRITTEN earlier o
+object_in_ok : (place : SettingsPlace) (earlier : List ObjectSettings) (ms : Members) (o : ObjectSettings) → object_in place earlier ms ≡ Ok o → Joins WRITTEN earlier o
 unfolding object_in
 object_in_ok place earlier ms o e =
     let name = bind_ok (key_in place Key.Name (name_from earlier) ms) _ o e in

@@ -4,7 +4,7 @@ use Rattle.std.specs.Option.{option_map_or}
 use Rattle.std.proofs.lemmas.Bool.{and_parts, leb-true, le-leb}
 use Rattle.toml.specs.Data.{Data, Members, get_member, as_integer}
 use Rattle.scripts.specs.declared.settings.fault.Cause.{Cause}
-use Rattle.scripts.specs.declared.settings.fault.Place.{Place}
+use Rattle.scripts.specs.declared.settings.fault.SettingsPlace.{SettingsPlace}
 use Rattle.scripts.specs.declared.settings.fault.SettingsKey.{SettingsKey}
 use Rattle.scripts.specs.SettingsKeys.{number_from, key_word, at_key, find_key, key_in, key_or}
 use Rattle.record_lines.specs.Then.{◌>>=◌}
@@ -16,13 +16,13 @@ pub bind_ok : {A B F : Type 0} (r : Result A F) (f : A → Result B F) (b : B) �
 bind_ok (Ok a) f b e = (a, refl, e)
 bind_ok (Err x) f b e = absurd cc
 
-pub at_key_ok : {X : Type 0} (place : Place) (key : SettingsKey) (r : Result X Cause) (x : X) → at_key place key r ≡ Ok x → r ≡ Ok x
+pub at_key_ok : {X : Type 0} (place : SettingsPlace) (key : SettingsKey) (r : Result X Cause) (x : X) → at_key place key r ≡ Ok x → r ≡ Ok x
 unfolding at_key
 at_key_ok place key (Ok y) x e = cc
 at_key_ok place key (Err c) x e = absurd cc
 
 -- what was read is of a value
-pub key_ok : {X : Type 0} (place : Place) (key : SettingsKey) (read : Data → Result X Cause) (ms : Members) (x : X) → key_in place key read ms ≡ Ok x → (d : Data) × (read d ≡ Ok x)
+pub key_ok : {X : Type 0} (place : SettingsPlace) (key : SettingsKey) (read : Data → Result X Cause) (ms : Members) (x : X) → key_in place key read ms ≡ Ok x → (d : Data) × (read d ≡ Ok x)
 unfolding key_in
 key_ok place key read ms x e = let both = bind_ok (find_key place key ms) (λ d. at_key place key (read d)) x e in (both.0, at_key_ok place key (read both.0) x both.2)
 
@@ -59,7 +59,7 @@ number_ok high d n e =
     subst (λ m. (1 ≤ m) × (m ≤ high)) same (whole high there.0 test.0)
 
 -- the number of a key
-pub number_in : (place : Place) (key : SettingsKey) (high : ℕ) (ms : Members) (n : ℕ) → key_in place key (number_from high) ms ≡ Ok n → (1 ≤ n) × (n ≤ high)
+pub number_in : (place : SettingsPlace) (key : SettingsKey) (high : ℕ) (ms : Members) (n : ℕ) → key_in place key (number_from high) ms ≡ Ok n → (1 ≤ n) × (n ≤ high)
 number_in place key high ms n e = let there = key_ok place key (number_from high) ms n e in number_ok high there.0 n there.1
 
 -- a number in its range passes the tests
@@ -69,7 +69,7 @@ one_fits n high within = rw (le-leb 1 n within.0, le-leb n high within.1) refl
 -- ---- keys that may be missing
 
 -- what was read is of a value, or the other one
-pub key_or_ok : {X : Type 0} (P : X → Type 0) (place : Place) (key : SettingsKey) (read : Data → Result X Cause) (other : X) (ms : Members) (x : X)
+pub key_or_ok : {X : Type 0} (P : X → Type 0) (place : SettingsPlace) (key : SettingsKey) (read : Data → Result X Cause) (other : X) (ms : Members) (x : X)
     → ((d : Data) → read d ≡ Ok x → P x) → P other → key_or place key read other ms ≡ Ok x → P x
 unfolding key_or
 key_or_ok P place key read other ms x found missing e = elim (map_or_other (get_member (key_word key) ms) (λ d. at_key place key (read d)) other x e) [

@@ -11,7 +11,7 @@ use Rattle.toml.specs.declared.value.Value.{Value}
 use Rattle.records.specs.Settings.{ObjectSettings, Settings}
 use Rattle.scripts.specs.declared.settings.fault.BadSettings.{BadSettings}
 use Rattle.scripts.specs.declared.settings.fault.Cause.{Cause}
-use Rattle.scripts.specs.declared.settings.fault.Place.{Place}
+use Rattle.scripts.specs.declared.settings.fault.SettingsPlace.{SettingsPlace}
 use Rattle.scripts.specs.declared.settings.fault.SettingsFault.{SettingsFault}
 use Rattle.scripts.specs.declared.settings.fault.SettingsFault.TheVariants.{OutOfMemory, Refused}
 use Rattle.scripts.specs.declared.settings.fault.SettingsKey.{SettingsKey}
@@ -39,12 +39,12 @@ unfolding are_integers
 integers_all [] = refl
 integers_all (v ∷ vs) = rw (is_some_is (as_integer (view v)), integers_all vs) refl
 
-pub at_map : {A B : Type 0} (f : A → B) (place : Place) (key : SettingsKey) (r : Result A Cause) → ok_map f (at_key place key r) ≡ at_key place key (ok_map f r)
+pub at_map : {A B : Type 0} (f : A → B) (place : SettingsPlace) (key : SettingsKey) (r : Result A Cause) → ok_map f (at_key place key r) ≡ at_key place key (ok_map f r)
 unfolding at_key
 at_map f place key (Ok x) = refl
 at_map f place key (Err e) = refl
 
-pub at_ok : {A : Type 0} (P : A → Type 0) (place : Place) (key : SettingsKey) (r : Result A Cause) → IfOk r P → IfOk (at_key place key r) P
+pub at_ok : {A : Type 0} (P : A → Type 0) (place : SettingsPlace) (key : SettingsKey) (r : Result A Cause) → IfOk r P → IfOk (at_key place key r) P
 unfolding at_key
 at_ok P place key (Ok x) p = p
 at_ok P place key (Err e) p = tt

@@ -7,7 +7,7 @@ use Rattle.toml.specs.Data.{Data, Items, no_items, item, Members, no_members, me
 use Rattle.scripts.specs.declared.settings.fault.BadSettings.{BadSettings}
 use Rattle.scripts.specs.declared.settings.fault.Cause.{Cause}
 use Rattle.scripts.specs.declared.settings.fault.Cause.TheVariants.{Missing, WrongType, OutOfRange, Unknown}
-use Rattle.scripts.specs.declared.settings.fault.Place.{Place}
+use Rattle.scripts.specs.declared.settings.fault.SettingsPlace.{SettingsPlace}
 use Rattle.scripts.specs.declared.settings.fault.SettingsKey.{SettingsKey}
 use Rattle.scripts.specs.declared.settings.fault.SettingsKey.TheVariants as Key
 use Rattle.record_lines.specs.Then.{◌>>=◌}
@@ -38,20 +38,20 @@ key_word Key.Bytes = codes "bytes"
 key_word Key.Other = codes "other"
 
 -- a cause is a fault of that key, at that place
-unfoldable pub at_key : {X : Type 0} → Place → SettingsKey → Result X Cause → Result X BadSettings
+unfoldable pub at_key : {X : Type 0} → SettingsPlace → SettingsKey → Result X Cause → Result X BadSettings
 at_key place key (Ok x) = Ok x
 at_key place key (Err cause) = Err (record { place = place; key = key; cause = cause })
 
 -- the value of the key
-unfoldable pub find_key : Place → SettingsKey → Members → Result Data BadSettings
+unfoldable pub find_key : SettingsPlace → SettingsKey → Members → Result Data BadSettings
 find_key place key ms = at_key place key (option_map_or Ok (get_member (key_word key) ms) (Err Missing))
 
 -- the value of the key, read so; a cause is a fault of that key, at that place
-unfoldable pub key_in : {X : Type 0} → Place → SettingsKey → (Data → Result X Cause) → Members → Result X BadSettings
+unfoldable pub key_in : {X : Type 0} → SettingsPlace → SettingsKey → (Data → Result X Cause) → Members → Result X BadSettings
 key_in place key read ms = find_key place key ms >>= λ d. at_key place key (read d)
 
 -- the value of the key, read so, or another value where there is no such key
-unfoldable pub key_or : {X : Type 0} → Place → SettingsKey → (Data → Result X Cause) → X → Members → Result X BadSettings
+unfoldable pub key_or : {X : Type 0} → SettingsPlace → SettingsKey → (Data → Result X Cause) → X → Members → Result X BadSettings
 key_or place key read other ms = option_map_or (λ d. at_key place key (read d)) (get_member (key_word key) ms) (Ok other)
 
 -- each key is one of these
@@ -60,5 +60,5 @@ has_only keys no_members = true
 has_only keys (member k d ms) = list_any (λ key. bytes_eq (key_word key) k) keys && has_only keys ms
 
 -- a key that isn't of this place
-abbrev pub unknown_key : Place → BadSettings
+abbrev pub unknown_key : SettingsPlace → BadSettings
 unknown_key place = record { place = place; key = Key.Other; cause = Unknown }

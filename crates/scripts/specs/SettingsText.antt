@@ -17,8 +17,8 @@ use Rattle.scripts.specs.declared.settings.fault.SettingsFault.{SettingsFault}
 use Rattle.scripts.specs.declared.settings.fault.SettingsFault.TheVariants.{OutOfMemory, Refused}
 use Rattle.scripts.specs.declared.settings.fault.Cause.{Cause}
 use Rattle.scripts.specs.declared.settings.fault.Cause.TheVariants.{NotToml, WrongType, OutOfRange, BadWord, Repeated}
-use Rattle.scripts.specs.declared.settings.fault.Place.{Place}
-use Rattle.scripts.specs.declared.settings.fault.Place.TheVariants.{Top, Object}
+use Rattle.scripts.specs.declared.settings.fault.SettingsPlace.{SettingsPlace}
+use Rattle.scripts.specs.declared.settings.fault.SettingsPlace.TheVariants.{Top, Object}
 use Rattle.scripts.specs.declared.settings.fault.SettingsKey.{SettingsKey}
 use Rattle.scripts.specs.declared.settings.fault.SettingsKey.TheVariants as Key
 use Rattle.scripts.specs.KindKeys.All.{keys_by}
@@ -49,11 +49,11 @@ items_from d = option_map_or (λ ds. if nat_le 1 (count_items ds) && nat_le (cou
 -- ---- objects
 
 -- the parameters of the kind
-abbrev pub params_by : Place → Members → Kind → Result KParams BadSettings
+abbrev pub params_by : SettingsPlace → Members → Kind → Result KParams BadSettings
 params_by place ms kind = (keys_by kind).params_in place ms >>= λ p. Ok (params_of kind p)
 
 -- the parameters of that kind
-unfoldable pub params_in : Place → Kind → Members → Result KParams BadSettings
+unfoldable pub params_in : SettingsPlace → Kind → Members → Result KParams BadSettings
 params_in place kind ms = by_kind (params_by place ms) kind
 
 -- the keys of every object, and those of its kind
@@ -61,7 +61,7 @@ abbrev pub keys_of : Kind → List SettingsKey
 keys_of kind = Key.Name ∷ Key.Kind ∷ Key.Lock ∷ Key.Events ∷ (keys_by kind).keys
 
 -- an object's table, behind earlier objects
-unfoldable pub object_in : Place → List ObjectSettings → Members → Result ObjectSettings BadSettings
+unfoldable pub object_in : SettingsPlace → List ObjectSettings → Members → Result ObjectSettings BadSettings
 object_in place earlier ms = do
   name ← key_in place Key.Name (name_from earlier) ms
   kind ← key_in place Key.Kind kind_from ms

@@ -5,14 +5,14 @@ ghost use Rattle.record_lines.specs.FormAgreed.{Agree};
 ghost use Rattle.record_lines.specs.Received.{with_entry};
 ghost use Rattle.record_lines.specs.declared.forms.place.Next.TheVariants.{Entry as AwaitsEntry};
 
-use crate::forms::place::Place;
+use crate::forms::place::ReaderPlace;
 use crate::{LineFault, RecordForm, RecordSink};
 use event_log::OutOfMemory;
 
 /// Hands over the entry of the line by its text, if the sink recognises it so.
 #[inline(always)]
 fn is_recognised<F: RecordForm, K: RecordSink<F>>(
-    at: &Place<F::Head>,
+    at: &ReaderPlace<F::Head>,
     sink: &mut K,
     line: &[u8],
 ) -> Result<bool, OutOfMemory>
@@ -31,7 +31,7 @@ fn is_recognised<F: RecordForm, K: RecordSink<F>>(
 /// Hands over the entry that the line spells, after reading it.
 #[inline(always)]
 fn hand_over_read<F: RecordForm, K: RecordSink<F>>(
-    at: &Place<F::Head>,
+    at: &ReaderPlace<F::Head>,
     sink: &mut K,
     entry: &mut F::Entry,
     line: &[u8],
@@ -52,7 +52,7 @@ fn hand_over_read<F: RecordForm, K: RecordSink<F>>(
 /// Hands over the entry that the line spells.
 #[inline(always)]
 pub(crate) fn hand_over_entry<F: RecordForm, K: RecordSink<F>>(
-    at: &Place<F::Head>,
+    at: &ReaderPlace<F::Head>,
     sink: &mut K,
     entry: &mut F::Entry,
     line: &[u8],

@@ -20,7 +20,7 @@ pub enum Next {
 
 /// Which line can come next, the head, how many of what is being read its head told, and how many were read.
 #[derive(Drop)]
-pub struct Place<H> {
+pub struct ReaderPlace<H> {
     pub awaits: Next,
     pub head: H,
     pub count: u64,
@@ -30,7 +30,7 @@ pub struct Place<H> {
     pub entry_count: u64,
 }
 
-impl<H: Drop> Place<H> {
+impl<H: Drop> ReaderPlace<H> {
     /// Counts a log that is whole, of so many objects.
     pub fn count_log(&mut self, objects: usize)
         requires { self.old.log_count < objects }

@@ -7,7 +7,7 @@ use Rattle.toml.specs.Data.{Data, Items, no_items, item, Members, as_integer, as
 use Rattle.scripts.specs.declared.settings.fault.BadSettings.{BadSettings}
 use Rattle.scripts.specs.declared.settings.fault.Cause.{Cause}
 use Rattle.scripts.specs.declared.settings.fault.Cause.TheVariants.{WrongType, OutOfRange}
-use Rattle.scripts.specs.declared.settings.fault.Place.{Place}
+use Rattle.scripts.specs.declared.settings.fault.SettingsPlace.{SettingsPlace}
 use Rattle.scripts.specs.declared.settings.fault.SettingsKey.TheVariants.{Pages, Quotas}
 use Rattle.scripts.specs.SettingsKeys.{key_in, key_or, number_from, count_items}
 use Rattle.record_lines.specs.Then.{◌>>=◌ as ◌then◌}
@@ -33,7 +33,7 @@ unfoldable pub quotas_from : Data → Result (List ℕ) Cause
 quotas_from d = option_map_or (λ ds. if are_integers ds then (if count_items ds == OWNERS then each_quota ds else Err OutOfRange) else Err WrongType) (as_array d) (Err WrongType)
 
 -- the pages, and the quotas, which are as many for each owner where the table has none
-unfoldable pub pool_params_in : Place → Members → Result PoolParams BadSettings
+unfoldable pub pool_params_in : SettingsPlace → Members → Result PoolParams BadSettings
 pool_params_in place ms = key_in place Pages (number_from MOST_PAGES) ms then λ pages. key_or place Quotas quotas_from (replicate OWNERS pages) ms then λ quotas. Read (record { pages = pages; quotas = quotas })
 
 abbrev pub pool_keys : KindKeys pool_kind

@@ -4,7 +4,7 @@ use Rattle.wake_list.specs.declared.sched.SchedParams.{SchedParams}
 use Rattle.wake_list.specs.declared.sched.TheConstants.{MOST_THREADS, MOST_CHANNELS}
 use Rattle.toml.specs.Data.{Members}
 use Rattle.scripts.specs.declared.settings.fault.BadSettings.{BadSettings}
-use Rattle.scripts.specs.declared.settings.fault.Place.{Place}
+use Rattle.scripts.specs.declared.settings.fault.SettingsPlace.{SettingsPlace}
 use Rattle.scripts.specs.declared.settings.fault.SettingsKey.TheVariants.{Threads, Channels}
 use Rattle.scripts.specs.SettingsKeys.{key_in, number_from}
 use Rattle.record_lines.specs.Then.{◌>>=◌ as ◌then◌}
@@ -12,7 +12,7 @@ use Rattle.kernel_object.specs.Kinds.Sched.{sched_kind}
 use Rattle.scripts.specs.KindKeys.Definition.{KindKeys}
 
 -- the threads and the channels of settings
-unfoldable pub sched_params_in : Place → Members → Result SchedParams BadSettings
+unfoldable pub sched_params_in : SettingsPlace → Members → Result SchedParams BadSettings
 sched_params_in place ms = key_in place Threads (number_from MOST_THREADS) ms then λ threads. key_in place Channels (number_from MOST_CHANNELS) ms then λ channels. Read (record { threads = threads; channels = channels })
 
 abbrev pub sched_keys : KindKeys sched_kind

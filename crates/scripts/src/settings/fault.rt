@@ -7,7 +7,7 @@ use std::fmt;
 
 /// Where a fault of settings stands.
 #[derive(Clone, Copy, Debug, PartialEq, Eq, Drop)]
-pub enum Place {
+pub enum SettingsPlace {
     Top,
     /// The object of that number, from 1.
     Object(usize),
@@ -48,7 +48,7 @@ pub enum Cause {
 /// The first fault of settings.
 #[derive(Clone, Copy, Debug, PartialEq, Eq, Drop)]
 pub struct BadSettings {
-    pub place: Place,
+    pub place: SettingsPlace,
     pub key: SettingsKey,
     pub cause: Cause,
 }
@@ -114,8 +114,8 @@ impl fmt::Display for BadSettings {
         let key = self.key.word();
         let cause = self.cause.words();
         match self.place {
-            Place::Top => write!(f, "top: {key}: {cause}"),
-            Place::Object(number) => write!(f, "object {number}: {key}: {cause}"),
+            SettingsPlace::Top => write!(f, "top: {key}: {cause}"),
+            SettingsPlace::Object(number) => write!(f, "object {number}: {key}: {cause}"),
         }
     }
 }

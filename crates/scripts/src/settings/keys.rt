@@ -9,13 +9,13 @@ ghost use Rattle.toml.specs.View.{view, table_view};
 ghost use Rattle.scripts.specs.SettingsKeys.{key_word, key_in, at_key, find_key, number_from, has_only, unknown_key};
 ghost use Rattle.record_lines.specs.Then.{ok_map};
 
-use crate::{BadSettings, Cause, Place, SettingsKey};
+use crate::{BadSettings, Cause, SettingsKey, SettingsPlace};
 use toml::{Table, Value};
 
 /// A cause is a fault of that key, at that place.
 #[tactic(auto, unfolding(crate::specs::SettingsKeys::at_key))]
 pub(crate) fn at<T>(
-    place: Place,
+    place: SettingsPlace,
     key: SettingsKey,
     found: Result<T, Cause>,
 ) -> Result<T, BadSettings>
@@ -38,7 +38,7 @@ pub(crate) fn get<'a>(table: &'a Table, key: SettingsKey) -> Option<&'a Value>
 #[tactic(auto, unfolding(crate::specs::SettingsKeys::find_key, crate::specs::SettingsKeys::at_key))]
 pub(crate) fn find<'a>(
     table: &'a Table,
-    place: Place,
+    place: SettingsPlace,
     key: SettingsKey,
 ) -> Result<&'a Value, BadSettings>
     ensures { ok_map (λ v. view v.now) result ≡ find_key place key (table_view table.now) }
@@ -73,7 +73,7 @@ fn number(value: &Value, high: u32) -> Result<u32, Cause>
 #[tactic(auto, using(crate::proofs::SettingsTables::at_ok), unfolding(crate::specs::SettingsKeys::key_in))]
 pub(crate) fn number_of(
     table: &Table,
-    place: Place,
+    place: SettingsPlace,
     key: SettingsKey,
     high: u32,
 ) -> Result<u32, BadSettings>
@@ -106,7 +106,7 @@ fn has_only(table: &Table, keys: &[SettingsKey]) -> bool
 /// Refuses a key that is none of these.
 pub(crate) fn refuse_others(
     table: &Table,
-    place: Place,
+    place: SettingsPlace,
     keys: &[SettingsKey],
 ) -> Result<(), BadSettings>
     ensures { result ≡ if has_only keys.now (table_view table.now) then Ok tt else Err (unknown_key place) }

@@ -9,13 +9,17 @@ pub mod pool;
 pub mod queue;
 pub mod sched;
 
-use crate::{BadSettings, Place, SettingsKey};
+use crate::{BadSettings, SettingsKey, SettingsPlace};
 use kernel_object::{KParams, Kind};
 use toml::Table;
 
 /// The parameters of a table of settings, of that kind.
 #[tactic(auto, unfolding(crate::specs::SettingsText::params_in))]
-pub(crate) fn params_in(table: &Table, place: Place, kind: Kind) -> Result<KParams, BadSettings>
+pub(crate) fn params_in(
+    table: &Table,
+    place: SettingsPlace,
+    kind: Kind,
+) -> Result<KParams, BadSettings>
     ensures { result ≡ params_in place kind (table_view table.now) }
 {
     match kind {

@@ -10,7 +10,7 @@ ghost use Rattle.scripts.specs.SettingsSources.{SpellsSettingsRest, NamesFirstFa
 ghost use Rattle.record_lines.specs.Sources.{ReadsAtMost};
 
 use crate::settings::text::settings;
-use crate::{BadSettings, Cause, Place, SettingsFault, SettingsKey};
+use crate::{BadSettings, Cause, SettingsFault, SettingsKey, SettingsPlace};
 use event_log::{OutOfMemory, Source};
 use record_lines::{SourceFault, read_up_to};
 use records::Settings;
@@ -24,7 +24,7 @@ fn not_toml() -> BadSettings
     ensures { result ≡ not_toml }
 {
     BadSettings {
-        place: Place::Top,
+        place: SettingsPlace::Top,
         key: SettingsKey::Text,
         cause: Cause::NotToml,
     }

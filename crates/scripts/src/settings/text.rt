@@ -10,7 +10,7 @@ ghost use Rattle.record_lines.specs.Then.{ok_map};
 
 use crate::settings::keys::{at, find, number_of, refuse_others};
 use crate::settings::kinds::{keys_of, params_in};
-use crate::{BadSettings, Cause, Place, SettingsFault, SettingsKey};
+use crate::{BadSettings, Cause, SettingsFault, SettingsKey, SettingsPlace};
 use arrayvec::ArrayString;
 use event_log::{MOST_EVENTS, Series};
 use kernel_object::Kind;
@@ -77,7 +77,7 @@ fn lock(value: &Value) -> Result<LockKind, Cause>
 #[tactic(auto, using(crate::proofs::SettingsTables::at_map, crate::proofs::SettingsTables::at_ok), unfolding(crate::specs::SettingsKeys::key_in))]
 fn name_of_object(
     table: &Table,
-    place: Place,
+    place: SettingsPlace,
     earlier: &[ObjectSettings],
 ) -> Result<ArrayString<16>, BadSettings>
     ensures { ok_map (λ x. x.bytes) result ≡ key_in place SettingsKey.Name (name_from earlier.now) (table_view table.now) }
@@ -88,7 +88,7 @@ fn name_of_object(
 
 /// The kind of the object.
 #[tactic(auto, unfolding(crate::specs::SettingsKeys::key_in))]
-fn kind_of_object(table: &Table, place: Place) -> Result<Kind, BadSettings>
+fn kind_of_object(table: &Table, place: SettingsPlace) -> Result<Kind, BadSettings>
     ensures { result ≡ key_in place SettingsKey.Kind kind_from (table_view table.now) }
 {
     let value = find(table, place, SettingsKey::Kind)?;
@@ -97,7 +97,7 @@ fn kind_of_object(table: &Table, place: Place) -> Result<Kind, BadSettings>
 
 /// The lock of the object.
 #[tactic(auto, unfolding(crate::specs::SettingsKeys::key_in))]
-fn lock_of_object(table: &Table, place: Place) -> Result<LockKind, BadSettings>
+fn lock_of_object(table: &Table, place: SettingsPlace) -> Result<LockKind, BadSettings>
     ensures { result ≡ key_in place SettingsKey.Lock lock_from (table_view table.now) }
 {
     let value = find(table, place, SettingsKey::Lock)?;
@@ -108,7 +108,7 @@ fn lock_of_object(table: &Table, place: Place) -> Result<LockKind, BadSettings>
 #[tactic(auto, unfolding(crate::specs::SettingsText::object_in))]
 fn object_of(
     table: &Table,
-    place: Place,
+    place: SettingsPlace,
     earlier: &[ObjectSettings],
 ) -> Result<ObjectSettings, BadSettings>
     ensures { result ≡ object_in place earlier.now (table_view table.now) }
@@ -128,7 +128,7 @@ fn object(value: &Value, earlier: &[ObjectSettings]) -> Result<ObjectSettings, B
     requires { length earlier.now ≤ MOST_CELLS }
     ensures { result ≡ object_from earlier.now (view value.now) }
 {
-    let place = Place::Object(earlier.len() + 1);
+    let place = SettingsPlace::Object(earlier.len() + 1);
     match value.as_table() {
         Some(table) => object_of(table, place, earlier),
         None => Err(BadSettings {
@@ -174,19 +174,28 @@ fn items(value: &Value) -> Result<&[Value], Cause>
 /// The values of the key `object`.
 #[tactic(auto, using(crate::proofs::SettingsTables::at_map, crate::proofs::SettingsTables::at_ok), unfolding(crate::specs::SettingsKeys::key_in))]
 fn items_of(table: &Table) -> Result<&[Value], BadSettings>
-    ensures items { ok_map (λ v. items_view v.now) result ≡ key_in Place.Top SettingsKey.Object items_from (table_view table.now) }
+    ensures items { ok_map (λ v. items_view v.now) result ≡ key_in SettingsPlace.Top SettingsKey.Object items_from (table_view table.now) }
     ensures few { IfOk result (λ v. length v.now ≤ MOST_CELLS) }
 {
-    let value = find(table, Place::Top, SettingsKey::Object)?;
-    at(Place::Top, SettingsKey::Object, items(value))
+    let value = find(table, SettingsPlace::Top, SettingsKey::Object)?;
+    at(SettingsPlace::Top, SettingsKey::Object, items(value))
 }
 
 /// The settings of the table.
 pub(crate) fn settings(alloc: Global, table: &Table) -> Result<Settings, SettingsFault>
     ensures { Settles result (settings_in (table_view table.now)) }
 {
-    let cpus = number_of(table, Place::Top, SettingsKey::Cpus, MOST_CPUS as u32)?;
+    let cpus = number_of(
+        table,
+        SettingsPlace::Top,
+        SettingsKey::Cpus,
+        MOST_CPUS as u32,
+    )?;
     let objects = objects(alloc, items_of(table)?)?;
-    refuse_others(table, Place::Top, &[SettingsKey::Cpus, SettingsKey::Object])?;
+    refuse_others(
+        table,
+        SettingsPlace::Top,
+        &[SettingsKey::Cpus, SettingsKey::Object],
+    )?;
     Ok(Settings::new(cpus as u8, Series::from_vec(objects)))
 }

@@ -10,7 +10,7 @@ use Rattle.std.specs.contracts.alloc.Global as Global
 use Rattle.std.specs.contracts.sync.atomic.AtomicUsize as AtomicUsize
 use Rattle.event_log.proofs.Sends.{captures_send}
 use Rattle.bench.proofs.Sends.{caller_send, Places}
-use Rattle.bench.proofs.Fault.TheSendSync.{the_send as fault_send}
+use Rattle.bench.proofs.BenchFault.TheSendSync.{the_send as fault_send}
 use Rattle.bench.proofs.round.start_all.Goals as goal
 
 pub spawn-requires-send-F : goal.spawn-requires-send-F

@@ -1,7 +1,7 @@
 use Rattle.std.proofs.Common.{◌∙◌, ap, inr, refl, sym, subst}
 use Rattle.log_merge.specs.CycleText.{cycle_text}
 use Rattle.mc2_command.specs.Refused.{IsNoOrder}
-use Rattle.mc2_command.specs.declared.fault.Fault.TheVariants as fault
+use Rattle.mc2_command.specs.declared.fault.CommandFault.TheVariants as fault
 use Rattle.mc2_command.proofs.answers.no_order.Goals as goal
 
 pub returns-in-Ok : goal.returns-in-Ok

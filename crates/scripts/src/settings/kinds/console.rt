@@ -7,12 +7,12 @@ ghost use Rattle.scripts.specs.KindKeys.Console.{console_keys};
 ghost use Rattle.scripts.specs.SettingsText.{keys_of};
 
 use crate::settings::keys::number_of;
-use crate::{BadSettings, Place, SettingsKey};
+use crate::{BadSettings, SettingsKey, SettingsPlace};
 use console_ring::MOST_BYTES;
 use toml::Table;
 
 /// The number of bytes of a table of settings.
-pub(crate) fn params_in(table: &Table, place: Place) -> Result<u32, BadSettings>
+pub(crate) fn params_in(table: &Table, place: SettingsPlace) -> Result<u32, BadSettings>
     ensures { result ≡ console_keys.params_in place (table_view table.now) }
 {
     number_of(table, place, SettingsKey::Bytes, MOST_BYTES)

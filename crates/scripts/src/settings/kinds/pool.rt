@@ -8,7 +8,7 @@ ghost use Rattle.scripts.specs.SettingsKeys.{key_or};
 ghost use Rattle.scripts.specs.SettingsText.{keys_of};
 
 use crate::settings::keys::{at, get, number_of};
-use crate::{BadSettings, Cause, Place, SettingsKey};
+use crate::{BadSettings, Cause, SettingsKey, SettingsPlace};
 use page_pool::{MOST_PAGES, OWNERS, PoolParams};
 use toml::{Table, Value};
 
@@ -66,7 +66,7 @@ fn quotas(value: &Value) -> Result<[u32; OWNERS], Cause>
 
 /// The quotas of a pool of so many pages: as many for each owner, where the table has none.
 #[tactic(auto, unfolding(crate::specs::SettingsKeys::key_or, crate::specs::SettingsKeys::at_key))]
-fn quotas_of(table: &Table, place: Place, pages: u32) -> Result<[u32; OWNERS], BadSettings>
+fn quotas_of(table: &Table, place: SettingsPlace, pages: u32) -> Result<[u32; OWNERS], BadSettings>
     ensures { result ≡ key_or place SettingsKey.Quotas quotas_from (replicate OWNERS pages) (table_view table.now) }
 {
     match get(table, SettingsKey::Quotas) {
@@ -77,7 +77,7 @@ fn quotas_of(table: &Table, place: Place, pages: u32) -> Result<[u32; OWNERS], B
 
 /// The number of pages and the quotas of a table of settings.
 #[tactic(auto, unfolding(crate::specs::KindKeys::Pool::pool_params_in))]
-pub(crate) fn params_in(table: &Table, place: Place) -> Result<PoolParams, BadSettings>
+pub(crate) fn params_in(table: &Table, place: SettingsPlace) -> Result<PoolParams, BadSettings>
     ensures { result ≡ pool_params_in place (table_view table.now) }
 {
     let pages = number_of(table, place, SettingsKey::Pages, MOST_PAGES)?;

@@ -7,12 +7,12 @@ ghost use Rattle.scripts.specs.KindKeys.Queue.{queue_keys};
 ghost use Rattle.scripts.specs.SettingsText.{keys_of};
 
 use crate::settings::keys::number_of;
-use crate::{BadSettings, Place, SettingsKey};
+use crate::{BadSettings, SettingsKey, SettingsPlace};
 use shared_queue::MOST_THREADS;
 use toml::Table;
 
 /// The number of threads of a table of settings.
-pub(crate) fn params_in(table: &Table, place: Place) -> Result<u32, BadSettings>
+pub(crate) fn params_in(table: &Table, place: SettingsPlace) -> Result<u32, BadSettings>
     ensures { result ≡ queue_keys.params_in place (table_view table.now) }
 {
     number_of(table, place, SettingsKey::Threads, MOST_THREADS)

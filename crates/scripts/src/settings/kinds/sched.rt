@@ -7,13 +7,13 @@ ghost use Rattle.scripts.specs.KindKeys.Sched.{sched_params_in};
 ghost use Rattle.scripts.specs.SettingsText.{keys_of};
 
 use crate::settings::keys::number_of;
-use crate::{BadSettings, Place, SettingsKey};
+use crate::{BadSettings, SettingsKey, SettingsPlace};
 use toml::Table;
 use wake_list::{MOST_CHANNELS, MOST_THREADS, SchedParams};
 
 /// The numbers of threads and channels of a table of settings.
 #[tactic(auto, unfolding(crate::specs::KindKeys::Sched::sched_params_in))]
-pub(crate) fn params_in(table: &Table, place: Place) -> Result<SchedParams, BadSettings>
+pub(crate) fn params_in(table: &Table, place: SettingsPlace) -> Result<SchedParams, BadSettings>
     ensures { result ≡ sched_params_in place (table_view table.now) }
 {
     let threads = number_of(table, place, SettingsKey::Threads, MOST_THREADS)?;
