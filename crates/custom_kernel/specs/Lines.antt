@@ -3,17 +3,13 @@ use Rattle.std.specs.Prelude.{◌≡◌, ◌⊎◌, ◌==◌, ℕ, zero, suc, if
 use Rattle.std.specs.Option.{option_map_or}
 use Rattle.event_log.specs.Log.{steps_of}
 use Rattle.kernel_object.specs.declared.call.KParams.{KParams}
-use Rattle.custom_records.specs.LineReading.{log_at, custom_object_at, custom_event_at}
+use Rattle.custom_records.specs.LineReading.{any_head, log_at, custom_object_at, custom_event_at}
 use Rattle.custom_records.specs.Custom.{CustomEvent}
-use Rattle.custom_records.specs.Settings.{CustomSettings, CustomHead}
+use Rattle.custom_records.specs.Settings.{CustomSettings}
 use Rattle.record_lines.specs.Reading.{◌>>=◌, words, word_at}
 use Rattle.record_lines.specs.LineParts.{name_word_at}
 use Rattle.custom_kernel.specs.Counts.{IsCountOf}
 use Rattle.custom_kernel.specs.KernelModel.{params_of, kernel_right}
-
--- a head of 256 CPUs and no objects, in which no word refuses: a single line is read by it
-abbrev pub any_head : CustomHead
-any_head = record { cpus = 256; objects = []; refusing = [] }
 
 -- the first line, if it has its end, and what stands behind that
 abbrev pub line_of : List ℕ → Option (List ℕ × List ℕ)

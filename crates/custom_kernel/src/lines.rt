@@ -4,7 +4,8 @@ ghost use Rattle.std.specs.Prelude.{◌≡◌, ◌++◌, [], true, drop, MatchOp
 ghost use Rattle.std.specs.Option.{option_map};
 ghost use Rattle.event_log.specs.Log.{steps_of};
 ghost use Rattle.kernel_object.specs.Kernel.{kernel_in_range};
-ghost use Rattle.custom_kernel.specs.Lines.{any_head, line_of, events_at, event_of, events_of, head_from, params_from_line, IsKernelCount, NoKernelLog};
+ghost use Rattle.custom_records.specs.LineReading.{any_head};
+ghost use Rattle.custom_kernel.specs.Lines.{line_of, events_at, event_of, events_of, head_from, params_from_line, IsKernelCount, NoKernelLog};
 ghost use Rattle.record_lines.specs.Reading.{words};
 
 use crate::{KernelCount, kernel_params};

@@ -48,18 +48,16 @@ module _ (head : CustomHead) where
       (number.0 ∙ ap (λ l. decimal cpu.0 ∷ l) taken.0, record { cpu = ltb-true cpu.0 head.cpus whole.0; steps = taken.1 })))
 
   -- what is spelled is read again
-  event_said : HeadFits head → (e : CustomEvent) → EventFits head e → custom_event_at head (custom_event_words e) ≡ Some e
+  event_said : head.cpus ≤ MOST_CUSTOM_CPUS → (e : CustomEvent) → EventFits head e → custom_event_at head (custom_event_words e) ≡ Some e
   unfolding custom_event_at
-  event_said fits e fit =
+  event_said most e fit =
       let cpu = fit.cpu in
-      let most = fits.cpus.1 in
       rw (number_at_again 255 e.cpu (separated (map custom_step_words e.steps.list.items)) (omega (arith, cpu, most)) (omega (arith, cpu, most)), steps_again head e.steps.list.items fit.steps, lt-ltb e.cpu head.cpus fit.cpu)
 
   -- the words of an event make a line
-  event_plain : HeadFits head → (e : CustomEvent) → EventFits head e → IsLineOf (custom_event_words e)
-  event_plain fits e fit =
+  event_plain : head.cpus ≤ MOST_CUSTOM_CPUS → (e : CustomEvent) → EventFits head e → IsLineOf (custom_event_words e)
+  event_plain most e fit =
       let cpu = fit.cpu in
-      let most = fits.cpus.1 in
       (omega arith, (plain_decimal e.cpu (omega (arith, cpu, most)), steps_plain head e.steps.list.items fit.steps))
 
   -- ---- entries of a transcript
@@ -255,9 +253,13 @@ reads_log name named = reads_up_to (codes "log" ∷ name ∷ []) (search (rules,
 pub reads_cpu : (cpu : ℕ) → cpu < 2 ^ 64 → Reads (cpu_words cpu) (λ n. n ≤ most_lines) (cpu_at cpu)
 reads_cpu cpu small = reads_up_to (codes "cpu" ∷ decimal cpu ∷ []) (search (rules, arith), (plain_decimal cpu small, tt))
 
+-- no more of a head counts for an event than its CPUs and its words that refuse
+pub reads_any_event : (head : CustomHead) → head.cpus ≤ MOST_CUSTOM_CPUS → Reads custom_event_words (EventFits head) (custom_event_at head)
+reads_any_event head most = by_words (event_spells head) (event_said head most) (event_plain head most)
+
 module _ (head : CustomHead) (fits : HeadFits head) where
   pub reads_event : Reads custom_event_words (EventFits head) (custom_event_at head)
-  reads_event = by_words (event_spells head) (event_said head fits) (event_plain head fits)
+  reads_event = reads_any_event head fits.cpus.1
 
   pub reads_entry : Reads (custom_entry_words head) (EntryFits head) (custom_entry_at head)
   reads_entry = by_words (entry_spells head) (entry_said head fits) (entry_plain head fits)

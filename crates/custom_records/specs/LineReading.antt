@@ -65,6 +65,10 @@ custom_event_at head ws = do
   steps ← custom_steps_at head.refusing cpu.1
   if nat_lt cpu.0 head.cpus then Some (record { cpu = cpu.0; steps = record { list = record { items = steps } } }) else None
 
+-- a head of 256 CPUs and no objects, in which no word refuses: a single line is read by it
+abbrev pub any_head : CustomHead
+any_head = record { cpus = 256; objects = []; refusing = [] }
+
 -- the place of the object whose name is next, from 0
 unfoldable pub custom_place_at : List CustomSettings → List (List ℕ) → Option (ℕ × List (List ℕ))
 custom_place_at objects ws = do

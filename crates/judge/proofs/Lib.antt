@@ -1,6 +1,7 @@
 pub mod Fronts
 pub mod LinesAt
 pub mod LogHeads
+pub mod AnyLogs
 pub mod EventFronts
 pub mod CountedLogs
 pub mod CustomTerms

@@ -1,9 +1,9 @@
 -- What is told of a single line of a record of one's own.
 use Rattle.std.specs.Prelude.{ℕ, ◌≡◌, ◌+◌, List, [], ◌∷◌, ◌++◌, length, map, drop, Option, Some, None}
-use Rattle.custom_records.specs.LineReading.{log_at, custom_object_at, custom_event_at}
+use Rattle.custom_records.specs.LineReading.{any_head, log_at, custom_object_at, custom_event_at}
 use Rattle.custom_records.specs.Custom.{CustomStep, CustomEvent}
 use Rattle.custom_records.specs.Said.{Said, padded}
-use Rattle.custom_records.specs.Settings.{CustomSettings, CustomHead}
+use Rattle.custom_records.specs.Settings.{CustomSettings}
 use Rattle.record_lines.specs.Reading.{◌>>=◌, words, word_at}
 use Rattle.record_lines.specs.LineParts.{name_word_at}
 use Rattle.record_lines.specs.Words.{NoEnd}
@@ -18,10 +18,6 @@ pub record IsLineAt (text : List ℕ) (at : ℕ) (line : List ℕ) : Type 0 wher
   pub parts : text ≡ front ++ (line ++ 10 ∷ rest)
   pub place : length front ≡ at
   pub no_end : NoEnd line
-
--- a head of 256 CPUs and no objects, in which no word refuses: a single line is read by it
-abbrev pub any_head : CustomHead
-any_head = record { cpus = 256; objects = []; refusing = [] }
 
 -- all words, as the head of a log of whatever name, with the number of its events
 unfoldable pub any_log_at : List (List ℕ) → Option (List ℕ × ℕ)

@@ -2,8 +2,8 @@
 
 ghost use Rattle.std.specs.Prelude.{◌≡◌, ◌≤◌, length, None, IfSome, IfNone};
 ghost use Rattle.std.specs.Option.{option_map};
-ghost use Rattle.judge.specs.OwnLines.{IsLineAt, IsLineTold, any_head, any_log_at, told_object, told_log, told_event, told_words};
-ghost use Rattle.custom_records.specs.LineReading.{custom_object_at, custom_event_at};
+ghost use Rattle.judge.specs.OwnLines.{IsLineAt, IsLineTold, any_log_at, told_object, told_log, told_event, told_words};
+ghost use Rattle.custom_records.specs.LineReading.{any_head, custom_object_at, custom_event_at};
 ghost use Rattle.record_lines.specs.Reading.{left, words};
 ghost use Rattle.record_lines.specs.LineParts.{name_word_at};
 

@@ -1,7 +1,7 @@
 use Rattle.std.proofs.Common.{None, sym, ap, ◌∙◌}
-use Rattle.custom_records.specs.LineReading.{custom_object_at, custom_event_at}
+use Rattle.custom_records.specs.LineReading.{any_head, custom_object_at, custom_event_at}
 use Rattle.record_lines.specs.Reading.{words}
-use Rattle.judge.specs.OwnLines.{any_head, told_words}
+use Rattle.judge.specs.OwnLines.{told_words}
 use Rattle.judge.proofs.EventFronts.{no_object, no_log}
 use Rattle.judge.proofs.own_line.tell_line.Goals as goal
 
