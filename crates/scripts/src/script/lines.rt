@@ -6,8 +6,9 @@ ghost use Rattle.scripts.specs.ScriptFaults.{Adds, IsFull, NamesFirstBad};
 ghost use Rattle.scripts.specs.ScriptText.{IsBlank, AreScripts, dealt};
 ghost use Rattle.records.specs.Settings.{Settings as Shown, SettingsFit};
 
+use crate::Scripts;
 use crate::script::request_line::request;
-use crate::{Request, Scripts};
+use arrayvec::ArrayVec;
 use event_log::Todo;
 use kernel_object::KernelObject;
 use record_lines::{LineFault, LinesFault, MOST_BYTES, Pieces, TakesLines};
@@ -69,11 +70,11 @@ impl TakesLines for ScriptLists<'_> {
             return Ok(());
         }
         let settings = self.settings;
-        let Some(request) = request(settings, line) else {
+        let mut calls = ArrayVec::new();
+        let Some((cpu, object)) = request(settings, line, &mut calls) else {
             return Err(LineFault::Refused);
         };
-        let Request { cpu, todo } = request;
-        add(&mut self.lists, cpu, todo)
+        add(&mut self.lists, cpu, Todo { object, calls })
     }
 
     fn passes(&self, first: u8) -> bool {
