@@ -45,6 +45,7 @@ pub mod ManyHolds
 pub mod EventOrder
 pub mod LineChanges
 pub mod LockProgress
+pub mod TestAndSet
 pub mod ProgressLaws
 pub mod WorldSteps
 pub mod Alive
