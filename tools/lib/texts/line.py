@@ -1,6 +1,9 @@
 """A line of a text, read word by word, as far as it is right."""
+import io
 import re
 
+# The most bytes of a line. The longest right one, an entry of a record 3, has 3,515. (And no number is longer than Python takes.)
+MOST_LINE = 4096
 MOST_NUMBER = 4_294_967_295
 # Bytes that no text has, and what they mostly come from.
 STRANGE = {
@@ -87,7 +90,7 @@ class Line:
         wanted = f"{what}, {least} to {most:,}"
 
         def why(word):
-            return f"{word.decode()}, which isn't in that range" if word and is_number(word) else None
+            return f"{word.decode()[:60]}, which isn't in that range" if word and is_number(word) else None
 
         return int(self.take(wanted, lambda it: is_number(it) and least <= int(it) <= most, why))
 
@@ -96,12 +99,45 @@ class Line:
             self.refuse(wanted)
 
 
-def lines_of(text):
-    """The lines that have an end, with their numbers, and the one that has none, if there is one."""
-    *ended, rest = text.split(b"\n")
-    return [Line(number, it) for number, it in enumerate(ended, start=1)], rest
+class Copying:
+    """A file that is read line by line, and to which file all goes that was read of it."""
+
+    def __init__(self, file, copy):
+        self.file, self.copy = file, copy
+
+    def readline(self, most):
+        row = self.file.readline(most)
+        self.copy.write(row)
+        return row
 
 
-def refuse_unended(number, rest):
-    """The last line has no end."""
-    raise Fault(number, len(rest) + 1, "the end of the text", "the end of the line (byte 10), which each line has, the last too")
+class Rows:
+    """The lines of a text or of a file, which is read one by one."""
+
+    def __init__(self, text):
+        self.file, self.at, self.row = io.BytesIO(text) if isinstance(text, bytes) else text, 0, None
+
+    def seen(self):
+        """The next line with its end, as far as it has one and isn't too long; nothing behind the last."""
+        if self.row is None:
+            self.row = self.file.readline(MOST_LINE + 1)
+        return self.row
+
+    def go_on(self):
+        self.row, self.at = None, self.at + 1
+
+    def take(self):
+        """The next line, or None behind the last that has an end."""
+        row = self.seen()
+        if not row.endswith(b"\n"):
+            return None
+        self.go_on()
+        return row
+
+    def refuse_unended(self):
+        """The next line, if there is one, has no end."""
+        if len(self.seen()) > MOST_LINE:
+            raise Fault(self.at + 1, MOST_LINE + 1, "more of the line", "the end of the line, as no right one is so long")
+        if self.row:
+            raise Fault(self.at + 1, len(self.row) + 1, "the end of the text",
+                        "the end of the line (byte 10), which each line has, the last too")
