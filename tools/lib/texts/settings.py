@@ -10,6 +10,9 @@ except ImportError:
     # (before Python 3.11: nobody can tell whether settings are right)
     tomllib = None
 
+# What the program's reader of TOML takes: of bytes, and of tables and arrays in each other.
+MOST_BYTES, MOST_DEEP = 65_536, 80
+TOO_DEEP = "too many tables or arrays in each other", f"at most {MOST_DEEP} of them"
 KINDS = {"queue": ["threads"], "pool": ["pages", "quotas"], "console": ["bytes"], "sched": ["threads", "channels"]}
 MOST = {"cpus": 64, "events": 65_536, "threads": 1_024, "channels": 64, "pages": 4_096, "bytes": 4_096}
 OBJECT_KEYS = ["name", "kind", "lock", "events"]
@@ -99,17 +102,46 @@ def read_object(table, place, taken):
     taken[own.encode()] = kind
 
 
+def place_of(text, at):
+    """The line and column of a byte."""
+    return text.count(b"\n", 0, at) + 1, at - text.rfind(b"\n", 0, at)
+
+
+def refuse_beyond(text):
+    """Refuses what is too long, or so deep that Python would take much time and memory for it."""
+    if len(text) > MOST_BYTES:
+        end = f"the end of the text, as {MOST_BYTES:,} bytes are the most"
+        raise Fault(*place_of(text, MOST_BYTES), f"byte {MOST_BYTES + 1:,}", end)
+    for number, line in enumerate(text.split(b"\n"), start=1):
+        if sum(map(line.partition(b"#")[0].count, (b".", b"[", b"{"))) > MOST_DEEP:
+            raise Fault(number, 1, *TOO_DEEP)
+
+
+def has_long_number(value):
+    if isinstance(value, (dict, list)):
+        return any(map(has_long_number, value.values() if isinstance(value, dict) else value))
+    return type(value) is int and not -(2**63) <= value < 2**63
+
+
 def read_settings(text):
     """What the settings say. A BadKey is their first fault, in the program's words; a Fault one of TOML's."""
+    refuse_beyond(text)
     try:
         table = tomllib.loads(text.decode("utf-8-sig"))
+        if has_long_number(table):
+            raise ValueError
     except UnicodeDecodeError as error:
-        raise Fault(text[: error.start].count(b"\n") + 1, error.start - text.rfind(b"\n", 0, error.start),
-                    f"the byte {text[error.start]}, which isn't UTF-8 there", "a text in UTF-8") from None
+        found = f"the byte {text[error.start]}, which isn't UTF-8 there"
+        raise Fault(*place_of(text, error.start), found, "a text in UTF-8") from None
     except tomllib.TOMLDecodeError as error:
         at = re.search(r"\(at line (\d+), column (\d+)\)", str(error))
         line, column = (int(at[1]), int(at[2])) if at else (text.count(b"\n") + 1, 1)
         raise Fault(line, column, str(error).partition(" (at ")[0], "TOML, https://toml.io") from None
+    except ValueError:
+        found = re.search(rb"\b[0-9][0-9a-fobx_]{17}", text, re.I)
+        raise Fault(*place_of(text, found.start() if found else 0), "a number above 63 bits", "a smaller one") from None
+    except RecursionError:
+        raise Fault(1, 1, *TOO_DEEP) from None
     cpus = integer(table, None, "cpus")
     objects = wanted(table, None, "object")
     if not isinstance(objects, list):
