@@ -29,10 +29,14 @@ def bad_verdict(cause):
 
 @contextmanager
 def started(words, text, refusal, **how):
-    """The program as it runs on this text, and the file of what it prints; or a refusal."""
-    with tempfile.TemporaryFile() as given, tempfile.NamedTemporaryFile() as said:
-        given.write(text)
-        given.seek(0)
+    """The program as it runs on this text, or on this file from its front on, and the file of what it prints; or a refusal."""
+    with tempfile.TemporaryFile() as own, tempfile.NamedTemporaryFile() as said:
+        given = own if isinstance(text, bytes) else text
+        if given is own:
+            given.write(text)
+        given.flush()
+        # (the file's own `seek` may move just within what it has read)
+        os.lseek(given.fileno(), 0, os.SEEK_SET)
         try:
             program = subprocess.Popen(words, stdin=given, stdout=said, **how)
         except OSError as error:
@@ -83,4 +87,4 @@ def ask_judge(words, text):
         if status not in (0, 1):
             how = f"was ended by signal {-status}" if status < 0 else f"ended with status {status}"
             raise bad_verdict(f"the judge {how}")
-        return said.read_bytes().decode(errors="replace")
+        return said.read_bytes()

@@ -42,9 +42,9 @@ def row(drawn, model, cpu, number, first):
 
 def holds_up(model, cpu, number, waiting):
     """The first entry of this CPU, from this one on, whose event the waiting entry has to follow, on the same object."""
-    its, event_of = model.record.transcripts[cpu], model.claims.event_of
-    on, limit = model.record.transcripts[waiting[0]][waiting[1] - 1].object, event_of.get(waiting, math.inf)
-    found = (at for at in range(number, len(its) + 1) if its[at - 1].object == on and event_of.get((cpu, at), math.inf) < limit)
+    its, claims = model.record.transcripts[cpu], model.claims
+    on, limit = model.record.transcripts[waiting[0]][waiting[1] - 1].object, claims.event_of(*waiting) or math.inf
+    found = (at for at in range(number, len(its) + 1) if its[at - 1].object == on and 0 < claims.event_of(cpu, at) < limit)
     return next(found, number)  # (a judge of one's own may name what is no cycle)
 
 

@@ -4,6 +4,7 @@ from contextlib import suppress
 
 from texts.record import steps_of
 from view.held import held_at
+from view.model import kept
 from view.svg import LETTER
 
 NEAR = 3  # how many neighbours a fault has at each side
@@ -15,7 +16,7 @@ def about(model, box):
     return f"CPU {box.cpu}, {number}{model.record.objects[box.object].name}, {event}{model.note} {box.looks}: {box.text}"
 
 
-def strip(drawn, model, boxes, name, marked, kept=()):
+def strip(drawn, model, boxes, name, marked, witness=()):
     """Some boxes side by side with their numbers; the marked one in a frame, and those of a witness. Where some are left out
     there is a gap."""
     drawn.y += 36
@@ -30,7 +31,7 @@ def strip(drawn, model, boxes, name, marked, kept=()):
         drawn.box(x, y, wide, 30, box.object, box.text, about(model, box), box.is_noroom())
         below = f"by CPU {box.cpu}" if name == "event" else f"on {model.record.objects[box.object].name}"
         drawn.text(x + wide / 2, y + 50, below, "grey", "middle")
-        if is_marked or box.at in kept:
+        if is_marked or box.at in witness:
             drawn.add("rect", class_="frame" if is_marked else "kept", x=x - 4, y=y - 4, width=wide + 8, height=38, rx=4)
         x, last = x + wide + 12, box.at
     drawn.width, drawn.y = max(drawn.width, int(x + 8)), y + 56
@@ -41,7 +42,7 @@ def near(boxes, row, at):
 
 
 def fault(drawn, model, it):
-    record, apart = model.record, list(model.apart())
+    record, apart = model.record, kept(model.apart())
     marked = {(box.row, box.at) for box in apart if model.is_marked(box, True)}
     number, event = place_of(model, it)
     if it.log is not None:
@@ -62,7 +63,7 @@ def fault(drawn, model, it):
 def place_of(model, it):
     """The numbers of the object that the fault is at, and of its event: the first too many, if a log is too long."""
     if it.log is None:
-        return model.record.transcripts[it.cpu][it.entry - 1].object, model.claims.event_of.get((it.cpu, it.entry))
+        return model.record.transcripts[it.cpu][it.entry - 1].object, model.claims.event_of(it.cpu, it.entry) or None
     number = [named.name for named in model.record.objects].index(it.log)
     return number, it.event or model.record.objects[number].events + 1
 

@@ -3,10 +3,11 @@
 With an order (`is_order`) the rows are CPUs, and a box's place is its entry's place in the order. A sound record's order is the
 judge's. For one that is unsound it is one that the logs allow whatever the replies are. Without an order, for a cycle above
 all, there is a row for each log and one for each CPU; a box's place is then its number in its row."""
-from functools import cache
+from array import array
+from functools import lru_cache
 from typing import NamedTuple
 
-from texts.record import KEYS
+from texts.record import KEYS, Columns
 from view.asked import bad_verdict
 from view.claims import Claims, Placing, verdict_by_claims
 from view.held import held_at, held_before, right_reply
@@ -29,6 +30,13 @@ class Box(NamedTuple):
         return " = " not in self.text
 
 
+def kept(boxes):
+    found = Columns(Box, *map(array, "HIBIBQI"), [])
+    for box in boxes:
+        found.append(*box)
+    return found
+
+
 class Model:
     def __init__(self, record, verdict, mc2=None):
         """Without a verdict the record is one of objects of the writer's own. mc2 is asked for a right reply."""
@@ -41,7 +49,7 @@ class Model:
         self.is_order = self.order is not None
         cpus = [f"CPU {cpu}" for cpu in range(record.cpus)]
         self.rows = cpus if self.is_order else [f"log {named.name}" for named in record.objects] + cpus
-        self.boxes = list(self.in_order() if self.is_order else self.apart())
+        self.boxes = kept(self.in_order() if self.is_order else self.apart())
         self.marked = [at for at, box in enumerate(self.boxes) if self.is_marked(box, not self.is_order)]
 
     def allowed(self):
@@ -53,7 +61,7 @@ class Model:
         return placing.order if placing.is_whole() else None
 
     def entry(self, row, at, cpu, number):
-        it, event = self.record.transcripts[cpu][number - 1], self.claims.event_of.get((cpu, number), 0)
+        it, event = self.record.transcripts[cpu][number - 1], self.claims.event_of(cpu, number)
         text, logged = worded(it.asked, it.done), self.record.logs[it.object][event - 1].steps if event else None
         if event and logged != it.done:  # (then the record is unsound)
             text = f"{it.asked} | {it.done} | {logged}"
@@ -66,7 +74,7 @@ class Model:
     def apart(self):
         for number, log in enumerate(self.record.logs):
             for event, (cpu, steps) in enumerate(log, 1):
-                _, entry = self.claims.entry_of.get((number, event), (cpu, 0))
+                entry = self.claims.entry_of(number, event)
                 looks = self.record.transcripts[cpu][entry - 1].looks if entry else 0
                 yield Box(number, event, cpu, entry, number, looks, event, steps)
         for cpu, transcript in enumerate(self.record.transcripts):
@@ -123,7 +131,7 @@ class Model:
         return self.record.form < 3 and named.kind in KEYS
 
 
-@cache
+@lru_cache(1000)
 def worded(asked, done):
     """What was asked and answered, in one text: calls that weren't done have no reply. Where what was done isn't a beginning
     of what was asked, both are there with a bar between."""
@@ -132,4 +140,4 @@ def worded(asked, done):
     calls, steps = asked.split(" ; "), done.split(" ; ")
     if [step.split(" = ")[0] for step in steps] != calls[: len(steps)]:
         return f"{asked} | {done}"
-    return " ; ".join(steps + calls[len(steps) :])
+    return " ; ".join([done, *calls[len(steps) :]]) if calls[len(steps) :] else done

@@ -8,6 +8,7 @@ from html import escape
 from pathlib import Path
 
 from view.asked import Refused
+from view.model import Box
 from view.pictures import picture
 from view.svg import COLOURS, ink
 
@@ -44,11 +45,11 @@ def timeline(model):
 
 def columns(model):
     """The boxes as columns of numbers; their words are in a list of their own. With an order a box's row is its CPU's."""
-    texts, boxes = {}, model.boxes
-    has = {key: [getattr(box, key) for box in boxes] for key in ("row", "cpu", "entry", "object", "event")[model.is_order:]}
+    texts, columns = {}, dict(zip(Box._fields, model.boxes.columns))
+    has = {key: columns[key].tolist() for key in ("row", "cpu", "entry", "object", "event")[model.is_order:]}
     # (numbers that the browser would round)
-    has["looks"] = [str(box.looks) if box.looks >= 2**53 else box.looks for box in boxes]
-    has["text"] = [texts.setdefault(box.text, len(texts)) for box in boxes]
+    has["looks"] = [str(it) if it >= 2**53 else it for it in columns["looks"]]
+    has["text"] = [texts.setdefault(it, len(texts)) for it in columns["text"]]
     return {"boxes": has, "texts": list(texts)}
 
 

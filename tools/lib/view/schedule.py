@@ -6,12 +6,32 @@ from collections import Counter
 from contextlib import suppress
 from pathlib import Path
 
+from texts.line import MOST_LINE
+from texts.scripts import MOST_ENTRIES, entry_lines
+from texts.settings import MOST_BYTES
 from view.asked import STEPS, Refused
 
 MOST_WORDS, MOST_CPUS = 100_000, 64
 LEAST_STEPS = 3  # what an entry takes at least: at a ticket lock it draws, looks and serves
 ENDS = {"serve", "pass", "empty the lock is free"}
 WAITS = {"look in vain", "see nobody"}  # what changes nothing if the CPU did it by its last step too
+
+
+def settings_part(file):
+    """As much of settings as `steps` may read."""
+    yield file.read(MOST_BYTES + 1)
+
+
+def scripts_part(file):
+    """Scripts, as far as `steps` may take them: no further where a line is too long, or entries are too many."""
+    left, is_skipped = MOST_CPUS * MOST_ENTRIES, False
+    for row in iter(lambda: file.readline(MOST_LINE + 1), b""):
+        is_skipped = is_skipped or row.startswith((b"#", b"\n"))
+        left -= not is_skipped
+        yield row
+        if left < 0 or not is_skipped and len(row) > MOST_LINE:
+            return
+        is_skipped = is_skipped and not row.endswith(b"\n")
 
 
 class Scripts:
@@ -22,9 +42,10 @@ class Scripts:
         self.files = [settings, scripts]
         # (a copy can be read again and again, also of a pipe; if there is none, `steps` is to refuse the file itself)
         with suppress(OSError):
-            for at, copy in enumerate(copies):
-                copy.write_bytes(Path(self.files[at]).read_bytes())
-                self.files[at] = copy
+            for at, part in enumerate((settings_part, scripts_part)):
+                with open(self.files[at], "rb") as file, open(copies[at], "wb") as copy:
+                    copy.writelines(part(file))
+                self.files[at] = copies[at]
         try:
             # Of these CPUs the last is never there, so where all else is good the first that isn't is refused.
             next(self.steps(range(MOST_CPUS + 1)))
@@ -32,8 +53,8 @@ class Scripts:
             if not (refused.line or "").startswith("E8 schedule: word "):
                 raise
             self.cpus = int(refused.line.split()[-1]) - 1
-        lines = Path(self.files[1]).read_bytes().split(b"\n")
-        self.entries = Counter(int(it.split()[0]) for it in lines if it and not it.startswith(b"#"))
+        with open(self.files[1], "rb") as file:
+            self.entries = Counter(int(it.words[0]) for it in entry_lines(file))
 
     def steps(self, words):
         """What the step of each of these words is: a CPU, and the step's name with its outcome."""

@@ -8,15 +8,19 @@ CPUS, OBJECTS = 1, 2
 
 
 def trace(model):
-    """The text of a model with an order, an event a line."""
+    """The text of a model with an order, an event a line, in parts."""
     names, last = {CPUS: model.rows, OBJECTS: [named.said() for named in model.record.objects]}, {}
     threads = [({"pid": pid, "tid": tid}, "thread", name) for pid in names for tid, name in enumerate(names[pid], 1)]
     named = [({"pid": CPUS}, "process", "CPUs"), ({"pid": OBJECTS}, "process", "objects"), *threads]
-    events = [{"ph": "M", **it, "name": f"{kind}_name", "args": {"name": name}} for it, kind, name in named]
+    head = [{"ph": "M", **it, "name": f"{kind}_name", "args": {"name": name}} for it, kind, name in named]
+    yield '{"traceEvents":[\n' + ",\n".join(map(spelled, head))
     for box in model.boxes:
-        events += slices(model, box, last.get(box.cpu, 0))
+        yield "".join(f",\n{spelled(it)}" for it in slices(model, box, last.get(box.cpu, 0)))
         last[box.cpu] = box.at
-    return '{"traceEvents":[\n' + ",\n".join(json.dumps(event, separators=(",", ":")) for event in events) + "\n]}\n"
+    yield "\n]}\n"
+
+
+spelled = json.JSONEncoder(separators=(",", ":")).encode
 
 
 def slices(model, box, last):

@@ -8,8 +8,13 @@ standard input. Of what it prints these lines count, and all others are the judg
     cpu C entry N         of `merge`: this entry is next; behind a line `cycle:` it is one of the cycle
     CPU NAME ..           of `merge` too, as `mc2` prints it: the next entry of this CPU is next
 """
+import io
+import itertools
 import re
+from array import array
+from typing import NamedTuple
 
+from texts.record import Columns
 from view.asked import Refused, ask_judge, bad_verdict
 
 FAULT = re.compile(r"(?:log (?P<log>\w{1,16})(?: event (?P<event>[1-9]\d{0,18}))?(?: step (?P<step>[1-9]))?"
@@ -17,6 +22,17 @@ FAULT = re.compile(r"(?:log (?P<log>\w{1,16})(?: event (?P<event>[1-9]\d{0,18}))
 FAULTS = {"too long": ["log"], "wrong step": ["log", "event", "step"], "unclaimed": ["log", "event"],
           **dict.fromkeys(("room was left", "not its event", "not what was asked"), ["cpu"])}
 MOST_REASONS, MOST_LETTERS = 40, 300
+
+
+class Place(NamedTuple):
+    """Where an entry is; its number is from 1."""
+
+    cpu: int
+    entry: int
+
+
+def places():
+    return Columns(Place, array("Q"), array("Q"))
 
 
 class Fault:
@@ -39,9 +55,10 @@ class Verdict:
         self.line = f"unsound: {fault}" if fault else "sound"
         self.fault = Fault(fault) if fault else None
         self.order, self.cycle, self.is_judged = order, cycle, is_judged
-        self.reasons = [cut(line, MOST_LETTERS) for line in reasons[:MOST_REASONS]]
-        if len(reasons) > MOST_REASONS:
-            self.reasons.append(f"and {len(reasons) - MOST_REASONS:,} more lines")
+        reasons = iter(reasons)
+        self.reasons = [cut(line, MOST_LETTERS) for line in itertools.islice(reasons, MOST_REASONS)]
+        if more := sum(1 for _ in reasons):
+            self.reasons.append(f"and {more:,} more lines")
 
     def refusal(self):
         if self.fault:
@@ -52,8 +69,12 @@ class Verdict:
         """Whether all that it names is in the record, and an order has each entry once."""
         has = [len(its) for its in record.transcripts]
         if self.order is not None:
-            entries = {(cpu, number) for cpu, count in enumerate(has) for number in range(1, count + 1)}
-            return len(self.order) == len(entries) and set(self.order) == entries
+            left = [bytearray(b"1") * count for count in has]
+            for cpu, entry in self.order:
+                if cpu >= len(has) or not 1 <= entry <= has[cpu] or not left[cpu][entry - 1]:
+                    return False
+                left[cpu][entry - 1] = 0
+            return not any(map(any, left))
         fault = self.fault
         if self.cycle or fault.log is None:
             named = self.cycle or [(fault.cpu, fault.entry)]
@@ -73,46 +94,56 @@ def cut(text, most):
 def by_mc2(mc2, text):
     """The verdict of the proved program: `merge` names the order, the first fault or a cycle."""
     try:
-        return Verdict(order=list(counted(mc2.ask(["merge"], text).decode().splitlines())))
+        return Verdict(order=counted(lines_of(mc2.ask(["merge"], text))))
     except Refused as refused:
         kind, _, named = (refused.line or "").partition(": ")
         if kind == "E10 unsound":
             return Verdict(named)
         if kind == "E11 cycle":
-            return Verdict(cycle=named_entries(named))
+            return Verdict(cycle=list(named_entries([named])))
         raise
 
 
 def by_judge(words, text):
     """The verdict of a program of one's own."""
     audited = ask_judge([*words, "audit"], text)
-    merged = ask_judge([*words, "merge"], text) if audited.split("\n", 1)[0] == "sound" else ""
-    return by_said(audited.rstrip("\n") + "\n" + merged)
+    merged = ask_judge([*words, "merge"], text) if next(lines_of(audited), "") == "sound" else b""
+    return by_said(audited.rstrip(b"\n") + b"\n" + merged)
 
 
 def by_said(said):
     """The verdict that such a program printed, for `audit` and then for `merge`. Of an unsound record both print the same."""
-    line, *rest = said.splitlines() or [""]
+    lines = lines_of(said)
+    line = next(lines, "")
     if line.startswith("unsound: "):
-        return Verdict(line.removeprefix("unsound: "), rest[: [*rest, line].index(line)])
+        return Verdict(line.removeprefix("unsound: "), itertools.takewhile(lambda it: it != line, lines))
     if line != "sound":
         raise bad_verdict(f"this is none: {cut(line, 80)}")
-    named = named_entries(said)
-    if "cycle" in said.split("cpu", 1)[0]:
-        return Verdict(cycle=named)
-    return Verdict(order=named or list(counted(rest)))
+    named = named_entries(lines)
+    if b"cycle" in said[: said.find(b"cpu") if b"cpu" in said else None]:
+        return Verdict(cycle=list(named))
+    return Verdict(order=named or counted(itertools.islice(lines_of(said), 1, None)))
 
 
-def named_entries(text):
-    return [(int(cpu), int(entry)) for cpu, entry in re.findall(r"\bcpu (\d{1,18}) entry (\d{1,18})\b", text)]
+def lines_of(said):
+    return (it.rstrip("\n") for it in io.TextIOWrapper(io.BytesIO(said), "utf-8", "replace"))
+
+
+def named_entries(lines):
+    named = places()
+    for line in lines:
+        for cpu, entry in re.findall(r"\bcpu (\d{1,18}) entry (\d{1,18})\b", line):
+            named.append(int(cpu), int(entry))
+    return named
 
 
 def counted(lines):
     """The entries of the lines of `mc2 merge`, each the next one of its CPU."""
-    reached = {}
+    reached, order = {}, places()
     for line in lines:
-        cpu = line.split(" ", 1)[0]
+        cpu = line[:20].split(" ", 1)[0]
         if not re.fullmatch(r"\d{1,18}", cpu):
             raise bad_verdict(f"this is no entry of an order: {cut(line, 80)}")
         reached[cpu] = reached.get(cpu, 0) + 1
-        yield int(cpu), reached[cpu]
+        order.append(int(cpu), reached[cpu])
+    return order

@@ -69,7 +69,7 @@ def check_sound(model):
 
 
 def check_trace(model):
-    events = json.loads(trace(model))["traceEvents"]
+    events = json.loads("".join(trace(model)))["traceEvents"]
     slices = [it for it in events if it["ph"] == "X" and "entry" in it["args"]]
     of_cpus = [(it["ts"], it["tid"] - 1, it["args"]["entry"]) for it in slices if it["pid"] == CPUS]
     same(of_cpus == [(1000 * (box.at - 1), box.cpu, box.entry) for box in model.boxes], "the trace has other entries")

@@ -92,7 +92,7 @@ def check_cycle(pages):
 def check_markup(pages):
     """A judge's words don't become a part of the page."""
     text = (OWN / "runq_lower_first").read_bytes()
-    model = Model(read_record(text), by_said(f"{WRONG}\n{MARKUP}\n"))
+    model = Model(read_record(text), by_said(f"{WRONG}\n{MARKUP}\n".encode()))
     pages.walk(model)
     same(pages.browser.run("document.title") == model.title(), "a judge's words were run")
     same(pages.browser.run("document.querySelectorAll('#top script, #top img').length") == 0, "a judge's words are elements")
