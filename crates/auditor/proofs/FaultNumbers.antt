@@ -18,7 +18,7 @@ use Rattle.kernel_words.specs.declared.form.TheConstants.{WRITTEN}
 use Rattle.auditor.specs.Faults.{IsFaultBy, IsFirstFault}
 use Rattle.auditor.specs.StepModels.{StepModel, object_model, behind_all, StepIsWrongBy, EventIsWrongBy}
 use Rattle.auditor.specs.Terms.{Terms, opened_as, opened_list, start, starts}
-use Rattle.auditor.specs.VerdictText.{IsNamed, CanBeTold}
+use Rattle.auditor.specs.VerdictText.{IsNamed, CanBeReported}
 use Rattle.auditor.specs.declared.fault.Fault.{Fault}
 use Rattle.auditor.specs.declared.fault.Verdict.{Verdict}
 use Rattle.auditor.specs.declared.fault.Verdict.TheVariants as verdict
@@ -69,10 +69,10 @@ module _ (r : Record) (fits : RecordFits r) where
   first_is_named f h = fault_is_named (object_model kernel) (starts kernel (opened_of r.settings)) f (length-map (opened_of r.settings) (start kernel) ∙ length-map r.settings.objects object_opened) h.there
 
   -- a verdict on a record can be told
-  told : (v : Verdict) → ((f : Fault) → v ≡ verdict.Unsound f → IsFirstFault kernel (opened_of r.settings) r.run f) → CanBeTold r.settings v
-  told verdict.Sound h = tt
-  told (verdict.Unsound f) h = first_is_named f (h f refl)
+  received : (v : Verdict) → ((f : Fault) → v ≡ verdict.Unsound f → IsFirstFault kernel (opened_of r.settings) r.run f) → CanBeReported r.settings v
+  received verdict.Sound h = tt
+  received (verdict.Unsound f) h = first_is_named f (h f refl)
 
-  pub can_be_told : {E : Type 0} (result : Result Verdict E) → ((f : Fault) → IfOk result (λ v. (v ≡ verdict.Unsound f) ↔ IsFirstFault kernel (opened_of r.settings) r.run f)) → IfOk result (CanBeTold r.settings)
-  can_be_told (Ok v) h = told v (λ f e. (h f).0 e)
-  can_be_told (Err e) h = tt
+  pub can_be_reported : {E : Type 0} (result : Result Verdict E) → ((f : Fault) → IfOk result (λ v. (v ≡ verdict.Unsound f) ↔ IsFirstFault kernel (opened_of r.settings) r.run f)) → IfOk result (CanBeReported r.settings)
+  can_be_reported (Ok v) h = received v (λ f e. (h f).0 e)
+  can_be_reported (Err e) h = tt

@@ -38,6 +38,6 @@ IsNamed s (NotAsked cpu entry) = entry < 2 ^ 63
 IsNamed s (Unclaimed object event) = (object < length s.objects) × (event < 2 ^ 63)
 
 -- so is the verdict's fault, if it has one
-abbrev pub CanBeTold : Settings → Verdict → Type 0
-CanBeTold s Sound = Unit {0}
-CanBeTold s (Unsound fault) = IsNamed s fault
+abbrev pub CanBeReported : Settings → Verdict → Type 0
+CanBeReported s Sound = Unit {0}
+CanBeReported s (Unsound fault) = IsNamed s fault

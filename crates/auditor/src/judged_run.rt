@@ -19,7 +19,7 @@ use std::marker::Model;
 /// the rest.
 #[derive(Drop)]
 pub struct JudgedRun<O: SeqObject, R: StepRows<O>> {
-    told: WholeRun<O>,
+    received: WholeRun<O>,
     logs: Vec<KeptLog<O, R>>,
 }
 
@@ -30,18 +30,18 @@ impl<O: SeqObject, R: StepRows<O>> Model for JudgedRun<O, R> {
 
     ghost Value = { Run O O.Params O.Call O.Reply };
 
-    ghost view = { λ j. j.told };
+    ghost view = { λ j. j.received };
 
-    ghost invariant = { λ j. events_in j.logs.items ≡ j.told.logs };
+    ghost invariant = { λ j. events_in j.logs.items ≡ j.received.logs };
 }
 
 impl<O: SeqObject, R: StepRows<O>> JudgedRun<O, R> {
     /// The run that was told, of which these logs were kept.
-    pub(crate) fn new(told: WholeRun<O>, logs: Vec<KeptLog<O, R>>) -> JudgedRun<O, R>
-        requires { events_in logs.items ≡ told.logs }
-        ensures { result ≡ told }
+    pub(crate) fn new(received: WholeRun<O>, logs: Vec<KeptLog<O, R>>) -> JudgedRun<O, R>
+        requires { events_in logs.items ≡ received.logs }
+        ensures { result ≡ received }
     {
-        JudgedRun { told, logs }
+        JudgedRun { received, logs }
     }
 
     /// How many objects the run has.

@@ -42,28 +42,28 @@ impl<O: SeqObject, J: StepJudge<O>> Model for ReceivedRun<O, J> {
 fn with_one<T>(past: &Past<T>, one: &T) -> Past<T>
     ensures { result.items ≡ past.now.items ++ one.now ∷ [] }
 {
-    Past::told(past, one)
+    Past::named(past, one)
 }
 
 /// One value alone.
 pub fn of_one<T>(one: &T) -> Past<T>
     ensures { result.items ≡ one.now ∷ [] }
 {
-    Past::told(&Past::new(), one)
+    Past::named(&Past::new(), one)
 }
 
 /// One behind the other.
 fn joined<T>(past: &Past<T>, more: &Past<T>) -> Past<T>
     ensures { result.items ≡ past.now.items ++ more.now.items }
 {
-    Past::told(past, more)
+    Past::named(past, more)
 }
 
 /// One list more.
 fn with_list<T>(past: &Past<Series<T>>, list: &Past<T>) -> Past<Series<T>>
     ensures { result.items ≡ past.now.items ++ list.now.items ∷ [] }
 {
-    Past::told(past, list)
+    Past::named(past, list)
 }
 
 /// Values that the caller names.
@@ -71,7 +71,7 @@ pub fn named<T>(past: &Past<T>) -> Past<T>
     ghost next: { List T }
     ensures { result.items ≡ next }
 {
-    Past::told(past, past)
+    Past::named(past, past)
 }
 
 impl<O: SeqObject, J: StepJudge<O>> ReceivedRun<O, J> {

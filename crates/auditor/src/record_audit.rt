@@ -4,7 +4,7 @@ ghost use Rattle.std.specs.Prelude.{◌≡◌, ◌↔◌, IfOk};
 ghost use Rattle.sound_run.specs.Sound.{Sound};
 ghost use Rattle.records.specs.Runs.{opened_of};
 ghost use Rattle.auditor.specs.Faults.{IsFirstFault};
-ghost use Rattle.auditor.specs.VerdictText.{CanBeTold};
+ghost use Rattle.auditor.specs.VerdictText.{CanBeReported};
 
 use crate::judge::judge_run;
 use crate::record_judge::objects_of;
@@ -23,7 +23,7 @@ fn audit_by<J: ReferenceObject<KernelObject>>(
     ensures sound { IfOk result (λ v. (v ≡ Verdict.Sound) ↔ Sound ⟦<KernelObject as SeqObject>⟧ (opened_of «record».now.settings) «record».now.run) }
     ensures fault { (f : Fault) → IfOk result (λ v. (v ≡ Verdict.Unsound f) ↔
         IsFirstFault ⟦<KernelObject as SeqObject>⟧ (opened_of «record».now.settings) «record».now.run f) }
-    ensures told { IfOk result (CanBeTold «record».now.settings) }
+    ensures reported { IfOk result (CanBeReported «record».now.settings) }
 {
     let opened_objects = objects_of(alloc, record.settings().objects())?;
     judge_run::<KernelObject, J>(alloc, opened_objects.as_slice(), record.run())
@@ -34,7 +34,7 @@ pub fn audit(alloc: Global, record: &Record) -> Result<Verdict, OutOfMemory>
     ensures sound { IfOk result (λ v. (v ≡ Verdict.Sound) ↔ Sound ⟦<KernelObject as SeqObject>⟧ (opened_of «record».now.settings) «record».now.run) }
     ensures fault { (f : Fault) → IfOk result (λ v. (v ≡ Verdict.Unsound f) ↔
         IsFirstFault ⟦<KernelObject as SeqObject>⟧ (opened_of «record».now.settings) «record».now.run f) }
-    ensures told { IfOk result (CanBeTold «record».now.settings) }
+    ensures reported { IfOk result (CanBeReported «record».now.settings) }
 {
     audit_by::<ReferenceKernelObject>(alloc, record)
 }

@@ -9,7 +9,7 @@ ghost use Rattle.records.specs.RecordStates.{received_record};
 ghost use Rattle.records.specs.Runs.{opened_of};
 ghost use Rattle.auditor.specs.Faults.{IsFirstFault};
 ghost use Rattle.auditor.specs.Transcripts.{opened_by};
-ghost use Rattle.auditor.specs.VerdictText.{CanBeTold, IsNamed};
+ghost use Rattle.auditor.specs.VerdictText.{CanBeReported, IsNamed};
 
 use crate::run_judge::RunJudge;
 use crate::{Fault, JudgedRun, OpenedObject, ReferenceObject, Replayed, Verdict};
@@ -84,7 +84,7 @@ impl<J: ReferenceObject<KernelObject>> RecordJudge<J> {
         ensures sound { (result ≡ Verdict.Sound) ↔ Sound ⟦<KernelObject as SeqObject>⟧ (opened_of (settings_in self.now.head)) (received_record self.now).run }
         ensures fault { (f : Fault) → (result ≡ Verdict.Unsound f) ↔
             IsFirstFault ⟦<KernelObject as SeqObject>⟧ (opened_of (settings_in self.now.head)) (received_record self.now).run f }
-        ensures told { CanBeTold (settings_in self.now.head) result }
+        ensures reported { CanBeReported (settings_in self.now.head) result }
     {
         self.judged.verdict()
     }
@@ -96,7 +96,7 @@ impl<J: ReferenceObject<KernelObject>> RecordJudge<J> {
         ensures run { IfOk result (λ r. r ≡ (received_record self).run) }
         ensures sound { IfOk result (λ r. Sound ⟦<KernelObject as SeqObject>⟧ (opened_of (settings_in self.head)) (received_record self).run) }
         ensures fault { IfErr result (IsFirstFault ⟦<KernelObject as SeqObject>⟧ (opened_of (settings_in self.head)) (received_record self).run) }
-        ensures told { IfErr result (IsNamed (settings_in self.head)) }
+        ensures reported { IfErr result (IsNamed (settings_in self.head)) }
     {
         let RecordJudge { judged, .. } = self;
         judged.into_run()
@@ -110,7 +110,7 @@ impl<J: ReferenceObject<KernelObject>> RecordSink<KernelForm> for RecordJudge<J>
         let opened = objects_of(self.alloc, head.objects.as_slice())?;
         self.judged = RunJudge::new(self.alloc, head.cpus as usize, head.objects.len())?;
         self.opened = opened;
-        self.head = Past::told(&self.head, head);
+        self.head = Past::named(&self.head, head);
         Ok(())
     }
 

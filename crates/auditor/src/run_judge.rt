@@ -22,7 +22,7 @@ use std::marker::Model;
 #[derive(Drop)]
 pub struct RunJudge<O: SeqObject, J: StepJudge<O>, R: StepRows<O>> {
     alloc: Global,
-    told: ReceivedRun<O, J>,
+    received: ReceivedRun<O, J>,
     notes: JudgeState<O, J, R>,
 }
 
@@ -34,9 +34,9 @@ impl<O: SeqObject, J: StepJudge<O>, R: StepRows<O>> Model for RunJudge<O, J, R> 
 
     ghost Value = { ReceivedRun J.State O O.Params O.Call O.Reply };
 
-    ghost view = { λ j. j.told };
+    ghost view = { λ j. j.received };
 
-    ghost invariant = { λ j. IsJudgeState (model_by O.SeqObject J.right J.behind) J.shows j.told j.notes.fault j.notes.replay j.notes.logs.items (vec_capacity j.notes.logs) };
+    ghost invariant = { λ j. IsJudgeState (model_by O.SeqObject J.right J.behind) J.shows j.received j.notes.fault j.notes.replay j.notes.logs.items (vec_capacity j.notes.logs) };
 }
 
 impl<O: SeqObject, J: StepJudge<O>, R: StepRows<O>> RunJudge<O, J, R> {
@@ -46,7 +46,7 @@ impl<O: SeqObject, J: StepJudge<O>, R: StepRows<O>> RunJudge<O, J, R> {
     {
         RunJudge {
             alloc,
-            told: ReceivedRun::new(0, 0),
+            received: ReceivedRun::new(0, 0),
             notes: JudgeState::empty(alloc),
         }
     }
@@ -57,7 +57,7 @@ impl<O: SeqObject, J: StepJudge<O>, R: StepRows<O>> RunJudge<O, J, R> {
     {
         Ok(RunJudge {
             alloc,
-            told: ReceivedRun::new(cpus, objects),
+            received: ReceivedRun::new(cpus, objects),
             notes: JudgeState::new(alloc, objects)?,
         })
     }
@@ -75,8 +75,8 @@ impl<O: SeqObject, J: StepJudge<O>, R: StepRows<O>> RunJudge<O, J, R> {
     {
         let first = of_one(&judge);
         self.notes
-            .begin_log(self.alloc, &self.told, opened, judge, count)?;
-        self.told.receive_log(opened, &first, count);
+            .begin_log(self.alloc, &self.received, opened, judge, count)?;
+        self.received.receive_log(opened, &first, count);
         Ok(())
     }
 
@@ -90,8 +90,8 @@ impl<O: SeqObject, J: StepJudge<O>, R: StepRows<O>> RunJudge<O, J, R> {
         ensures ok { OnOk result (self.new ≡ event_received self.old event.now) }
         ensures err { OnErr result (self.new ≡ self.old) }
     {
-        self.notes.event(&self.told, event, text)?;
-        self.told.receive_event(event);
+        self.notes.event(&self.received, event, text)?;
+        self.received.receive_event(event);
         Ok(())
     }
 
@@ -105,8 +105,8 @@ impl<O: SeqObject, J: StepJudge<O>, R: StepRows<O>> RunJudge<O, J, R> {
         ensures ok { OnOk result (self.new ≡ log_ended self.old) }
         ensures err { OnErr result (self.new ≡ self.old) }
     {
-        self.notes.end_log(self.alloc, &self.told)?;
-        self.told.receive_log_end();
+        self.notes.end_log(self.alloc, &self.received)?;
+        self.received.receive_log_end();
         Ok(())
     }
 
@@ -115,7 +115,7 @@ impl<O: SeqObject, J: StepJudge<O>, R: StepRows<O>> RunJudge<O, J, R> {
         requires { HasLogs self.old }
         ensures { self.new ≡ transcript_begun self.old count }
     {
-        self.told.receive_transcript(count);
+        self.received.receive_transcript(count);
     }
 
     /// Whether the text behind the looks of the transcript's next entry spells its CPU's next event on the object, and the event
@@ -125,12 +125,12 @@ impl<O: SeqObject, J: StepJudge<O>, R: StepRows<O>> RunJudge<O, J, R> {
         requires transcripts { IsInTranscripts self.old }
         requires count { length self.old.entries < self.old.count }
         requires object { object < self.old.objects }
-        ensures known { IsTrue result → (asked : List O.Call) × (steps : List (Step O O.Params O.Call O.Reply)) × R.tells tail.now asked steps × (self.new ≡ entry_received self.old (done_entry object looks asked steps)) × IsStepsOf self.old.logs object steps }
+        ensures known { IsTrue result → (asked : List O.Call) × (steps : List (Step O O.Params O.Call O.Reply)) × R.tail_spells tail.now asked steps × (self.new ≡ entry_received self.old (done_entry object looks asked steps)) × IsStepsOf self.old.logs object steps }
         ensures unknown { result ≡ false → self.new ≡ self.old }
     {
-        match self.notes.recognises(&self.told, object, tail) {
+        match self.notes.recognises(&self.received, object, tail) {
             Some(steps) => {
-                self.told.receive_recognised(object, looks, tail, &steps);
+                self.received.receive_recognised(object, looks, tail, &steps);
                 true
             }
             None => false,
@@ -144,8 +144,8 @@ impl<O: SeqObject, J: StepJudge<O>, R: StepRows<O>> RunJudge<O, J, R> {
         requires object { entry.now.object < self.old.objects }
         ensures { self.new ≡ entry_received self.old entry.now }
     {
-        self.notes.entry(&self.told, entry);
-        self.told.receive_entry(entry);
+        self.notes.entry(&self.received, entry);
+        self.received.receive_entry(entry);
     }
 
     /// The transcript is whole.
@@ -153,8 +153,8 @@ impl<O: SeqObject, J: StepJudge<O>, R: StepRows<O>> RunJudge<O, J, R> {
         requires { IsInTranscripts self.old }
         ensures { self.new ≡ transcript_ended self.old }
     {
-        self.notes.end_transcript(&self.told);
-        self.told.receive_transcript_end();
+        self.notes.end_transcript(&self.received);
+        self.received.receive_transcript_end();
     }
 
     /// Whether the run that was received is sound, or else its first fault.
@@ -166,7 +166,7 @@ impl<O: SeqObject, J: StepJudge<O>, R: StepRows<O>> RunJudge<O, J, R> {
         ensures sound { (result ≡ Verdict.Sound) ↔ SoundBy (model_by O.SeqObject J.right J.behind) self.now.opened (run_of self.now) }
         ensures fault { (f : Fault) → (result ≡ Verdict.Unsound f) ↔ IsFirstFaultBy (model_by O.SeqObject J.right J.behind) self.now.opened (run_of self.now) f }
     {
-        self.notes.verdict(&self.told)
+        self.notes.verdict(&self.received)
     }
 
     /// The run that was received, if it is sound, or else its first fault. It takes no memory.
@@ -181,9 +181,9 @@ impl<O: SeqObject, J: StepJudge<O>, R: StepRows<O>> RunJudge<O, J, R> {
     {
         let RunJudge {
             alloc: _,
-            told,
+            received,
             notes,
         } = self;
-        notes.into_run(told)
+        notes.into_run(received)
     }
 }

@@ -2,7 +2,7 @@
 
 ghost use Rattle.std.specs.Prelude.{◌≡◌, ◌<◌, ◌++◌, length, string_bytes, IfOk, OnOk};
 ghost use Rattle.records.specs.Settings.{name_at};
-ghost use Rattle.auditor.specs.VerdictText.{IsNamed, CanBeTold, fault_text, verdict_text};
+ghost use Rattle.auditor.specs.VerdictText.{IsNamed, CanBeReported, fault_text, verdict_text};
 
 use crate::{Fault, Verdict};
 use event_log::OutOfMemory;
@@ -57,7 +57,7 @@ fn put_fault(text: &mut String, settings: &Settings, fault: Fault) -> Result<(),
 
 /// Puts the line of a verdict, with its end.
 fn put_verdict(text: &mut String, settings: &Settings, verdict: Verdict) -> Result<(), AllocError>
-    requires { CanBeTold settings.now verdict }
+    requires { CanBeReported settings.now verdict }
     ensures { OnOk result (string_bytes text.new ≡ string_bytes text.old ++ verdict_text settings.now verdict) }
 {
     match verdict {
@@ -86,7 +86,7 @@ pub fn verdict_line(
     settings: &Settings,
     verdict: Verdict,
 ) -> Result<String, OutOfMemory>
-    requires { CanBeTold settings.now verdict }
+    requires { CanBeReported settings.now verdict }
     ensures { IfOk result (λ text. string_bytes text ≡ verdict_text settings.now verdict) }
 {
     let mut text = String::new(alloc);

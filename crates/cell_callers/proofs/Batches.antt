@@ -4,7 +4,7 @@ use Rattle.event_log.specs.declared.logged.NoRoom.{NoRoom}
 use Rattle.kernel_object.specs.declared.call.KCall.{KCall}
 use Rattle.kernel_object.specs.contracts.object.KernelObjectSeqObject.TheImpl.{ghosts}
 use Rattle.cell_callers.specs.declared.batching.Replies.{Replies}
-use Rattle.cell_callers.specs.declared.codes.TheConstants.{DONE, FULL, DONE_KEPT, FULL_KEPT}
+use Rattle.cell_callers.specs.declared.report_codes.TheConstants.{DONE, FULL, DONE_KEPT, FULL_KEPT}
 use Rattle.cell_callers.specs.declared.caller_state.CallerState.TheVariants as at
 use Rattle.cell_callers.specs.declared.whole.Whole.TheVariants as whole
 use Rattle.cell_callers.specs.Arrivals.{GoesThere, got_by}
@@ -15,11 +15,11 @@ use Rattle.cell_callers.specs.HandleContents.{KernelCell, KernelHold, KernelStat
 
 -- what is told where the object isn't given back yet
 pub kept_all : (said : Result KernelSteps NoRoom) (old new : Replies) (n m : ℕ) → ReportsAll DONE FULL said n old new → m ≡ kept_code n → ReportsAll DONE_KEPT FULL_KEPT said m old new
-kept_all (Ok steps) old new n m told kept = (kept ∙ ap kept_code told.0, told.1)
-kept_all (Err why) old new n m told kept = (kept ∙ ap kept_code told.0, told.1)
+kept_all (Ok steps) old new n m reported kept = (kept ∙ ap kept_code reported.0, reported.1)
+kept_all (Err why) old new n m reported kept = (kept ∙ ap kept_code reported.0, reported.1)
 
 -- what was done under the hold is the batch of whoever came to that hold
 pub batch_done : (cell : KernelCell) (p : KernelState) (calls : List KCall) (hold : KernelHold) (looked : Bool) (old new : Replies × ℕ) (n : ℕ) (q : KernelState)
     → (m : ℕ) × GoesThere ghosts cell p m (got_by looked) (at.Holding hold) → ReportsHeldBatch cell hold calls old.0 n new.0 q → new.1 ≡ looks_after looked old.1 → ReportsBatchedAt cell p calls old n q new
-batch_done cell p calls hold looked old new n q there (said, true, told, held) looks = (whole.Done said looked, told, looks, record { steps = there.0; got = hold; there = there.1; held = held })
-batch_done cell p calls hold looked old new n q there (said, false, told, held) looks = (whole.Kept said looked, told, looks, record { steps = there.0; got = hold; there = there.1; held = held })
+batch_done cell p calls hold looked old new n q there (said, true, reported, held) looks = (whole.Done said looked, reported, looks, record { steps = there.0; got = hold; there = there.1; held = held })
+batch_done cell p calls hold looked old new n q there (said, false, reported, held) looks = (whole.Kept said looked, reported, looks, record { steps = there.0; got = hold; there = there.1; held = held })

@@ -13,7 +13,7 @@ use Rattle.kernel_object.specs.contracts.call.KReplyDefault.TheImpl.{ghosts as r
 use Rattle.cell_callers.specs.declared.arrival.Arrival.{Arrival}
 use Rattle.cell_callers.specs.declared.arrival.Arrival.TheVariants as arrival
 use Rattle.cell_callers.specs.declared.caller_state.CallerState.TheVariants as at
-use Rattle.cell_callers.specs.declared.progress.Progress.TheVariants as told
+use Rattle.cell_callers.specs.declared.progress.Progress.TheVariants as reported
 use Rattle.cell_callers.specs.Arrivals.{IsArrival, got_by}
 use Rattle.cell_callers.specs.CallReports.{GoesBehind}
 use Rattle.cell_callers.specs.HandleContents.{KernelBehind, KernelState}
@@ -22,4 +22,4 @@ use Rattle.cell_callers.specs.HandleContents.{KernelBehind, KernelState}
 pub comes : (cell : AnyCell KernelObject KParams KCall KReply) (p : KernelState) (behind : KernelBehind) (a : Arrival KernelObject KParams KCall KReply ghosts call_compares call_defaults reply_compares reply_defaults)
     → GoesBehind cell p behind → IsArrival ghosts cell (at.Behind behind) a → IsArrival ghosts cell p a
 comes cell p behind (arrival.Got h looked) goes gone = goes (got_by looked) gone.0 (at.Holding h) gone.1
-comes cell p behind (arrival.Waits q) goes gone = goes told.Looked gone.0 q gone.1
+comes cell p behind (arrival.Waits q) goes gone = goes reported.Looked gone.0 q gone.1

@@ -12,8 +12,8 @@ use Rattle.mcs_lock.specs.declared.cell.McsCell.{McsCell}
 use Rattle.mcs_lock.specs.Passes.{IsPassOf}
 use Rattle.guarded_cell.specs.declared.cell.AnyCell.TheVariants as cells
 use Rattle.cell_callers.specs.declared.caller_state.CallerState.TheVariants as at
-use Rattle.cell_callers.specs.declared.codes.TheConstants.{DONE, FULL, DONE_KEPT, FULL_KEPT}
-use Rattle.cell_callers.specs.declared.coding.Answered.{Answered}
+use Rattle.cell_callers.specs.declared.report_codes.TheConstants.{DONE, FULL, DONE_KEPT, FULL_KEPT}
+use Rattle.cell_callers.specs.declared.call_numbers.Answered.{Answered}
 use Rattle.cell_callers.specs.Arrivals.{IsDeparture}
 use Rattle.cell_callers.specs.Codes.{answer_code, kept_code}
 use Rattle.cell_callers.specs.Coding.{reply_code}
@@ -26,14 +26,14 @@ module _ {O P C R : Type 0} {g : Ghosts O P C R} {call_eq : Eq C} {call_default 
     pub gone : IsDeparture g (cells.Mcs cell) (at.Holding hold) true (at.Idle back)
 
 -- what is told where the object isn't given back yet
-pub kept_told : (said : Result KReply NoRoom) (old new : Answered) (n m : ℕ) → (n, new) ≡ answer_code DONE FULL old said → m ≡ kept_code n → (m, new) ≡ answer_code DONE_KEPT FULL_KEPT old said
-kept_told (Ok reply) old new n m e k =
+pub kept_reported : (said : Result KReply NoRoom) (old new : Answered) (n m : ℕ) → (n, new) ≡ answer_code DONE FULL old said → m ≡ kept_code n → (m, new) ≡ answer_code DONE_KEPT FULL_KEPT old said
+kept_reported (Ok reply) old new n m e k =
     let number : n ≡ DONE = ap (λ z. z.0) e in
-    let told : m ≡ DONE_KEPT = k ∙ ap kept_code number in
+    let reported : m ≡ DONE_KEPT = k ∙ ap kept_code number in
     let reads : new ≡ reply_code reply = ap (λ z. z.1) e in
-    λ i. (told i, reads i)
-kept_told (Err why) old new n m e k =
+    λ i. (reported i, reads i)
+kept_reported (Err why) old new n m e k =
     let number : n ≡ FULL = ap (λ z. z.0) e in
-    let told : m ≡ FULL_KEPT = k ∙ ap kept_code number in
+    let reported : m ≡ FULL_KEPT = k ∙ ap kept_code number in
     let stays : new ≡ old = ap (λ z. z.1) e in
-    λ i. (told i, stays i)
+    λ i. (reported i, stays i)

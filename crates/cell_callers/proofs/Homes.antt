@@ -23,9 +23,9 @@ same_number = eq-eqb
 
 module _ {O P C R : Type 0} {g : Ghosts O P C R} {call_eq : Eq C} {call_default : Default C} {reply_eq : Eq R} {reply_default : Default R} where
   -- a pass was told what its cell was told
-  pub told_of : (cell : AnyCell O P C R) (p : Pass O P C R g call_eq call_default reply_eq reply_default) → IsPassOf cell p → p.outside.key.value ≡ fixed_of cell
-  told_of (cells.Ticket c) p is = is.told
-  told_of (cells.Mcs c) p is = is.told
+  pub reported_of : (cell : AnyCell O P C R) (p : Pass O P C R g call_eq call_default reply_eq reply_default) → IsPassOf cell p → p.outside.key.value ≡ fixed_of cell
+  reported_of (cells.Ticket c) p is = is.reported
+  reported_of (cells.Mcs c) p is = is.reported
 
   -- all passes but the last, and the last
   pub front_home : (cell : AnyCell O P C R) (ps : List (Pass O P C R g call_eq call_default reply_eq reply_default)) (p : Pass O P C R g call_eq call_default reply_eq reply_default) → AreHome cell (ps ++ p ∷ []) → AreHome cell ps
@@ -60,7 +60,7 @@ module _ {O P C R : Type 0} {g : Ghosts O P C R} {call_eq : Eq C} {call_default 
 
   -- who owns the first CPUs, and all if these are all
   pub owns_all : (cell : AnyCell O P C R) (n : ℕ) (p : Pass O P C R g call_eq call_default reply_eq reply_default) → OwnsFirst cell n p → ((k : ℕ) → k < (fixed_of cell).numbers → k < n) → OwnsAll (view_of_pass p).caller
-  owns_all cell n p first all = record { each = λ k below. first.owned k (all k (subst (λ h. k < h.numbers) (told_of cell p first.of) below)) }
+  owns_all cell n p first all = record { each = λ k below. first.owned k (all k (subst (λ h. k < h.numbers) (reported_of cell p first.of) below)) }
 
   -- the passes of a new cell
   module _ (kind : LockKind) (logged : History O P C R) (cpus : ℕ) (cell : AnyCell O P C R) (ps : List (Pass O P C R g call_eq call_default reply_eq reply_default))
@@ -74,4 +74,4 @@ module _ {O P C R : Type 0} {g : Ghosts O P C R} {call_eq : Eq C} {call_default 
     new_numbers some =
         let one = some_at ps 0 some in
         let is = new 0 one.0 one.1 in
-        sym (ap (λ h. h.numbers) (told_of cell one.0 is.0)) ∙ ap (λ v. v.caller.cell.numbers) is.1
+        sym (ap (λ h. h.numbers) (reported_of cell one.0 is.0)) ∙ ap (λ v. v.caller.cell.numbers) is.1

@@ -18,7 +18,7 @@ use Rattle.guarded_cell.specs.declared.cell.AnyCell.{AnyCell}
 use Rattle.guarded_cell.specs.Kinds.{IsPassOf}
 use Rattle.cell_callers.specs.CallerStates.{fixed_of}
 use Rattle.cell_callers.specs.Unused.{IsUnused, Covers}
-use Rattle.cell_callers.proofs.Homes.{told_of, same_number}
+use Rattle.cell_callers.proofs.Homes.{reported_of, same_number}
 
 -- what each of a list has, all but the last have, and the last
 pub front_each : {A : Type 0} (Q : A → Type 0) (ps xs : List A) (x : A) → ps ≡ xs ++ x ∷ [] → EachAt (λ _ p. Q p) ps → EachAt (λ _ p. Q p) xs
@@ -55,7 +55,7 @@ module _ {O P C R : Type 0} {g : Ghosts O P C R} {call_eq : Eq C} {call_default 
     where
       mine : (k : ℕ) → k < (view_of_pass whole).caller.cell.numbers → (view_of_pass whole).caller.owned k ≡ true
       mine k below =
-          let under : k < length ps = subst (λ n. k < n) count (subst (λ h. k < h.numbers) (told_of cell whole is) below) in
+          let under : k < length ps = subst (λ n. k < n) count (subst (λ h. k < h.numbers) (reported_of cell whole is) below) in
           let one = some_at ps k under in
           let its = each k one.0 one.1 in
           let covered : Covers one.0 whole = elim (get_push rest last k one.0 (subst (λ l. slice_get l k ≡ Some one.0) split one.1)) [ inl e ↦ others k one.0 e | inr e ↦ subst (λ p. Covers p whole) e.1 first ] in
@@ -64,10 +64,10 @@ module _ {O P C R : Type 0} {g : Ghosts O P C R} {call_eq : Eq C} {call_default 
   -- what a pass of all CPUs has seen, if they have done nothing
   pub nothing_seen : (cell : AnyCell O P C R) (p : Pass O P C R g call_eq call_default reply_eq reply_default) → IsUnused cell p → OwnsAll (view_of_pass p).caller → (view_of_pass p).seen ≡ (fixed_of cell).opening
   nothing_seen cell p unused all =
-      let told = told_of cell p unused.pass in
+      let reported = reported_of cell p unused.pass in
       let view = p.idle.pass_view in
       let valid = view.valid in
-      let opening : (view_of_pass p).caller.cell.opening ≡ (fixed_of cell).opening = ap (λ h. h.opening) told in
+      let opening : (view_of_pass p).caller.cell.opening ≡ (fixed_of cell).opening = ap (λ h. h.opening) reported in
       same_log (view_of_pass p).caller.cell.opening (view_of_pass p).seen valid.begins
       (λ z. dite (dec_lt z (view_of_pass p).caller.cell.numbers)
       (λ below. unused.none z (all.each z below) ∙ sym (ap (λ l. of z l) opening))
@@ -75,7 +75,7 @@ module _ {O P C R : Type 0} {g : Ghosts O P C R} {call_eq : Eq C} {call_default 
 
   -- what is left of a cell that nobody has called
   pub left_unused : (cell : AnyCell O P C R) (p : Pass O P C R g call_eq call_default reply_eq reply_default) → IsUnused cell p → OwnsAll (view_of_pass p).caller → stored g (view_of_pass p).caller.cell (view_of_pass p).seen ≡ stored g (fixed_of cell) (fixed_of cell).opening
-  left_unused cell p unused all = ap (λ h. stored g h (view_of_pass p).seen) (told_of cell p unused.pass) ∙ ap (λ l. stored g (fixed_of cell) l) (nothing_seen cell p unused all)
+  left_unused cell p unused all = ap (λ h. stored g h (view_of_pass p).seen) (reported_of cell p unused.pass) ∙ ap (λ l. stored g (fixed_of cell) l) (nothing_seen cell p unused all)
 
   -- the passes of a new cell
   module _ (kind : LockKind) (logged : History O P C R) (cpus : ℕ) (cell : AnyCell O P C R) (ps : List (Pass O P C R g call_eq call_default reply_eq reply_default))
@@ -83,7 +83,7 @@ module _ {O P C R : Type 0} {g : Ghosts O P C R} {call_eq : Eq C} {call_default 
     pub new_unused : EachAt (λ _ p. IsUnused cell p) ps
     new_unused k p there =
         let is = new k p there in
-        let fixed : fixed_of cell ≡ cell_of kind 0 cpus logged = sym (told_of cell p is.0) ∙ ap (λ v. v.caller.cell) is.1 in
+        let fixed : fixed_of cell ≡ cell_of kind 0 cpus logged = sym (reported_of cell p is.0) ∙ ap (λ v. v.caller.cell) is.1 in
         record { pass = is.0; none = λ j mine. ap (λ v. of j v.seen) is.1 ∙ sym (ap (λ h. of j h.opening) fixed) }
 
     pub new_each : EachAt (λ k p. (view_of_pass p).caller.owned k ≡ true) ps
@@ -93,5 +93,5 @@ module _ {O P C R : Type 0} {g : Ghosts O P C R} {call_eq : Eq C} {call_default 
     new_left some kept =
         let one = some_at ps 0 some in
         let is = new 0 one.0 one.1 in
-        let fixed : fixed_of cell ≡ cell_of kind 0 cpus logged = sym (told_of cell one.0 is.0) ∙ ap (λ v. v.caller.cell) is.1 in
+        let fixed : fixed_of cell ≡ cell_of kind 0 cpus logged = sym (reported_of cell one.0 is.0) ∙ ap (λ v. v.caller.cell) is.1 in
         ap (λ h. stored g h h.opening) fixed ∙ ap (λ s. record logged { state = s }) (sym kept.replayed)

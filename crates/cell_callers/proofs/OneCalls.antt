@@ -30,7 +30,7 @@ use Rattle.guarded_cell.specs.Held.{HasCalled}
 use Rattle.guarded_cell.proofs.HeldCalls.{held_call}
 use Rattle.cell_callers.specs.declared.caller_state.CallerState.{CallerState}
 use Rattle.cell_callers.specs.declared.caller_state.CallerState.TheVariants as at
-use Rattle.cell_callers.specs.declared.progress.Progress.TheVariants as told
+use Rattle.cell_callers.specs.declared.progress.Progress.TheVariants as reported
 use Rattle.cell_callers.specs.declared.whole.Whole.TheVariants as whole
 use Rattle.cell_callers.specs.Applies.{IsHeldApply}
 use Rattle.cell_callers.specs.Arrivals.{got_by, GoesThere, GoesBack}
@@ -121,7 +121,7 @@ module _ {O P C R : Type 0} (g : Ghosts O P C R) where
 module _ {O P C R : Type 0} (g : Ghosts O P C R) {call_eq : Eq C} {call_default : Default C} {reply_eq : Eq R} {reply_default : Default R} where
   module _ (caller : Caller O P C R) (before : List (TraceStep (Event O P C R))) where
     -- a step that looks at nothing, one that looks in vain, and one that gets the object
-    one_stepped : (c : AnyCell O P C R) (p : CallerState O P C R g call_eq call_default reply_eq reply_default) (b : StepState O P C R) (n : ℕ) → IsStepThere g c p told.Stepped (state_of p) b → Came caller before n (state_of p) → Came caller before n b
+    one_stepped : (c : AnyCell O P C R) (p : CallerState O P C R g call_eq call_default reply_eq reply_default) (b : StepState O P C R) (n : ℕ) → IsStepThere g c p reported.Stepped (state_of p) b → Came caller before n (state_of p) → Came caller before n b
     one_stepped (cells.Ticket c) (at.Idle x) b n s came = came_more g caller before n n _ _ steps.Draw _ b s.1 refl refl refl (no_more n) came
     one_stepped (cells.Ticket c) (at.Drawn x) b n s came = absurd s
     one_stepped (cells.Ticket c) (at.Ready x) b n s came = came_more g caller before n n _ _ (steps.Enter false) _ b s.2.made refl refl refl (no_more n) came
@@ -143,7 +143,7 @@ module _ {O P C R : Type 0} (g : Ghosts O P C R) {call_eq : Eq C} {call_default 
     one_stepped (cells.Mcs c) (at.Leaving x) b n s came = absurd s
     one_stepped (cells.Mcs c) (at.Passing x) b n s came = absurd s
 
-    one_vain : (c : AnyCell O P C R) (p : CallerState O P C R g call_eq call_default reply_eq reply_default) (b : StepState O P C R) (n : ℕ) → IsStepThere g c p told.Looked (state_of p) b → Came caller before n (state_of p) → Came caller before (n + 1) b
+    one_vain : (c : AnyCell O P C R) (p : CallerState O P C R g call_eq call_default reply_eq reply_default) (b : StepState O P C R) (n : ℕ) → IsStepThere g c p reported.Looked (state_of p) b → Came caller before n (state_of p) → Came caller before (n + 1) b
     one_vain (cells.Ticket c) (at.Idle x) b n s came = absurd s
     one_vain (cells.Ticket c) (at.Drawn x) b n s came = came_more g caller before n (n + 1) _ _ (steps.Look false) _ b s.1.made refl refl refl refl came
     one_vain (cells.Ticket c) (at.Ready x) b n s came = absurd s
@@ -209,7 +209,7 @@ module _ {O P C R : Type 0} (g : Ghosts O P C R) {call_eq : Eq C} {call_default 
     one_got (cells.Mcs c) (at.Passing x) false h n s came = absurd s
 
     -- so many steps that look at nothing, and then such a one
-    goes_vain : (c : AnyCell O P C R) (p : CallerState O P C R g call_eq call_default reply_eq reply_default) (k : ℕ) (q : CallerState O P C R g call_eq call_default reply_eq reply_default) (n : ℕ) → GoesThere g c p k told.Looked q → Came caller before n (state_of p) → Came caller before (n + 1) (state_of q)
+    goes_vain : (c : AnyCell O P C R) (p : CallerState O P C R g call_eq call_default reply_eq reply_default) (k : ℕ) (q : CallerState O P C R g call_eq call_default reply_eq reply_default) (n : ℕ) → GoesThere g c p k reported.Looked q → Came caller before n (state_of p) → Came caller before (n + 1) (state_of q)
     goes_vain c p zero q n gone came = one_vain c p (state_of q) n gone came
     goes_vain c p (suc k) q n gone came = goes_vain c gone.0 k q n gone.2 (one_stepped c p (state_of gone.0) n gone.1 came)
 
@@ -226,7 +226,7 @@ module _ {O P C R : Type 0} (g : Ghosts O P C R) {call_eq : Eq C} {call_default 
         subst (λ z. Came caller before z (state_of q)) (omega arith) (looks_vain c vain.0 call k q (n + 1) vain.2 first)
 
   module _ (hold : HoldView O P C R) (before : List (TraceStep (Event O P C R))) where
-    back_stepped : (c : AnyCell O P C R) (p : CallerState O P C R g call_eq call_default reply_eq reply_default) (b : StepState O P C R) → IsStepBack g c p told.Stepped (state_of p) b → Held hold before (state_of p) → Held hold before b
+    back_stepped : (c : AnyCell O P C R) (p : CallerState O P C R g call_eq call_default reply_eq reply_default) (b : StepState O P C R) → IsStepBack g c p reported.Stepped (state_of p) b → Held hold before (state_of p) → Held hold before b
     back_stepped (cells.Ticket c) (at.Idle x) b s h = absurd s
     back_stepped (cells.Ticket c) (at.Drawn x) b s h = absurd s
     back_stepped (cells.Ticket c) (at.Ready x) b s h = absurd s
@@ -248,7 +248,7 @@ module _ {O P C R : Type 0} (g : Ghosts O P C R) {call_eq : Eq C} {call_default 
     back_stepped (cells.Mcs c) (at.Leaving x) b s h = held_more g hold before _ _ (steps.See true) _ b s.2.made refl refl refl refl h
     back_stepped (cells.Mcs c) (at.Passing x) b s h = absurd s
 
-    back_left : (c : AnyCell O P C R) (p : CallerState O P C R g call_eq call_default reply_eq reply_default) (b : StepState O P C R) → IsStepBack g c p told.Left (state_of p) b → Held hold before (state_of p) → HasReleased hold before b.run
+    back_left : (c : AnyCell O P C R) (p : CallerState O P C R g call_eq call_default reply_eq reply_default) (b : StepState O P C R) → IsStepBack g c p reported.Left (state_of p) b → Held hold before (state_of p) → HasReleased hold before b.run
     back_left (cells.Ticket c) (at.Idle x) b s h = absurd s
     back_left (cells.Ticket c) (at.Drawn x) b s h = absurd s
     back_left (cells.Ticket c) (at.Ready x) b s h = absurd s
@@ -270,7 +270,7 @@ module _ {O P C R : Type 0} (g : Ghosts O P C R) {call_eq : Eq C} {call_default 
     back_left (cells.Mcs c) (at.Leaving x) b s h = absurd s
     back_left (cells.Mcs c) (at.Passing x) b s h = held_end g hold before _ _ steps.Pass _ b s.2 refl refl refl h
 
-    goes_back : (c : AnyCell O P C R) (p : CallerState O P C R g call_eq call_default reply_eq reply_default) (k : ℕ) (q : CallerState O P C R g call_eq call_default reply_eq reply_default) → GoesBack g c p k told.Left q → Held hold before (state_of p) → HasReleased hold before (state_of q).run
+    goes_back : (c : AnyCell O P C R) (p : CallerState O P C R g call_eq call_default reply_eq reply_default) (k : ℕ) (q : CallerState O P C R g call_eq call_default reply_eq reply_default) → GoesBack g c p k reported.Left q → Held hold before (state_of p) → HasReleased hold before (state_of q).run
     goes_back c p zero q gone h = back_left c p (state_of q) gone h
     goes_back c p (suc k) q gone h = goes_back c gone.0 k q gone.2 (back_stepped c p (state_of gone.0) gone.1 h)
 

@@ -49,4 +49,4 @@ module _ {O P C R : Type 0} (g : Ghosts O P C R) {call_eq : Eq C} {call_default 
   abbrev pub IsApplied : CallerState O P C R g call_eq call_default reply_eq reply_default → C → Option (Result R NoRoom) → CallerState O P C R g call_eq call_default reply_eq reply_default → Type 0
   IsApplied (at.Holding h) call (Some said) (at.Holding k) = IsHeldApply h call said k
   IsApplied before call None after = (is_holding before ≡ false) × (after ≡ before)
-  IsApplied before call told after = ⊥
+  IsApplied before call reported after = ⊥

@@ -7,7 +7,7 @@ use Rattle.guarded_cell.specs.declared.cell.AnyCell.{AnyCell}
 use Rattle.cell_callers.specs.declared.caller_state.CallerState.{CallerState}
 use Rattle.cell_callers.specs.declared.caller_state.CallerState.TheVariants as at
 use Rattle.cell_callers.specs.declared.progress.Progress.{Progress}
-use Rattle.cell_callers.specs.declared.progress.Progress.TheVariants as told
+use Rattle.cell_callers.specs.declared.progress.Progress.TheVariants as reported
 use Rattle.cell_callers.specs.declared.arrival.Arrival.{Arrival}
 use Rattle.cell_callers.specs.declared.arrival.Arrival.TheVariants as arrival
 use Rattle.cell_callers.specs.CallerStates.{state_of}
@@ -15,24 +15,24 @@ use Rattle.cell_callers.specs.Steps.{IsStepThere, IsStepBack}
 
 -- what the step reports by which the object comes: by a look, or without one
 abbrev pub got_by : Bool → Progress
-got_by true = told.Found
-got_by false = told.Entered
+got_by true = reported.Found
+got_by false = reported.Entered
 
 module _ {O P C R : Type 0} (g : Ghosts O P C R) {call_eq : Eq C} {call_default : Default C} {reply_eq : Eq R} {reply_default : Default R} where
   -- the caller goes on towards the object by n steps that look at nothing, and then by one that reports t
   abbrev pub GoesThere : AnyCell O P C R → CallerState O P C R g call_eq call_default reply_eq reply_default → ℕ → Progress → CallerState O P C R g call_eq call_default reply_eq reply_default → Type 0
   GoesThere c p zero t q = IsStepThere g c p t (state_of p) (state_of q)
-  GoesThere c p (suc n) t q = (m : CallerState O P C R g call_eq call_default reply_eq reply_default) × IsStepThere g c p told.Stepped (state_of p) (state_of m) × GoesThere c m n t q
+  GoesThere c p (suc n) t q = (m : CallerState O P C R g call_eq call_default reply_eq reply_default) × IsStepThere g c p reported.Stepped (state_of p) (state_of m) × GoesThere c m n t q
 
   -- the same on the way back
   abbrev pub GoesBack : AnyCell O P C R → CallerState O P C R g call_eq call_default reply_eq reply_default → ℕ → Progress → CallerState O P C R g call_eq call_default reply_eq reply_default → Type 0
   GoesBack c p zero t q = IsStepBack g c p t (state_of p) (state_of q)
-  GoesBack c p (suc n) t q = (m : CallerState O P C R g call_eq call_default reply_eq reply_default) × IsStepBack g c p told.Stepped (state_of p) (state_of m) × GoesBack c m n t q
+  GoesBack c p (suc n) t q = (m : CallerState O P C R g call_eq call_default reply_eq reply_default) × IsStepBack g c p reported.Stepped (state_of p) (state_of m) × GoesBack c m n t q
 
   -- a caller has the object, or has looked once in vain
   abbrev pub IsArrival : AnyCell O P C R → CallerState O P C R g call_eq call_default reply_eq reply_default → Arrival O P C R g call_eq call_default reply_eq reply_default → Type 0
   IsArrival c p (arrival.Got h looked) = (n : ℕ) × GoesThere c p n (got_by looked) (at.Holding h)
-  IsArrival c p (arrival.Waits q) = (n : ℕ) × GoesThere c p n told.Looked q
+  IsArrival c p (arrival.Waits q) = (n : ℕ) × GoesThere c p n reported.Looked q
 
 module _ {O P C R : Type 0} {g : Ghosts O P C R} {call_eq : Eq C} {call_default : Default C} {reply_eq : Eq R} {reply_default : Default R} where
   -- where it is then
@@ -55,5 +55,5 @@ module _ {O P C R : Type 0} {g : Ghosts O P C R} {call_eq : Eq C} {call_default 
 module _ {O P C R : Type 0} (g : Ghosts O P C R) {call_eq : Eq C} {call_default : Default C} {reply_eq : Eq R} {reply_default : Default R} where
   -- a holder has given the object back; or it waits until the one behind it has linked itself
   abbrev pub IsDeparture : AnyCell O P C R → CallerState O P C R g call_eq call_default reply_eq reply_default → Bool → CallerState O P C R g call_eq call_default reply_eq reply_default → Type 0
-  IsDeparture c p true q = (n : ℕ) × GoesBack g c p n told.Left q
-  IsDeparture c p false q = (n : ℕ) × GoesBack g c p n told.Stepped q × (is_leaving q ≡ true)
+  IsDeparture c p true q = (n : ℕ) × GoesBack g c p n reported.Left q
+  IsDeparture c p false q = (n : ℕ) × GoesBack g c p n reported.Stepped q × (is_leaving q ≡ true)

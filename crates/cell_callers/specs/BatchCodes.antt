@@ -3,10 +3,10 @@ use Rattle.std.specs.Prelude.{◌≡◌, ℕ, List, [], ◌∷◌, length, take,
 use Rattle.event_log.specs.declared.logged.NoRoom.{NoRoom}
 use Rattle.kernel_object.specs.declared.call.KCall.{KCall}
 use Rattle.kernel_object.specs.KernelTypes.{KernelStep}
-use Rattle.cell_callers.specs.declared.coding.Asked.{Asked}
+use Rattle.cell_callers.specs.declared.call_numbers.Asked.{Asked}
 use Rattle.cell_callers.specs.declared.batching.Batch.{Batch}
 use Rattle.cell_callers.specs.declared.batching.Replies.{Replies}
-use Rattle.cell_callers.specs.declared.codes.TheConstants.{LOOKED, REFUSED, DONE, FULL, DONE_KEPT, FULL_KEPT}
+use Rattle.cell_callers.specs.declared.report_codes.TheConstants.{LOOKED, REFUSED, DONE, FULL, DONE_KEPT, FULL_KEPT}
 use Rattle.cell_callers.specs.declared.whole.Whole.{Whole}
 use Rattle.cell_callers.specs.declared.whole.Whole.TheVariants as whole
 use Rattle.cell_callers.specs.Coding.{called_of, reply_code}

@@ -4,7 +4,7 @@ use Rattle.event_log.specs.declared.logged.NoRoom.{NoRoom}
 use Rattle.kernel_object.specs.declared.call.KCall.{KCall}
 use Rattle.kernel_object.specs.contracts.object.KernelObjectSeqObject.TheImpl.{ghosts}
 use Rattle.cell_callers.specs.declared.batching.Replies.{Replies}
-use Rattle.cell_callers.specs.declared.codes.TheConstants.{DONE, FULL, DONE_KEPT, FULL_KEPT}
+use Rattle.cell_callers.specs.declared.report_codes.TheConstants.{DONE, FULL, DONE_KEPT, FULL_KEPT}
 use Rattle.cell_callers.specs.declared.handle_content.HandleContent.{HandleContent}
 use Rattle.cell_callers.specs.declared.whole.Whole.{Whole}
 use Rattle.cell_callers.specs.Applies.{IsHeldBatch}
@@ -29,12 +29,12 @@ ReportsHeldBatch cell h calls old n new q = (said : Result KernelSteps NoRoom) �
 
 -- a caller that stood at p has called, and stands at q: the number, with the replies and the looks before and after
 abbrev pub ReportsBatchedAt : KernelCell → KernelState → List KCall → Replies × ℕ → ℕ → KernelState → Replies × ℕ → Type 0
-ReportsBatchedAt cell p calls old n q new = (told : Whole (Result KernelSteps NoRoom)) × ReportsWhole told n old.0 new.0 × (new.1 ≡ looks_after (has_looked told) old.1) × IsBatched ghosts cell p calls told q
+ReportsBatchedAt cell p calls old n q new = (reported : Whole (Result KernelSteps NoRoom)) × ReportsWhole reported n old.0 new.0 × (new.1 ≡ looks_after (has_looked reported) old.1) × IsBatched ghosts cell p calls reported q
 
 -- the same of a caller that lies in its place
 abbrev pub ReportsBatched : KernelCell → List KCall → KernelPlace → Replies × ℕ → ℕ → KernelPlace → Replies × ℕ → Type 0
-ReportsBatched cell calls before old n after new = (told : Whole (Result KernelSteps NoRoom)) × ReportsWhole told n old.0 new.0 × (new.1 ≡ looks_after (has_looked told) old.1) × Between before after (λ p q. IsBatched ghosts cell p calls told q)
+ReportsBatched cell calls before old n after new = (reported : Whole (Result KernelSteps NoRoom)) × ReportsWhole reported n old.0 new.0 × (new.1 ≡ looks_after (has_looked reported) old.1) × Between before after (λ p q. IsBatched ghosts cell p calls reported q)
 
 -- and of what a handle has
 abbrev pub ReportsBatchIn : List KCall → HandleContent → Replies × ℕ → ℕ → HandleContent → Replies × ℕ → Type 0
-ReportsBatchIn calls before old n after new = (told : Whole (Result KernelSteps NoRoom)) × ReportsWhole told n old.0 new.0 × (new.1 ≡ looks_after (has_looked told) old.1) × IsBatchIn calls before told after
+ReportsBatchIn calls before old n after new = (reported : Whole (Result KernelSteps NoRoom)) × ReportsWhole reported n old.0 new.0 × (new.1 ≡ looks_after (has_looked reported) old.1) × IsBatchIn calls before reported after

@@ -7,7 +7,7 @@ use Rattle.kernel_object.specs.declared.call.KCall.{KCall}
 use Rattle.kernel_object.specs.declared.call.KReply.{KReply}
 use Rattle.kernel_object.specs.declared.object.KernelObject.{KernelObject}
 use Rattle.kernel_object.specs.contracts.object.KernelObjectSeqObject.TheImpl.{ghosts}
-use Rattle.cell_callers.specs.declared.coding.Answered.{Answered}
+use Rattle.cell_callers.specs.declared.call_numbers.Answered.{Answered}
 use Rattle.cell_callers.specs.declared.whole.Whole.{Whole}
 use Rattle.cell_callers.specs.declared.handle_content.HandleContent.{HandleContent}
 use Rattle.cell_callers.specs.HandleContents.{IsCallIn, KernelBehind, KernelPlace, KernelState}
@@ -20,19 +20,19 @@ use Rattle.cell_callers.specs.declared.caller_state.CallerState.TheVariants as a
 
 -- the number, the reply and the looks are those of a call of which this was told
 abbrev pub IsReportOf : Whole (Result KReply NoRoom) → Answered × ℕ → ℕ → Answered × ℕ → Type 0
-IsReportOf told old n new = ((n, new.0) ≡ call_code old.0 told) × (new.1 ≡ looks_after (has_looked told) old.1)
+IsReportOf reported old n new = ((n, new.0) ≡ call_code old.0 reported) × (new.1 ≡ looks_after (has_looked reported) old.1)
 
 -- a caller that stood there has called, and stands in that place
 abbrev pub ReportsCalledAt : AnyCell KernelObject KParams KCall KReply → KCall → KernelState → Answered × ℕ → ℕ → KernelPlace → Answered × ℕ → Type 0
-ReportsCalledAt cell call p old n after new = (told : Whole (Result KReply NoRoom)) × (q : KernelState) × IsReportOf told old n new × (place_of after ≡ Some q) × IsCalled ghosts cell p call told q
+ReportsCalledAt cell call p old n after new = (reported : Whole (Result KReply NoRoom)) × (q : KernelState) × IsReportOf reported old n new × (place_of after ≡ Some q) × IsCalled ghosts cell p call reported q
 
 -- whoever stood at p has come behind another there by steps that looked at nothing, as whatever comes from there shows
 abbrev pub GoesBehind : AnyCell KernelObject KParams KCall KReply → KernelState → KernelBehind → Type 0
 GoesBehind cell p behind = (t : Progress) (n : ℕ) (q : KernelState) → GoesThere ghosts cell (at.Behind behind) n t q → (m : ℕ) × GoesThere ghosts cell p m t q
 
 abbrev pub ReportsCalled : AnyCell KernelObject KParams KCall KReply → KCall → KernelPlace → Answered × ℕ → ℕ → KernelPlace → Answered × ℕ → Type 0
-ReportsCalled cell call before old n after new = (told : Whole (Result KReply NoRoom)) × IsReportOf told old n new × Between before after (λ p q. IsCalled ghosts cell p call told q)
+ReportsCalled cell call before old n after new = (reported : Whole (Result KReply NoRoom)) × IsReportOf reported old n new × Between before after (λ p q. IsCalled ghosts cell p call reported q)
 
 -- the same of what a handle has
 abbrev pub ReportsCallOf : KCall → HandleContent → Answered × ℕ → ℕ → HandleContent → Answered × ℕ → Type 0
-ReportsCallOf call before old n after new = (told : Whole (Result KReply NoRoom)) × IsReportOf told old n new × IsCallIn call before told after
+ReportsCallOf call before old n after new = (reported : Whole (Result KReply NoRoom)) × IsReportOf reported old n new × IsCallIn call before reported after

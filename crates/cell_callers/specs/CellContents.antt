@@ -7,10 +7,10 @@ use Rattle.cell_callers.specs.declared.handle_content.HandleContent.TheVariants.
 use Rattle.cell_callers.specs.declared.opening.Opening.{Opening}
 use Rattle.cell_callers.specs.declared.opening.NotOpened.{NotOpened}
 use Rattle.cell_callers.specs.declared.opening.NotOpened.TheVariants.{NotEmpty}
-use Rattle.cell_callers.specs.declared.ends.NoNewCaller.{NoNewCaller}
-use Rattle.cell_callers.specs.declared.ends.NoNewCaller.TheVariants.{NoneLeft}
-use Rattle.cell_callers.specs.declared.ends.NotClosed.{NotClosed}
-use Rattle.cell_callers.specs.declared.ends.NotClosed.TheVariants.{NotAllBack}
+use Rattle.cell_callers.specs.declared.cell_lifetime.NoNewCaller.{NoNewCaller}
+use Rattle.cell_callers.specs.declared.cell_lifetime.NoNewCaller.TheVariants.{NoneLeft}
+use Rattle.cell_callers.specs.declared.cell_lifetime.NotClosed.{NotClosed}
+use Rattle.cell_callers.specs.declared.cell_lifetime.NotClosed.TheVariants.{NotAllBack}
 use Rattle.cell_callers.specs.declared.logged_step.LoggedStep.{LoggedStep}
 use Rattle.cell_callers.specs.HandleContents.{KernelCaller}
 use Rattle.cell_callers.specs.LoggedSteps.{logged_step}
@@ -34,8 +34,8 @@ IsBadOpening before o = (before ≡ Empty) × IsUnfit o
 
 -- a cell gave a pass out, or all is as it was
 abbrev pub IsNewCallerIn : HandleContent → Result KernelCaller NoNewCaller → HandleContent → Type 0
-IsNewCallerIn (Cell c) told (Cell d) = IsNewCaller c told d
-IsNewCallerIn before told after = (told ≡ Err NoneLeft) × (after ≡ before)
+IsNewCallerIn (Cell c) reported (Cell d) = IsNewCaller c reported d
+IsNewCallerIn before reported after = (reported ≡ Err NoneLeft) × (after ≡ before)
 
 -- a caller that comes back to a cell is of it
 abbrev pub IsOwn : HandleContent → KernelCaller → Type 0
@@ -44,8 +44,8 @@ IsOwn before c = Unit {0}
 
 -- a cell took the caller back, or all is as it was
 abbrev pub IsReturnedTo : HandleContent → KernelCaller → Option KernelCaller → HandleContent → Type 0
-IsReturnedTo (Cell o) c told (Cell p) = IsReturned o c told p
-IsReturnedTo before c told after = (told ≡ Some c) × (after ≡ before)
+IsReturnedTo (Cell o) c reported (Cell p) = IsReturned o c reported p
+IsReturnedTo before c reported after = (reported ≡ Some c) × (after ≡ before)
 
 -- a cell has ended, or all is as it was
 abbrev pub IsClosedBy : HandleContent → Result (Unit {0}) NotClosed → HandleContent → Type 0

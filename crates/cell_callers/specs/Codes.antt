@@ -2,12 +2,12 @@
 use Rattle.std.specs.Prelude.{ℕ, ◌+◌, ◌%◌, ◌^◌, ◌==◌, Bool, true, false, Option, Some, None, Result, Ok, Err, if◌then◌else◌}
 use Rattle.event_log.specs.declared.logged.NoRoom.{NoRoom}
 use Rattle.kernel_object.specs.declared.call.KReply.{KReply}
-use Rattle.cell_callers.specs.declared.coding.Answered.{Answered}
-use Rattle.cell_callers.specs.declared.codes.TheConstants.{STEPPED, LOOKED, ENTERED, FOUND, LEFT, REFUSED, BUSY, DONE, FULL, DONE_KEPT, FULL_KEPT, NO_MEMORY, BAD_OPENING}
+use Rattle.cell_callers.specs.declared.call_numbers.Answered.{Answered}
+use Rattle.cell_callers.specs.declared.report_codes.TheConstants.{STEPPED, LOOKED, ENTERED, FOUND, LEFT, REFUSED, BUSY, DONE, FULL, DONE_KEPT, FULL_KEPT, NO_MEMORY, BAD_OPENING}
 use Rattle.cell_callers.specs.declared.opening.NotOpened.{NotOpened}
 use Rattle.cell_callers.specs.declared.opening.NotOpened.TheVariants.{NotEmpty, BadOpening, OutOfMemory}
 use Rattle.cell_callers.specs.declared.progress.Progress.{Progress}
-use Rattle.cell_callers.specs.declared.progress.Progress.TheVariants as told
+use Rattle.cell_callers.specs.declared.progress.Progress.TheVariants as reported
 use Rattle.cell_callers.specs.declared.whole.Whole.{Whole}
 use Rattle.cell_callers.specs.declared.whole.Whole.TheVariants as whole
 use Rattle.cell_callers.specs.declared.whole.TriedCall.{TriedCall}
@@ -15,11 +15,11 @@ use Rattle.cell_callers.specs.declared.whole.TriedCall.TheVariants as tried
 use Rattle.cell_callers.specs.Coding.{reply_code}
 
 abbrev pub progress_code : Option Progress → ℕ
-progress_code (Some told.Stepped) = STEPPED
-progress_code (Some told.Looked) = LOOKED
-progress_code (Some told.Entered) = ENTERED
-progress_code (Some told.Found) = FOUND
-progress_code (Some told.Left) = LEFT
+progress_code (Some reported.Stepped) = STEPPED
+progress_code (Some reported.Looked) = LOOKED
+progress_code (Some reported.Entered) = ENTERED
+progress_code (Some reported.Found) = FOUND
+progress_code (Some reported.Left) = LEFT
 progress_code None = REFUSED
 
 abbrev pub try_code : Option Bool → ℕ
@@ -38,7 +38,7 @@ apply_code old None = (REFUSED, old)
 
 -- what is told of a call whose object isn't given back yet, for what is told of it without that
 abbrev pub kept_code : ℕ → ℕ
-kept_code told = if told == DONE then DONE_KEPT else FULL_KEPT
+kept_code reported = if reported == DONE then DONE_KEPT else FULL_KEPT
 
 abbrev pub call_code : Answered → Whole (Result KReply NoRoom) → ℕ × Answered
 call_code old (whole.Done said looked) = answer_code DONE FULL old said

@@ -8,8 +8,8 @@ use Rattle.kernel_object.specs.declared.call.KCall.{KCall}
 use Rattle.kernel_object.specs.declared.call.KCall.TheVariants.{Queue, Pool, Console, Sched}
 use Rattle.kernel_object.specs.declared.call.KReply.{KReply}
 use Rattle.kernel_object.specs.declared.call.KReply.TheVariants as reply
-use Rattle.cell_callers.specs.declared.coding.Asked.{Asked}
-use Rattle.cell_callers.specs.declared.coding.Answered.{Answered}
+use Rattle.cell_callers.specs.declared.call_numbers.Asked.{Asked}
+use Rattle.cell_callers.specs.declared.call_numbers.Answered.{Answered}
 
 -- the calls with these numbers, in the order of their words
 abbrev pub calls_with : ℕ → ℕ → List KCall

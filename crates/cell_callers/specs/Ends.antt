@@ -13,10 +13,10 @@ use Rattle.cell_callers.specs.declared.caller_state.CallerState.{CallerState}
 use Rattle.cell_callers.specs.declared.caller_state.CallerState.TheVariants as at
 use Rattle.cell_callers.specs.declared.caller.Caller.{Caller}
 use Rattle.cell_callers.specs.declared.open_cell.OpenCell.{OpenCell}
-use Rattle.cell_callers.specs.declared.ends.NoNewCaller.{NoNewCaller}
-use Rattle.cell_callers.specs.declared.ends.NoNewCaller.TheVariants.{NoneLeft, NoShare}
-use Rattle.cell_callers.specs.declared.ends.NotClosed.{NotClosed}
-use Rattle.cell_callers.specs.declared.ends.NotClosed.TheVariants.{NotAllBack, Shared}
+use Rattle.cell_callers.specs.declared.cell_lifetime.NoNewCaller.{NoNewCaller}
+use Rattle.cell_callers.specs.declared.cell_lifetime.NoNewCaller.TheVariants.{NoneLeft, NoShare}
+use Rattle.cell_callers.specs.declared.cell_lifetime.NotClosed.{NotClosed}
+use Rattle.cell_callers.specs.declared.cell_lifetime.NotClosed.TheVariants.{NotAllBack, Shared}
 use Rattle.cell_callers.specs.OpenCells.{TakesIn}
 use Rattle.cell_callers.specs.Places.{place_of, Between}
 

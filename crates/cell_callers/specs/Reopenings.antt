@@ -29,7 +29,7 @@ IsReopenedAs before lock n (Err OutOfMemory) after = (has_ended before ≡ true)
 
 -- the same, of their numbers
 abbrev pub IsReopenedBy : HandleContent → ℕ → ℕ → Result (Unit {0}) NotOpened → HandleContent → Type 0
-IsReopenedBy before lock n told after = IsReopenedAs before (lock_numbered lock) (cpus_numbered n) told after
+IsReopenedBy before lock n reported after = IsReopenedAs before (lock_numbered lock) (cpus_numbered n) reported after
 
 -- a log goes on with the greatest limit, and isn't kept in memory any more
 abbrev pub without_log : {O P C R : Type 0} → History O P C R → History O P C R
@@ -38,4 +38,4 @@ without_log h = record { params = h.params; limit = 2 ^ 64 - 1; log = h.log; sta
 -- the log of a cell that has ended isn't kept any more, or all is as it was
 abbrev pub IsForgotten : HandleContent → Bool → HandleContent → Type 0
 IsForgotten (Ended h) true (Ended k) = k ≡ without_log h
-IsForgotten before told after = (has_ended before ≡ false) × (told ≡ false) × (after ≡ before)
+IsForgotten before reported after = (has_ended before ≡ false) × (reported ≡ false) × (after ≡ before)

@@ -11,33 +11,33 @@ use Rattle.guarded_cell.specs.declared.cell.AnyCell.TheVariants as cells
 use Rattle.cell_callers.specs.declared.caller_state.CallerState.{CallerState}
 use Rattle.cell_callers.specs.declared.caller_state.CallerState.TheVariants as at
 use Rattle.cell_callers.specs.declared.progress.Progress.{Progress}
-use Rattle.cell_callers.specs.declared.progress.Progress.TheVariants as told
+use Rattle.cell_callers.specs.declared.progress.Progress.TheVariants as reported
 use Rattle.cell_callers.specs.CallerStates.{state_of, has_none}
 
 module _ {O P C R : Type 0} (g : Ghosts O P C R) {call_eq : Eq C} {call_default : Default C} {reply_eq : Eq R} {reply_default : Default R} where
   -- the step towards the object, from that state of a caller of that cell, which tells that
   abbrev pub IsStepThere : AnyCell O P C R → CallerState O P C R g call_eq call_default reply_eq reply_default → Progress → StepState O P C R → StepState O P C R → Type 0
-  IsStepThere (cells.Ticket c) (at.Idle p) told.Stepped b a = IsDraw g b a
-  IsStepThere (cells.Mcs c) (at.Idle p) told.Stepped b a = IsClear g b a
-  IsStepThere c (at.Drawn d) told.Looked b a = IsLook g b a false
-  IsStepThere c (at.Drawn d) told.Found b a = IsLook g b a true
-  IsStepThere c (at.Ready r) told.Stepped b a = IsEnter g b a false
-  IsStepThere c (at.Ready r) told.Entered b a = IsEnter g b a true
-  IsStepThere c (at.Behind e) told.Stepped b a = IsArm g b a
-  IsStepThere c (at.Armed r) told.Stepped b a = IsLink g b a
-  IsStepThere c (at.Waiting w) told.Looked b a = IsWaitingLook g b a false
-  IsStepThere c (at.Waiting w) told.Found b a = IsWaitingLook g b a true
+  IsStepThere (cells.Ticket c) (at.Idle p) reported.Stepped b a = IsDraw g b a
+  IsStepThere (cells.Mcs c) (at.Idle p) reported.Stepped b a = IsClear g b a
+  IsStepThere c (at.Drawn d) reported.Looked b a = IsLook g b a false
+  IsStepThere c (at.Drawn d) reported.Found b a = IsLook g b a true
+  IsStepThere c (at.Ready r) reported.Stepped b a = IsEnter g b a false
+  IsStepThere c (at.Ready r) reported.Entered b a = IsEnter g b a true
+  IsStepThere c (at.Behind e) reported.Stepped b a = IsArm g b a
+  IsStepThere c (at.Armed r) reported.Stepped b a = IsLink g b a
+  IsStepThere c (at.Waiting w) reported.Looked b a = IsWaitingLook g b a false
+  IsStepThere c (at.Waiting w) reported.Found b a = IsWaitingLook g b a true
   IsStepThere c p t b a = ⊥
 
   -- the step by which the object is given back
   abbrev pub IsStepBack : AnyCell O P C R → CallerState O P C R g call_eq call_default reply_eq reply_default → Progress → StepState O P C R → StepState O P C R → Type 0
-  IsStepBack (cells.Ticket c) (at.Holding h) told.Left b a = IsServe g b a
-  IsStepBack (cells.Mcs c) (at.Holding h) told.Stepped b a = IsSee g b a true ⊎ IsSee g b a false
-  IsStepBack c (at.Alone l) told.Left b a = IsEmpty g b a true
-  IsStepBack c (at.Alone l) told.Stepped b a = IsEmpty g b a false
-  IsStepBack c (at.Leaving l) told.Stepped b a = IsSeeAgain g b a true
-  IsStepBack c (at.Leaving l) told.Looked b a = IsSeeAgain g b a false
-  IsStepBack c (at.Passing p) told.Left b a = IsPass g b a
+  IsStepBack (cells.Ticket c) (at.Holding h) reported.Left b a = IsServe g b a
+  IsStepBack (cells.Mcs c) (at.Holding h) reported.Stepped b a = IsSee g b a true ⊎ IsSee g b a false
+  IsStepBack c (at.Alone l) reported.Left b a = IsEmpty g b a true
+  IsStepBack c (at.Alone l) reported.Stepped b a = IsEmpty g b a false
+  IsStepBack c (at.Leaving l) reported.Stepped b a = IsSeeAgain g b a true
+  IsStepBack c (at.Leaving l) reported.Looked b a = IsSeeAgain g b a false
+  IsStepBack c (at.Passing p) reported.Left b a = IsPass g b a
   IsStepBack c p t b a = ⊥
 
   -- a caller that has the object already is refused, and nothing is done

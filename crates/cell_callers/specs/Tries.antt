@@ -31,4 +31,4 @@ module _ {O P C R : Type 0} (g : Ghosts O P C R) {call_eq : Eq C} {call_default 
   IsTried (at.Idle p) (Some true) (at.Holding h) = HasTried p h
   IsTried (at.Idle p) (Some false) (at.Idle q) = WasBusy p q
   IsTried before None after = (is_idle before ≡ false) × (after ≡ before)
-  IsTried before told after = ⊥
+  IsTried before reported after = ⊥

@@ -9,7 +9,7 @@ use Rattle.word_rule.specs.declared.hold.Hold.{Hold}
 use Rattle.guarded_cell.specs.declared.cell.AnyCell.{AnyCell}
 use Rattle.cell_callers.specs.declared.caller_state.CallerState.{CallerState}
 use Rattle.cell_callers.specs.declared.caller_state.CallerState.TheVariants as at
-use Rattle.cell_callers.specs.declared.progress.Progress.TheVariants as told
+use Rattle.cell_callers.specs.declared.progress.Progress.TheVariants as reported
 use Rattle.cell_callers.specs.declared.whole.Whole.{Whole}
 use Rattle.cell_callers.specs.declared.whole.Whole.TheVariants as whole
 use Rattle.cell_callers.specs.declared.whole.TriedCall.{TriedCall}
@@ -38,7 +38,7 @@ module _ {O P C R : Type 0} (g : Ghosts O P C R) {call_eq : Eq C} {call_default 
   abbrev pub IsWhole : {D : Type 0} → (D → Hold O P C R g call_eq call_default reply_eq reply_default → Hold O P C R g call_eq call_default reply_eq reply_default → Type 0) → AnyCell O P C R → CallerState O P C R g call_eq call_default reply_eq reply_default → Whole D → CallerState O P C R g call_eq call_default reply_eq reply_default → Type 0
   IsWhole deed c p (whole.Done said looked) q = HasCalled (deed said) c p looked true q
   IsWhole deed c p (whole.Kept said looked) q = HasCalled (deed said) c p looked false q
-  IsWhole deed c p whole.Waits q = (n : ℕ) × GoesThere g c p n told.Looked q
+  IsWhole deed c p whole.Waits q = (n : ℕ) × GoesThere g c p n reported.Looked q
   IsWhole deed c p whole.Refused q = (may_call p ≡ false) × (q ≡ p)
 
   -- the object came at once, and then that was done under the hold

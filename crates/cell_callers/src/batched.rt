@@ -14,7 +14,7 @@ ghost use Rattle.cell_callers.specs.BatchReports.{IsRepliedHeld, ReportsHeldBatc
 
 use crate::arrival::{Arrival, arrive};
 use crate::batching::Replies;
-use crate::codes::{DONE, FULL, LOOKED, REFUSED, count_look, kept_code, steps_code};
+use crate::report_codes::{DONE, FULL, LOOKED, REFUSED, count_look, kept_code, steps_code};
 use crate::departure::depart;
 use crate::{Caller, CallerState};
 use guarded_cell::AnyCell;
@@ -47,10 +47,10 @@ fn batch_held(
     ensures caller { (state_of result.0).caller ≡ (state_of_hold hold).caller }
     ensures reports { ReportsHeldBatch cell.now hold calls.now replies.old result.1 replies.new result.0 }
 {
-    let told = apply_all_held(&mut hold, calls, replies);
+    let reported = apply_all_held(&mut hold, calls, replies);
     match depart(cell, hold) {
-        (state, true) => (state, told),
-        (state, false) => (state, kept_code(told)),
+        (state, true) => (state, reported),
+        (state, false) => (state, kept_code(reported)),
     }
 }
 
@@ -97,7 +97,7 @@ pub fn batch_in_place(
     ensures reports { ReportsBatched (arc_value caller.old.cell) calls.now caller.old.place (replies.old, looks.old) result caller.new.place (replies.new, looks.new) }
 {
     let place = &mut caller.place;
-    let (state, told) = batch(&caller.cell, place.take(), calls, replies, looks);
+    let (state, reported) = batch(&caller.cell, place.take(), calls, replies, looks);
     place.put(state);
-    told
+    reported
 }

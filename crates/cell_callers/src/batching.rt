@@ -4,7 +4,7 @@ ghost use Rattle.std.specs.Prelude.{◌≡◌, ◌≤◌, true, false, Some, Non
 ghost use Rattle.event_log.specs.declared.event.TheConstants.{MOST_CALLS};
 ghost use Rattle.cell_callers.specs.BatchCodes.{batch_calls, AreRepliesTo};
 
-use crate::coding::{Answered, Asked, reply_code, shared_called_of};
+use crate::call_numbers::{Answered, Asked, reply_code, shared_called_of};
 use arrayvec::ArrayVec;
 use event_log::{MOST_CALLS, Step};
 use kernel_object::{KCall, KernelObject};

@@ -37,9 +37,9 @@ impl<O: SeqObject> Caller<O> {
         ensures step { Between self.old.place self.new.place (λ p q. IsAcquireStep O.SeqObject (arc_value self.old.cell) p result q) }
     {
         let place = &mut self.place;
-        let (state, told) = acquire_step(&self.cell, place.take());
+        let (state, reported) = acquire_step(&self.cell, place.take());
         place.put(state);
-        told
+        reported
     }
 
     /// Its next step to give the object back.
@@ -48,9 +48,9 @@ impl<O: SeqObject> Caller<O> {
         ensures step { Between self.old.place self.new.place (λ p q. IsReleaseStep O.SeqObject (arc_value self.old.cell) p result q) }
     {
         let place = &mut self.place;
-        let (state, told) = release_step(&self.cell, place.take());
+        let (state, reported) = release_step(&self.cell, place.take());
         place.put(state);
-        told
+        reported
     }
 
     /// A try.
@@ -59,9 +59,9 @@ impl<O: SeqObject> Caller<O> {
         ensures tried { Between self.old.place self.new.place (λ p q. IsTried O.SeqObject p result q) }
     {
         let place = &mut self.place;
-        let (state, told) = try_hold(&self.cell, place.take());
+        let (state, reported) = try_hold(&self.cell, place.take());
         place.put(state);
-        told
+        reported
     }
 
     /// A call, under its hold.
@@ -70,9 +70,9 @@ impl<O: SeqObject> Caller<O> {
         ensures applied { Between self.old.place self.new.place (λ p q. IsApplied O.SeqObject p asked.now result q) }
     {
         let place = &mut self.place;
-        let (state, told) = apply(&self.cell, place.take(), asked);
+        let (state, reported) = apply(&self.cell, place.take(), asked);
         place.put(state);
-        told
+        reported
     }
 
     /// A whole call, as far as it comes without waiting.
@@ -81,9 +81,9 @@ impl<O: SeqObject> Caller<O> {
         ensures called { Between self.old.place self.new.place (λ p q. IsCalled O.SeqObject (arc_value self.old.cell) p asked.now result q) }
     {
         let place = &mut self.place;
-        let (state, told) = call_in_line(&self.cell, place.take(), asked);
+        let (state, reported) = call_in_line(&self.cell, place.take(), asked);
         place.put(state);
-        told
+        reported
     }
 
     /// A whole call, if nobody has the object or is in line for it.
@@ -92,8 +92,8 @@ impl<O: SeqObject> Caller<O> {
         ensures called { Between self.old.place self.new.place (λ p q. IsTryCalled O.SeqObject (arc_value self.old.cell) p asked.now result q) }
     {
         let place = &mut self.place;
-        let (state, told) = try_call(&self.cell, place.take(), asked);
+        let (state, reported) = try_call(&self.cell, place.take(), asked);
         place.put(state);
-        told
+        reported
     }
 }

@@ -3,7 +3,7 @@
 ghost use Rattle.std.specs.Prelude.{◌≡◌, ◌↔◌, Err};
 ghost use Rattle.cell_callers.specs.CellContents.{IsOpenedBy, IsBadOpening, IsNewCallerIn, IsOwn, IsReturnedTo, IsClosedBy, step_of, may_be_freed};
 
-use crate::ends::{NoNewCaller, NotClosed};
+use crate::cell_lifetime::{NoNewCaller, NotClosed};
 use crate::logged_step::{LoggedStep, step_at};
 use crate::opening::{NotOpened, Opening, open_cell};
 use crate::{Caller, HandleContent};

@@ -56,8 +56,8 @@ fn in_slot<X, R, F: FnOnce(HandleContent, X) -> (HandleContent, R)>(
     requires { F.pre f (manually_drop_value slot) x }
     ensures { F.post f (manually_drop_value slot) x (manually_drop_value result.0, result.1) }
 {
-    let (content, told) = f(ManuallyDrop::into_inner(slot), x);
-    (unsafe { ManuallyDrop::new_unchecked(content) }, told)
+    let (content, reported) = f(ManuallyDrop::into_inner(slot), x);
+    (unsafe { ManuallyDrop::new_unchecked(content) }, reported)
 }
 
 fn in_handle<X, R, F: FnOnce(HandleContent, X) -> (HandleContent, R)>(
@@ -69,8 +69,8 @@ fn in_handle<X, R, F: FnOnce(HandleContent, X) -> (HandleContent, R)>(
     ensures { F.post f (manually_drop_value handle.slot) x (manually_drop_value result.0.slot, result.1) }
 {
     let mut block = handle.into_parts().into_box();
-    let told = replace_with(&mut *block, (x, f), |slot, (x, f)| in_slot(slot, x, f));
-    (Handle::of_parts(Parts::of(block)), told)
+    let reported = replace_with(&mut *block, (x, f), |slot, (x, f)| in_slot(slot, x, f));
+    (Handle::of_parts(Parts::of(block)), reported)
 }
 
 /// Takes out what the handle has, and puts back what f makes of it.

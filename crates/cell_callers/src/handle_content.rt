@@ -8,8 +8,8 @@ ghost use Rattle.cell_callers.specs.CallReports.{ReportsCallOf};
 
 use crate::batched::batch_in_place;
 use crate::batching::Replies;
-use crate::codes::REFUSED;
-use crate::coding::Answered;
+use crate::report_codes::REFUSED;
+use crate::call_numbers::Answered;
 use crate::straight::call_straight;
 use crate::{Caller, OpenCell, Progress, TriedCall, Whole};
 use event_log::{Logged, NoRoom};

@@ -3,7 +3,7 @@
 #![tactic(auto)]
 
 mod acquiring;
-mod applied;
+mod applying;
 mod arrival;
 mod batched;
 mod batching;
@@ -11,10 +11,10 @@ mod call_law;
 mod caller;
 mod caller_state;
 mod cell_content;
-mod codes;
-mod coding;
+mod report_codes;
+mod call_numbers;
 mod departure;
-mod ends;
+mod cell_lifetime;
 mod handle;
 mod handle_content;
 mod logged_step;
@@ -26,26 +26,26 @@ mod progress;
 mod releasing;
 mod reopening;
 mod straight;
-mod tried;
-mod unused;
+mod trying;
+mod unused_cell;
 mod whole;
 
 pub use acquiring::acquire_step;
-pub use applied::apply;
+pub use applying::apply;
 pub use arrival::{Arrival, arrive};
 pub use batched::batch_in_place;
 pub use batching::{Batch, Replies, write_calls};
 pub use call_law::one_call_is_a_hold;
 pub use caller::Caller;
 pub use caller_state::CallerState;
-pub use codes::{
+pub use report_codes::{
     BAD_OPENING, BUSY, DONE, DONE_KEPT, ENTERED, FOUND, FULL, FULL_KEPT, LEFT, LOOKED, NO_MEMORY,
     NOT_THERE, REFUSED, STEPPED, call_code, opening_code, progress_code, shared_answer_code,
     try_code,
 };
-pub use coding::{Answered, Asked, called_of, shared_called_of};
+pub use call_numbers::{Answered, Asked, called_of, shared_called_of};
 pub use departure::{depart, depart_mcs};
-pub use ends::{NoNewCaller, NotClosed};
+pub use cell_lifetime::{NoNewCaller, NotClosed};
 pub use handle::{Handle, at_content, with_content};
 pub use handle_content::HandleContent;
 pub use logged_step::LoggedStep;
@@ -56,5 +56,5 @@ pub use place::CallerPlace;
 pub use progress::Progress;
 pub use releasing::release_step;
 pub use straight::call_straight;
-pub use tried::try_hold;
+pub use trying::try_hold;
 pub use whole::{TriedCall, Whole, call_in_line, try_call};

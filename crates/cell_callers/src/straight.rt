@@ -5,7 +5,7 @@ ghost use Rattle.std.specs.Prelude.{◌≡◌, true, None, Some};
 ghost use Rattle.guarded_cell.specs.declared.cell.AnyCell.{AnyCell};
 ghost use Rattle.guarded_cell.specs.declared.cell.AnyCell.TheVariants.{Ticket, Mcs};
 ghost use Rattle.cell_callers.specs.declared.caller_state.CallerState.TheVariants as at;
-ghost use Rattle.cell_callers.specs.declared.codes.TheConstants.{LOOKED};
+ghost use Rattle.cell_callers.specs.declared.report_codes.TheConstants.{LOOKED};
 ghost use Rattle.ticket_lock.specs.Passes.{IsPassOf as IsTicketPassOf};
 ghost use Rattle.mcs_lock.specs.Passes.{IsPassOf as IsMcsPassOf, IsBehindOf, IsPassingOf, state_of_behind, state_of_passing};
 ghost use Rattle.word_rule.specs.Mcs.Steps.{IsPass};
@@ -19,8 +19,8 @@ ghost use Rattle.cell_callers.specs.Codes.{kept_code, looks_after};
 ghost use Rattle.cell_callers.specs.Places.{IsAway, IsPlaceOf};
 
 use crate::arrival::line_up;
-use crate::codes::{DONE, FULL, LOOKED, answer_code, call_code, count_look, kept_code};
-use crate::coding::Answered;
+use crate::report_codes::{DONE, FULL, LOOKED, answer_code, call_code, count_look, kept_code};
+use crate::call_numbers::Answered;
 use crate::place::put_line;
 use crate::whole::{apply_held, call_arrived};
 use crate::{Caller, CallerPlace, CallerState, call_in_line};
@@ -59,7 +59,7 @@ fn wait_drawn(line: &mut Line, drawn: Drawn<KernelObject>, looks: &mut u64) -> u
     requires { line.old ≡ None }
     ensures line { line.new ≡ Some (at.Drawn drawn) }
     ensures looks { looks.new ≡ looks_after true looks.old }
-    ensures told { result ≡ LOOKED }
+    ensures reported { result ≡ LOOKED }
 {
     put_line(line, CallerState::Drawn(drawn));
     count_look(true, looks);
@@ -94,13 +94,13 @@ fn come_behind(
 // It keeps the object, as who is behind it has to link itself first.
 #[cold]
 #[inline(never)]
-fn keep(line: &mut Line, leaving: Leaving<KernelObject>, told: u32) -> u32
+fn keep(line: &mut Line, leaving: Leaving<KernelObject>, reported: u32) -> u32
     requires { line.old ≡ None }
     ensures line { line.new ≡ Some (at.Leaving leaving) }
-    ensures told { result ≡ kept_code told }
+    ensures reported { result ≡ kept_code reported }
 {
     put_line(line, CallerState::Leaving(leaving));
-    kept_code(told)
+    kept_code(reported)
 }
 
 // Apart, since somebody is seldom behind it.
@@ -131,10 +131,10 @@ fn straight_ticket(
 {
     match cell.look(cell.draw(pass)) {
         Ok(mut hold) => {
-            let told = answer_code(apply_held(&mut hold, &call), DONE, FULL, answered);
+            let reported = answer_code(apply_held(&mut hold, &call), DONE, FULL, answered);
             place.pass = Some(cell.serve(hold));
             count_look(true, looks);
-            told
+            reported
         }
         Err(drawn) => wait_drawn(&mut place.line, drawn, looks),
     }
@@ -161,16 +161,16 @@ fn straight_mcs(
         Entered::Hold(hold) => hold,
         Entered::Behind(behind) => return come_behind(any, place, behind, call, answered, looks),
     };
-    let told = answer_code(apply_held(&mut hold, &call), DONE, FULL, answered);
+    let reported = answer_code(apply_held(&mut hold, &call), DONE, FULL, answered);
     let back = match cell.see(hold) {
         Ok(passing) => pass_on(cell, passing),
         Err(alone) => match cell.empty(alone) {
             Ok(pass) => pass,
-            Err(leaving) => return keep(&mut place.line, leaving, told),
+            Err(leaving) => return keep(&mut place.line, leaving, reported),
         },
     };
     place.pass = Some(back);
-    told
+    reported
 }
 
 /// A whole call, as far as it comes without waiting, and what is reported of it. The reply is written where it was done, and the

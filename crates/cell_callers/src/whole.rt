@@ -17,7 +17,7 @@ ghost use Rattle.cell_callers.specs.Wholes.{IsHeldCall, IsCalled, IsTryCalled};
 use crate::CallerState;
 use crate::arrival::{Arrival, arrive};
 use crate::departure::depart;
-use crate::tried::try_pass;
+use crate::trying::try_pass;
 use event_log::{NoRoom, SeqObject};
 use guarded_cell::AnyCell;
 use word_rule::Hold;

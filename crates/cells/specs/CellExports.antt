@@ -1,27 +1,27 @@
 -- What each call from C on a cell does, and tells.
 use Rattle.std.specs.Prelude.{◌≡◌, ℕ, Bool, true, false, Option, Some, None, Result, Ok, Err}
-use Rattle.cell_callers.specs.declared.codes.TheConstants.{REFUSED, BUSY, DONE, NOT_THERE}
-use Rattle.cell_callers.specs.declared.codes.TheConstants.{NO_MEMORY}
+use Rattle.cell_callers.specs.declared.report_codes.TheConstants.{REFUSED, BUSY, DONE, NOT_THERE}
+use Rattle.cell_callers.specs.declared.report_codes.TheConstants.{NO_MEMORY}
 use Rattle.cell_callers.specs.Codes.{opening_code}
 use Rattle.cell_callers.specs.declared.handle_content.HandleContent.{HandleContent}
 use Rattle.cell_callers.specs.declared.handle_content.HandleContent.TheVariants.{Empty, Caller}
 use Rattle.cell_callers.specs.declared.opening.Opening.{Opening}
 use Rattle.cell_callers.specs.declared.opening.NotOpened.{NotOpened}
-use Rattle.cell_callers.specs.declared.ends.NoNewCaller.{NoNewCaller}
-use Rattle.cell_callers.specs.declared.ends.NoNewCaller.TheVariants.{NoneLeft, NoShare}
-use Rattle.cell_callers.specs.declared.ends.NotClosed.{NotClosed}
-use Rattle.cell_callers.specs.declared.ends.NotClosed.TheVariants.{NotAllBack, Shared}
+use Rattle.cell_callers.specs.declared.cell_lifetime.NoNewCaller.{NoNewCaller}
+use Rattle.cell_callers.specs.declared.cell_lifetime.NoNewCaller.TheVariants.{NoneLeft, NoShare}
+use Rattle.cell_callers.specs.declared.cell_lifetime.NotClosed.{NotClosed}
+use Rattle.cell_callers.specs.declared.cell_lifetime.NotClosed.TheVariants.{NotAllBack, Shared}
 use Rattle.cell_callers.specs.HandleContents.{KernelCaller}
 use Rattle.cell_callers.specs.declared.logged_step.LoggedStep.{LoggedStep}
 use Rattle.cell_callers.specs.Reopenings.{IsReopenedBy, IsForgotten}
 use Rattle.cell_callers.specs.CellContents.{IsOpenedBy, IsNewCallerIn, IsOwn, IsReturnedTo, IsClosedBy, step_of, may_be_freed}
 
 abbrev pub ReportsOpening : HandleContent → Opening → ℕ → HandleContent → Type 0
-ReportsOpening before o n after = (told : Result (Unit {0}) NotOpened) × (n ≡ opening_code told) × IsOpenedBy before o told after
+ReportsOpening before o n after = (reported : Result (Unit {0}) NotOpened) × (n ≡ opening_code reported) × IsOpenedBy before o reported after
 
 -- a cell that has ended goes on
 abbrev pub ReportsReopening : HandleContent → ℕ → ℕ → ℕ → HandleContent → Type 0
-ReportsReopening before lock cpus n after = (told : Result (Unit {0}) NotOpened) × (n ≡ opening_code told) × IsReopenedBy before lock cpus told after
+ReportsReopening before lock cpus n after = (reported : Result (Unit {0}) NotOpened) × (n ≡ opening_code reported) × IsReopenedBy before lock cpus reported after
 
 -- what a caller's handle has
 abbrev pub content_from : Option KernelCaller → HandleContent
@@ -43,7 +43,7 @@ content_of_new (Err why) = Empty
 
 -- what had nothing has a new caller of the cell, or all is as it was
 abbrev pub ReportsNewCaller : HandleContent → HandleContent → ℕ → HandleContent → HandleContent → Type 0
-ReportsNewCaller cell Empty n cell' caller' = (told : Result KernelCaller NoNewCaller) × (n ≡ new_caller_code told) × IsNewCallerIn cell told cell' × (caller' ≡ content_of_new told)
+ReportsNewCaller cell Empty n cell' caller' = (reported : Result KernelCaller NoNewCaller) × (n ≡ new_caller_code reported) × IsNewCallerIn cell reported cell' × (caller' ≡ content_of_new reported)
 ReportsNewCaller cell caller n cell' caller' = ReportsRefusal cell caller n cell' caller'
 
 -- a caller that is given back is of the cell
@@ -57,7 +57,7 @@ return_code None = DONE
 
 -- the caller was taken back, and has nothing then, or all is as it was
 abbrev pub ReportsReturn : HandleContent → HandleContent → ℕ → HandleContent → HandleContent → Type 0
-ReportsReturn cell (Caller c) n cell' caller' = (told : Option KernelCaller) × (n ≡ return_code told) × IsReturnedTo cell c told cell' × (caller' ≡ content_from told)
+ReportsReturn cell (Caller c) n cell' caller' = (reported : Option KernelCaller) × (n ≡ return_code reported) × IsReturnedTo cell c reported cell' × (caller' ≡ content_from reported)
 ReportsReturn cell caller n cell' caller' = ReportsRefusal cell caller n cell' caller'
 
 abbrev pub close_code : Result (Unit {0}) NotClosed → ℕ
@@ -67,7 +67,7 @@ close_code (Err Shared) = BUSY
 
 -- the cell has ended, and has its log, or is as it was
 abbrev pub ReportsClosing : HandleContent → ℕ → HandleContent → Type 0
-ReportsClosing before n after = (told : Result (Unit {0}) NotClosed) × (n ≡ close_code told) × IsClosedBy before told after
+ReportsClosing before n after = (reported : Result (Unit {0}) NotClosed) × (n ≡ close_code reported) × IsClosedBy before reported after
 
 abbrev pub done_code : Bool → ℕ
 done_code true = DONE
@@ -75,7 +75,7 @@ done_code false = REFUSED
 
 -- whether a log was forgotten
 abbrev pub ReportsForgetting : HandleContent → ℕ → HandleContent → Type 0
-ReportsForgetting before n after = (told : Bool) × (n ≡ done_code told) × IsForgotten before told after
+ReportsForgetting before n after = (reported : Bool) × (n ≡ done_code reported) × IsForgotten before reported after
 
 -- a handle that is given to be freed is refused exactly if it has a caller that isn't idle
 abbrev pub ReportsFreeing : HandleContent → ℕ → Type 0

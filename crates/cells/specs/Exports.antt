@@ -5,9 +5,9 @@ use Rattle.event_log.specs.declared.logged.NoRoom.{NoRoom}
 use Rattle.kernel_object.specs.declared.call.KCall.{KCall}
 use Rattle.kernel_object.specs.declared.call.KReply.{KReply}
 use Rattle.cell_callers.specs.declared.handle_content.HandleContent.{HandleContent}
-use Rattle.cell_callers.specs.declared.coding.Asked.{Asked}
-use Rattle.cell_callers.specs.declared.coding.Answered.{Answered}
-use Rattle.cell_callers.specs.declared.codes.TheConstants.{REFUSED, NOT_THERE}
+use Rattle.cell_callers.specs.declared.call_numbers.Asked.{Asked}
+use Rattle.cell_callers.specs.declared.call_numbers.Answered.{Answered}
+use Rattle.cell_callers.specs.declared.report_codes.TheConstants.{REFUSED, NOT_THERE}
 use Rattle.event_log.specs.declared.event.TheConstants.{MOST_CALLS}
 use Rattle.cell_callers.specs.declared.batching.Batch.{Batch}
 use Rattle.cell_callers.specs.declared.batching.Replies.{Replies}
@@ -27,13 +27,13 @@ content_of h = manually_drop_value h.slot
 
 -- a step that tells this
 abbrev pub ReportsAcquireStep : HandleContent → ℕ → HandleContent → Type 0
-ReportsAcquireStep before n after = (told : Option Progress) × (n ≡ progress_code told) × IsAcquireStepIn before told after
+ReportsAcquireStep before n after = (reported : Option Progress) × (n ≡ progress_code reported) × IsAcquireStepIn before reported after
 
 abbrev pub ReportsReleaseStep : HandleContent → ℕ → HandleContent → Type 0
-ReportsReleaseStep before n after = (told : Option Progress) × (n ≡ progress_code told) × IsReleaseStepIn before told after
+ReportsReleaseStep before n after = (reported : Option Progress) × (n ≡ progress_code reported) × IsReleaseStepIn before reported after
 
 abbrev pub ReportsTry : HandleContent → ℕ → HandleContent → Type 0
-ReportsTry before n after = (told : Option Bool) × (n ≡ try_code told) × IsTryIn before told after
+ReportsTry before n after = (reported : Option Bool) × (n ≡ try_code reported) × IsTryIn before reported after
 
 -- a call of these numbers, of which Q says what was done and reported; where there is none, nothing was done, nor written
 abbrev pub IfCall : {S : Type 0} → Option KCall → (KCall → Type 0) → HandleContent → S → ℕ → HandleContent → S → Type 0
@@ -41,7 +41,7 @@ IfCall (Some call) Q before old n after new = Q call
 IfCall None Q before old n after new = (n ≡ NOT_THERE) × (after ≡ before) × (new ≡ old)
 
 abbrev pub ReportsApply : HandleContent → Asked → Answered → ℕ → HandleContent → Answered → Type 0
-ReportsApply before asked old n after new = IfCall (called_of asked) (λ call. (told : Option (Result KReply NoRoom)) × ((n, new) ≡ apply_code old told) × IsApplyIn call before told after) before old n after new
+ReportsApply before asked old n after new = IfCall (called_of asked) (λ call. (reported : Option (Result KReply NoRoom)) × ((n, new) ≡ apply_code old reported) × IsApplyIn call before reported after) before old n after new
 
 -- the same of a whole call, with the looks before and after
 abbrev pub ReportsCall : HandleContent → Asked → Answered × ℕ → ℕ → HandleContent → Answered × ℕ → Type 0
@@ -49,7 +49,7 @@ ReportsCall before asked old n after new = IfCall (called_of asked) (λ call. Re
 
 -- a batch of these calls; where one isn't there, nothing was done, nor written
 abbrev pub ReportsBatchOf : Option (List KCall) → HandleContent → Replies × ℕ → ℕ → HandleContent → Replies × ℕ → Type 0
-ReportsBatchOf (Some calls) before old n after new = (told : Whole (Result KernelSteps NoRoom)) × ReportsWhole told n old.0 new.0 × (new.1 ≡ looks_after (has_looked told) old.1) × IsBatchIn calls before told after
+ReportsBatchOf (Some calls) before old n after new = (reported : Whole (Result KernelSteps NoRoom)) × ReportsWhole reported n old.0 new.0 × (new.1 ≡ looks_after (has_looked reported) old.1) × IsBatchIn calls before reported after
 ReportsBatchOf None before old n after new = (n ≡ NOT_THERE) × (after ≡ before) × (new ≡ old)
 
 -- it has no call, or more than 8
@@ -65,4 +65,4 @@ abbrev pub ReportsBatch : HandleContent → Batch → Replies × ℕ → ℕ →
 ReportsBatch before batch old n after new = ReportsBatchIf (is_unfit batch) batch before old n after new
 
 abbrev pub ReportsTryCall : HandleContent → Asked → Answered → ℕ → HandleContent → Answered → Type 0
-ReportsTryCall before asked old n after new = IfCall (called_of asked) (λ call. (told : TriedCall (Result KReply NoRoom)) × ((n, new) ≡ try_call_code old told) × IsTryCallIn call before told after) before old n after new
+ReportsTryCall before asked old n after new = IfCall (called_of asked) (λ call. (reported : TriedCall (Result KReply NoRoom)) × ((n, new) ≡ try_call_code old reported) × IsTryCallIn call before reported after) before old n after new

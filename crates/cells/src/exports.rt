@@ -88,18 +88,18 @@ pub extern "C" fn mc2_caller_batch(
         return NOT_THERE;
     }
     // (by their values, as `at_content` says nothing of what is left behind a borrow that it hands on)
-    let (told, said, looked) = at_content(
+    let (reported, said, looked) = at_content(
         caller,
         (calls.as_slice(), *replies, *looks),
         |content, (calls, replies, looks)| {
             let (mut replies, mut looks) = (replies, looks);
-            let told = content.batch(calls, &mut replies, &mut looks);
-            (told, replies, looks)
+            let reported = content.batch(calls, &mut replies, &mut looks);
+            (reported, replies, looks)
         },
     );
     *replies = said;
     *looks = looked;
-    told
+    reported
 }
 
 /// A whole call, if nobody has the object or is in line for it. Where it is done, the reply is written.

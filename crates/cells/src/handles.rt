@@ -1,7 +1,7 @@
 //! The calls that C has on a cell, and on a new handle.
 
 ghost use Rattle.std.specs.Prelude.{◌≡◌, ◌⊎◌, ◌↔◌};
-ghost use Rattle.cell_callers.specs.declared.codes.TheConstants.{BAD_OPENING, DONE, NO_MEMORY};
+ghost use Rattle.cell_callers.specs.declared.report_codes.TheConstants.{BAD_OPENING, DONE, NO_MEMORY};
 ghost use Rattle.cells.specs.Exports.{content_of};
 ghost use Rattle.cell_callers.specs.CellContents.{IsBadOpening};
 ghost use Rattle.cells.specs.CellExports.{ReportsOpening, ReportsReopening, ReportsForgetting, ReportsNewCaller, ReportsReturn, ReportsClosing, ReportsFreeing, ReportsStep, owns_back};
@@ -180,9 +180,9 @@ pub extern "C" fn mc2_cell_step(
     cell: &mut Handle,
     event: usize,
     step: usize,
-    told: &mut LoggedStep,
+    reported: &mut LoggedStep,
 ) -> u32
-    ensures { ReportsStep (content_of cell.old) event step told.old result (content_of cell.new) told.new }
+    ensures { ReportsStep (content_of cell.old) event step reported.old result (content_of cell.new) reported.new }
 {
     let found = with_content(cell, (event, step), |content, (event, step)| {
         let found = content.step_at(event, step);
@@ -190,7 +190,7 @@ pub extern "C" fn mc2_cell_step(
     });
     match found {
         Some(step) => {
-            *told = step;
+            *reported = step;
             DONE
         }
         None => NOT_THERE,

@@ -21,18 +21,18 @@ fn call_by_name(caller: &mut Handle, call: KCall, answered: &mut Answered, looks
     ensures { ReportsCallOf call (content_of caller.old) (answered.old, looks.old) result (content_of caller.new) (answered.new, looks.new) }
 {
     // (by their values, as `at_content` says nothing of what is left behind a borrow that it hands on)
-    let (told, said, looked) = at_content(
+    let (reported, said, looked) = at_content(
         caller,
         (call, *answered, *looks),
         |content, (call, answered, looks)| {
             let (mut answered, mut looks) = (answered, looks);
-            let told = content.call_by_name(call, &mut answered, &mut looks);
-            (told, answered, looks)
+            let reported = content.call_by_name(call, &mut answered, &mut looks);
+            (reported, answered, looks)
         },
     );
     *answered = said;
     *looks = looked;
-    told
+    reported
 }
 
 /// It puts the thread at the end of a queue.

@@ -5,7 +5,7 @@ use Rattle.event_log.specs.declared.event.Step.{Step}
 use Rattle.event_log.specs.Log.{calls_of}
 use Rattle.console_ring.specs.State.{ConsoleState}
 use Rattle.console_ring.specs.Answer.{console_answer, full_answer, front_answer}
-use Rattle.console_ring.specs.Passing.{bytes_in, bytes_told, bytes_out, out_with, left_after}
+use Rattle.console_ring.specs.Passing.{bytes_in, bytes_reported, bytes_out, out_with, left_after}
 use Rattle.console_ring.specs.declared.call.ConsoleCall.{ConsoleCall}
 use Rattle.console_ring.specs.declared.call.ConsoleCall.TheVariants.{Put, Get, Level}
 use Rattle.console_ring.specs.declared.call.ConsoleReply.{ConsoleReply}
@@ -63,7 +63,7 @@ in_order c (call ∷ calls) =
 
 -- so the steps xs lead from c to d
 abbrev pub PassesOn : {O P : Type 0} → ConsoleState → List (Step O P ConsoleCall ConsoleReply) → ConsoleState → Type 0
-PassesOn c xs d = c.bytes ++ bytes_in (calls_of xs) ≡ bytes_told xs ++ d.bytes
+PassesOn c xs d = c.bytes ++ bytes_in (calls_of xs) ≡ bytes_reported xs ++ d.bytes
 
 pub one_step : {O P : Type 0} (c : ConsoleState) (x : Step O P ConsoleCall ConsoleReply) (xs : List (Step O P ConsoleCall ConsoleReply)) (d : ConsoleState) → x.reply ≡ (console_answer c x.call).1 → PassesOn (console_answer c x.call).0 xs d → PassesOn c (x ∷ xs) d
-one_step c x xs d is h = one_call c x.call (calls_of xs) (bytes_told xs) d.bytes h ∙ ap (λ r. out_with r (bytes_told xs) ++ d.bytes) (sym is)
+one_step c x xs d is h = one_call c x.call (calls_of xs) (bytes_reported xs) d.bytes h ∙ ap (λ r. out_with r (bytes_reported xs) ++ d.bytes) (sym is)

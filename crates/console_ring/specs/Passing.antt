@@ -24,9 +24,9 @@ out_with (Byte b) rest = b ∷ rest
 out_with (Count n) rest = rest
 
 -- the bytes that came out with the replies of steps, got or dropped, in order
-abbrev pub bytes_told : {O P : Type 0} → List (Step O P ConsoleCall ConsoleReply) → List ℕ
-bytes_told [] = []
-bytes_told (step ∷ steps) = out_with step.reply (bytes_told steps)
+abbrev pub bytes_reported : {O P : Type 0} → List (Step O P ConsoleCall ConsoleReply) → List ℕ
+bytes_reported [] = []
+bytes_reported (step ∷ steps) = out_with step.reply (bytes_reported steps)
 
 -- the bytes that came out, got or dropped, in order
 abbrev pub bytes_out : ConsoleState → List ConsoleCall → List ℕ

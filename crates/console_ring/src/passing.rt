@@ -5,7 +5,7 @@ ghost use Rattle.event_log.specs.Log.{calls_of, steps_of, Legal, replay};
 ghost use Rattle.event_log.specs.History.{IsKept};
 ghost use Rattle.console_ring.specs.State.{ConsoleState, is_in_range, opening_state, IsConsoleOf};
 ghost use Rattle.console_ring.specs.Answer.{console_answer};
-ghost use Rattle.console_ring.specs.Passing.{bytes_in, bytes_told, bytes_out, left_after};
+ghost use Rattle.console_ring.specs.Passing.{bytes_in, bytes_reported, bytes_out, left_after};
 ghost use Rattle.console_ring.specs.declared.call.ConsoleCall.{ConsoleCall};
 
 use crate::Console;
@@ -24,6 +24,6 @@ pub fn stays_within()
 /// or dropped, and then what it holds. So all bytes that a legal log's calls put are, in order, those that its replies tell,
 /// and then those that the log leaves.
 pub fn first_in_first_out()
-    ensures log { (n : ℕ) (log : _) → Legal ⟦<Console as SeqObject>⟧ n log → bytes_in (calls_of (steps_of log)) ≡ bytes_told (steps_of log) ++ (replay ⟦<Console as SeqObject>⟧ n log).bytes }
+    ensures log { (n : ℕ) (log : _) → Legal ⟦<Console as SeqObject>⟧ n log → bytes_in (calls_of (steps_of log)) ≡ bytes_reported (steps_of log) ++ (replay ⟦<Console as SeqObject>⟧ n log).bytes }
     ensures calls { (c : ConsoleState) (calls : List ConsoleCall) → c.bytes ++ bytes_in calls ≡ bytes_out c calls ++ (left_after c calls).bytes }
 {}

@@ -5,7 +5,7 @@
 pub enum CounterCall {
     /// Counts one more.
     Increase,
-    /// Tells how many it has counted.
+    /// TailSpells how many it has counted.
     #[default]
     Read,
 }

@@ -8,7 +8,7 @@ ghost use Rattle.counter.specs.Counting.{ok_count};
 mod call;
 mod counter;
 mod judged;
-mod law;
+mod counting;
 
 use CounterCall::{Increase, Read};
 pub use call::{CounterCall, CounterReply};
@@ -16,7 +16,7 @@ pub use counter::{BoundedCounter, MOST_COUNT};
 use event_log::Logged;
 use guarded_cell::{AnyCell, two_callers};
 pub use judged::{ReferenceCounter, verdict_on};
-pub use law::{counts_each_once, stays_within};
+pub use counting::{counts_each_once, stays_within};
 use sound_run::LockKind;
 use std::alloc::Global;
 use std::process::ExitCode;

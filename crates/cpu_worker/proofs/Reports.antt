@@ -148,9 +148,9 @@ unfolding report_text
 report_whole r transcripts objects place front text cpus count ts os all so_far n k last =
     let lines = λ (entries : List KernelEntry) (o : List ObjectSettings) (words : List (List ℕ)). text_of_words (objects_words entries o ++ words ∷ []) in
     let whole : front ≡ text_of_words (objects_words (all_entries transcripts) objects) = so_far ∙ ap (λ o. text_of_words (objects_words (all_entries transcripts) o)) (take_all place objects all) in
-    let told : text ≡ lines (all_entries transcripts) objects (run_words cpus count) =
+    let reported : text ≡ lines (all_entries transcripts) objects (run_words cpus count) =
     last ∙ (ap (λ bs. bs ++ (sentence (run_words cpus count) ++ 10 ∷ [])) whole ∙ sym (line_more (objects_words (all_entries transcripts) objects) (run_words cpus count))) in
-    told
+    reported
     ∙ (ap (λ m. lines (all_entries transcripts) objects (run_words m count)) n
     ∙ (ap (λ m. lines (all_entries transcripts) objects (run_words r.settings.cpus m)) k
     ∙ (ap (λ o. lines (all_entries transcripts) o (run_words r.settings.cpus (length (all_entries transcripts)))) os

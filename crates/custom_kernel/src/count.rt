@@ -36,7 +36,7 @@ impl Model for KernelCount {
 fn with_one<T>(past: &Past<T>, one: &T) -> Past<T>
     ensures { result.items ≡ past.now.items ++ one.now ∷ [] }
 {
-    Past::told(past, one)
+    Past::named(past, one)
 }
 
 impl KernelCount {

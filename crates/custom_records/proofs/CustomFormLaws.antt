@@ -16,15 +16,15 @@ use Rattle.record_lines.specs.FormLaws.{FormLaws}
 use Rattle.record_lines.specs.Reading.{words}
 use Rattle.record_lines.specs.Words.{sentence}
 use Rattle.custom_records.specs.contracts.custom_form.CustomFormRecordForm.TheImpl.{ghosts as custom_form}
-use Rattle.custom_records.specs.CustomForm.{Head, HeadFits, TellsEntry, some_in}
+use Rattle.custom_records.specs.CustomForm.{Head, HeadFits, TailSpellsEntry, some_in}
 use Rattle.custom_records.proofs.CustomHeads.{head_on, head_run, head_begins}
 
 -- an entry that the text behind its looks tells
-pub entry_told_by : (h : Head) (line : List ℕ) (object looks : ℕ) (tail : List ℕ) → HeadFits h → custom_front_at h.told.objects (words line) ≡ Some (object, looks, words tail) → (e : CustomEntry) → TellsEntry h.told object looks tail e
-    → (custom_entry_at h.told (words line) ≡ Some e) × EntryFits h.told e
-entry_told_by h line object looks tail fit front e (asked, steps, told, steps_fit, same) =
-    let is = custom_entry_known h.told (words line) object looks (words tail) front asked steps told.0 told.1 steps_fit ∙ ap Some (sym same) in
-    (is, ((reads_entry h.told fit.fit).takes line e is).1)
+pub entry_spelled_by : (h : Head) (line : List ℕ) (object looks : ℕ) (tail : List ℕ) → HeadFits h → custom_front_at h.so_far.objects (words line) ≡ Some (object, looks, words tail) → (e : CustomEntry) → TailSpellsEntry h.so_far object looks tail e
+    → (custom_entry_at h.so_far (words line) ≡ Some e) × EntryFits h.so_far e
+entry_spelled_by h line object looks tail fit front e (asked, steps, so_far, steps_fit, same) =
+    let is = custom_entry_known h.so_far (words line) object looks (words tail) front asked steps so_far.0 so_far.1 steps_fit ∙ ap Some (sym same) in
+    (is, ((reads_entry h.so_far fit.fit).takes line e is).1)
 
 -- the end
 ends_is : (line : List ℕ) (o : Option (Unit {0})) → last_at (words line) ≡ o → is_some o ≡ true → line ≡ sentence last_words
@@ -61,14 +61,14 @@ custom_laws = record {
     again = head_run;
     some = some_in;
   };
-  log = λ h i fit less. reads_log _ (name_of_object h.told fit.fit i less);
-  event = λ h fit. reads_event h.told fit.fit;
+  log = λ h i fit less. reads_log _ (name_of_object h.so_far fit.fit i less);
+  event = λ h fit. reads_event h.so_far fit.fit;
   cpu = λ h i fit less. let most = fit.fit.cpus.1 in reads_cpu i (omega (arith, less, most));
-  entry = λ h fit. reads_entry h.told fit.fit;
+  entry = λ h fit. reads_entry h.so_far fit.fit;
   ends = λ line is. ends_is line (last_at (words line)) refl is;
   end_again = ap is_some (reads_last.again tt tt);
   end_plain = reads_last.plain tt tt;
-  an_event = λ h fit. (shown_event h.told, record { cpu = fit.fit.cpus.0; steps = record { some = omega arith; few = omega arith; each = (record { call = said_fits; reply = said_fits; refuses = refl }, tt) } });
+  an_event = λ h fit. (shown_event h.so_far, record { cpu = fit.fit.cpus.0; steps = record { some = omega arith; few = omega arith; each = (record { call = said_fits; reply = said_fits; refuses = refl }, tt) } });
   an_entry = λ h fit. (shown_entry, record { object = fit.fit.count.0; looks = omega arith; some = omega arith; few = omega arith; calls = (said_fits, tt); done = tt });
 }
 

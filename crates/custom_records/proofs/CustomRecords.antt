@@ -27,7 +27,7 @@ abbrev pub whole_in : CustomRecord → CustomWhole
 whole_in r = record { head = head_of r.head; logs = r.run.logs; transcripts = r.run.transcripts }
 
 abbrev pub record_in : CustomWhole → CustomRecord
-record_in w = record { head = w.head.told; run = record { logs = w.logs; transcripts = w.transcripts } }
+record_in w = record { head = w.head.so_far; run = record { logs = w.logs; transcripts = w.transcripts } }
 
 -- ---- limits
 

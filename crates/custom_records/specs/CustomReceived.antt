@@ -10,4 +10,4 @@ CustomReceived = Received Head CustomEvent CustomEntry
 
 -- the record of what the head tells and of what is whole
 abbrev pub received_custom : CustomReceived → CustomRecord
-received_custom p = record { head = p.head.told; run = record { logs = p.logs; transcripts = p.transcripts } }
+received_custom p = record { head = p.head.so_far; run = record { logs = p.logs; transcripts = p.transcripts } }

@@ -35,7 +35,7 @@ pub enum CustomHeadNext {
 pub struct CustomFormHead {
     pub awaits: CustomHeadNext,
     pub count: u64,
-    pub told: CustomHead,
+    pub so_far: CustomHead,
 }
 
 impl Model for CustomFormHead {
@@ -43,7 +43,7 @@ impl Model for CustomFormHead {
 
     ghost Value = { Head };
 
-    ghost view = { λ h. record { awaits = h.awaits; count = h.count; told = h.told } };
+    ghost view = { λ h. record { awaits = h.awaits; count = h.count; so_far = h.so_far } };
 }
 
 /// The name of the object at that place, from 0.
@@ -100,7 +100,7 @@ fn take_cpus(head: &mut CustomFormHead, line: &[u8]) -> Result<(), LineFault>
     let Some(cpus) = cpus_line(line) else {
         return Err(LineFault::Refused);
     };
-    head.told.cpus = cpus;
+    head.so_far.cpus = cpus;
     head.awaits = CustomHeadNext::Count;
     Ok(())
 }
@@ -129,11 +129,11 @@ fn take_object(head: &mut CustomFormHead, line: &[u8]) -> Result<(), LineFault>
     ensures err { OnErr result (head.new ≡ head.old) }
     ensures refused { result ≡ Err LineFault.Refused → head_after head.old line.now ≡ None }
 {
-    let Some(object) = new_object_line(head.told.objects.as_slice(), line) else {
+    let Some(object) = new_object_line(head.so_far.objects.as_slice(), line) else {
         return Err(LineFault::Refused);
     };
-    head.told.objects.push(object)?;
-    if (head.told.objects.len() as u64) < head.count {
+    head.so_far.objects.push(object)?;
+    if (head.so_far.objects.len() as u64) < head.count {
         return Ok(());
     }
     head.count = 0;
@@ -152,7 +152,7 @@ fn take_refuses(alloc: Global, head: &mut CustomFormHead, line: &[u8]) -> Result
     let Some(refusing) = refuses_line(alloc, line)? else {
         return Err(LineFault::Refused);
     };
-    head.told.refusing = refusing;
+    head.so_far.refusing = refusing;
     head.awaits = CustomHeadNext::Whole;
     Ok(())
 }

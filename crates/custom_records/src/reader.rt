@@ -22,7 +22,7 @@ pub fn read_custom<S: RecordSink<CustomForm>>(
 ) -> Result<(CustomHead, S), LinesFault>
     requires { S.received sink ≡ only_head no_head }
     ensures found { IfOk result (λ given. IsCustomText text.now (received_custom (S.received given.1))) }
-    ensures head { IfOk result (λ given. given.0 ≡ (S.received given.1).head.told) }
+    ensures head { IfOk result (λ given. given.0 ≡ (S.received given.1).head.so_far) }
     ensures whole { IfOk result (λ given. IsWholeWith (S.received given.1).head (S.received given.1)) }
     ensures fit { IfOk result (λ given. CustomRecordFits (received_custom (S.received given.1))) }
     ensures only { (r : CustomRecord) → CustomRecordFits r → text.now ≡ custom_text r → IsReadCustom r (ok_map (λ given. received_custom (S.received given.1)) result) }
@@ -47,6 +47,6 @@ pub fn read_custom<S: RecordSink<CustomForm>>(
         return Err(LinesFault::Line(number));
     }
     let (head, sink) = state.into_received();
-    let CustomFormHead { told, .. } = head;
-    Ok((told, sink))
+    let CustomFormHead { so_far, .. } = head;
+    Ok((so_far, sink))
 }

@@ -26,11 +26,11 @@ module _ {O P C R : Type 0} where
 
   -- the caller had the object once, with so many looks: for a call, for calls in one event, and for these events
   abbrev pub HasCalled : Caller O P C R → List (TraceStep (Event O P C R)) → ℕ → C → Result R NoRoom → List (TraceStep (Event O P C R)) → Type 0
-  HasCalled caller before looks call told after = HasHeld caller before looks (left_by_call caller.acting call told) after
+  HasCalled caller before looks call reported after = HasHeld caller before looks (left_by_call caller.acting call reported) after
 
   -- the caller held the object once, and left the event of its calls
   abbrev pub HasBatched : Caller O P C R → List (TraceStep (Event O P C R)) → ℕ → Result (Steps O P C R) NoRoom → List (TraceStep (Event O P C R)) → Type 0
-  HasBatched caller before looks told after = HasHeld caller before looks (left_by_batch caller.acting told) after
+  HasBatched caller before looks reported after = HasHeld caller before looks (left_by_batch caller.acting reported) after
 
   -- the caller held the object once, and left an event for each group that was done
   abbrev pub HasDoneGroups : Caller O P C R → List (TraceStep (Event O P C R)) → ℕ → List (Steps O P C R) → List (TraceStep (Event O P C R)) → Type 0

@@ -4,7 +4,7 @@
 mod callers;
 mod cell;
 mod groups;
-mod limit_law;
+mod pinned_limits;
 mod lock;
 mod make;
 mod replays;
@@ -15,7 +15,7 @@ mod whole;
 pub use callers::{call_all, call_on_two_threads, two_callers};
 pub use cell::AnyCell;
 pub use groups::MOST_GROUPS;
-pub use limit_law::shows_limits;
+pub use pinned_limits::shows_limits;
 pub use replays::two_are_replayed;
 pub use runs::joined_runs_are_sound;
 pub use tries::{Declined, try_batch, try_call};

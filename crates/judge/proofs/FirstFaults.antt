@@ -136,8 +136,8 @@ module _ (model : Model) (r : CustomRecord) (counts : List ℕ) (are : AreCounts
       }
 
   -- a step that is wrong by the model is wrong as told
-  told_of_by : (x e i : ℕ) → HasWrongStepBy model r x e i → WrongStep x e i
-  told_of_by x e i f =
+  wrong_of_by : (x e i : ℕ) → HasWrongStepBy model r x e i → WrongStep x e i
+  wrong_of_by x e i f =
       let k = length (steps_of (take e (log_of x r.run))) + i in
       let n = slice_index counts x in
       step_to x e i f.object f.event f.there f.at f.within (⊎_elim
@@ -182,7 +182,7 @@ module _ (model : Model) (r : CustomRecord) (counts : List ℕ) (are : AreCounts
   -- the fault by the model is one by the counts
   fault_to : (g : Fault) → IsFaultBy model r g → CountedFault by_count Terms r.run g
   fault_to (fault.TooLong x) h = same_faults (λ os. IsTooLong custom os r.run x) h
-  fault_to (fault.WrongStep x e i) h = told_of_by x e i h
+  fault_to (fault.WrongStep x e i) h = wrong_of_by x e i h
   fault_to (fault.RoomWasLeft cpu n) h = same_faults (λ os. HadRoom custom os r.run cpu n) h
   fault_to (fault.NotItsEvent cpu n) h = same_faults (λ os. IsNotItsEvent custom os r.run cpu n) h
   fault_to (fault.NotAsked cpu n) h = same_faults (λ os. IsNotAsked custom os r.run cpu n) h
@@ -191,7 +191,7 @@ module _ (model : Model) (r : CustomRecord) (counts : List ℕ) (are : AreCounts
   -- a fault by the counts is one by the model, where no earlier step is wrong
   fault_from : (g : Fault) → ((x e i : ℕ) → IsBefore (place (fault.WrongStep x e i)) (place g) → WrongStep x e i → ⊥) → CountedFault by_count Terms r.run g → IsFaultBy model r g
   fault_from (fault.TooLong x) none h = back_faults (λ os. IsTooLong custom os r.run x) h
-  fault_from (fault.WrongStep x e i) none h = ⊎_elim (λ w. w) (λ q. absurd (none x q.0 q.1 (step_place x q.0 q.1 e i q.2) (told_of_by x q.0 q.1 q.3))) (by_or_earlier x e i h)
+  fault_from (fault.WrongStep x e i) none h = ⊎_elim (λ w. w) (λ q. absurd (none x q.0 q.1 (step_place x q.0 q.1 e i q.2) (wrong_of_by x q.0 q.1 q.3))) (by_or_earlier x e i h)
   fault_from (fault.RoomWasLeft cpu n) none h = back_faults (λ os. HadRoom custom os r.run cpu n) h
   fault_from (fault.NotItsEvent cpu n) none h = back_faults (λ os. IsNotItsEvent custom os r.run cpu n) h
   fault_from (fault.NotAsked cpu n) none h = back_faults (λ os. IsNotAsked custom os r.run cpu n) h
@@ -201,8 +201,8 @@ module _ (model : Model) (r : CustomRecord) (counts : List ℕ) (are : AreCounts
   first_from f h = record { there = fault_from f (λ x e i b w. h.first (fault.WrongStep x e i) b w) h.there; first = λ g b w. h.first g b (fault_to g w) }
 
   -- where no step before a place is wrong by the model, none is as told
-  none_told : (ys : List ℕ) → ((x e i : ℕ) → IsBefore (place (fault.WrongStep x e i)) ys → HasWrongStepBy model r x e i → ⊥) → (x e i : ℕ) → IsBefore (place (fault.WrongStep x e i)) ys → WrongStep x e i → ⊥
-  none_told ys none x e i b w = ⊎_elim (λ v. none x e i b v)
+  none_wrong : (ys : List ℕ) → ((x e i : ℕ) → IsBefore (place (fault.WrongStep x e i)) ys → HasWrongStepBy model r x e i → ⊥) → (x e i : ℕ) → IsBefore (place (fault.WrongStep x e i)) ys → WrongStep x e i → ⊥
+  none_wrong ys none x e i b w = ⊎_elim (λ v. none x e i b v)
       (λ q. none x q.0 q.1 (before_trans (place (fault.WrongStep x q.0 q.1)) (place (fault.WrongStep x e i)) ys (step_place x q.0 q.1 e i q.2) b) q.3)
       (by_or_earlier x e i w)
 
@@ -211,5 +211,5 @@ module _ (model : Model) (r : CustomRecord) (counts : List ℕ) (are : AreCounts
       let none : (x e i : ℕ) → IsBefore (place (fault.WrongStep x e i)) (place f) → HasWrongStepBy model r x e i → ⊥ = λ x e i b w. h.first (fault.WrongStep x e i) b w in
       record {
         there = fault_to f h.there;
-        first = λ g b w. h.first g b (fault_from g (λ x e i c v. none_told (place f) none x e i (before_trans (place (fault.WrongStep x e i)) (place g) (place f) c b) v) w);
+        first = λ g b w. h.first g b (fault_from g (λ x e i c v. none_wrong (place f) none x e i (before_trans (place (fault.WrongStep x e i)) (place g) (place f) c b) v) w);
       }

@@ -75,11 +75,11 @@ without_next counts logs events log rest old new here left next before = by old 
 
 module _ (head : Head) (begun : Bool) (counts most : List ℕ) (log rest : ℕ) (none : Option ℕ) (d : CustomReceivedRun) (fed : HasReceivedCustom (custom_parts head begun d) counts most log rest none d) where
   abbrev Terms : List CustomTerms
-  Terms = custom_terms counts head.told.objects
+  Terms = custom_terms counts head.so_far.objects
 
   -- so many logs were begun
-  received_count : (n : ℕ) → begun_logs (custom_parts head begun d) ≡ n → n ≤ length head.told.objects → length d.opened ≡ n
-  received_count n is few = ap length fed.opened ∙ (ap (λ k. length (take k Terms)) is ∙ length-take-le n Terms (omega (arith, few, terms_count counts head.told.objects)))
+  received_count : (n : ℕ) → begun_logs (custom_parts head begun d) ≡ n → n ≤ length head.so_far.objects → length d.opened ≡ n
+  received_count n is few = ap length fed.opened ∙ (ap (λ k. length (take k Terms)) is ∙ length-take-le n Terms (omega (arith, few, terms_count counts head.so_far.objects)))
 
   pub before_log : InLogs custom_form (custom_parts head begun d) → IsAtHead (custom_parts head begun d) d.events → IsBeforeLog d
   before_log at empty =
@@ -97,17 +97,17 @@ module _ (head : Head) (begun : Bool) (counts most : List ℕ) (log rest : ℕ) 
       let more = at.more in
       received_count (length d.logs + 1) (ap (λ b. if b then length d.logs + 1 else length d.logs) is) (omega (arith, more))
 
-  all_logs : (b : Bool) → length d.logs ≡ length head.told.objects → take (if b then length d.logs + 1 else length d.logs) Terms ≡ Terms
-  all_logs true all = take_all (length d.logs + 1) Terms (omega (arith, all, terms_count counts head.told.objects))
-  all_logs false all = take_all (length d.logs) Terms (omega (arith, all, terms_count counts head.told.objects))
+  all_logs : (b : Bool) → length d.logs ≡ length head.so_far.objects → take (if b then length d.logs + 1 else length d.logs) Terms ≡ Terms
+  all_logs true all = take_all (length d.logs + 1) Terms (omega (arith, all, terms_count counts head.so_far.objects))
+  all_logs false all = take_all (length d.logs) Terms (omega (arith, all, terms_count counts head.so_far.objects))
 
-  pub all_opened : length d.logs ≡ length head.told.objects → d.opened ≡ Terms
+  pub all_opened : length d.logs ≡ length head.so_far.objects → d.opened ≡ Terms
   all_opened all = fed.opened ∙ all_logs begun all
 
-  pub has_logs : length d.logs ≡ length head.told.objects → d.events ≡ [] → HasLogs d
+  pub has_logs : length d.logs ≡ length head.so_far.objects → d.events ≡ [] → HasLogs d
   has_logs all idle = record {
     logs = all ∙ sym fed.objects;
-    opened = ap length (all_opened all) ∙ (terms_count counts head.told.objects ∙ sym fed.objects);
+    opened = ap length (all_opened all) ∙ (terms_count counts head.so_far.objects ∙ sym fed.objects);
     events = idle;
   }
 
@@ -115,12 +115,12 @@ module _ (head : Head) (begun : Bool) (counts most : List ℕ) (log rest : ℕ) 
   in_transcripts at = let more = at.more in record { logs = has_logs at.log_count at.events; cpus = omega (arith, fed.cpus, more) }
 
   -- the terms of the object whose log comes
-  term_here : (x n left : ℕ) → x < length head.told.objects → n ≡ get_or most x n → left ≡ slice_index counts x → slice_get Terms x ≡ Some (record { params = tt; limit = n; state = left })
+  term_here : (x n left : ℕ) → x < length head.so_far.objects → n ≡ get_or most x n → left ≡ slice_index counts x → slice_get Terms x ≡ Some (record { params = tt; limit = n; state = left })
   term_here x n left lt is this =
-      let o = some_at head.told.objects x lt in
-      let m = map_get (λ (v : CustomSettings). v.events) head.told.objects x o.0 o.1 in
-      let same : o.0.events ≡ n = sym (is ∙ (ap (λ l. get_or l x n) fed.limits ∙ get_or_from_slice_get (map (λ (v : CustomSettings). v.events) head.told.objects) x o.0.events n m)) in
-      term_at counts head.told.objects x o.0 o.1 ∙ (λ j. Some (record { params = tt; limit = same j; state = sym this j }))
+      let o = some_at head.so_far.objects x lt in
+      let m = map_get (λ (v : CustomSettings). v.events) head.so_far.objects x o.0 o.1 in
+      let same : o.0.events ≡ n = sym (is ∙ (ap (λ l. get_or l x n) fed.limits ∙ get_or_from_slice_get (map (λ (v : CustomSettings). v.events) head.so_far.objects) x o.0.events n m)) in
+      term_at counts head.so_far.objects x o.0 o.1 ∙ (λ j. Some (record { params = tt; limit = same j; state = sym this j }))
 
   -- a log begins
   pub log_opened : (n limit : ℕ) → InLogs custom_form (custom_parts head begun d) → IsAtHead (custom_parts head begun d) d.events → limit ≡ get_or most log limit → HasReceivedCustom (custom_parts head true (log_begun d (record { params = tt; limit = limit; state = rest }) n)) counts most log rest none (log_begun d (record { params = tt; limit = limit; state = rest }) n)

@@ -13,7 +13,7 @@ use Rattle.auditor.proofs.Splits.{take_length}
 use Rattle.custom_records.specs.Custom.{CustomStep}
 use Rattle.custom_records.specs.Ranges.{CustomRecord, CustomRecordFits}
 use Rattle.custom_records.specs.Settings.{CustomSettings, names_of, word_in}
-use Rattle.judge.specs.Models.{Model, AreCounts, IsCount, IsTold, IsMistold}
+use Rattle.judge.specs.Models.{Model, AreCounts, IsCount, IsCounted, IsMistold}
 
 -- the count of the object of that name
 abbrev count_for : List CustomSettings → List ℕ → List ℕ → ℕ
@@ -51,29 +51,29 @@ counts_so steps right n is few = record {
 
 module _ (r : CustomRecord) (counts : List ℕ) (fit : CustomRecordFits r) (none : (x : ℕ) → IsMistold r counts x → ⊥) where
   -- each object has a count that can be
-  told_below : (n : ℕ) → n ≤ length r.head.objects → (y : ℕ) → y < n → IsTold r counts y
-  told_below zero le y lt = absurd (omega (arith, lt))
-  told_below (suc n) le y lt =
-      let before = told_below n (omega (arith, le)) in
-      let mis : (IsTold r counts n → ⊥) → IsMistold r counts n = λ no. record { some = inl (omega (arith, le)); wrong = no; first = before } in
-      let here : IsTold r counts n = by n (omega (arith, le)) (λ no. none n (mis no)) (slice_get counts n) refl in
-      ⊎_elim (λ less. before y less) (λ ge. let same : n ≡ y = omega (arith, lt, ge) in subst (IsTold r counts) same here) (cases_lt y n)
+  counted_below : (n : ℕ) → n ≤ length r.head.objects → (y : ℕ) → y < n → IsCounted r counts y
+  counted_below zero le y lt = absurd (omega (arith, lt))
+  counted_below (suc n) le y lt =
+      let before = counted_below n (omega (arith, le)) in
+      let mis : (IsCounted r counts n → ⊥) → IsMistold r counts n = λ no. record { some = inl (omega (arith, le)); wrong = no; first = before } in
+      let here : IsCounted r counts n = by n (omega (arith, le)) (λ no. none n (mis no)) (slice_get counts n) refl in
+      ⊎_elim (λ less. before y less) (λ ge. let same : n ≡ y = omega (arith, lt, ge) in subst (IsCounted r counts) same here) (cases_lt y n)
     where
-      by : (k : ℕ) → k < length r.head.objects → ((IsTold r counts k → ⊥) → ⊥) → (o : Option ℕ) → slice_get counts k ≡ o → IsTold r counts k
+      by : (k : ℕ) → k < length r.head.objects → ((IsCounted r counts k → ⊥) → ⊥) → (o : Option ℕ) → slice_get counts k ≡ o → IsCounted r counts k
       by k inside never None at = absurd (never (λ t. let bad : Some t.count ≡ None = sym t.there ∙ at in absurd (cc)))
       by k inside never (Some c) at = ⊎_elim
           (λ less. absurd (never (λ t. let same = one_of t.count c (slice_get counts k) t.there at in let w = t.within in absurd (omega (arith, less, same, w)))))
           (λ le. record { object = inside; count = c; there = at; within = le })
           (cases_lt (length (steps_of (log_of k r.run))) c)
 
-  told_all : (y : ℕ) → y < length r.head.objects → IsTold r counts y
-  told_all y lt = told_below (length r.head.objects) (omega arith) y lt
+  counted_all : (y : ℕ) → y < length r.head.objects → IsCounted r counts y
+  counted_all y lt = counted_below (length r.head.objects) (omega arith) y lt
 
   as_many : length counts ≡ length r.head.objects
   as_many = ⊎_elim
-      (λ less. let t = told_all (length counts) less in let lt = slice_get_within counts (length counts) t.count t.there in absurd (omega (arith, lt)))
+      (λ less. let t = counted_all (length counts) less in let lt = slice_get_within counts (length counts) t.count t.there in absurd (omega (arith, lt)))
       (λ le. ⊎_elim
-      (λ more. absurd (none (length r.head.objects) (record { some = inr more; wrong = (λ t. let lt = t.object in absurd (omega (arith, lt))); first = told_all })))
+      (λ more. absurd (none (length r.head.objects) (record { some = inr more; wrong = (λ t. let lt = t.object in absurd (omega (arith, lt))); first = counted_all })))
       (λ ge. omega (arith, le, ge))
       (cases_lt (length r.head.objects) (length counts)))
       (cases_lt (length counts) (length r.head.objects))
@@ -99,7 +99,7 @@ module _ (r : CustomRecord) (counts : List ℕ) (fit : CustomRecordFits r) (none
     record {
       counted = as_many;
       each = λ x o n on at.
-          let t = told_all x (slice_get_within r.head.objects x o on) in
+          let t = counted_all x (slice_get_within r.head.objects x o on) in
           let same = one_of t.count n (slice_get counts x) t.there at in
           let few = t.within in
           let found = count_found r.head.objects counts x o n on at (λ y u lt there. names_differ x y o u on lt there) in

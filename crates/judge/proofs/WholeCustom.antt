@@ -23,7 +23,7 @@ use Rattle.custom_records.specs.Ranges.{CustomRecord, CustomRecordFits, EventFit
 use Rattle.custom_records.specs.Settings.{CustomSettings}
 use Rattle.judge.specs.declared.custom_judge.Mistold.{Mistold}
 use Rattle.judge.specs.Judging.{Counted, CustomReceivedRun, CustomTerms, custom_terms, custom_parts, HasCount, IsFirstWithout, HasReceivedCustom}
-use Rattle.judge.specs.Models.{IsVerdictByCounts, IsTold, IsMistold}
+use Rattle.judge.specs.Models.{IsVerdictByCounts, IsCounted, IsMistold}
 use Rattle.judge.proofs.CountedLogs.{by_count}
 use Rattle.judge.proofs.FirstFaults.{first_to, first_from}
 use Rattle.judge.proofs.SoundRuns.{sound_to, sound_from}
@@ -69,15 +69,15 @@ module _ (head : Head) (begun : Bool) (counts most : List ℕ) (log rest : ℕ) 
   pub whole_cpus : length d.transcripts ≡ d.cpus
   whole_cpus = fit.1.transcript_count ∙ sym fed.cpus
 
-  whole_terms : d.opened ≡ custom_terms counts head.told.objects
+  whole_terms : d.opened ≡ custom_terms counts head.so_far.objects
   whole_terms = all_opened head begun counts most log rest none d fed fit.1.log_count
 
   pub whole_run : IsRunOver d.opened (run_of d)
   whole_run = subst (λ (ts : List CustomTerms). IsRunOver ts (run_of d)) (sym whole_terms) (custom_run R counts fit)
 
   -- what is so of the run that was received is so of the record that was handed over
-  pub of_record : (Q : List CustomTerms → CustomRun → Type 0) → Q d.opened (run_of d) → Q (custom_terms v.counts v.parts.head.told.objects) (received_custom v.parts).run
-  of_record Q q = subst (λ (w : Counted). Q (custom_terms w.counts w.parts.head.told.objects) (received_custom w.parts).run) view (subst (λ (ts : List CustomTerms). Q ts (run_of d)) whole_terms q)
+  pub of_record : (Q : List CustomTerms → CustomRun → Type 0) → Q d.opened (run_of d) → Q (custom_terms v.counts v.parts.head.so_far.objects) (received_custom v.parts).run
+  of_record Q q = subst (λ (w : Counted). Q (custom_terms w.counts w.parts.head.so_far.objects) (received_custom w.parts).run) view (subst (λ (ts : List CustomTerms). Q ts (run_of d)) whole_terms q)
 
   -- the verdict by every model that has these counts
   pub verdict_by : (a : Verdict) → (a ≡ verdict.Sound) ↔ CountedSound by_count d.opened (run_of d) → ((f : Fault) → (a ≡ verdict.Unsound f) ↔ CountedFirst by_count d.opened (run_of d) f) → IsVerdictByCounts (received_custom v.parts) v.counts a
@@ -92,10 +92,10 @@ module _ (head : Head) (begun : Bool) (counts most : List ℕ) (log rest : ℕ) 
       }
 
   -- a place with a count
-  told_of : (x : ℕ) → x < length head.told.objects → HasCount counts d.logs x → IsTold R counts x
-  told_of x lt h = record { object = lt; count = h.count; there = h.there; within = h.within }
+  reported_of : (x : ℕ) → x < length head.so_far.objects → HasCount counts d.logs x → IsCounted R counts x
+  reported_of x lt h = record { object = lt; count = h.count; there = h.there; within = h.within }
 
-  count_of : (x : ℕ) → IsTold R counts x → HasCount counts d.logs x
+  count_of : (x : ℕ) → IsCounted R counts x → HasCount counts d.logs x
   count_of x t = record { count = t.count; there = t.there; within = t.within }
 
   -- one place alone is mistold
@@ -130,28 +130,28 @@ module _ (head : Head) (begun : Bool) (counts most : List ℕ) (log rest : ℕ) 
       mistold_exactly x y (record {
         some = inl (omega (arith, all, lt));
         wrong = λ t. first.1 (count_of x t);
-        first = λ z less. told_of z (omega (arith, all, lt, less)) (first.2 z less);
+        first = λ z less. reported_of z (omega (arith, all, lt, less)) (first.2 z less);
       })
 
   pub more_exactly : none ≡ None → (n : ℕ) → n ≡ length most → n < length counts → (y : ℕ) → IsExact (at_object n) y
   more_exactly e n is more y =
       let first = subst (IsFirstWithout counts d.logs) e fed.without in
       let all = fit.1.log_count in
-      let here : n ≡ length head.told.objects = is ∙ (ap length fed.limits ∙ length-map head.told.objects (λ (o : CustomSettings). o.events)) in
+      let here : n ≡ length head.so_far.objects = is ∙ (ap length fed.limits ∙ length-map head.so_far.objects (λ (o : CustomSettings). o.events)) in
       mistold_exactly n y (record {
         some = inr more;
         wrong = λ t. let lt = t.object in absurd (omega (arith, here, lt));
-        first = λ z less. told_of z (omega (arith, here, less)) (first z (omega (arith, all, here, less)));
+        first = λ z less. reported_of z (omega (arith, here, less)) (first z (omega (arith, all, here, less)));
       })
 
   pub none_exactly : none ≡ None → length counts ≤ length most → (a : Verdict) (y : ℕ) → IsExact (of_verdict a) y
   none_exactly e few a y =
       let first = subst (IsFirstWithout counts d.logs) e fed.without in
       let all = fit.1.log_count in
-      let long = ap length fed.limits ∙ length-map head.told.objects (λ (o : CustomSettings). o.events) in
+      let long = ap length fed.limits ∙ length-map head.so_far.objects (λ (o : CustomSettings). o.events) in
       exactly (of_verdict a) y (
         (λ e. absurd (cc)),
         (λ h.
-            let lt : y < length head.told.objects = ⊎_elim (λ less. less) (λ less. omega (arith, few, long, less)) h.some in
-            absurd (h.wrong (told_of y lt (first y (omega (arith, all, lt)))))),
+            let lt : y < length head.so_far.objects = ⊎_elim (λ less. less) (λ less. omega (arith, few, long, less)) h.some in
+            absurd (h.wrong (reported_of y lt (first y (omega (arith, all, lt)))))),
       )

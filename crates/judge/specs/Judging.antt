@@ -60,10 +60,10 @@ IsNextWithout counts log left None (Some x) = (x ≡ log) × ((log < length coun
 
 -- the judge has received those parts
 pub record HasReceivedCustom (p : CustomReceived) (counts most : List ℕ) (log rest : ℕ) (none : Option ℕ) (d : CustomReceivedRun) : Type 0 where
-  pub limits : most ≡ map (λ (o : CustomSettings). o.events) p.head.told.objects
+  pub limits : most ≡ map (λ (o : CustomSettings). o.events) p.head.so_far.objects
   pub whole : log ≡ length p.logs
-  pub cpus : d.cpus ≡ p.head.told.cpus
-  pub objects : d.objects ≡ length p.head.told.objects
-  pub opened : d.opened ≡ take (begun_logs p) (custom_terms counts p.head.told.objects)
+  pub cpus : d.cpus ≡ p.head.so_far.cpus
+  pub objects : d.objects ≡ length p.head.so_far.objects
+  pub opened : d.opened ≡ take (begun_logs p) (custom_terms counts p.head.so_far.objects)
   pub left : rest ≡ slice_index counts (length p.logs) - length (steps_of p.events)
   pub without : IsFirstWithout counts p.logs none

@@ -1,8 +1,8 @@
 -- What is told of a log whose object is of one of the kernel's four kinds.
 use Rattle.std.specs.Prelude.{◌≡◌, ℕ, List}
 use Rattle.custom_kernel.specs.Lines.{IsKernelCount, NoKernelLog}
-use Rattle.judge.specs.Told.{told}
-use Rattle.judge.specs.declared.told.Told.{Told}
+use Rattle.judge.specs.Report.{report}
+use Rattle.judge.specs.declared.report.Report.{Report}
 
 -- what becomes of a text and two places
 pub data KernelOutcome : Type 0 where
@@ -17,13 +17,13 @@ IsKernelOutcome bytes object log none = NoKernelLog bytes object log
 IsKernelOutcome bytes object log out_of_memory = Unit {0}
 
 -- what is told of an outcome
-abbrev pub told_kernel : KernelOutcome → Told
-told_kernel (counted n) = told 13 n 0 0
-told_kernel none = told 12 0 0 0
-told_kernel out_of_memory = told 9 0 0 0
+abbrev pub kernel_report : KernelOutcome → Report
+kernel_report (counted n) = report 13 n 0 0
+kernel_report none = report 12 0 0 0
+kernel_report out_of_memory = report 9 0 0 0
 
 -- what is told is what becomes of the bytes and the places
-pub record IsKernelTold (bytes : List ℕ) (object log : ℕ) (t : Told) : Type 0 where
+pub record IsKernelReported (bytes : List ℕ) (object log : ℕ) (t : Report) : Type 0 where
   pub outcome : KernelOutcome
   pub right : IsKernelOutcome bytes object log outcome
-  pub same : t ≡ told_kernel outcome
+  pub same : t ≡ kernel_report outcome

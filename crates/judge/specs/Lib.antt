@@ -1,7 +1,7 @@
-pub mod Told
+pub mod Report
 pub mod Orders
 pub mod OwnLines
-pub mod OwnTold
+pub mod OwnReport
 pub mod OwnOrders
 pub mod KernelLogs
 pub mod Models

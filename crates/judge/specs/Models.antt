@@ -100,7 +100,7 @@ abbrev pub IsVerdictByCounts : CustomRecord → List ℕ → Verdict → Type 0
 IsVerdictByCounts r counts v = (model : Model) → AreCounts model r counts → IsVerdictBy model r v
 
 -- place x is an object with a count, which is no more than the steps of its log
-pub record IsTold (r : CustomRecord) (counts : List ℕ) (x : ℕ) : Type 0 where
+pub record IsCounted (r : CustomRecord) (counts : List ℕ) (x : ℕ) : Type 0 where
   pub object : x < length r.head.objects
   pub count : ℕ
   pub there : slice_get counts x ≡ Some count
@@ -109,5 +109,5 @@ pub record IsTold (r : CustomRecord) (counts : List ℕ) (x : ℕ) : Type 0 wher
 -- the first place that is an object or has a count, but isn't an object with a count that can be
 pub record IsMistold (r : CustomRecord) (counts : List ℕ) (x : ℕ) : Type 0 where
   pub some : (x < length r.head.objects) ⊎ (x < length counts)
-  pub wrong : IsTold r counts x → ⊥
-  pub first : (y : ℕ) → y < x → IsTold r counts y
+  pub wrong : IsCounted r counts x → ⊥
+  pub first : (y : ℕ) → y < x → IsCounted r counts y

@@ -8,9 +8,9 @@ use Rattle.sound_run.specs.declared.place.Place.{Place}
 use Rattle.records.specs.RecordFaults.{IsWhole, IsBadLine}
 use Rattle.records.specs.RecordRanges.{Record}
 use Rattle.records.specs.Runs.{opened_of}
-use Rattle.judge.specs.Told.{told, told_fault}
+use Rattle.judge.specs.Report.{report, fault_report}
 use Rattle.judge.specs.declared.merge.Turn.{Turn}
-use Rattle.judge.specs.declared.told.Told.{Told}
+use Rattle.judge.specs.declared.report.Report.{Report}
 
 -- what becomes of a text
 pub data Outcome : Type 0 where
@@ -30,16 +30,16 @@ IsOutcome bytes (bad_line n) = IsBadLine bytes n
 IsOutcome bytes out_of_memory = Unit {0}
 
 -- places under a kind, or, if there is too little room, how much is needed
-abbrev pub told_places : ℕ → ℕ → List Place → Told
-told_places kind room places = told (if nat_lt room (length places) then 10 else kind) (length places) 0 0
+abbrev pub places_report : ℕ → ℕ → List Place → Report
+places_report kind room places = report (if nat_lt room (length places) then 10 else kind) (length places) 0 0
 
 -- what is told of an outcome, where there is room for so many places
-abbrev pub told_outcome : ℕ → Outcome → Told
-told_outcome room (order places) = told_places 0 room places
-told_outcome room (cycle places) = told_places 7 room places
-told_outcome room (unsound f) = told_fault f
-told_outcome room (bad_line n) = told 8 n 0 0
-told_outcome room out_of_memory = told 9 0 0 0
+abbrev pub outcome_report : ℕ → Outcome → Report
+outcome_report room (order places) = places_report 0 room places
+outcome_report room (cycle places) = places_report 7 room places
+outcome_report room (unsound f) = fault_report f
+outcome_report room (bad_line n) = report 8 n 0 0
+outcome_report room out_of_memory = report 9 0 0 0
 
 -- a place in the numbers of C
 abbrev pub turn_of : Place → Turn
@@ -58,8 +58,8 @@ room_after (bad_line n) room = room
 room_after out_of_memory room = room
 
 -- what is told, and the room, are those of what becomes of the bytes
-pub record IsOrderTold (bytes : List ℕ) (old new : List Turn) (t : Told) : Type 0 where
+pub record IsOrderReported (bytes : List ℕ) (old new : List Turn) (t : Report) : Type 0 where
   pub outcome : Outcome
   pub right : IsOutcome bytes outcome
-  pub same : t ≡ told_outcome (length old) outcome
+  pub same : t ≡ outcome_report (length old) outcome
   pub room : new ≡ room_after outcome old

@@ -6,11 +6,11 @@ use Rattle.judge.specs.Merged.{IsMergedBy, HasCycleBy}
 use Rattle.judge.specs.Models.{Model, AreCounts, IsFirstFaultBy, IsMistold}
 use Rattle.custom_records.specs.Ranges.{CustomRecord}
 use Rattle.custom_records.specs.RecordFaults.{IsCustomText, IsBadCustomLine}
-use Rattle.judge.specs.Orders.{told_places, room_with}
-use Rattle.judge.specs.OwnTold.{AreFitting}
-use Rattle.judge.specs.Told.{told, told_fault}
+use Rattle.judge.specs.Orders.{places_report, room_with}
+use Rattle.judge.specs.OwnReport.{AreFitting}
+use Rattle.judge.specs.Report.{report, fault_report}
 use Rattle.judge.specs.declared.merge.Turn.{Turn}
-use Rattle.judge.specs.declared.told.Told.{Told}
+use Rattle.judge.specs.declared.report.Report.{Report}
 
 -- what becomes of a text and counts
 pub data OwnOrder : Type 0 where
@@ -36,13 +36,13 @@ IsOwnOrder bytes counts (bad_line n) = IsBadCustomLine bytes n
 IsOwnOrder bytes counts out_of_memory = Unit {0}
 
 -- what is told of an outcome, where there is room for so many places
-abbrev pub told_own_order : ℕ → OwnOrder → Told
-told_own_order room (order places) = told_places 0 room places
-told_own_order room (cycle places) = told_places 7 room places
-told_own_order room (unsound f) = told_fault f
-told_own_order room (mistold x) = told 11 x 0 0
-told_own_order room (bad_line n) = told 8 n 0 0
-told_own_order room out_of_memory = told 9 0 0 0
+abbrev pub own_order_report : ℕ → OwnOrder → Report
+own_order_report room (order places) = places_report 0 room places
+own_order_report room (cycle places) = places_report 7 room places
+own_order_report room (unsound f) = fault_report f
+own_order_report room (mistold x) = report 11 x 0 0
+own_order_report room (bad_line n) = report 8 n 0 0
+own_order_report room out_of_memory = report 9 0 0 0
 
 -- the room after an outcome
 abbrev pub own_room_after : OwnOrder → List Turn → List Turn
@@ -54,8 +54,8 @@ own_room_after (bad_line n) room = room
 own_room_after out_of_memory room = room
 
 -- what is told, and the room, are those of what becomes of the bytes and the counts
-pub record IsOwnOrderTold (bytes counts : List ℕ) (old new : List Turn) (t : Told) : Type 0 where
+pub record IsOwnOrderReported (bytes counts : List ℕ) (old new : List Turn) (t : Report) : Type 0 where
   pub outcome : OwnOrder
   pub right : IsOwnOrder bytes counts outcome
-  pub same : t ≡ told_own_order (length old) outcome
+  pub same : t ≡ own_order_report (length old) outcome
   pub room : new ≡ own_room_after outcome old

@@ -144,8 +144,8 @@ impl CustomJudge {
         requires whole { IsWholeWith self.parts.head self.parts }
         requires fit { CustomRecordFits (received_custom self.parts) }
         ensures run { IfOk result (λ r. r ≡ (received_custom self.parts).run) }
-        ensures sound { IfOk result (λ r. SoundBy (counted_model custom) (custom_terms self.counts self.parts.head.told.objects) (received_custom self.parts).run) }
-        ensures fault { IfErr result (IsFirstFaultBy (counted_model custom) (custom_terms self.counts self.parts.head.told.objects) (received_custom self.parts).run) }
+        ensures sound { IfOk result (λ r. SoundBy (counted_model custom) (custom_terms self.counts self.parts.head.so_far.objects) (received_custom self.parts).run) }
+        ensures fault { IfErr result (IsFirstFaultBy (counted_model custom) (custom_terms self.counts self.parts.head.so_far.objects) (received_custom self.parts).run) }
     {
         let CustomJudge { judged, .. } = self;
         judged.into_run()
@@ -156,11 +156,11 @@ impl RecordSink<CustomForm> for CustomJudge {
     ghost received = { λ j. j.parts };
 
     fn begin(&mut self, head: &CustomFormHead) -> Result<(), OutOfMemory> {
-        let told = &head.told;
-        let limits = limits_of(self.alloc, told.objects.as_slice())?;
-        self.judged = RunJudge::new(self.alloc, told.cpus as usize, told.objects.len())?;
+        let so_far = &head.so_far;
+        let limits = limits_of(self.alloc, so_far.objects.as_slice())?;
+        self.judged = RunJudge::new(self.alloc, so_far.cpus as usize, so_far.objects.len())?;
         self.limits = limits;
-        self.head = Past::told(&self.head, head);
+        self.head = Past::named(&self.head, head);
         Ok(())
     }
 

@@ -1,10 +1,10 @@
 //! Logs of the kernel's four kinds in records of one's own, for callers in C.
 
 ghost use Rattle.std.specs.Prelude.{◌≡◌};
-ghost use Rattle.judge.specs.KernelLogs.{IsKernelTold};
+ghost use Rattle.judge.specs.KernelLogs.{IsKernelReported};
 
-use crate::Told;
-use crate::told::OUT_OF_MEMORY;
+use crate::Report;
+use crate::report::OUT_OF_MEMORY;
 use custom_kernel::kernel_count;
 use std::alloc::Global;
 
@@ -15,17 +15,17 @@ pub const NO_MODEL: u32 = 12;
 pub const COUNTED: u32 = 13;
 
 /// What is told of the log.
-fn count_of(alloc: Global, text: &[u8], object: usize, log: usize) -> Told
-    ensures { IsKernelTold text.now object log result }
+fn count_of(alloc: Global, text: &[u8], object: usize, log: usize) -> Report
+    ensures { IsKernelReported text.now object log result }
 {
     match kernel_count(alloc, text, object, log) {
-        Ok(Some(right)) => Told::new(COUNTED, right as usize, 0, 0),
-        Ok(None) => Told::new(NO_MODEL, 0, 0, 0),
-        Err(_) => Told::new(OUT_OF_MEMORY, 0, 0, 0),
+        Ok(Some(right)) => Report::new(COUNTED, right as usize, 0, 0),
+        Ok(None) => Report::new(NO_MODEL, 0, 0, 0),
+        Err(_) => Report::new(OUT_OF_MEMORY, 0, 0, 0),
     }
 }
 
-/// Tells how many steps of the log whose head begins at the byte `log`, from the first on, are as the object answers whose line
+/// TailSpells how many steps of the log whose head begins at the byte `log`, from the first on, are as the object answers whose line
 /// begins at the byte `object`, if that is a queue, a pool, a console or a sched.
 #[unsafe(no_mangle)]
 pub extern "C" fn mc2_own_kernel(
@@ -33,9 +33,9 @@ pub extern "C" fn mc2_own_kernel(
     text: &[u8],
     object: usize,
     log: usize,
-    told: &mut Told,
+    report: &mut Report,
 )
-    ensures { IsKernelTold text.now object log told.new }
+    ensures { IsKernelReported text.now object log report.new }
 {
-    *told = count_of(alloc, text, object, log);
+    *report = count_of(alloc, text, object, log);
 }

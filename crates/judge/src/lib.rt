@@ -13,8 +13,8 @@ mod model_law;
 mod own_audit;
 mod own_line;
 mod own_merge;
-mod own_told;
-mod told;
+mod own_report;
+mod report;
 
 pub use audit::mc2_audit;
 pub use custom_judge::{CustomJudge, Mistold};
@@ -26,5 +26,5 @@ pub use model_law::some_model_has_the_counts;
 pub use own_audit::mc2_own_audit;
 pub use own_line::mc2_own_line;
 pub use own_merge::mc2_own_merge;
-pub use own_told::{LineTold, SaidTold, StepTold};
-pub use told::Told;
+pub use own_report::{LineReport, SaidReport, StepReport};
+pub use report::Report;

@@ -1,10 +1,10 @@
 //! Orders for callers in C.
 
 ghost use Rattle.std.specs.Prelude.{◌≡◌, ◌≤◌, ◌++◌, length, map, drop};
-ghost use Rattle.judge.specs.Orders.{IsOrderTold, turn_of, told_places, room_with};
+ghost use Rattle.judge.specs.Orders.{IsOrderReported, turn_of, places_report, room_with};
 
-use crate::Told;
-use crate::told::{BAD_LINE, CYCLE, NO_ROOM, OUT_OF_MEMORY, SOUND};
+use crate::Report;
+use crate::report::{BAD_LINE, CYCLE, NO_ROOM, OUT_OF_MEMORY, SOUND};
 use auditor::ReferenceKernelObject;
 use log_merge::{MergeFault, MergeJudge, Place};
 use record_lines::LinesFault;
@@ -32,41 +32,41 @@ fn put_turns(places: &[Place], room: &mut [Turn])
     }
 }
 
-/// Tells the places under that kind, if there is room for them.
-pub(crate) fn tell_turns(kind: u32, places: &[Place], room: &mut [Turn]) -> Told
-    ensures told { result ≡ told_places kind (length room.old) places.now }
+/// TailSpells the places under that kind, if there is room for them.
+pub(crate) fn report_turns(kind: u32, places: &[Place], room: &mut [Turn]) -> Report
+    ensures report { result ≡ places_report kind (length room.old) places.now }
     ensures room { room.new ≡ room_with places.now room.old }
 {
     if places.len() > room.len() {
-        return Told::new(NO_ROOM, places.len(), 0, 0);
+        return Report::new(NO_ROOM, places.len(), 0, 0);
     }
     put_turns(places, room);
-    Told::new(kind, places.len(), 0, 0)
+    Report::new(kind, places.len(), 0, 0)
 }
 
 /// What is told of the record that the bytes spell.
-fn order_of(alloc: Global, text: &[u8], room: &mut [Turn]) -> Told
-    ensures { IsOrderTold text.now room.old room.new result }
+fn order_of(alloc: Global, text: &[u8], room: &mut [Turn]) -> Report
+    ensures { IsOrderReported text.now room.old room.new result }
 {
     let judge = MergeJudge::<ReferenceKernelObject>::new(alloc);
     let read = match read_text_into(alloc, text, judge) {
         Ok(read) => read,
-        Err(LinesFault::OutOfMemory) => return Told::new(OUT_OF_MEMORY, 0, 0, 0),
-        Err(LinesFault::Line(line)) => return Told::new(BAD_LINE, line, 0, 0),
+        Err(LinesFault::OutOfMemory) => return Report::new(OUT_OF_MEMORY, 0, 0, 0),
+        Err(LinesFault::Line(line)) => return Report::new(BAD_LINE, line, 0, 0),
     };
     match read.1.into_merged() {
-        Ok(ordered) => tell_turns(SOUND, ordered.1.places.as_slice(), room),
-        Err(MergeFault::Cycle(cycle)) => tell_turns(CYCLE, cycle.as_slice(), room),
-        Err(MergeFault::Unsound(fault)) => Told::of_fault(fault),
-        Err(MergeFault::OutOfMemory) => Told::new(OUT_OF_MEMORY, 0, 0, 0),
+        Ok(ordered) => report_turns(SOUND, ordered.1.places.as_slice(), room),
+        Err(MergeFault::Cycle(cycle)) => report_turns(CYCLE, cycle.as_slice(), room),
+        Err(MergeFault::Unsound(fault)) => Report::of_fault(fault),
+        Err(MergeFault::OutOfMemory) => Report::new(OUT_OF_MEMORY, 0, 0, 0),
     }
 }
 
 /// Puts the entries of the record that the bytes spell in one order, and writes it at the front of the room; or the cycle that
 /// excludes one.
 #[unsafe(no_mangle)]
-pub extern "C" fn mc2_merge(alloc: Global, text: &[u8], room: &mut [Turn], told: &mut Told)
-    ensures { IsOrderTold text.now room.old room.new told.new }
+pub extern "C" fn mc2_merge(alloc: Global, text: &[u8], room: &mut [Turn], report: &mut Report)
+    ensures { IsOrderReported text.now room.old room.new report.new }
 {
-    *told = order_of(alloc, text, room);
+    *report = order_of(alloc, text, room);
 }

@@ -2,13 +2,13 @@
 
 ghost use Rattle.std.specs.Prelude.{◌≡◌, ◌≤◌, length, None, IfSome, IfNone};
 ghost use Rattle.std.specs.Option.{option_map};
-ghost use Rattle.judge.specs.OwnLines.{IsLineAt, IsLineTold, any_log_at, told_object, told_log, told_event, told_words};
+ghost use Rattle.judge.specs.OwnLines.{IsLineAt, IsLineReported, any_log_at, object_report, log_report, event_report, words_report};
 ghost use Rattle.custom_records.specs.LineReading.{any_head, custom_object_at, custom_event_at};
 ghost use Rattle.record_lines.specs.Reading.{left, words};
 ghost use Rattle.record_lines.specs.LineParts.{name_word_at};
 
-use crate::LineTold;
-use crate::own_told::{put_numbers, put_steps};
+use crate::LineReport;
+use crate::own_report::{put_numbers, put_steps};
 use custom_records::{
     CustomHead, CustomName, CustomObject, CustomSettings, Spoken, event_line, is_number_next,
     log_line, object_line,
@@ -80,84 +80,84 @@ fn head_of_any(alloc: Global) -> CustomHead
     }
 }
 
-fn tell_object(object: &CustomSettings, told: &mut LineTold)
-    ensures { told.new ≡ told_object told.old object.now }
+fn report_object(object: &CustomSettings, report: &mut LineReport)
+    ensures { report.new ≡ object_report report.old object.now }
 {
-    told.kind = OBJECT_LINE;
-    told.limit = u64::from(object.events);
-    told.count = object.numbers.len() as u64;
-    told.name = Spoken::of_word(object.name.as_str().as_bytes()).letters();
-    told.object_kind = Spoken::of_word(object.kind.as_str().as_bytes()).letters();
-    put_numbers(object.numbers.as_slice(), &mut told.numbers);
+    report.kind = OBJECT_LINE;
+    report.limit = u64::from(object.events);
+    report.count = object.numbers.len() as u64;
+    report.name = Spoken::of_word(object.name.as_str().as_bytes()).letters();
+    report.object_kind = Spoken::of_word(object.kind.as_str().as_bytes()).letters();
+    put_numbers(object.numbers.as_slice(), &mut report.numbers);
 }
 
-fn tell_log(name: &[u8], count: u32, told: &mut LineTold)
+fn report_log(name: &[u8], count: u32, report: &mut LineReport)
     requires { length name.now ≤ 16 }
-    ensures { told.new ≡ told_log told.old (name.now, count) }
+    ensures { report.new ≡ log_report report.old (name.now, count) }
 {
-    told.kind = LOG_LINE;
-    told.limit = u64::from(count);
-    told.name = Spoken::of_word(name).letters();
+    report.kind = LOG_LINE;
+    report.limit = u64::from(count);
+    report.name = Spoken::of_word(name).letters();
 }
 
-fn tell_event(event: &Event<CustomObject>, told: &mut LineTold)
-    ensures { told.new ≡ told_event told.old event.now }
+fn report_event(event: &Event<CustomObject>, report: &mut LineReport)
+    ensures { report.new ≡ event_report report.old event.now }
 {
-    told.kind = EVENT_LINE;
-    told.cpu = u32::from(event.cpu);
-    told.count = event.steps.list.len() as u64;
-    put_steps(event.steps.list.as_slice(), &mut told.steps);
+    report.kind = EVENT_LINE;
+    report.cpu = u32::from(event.cpu);
+    report.count = event.steps.list.len() as u64;
+    put_steps(event.steps.list.as_slice(), &mut report.steps);
 }
 
-/// Tells what the line is, which is an event's or another.
-fn tell_event_or_other(alloc: Global, line: &[u8], told: &mut LineTold)
-    ensures { told.new ≡ told_words told.old None None (custom_event_at any_head (words line.now)) }
+/// TailSpells what the line is, which is an event's or another.
+fn report_event_or_other(alloc: Global, line: &[u8], report: &mut LineReport)
+    ensures { report.new ≡ words_report report.old None None (custom_event_at any_head (words line.now)) }
 {
     let mut event = Event {
         cpu: 0,
         steps: Steps::default(),
     };
     match event_line(&head_of_any(alloc), line, &mut event) {
-        Some(_) => tell_event(&event, told),
-        None => told.kind = OTHER_LINE,
+        Some(_) => report_event(&event, report),
+        None => report.kind = OTHER_LINE,
     }
 }
 
-/// Tells what the line is, whichever it is.
+/// TailSpells what the line is, whichever it is.
 #[inline(never)]
-fn tell_any(alloc: Global, line: &[u8], told: &mut LineTold)
-    ensures { told.new ≡ told_words told.old (custom_object_at (words line.now)) (any_log_at (words line.now)) (custom_event_at any_head (words line.now)) }
+fn report_any(alloc: Global, line: &[u8], report: &mut LineReport)
+    ensures { report.new ≡ words_report report.old (custom_object_at (words line.now)) (any_log_at (words line.now)) (custom_event_at any_head (words line.now)) }
 {
     if let Some(object) = object_line(line) {
-        return tell_object(&object, told);
+        return report_object(&object, report);
     }
     if let Some((name, count)) = any_log(line) {
-        return tell_log(name.as_str().as_bytes(), count, told);
+        return report_log(name.as_str().as_bytes(), count, report);
     }
-    tell_event_or_other(alloc, line, told)
+    report_event_or_other(alloc, line, report)
 }
 
-/// Tells what the line is.
-fn tell_line(alloc: Global, line: &[u8], told: &mut LineTold)
-    ensures { told.new ≡ told_words told.old (custom_object_at (words line.now)) (any_log_at (words line.now)) (custom_event_at any_head (words line.now)) }
+/// TailSpells what the line is.
+fn report_line(alloc: Global, line: &[u8], report: &mut LineReport)
+    ensures { report.new ≡ words_report report.old (custom_object_at (words line.now)) (any_log_at (words line.now)) (custom_event_at any_head (words line.now)) }
 {
     // Most lines are events, and no other begins with a digit.
     if is_number_next(Some(line)) {
-        return tell_event_or_other(alloc, line, told);
+        return report_event_or_other(alloc, line, report);
     }
-    tell_any(alloc, line, told)
+    report_any(alloc, line, report)
 }
 
-/// Tells what the line is that begins at that byte of the text, and where the one behind it begins.
+/// TailSpells what the line is that begins at that byte of the text, and where the one behind it begins.
 #[unsafe(no_mangle)]
-pub extern "C" fn mc2_own_line(alloc: Global, text: &[u8], at: usize, told: &mut LineTold)
-    ensures { IsLineTold text.now at told.old told.new }
+pub extern "C" fn mc2_own_line(alloc: Global, text: &[u8], at: usize, report: &mut LineReport)
+    ensures { IsLineReported text.now at report.old report.new }
 {
     match line_from(text, at) {
-        None => told.kind = NO_LINE,
+        None => report.kind = NO_LINE,
         Some(line) => {
-            told.next = (at + line.len() + 1) as u64;
-            tell_line(alloc, line, told);
+            report.next = (at + line.len() + 1) as u64;
+            report_line(alloc, line, report);
         }
     }
 }

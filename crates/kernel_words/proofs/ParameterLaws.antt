@@ -8,9 +8,9 @@ use Rattle.kernel_object.specs.Kinds.All.{definition_of, all_kinds, params_kind,
 use Rattle.kernel_object.specs.KindWords.{kind_word, kind_among, kind_of}
 use Rattle.kernel_object.proofs.KindLaws.{same_params, of_any, by_kind_is, on_own, kind_again}
 use Rattle.kernel_words.specs.declared.form.Form.{Form}
-use Rattle.kernel_words.specs.Forms.{TellsParams}
+use Rattle.kernel_words.specs.Forms.{ExpressesParams}
 use Rattle.kernel_words.specs.Kinds.All.{text_of}
-use Rattle.kernel_words.specs.Kinds.Definition.{Tells}
+use Rattle.kernel_words.specs.Kinds.Definition.{Expresses}
 use Rattle.kernel_words.specs.Parameters.{params_words}
 use Rattle.record_lines.specs.Reading.{◌>>=◌, word_at}
 use Rattle.kernel_words.specs.ParameterReading.{kind_behind, params_behind, params_at}
@@ -54,7 +54,7 @@ words_are form p = on_own (λ k own. kind_word k ∷ (text_of k).params_words fo
 pub record IsParams (form : Form) (ws : List (List ℕ)) (read : KParams × List (List ℕ)) : Type 0 where
   pub text : ws ≡ params_words form read.0 ++ read.1
   pub fits : kernel_in_range read.0 ≡ true
-  pub told : TellsParams form read.0
+  pub expressed : ExpressesParams form read.0
 
 behind_takes : (form : Form) (k : Kind) (ws : List (List ℕ)) (read : KParams × List (List ℕ)) → params_behind form k ws ≡ Some read → IsParams form (kind_word k ∷ ws) read
 unfolding params_behind
@@ -64,7 +64,7 @@ behind_takes form k ws read e = bind_some ((text_of k).params_at form ws) _ read
     subst (IsParams form (kind_word k ∷ ws)) is (record {
       text = of_any (λ j q. kind_word k ∷ ws ≡ kind_word j ∷ (text_of j).params_words form q ++ p.1) k p.0 (ap (λ l. kind_word k ∷ l) reads.text) ∙ ap (λ l. l ++ p.1) (sym (words_are form (params_of k p.0)));
       fits = range_of k p.0 reads.fits;
-      told = of_any (λ j q. Tells (text_of j) form q) k p.0 reads.told;
+      expressed = of_any (λ j q. Expresses (text_of j) form q) k p.0 reads.expressed;
     }))
 
 -- what is read is what the words spell
@@ -74,15 +74,15 @@ params_take form [] read e = absurd cc
 params_take form (w ∷ ws) read e = bind_some (kind_of w) _ read e (λ k found next. subst (λ v. IsParams form (v ∷ ws) read) (sym (kind_takes w k found)) (behind_takes form k ws read next))
 
 -- what is spelled is read again
-pub params_again : (form : Form) (p : KParams) (rest : List (List ℕ)) → kernel_in_range p ≡ true → TellsParams form p → params_at form (params_words form p ++ rest) ≡ Some (p, rest)
+pub params_again : (form : Form) (p : KParams) (rest : List (List ℕ)) → kernel_in_range p ≡ true → ExpressesParams form p → params_at form (params_words form p ++ rest) ≡ Some (p, rest)
 unfolding params_at params_behind word_at
-params_again form p rest fits told =
+params_again form p rest fits expressed =
     let k = params_kind p in
     let own = (text_of k).params_words form (own_params p) ++ rest in
     ap (λ ws. params_at form (ws ++ rest)) (words_are form p)
     ∙ (ap (λ o. o >>= λ kind. params_behind form kind own) (kind_again k)
     ∙ (by_kind_is (kind_behind form own) k
-    ∙ (ap (λ o. o >>= λ q. Some (params_of k q.0, q.1)) ((laws_of k).again form (own_params p) rest (own_fits p fits) told)
+    ∙ (ap (λ o. o >>= λ q. Some (params_of k q.0, q.1)) ((laws_of k).again form (own_params p) rest (own_fits p fits) expressed)
     ∙ ap (λ (q : KParams). Some (q, rest)) (same_params p))))
 
 -- neither a line end nor a space is in them

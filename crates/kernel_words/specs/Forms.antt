@@ -10,7 +10,7 @@ use Rattle.kernel_object.specs.KernelTypes.{KernelStep, KernelDone}
 use Rattle.kernel_words.specs.declared.form.Form.{Form}
 use Rattle.kernel_words.specs.declared.form.Form.TheVariants.{One, Two}
 use Rattle.kernel_words.specs.declared.form.TheConstants.{FIRST_MOST_CPUS}
-use Rattle.kernel_words.specs.Kinds.Definition.{Tells}
+use Rattle.kernel_words.specs.Kinds.Definition.{Expresses}
 use Rattle.kernel_words.specs.Kinds.All.{text_of}
 use Rattle.kernel_words.specs.Ranges.{steps_answer}
 
@@ -25,8 +25,8 @@ most_cpus One = FIRST_MOST_CPUS
 most_cpus Two = MOST_CPUS
 
 -- the form tells these parameters
-abbrev pub TellsParams : Form → KParams → Type 0
-TellsParams form p = Tells (text_of (params_kind p)) form (own_params p)
+abbrev pub ExpressesParams : Form → KParams → Type 0
+ExpressesParams form p = Expresses (text_of (params_kind p)) form (own_params p)
 
 -- the form has a word for the reply
 abbrev pub has_reply : Form → KReply → Bool

@@ -68,7 +68,7 @@ impl<J: ReferenceObject<KernelObject>> MergeJudge<J> {
         requires fit { RecordFits (received_record self) }
         ensures unsound { (f : Fault) → result ≡ Err (MergeFault.Unsound f) →
             IsFirstFault ⟦<KernelObject as SeqObject>⟧ (opened_of (settings_in self.head)) (received_record self).run f }
-        ensures told { (f : Fault) → result ≡ Err (MergeFault.Unsound f) → IsNamed (settings_in self.head) f }
+        ensures reported { (f : Fault) → result ≡ Err (MergeFault.Unsound f) → IsNamed (settings_in self.head) f }
         ensures run { IfOk result (λ r. r.0 ≡ (received_record self).run) }
         ensures order { IfOk result (λ r. IsMerged ⟦<KernelObject as SeqObject>⟧ (opened_of (settings_in self.head)) (received_record self).run r.1.places) }
         ensures cycle { (c : List Place) → result ≡ Err (MergeFault.Cycle c) →

@@ -51,7 +51,7 @@ impl From<OutOfMemory> for MergeFault {
 pub fn merge(alloc: Global, record: &Record) -> Result<Merged, MergeFault>
     ensures unsound { (f : Fault) → result ≡ Err (MergeFault.Unsound f) →
         IsFirstFault ⟦<KernelObject as SeqObject>⟧ (opened_of «record».now.settings) «record».now.run f }
-    ensures told { (f : Fault) → result ≡ Err (MergeFault.Unsound f) → IsNamed «record».now.settings f }
+    ensures reported { (f : Fault) → result ≡ Err (MergeFault.Unsound f) → IsNamed «record».now.settings f }
     ensures order { IfOk result (λ m. IsMerged ⟦<KernelObject as SeqObject>⟧ (opened_of «record».now.settings) «record».now.run m.places) }
     ensures cycle { (c : List Place) → result ≡ Err (MergeFault.Cycle c) →
         HasCycle ⟦<KernelObject as SeqObject>⟧ (opened_of «record».now.settings) «record».now.run c }

@@ -21,7 +21,7 @@ use Rattle.mc2_command.specs.declared.fault.CommandFault.{CommandFault}
 use Rattle.mc2_command.specs.declared.fault.CommandFault.TheVariants as fault
 use Rattle.mc2_command.specs.Answers.{AnswersFor, AnswersWith, FindsNoOrder, RefusesCycle, RefusesUnsound}
 use Rattle.mc2_command.specs.Asked.{Asks}
-use Rattle.mc2_command.specs.Faults.{status_of, tells_read_failed}
+use Rattle.mc2_command.specs.Faults.{status_of, reports_read_failed}
 use Rattle.mc2_command.specs.Refused.{IsNoOrder, Refuses, RefusesMerge, RefusesOrder, RefusesTo}
 
 -- a text that goes with what the words ask for goes with the words
@@ -89,7 +89,7 @@ pub no_write_two : (f : CommandFault) (status : ℕ) → status ≡ status_of f 
 no_write_two f status is failed two = let three : status_of f ≡ 3 = ap status_of failed in absurd (omega (arith, is, three, two))
 
 -- a status below 3 says that no read failed
-pub none_failed : (f : CommandFault) (status old new : ℕ) → status ≡ status_of f → new ≡ counted (tells_read_failed {X = ℕ} (Err f)) old → status ≤ 2 → new ≡ old
+pub none_failed : (f : CommandFault) (status old new : ℕ) → status ≡ status_of f → new ≡ counted (reports_read_failed {X = ℕ} (Err f)) old → status ≤ 2 → new ≡ old
 none_failed (fault.Common cause) status old new is count few = causes.none_failed cause status old new is count few
 none_failed (fault.NoThreadStarted cpu) status old new is count few = count
 none_failed (fault.Unsound text) status old new is count few = count

@@ -23,7 +23,7 @@ status_of (fault.Unsound text) = 1
 status_of (fault.Cycle text) = 1
 
 -- the refusal says that an opening or a read failed
-abbrev pub tells_read_failed : {X : Type 0} → Result X CommandFault → Bool
-tells_read_failed (Ok x) = false
-tells_read_failed (Err (fault.Common cause)) = common.tells_read_failed cause
-tells_read_failed (Err _) = false
+abbrev pub reports_read_failed : {X : Type 0} → Result X CommandFault → Bool
+reports_read_failed (Ok x) = false
+reports_read_failed (Err (fault.Common cause)) = common.reports_read_failed cause
+reports_read_failed (Err _) = false

@@ -11,7 +11,7 @@ ghost use Rattle.mc2_command.specs.Answers.{AnswersRun, AnswersSim, AnswersRepor
 ghost use Rattle.event_log.specs.Stream.{counted};
 ghost use Rattle.program.specs.Inputs.{bytes_of, says_read_failed};
 ghost use Rattle.program.specs.Texts.{RefusesRecord, SpellsRecordOf};
-ghost use Rattle.mc2_command.specs.Faults.{tells_read_failed};
+ghost use Rattle.mc2_command.specs.Faults.{reports_read_failed};
 ghost use Rattle.mc2_command.specs.Refused.{IsCommon, IsNoOrder, RefusesMerge, RefusesRun, RefusesSim};
 
 use crate::fault::CommandFault;
@@ -39,7 +39,7 @@ pub fn run_answer<R: Threads + Wait + Sync, I: Inputs>(
 ) -> Result<Record, CommandFault>
     ensures answer { IfOk result (AnswersRun (I.held inputs.old) (bytes_of settings.entry) (bytes_of scripts.entry)) }
     ensures refused { IfErr result (RefusesRun (I.held inputs.old) (bytes_of settings.entry) (bytes_of scripts.entry)) }
-    ensures failures { I.failed inputs.new ≡ counted (tells_read_failed result) (I.failed inputs.old) }
+    ensures failures { I.failed inputs.new ≡ counted (reports_read_failed result) (I.failed inputs.old) }
 {
     let settings = settings_of(alloc, inputs, settings)?;
     let scripts = read_scripts(alloc, inputs, scripts, &settings)?;
@@ -58,7 +58,7 @@ pub fn sim_answer<I: Inputs>(
 ) -> Result<Record, CommandFault>
     ensures answer { IfOk result (AnswersSim (I.held inputs.old) settings.now scripts.now schedule.now) }
     ensures refused { IfErr result (RefusesSim (I.held inputs.old) settings.now scripts.now schedule.now) }
-    ensures failures { I.failed inputs.new ≡ counted (tells_read_failed result) (I.failed inputs.old) }
+    ensures failures { I.failed inputs.new ≡ counted (reports_read_failed result) (I.failed inputs.old) }
 {
     let settings = read_settings(alloc, inputs, settings)?;
     let scripts = read_scripts(alloc, inputs, Some(scripts), &settings)?;
@@ -141,7 +141,7 @@ pub fn merge_answer<I: Inputs>(
 ) -> Result<OrderedRecord, CommandFault>
     ensures answer { IfOk result (λ a. AnswersMerge (I.held inputs.old) (bytes_of «record».entry) a.of a.places) }
     ensures refused { IfErr result (RefusesMerge (I.held inputs.old) (bytes_of «record».entry)) }
-    ensures failures { I.failed inputs.new ≡ counted (tells_read_failed result) (I.failed inputs.old) }
+    ensures failures { I.failed inputs.new ≡ counted (reports_read_failed result) (I.failed inputs.old) }
 {
     let judge = MergeJudge::<ReferenceKernelObject>::new(alloc);
     let (settings, judge) = read_record_into(alloc, inputs, record, judge)?;

@@ -5,7 +5,7 @@ ghost use Rattle.std.specs.Io.KnownBytes.{Appends};
 ghost use Rattle.event_log.specs.Stream.{counted};
 ghost use Rattle.mc2_command.specs.Answers.{Answers, AnswersAny, AnswersFor, AnswersWith, Finds, FindsNoOrder};
 ghost use Rattle.mc2_command.specs.Printed.{printed, status_with};
-ghost use Rattle.mc2_command.specs.Faults.{status_of, tells_read_failed};
+ghost use Rattle.mc2_command.specs.Faults.{status_of, reports_read_failed};
 ghost use Rattle.mc2_command.specs.Refused.{Refuses, RefusesTo, RefusesWith};
 ghost use Rattle.program.specs.Printing.{Prints, PrintsSome};
 ghost use Rattle.record_lines.specs.Output.{AppendsBeginning};
@@ -84,7 +84,7 @@ fn answer_to<R: Threads + Wait + Sync, I: Inputs>(
 ) -> Result<Answer, CommandFault>
     ensures answer { IfOk result (λ a. AnswersFor (I.held inputs.old) arguments.entry (status_with a) (printed a)) }
     ensures refused { IfErr result (RefusesTo (I.held inputs.old) arguments.entry) }
-    ensures failures { I.failed inputs.new ≡ counted (tells_read_failed result) (I.failed inputs.old) }
+    ensures failures { I.failed inputs.new ≡ counted (reports_read_failed result) (I.failed inputs.old) }
 {
     match arguments {
         Arguments::Run { settings, scripts } => {
@@ -127,7 +127,7 @@ fn answered<R: Threads + Wait + Sync, I: Inputs>(
 ) -> Result<Answer, CommandFault>
     ensures answer { IfOk result (λ a. AnswersWith (I.held inputs.old) words.now (status_with a) (printed a)) }
     ensures refused { IfErr result (Refuses (I.held inputs.old) words.now) }
-    ensures failures { I.failed inputs.new ≡ counted (tells_read_failed result) (I.failed inputs.old) }
+    ensures failures { I.failed inputs.new ≡ counted (reports_read_failed result) (I.failed inputs.old) }
 {
     let arguments = read_words(alloc, words)?;
     answer_to(rt, alloc, arguments, inputs)
@@ -158,7 +158,7 @@ fn perform<R: Threads + Wait + Sync, I: Inputs, W: Sink>(
 ) -> Result<u8, CommandFault>
     ensures done { IfOk result (λ status. Prints (AnswersWith (I.held inputs.old) words.now status) (W.contents out.old) (W.contents out.new)) }
     ensures none_failed { OnOk result (W.failed out.new ≡ W.failed out.old) }
-    ensures failures { I.failed inputs.new ≡ counted (tells_read_failed result) (I.failed inputs.old) }
+    ensures failures { I.failed inputs.new ≡ counted (reports_read_failed result) (I.failed inputs.old) }
     ensures refused { IfErr result (λ f. (Refuses (I.held inputs.old) words.now f × (out.new ≡ out.old))
         ⊎ ((f ≡ CommandFault.Common Refusal.WriteFailed) × PrintsSome (AnswersAny (I.held inputs.old) words.now) (W.contents out.old) (W.contents out.new) × (W.failed out.new ≡ counted true (W.failed out.old)))) }
 {

@@ -6,7 +6,7 @@ mod arguments;
 mod commands;
 mod fault;
 mod input;
-mod law;
+mod sim_laws;
 mod table;
 
 pub use answers::{
@@ -15,4 +15,4 @@ pub use answers::{
 pub use arguments::{Arguments, read_words};
 pub use commands::{command, refuse};
 pub use fault::CommandFault;
-pub use law::{forms_are_asked, simulations_have_no_cycle};
+pub use sim_laws::{forms_are_asked, simulations_have_no_cycle};

@@ -103,12 +103,12 @@ module _ {O P C R : Type 0} where
   pub first_moved : (q : Stage) (log : List (Event O P C R)) (run : List (TraceStep (Event O P C R))) (m w m1 m2 m' : Seat O P C R) → m.0.others ≡ [] → m1 ≡ (taken_in m.0 w.0, m.1) → m2 ≡ (moved_on m1.0 q log run, m1.1) → m' ≡ (keeping m2.0, m2.1) → m' ≡ (moved_on m.0 q log run, m.1)
   first_moved q log run m w m1 m2 m' alone e e' f =
       let both : m2 ≡ (moved_on (taken_in m.0 w.0) q log run, m.1) = e' ∙ (λ i. (moved_on (e i).0 q log run, (e i).1)) in
-      f ∙ ((λ i. (keeping (both i).0, (both i).1)) ∙ (λ i. (record { told = m.0.told; main = shown log run (at q m.0.main); others = sym alone i }, m.1)))
+      f ∙ ((λ i. (keeping (both i).0, (both i).1)) ∙ (λ i. (record { reported = m.0.reported; main = shown log run (at q m.0.main); others = sym alone i }, m.1)))
 
-  pub second_same : (q : Stage) (log : List (Event O P C R)) (run : List (TraceStep (Event O P C R))) (m w m1 m2 w' : Seat O P C R) → w.0.others ≡ [] → w.1 ≡ [] → w.0.told ≡ m.0.told → m1 ≡ (taken_in m.0 w.0, m.1) → m2 ≡ (moved_on m1.0 q log run, m1.1) → w' ≡ (letting m2.0, []) → w' ≡ w
-  second_same q log run m w m1 m2 w' alone empty told e e' f =
+  pub second_same : (q : Stage) (log : List (Event O P C R)) (run : List (TraceStep (Event O P C R))) (m w m1 m2 w' : Seat O P C R) → w.0.others ≡ [] → w.1 ≡ [] → w.0.reported ≡ m.0.reported → m1 ≡ (taken_in m.0 w.0, m.1) → m2 ≡ (moved_on m1.0 q log run, m1.1) → w' ≡ (letting m2.0, []) → w' ≡ w
+  second_same q log run m w m1 m2 w' alone empty reported e e' f =
       let both : m2 ≡ (moved_on (taken_in m.0 w.0) q log run, m.1) = e' ∙ (λ i. (moved_on (e i).0 q log run, (e i).1)) in
-      f ∙ ((λ i. (letting (both i).0, [])) ∙ (λ i. (record { told = sym told i; main = w.0.main; others = sym alone i }, sym empty i)))
+      f ∙ ((λ i. (letting (both i).0, [])) ∙ (λ i. (record { reported = sym reported i; main = w.0.main; others = sym alone i }, sym empty i)))
 
   -- and what the first learned there
   pub first_goes : (meaning : Ghosts O P C R) (q : Stage) (done : List StepDone) (m w m1 m2 m' : Seat O P C R) → m.0.others ≡ [] → m1 ≡ (taken_in m.0 w.0, m.1) → Goes meaning q done m1 m2 → m' ≡ (keeping m2.0, m2.1) → Goes meaning q done m m'

@@ -41,10 +41,10 @@ module _ {E C : Type 0} (cpu : E → ℕ) (calls_in : E → List C) where
   own_count k past since log calls whole mine =
       let is_own : E → Bool = λ e. cpu e == k in
       let parts : length (filter is_own log) ≡ length (filter is_own past) + length (filter is_own since) = ap (λ l. length (filter is_own l)) whole ∙ (ap length (filter-append is_own past since) ∙ length-append (filter is_own past) (filter is_own since)) in
-      let told : length (filter is_own log) ≡ length (filter is_own past) + length calls =
+      let reported : length (filter is_own log) ≡ length (filter is_own past) + length calls =
       sym (length-map (filter is_own log) calls_in) ∙ (ap length mine ∙ (length-append (map calls_in (filter is_own past)) (map (λ c. c ∷ []) calls)
       ∙ (λ i. length-map (filter is_own past) calls_in i + length-map calls (λ (c : C). c ∷ []) i))) in
-      omega (arith, parts, told)
+      omega (arith, parts, reported)
 
   -- what two CPUs have added so
   added_by_two : (past since log : List E) (zeros ones : List C) → log ≡ past ++ since → AllByRecursion (λ e. cpu e < 2) since

@@ -3,14 +3,14 @@
 #![tactic(auto)]
 
 mod calls;
-mod ends;
+mod closing;
 mod holds;
 mod logs;
 mod queues;
 mod tickets;
 
 pub use calls::{call_behind_both, call_on_both, eight_calls};
-pub use ends::end_of_two;
+pub use closing::end_of_two;
 pub use holds::{last_turn, turn_at_both, turn_if_free};
 pub use logs::count_events;
 pub use queues::{call_and_leave, look_once, pass_on_both, queue_up};

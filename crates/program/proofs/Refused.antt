@@ -2,7 +2,7 @@
 use Rattle.std.proofs.Common.{◌≡◌, ◌≤◌, ℕ, Result, Ok, Err, IfErr, sym, subst, arith}
 use Rattle.std.specs.Result.{IsErrAnd}
 use Rattle.event_log.specs.Stream.{counted}
-use Rattle.program.specs.Refusals.{status_of, tells_read_failed}
+use Rattle.program.specs.Refusals.{status_of, reports_read_failed}
 use Rattle.program.specs.declared.refusal.Refusal.{Refusal}
 use Rattle.program.specs.declared.refusal.Refusal.TheVariants as refusal
 
@@ -28,7 +28,7 @@ not_one refusal.WriteFailed one = omega arith
 not_one refusal.BadWords one = omega arith
 
 -- a status below 3 says that no read failed
-pub none_failed : (cause : Refusal) (status old new : ℕ) → status ≡ status_of cause → new ≡ counted (tells_read_failed cause) old → status ≤ 2 → new ≡ old
+pub none_failed : (cause : Refusal) (status old new : ℕ) → status ≡ status_of cause → new ≡ counted (reports_read_failed cause) old → status ≤ 2 → new ≡ old
 none_failed refusal.OutOfMemory status old new is count few = count
 none_failed (refusal.BadSettings bad) status old new is count few = count
 none_failed (refusal.BadScripts n) status old new is count few = count

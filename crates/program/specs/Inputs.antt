@@ -2,7 +2,7 @@
 use Rattle.std.specs.Prelude.{◌≡◌, ◌+◌, ◌-◌, ◌^◌, ◌==◌, ℕ, min, Bool, true, false, cond, List, Option, Some, Result, Ok, Err}
 use Rattle.std.specs.Borrow.{Bor}
 use Rattle.std.specs.Option.{option_map}
-use Rattle.program.specs.Refusals.{tells_read_failed}
+use Rattle.program.specs.Refusals.{reports_read_failed}
 use Rattle.program.specs.declared.refusal.Refusal.{Refusal}
 
 -- the bytes of a name, if there is one
@@ -25,4 +25,4 @@ counted_all calls n = cond (calls == 0) n (min (n + calls) (2 ^ 64 - 1))
 -- the refusal says that an opening or a read failed
 abbrev pub says_read_failed : {X : Type 0} → Result X Refusal → Bool
 says_read_failed (Ok x) = false
-says_read_failed (Err cause) = tells_read_failed cause
+says_read_failed (Err cause) = reports_read_failed cause

@@ -51,6 +51,6 @@ status_of refusal.WriteFailed = 3
 status_of refusal.BadWords = 2
 
 -- the refusal reports that an opening or a read failed
-abbrev pub tells_read_failed : Refusal → Bool
-tells_read_failed refusal.ReadFailed = true
-tells_read_failed _ = false
+abbrev pub reports_read_failed : Refusal → Bool
+reports_read_failed refusal.ReadFailed = true
+reports_read_failed _ = false

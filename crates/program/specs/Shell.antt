@@ -16,4 +16,4 @@ IsOfWords _ = ⊥
 
 -- the refusal of words that aren't known may have that status
 abbrev pub ByRefusal : {D A L : Type 0} → Once D (Refusal × A) (ℕ × L) → D → ℕ → Type 0
-ByRefusal {D} {A} {L} calls refuse status = (told : Refusal) × IsOfWords told × (faults : A) × (left : L) × FnOnceReturns calls refuse (told, faults) (status, left)
+ByRefusal {D} {A} {L} calls refuse status = (reported : Refusal) × IsOfWords reported × (faults : A) × (left : L) × FnOnceReturns calls refuse (reported, faults) (status, left)

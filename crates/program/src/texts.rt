@@ -51,8 +51,8 @@ pub fn read_settings<I: Inputs>(
     match settings {
         Ok(settings) => Ok(settings),
         Err(SourceFault::ReadFailed) => Err(Refusal::ReadFailed),
-        Err(SourceFault::Told(SettingsFault::OutOfMemory)) => Err(Refusal::OutOfMemory),
-        Err(SourceFault::Told(SettingsFault::Refused(bad))) => Err(Refusal::BadSettings(bad)),
+        Err(SourceFault::Reported(SettingsFault::OutOfMemory)) => Err(Refusal::OutOfMemory),
+        Err(SourceFault::Reported(SettingsFault::Refused(bad))) => Err(Refusal::BadSettings(bad)),
     }
 }
 
@@ -95,7 +95,7 @@ pub fn read_schedule<I: Inputs>(
     match schedule {
         Ok(schedule) => Ok(schedule),
         Err(SourceFault::ReadFailed) => Err(Refusal::ReadFailed),
-        Err(SourceFault::Told(fault)) => Err(Refusal::from(fault)),
+        Err(SourceFault::Reported(fault)) => Err(Refusal::from(fault)),
     }
 }
 

@@ -13,5 +13,5 @@ module _ {S H E T : Type 0} (f : Ghosts S H E T) (at : ReaderPlace H) (p : Recei
   known_bound object law = let h = here f at p Entry is agree in subst (λ (x : H). object < f.objects x) (sym h.1.head) (law h.0.0.head)
 
   -- the sink's head is the reader's
-  pub told_here : (object looks : ℕ) (tail : List ℕ) (e : T) → f.Tells p.head object looks tail e → f.Tells at.head object looks tail e
-  told_here object looks tail e told = let h = here f at p Entry is agree in subst (λ (x : H). f.Tells x object looks tail e) h.1.head told
+  pub spelled_here : (object looks : ℕ) (tail : List ℕ) (e : T) → f.TailSpells p.head object looks tail e → f.TailSpells at.head object looks tail e
+  spelled_here object looks tail e reported = let h = here f at p Entry is agree in subst (λ (x : H). f.TailSpells x object looks tail e) h.1.head reported

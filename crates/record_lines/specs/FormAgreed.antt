@@ -13,7 +13,7 @@ module _ {H E T : Type 0} where
   shown at p = record { awaits = at.awaits; head = at.head; count = at.count; logs = p.logs; events = p.events; transcripts = p.transcripts; entries = p.entries }
 
   -- the sink was told the head, whether a log or a transcript is being read, and how many items its head told
-  pub record IsTold (within : Bool) (at : ReaderPlace H) (p : Received H E T) : Type 0 where
+  pub record IsReceived (within : Bool) (at : ReaderPlace H) (p : Received H E T) : Type 0 where
     pub head : p.head ≡ at.head
     pub begun : p.begun ≡ within
     pub count : p.count ≡ at.count
@@ -27,15 +27,15 @@ module _ {H E T : Type 0} where
 
 module _ {S H E T : Type 0} (f : Ghosts S H E T) where
   -- where the head isn't whole it was handed over nothing
-  abbrev pub IsToldAt : Next → ReaderPlace H → Received H E T → Type 0
-  IsToldAt Head at p = p ≡ only_head f.no_head
-  IsToldAt Log at p = IsTold false at p
-  IsToldAt Event at p = IsTold true at p
-  IsToldAt Cpu at p = IsTold false at p
-  IsToldAt Entry at p = IsTold true at p
-  IsToldAt End at p = IsTold false at p
-  IsToldAt Done at p = IsTold false at p
+  abbrev pub IsReceivedAt : Next → ReaderPlace H → Received H E T → Type 0
+  IsReceivedAt Head at p = p ≡ only_head f.no_head
+  IsReceivedAt Log at p = IsReceived false at p
+  IsReceivedAt Event at p = IsReceived true at p
+  IsReceivedAt Cpu at p = IsReceived false at p
+  IsReceivedAt Entry at p = IsReceived true at p
+  IsReceivedAt End at p = IsReceived false at p
+  IsReceivedAt Done at p = IsReceived false at p
 
   -- what was read is within all limits, and the reader and its sink agree on it
   abbrev pub Agree : ReaderPlace H → Received H E T → Type 0
-  Agree at p = FitsAt f at.awaits (shown at p) × IsToldAt at.awaits at p × IsCounted at p
+  Agree at p = FitsAt f at.awaits (shown at p) × IsReceivedAt at.awaits at p × IsCounted at p

@@ -55,7 +55,7 @@ module _ {H E T : Type 0} where
 
   -- that head was told, and all that was begun is whole
   pub record IsWholeWith (h : H) (p : Received H E T) : Type 0 where
-    pub told : p.head ≡ h
+    pub reported : p.head ≡ h
     pub begun : p.begun ≡ false
     pub events : p.events ≡ []
     pub entries : p.entries ≡ []

@@ -14,4 +14,4 @@ of_lines (lines.Line n) = text.BadLine n
 -- the same refusal of a source whose lines are read
 abbrev pub of_source : SourceFault LinesFault → TextFault
 of_source source.ReadFailed = text.ReadFailed
-of_source (source.Told fault) = of_lines fault
+of_source (source.Reported fault) = of_lines fault

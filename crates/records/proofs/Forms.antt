@@ -6,7 +6,7 @@ use Rattle.kernel_object.specs.KernelTypes.{KernelStep, KernelDone, KernelEvent,
 use Rattle.kernel_words.specs.declared.form.Form.{Form}
 use Rattle.kernel_words.specs.declared.form.Form.TheVariants.{One, Two}
 use Rattle.kernel_words.specs.declared.form.TheConstants.{WRITTEN}
-use Rattle.kernel_words.specs.Forms.{most_cpus, TellsParams, has_steps, has_done}
+use Rattle.kernel_words.specs.Forms.{most_cpus, ExpressesParams, has_steps, has_done}
 use Rattle.records.specs.RecordRanges.{Record, EventFits, EntryFits, LogFits, TranscriptFits, RunFits, RunFitsIn, RecordFits, RecordFitsIn}
 use Rattle.records.specs.Settings.{Settings, SettingsFit, SettingsFitIn, ObjectSettings, ObjectFits}
 
@@ -16,14 +16,14 @@ cpus_written : (form : Form) → most_cpus form ≤ most_cpus WRITTEN
 cpus_written One = omega arith
 cpus_written Two = omega arith
 
-params_written : (form : Form) (p : KParams) → TellsParams form p → TellsParams WRITTEN p
-params_written form p told = tt
+params_written : (form : Form) (p : KParams) → ExpressesParams form p → ExpressesParams WRITTEN p
+params_written form p expressed = tt
 
 steps_written : (form : Form) (steps : List KernelStep) → has_steps form steps ≡ true → has_steps WRITTEN steps ≡ true
-steps_written form steps told = refl
+steps_written form steps expressed = refl
 
 done_written : (form : Form) (d : KernelDone) → has_done form d ≡ true → has_done WRITTEN d ≡ true
-done_written form d told = refl
+done_written form d expressed = refl
 
 -- ---- all else follows
 
@@ -33,13 +33,13 @@ each_as P Q turn [] all = tt
 each_as P Q turn (x ∷ xs) all = (turn x all.0, each_as P Q turn xs all.1)
 
 object_in_written : (form : Form) (o : ObjectSettings) → ObjectFits form o → ObjectFits WRITTEN o
-object_in_written form o h = record { name = h.name; events = h.events; params = h.params; told = params_written form o.params h.told }
+object_in_written form o h = record { name = h.name; events = h.events; params = h.params; expressed = params_written form o.params h.expressed }
 
 pub event_in_written : (form : Form) (cpus : ℕ) (e : KernelEvent) → EventFits form cpus e → EventFits WRITTEN cpus e
-event_in_written form cpus e h = record { cpu = h.cpu; steps = h.steps; told = steps_written form e.steps.list.items h.told }
+event_in_written form cpus e h = record { cpu = h.cpu; steps = h.steps; expressed = steps_written form e.steps.list.items h.expressed }
 
 pub entry_in_written : (form : Form) (objects : ℕ) (e : KernelEntry) → EntryFits form objects e → EntryFits WRITTEN objects e
-entry_in_written form objects e h = record { object = h.object; looks = h.looks; some = h.some; few = h.few; calls = h.calls; done = h.done; told = done_written form e.done h.told }
+entry_in_written form objects e h = record { object = h.object; looks = h.looks; some = h.some; few = h.few; calls = h.calls; done = h.done; expressed = done_written form e.done h.expressed }
 
 pub events_in_written : (form : Form) (cpus : ℕ) (events : List KernelEvent) → AllByRecursion (EventFits form cpus) events → AllByRecursion (EventFits WRITTEN cpus) events
 events_in_written form cpus events h = each_as (EventFits form cpus) (EventFits WRITTEN cpus) (event_in_written form cpus) events h

@@ -33,11 +33,11 @@ module _ (objects : List ObjectSettings) (ws tail : List (List ℕ)) (object loo
   -- what the line spells
   pub entry_known : (asked : List KCall) (steps : List KernelStep) → tail_at tail ≡ Some (asked, Steps (record { list = record { items = steps } })) → entry_at Two objects ws ≡ Some (entry_of object looks asked steps)
   unfolding front_at tail_at entry_at
-  entry_known asked steps told =
+  entry_known asked steps expressed =
       let did : KernelDone = Steps (record { list = record { items = steps } }) in
       bind_some (place_at objects ws) _ (object, looks, tail) front (λ place found behind.
       bind_some (number_at 18446744073709551615 place.1) _ (object, looks, tail) behind (λ number found_number last_front.
-      bind_some (list_at call_at tail) _ (asked, did) told (λ calls found_calls behind_calls.
+      bind_some (list_at call_at tail) _ (asked, did) expressed (λ calls found_calls behind_calls.
       bind_some (key_at (codes "|") calls.1) _ (asked, did) behind_calls (λ rest found_bar behind_bar.
       bind_some (done_at rest) _ (asked, did) behind_bar (λ done found_done last.
       let is : ◌≡◌ {A = ℕ × ℕ × List (List ℕ)} (place.0, number.0, number.1) (object, looks, tail) = cc in

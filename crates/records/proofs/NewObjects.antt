@@ -15,7 +15,7 @@ use Rattle.records.specs.Settings.{ObjectSettings, ObjectFits}
 use Rattle.record_lines.specs.Names.{is_name, is_letter, is_digit}
 use Rattle.records.proofs.RecordLineLaws.{reads_object}
 use Rattle.record_lines.proofs.LineLaws.{ReadsLines}
-use Rattle.kernel_words.proofs.KindLaws.Queue.{queue_told}
+use Rattle.kernel_words.proofs.KindLaws.Queue.{queue_expressed}
 use Rattle.records.proofs.JoinedObjects.{Joins, Differ, name_in, name_before, name_here, differ_more}
 
 -- the name is one of theirs
@@ -94,7 +94,7 @@ shown_new : (form : Form) (earlier : List ObjectSettings) → length earlier < 1
 shown_new form earlier few =
     let letters = diagonal_letters 1 earlier in
     let name : is_name (97 ∷ diagonal 1 earlier) ≡ true = rw (letters.0, le-leb (length (diagonal 1 earlier)) 15 (omega (arith, letters.1, few))) refl in
-    (record { name = 97 ∷ diagonal 1 earlier; lock = Ticket; events = 1; params = Queue 1 }, (record { name = name; events = (omega arith, omega arith); params = refl; told = queue_told form 1 }, fresh (97 ∷ []) earlier 1 refl))
+    (record { name = 97 ∷ diagonal 1 earlier; lock = Ticket; events = 1; params = Queue 1 }, (record { name = name; events = (omega arith, omega arith); params = refl; expressed = queue_expressed form 1 }, fresh (97 ∷ []) earlier 1 refl))
 
 -- ---- names that differ
 

@@ -56,7 +56,7 @@ module _ (form : Form) (cpus : ℕ) where
       let taken = steps_take cpu.1 steps found_steps in
       subst (λ (v : KernelEvent). (ws ≡ event_words v) × EventFits form cpus v) whole.1 (
         number.0 ∙ ap (λ l. decimal cpu.0 ∷ l) (taken.text ∙ nothing_behind (separated (map step_words steps.0)) steps.1 tests.1),
-        record { cpu = ltb-true cpu.0 cpus tests.0; steps = taken.fit; told = both.1 },
+        record { cpu = ltb-true cpu.0 cpus tests.0; steps = taken.fit; expressed = both.1 },
       )))
 
   -- a number alone is none
@@ -71,7 +71,7 @@ module _ (form : Form) (cpus : ℕ) where
       let steps : List (List ℕ) = separated (map step_words event.steps.list.items) in
       let cpu = fit.cpu in
       let read : list_at step_at steps ≡ Some (event.steps.list.items, []) = ap (list_at step_at) (sym (append-nil steps)) ∙ steps_again event.steps.list.items [] fit.steps (key_end _) in
-      rw (number_at_again 255 event.cpu steps (omega (arith, cpu, most)) (omega (arith, cpu, most)), read, lt-ltb event.cpu cpus fit.cpu, fit.told)
+      rw (number_at_again 255 event.cpu steps (omega (arith, cpu, most)) (omega (arith, cpu, most)), read, lt-ltb event.cpu cpus fit.cpu, fit.expressed)
 
   -- an event
   pub reads_event : cpus ≤ 255 → ReadsLines event_words (EventFits form cpus) (event_at form cpus)
@@ -107,7 +107,7 @@ module _ (form : Form) (settings : Settings) where
       let spells : looks.1 ≡ separated (map call_words calls.0) ++ (codes "|" ∷ done_words done.0) = asked.text ∙ ap (λ l. separated (map call_words calls.0) ++ l) end in
       subst (λ (v : KernelEntry). (ws ≡ entry_words settings v) × EntryFits form (length settings.objects) v) whole.1 (
         named.text ∙ ap (λ l. name_at settings object.0 ∷ l) (number.0 ∙ ap (λ l. decimal looks.0 ∷ l) spells),
-        record { object = named.bound; looks = omega (arith, most); some = asked.some; few = asked.few; calls = asked.fit; done = taken.fit; told = tests.1 },
+        record { object = named.bound; looks = omega (arith, most); some = asked.some; few = asked.few; calls = asked.fit; done = taken.fit; expressed = tests.1 },
       ))))))
 
   module _ (fit : SettingsFitIn form settings) where
@@ -125,7 +125,7 @@ module _ (form : Form) (settings : Settings) where
           list_again call_words call_fits call_at reads_calls entry.asked.items end fits.some fits.few fits.calls (key_other (codes ";") (codes "|") (done_words entry.done) refl),
           key_again (codes "|") (done_words entry.done),
           done,
-          fits.told,
+          fits.expressed,
         )
 
     -- the words of an entry make a line
@@ -162,7 +162,7 @@ module _ (form : Form) where
       let behind : rest ≡ name.0 ∷ lock_word lock.0 ∷ decimal events.0 ∷ params_words form params.0 = named.0 ∙ ap (λ l. name.0 ∷ l) (lock_takes name.1 lock found_lock ∙ ap (λ l. lock_word lock.0 ∷ l) numbers) in
       subst (λ (v : ObjectSettings). (ws ≡ object_words form v) × ObjectFits form v) whole.1 (
         key_takes (codes "object") ws rest found_key ∙ ap (λ l. codes "object" ∷ l) behind,
-        record { name = named.1; events = (number.1, number.2); params = value.fits; told = value.told },
+        record { name = named.1; events = (number.1, number.2); params = value.fits; expressed = value.expressed },
       ))))))
 
   -- what is spelled is read again
@@ -170,7 +170,7 @@ module _ (form : Form) where
   unfolding object_at
   object_again o fit =
       let params : List (List ℕ) = params_words form o.params in
-      let read : params_at form params ≡ Some (o.params, []) = ap (params_at form) (sym (append-nil params)) ∙ params_again form o.params [] fit.params fit.told in
+      let read : params_at form params ≡ Some (o.params, []) = ap (params_at form) (sym (append-nil params)) ∙ params_again form o.params [] fit.params fit.expressed in
       rw (
         key_again (codes "object") (o.name ∷ lock_word o.lock ∷ decimal o.events ∷ params),
         name_again o.name (lock_word o.lock ∷ decimal o.events ∷ params) fit.name,

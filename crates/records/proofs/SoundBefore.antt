@@ -30,7 +30,7 @@ use Rattle.kernel_object.specs.contracts.object.KernelObjectSeqObject.TheImpl.{g
 use Rattle.kernel_object.specs.Kernel.{kernel_answer, kernel_opening}
 use Rattle.kernel_object.specs.Kinds.Pool.{of_pool}
 use Rattle.kernel_words.specs.declared.form.Form.TheVariants.{One}
-use Rattle.kernel_words.specs.Forms.{TellsParams}
+use Rattle.kernel_words.specs.Forms.{ExpressesParams}
 use Rattle.records.specs.RecordRanges.{Record, RecordFitsIn}
 use Rattle.records.specs.Runs.{opened_of}
 use Rattle.records.specs.Settings.{ObjectSettings}
@@ -87,26 +87,26 @@ module _ (opens : (p : PoolParams) → IsPoolOf p (opening_state p)) (stays : (p
   stays_full (Object.Pool s) c full = full
   stays_full o c full = search rules
 
-  opens_full : (p : KParams) → TellsParams One p → IsFull (kernel_opening p)
-  opens_full (Params.Pool p) told = subst (λ q. IsPoolOf q (opening_state p)) told (opens p)
-  opens_full p told = tt
+  opens_full : (p : KParams) → ExpressesParams One p → IsFull (kernel_opening p)
+  opens_full (Params.Pool p) expressed = subst (λ q. IsPoolOf q (opening_state p)) expressed (opens p)
+  opens_full p expressed = tt
 
-  legal_before : (p : KParams) → TellsParams One p → (log : List (Event KernelObject KParams KCall KReply)) → Legal kernel p log → Legal before p log
-  legal_before p told log = legal_same kernel before IsFull answer_same (λ _. refl) stays_full (kernel_opening p) log (opens_full p told)
+  legal_before : (p : KParams) → ExpressesParams One p → (log : List (Event KernelObject KParams KCall KReply)) → Legal kernel p log → Legal before p log
+  legal_before p expressed log = legal_same kernel before IsFull answer_same (λ _. refl) stays_full (kernel_opening p) log (opens_full p expressed)
 
-  legal_now : (p : KParams) → TellsParams One p → (log : List (Event KernelObject KParams KCall KReply)) → Legal before p log → Legal kernel p log
-  legal_now p told log = legal_same before kernel IsFull (λ o c full. sym (answer_same o c full)) (λ _. refl) (λ o c full. subst (λ a. IsFull a.0) (answer_same o c full) (stays_full o c full)) (kernel_opening p) log (opens_full p told)
+  legal_now : (p : KParams) → ExpressesParams One p → (log : List (Event KernelObject KParams KCall KReply)) → Legal before p log → Legal kernel p log
+  legal_now p expressed log = legal_same before kernel IsFull (λ o c full. sym (answer_same o c full)) (λ _. refl) (λ o c full. subst (λ a. IsFull a.0) (answer_same o c full) (stays_full o c full)) (kernel_opening p) log (opens_full p expressed)
 
   -- what holds of what each object of the settings is opened with
-  of_opened : (P : Opened KParams → Type 0) → ((o : ObjectSettings) → TellsParams One o.params → P (record { params = o.params; limit = o.events })) → (os : List ObjectSettings) → AllByRecursion (λ o. TellsParams One o.params) os → AllByRecursion P (map (λ o. record { params = o.params; limit = o.events }) os)
+  of_opened : (P : Opened KParams → Type 0) → ((o : ObjectSettings) → ExpressesParams One o.params → P (record { params = o.params; limit = o.events })) → (os : List ObjectSettings) → AllByRecursion (λ o. ExpressesParams One o.params) os → AllByRecursion P (map (λ o. record { params = o.params; limit = o.events }) os)
   of_opened P f [] all = tt
   of_opened P f (o ∷ os) all = (f o all.0, of_opened P f os all.1)
 
   pub as_before : (r : Record) → RecordFitsIn One r → Sound kernel (opened_of r.settings) r.run ↔ WasSound kernel r
   as_before r fits =
-      let told = all_map (λ o h. h.told) r.settings.objects fits.0.each in (
-        sound_same kernel before (λ _. refl) (opened_of r.settings) r.run (of_opened _ (λ o t. legal_before o.params t) r.settings.objects told),
-        sound_same before kernel (λ _. refl) (opened_of r.settings) r.run (of_opened _ (λ o t. legal_now o.params t) r.settings.objects told),
+      let expressed = all_map (λ o h. h.expressed) r.settings.objects fits.0.each in (
+        sound_same kernel before (λ _. refl) (opened_of r.settings) r.run (of_opened _ (λ o t. legal_before o.params t) r.settings.objects expressed),
+        sound_same before kernel (λ _. refl) (opened_of r.settings) r.run (of_opened _ (λ o t. legal_now o.params t) r.settings.objects expressed),
       )
 
 -- a record that is one that is sound is sound

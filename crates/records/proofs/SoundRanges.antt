@@ -177,7 +177,7 @@ module _ (settings : Settings) (fit : SettingsFit settings) (run : KernelRun) (s
       let sizes = legal_sizes (kernel.opening o.params) log is.legal in
       let sized = all_both (λ e (h : ((0 < length e.steps.list.items) × (length e.steps.list.items ≤ MOST_CALLS)) × (steps_answer reply_fits e.steps.list.items ≡ true)). h) log sizes replied in (
         omega (arith, is.within, good.events.1),
-        all_both (λ e h. record { cpu = h.0.1; steps = record { some = h.1.0.0; few = h.1.0.1; calls = h.0.0; replies = h.1.1 }; told = refl }) log events sized,
+        all_both (λ e h. record { cpu = h.0.1; steps = record { some = h.1.0.0; few = h.1.0.1; calls = h.0.0; replies = h.1.1 }; expressed = refl }) log events sized,
       )
 
   -- the steps of a transcript on an object are in range, since they stand in its log
@@ -199,7 +199,7 @@ module _ (settings : Settings) (fit : SettingsFit settings) (run : KernelRun) (s
       let same : transcript_of cpu run ≡ entries = ap (λ o. unwrap_or o []) at in
       let asked = each_at (TranscriptAsks objects) run.transcripts cpu entries asks at in
       let done = each_entry InRange objects entries (all_map (λ e h. h.todo.object) entries asked.1) (λ x less. subst (λ (l : List KernelEntry). AllByRecursion InRange (done_on x l)) same (steps_fit cpu x less)) in
-      (asked.0, all_both (λ e h. record { object = h.0.todo.object; looks = h.0.looks; some = h.0.todo.some; few = h.0.todo.few; calls = h.0.todo.calls; done = done_fits e.done h.1; told = refl }) entries asked.1 done)
+      (asked.0, all_both (λ e h. record { object = h.0.todo.object; looks = h.0.looks; some = h.0.todo.some; few = h.0.todo.few; calls = h.0.todo.calls; done = done_fits e.done h.1; expressed = refl }) entries asked.1 done)
 
   pub run_fits : RunFits settings run
   run_fits = record {

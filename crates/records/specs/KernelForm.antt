@@ -119,8 +119,8 @@ abbrev pub ends_at : List ℕ → Bool
 ends_at line = is_there (fixed_at (codes "end" ∷ []) (words line))
 
 -- the text behind the looks tells the entry
-abbrev pub TellsEntry : ℕ → ℕ → List ℕ → KernelEntry → Type 0
-TellsEntry object looks text e = (asked : List KCall) × (steps : List KernelStep) × SpellsTail text asked steps × (e ≡ entry_of object looks asked steps)
+abbrev pub TailSpellsEntry : ℕ → ℕ → List ℕ → KernelEntry → Type 0
+TailSpellsEntry object looks text e = (asked : List KCall) × (steps : List KernelStep) × SpellsTail text asked steps × (e ≡ entry_of object looks asked steps)
 
 -- a line of at most 1,024 bytes
 abbrev pub IsRecordLine : List ℕ → Type 0

@@ -15,7 +15,7 @@ use Rattle.records.specs.Settings.{Settings, SettingsFitIn}
 pub record EventFits (form : Form) (cpus : ℕ) (e : KernelEvent) : Type 0 where
   pub cpu : e.cpu < cpus
   pub steps : StepsFit e.steps.list.items
-  pub told : has_steps form e.steps.list.items ≡ true
+  pub expressed : has_steps form e.steps.list.items ≡ true
 
 -- an entry on one of so many objects
 pub record EntryFits (form : Form) (objects : ℕ) (e : KernelEntry) : Type 0 where
@@ -25,7 +25,7 @@ pub record EntryFits (form : Form) (objects : ℕ) (e : KernelEntry) : Type 0 wh
   pub few : length e.asked.items ≤ MOST_CALLS
   pub calls : list_all call_fits e.asked.items ≡ true
   pub done : DoneFits e.done
-  pub told : has_done form e.done ≡ true
+  pub expressed : has_done form e.done ≡ true
 
 -- a log of at most 65,536 events
 abbrev pub LogFits : Form → ℕ → List KernelEvent → Type 0

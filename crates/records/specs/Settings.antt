@@ -11,7 +11,7 @@ use Rattle.kernel_object.specs.declared.call.KParams.TheVariants.{Queue}
 use Rattle.kernel_object.specs.Kernel.{kernel_in_range}
 use Rattle.kernel_words.specs.declared.form.Form.{Form}
 use Rattle.kernel_words.specs.declared.form.TheConstants.{WRITTEN}
-use Rattle.kernel_words.specs.Forms.{most_cpus, TellsParams}
+use Rattle.kernel_words.specs.Forms.{most_cpus, ExpressesParams}
 use Rattle.record_lines.specs.Names.{is_name}
 
 -- an object's name, its lock, the most events of its log, and what it is opened with
@@ -39,7 +39,7 @@ pub record ObjectFits (form : Form) (o : ObjectSettings) : Type 0 where
   pub name : is_name o.name ≡ true
   pub events : (1 ≤ o.events) × (o.events ≤ MOST_EVENTS)
   pub params : kernel_in_range o.params ≡ true
-  pub told : TellsParams form o.params
+  pub expressed : ExpressesParams form o.params
 
 -- settings within all limits of the form
 pub record SettingsFitIn (form : Form) (s : Settings) : Type 0 where

@@ -1,11 +1,11 @@
 //! Records of runs: settings, logs and transcripts, and their text.
 #![tactic(auto)]
 
-mod clones;
+mod copies;
 mod record;
 mod settings;
 
-pub use clones::copy_all;
+pub use copies::copy_all;
 pub use record::before_quotas::sound_as_before;
 pub use record::form_faults::bad_line_of_form;
 pub use record::kernel_form::KernelForm;

@@ -5,7 +5,7 @@ ghost use Rattle.records.specs.Settings.{SettingsFit, built_in_settings};
 
 pub mod lookup;
 
-use crate::clones::{CopyOut, copy_all};
+use crate::copies::{CopyOut, copy_all};
 use arrayvec::ArrayString;
 use event_log::{OutOfMemory, Series};
 use kernel_object::KParams;

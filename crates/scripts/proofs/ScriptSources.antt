@@ -2,7 +2,7 @@
 use Rattle.std.proofs.Common.{◌≡◌, ℕ, List, Option, Result, Ok, Err, refl, sym, subst}
 use Rattle.std.specs.Result.{IsErrAnd, IfErr}
 use Rattle.record_lines.specs.declared.streams.feeding.SourceFault.{SourceFault}
-use Rattle.record_lines.specs.declared.streams.feeding.SourceFault.TheVariants.{ReadFailed, Told}
+use Rattle.record_lines.specs.declared.streams.feeding.SourceFault.TheVariants.{ReadFailed, Reported}
 use Rattle.record_lines.specs.declared.text.fault.LinesFault.{LinesFault}
 use Rattle.record_lines.specs.declared.text.fault.LinesFault.TheVariants.{OutOfMemory, Line}
 use Rattle.record_lines.specs.declared.text.fault.TextFault.{TextFault}
@@ -19,16 +19,16 @@ use Rattle.scripts.proofs.ScriptTexts.{line_refused}
 use Rattle.record_lines.proofs.Consuming.{of_rest}
 
 module _ (settings : Settings) where
-  source_names : (old new : Option (List ℕ)) (first : Pieces ScriptState) (cause : SourceFault LinesFault) → first.lines ≡ no_entries settings → ((f : LinesFault) → cause ≡ Told f → HasRefused (RefusesPieces TakesScriptLine RefusesScriptLine FitsScriptLine first) old new f) → NamesFirstBadOfRest settings old (of_source cause)
+  source_names : (old new : Option (List ℕ)) (first : Pieces ScriptState) (cause : SourceFault LinesFault) → first.lines ≡ no_entries settings → ((f : LinesFault) → cause ≡ Reported f → HasRefused (RefusesPieces TakesScriptLine RefusesScriptLine FitsScriptLine first) old new f) → NamesFirstBadOfRest settings old (of_source cause)
   source_names old new first ReadFailed is refused = tt
-  source_names old new first (Told OutOfMemory) is refused = tt
-  source_names old new first (Told (Line m)) is refused =
+  source_names old new first (Reported OutOfMemory) is refused = tt
+  source_names old new first (Reported (Line m)) is refused =
       let bad = refused (Line m) refl in
       of_rest (λ text. IsFirstBad settings text m) old new bad.0 bad.1
       (λ more. line_refused settings bad.0 more m (subst (λ (s : ScriptState). RefusesLine TakesScriptLine RefusesScriptLine FitsScriptLine bad.0 s 1 m) is bad.2))
 
   -- a source's refusal that is handed on
-  pub read_refused : {X : Type 0} (old new : Option (List ℕ)) (first : Pieces ScriptState) (cause : SourceFault LinesFault) (r : Result X TextFault) → IsErrAnd r (λ f. f ≡ of_source cause) → first.lines ≡ no_entries settings → ((f : LinesFault) → cause ≡ Told f → HasRefused (RefusesPieces TakesScriptLine RefusesScriptLine FitsScriptLine first) old new f) → IfErr r (NamesFirstBadOfRest settings old)
+  pub read_refused : {X : Type 0} (old new : Option (List ℕ)) (first : Pieces ScriptState) (cause : SourceFault LinesFault) (r : Result X TextFault) → IsErrAnd r (λ f. f ≡ of_source cause) → first.lines ≡ no_entries settings → ((f : LinesFault) → cause ≡ Reported f → HasRefused (RefusesPieces TakesScriptLine RefusesScriptLine FitsScriptLine first) old new f) → IfErr r (NamesFirstBadOfRest settings old)
   read_refused old new first cause (Ok x) is same refused = tt
   read_refused old new first cause (Err f) is same refused = subst (NamesFirstBadOfRest settings old) (sym is) (source_names old new first cause same refused)
 

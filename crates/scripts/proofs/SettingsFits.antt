@@ -69,7 +69,7 @@ object_in_ok place earlier ms o e =
     let same : record { name = name.0; lock = lock.0; events = events.0; params = params.0 } ≡ o = cc in
     let read = key_ok place Key.Name (name_from earlier) ms name.0 name.1 in
     let named = name_ok earlier read.0 name.0 read.1 in
-    subst (Joins WRITTEN earlier) same (record { name = named.0; events = number_in place Key.Events MOST_EVENTS ms events.0 events.1; params = params_ok place kind.0 ms params.0 params.1; told = tt }, named.1)
+    subst (Joins WRITTEN earlier) same (record { name = named.0; events = number_in place Key.Events MOST_EVENTS ms events.0 events.1; params = params_ok place kind.0 ms params.0 params.1; expressed = tt }, named.1)
 
 object_ok : (earlier : List ObjectSettings) (d : Data) (o : ObjectSettings) → object_from earlier d ≡ Ok o → Joins WRITTEN earlier o
 unfolding object_from

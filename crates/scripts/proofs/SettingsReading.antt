@@ -4,7 +4,7 @@ use Rattle.std.specs.Io.KnownBytes.{Consumes}
 use Rattle.scripts.specs.declared.settings.fault.SettingsFault.{SettingsFault}
 use Rattle.scripts.specs.declared.settings.fault.SettingsFault.TheVariants as fault
 use Rattle.scripts.specs.declared.settings.reading.TheConstants.{MOST_SETTINGS_BYTES}
-use Rattle.record_lines.specs.declared.streams.feeding.SourceFault.TheVariants.{Told}
+use Rattle.record_lines.specs.declared.streams.feeding.SourceFault.TheVariants.{Reported}
 use Rattle.record_lines.specs.Sources.{IsRest}
 use Rattle.scripts.specs.SettingsSources.{IsFaultOfSettings, NamesFirstFaultOfRest}
 use Rattle.scripts.specs.SettingsText.{NamesFirstFault, not_toml}
@@ -15,7 +15,7 @@ use Rattle.record_lines.proofs.Consuming.{of_rest}
 -- ---- settings
 
 -- a text's refusal
-pub settings_names : (old : Option (List ℕ)) (text : List ℕ) (cause : SettingsFault) → IsRest old text → length text ≤ MOST_SETTINGS_BYTES → NamesFirstFault text cause → NamesFirstFaultOfRest old (Told cause)
+pub settings_names : (old : Option (List ℕ)) (text : List ℕ) (cause : SettingsFault) → IsRest old text → length text ≤ MOST_SETTINGS_BYTES → NamesFirstFault text cause → NamesFirstFaultOfRest old (Reported cause)
 settings_names old text fault.OutOfMemory rest few named = tt
 settings_names old text (fault.Refused bad) rest few named = (text, rest, inl (few, named))
 

@@ -12,7 +12,7 @@ use Rattle.scripts.specs.declared.schedule.ScheduleFault.TheVariants.{OutOfMemor
 use Rattle.scripts.specs.declared.schedule.TheConstants.{MOST_STEPS}
 use Rattle.scripts.specs.declared.schedule.step_reader.StepReader.{StepReader}
 use Rattle.record_lines.specs.declared.streams.feeding.SourceFault.{SourceFault}
-use Rattle.record_lines.specs.declared.streams.feeding.SourceFault.TheVariants.{ReadFailed, Told}
+use Rattle.record_lines.specs.declared.streams.feeding.SourceFault.TheVariants.{ReadFailed, Reported}
 use Rattle.record_lines.specs.Feeding.{HasRefused}
 use Rattle.scripts.specs.ScheduleReading.{HasReadSteps, EndsWord, NamesFirstBadWordOfRest, RefusesSteps}
 use Rattle.scripts.specs.ScheduleText.{is_gap, schedule_words, IsSchedule, NamesNoCpu, IsFirstBadWord}
@@ -171,15 +171,15 @@ fed_bad cpus text piece more i n less =
 
 module _ (cpus : ℕ) where
   -- what was read of a source is refused
-  pub source_names : (old new : Option (List ℕ)) (first : StepReader) (cause : SourceFault ScheduleFault) → first.cpus ≡ cpus → ((f : ScheduleFault) → cause ≡ Told f → HasRefused (RefusesSteps first) old new f) → NamesFirstBadWordOfRest cpus old cause
+  pub source_names : (old new : Option (List ℕ)) (first : StepReader) (cause : SourceFault ScheduleFault) → first.cpus ≡ cpus → ((f : ScheduleFault) → cause ≡ Reported f → HasRefused (RefusesSteps first) old new f) → NamesFirstBadWordOfRest cpus old cause
   source_names old new first ReadFailed is refused = tt
-  source_names old new first (Told OutOfMemory) is refused = tt
-  source_names old new first (Told (Word m)) is refused =
+  source_names old new first (Reported OutOfMemory) is refused = tt
+  source_names old new first (Reported (Word m)) is refused =
       let bad = refused (Word m) refl in
       of_rest (λ text. IsFirstBadWord cpus text m) old new bad.0 bad.1 (λ more. subst (λ (k : ℕ). IsFirstBadWord k (bad.0 ++ more) m) is (bad.2 more))
 
   -- all of it is refused
-  pub end_names : (old : Option (List ℕ)) (text : List ℕ) (fault : ScheduleFault) → IsRest old text → ((m : ℕ) → fault ≡ Word m → IsFirstBadWord cpus text m) → NamesFirstBadWordOfRest cpus old (Told fault)
+  pub end_names : (old : Option (List ℕ)) (text : List ℕ) (fault : ScheduleFault) → IsRest old text → ((m : ℕ) → fault ≡ Word m → IsFirstBadWord cpus text m) → NamesFirstBadWordOfRest cpus old (Reported fault)
   end_names old text OutOfMemory rest first = tt
   end_names old text (Word m) rest first = (text, rest, first m refl)
 

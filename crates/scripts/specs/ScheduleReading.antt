@@ -7,7 +7,7 @@ use Rattle.sound_run.specs.declared.limits.TheConstants.{MOST_CPUS}
 use Rattle.scripts.specs.declared.schedule.TheConstants.{MOST_STEPS}
 use Rattle.scripts.specs.declared.schedule.step_reader.StepReader.{StepReader}
 use Rattle.record_lines.specs.declared.streams.feeding.SourceFault.{SourceFault}
-use Rattle.record_lines.specs.declared.streams.feeding.SourceFault.TheVariants.{ReadFailed, Told}
+use Rattle.record_lines.specs.declared.streams.feeding.SourceFault.TheVariants.{ReadFailed, Reported}
 use Rattle.scripts.specs.ScheduleText.{is_gap, schedule_words, IsSchedule, IsFirstBadWord}
 use Rattle.record_lines.specs.Sources.{IsRest}
 
@@ -30,8 +30,8 @@ SpellsScheduleRest cpus remaining steps = (text : List ℕ) × IsRest remaining 
 -- the word that is named is the first of the rest of a source that can't come
 abbrev pub NamesFirstBadWordOfRest : ℕ → Option (List ℕ) → SourceFault ScheduleFault → Type 0
 NamesFirstBadWordOfRest cpus remaining ReadFailed = Unit {0}
-NamesFirstBadWordOfRest cpus remaining (Told OutOfMemory) = Unit {0}
-NamesFirstBadWordOfRest cpus remaining (Told (Word n)) = (text : List ℕ) × IsRest remaining text × IsFirstBadWord cpus text n
+NamesFirstBadWordOfRest cpus remaining (Reported OutOfMemory) = Unit {0}
+NamesFirstBadWordOfRest cpus remaining (Reported (Word n)) = (text : List ℕ) × IsRest remaining text × IsFirstBadWord cpus text n
 
 -- from the first on the text was read, for as many CPUs
 pub record TakesSteps (first : StepReader) (text : List ℕ) (now : StepReader) : Type 0 where

@@ -5,7 +5,7 @@ use Rattle.scripts.specs.declared.settings.fault.SettingsFault.{SettingsFault}
 use Rattle.scripts.specs.declared.settings.fault.SettingsFault.TheVariants.{OutOfMemory, Refused}
 use Rattle.scripts.specs.declared.settings.reading.TheConstants.{MOST_SETTINGS_BYTES}
 use Rattle.record_lines.specs.declared.streams.feeding.SourceFault.{SourceFault}
-use Rattle.record_lines.specs.declared.streams.feeding.SourceFault.TheVariants.{ReadFailed, Told}
+use Rattle.record_lines.specs.declared.streams.feeding.SourceFault.TheVariants.{ReadFailed, Reported}
 use Rattle.record_lines.specs.Sources.{IsRest}
 use Rattle.records.specs.Settings.{Settings}
 use Rattle.scripts.specs.SettingsText.{SpellsSettings, IsSettingsFault, not_toml}
@@ -25,5 +25,5 @@ SpellsSettingsRest remaining settings = (text : List ℕ) × IsRest remaining te
 -- the fault that is named is the first of the rest of a source
 abbrev pub NamesFirstFaultOfRest : Option (List ℕ) → SourceFault SettingsFault → Type 0
 NamesFirstFaultOfRest remaining ReadFailed = Unit {0}
-NamesFirstFaultOfRest remaining (Told OutOfMemory) = Unit {0}
-NamesFirstFaultOfRest remaining (Told (Refused bad)) = (text : List ℕ) × IsRest remaining text × IsFaultOfSettings text bad
+NamesFirstFaultOfRest remaining (Reported OutOfMemory) = Unit {0}
+NamesFirstFaultOfRest remaining (Reported (Refused bad)) = (text : List ℕ) × IsRest remaining text × IsFaultOfSettings text bad

@@ -1,7 +1,7 @@
 //! The texts that a run starts from: settings, scripts and schedules. What is below them is passed on: records, words and objects.
 #![tactic(auto)]
 
-mod limit_law;
+mod pinned_limits;
 mod schedule;
 mod script;
 mod settings;
@@ -11,7 +11,7 @@ pub use kernel_words::{
     FIRST_MOST_CPUS, FastRead, Field, Form, ListItem, Spelled, Spelling, WRITTEN, fits, list,
     lock_word, put_value, spelled_once, value,
 };
-pub use limit_law::shows_limits;
+pub use pinned_limits::shows_limits;
 pub use record_lines::{
     Buffered, LineFault, LinesFault, LinesFault as RecordFault, LinesFault as ScriptsFault,
     MOST_BYTES, RecordSink, SourceFault, TextFault, Words, WriteFailed, begin_line, end_line,

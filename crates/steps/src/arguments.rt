@@ -59,7 +59,7 @@ fn asks_help(words: &[String]) -> bool
 
 /// A text of help or of the version, for which one of the words asks, or a refusal: a word that is refused is no form, unless
 /// memory was wanting.
-fn told<'a>(alloc: Global, words: &[String], error: Error) -> Result<Asked<'a>, Refusal>
+fn reported<'a>(alloc: Global, words: &[String], error: Error) -> Result<Asked<'a>, Refusal>
     requires form { has_no_form words.now ≡ false }
     requires kind { HasKind (faults words.now) error }
     ensures asked { IfOk result (IsAskedBy words.now) }
@@ -107,6 +107,6 @@ pub fn read_words<'a>(alloc: Global, words: &'a [String]) -> Result<Asked<'a>, R
             Ok(arguments) => Ok(Asked::For(arguments)),
             Err(BadName) => Err(Refusal::BadWords),
         },
-        Err(error) => told(alloc, words, error),
+        Err(error) => reported(alloc, words, error),
     }
 }

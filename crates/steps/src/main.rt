@@ -5,7 +5,7 @@ mod answer;
 mod arguments;
 mod command;
 mod form;
-mod law;
+mod words_law;
 mod line;
 mod lines;
 

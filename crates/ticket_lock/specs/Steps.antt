@@ -30,7 +30,7 @@ module _ {O P C R : Type 0} (meaning : Ghosts O P C R) where
   -- the high half that was found is the ticket, which is the next one
   pub record Draws (m : Seat O P C R) (n : ℕ) (m' : Seat O P C R) : Type 0 where
     pub goes : Goes meaning (Ticket (Drawn (n / tickets))) (steps.Draw ∷ []) m m'
-    pub drawn : (h : Cell O P C R) → m.0.told ≡ h ∷ [] → HasDrawn (caller_of h m.0) (n / tickets) m'.0.main.run
+    pub drawn : (h : Cell O P C R) → m.0.reported ≡ h ∷ [] → HasDrawn (caller_of h m.0) (n / tickets) m'.0.main.run
 
   abbrev pub draws : Step (Option (History O P C R)) → Seat O P C R → ℕ → Seat O P C R → Type 0
   draws st m n m' = Draws m n m'

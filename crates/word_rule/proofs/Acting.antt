@@ -36,10 +36,10 @@ use Rattle.word_rule.proofs.Lists.{has_append, of_push, grows_self, grows_then, 
 module _ {O P C R : Type 0} where
   -- the seat after a step that its first caller did
   stands_settled : (h : Cell O P C R) (cpu : ℕ) (p q : Stage) (log : List (Event O P C R)) (run : List (TraceStep (Event O P C R))) (slots slots' : List (ℕ × Option (History O P C R))) (m : Seat O P C R) → StandsAt h cpu p slots m → StandsAt h cpu q slots' (settled m.0 q log run, slots')
-  stands_settled h cpu p q log run slots slots' m a = record { alone = ap (map (shown log run)) a.alone; number = a.number; carries = refl; stands = refl; told = a.told }
+  stands_settled h cpu p q log run slots slots' m a = record { alone = ap (map (shown log run)) a.alone; number = a.number; carries = refl; stands = refl; reported = a.reported }
 
   stands_moved : (h : Cell O P C R) (cpu : ℕ) (p q : Stage) (log : List (Event O P C R)) (run : List (TraceStep (Event O P C R))) (slots : List (ℕ × Option (History O P C R))) (m : Seat O P C R) → StandsAt h cpu p slots m → StandsAt h cpu q slots (moved_on m.0 q log run, slots)
-  stands_moved h cpu p q log run slots m a = record { alone = a.alone; number = a.number; carries = refl; stands = refl; told = a.told }
+  stands_moved h cpu p q log run slots m a = record { alone = a.alone; number = a.number; carries = refl; stands = refl; reported = a.reported }
 
 module _ {O P C R : Type 0} (meaning : Ghosts O P C R) where
   -- it has seen this log and this run
@@ -54,8 +54,8 @@ module _ {O P C R : Type 0} (meaning : Ghosts O P C R) where
   pub goes_without : (h : Cell O P C R) (cpu : ℕ) (p q : Stage) (done : List StepDone) (m m' : Seat O P C R) → IsWithout meaning h cpu p m → Goes meaning q done m m' → IsWithout meaning h cpu q m'
   goes_without h cpu p q done m m' w g = subst (IsWithout meaning h cpu q) (sym (g.seat ∙ (λ k. (moved_on m.0 q g.log g.run, w.at.carries k)))) record {
     at = stands_moved h cpu p q g.log g.run [] m w.at;
-    pass_view = record { caller = w.pass_view.caller; valid = g.learns.valid h w.at.told };
-    ran = g.learns.ran h w.at.told;
+    pass_view = record { caller = w.pass_view.caller; valid = g.learns.valid h w.at.reported };
+    ran = g.learns.ran h w.at.reported;
   }
 
   pub moves_without : (h : Cell O P C R) (cpu : ℕ) (p q : Stage) (done : List StepDone) (m m' : Seat O P C R) → IsWithout meaning h cpu p m → Goes meaning q done m m' → Moves meaning p q done (state_without h p m) (state_without h q m')
@@ -66,7 +66,7 @@ module _ {O P C R : Type 0} (meaning : Ghosts O P C R) where
     grows = g.learns.grows;
     still = λ e. g.still (ap holding w.at.stands ∙ e);
     extends = g.learns.extends;
-    valid = g.learns.valid h w.at.told;
+    valid = g.learns.valid h w.at.reported;
     has = refl;
   }
 
@@ -76,7 +76,7 @@ module _ {O P C R : Type 0} (meaning : Ghosts O P C R) where
     at = stands_moved h cpu p q g.log g.run ((0, None) ∷ []) m w.at;
     added = subst (λ (l : List (Event O P C R)). AddedBy m.0.main.cpu l x.log) (sym (g.still (ap holding w.at.stands ∙ holds))) w.added;
     hold_view = w.hold_view;
-    ran = g.learns.ran h w.at.told;
+    ran = g.learns.ran h w.at.reported;
   }
 
   pub moves_with : (h : Cell O P C R) (cpu : ℕ) (p q : Stage) (done : List StepDone) (x : History O P C R) (m m' : Seat O P C R) → IsWith meaning h cpu p x m → Goes meaning q done m m' → Moves meaning p q done (state_with h p x m) (state_with h q x m')
@@ -87,7 +87,7 @@ module _ {O P C R : Type 0} (meaning : Ghosts O P C R) where
     grows = g.learns.grows;
     still = λ e. g.still (ap holding w.at.stands ∙ e);
     extends = g.learns.extends;
-    valid = g.learns.valid h w.at.told;
+    valid = g.learns.valid h w.at.reported;
     has = refl;
   }
 
@@ -118,7 +118,7 @@ module _ {O P C R : Type 0} (meaning : Ghosts O P C R) where
   rests_now h cpu p q step x m m' w t = subst (IsWithout meaning h cpu q) (sym t.seat) record {
     at = stands_settled h cpu p q x.log t.run ((0, None) ∷ []) [] m w.at;
     pass_view = record { caller = w.hold_view.caller; valid = w.hold_view.valid };
-    ran = t.ran h w.at.told;
+    ran = t.ran h w.at.reported;
   }
 
   pub gives_now : (h : Cell O P C R) (cpu : ℕ) (p q : Stage) (step : StepDone) (x : History O P C R) (m m' : Seat O P C R) → IsWith meaning h cpu p x m → Left q step m.0 m' x [] → Gives meaning p q step (state_with h p x m) (state_without h q m')
@@ -139,7 +139,7 @@ module _ {O P C R : Type 0} (meaning : Ghosts O P C R) where
     pub run : List (TraceStep (Event O P C R))
     pub seat : m' ≡ (settled m.0 q x.log run, (0, None) ∷ m.1)
     pub learns : Learns meaning m.0 (silently m.0.main.cpu done) x.log run
-    pub replayed : (k : Cell O P C R) → m.0.told ≡ k ∷ [] → x ≡ stored meaning k x.log
+    pub replayed : (k : Cell O P C R) → m.0.reported ≡ k ∷ [] → x ≡ stored meaning k x.log
 
   pub took : (q : Stage) (done : List StepDone) (m m' m'' : Seat O P C R) (r : Option (History O P C R)) (y : History O P C R) → Gets meaning q done m m' → m'.1 ≡ (0, r) ∷ rest m'.1 → m'' ≡ (m'.0, (0, None) ∷ rest m'.1) → r ≡ Some y → Took q done m m'' y
   took q done m m' m'' r y g slot out is =
@@ -149,18 +149,18 @@ module _ {O P C R : Type 0} (meaning : Ghosts O P C R) where
 
   -- so it is the caller's
   pub holds_from : (h : Cell O P C R) (cpu : ℕ) (p q : Stage) (done : List StepDone) (x : History O P C R) (m m' : Seat O P C R) → IsWithout meaning h cpu p m → Took q done m m' x → IsWith meaning h cpu m'.0.main.stage x m'
-  holds_from h cpu p q done x m m' w t = holds_now h cpu p q x t.run m m' w (t.learns.valid h w.at.told) (t.learns.ran h w.at.told) (t.replayed h w.at.told) (t.seat ∙ ap (λ cs. (settled m.0 q x.log t.run, (0, None) ∷ cs)) w.at.carries)
+  holds_from h cpu p q done x m m' w t = holds_now h cpu p q x t.run m m' w (t.learns.valid h w.at.reported) (t.learns.ran h w.at.reported) (t.replayed h w.at.reported) (t.seat ∙ ap (λ cs. (settled m.0 q x.log t.run, (0, None) ∷ cs)) w.at.carries)
 
   pub takes_from : (h : Cell O P C R) (cpu : ℕ) (p q : Stage) (done : List StepDone) (x : History O P C R) (m m' : Seat O P C R) → IsWithout meaning h cpu p m → Took q done m m' x → Takes meaning p q done (state_without h p m) (state_with h m'.0.main.stage x m')
-  takes_from h cpu p q done x m m' w t = takes_now h p q done x t.run m m' t.learns.grows t.learns.extends (t.learns.valid h w.at.told) (t.replayed h w.at.told) (t.seat ∙ ap (λ cs. (settled m.0 q x.log t.run, (0, None) ∷ cs)) w.at.carries)
+  takes_from h cpu p q done x m m' w t = takes_now h p q done x t.run m m' t.learns.grows t.learns.extends (t.learns.valid h w.at.reported) (t.replayed h w.at.reported) (t.seat ∙ ap (λ cs. (settled m.0 q x.log t.run, (0, None) ∷ cs)) w.at.carries)
 
   -- the object was put into the slot, and the step sent it home
   pub left : (q : Stage) (step : StepDone) (m m' m'' : Seat O P C R) (x : History O P C R) → m.1 ≡ (0, None) ∷ [] → m' ≡ (m.0, (0, Some x) ∷ rest m.1) → Returns q step m' m'' → Left q step m.0 m'' x []
-  left q step m m' m'' x had filled told = subst (λ (z : SeatView O P C R × List (ℕ × Option (History O P C R))). Left q step z.0 m'' x z.1) (λ k. ((filled k).0, rest (had k))) (told x (rest m.1) (ap (λ (z : Seat O P C R). z.1) filled))
+  left q step m m' m'' x had filled reported = subst (λ (z : SeatView O P C R × List (ℕ × Option (History O P C R))). Left q step z.0 m'' x z.1) (λ k. ((filled k).0, rest (had k))) (reported x (rest m.1) (ap (λ (z : Seat O P C R). z.1) filled))
 
   -- who owns every number has a seat with each
-  pub not_all : (h : Cell O P C R) (m : Seat O P C R) → m.0.told ≡ h ∷ [] → Lacks m.0 → OwnsAll (caller_of h m.0) → ⊥
-  not_all h m told lacks all = lacks h record { told = told; each = λ x below. ap (λ b. b || any_has x m.0.others) (all.each x below) }
+  pub not_all : (h : Cell O P C R) (m : Seat O P C R) → m.0.reported ≡ h ∷ [] → Lacks m.0 → OwnsAll (caller_of h m.0) → ⊥
+  not_all h m reported lacks all = lacks h record { reported = reported; each = λ x below. ap (λ b. b || any_has x m.0.others) (all.each x below) }
 
   -- nothing changed
   pub still_without : (h : Cell O P C R) (cpu : ℕ) (p : Stage) (m m' : Seat O P C R) → IsWithout meaning h cpu p m → m' ≡ m → Moves meaning p p [] (state_without h p m) (state_without h p m')
@@ -177,10 +177,10 @@ module _ {O P C R : Type 0} (meaning : Ghosts O P C R) where
 
   -- a step that another CPU has made so
   pub lags_without : (h : Cell O P C R) (cpu : ℕ) (p q : Stage) (done : List StepDone) (m m' : Seat O P C R) → IsWithout meaning h cpu p m → Lags meaning q done m m' → NeedsAnother meaning (Moves meaning p q done) (state_without h p m) (state_without h q m')
-  lags_without h cpu p q done m m' w g = record { made = moves_without h cpu p q done m m' w g.goes; another = not_all h m w.at.told g.lacks }
+  lags_without h cpu p q done m m' w g = record { made = moves_without h cpu p q done m m' w g.goes; another = not_all h m w.at.reported g.lacks }
 
   pub lags_with : (h : Cell O P C R) (cpu : ℕ) (p q : Stage) (done : List StepDone) (x : History O P C R) (m m' : Seat O P C R) → IsWith meaning h cpu p x m → Lags meaning q done m m' → NeedsAnother meaning (Moves meaning p q done) (state_with h p x m) (state_with h q x m')
-  lags_with h cpu p q done x m m' w g = record { made = moves_with h cpu p q done x m m' w g.goes; another = not_all h m w.at.told g.lacks }
+  lags_with h cpu p q done x m m' w g = record { made = moves_with h cpu p q done x m m' w g.goes; another = not_all h m w.at.reported g.lacks }
 
   -- a caller that goes without the object, a step later, finds it busy
   pub busy_by : (p q r : Stage) (done more : List StepDone) (a b c : CallerState O P C R) → Moves meaning p q done a b → NeedsAnother meaning (Moves meaning q r more) b c → IsBusy {O = O} {P = P} {C = C} {R = R} record { caller = a.caller; seen = a.seen } record { caller = c.caller; seen = c.seen }
@@ -240,11 +240,11 @@ module _ {O P C R : Type 0} (meaning : Ghosts O P C R) where
 
 -- two seats, joined, at a step of the first, and split again
 module _ {O P C R : Type 0} where
-  pub halves : (q : Stage) (log : List (Event O P C R)) (run : List (TraceStep (Event O P C R))) (slots : List (ℕ × Option (History O P C R))) (v w : SeatView O P C R) (m' first second : Seat O P C R) → v.others ≡ [] → w.others ≡ [] → w.told ≡ v.told
+  pub halves : (q : Stage) (log : List (Event O P C R)) (run : List (TraceStep (Event O P C R))) (slots : List (ℕ × Option (History O P C R))) (v w : SeatView O P C R) (m' first second : Seat O P C R) → v.others ≡ [] → w.others ≡ [] → w.reported ≡ v.reported
       → m' ≡ (settled (taken_in v w) q log run, slots) → first ≡ (keeping m'.0, m'.1) → second ≡ (letting m'.0, []) → (first ≡ (settled v q log run, slots)) × (second ≡ (settled w w.main.stage log run, []))
-  halves q log run slots v w m' first second alone alone' told e f s = (
-    f ∙ ((λ i. (keeping (e i).0, (e i).1)) ∙ (λ i. (record { told = v.told; main = shown log run (at q v.main); others = map (shown log run) (sym alone i) }, slots))),
-    s ∙ ((λ i. (letting (e i).0, [])) ∙ (λ i. (record { told = sym told i; main = shown log run w.main; others = map (shown log run) (sym alone' i) }, []))),
+  halves q log run slots v w m' first second alone alone' reported e f s = (
+    f ∙ ((λ i. (keeping (e i).0, (e i).1)) ∙ (λ i. (record { reported = v.reported; main = shown log run (at q v.main); others = map (shown log run) (sym alone i) }, slots))),
+    s ∙ ((λ i. (letting (e i).0, [])) ∙ (λ i. (record { reported = sym reported i; main = shown log run w.main; others = map (shown log run) (sym alone' i) }, []))),
   )
 
 has_both : (xs ys : List ℕ) (k : ℕ) → has k (xs ++ ys) ≡ (has k xs || has k ys)
@@ -270,7 +270,7 @@ module _ {O P C R : Type 0} (meaning : Ghosts O P C R) where
       let number : r ≡ min m.0.main.cpu w.0.main.cpu = is ∙ (λ i. min (sym one.at.number i) (sym two.at.number i)) in (
         now,
         subst (IsWithout meaning h r Idle) (sym now) record {
-          at = record { alone = refl; number = sym number; carries = refl; stands = refl; told = one.at.told };
+          at = record { alone = refl; number = sym number; carries = refl; stands = refl; reported = one.at.reported };
           pass_view = record { caller = both_callers h m.0.main.cpu w.0.main.cpu (min m.0.main.cpu w.0.main.cpu) m.0.main.owned w.0.main.owned refl one.pass_view.caller two.pass_view.caller; valid = valid };
           ran = ran;
         },
@@ -285,10 +285,10 @@ module _ {O P C R : Type 0} (meaning : Ghosts O P C R) where
     pub valid : Lawful meaning h log
     pub ran : HasRun h log run
 
-  both_see : (h : Cell O P C R) (m w m1 : Seat O P C R) (done : List StepDone) (log : List (Event O P C R)) (run : List (TraceStep (Event O P C R))) → m.0.told ≡ h ∷ [] → m1 ≡ (taken_in m.0 w.0, m.1) → Learns meaning m1.0 (silently m1.0.main.cpu done) log run → BothSee h m w done log run
-  both_see h m w m1 done log run told e learns =
+  both_see : (h : Cell O P C R) (m w m1 : Seat O P C R) (done : List StepDone) (log : List (Event O P C R)) (run : List (TraceStep (Event O P C R))) → m.0.reported ≡ h ∷ [] → m1 ≡ (taken_in m.0 w.0, m.1) → Learns meaning m1.0 (silently m1.0.main.cpu done) log run → BothSee h m w done log run
+  both_see h m w m1 done log run reported e learns =
       let l : Learns meaning (taken_in m.0 w.0) (silently m.0.main.cpu done) log run = subst (λ (z : Seat O P C R). Learns meaning z.0 (silently z.0.main.cpu done) log run) e learns in
-      record { first_grows = l.grows; second_grows = l.others.0.0; first_run = l.extends; second_run = l.others.0.1; valid = l.valid h told; ran = l.ran h told }
+      record { first_grows = l.grows; second_grows = l.others.0.0; first_run = l.extends; second_run = l.others.0.1; valid = l.valid h reported; ran = l.ran h reported }
 
   -- two passes that met
   pub record Met (h : Cell O P C R) (m w m' w' : Seat O P C R) (log : List (Event O P C R)) (run : List (TraceStep (Event O P C R))) : Type 0 where
@@ -300,8 +300,8 @@ module _ {O P C R : Type 0} (meaning : Ghosts O P C R) where
       → m' ≡ (keeping m2.0, m2.1) → w' ≡ (letting m2.0, []) → Met h m w m' w' log run
   met h p q log run m w m1 m2 m' w' one two e e' learns f s =
       let now : m2 ≡ (settled (taken_in m.0 w.0) Idle log run, []) = e' ∙ ((λ i. (settled (e i).0 (e i).0.main.stage log run, (e i).1)) ∙ (λ i. (settled (taken_in m.0 w.0) (one.at.stands i) log run, one.at.carries i))) in
-      let both = halves Idle log run [] m.0 w.0 m2 m' w' one.at.alone two.at.alone (two.at.told ∙ sym one.at.told) now f s in
-      record { first = both.0; second = both.1 ∙ (λ i. (settled w.0 (two.at.stands i) log run, [])); see = both_see h m w m1 [] log run one.at.told e learns }
+      let both = halves Idle log run [] m.0 w.0 m2 m' w' one.at.alone two.at.alone (two.at.reported ∙ sym one.at.reported) now f s in
+      record { first = both.0; second = both.1 ∙ (λ i. (settled w.0 (two.at.stands i) log run, [])); see = both_see h m w m1 [] log run one.at.reported e learns }
 
   -- a look by two callers together that took the object
   pub record TookLast (h : Cell O P C R) (q : Stage) (done : List StepDone) (x : History O P C R) (m w m' w' : Seat O P C R) : Type 0 where
@@ -316,13 +316,13 @@ module _ {O P C R : Type 0} (meaning : Ghosts O P C R) where
   took_last h cpu other p q done x m w m1 m2 m' w' one two e t f s =
       let run = t.run in
       let now : m2 ≡ (settled (taken_in m.0 w.0) q x.log run, (0, None) ∷ []) = t.seat ∙ ((λ i. (settled (e i).0 q x.log run, (0, None) ∷ (e i).1)) ∙ (λ i. (settled (taken_in m.0 w.0) q x.log run, (0, None) ∷ one.at.carries i))) in
-      let both = halves q x.log run ((0, None) ∷ []) m.0 w.0 m2 m' w' one.at.alone two.at.alone (two.at.told ∙ sym one.at.told) now f s in
+      let both = halves q x.log run ((0, None) ∷ []) m.0 w.0 m2 m' w' one.at.alone two.at.alone (two.at.reported ∙ sym one.at.reported) now f s in
       record {
         run = run;
         first = both.0;
         second = both.1 ∙ (λ i. (settled w.0 (two.at.stands i) x.log run, []));
-        see = both_see h m w m1 done x.log run one.at.told e t.learns;
-        replayed = t.replayed h (ap (λ (z : Seat O P C R). z.0.told) e ∙ one.at.told);
+        see = both_see h m w m1 done x.log run one.at.reported e t.learns;
+        replayed = t.replayed h (ap (λ (z : Seat O P C R). z.0.reported) e ∙ one.at.reported);
       }
 
   -- the same, from what the step gave and what was taken out of the slot
@@ -331,9 +331,9 @@ module _ {O P C R : Type 0} (meaning : Ghosts O P C R) where
   last_taken h cpu other p q done r x m w m1 m2 m3 m' w' one two e got slot out is f s = took_last h cpu other p q done x m w m1 m3 m' w' one two e (took meaning q done m1 m2 m3 r x got slot out is) f s
 
   -- two callers that own every number together
-  pub all_together : (h : Cell O P C R) (m w m1 : Seat O P C R) → m.0.told ≡ h ∷ [] → m1 ≡ (taken_in m.0 w.0, m.1) → ((k : ℕ) → k < h.numbers → (has k m.0.main.owned || has k w.0.main.owned) ≡ true) → HasAll m1.0 h
-  all_together h m w m1 told e all = subst (λ (z : Seat O P C R). HasAll z.0 h) (sym e) record {
-    told = told;
+  pub all_together : (h : Cell O P C R) (m w m1 : Seat O P C R) → m.0.reported ≡ h ∷ [] → m1 ≡ (taken_in m.0 w.0, m.1) → ((k : ℕ) → k < h.numbers → (has k m.0.main.owned || has k w.0.main.owned) ≡ true) → HasAll m1.0 h
+  all_together h m w m1 reported e all = subst (λ (z : Seat O P C R). HasAll z.0 h) (sym e) record {
+    reported = reported;
     each = λ x below. ap (λ b. has x m.0.main.owned || b) (or_none (has x w.0.main.owned)) ∙ all x below;
   }
 

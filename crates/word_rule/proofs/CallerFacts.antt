@@ -18,15 +18,15 @@ use Rattle.word_rule.proofs.Lists.{grows_then}
 
 module _ {O P C R : Type 0} where
   -- who owns every number owns the one that a word named
-  pub not_else : (h : Cell O P C R) (m : Seat O P C R) (j : ℕ) → m.0.told ≡ h ∷ [] → IsElse m.0 j → OwnsAll (caller_of h m.0) → ⊥
-  not_else h m j told other all = true≢false (sym (all.each j (other.inside h told)) ∙ other.other)
+  pub not_else : (h : Cell O P C R) (m : Seat O P C R) (j : ℕ) → m.0.reported ≡ h ∷ [] → IsElse m.0 j → OwnsAll (caller_of h m.0) → ⊥
+  not_else h m j reported other all = true≢false (sym (all.each j (other.inside h reported)) ∙ other.other)
 
   -- that is a CPU of the cell which isn't the caller's
-  pub is_other : (h : Cell O P C R) (m : Seat O P C R) (j : ℕ) → m.0.told ≡ h ∷ [] → IsElse m.0 j → IsOther (caller_of h m.0) j
-  is_other h m j told other = record { other = other.other; inside = other.inside h told }
+  pub is_other : (h : Cell O P C R) (m : Seat O P C R) (j : ℕ) → m.0.reported ≡ h ∷ [] → IsElse m.0 j → IsOther (caller_of h m.0) j
+  is_other h m j reported other = record { other = other.other; inside = other.inside h reported }
 
-  pub else_below : (h : Cell O P C R) (n j : ℕ) (m : Seat O P C R) → h.numbers ≡ n → m.0.told ≡ h ∷ [] → IsElse m.0 j → j < n
-  else_below h n j m is told other = let below = other.inside h told in omega arith
+  pub else_below : (h : Cell O P C R) (n j : ℕ) (m : Seat O P C R) → h.numbers ≡ n → m.0.reported ≡ h ∷ [] → IsElse m.0 j → j < n
+  else_below h n j m is reported other = let below = other.inside h reported in omega arith
 
   pub else_now : (meaning : Ghosts O P C R) (q : Stage) (done : List StepDone) (m m' : Seat O P C R) (j : ℕ) → Goes meaning q done m m' → IsElse m.0 j → IsElse m'.0 j
   else_now meaning q done m m' j g other = subst (λ (z : Seat O P C R). IsElse z.0 j) (sym g.seat) record { other = other.other; inside = other.inside }

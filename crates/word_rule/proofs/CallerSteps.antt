@@ -49,7 +49,7 @@ module _ {O P C R : Type 0} (meaning : Ghosts O P C R) (kind : LockKind) (h : Ce
 
   -- the caller may step so: word i becomes k, the lock becomes what `next` makes of it, and the caller is told
   abbrev pub Makes : (Lock → ℕ → Lock × List StepDone) → (s : Table O P C R) → Rule s → ℕ → ℕ → (Seat O P C R → Type 0) → Type 0
-  Makes next s r i k told = (w : SeatView O P C R) × (a : Act (Option (History O P C R))) × Valid s.homes me.1 a × (r' : Rule (stepped s i k id me.1 w a)) × told (w, carried_after me.1 a)
+  Makes next s r i k reported = (w : SeatView O P C R) × (a : Act (Option (History O P C R))) × Valid s.homes me.1 a × (r' : Rule (stepped s i k id me.1 w a)) × reported (w, carried_after me.1 a)
       × (r'.state.lock ≡ (next r.state.lock p).0) × GoesOn p (next r.state.lock p).1 r.state.run r'.state.run
 
   module _ (acts : has p me.0.main.owned ≡ true) {old : Stage} (s : Table O P C R) (m : LockState d.Extra) (c : StandsIn meaning kind h slots id me old s m) where
@@ -77,28 +77,28 @@ module _ {O P C R : Type 0} (meaning : Ghosts O P C R) (kind : LockKind) (h : Ce
 
       -- the caller goes on
       pub goes_by : (next : Lock → ℕ → Lock × List StepDone) (q : Stage) (done : List StepDone) → l.line.stage ≡ moved m.line.stage p q → l.line.out ≡ m.line.out → Runs meaning kind h r.state p (lock_of kind l) done → next (lock_of kind m) p ≡ (lock_of kind l, done)
-          → (told : Seat O P C R → Type 0) → (Goes meaning q done me (on q done) → told (on q done)) → Makes next s r i k told
-      goes_by next q done stage out runs is told tells =
+          → (reported : Seat O P C R → Type 0) → (Goes meaning q done me (on q done) → reported (on q done)) → Makes next s r i k reported
+      goes_by next q done stage out runs is reported reports =
           let so = does_so p c.rule.run (next (lock_of kind m) p) (lock_of kind l) done (ran done) is (goes_silently p c.rule.run done) in (
             (on q done).0,
             keeps,
             tt,
             kept meaning kind h s r i k id v me.1 (lock_of kind l) q done stage out c.there acts runs (tied_lock kind h.numbers _ l tied),
-            tells (goes meaning kind h s r id me acts c.mine q done runs.ran),
+            reports (goes meaning kind h s r id me acts c.mine q done runs.ran),
             so.0,
             so.1,
           )
 
       -- the caller gets the object
       pub gets_by : (next : Lock → ℕ → Lock × List StepDone) (q : Stage) (done : List StepDone) → l.line.stage ≡ moved m.line.stage p q → l.line.out ≡ true → m.line.out ≡ false → Runs meaning kind h r.state p (lock_of kind l) done → next (lock_of kind m) p ≡ (lock_of kind l, done)
-          → (told : Seat O P C R → Type 0) → (Gets meaning q done me (with_it q done) → told (with_it q done)) → Makes next s r i k told
-      gets_by next q done stage out home runs is told tells =
+          → (reported : Seat O P C R → Type 0) → (Gets meaning q done me (with_it q done) → reported (with_it q done)) → Makes next s r i k reported
+      gets_by next q done stage out home runs is reported reports =
           let so = does_so p c.rule.run (next (lock_of kind m) p) (lock_of kind l) done (ran done) is (goes_silently p c.rule.run done) in (
             (with_it q done).0,
             takes 0 (Some (stored meaning h c.rule.committed)),
             c.rule.at_home home,
             taken meaning kind h s r i k id v me.1 (lock_of kind l) q done stage out c.there acts runs (tied_lock kind h.numbers _ l tied),
-            tells (gets meaning kind h s r id me acts c.mine q done runs.ran),
+            reports (gets meaning kind h s r id me acts c.mine q done runs.ran),
             so.0,
             so.1,
           )
@@ -114,19 +114,19 @@ module _ {O P C R : Type 0} (meaning : Ghosts O P C R) (kind : LockKind) (h : Ce
         as_turn = ap (λ (z : Lock × StepDone). (z.0, z.1 ∷ [])) turned
 
         -- by its turn
-        pub goes_on : (q : Stage) → l.line.stage ≡ moved m.line.stage p q → l.line.out ≡ m.line.out → (told : Seat O P C R → Type 0) → (Goes meaning q (step ∷ []) me (on q (step ∷ [])) → told (on q (step ∷ []))) → Makes by_turn s r i k told
-        goes_on q stage out told tells = goes_by by_turn q (step ∷ []) stage out runs_on as_turn told tells
+        pub goes_on : (q : Stage) → l.line.stage ≡ moved m.line.stage p q → l.line.out ≡ m.line.out → (reported : Seat O P C R → Type 0) → (Goes meaning q (step ∷ []) me (on q (step ∷ [])) → reported (on q (step ∷ []))) → Makes by_turn s r i k reported
+        goes_on q stage out reported reports = goes_by by_turn q (step ∷ []) stage out runs_on as_turn reported reports
 
-        pub gets_it : (q : Stage) → l.line.stage ≡ moved m.line.stage p q → l.line.out ≡ true → m.line.out ≡ false → (told : Seat O P C R → Type 0) → (Gets meaning q (step ∷ []) me (with_it q (step ∷ [])) → told (with_it q (step ∷ []))) → Makes by_turn s r i k told
-        gets_it q stage out home told tells = gets_by by_turn q (step ∷ []) stage out home runs_on as_turn told tells
+        pub gets_it : (q : Stage) → l.line.stage ≡ moved m.line.stage p q → l.line.out ≡ true → m.line.out ≡ false → (reported : Seat O P C R → Type 0) → (Gets meaning q (step ∷ []) me (with_it q (step ∷ [])) → reported (with_it q (step ∷ []))) → Makes by_turn s r i k reported
+        gets_it q stage out home reported reports = gets_by by_turn q (step ∷ []) stage out home runs_on as_turn reported reports
 
         module _ (x : History O P C R) (others : List (ℕ × Option (History O P C R))) (one : slots ≡ 1) (carries : me.1 ≡ (0, Some x) ∷ others) (added : AddedBy p v.main.seen x.log) (valid : Lawful meaning h x.log) (is_stored : x ≡ stored meaning h x.log) where
           abbrev pub without_it : Seat O P C R
           without_it = (settled v Idle x.log (c.rule.run ++ leaving p step (drop (length v.main.seen) x.log) ∷ []), rest me.1)
 
           -- the caller gives the object back, and is idle
-          pub gives_back : holding old ≡ true → l.line.stage ≡ moved m.line.stage p Idle → ends_hold step ≡ true → (told : Seat O P C R → Type 0) → (Returns Idle step me without_it → told without_it) → Makes by_turn s r i k told
-          gives_back has_it stage ends told tells =
+          pub gives_back : holding old ≡ true → l.line.stage ≡ moved m.line.stage p Idle → ends_hold step ≡ true → (reported : Seat O P C R → Type 0) → (Returns Idle step me without_it → reported without_it) → Makes by_turn s r i k reported
+          gives_back has_it stage ends reported reports =
               let holds = ap holding c.at ∙ has_it in
               let len = c.homes in
               let slot : me.1 ≡ (0, Some (stored meaning h x.log)) ∷ others = carries ∙ ap (λ z. (0, Some z) ∷ others) is_stored in
@@ -135,4 +135,4 @@ module _ {O P C R : Type 0} (meaning : Ghosts O P C R) (kind : LockKind) (h : Ce
               let ended = given meaning kind h s r i k id v others x.log (lock_of kind l) Idle step stage (omega (arith, len, one)) c.there acts holds (λ y y_below y_has. one_holds h.numbers (lock_of kind m) c.rule.tied.state y p y_below c.below y_has holds) added valid turned ends (tied_lock kind h.numbers _ l tied) in
               let so = turns_so p c.rule.run (lock_of kind m) (lock_of kind l) step run' turned (goes_leaving p c.rule.run step events) in
               let now = subst (λ (cs : List (ℕ × Option (History O P C R))). (r' : Rule (stepped s i k id cs (settled v Idle x.log run') gives)) × (r'.state.lock ≡ (turn (lock_of kind m) p).0) × GoesOn p ((turn (lock_of kind m) p).1 ∷ []) c.rule.run r'.state.run) (sym slot) (ended, so.0, so.1) in
-              (without_it.0, gives, tt, now.0, tells (returns meaning kind h s r id me acts c.mine Idle step x others carries added.begins ended.ran), now.1, now.2)
+              (without_it.0, gives, tt, now.0, reports (returns meaning kind h s r id me acts c.mine Idle step x others carries added.begins ended.ran), now.1, now.2)

@@ -50,7 +50,7 @@ module _ {O P C R : Type 0} (h : Cell O P C R) (kind : LockKind) (first : ℕ) w
 
   mine : SeatInvariant h start 0 (first_view h)
   mine = record {
-    told = (refl, tt);
+    reported = (refl, tt);
     main = record {
       owns = λ y hy. absurd (true≢false (sym hy));
       grows = record { begins = record { start = refl }; own = λ y hy. absurd (true≢false (sym hy)) };

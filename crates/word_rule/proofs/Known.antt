@@ -58,8 +58,8 @@ module _ {O P C R : Type 0} (meaning : Ghosts O P C R) (kind : LockKind) (h : Ce
   abbrev pub Rule : Table O P C R → Type 0
   Rule = CellInvariant meaning kind h
 
-  pub same_cell : (b : GhostState O P C R) (id : ℕ) (v : SeatView O P C R) (g : Cell O P C R) → SeatInvariant h b id v → v.told ≡ g ∷ [] → g ≡ h
-  same_cell b id v g mine is = (subst (λ l. EachFrom (λ _ y. y ≡ h) 0 l) is mine.told).0
+  pub same_cell : (b : GhostState O P C R) (id : ℕ) (v : SeatView O P C R) (g : Cell O P C R) → SeatInvariant h b id v → v.reported ≡ g ∷ [] → g ≡ h
+  same_cell b id v g mine is = (subst (λ l. EachFrom (λ _ y. y ≡ h) 0 l) is mine.reported).0
 
   learn_each : (b : GhostState O P C R) (j k : ℕ) (cs : List (Caller O P C R)) → EachFrom (CallerInvariant h.numbers b j) k cs → EachFrom (λ _ c. Grows (λ x. has x c.owned) c.seen b.committed × Extends (λ x. has x c.owned) c.run [] b.run) k cs
   learn_each b j k [] know = tt
@@ -164,6 +164,6 @@ module _ {O P C R : Type 0} (meaning : Ghosts O P C R) (kind : LockKind) (h : Ce
       let b = r.state in
       let below = in_line_below h.numbers b.lock r.tied.state y in_line in
       let other = someone_else s r id v y mine in_line ne in
-      let cover = has_all.each y (other.inside g has_all.told) in
+      let cover = has_all.each y (other.inside g has_all.reported) in
       let no_mine = other.other in
       true≢false (sym in_line ∙ idle_outside h.numbers b.lock r.tied.state y below (outs b id 1 v.others y mine.others out (grind (arith, nat_tests))))

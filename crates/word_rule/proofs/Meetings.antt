@@ -99,7 +99,7 @@ module _ {O P C R : Type 0} (meaning : Ghosts O P C R) (kind : LockKind) (h : Ce
   -- what was known of a seat that isn't the one that changed
   elsewhere : (b : GhostState O P C R) (f : ℕ × ℕ → ℕ × ℕ) (j : ℕ) (u : V) → ((k : ℕ) → ◌≡◌ {A = ℕ × ℕ} (f (j, k)) (j, k)) → All b j u → All (renamed b f) j u
   elsewhere b f j u same a = record {
-    told = a.told;
+    reported = a.reported;
     main = rename b f j 0 j 0 u.main (same 0) a.main;
     others = each_map 1 (λ k c le. rename b f j k j k c (same k)) 1 (omega arith) u.others a.others;
   }
@@ -121,10 +121,10 @@ module _ {O P C R : Type 0} (meaning : Ghosts O P C R) (kind : LockKind) (h : Ce
         valid = r.valid;
         at_home = r.at_home;
         each = λ j u e. ⊎_elim {0, 0, 0}
-            (λ (t : (j ≡ other) × (gone ≡ u)). subst (λ (z : ℕ × V). All b' z.0 z.1) (λ i. (sym t.0 i, t.1 i)) record { told = tt; main = blank_known b' other; others = tt })
+            (λ (t : (j ≡ other) × (gone ≡ u)). subst (λ (z : ℕ × V). All b' z.0 z.1) (λ i. (sym t.0 i, t.1 i)) record { reported = tt; main = blank_known b' other; others = tt })
             (λ (t : (j ≢ other) × (get_elem? (set s.views id (taken_in v w)) j ≡ some u)). ⊎_elim {0, 0, 0}
             (λ (q : (j ≡ id) × (taken_in v w ≡ u)). subst (λ (z : ℕ × V). All b' z.0 z.1) (λ i. (sym q.0 i, q.1 i)) record {
-              told = mine.told;
+              reported = mine.reported;
               main = rename b f id 0 id 0 v.main (into_else id other id 0 (λ z. away (sym z))) mine.main;
               others = (rename b f other 0 id 1 w.main (into_there id other 0) theirs.main, tt);
             })
@@ -166,14 +166,14 @@ module _ {O P C R : Type 0} (meaning : Ghosts O P C R) (kind : LockKind) (h : Ce
         each = λ j u e. ⊎_elim {0, 0, 0}
             (λ (t : get_elem? (set s.views id keep) j ≡ some u). ⊎_elim {0, 0, 0}
             (λ (q : (j ≡ id) × (keep ≡ u)). subst (λ (z : ℕ × V). All b' z.0 z.1) (λ i. (sym q.0 i, q.1 i)) record {
-              told = mine.told;
+              reported = mine.reported;
               main = rename b f id 0 id 0 v.main (out_there id n 0) mine.main;
               others = rest_known b id n v.others mine.others;
             })
             (λ (q : (j ≢ id) × (get_elem? s.views j ≡ some u)). elsewhere b f j u (λ k. out_else id n j k q.0) (r.each j u q.1))
             (at_set s.views id j keep u t))
             (λ (t : (j ≡ length (set s.views id keep)) × (go ≡ u)). subst (λ (z : ℕ × V). All b' z.0 z.1) (λ i. (sym (t.0 ∙ same) i, t.1 i)) record {
-              told = mine.told;
+              reported = mine.reported;
               main = first_known b id n v.others mine.others;
               others = tt;
             })
@@ -197,7 +197,7 @@ module _ {O P C R : Type 0} (meaning : Ghosts O P C R) (kind : LockKind) (h : Ce
           at_home = r.at_home;
           each = seats_stay h b b s.views id (settled v v.main.stage b.committed b.run)
               record {
-                told = mine.told;
+                reported = mine.reported;
                 main = let k = show_each h b id 0 (v.main ∷ []) (mine.main, tt) in k.0;
                 others = show_each h b id 1 v.others mine.others;
               }
@@ -208,11 +208,11 @@ module _ {O P C R : Type 0} (meaning : Ghosts O P C R) (kind : LockKind) (h : Ce
 
   merged_known : (b : GhostState O P C R) (id : ℕ) (v : V) (c : Caller O P C R) → v.others ≡ c ∷ [] → v.main.stage ≡ Idle → c.stage ≡ Idle → All b id v → All (renamed b (together id)) id (merged v b.committed b.run)
   merged_known b id v c is rests c_rests mine =
-      let Q : List (Caller O P C R) → Type 0 = λ l. All (renamed b (together id)) id record { told = v.told; main = idle (min v.main.cpu (first_or_none l).cpu) (v.main.owned ++ (first_or_none l).owned) b.committed b.run; others = [] } in
+      let Q : List (Caller O P C R) → Type 0 = λ l. All (renamed b (together id)) id record { reported = v.reported; main = idle (min v.main.cpu (first_or_none l).cpu) (v.main.owned ++ (first_or_none l).owned) b.committed b.run; others = [] } in
       let k = (subst (λ (l : List (Caller O P C R)). EachFrom (K b id) 1 l) is mine.others).0 in
       let all : (x : ℕ) → has x (v.main.owned ++ c.owned) ≡ true → b.lock.line.stage x ≡ Idle = λ x hx. ⊎_elim {0, 0, 0} (all_idle h.numbers b id 0 v.main mine.main rests x) (all_idle h.numbers b id 1 c k c_rests x) (has_append x v.main.owned c.owned hx) in
       subst Q (sym is) record {
-        told = mine.told;
+        reported = mine.reported;
         main = record {
           owns = λ x hx. ⊎_elim {0, 0, 0}
               (λ hv. let o = mine.main.owns x hv in (ap (together id) o.0 ∙ together_there id 0, o.1))

@@ -36,7 +36,7 @@ module _ {O P C R : Type 0} (meaning : Ghosts O P C R) (kind : LockKind) (h : Ce
         at_home = r.at_home;
         each = seats_stay h b b s.views id (noted v found)
             record {
-              told = mine.told;
+              reported = mine.reported;
               main = record {
                 owns = mine.main.owns;
                 grows = mine.main.grows;
@@ -56,6 +56,6 @@ module _ {O P C R : Type 0} (meaning : Ghosts O P C R) (kind : LockKind) (h : Ce
   unchanged w g is alone all =
       let b = r.state in
       let mine = r.each id v there in
-      let same = same_cell meaning kind h b id v g mine all.told in
+      let same = same_cell meaning kind h b id v g mine all.reported in
       ap (λ (z : List ℕ). get_or z 0 0) r.tied.words
       ∙ mine.main.finds w is (λ x below. sym (or_none (has x v.main.owned)) ∙ (ap (λ cs. has x v.main.owned || any_has x cs) (sym alone) ∙ all.each x (subst (λ z. x < z.numbers) (sym same) below)))

@@ -11,7 +11,7 @@ ghost use Rattle.word_rule.specs.Machine.World.{World, step, run, run_of};
 
 mod cell_spec;
 mod hold;
-mod law;
+mod machine_laws;
 mod lock_words;
 mod logs;
 mod mcs;
@@ -28,7 +28,7 @@ use crate::machine::progress::Progress;
 use crate::machine::room::{Room, make_room};
 pub use cell_spec::CellSpec;
 use event_log::{Entry, Event, OutOfMemory, Run, SeqObject, Series, Todo};
-pub use law::{
+pub use machine_laws::{
     calls_end, ends_are_an_order, first_come, idle_when_done, one_holder, scripts_end,
     someone_gets_on, sound_runs,
 };

@@ -39,7 +39,7 @@ pub struct CallerView<E> {
 /// A seat: what it was told of its cell (nothing, once another seat has taken it in), its caller, and the callers that
 /// it has taken in.
 pub struct View<H, E> {
-    pub told: LinkedList<H>,
+    pub reported: LinkedList<H>,
     pub main: CallerView<E>,
     pub others: LinkedList<CallerView<E>>,
 }

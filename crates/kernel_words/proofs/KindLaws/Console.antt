@@ -11,7 +11,7 @@ use Rattle.kernel_object.specs.Kinds.Console.{of_console}
 use Rattle.kernel_words.specs.Kinds.Console.{console_row, console_text}
 use Rattle.kernel_words.specs.Ranges.{reply_fits}
 use Rattle.kernel_words.specs.Row.{in_range, row_fits, byte, limit}
-use Rattle.kernel_words.proofs.KindLaws.Laws.{KindLaws, KindKeeps, all_told, limit_again, small_number, wide_fits}
+use Rattle.kernel_words.proofs.KindLaws.Laws.{KindLaws, KindKeeps, all_expressed, limit_again, small_number, wide_fits}
 use Rattle.kernel_words.proofs.LogRanges.{Keeps}
 use Rattle.record_lines.proofs.Readings.{plain_decimal}
 use Rattle.record_lines.proofs.Lengths.{number_le}
@@ -19,8 +19,8 @@ use Rattle.kernel_words.proofs.Spellings.{field_takes}
 
 pub console_laws : KindLaws console_text
 console_laws = record {
-  take = λ form ws read e. let number = field_takes (limit MOST_BYTES 0) ws read e in record { text = number.text; fits = number.fit; told = all_told console_text (λ p. tt) form read.0 };
-  again = λ form b rest fits told. limit_again MOST_BYTES b rest (omega arith) fits;
+  take = λ form ws read e. let number = field_takes (limit MOST_BYTES 0) ws read e in record { text = number.text; fits = number.fit; expressed = all_expressed console_text (λ p. tt) form read.0 };
+  again = λ form b rest fits expressed. limit_again MOST_BYTES b rest (omega arith) fits;
   plain_word = search (rules, arith);
   plain = λ form b fits. (plain_decimal b (small_number b MOST_BYTES (omega arith) fits), tt);
   short_word = omega arith;

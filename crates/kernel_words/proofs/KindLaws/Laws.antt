@@ -5,7 +5,7 @@ use Rattle.std.specs.List.{AllByRecursion}
 use Rattle.kernel_object.specs.Kinds.Definition.{KindDefinition}
 use Rattle.kernel_words.specs.declared.form.Form.{Form}
 use Rattle.kernel_words.specs.declared.form.Form.TheVariants.{One, Two}
-use Rattle.kernel_words.specs.Kinds.Definition.{KindText, Tells}
+use Rattle.kernel_words.specs.Kinds.Definition.{KindText, Expresses}
 use Rattle.kernel_words.specs.Ranges.{reply_fits}
 use Rattle.kernel_words.specs.Row.{in_range, row_fits, wide, limit, field_at}
 use Rattle.record_lines.specs.Words.{IsPlain}
@@ -17,13 +17,13 @@ use Rattle.record_lines.proofs.Lengths.{long}
 pub record ReadsParams {d : KindDefinition} (t : KindText d) (form : Form) (ws : List (List ℕ)) (read : d.Params × List (List ℕ)) : Type 0 where
   pub text : ws ≡ t.params_words form read.0 ++ read.1
   pub fits : d.in_range read.0 ≡ true
-  pub told : Tells t form read.0
+  pub expressed : Expresses t form read.0
 
 pub record KindLaws {d : KindDefinition} (t : KindText d) : Type 0 where
   -- what is read is what the words spell
   pub take : (form : Form) (ws : List (List ℕ)) (read : d.Params × List (List ℕ)) → t.params_at form ws ≡ Some read → ReadsParams t form ws read
   -- what is spelled is read again
-  pub again : (form : Form) (p : d.Params) (rest : List (List ℕ)) → d.in_range p ≡ true → Tells t form p → t.params_at form (t.params_words form p ++ rest) ≡ Some (p, rest)
+  pub again : (form : Form) (p : d.Params) (rest : List (List ℕ)) → d.in_range p ≡ true → Expresses t form p → t.params_at form (t.params_words form p ++ rest) ≡ Some (p, rest)
   -- neither a line end nor a space is in its words
   pub plain_word : IsPlain d.word
   pub plain : (form : Form) (p : d.Params) → d.in_range p ≡ true → AllByRecursion IsPlain (t.params_words form p)
@@ -40,9 +40,9 @@ pub record KindKeeps {d : KindDefinition} (t : KindText d) : Type 1 where
 -- ---- what kinds have in common
 
 -- a kind all of whose parameters record 1 tells
-pub all_told : {d : KindDefinition} (t : KindText d) → ((p : d.Params) → t.ToldByFirst p) → (form : Form) (p : d.Params) → Tells t form p
-all_told t told One p = told p
-all_told t told Two p = tt
+pub all_expressed : {d : KindDefinition} (t : KindText d) → ((p : d.Params) → t.ExpressedByFirst p) → (form : Form) (p : d.Params) → Expresses t form p
+all_expressed t expressed One p = expressed p
+all_expressed t expressed Two p = tt
 
 -- a number in its range is read again
 pub limit_again : (high n : ℕ) (rest : List (List ℕ)) → high < 2 ^ 64 → (nat_le 1 n && nat_le n high) ≡ true → field_at (limit high 0) (decimal n ∷ rest) ≡ Some (n, rest)

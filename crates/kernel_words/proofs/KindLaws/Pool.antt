@@ -15,7 +15,7 @@ use Rattle.kernel_object.specs.Kinds.Pool.{of_pool}
 use Rattle.kernel_words.specs.declared.form.Form.{Form}
 use Rattle.kernel_words.specs.declared.form.Form.TheVariants.{One, Two}
 use Rattle.kernel_words.specs.declared.tables.field.Field.{Field}
-use Rattle.kernel_words.specs.Kinds.Definition.{Tells}
+use Rattle.kernel_words.specs.Kinds.Definition.{Expresses}
 use Rattle.kernel_words.specs.Kinds.Pool.{quota_words, all_quotas_at, quotas_at, pool_params_at, pool_text}
 use Rattle.kernel_words.specs.Ranges.{reply_fits}
 use Rattle.kernel_words.specs.Row.{in_range, refill, limit, up_to, field_at, numbers_at}
@@ -104,19 +104,19 @@ full_are n e = record { count = refl; each = all_full n 16 e }
 record Quotas (form : Form) (n : ℕ) (ws : List (List ℕ)) (read : List ℕ × List (List ℕ)) : Type 0 where
   text : ws ≡ quota_words form read.0 ++ read.1
   are : AreQuotas read.0
-  told : Tells pool_text form (record { pages = n; quotas = read.0 })
+  expressed : Expresses pool_text form (record { pages = n; quotas = read.0 })
 
 quotas_take : (form : Form) (n : ℕ) (ws : List (List ℕ)) (read : List ℕ × List (List ℕ)) → is_quota n ≡ true → quotas_at form n ws ≡ Some read → Quotas form n ws read
 unfolding quotas_at
 quotas_take One n ws read small e =
     let is : ◌≡◌ {A = List ℕ × List (List ℕ)} (replicate OWNERS n, ws) read = cc in
-    subst (Quotas One n ws) is (record { text = refl; are = full_are n small; told = refl })
-quotas_take Two n ws read small e = let taken = all_quotas_take ws read e in record { text = taken.0; are = taken.1; told = tt }
+    subst (Quotas One n ws) is (record { text = refl; are = full_are n small; expressed = refl })
+quotas_take Two n ws read small e = let taken = all_quotas_take ws read e in record { text = taken.0; are = taken.1; expressed = tt }
 
-quotas_again : (form : Form) (p : PoolParams) (rest : List (List ℕ)) → AreQuotas p.quotas → Tells pool_text form p → quotas_at form p.pages (quota_words form p.quotas ++ rest) ≡ Some (p.quotas, rest)
+quotas_again : (form : Form) (p : PoolParams) (rest : List (List ℕ)) → AreQuotas p.quotas → Expresses pool_text form p → quotas_at form p.pages (quota_words form p.quotas ++ rest) ≡ Some (p.quotas, rest)
 unfolding quotas_at
-quotas_again One p rest are told = ap (λ (q : PoolParams). Some (q.quotas, rest)) (sym told)
-quotas_again Two p rest are told = all_quotas_again p.quotas rest are
+quotas_again One p rest are expressed = ap (λ (q : PoolParams). Some (q.quotas, rest)) (sym expressed)
+quotas_again Two p rest are expressed = all_quotas_again p.quotas rest are
 
 -- the parts of a pool's range
 pool_parts : (p : PoolParams) → is_in_range p ≡ true → ((nat_le 1 p.pages && nat_le p.pages 4096) ≡ true) × AreQuotas p.quotas
@@ -137,14 +137,14 @@ pool_take form ws read e = bind_some (field_at (limit MOST_PAGES 0) ws) _ read e
     subst (ReadsParams pool_text form ws) is (record {
       text = number.text ∙ ap (λ l. decimal n.0 ∷ l) quotas.text;
       fits = pool_in_range (record { pages = n.0; quotas = qs.0 }) number.fit quotas.are;
-      told = quotas.told;
+      expressed = quotas.expressed;
     })))
 
-pool_again : (form : Form) (p : PoolParams) (rest : List (List ℕ)) → is_in_range p ≡ true → Tells pool_text form p → pool_params_at form (decimal p.pages ∷ quota_words form p.quotas ++ rest) ≡ Some (p, rest)
+pool_again : (form : Form) (p : PoolParams) (rest : List (List ℕ)) → is_in_range p ≡ true → Expresses pool_text form p → pool_params_at form (decimal p.pages ∷ quota_words form p.quotas ++ rest) ≡ Some (p, rest)
 unfolding pool_params_at
-pool_again form p rest fits told =
+pool_again form p rest fits expressed =
     let parts = pool_parts p fits in
-    rw (limit_again MOST_PAGES p.pages (quota_words form p.quotas ++ rest) (omega arith) parts.0, quotas_again form p rest parts.1 told) refl
+    rw (limit_again MOST_PAGES p.pages (quota_words form p.quotas ++ rest) (omega arith) parts.0, quotas_again form p rest parts.1 expressed) refl
 
 -- ---- their words
 

@@ -8,22 +8,22 @@ use Rattle.shared_queue.specs.declared.call.QueueCall.{QueueCall}
 use Rattle.shared_queue.specs.declared.queue.TheConstants.{MOST_THREADS}
 use Rattle.kernel_object.specs.Kinds.Queue.{of_queue}
 use Rattle.kernel_words.specs.declared.form.Form.{Form}
-use Rattle.kernel_words.specs.Kinds.Definition.{Tells}
+use Rattle.kernel_words.specs.Kinds.Definition.{Expresses}
 use Rattle.kernel_words.specs.Kinds.Queue.{queue_text}
 use Rattle.kernel_words.specs.Ranges.{reply_fits}
 use Rattle.kernel_words.specs.Row.{limit}
-use Rattle.kernel_words.proofs.KindLaws.Laws.{KindLaws, KindKeeps, all_told, limit_again, small_number, wide_fits}
+use Rattle.kernel_words.proofs.KindLaws.Laws.{KindLaws, KindKeeps, all_expressed, limit_again, small_number, wide_fits}
 use Rattle.record_lines.proofs.Readings.{plain_decimal}
 use Rattle.record_lines.proofs.Lengths.{number_le}
 use Rattle.kernel_words.proofs.Spellings.{field_takes}
 
-pub queue_told : (form : Form) (t : ℕ) → Tells queue_text form t
-queue_told form t = all_told queue_text (λ p. tt) form t
+pub queue_expressed : (form : Form) (t : ℕ) → Expresses queue_text form t
+queue_expressed form t = all_expressed queue_text (λ p. tt) form t
 
 pub queue_laws : KindLaws queue_text
 queue_laws = record {
-  take = λ form ws read e. let number = field_takes (limit MOST_THREADS 0) ws read e in record { text = number.text; fits = number.fit; told = queue_told form read.0 };
-  again = λ form t rest fits told. limit_again MOST_THREADS t rest (omega arith) fits;
+  take = λ form ws read e. let number = field_takes (limit MOST_THREADS 0) ws read e in record { text = number.text; fits = number.fit; expressed = queue_expressed form read.0 };
+  again = λ form t rest fits expressed. limit_again MOST_THREADS t rest (omega arith) fits;
   plain_word = search (rules, arith);
   plain = λ form t fits. (plain_decimal t (small_number t MOST_THREADS (omega arith) fits), tt);
   short_word = omega arith;

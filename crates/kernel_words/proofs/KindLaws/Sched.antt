@@ -18,7 +18,7 @@ use Rattle.kernel_words.specs.declared.form.Form.{Form}
 use Rattle.kernel_words.specs.Kinds.Sched.{sched_params_at, sched_text}
 use Rattle.kernel_words.specs.Ranges.{reply_fits}
 use Rattle.kernel_words.specs.Row.{limit, field_at}
-use Rattle.kernel_words.proofs.KindLaws.Laws.{KindLaws, KindKeeps, ReadsParams, all_told, limit_again, small_number, wide_fits}
+use Rattle.kernel_words.proofs.KindLaws.Laws.{KindLaws, KindKeeps, ReadsParams, all_expressed, limit_again, small_number, wide_fits}
 use Rattle.record_lines.proofs.Readings.{bind_some, plain_decimal}
 use Rattle.record_lines.proofs.Lengths.{number_le}
 use Rattle.kernel_words.proofs.Spellings.{field_takes}
@@ -44,7 +44,7 @@ sched_take form ws read e = bind_some (field_at (limit MOST_THREADS 0) ws) _ rea
     subst (ReadsParams sched_text form ws) is (record {
       text = threads.text ∙ ap (λ l. decimal n.0 ∷ l) channels.text;
       fits = sched_range (record { threads = n.0; channels = m.0 }) threads.fit channels.fit;
-      told = all_told sched_text (λ p. tt) form (record { threads = n.0; channels = m.0 });
+      expressed = all_expressed sched_text (λ p. tt) form (record { threads = n.0; channels = m.0 });
     })))
 
 sched_again : (p : SchedParams) (rest : List (List ℕ)) → is_in_range p ≡ true → sched_params_at (decimal p.threads ∷ decimal p.channels ∷ rest) ≡ Some (p, rest)
@@ -56,7 +56,7 @@ sched_again p rest fits =
 pub sched_laws : KindLaws sched_text
 sched_laws = record {
   take = sched_take;
-  again = λ form p rest fits told. sched_again p rest fits;
+  again = λ form p rest fits expressed. sched_again p rest fits;
   plain_word = search (rules, arith);
   plain = λ form p fits.
       let both = sched_parts p fits in

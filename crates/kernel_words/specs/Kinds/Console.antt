@@ -21,7 +21,7 @@ console_filled Level ns = Level
 
 abbrev pub console_text : KindText console_kind
 console_text = record {
-  ToldByFirst = λ bytes. Unit {0};
+  ExpressedByFirst = λ bytes. Unit {0};
   params_words = λ form bytes. decimal bytes ∷ [];
   params_at = λ form ws. field_at (limit MOST_BYTES 0) ws;
   row = console_row;

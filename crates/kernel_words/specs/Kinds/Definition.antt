@@ -7,7 +7,7 @@ use Rattle.kernel_words.specs.Row.{Row}
 
 pub record KindText (d : KindDefinition) : Type 1 where
   -- record 1 tells these parameters
-  pub ToldByFirst : d.Params → Type 0
+  pub ExpressedByFirst : d.Params → Type 0
   -- how parameters are spelled behind the kind's word
   pub params_words : Form → d.Params → List (List ℕ)
   -- the parameters that are next, and the words behind them
@@ -20,6 +20,6 @@ pub record KindText (d : KindDefinition) : Type 1 where
   pub samples : List d.Call
 
 -- the form tells these parameters of the kind
-abbrev pub Tells : {d : KindDefinition} → KindText d → Form → d.Params → Type 0
-Tells t Two p = Unit {0}
-Tells t One p = t.ToldByFirst p
+abbrev pub Expresses : {d : KindDefinition} → KindText d → Form → d.Params → Type 0
+Expresses t Two p = Unit {0}
+Expresses t One p = t.ExpressedByFirst p

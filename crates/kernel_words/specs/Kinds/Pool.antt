@@ -54,7 +54,7 @@ pool_params_at form ws = do
 abbrev pub pool_text : KindText pool_kind
 pool_text = record {
   -- without quotas, only a pool whose quotas are all its number of pages
-  ToldByFirst = λ p. p ≡ full_quotas p.pages;
+  ExpressedByFirst = λ p. p ≡ full_quotas p.pages;
   params_words = λ form p. decimal p.pages ∷ quota_words form p.quotas;
   params_at = pool_params_at;
   row = pool_row;

@@ -23,7 +23,7 @@ queue_filled Len ns = Len
 
 abbrev pub queue_text : KindText queue_kind
 queue_text = record {
-  ToldByFirst = λ threads. Unit {0};
+  ExpressedByFirst = λ threads. Unit {0};
   params_words = λ form threads. decimal threads ∷ [];
   params_at = λ form ws. field_at (limit MOST_THREADS 0) ws;
   row = queue_row;

@@ -34,7 +34,7 @@ sched_params_at ws = do
 
 abbrev pub sched_text : KindText sched_kind
 sched_text = record {
-  ToldByFirst = λ p. Unit {0};
+  ExpressedByFirst = λ p. Unit {0};
   params_words = λ form p. decimal p.threads ∷ decimal p.channels ∷ [];
   params_at = λ form ws. sched_params_at ws;
   row = sched_row;

@@ -54,7 +54,7 @@ pub trait RecordForm: Drop {
     ghost SpellsSteps: { List ℕ → Self.Event → Type 0 };
 
     /// Under that head, on that object, with so many looks, the text behind them tells the entry.
-    ghost Tells: { Self.Head → ℕ → ℕ → List ℕ → Self.Entry → Type 0 };
+    ghost TailSpells: { Self.Head → ℕ → ℕ → List ℕ → Self.Entry → Type 0 };
 
     /// What was read of a head is within its limits, where more lines of it come.
     ghost HeadPart: { Self.Head → Type 0 };
@@ -143,7 +143,7 @@ pub trait RecordForm: Drop {
     fn entry_front<'a>(head: &Self::Head, line: &'a [u8]) -> Option<(u8, u64, &'a [u8])>
         requires fit { HeadFits head.now }
         ensures bound { IfSome result (λ x. x.0 < objects head.now) }
-        ensures known { IfSome result (λ x. (e : Self.Entry) → Tells head.now x.0 x.1 x.2.now e → (entry_at head.now line.now ≡ Some e) × EntryFits head.now e) };
+        ensures known { IfSome result (λ x. (e : Self.Entry) → TailSpells head.now x.0 x.1 x.2.now e → (entry_at head.now line.now ≡ Some e) × EntryFits head.now e) };
 
     /// How many entries the head of that CPU's transcript tells.
     fn cpu_line(head: &Self::Head, cpu: u16, line: &[u8]) -> Option<u64>

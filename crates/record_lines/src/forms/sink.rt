@@ -62,7 +62,7 @@ pub trait RecordSink<F: RecordForm>: Drop {
         requires begun { (received self.old).begun ≡ true }
         requires more { length (received self.old).entries < (received self.old).count }
         requires object { object < F.objects (received self.old).head }
-        ensures known { result ≡ Ok true → (e : F.Entry) × F.Tells (received self.old).head object looks tail.now e × (received self.new ≡ with_entry (received self.old) e) }
+        ensures known { result ≡ Ok true → (e : F.Entry) × F.TailSpells (received self.old).head object looks tail.now e × (received self.new ≡ with_entry (received self.old) e) }
         ensures unknown { result ≡ Ok false → received self.new ≡ received self.old }
         ensures err { OnErr result (received self.new ≡ received self.old) };
 

@@ -12,7 +12,7 @@ use event_log::Source;
 pub enum SourceFault<F> {
     ReadFailed,
     /// What who takes the text tells.
-    Told(F),
+    Reported(F),
 }
 
 /// Who takes a text that comes in pieces.
@@ -47,7 +47,7 @@ pub fn feed_all<S: Source, P: TakesPieces>(
     requires room { 0 < length buffer.old }
     ensures taken { OnOk result (HasTakenRest (P.takes reader.old) (S.remaining source.old) reader.new) }
     ensures to_end { OnOk result (IsReadOut (S.remaining source.old) (S.remaining source.new)) }
-    ensures refused { (f : P.Fault) → result ≡ Err (SourceFault.Told f) →
+    ensures refused { (f : P.Fault) → result ≡ Err (SourceFault.Reported f) →
         HasRefused (P.refuses reader.old) (S.remaining source.old) (S.remaining source.new) f }
     ensures none_failed { OnOk result (S.failed source.new ≡ S.failed source.old) }
     ensures one_failed { result ≡ Err SourceFault.ReadFailed → S.failed source.new ≡ counted true (S.failed source.old) }
@@ -62,9 +62,9 @@ pub fn feed_all<S: Source, P: TakesPieces>(
         }
         match reader.take_piece(&buffer[..count]) {
             Ok(()) => {}
-            Err(fault) => return Err(SourceFault::Told(fault)),
+            Err(fault) => return Err(SourceFault::Reported(fault)),
         }
     }
     // No text has as many pieces, and no memory could hold one.
-    Err(SourceFault::Told(P::out_of_memory()))
+    Err(SourceFault::Reported(P::out_of_memory()))
 }

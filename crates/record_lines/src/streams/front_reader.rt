@@ -37,7 +37,7 @@ pub fn read_up_to<S: Source>(
             return Ok(bytes);
         }
         if bytes.extend_from_slice(&front[..count]).is_err() {
-            return Err(SourceFault::Told(OutOfMemory));
+            return Err(SourceFault::Reported(OutOfMemory));
         }
         left -= count;
     }

@@ -58,7 +58,7 @@ impl From<SourceFault<LinesFault>> for TextFault {
     fn from(cause: SourceFault<LinesFault>) -> TextFault {
         match cause {
             SourceFault::ReadFailed => TextFault::ReadFailed,
-            SourceFault::Told(fault) => TextFault::from(fault),
+            SourceFault::Reported(fault) => TextFault::from(fault),
         }
     }
 }

@@ -45,11 +45,11 @@ pub fn read_into<S: Source, K: RecordSink<KernelForm>>(
     let mut buffer = [0u8; 4096];
     match feed_all(source, &mut pieces, &mut buffer) {
         Ok(()) => Ok(whole_parts(pieces)?),
-        Err(SourceFault::Told(LinesFault::Line(number))) => {
+        Err(SourceFault::Reported(LinesFault::Line(number))) => {
             match feed_all(source, &mut Skipping, &mut buffer) {
                 Ok(()) => Err(TextFault::BadLine(number)),
                 Err(SourceFault::ReadFailed) => Err(TextFault::ReadFailed),
-                Err(SourceFault::Told(OutOfMemory)) => Err(TextFault::OutOfMemory),
+                Err(SourceFault::Reported(OutOfMemory)) => Err(TextFault::OutOfMemory),
             }
         }
         Err(fault) => Err(TextFault::from(fault)),

@@ -52,6 +52,6 @@ fn steps_from<S: Source>(
     }
     match reader.finish() {
         Ok(steps) => Ok(steps),
-        Err(fault) => Err(SourceFault::Told(fault)),
+        Err(fault) => Err(SourceFault::Reported(fault)),
     }
 }

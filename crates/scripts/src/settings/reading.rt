@@ -76,16 +76,16 @@ impl ReadSettings for Settings {
         let bytes = match read_up_to(alloc, source, MOST_SETTINGS_BYTES + 1) {
             Ok(bytes) => bytes,
             Err(SourceFault::ReadFailed) => return Err(SourceFault::ReadFailed),
-            Err(SourceFault::Told(OutOfMemory)) => {
-                return Err(SourceFault::Told(SettingsFault::OutOfMemory));
+            Err(SourceFault::Reported(OutOfMemory)) => {
+                return Err(SourceFault::Reported(SettingsFault::OutOfMemory));
             }
         };
         if bytes.len() > MOST_SETTINGS_BYTES {
-            return Err(SourceFault::Told(SettingsFault::Refused(not_toml())));
+            return Err(SourceFault::Reported(SettingsFault::Refused(not_toml())));
         }
         match Settings::read(alloc, bytes.as_slice()) {
             Ok(settings) => Ok(settings),
-            Err(fault) => Err(SourceFault::Told(fault)),
+            Err(fault) => Err(SourceFault::Reported(fault)),
         }
     }
 }

@@ -61,9 +61,9 @@ module _ {O P C R : Type 0} (meaning : Ghosts O P C R) (k : LockKind) (h : Cell 
       ap (λ (n : ℕ). (n + length l.line.cpus) % tickets) serves_next ∙ (mod-add-mod (h.first + length ended) tickets (length l.line.cpus) ∙ ap (λ (n : ℕ). n % tickets) (omega (arith, all)))
 
   -- whose draw is the next step of the run has that ticket
-  pub has_drawn : (b : ℕ) (v : SeatView O P C R) (g : Cell O P C R) → SeatInvariant h r.state b v → v.told ≡ g ∷ [] → (ticket : ℕ) → (served r.state.lock + length r.state.lock.line.cpus) % tickets ≡ ticket
+  pub has_drawn : (b : ℕ) (v : SeatView O P C R) (g : Cell O P C R) → SeatInvariant h r.state b v → v.reported ≡ g ∷ [] → (ticket : ℕ) → (served r.state.lock + length r.state.lock.line.cpus) % tickets ≡ ticket
       → HasDrawn (caller_of g v) ticket (r.state.run ++ leaving v.main.cpu steps.Draw [] ∷ [])
-  has_drawn b v g mine told ticket same = subst (λ (z : Cell O P C R). HasDrawn (caller_of z v) ticket (r.state.run ++ leaving v.main.cpu steps.Draw [] ∷ [])) (sym (same_cell meaning k h r.state b v g mine told)) record {
+  has_drawn b v g mine reported ticket same = subst (λ (z : Cell O P C R). HasDrawn (caller_of z v) ticket (r.state.run ++ leaving v.main.cpu steps.Draw [] ∷ [])) (sym (same_cell meaning k h r.state b v g mine reported)) record {
     before = r.state.run;
     is = refl;
     number = sym same ∙ draws_next;

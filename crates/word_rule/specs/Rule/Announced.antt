@@ -24,7 +24,7 @@ any_has x (c ∷ cs) = has x c.owned || any_has x cs
 module _ {O P C R : Type 0} where
   -- the seat has each number of the cell
   pub record HasAll (v : SeatView O P C R) (h : Cell O P C R) : Type 0 where
-    pub told : v.told ≡ h ∷ []
+    pub reported : v.reported ≡ h ∷ []
     pub each : (x : ℕ) → x < h.numbers → (has x v.main.owned || any_has x v.others) ≡ true
 
   -- the seat lacks a number of its cell
@@ -34,7 +34,7 @@ module _ {O P C R : Type 0} where
   -- x is a number of the cell that isn't the caller's
   pub record IsElse (v : SeatView O P C R) (x : ℕ) : Type 0 where
     pub other : has x v.main.owned ≡ false
-    pub inside : (h : Cell O P C R) → v.told ≡ h ∷ [] → x < h.numbers
+    pub inside : (h : Cell O P C R) → v.reported ≡ h ∷ [] → x < h.numbers
 
 module _ {O P C R : Type 0} (meaning : Ghosts O P C R) where
   -- the log is lawful and the run left it; both begin with what the seat's callers have seen. The first has done these
@@ -43,8 +43,8 @@ module _ {O P C R : Type 0} (meaning : Ghosts O P C R) where
     pub grows : Grows (λ x. has x v.main.owned) v.main.seen log
     pub extends : Extends (λ x. has x v.main.owned) v.main.run done run
     pub others : EachFrom (λ _ (c : Caller O P C R). Grows (λ x. has x c.owned) c.seen log × Extends (λ x. has x c.owned) c.run [] run) 1 v.others
-    pub valid : (h : Cell O P C R) → v.told ≡ h ∷ [] → Lawful meaning h log
-    pub ran : (h : Cell O P C R) → v.told ≡ h ∷ [] → HasRun h log run
+    pub valid : (h : Cell O P C R) → v.reported ≡ h ∷ [] → Lawful meaning h log
+    pub ran : (h : Cell O P C R) → v.reported ≡ h ∷ [] → HasRun h log run
 
   -- the first caller has done these steps and stands there now; while it has the object no event comes
   pub record Goes (stage : Stage) (done : List StepDone) (m m' : Seat O P C R) : Type 0 where
@@ -66,7 +66,7 @@ module _ {O P C R : Type 0} (meaning : Ghosts O P C R) where
     pub run : List (TraceStep (Event O P C R))
     pub seat : m' ≡ (settled m.0 stage object.log run, (0, Some object) ∷ m.1)
     pub learns : Learns m.0 (silently m.0.main.cpu done) object.log run
-    pub replayed : (h : Cell O P C R) → m.0.told ≡ h ∷ [] → object ≡ stored meaning h object.log
+    pub replayed : (h : Cell O P C R) → m.0.reported ≡ h ∷ [] → object ≡ stored meaning h object.log
 
   -- the callers of a seat learn one log and one run
   pub record Meets (become : List (Event O P C R) → List (TraceStep (Event O P C R)) → SeatView O P C R) (m m' : Seat O P C R) : Type 0 where
@@ -91,7 +91,7 @@ module _ {O P C R : Type 0} where
     pub seat : m' ≡ (settled v stage x.log run, more)
     pub added : x.log ≡ v.main.seen ++ events
     pub extends : ExtendsUntil (λ y. has y v.main.owned) v.main.run [] (leaving v.main.cpu step events) run
-    pub ran : (h : Cell O P C R) → v.told ≡ h ∷ [] → HasRun h x.log run
+    pub ran : (h : Cell O P C R) → v.reported ≡ h ∷ [] → HasRun h x.log run
 
   abbrev pub Returns : Stage → StepDone → Seat O P C R → Seat O P C R → Type 0
   Returns stage step m m' = (x : History O P C R) (more : List (ℕ × Option (History O P C R))) → m.1 ≡ (0, Some x) ∷ more → Left stage step m.0 m' x more

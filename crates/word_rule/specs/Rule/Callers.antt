@@ -40,7 +40,7 @@ module _ {O P C R : Type 0} where
   -- a caller is of a cell: its seat is at the cell's table, and it was told what the table was told
   pub record IsAt {T : Type 0} (cell_table : T) (cell_key : Cell O P C R) (table_id : T) (key : Cell O P C R) : Type 0 where
     pub table : table_id ≡ cell_table
-    pub told : key ≡ cell_key
+    pub reported : key ≡ cell_key
 
   -- the seat has one caller, which acts as that number and stands there, and these slots are out with it
   pub record StandsAt (h : Cell O P C R) (cpu : ℕ) (stage : Stage) (slots : List (ℕ × Option (History O P C R))) (m : Seat O P C R) : Type 0 where
@@ -48,7 +48,7 @@ module _ {O P C R : Type 0} where
     pub number : m.0.main.cpu ≡ cpu
     pub carries : m.1 ≡ slots
     pub stands : m.0.main.stage ≡ stage
-    pub told : m.0.told ≡ h ∷ []
+    pub reported : m.0.reported ≡ h ∷ []
 
 module _ {O P C R : Type 0} (meaning : Ghosts O P C R) where
   -- a caller without the object, which stands there

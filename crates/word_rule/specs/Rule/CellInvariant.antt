@@ -61,7 +61,7 @@ module _ {O P C R : Type 0} (n : ℕ) (b : GhostState O P C R) where
 module _ {O P C R : Type 0} (h : Cell O P C R) (b : GhostState O P C R) where
   -- what the rule says of a seat
   pub record SeatInvariant (j : ℕ) (v : SeatView O P C R) : Type 0 where
-    pub told : EachFrom (λ _ x. x ≡ h) 0 v.told
+    pub reported : EachFrom (λ _ x. x ≡ h) 0 v.reported
     pub main : CallerInvariant h.numbers b j 0 v.main
     pub others : EachFrom (CallerInvariant h.numbers b j) 1 v.others
 

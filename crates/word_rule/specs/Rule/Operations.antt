@@ -17,7 +17,7 @@ module _ {O P C R : Type 0} where
 
   -- the seat has stepped, and this was told
   abbrev pub Stepped : TableSeat (Option (History O P C R)) (SeatView O P C R) → TableSeat (Option (History O P C R)) (SeatView O P C R) → Type 0 → Type 0
-  Stepped before after told = (after.table_id ≡ before.table_id) × (after.id ≡ before.id) × told
+  Stepped before after reported = (after.table_id ≡ before.table_id) × (after.id ≡ before.id) × reported
 
   -- both seats are at this table, neither has taken in a caller, and the other has nothing
   abbrev pub AreBeside : LockTable O P C R → TableSeat (Option (History O P C R)) (SeatView O P C R) → TableSeat (Option (History O P C R)) (SeatView O P C R) → Type 0

@@ -48,36 +48,36 @@ module _ {E : Type 0} where
 module _ {H E : Type 0} where
   -- the first caller has read this word
   abbrev pub noted : View H E → ℕ → View H E
-  noted v w = record { told = v.told; main = reading w v.main; others = v.others }
+  noted v w = record { reported = v.reported; main = reading w v.main; others = v.others }
 
   -- the first caller has seen this log and this run, and stands there
   abbrev pub moved_on : View H E → Stage → List E → List (TraceStep E) → View H E
-  moved_on v p log run = record { told = v.told; main = shown log run (at p v.main); others = v.others }
+  moved_on v p log run = record { reported = v.reported; main = shown log run (at p v.main); others = v.others }
 
   -- each caller of the seat has seen this log and this run, and the first stands there
   abbrev pub settled : View H E → Stage → List E → List (TraceStep E) → View H E
-  settled v p log run = record { told = v.told; main = shown log run (at p v.main); others = map (shown log run) v.others }
+  settled v p log run = record { reported = v.reported; main = shown log run (at p v.main); others = map (shown log run) v.others }
 
   -- the seat takes in the caller of another
   abbrev pub taken_in : View H E → View H E → View H E
-  taken_in v w = record { told = v.told; main = v.main; others = w.main ∷ [] }
+  taken_in v w = record { reported = v.reported; main = v.main; others = w.main ∷ [] }
 
   -- what a seat that was taken in is left with
   abbrev pub spent : View H E
-  spent = record { told = []; main = idle 0 [] [] []; others = [] }
+  spent = record { reported = []; main = idle 0 [] [] []; others = [] }
 
   -- the seat without the first of the callers that it has taken in
   abbrev pub keeping : View H E → View H E
-  keeping v = record { told = v.told; main = v.main; others = behind_first v.others }
+  keeping v = record { reported = v.reported; main = v.main; others = behind_first v.others }
 
   -- that caller alone
   abbrev pub letting : View H E → View H E
-  letting v = record { told = v.told; main = first_or_none v.others; others = [] }
+  letting v = record { reported = v.reported; main = first_or_none v.others; others = [] }
 
   -- the first two callers are one, which has seen this log and this run
   abbrev pub merged : View H E → List E → List (TraceStep E) → View H E
-  merged v log run = let c = first_or_none v.others in record { told = v.told; main = idle (min v.main.cpu c.cpu) (v.main.owned ++ c.owned) log run; others = [] }
+  merged v log run = let c = first_or_none v.others in record { reported = v.reported; main = idle (min v.main.cpu c.cpu) (v.main.owned ++ c.owned) log run; others = [] }
 
 -- the first seat of a cell: it has a caller for each CPU
 abbrev pub first_view : {O P C R : Type 0} → Cell O P C R → SeatView O P C R
-first_view h = record { told = h ∷ []; main = idle 0 [] [] []; others = idle_from 0 h.numbers h.opening }
+first_view h = record { reported = h ∷ []; main = idle 0 [] [] []; others = idle_from 0 h.numbers h.opening }

@@ -1,4 +1,4 @@
 use Rattle.auditor.proofs.received_run.named.Given as goal
 
-abbrev pub ghost-told : goal.ghost-told
-ghost-told g a = g.next
+abbrev pub ghost-named : goal.ghost-named
+ghost-named g a = g.next

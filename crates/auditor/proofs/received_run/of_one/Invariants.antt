@@ -1,5 +1,5 @@
 use Rattle.std.specs.Prelude.{[], ◌∷◌}
 use Rattle.auditor.proofs.received_run.of_one.Given as goal
 
-abbrev pub ghost-told : goal.ghost-told
-ghost-told g a = a.about.now ∷ []
+abbrev pub ghost-named : goal.ghost-named
+ghost-named g a = a.about.now ∷ []

@@ -9,7 +9,7 @@ use Rattle.auditor.specs.declared.fault.Verdict.TheVariants as verdict
 use Rattle.auditor.specs.Faults.{IsFirstFault}
 use Rattle.auditor.specs.Passes.{IsRunOf}
 use Rattle.auditor.specs.Transcripts.{opened_by}
-use Rattle.auditor.proofs.FaultNumbers.{can_be_told}
+use Rattle.auditor.proofs.FaultNumbers.{can_be_reported}
 use Rattle.auditor.proofs.RecordRuns.{KernelTerms, record_run}
 use Rattle.auditor.proofs.record_audit.audit_by.Goals as goal
 
@@ -24,7 +24,7 @@ returns-clause-fault g c =
     let objects = ap opened_by c.as_slice.ensures.value ∙ (c.in_ok-opened_objects.ensures ∙ (ap (λ os. opened_of (record { cpus = 0; objects = os })) c.objects.ensures.objects ∙ ap opened_of c.settings.ensures.settings)) in
     λ f. subst (λ (z : List (Opened KParams) × KernelRun). IfOk c.judge_run.result (λ v. (v ≡ verdict.Unsound f) ↔ IsFirstFault kernel z.0 z.1 f)) (λ j. (objects j, c.run.ensures.run j)) (c.judge_run.ensures.fault f)
 
-pub returns-clause-told : goal.returns-clause-told
-returns-clause-told g c =
+pub returns-clause-reported : goal.returns-clause-reported
+returns-clause-reported g c =
     let objects = ap opened_by c.as_slice.ensures.value ∙ (c.in_ok-opened_objects.ensures ∙ (ap (λ os. opened_of (record { cpus = 0; objects = os })) c.objects.ensures.objects ∙ ap opened_of c.settings.ensures.settings)) in
-    can_be_told c.args.record.now c.run.ensures.fit c.judge_run.result (λ f. subst (λ (z : List (Opened KParams) × KernelRun). IfOk c.judge_run.result (λ v. (v ≡ verdict.Unsound f) ↔ IsFirstFault kernel z.0 z.1 f)) (λ j. (objects j, c.run.ensures.run j)) (c.judge_run.ensures.fault f))
+    can_be_reported c.args.record.now c.run.ensures.fit c.judge_run.result (λ f. subst (λ (z : List (Opened KParams) × KernelRun). IfOk c.judge_run.result (λ v. (v ≡ verdict.Unsound f) ↔ IsFirstFault kernel z.0 z.1 f)) (λ j. (objects j, c.run.ensures.run j)) (c.judge_run.ensures.fault f))

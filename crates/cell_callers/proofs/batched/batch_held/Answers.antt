@@ -4,13 +4,13 @@ use Rattle.cell_callers.proofs.batched.batch_held.Goals as goal
 
 pub returns-in_default-true-clause-reports : goal.returns-in_default-true-clause-reports
 returns-in_default-true-clause-reports c =
-    let did = c.apply_all_held-told in
-    let told = did.ensures.applied in
-    (told.0, true, told.1, record { left = did.new.hold; done = told.2; back = let gone = c.depart.ensures.departure in search rules })
+    let did = c.apply_all_held-reported in
+    let reported = did.ensures.applied in
+    (reported.0, true, reported.1, record { left = did.new.hold; done = reported.2; back = let gone = c.depart.ensures.departure in search rules })
 
 pub returns-in_default-false-clause-reports : goal.returns-in_default-false-clause-reports
 returns-in_default-false-clause-reports c =
-    let did = c.apply_all_held-told in
-    let told = did.ensures.applied in
-    let kept = kept_all told.0 c.args.replies.now did.new.replies did.result c.kept_code.result told.1 c.kept_code.ensures in
-    (told.0, false, kept, record { left = did.new.hold; done = told.2; back = let gone = c.depart.ensures.departure in search rules })
+    let did = c.apply_all_held-reported in
+    let reported = did.ensures.applied in
+    let kept = kept_all reported.0 c.args.replies.now did.new.replies did.result c.kept_code.result reported.1 c.kept_code.ensures in
+    (reported.0, false, kept, record { left = did.new.hold; done = reported.2; back = let gone = c.depart.ensures.departure in search rules })

@@ -17,20 +17,20 @@ go_on-requires c =
 pub returns-in_default-clause-reports : goal.returns-in_default-clause-reports
 returns-in_default-clause-reports c =
     let line = c.args.caller.now.place.line in
-    let told = c.go_on.ensures.reports in
+    let reported = c.go_on.ensures.reports in
     let same = ap (λ p. stands_at p line) (sym c.replace.ensures.value ∙ (c.in_default.is ∙ sym c.replace.ensures.after)) in
-    (told.0, told.1, (told.2.0, told.2.1, same ∙ told.2.2, told.2.3, subst (λ z. IsCalled ghosts z told.2.0 c.args.call told.0 told.2.1) c.deref-any.ensures told.2.4))
+    (reported.0, reported.1, (reported.2.0, reported.2.1, same ∙ reported.2.2, reported.2.3, subst (λ z. IsCalled ghosts z reported.2.0 c.args.call reported.0 reported.2.1) c.deref-any.ensures reported.2.4))
 
 pub returns-in-Ticket-clause-reports : goal.returns-in-Ticket-clause-reports
 returns-in-Ticket-clause-reports c =
     let place = c.args.caller.now.place in
-    let told = c.straight_ticket.ensures.reports in
+    let reported = c.straight_ticket.ensures.reports in
     let idle = idle_there place.pass c.in-Some.pass place.line (sym c.replace.ensures.value ∙ c.in-Some.is) c.args.caller.now.there in
-    (told.0, told.2, (at.Idle c.in-Some.pass, told.1, idle, told.3, subst (λ z. IsCalled ghosts z (at.Idle c.in-Some.pass) c.args.call told.0 told.1) (sym c.in-Ticket.is ∙ c.deref-any.ensures) told.4))
+    (reported.0, reported.2, (at.Idle c.in-Some.pass, reported.1, idle, reported.3, subst (λ z. IsCalled ghosts z (at.Idle c.in-Some.pass) c.args.call reported.0 reported.1) (sym c.in-Ticket.is ∙ c.deref-any.ensures) reported.4))
 
 pub returns-in-Mcs-clause-reports : goal.returns-in-Mcs-clause-reports
 returns-in-Mcs-clause-reports c =
     let place = c.args.caller.now.place in
-    let told = c.straight_mcs.ensures.reports in
+    let reported = c.straight_mcs.ensures.reports in
     let idle = idle_there place.pass c.in-Some.pass place.line (sym c.replace.ensures.value ∙ c.in-Some.is) c.args.caller.now.there in
-    (told.0, told.2, (at.Idle c.in-Some.pass, told.1, idle, told.3, subst (λ z. IsCalled ghosts z (at.Idle c.in-Some.pass) c.args.call told.0 told.1) (sym c.in-Mcs.is ∙ c.deref-any.ensures) told.4))
+    (reported.0, reported.2, (at.Idle c.in-Some.pass, reported.1, idle, reported.3, subst (λ z. IsCalled ghosts z (at.Idle c.in-Some.pass) c.args.call reported.0 reported.1) (sym c.in-Mcs.is ∙ c.deref-any.ensures) reported.4))

@@ -7,7 +7,7 @@ use Rattle.cell_callers.specs.CallReports.{GoesBehind, ReportsCalledAt}
 use Rattle.cell_callers.specs.CallerStates.{IfMcs, IsOne}
 use Rattle.cell_callers.specs.Places.{IsPlaceOf}
 use Rattle.cell_callers.proofs.Places.{stands_idle, stands_in_line}
-use Rattle.cell_callers.proofs.Departures.{HasLeft, kept_told}
+use Rattle.cell_callers.proofs.Departures.{HasLeft, kept_reported}
 use Rattle.cell_callers.proofs.straight.straight_mcs.Goals as goal
 use Rattle.cell_callers.proofs.straight.straight_mcs.Goals.{in-Ok, in-Err+in-Ok-empty}
 
@@ -40,10 +40,10 @@ pub returns-in-Err-empty-clause-reports : goal.returns-in-Err-empty-clause-repor
 returns-in-Err-empty-clause-reports c =
     let leaving = c.in-Err-empty.leaving in
     let done = c.apply_held.result in
-    let told = kept_told done c.args.answered.now c.answer_code-told.new.answered c.answer_code-told.result c.keep.result c.answer_code-told.ensures c.keep.ensures.told in (
+    let reported = kept_reported done c.args.answered.now c.answer_code-reported.new.answered c.answer_code-reported.result c.keep.result c.answer_code-reported.ensures c.keep.ensures.reported in (
       whole.Kept done false,
       at.Leaving leaving,
-      (told, refl),
+      (reported, refl),
       stands_in_line c.args.place.now.pass c.keep.new.line (at.Leaving leaving) c.requires.away.0 c.keep.ensures.line,
       record {
         steps = suc zero;
@@ -76,7 +76,7 @@ returns c =
       reports = (
         whole.Done c.apply_held.result false,
         at.Idle back,
-        (c.answer_code-told.ensures, refl),
+        (c.answer_code-reported.ensures, refl),
         stands,
         record {
           steps = suc zero;

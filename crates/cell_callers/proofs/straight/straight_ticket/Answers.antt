@@ -18,7 +18,7 @@ pub returns-in-Ok-clause-reports : goal.returns-in-Ok-clause-reports
 returns-in-Ok-clause-reports c = (
   whole.Done c.apply_held.result true,
   at.Idle c.serve.result,
-  (c.answer_code-told.ensures, c.count_look.ensures),
+  (c.answer_code-reported.ensures, c.count_look.ensures),
   stands_idle c.serve.result c.args.place.now.line c.requires.away.1,
   record {
     steps = suc zero;
@@ -36,4 +36,4 @@ returns-in-Err-clause-place c =
 pub returns-in-Err-clause-reports : goal.returns-in-Err-clause-reports
 returns-in-Err-clause-reports c =
     let stands = stands_in_line c.args.place.now.pass c.wait_drawn.new.line (at.Drawn c.in-Err.drawn) c.requires.away.0 c.wait_drawn.ensures.line in
-    (whole.Waits, at.Drawn c.in-Err.drawn, (ap (λ n. (n, c.args.answered.now)) c.wait_drawn.ensures.told, c.wait_drawn.ensures.looks), stands, (suc zero, (at.Drawn c.draw.result, c.draw.ensures.step, c.in-Err.ensures.missed.1)))
+    (whole.Waits, at.Drawn c.in-Err.drawn, (ap (λ n. (n, c.args.answered.now)) c.wait_drawn.ensures.reported, c.wait_drawn.ensures.looks), stands, (suc zero, (at.Drawn c.draw.result, c.draw.ensures.step, c.in-Err.ensures.missed.1)))

@@ -47,10 +47,10 @@ loop-object-preserved c =
           let pass = some_at c.in-Ok.passes.items k (omega (arith, lt, olds, given)) in
           let d = c.deal.ensures.dealt k old.0 new pass.0 old.1 e pass.1 in
           let r = i.rows k old.0 old.1 in
-          let told = c.in-Ok.ensures.passes k pass.0 pass.1 in
-          let view : view_of_pass pass.0 ≡ opening_pass (cell_for n o) k = told.1 ∙ (λ j. opening_pass (cell_of (c.lock.ensures j) 0 (c.cpus-in-loop-object.ensures.cpus j) (c.in_ok-logged.ensures.opened j)) k) in
+          let reported = c.in-Ok.ensures.passes k pass.0 pass.1 in
+          let view : view_of_pass pass.0 ≡ opening_pass (cell_for n o) k = reported.1 ∙ (λ j. opening_pass (cell_of (c.lock.ensures j) 0 (c.cpus-in-loop-object.ensures.cpus j) (c.in_ok-logged.ensures.opened j)) k) in
           let room = r.1 in let same = d.1 in (
-            row_next IsPassOf view_of_pass before c.loop-object.cells.items k old.0.items (cell_for n o) c.in-Ok.cell pass.0 r.0 told.0 view
+            row_next IsPassOf view_of_pass before c.loop-object.cells.items k old.0.items (cell_for n o) c.in-Ok.cell pass.0 r.0 reported.0 view
                 (map (cell_for n) (take (c.loop-object.object-index + 1) items)) c.push_reserved.new.self.items new.items all p.items d.0,
             omega (arith, room, same),
           );

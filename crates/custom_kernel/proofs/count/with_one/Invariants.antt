@@ -1,5 +1,5 @@
 use Rattle.std.specs.Prelude.{[], ◌∷◌, ◌++◌}
 use Rattle.custom_kernel.proofs.count.with_one.Given as goal
 
-abbrev pub ghost-told : goal.ghost-told
-ghost-told g a = a.before.now.items ++ a.about.now ∷ []
+abbrev pub ghost-named : goal.ghost-named
+ghost-named g a = a.before.now.items ++ a.about.now ∷ []

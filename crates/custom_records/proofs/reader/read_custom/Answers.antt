@@ -44,7 +44,7 @@ returns-clause-found g c =
     let none = empty_is c.loop-rest.rest.now (sym c.is_empty.ensures ∙ c.if-not-is_empty.false) in
     let p = g.S.RecordSink.received c.into_received-head.result.1 in
     let r = c.into_received-head.ensures in
-    let kept = ap (λ (h : Head). record_in (received_whole h p)) r.whole.told ∙ ap (λ (w : CustomWhole). record_in w) r.received in
+    let kept = ap (λ (h : Head). record_in (received_whole h p)) r.whole.reported ∙ ap (λ (w : CustomWhole). record_in w) r.received in
     subst (IsCustomText c.args.text.now) (sym kept) (text_whole _ _ (form.is_whole custom_form custom_laws c.args.text.now c.loop-rest.rest.now c.loop-rest.state c.loop-rest.number c.loop-rest.invariant.0 (c.is_done.ensures.0 c.loop-rest-test.false) none))
 
 pub returns-clause-only : goal.returns-clause-only
@@ -53,14 +53,14 @@ returns-clause-only g c = λ shown fit text.
     let taken = subst (λ (rest : List ℕ). TakesText (TakesLine custom_form) c.args.text.now (nothing_read custom_form) 1 rest c.loop-rest.state c.loop-rest.number) none c.loop-rest.invariant.0 in
     let p = g.S.RecordSink.received c.into_received-head.result.1 in
     let r = c.into_received-head.ensures in
-    ap (λ (h : Head). record_in (received_whole h p)) r.whole.told
+    ap (λ (h : Head). record_in (received_whole h p)) r.whole.reported
     ∙ ap (λ (w : CustomWhole). record_in w) (r.received ∙ form.read_is custom_form custom_laws c.args.text.now c.loop-rest.state c.loop-rest.number (whole_in shown) taken (fits_in shown fit) (text ∙ text_as shown fit))
 
 pub returns-clause-head : goal.returns-clause-head
-returns-clause-head g c = ap (λ (h : Head). h.told) (c.head.view_is ∙ sym c.into_received-head.ensures.whole.told)
+returns-clause-head g c = ap (λ (h : Head). h.so_far) (c.head.view_is ∙ sym c.into_received-head.ensures.whole.reported)
 
 pub returns-clause-whole : goal.returns-clause-whole
-returns-clause-whole g c = let w = c.into_received-head.ensures.whole in record { told = refl; begun = w.begun; events = w.events; entries = w.entries }
+returns-clause-whole g c = let w = c.into_received-head.ensures.whole in record { reported = refl; begun = w.begun; events = w.events; entries = w.entries }
 
 pub returns-clause-fit : goal.returns-clause-fit
 returns-clause-fit g c = (returns-clause-found g c).fit

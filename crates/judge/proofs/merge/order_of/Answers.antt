@@ -2,7 +2,7 @@ use Rattle.std.proofs.Common.{◌≡◌, refl, subst, length, ◌∙◌, ap}
 use Rattle.records.specs.RecordFaults.{NamesBadLine}
 use Rattle.records.specs.RecordStates.{received_record}
 use Rattle.record_lines.specs.declared.text.fault.LinesFault.TheVariants.{Line}
-use Rattle.judge.specs.Orders.{order, cycle, unsound, bad_line, told_places, room_with}
+use Rattle.judge.specs.Orders.{order, cycle, unsound, bad_line, places_report, room_with}
 use Rattle.judge.proofs.merge.order_of.Goals as goal
 
 pub returns-in-Err-Line : goal.returns-in-Err-Line
@@ -19,8 +19,8 @@ returns-in-Ok-into_merged c = let p = c.in-Ok.read.1 in
     let same_places : c.as_slice.result.now ≡ c.in-Ok-into_merged.ordered.1.places = c.as_slice.ensures in record {
       outcome = order c.in-Ok-into_merged.ordered.1.places;
       right = (received_record p, c.in-Ok.ensures.found, c.in-Ok-into_merged.ensures.order);
-      same = c.tell_turns.ensures.told ∙ ap (λ q. told_places 0 (length c.args.room.now) q) same_places;
-      room = c.tell_turns.ensures.room ∙ ap (λ q. room_with q c.args.room.now) same_places;
+      same = c.report_turns.ensures.report ∙ ap (λ q. places_report 0 (length c.args.room.now) q) same_places;
+      room = c.report_turns.ensures.room ∙ ap (λ q. room_with q c.args.room.now) same_places;
     }
 
 pub returns-in-Err-Cycle : goal.returns-in-Err-Cycle
@@ -28,8 +28,8 @@ returns-in-Err-Cycle c = let p = c.in-Ok.read.1 in
     let same_places : c.as_slice-in-Err-Cycle.result.now ≡ c.in-Err-Cycle.cycle = c.as_slice-in-Err-Cycle.ensures in record {
       outcome = cycle c.in-Err-Cycle.cycle;
       right = (received_record p, c.in-Ok.ensures.found, c.in-Err-Cycle.ensures.cycle c.in-Err-Cycle.cycle cc);
-      same = c.tell_turns-in-Err-Cycle.ensures.told ∙ ap (λ q. told_places 7 (length c.args.room.now) q) same_places;
-      room = c.tell_turns-in-Err-Cycle.ensures.room ∙ ap (λ q. room_with q c.args.room.now) same_places;
+      same = c.report_turns-in-Err-Cycle.ensures.report ∙ ap (λ q. places_report 7 (length c.args.room.now) q) same_places;
+      room = c.report_turns-in-Err-Cycle.ensures.room ∙ ap (λ q. room_with q c.args.room.now) same_places;
     }
 
 pub returns-in-Err-Unsound : goal.returns-in-Err-Unsound

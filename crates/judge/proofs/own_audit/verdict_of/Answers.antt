@@ -3,7 +3,7 @@ use Rattle.judge.specs.Models.{IsMistold, IsVerdictByCounts}
 use Rattle.custom_records.specs.CustomReceived.{received_custom}
 use Rattle.custom_records.specs.RecordFaults.{NamesBadCustomLine}
 use Rattle.record_lines.specs.declared.text.fault.LinesFault.TheVariants.{Line}
-use Rattle.judge.specs.OwnTold.{judged, mistold, bad_line, AreFitting}
+use Rattle.judge.specs.OwnReport.{judged, mistold, bad_line, AreFitting}
 use Rattle.judge.proofs.MistoldCounts.{verdict_isnt, same_counts}
 use Rattle.judge.proofs.own_audit.verdict_of.Goals as goal
 

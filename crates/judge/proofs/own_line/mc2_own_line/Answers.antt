@@ -1,5 +1,5 @@
 use Rattle.std.proofs.Common.{refl, ap, ◌∙◌}
-use Rattle.judge.specs.OwnLines.{told_line}
+use Rattle.judge.specs.OwnLines.{line_report}
 use Rattle.judge.proofs.LinesAt.{one_line}
 use Rattle.judge.proofs.own_line.mc2_own_line.Goals as goal
 
@@ -10,6 +10,6 @@ pub returns-in-Some : goal.returns-in-Some
 returns-in-Some c =
     let at = c.args.at in let text = c.args.text.now in
     record {
-      line = λ other there. c.tell_line.ensures ∙ ap (λ l. told_line c.args.told.now at l) (one_line text at c.in-Some.line.now other c.in-Some.ensures.found there);
+      line = λ other there. c.report_line.ensures ∙ ap (λ l. line_report c.args.report.now at l) (one_line text at c.in-Some.line.now other c.in-Some.ensures.found there);
       none = λ no. absurd (no c.in-Some.line.now c.in-Some.ensures.found);
     }

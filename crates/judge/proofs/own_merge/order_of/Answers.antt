@@ -5,9 +5,9 @@ use Rattle.judge.specs.Models.{Model, AreCounts, IsFirstFaultBy, IsMistold}
 use Rattle.custom_records.specs.CustomReceived.{received_custom}
 use Rattle.custom_records.specs.RecordFaults.{NamesBadCustomLine}
 use Rattle.record_lines.specs.declared.text.fault.LinesFault.TheVariants.{Line}
-use Rattle.judge.specs.Orders.{told_places, room_with}
+use Rattle.judge.specs.Orders.{places_report, room_with}
 use Rattle.judge.specs.OwnOrders.{order, cycle, unsound, mistold, bad_line}
-use Rattle.judge.specs.OwnTold.{AreFitting}
+use Rattle.judge.specs.OwnReport.{AreFitting}
 use Rattle.judge.proofs.MistoldCounts.{order_isnt, cycle_isnt, fault_isnt, same_counts}
 use Rattle.judge.proofs.own_merge.order_of.Goals as goal
 
@@ -26,8 +26,8 @@ returns-in-Ok-into_merged c =
     record {
       outcome = order places;
       right = (r, c.in-Ok-read_custom.ensures.found, subst (λ (n : List ℕ). AreFitting r n) same fitting, subst (λ (n : List ℕ). (model : Model) → AreCounts model r n → IsMergedBy model r places) same c.in-Ok-into_merged.ensures.order);
-      same = c.tell_turns.ensures.told ∙ ap (λ q. told_places 0 (length c.args.room.now) q) same_places;
-      room = c.tell_turns.ensures.room ∙ ap (λ q. room_with q c.args.room.now) same_places;
+      same = c.report_turns.ensures.report ∙ ap (λ q. places_report 0 (length c.args.room.now) q) same_places;
+      room = c.report_turns.ensures.room ∙ ap (λ q. room_with q c.args.room.now) same_places;
     }
 
 pub returns-in-Err-Cycle : goal.returns-in-Err-Cycle
@@ -41,8 +41,8 @@ returns-in-Err-Cycle c =
     record {
       outcome = cycle places;
       right = (r, c.in-Ok-read_custom.ensures.found, subst (λ (n : List ℕ). AreFitting r n) same fitting, subst (λ (n : List ℕ). (model : Model) → AreCounts model r n → HasCycleBy model r places) same (c.in-Err-Cycle.ensures.cycle places cc));
-      same = c.tell_turns-in-Err-Cycle.ensures.told ∙ ap (λ q. told_places 7 (length c.args.room.now) q) same_places;
-      room = c.tell_turns-in-Err-Cycle.ensures.room ∙ ap (λ q. room_with q c.args.room.now) same_places;
+      same = c.report_turns-in-Err-Cycle.ensures.report ∙ ap (λ q. places_report 7 (length c.args.room.now) q) same_places;
+      room = c.report_turns-in-Err-Cycle.ensures.room ∙ ap (λ q. room_with q c.args.room.now) same_places;
     }
 
 pub returns-in-Err-Unsound : goal.returns-in-Err-Unsound

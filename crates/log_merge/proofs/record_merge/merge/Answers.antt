@@ -1,7 +1,7 @@
 use Rattle.std.proofs.Common.{◌≡◌, refl, sym, ap, ◌∙◌, subst}
 use Rattle.kernel_object.specs.KernelTypes.{KernelRun}
 use Rattle.auditor.specs.declared.fault.Verdict.TheVariants as verdict
-use Rattle.auditor.specs.VerdictText.{CanBeTold}
+use Rattle.auditor.specs.VerdictText.{CanBeReported}
 use Rattle.records.specs.Runs.{opened_of}
 use Rattle.log_merge.specs.declared.run_merge.Merging.{Merging}
 use Rattle.log_merge.specs.declared.run_merge.Merging.TheVariants as merging
@@ -22,10 +22,10 @@ returns-in-Unsound-clause-unsound c = λ f e.
     let same : c.in-Unsound.fault ≡ f = cc in
     (c.in_ok-verdict.ensures.fault f).0 (c.in-Unsound.is ∙ ap verdict.Unsound same)
 
-pub returns-in-Unsound-clause-told : goal.returns-in-Unsound-clause-told
-returns-in-Unsound-clause-told c = λ f e.
+pub returns-in-Unsound-clause-reported : goal.returns-in-Unsound-clause-reported
+returns-in-Unsound-clause-reported c = λ f e.
     let same : c.in-Unsound.fault ≡ f = cc in
-    subst (CanBeTold c.args.record.now.settings) (c.in-Unsound.is ∙ ap verdict.Unsound same) c.in_ok-verdict.ensures.told
+    subst (CanBeReported c.args.record.now.settings) (c.in-Unsound.is ∙ ap verdict.Unsound same) c.in_ok-verdict.ensures.reported
 
 pub returns-in-Cycle-clause-cycle : goal.returns-in-Cycle-clause-cycle
 returns-in-Cycle-clause-cycle c = λ cycle e.

@@ -1,11 +1,11 @@
 use Rattle.std.proofs.Common.{◌∙◌, sym, ap, subst}
-use Rattle.auditor.specs.VerdictText.{CanBeTold, verdict_text}
+use Rattle.auditor.specs.VerdictText.{CanBeReported, verdict_text}
 use Rattle.records.specs.RecordStates.{received_record}
 use Rattle.records.specs.Settings.{Settings}
 use Rattle.mc2_command.proofs.answers.audit_answer.Goals as goal
 
 pub verdict_line-requires : goal.verdict_line-requires
-verdict_line-requires g c = subst (λ (s : Settings). CanBeTold s c.verdict-verdict.result) (sym c.in_ok-read.ensures.settings) c.verdict-verdict.ensures.told
+verdict_line-requires g c = subst (λ (s : Settings). CanBeReported s c.verdict-verdict.result) (sym c.in_ok-read.ensures.settings) c.verdict-verdict.ensures.reported
 
 pub returns-clause-answer : goal.returns-clause-answer
 returns-clause-answer g c = record {

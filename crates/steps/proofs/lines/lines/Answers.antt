@@ -52,7 +52,7 @@ loop-place-preserved c =
     let shows : Represents kernel c.step-done.new.self v = c.step-done.ensures.shows w i.shows in
     let goes = c.left_after.ensures ∙ ap (λ (d : StepDone). cond (ends_hold d) (left old.now) old.now) done in
     let object : c.object_of-object.result ≡ works_on (slice_get w.cpus cpu) = c.object_of-object.ensures ∙ (ap first_cell (left_of w cpu lists i.each old here) ∙ works (slice_get w.cpus cpu)) in
-    let told : string_bytes c.put_line.new.text ≡ string_bytes c.loop-place.text ++ line_of settings (n + 1) cpu c.object_of-object.result c.step-done.result v = search rules in
+    let reported : string_bytes c.put_line.new.text ≡ string_bytes c.loop-place.text ++ line_of settings (n + 1) cpu c.object_of-object.result c.step-done.result v = search rules in
     let line = ap (λ o. line_of settings (n + 1) cpu o c.step-done.result v) object ∙ ap (λ (d : StepDone). line_of settings (n + 1) cpu (works_on (slice_get w.cpus cpu)) d v) done in
     record {
       world = v;
@@ -61,7 +61,7 @@ loop-place-preserved c =
       cpus = ap length c.step-done.ensures.scripts ∙ i.cpus;
       count = length-set lists cpu c.left_after.result ∙ i.count;
       each = left_behind w cpu lists i.each old c.left_after.result here goes;
-      lines = ap (λ (b : List ℕ). b ++ lines_from settings (n + 1 + 1) (drop (n + 1) items) v) (told ∙ ap (λ (l : List ℕ). string_bytes c.loop-place.text ++ l) line)
+      lines = ap (λ (b : List ℕ). b ++ lines_from settings (n + 1 + 1) (drop (n + 1) items) v) (reported ∙ ap (λ (l : List ℕ). string_bytes c.loop-place.text ++ l) line)
           ∙ line_more settings items n w (string_bytes c.loop-place.text) _ c.loop-place-test.true i.lines;
     }
 

@@ -48,5 +48,5 @@ named : (p : KernelReceived) → RecordFits (received_record p) → (r : Result 
 named p fit (Ok run) h = tt
 named p fit (Err f) h = first_is_named (received_record p) fit f h
 
-pub returns-clause-told : goal.returns-clause-told
-returns-clause-told g c = named c.args.self c.requires.fit c.into_run.result (returns-clause-fault g c)
+pub returns-clause-reported : goal.returns-clause-reported
+returns-clause-reported g c = named c.args.self c.requires.fit c.into_run.result (returns-clause-fault g c)

@@ -14,7 +14,7 @@ use Rattle.auditor.specs.declared.fault.Verdict.TheVariants as verdict
 use Rattle.auditor.specs.ByModels.{SoundBy}
 use Rattle.auditor.specs.Faults.{IsFirstFault, IsFirstFaultBy}
 use Rattle.auditor.specs.ReceivedRun.{run_of}
-use Rattle.auditor.proofs.FaultNumbers.{can_be_told}
+use Rattle.auditor.proofs.FaultNumbers.{can_be_reported}
 use Rattle.auditor.proofs.ReceivedParts.{whole_run}
 use Rattle.auditor.specs.StepModels.{object_model}
 use Rattle.auditor.specs.Terms.{Terms}
@@ -43,5 +43,5 @@ returns-clause-fault g c = λ f.
     subst (λ (p : KernelReceived). (c.verdict.result ≡ verdict.Unsound f) ↔ IsFirstFault kernel (opened_of (settings_in p.head)) (received_record p).run f) c.self.view_is
     (subst (λ (os : List (Terms KParams KernelObject)). (c.verdict.result ≡ verdict.Unsound f) ↔ IsFirstFaultBy (object_model kernel) os (run_of i.judged) f) same (c.verdict.ensures.fault f))
 
-pub returns-clause-told : goal.returns-clause-told
-returns-clause-told g c = can_be_told (received_record c.args.self.now) c.requires.fit {E = Fault} (Ok c.verdict.result) (returns-clause-fault g c)
+pub returns-clause-reported : goal.returns-clause-reported
+returns-clause-reported g c = can_be_reported (received_record c.args.self.now) c.requires.fit {E = Fault} (Ok c.verdict.result) (returns-clause-fault g c)

@@ -26,12 +26,12 @@ verdict-requires-clause-run g c = subst (λ (d : ReceivedRun _ _ _ _ _). IsRunOv
 
 pub returns-clause-sound : goal.returns-clause-sound
 returns-clause-sound g c =
-    let d = c.self.inside.told in
+    let d = c.self.inside.received in
     subst (λ (e : ReceivedRun _ _ _ _ _). (c.verdict.result ≡ verdict.Sound) ↔ SoundBy (model_by g.O.SeqObject g.J.StepJudge.right g.J.StepJudge.behind) e.opened (run_of e)) c.self.view_is
     (sound_exactly (model_by g.O.SeqObject g.J.StepJudge.right g.J.StepJudge.behind) d.opened (run_of d) (no_fault (model_by g.O.SeqObject g.J.StepJudge.right g.J.StepJudge.behind) d.opened (run_of d)) (one_first (model_by g.O.SeqObject g.J.StepJudge.right g.J.StepJudge.behind) d.opened (run_of d)) c.verdict.result c.verdict.ensures)
 
 pub returns-clause-fault : goal.returns-clause-fault
 returns-clause-fault g c = λ f.
-    let d = c.self.inside.told in
+    let d = c.self.inside.received in
     subst (λ (e : ReceivedRun _ _ _ _ _). (c.verdict.result ≡ verdict.Unsound f) ↔ IsFirstFaultBy (model_by g.O.SeqObject g.J.StepJudge.right g.J.StepJudge.behind) e.opened (run_of e) f) c.self.view_is
     (fault_exactly (model_by g.O.SeqObject g.J.StepJudge.right g.J.StepJudge.behind) d.opened (run_of d) (no_fault (model_by g.O.SeqObject g.J.StepJudge.right g.J.StepJudge.behind) d.opened (run_of d)) (one_first (model_by g.O.SeqObject g.J.StepJudge.right g.J.StepJudge.behind) d.opened (run_of d)) f c.verdict.result c.verdict.ensures)

@@ -1,5 +1,5 @@
 use Rattle.std.proofs.Common.{[], ◌∷◌}
 use Rattle.judge.proofs.custom_judge.CustomJudgeRecordSinkCustomForm.begin.Given as goal
 
-abbrev pub ghost-told : goal.ghost-told
-ghost-told a = a.about.now ∷ []
+abbrev pub ghost-named : goal.ghost-named
+ghost-named a = a.about.now ∷ []

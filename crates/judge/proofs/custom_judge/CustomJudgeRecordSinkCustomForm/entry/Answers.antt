@@ -12,7 +12,7 @@ pub entry-requires : goal.entry-requires
 entry-requires c =
     let i = c.self.inside in
     let back = sym (ap (λ (v : Counted). v.parts) c.self.view_is) in
-    let fits = subst (λ (p : CustomReceived). EntryFits p.head.told c.args.entry.now) back c.requires.fit in
+    let fits = subst (λ (p : CustomReceived). EntryFits p.head.so_far c.args.entry.now) back c.requires.fit in
     let on = fits.object in
     let all = c.self.invariant.objects in (
       omega arith,

@@ -12,7 +12,7 @@ pub event-requires : goal.event-requires
 event-requires c =
     let i = c.self.inside in
     let back = sym (ap (λ (v : Counted). v.parts) c.self.view_is) in
-    let fits = subst (λ (p : CustomReceived). EventFits p.head.told c.args.event.now) back c.requires.fit in
+    let fits = subst (λ (p : CustomReceived). EventFits p.head.so_far c.args.event.now) back c.requires.fit in
     let cpu = fits.cpu in
     let all = c.self.invariant.cpus in (
       omega arith,

@@ -36,14 +36,14 @@ returns-in-Err-clause-given c = λ model are sound order.
 -- the first fault as told
 pub returns-in-Err-into_run-clause-unsound : goal.returns-in-Err-into_run-clause-unsound
 returns-in-Err-into_run-clause-unsound c = λ f e model are.
-    let first = subst (λ (v : Counted). CountedFirst by_count (custom_terms v.counts v.parts.head.told.objects) (received_custom v.parts).run c.in-Err-into_run.fault) c.self.view_is c.in-Err-into_run.ensures.fault in
+    let first = subst (λ (v : Counted). CountedFirst by_count (custom_terms v.counts v.parts.head.so_far.objects) (received_custom v.parts).run c.in-Err-into_run.fault) c.self.view_is c.in-Err-into_run.ensures.fault in
     let r = received_custom c.args.self.parts in
     let same : c.in-Err-into_run.fault ≡ f = cc in
     subst (IsFirstFaultBy model r) same (fault_by r c.args.self.counts c.requires.fit c.in-Err-into_run.fault first model are)
 
 pub returns-in-Err-into_run-clause-given : goal.returns-in-Err-into_run-clause-given
 returns-in-Err-into_run-clause-given c = λ model are sound order.
-    let first = subst (λ (v : Counted). CountedFirst by_count (custom_terms v.counts v.parts.head.told.objects) (received_custom v.parts).run c.in-Err-into_run.fault) c.self.view_is c.in-Err-into_run.ensures.fault in
+    let first = subst (λ (v : Counted). CountedFirst by_count (custom_terms v.counts v.parts.head.so_far.objects) (received_custom v.parts).run c.in-Err-into_run.fault) c.self.view_is c.in-Err-into_run.ensures.fault in
     let r = received_custom c.args.self.parts in
     absurd (none_first r c.args.self.counts c.requires.fit c.in-Err-into_run.fault first model are sound)
 
@@ -57,14 +57,14 @@ pub merge_run-requires-clause-matched : goal.merge_run-requires-clause-matched
 merge_run-requires-clause-matched c =
     let r = received_custom c.args.self.parts in
     let same : c.new-run.result ≡ r.run = c.new-run.ensures ∙ (c.in-Ok.ensures.run ∙ ap (λ (v : Counted). (received_custom v.parts).run) c.self.view_is) in
-    let sound = subst (λ (v : Counted). CountedSound by_count (custom_terms v.counts v.parts.head.told.objects) (received_custom v.parts).run) c.self.view_is c.in-Ok.ensures.sound in
-    subst (λ (run : CustomRun). IsMatched run) (sym same) (matched_by_model by_count (custom_terms c.args.self.counts c.args.self.parts.head.told.objects) r.run sound)
+    let sound = subst (λ (v : Counted). CountedSound by_count (custom_terms v.counts v.parts.head.so_far.objects) (received_custom v.parts).run) c.self.view_is c.in-Ok.ensures.sound in
+    subst (λ (run : CustomRun). IsMatched run) (sym same) (matched_by_model by_count (custom_terms c.args.self.counts c.args.self.parts.head.so_far.objects) r.run sound)
 
 pub returns-in-Order-clause-order : goal.returns-in-Order-clause-order
 returns-in-Order-clause-order c = λ model are.
     let r = received_custom c.args.self.parts in
     let same : c.new-run.result ≡ r.run = c.new-run.ensures ∙ (c.in-Ok.ensures.run ∙ ap (λ (v : Counted). (received_custom v.parts).run) c.self.view_is) in
-    let sound = subst (λ (v : Counted). CountedSound by_count (custom_terms v.counts v.parts.head.told.objects) (received_custom v.parts).run) c.self.view_is c.in-Ok.ensures.sound in
+    let sound = subst (λ (v : Counted). CountedSound by_count (custom_terms v.counts v.parts.head.so_far.objects) (received_custom v.parts).run) c.self.view_is c.in-Ok.ensures.sound in
     let found : IsMerging r.run (merging.Order c.in-Order.places) = subst (λ (z : CustomRun × Merging). IsMerging z.0 z.1) (λ j. (same j, c.in-Order.is j)) c.in_ok-merging.ensures in
     record { sound = sound_by r c.args.self.counts c.requires.fit sound model are; ordered = found }
 
@@ -72,7 +72,7 @@ pub returns-clause-cycle : goal.returns-clause-cycle
 returns-clause-cycle c = λ cycle e model are.
     let r = received_custom c.args.self.parts in
     let same : c.new-run.result ≡ r.run = c.new-run.ensures ∙ (c.in-Ok.ensures.run ∙ ap (λ (v : Counted). (received_custom v.parts).run) c.self.view_is) in
-    let sound = subst (λ (v : Counted). CountedSound by_count (custom_terms v.counts v.parts.head.told.objects) (received_custom v.parts).run) c.self.view_is c.in-Ok.ensures.sound in
+    let sound = subst (λ (v : Counted). CountedSound by_count (custom_terms v.counts v.parts.head.so_far.objects) (received_custom v.parts).run) c.self.view_is c.in-Ok.ensures.sound in
     let is : c.in-Cycle.cycle ≡ cycle = cc in
     let found : IsMerging r.run (merging.Cycle c.in-Cycle.cycle) = subst (λ (z : CustomRun × Merging). IsMerging z.0 z.1) (λ j. (same j, c.in-Cycle.is j)) c.in_ok-merging.ensures in
     let waiting = subst (IsCycleFound r.run) is found in

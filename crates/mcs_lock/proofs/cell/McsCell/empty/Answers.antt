@@ -13,7 +13,7 @@ use Rattle.mcs_lock.proofs.cell.McsCell.empty.Goals as goal
 
 pub compare_exchange-found-requires : goal.compare_exchange-found-requires
 compare_exchange-found-requires g c = let s = c.args.self.now in let a = c.args.alone in let o = a.inside.outside in let words = s.sized.0 in
-    (g.met.O.SeqObject.event_fits, (search rules, omega arith, empty_now g.O.SeqObject s.table.table.shared.key c.args.self.now.kind _ _ o.cpu.number a.inside.logged o.seat.me c.put_back.new.seat.me (subst (λ k. IsWith g.O.SeqObject k o.cpu.number (Mcs Alone) a.inside.logged o.seat.me) c.requires.told a.alone) s.table.sized c.put_back.ensures.2))
+    (g.met.O.SeqObject.event_fits, (search rules, omega arith, empty_now g.O.SeqObject s.table.table.shared.key c.args.self.now.kind _ _ o.cpu.number a.inside.logged o.seat.me c.put_back.new.seat.me (subst (λ k. IsWith g.O.SeqObject k o.cpu.number (Mcs Alone) a.inside.logged o.seat.me) c.requires.reported a.alone) s.table.sized c.put_back.ensures.2))
 
 pub invariant_of-result : goal.invariant_of-result
 invariant_of-result g c = let a = c.args.alone in let o = a.inside.outside in
@@ -34,6 +34,6 @@ invariant_of-result-else-found-last g c = let a = c.args.alone in let o = a.insi
     record { leaves = subst (λ z. IsWith g.O.SeqObject o.key.value o.cpu.number (Mcs Leaving) z c.take-logged.new.seat.me) back.1 (goes_with g.O.SeqObject o.key.value o.cpu.number _ _ _ a.inside.logged o.seat.me c.take-logged.new.seat.me a.alone refl back.0.goes) }
 
 pub returns-else-found-last-clause-missed : goal.returns-else-found-last-clause-missed
-returns-else-found-last-clause-missed g c = let a = c.args.alone in let o = a.inside.outside in let y = c.take-logged.result.0 in let told = c.compare_exchange-found.ensures.2 in let t = told.miss c.if-found-last.false in let e = c.take-logged.ensures in let filled = c.put_back.ensures.2 in
+returns-else-found-last-clause-missed g c = let a = c.args.alone in let o = a.inside.outside in let y = c.take-logged.result.0 in let reported = c.compare_exchange-found.ensures.2 in let t = reported.miss c.if-found-last.false in let e = c.take-logged.ensures in let filled = c.put_back.ensures.2 in
     let back = came_back g.O.SeqObject (Mcs Leaving) _ o.seat.me c.put_back.new.seat.me c.compare_exchange-found.new.seat.me c.take-logged.new.seat.me a.inside.logged y (Some y) a.alone.at.carries filled t e.2 e.3 refl in
     (search rules, subst (λ z. NeedsAnother g.O.SeqObject (Moves g.O.SeqObject (Mcs Alone) (Mcs Leaving) (steps.Empty false ∷ [])) (state_of_alone a) (state_with o.key.value (Mcs Leaving) z c.take-logged.new.seat.me)) back.1 (lags_with g.O.SeqObject o.key.value o.cpu.number (Mcs Alone) (Mcs Leaving) _ a.inside.logged o.seat.me c.take-logged.new.seat.me a.alone back.0))

@@ -9,7 +9,7 @@ use Rattle.mcs_lock.proofs.cell.McsCell.see_again.Goals as goal
 
 pub load-found-requires : goal.load-found-requires
 load-found-requires g c = let s = c.args.self.now in let a = c.args.leaving in let o = a.inside.outside in let key = s.table.table.shared.key in let words = s.sized.0 in
-    let w = subst (λ k. IsWith g.O.SeqObject k o.cpu.number (Mcs Leaving) a.inside.logged o.seat.me) c.requires.told a.leaves in
+    let w = subst (λ k. IsWith g.O.SeqObject k o.cpu.number (Mcs Leaving) a.inside.logged o.seat.me) c.requires.reported a.leaves in
     let below = below_with g.O.SeqObject key s.cpus o.cpu.number (Mcs Leaving) a.inside.logged o.seat.me s.sized.1 w in
     (g.met.O.SeqObject.event_fits, (c.requires.table, omega (arith, c.next_index-next.ensures), rw c.next_index-next.ensures (see_again_now g.O.SeqObject key c.args.self.now.kind _ _ o.cpu.number o.seat.me a.inside.logged w)))
 
@@ -19,7 +19,7 @@ invariant_of-result g c = let a = c.args.leaving in let o = a.inside.outside in
 
 pub overflow_cast-follower : goal.overflow_cast-follower
 overflow_cast-follower g c = let s = c.args.self.now in let a = c.args.leaving in let few = s.few in let t = c.load-found.ensures.2.found c.if-found-eq0.false in let word = t.word in
-    let below = else_below s.table.table.shared.key s.cpus t.cpu a.inside.outside.seat.me s.sized.1 (a.leaves.at.told ∙ ap (λ k. k ∷ []) c.requires.told) t.other in
+    let below = else_below s.table.table.shared.key s.cpus t.cpu a.inside.outside.seat.me s.sized.1 (a.leaves.at.reported ∙ ap (λ k. k ∷ []) c.requires.reported) t.other in
     let small : c.load-found.result - 1 < 2 ^ 32 = omega arith in record { fits = small }
 
 pub invariant_of-result-else-found-eq0 : goal.invariant_of-result-else-found-eq0
@@ -41,10 +41,10 @@ returns-else-found-eq0-clause-found g c = let a = c.args.leaving in let o = a.in
       search rules,
       (
         k,
-        is_other o.key.value o.seat.me k a.leaves.at.told t.1,
+        is_other o.key.value o.seat.me k a.leaves.at.reported t.1,
         record {
           made = moves_with g.O.SeqObject o.key.value o.cpu.number (Mcs Leaving) (Mcs (Passing k)) _ a.inside.logged o.seat.me c.load-found.new.seat.me a.leaves t.0;
-          another = not_else o.key.value o.seat.me k a.leaves.at.told t.1;
+          another = not_else o.key.value o.seat.me k a.leaves.at.reported t.1;
         },
       ),
     )

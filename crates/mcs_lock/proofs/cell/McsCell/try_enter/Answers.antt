@@ -9,7 +9,7 @@ use Rattle.mcs_lock.proofs.cell.McsCell.try_enter.Goals as goal
 
 pub try_exchange-found-requires : goal.try_exchange-found-requires
 try_exchange-found-requires g c = let s = c.args.self.now in let a = c.args.trying in let o = a.outside in let words = s.sized.0 in
-    (g.met.O.SeqObject.event_fits, (c.requires.table, omega arith, (0, try_now g.O.SeqObject s.table.table.shared.key c.args.self.now.kind _ _ o.cpu.number o.seat.me (subst (λ k. IsWithout g.O.SeqObject k o.cpu.number Trying o.seat.me) c.requires.told a.tries))))
+    (g.met.O.SeqObject.event_fits, (c.requires.table, omega arith, (0, try_now g.O.SeqObject s.table.table.shared.key c.args.self.now.kind _ _ o.cpu.number o.seat.me (subst (λ k. IsWithout g.O.SeqObject k o.cpu.number Trying o.seat.me) c.requires.reported a.tries))))
 
 pub take-logged-requires : goal.take-logged-requires
 take-logged-requires g c = let t = c.try_exchange-found.ensures.2.first c.if-found-eq0.true in
@@ -18,7 +18,7 @@ take-logged-requires g c = let t = c.try_exchange-found.ensures.2.first c.if-fou
 pub invariant_of-result : goal.invariant_of-result
 invariant_of-result g c = let a = c.args.trying in let o = a.outside in let t = c.try_exchange-found.ensures.2.first c.if-found-eq0.true in let y = c.take-logged.result.0 in let e = c.take-logged.ensures in
     let got = took g.O.SeqObject _ _ o.seat.me c.try_exchange-found.new.seat.me c.take-logged.new.seat.me (Some y) y t e.2 e.3 refl in
-    record { holds = holds_from g.O.SeqObject o.key.value o.cpu.number _ _ _ y o.seat.me c.take-logged.new.seat.me a.tries got; there = ap (λ z. z.0.main.stage) got.seat ∙ ap (λ k. holder k 0) (sym (ap (λ k. k.kind) c.requires.told ∙ c.args.self.now.kind)) }
+    record { holds = holds_from g.O.SeqObject o.key.value o.cpu.number _ _ _ y o.seat.me c.take-logged.new.seat.me a.tries got; there = ap (λ z. z.0.main.stage) got.seat ∙ ap (λ k. holder k 0) (sym (ap (λ k. k.kind) c.requires.reported ∙ c.args.self.now.kind)) }
 
 pub returns-then-found-eq0-clause-got : goal.returns-then-found-eq0-clause-got
 returns-then-found-eq0-clause-got g c = let a = c.args.trying in let o = a.outside in let t = c.try_exchange-found.ensures.2.first c.if-found-eq0.true in let y = c.take-logged.result.0 in let e = c.take-logged.ensures in

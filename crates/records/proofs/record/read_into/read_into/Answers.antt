@@ -1,5 +1,5 @@
 use Rattle.std.proofs.Common.{Err, ap, sym, ◌∙◌, subst}
-use Rattle.record_lines.specs.declared.streams.feeding.SourceFault.TheVariants.{Told}
+use Rattle.record_lines.specs.declared.streams.feeding.SourceFault.TheVariants.{Reported}
 use Rattle.record_lines.specs.declared.text.fault.LinesFault.TheVariants.{Line}
 use Rattle.record_lines.specs.Pieces.{HasFed}
 use Rattle.records.specs.RecordFaults.{IsBadLine}
@@ -25,8 +25,8 @@ returns-in-Ok-clause-only g c = λ form r fit e.
 
 pub returns-in-Ok-feed_all-clause-fault : goal.returns-in-Ok-feed_all-clause-fault
 returns-in-Ok-feed_all-clause-fault g c =
-    let line = c.in-Err-Told-Line in
-    let bad = bad_of_rest _ _ c.new-pieces.result line.number (c.new-pieces.ensures.lines ∙ c.new.ensures) (c.feed_all.ensures.refused (Line line.number) (line.is ∙ ap Err (line.field-0-is ∙ ap Told line.field-0-0-is))) in
+    let line = c.in-Err-Reported-Line in
+    let bad = bad_of_rest _ _ c.new-pieces.result line.number (c.new-pieces.ensures.lines ∙ c.new.ensures) (c.feed_all.ensures.refused (Line line.number) (line.is ∙ ap Err (line.field-0-is ∙ ap Reported line.field-0-0-is))) in
     (bad.0, bad.1, subst (IsBadLine bad.0) (sym line.number-is) bad.2)
 
 pub returns-in-Ok-feed_all-clause-only : goal.returns-in-Ok-feed_all-clause-only
@@ -34,6 +34,6 @@ returns-in-Ok-feed_all-clause-only g c = λ form r fit e. let bad = returns-in-O
 
 pub returns-in-Ok-feed_all-clause-to_end : goal.returns-in-Ok-feed_all-clause-to_end
 returns-in-Ok-feed_all-clause-to_end g c = λ _ _.
-    let line = c.in-Err-Told-Line in
-    let refused = c.feed_all.ensures.refused (Line line.number) (line.is ∙ ap Err (line.field-0-is ∙ ap Told line.field-0-0-is)) in
+    let line = c.in-Err-Reported-Line in
+    let refused = c.feed_all.ensures.refused (Line line.number) (line.is ∙ ap Err (line.field-0-is ∙ ap Reported line.field-0-0-is)) in
     out_behind _ _ _ refused.0 refused.1 c.in-Ok-feed_all.ensures.to_end

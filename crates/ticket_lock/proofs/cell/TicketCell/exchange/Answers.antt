@@ -19,9 +19,9 @@ pub invariant_of-result : goal.invariant_of-result
 invariant_of-result g c = let a = c.args.trying in let o = a.outside in let t = c.try_exchange-found.ensures.2.hit c.if-found-word.true in let y = c.take-logged.result.0 in let e = c.take-logged.ensures in
     let got = took g.O.SeqObject _ _ o.seat.me c.try_exchange-found.new.seat.me c.take-logged.new.seat.me (Some y) y t e.2 e.3 refl in record {
       holds = holds_from g.O.SeqObject o.key.value o.cpu.number _ _ _ y o.seat.me c.take-logged.new.seat.me a.idle got;
-      there = ap (λ z. z.0.main.stage) got.seat ∙ ((λ k. Ticket (Served (sym c.served_ticket-ticket.ensures k))) ∙ ap (λ k. holder k c.served_ticket-ticket.result) (sym (ap (λ k. k.kind) c.requires.told ∙ c.args.self.now.kind)));
+      there = ap (λ z. z.0.main.stage) got.seat ∙ ((λ k. Ticket (Served (sym c.served_ticket-ticket.ensures k))) ∙ ap (λ k. holder k c.served_ticket-ticket.result) (sym (ap (λ k. k.kind) c.requires.reported ∙ c.args.self.now.kind)));
     }
 
 pub returns-else-found-word-clause-busy : goal.returns-else-found-word-clause-busy
 returns-else-found-word-clause-busy g c = let a = c.args.trying in let o = a.outside in let t = c.try_exchange-found.ensures.2 in
-    (search rules, record { made = still_without g.O.SeqObject o.key.value o.cpu.number _ o.seat.me c.try_exchange-found.new.seat.me a.idle (t.same c.if-found-word.false); another = not_all g.O.SeqObject o.key.value o.seat.me a.idle.at.told (t.lacks c.if-found-word.false a.read) })
+    (search rules, record { made = still_without g.O.SeqObject o.key.value o.cpu.number _ o.seat.me c.try_exchange-found.new.seat.me a.idle (t.same c.if-found-word.false); another = not_all g.O.SeqObject o.key.value o.seat.me a.idle.at.reported (t.lacks c.if-found-word.false a.read) })

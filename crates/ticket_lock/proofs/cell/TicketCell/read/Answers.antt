@@ -17,7 +17,7 @@ returns-else-next_ticket-served_ticket-clause-busy g c = let p = c.args.pass in 
       record {
         caller = ap (λ z. caller_of o.key.value z.0) e.seat;
         grows = subst (λ z. Grows (caller_of o.key.value m.0).owned m.0.main.seen z.0.main.seen) (sym e.seat) (grows_self (caller_of o.key.value m.0).owned m.0.main.seen);
-        another = not_all g.O.SeqObject o.key.value m p.idle.at.told lacks;
+        another = not_all g.O.SeqObject o.key.value m p.idle.at.reported lacks;
       },
       ap (λ z. z.0.main.run) e.seat,
     )

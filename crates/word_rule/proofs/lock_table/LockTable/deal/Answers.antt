@@ -14,7 +14,7 @@ loop-cpu-preserved g c = let h = c.args.key.now in let i = c.loop-cpu.invariant 
   seat = (search rules, goes_on h k c.loop-cpu.seat.me c.split_seat-theirs.new.seat.me below i.seat.1 c.split_seat-theirs.ensures.2);
   made = (
     each_push _ k c.loop-cpu.passes.items c.push_reserved.new.self.items _ i.made.0 (search rules) c.push_reserved.ensures.items
-        (record { table = c.split_seat-theirs.ensures.3 ∙ i.seat.0; told = c.of.ensures ∙ c.requires.cell }, part_first g.O.SeqObject h c.of.result.value k c.split_seat-theirs.result.me c.of.ensures (is_one h k c.loop-cpu.seat.me c.split_seat-theirs.result.me below i.seat.1 c.split_seat-theirs.ensures.4)),
+        (record { table = c.split_seat-theirs.ensures.3 ∙ i.seat.0; reported = c.of.ensures ∙ c.requires.cell }, part_first g.O.SeqObject h c.of.result.value k c.split_seat-theirs.result.me c.of.ensures (is_one h k c.loop-cpu.seat.me c.split_seat-theirs.result.me below i.seat.1 c.split_seat-theirs.ensures.4)),
     search rules,
     search rules,
   );

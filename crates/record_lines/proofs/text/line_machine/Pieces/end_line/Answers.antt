@@ -12,6 +12,6 @@ returns-clause-ok g c = λ start text h.
 pub returns-in-Err-clause-refused : goal.returns-in-Err-clause-refused
 returns-in-Err-clause-refused g c = λ start text after n h e.
     let at : c.fault_at.result ≡ Line n = cc in
-    let told = c.fault_at.ensures n at in
-    let bad = end_refused g.L.TakesLines.takes g.L.TakesLines.refuses g.L.TakesLines.fits start text c.args.self.now.lines c.args.self.now.number c.args.self.now.passing c.args.self.now.pending.items h c.args.end.now after c.requires.end (c.take.ensures.refused h.unended h.kept (c.in-Err.is ∙ ap Err told.0)) in
-    subst (λ (m : ℕ). RefusesText g.L.TakesLines.takes g.L.TakesLines.refuses (text ++ (c.args.end.now ++ 10 ∷ after)) start 1 m) (sym (told.1 ∙ c.take.ensures.number)) bad
+    let reported = c.fault_at.ensures n at in
+    let bad = end_refused g.L.TakesLines.takes g.L.TakesLines.refuses g.L.TakesLines.fits start text c.args.self.now.lines c.args.self.now.number c.args.self.now.passing c.args.self.now.pending.items h c.args.end.now after c.requires.end (c.take.ensures.refused h.unended h.kept (c.in-Err.is ∙ ap Err reported.0)) in
+    subst (λ (m : ℕ). RefusesText g.L.TakesLines.takes g.L.TakesLines.refuses (text ++ (c.args.end.now ++ 10 ∷ after)) start 1 m) (sym (reported.1 ∙ c.take.ensures.number)) bad

@@ -40,10 +40,10 @@ returns-in-Err-clause-refused g c = λ start text n h e.
     let before = c.loop-end.invariant.taken start text h in
     let no_end : NoEnd c.loop-end.rest.now = search rules in
     let at : c.fault_at.result ≡ Line n = cc in
-    let told = c.fault_at.ensures n at in
-    let bad = more_refused g.L.TakesLines.takes g.L.TakesLines.refuses g.L.TakesLines.fits start before.0 c.loop-end.self.lines c.loop-end.self.number c.loop-end.self.passing c.loop-end.self.pending.items before.2 c.loop-end.rest.now no_end (c.keep.ensures.long before.2.unended before.2.kept (c.in-Err.is ∙ ap Err told.0)) (c.keep.ensures.refused before.2.unended before.2.kept (c.in-Err.is ∙ ap Err told.0)) in
+    let reported = c.fault_at.ensures n at in
+    let bad = more_refused g.L.TakesLines.takes g.L.TakesLines.refuses g.L.TakesLines.fits start before.0 c.loop-end.self.lines c.loop-end.self.number c.loop-end.self.passing c.loop-end.self.pending.items before.2 c.loop-end.rest.now no_end (c.keep.ensures.long before.2.unended before.2.kept (c.in-Err.is ∙ ap Err reported.0)) (c.keep.ensures.refused before.2.unended before.2.kept (c.in-Err.is ∙ ap Err reported.0)) in
     inr (subst (λ (t : List ℕ). RefusesRest g.L.TakesLines.takes g.L.TakesLines.refuses g.L.TakesLines.fits t start 1 n) before.1
-    (subst (λ (m : ℕ). RefusesRest g.L.TakesLines.takes g.L.TakesLines.refuses g.L.TakesLines.fits (before.0 ++ c.loop-end.rest.now) start 1 m) (sym (told.1 ∙ c.keep.ensures.number)) bad))
+    (subst (λ (m : ℕ). RefusesRest g.L.TakesLines.takes g.L.TakesLines.refuses g.L.TakesLines.fits (before.0 ++ c.loop-end.rest.now) start 1 m) (sym (reported.1 ∙ c.keep.ensures.number)) bad))
 
 pub returns-in-Ok-clause-short : goal.returns-in-Ok-clause-short
 returns-in-Ok-clause-short g c = λ short. c.in-Ok.ensures.short (c.loop-end.invariant.short short)

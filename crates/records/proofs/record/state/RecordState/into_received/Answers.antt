@@ -17,11 +17,11 @@ into_settings-requires g c = let r = c.into_received-head.ensures in subst HeadF
 pub returns-clause-received : goal.returns-clause-received
 returns-clause-received g c =
     let r = c.into_received-head.ensures in
-    ap (λ (h : Head). record_in (received_whole h (g.K.RecordSink.received c.into_received-head.result.1))) r.whole.told
+    ap (λ (h : Head). record_in (received_whole h (g.K.RecordSink.received c.into_received-head.result.1))) r.whole.reported
     ∙ (ap (λ (w : KernelWhole). record_in w) r.received ∙ ap record_of c.self.view_is)
 
 pub returns-clause-settings : goal.returns-clause-settings
-returns-clause-settings g c = c.into_settings.ensures ∙ sym (ap settings_in c.into_received-head.ensures.whole.told)
+returns-clause-settings g c = c.into_settings.ensures ∙ sym (ap settings_in c.into_received-head.ensures.whole.reported)
 
 -- what was read to its end in either form is within the limits of record 2
 pub returns-clause-fit : goal.returns-clause-fit

@@ -1,0 +1,190 @@
+//! A cell is opened, its passes are given out and come back, and it ends.
+
+ghost use Rattle.std.specs.Prelude.{◌≡◌, ◌≤◌, ◌<◌, ◌+◌, IfOk, IfErr};
+ghost use Rattle.std_alloc.specs.Arc.{arc_value};
+ghost use Rattle.sound_run.specs.declared.limits.TheConstants.{MOST_CPUS};
+ghost use Rattle.cell_callers.specs.OpenCells.{IsHome, TakesIn};
+ghost use Rattle.cell_callers.specs.NewCells.{IsOpenedOn};
+ghost use Rattle.cell_callers.specs.Ends.{IsNewCaller, IsReturned, IsClosed};
+
+use crate::unused_cell::end_unused;
+use crate::{Caller, CallerPlace, CallerState, OpenCell};
+use event_log::{Logged, SeqObject};
+use guarded_cell::AnyCell;
+use sound_run::{LockKind, MOST_CPUS};
+use std::alloc::Global;
+use std::sync::Arc;
+use word_rule::{LockCell, Pass};
+
+/// Why no caller was made.
+#[derive(Clone, Copy, Debug, PartialEq, Eq, Drop)]
+pub enum NoNewCaller {
+    /// Each CPU has a caller, or had one.
+    NoneLeft,
+    /// The cell has as many owners as can be counted.
+    NoShare,
+}
+
+/// Why a cell wasn't closed.
+#[derive(Clone, Copy, Debug, PartialEq, Eq, Drop)]
+pub enum NotClosed {
+    /// A CPU's caller wasn't given back.
+    NotAllBack,
+    /// All were, but the cell has another owner.
+    Shared,
+}
+
+impl<O: SeqObject> OpenCell<O> {
+    /// A new cell of the kind around the object, of 1 to 64 CPUs: the log goes on. If memory is refused the object comes back
+    /// as it was.
+    pub fn open(
+        alloc: Global,
+        kind: LockKind,
+        logged: Logged<O>,
+        cpus: u8,
+    ) -> Result<OpenCell<O>, Logged<O>>
+        requires some { 0 < cpus }
+        requires few { cpus ≤ MOST_CPUS }
+        ensures opened { IfOk result (λ c. IsOpenedOn kind cpus logged c) }
+        ensures unchanged { IfErr result (λ l. l ≡ logged) }
+    {
+        let _state = logged.state();
+        match AnyCell::open(alloc, kind, logged, cpus) {
+            Err((_, logged)) => Err(logged),
+            Ok((cell, passes)) => match Arc::new(alloc, cell) {
+                Err(refused) => Err(end_unused(refused.value, passes)),
+                Ok(cell) => Ok(OpenCell {
+                    cell,
+                    passes,
+                    home: None,
+                    back: 0,
+                    cpus,
+                }),
+            },
+        }
+    }
+
+    /// Gives out the pass of the greatest CPU that has no caller yet. There is none if all have one.
+    pub fn new_caller(self) -> (OpenCell<O>, Result<Caller<O>, NoNewCaller>)
+        ensures { IsNewCaller self result.1 result.0 }
+    {
+        if self.passes.is_empty() {
+            return (self, Err(NoNewCaller::NoneLeft));
+        }
+        let Ok(shared) = Arc::try_clone(&self.cell) else {
+            return (self, Err(NoNewCaller::NoShare));
+        };
+        let OpenCell {
+            cell,
+            mut passes,
+            home,
+            back,
+            cpus,
+        } = self;
+        let dealt = passes.pop();
+        let rest = OpenCell {
+            cell,
+            passes,
+            home,
+            back,
+            cpus,
+        };
+        let Some(pass) = dealt else {
+            return (rest, Err(NoNewCaller::NoneLeft));
+        };
+        let caller = Caller {
+            cell: shared,
+            place: CallerPlace::of(CallerState::Idle(pass)),
+        };
+        (rest, Ok(caller))
+    }
+
+    // The pass of the next CPU, beside those that were given back.
+    fn with_back(self, pass: Pass<O>) -> OpenCell<O>
+        requires pass { IsHome (arc_value self.cell) self.back pass }
+        requires few { self.back < self.cpus }
+        ensures cell { arc_value result.cell ≡ arc_value self.cell }
+        ensures passes { result.passes.items ≡ self.passes.items }
+        ensures home { TakesIn self.home pass result.home }
+        ensures back { result.back ≡ self.back + 1 }
+    {
+        let OpenCell {
+            cell,
+            passes,
+            home,
+            back,
+            cpus,
+        } = self;
+        let home = match home {
+            None => pass,
+            Some(first) => cell.join(first, pass),
+        };
+        OpenCell {
+            cell,
+            passes,
+            home: Some(home),
+            back: back + 1,
+            cpus,
+        }
+    }
+
+    /// Takes back an idle caller of the least CPU that wasn't given back yet. Any other comes back.
+    pub fn return_caller(self, caller: Caller<O>) -> (OpenCell<O>, Option<Caller<O>>)
+        requires { arc_value caller.cell ≡ arc_value self.cell }
+        ensures { IsReturned self caller result.1 result.0 }
+    {
+        let Caller { cell, place } = caller;
+        match place.into_state() {
+            CallerState::Idle(pass) => {
+                if self.back < self.cpus && pass.outside.cpu.number == u32::from(self.back) {
+                    return (self.with_back(pass), None);
+                }
+                let place = CallerPlace::of(CallerState::Idle(pass));
+                (self, Some(Caller { cell, place }))
+            }
+            state => {
+                let place = CallerPlace::of(state);
+                (self, Some(Caller { cell, place }))
+            }
+        }
+    }
+
+    /// Ends the cell, if each CPU's caller was given back, and gives the object back with its log.
+    pub fn close(self) -> Result<Logged<O>, (OpenCell<O>, NotClosed)>
+        ensures { IsClosed self result }
+    {
+        if self.back < self.cpus {
+            return Err((self, NotClosed::NotAllBack));
+        }
+        let OpenCell {
+            cell,
+            passes,
+            home,
+            back,
+            cpus,
+        } = self;
+        let Some(pass) = home else {
+            let open = OpenCell {
+                cell,
+                passes,
+                home: None,
+                back,
+                cpus,
+            };
+            return Err((open, NotClosed::NotAllBack));
+        };
+        match Arc::try_unwrap(cell) {
+            Ok(cell) => Ok(cell.close(pass)),
+            Err(cell) => {
+                let open = OpenCell {
+                    cell,
+                    passes,
+                    home: Some(pass),
+                    back,
+                    cpus,
+                };
+                Err((open, NotClosed::Shared))
+            }
+        }
+    }
+}

@@ -1,0 +1,173 @@
+//! What C is told: a number for each thing that is reported.
+
+ghost use Rattle.std.specs.Prelude.{◌≡◌};
+ghost use Rattle.cell_callers.specs.Codes.{progress_code, try_code, answer_code, kept_code, call_code, looks_after, has_looked, opening_code};
+ghost use Rattle.cell_callers.specs.BatchCodes.{ReportsAll};
+
+use crate::batching::{Replies, write_replies};
+use crate::call_numbers::{Answered, reply_code};
+use crate::opening::NotOpened;
+use crate::{Progress, Whole};
+use event_log::{NoRoom, Steps};
+use kernel_object::{KReply, KernelObject};
+
+/// What a step has reported: a number for each.
+pub const STEPPED: u32 = 0;
+
+pub const LOOKED: u32 = 1;
+
+pub const ENTERED: u32 = 2;
+
+pub const FOUND: u32 = 3;
+
+pub const LEFT: u32 = 4;
+
+/// Nothing was done: the handle isn't at a place where this can be done.
+pub const REFUSED: u32 = 5;
+
+/// Of a try: another has the object, or is in line for it.
+pub const BUSY: u32 = 6;
+
+/// It was done; the log is full, and nothing was done; there is no such call, or no such step.
+pub const DONE: u32 = 7;
+
+pub const FULL: u32 = 8;
+
+pub const NOT_THERE: u32 = 9;
+
+/// It was done, or the log was full, but the object isn't given back yet.
+pub const DONE_KEPT: u32 = 12;
+
+pub const FULL_KEPT: u32 = 13;
+
+/// Of an opening: memory was refused, or a number is none of those that fit.
+pub const NO_MEMORY: u32 = 10;
+
+pub const BAD_OPENING: u32 = 11;
+
+/// What is reported of a step.
+pub fn progress_code(reported: Option<Progress>) -> u32
+    ensures { result ≡ progress_code reported }
+{
+    match reported {
+        Some(Progress::Stepped) => STEPPED,
+        Some(Progress::Looked) => LOOKED,
+        Some(Progress::Entered) => ENTERED,
+        Some(Progress::Found) => FOUND,
+        Some(Progress::Left) => LEFT,
+        None => REFUSED,
+    }
+}
+
+/// What is reported of a try.
+pub fn try_code(reported: Option<bool>) -> u32
+    ensures { result ≡ try_code reported }
+{
+    match reported {
+        Some(true) => FOUND,
+        Some(false) => BUSY,
+        None => REFUSED,
+    }
+}
+
+/// What is reported of what was answered, which is written where the call was done.
+#[inline]
+pub fn answer_code(
+    done: Result<KReply, NoRoom>,
+    done_as: u32,
+    full_as: u32,
+    answered: &mut Answered,
+) -> u32
+    ensures { (result, answered.new) ≡ answer_code done_as full_as answered.old done }
+{
+    match done {
+        Ok(reply) => {
+            *answered = reply_code(reply);
+            done_as
+        }
+        Err(NoRoom) => full_as,
+    }
+}
+
+/// The same, once in the library for the calls that needn't be the fastest.
+#[inline(never)]
+pub fn shared_answer_code(
+    done: Result<KReply, NoRoom>,
+    done_as: u32,
+    full_as: u32,
+    answered: &mut Answered,
+) -> u32
+    ensures { (result, answered.new) ≡ answer_code done_as full_as answered.old done }
+{
+    answer_code(done, done_as, full_as, answered)
+}
+
+/// The same as was told of a call, where the object isn't given back yet.
+pub fn kept_code(reported: u32) -> u32
+    ensures { result ≡ kept_code reported }
+{
+    if reported == DONE { DONE_KEPT } else { FULL_KEPT }
+}
+
+/// One look more, if that was one.
+#[inline]
+pub fn count_look(looked: bool, looks: &mut u64)
+    ensures { looks.new ≡ looks_after looked looks.old }
+{
+    if looked {
+        *looks = looks.wrapping_add(1);
+    }
+}
+
+/// What is reported of a whole call. The reply is written where it was done, and the look is counted.
+#[inline]
+pub fn call_code(
+    whole: Whole<Result<KReply, NoRoom>>,
+    answered: &mut Answered,
+    looks: &mut u64,
+) -> u32
+    ensures code { (result, answered.new) ≡ call_code answered.old whole }
+    ensures looks { looks.new ≡ looks_after (has_looked whole) looks.old }
+{
+    let (done, looked, done_as, full_as) = match whole {
+        Whole::Done(done, looked) => (done, looked, DONE, FULL),
+        Whole::Kept(done, looked) => (done, looked, DONE_KEPT, FULL_KEPT),
+        Whole::Waits => {
+            count_look(true, looks);
+            return LOOKED;
+        }
+        Whole::Refused => return REFUSED,
+    };
+    count_look(looked, looks);
+    answer_code(done, done_as, full_as, answered)
+}
+
+/// What is reported of the steps that were done, whose replies are written.
+pub fn steps_code(
+    done: Result<Steps<KernelObject>, NoRoom>,
+    done_as: u32,
+    full_as: u32,
+    replies: &mut Replies,
+) -> u32
+    ensures { ReportsAll done_as full_as done result replies.old replies.new }
+{
+    match done {
+        Ok(steps) => {
+            write_replies(steps.list.as_slice(), replies);
+            done_as
+        }
+        Err(NoRoom) => full_as,
+    }
+}
+
+/// What is reported of an opening.
+pub fn opening_code(reported: Result<(), NotOpened>) -> u32
+    ensures { result ≡ opening_code reported }
+{
+    match reported {
+        Ok(()) => DONE,
+        Err(NotOpened::NotEmpty) => REFUSED,
+        Err(NotOpened::OutOfMemory) => NO_MEMORY,
+        Err(NotOpened::BadOpening) => BAD_OPENING,
+    }
+}

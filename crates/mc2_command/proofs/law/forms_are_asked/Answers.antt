@@ -1,5 +1,0 @@
-use Rattle.mc2_command.proofs.FormsTaken.{asks}
-use Rattle.mc2_command.proofs.law.forms_are_asked.Goals as goal
-
-pub returns : goal.returns
-returns c = asks
