@@ -54,7 +54,7 @@ module _ (r : Record) (fits : RecordFits r) where
       let fit = all_at (EventFits WRITTEN r.settings.cpus) (log_of x r.run) (log_fits r fits x).1 n e there in
       omega (arith, fit.steps.few, lt)
 
-  -- a fault that is there can be told
+  -- a fault that is there can be reported
   pub fault_is_named : {T : Type 0} (model : StepModel T KernelObject KParams KCall KReply) (terms : List (Terms KParams T)) (f : Fault) → length terms ≡ length r.settings.objects → IsFaultBy model terms r.run f → IsNamed r.settings f
   fault_is_named model terms (TooLong x) same h = omega (arith, same, length-map terms opened_as, slice_get_within (opened_list terms) x h.opened h.object)
   fault_is_named model terms (WrongStep x e i) same h =
@@ -68,7 +68,7 @@ module _ (r : Record) (fits : RecordFits r) where
   pub first_is_named : (f : Fault) → IsFirstFault kernel (opened_of r.settings) r.run f → IsNamed r.settings f
   first_is_named f h = fault_is_named (object_model kernel) (starts kernel (opened_of r.settings)) f (length-map (opened_of r.settings) (start kernel) ∙ length-map r.settings.objects object_opened) h.there
 
-  -- a verdict on a record can be told
+  -- a verdict on a record can be reported
   received : (v : Verdict) → ((f : Fault) → v ≡ verdict.Unsound f → IsFirstFault kernel (opened_of r.settings) r.run f) → CanBeReported r.settings v
   received verdict.Sound h = tt
   received (verdict.Unsound f) h = first_is_named f (h f refl)

@@ -14,7 +14,7 @@ use Rattle.auditor.specs.Marks.{AreMarked}
 pub same_or : (t u : ℕ) (P : Type 0) → (u ≡ t → P) → (u ≢ t → P) → P
 same_or t u P same other = elim (t == u) as (λ b. (t == u) ≡ b → P) [ true ↦ λ e. same (grind (arith, nat_tests, e)) | false ↦ λ e. other (grind (arith, nat_tests, e)) ] refl
 
--- the mark of t was written: it tells of t what the new list has, and of all others what both lists have
+-- the mark of t was written: it says of t what the new list has, and of all others what both lists have
 marks_written : (table : List Bool) (list new : List ℕ) (t : ℕ) (b : Bool) → t < length table → AreMarked table list → has t new ≡ b → ((u : ℕ) → u ≢ t → has u new ≡ has u list) → (u : ℕ) → get_or (set table t b) u false ≡ has u new
 marks_written table list new t b lt h here there u = same_or t u (get_or (set table t b) u false ≡ has u new)
     (λ e. subst (λ k. get_or (set table t b) k false ≡ has k new) (sym e) (get_or-set_same table t b false lt ∙ sym here))

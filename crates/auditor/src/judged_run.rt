@@ -36,7 +36,7 @@ impl<O: SeqObject, R: StepRows<O>> Model for JudgedRun<O, R> {
 }
 
 impl<O: SeqObject, R: StepRows<O>> JudgedRun<O, R> {
-    /// The run that was told, of which these logs were kept.
+    /// The run that was received, of which these logs were kept.
     pub(crate) fn new(received: WholeRun<O>, logs: Vec<KeptLog<O, R>>) -> JudgedRun<O, R>
         requires { events_in logs.items ≡ received.logs }
         ensures { result ≡ received }

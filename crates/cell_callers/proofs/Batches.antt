@@ -13,7 +13,7 @@ use Rattle.cell_callers.specs.BatchReports.{ReportsHeldBatch, ReportsBatchedAt}
 use Rattle.cell_callers.specs.Codes.{kept_code, looks_after}
 use Rattle.cell_callers.specs.HandleContents.{KernelCell, KernelHold, KernelState, KernelSteps}
 
--- what is told where the object isn't given back yet
+-- what is reported where the object isn't given back yet
 pub kept_all : (said : Result KernelSteps NoRoom) (old new : Replies) (n m : ℕ) → ReportsAll DONE FULL said n old new → m ≡ kept_code n → ReportsAll DONE_KEPT FULL_KEPT said m old new
 kept_all (Ok steps) old new n m reported kept = (kept ∙ ap kept_code reported.0, reported.1)
 kept_all (Err why) old new n m reported kept = (kept ∙ ap kept_code reported.0, reported.1)

@@ -1,5 +1,4 @@
 -- A caller that has come behind another goes on from there.
-use Rattle.std.proofs.Common.{◌≡◌}
 use Rattle.guarded_cell.specs.declared.cell.AnyCell.{AnyCell}
 use Rattle.kernel_object.specs.declared.call.KParams.{KParams}
 use Rattle.kernel_object.specs.declared.call.KCall.{KCall}

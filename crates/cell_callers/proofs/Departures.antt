@@ -25,7 +25,7 @@ module _ {O P C R : Type 0} {g : Ghosts O P C R} {call_eq : Eq C} {call_default 
     pub caller : (state_of_pass back).caller ≡ (state_of_hold hold).caller
     pub gone : IsDeparture g (cells.Mcs cell) (at.Holding hold) true (at.Idle back)
 
--- what is told where the object isn't given back yet
+-- what is reported where the object isn't given back yet
 pub kept_reported : (said : Result KReply NoRoom) (old new : Answered) (n m : ℕ) → (n, new) ≡ answer_code DONE FULL old said → m ≡ kept_code n → (m, new) ≡ answer_code DONE_KEPT FULL_KEPT old said
 kept_reported (Ok reply) old new n m e k =
     let number : n ≡ DONE = ap (λ z. z.0) e in

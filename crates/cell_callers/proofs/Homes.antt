@@ -22,7 +22,7 @@ pub same_number : (a b : ℕ) → a ≡ b → (a == b) ≡ true
 same_number = eq-eqb
 
 module _ {O P C R : Type 0} {g : Ghosts O P C R} {call_eq : Eq C} {call_default : Default C} {reply_eq : Eq R} {reply_default : Default R} where
-  -- a pass was told what its cell was told
+  -- a pass has received the key that its cell has received
   pub reported_of : (cell : AnyCell O P C R) (p : Pass O P C R g call_eq call_default reply_eq reply_default) → IsPassOf cell p → p.outside.key.value ≡ fixed_of cell
   reported_of (cells.Ticket c) p is = is.reported
   reported_of (cells.Mcs c) p is = is.reported

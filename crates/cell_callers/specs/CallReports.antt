@@ -18,7 +18,7 @@ use Rattle.cell_callers.specs.Arrivals.{GoesThere}
 use Rattle.cell_callers.specs.declared.progress.Progress.{Progress}
 use Rattle.cell_callers.specs.declared.caller_state.CallerState.TheVariants as at
 
--- the number, the reply and the looks are those of a call of which this was told
+-- the number, the reply and the looks are those of a call of which this was reported
 abbrev pub IsReportOf : Whole (Result KReply NoRoom) → Answered × ℕ → ℕ → Answered × ℕ → Type 0
 IsReportOf reported old n new = ((n, new.0) ≡ call_code old.0 reported) × (new.1 ≡ looks_after (has_looked reported) old.1)
 

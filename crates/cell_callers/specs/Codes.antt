@@ -1,4 +1,4 @@
--- What C is told: a number for each thing that is reported.
+-- The numbers by which callers in C learn what became of a call.
 use Rattle.std.specs.Prelude.{ℕ, ◌+◌, ◌%◌, ◌^◌, ◌==◌, Bool, true, false, Option, Some, None, Result, Ok, Err, if◌then◌else◌}
 use Rattle.event_log.specs.declared.logged.NoRoom.{NoRoom}
 use Rattle.kernel_object.specs.declared.call.KReply.{KReply}
@@ -36,7 +36,7 @@ abbrev pub apply_code : Answered → Option (Result KReply NoRoom) → ℕ × An
 apply_code old (Some said) = answer_code DONE FULL old said
 apply_code old None = (REFUSED, old)
 
--- what is told of a call whose object isn't given back yet, for what is told of it without that
+-- what is reported of a call whose object isn't given back yet, for what is reported of it without that
 abbrev pub kept_code : ℕ → ℕ
 kept_code reported = if reported == DONE then DONE_KEPT else FULL_KEPT
 

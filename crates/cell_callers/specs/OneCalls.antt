@@ -1,4 +1,4 @@
--- One call, over all its returns: so many tell that the caller has looked in vain, and the next one what became of the call.
+-- One call, over all its returns: so many report that the caller has looked in vain, and the next one what became of the call.
 use Rattle.std.specs.declared.cmp.PartialEq.{Ghosts as Eq}
 use Rattle.std.specs.declared.default.Default.{Ghosts as Default}
 use Rattle.std.specs.Prelude.{◌≡◌, ℕ, zero, suc, ◌+◌, ◌-◌, ◌^◌, min, Bool, true, false}
@@ -14,7 +14,7 @@ looks_of n true = min (n + 1) (2 ^ 64 - 1)
 looks_of n false = min n (2 ^ 64 - 1)
 
 module _ {O P C R : Type 0} (g : Ghosts O P C R) {call_eq : Eq C} {call_default : Default C} {reply_eq : Eq R} {reply_default : Default R} where
-  -- so many returns, each of which told that the caller has looked in vain
+  -- so many returns, each of which reported that the caller has looked in vain
   abbrev pub LooksInVain : AnyCell O P C R → CallerState O P C R g call_eq call_default reply_eq reply_default → C → ℕ → CallerState O P C R g call_eq call_default reply_eq reply_default → Type 0
   LooksInVain c p call zero q = q ≡ p
   LooksInVain c p call (suc n) q = (m : CallerState O P C R g call_eq call_default reply_eq reply_default) × IsCalled g c p call whole.Waits m × LooksInVain c m call n q

@@ -15,7 +15,7 @@ use Rattle.cell_callers.specs.declared.progress.Progress.TheVariants as reported
 use Rattle.cell_callers.specs.CallerStates.{state_of, has_none}
 
 module _ {O P C R : Type 0} (g : Ghosts O P C R) {call_eq : Eq C} {call_default : Default C} {reply_eq : Eq R} {reply_default : Default R} where
-  -- the step towards the object, from that state of a caller of that cell, which tells that
+  -- the step towards the object, from that state of a caller of that cell, which reports that
   abbrev pub IsStepThere : AnyCell O P C R → CallerState O P C R g call_eq call_default reply_eq reply_default → Progress → StepState O P C R → StepState O P C R → Type 0
   IsStepThere (cells.Ticket c) (at.Idle p) reported.Stepped b a = IsDraw g b a
   IsStepThere (cells.Mcs c) (at.Idle p) reported.Stepped b a = IsClear g b a

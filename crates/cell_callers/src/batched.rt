@@ -33,7 +33,7 @@ fn apply_all_held(hold: &mut Hold<KernelObject>, calls: &[KCall], replies: &mut 
     steps_code(hold.apply(calls), DONE, FULL, replies)
 }
 
-// A batch under the hold, and back.
+/// A batch under the hold, and back.
 fn batch_held(
     cell: &AnyCell<KernelObject>,
     mut hold: Hold<KernelObject>,

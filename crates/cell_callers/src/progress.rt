@@ -1,6 +1,6 @@
-//! What a step has told its caller.
+//! What a step has reported to its caller.
 
-/// What a step on the way to the object, or back, has told its caller.
+/// What a step on the way to the object, or back, has reported to its caller.
 #[derive(Clone, Copy, Debug, PartialEq, Eq, Drop)]
 pub enum Progress {
     /// It is a step further, and has looked at nothing.

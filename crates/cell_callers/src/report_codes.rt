@@ -1,4 +1,4 @@
-//! What C is told: a number for each thing that is reported.
+//! The numbers by which callers in C learn what became of a call.
 
 ghost use Rattle.std.specs.Prelude.{◌≡◌};
 ghost use Rattle.cell_callers.specs.Codes.{progress_code, try_code, answer_code, kept_code, call_code, looks_after, has_looked, opening_code};
@@ -102,7 +102,7 @@ pub fn shared_answer_code(
     answer_code(done, done_as, full_as, answered)
 }
 
-/// The same as was told of a call, where the object isn't given back yet.
+/// The same as is reported of a call, where the object isn't given back yet.
 pub fn kept_code(reported: u32) -> u32
     ensures { result ≡ kept_code reported }
 {

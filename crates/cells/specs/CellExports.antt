@@ -1,4 +1,4 @@
--- What each call from C on a cell does, and tells.
+-- What each call from C on a cell does, and reports.
 use Rattle.std.specs.Prelude.{◌≡◌, ℕ, Bool, true, false, Option, Some, None, Result, Ok, Err}
 use Rattle.cell_callers.specs.declared.report_codes.TheConstants.{REFUSED, BUSY, DONE, NOT_THERE}
 use Rattle.cell_callers.specs.declared.report_codes.TheConstants.{NO_MEMORY}
@@ -81,7 +81,7 @@ ReportsForgetting before n after = (reported : Bool) × (n ≡ done_code reporte
 abbrev pub ReportsFreeing : HandleContent → ℕ → Type 0
 ReportsFreeing content n = n ≡ done_code (may_be_freed content)
 
--- what is told of a step, which is written where there is one
+-- what is reported of a step, which is written where there is one
 abbrev pub step_code : LoggedStep → Option LoggedStep → ℕ × LoggedStep
 step_code old (Some s) = (DONE, s)
 step_code old None = (NOT_THERE, old)

@@ -1,4 +1,4 @@
--- What each call from C does, and tells.
+-- What each call from C does, and reports.
 use Rattle.std.specs.Prelude.{◌≡◌, ℕ, ◌==◌, ◌||◌, nat_lt, List, Bool, true, false, Option, Some, None, Result}
 use Rattle.core.specs.Mem.{manually_drop_value}
 use Rattle.event_log.specs.declared.logged.NoRoom.{NoRoom}
@@ -16,7 +16,7 @@ use Rattle.cell_callers.specs.declared.whole.Whole.{Whole}
 use Rattle.cell_callers.specs.declared.whole.TriedCall.{TriedCall}
 use Rattle.cell_callers.specs.declared.handle.Handle.{Handle}
 use Rattle.cell_callers.specs.declared.progress.Progress.{Progress}
-use Rattle.cell_callers.specs.HandleContents.{IsAcquireStepIn, IsReleaseStepIn, IsTryIn, IsApplyIn, IsCallIn, IsBatchIn, IsTryCallIn, KernelSteps}
+use Rattle.cell_callers.specs.HandleContents.{IsAcquireStepIn, IsReleaseStepIn, IsTryIn, IsApplyIn, IsBatchIn, IsTryCallIn, KernelSteps}
 use Rattle.cell_callers.specs.Coding.{called_of}
 use Rattle.cell_callers.specs.CallReports.{ReportsCallOf}
 use Rattle.cell_callers.specs.Codes.{progress_code, try_code, apply_code, try_call_code, looks_after, has_looked}
@@ -25,7 +25,7 @@ use Rattle.cell_callers.specs.Codes.{progress_code, try_code, apply_code, try_ca
 abbrev pub content_of : Handle → HandleContent
 content_of h = manually_drop_value h.slot
 
--- a step that tells this
+-- a step that reports this
 abbrev pub ReportsAcquireStep : HandleContent → ℕ → HandleContent → Type 0
 ReportsAcquireStep before n after = (reported : Option Progress) × (n ≡ progress_code reported) × IsAcquireStepIn before reported after
 

@@ -21,7 +21,7 @@ pub fn stays_within()
 {}
 
 /// The law of order, without effect: what a console held and what was put into it is, in order, what came out of it, got
-/// or dropped, and then what it holds. So all bytes that a legal log's calls put are, in order, those that its replies tell,
+/// or dropped, and then what it holds. So all bytes that a legal log's calls put are, in order, those that its replies have,
 /// and then those that the log leaves.
 pub fn first_in_first_out()
     ensures log { (n : ℕ) (log : _) → Legal ⟦<Console as SeqObject>⟧ n log → bytes_in (calls_of (steps_of log)) ≡ bytes_reported (steps_of log) ++ (replay ⟦<Console as SeqObject>⟧ n log).bytes }

@@ -1,10 +1,8 @@
--- A pass of a cell around a counter may go to another thread, and so may the cell by reference.
-use denote.Param.Send.{IsSend, IsSync, sendable}
+-- A pass of a cell around a counter may go to another thread.
+use denote.Param.Send.{IsSend, sendable}
 use denote.Plain.{UInt}
 use mir.Syntax.{w32}
 use Rattle.event_log.specs.declared.object.SeqObject.{Ghosts}
-use Rattle.std.specs.declared.clone.Clone.{Ghosts as Clones}
-use Rattle.std.specs.declared.cmp.Eq.{Ghosts as Equals}
 use Rattle.std.specs.declared.cmp.PartialEq.{Ghosts as Compares}
 use Rattle.std.specs.declared.default.Default.{Ghosts as Defaults}
 use Rattle.counter.specs.contracts.counter.BoundedCounter as Counter
@@ -15,8 +13,6 @@ use Rattle.counter.proofs.call.CounterCall.TheSendSync.{the_send as call_send}
 use Rattle.counter.proofs.call.CounterReply.TheSendSync.{the_send as reply_send}
 use Rattle.word_rule.specs.contracts.pass.Pass as Pass
 use Rattle.word_rule.proofs.Sends.{pass_send}
-use Rattle.guarded_cell.specs.contracts.cell.AnyCell as AnyCell
-use Rattle.guarded_cell.proofs.cell.AnyCell.TheSendSync.{the_sync as any_sync}
 
 module _ (g : Ghosts Counter.the_row.Denot (UInt w32).Denot Call.the_row.Denot Reply.the_row.Denot) where
   pub counter_pass_send : (ce : Compares Call.the_row.Denot) (cd : Defaults Call.the_row.Denot)
@@ -24,13 +20,4 @@ module _ (g : Ghosts Counter.the_row.Denot (UInt w32).Denot Call.the_row.Denot R
       → IsSend (Pass.the_row Counter.the_row (UInt w32) Call.the_row Reply.the_row g ce cd re rd)
   counter_pass_send ce cd re rd =
       pass_send Counter.the_row (UInt w32) Call.the_row Reply.the_row g ce cd re rd
-      counter_send (search sendable) call_send reply_send
-
-  pub counter_cell_sync : (cl : Clones Call.the_row.Denot) (cq : Equals Call.the_row.Denot)
-      (ce : Compares Call.the_row.Denot) (cd : Defaults Call.the_row.Denot)
-      (rl : Clones Reply.the_row.Denot) (rq : Equals Reply.the_row.Denot)
-      (re : Compares Reply.the_row.Denot) (rd : Defaults Reply.the_row.Denot)
-      → IsSync (AnyCell.the_row Counter.the_row (UInt w32) Call.the_row Reply.the_row g cl cq ce cd rl rq re rd)
-  counter_cell_sync cl cq ce cd rl rq re rd =
-      any_sync Counter.the_row (UInt w32) Call.the_row Reply.the_row g cl cq ce cd rl rq re rd
       counter_send (search sendable) call_send reply_send

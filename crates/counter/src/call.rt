@@ -5,7 +5,7 @@
 pub enum CounterCall {
     /// Counts one more.
     Increase,
-    /// TailSpells how many it has counted.
+    /// Answers how many it has counted.
     #[default]
     Read,
 }

@@ -4,11 +4,10 @@ use Rattle.std.specs.Option.{option_map_or}
 use Rattle.std.proofs.lemmas.Bool.{cases_lt}
 use Rattle.std.proofs.lemmas.List.{append_assoc, take_all, take-append-le}
 use Rattle.kernel_object.specs.declared.call.KCall.{KCall}
-use Rattle.kernel_object.specs.declared.call.KParams.{KParams}
 use Rattle.kernel_object.specs.declared.object.KernelObject.{KernelObject}
 use Rattle.kernel_object.specs.Kernel.{kernel_opening, kernel_answer}
 use Rattle.custom_records.specs.Custom.{CustomStep}
-use Rattle.custom_kernel.specs.Counts.{AreRight, IsCountOf, Counted, none_counted, answers_of, LeadsTo, IsCounting}
+use Rattle.custom_kernel.specs.Counts.{AreRight, IsCountOf, Counted, answers_of, LeadsTo, IsCounting}
 use Rattle.custom_kernel.specs.KernelModel.{call_of, answers_last}
 
 -- a step behind the others changes none of the earlier beginnings
@@ -60,13 +59,6 @@ leads_on o state next steps s c leads called to = λ t more.
     ∙ (ap (λ r. option_map_or (λ d. answers_last (kernel_answer state d).0 (t ∷ more)) r false) called
     ∙ ap (λ x. answers_last x (t ∷ more)) (sym to)))
 
--- of no step
-pub counting_none : (p : KParams) (state : KernelObject) → state ≡ kernel_opening p → IsCounting (none_counted p) state true
-counting_none p state opened = record {
-  count = record { within = omega arith; all = λ k lt. absurd (omega (arith, lt)); next = λ lt. absurd (omega (arith, lt)) };
-  all = λ _. refl;
-  leads = λ _ s more. ap (λ o. answers_last o (s ∷ more)) (sym opened);
-  ended = λ e. absurd (true≢false e);
 }
 
 module _ (c : Counted) (state : KernelObject) (goes_on : Bool) (i : IsCounting c state goes_on) (s : CustomStep) (steps : List CustomStep) (grown : steps ≡ c.steps ++ s ∷ []) (next : KernelObject) where

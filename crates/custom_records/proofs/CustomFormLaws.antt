@@ -19,7 +19,7 @@ use Rattle.custom_records.specs.contracts.custom_form.CustomFormRecordForm.TheIm
 use Rattle.custom_records.specs.CustomForm.{Head, HeadFits, TailSpellsEntry, some_in}
 use Rattle.custom_records.proofs.CustomHeads.{head_on, head_run, head_begins}
 
--- an entry that the text behind its looks tells
+-- an entry that the text behind its looks spells
 pub entry_spelled_by : (h : Head) (line : List ℕ) (object looks : ℕ) (tail : List ℕ) → HeadFits h → custom_front_at h.so_far.objects (words line) ≡ Some (object, looks, words tail) → (e : CustomEntry) → TailSpellsEntry h.so_far object looks tail e
     → (custom_entry_at h.so_far (words line) ≡ Some e) × EntryFits h.so_far e
 entry_spelled_by h line object looks tail fit front e (asked, steps, so_far, steps_fit, same) =

@@ -47,13 +47,6 @@ left_none (Some bytes) none is e = absurd (let both : true ≡ false = is ∙ ap
 abbrev pub behind_sizes : List ℕ → ℕ → List (List ℕ) → Option (List ℕ × List (List ℕ))
 behind_sizes front n ws = sizes_at n ws >>= λ more. Some (front ++ more.0, more.1)
 
-pub sizes_first : (n : ℕ) (ws : List (List ℕ)) → sizes_at n ws ≡ behind_sizes [] n ws
-sizes_first n ws = go (sizes_at n ws)
-  where
-    go : (o : Option (List ℕ × List (List ℕ))) → o ≡ (o >>= λ more. Some ([] ++ more.0, more.1))
-    go None = refl
-    go (Some more) = refl
-
 pub sizes_step : (n : ℕ) (front longer : List ℕ) (ws last : List (List ℕ)) (x : ℕ) → longer ≡ front ++ x ∷ [] → number_next ws ≡ true → number_at most_number ws ≡ Some (x, last) → behind_sizes front (suc n) ws ≡ behind_sizes longer n last
 unfolding sizes_at
 sizes_step n front longer ws last x grown next read = rw (next, read) (bind_grown (sizes_at n last) front longer x grown)

@@ -2,7 +2,6 @@
 use Rattle.std.specs.Prelude.{Bool, true, false, []}
 use Rattle.event_log.specs.declared.object.SeqObject.{Ghosts}
 use Rattle.event_log.specs.declared.event.Step.{Step}
-use Rattle.event_log.specs.declared.event.Steps.{Steps}
 use Rattle.event_log.specs.declared.event.Event.{Event}
 use Rattle.event_log.specs.declared.entry.Done.{Done}
 use Rattle.event_log.specs.declared.entry.Entry.{Entry}
@@ -34,10 +33,6 @@ custom = record { in_range = custom_in_range; opening = custom_opening; answer =
 -- a call with its reply
 abbrev pub CustomStep : Type 0
 CustomStep = Step CustomObject (Unit {0}) Said CustomReply
-
--- the steps of an event
-abbrev pub CustomSteps : Type 0
-CustomSteps = Steps CustomObject (Unit {0}) Said CustomReply
 
 -- what one CPU did in one go
 abbrev pub CustomEvent : Type 0

@@ -19,7 +19,7 @@ use Rattle.custom_records.specs.RecordText.{custom_head_lines}
 use Rattle.record_lines.specs.Reading.{◌>>=◌, words}
 use Rattle.record_lines.specs.Words.{sentence}
 
--- which line of a head can come next, how many objects were told, and what was read
+-- which line of a head can come next, how many objects were announced, and what was read
 pub record Head : Type 0 where
   pub awaits : CustomHeadNext
   pub count : ℕ
@@ -114,6 +114,6 @@ some_in h fit = let cpus = fit.fit.cpus.0 in let count = fit.fit.count.0 in (ome
 pub few_items : (most_lines < 18446744073709551616) × (most_lines < 18446744073709551616)
 few_items = (omega arith, omega arith)
 
--- under that head, on that object, the text behind the looks tells the entry
+-- under that head, on that object, the text behind the looks spells the entry
 abbrev pub TailSpellsEntry : CustomHead → ℕ → ℕ → List ℕ → CustomEntry → Type 0
 TailSpellsEntry head object looks text e = (asked : List Said) × (steps : List CustomStep) × SpellsTail custom_writing text asked steps × StepsFit head steps × (e ≡ custom_entry_of object looks asked steps)

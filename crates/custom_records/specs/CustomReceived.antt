@@ -8,6 +8,6 @@ use Rattle.record_lines.specs.Received.{Received}
 abbrev pub CustomReceived : Type 0
 CustomReceived = Received Head CustomEvent CustomEntry
 
--- the record of what the head tells and of what is whole
+-- the record of what the head says and of what is whole
 abbrev pub received_custom : CustomReceived → CustomRecord
 received_custom p = record { head = p.head.so_far; run = record { logs = p.logs; transcripts = p.transcripts } }

@@ -30,7 +30,7 @@ pub enum CustomHeadNext {
     Whole,
 }
 
-/// What the head of a record tells so far, and how many objects there will be.
+/// What the head of a record has said so far, and how many objects there will be.
 #[derive(Drop)]
 pub struct CustomFormHead {
     pub awaits: CustomHeadNext,

@@ -13,7 +13,7 @@ use crate::{CustomForm, CustomFormHead, CustomHead};
 use record_lines::{LineFault, LinesFault, RecordSink, RecordState, split_line};
 use std::alloc::Global;
 
-/// What the head of the record that the text spells tells, and the sink, which was handed over the record. Where the text spells
+/// What the head of the record that the text spells says, and the sink, which has received the record. Where the text spells
 /// none, the line that is named is the first with which no record goes on.
 pub fn read_custom<S: RecordSink<CustomForm>>(
     alloc: Global,

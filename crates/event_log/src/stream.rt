@@ -10,7 +10,7 @@ pub struct StreamFailed;
 
 /// Where bytes come from.
 pub trait Source {
-    /// The bytes that are left, where the source tells them.
+    /// The bytes that are left, where the source shows them.
     ghost remaining: { Self → Option (List ℕ) } = { λ _. None };
 
     /// How many calls have failed, counted to 2^64 - 1.
@@ -26,7 +26,7 @@ pub trait Source {
 
 /// Where bytes go.
 pub trait Sink {
-    /// The bytes that were taken so far, where the sink tells them.
+    /// The bytes that were taken so far, where the sink shows them.
     ghost contents: { Self → Option (List ℕ) } = { λ _. None };
 
     /// How many calls have failed, counted to 2^64 - 1. A write that takes none of some bytes has failed too.

@@ -1,5 +1,5 @@
 -- What a hold adds to a log, group by group.
-use Rattle.std.proofs.Common.{◌≡◌, ℕ, ◌+◌, ◌<◌, List, [], ◌∷◌, ◌++◌, length, take, drop, get_or, slice_get, refl, sym, ap, ◌∙◌, subst, arith, append_assoc, length-take, Option, Some, Result, Ok, Err, OnErr}
+use Rattle.std.proofs.Common.{◌≡◌, ℕ, ◌+◌, ◌<◌, List, [], ◌∷◌, ◌++◌, length, take, drop, get_or, slice_get, refl, sym, ap, ◌∙◌, subst, arith, append_assoc, length-take, Some, Result, Ok, Err, OnErr}
 use Rattle.std.proofs.lemmas.List.{map-append, take-append-drop, take_more}
 use Rattle.arrayvec.specs.ArrayVec.{ArrayVec}
 use Rattle.event_log.specs.declared.object.SeqObject.{Ghosts}

@@ -1,5 +1,5 @@
 -- Entries that a caller with passes of many cells does one after another.
-use Rattle.std.proofs.Common.{◌≡◌, ◌≢◌, ℕ, ◌+◌, ◌<◌, ◌≤◌, ◌^◌, true, List, [], ◌∷◌, ◌++◌, length, map, drop, refl, sym, ◌∙◌, ap, subst, arith, length-append, append_assoc, slice_get, Option, Some, None, Result, Ok, Err, IfOk, OnErr}
+use Rattle.std.proofs.Common.{◌≡◌, ◌≢◌, ℕ, ◌+◌, ◌<◌, ◌≤◌, ◌^◌, true, List, [], ◌∷◌, ◌++◌, length, map, drop, refl, sym, ◌∙◌, ap, subst, arith, length-append, append_assoc, slice_get, Option, Some, None}
 use Rattle.std.proofs.Math.ListN.{set}
 use Rattle.std.proofs.lemmas.List.{append-nil, map-append, length-set}
 use mathlib.Core.Logic.{dite}
@@ -17,7 +17,7 @@ use Rattle.event_log.specs.Log.{of}
 use Rattle.event_log.proofs.Beginnings.{begins_rest}
 use Rattle.event_log.proofs.Lists.{some_at}
 use Rattle.word_rule.specs.Cell.{PassView, IsPassView}
-use Rattle.word_rule.specs.Answered.{IsAnswered, IsRefused, events_by}
+use Rattle.word_rule.specs.Answered.{IsAnswered, events_by}
 use Rattle.sound_run.specs.Sound.{Opened, Answers, done_on, with_steps}
 use Rattle.event_log.proofs.Each.{all_map, all_push}
 use Rattle.sound_run.proofs.Entries.{done_append, done_here, done_elsewhere, done_without, full_push}
@@ -49,12 +49,6 @@ module _ {O P C R : Type 0} (meaning : Ghosts O P C R) where
           let same : of k b ≡ of k a = ap (λ l. of k l) (is ∙ append-nil a) in
           let lengths : length (of k a) ≡ length (of k a) + 1 = ap length (sym same ∙ more) ∙ length-append (of k a) (e ∷ []) in
           absurd (omega arith)
-
-  -- what became of an entry, by what became of its calls
-  pub did_of : {X : Type 0} (before after : PassView O P C R) (asked : ArrayVec C) (r : Result (Steps O P C R) X) (d : Done O P C R) → IfOk r (λ s. d ≡ done.Steps s) → OnErr r (d ≡ done.NoRoom)
-      → IfOk r (λ s. IsAnswered meaning before asked.items s after) × OnErr r (IsRefused meaning before after) → Did meaning before asked d after
-  did_of before after asked (Ok s) d is not both = subst (λ x. Did meaning before asked x after) (sym is) both.0
-  did_of before after asked (Err e) d is not both = subst (λ x. Did meaning before asked x after) (sym not) both.1
 
   -- what one entry more on the object leaves there
   module _ (x : ℕ) (before mid after : PassView O P C R) (entries : List (Entry O P C R)) (e : Entry O P C R) (on : e.object ≡ x) (d : DidOn meaning x before entries mid) (mid_is : IsPassView meaning mid) (end : IsPassView meaning after) (same : after.caller ≡ mid.caller) where

@@ -1,6 +1,5 @@
 -- The head of a log of whatever name is read as what it spells.
-use Rattle.std.proofs.Common.{◌≡◌, ℕ, ◌≤◌, true, Some, List, [], ◌∷◌, refl, sym, ap, subst, ◌∙◌, codes, decimal, rules, arith}
-use Rattle.std.proofs.lemmas.Option.{cond_some}
+use Rattle.std.proofs.Common.{◌≡◌, ℕ, ◌≤◌, true, Some, List, [], ◌∷◌, refl, sym, ap, subst, ◌∙◌, decimal, rules, arith}
 use Rattle.std.specs.List.{AllByRecursion}
 use Rattle.custom_records.specs.LineReading.{log_at}
 use Rattle.custom_records.specs.LineText.{log_words}

@@ -135,7 +135,7 @@ module _ (model : Model) (r : CustomRecord) (counts : List ℕ) (are : AreCounts
         wrong = inl (ap (model o) (sym (steps_to (log_of x r.run) e i h.event h.there h.within)) ∙ (ap (λ k. model o (take (k + 1) (steps_of (log_of x r.run)))) p ∙ (count_at x o on).next lt));
       }
 
-  -- a step that is wrong by the model is wrong as told
+  -- a step that is wrong by the model is wrong as counted
   wrong_of_by : (x e i : ℕ) → HasWrongStepBy model r x e i → WrongStep x e i
   wrong_of_by x e i f =
       let k = length (steps_of (take e (log_of x r.run))) + i in
@@ -200,7 +200,7 @@ module _ (model : Model) (r : CustomRecord) (counts : List ℕ) (are : AreCounts
   pub first_from : (f : Fault) → CountedFirst by_count Terms r.run f → IsFirstFaultBy model r f
   first_from f h = record { there = fault_from f (λ x e i b w. h.first (fault.WrongStep x e i) b w) h.there; first = λ g b w. h.first g b (fault_to g w) }
 
-  -- where no step before a place is wrong by the model, none is as told
+  -- where no step before a place is wrong by the model, none is as counted
   none_wrong : (ys : List ℕ) → ((x e i : ℕ) → IsBefore (place (fault.WrongStep x e i)) ys → HasWrongStepBy model r x e i → ⊥) → (x e i : ℕ) → IsBefore (place (fault.WrongStep x e i)) ys → WrongStep x e i → ⊥
   none_wrong ys none x e i b w = ⊎_elim (λ v. none x e i b v)
       (λ q. none x q.0 q.1 (before_trans (place (fault.WrongStep x q.0 q.1)) (place (fault.WrongStep x e i)) ys (step_place x q.0 q.1 e i q.2) b) q.3)

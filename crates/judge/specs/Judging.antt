@@ -11,7 +11,7 @@ use Rattle.custom_records.specs.CustomReceived.{CustomReceived}
 use Rattle.custom_records.specs.Said.{Said}
 use Rattle.custom_records.specs.Settings.{CustomSettings}
 
--- what was handed over, and how many steps of each log were told to be right
+-- what was handed over, and how many steps of each log were called right
 pub record Counted : Type 0 where
   pub parts : CustomReceived
   pub counts : List ℕ

@@ -1,4 +1,4 @@
--- What is told of a log whose object is of one of the kernel's four kinds.
+-- What is reported of a log whose object is of one of the kernel's four kinds.
 use Rattle.std.specs.Prelude.{◌≡◌, ℕ, List}
 use Rattle.custom_kernel.specs.Lines.{IsKernelCount, NoKernelLog}
 use Rattle.judge.specs.Report.{report}
@@ -16,13 +16,13 @@ IsKernelOutcome bytes object log (counted n) = IsKernelCount bytes object log n
 IsKernelOutcome bytes object log none = NoKernelLog bytes object log
 IsKernelOutcome bytes object log out_of_memory = Unit {0}
 
--- what is told of an outcome
+-- what is reported of an outcome
 abbrev pub kernel_report : KernelOutcome → Report
 kernel_report (counted n) = report 13 n 0 0
 kernel_report none = report 12 0 0 0
 kernel_report out_of_memory = report 9 0 0 0
 
--- what is told is what becomes of the bytes and the places
+-- what is reported is what becomes of the bytes and the places
 pub record IsKernelReported (bytes : List ℕ) (object log : ℕ) (t : Report) : Type 0 where
   pub outcome : KernelOutcome
   pub right : IsKernelOutcome bytes object log outcome

@@ -1,4 +1,4 @@
--- What is told of a text whose entries were put in order.
+-- What is reported of a text whose entries were put in order.
 use Rattle.std.specs.Prelude.{◌≡◌, ℕ, List, ◌++◌, length, map, drop, nat_lt, if◌then◌else◌}
 use Rattle.kernel_object.specs.contracts.object.KernelObjectSeqObject.TheImpl.{ghosts as kernel}
 use Rattle.auditor.specs.Faults.{IsFirstFault}
@@ -33,7 +33,7 @@ IsOutcome bytes out_of_memory = Unit {0}
 abbrev pub places_report : ℕ → ℕ → List Place → Report
 places_report kind room places = report (if nat_lt room (length places) then 10 else kind) (length places) 0 0
 
--- what is told of an outcome, where there is room for so many places
+-- what is reported of an outcome, where there is room for so many places
 abbrev pub outcome_report : ℕ → Outcome → Report
 outcome_report room (order places) = places_report 0 room places
 outcome_report room (cycle places) = places_report 7 room places
@@ -57,7 +57,7 @@ room_after (unsound f) room = room
 room_after (bad_line n) room = room
 room_after out_of_memory room = room
 
--- what is told, and the room, are those of what becomes of the bytes
+-- what is reported, and the room, are those of what becomes of the bytes
 pub record IsOrderReported (bytes : List ℕ) (old new : List Turn) (t : Report) : Type 0 where
   pub outcome : Outcome
   pub right : IsOutcome bytes outcome

@@ -1,5 +1,5 @@
--- What is told of a single line of a record of one's own.
-use Rattle.std.specs.Prelude.{ℕ, ◌≡◌, ◌+◌, List, [], ◌∷◌, ◌++◌, length, map, drop, Option, Some, None}
+-- What is reported of a single line of a record of one's own.
+use Rattle.std.specs.Prelude.{ℕ, ◌≡◌, ◌+◌, List, ◌∷◌, ◌++◌, length, map, drop, Option, Some, None}
 use Rattle.custom_records.specs.LineReading.{any_head, log_at, custom_object_at, custom_event_at}
 use Rattle.custom_records.specs.Custom.{CustomStep, CustomEvent}
 use Rattle.custom_records.specs.Said.{Said, padded}
@@ -58,11 +58,11 @@ words_report old None (Some l) event = log_report old l
 words_report old None None (Some e) = event_report old e
 words_report old None None None = record old { kind = 4 }
 
--- what is told of the line: what its words are, and where the line behind it begins
+-- what is reported of the line: what its words are, and where the line behind it begins
 abbrev pub line_report : LineReport → ℕ → List ℕ → LineReport
 line_report old at line = words_report (record old { next = at + length line + 1 }) (custom_object_at (words line)) (any_log_at (words line)) (custom_event_at any_head (words line))
 
--- no line with its end begins there, or that is told of the one that does
+-- no line with its end begins there, or that is reported of the one that does
 pub record IsLineReported (text : List ℕ) (at : ℕ) (old new : LineReport) : Type 0 where
   pub line : (line : List ℕ) → IsLineAt text at line → new ≡ line_report old at line
   pub none : ((line : List ℕ) → IsLineAt text at line → ⊥) → new ≡ record old { kind = 0 }

@@ -1,4 +1,4 @@
--- What is told of a record of one's own whose entries were put in order.
+-- What is reported of a record of one's own whose entries were put in order.
 use Rattle.std.specs.Prelude.{◌≡◌, ℕ, List, length}
 use Rattle.auditor.specs.declared.fault.Fault.{Fault}
 use Rattle.sound_run.specs.declared.place.Place.{Place}
@@ -35,7 +35,7 @@ IsOwnOrder bytes counts (mistold x) = (r : CustomRecord) × IsCustomText bytes r
 IsOwnOrder bytes counts (bad_line n) = IsBadCustomLine bytes n
 IsOwnOrder bytes counts out_of_memory = Unit {0}
 
--- what is told of an outcome, where there is room for so many places
+-- what is reported of an outcome, where there is room for so many places
 abbrev pub own_order_report : ℕ → OwnOrder → Report
 own_order_report room (order places) = places_report 0 room places
 own_order_report room (cycle places) = places_report 7 room places
@@ -53,7 +53,7 @@ own_room_after (mistold x) room = room
 own_room_after (bad_line n) room = room
 own_room_after out_of_memory room = room
 
--- what is told, and the room, are those of what becomes of the bytes and the counts
+-- what is reported, and the room, are those of what becomes of the bytes and the counts
 pub record IsOwnOrderReported (bytes counts : List ℕ) (old new : List Turn) (t : Report) : Type 0 where
   pub outcome : OwnOrder
   pub right : IsOwnOrder bytes counts outcome

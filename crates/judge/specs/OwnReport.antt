@@ -1,4 +1,4 @@
--- What is told of a record of one's own that was judged by counts: of each log how many steps, from the first on, are right.
+-- What is reported of a record of one's own that was judged by counts: of each log how many steps, from the first on, are right.
 use Rattle.std.specs.Prelude.{◌≡◌, ℕ, List}
 use Rattle.auditor.specs.declared.fault.Verdict.{Verdict}
 use Rattle.judge.specs.Models.{IsMistold, IsVerdictByCounts}
@@ -26,14 +26,14 @@ IsOwnOutcome bytes counts (mistold x) = (r : CustomRecord) × IsCustomText bytes
 IsOwnOutcome bytes counts (bad_line n) = IsBadCustomLine bytes n
 IsOwnOutcome bytes counts out_of_memory = Unit {0}
 
--- what is told of an outcome
+-- what is reported of an outcome
 abbrev pub own_report_of : OwnOutcome → Report
 own_report_of (judged v) = verdict_report v
 own_report_of (mistold x) = report 11 x 0 0
 own_report_of (bad_line n) = report 8 n 0 0
 own_report_of out_of_memory = report 9 0 0 0
 
--- what is told is what becomes of the bytes and the counts
+-- what is reported is what becomes of the bytes and the counts
 pub record IsOwnVerdictReported (bytes counts : List ℕ) (t : Report) : Type 0 where
   pub outcome : OwnOutcome
   pub right : IsOwnOutcome bytes counts outcome

@@ -1,4 +1,4 @@
--- What is told of a text that was judged.
+-- What is reported of a text that was judged.
 use Rattle.std.specs.Prelude.{◌≡◌, ℕ, List, Result, Ok, Err}
 use Rattle.auditor.specs.Audits.{IsVerdict}
 use Rattle.auditor.specs.declared.fault.Fault.{Fault}
@@ -40,7 +40,7 @@ abbrev pub IsVerdictOn : List ℕ → Result Verdict LinesFault → Type 0
 IsVerdictOn bytes (Ok v) = (r : Record) × IsWhole bytes r × IsVerdict r v
 IsVerdictOn bytes (Err fault) = NamesBadLine bytes fault
 
--- what is told is the verdict, or why there is none
+-- what is reported is the verdict, or why there is none
 pub record IsVerdictReported (bytes : List ℕ) (t : Report) : Type 0 where
   pub answer : Result Verdict LinesFault
   pub right : IsVerdictOn bytes answer

@@ -9,7 +9,7 @@ use record_lines::LinesFault;
 use records::read_text_into;
 use std::alloc::Global;
 
-/// What is told of the record that the bytes spell.
+/// What is reported of the record that the bytes spell.
 fn verdict_of(alloc: Global, text: &[u8]) -> Report
     ensures { IsVerdictReported text.now result }
 {
@@ -21,7 +21,7 @@ fn verdict_of(alloc: Global, text: &[u8]) -> Report
     }
 }
 
-/// Judges the record that the bytes spell, and tells whether it is sound, or its first fault.
+/// Judges the record that the bytes spell, and reports whether it is sound, or its first fault.
 #[unsafe(no_mangle)]
 pub extern "C" fn mc2_audit(alloc: Global, text: &[u8], report: &mut Report)
     ensures { IsVerdictReported text.now report.new }

@@ -113,7 +113,7 @@ impl CustomJudge {
         }
     }
 
-    /// How many steps of each log are called right. A reader of records leaves them as they were told, but no clause of
+    /// How many steps of each log are called right. A reader of records leaves them as they were received, but no clause of
     /// `RecordSink` says so: whoever relies on it compares.
     pub fn right(&self) -> &[u64]
         ensures { result.now ≡ self.now.counts }

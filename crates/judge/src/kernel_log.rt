@@ -14,7 +14,7 @@ pub const NO_MODEL: u32 = 12;
 /// How many steps of a log are right, from the first on.
 pub const COUNTED: u32 = 13;
 
-/// What is told of the log.
+/// What is reported of the log.
 fn count_of(alloc: Global, text: &[u8], object: usize, log: usize) -> Report
     ensures { IsKernelReported text.now object log result }
 {
@@ -25,7 +25,7 @@ fn count_of(alloc: Global, text: &[u8], object: usize, log: usize) -> Report
     }
 }
 
-/// TailSpells how many steps of the log whose head begins at the byte `log`, from the first on, are as the object answers whose line
+/// Reports how many steps of the log whose head begins at the byte `log`, from the first on, are as the object answers whose line
 /// begins at the byte `object`, if that is a queue, a pool, a console or a sched.
 #[unsafe(no_mangle)]
 pub extern "C" fn mc2_own_kernel(

@@ -12,8 +12,8 @@ ghost use Rattle.record_lines.specs.Reading.{words};
 ghost use Rattle.record_lines.specs.Words.{NoEnd, sentence};
 ghost use Rattle.judge.specs.OwnLines.{any_log_at};
 
-/// A line is taken for an object's, for the head of a log or for an event's exactly if it is the text of one, and is told as that
-/// one. It does nothing.
+/// A line is read as an object's, as the head of a log or as an event's exactly if it is the text of one, and as that one. It does
+/// nothing.
 pub fn lines_are_read()
     ensures object { ReadsLine NoEnd (λ (o : CustomSettings). sentence (custom_object_words o)) CustomSettingsFit (λ line. custom_object_at (words line)) }
     ensures log { ReadsLine NoEnd (λ (l : List ℕ × ℕ). sentence (log_words l.0 l.1)) (λ l. (is_name l.0 ≡ true) × (l.1 ≤ most_lines)) (λ line. any_log_at (words line)) }

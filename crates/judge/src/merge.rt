@@ -32,7 +32,7 @@ fn put_turns(places: &[Place], room: &mut [Turn])
     }
 }
 
-/// TailSpells the places under that kind, if there is room for them.
+/// Reports the places under that kind, if there is room for them.
 pub(crate) fn report_turns(kind: u32, places: &[Place], room: &mut [Turn]) -> Report
     ensures report { result ≡ places_report kind (length room.old) places.now }
     ensures room { room.new ≡ room_with places.now room.old }
@@ -44,7 +44,7 @@ pub(crate) fn report_turns(kind: u32, places: &[Place], room: &mut [Turn]) -> Re
     Report::new(kind, places.len(), 0, 0)
 }
 
-/// What is told of the record that the bytes spell.
+/// What is reported of the record that the bytes spell.
 fn order_of(alloc: Global, text: &[u8], room: &mut [Turn]) -> Report
     ensures { IsOrderReported text.now room.old room.new result }
 {

@@ -19,7 +19,7 @@ pub(crate) fn copied(alloc: Global, counts: &[u64]) -> Result<Vec<u64>, OutOfMem
     Ok(copy)
 }
 
-/// What is told of the record that the bytes spell, if of each log so many steps are right.
+/// What is reported of the record that the bytes spell, if of each log so many steps are right.
 fn verdict_of(alloc: Global, text: &[u8], right: &[u64]) -> Report
     ensures { IsOwnVerdictReported text.now right.now result }
 {
@@ -41,7 +41,7 @@ fn verdict_of(alloc: Global, text: &[u8], right: &[u64]) -> Report
     }
 }
 
-/// Judges the record that the bytes spell, if of each log so many steps, from the first on, are right: tells whether it is sound,
+/// Judges the record that the bytes spell, if of each log so many steps, from the first on, are right: reports whether it is sound,
 /// or its first fault, by every model that has these counts.
 #[unsafe(no_mangle)]
 pub extern "C" fn mc2_own_audit(alloc: Global, text: &[u8], right: &[u64], report: &mut Report)

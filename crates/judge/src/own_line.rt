@@ -109,7 +109,7 @@ fn report_event(event: &Event<CustomObject>, report: &mut LineReport)
     put_steps(event.steps.list.as_slice(), &mut report.steps);
 }
 
-/// TailSpells what the line is, which is an event's or another.
+/// Reports what the line is, which is an event's or another.
 fn report_event_or_other(alloc: Global, line: &[u8], report: &mut LineReport)
     ensures { report.new ≡ words_report report.old None None (custom_event_at any_head (words line.now)) }
 {
@@ -123,7 +123,7 @@ fn report_event_or_other(alloc: Global, line: &[u8], report: &mut LineReport)
     }
 }
 
-/// TailSpells what the line is, whichever it is.
+/// Reports what the line is, whichever it is.
 #[inline(never)]
 fn report_any(alloc: Global, line: &[u8], report: &mut LineReport)
     ensures { report.new ≡ words_report report.old (custom_object_at (words line.now)) (any_log_at (words line.now)) (custom_event_at any_head (words line.now)) }
@@ -137,7 +137,7 @@ fn report_any(alloc: Global, line: &[u8], report: &mut LineReport)
     report_event_or_other(alloc, line, report)
 }
 
-/// TailSpells what the line is.
+/// Reports what the line is.
 fn report_line(alloc: Global, line: &[u8], report: &mut LineReport)
     ensures { report.new ≡ words_report report.old (custom_object_at (words line.now)) (any_log_at (words line.now)) (custom_event_at any_head (words line.now)) }
 {
@@ -148,7 +148,7 @@ fn report_line(alloc: Global, line: &[u8], report: &mut LineReport)
     report_any(alloc, line, report)
 }
 
-/// TailSpells what the line is that begins at that byte of the text, and where the one behind it begins.
+/// Reports what the line is that begins at that byte of the text, and where the one behind it begins.
 #[unsafe(no_mangle)]
 pub extern "C" fn mc2_own_line(alloc: Global, text: &[u8], at: usize, report: &mut LineReport)
     ensures { IsLineReported text.now at report.old report.new }

@@ -10,7 +10,7 @@ use custom_records::read_custom;
 use record_lines::LinesFault;
 use std::alloc::Global;
 
-/// What is told of the record that the bytes spell, if of each log so many steps are right.
+/// What is reported of the record that the bytes spell, if of each log so many steps are right.
 fn order_of(alloc: Global, text: &[u8], right: &[u64], room: &mut [Turn]) -> Report
     ensures { IsOwnOrderReported text.now right.now room.old room.new result }
 {

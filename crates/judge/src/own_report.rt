@@ -1,4 +1,4 @@
-//! What a caller in C is told of a line of a record of one's own.
+//! What is reported to a caller in C of a line of a record of one's own.
 
 ghost use Rattle.std.specs.Prelude.{◌≡◌, ◌≤◌, length, map, drop, ◌++◌};
 ghost use Rattle.custom_records.specs.Custom.{CustomStep};

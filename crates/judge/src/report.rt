@@ -1,4 +1,4 @@
-//! What a caller in C is told.
+//! What is reported to a caller in C.
 
 ghost use Rattle.std.specs.Prelude.{◌≡◌};
 ghost use Rattle.judge.specs.Report.{fault_report, verdict_report};
@@ -41,7 +41,7 @@ pub const NO_ROOM: u32 = 10;
 /// A count of right steps is missing, one too many, or above the steps of its log: the first such object.
 pub const MISTOLD: u32 = 11;
 
-/// What is told of a text: its kind, and its numbers, which are 0 where the kind has fewer. Objects, events, steps, CPUs and
+/// What is reported of a text: its kind, and its numbers, which are 0 where the kind has fewer. Objects, events, steps, CPUs and
 /// entries are numbered from 0.
 #[derive(Clone, Copy, Debug, PartialEq, Eq, Drop)]
 #[repr(C)]

@@ -2,7 +2,6 @@
 use Rattle.std.proofs.Common.{ℕ, List}
 use Rattle.kernel_object.specs.declared.call.KCall.{KCall}
 use Rattle.kernel_words.specs.Ranges.{call_fits}
-use Rattle.record_lines.specs.Reading.{words}
 use Rattle.kernel_words.specs.Row.{spelled}
 use Rattle.kernel_words.specs.Rows.{call_row, call_samples, call_filled}
 use Rattle.kernel_words.specs.Tables.{call_table}

@@ -50,7 +50,7 @@ range_of k p h = on_own (λ k own. (definition_of k).in_range own) (params_of k 
 words_are : (form : Form) (p : KParams) → params_words form p ≡ kind_word (params_kind p) ∷ (text_of (params_kind p)).params_words form (own_params p)
 words_are form p = on_own (λ k own. kind_word k ∷ (text_of k).params_words form own) p
 
--- the words are those of parameters in their ranges, which the form tells
+-- the words are those of parameters in their ranges, which the form expresses
 pub record IsParams (form : Form) (ws : List (List ℕ)) (read : KParams × List (List ℕ)) : Type 0 where
   pub text : ws ≡ params_words form read.0 ++ read.1
   pub fits : kernel_in_range read.0 ≡ true

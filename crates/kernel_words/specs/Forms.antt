@@ -1,4 +1,4 @@
--- The two forms of a record's text: what each can tell.
+-- The two forms of a record's text: what each can express.
 use Rattle.std.specs.Prelude.{ℕ, Bool, true, false, List, codes}
 use Rattle.event_log.specs.declared.entry.Done.TheVariants.{Steps, NoRoom}
 use Rattle.sound_run.specs.declared.limits.TheConstants.{MOST_CPUS}
@@ -24,7 +24,7 @@ abbrev pub most_cpus : Form → ℕ
 most_cpus One = FIRST_MOST_CPUS
 most_cpus Two = MOST_CPUS
 
--- the form tells these parameters
+-- the form expresses these parameters
 abbrev pub ExpressesParams : Form → KParams → Type 0
 ExpressesParams form p = Expresses (text_of (params_kind p)) form (own_params p)
 

@@ -1,7 +1,6 @@
 -- Words that are a form ask for what the form says.
-use Rattle.std.proofs.Common.{◌≡◌, inl, inr, ◌∙◌, sym, subst, List, [], ◌∷◌, map, codes, refl, Option, Some, None, String, Global, string_bytes}
+use Rattle.std.proofs.Common.{inl, inr, ◌∙◌, sym, subst, List, [], ◌∷◌, map, codes, refl, Option, Some, None, String, Global, string_bytes}
 use Rattle.std.proofs.lemmas.Option.{slice_get-map}
-use Rattle.std.specs.List.{list_any}
 use Rattle.clap.specs.Words.{Row, Text, first_of, subcommand_of}
 use Rattle.clap.proofs.WalkLemmas.{list_any-map}
 use Rattle.mc2_command.specs.Asked.{AreFiles, Asks, command_name, is_no_form}

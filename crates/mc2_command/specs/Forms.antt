@@ -1,4 +1,4 @@
--- All forms of words that there are, as the reader of words (`clap`) is told them.
+-- All forms of words that there are, as the reader of words (`clap`) receives them.
 use Rattle.std.specs.Prelude.{List, [], ◌∷◌, Some, true, false, codes}
 use Rattle.clap.specs.Words.{App, Rule, Shape, Text, new_rule}
 use Rattle.clap.specs.Simple.{new_shape}

@@ -1,4 +1,4 @@
-//! The table of forms, as the reader of words is told it.
+//! The table of forms, as the reader of words receives it.
 
 ghost use Rattle.std.specs.Prelude.{◌≡◌, [], true, false, IfOk, codes};
 ghost use Rattle.clap.specs.Words.{app_of, rule_of, with_subcommand};

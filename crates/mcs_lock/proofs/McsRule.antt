@@ -1,4 +1,4 @@
--- Each step of an MCS lock is a turn of the lock's definition, and tells its play.
+-- Each step of an MCS lock is a turn of the lock's definition, and reports its play.
 use Rattle.std.proofs.Common.{◌≡◌, ◌≢◌, ℕ, ◌+◌, ◌||◌, ◌==◌, true, false, true≢false, List, [], ◌∷◌, get_or, set, refl, sym, ap, ◌∙◌, subst, arith, Option, Some, None}
 use Rattle.std.proofs.lemmas.Bool.Decides.{nat_tests}
 use mathlib.Core.Logic.{dite}

@@ -1,4 +1,4 @@
--- What the MCS lock's own steps tell the seat that does them.
+-- What the MCS lock's own steps report to the seat that does them.
 use Rattle.std.specs.Prelude.{◌≡◌, ◌≢◌, ℕ, ◌+◌, true, false, List, [], ◌∷◌, Option}
 use Rattle.atomic_table.specs.Table.{Step}
 use Rattle.event_log.specs.declared.object.SeqObject.{Ghosts}

@@ -12,7 +12,7 @@ abbrev pub members : List ℕ → ℕ → List Bool
 members words size = map (has_page words) (range_with_len 0 size)
 
 -- the words have a bit for each page below the size and no other page; there are at most 64 of them, and the top word
--- tells which of them have a page
+-- says which of them have a page
 pub record IsTopped (words : List ℕ) (top size : ℕ) : Type 0 where
   pub few : length words ≤ 64
   pub room : size ≤ 64 * length words

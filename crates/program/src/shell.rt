@@ -12,7 +12,7 @@ use std::io::{Input, Write};
 use std::rt::Env;
 
 /// Has `command` do what the words ask for, with the system's files and these streams for output and for refusals, and
-/// answers its status. Words that aren't known are told to `refuse`.
+/// answers its status. Words that aren't known go to `refuse`.
 pub fn start<
     'a,
     R: Env + Files + Input + AllocGlobal,

@@ -22,7 +22,7 @@ impl<F: Read, S: Read> Read for Opened<F, S> {
     }
 }
 
-/// The files and the standard input of the system, which tell nothing of what they hold, with the number of openings and
+/// The files and the standard input of the system, which say nothing of what they hold, with the number of openings and
 /// reads that have failed.
 #[derive(Drop)]
 pub struct System<'a, R> {

@@ -1,7 +1,7 @@
 -- What is read of a source, piece by piece.
-use Rattle.std.proofs.Common.{◌≡◌, ℕ, List, [], ◌++◌, take, append_assoc, Option, Some, None, refl, sym, ◌∙◌, ap, subst, Result, Ok, Err, ◌+◌, ◌≤◌, length, length-append, arith}
-use Rattle.std.proofs.lemmas.List.{append-nil, length-take-le}
-use Rattle.std.specs.Io.KnownBytes.{Consumes, IsAtEnd, Keeps}
+use Rattle.std.proofs.Common.{◌≡◌, ℕ, List, [], ◌++◌, take, append_assoc, Option, Some, None, refl, sym, ◌∙◌, ap, Result, Ok, Err, ◌+◌, ◌≤◌, length, length-append, arith}
+use Rattle.std.proofs.lemmas.List.{length-take-le}
+use Rattle.std.specs.Io.KnownBytes.{Consumes}
 use Rattle.record_lines.specs.Sources.{IsRest, ReadsAtMost}
 use Rattle.std.specs.Result.{OnOk}
 
@@ -15,17 +15,6 @@ consumes_then (Some xs) (Some ys) (Some zs) s t p q = p ∙ (ap (λ l. s ++ l) q
 pub consumes_none : (a : Option (List ℕ)) → Consumes a a []
 consumes_none None = tt
 consumes_none (Some xs) = refl
-
--- the rest of the source, if it was consumed to its end
-pub all_consumed : (a b : Option (List ℕ)) (seen : List ℕ) → Consumes a b seen → IsAtEnd b → IsRest a seen
-all_consumed None b seen c end = λ all e. absurd cc
-all_consumed (Some xs) None seen c end = absurd c
-all_consumed (Some xs) (Some ys) seen c end = λ all e. let same : xs ≡ all = cc in sym (append-nil seen) ∙ (ap (λ l. seen ++ l) (sym end) ∙ (sym c ∙ same))
-
--- a read that gave nothing consumed nothing, and all was read
-pub all_read : (old between now : Option (List ℕ)) (seen buffer : List ℕ) (count : ℕ) → Consumes old between seen → count ≡ 0 → Consumes between now (take count buffer) → IsAtEnd now → IsRest old seen
-all_read old between now seen buffer count before none consumed end =
-    all_consumed old now seen (subst (λ (s : List ℕ). Consumes old now s) (append-nil seen) (consumes_then old between now seen [] before (subst (λ (n : ℕ). Consumes between now (take n buffer)) none consumed))) end
 
 -- what is so whatever follows is so of the rest of the source
 pub of_rest : (P : List ℕ → Type 0) (a b : Option (List ℕ)) (seen : List ℕ) → Consumes a b seen → ((more : List ℕ) → P (seen ++ more)) → (text : List ℕ) × IsRest a text × P text
@@ -41,16 +30,6 @@ on_ok (Err e) p f = tt
 pub on_both : {A E P Q R : Type 0} (r : Result A E) → OnOk r P → OnOk r Q → (P → Q → R) → OnOk r R
 on_both (Ok x) p q f = f p q
 on_both (Err e) p q f = tt
-
--- a read that failed consumed nothing
-kept_after : (a b c : Option (List ℕ)) (bytes : List ℕ) → Consumes a b bytes → Keeps b c → Consumes a c bytes
-kept_after None b c bytes p q = tt
-kept_after (Some xs) None c bytes p q = absurd p
-kept_after (Some xs) (Some ys) None bytes p q = absurd q
-kept_after (Some xs) (Some ys) (Some zs) bytes p q = subst (λ (l : List ℕ). xs ≡ bytes ++ l) (sym q) p
-
-pub failed_after : (most : ℕ) (a b c : Option (List ℕ)) (bytes : List ℕ) → Consumes a b bytes → length bytes ≤ most → Keeps b c → ReadsAtMost most a c
-failed_after most a b c bytes p few q = (bytes, kept_after a b c bytes p q, few)
 
 -- a read more
 pub read_after : (most count : ℕ) (a b c : Option (List ℕ)) (bytes front : List ℕ) → Consumes a b bytes → Consumes b c (take count front) → count ≤ length front → length bytes + count ≤ most → ReadsAtMost most a c

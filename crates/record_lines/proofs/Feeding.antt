@@ -1,25 +1,18 @@
 -- Bytes of a source that are taken piece by piece.
-use Rattle.std.proofs.Common.{◌≡◌, ℕ, List, Option, Some, None, Result, Ok, Err, refl, ap}
-use Rattle.std.specs.Io.KnownBytes.{Consumes, IsAtEnd}
+use Rattle.std.proofs.Common.{◌≡◌, ℕ, List, Option, Result, Ok, Err, refl}
+use Rattle.std.specs.Io.KnownBytes.{Consumes}
 use Rattle.std.specs.Result.{IfErr}
 use Rattle.record_lines.specs.declared.text.fault.LinesFault.{LinesFault}
 use Rattle.record_lines.specs.declared.text.fault.LinesFault.TheVariants.{OutOfMemory, Line}
 use Rattle.record_lines.specs.declared.text.line_machine.Pieces.{Pieces}
 use Rattle.record_lines.specs.LineMachine.{RefusesLine}
 use Rattle.record_lines.specs.Pieces.{RefusesPieces}
-use Rattle.record_lines.specs.Sources.{IsReadOut}
 
 -- what was taken so far of a source
 pub record HasFedOf {R : Type 0} (takes : List ℕ → R → Type 0) (old now : Option (List ℕ)) (reader : R) : Type 0 where
   pub seen : List ℕ
   pub consumed : Consumes old now seen
   pub taken : takes seen reader
-
--- all was read
-pub read_out : (old now : Option (List ℕ)) (seen : List ℕ) → Consumes old now seen → IsAtEnd now → IsReadOut old now
-read_out None now seen consumed end = λ all e few. absurd cc
-read_out (Some xs) None seen consumed end = absurd consumed
-read_out (Some xs) (Some ys) seen consumed end = λ all e few. ap Some end
 
 -- a fault of lines that names a refused one alone
 pub piece_refused : {S X : Type 0} (takes : List ℕ → S → S → Type 0) (refuses : List ℕ → S → Type 0) (fits : ℕ → ℕ → Type 0) (first : Pieces S) (text : List ℕ) (r : Result X LinesFault) → ((n : ℕ) → r ≡ Err (Line n) → RefusesLine takes refuses fits text first.lines 1 n) → IfErr r (RefusesPieces takes refuses fits first text)

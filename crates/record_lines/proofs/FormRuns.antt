@@ -1,11 +1,11 @@
 -- The lines of a record take what was read of it to its end.
-use Rattle.std.proofs.Common.{◌≡◌, ℕ, suc, ◌+◌, ◌<◌, ◌≤◌, if◌then◌else◌, List, [], ◌∷◌, ◌++◌, length, length-append, map, append_assoc, Some, true, false, refl, sym, ap, ◌∙◌, subst, arith, nat_lt}
+use Rattle.std.proofs.Common.{◌≡◌, ℕ, suc, ◌+◌, ◌<◌, ◌≤◌, if◌then◌else◌, List, [], ◌∷◌, ◌++◌, length, length-append, map, append_assoc, true, false, refl, sym, ap, subst, arith, nat_lt}
 use Rattle.std.proofs.lemmas.Bool.{lt-ltb, le-ltb}
 use Rattle.std.proofs.lemmas.List.{append-nil}
 use Rattle.std.specs.List.{AllByRecursion}
 use Rattle.record_lines.specs.declared.forms.form.RecordForm.{Ghosts}
 use Rattle.record_lines.specs.declared.forms.place.Next.{Next}
-use Rattle.record_lines.specs.declared.forms.place.Next.TheVariants.{Head, Log, Event, Cpu, Entry, End, Done}
+use Rattle.record_lines.specs.declared.forms.place.Next.TheVariants.{Log, Event, Cpu, Entry, End, Done}
 use Rattle.record_lines.specs.FormLaws.{HeadTakes, FormLaws}
 use Rattle.record_lines.specs.FormStates.{State, nothing_read, behind_head, behind_line_at, TakesLine}
 use Rattle.record_lines.specs.FormText.{part_text, parts_text, logs_front, transcripts_front, whole_lines}

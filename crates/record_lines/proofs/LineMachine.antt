@@ -39,10 +39,6 @@ module _ {S : Type 0} (act : List ℕ → S → S → Type 0) where
   each_more [] line old between new each takes = (new, subst (λ s. act line s new) each takes, refl)
   each_more (l ∷ lines) line old between new each takes = (each.0, each.1, each_more lines line each.0 between new each.2 takes)
 
-  -- nothing was taken yet
-  pub text_starts : (text : List ℕ) (old : S) (n : ℕ) → TakesText act text old n text old n
-  text_starts text old n = record { lines = []; each = tt; parts = refl; takes = refl; number = omega arith }
-
   -- as much more behind the text
   pub text_longer : (more text : List ℕ) (old : S) (n : ℕ) (rest : List ℕ) (new : S) (m : ℕ) → TakesText act text old n rest new m → TakesText act (text ++ more) old n (rest ++ more) new m
   text_longer more text old n rest new m so_far = record {

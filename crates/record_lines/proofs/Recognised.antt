@@ -1,14 +1,14 @@
 -- An entry that is recognised by its front and the text behind it.
-use Rattle.std.proofs.Common.{◌≡◌, ℕ, ◌<◌, List, Some, sym, subst}
+use Rattle.std.proofs.Common.{◌≡◌, ℕ, ◌<◌, List, sym, subst}
 use Rattle.record_lines.specs.declared.forms.form.RecordForm.{Ghosts}
 use Rattle.record_lines.specs.declared.forms.place.ReaderPlace.{ReaderPlace}
 use Rattle.record_lines.specs.declared.forms.place.Next.TheVariants.{Entry}
 use Rattle.record_lines.specs.FormAgreed.{Agree}
-use Rattle.record_lines.specs.Received.{Received, with_entry}
+use Rattle.record_lines.specs.Received.{Received}
 use Rattle.record_lines.proofs.FormSinks.{here}
 
 module _ {S H E T : Type 0} (f : Ghosts S H E T) (at : ReaderPlace H) (p : Received H E T) (is : at.awaits ≡ Entry) (agree : Agree f at p) where
-  -- the object is one of those that the sink was told
+  -- the object is one of those that the sink has received
   pub known_bound : (object : ℕ) → (f.HeadFits at.head → object < f.objects at.head) → object < f.objects p.head
   known_bound object law = let h = here f at p Entry is agree in subst (λ (x : H). object < f.objects x) (sym h.1.head) (law h.0.0.head)
 

@@ -1,5 +1,5 @@
 -- Words and their sentence: each gives the other.
-use Rattle.std.proofs.Common.{◌≡◌, ℕ, ◌<◌, ◌==◌, Bool, true, false, cond, List, [], ◌∷◌, length, refl, ◌∙◌, ap, arith, map}
+use Rattle.std.proofs.Common.{◌≡◌, ℕ, ◌<◌, ◌==◌, Bool, true, false, cond, List, [], ◌∷◌, length, refl, ◌∙◌, ap, arith}
 use Rattle.std.proofs.lemmas.List.Elements.{All-from_recursion}
 use Rattle.std.proofs.lemmas.List.Splits.{slice_split_none, slice_split_at, join_with_byte-slice_split}
 use Rattle.std.specs.List.{AllByRecursion, join_with_byte, onto_first}
@@ -51,7 +51,3 @@ pub sentence_no_end : (ws : List (List ℕ)) → AllByRecursion IsPlain ws → N
 sentence_no_end [] plain = tt
 sentence_no_end (w ∷ []) plain = no_end w plain.0
 sentence_no_end (w ∷ v ∷ ws) plain = all_append (λ b. (b == 10) ≡ false) w (32 ∷ sentence (v ∷ ws)) (no_end w plain.0) (refl, sentence_no_end (v ∷ ws) plain.1)
-
-pub same_lines : (ls : List (List ℕ)) → map sentence (map words ls) ≡ ls
-same_lines [] = refl
-same_lines (l ∷ ls) = λ i. sentence_words l i ∷ same_lines ls i

@@ -1,5 +1,5 @@
--- What a reader of records knows of its place, and what its sink was handed over, tell what was read.
-use Rattle.std.specs.Prelude.{ℕ, Bool, true, false, ◌≡◌, length}
+-- What a reader of records knows of its place, and what its sink has received, say what was read.
+use Rattle.std.specs.Prelude.{Bool, true, false, ◌≡◌, length}
 use Rattle.record_lines.specs.declared.forms.form.RecordForm.{Ghosts}
 use Rattle.record_lines.specs.declared.forms.place.ReaderPlace.{ReaderPlace}
 use Rattle.record_lines.specs.declared.forms.place.Next.{Next}
@@ -12,7 +12,7 @@ module _ {H E T : Type 0} where
   abbrev pub shown : ReaderPlace H → Received H E T → State H E T
   shown at p = record { awaits = at.awaits; head = at.head; count = at.count; logs = p.logs; events = p.events; transcripts = p.transcripts; entries = p.entries }
 
-  -- the sink was told the head, whether a log or a transcript is being read, and how many items its head told
+  -- the sink has received the head, whether a log or a transcript is being read, and how many items its head said
   pub record IsReceived (within : Bool) (at : ReaderPlace H) (p : Received H E T) : Type 0 where
     pub head : p.head ≡ at.head
     pub begun : p.begun ≡ within

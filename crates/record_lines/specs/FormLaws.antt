@@ -1,5 +1,5 @@
 -- What the lines of a form owe each other: each is read as what it spells, and nothing else is.
-use Rattle.std.specs.Prelude.{ℕ, ◌≡◌, ◌<◌, ◌≤◌, List, [], ◌∷◌, ◌++◌, Bool, true, false, Option, Some}
+use Rattle.std.specs.Prelude.{ℕ, ◌≡◌, ◌<◌, ◌≤◌, List, [], ◌∷◌, ◌++◌, true, false, Option, Some}
 use Rattle.record_lines.specs.declared.forms.form.RecordForm.{Ghosts}
 use Rattle.record_lines.specs.LineMachine.{TakesEach}
 use Rattle.record_lines.specs.Words.{NoEnd}

@@ -1,5 +1,5 @@
 -- What was read of a record in any form, and which line can come next.
-use Rattle.std.specs.Prelude.{ℕ, Bool, true, false, ◌≡◌, ◌<◌, ◌≤◌, nat_lt, if◌then◌else◌, List, [], ◌∷◌, ◌++◌, length, Option, Some, None}
+use Rattle.std.specs.Prelude.{ℕ, false, ◌≡◌, ◌<◌, ◌≤◌, nat_lt, if◌then◌else◌, List, [], ◌∷◌, ◌++◌, length, Option, Some, None}
 use Rattle.std.specs.List.{AllByRecursion}
 use Rattle.record_lines.specs.declared.forms.form.RecordForm.{Ghosts}
 use Rattle.record_lines.specs.declared.forms.place.Next.{Next}
@@ -8,7 +8,7 @@ use Rattle.record_lines.specs.Reading.{◌>>=◌}
 use Rattle.record_lines.specs.Received.{Whole, LogFits, TranscriptFits, EventsFit, EntriesFit}
 
 -- which line can come next, and what was read: the head, whole logs and transcripts, the events or the entries behind them, and how
--- many of what is being read its head told
+-- many of what is being read its head said
 pub record State (H E T : Type 0) : Type 0 where
   pub awaits : Next
   pub head : H

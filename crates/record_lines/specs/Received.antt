@@ -14,7 +14,7 @@ pub record Received (H E T : Type 0) : Type 0 where
   pub transcripts : List (List T)
   pub entries : List T
 
--- a whole record: what its head tells, its logs and its transcripts
+-- a whole record: what its head says, its logs and its transcripts
 pub record Whole (H E T : Type 0) : Type 0 where
   pub head : H
   pub logs : List (List E)
@@ -53,7 +53,7 @@ module _ {H E T : Type 0} where
   abbrev pub received_whole : H → Received H E T → Whole H E T
   received_whole h p = record { head = h; logs = p.logs; transcripts = p.transcripts }
 
-  -- that head was told, and all that was begun is whole
+  -- that head was received, and all that was begun is whole
   pub record IsWholeWith (h : H) (p : Received H E T) : Type 0 where
     pub reported : p.head ≡ h
     pub begun : p.begun ≡ false

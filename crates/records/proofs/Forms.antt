@@ -1,4 +1,4 @@
--- What a form can tell, the form that is written can tell too.
+-- What a form can express, the form that is written can express too.
 use Rattle.std.proofs.Common.{◌≡◌, ℕ, ◌≤◌, true, List, [], ◌∷◌, length, refl, arith}
 use Rattle.std.specs.List.{AllByRecursion}
 use Rattle.kernel_object.specs.declared.call.KParams.{KParams}
@@ -10,7 +10,7 @@ use Rattle.kernel_words.specs.Forms.{most_cpus, ExpressesParams, has_steps, has_
 use Rattle.records.specs.RecordRanges.{Record, EventFits, EntryFits, LogFits, TranscriptFits, RunFits, RunFitsIn, RecordFits, RecordFitsIn}
 use Rattle.records.specs.Settings.{Settings, SettingsFit, SettingsFitIn, ObjectSettings, ObjectFits}
 
--- ---- what is told of each form
+-- ---- what holds of each form
 
 cpus_written : (form : Form) → most_cpus form ≤ most_cpus WRITTEN
 cpus_written One = omega arith

@@ -1,4 +1,4 @@
--- The lines of a record's head that tell numbers, and its last line.
+-- The lines of a record's head that have numbers, and its last line.
 use Rattle.std.proofs.Common.{◌≡◌, ℕ, ◌<◌, ◌≤◌, ◌^◌, List, [], ◌∷◌, Option, Some, None, refl, ap, ◌∙◌, arith, rules, codes, decimal}
 use Rattle.std.specs.Option.{option_map_or}
 use Rattle.kernel_words.specs.declared.form.Form.{Form}
@@ -50,6 +50,6 @@ form_takes ws form e = go (fixed_at (first_line One) ws) refl e
     go None none last = bind_some (fixed_at (first_line Two) ws) (λ u. Some Two) form last (λ u found end.
         let is : Two ≡ form = cc in fixed_takes (first_line Two) ws u found ∙ ap first_line is)
 
--- the first line tells the form
+-- the first line says the form
 pub reads_form : ReadsLines first_line (λ f. Unit {0}) form_at
 reads_form = record { takes = λ ws f e. (form_takes ws f e, tt); again = λ f fit. form_again f; plain = λ f fit. first_plain f }

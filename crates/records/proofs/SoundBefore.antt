@@ -1,4 +1,4 @@
--- Records that record 1 can tell are sound exactly if they were before owners of pages had quotas: a pool with full quotas
+-- Records that record 1 can express are sound exactly if they were before owners of pages had quotas: a pool with full quotas
 -- answers as one without.
 use Rattle.std.proofs.Common.{◌≡◌, ◌↔◌, ℕ, false, List, [], ◌∷◌, map, refl, sym, ap, subst, rules}
 use Rattle.std.specs.List.{AllByRecursion}

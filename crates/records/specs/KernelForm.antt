@@ -20,7 +20,7 @@ use Rattle.records.specs.RecordText.{object_words, head_lines}
 use Rattle.records.specs.Settings.{Settings, ObjectSettings, ObjectFits, NamesDiffer, SettingsFitIn, name_at}
 use Rattle.records.specs.StepTexts.{SpellsTail, entry_of}
 
--- which line of a head can come next, the form, the settings, and how many objects were told
+-- which line of a head can come next, the form, the settings, and how many objects were announced
 pub record Head : Type 0 where
   pub awaits : HeadNext
   pub form : Form
@@ -32,7 +32,7 @@ pub record Head : Type 0 where
 abbrev pub no_head : Head
 no_head = record { awaits = First; form = WRITTEN; cpus = 0; count = 0; objects = [] }
 
--- the settings that it tells
+-- the settings that it says
 abbrev pub settings_in : Head → Settings
 settings_in h = record { cpus = h.cpus; objects = h.objects }
 
@@ -118,7 +118,7 @@ is_there None = false
 abbrev pub ends_at : List ℕ → Bool
 ends_at line = is_there (fixed_at (codes "end" ∷ []) (words line))
 
--- the text behind the looks tells the entry
+-- the text behind the looks spells the entry
 abbrev pub TailSpellsEntry : ℕ → ℕ → List ℕ → KernelEntry → Type 0
 TailSpellsEntry object looks text e = (asked : List KCall) × (steps : List KernelStep) × SpellsTail text asked steps × (e ≡ entry_of object looks asked steps)
 

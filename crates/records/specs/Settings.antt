@@ -34,7 +34,7 @@ name_at settings place = option_map_or (λ o. o.name) (slice_get settings.object
 abbrev pub NamesDiffer : Settings → Type 0
 NamesDiffer settings = (i j : ℕ) → i < length settings.objects → j < length settings.objects → name_at settings i ≡ name_at settings j → i ≡ j
 
--- the object is within all limits, and the form tells its parameters
+-- the object is within all limits, and the form expresses its parameters
 pub record ObjectFits (form : Form) (o : ObjectSettings) : Type 0 where
   pub name : is_name o.name ≡ true
   pub events : (1 ≤ o.events) × (o.events ≤ MOST_EVENTS)
@@ -48,7 +48,7 @@ pub record SettingsFitIn (form : Form) (s : Settings) : Type 0 where
   pub each : AllByRecursion (ObjectFits form) s.objects
   pub names : NamesDiffer s
 
--- settings within all limits: those of record 2, which tells all
+-- settings within all limits: those of record 2, which expresses all
 abbrev pub SettingsFit : Settings → Type 0
 SettingsFit s = SettingsFitIn WRITTEN s
 

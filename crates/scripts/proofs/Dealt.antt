@@ -6,8 +6,7 @@ use Rattle.std.proofs.lemmas.List.{append-nil, map-append, length-map}
 use Rattle.std.proofs.lemmas.List.Elements.{filter-append}
 use Rattle.std.proofs.lemmas.List.Sums.{length-filter}
 use Rattle.kernel_object.specs.KernelTypes.{KernelTodo}
-use Rattle.scripts.specs.declared.script.request.Request.{Request}
-use Rattle.scripts.specs.ScriptText.{count_of, script_of, dealt}
+use Rattle.scripts.specs.ScriptText.{Request, count_of, script_of, dealt}
 
 -- the script with one request more, if it is of this CPU
 pub script_push : (cpu : ℕ) (requests : List Request) (r : Request) → script_of cpu (requests ++ r ∷ []) ≡ script_of cpu requests ++ cond (r.cpu == cpu) (r.todo ∷ []) []

@@ -4,11 +4,10 @@ use Rattle.std.proofs.lemmas.Bool.{and_parts, lt-ltb, ltb-true}
 use Rattle.std.proofs.lemmas.List.{append-nil}
 use Rattle.std.proofs.lemmas.Option.{cond_some}
 use Rattle.std.specs.List.{AllByRecursion}
-use Rattle.scripts.specs.declared.script.request.Request.{Request}
 use Rattle.kernel_words.specs.Ranges.{call_fits}
 use Rattle.record_lines.specs.Reading.{words, number_at}
 use Rattle.record_lines.specs.Words.{IsPlain}
-use Rattle.scripts.specs.ScriptText.{IsRequest, request_words}
+use Rattle.scripts.specs.ScriptText.{Request, IsRequest, request_words}
 use Rattle.records.specs.Settings.{Settings, SettingsFit, name_at}
 use Rattle.record_lines.specs.Words.{sentence, separated}
 use Rattle.records.specs.RecordReading.{place_at}

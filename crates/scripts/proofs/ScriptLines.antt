@@ -6,9 +6,8 @@ use Rattle.std.proofs.lemmas.List.FromFn.{length-map-range_with_len}
 use Rattle.std.proofs.lemmas.List.Sums.{fold-append}
 use Rattle.std.specs.List.{AllByRecursion}
 use Rattle.kernel_object.specs.KernelTypes.{KernelTodo}
-use Rattle.scripts.specs.declared.script.request.Request.{Request}
 use Rattle.records.specs.declared.record.TheConstants.{MOST_ENTRIES}
-use Rattle.scripts.specs.ScriptText.{IsBlank, AskFor, IsRefused, AreScripts, ScriptFits, ScriptsFit, count_of, script_of, dealt}
+use Rattle.scripts.specs.ScriptText.{Request, IsBlank, AskFor, IsRefused, AreScripts, ScriptFits, ScriptsFit, count_of, script_of, dealt}
 use Rattle.records.specs.RecordRanges.{TodoFits}
 use Rattle.record_lines.specs.LineMachine.{TakesEach}
 use Rattle.scripts.specs.ScriptFaults.{ScriptState, TakesLine, TakesScriptLine, IsNotTaken}

@@ -4,10 +4,9 @@ use Rattle.std.specs.List.{AllByRecursion}
 use Rattle.std.proofs.lemmas.Bool.{eq-eqb}
 use Rattle.std.proofs.lemmas.List.Sums.{sum_by-append, sum_by-cons}
 use Rattle.kernel_object.specs.KernelTypes.{KernelTodo}
-use Rattle.scripts.specs.declared.script.request.Request.{Request}
 use Rattle.records.specs.declared.record.TheConstants.{MOST_ENTRIES}
 use Rattle.record_lines.specs.Reading.{AreDigits}
-use Rattle.scripts.specs.ScriptText.{IsBlank, IsRequest, AskFor, AreRequests, AreScripts, IsRefused, IsFirstBad, count_of}
+use Rattle.scripts.specs.ScriptText.{Request, IsBlank, IsRequest, AskFor, AreRequests, AreScripts, IsRefused, IsFirstBad, count_of}
 use Rattle.records.specs.Settings.{Settings, SettingsFit}
 use Rattle.record_lines.specs.Words.{text_of_lines, NoEnd}
 use Rattle.record_lines.proofs.Digits.{decimal_digits, decimal_some}

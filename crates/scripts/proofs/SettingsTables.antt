@@ -1,5 +1,5 @@
 -- Values of settings, as they are seen in a TOML table.
-use Rattle.std.proofs.Common.{◌≡◌, ℕ, suc, ◌+◌, ◌<◌, Bool, true, false, List, [], ◌∷◌, ◌++◌, append_assoc, append-nil, length, Option, Some, None, drop, get_or, Ok, Err, IfOk, IfErr, IsUtf8, Result, String, Global, string_bytes, refl, ap, sym, ◌∙◌, ◌&&◌, if◌then◌else◌, IsErrAnd, bytes_eq}
+use Rattle.std.proofs.Common.{◌≡◌, ℕ, ◌+◌, ◌<◌, Bool, true, false, List, [], ◌∷◌, ◌++◌, append_assoc, append-nil, length, Option, Some, None, drop, get_or, Ok, Err, IfOk, IfErr, IsUtf8, Result, String, Global, string_bytes, refl, ap, sym, ◌∙◌, ◌&&◌, if◌then◌else◌, IsErrAnd, bytes_eq}
 use Rattle.std.specs.List.{list_all, list_any}
 use Rattle.std.specs.Map.{keys_of}
 use Rattle.std.specs.Option.{is_some, option_map_or}
@@ -17,13 +17,8 @@ use Rattle.scripts.specs.declared.settings.fault.SettingsFault.TheVariants.{OutO
 use Rattle.scripts.specs.declared.settings.fault.SettingsKey.{SettingsKey}
 use Rattle.record_lines.specs.Then.{◌>>=◌, ok_map}
 use Rattle.scripts.specs.KindKeys.Pool.{are_integers, quota_from, each_quota}
-use Rattle.scripts.specs.SettingsKeys.{count_items, at_key, key_word, has_only}
+use Rattle.scripts.specs.SettingsKeys.{at_key, key_word, has_only}
 use Rattle.scripts.specs.SettingsText.{object_from, objects_from, settings_of, Settles, NamesFirstFault}
-
--- an array has as many items as values
-pub items_counted : (vs : List Value) → count_items (items_view vs) ≡ length vs
-items_counted [] = refl
-items_counted (v ∷ vs) = ap suc (items_counted vs)
 
 -- whether it is seen as an integer
 abbrev pub is_integer : Value → Bool

@@ -1,6 +1,6 @@
 -- Reading a line of the scripts from left to right. The laws in proofs/ tie this to the text.
 use Rattle.std.specs.Prelude.{ℕ, List, Option, Some, None, if◌then◌else◌, ◌-◌, ◌&&◌, nat_lt}
-use Rattle.scripts.specs.declared.script.request.Request.{Request}
+use Rattle.scripts.specs.ScriptText.{Request}
 use Rattle.record_lines.specs.Reading.{◌>>=◌, number_at}
 use Rattle.records.specs.Settings.{Settings}
 use Rattle.record_lines.specs.LineParts.{is_nil, list_at}

@@ -2,14 +2,13 @@
 use Rattle.std.specs.Prelude.{ℕ, ◌≡◌, ◌<◌, ◌≤◌, ◌⊎◌, Bool, List, [], ◌∷◌, ◌++◌, length, Option, Some, slice_get, slice_set}
 use Rattle.kernel_object.specs.KernelTypes.{KernelTodo}
 use Rattle.record_lines.specs.declared.text.line_machine.TheConstants.{MOST_BYTES}
-use Rattle.scripts.specs.declared.script.request.Request.{Request}
 use Rattle.records.specs.declared.record.TheConstants.{MOST_ENTRIES}
 use Rattle.record_lines.specs.declared.text.fault.LinesFault.{LinesFault}
 use Rattle.record_lines.specs.declared.text.fault.LinesFault.TheVariants.{OutOfMemory, Line}
 use Rattle.record_lines.specs.declared.text.fault.TextFault.{TextFault}
 use Rattle.record_lines.specs.declared.text.fault.TextFault.TheVariants as stream
 use Rattle.record_lines.specs.LineMachine.{HasTaken}
-use Rattle.scripts.specs.ScriptText.{IsBlank, IsRequest, IsFirstBad, AreScripts, dealt}
+use Rattle.scripts.specs.ScriptText.{Request, IsBlank, IsRequest, IsFirstBad, AreScripts, dealt}
 use Rattle.records.specs.Settings.{Settings}
 use Rattle.record_lines.specs.declared.text.line_machine.Pieces.{Pieces}
 use Rattle.record_lines.specs.Sources.{IsRest}

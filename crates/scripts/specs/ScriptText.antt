@@ -4,7 +4,6 @@ use Rattle.std.specs.List.{AllByRecursion, filter, range_with_len}
 use Rattle.sound_run.specs.declared.limits.TheConstants.{MOST_CPUS}
 use Rattle.sound_run.specs.declared.limits.TheConstants.{MOST_CELLS}
 use Rattle.kernel_object.specs.KernelTypes.{KernelTodo}
-use Rattle.scripts.specs.declared.script.request.Request.{Request}
 use Rattle.records.specs.declared.record.TheConstants.{MOST_ENTRIES}
 use Rattle.kernel_words.specs.Row.{spelled}
 use Rattle.kernel_words.specs.Rows.{call_row}
@@ -28,6 +27,11 @@ ScriptsWithin scripts = (length scripts ≤ MOST_CPUS) × AllByRecursion (Script
 abbrev pub IsBlank : List ℕ → Type 0
 IsBlank [] = Unit {0}
 IsBlank (b ∷ bytes) = b ≡ 35
+
+-- an entry of the scripts, with its CPU
+pub record Request : Type 0 where
+  pub cpu : ℕ
+  pub todo : KernelTodo
 
 -- how many of the requests are of that CPU
 abbrev pub count_of : ℕ → List Request → ℕ

@@ -25,6 +25,5 @@ pub use records::{
 };
 pub use schedule::{MOST_STEPS, Schedule, ScheduleFault};
 pub use script::cpu_scripts::Scripts;
-pub use script::request::Request;
 pub use settings::fault::{BadSettings, Cause, SettingsFault, SettingsKey, SettingsPlace};
 pub use settings::reading::{MOST_SETTINGS_BYTES, ReadSettings};

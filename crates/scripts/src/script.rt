@@ -3,6 +3,5 @@
 pub mod cpu_scripts;
 pub mod lines;
 pub mod reader;
-pub mod request;
 pub mod request_line;
 pub mod source;

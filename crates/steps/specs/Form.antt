@@ -1,4 +1,4 @@
--- The only form of words that there is, as the reader of words (`clap`) is told it.
+-- The only form of words that there is, as the reader of words (`clap`) receives it.
 use Rattle.std.specs.Prelude.{[], ◌∷◌, Some, true, codes}
 use Rattle.clap.specs.Words.{App, Rule, Text, new_rule}
 use Rattle.clap.specs.Simple.{new_shape}

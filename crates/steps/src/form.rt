@@ -1,4 +1,4 @@
-//! The form of words, as the reader of words is told it, with what its help says.
+//! The form of words, as the reader of words receives it, with what its help says.
 
 ghost use Rattle.std.specs.Prelude.{◌≡◌, false, IfOk};
 ghost use Rattle.clap.specs.Words.{app_of, rule_of};

@@ -1,4 +1,4 @@
--- What the ticket lock's own steps tell the seat that does them.
+-- What the ticket lock's own steps report to the seat that does them.
 use Rattle.std.specs.Prelude.{◌≡◌, ◌≢◌, ℕ, ◌/◌, ◌%◌, true, false, [], ◌∷◌, Option, Some}
 use Rattle.atomic_table.specs.Table.{Step}
 use Rattle.event_log.specs.declared.object.SeqObject.{Ghosts}

@@ -47,7 +47,7 @@ module _ {O P C R : Type 0} (meaning : Ghosts O P C R) (kind : LockKind) (h : Ce
   abbrev Rule : Table O P C R → Type 0
   Rule = CellInvariant meaning kind h
 
-  -- the caller may step so: word i becomes k, the lock becomes what `next` makes of it, and the caller is told
+  -- the caller may step so: word i becomes k, the lock becomes what `next` makes of it, and this is reported to the caller
   abbrev pub Makes : (Lock → ℕ → Lock × List StepDone) → (s : Table O P C R) → Rule s → ℕ → ℕ → (Seat O P C R → Type 0) → Type 0
   Makes next s r i k reported = (w : SeatView O P C R) × (a : Act (Option (History O P C R))) × Valid s.homes me.1 a × (r' : Rule (stepped s i k id me.1 w a)) × reported (w, carried_after me.1 a)
       × (r'.state.lock ≡ (next r.state.lock p).0) × GoesOn p (next r.state.lock p).1 r.state.run r'.state.run

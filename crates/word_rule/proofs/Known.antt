@@ -1,4 +1,4 @@
--- What a step may tell of the object, and of numbers that aren't the seat's: the same at every lock.
+-- What a step may report of the object, and of numbers that aren't the seat's: the same at every lock.
 use Rattle.std.proofs.Common.{◌≡◌, ◌≢◌, ℕ, ◌+◌, ◌<◌, ◌≤◌, Bool, true, true≢false, List, [], ◌∷◌, ◌++◌, length, drop, refl, sym, ap, ◌∙◌, subst, arith, Option, Some, None}
 use Rattle.std.specs.List.{AllByRecursion}
 use Rattle.std.proofs.lemmas.Bool.{false_from_ne_true}
@@ -111,7 +111,7 @@ module _ {O P C R : Type 0} (meaning : Ghosts O P C R) (kind : LockKind) (h : Ce
       replayed = λ g is. ap (λ (z : Cell O P C R). stored meaning z r.state.committed) (sym (same_cell r.state id me.0 g mine is));
     }
 
-    -- what a step tells that moves its caller alone
+    -- what a step reports that moves its caller alone
     pub goes : (stage : Stage) (done : List StepDone) → HasRun h r.state.committed (run_by done) → Goes meaning stage done me (moved_on me.0 stage r.state.committed (run_by done), me.1)
     goes stage done ran = record {
       log = r.state.committed;
@@ -124,7 +124,7 @@ module _ {O P C R : Type 0} (meaning : Ghosts O P C R) (kind : LockKind) (h : Ce
     abbrev events_since : List (Event O P C R) → List (Event O P C R)
     events_since log = drop (length me.0.main.seen) log
 
-    -- what a step tells that ends a hold on the object x
+    -- what a step reports that ends a hold on the object x
     pub returns : (stage : Stage) (step : StepDone) (x : History O P C R) (more : List (ℕ × Option (History O P C R))) → me.1 ≡ (0, Some x) ∷ more → Begins me.0.main.seen x.log → HasRun h x.log (r.state.run ++ leaving me.0.main.cpu step (events_since x.log) ∷ [])
         → Returns stage step me (settled me.0 stage x.log (r.state.run ++ leaving me.0.main.cpu step (events_since x.log) ∷ []), rest me.1)
     returns stage step x more carries begins ran x' more' e =

@@ -54,16 +54,6 @@ waits_more arrivals looks more done w counted = record {
   looked = looks_more looks more done false w.looked counted;
 }
 
--- the look that gets the object
-pub acquires_looking : (looks : ℕ) (done : List StepDone) → Waits 1 looks done → Acquires (done ++ steps.Look true ∷ [])
-acquires_looking looks done w = record {
-  before = done;
-  last = steps.Look true;
-  is = refl;
-  got = refl;
-  once = let c = count_append gets_object done (steps.Look true ∷ []) in let a = w.got in omega (arith, a, c);
-  arrived = let c = count_append arrives done (steps.Look true ∷ []) in let a = w.arrived in omega (arith, a, c);
-  unended = let c = count_append ends_hold done (steps.Look true ∷ []) in let a = w.unended in omega (arith, a, c);
 }
 
 module _ {O P C R : Type 0} where
@@ -112,15 +102,6 @@ module _ {O P C R : Type 0} (meaning : Ghosts O P C R) where
       let is : x ≡ stored meaning a.caller.cell b.seen = cc (has, t.has) in
       ap (λ z. z.log) is ∙ (left ∙ ap (λ (k : Caller O P C R). k.cell.opening ++ events_in b.run) (t.caller ∙ same))
 
-  -- the look that gets the object, after others
-  pub acquired_looking : (caller : Caller O P C R) (before : List (TraceStep (Event O P C R))) (looks more : ℕ) (x : History O P C R) (done : List StepDone) (p q : Stage) (a b : CallerState O P C R) → Waits 1 looks done → more ≡ min (looks + 1) (2 ^ 64 - 1) → Since caller before done a → Takes meaning p q (steps.Look true ∷ []) a b
-      → b.has ≡ Some x → b.seen ≡ b.caller.cell.opening ++ events_in b.run → HasAcquired caller before more x.log b.run
-  acquired_looking caller before looks more x done p q a b w counted s t has left = record {
-    done = done ++ steps.Look true ∷ [];
-    acquires = acquires_looking looks done w;
-    looked = looks_more looks more done true w.looked counted;
-    left = found_left caller x p q (steps.Look true ∷ []) a b s.0 t has left;
-    extends = since_more caller before b.run done (steps.Look true ∷ []) a s t.extends;
   }
 
   -- a hold ends by this step, after others of which none saw an event

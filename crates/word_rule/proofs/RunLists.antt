@@ -18,10 +18,6 @@ module _ {E : Type 0} where
   events_append [] b = refl
   events_append (m ∷ ms) b = ap (λ l. m.events ++ l) (events_append ms b) ∙ sym (append_assoc m.events (events_in ms) (events_in b))
 
-  pub silent_events : (cpu : ℕ) (done : List StepDone) → events_in {E = E} (silently cpu done) ≡ []
-  silent_events cpu [] = refl
-  silent_events cpu (s ∷ ss) = silent_events cpu ss
-
   pub doers_append : (test : StepDone → Bool) (a b : List (TraceStep E)) → doers_in test (a ++ b) ≡ doers_in test a ++ doers_in test b
   doers_append test [] b = refl
   doers_append test (m ∷ ms) b = by (test m.step) (doers_append test ms b)
@@ -61,9 +57,6 @@ module _ {E : Type 0} where
 
   pub until_since : (owned : ℕ → Bool) (a xs b : List (TraceStep E)) (last : TraceStep E) (c : List (TraceStep E)) → Extends owned a xs b → ExtendsUntil owned b [] last c → ExtendsUntil owned a xs last c
   until_since owned a xs b last c p q = subst (λ l. ExtendsUntil owned a l last c) (append-nil xs) (until_then owned a xs b [] last c p q)
-
-  pub until_extends : (owned : ℕ → Bool) (a xs : List (TraceStep E)) (last : TraceStep E) (b : List (TraceStep E)) → ExtendsUntil owned a xs last b → Extends owned a (xs ++ last ∷ []) b
-  until_extends owned a xs last b u = subst (Extends owned a (xs ++ last ∷ [])) (sym u.is) (extends_then owned a xs u.before (last ∷ []) (u.before ++ last ∷ []) u.extends (extends_by owned u.before (last ∷ [])))
 
   -- and steps of another CPU
   pub extends_beside : (owned : ℕ → Bool) (a b : List (TraceStep E)) (cpu : ℕ) (ms : List (TraceStep E)) → Extends owned a [] b → AllByRecursion (λ m. m.cpu ≡ cpu) ms → ((k : ℕ) → owned k ≡ true → k ≢ cpu) → Extends owned a [] (b ++ ms)

@@ -1,4 +1,4 @@
--- A word that a caller reads, and what it tells one that owns every number.
+-- A word that a caller reads, and what it says to a caller that owns every number.
 use Rattle.std.proofs.Common.{◌≡◌, ◌||◌, ℕ, ◌<◌, List, [], get_or, sym, ap, ◌∙◌, subst, Option, Some}
 use mathlib.Core.Option.{some}
 use lib.ListN.{get_elem?}

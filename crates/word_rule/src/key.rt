@@ -1,4 +1,4 @@
-//! What a cell is told when it is made.
+//! What a cell receives when it is made.
 
 ghost use Rattle.std.specs.Prelude.{◌≡◌};
 ghost use Rattle.event_log.specs.History.{IsKept};

@@ -36,7 +36,7 @@ pub struct CallerView<E> {
     pub read: Option<u64>,
 }
 
-/// A seat: what it was told of its cell (nothing, once another seat has taken it in), its caller, and the callers that
+/// A seat: what was reported to it of its cell (nothing, once another seat has taken it in), its caller, and the callers that
 /// it has taken in.
 pub struct View<H, E> {
     pub reported: LinkedList<H>,

@@ -13,7 +13,7 @@ use Rattle.kernel_words.proofs.LogRanges.{Keeps}
 use Rattle.record_lines.proofs.Readings.{number_at_again}
 use Rattle.record_lines.proofs.Lengths.{long}
 
--- the words are those of parameters in their ranges, which the form tells
+-- the words are those of parameters in their ranges, which the form expresses
 pub record ReadsParams {d : KindDefinition} (t : KindText d) (form : Form) (ws : List (List ℕ)) (read : d.Params × List (List ℕ)) : Type 0 where
   pub text : ws ≡ t.params_words form read.0 ++ read.1
   pub fits : d.in_range read.0 ≡ true
@@ -39,7 +39,7 @@ pub record KindKeeps {d : KindDefinition} (t : KindText d) : Type 1 where
 
 -- ---- what kinds have in common
 
--- a kind all of whose parameters record 1 tells
+-- a kind all of whose parameters record 1 expresses
 pub all_expressed : {d : KindDefinition} (t : KindText d) → ((p : d.Params) → t.ExpressedByFirst p) → (form : Form) (p : d.Params) → Expresses t form p
 all_expressed t expressed One p = expressed p
 all_expressed t expressed Two p = tt

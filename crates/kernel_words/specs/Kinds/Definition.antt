@@ -6,7 +6,7 @@ use Rattle.kernel_words.specs.declared.form.Form.TheVariants.{One, Two}
 use Rattle.kernel_words.specs.Row.{Row}
 
 pub record KindText (d : KindDefinition) : Type 1 where
-  -- record 1 tells these parameters
+  -- record 1 expresses these parameters
   pub ExpressedByFirst : d.Params → Type 0
   -- how parameters are spelled behind the kind's word
   pub params_words : Form → d.Params → List (List ℕ)
@@ -19,7 +19,7 @@ pub record KindText (d : KindDefinition) : Type 1 where
   -- a call of each word
   pub samples : List d.Call
 
--- the form tells these parameters of the kind
+-- the form expresses these parameters of the kind
 abbrev pub Expresses : {d : KindDefinition} → KindText d → Form → d.Params → Type 0
 Expresses t Two p = Unit {0}
 Expresses t One p = t.ExpressedByFirst p

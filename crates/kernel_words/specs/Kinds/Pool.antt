@@ -26,7 +26,7 @@ pool_filled Left ns = Left
 
 -- ---- parameters in a record
 
--- the quotas of a pool, which record 1 doesn't tell
+-- the quotas of a pool, which record 1 doesn't express
 abbrev pub quota_words : Form → List ℕ → List (List ℕ)
 quota_words One quotas = []
 quota_words Two quotas = map decimal quotas

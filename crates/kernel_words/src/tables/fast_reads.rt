@@ -9,7 +9,7 @@ use record_lines::Words;
 use shared_queue::QueueCall;
 use wake_list::SchedCall;
 
-/// Values whose words are told apart by a few bytes.
+/// Values whose words a few bytes distinguish.
 pub trait FastRead: Spelled {
     ghost use Rattle.std.specs.Prelude.{◌≡◌, Some, IfSome};
     ghost use Rattle.record_lines.specs.Reading.{left};

@@ -9,7 +9,7 @@ use std::alloc::Global;
 /// The lines of a form of records: of a head, which names CPUs and objects, of a log for each object, of a transcript for each
 /// CPU, and of the record's end.
 pub trait RecordForm: Drop {
-    /// What the head tells, so far.
+    /// What the head has said, so far.
     type Head: Drop;
 
     type Event: Drop;
@@ -37,12 +37,12 @@ pub trait RecordForm: Drop {
     /// The most entries of a transcript.
     ghost most_entries: { ℕ };
 
-    /// How many events the head of that object's log tells.
+    /// How many events the head of that object's log says.
     ghost log_at: { Self.Head → ℕ → List ℕ → Option ℕ };
 
     ghost event_at: { Self.Head → List ℕ → Option Self.Event };
 
-    /// How many entries the head of that CPU's transcript tells.
+    /// How many entries the head of that CPU's transcript says.
     ghost cpu_at: { Self.Head → ℕ → List ℕ → Option ℕ };
 
     ghost entry_at: { Self.Head → List ℕ → Option Self.Entry };
@@ -53,7 +53,7 @@ pub trait RecordForm: Drop {
     /// The text spells the steps of the event.
     ghost SpellsSteps: { List ℕ → Self.Event → Type 0 };
 
-    /// Under that head, on that object, with so many looks, the text behind them tells the entry.
+    /// Under that head, on that object, with so many looks, the text behind them spells the entry.
     ghost TailSpells: { Self.Head → ℕ → ℕ → List ℕ → Self.Entry → Type 0 };
 
     /// What was read of a head is within its limits, where more lines of it come.
@@ -120,7 +120,7 @@ pub trait RecordForm: Drop {
         requires { HeadFits head.now }
         ensures { result ≡ cpus head.now };
 
-    /// How many events the head of that object's log tells.
+    /// How many events the head of that object's log says.
     fn log_line(head: &Self::Head, object: usize, line: &[u8]) -> Option<u64>
         requires fit { HeadFits head.now }
         requires object { object < objects head.now }
@@ -145,7 +145,7 @@ pub trait RecordForm: Drop {
         ensures bound { IfSome result (λ x. x.0 < objects head.now) }
         ensures known { IfSome result (λ x. (e : Self.Entry) → TailSpells head.now x.0 x.1 x.2.now e → (entry_at head.now line.now ≡ Some e) × EntryFits head.now e) };
 
-    /// How many entries the head of that CPU's transcript tells.
+    /// How many entries the head of that CPU's transcript says.
     fn cpu_line(head: &Self::Head, cpu: u16, line: &[u8]) -> Option<u64>
         requires fit { HeadFits head.now }
         requires cpu { cpu < cpus head.now }

@@ -18,7 +18,7 @@ pub enum Next {
     Done,
 }
 
-/// Which line can come next, the head, how many of what is being read its head told, and how many were read.
+/// Which line can come next, the head, how many of what is being read its head said, and how many were read.
 #[derive(Drop)]
 pub struct ReaderPlace<H> {
     pub awaits: Next,

@@ -12,7 +12,7 @@ use std::fmt;
 const ROOM: usize = 16384;
 
 /// Collects small pieces of a text, and writes them in large ones. After a failed write nothing more is
-/// written, and `finish` tells it.
+/// written, and `finish` reports it.
 #[derive(Drop)]
 pub struct Buffered<'a, W: Sink> {
     sink: &'a mut W,

@@ -11,7 +11,7 @@ use event_log::Source;
 #[derive(Clone, Copy, Debug, PartialEq, Eq, Drop)]
 pub enum SourceFault<F> {
     ReadFailed,
-    /// What who takes the text tells.
+    /// The fault that the taker of the text reports.
     Reported(F),
 }
 

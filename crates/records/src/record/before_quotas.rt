@@ -11,7 +11,7 @@ use event_log::SeqObject;
 use kernel_object::KernelObject;
 use page_pool::{stays_whole, unlimited_by_full_quotas};
 
-/// A law of records that record 1 can tell, without effect: they are sound exactly if they were by the definitions from
+/// A law of records that record 1 can express, without effect: they are sound exactly if they were by the definitions from
 /// before quotas.
 pub fn sound_as_before()
     ensures { (r : Record) → RecordFitsIn One r → Sound ⟦<KernelObject as SeqObject>⟧ (opened_of r.settings) r.run ↔ WasSound ⟦<KernelObject as SeqObject>⟧ r }

@@ -1,4 +1,4 @@
-//! The bad lines of a text whose first line tells its form.
+//! The bad lines of a text whose first line says its form.
 
 ghost use Rattle.std.specs.Prelude.{◌++◌, ◌∷◌, ◌↔◌, ℕ, List};
 ghost use Rattle.kernel_words.specs.declared.form.Form.{Form};

@@ -28,7 +28,7 @@ pub enum HeadNext {
     Whole,
 }
 
-/// What the head of a record tells so far: its form, the CPUs, how many objects there will be, and the objects.
+/// What the head of a record has said so far: its form, the CPUs, how many objects there will be, and the objects.
 #[derive(Drop)]
 pub struct KernelHead {
     pub awaits: HeadNext,
@@ -47,7 +47,7 @@ impl Model for KernelHead {
 }
 
 impl KernelHead {
-    /// The settings that a whole head tells.
+    /// The settings that a whole head says.
     pub fn into_settings(self) -> Settings
         requires { HeadFits self }
         ensures { result ≡ settings_in self }

@@ -4,9 +4,8 @@ ghost use Rattle.std.specs.Prelude.{◌≡◌, [], IfSome, Some};
 ghost use Rattle.std.specs.Option.{option_map};
 ghost use Rattle.record_lines.specs.Reading.{words};
 ghost use Rattle.scripts.specs.RequestReading.{request_at};
-ghost use Rattle.scripts.specs.ScriptText.{IsRequest};
+ghost use Rattle.scripts.specs.ScriptText.{IsRequest, Request};
 ghost use Rattle.records.specs.Settings.{SettingsFit};
-ghost use Rattle.scripts.specs.declared.script.request.Request.{Request as Shown};
 
 use arrayvec::ArrayVec;
 use event_log::MOST_CALLS;
@@ -49,7 +48,7 @@ pub(crate) fn request(
 ) -> Option<(u8, u8)>
     requires { calls.old.items ≡ [] }
     ensures found { IfSome result (λ r. IsRequest settings.now line.now (record { cpu = r.0; todo = record { object = r.1; calls = calls.new } })) }
-    ensures only { (r : Shown) → IsRequest settings.now line.now r → option_map (λ x. record { cpu = x.0; todo = record { object = x.1; calls = calls.new } }) result ≡ Some r }
+    ensures only { (r : Request) → IsRequest settings.now line.now r → option_map (λ x. record { cpu = x.0; todo = record { object = x.1; calls = calls.new } }) result ≡ Some r }
 {
     read(settings, line, calls)
 }

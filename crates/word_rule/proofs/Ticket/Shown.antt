@@ -7,11 +7,9 @@ use Rattle.word_rule.specs.declared.lock_kind.Stage.{Stage}
 use Rattle.word_rule.specs.declared.lock_kind.Stage.TheVariants.{Idle, Ticket}
 use Rattle.word_rule.specs.declared.lock_kind.TicketStage.TheVariants.{Drawn, Served}
 use Rattle.word_rule.specs.Line.{is_first, taking}
-use Rattle.word_rule.specs.LockDefinition.{IsTied}
 use Rattle.word_rule.specs.Rule.LockStates.{RepresentsState}
 use Rattle.word_rule.specs.Ticket.Acquire.{draw}
 use Rattle.word_rule.specs.Ticket.Definition.{ticket_lock, ticket_turn}
-use Rattle.word_rule.specs.Ticket.Release.{serve}
 use Rattle.word_rule.specs.Ticket.State.{TicketLock, tickets}
 use Rattle.word_rule.proofs.ShownTurns.{After, at, became, same}
 use Rattle.word_rule.proofs.Ticket.Turns as ticket
@@ -39,12 +37,3 @@ module _ (n : ℕ) (ws : List ℕ) (stages : List Stage) (l : TicketLock) (h : R
   lost t e other =
       let p = stood (Ticket (Drawn t)) e in
       same ticket_lock n ws stages l h i below (steps.Look false) (turn_at (Ticket (Drawn t)) e ∙ ticket.misses l i t (false_from_ne_true (is_first i l.line.cpus) (λ f. other (ticket.first_hit n ws l h.tied i below t p f))))
-
-  served_by : (t : ℕ) → get_or stages i Idle ≡ Ticket (Served t) → (ws' : List ℕ) → IsTied ticket_lock n ws' (serve l i) → AfterTicket ws' (set stages i Idle) steps.Serve
-  served_by t e ws' tied = became ticket_lock n ws stages l h i below ws' Idle Idle (serve l i, steps.Serve) (turn_at (Ticket (Served t)) e) tied refl refl
-
-  pub served_adding : (t : ℕ) → get_or stages i Idle ≡ Ticket (Served t) → t + 1 < tickets → AfterTicket (set ws 0 ((get_or ws 0 0 + 1) % 2 ^ 64)) (set stages i Idle) steps.Serve
-  served_adding t e fits = served_by t e _ (ticket.serves_adding n ws l h.tied i below t (stood (Ticket (Served t)) e) fits)
-
-  pub served_subtracting : (t : ℕ) → get_or stages i Idle ≡ Ticket (Served t) → t + 1 ≡ tickets → AfterTicket (set ws 0 ((get_or ws 0 0 + (2 ^ 64 - (tickets - 1))) % 2 ^ 64)) (set stages i Idle) steps.Serve
-  served_subtracting t e last = served_by t e _ (ticket.serves_subtracting n ws l h.tied i below t (stood (Ticket (Served t)) e) last)

@@ -37,7 +37,7 @@ module _ {O P C R : Type 0} where
   abbrev pub state_with : Cell O P C R → Stage → History O P C R → Seat O P C R → CallerState O P C R
   state_with h stage x m = record { caller = caller_of h m.0; stage = stage; seen = m.0.main.seen; run = m.0.main.run; has = Some x }
 
-  -- a caller is of a cell: its seat is at the cell's table, and it was told what the table was told
+  -- a caller is of a cell: its seat is at the cell's table, and it has received the key that the table has received
   pub record IsAt {T : Type 0} (cell_table : T) (cell_key : Cell O P C R) (table_id : T) (key : Cell O P C R) : Type 0 where
     pub table : table_id ≡ cell_table
     pub reported : key ≡ cell_key

@@ -1,4 +1,4 @@
--- What an operation on a cell's table asks of the seat that steps, and what it tells.
+-- What an operation on a cell's table asks of the seat that steps, and what it reports.
 use Rattle.std.specs.Prelude.{◌≡◌, ℕ, ◌<◌, [], ◌∷◌, Option, Some, None}
 use mathlib.Core.Option.{none}
 use Rattle.atomic_table.specs.Table.{Step, step, rest}
@@ -15,7 +15,7 @@ module _ {O P C R : Type 0} where
   abbrev pub step_on : LockTable O P C R → ℕ → ℕ → ℕ → Step (Option (History O P C R))
   step_on t word a b = step t.table.shared.table_id.slots word a b none
 
-  -- the seat has stepped, and this was told
+  -- the seat has stepped, and this was reported
   abbrev pub Stepped : TableSeat (Option (History O P C R)) (SeatView O P C R) → TableSeat (Option (History O P C R)) (SeatView O P C R) → Type 0 → Type 0
   Stepped before after reported = (after.table_id ≡ before.table_id) × (after.id ≡ before.id) × reported
 

@@ -12,7 +12,7 @@ use Rattle.word_rule.specs.LockDefinition.{LockState}
 abbrev pub TicketLock : Type 0
 TicketLock = LockState ℕ
 
--- how many tickets there are: as many as half of a word can tell apart
+-- how many tickets there are: as many as half of a word has values
 abbrev pub tickets : ℕ
 tickets = 2 ^ 32
 

@@ -1,4 +1,4 @@
-//! What steps are called, in the words of docs/STEPS.md.
+//! What steps are called, in the words of docs/LOCKS.md.
 
 ghost use Rattle.std.specs.Prelude.{◌≡◌};
 ghost use Rattle.word_rule.specs.StepNames.{name_of, outcome_of};

@@ -1,4 +1,4 @@
-use Rattle.std.proofs.Common.{◌≡◌, ℕ, ◌<◌, ◌||◌, true, false, cond, [], refl, sym, ◌∙◌, subst}
+use Rattle.std.proofs.Common.{◌≡◌, ℕ, ◌<◌, ◌||◌, true, false, cond, [], refl, sym, subst}
 use Rattle.word_rule.specs.Replay.{DoesRun, entries_for}
 use Rattle.guarded_cell.specs.Held.{holds_of}
 use Rattle.guarded_cell.proofs.replays.two_are_replayed.Goals as goal

@@ -33,7 +33,7 @@ returns-in-Err-clause-given c = λ model are sound order.
     let r = received_custom c.args.self.parts in
     absurd (none_mistold r c.args.self.counts c.requires.fit x here model are)
 
--- the first fault as told
+-- the first fault as counted
 pub returns-in-Err-into_run-clause-unsound : goal.returns-in-Err-into_run-clause-unsound
 returns-in-Err-into_run-clause-unsound c = λ f e model are.
     let first = subst (λ (v : Counted). CountedFirst by_count (custom_terms v.counts v.parts.head.so_far.objects) (received_custom v.parts).run c.in-Err-into_run.fault) c.self.view_is c.in-Err-into_run.ensures.fault in
