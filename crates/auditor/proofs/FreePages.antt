@@ -1,13 +1,14 @@
 -- The least free page of a table, found by a walk that begins where none before is free.
-use Rattle.std.proofs.Common.{◌≡◌, ℕ, ◌+◌, ◌<◌, ◌≤◌, true, false, cond, ltb, List, Option, None, Some, is_none, length, get_or, set, refl, sym, ap, ◌∙◌, subst, arith}
+use Rattle.std.proofs.Common.{◌≡◌, ℕ, ◌+◌, ◌<◌, ◌≤◌, true, false, cond, List, Option, None, Some, is_none, length, get_or, set, refl, sym, ap, ◌∙◌, subst, arith}
 use Rattle.std.specs.List.{position_or_len}
-use Rattle.std.proofs.lemmas.Bool.{lt-ltb, le-ltb, ltb-false}
+use Rattle.std.proofs.lemmas.Bool.{lt-ltb, le-ltb}
 use Rattle.std.proofs.lemmas.List.{get_or-set_same, get_or-set_other, length-set}
 use Rattle.std.proofs.lemmas.List.Quantifiers.{position-Some}
 use Rattle.std.proofs.lemmas.List.Sums.{position_or_len_is, fails_before_first, sum_by-set, count_by-le-length}
 use Rattle.page_pool.specs.Table.{least_free, left_of}
 use Rattle.auditor.specs.Pages.{AreTakenBelow}
 use Rattle.auditor.proofs.MarkedLists.{same_or}
+use Rattle.page_pool.proofs.Least.{none_past}
 
 -- the walk stops at a free page
 pub found_least : (owners : List (Option ℕ)) (p : ℕ) → p < length owners → AreTakenBelow p owners → is_none (get_or owners p None) ≡ true → Some p ≡ least_free owners
@@ -27,12 +28,9 @@ pub least_at : (owners : List (Option ℕ)) (p : ℕ) → least_free owners ≡ 
 least_at owners p e = position-Some is_none owners p None e
 
 -- where none is free, every page has an owner
-none_before : (n len : ℕ) → cond (ltb n len) (Some n) None ≡ None → len ≤ n
-none_before n len e = elim (ltb n len) as (λ b. ltb n len ≡ b → cond b (Some n) None ≡ None → len ≤ n) [ true ↦ λ _ k. absurd (cc) | false ↦ λ t _. ltb-false n len t ] refl e
-
 pub all_taken : (owners : List (Option ℕ)) → least_free owners ≡ None → AreTakenBelow (length owners) owners
 all_taken owners e q l =
-    let past = none_before (position_or_len is_none owners) (length owners) e in
+    let past = none_past (position_or_len is_none owners) (length owners) e in
     fails_before_first is_none owners q None (omega (arith, past, l))
 
 -- once it has one too, so has every page up to it

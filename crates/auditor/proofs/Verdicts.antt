@@ -10,7 +10,7 @@ use Rattle.event_log.specs.declared.entry.Done.{Done}
 use Rattle.event_log.specs.declared.entry.Done.TheVariants as done
 use Rattle.event_log.specs.declared.entry.Entry.{Entry}
 use Rattle.event_log.specs.declared.entry.Run.{Run}
-use Rattle.event_log.proofs.Lists.{some_at}
+use Rattle.event_log.proofs.Lists.{some_at, cut}
 use Rattle.sound_run.specs.Sound.{Opened, EntryIsSound, Answers, NoneAfterFull, transcript_of, log_of, done_on, steps_by}
 use Rattle.sound_run.proofs.Slices.{one_of, map_get}
 use Rattle.sound_run.proofs.Entries.{done_append, done_without}
@@ -50,11 +50,6 @@ module _ {X : Type 0} where
   empty : (xs : List X) → length xs ≤ 0 → xs ≡ []
   empty [] le = refl
   empty (x ∷ xs) le = absurd (omega arith)
-
-  cut : (xs : List X) (i : ℕ) (x : X) → slice_get xs i ≡ Some x → xs ≡ take i xs ++ x ∷ drop (suc i) xs
-  cut [] i x e = cc
-  cut (y ∷ ys) zero x e = let same : y ≡ x = cc in ap (λ z. z ∷ ys) same
-  cut (y ∷ ys) (suc i) x e = ap (λ l. y ∷ l) (cut ys i x e)
 
 module _ {O P C R : Type 0} where
   -- a list of entries, cut at one without room

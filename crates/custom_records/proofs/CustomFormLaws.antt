@@ -1,5 +1,5 @@
 -- Record 3 is a form of records: each line is read as what it spells, and nothing else is.
-use Rattle.std.proofs.Common.{◌≡◌, ℕ, true, List, [], ◌∷◌, Option, Some, None, Result, Ok, Err, IfSome, OnOk, refl, sym, ap, ◌∙◌, arith, codes}
+use Rattle.std.proofs.Common.{◌≡◌, ℕ, true, List, [], ◌∷◌, Option, Some, None, refl, sym, ap, ◌∙◌, arith, codes}
 use Rattle.std.specs.Option.{is_some}
 use Rattle.event_log.specs.declared.entry.Done.TheVariants.{NoRoom}
 use Rattle.custom_records.specs.LineReading.{last_at, custom_entry_at}
@@ -71,17 +71,3 @@ custom_laws = record {
   an_event = λ h fit. (shown_event h.so_far, record { cpu = fit.fit.cpus.0; steps = record { some = omega arith; few = omega arith; each = (record { call = said_fits; reply = said_fits; refuses = refl }, tt) } });
   an_entry = λ h fit. (shown_entry, record { object = fit.fit.count.0; looks = omega arith; some = omega arith; few = omega arith; calls = (said_fits, tt); done = tt });
 }
-
--- ---- what is so of each value, and what follows from what is so
-
-pub some_of : {X : Type 0} (P : X → Type 0) (o : Option X) → ((x : X) → o ≡ Some x → P x) → IfSome o P
-some_of P None law = tt
-some_of P (Some x) law = law x refl
-
-pub some_map : {X : Type 0} (P Q : X → Type 0) (o : Option X) → ((x : X) → P x → Q x) → IfSome o P → IfSome o Q
-some_map P Q None law is = tt
-some_map P Q (Some x) law is = law x is
-
-pub ok_map : {X E : Type 0} {P Q : Type 0} (r : Result X E) → (P → Q) → OnOk r P → OnOk r Q
-ok_map (Ok x) law is = law is
-ok_map (Err e) law is = tt

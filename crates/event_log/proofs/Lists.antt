@@ -72,13 +72,13 @@ module _ {X : Type 0} where
       let rest : zs ≡ ys ++ r = cc in
       λ j. head j ∷ no_more ys r zs rest (omega (arith, n)) j
 
+  pub cut : (xs : List X) (i : ℕ) (x : X) → slice_get xs i ≡ Some x → xs ≡ take i xs ++ x ∷ drop (suc i) xs
+  cut [] i x e = cc
+  cut (y ∷ ys) zero x e = let same : y ≡ x = cc in ap (λ z. z ∷ ys) same
+  cut (y ∷ ys) (suc i) x e = ap (λ l. y ∷ l) (cut ys i x e)
+
   pub cut_at : (xs : List X) (i : ℕ) (x : X) → slice_get xs i ≡ Some x → xs ≡ take i xs ++ x ∷ drop (i + 1) xs
   cut_at xs i x e = rw (add-one i) (cut xs i x e)
-    where
-      cut : (ys : List X) (k : ℕ) (y : X) → slice_get ys k ≡ Some y → ys ≡ take k ys ++ y ∷ drop (suc k) ys
-      cut [] k y g = cc
-      cut (z ∷ zs) zero y g = let same : z ≡ y = cc in ap (λ w. w ∷ zs) same
-      cut (z ∷ zs) (suc k) y g = ap (λ l. z ∷ l) (cut zs k y g)
 
 -- one of several lists, behind the front
 module _ {X : Type 0} where

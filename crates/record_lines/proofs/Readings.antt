@@ -11,6 +11,11 @@ pub if_some : {X : Type 0} (Q : X → Type 0) (o : Option X) → ((x : X) → o 
 if_some Q None h = tt
 if_some Q (Some x) h = h x refl
 
+-- what follows of a value that is there
+pub some_map : {X : Type 0} (P Q : X → Type 0) (o : Option X) → ((x : X) → P x → Q x) → IfSome o P → IfSome o Q
+some_map P Q None law is = tt
+some_map P Q (Some x) law is = law x is
+
 -- what is so stands where there is no value
 pub if_none : {X P : Type 0} (o : Option X) → P → IfNone o P
 if_none None p = p

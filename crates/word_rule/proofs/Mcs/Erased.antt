@@ -8,9 +8,9 @@ use Rattle.word_rule.specs.Line.{going, lined, moved}
 use Rattle.word_rule.specs.Mcs.State.{McsLock, is_linked, naming, erased_next, untried, without_tries}
 use Rattle.word_rule.specs.Mcs.Try.{prepare}
 
-stage_twice : (q : Stage) → untried (untried q) ≡ untried q
-stage_twice Trying = refl
-stage_twice q = refl
+pub untried_twice : (q : Stage) → untried (untried q) ≡ untried q
+untried_twice Trying = refl
+untried_twice q = refl
 
 pub next_erased : (q : Stage) (named : Option ℕ) → erased_next (untried q) named ≡ erased_next q named
 next_erased Trying named = refl
@@ -26,7 +26,7 @@ linked_erased q = refl
 
 pub erased_twice : (l : McsLock) → without_tries (without_tries l) ≡ without_tries l
 erased_twice l k = record {
-  line = record { cpus = l.line.cpus; out = l.line.out; stage = λ x. stage_twice (l.line.stage x) k };
+  line = record { cpus = l.line.cpus; out = l.line.out; stage = λ x. untried_twice (l.line.stage x) k };
   extra = λ x. (next_erased (l.line.stage x) (erased_next (l.line.stage x) (l.extra x)) ∙ next_twice (l.line.stage x) (l.extra x)) k;
 }
 

@@ -17,7 +17,7 @@ use Rattle.word_rule.specs.Mcs.State.{McsLock, follower, if_linked, naming, eras
 use Rattle.word_rule.proofs.LockInterface.{Goes, SameTurn, LockLaws, NoneTries, is_idle, is_trying, moved_whole}
 use Rattle.word_rule.proofs.Lists.{split_line}
 use Rattle.word_rule.proofs.LockStates.{stands_at}
-use Rattle.word_rule.proofs.Mcs.Erased.{Alike, erased_twice, erased_moved, next_erased, next_twice, linked_erased}
+use Rattle.word_rule.proofs.Mcs.Erased.{Alike, erased_twice, erased_moved, next_erased, next_twice, linked_erased, untried_twice}
 use Rattle.word_rule.proofs.Mcs.Stands.{outside, first_if}
 use Rattle.word_rule.proofs.LineEnds as ends
 use Rattle.word_rule.proofs.Mcs.States as queue
@@ -141,10 +141,6 @@ module _ (l : McsLock) (i : ℕ) where
 
   abbrev Same : McsLock × StepDone → McsLock × StepDone → Type 0
   Same = SameTurn mcs_lock
-
-  untried_twice : (q : Stage) → untried (untried q) ≡ untried q
-  untried_twice Trying = refl
-  untried_twice q = refl
 
   alike : (x : ℕ) → x ≢ i → Alike (l.line.stage x) (P.line.stage x) (l.extra x) (P.extra x)
   alike x ne = record { stands = untried_twice (l.line.stage x); names = next_erased (l.line.stage x) (P.extra x) ∙ next_twice (l.line.stage x) (l.extra x) }
