@@ -1,6 +1,5 @@
 -- How many pages each owner has, as a page is given or taken back.
-use Rattle.std.proofs.Common.{◌≡◌, ◌≢◌, ℕ, ◌+◌, ◌<◌, ◌≤◌, Option, None, Some, List, length, get_or, set, sym, ap, subst, ◌∙◌, arith}
-use Rattle.std.proofs.lemmas.List.{get_or-set_same, get_or-set_other}
+use Rattle.std.proofs.{Common.{◌≡◌, ◌≢◌, ℕ, ◌+◌, ◌<◌, ◌≤◌, Option, None, Some, List, length, get_or, set, sym, ap, subst, ◌∙◌, arith}, lemmas.List.{get_or-set_same, get_or-set_other}}
 use Rattle.page_pool.specs.Table.{owner_of, held_by}
 use Rattle.page_pool.proofs.Held.{held_more, held_same}
 use Rattle.auditor.specs.Pages.{AreCounted}

@@ -1,30 +1,14 @@
 -- What is known of the entries received so far, and after one more.
-use Rattle.std.proofs.Common.{◌≡◌, ◌≢◌, ℕ, ◌+◌, List, [], ◌∷◌, ◌++◌, length, Some, slice_get, refl, sym, ap, ◌∙◌, subst, arith, length-append, append_assoc}
-use Rattle.std.proofs.lemmas.List.{append-nil}
+use Rattle.std.proofs.{Common.{◌≡◌, ◌≢◌, ℕ, ◌+◌, List, [], ◌∷◌, ◌++◌, length, Some, slice_get, refl, sym, ap, ◌∙◌, subst, arith, length-append, append_assoc}, lemmas.List.append-nil}
 use mathlib.Core.Logic.{dite}
 use native.Mathlib.Decide.{ℕ_discrete}
-use Rattle.event_log.specs.declared.object.SeqObject.{Ghosts}
-use Rattle.event_log.specs.declared.event.Event.{Event}
-use Rattle.event_log.specs.declared.event.Steps.{Steps}
-use Rattle.event_log.specs.declared.entry.Done.{Done}
-use Rattle.event_log.specs.declared.entry.Done.TheVariants as done
-use Rattle.event_log.specs.declared.entry.Entry.{Entry}
-use Rattle.event_log.specs.declared.entry.Run.{Run}
+use Rattle.event_log.specs.{declared.object.SeqObject.Ghosts, declared.event.Event.Event, declared.event.Steps.Steps, declared.entry.Done.Done, declared.entry.Entry.Entry, declared.entry.Run.Run}
 use Rattle.event_log.proofs.Lists.{same_front, get_behind, take_front, take_whole}
 use Rattle.sound_run.specs.Sound.{transcript_of, done_on, with_steps}
-use Rattle.sound_run.proofs.Entries.{done_append, done_here, done_elsewhere}
-use Rattle.sound_run.proofs.Slices.{one_of}
-use Rattle.auditor.specs.Claims.{taken, IsRight}
-use Rattle.auditor.specs.Faults.{done_before}
-use Rattle.auditor.specs.ReceivedRun.{ReceivedRun, entry_received, transcript_ended}
-use Rattle.auditor.specs.Passes.{AreSoundBefore, AreRightTo}
-use Rattle.auditor.specs.SoFar.{IsInLog, HasLogs, IsWith, IsFaultSoFar, IsRightSoFar}
-use Rattle.auditor.specs.Transcripts.{log_in, IsRightAt, AreRightBefore}
-use Rattle.auditor.proofs.EntryFaults.{EntryFault, fault_at, IsWrongBy, IsWrongAt, first_entry, right_more}
-use Rattle.auditor.proofs.GoingOn.{from_entry, from_transcript_end, transcript_here, all_logs, all_opened}
-use Rattle.auditor.proofs.LogsSoFar.{no_entry}
-use Rattle.auditor.specs.StepModels.{StepModel}
-use Rattle.auditor.specs.Terms.{Terms}
+use Rattle.sound_run.proofs.{Entries.{done_append, done_here, done_elsewhere}, Slices.one_of}
+use Rattle.auditor.specs.{Claims.{taken, IsRight}, Faults.done_before, ReceivedRun.{ReceivedRun, entry_received, transcript_ended}, Passes.{AreSoundBefore, AreRightTo}, SoFar.{IsInLog, HasLogs, IsWith, IsFaultSoFar, IsRightSoFar}, Transcripts.{log_in, IsRightAt, AreRightBefore}, StepModels.StepModel, Terms.Terms}
+use Rattle.auditor.proofs.{EntryFaults.{EntryFault, fault_at, IsWrongBy, IsWrongAt, first_entry, right_more}, GoingOn.{from_entry, from_transcript_end, transcript_here, all_logs, all_opened}, LogsSoFar.no_entry}
+use Rattle.event_log.specs.declared.entry.Done.TheVariants as done
 
 module _ {O P C R : Type 0} where
   one_taken : (d : Done O P C R) (xs : List (Steps O P C R)) → length (xs ++ with_steps d []) ≡ taken (length xs) d

@@ -1,31 +1,14 @@
 -- A fault that is in a record names an object of its settings, and its other numbers are small.
-use Rattle.std.proofs.Common.{◌≡◌, ℕ, zero, suc, ◌<◌, ◌^◌, List, [], ◌∷◌, length, Some, slice_get, refl, ◌∙◌, inl, inr, arith}
+use Rattle.std.proofs.{Common.{◌≡◌, ℕ, zero, suc, ◌<◌, ◌^◌, List, [], ◌∷◌, length, Some, slice_get, refl, ◌∙◌, inl, inr, arith}, lemmas.List.length-map, lemmas.Option.slice_get_within}
 use Rattle.std.specs.Prelude.{◌↔◌, Result, Ok, Err, IfOk}
-use Rattle.std.proofs.lemmas.List.{length-map}
-use Rattle.std.proofs.lemmas.Option.{slice_get_within}
-use Rattle.event_log.specs.declared.event.Step.{Step}
-use Rattle.event_log.specs.declared.event.Event.{Event}
+use Rattle.event_log.specs.{declared.event.Step.Step, declared.event.Event.Event}
 use Rattle.sound_run.specs.Sound.{transcript_of, log_of}
-use Rattle.kernel_object.specs.declared.call.KParams.{KParams}
-use Rattle.kernel_object.specs.declared.call.KCall.{KCall}
-use Rattle.kernel_object.specs.declared.call.KReply.{KReply}
-use Rattle.kernel_object.specs.declared.object.KernelObject.{KernelObject}
-use Rattle.kernel_object.specs.contracts.object.KernelObjectSeqObject.TheImpl.{ghosts as kernel}
-use Rattle.kernel_object.specs.KernelTypes.{KernelEvent, KernelEntry}
-use Rattle.records.specs.Runs.{opened_of}
-use Rattle.records.specs.RecordRanges.{Record, RecordFits, EventFits}
+use Rattle.kernel_object.specs.{declared.call.KParams.KParams, declared.call.KCall.KCall, declared.call.KReply.KReply, declared.object.KernelObject.KernelObject, contracts.object.KernelObjectSeqObject.TheImpl.{ghosts as kernel}, KernelTypes.{KernelEvent, KernelEntry}}
+use Rattle.records.specs.{Runs.opened_of, RecordRanges.{Record, RecordFits, EventFits}}
 use Rattle.kernel_words.specs.declared.form.TheConstants.{WRITTEN}
-use Rattle.auditor.specs.Faults.{IsFaultBy, IsFirstFault}
-use Rattle.auditor.specs.StepModels.{StepModel, object_model, behind_all, StepIsWrongBy, EventIsWrongBy}
-use Rattle.auditor.specs.Terms.{Terms, opened_as, opened_list, start, starts}
-use Rattle.auditor.specs.VerdictText.{IsNamed, CanBeReported}
-use Rattle.auditor.specs.declared.fault.Fault.{Fault}
-use Rattle.auditor.specs.declared.fault.Verdict.{Verdict}
+use Rattle.auditor.specs.{Faults.{IsFaultBy, IsFirstFault}, StepModels.{StepModel, object_model, behind_all, StepIsWrongBy, EventIsWrongBy}, Terms.{Terms, opened_as, opened_list, start, starts}, VerdictText.{IsNamed, CanBeReported}, declared.fault.Fault.Fault, declared.fault.Verdict.Verdict, declared.fault.Fault.TheVariants.{TooLong, WrongStep, RoomWasLeft, NotItsEvent, NotAsked, Unclaimed}}
+use Rattle.auditor.proofs.{NextEventSteps.list_within, RecordRuns.{object_opened, log_fits, transcript_fits}, Verdicts.all_at}
 use Rattle.auditor.specs.declared.fault.Verdict.TheVariants as verdict
-use Rattle.auditor.specs.declared.fault.Fault.TheVariants.{TooLong, WrongStep, RoomWasLeft, NotItsEvent, NotAsked, Unclaimed}
-use Rattle.auditor.proofs.NextEventSteps.{list_within}
-use Rattle.auditor.proofs.RecordRuns.{object_opened, log_fits, transcript_fits}
-use Rattle.auditor.proofs.Verdicts.{all_at}
 
 module _ {T O P C R : Type 0} (model : StepModel T O P C R) where
   step_within : (s : T) (steps : List (Step O P C R)) (i : ℕ) → StepIsWrongBy model s steps i → i < length steps

@@ -1,16 +1,11 @@
 -- Faults in the order of their places.
-use Rattle.std.proofs.Common.{◌≡◌, inl, inr, ⊎_elim, ℕ, zero, suc, ◌<◌, Bool, true, false, List, [], ◌∷◌, length, slice_get, refl, sym, ap, ◌∙◌, arith}
-use Rattle.std.proofs.lemmas.Bool.{cases_lt}
+use Rattle.std.proofs.{Common.{◌≡◌, inl, inr, ⊎_elim, ℕ, zero, suc, ◌<◌, Bool, true, false, List, [], ◌∷◌, length, slice_get, refl, sym, ap, ◌∙◌, arith}, lemmas.Bool.cases_lt}
 use Rattle.std.specs.Prelude.{◌⊎◌}
-use Rattle.event_log.specs.declared.entry.Entry.{Entry}
-use Rattle.event_log.specs.declared.entry.Run.{Run}
+use Rattle.event_log.specs.{declared.entry.Entry.Entry, declared.entry.Run.Run}
 use Rattle.sound_run.specs.Sound.{transcript_of}
 use Rattle.sound_run.proofs.Slices.{one_of}
-use Rattle.auditor.specs.declared.fault.Fault.{Fault}
+use Rattle.auditor.specs.{declared.fault.Fault.Fault, Faults.{HadRoom, IsNotItsEvent, place, IsBefore, IsFaultBy, IsFirstFaultBy}, StepModels.StepModel, Terms.{Terms, opened_list}}
 use Rattle.auditor.specs.declared.fault.Fault.TheVariants as fault
-use Rattle.auditor.specs.Faults.{HadRoom, IsNotItsEvent, place, IsBefore, IsFaultBy, IsFirstFaultBy}
-use Rattle.auditor.specs.StepModels.{StepModel}
-use Rattle.auditor.specs.Terms.{Terms, opened_list}
 
 -- nothing comes before itself
 pub not_itself : (xs : List ℕ) → IsBefore xs xs → ⊥

@@ -1,17 +1,11 @@
 -- A run that a judge receives, as far as it has come.
 use Rattle.std.proofs.Common.{◌≡◌, ℕ, ◌+◌, ◌<◌, ◌≤◌, List, [], ◌∷◌, ◌++◌, length, take, get_or, Some, slice_get, refl, sym, ap, ◌∙◌, subst, arith, length-append}
 use Rattle.std.specs.Prelude.{unwrap_or}
-use Rattle.event_log.specs.declared.event.Event.{Event}
-use Rattle.event_log.specs.declared.entry.Entry.{Entry}
-use Rattle.event_log.specs.declared.entry.Run.{Run}
+use Rattle.event_log.specs.{declared.event.Event.Event, declared.entry.Entry.Entry, declared.entry.Run.Run}
 use Rattle.sound_run.specs.Sound.{transcript_of, log_of}
 use Rattle.sound_run.proofs.Slices.{read_get}
-use Rattle.auditor.specs.ReceivedRun.{ReceivedRun, log_begun, event_received, log_ended, log_received, transcript_begun, entry_received, transcript_ended, transcript_received, logs_received, run_received}
-use Rattle.auditor.specs.Faults.{HasSteps}
-use Rattle.auditor.specs.Passes.{IsRunOver}
-use Rattle.auditor.specs.SoFar.{IsInLog, IsBeforeLog, HasLogs, IsInTranscripts}
+use Rattle.auditor.specs.{ReceivedRun.{ReceivedRun, log_begun, event_received, log_ended, log_received, transcript_begun, entry_received, transcript_ended, transcript_received, logs_received, run_received}, Faults.HasSteps, Passes.IsRunOver, SoFar.{IsInLog, IsBeforeLog, HasLogs, IsInTranscripts}, Terms.Terms}
 use Rattle.auditor.proofs.Splits.{take_one, take_all, take_length}
-use Rattle.auditor.specs.Terms.{Terms}
 
 -- i events of a log, of an object that was opened so
 abbrev pub with_events : {T O P C R : Type 0} → ReceivedRun T O P C R → Terms P T → List (Event O P C R) → ℕ → ReceivedRun T O P C R

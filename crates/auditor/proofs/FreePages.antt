@@ -1,10 +1,6 @@
 -- The least free page of a table, found by a walk that begins where none before is free.
-use Rattle.std.proofs.Common.{◌≡◌, ℕ, ◌+◌, ◌<◌, ◌≤◌, true, false, cond, List, Option, None, Some, is_none, length, get_or, set, refl, sym, ap, ◌∙◌, subst, arith}
+use Rattle.std.proofs.{Common.{◌≡◌, ℕ, ◌+◌, ◌<◌, ◌≤◌, true, false, cond, List, Option, None, Some, is_none, length, get_or, set, refl, sym, ap, ◌∙◌, subst, arith}, lemmas.Bool.{lt-ltb, le-ltb}, lemmas.List.{get_or-set_same, get_or-set_other, length-set}, lemmas.List.Quantifiers.position-Some, lemmas.List.Sums.{position_or_len_is, fails_before_first, sum_by-set, count_by-le-length}}
 use Rattle.std.specs.List.{position_or_len}
-use Rattle.std.proofs.lemmas.Bool.{lt-ltb, le-ltb}
-use Rattle.std.proofs.lemmas.List.{get_or-set_same, get_or-set_other, length-set}
-use Rattle.std.proofs.lemmas.List.Quantifiers.{position-Some}
-use Rattle.std.proofs.lemmas.List.Sums.{position_or_len_is, fails_before_first, sum_by-set, count_by-le-length}
 use Rattle.page_pool.specs.Table.{least_free, left_of}
 use Rattle.auditor.specs.Pages.{AreTakenBelow}
 use Rattle.auditor.proofs.MarkedLists.{same_or}

@@ -1,16 +1,10 @@
 -- A run that begins with what was received last begins with what was received before.
-use Rattle.std.proofs.Common.{◌≡◌, ℕ, List, [], ◌∷◌, ◌++◌, length, Some, slice_get, refl, sym, ap, ◌∙◌, arith, length-append, append_assoc}
+use Rattle.std.proofs.{Common.{◌≡◌, ℕ, List, [], ◌∷◌, ◌++◌, length, Some, slice_get, refl, sym, ap, ◌∙◌, arith, length-append, append_assoc}, lemmas.List.append-nil}
 use Rattle.std.specs.Prelude.{unwrap_or}
-use Rattle.std.proofs.lemmas.List.{append-nil}
-use Rattle.event_log.specs.declared.event.Event.{Event}
-use Rattle.event_log.specs.declared.entry.Entry.{Entry}
-use Rattle.event_log.specs.declared.entry.Run.{Run}
+use Rattle.event_log.specs.{declared.event.Event.Event, declared.entry.Entry.Entry, declared.entry.Run.Run}
 use Rattle.event_log.proofs.Lists.{get_front, list_behind, no_more, some_at}
 use Rattle.sound_run.specs.Sound.{transcript_of, log_of}
-use Rattle.auditor.specs.ReceivedRun.{ReceivedRun, log_begun, event_received, log_ended, transcript_begun, entry_received, transcript_ended, run_of}
-use Rattle.auditor.specs.Passes.{IsRunOver}
-use Rattle.auditor.specs.SoFar.{GoesOnFrom, IsInLog, HasLogs, IsWith}
-use Rattle.auditor.specs.Terms.{Terms}
+use Rattle.auditor.specs.{ReceivedRun.{ReceivedRun, log_begun, event_received, log_ended, transcript_begun, entry_received, transcript_ended, run_of}, Passes.IsRunOver, SoFar.{GoesOnFrom, IsInLog, HasLogs, IsWith}, Terms.Terms}
 
 -- what begins with more begins with less
 back : {X : Type 0} (a b : List X) (x : X) → GoesOnFrom (a ++ x ∷ []) b → GoesOnFrom a b

@@ -1,6 +1,5 @@
 -- Lists inside of other values, as the sleepers of channels are.
-use Rattle.std.proofs.Common.{◌≡◌, ℕ, ◌<◌, List, [], ◌∷◌, length, get_or, set, map, refl, sym, ap, ◌∙◌, arith}
-use Rattle.std.proofs.lemmas.List.{get_or-map, map-set, length-map, set-get_or}
+use Rattle.std.proofs.{Common.{◌≡◌, ℕ, ◌<◌, List, [], ◌∷◌, length, get_or, set, map, refl, sym, ap, ◌∙◌, arith}, lemmas.List.{get_or-map, map-set, length-map, set-get_or}}
 
 -- a list of no length
 pub empty_is : (xs : List ℕ) → length xs ≡ 0 → xs ≡ []

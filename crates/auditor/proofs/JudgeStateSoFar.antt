@@ -1,32 +1,12 @@
 -- What is noted, after one thing more was received.
-use Rattle.std.proofs.Common.{◌≡◌, ⊎_elim, ℕ, ◌+◌, ◌<◌, ◌≤◌, true, false, true≢false, List, [], ◌∷◌, ◌++◌, length, Option, Some, None, slice_get, refl, sym, ap, ◌∙◌, subst, arith, length-append}
+use Rattle.std.proofs.{Common.{◌≡◌, ⊎_elim, ℕ, ◌+◌, ◌<◌, ◌≤◌, true, false, true≢false, List, [], ◌∷◌, ◌++◌, length, Option, Some, None, slice_get, refl, sym, ap, ◌∙◌, subst, arith, length-append}, Math.ListN.set}
 use Rattle.std.specs.Prelude.{unwrap_or, slice_index, is_some}
-use Rattle.std.proofs.Math.ListN.{set}
-use Rattle.event_log.specs.declared.event.Event.{Event}
-use Rattle.event_log.specs.declared.entry.Entry.{Entry}
-use Rattle.event_log.specs.declared.entry.Run.{Run}
+use Rattle.event_log.specs.{declared.event.Event.Event, declared.entry.Entry.Entry, declared.entry.Run.Run}
 use Rattle.event_log.proofs.Lists.{get_push}
 use Rattle.sound_run.specs.Sound.{done_on}
-use Rattle.auditor.specs.declared.fault.Fault.{Fault}
+use Rattle.auditor.specs.{declared.fault.Fault.Fault, declared.kept_log.KeptLog.KeptLog, declared.replay.Replay.Replay, Claims.{taken, IsRight, IsWrong}, Faults.HasSteps, ReceivedRun.{ReceivedRun, nothing, log_begun, event_received, log_ended, transcript_begun, entry_received, transcript_ended}, NextEvents.{IsAt, AreNextEvents}, JudgeStates.{IsHeld, IsRightWith, IsJudgeState}, SoFar.{IsInLog, IsBeforeLog, HasLogs, IsWith, IsFaultSoFar}, Transcripts.log_in, Turns.IsTurned, StepModels.{StepModel, replay_by, AreRight, IsFirstWrong}, Terms.Terms}
+use Rattle.auditor.proofs.{EntriesSoFar.{wrong_entry, right_entry, right_transcript}, EntryFaults.kind_of, GoingOn.from_transcript, KeptLogs.{kept_begun, kept_event, kept_ended, kept_transcript, kept_entry, kept_turned}, LogsSoFar.{right_nothing, opened_last, in_log, right_begun, long_so_far, wrong_so_far, right_event, right_ended}, WrongSteps.replay_more}
 use Rattle.auditor.specs.declared.fault.Fault.TheVariants as fault
-use Rattle.auditor.specs.declared.kept_log.KeptLog.{KeptLog}
-use Rattle.auditor.specs.declared.replay.Replay.{Replay}
-use Rattle.auditor.specs.Claims.{taken, IsRight, IsWrong}
-use Rattle.auditor.specs.Faults.{HasSteps}
-use Rattle.auditor.specs.ReceivedRun.{ReceivedRun, nothing, log_begun, event_received, log_ended, transcript_begun, entry_received, transcript_ended}
-use Rattle.auditor.specs.NextEvents.{IsAt, AreNextEvents}
-use Rattle.auditor.specs.JudgeStates.{IsHeld, IsRightWith, IsJudgeState}
-use Rattle.auditor.specs.SoFar.{IsInLog, IsBeforeLog, HasLogs, IsWith, IsFaultSoFar}
-use Rattle.auditor.specs.Transcripts.{log_in}
-use Rattle.auditor.specs.Turns.{IsTurned}
-use Rattle.auditor.proofs.EntriesSoFar.{wrong_entry, right_entry, right_transcript}
-use Rattle.auditor.proofs.EntryFaults.{kind_of}
-use Rattle.auditor.proofs.GoingOn.{from_transcript}
-use Rattle.auditor.proofs.KeptLogs.{kept_begun, kept_event, kept_ended, kept_transcript, kept_entry, kept_turned}
-use Rattle.auditor.proofs.LogsSoFar.{right_nothing, opened_last, in_log, right_begun, long_so_far, wrong_so_far, right_event, right_ended}
-use Rattle.auditor.proofs.WrongSteps.{replay_more}
-use Rattle.auditor.specs.StepModels.{StepModel, replay_by, AreRight, IsFirstWrong}
-use Rattle.auditor.specs.Terms.{Terms}
 
 module _ {T O P C R J W : Type 0} (model : StepModel T O P C R) (shows : J → T) where
   -- a fault that was found stays the first

@@ -1,12 +1,7 @@
 -- The terms of objects, and of objects with a judge for each.
-use Rattle.std.proofs.Common.{◌≡◌, ℕ, zero, suc, List, [], ◌∷◌, ◌++◌, length, get_or, refl, sym, ap, ◌∙◌, arith}
-use Rattle.std.proofs.lemmas.List.{length-map}
-use Rattle.event_log.specs.declared.object.SeqObject.{Ghosts}
-use Rattle.event_log.specs.declared.entry.Run.{Run}
-use Rattle.auditor.specs.declared.opened_object.OpenedObject.{OpenedObject}
-use Rattle.auditor.specs.Passes.{IsRunOf, IsRunOver}
-use Rattle.auditor.specs.Terms.{terms_at, terms_with, start, starts}
-use Rattle.auditor.specs.Transcripts.{judged_by, opened_by}
+use Rattle.std.proofs.{Common.{◌≡◌, ℕ, zero, suc, List, [], ◌∷◌, ◌++◌, length, get_or, refl, sym, ap, ◌∙◌, arith}, lemmas.List.length-map}
+use Rattle.event_log.specs.{declared.object.SeqObject.Ghosts, declared.entry.Run.Run}
+use Rattle.auditor.specs.{declared.opened_object.OpenedObject.OpenedObject, Passes.{IsRunOf, IsRunOver}, Terms.{terms_at, terms_with, start, starts}, Transcripts.{judged_by, opened_by}}
 
 -- one more
 pub terms_more : {T O P C R J : Type 0} (shows : J → T) (opened : List (OpenedObject O P C R)) (judges : List J) (t : OpenedObject O P C R) (j : J) → length judges ≡ length opened → terms_with shows (opened ++ t ∷ []) (judges ++ j ∷ []) ≡ terms_with shows opened judges ++ terms_at t (shows j) ∷ []

@@ -1,27 +1,12 @@
 -- What is found of a run once all of it was received.
 use Rattle.std.proofs.Common.{◌≡◌, ℕ, zero, suc, List, [], ◌∷◌, length, map, Option, Some, slice_get, refl, sym, ap, subst, arith}
 use Rattle.std.specs.Prelude.{◌↔◌, slice_index}
-use Rattle.event_log.specs.declared.event.Event.{Event}
-use Rattle.event_log.specs.declared.entry.Run.{Run}
+use Rattle.event_log.specs.{declared.event.Event.Event, declared.entry.Run.Run}
 use Rattle.event_log.proofs.Lists.{some_at}
-use Rattle.auditor.specs.declared.fault.Fault.{Fault}
+use Rattle.auditor.specs.{declared.fault.Fault.Fault, declared.fault.Verdict.Verdict, declared.kept_log.KeptLog.KeptLog, declared.replay.Replay.Replay, ReceivedRun.{ReceivedRun, run_of}, KeptLogs.events_in, JudgeStates.IsRightWith, Passes.{IsRunOver, AreEnds, IsEnd, AreTaken, IsFirstLeft}, SoFar.{HasLogs, IsWith, IsFound}, ByModels.SoundBy, Faults.{IsFaultBy, IsFirstFaultBy}, NoFaults.HasNoFaultBy, StepModels.StepModel, Terms.{Terms, opened_list}}
+use Rattle.auditor.proofs.{GoingOn.with_itself, LeftEvents.{first_unclaimed, none_left}}
 use Rattle.auditor.specs.declared.fault.Fault.TheVariants as fault
-use Rattle.auditor.specs.declared.fault.Verdict.{Verdict}
 use Rattle.auditor.specs.declared.fault.Verdict.TheVariants as verdict
-use Rattle.auditor.specs.declared.kept_log.KeptLog.{KeptLog}
-use Rattle.auditor.specs.declared.replay.Replay.{Replay}
-use Rattle.auditor.specs.ReceivedRun.{ReceivedRun, run_of}
-use Rattle.auditor.specs.KeptLogs.{events_in}
-use Rattle.auditor.specs.JudgeStates.{IsRightWith}
-use Rattle.auditor.specs.Passes.{IsRunOver, AreEnds, IsEnd, AreTaken, IsFirstLeft}
-use Rattle.auditor.specs.SoFar.{HasLogs, IsWith, IsFound}
-use Rattle.auditor.proofs.GoingOn.{with_itself}
-use Rattle.auditor.proofs.LeftEvents.{first_unclaimed, none_left}
-use Rattle.auditor.specs.ByModels.{SoundBy}
-use Rattle.auditor.specs.Faults.{IsFaultBy, IsFirstFaultBy}
-use Rattle.auditor.specs.NoFaults.{HasNoFaultBy}
-use Rattle.auditor.specs.StepModels.{StepModel}
-use Rattle.auditor.specs.Terms.{Terms, opened_list}
 
 module _ {X Y : Type 0} (f : X → Y) where
   same_map : (xs : List X) (ys : List Y) → length xs ≡ length ys → ((i : ℕ) (x : X) → slice_get xs i ≡ Some x → slice_get ys i ≡ Some (f x)) → map f xs ≡ ys

@@ -1,13 +1,8 @@
 -- How a table of marks follows its list.
-use Rattle.std.proofs.Common.{◌≡◌, ◌≢◌, ℕ, ◌<◌, ◌==◌, ◌||◌, Bool, true, false, not, List, [], ◌∷◌, ◌++◌, length, get_or, set, replicate, refl, sym, ap, ◌∙◌, subst, arith}
+use Rattle.std.proofs.{Common.{◌≡◌, ◌≢◌, ℕ, ◌<◌, ◌==◌, ◌||◌, Bool, true, false, not, List, [], ◌∷◌, ◌++◌, length, get_or, set, replicate, refl, sym, ap, ◌∙◌, subst, arith}, lemmas.Bool.Decides.nat_tests, lemmas.List.{get_or-set_same, get_or-set_other, length-set}, lemmas.List.Folds.list_any-append, lemmas.List.Sorted.list_any-IsPermutation}
 use Rattle.std.specs.List.Sorted.{IsPermutation}
-use Rattle.std.proofs.lemmas.Bool.Decides.{nat_tests}
-use Rattle.std.proofs.lemmas.List.{get_or-set_same, get_or-set_other, length-set}
-use Rattle.std.proofs.lemmas.List.Folds.{list_any-append}
-use Rattle.std.proofs.lemmas.List.Sorted.{list_any-IsPermutation}
 use Rattle.event_log.specs.Distinct.{has, without, AreDistinctBelow}
-use Rattle.event_log.proofs.Cells.{has_without, gone, none_flagged}
-use Rattle.event_log.proofs.Distinct.{distinct_push, distinct_filter, distinct_permuted, distinct_length_missing}
+use Rattle.event_log.proofs.{Cells.{has_without, gone, none_flagged}, Distinct.{distinct_push, distinct_filter, distinct_permuted, distinct_length_missing}}
 use Rattle.auditor.specs.Marks.{AreMarked}
 
 -- a number is itself or it isn't

@@ -1,18 +1,10 @@
 -- What is sound by the model of an object is so by its answers.
-use Rattle.std.proofs.Common.{◌≡◌, List, [], ◌∷◌, refl, sym, ap, ◌∙◌, subst}
-use Rattle.std.specs.Prelude.{◌↔◌, Result, Ok, Err, IfOk}
-use Rattle.std.specs.List.{AllByRecursion}
-use Rattle.std.proofs.lemmas.List.{length-map}
-use Rattle.event_log.specs.declared.object.SeqObject.{Ghosts}
-use Rattle.event_log.specs.declared.event.Step.{Step}
-use Rattle.event_log.specs.declared.event.Event.{Event}
-use Rattle.event_log.specs.declared.entry.Run.{Run}
-use Rattle.event_log.specs.Log.{after, AreAnswers, LegalFrom}
+use Rattle.std.proofs.{Common.{◌≡◌, List, [], ◌∷◌, refl, sym, ap, ◌∙◌, subst}, lemmas.List.length-map}
+use Rattle.std.specs.{Prelude.{◌↔◌, Result, Ok, Err, IfOk}, List.AllByRecursion}
+use Rattle.event_log.specs.{declared.object.SeqObject.Ghosts, declared.event.Step.Step, declared.event.Event.Event, declared.entry.Run.Run, Log.{after, AreAnswers, LegalFrom}}
 use Rattle.sound_run.specs.Sound.{Opened, Sound, EntryIsSound, transcript_of}
 use Rattle.sound_run.proofs.Slices.{map_get, get_map}
-use Rattle.auditor.specs.ByModels.{LogIsSoundBy, SoundBy}
-use Rattle.auditor.specs.StepModels.{object_model, behind_all, AreRightFrom, LegalBy}
-use Rattle.auditor.specs.Terms.{start, starts, opened_list}
+use Rattle.auditor.specs.{ByModels.{LogIsSoundBy, SoundBy}, StepModels.{object_model, behind_all, AreRightFrom, LegalBy}, Terms.{start, starts, opened_list}}
 
 module _ {O P C R : Type 0} (meaning : Ghosts O P C R) where
   same_after : (s : O) (steps : List (Step O P C R)) → behind_all (object_model meaning) s steps ≡ after meaning s steps

@@ -1,33 +1,14 @@
 -- A judge that has received the parts of a record.
-use Rattle.std.proofs.Common.{◌≡◌, ◌≤◌, ◌+◌, ◌++◌, ℕ, Bool, true, false, if◌then◌else◌, List, [], ◌∷◌, length, take, Some, slice_get, sym, ap, ◌∙◌, subst, arith}
+use Rattle.std.proofs.{Common.{◌≡◌, ◌≤◌, ◌+◌, ◌++◌, ℕ, Bool, true, false, if◌then◌else◌, List, [], ◌∷◌, length, take, Some, slice_get, sym, ap, ◌∙◌, subst, arith}, lemmas.List.{length-map, length-take-le, take_more, take_all}, lemmas.Option.{slice_get_within, get_or_from_slice_get}}
 use Rattle.std.specs.List.{AllByRecursion}
-use Rattle.std.proofs.lemmas.List.{length-map, length-take-le, take_more, take_all}
-use Rattle.std.proofs.lemmas.Option.{slice_get_within, get_or_from_slice_get}
 use Rattle.sound_run.specs.Sound.{Opened}
 use Rattle.sound_run.proofs.Slices.{map_get, get_map}
-use Rattle.kernel_object.specs.declared.call.KParams.{KParams}
-use Rattle.kernel_object.specs.declared.call.KCall.{KCall}
-use Rattle.kernel_object.specs.declared.call.KReply.{KReply}
-use Rattle.kernel_object.specs.declared.object.KernelObject.{KernelObject}
-use Rattle.kernel_object.specs.contracts.object.KernelObjectSeqObject.TheImpl.{ghosts as kernel}
-use Rattle.kernel_object.specs.Kernel.{kernel_in_range}
+use Rattle.kernel_object.specs.{declared.call.KParams.KParams, declared.call.KCall.KCall, declared.call.KReply.KReply, declared.object.KernelObject.KernelObject, contracts.object.KernelObjectSeqObject.TheImpl.{ghosts as kernel}, Kernel.kernel_in_range}
 use Rattle.kernel_words.specs.declared.form.Form.{Form}
 use Rattle.record_lines.specs.Received.{InLogs, InTranscripts, IsAtHead, IsWholeWith}
-use Rattle.records.specs.contracts.record.kernel_form.KernelFormRecordForm.TheImpl.{ghosts as kernel_form}
-use Rattle.records.specs.KernelForm.{Head, settings_in}
-use Rattle.records.specs.RecordRanges.{RecordFits}
-use Rattle.records.specs.RecordStates.{KernelReceived, received_record}
-use Rattle.records.specs.Runs.{opened_of}
-use Rattle.records.specs.Settings.{ObjectFits}
-use Rattle.auditor.specs.ReceivedRun.{ReceivedRun, log_begun, run_of}
-use Rattle.auditor.specs.JudgedParts.{judged_parts, begun_logs, HasReceivedParts}
-use Rattle.auditor.specs.Passes.{IsRunOver}
-use Rattle.auditor.specs.SoFar.{IsBeforeLog, IsInLog, HasLogs, IsInTranscripts}
-use Rattle.auditor.specs.Terms.{Terms, terms_at, start, starts}
-use Rattle.auditor.specs.Transcripts.{judged_by}
-use Rattle.auditor.proofs.JudgeTerms.{started, run_over}
-use Rattle.auditor.proofs.RecordRuns.{KernelTerms, object_opened, record_run}
-use Rattle.auditor.proofs.Verdicts.{all_at}
+use Rattle.records.specs.{contracts.record.kernel_form.KernelFormRecordForm.TheImpl.{ghosts as kernel_form}, KernelForm.{Head, settings_in}, RecordRanges.RecordFits, RecordStates.{KernelReceived, received_record}, Runs.opened_of, Settings.ObjectFits}
+use Rattle.auditor.specs.{ReceivedRun.{ReceivedRun, log_begun, run_of}, JudgedParts.{judged_parts, begun_logs, HasReceivedParts}, Passes.IsRunOver, SoFar.{IsBeforeLog, IsInLog, HasLogs, IsInTranscripts}, Terms.{Terms, terms_at, start, starts}, Transcripts.judged_by}
+use Rattle.auditor.proofs.{JudgeTerms.{started, run_over}, RecordRuns.{KernelTerms, object_opened, record_run}, Verdicts.all_at}
 
 module _ (head : Head) (begun : Bool) (opened : List KernelTerms) (log : ℕ) (d : ReceivedRun KernelObject KernelObject KParams KCall KReply) (fed : HasReceivedParts (judged_parts head begun d) opened log d) where
   abbrev P : KernelReceived

@@ -1,22 +1,12 @@
 -- The run of a record is one over the objects of its settings.
-use Rattle.std.proofs.Common.{◌≡◌, ℕ, List, length, slice_get, sym, ap, ◌∙◌, arith}
-use Rattle.std.proofs.lemmas.List.{length-map}
+use Rattle.std.proofs.{Common.{◌≡◌, ℕ, List, length, slice_get, sym, ap, ◌∙◌, arith}, lemmas.List.length-map}
 use Rattle.event_log.proofs.Each.{each_list_at}
 use Rattle.sound_run.specs.Sound.{Opened, transcript_of, log_of}
 use Rattle.sound_run.proofs.Slices.{map_get, get_map}
-use Rattle.kernel_object.specs.declared.call.KParams.{KParams}
-use Rattle.kernel_object.specs.declared.call.KCall.{KCall}
-use Rattle.kernel_object.specs.declared.call.KReply.{KReply}
-use Rattle.kernel_object.specs.declared.object.KernelObject.{KernelObject}
-use Rattle.kernel_object.specs.contracts.object.KernelObjectSeqObject.TheImpl.{ghosts as kernel}
-use Rattle.kernel_object.specs.Kernel.{kernel_in_range}
+use Rattle.kernel_object.specs.{declared.call.KParams.KParams, declared.call.KCall.KCall, declared.call.KReply.KReply, declared.object.KernelObject.KernelObject, contracts.object.KernelObjectSeqObject.TheImpl.{ghosts as kernel}, Kernel.kernel_in_range}
 use Rattle.kernel_words.specs.declared.form.TheConstants.{WRITTEN}
-use Rattle.records.specs.RecordRanges.{Record, RecordFits, EventFits, EntryFits, LogFits, TranscriptFits}
-use Rattle.records.specs.Runs.{opened_of}
-use Rattle.records.specs.Settings.{ObjectSettings, ObjectFits}
-use Rattle.auditor.specs.declared.opened_object.OpenedObject.{OpenedObject}
-use Rattle.auditor.specs.Passes.{IsRunOf}
-use Rattle.auditor.specs.Transcripts.{judged_by, opened_by}
+use Rattle.records.specs.{RecordRanges.{Record, RecordFits, EventFits, EntryFits, LogFits, TranscriptFits}, Runs.opened_of, Settings.{ObjectSettings, ObjectFits}}
+use Rattle.auditor.specs.{declared.opened_object.OpenedObject.OpenedObject, Passes.IsRunOf, Transcripts.{judged_by, opened_by}}
 use Rattle.auditor.proofs.Verdicts.{all_at}
 
 abbrev pub KernelTerms : Type 0

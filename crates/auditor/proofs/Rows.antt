@@ -1,15 +1,8 @@
 -- A row of threads between two gates: one goes out, one comes in at the end.
-use Rattle.std.proofs.Common.{◌≡◌, ℕ, zero, suc, ◌+◌, ◌-◌, ◌<◌, ◌≤◌, ◌==◌, Bool, true, false, not, List, [], ◌∷◌, ◌++◌, length, get_or, set, refl, sym, ap, ◌∙◌, subst, arith, length-append, length-set}
-use Rattle.std.proofs.lemmas.Bool.{ne_eqb, false_from_ne_true}
-use Rattle.std.proofs.lemmas.List.Elements.{filter-append}
-use Rattle.event_log.specs.Distinct.{has, without, AreDistinctBelow}
-use Rattle.event_log.specs.Links.{walk, last_of, Linked, IsChain}
-use Rattle.event_log.specs.declared.chain.Ends.{Ends}
-use Rattle.event_log.proofs.Cells.{alone}
-use Rattle.event_log.proofs.Chained.{here, in_front, there, member_below, distinct_front, without_split, split_at, joins_both, cuts_within, inner_cells}
-use Rattle.event_log.proofs.Distinct.{distinct_push, has_push}
-use Rattle.auditor.specs.Marks.{AreMarked}
-use Rattle.auditor.specs.Row.{row_of, IsRow}
+use Rattle.std.proofs.{Common.{◌≡◌, ℕ, zero, suc, ◌+◌, ◌-◌, ◌<◌, ◌≤◌, ◌==◌, Bool, true, false, not, List, [], ◌∷◌, ◌++◌, length, get_or, set, refl, sym, ap, ◌∙◌, subst, arith, length-append, length-set}, lemmas.Bool.{ne_eqb, false_from_ne_true}, lemmas.List.Elements.filter-append}
+use Rattle.event_log.specs.{Distinct.{has, without, AreDistinctBelow}, Links.{walk, last_of, Linked, IsChain}, declared.chain.Ends.Ends}
+use Rattle.event_log.proofs.{Cells.alone, Chained.{here, in_front, there, member_below, distinct_front, without_split, split_at, joins_both, cuts_within, inner_cells}, Distinct.{distinct_push, has_push}}
+use Rattle.auditor.specs.{Marks.AreMarked, Row.{row_of, IsRow}}
 use Rattle.auditor.proofs.MarkedLists.{marked_put, marked_without}
 
 -- the row is walked through from the front gate

@@ -1,13 +1,10 @@
 -- Why a text was not judged, by why its record was not read.
 use Rattle.std.proofs.Common.{◌≡◌, ℕ, List, Option, Result, Ok, Err, sym, ap, subst}
 use Rattle.std.specs.Result.{IsErrAnd, IfErr}
-use Rattle.record_lines.specs.declared.text.fault.TextFault.{TextFault}
+use Rattle.record_lines.specs.{declared.text.fault.TextFault.TextFault, Sources.IsReadOut}
+use Rattle.records.specs.{RecordRanges.Record, RecordSources.{NamesBadLineOfRest, IsReadFrom}}
+use Rattle.auditor.specs.{declared.fault.Verdict.Verdict, Audits.{IsTextFault, IsAudited}}
 use Rattle.record_lines.specs.declared.text.fault.TextFault.TheVariants as text_fault
-use Rattle.records.specs.RecordRanges.{Record}
-use Rattle.records.specs.RecordSources.{NamesBadLineOfRest, IsReadFrom}
-use Rattle.record_lines.specs.Sources.{IsReadOut}
-use Rattle.auditor.specs.declared.fault.Verdict.{Verdict}
-use Rattle.auditor.specs.Audits.{IsTextFault, IsAudited}
 
 -- the bad line is that of the reading
 pub text_named : {X : Type 0} (remaining : Option (List ℕ)) (cause : TextFault) (result : Result X TextFault) → IsErrAnd result (λ f. f ≡ cause) → NamesBadLineOfRest remaining cause → IfErr result (IsTextFault remaining)

@@ -1,13 +1,8 @@
 -- What is answered, by case.
-use Rattle.std.proofs.Common.{◌≡◌, ℕ, ◌<◌, nat_le, false, [], ◌∷◌, ◌++◌, length, refl, ap, arith}
-use Rattle.std.proofs.lemmas.Bool.Decides.{nat_tests}
+use Rattle.std.proofs.{Common.{◌≡◌, ℕ, ◌<◌, nat_le, false, [], ◌∷◌, ◌++◌, length, refl, ap, arith}, lemmas.Bool.Decides.nat_tests}
 use Rattle.event_log.specs.Distinct.{has}
-use Rattle.shared_queue.specs.State.{QueueState}
-use Rattle.shared_queue.specs.Answer.{enq_answer}
-use Rattle.shared_queue.specs.declared.call.QueueReply.TheVariants.{Ok}
-use Rattle.wake_list.specs.State.{SchedState}
-use Rattle.wake_list.specs.Answer.{sleepers, wake_answer, woken_answer}
-use Rattle.wake_list.specs.declared.call.SchedReply.TheVariants.{Empty}
+use Rattle.shared_queue.specs.{State.QueueState, Answer.enq_answer, declared.call.QueueReply.TheVariants.Ok}
+use Rattle.wake_list.specs.{State.SchedState, Answer.{sleepers, wake_answer, woken_answer}, declared.call.SchedReply.TheVariants.Empty}
 
 pub enq_ok : (q : QueueState) (t : ℕ) → t < q.threads → has t q.list ≡ false → enq_answer q t ≡ (record q { list = q.list ++ t ∷ [] }, Ok)
 enq_ok q t lt absent =

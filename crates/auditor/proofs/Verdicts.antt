@@ -1,32 +1,15 @@
 -- A run without the auditor's faults is sound, and a sound run has none.
-use Rattle.std.proofs.Common.{◌≡◌, ⊎_elim, ℕ, zero, suc, ◌+◌, ◌<◌, ◌≤◌, List, [], ◌∷◌, ◌++◌, length, take, drop, slice_get, Option, Some, None, refl, sym, ap, ◌∙◌, subst, arith, length-append}
-use Rattle.std.proofs.lemmas.Option.{slice_get_within}
-use Rattle.std.specs.Prelude.{unwrap_or}
-use Rattle.std.specs.List.{AllByRecursion}
+use Rattle.std.proofs.{Common.{◌≡◌, ⊎_elim, ℕ, zero, suc, ◌+◌, ◌<◌, ◌≤◌, List, [], ◌∷◌, ◌++◌, length, take, drop, slice_get, Option, Some, None, refl, sym, ap, ◌∙◌, subst, arith, length-append}, lemmas.Option.slice_get_within}
+use Rattle.std.specs.{Prelude.unwrap_or, List.AllByRecursion}
 use Rattle.arrayvec.specs.ArrayVec.{ArrayVec}
-use Rattle.event_log.specs.declared.event.Event.{Event}
-use Rattle.event_log.specs.declared.event.Steps.{Steps}
-use Rattle.event_log.specs.declared.entry.Done.{Done}
-use Rattle.event_log.specs.declared.entry.Done.TheVariants as done
-use Rattle.event_log.specs.declared.entry.Entry.{Entry}
-use Rattle.event_log.specs.declared.entry.Run.{Run}
+use Rattle.event_log.specs.{declared.event.Event.Event, declared.event.Steps.Steps, declared.entry.Done.Done, declared.entry.Entry.Entry, declared.entry.Run.Run}
 use Rattle.event_log.proofs.Lists.{some_at, cut}
 use Rattle.sound_run.specs.Sound.{Opened, EntryIsSound, Answers, NoneAfterFull, transcript_of, log_of, done_on, steps_by}
-use Rattle.sound_run.proofs.Slices.{one_of, map_get}
-use Rattle.sound_run.proofs.Entries.{done_append, done_without}
-use Rattle.auditor.specs.declared.fault.Fault.{Fault}
+use Rattle.sound_run.proofs.{Slices.{one_of, map_get}, Entries.{done_append, done_without}}
+use Rattle.auditor.specs.{declared.fault.Fault.Fault, Faults.{done_before, events_before, HadRoom, IsNotItsEvent, IsNotAsked, IsUnclaimed, IsFaultBy}, Claims.IsRight, Passes.AreSoundBefore, Transcripts.IsRightAt, ByModels.SoundBy, NoFaults.HasNoFaultBy, StepModels.StepModel, Terms.{Terms, opened_as, opened_list}}
+use Rattle.auditor.proofs.{OwnEvents.own_steps, Ranked.{done_at, done_of}, LogFaults.{none_long, none_wrong}}
+use Rattle.event_log.specs.declared.entry.Done.TheVariants as done
 use Rattle.auditor.specs.declared.fault.Fault.TheVariants as fault
-use Rattle.auditor.specs.Faults.{done_before, events_before, HadRoom, IsNotItsEvent, IsNotAsked, IsUnclaimed, IsFaultBy}
-use Rattle.auditor.specs.Claims.{IsRight}
-use Rattle.auditor.specs.Passes.{AreSoundBefore}
-use Rattle.auditor.specs.Transcripts.{IsRightAt}
-use Rattle.auditor.proofs.OwnEvents.{own_steps}
-use Rattle.auditor.proofs.Ranked.{done_at, done_of}
-use Rattle.auditor.proofs.LogFaults.{none_long, none_wrong}
-use Rattle.auditor.specs.ByModels.{SoundBy}
-use Rattle.auditor.specs.NoFaults.{HasNoFaultBy}
-use Rattle.auditor.specs.StepModels.{StepModel}
-use Rattle.auditor.specs.Terms.{Terms, opened_as, opened_list}
 
 module _ {X : Type 0} where
   same_lists : (xs ys : List X) → ((r : ℕ) (x : X) → slice_get xs r ≡ Some x → slice_get ys r ≡ Some x) → length ys ≤ length xs → xs ≡ ys

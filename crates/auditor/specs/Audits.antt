@@ -1,18 +1,12 @@
 -- What is said of a record, and of a text.
 use Rattle.std.specs.Prelude.{◌≡◌, ◌↔◌, ℕ, List, Option, Result, Ok, Err}
 use Rattle.kernel_object.specs.contracts.object.KernelObjectSeqObject.TheImpl.{ghosts as kernel}
-use Rattle.record_lines.specs.declared.text.fault.TextFault.{TextFault}
-use Rattle.record_lines.specs.declared.text.fault.TextFault.TheVariants as text_fault
-use Rattle.records.specs.RecordFaults.{IsWhole}
-use Rattle.records.specs.RecordRanges.{Record}
-use Rattle.records.specs.RecordSources.{NamesBadLineOfRest}
-use Rattle.records.specs.Runs.{opened_of}
-use Rattle.record_lines.specs.Sources.{IsRest}
+use Rattle.record_lines.specs.{declared.text.fault.TextFault.TextFault, Sources.IsRest}
+use Rattle.records.specs.{RecordFaults.IsWhole, RecordRanges.Record, RecordSources.NamesBadLineOfRest, Runs.opened_of}
 use Rattle.sound_run.specs.Sound.{Sound}
-use Rattle.auditor.specs.declared.fault.Fault.{Fault}
-use Rattle.auditor.specs.declared.fault.Verdict.{Verdict}
+use Rattle.auditor.specs.{declared.fault.Fault.Fault, declared.fault.Verdict.Verdict, Faults.IsFirstFault}
+use Rattle.record_lines.specs.declared.text.fault.TextFault.TheVariants as text_fault
 use Rattle.auditor.specs.declared.fault.Verdict.TheVariants as verdict
-use Rattle.auditor.specs.Faults.{IsFirstFault}
 
 -- a sound record is called so, and an unsound one by its first fault
 pub record IsVerdict (r : Record) (v : Verdict) : Type 0 where

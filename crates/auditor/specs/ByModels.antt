@@ -1,11 +1,8 @@
 -- Sound runs by any model of which steps are right.
-use Rattle.std.specs.Prelude.{◌≡◌, ℕ, ◌≤◌, List, length, Some, slice_get}
-use Rattle.std.specs.List.{AllByRecursion}
-use Rattle.event_log.specs.declared.event.Event.{Event}
-use Rattle.event_log.specs.declared.entry.Run.{Run}
+use Rattle.std.specs.{Prelude.{◌≡◌, ℕ, ◌≤◌, List, length, Some, slice_get}, List.AllByRecursion}
+use Rattle.event_log.specs.{declared.event.Event.Event, declared.entry.Run.Run}
 use Rattle.sound_run.specs.Sound.{transcript_of, done_on, steps_by, EntryIsSound, NoneAfterFull}
-use Rattle.auditor.specs.StepModels.{StepModel, LegalBy}
-use Rattle.auditor.specs.Terms.{Terms, opened_list}
+use Rattle.auditor.specs.{StepModels.{StepModel, LegalBy}, Terms.{Terms, opened_list}}
 
 module _ {T O P C R : Type 0} (model : StepModel T O P C R) where
   -- the steps of the log are right, and it is within its limit

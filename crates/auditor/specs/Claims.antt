@@ -1,15 +1,10 @@
 -- How entries take events, one after the other.
 use Rattle.std.specs.Prelude.{◌≡◌, ◌≢◌, ◌⊎◌, ℕ, ◌+◌, ◌<◌, ◌≤◌, List, length, Result, Ok, Err, Some, slice_get}
 use Rattle.arrayvec.specs.ArrayVec.{ArrayVec}
-use Rattle.event_log.specs.declared.object.SeqObject.{Ghosts}
-use Rattle.event_log.specs.declared.event.Event.{Event}
-use Rattle.event_log.specs.declared.entry.Done.{Done}
-use Rattle.event_log.specs.declared.entry.Done.TheVariants as done
-use Rattle.event_log.specs.declared.entry.Entry.{Entry}
-use Rattle.event_log.specs.Log.{Fulfils}
+use Rattle.event_log.specs.{declared.object.SeqObject.Ghosts, declared.event.Event.Event, declared.entry.Done.Done, declared.entry.Entry.Entry, Log.Fulfils}
 use Rattle.sound_run.specs.Sound.{steps_by}
-use Rattle.auditor.specs.NextEvents.{IsAt}
-use Rattle.auditor.specs.declared.fault.Fault.{Fault}
+use Rattle.auditor.specs.{NextEvents.IsAt, declared.fault.Fault.Fault}
+use Rattle.event_log.specs.declared.entry.Done.TheVariants as done
 use Rattle.auditor.specs.declared.fault.Fault.TheVariants as fault
 
 module _ {O P C R : Type 0} where

@@ -1,18 +1,8 @@
 -- The state of a judge, by what it has received.
 use Rattle.std.specs.Prelude.{◌≡◌, ℕ, ◌<◌, ◌≤◌, List, length, Option, Some, None, slice_get}
-use Rattle.event_log.specs.declared.object.SeqObject.{Ghosts}
-use Rattle.event_log.specs.declared.event.Event.{Event}
-use Rattle.event_log.specs.declared.entry.Run.{Run}
+use Rattle.event_log.specs.{declared.object.SeqObject.Ghosts, declared.event.Event.Event, declared.entry.Run.Run}
 use Rattle.sound_run.specs.Sound.{done_on}
-use Rattle.auditor.specs.declared.fault.Fault.{Fault}
-use Rattle.auditor.specs.declared.kept_log.KeptLog.{KeptLog}
-use Rattle.auditor.specs.declared.replay.Replay.{Replay}
-use Rattle.auditor.specs.ReceivedRun.{ReceivedRun}
-use Rattle.auditor.specs.NextEvents.{IsAt, AreNextEvents}
-use Rattle.auditor.specs.Passes.{IsEnd}
-use Rattle.auditor.specs.SoFar.{IsInLog, IsWith, IsFaultSoFar, IsRightSoFar}
-use Rattle.auditor.specs.StepModels.{StepModel, replay_by}
-use Rattle.auditor.specs.Terms.{Terms, opened_list}
+use Rattle.auditor.specs.{declared.fault.Fault.Fault, declared.kept_log.KeptLog.KeptLog, declared.replay.Replay.Replay, ReceivedRun.ReceivedRun, NextEvents.{IsAt, AreNextEvents}, Passes.IsEnd, SoFar.{IsInLog, IsWith, IsFaultSoFar, IsRightSoFar}, StepModels.{StepModel, replay_by}, Terms.{Terms, opened_list}}
 
 module _ {T O P C R J W : Type 0} (model : StepModel T O P C R) (shows : J → T) (d : ReceivedRun T O P C R) where
   -- the log that is being read

@@ -1,17 +1,8 @@
 -- A judge of a record that was handed over in parts.
 use Rattle.std.specs.Prelude.{◌≡◌, ℕ, ◌+◌, Bool, if◌then◌else◌, List, length, take}
-use Rattle.kernel_object.specs.declared.object.KernelObject.{KernelObject}
-use Rattle.kernel_object.specs.declared.call.KParams.{KParams}
-use Rattle.kernel_object.specs.declared.call.KCall.{KCall}
-use Rattle.kernel_object.specs.declared.call.KReply.{KReply}
-use Rattle.kernel_object.specs.contracts.object.KernelObjectSeqObject.TheImpl.{ghosts as kernel}
-use Rattle.records.specs.KernelForm.{Head, settings_in}
-use Rattle.records.specs.RecordStates.{KernelReceived}
-use Rattle.records.specs.Runs.{opened_of}
-use Rattle.auditor.specs.declared.opened_object.OpenedObject.{OpenedObject}
-use Rattle.auditor.specs.ReceivedRun.{ReceivedRun}
-use Rattle.auditor.specs.Terms.{starts}
-use Rattle.auditor.specs.Transcripts.{opened_by}
+use Rattle.kernel_object.specs.{declared.object.KernelObject.KernelObject, declared.call.KParams.KParams, declared.call.KCall.KCall, declared.call.KReply.KReply, contracts.object.KernelObjectSeqObject.TheImpl.{ghosts as kernel}}
+use Rattle.records.specs.{KernelForm.{Head, settings_in}, RecordStates.KernelReceived, Runs.opened_of}
+use Rattle.auditor.specs.{declared.opened_object.OpenedObject.OpenedObject, ReceivedRun.ReceivedRun, Terms.starts, Transcripts.opened_by}
 
 -- what the judge has received, as parts of a record with that head
 abbrev pub judged_parts : Head → Bool → ReceivedRun KernelObject KernelObject KParams KCall KReply → KernelReceived

@@ -1,11 +1,6 @@
 -- What a judge has received so far, and how it grows.
 use Rattle.std.specs.Prelude.{ℕ, List, [], ◌∷◌, ◌++◌, length, Option, Some, None, slice_get, ◌≡◌}
-use Rattle.event_log.specs.declared.event.Event.{Event}
-use Rattle.event_log.specs.declared.event.Step.{Step}
-use Rattle.event_log.specs.declared.entry.Done.{Done}
-use Rattle.event_log.specs.declared.entry.Done.TheVariants.{Steps}
-use Rattle.event_log.specs.declared.entry.Entry.{Entry}
-use Rattle.event_log.specs.declared.entry.Run.{Run}
+use Rattle.event_log.specs.{declared.event.Event.Event, declared.event.Step.Step, declared.entry.Done.Done, declared.entry.Done.TheVariants.Steps, declared.entry.Entry.Entry, declared.entry.Run.Run}
 use Rattle.auditor.specs.Terms.{Terms}
 
 -- how many CPUs and objects the run has; what the objects of the logs begun so far are judged by; how many events or entries

@@ -1,6 +1,5 @@
 -- What a reference object shows.
-use Rattle.kernel_object.specs.declared.object.KernelObject.{KernelObject}
-use Rattle.kernel_object.specs.declared.object.KernelObject.TheVariants.{Queue, Pool, Console, Sched}
+use Rattle.kernel_object.specs.{declared.object.KernelObject.KernelObject, declared.object.KernelObject.TheVariants.{Queue, Pool, Console, Sched}}
 use Rattle.auditor.specs.declared.references.object.ReferenceKernelObject.{ReferenceKernelObject}
 use Rattle.auditor.specs.declared.references.object.ReferenceKernelObject.TheVariants as reference
 

@@ -2,16 +2,8 @@
 use Rattle.std.specs.Prelude.{◌≡◌, ◌+◌, ◌<◌, ◌≤◌, List, [], ◌++◌, length, Some, slice_get}
 use Rattle.event_log.specs.declared.entry.Run.{Run}
 use Rattle.sound_run.specs.Sound.{transcript_of, log_of}
-use Rattle.auditor.specs.declared.fault.Fault.{Fault}
-use Rattle.auditor.specs.declared.fault.Verdict.{Verdict}
+use Rattle.auditor.specs.{declared.fault.Fault.Fault, declared.fault.Verdict.Verdict, ByModels.SoundBy, Faults.IsFirstFaultBy, ReceivedRun.ReceivedRun, Passes.{IsRunOver, AreSoundBefore, AreRightTo}, StepModels.{StepModel, LegalBy}, Terms.Terms, Transcripts.AreRightBefore}
 use Rattle.auditor.specs.declared.fault.Verdict.TheVariants as verdict
-use Rattle.auditor.specs.ByModels.{SoundBy}
-use Rattle.auditor.specs.Faults.{IsFirstFaultBy}
-use Rattle.auditor.specs.ReceivedRun.{ReceivedRun}
-use Rattle.auditor.specs.Passes.{IsRunOver, AreSoundBefore, AreRightTo}
-use Rattle.auditor.specs.StepModels.{StepModel, LegalBy}
-use Rattle.auditor.specs.Terms.{Terms}
-use Rattle.auditor.specs.Transcripts.{AreRightBefore}
 
 module _ {X : Type 0} where
   -- the second list begins with the first

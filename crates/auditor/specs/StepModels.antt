@@ -1,9 +1,6 @@
 -- Which steps are right.
 use Rattle.std.specs.Prelude.{◌≡◌, ◌⊎◌, ℕ, zero, suc, ◌-◌, ◌<◌, ◌≤◌, true, false, List, [], ◌∷◌, length}
-use Rattle.event_log.specs.declared.object.SeqObject.{Ghosts}
-use Rattle.event_log.specs.declared.event.Step.{Step}
-use Rattle.event_log.specs.declared.event.Event.{Event}
-use Rattle.event_log.specs.declared.event.TheConstants.{MOST_CALLS}
+use Rattle.event_log.specs.{declared.object.SeqObject.Ghosts, declared.event.Step.Step, declared.event.Event.Event, declared.event.TheConstants.MOST_CALLS}
 
 -- which replies refuse; whether a step is right in a state; the state behind a step that is
 pub record StepModel (T O P C R : Type 0) : Type 1 where

@@ -1,13 +1,8 @@
 -- A CPU's transcript against the logs.
 use Rattle.std.specs.Prelude.{◌≡◌, ℕ, ◌<◌, List, [], map, Some, slice_get, unwrap_or}
-use Rattle.event_log.specs.declared.object.SeqObject.{Ghosts}
-use Rattle.event_log.specs.declared.event.Event.{Event}
-use Rattle.event_log.specs.declared.entry.Entry.{Entry}
+use Rattle.event_log.specs.{declared.object.SeqObject.Ghosts, declared.event.Event.Event, declared.entry.Entry.Entry}
 use Rattle.sound_run.specs.Sound.{Opened}
-use Rattle.auditor.specs.declared.opened_object.OpenedObject.{OpenedObject}
-use Rattle.auditor.specs.Faults.{done_before}
-use Rattle.auditor.specs.Claims.{IsRight}
-use Rattle.auditor.specs.Terms.{Terms}
+use Rattle.auditor.specs.{declared.opened_object.OpenedObject.OpenedObject, Faults.done_before, Claims.IsRight, Terms.Terms}
 
 module _ {O P C R : Type 0} where
   -- what an object is judged by

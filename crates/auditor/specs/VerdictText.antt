@@ -1,10 +1,7 @@
 -- The text of a verdict.
 use Rattle.std.specs.Prelude.{ℕ, ◌+◌, ◌<◌, ◌^◌, List, [], ◌∷◌, ◌++◌, length, codes, decimal}
 use Rattle.records.specs.Settings.{Settings, name_at}
-use Rattle.auditor.specs.declared.fault.Fault.{Fault}
-use Rattle.auditor.specs.declared.fault.Fault.TheVariants.{TooLong, WrongStep, RoomWasLeft, NotItsEvent, NotAsked, Unclaimed}
-use Rattle.auditor.specs.declared.fault.Verdict.{Verdict}
-use Rattle.auditor.specs.declared.fault.Verdict.TheVariants.{Sound, Unsound}
+use Rattle.auditor.specs.{declared.fault.Fault.Fault, declared.fault.Fault.TheVariants.{TooLong, WrongStep, RoomWasLeft, NotItsEvent, NotAsked, Unclaimed}, declared.fault.Verdict.Verdict, declared.fault.Verdict.TheVariants.{Sound, Unsound}}
 
 -- `log NAME`, and what follows
 abbrev pub on_log : Settings → ℕ → List ℕ → List ℕ

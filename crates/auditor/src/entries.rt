@@ -1,8 +1,7 @@
 //! An entry against its CPU's next event.
 
 ghost use Rattle.std.specs.Prelude.{◌≡◌, ℕ, ◌≤◌, length};
-ghost use Rattle.auditor.specs.Claims.{IsJudged};
-ghost use Rattle.auditor.specs.NextEvents.{IsAt, AreNextEvents};
+ghost use Rattle.auditor.specs.{Claims.IsJudged, NextEvents.{IsAt, AreNextEvents}};
 
 use crate::compare::fulfil;
 use crate::kept_log::KeptLog;

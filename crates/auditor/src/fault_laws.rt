@@ -3,9 +3,7 @@
 ghost use Rattle.std.specs.Prelude.{◌≡◌, List};
 ghost use Rattle.event_log.specs.declared.entry.Run.{Run};
 ghost use Rattle.sound_run.specs.Sound.{Opened, Sound};
-ghost use Rattle.auditor.specs.Faults.{IsFault, IsFirstFault};
-ghost use Rattle.auditor.specs.NoFaults.{HasNoFault};
-ghost use Rattle.auditor.specs.Transcripts.{opened_by};
+ghost use Rattle.auditor.specs.{Faults.{IsFault, IsFirstFault}, NoFaults.HasNoFault, Transcripts.opened_by};
 
 use crate::{Fault, OpenedObject};
 use event_log::SeqObject;

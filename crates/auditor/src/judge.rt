@@ -1,15 +1,9 @@
 //! Whole runs over any object.
 
 ghost use Rattle.std.specs.Prelude.{◌≡◌, ◌<◌, ◌↔◌, ℕ, true, [], ◌∷◌, ◌++◌, length, Some, slice_get, IfOk, OnOk};
-ghost use Rattle.event_log.specs.declared.event.Event.{Event as Shown};
-ghost use Rattle.event_log.specs.declared.entry.Entry.{Entry as ShownEntry};
+ghost use Rattle.event_log.specs.{declared.event.Event.{Event as Shown}, declared.entry.Entry.{Entry as ShownEntry}};
 ghost use Rattle.sound_run.specs.Sound.{Sound};
-ghost use Rattle.auditor.specs.Faults.{HasSteps, IsFirstFault};
-ghost use Rattle.auditor.specs.ReceivedRun.{nothing, event_received, log_received, logs_received, transcript_received, run_received};
-ghost use Rattle.auditor.specs.Passes.{IsRunOf};
-ghost use Rattle.auditor.specs.SoFar.{IsBeforeLog, IsInLog, IsInTranscripts};
-ghost use Rattle.auditor.specs.Terms.{terms_at, start, starts};
-ghost use Rattle.auditor.specs.Transcripts.{judged_by, opened_by};
+ghost use Rattle.auditor.specs.{Faults.{HasSteps, IsFirstFault}, ReceivedRun.{nothing, event_received, log_received, logs_received, transcript_received, run_received}, Passes.IsRunOf, SoFar.{IsBeforeLog, IsInLog, IsInTranscripts}, Terms.{terms_at, start, starts}, Transcripts.{judged_by, opened_by}};
 
 use crate::packed_steps::PackedSteps;
 use crate::run_judge::RunJudge;

@@ -2,9 +2,8 @@
 
 ghost use Rattle.std.specs.Prelude.{◌≡◌, length, map, option_map, slice_get};
 ghost use Rattle.auditor.specs.KeptLogs.{events_in};
-ghost use Rattle.record_lines.specs.Reading.{words};
+ghost use Rattle.record_lines.specs.{Reading.words, Words.separated};
 ghost use Rattle.kernel_words.specs.ItemText.{step_words};
-ghost use Rattle.record_lines.specs.Words.{separated};
 ghost use Rattle.sound_run.specs.Sound.{log_of};
 
 use crate::StepRows;

@@ -1,8 +1,7 @@
 //! What a judge has received, which contracts alone know.
 
 ghost use Rattle.std.specs.Prelude.{◌≡◌, ◌<◌, ◌+◌, ◌∷◌, [], ◌++◌, List, length};
-ghost use Rattle.auditor.specs.ReceivedRun.{nothing, log_begun, event_received, log_ended, transcript_begun, entry_received, transcript_ended, run_of};
-ghost use Rattle.auditor.specs.Terms.{terms_at};
+ghost use Rattle.auditor.specs.{ReceivedRun.{nothing, log_begun, event_received, log_ended, transcript_begun, entry_received, transcript_ended, run_of}, Terms.terms_at};
 ghost use Rattle.event_log.specs.declared.entry.Entry.{Entry as Shown};
 
 use crate::{OpenedObject, StepJudge};
@@ -28,8 +27,7 @@ pub struct ReceivedRun<O: SeqObject, J: StepJudge<O>> {
 
 impl<O: SeqObject, J: StepJudge<O>> Model for ReceivedRun<O, J> {
     ghost use Rattle.std.specs.Prelude.{◌≡◌, length};
-    ghost use Rattle.auditor.specs.ReceivedRun.{ReceivedRun};
-    ghost use Rattle.auditor.specs.Terms.{terms_with};
+    ghost use Rattle.auditor.specs.{ReceivedRun.ReceivedRun, Terms.terms_with};
 
     ghost Value = { ReceivedRun J.State O O.Params O.Call O.Reply };
 

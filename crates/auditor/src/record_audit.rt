@@ -3,8 +3,7 @@
 ghost use Rattle.std.specs.Prelude.{◌≡◌, ◌↔◌, IfOk};
 ghost use Rattle.sound_run.specs.Sound.{Sound};
 ghost use Rattle.records.specs.Runs.{opened_of};
-ghost use Rattle.auditor.specs.Faults.{IsFirstFault};
-ghost use Rattle.auditor.specs.VerdictText.{CanBeReported};
+ghost use Rattle.auditor.specs.{Faults.IsFirstFault, VerdictText.CanBeReported};
 
 use crate::judge::judge_run;
 use crate::record_judge::objects_of;

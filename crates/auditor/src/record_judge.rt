@@ -2,14 +2,9 @@
 
 ghost use Rattle.std.specs.Prelude.{◌≡◌, ◌↔◌, IfOk, IfErr};
 ghost use Rattle.record_lines.specs.Received.{only_head, IsWholeWith};
-ghost use Rattle.records.specs.KernelForm.{no_head, settings_in};
+ghost use Rattle.records.specs.{KernelForm.{no_head, settings_in}, RecordRanges.RecordFits, RecordStates.received_record, Runs.opened_of};
 ghost use Rattle.sound_run.specs.Sound.{Sound};
-ghost use Rattle.records.specs.RecordRanges.{RecordFits};
-ghost use Rattle.records.specs.RecordStates.{received_record};
-ghost use Rattle.records.specs.Runs.{opened_of};
-ghost use Rattle.auditor.specs.Faults.{IsFirstFault};
-ghost use Rattle.auditor.specs.Transcripts.{opened_by};
-ghost use Rattle.auditor.specs.VerdictText.{CanBeReported, IsNamed};
+ghost use Rattle.auditor.specs.{Faults.IsFirstFault, Transcripts.opened_by, VerdictText.{CanBeReported, IsNamed}};
 
 use crate::run_judge::RunJudge;
 use crate::{Fault, JudgedRun, OpenedObject, ReferenceObject, Replayed, Verdict};
@@ -51,8 +46,7 @@ pub struct RecordJudge<J: ReferenceObject<KernelObject>> {
 
 impl<J: ReferenceObject<KernelObject>> Model for RecordJudge<J> {
     ghost use Rattle.std.specs.Prelude.{get_or};
-    ghost use Rattle.records.specs.KernelForm.{no_head};
-    ghost use Rattle.records.specs.RecordStates.{KernelReceived};
+    ghost use Rattle.records.specs.{KernelForm.no_head, RecordStates.KernelReceived};
     ghost use Rattle.auditor.specs.JudgedParts.{judged_parts, HasReceivedParts};
 
     ghost Value = { KernelReceived };

@@ -2,13 +2,7 @@
 
 ghost use Rattle.event_log.specs.declared.event.Step.{Step};
 ghost use Rattle.std.specs.Prelude.{◌≡◌, ◌↔◌, ◌<◌, false, [], List, Some, length, IsTrue, IfOk, IfErr, OnOk, OnErr};
-ghost use Rattle.auditor.specs.ByModels.{SoundBy};
-ghost use Rattle.auditor.specs.Faults.{HasSteps, IsFirstFaultBy};
-ghost use Rattle.auditor.specs.ReceivedRun.{ReceivedRun, nothing, log_begun, event_received, log_ended, transcript_begun, entry_received, done_entry, transcript_ended, IsStepsOf, run_of};
-ghost use Rattle.auditor.specs.Passes.{IsRunOver};
-ghost use Rattle.auditor.specs.SoFar.{IsBeforeLog, IsInLog, HasLogs, IsInTranscripts};
-ghost use Rattle.auditor.specs.StepModels.{model_by};
-ghost use Rattle.auditor.specs.Terms.{terms_at};
+ghost use Rattle.auditor.specs.{ByModels.SoundBy, Faults.{HasSteps, IsFirstFaultBy}, ReceivedRun.{ReceivedRun, nothing, log_begun, event_received, log_ended, transcript_begun, entry_received, done_entry, transcript_ended, IsStepsOf, run_of}, Passes.IsRunOver, SoFar.{IsBeforeLog, IsInLog, HasLogs, IsInTranscripts}, StepModels.model_by, Terms.terms_at};
 
 use crate::judge_state::JudgeState;
 use crate::received_run::{ReceivedRun, of_one};
@@ -28,9 +22,7 @@ pub struct RunJudge<O: SeqObject, J: StepJudge<O>, R: StepRows<O>> {
 
 impl<O: SeqObject, J: StepJudge<O>, R: StepRows<O>> Model for RunJudge<O, J, R> {
     ghost use Rattle.std.specs.Prelude.{vec_capacity};
-    ghost use Rattle.auditor.specs.ReceivedRun.{ReceivedRun};
-    ghost use Rattle.auditor.specs.JudgeStates.{IsJudgeState};
-    ghost use Rattle.auditor.specs.StepModels.{model_by};
+    ghost use Rattle.auditor.specs.{ReceivedRun.ReceivedRun, JudgeStates.IsJudgeState, StepModels.model_by};
 
     ghost Value = { ReceivedRun J.State O O.Params O.Call O.Reply };
 
@@ -130,7 +122,8 @@ impl<O: SeqObject, J: StepJudge<O>, R: StepRows<O>> RunJudge<O, J, R> {
     {
         match self.notes.recognises(&self.received, object, tail) {
             Some(steps) => {
-                self.received.receive_recognised(object, looks, tail, &steps);
+                self.received
+                    .receive_recognised(object, looks, tail, &steps);
                 true
             }
             None => false,

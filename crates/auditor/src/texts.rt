@@ -3,8 +3,7 @@
 ghost use Rattle.std.specs.Prelude.{◌≡◌, true, Some, Err, IfOk, OnOk, IfErr};
 ghost use Rattle.event_log.specs.Stream.{counted};
 ghost use Rattle.kernel_words.specs.declared.form.Form.{Form};
-ghost use Rattle.records.specs.RecordFaults.{text_in};
-ghost use Rattle.records.specs.RecordRanges.{RecordFitsIn, Record as Shown};
+ghost use Rattle.records.specs.{RecordFaults.text_in, RecordRanges.{RecordFitsIn, Record as Shown}};
 ghost use Rattle.record_lines.specs.Sources.{IsReadOut};
 ghost use Rattle.auditor.specs.Audits.{IsVerdictOnText, IsTextFault, IsAudited};
 

@@ -1,19 +1,15 @@
 -- A caller may go to another thread.
 use mathlib.Core.List.{[], ◌∷◌}
-use denote.RattleType.{RattleType}
-use denote.Struct.Tuple.{TupleAt}
-use denote.Param.Send.{IsSend}
-use denote.Param.SendFields.{declared_send, variants_send}
-use Rattle.std.specs.contracts.alloc.Global as Global
-use Rattle.std.specs.contracts.vec.Vec as Vec
+use denote.{RattleType.RattleType, Struct.Tuple.TupleAt, Param.Send.IsSend, Param.SendFields.{declared_send, variants_send}}
 use Rattle.std.specs.contracts.impls.GlobalAllocator.TheImpl.{ghosts as global}
 use Rattle.std.proofs.Crossing.{Arc-send}
 use Rattle.guarded_cell.proofs.QueueSends.{queue_pass_send}
+use Rattle.bench.proofs.{cells.Cell.TheSendSync.{the_send as cell_send, the_sync as cell_sync}, cells.InMutex.TheSendSync.{the_send as mutex_send, the_sync as mutex_sync}}
+use Rattle.std.specs.contracts.alloc.Global as Global
+use Rattle.std.specs.contracts.vec.Vec as Vec
 use Rattle.bench.specs.contracts.calls.Calls as Calls
 use Rattle.bench.specs.contracts.cells.ByLock as ByLock
 use Rattle.bench.specs.contracts.cells.Caller as Caller
-use Rattle.bench.proofs.cells.Cell.TheSendSync.{the_send as cell_send, the_sync as cell_sync}
-use Rattle.bench.proofs.cells.InMutex.TheSendSync.{the_send as mutex_send, the_sync as mutex_sync}
 
 pub caller_send : IsSend Caller.the_row
 caller_send =

@@ -1,18 +1,14 @@
 -- Passes of the cells whose calls are timed.
 use Rattle.std.proofs.Props.{props}
-use Rattle.std.specs.Prelude.{ℕ}
-use Rattle.std.specs.declared.cmp.PartialEq.{Ghosts as Eq}
-use Rattle.std.specs.declared.default.Default.{Ghosts as Default}
+use Rattle.std.specs.{Prelude.ℕ, declared.cmp.PartialEq.{Ghosts as Eq}, declared.default.Default.{Ghosts as Default}}
 use Rattle.event_log.specs.declared.object.SeqObject.{Ghosts}
-use Rattle.shared_queue.specs.declared.queue.ThreadQueue.{ThreadQueue}
-use Rattle.shared_queue.specs.declared.call.QueueCall.{QueueCall}
-use Rattle.shared_queue.specs.declared.call.QueueReply.{QueueReply}
+use Rattle.shared_queue.specs.{declared.queue.ThreadQueue.ThreadQueue, declared.call.QueueCall.QueueCall, declared.call.QueueReply.QueueReply}
 use Rattle.word_rule.specs.declared.pass.Pass.{Pass}
 use Rattle.ticket_lock.specs.Passes.{IsPassOf as IsTicketPass}
 use Rattle.mcs_lock.specs.Passes.{IsPassOf as IsMcsPass}
 use Rattle.guarded_cell.specs.Kinds.{IsPassOf as IsEitherPass}
-use Rattle.guarded_cell.specs.declared.cell.AnyCell.TheVariants as either
 use Rattle.bench.specs.declared.cells.Cell.{Cell}
+use Rattle.guarded_cell.specs.declared.cell.AnyCell.TheVariants as either
 use Rattle.bench.specs.declared.cells.Cell.TheVariants as cells
 
 module _ {g : Ghosts ThreadQueue ℕ QueueCall QueueReply} {ce : Eq QueueCall} {cd : Default QueueCall} {re : Eq QueueReply} {rd : Default QueueReply} where

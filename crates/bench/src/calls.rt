@@ -1,7 +1,6 @@
 //! Calls on one queue, in the forms that are timed.
 
-ghost use Rattle.std.specs.Prelude.{◌≡◌, ◌<◌, [], ◌∷◌, length};
-ghost use Rattle.std.specs.List.{All};
+ghost use Rattle.std.specs.{Prelude.{◌≡◌, ◌<◌, [], ◌∷◌, length}, List.All};
 ghost use Rattle.guarded_cell.specs.Kinds.{IsPassOf};
 
 use crate::words::Grouping;

@@ -1,7 +1,6 @@
 //! The queue behind each lock and in the mutex, and the CPUs that call it.
 
-ghost use Rattle.std.specs.Prelude.{◌≡◌};
-ghost use Rattle.std.specs.Arc.{arc_value};
+ghost use Rattle.std.specs.{Prelude.◌≡◌, Arc.arc_value};
 ghost use Rattle.word_rule.specs.Cell.{EachAt};
 ghost use Rattle.bench.specs.Passes.{IsPassOf, IsPassOf-prop};
 

@@ -1,16 +1,11 @@
 -- Steps before others: a caller goes on from where one step has taken it.
-use Rattle.std.specs.declared.cmp.PartialEq.{Ghosts as Eq}
-use Rattle.std.specs.declared.default.Default.{Ghosts as Default}
+use Rattle.std.specs.{declared.cmp.PartialEq.{Ghosts as Eq}, declared.default.Default.{Ghosts as Default}}
 use Rattle.std.proofs.Common.{suc}
 use Rattle.event_log.specs.declared.object.SeqObject.{Ghosts}
 use Rattle.guarded_cell.specs.declared.cell.AnyCell.{AnyCell}
-use Rattle.cell_callers.specs.declared.caller_state.CallerState.{CallerState}
+use Rattle.cell_callers.specs.{declared.caller_state.CallerState.CallerState, declared.arrival.Arrival.Arrival, Arrivals.IsArrival, CallerStates.state_of, Steps.IsStepThere}
 use Rattle.cell_callers.specs.declared.progress.Progress.TheVariants as reported
-use Rattle.cell_callers.specs.declared.arrival.Arrival.{Arrival}
 use Rattle.cell_callers.specs.declared.arrival.Arrival.TheVariants as arrival
-use Rattle.cell_callers.specs.Arrivals.{IsArrival}
-use Rattle.cell_callers.specs.CallerStates.{state_of}
-use Rattle.cell_callers.specs.Steps.{IsStepThere}
 
 module _ {O P C R : Type 0} (g : Ghosts O P C R) {call_eq : Eq C} {call_default : Default C} {reply_eq : Eq R} {reply_default : Default R} where
   -- a step that looks at nothing, and then an arrival

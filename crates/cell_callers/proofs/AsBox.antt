@@ -1,18 +1,17 @@
 -- The handle and its parts own what a box at the same types owns.
 use mir.Syntax.{impl, tnil, dnil}
 use mathlib.Core.List.{[]}
-use denote.Param.Laws.{Laws}
-use denote.Signature.{Slot, plain}
+use denote.{Param.Laws.Laws, Signature.{Slot, plain}}
 use Rattle.std_alloc.proofs.BoxSteps.Form.{Bx}
-use Rattle.std_heap.specs.contracts.Global as Heap
 use Rattle.std_heap.specs.contracts.GlobalAllocator.TheImpl.{ghosts, dict}
+use Rattle.cell_callers.specs.Handles.{row}
+use Rattle.std_heap.specs.contracts.Global as Heap
 use Rattle.std_heap.proofs.Global.TheLaws as heap
 use Rattle.core.proofs.mem.manually_drop.ManuallyDrop.TheLaws as manual
 use Rattle.cell_callers.proofs.handle_content.HandleContent.TheLaws as content
 use Rattle.cell_callers.specs.contracts.handle_content.HandleContent as HandleContent
 use Rattle.cell_callers.specs.contracts.parts.Parts as Parts
 use Rattle.cell_callers.specs.contracts.handle.Handle as Handle
-use Rattle.cell_callers.specs.Handles.{row}
 
 abbrev pub row_laws : Laws row
 row_laws = manual.the_row_laws HandleContent.the_row content.the_row_laws

@@ -1,9 +1,7 @@
 -- Calls of a batch, one after another.
 use Rattle.std.proofs.Common.{◌≡◌, ℕ, zero, suc, ◌<◌, List, [], ◌∷◌, ◌∙◌, length, get_or, map, ap, refl, arith, Option, Some, None}
 use Rattle.kernel_object.specs.declared.call.KCall.{KCall}
-use Rattle.cell_callers.specs.declared.call_numbers.Asked.{Asked}
-use Rattle.cell_callers.specs.Coding.{called_of}
-use Rattle.cell_callers.specs.BatchCodes.{with_call, calls_of}
+use Rattle.cell_callers.specs.{declared.call_numbers.Asked.Asked, Coding.called_of, BatchCodes.{with_call, calls_of}}
 
 -- all of them are there
 pub all_there : (xs : List Asked) (cs : List KCall) → map called_of xs ≡ map (λ c. Some c) cs → calls_of xs ≡ Some cs

@@ -1,17 +1,10 @@
 -- A batch under a hold, and how its caller came there.
 use Rattle.std.proofs.Common.{◌≡◌, ◌∙◌, ℕ, Bool, true, false, ap, List, Result, Ok, Err}
 use Rattle.event_log.specs.declared.logged.NoRoom.{NoRoom}
-use Rattle.kernel_object.specs.declared.call.KCall.{KCall}
-use Rattle.kernel_object.specs.contracts.object.KernelObjectSeqObject.TheImpl.{ghosts}
-use Rattle.cell_callers.specs.declared.batching.Replies.{Replies}
-use Rattle.cell_callers.specs.declared.report_codes.TheConstants.{DONE, FULL, DONE_KEPT, FULL_KEPT}
+use Rattle.kernel_object.specs.{declared.call.KCall.KCall, contracts.object.KernelObjectSeqObject.TheImpl.ghosts}
+use Rattle.cell_callers.specs.{declared.batching.Replies.Replies, declared.report_codes.TheConstants.{DONE, FULL, DONE_KEPT, FULL_KEPT}, Arrivals.{GoesThere, got_by}, BatchCodes.ReportsAll, BatchReports.{ReportsHeldBatch, ReportsBatchedAt}, Codes.{kept_code, looks_after}, HandleContents.{KernelCell, KernelHold, KernelState, KernelSteps}}
 use Rattle.cell_callers.specs.declared.caller_state.CallerState.TheVariants as at
 use Rattle.cell_callers.specs.declared.whole.Whole.TheVariants as whole
-use Rattle.cell_callers.specs.Arrivals.{GoesThere, got_by}
-use Rattle.cell_callers.specs.BatchCodes.{ReportsAll}
-use Rattle.cell_callers.specs.BatchReports.{ReportsHeldBatch, ReportsBatchedAt}
-use Rattle.cell_callers.specs.Codes.{kept_code, looks_after}
-use Rattle.cell_callers.specs.HandleContents.{KernelCell, KernelHold, KernelState, KernelSteps}
 
 -- what is reported where the object isn't given back yet
 pub kept_all : (said : Result KernelSteps NoRoom) (old new : Replies) (n m : ℕ) → ReportsAll DONE FULL said n old new → m ≡ kept_code n → ReportsAll DONE_KEPT FULL_KEPT said m old new

@@ -1,21 +1,10 @@
 -- A caller that has come behind another goes on from there.
 use Rattle.guarded_cell.specs.declared.cell.AnyCell.{AnyCell}
-use Rattle.kernel_object.specs.declared.call.KParams.{KParams}
-use Rattle.kernel_object.specs.declared.call.KCall.{KCall}
-use Rattle.kernel_object.specs.declared.call.KReply.{KReply}
-use Rattle.kernel_object.specs.declared.object.KernelObject.{KernelObject}
-use Rattle.kernel_object.specs.contracts.object.KernelObjectSeqObject.TheImpl.{ghosts}
-use Rattle.kernel_object.specs.contracts.call.KCallPartialEq.TheImpl.{ghosts as call_compares}
-use Rattle.kernel_object.specs.contracts.call.KCallDefault.TheImpl.{ghosts as call_defaults}
-use Rattle.kernel_object.specs.contracts.call.KReplyPartialEq.TheImpl.{ghosts as reply_compares}
-use Rattle.kernel_object.specs.contracts.call.KReplyDefault.TheImpl.{ghosts as reply_defaults}
-use Rattle.cell_callers.specs.declared.arrival.Arrival.{Arrival}
+use Rattle.kernel_object.specs.{declared.call.KParams.KParams, declared.call.KCall.KCall, declared.call.KReply.KReply, declared.object.KernelObject.KernelObject, contracts.object.KernelObjectSeqObject.TheImpl.ghosts, contracts.call.KCallPartialEq.TheImpl.{ghosts as call_compares}, contracts.call.KCallDefault.TheImpl.{ghosts as call_defaults}, contracts.call.KReplyPartialEq.TheImpl.{ghosts as reply_compares}, contracts.call.KReplyDefault.TheImpl.{ghosts as reply_defaults}}
+use Rattle.cell_callers.specs.{declared.arrival.Arrival.Arrival, Arrivals.{IsArrival, got_by}, CallReports.GoesBehind, HandleContents.{KernelBehind, KernelState}}
 use Rattle.cell_callers.specs.declared.arrival.Arrival.TheVariants as arrival
 use Rattle.cell_callers.specs.declared.caller_state.CallerState.TheVariants as at
 use Rattle.cell_callers.specs.declared.progress.Progress.TheVariants as reported
-use Rattle.cell_callers.specs.Arrivals.{IsArrival, got_by}
-use Rattle.cell_callers.specs.CallReports.{GoesBehind}
-use Rattle.cell_callers.specs.HandleContents.{KernelBehind, KernelState}
 
 -- what comes from there comes from where it stood before
 pub comes : (cell : AnyCell KernelObject KParams KCall KReply) (p : KernelState) (behind : KernelBehind) (a : Arrival KernelObject KParams KCall KReply ghosts call_compares call_defaults reply_compares reply_defaults)

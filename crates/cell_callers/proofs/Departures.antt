@@ -1,22 +1,13 @@
 -- A holder of an MCS lock that has given the object back.
-use Rattle.std.specs.declared.cmp.PartialEq.{Ghosts as Eq}
-use Rattle.std.specs.declared.default.Default.{Ghosts as Default}
+use Rattle.std.specs.{declared.cmp.PartialEq.{Ghosts as Eq}, declared.default.Default.{Ghosts as Default}}
 use Rattle.std.proofs.Common.{◌≡◌, ◌∙◌, ℕ, true, ap, Result, Ok, Err}
-use Rattle.event_log.specs.declared.object.SeqObject.{Ghosts}
-use Rattle.event_log.specs.declared.logged.NoRoom.{NoRoom}
+use Rattle.event_log.specs.{declared.object.SeqObject.Ghosts, declared.logged.NoRoom.NoRoom}
 use Rattle.kernel_object.specs.declared.call.KReply.{KReply}
-use Rattle.word_rule.specs.declared.hold.Hold.{Hold}
-use Rattle.word_rule.specs.declared.pass.Pass.{Pass}
-use Rattle.word_rule.specs.Passes.{state_of_pass, state_of_hold}
-use Rattle.mcs_lock.specs.declared.cell.McsCell.{McsCell}
-use Rattle.mcs_lock.specs.Passes.{IsPassOf}
+use Rattle.word_rule.specs.{declared.hold.Hold.Hold, declared.pass.Pass.Pass, Passes.{state_of_pass, state_of_hold}}
+use Rattle.mcs_lock.specs.{declared.cell.McsCell.McsCell, Passes.IsPassOf}
+use Rattle.cell_callers.specs.{declared.report_codes.TheConstants.{DONE, FULL, DONE_KEPT, FULL_KEPT}, declared.call_numbers.Answered.Answered, Arrivals.IsDeparture, Codes.{answer_code, kept_code}, Coding.reply_code}
 use Rattle.guarded_cell.specs.declared.cell.AnyCell.TheVariants as cells
 use Rattle.cell_callers.specs.declared.caller_state.CallerState.TheVariants as at
-use Rattle.cell_callers.specs.declared.report_codes.TheConstants.{DONE, FULL, DONE_KEPT, FULL_KEPT}
-use Rattle.cell_callers.specs.declared.call_numbers.Answered.{Answered}
-use Rattle.cell_callers.specs.Arrivals.{IsDeparture}
-use Rattle.cell_callers.specs.Codes.{answer_code, kept_code}
-use Rattle.cell_callers.specs.Coding.{reply_code}
 
 module _ {O P C R : Type 0} {g : Ghosts O P C R} {call_eq : Eq C} {call_default : Default C} {reply_eq : Eq R} {reply_default : Default R} where
   -- the holder has this pass then

@@ -1,22 +1,15 @@
 -- The passes of a cell that C has opened: which CPUs they own.
-use Rattle.std.proofs.Common.{◌≡◌, ℕ, ◌+◌, ◌<◌, ◌==◌, ◌||◌, true, List, [], ◌∷◌, ◌++◌, length, refl, sym, ap, subst, ◌∙◌, arith, Some, None}
-use Rattle.std.specs.declared.cmp.PartialEq.{Ghosts as Eq}
-use Rattle.std.specs.declared.default.Default.{Ghosts as Default}
-use Rattle.std.proofs.lemmas.Bool.{eq-eqb, or_right, or_left}
+use Rattle.std.proofs.{Common.{◌≡◌, ℕ, ◌+◌, ◌<◌, ◌==◌, ◌||◌, true, List, [], ◌∷◌, ◌++◌, length, refl, sym, ap, subst, ◌∙◌, arith, Some, None}, lemmas.Bool.{eq-eqb, or_right, or_left}}
+use Rattle.std.specs.{declared.cmp.PartialEq.{Ghosts as Eq}, declared.default.Default.{Ghosts as Default}}
 use mathlib.Core.Logic.{dite}
 use native.Mathlib.Decide.{ℕ_discrete}
-use Rattle.event_log.specs.declared.object.SeqObject.{Ghosts}
-use Rattle.event_log.specs.History.{History}
+use Rattle.event_log.specs.{declared.object.SeqObject.Ghosts, History.History}
 use Rattle.event_log.proofs.Lists.{some_at, get_front, get_last}
 use Rattle.sound_run.specs.declared.lock_kind.LockKind.{LockKind}
-use Rattle.word_rule.specs.declared.pass.Pass.{Pass}
-use Rattle.word_rule.specs.Cell.{EachAt, OwnsAll, first_pass}
-use Rattle.word_rule.specs.Passes.{view_of_pass}
-use Rattle.guarded_cell.specs.declared.cell.AnyCell.{AnyCell}
+use Rattle.word_rule.specs.{declared.pass.Pass.Pass, Cell.{EachAt, OwnsAll, first_pass}, Passes.view_of_pass}
+use Rattle.guarded_cell.specs.{declared.cell.AnyCell.AnyCell, Kinds.IsPassOf}
+use Rattle.cell_callers.specs.{CallerStates.fixed_of, OpenCells.{IsHome, AreHome, OwnsFirst, IsBack}}
 use Rattle.guarded_cell.specs.declared.cell.AnyCell.TheVariants as cells
-use Rattle.guarded_cell.specs.Kinds.{IsPassOf}
-use Rattle.cell_callers.specs.CallerStates.{fixed_of}
-use Rattle.cell_callers.specs.OpenCells.{IsHome, AreHome, OwnsFirst, IsBack}
 
 pub same_number : (a b : ℕ) → a ≡ b → (a == b) ≡ true
 same_number = eq-eqb

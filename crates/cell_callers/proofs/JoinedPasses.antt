@@ -1,23 +1,15 @@
 -- The passes of a cell that nobody has called, joined.
-use Rattle.std.proofs.Common.{◌≡◌, ℕ, ◌<◌, ◌||◌, true, List, [], ◌∷◌, ◌++◌, length, refl, sym, ap, subst, ◌∙◌, arith, slice_get, Some, inl, inr}
-use Rattle.std.proofs.lemmas.Bool.{or_right, or_left, or_cases}
-use Rattle.std.specs.declared.cmp.PartialEq.{Ghosts as Eq}
-use Rattle.std.specs.declared.default.Default.{Ghosts as Default}
+use Rattle.std.proofs.{Common.{◌≡◌, ℕ, ◌<◌, ◌||◌, true, List, [], ◌∷◌, ◌++◌, length, refl, sym, ap, subst, ◌∙◌, arith, slice_get, Some, inl, inr}, lemmas.Bool.{or_right, or_left, or_cases}}
+use Rattle.std.specs.{declared.cmp.PartialEq.{Ghosts as Eq}, declared.default.Default.{Ghosts as Default}}
 use mathlib.Core.Logic.{dite}
 use native.Mathlib.Decide.{dec_lt}
-use Rattle.event_log.specs.declared.object.SeqObject.{Ghosts}
-use Rattle.event_log.specs.Log.{of}
-use Rattle.event_log.specs.History.{History, IsKept}
+use Rattle.event_log.specs.{declared.object.SeqObject.Ghosts, Log.of, History.{History, IsKept}}
 use Rattle.event_log.proofs.Lists.{some_at, get_push, get_front, get_last}
 use Rattle.sound_run.specs.declared.lock_kind.LockKind.{LockKind}
-use Rattle.word_rule.specs.declared.pass.Pass.{Pass}
-use Rattle.word_rule.specs.Cell.{EachAt, Grows, OwnsAll, cell_of, first_pass, stored}
-use Rattle.word_rule.specs.Passes.{view_of_pass}
+use Rattle.word_rule.specs.{declared.pass.Pass.Pass, Cell.{EachAt, Grows, OwnsAll, cell_of, first_pass, stored}, Passes.view_of_pass}
 use Rattle.word_rule.proofs.Lists.{same_log, of_opening}
-use Rattle.guarded_cell.specs.declared.cell.AnyCell.{AnyCell}
-use Rattle.guarded_cell.specs.Kinds.{IsPassOf}
-use Rattle.cell_callers.specs.CallerStates.{fixed_of}
-use Rattle.cell_callers.specs.Unused.{IsUnused, Covers}
+use Rattle.guarded_cell.specs.{declared.cell.AnyCell.AnyCell, Kinds.IsPassOf}
+use Rattle.cell_callers.specs.{CallerStates.fixed_of, Unused.{IsUnused, Covers}}
 use Rattle.cell_callers.proofs.Homes.{reported_of, same_number}
 
 -- what each of a list has, all but the last have, and the last

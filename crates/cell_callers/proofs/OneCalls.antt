@@ -1,43 +1,17 @@
 -- One call over all its returns: its steps are those of one hold.
-use Rattle.std.specs.declared.cmp.PartialEq.{Ghosts as Eq}
-use Rattle.std.specs.declared.default.Default.{Ghosts as Default}
+use Rattle.std.specs.{declared.cmp.PartialEq.{Ghosts as Eq}, declared.default.Default.{Ghosts as Default}}
 use Rattle.std.proofs.Common.{◌≡◌, ℕ, zero, suc, ◌+◌, ◌-◌, ◌^◌, min, Bool, true, false, List, [], ◌∷◌, ◌++◌, refl, sym, ap, ◌∙◌, subst, arith, inl, inr, Some, Result, Ok, Err, IfOk, OnErr}
-use Rattle.event_log.specs.declared.object.SeqObject.{Ghosts}
-use Rattle.event_log.specs.declared.event.Event.{Event}
-use Rattle.event_log.specs.declared.logged.NoRoom.{NoRoom}
-use Rattle.event_log.specs.History.{History, with_event}
-use Rattle.event_log.specs.Log.{one_step}
-use Rattle.word_rule.specs.declared.hold.Hold.{Hold}
-use Rattle.word_rule.specs.declared.pass.Pass.{Pass}
-use Rattle.word_rule.specs.declared.machine.step_done.StepDone.{StepDone}
-use Rattle.word_rule.specs.declared.machine.step_done.StepDone.TheVariants as steps
-use Rattle.word_rule.specs.declared.lock_kind.Stage.{Stage}
-use Rattle.word_rule.specs.declared.lock_kind.Stage.TheVariants.{Idle, Mcs}
-use Rattle.word_rule.specs.declared.lock_kind.McsStage.TheVariants.{Ready}
-use Rattle.word_rule.specs.declared.view.TraceStep.{TraceStep}
-use Rattle.word_rule.specs.Cell.{Caller, HoldView}
-use Rattle.word_rule.specs.CallerState.{CallerState as StepState, Moves, Takes, Gives}
-use Rattle.word_rule.specs.Locks.{holding}
-use Rattle.word_rule.specs.LockRuns.{events_in}
-use Rattle.word_rule.specs.OneHold.{gets_object, how_many, HasAcquired, HasReleased}
-use Rattle.word_rule.specs.Passes.{view_of_pass, view_of_hold, run_of_pass, run_of_hold, state_of_hold, state_of_pass}
-use Rattle.word_rule.specs.StepKinds.{arrives, ends_hold, is_look}
-use Rattle.word_rule.proofs.OneHolds.{count_append, Since, since_moved, acquired_at_once, HeldSince, held_moved, held_given}
-use Rattle.word_rule.proofs.RunLists.{extends_self}
-use Rattle.guarded_cell.specs.declared.cell.AnyCell.{AnyCell}
-use Rattle.guarded_cell.specs.declared.cell.AnyCell.TheVariants as cells
-use Rattle.guarded_cell.specs.Held.{HasCalled}
+use Rattle.event_log.specs.{declared.object.SeqObject.Ghosts, declared.event.Event.Event, declared.logged.NoRoom.NoRoom, History.{History, with_event}, Log.one_step}
+use Rattle.word_rule.specs.{declared.hold.Hold.Hold, declared.pass.Pass.Pass, declared.machine.step_done.StepDone.StepDone, declared.lock_kind.Stage.Stage, declared.lock_kind.Stage.TheVariants.{Idle, Mcs}, declared.lock_kind.McsStage.TheVariants.Ready, declared.view.TraceStep.TraceStep, Cell.{Caller, HoldView}, CallerState.{CallerState as StepState, Moves, Takes, Gives}, Locks.holding, LockRuns.events_in, OneHold.{gets_object, how_many, HasAcquired, HasReleased}, Passes.{view_of_pass, view_of_hold, run_of_pass, run_of_hold, state_of_hold, state_of_pass}, StepKinds.{arrives, ends_hold, is_look}}
+use Rattle.word_rule.proofs.{OneHolds.{count_append, Since, since_moved, acquired_at_once, HeldSince, held_moved, held_given}, RunLists.extends_self}
+use Rattle.guarded_cell.specs.{declared.cell.AnyCell.AnyCell, Held.HasCalled}
 use Rattle.guarded_cell.proofs.HeldCalls.{held_call}
-use Rattle.cell_callers.specs.declared.caller_state.CallerState.{CallerState}
+use Rattle.cell_callers.specs.{declared.caller_state.CallerState.CallerState, Applies.IsHeldApply, Arrivals.{got_by, GoesThere, GoesBack}, CallerStates.state_of, OneCalls.{looks_of, LooksInVain}, Steps.{IsStepThere, IsStepBack}, Wholes.IsCalled}
+use Rattle.word_rule.specs.declared.machine.step_done.StepDone.TheVariants as steps
+use Rattle.guarded_cell.specs.declared.cell.AnyCell.TheVariants as cells
 use Rattle.cell_callers.specs.declared.caller_state.CallerState.TheVariants as at
 use Rattle.cell_callers.specs.declared.progress.Progress.TheVariants as reported
 use Rattle.cell_callers.specs.declared.whole.Whole.TheVariants as whole
-use Rattle.cell_callers.specs.Applies.{IsHeldApply}
-use Rattle.cell_callers.specs.Arrivals.{got_by, GoesThere, GoesBack}
-use Rattle.cell_callers.specs.CallerStates.{state_of}
-use Rattle.cell_callers.specs.OneCalls.{looks_of, LooksInVain}
-use Rattle.cell_callers.specs.Steps.{IsStepThere, IsStepBack}
-use Rattle.cell_callers.specs.Wholes.{IsCalled}
 
 -- how often a caller has joined the line that stands there on its way to the object
 abbrev joined : Stage → ℕ

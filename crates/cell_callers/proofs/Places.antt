@@ -1,15 +1,11 @@
 -- Where a caller stands, by its place.
-use Rattle.std.specs.declared.cmp.PartialEq.{Ghosts as Eq}
-use Rattle.std.specs.declared.default.Default.{Ghosts as Default}
+use Rattle.std.specs.{declared.cmp.PartialEq.{Ghosts as Eq}, declared.default.Default.{Ghosts as Default}}
 use Rattle.std.proofs.Common.{◌≡◌, ◌∙◌, ap, subst, refl, sym, true, false, is_some, Option, Some, None, IsSome, IfSome}
 use Rattle.event_log.specs.declared.object.SeqObject.{Ghosts}
 use Rattle.word_rule.specs.declared.pass.Pass.{Pass}
 use Rattle.guarded_cell.specs.declared.cell.AnyCell.{AnyCell}
-use Rattle.cell_callers.specs.declared.caller_state.CallerState.{CallerState}
+use Rattle.cell_callers.specs.{declared.caller_state.CallerState.CallerState, declared.place.CallerPlace.CallerPlace, CallerStates.{IsOf, IsOne, state_of}, Places.{IsPlaceOf, place_of, stands_at}}
 use Rattle.cell_callers.specs.declared.caller_state.CallerState.TheVariants as at
-use Rattle.cell_callers.specs.declared.place.CallerPlace.{CallerPlace}
-use Rattle.cell_callers.specs.CallerStates.{IsOf, IsOne, state_of}
-use Rattle.cell_callers.specs.Places.{IsPlaceOf, place_of, stands_at}
 
 module _ {O P C R : Type 0} {g : Ghosts O P C R} {call_eq : Eq C} {call_default : Default C} {reply_eq : Eq R} {reply_default : Default R} where
   -- who stands at such a place is of its cell, and owns one CPU

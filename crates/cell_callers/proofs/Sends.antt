@@ -1,38 +1,27 @@
 -- What a handle has may go to another thread: an open cell, a caller wherever it stands, and the log of a cell that has ended.
-use denote.RattleType.{RattleType}
-use denote.Param.Send.{IsSend, IsSync, sendable, recorded_send, enum_send, struct_send}
-use denote.Enum.Declared.{shape}
-use denote.Struct.Declared.{shape as fields}
+use denote.{RattleType.RattleType, Param.Send.{IsSend, IsSync, sendable, recorded_send, enum_send, struct_send}, Enum.Declared.shape, Struct.Declared.{shape as fields}}
 use Rattle.std.proofs.Crossing.{crosses, Arc-send, Vec-send}
-use Rattle.std.specs.declared.cmp.PartialEq.{Ghosts as Compares}
-use Rattle.std.specs.declared.default.Default.{Ghosts as Defaults}
+use Rattle.std.specs.{declared.cmp.PartialEq.{Ghosts as Compares}, declared.default.Default.{Ghosts as Defaults}}
 use Rattle.std.below.core.specs.contracts.clone.Clone+copy.TheImpl.{ghosts as copied}
-use Rattle.core.proofs.mem.manually_drop.ManuallyDrop.TheSendSync as manual
 use Rattle.event_log.specs.declared.object.SeqObject.{Ghosts}
-use Rattle.event_log.proofs.logged.Logged.TheSendSync as logged
 use Rattle.atomic_table.proofs.shared.Seat.TheSendSync.{the_send as seat_send}
+use Rattle.kernel_object.specs.{contracts.object.KernelObjectSeqObject.TheImpl.{ghosts as kernel}, contracts.call.KCallEq.TheImpl.{ghosts as call_eq}, contracts.call.KCallPartialEq.TheImpl.{ghosts as call_compares}, contracts.call.KCallDefault.TheImpl.{ghosts as call_defaults}, contracts.call.KReplyEq.TheImpl.{ghosts as reply_eq}, contracts.call.KReplyPartialEq.TheImpl.{ghosts as reply_compares}, contracts.call.KReplyDefault.TheImpl.{ghosts as reply_defaults}}
+use Rattle.kernel_object.proofs.{object.KernelObject.TheSendSync.{the_send as object_send}, call.KParams.TheSendSync.{the_send as params_send}, call.KCall.TheSendSync.{the_send as call_send}, call.KReply.TheSendSync.{the_send as reply_send}}
+use Rattle.word_rule.proofs.Sends.{slot_send, pass_send, pass_field_send}
+use Rattle.guarded_cell.proofs.cell.AnyCell.TheSendSync.{the_send as any_send, the_sync as any_sync}
+use Rattle.cell_callers.specs.Handles.{row}
+use Rattle.core.proofs.mem.manually_drop.ManuallyDrop.TheSendSync as manual
+use Rattle.event_log.proofs.logged.Logged.TheSendSync as logged
 use Rattle.kernel_object.specs.contracts.object.KernelObject as Object
 use Rattle.kernel_object.specs.contracts.call.KParams as Params
 use Rattle.kernel_object.specs.contracts.call.KCall as Call
 use Rattle.kernel_object.specs.contracts.call.KReply as Reply
-use Rattle.kernel_object.specs.contracts.object.KernelObjectSeqObject.TheImpl.{ghosts as kernel}
-use Rattle.kernel_object.specs.contracts.call.KCallEq.TheImpl.{ghosts as call_eq}
-use Rattle.kernel_object.specs.contracts.call.KCallPartialEq.TheImpl.{ghosts as call_compares}
-use Rattle.kernel_object.specs.contracts.call.KCallDefault.TheImpl.{ghosts as call_defaults}
-use Rattle.kernel_object.specs.contracts.call.KReplyEq.TheImpl.{ghosts as reply_eq}
-use Rattle.kernel_object.specs.contracts.call.KReplyPartialEq.TheImpl.{ghosts as reply_compares}
-use Rattle.kernel_object.specs.contracts.call.KReplyDefault.TheImpl.{ghosts as reply_defaults}
-use Rattle.kernel_object.proofs.object.KernelObject.TheSendSync.{the_send as object_send}
-use Rattle.kernel_object.proofs.call.KParams.TheSendSync.{the_send as params_send}
-use Rattle.kernel_object.proofs.call.KCall.TheSendSync.{the_send as call_send}
-use Rattle.kernel_object.proofs.call.KReply.TheSendSync.{the_send as reply_send}
 use Rattle.word_rule.specs.contracts.caller.Outside as Outside
 use Rattle.word_rule.specs.contracts.caller.Inside as Inside
 use Rattle.word_rule.specs.contracts.pass.Pass as Pass
 use Rattle.word_rule.specs.contracts.hold.Hold as Hold
 use Rattle.word_rule.proofs.cpu.Cpu.TheSendSync as cpu
 use Rattle.word_rule.proofs.loan_token.LoanToken.TheSendSync as loan
-use Rattle.word_rule.proofs.Sends.{slot_send, pass_send, pass_field_send}
 use Rattle.ticket_lock.specs.contracts.states.Drawn as Drawn
 use Rattle.mcs_lock.specs.contracts.states.Ready as Ready
 use Rattle.mcs_lock.specs.contracts.states.Behind as Behind
@@ -42,13 +31,11 @@ use Rattle.mcs_lock.specs.contracts.states.Alone as Alone
 use Rattle.mcs_lock.specs.contracts.states.Leaving as Leaving
 use Rattle.mcs_lock.specs.contracts.states.Passing as Passing
 use Rattle.guarded_cell.specs.contracts.cell.AnyCell as AnyCell
-use Rattle.guarded_cell.proofs.cell.AnyCell.TheSendSync.{the_send as any_send, the_sync as any_sync}
 use Rattle.cell_callers.specs.contracts.caller_state.CallerState as CallerState
 use Rattle.cell_callers.specs.contracts.place.CallerPlace as CallerPlace
 use Rattle.cell_callers.specs.contracts.caller.Caller as Caller
 use Rattle.cell_callers.specs.contracts.open_cell.OpenCell as OpenCell
 use Rattle.cell_callers.specs.contracts.handle_content.HandleContent as HandleContent
-use Rattle.cell_callers.specs.Handles.{row}
 
 -- a caller goes where its object, the object's parameters, calls and replies go
 module _ (O P C R : RattleType) (g : Ghosts O.Denot P.Denot C.Denot R.Denot) (ce : Compares C.Denot) (cd : Defaults C.Denot) (re : Compares R.Denot) (rd : Defaults R.Denot) (o : IsSend O) (p : IsSend P) (c : IsSend C) (r : IsSend R) where

@@ -1,18 +1,9 @@
 -- A call under a hold.
-use Rattle.std.specs.declared.cmp.PartialEq.{Ghosts as Eq}
-use Rattle.std.specs.declared.default.Default.{Ghosts as Default}
-use Rattle.std.specs.Prelude.{◌≡◌, false, List, length, Option, Some, None, Result, Ok, Err}
-use Rattle.event_log.specs.declared.object.SeqObject.{Ghosts}
-use Rattle.event_log.specs.declared.logged.NoRoom.{NoRoom}
-use Rattle.event_log.specs.History.{with_event}
-use Rattle.event_log.specs.declared.event.Steps.{Steps}
-use Rattle.event_log.specs.Log.{answers, one_step}
-use Rattle.word_rule.specs.Cell.{after_steps}
-use Rattle.word_rule.specs.declared.hold.Hold.{Hold}
-use Rattle.word_rule.specs.Passes.{view_of_hold, run_of_hold}
-use Rattle.cell_callers.specs.declared.caller_state.CallerState.{CallerState}
+use Rattle.std.specs.{declared.cmp.PartialEq.{Ghosts as Eq}, declared.default.Default.{Ghosts as Default}, Prelude.{◌≡◌, false, List, length, Option, Some, None, Result, Ok, Err}}
+use Rattle.event_log.specs.{declared.object.SeqObject.Ghosts, declared.logged.NoRoom.NoRoom, History.with_event, declared.event.Steps.Steps, Log.{answers, one_step}}
+use Rattle.word_rule.specs.{Cell.after_steps, declared.hold.Hold.Hold, Passes.{view_of_hold, run_of_hold}}
+use Rattle.cell_callers.specs.{declared.caller_state.CallerState.CallerState, CallerStates.is_holding}
 use Rattle.cell_callers.specs.declared.caller_state.CallerState.TheVariants as at
-use Rattle.cell_callers.specs.CallerStates.{is_holding}
 
 module _ {O P C R : Type 0} (g : Ghosts O P C R) {call_eq : Eq C} {call_default : Default C} {reply_eq : Eq R} {reply_default : Default R} where
   -- the call was done as one event of the CPU, the last of the log, and was answered as the object answers there

@@ -1,17 +1,11 @@
 -- How far a caller comes without waiting: to the object, and back.
-use Rattle.std.specs.declared.cmp.PartialEq.{Ghosts as Eq}
-use Rattle.std.specs.declared.default.Default.{Ghosts as Default}
-use Rattle.std.specs.Prelude.{◌≡◌, ℕ, zero, suc, Bool, true, false}
+use Rattle.std.specs.{declared.cmp.PartialEq.{Ghosts as Eq}, declared.default.Default.{Ghosts as Default}, Prelude.{◌≡◌, ℕ, zero, suc, Bool, true, false}}
 use Rattle.event_log.specs.declared.object.SeqObject.{Ghosts}
 use Rattle.guarded_cell.specs.declared.cell.AnyCell.{AnyCell}
-use Rattle.cell_callers.specs.declared.caller_state.CallerState.{CallerState}
+use Rattle.cell_callers.specs.{declared.caller_state.CallerState.CallerState, declared.progress.Progress.Progress, declared.arrival.Arrival.Arrival, CallerStates.state_of, Steps.{IsStepThere, IsStepBack}}
 use Rattle.cell_callers.specs.declared.caller_state.CallerState.TheVariants as at
-use Rattle.cell_callers.specs.declared.progress.Progress.{Progress}
 use Rattle.cell_callers.specs.declared.progress.Progress.TheVariants as reported
-use Rattle.cell_callers.specs.declared.arrival.Arrival.{Arrival}
 use Rattle.cell_callers.specs.declared.arrival.Arrival.TheVariants as arrival
-use Rattle.cell_callers.specs.CallerStates.{state_of}
-use Rattle.cell_callers.specs.Steps.{IsStepThere, IsStepBack}
 
 -- what the step reports by which the object comes: by a look, or without one
 abbrev pub got_by : Bool → Progress

@@ -1,16 +1,9 @@
 -- Batches of calls, by the numbers that C has for them.
 use Rattle.std.specs.Prelude.{◌≡◌, ℕ, List, [], ◌∷◌, length, take, map, Option, Some, None, Result, Ok, Err}
 use Rattle.event_log.specs.declared.logged.NoRoom.{NoRoom}
-use Rattle.kernel_object.specs.declared.call.KCall.{KCall}
-use Rattle.kernel_object.specs.KernelTypes.{KernelStep}
-use Rattle.cell_callers.specs.declared.call_numbers.Asked.{Asked}
-use Rattle.cell_callers.specs.declared.batching.Batch.{Batch}
-use Rattle.cell_callers.specs.declared.batching.Replies.{Replies}
-use Rattle.cell_callers.specs.declared.report_codes.TheConstants.{LOOKED, REFUSED, DONE, FULL, DONE_KEPT, FULL_KEPT}
-use Rattle.cell_callers.specs.declared.whole.Whole.{Whole}
+use Rattle.kernel_object.specs.{declared.call.KCall.KCall, KernelTypes.KernelStep}
+use Rattle.cell_callers.specs.{declared.call_numbers.Asked.Asked, declared.batching.Batch.Batch, declared.batching.Replies.Replies, declared.report_codes.TheConstants.{LOOKED, REFUSED, DONE, FULL, DONE_KEPT, FULL_KEPT}, declared.whole.Whole.Whole, Coding.{called_of, reply_code}, HandleContents.KernelSteps}
 use Rattle.cell_callers.specs.declared.whole.Whole.TheVariants as whole
-use Rattle.cell_callers.specs.Coding.{called_of, reply_code}
-use Rattle.cell_callers.specs.HandleContents.{KernelSteps}
 
 abbrev pub with_call : Option KCall → Option (List KCall) → Option (List KCall)
 with_call (Some c) (Some cs) = Some (c ∷ cs)

@@ -1,18 +1,8 @@
 -- What is reported of a batch, whose replies are written where its calls are done.
 use Rattle.std.specs.Prelude.{◌≡◌, ℕ, Bool, true, false, List, Result}
 use Rattle.event_log.specs.declared.logged.NoRoom.{NoRoom}
-use Rattle.kernel_object.specs.declared.call.KCall.{KCall}
-use Rattle.kernel_object.specs.contracts.object.KernelObjectSeqObject.TheImpl.{ghosts}
-use Rattle.cell_callers.specs.declared.batching.Replies.{Replies}
-use Rattle.cell_callers.specs.declared.report_codes.TheConstants.{DONE, FULL, DONE_KEPT, FULL_KEPT}
-use Rattle.cell_callers.specs.declared.handle_content.HandleContent.{HandleContent}
-use Rattle.cell_callers.specs.declared.whole.Whole.{Whole}
-use Rattle.cell_callers.specs.Applies.{IsHeldBatch}
-use Rattle.cell_callers.specs.BatchCodes.{ReportsAll, ReportsWhole}
-use Rattle.cell_callers.specs.Codes.{looks_after, has_looked}
-use Rattle.cell_callers.specs.HandleContents.{IsBatchIn, KernelCell, KernelHold, KernelPlace, KernelState, KernelSteps}
-use Rattle.cell_callers.specs.Places.{Between}
-use Rattle.cell_callers.specs.Wholes.{IsBatched, IsHeldCall}
+use Rattle.kernel_object.specs.{declared.call.KCall.KCall, contracts.object.KernelObjectSeqObject.TheImpl.ghosts}
+use Rattle.cell_callers.specs.{declared.batching.Replies.Replies, declared.report_codes.TheConstants.{DONE, FULL, DONE_KEPT, FULL_KEPT}, declared.handle_content.HandleContent.HandleContent, declared.whole.Whole.Whole, Applies.IsHeldBatch, BatchCodes.{ReportsAll, ReportsWhole}, Codes.{looks_after, has_looked}, HandleContents.{IsBatchIn, KernelCell, KernelHold, KernelPlace, KernelState, KernelSteps}, Places.Between, Wholes.{IsBatched, IsHeldCall}}
 
 -- the calls were done under the hold, or the log was full: the number of that, and the replies before and after
 abbrev pub IsRepliedHeld : List KCall → Replies → ℕ → Replies → KernelHold → KernelHold → Type 0

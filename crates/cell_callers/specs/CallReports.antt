@@ -2,20 +2,8 @@
 use Rattle.std.specs.Prelude.{◌≡◌, ℕ, Some, Result}
 use Rattle.event_log.specs.declared.logged.NoRoom.{NoRoom}
 use Rattle.guarded_cell.specs.declared.cell.AnyCell.{AnyCell}
-use Rattle.kernel_object.specs.declared.call.KParams.{KParams}
-use Rattle.kernel_object.specs.declared.call.KCall.{KCall}
-use Rattle.kernel_object.specs.declared.call.KReply.{KReply}
-use Rattle.kernel_object.specs.declared.object.KernelObject.{KernelObject}
-use Rattle.kernel_object.specs.contracts.object.KernelObjectSeqObject.TheImpl.{ghosts}
-use Rattle.cell_callers.specs.declared.call_numbers.Answered.{Answered}
-use Rattle.cell_callers.specs.declared.whole.Whole.{Whole}
-use Rattle.cell_callers.specs.declared.handle_content.HandleContent.{HandleContent}
-use Rattle.cell_callers.specs.HandleContents.{IsCallIn, KernelBehind, KernelPlace, KernelState}
-use Rattle.cell_callers.specs.Codes.{call_code, looks_after, has_looked}
-use Rattle.cell_callers.specs.Places.{Between, place_of}
-use Rattle.cell_callers.specs.Wholes.{IsCalled}
-use Rattle.cell_callers.specs.Arrivals.{GoesThere}
-use Rattle.cell_callers.specs.declared.progress.Progress.{Progress}
+use Rattle.kernel_object.specs.{declared.call.KParams.KParams, declared.call.KCall.KCall, declared.call.KReply.KReply, declared.object.KernelObject.KernelObject, contracts.object.KernelObjectSeqObject.TheImpl.ghosts}
+use Rattle.cell_callers.specs.{declared.call_numbers.Answered.Answered, declared.whole.Whole.Whole, declared.handle_content.HandleContent.HandleContent, HandleContents.{IsCallIn, KernelBehind, KernelPlace, KernelState}, Codes.{call_code, looks_after, has_looked}, Places.{Between, place_of}, Wholes.IsCalled, Arrivals.GoesThere, declared.progress.Progress.Progress}
 use Rattle.cell_callers.specs.declared.caller_state.CallerState.TheVariants as at
 
 -- the number, the reply and the looks are those of a call of which this was reported

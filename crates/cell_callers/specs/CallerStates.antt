@@ -1,19 +1,14 @@
 -- Where a caller stands, and that it is of a cell.
-use Rattle.std.specs.declared.cmp.PartialEq.{Ghosts as Eq}
-use Rattle.std.specs.declared.default.Default.{Ghosts as Default}
-use Rattle.std.specs.Prelude.{◌≡◌, ℕ, ◌==◌, Bool, true, false}
+use Rattle.std.specs.{declared.cmp.PartialEq.{Ghosts as Eq}, declared.default.Default.{Ghosts as Default}, Prelude.{◌≡◌, ℕ, ◌==◌, Bool, true, false}}
 use Rattle.event_log.specs.declared.object.SeqObject.{Ghosts}
-use Rattle.word_rule.specs.Cell.{Cell, Caller}
-use Rattle.word_rule.specs.CallerState.{CallerState as StepState}
-use Rattle.word_rule.specs.Passes.{state_of_pass, state_of_hold}
+use Rattle.word_rule.specs.{Cell.{Cell, Caller}, CallerState.{CallerState as StepState}, Passes.{state_of_pass, state_of_hold}}
 use Rattle.ticket_lock.specs.declared.cell.TicketCell.{TicketCell}
-use Rattle.ticket_lock.specs.Passes as ticket
 use Rattle.mcs_lock.specs.declared.cell.McsCell.{McsCell}
-use Rattle.mcs_lock.specs.Passes as mcs
-use Rattle.guarded_cell.specs.declared.cell.AnyCell.{AnyCell}
-use Rattle.guarded_cell.specs.declared.cell.AnyCell.TheVariants as cells
-use Rattle.guarded_cell.specs.Kinds.{IsPassOf, IsHoldOf}
+use Rattle.guarded_cell.specs.{declared.cell.AnyCell.AnyCell, Kinds.{IsPassOf, IsHoldOf}}
 use Rattle.cell_callers.specs.declared.caller_state.CallerState.{CallerState}
+use Rattle.ticket_lock.specs.Passes as ticket
+use Rattle.mcs_lock.specs.Passes as mcs
+use Rattle.guarded_cell.specs.declared.cell.AnyCell.TheVariants as cells
 use Rattle.cell_callers.specs.declared.caller_state.CallerState.TheVariants as at
 
 module _ {O P C R : Type 0} where

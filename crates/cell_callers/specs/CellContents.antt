@@ -2,20 +2,7 @@
 use Rattle.std.specs.Prelude.{◌≡◌, ℕ, is_some, nat_lt, Bool, true, false, Option, Some, None, Result, Ok, Err, if◌then◌else◌}
 use Rattle.event_log.specs.declared.logged.TheConstants.{MOST_EVENTS}
 use Rattle.std_alloc.specs.Arc.{arc_value}
-use Rattle.cell_callers.specs.declared.handle_content.HandleContent.{HandleContent}
-use Rattle.cell_callers.specs.declared.handle_content.HandleContent.TheVariants.{Empty, Cell, Caller, Ended}
-use Rattle.cell_callers.specs.declared.opening.Opening.{Opening}
-use Rattle.cell_callers.specs.declared.opening.NotOpened.{NotOpened}
-use Rattle.cell_callers.specs.declared.opening.NotOpened.TheVariants.{NotEmpty}
-use Rattle.cell_callers.specs.declared.cell_lifetime.NoNewCaller.{NoNewCaller}
-use Rattle.cell_callers.specs.declared.cell_lifetime.NoNewCaller.TheVariants.{NoneLeft}
-use Rattle.cell_callers.specs.declared.cell_lifetime.NotClosed.{NotClosed}
-use Rattle.cell_callers.specs.declared.cell_lifetime.NotClosed.TheVariants.{NotAllBack}
-use Rattle.cell_callers.specs.declared.logged_step.LoggedStep.{LoggedStep}
-use Rattle.cell_callers.specs.HandleContents.{KernelCaller}
-use Rattle.cell_callers.specs.LoggedSteps.{logged_step}
-use Rattle.cell_callers.specs.Ends.{IsSame, IsNewCaller, IsReturned, HasClosed, IsWhyOpen}
-use Rattle.cell_callers.specs.Openings.{IsOpened, IsUnfit}
+use Rattle.cell_callers.specs.{declared.handle_content.HandleContent.HandleContent, declared.handle_content.HandleContent.TheVariants.{Empty, Cell, Caller, Ended}, declared.opening.Opening.Opening, declared.opening.NotOpened.NotOpened, declared.opening.NotOpened.TheVariants.NotEmpty, declared.cell_lifetime.NoNewCaller.NoNewCaller, declared.cell_lifetime.NoNewCaller.TheVariants.NoneLeft, declared.cell_lifetime.NotClosed.NotClosed, declared.cell_lifetime.NotClosed.TheVariants.NotAllBack, declared.logged_step.LoggedStep.LoggedStep, HandleContents.KernelCaller, LoggedSteps.logged_step, Ends.{IsSame, IsNewCaller, IsReturned, HasClosed, IsWhyOpen}, Openings.{IsOpened, IsUnfit}}
 
 abbrev pub is_empty : HandleContent → Bool
 is_empty Empty = true

@@ -2,17 +2,10 @@
 use Rattle.std.specs.Prelude.{ℕ, ◌+◌, ◌%◌, ◌^◌, ◌==◌, Bool, true, false, Option, Some, None, Result, Ok, Err, if◌then◌else◌}
 use Rattle.event_log.specs.declared.logged.NoRoom.{NoRoom}
 use Rattle.kernel_object.specs.declared.call.KReply.{KReply}
-use Rattle.cell_callers.specs.declared.call_numbers.Answered.{Answered}
-use Rattle.cell_callers.specs.declared.report_codes.TheConstants.{STEPPED, LOOKED, ENTERED, FOUND, LEFT, REFUSED, BUSY, DONE, FULL, DONE_KEPT, FULL_KEPT, NO_MEMORY, BAD_OPENING}
-use Rattle.cell_callers.specs.declared.opening.NotOpened.{NotOpened}
-use Rattle.cell_callers.specs.declared.opening.NotOpened.TheVariants.{NotEmpty, BadOpening, OutOfMemory}
-use Rattle.cell_callers.specs.declared.progress.Progress.{Progress}
+use Rattle.cell_callers.specs.{declared.call_numbers.Answered.Answered, declared.report_codes.TheConstants.{STEPPED, LOOKED, ENTERED, FOUND, LEFT, REFUSED, BUSY, DONE, FULL, DONE_KEPT, FULL_KEPT, NO_MEMORY, BAD_OPENING}, declared.opening.NotOpened.NotOpened, declared.opening.NotOpened.TheVariants.{NotEmpty, BadOpening, OutOfMemory}, declared.progress.Progress.Progress, declared.whole.Whole.Whole, declared.whole.TriedCall.TriedCall, Coding.reply_code}
 use Rattle.cell_callers.specs.declared.progress.Progress.TheVariants as reported
-use Rattle.cell_callers.specs.declared.whole.Whole.{Whole}
 use Rattle.cell_callers.specs.declared.whole.Whole.TheVariants as whole
-use Rattle.cell_callers.specs.declared.whole.TriedCall.{TriedCall}
 use Rattle.cell_callers.specs.declared.whole.TriedCall.TheVariants as tried
-use Rattle.cell_callers.specs.Coding.{reply_code}
 
 abbrev pub progress_code : Option Progress → ℕ
 progress_code (Some reported.Stepped) = STEPPED

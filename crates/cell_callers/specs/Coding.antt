@@ -1,15 +1,12 @@
 -- Calls and replies by the numbers that C has for them.
 use Rattle.std.specs.Prelude.{ℕ, ◌==◌, ◌&&◌, ◌%◌, nat_lt, List, [], ◌∷◌, Option, None, slice_get, if◌then◌else◌}
+use Rattle.kernel_object.specs.{declared.call.KCall.KCall, declared.call.KCall.TheVariants.{Queue, Pool, Console, Sched}, declared.call.KReply.KReply}
+use Rattle.cell_callers.specs.{declared.call_numbers.Asked.Asked, declared.call_numbers.Answered.Answered}
 use Rattle.shared_queue.specs.declared.call.QueueCall.TheVariants as queue
 use Rattle.page_pool.specs.declared.call.PoolCall.TheVariants as pool
 use Rattle.console_ring.specs.declared.call.ConsoleCall.TheVariants as console
 use Rattle.wake_list.specs.declared.call.SchedCall.TheVariants as sched
-use Rattle.kernel_object.specs.declared.call.KCall.{KCall}
-use Rattle.kernel_object.specs.declared.call.KCall.TheVariants.{Queue, Pool, Console, Sched}
-use Rattle.kernel_object.specs.declared.call.KReply.{KReply}
 use Rattle.kernel_object.specs.declared.call.KReply.TheVariants as reply
-use Rattle.cell_callers.specs.declared.call_numbers.Asked.{Asked}
-use Rattle.cell_callers.specs.declared.call_numbers.Answered.{Answered}
 
 -- the calls with these numbers, in the order of their words
 abbrev pub calls_with : ℕ → ℕ → List KCall

@@ -1,24 +1,10 @@
 -- What is done with a cell that C has opened: passes are given out and given back, and it ends.
-use Rattle.std.specs.declared.cmp.PartialEq.{Ghosts as Eq}
-use Rattle.std.specs.declared.default.Default.{Ghosts as Default}
-use Rattle.std.specs.Prelude.{◌≡◌, ◌==◌, ◌&&◌, nat_lt, ◌<◌, ◌≤◌, ◌+◌, Bool, false, [], ◌∷◌, ◌++◌, Option, Some, None, Result, Ok, Err, vec_len}
+use Rattle.std.specs.{declared.cmp.PartialEq.{Ghosts as Eq}, declared.default.Default.{Ghosts as Default}, Prelude.{◌≡◌, ◌==◌, ◌&&◌, nat_lt, ◌<◌, ◌≤◌, ◌+◌, Bool, false, [], ◌∷◌, ◌++◌, Option, Some, None, Result, Ok, Err, vec_len}}
 use Rattle.std_alloc.specs.Arc.{arc_value}
-use Rattle.event_log.specs.declared.object.SeqObject.{Ghosts}
-use Rattle.event_log.specs.History.{History}
-use Rattle.word_rule.specs.declared.pass.Pass.{Pass}
-use Rattle.word_rule.specs.Cell.{stored}
-use Rattle.word_rule.specs.LockRuns.{endings_in, arrivals_in}
-use Rattle.word_rule.specs.Passes.{view_of_pass, run_of_pass}
-use Rattle.cell_callers.specs.declared.caller_state.CallerState.{CallerState}
+use Rattle.event_log.specs.{declared.object.SeqObject.Ghosts, History.History}
+use Rattle.word_rule.specs.{declared.pass.Pass.Pass, Cell.stored, LockRuns.{endings_in, arrivals_in}, Passes.{view_of_pass, run_of_pass}}
+use Rattle.cell_callers.specs.{declared.caller_state.CallerState.CallerState, declared.caller.Caller.Caller, declared.open_cell.OpenCell.OpenCell, declared.cell_lifetime.NoNewCaller.NoNewCaller, declared.cell_lifetime.NoNewCaller.TheVariants.{NoneLeft, NoShare}, declared.cell_lifetime.NotClosed.NotClosed, declared.cell_lifetime.NotClosed.TheVariants.{NotAllBack, Shared}, OpenCells.TakesIn, Places.{place_of, Between}}
 use Rattle.cell_callers.specs.declared.caller_state.CallerState.TheVariants as at
-use Rattle.cell_callers.specs.declared.caller.Caller.{Caller}
-use Rattle.cell_callers.specs.declared.open_cell.OpenCell.{OpenCell}
-use Rattle.cell_callers.specs.declared.cell_lifetime.NoNewCaller.{NoNewCaller}
-use Rattle.cell_callers.specs.declared.cell_lifetime.NoNewCaller.TheVariants.{NoneLeft, NoShare}
-use Rattle.cell_callers.specs.declared.cell_lifetime.NotClosed.{NotClosed}
-use Rattle.cell_callers.specs.declared.cell_lifetime.NotClosed.TheVariants.{NotAllBack, Shared}
-use Rattle.cell_callers.specs.OpenCells.{TakesIn}
-use Rattle.cell_callers.specs.Places.{place_of, Between}
 
 module _ {O P C R : Type 0} {g : Ghosts O P C R} {call_eq : Eq C} {call_default : Default C} {reply_eq : Eq R} {reply_default : Default R} where
   -- nothing was done

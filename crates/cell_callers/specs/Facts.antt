@@ -1,13 +1,11 @@
 -- That a caller is of a cell is so in one way at most.
-use Rattle.std.specs.declared.cmp.PartialEq.{Ghosts as Eq}
-use Rattle.std.specs.declared.default.Default.{Ghosts as Default}
+use Rattle.std.specs.{declared.cmp.PartialEq.{Ghosts as Eq}, declared.default.Default.{Ghosts as Default}}
 use Rattle.event_log.specs.declared.object.SeqObject.{Ghosts}
 use Rattle.event_log.proofs.Props.{legal_props}
 use Rattle.guarded_cell.specs.declared.cell.AnyCell.{AnyCell}
+use Rattle.cell_callers.specs.{declared.caller_state.CallerState.CallerState, CallerStates.IsOf}
 use Rattle.guarded_cell.specs.declared.cell.AnyCell.TheVariants as cells
-use Rattle.cell_callers.specs.declared.caller_state.CallerState.{CallerState}
 use Rattle.cell_callers.specs.declared.caller_state.CallerState.TheVariants as at
-use Rattle.cell_callers.specs.CallerStates.{IsOf}
 
 module _ {O P C R : Type 0} {g : Ghosts O P C R} {call_eq : Eq C} {call_default : Default C} {reply_eq : Eq R} {reply_default : Default R} where
   pub of_prop : IsSet O → IsSet P → IsSet C → IsSet R → (cell : AnyCell O P C R) (p : CallerState O P C R g call_eq call_default reply_eq reply_default) → IsProp (IsOf cell p)

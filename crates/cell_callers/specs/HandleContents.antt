@@ -1,35 +1,14 @@
 -- What is done with what a handle has: a caller's step, or nothing.
 use Rattle.std.specs.Prelude.{◌≡◌, Bool, List, Option, None, Result}
 use Rattle.std_alloc.specs.Arc.{arc_value}
-use Rattle.event_log.specs.declared.event.Steps.{Steps}
-use Rattle.event_log.specs.declared.logged.NoRoom.{NoRoom}
-use Rattle.kernel_object.specs.declared.call.KCall.{KCall}
-use Rattle.kernel_object.specs.declared.call.KReply.{KReply}
-use Rattle.kernel_object.specs.declared.call.KParams.{KParams}
-use Rattle.kernel_object.specs.declared.object.KernelObject.{KernelObject}
-use Rattle.kernel_object.specs.contracts.object.KernelObjectSeqObject.TheImpl.{ghosts}
-use Rattle.kernel_object.specs.contracts.call.KCallPartialEq.TheImpl.{ghosts as call_compares}
-use Rattle.kernel_object.specs.contracts.call.KCallDefault.TheImpl.{ghosts as call_defaults}
-use Rattle.kernel_object.specs.contracts.call.KReplyPartialEq.TheImpl.{ghosts as reply_compares}
-use Rattle.kernel_object.specs.contracts.call.KReplyDefault.TheImpl.{ghosts as reply_defaults}
-use Rattle.cell_callers.specs.declared.caller.Caller.{Caller as CallerOf}
-use Rattle.cell_callers.specs.declared.handle_content.HandleContent.{HandleContent}
-use Rattle.cell_callers.specs.declared.handle_content.HandleContent.TheVariants.{Caller}
-use Rattle.cell_callers.specs.declared.progress.Progress.{Progress}
-use Rattle.cell_callers.specs.Steps.{IsAcquireStep, IsReleaseStep}
-use Rattle.cell_callers.specs.Tries.{IsTried}
-use Rattle.cell_callers.specs.Applies.{IsApplied}
-use Rattle.cell_callers.specs.Wholes.{IsCalled, IsBatched, IsTryCalled}
-use Rattle.cell_callers.specs.declared.whole.Whole.{Whole}
-use Rattle.cell_callers.specs.declared.whole.Whole.TheVariants as whole
-use Rattle.cell_callers.specs.declared.whole.TriedCall.{TriedCall}
-use Rattle.cell_callers.specs.declared.whole.TriedCall.TheVariants as tried
-use Rattle.cell_callers.specs.declared.caller_state.CallerState.{CallerState}
+use Rattle.event_log.specs.{declared.event.Steps.Steps, declared.logged.NoRoom.NoRoom}
+use Rattle.kernel_object.specs.{declared.call.KCall.KCall, declared.call.KReply.KReply, declared.call.KParams.KParams, declared.object.KernelObject.KernelObject, contracts.object.KernelObjectSeqObject.TheImpl.ghosts, contracts.call.KCallPartialEq.TheImpl.{ghosts as call_compares}, contracts.call.KCallDefault.TheImpl.{ghosts as call_defaults}, contracts.call.KReplyPartialEq.TheImpl.{ghosts as reply_compares}, contracts.call.KReplyDefault.TheImpl.{ghosts as reply_defaults}}
+use Rattle.cell_callers.specs.{declared.caller.Caller.{Caller as CallerOf}, declared.handle_content.HandleContent.HandleContent, declared.handle_content.HandleContent.TheVariants.Caller, declared.progress.Progress.Progress, Steps.{IsAcquireStep, IsReleaseStep}, Tries.IsTried, Applies.IsApplied, Wholes.{IsCalled, IsBatched, IsTryCalled}, declared.whole.Whole.Whole, declared.whole.TriedCall.TriedCall, declared.caller_state.CallerState.CallerState, declared.place.CallerPlace.CallerPlace, Places.Between}
 use Rattle.mcs_lock.specs.declared.states.Behind.{Behind}
 use Rattle.word_rule.specs.declared.hold.Hold.{Hold}
-use Rattle.cell_callers.specs.declared.place.CallerPlace.{CallerPlace}
-use Rattle.cell_callers.specs.Places.{Between}
 use Rattle.guarded_cell.specs.declared.cell.AnyCell.{AnyCell}
+use Rattle.cell_callers.specs.declared.whole.Whole.TheVariants as whole
+use Rattle.cell_callers.specs.declared.whole.TriedCall.TheVariants as tried
 
 -- a caller of a cell around an object of the kernel
 abbrev pub KernelCaller : Type 0

@@ -1,10 +1,7 @@
 -- What a handle owns: the same as a `Box<ManuallyDrop<HandleContent>>`.
-use base.Fml.{Fml}
-use base.Stored.{Coded}
-use denote.RattleType.{RattleType}
-use denote.RawPtr.{Ptr}
-use Rattle.std.specs.Box.Ownership.{box_owns}
-use Rattle.std.specs.Global.{Global}
+use base.{Fml.Fml, Stored.Coded}
+use denote.{RattleType.RattleType, RawPtr.Ptr}
+use Rattle.std.specs.{Box.Ownership.box_owns, Global.Global}
 use Rattle.std_heap.specs.contracts.GlobalAllocator.TheImpl.{ghosts}
 use Rattle.core.specs.contracts.mem.manually_drop.ManuallyDrop as ManuallyDrop
 use Rattle.cell_callers.specs.contracts.handle_content.HandleContent as HandleContent

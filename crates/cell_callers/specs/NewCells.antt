@@ -1,13 +1,9 @@
 -- A cell that was just opened.
-use Rattle.std.specs.declared.cmp.PartialEq.{Ghosts as Eq}
-use Rattle.std.specs.declared.default.Default.{Ghosts as Default}
-use Rattle.std.specs.Prelude.{◌≡◌, ℕ, [], None, vec_len}
+use Rattle.std.specs.{declared.cmp.PartialEq.{Ghosts as Eq}, declared.default.Default.{Ghosts as Default}, Prelude.{◌≡◌, ℕ, [], None, vec_len}}
 use Rattle.std_alloc.specs.Arc.{arc_value}
-use Rattle.event_log.specs.declared.object.SeqObject.{Ghosts}
-use Rattle.event_log.specs.History.{History}
+use Rattle.event_log.specs.{declared.object.SeqObject.Ghosts, History.History}
 use Rattle.sound_run.specs.declared.lock_kind.LockKind.{LockKind}
-use Rattle.word_rule.specs.Cell.{EachAt, first_pass}
-use Rattle.word_rule.specs.Passes.{view_of_pass, run_of_pass}
+use Rattle.word_rule.specs.{Cell.{EachAt, first_pass}, Passes.{view_of_pass, run_of_pass}}
 use Rattle.guarded_cell.specs.Kinds.{kind_of}
 use Rattle.cell_callers.specs.declared.open_cell.OpenCell.{OpenCell}
 

@@ -1,15 +1,10 @@
 -- A cell that C has opened: its passes, before they are given out and once they are given back.
-use Rattle.std.specs.declared.cmp.PartialEq.{Ghosts as Eq}
-use Rattle.std.specs.declared.default.Default.{Ghosts as Default}
-use Rattle.std.specs.Prelude.{◌≡◌, ℕ, ◌<◌, true, List, [], Option, Some, None}
+use Rattle.std.specs.{declared.cmp.PartialEq.{Ghosts as Eq}, declared.default.Default.{Ghosts as Default}, Prelude.{◌≡◌, ℕ, ◌<◌, true, List, [], Option, Some, None}}
 use Rattle.event_log.specs.declared.object.SeqObject.{Ghosts}
-use Rattle.word_rule.specs.declared.pass.Pass.{Pass}
-use Rattle.word_rule.specs.Cell.{EachAt, Grows}
-use Rattle.word_rule.specs.LockRuns.{Extends}
-use Rattle.word_rule.specs.Passes.{view_of_pass, run_of_pass}
+use Rattle.word_rule.specs.{declared.pass.Pass.Pass, Cell.{EachAt, Grows}, LockRuns.Extends, Passes.{view_of_pass, run_of_pass}}
 use Rattle.guarded_cell.specs.declared.cell.AnyCell.{AnyCell}
-use Rattle.cell_callers.specs.declared.caller_state.CallerState.TheVariants as at
 use Rattle.cell_callers.specs.CallerStates.{IsOf, IsOne}
+use Rattle.cell_callers.specs.declared.caller_state.CallerState.TheVariants as at
 
 module _ {O P C R : Type 0} {g : Ghosts O P C R} {call_eq : Eq C} {call_default : Default C} {reply_eq : Eq R} {reply_default : Default R} where
   -- a pass of the cell that owns that CPU alone

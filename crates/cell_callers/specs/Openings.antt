@@ -1,22 +1,9 @@
 -- What C opens a cell with, by its numbers.
-use Rattle.std.specs.declared.cmp.PartialEq.{Ghosts as Eq}
-use Rattle.std.specs.declared.default.Default.{Ghosts as Default}
-use Rattle.std.specs.Prelude.{◌≡◌, ◌==◌, ◌<◌, ◌^◌, ◌-◌, ◌⊎◌, ◌||◌, nat_lt, ℕ, Bool, false, [], ◌∷◌, Option, Some, None, slice_get, if◌then◌else◌}
-use Rattle.event_log.specs.declared.logged.TheConstants.{MOST_EVENTS}
-use Rattle.event_log.specs.History.{opened_history}
-use Rattle.sound_run.specs.declared.limits.TheConstants.{MOST_CPUS}
-use Rattle.sound_run.specs.declared.lock_kind.LockKind.{LockKind}
-use Rattle.sound_run.specs.declared.lock_kind.LockKind.TheVariants.{Ticket, Mcs}
-use Rattle.kernel_object.specs.declared.call.KParams.{KParams}
-use Rattle.kernel_object.specs.declared.call.KParams.TheVariants.{Queue, Pool, Console, Sched}
-use Rattle.kernel_object.specs.declared.call.KCall.{KCall}
-use Rattle.kernel_object.specs.declared.call.KReply.{KReply}
-use Rattle.kernel_object.specs.declared.object.KernelObject.{KernelObject}
-use Rattle.kernel_object.specs.contracts.object.KernelObjectSeqObject.TheImpl.{ghosts}
-use Rattle.kernel_object.specs.Kernel.{kernel_opening, kernel_in_range}
-use Rattle.cell_callers.specs.declared.opening.Opening.{Opening}
-use Rattle.cell_callers.specs.declared.open_cell.OpenCell.{OpenCell}
-use Rattle.cell_callers.specs.NewCells.{IsOpenedOn}
+use Rattle.std.specs.{declared.cmp.PartialEq.{Ghosts as Eq}, declared.default.Default.{Ghosts as Default}, Prelude.{◌≡◌, ◌==◌, ◌<◌, ◌^◌, ◌-◌, ◌⊎◌, ◌||◌, nat_lt, ℕ, Bool, false, [], ◌∷◌, Option, Some, None, slice_get, if◌then◌else◌}}
+use Rattle.event_log.specs.{declared.logged.TheConstants.MOST_EVENTS, History.opened_history}
+use Rattle.sound_run.specs.{declared.limits.TheConstants.MOST_CPUS, declared.lock_kind.LockKind.LockKind, declared.lock_kind.LockKind.TheVariants.{Ticket, Mcs}}
+use Rattle.kernel_object.specs.{declared.call.KParams.KParams, declared.call.KParams.TheVariants.{Queue, Pool, Console, Sched}, declared.call.KCall.KCall, declared.call.KReply.KReply, declared.object.KernelObject.KernelObject, contracts.object.KernelObjectSeqObject.TheImpl.ghosts, Kernel.{kernel_opening, kernel_in_range}}
+use Rattle.cell_callers.specs.{declared.opening.Opening.Opening, declared.open_cell.OpenCell.OpenCell, NewCells.IsOpenedOn}
 
 -- the parameters of an object of that kind, and the lock
 abbrev pub params_of : Opening → Option KParams

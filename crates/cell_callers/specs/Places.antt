@@ -1,14 +1,10 @@
 -- Where a caller stands, whose place has two parts.
-use Rattle.std.specs.declared.cmp.PartialEq.{Ghosts as Eq}
-use Rattle.std.specs.declared.default.Default.{Ghosts as Default}
-use Rattle.std.specs.Prelude.{◌≡◌, Option, Some, None}
+use Rattle.std.specs.{declared.cmp.PartialEq.{Ghosts as Eq}, declared.default.Default.{Ghosts as Default}, Prelude.{◌≡◌, Option, Some, None}}
 use Rattle.event_log.specs.declared.object.SeqObject.{Ghosts}
 use Rattle.word_rule.specs.declared.pass.Pass.{Pass}
 use Rattle.guarded_cell.specs.declared.cell.AnyCell.{AnyCell}
-use Rattle.cell_callers.specs.declared.caller_state.CallerState.{CallerState}
+use Rattle.cell_callers.specs.{declared.caller_state.CallerState.CallerState, declared.place.CallerPlace.CallerPlace, CallerStates.{IsOf, IsOne, state_of}}
 use Rattle.cell_callers.specs.declared.caller_state.CallerState.TheVariants as at
-use Rattle.cell_callers.specs.declared.place.CallerPlace.{CallerPlace}
-use Rattle.cell_callers.specs.CallerStates.{IsOf, IsOne, state_of}
 
 module _ {O P C R : Type 0} {g : Ghosts O P C R} {call_eq : Eq C} {call_default : Default C} {reply_eq : Eq R} {reply_default : Default R} where
   -- where the caller stands, unless its call is on its way

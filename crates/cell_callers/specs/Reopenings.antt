@@ -2,12 +2,7 @@
 use Rattle.std.specs.Prelude.{◌≡◌, ℕ, ◌^◌, ◌-◌, Bool, true, false, Option, Some, Result, Ok, Err}
 use Rattle.event_log.specs.History.{History}
 use Rattle.sound_run.specs.declared.lock_kind.LockKind.{LockKind}
-use Rattle.cell_callers.specs.declared.handle_content.HandleContent.{HandleContent}
-use Rattle.cell_callers.specs.declared.handle_content.HandleContent.TheVariants.{Cell, Ended}
-use Rattle.cell_callers.specs.declared.opening.NotOpened.{NotOpened}
-use Rattle.cell_callers.specs.declared.opening.NotOpened.TheVariants.{NotEmpty, BadOpening, OutOfMemory}
-use Rattle.cell_callers.specs.NewCells.{IsOpenedOn}
-use Rattle.cell_callers.specs.Openings.{lock_numbered, cpus_numbered}
+use Rattle.cell_callers.specs.{declared.handle_content.HandleContent.HandleContent, declared.handle_content.HandleContent.TheVariants.{Cell, Ended}, declared.opening.NotOpened.NotOpened, declared.opening.NotOpened.TheVariants.{NotEmpty, BadOpening, OutOfMemory}, NewCells.IsOpenedOn, Openings.{lock_numbered, cpus_numbered}}
 
 abbrev pub has_ended : HandleContent → Bool
 has_ended (Ended h) = true

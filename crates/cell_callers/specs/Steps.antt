@@ -1,18 +1,12 @@
 -- The steps of a caller, one after another: to the object, and back.
-use Rattle.std.specs.declared.cmp.PartialEq.{Ghosts as Eq}
-use Rattle.std.specs.declared.default.Default.{Ghosts as Default}
-use Rattle.std.specs.Prelude.{◌≡◌, ◌⊎◌, true, false, Option, Some, None}
+use Rattle.std.specs.{declared.cmp.PartialEq.{Ghosts as Eq}, declared.default.Default.{Ghosts as Default}, Prelude.{◌≡◌, ◌⊎◌, true, false, Option, Some, None}}
 use Rattle.event_log.specs.declared.object.SeqObject.{Ghosts}
-use Rattle.word_rule.specs.CallerState.{CallerState as StepState}
-use Rattle.word_rule.specs.Ticket.Steps.{IsDraw, IsLook, IsServe}
-use Rattle.word_rule.specs.Mcs.Steps.{IsClear, IsEnter, IsArm, IsLink, IsWaitingLook, IsSee, IsSeeAgain, IsEmpty, IsPass}
+use Rattle.word_rule.specs.{CallerState.{CallerState as StepState}, Ticket.Steps.{IsDraw, IsLook, IsServe}, Mcs.Steps.{IsClear, IsEnter, IsArm, IsLink, IsWaitingLook, IsSee, IsSeeAgain, IsEmpty, IsPass}}
 use Rattle.guarded_cell.specs.declared.cell.AnyCell.{AnyCell}
+use Rattle.cell_callers.specs.{declared.caller_state.CallerState.CallerState, declared.progress.Progress.Progress, CallerStates.{state_of, has_none}}
 use Rattle.guarded_cell.specs.declared.cell.AnyCell.TheVariants as cells
-use Rattle.cell_callers.specs.declared.caller_state.CallerState.{CallerState}
 use Rattle.cell_callers.specs.declared.caller_state.CallerState.TheVariants as at
-use Rattle.cell_callers.specs.declared.progress.Progress.{Progress}
 use Rattle.cell_callers.specs.declared.progress.Progress.TheVariants as reported
-use Rattle.cell_callers.specs.CallerStates.{state_of, has_none}
 
 module _ {O P C R : Type 0} (g : Ghosts O P C R) {call_eq : Eq C} {call_default : Default C} {reply_eq : Eq R} {reply_default : Default R} where
   -- the step towards the object, from that state of a caller of that cell, which reports that

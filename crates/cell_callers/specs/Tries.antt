@@ -1,18 +1,9 @@
 -- A try of a caller.
-use Rattle.std.specs.declared.cmp.PartialEq.{Ghosts as Eq}
-use Rattle.std.specs.declared.default.Default.{Ghosts as Default}
-use Rattle.std.specs.Prelude.{◌≡◌, ℕ, ◌≤◌, Bool, true, false, [], Option, Some, None}
+use Rattle.std.specs.{declared.cmp.PartialEq.{Ghosts as Eq}, declared.default.Default.{Ghosts as Default}, Prelude.{◌≡◌, ℕ, ◌≤◌, Bool, true, false, [], Option, Some, None}}
 use Rattle.event_log.specs.declared.object.SeqObject.{Ghosts}
-use Rattle.word_rule.specs.declared.pass.Pass.{Pass}
-use Rattle.word_rule.specs.declared.hold.Hold.{Hold}
-use Rattle.word_rule.specs.Answered.{IsBusy}
-use Rattle.word_rule.specs.Cell.{Grows}
-use Rattle.word_rule.specs.LockRuns.{Extends}
-use Rattle.word_rule.specs.OneHold.{HasAcquired}
-use Rattle.word_rule.specs.Passes.{view_of_pass, view_of_hold, run_of_pass, run_of_hold}
-use Rattle.cell_callers.specs.declared.caller_state.CallerState.{CallerState}
+use Rattle.word_rule.specs.{declared.pass.Pass.Pass, declared.hold.Hold.Hold, Answered.IsBusy, Cell.Grows, LockRuns.Extends, OneHold.HasAcquired, Passes.{view_of_pass, view_of_hold, run_of_pass, run_of_hold}}
+use Rattle.cell_callers.specs.{declared.caller_state.CallerState.CallerState, CallerStates.is_idle}
 use Rattle.cell_callers.specs.declared.caller_state.CallerState.TheVariants as at
-use Rattle.cell_callers.specs.CallerStates.{is_idle}
 
 module _ {O P C R : Type 0} (g : Ghosts O P C R) {call_eq : Eq C} {call_default : Default C} {reply_eq : Eq R} {reply_default : Default R} where
   -- the object came, by at most one look, with a log that goes on from all that the caller had seen

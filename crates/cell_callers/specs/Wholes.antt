@@ -1,23 +1,13 @@
 -- Whole calls: to the object, the call or the calls, and back.
-use Rattle.std.specs.declared.cmp.PartialEq.{Ghosts as Eq}
-use Rattle.std.specs.declared.default.Default.{Ghosts as Default}
-use Rattle.std.specs.Prelude.{◌≡◌, ℕ, Bool, true, false, List, Some, Result}
-use Rattle.event_log.specs.declared.object.SeqObject.{Ghosts}
-use Rattle.event_log.specs.declared.event.Steps.{Steps}
-use Rattle.event_log.specs.declared.logged.NoRoom.{NoRoom}
+use Rattle.std.specs.{declared.cmp.PartialEq.{Ghosts as Eq}, declared.default.Default.{Ghosts as Default}, Prelude.{◌≡◌, ℕ, Bool, true, false, List, Some, Result}}
+use Rattle.event_log.specs.{declared.object.SeqObject.Ghosts, declared.event.Steps.Steps, declared.logged.NoRoom.NoRoom}
 use Rattle.word_rule.specs.declared.hold.Hold.{Hold}
 use Rattle.guarded_cell.specs.declared.cell.AnyCell.{AnyCell}
-use Rattle.cell_callers.specs.declared.caller_state.CallerState.{CallerState}
+use Rattle.cell_callers.specs.{declared.caller_state.CallerState.CallerState, declared.whole.Whole.Whole, declared.whole.TriedCall.TriedCall, Applies.{IsHeldApply, IsHeldBatch}, Arrivals.{got_by, GoesThere, IsDeparture, may_call}, CallerStates.is_idle, Tries.IsTried}
 use Rattle.cell_callers.specs.declared.caller_state.CallerState.TheVariants as at
 use Rattle.cell_callers.specs.declared.progress.Progress.TheVariants as reported
-use Rattle.cell_callers.specs.declared.whole.Whole.{Whole}
 use Rattle.cell_callers.specs.declared.whole.Whole.TheVariants as whole
-use Rattle.cell_callers.specs.declared.whole.TriedCall.{TriedCall}
 use Rattle.cell_callers.specs.declared.whole.TriedCall.TheVariants as tried
-use Rattle.cell_callers.specs.Applies.{IsHeldApply, IsHeldBatch}
-use Rattle.cell_callers.specs.Arrivals.{got_by, GoesThere, IsDeparture, may_call}
-use Rattle.cell_callers.specs.CallerStates.{is_idle}
-use Rattle.cell_callers.specs.Tries.{IsTried}
 
 module _ {O P C R : Type 0} (g : Ghosts O P C R) {call_eq : Eq C} {call_default : Default C} {reply_eq : Eq R} {reply_default : Default R} where
   -- that was done under the hold, and then the object was given back, or will be

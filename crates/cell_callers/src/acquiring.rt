@@ -1,8 +1,7 @@
 //! The steps towards the object.
 
 ghost use Rattle.std.specs.Prelude.{◌≡◌};
-ghost use Rattle.cell_callers.specs.CallerStates.{IsOf, state_of};
-ghost use Rattle.cell_callers.specs.Steps.{IsAcquireStep};
+ghost use Rattle.cell_callers.specs.{CallerStates.{IsOf, state_of}, Steps.IsAcquireStep};
 ghost use Rattle.guarded_cell.specs.declared.cell.AnyCell.TheVariants.{Ticket, Mcs};
 
 use crate::{CallerState, Progress};

@@ -1,8 +1,7 @@
 //! A call by a caller that has the object.
 
 ghost use Rattle.std.specs.Prelude.{◌≡◌};
-ghost use Rattle.cell_callers.specs.CallerStates.{IsOf, state_of};
-ghost use Rattle.cell_callers.specs.Applies.{IsApplied};
+ghost use Rattle.cell_callers.specs.{CallerStates.{IsOf, state_of}, Applies.IsApplied};
 
 use crate::CallerState;
 use crate::whole::shared_apply_held;

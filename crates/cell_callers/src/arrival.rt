@@ -5,8 +5,7 @@ ghost use Rattle.guarded_cell.specs.declared.cell.AnyCell.TheVariants.{Ticket, M
 ghost use Rattle.cell_callers.specs.declared.caller_state.CallerState.TheVariants as at;
 ghost use Rattle.ticket_lock.specs.Passes.{IsDrawnOf, state_of_drawn};
 ghost use Rattle.mcs_lock.specs.Passes.{IsBehindOf, IsWaitingOf, state_of_behind, state_of_waiting};
-ghost use Rattle.cell_callers.specs.CallerStates.{IsOf, state_of};
-ghost use Rattle.cell_callers.specs.Arrivals.{IsArrival, arrived, may_call};
+ghost use Rattle.cell_callers.specs.{CallerStates.{IsOf, state_of}, Arrivals.{IsArrival, arrived, may_call}};
 
 use crate::CallerState;
 use event_log::SeqObject;

@@ -7,15 +7,12 @@ ghost use Rattle.std_alloc.specs.Arc.{arc_value};
 ghost use Rattle.guarded_cell.specs.Kinds.{IsHoldOf};
 ghost use Rattle.word_rule.specs.Passes.{state_of_hold};
 ghost use Rattle.kernel_object.specs.contracts.object.KernelObjectSeqObject.TheImpl.{ghosts};
-ghost use Rattle.cell_callers.specs.HandleContents.{KernelCell};
-ghost use Rattle.cell_callers.specs.Wholes.{IsHeldCall};
-ghost use Rattle.cell_callers.specs.CallerStates.{IsOf, state_of};
-ghost use Rattle.cell_callers.specs.BatchReports.{IsRepliedHeld, ReportsHeldBatch, ReportsBatchedAt, ReportsBatched};
+ghost use Rattle.cell_callers.specs.{HandleContents.KernelCell, Wholes.IsHeldCall, CallerStates.{IsOf, state_of}, BatchReports.{IsRepliedHeld, ReportsHeldBatch, ReportsBatchedAt, ReportsBatched}};
 
 use crate::arrival::{Arrival, arrive};
 use crate::batching::Replies;
-use crate::report_codes::{DONE, FULL, LOOKED, REFUSED, count_look, kept_code, steps_code};
 use crate::departure::depart;
+use crate::report_codes::{DONE, FULL, LOOKED, REFUSED, count_look, kept_code, steps_code};
 use crate::{Caller, CallerState};
 use guarded_cell::AnyCell;
 use kernel_object::{KCall, KernelObject};

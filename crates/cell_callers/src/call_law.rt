@@ -6,8 +6,7 @@ ghost use Rattle.word_rule.specs.Passes.{view_of_pass, run_of_pass};
 ghost use Rattle.guarded_cell.specs.Held.{HasCalled};
 ghost use Rattle.cell_callers.specs.declared.caller_state.CallerState.TheVariants as at;
 ghost use Rattle.cell_callers.specs.declared.whole.Whole.TheVariants as whole;
-ghost use Rattle.cell_callers.specs.OneCalls.{LooksInVain, looks_of};
-ghost use Rattle.cell_callers.specs.Wholes.{IsCalled};
+ghost use Rattle.cell_callers.specs.{OneCalls.{LooksInVain, looks_of}, Wholes.IsCalled};
 
 use event_log::SeqObject;
 use guarded_cell::AnyCell;

@@ -3,13 +3,7 @@
 ghost use Rattle.std.specs.Prelude.{◌≡◌, IsSome, IfSome};
 ghost use Rattle.std_alloc.specs.Arc.{arc_value};
 ghost use Rattle.event_log.proofs.Props.{legal_props};
-ghost use Rattle.cell_callers.specs.CallerStates.{IsOf, IsOne, state_of};
-ghost use Rattle.cell_callers.specs.Steps.{IsAcquireStep, IsReleaseStep};
-ghost use Rattle.cell_callers.specs.Tries.{IsTried};
-ghost use Rattle.cell_callers.specs.Applies.{IsApplied};
-ghost use Rattle.cell_callers.specs.Wholes.{IsCalled, IsTryCalled};
-ghost use Rattle.cell_callers.specs.Facts.{of_props};
-ghost use Rattle.cell_callers.specs.Places.{place_of, Between};
+ghost use Rattle.cell_callers.specs.{CallerStates.{IsOf, IsOne, state_of}, Steps.{IsAcquireStep, IsReleaseStep}, Tries.IsTried, Applies.IsApplied, Wholes.{IsCalled, IsTryCalled}, Facts.of_props, Places.{place_of, Between}};
 
 use crate::{
     CallerPlace, Progress, TriedCall, Whole, acquire_step, apply, call_in_line, release_step,

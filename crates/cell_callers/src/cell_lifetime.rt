@@ -3,9 +3,7 @@
 ghost use Rattle.std.specs.Prelude.{◌≡◌, ◌≤◌, ◌<◌, ◌+◌, IfOk, IfErr};
 ghost use Rattle.std_alloc.specs.Arc.{arc_value};
 ghost use Rattle.sound_run.specs.declared.limits.TheConstants.{MOST_CPUS};
-ghost use Rattle.cell_callers.specs.OpenCells.{IsHome, TakesIn};
-ghost use Rattle.cell_callers.specs.NewCells.{IsOpenedOn};
-ghost use Rattle.cell_callers.specs.Ends.{IsNewCaller, IsReturned, IsClosed};
+ghost use Rattle.cell_callers.specs.{OpenCells.{IsHome, TakesIn}, NewCells.IsOpenedOn, Ends.{IsNewCaller, IsReturned, IsClosed}};
 
 use crate::unused_cell::end_unused;
 use crate::{Caller, CallerPlace, CallerState, OpenCell};

@@ -1,13 +1,10 @@
 //! On the way back from the object, as far as a holder comes without waiting.
 
 ghost use Rattle.std.specs.Prelude.{◌≡◌};
-ghost use Rattle.guarded_cell.specs.declared.cell.AnyCell.TheVariants.{Mcs};
-ghost use Rattle.guarded_cell.specs.Kinds.{IsHoldOf};
-ghost use Rattle.cell_callers.specs.declared.caller_state.CallerState.TheVariants.{Holding};
+ghost use Rattle.guarded_cell.specs.{declared.cell.AnyCell.TheVariants.Mcs, Kinds.IsHoldOf};
+ghost use Rattle.cell_callers.specs.{declared.caller_state.CallerState.TheVariants.Holding, CallerStates.{IsOf, state_of}, Arrivals.IsDeparture};
 ghost use Rattle.mcs_lock.specs.Passes.{IsHoldOf as IsMcsHoldOf};
 ghost use Rattle.word_rule.specs.Passes.{state_of_hold};
-ghost use Rattle.cell_callers.specs.CallerStates.{IsOf, state_of};
-ghost use Rattle.cell_callers.specs.Arrivals.{IsDeparture};
 
 use crate::CallerState;
 use event_log::SeqObject;

@@ -1,10 +1,8 @@
 //! What C has of a cell, or of a caller: a pointer.
 
-ghost use Rattle.std.specs.Prelude.{◌≡◌};
-ghost use Rattle.std.specs.Borrow.{MutBor};
+ghost use Rattle.std.specs.{Prelude.◌≡◌, Borrow.MutBor};
 ghost use Rattle.core.specs.Mem.{manually_drop_value};
-ghost use Rattle.cell_callers.specs.declared.handle_content.HandleContent.{HandleContent};
-ghost use Rattle.cell_callers.specs.Handles.{Slot, slot_coded, handle_owns};
+ghost use Rattle.cell_callers.specs.{declared.handle_content.HandleContent.HandleContent, Handles.{Slot, slot_coded, handle_owns}};
 
 use crate::HandleContent;
 use crate::parts::Parts;

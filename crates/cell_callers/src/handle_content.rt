@@ -2,14 +2,12 @@
 
 ghost use Rattle.std.specs.Prelude.{◌<◌, ◌≤◌, length};
 ghost use Rattle.event_log.specs.declared.event.TheConstants.{MOST_CALLS};
-ghost use Rattle.cell_callers.specs.HandleContents.{IsAcquireStepIn, IsReleaseStepIn, IsTryIn, IsApplyIn, IsCallIn, IsTryCallIn};
-ghost use Rattle.cell_callers.specs.BatchReports.{ReportsBatchIn};
-ghost use Rattle.cell_callers.specs.CallReports.{ReportsCallOf};
+ghost use Rattle.cell_callers.specs.{HandleContents.{IsAcquireStepIn, IsReleaseStepIn, IsTryIn, IsApplyIn, IsCallIn, IsTryCallIn}, BatchReports.ReportsBatchIn, CallReports.ReportsCallOf};
 
 use crate::batched::batch_in_place;
 use crate::batching::Replies;
-use crate::report_codes::REFUSED;
 use crate::call_numbers::Answered;
+use crate::report_codes::REFUSED;
 use crate::straight::call_straight;
 use crate::{Caller, OpenCell, Progress, TriedCall, Whole};
 use event_log::{Logged, NoRoom};

@@ -8,13 +8,12 @@ mod arrival;
 mod batched;
 mod batching;
 mod call_law;
+mod call_numbers;
 mod caller;
 mod caller_state;
 mod cell_content;
-mod report_codes;
-mod call_numbers;
-mod departure;
 mod cell_lifetime;
+mod departure;
 mod handle;
 mod handle_content;
 mod logged_step;
@@ -25,6 +24,7 @@ mod place;
 mod progress;
 mod releasing;
 mod reopening;
+mod report_codes;
 mod straight;
 mod trying;
 mod unused_cell;
@@ -36,16 +36,11 @@ pub use arrival::{Arrival, arrive};
 pub use batched::batch_in_place;
 pub use batching::{Batch, Replies, write_calls};
 pub use call_law::one_call_is_a_hold;
+pub use call_numbers::{Answered, Asked, called_of, shared_called_of};
 pub use caller::Caller;
 pub use caller_state::CallerState;
-pub use report_codes::{
-    BAD_OPENING, BUSY, DONE, DONE_KEPT, ENTERED, FOUND, FULL, FULL_KEPT, LEFT, LOOKED, NO_MEMORY,
-    NOT_THERE, REFUSED, STEPPED, call_code, opening_code, progress_code, shared_answer_code,
-    try_code,
-};
-pub use call_numbers::{Answered, Asked, called_of, shared_called_of};
-pub use departure::{depart, depart_mcs};
 pub use cell_lifetime::{NoNewCaller, NotClosed};
+pub use departure::{depart, depart_mcs};
 pub use handle::{Handle, at_content, with_content};
 pub use handle_content::HandleContent;
 pub use logged_step::LoggedStep;
@@ -55,6 +50,11 @@ pub use parts::Parts;
 pub use place::CallerPlace;
 pub use progress::Progress;
 pub use releasing::release_step;
+pub use report_codes::{
+    BAD_OPENING, BUSY, DONE, DONE_KEPT, ENTERED, FOUND, FULL, FULL_KEPT, LEFT, LOOKED, NO_MEMORY,
+    NOT_THERE, REFUSED, STEPPED, call_code, opening_code, progress_code, shared_answer_code,
+    try_code,
+};
 pub use straight::call_straight;
 pub use trying::try_hold;
 pub use whole::{TriedCall, Whole, call_in_line, try_call};

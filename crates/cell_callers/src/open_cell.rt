@@ -2,9 +2,7 @@
 
 ghost use Rattle.std.specs.Prelude.{◌≡◌, ◌<◌};
 ghost use Rattle.std_alloc.specs.Arc.{arc_value};
-ghost use Rattle.cell_callers.specs.Facts.{of_props};
-ghost use Rattle.cell_callers.specs.CallerStates.{fixed_of};
-ghost use Rattle.cell_callers.specs.OpenCells.{AreHome, IsBack};
+ghost use Rattle.cell_callers.specs.{Facts.of_props, CallerStates.fixed_of, OpenCells.{AreHome, IsBack}};
 
 use event_log::SeqObject;
 use guarded_cell::AnyCell;

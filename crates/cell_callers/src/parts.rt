@@ -1,7 +1,6 @@
 //! A `Box` with its fields in sight of this crate, as C has a pointer where Rattle has a `Box`.
 
-ghost use Rattle.std.specs.Prelude.{◌≡◌};
-ghost use Rattle.std.specs.Box.Ownership.{box_owns};
+ghost use Rattle.std.specs.{Prelude.◌≡◌, Box.Ownership.box_owns};
 
 use std::alloc::Allocator;
 use std::marker::Model;

@@ -1,8 +1,7 @@
 //! The steps by which the object is given back.
 
 ghost use Rattle.std.specs.Prelude.{◌≡◌};
-ghost use Rattle.cell_callers.specs.CallerStates.{IsOf, state_of};
-ghost use Rattle.cell_callers.specs.Steps.{IsReleaseStep};
+ghost use Rattle.cell_callers.specs.{CallerStates.{IsOf, state_of}, Steps.IsReleaseStep};
 ghost use Rattle.guarded_cell.specs.declared.cell.AnyCell.TheVariants.{Ticket, Mcs};
 
 use crate::{CallerState, Progress};

@@ -1,8 +1,7 @@
 //! The numbers by which callers in C learn what became of a call.
 
 ghost use Rattle.std.specs.Prelude.{◌≡◌};
-ghost use Rattle.cell_callers.specs.Codes.{progress_code, try_code, answer_code, kept_code, call_code, looks_after, has_looked, opening_code};
-ghost use Rattle.cell_callers.specs.BatchCodes.{ReportsAll};
+ghost use Rattle.cell_callers.specs.{Codes.{progress_code, try_code, answer_code, kept_code, call_code, looks_after, has_looked, opening_code}, BatchCodes.ReportsAll};
 
 use crate::batching::{Replies, write_replies};
 use crate::call_numbers::{Answered, reply_code};
@@ -106,7 +105,11 @@ pub fn shared_answer_code(
 pub fn kept_code(reported: u32) -> u32
     ensures { result ≡ kept_code reported }
 {
-    if reported == DONE { DONE_KEPT } else { FULL_KEPT }
+    if reported == DONE {
+        DONE_KEPT
+    } else {
+        FULL_KEPT
+    }
 }
 
 /// One look more, if that was one.

@@ -2,26 +2,19 @@
 //! seldom is in functions of its own, which report by themselves, so that its locals aren't cleared on this way.
 
 ghost use Rattle.std.specs.Prelude.{◌≡◌, true, None, Some};
-ghost use Rattle.guarded_cell.specs.declared.cell.AnyCell.{AnyCell};
-ghost use Rattle.guarded_cell.specs.declared.cell.AnyCell.TheVariants.{Ticket, Mcs};
+ghost use Rattle.guarded_cell.specs.{declared.cell.AnyCell.AnyCell, declared.cell.AnyCell.TheVariants.{Ticket, Mcs}};
 ghost use Rattle.cell_callers.specs.declared.caller_state.CallerState.TheVariants as at;
-ghost use Rattle.cell_callers.specs.declared.report_codes.TheConstants.{LOOKED};
+ghost use Rattle.cell_callers.specs.{declared.report_codes.TheConstants.LOOKED, CallerStates.{IfMcs, IsOne}, HandleContents.KernelState, CallReports.{GoesBehind, ReportsCalled, ReportsCalledAt}, Codes.{kept_code, looks_after}, Places.{IsAway, IsPlaceOf}};
 ghost use Rattle.ticket_lock.specs.Passes.{IsPassOf as IsTicketPassOf};
 ghost use Rattle.mcs_lock.specs.Passes.{IsPassOf as IsMcsPassOf, IsBehindOf, IsPassingOf, state_of_behind, state_of_passing};
-ghost use Rattle.word_rule.specs.Mcs.Steps.{IsPass};
-ghost use Rattle.word_rule.specs.Passes.{state_of_pass};
+ghost use Rattle.word_rule.specs.{Mcs.Steps.IsPass, Passes.state_of_pass};
 ghost use Rattle.kernel_object.specs.contracts.object.KernelObjectSeqObject.TheImpl.{ghosts};
-ghost use Rattle.cell_callers.specs.CallerStates.{IfMcs, IsOne};
-ghost use Rattle.cell_callers.specs.HandleContents.{KernelState};
 ghost use Rattle.std_alloc.specs.Arc.{arc_value};
-ghost use Rattle.cell_callers.specs.CallReports.{GoesBehind, ReportsCalled, ReportsCalledAt};
-ghost use Rattle.cell_callers.specs.Codes.{kept_code, looks_after};
-ghost use Rattle.cell_callers.specs.Places.{IsAway, IsPlaceOf};
 
 use crate::arrival::line_up;
-use crate::report_codes::{DONE, FULL, LOOKED, answer_code, call_code, count_look, kept_code};
 use crate::call_numbers::Answered;
 use crate::place::put_line;
+use crate::report_codes::{DONE, FULL, LOOKED, answer_code, call_code, count_look, kept_code};
 use crate::whole::{apply_held, call_arrived};
 use crate::{Caller, CallerPlace, CallerState, call_in_line};
 use core::mem::replace;

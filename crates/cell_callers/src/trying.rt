@@ -3,9 +3,7 @@
 ghost use Rattle.std.specs.Prelude.{◌≡◌, Some, true, false, IfOk, IfErr};
 ghost use Rattle.guarded_cell.specs.Kinds.{IsPassOf, IsHoldOf};
 ghost use Rattle.word_rule.specs.Passes.{state_of_pass, state_of_hold};
-ghost use Rattle.cell_callers.specs.declared.caller_state.CallerState.TheVariants.{Idle, Holding};
-ghost use Rattle.cell_callers.specs.CallerStates.{IsOf, state_of};
-ghost use Rattle.cell_callers.specs.Tries.{IsTried};
+ghost use Rattle.cell_callers.specs.{declared.caller_state.CallerState.TheVariants.{Idle, Holding}, CallerStates.{IsOf, state_of}, Tries.IsTried};
 
 use crate::CallerState;
 use event_log::SeqObject;

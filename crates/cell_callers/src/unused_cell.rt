@@ -1,10 +1,8 @@
 //! A cell that nobody has called ends.
 
 ghost use Rattle.std.specs.Prelude.{◌≡◌, ◌<◌, true, vec_len};
-ghost use Rattle.word_rule.specs.Cell.{EachAt, stored};
-ghost use Rattle.word_rule.specs.Passes.{view_of_pass};
-ghost use Rattle.cell_callers.specs.CallerStates.{fixed_of};
-ghost use Rattle.cell_callers.specs.Unused.{IsUnused, Covers};
+ghost use Rattle.word_rule.specs.{Cell.{EachAt, stored}, Passes.view_of_pass};
+ghost use Rattle.cell_callers.specs.{CallerStates.fixed_of, Unused.{IsUnused, Covers}};
 
 use event_log::{Logged, SeqObject};
 use guarded_cell::AnyCell;

@@ -1,18 +1,11 @@
 //! Whole calls, as far as they come without waiting: to the object, the call, and back.
 
 ghost use Rattle.std.specs.Prelude.{◌≡◌, false};
-ghost use Rattle.guarded_cell.specs.Kinds.{IsHoldOf};
-ghost use Rattle.guarded_cell.specs.declared.cell.AnyCell.{AnyCell};
-ghost use Rattle.guarded_cell.specs.declared.cell.AnyCell.TheVariants.{Ticket, Mcs};
+ghost use Rattle.guarded_cell.specs.{Kinds.IsHoldOf, declared.cell.AnyCell.AnyCell, declared.cell.AnyCell.TheVariants.{Ticket, Mcs}};
 ghost use Rattle.ticket_lock.specs.Passes.{IsPassOf as IsTicketPassOf};
 ghost use Rattle.mcs_lock.specs.Passes.{IsPassOf as IsMcsPassOf, IsHoldOf as IsMcsHoldOf};
-ghost use Rattle.cell_callers.specs.declared.arrival.Arrival.TheVariants.{Got};
-ghost use Rattle.cell_callers.specs.declared.caller_state.CallerState.TheVariants.{Holding, Idle};
+ghost use Rattle.cell_callers.specs.{declared.arrival.Arrival.TheVariants.Got, declared.caller_state.CallerState.TheVariants.{Holding, Idle}, CallerStates.{IsOf, state_of}, Applies.IsHeldApply, Arrivals.{IsArrival, arrived}, Wholes.{IsHeldCall, IsCalled, IsTryCalled}};
 ghost use Rattle.word_rule.specs.Passes.{state_of_pass, state_of_hold};
-ghost use Rattle.cell_callers.specs.CallerStates.{IsOf, state_of};
-ghost use Rattle.cell_callers.specs.Applies.{IsHeldApply};
-ghost use Rattle.cell_callers.specs.Arrivals.{IsArrival, arrived};
-ghost use Rattle.cell_callers.specs.Wholes.{IsHeldCall, IsCalled, IsTryCalled};
 
 use crate::CallerState;
 use crate::arrival::{Arrival, arrive};

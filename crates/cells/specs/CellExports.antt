@@ -1,20 +1,6 @@
 -- What each call from C on a cell does, and reports.
 use Rattle.std.specs.Prelude.{◌≡◌, ℕ, Bool, true, false, Option, Some, None, Result, Ok, Err}
-use Rattle.cell_callers.specs.declared.report_codes.TheConstants.{REFUSED, BUSY, DONE, NOT_THERE}
-use Rattle.cell_callers.specs.declared.report_codes.TheConstants.{NO_MEMORY}
-use Rattle.cell_callers.specs.Codes.{opening_code}
-use Rattle.cell_callers.specs.declared.handle_content.HandleContent.{HandleContent}
-use Rattle.cell_callers.specs.declared.handle_content.HandleContent.TheVariants.{Empty, Caller}
-use Rattle.cell_callers.specs.declared.opening.Opening.{Opening}
-use Rattle.cell_callers.specs.declared.opening.NotOpened.{NotOpened}
-use Rattle.cell_callers.specs.declared.cell_lifetime.NoNewCaller.{NoNewCaller}
-use Rattle.cell_callers.specs.declared.cell_lifetime.NoNewCaller.TheVariants.{NoneLeft, NoShare}
-use Rattle.cell_callers.specs.declared.cell_lifetime.NotClosed.{NotClosed}
-use Rattle.cell_callers.specs.declared.cell_lifetime.NotClosed.TheVariants.{NotAllBack, Shared}
-use Rattle.cell_callers.specs.HandleContents.{KernelCaller}
-use Rattle.cell_callers.specs.declared.logged_step.LoggedStep.{LoggedStep}
-use Rattle.cell_callers.specs.Reopenings.{IsReopenedBy, IsForgotten}
-use Rattle.cell_callers.specs.CellContents.{IsOpenedBy, IsNewCallerIn, IsOwn, IsReturnedTo, IsClosedBy, step_of, may_be_freed}
+use Rattle.cell_callers.specs.{declared.report_codes.TheConstants.{REFUSED, BUSY, DONE, NOT_THERE}, declared.report_codes.TheConstants.NO_MEMORY, Codes.opening_code, declared.handle_content.HandleContent.HandleContent, declared.handle_content.HandleContent.TheVariants.{Empty, Caller}, declared.opening.Opening.Opening, declared.opening.NotOpened.NotOpened, declared.cell_lifetime.NoNewCaller.NoNewCaller, declared.cell_lifetime.NoNewCaller.TheVariants.{NoneLeft, NoShare}, declared.cell_lifetime.NotClosed.NotClosed, declared.cell_lifetime.NotClosed.TheVariants.{NotAllBack, Shared}, HandleContents.KernelCaller, declared.logged_step.LoggedStep.LoggedStep, Reopenings.{IsReopenedBy, IsForgotten}, CellContents.{IsOpenedBy, IsNewCallerIn, IsOwn, IsReturnedTo, IsClosedBy, step_of, may_be_freed}}
 
 abbrev pub ReportsOpening : HandleContent → Opening → ℕ → HandleContent → Type 0
 ReportsOpening before o n after = (reported : Result (Unit {0}) NotOpened) × (n ≡ opening_code reported) × IsOpenedBy before o reported after

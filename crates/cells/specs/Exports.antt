@@ -1,25 +1,9 @@
 -- What each call from C does, and reports.
 use Rattle.std.specs.Prelude.{◌≡◌, ℕ, ◌==◌, ◌||◌, nat_lt, List, Bool, true, false, Option, Some, None, Result}
 use Rattle.core.specs.Mem.{manually_drop_value}
-use Rattle.event_log.specs.declared.logged.NoRoom.{NoRoom}
-use Rattle.kernel_object.specs.declared.call.KCall.{KCall}
-use Rattle.kernel_object.specs.declared.call.KReply.{KReply}
-use Rattle.cell_callers.specs.declared.handle_content.HandleContent.{HandleContent}
-use Rattle.cell_callers.specs.declared.call_numbers.Asked.{Asked}
-use Rattle.cell_callers.specs.declared.call_numbers.Answered.{Answered}
-use Rattle.cell_callers.specs.declared.report_codes.TheConstants.{REFUSED, NOT_THERE}
-use Rattle.event_log.specs.declared.event.TheConstants.{MOST_CALLS}
-use Rattle.cell_callers.specs.declared.batching.Batch.{Batch}
-use Rattle.cell_callers.specs.declared.batching.Replies.{Replies}
-use Rattle.cell_callers.specs.BatchCodes.{batch_calls, ReportsWhole}
-use Rattle.cell_callers.specs.declared.whole.Whole.{Whole}
-use Rattle.cell_callers.specs.declared.whole.TriedCall.{TriedCall}
-use Rattle.cell_callers.specs.declared.handle.Handle.{Handle}
-use Rattle.cell_callers.specs.declared.progress.Progress.{Progress}
-use Rattle.cell_callers.specs.HandleContents.{IsAcquireStepIn, IsReleaseStepIn, IsTryIn, IsApplyIn, IsBatchIn, IsTryCallIn, KernelSteps}
-use Rattle.cell_callers.specs.Coding.{called_of}
-use Rattle.cell_callers.specs.CallReports.{ReportsCallOf}
-use Rattle.cell_callers.specs.Codes.{progress_code, try_code, apply_code, try_call_code, looks_after, has_looked}
+use Rattle.event_log.specs.{declared.logged.NoRoom.NoRoom, declared.event.TheConstants.MOST_CALLS}
+use Rattle.kernel_object.specs.{declared.call.KCall.KCall, declared.call.KReply.KReply}
+use Rattle.cell_callers.specs.{declared.handle_content.HandleContent.HandleContent, declared.call_numbers.Asked.Asked, declared.call_numbers.Answered.Answered, declared.report_codes.TheConstants.{REFUSED, NOT_THERE}, declared.batching.Batch.Batch, declared.batching.Replies.Replies, BatchCodes.{batch_calls, ReportsWhole}, declared.whole.Whole.Whole, declared.whole.TriedCall.TriedCall, declared.handle.Handle.Handle, declared.progress.Progress.Progress, HandleContents.{IsAcquireStepIn, IsReleaseStepIn, IsTryIn, IsApplyIn, IsBatchIn, IsTryCallIn, KernelSteps}, Coding.called_of, CallReports.ReportsCallOf, Codes.{progress_code, try_code, apply_code, try_call_code, looks_after, has_looked}}
 
 -- what the handle has
 abbrev pub content_of : Handle → HandleContent

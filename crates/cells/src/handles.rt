@@ -1,11 +1,8 @@
 //! The calls that C has on a cell, and on a new handle.
 
 ghost use Rattle.std.specs.Prelude.{◌≡◌, ◌⊎◌, ◌↔◌};
-ghost use Rattle.cell_callers.specs.declared.report_codes.TheConstants.{BAD_OPENING, DONE, NO_MEMORY};
-ghost use Rattle.cells.specs.Exports.{content_of};
-ghost use Rattle.cell_callers.specs.CellContents.{IsBadOpening};
-ghost use Rattle.cells.specs.CellExports.{ReportsOpening, ReportsReopening, ReportsForgetting, ReportsNewCaller, ReportsReturn, ReportsClosing, ReportsFreeing, ReportsStep, owns_back};
-ghost use Rattle.cell_callers.specs.declared.handle_content.HandleContent.TheVariants.{Empty};
+ghost use Rattle.cell_callers.specs.{declared.report_codes.TheConstants.{BAD_OPENING, DONE, NO_MEMORY}, CellContents.IsBadOpening, declared.handle_content.HandleContent.TheVariants.Empty};
+ghost use Rattle.cells.specs.{Exports.content_of, CellExports.{ReportsOpening, ReportsReopening, ReportsForgetting, ReportsNewCaller, ReportsReturn, ReportsClosing, ReportsFreeing, ReportsStep, owns_back}};
 
 use cell_callers::{
     BUSY, Caller, CallerState, DONE, Handle, HandleContent, LoggedStep, NO_MEMORY, NOT_THERE,

@@ -1,14 +1,6 @@
 -- A call leaves at most as many bytes as the console was opened for.
-use Rattle.std.proofs.Common.{◌≡◌, ℕ, ◌<◌, ◌≤◌, nat_lt, nat_le, Bool, true, false, if◌then◌else◌, List, [], ◌∷◌, ◌++◌, length, refl, arith}
-use Rattle.std.proofs.lemmas.Bool.{and_parts}
-use Rattle.std.proofs.lemmas.Bool.Decides.{nat_tests}
-use Rattle.std.proofs.lemmas.List.{length_push}
-use Rattle.console_ring.specs.State.{ConsoleState, is_in_range, opening_state, IsConsoleOf}
-use Rattle.console_ring.specs.Answer.{console_answer, full_answer, front_answer}
-use Rattle.console_ring.specs.declared.call.ConsoleCall.{ConsoleCall}
-use Rattle.console_ring.specs.declared.call.ConsoleCall.TheVariants.{Put, Get, Level}
-use Rattle.console_ring.specs.declared.call.ConsoleReply.{ConsoleReply}
-use Rattle.console_ring.specs.declared.call.ConsoleReply.TheVariants.{Ok}
+use Rattle.std.proofs.{Common.{◌≡◌, ℕ, ◌<◌, ◌≤◌, nat_lt, nat_le, Bool, true, false, if◌then◌else◌, List, [], ◌∷◌, ◌++◌, length, refl, arith}, lemmas.Bool.and_parts, lemmas.Bool.Decides.nat_tests, lemmas.List.length_push}
+use Rattle.console_ring.specs.{State.{ConsoleState, is_in_range, opening_state, IsConsoleOf}, Answer.{console_answer, full_answer, front_answer}, declared.call.ConsoleCall.ConsoleCall, declared.call.ConsoleCall.TheVariants.{Put, Get, Level}, declared.call.ConsoleReply.ConsoleReply, declared.call.ConsoleReply.TheVariants.Ok}
 
 -- an answer leaves such a state
 abbrev Leaves : ℕ → ConsoleState × ConsoleReply → Type 0

@@ -1,15 +1,7 @@
 -- What goes into a console comes out of it, in order.
-use Rattle.std.proofs.Common.{◌≡◌, ℕ, nat_lt, true, false, if◌then◌else◌, List, [], ◌∷◌, ◌++◌, length, refl, sym, ap, ◌∙◌, append_assoc}
-use Rattle.std.proofs.lemmas.List.{append-nil}
-use Rattle.event_log.specs.declared.event.Step.{Step}
-use Rattle.event_log.specs.Log.{calls_of}
-use Rattle.console_ring.specs.State.{ConsoleState}
-use Rattle.console_ring.specs.Answer.{console_answer, full_answer, front_answer}
-use Rattle.console_ring.specs.Passing.{bytes_in, bytes_reported, bytes_out, out_with, left_after}
-use Rattle.console_ring.specs.declared.call.ConsoleCall.{ConsoleCall}
-use Rattle.console_ring.specs.declared.call.ConsoleCall.TheVariants.{Put, Get, Level}
-use Rattle.console_ring.specs.declared.call.ConsoleReply.{ConsoleReply}
-use Rattle.console_ring.specs.declared.call.ConsoleReply.TheVariants.{Ok, Dropped, Empty, Byte, Count}
+use Rattle.std.proofs.{Common.{◌≡◌, ℕ, nat_lt, true, false, if◌then◌else◌, List, [], ◌∷◌, ◌++◌, length, refl, sym, ap, ◌∙◌, append_assoc}, lemmas.List.append-nil}
+use Rattle.event_log.specs.{declared.event.Step.Step, Log.calls_of}
+use Rattle.console_ring.specs.{State.ConsoleState, Answer.{console_answer, full_answer, front_answer}, Passing.{bytes_in, bytes_reported, bytes_out, out_with, left_after}, declared.call.ConsoleCall.ConsoleCall, declared.call.ConsoleCall.TheVariants.{Put, Get, Level}, declared.call.ConsoleReply.ConsoleReply, declared.call.ConsoleReply.TheVariants.{Ok, Dropped, Empty, Byte, Count}}
 
 -- the first byte of a full console is dropped
 full : (n : ℕ) (bytes rest : List ℕ) (b : ℕ) → rest ++ b ∷ [] ≡ out_with (full_answer record { capacity = n; bytes = bytes } b rest).1 [] ++ (full_answer record { capacity = n; bytes = bytes } b rest).0.bytes

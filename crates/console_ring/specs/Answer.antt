@@ -1,10 +1,6 @@
 -- What a console answers.
 use Rattle.std.specs.Prelude.{ℕ, nat_lt, Bool, true, false, if◌then◌else◌, List, [], ◌∷◌, ◌++◌, length}
-use Rattle.console_ring.specs.State.{ConsoleState}
-use Rattle.console_ring.specs.declared.call.ConsoleCall.{ConsoleCall}
-use Rattle.console_ring.specs.declared.call.ConsoleCall.TheVariants.{Put, Get, Level}
-use Rattle.console_ring.specs.declared.call.ConsoleReply.{ConsoleReply}
-use Rattle.console_ring.specs.declared.call.ConsoleReply.TheVariants.{Ok, Dropped, Empty, Byte, Count}
+use Rattle.console_ring.specs.{State.ConsoleState, declared.call.ConsoleCall.ConsoleCall, declared.call.ConsoleCall.TheVariants.{Put, Get, Level}, declared.call.ConsoleReply.ConsoleReply, declared.call.ConsoleReply.TheVariants.{Ok, Dropped, Empty, Byte, Count}}
 
 -- what a full console answers where these are its bytes: the first is dropped
 abbrev pub full_answer : ConsoleState → ℕ → List ℕ → ConsoleState × ConsoleReply

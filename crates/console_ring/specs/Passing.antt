@@ -1,12 +1,7 @@
 -- What goes into a console comes out of it, in order.
 use Rattle.std.specs.Prelude.{ℕ, List, [], ◌∷◌}
 use Rattle.event_log.specs.declared.event.Step.{Step}
-use Rattle.console_ring.specs.State.{ConsoleState}
-use Rattle.console_ring.specs.Answer.{console_answer}
-use Rattle.console_ring.specs.declared.call.ConsoleCall.{ConsoleCall}
-use Rattle.console_ring.specs.declared.call.ConsoleCall.TheVariants.{Put, Get, Level}
-use Rattle.console_ring.specs.declared.call.ConsoleReply.{ConsoleReply}
-use Rattle.console_ring.specs.declared.call.ConsoleReply.TheVariants.{Ok, Dropped, Empty, Byte, Count}
+use Rattle.console_ring.specs.{State.ConsoleState, Answer.console_answer, declared.call.ConsoleCall.ConsoleCall, declared.call.ConsoleCall.TheVariants.{Put, Get, Level}, declared.call.ConsoleReply.ConsoleReply, declared.call.ConsoleReply.TheVariants.{Ok, Dropped, Empty, Byte, Count}}
 
 -- the bytes that the calls put, in order
 abbrev pub bytes_in : List ConsoleCall → List ℕ

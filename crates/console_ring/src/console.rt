@@ -19,8 +19,7 @@ pub struct Console {
 }
 
 impl Model for Console {
-    ghost use Rattle.std.specs.Prelude.{◌<◌, ◌≤◌, length};
-    ghost use Rattle.std.specs.Vec.{vec_capacity};
+    ghost use Rattle.std.specs.{Prelude.{◌<◌, ◌≤◌, length}, Vec.vec_capacity};
     ghost use Rattle.console_ring.specs.State.{ConsoleState};
 
     ghost Value = { ConsoleState };
@@ -60,8 +59,7 @@ impl Console {
 }
 
 impl SeqObject for Console {
-    ghost use Rattle.console_ring.specs.State.{is_in_range, opening_state};
-    ghost use Rattle.console_ring.specs.Answer.{console_answer, is_refusing};
+    ghost use Rattle.console_ring.specs.{State.{is_in_range, opening_state}, Answer.{console_answer, is_refusing}};
     ghost use Rattle.std.proofs.Common.{lit<, rules};
 
     type Params = u32;

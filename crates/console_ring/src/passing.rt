@@ -1,12 +1,8 @@
 //! Laws of consoles: how full they are, and first in, first out.
 
 ghost use Rattle.std.specs.Prelude.{◌≡◌, ℕ, true, ◌++◌, List};
-ghost use Rattle.event_log.specs.Log.{calls_of, steps_of, Legal, replay};
-ghost use Rattle.event_log.specs.History.{IsKept};
-ghost use Rattle.console_ring.specs.State.{ConsoleState, is_in_range, opening_state, IsConsoleOf};
-ghost use Rattle.console_ring.specs.Answer.{console_answer};
-ghost use Rattle.console_ring.specs.Passing.{bytes_in, bytes_reported, bytes_out, left_after};
-ghost use Rattle.console_ring.specs.declared.call.ConsoleCall.{ConsoleCall};
+ghost use Rattle.event_log.specs.{Log.{calls_of, steps_of, Legal, replay}, History.IsKept};
+ghost use Rattle.console_ring.specs.{State.{ConsoleState, is_in_range, opening_state, IsConsoleOf}, Answer.console_answer, Passing.{bytes_in, bytes_reported, bytes_out, left_after}, declared.call.ConsoleCall.ConsoleCall};
 
 use crate::Console;
 use event_log::SeqObject;

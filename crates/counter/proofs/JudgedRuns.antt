@@ -1,25 +1,13 @@
 -- What is said of a run of one CPU, which counts once on a counter for 3 and then reads a value.
-use Rattle.std.proofs.Common.{◌≡◌, ◌≢◌, ◌↔◌, ℕ, zero, suc, ◌<◌, ⊎_elim, List, [], ◌∷◌, slice_get, Some, Result, Ok, Err, IfOk, refl, sym, ap, subst, arith}
-use Rattle.std.proofs.lemmas.Bool.Decides.{nat_tests}
-use Rattle.std.proofs.lemmas.Option.{none-some, same_Some}
+use Rattle.std.proofs.{Common.{◌≡◌, ◌≢◌, ◌↔◌, ℕ, zero, suc, ◌<◌, ⊎_elim, List, [], ◌∷◌, slice_get, Some, Result, Ok, Err, IfOk, refl, sym, ap, subst, arith}, lemmas.Bool.Decides.nat_tests, lemmas.Option.{none-some, same_Some}}
 use Rattle.std.specs.List.{AllByRecursion}
-use Rattle.event_log.specs.declared.event.Event.{Event}
-use Rattle.event_log.specs.declared.object.OutOfMemory.{OutOfMemory}
+use Rattle.event_log.specs.{declared.event.Event.Event, declared.object.OutOfMemory.OutOfMemory}
 use Rattle.sound_run.specs.Sound.{Opened, Sound, LogIsSound, EntryIsSound, NoneAfterFull, transcript_of, done_on, steps_by}
-use Rattle.auditor.specs.declared.fault.Fault.{Fault}
-use Rattle.auditor.specs.declared.fault.Fault.TheVariants as fault
-use Rattle.auditor.specs.declared.fault.Verdict.{Verdict}
-use Rattle.auditor.specs.declared.fault.Verdict.TheVariants as verdict
-use Rattle.auditor.specs.Faults.{IsTooLong, HasWrongStepBy, IsFault, IsBefore, IsFirstFault, place}
-use Rattle.auditor.specs.StepModels.{object_model, EventIsWrongBy}
-use Rattle.auditor.specs.Terms.{Terms, start, starts}
+use Rattle.auditor.specs.{declared.fault.Fault.Fault, declared.fault.Verdict.Verdict, Faults.{IsTooLong, HasWrongStepBy, IsFault, IsBefore, IsFirstFault, place}, StepModels.{object_model, EventIsWrongBy}, Terms.{Terms, start, starts}}
 use Rattle.auditor.proofs.FaultOrder.{rest_before, not_later}
-use Rattle.counter.specs.State.{CounterState}
-use Rattle.counter.specs.JudgedRun.{one_event, one_entry, read_after_one}
-use Rattle.counter.specs.contracts.counter.BoundedCounterSeqObject.TheImpl.{ghosts}
-use Rattle.counter.specs.declared.call.CounterCall.{CounterCall}
-use Rattle.counter.specs.declared.call.CounterCall.TheVariants.{Increase, Read}
-use Rattle.counter.specs.declared.call.CounterReply.{CounterReply}
+use Rattle.counter.specs.{State.CounterState, JudgedRun.{one_event, one_entry, read_after_one}, contracts.counter.BoundedCounterSeqObject.TheImpl.ghosts, declared.call.CounterCall.CounterCall, declared.call.CounterCall.TheVariants.{Increase, Read}, declared.call.CounterReply.CounterReply}
+use Rattle.auditor.specs.declared.fault.Fault.TheVariants as fault
+use Rattle.auditor.specs.declared.fault.Verdict.TheVariants as verdict
 use Rattle.counter.specs.declared.call.CounterReply.TheVariants as reply
 
 abbrev CounterEvent : Type 0

@@ -1,13 +1,7 @@
 -- What each call of a counter keeps, and what it counts.
-use Rattle.std.proofs.Common.{◌≡◌, ℕ, ◌+◌, List, ◌∷◌, refl, arith}
-use Rattle.std.proofs.lemmas.Bool.Decides.{nat_tests}
+use Rattle.std.proofs.{Common.{◌≡◌, ℕ, ◌+◌, List, ◌∷◌, refl, arith}, lemmas.Bool.Decides.nat_tests}
 use Rattle.event_log.specs.declared.event.Step.{Step}
-use Rattle.counter.specs.State.{CounterState, opening_state, IsCounterOf}
-use Rattle.counter.specs.Answer.{counter_answer}
-use Rattle.counter.specs.Counting.{count_of, ok_count}
-use Rattle.counter.specs.declared.call.CounterCall.{CounterCall}
-use Rattle.counter.specs.declared.call.CounterCall.TheVariants.{Increase, Read}
-use Rattle.counter.specs.declared.call.CounterReply.{CounterReply}
+use Rattle.counter.specs.{State.{CounterState, opening_state, IsCounterOf}, Answer.counter_answer, Counting.{count_of, ok_count}, declared.call.CounterCall.CounterCall, declared.call.CounterCall.TheVariants.{Increase, Read}, declared.call.CounterReply.CounterReply}
 
 pub opens : (n : ℕ) → IsCounterOf n (opening_state n)
 opens n = record { most = refl; within = omega arith }

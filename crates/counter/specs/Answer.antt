@@ -1,10 +1,6 @@
 -- What a counter answers.
 use Rattle.std.specs.Prelude.{◌+◌, nat_lt, Bool, true, false, if◌then◌else◌}
-use Rattle.counter.specs.State.{CounterState}
-use Rattle.counter.specs.declared.call.CounterCall.{CounterCall}
-use Rattle.counter.specs.declared.call.CounterCall.TheVariants.{Increase, Read}
-use Rattle.counter.specs.declared.call.CounterReply.{CounterReply}
-use Rattle.counter.specs.declared.call.CounterReply.TheVariants.{Ok, Full, Value}
+use Rattle.counter.specs.{State.CounterState, declared.call.CounterCall.CounterCall, declared.call.CounterCall.TheVariants.{Increase, Read}, declared.call.CounterReply.CounterReply, declared.call.CounterReply.TheVariants.{Ok, Full, Value}}
 
 -- the state after a call, and the reply: below the bound one more is counted, and at the bound that is refused
 abbrev pub counter_answer : CounterState → CounterCall → CounterState × CounterReply

@@ -1,9 +1,7 @@
 -- What a counter has counted.
 use Rattle.std.specs.Prelude.{ℕ, ◌+◌, List, [], ◌∷◌}
 use Rattle.event_log.specs.declared.event.Step.{Step}
-use Rattle.counter.specs.declared.call.CounterCall.{CounterCall}
-use Rattle.counter.specs.declared.call.CounterReply.{CounterReply}
-use Rattle.counter.specs.declared.call.CounterReply.TheVariants.{Ok, Full, Value}
+use Rattle.counter.specs.{declared.call.CounterCall.CounterCall, declared.call.CounterReply.CounterReply, declared.call.CounterReply.TheVariants.{Ok, Full, Value}}
 
 -- how many a call with this reply has counted
 abbrev pub count_of : CounterReply → ℕ

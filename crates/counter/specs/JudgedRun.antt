@@ -1,15 +1,8 @@
 -- A run of one CPU that is judged: it counts once on a counter for 3, and then reads a value.
 use Rattle.std.specs.Prelude.{ℕ, [], ◌∷◌}
-use Rattle.event_log.specs.Log.{one_step}
-use Rattle.event_log.specs.declared.event.Event.{Event}
+use Rattle.event_log.specs.{Log.one_step, declared.event.Event.Event, declared.entry.Entry.Entry, declared.entry.Run.Run}
+use Rattle.counter.specs.{State.CounterState, declared.call.CounterCall.CounterCall, declared.call.CounterCall.TheVariants.{Increase, Read}, declared.call.CounterReply.CounterReply, declared.call.CounterReply.TheVariants.{Ok, Value}}
 use Rattle.event_log.specs.declared.entry.Done.TheVariants as done
-use Rattle.event_log.specs.declared.entry.Entry.{Entry}
-use Rattle.event_log.specs.declared.entry.Run.{Run}
-use Rattle.counter.specs.State.{CounterState}
-use Rattle.counter.specs.declared.call.CounterCall.{CounterCall}
-use Rattle.counter.specs.declared.call.CounterCall.TheVariants.{Increase, Read}
-use Rattle.counter.specs.declared.call.CounterReply.{CounterReply}
-use Rattle.counter.specs.declared.call.CounterReply.TheVariants.{Ok, Value}
 
 -- an event of CPU 0, of one call
 abbrev pub one_event : CounterCall → CounterReply → Event CounterState ℕ CounterCall CounterReply

@@ -38,8 +38,7 @@ impl BoundedCounter {
 }
 
 impl SeqObject for BoundedCounter {
-    ghost use Rattle.counter.specs.State.{is_in_range, opening_state};
-    ghost use Rattle.counter.specs.Answer.{counter_answer, is_refusing};
+    ghost use Rattle.counter.specs.{State.{is_in_range, opening_state}, Answer.{counter_answer, is_refusing}};
     ghost use Rattle.std.proofs.Common.{lit<, rules};
 
     type Params = u32;

@@ -1,11 +1,8 @@
 //! Laws of counters: how far they go, and what they have counted.
 
 ghost use Rattle.std.specs.Prelude.{◌≡◌, ℕ};
-ghost use Rattle.event_log.specs.Log.{steps_of, Legal, replay};
-ghost use Rattle.event_log.specs.History.{IsKept};
-ghost use Rattle.counter.specs.State.{CounterState, opening_state, IsCounterOf};
-ghost use Rattle.counter.specs.Answer.{counter_answer};
-ghost use Rattle.counter.specs.Counting.{ok_count};
+ghost use Rattle.event_log.specs.{Log.{steps_of, Legal, replay}, History.IsKept};
+ghost use Rattle.counter.specs.{State.{CounterState, opening_state, IsCounterOf}, Answer.counter_answer, Counting.ok_count};
 
 use crate::BoundedCounter;
 use event_log::SeqObject;

@@ -7,16 +7,16 @@ ghost use Rattle.counter.specs.Counting.{ok_count};
 
 mod call;
 mod counter;
-mod judged;
 mod counting;
+mod judged;
 
 use CounterCall::{Increase, Read};
 pub use call::{CounterCall, CounterReply};
 pub use counter::{BoundedCounter, MOST_COUNT};
+pub use counting::{counts_each_once, stays_within};
 use event_log::Logged;
 use guarded_cell::{AnyCell, two_callers};
 pub use judged::{ReferenceCounter, verdict_on};
-pub use counting::{counts_each_once, stays_within};
 use sound_run::LockKind;
 use std::alloc::Global;
 use std::process::ExitCode;

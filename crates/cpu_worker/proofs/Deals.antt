@@ -1,7 +1,6 @@
 -- Elements that are given to rows, one after another.
-use Rattle.std.proofs.Common.{◌≡◌, ◌⊎◌, inl, inr, ℕ, ◌<◌, ◌≤◌, List, [], ◌∷◌, ◌++◌, length, refl, sym, ap, subst, ◌∙◌, arith, length-set, length-append, slice_get, Some, Vec, Global, vec_capacity}
+use Rattle.std.proofs.{Common.{◌≡◌, ◌⊎◌, inl, inr, ℕ, ◌<◌, ◌≤◌, List, [], ◌∷◌, ◌++◌, length, refl, sym, ap, subst, ◌∙◌, arith, length-set, length-append, slice_get, Some, Vec, Global, vec_capacity}, lemmas.Option.slice_get_within}
 use Rattle.std.specs.Prelude.{slice_set}
-use Rattle.std.proofs.lemmas.Option.{slice_get_within}
 use Rattle.event_log.proofs.Lists.{get_push}
 use Rattle.sound_run.proofs.Slices.{one_of, get_set_same, get_set_other}
 

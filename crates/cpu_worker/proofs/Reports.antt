@@ -1,18 +1,12 @@
 -- The sums of entries, one entry and one transcript after another, and the lines of a report.
-use Rattle.std.proofs.Common.{◌≡◌, ℕ, ◌+◌, ◌-◌, ◌*◌, ◌^◌, ◌<◌, ◌≤◌, min, max, suc, add-zero, cond, eqb, List, [], ◌∷◌, ◌++◌, map, length, take, get_or, sym, ap, ◌∙◌, arith}
-use Rattle.std.proofs.lemmas.List.{length-append, map-append, take_more, length-take, take_all, flat_map_more}
-use Rattle.std.proofs.lemmas.List.Sums.{fold-append, sum_by-append, length-filter, count_by-le-length}
-use Rattle.std.proofs.lemmas.List.Elements.{filter-append}
-use Rattle.std.proofs.lemmas.List.Folds.{length-flat_map-take}
+use Rattle.std.proofs.{Common.{◌≡◌, ℕ, ◌+◌, ◌-◌, ◌*◌, ◌^◌, ◌<◌, ◌≤◌, min, max, suc, add-zero, cond, eqb, List, [], ◌∷◌, ◌++◌, map, length, take, get_or, sym, ap, ◌∙◌, arith}, lemmas.List.{length-append, map-append, take_more, length-take, take_all, flat_map_more}, lemmas.List.Sums.{fold-append, sum_by-append, length-filter, count_by-le-length}, lemmas.List.Elements.filter-append, lemmas.List.Folds.length-flat_map-take}
 use Rattle.std.specs.List.{fold, sum, count_by, enumerate_from, AllByRecursion}
 use Rattle.kernel_object.specs.KernelTypes.{KernelEntry}
 use Rattle.kernel_words.specs.declared.form.TheConstants.{WRITTEN}
-use Rattle.records.specs.RecordRanges.{Record, RecordFits, TranscriptFits}
-use Rattle.records.specs.Settings.{ObjectSettings}
+use Rattle.records.specs.{RecordRanges.{Record, RecordFits, TranscriptFits}, Settings.ObjectSettings}
 use Rattle.record_lines.specs.Words.{sentence, text_of_lines}
 use Rattle.sound_run.specs.declared.limits.TheConstants.{MOST_CPUS}
-use Rattle.cpu_worker.specs.declared.sums.Sums.{Sums}
-use Rattle.cpu_worker.specs.Report.{all_entries, entries_on, lacks_room, greatest, sums_of, joined, object_words, objects_words, run_words, report_text}
+use Rattle.cpu_worker.specs.{declared.sums.Sums.Sums, Report.{all_entries, entries_on, lacks_room, greatest, sums_of, joined, object_words, objects_words, run_words, report_text}}
 
 -- ---- the sums of two lists together
 greatest_from : (a : ℕ) (ns : List ℕ) → fold (λ most n. max most n) a ns ≡ max a (greatest ns)

@@ -1,11 +1,8 @@
 -- A CPU's passes of cells that are opened one after another.
-use Rattle.std.proofs.Common.{◌≡◌, ◌⊎◌, inl, inr, ℕ, ◌+◌, List, [], ◌∷◌, ◌++◌, length, sym, ap, subst, ◌∙◌, arith, length-append, slice_get, Some}
-use Rattle.std.proofs.lemmas.List.{map-append}
-use Rattle.std.proofs.lemmas.Option.{slice_get_within}
+use Rattle.std.proofs.{Common.{◌≡◌, ◌⊎◌, inl, inr, ℕ, ◌+◌, List, [], ◌∷◌, ◌++◌, length, sym, ap, subst, ◌∙◌, arith, length-append, slice_get, Some}, lemmas.List.map-append, lemmas.Option.slice_get_within}
 use Rattle.event_log.proofs.Lists.{get_push}
 use Rattle.word_rule.specs.Cell.{opening_pass}
-use Rattle.cpu_worker.specs.Opening.{IsRow}
-use Rattle.cpu_worker.specs.Work.{FixedCell, KernelView}
+use Rattle.cpu_worker.specs.{Opening.IsRow, Work.{FixedCell, KernelView}}
 
 module _ {T S : Type 0} (is_pass_of : T → S → Type 0) (pass_view : S → KernelView) where
   module _ (cells : List FixedCell) (opened : List T) (k : ℕ) (row : List S) (c : FixedCell) (t : T) (p : S) (r : IsRow is_pass_of pass_view cells opened k row) (fits : is_pass_of t p) (view : pass_view p ≡ opening_pass c k) where

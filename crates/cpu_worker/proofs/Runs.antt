@@ -1,33 +1,21 @@
 -- What the workers of all CPUs leave on the cells of the settings.
-use Rattle.std.proofs.Common.{◌≡◌, ℕ, ◌<◌, ◌≤◌, ◌^◌, List, [], length, map, sym, ◌∙◌, ap, subst, arith, slice_get, Some}
+use Rattle.std.proofs.{Common.{◌≡◌, ℕ, ◌<◌, ◌≤◌, ◌^◌, List, [], length, map, sym, ◌∙◌, ap, subst, arith, slice_get, Some}, lemmas.List.{append-nil, length-map}, lemmas.Simd.map-map, lemmas.Option.slice_get_within}
 use Rattle.std.specs.List.{AllByRecursion, AllZip}
-use Rattle.std.proofs.lemmas.List.{append-nil, length-map}
-use Rattle.std.proofs.lemmas.Simd.{map-map}
-use Rattle.std.proofs.lemmas.Option.{slice_get_within}
-use Rattle.event_log.specs.Entries.{asked_of}
-use Rattle.event_log.proofs.Each.{all_map, each_at}
-use Rattle.event_log.proofs.Lists.{some_at}
-use Rattle.kernel_object.specs.declared.call.KParams.{KParams}
-use Rattle.kernel_object.specs.contracts.object.KernelObjectSeqObject.TheImpl.{ghosts as kernel}
-use Rattle.kernel_object.specs.KernelTypes.{KernelEntry, KernelTodo, KernelRun}
-use Rattle.guarded_cell.specs.Workers.{ArePasses, HasDone, opened_of_cell}
-use Rattle.guarded_cell.specs.Runs.{EachJoins, Worked, AllWorked, run_left}
+use Rattle.event_log.specs.{Entries.asked_of, declared.logged.TheConstants.MOST_EVENTS}
+use Rattle.event_log.proofs.{Each.{all_map, each_at}, Lists.some_at}
+use Rattle.kernel_object.specs.{declared.call.KParams.KParams, contracts.object.KernelObjectSeqObject.TheImpl.{ghosts as kernel}, KernelTypes.{KernelEntry, KernelTodo, KernelRun}}
+use Rattle.guarded_cell.specs.{Workers.{ArePasses, HasDone, opened_of_cell}, Runs.{EachJoins, Worked, AllWorked, run_left}}
 use Rattle.guarded_cell.proofs.Workers.{views_of}
-use Rattle.records.specs.Runs.{TranscriptAsks, opened_of}
+use Rattle.records.specs.{Runs.{TranscriptAsks, opened_of}, RecordRanges.TodoFits, Settings.{Settings, SettingsFit, ObjectFits}}
 use Rattle.scripts.specs.ScriptText.{ScriptFits, ScriptsFit}
-use Rattle.records.specs.RecordRanges.{TodoFits}
-use Rattle.records.specs.Settings.{Settings, SettingsFit, ObjectFits}
 use Rattle.kernel_words.specs.declared.form.TheConstants.{WRITTEN}
-use Rattle.event_log.specs.declared.logged.TheConstants.{MOST_EVENTS}
 use Rattle.records.proofs.SoundRanges.{all_at as all_by_place}
-use Rattle.word_rule.specs.Cell.{EachAt, IsPassView, opening_pass}
-use Rattle.word_rule.specs.Machine.SoundWorld.{IsTodo}
+use Rattle.word_rule.specs.{Cell.{EachAt, IsPassView, opening_pass}, Machine.SoundWorld.IsTodo}
 use Rattle.sound_run.specs.Sound.{Opened, Sound}
 use Rattle.word_rule.proofs.Openings.{zip_at}
 use Rattle.sound_run.proofs.Slices.{get_map, map_get}
 use Rattle.cpu_worker.proofs.Simulations.{asks_each}
-use Rattle.cpu_worker.specs.Opening.{IsRow, cell_for, cells_for}
-use Rattle.cpu_worker.specs.Work.{FixedCell, KernelView, IsReady, IsDone}
+use Rattle.cpu_worker.specs.{Opening.{IsRow, cell_for, cells_for}, Work.{FixedCell, KernelView, IsReady, IsDone}}
 
 -- entries in their ranges can be done on as many cells
 pub able : (objects cells : ℕ) → cells ≡ objects → (todos : List KernelTodo) → AllByRecursion (TodoFits objects) todos → AllByRecursion (λ t. IsTodo cells t) todos

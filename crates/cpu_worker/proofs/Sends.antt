@@ -1,33 +1,21 @@
 -- Cells around objects of the kernel, their passes and a worker's lists may go to other threads.
-use denote.Param.Send.{IsSend, IsSync, sendable}
-use denote.RattleType.{RattleType}
+use denote.{Param.Send.{IsSend, IsSync, sendable}, RattleType.RattleType}
 use Rattle.std.proofs.Crossing.{crosses}
+use Rattle.std.specs.{contracts.impls.GlobalAllocator.TheImpl.{ghosts as heap}, declared.clone.Clone.{Ghosts as Clones}, declared.cmp.Eq.{Ghosts as Equals}, declared.cmp.PartialEq.{Ghosts as Compares}, declared.default.Default.{Ghosts as Defaults}}
+use Rattle.kernel_object.specs.{contracts.object.KernelObjectSeqObject.TheImpl.{ghosts as kernel}, contracts.call.KCallPartialEq.TheImpl.{ghosts as call_compares}, contracts.call.KCallDefault.TheImpl.{ghosts as call_defaults}, contracts.call.KReplyPartialEq.TheImpl.{ghosts as reply_compares}, contracts.call.KReplyDefault.TheImpl.{ghosts as reply_defaults}}
+use Rattle.kernel_object.proofs.{object.KernelObject.TheSendSync.{the_send as object_send}, call.KParams.TheSendSync.{the_send as params_send}, call.KCall.TheSendSync.{the_send as call_send}, call.KReply.TheSendSync.{the_send as reply_send}}
+use Rattle.word_rule.proofs.Sends.{pass_send}
+use Rattle.guarded_cell.proofs.cell.AnyCell.TheSendSync.{the_sync as any_sync}
 use Rattle.std.specs.contracts.alloc.Global as Heap
-use Rattle.std.specs.contracts.impls.GlobalAllocator.TheImpl.{ghosts as heap}
 use Rattle.std.specs.contracts.vec.Vec as Vec
-use Rattle.std.specs.declared.clone.Clone.{Ghosts as Clones}
-use Rattle.std.specs.declared.cmp.Eq.{Ghosts as Equals}
-use Rattle.std.specs.declared.cmp.PartialEq.{Ghosts as Compares}
-use Rattle.std.specs.declared.default.Default.{Ghosts as Defaults}
 use Rattle.event_log.specs.contracts.entry.Todo as Todo
 use Rattle.event_log.specs.contracts.entry.Entry as Entry
 use Rattle.kernel_object.specs.contracts.object.KernelObject as Object
 use Rattle.kernel_object.specs.contracts.call.KParams as Params
 use Rattle.kernel_object.specs.contracts.call.KCall as Call
 use Rattle.kernel_object.specs.contracts.call.KReply as Reply
-use Rattle.kernel_object.specs.contracts.object.KernelObjectSeqObject.TheImpl.{ghosts as kernel}
-use Rattle.kernel_object.specs.contracts.call.KCallPartialEq.TheImpl.{ghosts as call_compares}
-use Rattle.kernel_object.specs.contracts.call.KCallDefault.TheImpl.{ghosts as call_defaults}
-use Rattle.kernel_object.specs.contracts.call.KReplyPartialEq.TheImpl.{ghosts as reply_compares}
-use Rattle.kernel_object.specs.contracts.call.KReplyDefault.TheImpl.{ghosts as reply_defaults}
-use Rattle.kernel_object.proofs.object.KernelObject.TheSendSync.{the_send as object_send}
-use Rattle.kernel_object.proofs.call.KParams.TheSendSync.{the_send as params_send}
-use Rattle.kernel_object.proofs.call.KCall.TheSendSync.{the_send as call_send}
-use Rattle.kernel_object.proofs.call.KReply.TheSendSync.{the_send as reply_send}
 use Rattle.word_rule.specs.contracts.pass.Pass as Pass
-use Rattle.word_rule.proofs.Sends.{pass_send}
 use Rattle.guarded_cell.specs.contracts.cell.AnyCell as AnyCell
-use Rattle.guarded_cell.proofs.cell.AnyCell.TheSendSync.{the_sync as any_sync}
 
 abbrev pub todos : RattleType
 todos = Vec.the_row (Todo.the_row Object.the_row Params.the_row Call.the_row Reply.the_row) Heap.the_row heap

@@ -1,27 +1,14 @@
 -- A simulation asks for beginnings of the scripts, and is made of the world before the first step.
-use Rattle.std.proofs.Common.{◌≡◌, ℕ, suc, ◌+◌, ◌<◌, ◌^◌, Some, List, [], ◌∷◌, ◌++◌, map, length, refl, sym, ◌∙◌, ap, subst, arith, length-append, Vec, Global}
-use Rattle.std.specs.Prelude.{slice_get}
-use Rattle.std.specs.List.{AllByRecursion, AllZip}
-use Rattle.std.proofs.lemmas.List.{length-map}
-use Rattle.std.proofs.lemmas.Simd.{map-map}
+use Rattle.std.proofs.{Common.{◌≡◌, ℕ, suc, ◌+◌, ◌<◌, ◌^◌, Some, List, [], ◌∷◌, ◌++◌, map, length, refl, sym, ◌∙◌, ap, subst, arith, length-append, Vec, Global}, lemmas.List.length-map, lemmas.Simd.map-map}
+use Rattle.std.specs.{Prelude.slice_get, List.{AllByRecursion, AllZip}}
 use Rattle.event_log.proofs.Beginnings.{begins_append}
-use Rattle.event_log.specs.Log.{Begins}
-use Rattle.event_log.specs.Entries.{asked_of}
-use Rattle.kernel_object.specs.declared.call.KParams.{KParams}
-use Rattle.kernel_object.specs.declared.call.KCall.{KCall}
-use Rattle.kernel_object.specs.declared.call.KReply.{KReply}
-use Rattle.kernel_object.specs.declared.object.KernelObject.{KernelObject}
-use Rattle.kernel_object.specs.contracts.object.KernelObjectSeqObject.TheImpl.{ghosts as kernel}
-use Rattle.kernel_object.specs.KernelTypes.{KernelEntry, KernelTodo, KernelRun}
-use Rattle.records.specs.Runs.{AsksFirst, EntryAsks, TranscriptAsks}
+use Rattle.event_log.specs.{Log.Begins, Entries.asked_of}
+use Rattle.kernel_object.specs.{declared.call.KParams.KParams, declared.call.KCall.KCall, declared.call.KReply.KReply, declared.object.KernelObject.KernelObject, contracts.object.KernelObjectSeqObject.TheImpl.{ghosts as kernel}, KernelTypes.{KernelEntry, KernelTodo, KernelRun}}
+use Rattle.records.specs.{Runs.{AsksFirst, EntryAsks, TranscriptAsks}, RecordRanges.TodoFits, Settings.{Settings, ObjectSettings}}
 use Rattle.scripts.specs.ScriptText.{ScriptFits, ScriptsFit}
-use Rattle.records.specs.RecordRanges.{TodoFits}
-use Rattle.records.specs.Settings.{Settings, ObjectSettings}
 use Rattle.sound_run.specs.Sound.{Opened}
 use Rattle.sound_run.proofs.Slices.{get_map, one_of}
-use Rattle.word_rule.specs.Machine.Opening.{opening_cpu}
-use Rattle.word_rule.specs.Machine.SoundWorld.{IsTodo}
-use Rattle.word_rule.specs.Machine.World.{CpuState, run}
+use Rattle.word_rule.specs.{Machine.Opening.opening_cpu, Machine.SoundWorld.IsTodo, Machine.World.{CpuState, run}}
 use Rattle.cpu_worker.specs.Simulation.{KernelWorld, new_world, simulated}
 use Rattle.cpu_worker.proofs.Worlds.{Keeps, KeepsCpu, run_keeps}
 

@@ -1,29 +1,17 @@
 -- A simulation behind which nothing is left holds all entries; and the world that it begins with is one before its first step.
-use Rattle.std.proofs.Common.{◌≡◌, ◌≤◌, ℕ, suc, Some, List, [], ◌∷◌, ◌++◌, map, length, refl, sym, ◌∙◌, ap, subst, arith}
-use Rattle.std.specs.Prelude.{slice_get}
-use Rattle.std.specs.List.{AllByRecursion}
-use Rattle.std.proofs.lemmas.List.{append-nil, length-map}
+use Rattle.std.proofs.{Common.{◌≡◌, ◌≤◌, ℕ, suc, Some, List, [], ◌∷◌, ◌++◌, map, length, refl, sym, ◌∙◌, ap, subst, arith}, lemmas.List.{append-nil, length-map}}
+use Rattle.std.specs.{Prelude.slice_get, List.AllByRecursion}
 use Rattle.event_log.specs.Entries.{asked_of}
 use Rattle.event_log.proofs.Each.{each_at}
-use Rattle.kernel_object.specs.declared.call.KParams.{KParams}
-use Rattle.kernel_object.specs.declared.call.KCall.{KCall}
-use Rattle.kernel_object.specs.declared.call.KReply.{KReply}
-use Rattle.kernel_object.specs.declared.object.KernelObject.{KernelObject}
-use Rattle.kernel_object.specs.contracts.object.KernelObjectSeqObject.TheImpl.{ghosts as kernel}
-use Rattle.kernel_object.specs.KernelTypes.{KernelTodo}
-use Rattle.records.specs.Runs.{AsksFor}
+use Rattle.kernel_object.specs.{declared.call.KParams.KParams, declared.call.KCall.KCall, declared.call.KReply.KReply, declared.object.KernelObject.KernelObject, contracts.object.KernelObjectSeqObject.TheImpl.{ghosts as kernel}, KernelTypes.KernelTodo}
+use Rattle.records.specs.{Runs.AsksFor, Settings.{Settings, SettingsFit}}
 use Rattle.scripts.specs.ScriptText.{ScriptFits, ScriptsFit}
-use Rattle.records.specs.Settings.{Settings, SettingsFit}
 use Rattle.sound_run.specs.declared.limits.TheConstants.{MOST_CPUS}
 use Rattle.sound_run.proofs.Slices.{get_map}
 use Rattle.word_rule.proofs.LockLaws.{few_fit}
-use Rattle.word_rule.specs.Machine.Opening.{IsOpening, IsOpeningCell, opening_cpu}
-use Rattle.word_rule.specs.Machine.Rounds.{AllDone}
-use Rattle.word_rule.specs.Machine.SoundWorld.{IsTodo}
-use Rattle.word_rule.specs.Machine.World.{CpuState, run}
+use Rattle.word_rule.specs.{Machine.Opening.{IsOpening, IsOpeningCell, opening_cpu}, Machine.Rounds.AllDone, Machine.SoundWorld.IsTodo, Machine.World.{CpuState, run}}
 use Rattle.cpu_worker.specs.Simulation.{new_cell, new_world, simulated}
-use Rattle.cpu_worker.proofs.Simulations.{able_todos, opening_keeps}
-use Rattle.cpu_worker.proofs.Worlds.{KeepsCpu, run_keeps}
+use Rattle.cpu_worker.proofs.{Simulations.{able_todos, opening_keeps}, Worlds.{KeepsCpu, run_keeps}}
 
 abbrev KernelCpu : Type 0
 KernelCpu = CpuState KernelObject KParams KCall KReply

@@ -1,20 +1,10 @@
 -- What every step of the machine keeps: what a CPU did and what it has left are its script, and looks are counted.
-use Rattle.std.proofs.Common.{◌≡◌, ℕ, ◌+◌, ◌-◌, ◌<◌, ◌^◌, ◌==◌, min, Bool, true, false, cond, Option, Some, None, List, [], ◌∷◌, ◌++◌, map, length, length-set, refl, sym, ◌∙◌, ap, subst, append_assoc, arith}
-use Rattle.std.specs.Prelude.{slice_get, slice_set}
-use Rattle.std.specs.List.{AllByRecursion}
-use Rattle.std.proofs.lemmas.Bool.{eqb-true, eqb-false}
-use Rattle.std.proofs.lemmas.List.{map-append}
+use Rattle.std.proofs.{Common.{◌≡◌, ℕ, ◌+◌, ◌-◌, ◌<◌, ◌^◌, ◌==◌, min, Bool, true, false, cond, Option, Some, None, List, [], ◌∷◌, ◌++◌, map, length, length-set, refl, sym, ◌∙◌, ap, subst, append_assoc, arith}, lemmas.Bool.{eqb-true, eqb-false}, lemmas.List.map-append}
+use Rattle.std.specs.{Prelude.{slice_get, slice_set}, List.AllByRecursion}
 use Rattle.event_log.proofs.Each.{all_push}
-use Rattle.event_log.specs.declared.object.SeqObject.{Ghosts}
-use Rattle.event_log.specs.declared.entry.Entry.{Entry}
-use Rattle.event_log.specs.declared.entry.Done.{Done}
-use Rattle.event_log.specs.declared.entry.Todo.{Todo}
-use Rattle.event_log.specs.Entries.{asked_of}
+use Rattle.event_log.specs.{declared.object.SeqObject.Ghosts, declared.entry.Entry.Entry, declared.entry.Done.Done, declared.entry.Todo.Todo, Entries.asked_of}
 use Rattle.sound_run.proofs.Slices.{get_set_same, get_set_other}
-use Rattle.word_rule.specs.declared.machine.step_done.StepDone.{StepDone}
-use Rattle.word_rule.specs.Locks.{Lock, turn}
-use Rattle.word_rule.specs.StepKinds.{ends_hold, is_look}
-use Rattle.word_rule.specs.Machine.World.{World, CellState, CpuState, counted, entry_of, finished, cpu_after, outcome, world_after, step_on, step_of, step_by, step, run}
+use Rattle.word_rule.specs.{declared.machine.step_done.StepDone.StepDone, Locks.{Lock, turn}, StepKinds.{ends_hold, is_look}, Machine.World.{World, CellState, CpuState, counted, entry_of, finished, cpu_after, outcome, world_after, step_on, step_of, step_by, step, run}}
 
 looks_fit : (looks : ℕ) (s : StepDone) → looks < 2 ^ 64 → counted looks s < 2 ^ 64
 looks_fit looks s less = go (is_look s)

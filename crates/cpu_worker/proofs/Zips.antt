@@ -1,7 +1,6 @@
 -- Lists that are related place by place.
 use Rattle.std.proofs.Common.{◌≡◌, List, [], ◌∷◌, Result, Ok, Err, IfErr, sym, subst}
-use Rattle.std.specs.List.{AllByRecursion, AllZip}
-use Rattle.std.specs.Result.{IsErrAnd}
+use Rattle.std.specs.{List.{AllByRecursion, AllZip}, Result.IsErrAnd}
 
 pub zip_then : {X Y Z : Type 0} {P : X → Y → Type 0} {Q : Y → Z → Type 0} {S : X → Z → Type 0} → ((x : X) (y : Y) (z : Z) → P x y → Q y z → S x z) → (xs : List X) (ys : List Y) (zs : List Z) → AllZip P xs ys → AllZip Q ys zs → AllZip S xs zs
 zip_then f [] [] [] p q = tt

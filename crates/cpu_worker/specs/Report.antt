@@ -1,11 +1,9 @@
 -- The report of a run: a line for each object, and one for the whole run.
-use Rattle.std.specs.Prelude.{ℕ, ◌+◌, ◌-◌, ◌^◌, min, max, Bool, true, false, ◌==◌, List, [], ◌∷◌, ◌++◌, map, length, codes, decimal}
-use Rattle.std.specs.List.{filter, flat_map, fold, sum, count_by, enumerate_from}
+use Rattle.std.specs.{Prelude.{ℕ, ◌+◌, ◌-◌, ◌^◌, min, max, Bool, true, false, ◌==◌, List, [], ◌∷◌, ◌++◌, map, length, codes, decimal}, List.{filter, flat_map, fold, sum, count_by, enumerate_from}}
 use Rattle.event_log.specs.declared.entry.Done.TheVariants.{Steps, NoRoom}
 use Rattle.kernel_object.specs.KernelTypes.{KernelDone, KernelEntry}
-use Rattle.records.specs.RecordRanges.{Record}
+use Rattle.records.specs.{RecordRanges.Record, Settings.ObjectSettings}
 use Rattle.kernel_words.specs.Parameters.{lock_word}
-use Rattle.records.specs.Settings.{ObjectSettings}
 use Rattle.record_lines.specs.Words.{sentence, text_of_lines}
 use Rattle.cpu_worker.specs.declared.sums.Sums.{Sums}
 

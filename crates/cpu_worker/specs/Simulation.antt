@@ -1,14 +1,7 @@
 -- What a simulation does: scripts on the objects of the settings, one atomic step at a time, in the order of a schedule.
 use Rattle.std.specs.Prelude.{ℕ, List, [], map}
-use Rattle.kernel_object.specs.declared.call.KParams.{KParams}
-use Rattle.kernel_object.specs.declared.call.KCall.{KCall}
-use Rattle.kernel_object.specs.declared.call.KReply.{KReply}
-use Rattle.kernel_object.specs.declared.object.KernelObject.{KernelObject}
-use Rattle.kernel_object.specs.contracts.object.KernelObjectSeqObject.TheImpl.{ghosts as kernel}
-use Rattle.kernel_object.specs.KernelTypes.{KernelTodo, KernelRun}
-use Rattle.word_rule.specs.Locks.{opening_lock}
-use Rattle.word_rule.specs.Machine.Opening.{opening_cpu}
-use Rattle.word_rule.specs.Machine.World.{World, CellState, run, run_of}
+use Rattle.kernel_object.specs.{declared.call.KParams.KParams, declared.call.KCall.KCall, declared.call.KReply.KReply, declared.object.KernelObject.KernelObject, contracts.object.KernelObjectSeqObject.TheImpl.{ghosts as kernel}, KernelTypes.{KernelTodo, KernelRun}}
+use Rattle.word_rule.specs.{Locks.opening_lock, Machine.Opening.opening_cpu, Machine.World.{World, CellState, run, run_of}}
 use Rattle.records.specs.Settings.{Settings, ObjectSettings}
 
 abbrev pub KernelWorld : Type 0

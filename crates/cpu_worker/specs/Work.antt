@@ -1,16 +1,9 @@
 -- What a CPU's worker on objects of the kernel is given, and what it leaves.
-use Rattle.std.specs.Prelude.{◌≡◌, ℕ, ◌≤◌, List, [], map, length}
-use Rattle.std.specs.List.{AllByRecursion}
-use Rattle.kernel_object.specs.declared.call.KParams.{KParams}
-use Rattle.kernel_object.specs.declared.call.KCall.{KCall}
-use Rattle.kernel_object.specs.declared.call.KReply.{KReply}
-use Rattle.kernel_object.specs.declared.object.KernelObject.{KernelObject}
-use Rattle.kernel_object.specs.contracts.object.KernelObjectSeqObject.TheImpl.{ghosts as kernel}
-use Rattle.kernel_object.specs.KernelTypes.{KernelTodo, KernelEntry}
+use Rattle.std.specs.{Prelude.{◌≡◌, ℕ, ◌≤◌, List, [], map, length}, List.AllByRecursion}
+use Rattle.kernel_object.specs.{declared.call.KParams.KParams, declared.call.KCall.KCall, declared.call.KReply.KReply, declared.object.KernelObject.KernelObject, contracts.object.KernelObjectSeqObject.TheImpl.{ghosts as kernel}, KernelTypes.{KernelTodo, KernelEntry}}
 use Rattle.guarded_cell.specs.Workers.{ArePasses, HasDone}
 use Rattle.records.specs.declared.record.TheConstants.{MOST_ENTRIES}
-use Rattle.word_rule.specs.Cell.{Cell, PassView}
-use Rattle.word_rule.specs.Machine.SoundWorld.{IsTodo}
+use Rattle.word_rule.specs.{Cell.{Cell, PassView}, Machine.SoundWorld.IsTodo}
 
 -- a caller of a cell around an object of the kernel, and what was fixed when such a cell was opened
 abbrev pub KernelView : Type 0

@@ -1,10 +1,8 @@
 //! The end of a run: the passes of all CPUs become one for each object, and the cells are closed.
 
-ghost use Rattle.std.specs.Prelude.{◌≡◌, ◌<◌, ◌≤◌, ◌+◌, ◌++◌, [], length, map, slice_get, Some, vec_capacity};
-ghost use Rattle.std.specs.List.{AllByRecursion};
+ghost use Rattle.std.specs.{Prelude.{◌≡◌, ◌<◌, ◌≤◌, ◌+◌, ◌++◌, [], length, map, slice_get, Some, vec_capacity}, List.AllByRecursion};
 ghost use Rattle.word_rule.specs.Cell.{PassView, OwnsAll};
-ghost use Rattle.guarded_cell.specs.Runs.{Joins, EachJoins};
-ghost use Rattle.guarded_cell.specs.Workers.{ArePasses};
+ghost use Rattle.guarded_cell.specs.{Runs.{Joins, EachJoins}, Workers.ArePasses};
 
 use event_log::{Entry, Event, MOST_EVENTS, SeqObject, Series};
 use word_rule::LockCell;

@@ -1,10 +1,7 @@
 //! What a run needs before its threads are started: the cells, a job for each CPU, and all memory.
 
-ghost use Rattle.std.specs.Prelude.{◌≡◌, ◌∷◌, ◌++◌, ◌<◌, ◌≤◌, ℕ, [], IfOk, Some, Vec, length, map, slice_get, vec_len, vec_capacity};
-ghost use Rattle.std.specs.List.{AllByRecursion};
-ghost use Rattle.std.specs.declared.alloc.Global.{Global};
-ghost use Rattle.word_rule.specs.Cell.{EachAt};
-ghost use Rattle.word_rule.specs.Passes.{view_of_pass};
+ghost use Rattle.std.specs.{Prelude.{◌≡◌, ◌∷◌, ◌++◌, ◌<◌, ◌≤◌, ℕ, [], IfOk, Some, Vec, length, map, slice_get, vec_len, vec_capacity}, List.AllByRecursion, declared.alloc.Global.Global};
+ghost use Rattle.word_rule.specs.{Cell.EachAt, Passes.view_of_pass};
 ghost use Rattle.guarded_cell.specs.Kinds.{IsPassOf};
 ghost use Rattle.scripts.specs.ScriptText.{ScriptsFit};
 ghost use Rattle.cpu_worker.specs.Opening.{IsRow, cells_for};

@@ -1,13 +1,10 @@
 //! A thread for each CPU.
 
-ghost use Rattle.std.specs.Prelude.{◌≡◌, ◌≤◌, [], IfOk, IfErr, length, vec_len, vec_capacity};
-ghost use Rattle.std.specs.List.{AllByRecursion, AllZip};
-ghost use Rattle.std.specs.Thread.{IsSync};
+ghost use Rattle.std.specs.{Prelude.{◌≡◌, ◌≤◌, [], IfOk, IfErr, length, vec_len, vec_capacity}, List.{AllByRecursion, AllZip}, Thread.IsSync};
 ghost use Rattle.sound_run.specs.declared.limits.TheConstants.{MOST_CPUS};
 ghost use Rattle.word_rule.specs.Passes.{view_of_pass};
 ghost use Rattle.guarded_cell.specs.Kinds.{IsPassOf};
-ghost use Rattle.cpu_worker.specs.Starts.{AllowedBelow, IsNotStarted, fault_of};
-ghost use Rattle.cpu_worker.specs.Work.{IsReady, IsDone};
+ghost use Rattle.cpu_worker.specs.{Starts.{AllowedBelow, IsNotStarted, fault_of}, Work.{IsReady, IsDone}};
 
 use crate::gate::Gate;
 use crate::starter::Starter;

@@ -1,13 +1,10 @@
 //! What simulations come to, on a function without effect.
 
 ghost use Rattle.std.specs.Prelude.{◌*◌, ℕ, List, length};
-ghost use Rattle.kernel_object.specs.contracts.object.KernelObjectSeqObject.TheImpl.{ghosts as kernel};
-ghost use Rattle.kernel_object.specs.KernelTypes.{KernelTodo};
-ghost use Rattle.word_rule.specs.Machine.Rounds.{AllDone, HasRounds, entries_to_do, most_steps};
-ghost use Rattle.word_rule.specs.Machine.World.{run};
-ghost use Rattle.records.specs.Runs.{AsksFor};
+ghost use Rattle.kernel_object.specs.{contracts.object.KernelObjectSeqObject.TheImpl.{ghosts as kernel}, KernelTypes.KernelTodo};
+ghost use Rattle.word_rule.specs.{Machine.Rounds.{AllDone, HasRounds, entries_to_do, most_steps}, Machine.World.run};
+ghost use Rattle.records.specs.{Runs.AsksFor, Settings.{Settings, SettingsFit}};
 ghost use Rattle.scripts.specs.ScriptText.{ScriptsFit};
-ghost use Rattle.records.specs.Settings.{Settings, SettingsFit};
 ghost use Rattle.cpu_worker.specs.Simulation.{new_world, simulated};
 
 use scripts::KernelObject;

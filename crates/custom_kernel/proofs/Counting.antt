@@ -1,14 +1,9 @@
 -- A step more, behind steps that were counted.
-use Rattle.std.proofs.Common.{◌≡◌, ⊎_elim, ℕ, ◌+◌, ◌<◌, Bool, true, false, true≢false, Option, Some, None, List, [], ◌∷◌, ◌++◌, length, take, refl, sym, ap, ◌∙◌, arith, length-append}
+use Rattle.std.proofs.{Common.{◌≡◌, ⊎_elim, ℕ, ◌+◌, ◌<◌, Bool, true, false, true≢false, Option, Some, None, List, [], ◌∷◌, ◌++◌, length, take, refl, sym, ap, ◌∙◌, arith, length-append}, lemmas.Bool.cases_lt, lemmas.List.{append_assoc, take_all, take-append-le}}
 use Rattle.std.specs.Option.{option_map_or}
-use Rattle.std.proofs.lemmas.Bool.{cases_lt}
-use Rattle.std.proofs.lemmas.List.{append_assoc, take_all, take-append-le}
-use Rattle.kernel_object.specs.declared.call.KCall.{KCall}
-use Rattle.kernel_object.specs.declared.object.KernelObject.{KernelObject}
-use Rattle.kernel_object.specs.Kernel.{kernel_opening, kernel_answer}
+use Rattle.kernel_object.specs.{declared.call.KCall.KCall, declared.object.KernelObject.KernelObject, Kernel.{kernel_opening, kernel_answer}}
 use Rattle.custom_records.specs.Custom.{CustomStep}
-use Rattle.custom_kernel.specs.Counts.{AreRight, IsCountOf, Counted, answers_of, LeadsTo, IsCounting}
-use Rattle.custom_kernel.specs.KernelModel.{call_of, answers_last}
+use Rattle.custom_kernel.specs.{Counts.{AreRight, IsCountOf, Counted, answers_of, LeadsTo, IsCounting}, KernelModel.{call_of, answers_last}}
 
 -- a step behind the others changes none of the earlier beginnings
 earlier : (steps : List CustomStep) (s : CustomStep) (k : ℕ) → k < length steps → take (k + 1) (steps ++ s ∷ []) ≡ take (k + 1) steps
@@ -58,8 +53,6 @@ leads_on o state next steps s c leads called to = λ t more.
     ∙ (leads s (t ∷ more)
     ∙ (ap (λ r. option_map_or (λ d. answers_last (kernel_answer state d).0 (t ∷ more)) r false) called
     ∙ ap (λ x. answers_last x (t ∷ more)) (sym to)))
-
-}
 
 module _ (c : Counted) (state : KernelObject) (goes_on : Bool) (i : IsCounting c state goes_on) (s : CustomStep) (steps : List CustomStep) (grown : steps ≡ c.steps ++ s ∷ []) (next : KernelObject) where
   -- a right step

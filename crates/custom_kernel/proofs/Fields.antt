@@ -1,8 +1,6 @@
 -- Numbers beside the fields whose values they are.
-use Rattle.std.proofs.Common.{◌≡◌, ℕ, Bool, true, false, cond, Some, None, List, [], ◌∷◌, length, refl, arith}
-use Rattle.std.proofs.lemmas.Bool.{and_right}
-use Rattle.kernel_words.specs.declared.tables.field.Field.{Field}
-use Rattle.kernel_words.specs.Row.{in_range}
+use Rattle.std.proofs.{Common.{◌≡◌, ℕ, Bool, true, false, cond, Some, None, List, [], ◌∷◌, length, refl, arith}, lemmas.Bool.and_right}
+use Rattle.kernel_words.specs.{declared.tables.field.Field.Field, Row.in_range}
 use Rattle.custom_kernel.specs.KernelModel.{are_in_ranges}
 
 -- more or fewer numbers don't fit

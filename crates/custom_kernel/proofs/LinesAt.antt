@@ -1,16 +1,11 @@
 -- The first lines of a text.
 use Rattle.std.proofs.Common.{◌≡◌, ℕ, suc, ◌+◌, ◌-◌, ◌<◌, false, List, [], ◌∷◌, ◌++◌, Option, Some, None, refl, sym, ap, ◌∙◌, cond, arith, option_map, IfSome, IfNone, subst}
-use Rattle.std.specs.Borrow.{Bor}
-use Rattle.std.specs.Option.{option_map_or}
+use Rattle.std.specs.{Borrow.Bor, Option.option_map_or}
 use Rattle.event_log.specs.Log.{steps_of}
-use Rattle.kernel_object.specs.declared.call.KParams.{KParams}
-use Rattle.kernel_object.specs.Kernel.{kernel_opening}
+use Rattle.kernel_object.specs.{declared.call.KParams.KParams, Kernel.kernel_opening}
 use Rattle.custom_records.specs.Custom.{CustomEvent}
-use Rattle.custom_kernel.specs.Counts.{IsCountOf, answers_of}
-use Rattle.custom_kernel.specs.KernelModel.{params_of, answers_last}
-use Rattle.custom_kernel.specs.Lines.{line_of, object_from, event_of, events_of, head_from, params_from_line, IsKernelCount}
-use Rattle.record_lines.specs.Reading.{◌>>=◌}
-use Rattle.record_lines.specs.Words.{NoEnd}
+use Rattle.custom_kernel.specs.{Counts.{IsCountOf, answers_of}, KernelModel.{params_of, answers_last}, Lines.{line_of, object_from, event_of, events_of, head_from, params_from_line, IsKernelCount}}
+use Rattle.record_lines.specs.{Reading.◌>>=◌, Words.NoEnd}
 
 -- the first line ends at the first line end
 pub line_found : (line rest : List ℕ) → NoEnd line → line_of (line ++ 10 ∷ rest) ≡ Some (line, rest)

@@ -1,8 +1,6 @@
 -- How many steps are right from the first on.
 use Rattle.std.specs.Prelude.{◌≡◌, ℕ, ◌+◌, ◌<◌, ◌≤◌, Bool, true, false, List, [], ◌∷◌, ◌++◌, length, take}
-use Rattle.kernel_object.specs.declared.call.KParams.{KParams}
-use Rattle.kernel_object.specs.declared.object.KernelObject.{KernelObject}
-use Rattle.kernel_object.specs.Kernel.{kernel_opening}
+use Rattle.kernel_object.specs.{declared.call.KParams.KParams, declared.object.KernelObject.KernelObject, Kernel.kernel_opening}
 use Rattle.custom_records.specs.Custom.{CustomStep}
 use Rattle.custom_kernel.specs.KernelModel.{answers_last}
 

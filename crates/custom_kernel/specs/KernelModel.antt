@@ -1,21 +1,9 @@
 -- The four kinds of objects of the kernel, as a model.
-use Rattle.std.specs.Prelude.{ℕ, Bool, true, false, ◌&&◌, if◌then◌else◌, List, [], ◌∷◌, Option, Some, None}
-use Rattle.std.specs.Option.{option_map_or}
-use Rattle.std.specs.Str.{bytes_eq}
-use Rattle.kernel_object.specs.declared.call.KCall.{KCall}
-use Rattle.kernel_object.specs.declared.call.KParams.{KParams}
-use Rattle.kernel_object.specs.declared.call.KParams.TheVariants.{Queue, Pool, Console, Sched}
-use Rattle.kernel_object.specs.declared.call.KReply.{KReply}
-use Rattle.kernel_object.specs.declared.object.KernelObject.{KernelObject}
-use Rattle.kernel_object.specs.declared.kind.Kind.{Kind}
-use Rattle.kernel_object.specs.Kernel.{kernel_in_range, kernel_opening, kernel_answer}
-use Rattle.kernel_object.specs.KindWords.{kind_of}
-use Rattle.custom_records.specs.Custom.{CustomStep}
-use Rattle.custom_records.specs.Said.{Said}
-use Rattle.kernel_words.specs.declared.tables.field.Field.{Field}
+use Rattle.std.specs.{Prelude.{ℕ, Bool, true, false, ◌&&◌, if◌then◌else◌, List, [], ◌∷◌, Option, Some, None}, Option.option_map_or, Str.bytes_eq}
+use Rattle.kernel_object.specs.{declared.call.KCall.KCall, declared.call.KParams.KParams, declared.call.KParams.TheVariants.{Queue, Pool, Console, Sched}, declared.call.KReply.KReply, declared.object.KernelObject.KernelObject, declared.kind.Kind.Kind, Kernel.{kernel_in_range, kernel_opening, kernel_answer}, KindWords.kind_of}
+use Rattle.custom_records.specs.{Custom.CustomStep, Said.Said}
+use Rattle.kernel_words.specs.{declared.tables.field.Field.Field, Row.{in_range, sample_at, values}, Rows.{call_row, call_samples, call_filled, reply_row}}
 use Rattle.record_lines.specs.Reading.{◌>>=◌}
-use Rattle.kernel_words.specs.Row.{in_range, sample_at, values}
-use Rattle.kernel_words.specs.Rows.{call_row, call_samples, call_filled, reply_row}
 
 -- what an object of that kind is opened with by these numbers
 abbrev pub params_from : Kind → List ℕ → Option KParams

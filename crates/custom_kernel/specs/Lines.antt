@@ -1,15 +1,10 @@
 -- An object and its log among the lines of a text.
-use Rattle.std.specs.Prelude.{◌≡◌, ◌⊎◌, ◌==◌, ℕ, zero, suc, if◌then◌else◌, List, [], ◌∷◌, Option, Some, None, drop}
-use Rattle.std.specs.Option.{option_map_or}
+use Rattle.std.specs.{Prelude.{◌≡◌, ◌⊎◌, ◌==◌, ℕ, zero, suc, if◌then◌else◌, List, [], ◌∷◌, Option, Some, None, drop}, Option.option_map_or}
 use Rattle.event_log.specs.Log.{steps_of}
 use Rattle.kernel_object.specs.declared.call.KParams.{KParams}
-use Rattle.custom_records.specs.LineReading.{any_head, log_at, custom_object_at, custom_event_at}
-use Rattle.custom_records.specs.Custom.{CustomEvent}
-use Rattle.custom_records.specs.Settings.{CustomSettings}
-use Rattle.record_lines.specs.Reading.{◌>>=◌, words, word_at}
-use Rattle.record_lines.specs.LineParts.{name_word_at}
-use Rattle.custom_kernel.specs.Counts.{IsCountOf}
-use Rattle.custom_kernel.specs.KernelModel.{params_of, kernel_right}
+use Rattle.custom_records.specs.{LineReading.{any_head, log_at, custom_object_at, custom_event_at}, Custom.CustomEvent, Settings.CustomSettings}
+use Rattle.record_lines.specs.{Reading.{◌>>=◌, words, word_at}, LineParts.name_word_at}
+use Rattle.custom_kernel.specs.{Counts.IsCountOf, KernelModel.{params_of, kernel_right}}
 
 -- the first line, if it has its end, and what stands behind that
 abbrev pub line_of : List ℕ → Option (List ℕ × List ℕ)

@@ -1,7 +1,6 @@
 //! An object of the kernel and its log among the lines of a text, for callers in C.
 
-ghost use Rattle.std.specs.Prelude.{◌≡◌, ◌++◌, [], true, drop, MatchOption, IfSome, IfOk};
-ghost use Rattle.std.specs.Option.{option_map};
+ghost use Rattle.std.specs.{Prelude.{◌≡◌, ◌++◌, [], true, drop, MatchOption, IfSome, IfOk}, Option.option_map};
 ghost use Rattle.event_log.specs.Log.{steps_of};
 ghost use Rattle.kernel_object.specs.Kernel.{kernel_in_range};
 ghost use Rattle.custom_records.specs.LineReading.{any_head};

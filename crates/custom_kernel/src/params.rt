@@ -3,8 +3,7 @@
 ghost use Rattle.std.specs.Prelude.{◌≡◌, nat_le, ◌&&◌, if◌then◌else◌, true, Some, None, IfSome};
 ghost use Rattle.kernel_object.specs.declared.kind.Kind.TheVariants as kind;
 ghost use Rattle.kernel_object.specs.Kernel.{kernel_in_range};
-ghost use Rattle.custom_kernel.specs.KernelModel.{opened_from, params_of};
-ghost use Rattle.custom_kernel.specs.Quotas.{are_quotas};
+ghost use Rattle.custom_kernel.specs.{KernelModel.{opened_from, params_of}, Quotas.are_quotas};
 
 use console_ring::MOST_BYTES;
 use kernel_object::{KParams, Kind};

@@ -1,11 +1,8 @@
 //! Calls and replies of the kernel as they are said.
 
-ghost use Rattle.std.specs.Prelude.{◌≡◌, ◌≤◌, length, map, if◌then◌else◌, Some, None};
-ghost use Rattle.std.specs.Option.{option_map};
-ghost use Rattle.std.specs.Str.{bytes_eq};
+ghost use Rattle.std.specs.{Prelude.{◌≡◌, ◌≤◌, length, map, if◌then◌else◌, Some, None}, Option.option_map, Str.bytes_eq};
 ghost use Rattle.custom_kernel.specs.KernelModel.{are_in_ranges, with_numbers, call_of, said_of, is_said};
-ghost use Rattle.kernel_words.specs.Row.{sample_at};
-ghost use Rattle.kernel_words.specs.Rows.{call_row, call_samples};
+ghost use Rattle.kernel_words.specs.{Row.sample_at, Rows.{call_row, call_samples}};
 
 use arrayvec::ArrayVec;
 use custom_records::Spoken;

@@ -2,22 +2,9 @@
 use Rattle.std.proofs.Common.{◌≡◌, ℕ, true, List, [], ◌∷◌, Option, Some, None, refl, sym, ap, ◌∙◌, arith, codes}
 use Rattle.std.specs.Option.{is_some}
 use Rattle.event_log.specs.declared.entry.Done.TheVariants.{NoRoom}
-use Rattle.custom_records.specs.LineReading.{last_at, custom_entry_at}
-use Rattle.custom_records.specs.LineText.{last_words}
-use Rattle.custom_records.specs.StepText.{custom_front_at}
-use Rattle.custom_records.proofs.LineLaws.{reads_log, reads_event, reads_cpu, reads_entry, reads_last}
-use Rattle.custom_records.proofs.StepTexts.{custom_entry_known}
-use Rattle.custom_records.proofs.NameLaws.{name_of_object}
-use Rattle.custom_records.specs.Custom.{CustomEvent, CustomEntry}
-use Rattle.custom_records.specs.Ranges.{SaidFits, EntryFits}
-use Rattle.custom_records.specs.Said.{Said}
-use Rattle.custom_records.specs.Settings.{CustomHead, refuses_word}
-use Rattle.record_lines.specs.FormLaws.{FormLaws}
-use Rattle.record_lines.specs.Reading.{words}
-use Rattle.record_lines.specs.Words.{sentence}
-use Rattle.custom_records.specs.contracts.custom_form.CustomFormRecordForm.TheImpl.{ghosts as custom_form}
-use Rattle.custom_records.specs.CustomForm.{Head, HeadFits, TailSpellsEntry, some_in}
-use Rattle.custom_records.proofs.CustomHeads.{head_on, head_run, head_begins}
+use Rattle.custom_records.specs.{LineReading.{last_at, custom_entry_at}, LineText.last_words, StepText.custom_front_at, Custom.{CustomEvent, CustomEntry}, Ranges.{SaidFits, EntryFits}, Said.Said, Settings.{CustomHead, refuses_word}, contracts.custom_form.CustomFormRecordForm.TheImpl.{ghosts as custom_form}, CustomForm.{Head, HeadFits, TailSpellsEntry, some_in}}
+use Rattle.custom_records.proofs.{LineLaws.{reads_log, reads_event, reads_cpu, reads_entry, reads_last}, StepTexts.custom_entry_known, NameLaws.name_of_object, CustomHeads.{head_on, head_run, head_begins}}
+use Rattle.record_lines.specs.{FormLaws.FormLaws, Reading.words, Words.sentence}
 
 -- an entry that the text behind its looks spells
 pub entry_spelled_by : (h : Head) (line : List ℕ) (object looks : ℕ) (tail : List ℕ) → HeadFits h → custom_front_at h.so_far.objects (words line) ≡ Some (object, looks, words tail) → (e : CustomEntry) → TailSpellsEntry h.so_far object looks tail e

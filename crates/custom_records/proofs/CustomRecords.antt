@@ -1,21 +1,7 @@
 -- Records 3, as records of a form: the same texts, and the same first bad line.
-use Rattle.std.proofs.Common.{◌≡◌, ℕ, suc, ◌+◌, ◌==◌, ◌≤◌, true, List, [], ◌∷◌, ◌++◌, length, map, append_assoc, refl, sym, ap, ◌∙◌, arith, flat_map, zip}
-use Rattle.std.proofs.lemmas.Bool.{eqb-true}
-use Rattle.std.proofs.lemmas.List.{map-append}
-use Rattle.std.proofs.lemmas.Simd.{map-map}
-use Rattle.custom_records.specs.LineText.{log_words, cpu_words, custom_event_words, custom_entry_words, last_words}
-use Rattle.custom_records.specs.Custom.{CustomEvent, CustomEntry}
-use Rattle.custom_records.specs.Ranges.{CustomRecord, CustomRecordFits}
-use Rattle.custom_records.specs.Settings.{CustomSettings, CustomHead, names_of, word_in}
-use Rattle.record_lines.specs.FirstLines.{first_lines}
-use Rattle.record_lines.specs.FormText.{parts_text, whole_lines, whole_text}
-use Rattle.record_lines.specs.Received.{Whole, WholeFits}
-use Rattle.record_lines.specs.WholeFaults.{WholeAgrees, IsWholeBadLine, IsWholeText}
-use Rattle.record_lines.specs.Words.{sentence, text_of_lines}
-use Rattle.custom_records.specs.contracts.custom_form.CustomFormRecordForm.TheImpl.{ghosts as custom_form}
-use Rattle.custom_records.specs.CustomForm.{Head, head_of}
-use Rattle.custom_records.specs.RecordFaults.{AgreesCustom, IsBadCustomLine, IsCustomText}
-use Rattle.custom_records.specs.RecordText.{custom_head_lines, custom_log_lines, custom_transcripts_lines, custom_record_lines, custom_text}
+use Rattle.std.proofs.{Common.{◌≡◌, ℕ, suc, ◌+◌, ◌==◌, ◌≤◌, true, List, [], ◌∷◌, ◌++◌, length, map, append_assoc, refl, sym, ap, ◌∙◌, arith, flat_map, zip}, lemmas.Bool.eqb-true, lemmas.List.map-append, lemmas.Simd.map-map}
+use Rattle.custom_records.specs.{LineText.{log_words, cpu_words, custom_event_words, custom_entry_words, last_words}, Custom.{CustomEvent, CustomEntry}, Ranges.{CustomRecord, CustomRecordFits}, Settings.{CustomSettings, CustomHead, names_of, word_in}, contracts.custom_form.CustomFormRecordForm.TheImpl.{ghosts as custom_form}, CustomForm.{Head, head_of}, RecordFaults.{AgreesCustom, IsBadCustomLine, IsCustomText}, RecordText.{custom_head_lines, custom_log_lines, custom_transcripts_lines, custom_record_lines, custom_text}}
+use Rattle.record_lines.specs.{FirstLines.first_lines, FormText.{parts_text, whole_lines, whole_text}, Received.{Whole, WholeFits}, WholeFaults.{WholeAgrees, IsWholeBadLine, IsWholeText}, Words.{sentence, text_of_lines}}
 use Rattle.custom_records.proofs.NewObjects.{names}
 
 -- a whole record of the form's

@@ -1,16 +1,11 @@
 -- A list of items is read as what it spells, and nothing else is, where no number follows.
 use Rattle.std.proofs.Common.{◌≡◌, ℕ, zero, suc, ◌-◌, ◌<◌, ◌≤◌, false, Option, Some, None, List, [], ◌∷◌, ◌++◌, length, map, refl, sym, ◌∙◌, ap, subst, append_assoc, arith, codes}
-use Rattle.std.specs.List.{AllByRecursion, flat_map}
-use Rattle.std.specs.Option.{option_map_or}
+use Rattle.std.specs.{List.{AllByRecursion, flat_map}, Option.option_map_or}
 use Rattle.event_log.specs.declared.event.TheConstants.{MOST_CALLS}
 use Rattle.event_log.proofs.Each.{all_append}
 use Rattle.custom_records.specs.LineReading.{number_next}
-use Rattle.record_lines.specs.Reading.{◌>>=◌, key_at}
-use Rattle.record_lines.specs.Words.{IsPlain}
-use Rattle.record_lines.specs.Words.{separated}
-use Rattle.record_lines.specs.LineParts.{more_at, list_at}
-use Rattle.record_lines.proofs.ListLaws.{key_takes, key_again}
-use Rattle.record_lines.proofs.Readings.{bind_some}
+use Rattle.record_lines.specs.{Reading.{◌>>=◌, key_at}, Words.IsPlain, Words.separated, LineParts.{more_at, list_at}}
+use Rattle.record_lines.proofs.{ListLaws.{key_takes, key_again}, Readings.bind_some}
 
 module _ {T : Type 0} (words_of : T → List (List ℕ)) (fits : T → Type 0) (item_at : List (List ℕ) → Option (T × List (List ℕ))) where
   -- the words are the item's, which is in its ranges, and those behind it

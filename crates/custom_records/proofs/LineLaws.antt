@@ -1,32 +1,11 @@
 -- Each line of a record 3 is read as what it spells, and nothing else is.
-use Rattle.std.proofs.Common.{◌≡◌, ℕ, ◌<◌, ◌≤◌, ◌^◌, true, Option, Some, List, [], ◌∷◌, ◌++◌, length, length-append, map, refl, sym, ◌∙◌, ap, subst, arith, rules, codes, decimal, nat_le, nat_lt}
-use Rattle.std.proofs.lemmas.Bool.{leb-true, le-leb, lt-ltb, ltb-true}
-use Rattle.std.proofs.lemmas.List.{append-nil}
-use Rattle.std.proofs.lemmas.Option.{cond_some}
+use Rattle.std.proofs.{Common.{◌≡◌, ℕ, ◌<◌, ◌≤◌, ◌^◌, true, Option, Some, List, [], ◌∷◌, ◌++◌, length, length-append, map, refl, sym, ◌∙◌, ap, subst, arith, rules, codes, decimal, nat_le, nat_lt}, lemmas.Bool.{leb-true, le-leb, lt-ltb, ltb-true}, lemmas.List.append-nil, lemmas.Option.cond_some}
 use Rattle.std.specs.List.{AllByRecursion}
 use Rattle.event_log.proofs.Each.{all_append}
-use Rattle.custom_records.specs.LineReading.{most_number, said_at, custom_steps_at, custom_done_at, custom_event_at, custom_place_at, custom_entry_at, custom_events_at, custom_object_at, sizes_at, new_words_at, refuses_at, first_at, cpus_at, count_at, log_at, cpu_at, last_at}
-use Rattle.custom_records.specs.LineText.{number_words, said_words, custom_step_words, custom_done_words, custom_event_words, custom_entry_words, custom_object_words, refuses_words, first_words, cpus_words, count_words, log_words, cpu_words, last_words}
-use Rattle.custom_records.specs.declared.settings.TheConstants.{MOST_CUSTOM_CPUS, MOST_CUSTOM_OBJECTS, MOST_SIZES, MOST_WORDS}
-use Rattle.custom_records.specs.Custom.{CustomEvent, CustomEntry}
-use Rattle.custom_records.specs.Ranges.{most_lines, SaidFits, CustomSettingsFit, Differ, HeadFits, EventFits, EntryFits}
-use Rattle.custom_records.specs.Settings.{CustomSettings, CustomHead, names_of, word_in}
-use Rattle.record_lines.specs.FormLaws.{ReadsLine}
-use Rattle.record_lines.specs.Reading.{words, key_at, number_at}
-use Rattle.record_lines.specs.LineParts.{is_nil, list_at, name_word_at, fixed_at, head_at}
-use Rattle.record_lines.specs.Words.{IsPlain, NoEnd, sentence}
-use Rattle.record_lines.specs.Names.{is_name}
-use Rattle.record_lines.specs.Words.{separated}
-use Rattle.record_lines.proofs.ListLaws.{key_takes, key_again, key_other}
-use Rattle.record_lines.proofs.Names.{name_plain}
-use Rattle.record_lines.proofs.Readings.{bind_some, plain_decimal, number_at_takes, number_at_again}
-use Rattle.record_lines.proofs.LineLaws.{fixed_takes, fixed_again, head_takes, head_again, nothing_behind}
-use Rattle.record_lines.proofs.Sentences.{words_sentence, sentence_words, sentence_no_end}
-use Rattle.record_lines.proofs.Names.{name_takes, name_again}
-use Rattle.custom_records.proofs.ItemLaws.{list_takes, list_again, list_plain}
-use Rattle.custom_records.proofs.NameLaws.{name_of_object, place_takes, place_again, new_words_take, new_words_again, names_plain}
-use Rattle.custom_records.proofs.SaidLaws.{sizes_take, sizes_again, sizes_plain}
-use Rattle.custom_records.proofs.StepLaws.{reads_said, steps_take, steps_again, steps_plain, done_takes, done_again, done_plain}
+use Rattle.custom_records.specs.{LineReading.{most_number, said_at, custom_steps_at, custom_done_at, custom_event_at, custom_place_at, custom_entry_at, custom_events_at, custom_object_at, sizes_at, new_words_at, refuses_at, first_at, cpus_at, count_at, log_at, cpu_at, last_at}, LineText.{number_words, said_words, custom_step_words, custom_done_words, custom_event_words, custom_entry_words, custom_object_words, refuses_words, first_words, cpus_words, count_words, log_words, cpu_words, last_words}, declared.settings.TheConstants.{MOST_CUSTOM_CPUS, MOST_CUSTOM_OBJECTS, MOST_SIZES, MOST_WORDS}, Custom.{CustomEvent, CustomEntry}, Ranges.{most_lines, SaidFits, CustomSettingsFit, Differ, HeadFits, EventFits, EntryFits}, Settings.{CustomSettings, CustomHead, names_of, word_in}}
+use Rattle.record_lines.specs.{FormLaws.ReadsLine, Reading.{words, key_at, number_at}, LineParts.{is_nil, list_at, name_word_at, fixed_at, head_at}, Words.{IsPlain, NoEnd, sentence}, Names.is_name, Words.separated}
+use Rattle.record_lines.proofs.{ListLaws.{key_takes, key_again, key_other}, Names.name_plain, Readings.{bind_some, plain_decimal, number_at_takes, number_at_again}, LineLaws.{fixed_takes, fixed_again, head_takes, head_again, nothing_behind}, Sentences.{words_sentence, sentence_words, sentence_no_end}, Names.{name_takes, name_again}}
+use Rattle.custom_records.proofs.{ItemLaws.{list_takes, list_again, list_plain}, NameLaws.{name_of_object, place_takes, place_again, new_words_take, new_words_again, names_plain}, SaidLaws.{sizes_take, sizes_again, sizes_plain}, StepLaws.{reads_said, steps_take, steps_again, steps_plain, done_takes, done_again, done_plain}}
 
 -- the words make a line: there is one, and neither a line end nor a space is in any
 abbrev IsLineOf : List (List ℕ) → Type 0

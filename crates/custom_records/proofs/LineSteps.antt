@@ -1,16 +1,9 @@
 -- Reading one word more of a line.
-use Rattle.std.proofs.Common.{◌≡◌, ℕ, zero, suc, ◌==◌, Bool, true, false, cond, Option, Some, None, List, [], ◌∷◌, ◌++◌, length, map, refl, sym, ap, ◌∙◌, arith, not, ◌||◌}
-use Rattle.std.proofs.lemmas.List.{append-nil}
-use Rattle.std.specs.Borrow.{Bor}
-use Rattle.std.specs.List.{list_any, onto_first}
-use Rattle.std.specs.Option.{is_some}
+use Rattle.std.proofs.{Common.{◌≡◌, ℕ, zero, suc, ◌==◌, Bool, true, false, cond, Option, Some, None, List, [], ◌∷◌, ◌++◌, length, map, refl, sym, ap, ◌∙◌, arith, not, ◌||◌}, lemmas.List.append-nil}
+use Rattle.std.specs.{Borrow.Bor, List.{list_any, onto_first}, Option.is_some}
 use Rattle.custom_records.specs.LineReading.{number_next, sizes_at, new_name_in, new_words_at, most_number}
-use Rattle.record_lines.specs.Reading.{◌>>=◌, words, left, word_at, number_at}
-use Rattle.record_lines.specs.LineParts.{is_nil}
-use Rattle.record_lines.specs.Names.{is_digit}
-use Rattle.record_lines.proofs.Readings.{bind_grown}
-use Rattle.record_lines.proofs.Readings.{word_in_front}
-use Rattle.record_lines.proofs.Sentences.{words_some}
+use Rattle.record_lines.specs.{Reading.{◌>>=◌, words, left, word_at, number_at}, LineParts.is_nil, Names.is_digit}
+use Rattle.record_lines.proofs.{Readings.bind_grown, Readings.word_in_front, Sentences.words_some}
 
 -- a test of each member's picture
 pub any_mapped : {X Y : Type 0} (p : Y → Bool) (h : X → Y) (xs : List X) → list_any p (map h xs) ≡ list_any (λ x. p (h x)) xs

@@ -1,20 +1,10 @@
 -- Names, the objects that they name, and words that differ.
-use Rattle.std.proofs.Common.{◌≡◌, ℕ, zero, suc, ◌<◌, ◌≤◌, true, false, eq-or-lt_of_le, Some, List, [], ◌∷◌, ◌++◌, length, length-append, append_assoc, refl, sym, ◌∙◌, ap, subst, arith, position, inl, inr, not, ◌&&◌, ◌||◌, bytes_eq, option_map, unwrap_or}
-use Rattle.std.proofs.lemmas.Bool.{and_parts, false_from_ne_true, false≢true, or_right, or_cases, not-true}
-use Rattle.std.proofs.lemmas.List.{append-nil, length-map}
-use Rattle.std.proofs.lemmas.Option.{cond_some, slice_get-map}
-use Rattle.std.proofs.lemmas.Slice.Eq.{bytes_eq-Decides}
+use Rattle.std.proofs.{Common.{◌≡◌, ℕ, zero, suc, ◌<◌, ◌≤◌, true, false, eq-or-lt_of_le, Some, List, [], ◌∷◌, ◌++◌, length, length-append, append_assoc, refl, sym, ◌∙◌, ap, subst, arith, position, inl, inr, not, ◌&&◌, ◌||◌, bytes_eq, option_map, unwrap_or}, lemmas.Bool.{and_parts, false_from_ne_true, false≢true, or_right, or_cases, not-true}, lemmas.List.{append-nil, length-map}, lemmas.Option.{cond_some, slice_get-map}, lemmas.Slice.Eq.bytes_eq-Decides}
 use Rattle.std.specs.List.{AllByRecursion, slice_get}
-use Rattle.event_log.proofs.Each.{each_at}
-use Rattle.event_log.proofs.Lists.{some_at}
-use Rattle.custom_records.specs.LineReading.{custom_place_at, new_name_in, new_words_at}
-use Rattle.custom_records.specs.Ranges.{CustomSettingsFit, Differ, HeadFits}
-use Rattle.custom_records.specs.Settings.{CustomSettings, CustomHead, names_of, word_in, refuses_word}
-use Rattle.record_lines.specs.Reading.{word_at}
-use Rattle.record_lines.specs.Words.{IsPlain}
-use Rattle.record_lines.specs.Names.{is_name}
-use Rattle.record_lines.proofs.Names.{name_plain, named_by, first_at}
-use Rattle.record_lines.proofs.Readings.{bind_some, same}
+use Rattle.event_log.proofs.{Each.each_at, Lists.some_at}
+use Rattle.custom_records.specs.{LineReading.{custom_place_at, new_name_in, new_words_at}, Ranges.{CustomSettingsFit, Differ, HeadFits}, Settings.{CustomSettings, CustomHead, names_of, word_in, refuses_word}}
+use Rattle.record_lines.specs.{Reading.word_at, Words.IsPlain, Names.is_name}
+use Rattle.record_lines.proofs.{Names.{name_plain, named_by, first_at}, Readings.{bind_some, same}}
 
 -- ---- the object at a place
 

@@ -1,15 +1,8 @@
 -- A name that is read a letter at a time.
-use Rattle.std.proofs.Common.{◌≡◌, ℕ, ◌+◌, ◌-◌, ◌<◌, ◌≤◌, ◌==◌, Bool, true, false, cond, Some, None, List, [], ◌∷◌, ◌++◌, length, length-append, append_assoc, take, drop, get_or, nat_le, ◌&&◌, ◌||◌, refl, sym, ap, ne_eqb, ◌∙◌, arith}
+use Rattle.std.proofs.{Common.{◌≡◌, ℕ, ◌+◌, ◌-◌, ◌<◌, ◌≤◌, ◌==◌, Bool, true, false, cond, Some, None, List, [], ◌∷◌, ◌++◌, length, length-append, append_assoc, take, drop, get_or, nat_le, ◌&&◌, ◌||◌, refl, sym, ap, ne_eqb, ◌∙◌, arith}, lemmas.Bool.{and_parts, leb-true, le-leb, false_from_ne_true, false≢true}, lemmas.List.append-nil, lemmas.List.Folds.list_all-append}
 use Rattle.std.specs.List.{list_all}
-use Rattle.std.proofs.lemmas.Bool.{and_parts, leb-true, le-leb, false_from_ne_true, false≢true}
-use Rattle.std.proofs.lemmas.List.{append-nil}
-use Rattle.std.proofs.lemmas.List.Folds.{list_all-append}
-use Rattle.record_lines.specs.Names.{is_name, is_letter, is_digit}
-use Rattle.record_lines.specs.Reading.{words, word_at}
-use Rattle.record_lines.specs.LineParts.{name_word_at}
-use Rattle.record_lines.proofs.Bytes.{first_is}
-use Rattle.record_lines.proofs.Names.{name_le}
-use Rattle.record_lines.proofs.Numbers.{first_of, rest_of, words_are}
+use Rattle.record_lines.specs.{Names.{is_name, is_letter, is_digit}, Reading.{words, word_at}, LineParts.name_word_at}
+use Rattle.record_lines.proofs.{Bytes.first_is, Names.name_le, Numbers.{first_of, rest_of, words_are}}
 use Rattle.custom_records.specs.Said.{Said}
 
 abbrev pub is_plain : ℕ → Bool

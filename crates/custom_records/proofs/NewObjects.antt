@@ -1,23 +1,9 @@
 -- Objects of different names are read as what they spell, and nothing else is.
-use Rattle.std.proofs.Common.{◌≡◌, ℕ, zero, suc, ◌+◌, ◌≤◌, ◌<◌, ◌==◌, nat_lt, get_or, Bool, true, false, not, filter, List, [], ◌∷◌, ◌++◌, length, length-append, append_assoc, map, Option, Some, None, cond, refl, sym, ap, ◌∙◌, subst, arith, ◌||◌, bytes_eq, codes}
-use Rattle.std.proofs.lemmas.Bool.{le-leb, ltb-true, ltb-false}
-use Rattle.std.specs.Cmp.Derive.{both_true}
-use Rattle.std.proofs.Math.Seq.{get_or-append_seam}
-use Rattle.std.proofs.lemmas.List.{append-nil, length-map, map-append}
-use Rattle.std.proofs.lemmas.List.Filters.{length-filter_both}
-use Rattle.std.proofs.lemmas.Map.Views.{any-filter_same}
-use Rattle.std.proofs.lemmas.Slice.Eq.{bytes_eq-Decides}
-use Rattle.std.specs.List.{AllByRecursion, list_all, list_any}
-use Rattle.custom_records.specs.Ranges.{Differ, CustomSettingsFit}
-use Rattle.custom_records.specs.Settings.{CustomSettings, refuses_word}
-use Rattle.custom_records.proofs.NameLaws.{free, differ_more}
-use Rattle.custom_records.proofs.LineLaws.{Reads, reads_object}
-use Rattle.custom_records.specs.LineReading.{custom_object_at}
-use Rattle.custom_records.specs.LineText.{custom_object_words}
-use Rattle.custom_records.specs.CustomForm.{new_object_at}
-use Rattle.record_lines.specs.Reading.{words}
-use Rattle.std.specs.Option.{option_map_or}
-use Rattle.record_lines.specs.Names.{is_name, is_letter, is_digit}
+use Rattle.std.proofs.{Common.{◌≡◌, ℕ, zero, suc, ◌+◌, ◌≤◌, ◌<◌, ◌==◌, nat_lt, get_or, Bool, true, false, not, filter, List, [], ◌∷◌, ◌++◌, length, length-append, append_assoc, map, Option, Some, None, cond, refl, sym, ap, ◌∙◌, subst, arith, ◌||◌, bytes_eq, codes}, lemmas.Bool.{le-leb, ltb-true, ltb-false}, Math.Seq.get_or-append_seam, lemmas.List.{append-nil, length-map, map-append}, lemmas.List.Filters.length-filter_both, lemmas.Map.Views.any-filter_same, lemmas.Slice.Eq.bytes_eq-Decides}
+use Rattle.std.specs.{Cmp.Derive.both_true, List.{AllByRecursion, list_all, list_any}, Option.option_map_or}
+use Rattle.custom_records.specs.{Ranges.{Differ, CustomSettingsFit}, Settings.{CustomSettings, refuses_word}, LineReading.custom_object_at, LineText.custom_object_words, CustomForm.new_object_at}
+use Rattle.custom_records.proofs.{NameLaws.{free, differ_more}, LineLaws.{Reads, reads_object}}
+use Rattle.record_lines.specs.{Reading.words, Names.{is_name, is_letter, is_digit}}
 
 -- ---- a line
 

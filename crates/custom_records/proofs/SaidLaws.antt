@@ -1,21 +1,9 @@
 -- Numbers, and what is said, are read as what they spell, and nothing else is.
-use Rattle.std.proofs.Common.{◌≡◌, ℕ, zero, suc, ◌+◌, ◌<◌, ◌≤◌, ◌^◌, Bool, true, false, cond, Some, List, [], ◌∷◌, ◌++◌, length, refl, ◌∙◌, ap, subst, arith, decimal}
-use Rattle.std.specs.Cmp.Derive.{both_true}
-use Rattle.std.proofs.lemmas.Bool.{le-leb}
-use Rattle.std.proofs.lemmas.Fmt.{decimal_by_steps}
-use Rattle.std.specs.List.{AllByRecursion}
-use Rattle.custom_records.specs.LineReading.{most_number, begins_number, number_next, sizes_at, said_at}
-use Rattle.custom_records.specs.LineText.{number_words, said_words}
-use Rattle.custom_records.specs.declared.spoken.TheConstants.{MOST_NUMBERS}
-use Rattle.custom_records.specs.Ranges.{IsNumber, SaidFits}
-use Rattle.custom_records.specs.Said.{Said}
-use Rattle.record_lines.specs.Reading.{◌>>=◌, number_at}
-use Rattle.record_lines.specs.LineParts.{name_word_at}
-use Rattle.record_lines.specs.Words.{IsPlain}
-use Rattle.record_lines.specs.Names.{is_digit}
-use Rattle.record_lines.proofs.Names.{name_plain}
-use Rattle.record_lines.proofs.Readings.{bind_some, plain_decimal, number_at_takes, number_at_again}
-use Rattle.record_lines.proofs.Names.{name_takes, name_again}
+use Rattle.std.proofs.{Common.{◌≡◌, ℕ, zero, suc, ◌+◌, ◌<◌, ◌≤◌, ◌^◌, Bool, true, false, cond, Some, List, [], ◌∷◌, ◌++◌, length, refl, ◌∙◌, ap, subst, arith, decimal}, lemmas.Bool.le-leb, lemmas.Fmt.decimal_by_steps}
+use Rattle.std.specs.{Cmp.Derive.both_true, List.AllByRecursion}
+use Rattle.custom_records.specs.{LineReading.{most_number, begins_number, number_next, sizes_at, said_at}, LineText.{number_words, said_words}, declared.spoken.TheConstants.MOST_NUMBERS, Ranges.{IsNumber, SaidFits}, Said.Said}
+use Rattle.record_lines.specs.{Reading.{◌>>=◌, number_at}, LineParts.name_word_at, Words.IsPlain, Names.is_digit}
+use Rattle.record_lines.proofs.{Names.name_plain, Readings.{bind_some, plain_decimal, number_at_takes, number_at_again}, Names.{name_takes, name_again}}
 
 -- ---- numbers
 

@@ -1,14 +1,7 @@
 -- Runs over objects of their writer's own.
 use Rattle.std.specs.Prelude.{Bool, true, false, []}
-use Rattle.event_log.specs.declared.object.SeqObject.{Ghosts}
-use Rattle.event_log.specs.declared.event.Step.{Step}
-use Rattle.event_log.specs.declared.event.Event.{Event}
-use Rattle.event_log.specs.declared.entry.Done.{Done}
-use Rattle.event_log.specs.declared.entry.Entry.{Entry}
-use Rattle.event_log.specs.declared.entry.Run.{Run}
-use Rattle.custom_records.specs.declared.object.CustomObject.{CustomObject}
-use Rattle.custom_records.specs.declared.object.CustomReply.{CustomReply}
-use Rattle.custom_records.specs.Said.{Said}
+use Rattle.event_log.specs.{declared.object.SeqObject.Ghosts, declared.event.Step.Step, declared.event.Event.Event, declared.entry.Done.Done, declared.entry.Entry.Entry, declared.entry.Run.Run}
+use Rattle.custom_records.specs.{declared.object.CustomObject.CustomObject, declared.object.CustomReply.CustomReply, Said.Said}
 
 -- every object can be opened
 abbrev pub custom_in_range : Unit {0} → Bool

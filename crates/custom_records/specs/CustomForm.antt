@@ -1,23 +1,8 @@
 -- The lines of record 3, as a form of records.
-use Rattle.std.specs.Prelude.{ℕ, ◌≡◌, ◌<◌, ◌≤◌, nat_lt, if◌then◌else◌, List, [], ◌∷◌, ◌++◌, map, Option, Some, None, Bool, true, false, length}
-use Rattle.std.specs.List.{AllByRecursion, list_any}
-use Rattle.std.specs.Option.{option_map_or}
-use Rattle.std.specs.Str.{bytes_eq}
+use Rattle.std.specs.{Prelude.{ℕ, ◌≡◌, ◌<◌, ◌≤◌, nat_lt, if◌then◌else◌, List, [], ◌∷◌, ◌++◌, map, Option, Some, None, Bool, true, false, length}, List.{AllByRecursion, list_any}, Option.option_map_or, Str.bytes_eq}
 use Rattle.std.proofs.Common.{arith}
-use Rattle.custom_records.specs.declared.settings.TheConstants.{MOST_CUSTOM_CPUS, MOST_CUSTOM_OBJECTS}
-use Rattle.custom_records.specs.Custom.{CustomStep, CustomEntry}
-use Rattle.custom_records.specs.Said.{Said}
-use Rattle.custom_records.specs.Writing.{custom_writing, custom_entry_of}
-use Rattle.record_lines.specs.StepTexts.{SpellsTail}
-use Rattle.custom_records.specs.Ranges.{StepsFit, CustomSettingsFit, HeadFits as CustomHeadFits, Differ, most_lines}
-use Rattle.custom_records.specs.Settings.{CustomSettings, CustomHead, names_of}
-use Rattle.custom_records.specs.LineReading.{first_at, cpus_at, count_at, custom_object_at, refuses_at}
-use Rattle.custom_records.specs.LineText.{first_words, cpus_words, count_words, custom_object_words}
-use Rattle.custom_records.specs.declared.custom_head.CustomHeadNext.{CustomHeadNext}
-use Rattle.custom_records.specs.declared.custom_head.CustomHeadNext.TheVariants.{First, Cpus, Count, Object, Refuses, Whole}
-use Rattle.custom_records.specs.RecordText.{custom_head_lines}
-use Rattle.record_lines.specs.Reading.{◌>>=◌, words}
-use Rattle.record_lines.specs.Words.{sentence}
+use Rattle.custom_records.specs.{declared.settings.TheConstants.{MOST_CUSTOM_CPUS, MOST_CUSTOM_OBJECTS}, Custom.{CustomStep, CustomEntry}, Said.Said, Writing.{custom_writing, custom_entry_of}, Ranges.{StepsFit, CustomSettingsFit, HeadFits as CustomHeadFits, Differ, most_lines}, Settings.{CustomSettings, CustomHead, names_of}, LineReading.{first_at, cpus_at, count_at, custom_object_at, refuses_at}, LineText.{first_words, cpus_words, count_words, custom_object_words}, declared.custom_head.CustomHeadNext.CustomHeadNext, declared.custom_head.CustomHeadNext.TheVariants.{First, Cpus, Count, Object, Refuses, Whole}, RecordText.custom_head_lines}
+use Rattle.record_lines.specs.{StepTexts.SpellsTail, Reading.{◌>>=◌, words}, Words.sentence}
 
 -- which line of a head can come next, how many objects were announced, and what was read
 pub record Head : Type 0 where

@@ -1,7 +1,5 @@
 -- What was handed over of a record 3.
-use Rattle.custom_records.specs.Custom.{CustomEvent, CustomEntry}
-use Rattle.custom_records.specs.CustomForm.{Head}
-use Rattle.custom_records.specs.Ranges.{CustomRecord}
+use Rattle.custom_records.specs.{Custom.{CustomEvent, CustomEntry}, CustomForm.Head, Ranges.CustomRecord}
 use Rattle.record_lines.specs.Received.{Received}
 
 -- the parts that were handed over

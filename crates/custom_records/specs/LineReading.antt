@@ -1,18 +1,8 @@
 -- Reading the lines of a record 3 from left to right. The laws in proofs/ tie this to the texts.
-use Rattle.std.specs.Prelude.{ℕ, zero, suc, List, [], ◌∷◌, ◌++◌, Option, Some, None, Bool, false, if◌then◌else◌, codes, decimal, not, ◌&&◌, nat_le, nat_lt, position}
-use Rattle.std.specs.Option.{option_map_or}
-use Rattle.std.specs.Str.{bytes_eq}
+use Rattle.std.specs.{Prelude.{ℕ, zero, suc, List, [], ◌∷◌, ◌++◌, Option, Some, None, Bool, false, if◌then◌else◌, codes, decimal, not, ◌&&◌, nat_le, nat_lt, position}, Option.option_map_or, Str.bytes_eq}
 use Rattle.event_log.specs.declared.entry.Done.TheVariants.{Steps, NoRoom}
-use Rattle.custom_records.specs.declared.settings.TheConstants.{MOST_CUSTOM_CPUS, MOST_CUSTOM_OBJECTS, MOST_SIZES, MOST_WORDS}
-use Rattle.custom_records.specs.declared.spoken.TheConstants.{MOST_NUMBERS}
-use Rattle.custom_records.specs.Custom.{CustomStep, CustomEvent, CustomDone, CustomEntry}
-use Rattle.custom_records.specs.Ranges.{most_lines}
-use Rattle.custom_records.specs.Said.{Said}
-use Rattle.custom_records.specs.Settings.{CustomSettings, CustomHead, refuses_word}
-use Rattle.custom_records.specs.LineText.{first_words, last_words}
-use Rattle.record_lines.specs.Reading.{◌>>=◌, word_at, key_at, number_at}
-use Rattle.record_lines.specs.LineParts.{is_nil, list_at, fixed_at, head_at, name_word_at}
-use Rattle.record_lines.specs.Names.{is_name, is_digit}
+use Rattle.custom_records.specs.{declared.settings.TheConstants.{MOST_CUSTOM_CPUS, MOST_CUSTOM_OBJECTS, MOST_SIZES, MOST_WORDS}, declared.spoken.TheConstants.MOST_NUMBERS, Custom.{CustomStep, CustomEvent, CustomDone, CustomEntry}, Ranges.most_lines, Said.Said, Settings.{CustomSettings, CustomHead, refuses_word}, LineText.{first_words, last_words}}
+use Rattle.record_lines.specs.{Reading.{◌>>=◌, word_at, key_at, number_at}, LineParts.{is_nil, list_at, fixed_at, head_at, name_word_at}, Names.{is_name, is_digit}}
 
 -- the greatest number of 64 bits
 abbrev pub most_number : ℕ

@@ -1,9 +1,7 @@
 -- The lines of a record 3, as their words.
 use Rattle.std.specs.Prelude.{ℕ, List, [], ◌∷◌, ◌++◌, map, codes, decimal}
 use Rattle.event_log.specs.declared.entry.Done.TheVariants.{Steps, NoRoom}
-use Rattle.custom_records.specs.Custom.{CustomStep, CustomEvent, CustomDone, CustomEntry}
-use Rattle.custom_records.specs.Said.{Said}
-use Rattle.custom_records.specs.Settings.{CustomSettings, CustomHead, names_of, word_in}
+use Rattle.custom_records.specs.{Custom.{CustomStep, CustomEvent, CustomDone, CustomEntry}, Said.Said, Settings.{CustomSettings, CustomHead, names_of, word_in}}
 use Rattle.record_lines.specs.Words.{separated}
 
 -- the decimal texts of the numbers

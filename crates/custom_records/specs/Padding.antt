@@ -1,10 +1,6 @@
 -- That `==` on what is said is equality. It is proved here, as the laws of a trait cite specs/ alone; nothing in it has to be believed.
-use Rattle.std.proofs.Common.{◌≡◌, ℕ, ◌-◌, ◌==◌, Bool, true, List, length, replicate, take, sym, ap, ◌∙◌, ◌&&◌, bytes_eq}
-use Rattle.std.proofs.lemmas.Bool.{and_parts, eqb-true}
-use Rattle.std.proofs.lemmas.Slice.Eq.{bytes_eq-Decides}
-use Rattle.std.proofs.Math.Seq.{take-append_seam}
-use Rattle.custom_records.specs.declared.object.CustomReply.{CustomReply}
-use Rattle.custom_records.specs.Said.{Said, padded}
+use Rattle.std.proofs.{Common.{◌≡◌, ℕ, ◌-◌, ◌==◌, Bool, true, List, length, replicate, take, sym, ap, ◌∙◌, ◌&&◌, bytes_eq}, lemmas.Bool.{and_parts, eqb-true}, lemmas.Slice.Eq.bytes_eq-Decides, Math.Seq.take-append_seam}
+use Rattle.custom_records.specs.{declared.object.CustomReply.CustomReply, Said.{Said, padded}}
 
 -- a list is known by its array and its length
 pub same_padded : (n : ℕ) (a b : List ℕ) → padded n a ≡ padded n b → length a ≡ length b → a ≡ b

@@ -1,13 +1,7 @@
 -- What has a text: the records whose words and numbers are in their ranges.
-use Rattle.std.specs.Prelude.{ℕ, ◌≡◌, ◌<◌, ◌≤◌, ◌^◌, true, List, length}
-use Rattle.std.specs.List.{AllByRecursion}
-use Rattle.event_log.specs.declared.event.TheConstants.{MOST_CALLS}
-use Rattle.event_log.specs.declared.entry.Done.TheVariants.{Steps, NoRoom}
-use Rattle.custom_records.specs.declared.settings.TheConstants.{MOST_CUSTOM_CPUS, MOST_CUSTOM_OBJECTS, MOST_SIZES, MOST_WORDS}
-use Rattle.custom_records.specs.declared.spoken.TheConstants.{MOST_NUMBERS}
-use Rattle.custom_records.specs.Custom.{CustomStep, CustomEvent, CustomDone, CustomEntry, CustomRun}
-use Rattle.custom_records.specs.Said.{Said}
-use Rattle.custom_records.specs.Settings.{CustomSettings, CustomHead, names_of, word_in, refuses_word}
+use Rattle.std.specs.{Prelude.{ℕ, ◌≡◌, ◌<◌, ◌≤◌, ◌^◌, true, List, length}, List.AllByRecursion}
+use Rattle.event_log.specs.{declared.event.TheConstants.MOST_CALLS, declared.entry.Done.TheVariants.{Steps, NoRoom}}
+use Rattle.custom_records.specs.{declared.settings.TheConstants.{MOST_CUSTOM_CPUS, MOST_CUSTOM_OBJECTS, MOST_SIZES, MOST_WORDS}, declared.spoken.TheConstants.MOST_NUMBERS, Custom.{CustomStep, CustomEvent, CustomDone, CustomEntry, CustomRun}, Said.Said, Settings.{CustomSettings, CustomHead, names_of, word_in, refuses_word}}
 use Rattle.record_lines.specs.Names.{is_name}
 
 -- the most events of a log, and entries of a transcript

@@ -1,10 +1,7 @@
 -- Which line of a text is the first that no record continues.
 use Rattle.std.specs.Prelude.{ℕ, ◌≡◌, ◌<◌, List, Result, Ok, Err}
-use Rattle.custom_records.specs.Ranges.{CustomRecord, CustomRecordFits}
-use Rattle.record_lines.specs.FirstLines.{first_lines}
-use Rattle.record_lines.specs.declared.text.fault.LinesFault.{LinesFault}
-use Rattle.record_lines.specs.declared.text.fault.LinesFault.TheVariants.{OutOfMemory, Line}
-use Rattle.custom_records.specs.RecordText.{custom_text}
+use Rattle.custom_records.specs.{Ranges.{CustomRecord, CustomRecordFits}, RecordText.custom_text}
+use Rattle.record_lines.specs.{FirstLines.first_lines, declared.text.fault.LinesFault.LinesFault, declared.text.fault.LinesFault.TheVariants.{OutOfMemory, Line}}
 
 -- the bytes are the text of the record, which is within all limits
 pub record IsCustomText (bytes : List ℕ) (r : CustomRecord) : Type 0 where

@@ -1,10 +1,6 @@
 -- The text of a record of its writer's objects: its head, a log for each object, and a transcript for each CPU.
-use Rattle.std.specs.Prelude.{ℕ, ◌+◌, List, [], ◌∷◌, ◌++◌, map, length}
-use Rattle.std.specs.List.{flat_map, zip}
-use Rattle.custom_records.specs.Custom.{CustomEvent, CustomEntry}
-use Rattle.custom_records.specs.Ranges.{CustomRecord}
-use Rattle.custom_records.specs.Settings.{CustomSettings, CustomHead}
-use Rattle.custom_records.specs.LineText.{first_words, cpus_words, count_words, custom_object_words, refuses_words, log_words, custom_event_words, cpu_words, custom_entry_words, last_words}
+use Rattle.std.specs.{Prelude.{ℕ, ◌+◌, List, [], ◌∷◌, ◌++◌, map, length}, List.{flat_map, zip}}
+use Rattle.custom_records.specs.{Custom.{CustomEvent, CustomEntry}, Ranges.CustomRecord, Settings.{CustomSettings, CustomHead}, LineText.{first_words, cpus_words, count_words, custom_object_words, refuses_words, log_words, custom_event_words, cpu_words, custom_entry_words, last_words}}
 use Rattle.record_lines.specs.Words.{sentence, text_of_lines}
 
 -- the form, the number of CPUs, the objects, and the words that refuse

@@ -1,7 +1,5 @@
 -- What the head of a record says of its objects.
-use Rattle.std.specs.Prelude.{ℕ, Bool, List, [], map, unwrap_or}
-use Rattle.std.specs.List.{slice_get, list_any}
-use Rattle.std.specs.Str.{bytes_eq}
+use Rattle.std.specs.{Prelude.{ℕ, Bool, List, [], map, unwrap_or}, List.{slice_get, list_any}, Str.bytes_eq}
 
 -- an object's name, the word for its lock, the most events of its log, and its kind with its numbers
 pub record CustomSettings : Type 0 where

@@ -1,10 +1,7 @@
 //! The head of a record 3, while it is read.
 
-ghost use Rattle.std.specs.Prelude.{◌≡◌, ◌<◌, length, Some, None, OnOk, OnErr, Err};
-ghost use Rattle.std.specs.List.{list_any};
-ghost use Rattle.std.specs.Str.{bytes_eq};
-ghost use Rattle.custom_records.specs.Settings.{names_of, word_in};
-ghost use Rattle.custom_records.specs.CustomForm.{head_after, new_object_at};
+ghost use Rattle.std.specs.{Prelude.{◌≡◌, ◌<◌, length, Some, None, OnOk, OnErr, Err}, List.list_any, Str.bytes_eq};
+ghost use Rattle.custom_records.specs.{Settings.{names_of, word_in}, CustomForm.{head_after, new_object_at}};
 ghost use Rattle.record_lines.specs.Reading.{words};
 
 use crate::{

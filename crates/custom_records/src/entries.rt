@@ -1,13 +1,8 @@
 //! Reading the line of an entry.
 
-ghost use Rattle.std.specs.Prelude.{◌≡◌, ◌≤◌, ◌<◌, ◌∷◌, [], map, codes, length, position, Some, IfSome};
-ghost use Rattle.std.specs.Option.{option_map};
-ghost use Rattle.std.specs.Str.{bytes_eq};
-ghost use Rattle.custom_records.specs.LineReading.{custom_place_at, custom_done_at, custom_entry_at};
-ghost use Rattle.custom_records.specs.StepText.{custom_front_at};
-ghost use Rattle.custom_records.specs.declared.settings.TheConstants.{MOST_CUSTOM_OBJECTS};
-ghost use Rattle.record_lines.specs.Reading.{left, words};
-ghost use Rattle.record_lines.specs.LineParts.{fixed_at};
+ghost use Rattle.std.specs.{Prelude.{◌≡◌, ◌≤◌, ◌<◌, ◌∷◌, [], map, codes, length, position, Some, IfSome}, Option.option_map, Str.bytes_eq};
+ghost use Rattle.custom_records.specs.{LineReading.{custom_place_at, custom_done_at, custom_entry_at}, StepText.custom_front_at, declared.settings.TheConstants.MOST_CUSTOM_OBJECTS};
+ghost use Rattle.record_lines.specs.{Reading.{left, words}, LineParts.fixed_at};
 
 use crate::events::all_steps;
 use crate::items::list;

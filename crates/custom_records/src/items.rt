@@ -1,9 +1,7 @@
 //! Reading the calls of an entry or the steps of an event, which have semicolons between them.
 
-ghost use Rattle.std.specs.Prelude.{◌≡◌, [], map};
-ghost use Rattle.std.specs.Option.{option_map};
-ghost use Rattle.record_lines.specs.Reading.{left};
-ghost use Rattle.record_lines.specs.LineParts.{list_at};
+ghost use Rattle.std.specs.{Prelude.{◌≡◌, [], map}, Option.option_map};
+ghost use Rattle.record_lines.specs.{Reading.left, LineParts.list_at};
 
 use crate::refusing::is_refusing;
 use crate::said::said;

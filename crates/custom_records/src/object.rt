@@ -17,8 +17,7 @@ pub struct CustomReply {
 pub struct CustomObject;
 
 impl SeqObject for CustomObject {
-    ghost use Rattle.custom_records.specs.Custom.{custom_in_range, custom_opening, custom_answer, custom_refusing};
-    ghost use Rattle.custom_records.specs.Padding.{same_said, same_reply};
+    ghost use Rattle.custom_records.specs.{Custom.{custom_in_range, custom_opening, custom_answer, custom_refusing}, Padding.{same_said, same_reply}};
     ghost use Rattle.std.proofs.Common.{lit<, rules};
 
     type Params = ();

@@ -1,9 +1,7 @@
 //! Reading the line of an object.
 
-ghost use Rattle.std.specs.Prelude.{◌≡◌};
-ghost use Rattle.std.specs.Option.{option_map};
-ghost use Rattle.custom_records.specs.LineReading.{sizes_at, custom_events_at, custom_object_at};
-ghost use Rattle.custom_records.specs.declared.settings.TheConstants.{MOST_SIZES};
+ghost use Rattle.std.specs.{Prelude.◌≡◌, Option.option_map};
+ghost use Rattle.custom_records.specs.{LineReading.{sizes_at, custom_events_at, custom_object_at}, declared.settings.TheConstants.MOST_SIZES};
 ghost use Rattle.record_lines.specs.Reading.{left, words};
 
 use crate::said::{is_number_next, name as next_name};

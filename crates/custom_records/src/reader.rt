@@ -1,13 +1,8 @@
 //! Reading a record, whose text lies whole.
 
 ghost use Rattle.std.specs.Prelude.{◌≡◌, IfOk, IfErr};
-ghost use Rattle.custom_records.specs.CustomForm.{no_head};
-ghost use Rattle.custom_records.specs.CustomReceived.{received_custom};
-ghost use Rattle.custom_records.specs.Ranges.{CustomRecord, CustomRecordFits};
-ghost use Rattle.custom_records.specs.RecordFaults.{IsCustomText, IsReadCustom, NamesBadCustomLine};
-ghost use Rattle.custom_records.specs.RecordText.{custom_text};
-ghost use Rattle.record_lines.specs.Received.{only_head, IsWholeWith};
-ghost use Rattle.record_lines.specs.Then.{ok_map};
+ghost use Rattle.custom_records.specs.{CustomForm.no_head, CustomReceived.received_custom, Ranges.{CustomRecord, CustomRecordFits}, RecordFaults.{IsCustomText, IsReadCustom, NamesBadCustomLine}, RecordText.custom_text};
+ghost use Rattle.record_lines.specs.{Received.{only_head, IsWholeWith}, Then.ok_map};
 
 use crate::{CustomForm, CustomFormHead, CustomHead};
 use record_lines::{LineFault, LinesFault, RecordSink, RecordState, split_line};

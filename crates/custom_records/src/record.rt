@@ -1,9 +1,7 @@
 //! A record whose logs and transcripts are kept whole.
 
 ghost use Rattle.std.specs.Prelude.{◌≡◌, IfOk, IfErr};
-ghost use Rattle.custom_records.specs.Ranges.{CustomRecordFits, CustomRecord as Shown};
-ghost use Rattle.custom_records.specs.RecordFaults.{IsCustomText, IsReadCustom, NamesBadCustomLine};
-ghost use Rattle.custom_records.specs.RecordText.{custom_text};
+ghost use Rattle.custom_records.specs.{Ranges.{CustomRecordFits, CustomRecord as Shown}, RecordFaults.{IsCustomText, IsReadCustom, NamesBadCustomLine}, RecordText.custom_text};
 
 use crate::reader::read_custom;
 use crate::{CustomForm, CustomHead, CustomObject};

@@ -1,12 +1,7 @@
 //! The words whose replies refuse.
 
-ghost use Rattle.std.specs.Prelude.{◌≡◌, [], map, IfOk};
-ghost use Rattle.std.specs.List.{list_any};
-ghost use Rattle.std.specs.Option.{option_map};
-ghost use Rattle.std.specs.Str.{bytes_eq};
-ghost use Rattle.custom_records.specs.LineReading.{refuses_at, new_name_in, new_words_at};
-ghost use Rattle.custom_records.specs.declared.settings.TheConstants.{MOST_WORDS};
-ghost use Rattle.custom_records.specs.Settings.{refuses_word};
+ghost use Rattle.std.specs.{Prelude.{◌≡◌, [], map, IfOk}, List.list_any, Option.option_map, Str.bytes_eq};
+ghost use Rattle.custom_records.specs.{LineReading.{refuses_at, new_name_in, new_words_at}, declared.settings.TheConstants.MOST_WORDS, Settings.refuses_word};
 ghost use Rattle.record_lines.specs.Reading.{left, words};
 
 use crate::{CustomName, MOST_WORDS};

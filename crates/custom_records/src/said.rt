@@ -1,12 +1,8 @@
 //! Reading what is said: a word, and the numbers behind it.
 
-ghost use Rattle.std.specs.Prelude.{◌≡◌, ◌||◌, [], IfSome};
-ghost use Rattle.std.specs.Option.{option_map};
-ghost use Rattle.custom_records.specs.LineReading.{number_next, sizes_at, said_at};
-ghost use Rattle.custom_records.specs.declared.spoken.TheConstants.{MOST_NUMBERS};
-ghost use Rattle.record_lines.specs.Reading.{left, words};
-ghost use Rattle.record_lines.specs.LineParts.{name_word_at};
-ghost use Rattle.record_lines.specs.Names.{is_digit, is_letter};
+ghost use Rattle.std.specs.{Prelude.{◌≡◌, ◌||◌, [], IfSome}, Option.option_map};
+ghost use Rattle.custom_records.specs.{LineReading.{number_next, sizes_at, said_at}, declared.spoken.TheConstants.MOST_NUMBERS};
+ghost use Rattle.record_lines.specs.{Reading.{left, words}, LineParts.name_word_at, Names.{is_digit, is_letter}};
 
 use crate::{CustomName, MOST_NUMBERS, Spoken};
 use record_lines::{Words, name_in, number, word};

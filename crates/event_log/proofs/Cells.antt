@@ -1,19 +1,8 @@
 -- Many lists as chains in the same cells: one of them changes, and the others stay.
-use Rattle.std.proofs.Common.{◌≡◌, ◌≢◌, ◌==◌, ℕ, zero, suc, ◌+◌, ◌<◌, ◌≤◌, ◌||◌, Bool, true, false, not, List, [], ◌∷◌, ◌++◌, length, get_or, set, replicate, refl, sym, ap, ◌∙◌, subst, inl, inr, arith, length-append, length-set}
-use Rattle.std.specs.List.{AllZip, concat}
-use Rattle.std.specs.List.Sorted.{IsPermutation}
-use Rattle.std.proofs.lemmas.Bool.{or_from, or_left, or_right, cases_eq, cond_both, not-true, not-false, eqb-true, eq-eqb, ne_eqb}
-use Rattle.std.proofs.lemmas.List.{append-nil, length-replicate, get_or-set_same, get_or-set_other, set-get_or}
-use Rattle.std.proofs.lemmas.List.Elements.{filter-append}
-use Rattle.std.proofs.lemmas.List.Folds.{list_any-append}
-use Rattle.std.proofs.lemmas.List.Sorted.{IsPermutation-append_comm, IsPermutation-trans, list_any-IsPermutation}
-use Rattle.event_log.specs.Distinct.{has, without, AreDistinctBelow}
-use Rattle.event_log.specs.Chain.{ChainLists}
-use Rattle.event_log.specs.Links.{IsChain, lists_of, view_of, AreChains, SameOutside, Rewrites, Joins, Cuts}
-use Rattle.event_log.specs.declared.chain.Ends.{Ends}
-use Rattle.event_log.proofs.Distinct.{distinct_rest, distinct_put, distinct_permuted, distinct_filter, distinct_length, distinct_length_missing}
-use Rattle.event_log.proofs.Joined.{put_in, taken_out, concat_none, fits_one_more}
-use Rattle.event_log.proofs.Chained.{there, linked_stays, Apart, apart_parts, apart_sym, in_front, behind, distinct_front, split_at, without_absent, member_below, lists_are, count_is, ends_in, first_out, inner_cells}
+use Rattle.std.proofs.{Common.{◌≡◌, ◌≢◌, ◌==◌, ℕ, zero, suc, ◌+◌, ◌<◌, ◌≤◌, ◌||◌, Bool, true, false, not, List, [], ◌∷◌, ◌++◌, length, get_or, set, replicate, refl, sym, ap, ◌∙◌, subst, inl, inr, arith, length-append, length-set}, lemmas.Bool.{or_from, or_left, or_right, cases_eq, cond_both, not-true, not-false, eqb-true, eq-eqb, ne_eqb}, lemmas.List.{append-nil, length-replicate, get_or-set_same, get_or-set_other, set-get_or}, lemmas.List.Elements.filter-append, lemmas.List.Folds.list_any-append, lemmas.List.Sorted.{IsPermutation-append_comm, IsPermutation-trans, list_any-IsPermutation}}
+use Rattle.std.specs.{List.{AllZip, concat}, List.Sorted.IsPermutation}
+use Rattle.event_log.specs.{Distinct.{has, without, AreDistinctBelow}, Chain.ChainLists, Links.{IsChain, lists_of, view_of, AreChains, SameOutside, Rewrites, Joins, Cuts}, declared.chain.Ends.Ends}
+use Rattle.event_log.proofs.{Distinct.{distinct_rest, distinct_put, distinct_permuted, distinct_filter, distinct_length, distinct_length_missing}, Joined.{put_in, taken_out, concat_none, fits_one_more}, Chained.{there, linked_stays, Apart, apart_parts, apart_sym, in_front, behind, distinct_front, split_at, without_absent, member_below, lists_are, count_is, ends_in, first_out, inner_cells}}
 
 -- a chain stays where the cells of its numbers do
 chain_stays : (k : ℕ) (m n p n' p' : List ℕ) (e : Ends) (xs : List ℕ) → AreDistinctBelow k xs → SameOutside m n n' → SameOutside m p p' → Apart m xs → IsChain n p e xs → IsChain n' p' e xs

@@ -1,13 +1,7 @@
 -- Chains of numbers: what a write to a cell leaves, two chains that are joined, a number that is taken out of one.
-use Rattle.std.proofs.Common.{◌≡◌, ◌≢◌, ◌==◌, ℕ, suc, ◌+◌, ◌-◌, ◌<◌, true, false, not, List, [], ◌∷◌, ◌++◌, length, get_or, set, refl, sym, ap, ◌∙◌, subst, inl, inr, arith, length-append, length-set}
+use Rattle.std.proofs.{Common.{◌≡◌, ◌≢◌, ◌==◌, ℕ, suc, ◌+◌, ◌-◌, ◌<◌, true, false, not, List, [], ◌∷◌, ◌++◌, length, get_or, set, refl, sym, ap, ◌∙◌, subst, inl, inr, arith, length-append, length-set}, lemmas.Bool.{or_parts, or_from, or_left, or_right, or_cases, both_ways, eqb-true, eq-eqb, ne_eqb, false_from_ne_true}, lemmas.List.{append-nil, get_or-set_same, get_or-set_other}, lemmas.List.Elements.filter-append, lemmas.List.Folds.list_any-append}
 use Rattle.std.specs.List.{AllZip}
-use Rattle.std.proofs.lemmas.Bool.{or_parts, or_from, or_left, or_right, or_cases, both_ways, eqb-true, eq-eqb, ne_eqb, false_from_ne_true}
-use Rattle.std.proofs.lemmas.List.{append-nil, get_or-set_same, get_or-set_other}
-use Rattle.std.proofs.lemmas.List.Elements.{filter-append}
-use Rattle.std.proofs.lemmas.List.Folds.{list_any-append}
-use Rattle.event_log.specs.Distinct.{has, without, AreDistinctBelow}
-use Rattle.event_log.specs.Links.{walk, chain_of, lists_of, last_of, Linked, IsChain, Rewrites, Joins, Cuts}
-use Rattle.event_log.specs.declared.chain.Ends.{Ends}
+use Rattle.event_log.specs.{Distinct.{has, without, AreDistinctBelow}, Links.{walk, chain_of, lists_of, last_of, Linked, IsChain, Rewrites, Joins, Cuts}, declared.chain.Ends.Ends}
 use Rattle.event_log.proofs.Distinct.{distinct_rest, distinct_filter}
 
 -- a chain is walked through from its first

@@ -1,17 +1,6 @@
 -- Distinct numbers below a bound are few. They stay distinct where one more comes, where some are left out, and in another order.
-use Rattle.std.proofs.Common.{◌≡◌, ◌≢◌, ℕ, ◌<◌, ◌≤◌, ◌==◌, ◌||◌, Bool, true, false, cond, List, [], ◌∷◌, ◌++◌, length, refl, subst, arith}
-use Rattle.std.specs.List.{list_any, IsDistinct, AllByRecursion, filter}
-use Rattle.std.specs.List.Sorted.{IsPermutation}
-use Rattle.std.proofs.Math.Dec.{eqb}
-use Rattle.std.proofs.lemmas.Bool.{or_from, or_parts}
-use Rattle.std.proofs.lemmas.Bool.Decides.{nat_tests}
-use Rattle.std.proofs.lemmas.Cmp.{nat_eq_equiv}
-use Rattle.std.proofs.lemmas.List.{append-nil, length_push}
-use Rattle.std.proofs.lemmas.List.Elements.{recursion_from_All}
-use Rattle.std.proofs.lemmas.List.Sorted.{All-permutation}
-use Rattle.std.proofs.lemmas.Map.Keys.{IsDistinct-IsPermutation}
-use Rattle.std.proofs.lemmas.Map.Steps.{length-le_from_distinct_below}
-use Rattle.std.proofs.lemmas.Map.Views.{All-from_any}
+use Rattle.std.proofs.{Common.{◌≡◌, ◌≢◌, ℕ, ◌<◌, ◌≤◌, ◌==◌, ◌||◌, Bool, true, false, cond, List, [], ◌∷◌, ◌++◌, length, refl, subst, arith}, Math.Dec.eqb, lemmas.Bool.{or_from, or_parts}, lemmas.Bool.Decides.nat_tests, lemmas.Cmp.nat_eq_equiv, lemmas.List.{append-nil, length_push}, lemmas.List.Elements.recursion_from_All, lemmas.List.Sorted.All-permutation, lemmas.Map.Keys.IsDistinct-IsPermutation, lemmas.Map.Steps.length-le_from_distinct_below, lemmas.Map.Views.All-from_any}
+use Rattle.std.specs.{List.{list_any, IsDistinct, AllByRecursion, filter}, List.Sorted.IsPermutation}
 use Rattle.event_log.specs.Distinct.{has, AreDistinctBelow}
 
 -- a number that isn't in the list differs from each of it

@@ -1,7 +1,6 @@
 -- What holds of each element of a list.
 use Rattle.std.proofs.Common.{◌≡◌, ℕ, zero, suc, List, [], ◌∷◌, ◌++◌, Some, slice_get, subst}
-use Rattle.std.specs.Prelude.{unwrap_or}
-use Rattle.std.specs.List.{AllByRecursion}
+use Rattle.std.specs.{Prelude.unwrap_or, List.AllByRecursion}
 
 module _ {X : Type 0} where
   -- what follows from it holds of each too

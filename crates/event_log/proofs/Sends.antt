@@ -1,10 +1,7 @@
 -- A closure or a tuple may go to another thread.
 use mathlib.Core.List.{List}
 use mir.Syntax.{Sym}
-use denote.RattleType.{RattleType}
-use denote.Param.Send.{IsSend, AllSend, recorded_send, struct_send}
-use denote.Struct.Declared.{shape, fields}
-use denote.Struct.Tuple.{TupleAt, type_at}
+use denote.{RattleType.RattleType, Param.Send.{IsSend, AllSend, recorded_send, struct_send}, Struct.Declared.{shape, fields}, Struct.Tuple.{TupleAt, type_at}}
 
 -- a closure, or a tuple, goes where all that it holds goes
 pub captures_send : (ν : Sym) (Ts : List RattleType) → AllSend (fields (type_at ν Ts)) → IsSend (TupleAt ν Ts)

@@ -1,6 +1,5 @@
 -- Lists of distinct numbers below a bound, as queues and wake lists hold them.
-use Rattle.std.specs.Prelude.{◌≡◌, ℕ, ◌<◌, ◌==◌, Bool, false, not, List, [], ◌∷◌}
-use Rattle.std.specs.List.{list_any, filter}
+use Rattle.std.specs.{Prelude.{◌≡◌, ℕ, ◌<◌, ◌==◌, Bool, false, not, List, [], ◌∷◌}, List.{list_any, filter}}
 
 -- whether the number is in the list
 abbrev pub has : ℕ → List ℕ → Bool

@@ -1,10 +1,7 @@
 -- How lists are kept as chains: each number has a cell that names the number behind it, and one that names the number
 -- before it. Only the invariant and private functions speak of these.
-use Rattle.std.specs.Prelude.{◌≡◌, ℕ, zero, suc, Bool, true, false, List, [], ◌∷◌, ◌++◌, length, get_or, map}
-use Rattle.std.specs.List.{concat, AllZip}
-use Rattle.event_log.specs.Distinct.{has, without, AreDistinctBelow}
-use Rattle.event_log.specs.Chain.{ChainLists}
-use Rattle.event_log.specs.declared.chain.Ends.{Ends}
+use Rattle.std.specs.{Prelude.{◌≡◌, ℕ, zero, suc, Bool, true, false, List, [], ◌∷◌, ◌++◌, length, get_or, map}, List.{concat, AllZip}}
+use Rattle.event_log.specs.{Distinct.{has, without, AreDistinctBelow}, Chain.ChainLists, declared.chain.Ends.Ends}
 
 -- that many numbers from x on, each the next of the one before
 abbrev pub walk : List ℕ → ℕ → ℕ → List ℕ

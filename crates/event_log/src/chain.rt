@@ -1,10 +1,7 @@
 //! Lists of numbers as chains: a number stands at most once in all of them, and each change is made in a few steps.
 
-ghost use Rattle.std.specs.Prelude.{◌≡◌, ◌+◌, ◌^◌, ◌<◌, ◌≢◌, true, false, [], ◌∷◌, ◌++◌, IfOk, length, get_or, replicate};
-ghost use Rattle.std.specs.List.{concat};
-ghost use Rattle.event_log.specs.Distinct.{has, without};
-ghost use Rattle.event_log.specs.Chain.{with_list};
-ghost use Rattle.event_log.specs.Links.{Joins, Cuts};
+ghost use Rattle.std.specs.{Prelude.{◌≡◌, ◌+◌, ◌^◌, ◌<◌, ◌≢◌, true, false, [], ◌∷◌, ◌++◌, IfOk, length, get_or, replicate}, List.concat};
+ghost use Rattle.event_log.specs.{Distinct.{has, without}, Chain.with_list, Links.{Joins, Cuts}};
 
 use std::alloc::{AllocError, Global};
 use std::marker::Model;
@@ -35,8 +32,7 @@ pub struct Chains {
 }
 
 impl Model for Chains {
-    ghost use Rattle.event_log.specs.Chain.{ChainLists};
-    ghost use Rattle.event_log.specs.Links.{lists_of, view_of, AreChains};
+    ghost use Rattle.event_log.specs.{Chain.ChainLists, Links.{lists_of, view_of, AreChains}};
 
     ghost Value = { ChainLists };
 

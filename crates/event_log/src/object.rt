@@ -57,10 +57,7 @@ pub trait SeqObject: Drop {
     type Reply: Copy + Eq + Default;
 
     ghost use Rattle.std.specs.Mem.{FitsInMemory};
-    ghost use Rattle.event_log.specs.contracts.entry.Todo.{the_row as todo_row};
-    ghost use Rattle.event_log.specs.contracts.entry.Entry.{the_row as entry_row};
-    ghost use Rattle.event_log.specs.contracts.event.Steps.{the_row as steps_row};
-    ghost use Rattle.event_log.specs.contracts.event.Event.{the_row as event_row};
+    ghost use Rattle.event_log.specs.{contracts.entry.Todo.{the_row as todo_row}, contracts.entry.Entry.{the_row as entry_row}, contracts.event.Steps.{the_row as steps_row}, contracts.event.Event.{the_row as event_row}};
 
     /// Whether an object can be opened with the parameters.
     ghost in_range: { Self.Params → Bool };

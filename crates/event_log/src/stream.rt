@@ -1,7 +1,6 @@
 //! The streams of all engines: where their bytes come from, and where they go.
 
-ghost use Rattle.std.specs.Prelude.{◌≡◌, ◌≤◌, ℕ, List, Option, None, IfOk, length};
-ghost use Rattle.std.specs.Io.KnownBytes.{ReadConsumes, WriteAppends};
+ghost use Rattle.std.specs.{Prelude.{◌≡◌, ◌≤◌, ℕ, List, Option, None, IfOk, length}, Io.KnownBytes.{ReadConsumes, WriteAppends}};
 ghost use Rattle.event_log.specs.Stream.{counted, is_failed_read, is_failed_write};
 
 /// A call on a stream failed.

@@ -1,14 +1,9 @@
 -- What a hold adds to a log, group by group.
-use Rattle.std.proofs.Common.{◌≡◌, ℕ, ◌+◌, ◌<◌, List, [], ◌∷◌, ◌++◌, length, take, drop, get_or, slice_get, refl, sym, ap, ◌∙◌, subst, arith, append_assoc, length-take, Some, Result, Ok, Err, OnErr}
-use Rattle.std.proofs.lemmas.List.{map-append, take-append-drop, take_more}
+use Rattle.std.proofs.{Common.{◌≡◌, ℕ, ◌+◌, ◌<◌, List, [], ◌∷◌, ◌++◌, length, take, drop, get_or, slice_get, refl, sym, ap, ◌∙◌, subst, arith, append_assoc, length-take, Some, Result, Ok, Err, OnErr}, lemmas.List.{map-append, take-append-drop, take_more}}
 use Rattle.arrayvec.specs.ArrayVec.{ArrayVec}
-use Rattle.event_log.specs.declared.object.SeqObject.{Ghosts}
-use Rattle.event_log.specs.declared.event.Steps.{Steps}
-use Rattle.event_log.specs.Log.{Fulfils, one_step}
-use Rattle.event_log.specs.History.{with_event}
+use Rattle.event_log.specs.{declared.object.SeqObject.Ghosts, declared.event.Steps.Steps, Log.{Fulfils, one_step}, History.with_event}
 use Rattle.sound_run.proofs.Slices.{one_of}
-use Rattle.word_rule.specs.Cell.{PassView, HoldView, Grows, Lawful, IsPassView, IsHoldView}
-use Rattle.word_rule.specs.Answered.{FulfilFirst, IsHeldThrough, events_by}
+use Rattle.word_rule.specs.{Cell.{PassView, HoldView, Grows, Lawful, IsPassView, IsHoldView}, Answered.{FulfilFirst, IsHeldThrough, events_by}}
 use Rattle.guarded_cell.specs.Groups.{HasAdded}
 
 -- the only element of a list

@@ -1,13 +1,8 @@
 -- What calls leave in the log.
-use Rattle.std.proofs.Common.{◌≡◌, ℕ, ◌+◌, ◌<◌, ◌≤◌, List, [], ◌∷◌, ◌++◌, length, map, take, drop, get_or, refl, sym, ap, ◌∙◌, subst, arith, append_assoc, length-append, Result, Ok, Err, IfOk, OnErr}
-use Rattle.std.proofs.lemmas.List.{append-nil, map-append, take_more}
-use Rattle.event_log.specs.declared.object.SeqObject.{Ghosts}
-use Rattle.event_log.specs.declared.event.Event.{Event}
-use Rattle.event_log.specs.Log.{Begins, of, calls_of, one_step}
+use Rattle.std.proofs.{Common.{◌≡◌, ℕ, ◌+◌, ◌<◌, ◌≤◌, List, [], ◌∷◌, ◌++◌, length, map, take, drop, get_or, refl, sym, ap, ◌∙◌, subst, arith, append_assoc, length-append, Result, Ok, Err, IfOk, OnErr}, lemmas.List.{append-nil, map-append, take_more}}
+use Rattle.event_log.specs.{declared.object.SeqObject.Ghosts, declared.event.Event.Event, Log.{Begins, of, calls_of, one_step}, History.History}
 use Rattle.event_log.proofs.Beginnings.{begins_self, begins_then, begins_rest}
-use Rattle.event_log.specs.History.{History}
-use Rattle.word_rule.specs.Cell.{Caller, PassView, Grows, Lawful, IsPassView, IsCaller, stored}
-use Rattle.word_rule.specs.Answered.{IsAnswered, IsRefused}
+use Rattle.word_rule.specs.{Cell.{Caller, PassView, Grows, Lawful, IsPassView, IsCaller, stored}, Answered.{IsAnswered, IsRefused}}
 use Rattle.guarded_cell.specs.Calls.{asked_by, HasCalled, IsEnded}
 
 -- a list that is full, and one that begins with it and isn't longer than the limit

@@ -1,19 +1,8 @@
 -- From what single holds leave in a run to what calls leave, and many of them.
-use Rattle.std.proofs.Common.{◌≡◌, ℕ, ◌+◌, ◌<◌, ◌≤◌, List, [], ◌∷◌, ◌++◌, map, length, take, get_or, refl, sym, ap, ◌∙◌, subst, arith, append-nil, inl, Result, Ok, Err, IfOk, OnErr}
-use Rattle.std.proofs.lemmas.List.{map-append, take_all, take_more}
-use Rattle.event_log.specs.declared.object.SeqObject.{Ghosts}
-use Rattle.event_log.specs.declared.event.Event.{Event}
-use Rattle.event_log.specs.declared.event.Steps.{Steps}
-use Rattle.event_log.specs.declared.logged.NoRoom.{NoRoom}
-use Rattle.event_log.specs.History.{with_event}
-use Rattle.event_log.specs.Log.{Fulfils, after, one_step}
-use Rattle.word_rule.specs.declared.view.TraceStep.{TraceStep}
-use Rattle.word_rule.specs.Cell.{Caller, HoldView}
-use Rattle.word_rule.specs.Holds.{Leaves, HasHeldEach}
-use Rattle.word_rule.specs.LockRuns.{Extends, events_in}
-use Rattle.word_rule.specs.OneHold.{HasAcquired, HasReleased, HasHeld}
-use Rattle.word_rule.proofs.ManyHolds.{one_held, still_held}
-use Rattle.word_rule.proofs.OneHolds.{held_once}
+use Rattle.std.proofs.{Common.{◌≡◌, ℕ, ◌+◌, ◌<◌, ◌≤◌, List, [], ◌∷◌, ◌++◌, map, length, take, get_or, refl, sym, ap, ◌∙◌, subst, arith, append-nil, inl, Result, Ok, Err, IfOk, OnErr}, lemmas.List.{map-append, take_all, take_more}}
+use Rattle.event_log.specs.{declared.object.SeqObject.Ghosts, declared.event.Event.Event, declared.event.Steps.Steps, declared.logged.NoRoom.NoRoom, History.with_event, Log.{Fulfils, after, one_step}}
+use Rattle.word_rule.specs.{declared.view.TraceStep.TraceStep, Cell.{Caller, HoldView}, Holds.{Leaves, HasHeldEach}, LockRuns.{Extends, events_in}, OneHold.{HasAcquired, HasReleased, HasHeld}}
+use Rattle.word_rule.proofs.{ManyHolds.{one_held, still_held}, OneHolds.held_once}
 use Rattle.guarded_cell.specs.Held.{left_by_call, left_by_batch, holds_of}
 
 module _ {O P C R : Type 0} (meaning : Ghosts O P C R) where

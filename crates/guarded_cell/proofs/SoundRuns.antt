@@ -1,33 +1,15 @@
 -- What callers leave who did their scripts on new cells and joined is a sound run.
-use Rattle.std.proofs.Common.{◌≡◌, ◌⊎◌, inl, inr, ℕ, ◌+◌, ◌<◌, ◌≤◌, ◌||◌, true, List, [], ◌∷◌, ◌++◌, length, map, drop, refl, sym, ◌∙◌, ap, subst, arith, length-append, slice_get, Some}
-use Rattle.std.specs.List.{AllByRecursion}
-use Rattle.std.specs.Prelude.{unwrap_or}
-use Rattle.std.proofs.lemmas.List.{length-map, map-id}
-use Rattle.std.proofs.lemmas.Bool.{cases_lt, eq-eqb, or_right, or_left}
-use Rattle.std.proofs.lemmas.Option.{slice_get_within, slice_get_past}
+use Rattle.std.proofs.{Common.{◌≡◌, ◌⊎◌, inl, inr, ℕ, ◌+◌, ◌<◌, ◌≤◌, ◌||◌, true, List, [], ◌∷◌, ◌++◌, length, map, drop, refl, sym, ◌∙◌, ap, subst, arith, length-append, slice_get, Some}, lemmas.List.{length-map, map-id}, lemmas.Bool.{cases_lt, eq-eqb, or_right, or_left}, lemmas.Option.{slice_get_within, slice_get_past}}
+use Rattle.std.specs.{List.AllByRecursion, Prelude.unwrap_or}
 use Rattle.arrayvec.specs.ArrayVec.{ArrayVec}
-use Rattle.event_log.specs.declared.object.SeqObject.{Ghosts}
-use Rattle.event_log.specs.declared.event.Steps.{Steps}
-use Rattle.event_log.specs.declared.event.Event.{Event}
-use Rattle.event_log.specs.declared.entry.Done.{Done}
-use Rattle.event_log.specs.declared.entry.Done.TheVariants as done
-use Rattle.event_log.specs.declared.entry.Entry.{Entry}
-use Rattle.event_log.specs.declared.entry.Todo.{Todo}
-use Rattle.event_log.specs.declared.entry.Run.{Run}
-use Rattle.event_log.specs.Entries.{asked_of}
-use Rattle.event_log.specs.Log.{of}
-use Rattle.event_log.proofs.Each.{all_map, all_both}
-use Rattle.event_log.proofs.Beginnings.{begins_rest}
-use Rattle.event_log.proofs.Lists.{some_at}
-use Rattle.word_rule.specs.Cell.{Cell, PassView, Grows, Lawful, OwnsAll, opening_pass}
-use Rattle.word_rule.specs.Answered.{events_by}
+use Rattle.event_log.specs.{declared.object.SeqObject.Ghosts, declared.event.Steps.Steps, declared.event.Event.Event, declared.entry.Done.Done, declared.entry.Entry.Entry, declared.entry.Todo.Todo, declared.entry.Run.Run, Entries.asked_of, Log.of}
+use Rattle.event_log.proofs.{Each.{all_map, all_both}, Beginnings.begins_rest, Lists.some_at}
+use Rattle.word_rule.specs.{Cell.{Cell, PassView, Grows, Lawful, OwnsAll, opening_pass}, Answered.events_by, Machine.SoundWorld.IsTodo}
 use Rattle.sound_run.specs.Sound.{Opened, Sound, LogIsSound, EntryIsSound, Answers, NoneAfterFull, done_on, steps_by, transcript_of}
-use Rattle.word_rule.specs.Machine.SoundWorld.{IsTodo}
-use Rattle.word_rule.proofs.Lists.{of_opening, grows_self, grows_then}
+use Rattle.word_rule.proofs.{Lists.{of_opening, grows_self, grows_then}, SoundRuns.maps_equal}
 use Rattle.sound_run.proofs.Slices.{one_of, get_map, map_get}
-use Rattle.word_rule.proofs.SoundRuns.{maps_equal}
-use Rattle.guarded_cell.specs.Workers.{opened_of_cell, DidOn}
-use Rattle.guarded_cell.specs.Runs.{Joins, Worked, AllWorked, run_left}
+use Rattle.guarded_cell.specs.{Workers.{opened_of_cell, DidOn}, Runs.{Joins, Worked, AllWorked, run_left}}
+use Rattle.event_log.specs.declared.entry.Done.TheVariants as done
 
 all_unmap : {X Y : Type 0} (Q : Y → Type 0) (f : X → Y) (xs : List X) → AllByRecursion Q (map f xs) → AllByRecursion (λ x. Q (f x)) xs
 all_unmap Q f [] h = tt

@@ -1,29 +1,15 @@
 -- Entries that a caller with passes of many cells does one after another.
-use Rattle.std.proofs.Common.{◌≡◌, ◌≢◌, ℕ, ◌+◌, ◌<◌, ◌≤◌, ◌^◌, true, List, [], ◌∷◌, ◌++◌, length, map, drop, refl, sym, ◌∙◌, ap, subst, arith, length-append, append_assoc, slice_get, Option, Some, None}
-use Rattle.std.proofs.Math.ListN.{set}
-use Rattle.std.proofs.lemmas.List.{append-nil, map-append, length-set}
+use Rattle.std.proofs.{Common.{◌≡◌, ◌≢◌, ℕ, ◌+◌, ◌<◌, ◌≤◌, ◌^◌, true, List, [], ◌∷◌, ◌++◌, length, map, drop, refl, sym, ◌∙◌, ap, subst, arith, length-append, append_assoc, slice_get, Option, Some, None}, Math.ListN.set, lemmas.List.{append-nil, map-append, length-set}, lemmas.Option.slice_get_within}
 use mathlib.Core.Logic.{dite}
 use native.Mathlib.Decide.{ℕ_discrete}
 use Rattle.arrayvec.specs.ArrayVec.{ArrayVec}
-use Rattle.event_log.specs.declared.object.SeqObject.{Ghosts}
-use Rattle.event_log.specs.declared.event.Steps.{Steps}
-use Rattle.event_log.specs.declared.event.Event.{Event}
-use Rattle.event_log.specs.declared.entry.Done.{Done}
-use Rattle.event_log.specs.declared.entry.Done.TheVariants as done
-use Rattle.event_log.specs.declared.entry.Entry.{Entry}
-use Rattle.event_log.specs.declared.entry.Todo.{Todo}
-use Rattle.event_log.specs.Entries.{asked_of}
-use Rattle.event_log.specs.Log.{of}
-use Rattle.event_log.proofs.Beginnings.{begins_rest}
-use Rattle.event_log.proofs.Lists.{some_at}
-use Rattle.word_rule.specs.Cell.{PassView, IsPassView}
-use Rattle.word_rule.specs.Answered.{IsAnswered, events_by}
+use Rattle.event_log.specs.{declared.object.SeqObject.Ghosts, declared.event.Steps.Steps, declared.event.Event.Event, declared.entry.Done.Done, declared.entry.Entry.Entry, declared.entry.Todo.Todo, Entries.asked_of, Log.of}
+use Rattle.event_log.proofs.{Beginnings.begins_rest, Lists.some_at, Each.{all_map, all_push}}
+use Rattle.word_rule.specs.{Cell.{PassView, IsPassView}, Answered.{IsAnswered, events_by}}
 use Rattle.sound_run.specs.Sound.{Opened, Answers, done_on, with_steps}
-use Rattle.event_log.proofs.Each.{all_map, all_push}
-use Rattle.sound_run.proofs.Entries.{done_append, done_here, done_elsewhere, done_without, full_push}
-use Rattle.sound_run.proofs.Slices.{one_of, get_set_same, get_set_other, get_map, map_get, map_none}
-use Rattle.std.proofs.lemmas.Option.{slice_get_within}
+use Rattle.sound_run.proofs.{Entries.{done_append, done_here, done_elsewhere, done_without, full_push}, Slices.{one_of, get_set_same, get_set_other, get_map, map_get, map_none}}
 use Rattle.guarded_cell.specs.Workers.{ArePasses, opened_of_cell, Did, DidAt, DidOn, HasDone}
+use Rattle.event_log.specs.declared.entry.Done.TheVariants as done
 
 module _ {O P C R : Type 0} where
   off_object : (x : ℕ) (entries : List (Entry O P C R)) (e : Entry O P C R) → e.object ≢ x → done_on x (entries ++ e ∷ []) ≡ done_on x entries

@@ -1,9 +1,6 @@
 -- What callers leave in the log by their calls, whatever order they come in.
 use Rattle.std.specs.Prelude.{◌≡◌, ◌≢◌, ℕ, ◌<◌, ◌≤◌, true, List, [], ◌∷◌, ◌++◌, map, length, take}
-use Rattle.event_log.specs.declared.object.SeqObject.{Ghosts}
-use Rattle.event_log.specs.declared.event.Event.{Event}
-use Rattle.event_log.specs.Log.{Begins, of, calls_of}
-use Rattle.event_log.specs.History.{History}
+use Rattle.event_log.specs.{declared.object.SeqObject.Ghosts, declared.event.Event.Event, Log.{Begins, of, calls_of}, History.History}
 use Rattle.word_rule.specs.Cell.{PassView, Lawful, stored}
 
 module _ {O P C R : Type 0} where

@@ -1,8 +1,7 @@
 -- What a hold adds to a log.
 use Rattle.std.specs.Prelude.{◌≡◌, List, ◌++◌}
 use Rattle.event_log.specs.declared.event.Steps.{Steps}
-use Rattle.word_rule.specs.Cell.{HoldView}
-use Rattle.word_rule.specs.Answered.{events_by}
+use Rattle.word_rule.specs.{Cell.HoldView, Answered.events_by}
 
 module _ {O P C R : Type 0} where
   -- the holder has added an event for each of the steps, in order

@@ -1,16 +1,7 @@
 -- What whole calls add to the run of a cell's lock.
 use Rattle.std.specs.Prelude.{◌≡◌, ℕ, ◌+◌, List, [], ◌∷◌, map, take, Result, Ok, Err}
-use Rattle.event_log.specs.declared.object.SeqObject.{Ghosts}
-use Rattle.event_log.specs.declared.event.Event.{Event}
-use Rattle.event_log.specs.declared.event.Steps.{Steps}
-use Rattle.event_log.specs.declared.logged.NoRoom.{NoRoom}
-use Rattle.event_log.specs.Log.{one_step}
-use Rattle.word_rule.specs.declared.view.TraceStep.{TraceStep}
-use Rattle.word_rule.specs.Answered.{events_by}
-use Rattle.word_rule.specs.Cell.{Caller}
-use Rattle.word_rule.specs.Holds.{HasHeldEach}
-use Rattle.word_rule.specs.LockRuns.{Extends, HasRun, arrivals_in, endings_in}
-use Rattle.word_rule.specs.OneHold.{HasHeld, HasHeldAtOnce}
+use Rattle.event_log.specs.{declared.object.SeqObject.Ghosts, declared.event.Event.Event, declared.event.Steps.Steps, declared.logged.NoRoom.NoRoom, Log.one_step}
+use Rattle.word_rule.specs.{declared.view.TraceStep.TraceStep, Answered.events_by, Cell.Caller, Holds.HasHeldEach, LockRuns.{Extends, HasRun, arrivals_in, endings_in}, OneHold.{HasHeld, HasHeldAtOnce}}
 use Rattle.guarded_cell.specs.declared.tries.Declined.{Declined}
 use Rattle.guarded_cell.specs.declared.tries.Declined.TheVariants as declined
 

@@ -1,14 +1,12 @@
 -- Cells behind a lock of either kind, and their callers.
-use Rattle.std.specs.declared.cmp.PartialEq.{Ghosts as Eq}
-use Rattle.std.specs.declared.default.Default.{Ghosts as Default}
+use Rattle.std.specs.{declared.cmp.PartialEq.{Ghosts as Eq}, declared.default.Default.{Ghosts as Default}}
 use Rattle.event_log.specs.declared.object.SeqObject.{Ghosts}
 use Rattle.sound_run.specs.declared.lock_kind.LockKind.{LockKind}
-use Rattle.sound_run.specs.declared.lock_kind.LockKind.TheVariants as kinds
-use Rattle.word_rule.specs.declared.pass.Pass.{Pass}
-use Rattle.word_rule.specs.declared.hold.Hold.{Hold}
+use Rattle.word_rule.specs.{declared.pass.Pass.Pass, declared.hold.Hold.Hold}
 use Rattle.ticket_lock.specs.Passes.{IsPassOf as IsTicketPass, IsHoldOf as IsTicketHold}
 use Rattle.mcs_lock.specs.Passes.{IsPassOf as IsMcsPass, IsHoldOf as IsMcsHold}
 use Rattle.guarded_cell.specs.declared.cell.AnyCell.{AnyCell}
+use Rattle.sound_run.specs.declared.lock_kind.LockKind.TheVariants as kinds
 use Rattle.guarded_cell.specs.declared.cell.AnyCell.TheVariants as cells
 
 module _ {O P C R : Type 0} where

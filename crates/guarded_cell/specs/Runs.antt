@@ -1,12 +1,7 @@
 -- What many callers leave who do their scripts on new cells and join.
-use Rattle.std.specs.Prelude.{◌≡◌, ℕ, true, List, [], map, length, slice_get, Some}
-use Rattle.std.specs.List.{AllByRecursion}
-use Rattle.event_log.specs.declared.object.SeqObject.{Ghosts}
-use Rattle.event_log.specs.declared.entry.Entry.{Entry}
-use Rattle.event_log.specs.declared.entry.Todo.{Todo}
-use Rattle.event_log.specs.declared.entry.Run.{Run}
-use Rattle.word_rule.specs.Cell.{Cell, PassView, Grows, IsPassView, opening_pass}
-use Rattle.word_rule.specs.Machine.SoundWorld.{IsTodo}
+use Rattle.std.specs.{Prelude.{◌≡◌, ℕ, true, List, [], map, length, slice_get, Some}, List.AllByRecursion}
+use Rattle.event_log.specs.{declared.object.SeqObject.Ghosts, declared.entry.Entry.Entry, declared.entry.Todo.Todo, declared.entry.Run.Run}
+use Rattle.word_rule.specs.{Cell.{Cell, PassView, Grows, IsPassView, opening_pass}, Machine.SoundWorld.IsTodo}
 use Rattle.guarded_cell.specs.Workers.{HasDone}
 
 module _ {O P C R : Type 0} where

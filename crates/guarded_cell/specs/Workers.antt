@@ -1,16 +1,8 @@
 -- What a caller with a pass of each of many cells makes of a script.
-use Rattle.std.specs.Prelude.{◌≡◌, ◌≢◌, ℕ, ◌<◌, ◌^◌, ◌++◌, List, map, length, slice_get, Some}
-use Rattle.std.specs.List.{AllByRecursion}
+use Rattle.std.specs.{Prelude.{◌≡◌, ◌≢◌, ℕ, ◌<◌, ◌^◌, ◌++◌, List, map, length, slice_get, Some}, List.AllByRecursion}
 use Rattle.arrayvec.specs.ArrayVec.{ArrayVec}
-use Rattle.event_log.specs.declared.object.SeqObject.{Ghosts}
-use Rattle.event_log.specs.declared.entry.Done.{Done}
-use Rattle.event_log.specs.declared.entry.Done.TheVariants.{Steps, NoRoom}
-use Rattle.event_log.specs.declared.entry.Entry.{Entry}
-use Rattle.event_log.specs.declared.entry.Todo.{Todo}
-use Rattle.event_log.specs.Entries.{asked_of}
-use Rattle.event_log.specs.Log.{of}
-use Rattle.word_rule.specs.Cell.{Cell, PassView}
-use Rattle.word_rule.specs.Answered.{IsAnswered, IsRefused, events_by}
+use Rattle.event_log.specs.{declared.object.SeqObject.Ghosts, declared.entry.Done.Done, declared.entry.Done.TheVariants.{Steps, NoRoom}, declared.entry.Entry.Entry, declared.entry.Todo.Todo, Entries.asked_of, Log.of}
+use Rattle.word_rule.specs.{Cell.{Cell, PassView}, Answered.{IsAnswered, IsRefused, events_by}}
 use Rattle.sound_run.specs.Sound.{Opened, Answers, NoneAfterFull, done_on}
 
 -- each cell has a pass at its place

@@ -2,8 +2,7 @@
 
 ghost use Rattle.std.specs.Prelude.{◌≡◌, ◌<◌, ◌≤◌, length, take};
 ghost use Rattle.word_rule.specs.Cell.{OwnTogether};
-ghost use Rattle.guarded_cell.specs.Calls.{HasDoneCalls, IsEnded};
-ghost use Rattle.guarded_cell.specs.Held.{EndedInOrder, HasHeldFor, holds_of};
+ghost use Rattle.guarded_cell.specs.{Calls.{HasDoneCalls, IsEnded}, Held.{EndedInOrder, HasHeldFor, holds_of}};
 
 use crate::whole::call;
 use event_log::{Logged, NoRoom, SeqObject};

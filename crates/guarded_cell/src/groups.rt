@@ -1,10 +1,8 @@
 //! Groups of calls under one hold.
 
-ghost use Rattle.std.specs.Prelude.{◌≡◌, ◌<◌, ◌≤◌, ◌↔◌, [], length, IsErr, IfOk, OnOk, OnErr};
-ghost use Rattle.std.specs.List.{All};
+ghost use Rattle.std.specs.{Prelude.{◌≡◌, ◌<◌, ◌≤◌, ◌↔◌, [], length, IsErr, IfOk, OnOk, OnErr}, List.All};
 ghost use Rattle.event_log.specs.Log.{Fulfils};
-ghost use Rattle.word_rule.specs.Answered.{FulfilFirst};
-ghost use Rattle.word_rule.specs.Cell.{after_steps};
+ghost use Rattle.word_rule.specs.{Answered.FulfilFirst, Cell.after_steps};
 ghost use Rattle.guarded_cell.specs.Groups.{HasAdded};
 
 use arrayvec::ArrayVec;

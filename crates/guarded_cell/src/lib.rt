@@ -4,9 +4,9 @@
 mod callers;
 mod cell;
 mod groups;
-mod pinned_limits;
 mod lock;
 mod make;
+mod pinned_limits;
 mod replays;
 mod runs;
 mod tries;

@@ -1,8 +1,7 @@
 //! A new cell of the kind that is asked for, with a pass for each CPU.
 
 ghost use Rattle.std.specs.Prelude.{◌≡◌, ◌<◌, ◌≤◌, [], IfOk, IfErr, vec_len};
-ghost use Rattle.word_rule.specs.Cell.{EachAt, first_pass};
-ghost use Rattle.word_rule.specs.Passes.{view_of_pass, run_of_pass};
+ghost use Rattle.word_rule.specs.{Cell.{EachAt, first_pass}, Passes.{view_of_pass, run_of_pass}};
 ghost use Rattle.guarded_cell.specs.Kinds.{IsPassOf, kind_of};
 
 use crate::cell::AnyCell;

@@ -2,12 +2,8 @@
 
 ghost use Rattle.std.specs.Prelude.{◌≡◌, ◌<◌, ◌≤◌, ℕ, [], List, length, take, if◌then◌else◌};
 ghost use Rattle.event_log.specs.declared.event.Event.{Event};
-ghost use Rattle.word_rule.specs.declared.view.TraceStep.{TraceStep};
-ghost use Rattle.word_rule.specs.Cell.{OwnTogether};
-ghost use Rattle.word_rule.specs.LockRuns.{HasRun};
-ghost use Rattle.word_rule.specs.Replay.{IsReplay, entries_for};
-ghost use Rattle.guarded_cell.specs.Calls.{IsEnded};
-ghost use Rattle.guarded_cell.specs.Held.{EndedInOrder, holds_of};
+ghost use Rattle.word_rule.specs.{declared.view.TraceStep.TraceStep, Cell.OwnTogether, LockRuns.HasRun, Replay.{IsReplay, entries_for}};
+ghost use Rattle.guarded_cell.specs.{Calls.IsEnded, Held.{EndedInOrder, holds_of}};
 
 use crate::callers::two_callers;
 use event_log::{Logged, SeqObject};

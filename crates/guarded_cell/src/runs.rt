@@ -4,8 +4,7 @@ ghost use Rattle.std.specs.Prelude.{◌≡◌, ℕ, Some, map, slice_get};
 ghost use Rattle.event_log.specs.Entries.{asked_of};
 ghost use Rattle.word_rule.specs.Cell.{PassView, OwnsAll};
 ghost use Rattle.sound_run.specs.Sound.{Sound};
-ghost use Rattle.guarded_cell.specs.Runs.{WheneverWorked, run_left};
-ghost use Rattle.guarded_cell.specs.Workers.{opened_of_cell};
+ghost use Rattle.guarded_cell.specs.{Runs.{WheneverWorked, run_left}, Workers.opened_of_cell};
 
 use event_log::SeqObject;
 

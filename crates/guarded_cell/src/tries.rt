@@ -3,11 +3,8 @@
 
 ghost use Rattle.std.specs.Prelude.{◌≡◌, ◌<◌, ◌≤◌, [], ◌∷◌, length, IfOk, IfErr};
 ghost use Rattle.event_log.specs.Log.{one_step};
-ghost use Rattle.word_rule.specs.Answered.{IsAnswered};
-ghost use Rattle.word_rule.specs.Passes.{view_of_pass, run_of_pass};
-ghost use Rattle.guarded_cell.specs.Held.{HasDeclined, HasTried};
-ghost use Rattle.guarded_cell.specs.Kinds.{IsPassOf};
-ghost use Rattle.guarded_cell.specs.Tries.{IsDeclined};
+ghost use Rattle.word_rule.specs.{Answered.IsAnswered, Passes.{view_of_pass, run_of_pass}};
+ghost use Rattle.guarded_cell.specs.{Held.{HasDeclined, HasTried}, Kinds.IsPassOf, Tries.IsDeclined};
 
 use crate::AnyPass;
 use crate::cell::AnyCell;

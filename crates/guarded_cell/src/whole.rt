@@ -1,12 +1,9 @@
 //! Whole calls on a cell: the object is acquired once and released once. They take no memory, and may wait.
 
-ghost use Rattle.std.specs.Prelude.{◌≡◌, ◌<◌, ◌≤◌, [], ◌∷◌, length, IfOk, OnOk, OnErr};
-ghost use Rattle.std.specs.List.{All};
+ghost use Rattle.std.specs.{Prelude.{◌≡◌, ◌<◌, ◌≤◌, [], ◌∷◌, length, IfOk, OnOk, OnErr}, List.All};
 ghost use Rattle.event_log.specs.Log.{one_step};
-ghost use Rattle.word_rule.specs.Answered.{IsAnswered, IsRefused, IsHeldThrough};
-ghost use Rattle.word_rule.specs.Passes.{view_of_pass, run_of_pass};
-ghost use Rattle.guarded_cell.specs.Held.{HasCalled, HasBatched, HasDoneGroups};
-ghost use Rattle.guarded_cell.specs.Kinds.{IsPassOf};
+ghost use Rattle.word_rule.specs.{Answered.{IsAnswered, IsRefused, IsHeldThrough}, Passes.{view_of_pass, run_of_pass}};
+ghost use Rattle.guarded_cell.specs.{Held.{HasCalled, HasBatched, HasDoneGroups}, Kinds.IsPassOf};
 
 use crate::AnyPass;
 use crate::cell::AnyCell;

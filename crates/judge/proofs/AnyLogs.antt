@@ -1,18 +1,10 @@
 -- The head of a log of whatever name is read as what it spells.
 use Rattle.std.proofs.Common.{◌≡◌, ℕ, ◌≤◌, true, Some, List, [], ◌∷◌, refl, sym, ap, subst, ◌∙◌, decimal, rules, arith}
 use Rattle.std.specs.List.{AllByRecursion}
-use Rattle.custom_records.specs.LineReading.{log_at}
-use Rattle.custom_records.specs.LineText.{log_words}
-use Rattle.custom_records.specs.Ranges.{most_lines}
+use Rattle.custom_records.specs.{LineReading.log_at, LineText.log_words, Ranges.most_lines}
 use Rattle.custom_records.proofs.LineLaws.{reads_log}
-use Rattle.record_lines.specs.FormLaws.{ReadsLine}
-use Rattle.record_lines.specs.LineParts.{name_word_at}
-use Rattle.record_lines.specs.Names.{is_name}
-use Rattle.record_lines.specs.Reading.{words, word_at}
-use Rattle.record_lines.specs.Words.{IsPlain, NoEnd, sentence}
-use Rattle.record_lines.proofs.Names.{name_plain, name_takes, name_again}
-use Rattle.record_lines.proofs.Readings.{bind_some, plain_decimal}
-use Rattle.record_lines.proofs.Sentences.{words_sentence}
+use Rattle.record_lines.specs.{FormLaws.ReadsLine, LineParts.name_word_at, Names.is_name, Reading.{words, word_at}, Words.{IsPlain, NoEnd, sentence}}
+use Rattle.record_lines.proofs.{Names.{name_plain, name_takes, name_again}, Readings.{bind_some, plain_decimal}, Sentences.words_sentence}
 use Rattle.judge.specs.OwnLines.{any_log_at}
 
 abbrev LogFits : List ℕ × ℕ → Type 0

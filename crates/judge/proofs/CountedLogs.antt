@@ -1,14 +1,9 @@
 -- Steps, events and logs of which so many steps are right.
-use Rattle.std.proofs.Common.{◌≡◌, ◌⊎◌, inl, inr, ⊎_elim, ℕ, zero, suc, ◌+◌, ◌-◌, ◌<◌, ◌≤◌, Bool, true, false, true≢false, List, [], ◌∷◌, length, take, Some, slice_get, refl, sym, ap, ◌∙◌, subst, arith, length-append}
-use Rattle.std.proofs.lemmas.Bool.{cases_lt}
+use Rattle.std.proofs.{Common.{◌≡◌, ◌⊎◌, inl, inr, ⊎_elim, ℕ, zero, suc, ◌+◌, ◌-◌, ◌<◌, ◌≤◌, Bool, true, false, true≢false, List, [], ◌∷◌, length, take, Some, slice_get, refl, sym, ap, ◌∙◌, subst, arith, length-append}, lemmas.Bool.cases_lt}
 use Rattle.std.specs.List.{AllByRecursion}
 use Rattle.event_log.specs.Log.{steps_of}
-use Rattle.auditor.specs.Faults.{HasSteps}
-use Rattle.auditor.specs.StepModels.{StepModel, counted_model, behind_all, AreRightFrom, LegalBy, StepIsWrongBy, EventIsWrongBy}
-use Rattle.custom_records.specs.declared.object.CustomObject.{CustomObject}
-use Rattle.custom_records.specs.declared.object.CustomReply.{CustomReply}
-use Rattle.custom_records.specs.Custom.{CustomStep, CustomEvent, custom}
-use Rattle.custom_records.specs.Said.{Said}
+use Rattle.auditor.specs.{Faults.HasSteps, StepModels.{StepModel, counted_model, behind_all, AreRightFrom, LegalBy, StepIsWrongBy, EventIsWrongBy}}
+use Rattle.custom_records.specs.{declared.object.CustomObject.CustomObject, declared.object.CustomReply.CustomReply, Custom.{CustomStep, CustomEvent, custom}, Said.Said}
 use Rattle.judge.specs.Models.{IsBehindRefusing, NoneBehindRefusing}
 
 -- so many steps are right

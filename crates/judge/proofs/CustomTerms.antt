@@ -3,8 +3,7 @@ use Rattle.std.proofs.Common.{◌≡◌, ℕ, zero, suc, List, [], ◌∷◌, le
 use Rattle.std.specs.Prelude.{slice_index}
 use Rattle.auditor.specs.Terms.{opened_list}
 use Rattle.custom_records.specs.Settings.{CustomSettings, CustomHead}
-use Rattle.judge.specs.Judging.{CustomTerms, term_of, custom_terms}
-use Rattle.judge.specs.Models.{opened}
+use Rattle.judge.specs.{Judging.{CustomTerms, term_of, custom_terms}, Models.opened}
 
 pub terms_count : (counts : List ℕ) (objects : List CustomSettings) → length (custom_terms counts objects) ≡ length objects
 terms_count counts [] = refl

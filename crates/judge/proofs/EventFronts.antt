@@ -1,6 +1,5 @@
 -- A line that begins with a digit is no object's, and no head of a log.
-use Rattle.std.proofs.Common.{◌≡◌, ℕ, true, false, None, List, [], ◌∷◌, refl, sym, ap, ◌∙◌, codes, bytes_eq}
-use Rattle.std.proofs.lemmas.Bool.{false_from_ne_true, false≢true}
+use Rattle.std.proofs.{Common.{◌≡◌, ℕ, true, false, None, List, [], ◌∷◌, refl, sym, ap, ◌∙◌, codes, bytes_eq}, lemmas.Bool.{false_from_ne_true, false≢true}}
 use Rattle.custom_records.specs.LineReading.{begins_number, number_next, custom_object_at}
 use Rattle.record_lines.proofs.Readings.{same}
 use Rattle.record_lines.specs.Reading.{word_at, key_at}

@@ -1,24 +1,14 @@
 -- The first fault by a model, and the first by the counts.
-use Rattle.std.proofs.Common.{◌≡◌, ◌⊎◌, inl, inr, ⊎_elim, ℕ, zero, suc, ◌+◌, ◌<◌, ◌≤◌, true≢false, List, [], ◌∷◌, ◌++◌, length, take, Some, slice_get, refl, sym, ap, ◌∙◌, subst, arith, append_assoc, length-append}
-use Rattle.std.proofs.lemmas.Bool.{cases_lt}
-use Rattle.std.proofs.lemmas.List.{take-append-le}
-use Rattle.std.proofs.lemmas.Option.{slice_get_within, get_or_from_slice_get}
+use Rattle.std.proofs.{Common.{◌≡◌, ◌⊎◌, inl, inr, ⊎_elim, ℕ, zero, suc, ◌+◌, ◌<◌, ◌≤◌, true≢false, List, [], ◌∷◌, ◌++◌, length, take, Some, slice_get, refl, sym, ap, ◌∙◌, subst, arith, append_assoc, length-append}, lemmas.Bool.cases_lt, lemmas.List.take-append-le, lemmas.Option.{slice_get_within, get_or_from_slice_get}}
 use Rattle.std.specs.Prelude.{slice_index}
 use Rattle.event_log.specs.Log.{steps_of}
 use Rattle.event_log.proofs.Lists.{some_at}
 use Rattle.sound_run.specs.Sound.{Opened, log_of}
-use Rattle.auditor.specs.declared.fault.Fault.{Fault}
+use Rattle.auditor.specs.{declared.fault.Fault.Fault, Faults.{IsTooLong, HadRoom, IsNotItsEvent, IsNotAsked, IsUnclaimed, IsBefore, place, HasWrongStepBy as CountedWrong, IsFaultBy as CountedFault, IsFirstFaultBy as CountedFirst}, StepModels.EventIsWrongBy, Terms.opened_list}
+use Rattle.custom_records.specs.{Custom.{CustomStep, CustomEvent, custom}, Ranges.CustomRecord, Settings.CustomSettings}
+use Rattle.judge.specs.{Judging.{CustomTerms, term_of, custom_terms}, Models.{Model, opened, IsCount, AreCounts, IsBehindRefusing, HasWrongStepBy, IsFaultBy, IsFirstFaultBy}}
+use Rattle.judge.proofs.{CountedLogs.{by_count, EventAt, find_event, event_wrong_only, event_wrong_if}, CustomTerms.{term_at, object_of, same_opened}}
 use Rattle.auditor.specs.declared.fault.Fault.TheVariants as fault
-use Rattle.auditor.specs.Faults.{IsTooLong, HadRoom, IsNotItsEvent, IsNotAsked, IsUnclaimed, IsBefore, place, HasWrongStepBy as CountedWrong, IsFaultBy as CountedFault, IsFirstFaultBy as CountedFirst}
-use Rattle.auditor.specs.StepModels.{EventIsWrongBy}
-use Rattle.auditor.specs.Terms.{opened_list}
-use Rattle.custom_records.specs.Custom.{CustomStep, CustomEvent, custom}
-use Rattle.custom_records.specs.Ranges.{CustomRecord}
-use Rattle.custom_records.specs.Settings.{CustomSettings}
-use Rattle.judge.specs.Judging.{CustomTerms, term_of, custom_terms}
-use Rattle.judge.specs.Models.{Model, opened, IsCount, AreCounts, IsBehindRefusing, HasWrongStepBy, IsFaultBy, IsFirstFaultBy}
-use Rattle.judge.proofs.CountedLogs.{by_count, EventAt, find_event, event_wrong_only, event_wrong_if}
-use Rattle.judge.proofs.CustomTerms.{term_at, object_of, same_opened}
 
 pub before_trans : (xs ys zs : List ℕ) → IsBefore xs ys → IsBefore ys zs → IsBefore xs zs
 before_trans [] ys zs a b = absurd a

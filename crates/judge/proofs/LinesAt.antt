@@ -1,6 +1,5 @@
 -- The line that begins at a byte of a text.
-use Rattle.std.proofs.Common.{◌≡◌, ℕ, List, ◌∷◌, ◌++◌, length, drop, sym, ap, ◌∙◌}
-use Rattle.std.proofs.Math.Seq.{drop-append_seam}
+use Rattle.std.proofs.{Common.{◌≡◌, ℕ, List, ◌∷◌, ◌++◌, length, drop, sym, ap, ◌∙◌}, Math.Seq.drop-append_seam}
 use Rattle.judge.specs.OwnLines.{IsLineAt}
 use Rattle.record_lines.proofs.FirstLines.{same_line, no_such_end}
 use Rattle.record_lines.specs.Words.{NoEnd}

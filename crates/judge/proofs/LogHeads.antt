@@ -1,7 +1,6 @@
 -- The head of a log begins with its first word.
 use Rattle.std.proofs.Common.{◌≡◌, ℕ, Option, Some, None, List, [], ◌∷◌, refl, ap, ◌∙◌, codes}
-use Rattle.record_lines.specs.Reading.{◌>>=◌, word_at, key_at}
-use Rattle.record_lines.specs.LineParts.{name_word_at, head_at, keys_at, last_at}
+use Rattle.record_lines.specs.{Reading.{◌>>=◌, word_at, key_at}, LineParts.{name_word_at, head_at, keys_at, last_at}}
 use Rattle.judge.specs.OwnLines.{any_log_at}
 
 no_more : {A B : Type 0} (o : Option A) → ◌>>=◌ {A = A} {B = B} o (λ a. None) ≡ None

@@ -1,20 +1,13 @@
 -- A record that was merged.
 use Rattle.std.proofs.Common.{⊎_elim, ℕ, ◌<◌, List, length, arith}
-use Rattle.event_log.proofs.Each.{each_list_at}
-use Rattle.event_log.proofs.Lists.{some_at}
+use Rattle.event_log.proofs.{Each.each_list_at, Lists.some_at}
 use Rattle.sound_run.specs.Sound.{transcript_of}
-use Rattle.auditor.specs.declared.fault.Fault.{Fault}
-use Rattle.auditor.specs.ByModels.{SoundBy as CountedSound}
-use Rattle.auditor.specs.Faults.{IsFirstFaultBy as CountedFirst}
+use Rattle.auditor.specs.{declared.fault.Fault.Fault, ByModels.{SoundBy as CountedSound}, Faults.{IsFirstFaultBy as CountedFirst}}
 use Rattle.auditor.proofs.Verdicts.{all_at, no_fault}
 use Rattle.log_merge.specs.Nexts.{IsWhole}
 use Rattle.custom_records.specs.Ranges.{CustomRecord, CustomRecordFits, EntryFits, LogFits, TranscriptFits}
-use Rattle.judge.specs.Judging.{custom_terms}
-use Rattle.judge.specs.Models.{Model, AreCounts, SoundBy, IsFirstFaultBy, IsMistold}
-use Rattle.judge.proofs.CountedLogs.{by_count}
-use Rattle.judge.proofs.FirstFaults.{first_from}
-use Rattle.judge.proofs.SoundRuns.{sound_to, sound_from}
-use Rattle.judge.proofs.WholeCustom.{sizes_of}
+use Rattle.judge.specs.{Judging.custom_terms, Models.{Model, AreCounts, SoundBy, IsFirstFaultBy, IsMistold}}
+use Rattle.judge.proofs.{CountedLogs.by_count, FirstFaults.first_from, SoundRuns.{sound_to, sound_from}, WholeCustom.sizes_of}
 
 -- the lists of a record are as long as they may be
 pub custom_whole : (r : CustomRecord) → CustomRecordFits r → IsWhole r.run

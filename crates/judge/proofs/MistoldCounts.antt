@@ -1,13 +1,9 @@
 -- Answers that aren't that a count was mistold, and counts that are the same.
-use Rattle.std.proofs.Common.{◌≡◌, ℕ, Bool, false, not, List, Result, Ok, Err, sym, subst, ◌∙◌, bytes_eq}
-use Rattle.std.proofs.lemmas.Bool.{not-false}
-use Rattle.std.proofs.lemmas.Slice.Eq.{bytes_eq-Decides}
-use Rattle.auditor.specs.declared.fault.Fault.{Fault}
-use Rattle.auditor.specs.declared.fault.Verdict.{Verdict}
-use Rattle.judge.specs.declared.custom_judge.Mistold.{Mistold}
-use Rattle.judge.specs.declared.custom_merge_judge.CustomMergeFault.{CustomMergeFault}
-use Rattle.judge.specs.declared.custom_merge_judge.CustomMergeFault.TheVariants as fault
+use Rattle.std.proofs.{Common.{◌≡◌, ℕ, Bool, false, not, List, Result, Ok, Err, sym, subst, ◌∙◌, bytes_eq}, lemmas.Bool.not-false, lemmas.Slice.Eq.bytes_eq-Decides}
+use Rattle.auditor.specs.{declared.fault.Fault.Fault, declared.fault.Verdict.Verdict}
+use Rattle.judge.specs.{declared.custom_judge.Mistold.Mistold, declared.custom_merge_judge.CustomMergeFault.CustomMergeFault}
 use Rattle.sound_run.specs.declared.place.Place.{Place}
+use Rattle.judge.specs.declared.custom_merge_judge.CustomMergeFault.TheVariants as fault
 
 -- it is a verdict
 abbrev IsVerdictGiven : Result Verdict Mistold → Type 0

@@ -1,22 +1,12 @@
 -- A judge that has received the parts of a record.
-use Rattle.std.proofs.Common.{◌≡◌, ◌⊎◌, ⊎_elim, ℕ, ◌+◌, ◌-◌, ◌<◌, ◌≤◌, Bool, true, false, IsTrue, refl, if◌then◌else◌, List, [], ◌∷◌, ◌++◌, length, map, take, get_or, Option, Some, None, slice_get, sym, ap, ◌∙◌, subst, arith, length-append}
-use Rattle.std.specs.Prelude.{unwrap_or, slice_index}
-use Rattle.std.specs.List.{AllByRecursion}
-use Rattle.std.proofs.lemmas.Bool.{cases_lt}
-use Rattle.std.proofs.lemmas.List.{length-take-le, take_more, take_all}
-use Rattle.std.proofs.lemmas.Option.{slice_get_within, get_or_from_slice_get}
+use Rattle.std.proofs.{Common.{◌≡◌, ◌⊎◌, ⊎_elim, ℕ, ◌+◌, ◌-◌, ◌<◌, ◌≤◌, Bool, true, false, IsTrue, refl, if◌then◌else◌, List, [], ◌∷◌, ◌++◌, length, map, take, get_or, Option, Some, None, slice_get, sym, ap, ◌∙◌, subst, arith, length-append}, lemmas.Bool.cases_lt, lemmas.List.{length-take-le, take_more, take_all}, lemmas.Option.{slice_get_within, get_or_from_slice_get}}
+use Rattle.std.specs.{Prelude.{unwrap_or, slice_index}, List.AllByRecursion}
 use Rattle.event_log.specs.Log.{steps_of}
-use Rattle.event_log.proofs.Each.{each_at}
-use Rattle.event_log.proofs.Lists.{same_front, get_last, some_at}
+use Rattle.event_log.proofs.{Each.each_at, Lists.{same_front, get_last, some_at}}
 use Rattle.sound_run.proofs.Slices.{map_get}
-use Rattle.auditor.specs.ReceivedRun.{log_begun, event_received, entry_received, IsStepsOf, log_ended, transcript_begun, transcript_ended}
-use Rattle.auditor.specs.SoFar.{IsBeforeLog, IsInLog, HasLogs, IsInTranscripts}
+use Rattle.auditor.specs.{ReceivedRun.{log_begun, event_received, entry_received, IsStepsOf, log_ended, transcript_begun, transcript_ended}, SoFar.{IsBeforeLog, IsInLog, HasLogs, IsInTranscripts}}
 use Rattle.record_lines.specs.Received.{InLogs, InTranscripts, IsAtHead}
-use Rattle.custom_records.specs.contracts.custom_form.CustomFormRecordForm.TheImpl.{ghosts as custom_form}
-use Rattle.custom_records.specs.Custom.{CustomEvent, CustomEntry, CustomStep}
-use Rattle.custom_records.specs.CustomForm.{Head}
-use Rattle.custom_records.specs.Ranges.{EventFits, LogFits, StepsFit}
-use Rattle.custom_records.specs.Settings.{CustomSettings, CustomHead}
+use Rattle.custom_records.specs.{contracts.custom_form.CustomFormRecordForm.TheImpl.{ghosts as custom_form}, Custom.{CustomEvent, CustomEntry, CustomStep}, CustomForm.Head, Ranges.{EventFits, LogFits, StepsFit}, Settings.{CustomSettings, CustomHead}}
 use Rattle.judge.specs.Judging.{CustomReceivedRun, CustomTerms, custom_terms, custom_parts, begun_logs, HasCount, IsFirstWithout, IsNextWithout, HasReceivedCustom}
 use Rattle.judge.proofs.CustomTerms.{terms_count, term_at}
 

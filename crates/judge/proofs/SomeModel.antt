@@ -1,18 +1,11 @@
 -- Some model has counts of which none is mistold.
-use Rattle.std.proofs.Common.{◌≡◌, inl, inr, ⊎_elim, ℕ, zero, suc, ◌+◌, ◌<◌, ◌≤◌, Bool, true, false, cond, List, [], ◌∷◌, length, take, Option, Some, None, slice_get, refl, sym, ap, ◌∙◌, subst, arith}
-use Rattle.std.specs.Prelude.{ltb, unwrap_or}
-use Rattle.std.specs.Str.{bytes_eq}
-use Rattle.std.proofs.lemmas.Bool.{ltb-true, lt-ltb, cases_lt}
-use Rattle.std.proofs.lemmas.List.{length-map}
-use Rattle.std.proofs.lemmas.Option.{slice_get_within}
-use Rattle.std.proofs.lemmas.Slice.Eq.{bytes_eq-Decides}
+use Rattle.std.proofs.{Common.{◌≡◌, inl, inr, ⊎_elim, ℕ, zero, suc, ◌+◌, ◌<◌, ◌≤◌, Bool, true, false, cond, List, [], ◌∷◌, length, take, Option, Some, None, slice_get, refl, sym, ap, ◌∙◌, subst, arith}, lemmas.Bool.{ltb-true, lt-ltb, cases_lt}, lemmas.List.length-map, lemmas.Option.slice_get_within, lemmas.Slice.Eq.bytes_eq-Decides}
+use Rattle.std.specs.{Prelude.{ltb, unwrap_or}, Str.bytes_eq}
 use Rattle.event_log.specs.Log.{steps_of}
 use Rattle.sound_run.specs.Sound.{log_of}
 use Rattle.sound_run.proofs.Slices.{map_get, one_of}
 use Rattle.auditor.proofs.Splits.{take_length}
-use Rattle.custom_records.specs.Custom.{CustomStep}
-use Rattle.custom_records.specs.Ranges.{CustomRecord, CustomRecordFits}
-use Rattle.custom_records.specs.Settings.{CustomSettings, names_of, word_in}
+use Rattle.custom_records.specs.{Custom.CustomStep, Ranges.{CustomRecord, CustomRecordFits}, Settings.{CustomSettings, names_of, word_in}}
 use Rattle.judge.specs.Models.{Model, AreCounts, IsCount, IsCounted, IsMistold}
 
 -- the count of the object of that name

@@ -1,20 +1,12 @@
 -- A run is sound by a model, and by its counts.
-use Rattle.std.proofs.Common.{◌≡◌, ⊎_elim, ℕ, ◌≤◌, Bool, true, false, List, [], length, Some, slice_get, sym, ap, ◌∙◌, subst, arith}
-use Rattle.std.proofs.lemmas.Bool.{cases_lt}
-use Rattle.std.specs.Prelude.{unwrap_or, slice_index}
-use Rattle.std.specs.List.{AllByRecursion}
+use Rattle.std.proofs.{Common.{◌≡◌, ⊎_elim, ℕ, ◌≤◌, Bool, true, false, List, [], length, Some, slice_get, sym, ap, ◌∙◌, subst, arith}, lemmas.Bool.cases_lt}
+use Rattle.std.specs.{Prelude.{unwrap_or, slice_index}, List.AllByRecursion}
 use Rattle.event_log.specs.Log.{steps_of}
 use Rattle.sound_run.specs.Sound.{Opened, EntryIsSound, transcript_of}
-use Rattle.auditor.specs.ByModels.{LogIsSoundBy as CountedLog, SoundBy as CountedSound}
-use Rattle.auditor.specs.Faults.{HasSteps}
-use Rattle.custom_records.specs.Custom.{CustomStep, CustomEvent, custom}
-use Rattle.custom_records.specs.Ranges.{CustomRecord}
-use Rattle.custom_records.specs.Settings.{CustomSettings}
-use Rattle.judge.specs.Judging.{CustomTerms, term_of, custom_terms}
-use Rattle.judge.specs.Models.{Model, AreRight, IsCount, AreCounts, SoundBy}
-use Rattle.judge.proofs.CountedLogs.{by_count, legal_if, legal_right, legal_ends}
-use Rattle.judge.proofs.FirstFaults.{count_at}
-use Rattle.judge.proofs.CustomTerms.{terms_count, term_at, object_of, same_opened}
+use Rattle.auditor.specs.{ByModels.{LogIsSoundBy as CountedLog, SoundBy as CountedSound}, Faults.HasSteps}
+use Rattle.custom_records.specs.{Custom.{CustomStep, CustomEvent, custom}, Ranges.CustomRecord, Settings.CustomSettings}
+use Rattle.judge.specs.{Judging.{CustomTerms, term_of, custom_terms}, Models.{Model, AreRight, IsCount, AreCounts, SoundBy}}
+use Rattle.judge.proofs.{CountedLogs.{by_count, legal_if, legal_right, legal_ends}, FirstFaults.count_at, CustomTerms.{terms_count, term_at, object_of, same_opened}}
 
 module _ (model : Model) (r : CustomRecord) (counts : List ℕ) (are : AreCounts model r counts) (counted : length r.run.logs ≡ length r.head.objects) (sizes : (x : ℕ) (log : List CustomEvent) → slice_get r.run.logs x ≡ Some log → AllByRecursion HasSteps log) where
   abbrev Terms : List CustomTerms

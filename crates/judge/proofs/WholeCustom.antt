@@ -1,34 +1,15 @@
 -- What is said of a record that was handed over whole.
-use Rattle.std.proofs.Common.{◌≡◌, inl, inr, ⊎_elim, ℕ, ◌<◌, ◌≤◌, Bool, List, length, Option, Some, None, slice_get, sym, ap, ◌∙◌, subst, arith}
-use Rattle.std.proofs.lemmas.Bool.{cases_lt}
-use Rattle.std.proofs.lemmas.List.{length-map}
-use Rattle.std.specs.Prelude.{◌↔◌, Result, Ok, Err}
-use Rattle.std.specs.List.{AllByRecursion}
+use Rattle.std.proofs.{Common.{◌≡◌, inl, inr, ⊎_elim, ℕ, ◌<◌, ◌≤◌, Bool, List, length, Option, Some, None, slice_get, sym, ap, ◌∙◌, subst, arith}, lemmas.Bool.cases_lt, lemmas.List.length-map}
+use Rattle.std.specs.{Prelude.{◌↔◌, Result, Ok, Err}, List.AllByRecursion}
 use Rattle.event_log.proofs.Each.{all_map, each_list_at}
 use Rattle.sound_run.specs.Sound.{transcript_of, log_of}
-use Rattle.auditor.specs.declared.fault.Fault.{Fault}
-use Rattle.auditor.specs.declared.fault.Verdict.{Verdict}
-use Rattle.auditor.specs.declared.fault.Verdict.TheVariants as verdict
-use Rattle.auditor.specs.ByModels.{SoundBy as CountedSound}
-use Rattle.auditor.specs.Faults.{HasSteps, IsFirstFaultBy as CountedFirst}
-use Rattle.auditor.specs.ReceivedRun.{run_of}
-use Rattle.auditor.specs.Passes.{IsRunOver}
-use Rattle.auditor.specs.SoFar.{HasLogs}
+use Rattle.auditor.specs.{declared.fault.Fault.Fault, declared.fault.Verdict.Verdict, ByModels.{SoundBy as CountedSound}, Faults.{HasSteps, IsFirstFaultBy as CountedFirst}, ReceivedRun.run_of, Passes.IsRunOver, SoFar.HasLogs}
 use Rattle.auditor.proofs.Verdicts.{all_at}
 use Rattle.record_lines.specs.Received.{IsWholeWith}
-use Rattle.custom_records.specs.Custom.{CustomEvent, CustomRun}
-use Rattle.custom_records.specs.CustomForm.{Head}
-use Rattle.custom_records.specs.CustomReceived.{received_custom}
-use Rattle.custom_records.specs.Ranges.{CustomRecord, CustomRecordFits, EventFits, EntryFits, LogFits, TranscriptFits}
-use Rattle.custom_records.specs.Settings.{CustomSettings}
-use Rattle.judge.specs.declared.custom_judge.Mistold.{Mistold}
-use Rattle.judge.specs.Judging.{Counted, CustomReceivedRun, CustomTerms, custom_terms, custom_parts, HasCount, IsFirstWithout, HasReceivedCustom}
-use Rattle.judge.specs.Models.{IsVerdictByCounts, IsCounted, IsMistold}
-use Rattle.judge.proofs.CountedLogs.{by_count}
-use Rattle.judge.proofs.FirstFaults.{first_to, first_from}
-use Rattle.judge.proofs.SoundRuns.{sound_to, sound_from}
-use Rattle.judge.proofs.ReceivedCustom.{all_opened, has_logs}
-use Rattle.judge.proofs.CustomTerms.{terms_count}
+use Rattle.custom_records.specs.{Custom.{CustomEvent, CustomRun}, CustomForm.Head, CustomReceived.received_custom, Ranges.{CustomRecord, CustomRecordFits, EventFits, EntryFits, LogFits, TranscriptFits}, Settings.CustomSettings}
+use Rattle.judge.specs.{declared.custom_judge.Mistold.Mistold, Judging.{Counted, CustomReceivedRun, CustomTerms, custom_terms, custom_parts, HasCount, IsFirstWithout, HasReceivedCustom}, Models.{IsVerdictByCounts, IsCounted, IsMistold}}
+use Rattle.judge.proofs.{CountedLogs.by_count, FirstFaults.{first_to, first_from}, SoundRuns.{sound_to, sound_from}, ReceivedCustom.{all_opened, has_logs}, CustomTerms.terms_count}
+use Rattle.auditor.specs.declared.fault.Verdict.TheVariants as verdict
 
 -- the sizes of the events of a record
 pub sizes_of : (r : CustomRecord) → CustomRecordFits r → (x : ℕ) (log : List CustomEvent) → slice_get r.run.logs x ≡ Some log → AllByRecursion HasSteps log

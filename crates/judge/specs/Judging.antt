@@ -1,15 +1,8 @@
 -- What a judge knows of what it was handed over.
 use Rattle.std.specs.Prelude.{◌≡◌, ℕ, ◌+◌, ◌-◌, ◌<◌, ◌≤◌, Bool, if◌then◌else◌, List, [], ◌∷◌, length, map, take, drop, Option, Some, None, slice_get, slice_index, unwrap_or}
 use Rattle.event_log.specs.Log.{steps_of}
-use Rattle.auditor.specs.ReceivedRun.{ReceivedRun}
-use Rattle.auditor.specs.Terms.{Terms}
-use Rattle.custom_records.specs.declared.object.CustomObject.{CustomObject}
-use Rattle.custom_records.specs.declared.object.CustomReply.{CustomReply}
-use Rattle.custom_records.specs.Custom.{CustomEvent}
-use Rattle.custom_records.specs.CustomForm.{Head}
-use Rattle.custom_records.specs.CustomReceived.{CustomReceived}
-use Rattle.custom_records.specs.Said.{Said}
-use Rattle.custom_records.specs.Settings.{CustomSettings}
+use Rattle.auditor.specs.{ReceivedRun.ReceivedRun, Terms.Terms}
+use Rattle.custom_records.specs.{declared.object.CustomObject.CustomObject, declared.object.CustomReply.CustomReply, Custom.CustomEvent, CustomForm.Head, CustomReceived.CustomReceived, Said.Said, Settings.CustomSettings}
 
 -- what was handed over, and how many steps of each log were called right
 pub record Counted : Type 0 where

@@ -1,8 +1,7 @@
 -- What is reported of a log whose object is of one of the kernel's four kinds.
 use Rattle.std.specs.Prelude.{◌≡◌, ℕ, List}
 use Rattle.custom_kernel.specs.Lines.{IsKernelCount, NoKernelLog}
-use Rattle.judge.specs.Report.{report}
-use Rattle.judge.specs.declared.report.Report.{Report}
+use Rattle.judge.specs.{Report.report, declared.report.Report.Report}
 
 -- what becomes of a text and two places
 pub data KernelOutcome : Type 0 where

@@ -1,7 +1,6 @@
 -- What is said of a record that was merged, by a model.
 use Rattle.std.specs.Prelude.{List}
-use Rattle.sound_run.specs.declared.place.Place.{Place}
-use Rattle.sound_run.specs.Orders.{IsOrder}
+use Rattle.sound_run.specs.{declared.place.Place.Place, Orders.IsOrder}
 use Rattle.log_merge.specs.Merging.{IsLeastOrder, IsCycleFound}
 use Rattle.custom_records.specs.Ranges.{CustomRecord}
 use Rattle.judge.specs.Models.{Model, SoundBy}

@@ -1,16 +1,11 @@
 -- What a record is to a model of its objects.
-use Rattle.std.specs.Prelude.{◌≡◌, ◌↔◌, ◌⊎◌, ℕ, ◌+◌, ◌<◌, ◌≤◌, Bool, true, false, List, ◌++◌, length, take, map, Some, slice_get}
-use Rattle.std.specs.List.{AllByRecursion}
+use Rattle.std.specs.{Prelude.{◌≡◌, ◌↔◌, ◌⊎◌, ℕ, ◌+◌, ◌<◌, ◌≤◌, Bool, true, false, List, ◌++◌, length, take, map, Some, slice_get}, List.AllByRecursion}
 use Rattle.event_log.specs.Log.{steps_of}
 use Rattle.sound_run.specs.Sound.{Opened, transcript_of, log_of, done_on, steps_by, EntryIsSound, NoneAfterFull}
-use Rattle.custom_records.specs.Custom.{CustomStep, CustomEvent, custom}
-use Rattle.custom_records.specs.Ranges.{CustomRecord}
-use Rattle.custom_records.specs.Settings.{CustomSettings, CustomHead}
-use Rattle.auditor.specs.declared.fault.Fault.{Fault}
+use Rattle.custom_records.specs.{Custom.{CustomStep, CustomEvent, custom}, Ranges.CustomRecord, Settings.{CustomSettings, CustomHead}}
+use Rattle.auditor.specs.{declared.fault.Fault.Fault, declared.fault.Verdict.Verdict, Faults.{IsTooLong, HadRoom, IsNotItsEvent, IsNotAsked, IsUnclaimed, IsBefore, place}}
 use Rattle.auditor.specs.declared.fault.Fault.TheVariants as fault
-use Rattle.auditor.specs.declared.fault.Verdict.{Verdict}
 use Rattle.auditor.specs.declared.fault.Verdict.TheVariants as verdict
-use Rattle.auditor.specs.Faults.{IsTooLong, HadRoom, IsNotItsEvent, IsNotAsked, IsUnclaimed, IsBefore, place}
 
 -- whether the last of these steps of an object of those settings is right, if those before it were
 abbrev pub Model : Type 0

@@ -1,16 +1,11 @@
 -- What is reported of a text whose entries were put in order.
 use Rattle.std.specs.Prelude.{◌≡◌, ℕ, List, ◌++◌, length, map, drop, nat_lt, if◌then◌else◌}
 use Rattle.kernel_object.specs.contracts.object.KernelObjectSeqObject.TheImpl.{ghosts as kernel}
-use Rattle.auditor.specs.Faults.{IsFirstFault}
-use Rattle.auditor.specs.declared.fault.Fault.{Fault}
+use Rattle.auditor.specs.{Faults.IsFirstFault, declared.fault.Fault.Fault}
 use Rattle.log_merge.specs.MergedRecords.{IsMerged, HasCycle}
 use Rattle.sound_run.specs.declared.place.Place.{Place}
-use Rattle.records.specs.RecordFaults.{IsWhole, IsBadLine}
-use Rattle.records.specs.RecordRanges.{Record}
-use Rattle.records.specs.Runs.{opened_of}
-use Rattle.judge.specs.Report.{report, fault_report}
-use Rattle.judge.specs.declared.merge.Turn.{Turn}
-use Rattle.judge.specs.declared.report.Report.{Report}
+use Rattle.records.specs.{RecordFaults.{IsWhole, IsBadLine}, RecordRanges.Record, Runs.opened_of}
+use Rattle.judge.specs.{Report.{report, fault_report}, declared.merge.Turn.Turn, declared.report.Report.Report}
 
 -- what becomes of a text
 pub data Outcome : Type 0 where

@@ -1,15 +1,8 @@
 -- What is reported of a single line of a record of one's own.
 use Rattle.std.specs.Prelude.{ℕ, ◌≡◌, ◌+◌, List, ◌∷◌, ◌++◌, length, map, drop, Option, Some, None}
-use Rattle.custom_records.specs.LineReading.{any_head, log_at, custom_object_at, custom_event_at}
-use Rattle.custom_records.specs.Custom.{CustomStep, CustomEvent}
-use Rattle.custom_records.specs.Said.{Said, padded}
-use Rattle.custom_records.specs.Settings.{CustomSettings}
-use Rattle.record_lines.specs.Reading.{◌>>=◌, words, word_at}
-use Rattle.record_lines.specs.LineParts.{name_word_at}
-use Rattle.record_lines.specs.Words.{NoEnd}
-use Rattle.judge.specs.declared.own_report.LineReport.{LineReport}
-use Rattle.judge.specs.declared.own_report.SaidReport.{SaidReport}
-use Rattle.judge.specs.declared.own_report.StepReport.{StepReport}
+use Rattle.custom_records.specs.{LineReading.{any_head, log_at, custom_object_at, custom_event_at}, Custom.{CustomStep, CustomEvent}, Said.{Said, padded}, Settings.CustomSettings}
+use Rattle.record_lines.specs.{Reading.{◌>>=◌, words, word_at}, LineParts.name_word_at, Words.NoEnd}
+use Rattle.judge.specs.{declared.own_report.LineReport.LineReport, declared.own_report.SaidReport.SaidReport, declared.own_report.StepReport.StepReport}
 
 -- a line with its end begins at that byte
 pub record IsLineAt (text : List ℕ) (at : ℕ) (line : List ℕ) : Type 0 where

@@ -2,15 +2,8 @@
 use Rattle.std.specs.Prelude.{◌≡◌, ℕ, List, length}
 use Rattle.auditor.specs.declared.fault.Fault.{Fault}
 use Rattle.sound_run.specs.declared.place.Place.{Place}
-use Rattle.judge.specs.Merged.{IsMergedBy, HasCycleBy}
-use Rattle.judge.specs.Models.{Model, AreCounts, IsFirstFaultBy, IsMistold}
-use Rattle.custom_records.specs.Ranges.{CustomRecord}
-use Rattle.custom_records.specs.RecordFaults.{IsCustomText, IsBadCustomLine}
-use Rattle.judge.specs.Orders.{places_report, room_with}
-use Rattle.judge.specs.OwnReport.{AreFitting}
-use Rattle.judge.specs.Report.{report, fault_report}
-use Rattle.judge.specs.declared.merge.Turn.{Turn}
-use Rattle.judge.specs.declared.report.Report.{Report}
+use Rattle.judge.specs.{Merged.{IsMergedBy, HasCycleBy}, Models.{Model, AreCounts, IsFirstFaultBy, IsMistold}, Orders.{places_report, room_with}, OwnReport.AreFitting, Report.{report, fault_report}, declared.merge.Turn.Turn, declared.report.Report.Report}
+use Rattle.custom_records.specs.{Ranges.CustomRecord, RecordFaults.{IsCustomText, IsBadCustomLine}}
 
 -- what becomes of a text and counts
 pub data OwnOrder : Type 0 where

@@ -1,11 +1,8 @@
 -- What is reported of a record of one's own that was judged by counts: of each log how many steps, from the first on, are right.
 use Rattle.std.specs.Prelude.{◌≡◌, ℕ, List}
 use Rattle.auditor.specs.declared.fault.Verdict.{Verdict}
-use Rattle.judge.specs.Models.{IsMistold, IsVerdictByCounts}
-use Rattle.custom_records.specs.Ranges.{CustomRecord}
-use Rattle.custom_records.specs.RecordFaults.{IsCustomText, IsBadCustomLine}
-use Rattle.judge.specs.Report.{report, verdict_report}
-use Rattle.judge.specs.declared.report.Report.{Report}
+use Rattle.judge.specs.{Models.{IsMistold, IsVerdictByCounts}, Report.{report, verdict_report}, declared.report.Report.Report}
+use Rattle.custom_records.specs.{Ranges.CustomRecord, RecordFaults.{IsCustomText, IsBadCustomLine}}
 
 -- what becomes of a text and counts
 pub data OwnOutcome : Type 0 where

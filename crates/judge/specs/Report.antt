@@ -1,14 +1,8 @@
 -- What is reported of a text that was judged.
 use Rattle.std.specs.Prelude.{◌≡◌, ℕ, List, Result, Ok, Err}
-use Rattle.auditor.specs.Audits.{IsVerdict}
-use Rattle.auditor.specs.declared.fault.Fault.{Fault}
-use Rattle.auditor.specs.declared.fault.Fault.TheVariants.{TooLong, WrongStep, RoomWasLeft, NotItsEvent, NotAsked, Unclaimed}
-use Rattle.auditor.specs.declared.fault.Verdict.{Verdict}
-use Rattle.auditor.specs.declared.fault.Verdict.TheVariants.{Sound, Unsound}
-use Rattle.records.specs.RecordFaults.{IsWhole, NamesBadLine}
-use Rattle.records.specs.RecordRanges.{Record}
-use Rattle.record_lines.specs.declared.text.fault.LinesFault.{LinesFault}
-use Rattle.record_lines.specs.declared.text.fault.LinesFault.TheVariants.{OutOfMemory, Line}
+use Rattle.auditor.specs.{Audits.IsVerdict, declared.fault.Fault.Fault, declared.fault.Fault.TheVariants.{TooLong, WrongStep, RoomWasLeft, NotItsEvent, NotAsked, Unclaimed}, declared.fault.Verdict.Verdict, declared.fault.Verdict.TheVariants.{Sound, Unsound}}
+use Rattle.records.specs.{RecordFaults.{IsWhole, NamesBadLine}, RecordRanges.Record}
+use Rattle.record_lines.specs.{declared.text.fault.LinesFault.LinesFault, declared.text.fault.LinesFault.TheVariants.{OutOfMemory, Line}}
 use Rattle.judge.specs.declared.report.Report.{Report}
 
 -- a kind with its numbers

@@ -1,17 +1,10 @@
 //! A record of objects of their writer's that is judged while it is read.
 
 ghost use Rattle.std.specs.Prelude.{◌≡◌, ◌↔◌, ℕ, Err, map, slice_index, IfOk, IfErr};
-ghost use Rattle.auditor.specs.ByModels.{SoundBy};
-ghost use Rattle.auditor.specs.Faults.{IsFirstFaultBy};
-ghost use Rattle.auditor.specs.StepModels.{counted_model};
-ghost use Rattle.custom_records.specs.Custom.{custom};
-ghost use Rattle.custom_records.specs.CustomForm.{no_head};
-ghost use Rattle.custom_records.specs.CustomReceived.{received_custom};
-ghost use Rattle.custom_records.specs.Ranges.{CustomRecordFits};
-ghost use Rattle.custom_records.specs.Settings.{CustomSettings as Shown};
+ghost use Rattle.auditor.specs.{ByModels.SoundBy, Faults.IsFirstFaultBy, StepModels.counted_model};
+ghost use Rattle.custom_records.specs.{Custom.custom, CustomForm.no_head, CustomReceived.received_custom, Ranges.CustomRecordFits, Settings.{CustomSettings as Shown}};
 ghost use Rattle.record_lines.specs.Received.{only_head, IsWholeWith};
-ghost use Rattle.judge.specs.Judging.{IsNextWithout, custom_terms};
-ghost use Rattle.judge.specs.Models.{IsMistold, IsVerdictByCounts};
+ghost use Rattle.judge.specs.{Judging.{IsNextWithout, custom_terms}, Models.{IsMistold, IsVerdictByCounts}};
 
 use crate::custom_rows::CustomRows;
 use auditor::{Counted, Fault, JudgedRun, OpenedObject, RunJudge, Verdict};

@@ -1,12 +1,9 @@
 //! A record of objects of their writer's that is judged while it is read, and then merged.
 
 ghost use Rattle.std.specs.Prelude.{◌≡◌, ◌↔◌, ℕ, Err, List, IfOk, IfErr};
-ghost use Rattle.custom_records.specs.CustomForm.{no_head};
-ghost use Rattle.custom_records.specs.CustomReceived.{received_custom};
-ghost use Rattle.custom_records.specs.Ranges.{CustomRecordFits};
+ghost use Rattle.custom_records.specs.{CustomForm.no_head, CustomReceived.received_custom, Ranges.CustomRecordFits};
 ghost use Rattle.record_lines.specs.Received.{only_head, IsWholeWith};
-ghost use Rattle.judge.specs.Merged.{IsMergedBy, HasCycleBy};
-ghost use Rattle.judge.specs.Models.{Model as AnyModel, AreCounts, IsMistold, IsFirstFaultBy, SoundBy};
+ghost use Rattle.judge.specs.{Merged.{IsMergedBy, HasCycleBy}, Models.{Model as AnyModel, AreCounts, IsMistold, IsFirstFaultBy, SoundBy}};
 ghost use Rattle.sound_run.specs.Orders.{HasOrder};
 
 use crate::custom_judge::{CustomJudge, Mistold};

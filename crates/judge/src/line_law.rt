@@ -1,15 +1,8 @@
 //! A law of lines, on a function without effect.
 
 ghost use Rattle.std.specs.Prelude.{ℕ, ◌≡◌, ◌≤◌, List, true};
-ghost use Rattle.custom_records.specs.Custom.{CustomEvent};
-ghost use Rattle.custom_records.specs.LineReading.{any_head, custom_object_at, custom_event_at};
-ghost use Rattle.custom_records.specs.LineText.{custom_object_words, log_words, custom_event_words};
-ghost use Rattle.custom_records.specs.Ranges.{most_lines, CustomSettingsFit, EventFits};
-ghost use Rattle.custom_records.specs.Settings.{CustomSettings};
-ghost use Rattle.record_lines.specs.FormLaws.{ReadsLine};
-ghost use Rattle.record_lines.specs.Names.{is_name};
-ghost use Rattle.record_lines.specs.Reading.{words};
-ghost use Rattle.record_lines.specs.Words.{NoEnd, sentence};
+ghost use Rattle.custom_records.specs.{Custom.CustomEvent, LineReading.{any_head, custom_object_at, custom_event_at}, LineText.{custom_object_words, log_words, custom_event_words}, Ranges.{most_lines, CustomSettingsFit, EventFits}, Settings.CustomSettings};
+ghost use Rattle.record_lines.specs.{FormLaws.ReadsLine, Names.is_name, Reading.words, Words.{NoEnd, sentence}};
 ghost use Rattle.judge.specs.OwnLines.{any_log_at};
 
 /// A line is read as an object's, as the head of a log or as an event's exactly if it is the text of one, and as that one. It does

@@ -1,11 +1,9 @@
 //! Single lines of records of one's own, for callers in C.
 
-ghost use Rattle.std.specs.Prelude.{◌≡◌, ◌≤◌, length, None, IfSome, IfNone};
-ghost use Rattle.std.specs.Option.{option_map};
+ghost use Rattle.std.specs.{Prelude.{◌≡◌, ◌≤◌, length, None, IfSome, IfNone}, Option.option_map};
 ghost use Rattle.judge.specs.OwnLines.{IsLineAt, IsLineReported, any_log_at, object_report, log_report, event_report, words_report};
 ghost use Rattle.custom_records.specs.LineReading.{any_head, custom_object_at, custom_event_at};
-ghost use Rattle.record_lines.specs.Reading.{left, words};
-ghost use Rattle.record_lines.specs.LineParts.{name_word_at};
+ghost use Rattle.record_lines.specs.{Reading.{left, words}, LineParts.name_word_at};
 
 use crate::LineReport;
 use crate::own_report::{put_numbers, put_steps};

@@ -1,11 +1,8 @@
 -- Kinds, and the ways to and from their types.
 use Rattle.std.proofs.Common.{◌≡◌, Some, refl}
-use Rattle.kernel_object.specs.declared.kind.Kind.{Kind}
+use Rattle.kernel_object.specs.{declared.kind.Kind.Kind, declared.call.KParams.KParams, Kinds.All.{definition_of, params_kind, own_params, params_of, by_kind, on_params}, KindWords.{kind_word, kind_of}}
 use Rattle.kernel_object.specs.declared.kind.Kind.TheVariants as kinds
-use Rattle.kernel_object.specs.declared.call.KParams.{KParams}
 use Rattle.kernel_object.specs.declared.call.KParams.TheVariants as Params
-use Rattle.kernel_object.specs.Kinds.All.{definition_of, params_kind, own_params, params_of, by_kind, on_params}
-use Rattle.kernel_object.specs.KindWords.{kind_word, kind_of}
 
 -- parameters are those of their kind
 pub same_params : (p : KParams) → params_of (params_kind p) (own_params p) ≡ p

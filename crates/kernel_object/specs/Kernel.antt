@@ -1,15 +1,9 @@
 -- What any object of the kernel answers: what its kind answers, or badcall where the call is of another kind.
 use Rattle.std.specs.Prelude.{Bool, true, false}
-use Rattle.kernel_object.specs.declared.kind.Kind.{Kind}
+use Rattle.kernel_object.specs.{declared.kind.Kind.Kind, declared.call.KParams.KParams, declared.call.KCall.KCall, declared.call.KReply.KReply, declared.call.KReply.TheVariants.{Ok, Already, BadThread, Thread, Empty, Absent, Count, Page, NoPage, OverQuota, BadOwner, NotYours, NotTaken, BadPage, Dropped, Byte, BadChannel, BadCall}, declared.object.KernelObject.KernelObject, Kinds.All.{definition_of, on_params, object_of}}
 use Rattle.kernel_object.specs.declared.kind.Kind.TheVariants as kinds
-use Rattle.kernel_object.specs.declared.call.KParams.{KParams}
-use Rattle.kernel_object.specs.declared.call.KCall.{KCall}
 use Rattle.kernel_object.specs.declared.call.KCall.TheVariants as Call
-use Rattle.kernel_object.specs.declared.call.KReply.{KReply}
-use Rattle.kernel_object.specs.declared.call.KReply.TheVariants.{Ok, Already, BadThread, Thread, Empty, Absent, Count, Page, NoPage, OverQuota, BadOwner, NotYours, NotTaken, BadPage, Dropped, Byte, BadChannel, BadCall}
-use Rattle.kernel_object.specs.declared.object.KernelObject.{KernelObject}
 use Rattle.kernel_object.specs.declared.object.KernelObject.TheVariants as Object
-use Rattle.kernel_object.specs.Kinds.All.{definition_of, on_params, object_of}
 
 -- whether an object can be opened with the parameters
 abbrev pub kernel_in_range : KParams → Bool

@@ -1,8 +1,6 @@
 -- The words that stand for kinds.
-use Rattle.std.specs.Prelude.{ℕ, if◌then◌else◌, Option, Some, None, List, [], ◌∷◌}
-use Rattle.std.specs.Str.{bytes_eq}
-use Rattle.kernel_object.specs.declared.kind.Kind.{Kind}
-use Rattle.kernel_object.specs.Kinds.All.{definition_of, all_kinds}
+use Rattle.std.specs.{Prelude.{ℕ, if◌then◌else◌, Option, Some, None, List, [], ◌∷◌}, Str.bytes_eq}
+use Rattle.kernel_object.specs.{declared.kind.Kind.Kind, Kinds.All.{definition_of, all_kinds}}
 
 -- the word of a kind
 abbrev pub kind_word : Kind → List ℕ

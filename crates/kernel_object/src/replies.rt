@@ -1,10 +1,7 @@
 //! What each kind of object answers, as the reply with the same text.
 
 ghost use Rattle.std.specs.Prelude.{◌≡◌};
-ghost use Rattle.kernel_object.specs.Kinds.Console.{of_console};
-ghost use Rattle.kernel_object.specs.Kinds.Pool.{of_pool};
-ghost use Rattle.kernel_object.specs.Kinds.Queue.{of_queue};
-ghost use Rattle.kernel_object.specs.Kinds.Sched.{of_sched};
+ghost use Rattle.kernel_object.specs.{Kinds.Console.of_console, Kinds.Pool.of_pool, Kinds.Queue.of_queue, Kinds.Sched.of_sched};
 
 use crate::KReply;
 use console_ring::ConsoleReply;

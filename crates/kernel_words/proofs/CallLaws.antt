@@ -1,11 +1,7 @@
 -- Calls are read as what they spell.
 use Rattle.std.proofs.Common.{ℕ, List}
 use Rattle.kernel_object.specs.declared.call.KCall.{KCall}
-use Rattle.kernel_words.specs.Ranges.{call_fits}
-use Rattle.kernel_words.specs.Row.{spelled}
-use Rattle.kernel_words.specs.Rows.{call_row, call_samples, call_filled}
-use Rattle.kernel_words.specs.Tables.{call_table}
-use Rattle.kernel_words.specs.ItemReading.{call_at}
+use Rattle.kernel_words.specs.{Ranges.call_fits, Row.spelled, Rows.{call_row, call_samples, call_filled}, Tables.call_table, ItemReading.call_at}
 use Rattle.record_lines.proofs.ListLaws.{ReadsItems}
 use Rattle.kernel_words.proofs.Spellings.{value_takes, value_again, value_plain}
 

@@ -1,27 +1,12 @@
 -- The replies of any object are in range where the calls are: by what the states of each kind keep.
 use Rattle.std.proofs.Common.{◌≡◌, true, List, refl}
-use Rattle.event_log.specs.Log.{Legal}
-use Rattle.event_log.specs.declared.event.Event.{Event}
-use Rattle.kernel_object.specs.declared.call.KParams.{KParams}
+use Rattle.event_log.specs.{Log.Legal, declared.event.Event.Event}
+use Rattle.kernel_object.specs.{declared.call.KParams.KParams, declared.call.KCall.KCall, declared.call.KReply.KReply, declared.object.KernelObject.KernelObject, contracts.object.KernelObjectSeqObject.TheImpl.{ghosts as kernel}, Kernel.{kernel_answer, kernel_opening, kernel_in_range}, Kinds.Queue.queue_kind, Kinds.Pool.pool_kind, Kinds.Console.console_kind, Kinds.Sched.sched_kind}
+use Rattle.kernel_words.specs.{Kinds.Queue.queue_text, Kinds.Pool.pool_text, Kinds.Console.console_text, Kinds.Sched.sched_text, Ranges.{call_fits, reply_fits, log_asks, log_answers}}
+use Rattle.kernel_words.proofs.{KindLaws.Laws.KindKeeps, LogRanges.{Keeps, legal_fits}}
 use Rattle.kernel_object.specs.declared.call.KParams.TheVariants as Params
-use Rattle.kernel_object.specs.declared.call.KCall.{KCall}
 use Rattle.kernel_object.specs.declared.call.KCall.TheVariants as Call
-use Rattle.kernel_object.specs.declared.call.KReply.{KReply}
-use Rattle.kernel_object.specs.declared.object.KernelObject.{KernelObject}
 use Rattle.kernel_object.specs.declared.object.KernelObject.TheVariants as Object
-use Rattle.kernel_object.specs.contracts.object.KernelObjectSeqObject.TheImpl.{ghosts as kernel}
-use Rattle.kernel_object.specs.Kernel.{kernel_answer, kernel_opening, kernel_in_range}
-use Rattle.kernel_object.specs.Kinds.Queue.{queue_kind}
-use Rattle.kernel_object.specs.Kinds.Pool.{pool_kind}
-use Rattle.kernel_object.specs.Kinds.Console.{console_kind}
-use Rattle.kernel_object.specs.Kinds.Sched.{sched_kind}
-use Rattle.kernel_words.specs.Kinds.Queue.{queue_text}
-use Rattle.kernel_words.specs.Kinds.Pool.{pool_text}
-use Rattle.kernel_words.specs.Kinds.Console.{console_text}
-use Rattle.kernel_words.specs.Kinds.Sched.{sched_text}
-use Rattle.kernel_words.specs.Ranges.{call_fits, reply_fits, log_asks, log_answers}
-use Rattle.kernel_words.proofs.KindLaws.Laws.{KindKeeps}
-use Rattle.kernel_words.proofs.LogRanges.{Keeps, legal_fits}
 
 -- a kind's answer, as any object's
 keeps_as : {S : Type 0} (Good : S → Type 0) (Any : KernelObject → Type 0) (object : S → KernelObject) → ((s : S) → Good s → Any (object s)) → (a : S × KReply) → Keeps Good reply_fits a → Keeps Any reply_fits (object a.0, a.1)

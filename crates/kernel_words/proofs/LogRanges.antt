@@ -1,11 +1,7 @@
 -- A legal log whose calls are in range has replies in range: for every object whose answers keep what its states keep.
 use Rattle.std.specs.Cmp.Derive.{both_true}
-use Rattle.std.proofs.Common.{◌≡◌, Bool, true, List, [], ◌∷◌, refl, ◌∙◌, ap}
-use Rattle.std.proofs.lemmas.Bool.{and_parts}
-use Rattle.event_log.specs.declared.object.SeqObject.{Ghosts}
-use Rattle.event_log.specs.declared.event.Step.{Step}
-use Rattle.event_log.specs.declared.event.Event.{Event}
-use Rattle.event_log.specs.Log.{AreAnswers, LegalFrom, Legal, after}
+use Rattle.std.proofs.{Common.{◌≡◌, Bool, true, List, [], ◌∷◌, refl, ◌∙◌, ap}, lemmas.Bool.and_parts}
+use Rattle.event_log.specs.{declared.object.SeqObject.Ghosts, declared.event.Step.Step, declared.event.Event.Event, Log.{AreAnswers, LegalFrom, Legal, after}}
 use Rattle.kernel_words.specs.Ranges.{steps_ask, steps_answer, log_asks, log_answers}
 
 -- what holds of a state and a reply

@@ -1,10 +1,8 @@
 -- What the loops of the reader have found so far.
-use Rattle.std.proofs.Common.{◌≡◌, ℕ, ◌<◌, ◌≤◌, ◌+◌, true, false, Option, Some, None, List, [], ◌∷◌, ◌++◌, length, get_or, drop, refl, sym, ◌∙◌, ap, cond, bytes_eq}
-use Rattle.std.proofs.lemmas.List.{append-nil, at_drop_more, drop_all}
-use Rattle.kernel_words.specs.declared.tables.field.Field.{Field}
+use Rattle.std.proofs.{Common.{◌≡◌, ℕ, ◌<◌, ◌≤◌, ◌+◌, true, false, Option, Some, None, List, [], ◌∷◌, ◌++◌, length, get_or, drop, refl, sym, ◌∙◌, ap, cond, bytes_eq}, lemmas.List.{append-nil, at_drop_more, drop_all}}
+use Rattle.kernel_words.specs.{declared.tables.field.Field.Field, Row.{Row, field_at, numbers_at, sample_at}}
 use Rattle.record_lines.specs.Reading.{◌>>=◌}
 use Rattle.record_lines.proofs.Readings.{bind_grown}
-use Rattle.kernel_words.specs.Row.{Row, field_at, numbers_at, sample_at}
 
 bind_pair : {A B : Type 0} (o : Option (A × B)) → o ≡ (o >>= λ x. Some (x.0, x.1))
 bind_pair None = refl

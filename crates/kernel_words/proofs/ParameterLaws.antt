@@ -1,23 +1,12 @@
 -- What objects are opened with is read as what it spells, and nothing else is.
 use Rattle.std.proofs.Common.{◌≡◌, ℕ, ◌≤◌, Bool, true, false, cond, Option, Some, List, [], ◌∷◌, ◌++◌, refl, sym, ◌∙◌, ap, subst, arith, bytes_eq}
 use Rattle.std.specs.List.{AllByRecursion}
-use Rattle.kernel_object.specs.declared.kind.Kind.{Kind}
-use Rattle.kernel_object.specs.declared.call.KParams.{KParams}
-use Rattle.kernel_object.specs.Kernel.{kernel_in_range}
-use Rattle.kernel_object.specs.Kinds.All.{definition_of, all_kinds, params_kind, own_params, params_of}
-use Rattle.kernel_object.specs.KindWords.{kind_word, kind_among, kind_of}
+use Rattle.kernel_object.specs.{declared.kind.Kind.Kind, declared.call.KParams.KParams, Kernel.kernel_in_range, Kinds.All.{definition_of, all_kinds, params_kind, own_params, params_of}, KindWords.{kind_word, kind_among, kind_of}}
 use Rattle.kernel_object.proofs.KindLaws.{same_params, of_any, by_kind_is, on_own, kind_again}
-use Rattle.kernel_words.specs.declared.form.Form.{Form}
-use Rattle.kernel_words.specs.Forms.{ExpressesParams}
-use Rattle.kernel_words.specs.Kinds.All.{text_of}
-use Rattle.kernel_words.specs.Kinds.Definition.{Expresses}
-use Rattle.kernel_words.specs.Parameters.{params_words}
-use Rattle.record_lines.specs.Reading.{◌>>=◌, word_at}
-use Rattle.kernel_words.specs.ParameterReading.{kind_behind, params_behind, params_at}
-use Rattle.record_lines.specs.Words.{IsPlain}
+use Rattle.kernel_words.specs.{declared.form.Form.Form, Forms.ExpressesParams, Kinds.All.text_of, Kinds.Definition.Expresses, Parameters.params_words, ParameterReading.{kind_behind, params_behind, params_at}}
+use Rattle.record_lines.specs.{Reading.{◌>>=◌, word_at}, Words.IsPlain}
 use Rattle.kernel_words.proofs.KindLaws.All.{laws_of}
-use Rattle.record_lines.proofs.Readings.{bind_some, same}
-use Rattle.record_lines.proofs.Lengths.{long}
+use Rattle.record_lines.proofs.{Readings.{bind_some, same}, Lengths.long}
 
 -- ---- kinds
 

@@ -1,22 +1,10 @@
 -- How long words and lines get, counted roughly: no entry of scripts has over 1,024 bytes.
-use Rattle.std.proofs.Common.{◌≡◌, ℕ, ◌+◌, ◌*◌, ◌≤◌, Bool, true, List, [], ◌∷◌, length, map, arith, rules, codes, decimal, nat_le}
-use Rattle.std.proofs.lemmas.Bool.{and_parts, leb-true}
-use Rattle.std.proofs.lemmas.Fmt.{length-decimal-le}
+use Rattle.std.proofs.{Common.{◌≡◌, ℕ, ◌+◌, ◌*◌, ◌≤◌, Bool, true, List, [], ◌∷◌, length, map, arith, rules, codes, decimal, nat_le}, lemmas.Bool.{and_parts, leb-true}, lemmas.Fmt.length-decimal-le}
 use Rattle.std.specs.List.{AllByRecursion, list_all}
 use Rattle.event_log.specs.declared.entry.Done.TheVariants.{Steps, NoRoom}
-use Rattle.sound_run.specs.declared.lock_kind.LockKind.{LockKind}
-use Rattle.sound_run.specs.declared.lock_kind.LockKind.TheVariants.{Ticket, Mcs}
-use Rattle.kernel_object.specs.declared.call.KCall.{KCall}
-use Rattle.kernel_object.specs.declared.call.KReply.{KReply}
-use Rattle.kernel_object.specs.KernelTypes.{KernelStep, KernelDone}
-use Rattle.kernel_words.specs.declared.tables.field.Field.{Field}
-use Rattle.kernel_words.specs.Ranges.{call_fits, reply_fits, steps_ask, steps_answer}
-use Rattle.kernel_words.specs.Ranges.{StepsFit, DoneFits}
-use Rattle.kernel_words.specs.Parameters.{lock_word}
-use Rattle.kernel_words.specs.ItemText.{step_words, done_words}
-use Rattle.kernel_words.specs.Row.{Row, spelled, in_range, row_fits}
-use Rattle.kernel_words.specs.Rows.{call_row, reply_row}
-use Rattle.kernel_words.specs.Tables.{call_table, reply_table}
+use Rattle.sound_run.specs.{declared.lock_kind.LockKind.LockKind, declared.lock_kind.LockKind.TheVariants.{Ticket, Mcs}}
+use Rattle.kernel_object.specs.{declared.call.KCall.KCall, declared.call.KReply.KReply, KernelTypes.{KernelStep, KernelDone}}
+use Rattle.kernel_words.specs.{declared.tables.field.Field.Field, Ranges.{call_fits, reply_fits, steps_ask, steps_answer}, Ranges.{StepsFit, DoneFits}, Parameters.lock_word, ItemText.{step_words, done_words}, Row.{Row, spelled, in_range, row_fits}, Rows.{call_row, reply_row}, Tables.{call_table, reply_table}}
 use Rattle.record_lines.specs.Words.{separated}
 use Rattle.kernel_words.proofs.CallLaws.{call_words}
 use Rattle.record_lines.proofs.Lengths.{long, separated_le, long_append}

@@ -1,13 +1,8 @@
 -- A value is read as what it spells, and nothing else is: once for every table.
-use Rattle.std.proofs.Common.{◌≡◌, ℕ, ◌<◌, ◌^◌, Bool, true, false, Option, Some, List, [], ◌∷◌, ◌++◌, map, refl, sym, ◌∙◌, ap, subst, cond, arith, decimal, nat_le, ◌&&◌, bytes_eq}
-use Rattle.std.specs.Cmp.Derive.{both_true}
-use Rattle.std.proofs.lemmas.Bool.{and_parts, leb-true}
-use Rattle.std.proofs.lemmas.Option.{cond_some}
-use Rattle.std.specs.List.{AllByRecursion, list_all}
-use Rattle.kernel_words.specs.declared.tables.field.Field.{Field}
-use Rattle.record_lines.specs.Reading.{word_at, number_at}
-use Rattle.kernel_words.specs.Row.{Row, spelled, in_range, row_fits, values, first, others, refill, field_at, numbers_at, sample_at, value_at, IsTable}
-use Rattle.record_lines.specs.Words.{IsPlain}
+use Rattle.std.proofs.{Common.{◌≡◌, ℕ, ◌<◌, ◌^◌, Bool, true, false, Option, Some, List, [], ◌∷◌, ◌++◌, map, refl, sym, ◌∙◌, ap, subst, cond, arith, decimal, nat_le, ◌&&◌, bytes_eq}, lemmas.Bool.{and_parts, leb-true}, lemmas.Option.cond_some}
+use Rattle.std.specs.{Cmp.Derive.both_true, List.{AllByRecursion, list_all}}
+use Rattle.kernel_words.specs.{declared.tables.field.Field.Field, Row.{Row, spelled, in_range, row_fits, values, first, others, refill, field_at, numbers_at, sample_at, value_at, IsTable}}
+use Rattle.record_lines.specs.{Reading.{word_at, number_at}, Words.IsPlain}
 use Rattle.record_lines.proofs.Readings.{bind_some, plain_decimal, same, number_at_takes, number_at_again}
 
 abbrev pub texts : List Field → List (List ℕ)

@@ -2,17 +2,8 @@
 use Rattle.std.specs.Prelude.{ℕ, Bool, true, false, List, codes}
 use Rattle.event_log.specs.declared.entry.Done.TheVariants.{Steps, NoRoom}
 use Rattle.sound_run.specs.declared.limits.TheConstants.{MOST_CPUS}
-use Rattle.kernel_object.specs.declared.call.KParams.{KParams}
-use Rattle.kernel_object.specs.declared.call.KReply.{KReply}
-use Rattle.kernel_object.specs.declared.call.KReply.TheVariants.{OverQuota}
-use Rattle.kernel_object.specs.Kinds.All.{params_kind, own_params}
-use Rattle.kernel_object.specs.KernelTypes.{KernelStep, KernelDone}
-use Rattle.kernel_words.specs.declared.form.Form.{Form}
-use Rattle.kernel_words.specs.declared.form.Form.TheVariants.{One, Two}
-use Rattle.kernel_words.specs.declared.form.TheConstants.{FIRST_MOST_CPUS}
-use Rattle.kernel_words.specs.Kinds.Definition.{Expresses}
-use Rattle.kernel_words.specs.Kinds.All.{text_of}
-use Rattle.kernel_words.specs.Ranges.{steps_answer}
+use Rattle.kernel_object.specs.{declared.call.KParams.KParams, declared.call.KReply.KReply, declared.call.KReply.TheVariants.OverQuota, Kinds.All.{params_kind, own_params}, KernelTypes.{KernelStep, KernelDone}}
+use Rattle.kernel_words.specs.{declared.form.Form.Form, declared.form.Form.TheVariants.{One, Two}, declared.form.TheConstants.FIRST_MOST_CPUS, Kinds.Definition.Expresses, Kinds.All.text_of, Ranges.steps_answer}
 
 -- the word behind `record`
 abbrev pub version : Form → List ℕ

@@ -1,14 +1,9 @@
 -- Reading calls, replies and steps from left to right.
-use Rattle.std.specs.Prelude.{ℕ, List, Option, Some, codes, ◌-◌}
-use Rattle.std.specs.Option.{option_map_or}
+use Rattle.std.specs.{Prelude.{ℕ, List, Option, Some, codes, ◌-◌}, Option.option_map_or}
 use Rattle.event_log.specs.declared.entry.Done.TheVariants.{Steps, NoRoom}
-use Rattle.kernel_object.specs.declared.call.KCall.{KCall}
-use Rattle.kernel_object.specs.declared.call.KReply.{KReply}
-use Rattle.kernel_object.specs.KernelTypes.{KernelStep, KernelDone}
-use Rattle.record_lines.specs.Reading.{◌>>=◌, key_at}
-use Rattle.kernel_words.specs.Row.{value_at}
-use Rattle.kernel_words.specs.Rows.{call_row, call_samples, call_filled, reply_row, reply_samples, reply_filled}
-use Rattle.record_lines.specs.LineParts.{list_at}
+use Rattle.kernel_object.specs.{declared.call.KCall.KCall, declared.call.KReply.KReply, KernelTypes.{KernelStep, KernelDone}}
+use Rattle.record_lines.specs.{Reading.{◌>>=◌, key_at}, LineParts.list_at}
+use Rattle.kernel_words.specs.{Row.value_at, Rows.{call_row, call_samples, call_filled, reply_row, reply_samples, reply_filled}}
 
 -- a call
 abbrev pub call_at : List (List ℕ) → Option (KCall × List (List ℕ))

@@ -1,14 +1,9 @@
 -- Reading what an object is opened with, and the lock of its cell.
 use Rattle.std.specs.Prelude.{ℕ, List, Option, Some, ◌-◌}
 use Rattle.sound_run.specs.declared.lock_kind.LockKind.{LockKind}
-use Rattle.kernel_object.specs.declared.kind.Kind.{Kind}
-use Rattle.kernel_object.specs.declared.call.KParams.{KParams}
-use Rattle.kernel_object.specs.Kinds.All.{by_kind, params_of}
-use Rattle.kernel_object.specs.KindWords.{kind_of}
-use Rattle.kernel_words.specs.declared.form.Form.{Form}
+use Rattle.kernel_object.specs.{declared.kind.Kind.Kind, declared.call.KParams.KParams, Kinds.All.{by_kind, params_of}, KindWords.kind_of}
+use Rattle.kernel_words.specs.{declared.form.Form.Form, Kinds.All.text_of, Parameters.lock_of}
 use Rattle.record_lines.specs.Reading.{◌>>=◌, word_at}
-use Rattle.kernel_words.specs.Kinds.All.{text_of}
-use Rattle.kernel_words.specs.Parameters.{lock_of}
 
 -- what an object of the kind is opened with
 abbrev pub kind_behind : Form → List (List ℕ) → Kind → Option (KParams × List (List ℕ))

@@ -1,13 +1,8 @@
 -- How what objects are opened with is spelled.
-use Rattle.std.specs.Prelude.{ℕ, if◌then◌else◌, Option, Some, None, List, ◌∷◌, codes}
-use Rattle.std.specs.Str.{bytes_eq}
-use Rattle.sound_run.specs.declared.lock_kind.LockKind.{LockKind}
-use Rattle.sound_run.specs.declared.lock_kind.LockKind.TheVariants.{Ticket, Mcs}
-use Rattle.kernel_object.specs.declared.call.KParams.{KParams}
-use Rattle.kernel_object.specs.Kinds.All.{on_params}
-use Rattle.kernel_object.specs.KindWords.{kind_word}
-use Rattle.kernel_words.specs.declared.form.Form.{Form}
-use Rattle.kernel_words.specs.Kinds.All.{text_of}
+use Rattle.std.specs.{Prelude.{ℕ, if◌then◌else◌, Option, Some, None, List, ◌∷◌, codes}, Str.bytes_eq}
+use Rattle.sound_run.specs.{declared.lock_kind.LockKind.LockKind, declared.lock_kind.LockKind.TheVariants.{Ticket, Mcs}}
+use Rattle.kernel_object.specs.{declared.call.KParams.KParams, Kinds.All.on_params, KindWords.kind_word}
+use Rattle.kernel_words.specs.{declared.form.Form.Form, Kinds.All.text_of}
 
 -- the word of a lock
 abbrev pub lock_word : LockKind → List ℕ

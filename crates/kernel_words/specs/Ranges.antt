@@ -1,15 +1,8 @@
 -- Calls and replies whose numbers are in their ranges, in a log.
-use Rattle.std.specs.Prelude.{Bool, List, ◌≡◌, ◌<◌, ◌≤◌, true, length}
-use Rattle.std.specs.List.{list_all}
-use Rattle.event_log.specs.declared.event.Step.{Step}
-use Rattle.event_log.specs.declared.event.Event.{Event}
-use Rattle.kernel_object.specs.declared.call.KCall.{KCall}
-use Rattle.kernel_object.specs.declared.call.KReply.{KReply}
-use Rattle.kernel_words.specs.Row.{row_fits}
-use Rattle.kernel_words.specs.Rows.{call_row, reply_row}
-use Rattle.event_log.specs.declared.event.TheConstants.{MOST_CALLS}
-use Rattle.event_log.specs.declared.entry.Done.TheVariants.{Steps, NoRoom}
-use Rattle.kernel_object.specs.KernelTypes.{KernelStep, KernelDone}
+use Rattle.std.specs.{Prelude.{Bool, List, ◌≡◌, ◌<◌, ◌≤◌, true, length}, List.list_all}
+use Rattle.event_log.specs.{declared.event.Step.Step, declared.event.Event.Event, declared.event.TheConstants.MOST_CALLS, declared.entry.Done.TheVariants.{Steps, NoRoom}}
+use Rattle.kernel_object.specs.{declared.call.KCall.KCall, declared.call.KReply.KReply, KernelTypes.{KernelStep, KernelDone}}
+use Rattle.kernel_words.specs.{Row.row_fits, Rows.{call_row, reply_row}}
 
 -- each number of the call is in its range
 abbrev pub call_fits : KCall → Bool

@@ -1,10 +1,7 @@
 -- How values are spelled: each as a row of a table, a word and then its numbers.
-use Rattle.std.specs.Prelude.{◌≡◌, ℕ, nat_le, ◌&&◌, Bool, true, if◌then◌else◌, Option, Some, None, List, [], ◌∷◌, map, decimal}
-use Rattle.std.specs.List.{list_all}
-use Rattle.std.specs.Str.{bytes_eq}
+use Rattle.std.specs.{Prelude.{◌≡◌, ℕ, nat_le, ◌&&◌, Bool, true, if◌then◌else◌, Option, Some, None, List, [], ◌∷◌, map, decimal}, List.list_all, Str.bytes_eq}
 use Rattle.kernel_words.specs.declared.tables.field.Field.{Field}
-use Rattle.record_lines.specs.Reading.{◌>>=◌, word_at, number_at}
-use Rattle.record_lines.specs.Words.{IsPlain}
+use Rattle.record_lines.specs.{Reading.{◌>>=◌, word_at, number_at}, Words.IsPlain}
 
 -- a word, and then its numbers, each with its range
 pub record Row : Type 0 where

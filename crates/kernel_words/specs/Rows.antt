@@ -1,13 +1,8 @@
 -- How calls and replies are spelled: of each type the rows, a value of each word, and the value of the same word
 -- with other numbers.
-use Rattle.std.specs.Prelude.{ℕ, List, [], ◌∷◌, map, codes}
-use Rattle.std.specs.List.{flat_map}
-use Rattle.kernel_object.specs.declared.call.KCall.{KCall}
-use Rattle.kernel_object.specs.declared.call.KReply.{KReply}
-use Rattle.kernel_object.specs.declared.call.KReply.TheVariants.{Ok, Already, BadThread, Thread, Empty, Absent, Count, Page, NoPage, OverQuota, BadOwner, NotYours, NotTaken, BadPage, Dropped, Byte, BadChannel, BadCall}
-use Rattle.kernel_object.specs.Kinds.All.{all_kinds, on_call, call_of}
-use Rattle.kernel_words.specs.Kinds.All.{text_of}
-use Rattle.kernel_words.specs.Row.{Row, first, wide, byte}
+use Rattle.std.specs.{Prelude.{ℕ, List, [], ◌∷◌, map, codes}, List.flat_map}
+use Rattle.kernel_object.specs.{declared.call.KCall.KCall, declared.call.KReply.KReply, declared.call.KReply.TheVariants.{Ok, Already, BadThread, Thread, Empty, Absent, Count, Page, NoPage, OverQuota, BadOwner, NotYours, NotTaken, BadPage, Dropped, Byte, BadChannel, BadCall}, Kinds.All.{all_kinds, on_call, call_of}}
+use Rattle.kernel_words.specs.{Kinds.All.text_of, Row.{Row, first, wide, byte}}
 
 -- how a call is spelled
 abbrev pub call_row : KCall → Row

@@ -1,7 +1,6 @@
 -- That the tables of calls and replies are right. It is proved here, since an `impl` can name no proof file.
 use Rattle.std.proofs.Common.{rules}
-use Rattle.kernel_words.specs.Row.{IsTable, sample_at}
-use Rattle.kernel_words.specs.Rows.{call_row, call_samples, call_filled, reply_row, reply_samples, reply_filled}
+use Rattle.kernel_words.specs.{Row.{IsTable, sample_at}, Rows.{call_row, call_samples, call_filled, reply_row, reply_samples, reply_filled}}
 
 pub call_table : IsTable call_row call_samples call_filled
 unfolding sample_at

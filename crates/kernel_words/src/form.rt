@@ -1,9 +1,7 @@
 //! The two forms of a record's text.
 
-ghost use Rattle.std.specs.Prelude.{◌≡◌};
-ghost use Rattle.std.specs.List.{list_all};
-ghost use Rattle.kernel_words.specs.declared.form.Form.TheVariants.{One};
-ghost use Rattle.kernel_words.specs.Forms.{version, most_cpus, has_reply, has_steps, has_done};
+ghost use Rattle.std.specs.{Prelude.◌≡◌, List.list_all};
+ghost use Rattle.kernel_words.specs.{declared.form.Form.TheVariants.One, Forms.{version, most_cpus, has_reply, has_steps, has_done}};
 
 use event_log::{Done, Step};
 use kernel_object::{KReply, KernelObject};

@@ -1,12 +1,8 @@
 //! What all else takes of a kind: one line of each.
 
-ghost use Rattle.std.specs.Prelude.{◌≡◌};
-ghost use Rattle.std.specs.Option.{option_map};
-ghost use Rattle.record_lines.specs.Output.{PutsWords};
-ghost use Rattle.kernel_words.specs.Parameters.{params_words};
-ghost use Rattle.record_lines.specs.Reading.{left};
-ghost use Rattle.kernel_words.specs.ParameterReading.{params_behind};
-ghost use Rattle.kernel_words.specs.declared.form.TheConstants.{WRITTEN};
+ghost use Rattle.std.specs.{Prelude.◌≡◌, Option.option_map};
+ghost use Rattle.record_lines.specs.{Output.PutsWords, Reading.left};
+ghost use Rattle.kernel_words.specs.{Parameters.params_words, ParameterReading.params_behind, declared.form.TheConstants.WRITTEN};
 
 pub mod console;
 pub mod pool;

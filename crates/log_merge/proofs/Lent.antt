@@ -1,9 +1,6 @@
 -- What is lent of a list at a place.
-use Rattle.std.proofs.Common.{◌≡◌, ℕ, zero, suc, ◌≤◌, List, [], ◌∷◌, length, slice_get, Option, Some, None, Bor, sym, ap, ◌∙◌, arith}
-use Rattle.std.specs.Prelude.{unwrap_or}
-use Rattle.std.specs.List.{ItemBy}
-use Rattle.std.specs.Option.{option_copied}
-use Rattle.std.proofs.lemmas.Option.{slice_get_past}
+use Rattle.std.proofs.{Common.{◌≡◌, ℕ, zero, suc, ◌≤◌, List, [], ◌∷◌, length, slice_get, Option, Some, None, Bor, sym, ap, ◌∙◌, arith}, lemmas.Option.slice_get_past}
+use Rattle.std.specs.{Prelude.unwrap_or, List.ItemBy, Option.option_copied}
 use Rattle.sound_run.proofs.Slices.{read_get}
 
 -- what is lent stands there

@@ -1,9 +1,7 @@
 -- The line of the next member of a list.
-use Rattle.std.proofs.Common.{ℕ, ◌+◌, ◌<◌, List, [], ◌∷◌, length, map, take, get_or}
-use Rattle.std.proofs.lemmas.List.{get_or_default}
+use Rattle.std.proofs.{Common.{ℕ, ◌+◌, ◌<◌, List, [], ◌∷◌, length, map, take, get_or}, lemmas.List.get_or_default}
 use Rattle.event_log.specs.declared.stream.Sink.{Ghosts}
-use Rattle.record_lines.specs.declared.streams.buffer.Buffered.{Buffered}
-use Rattle.record_lines.specs.Output.{PutsLines}
+use Rattle.record_lines.specs.{declared.streams.buffer.Buffered.Buffered, Output.PutsLines}
 use Rattle.record_lines.proofs.Lines.{line_then}
 
 pub line_next : {W X : Type 0} (sink : Ghosts W) {a b c : Buffered W} (f : X → List (List ℕ)) (xs : List X) (i : ℕ) (d : X) → i < length xs

@@ -1,23 +1,14 @@
 -- The line of a place of an order, and the events that are counted behind it.
-use Rattle.std.proofs.Common.{◌≡◌, ℕ, ◌+◌, ◌<◌, true, false, List, [], ◌∷◌, length, map, take, get_or, slice_get, Some, ap, ◌∙◌, subst, arith}
-use Rattle.std.specs.Prelude.{option_map, codes, decimal}
-use Rattle.std.specs.Option.{option_map_or}
-use Rattle.std.proofs.Math.ListN.{set}
-use Rattle.std.proofs.lemmas.Option.{slice_get_within}
-use Rattle.event_log.specs.declared.entry.Done.TheVariants as done
+use Rattle.std.proofs.{Common.{◌≡◌, ℕ, ◌+◌, ◌<◌, true, false, List, [], ◌∷◌, length, map, take, get_or, slice_get, Some, ap, ◌∙◌, subst, arith}, Math.ListN.set, lemmas.Option.slice_get_within}
+use Rattle.std.specs.{Prelude.{option_map, codes, decimal}, Option.option_map_or}
 use Rattle.kernel_object.specs.KernelTypes.{KernelEvent, KernelDone, KernelSteps, KernelRun}
 use Rattle.kernel_words.specs.ItemText.{step_words, done_words}
 use Rattle.records.specs.Settings.{Settings, name_at}
 use Rattle.record_lines.specs.Words.{separated}
-use Rattle.sound_run.specs.declared.place.Place.{Place}
-use Rattle.sound_run.specs.Sound.{log_of}
-use Rattle.sound_run.specs.Orders.{entry_at, IsOrder}
-use Rattle.log_merge.specs.declared.run_shape.EntryShape.{EntryShape}
-use Rattle.log_merge.specs.MergedText.{entry_words, place_words}
-use Rattle.log_merge.specs.Shapes.{shape_of}
-use Rattle.log_merge.specs.Written.{AreWritten}
-use Rattle.log_merge.proofs.Shaped.{HasShape, shaped, steps_of, full_of}
-use Rattle.log_merge.proofs.WrittenEvents.{done_written, full_written, next_written}
+use Rattle.sound_run.specs.{declared.place.Place.Place, Sound.log_of, Orders.{entry_at, IsOrder}}
+use Rattle.log_merge.specs.{declared.run_shape.EntryShape.EntryShape, MergedText.{entry_words, place_words}, Shapes.shape_of, Written.AreWritten}
+use Rattle.log_merge.proofs.{Shaped.{HasShape, shaped, steps_of, full_of}, WrittenEvents.{done_written, full_written, next_written}}
+use Rattle.event_log.specs.declared.entry.Done.TheVariants as done
 
 module _ (run : KernelRun) (places : List Place) (i : ℕ) (written : List ℕ) (so_far : AreWritten run (take i places) written) (p : Place) (at : slice_get places i ≡ Some p) (shape : EntryShape) (is : Some shape ≡ option_map shape_of (entry_at run p)) (settings : Settings) where
   its : HasShape (entry_at run p) shape

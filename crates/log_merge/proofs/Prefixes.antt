@@ -1,29 +1,16 @@
 -- One entry more, and the end.
-use Rattle.std.proofs.Common.{◌≡◌, ℕ, zero, suc, ◌<◌, ◌≤◌, List, [], ◌∷◌, ◌++◌, length, take, get_or, slice_get, Option, Some, None, refl, sym, ap, ◌∙◌, subst, arith, zero-add}
-use Rattle.std.proofs.Math.ListN.{set}
-use Rattle.std.proofs.lemmas.List.{append-nil, get_or-set_same, get_or-set_other}
+use Rattle.std.proofs.{Common.{◌≡◌, ℕ, zero, suc, ◌<◌, ◌≤◌, List, [], ◌∷◌, ◌++◌, length, take, get_or, slice_get, Option, Some, None, refl, sym, ap, ◌∙◌, subst, arith, zero-add}, Math.ListN.set, lemmas.List.{append-nil, get_or-set_same, get_or-set_other}, lemmas.Option.slice_get_within}
 use mathlib.Core.Logic.{dite}
 use native.Mathlib.Decide.{ℕ_discrete}
-use Rattle.event_log.specs.declared.event.Event.{Event}
-use Rattle.event_log.specs.declared.event.Steps.{Steps}
-use Rattle.event_log.specs.declared.entry.Done.TheVariants as done
-use Rattle.event_log.specs.declared.entry.Entry.{Entry}
-use Rattle.event_log.specs.declared.entry.Run.{Run}
-use Rattle.event_log.specs.Log.{of}
+use Rattle.event_log.specs.{declared.event.Event.Event, declared.event.Steps.Steps, declared.entry.Entry.Entry, declared.entry.Run.Run, Log.of}
 use Rattle.event_log.proofs.Each.{all_map, all_push}
-use Rattle.sound_run.specs.Sound.{transcript_of, log_of, done_on, steps_by}
-use Rattle.sound_run.proofs.Slices.{one_of}
+use Rattle.sound_run.specs.{Sound.{transcript_of, log_of, done_on, steps_by}, declared.place.Place.Place, Orders.{numbers, entries_of, entry_at, events_on, IsOrder}}
+use Rattle.sound_run.proofs.{Slices.one_of, OrderLists.{num_length, num_push, entries_append, entries_own, entries_other, events_append, full_push, one_off, one_none, one_on}}
 use Rattle.auditor.specs.Faults.{done_before, events_before}
-use Rattle.std.proofs.lemmas.Option.{slice_get_within}
-use Rattle.auditor.proofs.OwnEvents.{own_steps}
-use Rattle.auditor.proofs.Splits.{take_all}
-use Rattle.sound_run.specs.declared.place.Place.{Place}
-use Rattle.sound_run.specs.Orders.{numbers, entries_of, entry_at, events_on, IsOrder}
+use Rattle.auditor.proofs.{OwnEvents.own_steps, Splits.take_all, Ranked.done_at}
 use Rattle.log_merge.specs.Prefixes.{IsMatched, IsClosed, IsPrefix}
-use Rattle.sound_run.proofs.OrderLists.{num_length, num_push, entries_append, entries_own, entries_other, events_append, full_push, one_off, one_none, one_on}
-use Rattle.log_merge.proofs.Counts.{first_ranks}
-use Rattle.auditor.proofs.Ranked.{done_at}
-use Rattle.log_merge.proofs.Lent.{ended}
+use Rattle.log_merge.proofs.{Counts.first_ranks, Lent.ended}
+use Rattle.event_log.specs.declared.entry.Done.TheVariants as done
 
 pub take_more : {X : Type 0} (xs : List X) (i : ℕ) (x : X) → slice_get xs i ≡ Some x → take (suc i) xs ≡ take i xs ++ x ∷ []
 take_more [] i x e = cc

@@ -1,6 +1,5 @@
 -- Chains, cut and rotated.
-use Rattle.std.proofs.Common.{◌≡◌, ℕ, zero, suc, ◌<◌, List, [], ◌∷◌, ◌++◌, length, map, take, drop, get_or, refl, sym, ap, ◌∙◌, subst, arith, append_assoc}
-use Rattle.std.proofs.lemmas.List.{append-nil}
+use Rattle.std.proofs.{Common.{◌≡◌, ℕ, zero, suc, ◌<◌, List, [], ◌∷◌, ◌++◌, length, map, take, drop, get_or, refl, sym, ap, ◌∙◌, subst, arith, append_assoc}, lemmas.List.append-nil}
 use Rattle.event_log.specs.Distinct.{AreDistinctBelow}
 use Rattle.event_log.proofs.Distinct.{distinct_push}
 use Rattle.log_merge.specs.Chains.{Chain, Cyclic}

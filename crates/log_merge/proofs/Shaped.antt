@@ -1,19 +1,11 @@
 -- What is said of a shape, of the entry and the event that it is the shape of.
 use Rattle.std.proofs.Common.{◌≡◌, ◌≢◌, ℕ, ◌≤◌, true, false, true≢false, List, length, get_or, slice_get, slice_index, Option, Some, None, refl, sym, ap, ◌∙◌, subst}
 use Rattle.std.specs.Prelude.{option_map}
-use Rattle.event_log.specs.declared.event.Event.{Event}
-use Rattle.event_log.specs.declared.event.Steps.{Steps}
-use Rattle.event_log.specs.declared.entry.Done.{Done}
-use Rattle.event_log.specs.declared.entry.Done.TheVariants as done
-use Rattle.event_log.specs.declared.entry.Entry.{Entry}
-use Rattle.event_log.specs.declared.entry.Run.{Run}
+use Rattle.event_log.specs.{declared.event.Event.Event, declared.event.Steps.Steps, declared.entry.Done.Done, declared.entry.Entry.Entry, declared.entry.Run.Run}
 use Rattle.sound_run.specs.Sound.{transcript_of, log_of}
-use Rattle.log_merge.specs.declared.run_shape.EntryShape.{EntryShape}
-use Rattle.log_merge.specs.Nexts.{IsReady}
-use Rattle.log_merge.specs.Prefixes.{Comes, CanCome, IsBlocked}
-use Rattle.log_merge.specs.Shapes.{has_steps, shape_of}
-use Rattle.log_merge.proofs.Lent.{ended}
-use Rattle.log_merge.proofs.Placing.{comes_at_end}
+use Rattle.log_merge.specs.{declared.run_shape.EntryShape.EntryShape, Nexts.IsReady, Prefixes.{Comes, CanCome, IsBlocked}, Shapes.{has_steps, shape_of}}
+use Rattle.log_merge.proofs.{Lent.ended, Placing.comes_at_end}
+use Rattle.event_log.specs.declared.entry.Done.TheVariants as done
 
 -- what is taken from nothing is nothing
 pub none_of : {A B : Type 0} (f : A → B) (o : Option A) → None ≡ option_map f o → o ≡ None

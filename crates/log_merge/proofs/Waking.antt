@@ -1,26 +1,15 @@
 -- Who can come after one entry more was placed.
-use Rattle.std.proofs.Common.{◌≡◌, ◌≢◌, ◌↔◌, inl, inr, ℕ, ◌<◌, ◌≤◌, List, length, get_or, slice_get, slice_index, Some, refl, sym, ap, ◌∙◌, subst, arith}
-use Rattle.std.proofs.Math.ListN.{set}
-use Rattle.std.proofs.lemmas.Bool.{cases_lt}
-use Rattle.std.proofs.lemmas.List.{get_or-set_other}
-use Rattle.std.proofs.lemmas.Option.{slice_get_within}
+use Rattle.std.proofs.{Common.{◌≡◌, ◌≢◌, ◌↔◌, inl, inr, ℕ, ◌<◌, ◌≤◌, List, length, get_or, slice_get, slice_index, Some, refl, sym, ap, ◌∙◌, subst, arith}, Math.ListN.set, lemmas.Bool.cases_lt, lemmas.List.get_or-set_other, lemmas.Option.slice_get_within}
 use mathlib.Core.Logic.{dite}
 use native.Mathlib.Decide.{ℕ_discrete}
-use Rattle.event_log.specs.declared.event.Event.{Event}
-use Rattle.event_log.specs.declared.event.Steps.{Steps}
-use Rattle.event_log.specs.declared.entry.Done.{Done}
-use Rattle.event_log.specs.declared.entry.Done.TheVariants as done
-use Rattle.event_log.specs.declared.entry.Entry.{Entry}
-use Rattle.event_log.specs.declared.entry.Run.{Run}
+use Rattle.event_log.specs.{declared.event.Event.Event, declared.event.Steps.Steps, declared.entry.Done.Done, declared.entry.Entry.Entry, declared.entry.Run.Run}
 use Rattle.sound_run.specs.Sound.{transcript_of, log_of, steps_by}
 use Rattle.sound_run.proofs.Slices.{one_of}
 use Rattle.auditor.specs.Faults.{events_before}
-use Rattle.auditor.proofs.OwnEvents.{own_steps}
-use Rattle.auditor.proofs.Ranked.{done_of}
-use Rattle.log_merge.specs.Flags.{capacity, HasFlag}
-use Rattle.log_merge.specs.Prefixes.{IsMatched, Comes, CanCome}
-use Rattle.log_merge.specs.WhoCanCome.{IsRight, SaysWhoCanCome, MayWake}
+use Rattle.auditor.proofs.{OwnEvents.own_steps, Ranked.done_of}
+use Rattle.log_merge.specs.{Flags.{capacity, HasFlag}, Prefixes.{IsMatched, Comes, CanCome}, WhoCanCome.{IsRight, SaysWhoCanCome, MayWake}}
 use Rattle.log_merge.proofs.Placing.{has_transcript}
+use Rattle.event_log.specs.declared.entry.Done.TheVariants as done
 
 -- one after the other
 pub through : {A B C : Type 0} → A ↔ B → B ↔ C → A ↔ C

@@ -1,18 +1,12 @@
 -- The lists of a record's run are as long as they may be.
-use Rattle.std.proofs.Common.{ℕ, ◌<◌, List, [], ◌∷◌, length, arith}
+use Rattle.std.proofs.{Common.{ℕ, ◌<◌, List, [], ◌∷◌, length, arith}, lemmas.Option.slice_get_within}
 use Rattle.std.specs.List.{AllByRecursion}
-use Rattle.std.proofs.lemmas.Option.{slice_get_within}
 use Rattle.event_log.proofs.Each.{each_at, each_list_at}
-use Rattle.sound_run.specs.Sound.{transcript_of}
+use Rattle.sound_run.specs.{Sound.transcript_of, declared.place.Place.Place}
 use Rattle.kernel_object.specs.KernelTypes.{KernelRun}
-use Rattle.records.specs.declared.record.TheConstants.{MOST_ENTRIES}
+use Rattle.records.specs.{declared.record.TheConstants.MOST_ENTRIES, RecordRanges.{EntryFits, LogFits, TranscriptFits, RunFits}, Settings.Settings}
 use Rattle.kernel_words.specs.declared.form.TheConstants.{WRITTEN}
-use Rattle.records.specs.RecordRanges.{EntryFits, LogFits, TranscriptFits, RunFits}
-use Rattle.records.specs.Settings.{Settings}
-use Rattle.sound_run.specs.declared.place.Place.{Place}
-use Rattle.log_merge.specs.Chains.{Chain, Cyclic}
-use Rattle.log_merge.specs.Nexts.{IsWhole}
-use Rattle.log_merge.specs.Tangles.{WaitsFor}
+use Rattle.log_merge.specs.{Chains.{Chain, Cyclic}, Nexts.IsWhole, Tangles.WaitsFor}
 
 module _ (settings : Settings) (run : KernelRun) (fit : RunFits settings run) where
   transcript : (cpu : ℕ) → TranscriptFits WRITTEN (length settings.objects) (transcript_of cpu run)

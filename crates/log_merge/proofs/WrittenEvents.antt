@@ -1,22 +1,14 @@
 -- The events of an order, counted while its entries are written.
-use Rattle.std.proofs.Common.{◌≡◌, ◌==◌, ℕ, zero, suc, ◌+◌, ◌<◌, ◌≤◌, true, false, cond, List, [], ◌∷◌, ◌++◌, length, take, drop, get_or, slice_get, Option, Some, None, refl, sym, ap, ◌∙◌, subst, arith, length-append}
-use Rattle.std.proofs.Math.ListN.{set}
-use Rattle.std.proofs.lemmas.List.{append-nil, length-set, get_or-set_same, get_or-set_other}
+use Rattle.std.proofs.{Common.{◌≡◌, ◌==◌, ℕ, zero, suc, ◌+◌, ◌<◌, ◌≤◌, true, false, cond, List, [], ◌∷◌, ◌++◌, length, take, drop, get_or, slice_get, Option, Some, None, refl, sym, ap, ◌∙◌, subst, arith, length-append}, Math.ListN.set, lemmas.List.{append-nil, length-set, get_or-set_same, get_or-set_other}}
 use mathlib.Core.Logic.{dite}
 use native.Mathlib.Decide.{ℕ_discrete}
-use Rattle.event_log.specs.declared.event.Event.{Event}
-use Rattle.event_log.specs.declared.event.Steps.{Steps}
-use Rattle.event_log.specs.declared.entry.Done.{Done}
-use Rattle.event_log.specs.declared.entry.Done.TheVariants as done
-use Rattle.event_log.specs.declared.entry.Entry.{Entry}
-use Rattle.event_log.specs.declared.entry.Run.{Run}
-use Rattle.sound_run.specs.declared.place.Place.{Place}
-use Rattle.sound_run.specs.Sound.{log_of}
-use Rattle.sound_run.specs.Orders.{with_event, with_entry, entry_at, events_on, events_in, IsOrder}
+use Rattle.event_log.specs.{declared.event.Event.Event, declared.event.Steps.Steps, declared.entry.Done.Done, declared.entry.Entry.Entry, declared.entry.Run.Run}
+use Rattle.sound_run.specs.{declared.place.Place.Place, Sound.log_of, Orders.{with_event, with_entry, entry_at, events_on, events_in, IsOrder}}
 use Rattle.sound_run.proofs.OrderLists.{events_append, one_off, one_none, one_on}
 use Rattle.auditor.proofs.Splits.{take_length}
 use Rattle.log_merge.specs.Written.{AreWritten}
 use Rattle.log_merge.proofs.Prefixes.{take_more}
+use Rattle.event_log.specs.declared.entry.Done.TheVariants as done
 
 cut : {X : Type 0} (xs : List X) (i : ℕ) (x : X) → slice_get xs i ≡ Some x → xs ≡ take (suc i) xs ++ drop (suc i) xs
 cut [] i x e = cc

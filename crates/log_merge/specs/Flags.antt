@@ -1,6 +1,5 @@
 -- Flags of the numbers from 0 on, 64 in a word.
-use Rattle.std.specs.Prelude.{◌≡◌, ◌*◌, ◌/◌, ◌%◌, ℕ, List, length, slice_index}
-use Rattle.std.specs.Int.{bit_at}
+use Rattle.std.specs.{Prelude.{◌≡◌, ◌*◌, ◌/◌, ◌%◌, ℕ, List, length, slice_index}, Int.bit_at}
 
 -- so many numbers have a flag
 abbrev pub capacity : List ℕ → ℕ

@@ -1,15 +1,8 @@
 -- Places that come first, and who can come behind them.
-use Rattle.std.specs.Prelude.{◌≡◌, ◌≢◌, ◌≤◌, ℕ, List, length, take, Some, slice_get, slice_index}
-use Rattle.std.specs.List.{AllByRecursion}
-use Rattle.event_log.specs.declared.event.Event.{Event}
-use Rattle.event_log.specs.declared.event.Steps.{Steps}
-use Rattle.event_log.specs.declared.entry.Done.{Done}
+use Rattle.std.specs.{Prelude.{◌≡◌, ◌≢◌, ◌≤◌, ℕ, List, length, take, Some, slice_get, slice_index}, List.AllByRecursion}
+use Rattle.event_log.specs.{declared.event.Event.Event, declared.event.Steps.Steps, declared.entry.Done.Done, declared.entry.Entry.Entry, declared.entry.Run.Run}
+use Rattle.sound_run.specs.{Sound.{transcript_of, log_of, done_on, steps_by, NoneAfterFull}, declared.place.Place.Place, Orders.{numbers, entries_of, entry_at, events_on, NoneBehindFull}}
 use Rattle.event_log.specs.declared.entry.Done.TheVariants as done
-use Rattle.event_log.specs.declared.entry.Entry.{Entry}
-use Rattle.event_log.specs.declared.entry.Run.{Run}
-use Rattle.sound_run.specs.Sound.{transcript_of, log_of, done_on, steps_by, NoneAfterFull}
-use Rattle.sound_run.specs.declared.place.Place.{Place}
-use Rattle.sound_run.specs.Orders.{numbers, entries_of, entry_at, events_on, NoneBehindFull}
 
 module _ {O P C R : Type 0} (run : Run O P C R) where
   -- what the merger needs of a sound run: a CPU's done entries on an object are its events in the log, and none is done

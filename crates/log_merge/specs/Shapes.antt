@@ -1,9 +1,8 @@
 -- The shape of an entry.
 use Rattle.std.specs.Prelude.{Bool, true, false}
-use Rattle.event_log.specs.declared.entry.Done.{Done}
-use Rattle.event_log.specs.declared.entry.Done.TheVariants as done
-use Rattle.event_log.specs.declared.entry.Entry.{Entry}
+use Rattle.event_log.specs.{declared.entry.Done.Done, declared.entry.Entry.Entry}
 use Rattle.log_merge.specs.declared.run_shape.EntryShape.{EntryShape}
+use Rattle.event_log.specs.declared.entry.Done.TheVariants as done
 
 module _ {O P C R : Type 0} where
   -- whether an entry was done

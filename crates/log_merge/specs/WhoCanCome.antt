@@ -1,10 +1,8 @@
 -- Flags that say who can come.
 use Rattle.std.specs.Prelude.{◌≡◌, ◌↔◌, ◌≤◌, ◌<◌, ℕ, List, length, Some, slice_get, slice_index}
-use Rattle.event_log.specs.declared.event.Event.{Event}
-use Rattle.event_log.specs.declared.entry.Run.{Run}
+use Rattle.event_log.specs.{declared.event.Event.Event, declared.entry.Run.Run}
 use Rattle.sound_run.specs.Sound.{log_of}
-use Rattle.log_merge.specs.Flags.{capacity, HasFlag}
-use Rattle.log_merge.specs.Prefixes.{CanCome}
+use Rattle.log_merge.specs.{Flags.{capacity, HasFlag}, Prefixes.CanCome}
 
 module _ {O P C R : Type 0} (run : Run O P C R) where
   -- the CPU's flag is set exactly if its next entry can come

@@ -1,7 +1,6 @@
 //! The text of a cycle.
 
-ghost use Rattle.std.specs.Prelude.{◌≡◌, ◌<◌, ◌++◌, codes, string_bytes, IfOk, OnOk};
-ghost use Rattle.std.specs.List.{flat_map, AllByRecursion};
+ghost use Rattle.std.specs.{Prelude.{◌≡◌, ◌<◌, ◌++◌, codes, string_bytes, IfOk, OnOk}, List.{flat_map, AllByRecursion}};
 ghost use Rattle.log_merge.specs.CycleText.{place_text, cycle_text};
 
 use crate::Place;

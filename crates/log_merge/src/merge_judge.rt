@@ -1,17 +1,11 @@
 //! A record that is judged while it is read, and then merged.
 
-ghost use Rattle.std.specs.Prelude.{◌≡◌, ◌<◌, Err, List, IfOk, IfErr};
-ghost use Rattle.std.specs.List.{AllByRecursion};
-ghost use Rattle.auditor.specs.Faults.{IsFirstFault};
-ghost use Rattle.auditor.specs.VerdictText.{IsNamed};
+ghost use Rattle.std.specs.{Prelude.{◌≡◌, ◌<◌, Err, List, IfOk, IfErr}, List.AllByRecursion};
+ghost use Rattle.auditor.specs.{Faults.IsFirstFault, VerdictText.IsNamed};
 ghost use Rattle.log_merge.specs.MergedRecords.{IsMerged, HasCycle};
 ghost use Rattle.record_lines.specs.Received.{only_head, IsWholeWith};
-ghost use Rattle.records.specs.KernelForm.{no_head, settings_in};
-ghost use Rattle.records.specs.RecordRanges.{RecordFits};
-ghost use Rattle.records.specs.RecordStates.{received_record};
-ghost use Rattle.records.specs.Runs.{opened_of};
-ghost use Rattle.sound_run.specs.Orders.{HasOrder};
-ghost use Rattle.sound_run.specs.Sound.{Sound};
+ghost use Rattle.records.specs.{KernelForm.{no_head, settings_in}, RecordRanges.RecordFits, RecordStates.received_record, Runs.opened_of};
+ghost use Rattle.sound_run.specs.{Orders.HasOrder, Sound.Sound};
 
 use crate::record_merge::{MergeFault, Merged};
 use crate::run_merge::{Merging, merge_run};

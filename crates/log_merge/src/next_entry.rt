@@ -1,8 +1,7 @@
 //! Who can come next.
 
 ghost use Rattle.std.specs.Prelude.{◌≡◌, ◌<◌, ◌≤◌, ℕ, length, slice_index, MatchOption};
-ghost use Rattle.log_merge.specs.FoundCycles.{IsLeastLeft};
-ghost use Rattle.log_merge.specs.Nexts.{IsNext, IsReady};
+ghost use Rattle.log_merge.specs.{FoundCycles.IsLeastLeft, Nexts.{IsNext, IsReady}};
 ghost use Rattle.sound_run.specs.Sound.{transcript_of};
 
 use crate::run_shape::RunShape;

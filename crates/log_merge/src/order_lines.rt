@@ -1,7 +1,6 @@
 //! Writing a merged record.
 
-ghost use Rattle.std.specs.Prelude.{◌≡◌, true, [], ◌∷◌, map, OnOk, OnErr};
-ghost use Rattle.std.specs.Io.KnownBytes.{Appends};
+ghost use Rattle.std.specs.{Prelude.{◌≡◌, true, [], ◌∷◌, map, OnOk, OnErr}, Io.KnownBytes.Appends};
 ghost use Rattle.event_log.specs.Stream.{counted};
 ghost use Rattle.log_merge.specs.MergedText.{entry_words, place_words, merged_text};
 ghost use Rattle.record_lines.specs.Output.{AppendsBeginning, PutsLines};

@@ -1,7 +1,6 @@
 //! A record in one order.
 
-ghost use Rattle.std.specs.Prelude.{◌≡◌, true, OnOk, OnErr};
-ghost use Rattle.std.specs.Io.KnownBytes.{Appends};
+ghost use Rattle.std.specs.{Prelude.{◌≡◌, true, OnOk, OnErr}, Io.KnownBytes.Appends};
 ghost use Rattle.event_log.specs.Stream.{counted};
 ghost use Rattle.log_merge.specs.MergedText.{merged_text};
 ghost use Rattle.record_lines.specs.Output.{AppendsBeginning};

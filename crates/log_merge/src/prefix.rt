@@ -1,10 +1,7 @@
 //! One entry after another, as long as one can come.
 
 ghost use Rattle.std.specs.Prelude.{◌≡◌, ◌<◌, ◌++◌, ◌∷◌, [], ℕ, List, length, slice_index, replicate, IfOk};
-ghost use Rattle.log_merge.specs.Prefixes.{IsMatched, IsPrefix, CanCome};
-ghost use Rattle.log_merge.specs.Least.{TakesTheLeast};
-ghost use Rattle.log_merge.specs.Nexts.{IsReady, IsWhole, left_in, IsStuck};
-ghost use Rattle.log_merge.specs.WhoCanCome.{SaysWhoCanCome};
+ghost use Rattle.log_merge.specs.{Prefixes.{IsMatched, IsPrefix, CanCome}, Least.TakesTheLeast, Nexts.{IsReady, IsWhole, left_in, IsStuck}, WhoCanCome.SaysWhoCanCome};
 
 use crate::number_flags::Flags;
 use crate::ready_cpus::{flags_of, look, look_behind};

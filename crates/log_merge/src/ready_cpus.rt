@@ -1,10 +1,7 @@
 //! Looking at who can come.
 
 ghost use Rattle.std.specs.Prelude.{◌≡◌, ◌≢◌, ◌<◌, ◌≤◌, ◌↔◌, ℕ, length, slice_index, IfOk};
-ghost use Rattle.log_merge.specs.Flags.{capacity, HasFlag};
-ghost use Rattle.log_merge.specs.Nexts.{IsReady};
-ghost use Rattle.log_merge.specs.Prefixes.{IsMatched};
-ghost use Rattle.log_merge.specs.WhoCanCome.{IsRight, SaysWhoCanCome, MayWake};
+ghost use Rattle.log_merge.specs.{Flags.{capacity, HasFlag}, Nexts.IsReady, Prefixes.IsMatched, WhoCanCome.{IsRight, SaysWhoCanCome, MayWake}};
 
 use crate::next_entry::{Next, next_of};
 use crate::number_flags::Flags;

@@ -1,13 +1,10 @@
 //! A record's entries in one order.
 
-ghost use Rattle.std.specs.Prelude.{◌≡◌, ◌<◌, Err, List, IfOk, IfErr};
-ghost use Rattle.std.specs.List.{AllByRecursion};
-ghost use Rattle.auditor.specs.Faults.{IsFirstFault};
-ghost use Rattle.auditor.specs.VerdictText.{IsNamed};
+ghost use Rattle.std.specs.{Prelude.{◌≡◌, ◌<◌, Err, List, IfOk, IfErr}, List.AllByRecursion};
+ghost use Rattle.auditor.specs.{Faults.IsFirstFault, VerdictText.IsNamed};
 ghost use Rattle.log_merge.specs.MergedRecords.{IsMerged, HasCycle};
 ghost use Rattle.records.specs.Runs.{opened_of};
-ghost use Rattle.sound_run.specs.Orders.{HasOrder};
-ghost use Rattle.sound_run.specs.Sound.{Sound};
+ghost use Rattle.sound_run.specs.{Orders.HasOrder, Sound.Sound};
 
 use crate::run_merge::{Merging, merge_run};
 use auditor::{Fault, Verdict, audit};

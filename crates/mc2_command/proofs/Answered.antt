@@ -1,28 +1,18 @@
 -- What holds of an answer, and of a refusal.
 use Rattle.std.proofs.Common.{◌≡◌, ◌⊎◌, ◌≤◌, ℕ, Err, List, Option, String, Global, string_bytes, inl, inr, refl, sym, ◌∙◌, subst, ap, arith}
 use Rattle.kernel_object.specs.contracts.object.KernelObjectSeqObject.TheImpl.{ghosts as kernel}
-use Rattle.auditor.specs.Faults.{IsFirstFault}
-use Rattle.auditor.specs.declared.fault.Fault.{Fault}
+use Rattle.auditor.specs.{Faults.IsFirstFault, declared.fault.Fault.Fault}
 use Rattle.event_log.specs.Stream.{counted}
-use Rattle.log_merge.specs.MergedRecords.{HasCycle}
-use Rattle.log_merge.specs.declared.record_merge.MergeFault.{MergeFault}
-use Rattle.log_merge.specs.declared.record_merge.MergeFault.TheVariants as merging
-use Rattle.program.specs.Inputs.{bytes_of}
-use Rattle.program.proofs.Refused as causes
-use Rattle.program.specs.Texts.{SpellsRecordOf}
-use Rattle.program.specs.declared.refusal.Refusal.{Refusal}
-use Rattle.program.specs.declared.refusal.Refusal.TheVariants as refusal
-use Rattle.records.specs.RecordRanges.{Record}
-use Rattle.records.specs.Runs.{opened_of}
+use Rattle.log_merge.specs.{MergedRecords.HasCycle, declared.record_merge.MergeFault.MergeFault}
+use Rattle.program.specs.{Inputs.bytes_of, Texts.SpellsRecordOf, declared.refusal.Refusal.Refusal}
+use Rattle.records.specs.{RecordRanges.Record, Runs.opened_of}
 use Rattle.sound_run.specs.declared.place.Place.{Place}
-use Rattle.mc2_command.specs.declared.arguments.Arguments.{Arguments}
+use Rattle.mc2_command.specs.{declared.arguments.Arguments.Arguments, declared.fault.CommandFault.CommandFault, Answers.{AnswersFor, AnswersWith, FindsNoOrder, RefusesCycle, RefusesUnsound}, Asked.Asks, Faults.{status_of, reports_read_failed}, Refused.{IsNoOrder, Refuses, RefusesMerge, RefusesOrder, RefusesTo}}
+use Rattle.log_merge.specs.declared.record_merge.MergeFault.TheVariants as merging
+use Rattle.program.proofs.Refused as causes
+use Rattle.program.specs.declared.refusal.Refusal.TheVariants as refusal
 use Rattle.mc2_command.specs.declared.arguments.Arguments.TheVariants as forms
-use Rattle.mc2_command.specs.declared.fault.CommandFault.{CommandFault}
 use Rattle.mc2_command.specs.declared.fault.CommandFault.TheVariants as fault
-use Rattle.mc2_command.specs.Answers.{AnswersFor, AnswersWith, FindsNoOrder, RefusesCycle, RefusesUnsound}
-use Rattle.mc2_command.specs.Asked.{Asks}
-use Rattle.mc2_command.specs.Faults.{status_of, reports_read_failed}
-use Rattle.mc2_command.specs.Refused.{IsNoOrder, Refuses, RefusesMerge, RefusesOrder, RefusesTo}
 
 -- a text that goes with what the words ask for goes with the words
 pub with_words : (held : Option (List ℕ) → Option (List ℕ)) (words : List (String Global)) (a : Arguments) (status : ℕ) (text : List ℕ)

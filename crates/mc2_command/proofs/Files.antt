@@ -1,10 +1,8 @@
 -- Which files words can't have.
 use Rattle.std.proofs.Common.{ap, arith, slice_index_or, ◌≡◌, ℕ, List, Option, codes, sym}
 use Rattle.clap.specs.Words.{Row, Text, first_of}
-use Rattle.program.specs.Inputs.{bytes_of}
-use Rattle.mc2_command.specs.Asked.{AreFiles, command_name}
-use Rattle.program.specs.FileNames.{IsFile, IsWanted}
-use Rattle.mc2_command.specs.declared.arguments.Arguments.{Arguments}
+use Rattle.program.specs.{Inputs.bytes_of, FileNames.{IsFile, IsWanted}}
+use Rattle.mc2_command.specs.{Asked.{AreFiles, command_name}, declared.arguments.Arguments.Arguments}
 use Rattle.mc2_command.specs.declared.arguments.Arguments.TheVariants as asked
 
 -- a byte of a word

@@ -1,17 +1,12 @@
 -- Words that are a form ask for what the form says.
-use Rattle.std.proofs.Common.{inl, inr, ◌∙◌, sym, subst, List, [], ◌∷◌, map, codes, refl, Option, Some, None, String, Global, string_bytes}
-use Rattle.std.proofs.lemmas.Option.{slice_get-map}
+use Rattle.std.proofs.{Common.{inl, inr, ◌∙◌, sym, subst, List, [], ◌∷◌, map, codes, refl, Option, Some, None, String, Global, string_bytes}, lemmas.Option.slice_get-map}
 use Rattle.clap.specs.Words.{Row, Text, first_of, subcommand_of}
 use Rattle.clap.proofs.WalkLemmas.{list_any-map}
-use Rattle.mc2_command.specs.Asked.{AreFiles, Asks, command_name, is_no_form}
-use Rattle.program.specs.Inputs.{bytes_of}
-use Rattle.mc2_command.specs.Forms.{forms}
-use Rattle.program.specs.FileNames.{IsFile, IsWanted}
-use Rattle.mc2_command.specs.Table.{AreNamed, IsForm, IsNamed, IsRecordForm, IsRunForm, IsSimForm}
-use Rattle.mc2_command.specs.declared.arguments.Arguments.{Arguments}
+use Rattle.mc2_command.specs.{Asked.{AreFiles, Asks, command_name, is_no_form}, Forms.forms, Table.{AreNamed, IsForm, IsNamed, IsRecordForm, IsRunForm, IsSimForm}, declared.arguments.Arguments.Arguments}
+use Rattle.program.specs.{Inputs.bytes_of, FileNames.{IsFile, IsWanted}}
+use Rattle.mc2_command.proofs.TableTaken.{Taken, rows_in}
 use Rattle.mc2_command.specs.declared.arguments.Arguments.TheVariants as asked
 use Rattle.mc2_command.proofs.TableTaken as table
-use Rattle.mc2_command.proofs.TableTaken.{Taken, rows_in}
 
 -- what `run` finds
 abbrev RunFiles : Option Text → Option Text → List Row → Type 0

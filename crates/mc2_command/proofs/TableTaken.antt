@@ -1,11 +1,9 @@
 -- The words of each form are taken, and its files are found.
-use Rattle.std.proofs.Common.{◌≡◌, ◌==◌, sym, ℕ, false, List, [], ◌∷◌, codes, refl, Option, Some, None, slice_get}
-use Rattle.std.proofs.lemmas.Bool.{eqb-false, ne_eqb}
+use Rattle.std.proofs.{Common.{◌≡◌, ◌==◌, sym, ℕ, false, List, [], ◌∷◌, codes, refl, Option, Some, None, slice_get}, lemmas.Bool.{eqb-false, ne_eqb}}
 use Rattle.std.specs.List.{list_any}
 use Rattle.clap.specs.Words.{Row, Text, fault_of, first_of, subcommand_of}
 use Rattle.clap.proofs.OnLiterals.{clap_on_literals}
-use Rattle.mc2_command.specs.Asked.{is_no_form}
-use Rattle.mc2_command.specs.Forms.{forms}
+use Rattle.mc2_command.specs.{Asked.is_no_form, Forms.forms}
 
 -- the name of a file is a word that forms may have
 not_in_form : (b : ℕ) (n : Text) → (b == 45) ≡ false → is_no_form (b ∷ n) ≡ false

@@ -1,35 +1,17 @@
 -- What the program prints by the words: the record of a run or of a simulation, a record that was read, and its report,
 -- verdict or order.
-use Rattle.std.specs.Prelude.{◌≡◌, ◌⊎◌, ℕ, List, Option, Some, None, String}
-use Rattle.std.specs.Borrow.{Bor}
-use Rattle.std.specs.Global.{Global}
-use Rattle.kernel_object.specs.contracts.object.KernelObjectSeqObject.TheImpl.{ghosts as kernel}
-use Rattle.kernel_object.specs.KernelTypes.{KernelTodo}
-use Rattle.auditor.specs.declared.fault.Fault.{Fault}
-use Rattle.auditor.specs.declared.fault.Verdict.{Verdict}
+use Rattle.std.specs.{Prelude.{◌≡◌, ◌⊎◌, ℕ, List, Option, Some, None, String}, Borrow.Bor, Global.Global}
+use Rattle.kernel_object.specs.{contracts.object.KernelObjectSeqObject.TheImpl.{ghosts as kernel}, KernelTypes.KernelTodo}
+use Rattle.auditor.specs.{declared.fault.Fault.Fault, declared.fault.Verdict.Verdict, Audits.IsVerdict, Faults.IsFirstFault, VerdictText.{fault_text, verdict_text}}
+use Rattle.cpu_worker.specs.{Report.report_text, Simulation.simulated}
+use Rattle.sound_run.specs.{declared.place.Place.Place, Orders.HasOrder, Sound.Sound}
+use Rattle.log_merge.specs.{CycleText.cycle_text, MergedRecords.{IsMerged, HasCycle}, MergedText.merged_text}
+use Rattle.program.specs.{Inputs.{bytes_of, Reads}, Texts.{SpellsRecordOf, SpellsSettingsOf}}
+use Rattle.records.specs.{RecordFaults.text_of, RecordRanges.Record, Runs.{opened_of, AsksFor}, Settings.{Settings, built_in_settings}}
+use Rattle.scripts.specs.{ScheduleText.IsSchedule, ScriptText.AreScripts}
+use Rattle.mc2_command.specs.{declared.arguments.Arguments.Arguments, Asked.Asks}
 use Rattle.auditor.specs.declared.fault.Verdict.TheVariants as verdicts
-use Rattle.auditor.specs.Audits.{IsVerdict}
-use Rattle.auditor.specs.Faults.{IsFirstFault}
-use Rattle.auditor.specs.VerdictText.{fault_text, verdict_text}
-use Rattle.cpu_worker.specs.Report.{report_text}
-use Rattle.cpu_worker.specs.Simulation.{simulated}
-use Rattle.sound_run.specs.declared.place.Place.{Place}
-use Rattle.log_merge.specs.CycleText.{cycle_text}
-use Rattle.log_merge.specs.MergedRecords.{IsMerged, HasCycle}
-use Rattle.log_merge.specs.MergedText.{merged_text}
-use Rattle.sound_run.specs.Orders.{HasOrder}
-use Rattle.sound_run.specs.Sound.{Sound}
-use Rattle.program.specs.Inputs.{bytes_of, Reads}
-use Rattle.program.specs.Texts.{SpellsRecordOf, SpellsSettingsOf}
-use Rattle.records.specs.RecordFaults.{text_of}
-use Rattle.records.specs.RecordRanges.{Record}
-use Rattle.records.specs.Runs.{opened_of, AsksFor}
-use Rattle.scripts.specs.ScheduleText.{IsSchedule}
-use Rattle.scripts.specs.ScriptText.{AreScripts}
-use Rattle.records.specs.Settings.{Settings, built_in_settings}
-use Rattle.mc2_command.specs.declared.arguments.Arguments.{Arguments}
 use Rattle.mc2_command.specs.declared.arguments.Arguments.TheVariants as forms
-use Rattle.mc2_command.specs.Asked.{Asks}
 
 -- a sound run of the scripts that the text spells, each CPU's whole
 pub record IsRunOf (settings : Settings) (text : List ℕ) (r : Record) : Type 0 where

@@ -1,13 +1,8 @@
 -- What the words ask for, by the table of forms: which command, and which files.
-use Rattle.std.specs.Prelude.{◌≡◌, ◌||◌, ℕ, Bool, false, List, [], nat_eq, Some, map, slice_get, codes, option_map, String, string_bytes}
-use Rattle.std.specs.Global.{Global}
-use Rattle.std.specs.List.{list_any, starts_with}
-use Rattle.std.specs.Str.{bytes_eq}
+use Rattle.std.specs.{Prelude.{◌≡◌, ◌||◌, ℕ, Bool, false, List, [], nat_eq, Some, map, slice_get, codes, option_map, String, string_bytes}, Global.Global, List.{list_any, starts_with}, Str.bytes_eq}
 use Rattle.clap.specs.Words.{Row, fault_of, first_of, subcommand_of}
-use Rattle.program.specs.FileNames.{IsFile, IsWanted}
-use Rattle.program.specs.Inputs.{bytes_of}
-use Rattle.mc2_command.specs.Forms.{forms}
-use Rattle.mc2_command.specs.declared.arguments.Arguments.{Arguments}
+use Rattle.program.specs.{FileNames.{IsFile, IsWanted}, Inputs.bytes_of}
+use Rattle.mc2_command.specs.{Forms.forms, declared.arguments.Arguments.Arguments}
 use Rattle.mc2_command.specs.declared.arguments.Arguments.TheVariants as asked
 
 -- the name of each command

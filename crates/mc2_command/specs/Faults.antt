@@ -1,11 +1,11 @@
 -- Which refusal of the program each cause becomes, and the status that it ends with.
 use Rattle.std.specs.Prelude.{ℕ, Bool, false, Result, Ok, Err}
 use Rattle.cpu_worker.specs.declared.threads.RunFault.{RunFault}
+use Rattle.program.specs.declared.refusal.Refusal.{Refusal}
+use Rattle.mc2_command.specs.declared.fault.CommandFault.{CommandFault}
 use Rattle.cpu_worker.specs.declared.threads.RunFault.TheVariants as run
 use Rattle.program.specs.Refusals as common
-use Rattle.program.specs.declared.refusal.Refusal.{Refusal}
 use Rattle.program.specs.declared.refusal.Refusal.TheVariants as refusal
-use Rattle.mc2_command.specs.declared.fault.CommandFault.{CommandFault}
 use Rattle.mc2_command.specs.declared.fault.CommandFault.TheVariants as fault
 
 abbrev pub of_refusal : Refusal → CommandFault

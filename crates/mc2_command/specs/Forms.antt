@@ -1,8 +1,6 @@
 -- All forms of words that there are, as the reader of words (`clap`) receives them.
 use Rattle.std.specs.Prelude.{List, [], ◌∷◌, Some, true, false, codes}
-use Rattle.clap.specs.Words.{App, Rule, Shape, Text, new_rule}
-use Rattle.clap.specs.Simple.{new_shape}
-use Rattle.clap.specs.declared.builder.action.ArgAction.TheVariants.{Set}
+use Rattle.clap.specs.{Words.{App, Rule, Shape, Text, new_rule}, Simple.new_shape, declared.builder.action.ArgAction.TheVariants.Set}
 
 -- a file at a place of its own, which may be left out
 abbrev pub place : Text → Rule

@@ -1,10 +1,10 @@
 -- The text of an answer, and its status.
 use Rattle.std.specs.Prelude.{ℕ, List, string_bytes}
 use Rattle.auditor.specs.declared.fault.Verdict.{Verdict}
-use Rattle.auditor.specs.declared.fault.Verdict.TheVariants as verdicts
 use Rattle.log_merge.specs.MergedText.{merged_text}
 use Rattle.records.specs.RecordFaults.{text_of}
 use Rattle.mc2_command.specs.declared.commands.Answer.{Answer}
+use Rattle.auditor.specs.declared.fault.Verdict.TheVariants as verdicts
 use Rattle.mc2_command.specs.declared.commands.Answer.TheVariants as answers
 
 -- a record is printed as its text, an order as its lines, and a report or a verdict as it is

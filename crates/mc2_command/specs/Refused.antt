@@ -1,23 +1,15 @@
 -- Why a command refuses what its words ask for: for which cause, and what was read before.
-use Rattle.std.specs.Prelude.{◌≡◌, ◌⊎◌, ◌<◌, ℕ, List, Option, Some, None, String, string_bytes}
-use Rattle.std.specs.Global.{Global}
+use Rattle.std.specs.{Prelude.{◌≡◌, ◌⊎◌, ◌<◌, ℕ, List, Option, Some, None, String, string_bytes}, Global.Global}
 use Rattle.kernel_object.specs.KernelTypes.{KernelTodo}
 use Rattle.auditor.specs.VerdictText.{fault_text}
-use Rattle.log_merge.specs.CycleText.{cycle_text}
-use Rattle.log_merge.specs.declared.record_merge.MergeFault.{MergeFault}
-use Rattle.log_merge.specs.declared.record_merge.MergeFault.TheVariants as merging
-use Rattle.program.specs.Inputs.{bytes_of}
-use Rattle.program.specs.Texts.{RefusesRecord, RefusesSchedule, RefusesScripts, RefusesSettings, SpellsScriptsOf}
-use Rattle.program.specs.declared.refusal.Refusal.{Refusal}
-use Rattle.program.specs.declared.refusal.Refusal.TheVariants as refusal
+use Rattle.log_merge.specs.{CycleText.cycle_text, declared.record_merge.MergeFault.MergeFault}
+use Rattle.program.specs.{Inputs.bytes_of, Texts.{RefusesRecord, RefusesSchedule, RefusesScripts, RefusesSettings, SpellsScriptsOf}, declared.refusal.Refusal.Refusal}
 use Rattle.records.specs.Settings.{Settings}
-use Rattle.mc2_command.specs.declared.arguments.Arguments.{Arguments}
+use Rattle.mc2_command.specs.{declared.arguments.Arguments.Arguments, declared.fault.CommandFault.CommandFault, Answers.{ReadsSettings, RefusesCycle, RefusesUnsound}, Asked.{AskNothing, Asks}, Faults.status_of}
+use Rattle.log_merge.specs.declared.record_merge.MergeFault.TheVariants as merging
+use Rattle.program.specs.declared.refusal.Refusal.TheVariants as refusal
 use Rattle.mc2_command.specs.declared.arguments.Arguments.TheVariants as forms
-use Rattle.mc2_command.specs.declared.fault.CommandFault.{CommandFault}
 use Rattle.mc2_command.specs.declared.fault.CommandFault.TheVariants as fault
-use Rattle.mc2_command.specs.Answers.{ReadsSettings, RefusesCycle, RefusesUnsound}
-use Rattle.mc2_command.specs.Asked.{AskNothing, Asks}
-use Rattle.mc2_command.specs.Faults.{status_of}
 
 -- memory ran out
 abbrev pub IsMemory : CommandFault → Type 0

@@ -1,8 +1,7 @@
 -- The forms of words, in plain words.
 use Rattle.std.specs.Prelude.{◌≡◌, ◌⊎◌, [], ◌∷◌, false, List, Option, Some, None, codes, IfSome}
 use Rattle.clap.specs.Words.{Text}
-use Rattle.program.specs.Inputs.{bytes_of}
-use Rattle.program.specs.FileNames.{is_no_name}
+use Rattle.program.specs.{Inputs.bytes_of, FileNames.is_no_name}
 use Rattle.mc2_command.specs.declared.arguments.Arguments.{Arguments}
 use Rattle.mc2_command.specs.declared.arguments.Arguments.TheVariants as asked
 

@@ -1,18 +1,13 @@
 //! What the program answers: the record of a run or of a simulation, a record that is read, and the report on it, its verdict
 //! or its order.
 
-ghost use Rattle.std.specs.Prelude.{◌≡◌, ◌<◌, List, Some, IfOk, IfErr, string_bytes};
-ghost use Rattle.std.specs.List.{AllByRecursion};
-ghost use Rattle.auditor.specs.VerdictText.{IsNamed};
-ghost use Rattle.auditor.specs.declared.fault.Fault.{Fault};
+ghost use Rattle.std.specs.{Prelude.{◌≡◌, ◌<◌, List, Some, IfOk, IfErr, string_bytes}, List.AllByRecursion};
+ghost use Rattle.auditor.specs.{VerdictText.IsNamed, declared.fault.Fault.Fault};
 ghost use Rattle.records.specs.declared.record.TheConstants.{MOST_ENTRIES};
 ghost use Rattle.sound_run.specs.declared.place.Place.{Place};
-ghost use Rattle.mc2_command.specs.Answers.{AnswersRun, AnswersSim, AnswersReport, AnswersAudit, AnswersMerge};
+ghost use Rattle.mc2_command.specs.{Answers.{AnswersRun, AnswersSim, AnswersReport, AnswersAudit, AnswersMerge}, Faults.reports_read_failed, Refused.{IsCommon, IsNoOrder, RefusesMerge, RefusesRun, RefusesSim}};
 ghost use Rattle.event_log.specs.Stream.{counted};
-ghost use Rattle.program.specs.Inputs.{bytes_of, says_read_failed};
-ghost use Rattle.program.specs.Texts.{RefusesRecord, SpellsRecordOf};
-ghost use Rattle.mc2_command.specs.Faults.{reports_read_failed};
-ghost use Rattle.mc2_command.specs.Refused.{IsCommon, IsNoOrder, RefusesMerge, RefusesRun, RefusesSim};
+ghost use Rattle.program.specs.{Inputs.{bytes_of, says_read_failed}, Texts.{RefusesRecord, SpellsRecordOf}};
 
 use crate::fault::CommandFault;
 use crate::input::settings_of;

@@ -1,10 +1,8 @@
 //! The program's words.
 
-ghost use Rattle.std.specs.Prelude.{◌≡◌, ◌⊎◌, [], false, IfErr, IfOk, codes, map, string_bytes};
-ghost use Rattle.std.specs.List.{list_any};
+ghost use Rattle.std.specs.{Prelude.{◌≡◌, ◌⊎◌, [], false, IfErr, IfOk, codes, map, string_bytes}, List.list_any};
 ghost use Rattle.clap.specs.Words.{fault_of, found_of, kind_of, rows_of, subcommand_of, subcommand_rows_of};
-ghost use Rattle.mc2_command.specs.Asked.{AreFiles, AskNothing, Asks, command_name, is_no_form};
-ghost use Rattle.mc2_command.specs.Forms.{forms};
+ghost use Rattle.mc2_command.specs.{Asked.{AreFiles, AskNothing, Asks, command_name, is_no_form}, Forms.forms};
 
 use crate::table::forms;
 use clap::error::ErrorKind;

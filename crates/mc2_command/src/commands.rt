@@ -1,12 +1,8 @@
 //! A whole command: the words after the program's name in, a status out.
 
-ghost use Rattle.std.specs.Prelude.{◌≡◌, ◌⊎◌, ◌≤◌, true, OnOk, OnErr, IfOk, IfErr};
-ghost use Rattle.std.specs.Io.KnownBytes.{Appends};
+ghost use Rattle.std.specs.{Prelude.{◌≡◌, ◌⊎◌, ◌≤◌, true, OnOk, OnErr, IfOk, IfErr}, Io.KnownBytes.Appends};
 ghost use Rattle.event_log.specs.Stream.{counted};
-ghost use Rattle.mc2_command.specs.Answers.{Answers, AnswersAny, AnswersFor, AnswersWith, Finds, FindsNoOrder};
-ghost use Rattle.mc2_command.specs.Printed.{printed, status_with};
-ghost use Rattle.mc2_command.specs.Faults.{status_of, reports_read_failed};
-ghost use Rattle.mc2_command.specs.Refused.{Refuses, RefusesTo, RefusesWith};
+ghost use Rattle.mc2_command.specs.{Answers.{Answers, AnswersAny, AnswersFor, AnswersWith, Finds, FindsNoOrder}, Printed.{printed, status_with}, Faults.{status_of, reports_read_failed}, Refused.{Refuses, RefusesTo, RefusesWith}};
 ghost use Rattle.program.specs.Printing.{Prints, PrintsSome};
 ghost use Rattle.record_lines.specs.Output.{AppendsBeginning};
 

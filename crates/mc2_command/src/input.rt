@@ -3,8 +3,7 @@
 ghost use Rattle.std.specs.Prelude.{◌≡◌, ℕ, List, Option, IfErr, IfOk};
 ghost use Rattle.event_log.specs.Stream.{counted};
 ghost use Rattle.program.specs.Inputs.{bytes_of, says_read_failed};
-ghost use Rattle.mc2_command.specs.Answers.{ReadsSettings};
-ghost use Rattle.mc2_command.specs.Refused.{RefusesSettingsOf};
+ghost use Rattle.mc2_command.specs.{Answers.ReadsSettings, Refused.RefusesSettingsOf};
 
 use program::{Inputs, Refusal, read_settings};
 use scripts::Settings;

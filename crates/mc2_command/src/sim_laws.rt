@@ -1,13 +1,8 @@
 //! What the program's answers say of each other, on a function without effect.
 
-ghost use Rattle.std.specs.Prelude.{◌≡◌, ℕ, List, Option, Some, String, map, string_bytes};
-ghost use Rattle.std.specs.Global.{Global};
-ghost use Rattle.mc2_command.specs.Asked.{Asks};
-ghost use Rattle.mc2_command.specs.Table.{AreNamed, IsForm};
-ghost use Rattle.mc2_command.specs.declared.arguments.Arguments.{Arguments};
-ghost use Rattle.mc2_command.specs.Answers.{AnswersSim, RefusesCycle, RefusesUnsound};
-ghost use Rattle.records.specs.RecordFaults.{text_of};
-ghost use Rattle.records.specs.RecordRanges.{RecordFits, Record as Shown};
+ghost use Rattle.std.specs.{Prelude.{◌≡◌, ℕ, List, Option, Some, String, map, string_bytes}, Global.Global};
+ghost use Rattle.mc2_command.specs.{Asked.Asks, Table.{AreNamed, IsForm}, declared.arguments.Arguments.Arguments, Answers.{AnswersSim, RefusesCycle, RefusesUnsound}};
+ghost use Rattle.records.specs.{RecordFaults.text_of, RecordRanges.{RecordFits, Record as Shown}};
 
 use auditor::sound_has_no_fault;
 use scripts::{KernelObject, no_text_begins_another};

@@ -3,34 +3,14 @@ use Rattle.std.proofs.Common.{◌≡◌, ℕ, ◌+◌, ◌==◌, Bool, true, fal
 use mathlib.Core.Option.{none}
 use prog.Atomic.{either}
 use Rattle.atomic_table.specs.Table.{step, rest}
-use Rattle.event_log.specs.declared.object.SeqObject.{Ghosts}
-use Rattle.event_log.specs.declared.event.Event.{Event}
-use Rattle.event_log.specs.Distinct.{has}
-use Rattle.event_log.specs.History.{History}
-use Rattle.word_rule.specs.declared.machine.step_done.StepDone.{StepDone}
-use Rattle.word_rule.specs.declared.machine.step_done.StepDone.TheVariants as steps
-use Rattle.word_rule.specs.declared.lock_kind.Stage.{Stage}
-use Rattle.word_rule.specs.declared.view.TraceStep.{TraceStep}
-use Rattle.word_rule.specs.Locks.{holding}
-use Rattle.word_rule.specs.LockRuns.{Extends}
-use Rattle.word_rule.specs.OneHold.{silently, Releases}
-use Rattle.word_rule.specs.StepKinds.{arrives, ends_hold, is_look}
-use Rattle.word_rule.specs.declared.lock_kind.Stage.TheVariants.{Idle, Mcs, Trying}
-use Rattle.word_rule.specs.declared.lock_kind.McsStage.TheVariants.{Ready, Behind, Armed, Waiting, Holding, Alone, Leaving, Passing}
-use Rattle.word_rule.specs.Cell.{Cell, HoldView, Grows}
+use Rattle.event_log.specs.{declared.object.SeqObject.Ghosts, declared.event.Event.Event, Distinct.has, History.History}
+use Rattle.word_rule.specs.{declared.machine.step_done.StepDone.StepDone, declared.lock_kind.Stage.Stage, declared.view.TraceStep.TraceStep, Locks.holding, LockRuns.Extends, OneHold.{silently, Releases}, StepKinds.{arrives, ends_hold, is_look}, declared.lock_kind.Stage.TheVariants.{Idle, Mcs, Trying}, declared.lock_kind.McsStage.TheVariants.{Ready, Behind, Armed, Waiting, Holding, Alone, Leaving, Passing}, Cell.{Cell, HoldView, Grows}, Rule.Definition.{IsTurn, IsTry, IsPreparing}, CallerState.{CallerState, Moves}, Rule.CellInvariant.{Caller, EachFrom}, Rule.Seats.{Seat, shown, at, moved_on, taken_in, keeping, letting}, Rule.Announced.{IsElse, Learns, Goes}, Rule.Callers.{hold_view_of, state_with, IsWithout, IsWith}}
 use Rattle.sound_run.specs.declared.lock_kind.LockKind.{LockKind}
-use Rattle.sound_run.specs.declared.lock_kind.LockKind.TheVariants as kinds
-use Rattle.word_rule.specs.Rule.Definition.{IsTurn, IsTry, IsPreparing}
-use Rattle.word_rule.specs.CallerState.{CallerState, Moves}
-use Rattle.word_rule.specs.Rule.CellInvariant.{Caller, EachFrom}
-use Rattle.word_rule.specs.Rule.Seats.{Seat, shown, at, moved_on, taken_in, keeping, letting}
-use Rattle.word_rule.specs.Rule.Announced.{IsElse, Learns, Goes}
-use Rattle.word_rule.specs.Rule.Callers.{hold_view_of, state_with, IsWithout, IsWith}
-use Rattle.word_rule.proofs.Known.{AllIdle, idle_alone}
-use Rattle.word_rule.proofs.OneHolds.{HeldSince, since_more, count_append}
-use Rattle.mcs_lock.specs.Seen.{IsSeen}
-use Rattle.mcs_lock.specs.Steps.{clears, prepares, arms, links, Names, enters, tries, looks, sees, sees_again, empties, passes}
+use Rattle.word_rule.proofs.{Known.{AllIdle, idle_alone}, OneHolds.{HeldSince, since_more, count_append}}
+use Rattle.mcs_lock.specs.{Seen.IsSeen, Steps.{clears, prepares, arms, links, Names, enters, tries, looks, sees, sees_again, empties, passes}}
 use Rattle.mcs_lock.proofs.McsRule.{clearing, preparing, entering, trying, arming, linking, looking, seeing, seeing_again, finding, emptying, passing}
+use Rattle.word_rule.specs.declared.machine.step_done.StepDone.TheVariants as steps
+use Rattle.sound_run.specs.declared.lock_kind.LockKind.TheVariants as kinds
 
 -- the words are those of the number that the code has, at a cell of the MCS lock
 module _ {O P C R : Type 0} (meaning : Ghosts O P C R) (h : Cell O P C R) (kind : h.kind ≡ kinds.Mcs) (slots id cpu : ℕ) where

@@ -1,53 +1,20 @@
 -- Each step of an MCS lock is a turn of the lock's definition, and reports its play.
-use Rattle.std.proofs.Common.{◌≡◌, ◌≢◌, ℕ, ◌+◌, ◌||◌, ◌==◌, true, false, true≢false, List, [], ◌∷◌, get_or, set, refl, sym, ap, ◌∙◌, subst, arith, Option, Some, None}
-use Rattle.std.proofs.lemmas.Bool.Decides.{nat_tests}
-use mathlib.Core.Logic.{dite}
-use mathlib.Core.Option.{some, none}
+use Rattle.std.proofs.{Common.{◌≡◌, ◌≢◌, ℕ, ◌+◌, ◌||◌, ◌==◌, true, false, true≢false, List, [], ◌∷◌, get_or, set, refl, sym, ap, ◌∙◌, subst, arith, Option, Some, None}, lemmas.Bool.Decides.nat_tests}
+use mathlib.{Core.Logic.dite, Core.Option.{some, none}}
 use native.Mathlib.Decide.{ℕ_discrete}
 use prog.Atomic.{either}
-use lib.ListN.{get_elem?}
-use lib.Seq.{set-get_or}
+use lib.{ListN.get_elem?, Seq.set-get_or}
 use Rattle.atomic_table.specs.Table.{step}
 use Rattle.atomic_table.proofs.Lists.{exchanged}
-use Rattle.event_log.specs.declared.object.SeqObject.{Ghosts}
-use Rattle.event_log.specs.Distinct.{has}
-use Rattle.event_log.specs.History.{History}
+use Rattle.event_log.specs.{declared.object.SeqObject.Ghosts, Distinct.has, History.History}
+use Rattle.word_rule.specs.{declared.machine.step_done.StepDone.StepDone, declared.lock_kind.Stage.Stage, declared.lock_kind.Stage.TheVariants.{Idle, Mcs, Trying}, declared.lock_kind.McsStage.TheVariants.{Ready, Behind, Armed, Waiting, Holding, Alone, Leaving, Passing}, Cell.{Cell, Lawful, stored}, Rule.CellInvariant.{Caller, EachFrom, SeatView, Table, CallerInvariant, CellInvariant}, Rule.Definition.{IsTurn, IsTry, IsPreparing}, Line.{going, taking}, LockDefinition.IsTied, Locks.{holding, Lock, attempt, lock_of, prepare, turn}, Mcs.Acquire.{clear, enter, arm, link}, Mcs.Definition.mcs_lock, Mcs.Release.{see, pass}, Mcs.State.{McsLock, follower}, Mcs.Try.{prepare as prepared}, Rule.Seats.Seat, Rule.Announced.{any_has, Lacks, IsElse, Goes}, Rule.Callers.AddedBy}
+use Rattle.word_rule.proofs.{CallerSteps.{Makes, by_turn, else_one, gets_by, gets_it, gives_back, goes_by, goes_on, lacks_one}, Known.AllIdle, Lists.has_at, LockInterface.is_trying, LockLaws.{idle_outside, in_cell}, LockStates.stands_at, Mcs.Erased.{Alike, erased_going, erased_prepared, unprepared, prepared_again}, Mcs.Tries.clears_and_enters, Mcs.Turns.tried_by, Moves.{moved_same, stays_put}, RuleStates.{StandsIn, by_caller, rule_of, tried_lock}, Stays.{turned_twice, not_turned}}
+use Rattle.mcs_lock.specs.Steps.{clears, prepares, arms, links, EnterOutcome, enters, TryOutcome, tries, LookOutcome, looks, SeeOutcome, sees, SeeAgainOutcome, sees_again, EmptyOutcome, empties, passes}
 use Rattle.sound_run.specs.declared.lock_kind.LockKind.TheVariants as kinds
-use Rattle.word_rule.specs.declared.machine.step_done.StepDone.{StepDone}
 use Rattle.word_rule.specs.declared.machine.step_done.StepDone.TheVariants as steps
-use Rattle.word_rule.specs.declared.lock_kind.Stage.{Stage}
-use Rattle.word_rule.specs.declared.lock_kind.Stage.TheVariants.{Idle, Mcs, Trying}
-use Rattle.word_rule.specs.declared.lock_kind.McsStage.TheVariants.{Ready, Behind, Armed, Waiting, Holding, Alone, Leaving, Passing}
-use Rattle.word_rule.specs.Cell.{Cell, Lawful, stored}
-use Rattle.word_rule.specs.Rule.CellInvariant.{Caller, EachFrom, SeatView, Table, CallerInvariant, CellInvariant}
-use Rattle.word_rule.specs.Rule.Definition.{IsTurn, IsTry, IsPreparing}
-use Rattle.word_rule.specs.Line.{going, taking}
-use Rattle.word_rule.specs.LockDefinition.{IsTied}
-use Rattle.word_rule.specs.Locks.{holding, Lock, attempt, lock_of, prepare, turn}
-use Rattle.word_rule.specs.Mcs.Acquire.{clear, enter, arm, link}
-use Rattle.word_rule.specs.Mcs.Definition.{mcs_lock}
-use Rattle.word_rule.specs.Mcs.Release.{see, pass}
-use Rattle.word_rule.specs.Mcs.State.{McsLock, follower}
-use Rattle.word_rule.specs.Mcs.Try.{prepare as prepared}
-use Rattle.word_rule.specs.Rule.Seats.{Seat}
-use Rattle.word_rule.specs.Rule.Announced.{any_has, Lacks, IsElse, Goes}
-use Rattle.word_rule.specs.Rule.Callers.{AddedBy}
-use Rattle.word_rule.proofs.CallerSteps.{Makes, by_turn, else_one, gets_by, gets_it, gives_back, goes_by, goes_on, lacks_one}
-use Rattle.word_rule.proofs.Known.{AllIdle}
-use Rattle.word_rule.proofs.Lists.{has_at}
-use Rattle.word_rule.proofs.LockInterface.{is_trying}
-use Rattle.word_rule.proofs.LockLaws.{idle_outside, in_cell}
-use Rattle.word_rule.proofs.LockStates.{stands_at}
-use Rattle.word_rule.proofs.Mcs.Erased.{Alike, erased_going, erased_prepared, unprepared, prepared_again}
 use Rattle.word_rule.proofs.LineEnds as ends
 use Rattle.word_rule.proofs.Mcs.States as queue
-use Rattle.word_rule.proofs.Mcs.Tries.{clears_and_enters}
 use Rattle.word_rule.proofs.Mcs.Turns as turns
-use Rattle.word_rule.proofs.Mcs.Turns.{tried_by}
-use Rattle.word_rule.proofs.Moves.{moved_same, stays_put}
-use Rattle.word_rule.proofs.RuleStates.{StandsIn, by_caller, rule_of, tried_lock}
-use Rattle.word_rule.proofs.Stays.{turned_twice, not_turned}
-use Rattle.mcs_lock.specs.Steps.{clears, prepares, arms, links, EnterOutcome, enters, TryOutcome, tries, LookOutcome, looks, SeeOutcome, sees, SeeAgainOutcome, sees_again, EmptyOutcome, empties, passes}
 
 abbrev cpu_of : Stage → ℕ
 cpu_of (Mcs (Behind p)) = p

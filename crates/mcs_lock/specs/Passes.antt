@@ -1,25 +1,8 @@
 -- What contracts say of an MCS lock's callers.
-use Rattle.std.specs.declared.cmp.PartialEq.{Ghosts as Eq}
-use Rattle.std.specs.declared.default.Default.{Ghosts as Default}
+use Rattle.std.specs.{declared.cmp.PartialEq.{Ghosts as Eq}, declared.default.Default.{Ghosts as Default}}
 use Rattle.event_log.specs.declared.object.SeqObject.{Ghosts}
-use Rattle.word_rule.specs.declared.lock_kind.Stage.TheVariants.{Mcs, Trying}
-use Rattle.word_rule.specs.declared.lock_kind.McsStage.TheVariants.{Ready, Behind, Armed, Waiting, Alone, Leaving, Passing}
-use Rattle.word_rule.specs.Cell.{PassView, HoldView}
-use Rattle.word_rule.specs.CallerState.{CallerState}
-use Rattle.word_rule.specs.Passes.{IsPassAt, IsHoldAt}
-use Rattle.word_rule.specs.Sides.{IsOutsideAt, IsInsideAt, view_of_outside, view_of_inside, state_outside, state_inside}
-use Rattle.mcs_lock.specs.declared.cell.McsCell.{McsCell}
-use Rattle.word_rule.specs.declared.pass.Pass.{Pass}
-use Rattle.mcs_lock.specs.declared.states.Ready.{Ready as ReadyCaller}
-use Rattle.mcs_lock.specs.declared.states.Trying.{Trying as TryingCaller}
-use Rattle.mcs_lock.specs.declared.states.Behind.{Behind as BehindCaller}
-use Rattle.mcs_lock.specs.declared.states.Armed.{Armed as ArmedCaller}
-use Rattle.mcs_lock.specs.declared.states.Waiting.{Waiting as WaitingCaller}
-use Rattle.word_rule.specs.declared.hold.Hold.{Hold}
-use Rattle.mcs_lock.specs.declared.states.Alone.{Alone as AloneCaller}
-use Rattle.mcs_lock.specs.declared.states.Leaving.{Leaving as LeavingCaller}
-use Rattle.mcs_lock.specs.declared.states.Passing.{Passing as PassingCaller}
-use Rattle.mcs_lock.specs.declared.states.Entered.{Entered}
+use Rattle.word_rule.specs.{declared.lock_kind.Stage.TheVariants.{Mcs, Trying}, declared.lock_kind.McsStage.TheVariants.{Ready, Behind, Armed, Waiting, Alone, Leaving, Passing}, Cell.{PassView, HoldView}, CallerState.CallerState, Passes.{IsPassAt, IsHoldAt}, Sides.{IsOutsideAt, IsInsideAt, view_of_outside, view_of_inside, state_outside, state_inside}, declared.pass.Pass.Pass, declared.hold.Hold.Hold}
+use Rattle.mcs_lock.specs.{declared.cell.McsCell.McsCell, declared.states.Ready.{Ready as ReadyCaller}, declared.states.Trying.{Trying as TryingCaller}, declared.states.Behind.{Behind as BehindCaller}, declared.states.Armed.{Armed as ArmedCaller}, declared.states.Waiting.{Waiting as WaitingCaller}, declared.states.Alone.{Alone as AloneCaller}, declared.states.Leaving.{Leaving as LeavingCaller}, declared.states.Passing.{Passing as PassingCaller}, declared.states.Entered.Entered}
 use Rattle.mcs_lock.specs.declared.states.Entered.TheVariants as entered
 
 -- The types of callers are over all that an object is bound by.

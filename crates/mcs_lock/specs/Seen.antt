@@ -1,10 +1,6 @@
 -- What one that leaves does until it sees who is behind it.
 use Rattle.std.specs.Prelude.{◌≡◌, List}
-use Rattle.word_rule.specs.declared.machine.step_done.StepDone.{StepDone}
-use Rattle.word_rule.specs.CallerState.{CallerState}
-use Rattle.word_rule.specs.LockRuns.{Extends}
-use Rattle.word_rule.specs.OneHold.{how_many, silently}
-use Rattle.word_rule.specs.StepKinds.{arrives, ends_hold, is_look}
+use Rattle.word_rule.specs.{declared.machine.step_done.StepDone.StepDone, CallerState.CallerState, LockRuns.Extends, OneHold.{how_many, silently}, StepKinds.{arrives, ends_hold, is_look}}
 
 module _ {O P C R : Type 0} where
   -- one that leaves sees its follower, and no event more, by steps that are no arrival, look or end of a hold

@@ -1,15 +1,9 @@
 -- What the MCS lock's own steps report to the seat that does them.
 use Rattle.std.specs.Prelude.{◌≡◌, ◌≢◌, ℕ, ◌+◌, true, false, List, [], ◌∷◌, Option}
 use Rattle.atomic_table.specs.Table.{Step}
-use Rattle.event_log.specs.declared.object.SeqObject.{Ghosts}
-use Rattle.event_log.specs.History.{History}
-use Rattle.word_rule.specs.declared.machine.step_done.StepDone.{StepDone}
+use Rattle.event_log.specs.{declared.object.SeqObject.Ghosts, History.History}
+use Rattle.word_rule.specs.{declared.machine.step_done.StepDone.StepDone, declared.lock_kind.Stage.Stage, declared.lock_kind.Stage.TheVariants.{Idle, Mcs, Trying}, declared.lock_kind.McsStage.TheVariants.{Ready, Behind, Armed, Waiting, Holding, Alone, Leaving, Passing}, Rule.Seats.Seat, Rule.Announced.{IsElse, Goes, Lags, Gets, Returns}}
 use Rattle.word_rule.specs.declared.machine.step_done.StepDone.TheVariants as steps
-use Rattle.word_rule.specs.declared.lock_kind.Stage.{Stage}
-use Rattle.word_rule.specs.declared.lock_kind.Stage.TheVariants.{Idle, Mcs, Trying}
-use Rattle.word_rule.specs.declared.lock_kind.McsStage.TheVariants.{Ready, Behind, Armed, Waiting, Holding, Alone, Leaving, Passing}
-use Rattle.word_rule.specs.Rule.Seats.{Seat}
-use Rattle.word_rule.specs.Rule.Announced.{IsElse, Goes, Lags, Gets, Returns}
 
 module _ {O P C R : Type 0} (meaning : Ghosts O P C R) where
   -- the caller has cleared its `next`, to enter or for a try

@@ -1,8 +1,7 @@
 //! The cell of an MCS lock.
 
 ghost use Rattle.std.specs.Prelude.{◌≡◌, ◌≤◌, ◌+◌, ◌*◌};
-ghost use Rattle.sound_run.specs.declared.limits.TheConstants.{MOST_CPUS};
-ghost use Rattle.sound_run.specs.declared.lock_kind.LockKind.TheVariants.{Mcs};
+ghost use Rattle.sound_run.specs.{declared.limits.TheConstants.MOST_CPUS, declared.lock_kind.LockKind.TheVariants.Mcs};
 
 use event_log::SeqObject;
 use word_rule::{LockTable, Resting};

@@ -2,8 +2,7 @@
 
 ghost use Rattle.std.specs.Prelude.{◌≡◌, ◌<◌, ◌≤◌, [], IfOk, IfErr, vec_len};
 ghost use Rattle.sound_run.specs.declared.lock_kind.LockKind.TheVariants.{Mcs};
-ghost use Rattle.word_rule.specs.Cell.{EachAt, first_pass};
-ghost use Rattle.word_rule.specs.Passes.{view_of_pass, run_of_pass};
+ghost use Rattle.word_rule.specs.{Cell.{EachAt, first_pass}, Passes.{view_of_pass, run_of_pass}};
 ghost use Rattle.mcs_lock.specs.Passes.{IsPassOf};
 
 use crate::cell::McsCell;

@@ -2,10 +2,7 @@
 
 ghost use Rattle.std.specs.Prelude.{◌≡◌};
 ghost use Rattle.event_log.proofs.Props.{legal_props};
-ghost use Rattle.word_rule.specs.declared.lock_kind.Stage.TheVariants.{Mcs, Trying};
-ghost use Rattle.word_rule.specs.declared.lock_kind.McsStage.TheVariants.{Ready, Behind, Armed, Waiting, Alone, Leaving, Passing};
-ghost use Rattle.word_rule.specs.Rule.Announced.{IsElse};
-ghost use Rattle.word_rule.specs.Sides.{StandsOutside, StandsInside};
+ghost use Rattle.word_rule.specs.{declared.lock_kind.Stage.TheVariants.{Mcs, Trying}, declared.lock_kind.McsStage.TheVariants.{Ready, Behind, Armed, Waiting, Alone, Leaving, Passing}, Rule.Announced.IsElse, Sides.{StandsOutside, StandsInside}};
 
 use event_log::SeqObject;
 use word_rule::{Hold, Inside, Outside};

@@ -1,9 +1,8 @@
 //! The single steps of an MCS lock.
 
 ghost use Rattle.std.specs.Prelude.{true, false, IfOk, IfErr};
-ghost use Rattle.word_rule.specs.Mcs.Steps.{IsClear, IsEnter, IsArm, IsLink, IsWaitingLook, IsSee, IsSeeAgain, IsEmpty, IsPass};
+ghost use Rattle.word_rule.specs.{Mcs.Steps.{IsClear, IsEnter, IsArm, IsLink, IsWaitingLook, IsSee, IsSeeAgain, IsEmpty, IsPass}, Passes.{state_of_pass, state_of_hold}};
 ghost use Rattle.mcs_lock.specs.Passes.{IsPassOf, IsReadyOf, IsBehindOf, IsArmedOf, IsWaitingOf, IsHoldOf, IsAloneOf, IsLeavingOf, IsPassingOf, IfHold, IfBehind, state_of_ready, state_of_behind, state_of_armed, state_of_waiting, state_of_alone, state_of_leaving, state_of_passing};
-ghost use Rattle.word_rule.specs.Passes.{state_of_pass, state_of_hold};
 
 use crate::cell::McsCell;
 use crate::rule::{Arm, Clear, Empty, Enter, Link, Look, PassOn, See, SeeAgain};

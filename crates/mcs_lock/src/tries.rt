@@ -1,8 +1,7 @@
 //! A try of an MCS lock: it gets the object where nobody is in the queue, and doesn't wait.
 
 ghost use Rattle.std.specs.Prelude.{true, false, IfOk, IfErr};
-ghost use Rattle.word_rule.specs.Mcs.Steps.{IsReady, IsTryEnter};
-ghost use Rattle.word_rule.specs.Passes.{state_of_pass, state_of_hold};
+ghost use Rattle.word_rule.specs.{Mcs.Steps.{IsReady, IsTryEnter}, Passes.{state_of_pass, state_of_hold}};
 ghost use Rattle.mcs_lock.specs.Passes.{IsPassOf, IsTryingOf, IsHoldOf, state_of_trying};
 
 use crate::cell::McsCell;

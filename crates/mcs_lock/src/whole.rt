@@ -1,13 +1,8 @@
 //! Whole calls of an MCS lock, and its end.
 
 ghost use Rattle.std.specs.Prelude.{◌≡◌, true, []};
-ghost use Rattle.word_rule.specs.Cell.{Grows, OwnTogether};
-ghost use Rattle.word_rule.specs.LockRuns.{Extends};
-ghost use Rattle.word_rule.specs.Mcs.Steps.{IsWaitingLook, IsSeeAgain};
-ghost use Rattle.word_rule.specs.Queued.{IsQueued};
-ghost use Rattle.mcs_lock.specs.Seen.{IsSeen};
-ghost use Rattle.mcs_lock.specs.Passes.{IsPassOf, IsBehindOf, IsWaitingOf, IsHoldOf, IsLeavingOf, IsPassingOf, view_of_behind, view_of_waiting, view_of_leaving, view_of_passing, state_of_behind, state_of_waiting, state_of_leaving, state_of_passing};
-ghost use Rattle.word_rule.specs.Passes.{view_of_pass, view_of_hold, run_of_pass, run_of_hold, state_of_hold};
+ghost use Rattle.word_rule.specs.{Cell.{Grows, OwnTogether}, LockRuns.Extends, Mcs.Steps.{IsWaitingLook, IsSeeAgain}, Queued.IsQueued, Passes.{view_of_pass, view_of_hold, run_of_pass, run_of_hold, state_of_hold}};
+ghost use Rattle.mcs_lock.specs.{Seen.IsSeen, Passes.{IsPassOf, IsBehindOf, IsWaitingOf, IsHoldOf, IsLeavingOf, IsPassingOf, view_of_behind, view_of_waiting, view_of_leaving, view_of_passing, state_of_behind, state_of_waiting, state_of_leaving, state_of_passing}};
 
 use crate::cell::McsCell;
 use crate::rule::{Look, SeeAgain};

@@ -2,8 +2,7 @@
 
 ghost use Rattle.std.specs.Prelude.{◌≡◌};
 ghost use Rattle.event_log.specs.Log.{Begins};
-ghost use Rattle.word_rule.specs.Cell.{OwnsAll, OwnTogether};
-ghost use Rattle.word_rule.specs.Passes.{view_of_pass};
+ghost use Rattle.word_rule.specs.{Cell.{OwnsAll, OwnTogether}, Passes.view_of_pass};
 ghost use Rattle.guarded_cell.specs.Kinds.{IsPassOf};
 
 use event_log::{Logged, SeqObject};

@@ -1,19 +1,7 @@
 -- Full quotas: a pool answers as one without quotas. And no owner has more pages than its quota.
-use Rattle.std.proofs.Common.{◌≡◌, ◌≢◌, ℕ, ◌≤◌, ◌==◌, nat_lt, nat_le, Bool, true, false, if◌then◌else◌, Option, None, Some, set, refl, sym, ap, subst, ◌∙◌, ⊎_elim, arith}
-use Rattle.std.proofs.lemmas.Bool.{ltb-false, leb-false, lt-leb, cases_eq}
-use Rattle.std.proofs.lemmas.List.{get_or-replicate}
-use Rattle.page_pool.specs.State.{PoolState, opening_state}
-use Rattle.page_pool.specs.Table.{owner_of, least_free, held_by, quota_of, given}
-use Rattle.page_pool.specs.Answer.{pool_answer, give_answer, release_answer}
-use Rattle.page_pool.specs.Owning.{IsPoolOf, KeepsToQuotas}
-use Rattle.page_pool.specs.Unlimited.{unlimited_answer, unlimited_give, full_quotas}
-use Rattle.page_pool.specs.declared.params.PoolParams.{PoolParams}
-use Rattle.page_pool.specs.declared.call.PoolCall.{PoolCall}
-use Rattle.page_pool.specs.declared.call.PoolCall.TheVariants.{Alloc, Free, Left}
-use Rattle.page_pool.specs.declared.call.PoolReply.{PoolReply}
-use Rattle.page_pool.specs.declared.call.PoolReply.TheVariants.{Ok, Page, OverQuota, BadOwner, BadPage, NotYours}
-use Rattle.page_pool.proofs.Least.{found_free}
-use Rattle.page_pool.proofs.Held.{held_below, held_more, held_same, held_no_more, held_none}
+use Rattle.std.proofs.{Common.{◌≡◌, ◌≢◌, ℕ, ◌≤◌, ◌==◌, nat_lt, nat_le, Bool, true, false, if◌then◌else◌, Option, None, Some, set, refl, sym, ap, subst, ◌∙◌, ⊎_elim, arith}, lemmas.Bool.{ltb-false, leb-false, lt-leb, cases_eq}, lemmas.List.get_or-replicate}
+use Rattle.page_pool.specs.{State.{PoolState, opening_state}, Table.{owner_of, least_free, held_by, quota_of, given}, Answer.{pool_answer, give_answer, release_answer}, Owning.{IsPoolOf, KeepsToQuotas}, Unlimited.{unlimited_answer, unlimited_give, full_quotas}, declared.params.PoolParams.PoolParams, declared.call.PoolCall.PoolCall, declared.call.PoolCall.TheVariants.{Alloc, Free, Left}, declared.call.PoolReply.PoolReply, declared.call.PoolReply.TheVariants.{Ok, Page, OverQuota, BadOwner, BadPage, NotYours}}
+use Rattle.page_pool.proofs.{Least.found_free, Held.{held_below, held_more, held_same, held_no_more, held_none}}
 
 -- ---- full quotas
 not_over : (n : ℕ) (s : PoolState) (o p : ℕ) → IsPoolOf (full_quotas n) s → o ≤ 15 → least_free s.owners ≡ Some p → nat_le (quota_of s.quotas o) (held_by s.owners o) ≡ false

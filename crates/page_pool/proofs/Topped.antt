@@ -1,12 +1,7 @@
 -- A set of pages in words: what a word more, or a word less, does to the pages and to the top word; and the least page.
-use Rattle.std.proofs.Common.{◌≡◌, ◌≢◌, ℕ, ◌+◌, ◌-◌, ◌*◌, ◌/◌, ◌%◌, ◌^◌, ◌<◌, ◌≤◌, ◌==◌, Bool, true, false, not, ltb, None, Some, List, length, get_or, set, replicate, refl, sym, ap, subst, ◌∙◌, ⊎_elim, true≢false, arith}
+use Rattle.std.proofs.{Common.{◌≡◌, ◌≢◌, ℕ, ◌+◌, ◌-◌, ◌*◌, ◌/◌, ◌%◌, ◌^◌, ◌<◌, ◌≤◌, ◌==◌, Bool, true, false, not, ltb, None, Some, List, length, get_or, set, replicate, refl, sym, ap, subst, ◌∙◌, ⊎_elim, true≢false, arith}, lemmas.Bool.{cases_eq, cases_lt, lt-ltb, le-ltb, ne_eqb}, lemmas.List.{same_lists, get_or-set_same, get_or-set_other, get_or_past, length-set, length-replicate, get_or-replicate}, lemmas.List.FromFn.{get_or-map-range_with_len, length-map-range_with_len}, lemmas.List.Sums.position_or_len_is}
 use Rattle.std.specs.List.{position_or_len}
-use Rattle.std.proofs.lemmas.Bool.{cases_eq, cases_lt, lt-ltb, le-ltb, ne_eqb}
-use Rattle.std.proofs.lemmas.List.{same_lists, get_or-set_same, get_or-set_other, get_or_past, length-set, length-replicate, get_or-replicate}
-use Rattle.std.proofs.lemmas.List.FromFn.{get_or-map-range_with_len, length-map-range_with_len}
-use Rattle.std.proofs.lemmas.List.Sums.{position_or_len_is}
-use Rattle.page_pool.specs.Bits.{has_bit, Puts, IsLeastIn}
-use Rattle.page_pool.specs.Pages.{has_page, members, IsTopped, least_member}
+use Rattle.page_pool.specs.{Bits.{has_bit, Puts, IsLeastIn}, Pages.{has_page, members, IsTopped, least_member}}
 use Rattle.page_pool.proofs.Words.{none_in_zero, some_in, was_some, ones_have}
 
 full_word : (word i : ℕ) → has_bit word i ≡ true → not (word == 0) ≡ true

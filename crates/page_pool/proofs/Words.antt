@@ -1,9 +1,6 @@
 -- A word as a set of numbers below 64: what each of its functions computes.
-use Rattle.std.proofs.Common.{◌≡◌, ◌≢◌, ℕ, ◌-◌, ◌*◌, ◌%◌, ◌^◌, ◌<◌, ◌≤◌, ◌==◌, Bool, true, false, ltb, w64, bit_and, bit_or, sym, ap, ◌∙◌, ⊎_elim, true≢false, arith}
+use Rattle.std.proofs.{Common.{◌≡◌, ◌≢◌, ℕ, ◌-◌, ◌*◌, ◌%◌, ◌^◌, ◌<◌, ◌≤◌, ◌==◌, Bool, true, false, ltb, w64, bit_and, bit_or, sym, ap, ◌∙◌, ⊎_elim, true≢false, arith}, lemmas.Bool.{cases_lt, cases_eq, lt-ltb, le-ltb}, lemmas.Nat.{and_le_l, one_shl}, lemmas.Nat.Bits.{bit_at-zero, bit_at_set_same, bit_at_set_other, bit_at_clear_same, bit_at_clear_other, bit_at_above, bit_at_ones, bit_at_ones_above, bit_at-trailing_zeros}}
 use Rattle.std.specs.Int.{bit_not, trailing_zeros}
-use Rattle.std.proofs.lemmas.Bool.{cases_lt, cases_eq, lt-ltb, le-ltb}
-use Rattle.std.proofs.lemmas.Nat.{and_le_l, one_shl}
-use Rattle.std.proofs.lemmas.Nat.Bits.{bit_at-zero, bit_at_set_same, bit_at_set_other, bit_at_clear_same, bit_at_clear_other, bit_at_above, bit_at_ones, bit_at_ones_above, bit_at-trailing_zeros}
 use Rattle.page_pool.specs.Bits.{has_bit, Puts, IsLeastIn}
 
 abbrev is_one : ℕ → Bool

@@ -1,6 +1,5 @@
 -- A word as a set of numbers below 64.
-use Rattle.std.specs.Prelude.{◌≡◌, ◌≢◌, ℕ, ◌==◌, ◌<◌, Bool, true, false}
-use Rattle.std.specs.Int.{bit_at}
+use Rattle.std.specs.{Prelude.{◌≡◌, ◌≢◌, ℕ, ◌==◌, ◌<◌, Bool, true, false}, Int.bit_at}
 
 -- whether the number is in the word: its bit is 1
 abbrev pub has_bit : ℕ → ℕ → Bool

@@ -1,6 +1,5 @@
 -- A set of pages, as words and as a list.
-use Rattle.std.specs.Prelude.{◌≡◌, ℕ, ◌/◌, ◌%◌, ◌*◌, ◌==◌, ◌≤◌, Bool, false, not, Option, List, length, map, get_or}
-use Rattle.std.specs.List.{position, range_with_len}
+use Rattle.std.specs.{Prelude.{◌≡◌, ℕ, ◌/◌, ◌%◌, ◌*◌, ◌==◌, ◌≤◌, Bool, false, not, Option, List, length, map, get_or}, List.{position, range_with_len}}
 use Rattle.page_pool.specs.Bits.{has_bit}
 
 -- whether the page is in the words: bit `p % 64` of word `p / 64`

@@ -1,14 +1,7 @@
 -- What a pool answers that has no quotas: the definition of the records that were written before owners had quotas.
 use Rattle.std.specs.Prelude.{ℕ, nat_lt, nat_le, ◌&&◌, Bool, if◌then◌else◌, Option, None, Some, replicate}
 use Rattle.event_log.specs.declared.object.SeqObject.{Ghosts}
-use Rattle.page_pool.specs.State.{PoolState}
-use Rattle.page_pool.specs.Table.{least_free, left_of, given}
-use Rattle.page_pool.specs.Answer.{free_answer}
-use Rattle.page_pool.specs.declared.params.PoolParams.{PoolParams}
-use Rattle.page_pool.specs.declared.call.PoolCall.{PoolCall}
-use Rattle.page_pool.specs.declared.call.PoolCall.TheVariants.{Alloc, Free, Left}
-use Rattle.page_pool.specs.declared.call.PoolReply.{PoolReply}
-use Rattle.page_pool.specs.declared.call.PoolReply.TheVariants.{Page, NoPage, BadOwner, Count}
+use Rattle.page_pool.specs.{State.PoolState, Table.{least_free, left_of, given}, Answer.free_answer, declared.params.PoolParams.PoolParams, declared.call.PoolCall.PoolCall, declared.call.PoolCall.TheVariants.{Alloc, Free, Left}, declared.call.PoolReply.PoolReply, declared.call.PoolReply.TheVariants.{Page, NoPage, BadOwner, Count}}
 
 -- what is answered where this is the least free page, or where there is none
 abbrev pub unlimited_give : PoolState → ℕ → Option ℕ → PoolState × PoolReply

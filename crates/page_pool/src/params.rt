@@ -1,9 +1,7 @@
 //! What a page pool is opened for.
 
-ghost use Rattle.std.specs.Prelude.{◌≡◌, nat_le};
-ghost use Rattle.std.specs.List.{list_all};
-ghost use Rattle.page_pool.specs.State.{is_in_range};
-ghost use Rattle.page_pool.specs.Unlimited.{full_quotas};
+ghost use Rattle.std.specs.{Prelude.{◌≡◌, nat_le}, List.list_all};
+ghost use Rattle.page_pool.specs.{State.is_in_range, Unlimited.full_quotas};
 
 /// The most pages that a pool can be opened for, and the greatest quota.
 pub const MOST_PAGES: u32 = 4096;

@@ -1,8 +1,7 @@
 //! The pool: a table of owners, and the free pages as a set of bits.
 
 ghost use Rattle.std.specs.Prelude.{◌≡◌};
-ghost use Rattle.page_pool.specs.Table.{left_of};
-ghost use Rattle.page_pool.specs.Answer.{alloc_answer, free_answer};
+ghost use Rattle.page_pool.specs.{Table.left_of, Answer.{alloc_answer, free_answer}};
 
 use crate::pages::PageSet;
 use crate::params::{LAST_OWNER, OWNERS, PoolParams};
@@ -25,8 +24,7 @@ pub struct PagePool {
 
 impl Model for PagePool {
     ghost use Rattle.std.specs.Prelude.{◌≡◌, ◌≤◌, length};
-    ghost use Rattle.page_pool.specs.State.{PoolState};
-    ghost use Rattle.page_pool.specs.Agreeing.{IsAgreed};
+    ghost use Rattle.page_pool.specs.{State.PoolState, Agreeing.IsAgreed};
 
     ghost Value = { PoolState };
 
@@ -85,8 +83,7 @@ impl PagePool {
 }
 
 impl SeqObject for PagePool {
-    ghost use Rattle.page_pool.specs.State.{is_in_range, opening_state};
-    ghost use Rattle.page_pool.specs.Answer.{pool_answer, is_refusing};
+    ghost use Rattle.page_pool.specs.{State.{is_in_range, opening_state}, Answer.{pool_answer, is_refusing}};
     ghost use Rattle.std.proofs.Common.{lit<, rules};
 
     type Params = PoolParams;

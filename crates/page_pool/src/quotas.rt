@@ -1,14 +1,8 @@
 //! Laws of quotas.
 
 ghost use Rattle.std.specs.Prelude.{◌≡◌, ◌↔◌, ℕ};
-ghost use Rattle.event_log.specs.Log.{Legal, replay};
-ghost use Rattle.event_log.specs.History.{IsKept};
-ghost use Rattle.page_pool.specs.State.{PoolState, is_in_range};
-ghost use Rattle.page_pool.specs.Answer.{pool_answer};
-ghost use Rattle.page_pool.specs.Owning.{IsPoolOf, KeepsToQuotas};
-ghost use Rattle.page_pool.specs.Unlimited.{is_unlimited_range, unlimited, unlimited_answer, full_quotas};
-ghost use Rattle.page_pool.specs.declared.params.PoolParams.{PoolParams};
-ghost use Rattle.page_pool.specs.declared.call.PoolCall.{PoolCall};
+ghost use Rattle.event_log.specs.{Log.{Legal, replay}, History.IsKept};
+ghost use Rattle.page_pool.specs.{State.{PoolState, is_in_range}, Answer.pool_answer, Owning.{IsPoolOf, KeepsToQuotas}, Unlimited.{is_unlimited_range, unlimited, unlimited_answer, full_quotas}, declared.params.PoolParams.PoolParams, declared.call.PoolCall.PoolCall};
 
 use crate::PagePool;
 use event_log::SeqObject;

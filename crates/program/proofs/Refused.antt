@@ -2,8 +2,7 @@
 use Rattle.std.proofs.Common.{◌≡◌, ◌≤◌, ℕ, Result, Ok, Err, IfErr, sym, subst, arith}
 use Rattle.std.specs.Result.{IsErrAnd}
 use Rattle.event_log.specs.Stream.{counted}
-use Rattle.program.specs.Refusals.{status_of, reports_read_failed}
-use Rattle.program.specs.declared.refusal.Refusal.{Refusal}
+use Rattle.program.specs.{Refusals.{status_of, reports_read_failed}, declared.refusal.Refusal.Refusal}
 use Rattle.program.specs.declared.refusal.Refusal.TheVariants as refusal
 
 -- what holds of a cause's refusal holds of the answer

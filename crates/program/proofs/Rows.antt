@@ -1,15 +1,8 @@
 -- The first value of an id, of the entries and of their rows.
 use Rattle.std.proofs.Common.{sym, ◌∙◌, subst, ◌≡◌, ℕ, Bool, true, false, List, [], ◌∷◌, map, Option, Some, refl, option_map, slice_get}
-use Rattle.std.specs.Borrow.{Bor}
-use Rattle.std.specs.Prelude.{find, option_and_then}
-use Rattle.std.specs.Option.{IfSome}
-use Rattle.std.specs.Str.{bytes_eq}
+use Rattle.std.specs.{Borrow.Bor, Prelude.{find, option_and_then}, Option.IfSome, Str.bytes_eq}
 use Rattle.program.specs.FileNames.{IsFile, is_no_name}
-use Rattle.clap.specs.Facts.{Entry}
-use Rattle.clap.specs.Words.{Row, first_of, first_value, rows_of}
-use Rattle.clap.specs.Walk.{row_of, texts}
-use Rattle.clap.specs.declared.parser.matches.Found.{Found}
-use Rattle.clap.specs.declared.parser.matches.MatchedArg.{MatchedArg}
+use Rattle.clap.specs.{Facts.Entry, Words.{Row, first_of, first_value, rows_of}, Walk.{row_of, texts}, declared.parser.matches.Found.Found, declared.parser.matches.MatchedArg.MatchedArg}
 
 -- the first of texts
 first_text : (values : List (Bor (List ℕ))) → option_map (λ s. s.now) (slice_get values 0) ≡ slice_get (texts values) 0

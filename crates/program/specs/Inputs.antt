@@ -1,9 +1,6 @@
 -- What is read of the inputs of a command, and how many openings and reads failed.
-use Rattle.std.specs.Prelude.{◌≡◌, ◌+◌, ◌-◌, ◌^◌, ◌==◌, ℕ, min, Bool, true, false, cond, List, Option, Some, Result, Ok, Err}
-use Rattle.std.specs.Borrow.{Bor}
-use Rattle.std.specs.Option.{option_map}
-use Rattle.program.specs.Refusals.{reports_read_failed}
-use Rattle.program.specs.declared.refusal.Refusal.{Refusal}
+use Rattle.std.specs.{Prelude.{◌≡◌, ◌+◌, ◌-◌, ◌^◌, ◌==◌, ℕ, min, Bool, true, false, cond, List, Option, Some, Result, Ok, Err}, Borrow.Bor, Option.option_map}
+use Rattle.program.specs.{Refusals.reports_read_failed, declared.refusal.Refusal.Refusal}
 
 -- the bytes of a name, if there is one
 abbrev pub bytes_of : Option (Bor (List ℕ)) → Option (List ℕ)

@@ -1,6 +1,5 @@
 -- What was printed: known contents of a stream grew by such a text, or by a beginning of one.
-use Rattle.std.specs.Prelude.{ℕ, List, Option}
-use Rattle.std.specs.Io.KnownBytes.{Appends}
+use Rattle.std.specs.{Prelude.{ℕ, List, Option}, Io.KnownBytes.Appends}
 use Rattle.record_lines.specs.Output.{AppendsBeginning}
 
 module _ (Is : List ℕ → Type 0) (old new : Option (List ℕ)) where

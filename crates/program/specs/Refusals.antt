@@ -1,15 +1,12 @@
 -- Which refusal each cause becomes, and the status that a program ends with.
 use Rattle.std.specs.Prelude.{ℕ, Bool, true, false}
 use Rattle.event_log.specs.declared.object.OutOfMemory.{OutOfMemory}
-use Rattle.program.specs.declared.file_names.BadName.{BadName}
-use Rattle.program.specs.declared.refusal.Refusal.{Refusal}
+use Rattle.program.specs.{declared.file_names.BadName.BadName, declared.refusal.Refusal.Refusal}
+use Rattle.scripts.specs.{declared.schedule.ScheduleFault.ScheduleFault, declared.settings.fault.SettingsFault.SettingsFault}
+use Rattle.record_lines.specs.{declared.streams.text_writer.WriteFailed.WriteFailed, declared.text.fault.TextFault.TextFault}
 use Rattle.program.specs.declared.refusal.Refusal.TheVariants as refusal
-use Rattle.scripts.specs.declared.schedule.ScheduleFault.{ScheduleFault}
 use Rattle.scripts.specs.declared.schedule.ScheduleFault.TheVariants as schedule
-use Rattle.scripts.specs.declared.settings.fault.SettingsFault.{SettingsFault}
 use Rattle.scripts.specs.declared.settings.fault.SettingsFault.TheVariants as settings
-use Rattle.record_lines.specs.declared.streams.text_writer.WriteFailed.{WriteFailed}
-use Rattle.record_lines.specs.declared.text.fault.TextFault.{TextFault}
 use Rattle.record_lines.specs.declared.text.fault.TextFault.TheVariants as text
 
 abbrev pub of_memory : OutOfMemory → Refusal

@@ -1,6 +1,5 @@
 -- From which call a program has its status.
-use Rattle.std.specs.Prelude.{ℕ}
-use Rattle.std.specs.Fn.{FnOnceReturns, Once}
+use Rattle.std.specs.{Prelude.ℕ, Fn.{FnOnceReturns, Once}}
 use Rattle.program.specs.declared.refusal.Refusal.{Refusal}
 use Rattle.program.specs.declared.refusal.Refusal.TheVariants as refusal
 

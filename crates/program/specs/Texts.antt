@@ -1,15 +1,10 @@
 -- What is read of the inputs of a command: settings, scripts, a schedule or a record, and why one is refused.
 use Rattle.std.specs.Prelude.{ℕ, List, Option, Some}
 use Rattle.kernel_object.specs.KernelTypes.{KernelTodo}
-use Rattle.program.specs.Inputs.{Reads}
-use Rattle.program.specs.declared.refusal.Refusal.{Refusal}
+use Rattle.program.specs.{Inputs.Reads, declared.refusal.Refusal.Refusal}
+use Rattle.records.specs.{RecordFaults.{IsBadLine, IsWhole}, RecordRanges.Record, Settings.Settings}
+use Rattle.scripts.specs.{ScheduleText.{IsFirstBadWord, IsSchedule}, ScriptText.{AreScripts, IsFirstBad}, SettingsSources.{IsFaultOfSettings, SpellsShortSettings}}
 use Rattle.program.specs.declared.refusal.Refusal.TheVariants as refusal
-use Rattle.records.specs.RecordFaults.{IsBadLine, IsWhole}
-use Rattle.records.specs.RecordRanges.{Record}
-use Rattle.scripts.specs.ScheduleText.{IsFirstBadWord, IsSchedule}
-use Rattle.scripts.specs.ScriptText.{AreScripts, IsFirstBad}
-use Rattle.records.specs.Settings.{Settings}
-use Rattle.scripts.specs.SettingsSources.{IsFaultOfSettings, SpellsShortSettings}
 
 module _ (held : Option (List ℕ) → Option (List ℕ)) where
   -- the settings under that name

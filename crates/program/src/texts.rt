@@ -2,12 +2,9 @@
 
 ghost use Rattle.std.specs.Prelude.{◌≡◌, ℕ, List, Some, None, length, IfErr, IfOk};
 ghost use Rattle.event_log.specs.Stream.{counted};
-ghost use Rattle.program.specs.Inputs.{bytes_of, says_read_failed};
-ghost use Rattle.program.specs.Texts.{RefusesRecord, RefusesSchedule, RefusesScripts, RefusesSettings, SpellsRecordOf, SpellsScheduleOf, SpellsScriptsOf, SpellsSettingsOf};
+ghost use Rattle.program.specs.{Inputs.{bytes_of, says_read_failed}, Texts.{RefusesRecord, RefusesSchedule, RefusesScripts, RefusesSettings, SpellsRecordOf, SpellsScheduleOf, SpellsScriptsOf, SpellsSettingsOf}};
 ghost use Rattle.record_lines.specs.Received.{only_head, IsWholeWith};
-ghost use Rattle.records.specs.KernelForm.{no_head, settings_in};
-ghost use Rattle.records.specs.RecordRanges.{RecordFits};
-ghost use Rattle.records.specs.RecordStates.{received_record};
+ghost use Rattle.records.specs.{KernelForm.{no_head, settings_in}, RecordRanges.RecordFits, RecordStates.received_record};
 ghost use Rattle.scripts.specs.ScriptText.{ScriptsFit};
 
 use crate::inputs::Inputs;

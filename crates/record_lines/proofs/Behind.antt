@@ -1,14 +1,8 @@
 -- What stands behind a word at the front of a line.
-use Rattle.std.proofs.Common.{◌≡◌, ℕ, ◌+◌, ◌<◌, ◌≤◌, ◌==◌, Bool, true, false, cond, Some, None, List, [], ◌∷◌, ◌++◌, length, decimal, refl, sym, ap, ◌∙◌, arith}
+use Rattle.std.proofs.{Common.{◌≡◌, ℕ, ◌+◌, ◌<◌, ◌≤◌, ◌==◌, Bool, true, false, cond, Some, None, List, [], ◌∷◌, ◌++◌, length, decimal, refl, sym, ap, ◌∙◌, arith}, lemmas.Bool.eqb-true, lemmas.Fmt.decimal_digit, lemmas.List.append-nil, lemmas.Option.cond_some}
 use Rattle.std.specs.List.{AllByRecursion, onto_first}
-use Rattle.std.proofs.lemmas.Bool.{eqb-true}
-use Rattle.std.proofs.lemmas.Fmt.{decimal_digit}
-use Rattle.std.proofs.lemmas.List.{append-nil}
-use Rattle.std.proofs.lemmas.Option.{cond_some}
-use Rattle.record_lines.specs.Reading.{words, word_at, key_at, number_at, behind_at}
-use Rattle.record_lines.specs.Words.{IsPlain}
-use Rattle.record_lines.proofs.Cuts.{words_cut, words_whole, number_again}
-use Rattle.record_lines.proofs.Sentences.{no_space}
+use Rattle.record_lines.specs.{Reading.{words, word_at, key_at, number_at, behind_at}, Words.IsPlain}
+use Rattle.record_lines.proofs.{Cuts.{words_cut, words_whole, number_again}, Sentences.no_space}
 
 eqb-refl : (m : ℕ) → (m == m) ≡ true
 eqb-refl m = grind arith

@@ -1,9 +1,7 @@
 -- What is read of a source, piece by piece.
-use Rattle.std.proofs.Common.{◌≡◌, ℕ, List, [], ◌++◌, take, append_assoc, Option, Some, None, refl, sym, ◌∙◌, ap, Result, Ok, Err, ◌+◌, ◌≤◌, length, length-append, arith}
-use Rattle.std.proofs.lemmas.List.{length-take-le}
-use Rattle.std.specs.Io.KnownBytes.{Consumes}
+use Rattle.std.proofs.{Common.{◌≡◌, ℕ, List, [], ◌++◌, take, append_assoc, Option, Some, None, refl, sym, ◌∙◌, ap, Result, Ok, Err, ◌+◌, ◌≤◌, length, length-append, arith}, lemmas.List.length-take-le}
+use Rattle.std.specs.{Io.KnownBytes.Consumes, Result.OnOk}
 use Rattle.record_lines.specs.Sources.{IsRest, ReadsAtMost}
-use Rattle.std.specs.Result.{OnOk}
 
 -- known bytes that were consumed in two steps
 pub consumes_then : (a b c : Option (List ℕ)) (s t : List ℕ) → Consumes a b s → Consumes b c t → Consumes a c (s ++ t)

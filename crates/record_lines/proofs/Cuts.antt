@@ -1,15 +1,6 @@
 -- Cutting a list at the first member that passes a test.
-use Rattle.std.proofs.Common.{◌≡◌, ℕ, zero, suc, ◌+◌, ◌^◌, ◌<◌, ◌≤◌, ◌==◌, decimal, subst, not, cond, nat_lt, Bool, true, false, Some, None, List, [], ◌∷◌, ◌++◌, length, take, drop, get_or, position, refl, sym, ◌∙◌, ap, arith, nat_le, ◌&&◌, bytes_eq}
-use Rattle.std.specs.List.{AllByRecursion, prefix_len, position_or_len, slice_split}
-use Rattle.std.proofs.lemmas.Bool.{eqb-true, ltb-false, and_parts, leb-true, le-leb, false_from_ne_true}
-use Rattle.std.proofs.lemmas.List.{take-append-drop, drop_more, take_all}
-use Rattle.std.proofs.lemmas.List.Elements.{All-from_recursion}
-use Rattle.std.proofs.lemmas.List.Quantifiers.{position-Some}
-use Rattle.std.proofs.lemmas.List.Splits.{slice_split_none, slice_split_at}
-use Rattle.std.proofs.lemmas.Option.{cond_some}
-use Rattle.std.proofs.lemmas.Fmt.{decimal_is_IsNumeral}
-use Rattle.std.proofs.lemmas.Slice.Eq.{bytes_eq-Decides}
-use Rattle.std.specs.Str.Parse.{digits_value}
+use Rattle.std.proofs.{Common.{◌≡◌, ℕ, zero, suc, ◌+◌, ◌^◌, ◌<◌, ◌≤◌, ◌==◌, decimal, subst, not, cond, nat_lt, Bool, true, false, Some, None, List, [], ◌∷◌, ◌++◌, length, take, drop, get_or, position, refl, sym, ◌∙◌, ap, arith, nat_le, ◌&&◌, bytes_eq}, lemmas.Bool.{eqb-true, ltb-false, and_parts, leb-true, le-leb, false_from_ne_true}, lemmas.List.{take-append-drop, drop_more, take_all}, lemmas.List.Elements.All-from_recursion, lemmas.List.Quantifiers.position-Some, lemmas.List.Splits.{slice_split_none, slice_split_at}, lemmas.Option.cond_some, lemmas.Fmt.decimal_is_IsNumeral, lemmas.Slice.Eq.bytes_eq-Decides}
+use Rattle.std.specs.{List.{AllByRecursion, prefix_len, position_or_len, slice_split}, Str.Parse.digits_value}
 use Rattle.memchr.specs.Find.{IsFirstByte, is_byte}
 use Rattle.record_lines.specs.Reading.{words, number_in}
 

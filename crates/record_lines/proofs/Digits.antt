@@ -1,12 +1,6 @@
 -- The value of digits, and the numbers that they are the decimal text of.
-use Rattle.std.proofs.Common.{◌≡◌, ◌⊎◌, inl, inr, ℕ, zero, suc, ◌+◌, ◌-◌, ◌*◌, ◌<◌, ◌≤◌, ◌^◌, List, [], ◌∷◌, length, take, get_or, Option, Some, None, decimal, refl, sym, ap, subst, ◌∙◌, arith, slice_get, IfSome, IfNone}
-use Rattle.std.proofs.lemmas.Bool.{lt-ltb, le-ltb}
-use Rattle.std.proofs.lemmas.Fmt.{decimal-digits_value, digits_decimal, digits_value-decimal, decimal_nonempty, first_decimal, decimal_digit}
-use Rattle.std.proofs.lemmas.Int.Digits.{digits_value_more}
-use Rattle.std.proofs.lemmas.Str.Parse.{IsNumeralModel, numerals_by_value, tells_by_index, digits_value-take-le}
-use Rattle.std.specs.Char.{digit_value}
-use Rattle.std.specs.Int.{IsInRange}
-use Rattle.std.specs.Str.Parse.{digits_value}
+use Rattle.std.proofs.{Common.{◌≡◌, ◌⊎◌, inl, inr, ℕ, zero, suc, ◌+◌, ◌-◌, ◌*◌, ◌<◌, ◌≤◌, ◌^◌, List, [], ◌∷◌, length, take, get_or, Option, Some, None, decimal, refl, sym, ap, subst, ◌∙◌, arith, slice_get, IfSome, IfNone}, lemmas.Bool.{lt-ltb, le-ltb}, lemmas.Fmt.{decimal-digits_value, digits_decimal, digits_value-decimal, decimal_nonempty, first_decimal, decimal_digit}, lemmas.Int.Digits.digits_value_more, lemmas.Str.Parse.{IsNumeralModel, numerals_by_value, tells_by_index, digits_value-take-le}}
+use Rattle.std.specs.{Char.digit_value, Int.IsInRange, Str.Parse.digits_value}
 use Rattle.record_lines.specs.Reading.{AreDigits, number_in}
 use Rattle.record_lines.proofs.Cuts.{no_number, number_again}
 

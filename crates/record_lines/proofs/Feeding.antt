@@ -1,12 +1,7 @@
 -- Bytes of a source that are taken piece by piece.
 use Rattle.std.proofs.Common.{◌≡◌, ℕ, List, Option, Result, Ok, Err, refl}
-use Rattle.std.specs.Io.KnownBytes.{Consumes}
-use Rattle.std.specs.Result.{IfErr}
-use Rattle.record_lines.specs.declared.text.fault.LinesFault.{LinesFault}
-use Rattle.record_lines.specs.declared.text.fault.LinesFault.TheVariants.{OutOfMemory, Line}
-use Rattle.record_lines.specs.declared.text.line_machine.Pieces.{Pieces}
-use Rattle.record_lines.specs.LineMachine.{RefusesLine}
-use Rattle.record_lines.specs.Pieces.{RefusesPieces}
+use Rattle.std.specs.{Io.KnownBytes.Consumes, Result.IfErr}
+use Rattle.record_lines.specs.{declared.text.fault.LinesFault.LinesFault, declared.text.fault.LinesFault.TheVariants.{OutOfMemory, Line}, declared.text.line_machine.Pieces.Pieces, LineMachine.RefusesLine, Pieces.RefusesPieces}
 
 -- what was taken so far of a source
 pub record HasFedOf {R : Type 0} (takes : List ℕ → R → Type 0) (old now : Option (List ℕ)) (reader : R) : Type 0 where

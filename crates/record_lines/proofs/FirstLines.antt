@@ -1,13 +1,8 @@
 -- The lines of a text, one by one, and its first lines.
-use Rattle.std.proofs.Common.{◌≡◌, ◌⊎◌, inl, inr, ℕ, zero, suc, ◌≤◌, ◌==◌, Bool, true, false, cond, List, [], ◌∷◌, ◌++◌, length, length-append, ◌<◌, refl, sym, ◌∙◌, ap, subst, append_assoc, arith}
-use Rattle.std.proofs.lemmas.Bool.{eqb-true}
-use Rattle.std.proofs.lemmas.Grind.{flat_map-append}
-use Rattle.std.proofs.lemmas.List.{append_cancel_left}
+use Rattle.std.proofs.{Common.{◌≡◌, ◌⊎◌, inl, inr, ℕ, zero, suc, ◌≤◌, ◌==◌, Bool, true, false, cond, List, [], ◌∷◌, ◌++◌, length, length-append, ◌<◌, refl, sym, ◌∙◌, ap, subst, append_assoc, arith}, lemmas.Bool.eqb-true, lemmas.Grind.flat_map-append, lemmas.List.append_cancel_left}
 use Rattle.std.specs.List.{AllByRecursion}
 use Rattle.event_log.proofs.Each.{all_append}
-use Rattle.record_lines.specs.LineMachine.{TakesText, RefusesText, RefusesLine}
-use Rattle.record_lines.specs.FirstLines.{first_lines}
-use Rattle.record_lines.specs.Words.{text_of_lines, NoEnd}
+use Rattle.record_lines.specs.{LineMachine.{TakesText, RefusesText, RefusesLine}, FirstLines.first_lines, Words.{text_of_lines, NoEnd}}
 use Rattle.record_lines.proofs.LineMachine.{text_longer, long_is_some}
 
 -- the first line of a text, if it has a whole one

@@ -1,18 +1,9 @@
 -- Whatever was read of a record, some record's lines begin with it.
-use Rattle.std.proofs.Common.{◌≡◌, ℕ, ◌-◌, ◌≤◌, List, [], ◌∷◌, ◌++◌, length, length-append, map, append_assoc, replicate, sym, ap, ◌∙◌, subst, arith}
-use Rattle.std.proofs.lemmas.List.{append-nil, length-replicate}
+use Rattle.std.proofs.{Common.{◌≡◌, ℕ, ◌-◌, ◌≤◌, List, [], ◌∷◌, ◌++◌, length, length-append, map, append_assoc, replicate, sym, ap, ◌∙◌, subst, arith}, lemmas.List.{append-nil, length-replicate}}
 use Rattle.std.specs.List.{AllByRecursion}
 use Rattle.event_log.proofs.Each.{all_append, all_push}
-use Rattle.record_lines.specs.declared.forms.form.RecordForm.{Ghosts}
-use Rattle.record_lines.specs.declared.forms.place.Next.{Next}
-use Rattle.record_lines.specs.declared.forms.place.Next.TheVariants.{Head, Log, Event, Cpu, Entry, End, Done}
-use Rattle.record_lines.specs.FormLaws.{FormLaws}
-use Rattle.record_lines.specs.FormStates.{State, whole_of, AllRead, FitsAt}
-use Rattle.record_lines.specs.FormText.{part_text, parts_text, logs_front, transcripts_front, whole_lines}
-use Rattle.record_lines.specs.Received.{Whole, WholeFits, LogFits, TranscriptFits}
-use Rattle.record_lines.proofs.FormParts.{parts_append, part_whole, items_more}
-use Rattle.record_lines.proofs.FormSpells.{spelled_at}
-use Rattle.record_lines.proofs.Parts.{all_same}
+use Rattle.record_lines.specs.{declared.forms.form.RecordForm.Ghosts, declared.forms.place.Next.Next, declared.forms.place.Next.TheVariants.{Head, Log, Event, Cpu, Entry, End, Done}, FormLaws.FormLaws, FormStates.{State, whole_of, AllRead, FitsAt}, FormText.{part_text, parts_text, logs_front, transcripts_front, whole_lines}, Received.{Whole, WholeFits, LogFits, TranscriptFits}}
+use Rattle.record_lines.proofs.{FormParts.{parts_append, part_whole, items_more}, FormSpells.spelled_at, Parts.all_same}
 
 module _ {S H E T : Type 0} (f : Ghosts S H E T) where
   -- some record's lines begin with these

@@ -1,6 +1,5 @@
 -- Lines in parts, each with a head that says how many items it has.
-use Rattle.std.proofs.Common.{◌≡◌, ℕ, suc, ◌+◌, List, [], ◌∷◌, ◌++◌, length, map, append_assoc, sym, ap, ◌∙◌, arith}
-use Rattle.std.proofs.lemmas.List.{append-nil, map-append}
+use Rattle.std.proofs.{Common.{◌≡◌, ℕ, suc, ◌+◌, List, [], ◌∷◌, ◌++◌, length, map, append_assoc, sym, ap, ◌∙◌, arith}, lemmas.List.{append-nil, map-append}}
 use Rattle.record_lines.specs.FormText.{part_text, parts_text}
 
 module _ {T : Type 0} (head : ℕ → ℕ → List ℕ) (text_of : T → List ℕ) where

@@ -1,16 +1,7 @@
 -- The lines of a record take what was read of it to its end.
-use Rattle.std.proofs.Common.{◌≡◌, ℕ, suc, ◌+◌, ◌<◌, ◌≤◌, if◌then◌else◌, List, [], ◌∷◌, ◌++◌, length, length-append, map, append_assoc, true, false, refl, sym, ap, subst, arith, nat_lt}
-use Rattle.std.proofs.lemmas.Bool.{lt-ltb, le-ltb}
-use Rattle.std.proofs.lemmas.List.{append-nil}
+use Rattle.std.proofs.{Common.{◌≡◌, ℕ, suc, ◌+◌, ◌<◌, ◌≤◌, if◌then◌else◌, List, [], ◌∷◌, ◌++◌, length, length-append, map, append_assoc, true, false, refl, sym, ap, subst, arith, nat_lt}, lemmas.Bool.{lt-ltb, le-ltb}, lemmas.List.append-nil}
 use Rattle.std.specs.List.{AllByRecursion}
-use Rattle.record_lines.specs.declared.forms.form.RecordForm.{Ghosts}
-use Rattle.record_lines.specs.declared.forms.place.Next.{Next}
-use Rattle.record_lines.specs.declared.forms.place.Next.TheVariants.{Log, Event, Cpu, Entry, End, Done}
-use Rattle.record_lines.specs.FormLaws.{HeadTakes, FormLaws}
-use Rattle.record_lines.specs.FormStates.{State, nothing_read, behind_head, behind_line_at, TakesLine}
-use Rattle.record_lines.specs.FormText.{part_text, parts_text, logs_front, transcripts_front, whole_lines}
-use Rattle.record_lines.specs.LineMachine.{TakesEach}
-use Rattle.record_lines.specs.Received.{Whole, WholeFits}
+use Rattle.record_lines.specs.{declared.forms.form.RecordForm.Ghosts, declared.forms.place.Next.Next, declared.forms.place.Next.TheVariants.{Log, Event, Cpu, Entry, End, Done}, FormLaws.{HeadTakes, FormLaws}, FormStates.{State, nothing_read, behind_head, behind_line_at, TakesLine}, FormText.{part_text, parts_text, logs_front, transcripts_front, whole_lines}, LineMachine.TakesEach, Received.{Whole, WholeFits}}
 use Rattle.record_lines.proofs.FormSteps.{event_more, event_last, log_some, log_empty, entry_more, entry_last, cpu_some, cpu_empty, end_last}
 
 -- lines behind others

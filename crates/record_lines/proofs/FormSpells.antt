@@ -1,20 +1,9 @@
 -- What was read of a record spells just the lines that were taken, and stays within all limits.
-use Rattle.std.proofs.Common.{◌≡◌, ℕ, ◌<◌, ◌≤◌, Bool, true, false, if◌then◌else◌, List, [], ◌∷◌, ◌++◌, length, length-append, append_assoc, Option, Some, None, refl, sym, ap, ◌∙◌, subst, arith, nat_lt}
-use Rattle.std.proofs.lemmas.Bool.{ltb-true, ltb-false, cond_both}
-use Rattle.std.proofs.lemmas.List.{append-nil}
+use Rattle.std.proofs.{Common.{◌≡◌, ℕ, ◌<◌, ◌≤◌, Bool, true, false, if◌then◌else◌, List, [], ◌∷◌, ◌++◌, length, length-append, append_assoc, Option, Some, None, refl, sym, ap, ◌∙◌, subst, arith, nat_lt}, lemmas.Bool.{ltb-true, ltb-false, cond_both}, lemmas.List.append-nil}
 use Rattle.std.specs.List.{AllByRecursion}
 use Rattle.event_log.proofs.Each.{all_push}
-use Rattle.record_lines.specs.declared.forms.form.RecordForm.{Ghosts}
-use Rattle.record_lines.specs.declared.forms.place.Next.{Next}
-use Rattle.record_lines.specs.declared.forms.place.Next.TheVariants.{Head, Log, Event, Cpu, Entry, End, Done}
-use Rattle.record_lines.specs.FormLaws.{ReadsLine, HeadGoesOn, FormLaws}
-use Rattle.record_lines.specs.FormStates.{State, nothing_read, behind_head, behind_log, behind_events, behind_transcript, behind_entries, behind_line_at, TakesLine, LogsFit, TranscriptsFit, FitsAt}
-use Rattle.record_lines.specs.FormText.{part_text, logs_front, transcripts_front}
-use Rattle.record_lines.specs.LineMachine.{TakesEach}
-use Rattle.record_lines.specs.Reading.{◌>>=◌}
-use Rattle.record_lines.specs.Received.{LogFits, TranscriptFits, EventsFit, EntriesFit}
-use Rattle.record_lines.proofs.FormParts.{part_whole, items_more}
-use Rattle.record_lines.proofs.Readings.{bind_some}
+use Rattle.record_lines.specs.{declared.forms.form.RecordForm.Ghosts, declared.forms.place.Next.Next, declared.forms.place.Next.TheVariants.{Head, Log, Event, Cpu, Entry, End, Done}, FormLaws.{ReadsLine, HeadGoesOn, FormLaws}, FormStates.{State, nothing_read, behind_head, behind_log, behind_events, behind_transcript, behind_entries, behind_line_at, TakesLine, LogsFit, TranscriptsFit, FitsAt}, FormText.{part_text, logs_front, transcripts_front}, LineMachine.TakesEach, Reading.◌>>=◌, Received.{LogFits, TranscriptFits, EventsFit, EntriesFit}}
+use Rattle.record_lines.proofs.{FormParts.{part_whole, items_more}, Readings.bind_some}
 
 module _ {S H E T : Type 0} (f : Ghosts S H E T) where
   -- ---- what is spelled

@@ -1,10 +1,6 @@
 -- One line of a record in any form, at each place, as the reader's state shows it.
-use Rattle.std.proofs.Common.{◌≡◌, ℕ, ◌<◌, ◌≤◌, Bool, true, false, cond, if◌then◌else◌, List, [], ◌∷◌, ◌++◌, length, Option, Some, refl, sym, ap, ◌∙◌, arith, nat_lt}
-use Rattle.std.proofs.lemmas.Bool.{lt-ltb, le-ltb}
-use Rattle.record_lines.specs.declared.forms.form.RecordForm.{Ghosts}
-use Rattle.record_lines.specs.declared.forms.place.Next.{Next}
-use Rattle.record_lines.specs.declared.forms.place.Next.TheVariants.{Head, Log, Event, Cpu, Entry, End, Done}
-use Rattle.record_lines.specs.FormStates.{State, behind_head, behind_log, behind_events, behind_transcript, behind_entries, behind_line_at, TakesLine}
+use Rattle.std.proofs.{Common.{◌≡◌, ℕ, ◌<◌, ◌≤◌, Bool, true, false, cond, if◌then◌else◌, List, [], ◌∷◌, ◌++◌, length, Option, Some, refl, sym, ap, ◌∙◌, arith, nat_lt}, lemmas.Bool.{lt-ltb, le-ltb}}
+use Rattle.record_lines.specs.{declared.forms.form.RecordForm.Ghosts, declared.forms.place.Next.Next, declared.forms.place.Next.TheVariants.{Head, Log, Event, Cpu, Entry, End, Done}, FormStates.{State, behind_head, behind_log, behind_events, behind_transcript, behind_entries, behind_line_at, TakesLine}}
 
 -- one of two places in the same state
 one_place : {X : Type 0} (b : Bool) (f : Next → X) (p q r : Next) → r ≡ (if b then p else q) → ◌≡◌ {A = Option X} (Some (cond b (f p) (f q))) (Some (f r))

@@ -1,21 +1,8 @@
 -- What lines that are taken, one after the other, say of the bytes that they are the front of.
-use Rattle.std.proofs.Common.{◌≡◌, ℕ, suc, ◌-◌, ◌⊎◌, ◌<◌, List, [], ◌∷◌, ◌++◌, length, length-append, Option, Some, None, inl, inr, refl, sym, ap, ◌∙◌, subst, arith}
-use Rattle.std.proofs.lemmas.List.{append-nil}
+use Rattle.std.proofs.{Common.{◌≡◌, ℕ, suc, ◌-◌, ◌⊎◌, ◌<◌, List, [], ◌∷◌, ◌++◌, length, length-append, Option, Some, None, inl, inr, refl, sym, ap, ◌∙◌, subst, arith}, lemmas.List.append-nil}
 use Rattle.std.specs.List.{AllByRecursion}
-use Rattle.record_lines.specs.declared.forms.form.RecordForm.{Ghosts}
-use Rattle.record_lines.specs.declared.forms.place.Next.TheVariants.{Done}
-use Rattle.record_lines.specs.FirstLines.{first_lines}
-use Rattle.record_lines.specs.FormLaws.{FormLaws}
-use Rattle.record_lines.specs.FormStates.{State, nothing_read, whole_of, behind_line_at, TakesLine, RefusesLine, AllRead, FitsAt}
-use Rattle.record_lines.specs.FormText.{whole_lines, whole_text}
-use Rattle.record_lines.specs.LineMachine.{TakesEach, TakesText, RefusesLine as RefusesAny}
-use Rattle.record_lines.specs.Received.{Whole, WholeFits}
-use Rattle.record_lines.specs.WholeFaults.{WholeAgrees, IsWholeBadLine, IsWholeText, IsWholeFront}
-use Rattle.record_lines.specs.Words.{NoEnd, text_of_lines}
-use Rattle.record_lines.proofs.FirstLines.{text_append, line_behind, same_line, no_such_end, first_within, first_same, first_none, first_is, refused_on}
-use Rattle.record_lines.proofs.FormEnds.{begins_at, done_is}
-use Rattle.record_lines.proofs.FormRuns.{whole_run, done_with}
-use Rattle.record_lines.proofs.FormSpells.{Spells, spelled_at, lines_spell, lines_are}
+use Rattle.record_lines.specs.{declared.forms.form.RecordForm.Ghosts, declared.forms.place.Next.TheVariants.Done, FirstLines.first_lines, FormLaws.FormLaws, FormStates.{State, nothing_read, whole_of, behind_line_at, TakesLine, RefusesLine, AllRead, FitsAt}, FormText.{whole_lines, whole_text}, LineMachine.{TakesEach, TakesText, RefusesLine as RefusesAny}, Received.{Whole, WholeFits}, WholeFaults.{WholeAgrees, IsWholeBadLine, IsWholeText, IsWholeFront}, Words.{NoEnd, text_of_lines}}
+use Rattle.record_lines.proofs.{FirstLines.{text_append, line_behind, same_line, no_such_end, first_within, first_same, first_none, first_is, refused_on}, FormEnds.{begins_at, done_is}, FormRuns.{whole_run, done_with}, FormSpells.{Spells, spelled_at, lines_spell, lines_are}}
 
 module _ {S H E T : Type 0} (f : Ghosts S H E T) where
   -- no line can come where all was read

@@ -1,6 +1,5 @@
 -- How long words and lines get, counted roughly.
-use Rattle.std.proofs.Common.{◌≡◌, ℕ, ◌+◌, ◌*◌, ◌<◌, ◌≤◌, ◌^◌, List, [], ◌∷◌, ◌++◌, length, length-append, map, arith, codes, decimal}
-use Rattle.std.proofs.lemmas.Fmt.{length-decimal-le}
+use Rattle.std.proofs.{Common.{◌≡◌, ℕ, ◌+◌, ◌*◌, ◌<◌, ◌≤◌, ◌^◌, List, [], ◌∷◌, ◌++◌, length, length-append, map, arith, codes, decimal}, lemmas.Fmt.length-decimal-le}
 use Rattle.std.specs.List.{AllByRecursion, flat_map}
 use Rattle.event_log.specs.declared.event.TheConstants.{MOST_CALLS}
 use Rattle.record_lines.specs.Words.{sentence, separated}

@@ -1,16 +1,9 @@
 -- A line of fixed words, or of these and a number, is read as what it spells, and nothing else is.
-use Rattle.std.proofs.Common.{◌≡◌, ℕ, ◌<◌, ◌≤◌, ◌^◌, true, Option, Some, List, [], ◌∷◌, ◌++◌, length, length-append, refl, sym, ◌∙◌, ap, subst, arith, decimal, nat_le, ◌&&◌}
-use Rattle.std.proofs.lemmas.Bool.{and_parts, leb-true, le-leb}
-use Rattle.std.proofs.lemmas.List.{append-nil}
-use Rattle.std.proofs.lemmas.Option.{cond_some}
+use Rattle.std.proofs.{Common.{◌≡◌, ℕ, ◌<◌, ◌≤◌, ◌^◌, true, Option, Some, List, [], ◌∷◌, ◌++◌, length, length-append, refl, sym, ◌∙◌, ap, subst, arith, decimal, nat_le, ◌&&◌}, lemmas.Bool.{and_parts, leb-true, le-leb}, lemmas.List.append-nil, lemmas.Option.cond_some}
 use Rattle.std.specs.List.{AllByRecursion}
 use Rattle.event_log.proofs.Each.{all_append}
-use Rattle.record_lines.specs.Reading.{key_at, number_at}
-use Rattle.record_lines.specs.LineParts.{is_nil, keys_at, fixed_at, last_at, head_at}
-use Rattle.record_lines.specs.Words.{IsPlain}
-use Rattle.record_lines.proofs.ListLaws.{nil_is, key_takes, key_again}
-use Rattle.record_lines.proofs.Readings.{bind_some, plain_decimal, number_at_takes, number_at_again}
-use Rattle.record_lines.proofs.Lengths.{long, long_append, number_le}
+use Rattle.record_lines.specs.{Reading.{key_at, number_at}, LineParts.{is_nil, keys_at, fixed_at, last_at, head_at}, Words.IsPlain}
+use Rattle.record_lines.proofs.{ListLaws.{nil_is, key_takes, key_again}, Readings.{bind_some, plain_decimal, number_at_takes, number_at_again}, Lengths.{long, long_append, number_le}}
 
 -- the words make a line of at most 1,024 bytes: there is one, and neither a line end nor a space is in any
 pub record IsLine (ws : List (List ℕ)) : Type 0 where

@@ -1,11 +1,8 @@
 -- Texts, line by line and piece by piece.
-use Rattle.std.proofs.Common.{◌≡◌, ℕ, ◌+◌, ◌<◌, ◌≤◌, get_or, Result, Ok, Err, Bool, true, false, List, [], ◌∷◌, ◌++◌, ◌==◌, length, length-append, append_assoc, refl, sym, ◌∙◌, ap, subst, arith}
-use Rattle.std.proofs.lemmas.Grind.{flat_map-append}
-use Rattle.std.proofs.lemmas.List.{append-nil}
+use Rattle.std.proofs.{Common.{◌≡◌, ℕ, ◌+◌, ◌<◌, ◌≤◌, get_or, Result, Ok, Err, Bool, true, false, List, [], ◌∷◌, ◌++◌, ◌==◌, length, length-append, append_assoc, refl, sym, ◌∙◌, ap, subst, arith}, lemmas.Grind.flat_map-append, lemmas.List.append-nil}
 use Rattle.std.specs.Result.{IsErrAnd}
 use Rattle.event_log.proofs.Each.{all_append, all_push}
-use Rattle.record_lines.specs.LineMachine.{TakesEach, TakesText, RefusesText, RefusesRest, Passes, IsKept, IsShort, BeginsIdle, IsHeld, HasTaken}
-use Rattle.record_lines.specs.Words.{NoEnd, text_of_lines}
+use Rattle.record_lines.specs.{LineMachine.{TakesEach, TakesText, RefusesText, RefusesRest, Passes, IsKept, IsShort, BeginsIdle, IsHeld, HasTaken}, Words.{NoEnd, text_of_lines}}
 
 pub text_more : (lines : List (List ℕ)) (line : List ℕ) → text_of_lines (lines ++ line ∷ []) ≡ text_of_lines lines ++ (line ++ 10 ∷ [])
 text_more lines line = flat_map-append (λ l. l ++ 10 ∷ []) lines (line ∷ []) ∙ ap (λ t. text_of_lines lines ++ t) (append-nil (line ++ 10 ∷ []))

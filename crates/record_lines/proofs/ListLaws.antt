@@ -1,17 +1,9 @@
 -- A list of items is read as what it spells, and nothing else is.
-use Rattle.std.proofs.Common.{◌≡◌, ℕ, zero, suc, ◌-◌, ◌<◌, ◌≤◌, Bool, true, false, Option, Some, None, List, [], ◌∷◌, ◌++◌, length, map, refl, sym, ◌∙◌, ap, subst, cond, append_assoc, arith, codes, bytes_eq}
-use Rattle.std.specs.Cmp.Derive.{both_true}
-use Rattle.std.proofs.lemmas.Bool.{and_parts}
-use Rattle.std.proofs.lemmas.Option.{cond_some}
-use Rattle.std.proofs.lemmas.Slice.Eq.{bytes_eq-Decides}
-use Rattle.std.specs.List.{AllByRecursion, list_all, flat_map}
-use Rattle.std.specs.Option.{option_map_or}
+use Rattle.std.proofs.{Common.{◌≡◌, ℕ, zero, suc, ◌-◌, ◌<◌, ◌≤◌, Bool, true, false, Option, Some, None, List, [], ◌∷◌, ◌++◌, length, map, refl, sym, ◌∙◌, ap, subst, cond, append_assoc, arith, codes, bytes_eq}, lemmas.Bool.and_parts, lemmas.Option.cond_some, lemmas.Slice.Eq.bytes_eq-Decides}
+use Rattle.std.specs.{Cmp.Derive.both_true, List.{AllByRecursion, list_all, flat_map}, Option.option_map_or}
 use Rattle.event_log.specs.declared.event.TheConstants.{MOST_CALLS}
 use Rattle.event_log.proofs.Each.{all_append}
-use Rattle.record_lines.specs.Reading.{◌>>=◌, word_at, key_at}
-use Rattle.record_lines.specs.Words.{IsPlain}
-use Rattle.record_lines.specs.Words.{separated}
-use Rattle.record_lines.specs.LineParts.{is_nil, more_at, list_at}
+use Rattle.record_lines.specs.{Reading.{◌>>=◌, word_at, key_at}, Words.IsPlain, Words.separated, LineParts.{is_nil, more_at, list_at}}
 use Rattle.record_lines.proofs.Readings.{bind_some, same}
 
 pub nil_is : (ws : List (List ℕ)) → is_nil ws ≡ true → ws ≡ []

@@ -1,9 +1,7 @@
 -- Reading items one after another, each but the first behind a semicolon.
-use Rattle.std.proofs.Common.{◌≡◌, ℕ, suc, ◌-◌, Option, Some, None, List, [], ◌∷◌, ◌++◌, ap, codes}
-use Rattle.std.proofs.lemmas.List.{append-nil}
+use Rattle.std.proofs.{Common.{◌≡◌, ℕ, suc, ◌-◌, Option, Some, None, List, [], ◌∷◌, ◌++◌, ap, codes}, lemmas.List.append-nil}
 use Rattle.event_log.specs.declared.event.TheConstants.{MOST_CALLS}
-use Rattle.record_lines.specs.Reading.{◌>>=◌, key_at}
-use Rattle.record_lines.specs.LineParts.{more_at, list_at}
+use Rattle.record_lines.specs.{Reading.{◌>>=◌, key_at}, LineParts.{more_at, list_at}}
 use Rattle.record_lines.proofs.Readings.{bind_grown}
 
 module _ {T : Type 0} (item_at : List (List ℕ) → Option (T × List (List ℕ))) where

@@ -1,16 +1,8 @@
 -- Names, and the objects that they name.
-use Rattle.std.proofs.Common.{IsUtf8, Option, if◌then◌else◌, ◌≡◌, ℕ, zero, suc, ◌<◌, Bool, true, false, Some, None, List, [], ◌∷◌, length, refl, ◌∙◌, ap, cond, arith, position, get_or, nat_le, nat_lt, ◌&&◌, ◌||◌, ◌≤◌, subst}
-use Rattle.std.proofs.lemmas.Str.{IsUtf8-from_ascii}
-use Rattle.std.proofs.lemmas.List.Quantifiers.{position-Some}
-use Rattle.std.proofs.lemmas.Bool.{and_parts, leb-true, lt-ltb}
-use Rattle.std.proofs.lemmas.Option.{slice_get-get_or, cond_some}
-use Rattle.std.proofs.lemmas.List.Sums.{position_or_len_is}
+use Rattle.std.proofs.{Common.{IsUtf8, Option, if◌then◌else◌, ◌≡◌, ℕ, zero, suc, ◌<◌, Bool, true, false, Some, None, List, [], ◌∷◌, length, refl, ◌∙◌, ap, cond, arith, position, get_or, nat_le, nat_lt, ◌&&◌, ◌||◌, ◌≤◌, subst}, lemmas.Str.IsUtf8-from_ascii, lemmas.List.Quantifiers.position-Some, lemmas.Bool.{and_parts, leb-true, lt-ltb}, lemmas.Option.{slice_get-get_or, cond_some}, lemmas.List.Sums.position_or_len_is}
 use Rattle.std.specs.List.{AllByRecursion, list_all, slice_get, position_or_len}
 use Rattle.event_log.proofs.Each.{all_map}
-use Rattle.record_lines.specs.Words.{IsPlain}
-use Rattle.record_lines.specs.Names.{is_name, is_letter, is_digit}
-use Rattle.record_lines.specs.Reading.{word_at}
-use Rattle.record_lines.specs.LineParts.{name_word_at}
+use Rattle.record_lines.specs.{Words.IsPlain, Names.{is_name, is_letter, is_digit}, Reading.word_at, LineParts.name_word_at}
 
 -- a byte of a name is neither a line end nor a space, and below 128
 abbrev IsWithin : ℕ → Type 0

@@ -1,16 +1,8 @@
 -- A number that is read a digit at a time.
-use Rattle.std.proofs.Common.{◌≡◌, ℕ, zero, suc, ◌+◌, ◌-◌, ◌*◌, ◌<◌, ◌≤◌, ◌^◌, ◌==◌, Bool, true, false, cond, Some, None, List, [], ◌∷◌, length, take, drop, get_or, decimal, refl, sym, ap, subst, ne_eqb, ◌∙◌, arith}
-use Rattle.std.specs.Int.{IsInRange}
-use Rattle.std.specs.List.{onto_first}
-use Rattle.std.specs.Str.Parse.{digits_value}
-use Rattle.std.proofs.lemmas.List.{take_all}
-use Rattle.std.proofs.lemmas.Int.Digits.{digits_value_more}
-use Rattle.std.proofs.lemmas.Option.{cond_some}
-use Rattle.std.proofs.lemmas.Str.Parse.{digits_value-take-le}
+use Rattle.std.proofs.{Common.{◌≡◌, ℕ, zero, suc, ◌+◌, ◌-◌, ◌*◌, ◌<◌, ◌≤◌, ◌^◌, ◌==◌, Bool, true, false, cond, Some, None, List, [], ◌∷◌, length, take, drop, get_or, decimal, refl, sym, ap, subst, ne_eqb, ◌∙◌, arith}, lemmas.List.take_all, lemmas.Int.Digits.digits_value_more, lemmas.Option.cond_some, lemmas.Str.Parse.digits_value-take-le}
+use Rattle.std.specs.{Int.IsInRange, List.onto_first, Str.Parse.digits_value}
 use Rattle.record_lines.specs.Reading.{AreDigits, words, word_at, number_at, behind_at}
-use Rattle.record_lines.proofs.Cuts.{no_number, number_again}
-use Rattle.record_lines.proofs.Bytes.{first_is}
-use Rattle.record_lines.proofs.Digits.{NoText, digits_more, digits_push, digits_are, decimal_digits, decimal_value, empty_none, zero_none}
+use Rattle.record_lines.proofs.{Cuts.{no_number, number_again}, Bytes.first_is, Digits.{NoText, digits_more, digits_push, digits_are, decimal_digits, decimal_value, empty_none, zero_none}}
 
 -- the bytes before the first space
 abbrev pub first_of : List ℕ → List ℕ

@@ -1,12 +1,8 @@
 -- Known contents grow piece by piece.
-use Rattle.event_log.specs.declared.stream.Sink.{Ghosts}
-use Rattle.event_log.specs.Log.{Begins}
-use Rattle.event_log.specs.Stream.{counted}
+use Rattle.event_log.specs.{declared.stream.Sink.Ghosts, Log.Begins, Stream.counted}
 use Rattle.event_log.proofs.Beginnings.{begins_more, begins_behind}
-use Rattle.record_lines.specs.declared.streams.buffer.Buffered.{Buffered}
-use Rattle.record_lines.specs.Output.{TakesAll, TakesSome, Puts, AppendsBeginning}
-use Rattle.std.proofs.Common.{◌≡◌, ℕ, ◌+◌, ◌<◌, get_or, List, [], ◌∷◌, ◌++◌, Option, Some, None, length, take, drop, refl, sym, ◌∙◌, ap, subst, append_assoc, Result, Ok, Err, OnOk, OnErr, Bool, true, false}
-use Rattle.std.proofs.lemmas.List.{take-append-drop, append-nil, take_more}
+use Rattle.record_lines.specs.{declared.streams.buffer.Buffered.Buffered, Output.{TakesAll, TakesSome, Puts, AppendsBeginning}}
+use Rattle.std.proofs.{Common.{◌≡◌, ℕ, ◌+◌, ◌<◌, get_or, List, [], ◌∷◌, ◌++◌, Option, Some, None, length, take, drop, refl, sym, ◌∙◌, ap, subst, append_assoc, Result, Ok, Err, OnOk, OnErr, Bool, true, false}, lemmas.List.{take-append-drop, append-nil, take_more}}
 use Rattle.std.specs.Io.KnownBytes.{Appends}
 
 -- known contents, after known bytes more

@@ -1,9 +1,6 @@
 -- Words and numbers are read as what they are, and nothing else is.
-use Rattle.std.proofs.Common.{◌≡◌, ℕ, ◌<◌, ◌≤◌, ◌^◌, true, Option, Some, None, List, [], ◌∷◌, ◌++◌, refl, sym, append_assoc, ◌∙◌, ap, subst, arith, decimal, IfSome, IfNone, bytes_eq}
-use Rattle.std.proofs.lemmas.Fmt.{decimal_by_steps}
-use Rattle.std.proofs.lemmas.Slice.Eq.{bytes_eq-Decides}
-use Rattle.record_lines.specs.Reading.{◌>>=◌, number_in, word_at, number_at, key_at}
-use Rattle.record_lines.specs.Words.{IsPlain}
+use Rattle.std.proofs.{Common.{◌≡◌, ℕ, ◌<◌, ◌≤◌, ◌^◌, true, Option, Some, None, List, [], ◌∷◌, ◌++◌, refl, sym, append_assoc, ◌∙◌, ap, subst, arith, decimal, IfSome, IfNone, bytes_eq}, lemmas.Fmt.decimal_by_steps, lemmas.Slice.Eq.bytes_eq-Decides}
+use Rattle.record_lines.specs.{Reading.{◌>>=◌, number_in, word_at, number_at, key_at}, Words.IsPlain}
 use Rattle.record_lines.proofs.Cuts.{number_takes, number_again}
 
 -- what holds of a value that is there

@@ -1,10 +1,6 @@
 -- An entry that is recognised by its front and the text behind it.
 use Rattle.std.proofs.Common.{◌≡◌, ℕ, ◌<◌, List, sym, subst}
-use Rattle.record_lines.specs.declared.forms.form.RecordForm.{Ghosts}
-use Rattle.record_lines.specs.declared.forms.place.ReaderPlace.{ReaderPlace}
-use Rattle.record_lines.specs.declared.forms.place.Next.TheVariants.{Entry}
-use Rattle.record_lines.specs.FormAgreed.{Agree}
-use Rattle.record_lines.specs.Received.{Received}
+use Rattle.record_lines.specs.{declared.forms.form.RecordForm.Ghosts, declared.forms.place.ReaderPlace.ReaderPlace, declared.forms.place.Next.TheVariants.Entry, FormAgreed.Agree, Received.Received}
 use Rattle.record_lines.proofs.FormSinks.{here}
 
 module _ {S H E T : Type 0} (f : Ghosts S H E T) (at : ReaderPlace H) (p : Received H E T) (is : at.awaits ≡ Entry) (agree : Agree f at p) where

@@ -1,13 +1,8 @@
 -- Words and their sentence: each gives the other.
-use Rattle.std.proofs.Common.{◌≡◌, ℕ, ◌<◌, ◌==◌, Bool, true, false, cond, List, [], ◌∷◌, length, refl, ◌∙◌, ap, arith}
-use Rattle.std.proofs.lemmas.List.Elements.{All-from_recursion}
-use Rattle.std.proofs.lemmas.List.Splits.{slice_split_none, slice_split_at, join_with_byte-slice_split}
+use Rattle.std.proofs.{Common.{◌≡◌, ℕ, ◌<◌, ◌==◌, Bool, true, false, cond, List, [], ◌∷◌, length, refl, ◌∙◌, ap, arith}, lemmas.List.Elements.All-from_recursion, lemmas.List.Splits.{slice_split_none, slice_split_at, join_with_byte-slice_split}}
 use Rattle.std.specs.List.{AllByRecursion, join_with_byte, onto_first}
 use Rattle.event_log.proofs.Each.{all_map, all_append}
-use Rattle.record_lines.specs.Reading.{words}
-use Rattle.record_lines.specs.Words.{IsPlain, sentence}
-use Rattle.record_lines.specs.Words.{sentence, NoEnd}
-use Rattle.record_lines.specs.LineParts.{is_nil}
+use Rattle.record_lines.specs.{Reading.words, Words.{IsPlain, sentence}, Words.{sentence, NoEnd}, LineParts.is_nil}
 
 not_space : (b : ℕ) → 32 < b → (b == 32) ≡ false
 not_space b high = grind arith

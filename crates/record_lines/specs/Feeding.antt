@@ -1,6 +1,5 @@
 -- A source whose text is handed on piece by piece.
-use Rattle.std.specs.Prelude.{ℕ, List, Option}
-use Rattle.std.specs.Io.KnownBytes.{Consumes}
+use Rattle.std.specs.{Prelude.{ℕ, List, Option}, Io.KnownBytes.Consumes}
 use Rattle.record_lines.specs.Sources.{IsRest}
 
 -- the rest of a source was taken, and made that

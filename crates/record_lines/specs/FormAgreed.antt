@@ -1,11 +1,6 @@
 -- What a reader of records knows of its place, and what its sink has received, say what was read.
 use Rattle.std.specs.Prelude.{Bool, true, false, ◌≡◌, length}
-use Rattle.record_lines.specs.declared.forms.form.RecordForm.{Ghosts}
-use Rattle.record_lines.specs.declared.forms.place.ReaderPlace.{ReaderPlace}
-use Rattle.record_lines.specs.declared.forms.place.Next.{Next}
-use Rattle.record_lines.specs.declared.forms.place.Next.TheVariants.{Head, Log, Event, Cpu, Entry, End, Done}
-use Rattle.record_lines.specs.Received.{Received, only_head}
-use Rattle.record_lines.specs.FormStates.{State, FitsAt}
+use Rattle.record_lines.specs.{declared.forms.form.RecordForm.Ghosts, declared.forms.place.ReaderPlace.ReaderPlace, declared.forms.place.Next.Next, declared.forms.place.Next.TheVariants.{Head, Log, Event, Cpu, Entry, End, Done}, Received.{Received, only_head}, FormStates.{State, FitsAt}}
 
 module _ {H E T : Type 0} where
   -- what was read, and which line can come next

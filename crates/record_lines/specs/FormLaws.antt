@@ -1,8 +1,6 @@
 -- What the lines of a form owe each other: each is read as what it spells, and nothing else is.
 use Rattle.std.specs.Prelude.{ℕ, ◌≡◌, ◌<◌, ◌≤◌, List, [], ◌∷◌, ◌++◌, true, false, Option, Some}
-use Rattle.record_lines.specs.declared.forms.form.RecordForm.{Ghosts}
-use Rattle.record_lines.specs.LineMachine.{TakesEach}
-use Rattle.record_lines.specs.Words.{NoEnd}
+use Rattle.record_lines.specs.{declared.forms.form.RecordForm.Ghosts, LineMachine.TakesEach, Words.NoEnd}
 
 -- a line is read as what it spells, and nothing else is
 pub record ReadsLine {X : Type 0} (IsLine : List ℕ → Type 0) (text_of : X → List ℕ) (fits : X → Type 0) (read : List ℕ → Option X) : Type 0 where

@@ -1,7 +1,6 @@
 -- The place of a reader of records behind whole parts.
 use Rattle.std.specs.Prelude.{ℕ, ◌+◌, nat_lt, if◌then◌else◌}
-use Rattle.record_lines.specs.declared.forms.place.ReaderPlace.{ReaderPlace}
-use Rattle.record_lines.specs.declared.forms.place.Next.TheVariants.{Log, Cpu, End}
+use Rattle.record_lines.specs.{declared.forms.place.ReaderPlace.ReaderPlace, declared.forms.place.Next.TheVariants.{Log, Cpu, End}}
 
 module _ {H : Type 0} where
   -- behind a log: another of so many, or the first transcript

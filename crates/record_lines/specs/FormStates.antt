@@ -1,11 +1,6 @@
 -- What was read of a record in any form, and which line can come next.
-use Rattle.std.specs.Prelude.{ℕ, false, ◌≡◌, ◌<◌, ◌≤◌, nat_lt, if◌then◌else◌, List, [], ◌∷◌, ◌++◌, length, Option, Some, None}
-use Rattle.std.specs.List.{AllByRecursion}
-use Rattle.record_lines.specs.declared.forms.form.RecordForm.{Ghosts}
-use Rattle.record_lines.specs.declared.forms.place.Next.{Next}
-use Rattle.record_lines.specs.declared.forms.place.Next.TheVariants.{Head, Log, Event, Cpu, Entry, End, Done}
-use Rattle.record_lines.specs.Reading.{◌>>=◌}
-use Rattle.record_lines.specs.Received.{Whole, LogFits, TranscriptFits, EventsFit, EntriesFit}
+use Rattle.std.specs.{Prelude.{ℕ, false, ◌≡◌, ◌<◌, ◌≤◌, nat_lt, if◌then◌else◌, List, [], ◌∷◌, ◌++◌, length, Option, Some, None}, List.AllByRecursion}
+use Rattle.record_lines.specs.{declared.forms.form.RecordForm.Ghosts, declared.forms.place.Next.Next, declared.forms.place.Next.TheVariants.{Head, Log, Event, Cpu, Entry, End, Done}, Reading.◌>>=◌, Received.{Whole, LogFits, TranscriptFits, EventsFit, EntriesFit}}
 
 -- which line can come next, and what was read: the head, whole logs and transcripts, the events or the entries behind them, and how
 -- many of what is being read its head said

@@ -1,8 +1,6 @@
 -- The text of a record in any form: its head, a log for each object, a transcript for each CPU, and its end.
 use Rattle.std.specs.Prelude.{ℕ, ◌+◌, List, [], ◌∷◌, ◌++◌, map, length}
-use Rattle.record_lines.specs.declared.forms.form.RecordForm.{Ghosts}
-use Rattle.record_lines.specs.Received.{Whole}
-use Rattle.record_lines.specs.Words.{text_of_lines}
+use Rattle.record_lines.specs.{declared.forms.form.RecordForm.Ghosts, Received.Whole, Words.text_of_lines}
 
 -- part i of n items: its head, and a line for each of the items that are there; and whole parts, from number i on
 module _ {T : Type 0} (head : ℕ → ℕ → List ℕ) (text_of : T → List ℕ) where

@@ -1,8 +1,6 @@
 -- A state that takes the lines of a text, one after the other.
-use Rattle.std.specs.Prelude.{ℕ, ◌≡◌, ◌+◌, ◌<◌, ◌≤◌, ◌⊎◌, Bool, true, false, List, [], ◌∷◌, ◌++◌, length}
-use Rattle.std.specs.List.{AllByRecursion}
-use Rattle.record_lines.specs.declared.text.line_machine.TheConstants.{MOST_BYTES}
-use Rattle.record_lines.specs.Words.{NoEnd, text_of_lines}
+use Rattle.std.specs.{Prelude.{ℕ, ◌≡◌, ◌+◌, ◌<◌, ◌≤◌, ◌⊎◌, Bool, true, false, List, [], ◌∷◌, ◌++◌, length}, List.AllByRecursion}
+use Rattle.record_lines.specs.{declared.text.line_machine.TheConstants.MOST_BYTES, Words.{NoEnd, text_of_lines}}
 
 -- the lines, one after the other, take the one state to the other
 abbrev pub TakesEach : {L S : Type 0} → (L → S → S → Type 0) → List L → S → S → Type 0

@@ -1,9 +1,7 @@
 -- Reading the parts of a line that all lines have: fixed words, names, numbers and lists.
-use Rattle.std.specs.Prelude.{ℕ, zero, suc, List, [], ◌∷◌, Option, Some, None, Bool, true, false, if◌then◌else◌, codes, ◌-◌, ◌&&◌, nat_le}
-use Rattle.std.specs.Option.{option_map_or}
+use Rattle.std.specs.{Prelude.{ℕ, zero, suc, List, [], ◌∷◌, Option, Some, None, Bool, true, false, if◌then◌else◌, codes, ◌-◌, ◌&&◌, nat_le}, Option.option_map_or}
 use Rattle.event_log.specs.declared.event.TheConstants.{MOST_CALLS}
-use Rattle.record_lines.specs.Reading.{◌>>=◌, word_at, key_at, number_at}
-use Rattle.record_lines.specs.Names.{is_name}
+use Rattle.record_lines.specs.{Reading.{◌>>=◌, word_at, key_at, number_at}, Names.is_name}
 
 -- no word is left
 abbrev pub is_nil : List (List ℕ) → Bool

@@ -1,10 +1,7 @@
 -- What writing a text does to a sink.
 use Rattle.std.specs.Prelude.{◌≡◌, ℕ, true, false, List, ◌++◌, map, Option, Some}
-use Rattle.event_log.specs.declared.stream.Sink.{Ghosts}
-use Rattle.event_log.specs.Log.{Begins}
-use Rattle.event_log.specs.Stream.{counted}
-use Rattle.record_lines.specs.Words.{spaced, sentence, text_of_lines}
-use Rattle.record_lines.specs.declared.streams.buffer.Buffered.{Buffered}
+use Rattle.event_log.specs.{declared.stream.Sink.Ghosts, Log.Begins, Stream.counted}
+use Rattle.record_lines.specs.{Words.{spaced, sentence, text_of_lines}, declared.streams.buffer.Buffered.Buffered}
 
 -- known contents grew by a beginning of the bytes
 abbrev pub AppendsBeginning : Option (List ℕ) → Option (List ℕ) → List ℕ → Type 0

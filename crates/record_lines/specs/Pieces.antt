@@ -1,9 +1,6 @@
 -- What who reads a text in pieces has taken of it.
 use Rattle.std.specs.Prelude.{List, ℕ}
-use Rattle.record_lines.specs.declared.text.fault.LinesFault.{LinesFault}
-use Rattle.record_lines.specs.declared.text.fault.LinesFault.TheVariants.{OutOfMemory, Line}
-use Rattle.record_lines.specs.declared.text.line_machine.Pieces.{Pieces}
-use Rattle.record_lines.specs.LineMachine.{HasTaken, IsHeld, IsKept, RefusesLine}
+use Rattle.record_lines.specs.{declared.text.fault.LinesFault.LinesFault, declared.text.fault.LinesFault.TheVariants.{OutOfMemory, Line}, declared.text.line_machine.Pieces.Pieces, LineMachine.{HasTaken, IsHeld, IsKept, RefusesLine}}
 
 module _ {S : Type 0} (takes : List ℕ → S → S → Type 0) where
   -- the whole lines of the text were taken, and what follows them is kept

@@ -1,6 +1,5 @@
 -- What the sink of a record in any form was handed over. H, E and T are the types of the form's heads, events and entries.
-use Rattle.std.specs.Prelude.{ℕ, Bool, true, false, ◌≡◌, ◌<◌, ◌≤◌, List, [], ◌∷◌, ◌++◌, length}
-use Rattle.std.specs.List.{AllByRecursion}
+use Rattle.std.specs.{Prelude.{ℕ, Bool, true, false, ◌≡◌, ◌<◌, ◌≤◌, List, [], ◌∷◌, ◌++◌, length}, List.AllByRecursion}
 use Rattle.record_lines.specs.declared.forms.form.RecordForm.{Ghosts}
 
 -- the head, whether a log or a transcript was begun that isn't whole, how many events or entries it will have, whole logs and

@@ -1,6 +1,5 @@
 -- What is read of a source that shows its bytes.
-use Rattle.std.specs.Prelude.{ℕ, ◌≡◌, List, Option, Some, ◌≤◌, length, ◌<◌, ◌-◌, ◌^◌, []}
-use Rattle.std.specs.Io.KnownBytes.{Consumes}
+use Rattle.std.specs.{Prelude.{ℕ, ◌≡◌, List, Option, Some, ◌≤◌, length, ◌<◌, ◌-◌, ◌^◌, []}, Io.KnownBytes.Consumes}
 
 -- what is read is a source's rest, where it shows it
 abbrev pub IsRest : Option (List ℕ) → List ℕ → Type 0

@@ -1,9 +1,7 @@
 -- Why a text of lines is not read.
-use Rattle.record_lines.specs.declared.streams.feeding.SourceFault.{SourceFault}
+use Rattle.record_lines.specs.{declared.streams.feeding.SourceFault.SourceFault, declared.text.fault.LinesFault.LinesFault, declared.text.fault.TextFault.TextFault}
 use Rattle.record_lines.specs.declared.streams.feeding.SourceFault.TheVariants as source
-use Rattle.record_lines.specs.declared.text.fault.LinesFault.{LinesFault}
 use Rattle.record_lines.specs.declared.text.fault.LinesFault.TheVariants as lines
-use Rattle.record_lines.specs.declared.text.fault.TextFault.{TextFault}
 use Rattle.record_lines.specs.declared.text.fault.TextFault.TheVariants as text
 
 -- the same refusal of a text in memory and of one from a source

@@ -1,9 +1,6 @@
 -- Which line of a text is the first that no record of a form continues.
 use Rattle.std.specs.Prelude.{ℕ, ◌≡◌, ◌<◌, List, ◌++◌, length}
-use Rattle.record_lines.specs.declared.forms.form.RecordForm.{Ghosts}
-use Rattle.record_lines.specs.FirstLines.{first_lines}
-use Rattle.record_lines.specs.FormText.{whole_text}
-use Rattle.record_lines.specs.Received.{Whole, WholeFits}
+use Rattle.record_lines.specs.{declared.forms.form.RecordForm.Ghosts, FirstLines.first_lines, FormText.whole_text, Received.{Whole, WholeFits}}
 
 module _ {S H E T : Type 0} (f : Ghosts S H E T) where
   -- the first n lines are the first n lines of some record's text

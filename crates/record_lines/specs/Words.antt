@@ -1,6 +1,5 @@
 -- Lines of words, and their text.
-use Rattle.std.specs.Prelude.{ℕ, zero, suc, ◌≡◌, ◌==◌, false, List, [], ◌∷◌, ◌++◌, codes, ◌<◌}
-use Rattle.std.specs.List.{flat_map, join_with_byte, AllByRecursion}
+use Rattle.std.specs.{Prelude.{ℕ, zero, suc, ◌≡◌, ◌==◌, false, List, [], ◌∷◌, ◌++◌, codes, ◌<◌}, List.{flat_map, join_with_byte, AllByRecursion}}
 
 -- the words with single spaces between them
 abbrev pub sentence : List (List ℕ) → List ℕ

@@ -1,18 +1,10 @@
 -- Behind the first line of a form only texts of that form go on.
-use Rattle.std.proofs.Common.{◌≡◌, ◌↔◌, ℕ, zero, suc, ◌==◌, Bool, true, false, if◌then◌else◌, List, [], ◌∷◌, ◌++◌, map, drop, length, replicate, get_or, arith, rules, refl, sym, ap, ◌∙◌, subst}
-use Rattle.kernel_words.specs.declared.form.Form.{Form}
-use Rattle.kernel_words.specs.declared.form.Form.TheVariants.{One, Two}
-use Rattle.std.proofs.lemmas.List.{length-replicate}
+use Rattle.std.proofs.{Common.{◌≡◌, ◌↔◌, ℕ, zero, suc, ◌==◌, Bool, true, false, if◌then◌else◌, List, [], ◌∷◌, ◌++◌, map, drop, length, replicate, get_or, arith, rules, refl, sym, ap, ◌∙◌, subst}, lemmas.List.length-replicate}
+use Rattle.kernel_words.specs.{declared.form.Form.Form, declared.form.Form.TheVariants.{One, Two}}
 use Rattle.kernel_object.specs.KernelTypes.{KernelEvent, KernelEntry}
-use Rattle.records.specs.FormFaults.{form_line, AgreesIn, IsBadLineIn}
-use Rattle.records.specs.RecordFaults.{text_in, Agrees, IsBadLine}
-use Rattle.record_lines.specs.FirstLines.{first_lines}
-use Rattle.records.specs.RecordRanges.{Record, RecordFitsIn, LogFits, TranscriptFits}
-use Rattle.records.specs.Settings.{Settings}
-use Rattle.records.specs.RecordText.{record_text, record_lines}
-use Rattle.record_lines.specs.Words.{sentence, NoEnd}
-use Rattle.record_lines.proofs.FirstLines.{line_first, same_line, first_is}
-use Rattle.record_lines.proofs.Parts.{all_same}
+use Rattle.records.specs.{FormFaults.{form_line, AgreesIn, IsBadLineIn}, RecordFaults.{text_in, Agrees, IsBadLine}, RecordRanges.{Record, RecordFitsIn, LogFits, TranscriptFits}, Settings.Settings, RecordText.{record_text, record_lines}}
+use Rattle.record_lines.specs.{FirstLines.first_lines, Words.{sentence, NoEnd}}
+use Rattle.record_lines.proofs.{FirstLines.{line_first, same_line, first_is}, Parts.all_same}
 use Rattle.records.proofs.KernelHeads.{some_settings}
 
 -- the first line of the first lines

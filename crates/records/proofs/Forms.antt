@@ -1,14 +1,9 @@
 -- What a form can express, the form that is written can express too.
 use Rattle.std.proofs.Common.{◌≡◌, ℕ, ◌≤◌, true, List, [], ◌∷◌, length, refl, arith}
 use Rattle.std.specs.List.{AllByRecursion}
-use Rattle.kernel_object.specs.declared.call.KParams.{KParams}
-use Rattle.kernel_object.specs.KernelTypes.{KernelStep, KernelDone, KernelEvent, KernelEntry, KernelRun}
-use Rattle.kernel_words.specs.declared.form.Form.{Form}
-use Rattle.kernel_words.specs.declared.form.Form.TheVariants.{One, Two}
-use Rattle.kernel_words.specs.declared.form.TheConstants.{WRITTEN}
-use Rattle.kernel_words.specs.Forms.{most_cpus, ExpressesParams, has_steps, has_done}
-use Rattle.records.specs.RecordRanges.{Record, EventFits, EntryFits, LogFits, TranscriptFits, RunFits, RunFitsIn, RecordFits, RecordFitsIn}
-use Rattle.records.specs.Settings.{Settings, SettingsFit, SettingsFitIn, ObjectSettings, ObjectFits}
+use Rattle.kernel_object.specs.{declared.call.KParams.KParams, KernelTypes.{KernelStep, KernelDone, KernelEvent, KernelEntry, KernelRun}}
+use Rattle.kernel_words.specs.{declared.form.Form.Form, declared.form.Form.TheVariants.{One, Two}, declared.form.TheConstants.WRITTEN, Forms.{most_cpus, ExpressesParams, has_steps, has_done}}
+use Rattle.records.specs.{RecordRanges.{Record, EventFits, EntryFits, LogFits, TranscriptFits, RunFits, RunFitsIn, RecordFits, RecordFitsIn}, Settings.{Settings, SettingsFit, SettingsFitIn, ObjectSettings, ObjectFits}}
 
 -- ---- what holds of each form
 

@@ -1,13 +1,9 @@
 -- The lines of a record's head that have numbers, and its last line.
 use Rattle.std.proofs.Common.{◌≡◌, ℕ, ◌<◌, ◌≤◌, ◌^◌, List, [], ◌∷◌, Option, Some, None, refl, ap, ◌∙◌, arith, rules, codes, decimal}
 use Rattle.std.specs.Option.{option_map_or}
-use Rattle.kernel_words.specs.declared.form.Form.{Form}
-use Rattle.kernel_words.specs.declared.form.Form.TheVariants.{One, Two}
-use Rattle.kernel_words.specs.Forms.{version, most_cpus}
-use Rattle.record_lines.specs.Reading.{◌>>=◌, word_at, key_at}
-use Rattle.record_lines.specs.LineParts.{fixed_at, keys_at}
-use Rattle.record_lines.proofs.LineLaws.{IsLine, ReadsLines, fixed_takes}
-use Rattle.record_lines.proofs.Readings.{bind_some}
+use Rattle.kernel_words.specs.{declared.form.Form.Form, declared.form.Form.TheVariants.{One, Two}, Forms.{version, most_cpus}}
+use Rattle.record_lines.specs.{Reading.{◌>>=◌, word_at, key_at}, LineParts.{fixed_at, keys_at}}
+use Rattle.record_lines.proofs.{LineLaws.{IsLine, ReadsLines, fixed_takes}, Readings.bind_some}
 use Rattle.records.specs.RecordReading.{form_at}
 
 abbrev pub first_line : Form → List (List ℕ)

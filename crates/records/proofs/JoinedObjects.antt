@@ -1,12 +1,7 @@
 -- Objects that join others, whose names differ.
-use Rattle.std.proofs.Common.{◌≡◌, ℕ, zero, suc, ◌<◌, ◌≤◌, true, false, List, [], ◌∷◌, ◌++◌, length, length-append, refl, ap, sym, ◌∙◌, arith, inl, inr, ◌||◌, bytes_eq}
-use Rattle.std.specs.List.{list_any, slice_get, AllByRecursion}
-use Rattle.std.specs.Option.{option_map_or}
-use Rattle.std.proofs.Math.Nat.{eq-or-lt_of_le}
-use Rattle.std.proofs.lemmas.Bool.{false≢true, or_right}
-use Rattle.std.proofs.lemmas.Slice.Eq.{bytes_eq-Decides}
-use Rattle.kernel_words.specs.declared.form.Form.{Form}
-use Rattle.kernel_words.specs.declared.form.TheConstants.{WRITTEN}
+use Rattle.std.proofs.{Common.{◌≡◌, ℕ, zero, suc, ◌<◌, ◌≤◌, true, false, List, [], ◌∷◌, ◌++◌, length, length-append, refl, ap, sym, ◌∙◌, arith, inl, inr, ◌||◌, bytes_eq}, Math.Nat.eq-or-lt_of_le, lemmas.Bool.{false≢true, or_right}, lemmas.Slice.Eq.bytes_eq-Decides}
+use Rattle.std.specs.{List.{list_any, slice_get, AllByRecursion}, Option.option_map_or}
+use Rattle.kernel_words.specs.{declared.form.Form.Form, declared.form.TheConstants.WRITTEN}
 use Rattle.records.specs.Settings.{ObjectSettings, ObjectFits}
 
 -- an object within the limits of the form, and of a new name

@@ -1,19 +1,10 @@
 -- Records 1 and 2, as records of a form: the same texts, and the same first bad line.
-use Rattle.std.proofs.Common.{◌≡◌, ℕ, ◌+◌, List, [], ◌∷◌, ◌++◌, length, map, refl, sym, ap, ◌∙◌, arith, codes, decimal}
-use Rattle.std.proofs.lemmas.List.{map-append}
+use Rattle.std.proofs.{Common.{◌≡◌, ℕ, ◌+◌, List, [], ◌∷◌, ◌++◌, length, map, refl, sym, ap, ◌∙◌, arith, codes, decimal}, lemmas.List.map-append}
 use Rattle.kernel_object.specs.KernelTypes.{KernelEvent, KernelEntry}
 use Rattle.kernel_words.specs.declared.form.Form.{Form}
-use Rattle.record_lines.specs.FirstLines.{first_lines}
-use Rattle.record_lines.specs.FormText.{parts_text, whole_lines, whole_text}
-use Rattle.record_lines.specs.Received.{Whole, WholeFits}
-use Rattle.record_lines.specs.WholeFaults.{WholeAgrees, IsWholeBadLine, IsWholeText, IsWholeFront}
-use Rattle.record_lines.specs.Words.{sentence, text_of_lines}
+use Rattle.record_lines.specs.{FirstLines.first_lines, FormText.{parts_text, whole_lines, whole_text}, Received.{Whole, WholeFits}, WholeFaults.{WholeAgrees, IsWholeBadLine, IsWholeText, IsWholeFront}, Words.{sentence, text_of_lines}}
 use Rattle.record_lines.proofs.Parts.{Lines, part_lines, parts_lines}
-use Rattle.records.specs.contracts.record.kernel_form.KernelFormRecordForm.TheImpl.{ghosts as kernel_form}
-use Rattle.records.specs.KernelForm.{Head, settings_in, head_of}
-use Rattle.records.specs.RecordFaults.{text_in, Agrees, IsBadLine, IsWhole, IsFront}
-use Rattle.records.specs.RecordRanges.{Record, RecordFitsIn}
-use Rattle.records.specs.RecordText.{event_words, entry_words, head_lines, record_lines, record_text}
+use Rattle.records.specs.{contracts.record.kernel_form.KernelFormRecordForm.TheImpl.{ghosts as kernel_form}, KernelForm.{Head, settings_in, head_of}, RecordFaults.{text_in, Agrees, IsBadLine, IsWhole, IsFront}, RecordRanges.{Record, RecordFitsIn}, RecordText.{event_words, entry_words, head_lines, record_lines, record_text}}
 use Rattle.records.proofs.RecordParts.{log_head, cpu_head, record_parts}
 
 -- a whole record of the form's, and a record

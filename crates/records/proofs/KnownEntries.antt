@@ -1,17 +1,10 @@
 -- An entry that is known by its front and the text behind it.
-use Rattle.std.proofs.Common.{◌≡◌, ℕ, ◌<◌, length, List, Some, ap, ◌∙◌, refl, subst, codes}
-use Rattle.std.proofs.lemmas.Option.{cond_some}
+use Rattle.std.proofs.{Common.{◌≡◌, ℕ, ◌<◌, length, List, Some, ap, ◌∙◌, refl, subst, codes}, lemmas.Option.cond_some}
 use Rattle.event_log.specs.declared.entry.Done.TheVariants.{Steps}
-use Rattle.kernel_object.specs.declared.call.KCall.{KCall}
-use Rattle.kernel_object.specs.KernelTypes.{KernelDone, KernelStep}
-use Rattle.kernel_words.specs.declared.form.Form.{Form}
-use Rattle.kernel_words.specs.declared.form.Form.TheVariants.{One, Two}
-use Rattle.record_lines.specs.Reading.{key_at, number_at}
-use Rattle.records.specs.RecordReading.{place_at, entry_at}
-use Rattle.kernel_words.specs.ItemReading.{call_at, done_at}
-use Rattle.record_lines.specs.LineParts.{is_nil, list_at}
-use Rattle.records.specs.Settings.{ObjectSettings}
-use Rattle.records.specs.StepTexts.{front_at, tail_at, entry_of}
+use Rattle.kernel_object.specs.{declared.call.KCall.KCall, KernelTypes.{KernelDone, KernelStep}}
+use Rattle.kernel_words.specs.{declared.form.Form.Form, declared.form.Form.TheVariants.{One, Two}, ItemReading.{call_at, done_at}}
+use Rattle.record_lines.specs.{Reading.{key_at, number_at}, LineParts.{is_nil, list_at}}
+use Rattle.records.specs.{RecordReading.{place_at, entry_at}, Settings.ObjectSettings, StepTexts.{front_at, tail_at, entry_of}}
 use Rattle.records.proofs.NamedObjects.{place_takes}
 use Rattle.record_lines.proofs.Readings.{bind_some}
 

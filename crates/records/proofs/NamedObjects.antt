@@ -1,18 +1,11 @@
 -- The objects that names stand for.
-use Rattle.std.proofs.Common.{◌≡◌, ℕ, ◌<◌, Some, List, [], ◌∷◌, length, sym, ◌∙◌, ap, subst, arith, position, inl, inr, bytes_eq, ◌≤◌}
-use Rattle.std.proofs.lemmas.Bool.{false_from_ne_true}
-use Rattle.std.proofs.lemmas.Option.{slice_get_cases}
-use Rattle.std.proofs.lemmas.Slice.Eq.{bytes_eq-Decides}
-use Rattle.std.specs.List.{slice_get}
-use Rattle.std.specs.Option.{option_map_or}
+use Rattle.std.proofs.{Common.{◌≡◌, ℕ, ◌<◌, Some, List, [], ◌∷◌, length, sym, ◌∙◌, ap, subst, arith, position, inl, inr, bytes_eq, ◌≤◌}, lemmas.Bool.false_from_ne_true, lemmas.Option.slice_get_cases, lemmas.Slice.Eq.bytes_eq-Decides}
+use Rattle.std.specs.{List.slice_get, Option.option_map_or}
 use Rattle.event_log.proofs.Each.{each_at}
-use Rattle.record_lines.specs.Reading.{word_at}
-use Rattle.record_lines.specs.Words.{IsPlain}
+use Rattle.record_lines.specs.{Reading.word_at, Words.IsPlain}
 use Rattle.kernel_words.specs.declared.form.Form.{Form}
-use Rattle.records.specs.Settings.{Settings, ObjectSettings, SettingsFitIn, ObjectFits, NamesDiffer, name_at}
-use Rattle.records.specs.RecordReading.{place_at}
-use Rattle.record_lines.proofs.Readings.{bind_some, same}
-use Rattle.record_lines.proofs.Names.{named_by, first_at, name_plain, name_le}
+use Rattle.records.specs.{Settings.{Settings, ObjectSettings, SettingsFitIn, ObjectFits, NamesDiffer, name_at}, RecordReading.place_at}
+use Rattle.record_lines.proofs.{Readings.{bind_some, same}, Names.{named_by, first_at, name_plain, name_le}}
 
 -- the object at a place
 pub object_there : (settings : Settings) (i : ℕ) → i < length settings.objects → (o : ObjectSettings) × (slice_get settings.objects i ≡ Some o)

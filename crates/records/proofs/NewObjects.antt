@@ -1,22 +1,14 @@
 -- Objects of different names are read as what they spell, and nothing else is.
-use Rattle.std.proofs.Common.{◌≡◌, ℕ, zero, suc, ◌+◌, ◌≤◌, ◌<◌, ◌==◌, get_or, inl, inr, Bool, true, false, List, [], ◌∷◌, ◌++◌, length, length-append, append_assoc, Option, Some, None, refl, sym, ap, ◌∙◌, subst, cond, arith, ◌||◌, bytes_eq}
-use Rattle.std.proofs.lemmas.Bool.{le-leb, eq-eqb, eqb-true, cond_both, false_from_ne_true, or_cases}
-use Rattle.std.specs.Cmp.Derive.{both_true}
-use Rattle.std.proofs.lemmas.List.{append-nil}
-use Rattle.std.proofs.lemmas.Slice.Eq.{bytes_eq-Decides}
-use Rattle.std.specs.List.{AllByRecursion, list_all, list_any}
-use Rattle.std.specs.Option.{option_map_or}
+use Rattle.std.proofs.{Common.{◌≡◌, ℕ, zero, suc, ◌+◌, ◌≤◌, ◌<◌, ◌==◌, get_or, inl, inr, Bool, true, false, List, [], ◌∷◌, ◌++◌, length, length-append, append_assoc, Option, Some, None, refl, sym, ap, ◌∙◌, subst, cond, arith, ◌||◌, bytes_eq}, lemmas.Bool.{le-leb, eq-eqb, eqb-true, cond_both, false_from_ne_true, or_cases}, lemmas.List.append-nil, lemmas.Slice.Eq.bytes_eq-Decides}
+use Rattle.std.specs.{Cmp.Derive.both_true, List.{AllByRecursion, list_all, list_any}, Option.option_map_or}
 use Rattle.sound_run.specs.declared.lock_kind.LockKind.TheVariants.{Ticket}
 use Rattle.kernel_object.specs.declared.call.KParams.TheVariants.{Queue}
 use Rattle.kernel_words.specs.declared.form.Form.{Form}
-use Rattle.records.specs.RecordReading.{object_at, new_object_at}
-use Rattle.records.specs.RecordText.{object_words}
-use Rattle.records.specs.Settings.{ObjectSettings, ObjectFits}
+use Rattle.records.specs.{RecordReading.{object_at, new_object_at}, RecordText.object_words, Settings.{ObjectSettings, ObjectFits}}
 use Rattle.record_lines.specs.Names.{is_name, is_letter, is_digit}
-use Rattle.records.proofs.RecordLineLaws.{reads_object}
+use Rattle.records.proofs.{RecordLineLaws.reads_object, JoinedObjects.{Joins, Differ, name_in, name_before, name_here, differ_more}}
 use Rattle.record_lines.proofs.LineLaws.{ReadsLines}
 use Rattle.kernel_words.proofs.KindLaws.Queue.{queue_expressed}
-use Rattle.records.proofs.JoinedObjects.{Joins, Differ, name_in, name_before, name_here, differ_more}
 
 -- the name is one of theirs
 abbrev is_taken : List ℕ → List ObjectSettings → Bool

@@ -1,40 +1,14 @@
 -- A line of a record is read as what it spells, and nothing else is.
-use Rattle.std.proofs.Common.{◌≡◌, ℕ, ◌<◌, ◌≤◌, ◌^◌, Some, None, List, [], ◌∷◌, ◌++◌, length, map, refl, sym, ◌∙◌, ap, subst, arith, codes, decimal, rules, nat_lt, ◌&&◌}
-use Rattle.std.proofs.lemmas.Bool.{and_parts, lt-ltb, ltb-true}
-use Rattle.std.proofs.lemmas.List.{append-nil}
-use Rattle.std.proofs.lemmas.Option.{cond_some}
+use Rattle.std.proofs.{Common.{◌≡◌, ℕ, ◌<◌, ◌≤◌, ◌^◌, Some, None, List, [], ◌∷◌, ◌++◌, length, map, refl, sym, ◌∙◌, ap, subst, arith, codes, decimal, rules, nat_lt, ◌&&◌}, lemmas.Bool.{and_parts, lt-ltb, ltb-true}, lemmas.List.append-nil, lemmas.Option.cond_some}
 use Rattle.event_log.proofs.Each.{all_append}
 use Rattle.event_log.specs.declared.logged.TheConstants.{MOST_EVENTS}
 use Rattle.kernel_object.specs.KernelTypes.{KernelEvent, KernelEntry}
-use Rattle.kernel_words.specs.declared.form.Form.{Form}
-use Rattle.kernel_words.specs.Forms.{has_steps, has_done}
-use Rattle.kernel_words.specs.Parameters.{lock_word, params_words}
-use Rattle.kernel_words.specs.Ranges.{call_fits}
-use Rattle.record_lines.specs.Reading.{key_at, number_at}
-use Rattle.records.specs.RecordRanges.{EventFits, EntryFits}
-use Rattle.records.specs.RecordReading.{event_at, place_at, entry_at, object_at}
-use Rattle.kernel_words.specs.ParameterReading.{params_at, lock_at}
-use Rattle.kernel_words.specs.ItemReading.{call_at, step_at, done_at}
-use Rattle.record_lines.specs.LineParts.{is_nil, list_at, name_word_at}
-use Rattle.records.specs.RecordText.{event_words, entry_words, object_words}
-use Rattle.kernel_words.specs.ItemText.{step_words, done_words}
-use Rattle.kernel_words.specs.Row.{limit, field_at}
-use Rattle.record_lines.specs.Words.{IsPlain}
-use Rattle.records.specs.Settings.{Settings, ObjectSettings, ObjectFits, SettingsFitIn, name_at}
-use Rattle.record_lines.specs.Words.{separated}
-use Rattle.record_lines.proofs.ListLaws.{key_takes, key_again, key_other, key_end, list_takes, list_again, list_plain}
-use Rattle.record_lines.proofs.Names.{name_plain}
-use Rattle.records.proofs.NamedObjects.{name_at_plain, place_takes, place_again}
-use Rattle.record_lines.proofs.Readings.{bind_some, plain_decimal, number_at_takes, number_at_again}
-use Rattle.kernel_words.proofs.RecordLengths.{each_call, steps_le, done_le, lock_le}
-use Rattle.records.proofs.NamedObjects.{name_at_le}
-use Rattle.record_lines.proofs.Names.{name_le}
-use Rattle.record_lines.proofs.Lengths.{long_append, number_le, separated_le}
-use Rattle.kernel_words.proofs.RecordWords.{no_steps, steps_take, steps_again, steps_plain, done_takes, done_again, done_plain, lock_takes, lock_again, lock_plain, events_take, events_again}
-use Rattle.record_lines.proofs.Names.{name_takes, name_again}
-use Rattle.kernel_words.proofs.CallLaws.{call_words, reads_calls}
-use Rattle.kernel_words.proofs.ParameterLaws.{params_take, params_again, params_plain, params_le}
-use Rattle.record_lines.proofs.LineLaws.{ReadsLines, nothing_behind, IsLine}
+use Rattle.kernel_words.specs.{declared.form.Form.Form, Forms.{has_steps, has_done}, Parameters.{lock_word, params_words}, Ranges.call_fits, ParameterReading.{params_at, lock_at}, ItemReading.{call_at, step_at, done_at}, ItemText.{step_words, done_words}, Row.{limit, field_at}}
+use Rattle.record_lines.specs.{Reading.{key_at, number_at}, LineParts.{is_nil, list_at, name_word_at}, Words.IsPlain, Words.separated}
+use Rattle.records.specs.{RecordRanges.{EventFits, EntryFits}, RecordReading.{event_at, place_at, entry_at, object_at}, RecordText.{event_words, entry_words, object_words}, Settings.{Settings, ObjectSettings, ObjectFits, SettingsFitIn, name_at}}
+use Rattle.record_lines.proofs.{ListLaws.{key_takes, key_again, key_other, key_end, list_takes, list_again, list_plain}, Names.name_plain, Readings.{bind_some, plain_decimal, number_at_takes, number_at_again}, Names.name_le, Lengths.{long_append, number_le, separated_le}, Names.{name_takes, name_again}, LineLaws.{ReadsLines, nothing_behind, IsLine}}
+use Rattle.records.proofs.{NamedObjects.{name_at_plain, place_takes, place_again}, NamedObjects.name_at_le}
+use Rattle.kernel_words.proofs.{RecordLengths.{each_call, steps_le, done_le, lock_le}, RecordWords.{no_steps, steps_take, steps_again, steps_plain, done_takes, done_again, done_plain, lock_takes, lock_again, lock_plain, events_take, events_again}, CallLaws.{call_words, reads_calls}, ParameterLaws.{params_take, params_again, params_plain, params_le}}
 
 -- ---- lines of fixed words
 

@@ -1,26 +1,12 @@
 -- Records from sources.
 use Rattle.std.proofs.Common.{◌≡◌, ℕ, List, length, length-append, Option, Some, None, Result, Ok, Err, refl, sym, ap, subst, arith}
-use Rattle.std.specs.Io.KnownBytes.{Consumes}
-use Rattle.std.specs.Result.{IsErrAnd, IfErr}
+use Rattle.std.specs.{Io.KnownBytes.Consumes, Result.{IsErrAnd, IfErr}}
 use Rattle.kernel_words.specs.declared.form.Form.{Form}
-use Rattle.record_lines.specs.declared.text.fault.LinesFault.{LinesFault}
-use Rattle.record_lines.specs.declared.text.fault.LinesFault.TheVariants as lines
-use Rattle.record_lines.specs.declared.text.fault.TextFault.{TextFault}
-use Rattle.record_lines.specs.declared.text.fault.TextFault.TheVariants.{OutOfMemory, ReadFailed, BadLine}
-use Rattle.record_lines.specs.declared.text.line_machine.Pieces.{Pieces}
-use Rattle.record_lines.specs.Feeding.{HasRefused}
-use Rattle.record_lines.specs.LineMachine.{RefusesLine as LineRefused}
-use Rattle.record_lines.specs.Pieces.{RefusesPieces}
-use Rattle.records.specs.RecordFaults.{IsBadLine, NamesBadLine, text_in}
-use Rattle.records.specs.RecordStates.{RecordState, nothing_read, TakesLine, RefusesLine, FitsLine}
-use Rattle.records.specs.RecordRanges.{Record, RecordFitsIn}
-use Rattle.records.specs.RecordSources.{SpellsRecord, NamesBadLineOfRest, IsReadFrom}
-use Rattle.record_lines.specs.Sources.{IsReadOut}
-use Rattle.record_lines.specs.TextFaults.{of_lines}
-use Rattle.record_lines.specs.Sources.{IsRest}
-use Rattle.record_lines.specs.Then.{ok_map}
+use Rattle.record_lines.specs.{declared.text.fault.LinesFault.LinesFault, declared.text.fault.TextFault.TextFault, declared.text.fault.TextFault.TheVariants.{OutOfMemory, ReadFailed, BadLine}, declared.text.line_machine.Pieces.Pieces, Feeding.HasRefused, LineMachine.{RefusesLine as LineRefused}, Pieces.RefusesPieces, Sources.IsReadOut, TextFaults.of_lines, Sources.IsRest, Then.ok_map}
+use Rattle.records.specs.{RecordFaults.{IsBadLine, NamesBadLine, text_in}, RecordStates.{RecordState, nothing_read, TakesLine, RefusesLine, FitsLine}, RecordRanges.{Record, RecordFitsIn}, RecordSources.{SpellsRecord, NamesBadLineOfRest, IsReadFrom}}
 use Rattle.records.proofs.RecordTexts.{whole_one, bad_is_none, refused_is_bad}
 use Rattle.record_lines.proofs.Consuming.{of_rest}
+use Rattle.record_lines.specs.declared.text.fault.LinesFault.TheVariants as lines
 
 -- what was read to its end, behind what was read before
 pub out_behind : (old between now : Option (List ℕ)) (seen : List ℕ) → Consumes old between seen → IsReadOut between now → IsReadOut old now

@@ -1,21 +1,11 @@
 -- What lines that are taken, one after the other, say of the bytes that they are the front of.
-use Rattle.std.proofs.Common.{◌≡◌, ℕ, ◌-◌, ◌<◌, List, [], ◌∷◌, ◌++◌, length, replicate, Option, Some, None, Result, Ok, Err, refl, sym, ap, ◌∙◌, subst, arith, IsErrAnd, IfOk, IfErr}
-use Rattle.std.proofs.lemmas.List.{append-nil, length-replicate}
-use Rattle.record_lines.specs.declared.text.fault.LinesFault.{LinesFault}
-use Rattle.record_lines.specs.declared.text.fault.LinesFault.TheVariants.{OutOfMemory, Line}
-use Rattle.record_lines.specs.declared.forms.place.Next.TheVariants.{Done}
-use Rattle.record_lines.specs.FormStates.{FitsAt, behind_line_at, whole_of}
-use Rattle.record_lines.specs.LineMachine.{ChangesNothing, TakesText, RefusesLine as RefusesAny}
-use Rattle.record_lines.specs.Words.{NoEnd}
+use Rattle.std.proofs.{Common.{◌≡◌, ℕ, ◌-◌, ◌<◌, List, [], ◌∷◌, ◌++◌, length, replicate, Option, Some, None, Result, Ok, Err, refl, sym, ap, ◌∙◌, subst, arith, IsErrAnd, IfOk, IfErr}, lemmas.List.{append-nil, length-replicate}}
+use Rattle.record_lines.specs.{declared.text.fault.LinesFault.LinesFault, declared.text.fault.LinesFault.TheVariants.{OutOfMemory, Line}, declared.forms.place.Next.TheVariants.Done, FormStates.{FitsAt, behind_line_at, whole_of}, LineMachine.{ChangesNothing, TakesText, RefusesLine as RefusesAny}, Words.NoEnd}
 use Rattle.record_lines.proofs.FormSpells.{line_spells}
-use Rattle.record_lines.proofs.FormTexts as form
 use Rattle.kernel_words.specs.declared.form.Form.{Form}
-use Rattle.records.specs.contracts.record.kernel_form.KernelFormRecordForm.TheImpl.{ghosts as kernel_form}
-use Rattle.records.specs.RecordFaults.{Agrees, IsBadLine, text_in, IsWhole, IsFront, IsRead, NamesBadLine}
-use Rattle.records.specs.RecordRanges.{Record, RecordFitsIn}
-use Rattle.records.specs.RecordStates.{RecordState, nothing_read, record_of, TakesLine, RefusesLine, FitsLine}
-use Rattle.records.proofs.KernelFormLaws.{kernel_laws}
-use Rattle.records.proofs.KernelRecords.{KernelWhole, whole_in, record_in, fits_in, text_as, agrees_of, bad_of, bad_as, text_whole, front_of}
+use Rattle.records.specs.{contracts.record.kernel_form.KernelFormRecordForm.TheImpl.{ghosts as kernel_form}, RecordFaults.{Agrees, IsBadLine, text_in, IsWhole, IsFront, IsRead, NamesBadLine}, RecordRanges.{Record, RecordFitsIn}, RecordStates.{RecordState, nothing_read, record_of, TakesLine, RefusesLine, FitsLine}}
+use Rattle.records.proofs.{KernelFormLaws.kernel_laws, KernelRecords.{KernelWhole, whole_in, record_in, fits_in, text_as, agrees_of, bad_of, bad_as, text_whole, front_of}}
+use Rattle.record_lines.proofs.FormTexts as form
 
 -- a line that is refused isn't taken
 pub refused_not : (line other after more : List ℕ) (s t : RecordState) → NoEnd line → NoEnd other → line ++ 10 ∷ after ≡ other ++ 10 ∷ more → RefusesLine line s → TakesLine other s t → ⊥

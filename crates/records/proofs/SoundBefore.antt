@@ -4,37 +4,16 @@ use Rattle.std.proofs.Common.{◌≡◌, ◌↔◌, ℕ, false, List, [], ◌∷
 use Rattle.std.specs.List.{AllByRecursion}
 use Rattle.arrayvec.specs.ArrayVec.{ArrayVec}
 use Rattle.event_log.proofs.Each.{all_map, each_at}
-use Rattle.event_log.specs.declared.object.SeqObject.{Ghosts}
-use Rattle.event_log.specs.declared.event.Step.{Step}
-use Rattle.event_log.specs.declared.event.Event.{Event}
-use Rattle.event_log.specs.declared.entry.Done.{Done}
-use Rattle.event_log.specs.declared.entry.Done.TheVariants.{Steps, NoRoom}
-use Rattle.event_log.specs.declared.entry.Run.{Run}
-use Rattle.event_log.specs.Log.{Legal, last_refuses}
-use Rattle.page_pool.specs.State.{PoolState, opening_state}
-use Rattle.page_pool.specs.Owning.{IsPoolOf}
-use Rattle.page_pool.specs.Answer.{pool_answer}
-use Rattle.page_pool.specs.Unlimited.{unlimited_answer, full_quotas}
-use Rattle.page_pool.specs.declared.params.PoolParams.{PoolParams}
-use Rattle.page_pool.specs.declared.call.PoolCall.{PoolCall}
+use Rattle.event_log.specs.{declared.object.SeqObject.Ghosts, declared.event.Step.Step, declared.event.Event.Event, declared.entry.Done.Done, declared.entry.Done.TheVariants.{Steps, NoRoom}, declared.entry.Run.Run, Log.{Legal, last_refuses}}
+use Rattle.page_pool.specs.{State.{PoolState, opening_state}, Owning.IsPoolOf, Answer.pool_answer, Unlimited.{unlimited_answer, full_quotas}, declared.params.PoolParams.PoolParams, declared.call.PoolCall.PoolCall}
 use Rattle.page_pool.proofs.SameLogs.{legal_same}
 use Rattle.sound_run.specs.Sound.{Opened, Sound, EntryIsSound, Answers, transcript_of}
-use Rattle.kernel_object.specs.declared.call.KParams.{KParams}
+use Rattle.kernel_object.specs.{declared.call.KParams.KParams, declared.call.KCall.KCall, declared.call.KReply.KReply, declared.object.KernelObject.KernelObject, contracts.object.KernelObjectSeqObject.TheImpl.{ghosts as kernel}, Kernel.{kernel_answer, kernel_opening}, Kinds.Pool.of_pool}
+use Rattle.kernel_words.specs.{declared.form.Form.TheVariants.One, Forms.ExpressesParams}
+use Rattle.records.specs.{RecordRanges.{Record, RecordFitsIn}, Runs.opened_of, Settings.ObjectSettings, Unlimited.{unlimited_kernel_answer, without_quotas, WasSound}}
 use Rattle.kernel_object.specs.declared.call.KParams.TheVariants as Params
-use Rattle.kernel_object.specs.declared.call.KCall.{KCall}
 use Rattle.kernel_object.specs.declared.call.KCall.TheVariants as Call
-use Rattle.kernel_object.specs.declared.call.KReply.{KReply}
-use Rattle.kernel_object.specs.declared.object.KernelObject.{KernelObject}
 use Rattle.kernel_object.specs.declared.object.KernelObject.TheVariants as Object
-use Rattle.kernel_object.specs.contracts.object.KernelObjectSeqObject.TheImpl.{ghosts as kernel}
-use Rattle.kernel_object.specs.Kernel.{kernel_answer, kernel_opening}
-use Rattle.kernel_object.specs.Kinds.Pool.{of_pool}
-use Rattle.kernel_words.specs.declared.form.Form.TheVariants.{One}
-use Rattle.kernel_words.specs.Forms.{ExpressesParams}
-use Rattle.records.specs.RecordRanges.{Record, RecordFitsIn}
-use Rattle.records.specs.Runs.{opened_of}
-use Rattle.records.specs.Settings.{ObjectSettings}
-use Rattle.records.specs.Unlimited.{unlimited_kernel_answer, without_quotas, WasSound}
 
 -- ---- two meanings of the same replies that refuse, where the first one's legal logs are the second one's
 

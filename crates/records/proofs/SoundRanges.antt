@@ -1,29 +1,13 @@
 -- A sound run of entries in their ranges is in its ranges as a whole.
-use Rattle.std.proofs.Common.{◌≡◌, ℕ, zero, suc, ◌<◌, ◌≤◌, ◌==◌, Bool, true, false, cond, Option, Some, None, List, [], ◌∷◌, map, length, take, refl, sym, ◌∙◌, ap, subst, arith, slice_get, unwrap_or, nat_lt, ◌&&◌}
-use Rattle.std.specs.Cmp.Derive.{both_true}
-use Rattle.std.specs.List.{list_all, AllByRecursion}
-use Rattle.std.proofs.lemmas.Bool.{and_parts, eq-eqb, ltb-true, ltb-false}
-use Rattle.std.proofs.lemmas.List.{length-map}
-use Rattle.std.proofs.lemmas.Option.{slice_get_past, slice_get_within}
-use Rattle.event_log.proofs.Each.{all_map, all_both, each_at}
-use Rattle.event_log.specs.declared.entry.Done.TheVariants.{Steps, NoRoom}
-use Rattle.event_log.specs.declared.event.TheConstants.{MOST_CALLS}
-use Rattle.event_log.specs.Log.{Begins, calls_of, LegalFrom, Legal, after, of}
-use Rattle.event_log.proofs.Lists.{some_at}
+use Rattle.std.proofs.{Common.{◌≡◌, ℕ, zero, suc, ◌<◌, ◌≤◌, ◌==◌, Bool, true, false, cond, Option, Some, None, List, [], ◌∷◌, map, length, take, refl, sym, ◌∙◌, ap, subst, arith, slice_get, unwrap_or, nat_lt, ◌&&◌}, lemmas.Bool.{and_parts, eq-eqb, ltb-true, ltb-false}, lemmas.List.length-map, lemmas.Option.{slice_get_past, slice_get_within}}
+use Rattle.std.specs.{Cmp.Derive.both_true, List.{list_all, AllByRecursion}}
+use Rattle.event_log.proofs.{Each.{all_map, all_both, each_at}, Lists.some_at}
+use Rattle.event_log.specs.{declared.entry.Done.TheVariants.{Steps, NoRoom}, declared.event.TheConstants.MOST_CALLS, Log.{Begins, calls_of, LegalFrom, Legal, after, of}}
 use Rattle.sound_run.specs.Sound.{Opened, Sound, Answers, EntryIsSound, done_on, with_steps, steps_by, transcript_of}
 use Rattle.sound_run.proofs.Slices.{map_get}
-use Rattle.kernel_object.specs.declared.call.KParams.{KParams}
-use Rattle.kernel_object.specs.declared.call.KCall.{KCall}
-use Rattle.kernel_object.specs.declared.object.KernelObject.{KernelObject}
-use Rattle.kernel_object.specs.contracts.object.KernelObjectSeqObject.TheImpl.{ghosts as kernel}
-use Rattle.kernel_object.specs.Kernel.{kernel_in_range}
-use Rattle.kernel_object.specs.KernelTypes.{KernelStep, KernelSteps, KernelEvent, KernelDone, KernelEntry, KernelRun}
-use Rattle.kernel_words.specs.declared.form.TheConstants.{WRITTEN}
-use Rattle.kernel_words.specs.Ranges.{call_fits, reply_fits, steps_ask, steps_answer, log_asks, log_answers}
-use Rattle.records.specs.RecordRanges.{LogFits, TranscriptFits, RunFits}
-use Rattle.kernel_words.specs.Ranges.{StepsFit, DoneFits}
-use Rattle.records.specs.Runs.{opened_of, EntryAsks, TranscriptAsks}
-use Rattle.records.specs.Settings.{Settings, ObjectSettings, SettingsFit, ObjectFits}
+use Rattle.kernel_object.specs.{declared.call.KParams.KParams, declared.call.KCall.KCall, declared.object.KernelObject.KernelObject, contracts.object.KernelObjectSeqObject.TheImpl.{ghosts as kernel}, Kernel.kernel_in_range, KernelTypes.{KernelStep, KernelSteps, KernelEvent, KernelDone, KernelEntry, KernelRun}}
+use Rattle.kernel_words.specs.{declared.form.TheConstants.WRITTEN, Ranges.{call_fits, reply_fits, steps_ask, steps_answer, log_asks, log_answers}, Ranges.{StepsFit, DoneFits}}
+use Rattle.records.specs.{RecordRanges.{LogFits, TranscriptFits, RunFits}, Runs.{opened_of, EntryAsks, TranscriptAsks}, Settings.{Settings, ObjectSettings, SettingsFit, ObjectFits}}
 
 -- what holds at each place holds of each member
 pub all_at : {X : Type 0} (P : X → Type 0) (xs : List X) → ((i : ℕ) (x : X) → slice_get xs i ≡ Some x → P x) → AllByRecursion P xs

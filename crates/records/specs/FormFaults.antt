@@ -1,11 +1,8 @@
 -- Which line of a text is the first bad one, where there is one form of records alone.
 use Rattle.std.specs.Prelude.{ℕ, ◌≡◌, ◌<◌, List, [], ◌∷◌, codes}
-use Rattle.kernel_words.specs.declared.form.Form.{Form}
-use Rattle.kernel_words.specs.Forms.{version}
-use Rattle.records.specs.RecordFaults.{text_in}
-use Rattle.record_lines.specs.FirstLines.{first_lines}
-use Rattle.records.specs.RecordRanges.{Record, RecordFitsIn}
-use Rattle.record_lines.specs.Words.{sentence}
+use Rattle.kernel_words.specs.{declared.form.Form.Form, Forms.version}
+use Rattle.records.specs.{RecordFaults.text_in, RecordRanges.{Record, RecordFitsIn}}
+use Rattle.record_lines.specs.{FirstLines.first_lines, Words.sentence}
 
 -- the first line of a record in that form
 abbrev pub form_line : Form → List ℕ

@@ -1,24 +1,12 @@
 -- The lines of records 1 and 2, as a form of records.
-use Rattle.std.specs.Prelude.{ℕ, ◌≡◌, ◌<◌, ◌≤◌, nat_lt, if◌then◌else◌, List, [], ◌∷◌, ◌++◌, map, Option, Some, None, Bool, true, false, codes, decimal, length}
-use Rattle.std.specs.List.{AllByRecursion}
+use Rattle.std.specs.{Prelude.{ℕ, ◌≡◌, ◌<◌, ◌≤◌, nat_lt, if◌then◌else◌, List, [], ◌∷◌, ◌++◌, map, Option, Some, None, Bool, true, false, codes, decimal, length}, List.AllByRecursion}
 use Rattle.std.proofs.Common.{arith}
 use Rattle.event_log.specs.declared.logged.TheConstants.{MOST_EVENTS}
 use Rattle.sound_run.specs.declared.limits.TheConstants.{MOST_CELLS}
-use Rattle.kernel_object.specs.declared.call.KCall.{KCall}
-use Rattle.kernel_object.specs.KernelTypes.{KernelEntry, KernelStep}
-use Rattle.kernel_words.specs.declared.form.Form.{Form}
-use Rattle.kernel_words.specs.declared.form.TheConstants.{WRITTEN}
-use Rattle.kernel_words.specs.Forms.{version, most_cpus}
-use Rattle.record_lines.specs.Reading.{◌>>=◌, words}
-use Rattle.record_lines.specs.LineParts.{fixed_at, head_at}
-use Rattle.record_lines.specs.Words.{NoEnd, sentence}
-use Rattle.records.specs.declared.record.TheConstants.{MOST_ENTRIES}
-use Rattle.records.specs.declared.record.kernel_head.HeadNext.{HeadNext}
-use Rattle.records.specs.declared.record.kernel_head.HeadNext.TheVariants.{First, Cpus, Count, Object, Whole}
-use Rattle.records.specs.RecordReading.{form_at, new_object_at}
-use Rattle.records.specs.RecordText.{object_words, head_lines}
-use Rattle.records.specs.Settings.{Settings, ObjectSettings, ObjectFits, NamesDiffer, SettingsFitIn, name_at}
-use Rattle.records.specs.StepTexts.{SpellsTail, entry_of}
+use Rattle.kernel_object.specs.{declared.call.KCall.KCall, KernelTypes.{KernelEntry, KernelStep}}
+use Rattle.kernel_words.specs.{declared.form.Form.Form, declared.form.TheConstants.WRITTEN, Forms.{version, most_cpus}}
+use Rattle.record_lines.specs.{Reading.{◌>>=◌, words}, LineParts.{fixed_at, head_at}, Words.{NoEnd, sentence}}
+use Rattle.records.specs.{declared.record.TheConstants.MOST_ENTRIES, declared.record.kernel_head.HeadNext.HeadNext, declared.record.kernel_head.HeadNext.TheVariants.{First, Cpus, Count, Object, Whole}, RecordReading.{form_at, new_object_at}, RecordText.{object_words, head_lines}, Settings.{Settings, ObjectSettings, ObjectFits, NamesDiffer, SettingsFitIn, name_at}, StepTexts.{SpellsTail, entry_of}}
 
 -- which line of a head can come next, the form, the settings, and how many objects were announced
 pub record Head : Type 0 where

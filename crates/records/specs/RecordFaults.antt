@@ -1,12 +1,8 @@
 -- Which line of a text is the first that no record continues.
 use Rattle.std.specs.Prelude.{ℕ, ◌≡◌, ◌<◌, List, ◌++◌, length, Result, Ok, Err}
-use Rattle.record_lines.specs.declared.text.fault.LinesFault.{LinesFault}
-use Rattle.record_lines.specs.declared.text.fault.LinesFault.TheVariants.{OutOfMemory, Line}
-use Rattle.kernel_words.specs.declared.form.Form.{Form}
-use Rattle.kernel_words.specs.declared.form.TheConstants.{WRITTEN}
-use Rattle.records.specs.RecordRanges.{Record, RecordFitsIn}
-use Rattle.records.specs.RecordText.{record_text}
-use Rattle.record_lines.specs.FirstLines.{first_lines}
+use Rattle.record_lines.specs.{declared.text.fault.LinesFault.LinesFault, declared.text.fault.LinesFault.TheVariants.{OutOfMemory, Line}, FirstLines.first_lines}
+use Rattle.kernel_words.specs.{declared.form.Form.Form, declared.form.TheConstants.WRITTEN}
+use Rattle.records.specs.{RecordRanges.{Record, RecordFitsIn}, RecordText.record_text}
 
 -- the text of a record in that form
 abbrev pub text_in : Form → Record → List ℕ

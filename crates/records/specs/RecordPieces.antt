@@ -1,13 +1,7 @@
 -- Reading a record piece by piece.
-use Rattle.std.specs.Prelude.{ℕ, ◌≡◌, ◌+◌, ◌<◌, ◌≤◌, ◌⊎◌, Bool, List, ◌++◌, length, Result, Ok, Err}
-use Rattle.std.specs.List.{AllByRecursion}
-use Rattle.record_lines.specs.declared.text.line_machine.TheConstants.{MOST_BYTES}
-use Rattle.record_lines.specs.declared.text.fault.LinesFault.{LinesFault}
-use Rattle.record_lines.specs.declared.text.fault.LinesFault.TheVariants.{OutOfMemory, Line}
-use Rattle.record_lines.specs.LineMachine.{HasTaken}
-use Rattle.records.specs.RecordFaults.{Agrees}
-use Rattle.records.specs.RecordStates.{RecordState, nothing_read, TakesLine}
-use Rattle.record_lines.specs.Words.{NoEnd, text_of_lines}
+use Rattle.std.specs.{Prelude.{ℕ, ◌≡◌, ◌+◌, ◌<◌, ◌≤◌, ◌⊎◌, Bool, List, ◌++◌, length, Result, Ok, Err}, List.AllByRecursion}
+use Rattle.record_lines.specs.{declared.text.line_machine.TheConstants.MOST_BYTES, declared.text.fault.LinesFault.LinesFault, declared.text.fault.LinesFault.TheVariants.{OutOfMemory, Line}, LineMachine.HasTaken, Words.{NoEnd, text_of_lines}}
+use Rattle.records.specs.{RecordFaults.Agrees, RecordStates.{RecordState, nothing_read, TakesLine}}
 
 -- what was read, the number of the line that has no end yet, and what is kept of it
 pub record Reading : Type 0 where

@@ -1,15 +1,9 @@
 -- What has a text of a form: the runs whose numbers are in their ranges, and whose replies the form has words for.
-use Rattle.std.specs.Prelude.{◌≡◌, ◌<◌, ◌≤◌, ◌^◌, ℕ, true, List, length}
-use Rattle.std.specs.List.{list_all, AllByRecursion}
-use Rattle.event_log.specs.declared.event.TheConstants.{MOST_CALLS}
-use Rattle.event_log.specs.declared.logged.TheConstants.{MOST_EVENTS}
+use Rattle.std.specs.{Prelude.{◌≡◌, ◌<◌, ◌≤◌, ◌^◌, ℕ, true, List, length}, List.{list_all, AllByRecursion}}
+use Rattle.event_log.specs.{declared.event.TheConstants.MOST_CALLS, declared.logged.TheConstants.MOST_EVENTS}
 use Rattle.kernel_object.specs.KernelTypes.{KernelEvent, KernelEntry, KernelRun, KernelTodo}
-use Rattle.kernel_words.specs.declared.form.Form.{Form}
-use Rattle.kernel_words.specs.declared.form.TheConstants.{WRITTEN}
-use Rattle.records.specs.declared.record.TheConstants.{MOST_ENTRIES}
-use Rattle.kernel_words.specs.Forms.{has_steps, has_done}
-use Rattle.kernel_words.specs.Ranges.{call_fits, StepsFit, DoneFits}
-use Rattle.records.specs.Settings.{Settings, SettingsFitIn}
+use Rattle.kernel_words.specs.{declared.form.Form.Form, declared.form.TheConstants.WRITTEN, Forms.{has_steps, has_done}, Ranges.{call_fits, StepsFit, DoneFits}}
+use Rattle.records.specs.{declared.record.TheConstants.MOST_ENTRIES, Settings.{Settings, SettingsFitIn}}
 
 -- an event of one of so many CPUs
 pub record EventFits (form : Form) (cpus : ℕ) (e : KernelEvent) : Type 0 where

@@ -1,19 +1,10 @@
 -- Reading the lines of records and scripts from left to right. The laws in proofs/ tie this to the texts.
-use Rattle.std.specs.Prelude.{ℕ, List, [], ◌∷◌, Option, Some, None, if◌then◌else◌, codes, ◌&&◌, nat_lt, position}
-use Rattle.std.specs.Option.{option_map_or}
-use Rattle.std.specs.List.{list_any}
-use Rattle.std.specs.Str.{bytes_eq}
+use Rattle.std.specs.{Prelude.{ℕ, List, [], ◌∷◌, Option, Some, None, if◌then◌else◌, codes, ◌&&◌, nat_lt, position}, Option.option_map_or, List.list_any, Str.bytes_eq}
 use Rattle.event_log.specs.declared.logged.TheConstants.{MOST_EVENTS}
 use Rattle.kernel_object.specs.KernelTypes.{KernelEvent, KernelEntry}
-use Rattle.kernel_words.specs.declared.form.Form.{Form}
-use Rattle.kernel_words.specs.declared.form.Form.TheVariants.{One, Two}
-use Rattle.record_lines.specs.Reading.{◌>>=◌, word_at, key_at, number_at}
-use Rattle.kernel_words.specs.Forms.{version, has_steps, has_done}
-use Rattle.kernel_words.specs.Row.{field_at, limit}
+use Rattle.kernel_words.specs.{declared.form.Form.Form, declared.form.Form.TheVariants.{One, Two}, Forms.{version, has_steps, has_done}, Row.{field_at, limit}, ItemReading.{step_at, call_at, done_at}, ParameterReading.{lock_at, params_at}}
+use Rattle.record_lines.specs.{Reading.{◌>>=◌, word_at, key_at, number_at}, LineParts.{name_word_at, is_nil, list_at, fixed_at}}
 use Rattle.records.specs.Settings.{ObjectSettings}
-use Rattle.record_lines.specs.LineParts.{name_word_at, is_nil, list_at, fixed_at}
-use Rattle.kernel_words.specs.ItemReading.{step_at, call_at, done_at}
-use Rattle.kernel_words.specs.ParameterReading.{lock_at, params_at}
 
 -- all words, as an event of one of so many CPUs
 unfoldable pub event_at : Form → ℕ → List (List ℕ) → Option KernelEvent

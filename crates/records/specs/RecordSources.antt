@@ -1,10 +1,7 @@
 -- The record that the rest of a source spells.
 use Rattle.std.specs.Prelude.{ℕ, ◌≡◌, List, Option, Result, Ok, Err}
-use Rattle.record_lines.specs.declared.text.fault.TextFault.{TextFault}
-use Rattle.record_lines.specs.declared.text.fault.TextFault.TheVariants.{OutOfMemory, ReadFailed, BadLine}
-use Rattle.records.specs.RecordFaults.{IsWhole, IsBadLine}
-use Rattle.records.specs.RecordRanges.{Record}
-use Rattle.record_lines.specs.Sources.{IsRest}
+use Rattle.record_lines.specs.{declared.text.fault.TextFault.TextFault, declared.text.fault.TextFault.TheVariants.{OutOfMemory, ReadFailed, BadLine}, Sources.IsRest}
+use Rattle.records.specs.{RecordFaults.{IsWhole, IsBadLine}, RecordRanges.Record}
 
 -- the rest of a source is the record's text
 abbrev pub SpellsRecord : Option (List ℕ) → Record → Type 0

@@ -1,12 +1,8 @@
 -- What was read of a record 1 or 2, and which line can come next.
 use Rattle.std.specs.Prelude.{ℕ, ◌≤◌, List}
 use Rattle.kernel_object.specs.KernelTypes.{KernelEvent, KernelEntry}
-use Rattle.record_lines.specs.declared.text.line_machine.TheConstants.{MOST_BYTES}
-use Rattle.record_lines.specs.Received.{Received}
-use Rattle.record_lines.specs.FormStates.{State, nothing_read as nothing_read_in, TakesLine as TakesLineIn, RefusesLine as RefusesLineIn}
-use Rattle.records.specs.contracts.record.kernel_form.KernelFormRecordForm.TheImpl.{ghosts as kernel_form}
-use Rattle.records.specs.KernelForm.{Head, settings_in}
-use Rattle.records.specs.RecordRanges.{Record}
+use Rattle.record_lines.specs.{declared.text.line_machine.TheConstants.MOST_BYTES, Received.Received, FormStates.{State, nothing_read as nothing_read_in, TakesLine as TakesLineIn, RefusesLine as RefusesLineIn}}
+use Rattle.records.specs.{contracts.record.kernel_form.KernelFormRecordForm.TheImpl.{ghosts as kernel_form}, KernelForm.{Head, settings_in}, RecordRanges.Record}
 
 -- which line can come next, and what was read
 abbrev pub RecordState : Type 0

@@ -1,14 +1,9 @@
 -- Runs of scripts under settings.
-use Rattle.std.specs.Prelude.{◌≡◌, ◌<◌, ◌≤◌, ◌^◌, ℕ, List, map, length}
-use Rattle.std.specs.List.{AllByRecursion, AllZip}
-use Rattle.event_log.specs.Entries.{asked_of}
-use Rattle.event_log.specs.Log.{Begins}
+use Rattle.std.specs.{Prelude.{◌≡◌, ◌<◌, ◌≤◌, ◌^◌, ℕ, List, map, length}, List.{AllByRecursion, AllZip}}
+use Rattle.event_log.specs.{Entries.asked_of, Log.Begins}
 use Rattle.sound_run.specs.Sound.{Opened}
-use Rattle.kernel_object.specs.declared.call.KParams.{KParams}
-use Rattle.kernel_object.specs.KernelTypes.{KernelEntry, KernelTodo, KernelRun}
-use Rattle.records.specs.declared.record.TheConstants.{MOST_ENTRIES}
-use Rattle.records.specs.RecordRanges.{TodoFits}
-use Rattle.records.specs.Settings.{Settings}
+use Rattle.kernel_object.specs.{declared.call.KParams.KParams, KernelTypes.{KernelEntry, KernelTodo, KernelRun}}
+use Rattle.records.specs.{declared.record.TheConstants.MOST_ENTRIES, RecordRanges.TodoFits, Settings.Settings}
 
 -- what the objects of the settings are opened with
 abbrev pub opened_of : Settings → List (Opened KParams)

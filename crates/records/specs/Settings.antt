@@ -1,17 +1,9 @@
 -- The settings of a run: how many CPUs, and which objects behind which locks.
-use Rattle.std.specs.Prelude.{ℕ, ◌≡◌, ◌≤◌, ◌<◌, true, List, [], ◌∷◌, length, codes}
-use Rattle.std.specs.List.{slice_get, AllByRecursion}
-use Rattle.std.specs.Option.{option_map_or}
+use Rattle.std.specs.{Prelude.{ℕ, ◌≡◌, ◌≤◌, ◌<◌, true, List, [], ◌∷◌, length, codes}, List.{slice_get, AllByRecursion}, Option.option_map_or}
 use Rattle.event_log.specs.declared.logged.TheConstants.{MOST_EVENTS}
-use Rattle.sound_run.specs.declared.lock_kind.LockKind.{LockKind}
-use Rattle.sound_run.specs.declared.lock_kind.LockKind.TheVariants.{Ticket}
-use Rattle.sound_run.specs.declared.limits.TheConstants.{MOST_CELLS}
-use Rattle.kernel_object.specs.declared.call.KParams.{KParams}
-use Rattle.kernel_object.specs.declared.call.KParams.TheVariants.{Queue}
-use Rattle.kernel_object.specs.Kernel.{kernel_in_range}
-use Rattle.kernel_words.specs.declared.form.Form.{Form}
-use Rattle.kernel_words.specs.declared.form.TheConstants.{WRITTEN}
-use Rattle.kernel_words.specs.Forms.{most_cpus, ExpressesParams}
+use Rattle.sound_run.specs.{declared.lock_kind.LockKind.LockKind, declared.lock_kind.LockKind.TheVariants.Ticket, declared.limits.TheConstants.MOST_CELLS}
+use Rattle.kernel_object.specs.{declared.call.KParams.KParams, declared.call.KParams.TheVariants.Queue, Kernel.kernel_in_range}
+use Rattle.kernel_words.specs.{declared.form.Form.Form, declared.form.TheConstants.WRITTEN, Forms.{most_cpus, ExpressesParams}}
 use Rattle.record_lines.specs.Names.{is_name}
 
 -- an object's name, its lock, the most events of its log, and what it is opened with

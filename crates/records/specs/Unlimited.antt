@@ -2,16 +2,8 @@
 use Rattle.event_log.specs.declared.object.SeqObject.{Ghosts}
 use Rattle.page_pool.specs.Unlimited.{unlimited_answer}
 use Rattle.sound_run.specs.Sound.{Sound}
-use Rattle.kernel_object.specs.declared.call.KParams.{KParams}
-use Rattle.kernel_object.specs.declared.call.KCall.{KCall}
-use Rattle.kernel_object.specs.declared.call.KCall.TheVariants.{Pool as PoolCalled}
-use Rattle.kernel_object.specs.declared.call.KReply.{KReply}
-use Rattle.kernel_object.specs.declared.object.KernelObject.{KernelObject}
-use Rattle.kernel_object.specs.declared.object.KernelObject.TheVariants.{Pool as PoolObject}
-use Rattle.kernel_object.specs.Kernel.{kernel_answer}
-use Rattle.kernel_object.specs.Kinds.Pool.{of_pool}
-use Rattle.records.specs.RecordRanges.{Record}
-use Rattle.records.specs.Runs.{opened_of}
+use Rattle.kernel_object.specs.{declared.call.KParams.KParams, declared.call.KCall.KCall, declared.call.KCall.TheVariants.{Pool as PoolCalled}, declared.call.KReply.KReply, declared.object.KernelObject.KernelObject, declared.object.KernelObject.TheVariants.{Pool as PoolObject}, Kernel.kernel_answer, Kinds.Pool.of_pool}
+use Rattle.records.specs.{RecordRanges.Record, Runs.opened_of}
 
 -- what the kind answered, where pools had no quotas
 abbrev pub unlimited_kernel_answer : KernelObject → KCall → KernelObject × KReply

@@ -1,28 +1,15 @@
 -- Parameters of settings are in their ranges.
-use Rattle.std.proofs.Common.{◌≡◌, ℕ, ℤ, pos, negsuc, suc, ◌==◌, true, List, [], ◌∷◌, length, replicate, Ok, Err, refl, ◌∙◌, ap, subst, if◌then◌else◌, int_le, nat_abs, nat_le, ◌&&◌}
-use Rattle.std.proofs.lemmas.Bool.{and_parts, le-leb, eqb-true}
+use Rattle.std.proofs.{Common.{◌≡◌, ℕ, ℤ, pos, negsuc, suc, ◌==◌, true, List, [], ◌∷◌, length, replicate, Ok, Err, refl, ◌∙◌, ap, subst, if◌then◌else◌, int_le, nat_abs, nat_le, ◌&&◌}, lemmas.Bool.{and_parts, le-leb, eqb-true}}
 use Rattle.std.specs.List.{list_all}
 use Rattle.toml.specs.Data.{Data, Items, no_items, item, Members, as_integer, as_array}
-use Rattle.page_pool.specs.State.{is_in_range}
-use Rattle.page_pool.specs.declared.params.PoolParams.{PoolParams}
-use Rattle.page_pool.specs.declared.params.TheConstants.{MOST_PAGES, OWNERS}
-use Rattle.scripts.specs.declared.settings.fault.SettingsPlace.{SettingsPlace}
-use Rattle.scripts.specs.declared.settings.fault.SettingsKey.TheVariants.{Pages, Quotas as QuotasKey, Threads, Channels, Bytes}
-use Rattle.scripts.specs.KindKeys.Pool.{are_integers, quota_from, each_quota, quotas_from, pool_params_in}
-use Rattle.scripts.specs.SettingsKeys.{key_in, key_or, number_from, count_items}
+use Rattle.page_pool.specs.{State.is_in_range, declared.params.PoolParams.PoolParams, declared.params.TheConstants.{MOST_PAGES, OWNERS}}
+use Rattle.scripts.specs.{declared.settings.fault.SettingsPlace.SettingsPlace, declared.settings.fault.SettingsKey.TheVariants.{Pages, Quotas as QuotasKey, Threads, Channels, Bytes}, KindKeys.Pool.{are_integers, quota_from, each_quota, quotas_from, pool_params_in}, SettingsKeys.{key_in, key_or, number_from, count_items}, KindKeys.Sched.sched_params_in, KindKeys.Definition.KindKeys, KindKeys.All.keys_by}
 use Rattle.scripts.proofs.SettingsKeys.{bind_ok, map_or_ok, if_ok, number_in, one_fits, key_or_ok}
-use Rattle.kernel_words.proofs.KindLaws.Pool.{is_quota, full_are, pool_in_range, AreQuotas}
-use Rattle.wake_list.specs.State.{is_in_range as sched_in_range}
-use Rattle.wake_list.specs.declared.sched.SchedParams.{SchedParams}
-use Rattle.wake_list.specs.declared.sched.TheConstants.{MOST_THREADS, MOST_CHANNELS}
-use Rattle.scripts.specs.KindKeys.Sched.{sched_params_in}
-use Rattle.kernel_words.proofs.KindLaws.Sched.{sched_range}
+use Rattle.kernel_words.proofs.{KindLaws.Pool.{is_quota, full_are, pool_in_range, AreQuotas}, KindLaws.Sched.sched_range}
+use Rattle.wake_list.specs.{State.{is_in_range as sched_in_range}, declared.sched.SchedParams.SchedParams, declared.sched.TheConstants.{MOST_THREADS, MOST_CHANNELS}}
 use Rattle.shared_queue.specs.declared.queue.TheConstants.{MOST_THREADS as QUEUE_THREADS}
 use Rattle.console_ring.specs.declared.console.TheConstants.{MOST_BYTES}
-use Rattle.kernel_object.specs.Kinds.Definition.{KindDefinition}
-use Rattle.scripts.specs.KindKeys.Definition.{KindKeys}
-use Rattle.scripts.specs.KindKeys.All.{keys_by}
-use Rattle.kernel_object.specs.declared.kind.Kind.{Kind}
+use Rattle.kernel_object.specs.{Kinds.Definition.KindDefinition, declared.kind.Kind.Kind}
 use Rattle.kernel_object.specs.declared.kind.Kind.TheVariants as kinds
 
 low_enough : (high : ℕ) (z : ℤ) → (int_le (pos 0) z && int_le z (pos high)) ≡ true → nat_le (nat_abs z) high ≡ true

@@ -1,26 +1,13 @@
 -- A line of the scripts is read as what it spells, and nothing else is.
-use Rattle.std.proofs.Common.{◌≡◌, ℕ, Some, List, [], ◌∷◌, ◌++◌, map, sym, ◌∙◌, ap, subst, arith, decimal, nat_lt, ◌&&◌, ◌≤◌, length}
-use Rattle.std.proofs.lemmas.Bool.{and_parts, lt-ltb, ltb-true}
-use Rattle.std.proofs.lemmas.List.{append-nil}
-use Rattle.std.proofs.lemmas.Option.{cond_some}
+use Rattle.std.proofs.{Common.{◌≡◌, ℕ, Some, List, [], ◌∷◌, ◌++◌, map, sym, ◌∙◌, ap, subst, arith, decimal, nat_lt, ◌&&◌, ◌≤◌, length}, lemmas.Bool.{and_parts, lt-ltb, ltb-true}, lemmas.List.append-nil, lemmas.Option.cond_some}
 use Rattle.std.specs.List.{AllByRecursion}
-use Rattle.kernel_words.specs.Ranges.{call_fits}
-use Rattle.record_lines.specs.Reading.{words, number_at}
-use Rattle.record_lines.specs.Words.{IsPlain}
-use Rattle.scripts.specs.ScriptText.{Request, IsRequest, request_words}
-use Rattle.records.specs.Settings.{Settings, SettingsFit, name_at}
-use Rattle.record_lines.specs.Words.{sentence, separated}
-use Rattle.records.specs.RecordReading.{place_at}
-use Rattle.scripts.specs.RequestReading.{request_at}
-use Rattle.kernel_words.specs.ItemReading.{call_at}
-use Rattle.record_lines.specs.LineParts.{is_nil, list_at}
-use Rattle.record_lines.proofs.ListLaws.{nil_is, key_end, list_takes, list_again, list_plain}
+use Rattle.kernel_words.specs.{Ranges.call_fits, ItemReading.call_at}
+use Rattle.record_lines.specs.{Reading.{words, number_at}, Words.IsPlain, Words.{sentence, separated}, LineParts.{is_nil, list_at}}
+use Rattle.scripts.specs.{ScriptText.{Request, IsRequest, request_words}, RequestReading.request_at}
+use Rattle.records.specs.{Settings.{Settings, SettingsFit, name_at}, RecordReading.place_at}
+use Rattle.record_lines.proofs.{ListLaws.{nil_is, key_end, list_takes, list_again, list_plain}, Readings.{bind_some, plain_decimal, number_at_takes, number_at_again}, Sentences.{words_sentence, sentence_words}, Lengths.{number_le, separated_le, sentence_le}}
 use Rattle.records.proofs.NamedObjects.{name_at_plain, place_takes, place_again, name_at_le}
-use Rattle.record_lines.proofs.Readings.{bind_some, plain_decimal, number_at_takes, number_at_again}
-use Rattle.record_lines.proofs.Sentences.{words_sentence, sentence_words}
-use Rattle.record_lines.proofs.Lengths.{number_le, separated_le, sentence_le}
-use Rattle.kernel_words.proofs.RecordLengths.{each_call}
-use Rattle.kernel_words.proofs.CallLaws.{call_words, reads_calls}
+use Rattle.kernel_words.proofs.{RecordLengths.each_call, CallLaws.{call_words, reads_calls}}
 
 module _ (settings : Settings) (fit : SettingsFit settings) where
   -- what is read of a line is what it asks for

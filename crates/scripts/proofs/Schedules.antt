@@ -1,8 +1,5 @@
 -- The words of a schedule, and that a text with a first bad word is none.
-use Rattle.std.proofs.Common.{◌≡◌, ℕ, ◌<◌, ◌≤◌, ◌==◌, true, false, not, cond, List, [], ◌∷◌, ◌++◌, length, map, decimal, refl, sym, ◌∙◌, ap, arith, inl, inr, length-append}
-use Rattle.std.proofs.lemmas.List.{length-map}
-use Rattle.std.proofs.lemmas.List.Elements.{All-from_recursion}
-use Rattle.std.proofs.lemmas.List.Splits.{slice_split-cons_yes, slice_split_none, slice_split_at}
+use Rattle.std.proofs.{Common.{◌≡◌, ℕ, ◌<◌, ◌≤◌, ◌==◌, true, false, not, cond, List, [], ◌∷◌, ◌++◌, length, map, decimal, refl, sym, ◌∙◌, ap, arith, inl, inr, length-append}, lemmas.List.length-map, lemmas.List.Elements.All-from_recursion, lemmas.List.Splits.{slice_split-cons_yes, slice_split_none, slice_split_at}}
 use Rattle.std.specs.List.{AllByRecursion, filter, slice_split}
 use Rattle.event_log.proofs.Each.{all_map}
 use Rattle.scripts.specs.ScheduleText.{is_gap, schedule_words, IsSchedule, IsFirstBadWord}

@@ -1,17 +1,10 @@
 -- Scripts, line by line.
-use Rattle.std.proofs.Common.{◌≡◌, ℕ, ◌+◌, ◌<◌, ◌≤◌, ◌==◌, Bool, true, false, List, [], ◌∷◌, ◌++◌, length, refl, sym, ◌∙◌, ap, subst, append_assoc, arith, cond, inl, inr, Some, slice_get, slice_set}
-use Rattle.std.proofs.lemmas.List.{append-nil}
-use Rattle.std.proofs.lemmas.Bool.{eqb-true}
-use Rattle.std.proofs.lemmas.List.FromFn.{length-map-range_with_len}
-use Rattle.std.proofs.lemmas.List.Sums.{fold-append}
+use Rattle.std.proofs.{Common.{◌≡◌, ℕ, ◌+◌, ◌<◌, ◌≤◌, ◌==◌, Bool, true, false, List, [], ◌∷◌, ◌++◌, length, refl, sym, ◌∙◌, ap, subst, append_assoc, arith, cond, inl, inr, Some, slice_get, slice_set}, lemmas.List.append-nil, lemmas.Bool.eqb-true, lemmas.List.FromFn.length-map-range_with_len, lemmas.List.Sums.fold-append}
 use Rattle.std.specs.List.{AllByRecursion}
 use Rattle.kernel_object.specs.KernelTypes.{KernelTodo}
-use Rattle.records.specs.declared.record.TheConstants.{MOST_ENTRIES}
-use Rattle.scripts.specs.ScriptText.{Request, IsBlank, AskFor, IsRefused, AreScripts, ScriptFits, ScriptsFit, count_of, script_of, dealt}
-use Rattle.records.specs.RecordRanges.{TodoFits}
+use Rattle.records.specs.{declared.record.TheConstants.MOST_ENTRIES, RecordRanges.TodoFits, Settings.Settings}
+use Rattle.scripts.specs.{ScriptText.{Request, IsBlank, AskFor, IsRefused, AreScripts, ScriptFits, ScriptsFit, count_of, script_of, dealt}, ScriptFaults.{ScriptState, TakesLine, TakesScriptLine, IsNotTaken}}
 use Rattle.record_lines.specs.LineMachine.{TakesEach}
-use Rattle.scripts.specs.ScriptFaults.{ScriptState, TakesLine, TakesScriptLine, IsNotTaken}
-use Rattle.records.specs.Settings.{Settings}
 use Rattle.scripts.proofs.Dealt.{dealt_push, dealt_get, dealt_all, script_length}
 
 count_by_more : (cpu : ℕ) (requests : List Request) (r : Request) → count_of cpu (requests ++ r ∷ []) ≡ count_of cpu requests + cond (r.cpu == cpu) 1 0

@@ -1,8 +1,6 @@
 -- Scripts within all limits are within those of the settings where each entry's object is one of theirs.
-use Rattle.std.specs.Cmp.Derive.{both_true}
-use Rattle.std.proofs.Common.{◌≡◌, ◌≤◌, ℕ, true, nat_lt, List, [], ◌∷◌, refl, arith}
-use Rattle.std.proofs.lemmas.Bool.{and_parts, ltb-true, lt-ltb}
-use Rattle.std.specs.List.{list_all, AllByRecursion}
+use Rattle.std.specs.{Cmp.Derive.both_true, List.{list_all, AllByRecursion}}
+use Rattle.std.proofs.{Common.{◌≡◌, ◌≤◌, ℕ, true, nat_lt, List, [], ◌∷◌, refl, arith}, lemmas.Bool.{and_parts, ltb-true, lt-ltb}}
 use Rattle.event_log.proofs.Each.{all_map}
 use Rattle.kernel_object.specs.KernelTypes.{KernelTodo}
 use Rattle.scripts.specs.ScriptText.{ScriptFits}

@@ -1,19 +1,8 @@
 -- Scripts, piece by piece.
 use Rattle.std.proofs.Common.{◌≡◌, ℕ, List, Option, Result, Ok, Err, refl, sym, subst}
 use Rattle.std.specs.Result.{IsErrAnd, IfErr}
-use Rattle.record_lines.specs.declared.streams.feeding.SourceFault.{SourceFault}
-use Rattle.record_lines.specs.declared.streams.feeding.SourceFault.TheVariants.{ReadFailed, Reported}
-use Rattle.record_lines.specs.declared.text.fault.LinesFault.{LinesFault}
-use Rattle.record_lines.specs.declared.text.fault.LinesFault.TheVariants.{OutOfMemory, Line}
-use Rattle.record_lines.specs.declared.text.fault.TextFault.{TextFault}
-use Rattle.record_lines.specs.declared.text.line_machine.Pieces.{Pieces}
-use Rattle.record_lines.specs.Feeding.{HasRefused}
-use Rattle.record_lines.specs.LineMachine.{RefusesLine}
-use Rattle.record_lines.specs.Pieces.{RefusesPieces}
-use Rattle.scripts.specs.ScriptFaults.{ScriptState, TakesScriptLine, RefusesScriptLine, FitsScriptLine, no_entries, NamesFirstBad, NamesFirstBadOfRest}
-use Rattle.record_lines.specs.Sources.{IsRest}
-use Rattle.record_lines.specs.TextFaults.{of_lines, of_source}
-use Rattle.scripts.specs.ScriptText.{IsFirstBad}
+use Rattle.record_lines.specs.{declared.streams.feeding.SourceFault.SourceFault, declared.streams.feeding.SourceFault.TheVariants.{ReadFailed, Reported}, declared.text.fault.LinesFault.LinesFault, declared.text.fault.LinesFault.TheVariants.{OutOfMemory, Line}, declared.text.fault.TextFault.TextFault, declared.text.line_machine.Pieces.Pieces, Feeding.HasRefused, LineMachine.RefusesLine, Pieces.RefusesPieces, Sources.IsRest, TextFaults.{of_lines, of_source}}
+use Rattle.scripts.specs.{ScriptFaults.{ScriptState, TakesScriptLine, RefusesScriptLine, FitsScriptLine, no_entries, NamesFirstBad, NamesFirstBadOfRest}, ScriptText.IsFirstBad}
 use Rattle.records.specs.Settings.{Settings}
 use Rattle.scripts.proofs.ScriptTexts.{line_refused}
 use Rattle.record_lines.proofs.Consuming.{of_rest}

@@ -1,20 +1,11 @@
 -- Scripts, text by text.
-use Rattle.std.proofs.Common.{◌≡◌, ◌==◌, ◌↔◌, ℕ, ◌<◌, Bool, true, false, List, [], ◌∷◌, ◌++◌, length, replicate, inl, inr, Result, Ok, Err, refl, sym, ◌∙◌, subst, arith, IsErrAnd, IfOk, IfErr}
-use Rattle.std.proofs.lemmas.Bool.{eqb-true, eqb-false}
-use Rattle.std.proofs.lemmas.List.{append-nil, length-replicate}
+use Rattle.std.proofs.{Common.{◌≡◌, ◌==◌, ◌↔◌, ℕ, ◌<◌, Bool, true, false, List, [], ◌∷◌, ◌++◌, length, replicate, inl, inr, Result, Ok, Err, refl, sym, ◌∙◌, subst, arith, IsErrAnd, IfOk, IfErr}, lemmas.Bool.{eqb-true, eqb-false}, lemmas.List.{append-nil, length-replicate}}
 use Rattle.kernel_object.specs.KernelTypes.{KernelTodo}
-use Rattle.record_lines.specs.declared.text.fault.LinesFault.{LinesFault}
-use Rattle.record_lines.specs.declared.text.fault.LinesFault.TheVariants.{OutOfMemory, Line}
-use Rattle.record_lines.specs.LineMachine.{TakesText, RefusesText, RefusesLine, ChangesNothing, HasTaken}
-use Rattle.scripts.specs.ScriptFaults.{ScriptState, TakesScriptLine, RefusesScriptLine, FitsScriptLine, IsNotTaken, NamesFirstBad, HasRead, no_entries}
-use Rattle.scripts.specs.ScriptText.{AreRequests, IsFirstBad, AreScripts, ScriptsFit, ScriptsWithin}
+use Rattle.record_lines.specs.{declared.text.fault.LinesFault.LinesFault, declared.text.fault.LinesFault.TheVariants.{OutOfMemory, Line}, LineMachine.{TakesText, RefusesText, RefusesLine, ChangesNothing, HasTaken}, Words.{NoEnd, text_of_lines}}
+use Rattle.scripts.specs.{ScriptFaults.{ScriptState, TakesScriptLine, RefusesScriptLine, FitsScriptLine, IsNotTaken, NamesFirstBad, HasRead, no_entries}, ScriptText.{AreRequests, IsFirstBad, AreScripts, ScriptsFit, ScriptsWithin}}
 use Rattle.records.specs.Settings.{Settings, SettingsFit}
-use Rattle.record_lines.specs.Words.{NoEnd, text_of_lines}
 use Rattle.record_lines.proofs.FirstLines.{refused_on}
-use Rattle.scripts.proofs.ScriptLines.{Asked, each_taken, refused, scripts_fit}
-use Rattle.scripts.proofs.ScriptRanges.{scripts_within}
-use Rattle.scripts.proofs.RequestLaws.{long_no_request}
-use Rattle.scripts.proofs.ScriptVerdicts.{bad_is_not_good}
+use Rattle.scripts.proofs.{ScriptLines.{Asked, each_taken, refused, scripts_fit}, ScriptRanges.scripts_within, RequestLaws.long_no_request, ScriptVerdicts.bad_is_not_good}
 
 module _ (settings : Settings) where
   module _ (text rest : List ℕ) (state : ScriptState) (m : ℕ) (takes : TakesText TakesScriptLine text (no_entries settings) 1 rest state m) where

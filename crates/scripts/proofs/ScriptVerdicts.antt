@@ -1,16 +1,11 @@
 -- No text is both scripts and one with a first bad line.
-use Rattle.std.proofs.Common.{◌≡◌, ℕ, ◌<◌, ◌≤◌, ◌^◌, ◌==◌, List, [], ◌∷◌, ◌++◌, length, refl, sym, ◌∙◌, ap, subst, arith, cond, decimal, inl, inr}
+use Rattle.std.proofs.{Common.{◌≡◌, ℕ, ◌<◌, ◌≤◌, ◌^◌, ◌==◌, List, [], ◌∷◌, ◌++◌, length, refl, sym, ◌∙◌, ap, subst, arith, cond, decimal, inl, inr}, lemmas.Bool.eq-eqb, lemmas.List.Sums.{sum_by-append, sum_by-cons}}
 use Rattle.std.specs.List.{AllByRecursion}
-use Rattle.std.proofs.lemmas.Bool.{eq-eqb}
-use Rattle.std.proofs.lemmas.List.Sums.{sum_by-append, sum_by-cons}
 use Rattle.kernel_object.specs.KernelTypes.{KernelTodo}
-use Rattle.records.specs.declared.record.TheConstants.{MOST_ENTRIES}
-use Rattle.record_lines.specs.Reading.{AreDigits}
+use Rattle.records.specs.{declared.record.TheConstants.MOST_ENTRIES, Settings.{Settings, SettingsFit}}
+use Rattle.record_lines.specs.{Reading.AreDigits, Words.{text_of_lines, NoEnd}}
 use Rattle.scripts.specs.ScriptText.{Request, IsBlank, IsRequest, AskFor, AreRequests, AreScripts, IsRefused, IsFirstBad, count_of}
-use Rattle.records.specs.Settings.{Settings, SettingsFit}
-use Rattle.record_lines.specs.Words.{text_of_lines, NoEnd}
-use Rattle.record_lines.proofs.Digits.{decimal_digits, decimal_some}
-use Rattle.record_lines.proofs.FirstLines.{line_first, same_line, no_such_end, lines_front}
+use Rattle.record_lines.proofs.{Digits.{decimal_digits, decimal_some}, FirstLines.{line_first, same_line, no_such_end, lines_front}}
 use Rattle.scripts.proofs.RequestLaws.{request_again}
 
 -- a request after others is counted too

@@ -1,30 +1,20 @@
 -- What settings of a TOML table are: within all limits.
-use Rattle.std.proofs.Common.{◌≡◌, ℕ, ◌+◌, ◌≤◌, true, false, ◌&&◌, nat_le, List, [], ◌∷◌, ◌++◌, length, length-append, Ok, Err, refl, sym, ◌∙◌, subst, arith, if◌then◌else◌, bytes_eq}
+use Rattle.std.proofs.{Common.{◌≡◌, ℕ, ◌+◌, ◌≤◌, true, false, ◌&&◌, nat_le, List, [], ◌∷◌, ◌++◌, length, length-append, Ok, Err, refl, sym, ◌∙◌, subst, arith, if◌then◌else◌, bytes_eq}, lemmas.Bool.{and_parts, leb-true}}
 use Rattle.std.specs.List.{list_any}
-use Rattle.std.proofs.lemmas.Bool.{and_parts, leb-true}
 use Rattle.event_log.proofs.Each.{all_push}
 use Rattle.toml.specs.Data.{Data, Items, no_items, item, Members, as_str, as_array, as_table}
-use Rattle.sound_run.specs.declared.limits.TheConstants.{MOST_CPUS}
-use Rattle.sound_run.specs.declared.limits.TheConstants.{MOST_CELLS}
+use Rattle.sound_run.specs.{declared.limits.TheConstants.MOST_CPUS, declared.limits.TheConstants.MOST_CELLS}
 use Rattle.event_log.specs.declared.logged.TheConstants.{MOST_EVENTS}
-use Rattle.kernel_object.specs.declared.call.KParams.{KParams}
-use Rattle.kernel_object.specs.declared.kind.Kind.{Kind}
-use Rattle.kernel_object.specs.Kernel.{kernel_in_range}
-use Rattle.kernel_object.specs.Kinds.All.{params_of}
+use Rattle.kernel_object.specs.{declared.call.KParams.KParams, declared.kind.Kind.Kind, Kernel.kernel_in_range, Kinds.All.params_of}
 use Rattle.kernel_object.proofs.KindLaws.{by_kind_is}
 use Rattle.kernel_words.specs.declared.form.TheConstants.{WRITTEN}
-use Rattle.scripts.specs.declared.settings.fault.SettingsPlace.{SettingsPlace}
-use Rattle.scripts.specs.declared.settings.fault.SettingsPlace.TheVariants.{Top, Object}
-use Rattle.scripts.specs.declared.settings.fault.SettingsKey.TheVariants as Key
-use Rattle.scripts.specs.KindKeys.All.{keys_by}
+use Rattle.scripts.specs.{declared.settings.fault.SettingsPlace.SettingsPlace, declared.settings.fault.SettingsPlace.TheVariants.{Top, Object}, KindKeys.All.keys_by, SettingsKeys.{number_from, count_items, key_in, has_only}, SettingsText.{name_from, items_from, kind_from, lock_from, keys_of, params_by, params_in, object_in, object_from, objects_from, settings_in}}
 use Rattle.records.specs.Settings.{Settings, ObjectSettings, ObjectFits, SettingsFit}
 use Rattle.record_lines.specs.Names.{is_name}
-use Rattle.scripts.specs.SettingsKeys.{number_from, count_items, key_in, has_only}
-use Rattle.scripts.specs.SettingsText.{name_from, items_from, kind_from, lock_from, keys_of, params_by, params_in, object_in, object_from, objects_from, settings_in}
-use Rattle.scripts.proofs.KindKeyLaws.{sets_in_range}
+use Rattle.scripts.proofs.{KindKeyLaws.sets_in_range, SettingsKeys.{bind_ok, key_ok, map_or_ok, if_ok, if_not, number_in}}
 use Rattle.kernel_words.proofs.ParameterLaws.{range_of}
-use Rattle.scripts.proofs.SettingsKeys.{bind_ok, key_ok, map_or_ok, if_ok, if_not, number_in}
 use Rattle.records.proofs.JoinedObjects.{Joins, differ_more, AreObjects}
+use Rattle.scripts.specs.declared.settings.fault.SettingsKey.TheVariants as Key
 
 -- ---- values
 

@@ -1,12 +1,8 @@
 -- What was read of a settings' table by its keys.
-use Rattle.std.proofs.Common.{◌≡◌, ℕ, ℤ, pos, negsuc, ◌≤◌, Bool, true, false, ◌&&◌, nat_le, Option, Some, None, Ok, Err, Result, refl, subst, ◌⊎◌, inl, inr, if◌then◌else◌, int_le, nat_abs}
+use Rattle.std.proofs.{Common.{◌≡◌, ℕ, ℤ, pos, negsuc, ◌≤◌, Bool, true, false, ◌&&◌, nat_le, Option, Some, None, Ok, Err, Result, refl, subst, ◌⊎◌, inl, inr, if◌then◌else◌, int_le, nat_abs}, lemmas.Bool.{and_parts, leb-true, le-leb}}
 use Rattle.std.specs.Option.{option_map_or}
-use Rattle.std.proofs.lemmas.Bool.{and_parts, leb-true, le-leb}
 use Rattle.toml.specs.Data.{Data, Members, get_member, as_integer}
-use Rattle.scripts.specs.declared.settings.fault.Cause.{Cause}
-use Rattle.scripts.specs.declared.settings.fault.SettingsPlace.{SettingsPlace}
-use Rattle.scripts.specs.declared.settings.fault.SettingsKey.{SettingsKey}
-use Rattle.scripts.specs.SettingsKeys.{number_from, key_word, at_key, find_key, key_in, key_or}
+use Rattle.scripts.specs.{declared.settings.fault.Cause.Cause, declared.settings.fault.SettingsPlace.SettingsPlace, declared.settings.fault.SettingsKey.SettingsKey, SettingsKeys.{number_from, key_word, at_key, find_key, key_in, key_or}}
 use Rattle.record_lines.specs.Then.{◌>>=◌}
 
 -- ---- answers in parts

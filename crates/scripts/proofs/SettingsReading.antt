@@ -1,14 +1,10 @@
 -- Settings from a source.
 use Rattle.std.proofs.Common.{ℕ, ◌<◌, ◌≤◌, inl, inr, List, length, length-append, Option, refl, arith}
 use Rattle.std.specs.Io.KnownBytes.{Consumes}
-use Rattle.scripts.specs.declared.settings.fault.SettingsFault.{SettingsFault}
-use Rattle.scripts.specs.declared.settings.fault.SettingsFault.TheVariants as fault
-use Rattle.scripts.specs.declared.settings.reading.TheConstants.{MOST_SETTINGS_BYTES}
-use Rattle.record_lines.specs.declared.streams.feeding.SourceFault.TheVariants.{Reported}
-use Rattle.record_lines.specs.Sources.{IsRest}
-use Rattle.scripts.specs.SettingsSources.{IsFaultOfSettings, NamesFirstFaultOfRest}
-use Rattle.scripts.specs.SettingsText.{NamesFirstFault, not_toml}
+use Rattle.scripts.specs.{declared.settings.fault.SettingsFault.SettingsFault, declared.settings.reading.TheConstants.MOST_SETTINGS_BYTES, SettingsSources.{IsFaultOfSettings, NamesFirstFaultOfRest}, SettingsText.{NamesFirstFault, not_toml}}
+use Rattle.record_lines.specs.{declared.streams.feeding.SourceFault.TheVariants.Reported, Sources.IsRest}
 use Rattle.record_lines.proofs.Consuming.{of_rest}
+use Rattle.scripts.specs.declared.settings.fault.SettingsFault.TheVariants as fault
 
 -- ---- bytes
 

@@ -1,24 +1,11 @@
 -- Values of settings, as they are seen in a TOML table.
 use Rattle.std.proofs.Common.{◌≡◌, ℕ, ◌+◌, ◌<◌, Bool, true, false, List, [], ◌∷◌, ◌++◌, append_assoc, append-nil, length, Option, Some, None, drop, get_or, Ok, Err, IfOk, IfErr, IsUtf8, Result, String, Global, string_bytes, refl, ap, sym, ◌∙◌, ◌&&◌, if◌then◌else◌, IsErrAnd, bytes_eq}
-use Rattle.std.specs.List.{list_all, list_any}
-use Rattle.std.specs.Map.{keys_of}
-use Rattle.std.specs.Option.{is_some, option_map_or}
+use Rattle.std.specs.{List.{list_all, list_any}, Map.keys_of, Option.{is_some, option_map_or}}
 use Rattle.toml.proofs.Views.{items_view-drop, Entry}
-use Rattle.toml.specs.Data.{Data, Items, no_items, item, as_integer}
-use Rattle.toml.specs.Parse.{parse_document}
-use Rattle.toml.specs.View.{view, items_view, members_view}
-use Rattle.toml.specs.declared.value.Value.{Value}
+use Rattle.toml.specs.{Data.{Data, Items, no_items, item, as_integer}, Parse.parse_document, View.{view, items_view, members_view}, declared.value.Value.Value}
 use Rattle.records.specs.Settings.{ObjectSettings, Settings}
-use Rattle.scripts.specs.declared.settings.fault.BadSettings.{BadSettings}
-use Rattle.scripts.specs.declared.settings.fault.Cause.{Cause}
-use Rattle.scripts.specs.declared.settings.fault.SettingsPlace.{SettingsPlace}
-use Rattle.scripts.specs.declared.settings.fault.SettingsFault.{SettingsFault}
-use Rattle.scripts.specs.declared.settings.fault.SettingsFault.TheVariants.{OutOfMemory, Refused}
-use Rattle.scripts.specs.declared.settings.fault.SettingsKey.{SettingsKey}
+use Rattle.scripts.specs.{declared.settings.fault.BadSettings.BadSettings, declared.settings.fault.Cause.Cause, declared.settings.fault.SettingsPlace.SettingsPlace, declared.settings.fault.SettingsFault.SettingsFault, declared.settings.fault.SettingsFault.TheVariants.{OutOfMemory, Refused}, declared.settings.fault.SettingsKey.SettingsKey, KindKeys.Pool.{are_integers, quota_from, each_quota}, SettingsKeys.{at_key, key_word, has_only}, SettingsText.{object_from, objects_from, settings_of, Settles, NamesFirstFault}}
 use Rattle.record_lines.specs.Then.{◌>>=◌, ok_map}
-use Rattle.scripts.specs.KindKeys.Pool.{are_integers, quota_from, each_quota}
-use Rattle.scripts.specs.SettingsKeys.{at_key, key_word, has_only}
-use Rattle.scripts.specs.SettingsText.{object_from, objects_from, settings_of, Settles, NamesFirstFault}
 
 -- whether it is seen as an integer
 abbrev pub is_integer : Value → Bool

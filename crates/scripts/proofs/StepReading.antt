@@ -1,22 +1,10 @@
 -- A schedule, byte by byte.
-use Rattle.std.proofs.Common.{◌≡◌, ℕ, ◌+◌, ◌<◌, ◌≤◌, ◌⊎◌, inl, inr, Bool, true, false, List, [], ◌∷◌, ◌++◌, map, length, length-append, take, drop, take-append-drop, get_or, decimal, append_assoc, refl, sym, ◌∙◌, ap, subst, arith, Option, Result, Ok, Err}
-use Rattle.std.proofs.lemmas.Bool.{cases_lt}
-use Rattle.std.proofs.lemmas.Fmt.{length-decimal-le}
-use Rattle.std.proofs.lemmas.List.{append-nil, map-append, take_more}
-use Rattle.std.specs.List.{AllByRecursion}
-use Rattle.std.specs.Result.{IfErr}
+use Rattle.std.proofs.{Common.{◌≡◌, ℕ, ◌+◌, ◌<◌, ◌≤◌, ◌⊎◌, inl, inr, Bool, true, false, List, [], ◌∷◌, ◌++◌, map, length, length-append, take, drop, take-append-drop, get_or, decimal, append_assoc, refl, sym, ◌∙◌, ap, subst, arith, Option, Result, Ok, Err}, lemmas.Bool.cases_lt, lemmas.Fmt.length-decimal-le, lemmas.List.{append-nil, map-append, take_more}}
+use Rattle.std.specs.{List.AllByRecursion, Result.IfErr}
 use Rattle.event_log.proofs.Each.{all_push}
 use Rattle.sound_run.specs.declared.limits.TheConstants.{MOST_CPUS}
-use Rattle.scripts.specs.declared.schedule.ScheduleFault.{ScheduleFault}
-use Rattle.scripts.specs.declared.schedule.ScheduleFault.TheVariants.{OutOfMemory, Word}
-use Rattle.scripts.specs.declared.schedule.TheConstants.{MOST_STEPS}
-use Rattle.scripts.specs.declared.schedule.step_reader.StepReader.{StepReader}
-use Rattle.record_lines.specs.declared.streams.feeding.SourceFault.{SourceFault}
-use Rattle.record_lines.specs.declared.streams.feeding.SourceFault.TheVariants.{ReadFailed, Reported}
-use Rattle.record_lines.specs.Feeding.{HasRefused}
-use Rattle.scripts.specs.ScheduleReading.{HasReadSteps, EndsWord, NamesFirstBadWordOfRest, RefusesSteps}
-use Rattle.scripts.specs.ScheduleText.{is_gap, schedule_words, IsSchedule, NamesNoCpu, IsFirstBadWord}
-use Rattle.record_lines.specs.Sources.{IsRest}
+use Rattle.scripts.specs.{declared.schedule.ScheduleFault.ScheduleFault, declared.schedule.ScheduleFault.TheVariants.{OutOfMemory, Word}, declared.schedule.TheConstants.MOST_STEPS, declared.schedule.step_reader.StepReader.StepReader, ScheduleReading.{HasReadSteps, EndsWord, NamesFirstBadWordOfRest, RefusesSteps}, ScheduleText.{is_gap, schedule_words, IsSchedule, NamesNoCpu, IsFirstBadWord}}
+use Rattle.record_lines.specs.{declared.streams.feeding.SourceFault.SourceFault, declared.streams.feeding.SourceFault.TheVariants.{ReadFailed, Reported}, Feeding.HasRefused, Sources.IsRest}
 use Rattle.scripts.proofs.Schedules.{gap_first, no_words, word_alone, word_first}
 use Rattle.record_lines.proofs.Consuming.{of_rest}
 

@@ -1,11 +1,9 @@
 -- Reading a line of the scripts from left to right. The laws in proofs/ tie this to the text.
 use Rattle.std.specs.Prelude.{ℕ, List, Option, Some, None, if◌then◌else◌, ◌-◌, ◌&&◌, nat_lt}
 use Rattle.scripts.specs.ScriptText.{Request}
-use Rattle.record_lines.specs.Reading.{◌>>=◌, number_at}
-use Rattle.records.specs.Settings.{Settings}
-use Rattle.record_lines.specs.LineParts.{is_nil, list_at}
+use Rattle.record_lines.specs.{Reading.{◌>>=◌, number_at}, LineParts.{is_nil, list_at}}
+use Rattle.records.specs.{Settings.Settings, RecordReading.place_at}
 use Rattle.kernel_words.specs.ItemReading.{call_at}
-use Rattle.records.specs.RecordReading.{place_at}
 
 -- all words, as an entry of the scripts
 unfoldable pub request_at : Settings → List (List ℕ) → Option Request

@@ -1,15 +1,8 @@
 -- What was read of a schedule that comes in pieces, and the schedule that the rest of a source spells.
-use Rattle.std.specs.Prelude.{ℕ, ◌≡◌, ◌<◌, ◌≤◌, ◌⊎◌, false, List, [], ◌∷◌, ◌++◌, map, length, decimal, Option}
-use Rattle.std.specs.List.{AllByRecursion}
-use Rattle.scripts.specs.declared.schedule.ScheduleFault.{ScheduleFault}
-use Rattle.scripts.specs.declared.schedule.ScheduleFault.TheVariants.{OutOfMemory, Word}
+use Rattle.std.specs.{Prelude.{ℕ, ◌≡◌, ◌<◌, ◌≤◌, ◌⊎◌, false, List, [], ◌∷◌, ◌++◌, map, length, decimal, Option}, List.AllByRecursion}
+use Rattle.scripts.specs.{declared.schedule.ScheduleFault.ScheduleFault, declared.schedule.ScheduleFault.TheVariants.{OutOfMemory, Word}, declared.schedule.TheConstants.MOST_STEPS, declared.schedule.step_reader.StepReader.StepReader, ScheduleText.{is_gap, schedule_words, IsSchedule, IsFirstBadWord}}
 use Rattle.sound_run.specs.declared.limits.TheConstants.{MOST_CPUS}
-use Rattle.scripts.specs.declared.schedule.TheConstants.{MOST_STEPS}
-use Rattle.scripts.specs.declared.schedule.step_reader.StepReader.{StepReader}
-use Rattle.record_lines.specs.declared.streams.feeding.SourceFault.{SourceFault}
-use Rattle.record_lines.specs.declared.streams.feeding.SourceFault.TheVariants.{ReadFailed, Reported}
-use Rattle.scripts.specs.ScheduleText.{is_gap, schedule_words, IsSchedule, IsFirstBadWord}
-use Rattle.record_lines.specs.Sources.{IsRest}
+use Rattle.record_lines.specs.{declared.streams.feeding.SourceFault.SourceFault, declared.streams.feeding.SourceFault.TheVariants.{ReadFailed, Reported}, Sources.IsRest}
 
 -- the text's words are those of the steps, and then come the bytes of a word that may go on, if there are any
 pub record HasReadSteps (cpus : ℕ) (text steps word : List ℕ) : Type 0 where

@@ -1,6 +1,5 @@
 -- The text of a schedule: whose turn each step is, one word a step.
-use Rattle.std.specs.Prelude.{ℕ, ◌+◌, ◌≡◌, ◌<◌, ◌≤◌, ◌==◌, ◌||◌, ◌⊎◌, Bool, not, List, ◌∷◌, ◌++◌, map, length, decimal}
-use Rattle.std.specs.List.{AllByRecursion, filter, slice_split}
+use Rattle.std.specs.{Prelude.{ℕ, ◌+◌, ◌≡◌, ◌<◌, ◌≤◌, ◌==◌, ◌||◌, ◌⊎◌, Bool, not, List, ◌∷◌, ◌++◌, map, length, decimal}, List.{AllByRecursion, filter, slice_split}}
 use Rattle.sound_run.specs.declared.limits.TheConstants.{MOST_CPUS}
 use Rattle.scripts.specs.declared.schedule.TheConstants.{MOST_STEPS}
 

@@ -1,17 +1,10 @@
 -- What a line of the scripts does, and what reading them answers.
 use Rattle.std.specs.Prelude.{ℕ, ◌≡◌, ◌<◌, ◌≤◌, ◌⊎◌, Bool, List, [], ◌∷◌, ◌++◌, length, Option, Some, slice_get, slice_set}
 use Rattle.kernel_object.specs.KernelTypes.{KernelTodo}
-use Rattle.record_lines.specs.declared.text.line_machine.TheConstants.{MOST_BYTES}
-use Rattle.records.specs.declared.record.TheConstants.{MOST_ENTRIES}
-use Rattle.record_lines.specs.declared.text.fault.LinesFault.{LinesFault}
-use Rattle.record_lines.specs.declared.text.fault.LinesFault.TheVariants.{OutOfMemory, Line}
-use Rattle.record_lines.specs.declared.text.fault.TextFault.{TextFault}
-use Rattle.record_lines.specs.declared.text.fault.TextFault.TheVariants as stream
-use Rattle.record_lines.specs.LineMachine.{HasTaken}
+use Rattle.record_lines.specs.{declared.text.line_machine.TheConstants.MOST_BYTES, declared.text.fault.LinesFault.LinesFault, declared.text.fault.LinesFault.TheVariants.{OutOfMemory, Line}, declared.text.fault.TextFault.TextFault, LineMachine.HasTaken, declared.text.line_machine.Pieces.Pieces, Sources.IsRest}
+use Rattle.records.specs.{declared.record.TheConstants.MOST_ENTRIES, Settings.Settings}
 use Rattle.scripts.specs.ScriptText.{Request, IsBlank, IsRequest, IsFirstBad, AreScripts, dealt}
-use Rattle.records.specs.Settings.{Settings}
-use Rattle.record_lines.specs.declared.text.line_machine.Pieces.{Pieces}
-use Rattle.record_lines.specs.Sources.{IsRest}
+use Rattle.record_lines.specs.declared.text.fault.TextFault.TheVariants as stream
 
 -- an entry is added to its CPU's script, which has room for it
 pub record Adds (old new : List (List KernelTodo)) (r : Request) : Type 0 where

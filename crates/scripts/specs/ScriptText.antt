@@ -1,15 +1,10 @@
 -- The text of scripts: what each CPU does, one entry a line.
-use Rattle.std.specs.Prelude.{ℕ, ◌+◌, ◌≡◌, ◌<◌, ◌≤◌, ◌==◌, ◌⊎◌, List, [], ◌∷◌, ◌++◌, map, length, decimal, count_by}
-use Rattle.std.specs.List.{AllByRecursion, filter, range_with_len}
-use Rattle.sound_run.specs.declared.limits.TheConstants.{MOST_CPUS}
-use Rattle.sound_run.specs.declared.limits.TheConstants.{MOST_CELLS}
+use Rattle.std.specs.{Prelude.{ℕ, ◌+◌, ◌≡◌, ◌<◌, ◌≤◌, ◌==◌, ◌⊎◌, List, [], ◌∷◌, ◌++◌, map, length, decimal, count_by}, List.{AllByRecursion, filter, range_with_len}}
+use Rattle.sound_run.specs.{declared.limits.TheConstants.MOST_CPUS, declared.limits.TheConstants.MOST_CELLS}
 use Rattle.kernel_object.specs.KernelTypes.{KernelTodo}
-use Rattle.records.specs.declared.record.TheConstants.{MOST_ENTRIES}
-use Rattle.kernel_words.specs.Row.{spelled}
-use Rattle.kernel_words.specs.Rows.{call_row}
-use Rattle.records.specs.Settings.{Settings, name_at}
+use Rattle.records.specs.{declared.record.TheConstants.MOST_ENTRIES, Settings.{Settings, name_at}, RecordRanges.TodoFits}
+use Rattle.kernel_words.specs.{Row.spelled, Rows.call_row}
 use Rattle.record_lines.specs.Words.{sentence, separated, text_of_lines, NoEnd}
-use Rattle.records.specs.RecordRanges.{TodoFits}
 
 -- at most 10,000 entries on so many objects
 abbrev pub ScriptFits : ℕ → List KernelTodo → Type 0

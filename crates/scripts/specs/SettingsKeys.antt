@@ -1,16 +1,9 @@
 -- The keys of a settings' table, and numbers behind them.
-use Rattle.std.specs.Prelude.{ℕ, pos, nat_abs, int_le, suc, ◌&&◌, true, if◌then◌else◌, Bool, List, Result, Ok, Err, codes}
-use Rattle.std.specs.List.{list_any}
-use Rattle.std.specs.Option.{option_map_or}
-use Rattle.std.specs.Str.{bytes_eq}
+use Rattle.std.specs.{Prelude.{ℕ, pos, nat_abs, int_le, suc, ◌&&◌, true, if◌then◌else◌, Bool, List, Result, Ok, Err, codes}, List.list_any, Option.option_map_or, Str.bytes_eq}
 use Rattle.toml.specs.Data.{Data, Items, no_items, item, Members, no_members, member, get_member, as_integer}
-use Rattle.scripts.specs.declared.settings.fault.BadSettings.{BadSettings}
-use Rattle.scripts.specs.declared.settings.fault.Cause.{Cause}
-use Rattle.scripts.specs.declared.settings.fault.Cause.TheVariants.{Missing, WrongType, OutOfRange, Unknown}
-use Rattle.scripts.specs.declared.settings.fault.SettingsPlace.{SettingsPlace}
-use Rattle.scripts.specs.declared.settings.fault.SettingsKey.{SettingsKey}
-use Rattle.scripts.specs.declared.settings.fault.SettingsKey.TheVariants as Key
+use Rattle.scripts.specs.{declared.settings.fault.BadSettings.BadSettings, declared.settings.fault.Cause.Cause, declared.settings.fault.Cause.TheVariants.{Missing, WrongType, OutOfRange, Unknown}, declared.settings.fault.SettingsPlace.SettingsPlace, declared.settings.fault.SettingsKey.SettingsKey}
 use Rattle.record_lines.specs.Then.{◌>>=◌}
+use Rattle.scripts.specs.declared.settings.fault.SettingsKey.TheVariants as Key
 
 -- a whole number from 1 to high
 unfoldable pub number_from : ℕ → Data → Result ℕ Cause

@@ -1,14 +1,8 @@
 -- The settings that the rest of a source spells, of which so many bytes are read at the most.
 use Rattle.std.specs.Prelude.{ℕ, ◌≡◌, ◌<◌, ◌≤◌, ◌⊎◌, List, length, Option}
-use Rattle.scripts.specs.declared.settings.fault.BadSettings.{BadSettings}
-use Rattle.scripts.specs.declared.settings.fault.SettingsFault.{SettingsFault}
-use Rattle.scripts.specs.declared.settings.fault.SettingsFault.TheVariants.{OutOfMemory, Refused}
-use Rattle.scripts.specs.declared.settings.reading.TheConstants.{MOST_SETTINGS_BYTES}
-use Rattle.record_lines.specs.declared.streams.feeding.SourceFault.{SourceFault}
-use Rattle.record_lines.specs.declared.streams.feeding.SourceFault.TheVariants.{ReadFailed, Reported}
-use Rattle.record_lines.specs.Sources.{IsRest}
+use Rattle.scripts.specs.{declared.settings.fault.BadSettings.BadSettings, declared.settings.fault.SettingsFault.SettingsFault, declared.settings.fault.SettingsFault.TheVariants.{OutOfMemory, Refused}, declared.settings.reading.TheConstants.MOST_SETTINGS_BYTES, SettingsText.{SpellsSettings, IsSettingsFault, not_toml}}
+use Rattle.record_lines.specs.{declared.streams.feeding.SourceFault.SourceFault, declared.streams.feeding.SourceFault.TheVariants.{ReadFailed, Reported}, Sources.IsRest}
 use Rattle.records.specs.Settings.{Settings}
-use Rattle.scripts.specs.SettingsText.{SpellsSettings, IsSettingsFault, not_toml}
 
 -- a text that isn't too long spells the settings
 abbrev pub SpellsShortSettings : List ℕ → Settings → Type 0

@@ -1,32 +1,14 @@
 -- Which settings a TOML text spells, and the first fault of one that spells none.
-use Rattle.std.specs.Prelude.{◌≡◌, ℕ, ◌+◌, ◌&&◌, nat_le, if◌then◌else◌, List, [], ◌∷◌, ◌++◌, length, Option, None, Result, Ok, Err, IsUtf8}
-use Rattle.std.specs.List.{list_any}
-use Rattle.std.specs.Option.{option_map_or}
-use Rattle.std.specs.Str.{bytes_eq}
-use Rattle.toml.specs.Parse.{parse_document}
-use Rattle.toml.specs.Data.{Data, Items, no_items, item, Members, as_str, as_array, as_table}
+use Rattle.std.specs.{Prelude.{◌≡◌, ℕ, ◌+◌, ◌&&◌, nat_le, if◌then◌else◌, List, [], ◌∷◌, ◌++◌, length, Option, None, Result, Ok, Err, IsUtf8}, List.list_any, Option.option_map_or, Str.bytes_eq}
+use Rattle.toml.specs.{Parse.parse_document, Data.{Data, Items, no_items, item, Members, as_str, as_array, as_table}}
 use Rattle.event_log.specs.declared.logged.TheConstants.{MOST_EVENTS}
-use Rattle.sound_run.specs.declared.limits.TheConstants.{MOST_CPUS, MOST_CELLS}
-use Rattle.sound_run.specs.declared.lock_kind.LockKind.{LockKind}
-use Rattle.kernel_object.specs.declared.call.KParams.{KParams}
-use Rattle.kernel_object.specs.declared.kind.Kind.{Kind}
-use Rattle.kernel_object.specs.Kinds.All.{by_kind, params_of}
-use Rattle.kernel_object.specs.KindWords.{kind_of}
-use Rattle.scripts.specs.declared.settings.fault.BadSettings.{BadSettings}
-use Rattle.scripts.specs.declared.settings.fault.SettingsFault.{SettingsFault}
-use Rattle.scripts.specs.declared.settings.fault.SettingsFault.TheVariants.{OutOfMemory, Refused}
-use Rattle.scripts.specs.declared.settings.fault.Cause.{Cause}
-use Rattle.scripts.specs.declared.settings.fault.Cause.TheVariants.{NotToml, WrongType, OutOfRange, BadWord, Repeated}
-use Rattle.scripts.specs.declared.settings.fault.SettingsPlace.{SettingsPlace}
-use Rattle.scripts.specs.declared.settings.fault.SettingsPlace.TheVariants.{Top, Object}
-use Rattle.scripts.specs.declared.settings.fault.SettingsKey.{SettingsKey}
-use Rattle.scripts.specs.declared.settings.fault.SettingsKey.TheVariants as Key
-use Rattle.scripts.specs.KindKeys.All.{keys_by}
+use Rattle.sound_run.specs.{declared.limits.TheConstants.{MOST_CPUS, MOST_CELLS}, declared.lock_kind.LockKind.LockKind}
+use Rattle.kernel_object.specs.{declared.call.KParams.KParams, declared.kind.Kind.Kind, Kinds.All.{by_kind, params_of}, KindWords.kind_of}
+use Rattle.scripts.specs.{declared.settings.fault.BadSettings.BadSettings, declared.settings.fault.SettingsFault.SettingsFault, declared.settings.fault.SettingsFault.TheVariants.{OutOfMemory, Refused}, declared.settings.fault.Cause.Cause, declared.settings.fault.Cause.TheVariants.{NotToml, WrongType, OutOfRange, BadWord, Repeated}, declared.settings.fault.SettingsPlace.SettingsPlace, declared.settings.fault.SettingsPlace.TheVariants.{Top, Object}, declared.settings.fault.SettingsKey.SettingsKey, KindKeys.All.keys_by, SettingsKeys.{number_from, count_items, key_in, has_only, unknown_key}}
 use Rattle.kernel_words.specs.Parameters.{lock_of}
 use Rattle.records.specs.Settings.{Settings, ObjectSettings}
-use Rattle.record_lines.specs.Names.{is_name}
-use Rattle.scripts.specs.SettingsKeys.{number_from, count_items, key_in, has_only, unknown_key}
-use Rattle.record_lines.specs.Then.{◌>>=◌}
+use Rattle.record_lines.specs.{Names.is_name, Then.◌>>=◌}
+use Rattle.scripts.specs.declared.settings.fault.SettingsKey.TheVariants as Key
 
 -- ---- values
 

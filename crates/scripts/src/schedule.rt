@@ -1,7 +1,6 @@
 //! Reading a schedule: a CPU's number for each step.
 
-ghost use Rattle.std.specs.Prelude.{◌≡◌, ◌≤◌, ℕ, List, nat_lt, Err, IfOk};
-ghost use Rattle.std.specs.List.{list_all};
+ghost use Rattle.std.specs.{Prelude.{◌≡◌, ◌≤◌, ℕ, List, nat_lt, Err, IfOk}, List.list_all};
 ghost use Rattle.sound_run.specs.declared.limits.TheConstants.{MOST_CPUS};
 ghost use Rattle.scripts.specs.ScheduleText.{IsSchedule, ScheduleWithin, IsFirstBadWord};
 

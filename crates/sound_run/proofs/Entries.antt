@@ -1,15 +1,9 @@
 -- A transcript and a log after one entry more.
-use Rattle.std.proofs.Common.{◌≡◌, ◌≢◌, ℕ, ◌==◌, true, false, cond, List, [], ◌∷◌, ◌++◌, map, refl, ◌∙◌, ap, eq-eqb, ne_eqb}
+use Rattle.std.proofs.{Common.{◌≡◌, ◌≢◌, ℕ, ◌==◌, true, false, cond, List, [], ◌∷◌, ◌++◌, map, refl, ◌∙◌, ap, eq-eqb, ne_eqb}, lemmas.List.{append-nil, map-append}, lemmas.List.Elements.filter-append}
 use Rattle.std.specs.List.{AllByRecursion}
-use Rattle.std.proofs.lemmas.List.{append-nil, map-append}
-use Rattle.std.proofs.lemmas.List.Elements.{filter-append}
-use Rattle.event_log.specs.declared.event.Steps.{Steps}
-use Rattle.event_log.specs.declared.event.Event.{Event}
-use Rattle.event_log.specs.declared.entry.Done.{Done}
-use Rattle.event_log.specs.declared.entry.Done.TheVariants as done
-use Rattle.event_log.specs.declared.entry.Entry.{Entry}
-use Rattle.event_log.specs.Log.{of}
+use Rattle.event_log.specs.{declared.event.Steps.Steps, declared.event.Event.Event, declared.entry.Done.Done, declared.entry.Entry.Entry, Log.of}
 use Rattle.sound_run.specs.Sound.{NoneAfterFull, done_on, with_steps, steps_by}
+use Rattle.event_log.specs.declared.entry.Done.TheVariants as done
 
 module _ {O P C R : Type 0} where
   with_append : (d : Done O P C R) (xs ys : List (Steps O P C R)) → with_steps d (xs ++ ys) ≡ with_steps d xs ++ ys

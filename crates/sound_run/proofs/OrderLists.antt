@@ -1,16 +1,9 @@
 -- Lists of places: one place more.
-use Rattle.std.proofs.Common.{◌≡◌, ◌≢◌, ◌==◌, ℕ, zero, suc, ◌+◌, true, false, cond, List, [], ◌∷◌, ◌++◌, length, map, Option, Some, None, refl, ap, ◌∙◌, arith, eq-eqb, ne_eqb, add-zero}
+use Rattle.std.proofs.{Common.{◌≡◌, ◌≢◌, ◌==◌, ℕ, zero, suc, ◌+◌, true, false, cond, List, [], ◌∷◌, ◌++◌, length, map, Option, Some, None, refl, ap, ◌∙◌, arith, eq-eqb, ne_eqb, add-zero}, lemmas.List.map-append, lemmas.List.Elements.filter-append}
 use Rattle.std.specs.List.{filter, AllByRecursion}
-use Rattle.std.proofs.lemmas.List.{map-append}
-use Rattle.std.proofs.lemmas.List.Elements.{filter-append}
-use Rattle.event_log.specs.declared.event.Event.{Event}
-use Rattle.event_log.specs.declared.event.Steps.{Steps}
-use Rattle.event_log.specs.declared.entry.Done.{Done}
+use Rattle.event_log.specs.{declared.event.Event.Event, declared.event.Steps.Steps, declared.entry.Done.Done, declared.entry.Entry.Entry, declared.entry.Run.Run}
+use Rattle.sound_run.specs.{declared.place.Place.Place, Orders.{numbers, entries_of, with_event, with_entry, entry_at, events_on, NoneBehindFull}}
 use Rattle.event_log.specs.declared.entry.Done.TheVariants as done
-use Rattle.event_log.specs.declared.entry.Entry.{Entry}
-use Rattle.event_log.specs.declared.entry.Run.{Run}
-use Rattle.sound_run.specs.declared.place.Place.{Place}
-use Rattle.sound_run.specs.Orders.{numbers, entries_of, with_event, with_entry, entry_at, events_on, NoneBehindFull}
 
 pub num_length : (a n : ℕ) → length (numbers a n) ≡ n
 num_length a zero = refl

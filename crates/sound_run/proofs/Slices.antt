@@ -1,6 +1,5 @@
 -- Lists, read and written at a place.
-use Rattle.std.proofs.Common.{◌≡◌, ℕ, zero, suc, ◌<◌, List, [], ◌∷◌, length, map, get_or, slice_get, Option, Some, None, refl, sym, ap, ◌∙◌, arith}
-use Rattle.std.proofs.Math.ListN.{set}
+use Rattle.std.proofs.{Common.{◌≡◌, ℕ, zero, suc, ◌<◌, List, [], ◌∷◌, length, map, get_or, slice_get, Option, Some, None, refl, sym, ap, ◌∙◌, arith}, Math.ListN.set}
 
 module _ {X : Type 0} where
   pub get_set_same : (xs : List X) (j : ℕ) (x y : X) → slice_get xs j ≡ Some y → slice_get (set xs j x) j ≡ Some x

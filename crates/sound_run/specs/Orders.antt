@@ -1,12 +1,8 @@
 -- One order over all entries of a run.
 use Rattle.std.specs.Prelude.{◌≡◌, ◌==◌, ℕ, zero, suc, if◌then◌else◌, List, [], ◌∷◌, length, map, filter, Option, Some, None, slice_get}
-use Rattle.event_log.specs.declared.event.Event.{Event}
-use Rattle.event_log.specs.declared.entry.Done.{Done}
+use Rattle.event_log.specs.{declared.event.Event.Event, declared.entry.Done.Done, declared.entry.Entry.Entry, declared.entry.Run.Run}
+use Rattle.sound_run.specs.{declared.place.Place.Place, Sound.{transcript_of, log_of}}
 use Rattle.event_log.specs.declared.entry.Done.TheVariants as done
-use Rattle.event_log.specs.declared.entry.Entry.{Entry}
-use Rattle.event_log.specs.declared.entry.Run.{Run}
-use Rattle.sound_run.specs.declared.place.Place.{Place}
-use Rattle.sound_run.specs.Sound.{transcript_of, log_of}
 
 -- so many numbers, from the given one on
 abbrev pub numbers : ℕ → ℕ → List ℕ

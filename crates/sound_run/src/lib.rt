@@ -2,12 +2,12 @@
 //! entries is.
 #![tactic(auto)]
 
-mod pinned_limits;
 mod limits;
 mod lock_kind;
+mod pinned_limits;
 mod place;
 
-pub use pinned_limits::shows_limits;
 pub use limits::{MOST_CELLS, MOST_CPUS};
 pub use lock_kind::LockKind;
+pub use pinned_limits::shows_limits;
 pub use place::Place;

@@ -1,14 +1,10 @@
 -- Words that are the form ask for its files.
-use Rattle.std.proofs.Common.{◌≡◌, ◌⊎◌, inl, inr, ap, ◌==◌, ◌∙◌, sym, subst, ℕ, false, List, [], ◌∷◌, map, codes, refl, String, Global, string_bytes}
-use Rattle.std.proofs.lemmas.Bool.{eqb-false, ne_eqb}
+use Rattle.std.proofs.{Common.{◌≡◌, ◌⊎◌, inl, inr, ap, ◌==◌, ◌∙◌, sym, subst, ℕ, false, List, [], ◌∷◌, map, codes, refl, String, Global, string_bytes}, lemmas.Bool.{eqb-false, ne_eqb}}
 use Rattle.std.specs.List.{list_any}
-use Rattle.clap.specs.Words.{Text, fault_of, first_of, matches_of}
+use Rattle.clap.specs.{Words.{Text, fault_of, first_of, matches_of}, declared.error.kind.ErrorKind.TheVariants.{DisplayHelp, DisplayVersion}}
 use Rattle.clap.proofs.OnLiterals.{clap_on_literals}
-use Rattle.clap.specs.declared.error.kind.ErrorKind.TheVariants.{DisplayHelp, DisplayVersion}
 use Rattle.program.specs.FileNames.{IsWanted, is_no_name}
-use Rattle.steps.specs.Asked.{AskedBy, CanBeAsked, MustHelp, has_no_form, is_help, is_no_form, words_for}
-use Rattle.steps.specs.Form.{form}
-use Rattle.steps.specs.declared.arguments.Arguments.{Arguments}
+use Rattle.steps.specs.{Asked.{AskedBy, CanBeAsked, MustHelp, has_no_form, is_help, is_no_form, words_for}, Form.form, declared.arguments.Arguments.Arguments}
 
 -- a plain word is one that the form may have
 plain_in_form : (b : ℕ) (n : Text) → (b == 45) ≡ false → is_no_form (b ∷ n) ≡ false

@@ -1,21 +1,12 @@
 -- What is left of each script, step by step, and the lines of the steps.
-use Rattle.std.proofs.Common.{◌≡◌, ℕ, zero, suc, ◌+◌, ◌<◌, cond, List, [], ◌∷◌, ◌++◌, map, length, get_or, slice_get, drop, Some, None, Option, refl, sym, ap, ◌∙◌, subst, arith, append_assoc}
+use Rattle.std.proofs.{Common.{◌≡◌, ℕ, zero, suc, ◌+◌, ◌<◌, cond, List, [], ◌∷◌, ◌++◌, map, length, get_or, slice_get, drop, Some, None, Option, refl, sym, ap, ◌∙◌, subst, arith, append_assoc}, Math.ListN.set, lemmas.List.drop_more}
 use mathlib.Core.Logic.{dite}
 use native.Mathlib.Decide.{ℕ_discrete}
-use Rattle.std.proofs.Math.ListN.{set}
-use Rattle.std.proofs.lemmas.List.{drop_more}
-use Rattle.std.specs.Borrow.{Bor}
-use Rattle.std.specs.List.{AllByRecursion}
-use Rattle.std.specs.Option.{option_map_or}
-use Rattle.kernel_object.specs.contracts.object.KernelObjectSeqObject.TheImpl.{ghosts as kernel}
-use Rattle.kernel_object.specs.KernelTypes.{KernelTodo}
+use Rattle.std.specs.{Borrow.Bor, List.AllByRecursion, Option.option_map_or}
+use Rattle.kernel_object.specs.{contracts.object.KernelObjectSeqObject.TheImpl.{ghosts as kernel}, KernelTypes.KernelTodo}
 use Rattle.records.specs.Settings.{Settings}
 use Rattle.sound_run.proofs.Slices.{get_set_same, get_set_other}
-use Rattle.word_rule.specs.Machine.Opening.{opening_cpu}
-use Rattle.word_rule.specs.Machine.Orders.{first_cell, works_on}
-use Rattle.word_rule.specs.Machine.World.{CpuState, left, step}
-use Rattle.word_rule.specs.Replay.{entries_left}
-use Rattle.word_rule.specs.StepKinds.{ends_hold}
+use Rattle.word_rule.specs.{Machine.Opening.opening_cpu, Machine.Orders.{first_cell, works_on}, Machine.World.{CpuState, left, step}, Replay.entries_left, StepKinds.ends_hold}
 use Rattle.word_rule.proofs.WorldSteps.{cpus_stepped, left_to}
 use Rattle.cpu_worker.specs.Simulation.{KernelWorld}
 use Rattle.steps.specs.Lines.{line_of, lines_from}

@@ -1,15 +1,10 @@
 -- What the program answers by its words, and what it refuses.
-use Rattle.std.specs.Prelude.{◌≡◌, ◌⊎◌, ℕ, List, Option, Some, String}
-use Rattle.std.specs.Global.{Global}
+use Rattle.std.specs.{Prelude.{◌≡◌, ◌⊎◌, ℕ, List, Option, Some, String}, Global.Global}
 use Rattle.kernel_object.specs.KernelTypes.{KernelTodo}
-use Rattle.program.specs.Refusals.{status_of}
-use Rattle.program.specs.Texts.{RefusesSchedule, RefusesScripts, RefusesSettings, SpellsScheduleOf, SpellsScriptsOf, SpellsSettingsOf}
-use Rattle.program.specs.declared.refusal.Refusal.{Refusal}
-use Rattle.program.specs.declared.refusal.Refusal.TheVariants as refusal
+use Rattle.program.specs.{Refusals.status_of, Texts.{RefusesSchedule, RefusesScripts, RefusesSettings, SpellsScheduleOf, SpellsScriptsOf, SpellsSettingsOf}, declared.refusal.Refusal.Refusal}
 use Rattle.records.specs.Settings.{Settings}
-use Rattle.steps.specs.Asked.{AskNothing, AskedBy, MayHelp}
-use Rattle.steps.specs.Lines.{steps_text}
-use Rattle.steps.specs.declared.arguments.Arguments.{Arguments}
+use Rattle.steps.specs.{Asked.{AskNothing, AskedBy, MayHelp}, Lines.steps_text, declared.arguments.Arguments.Arguments}
+use Rattle.program.specs.declared.refusal.Refusal.TheVariants as refusal
 
 module _ (held : Option (List ℕ) → Option (List ℕ)) where
   -- the settings and scripts under those names

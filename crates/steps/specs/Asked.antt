@@ -1,14 +1,8 @@
 -- What the words ask for, by the form: which files, or help.
-use Rattle.std.specs.Prelude.{◌≡◌, ◌⊎◌, ◌||◌, Bool, true, false, List, [], ◌∷◌, map, codes, nat_eq, String, string_bytes}
-use Rattle.std.specs.Global.{Global}
-use Rattle.std.specs.List.{list_any, starts_with}
-use Rattle.std.specs.Str.{bytes_eq}
-use Rattle.clap.specs.Words.{IsAmong, Kinds, Row, Text, fault_of, first_of, matches_of}
-use Rattle.clap.specs.declared.error.kind.ErrorKind.TheVariants.{DisplayHelp, DisplayVersion}
+use Rattle.std.specs.{Prelude.{◌≡◌, ◌⊎◌, ◌||◌, Bool, true, false, List, [], ◌∷◌, map, codes, nat_eq, String, string_bytes}, Global.Global, List.{list_any, starts_with}, Str.bytes_eq}
+use Rattle.clap.specs.{Words.{IsAmong, Kinds, Row, Text, fault_of, first_of, matches_of}, declared.error.kind.ErrorKind.TheVariants.{DisplayHelp, DisplayVersion}}
 use Rattle.program.specs.FileNames.{IsWanted, is_no_name}
-use Rattle.steps.specs.Form.{form}
-use Rattle.steps.specs.declared.arguments.Arguments.{Arguments}
-use Rattle.steps.specs.declared.arguments.Asked.{Asked}
+use Rattle.steps.specs.{Form.form, declared.arguments.Arguments.Arguments, declared.arguments.Asked.Asked}
 use Rattle.steps.specs.declared.arguments.Asked.TheVariants as asked
 
 -- the files are those that were found for the option and the places of these names

@@ -1,8 +1,6 @@
 -- The only form of words that there is, as the reader of words (`clap`) receives it.
 use Rattle.std.specs.Prelude.{[], ◌∷◌, Some, true, codes}
-use Rattle.clap.specs.Words.{App, Rule, Text, new_rule}
-use Rattle.clap.specs.Simple.{new_shape}
-use Rattle.clap.specs.declared.builder.action.ArgAction.TheVariants.{Set}
+use Rattle.clap.specs.{Words.{App, Rule, Text, new_rule}, Simple.new_shape, declared.builder.action.ArgAction.TheVariants.Set}
 
 -- a file at a place of its own, which may not be left out
 abbrev pub place : Text → Rule

@@ -1,15 +1,7 @@
 -- What is printed: a line for each step of the schedule.
-use Rattle.std.specs.Prelude.{ℕ, ◌+◌, ◌/◌, ◌%◌, List, [], ◌∷◌, ◌++◌, length, take, drop, codes, decimal, Option, Some, None, slice_get}
-use Rattle.std.specs.List.{flat_map}
-use Rattle.kernel_object.specs.contracts.object.KernelObjectSeqObject.TheImpl.{ghosts as kernel}
-use Rattle.kernel_object.specs.KernelTypes.{KernelTodo}
-use Rattle.word_rule.specs.Labels.{WordLabels, labels_of}
-use Rattle.word_rule.specs.Locks.{lock_words}
-use Rattle.word_rule.specs.Machine.Orders.{works_on}
-use Rattle.word_rule.specs.Machine.World.{step}
-use Rattle.word_rule.specs.StepNames.{name_of, outcome_of}
-use Rattle.word_rule.specs.Ticket.State.{tickets}
-use Rattle.word_rule.specs.declared.machine.step_done.StepDone.{StepDone}
+use Rattle.std.specs.{Prelude.{ℕ, ◌+◌, ◌/◌, ◌%◌, List, [], ◌∷◌, ◌++◌, length, take, drop, codes, decimal, Option, Some, None, slice_get}, List.flat_map}
+use Rattle.kernel_object.specs.{contracts.object.KernelObjectSeqObject.TheImpl.{ghosts as kernel}, KernelTypes.KernelTodo}
+use Rattle.word_rule.specs.{Labels.{WordLabels, labels_of}, Locks.lock_words, Machine.Orders.works_on, Machine.World.step, StepNames.{name_of, outcome_of}, Ticket.State.tickets, declared.machine.step_done.StepDone.StepDone}
 use Rattle.records.specs.Settings.{Settings, ObjectSettings}
 use Rattle.cpu_worker.specs.Simulation.{KernelWorld, MachineCell, new_world}
 

@@ -1,9 +1,7 @@
 //! The program's words.
 
-ghost use Rattle.std.specs.Prelude.{◌≡◌, ◌⊎◌, false, string_bytes, IfOk, IfErr};
-ghost use Rattle.std.specs.List.{list_any};
-ghost use Rattle.clap.specs.Kinds.{HasKind};
-ghost use Rattle.clap.specs.Words.{found_of, rows_of};
+ghost use Rattle.std.specs.{Prelude.{◌≡◌, ◌⊎◌, false, string_bytes, IfOk, IfErr}, List.list_any};
+ghost use Rattle.clap.specs.{Kinds.HasKind, Words.{found_of, rows_of}};
 ghost use Rattle.steps.specs.Asked.{AreFound, AskNothing, IsAskedBy, faults, has_no_form, is_help, is_no_form};
 
 use crate::form::form;

@@ -2,9 +2,7 @@
 
 ghost use Rattle.std.specs.Prelude.{◌≡◌, ◌⊎◌, ◌≤◌, true, OnOk, IfOk, IfErr, string_bytes};
 ghost use Rattle.event_log.specs.Stream.{counted};
-ghost use Rattle.program.specs.Inputs.{says_read_failed};
-ghost use Rattle.program.specs.Printing.{Prints, PrintsSome};
-ghost use Rattle.program.specs.Refusals.{status_of};
+ghost use Rattle.program.specs.{Inputs.says_read_failed, Printing.{Prints, PrintsSome}, Refusals.status_of};
 ghost use Rattle.steps.specs.Answers.{Answers, Refuses, RefusesWith};
 
 use crate::answer::answer;

@@ -1,9 +1,7 @@
 //! A step as a line of words.
 
 ghost use Rattle.std.specs.Prelude.{◌≡◌, ◌++◌, map, string_bytes, OnOk};
-ghost use Rattle.word_rule.specs.Labels.{shown_by};
-ghost use Rattle.word_rule.specs.Machine.Shown.{Represents, opened_by};
-ghost use Rattle.word_rule.specs.StepNames.{outcome_of};
+ghost use Rattle.word_rule.specs.{Labels.shown_by, Machine.Shown.{Represents, opened_by}, StepNames.outcome_of};
 ghost use Rattle.records.specs.Runs.{opened_of};
 ghost use Rattle.cpu_worker.specs.Simulation.{KernelWorld};
 ghost use Rattle.steps.specs.Lines.{groups_text, line_alone, line_at, line_of, lock_text, outcome_text, spaced};

@@ -1,11 +1,8 @@
 //! All steps of a schedule, a line each.
 
-ghost use Rattle.std.specs.Prelude.{◌≡◌, ◌<◌, length, map, string_bytes, if◌then◌else◌, IfOk};
-ghost use Rattle.std.specs.List.{AllByRecursion};
+ghost use Rattle.std.specs.{Prelude.{◌≡◌, ◌<◌, length, map, string_bytes, if◌then◌else◌, IfOk}, List.AllByRecursion};
 ghost use Rattle.scripts.specs.ScriptText.{ScriptsFit};
-ghost use Rattle.word_rule.specs.Machine.Orders.{first_cell};
-ghost use Rattle.word_rule.specs.Machine.World.{left};
-ghost use Rattle.word_rule.specs.StepKinds.{ends_hold};
+ghost use Rattle.word_rule.specs.{Machine.Orders.first_cell, Machine.World.left, StepKinds.ends_hold};
 ghost use Rattle.steps.specs.Lines.{steps_text};
 
 use crate::line::put_line;

@@ -5,9 +5,9 @@ mod answer;
 mod arguments;
 mod command;
 mod form;
-mod words_law;
 mod line;
 mod lines;
+mod words_law;
 
 use crate::command::{command, refuse};
 use program::start;

@@ -1,9 +1,7 @@
 //! What the words of the program ask for, on a function without effect.
 
-ghost use Rattle.std.specs.Prelude.{◌≡◌, ◌⊎◌, ◌∷◌, [], List, String, codes, map, string_bytes};
-ghost use Rattle.std.specs.Global.{Global};
-ghost use Rattle.steps.specs.Asked.{AskedBy, CanBeAsked, MustHelp, words_for};
-ghost use Rattle.steps.specs.declared.arguments.Arguments.{Arguments};
+ghost use Rattle.std.specs.{Prelude.{◌≡◌, ◌⊎◌, ◌∷◌, [], List, String, codes, map, string_bytes}, Global.Global};
+ghost use Rattle.steps.specs.{Asked.{AskedBy, CanBeAsked, MustHelp, words_for}, declared.arguments.Arguments.Arguments};
 
 /// Words that are the form, as a plain list of words, ask for its files: `read_words` never refuses them as bad. Nor does it
 /// refuse the word for help or for the version.

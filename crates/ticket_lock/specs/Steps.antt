@@ -1,17 +1,9 @@
 -- What the ticket lock's own steps report to the seat that does them.
 use Rattle.std.specs.Prelude.{◌≡◌, ◌≢◌, ℕ, ◌/◌, ◌%◌, true, false, [], ◌∷◌, Option, Some}
 use Rattle.atomic_table.specs.Table.{Step}
-use Rattle.event_log.specs.declared.object.SeqObject.{Ghosts}
-use Rattle.event_log.specs.History.{History}
+use Rattle.event_log.specs.{declared.object.SeqObject.Ghosts, History.History}
+use Rattle.word_rule.specs.{declared.lock_kind.Stage.TheVariants.{Idle, Ticket}, declared.lock_kind.TicketStage.TheVariants.{Drawn, Served}, Cell.Cell, Ticket.State.tickets, Rule.Callers.caller_of, Rule.Seats.{Seat, noted}, Rule.Announced.{Lacks, Goes, Lags, Gets, Returns}, Ticket.Steps.HasDrawn}
 use Rattle.word_rule.specs.declared.machine.step_done.StepDone.TheVariants as steps
-use Rattle.word_rule.specs.declared.lock_kind.Stage.TheVariants.{Idle, Ticket}
-use Rattle.word_rule.specs.declared.lock_kind.TicketStage.TheVariants.{Drawn, Served}
-use Rattle.word_rule.specs.Cell.{Cell}
-use Rattle.word_rule.specs.Ticket.State.{tickets}
-use Rattle.word_rule.specs.Rule.Callers.{caller_of}
-use Rattle.word_rule.specs.Rule.Seats.{Seat, noted}
-use Rattle.word_rule.specs.Rule.Announced.{Lacks, Goes, Lags, Gets, Returns}
-use Rattle.word_rule.specs.Ticket.Steps.{HasDrawn}
 
 module _ {O P C R : Type 0} where
   -- the caller keeps the word that was found; where its halves differ the seat doesn't have every number

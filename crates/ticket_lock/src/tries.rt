@@ -1,9 +1,7 @@
 //! A try of a ticket lock: it gets the object where nobody is in line, and doesn't wait.
 
 ghost use Rattle.std.specs.Prelude.{◌≡◌, true, false, IfOk, IfErr};
-ghost use Rattle.word_rule.specs.Answered.{IsBusy};
-ghost use Rattle.word_rule.specs.Ticket.Steps.{IsTry};
-ghost use Rattle.word_rule.specs.Passes.{view_of_pass, run_of_pass, state_of_pass, state_of_hold};
+ghost use Rattle.word_rule.specs.{Answered.IsBusy, Ticket.Steps.IsTry, Passes.{view_of_pass, run_of_pass, state_of_pass, state_of_hold}};
 ghost use Rattle.ticket_lock.specs.Passes.{IsPassOf, IsTryingOf, IsHoldOf, view_of_trying, state_of_trying};
 
 use crate::cell::TicketCell;

@@ -1,37 +1,13 @@
 -- What a step leaves with a caller: the types of every lock's callers stay true, and the step is one of its kind.
-use Rattle.std.proofs.Common.{◌≡◌, ℕ, ◌<◌, ◌≤◌, ◌||◌, true, List, [], ◌∷◌, ◌++◌, map, min, length, drop, refl, sym, ap, ◌∙◌, subst, ⊎_elim, arith, Option, Some, None, Result, Ok, Err, IfOk, OnErr, append_assoc, ◌==◌}
-use Rattle.std.proofs.Math.Seq.{drop-append_seam}
-use Rattle.std.proofs.lemmas.Bool.{or_right, or_left}
+use Rattle.std.proofs.{Common.{◌≡◌, ℕ, ◌<◌, ◌≤◌, ◌||◌, true, List, [], ◌∷◌, ◌++◌, map, min, length, drop, refl, sym, ap, ◌∙◌, subst, ⊎_elim, arith, Option, Some, None, Result, Ok, Err, IfOk, OnErr, append_assoc, ◌==◌}, Math.Seq.drop-append_seam, lemmas.Bool.{or_right, or_left}, lemmas.List.Folds.list_any-append}
 use Rattle.std.specs.List.{AllByRecursion}
-use Rattle.std.proofs.lemmas.List.Folds.{list_any-append}
 use mathlib.Core.Logic.{dite}
 use native.Mathlib.Decide.{dec_le}
 use Rattle.atomic_table.specs.Table.{rest}
-use Rattle.event_log.specs.declared.object.SeqObject.{Ghosts}
-use Rattle.event_log.specs.declared.event.Event.{Event}
-use Rattle.event_log.specs.declared.event.Steps.{Steps}
-use Rattle.event_log.specs.Distinct.{has}
-use Rattle.event_log.specs.Log.{Begins, Legal, after, one_step, replay}
-use Rattle.event_log.specs.History.{History, IsKept, with_event}
-use Rattle.event_log.proofs.Each.{all_push}
-use Rattle.event_log.proofs.Beginnings.{begins_self, begins_more, begins_rest}
-use Rattle.word_rule.specs.declared.machine.step_done.StepDone.{StepDone}
-use Rattle.word_rule.specs.declared.lock_kind.Stage.{Stage}
-use Rattle.word_rule.specs.declared.lock_kind.Stage.TheVariants.{Idle}
-use Rattle.word_rule.specs.declared.view.TraceStep.{TraceStep}
-use Rattle.word_rule.specs.Answered.{IsBusy}
-use Rattle.word_rule.specs.Cell.{Cell, Grows, IsCaller, Lawful, OwnsAll, stored}
-use Rattle.word_rule.specs.CallerState.{CallerState, Moves, Takes, Gives, NeedsAnother}
-use Rattle.word_rule.specs.Locks.{holding}
-use Rattle.word_rule.specs.LockRuns.{Extends, HasRun}
-use Rattle.word_rule.specs.OneHold.{silently}
-use Rattle.word_rule.specs.Rule.CellInvariant.{SeatView}
-use Rattle.word_rule.specs.Rule.Seats.{Seat, shown, at, moved_on, settled, taken_in, keeping, letting, merged}
-use Rattle.word_rule.specs.Rule.Announced.{Lacks, HasAll, Learns, Goes, Lags, Gets, Left, Returns, any_has}
-use Rattle.word_rule.specs.Rule.Callers.{AddedBy, caller_of, state_without, state_with, StandsAt, IsWithout, IsWith}
-use Rattle.word_rule.proofs.Known.{value_of}
-use Rattle.word_rule.proofs.RunLists.{extends_self}
-use Rattle.word_rule.proofs.Lists.{has_append, of_push, grows_self, grows_then, or_none}
+use Rattle.event_log.specs.{declared.object.SeqObject.Ghosts, declared.event.Event.Event, declared.event.Steps.Steps, Distinct.has, Log.{Begins, Legal, after, one_step, replay}, History.{History, IsKept, with_event}}
+use Rattle.event_log.proofs.{Each.all_push, Beginnings.{begins_self, begins_more, begins_rest}}
+use Rattle.word_rule.specs.{declared.machine.step_done.StepDone.StepDone, declared.lock_kind.Stage.Stage, declared.lock_kind.Stage.TheVariants.Idle, declared.view.TraceStep.TraceStep, Answered.IsBusy, Cell.{Cell, Grows, IsCaller, Lawful, OwnsAll, stored}, CallerState.{CallerState, Moves, Takes, Gives, NeedsAnother}, Locks.holding, LockRuns.{Extends, HasRun}, OneHold.silently, Rule.CellInvariant.SeatView, Rule.Seats.{Seat, shown, at, moved_on, settled, taken_in, keeping, letting, merged}, Rule.Announced.{Lacks, HasAll, Learns, Goes, Lags, Gets, Left, Returns, any_has}, Rule.Callers.{AddedBy, caller_of, state_without, state_with, StandsAt, IsWithout, IsWith}}
+use Rattle.word_rule.proofs.{Known.value_of, RunLists.extends_self, Lists.{has_append, of_push, grows_self, grows_then, or_none}}
 
 module _ {O P C R : Type 0} where
   -- the seat after a step that its first caller did

@@ -1,12 +1,10 @@
 -- The CPUs of a line up to one of them and the one behind it, and how many steps these have left.
-use Rattle.std.proofs.Common.{◌≡◌, ◌≢◌, ◌⊎◌, ⊎_elim, ℕ, zero, suc, ◌+◌, ◌*◌, ◌<◌, ◌≤◌, ◌==◌, ◌||◌, Bool, true, false, cond, eq-eqb, eqb-true, ne_eqb, List, [], ◌∷◌, ◌++◌, length, refl, sym, ap, ◌∙◌, subst, arith}
-use Rattle.std.proofs.lemmas.Bool.{or_parts, or_right, or_cases}
+use Rattle.std.proofs.{Common.{◌≡◌, ◌≢◌, ◌⊎◌, ⊎_elim, ℕ, zero, suc, ◌+◌, ◌*◌, ◌<◌, ◌≤◌, ◌==◌, ◌||◌, Bool, true, false, cond, eq-eqb, eqb-true, ne_eqb, List, [], ◌∷◌, ◌++◌, length, refl, sym, ap, ◌∙◌, subst, arith}, lemmas.Bool.{or_parts, or_right, or_cases}}
 use mathlib.Core.Option.{some, some-injective, some-ne-none}
 use lib.ListN.{get_elem?}
 use Rattle.event_log.specs.Distinct.{has}
 use Rattle.word_rule.specs.Line.{is_first}
-use Rattle.word_rule.proofs.LineChanges.{first_longer, has_more, never}
-use Rattle.word_rule.proofs.Lists.{has_at}
+use Rattle.word_rule.proofs.{LineChanges.{first_longer, has_more, never}, Lists.has_at}
 
 -- the steps of the one behind, or the most there can be while nobody is there
 abbrev next : ℕ → (ℕ → ℕ) → List ℕ → ℕ

@@ -1,29 +1,12 @@
 -- What is true of a world in every run, so that its CPUs get on; and that one of them does while an entry is left.
-use Rattle.std.proofs.Common.{◌≡◌, ◌≢◌, ◌⊎◌, inl, inr, ⊎_elim, ℕ, zero, suc, true, false, true≢false, cond, eq-eqb, List, [], ◌∷◌, length, slice_get, Option, Some, None, refl, sym, ap, ◌∙◌, subst}
+use Rattle.std.proofs.{Common.{◌≡◌, ◌≢◌, ◌⊎◌, inl, inr, ⊎_elim, ℕ, zero, suc, true, false, true≢false, cond, eq-eqb, List, [], ◌∷◌, length, slice_get, Option, Some, None, refl, sym, ap, ◌∙◌, subst}, lemmas.Bool.cases_Bool}
 use Rattle.std.specs.List.{AllByRecursion}
-use Rattle.std.proofs.lemmas.Bool.{cases_Bool}
 use mathlib.Core.Logic.{dite}
 use native.Mathlib.Decide.{ℕ_discrete}
-use Rattle.event_log.specs.declared.object.SeqObject.{Ghosts}
-use Rattle.event_log.specs.declared.entry.Todo.{Todo}
-use Rattle.event_log.specs.Distinct.{has, AreDistinctBelow}
+use Rattle.event_log.specs.{declared.object.SeqObject.Ghosts, declared.entry.Todo.Todo, Distinct.{has, AreDistinctBelow}}
 use Rattle.event_log.proofs.Lists.{some_at}
-use Rattle.word_rule.specs.Locks.{Lock}
-use Rattle.word_rule.specs.StepKinds.{ends_hold}
-use Rattle.word_rule.specs.Replay.{entries_left}
-use Rattle.word_rule.specs.Machine.Opening.{IsOpening}
-use Rattle.word_rule.specs.Machine.Orders.{is_at}
-use Rattle.word_rule.specs.Machine.Rounds.{AllDone, GetsOn}
-use Rattle.word_rule.specs.Machine.SoundWorld.{IsTodo, SoundWorld}
-use Rattle.word_rule.specs.Machine.World.{World, CellState, CpuState, left, run, step}
-use Rattle.word_rule.proofs.IdleSteps.{IsWholeLock, whole_keeps, free}
-use Rattle.word_rule.proofs.LineChanges.{changed, has_more, never, Joined, Left, Same}
-use Rattle.word_rule.proofs.Lists.{has_pushed}
-use Rattle.word_rule.proofs.Openings.{opening_sound}
-use Rattle.word_rule.proofs.Orders.{AreLocks, IsCell, Lines, line_in, locks_stay, same_cpus, stepped}
-use Rattle.word_rule.proofs.ProgressLaws.{gets_on, moves_on, on_moves, someone_at, stays, stays_or}
-use Rattle.word_rule.proofs.SoundSteps.{sound_step}
-use Rattle.word_rule.proofs.WorldSteps.{StepsCpus, StepsCell, left_to, at_stays, at_entry, cpu_below, cpus_stepped, cell_stepped}
+use Rattle.word_rule.specs.{Locks.Lock, StepKinds.ends_hold, Replay.entries_left, Machine.Opening.IsOpening, Machine.Orders.is_at, Machine.Rounds.{AllDone, GetsOn}, Machine.SoundWorld.{IsTodo, SoundWorld}, Machine.World.{World, CellState, CpuState, left, run, step}}
+use Rattle.word_rule.proofs.{IdleSteps.{IsWholeLock, whole_keeps, free}, LineChanges.{changed, has_more, never, Joined, Left, Same}, Lists.has_pushed, Openings.opening_sound, Orders.{AreLocks, IsCell, Lines, line_in, locks_stay, same_cpus, stepped}, ProgressLaws.{gets_on, moves_on, on_moves, someone_at, stays, stays_or}, SoundSteps.sound_step, WorldSteps.{StepsCpus, StepsCell, left_to, at_stays, at_entry, cpu_below, cpus_stepped, cell_stepped}}
 
 module _ {O P C R : Type 0} (meaning : Ghosts O P C R) where
   abbrev pub AreWhole : World O P C R → Type 0

@@ -1,21 +1,9 @@
 -- The law of arrival, from an opening world on.
-use Rattle.std.proofs.Common.{◌≡◌, ℕ, ◌+◌, ◌<◌, ◌≤◌, Bool, true, false, ◌&&◌, List, [], ◌∷◌, ◌++◌, length, slice_get, Option, Some, None, refl, sym, ap, ◌∙◌, subst, arith}
-use Rattle.std.proofs.lemmas.Bool.{false≢true}
-use Rattle.std.proofs.lemmas.Bool.Decides.{nat_tests}
-use Rattle.std.proofs.lemmas.List.{length-append}
-use Rattle.event_log.specs.declared.object.SeqObject.{Ghosts}
-use Rattle.event_log.specs.Distinct.{has}
-use Rattle.event_log.specs.Log.{Begins}
+use Rattle.std.proofs.{Common.{◌≡◌, ℕ, ◌+◌, ◌<◌, ◌≤◌, Bool, true, false, ◌&&◌, List, [], ◌∷◌, ◌++◌, length, slice_get, Option, Some, None, refl, sym, ap, ◌∙◌, subst, arith}, lemmas.Bool.false≢true, lemmas.Bool.Decides.nat_tests, lemmas.List.length-append}
+use Rattle.event_log.specs.{declared.object.SeqObject.Ghosts, Distinct.has, Log.Begins}
 use Rattle.event_log.proofs.Beginnings.{begins_self, begins_more}
-use Rattle.word_rule.specs.Locks.{holding, IsLock, Lock}
-use Rattle.word_rule.specs.Machine.Opening.{IsOpening}
-use Rattle.word_rule.specs.Machine.Orders.{is_at, arrivals, endings, arrives_at, ends_within}
-use Rattle.word_rule.specs.StepKinds.{arrives}
-use Rattle.word_rule.specs.Machine.World.{World, CellState, run, step}
-use Rattle.word_rule.proofs.Lists.{has_tail}
-use Rattle.word_rule.proofs.Orders.{AreLocks, IsCell, line_in, in_order, locks_stay, locks_run, same_cpus, room_to_arrive, arrives_last, run_append}
-use Rattle.word_rule.proofs.LockLaws.{begins, one_holds}
-use Rattle.word_rule.proofs.TurnsKeep.{locks_keep}
+use Rattle.word_rule.specs.{Locks.{holding, IsLock, Lock}, Machine.Opening.IsOpening, Machine.Orders.{is_at, arrivals, endings, arrives_at, ends_within}, StepKinds.arrives, Machine.World.{World, CellState, run, step}}
+use Rattle.word_rule.proofs.{Lists.has_tail, Orders.{AreLocks, IsCell, line_in, in_order, locks_stay, locks_run, same_cpus, room_to_arrive, arrives_last, run_append}, LockLaws.{begins, one_holds}, TurnsKeep.locks_keep}
 
 -- numbers that are a beginning of a list are no more than those before i there, if i isn't among them
 before_it : (ended rest line more : List ℕ) (i : ℕ) → ended ++ rest ≡ (line ++ i ∷ []) ++ more → has i ended ≡ false → length ended ≤ length line

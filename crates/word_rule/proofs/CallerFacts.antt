@@ -1,20 +1,9 @@
 -- What a caller knows of itself and of another that a word named, whichever lock its cell has.
 use Rattle.std.proofs.Common.{◌≡◌, ℕ, ◌<◌, true, true≢false, List, [], ◌∷◌, sym, ap, ◌∙◌, subst, arith, Option, Some, None}
 use Rattle.atomic_table.specs.Table.{rest}
-use Rattle.event_log.specs.declared.object.SeqObject.{Ghosts}
-use Rattle.event_log.specs.declared.event.Event.{Event}
-use Rattle.event_log.specs.History.{History}
-use Rattle.word_rule.specs.declared.machine.step_done.StepDone.{StepDone}
-use Rattle.word_rule.specs.declared.lock_kind.Stage.{Stage}
-use Rattle.word_rule.specs.Cell.{Cell, Grows, OwnsAll}
-use Rattle.word_rule.specs.CallerState.{CallerState, IsOther}
-use Rattle.word_rule.specs.Locks.{holding}
-use Rattle.word_rule.specs.OneHold.{silently}
-use Rattle.word_rule.specs.Rule.Announced.{Goes, IsElse, Lacks, Lags, Learns}
-use Rattle.word_rule.specs.Rule.Callers.{IsWith, IsWithout, caller_of}
-use Rattle.word_rule.specs.Rule.Seats.{Seat, moved_on}
-use Rattle.word_rule.proofs.Known.{value_of}
-use Rattle.word_rule.proofs.Lists.{grows_then}
+use Rattle.event_log.specs.{declared.object.SeqObject.Ghosts, declared.event.Event.Event, History.History}
+use Rattle.word_rule.specs.{declared.machine.step_done.StepDone.StepDone, declared.lock_kind.Stage.Stage, Cell.{Cell, Grows, OwnsAll}, CallerState.{CallerState, IsOther}, Locks.holding, OneHold.silently, Rule.Announced.{Goes, IsElse, Lacks, Lags, Learns}, Rule.Callers.{IsWith, IsWithout, caller_of}, Rule.Seats.{Seat, moved_on}}
+use Rattle.word_rule.proofs.{Known.value_of, Lists.grows_then}
 
 module _ {O P C R : Type 0} where
   -- who owns every number owns the one that a word named

@@ -2,33 +2,10 @@
 -- gives it back, by a turn or by what belongs to a try.
 use Rattle.std.proofs.Common.{◌≡◌, ◌≢◌, ℕ, true, false, List, [], ◌∷◌, ◌++◌, drop, length, set, sym, ap, ◌∙◌, subst, arith, Option, Some}
 use Rattle.atomic_table.specs.Table.{Act, keeps, takes, gives, rest, stepped, carried_after, Valid}
-use Rattle.event_log.specs.declared.object.SeqObject.{Ghosts}
-use Rattle.event_log.specs.declared.event.Event.{Event}
-use Rattle.event_log.specs.Distinct.{has}
-use Rattle.event_log.specs.History.{History}
+use Rattle.event_log.specs.{declared.object.SeqObject.Ghosts, declared.event.Event.Event, Distinct.has, History.History}
 use Rattle.sound_run.specs.declared.lock_kind.LockKind.{LockKind}
-use Rattle.word_rule.specs.declared.machine.step_done.StepDone.{StepDone}
-use Rattle.word_rule.specs.declared.lock_kind.Stage.{Stage}
-use Rattle.word_rule.specs.declared.lock_kind.Stage.TheVariants.{Idle}
-use Rattle.word_rule.specs.declared.view.TraceStep.{TraceStep}
-use Rattle.word_rule.specs.Cell.{Cell, Lawful, stored}
-use Rattle.word_rule.specs.Line.{moved}
-use Rattle.word_rule.specs.LockDefinition.{IsTied, LockDefinition, LockState}
-use Rattle.word_rule.specs.Locks.{Lock, definition_of, holding, lock_of, turn}
-use Rattle.word_rule.specs.OneHold.{leaving, silently}
-use Rattle.word_rule.specs.StepKinds.{ends_hold}
-use Rattle.word_rule.specs.Rule.Announced.{Goes, Gets, IsElse, Lacks, Returns}
-use Rattle.word_rule.specs.Rule.Callers.{AddedBy}
-use Rattle.word_rule.specs.Rule.CellInvariant.{CellInvariant, SeatView, Table}
-use Rattle.word_rule.specs.Rule.Definition.{GoesOn}
-use Rattle.word_rule.specs.Rule.Seats.{Seat, moved_on, settled}
-use Rattle.word_rule.proofs.Known.{AllIdle, gets, goes, lacks, returns, someone_else}
-use Rattle.word_rule.proofs.LockInterface.{is_trying}
-use Rattle.word_rule.proofs.LockLaws.{one_holds}
-use Rattle.word_rule.proofs.RuleStates.{StandsIn, rule_of, turned_lock}
-use Rattle.word_rule.proofs.Runs.{does_so, goes_leaving, goes_silently, turns_so}
-use Rattle.word_rule.proofs.ShownLocks.{tied_lock}
-use Rattle.word_rule.proofs.Stays.{Runs, given, kept, taken, turned_once}
+use Rattle.word_rule.specs.{declared.machine.step_done.StepDone.StepDone, declared.lock_kind.Stage.Stage, declared.lock_kind.Stage.TheVariants.Idle, declared.view.TraceStep.TraceStep, Cell.{Cell, Lawful, stored}, Line.moved, LockDefinition.{IsTied, LockDefinition, LockState}, Locks.{Lock, definition_of, holding, lock_of, turn}, OneHold.{leaving, silently}, StepKinds.ends_hold, Rule.Announced.{Goes, Gets, IsElse, Lacks, Returns}, Rule.Callers.AddedBy, Rule.CellInvariant.{CellInvariant, SeatView, Table}, Rule.Definition.GoesOn, Rule.Seats.{Seat, moved_on, settled}}
+use Rattle.word_rule.proofs.{Known.{AllIdle, gets, goes, lacks, returns, someone_else}, LockInterface.is_trying, LockLaws.one_holds, RuleStates.{StandsIn, rule_of, turned_lock}, Runs.{does_so, goes_leaving, goes_silently, turns_so}, ShownLocks.tied_lock, Stays.{Runs, given, kept, taken, turned_once}}
 
 -- what a turn does, as the rule asks of a step
 abbrev pub by_turn : Lock → ℕ → Lock × List StepDone

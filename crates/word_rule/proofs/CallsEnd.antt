@@ -1,28 +1,12 @@
 -- Every call ends, whatever the others still have to do.
-use Rattle.std.proofs.Common.{◌≡◌, ◌≢◌, ◌⊎◌, inl, inr, ⊎_elim, ℕ, ◌+◌, ◌*◌, ◌<◌, ◌≤◌, ◌&&◌, Bool, true, false, true≢false, cond, List, [], ◌∷◌, length, slice_get, Option, Some, None, refl, sym, ap, ◌∙◌, subst, arith}
-use Rattle.std.proofs.Math.Nat.{mul-le-mul_right}
-use Rattle.std.proofs.lemmas.Bool.{cases_Bool, false_from_ne_true}
-use mathlib.Core.Logic.{dite}
-use mathlib.Core.Option.{some}
+use Rattle.std.proofs.{Common.{◌≡◌, ◌≢◌, ◌⊎◌, inl, inr, ⊎_elim, ℕ, ◌+◌, ◌*◌, ◌<◌, ◌≤◌, ◌&&◌, Bool, true, false, true≢false, cond, List, [], ◌∷◌, length, slice_get, Option, Some, None, refl, sym, ap, ◌∙◌, subst, arith}, Math.Nat.mul-le-mul_right, lemmas.Bool.{cases_Bool, false_from_ne_true}}
+use mathlib.{Core.Logic.dite, Core.Option.some}
 use lib.ListN.{get_elem?}
 use native.Mathlib.Decide.{ℕ_discrete}
-use Rattle.event_log.specs.declared.object.SeqObject.{Ghosts}
-use Rattle.event_log.specs.declared.entry.Todo.{Todo}
-use Rattle.event_log.specs.Distinct.{has}
-use Rattle.word_rule.specs.StepKinds.{ends_hold}
-use Rattle.word_rule.specs.Machine.Opening.{IsOpening}
-use Rattle.word_rule.specs.Machine.Orders.{is_at, endings, ends_within}
-use Rattle.word_rule.specs.Machine.Rounds.{HasRounds, most_steps, most_steps_of}
-use Rattle.word_rule.specs.Machine.World.{World, CellState, left, run, step}
-use Rattle.word_rule.proofs.Alive.{Alive, alive_first, alive_run, alive_step, cell_of_entry, cpus_stay, lined_at, whole_at}
-use Rattle.word_rule.proofs.Fairness.{Fair, Lowers, Someone, reaches}
-use Rattle.word_rule.proofs.IdleSteps.{IsWholeLock}
-use Rattle.word_rule.proofs.LineChanges.{never}
-use Rattle.word_rule.proofs.Lists.{has_at, has_tail}
-use Rattle.word_rule.proofs.ProgressLaws.{most_few}
+use Rattle.event_log.specs.{declared.object.SeqObject.Ghosts, declared.entry.Todo.Todo, Distinct.has}
+use Rattle.word_rule.specs.{StepKinds.ends_hold, Machine.Opening.IsOpening, Machine.Orders.{is_at, endings, ends_within}, Machine.Rounds.{HasRounds, most_steps, most_steps_of}, Machine.World.{World, CellState, left, run, step}}
+use Rattle.word_rule.proofs.{Alive.{Alive, alive_first, alive_run, alive_step, cell_of_entry, cpus_stay, lined_at, whole_at}, Fairness.{Fair, Lowers, Someone, reaches}, IdleSteps.IsWholeLock, LineChanges.never, Lists.{has_at, has_tail}, ProgressLaws.most_few, WaitingTurns.{ReadyAt, rank_at, rank_few, rank_place, rank_some, someone_ready, turn_lowers}, WorldSteps.{StepsCell, StepsCpus, at_stays, cell_stepped, cpu_below, cpus_stepped, left_to, works_at}}
 use Rattle.sound_run.proofs.Slices.{one_of}
-use Rattle.word_rule.proofs.WaitingTurns.{ReadyAt, rank_at, rank_few, rank_place, rank_some, someone_ready, turn_lowers}
-use Rattle.word_rule.proofs.WorldSteps.{StepsCell, StepsCpus, at_stays, cell_stepped, cpu_below, cpus_stepped, left_to, works_at}
 
 module _ {O P C R : Type 0} (meaning : Ghosts O P C R) where
   -- an entry goes on while its hold doesn't end

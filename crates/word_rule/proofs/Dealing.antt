@@ -1,17 +1,9 @@
 -- The callers of a new cell's first seat go to seats of their own, one by one.
-use Rattle.std.proofs.Common.{◌≡◌, ◌⊎◌, ℕ, suc, ◌+◌, ◌-◌, ◌<◌, ◌==◌, Bool, List, [], ◌∷◌, ◌++◌, length, refl, sym, ap, ◌∙◌, subst, ⊎_elim, arith}
-use Rattle.std.proofs.lemmas.Bool.Decides.{nat_tests}
-use Rattle.event_log.specs.declared.object.SeqObject.{Ghosts}
-use Rattle.event_log.specs.Distinct.{has}
+use Rattle.std.proofs.{Common.{◌≡◌, ◌⊎◌, ℕ, suc, ◌+◌, ◌-◌, ◌<◌, ◌==◌, Bool, List, [], ◌∷◌, ◌++◌, length, refl, sym, ap, ◌∙◌, subst, ⊎_elim, arith}, lemmas.Bool.Decides.nat_tests}
+use Rattle.event_log.specs.{declared.object.SeqObject.Ghosts, Distinct.has}
 use Rattle.event_log.proofs.Lists.{get_push}
-use Rattle.word_rule.specs.declared.lock_kind.Stage.TheVariants.{Idle}
-use Rattle.word_rule.specs.Cell.{Cell, Lawful, EachAt, opening_pass}
-use Rattle.word_rule.specs.Locks.{Fits}
-use Rattle.word_rule.specs.Rule.CellInvariant.{SeatView}
-use Rattle.word_rule.specs.Rule.Seats.{Seat, idle, idle_from, keeping, letting}
-use Rattle.word_rule.specs.Rule.Callers.{pass_view_of, IsWithout}
-use Rattle.word_rule.proofs.Lists.{has_one, or_none}
-use Rattle.word_rule.proofs.Runs.{no_run}
+use Rattle.word_rule.specs.{declared.lock_kind.Stage.TheVariants.Idle, Cell.{Cell, Lawful, EachAt, opening_pass}, Locks.Fits, Rule.CellInvariant.SeatView, Rule.Seats.{Seat, idle, idle_from, keeping, letting}, Rule.Callers.{pass_view_of, IsWithout}}
+use Rattle.word_rule.proofs.{Lists.{has_one, or_none}, Runs.no_run}
 
 module _ {O P C R : Type 0} where
   -- the first seat, where the callers below k have gone

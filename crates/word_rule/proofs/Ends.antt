@@ -1,33 +1,15 @@
 -- A new cell meets its rule, and at its end a pass with every number finds the object at home: the same at every lock.
-use Rattle.std.proofs.Common.{◌≡◌, ℕ, zero, suc, ◌+◌, ◌<◌, true≢false, List, [], ◌∷◌, refl, sym, ap, ◌∙◌, subst, arith, Option, Some}
-use Rattle.std.proofs.Math.Seq.{drop-length}
+use Rattle.std.proofs.{Common.{◌≡◌, ℕ, zero, suc, ◌+◌, ◌<◌, true≢false, List, [], ◌∷◌, refl, sym, ap, ◌∙◌, subst, arith, Option, Some}, Math.Seq.drop-length}
 use Rattle.std.specs.List.{AllByRecursion}
-use mathlib.Core.Logic.{dite}
-use mathlib.Core.Option.{some, some-injective, some-ne-none}
+use mathlib.{Core.Logic.dite, Core.Option.{some, some-injective, some-ne-none}}
 use native.Mathlib.Decide.{dec_lt}
 use lib.ListN.{get_elem?}
 use Rattle.atomic_table.specs.Table.{opening, Final, Seen}
-use Rattle.event_log.specs.declared.object.SeqObject.{Ghosts}
-use Rattle.event_log.specs.declared.event.Event.{Event}
-use Rattle.event_log.specs.Distinct.{has}
-use Rattle.event_log.specs.History.{History, IsKept}
+use Rattle.event_log.specs.{declared.object.SeqObject.Ghosts, declared.event.Event.Event, Distinct.has, History.{History, IsKept}}
 use Rattle.event_log.proofs.Beginnings.{begins_self}
 use Rattle.sound_run.specs.declared.lock_kind.LockKind.{LockKind}
-use Rattle.word_rule.specs.declared.lock_kind.Stage.TheVariants.{Idle}
-use Rattle.word_rule.specs.declared.view.TraceStep.{TraceStep}
-use Rattle.word_rule.specs.Cell.{Cell, cell_of, Lawful, OwnsAll, IsPassView, stored}
-use Rattle.word_rule.specs.LockRuns.{lock_after, arrivals_in, endings_in}
-use Rattle.word_rule.specs.Locks.{opening_lock}
-use Rattle.word_rule.specs.Rule.LockStates.{IsLockOf}
-use Rattle.word_rule.specs.Rule.CellInvariant.{GhostState, SeatView, Table, EachFrom, CallerInvariant, SeatInvariant, CellInvariant}
-use Rattle.word_rule.specs.Rule.Seats.{Seat, idle_from, first_view}
-use Rattle.word_rule.specs.Rule.Callers.{caller_of, pass_view_of, IsWithout}
-use Rattle.word_rule.proofs.Lists.{has_one, grows_self, same_log, of_opening}
-use Rattle.word_rule.proofs.Known.{all_idle}
-use Rattle.word_rule.proofs.LockLaws.{fits, idle_home, idle_empty, opens_erased, erased_cpus}
-use Rattle.word_rule.proofs.RunLists.{extends_self, same_run, all_inside}
-use Rattle.word_rule.proofs.RunOrder.{all_ended}
-use Rattle.word_rule.proofs.Runs.{no_run}
+use Rattle.word_rule.specs.{declared.lock_kind.Stage.TheVariants.Idle, declared.view.TraceStep.TraceStep, Cell.{Cell, cell_of, Lawful, OwnsAll, IsPassView, stored}, LockRuns.{lock_after, arrivals_in, endings_in}, Locks.opening_lock, Rule.LockStates.IsLockOf, Rule.CellInvariant.{GhostState, SeatView, Table, EachFrom, CallerInvariant, SeatInvariant, CellInvariant}, Rule.Seats.{Seat, idle_from, first_view}, Rule.Callers.{caller_of, pass_view_of, IsWithout}}
+use Rattle.word_rule.proofs.{Lists.{has_one, grows_self, same_log, of_opening}, Known.all_idle, LockLaws.{fits, idle_home, idle_empty, opens_erased, erased_cpus}, RunLists.{extends_self, same_run, all_inside}, RunOrder.all_ended, Runs.no_run}
 
 module _ {O P C R : Type 0} (h : Cell O P C R) (kind : LockKind) (first : ℕ) where
   abbrev start : GhostState O P C R

@@ -1,17 +1,9 @@
 -- Where each CPU does its run by a script, the events come in the order in which the holds ended.
-use Rattle.std.proofs.Common.{◌≡◌, ◌⊎◌, inl, inr, ⊎_elim, ℕ, ◌<◌, ◌≤◌, Bool, true, false, cond, List, [], ◌∷◌, ◌++◌, map, length, drop, refl, sym, ap, ◌∙◌, subst, arith, append_assoc, length-append}
-use Rattle.std.proofs.Math.Seq.{drop-append_seam}
+use Rattle.std.proofs.{Common.{◌≡◌, ◌⊎◌, inl, inr, ⊎_elim, ℕ, ◌<◌, ◌≤◌, Bool, true, false, cond, List, [], ◌∷◌, ◌++◌, map, length, drop, refl, sym, ap, ◌∙◌, subst, arith, append_assoc, length-append}, Math.Seq.drop-append_seam}
 use Rattle.std.specs.List.{AllByRecursion}
-use Rattle.event_log.specs.declared.object.SeqObject.{Ghosts}
-use Rattle.event_log.specs.declared.event.Event.{Event}
-use Rattle.event_log.specs.declared.entry.Todo.{Todo}
-use Rattle.event_log.specs.Log.{Begins}
+use Rattle.event_log.specs.{declared.object.SeqObject.Ghosts, declared.event.Event.Event, declared.entry.Todo.Todo, Log.Begins}
 use Rattle.event_log.proofs.Beginnings.{begins_self, begins_append, begins_cons}
-use Rattle.word_rule.specs.declared.view.TraceStep.{TraceStep}
-use Rattle.word_rule.specs.Cell.{Cell}
-use Rattle.word_rule.specs.LockRuns.{events_in, IsTraceStep, HasRun, endings_in}
-use Rattle.word_rule.specs.Replay.{DoesRun, AllDoRun}
-use Rattle.word_rule.specs.StepKinds.{ends_hold}
+use Rattle.word_rule.specs.{declared.view.TraceStep.TraceStep, Cell.Cell, LockRuns.{events_in, IsTraceStep, HasRun, endings_in}, Replay.{DoesRun, AllDoRun}, StepKinds.ends_hold}
 
 module _ {O P C R : Type 0} (n limit : ℕ) where
   -- one event, or none in a full log

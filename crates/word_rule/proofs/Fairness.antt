@@ -1,19 +1,11 @@
 -- What a fair schedule reaches: a rank that no step raises, and that some CPU's next step lowers, whatever others do first.
-use Rattle.std.proofs.Common.{◌≡◌, ◌≢◌, ◌⊎◌, inl, inr, ⊎_elim, ℕ, zero, suc, ◌+◌, ◌<◌, ◌≤◌, true, List, [], ◌∷◌, refl, sym, ap, subst, arith}
-use Rattle.std.proofs.lemmas.Bool.Decides.{nat_tests}
-use mathlib.Core.Logic.{dite}
-use mathlib.Core.Option.{some}
+use Rattle.std.proofs.{Common.{◌≡◌, ◌≢◌, ◌⊎◌, inl, inr, ⊎_elim, ℕ, zero, suc, ◌+◌, ◌<◌, ◌≤◌, true, List, [], ◌∷◌, refl, sym, ap, subst, arith}, lemmas.Bool.Decides.nat_tests}
+use mathlib.{Core.Logic.dite, Core.Option.some}
 use native.Mathlib.Decide.{ℕ_discrete}
-use Rattle.event_log.specs.declared.object.SeqObject.{Ghosts}
-use Rattle.event_log.specs.Distinct.{has}
-use Rattle.word_rule.specs.Locks.{IsLock}
-use Rattle.word_rule.specs.Machine.Rounds.{HasRounds, go_round}
-use Rattle.word_rule.specs.Machine.World.{World, run, step}
+use Rattle.event_log.specs.{declared.object.SeqObject.Ghosts, Distinct.has}
+use Rattle.word_rule.specs.{Locks.IsLock, Machine.Rounds.{HasRounds, go_round}, Machine.World.{World, run, step}}
 use Rattle.sound_run.specs.Orders.{numbers}
-use Rattle.word_rule.proofs.LineChanges.{has_more, never}
-use Rattle.word_rule.proofs.Lists.{has_at}
-use Rattle.word_rule.proofs.Orders.{run_append}
-use Rattle.word_rule.proofs.TurnsKeep.{locks_keep}
+use Rattle.word_rule.proofs.{LineChanges.{has_more, never}, Lists.has_at, Orders.run_append, TurnsKeep.locks_keep}
 
 -- each of the numbers is among them
 among_numbers : (i a n : ℕ) → a ≤ i → i < a + n → has i (numbers a n) ≡ true

@@ -1,23 +1,12 @@
 -- What a caller has held for is what its CPUs do by their scripts.
-use Rattle.std.proofs.Common.{◌≡◌, ◌≢◌, ℕ, ◌==◌, Bool, true, false, cond, List, [], ◌∷◌, ◌++◌, map, length, drop, refl, sym, ap, ◌∙◌, subst, arith, append_assoc, append-nil, eq-eqb, ne_eqb, true≢false}
-use Rattle.std.proofs.lemmas.List.{append_cancel_left}
+use Rattle.std.proofs.{Common.{◌≡◌, ◌≢◌, ℕ, ◌==◌, Bool, true, false, cond, List, [], ◌∷◌, ◌++◌, map, length, drop, refl, sym, ap, ◌∙◌, subst, arith, append_assoc, append-nil, eq-eqb, ne_eqb, true≢false}, lemmas.List.append_cancel_left}
 use Rattle.std.specs.List.{AllByRecursion, filter}
 use mathlib.Core.Logic.{dite}
 use native.Mathlib.Decide.{ℕ_discrete}
-use Rattle.event_log.specs.declared.object.SeqObject.{Ghosts}
-use Rattle.event_log.specs.declared.event.Event.{Event}
-use Rattle.event_log.specs.declared.entry.Todo.{Todo}
+use Rattle.event_log.specs.{declared.object.SeqObject.Ghosts, declared.event.Event.Event, declared.entry.Todo.Todo}
 use Rattle.event_log.proofs.Beginnings.{begins_rest}
-use Rattle.word_rule.specs.declared.machine.step_done.StepDone.{StepDone}
-use Rattle.word_rule.specs.declared.view.TraceStep.{TraceStep}
-use Rattle.word_rule.specs.Cell.{Caller}
-use Rattle.word_rule.specs.Holds.{Leaves, HasHeldEach}
-use Rattle.word_rule.specs.LockRuns.{by_cpu, events_in, Extends}
-use Rattle.word_rule.specs.OneHold.{how_many, leaving, silently, HasHeld}
-use Rattle.word_rule.specs.Replay.{todo_of, entries_for, DoesStep, DoesRun}
-use Rattle.word_rule.specs.StepKinds.{ends_hold}
-use Rattle.word_rule.proofs.OneHolds.{count_append}
-use Rattle.word_rule.proofs.RunLists.{by_append, by_other, silent_own}
+use Rattle.word_rule.specs.{declared.machine.step_done.StepDone.StepDone, declared.view.TraceStep.TraceStep, Cell.Caller, Holds.{Leaves, HasHeldEach}, LockRuns.{by_cpu, events_in, Extends}, OneHold.{how_many, leaving, silently, HasHeld}, Replay.{todo_of, entries_for, DoesStep, DoesRun}, StepKinds.ends_hold}
+use Rattle.word_rule.proofs.{OneHolds.count_append, RunLists.{by_append, by_other, silent_own}}
 
 -- the step ends no hold
 abbrev EndsNone : {E : Type 0} → TraceStep E → Type 0

@@ -1,21 +1,11 @@
 -- A CPU's step is idle exactly where its script is done, in every run from an opening world.
-use Rattle.std.proofs.Common.{◌≡◌, ◌↔◌, ℕ, ◌<◌, true, false, true≢false, List, [], ◌∷◌, length, slice_get, Option, Some, None, refl, sym, ap, ◌∙◌, subst}
+use Rattle.std.proofs.{Common.{◌≡◌, ◌↔◌, ℕ, ◌<◌, true, false, true≢false, List, [], ◌∷◌, length, slice_get, Option, Some, None, refl, sym, ap, ◌∙◌, subst}, lemmas.Option.slice_get_within}
 use Rattle.std.specs.List.{AllByRecursion}
-use Rattle.std.proofs.lemmas.Option.{slice_get_within}
-use Rattle.event_log.specs.declared.object.SeqObject.{Ghosts}
-use Rattle.event_log.specs.declared.entry.Todo.{Todo}
+use Rattle.event_log.specs.{declared.object.SeqObject.Ghosts, declared.entry.Todo.Todo}
 use Rattle.event_log.proofs.Lists.{some_at}
+use Rattle.word_rule.specs.{Locks.{IsLock, Lock, turn}, Machine.Opening.IsOpening, Machine.SoundWorld.IsTodo, Machine.World.{World, CellState, CpuState, step, step_by, step_of, step_on, run}}
+use Rattle.word_rule.proofs.{LockInterface.{NoneTries, is_idle}, LockLaws.{begins, turn_acts, turn_whole}, Openings.opening_sound, Orders.{Keeps, AreLocks, IsCell, locks_run, same_cpus}, SoundSteps.sound_run, TurnsKeep.locks_keep}
 use Rattle.word_rule.specs.declared.machine.step_done.StepDone.TheVariants as steps
-use Rattle.word_rule.specs.Locks.{IsLock, Lock, turn}
-use Rattle.word_rule.specs.Machine.Opening.{IsOpening}
-use Rattle.word_rule.specs.Machine.SoundWorld.{IsTodo}
-use Rattle.word_rule.specs.Machine.World.{World, CellState, CpuState, step, step_by, step_of, step_on, run}
-use Rattle.word_rule.proofs.LockInterface.{NoneTries, is_idle}
-use Rattle.word_rule.proofs.LockLaws.{begins, turn_acts, turn_whole}
-use Rattle.word_rule.proofs.Openings.{opening_sound}
-use Rattle.word_rule.proofs.Orders.{Keeps, AreLocks, IsCell, locks_run, same_cpus}
-use Rattle.word_rule.proofs.SoundSteps.{sound_run}
-use Rattle.word_rule.proofs.TurnsKeep.{locks_keep}
 
 -- a lock for n CPUs, of which none is trying
 abbrev pub IsWholeLock : ℕ → Lock → Type 0

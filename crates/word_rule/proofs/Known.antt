@@ -1,35 +1,15 @@
 -- What a step may report of the object, and of numbers that aren't the seat's: the same at every lock.
-use Rattle.std.proofs.Common.{◌≡◌, ◌≢◌, ℕ, ◌+◌, ◌<◌, ◌≤◌, Bool, true, true≢false, List, [], ◌∷◌, ◌++◌, length, drop, refl, sym, ap, ◌∙◌, subst, arith, Option, Some, None}
+use Rattle.std.proofs.{Common.{◌≡◌, ◌≢◌, ℕ, ◌+◌, ◌<◌, ◌≤◌, Bool, true, true≢false, List, [], ◌∷◌, ◌++◌, length, drop, refl, sym, ap, ◌∙◌, subst, arith, Option, Some, None}, lemmas.Bool.false_from_ne_true, lemmas.Bool.Decides.nat_tests, Math.Bool.Bool-discrete}
 use Rattle.std.specs.List.{AllByRecursion}
-use Rattle.std.proofs.lemmas.Bool.{false_from_ne_true}
-use Rattle.std.proofs.lemmas.Bool.Decides.{nat_tests}
-use Rattle.std.proofs.Math.Bool.{Bool-discrete}
-use mathlib.Core.Logic.{dite}
-use mathlib.Core.Option.{some}
+use mathlib.{Core.Logic.dite, Core.Option.some}
 use native.Mathlib.Decide.{ℕ_discrete}
 use lib.ListN.{get_elem?}
-use Rattle.event_log.specs.declared.object.SeqObject.{Ghosts}
+use Rattle.event_log.specs.{declared.object.SeqObject.Ghosts, declared.event.Event.Event, Distinct.has, History.History, Log.Begins}
 use Rattle.atomic_table.specs.Table.{rest}
-use Rattle.event_log.specs.declared.event.Event.{Event}
-use Rattle.event_log.specs.Distinct.{has}
-use Rattle.event_log.specs.History.{History}
-use Rattle.event_log.specs.Log.{Begins}
 use Rattle.event_log.proofs.Beginnings.{begins_rest}
 use Rattle.sound_run.specs.declared.lock_kind.LockKind.{LockKind}
-use Rattle.word_rule.specs.declared.machine.step_done.StepDone.{StepDone}
-use Rattle.word_rule.specs.declared.lock_kind.Stage.{Stage}
-use Rattle.word_rule.specs.declared.lock_kind.Stage.TheVariants.{Idle}
-use Rattle.word_rule.specs.declared.view.TraceStep.{TraceStep}
-use Rattle.word_rule.specs.Cell.{Cell, Grows, Lawful, stored}
-use Rattle.word_rule.specs.LockRuns.{Extends, HasRun}
-use Rattle.word_rule.specs.OneHold.{leaving, silently}
-use Rattle.word_rule.specs.Rule.CellInvariant.{GhostState, Caller, SeatView, Table, EachFrom, CallerInvariant, SeatInvariant, CellInvariant, callers_in}
-use Rattle.word_rule.specs.Rule.Seats.{Seat, moved_on, settled}
-use Rattle.word_rule.specs.Rule.Announced.{any_has, Lacks, IsElse, Learns, Goes, Gets, Left, Returns}
-use Rattle.word_rule.proofs.Lists.{each_at}
-use Rattle.word_rule.proofs.LockLaws.{in_line_below, idle_outside}
-use Rattle.word_rule.proofs.RunLists.{extends_after, extends_by, extends_beside, silent_own}
-use Rattle.word_rule.proofs.Stays.{not_mine, else_place}
+use Rattle.word_rule.specs.{declared.machine.step_done.StepDone.StepDone, declared.lock_kind.Stage.Stage, declared.lock_kind.Stage.TheVariants.Idle, declared.view.TraceStep.TraceStep, Cell.{Cell, Grows, Lawful, stored}, LockRuns.{Extends, HasRun}, OneHold.{leaving, silently}, Rule.CellInvariant.{GhostState, Caller, SeatView, Table, EachFrom, CallerInvariant, SeatInvariant, CellInvariant, callers_in}, Rule.Seats.{Seat, moved_on, settled}, Rule.Announced.{any_has, Lacks, IsElse, Learns, Goes, Gets, Left, Returns}}
+use Rattle.word_rule.proofs.{Lists.each_at, LockLaws.{in_line_below, idle_outside}, RunLists.{extends_after, extends_by, extends_beside, silent_own}, Stays.{not_mine, else_place}}
 
 -- where a caller is idle, all its numbers are
 pub all_idle : {O P C R : Type 0} (n : ℕ) (b : GhostState O P C R) (j k : ℕ) (c : Caller O P C R) → CallerInvariant n b j k c → c.stage ≡ Idle → (x : ℕ) → has x c.owned ≡ true → b.lock.line.stage x ≡ Idle

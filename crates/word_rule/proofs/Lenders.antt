@@ -1,8 +1,7 @@
 -- Where a holder stands that can still do calls.
 use Rattle.std.proofs.Common.{◌≡◌, ℕ, true, sym, ap, ◌∙◌}
 use Rattle.sound_run.specs.declared.lock_kind.LockKind.{LockKind}
-use Rattle.word_rule.specs.declared.lock_kind.Stage.{Stage}
-use Rattle.word_rule.specs.Locks.{holding, holder}
+use Rattle.word_rule.specs.{declared.lock_kind.Stage.Stage, Locks.{holding, holder}}
 use Rattle.word_rule.proofs.LockLaws.{holds}
 
 -- a holder that can still do calls has the object

@@ -1,9 +1,7 @@
 -- What each kind of step does to the line of a lock.
-use Rattle.std.proofs.Common.{◌≡◌, ℕ, Bool, true, false, ◌&&◌, cond, List, [], ◌∷◌, ◌++◌, sym, ap, ◌∙◌, append_assoc}
-use Rattle.std.proofs.lemmas.Bool.{false≢true}
-use Rattle.word_rule.specs.declared.machine.step_done.StepDone.{StepDone}
+use Rattle.std.proofs.{Common.{◌≡◌, ℕ, Bool, true, false, ◌&&◌, cond, List, [], ◌∷◌, ◌++◌, sym, ap, ◌∙◌, append_assoc}, lemmas.Bool.false≢true}
+use Rattle.word_rule.specs.{declared.machine.step_done.StepDone.StepDone, StepKinds.{ends_hold, arrives}}
 use Rattle.word_rule.specs.declared.machine.step_done.StepDone.TheVariants as steps
-use Rattle.word_rule.specs.StepKinds.{ends_hold, arrives}
 
 -- What a step of CPU i does to the line: who arrives joins its end, and who ends a hold leaves from its front.
 abbrev pub LineAfter : StepDone → ℕ → List ℕ → List ℕ → Type 0

@@ -1,14 +1,11 @@
 -- A step joins a CPU to the end of a line, or takes it from the front, or leaves the line; who is first stays so.
-use Rattle.std.proofs.Common.{◌≡◌, ◌≢◌, ◌⊎◌, inl, inr, ℕ, ◌==◌, true, false, true≢false, List, [], ◌∷◌, ◌++◌, eqb-true, refl, sym, ap, ◌∙◌}
-use Rattle.std.proofs.lemmas.Bool.{or_right}
+use Rattle.std.proofs.{Common.{◌≡◌, ◌≢◌, ◌⊎◌, inl, inr, ℕ, ◌==◌, true, false, true≢false, List, [], ◌∷◌, ◌++◌, eqb-true, refl, sym, ap, ◌∙◌}, lemmas.Bool.or_right}
 use lib.ListN.{get_elem?}
 use mathlib.Core.Option.{some}
 use Rattle.event_log.specs.Distinct.{has}
-use Rattle.word_rule.specs.declared.machine.step_done.StepDone.{StepDone}
-use Rattle.word_rule.specs.declared.machine.step_done.StepDone.TheVariants as steps
-use Rattle.word_rule.specs.Line.{is_first}
-use Rattle.word_rule.specs.StepKinds.{ends_hold}
+use Rattle.word_rule.specs.{declared.machine.step_done.StepDone.StepDone, Line.is_first, StepKinds.ends_hold}
 use Rattle.word_rule.proofs.LineAfter.{LineAfter}
+use Rattle.word_rule.specs.declared.machine.step_done.StepDone.TheVariants as steps
 
 pub never : {X : Type 0} → false ≡ true → X
 never e = absurd (true≢false (sym e))

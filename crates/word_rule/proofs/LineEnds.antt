@@ -1,13 +1,10 @@
 -- The ends of a line: who is first, who is behind the first, who is last.
-use Rattle.std.proofs.Common.{◌≡◌, ◌≢◌, ℕ, zero, suc, ◌<◌, true, eq-eqb, List, [], ◌∷◌, ◌++◌, length, false, refl, sym, ap, ◌∙◌, arith, Some, None}
-use Rattle.std.proofs.lemmas.Bool.{false_from_ne_true}
+use Rattle.std.proofs.{Common.{◌≡◌, ◌≢◌, ℕ, zero, suc, ◌<◌, true, eq-eqb, List, [], ◌∷◌, ◌++◌, length, false, refl, sym, ap, ◌∙◌, arith, Some, None}, lemmas.Bool.false_from_ne_true}
 use mathlib.Core.Option.{some, some-injective, some-ne-none}
 use lib.ListN.{get_elem?}
 use Rattle.event_log.specs.Distinct.{has}
-use Rattle.word_rule.specs.Line.{is_named, last, last_from}
-use Rattle.word_rule.specs.LockDefinition.{IsState, LockDefinition, LockState}
-use Rattle.word_rule.proofs.Lists.{has_at, one_place, there_is}
-use Rattle.word_rule.proofs.LockStates.{in_cell}
+use Rattle.word_rule.specs.{Line.{is_named, last, last_from}, LockDefinition.{IsState, LockDefinition, LockState}}
+use Rattle.word_rule.proofs.{Lists.{has_at, one_place, there_is}, LockStates.in_cell}
 
 -- the last is at the end
 pub last_at : (xs : List ℕ) (p : ℕ) → last xs ≡ Some p → (i : ℕ) × (get_elem? xs i ≡ some p) × (length xs ≡ suc i)

@@ -1,20 +1,12 @@
 -- Lists of numbers, and logs.
-use Rattle.std.proofs.Common.{◌≡◌, ◌||◌, ◌≢◌, ◌⊎◌, inl, inr, ⊎_elim, ℕ, zero, suc, ◌+◌, ◌<◌, ◌≤◌, Bool, true, false, true≢false, List, [], ◌∷◌, ◌++◌, ◌==◌, eqb, ne_eqb, length, drop, refl, sym, ap, ◌∙◌, subst, arith, append-nil}
-use Rattle.std.proofs.lemmas.Bool.{eq-eqb, eqb-true}
-use Rattle.std.proofs.lemmas.Bool.Decides.{nat_tests}
-use Rattle.std.proofs.lemmas.List.Elements.{filter-append}
+use Rattle.std.proofs.{Common.{◌≡◌, ◌||◌, ◌≢◌, ◌⊎◌, inl, inr, ⊎_elim, ℕ, zero, suc, ◌+◌, ◌<◌, ◌≤◌, Bool, true, false, true≢false, List, [], ◌∷◌, ◌++◌, ◌==◌, eqb, ne_eqb, length, drop, refl, sym, ap, ◌∙◌, subst, arith, append-nil}, lemmas.Bool.{eq-eqb, eqb-true}, lemmas.Bool.Decides.nat_tests, lemmas.List.Elements.filter-append}
 use Rattle.std.specs.List.{AllByRecursion}
-use mathlib.Core.Option.{some, some-injective, some-ne-none}
+use mathlib.{Core.Option.{some, some-injective, some-ne-none}, Core.Logic.dite}
 use lib.ListN.{get_elem?}
-use mathlib.Core.Logic.{dite}
 use native.Mathlib.Decide.{ℕ_discrete}
-use Rattle.event_log.specs.declared.event.Event.{Event}
-use Rattle.event_log.specs.Distinct.{has, AreDistinctBelow}
-use Rattle.event_log.specs.Log.{Begins, of}
+use Rattle.event_log.specs.{declared.event.Event.Event, Distinct.{has, AreDistinctBelow}, Log.{Begins, of}}
 use Rattle.event_log.proofs.Beginnings.{begins_self, begins_then, begins_rest}
-use Rattle.word_rule.specs.Cell.{Grows}
-use Rattle.word_rule.specs.Line.{behind, is_first}
-use Rattle.word_rule.specs.Rule.CellInvariant.{EachFrom}
+use Rattle.word_rule.specs.{Cell.Grows, Line.{behind, is_first}, Rule.CellInvariant.EachFrom}
 
 pub or_none : (b : Bool) → (b || false) ≡ b
 or_none true = refl

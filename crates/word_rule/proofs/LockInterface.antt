@@ -2,14 +2,9 @@
 use Rattle.std.proofs.Common.{◌≡◌, ◌≢◌, ℕ, ◌<◌, ◌≤◌, ◌==◌, Bool, true, false, cond, List, []}
 use Rattle.event_log.specs.Distinct.{has}
 use Rattle.sound_run.specs.declared.limits.TheConstants.{MOST_CPUS}
-use Rattle.word_rule.specs.declared.machine.step_done.StepDone.{StepDone}
-use Rattle.word_rule.specs.declared.machine.step_done.StepDone.TheVariants as steps
-use Rattle.word_rule.specs.declared.lock_kind.Stage.{Stage}
-use Rattle.word_rule.specs.declared.lock_kind.Stage.TheVariants.{Idle, Trying}
-use Rattle.word_rule.specs.Line.{First, moved}
-use Rattle.word_rule.specs.LockDefinition.{LockDefinition, LockState, IsState, opening_state}
-use Rattle.word_rule.specs.Locks.{holding}
+use Rattle.word_rule.specs.{declared.machine.step_done.StepDone.StepDone, declared.lock_kind.Stage.Stage, declared.lock_kind.Stage.TheVariants.{Idle, Trying}, Line.{First, moved}, LockDefinition.{LockDefinition, LockState, IsState, opening_state}, Locks.holding}
 use Rattle.word_rule.proofs.LineAfter.{LineAfter}
+use Rattle.word_rule.specs.declared.machine.step_done.StepDone.TheVariants as steps
 
 -- whether one that stands there has prepared a try
 abbrev pub is_trying : Stage → Bool

@@ -1,23 +1,13 @@
 -- What follows of a lock, whichever it is, from what its definition proves.
-use Rattle.std.proofs.Common.{◌≡◌, ◌≢◌, ℕ, ◌<◌, ◌≤◌, true, false, true≢false, List, [], ◌∷◌, length, refl, sym, ap, ◌∙◌, subst}
-use Rattle.std.proofs.lemmas.Bool.{false_from_ne_true}
+use Rattle.std.proofs.{Common.{◌≡◌, ◌≢◌, ℕ, ◌<◌, ◌≤◌, true, false, true≢false, List, [], ◌∷◌, length, refl, sym, ap, ◌∙◌, subst}, lemmas.Bool.false_from_ne_true}
 use mathlib.Core.Option.{some, some-injective}
 use lib.ListN.{get_elem?}
 use Rattle.event_log.specs.Distinct.{has}
-use Rattle.sound_run.specs.declared.limits.TheConstants.{MOST_CPUS}
-use Rattle.sound_run.specs.declared.lock_kind.LockKind.{LockKind}
+use Rattle.sound_run.specs.{declared.limits.TheConstants.MOST_CPUS, declared.lock_kind.LockKind.LockKind}
+use Rattle.word_rule.specs.{declared.lock_kind.Stage.Stage, declared.lock_kind.Stage.TheVariants.{Idle, Trying}, Line.First, LockDefinition.LockState, Locks.{Fits, IsLock, Lock, definition_of, holder, holding, lock_of, served, opening_lock, erase, prepare, state_of, turn}}
+use Rattle.word_rule.proofs.{LineAfter.LineAfter, Lists.{has_at, there_is}, LockInterface.{LockLaws, NoneTries, Tries, is_idle, is_trying}, Mcs.Laws.mcs_laws, Ticket.Laws.ticket_laws}
 use Rattle.sound_run.specs.declared.lock_kind.LockKind.TheVariants as kinds
-use Rattle.word_rule.specs.declared.lock_kind.Stage.{Stage}
-use Rattle.word_rule.specs.declared.lock_kind.Stage.TheVariants.{Idle, Trying}
-use Rattle.word_rule.specs.Line.{First}
-use Rattle.word_rule.specs.LockDefinition.{LockState}
-use Rattle.word_rule.specs.Locks.{Fits, IsLock, Lock, definition_of, holder, holding, lock_of, served, opening_lock, erase, prepare, state_of, turn}
-use Rattle.word_rule.proofs.LineAfter.{LineAfter}
-use Rattle.word_rule.proofs.Lists.{has_at, there_is}
-use Rattle.word_rule.proofs.LockInterface.{LockLaws, NoneTries, Tries, is_idle, is_trying}
 use Rattle.word_rule.proofs.LockStates as states
-use Rattle.word_rule.proofs.Mcs.Laws.{mcs_laws}
-use Rattle.word_rule.proofs.Ticket.Laws.{ticket_laws}
 
 -- one line for each lock
 pub laws_of : (kind : LockKind) → LockLaws (definition_of kind)

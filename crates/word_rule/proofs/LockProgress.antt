@@ -1,17 +1,10 @@
 -- What a lock proves of its turns: by the first record nobody is stuck and every fair schedule finishes. By the second every call ends.
-use Rattle.std.proofs.Common.{◌≡◌, ◌≢◌, ◌⊎◌, inl, inr, ⊎_elim, ℕ, ◌<◌, ◌≤◌, Bool, true, false, List, refl}
-use Rattle.std.proofs.lemmas.Bool.{cases_Bool}
+use Rattle.std.proofs.{Common.{◌≡◌, ◌≢◌, ◌⊎◌, inl, inr, ⊎_elim, ℕ, ◌<◌, ◌≤◌, Bool, true, false, List, refl}, lemmas.Bool.cases_Bool}
 use mathlib.Core.Option.{some}
 use lib.ListN.{get_elem?}
 use Rattle.event_log.specs.Distinct.{has}
-use Rattle.word_rule.specs.declared.lock_kind.Stage.{Stage}
-use Rattle.word_rule.specs.declared.lock_kind.Stage.TheVariants.{Idle}
-use Rattle.word_rule.specs.LockDefinition.{LockDefinition, LockState, IsState}
-use Rattle.word_rule.specs.Locks.{holding}
-use Rattle.word_rule.specs.StepKinds.{ends_hold}
-use Rattle.word_rule.proofs.LineChanges.{head_of}
-use Rattle.word_rule.proofs.Lists.{has_at}
-use Rattle.word_rule.proofs.LockInterface.{is_trying}
+use Rattle.word_rule.specs.{declared.lock_kind.Stage.Stage, declared.lock_kind.Stage.TheVariants.Idle, LockDefinition.{LockDefinition, LockState, IsState}, Locks.holding, StepKinds.ends_hold}
+use Rattle.word_rule.proofs.{LineChanges.head_of, Lists.has_at, LockInterface.is_trying}
 
 module _ (cpus : List ℕ) (on : ℕ → Bool) where
   -- i gets on, or one in line

@@ -4,11 +4,8 @@ use mathlib.Core.Option.{some}
 use lib.ListN.{get_elem?}
 use Rattle.event_log.specs.Distinct.{has}
 use Rattle.event_log.proofs.Distinct.{distinct_length}
-use Rattle.word_rule.specs.declared.lock_kind.Stage.{Stage}
-use Rattle.word_rule.specs.Line.{going}
-use Rattle.word_rule.specs.LockDefinition.{LockDefinition, LockState, IsState}
-use Rattle.word_rule.proofs.Lists.{has_at, below_of}
-use Rattle.word_rule.proofs.Moves.{each_moved}
+use Rattle.word_rule.specs.{declared.lock_kind.Stage.Stage, Line.going, LockDefinition.{LockDefinition, LockState, IsState}}
+use Rattle.word_rule.proofs.{Lists.{has_at, below_of}, Moves.each_moved}
 
 module _ (d : LockDefinition) (n : ℕ) (l : LockState d.Extra) (h : IsState d n l) where
   -- where a CPU stands, by its stage

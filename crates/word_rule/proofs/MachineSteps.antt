@@ -1,28 +1,14 @@
 -- A step of the machine against a step of the world.
-use Rattle.std.proofs.Common.{◌≡◌, ◌≢◌, ℕ, zero, suc, ◌+◌, ◌<◌, Bool, true, false, cond, List, [], ◌∷◌, ◌++◌, length, drop, get_or, slice_get, vec_len, vec_capacity, Vec, Option, Some, None, refl, sym, ap, ◌∙◌, subst, arith, add-one}
-use Rattle.std.proofs.Math.ListN.{set}
-use Rattle.std.specs.List.{AllByRecursion}
-use Rattle.std.specs.declared.alloc.Global.{Global}
-use Rattle.std.proofs.lemmas.List.{length-set}
+use Rattle.std.proofs.{Common.{◌≡◌, ◌≢◌, ℕ, zero, suc, ◌+◌, ◌<◌, Bool, true, false, cond, List, [], ◌∷◌, ◌++◌, length, drop, get_or, slice_get, vec_len, vec_capacity, Vec, Option, Some, None, refl, sym, ap, ◌∙◌, subst, arith, add-one}, Math.ListN.set, lemmas.List.length-set}
+use Rattle.std.specs.{List.AllByRecursion, declared.alloc.Global.Global}
 use mathlib.Core.Logic.{dite}
 use native.Mathlib.Decide.{ℕ_discrete}
-use Rattle.event_log.specs.declared.object.SeqObject.{Ghosts}
-use Rattle.event_log.specs.declared.entry.Todo.{Todo}
-use Rattle.event_log.specs.History.{History, IsKept}
+use Rattle.event_log.specs.{declared.object.SeqObject.Ghosts, declared.entry.Todo.Todo, History.{History, IsKept}}
 use Rattle.event_log.proofs.Lists.{some_at}
-use Rattle.word_rule.specs.declared.machine.cell_spec.CellSpec.{CellSpec}
-use Rattle.word_rule.specs.declared.machine.lock_words.LockWords.{LockWords}
-use Rattle.word_rule.specs.declared.machine.progress.Progress.{Progress}
-use Rattle.word_rule.specs.declared.machine.step_done.StepDone.{StepDone}
-use Rattle.word_rule.specs.declared.machine.step_done.StepDone.TheVariants as steps
-use Rattle.word_rule.specs.Locks.{Lock, turn}
-use Rattle.word_rule.specs.Rule.LockStates.{RepresentsLock}
-use Rattle.word_rule.specs.Machine.Shown.{MachineParts, RepresentsCell, ShowsCpu, Represents, Runs}
+use Rattle.word_rule.specs.{declared.machine.cell_spec.CellSpec.CellSpec, declared.machine.lock_words.LockWords.LockWords, declared.machine.progress.Progress.Progress, declared.machine.step_done.StepDone.StepDone, Locks.{Lock, turn}, Rule.LockStates.RepresentsLock, Machine.Shown.{MachineParts, RepresentsCell, ShowsCpu, Represents, Runs}, Machine.SoundWorld.IsTodo, StepKinds.ends_hold, Machine.World.{World, CellState, CpuState, with_done, entry_of, left, finished, counted, outcome, cell_after, cpu_after, world_after, step_on, step_of, step_by, step}}
 use Rattle.sound_run.specs.Sound.{Opened}
-use Rattle.word_rule.specs.Machine.SoundWorld.{IsTodo}
-use Rattle.word_rule.specs.StepKinds.{ends_hold}
-use Rattle.word_rule.specs.Machine.World.{World, CellState, CpuState, with_done, entry_of, left, finished, counted, outcome, cell_after, cpu_after, world_after, step_on, step_of, step_by, step}
 use Rattle.sound_run.proofs.Slices.{get_set_same, get_set_other, read_get, one_of}
+use Rattle.word_rule.specs.declared.machine.step_done.StepDone.TheVariants as steps
 
 pub drop_at : {X : Type 0} (xs : List X) (i : ℕ) (x : X) → slice_get xs i ≡ Some x → drop i xs ≡ x ∷ drop (suc i) xs
 drop_at [] i x e = cc

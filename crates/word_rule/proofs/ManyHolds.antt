@@ -1,12 +1,7 @@
 -- A caller that has held for lists of calls: once more, and what others do afterwards.
 use Rattle.std.proofs.Common.{◌≡◌, ℕ, List, [], ◌∷◌, ◌++◌, length, refl, ap, sym, ◌∙◌, append-nil, inr}
-use Rattle.event_log.specs.declared.object.SeqObject.{Ghosts}
-use Rattle.event_log.specs.declared.event.Event.{Event}
-use Rattle.word_rule.specs.declared.view.TraceStep.{TraceStep}
-use Rattle.word_rule.specs.Cell.{Caller}
-use Rattle.word_rule.specs.Holds.{Leaves, HasHeldEach}
-use Rattle.word_rule.specs.LockRuns.{Extends, events_in}
-use Rattle.word_rule.specs.OneHold.{leaving, silently, HasHeld}
+use Rattle.event_log.specs.{declared.object.SeqObject.Ghosts, declared.event.Event.Event}
+use Rattle.word_rule.specs.{declared.view.TraceStep.TraceStep, Cell.Caller, Holds.{Leaves, HasHeldEach}, LockRuns.{Extends, events_in}, OneHold.{leaving, silently, HasHeld}}
 use Rattle.word_rule.proofs.RunLists.{events_append, extends_self, extends_before, extends_after}
 
 module _ {O P C R : Type 0} where

@@ -1,25 +1,13 @@
 -- Seats are joined and split, and a seat learns what its callers have seen: the same at every lock.
 use Rattle.std.proofs.Common.{◌≡◌, ◌≢◌, ℕ, zero, suc, ◌+◌, Bool, true, true≢false, cond, eqb, eq-eqb, ne_eqb, List, [], ◌∷◌, ◌++◌, length, set, min, refl, sym, ap, ◌∙◌, subst, ⊎_elim, arith, None, length-set}
 use mathlib.Core.Option.{some, none}
-use lib.ListN.{get_elem?}
-use lib.Seq.{set-get_or}
+use lib.{ListN.get_elem?, Seq.set-get_or}
 use Rattle.atomic_table.specs.Table.{step, keeps, gives, rest, Allows, Splits, Joins}
 use Rattle.atomic_table.proofs.Lists.{at_set}
-use Rattle.event_log.specs.declared.object.SeqObject.{Ghosts}
-use Rattle.event_log.specs.Distinct.{has}
+use Rattle.event_log.specs.{declared.object.SeqObject.Ghosts, Distinct.has}
 use Rattle.sound_run.specs.declared.lock_kind.LockKind.{LockKind}
-use Rattle.word_rule.specs.declared.lock_kind.Stage.TheVariants.{Idle}
-use Rattle.word_rule.specs.Cell.{Cell}
-use Rattle.word_rule.specs.Locks.{holding}
-use Rattle.word_rule.specs.Rule.LockStates.{IsLockOf}
-use Rattle.word_rule.specs.Rule.CellInvariant.{GhostState, Caller, SeatView, Table, EachFrom, CallerInvariant, SeatInvariant, CellInvariant}
-use Rattle.word_rule.specs.Rule.Seats.{Seat, settled, taken_in, idle, behind_first, first_or_none, spent, keeping, letting, merged}
-use Rattle.word_rule.specs.Rule.Announced.{meets, joins, returns_slot, second_holder}
-use Rattle.word_rule.proofs.Lists.{each_map, has_append, at_snoc_at, grows_self}
-use Rattle.word_rule.proofs.Stays.{seats_stay, show_each, slot_returned}
-use Rattle.word_rule.proofs.Known.{all_idle, learned}
-use Rattle.word_rule.proofs.LockLaws.{one_holds, object_out}
-use Rattle.word_rule.proofs.RunLists.{extends_self}
+use Rattle.word_rule.specs.{declared.lock_kind.Stage.TheVariants.Idle, Cell.Cell, Locks.holding, Rule.LockStates.IsLockOf, Rule.CellInvariant.{GhostState, Caller, SeatView, Table, EachFrom, CallerInvariant, SeatInvariant, CellInvariant}, Rule.Seats.{Seat, settled, taken_in, idle, behind_first, first_or_none, spent, keeping, letting, merged}, Rule.Announced.{meets, joins, returns_slot, second_holder}}
+use Rattle.word_rule.proofs.{Lists.{each_map, has_append, at_snoc_at, grows_self}, Stays.{seats_stay, show_each, slot_returned}, Known.{all_idle, learned}, LockLaws.{one_holds, object_out}, RunLists.extends_self}
 
 -- a caller of the seat `other` is the second of the seat id
 abbrev into : ℕ → ℕ → ℕ × ℕ → ℕ × ℕ

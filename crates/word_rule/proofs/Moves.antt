@@ -2,8 +2,7 @@
 use Rattle.std.proofs.Common.{◌≡◌, ◌≢◌, ℕ, ◌<◌, ◌==◌, Bool, true, false, cond, List, [], ◌∷◌, eq-eqb, ne_eqb, refl, sym, ap, ◌∙◌, subst}
 use mathlib.Core.Logic.{dite}
 use native.Mathlib.Decide.{ℕ_discrete}
-use Rattle.word_rule.specs.declared.lock_kind.Stage.{Stage}
-use Rattle.word_rule.specs.Line.{is_empty, moved}
+use Rattle.word_rule.specs.{declared.lock_kind.Stage.Stage, Line.{is_empty, moved}}
 
 module _ (stage : ℕ → Stage) where
   pub moved_same : (p : ℕ) (q : Stage) → moved stage p q p ≡ q

@@ -1,23 +1,10 @@
 -- From what single steps say of a run to what whole calls say.
-use Rattle.std.proofs.Common.{◌≡◌, ℕ, ◌+◌, ◌-◌, ◌^◌, min, Bool, true, false, List, [], ◌∷◌, ◌++◌, length, refl, sym, ap, ◌∙◌, subst, arith, append_assoc, length-append, Some, Result, Ok, Err, IfOk}
-use Rattle.std.proofs.lemmas.List.{append_cancel_left}
+use Rattle.std.proofs.{Common.{◌≡◌, ℕ, ◌+◌, ◌-◌, ◌^◌, min, Bool, true, false, List, [], ◌∷◌, ◌++◌, length, refl, sym, ap, ◌∙◌, subst, arith, append_assoc, length-append, Some, Result, Ok, Err, IfOk}, lemmas.List.append_cancel_left, lemmas.List.Elements.filter-append}
 use Rattle.std.specs.List.{filter}
-use Rattle.std.proofs.lemmas.List.Elements.{filter-append}
-use Rattle.event_log.specs.declared.object.SeqObject.{Ghosts}
-use Rattle.event_log.specs.declared.event.Event.{Event}
-use Rattle.event_log.specs.History.{History}
-use Rattle.word_rule.specs.declared.machine.step_done.StepDone.{StepDone}
-use Rattle.word_rule.specs.declared.machine.step_done.StepDone.TheVariants as steps
-use Rattle.word_rule.specs.declared.lock_kind.Stage.{Stage}
-use Rattle.word_rule.specs.declared.view.TraceStep.{TraceStep}
-use Rattle.word_rule.specs.Cell.{Caller, HoldView, stored}
-use Rattle.word_rule.specs.CallerState.{CallerState, Moves, Takes, Gives}
-use Rattle.word_rule.specs.Locks.{holding}
-use Rattle.word_rule.specs.LockRuns.{Extends, ExtendsUntil, events_in}
-use Rattle.word_rule.specs.OneHold.{gets_object, how_many, Acquires, Releases, looks_in, leaving, silently, HasAcquired, HasReleased, HasHeld}
-use Rattle.word_rule.specs.Queued.{IsQueued}
-use Rattle.word_rule.specs.StepKinds.{arrives, ends_hold, is_look}
+use Rattle.event_log.specs.{declared.object.SeqObject.Ghosts, declared.event.Event.Event, History.History}
+use Rattle.word_rule.specs.{declared.machine.step_done.StepDone.StepDone, declared.lock_kind.Stage.Stage, declared.view.TraceStep.TraceStep, Cell.{Caller, HoldView, stored}, CallerState.{CallerState, Moves, Takes, Gives}, Locks.holding, LockRuns.{Extends, ExtendsUntil, events_in}, OneHold.{gets_object, how_many, Acquires, Releases, looks_in, leaving, silently, HasAcquired, HasReleased, HasHeld}, Queued.IsQueued, StepKinds.{arrives, ends_hold, is_look}}
 use Rattle.word_rule.proofs.RunLists.{extends_then, until_then, until_since, silently_append}
+use Rattle.word_rule.specs.declared.machine.step_done.StepDone.TheVariants as steps
 
 pub count_append : (test : StepDone → Bool) (a b : List StepDone) → how_many test (a ++ b) ≡ how_many test a + how_many test b
 count_append test a b = ap length (filter-append test a b) ∙ length-append (filter test a) (filter test b)
@@ -52,8 +39,6 @@ waits_more arrivals looks more done w counted = record {
   got = let c = count_append gets_object done (steps.Look false ∷ []) in let a = w.got in omega (arith, a, c);
   unended = let c = count_append ends_hold done (steps.Look false ∷ []) in let a = w.unended in omega (arith, a, c);
   looked = looks_more looks more done false w.looked counted;
-}
-
 }
 
 module _ {O P C R : Type 0} where
@@ -101,8 +86,6 @@ module _ {O P C R : Type 0} (meaning : Ghosts O P C R) where
   found_left caller x p q now a b same t has left =
       let is : x ≡ stored meaning a.caller.cell b.seen = cc (has, t.has) in
       ap (λ z. z.log) is ∙ (left ∙ ap (λ (k : Caller O P C R). k.cell.opening ++ events_in b.run) (t.caller ∙ same))
-
-  }
 
   -- a hold ends by this step, after others of which none saw an event
   pub released_by : (hold : HoldView O P C R) (before : List (TraceStep (Event O P C R))) (done : List StepDone) (last : StepDone) (p q : Stage) (a b : CallerState O P C R) → Releases done last → a.seen ≡ hold.caller.cell.opening ++ events_in before → Since hold.caller before done a

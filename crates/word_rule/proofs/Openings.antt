@@ -1,27 +1,12 @@
 -- What a machine keeps before its first step shows the opening world, which is sound.
-use Rattle.std.proofs.Common.{◌≡◌, ℕ, zero, suc, ◌+◌, ◌<◌, ◌≤◌, List, [], ◌∷◌, ◌++◌, length, drop, take, get_or, slice_get, Vec, Option, Some, None, refl, sym, ap, ◌∙◌, subst, arith}
-use Rattle.std.specs.List.{AllByRecursion, AllZip}
-use Rattle.std.specs.Prelude.{unwrap_or}
-use Rattle.std.specs.declared.alloc.Global.{Global}
-use Rattle.std.proofs.lemmas.List.{length-map, take_more as one_more}
-use Rattle.std.proofs.lemmas.Slice.Zip.{AllZip-long}
-use Rattle.event_log.specs.declared.object.SeqObject.{Ghosts}
-use Rattle.event_log.specs.declared.entry.Todo.{Todo}
+use Rattle.std.proofs.{Common.{◌≡◌, ℕ, zero, suc, ◌+◌, ◌<◌, ◌≤◌, List, [], ◌∷◌, ◌++◌, length, drop, take, get_or, slice_get, Vec, Option, Some, None, refl, sym, ap, ◌∙◌, subst, arith}, lemmas.List.{length-map, take_more as one_more}, lemmas.Slice.Zip.AllZip-long}
+use Rattle.std.specs.{List.{AllByRecursion, AllZip}, Prelude.unwrap_or, declared.alloc.Global.Global}
+use Rattle.event_log.specs.{declared.object.SeqObject.Ghosts, declared.entry.Todo.Todo}
 use Rattle.event_log.proofs.Each.{each_at}
-use Rattle.word_rule.specs.declared.machine.cell_spec.CellSpec.{CellSpec}
-use Rattle.word_rule.specs.declared.machine.lock_words.LockWords.{LockWords}
-use Rattle.word_rule.specs.declared.machine.progress.Progress.{Progress}
-use Rattle.sound_run.specs.declared.limits.TheConstants.{MOST_CPUS}
-use Rattle.word_rule.specs.Rule.LockStates.{RepresentsLock}
-use Rattle.word_rule.specs.Machine.Opening.{opening_cell, opening_cpu, opening_world, IsOpening, IsOpeningCell}
-use Rattle.word_rule.specs.Machine.Shown.{MachineParts, RepresentsCell, ShowsCpu, Represents, Runs, IsRoomy, FreshCpu, FreshDone, FreshLock, FreshLocks}
-use Rattle.sound_run.specs.Orders.{numbers, IsOrder}
-use Rattle.sound_run.specs.Sound.{LogIsSound, log_of, done_on, steps_by, NoneAfterFull}
-use Rattle.word_rule.specs.Machine.SoundWorld.{SoundWorld, IsTodo, IsAnswer, entries_of, entries_by}
-use Rattle.word_rule.specs.Machine.World.{World, CellState, CpuState, run_of}
-use Rattle.word_rule.proofs.LockLaws.{few_fit}
+use Rattle.word_rule.specs.{declared.machine.cell_spec.CellSpec.CellSpec, declared.machine.lock_words.LockWords.LockWords, declared.machine.progress.Progress.Progress, Rule.LockStates.RepresentsLock, Machine.Opening.{opening_cell, opening_cpu, opening_world, IsOpening, IsOpeningCell}, Machine.Shown.{MachineParts, RepresentsCell, ShowsCpu, Represents, Runs, IsRoomy, FreshCpu, FreshDone, FreshLock, FreshLocks}, Machine.SoundWorld.{SoundWorld, IsTodo, IsAnswer, entries_of, entries_by}, Machine.World.{World, CellState, CpuState, run_of}}
+use Rattle.sound_run.specs.{declared.limits.TheConstants.MOST_CPUS, Orders.{numbers, IsOrder}, Sound.{LogIsSound, log_of, done_on, steps_by, NoneAfterFull}}
+use Rattle.word_rule.proofs.{LockLaws.few_fit, SoundRuns.transcript_is}
 use Rattle.sound_run.proofs.Slices.{get_map, map_get, map_none, one_of}
-use Rattle.word_rule.proofs.SoundRuns.{transcript_is}
 
 pub zip_at : {X Y : Type 0} (R : X → Y → Type 0) (xs : List X) (ys : List Y) (k : ℕ) (x : X) (y : Y) → AllZip R xs ys → slice_get xs k ≡ Some x → slice_get ys k ≡ Some y → R x y
 zip_at R [] ys k x y z e f = cc

@@ -1,25 +1,14 @@
 -- A run with an order, after one entry more: the entry comes last.
-use Rattle.std.proofs.Common.{◌≡◌, ◌≢◌, ℕ, zero, suc, ◌+◌, ◌<◌, ◌≤◌, List, [], ◌∷◌, ◌++◌, length, slice_get, Some, refl, sym, ap, ◌∙◌, subst, arith, length-append, eq-eqb, zero-add}
-use Rattle.std.specs.Prelude.{unwrap_or}
-use Rattle.std.specs.List.{AllByRecursion}
-use Rattle.std.proofs.Math.ListN.{set}
-use Rattle.std.proofs.lemmas.List.{append-nil}
+use Rattle.std.proofs.{Common.{◌≡◌, ◌≢◌, ℕ, zero, suc, ◌+◌, ◌<◌, ◌≤◌, List, [], ◌∷◌, ◌++◌, length, slice_get, Some, refl, sym, ap, ◌∙◌, subst, arith, length-append, eq-eqb, zero-add}, Math.ListN.set, lemmas.List.append-nil}
+use Rattle.std.specs.{Prelude.unwrap_or, List.AllByRecursion}
 use mathlib.Core.Logic.{dite}
 use native.Mathlib.Decide.{ℕ_discrete}
-use Rattle.event_log.proofs.Each.{all_map}
-use Rattle.event_log.specs.declared.event.Event.{Event}
-use Rattle.event_log.specs.declared.event.Steps.{Steps}
-use Rattle.event_log.specs.declared.entry.Done.{Done}
-use Rattle.event_log.specs.declared.entry.Done.TheVariants as done
-use Rattle.event_log.specs.declared.entry.Entry.{Entry}
-use Rattle.event_log.specs.declared.entry.Run.{Run}
-use Rattle.event_log.proofs.Lists.{get_last, same_front}
-use Rattle.sound_run.specs.declared.place.Place.{Place}
+use Rattle.event_log.proofs.{Each.all_map, Lists.{get_last, same_front}}
+use Rattle.event_log.specs.{declared.event.Event.Event, declared.event.Steps.Steps, declared.entry.Done.Done, declared.entry.Entry.Entry, declared.entry.Run.Run}
+use Rattle.sound_run.specs.{declared.place.Place.Place, Orders.{numbers, entries_of, with_event, with_entry, entry_at, events_on, NoneBehindFull, IsOrder}, Sound.{transcript_of, log_of}}
 use Rattle.word_rule.specs.Machine.World.{with_done}
-use Rattle.sound_run.specs.Orders.{numbers, entries_of, with_event, with_entry, entry_at, events_on, NoneBehindFull, IsOrder}
-use Rattle.sound_run.specs.Sound.{transcript_of, log_of}
-use Rattle.sound_run.proofs.OrderLists.{num_push, entries_append, entries_own, entries_other, events_append, full_push, one_off, one_none}
-use Rattle.sound_run.proofs.Slices.{get_set_same, get_set_other}
+use Rattle.sound_run.proofs.{OrderLists.{num_push, entries_append, entries_own, entries_other, events_append, full_push, one_off, one_none}, Slices.{get_set_same, get_set_other}}
+use Rattle.event_log.specs.declared.entry.Done.TheVariants as done
 
 -- the numbers of n from a on are below their end
 numbers_below : (a n m : ℕ) → a + n ≤ m → AllByRecursion (λ k. k < m) (numbers a n)

@@ -1,20 +1,10 @@
 -- The order in which CPUs end their holds, over any invariant of locks that each turn keeps.
-use Rattle.std.proofs.Common.{◌≡◌, ℕ, ◌<◌, ◌≤◌, Bool, true, false, ◌&&◌, cond, eqb, List, [], ◌∷◌, ◌++◌, length, slice_set, slice_get, Option, Some, None, ◌⊎◌, inl, inr, refl, sym, ap, ◌∙◌, subst, arith}
-use Rattle.std.proofs.Math.ListN.{set}
-use Rattle.std.proofs.lemmas.Bool.{cases_Bool, eqb-true, eqb-false, false≢true}
-use Rattle.std.proofs.lemmas.List.{length-set, length-append, append-nil}
-use Rattle.std.proofs.lemmas.Option.{slice_get_within}
-use Rattle.event_log.specs.declared.object.SeqObject.{Ghosts}
-use Rattle.event_log.specs.declared.event.Event.{Event}
-use Rattle.event_log.specs.declared.entry.Todo.{Todo}
-use Rattle.word_rule.specs.declared.machine.step_done.StepDone.{StepDone}
-use Rattle.word_rule.specs.declared.machine.step_done.StepDone.TheVariants as steps
-use Rattle.word_rule.specs.Locks.{Lock, turn}
-use Rattle.word_rule.specs.StepKinds.{ends_hold, arrives}
-use Rattle.word_rule.specs.Machine.World.{World, CellState, CpuState, step, step_by, step_of, step_on, run}
-use Rattle.word_rule.specs.Machine.Orders.{first_cell, works_on, is_that, is_at, doers, arrivals, endings}
+use Rattle.std.proofs.{Common.{◌≡◌, ℕ, ◌<◌, ◌≤◌, Bool, true, false, ◌&&◌, cond, eqb, List, [], ◌∷◌, ◌++◌, length, slice_set, slice_get, Option, Some, None, ◌⊎◌, inl, inr, refl, sym, ap, ◌∙◌, subst, arith}, Math.ListN.set, lemmas.Bool.{cases_Bool, eqb-true, eqb-false, false≢true}, lemmas.List.{length-set, length-append, append-nil}, lemmas.Option.slice_get_within}
+use Rattle.event_log.specs.{declared.object.SeqObject.Ghosts, declared.event.Event.Event, declared.entry.Todo.Todo}
+use Rattle.word_rule.specs.{declared.machine.step_done.StepDone.StepDone, Locks.{Lock, turn}, StepKinds.{ends_hold, arrives}, Machine.World.{World, CellState, CpuState, step, step_by, step_of, step_on, run}, Machine.Orders.{first_cell, works_on, is_that, is_at, doers, arrivals, endings}}
 use Rattle.word_rule.proofs.LineAfter.{LineAfter, order_here, order_there, arrived_longer}
 use Rattle.sound_run.proofs.Slices.{get_set_same, get_set_other}
+use Rattle.word_rule.specs.declared.machine.step_done.StepDone.TheVariants as steps
 
 -- what each lock promises of its turns, for n CPUs
 pub record Keeps (IsLock : ℕ → Lock → Type 0) : Type 0 where

@@ -1,15 +1,9 @@
 -- What becomes of calls at the end of a hold.
-use Rattle.std.proofs.Common.{◌≡◌, ◌↔◌, List, length, refl, ap, sym, ◌∙◌, eq-eqb, ne_eqb, cond, Result, Ok, Err, IsErr, IfOk, OnErr}
-use Rattle.std.proofs.lemmas.Bool.{false≢true}
-use Rattle.event_log.specs.declared.object.SeqObject.{Ghosts}
-use Rattle.event_log.specs.declared.event.Event.{Event}
-use Rattle.event_log.specs.declared.event.Steps.{Steps}
-use Rattle.event_log.specs.declared.event.Step.{Step}
-use Rattle.event_log.specs.declared.entry.Done.{Done}
-use Rattle.event_log.specs.declared.entry.Done.TheVariants as done
-use Rattle.event_log.specs.Log.{answers, replay}
+use Rattle.std.proofs.{Common.{◌≡◌, ◌↔◌, List, length, refl, ap, sym, ◌∙◌, eq-eqb, ne_eqb, cond, Result, Ok, Err, IsErr, IfOk, OnErr}, lemmas.Bool.false≢true}
+use Rattle.event_log.specs.{declared.object.SeqObject.Ghosts, declared.event.Event.Event, declared.event.Steps.Steps, declared.event.Step.Step, declared.entry.Done.Done, Log.{answers, replay}}
 use Rattle.sound_run.specs.Sound.{Opened}
 use Rattle.word_rule.specs.Machine.World.{outcome}
+use Rattle.event_log.specs.declared.entry.Done.TheVariants as done
 
 module _ {O P C R : Type 0} (meaning : Ghosts O P C R) (opened : Opened P) (log : List (Event O P C R)) (asked : List C) where
   abbrev with_items : List (Step O P C R) → Done O P C R

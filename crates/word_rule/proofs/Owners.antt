@@ -9,8 +9,6 @@ module _ {O P C R : Type 0} where
   pub still_together : (a a' b b' : Caller O P C R) → a' ≡ a → b' ≡ b → OwnTogether a b → OwnTogether a' b'
   still_together a a' b b' e f all = subst (λ z. OwnTogether z b') (sym e) (subst (OwnTogether a) (sym f) all)
 
-  }
-
 module _ {O P C R : Type 0} {kind : LockKind} {ticket : ℕ} where
   -- the two passes of a cell of two CPUs, in either order
   pub own_both : (x : History O P C R) (p q : PassView O P C R) → p ≡ first_pass kind ticket x 2 0 → q ≡ first_pass kind ticket x 2 1 → OwnTogether p.caller q.caller

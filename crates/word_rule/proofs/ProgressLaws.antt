@@ -1,22 +1,13 @@
 -- How the turns of a lock, whichever it is, get its CPUs on.
-use Rattle.std.proofs.Common.{◌≡◌, ◌≢◌, ◌⊎◌, ⊎_elim, ℕ, ◌<◌, ◌≤◌, Bool, true, false, true≢false, sym, ap, ◌∙◌, subst, arith}
-use Rattle.std.proofs.lemmas.Bool.{cases_Bool}
-use mathlib.Core.Logic.{dite}
-use mathlib.Core.Option.{some}
+use Rattle.std.proofs.{Common.{◌≡◌, ◌≢◌, ◌⊎◌, ⊎_elim, ℕ, ◌<◌, ◌≤◌, Bool, true, false, true≢false, sym, ap, ◌∙◌, subst, arith}, lemmas.Bool.cases_Bool}
+use mathlib.{Core.Logic.dite, Core.Option.some}
 use native.Mathlib.Decide.{ℕ_discrete}
 use lib.ListN.{get_elem?}
 use Rattle.event_log.specs.Distinct.{has}
 use Rattle.sound_run.specs.declared.lock_kind.LockKind.{LockKind}
+use Rattle.word_rule.specs.{Locks.{Lock, definition_of, holding, state_of, turn}, Machine.Rounds.{most_steps, most_steps_of}, StepKinds.ends_hold}
+use Rattle.word_rule.proofs.{IdleSteps.IsWholeLock, LineAfter.LineAfter, LockLaws.{turn_keeps, turn_whole}, LockProgress.{FirstOn, LockFairness, LockProgress, OneOnAt}, Mcs.Progress.{mcs_fairness, mcs_progress}, Ticket.Progress.{ticket_fairness, ticket_progress}}
 use Rattle.sound_run.specs.declared.lock_kind.LockKind.TheVariants as kinds
-use Rattle.word_rule.specs.Locks.{Lock, definition_of, holding, state_of, turn}
-use Rattle.word_rule.specs.Machine.Rounds.{most_steps, most_steps_of}
-use Rattle.word_rule.specs.StepKinds.{ends_hold}
-use Rattle.word_rule.proofs.IdleSteps.{IsWholeLock}
-use Rattle.word_rule.proofs.LineAfter.{LineAfter}
-use Rattle.word_rule.proofs.LockLaws.{turn_keeps, turn_whole}
-use Rattle.word_rule.proofs.LockProgress.{FirstOn, LockFairness, LockProgress, OneOnAt}
-use Rattle.word_rule.proofs.Mcs.Progress.{mcs_fairness, mcs_progress}
-use Rattle.word_rule.proofs.Ticket.Progress.{ticket_fairness, ticket_progress}
 
 -- one line for each lock
 pub progress_of : (kind : LockKind) → LockProgress (definition_of kind) (most_steps_of kind)

@@ -1,34 +1,15 @@
 -- A cell's run is a run of the step machine: step by step the machine does what the run says.
-use Rattle.std.proofs.Common.{◌≡◌, ◌≢◌, ⊎_elim, ℕ, zero, suc, ◌+◌, ◌<◌, ◌≤◌, ◌==◌, Bool, true, false, cond, List, [], ◌∷◌, ◌++◌, map, length, drop, slice_get, slice_set, Option, Some, refl, sym, ap, ◌∙◌, subst, arith, append_assoc, append-nil, length-append, eq-eqb, ne_eqb}
+use Rattle.std.proofs.{Common.{◌≡◌, ◌≢◌, ⊎_elim, ℕ, zero, suc, ◌+◌, ◌<◌, ◌≤◌, ◌==◌, Bool, true, false, cond, List, [], ◌∷◌, ◌++◌, map, length, drop, slice_get, slice_set, Option, Some, refl, sym, ap, ◌∙◌, subst, arith, append_assoc, append-nil, length-append, eq-eqb, ne_eqb}, lemmas.List.map-append, lemmas.List.Elements.filter-append}
 use Rattle.std.specs.List.{AllByRecursion, range_with_len}
-use Rattle.std.proofs.lemmas.List.{map-append}
-use Rattle.std.proofs.lemmas.List.Elements.{filter-append}
 use mathlib.Core.Logic.{dite}
 use native.Mathlib.Decide.{ℕ_discrete}
-use Rattle.event_log.specs.declared.object.SeqObject.{Ghosts}
-use Rattle.event_log.specs.declared.event.Step.{Step}
-use Rattle.event_log.specs.declared.event.Event.{Event}
-use Rattle.event_log.specs.declared.entry.Done.{Done}
-use Rattle.event_log.specs.declared.entry.Done.TheVariants as done
-use Rattle.event_log.specs.declared.entry.Entry.{Entry}
-use Rattle.event_log.specs.declared.entry.Todo.{Todo}
+use Rattle.event_log.specs.{declared.object.SeqObject.Ghosts, declared.event.Step.Step, declared.event.Event.Event, declared.entry.Done.Done, declared.entry.Entry.Entry, declared.entry.Todo.Todo, Log.{Begins, answers, after, AreAnswers, Fulfils, LegalFrom, Legal, calls_of, of, replay, replay_from}}
 use Rattle.event_log.proofs.Beginnings.{begins_rest}
-use Rattle.event_log.specs.Log.{Begins, answers, after, AreAnswers, Fulfils, LegalFrom, Legal, calls_of, of, replay, replay_from}
-use Rattle.word_rule.specs.declared.machine.step_done.StepDone.{StepDone}
-use Rattle.word_rule.specs.declared.view.TraceStep.{TraceStep}
-use Rattle.word_rule.specs.Cell.{Cell}
-use Rattle.word_rule.specs.Holds.{Leaves}
-use Rattle.word_rule.specs.LockRuns.{events_in, lock_after, AreTurns, IsTraceStep, HasRun}
-use Rattle.word_rule.specs.Locks.{Lock, opening_lock, turn}
-use Rattle.word_rule.specs.Machine.Opening.{opening_cpu}
-use Rattle.word_rule.specs.Machine.SoundWorld.{entries_of}
-use Rattle.word_rule.specs.Machine.World.{World, CellState, CpuState, with_done, entry_of, left, finished, counted, outcome, cell_after, cpu_after, world_after, step_on, step_of, step_by, step, run}
-use Rattle.word_rule.specs.Replay.{todo_of, cell_with, replay_world, entries_left, DoesStep, DoesRun, AllDoRun, steps_done, replayed, IsReplay}
+use Rattle.word_rule.specs.{declared.machine.step_done.StepDone.StepDone, declared.view.TraceStep.TraceStep, Cell.Cell, Holds.Leaves, LockRuns.{events_in, lock_after, AreTurns, IsTraceStep, HasRun}, Locks.{Lock, opening_lock, turn}, Machine.Opening.opening_cpu, Machine.SoundWorld.entries_of, Machine.World.{World, CellState, CpuState, with_done, entry_of, left, finished, counted, outcome, cell_after, cpu_after, world_after, step_on, step_of, step_by, step, run}, Replay.{todo_of, cell_with, replay_world, entries_left, DoesStep, DoesRun, AllDoRun, steps_done, replayed, IsReplay}, StepKinds.ends_hold}
 use Rattle.sound_run.specs.Sound.{Opened, done_on, steps_by}
-use Rattle.word_rule.specs.StepKinds.{ends_hold}
-use Rattle.sound_run.proofs.Entries.{done_append, done_here, done_without}
+use Rattle.sound_run.proofs.{Entries.{done_append, done_here, done_without}, Slices.{get_set_same, get_set_other}}
 use Rattle.word_rule.proofs.RunOrder.{first_of, behind_of}
-use Rattle.sound_run.proofs.Slices.{get_set_same, get_set_other}
+use Rattle.event_log.specs.declared.entry.Done.TheVariants as done
 
 begins_head : {A : Type 0} (x : A) (a b : List A) → Begins (x ∷ a) b → b ≡ x ∷ drop 1 b
 begins_head {A = A} x a b h = by b (begins_rest (x ∷ a) b h)

@@ -2,20 +2,9 @@
 use Rattle.std.proofs.Common.{◌≡◌, ℕ, ◌<◌, true, false, List, length, ap, ◌∙◌, Some}
 use mathlib.Core.Option.{some}
 use lib.ListN.{get_elem?}
-use Rattle.event_log.specs.declared.object.SeqObject.{Ghosts}
-use Rattle.event_log.specs.declared.event.Event.{Event}
-use Rattle.event_log.specs.Distinct.{has}
+use Rattle.event_log.specs.{declared.object.SeqObject.Ghosts, declared.event.Event.Event, Distinct.has}
 use Rattle.sound_run.specs.declared.lock_kind.LockKind.{LockKind}
-use Rattle.word_rule.specs.declared.lock_kind.Stage.{Stage}
-use Rattle.word_rule.specs.declared.machine.step_done.StepDone.{StepDone}
-use Rattle.word_rule.specs.declared.view.TraceStep.{TraceStep}
-use Rattle.word_rule.specs.Cell.{Cell, Lawful, stored}
-use Rattle.word_rule.specs.LockDefinition.{IsTied, LockState}
-use Rattle.word_rule.specs.LockRuns.{HasRun}
-use Rattle.word_rule.specs.Locks.{Lock, attempt, definition_of, lock_of, turn}
-use Rattle.word_rule.specs.Rule.CellInvariant.{CellInvariant, IsMade, SeatInvariant, Table, SeatView}
-use Rattle.word_rule.specs.Rule.LockStates.{IsLockOf}
-use Rattle.word_rule.specs.Rule.Seats.{Seat}
+use Rattle.word_rule.specs.{declared.lock_kind.Stage.Stage, declared.machine.step_done.StepDone.StepDone, declared.view.TraceStep.TraceStep, Cell.{Cell, Lawful, stored}, LockDefinition.{IsTied, LockState}, LockRuns.HasRun, Locks.{Lock, attempt, definition_of, lock_of, turn}, Rule.CellInvariant.{CellInvariant, IsMade, SeatInvariant, Table, SeatView}, Rule.LockStates.IsLockOf, Rule.Seats.Seat}
 use Rattle.word_rule.proofs.LockLaws.{at_kind}
 
 module _ (kind : LockKind) where

@@ -1,14 +1,9 @@
 -- Lists of steps: what each CPU did, what the steps left, and how one run extends another.
-use Rattle.std.proofs.Common.{◌≡◌, ◌≢◌, ℕ, ◌<◌, ◌==◌, Bool, true, false, cond, List, [], ◌∷◌, ◌++◌, length, drop, refl, sym, ap, ◌∙◌, subst, append_assoc, append-nil, eq-eqb, ne_eqb}
-use Rattle.std.proofs.lemmas.List.Elements.{filter-append}
-use Rattle.std.proofs.lemmas.List.{map-append}
+use Rattle.std.proofs.{Common.{◌≡◌, ◌≢◌, ℕ, ◌<◌, ◌==◌, Bool, true, false, cond, List, [], ◌∷◌, ◌++◌, length, drop, refl, sym, ap, ◌∙◌, subst, append_assoc, append-nil, eq-eqb, ne_eqb}, lemmas.List.Elements.filter-append, lemmas.List.map-append}
 use Rattle.std.specs.List.{AllByRecursion}
 use Rattle.event_log.specs.declared.event.Event.{Event}
 use Rattle.event_log.proofs.Beginnings.{begins_self, begins_then, begins_more, begins_append, begins_rest}
-use Rattle.word_rule.specs.declared.machine.step_done.StepDone.{StepDone}
-use Rattle.word_rule.specs.declared.view.TraceStep.{TraceStep}
-use Rattle.word_rule.specs.LockRuns.{by_cpu, events_in, doers_in, Extends, ExtendsUntil, IsTraceStep}
-use Rattle.word_rule.specs.OneHold.{leaving, silently}
+use Rattle.word_rule.specs.{declared.machine.step_done.StepDone.StepDone, declared.view.TraceStep.TraceStep, LockRuns.{by_cpu, events_in, doers_in, Extends, ExtendsUntil, IsTraceStep}, OneHold.{leaving, silently}}
 
 module _ {E : Type 0} where
   pub by_append : (k : ℕ) (a b : List (TraceStep E)) → by_cpu k (a ++ b) ≡ by_cpu k a ++ by_cpu k b

@@ -1,19 +1,10 @@
 -- Who ends a hold does so in the order of arrival, in each run of a lock.
 use Rattle.std.proofs.Common.{◌≡◌, ℕ, ◌<◌, ◌&&◌, true, false, Bool, cond, List, [], ◌∷◌, ◌++◌, sym, ap, ◌∙◌, subst, append-nil}
 use Rattle.std.specs.List.{AllByRecursion}
-use Rattle.event_log.specs.declared.event.Event.{Event}
-use Rattle.event_log.specs.Log.{Begins}
+use Rattle.event_log.specs.{declared.event.Event.Event, Log.Begins}
 use Rattle.event_log.proofs.Beginnings.{begins_append}
-use Rattle.word_rule.specs.declared.machine.step_done.StepDone.{StepDone}
-use Rattle.word_rule.specs.declared.view.TraceStep.{TraceStep}
-use Rattle.word_rule.specs.Cell.{Cell}
-use Rattle.word_rule.specs.LockRuns.{lock_after, AreTurns, HasRun, arrivals_in, endings_in}
-use Rattle.word_rule.specs.Locks.{IsLock, Lock, opening_lock, turn}
-use Rattle.word_rule.specs.StepKinds.{arrives, ends_hold}
-use Rattle.word_rule.proofs.LockLaws.{begins}
-use Rattle.word_rule.proofs.LineAfter.{LineAfter, order_here}
-use Rattle.word_rule.proofs.RunLists.{all_inside}
-use Rattle.word_rule.proofs.TurnsKeep.{locks_keep}
+use Rattle.word_rule.specs.{declared.machine.step_done.StepDone.StepDone, declared.view.TraceStep.TraceStep, Cell.Cell, LockRuns.{lock_after, AreTurns, HasRun, arrivals_in, endings_in}, Locks.{IsLock, Lock, opening_lock, turn}, StepKinds.{arrives, ends_hold}}
+use Rattle.word_rule.proofs.{LockLaws.begins, LineAfter.{LineAfter, order_here}, RunLists.all_inside, TurnsKeep.locks_keep}
 
 -- the first of the steps, if there is one
 abbrev pub first_of : StepDone → List StepDone → StepDone

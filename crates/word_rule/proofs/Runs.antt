@@ -2,17 +2,8 @@
 use Rattle.std.proofs.Common.{◌≡◌, ℕ, ◌<◌, false, List, [], ◌∷◌, ◌++◌, map, refl, sym, ap, ◌∙◌, subst, append_assoc, append-nil}
 use Rattle.event_log.specs.declared.event.Event.{Event}
 use Rattle.event_log.proofs.Each.{all_push}
-use Rattle.word_rule.specs.declared.machine.step_done.StepDone.{StepDone}
-use Rattle.word_rule.specs.declared.view.TraceStep.{TraceStep}
-use Rattle.word_rule.specs.Cell.{Cell}
-use Rattle.word_rule.specs.LockRuns.{events_in, lock_after, turns_after, AreTurns, IsTraceStep, HasRun}
-use Rattle.word_rule.specs.Locks.{Fits, Lock, served, opening_lock, erase, turn}
-use Rattle.word_rule.specs.OneHold.{leaving, silently}
-use Rattle.word_rule.specs.Rule.CellInvariant.{IsMade}
-use Rattle.word_rule.specs.Rule.Definition.{GoesOn}
-use Rattle.word_rule.proofs.LockInterface.{is_trying, NoneTries}
-use Rattle.word_rule.proofs.LockLaws.{count_alike, turn_erased, turn_whole}
-use Rattle.word_rule.proofs.RunLists.{events_append, silent_own}
+use Rattle.word_rule.specs.{declared.machine.step_done.StepDone.StepDone, declared.view.TraceStep.TraceStep, Cell.Cell, LockRuns.{events_in, lock_after, turns_after, AreTurns, IsTraceStep, HasRun}, Locks.{Fits, Lock, served, opening_lock, erase, turn}, OneHold.{leaving, silently}, Rule.CellInvariant.IsMade, Rule.Definition.GoesOn}
+use Rattle.word_rule.proofs.{LockInterface.{is_trying, NoneTries}, LockLaws.{count_alike, turn_erased, turn_whole}, RunLists.{events_append, silent_own}}
 
 module _ {E : Type 0} where
   pub after_push : (run : List (TraceStep E)) (m : TraceStep E) (l : Lock) → lock_after (run ++ m ∷ []) l ≡ (turn (lock_after run l) m.cpu).0

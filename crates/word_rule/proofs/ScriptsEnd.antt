@@ -1,25 +1,13 @@
 -- Every fair schedule finishes: the rank of a world is the steps that its CPUs may still do, apart from those in vain.
-use Rattle.std.proofs.Common.{◌≡◌, ◌≢◌, inl, inr, ⊎_elim, ℕ, zero, suc, ◌+◌, ◌*◌, ◌<◌, ◌≤◌, eq-eqb, Bool, true, false, cond, List, [], ◌∷◌, length, slice_get, Option, Some, None, refl, sym, ap, ◌∙◌, subst, arith}
-use Rattle.std.proofs.lemmas.Bool.{cases_Bool}
+use Rattle.std.proofs.{Common.{◌≡◌, ◌≢◌, inl, inr, ⊎_elim, ℕ, zero, suc, ◌+◌, ◌*◌, ◌<◌, ◌≤◌, eq-eqb, Bool, true, false, cond, List, [], ◌∷◌, length, slice_get, Option, Some, None, refl, sym, ap, ◌∙◌, subst, arith}, lemmas.Bool.cases_Bool}
 use mathlib.Core.Logic.{dite}
 use native.Mathlib.Decide.{ℕ_discrete}
-use Rattle.event_log.specs.declared.object.SeqObject.{Ghosts}
-use Rattle.event_log.specs.declared.entry.Todo.{Todo}
+use Rattle.event_log.specs.{declared.object.SeqObject.Ghosts, declared.entry.Todo.Todo}
 use Rattle.event_log.proofs.Each.{each_at}
-use Rattle.word_rule.specs.declared.machine.step_done.StepDone.{StepDone}
-use Rattle.word_rule.specs.declared.machine.step_done.StepDone.TheVariants as steps
-use Rattle.word_rule.specs.Locks.{Lock, turn}
-use Rattle.word_rule.specs.StepKinds.{ends_hold}
-use Rattle.word_rule.specs.Replay.{entries_left}
-use Rattle.word_rule.specs.Machine.Opening.{IsOpening}
-use Rattle.word_rule.specs.Machine.Orders.{is_at}
-use Rattle.word_rule.specs.Machine.Rounds.{AllDone, HasRounds, cell_steps, cpu_steps, entries_to_do, entry_steps, most_steps, steps_to_do}
-use Rattle.word_rule.specs.Machine.World.{World, CellState, CpuState, left, run, step, step_by, step_of}
-use Rattle.word_rule.proofs.Alive.{Alive, On, alive_first, alive_run, alive_step, cell_of_entry, cpus_stay, on_stays_or, someone, whole_at}
-use Rattle.word_rule.proofs.Fairness.{Fair, reaches}
-use Rattle.word_rule.proofs.ProgressLaws.{few_left, gets_on, left_at, most_few, nearer, no_further, others_stay, some_left}
+use Rattle.word_rule.specs.{declared.machine.step_done.StepDone.StepDone, Locks.{Lock, turn}, StepKinds.ends_hold, Replay.entries_left, Machine.Opening.IsOpening, Machine.Orders.is_at, Machine.Rounds.{AllDone, HasRounds, cell_steps, cpu_steps, entries_to_do, entry_steps, most_steps, steps_to_do}, Machine.World.{World, CellState, CpuState, left, run, step, step_by, step_of}}
+use Rattle.word_rule.proofs.{Alive.{Alive, On, alive_first, alive_run, alive_step, cell_of_entry, cpus_stay, on_stays_or, someone, whole_at}, Fairness.{Fair, reaches}, ProgressLaws.{few_left, gets_on, left_at, most_few, nearer, no_further, others_stay, some_left}, WorldSteps.{StepsCell, StepsCpus, at_entry, cell_stepped, cpu_below, cpus_stepped, entry_steps_stay, left_to, works_at}}
 use Rattle.sound_run.proofs.Slices.{one_of}
-use Rattle.word_rule.proofs.WorldSteps.{StepsCell, StepsCpus, at_entry, cell_stepped, cpu_below, cpus_stepped, entry_steps_stay, left_to, works_at}
+use Rattle.word_rule.specs.declared.machine.step_done.StepDone.TheVariants as steps
 
 -- the sum of the first n numbers
 abbrev pub sum : (ℕ → ℕ) → ℕ → ℕ

@@ -1,16 +1,12 @@
 -- What lies in a cell's slot, and a cell's passes, may go to another thread.
-use denote.RattleType.{RattleType}
-use denote.Param.Send.{IsSend, sendable, recorded_send, enum_send, struct_send}
-use denote.Enum.Declared.{shape}
-use denote.Struct.Declared.{shape as fields}
+use denote.{RattleType.RattleType, Param.Send.{IsSend, sendable, recorded_send, enum_send, struct_send}, Enum.Declared.shape, Struct.Declared.{shape as fields}}
 use Rattle.std.proofs.Crossing.{crosses}
-use Rattle.std.specs.contracts.option.Option as Option
-use Rattle.std.specs.declared.cmp.PartialEq.{Ghosts as Compares}
-use Rattle.std.specs.declared.default.Default.{Ghosts as Defaults}
+use Rattle.std.specs.{declared.cmp.PartialEq.{Ghosts as Compares}, declared.default.Default.{Ghosts as Defaults}}
 use Rattle.event_log.specs.declared.object.SeqObject.{Ghosts}
-use Rattle.event_log.specs.contracts.logged.Logged as Logged
 use Rattle.event_log.proofs.logged.Logged.TheSendSync.{the_send as logged_send}
 use Rattle.atomic_table.proofs.shared.Seat.TheSendSync.{the_send as seat}
+use Rattle.std.specs.contracts.option.Option as Option
+use Rattle.event_log.specs.contracts.logged.Logged as Logged
 use Rattle.word_rule.specs.contracts.caller.Outside as Outside
 use Rattle.word_rule.specs.contracts.cpu.Cpu as Cpu
 use Rattle.word_rule.specs.contracts.pass.Pass as Pass

@@ -1,11 +1,7 @@
 -- What is kept of a lock is what is kept of a state of its definition.
 use Rattle.std.proofs.Common.{◌≡◌, ℕ, List, refl, sym, subst}
 use Rattle.sound_run.specs.declared.lock_kind.LockKind.{LockKind}
-use Rattle.word_rule.specs.declared.machine.step_done.StepDone.{StepDone}
-use Rattle.word_rule.specs.declared.lock_kind.Stage.{Stage}
-use Rattle.word_rule.specs.LockDefinition.{IsTied, LockState}
-use Rattle.word_rule.specs.Locks.{Lock, definition_of, lock_of, turn}
-use Rattle.word_rule.specs.Rule.LockStates.{IsLockOf, RepresentsLock, RepresentsState}
+use Rattle.word_rule.specs.{declared.machine.step_done.StepDone.StepDone, declared.lock_kind.Stage.Stage, LockDefinition.{IsTied, LockState}, Locks.{Lock, definition_of, lock_of, turn}, Rule.LockStates.{IsLockOf, RepresentsLock, RepresentsState}}
 use Rattle.word_rule.proofs.LockLaws.{at_kind}
 
 module _ (kind : LockKind) (n : ℕ) where

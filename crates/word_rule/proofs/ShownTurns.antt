@@ -2,12 +2,7 @@
 use Rattle.std.proofs.Common.{◌≡◌, ℕ, ◌<◌, List, get_or, set, sym, ap, ◌∙◌, subst, arith, get_or-set_other, get_or-set_same, length-set}
 use mathlib.Core.Logic.{dite}
 use native.Mathlib.Decide.{ℕ_discrete}
-use Rattle.word_rule.specs.declared.machine.step_done.StepDone.{StepDone}
-use Rattle.word_rule.specs.declared.lock_kind.Stage.{Stage}
-use Rattle.word_rule.specs.declared.lock_kind.Stage.TheVariants.{Idle}
-use Rattle.word_rule.specs.Line.{moved}
-use Rattle.word_rule.specs.LockDefinition.{IsTied, LockDefinition, LockState}
-use Rattle.word_rule.specs.Rule.LockStates.{RepresentsState}
+use Rattle.word_rule.specs.{declared.machine.step_done.StepDone.StepDone, declared.lock_kind.Stage.Stage, declared.lock_kind.Stage.TheVariants.Idle, Line.moved, LockDefinition.{IsTied, LockDefinition, LockState}, Rule.LockStates.RepresentsState}
 use Rattle.word_rule.proofs.Moves.{moved_same, moved_else}
 
 module _ (d : LockDefinition) (n : ℕ) (ws : List ℕ) (stages : List Stage) (l : LockState d.Extra) (h : RepresentsState d n ws stages l) (i : ℕ) (below : i < n) where

@@ -1,31 +1,15 @@
 -- Every step keeps a world sound.
-use Rattle.std.proofs.Common.{◌≡◌, ◌≢◌, ℕ, ◌<◌, ◌==◌, Bool, true, false, cond, List, [], ◌∷◌, ◌++◌, length, slice_get, Option, Some, None, refl, sym, ap, ◌∙◌, subst, arith, length-append}
-use Rattle.std.proofs.Math.ListN.{set}
+use Rattle.std.proofs.{Common.{◌≡◌, ◌≢◌, ℕ, ◌<◌, ◌==◌, Bool, true, false, cond, List, [], ◌∷◌, ◌++◌, length, slice_get, Option, Some, None, refl, sym, ap, ◌∙◌, subst, arith, length-append}, Math.ListN.set, lemmas.List.{append-nil, length-set}, lemmas.Bool.{eqb-true, eqb-false}}
 use Rattle.std.specs.List.{AllByRecursion}
-use Rattle.std.proofs.lemmas.List.{append-nil, length-set}
-use Rattle.std.proofs.lemmas.Bool.{eqb-true, eqb-false}
 use mathlib.Core.Logic.{dite}
 use native.Mathlib.Decide.{ℕ_discrete}
 use Rattle.arrayvec.specs.ArrayVec.{ArrayVec}
-use Rattle.event_log.specs.declared.object.SeqObject.{Ghosts}
-use Rattle.event_log.specs.declared.event.Steps.{Steps}
-use Rattle.event_log.specs.declared.event.Event.{Event}
-use Rattle.event_log.specs.declared.entry.Done.{Done}
-use Rattle.event_log.specs.declared.entry.Done.TheVariants as done
-use Rattle.event_log.specs.declared.entry.Entry.{Entry}
-use Rattle.event_log.specs.declared.entry.Todo.{Todo}
-use Rattle.event_log.specs.Log.{answers, replay}
-use Rattle.event_log.proofs.Logs.{legal_append}
-use Rattle.event_log.proofs.Batches.{next_answers, answers_fulfil}
-use Rattle.word_rule.specs.declared.machine.step_done.StepDone.{StepDone}
-use Rattle.word_rule.specs.Locks.{Lock, turn}
-use Rattle.word_rule.specs.StepKinds.{ends_hold}
+use Rattle.event_log.specs.{declared.object.SeqObject.Ghosts, declared.event.Steps.Steps, declared.event.Event.Event, declared.entry.Done.Done, declared.entry.Entry.Entry, declared.entry.Todo.Todo, Log.{answers, replay}}
+use Rattle.event_log.proofs.{Logs.legal_append, Batches.{next_answers, answers_fulfil}, Each.{all_map, all_push}}
+use Rattle.word_rule.specs.{declared.machine.step_done.StepDone.StepDone, Locks.{Lock, turn}, StepKinds.ends_hold, Machine.World.{World, CellState, CpuState, with_done, entry_of, left, finished, counted, outcome, world_after, step_on, step_of, step_by, step, run}, Machine.SoundWorld.{IsTodo, entries_of, entries_by, IsAnswer, SoundWorld}}
 use Rattle.sound_run.specs.Sound.{LogIsSound, Answers, NoneAfterFull, done_on, steps_by}
-use Rattle.word_rule.specs.Machine.World.{World, CellState, CpuState, with_done, entry_of, left, finished, counted, outcome, world_after, step_on, step_of, step_by, step, run}
-use Rattle.word_rule.specs.Machine.SoundWorld.{IsTodo, entries_of, entries_by, IsAnswer, SoundWorld}
-use Rattle.event_log.proofs.Each.{all_map, all_push}
-use Rattle.sound_run.proofs.Entries.{done_append, done_here, done_elsewhere, done_without, steps_push, steps_other, full_push}
-use Rattle.sound_run.proofs.Slices.{get_set_same, get_set_other, one_of}
+use Rattle.sound_run.proofs.{Entries.{done_append, done_here, done_elsewhere, done_without, steps_push, steps_other, full_push}, Slices.{get_set_same, get_set_other, one_of}}
+use Rattle.event_log.specs.declared.entry.Done.TheVariants as done
 
 module _ {O P C R : Type 0} (meaning : Ghosts O P C R) where
   -- what a CPU's step on a cell leaves, of the cell and of the CPU

@@ -3,21 +3,9 @@ use Rattle.std.proofs.Common.{◌≡◌, ◌≢◌, ◌⊎◌, inl, inr, ℕ, ze
 use mathlib.Core.Option.{some}
 use lib.ListN.{get_elem?}
 use Rattle.event_log.specs.Distinct.{has}
-use Rattle.word_rule.specs.declared.machine.step_done.StepDone.{StepDone}
+use Rattle.word_rule.specs.{declared.machine.step_done.StepDone.StepDone, declared.lock_kind.Stage.Stage, declared.lock_kind.Stage.TheVariants.{Idle, Ticket}, declared.lock_kind.TicketStage.TheVariants.Served, Line.{First, alone_with_it, leaving}, LockDefinition.{LockDefinition, LockState, IsState}, Locks.holding, StepKinds.ends_hold, Ticket.State.is_served}
+use Rattle.word_rule.proofs.{LineChanges.never, Lists.has_at, LockProgress.{OneOnAt, LockFairness, LockProgress}, LockStates.{in_cell, stands_at}, Moves.{moved_same, moved_else}}
 use Rattle.word_rule.specs.declared.machine.step_done.StepDone.TheVariants as steps
-use Rattle.word_rule.specs.declared.lock_kind.Stage.{Stage}
-use Rattle.word_rule.specs.declared.lock_kind.Stage.TheVariants.{Idle, Ticket}
-use Rattle.word_rule.specs.declared.lock_kind.TicketStage.TheVariants.{Served}
-use Rattle.word_rule.specs.Line.{First, alone_with_it, leaving}
-use Rattle.word_rule.specs.LockDefinition.{LockDefinition, LockState, IsState}
-use Rattle.word_rule.specs.Locks.{holding}
-use Rattle.word_rule.specs.StepKinds.{ends_hold}
-use Rattle.word_rule.specs.Ticket.State.{is_served}
-use Rattle.word_rule.proofs.LineChanges.{never}
-use Rattle.word_rule.proofs.Lists.{has_at}
-use Rattle.word_rule.proofs.LockProgress.{OneOnAt, LockFairness, LockProgress}
-use Rattle.word_rule.proofs.LockStates.{in_cell, stands_at}
-use Rattle.word_rule.proofs.Moves.{moved_same, moved_else}
 
 abbrev State : Type 0
 State = LockState (Unit {0})

@@ -1,21 +1,12 @@
 -- How a call of one CPU comes to its end at a lock: what is left of it, and of those ahead and the one behind, falls.
-use Rattle.std.proofs.Common.{◌≡◌, ◌≢◌, ◌⊎◌, inl, inr, ⊎_elim, ℕ, ◌+◌, ◌*◌, ◌<◌, ◌≤◌, ◌==◌, ◌||◌, Bool, true, false, true≢false, cond, ne_eqb, List, [], ◌∷◌, ◌++◌, length, length-append, refl, sym, ap, ◌∙◌, subst, arith}
-use Rattle.std.proofs.Math.Nat.{mul-le-mul_left}
-use Rattle.std.proofs.lemmas.Bool.{cases_Bool}
-use mathlib.Core.Logic.{dite}
-use mathlib.Core.Option.{some}
+use Rattle.std.proofs.{Common.{◌≡◌, ◌≢◌, ◌⊎◌, inl, inr, ⊎_elim, ℕ, ◌+◌, ◌*◌, ◌<◌, ◌≤◌, ◌==◌, ◌||◌, Bool, true, false, true≢false, cond, ne_eqb, List, [], ◌∷◌, ◌++◌, length, length-append, refl, sym, ap, ◌∙◌, subst, arith}, Math.Nat.mul-le-mul_left, lemmas.Bool.cases_Bool}
+use mathlib.{Core.Logic.dite, Core.Option.some}
 use lib.ListN.{get_elem?}
 use native.Mathlib.Decide.{ℕ_discrete}
 use Rattle.event_log.specs.Distinct.{has, AreDistinctBelow}
 use Rattle.event_log.proofs.Distinct.{has_push}
-use Rattle.word_rule.specs.Locks.{Lock, turn}
-use Rattle.word_rule.specs.StepKinds.{ends_hold}
-use Rattle.word_rule.proofs.Ahead.{ahead, ahead_behind, ahead_falls, ahead_few, ahead_last, ahead_longer, ahead_place, ahead_sinks, ahead_some, among, among_behind, among_first, among_longer, among_second}
-use Rattle.word_rule.proofs.IdleSteps.{IsWholeLock}
-use Rattle.word_rule.proofs.LineChanges.{changed, has_more, head_of, never, Joined, Left, Same}
-use Rattle.word_rule.proofs.Lists.{has_at}
-use Rattle.word_rule.proofs.LockLaws.{line_fits}
-use Rattle.word_rule.proofs.ProgressLaws.{few_left, gets_on, left_at, line_after, most_at, nearer, none_further, others_stay, outside, some_left, someone_first, stays, turned}
+use Rattle.word_rule.specs.{Locks.{Lock, turn}, StepKinds.ends_hold}
+use Rattle.word_rule.proofs.{Ahead.{ahead, ahead_behind, ahead_falls, ahead_few, ahead_last, ahead_longer, ahead_place, ahead_sinks, ahead_some, among, among_behind, among_first, among_longer, among_second}, IdleSteps.IsWholeLock, LineChanges.{changed, has_more, head_of, never, Joined, Left, Same}, Lists.has_at, LockLaws.line_fits, ProgressLaws.{few_left, gets_on, left_at, line_after, most_at, nearer, none_further, others_stay, outside, some_left, someone_first, stays, turned}}
 
 has_longer : (x k : ℕ) (xs : List ℕ) → has x xs ≡ true → has x (xs ++ k ∷ []) ≡ true
 has_longer x k [] e = never e

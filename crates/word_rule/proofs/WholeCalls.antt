@@ -1,15 +1,8 @@
 -- What a whole call answers, by what the calls of the interface say.
-use Rattle.std.proofs.Common.{◌≡◌, ◌↔◌, ℕ, ◌==◌, true, cond, List, [], ◌∷◌, ◌++◌, length, refl, sym, ap, ◌∙◌, subst, arith, Result, Ok, Err, IfOk, IsErr, OnErr}
-use Rattle.std.proofs.lemmas.Bool.Decides.{nat_tests}
-use Rattle.std.proofs.lemmas.List.Elements.{filter-append}
-use Rattle.event_log.specs.declared.object.SeqObject.{Ghosts}
-use Rattle.event_log.specs.declared.event.Steps.{Steps}
-use Rattle.event_log.specs.declared.event.Event.{Event}
-use Rattle.event_log.specs.Log.{Begins, Fulfils, of, after as after_steps, one_step}
-use Rattle.event_log.specs.History.{with_event}
+use Rattle.std.proofs.{Common.{◌≡◌, ◌↔◌, ℕ, ◌==◌, true, cond, List, [], ◌∷◌, ◌++◌, length, refl, sym, ap, ◌∙◌, subst, arith, Result, Ok, Err, IfOk, IsErr, OnErr}, lemmas.Bool.Decides.nat_tests, lemmas.List.Elements.filter-append}
+use Rattle.event_log.specs.{declared.object.SeqObject.Ghosts, declared.event.Steps.Steps, declared.event.Event.Event, Log.{Begins, Fulfils, of, after as after_steps, one_step}, History.with_event}
 use Rattle.event_log.proofs.Beginnings.{begins_more}
-use Rattle.word_rule.specs.Cell.{PassView, HoldView, Grows, Lawful, IsPassView, IsHoldView}
-use Rattle.word_rule.specs.Answered.{IsAnswered, IsRefused}
+use Rattle.word_rule.specs.{Cell.{PassView, HoldView, Grows, Lawful, IsPassView, IsHoldView}, Answered.{IsAnswered, IsRefused}}
 use Rattle.word_rule.proofs.Lists.{of_push}
 
 module _ {O P C R : Type 0} where

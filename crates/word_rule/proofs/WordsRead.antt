@@ -1,21 +1,12 @@
 -- A word that a caller reads, and what it says to a caller that owns every number.
 use Rattle.std.proofs.Common.{◌≡◌, ◌||◌, ℕ, ◌<◌, List, [], get_or, sym, ap, ◌∙◌, subst, Option, Some}
 use mathlib.Core.Option.{some}
-use lib.ListN.{get_elem?}
-use lib.Seq.{set-get_or}
+use lib.{ListN.get_elem?, Seq.set-get_or}
 use Rattle.atomic_table.specs.Table.{keeps, stepped}
-use Rattle.event_log.specs.declared.object.SeqObject.{Ghosts}
-use Rattle.event_log.specs.Distinct.{has}
-use Rattle.event_log.specs.History.{History}
+use Rattle.event_log.specs.{declared.object.SeqObject.Ghosts, Distinct.has, History.History}
 use Rattle.sound_run.specs.declared.lock_kind.LockKind.{LockKind}
-use Rattle.word_rule.specs.Cell.{Cell}
-use Rattle.word_rule.specs.Rule.LockStates.{IsLockOf}
-use Rattle.word_rule.specs.Rule.CellInvariant.{SeatView, Table, CellInvariant}
-use Rattle.word_rule.specs.Rule.Seats.{noted}
-use Rattle.word_rule.specs.Rule.Announced.{HasAll, any_has}
-use Rattle.word_rule.proofs.Lists.{or_none}
-use Rattle.word_rule.proofs.Known.{same_cell}
-use Rattle.word_rule.proofs.Stays.{seats_stay}
+use Rattle.word_rule.specs.{Cell.Cell, Rule.LockStates.IsLockOf, Rule.CellInvariant.{SeatView, Table, CellInvariant}, Rule.Seats.noted, Rule.Announced.{HasAll, any_has}}
+use Rattle.word_rule.proofs.{Lists.or_none, Known.same_cell, Stays.seats_stay}
 
 pub one_word : (a b : ℕ) → Some a ≡ Some b → a ≡ b
 one_word a b e = cc

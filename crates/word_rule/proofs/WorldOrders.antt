@@ -1,33 +1,12 @@
 -- Every step keeps an order of a world's entries: one that comes to an end comes last.
-use Rattle.std.proofs.Common.{◌≡◌, ◌≢◌, ℕ, ◌==◌, Bool, true, false, cond, List, [], ◌∷◌, ◌++◌, length, slice_get, Option, Some, None, refl, sym, ap, ◌∙◌, subst, append_assoc}
-use Rattle.std.proofs.Math.ListN.{set}
-use Rattle.std.proofs.lemmas.List.{append-nil, map-set}
-use Rattle.std.proofs.lemmas.Bool.{eqb-false}
-use Rattle.event_log.specs.declared.object.SeqObject.{Ghosts}
-use Rattle.event_log.specs.declared.event.Event.{Event}
-use Rattle.event_log.specs.declared.event.Steps.{Steps}
-use Rattle.event_log.specs.declared.entry.Done.{Done}
-use Rattle.event_log.specs.declared.entry.Done.TheVariants as done
-use Rattle.event_log.specs.declared.entry.Entry.{Entry}
-use Rattle.event_log.specs.declared.entry.Todo.{Todo}
-use Rattle.event_log.specs.declared.entry.Run.{Run}
-use Rattle.event_log.specs.Log.{answers, replay}
+use Rattle.std.proofs.{Common.{◌≡◌, ◌≢◌, ℕ, ◌==◌, Bool, true, false, cond, List, [], ◌∷◌, ◌++◌, length, slice_get, Option, Some, None, refl, sym, ap, ◌∙◌, subst, append_assoc}, Math.ListN.set, lemmas.List.{append-nil, map-set}, lemmas.Bool.eqb-false}
+use Rattle.event_log.specs.{declared.object.SeqObject.Ghosts, declared.event.Event.Event, declared.event.Steps.Steps, declared.entry.Done.Done, declared.entry.Entry.Entry, declared.entry.Todo.Todo, declared.entry.Run.Run, Log.{answers, replay}}
 use Rattle.event_log.proofs.Each.{each_at}
-use Rattle.word_rule.specs.declared.machine.step_done.StepDone.{StepDone}
-use Rattle.sound_run.specs.declared.place.Place.{Place}
-use Rattle.word_rule.specs.Locks.{Lock, turn}
-use Rattle.word_rule.specs.StepKinds.{ends_hold}
-use Rattle.sound_run.specs.Orders.{entry_at, IsOrder}
-use Rattle.sound_run.specs.Sound.{Answers}
-use Rattle.word_rule.specs.Machine.Opening.{IsOpening}
-use Rattle.word_rule.specs.Machine.Orders.{ended}
-use Rattle.word_rule.specs.Machine.SoundWorld.{entries_of, entries_by, SoundWorld}
-use Rattle.word_rule.specs.Machine.World.{World, CellState, CpuState, with_done, entry_of, finished, counted, outcome, world_after, step_on, step_of, step_by, step, run, run_of}
-use Rattle.word_rule.proofs.Openings.{opening_sound, opening_order}
-use Rattle.word_rule.proofs.OrderedRuns.{order_more}
+use Rattle.word_rule.specs.{declared.machine.step_done.StepDone.StepDone, Locks.{Lock, turn}, StepKinds.ends_hold, Machine.Opening.IsOpening, Machine.Orders.ended, Machine.SoundWorld.{entries_of, entries_by, SoundWorld}, Machine.World.{World, CellState, CpuState, with_done, entry_of, finished, counted, outcome, world_after, step_on, step_of, step_by, step, run, run_of}}
+use Rattle.sound_run.specs.{declared.place.Place.Place, Orders.{entry_at, IsOrder}, Sound.Answers}
+use Rattle.word_rule.proofs.{Openings.{opening_sound, opening_order}, OrderedRuns.order_more, SoundRuns.transcript_is, SoundSteps.sound_step}
 use Rattle.sound_run.proofs.Slices.{map_get, map_set, one_of}
-use Rattle.word_rule.proofs.SoundRuns.{transcript_is}
-use Rattle.word_rule.proofs.SoundSteps.{sound_step}
+use Rattle.event_log.specs.declared.entry.Done.TheVariants as done
 
 module _ {O P C R : Type 0} (meaning : Ghosts O P C R) where
   -- what becomes of calls isn't NoRoom where the log isn't full

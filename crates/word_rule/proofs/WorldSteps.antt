@@ -1,22 +1,12 @@
 -- What a step of the machine does to the script of each CPU, and to the lock of each cell.
-use Rattle.std.proofs.Common.{◌≡◌, ◌≢◌, ⊎_elim, ℕ, ◌<◌, ◌==◌, Bool, true, false, true≢false, cond, eqb, List, [], ◌∷◌, length, slice_get, Option, Some, None, refl, sym, ap, ◌∙◌, subst, arith}
-use Rattle.std.proofs.Math.ListN.{set}
-use Rattle.std.proofs.lemmas.Bool.{cases_Bool, eqb-true, eqb-false, false_from_ne_true}
-use Rattle.std.proofs.lemmas.Option.{slice_get_within}
+use Rattle.std.proofs.{Common.{◌≡◌, ◌≢◌, ⊎_elim, ℕ, ◌<◌, ◌==◌, Bool, true, false, true≢false, cond, eqb, List, [], ◌∷◌, length, slice_get, Option, Some, None, refl, sym, ap, ◌∙◌, subst, arith}, Math.ListN.set, lemmas.Bool.{cases_Bool, eqb-true, eqb-false, false_from_ne_true}, lemmas.Option.slice_get_within}
 use mathlib.Core.Logic.{dite}
 use native.Mathlib.Decide.{ℕ_discrete}
-use Rattle.event_log.specs.declared.object.SeqObject.{Ghosts}
-use Rattle.event_log.specs.declared.entry.Todo.{Todo}
-use Rattle.word_rule.specs.declared.machine.step_done.StepDone.{StepDone}
-use Rattle.word_rule.specs.declared.machine.step_done.StepDone.TheVariants as steps
-use Rattle.word_rule.specs.Locks.{turn}
-use Rattle.word_rule.specs.StepKinds.{ends_hold}
-use Rattle.word_rule.specs.Replay.{entries_left}
-use Rattle.word_rule.specs.Machine.Orders.{first_cell, works_on, is_that, is_at}
-use Rattle.word_rule.specs.Machine.Rounds.{cell_steps, entry_steps}
-use Rattle.word_rule.specs.Machine.World.{World, CellState, CpuState, counted, finished, left, outcome, cpu_after, cell_after, world_after, step, step_by, step_of, step_on}
+use Rattle.event_log.specs.{declared.object.SeqObject.Ghosts, declared.entry.Todo.Todo}
+use Rattle.word_rule.specs.{declared.machine.step_done.StepDone.StepDone, Locks.turn, StepKinds.ends_hold, Replay.entries_left, Machine.Orders.{first_cell, works_on, is_that, is_at}, Machine.Rounds.{cell_steps, entry_steps}, Machine.World.{World, CellState, CpuState, counted, finished, left, outcome, cpu_after, cell_after, world_after, step, step_by, step_of, step_on}}
 use Rattle.word_rule.proofs.LineChanges.{never}
 use Rattle.sound_run.proofs.Slices.{get_set_same, get_set_other, one_of}
+use Rattle.word_rule.specs.declared.machine.step_done.StepDone.TheVariants as steps
 
 -- nothing is something
 pub none_some : {X Y : Type 0} (o : Option X) (x : X) → o ≡ None → o ≡ Some x → Y

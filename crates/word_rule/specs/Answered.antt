@@ -1,10 +1,7 @@
 -- What a whole call on a cell answers.
 use Rattle.std.specs.Prelude.{◌≡◌, ◌≢◌, ℕ, true, List, [], ◌∷◌, ◌++◌, length, map}
 use Rattle.arrayvec.specs.ArrayVec.{ArrayVec}
-use Rattle.event_log.specs.declared.object.SeqObject.{Ghosts}
-use Rattle.event_log.specs.declared.event.Steps.{Steps}
-use Rattle.event_log.specs.declared.event.Event.{Event}
-use Rattle.event_log.specs.Log.{Begins, Fulfils, of}
+use Rattle.event_log.specs.{declared.object.SeqObject.Ghosts, declared.event.Steps.Steps, declared.event.Event.Event, Log.{Begins, Fulfils, of}}
 use Rattle.word_rule.specs.Cell.{PassView, Lawful, Grows, OwnsAll}
 
 -- the caller didn't get the object, and did nothing; nobody has it else who owns every number

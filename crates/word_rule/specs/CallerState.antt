@@ -1,15 +1,7 @@
 -- Where a caller stands at a cell, and what each kind of step does with it.
 use Rattle.std.specs.Prelude.{◌≡◌, ℕ, ◌<◌, true, false, List, [], ◌++◌, Option, Some, None}
-use Rattle.event_log.specs.declared.object.SeqObject.{Ghosts}
-use Rattle.event_log.specs.declared.event.Event.{Event}
-use Rattle.event_log.specs.History.{History}
-use Rattle.word_rule.specs.declared.machine.step_done.StepDone.{StepDone}
-use Rattle.word_rule.specs.declared.lock_kind.Stage.{Stage}
-use Rattle.word_rule.specs.declared.view.TraceStep.{TraceStep}
-use Rattle.word_rule.specs.Cell.{Caller, Grows, Lawful, OwnsAll, stored}
-use Rattle.word_rule.specs.Locks.{holding}
-use Rattle.word_rule.specs.LockRuns.{Extends, ExtendsUntil}
-use Rattle.word_rule.specs.OneHold.{leaving, silently}
+use Rattle.event_log.specs.{declared.object.SeqObject.Ghosts, declared.event.Event.Event, History.History}
+use Rattle.word_rule.specs.{declared.machine.step_done.StepDone.StepDone, declared.lock_kind.Stage.Stage, declared.view.TraceStep.TraceStep, Cell.{Caller, Grows, Lawful, OwnsAll, stored}, Locks.holding, LockRuns.{Extends, ExtendsUntil}, OneHold.{leaving, silently}}
 
 -- a caller, where it stands, the log and the run that it has seen, and the stored history while it has the object
 pub record CallerState (O P C R : Type 0) : Type 0 where

@@ -1,11 +1,6 @@
 -- Cells, and what their passes and holds know.
-use Rattle.std.specs.Prelude.{◌≡◌, ℕ, ◌<◌, ◌≤◌, Bool, true, ◌==◌, ◌||◌, List, length, drop, Some}
-use Rattle.std.specs.List.{AllByRecursion, slice_get}
-use Rattle.event_log.specs.declared.object.SeqObject.{Ghosts}
-use Rattle.event_log.specs.declared.event.Event.{Event}
-use Rattle.event_log.specs.declared.event.Steps.{Steps}
-use Rattle.event_log.specs.Log.{Begins, Legal, after, replay, of}
-use Rattle.event_log.specs.History.{History, with_event}
+use Rattle.std.specs.{Prelude.{◌≡◌, ℕ, ◌<◌, ◌≤◌, Bool, true, ◌==◌, ◌||◌, List, length, drop, Some}, List.{AllByRecursion, slice_get}}
+use Rattle.event_log.specs.{declared.object.SeqObject.Ghosts, declared.event.Event.Event, declared.event.Steps.Steps, Log.{Begins, Legal, after, replay, of}, History.{History, with_event}}
 use Rattle.sound_run.specs.declared.lock_kind.LockKind.{LockKind}
 
 -- what was fixed when a cell was opened; a ticket lock serves the first ticket first; its CPUs are the numbers below `numbers`

@@ -1,12 +1,7 @@
 -- Holds in which calls are done, one hold for each list of calls: what each leaves in the log.
 use Rattle.std.specs.Prelude.{◌≡◌, ◌⊎◌, ℕ, List, [], ◌∷◌, ◌++◌, length}
-use Rattle.event_log.specs.declared.object.SeqObject.{Ghosts}
-use Rattle.event_log.specs.declared.event.Event.{Event}
-use Rattle.event_log.specs.Log.{Fulfils}
-use Rattle.word_rule.specs.declared.view.TraceStep.{TraceStep}
-use Rattle.word_rule.specs.Cell.{Caller}
-use Rattle.word_rule.specs.LockRuns.{Extends, events_in}
-use Rattle.word_rule.specs.OneHold.{HasHeld}
+use Rattle.event_log.specs.{declared.object.SeqObject.Ghosts, declared.event.Event.Event, Log.Fulfils}
+use Rattle.word_rule.specs.{declared.view.TraceStep.TraceStep, Cell.Caller, LockRuns.{Extends, events_in}, OneHold.HasHeld}
 
 module _ {O P C R : Type 0} (meaning : Ghosts O P C R) where
   -- what a hold of these calls leaves in a log that has come so far: their steps as one event, or none where the log is full

@@ -1,8 +1,8 @@
 -- What the words of each lock are called, where they are shown.
 use Rattle.std.specs.Prelude.{ℕ, List, [], ◌∷◌, map, codes}
 use Rattle.word_rule.specs.declared.labels.Labels.{Labels}
-use Rattle.word_rule.specs.declared.labels.Labels.TheVariants as labels
 use Rattle.sound_run.specs.declared.lock_kind.LockKind.{LockKind}
+use Rattle.word_rule.specs.declared.labels.Labels.TheVariants as labels
 use Rattle.sound_run.specs.declared.lock_kind.LockKind.TheVariants as kinds
 
 -- the names of one word's high and low half; or of the first word, and of each group of words behind it

@@ -1,9 +1,7 @@
 -- What a lock is: the record that each lock gives one value of.
 use Rattle.std.specs.Prelude.{◌≡◌, ℕ, ◌<◌, Bool, true, List, length}
 use Rattle.event_log.specs.Distinct.{AreDistinctBelow}
-use Rattle.word_rule.specs.declared.machine.step_done.StepDone.{StepDone}
-use Rattle.word_rule.specs.declared.lock_kind.Stage.{Stage}
-use Rattle.word_rule.specs.Line.{Line, empty_line}
+use Rattle.word_rule.specs.{declared.machine.step_done.StepDone.StepDone, declared.lock_kind.Stage.Stage, Line.{Line, empty_line}}
 
 -- a lock: its line, and what it has beside
 pub record LockState (Extra : Type 0) : Type 0 where

@@ -1,13 +1,7 @@
 -- The run of a cell's lock: who did which step, in order, and the events that each step left in the log.
-use Rattle.std.specs.Prelude.{◌≡◌, ℕ, ◌<◌, Bool, true, false, cond, ◌==◌, List, [], ◌∷◌, ◌++◌, map}
-use Rattle.std.specs.List.{AllByRecursion, filter}
-use Rattle.event_log.specs.declared.event.Event.{Event}
-use Rattle.event_log.specs.Log.{Begins}
-use Rattle.word_rule.specs.declared.machine.step_done.StepDone.{StepDone}
-use Rattle.word_rule.specs.declared.view.TraceStep.{TraceStep}
-use Rattle.word_rule.specs.Cell.{Cell}
-use Rattle.word_rule.specs.Locks.{Lock, Fits, opening_lock, turn}
-use Rattle.word_rule.specs.StepKinds.{ends_hold, arrives}
+use Rattle.std.specs.{Prelude.{◌≡◌, ℕ, ◌<◌, Bool, true, false, cond, ◌==◌, List, [], ◌∷◌, ◌++◌, map}, List.{AllByRecursion, filter}}
+use Rattle.event_log.specs.{declared.event.Event.Event, Log.Begins}
+use Rattle.word_rule.specs.{declared.machine.step_done.StepDone.StepDone, declared.view.TraceStep.TraceStep, Cell.Cell, Locks.{Lock, Fits, opening_lock, turn}, StepKinds.{ends_hold, arrives}}
 
 module _ {E : Type 0} where
   -- the steps of that CPU, in order

@@ -1,13 +1,8 @@
 -- Which locks there are, and what all else takes of a lock.
 use Rattle.std.specs.Prelude.{◌≡◌, ℕ, ◌||◌, Bool, true, List}
 use Rattle.sound_run.specs.declared.lock_kind.LockKind.{LockKind}
+use Rattle.word_rule.specs.{declared.machine.step_done.StepDone.StepDone, declared.lock_kind.Stage.Stage, Line.Line, LockDefinition.{LockDefinition, LockState, IsState, opening_state}, Mcs.Definition.mcs_lock, Ticket.Definition.ticket_lock}
 use Rattle.sound_run.specs.declared.lock_kind.LockKind.TheVariants as kinds
-use Rattle.word_rule.specs.declared.machine.step_done.StepDone.{StepDone}
-use Rattle.word_rule.specs.declared.lock_kind.Stage.{Stage}
-use Rattle.word_rule.specs.Line.{Line}
-use Rattle.word_rule.specs.LockDefinition.{LockDefinition, LockState, IsState, opening_state}
-use Rattle.word_rule.specs.Mcs.Definition.{mcs_lock}
-use Rattle.word_rule.specs.Ticket.Definition.{ticket_lock}
 
 -- one line for each lock
 abbrev pub definition_of : LockKind → LockDefinition

@@ -1,14 +1,8 @@
 -- The steps of one hold: those by which a CPU gets the object, and those by which it gives it back.
-use Rattle.std.specs.Prelude.{◌≡◌, ℕ, ◌-◌, ◌^◌, ◌≤◌, min, Bool, true, false, List, [], ◌∷◌, ◌++◌, map, length}
-use Rattle.std.specs.List.{filter}
-use Rattle.event_log.specs.declared.event.Event.{Event}
-use Rattle.event_log.specs.Log.{Begins}
-use Rattle.word_rule.specs.declared.machine.step_done.StepDone.{StepDone}
+use Rattle.std.specs.{Prelude.{◌≡◌, ℕ, ◌-◌, ◌^◌, ◌≤◌, min, Bool, true, false, List, [], ◌∷◌, ◌++◌, map, length}, List.filter}
+use Rattle.event_log.specs.{declared.event.Event.Event, Log.Begins}
+use Rattle.word_rule.specs.{declared.machine.step_done.StepDone.StepDone, declared.view.TraceStep.TraceStep, Cell.{Caller, HoldView}, LockRuns.{Extends, ExtendsUntil, HasRun, events_in}, StepKinds.{arrives, ends_hold, is_look}}
 use Rattle.word_rule.specs.declared.machine.step_done.StepDone.TheVariants as steps
-use Rattle.word_rule.specs.declared.view.TraceStep.{TraceStep}
-use Rattle.word_rule.specs.Cell.{Caller, HoldView}
-use Rattle.word_rule.specs.LockRuns.{Extends, ExtendsUntil, HasRun, events_in}
-use Rattle.word_rule.specs.StepKinds.{arrives, ends_hold, is_look}
 
 -- the steps by which a CPU gets the object
 abbrev pub gets_object : StepDone → Bool

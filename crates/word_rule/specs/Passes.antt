@@ -1,17 +1,7 @@
 -- What contracts say of a cell's passes and holds, whichever lock the cell has.
-use Rattle.std.specs.Prelude.{List}
-use Rattle.std.specs.declared.cmp.PartialEq.{Ghosts as Eq}
-use Rattle.std.specs.declared.default.Default.{Ghosts as Default}
-use Rattle.event_log.specs.declared.event.Event.{Event}
-use Rattle.event_log.specs.declared.object.SeqObject.{Ghosts}
-use Rattle.word_rule.specs.declared.lock_kind.Stage.TheVariants.{Idle}
-use Rattle.word_rule.specs.declared.view.TraceStep.{TraceStep}
-use Rattle.word_rule.specs.declared.lock_table.LockTable.{LockTable}
-use Rattle.word_rule.specs.declared.pass.Pass.{Pass}
-use Rattle.word_rule.specs.declared.hold.Hold.{Hold}
-use Rattle.word_rule.specs.Cell.{PassView, HoldView}
-use Rattle.word_rule.specs.CallerState.{CallerState}
-use Rattle.word_rule.specs.Sides.{IsOutsideAt, IsInsideAt, view_of_outside, view_of_inside, state_outside, state_inside}
+use Rattle.std.specs.{Prelude.List, declared.cmp.PartialEq.{Ghosts as Eq}, declared.default.Default.{Ghosts as Default}}
+use Rattle.event_log.specs.{declared.event.Event.Event, declared.object.SeqObject.Ghosts}
+use Rattle.word_rule.specs.{declared.lock_kind.Stage.TheVariants.Idle, declared.view.TraceStep.TraceStep, declared.lock_table.LockTable.LockTable, declared.pass.Pass.Pass, declared.hold.Hold.Hold, Cell.{PassView, HoldView}, CallerState.CallerState, Sides.{IsOutsideAt, IsInsideAt, view_of_outside, view_of_inside, state_outside, state_inside}}
 
 -- The types of callers are over all that an object is bound by.
 module _ {O P C R : Type 0} {g : Ghosts O P C R} {call_eq : Eq C} {call_default : Default C} {reply_eq : Eq R} {reply_default : Default R} where

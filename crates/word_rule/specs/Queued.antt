@@ -1,13 +1,8 @@
 -- What a caller in line does from there on, until it has the object.
 use Rattle.std.specs.Prelude.{◌≡◌, ℕ, List, [], ◌∷◌, ◌++◌, true}
 use Rattle.event_log.specs.declared.event.Event.{Event}
-use Rattle.word_rule.specs.declared.machine.step_done.StepDone.{StepDone}
+use Rattle.word_rule.specs.{declared.machine.step_done.StepDone.StepDone, declared.view.TraceStep.TraceStep, CallerState.CallerState, LockRuns.{Extends, events_in}, OneHold.{gets_object, how_many, looks_in, silently}, StepKinds.{arrives, ends_hold}}
 use Rattle.word_rule.specs.declared.machine.step_done.StepDone.TheVariants as steps
-use Rattle.word_rule.specs.declared.view.TraceStep.{TraceStep}
-use Rattle.word_rule.specs.CallerState.{CallerState}
-use Rattle.word_rule.specs.LockRuns.{Extends, events_in}
-use Rattle.word_rule.specs.OneHold.{gets_object, how_many, looks_in, silently}
-use Rattle.word_rule.specs.StepKinds.{arrives, ends_hold}
 
 module _ {O P C R : Type 0} where
   -- one in line gets the object by a look, after steps by which it doesn't get it, nor arrives or ends a hold; the looks of the

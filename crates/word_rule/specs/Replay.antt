@@ -1,20 +1,8 @@
 -- A cell's run, done once more by the step machine, with one cell and for each CPU the calls that it did as its script.
-use Rattle.std.specs.Prelude.{◌≡◌, ◌≢◌, ℕ, ◌<◌, true, false, ◌==◌, if◌then◌else◌, List, [], ◌∷◌, ◌++◌, map, Option, Some, None, slice_get}
-use Rattle.std.specs.List.{range_with_len}
-use Rattle.event_log.specs.declared.object.SeqObject.{Ghosts}
-use Rattle.event_log.specs.declared.event.Event.{Event}
-use Rattle.event_log.specs.declared.entry.Todo.{Todo}
-use Rattle.word_rule.specs.declared.machine.step_done.StepDone.{StepDone}
-use Rattle.word_rule.specs.declared.view.TraceStep.{TraceStep}
-use Rattle.word_rule.specs.Cell.{Cell, Caller}
-use Rattle.word_rule.specs.Holds.{Leaves}
-use Rattle.word_rule.specs.LockRuns.{events_in, lock_after}
-use Rattle.word_rule.specs.Locks.{Lock, opening_lock}
-use Rattle.word_rule.specs.StepKinds.{ends_hold}
+use Rattle.std.specs.{Prelude.{◌≡◌, ◌≢◌, ℕ, ◌<◌, true, false, ◌==◌, if◌then◌else◌, List, [], ◌∷◌, ◌++◌, map, Option, Some, None, slice_get}, List.range_with_len}
+use Rattle.event_log.specs.{declared.object.SeqObject.Ghosts, declared.event.Event.Event, declared.entry.Todo.Todo}
+use Rattle.word_rule.specs.{declared.machine.step_done.StepDone.StepDone, declared.view.TraceStep.TraceStep, Cell.{Cell, Caller}, Holds.Leaves, LockRuns.{events_in, lock_after}, Locks.{Lock, opening_lock}, StepKinds.ends_hold, Machine.Opening.opening_cpu, Machine.SoundWorld.entries_by, Machine.World.{World, CellState, CpuState, step, run}}
 use Rattle.sound_run.specs.Sound.{done_on, steps_by}
-use Rattle.word_rule.specs.Machine.Opening.{opening_cpu}
-use Rattle.word_rule.specs.Machine.SoundWorld.{entries_by}
-use Rattle.word_rule.specs.Machine.World.{World, CellState, CpuState, step, run}
 
 module _ {O P C R : Type 0} where
   -- an entry of a script: these calls on the one cell

@@ -1,12 +1,6 @@
 -- What contracts say of a cell's caller, without the object and with it, whichever lock the cell has.
 use Rattle.event_log.specs.declared.object.SeqObject.{Ghosts}
-use Rattle.word_rule.specs.declared.lock_kind.Stage.{Stage}
-use Rattle.word_rule.specs.declared.lock_table.LockTable.{LockTable}
-use Rattle.word_rule.specs.declared.caller.Outside.{Outside}
-use Rattle.word_rule.specs.declared.caller.Inside.{Inside}
-use Rattle.word_rule.specs.Cell.{PassView, HoldView}
-use Rattle.word_rule.specs.CallerState.{CallerState}
-use Rattle.word_rule.specs.Rule.Callers.{IsAt, IsWithout, IsWith, pass_view_of, hold_view_of, state_without, state_with}
+use Rattle.word_rule.specs.{declared.lock_kind.Stage.Stage, declared.lock_table.LockTable.LockTable, declared.caller.Outside.Outside, declared.caller.Inside.Inside, Cell.{PassView, HoldView}, CallerState.CallerState, Rule.Callers.{IsAt, IsWithout, IsWith, pass_view_of, hold_view_of, state_without, state_with}}
 
 module _ {O P C R : Type 0} where
   -- it is of the cell whose table it is

@@ -2,8 +2,7 @@
 
 ghost use Rattle.std.specs.Prelude.{◌≡◌, ◌≤◌, ◌<◌, ◌↔◌, length, IsErr, IfOk, OnErr};
 ghost use Rattle.event_log.specs.Log.{answers, one_step, Fulfils};
-ghost use Rattle.word_rule.specs.Cell.{after_steps};
-ghost use Rattle.word_rule.specs.Passes.{view_of_hold, run_of_hold};
+ghost use Rattle.word_rule.specs.{Cell.after_steps, Passes.{view_of_hold, run_of_hold}};
 
 use crate::Hold;
 use event_log::{MOST_CALLS, NoRoom, SeqObject, Steps};

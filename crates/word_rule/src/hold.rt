@@ -2,8 +2,7 @@
 
 ghost use Rattle.std.specs.Prelude.{◌≡◌};
 ghost use Rattle.event_log.proofs.Props.{legal_props};
-ghost use Rattle.word_rule.specs.Sides.{StandsInside};
-ghost use Rattle.word_rule.specs.Locks.{holder};
+ghost use Rattle.word_rule.specs.{Sides.StandsInside, Locks.holder};
 
 use crate::Inside;
 use event_log::SeqObject;

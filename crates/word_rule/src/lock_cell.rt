@@ -1,13 +1,8 @@
 //! The interface of a cell behind a lock.
 
 ghost use Rattle.std.specs.Prelude.{◌≡◌, ◌<◌, ◌≤◌, ◌↔◌, ◌||◌, ℕ, List, [], min, length, IsErr, IfOk, IfErr, OnErr};
-ghost use Rattle.event_log.specs.declared.event.Event.{Event};
-ghost use Rattle.event_log.specs.Log.{answers, one_step, Fulfils};
-ghost use Rattle.word_rule.specs.Answered.{IsBusy};
-ghost use Rattle.word_rule.specs.Cell.{PassView, HoldView, Grows, IsPassView, IsHoldView, OwnsAll, after_steps, stored};
-ghost use Rattle.word_rule.specs.declared.view.TraceStep.{TraceStep};
-ghost use Rattle.word_rule.specs.LockRuns.{Extends, HasRun, endings_in, arrivals_in};
-ghost use Rattle.word_rule.specs.OneHold.{HasAcquired, HasAcquiredAtOnce, HasReleased, IsUnderHold};
+ghost use Rattle.event_log.specs.{declared.event.Event.Event, Log.{answers, one_step, Fulfils}};
+ghost use Rattle.word_rule.specs.{Answered.IsBusy, Cell.{PassView, HoldView, Grows, IsPassView, IsHoldView, OwnsAll, after_steps, stored}, declared.view.TraceStep.TraceStep, LockRuns.{Extends, HasRun, endings_in, arrivals_in}, OneHold.{HasAcquired, HasAcquiredAtOnce, HasReleased, IsUnderHold}};
 
 use event_log::{Logged, MOST_CALLS, NoRoom, SeqObject, Steps};
 use std::sync::Wait;

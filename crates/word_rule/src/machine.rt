@@ -1,19 +1,14 @@
 //! The pure step machine: cells of any kind under any schedule, one atomic step at a time.
 
-ghost use Rattle.std.specs.Prelude.{◌≡◌, ◌<◌, ◌≤◌, [], All, length, map, vec_len, Some, slice_get, IfOk, IfErr};
-ghost use Rattle.std.specs.List.{AllByRecursion};
-ghost use Rattle.word_rule.specs.Machine.Opening.{opening_world, IsOpening};
-ghost use Rattle.word_rule.specs.Machine.Shown.{Represents, Runs, Follows, HasWords, AreStored, opened_by};
-ghost use Rattle.sound_run.specs.Orders.{HasOrder};
-ghost use Rattle.sound_run.specs.Sound.{Sound};
-ghost use Rattle.word_rule.specs.Machine.SoundWorld.{IsTodo};
-ghost use Rattle.word_rule.specs.Machine.World.{World, step, run, run_of};
+ghost use Rattle.std.specs.{Prelude.{◌≡◌, ◌<◌, ◌≤◌, [], All, length, map, vec_len, Some, slice_get, IfOk, IfErr}, List.AllByRecursion};
+ghost use Rattle.word_rule.specs.{Machine.Opening.{opening_world, IsOpening}, Machine.Shown.{Represents, Runs, Follows, HasWords, AreStored, opened_by}, Machine.SoundWorld.IsTodo, Machine.World.{World, step, run, run_of}};
+ghost use Rattle.sound_run.specs.{Orders.HasOrder, Sound.Sound};
 
 mod cell_spec;
 mod hold;
-mod machine_laws;
 mod lock_words;
 mod logs;
+mod machine_laws;
 mod mcs;
 mod progress;
 mod room;

@@ -2,13 +2,7 @@
 
 ghost use Rattle.std.specs.Prelude.{◌≡◌, ◌<◌, ◌≤◌, [], ◌∷◌, length, IfOk, IfErr, Some, vec_len, vec_capacity};
 ghost use Rattle.atomic_table.specs.Table.{opening};
-ghost use Rattle.word_rule.specs.Cell.{Lawful, EachAt, OwnsAll, cell_of, opening_pass, first_pass, stored};
-ghost use Rattle.word_rule.specs.LockRuns.{endings_in, arrivals_in};
-ghost use Rattle.word_rule.specs.Locks.{Fits, opening_lock};
-ghost use Rattle.word_rule.specs.Rule.CellInvariant.{CellInvariant};
-ghost use Rattle.word_rule.specs.Rule.LockStates.{IsLockOf};
-ghost use Rattle.word_rule.specs.Passes.{IsPassAt, view_of_pass, run_of_pass};
-ghost use Rattle.word_rule.specs.Rule.Seats.{first_view};
+ghost use Rattle.word_rule.specs.{Cell.{Lawful, EachAt, OwnsAll, cell_of, opening_pass, first_pass, stored}, LockRuns.{endings_in, arrivals_in}, Locks.{Fits, opening_lock}, Rule.CellInvariant.CellInvariant, Rule.LockStates.IsLockOf, Passes.{IsPassAt, view_of_pass, run_of_pass}, Rule.Seats.first_view};
 
 use crate::{Cpu, Key, LockTable, Outside, Pass, Seat};
 use atomic_table::{Refused, Table};

@@ -1,9 +1,7 @@
 //! Callers that meet, whichever lock their cell has.
 
 ghost use Rattle.std.specs.Prelude.{◌≡◌, ℕ, ◌<◌, ◌||◌, min, []};
-ghost use Rattle.word_rule.specs.Cell.{Grows};
-ghost use Rattle.word_rule.specs.LockRuns.{Extends};
-ghost use Rattle.word_rule.specs.Passes.{IsPassAt, IsHoldAt, view_of_pass, run_of_pass};
+ghost use Rattle.word_rule.specs.{Cell.Grows, LockRuns.Extends, Passes.{IsPassAt, IsHoldAt, view_of_pass, run_of_pass}};
 
 use crate::{Cpu, Hold, LockTable, Meet, Merge, Pass, ReturnSlot, SecondHolder, SplitOrJoin};
 use event_log::SeqObject;

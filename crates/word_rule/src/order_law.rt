@@ -1,13 +1,8 @@
 //! In what order holds end and events come on a cell, on a function without effect.
 
 ghost use Rattle.std.specs.Prelude.{◌≡◌, ℕ, ◌<◌, ◌≤◌, List, map, drop, length};
-ghost use Rattle.event_log.specs.declared.entry.Todo.{Todo};
-ghost use Rattle.event_log.specs.declared.event.Event.{Event};
-ghost use Rattle.event_log.specs.Log.{Begins};
-ghost use Rattle.word_rule.specs.declared.view.TraceStep.{TraceStep};
-ghost use Rattle.word_rule.specs.Cell.{Cell};
-ghost use Rattle.word_rule.specs.LockRuns.{HasRun, endings_in, arrivals_in};
-ghost use Rattle.word_rule.specs.Replay.{AllDoRun};
+ghost use Rattle.event_log.specs.{declared.entry.Todo.Todo, declared.event.Event.Event, Log.Begins};
+ghost use Rattle.word_rule.specs.{declared.view.TraceStep.TraceStep, Cell.Cell, LockRuns.{HasRun, endings_in, arrivals_in}, Replay.AllDoRun};
 
 use event_log::SeqObject;
 

@@ -1,7 +1,6 @@
 //! The moves of a cell's seats that are the same at every lock.
 
-ghost use Rattle.word_rule.specs.Rule.Seats.{taken_in, spent, keeping, letting};
-ghost use Rattle.word_rule.specs.Rule.Announced.{meets, joins, returns_slot, second_holder};
+ghost use Rattle.word_rule.specs.{Rule.Seats.{taken_in, spent, keeping, letting}, Rule.Announced.{meets, joins, returns_slot, second_holder}};
 
 use crate::{Key, View};
 use atomic_table::{Join, Play, Split};

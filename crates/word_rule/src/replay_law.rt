@@ -1,14 +1,8 @@
 //! What threads did on a cell is a run of the step machine with their calls as scripts, on functions without effect.
 
 ghost use Rattle.std.specs.Prelude.{◌≡◌, ℕ, true, ◌≤◌, [], ◌++◌, List, length};
-ghost use Rattle.event_log.specs.declared.entry.Todo.{Todo};
-ghost use Rattle.event_log.specs.declared.event.Event.{Event};
-ghost use Rattle.event_log.specs.Log.{Legal};
-ghost use Rattle.word_rule.specs.declared.view.TraceStep.{TraceStep};
-ghost use Rattle.word_rule.specs.Cell.{Cell, Caller};
-ghost use Rattle.word_rule.specs.Holds.{HasHeldEach};
-ghost use Rattle.word_rule.specs.LockRuns.{HasRun};
-ghost use Rattle.word_rule.specs.Replay.{AllDoRun, DoesRun, IsReplay, entries_for};
+ghost use Rattle.event_log.specs.{declared.entry.Todo.Todo, declared.event.Event.Event, Log.Legal};
+ghost use Rattle.word_rule.specs.{declared.view.TraceStep.TraceStep, Cell.{Cell, Caller}, Holds.HasHeldEach, LockRuns.HasRun, Replay.{AllDoRun, DoesRun, IsReplay, entries_for}};
 
 use event_log::SeqObject;
 

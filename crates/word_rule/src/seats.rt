@@ -1,8 +1,7 @@
 //! Seats that take in one another's callers, and let them go: moves of the table, which change no word.
 
 ghost use Rattle.std.specs.Prelude.{◌≡◌, ◌<◌};
-ghost use Rattle.word_rule.specs.Rule.Operations.{AreBeside, HasLetGo, Stepped};
-ghost use Rattle.word_rule.specs.Rule.Seats.{taken_in};
+ghost use Rattle.word_rule.specs.{Rule.Operations.{AreBeside, HasLetGo, Stepped}, Rule.Seats.taken_in};
 
 use crate::{LockTable, Seat, SplitOrJoin};
 use event_log::SeqObject;

@@ -1,8 +1,7 @@
 //! Cells of both kinds: whole calls, tries, several groups under one hold, and two threads.
 
 ghost use Rattle.std.specs.Prelude.{◌≡◌, [], IfOk};
-ghost use Rattle.word_rule.specs.Cell.{OwnTogether};
-ghost use Rattle.word_rule.specs.Passes.{view_of_pass, run_of_pass};
+ghost use Rattle.word_rule.specs.{Cell.OwnTogether, Passes.{view_of_pass, run_of_pass}};
 ghost use Rattle.guarded_cell.specs.Kinds.{IsPassOf};
 
 use crate::locks::calls_in_turn;

@@ -18,8 +18,7 @@ pub struct ReferenceConsole {
 }
 
 impl Model for ReferenceConsole {
-    ghost use Rattle.std.specs.Prelude.{◌<◌, ◌≤◌, ◌^◌, length};
-    ghost use Rattle.std.specs.VecDeque.{deque_capacity};
+    ghost use Rattle.std.specs.{Prelude.{◌<◌, ◌≤◌, ◌^◌, length}, VecDeque.deque_capacity};
     ghost use Rattle.console_ring.specs.State.{ConsoleState};
 
     ghost Value = { ConsoleState };

@@ -1,8 +1,7 @@
 //! A page pool, once more.
 
 ghost use Rattle.std.specs.Prelude.{◌≡◌, ◌≤◌, nat_le};
-ghost use Rattle.page_pool.specs.Table.{left_of, least_free, held_by, quota_of};
-ghost use Rattle.page_pool.specs.Answer.{alloc_answer, free_answer};
+ghost use Rattle.page_pool.specs.{Table.{left_of, least_free, held_by, quota_of}, Answer.{alloc_answer, free_answer}};
 
 use crate::ReferenceObject;
 use event_log::OutOfMemory;
@@ -23,8 +22,7 @@ pub struct ReferencePool {
 
 impl Model for ReferencePool {
     ghost use Rattle.std.specs.Prelude.{◌≡◌, ◌<◌, ◌≤◌, ◌^◌, length};
-    ghost use Rattle.page_pool.specs.State.{PoolState};
-    ghost use Rattle.page_pool.specs.Table.{left_of};
+    ghost use Rattle.page_pool.specs.{State.PoolState, Table.left_of};
     ghost use Rattle.auditor.specs.Pages.{AreTakenBelow, AreCounted};
 
     ghost Value = { PoolState };

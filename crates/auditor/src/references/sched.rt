@@ -1,8 +1,6 @@
 //! A scheduler, once more.
 
-ghost use Rattle.std.specs.Prelude.{◌≡◌, ◌≤◌, ◌+◌, ◌++◌, IfOk, [], map, replicate, length};
-ghost use Rattle.std.specs.List.{All};
-ghost use Rattle.std.specs.VecDeque.{deque_len, deque_capacity};
+ghost use Rattle.std.specs.{Prelude.{◌≡◌, ◌≤◌, ◌+◌, ◌++◌, IfOk, [], map, replicate, length}, List.All, VecDeque.{deque_len, deque_capacity}};
 ghost use Rattle.wake_list.specs.Answer.{ready_answer, next_answer, sleep_answer, wake_answer, wake_all_answer};
 
 use crate::ReferenceObject;
@@ -22,9 +20,7 @@ pub struct ReferenceSched {
 }
 
 impl Model for ReferenceSched {
-    ghost use Rattle.std.specs.Prelude.{◌<◌, ◌≤◌, ◌^◌, ◌++◌, map, length};
-    ghost use Rattle.std.specs.List.{All, concat};
-    ghost use Rattle.std.specs.VecDeque.{deque_capacity};
+    ghost use Rattle.std.specs.{Prelude.{◌<◌, ◌≤◌, ◌^◌, ◌++◌, map, length}, List.{All, concat}, VecDeque.deque_capacity};
     ghost use Rattle.wake_list.specs.State.{SchedState};
     ghost use Rattle.auditor.specs.Marks.{AreMarked};
 

@@ -1,5 +1,4 @@
-use denote.Exit.{yes}
-use denote.Param.Send.{param_send, arg_send}
+use denote.{Exit.yes, Param.Send.{param_send, arg_send}}
 use Rattle.std.proofs.Common.{rules, ◌≡◌, Some, slice_get, ap, ◌∙◌}
 use Rattle.word_rule.specs.Passes.{view_of_pass}
 use Rattle.word_rule.proofs.Owners.{own_both}

@@ -1,18 +1,10 @@
 -- Which kinds there are, and what all else takes of a kind.
 use Rattle.std.specs.Prelude.{List, [], ◌∷◌}
-use Rattle.kernel_object.specs.declared.kind.Kind.{Kind}
+use Rattle.kernel_object.specs.{declared.kind.Kind.Kind, declared.call.KParams.KParams, declared.call.KCall.KCall, declared.object.KernelObject.KernelObject, Kinds.Definition.KindDefinition, Kinds.Queue.queue_kind, Kinds.Pool.pool_kind, Kinds.Console.console_kind, Kinds.Sched.sched_kind}
 use Rattle.kernel_object.specs.declared.kind.Kind.TheVariants as kinds
-use Rattle.kernel_object.specs.declared.call.KParams.{KParams}
 use Rattle.kernel_object.specs.declared.call.KParams.TheVariants as Params
-use Rattle.kernel_object.specs.declared.call.KCall.{KCall}
 use Rattle.kernel_object.specs.declared.call.KCall.TheVariants as Call
-use Rattle.kernel_object.specs.declared.object.KernelObject.{KernelObject}
 use Rattle.kernel_object.specs.declared.object.KernelObject.TheVariants as Object
-use Rattle.kernel_object.specs.Kinds.Definition.{KindDefinition}
-use Rattle.kernel_object.specs.Kinds.Queue.{queue_kind}
-use Rattle.kernel_object.specs.Kinds.Pool.{pool_kind}
-use Rattle.kernel_object.specs.Kinds.Console.{console_kind}
-use Rattle.kernel_object.specs.Kinds.Sched.{sched_kind}
 
 -- one line for each kind, here and below
 abbrev pub definition_of : Kind → KindDefinition

@@ -1,13 +1,9 @@
 -- A console, as one record.
 use Rattle.std.specs.Prelude.{ℕ, codes}
+use Rattle.console_ring.specs.{Answer.console_answer, declared.call.ConsoleCall.ConsoleCall, declared.call.ConsoleReply.ConsoleReply}
+use Rattle.kernel_object.specs.{declared.call.KReply.KReply, declared.call.KReply.TheVariants.{Ok, Empty, Count, Dropped, Byte}, Kinds.Definition.KindDefinition}
 use Rattle.console_ring.specs.State as state
-use Rattle.console_ring.specs.Answer.{console_answer}
-use Rattle.console_ring.specs.declared.call.ConsoleCall.{ConsoleCall}
-use Rattle.console_ring.specs.declared.call.ConsoleReply.{ConsoleReply}
 use Rattle.console_ring.specs.declared.call.ConsoleReply.TheVariants as Console
-use Rattle.kernel_object.specs.declared.call.KReply.{KReply}
-use Rattle.kernel_object.specs.declared.call.KReply.TheVariants.{Ok, Empty, Count, Dropped, Byte}
-use Rattle.kernel_object.specs.Kinds.Definition.{KindDefinition}
 
 -- a console's reply, as the reply with its text
 abbrev pub of_console : ConsoleReply → KReply

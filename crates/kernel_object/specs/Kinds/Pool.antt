@@ -1,14 +1,9 @@
 -- A pool of pages, as one record.
 use Rattle.std.specs.Prelude.{codes}
+use Rattle.page_pool.specs.{Answer.pool_answer, declared.call.PoolCall.PoolCall, declared.call.PoolReply.PoolReply, declared.params.PoolParams.PoolParams}
+use Rattle.kernel_object.specs.{declared.call.KReply.KReply, declared.call.KReply.TheVariants.{Ok, Count, Page, NoPage, OverQuota, BadOwner, NotYours, NotTaken, BadPage}, Kinds.Definition.KindDefinition}
 use Rattle.page_pool.specs.State as state
-use Rattle.page_pool.specs.Answer.{pool_answer}
-use Rattle.page_pool.specs.declared.call.PoolCall.{PoolCall}
-use Rattle.page_pool.specs.declared.call.PoolReply.{PoolReply}
 use Rattle.page_pool.specs.declared.call.PoolReply.TheVariants as Pool
-use Rattle.page_pool.specs.declared.params.PoolParams.{PoolParams}
-use Rattle.kernel_object.specs.declared.call.KReply.{KReply}
-use Rattle.kernel_object.specs.declared.call.KReply.TheVariants.{Ok, Count, Page, NoPage, OverQuota, BadOwner, NotYours, NotTaken, BadPage}
-use Rattle.kernel_object.specs.Kinds.Definition.{KindDefinition}
 
 -- a page pool's reply, as the reply with its text
 abbrev pub of_pool : PoolReply → KReply

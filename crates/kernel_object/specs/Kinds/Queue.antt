@@ -1,13 +1,9 @@
 -- A queue of threads, as one record.
 use Rattle.std.specs.Prelude.{ℕ, codes}
+use Rattle.shared_queue.specs.{Answer.queue_answer, declared.call.QueueCall.QueueCall, declared.call.QueueReply.QueueReply}
+use Rattle.kernel_object.specs.{declared.call.KReply.KReply, declared.call.KReply.TheVariants.{Ok, Already, BadThread, Thread, Empty, Absent, Count}, Kinds.Definition.KindDefinition}
 use Rattle.shared_queue.specs.State as state
-use Rattle.shared_queue.specs.Answer.{queue_answer}
-use Rattle.shared_queue.specs.declared.call.QueueCall.{QueueCall}
-use Rattle.shared_queue.specs.declared.call.QueueReply.{QueueReply}
 use Rattle.shared_queue.specs.declared.call.QueueReply.TheVariants as Queue
-use Rattle.kernel_object.specs.declared.call.KReply.{KReply}
-use Rattle.kernel_object.specs.declared.call.KReply.TheVariants.{Ok, Already, BadThread, Thread, Empty, Absent, Count}
-use Rattle.kernel_object.specs.Kinds.Definition.{KindDefinition}
 
 -- a queue's reply, as the reply with its text
 abbrev pub of_queue : QueueReply → KReply

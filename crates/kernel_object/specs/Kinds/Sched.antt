@@ -1,14 +1,9 @@
 -- A scheduler, as one record.
 use Rattle.std.specs.Prelude.{codes}
+use Rattle.wake_list.specs.{Answer.sched_answer, declared.call.SchedCall.SchedCall, declared.call.SchedReply.SchedReply, declared.sched.SchedParams.SchedParams}
+use Rattle.kernel_object.specs.{declared.call.KReply.KReply, declared.call.KReply.TheVariants.{Ok, Already, BadThread, BadChannel, Thread, Empty, Count}, Kinds.Definition.KindDefinition}
 use Rattle.wake_list.specs.State as state
-use Rattle.wake_list.specs.Answer.{sched_answer}
-use Rattle.wake_list.specs.declared.call.SchedCall.{SchedCall}
-use Rattle.wake_list.specs.declared.call.SchedReply.{SchedReply}
 use Rattle.wake_list.specs.declared.call.SchedReply.TheVariants as Sched
-use Rattle.wake_list.specs.declared.sched.SchedParams.{SchedParams}
-use Rattle.kernel_object.specs.declared.call.KReply.{KReply}
-use Rattle.kernel_object.specs.declared.call.KReply.TheVariants.{Ok, Already, BadThread, BadChannel, Thread, Empty, Count}
-use Rattle.kernel_object.specs.Kinds.Definition.{KindDefinition}
 
 -- a scheduler's reply, as the reply with its text
 abbrev pub of_sched : SchedReply → KReply

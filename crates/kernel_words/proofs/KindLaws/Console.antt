@@ -1,21 +1,11 @@
 -- What is proved of consoles.
-use Rattle.std.proofs.Common.{◌≡◌, ℕ, ◌<◌, ◌≤◌, true, ◌&&◌, nat_le, List, [], ◌∷◌, ◌++◌, length, refl, arith, rules}
-use Rattle.std.proofs.lemmas.Bool.{and_parts, leb-true, le-leb}
+use Rattle.std.proofs.{Common.{◌≡◌, ℕ, ◌<◌, ◌≤◌, true, ◌&&◌, nat_le, List, [], ◌∷◌, ◌++◌, length, refl, arith, rules}, lemmas.Bool.{and_parts, leb-true, le-leb}}
 use Rattle.std.specs.List.{AllByRecursion}
-use Rattle.console_ring.specs.State.{ConsoleState, IsConsoleOf, is_in_range, opening_state}
-use Rattle.console_ring.specs.Answer.{console_answer}
-use Rattle.console_ring.specs.declared.call.ConsoleCall.{ConsoleCall}
-use Rattle.console_ring.specs.declared.call.ConsoleCall.TheVariants.{Put, Get, Level}
-use Rattle.console_ring.specs.declared.console.TheConstants.{MOST_BYTES}
+use Rattle.console_ring.specs.{State.{ConsoleState, IsConsoleOf, is_in_range, opening_state}, Answer.console_answer, declared.call.ConsoleCall.ConsoleCall, declared.call.ConsoleCall.TheVariants.{Put, Get, Level}, declared.console.TheConstants.MOST_BYTES}
 use Rattle.kernel_object.specs.Kinds.Console.{of_console}
-use Rattle.kernel_words.specs.Kinds.Console.{console_row, console_text}
-use Rattle.kernel_words.specs.Ranges.{reply_fits}
-use Rattle.kernel_words.specs.Row.{in_range, row_fits, byte, limit}
-use Rattle.kernel_words.proofs.KindLaws.Laws.{KindLaws, KindKeeps, all_expressed, limit_again, small_number, wide_fits}
-use Rattle.kernel_words.proofs.LogRanges.{Keeps}
-use Rattle.record_lines.proofs.Readings.{plain_decimal}
-use Rattle.record_lines.proofs.Lengths.{number_le}
-use Rattle.kernel_words.proofs.Spellings.{field_takes}
+use Rattle.kernel_words.specs.{Kinds.Console.{console_row, console_text}, Ranges.reply_fits, Row.{in_range, row_fits, byte, limit}}
+use Rattle.kernel_words.proofs.{KindLaws.Laws.{KindLaws, KindKeeps, all_expressed, limit_again, small_number, wide_fits}, LogRanges.Keeps, Spellings.field_takes}
+use Rattle.record_lines.proofs.{Readings.plain_decimal, Lengths.number_le}
 
 pub console_laws : KindLaws console_text
 console_laws = record {

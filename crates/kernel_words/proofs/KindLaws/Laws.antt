@@ -1,17 +1,11 @@
 -- What is proved of each kind: the records that each kind gives one value of.
-use Rattle.std.proofs.Common.{◌≡◌, ℕ, ◌<◌, ◌≤◌, ◌^◌, true, ◌&&◌, nat_le, Some, List, ◌∷◌, ◌++◌, length, refl, arith, decimal}
-use Rattle.std.proofs.lemmas.Bool.{and_parts, leb-true, le-leb}
+use Rattle.std.proofs.{Common.{◌≡◌, ℕ, ◌<◌, ◌≤◌, ◌^◌, true, ◌&&◌, nat_le, Some, List, ◌∷◌, ◌++◌, length, refl, arith, decimal}, lemmas.Bool.{and_parts, leb-true, le-leb}}
 use Rattle.std.specs.List.{AllByRecursion}
 use Rattle.kernel_object.specs.Kinds.Definition.{KindDefinition}
-use Rattle.kernel_words.specs.declared.form.Form.{Form}
-use Rattle.kernel_words.specs.declared.form.Form.TheVariants.{One, Two}
-use Rattle.kernel_words.specs.Kinds.Definition.{KindText, Expresses}
-use Rattle.kernel_words.specs.Ranges.{reply_fits}
-use Rattle.kernel_words.specs.Row.{in_range, row_fits, wide, limit, field_at}
+use Rattle.kernel_words.specs.{declared.form.Form.Form, declared.form.Form.TheVariants.{One, Two}, Kinds.Definition.{KindText, Expresses}, Ranges.reply_fits, Row.{in_range, row_fits, wide, limit, field_at}}
 use Rattle.record_lines.specs.Words.{IsPlain}
 use Rattle.kernel_words.proofs.LogRanges.{Keeps}
-use Rattle.record_lines.proofs.Readings.{number_at_again}
-use Rattle.record_lines.proofs.Lengths.{long}
+use Rattle.record_lines.proofs.{Readings.number_at_again, Lengths.long}
 
 -- the words are those of parameters in their ranges, which the form expresses
 pub record ReadsParams {d : KindDefinition} (t : KindText d) (form : Form) (ws : List (List ℕ)) (read : d.Params × List (List ℕ)) : Type 0 where

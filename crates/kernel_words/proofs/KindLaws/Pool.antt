@@ -1,29 +1,12 @@
 -- What is proved of pools.
-use Rattle.std.proofs.Common.{◌≡◌, ℕ, zero, suc, ◌*◌, ◌<◌, ◌≤◌, ◌^◌, ◌==◌, Bool, true, Some, List, [], ◌∷◌, ◌++◌, length, map, replicate, refl, sym, ◌∙◌, ap, subst, arith, rules, decimal, nat_le, ◌&&◌}
-use Rattle.std.proofs.lemmas.Bool.{and_parts, leb-true, le-leb, eqb-true}
-use Rattle.std.proofs.lemmas.List.Quantifiers.{position-Some}
-use Rattle.std.proofs.lemmas.List.Sums.{count_by-le-length}
-use Rattle.std.specs.Cmp.Derive.{both_true}
-use Rattle.std.specs.List.{AllByRecursion, list_all}
-use Rattle.page_pool.specs.State.{PoolState, is_in_range, opening_state}
-use Rattle.page_pool.specs.Owning.{IsPoolOf}
-use Rattle.page_pool.specs.Answer.{pool_answer}
-use Rattle.page_pool.specs.declared.call.PoolCall.{PoolCall}
-use Rattle.page_pool.specs.declared.params.PoolParams.{PoolParams}
-use Rattle.page_pool.specs.declared.params.TheConstants.{MOST_PAGES, OWNERS}
+use Rattle.std.proofs.{Common.{◌≡◌, ℕ, zero, suc, ◌*◌, ◌<◌, ◌≤◌, ◌^◌, ◌==◌, Bool, true, Some, List, [], ◌∷◌, ◌++◌, length, map, replicate, refl, sym, ◌∙◌, ap, subst, arith, rules, decimal, nat_le, ◌&&◌}, lemmas.Bool.{and_parts, leb-true, le-leb, eqb-true}, lemmas.List.Quantifiers.position-Some, lemmas.List.Sums.count_by-le-length}
+use Rattle.std.specs.{Cmp.Derive.both_true, List.{AllByRecursion, list_all}}
+use Rattle.page_pool.specs.{State.{PoolState, is_in_range, opening_state}, Owning.IsPoolOf, Answer.pool_answer, declared.call.PoolCall.PoolCall, declared.params.PoolParams.PoolParams, declared.params.TheConstants.{MOST_PAGES, OWNERS}}
 use Rattle.kernel_object.specs.Kinds.Pool.{of_pool}
-use Rattle.kernel_words.specs.declared.form.Form.{Form}
-use Rattle.kernel_words.specs.declared.form.Form.TheVariants.{One, Two}
-use Rattle.kernel_words.specs.declared.tables.field.Field.{Field}
-use Rattle.kernel_words.specs.Kinds.Definition.{Expresses}
-use Rattle.kernel_words.specs.Kinds.Pool.{quota_words, all_quotas_at, quotas_at, pool_params_at, pool_text}
-use Rattle.kernel_words.specs.Ranges.{reply_fits}
-use Rattle.kernel_words.specs.Row.{in_range, refill, limit, up_to, field_at, numbers_at}
+use Rattle.kernel_words.specs.{declared.form.Form.Form, declared.form.Form.TheVariants.{One, Two}, declared.tables.field.Field.Field, Kinds.Definition.Expresses, Kinds.Pool.{quota_words, all_quotas_at, quotas_at, pool_params_at, pool_text}, Ranges.reply_fits, Row.{in_range, refill, limit, up_to, field_at, numbers_at}}
 use Rattle.record_lines.specs.Words.{IsPlain}
-use Rattle.kernel_words.proofs.KindLaws.Laws.{KindLaws, KindKeeps, ReadsParams, limit_again, small_number, wide_fits}
-use Rattle.record_lines.proofs.Readings.{bind_some, plain_decimal}
-use Rattle.record_lines.proofs.Lengths.{long, number_le}
-use Rattle.kernel_words.proofs.Spellings.{texts, are_bounded, field_takes, numbers_take, numbers_again}
+use Rattle.kernel_words.proofs.{KindLaws.Laws.{KindLaws, KindKeeps, ReadsParams, limit_again, small_number, wide_fits}, Spellings.{texts, are_bounded, field_takes, numbers_take, numbers_again}}
+use Rattle.record_lines.proofs.{Readings.{bind_some, plain_decimal}, Lengths.{long, number_le}}
 
 -- ---- quotas
 

@@ -1,21 +1,11 @@
 -- What is proved of queues.
-use Rattle.std.proofs.Common.{◌≡◌, ℕ, ◌≤◌, true, nat_le, arith, rules}
-use Rattle.std.proofs.lemmas.Bool.{and_parts, leb-true}
+use Rattle.std.proofs.{Common.{◌≡◌, ℕ, ◌≤◌, true, nat_le, arith, rules}, lemmas.Bool.{and_parts, leb-true}}
 use Rattle.event_log.proofs.Distinct.{distinct_length}
-use Rattle.shared_queue.specs.State.{QueueState, IsQueueOf, opening_state}
-use Rattle.shared_queue.specs.Answer.{queue_answer}
-use Rattle.shared_queue.specs.declared.call.QueueCall.{QueueCall}
-use Rattle.shared_queue.specs.declared.queue.TheConstants.{MOST_THREADS}
+use Rattle.shared_queue.specs.{State.{QueueState, IsQueueOf, opening_state}, Answer.queue_answer, declared.call.QueueCall.QueueCall, declared.queue.TheConstants.MOST_THREADS}
 use Rattle.kernel_object.specs.Kinds.Queue.{of_queue}
-use Rattle.kernel_words.specs.declared.form.Form.{Form}
-use Rattle.kernel_words.specs.Kinds.Definition.{Expresses}
-use Rattle.kernel_words.specs.Kinds.Queue.{queue_text}
-use Rattle.kernel_words.specs.Ranges.{reply_fits}
-use Rattle.kernel_words.specs.Row.{limit}
-use Rattle.kernel_words.proofs.KindLaws.Laws.{KindLaws, KindKeeps, all_expressed, limit_again, small_number, wide_fits}
-use Rattle.record_lines.proofs.Readings.{plain_decimal}
-use Rattle.record_lines.proofs.Lengths.{number_le}
-use Rattle.kernel_words.proofs.Spellings.{field_takes}
+use Rattle.kernel_words.specs.{declared.form.Form.Form, Kinds.Definition.Expresses, Kinds.Queue.queue_text, Ranges.reply_fits, Row.limit}
+use Rattle.kernel_words.proofs.{KindLaws.Laws.{KindLaws, KindKeeps, all_expressed, limit_again, small_number, wide_fits}, Spellings.field_takes}
+use Rattle.record_lines.proofs.{Readings.plain_decimal, Lengths.number_le}
 
 pub queue_expressed : (form : Form) (t : ℕ) → Expresses queue_text form t
 queue_expressed form t = all_expressed queue_text (λ p. tt) form t

@@ -1,27 +1,13 @@
 -- What is proved of schedulers.
-use Rattle.std.proofs.Common.{◌≡◌, ℕ, ◌<◌, ◌≤◌, true, false, Bool, if◌then◌else◌, ◌&&◌, nat_le, Some, List, [], ◌∷◌, length, length-append, append_assoc, refl, ap, subst, ◌∙◌, arith, rules, decimal}
-use Rattle.std.proofs.lemmas.Bool.{and_parts}
-use Rattle.std.specs.Cmp.Derive.{both_true}
-use Rattle.std.specs.List.{concat}
+use Rattle.std.proofs.{Common.{◌≡◌, ℕ, ◌<◌, ◌≤◌, true, false, Bool, if◌then◌else◌, ◌&&◌, nat_le, Some, List, [], ◌∷◌, length, length-append, append_assoc, refl, ap, subst, ◌∙◌, arith, rules, decimal}, lemmas.Bool.and_parts}
+use Rattle.std.specs.{Cmp.Derive.both_true, List.concat}
 use Rattle.event_log.specs.Distinct.{AreDistinctBelow}
 use Rattle.event_log.proofs.Distinct.{distinct_length, distinct_rest}
-use Rattle.wake_list.specs.State.{SchedState, held, IsSchedOf, is_in_range, opening_state}
-use Rattle.wake_list.specs.Answer.{sched_answer, woken_answer, sleepers}
-use Rattle.wake_list.specs.declared.call.SchedCall.{SchedCall}
-use Rattle.wake_list.specs.declared.call.SchedCall.TheVariants.{Ready, Next, Sleep, Wake, WakeAll}
-use Rattle.wake_list.specs.declared.call.SchedReply.{SchedReply}
-use Rattle.wake_list.specs.declared.call.SchedReply.TheVariants.{BadChannel}
-use Rattle.wake_list.specs.declared.sched.SchedParams.{SchedParams}
-use Rattle.wake_list.specs.declared.sched.TheConstants.{MOST_THREADS, MOST_CHANNELS}
+use Rattle.wake_list.specs.{State.{SchedState, held, IsSchedOf, is_in_range, opening_state}, Answer.{sched_answer, woken_answer, sleepers}, declared.call.SchedCall.SchedCall, declared.call.SchedCall.TheVariants.{Ready, Next, Sleep, Wake, WakeAll}, declared.call.SchedReply.SchedReply, declared.call.SchedReply.TheVariants.BadChannel, declared.sched.SchedParams.SchedParams, declared.sched.TheConstants.{MOST_THREADS, MOST_CHANNELS}}
 use Rattle.kernel_object.specs.Kinds.Sched.{of_sched}
-use Rattle.kernel_words.specs.declared.form.Form.{Form}
-use Rattle.kernel_words.specs.Kinds.Sched.{sched_params_at, sched_text}
-use Rattle.kernel_words.specs.Ranges.{reply_fits}
-use Rattle.kernel_words.specs.Row.{limit, field_at}
-use Rattle.kernel_words.proofs.KindLaws.Laws.{KindLaws, KindKeeps, ReadsParams, all_expressed, limit_again, small_number, wide_fits}
-use Rattle.record_lines.proofs.Readings.{bind_some, plain_decimal}
-use Rattle.record_lines.proofs.Lengths.{number_le}
-use Rattle.kernel_words.proofs.Spellings.{field_takes}
+use Rattle.kernel_words.specs.{declared.form.Form.Form, Kinds.Sched.{sched_params_at, sched_text}, Ranges.reply_fits, Row.{limit, field_at}}
+use Rattle.kernel_words.proofs.{KindLaws.Laws.{KindLaws, KindKeeps, ReadsParams, all_expressed, limit_again, small_number, wide_fits}, Spellings.field_takes}
+use Rattle.record_lines.proofs.{Readings.{bind_some, plain_decimal}, Lengths.number_le}
 
 -- ---- parameters
 

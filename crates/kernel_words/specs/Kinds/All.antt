@@ -1,12 +1,7 @@
 -- How each kind is spelled.
-use Rattle.kernel_object.specs.declared.kind.Kind.{Kind}
+use Rattle.kernel_object.specs.{declared.kind.Kind.Kind, Kinds.All.definition_of}
+use Rattle.kernel_words.specs.{Kinds.Console.console_text, Kinds.Definition.KindText, Kinds.Pool.pool_text, Kinds.Queue.queue_text, Kinds.Sched.sched_text}
 use Rattle.kernel_object.specs.declared.kind.Kind.TheVariants as kinds
-use Rattle.kernel_object.specs.Kinds.All.{definition_of}
-use Rattle.kernel_words.specs.Kinds.Console.{console_text}
-use Rattle.kernel_words.specs.Kinds.Definition.{KindText}
-use Rattle.kernel_words.specs.Kinds.Pool.{pool_text}
-use Rattle.kernel_words.specs.Kinds.Queue.{queue_text}
-use Rattle.kernel_words.specs.Kinds.Sched.{sched_text}
 
 -- one line for each kind
 abbrev pub text_of : (k : Kind) → KindText (definition_of k)

@@ -1,11 +1,8 @@
 -- How a console is spelled.
 use Rattle.std.specs.Prelude.{ℕ, List, [], ◌∷◌, codes, decimal}
-use Rattle.console_ring.specs.declared.call.ConsoleCall.{ConsoleCall}
-use Rattle.console_ring.specs.declared.call.ConsoleCall.TheVariants.{Put, Get, Level}
-use Rattle.console_ring.specs.declared.console.TheConstants.{MOST_BYTES}
+use Rattle.console_ring.specs.{declared.call.ConsoleCall.ConsoleCall, declared.call.ConsoleCall.TheVariants.{Put, Get, Level}, declared.console.TheConstants.MOST_BYTES}
 use Rattle.kernel_object.specs.Kinds.Console.{console_kind}
-use Rattle.kernel_words.specs.Row.{Row, first, byte, limit, field_at}
-use Rattle.kernel_words.specs.Kinds.Definition.{KindText}
+use Rattle.kernel_words.specs.{Row.{Row, first, byte, limit, field_at}, Kinds.Definition.KindText}
 
 -- how a call is spelled
 abbrev pub console_row : ConsoleCall → Row

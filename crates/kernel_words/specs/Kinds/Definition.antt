@@ -1,9 +1,7 @@
 -- How a kind of object is spelled: the record that each kind gives one value of.
 use Rattle.std.specs.Prelude.{ℕ, List, Option}
 use Rattle.kernel_object.specs.Kinds.Definition.{KindDefinition}
-use Rattle.kernel_words.specs.declared.form.Form.{Form}
-use Rattle.kernel_words.specs.declared.form.Form.TheVariants.{One, Two}
-use Rattle.kernel_words.specs.Row.{Row}
+use Rattle.kernel_words.specs.{declared.form.Form.Form, declared.form.Form.TheVariants.{One, Two}, Row.Row}
 
 pub record KindText (d : KindDefinition) : Type 1 where
   -- record 1 expresses these parameters

@@ -1,16 +1,9 @@
 -- How a pool of pages is spelled.
 use Rattle.std.specs.Prelude.{◌≡◌, ℕ, replicate, List, [], ◌∷◌, map, Option, Some, codes, decimal}
-use Rattle.page_pool.specs.Unlimited.{full_quotas}
-use Rattle.page_pool.specs.declared.call.PoolCall.{PoolCall}
-use Rattle.page_pool.specs.declared.call.PoolCall.TheVariants.{Alloc, Free, Left}
-use Rattle.page_pool.specs.declared.params.PoolParams.{PoolParams}
-use Rattle.page_pool.specs.declared.params.TheConstants.{MOST_PAGES, OWNERS}
+use Rattle.page_pool.specs.{Unlimited.full_quotas, declared.call.PoolCall.PoolCall, declared.call.PoolCall.TheVariants.{Alloc, Free, Left}, declared.params.PoolParams.PoolParams, declared.params.TheConstants.{MOST_PAGES, OWNERS}}
 use Rattle.kernel_object.specs.Kinds.Pool.{pool_kind}
-use Rattle.kernel_words.specs.declared.form.Form.{Form}
-use Rattle.kernel_words.specs.declared.form.Form.TheVariants.{One, Two}
+use Rattle.kernel_words.specs.{declared.form.Form.Form, declared.form.Form.TheVariants.{One, Two}, Row.{Row, first, others, wide, limit, up_to, field_at, numbers_at}, Kinds.Definition.KindText}
 use Rattle.record_lines.specs.Reading.{◌>>=◌}
-use Rattle.kernel_words.specs.Row.{Row, first, others, wide, limit, up_to, field_at, numbers_at}
-use Rattle.kernel_words.specs.Kinds.Definition.{KindText}
 
 -- how a call is spelled
 abbrev pub pool_row : PoolCall → Row

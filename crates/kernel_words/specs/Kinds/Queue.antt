@@ -1,11 +1,8 @@
 -- How a queue of threads is spelled.
 use Rattle.std.specs.Prelude.{ℕ, List, [], ◌∷◌, codes, decimal}
-use Rattle.shared_queue.specs.declared.call.QueueCall.{QueueCall}
-use Rattle.shared_queue.specs.declared.call.QueueCall.TheVariants.{Enq, Deq, Remove, Len}
-use Rattle.shared_queue.specs.declared.queue.TheConstants.{MOST_THREADS}
+use Rattle.shared_queue.specs.{declared.call.QueueCall.QueueCall, declared.call.QueueCall.TheVariants.{Enq, Deq, Remove, Len}, declared.queue.TheConstants.MOST_THREADS}
 use Rattle.kernel_object.specs.Kinds.Queue.{queue_kind}
-use Rattle.kernel_words.specs.Row.{Row, first, wide, limit, field_at}
-use Rattle.kernel_words.specs.Kinds.Definition.{KindText}
+use Rattle.kernel_words.specs.{Row.{Row, first, wide, limit, field_at}, Kinds.Definition.KindText}
 
 -- how a call is spelled
 abbrev pub queue_row : QueueCall → Row

@@ -1,13 +1,9 @@
 -- How a scheduler is spelled.
 use Rattle.std.specs.Prelude.{ℕ, List, [], ◌∷◌, Option, Some, codes, decimal}
-use Rattle.wake_list.specs.declared.call.SchedCall.{SchedCall}
-use Rattle.wake_list.specs.declared.call.SchedCall.TheVariants.{Ready, Next, Sleep, Wake, WakeAll}
-use Rattle.wake_list.specs.declared.sched.SchedParams.{SchedParams}
-use Rattle.wake_list.specs.declared.sched.TheConstants.{MOST_THREADS, MOST_CHANNELS}
+use Rattle.wake_list.specs.{declared.call.SchedCall.SchedCall, declared.call.SchedCall.TheVariants.{Ready, Next, Sleep, Wake, WakeAll}, declared.sched.SchedParams.SchedParams, declared.sched.TheConstants.{MOST_THREADS, MOST_CHANNELS}}
 use Rattle.kernel_object.specs.Kinds.Sched.{sched_kind}
 use Rattle.record_lines.specs.Reading.{◌>>=◌}
-use Rattle.kernel_words.specs.Row.{Row, first, others, wide, limit, field_at}
-use Rattle.kernel_words.specs.Kinds.Definition.{KindText}
+use Rattle.kernel_words.specs.{Row.{Row, first, others, wide, limit, field_at}, Kinds.Definition.KindText}
 
 -- how a call is spelled
 abbrev pub sched_row : SchedCall → Row

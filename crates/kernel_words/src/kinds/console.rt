@@ -1,12 +1,8 @@
 //! A console, as one kind of object.
 
-ghost use Rattle.std.specs.Prelude.{◌≡◌, true};
-ghost use Rattle.std.specs.Option.{option_map};
-ghost use Rattle.kernel_words.specs.Kinds.Console.{console_text, console_row, console_filled};
-ghost use Rattle.record_lines.specs.Output.{PutsWords};
-ghost use Rattle.record_lines.specs.Reading.{left};
-ghost use Rattle.kernel_words.specs.Row.{limit, field_at, row_fits, refilled_row};
-ghost use Rattle.kernel_words.specs.declared.form.TheConstants.{WRITTEN};
+ghost use Rattle.std.specs.{Prelude.{◌≡◌, true}, Option.option_map};
+ghost use Rattle.kernel_words.specs.{Kinds.Console.{console_text, console_row, console_filled}, Row.{limit, field_at, row_fits, refilled_row}, declared.form.TheConstants.WRITTEN};
+ghost use Rattle.record_lines.specs.{Output.PutsWords, Reading.left};
 
 use crate::tables::read::limited;
 use crate::tables::spelling::first;

@@ -1,12 +1,9 @@
 //! A pool of pages, as one kind of object.
 
-ghost use Rattle.std.specs.Prelude.{◌≡◌, map, decimal};
-ghost use Rattle.std.specs.Option.{option_map};
+ghost use Rattle.std.specs.{Prelude.{◌≡◌, map, decimal}, Option.option_map};
 ghost use Rattle.kernel_object.specs.declared.kind.Kind.TheVariants.{Pool};
-ghost use Rattle.kernel_words.specs.Kinds.Pool.{pool_text, pool_row, pool_filled, all_quotas_at, quotas_at, pool_params_at};
-ghost use Rattle.record_lines.specs.Output.{PutsWords};
-ghost use Rattle.record_lines.specs.Reading.{left};
-ghost use Rattle.kernel_words.specs.declared.form.TheConstants.{WRITTEN};
+ghost use Rattle.kernel_words.specs.{Kinds.Pool.{pool_text, pool_row, pool_filled, all_quotas_at, quotas_at, pool_params_at}, declared.form.TheConstants.WRITTEN};
+ghost use Rattle.record_lines.specs.{Output.PutsWords, Reading.left};
 
 use crate::tables::read::{limited, quota as next_quota};
 use crate::tables::spelling::{first, second};

@@ -1,12 +1,8 @@
 //! A queue of threads, as one kind of object.
 
-ghost use Rattle.std.specs.Prelude.{◌≡◌};
-ghost use Rattle.std.specs.Option.{option_map};
-ghost use Rattle.kernel_words.specs.Kinds.Queue.{queue_text, queue_row, queue_filled};
-ghost use Rattle.record_lines.specs.Output.{PutsWords};
-ghost use Rattle.record_lines.specs.Reading.{left};
-ghost use Rattle.kernel_words.specs.Row.{limit, field_at};
-ghost use Rattle.kernel_words.specs.declared.form.TheConstants.{WRITTEN};
+ghost use Rattle.std.specs.{Prelude.◌≡◌, Option.option_map};
+ghost use Rattle.kernel_words.specs.{Kinds.Queue.{queue_text, queue_row, queue_filled}, Row.{limit, field_at}, declared.form.TheConstants.WRITTEN};
+ghost use Rattle.record_lines.specs.{Output.PutsWords, Reading.left};
 
 use crate::tables::read::limited;
 use crate::tables::spelling::first;

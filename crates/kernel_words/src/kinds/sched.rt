@@ -1,12 +1,9 @@
 //! A scheduler, as one kind of object.
 
-ghost use Rattle.std.specs.Prelude.{◌≡◌};
-ghost use Rattle.std.specs.Option.{option_map};
+ghost use Rattle.std.specs.{Prelude.◌≡◌, Option.option_map};
 ghost use Rattle.kernel_object.specs.declared.kind.Kind.TheVariants.{Sched};
-ghost use Rattle.kernel_words.specs.Kinds.Sched.{sched_text, sched_row, sched_filled, sched_params_at};
-ghost use Rattle.record_lines.specs.Output.{PutsWords};
-ghost use Rattle.record_lines.specs.Reading.{left};
-ghost use Rattle.kernel_words.specs.declared.form.TheConstants.{WRITTEN};
+ghost use Rattle.kernel_words.specs.{Kinds.Sched.{sched_text, sched_row, sched_filled, sched_params_at}, declared.form.TheConstants.WRITTEN};
+ghost use Rattle.record_lines.specs.{Output.PutsWords, Reading.left};
 
 use crate::tables::read::limited;
 use crate::tables::spelling::{first, second};

@@ -1,7 +1,6 @@
 //! Reading what objects are opened with.
 
-ghost use Rattle.std.specs.Prelude.{◌≡◌};
-ghost use Rattle.std.specs.Option.{option_map};
+ghost use Rattle.std.specs.{Prelude.◌≡◌, Option.option_map};
 ghost use Rattle.record_lines.specs.Reading.{left};
 ghost use Rattle.kernel_words.specs.ParameterReading.{params_at};
 

@@ -1,7 +1,6 @@
 //! Reading a value by its table.
 
-ghost use Rattle.std.specs.Prelude.{◌≡◌, ◌∷◌, ◌≤◌, ◌++◌, ℕ, List, Some, length, true, IfSome};
-ghost use Rattle.std.specs.Option.{option_map};
+ghost use Rattle.std.specs.{Prelude.{◌≡◌, ◌∷◌, ◌≤◌, ◌++◌, ℕ, List, Some, length, true, IfSome}, Option.option_map};
 ghost use Rattle.record_lines.specs.Reading.{left};
 ghost use Rattle.kernel_words.specs.Row.{wide, byte, limit, up_to, field_at, numbers_at, sample_at, value_at, spelled, row_fits};
 

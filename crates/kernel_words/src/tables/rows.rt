@@ -10,8 +10,7 @@ use shared_queue::QueueCall;
 use wake_list::SchedCall;
 
 impl Spelled for KCall {
-    ghost use Rattle.kernel_words.specs.Rows.{call_row, call_samples, call_filled};
-    ghost use Rattle.kernel_words.specs.Tables.{call_table};
+    ghost use Rattle.kernel_words.specs.{Rows.{call_row, call_samples, call_filled}, Tables.call_table};
 
     ghost row_of = { call_row };
 
@@ -66,8 +65,7 @@ impl Spelled for KCall {
 }
 
 impl Spelled for KReply {
-    ghost use Rattle.kernel_words.specs.Rows.{reply_row, reply_samples, reply_filled};
-    ghost use Rattle.kernel_words.specs.Tables.{reply_table};
+    ghost use Rattle.kernel_words.specs.{Rows.{reply_row, reply_samples, reply_filled}, Tables.reply_table};
 
     ghost row_of = { reply_row };
 

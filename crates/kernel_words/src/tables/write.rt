@@ -1,7 +1,6 @@
 //! Writing a value by its table.
 
-ghost use Rattle.record_lines.specs.Output.{PutsWords};
-ghost use Rattle.record_lines.specs.Reading.{words};
+ghost use Rattle.record_lines.specs.{Output.PutsWords, Reading.words};
 ghost use Rattle.kernel_words.specs.Row.{spelled};
 
 use crate::Spelled;

@@ -1,9 +1,7 @@
 //! Handing over the entries of a record.
 
 ghost use Rattle.std.specs.Prelude.{◌≡◌, true, false, Some, None, Ok, Err, OnOk, OnErr};
-ghost use Rattle.record_lines.specs.FormAgreed.{Agree};
-ghost use Rattle.record_lines.specs.Received.{with_entry};
-ghost use Rattle.record_lines.specs.declared.forms.place.Next.TheVariants.{Entry as AwaitsEntry};
+ghost use Rattle.record_lines.specs.{FormAgreed.Agree, Received.with_entry, declared.forms.place.Next.TheVariants.{Entry as AwaitsEntry}};
 
 use crate::forms::place::ReaderPlace;
 use crate::{LineFault, RecordForm, RecordSink};

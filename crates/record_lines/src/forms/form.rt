@@ -1,7 +1,6 @@
 //! What a form of records is.
 
-ghost use Rattle.std.specs.Prelude.{◌≡◌, ℕ, List, Option, Bool, ◌<◌, ◌≤◌, ◌^◌, true, false, OnOk, OnErr, Err, Some, None, IfSome};
-ghost use Rattle.std.specs.Option.{option_map};
+ghost use Rattle.std.specs.{Prelude.{◌≡◌, ℕ, List, Option, Bool, ◌<◌, ◌≤◌, ◌^◌, true, false, OnOk, OnErr, Err, Some, None, IfSome}, Option.option_map};
 
 use crate::LineFault;
 use std::alloc::Global;

@@ -2,8 +2,7 @@
 
 ghost use Rattle.std.specs.Prelude.{◌≡◌, ◌<◌, ◌++◌, true, ℕ, List, [], length, Err, IfErr, OnOk};
 ghost use Rattle.event_log.specs.Stream.{counted};
-ghost use Rattle.record_lines.specs.Feeding.{HasTakenRest, HasRefused};
-ghost use Rattle.record_lines.specs.Sources.{IsReadOut};
+ghost use Rattle.record_lines.specs.{Feeding.{HasTakenRest, HasRefused}, Sources.IsReadOut};
 
 use event_log::Source;
 

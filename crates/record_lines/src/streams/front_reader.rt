@@ -1,10 +1,8 @@
 //! Reading the first bytes of a source.
 
-ghost use Rattle.std.specs.Prelude.{◌≡◌, ◌<◌, ◌≤◌, true, length, Err, IfOk, OnOk};
-ghost use Rattle.std.specs.Io.KnownBytes.{Consumes};
+ghost use Rattle.std.specs.{Prelude.{◌≡◌, ◌<◌, ◌≤◌, true, length, Err, IfOk, OnOk}, Io.KnownBytes.Consumes};
 ghost use Rattle.event_log.specs.Stream.{counted};
-ghost use Rattle.record_lines.specs.Sources.{IsRest};
-ghost use Rattle.record_lines.specs.Sources.{ReadsAtMost};
+ghost use Rattle.record_lines.specs.{Sources.IsRest, Sources.ReadsAtMost};
 
 use crate::SourceFault;
 use event_log::{OutOfMemory, Source};

@@ -1,7 +1,6 @@
 //! Writing a whole text to a sink that may take it piece by piece.
 
-ghost use Rattle.std.specs.Prelude.{◌≡◌, true, OnOk, OnErr};
-ghost use Rattle.std.specs.Io.KnownBytes.{Appends};
+ghost use Rattle.std.specs.{Prelude.{◌≡◌, true, OnOk, OnErr}, Io.KnownBytes.Appends};
 ghost use Rattle.event_log.specs.Stream.{counted};
 ghost use Rattle.record_lines.specs.Output.{AppendsBeginning};
 

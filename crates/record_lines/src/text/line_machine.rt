@@ -1,9 +1,7 @@
 //! Reading a text line by line, piece by piece.
 
 ghost use Rattle.std.specs.Prelude.{◌≡◌, ◌<◌, ◌≤◌, ◌++◌, ◌∷◌, ◌↔◌, ℕ, List, [], true, false, length, None, Ok, Err, IfSome, IsTrue, OnOk};
-ghost use Rattle.record_lines.specs.LineMachine.{RefusesText, RefusesLine, Passes, ChangesNothing, BeginsIdle, IsHeld, IsShort, TakesText};
-ghost use Rattle.record_lines.specs.Pieces.{HasFed, Keeps};
-ghost use Rattle.record_lines.specs.Words.{NoEnd};
+ghost use Rattle.record_lines.specs.{LineMachine.{RefusesText, RefusesLine, Passes, ChangesNothing, BeginsIdle, IsHeld, IsShort, TakesText}, Pieces.{HasFed, Keeps}, Words.NoEnd};
 
 use crate::streams::feeding::TakesPieces;
 use crate::text::fault::{LineFault, LinesFault};

@@ -1,8 +1,7 @@
 //! Putting words and lines.
 
 ghost use Rattle.std.specs.Prelude.{[], ◌∷◌, decimal};
-ghost use Rattle.record_lines.specs.Output.{Puts, PutsWords};
-ghost use Rattle.record_lines.specs.Reading.{words};
+ghost use Rattle.record_lines.specs.{Output.{Puts, PutsWords}, Reading.words};
 
 use crate::Buffered;
 use event_log::Sink;

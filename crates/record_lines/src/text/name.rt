@@ -1,8 +1,6 @@
 //! Names of objects.
 
-ghost use Rattle.std.specs.Prelude.{◌≡◌, ◌∷◌, Some, None, if◌then◌else◌, ◌||◌};
-ghost use Rattle.std.specs.List.{list_all};
-ghost use Rattle.std.specs.Option.{option_map};
+ghost use Rattle.std.specs.{Prelude.{◌≡◌, ◌∷◌, Some, None, if◌then◌else◌, ◌||◌}, List.list_all, Option.option_map};
 ghost use Rattle.record_lines.specs.Names.{is_name, is_letter, is_digit};
 
 use arrayvec::ArrayString;

@@ -1,11 +1,7 @@
 //! The words of a line, from left to right.
 
-ghost use Rattle.std.specs.Prelude.{◌≡◌, ◌∷◌, ◌++◌, [], ◌≤◌, ◌<◌, ◌+◌, ℕ, Some, IfSome, IfNone, decimal};
-ghost use Rattle.std.specs.Int.{IsInRange};
-ghost use Rattle.std.specs.Option.{option_map};
-ghost use Rattle.std.specs.Str.Parse.{digits_value};
-ghost use Rattle.record_lines.specs.Reading.{AreDigits, left, word_at, behind_at, key_at, number_in, number_at, words};
-ghost use Rattle.record_lines.specs.Words.{IsPlain};
+ghost use Rattle.std.specs.{Prelude.{◌≡◌, ◌∷◌, ◌++◌, [], ◌≤◌, ◌<◌, ◌+◌, ℕ, Some, IfSome, IfNone, decimal}, Int.IsInRange, Option.option_map, Str.Parse.digits_value};
+ghost use Rattle.record_lines.specs.{Reading.{AreDigits, left, word_at, behind_at, key_at, number_in, number_at, words}, Words.IsPlain};
 
 use crate::text::split::split_once;
 

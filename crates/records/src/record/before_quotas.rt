@@ -3,9 +3,7 @@
 ghost use Rattle.std.specs.Prelude.{◌↔◌};
 ghost use Rattle.sound_run.specs.Sound.{Sound};
 ghost use Rattle.kernel_words.specs.declared.form.Form.TheVariants.{One};
-ghost use Rattle.records.specs.RecordRanges.{Record, RecordFitsIn};
-ghost use Rattle.records.specs.Runs.{opened_of};
-ghost use Rattle.records.specs.Unlimited.{WasSound};
+ghost use Rattle.records.specs.{RecordRanges.{Record, RecordFitsIn}, Runs.opened_of, Unlimited.WasSound};
 
 use event_log::SeqObject;
 use kernel_object::KernelObject;

@@ -2,8 +2,7 @@
 
 ghost use Rattle.std.specs.Prelude.{◌≡◌, Some, None, OnOk, OnErr, Err};
 ghost use Rattle.record_lines.specs.Reading.{words};
-ghost use Rattle.records.specs.KernelForm.{head_after, settings_in, HeadFits};
-ghost use Rattle.records.specs.RecordReading.{new_object_at};
+ghost use Rattle.records.specs.{KernelForm.{head_after, settings_in, HeadFits}, RecordReading.new_object_at};
 
 use crate::record::head_lines::{cpus_line, first_line, objects_line};
 use crate::record::lines::object_line;

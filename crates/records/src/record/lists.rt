@@ -1,9 +1,7 @@
 //! The record whose logs and transcripts were kept.
 
 ghost use Rattle.std.specs.Prelude.{◌≡◌};
-ghost use Rattle.records.specs.KernelForm.{settings_in};
-ghost use Rattle.records.specs.RecordRanges.{RecordFits};
-ghost use Rattle.records.specs.RecordStates.{received_record};
+ghost use Rattle.records.specs.{KernelForm.settings_in, RecordRanges.RecordFits, RecordStates.received_record};
 
 use crate::{KernelForm, Record, Settings};
 use event_log::Run;

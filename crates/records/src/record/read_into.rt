@@ -1,17 +1,10 @@
 //! Reading a record into a sink.
 
-ghost use Rattle.std.specs.Prelude.{◌≡◌, Some, Err, IfOk, IfErr};
+ghost use Rattle.std.specs.{Prelude.{◌≡◌, Some, Err, IfOk, IfErr}, Prelude.true};
 ghost use Rattle.event_log.specs.Stream.{counted};
-ghost use Rattle.std.specs.Prelude.{true};
 ghost use Rattle.kernel_words.specs.declared.form.Form.{Form};
-ghost use Rattle.records.specs.RecordFaults.{text_in};
-ghost use Rattle.records.specs.RecordRanges.{RecordFits, RecordFitsIn, Record as Shown};
-ghost use Rattle.records.specs.RecordSources.{SpellsRecord, NamesBadLineOfRest, IsReadFrom};
-ghost use Rattle.records.specs.RecordStates.{received_record};
-ghost use Rattle.records.specs.KernelForm.{no_head, settings_in};
-ghost use Rattle.record_lines.specs.Received.{only_head, IsWholeWith};
-ghost use Rattle.record_lines.specs.Sources.{IsReadOut};
-ghost use Rattle.record_lines.specs.Then.{ok_map};
+ghost use Rattle.records.specs.{RecordFaults.text_in, RecordRanges.{RecordFits, RecordFitsIn, Record as Shown}, RecordSources.{SpellsRecord, NamesBadLineOfRest, IsReadFrom}, RecordStates.received_record, KernelForm.{no_head, settings_in}};
+ghost use Rattle.record_lines.specs.{Received.{only_head, IsWholeWith}, Sources.IsReadOut, Then.ok_map};
 
 use crate::record::reader::whole_parts;
 use crate::record::state::RecordState;

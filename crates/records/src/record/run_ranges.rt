@@ -1,19 +1,10 @@
 //! Runs whose logs and transcripts are in the ranges of a record.
 
-ghost use Rattle.std.specs.Prelude.{◌≡◌, List, length, true};
-ghost use Rattle.std.specs.List.{AllByRecursion};
+ghost use Rattle.std.specs.{Prelude.{◌≡◌, List, length, true}, List.AllByRecursion};
 ghost use Rattle.sound_run.specs.Sound.{Sound};
-ghost use Rattle.event_log.specs.declared.event.Event.{Event};
-ghost use Rattle.event_log.specs.Log.{Legal};
-ghost use Rattle.kernel_object.specs.declared.call.KParams.{KParams};
-ghost use Rattle.kernel_object.specs.declared.call.KCall.{KCall};
-ghost use Rattle.kernel_object.specs.declared.call.KReply.{KReply};
-ghost use Rattle.kernel_object.specs.declared.object.KernelObject.{KernelObject};
-ghost use Rattle.kernel_object.specs.KernelTypes.{KernelRun};
-ghost use Rattle.kernel_object.specs.Kernel.{kernel_in_range};
-ghost use Rattle.records.specs.RecordRanges.{RunFits};
-ghost use Rattle.records.specs.Runs.{opened_of, TranscriptAsks};
-ghost use Rattle.records.specs.Settings.{Settings, SettingsFit};
+ghost use Rattle.event_log.specs.{declared.event.Event.Event, Log.Legal};
+ghost use Rattle.kernel_object.specs.{declared.call.KParams.KParams, declared.call.KCall.KCall, declared.call.KReply.KReply, declared.object.KernelObject.KernelObject, KernelTypes.KernelRun, Kernel.kernel_in_range};
+ghost use Rattle.records.specs.{RecordRanges.RunFits, Runs.{opened_of, TranscriptAsks}, Settings.{Settings, SettingsFit}};
 ghost use Rattle.kernel_words.specs.Ranges.{call_fits, reply_fits, log_asks, log_answers};
 
 use console_ring::stays_within;

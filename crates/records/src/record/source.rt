@@ -3,14 +3,9 @@
 ghost use Rattle.std.specs.Prelude.{◌≡◌, true, Some, Err, IfOk, IfErr, OnOk, OnErr};
 ghost use Rattle.event_log.specs.Stream.{counted};
 ghost use Rattle.sound_run.specs.Sound.{Sound};
-ghost use Rattle.kernel_words.specs.declared.form.Form.{Form};
-ghost use Rattle.kernel_words.specs.declared.form.Form.TheVariants.{One};
-ghost use Rattle.records.specs.RecordFaults.{text_in};
-ghost use Rattle.records.specs.RecordRanges.{RecordFitsIn, Record as Shown};
-ghost use Rattle.records.specs.RecordSources.{SpellsRecord, NamesBadLineOfRest, IsReadFrom};
+ghost use Rattle.kernel_words.specs.{declared.form.Form.Form, declared.form.Form.TheVariants.One};
+ghost use Rattle.records.specs.{RecordFaults.text_in, RecordRanges.{RecordFitsIn, Record as Shown}, RecordSources.{SpellsRecord, NamesBadLineOfRest, IsReadFrom}, Runs.opened_of, Unlimited.WasSound};
 ghost use Rattle.record_lines.specs.Sources.{IsReadOut};
-ghost use Rattle.records.specs.Runs.{opened_of};
-ghost use Rattle.records.specs.Unlimited.{WasSound};
 
 use crate::{Record, read_into, sound_as_before};
 use event_log::{SeqObject, Source};

@@ -1,9 +1,6 @@
 //! Finding an object by its name.
 
-ghost use Rattle.std.specs.Prelude.{◌≡◌, ◌<◌, ◌≤◌, length, position, IfSome};
-ghost use Rattle.std.specs.List.{list_any};
-ghost use Rattle.std.specs.Option.{option_map};
-ghost use Rattle.std.specs.Str.{bytes_eq};
+ghost use Rattle.std.specs.{Prelude.{◌≡◌, ◌<◌, ◌≤◌, length, position, IfSome}, List.list_any, Option.option_map, Str.bytes_eq};
 ghost use Rattle.record_lines.specs.Reading.{left};
 ghost use Rattle.records.specs.RecordReading.{place_at};
 

@@ -2,9 +2,7 @@
 use Rattle.std.specs.Prelude.{List, Result}
 use Rattle.toml.specs.Data.{Members}
 use Rattle.kernel_object.specs.Kinds.Definition.{KindDefinition}
-use Rattle.scripts.specs.declared.settings.fault.BadSettings.{BadSettings}
-use Rattle.scripts.specs.declared.settings.fault.SettingsPlace.{SettingsPlace}
-use Rattle.scripts.specs.declared.settings.fault.SettingsKey.{SettingsKey}
+use Rattle.scripts.specs.{declared.settings.fault.BadSettings.BadSettings, declared.settings.fault.SettingsPlace.SettingsPlace, declared.settings.fault.SettingsKey.SettingsKey}
 
 pub record KindKeys (d : KindDefinition) : Type 1 where
   -- the parameters of a table of settings

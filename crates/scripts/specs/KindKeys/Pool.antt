@@ -1,18 +1,10 @@
 -- What a table of settings says of a pool of pages.
-use Rattle.std.specs.Prelude.{ℕ, pos, nat_abs, int_le, true, false, ◌&&◌, ◌==◌, if◌then◌else◌, Bool, replicate, List, [], ◌∷◌, Result, Ok as Read, Err}
-use Rattle.std.specs.Option.{option_map_or}
-use Rattle.page_pool.specs.declared.params.PoolParams.{PoolParams}
-use Rattle.page_pool.specs.declared.params.TheConstants.{MOST_PAGES, OWNERS}
+use Rattle.std.specs.{Prelude.{ℕ, pos, nat_abs, int_le, true, false, ◌&&◌, ◌==◌, if◌then◌else◌, Bool, replicate, List, [], ◌∷◌, Result, Ok as Read, Err}, Option.option_map_or}
+use Rattle.page_pool.specs.{declared.params.PoolParams.PoolParams, declared.params.TheConstants.{MOST_PAGES, OWNERS}}
 use Rattle.toml.specs.Data.{Data, Items, no_items, item, Members, as_integer, as_array}
-use Rattle.scripts.specs.declared.settings.fault.BadSettings.{BadSettings}
-use Rattle.scripts.specs.declared.settings.fault.Cause.{Cause}
-use Rattle.scripts.specs.declared.settings.fault.Cause.TheVariants.{WrongType, OutOfRange}
-use Rattle.scripts.specs.declared.settings.fault.SettingsPlace.{SettingsPlace}
-use Rattle.scripts.specs.declared.settings.fault.SettingsKey.TheVariants.{Pages, Quotas}
-use Rattle.scripts.specs.SettingsKeys.{key_in, key_or, number_from, count_items}
+use Rattle.scripts.specs.{declared.settings.fault.BadSettings.BadSettings, declared.settings.fault.Cause.Cause, declared.settings.fault.Cause.TheVariants.{WrongType, OutOfRange}, declared.settings.fault.SettingsPlace.SettingsPlace, declared.settings.fault.SettingsKey.TheVariants.{Pages, Quotas}, SettingsKeys.{key_in, key_or, number_from, count_items}, KindKeys.Definition.KindKeys}
 use Rattle.record_lines.specs.Then.{◌>>=◌ as ◌then◌}
 use Rattle.kernel_object.specs.Kinds.Pool.{pool_kind}
-use Rattle.scripts.specs.KindKeys.Definition.{KindKeys}
 
 -- each item is an integer
 unfoldable pub are_integers : Items → Bool

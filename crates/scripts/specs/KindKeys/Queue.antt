@@ -2,9 +2,7 @@
 use Rattle.std.specs.Prelude.{[], ◌∷◌}
 use Rattle.shared_queue.specs.declared.queue.TheConstants.{MOST_THREADS}
 use Rattle.kernel_object.specs.Kinds.Queue.{queue_kind}
-use Rattle.scripts.specs.declared.settings.fault.SettingsKey.TheVariants.{Threads}
-use Rattle.scripts.specs.SettingsKeys.{key_in, number_from}
-use Rattle.scripts.specs.KindKeys.Definition.{KindKeys}
+use Rattle.scripts.specs.{declared.settings.fault.SettingsKey.TheVariants.Threads, SettingsKeys.{key_in, number_from}, KindKeys.Definition.KindKeys}
 
 abbrev pub queue_keys : KindKeys queue_kind
 queue_keys = record {

@@ -1,15 +1,10 @@
 -- What a table of settings says of a scheduler.
 use Rattle.std.specs.Prelude.{Result, Ok as Read, [], ◌∷◌}
-use Rattle.wake_list.specs.declared.sched.SchedParams.{SchedParams}
-use Rattle.wake_list.specs.declared.sched.TheConstants.{MOST_THREADS, MOST_CHANNELS}
+use Rattle.wake_list.specs.{declared.sched.SchedParams.SchedParams, declared.sched.TheConstants.{MOST_THREADS, MOST_CHANNELS}}
 use Rattle.toml.specs.Data.{Members}
-use Rattle.scripts.specs.declared.settings.fault.BadSettings.{BadSettings}
-use Rattle.scripts.specs.declared.settings.fault.SettingsPlace.{SettingsPlace}
-use Rattle.scripts.specs.declared.settings.fault.SettingsKey.TheVariants.{Threads, Channels}
-use Rattle.scripts.specs.SettingsKeys.{key_in, number_from}
+use Rattle.scripts.specs.{declared.settings.fault.BadSettings.BadSettings, declared.settings.fault.SettingsPlace.SettingsPlace, declared.settings.fault.SettingsKey.TheVariants.{Threads, Channels}, SettingsKeys.{key_in, number_from}, KindKeys.Definition.KindKeys}
 use Rattle.record_lines.specs.Then.{◌>>=◌ as ◌then◌}
 use Rattle.kernel_object.specs.Kinds.Sched.{sched_kind}
-use Rattle.scripts.specs.KindKeys.Definition.{KindKeys}
 
 -- the threads and the channels of settings
 unfoldable pub sched_params_in : SettingsPlace → Members → Result SchedParams BadSettings

@@ -2,8 +2,7 @@
 
 ghost use Rattle.std.specs.Prelude.{◌≡◌, ◌<◌, ◌≤◌, ◌++◌, ◌∷◌, ◌+◌, [], true, false, ℕ, List, length, decimal, Err, IfOk, IfSome, IfNone, OnOk};
 ghost use Rattle.sound_run.specs.declared.limits.TheConstants.{MOST_CPUS};
-ghost use Rattle.scripts.specs.ScheduleText.{is_gap, IsSchedule, NamesNoCpu, IsFirstBadWord};
-ghost use Rattle.scripts.specs.ScheduleReading.{HasReadSteps, EndsWord};
+ghost use Rattle.scripts.specs.{ScheduleText.{is_gap, IsSchedule, NamesNoCpu, IsFirstBadWord}, ScheduleReading.{HasReadSteps, EndsWord}};
 
 use crate::schedule::{MOST_STEPS, ScheduleFault};
 use arrayvec::ArrayVec;

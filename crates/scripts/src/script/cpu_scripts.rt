@@ -1,7 +1,6 @@
 //! Scripts: what each CPU does.
 
-ghost use Rattle.std.specs.Prelude.{◌≡◌, ◌↔◌, IsTrue, length, map, nat_lt, IfOk};
-ghost use Rattle.std.specs.List.{list_all};
+ghost use Rattle.std.specs.{Prelude.{◌≡◌, ◌↔◌, IsTrue, length, map, nat_lt, IfOk}, List.list_all};
 ghost use Rattle.scripts.specs.ScriptText.{ScriptsFit, ScriptsWithin};
 
 use event_log::{OutOfMemory, Todo};

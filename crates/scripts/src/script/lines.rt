@@ -1,9 +1,7 @@
 //! The lines of scripts: one entry each.
 
 ghost use Rattle.std.specs.Prelude.{◌≡◌, ◌<◌, ◌↔◌, ℕ, List, [], map, length, Err, IsTrue, IfOk, IfErr, OnOk};
-ghost use Rattle.scripts.specs.ScriptFaults.{HasReadScripts};
-ghost use Rattle.scripts.specs.ScriptFaults.{Adds, IsFull, NamesFirstBad};
-ghost use Rattle.scripts.specs.ScriptText.{IsBlank, AreScripts, dealt};
+ghost use Rattle.scripts.specs.{ScriptFaults.HasReadScripts, ScriptFaults.{Adds, IsFull, NamesFirstBad}, ScriptText.{IsBlank, AreScripts, dealt}};
 ghost use Rattle.records.specs.Settings.{Settings as Shown, SettingsFit};
 
 use crate::Scripts;

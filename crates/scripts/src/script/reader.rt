@@ -2,8 +2,7 @@
 
 ghost use Rattle.std.specs.Prelude.{◌≡◌, ℕ, List, length, Err, IfOk, IfErr};
 ghost use Rattle.kernel_object.specs.KernelTypes.{KernelTodo};
-ghost use Rattle.scripts.specs.ScriptFaults.{NamesFirstBad};
-ghost use Rattle.scripts.specs.ScriptText.{AreScripts, ScriptsFit};
+ghost use Rattle.scripts.specs.{ScriptFaults.NamesFirstBad, ScriptText.{AreScripts, ScriptsFit}};
 
 use crate::Scripts;
 use crate::script::lines::{ScriptLists, whole_scripts};

@@ -1,10 +1,8 @@
 //! Reading a line of the scripts.
 
-ghost use Rattle.std.specs.Prelude.{◌≡◌, [], IfSome, Some};
-ghost use Rattle.std.specs.Option.{option_map};
+ghost use Rattle.std.specs.{Prelude.{◌≡◌, [], IfSome, Some}, Option.option_map};
 ghost use Rattle.record_lines.specs.Reading.{words};
-ghost use Rattle.scripts.specs.RequestReading.{request_at};
-ghost use Rattle.scripts.specs.ScriptText.{IsRequest, Request};
+ghost use Rattle.scripts.specs.{RequestReading.request_at, ScriptText.{IsRequest, Request}};
 ghost use Rattle.records.specs.Settings.{SettingsFit};
 
 use arrayvec::ArrayVec;

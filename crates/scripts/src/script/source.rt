@@ -2,8 +2,7 @@
 
 ghost use Rattle.std.specs.Prelude.{◌≡◌, true, length, Err, IfOk, IfErr, OnOk};
 ghost use Rattle.event_log.specs.Stream.{counted};
-ghost use Rattle.scripts.specs.ScriptFaults.{SpellsRest, NamesFirstBadOfRest};
-ghost use Rattle.scripts.specs.ScriptText.{ScriptsFit};
+ghost use Rattle.scripts.specs.{ScriptFaults.{SpellsRest, NamesFirstBadOfRest}, ScriptText.ScriptsFit};
 
 use crate::Scripts;
 use crate::script::lines::{ScriptLists, whole_scripts};

@@ -1,11 +1,7 @@
 //! The keys of a settings' table, and numbers behind them.
 
-ghost use Rattle.std.specs.Prelude.{◌≡◌, ◌≤◌, if◌then◌else◌, IfOk};
-ghost use Rattle.std.specs.List.{list_any};
-ghost use Rattle.std.specs.Option.{option_map};
-ghost use Rattle.std.specs.Str.{bytes_eq};
-ghost use Rattle.toml.specs.Data.{get_member};
-ghost use Rattle.toml.specs.View.{view, table_view};
+ghost use Rattle.std.specs.{Prelude.{◌≡◌, ◌≤◌, if◌then◌else◌, IfOk}, List.list_any, Option.option_map, Str.bytes_eq};
+ghost use Rattle.toml.specs.{Data.get_member, View.{view, table_view}};
 ghost use Rattle.scripts.specs.SettingsKeys.{key_word, key_in, at_key, find_key, number_from, has_only, unknown_key};
 ghost use Rattle.record_lines.specs.Then.{ok_map};
 

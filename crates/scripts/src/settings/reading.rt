@@ -1,12 +1,10 @@
 //! Reading settings, from memory or from a source.
 
 ghost use Rattle.std.specs.Prelude.{◌≡◌, ◌+◌, true, None, Err, IfOk, IfErr, IsUtf8, OnOk};
-ghost use Rattle.toml.specs.Parse.{parse_document};
-ghost use Rattle.toml.specs.View.{table_view};
+ghost use Rattle.toml.specs.{Parse.parse_document, View.table_view};
 ghost use Rattle.event_log.specs.Stream.{counted};
 ghost use Rattle.records.specs.Settings.{SettingsFit};
-ghost use Rattle.scripts.specs.SettingsText.{Settles, SpellsSettings, NamesFirstFault, not_toml, settings_of};
-ghost use Rattle.scripts.specs.SettingsSources.{SpellsSettingsRest, NamesFirstFaultOfRest};
+ghost use Rattle.scripts.specs.{SettingsText.{Settles, SpellsSettings, NamesFirstFault, not_toml, settings_of}, SettingsSources.{SpellsSettingsRest, NamesFirstFaultOfRest}};
 ghost use Rattle.record_lines.specs.Sources.{ReadsAtMost};
 
 use crate::settings::text::settings;

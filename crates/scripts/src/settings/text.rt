@@ -1,11 +1,8 @@
 //! Reading settings, a TOML text.
 
-ghost use Rattle.std.specs.Prelude.{◌≡◌, ◌≤◌, [], length, None, IfOk};
-ghost use Rattle.std.specs.List.{list_any};
-ghost use Rattle.std.specs.Str.{bytes_eq};
+ghost use Rattle.std.specs.{Prelude.{◌≡◌, ◌≤◌, [], length, None, IfOk}, List.list_any, Str.bytes_eq};
 ghost use Rattle.toml.specs.View.{view, table_view, items_view};
-ghost use Rattle.scripts.specs.SettingsKeys.{key_in};
-ghost use Rattle.scripts.specs.SettingsText.{Settles, name_from, kind_from, lock_from, items_from, object_in, object_from, objects_from, settings_in};
+ghost use Rattle.scripts.specs.{SettingsKeys.key_in, SettingsText.{Settles, name_from, kind_from, lock_from, items_from, object_in, object_from, objects_from, settings_in}};
 ghost use Rattle.record_lines.specs.Then.{ok_map};
 
 use crate::settings::keys::{at, find, number_of, refuse_others};

@@ -2,11 +2,7 @@
 use Rattle.std.proofs.Common.{◌≡◌, ◌≢◌, ℕ, Bool, cond, List, eq-eqb, ne_eqb, refl, sym, ap, ◌∙◌, subst, Option, None}
 use mathlib.Core.Logic.{dite}
 use native.Mathlib.Decide.{ℕ_discrete}
-use Rattle.word_rule.specs.declared.lock_kind.Stage.{Stage}
-use Rattle.word_rule.specs.declared.lock_kind.Stage.TheVariants.{Idle, Mcs, Trying}
-use Rattle.word_rule.specs.Line.{going, lined, moved}
-use Rattle.word_rule.specs.Mcs.State.{McsLock, is_linked, naming, erased_next, untried, without_tries}
-use Rattle.word_rule.specs.Mcs.Try.{prepare}
+use Rattle.word_rule.specs.{declared.lock_kind.Stage.Stage, declared.lock_kind.Stage.TheVariants.{Idle, Mcs, Trying}, Line.{going, lined, moved}, Mcs.State.{McsLock, is_linked, naming, erased_next, untried, without_tries}, Mcs.Try.prepare}
 
 pub untried_twice : (q : Stage) → untried (untried q) ≡ untried q
 untried_twice Trying = refl

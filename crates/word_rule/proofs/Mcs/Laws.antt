@@ -1,29 +1,10 @@
 -- What an MCS lock proves of its definition.
-use Rattle.std.proofs.Common.{◌≡◌, ◌≢◌, ℕ, ◌<◌, ◌==◌, Bool, true, false, true≢false, cond, List, [], ◌∷◌, ◌++◌, eq-eqb, refl, sym, ap, ◌∙◌, subst, Option, Some, None}
-use Rattle.std.proofs.lemmas.Bool.{eqb-true}
-use Rattle.word_rule.specs.declared.machine.step_done.StepDone.{StepDone}
+use Rattle.std.proofs.{Common.{◌≡◌, ◌≢◌, ℕ, ◌<◌, ◌==◌, Bool, true, false, true≢false, cond, List, [], ◌∷◌, ◌++◌, eq-eqb, refl, sym, ap, ◌∙◌, subst, Option, Some, None}, lemmas.Bool.eqb-true}
+use Rattle.word_rule.specs.{declared.machine.step_done.StepDone.StepDone, declared.lock_kind.Stage.Stage, declared.lock_kind.Stage.TheVariants.{Idle, Mcs, Trying}, declared.lock_kind.McsStage.McsStage, declared.lock_kind.McsStage.TheVariants.{Ready, Behind, Armed, Waiting, Holding, Alone, Leaving, Passing}, Line.{behind, is_first, is_named, last, second, going, leaving, taking}, LockDefinition.IsState, Locks.holding, Mcs.Acquire.enter, Mcs.Definition.{mcs_lock, mcs_turn}, Mcs.Release.see, Mcs.State.{McsLock, follower, if_linked, naming, erased_next, untried, without_tries}}
+use Rattle.word_rule.proofs.{LockInterface.{Goes, SameTurn, LockLaws, NoneTries, is_idle, is_trying, moved_whole}, Lists.split_line, LockStates.stands_at, Mcs.Erased.{Alike, erased_twice, erased_moved, next_erased, next_twice, linked_erased, untried_twice}, Mcs.Stands.{outside, first_if}, Mcs.Tries.tries, Mcs.Turns.starts_mcs, Moves.moved_else}
 use Rattle.word_rule.specs.declared.machine.step_done.StepDone.TheVariants as steps
-use Rattle.word_rule.specs.declared.lock_kind.Stage.{Stage}
-use Rattle.word_rule.specs.declared.lock_kind.Stage.TheVariants.{Idle, Mcs, Trying}
-use Rattle.word_rule.specs.declared.lock_kind.McsStage.{McsStage}
-use Rattle.word_rule.specs.declared.lock_kind.McsStage.TheVariants.{Ready, Behind, Armed, Waiting, Holding, Alone, Leaving, Passing}
-use Rattle.word_rule.specs.Line.{behind, is_first, is_named, last, second, going, leaving, taking}
-use Rattle.word_rule.specs.LockDefinition.{IsState}
-use Rattle.word_rule.specs.Locks.{holding}
-use Rattle.word_rule.specs.Mcs.Acquire.{enter}
-use Rattle.word_rule.specs.Mcs.Definition.{mcs_lock, mcs_turn}
-use Rattle.word_rule.specs.Mcs.Release.{see}
-use Rattle.word_rule.specs.Mcs.State.{McsLock, follower, if_linked, naming, erased_next, untried, without_tries}
-use Rattle.word_rule.proofs.LockInterface.{Goes, SameTurn, LockLaws, NoneTries, is_idle, is_trying, moved_whole}
-use Rattle.word_rule.proofs.Lists.{split_line}
-use Rattle.word_rule.proofs.LockStates.{stands_at}
-use Rattle.word_rule.proofs.Mcs.Erased.{Alike, erased_twice, erased_moved, next_erased, next_twice, linked_erased, untried_twice}
-use Rattle.word_rule.proofs.Mcs.Stands.{outside, first_if}
 use Rattle.word_rule.proofs.LineEnds as ends
 use Rattle.word_rule.proofs.Mcs.States as queue
-use Rattle.word_rule.proofs.Mcs.Tries.{tries}
-use Rattle.word_rule.proofs.Mcs.Turns.{starts_mcs}
-use Rattle.word_rule.proofs.Moves.{moved_else}
 
 module _ (l : McsLock) (i : ℕ) where
   -- a look, by whether i is the first; an attempt to empty the queue, by whether it is the last

@@ -1,34 +1,14 @@
 -- At an MCS lock nobody is stuck: a step is in vain only where one looks that isn't the first, and where a leaving holder looks for
 -- a follower that hasn't linked itself yet. That one then gets on.
-use Rattle.std.proofs.Common.{◌≡◌, ◌≢◌, ◌⊎◌, inl, inr, ⊎_elim, ℕ, suc, ◌<◌, ◌≤◌, Bool, true, false, true≢false, cond, List, [], ◌∷◌, ◌++◌, refl, sym, ap, ◌∙◌, subst, arith, Option, Some, None}
-use Rattle.std.proofs.lemmas.Bool.{cases_Bool, false_from_ne_true}
-use mathlib.Core.Logic.{dite}
-use mathlib.Core.Option.{some, some-injective}
+use Rattle.std.proofs.{Common.{◌≡◌, ◌≢◌, ◌⊎◌, inl, inr, ⊎_elim, ℕ, suc, ◌<◌, ◌≤◌, Bool, true, false, true≢false, cond, List, [], ◌∷◌, ◌++◌, refl, sym, ap, ◌∙◌, subst, arith, Option, Some, None}, lemmas.Bool.{cases_Bool, false_from_ne_true}}
+use mathlib.{Core.Logic.dite, Core.Option.{some, some-injective}}
 use native.Mathlib.Decide.{ℕ_discrete}
 use lib.ListN.{get_elem?}
 use Rattle.event_log.specs.Distinct.{has}
-use Rattle.word_rule.specs.declared.machine.step_done.StepDone.{StepDone}
+use Rattle.word_rule.specs.{declared.machine.step_done.StepDone.StepDone, declared.lock_kind.Stage.Stage, declared.lock_kind.Stage.TheVariants.{Idle, Mcs, Trying}, declared.lock_kind.McsStage.TheVariants.{Ready, Behind, Armed, Waiting, Holding, Alone, Leaving, Passing}, Line.{Line, is_first, is_named, last, moved, second}, LockDefinition.IsState, Locks.holding, Mcs.Acquire.enter, Mcs.Definition.{mcs_lock, mcs_turn}, Mcs.Release.see, Mcs.State.{McsLock, follower, if_linked, is_linked}, Machine.Rounds.most_steps_of, StepKinds.ends_hold}
+use Rattle.word_rule.proofs.{LineChanges.{never, changed, first_stays, Joined, Left, Same}, Lists.{at_first, first_at, has_at, two_are}, LockInterface.is_trying, LockProgress.{FirstOn, LockFairness, LockProgress, one_on}, LockStates.{in_cell, stands_at}, Mcs.Laws.{Looked, Emptied, mcs_laws}, Moves.{moved_same, moved_else}}
 use Rattle.sound_run.specs.declared.lock_kind.LockKind.TheVariants as kinds
-use Rattle.word_rule.specs.declared.lock_kind.Stage.{Stage}
-use Rattle.word_rule.specs.declared.lock_kind.Stage.TheVariants.{Idle, Mcs, Trying}
-use Rattle.word_rule.specs.declared.lock_kind.McsStage.TheVariants.{Ready, Behind, Armed, Waiting, Holding, Alone, Leaving, Passing}
-use Rattle.word_rule.specs.Line.{Line, is_first, is_named, last, moved, second}
-use Rattle.word_rule.specs.LockDefinition.{IsState}
-use Rattle.word_rule.specs.Locks.{holding}
-use Rattle.word_rule.specs.Mcs.Acquire.{enter}
-use Rattle.word_rule.specs.Mcs.Definition.{mcs_lock, mcs_turn}
-use Rattle.word_rule.specs.Mcs.Release.{see}
-use Rattle.word_rule.specs.Mcs.State.{McsLock, follower, if_linked, is_linked}
-use Rattle.word_rule.specs.Machine.Rounds.{most_steps_of}
-use Rattle.word_rule.specs.StepKinds.{ends_hold}
-use Rattle.word_rule.proofs.LineChanges.{never, changed, first_stays, Joined, Left, Same}
-use Rattle.word_rule.proofs.Lists.{at_first, first_at, has_at, two_are}
-use Rattle.word_rule.proofs.LockInterface.{is_trying}
-use Rattle.word_rule.proofs.LockProgress.{FirstOn, LockFairness, LockProgress, one_on}
-use Rattle.word_rule.proofs.LockStates.{in_cell, stands_at}
-use Rattle.word_rule.proofs.Mcs.Laws.{Looked, Emptied, mcs_laws}
 use Rattle.word_rule.proofs.LineEnds as ends
-use Rattle.word_rule.proofs.Moves.{moved_same, moved_else}
 
 -- a clear, an enter, an arm, a link, a look that gets the object, a see, an empty, a see that finds a follower, and a pass
 abbrev left : Stage → ℕ

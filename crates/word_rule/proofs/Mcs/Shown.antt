@@ -2,22 +2,11 @@
 use Rattle.std.proofs.Common.{◌≡◌, ◌≢◌, ℕ, ◌+◌, ◌*◌, ◌<◌, ◌≤◌, true, false, List, length, get_or, set, refl, sym, ap, ◌∙◌, subst, Some, None}
 use mathlib.Core.Logic.{dite}
 use native.Mathlib.Decide.{ℕ_discrete}
-use Rattle.word_rule.specs.declared.machine.step_done.StepDone.{StepDone}
+use Rattle.word_rule.specs.{declared.machine.step_done.StepDone.StepDone, declared.lock_kind.Stage.Stage, declared.lock_kind.Stage.TheVariants.{Idle, Mcs}, declared.lock_kind.McsStage.TheVariants.{Ready, Behind, Armed, Waiting, Holding, Alone, Leaving, Passing}, Line.{moved, going, leaving, taking}, LockDefinition.IsTied, Locks.holding, Mcs.Acquire.{arm, clear, enter, link}, Mcs.Definition.{mcs_lock, mcs_turn}, Mcs.Release.{pass, see}, Mcs.State.{McsLock, follower}, Rule.LockStates.RepresentsState}
+use Rattle.word_rule.proofs.ShownTurns.{After, at, became, same}
 use Rattle.word_rule.specs.declared.machine.step_done.StepDone.TheVariants as steps
-use Rattle.word_rule.specs.declared.lock_kind.Stage.{Stage}
-use Rattle.word_rule.specs.declared.lock_kind.Stage.TheVariants.{Idle, Mcs}
-use Rattle.word_rule.specs.declared.lock_kind.McsStage.TheVariants.{Ready, Behind, Armed, Waiting, Holding, Alone, Leaving, Passing}
-use Rattle.word_rule.specs.Line.{moved, going, leaving, taking}
-use Rattle.word_rule.specs.LockDefinition.{IsTied}
-use Rattle.word_rule.specs.Locks.{holding}
-use Rattle.word_rule.specs.Mcs.Acquire.{arm, clear, enter, link}
-use Rattle.word_rule.specs.Mcs.Definition.{mcs_lock, mcs_turn}
-use Rattle.word_rule.specs.Mcs.Release.{pass, see}
-use Rattle.word_rule.specs.Mcs.State.{McsLock, follower}
-use Rattle.word_rule.specs.Rule.LockStates.{RepresentsState}
 use Rattle.word_rule.proofs.Mcs.States as queue
 use Rattle.word_rule.proofs.Mcs.Turns as mcs
-use Rattle.word_rule.proofs.ShownTurns.{After, at, became, same}
 
 module _ (n : ℕ) (ws : List ℕ) (stages : List Stage) (l : McsLock) (h : RepresentsState mcs_lock n ws stages l) (i : ℕ) (below : i < n) where
   abbrev AfterMcs : List ℕ → List Stage → StepDone → Type 0

@@ -1,28 +1,13 @@
 -- An MCS lock's turns, apart from words: each leaves a state of the lock.
 use Rattle.std.proofs.Common.{◌≡◌, ◌≢◌, inl, ⊎_elim, ℕ, suc, ◌<◌, Bool, true, false, true≢false, cond, List, [], ◌∷◌, ◌++◌, length, refl, sym, ap, ◌∙◌, subst, arith, length-append, Option, Some, None}
-use mathlib.Core.Logic.{dite}
-use mathlib.Core.Option.{some, some-injective, some-ne-none}
+use mathlib.{Core.Logic.dite, Core.Option.{some, some-injective, some-ne-none}}
 use native.Mathlib.Decide.{ℕ_discrete}
 use lib.ListN.{get_elem?}
 use Rattle.atomic_table.proofs.Lists.{at_longer, at_last}
 use Rattle.event_log.specs.Distinct.{has, AreDistinctBelow}
 use Rattle.event_log.proofs.Distinct.{distinct_push}
-use Rattle.word_rule.specs.declared.lock_kind.Stage.{Stage}
-use Rattle.word_rule.specs.declared.lock_kind.Stage.TheVariants.{Idle, Mcs, Trying}
-use Rattle.word_rule.specs.declared.lock_kind.McsStage.TheVariants.{Ready, Behind, Armed, Waiting, Holding, Alone, Leaving, Passing}
-use Rattle.word_rule.specs.Line.{is_first, lined, last, second, behind, going, joining, taking, leaving, First}
-use Rattle.word_rule.specs.LockDefinition.{IsState}
-use Rattle.word_rule.specs.Locks.{holding}
-use Rattle.word_rule.specs.Mcs.Acquire.{clear, arm, link}
-use Rattle.word_rule.specs.Mcs.Definition.{mcs_lock}
-use Rattle.word_rule.specs.Mcs.Release.{pass}
-use Rattle.word_rule.specs.Mcs.State.{McsLock, if_linked, is_linked, follower, naming, Follows, StandsInQueue}
-use Rattle.word_rule.specs.Mcs.Try.{prepare}
-use Rattle.word_rule.proofs.LineEnds.{at_end, last_at, last_in, last_push, no_last}
-use Rattle.word_rule.proofs.Lists.{has_at, at_below, one_place, one_at, not_at, two_are, one_is, first_at, at_first}
-use Rattle.word_rule.proofs.LockStates.{stands_at, in_cell, restaged}
-use Rattle.word_rule.proofs.Mcs.Stands.{first_if, naming_same, naming_else, none_some, other_next, longer_queue, first_queue, taken_by, emptied_by, passed_by, stands_in}
-use Rattle.word_rule.proofs.Moves.{each_moved}
+use Rattle.word_rule.specs.{declared.lock_kind.Stage.Stage, declared.lock_kind.Stage.TheVariants.{Idle, Mcs, Trying}, declared.lock_kind.McsStage.TheVariants.{Ready, Behind, Armed, Waiting, Holding, Alone, Leaving, Passing}, Line.{is_first, lined, last, second, behind, going, joining, taking, leaving, First}, LockDefinition.IsState, Locks.holding, Mcs.Acquire.{clear, arm, link}, Mcs.Definition.mcs_lock, Mcs.Release.pass, Mcs.State.{McsLock, if_linked, is_linked, follower, naming, Follows, StandsInQueue}, Mcs.Try.prepare}
+use Rattle.word_rule.proofs.{LineEnds.{at_end, last_at, last_in, last_push, no_last}, Lists.{has_at, at_below, one_place, one_at, not_at, two_are, one_is, first_at, at_first}, LockStates.{stands_at, in_cell, restaged}, Mcs.Stands.{first_if, naming_same, naming_else, none_some, other_next, longer_queue, first_queue, taken_by, emptied_by, passed_by, stands_in}, Moves.each_moved}
 
 second_at : (cpus : List ℕ) (j : ℕ) → second cpus ≡ Some j → get_elem? cpus 1 ≡ some j
 second_at [] j e = cc

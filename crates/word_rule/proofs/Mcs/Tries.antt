@@ -1,18 +1,8 @@
 -- A try at an MCS lock that gets the object is a clear and an enter; one that doesn't changes nobody's place in the queue.
 use Rattle.std.proofs.Common.{◌≡◌, ◌≢◌, ℕ, Bool, true, false, cond, List, [], ◌∷◌, refl, sym, ap, ◌∙◌, None}
-use Rattle.word_rule.specs.declared.machine.step_done.StepDone.{StepDone}
+use Rattle.word_rule.specs.{declared.machine.step_done.StepDone.StepDone, declared.lock_kind.Stage.TheVariants.{Idle, Mcs, Trying}, declared.lock_kind.McsStage.TheVariants.{Ready, Holding}, Line.{moved, is_empty, last, going}, Mcs.Acquire.{clear, enter}, Mcs.Definition.mcs_lock, Mcs.State.{McsLock, naming}, Mcs.Try.{prepare, try_queue}}
+use Rattle.word_rule.proofs.{LockInterface.Tries, Mcs.Stands.naming_else, Mcs.Turns.{tried_by, tries_first, turned}, Moves.{moved_same, moved_else, moved_twice, not_empty}}
 use Rattle.word_rule.specs.declared.machine.step_done.StepDone.TheVariants as steps
-use Rattle.word_rule.specs.declared.lock_kind.Stage.TheVariants.{Idle, Mcs, Trying}
-use Rattle.word_rule.specs.declared.lock_kind.McsStage.TheVariants.{Ready, Holding}
-use Rattle.word_rule.specs.Line.{moved, is_empty, last, going}
-use Rattle.word_rule.specs.Mcs.Acquire.{clear, enter}
-use Rattle.word_rule.specs.Mcs.Definition.{mcs_lock}
-use Rattle.word_rule.specs.Mcs.State.{McsLock, naming}
-use Rattle.word_rule.specs.Mcs.Try.{prepare, try_queue}
-use Rattle.word_rule.proofs.LockInterface.{Tries}
-use Rattle.word_rule.proofs.Mcs.Stands.{naming_else}
-use Rattle.word_rule.proofs.Mcs.Turns.{tried_by, tries_first, turned}
-use Rattle.word_rule.proofs.Moves.{moved_same, moved_else, moved_twice, not_empty}
 
 module _ (l : McsLock) (i : ℕ) where
   pub clears_and_enters : l.line.stage i ≡ Idle → l.line.cpus ≡ []

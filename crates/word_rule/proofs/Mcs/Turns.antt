@@ -1,27 +1,13 @@
 -- An MCS lock's turns: each leaves a state of the lock, and words that are the state's.
-use Rattle.std.proofs.Common.{◌≡◌, ◌≢◌, ℕ, suc, ◌+◌, ◌*◌, ◌<◌, ◌≤◌, ◌&&◌, not, Bool, true, false, true≢false, cond, eq-eqb, ne_eqb, List, [], ◌∷◌, ◌++◌, length, replicate, get_or, set, refl, sym, ap, ◌∙◌, subst, arith, Option, Some, None}
-use Rattle.std.proofs.lemmas.Bool.{false_from_ne_true}
-use Rattle.std.proofs.lemmas.List.{get_or-replicate, length-replicate}
+use Rattle.std.proofs.{Common.{◌≡◌, ◌≢◌, ℕ, suc, ◌+◌, ◌*◌, ◌<◌, ◌≤◌, ◌&&◌, not, Bool, true, false, true≢false, cond, eq-eqb, ne_eqb, List, [], ◌∷◌, ◌++◌, length, replicate, get_or, set, refl, sym, ap, ◌∙◌, subst, arith, Option, Some, None}, lemmas.Bool.false_from_ne_true, lemmas.List.{get_or-replicate, length-replicate}}
 use mathlib.Core.Option.{some}
 use lib.ListN.{get_elem?}
+use Rattle.word_rule.specs.{declared.lock_kind.Stage.Stage, declared.lock_kind.Stage.TheVariants.{Idle, Mcs, Trying}, declared.lock_kind.McsStage.TheVariants.{Ready, Behind, Armed, Waiting, Holding, Alone, Leaving, Passing}, Line.{Line, alone_with_it, lined, moved, is_empty, is_first, is_named, last, behind, going, joining, taking, leaving}, LockDefinition.{IsState, IsTied, opening_state}, Locks.holding, Mcs.Acquire.{clear, arm, link}, Mcs.Definition.{mcs_lock, mcs_turn}, Mcs.Release.pass, Mcs.State.{McsLock, word_of, is_armed, is_linked, follower, locked_by, locked_at}, Mcs.Try.{prepare, try_queue}}
+use Rattle.word_rule.proofs.{Lists.{one_place, first_at}, LockStates.{stands_at, in_cell}, Moves.{moved_same, each_moved}}
 use Rattle.word_rule.specs.declared.machine.step_done.StepDone.TheVariants as steps
-use Rattle.word_rule.specs.declared.lock_kind.Stage.{Stage}
-use Rattle.word_rule.specs.declared.lock_kind.Stage.TheVariants.{Idle, Mcs, Trying}
-use Rattle.word_rule.specs.declared.lock_kind.McsStage.TheVariants.{Ready, Behind, Armed, Waiting, Holding, Alone, Leaving, Passing}
-use Rattle.word_rule.specs.Line.{Line, alone_with_it, lined, moved, is_empty, is_first, is_named, last, behind, going, joining, taking, leaving}
-use Rattle.word_rule.specs.LockDefinition.{IsState, IsTied, opening_state}
-use Rattle.word_rule.specs.Locks.{holding}
-use Rattle.word_rule.specs.Mcs.Acquire.{clear, arm, link}
-use Rattle.word_rule.specs.Mcs.Definition.{mcs_lock, mcs_turn}
-use Rattle.word_rule.specs.Mcs.Release.{pass}
-use Rattle.word_rule.specs.Mcs.State.{McsLock, word_of, is_armed, is_linked, follower, locked_by, locked_at}
-use Rattle.word_rule.specs.Mcs.Try.{prepare, try_queue}
-use Rattle.word_rule.proofs.Lists.{one_place, first_at}
-use Rattle.word_rule.proofs.LockStates.{stands_at, in_cell}
 use Rattle.word_rule.proofs.LineEnds as ends
 use Rattle.word_rule.proofs.Mcs.States as queue
 use Rattle.word_rule.proofs.Mcs.Words as words
-use Rattle.word_rule.proofs.Moves.{moved_same, each_moved}
 
 -- i is alone in the queue, and has the object by its try
 abbrev pub tried_by : McsLock → ℕ → McsLock

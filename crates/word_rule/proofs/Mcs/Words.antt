@@ -1,16 +1,10 @@
 -- The words of an MCS lock, one by one, and where one of them is stored.
-use Rattle.std.proofs.Common.{◌≡◌, ◌≢◌, ◌⊎◌, inl, inr, ℕ, zero, suc, ◌+◌, ◌-◌, ◌*◌, ◌<◌, ◌≤◌, List, length, map, get_or, set, sym, ap, ◌∙◌, arith, length-set, get_or-set_same, get_or-set_other, Option}
+use Rattle.std.proofs.{Common.{◌≡◌, ◌≢◌, ◌⊎◌, inl, inr, ℕ, zero, suc, ◌+◌, ◌-◌, ◌*◌, ◌<◌, ◌≤◌, List, length, map, get_or, set, sym, ap, ◌∙◌, arith, length-set, get_or-set_same, get_or-set_other, Option}, lemmas.Bool.cases_lt, lemmas.List.{ext_get_or, get_or_append_left, get_or-append_right, length-append}, lemmas.List.FromFn.{get_or-map-range_with_len, length-map-range_with_len}}
 use Rattle.std.specs.List.{range_with_len}
-use Rattle.std.proofs.lemmas.Bool.{cases_lt}
-use Rattle.std.proofs.lemmas.List.{ext_get_or, get_or_append_left, get_or-append_right, length-append}
-use Rattle.std.proofs.lemmas.List.FromFn.{get_or-map-range_with_len, length-map-range_with_len}
 use mathlib.Core.Logic.{dite}
 use native.Mathlib.Decide.{ℕ_discrete}
-use Rattle.word_rule.specs.declared.lock_kind.Stage.{Stage}
-use Rattle.word_rule.specs.Line.{moved, last}
-use Rattle.word_rule.specs.Mcs.State.{McsLock, naming, word_of, locked_by, locked_at, mcs_words}
-use Rattle.word_rule.proofs.Mcs.Stands.{naming_same, naming_else}
-use Rattle.word_rule.proofs.Moves.{each_moved}
+use Rattle.word_rule.specs.{declared.lock_kind.Stage.Stage, Line.{moved, last}, Mcs.State.{McsLock, naming, word_of, locked_by, locked_at, mcs_words}}
+use Rattle.word_rule.proofs.{Mcs.Stands.{naming_same, naming_else}, Moves.each_moved}
 
 -- a word that isn't the one that is set
 elsewhere : (ws : List ℕ) (i j v : ℕ) → i ≢ j → get_or (set ws i v) j 0 ≡ get_or ws j 0

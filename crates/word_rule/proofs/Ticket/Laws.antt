@@ -1,21 +1,8 @@
 -- What a ticket lock proves of its definition.
-use Rattle.std.proofs.Common.{◌≡◌, ℕ, ◌+◌, ◌%◌, ◌<◌, ◌==◌, Bool, true, false, cond, List, [], ◌∷◌, ◌++◌, length, refl, sym, ◌∙◌, arith}
-use Rattle.std.proofs.lemmas.Bool.{ltb-true, lt-ltb}
-use Rattle.word_rule.specs.declared.machine.step_done.StepDone.{StepDone}
+use Rattle.std.proofs.{Common.{◌≡◌, ℕ, ◌+◌, ◌%◌, ◌<◌, ◌==◌, Bool, true, false, cond, List, [], ◌∷◌, ◌++◌, length, refl, sym, ◌∙◌, arith}, lemmas.Bool.{ltb-true, lt-ltb}}
+use Rattle.word_rule.specs.{declared.machine.step_done.StepDone.StepDone, declared.lock_kind.Stage.Stage, declared.lock_kind.Stage.TheVariants.{Idle, Ticket}, declared.lock_kind.TicketStage.TheVariants.{Drawn, Served}, Line.{behind, is_first, lined, taking}, LockDefinition.{IsState, IsTied}, StepKinds.ends_hold, Ticket.Definition.{ticket_lock, ticket_turn}, Ticket.State.{TicketLock, tickets, ticket_words, without_ticket, without_tickets}}
+use Rattle.word_rule.proofs.{LockInterface.{Goes, SameTurn, LockLaws, NoneTries, is_idle, moved_whole}, Lists.split_line, LockStates.stands_at, Ticket.Tries.tries, Ticket.Turns.{outside, first_if, draws, takes, holder_first, serves_state, starts_ticket}}
 use Rattle.word_rule.specs.declared.machine.step_done.StepDone.TheVariants as steps
-use Rattle.word_rule.specs.declared.lock_kind.Stage.{Stage}
-use Rattle.word_rule.specs.declared.lock_kind.Stage.TheVariants.{Idle, Ticket}
-use Rattle.word_rule.specs.declared.lock_kind.TicketStage.TheVariants.{Drawn, Served}
-use Rattle.word_rule.specs.Line.{behind, is_first, lined, taking}
-use Rattle.word_rule.specs.LockDefinition.{IsState, IsTied}
-use Rattle.word_rule.specs.StepKinds.{ends_hold}
-use Rattle.word_rule.specs.Ticket.Definition.{ticket_lock, ticket_turn}
-use Rattle.word_rule.specs.Ticket.State.{TicketLock, tickets, ticket_words, without_ticket, without_tickets}
-use Rattle.word_rule.proofs.LockInterface.{Goes, SameTurn, LockLaws, NoneTries, is_idle, moved_whole}
-use Rattle.word_rule.proofs.Lists.{split_line}
-use Rattle.word_rule.proofs.LockStates.{stands_at}
-use Rattle.word_rule.proofs.Ticket.Tries.{tries}
-use Rattle.word_rule.proofs.Ticket.Turns.{outside, first_if, draws, takes, holder_first, serves_state, starts_ticket}
 
 -- a look, by whether i is the first
 module _ (l : TicketLock) (i t : ℕ) where

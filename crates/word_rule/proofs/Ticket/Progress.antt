@@ -3,24 +3,9 @@ use Rattle.std.proofs.Common.{◌≡◌, ◌≢◌, inl, ℕ, ◌+◌, ◌%◌, 
 use mathlib.Core.Option.{some}
 use lib.ListN.{get_elem?}
 use Rattle.event_log.specs.Distinct.{has}
+use Rattle.word_rule.specs.{declared.lock_kind.Stage.Stage, declared.lock_kind.Stage.TheVariants.{Idle, Ticket}, declared.lock_kind.TicketStage.TheVariants.{Drawn, Served}, Line.{Line, is_first}, LockDefinition.IsState, Locks.holding, Machine.Rounds.most_steps_of, StepKinds.ends_hold, Ticket.Definition.{ticket_lock, ticket_turn}, Ticket.State.{TicketLock, tickets}, Line.moved}
+use Rattle.word_rule.proofs.{LineChanges.{never, first_stays}, Lists.{at_first, has_at}, LockProgress.{FirstOn, LockFairness, LockProgress, one_on}, LockStates.stands_at, Moves.{moved_same, moved_else}, Ticket.Laws.{Looked, ticket_laws}}
 use Rattle.sound_run.specs.declared.lock_kind.LockKind.TheVariants as kinds
-use Rattle.word_rule.specs.declared.lock_kind.Stage.{Stage}
-use Rattle.word_rule.specs.declared.lock_kind.Stage.TheVariants.{Idle, Ticket}
-use Rattle.word_rule.specs.declared.lock_kind.TicketStage.TheVariants.{Drawn, Served}
-use Rattle.word_rule.specs.Line.{Line, is_first}
-use Rattle.word_rule.specs.LockDefinition.{IsState}
-use Rattle.word_rule.specs.Locks.{holding}
-use Rattle.word_rule.specs.Machine.Rounds.{most_steps_of}
-use Rattle.word_rule.specs.StepKinds.{ends_hold}
-use Rattle.word_rule.specs.Ticket.Definition.{ticket_lock, ticket_turn}
-use Rattle.word_rule.specs.Ticket.State.{TicketLock, tickets}
-use Rattle.word_rule.proofs.LineChanges.{never, first_stays}
-use Rattle.word_rule.proofs.Lists.{at_first, has_at}
-use Rattle.word_rule.proofs.LockProgress.{FirstOn, LockFairness, LockProgress, one_on}
-use Rattle.word_rule.proofs.LockStates.{stands_at}
-use Rattle.word_rule.proofs.Moves.{moved_same, moved_else}
-use Rattle.word_rule.proofs.Ticket.Laws.{Looked, ticket_laws}
-use Rattle.word_rule.specs.Line.{moved}
 
 -- a draw, a look that gets the object, and a serve
 abbrev left : Stage → ℕ

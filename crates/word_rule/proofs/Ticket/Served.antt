@@ -1,24 +1,11 @@
 -- A ticket lock serves the first ticket and as many more as holds have ended in its run, and its word goes by what the run makes.
-use Rattle.std.proofs.Common.{◌≡◌, ℕ, ◌+◌, ◌%◌, ◌<◌, Bool, true, false, cond, List, [], ◌∷◌, ◌++◌, length, length-append, refl, sym, ap, ◌∙◌, subst, arith}
-use Rattle.std.proofs.Math.Nat.{mod-add-mod, mod-lt, mod-eq_of_lt}
+use Rattle.std.proofs.{Common.{◌≡◌, ℕ, ◌+◌, ◌%◌, ◌<◌, Bool, true, false, cond, List, [], ◌∷◌, ◌++◌, length, length-append, refl, sym, ap, ◌∙◌, subst, arith}, Math.Nat.{mod-add-mod, mod-lt, mod-eq_of_lt}}
 use Rattle.event_log.specs.declared.object.SeqObject.{Ghosts}
 use Rattle.sound_run.specs.declared.lock_kind.LockKind.{LockKind}
+use Rattle.word_rule.specs.{declared.view.TraceStep.TraceStep, Cell.Cell, LockRuns.{lock_after, AreTurns, arrivals_in, endings_in}, Locks.{Lock, lock_words, served, opening_lock, turn}, OneHold.leaving, Rule.Callers.caller_of, Rule.CellInvariant.{SeatView, Table, SeatInvariant, CellInvariant}, StepKinds.ends_hold, Ticket.State.{tickets, ticket_word}, Ticket.Steps.HasDrawn}
+use Rattle.word_rule.proofs.{Known.same_cell, LockLaws.{at_kind, erased_cpus}, RunOrder.{first_of, behind_of, line_left}, Ticket.Laws.served_after}
 use Rattle.sound_run.specs.declared.lock_kind.LockKind.TheVariants as kinds
 use Rattle.word_rule.specs.declared.machine.step_done.StepDone.TheVariants as steps
-use Rattle.word_rule.specs.declared.view.TraceStep.{TraceStep}
-use Rattle.word_rule.specs.Cell.{Cell}
-use Rattle.word_rule.specs.LockRuns.{lock_after, AreTurns, arrivals_in, endings_in}
-use Rattle.word_rule.specs.Locks.{Lock, lock_words, served, opening_lock, turn}
-use Rattle.word_rule.specs.OneHold.{leaving}
-use Rattle.word_rule.specs.Rule.Callers.{caller_of}
-use Rattle.word_rule.specs.Rule.CellInvariant.{SeatView, Table, SeatInvariant, CellInvariant}
-use Rattle.word_rule.specs.StepKinds.{ends_hold}
-use Rattle.word_rule.specs.Ticket.State.{tickets, ticket_word}
-use Rattle.word_rule.specs.Ticket.Steps.{HasDrawn}
-use Rattle.word_rule.proofs.Known.{same_cell}
-use Rattle.word_rule.proofs.LockLaws.{at_kind, erased_cpus}
-use Rattle.word_rule.proofs.RunOrder.{first_of, behind_of, line_left}
-use Rattle.word_rule.proofs.Ticket.Laws.{served_after}
 
 -- one step, which may end a hold, and then so many endings
 one_end : (b : Bool) (s i : ℕ) (ended : List ℕ) → (cond b ((s + 1) % tickets) s + length ended) % tickets ≡ (s + length (cond b (i ∷ ended) ended)) % tickets

@@ -1,17 +1,8 @@
 -- What the step machine keeps of a ticket lock shows it after each turn.
-use Rattle.std.proofs.Common.{◌≡◌, ◌≢◌, ℕ, ◌+◌, ◌-◌, ◌/◌, ◌%◌, ◌^◌, ◌<◌, true, false, List, length, get_or, set, refl, ap, ◌∙◌}
-use Rattle.std.proofs.lemmas.Bool.{false_from_ne_true}
-use Rattle.word_rule.specs.declared.machine.step_done.StepDone.{StepDone}
-use Rattle.word_rule.specs.declared.machine.step_done.StepDone.TheVariants as steps
-use Rattle.word_rule.specs.declared.lock_kind.Stage.{Stage}
-use Rattle.word_rule.specs.declared.lock_kind.Stage.TheVariants.{Idle, Ticket}
-use Rattle.word_rule.specs.declared.lock_kind.TicketStage.TheVariants.{Drawn, Served}
-use Rattle.word_rule.specs.Line.{is_first, taking}
-use Rattle.word_rule.specs.Rule.LockStates.{RepresentsState}
-use Rattle.word_rule.specs.Ticket.Acquire.{draw}
-use Rattle.word_rule.specs.Ticket.Definition.{ticket_lock, ticket_turn}
-use Rattle.word_rule.specs.Ticket.State.{TicketLock, tickets}
+use Rattle.std.proofs.{Common.{◌≡◌, ◌≢◌, ℕ, ◌+◌, ◌-◌, ◌/◌, ◌%◌, ◌^◌, ◌<◌, true, false, List, length, get_or, set, refl, ap, ◌∙◌}, lemmas.Bool.false_from_ne_true}
+use Rattle.word_rule.specs.{declared.machine.step_done.StepDone.StepDone, declared.lock_kind.Stage.Stage, declared.lock_kind.Stage.TheVariants.{Idle, Ticket}, declared.lock_kind.TicketStage.TheVariants.{Drawn, Served}, Line.{is_first, taking}, Rule.LockStates.RepresentsState, Ticket.Acquire.draw, Ticket.Definition.{ticket_lock, ticket_turn}, Ticket.State.{TicketLock, tickets}}
 use Rattle.word_rule.proofs.ShownTurns.{After, at, became, same}
+use Rattle.word_rule.specs.declared.machine.step_done.StepDone.TheVariants as steps
 use Rattle.word_rule.proofs.Ticket.Turns as ticket
 
 module _ (n : ℕ) (ws : List ℕ) (stages : List Stage) (l : TicketLock) (h : RepresentsState ticket_lock n ws stages l) (i : ℕ) (below : i < n) where

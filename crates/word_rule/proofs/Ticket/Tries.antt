@@ -1,18 +1,8 @@
 -- A try at a ticket lock that gets the object is a draw and a look at once; one that doesn't changes nobody's place in line.
-use Rattle.std.proofs.Common.{◌≡◌, ◌≢◌, ℕ, ◌+◌, ◌%◌, ◌<◌, ◌==◌, ◌&&◌, Bool, true, false, cond, List, [], ◌∷◌, ◌++◌, length, eq-eqb, refl, sym, ap, ◌∙◌, arith}
-use Rattle.std.proofs.Math.Nat.{mod-eq_of_lt}
-use Rattle.word_rule.specs.declared.machine.step_done.StepDone.{StepDone}
+use Rattle.std.proofs.{Common.{◌≡◌, ◌≢◌, ℕ, ◌+◌, ◌%◌, ◌<◌, ◌==◌, ◌&&◌, Bool, true, false, cond, List, [], ◌∷◌, ◌++◌, length, eq-eqb, refl, sym, ap, ◌∙◌, arith}, Math.Nat.mod-eq_of_lt}
+use Rattle.word_rule.specs.{declared.machine.step_done.StepDone.StepDone, declared.lock_kind.Stage.TheVariants.{Idle, Ticket}, declared.lock_kind.TicketStage.TheVariants.{Drawn, Served}, Line.{moved, is_empty, is_first, taking}, Ticket.Acquire.draw, Ticket.Definition.ticket_lock, Ticket.State.{TicketLock, tickets}, Ticket.Try.try_ticket}
+use Rattle.word_rule.proofs.{LockInterface.Tries, Moves.{moved_same, moved_else, moved_twice, not_empty}, Ticket.Turns.{hits, succeeds, tried_by, turned}}
 use Rattle.word_rule.specs.declared.machine.step_done.StepDone.TheVariants as steps
-use Rattle.word_rule.specs.declared.lock_kind.Stage.TheVariants.{Idle, Ticket}
-use Rattle.word_rule.specs.declared.lock_kind.TicketStage.TheVariants.{Drawn, Served}
-use Rattle.word_rule.specs.Line.{moved, is_empty, is_first, taking}
-use Rattle.word_rule.specs.Ticket.Acquire.{draw}
-use Rattle.word_rule.specs.Ticket.Definition.{ticket_lock}
-use Rattle.word_rule.specs.Ticket.State.{TicketLock, tickets}
-use Rattle.word_rule.specs.Ticket.Try.{try_ticket}
-use Rattle.word_rule.proofs.LockInterface.{Tries}
-use Rattle.word_rule.proofs.Moves.{moved_same, moved_else, moved_twice, not_empty}
-use Rattle.word_rule.proofs.Ticket.Turns.{hits, succeeds, tried_by, turned}
 
 module _ (l : TicketLock) (i t : ℕ) where
   pub draws_and_looks : l.line.stage i ≡ Idle → l.line.cpus ≡ [] → l.extra ≡ t → t < tickets

@@ -1,28 +1,13 @@
 -- A ticket lock's turns: each leaves a state of the lock, and words that are the state's.
-use Rattle.std.proofs.Common.{◌≡◌, ◌≢◌, ◌||◌, ℕ, zero, suc, ◌+◌, ◌-◌, ◌*◌, ◌/◌, ◌%◌, ◌^◌, ◌<◌, ◌≤◌, ◌==◌, ◌&&◌, Bool, true, false, true≢false, cond, List, [], ◌∷◌, ◌++◌, length, get_or, set, ne_eqb, eq-eqb, refl, sym, ap, ◌∙◌, subst, arith, length-append}
-use Rattle.std.proofs.lemmas.Bool.{false_from_ne_true, eqb-true}
-use Rattle.std.proofs.Math.Nat.{div-add-mod, mod-add-mod, mod-lt, mod-eq_of_lt}
+use Rattle.std.proofs.{Common.{◌≡◌, ◌≢◌, ◌||◌, ℕ, zero, suc, ◌+◌, ◌-◌, ◌*◌, ◌/◌, ◌%◌, ◌^◌, ◌<◌, ◌≤◌, ◌==◌, ◌&&◌, Bool, true, false, true≢false, cond, List, [], ◌∷◌, ◌++◌, length, get_or, set, ne_eqb, eq-eqb, refl, sym, ap, ◌∙◌, subst, arith, length-append}, lemmas.Bool.{false_from_ne_true, eqb-true}, Math.Nat.{div-add-mod, mod-add-mod, mod-lt, mod-eq_of_lt}}
 use mathlib.Core.Option.{some, some-injective, some-ne-none}
 use lib.ListN.{get_elem?}
 use Rattle.atomic_table.proofs.Lists.{at_longer, at_last, one_turn}
 use Rattle.event_log.specs.Distinct.{has, AreDistinctBelow}
 use Rattle.event_log.proofs.Distinct.{distinct_push, has_push}
+use Rattle.word_rule.specs.{declared.lock_kind.Stage.Stage, declared.lock_kind.Stage.TheVariants.{Idle, Ticket}, declared.lock_kind.TicketStage.TheVariants.{Drawn, Served}, Line.{First, behind, alone_with_it, is_empty, is_first, taking}, LockDefinition.{IsState, IsTied, opening_state}, Locks.holding, Ticket.Acquire.draw, Ticket.Definition.{ticket_lock, ticket_turn}, Ticket.Release.serve, Ticket.State.{TicketLock, tickets, ticket_word, Waits, StandsInLine}, Ticket.Try.try_ticket}
+use Rattle.word_rule.proofs.{Lists.{has_at, has_tail, at_below, at_first, first_at, first_is, one_place}, LockStates.{stands_at, line_fits}, Moves.each_moved, Ticket.Words.{high_half, low_half, next_added, served_added, served_subtracted}}
 use Rattle.word_rule.specs.declared.machine.step_done.StepDone.TheVariants as steps
-use Rattle.word_rule.specs.declared.lock_kind.Stage.{Stage}
-use Rattle.word_rule.specs.declared.lock_kind.Stage.TheVariants.{Idle, Ticket}
-use Rattle.word_rule.specs.declared.lock_kind.TicketStage.TheVariants.{Drawn, Served}
-use Rattle.word_rule.specs.Line.{First, behind, alone_with_it, is_empty, is_first, taking}
-use Rattle.word_rule.specs.LockDefinition.{IsState, IsTied, opening_state}
-use Rattle.word_rule.specs.Locks.{holding}
-use Rattle.word_rule.specs.Ticket.Acquire.{draw}
-use Rattle.word_rule.specs.Ticket.Definition.{ticket_lock, ticket_turn}
-use Rattle.word_rule.specs.Ticket.Release.{serve}
-use Rattle.word_rule.specs.Ticket.State.{TicketLock, tickets, ticket_word, Waits, StandsInLine}
-use Rattle.word_rule.specs.Ticket.Try.{try_ticket}
-use Rattle.word_rule.proofs.Lists.{has_at, has_tail, at_below, at_first, first_at, first_is, one_place}
-use Rattle.word_rule.proofs.LockStates.{stands_at, line_fits}
-use Rattle.word_rule.proofs.Moves.{each_moved}
-use Rattle.word_rule.proofs.Ticket.Words.{high_half, low_half, next_added, served_added, served_subtracted}
 
 -- i is alone in line, and has the object by that ticket
 abbrev pub tried_by : TicketLock → ℕ → ℕ → TicketLock

@@ -1,7 +1,5 @@
 -- The word of a ticket lock: its halves, and what a step does to them.
-use Rattle.std.proofs.Common.{◌≡◌, ℕ, ◌+◌, ◌-◌, ◌/◌, ◌%◌, ◌^◌, ◌<◌, ◌∙◌, sym, ap, arith}
-use Rattle.std.proofs.lemmas.Nat.{div-mul-add, mod-mul-add}
-use Rattle.std.proofs.Math.Nat.{add-mod_left, mod-eq_of_lt, mod_self}
+use Rattle.std.proofs.{Common.{◌≡◌, ℕ, ◌+◌, ◌-◌, ◌/◌, ◌%◌, ◌^◌, ◌<◌, ◌∙◌, sym, ap, arith}, lemmas.Nat.{div-mul-add, mod-mul-add}, Math.Nat.{add-mod_left, mod-eq_of_lt, mod_self}}
 use mathlib.Core.Logic.{dite}
 use native.Mathlib.Decide.{dec_lt}
 use Rattle.word_rule.specs.Ticket.State.{tickets, ticket_word}

@@ -1,14 +1,8 @@
 -- A world before its first step.
-use Rattle.std.specs.Prelude.{◌≡◌, ℕ, List, [], map, length, Some, slice_get, Vec}
-use Rattle.std.specs.List.{AllByRecursion}
-use Rattle.std.specs.declared.alloc.Global.{Global}
-use Rattle.event_log.specs.declared.entry.Todo.{Todo}
-use Rattle.event_log.specs.History.{History}
+use Rattle.std.specs.{Prelude.{◌≡◌, ℕ, List, [], map, length, Some, slice_get, Vec}, List.AllByRecursion, declared.alloc.Global.Global}
+use Rattle.event_log.specs.{declared.entry.Todo.Todo, History.History}
 use Rattle.sound_run.specs.declared.lock_kind.LockKind.{LockKind}
-use Rattle.word_rule.specs.Locks.{Fits, opening_lock}
-use Rattle.word_rule.specs.declared.machine.cell_spec.CellSpec.{CellSpec}
-use Rattle.word_rule.specs.Machine.SoundWorld.{IsTodo}
-use Rattle.word_rule.specs.Machine.World.{World, CellState, CpuState}
+use Rattle.word_rule.specs.{Locks.{Fits, opening_lock}, declared.machine.cell_spec.CellSpec.CellSpec, Machine.SoundWorld.IsTodo, Machine.World.{World, CellState, CpuState}}
 
 module _ {O P C R : Type 0} where
   -- a cell of that kind, with this first ticket, that is made of this object

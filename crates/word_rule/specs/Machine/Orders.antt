@@ -1,13 +1,8 @@
 -- Who does which steps on a cell, in a run.
 use Rattle.std.specs.Prelude.{ℕ, Bool, false, ◌==◌, ◌&&◌, if◌then◌else◌, List, [], ◌∷◌, ◌++◌, length, Option, Some, None, slice_get}
-use Rattle.event_log.specs.declared.object.SeqObject.{Ghosts}
-use Rattle.event_log.specs.declared.entry.Todo.{Todo}
-use Rattle.event_log.specs.Distinct.{has}
-use Rattle.word_rule.specs.declared.machine.step_done.StepDone.{StepDone}
+use Rattle.event_log.specs.{declared.object.SeqObject.Ghosts, declared.entry.Todo.Todo, Distinct.has}
+use Rattle.word_rule.specs.{declared.machine.step_done.StepDone.StepDone, StepKinds.{ends_hold, arrives}, Machine.SoundWorld.entries_by, Machine.World.{World, CpuState, step}}
 use Rattle.sound_run.specs.declared.place.Place.{Place}
-use Rattle.word_rule.specs.StepKinds.{ends_hold, arrives}
-use Rattle.word_rule.specs.Machine.SoundWorld.{entries_by}
-use Rattle.word_rule.specs.Machine.World.{World, CpuState, step}
 
 abbrev pub is_that : Option ℕ → ℕ → Bool
 is_that None x = false

@@ -1,14 +1,9 @@
 -- Rounds of a schedule, and which steps get a CPU on.
-use Rattle.std.specs.Prelude.{◌≡◌, ◌≢◌, ℕ, zero, suc, ◌+◌, ◌<◌, true, List, [], ◌∷◌, ◌++◌, length, Option, Some, None, slice_get}
-use Rattle.std.specs.List.{AllByRecursion}
-use Rattle.event_log.specs.declared.entry.Todo.{Todo}
-use Rattle.event_log.specs.Distinct.{has}
-use Rattle.sound_run.specs.declared.lock_kind.LockKind.{LockKind}
+use Rattle.std.specs.{Prelude.{◌≡◌, ◌≢◌, ℕ, zero, suc, ◌+◌, ◌<◌, true, List, [], ◌∷◌, ◌++◌, length, Option, Some, None, slice_get}, List.AllByRecursion}
+use Rattle.event_log.specs.{declared.entry.Todo.Todo, Distinct.has}
+use Rattle.sound_run.specs.{declared.lock_kind.LockKind.LockKind, Orders.numbers}
+use Rattle.word_rule.specs.{Locks.turn, Machine.Orders.is_at, Machine.World.{World, CellState, CpuState}}
 use Rattle.sound_run.specs.declared.lock_kind.LockKind.TheVariants as kinds
-use Rattle.word_rule.specs.Locks.{turn}
-use Rattle.word_rule.specs.Machine.Orders.{is_at}
-use Rattle.sound_run.specs.Orders.{numbers}
-use Rattle.word_rule.specs.Machine.World.{World, CellState, CpuState}
 
 -- a stretch of a schedule that names each of n CPUs
 abbrev pub IsRound : ℕ → List ℕ → Type 0

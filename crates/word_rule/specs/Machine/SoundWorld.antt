@@ -1,10 +1,6 @@
 -- What is true of a world in every run.
-use Rattle.std.specs.Prelude.{◌≡◌, ℕ, ◌<◌, ◌≤◌, List, [], length, Option, Some, None, slice_get}
-use Rattle.std.specs.List.{AllByRecursion}
-use Rattle.event_log.specs.declared.object.SeqObject.{Ghosts}
-use Rattle.event_log.specs.declared.event.TheConstants.{MOST_CALLS}
-use Rattle.event_log.specs.declared.entry.Entry.{Entry}
-use Rattle.event_log.specs.declared.entry.Todo.{Todo}
+use Rattle.std.specs.{Prelude.{◌≡◌, ℕ, ◌<◌, ◌≤◌, List, [], length, Option, Some, None, slice_get}, List.AllByRecursion}
+use Rattle.event_log.specs.{declared.object.SeqObject.Ghosts, declared.event.TheConstants.MOST_CALLS, declared.entry.Entry.Entry, declared.entry.Todo.Todo}
 use Rattle.sound_run.specs.Sound.{LogIsSound, Answers, NoneAfterFull, done_on, steps_by}
 use Rattle.word_rule.specs.Machine.World.{World, CellState, CpuState}
 

@@ -1,19 +1,10 @@
 -- Many CPUs, each with a script, over many cells; a schedule says who does the next step.
 use Rattle.std.specs.Prelude.{ℕ, ◌+◌, ◌-◌, ◌^◌, min, if◌then◌else◌, ◌==◌, List, [], ◌∷◌, ◌++◌, map, length, Option, Some, None, slice_get, slice_set}
-use Rattle.event_log.specs.declared.object.SeqObject.{Ghosts}
-use Rattle.event_log.specs.declared.event.Event.{Event}
-use Rattle.event_log.specs.declared.entry.Done.{Done}
-use Rattle.event_log.specs.declared.entry.Done.TheVariants as done
-use Rattle.event_log.specs.declared.entry.Entry.{Entry}
-use Rattle.event_log.specs.declared.entry.Todo.{Todo}
-use Rattle.event_log.specs.declared.entry.Run.{Run}
-use Rattle.event_log.specs.History.{History}
-use Rattle.event_log.specs.Log.{answers, replay}
-use Rattle.word_rule.specs.declared.machine.step_done.StepDone.{StepDone}
-use Rattle.word_rule.specs.declared.machine.step_done.StepDone.TheVariants as steps
-use Rattle.word_rule.specs.Locks.{Lock, turn}
-use Rattle.word_rule.specs.StepKinds.{ends_hold, is_look}
+use Rattle.event_log.specs.{declared.object.SeqObject.Ghosts, declared.event.Event.Event, declared.entry.Done.Done, declared.entry.Entry.Entry, declared.entry.Todo.Todo, declared.entry.Run.Run, History.History, Log.{answers, replay}}
+use Rattle.word_rule.specs.{declared.machine.step_done.StepDone.StepDone, Locks.{Lock, turn}, StepKinds.{ends_hold, is_look}}
 use Rattle.sound_run.specs.Sound.{Opened}
+use Rattle.event_log.specs.declared.entry.Done.TheVariants as done
+use Rattle.word_rule.specs.declared.machine.step_done.StepDone.TheVariants as steps
 
 -- an object behind its lock: what it was opened with, the lock, and the committed log
 pub record CellState (O P C R : Type 0) : Type 0 where

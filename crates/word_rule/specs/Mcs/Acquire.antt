@@ -1,12 +1,8 @@
 -- How a CPU gets the object at an MCS lock: it clears its `next` and enters the queue; behind another it arms itself, links
 -- itself to that one, and looks until it is let go.
 use Rattle.std.specs.Prelude.{ℕ, true, false, if◌then◌else◌, Option, Some, None}
-use Rattle.word_rule.specs.declared.machine.step_done.StepDone.{StepDone}
+use Rattle.word_rule.specs.{declared.machine.step_done.StepDone.StepDone, declared.lock_kind.Stage.TheVariants.Mcs, declared.lock_kind.McsStage.TheVariants.{Ready, Behind, Armed, Waiting, Holding}, Line.{alone_with_it, is_first, going, joining, taking}, Mcs.State.{McsLock, naming}}
 use Rattle.word_rule.specs.declared.machine.step_done.StepDone.TheVariants as steps
-use Rattle.word_rule.specs.declared.lock_kind.Stage.TheVariants.{Mcs}
-use Rattle.word_rule.specs.declared.lock_kind.McsStage.TheVariants.{Ready, Behind, Armed, Waiting, Holding}
-use Rattle.word_rule.specs.Line.{alone_with_it, is_first, going, joining, taking}
-use Rattle.word_rule.specs.Mcs.State.{McsLock, naming}
 
 -- the `next` of i becomes empty
 abbrev pub clear : McsLock → ℕ → McsLock

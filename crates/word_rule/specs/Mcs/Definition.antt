@@ -1,16 +1,7 @@
 -- The MCS lock, as one record.
 use Rattle.std.specs.Prelude.{◌≡◌, ℕ, true, Option, Some, None}
-use Rattle.word_rule.specs.declared.machine.step_done.StepDone.{StepDone}
+use Rattle.word_rule.specs.{declared.machine.step_done.StepDone.StepDone, declared.lock_kind.Stage.Stage, declared.lock_kind.Stage.TheVariants.{Idle, Mcs}, declared.lock_kind.McsStage.TheVariants.{Ready, Behind, Armed, Waiting, Holding, Alone, Leaving, Passing}, Line.last, LockDefinition.LockDefinition, Mcs.Acquire.{clear, enter, arm, link, look}, Mcs.Release.{see, empty, pass}, Mcs.State.{McsLock, follower, mcs_words, StandsInQueue, is_at_head, without_tries}, Mcs.Try.{prepare, try_queue}}
 use Rattle.word_rule.specs.declared.machine.step_done.StepDone.TheVariants as steps
-use Rattle.word_rule.specs.declared.lock_kind.Stage.{Stage}
-use Rattle.word_rule.specs.declared.lock_kind.Stage.TheVariants.{Idle, Mcs}
-use Rattle.word_rule.specs.declared.lock_kind.McsStage.TheVariants.{Ready, Behind, Armed, Waiting, Holding, Alone, Leaving, Passing}
-use Rattle.word_rule.specs.Line.{last}
-use Rattle.word_rule.specs.LockDefinition.{LockDefinition}
-use Rattle.word_rule.specs.Mcs.Acquire.{clear, enter, arm, link, look}
-use Rattle.word_rule.specs.Mcs.Release.{see, empty, pass}
-use Rattle.word_rule.specs.Mcs.State.{McsLock, follower, mcs_words, StandsInQueue, is_at_head, without_tries}
-use Rattle.word_rule.specs.Mcs.Try.{prepare, try_queue}
 
 -- an MCS lock's next step, of a CPU that stands there
 abbrev pub mcs_turn : McsLock → ℕ → Stage → McsLock × StepDone

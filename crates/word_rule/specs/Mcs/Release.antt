@@ -1,13 +1,8 @@
 -- How a holder gives the object back at an MCS lock: it looks for a follower; with none it empties the queue, if it is the
 -- last there; else it sees the follower once that has linked itself, and passes the object on.
 use Rattle.std.specs.Prelude.{ℕ, true, false, if◌then◌else◌, Option, Some, None}
-use Rattle.word_rule.specs.declared.machine.step_done.StepDone.{StepDone}
+use Rattle.word_rule.specs.{declared.machine.step_done.StepDone.StepDone, declared.lock_kind.Stage.Stage, declared.lock_kind.Stage.TheVariants.Mcs, declared.lock_kind.McsStage.TheVariants.{Leaving, Passing}, Line.{last, is_named, going, leaving}, Mcs.State.McsLock}
 use Rattle.word_rule.specs.declared.machine.step_done.StepDone.TheVariants as steps
-use Rattle.word_rule.specs.declared.lock_kind.Stage.{Stage}
-use Rattle.word_rule.specs.declared.lock_kind.Stage.TheVariants.{Mcs}
-use Rattle.word_rule.specs.declared.lock_kind.McsStage.TheVariants.{Leaving, Passing}
-use Rattle.word_rule.specs.Line.{last, is_named, going, leaving}
-use Rattle.word_rule.specs.Mcs.State.{McsLock}
 
 -- the holder's follower, if there is one that has linked itself. With none the holder stands elsewhere
 abbrev pub see : McsLock → ℕ → Stage → Option ℕ → McsLock × StepDone

@@ -1,10 +1,8 @@
 -- The steps of an MCS lock (Mellor-Crummey and Scott 1991), one relation for each kind.
 use Rattle.std.specs.Prelude.{ℕ, Bool, true, false, [], ◌∷◌}
 use Rattle.event_log.specs.declared.object.SeqObject.{Ghosts}
+use Rattle.word_rule.specs.{declared.lock_kind.Stage.TheVariants.{Idle, Mcs, Trying}, declared.lock_kind.McsStage.TheVariants.{Ready, Behind, Armed, Waiting, Holding, Alone, Leaving, Passing}, CallerState.{CallerState, IsOther, Moves, Takes, Gives, NeedsAnother}}
 use Rattle.word_rule.specs.declared.machine.step_done.StepDone.TheVariants as steps
-use Rattle.word_rule.specs.declared.lock_kind.Stage.TheVariants.{Idle, Mcs, Trying}
-use Rattle.word_rule.specs.declared.lock_kind.McsStage.TheVariants.{Ready, Behind, Armed, Waiting, Holding, Alone, Leaving, Passing}
-use Rattle.word_rule.specs.CallerState.{CallerState, IsOther, Moves, Takes, Gives, NeedsAnother}
 
 module _ {O P C R : Type 0} (meaning : Ghosts O P C R) (before after : CallerState O P C R) where
   -- the caller clears its `next`

@@ -1,11 +1,7 @@
 -- A try at an MCS lock: the CPU clears its `next`, gets the object where nobody is in the queue, and else goes without it.
 use Rattle.std.specs.Prelude.{ℕ, true, if◌then◌else◌, List, [], ◌∷◌, None}
-use Rattle.word_rule.specs.declared.machine.step_done.StepDone.{StepDone}
+use Rattle.word_rule.specs.{declared.machine.step_done.StepDone.StepDone, declared.lock_kind.Stage.TheVariants.{Idle, Mcs, Trying}, declared.lock_kind.McsStage.TheVariants.Holding, Line.{alone_with_it, is_empty, going}, Mcs.State.{McsLock, naming}}
 use Rattle.word_rule.specs.declared.machine.step_done.StepDone.TheVariants as steps
-use Rattle.word_rule.specs.declared.lock_kind.Stage.TheVariants.{Idle, Mcs, Trying}
-use Rattle.word_rule.specs.declared.lock_kind.McsStage.TheVariants.{Holding}
-use Rattle.word_rule.specs.Line.{alone_with_it, is_empty, going}
-use Rattle.word_rule.specs.Mcs.State.{McsLock, naming}
 
 -- i, which isn't in the queue, clears its `next` for a try
 abbrev pub prepare : McsLock → ℕ → McsLock

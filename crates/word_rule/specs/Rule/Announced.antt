@@ -1,20 +1,8 @@
 -- What a step reports to the seat that does it, at every lock.
 use Rattle.std.specs.Prelude.{◌≡◌, ℕ, ◌<◌, Bool, true, false, ◌||◌, List, [], ◌∷◌, ◌++◌, Option, Some}
 use Rattle.atomic_table.specs.Table.{Step}
-use Rattle.event_log.specs.declared.object.SeqObject.{Ghosts}
-use Rattle.event_log.specs.declared.event.Event.{Event}
-use Rattle.event_log.specs.Distinct.{has}
-use Rattle.event_log.specs.History.{History}
-use Rattle.word_rule.specs.declared.lock_kind.Stage.{Stage}
-use Rattle.word_rule.specs.declared.machine.step_done.StepDone.{StepDone}
-use Rattle.word_rule.specs.declared.view.TraceStep.{TraceStep}
-use Rattle.word_rule.specs.declared.view.CallerView.{CallerView}
-use Rattle.word_rule.specs.Cell.{Cell, Grows, Lawful, stored}
-use Rattle.word_rule.specs.Rule.CellInvariant.{EachFrom, Caller, SeatView}
-use Rattle.word_rule.specs.Locks.{holding}
-use Rattle.word_rule.specs.LockRuns.{Extends, ExtendsUntil, HasRun}
-use Rattle.word_rule.specs.OneHold.{leaving, silently}
-use Rattle.word_rule.specs.Rule.Seats.{Seat, moved_on, settled, merged}
+use Rattle.event_log.specs.{declared.object.SeqObject.Ghosts, declared.event.Event.Event, Distinct.has, History.History}
+use Rattle.word_rule.specs.{declared.lock_kind.Stage.Stage, declared.machine.step_done.StepDone.StepDone, declared.view.TraceStep.TraceStep, declared.view.CallerView.CallerView, Cell.{Cell, Grows, Lawful, stored}, Rule.CellInvariant.{EachFrom, Caller, SeatView}, Locks.holding, LockRuns.{Extends, ExtendsUntil, HasRun}, OneHold.{leaving, silently}, Rule.Seats.{Seat, moved_on, settled, merged}}
 
 -- one of the callers has the number
 abbrev pub any_has : {E : Type 0} → ℕ → List (CallerView E) → Bool

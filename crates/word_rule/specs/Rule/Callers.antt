@@ -1,16 +1,7 @@
 -- What a cell's own types say of their seats, and what the interface shows of them.
 use Rattle.std.specs.Prelude.{◌≡◌, ◌≢◌, ℕ, List, [], ◌∷◌, Option, Some, None}
-use Rattle.event_log.specs.declared.object.SeqObject.{Ghosts}
-use Rattle.event_log.specs.declared.event.Event.{Event}
-use Rattle.event_log.specs.Distinct.{has}
-use Rattle.event_log.specs.History.{History}
-use Rattle.event_log.specs.Log.{Begins, of}
-use Rattle.word_rule.specs.declared.lock_kind.Stage.{Stage}
-use Rattle.word_rule.specs.Cell.{Cell, Caller, PassView, HoldView, IsPassView, IsHoldView}
-use Rattle.word_rule.specs.CallerState.{CallerState}
-use Rattle.word_rule.specs.LockRuns.{HasRun}
-use Rattle.word_rule.specs.Rule.CellInvariant.{SeatView}
-use Rattle.word_rule.specs.Rule.Seats.{Seat}
+use Rattle.event_log.specs.{declared.object.SeqObject.Ghosts, declared.event.Event.Event, Distinct.has, History.History, Log.{Begins, of}}
+use Rattle.word_rule.specs.{declared.lock_kind.Stage.Stage, Cell.{Cell, Caller, PassView, HoldView, IsPassView, IsHoldView}, CallerState.CallerState, LockRuns.HasRun, Rule.CellInvariant.SeatView, Rule.Seats.Seat}
 
 module _ {O P C R : Type 0} where
   -- log b is log a, and after it events of this CPU alone

@@ -3,19 +3,9 @@ use Rattle.std.specs.Prelude.{◌≡◌, ◌≢◌, ℕ, ◌+◌, ◌<◌, true,
 use mathlib.Core.Option.{some}
 use lib.ListN.{get_elem?}
 use Rattle.atomic_table.specs.Table.{State}
-use Rattle.event_log.specs.declared.object.SeqObject.{Ghosts}
-use Rattle.event_log.specs.declared.event.Event.{Event}
-use Rattle.event_log.specs.Distinct.{has}
-use Rattle.event_log.specs.History.{History}
+use Rattle.event_log.specs.{declared.object.SeqObject.Ghosts, declared.event.Event.Event, Distinct.has, History.History}
 use Rattle.sound_run.specs.declared.lock_kind.LockKind.{LockKind}
-use Rattle.word_rule.specs.declared.lock_kind.Stage.TheVariants.{Idle}
-use Rattle.word_rule.specs.declared.view.TraceStep.{TraceStep}
-use Rattle.word_rule.specs.declared.view.CallerView.{CallerView}
-use Rattle.word_rule.specs.declared.view.View.{View}
-use Rattle.word_rule.specs.Cell.{Cell, Grows, Lawful, stored}
-use Rattle.word_rule.specs.Locks.{holding, Lock, opening_lock, lock_words, served, erase}
-use Rattle.word_rule.specs.LockRuns.{Extends, HasRun, lock_after}
-use Rattle.word_rule.specs.Rule.LockStates.{IsLockOf}
+use Rattle.word_rule.specs.{declared.lock_kind.Stage.TheVariants.Idle, declared.view.TraceStep.TraceStep, declared.view.CallerView.CallerView, declared.view.View.View, Cell.{Cell, Grows, Lawful, stored}, Locks.{holding, Lock, opening_lock, lock_words, served, erase}, LockRuns.{Extends, HasRun, lock_after}, Rule.LockStates.IsLockOf}
 
 -- the committed log, the run, the lock that the words are of, and whose each CPU number is: a seat, and a place among its
 -- callers

@@ -1,11 +1,7 @@
 -- What is true of a lock at all times, and what keeps it.
 use Rattle.std.specs.Prelude.{◌≡◌, ℕ, ◌<◌, List, length, slice_index_or}
 use Rattle.sound_run.specs.declared.lock_kind.LockKind.{LockKind}
-use Rattle.word_rule.specs.declared.lock_kind.Stage.{Stage}
-use Rattle.word_rule.specs.declared.machine.step_done.StepDone.{StepDone}
-use Rattle.word_rule.specs.declared.lock_kind.Stage.TheVariants.{Idle}
-use Rattle.word_rule.specs.LockDefinition.{IsTied, LockDefinition, LockState}
-use Rattle.word_rule.specs.Locks.{Lock, IsLock, lock_words}
+use Rattle.word_rule.specs.{declared.lock_kind.Stage.Stage, declared.machine.step_done.StepDone.StepDone, declared.lock_kind.Stage.TheVariants.Idle, LockDefinition.{IsTied, LockDefinition, LockState}, Locks.{Lock, IsLock, lock_words}}
 
 -- these are the words of that lock, which is of that kind and for n CPUs
 pub record IsLockOf (kind : LockKind) (n : ℕ) (ws : List ℕ) (l : Lock) : Type 0 where

@@ -1,14 +1,9 @@
 -- What an operation on a cell's table asks of the seat that steps, and what it reports.
 use Rattle.std.specs.Prelude.{◌≡◌, ℕ, ◌<◌, [], ◌∷◌, Option, Some, None}
 use mathlib.Core.Option.{none}
-use Rattle.atomic_table.specs.Table.{Step, step, rest}
-use Rattle.atomic_table.specs.declared.shared.Seat.{Seat as TableSeat}
-use Rattle.event_log.specs.declared.object.SeqObject.{Ghosts}
-use Rattle.event_log.specs.History.{History}
-use Rattle.word_rule.specs.declared.lock_table.LockTable.{LockTable}
-use Rattle.word_rule.specs.Rule.CellInvariant.{SeatView}
-use Rattle.word_rule.specs.Rule.Definition.{IsTurn, IsTry, IsPreparing, IsRead}
-use Rattle.word_rule.specs.Rule.Seats.{Seat, keeping, letting}
+use Rattle.atomic_table.specs.{Table.{Step, step, rest}, declared.shared.Seat.{Seat as TableSeat}}
+use Rattle.event_log.specs.{declared.object.SeqObject.Ghosts, History.History}
+use Rattle.word_rule.specs.{declared.lock_table.LockTable.LockTable, Rule.CellInvariant.SeatView, Rule.Definition.{IsTurn, IsTry, IsPreparing, IsRead}, Rule.Seats.{Seat, keeping, letting}}
 
 module _ {O P C R : Type 0} where
   -- an operation on that word of the table, with these operands

@@ -2,13 +2,7 @@
 use Rattle.std.specs.Prelude.{ℕ, zero, suc, ◌+◌, List, [], ◌∷◌, ◌++◌, map, min, Option, Some, None}
 use Rattle.atomic_table.specs.Table.{Me}
 use Rattle.event_log.specs.History.{History}
-use Rattle.word_rule.specs.declared.lock_kind.Stage.{Stage}
-use Rattle.word_rule.specs.declared.lock_kind.Stage.TheVariants.{Idle}
-use Rattle.word_rule.specs.declared.view.TraceStep.{TraceStep}
-use Rattle.word_rule.specs.declared.view.CallerView.{CallerView}
-use Rattle.word_rule.specs.declared.view.View.{View}
-use Rattle.word_rule.specs.Cell.{Cell}
-use Rattle.word_rule.specs.Rule.CellInvariant.{SeatView}
+use Rattle.word_rule.specs.{declared.lock_kind.Stage.Stage, declared.lock_kind.Stage.TheVariants.Idle, declared.view.TraceStep.TraceStep, declared.view.CallerView.CallerView, declared.view.View.View, Cell.Cell, Rule.CellInvariant.SeatView}
 
 -- a seat, with the slots that are out with it
 abbrev pub Seat : Type 0 → Type 0 → Type 0 → Type 0 → Type 0

@@ -1,11 +1,7 @@
 -- How a CPU gets the object at a ticket lock: it draws a ticket, and looks until that is served.
 use Rattle.std.specs.Prelude.{ℕ, ◌+◌, ◌%◌, true, false, if◌then◌else◌, length}
-use Rattle.word_rule.specs.declared.machine.step_done.StepDone.{StepDone}
+use Rattle.word_rule.specs.{declared.machine.step_done.StepDone.StepDone, declared.lock_kind.Stage.TheVariants.Ticket, declared.lock_kind.TicketStage.TheVariants.{Drawn, Served}, Line.{is_first, joining, taking}, Ticket.State.{TicketLock, tickets}}
 use Rattle.word_rule.specs.declared.machine.step_done.StepDone.TheVariants as steps
-use Rattle.word_rule.specs.declared.lock_kind.Stage.TheVariants.{Ticket}
-use Rattle.word_rule.specs.declared.lock_kind.TicketStage.TheVariants.{Drawn, Served}
-use Rattle.word_rule.specs.Line.{is_first, joining, taking}
-use Rattle.word_rule.specs.Ticket.State.{TicketLock, tickets}
 
 -- i joins the end of the line, with the ticket that comes after those in line
 abbrev pub draw : TicketLock → ℕ → TicketLock

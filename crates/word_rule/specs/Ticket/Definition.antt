@@ -1,15 +1,7 @@
 -- The ticket lock, as one record.
 use Rattle.std.specs.Prelude.{ℕ, ◌%◌, ◌<◌, nat_lt}
-use Rattle.word_rule.specs.declared.machine.step_done.StepDone.{StepDone}
+use Rattle.word_rule.specs.{declared.machine.step_done.StepDone.StepDone, declared.lock_kind.Stage.Stage, declared.lock_kind.Stage.TheVariants.{Idle, Ticket}, declared.lock_kind.TicketStage.TheVariants.{Drawn, Served}, LockDefinition.LockDefinition, Ticket.Acquire.{draw, look}, Ticket.Release.serve, Ticket.State.{TicketLock, tickets, ticket_words, StandsInLine, is_served, without_tickets}, Ticket.Try.try_ticket}
 use Rattle.word_rule.specs.declared.machine.step_done.StepDone.TheVariants as steps
-use Rattle.word_rule.specs.declared.lock_kind.Stage.{Stage}
-use Rattle.word_rule.specs.declared.lock_kind.Stage.TheVariants.{Idle, Ticket}
-use Rattle.word_rule.specs.declared.lock_kind.TicketStage.TheVariants.{Drawn, Served}
-use Rattle.word_rule.specs.LockDefinition.{LockDefinition}
-use Rattle.word_rule.specs.Ticket.Acquire.{draw, look}
-use Rattle.word_rule.specs.Ticket.Release.{serve}
-use Rattle.word_rule.specs.Ticket.State.{TicketLock, tickets, ticket_words, StandsInLine, is_served, without_tickets}
-use Rattle.word_rule.specs.Ticket.Try.{try_ticket}
 
 -- a ticket lock's next step, of a CPU that stands there
 abbrev pub ticket_turn : TicketLock → ℕ → Stage → TicketLock × StepDone

@@ -1,16 +1,8 @@
 -- The steps of a ticket lock, one relation for each kind.
 use Rattle.std.specs.Prelude.{◌≡◌, ℕ, ◌+◌, ◌%◌, Bool, true, false, List, [], ◌∷◌, ◌++◌, length}
-use Rattle.event_log.specs.declared.object.SeqObject.{Ghosts}
-use Rattle.event_log.specs.declared.event.Event.{Event}
+use Rattle.event_log.specs.{declared.object.SeqObject.Ghosts, declared.event.Event.Event}
+use Rattle.word_rule.specs.{declared.lock_kind.Stage.TheVariants.{Idle, Ticket}, declared.lock_kind.TicketStage.TheVariants.{Drawn, Served}, declared.view.TraceStep.TraceStep, CallerState.{CallerState, Moves, Takes, Gives, NeedsAnother}, Cell.Caller, LockRuns.arrivals_in, Ticket.State.tickets, OneHold.leaving}
 use Rattle.word_rule.specs.declared.machine.step_done.StepDone.TheVariants as steps
-use Rattle.word_rule.specs.declared.lock_kind.Stage.TheVariants.{Idle, Ticket}
-use Rattle.word_rule.specs.declared.lock_kind.TicketStage.TheVariants.{Drawn, Served}
-use Rattle.word_rule.specs.declared.view.TraceStep.{TraceStep}
-use Rattle.word_rule.specs.CallerState.{CallerState, Moves, Takes, Gives, NeedsAnother}
-use Rattle.word_rule.specs.Cell.{Caller}
-use Rattle.word_rule.specs.LockRuns.{arrivals_in}
-use Rattle.word_rule.specs.Ticket.State.{tickets}
-use Rattle.word_rule.specs.OneHold.{leaving}
 
 -- the run ends with the caller's draw, and the ticket is the cell's first one and as many more as had arrived in line before
 pub record HasDrawn {O P C R : Type 0} (caller : Caller O P C R) (ticket : ℕ) (run : List (TraceStep (Event O P C R))) : Type 0 where

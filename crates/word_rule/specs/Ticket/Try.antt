@@ -1,11 +1,7 @@
 -- A try at a ticket lock: the CPU gets the object where nobody is in line, and else goes without it.
 use Rattle.std.specs.Prelude.{ℕ, true, ◌&&◌, ◌==◌, if◌then◌else◌, List, [], ◌∷◌}
-use Rattle.word_rule.specs.declared.machine.step_done.StepDone.{StepDone}
+use Rattle.word_rule.specs.{declared.machine.step_done.StepDone.StepDone, declared.lock_kind.Stage.TheVariants.Ticket, declared.lock_kind.TicketStage.TheVariants.Served, Line.{alone_with_it, is_empty}, Ticket.State.TicketLock}
 use Rattle.word_rule.specs.declared.machine.step_done.StepDone.TheVariants as steps
-use Rattle.word_rule.specs.declared.lock_kind.Stage.TheVariants.{Ticket}
-use Rattle.word_rule.specs.declared.lock_kind.TicketStage.TheVariants.{Served}
-use Rattle.word_rule.specs.Line.{alone_with_it, is_empty}
-use Rattle.word_rule.specs.Ticket.State.{TicketLock}
 
 -- i, which isn't in line, had found nobody there and that ticket served: where both are so still it draws, and gets the
 -- object by its look at once

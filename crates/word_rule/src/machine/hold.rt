@@ -2,9 +2,7 @@
 
 ghost use Rattle.std.specs.Prelude.{◌≡◌, ◌+◌, ◌^◌, ◌<◌, ◌≤◌, if◌then◌else◌, length, vec_len, vec_capacity};
 ghost use Rattle.event_log.specs.History.{IsKept};
-ghost use Rattle.word_rule.specs.StepKinds.{ends_hold};
-ghost use Rattle.word_rule.specs.Machine.Shown.{with_entry};
-ghost use Rattle.word_rule.specs.Machine.World.{outcome_on, with_done, counted};
+ghost use Rattle.word_rule.specs.{StepKinds.ends_hold, Machine.Shown.with_entry, Machine.World.{outcome_on, with_done, counted}};
 
 use crate::machine::progress::Progress;
 use crate::machine::step_done::{StepDone, is_a_look, is_end};

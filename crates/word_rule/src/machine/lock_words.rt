@@ -1,9 +1,7 @@
 //! The words of a lock.
 
 ghost use Rattle.std.specs.Prelude.{◌≡◌, ◌<◌, ◌≤◌, vec_len, IfOk};
-ghost use Rattle.word_rule.specs.Locks.{Lock, opening_lock};
-ghost use Rattle.word_rule.specs.Machine.Shown.{KeepsLock, TurnsLock};
-ghost use Rattle.word_rule.specs.Rule.LockStates.{IsLockOf};
+ghost use Rattle.word_rule.specs.{Locks.{Lock, opening_lock}, Machine.Shown.{KeepsLock, TurnsLock}, Rule.LockStates.IsLockOf};
 
 use crate::machine::mcs::turn_mcs;
 use crate::machine::step_done::StepDone;

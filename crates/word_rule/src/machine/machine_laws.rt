@@ -4,15 +4,8 @@ ghost use Rattle.std.specs.Prelude.{◌≡◌, ◌≢◌, ◌⊎◌, ◌↔◌, 
 ghost use mathlib.Core.Option.{some};
 ghost use lib.ListN.{get_elem?};
 ghost use Rattle.event_log.specs.Log.{Begins};
-ghost use Rattle.word_rule.specs.declared.machine.step_done.StepDone.TheVariants.{Idle};
-ghost use Rattle.word_rule.specs.Locks.{holding};
-ghost use Rattle.word_rule.specs.Machine.Opening.{IsOpening};
-ghost use Rattle.word_rule.specs.Machine.Orders.{is_at, arrivals, endings, arrives_at, ends_within, ended};
-ghost use Rattle.word_rule.specs.Machine.Rounds.{HasRounds, AllDone, GetsOn, entries_to_do, go_round, most_steps, most_steps_of, steps_to_do};
-ghost use Rattle.sound_run.specs.Orders.{IsOrder};
-ghost use Rattle.sound_run.specs.Sound.{Sound};
-ghost use Rattle.word_rule.specs.StepKinds.{arrives};
-ghost use Rattle.word_rule.specs.Machine.World.{World, CellState, CpuState, run, step, run_of, opened_in};
+ghost use Rattle.word_rule.specs.{declared.machine.step_done.StepDone.TheVariants.Idle, Locks.holding, Machine.Opening.IsOpening, Machine.Orders.{is_at, arrivals, endings, arrives_at, ends_within, ended}, Machine.Rounds.{HasRounds, AllDone, GetsOn, entries_to_do, go_round, most_steps, most_steps_of, steps_to_do}, StepKinds.arrives, Machine.World.{World, CellState, CpuState, run, step, run_of, opened_in}};
+ghost use Rattle.sound_run.specs.{Orders.IsOrder, Sound.Sound};
 
 use event_log::SeqObject;
 

@@ -2,8 +2,7 @@
 //! CPU j.
 
 ghost use Rattle.std.specs.Prelude.{◌≡◌, ℕ, ◌+◌, ◌<◌, ◌≤◌, true, false, length, slice_index_or};
-ghost use Rattle.word_rule.specs.Mcs.Definition.{mcs_lock};
-ghost use Rattle.word_rule.specs.Rule.LockStates.{ShowsState, TurnsTo};
+ghost use Rattle.word_rule.specs.{Mcs.Definition.mcs_lock, Rule.LockStates.{ShowsState, TurnsTo}};
 
 use crate::machine::step_done::StepDone;
 use crate::{McsStage, Stage, locked_index, next_index};

@@ -1,9 +1,7 @@
 //! A ticket lock's steps, each on its one word.
 
 ghost use Rattle.std.specs.Prelude.{◌≡◌, ◌+◌, ◌-◌, ◌%◌, ◌^◌, ◌<◌, length, slice_index_or};
-ghost use Rattle.word_rule.specs.Ticket.Definition.{ticket_lock};
-ghost use Rattle.word_rule.specs.Ticket.State.{tickets};
-ghost use Rattle.word_rule.specs.Rule.LockStates.{ShowsState, TurnsTo};
+ghost use Rattle.word_rule.specs.{Ticket.Definition.ticket_lock, Ticket.State.tickets, Rule.LockStates.{ShowsState, TurnsTo}};
 
 use crate::machine::step_done::StepDone;
 use crate::{LAST_TICKET, Stage, TICKETS, TicketStage, next_ticket, served_ticket};

@@ -1,6 +1,5 @@
 use Rattle.std.proofs.Common.{refl, sym, ◌∙◌, ap, arith}
-use Rattle.auditor.proofs.Compares.{not_true, differ, same_next, same_place}
-use Rattle.auditor.proofs.Splits.{take_all}
+use Rattle.auditor.proofs.{Compares.{not_true, differ, same_next, same_place}, Splits.take_all}
 use Rattle.auditor.proofs.compare.are_same.Goals as goal
 
 pub loop-i-preserved : goal.loop-i-preserved

@@ -1,8 +1,6 @@
-use Rattle.std.proofs.Common.{◌≡◌, true, false, true≢false, sym, ◌∙◌, ap, length, take, arith, eq-eqb}
-use Rattle.std.proofs.lemmas.Bool.{eqb-true}
+use Rattle.std.proofs.{Common.{◌≡◌, true, false, true≢false, sym, ◌∙◌, ap, length, take, arith, eq-eqb}, lemmas.Bool.eqb-true}
 use Rattle.event_log.specs.Log.{calls_of, last_refuses}
-use Rattle.auditor.proofs.Compares.{not_true, differ, calls_next, last_next, call_at, not_longer, fulfils_if, whole_if}
-use Rattle.auditor.proofs.Splits.{take_all}
+use Rattle.auditor.proofs.{Compares.{not_true, differ, calls_next, last_next, call_at, not_longer, fulfils_if, whole_if}, Splits.take_all}
 use Rattle.auditor.proofs.compare.fulfil.Goals as goal
 
 pub loop-i-preserved : goal.loop-i-preserved

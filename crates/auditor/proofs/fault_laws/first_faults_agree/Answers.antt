@@ -1,5 +1,4 @@
-use Rattle.auditor.specs.StepModels.{object_model}
-use Rattle.auditor.specs.Terms.{starts}
+use Rattle.auditor.specs.{StepModels.object_model, Terms.starts}
 use Rattle.auditor.proofs.FaultOrder.{one_first}
 use Rattle.auditor.proofs.fault_laws.first_faults_agree.Goals as goal
 

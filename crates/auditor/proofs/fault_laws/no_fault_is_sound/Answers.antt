@@ -1,8 +1,5 @@
-use Rattle.auditor.specs.StepModels.{object_model}
-use Rattle.auditor.specs.Terms.{starts}
-use Rattle.auditor.specs.Transcripts.{opened_by}
-use Rattle.auditor.proofs.ObjectModels.{sound_from}
-use Rattle.auditor.proofs.Verdicts.{sound_of}
+use Rattle.auditor.specs.{StepModels.object_model, Terms.starts, Transcripts.opened_by}
+use Rattle.auditor.proofs.{ObjectModels.sound_from, Verdicts.sound_of}
 use Rattle.auditor.proofs.fault_laws.no_fault_is_sound.Goals as goal
 
 pub returns : goal.returns

@@ -1,8 +1,5 @@
-use Rattle.auditor.specs.StepModels.{object_model}
-use Rattle.auditor.specs.Terms.{starts}
-use Rattle.auditor.specs.Transcripts.{opened_by}
-use Rattle.auditor.proofs.ObjectModels.{sound_to}
-use Rattle.auditor.proofs.Verdicts.{no_fault}
+use Rattle.auditor.specs.{StepModels.object_model, Terms.starts, Transcripts.opened_by}
+use Rattle.auditor.proofs.{ObjectModels.sound_to, Verdicts.no_fault}
 use Rattle.auditor.proofs.fault_laws.sound_has_no_fault.Goals as goal
 
 pub returns : goal.returns

@@ -1,7 +1,6 @@
 use Rattle.std.proofs.Common.{ap, ◌∙◌, arith}
 use Rattle.sound_run.proofs.Slices.{read_get}
-use Rattle.auditor.specs.ReceivedRun.{ReceivedRun}
-use Rattle.auditor.specs.Terms.{terms_at}
+use Rattle.auditor.specs.{ReceivedRun.ReceivedRun, Terms.terms_at}
 use Rattle.auditor.proofs.Feeding.{events_begin, events_next, events_end, still_in_log, more_events, no_more_events}
 use Rattle.auditor.proofs.judge.feed_log.Goals as goal
 

@@ -1,9 +1,7 @@
 use Rattle.std.proofs.Common.{◌≡◌, ℕ, ◌<◌, List, length, get_or, sym, ap, ◌∙◌, arith}
 use Rattle.sound_run.proofs.Slices.{read_get}
-use Rattle.auditor.proofs.Feeding.{logs_next, logs_end, before_log, events_on}
-use Rattle.auditor.specs.Terms.{start, starts}
-use Rattle.auditor.specs.Transcripts.{judged_by, opened_by}
-use Rattle.auditor.proofs.JudgeTerms.{run_over, start_read}
+use Rattle.auditor.proofs.{Feeding.{logs_next, logs_end, before_log, events_on}, JudgeTerms.{run_over, start_read}}
+use Rattle.auditor.specs.{Terms.{start, starts}, Transcripts.{judged_by, opened_by}}
 use Rattle.auditor.proofs.judge.feed_logs.Goals as goal
 
 -- a list that is read from one that is all of them

@@ -1,8 +1,6 @@
 use Rattle.std.proofs.Common.{◌≡◌, ℕ, ◌<◌, List, length, get_or, sym, ap, ◌∙◌, arith}
-use Rattle.auditor.proofs.Feeding.{transcripts_next, transcripts_end, in_transcripts, no_entries, entries_on}
-use Rattle.auditor.specs.Terms.{starts}
-use Rattle.auditor.specs.Transcripts.{opened_by}
-use Rattle.auditor.proofs.JudgeTerms.{run_over}
+use Rattle.auditor.proofs.{Feeding.{transcripts_next, transcripts_end, in_transcripts, no_entries, entries_on}, JudgeTerms.run_over}
+use Rattle.auditor.specs.{Terms.starts, Transcripts.opened_by}
 use Rattle.auditor.proofs.judge.feed_transcripts.Goals as goal
 
 -- a list that is read from one that is all of them

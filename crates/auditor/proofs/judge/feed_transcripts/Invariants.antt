@@ -1,7 +1,6 @@
 use Rattle.std.proofs.Common.{◌≡◌}
 use Rattle.auditor.proofs.Feeding.{with_transcripts}
-use Rattle.auditor.specs.Terms.{starts}
-use Rattle.auditor.specs.Transcripts.{opened_by}
+use Rattle.auditor.specs.{Terms.starts, Transcripts.opened_by}
 use Rattle.auditor.proofs.judge.feed_transcripts.Given as goal
 
 abbrev pub invariant-loop-entries : goal.invariant-loop-entries

@@ -1,15 +1,8 @@
 use Rattle.std.proofs.Common.{subst}
 use Rattle.std.specs.Prelude.{◌≡◌, ◌↔◌}
+use Rattle.auditor.specs.{ByModels.SoundBy, Faults.IsFirstFaultBy, StepModels.object_model, Terms.starts, ReceivedRun.{ReceivedRun, run_of}, Transcripts.opened_by}
+use Rattle.auditor.proofs.{Feeding.{has_logs, whole_run, all_transcripts, none_open}, JudgeTerms.run_over, ObjectModels.sound_both}
 use Rattle.auditor.specs.declared.fault.Verdict.TheVariants as verdict
-use Rattle.auditor.specs.ByModels.{SoundBy}
-use Rattle.auditor.specs.Faults.{IsFirstFaultBy}
-use Rattle.auditor.specs.StepModels.{object_model}
-use Rattle.auditor.specs.Terms.{starts}
-use Rattle.auditor.specs.ReceivedRun.{ReceivedRun, run_of}
-use Rattle.auditor.specs.Transcripts.{opened_by}
-use Rattle.auditor.proofs.Feeding.{has_logs, whole_run, all_transcripts, none_open}
-use Rattle.auditor.proofs.JudgeTerms.{run_over}
-use Rattle.auditor.proofs.ObjectModels.{sound_both}
 use Rattle.auditor.proofs.judge.judge_run.Goals as goal
 
 pub verdict-requires-clause-logs : goal.verdict-requires-clause-logs

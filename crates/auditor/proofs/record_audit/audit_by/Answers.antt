@@ -1,16 +1,11 @@
 use Rattle.std.proofs.Common.{◌≡◌, List, sym, ap, ◌∙◌, subst}
 use Rattle.std.specs.Prelude.{◌↔◌, IfOk}
 use Rattle.sound_run.specs.Sound.{Opened}
-use Rattle.kernel_object.specs.declared.call.KParams.{KParams}
-use Rattle.kernel_object.specs.contracts.object.KernelObjectSeqObject.TheImpl.{ghosts as kernel}
-use Rattle.kernel_object.specs.KernelTypes.{KernelRun}
+use Rattle.kernel_object.specs.{declared.call.KParams.KParams, contracts.object.KernelObjectSeqObject.TheImpl.{ghosts as kernel}, KernelTypes.KernelRun}
 use Rattle.records.specs.Runs.{opened_of}
+use Rattle.auditor.specs.{Faults.IsFirstFault, Passes.IsRunOf, Transcripts.opened_by}
+use Rattle.auditor.proofs.{FaultNumbers.can_be_reported, RecordRuns.{KernelTerms, record_run}}
 use Rattle.auditor.specs.declared.fault.Verdict.TheVariants as verdict
-use Rattle.auditor.specs.Faults.{IsFirstFault}
-use Rattle.auditor.specs.Passes.{IsRunOf}
-use Rattle.auditor.specs.Transcripts.{opened_by}
-use Rattle.auditor.proofs.FaultNumbers.{can_be_reported}
-use Rattle.auditor.proofs.RecordRuns.{KernelTerms, record_run}
 use Rattle.auditor.proofs.record_audit.audit_by.Goals as goal
 
 pub judge_run-requires : goal.judge_run-requires

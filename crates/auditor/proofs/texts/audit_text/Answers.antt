@@ -1,6 +1,5 @@
 use Rattle.std.proofs.Common.{subst}
-use Rattle.records.specs.RecordRanges.{Record}
-use Rattle.records.specs.RecordStates.{received_record}
+use Rattle.records.specs.{RecordRanges.Record, RecordStates.received_record}
 use Rattle.auditor.specs.Audits.{IsVerdict}
 use Rattle.auditor.proofs.TextFaults.{text_named, text_judged, text_read_out}
 use Rattle.auditor.proofs.texts.audit_text.Goals as goal

@@ -1,8 +1,7 @@
 use Rattle.std.proofs.Common.{map, sym, arith}
 use Rattle.sound_run.proofs.Slices.{read_get, map_get}
 use Rattle.auditor.specs.declared.kept_log.KeptLog.{KeptLog}
-use Rattle.auditor.proofs.JudgedRuns.{index_map}
-use Rattle.auditor.proofs.LeftEvents.{taken_more, left_here}
+use Rattle.auditor.proofs.{JudgedRuns.index_map, LeftEvents.{taken_more, left_here}}
 use Rattle.auditor.proofs.unclaimed_events.first_left.Goals as goal
 
 pub returns-then-kept-len : goal.returns-then-kept-len

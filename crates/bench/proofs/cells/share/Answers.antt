@@ -1,6 +1,5 @@
 use Rattle.std.proofs.Common.{◌≡◌, ◌∷◌, suc, refl, sym, subst}
-use Rattle.std.specs.Arc.{arc_value}
-use Rattle.std.specs.Vec.Iter.{into_iter_items}
+use Rattle.std.specs.{Arc.arc_value, Vec.Iter.into_iter_items}
 use Rattle.word_rule.specs.Cell.{EachAt}
 use Rattle.bench.specs.Passes.{IsPassOf}
 use Rattle.bench.proofs.cells.share.Goals as goal

@@ -1,5 +1,4 @@
-use Rattle.std.specs.Arc.{arc_value}
-use Rattle.std.specs.Vec.Iter.{into_iter_items}
+use Rattle.std.specs.{Arc.arc_value, Vec.Iter.into_iter_items}
 use Rattle.word_rule.specs.Cell.{EachAt}
 use Rattle.bench.specs.Passes.{IsPassOf}
 use Rattle.bench.proofs.cells.share.Given as goal

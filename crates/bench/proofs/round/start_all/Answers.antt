@@ -1,16 +1,11 @@
 use mathlib.Core.List.{[], ◌∷◌}
 use mir.Syntax.{named, w64}
-use denote.Exit.{yes}
-use denote.Plain.{UInt}
-use denote.Param.{param}
-use denote.Ref.{ShrRef}
-use denote.Param.Send.{sendable, param_send, arg_send, shr_send}
+use denote.{Exit.yes, Plain.UInt, Param.param, Ref.ShrRef, Param.Send.{sendable, param_send, arg_send, shr_send}}
 use Rattle.std.proofs.Crossing.{crosses}
+use Rattle.event_log.proofs.Sends.{captures_send}
+use Rattle.bench.proofs.{Sends.{caller_send, Places}, BenchFault.TheSendSync.{the_send as fault_send}}
 use Rattle.std.specs.contracts.alloc.Global as Global
 use Rattle.std.specs.contracts.sync.atomic.AtomicUsize as AtomicUsize
-use Rattle.event_log.proofs.Sends.{captures_send}
-use Rattle.bench.proofs.Sends.{caller_send, Places}
-use Rattle.bench.proofs.BenchFault.TheSendSync.{the_send as fault_send}
 use Rattle.bench.proofs.round.start_all.Goals as goal
 
 pub spawn-requires-send-F : goal.spawn-requires-send-F

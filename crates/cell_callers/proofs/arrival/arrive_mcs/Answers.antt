@@ -1,9 +1,8 @@
 use Rattle.std.proofs.Common.{zero, suc, false, sym, subst}
 use Rattle.guarded_cell.specs.declared.cell.AnyCell.TheVariants.{Mcs}
-use Rattle.cell_callers.specs.declared.caller_state.CallerState.TheVariants as at
-use Rattle.cell_callers.specs.declared.arrival.Arrival.TheVariants.{Got}
-use Rattle.cell_callers.specs.Arrivals.{IsArrival}
+use Rattle.cell_callers.specs.{declared.arrival.Arrival.TheVariants.Got, Arrivals.IsArrival}
 use Rattle.cell_callers.proofs.Arrivals.{later}
+use Rattle.cell_callers.specs.declared.caller_state.CallerState.TheVariants as at
 use Rattle.cell_callers.proofs.arrival.arrive_mcs.Goals as goal
 
 pub returns-in-Hold-clause-arrival : goal.returns-in-Hold-clause-arrival

@@ -1,8 +1,8 @@
 use Rattle.std.proofs.Common.{sym, subst}
 use Rattle.guarded_cell.specs.declared.cell.AnyCell.TheVariants.{Ticket}
-use Rattle.cell_callers.specs.declared.caller_state.CallerState.TheVariants as at
 use Rattle.cell_callers.specs.Arrivals.{IsArrival}
 use Rattle.cell_callers.proofs.Arrivals.{later}
+use Rattle.cell_callers.specs.declared.caller_state.CallerState.TheVariants as at
 use Rattle.cell_callers.proofs.arrival.arrive_ticket.Goals as goal
 
 pub returns-in-Idle-clause-arrival : goal.returns-in-Idle-clause-arrival

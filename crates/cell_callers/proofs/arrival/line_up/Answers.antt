@@ -1,6 +1,6 @@
 use Rattle.guarded_cell.specs.declared.cell.AnyCell.TheVariants.{Mcs}
-use Rattle.cell_callers.specs.declared.caller_state.CallerState.TheVariants as at
 use Rattle.cell_callers.proofs.Arrivals.{later}
+use Rattle.cell_callers.specs.declared.caller_state.CallerState.TheVariants as at
 use Rattle.cell_callers.proofs.arrival.line_up.Goals as goal
 
 pub returns-clause-arrival : goal.returns-clause-arrival

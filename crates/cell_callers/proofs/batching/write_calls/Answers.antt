@@ -1,5 +1,4 @@
-use Rattle.std.proofs.Common.{◌∙◌, ap, map, sym, take}
-use Rattle.std.proofs.lemmas.List.{take_all}
+use Rattle.std.proofs.{Common.{◌∙◌, ap, map, sym, take}, lemmas.List.take_all}
 use Rattle.cell_callers.specs.Coding.{called_of}
 use Rattle.cell_callers.proofs.BatchCodes.{all_there, one_lacks}
 use Rattle.cell_callers.proofs.batching.write_calls.Goals as goal

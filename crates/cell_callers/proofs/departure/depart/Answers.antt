@@ -1,6 +1,6 @@
 use Rattle.std.proofs.Common.{zero, true, sym, subst}
-use Rattle.cell_callers.specs.declared.caller_state.CallerState.TheVariants as at
 use Rattle.cell_callers.specs.Arrivals.{IsDeparture}
+use Rattle.cell_callers.specs.declared.caller_state.CallerState.TheVariants as at
 use Rattle.cell_callers.proofs.departure.depart.Goals as goal
 
 pub returns-in-Ticket-clause-departure : goal.returns-in-Ticket-clause-departure

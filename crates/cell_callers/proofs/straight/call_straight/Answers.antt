@@ -1,10 +1,9 @@
 use Rattle.std.proofs.Common.{ap, sym, subst, ◌∙◌}
 use Rattle.std_alloc.specs.Arc.{arc_value}
 use Rattle.kernel_object.specs.contracts.object.KernelObjectSeqObject.TheImpl.{ghosts}
-use Rattle.cell_callers.specs.declared.caller_state.CallerState.TheVariants as at
-use Rattle.cell_callers.specs.Places.{IsPlaceOf, stands_at}
-use Rattle.cell_callers.specs.Wholes.{IsCalled}
+use Rattle.cell_callers.specs.{Places.{IsPlaceOf, stands_at}, Wholes.IsCalled}
 use Rattle.cell_callers.proofs.Places.{idle_there, in_line}
+use Rattle.cell_callers.specs.declared.caller_state.CallerState.TheVariants as at
 use Rattle.cell_callers.proofs.straight.call_straight.Goals as goal
 
 pub go_on-requires : goal.go_on-requires

@@ -1,10 +1,9 @@
 use Rattle.std.proofs.Common.{subst, sym, ◌∙◌}
 use Rattle.kernel_object.specs.contracts.object.KernelObjectSeqObject.TheImpl.{ghosts}
-use Rattle.cell_callers.specs.declared.caller_state.CallerState.TheVariants as at
-use Rattle.cell_callers.specs.Arrivals.{IsArrival, arrived}
-use Rattle.cell_callers.specs.CallerStates.{IfMcs, IsOf, IsOne}
+use Rattle.cell_callers.specs.{Arrivals.{IsArrival, arrived}, CallerStates.{IfMcs, IsOf, IsOne}}
 use Rattle.mcs_lock.specs.Passes.{IsBehindOf}
 use Rattle.cell_callers.proofs.Behind.{comes}
+use Rattle.cell_callers.specs.declared.caller_state.CallerState.TheVariants as at
 use Rattle.cell_callers.proofs.straight.come_behind.Goals as goal
 
 pub line_up-requires : goal.line_up-requires

@@ -1,15 +1,11 @@
 use Rattle.std.proofs.Common.{◌∙◌, zero, suc, false, inl, inr, refl, subst, sym}
 use Rattle.guarded_cell.specs.declared.cell.AnyCell.TheVariants.{Mcs}
 use Rattle.mcs_lock.specs.Passes.{IsBehindOf}
+use Rattle.cell_callers.specs.{CallReports.{GoesBehind, ReportsCalledAt}, CallerStates.{IfMcs, IsOne}, Places.IsPlaceOf}
+use Rattle.cell_callers.proofs.{Places.{stands_idle, stands_in_line}, Departures.{HasLeft, kept_reported}, straight.straight_mcs.Goals.{in-Ok, in-Err+in-Ok-empty}}
 use Rattle.cell_callers.specs.declared.caller_state.CallerState.TheVariants as at
 use Rattle.cell_callers.specs.declared.whole.Whole.TheVariants as whole
-use Rattle.cell_callers.specs.CallReports.{GoesBehind, ReportsCalledAt}
-use Rattle.cell_callers.specs.CallerStates.{IfMcs, IsOne}
-use Rattle.cell_callers.specs.Places.{IsPlaceOf}
-use Rattle.cell_callers.proofs.Places.{stands_idle, stands_in_line}
-use Rattle.cell_callers.proofs.Departures.{HasLeft, kept_reported}
 use Rattle.cell_callers.proofs.straight.straight_mcs.Goals as goal
-use Rattle.cell_callers.proofs.straight.straight_mcs.Goals.{in-Ok, in-Err+in-Ok-empty}
 
 pub come_behind-requires-clause-cell : goal.come_behind-requires-clause-cell
 come_behind-requires-clause-cell c = subst (λ z. IfMcs z (λ m. IsBehindOf m c.in-Behind.behind)) (sym c.requires.cell) c.in-Behind.ensures.queued.0

@@ -1,9 +1,9 @@
 use Rattle.std.proofs.Common.{◌∙◌, zero, suc, true, ap, subst, sym}
 use Rattle.guarded_cell.specs.declared.cell.AnyCell.TheVariants.{Ticket}
-use Rattle.cell_callers.specs.declared.caller_state.CallerState.TheVariants as at
-use Rattle.cell_callers.specs.declared.whole.Whole.TheVariants as whole
 use Rattle.cell_callers.specs.CallerStates.{IsOne}
 use Rattle.cell_callers.proofs.Places.{stands_idle, stands_in_line}
+use Rattle.cell_callers.specs.declared.caller_state.CallerState.TheVariants as at
+use Rattle.cell_callers.specs.declared.whole.Whole.TheVariants as whole
 use Rattle.cell_callers.proofs.straight.straight_ticket.Goals as goal
 
 pub serve-requires : goal.serve-requires

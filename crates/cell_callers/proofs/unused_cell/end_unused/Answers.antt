@@ -1,7 +1,6 @@
 use Rattle.std.proofs.Common.{◌≡◌, ◌++◌, ◌∷◌, [], ap, ◌∙◌}
 use Rattle.std.specs.Option.{option_to_list}
-use Rattle.word_rule.specs.Passes.{view_of_pass}
-use Rattle.word_rule.specs.Cell.{OwnsAll}
+use Rattle.word_rule.specs.{Passes.view_of_pass, Cell.OwnsAll}
 use Rattle.cell_callers.specs.Unused.{IsUnused}
 use Rattle.cell_callers.proofs.JoinedPasses.{front_each, last_each, owns_each, left_unused}
 use Rattle.cell_callers.proofs.unused_cell.end_unused.Goals as goal

@@ -1,5 +1,4 @@
-use Rattle.std.proofs.Common.{◌≡◌, ◌∷◌, [], ◌++◌, length, sym, ap, subst, ◌∙◌, append_assoc, slice_get}
-use Rattle.std.proofs.lemmas.List.{append-nil, nil_from_length}
+use Rattle.std.proofs.{Common.{◌≡◌, ◌∷◌, [], ◌++◌, length, sym, ap, subst, ◌∙◌, append_assoc, slice_get}, lemmas.List.{append-nil, nil_from_length}}
 use Rattle.std.specs.Vec.Iter.{into_iter_items}
 use Rattle.event_log.proofs.Lists.{get_behind}
 use Rattle.word_rule.specs.Cell.{EachAt}

@@ -1,6 +1,6 @@
 use Rattle.std.proofs.Common.{rules, Some, true, subst, sym}
-use Rattle.cell_callers.specs.declared.caller_state.CallerState.TheVariants as at
 use Rattle.cell_callers.specs.Tries.{IsTried}
+use Rattle.cell_callers.specs.declared.caller_state.CallerState.TheVariants as at
 use Rattle.cell_callers.proofs.whole.try_call.Goals as goal
 
 pub returns-in_default-default-true-clause-called : goal.returns-in_default-default-true-clause-called

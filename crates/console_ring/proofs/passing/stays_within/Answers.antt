@@ -1,6 +1,5 @@
 use Rattle.event_log.proofs.Replays.{replay_has, state_has}
-use Rattle.console_ring.specs.contracts.console.ConsoleSeqObject.TheImpl.{ghosts}
-use Rattle.console_ring.specs.State.{IsConsoleOf}
+use Rattle.console_ring.specs.{contracts.console.ConsoleSeqObject.TheImpl.ghosts, State.IsConsoleOf}
 use Rattle.console_ring.proofs.Keeps.{keeps, opens}
 use Rattle.console_ring.proofs.passing.stays_within.Goals as goal
 

@@ -1,8 +1,7 @@
 use Rattle.std.proofs.Common.{◌≡◌, ℕ, ap, ◌∙◌, zero-add, arith}
 use Rattle.event_log.specs.Log.{steps_of, Legal, replay}
 use Rattle.event_log.proofs.Replays.{log_leads}
-use Rattle.counter.specs.contracts.counter.BoundedCounterSeqObject.TheImpl.{ghosts}
-use Rattle.counter.specs.Counting.{ok_count}
+use Rattle.counter.specs.{contracts.counter.BoundedCounterSeqObject.TheImpl.ghosts, Counting.ok_count}
 use Rattle.counter.proofs.Keeps.{Counts, one_step}
 use Rattle.counter.proofs.counting.counts_each_once.Goals as goal
 

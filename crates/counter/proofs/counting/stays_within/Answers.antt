@@ -1,6 +1,5 @@
 use Rattle.event_log.proofs.Replays.{replay_has, state_has}
-use Rattle.counter.specs.contracts.counter.BoundedCounterSeqObject.TheImpl.{ghosts}
-use Rattle.counter.specs.State.{IsCounterOf}
+use Rattle.counter.specs.{contracts.counter.BoundedCounterSeqObject.TheImpl.ghosts, State.IsCounterOf}
 use Rattle.counter.proofs.Keeps.{keeps, opens}
 use Rattle.counter.proofs.counting.stays_within.Goals as goal
 

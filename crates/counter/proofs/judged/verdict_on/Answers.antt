@@ -1,10 +1,10 @@
 use Rattle.std.proofs.Common.{◌≡◌, ◌∷◌, [], ◌↔◌, IfOk, subst}
 use Rattle.sound_run.specs.Sound.{Sound}
-use Rattle.auditor.specs.declared.fault.Fault.TheVariants as fault
-use Rattle.auditor.specs.declared.fault.Verdict.TheVariants as verdict
 use Rattle.auditor.specs.Faults.{IsFirstFault}
 use Rattle.counter.specs.contracts.counter.BoundedCounterSeqObject.TheImpl.{ghosts}
 use Rattle.counter.proofs.JudgedRuns.{three, sound_if_one, fault_unless_one}
+use Rattle.auditor.specs.declared.fault.Fault.TheVariants as fault
+use Rattle.auditor.specs.declared.fault.Verdict.TheVariants as verdict
 use Rattle.counter.proofs.judged.verdict_on.Goals as goal
 
 pub returns-clause-sound : goal.returns-clause-sound

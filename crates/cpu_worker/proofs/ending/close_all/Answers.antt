@@ -1,7 +1,5 @@
-use Rattle.std.proofs.Common.{rules, ◌≡◌, suc, ◌∷◌, [], ◌++◌, length, map, refl, sym, ap, ◌∙◌, append_assoc, arith, length-append}
-use Rattle.std.specs.Option.{option_to_list}
-use Rattle.std.proofs.lemmas.List.{append-nil, nil_from_length}
-use Rattle.std.specs.Vec.Iter.{into_iter_items}
+use Rattle.std.proofs.{Common.{rules, ◌≡◌, suc, ◌∷◌, [], ◌++◌, length, map, refl, sym, ap, ◌∙◌, append_assoc, arith, length-append}, lemmas.List.{append-nil, nil_from_length}}
+use Rattle.std.specs.{Option.option_to_list, Vec.Iter.into_iter_items}
 use Rattle.word_rule.proofs.SoundRuns.{room_left}
 use Rattle.cpu_worker.proofs.ending.close_all.Goals as goal
 

@@ -1,11 +1,9 @@
-use Rattle.std.proofs.Common.{◌≡◌, ℕ, ◌+◌, ◌-◌, ◌<◌, length, get_or, ap, ◌∙◌, subst, arith, slice_get, Some}
-use Rattle.std.proofs.Math.ListN.{set}
+use Rattle.std.proofs.{Common.{◌≡◌, ℕ, ◌+◌, ◌-◌, ◌<◌, length, get_or, ap, ◌∙◌, subst, arith, slice_get, Some}, Math.ListN.set}
 use Rattle.std.specs.List.{SwappedAt}
 use Rattle.sound_run.proofs.Slices.{read_get, get_set_same, one_of, map_get}
 use Rattle.guarded_cell.specs.Runs.{Joins}
 use Rattle.cpu_worker.proofs.Places.{put_back}
-use Rattle.guarded_cell.proofs.SoundRuns.{joins_first, joins_second}
-use Rattle.guarded_cell.proofs.Joins.{set_joins}
+use Rattle.guarded_cell.proofs.{SoundRuns.{joins_first, joins_second}, Joins.set_joins}
 use Rattle.cpu_worker.proofs.ending.join_at.Given as given
 use Rattle.cpu_worker.proofs.ending.join_at.Goals as goal
 

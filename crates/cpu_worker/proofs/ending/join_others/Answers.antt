@@ -1,7 +1,5 @@
-use Rattle.std.proofs.Common.{◌≡◌, ◌∷◌, [], ◌++◌, length, map, sym, ap, subst, ◌∙◌, append_assoc, length-append}
-use Rattle.std.proofs.lemmas.List.{append-nil, nil_from_length, length-map, map-append}
-use Rattle.std.specs.List.{AllByRecursion}
-use Rattle.std.specs.Vec.Iter.{into_iter_items}
+use Rattle.std.proofs.{Common.{◌≡◌, ◌∷◌, [], ◌++◌, length, map, sym, ap, subst, ◌∙◌, append_assoc, length-append}, lemmas.List.{append-nil, nil_from_length, length-map, map-append}}
+use Rattle.std.specs.{List.AllByRecursion, Vec.Iter.into_iter_items}
 use Rattle.event_log.proofs.Each.{all_map, all_push}
 use Rattle.guarded_cell.specs.Runs.{EachJoins}
 use Rattle.guarded_cell.proofs.Joins.{each_self, each_then}

@@ -1,8 +1,6 @@
 use Rattle.std.proofs.Common.{◌≡◌, ◌++◌, ◌+◌, ◌≤◌, length, map, vec_capacity}
-use Rattle.std.specs.List.{AllByRecursion}
-use Rattle.std.specs.Vec.Iter.{into_iter_items}
-use Rattle.guarded_cell.specs.Workers.{ArePasses}
-use Rattle.guarded_cell.specs.Runs.{EachJoins}
+use Rattle.std.specs.{List.AllByRecursion, Vec.Iter.into_iter_items}
+use Rattle.guarded_cell.specs.{Workers.ArePasses, Runs.EachJoins}
 use Rattle.cpu_worker.proofs.ending.join_others.Given as goal
 
 abbrev pub invariant-loop-row : goal.invariant-loop-row

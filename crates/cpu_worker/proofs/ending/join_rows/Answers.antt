@@ -1,5 +1,4 @@
-use Rattle.std.proofs.Common.{◌≡◌, ◌∷◌, [], ◌++◌, ◌+◌, length, map, refl, sym, ap, subst, ◌∙◌, append_assoc, arith, length-append, slice_get}
-use Rattle.std.proofs.lemmas.List.{append-nil, nil_from_length, length-map}
+use Rattle.std.proofs.{Common.{◌≡◌, ◌∷◌, [], ◌++◌, ◌+◌, length, map, refl, sym, ap, subst, ◌∙◌, append_assoc, arith, length-append, slice_get}, lemmas.List.{append-nil, nil_from_length, length-map}}
 use Rattle.std.specs.Vec.Iter.{into_iter_items}
 use Rattle.event_log.proofs.Lists.{get_behind}
 use Rattle.guarded_cell.specs.Runs.{EachJoins}

@@ -1,7 +1,6 @@
 use Rattle.std.proofs.Common.{◌≡◌, ◌++◌, length, map}
 use Rattle.std.specs.Vec.Iter.{into_iter_items}
-use Rattle.guarded_cell.specs.Workers.{ArePasses}
-use Rattle.guarded_cell.specs.Runs.{EachJoins}
+use Rattle.guarded_cell.specs.{Workers.ArePasses, Runs.EachJoins}
 use Rattle.cpu_worker.proofs.ending.join_rows.Given as goal
 
 abbrev pub invariant-loop-pass : goal.invariant-loop-pass

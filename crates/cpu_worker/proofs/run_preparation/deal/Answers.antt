@@ -1,8 +1,6 @@
-use Rattle.std.proofs.Common.{◌≡◌, ◌∷◌, [], ◌+◌, ◌<◌, ◌≤◌, length, refl, sym, ap, subst, ◌∙◌, append_assoc, arith, length-append, slice_get, Some, vec_len, vec_capacity, Vec, Global}
-use Rattle.std.proofs.lemmas.List.{append-nil, nil_from_length}
+use Rattle.std.proofs.{Common.{◌≡◌, ◌∷◌, [], ◌+◌, ◌<◌, ◌≤◌, length, refl, sym, ap, subst, ◌∙◌, append_assoc, arith, length-append, slice_get, Some, vec_len, vec_capacity, Vec, Global}, lemmas.List.{append-nil, nil_from_length}}
 use Rattle.std.specs.Vec.Iter.{into_iter_items}
-use Rattle.event_log.proofs.Each.{each_at}
-use Rattle.event_log.proofs.Lists.{some_at}
+use Rattle.event_log.proofs.{Each.each_at, Lists.some_at}
 use Rattle.sound_run.proofs.Slices.{read_get}
 use Rattle.cpu_worker.proofs.Deals.{none_dealt, one_dealt, row_there}
 use Rattle.cpu_worker.proofs.run_preparation.deal.Given as given

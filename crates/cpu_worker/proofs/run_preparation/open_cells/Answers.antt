@@ -1,12 +1,9 @@
-use Rattle.std.proofs.Common.{◌≡◌, ◌∷◌, [], ◌++◌, ◌+◌, ◌<◌, ℕ, List, length, map, take, sym, ap, subst, ◌∙◌, arith, length-append, vec_capacity}
-use Rattle.std.proofs.lemmas.List.{map-append, take_all}
-use Rattle.std.proofs.lemmas.Option.{slice_get_within}
+use Rattle.std.proofs.{Common.{◌≡◌, ◌∷◌, [], ◌++◌, ◌+◌, ◌<◌, ℕ, List, length, map, take, sym, ap, subst, ◌∙◌, arith, length-append, vec_capacity}, lemmas.List.{map-append, take_all}, lemmas.Option.slice_get_within}
 use Rattle.event_log.proofs.Lists.{some_at}
 use Rattle.guarded_cell.specs.Kinds.{IsPassOf}
 use Rattle.records.specs.Settings.{ObjectSettings}
 use Rattle.records.proofs.SoundRanges.{all_at as all_by_place}
-use Rattle.word_rule.specs.Cell.{cell_of, opening_pass}
-use Rattle.word_rule.specs.Passes.{view_of_pass}
+use Rattle.word_rule.specs.{Cell.{cell_of, opening_pass}, Passes.view_of_pass}
 use Rattle.word_rule.proofs.Openings.{take_more}
 use Rattle.cpu_worker.specs.Opening.{IsRow, cell_for}
 use Rattle.cpu_worker.proofs.Rows.{row_next}

@@ -1,7 +1,6 @@
 use Rattle.std.proofs.Common.{◌≡◌, ◌≤◌, length, map, take, vec_len, vec_capacity}
 use Rattle.guarded_cell.specs.Kinds.{IsPassOf}
-use Rattle.word_rule.specs.Cell.{EachAt}
-use Rattle.word_rule.specs.Passes.{view_of_pass}
+use Rattle.word_rule.specs.{Cell.EachAt, Passes.view_of_pass}
 use Rattle.cpu_worker.specs.Opening.{IsRow, cell_for}
 use Rattle.cpu_worker.proofs.run_preparation.open_cells.Given as goal
 

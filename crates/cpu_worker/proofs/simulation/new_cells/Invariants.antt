@@ -1,7 +1,6 @@
 use Rattle.std.proofs.Common.{◌≡◌, [], map, take}
 use Rattle.std.specs.List.{AllByRecursion}
-use Rattle.word_rule.specs.Machine.Opening.{opening_cell}
-use Rattle.word_rule.specs.Machine.Shown.{AreStored}
+use Rattle.word_rule.specs.{Machine.Opening.opening_cell, Machine.Shown.AreStored}
 use Rattle.cpu_worker.specs.Simulation.{new_cell}
 use Rattle.cpu_worker.proofs.Simulations.{object_opened}
 use Rattle.cpu_worker.proofs.simulation.new_cells.Given as goal

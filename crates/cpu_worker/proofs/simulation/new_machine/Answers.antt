@@ -1,15 +1,11 @@
-use Rattle.std.proofs.Common.{◌≡◌, ℕ, List, map, length, vec_len, sym, ap, subst, ◌∙◌, arith, lit<, Vec, Global}
-use Rattle.std.proofs.lemmas.List.{length-map}
+use Rattle.std.proofs.{Common.{◌≡◌, ℕ, List, map, length, vec_len, sym, ap, subst, ◌∙◌, arith, lit<, Vec, Global}, lemmas.List.length-map}
 use Rattle.std.specs.List.{AllByRecursion}
-use Rattle.kernel_object.specs.contracts.object.KernelObjectSeqObject.TheImpl.{ghosts as kernel}
-use Rattle.kernel_object.specs.KernelTypes.{KernelTodo}
+use Rattle.kernel_object.specs.{contracts.object.KernelObjectSeqObject.TheImpl.{ghosts as kernel}, KernelTypes.KernelTodo}
 use Rattle.scripts.specs.ScriptText.{ScriptFits}
-use Rattle.word_rule.specs.Machine.Opening.{opening_cell, opening_world}
-use Rattle.word_rule.specs.Machine.Shown.{Represents}
+use Rattle.word_rule.specs.{Machine.Opening.{opening_cell, opening_world}, Machine.Shown.Represents}
 use Rattle.cpu_worker.specs.Simulation.{KernelWorld, new_cell, new_world}
-use Rattle.cpu_worker.proofs.Simulations.{opened_cpus, able_lists}
+use Rattle.cpu_worker.proofs.{Simulations.{opened_cpus, able_lists}, simulation.new_machine.Goals.After-into_lists}
 use Rattle.cpu_worker.proofs.simulation.new_machine.Goals as goal
-use Rattle.cpu_worker.proofs.simulation.new_machine.Goals.{After-into_lists}
 
 -- as many cells as objects
 cell_count : (c : After-into_lists) → vec_len c.in_ok-cells.cells ≡ length c.args.settings.now.objects

@@ -1,16 +1,12 @@
 use Rattle.std.proofs.Common.{◌≡◌, ℕ, List, length, sym, ap, subst, ◌∙◌}
 use Rattle.std.specs.List.{AllByRecursion}
-use Rattle.kernel_object.specs.declared.call.KParams.{KParams}
-use Rattle.kernel_object.specs.contracts.object.KernelObjectSeqObject.TheImpl.{ghosts as kernel}
-use Rattle.kernel_object.specs.KernelTypes.{KernelRun}
-use Rattle.records.specs.RecordRanges.{Record}
-use Rattle.records.specs.Runs.{opened_of, AsksFirst, TranscriptAsks}
+use Rattle.kernel_object.specs.{declared.call.KParams.KParams, contracts.object.KernelObjectSeqObject.TheImpl.{ghosts as kernel}, KernelTypes.KernelRun}
+use Rattle.records.specs.{RecordRanges.Record, Runs.{opened_of, AsksFirst, TranscriptAsks}}
 use Rattle.word_rule.specs.Machine.World.{run, run_of}
 use Rattle.sound_run.specs.Sound.{Sound, Opened}
 use Rattle.cpu_worker.specs.Simulation.{new_world, simulated}
-use Rattle.cpu_worker.proofs.Simulations.{simulated_asks}
+use Rattle.cpu_worker.proofs.{Simulations.simulated_asks, simulation.simulate_owned.Goals.After-record}
 use Rattle.cpu_worker.proofs.simulation.simulate_owned.Goals as goal
-use Rattle.cpu_worker.proofs.simulation.simulate_owned.Goals.{After-record}
 
 is_simulated : (c : After-record) → c.record.result ≡ simulated c.args.settings c.args.scripts c.args.schedule.now
 unfolding simulated

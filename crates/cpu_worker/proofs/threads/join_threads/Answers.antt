@@ -1,9 +1,6 @@
-use Rattle.std.proofs.Common.{◌≡◌, ◌∷◌, [], ◌++◌, length, sym, ap, subst, ◌∙◌, append_assoc, length-append}
-use Rattle.std.specs.List.{AllZip}
-use Rattle.std.proofs.lemmas.List.{append-nil, nil_from_length}
-use Rattle.std.specs.Vec.Iter.{into_iter_items}
-use Rattle.word_rule.proofs.Openings.{zip_push}
-use Rattle.word_rule.proofs.SoundRuns.{room_left}
+use Rattle.std.proofs.{Common.{◌≡◌, ◌∷◌, [], ◌++◌, length, sym, ap, subst, ◌∙◌, append_assoc, length-append}, lemmas.List.{append-nil, nil_from_length}}
+use Rattle.std.specs.{List.AllZip, Vec.Iter.into_iter_items}
+use Rattle.word_rule.proofs.{Openings.zip_push, SoundRuns.room_left}
 use Rattle.guarded_cell.specs.Kinds.{IsPassOf}
 use Rattle.word_rule.specs.Passes.{view_of_pass}
 use Rattle.cpu_worker.specs.Work.{IsDone}

@@ -1,6 +1,5 @@
 use Rattle.std.proofs.Common.{◌≡◌, ◌++◌, ◌≤◌, ◌+◌, length, vec_capacity}
-use Rattle.std.specs.List.{AllZip}
-use Rattle.std.specs.Vec.Iter.{into_iter_items}
+use Rattle.std.specs.{List.AllZip, Vec.Iter.into_iter_items}
 use Rattle.guarded_cell.specs.Kinds.{IsPassOf}
 use Rattle.word_rule.specs.Passes.{view_of_pass}
 use Rattle.cpu_worker.specs.Work.{IsDone}

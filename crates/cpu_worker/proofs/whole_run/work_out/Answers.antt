@@ -1,29 +1,17 @@
-use Rattle.std.proofs.Common.{◌≡◌, ℕ, List, length, map, refl, sym, ap, subst, ◌∙◌, arith, lit<, vec_capacity}
+use Rattle.std.proofs.{Common.{◌≡◌, ℕ, List, length, map, refl, sym, ap, subst, ◌∙◌, arith, lit<, vec_capacity}, lemmas.List.length-map, lemmas.Slice.Zip.AllZip-long}
 use Rattle.std.specs.List.{AllByRecursion}
-use Rattle.std.proofs.lemmas.List.{length-map}
-use Rattle.std.proofs.lemmas.Slice.Zip.{AllZip-long}
 use Rattle.event_log.specs.Entries.{asked_of}
-use Rattle.kernel_object.specs.contracts.object.KernelObjectSeqObject.TheImpl.{ghosts as kernel}
-use Rattle.kernel_object.specs.KernelTypes.{KernelEntry, KernelRun, KernelTodo}
-use Rattle.guarded_cell.specs.Kinds.{IsPassOf}
-use Rattle.guarded_cell.specs.Runs.{AllWorked}
-use Rattle.guarded_cell.specs.Workers.{ArePasses}
-use Rattle.records.specs.RecordRanges.{RunFits}
-use Rattle.records.specs.Runs.{opened_of, TranscriptAsks}
+use Rattle.kernel_object.specs.{contracts.object.KernelObjectSeqObject.TheImpl.{ghosts as kernel}, KernelTypes.{KernelEntry, KernelRun, KernelTodo}}
+use Rattle.guarded_cell.specs.{Kinds.IsPassOf, Runs.AllWorked, Workers.ArePasses}
+use Rattle.records.specs.{RecordRanges.RunFits, Runs.{opened_of, TranscriptAsks}}
 use Rattle.records.proofs.SoundRanges.{all_at as all_by_place}
-use Rattle.word_rule.specs.Cell.{OwnsAll}
-use Rattle.word_rule.specs.Passes.{view_of_pass}
+use Rattle.word_rule.specs.{Cell.OwnsAll, Passes.view_of_pass}
 use Rattle.sound_run.specs.Sound.{Sound}
 use Rattle.sound_run.proofs.Slices.{map_get}
-use Rattle.cpu_worker.specs.Opening.{cells_for}
-use Rattle.cpu_worker.specs.Starts.{IsNotStarted}
-use Rattle.cpu_worker.specs.Work.{IsDone}
-use Rattle.cpu_worker.proofs.Runs.{all_ready, all_left, all_worked, all_ask, sound_run, stored_passes}
-use Rattle.cpu_worker.proofs.Zips.{zip_right, err_has}
-use Rattle.cpu_worker.specs.declared.run_preparation.Work.{Work}
+use Rattle.cpu_worker.specs.{Opening.cells_for, Starts.IsNotStarted, Work.IsDone, declared.run_preparation.Work.Work}
+use Rattle.cpu_worker.proofs.{Runs.{all_ready, all_left, all_worked, all_ask, sound_run, stored_passes}, Zips.{zip_right, err_has}, whole_run.work_out.Goals.After-join_passes-passes}
 use Rattle.cpu_worker.proofs.whole_run.work_out.Given as given
 use Rattle.cpu_worker.proofs.whole_run.work_out.Goals as goal
-use Rattle.cpu_worker.proofs.whole_run.work_out.Goals.{After-join_passes-passes}
 
 -- the scripts of the jobs
 abbrev todos_of : Work → List (List KernelTodo)

@@ -1,5 +1,4 @@
-use Rattle.std.proofs.Common.{◌≡◌, ℕ, ◌+◌, ◌-◌, ◌<◌, length, get_or, ap, ◌∙◌, subst, arith, lit<}
-use Rattle.std.proofs.Math.ListN.{set}
+use Rattle.std.proofs.{Common.{◌≡◌, ℕ, ◌+◌, ◌-◌, ◌<◌, length, get_or, ap, ◌∙◌, subst, arith, lit<}, Math.ListN.set}
 use Rattle.std.specs.List.{SwappedAt}
 use Rattle.event_log.specs.Entries.{asked_of}
 use Rattle.sound_run.proofs.Slices.{read_get}

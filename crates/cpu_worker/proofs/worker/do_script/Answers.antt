@@ -1,10 +1,7 @@
-use Rattle.std.proofs.Common.{◌≡◌, ℕ, List, ◌∷◌, [], ◌++◌, ◌+◌, length, map, refl, sym, ap, subst, ◌∙◌, append_assoc, arith, length-append}
-use Rattle.std.proofs.lemmas.List.{append-nil, nil_from_length, length-map}
+use Rattle.std.proofs.{Common.{◌≡◌, ℕ, List, ◌∷◌, [], ◌++◌, ◌+◌, length, map, refl, sym, ap, subst, ◌∙◌, append_assoc, arith, length-append}, lemmas.List.{append-nil, nil_from_length, length-map}}
 use Rattle.std.specs.Vec.Iter.{into_iter_items}
-use Rattle.event_log.specs.declared.entry.Done.TheVariants.{NoRoom}
-use Rattle.event_log.specs.Entries.{asked_of}
-use Rattle.kernel_object.specs.contracts.object.KernelObjectSeqObject.TheImpl.{ghosts as kernel}
-use Rattle.kernel_object.specs.KernelTypes.{KernelTodo, KernelEntry}
+use Rattle.event_log.specs.{declared.entry.Done.TheVariants.NoRoom, Entries.asked_of}
+use Rattle.kernel_object.specs.{contracts.object.KernelObjectSeqObject.TheImpl.{ghosts as kernel}, KernelTypes.{KernelTodo, KernelEntry}}
 use Rattle.word_rule.specs.Machine.SoundWorld.{IsTodo}
 use Rattle.word_rule.proofs.SoundRuns.{room_left}
 use Rattle.guarded_cell.specs.Workers.{DidAt, HasDone}

@@ -1,6 +1,5 @@
 use Rattle.std.proofs.Common.{◌≡◌, ◌++◌, ◌≤◌, ◌+◌, length, map, vec_capacity}
-use Rattle.std.specs.List.{AllByRecursion}
-use Rattle.std.specs.Vec.Iter.{into_iter_items}
+use Rattle.std.specs.{List.AllByRecursion, Vec.Iter.into_iter_items}
 use Rattle.kernel_object.specs.contracts.object.KernelObjectSeqObject.TheImpl.{ghosts as kernel}
 use Rattle.word_rule.specs.Machine.SoundWorld.{IsTodo}
 use Rattle.guarded_cell.specs.Workers.{ArePasses, HasDone}

@@ -1,5 +1,4 @@
-use Rattle.std.proofs.Common.{sym, ap, ◌∙◌, ◌+◌, ◌-◌, ◌++◌, arith, option_map}
-use Rattle.std.proofs.lemmas.List.{append_assoc}
+use Rattle.std.proofs.{Common.{sym, ap, ◌∙◌, ◌+◌, ◌-◌, ◌++◌, arith, option_map}, lemmas.List.append_assoc}
 use Rattle.event_log.specs.Log.{steps_of}
 use Rattle.custom_kernel.specs.Lines.{events_of}
 use Rattle.custom_kernel.proofs.LinesAt.{events_next}

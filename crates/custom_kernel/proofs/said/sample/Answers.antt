@@ -1,5 +1,4 @@
-use Rattle.std.proofs.Common.{◌<◌, length, get_or, sym, ◌∙◌, ap, arith, bytes_eq}
-use Rattle.std.proofs.lemmas.List.{get_or_default}
+use Rattle.std.proofs.{Common.{◌<◌, length, get_or, sym, ◌∙◌, ap, arith, bytes_eq}, lemmas.List.get_or_default}
 use Rattle.shared_queue.specs.declared.call.QueueCall.TheVariants.{Enq}
 use Rattle.kernel_object.specs.declared.call.KCall.TheVariants.{Queue}
 use Rattle.kernel_words.specs.Rows.{call_row, call_samples}

@@ -1,6 +1,5 @@
 use Rattle.std.proofs.Common.{◌≡◌, drop}
-use Rattle.kernel_words.specs.Row.{sample_at}
-use Rattle.kernel_words.specs.Rows.{call_row, call_samples}
+use Rattle.kernel_words.specs.{Row.sample_at, Rows.{call_row, call_samples}}
 use Rattle.custom_kernel.proofs.said.sample.Given as goal
 
 abbrev pub invariant-loop-sample : goal.invariant-loop-sample

@@ -1,7 +1,6 @@
 use Rattle.std.proofs.Common.{sym, ap, refl, ◌∙◌, bytes_eq}
 use Rattle.std.specs.List.{list_any}
-use Rattle.custom_records.specs.Settings.{CustomSettings}
-use Rattle.custom_records.specs.CustomForm.{new_object_at}
+use Rattle.custom_records.specs.{Settings.CustomSettings, CustomForm.new_object_at}
 use Rattle.custom_records.proofs.custom_head.new_object_line.Goals as goal
 
 pub returns-then-is_taken : goal.returns-then-is_taken

@@ -2,8 +2,8 @@ use Rattle.std.proofs.Common.{◌≡◌, suc, ◌+◌, ◌-◌, length, length-a
 use Rattle.event_log.specs.declared.event.TheConstants.{MOST_CALLS}
 use Rattle.record_lines.specs.Reading.{left}
 use Rattle.record_lines.proofs.Lists.{behind, list_first, list_none, more_step, more_none, more_end, more_full}
-use Rattle.custom_records.proofs.items.list.Goals as goal
 use Rattle.custom_records.proofs.items.list.Goals.{else-loop-test, then-loop-test+in_default}
+use Rattle.custom_records.proofs.items.list.Goals as goal
 
 pub returns-in_err-first : goal.returns-in_err-first
 returns-in_err-first g c = ap (option_map _) c.from_residual.ensures ∙ sym (list_none (g.T.Item.item_at (map (λ w. w.bytes) c.args.refusing.now)) (left c.args.at) (sym c.item.ensures ∙ ap (option_map _) c.in_err-first.was))

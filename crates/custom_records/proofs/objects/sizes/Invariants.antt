@@ -1,7 +1,6 @@
 use Rattle.std.proofs.Common.{◌≡◌, ◌-◌, length}
-use Rattle.custom_records.specs.LineReading.{sizes_at}
+use Rattle.custom_records.specs.{LineReading.sizes_at, declared.settings.TheConstants.MOST_SIZES}
 use Rattle.custom_records.proofs.LineSteps.{behind_sizes}
-use Rattle.custom_records.specs.declared.settings.TheConstants.{MOST_SIZES}
 use Rattle.record_lines.specs.Reading.{left}
 use Rattle.custom_records.proofs.objects.sizes.Given as goal
 

@@ -1,16 +1,11 @@
 use Rattle.std.proofs.Common.{◌≡◌, ◌∙◌, ℕ, ◌==◌, true, false, List, ◌∷◌, length, length-append, Err, refl, sym, ap, subst, arith}
 use Rattle.std.specs.Bool.{IsTrue}
-use Rattle.custom_records.specs.contracts.custom_form.CustomFormRecordForm.TheImpl.{ghosts as custom_form}
-use Rattle.custom_records.specs.CustomForm.{Head}
-use Rattle.custom_records.specs.RecordFaults.{IsCustomText}
-use Rattle.custom_records.proofs.CustomFormLaws.{custom_laws}
-use Rattle.custom_records.proofs.CustomRecords.{CustomWhole, whole_in, record_in, fits_in, text_as, text_whole, bad_of, bad_is_none, empty_is}
-use Rattle.custom_records.proofs.reader.read_custom.Goals as goal
-use Rattle.record_lines.specs.FormStates.{nothing_read, TakesLine}
-use Rattle.record_lines.specs.LineMachine.{TakesText}
-use Rattle.record_lines.specs.Received.{received_whole}
-use Rattle.record_lines.proofs.FormTexts as form
+use Rattle.custom_records.specs.{contracts.custom_form.CustomFormRecordForm.TheImpl.{ghosts as custom_form}, CustomForm.Head, RecordFaults.IsCustomText}
+use Rattle.custom_records.proofs.{CustomFormLaws.custom_laws, CustomRecords.{CustomWhole, whole_in, record_in, fits_in, text_as, text_whole, bad_of, bad_is_none, empty_is}}
+use Rattle.record_lines.specs.{FormStates.{nothing_read, TakesLine}, LineMachine.TakesText, Received.received_whole}
 use Rattle.record_lines.proofs.LineMachine.{text_more_line}
+use Rattle.custom_records.proofs.reader.read_custom.Goals as goal
+use Rattle.record_lines.proofs.FormTexts as form
 
 pub returns-in_default-clause-fault : goal.returns-in_default-clause-fault
 returns-in_default-clause-fault g c = bad_of _ _ (form.end_is_bad custom_form custom_laws c.args.text.now c.loop-rest.rest.now c.loop-rest.state c.loop-rest.number c.loop-rest.invariant.0 c.in_default.ensures.none (λ at none. let both : false ≡ true = subst IsTrue c.loop-rest-test.true (c.is_done.ensures.1 at) in absurd cc))

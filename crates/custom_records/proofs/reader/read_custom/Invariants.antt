@@ -1,8 +1,7 @@
 use Rattle.std.proofs.Common.{◌+◌, ◌≤◌, length}
 use Rattle.custom_records.specs.contracts.custom_form.CustomFormRecordForm.TheImpl.{ghosts as custom_form}
+use Rattle.record_lines.specs.{FormStates.{nothing_read, TakesLine}, LineMachine.TakesText}
 use Rattle.custom_records.proofs.reader.read_custom.Given as goal
-use Rattle.record_lines.specs.FormStates.{nothing_read, TakesLine}
-use Rattle.record_lines.specs.LineMachine.{TakesText}
 
 -- whole lines were taken, and the line number is no greater than the number of bytes behind us
 abbrev pub invariant-loop-rest : goal.invariant-loop-rest

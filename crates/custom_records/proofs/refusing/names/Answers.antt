@@ -1,11 +1,8 @@
-use Rattle.std.proofs.Common.{◌≡◌, suc, ◌+◌, ◌-◌, ◌++◌, List, length, length-append, map, [], ◌∷◌, true, false, sym, ◌∙◌, ap, arith, option_map}
-use Rattle.std.proofs.lemmas.List.{map-append}
-use Rattle.custom_records.specs.LineReading.{new_name_in}
-use Rattle.custom_records.proofs.LineSteps.{left_some, left_none, new_done, new_full, new_step, new_wrong, no_word_left}
-use Rattle.custom_records.specs.declared.settings.TheConstants.{MOST_WORDS}
+use Rattle.std.proofs.{Common.{◌≡◌, suc, ◌+◌, ◌-◌, ◌++◌, List, length, length-append, map, [], ◌∷◌, true, false, sym, ◌∙◌, ap, arith, option_map}, lemmas.List.map-append}
+use Rattle.custom_records.specs.{LineReading.new_name_in, declared.settings.TheConstants.MOST_WORDS}
+use Rattle.custom_records.proofs.{LineSteps.{left_some, left_none, new_done, new_full, new_step, new_wrong, no_word_left}, refusing.names.Goals.{else-loop-test, then-loop-test+in_default}}
 use Rattle.record_lines.specs.Reading.{left}
 use Rattle.custom_records.proofs.refusing.names.Goals as goal
-use Rattle.custom_records.proofs.refusing.names.Goals.{else-loop-test, then-loop-test+in_default}
 
 pub returns-in_default-new_name : goal.returns-in_default-new_name
 returns-in_default-new_name c =

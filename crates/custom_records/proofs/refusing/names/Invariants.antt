@@ -1,6 +1,5 @@
 use Rattle.std.proofs.Common.{◌≡◌, ◌-◌, length, map, []}
-use Rattle.custom_records.specs.LineReading.{new_words_at}
-use Rattle.custom_records.specs.declared.settings.TheConstants.{MOST_WORDS}
+use Rattle.custom_records.specs.{LineReading.new_words_at, declared.settings.TheConstants.MOST_WORDS}
 use Rattle.record_lines.specs.Reading.{left}
 use Rattle.custom_records.proofs.refusing.names.Given as goal
 

@@ -1,9 +1,8 @@
 use Rattle.std.proofs.Common.{◌≡◌, suc, ◌+◌, ◌-◌, length, length-append, [], ◌∷◌, sym, ◌∙◌, ap, arith, option_map}
-use Rattle.custom_records.proofs.LineSteps.{sizes_step, sizes_none, sizes_end, sizes_full}
+use Rattle.custom_records.proofs.{LineSteps.{sizes_step, sizes_none, sizes_end, sizes_full}, said.add_numbers.Goals.{else-loop-test, then-loop-test+then-not-is_number_next}}
 use Rattle.custom_records.specs.declared.spoken.TheConstants.{MOST_NUMBERS}
 use Rattle.record_lines.specs.Reading.{left}
 use Rattle.custom_records.proofs.said.add_numbers.Goals as goal
-use Rattle.custom_records.proofs.said.add_numbers.Goals.{else-loop-test, then-loop-test+then-not-is_number_next}
 
 pub returns-in_err-number-clause-numbers : goal.returns-in_err-number-clause-numbers
 returns-in_err-number-clause-numbers c =

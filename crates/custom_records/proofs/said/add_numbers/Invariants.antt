@@ -1,7 +1,6 @@
 use Rattle.std.proofs.Common.{◌≡◌, ◌-◌, length}
-use Rattle.custom_records.specs.LineReading.{sizes_at}
+use Rattle.custom_records.specs.{LineReading.sizes_at, declared.spoken.TheConstants.MOST_NUMBERS}
 use Rattle.custom_records.proofs.LineSteps.{behind_sizes}
-use Rattle.custom_records.specs.declared.spoken.TheConstants.{MOST_NUMBERS}
 use Rattle.record_lines.specs.Reading.{left}
 use Rattle.custom_records.proofs.said.add_numbers.Given as goal
 

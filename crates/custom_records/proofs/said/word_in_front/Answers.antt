@@ -1,5 +1,4 @@
-use Rattle.std.proofs.Common.{option_map, ap, sym, ◌∙◌, arith}
-use Rattle.std.proofs.lemmas.Bool.{false≢true}
+use Rattle.std.proofs.{Common.{option_map, ap, sym, ◌∙◌, arith}, lemmas.Bool.false≢true}
 use Rattle.custom_records.proofs.NameSteps.{has_letter, has_more, none_empty, none_first, none_full, none_other, ends, ends_before}
 use Rattle.custom_records.proofs.said.word_in_front.Goals as goal
 

@@ -1,16 +1,9 @@
 use Rattle.std.proofs.Common.{◌+◌, [], ◌∷◌, ◌++◌, take, refl, sym, ap, ◌∙◌, subst, arith, Result, IfOk, OnErr}
-use Rattle.event_log.specs.declared.logged.NoRoom.{NoRoom}
-use Rattle.word_rule.specs.Answered.{IsAnswered, IsRefused}
-use Rattle.word_rule.specs.LockRuns.{events_in}
-use Rattle.word_rule.specs.OneHold.{HasHeld}
-use Rattle.word_rule.specs.Holds.{HasHeldEach}
-use Rattle.word_rule.proofs.ManyHolds.{leaves_none}
-use Rattle.word_rule.proofs.RunLists.{extends_self}
-use Rattle.event_log.specs.Log.{one_step}
-use Rattle.guarded_cell.specs.Calls.{HasCalled}
-use Rattle.guarded_cell.proofs.Called.{called_nothing, called_next, called_full}
-use Rattle.guarded_cell.specs.Held.{left_by_call, holds_of}
-use Rattle.guarded_cell.proofs.HeldCalls.{leaves_call, next_held, held_all}
+use Rattle.event_log.specs.{declared.logged.NoRoom.NoRoom, Log.one_step}
+use Rattle.word_rule.specs.{Answered.{IsAnswered, IsRefused}, LockRuns.events_in, OneHold.HasHeld, Holds.HasHeldEach}
+use Rattle.word_rule.proofs.{ManyHolds.leaves_none, RunLists.extends_self}
+use Rattle.guarded_cell.specs.{Calls.HasCalled, Held.{left_by_call, holds_of}}
+use Rattle.guarded_cell.proofs.{Called.{called_nothing, called_next, called_full}, HeldCalls.{leaves_call, next_held, held_all}}
 use Rattle.guarded_cell.proofs.callers.call_all.Goals as goal
 
 pub loop-asked-init : goal.loop-asked-init

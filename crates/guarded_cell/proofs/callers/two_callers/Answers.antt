@@ -1,7 +1,6 @@
 use Rattle.std.proofs.Common.{sym, ap, subst, ◌∙◌}
-use Rattle.guarded_cell.proofs.Called.{called_met, ended, ended_full}
+use Rattle.guarded_cell.proofs.{Called.{called_met, ended, ended_full}, HeldCalls.held_still}
 use Rattle.word_rule.specs.LockRuns.{HasRun}
-use Rattle.guarded_cell.proofs.HeldCalls.{held_still}
 use Rattle.guarded_cell.proofs.callers.two_callers.Goals as goal
 
 pub returns-clause-ended : goal.returns-clause-ended

@@ -1,7 +1,5 @@
-use Rattle.std.proofs.Common.{OnErr, subst}
-use Rattle.std.proofs.lemmas.Result.{IfOk-at_ok}
-use Rattle.word_rule.specs.Answered.{IsAnswered, IsRefused}
-use Rattle.word_rule.specs.OneHold.{HasHeld}
+use Rattle.std.proofs.{Common.{OnErr, subst}, lemmas.Result.IfOk-at_ok}
+use Rattle.word_rule.specs.{Answered.{IsAnswered, IsRefused}, OneHold.HasHeld}
 use Rattle.guarded_cell.specs.Held.{left_by_batch}
 use Rattle.guarded_cell.proofs.HeldCalls.{held_batch}
 use Rattle.word_rule.proofs.WholeCalls.{did}

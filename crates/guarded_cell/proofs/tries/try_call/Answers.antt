@@ -1,8 +1,6 @@
-use Rattle.std.proofs.Common.{OnErr, [], ◌∷◌, subst}
-use Rattle.std.proofs.lemmas.Result.{IfOk-at_ok}
+use Rattle.std.proofs.{Common.{OnErr, [], ◌∷◌, subst}, lemmas.Result.IfOk-at_ok}
 use Rattle.event_log.specs.Log.{one_step}
-use Rattle.word_rule.specs.Answered.{IsAnswered, IsRefused}
-use Rattle.word_rule.specs.OneHold.{HasHeld}
+use Rattle.word_rule.specs.{Answered.{IsAnswered, IsRefused}, OneHold.HasHeld}
 use Rattle.guarded_cell.specs.Held.{left_by_call}
 use Rattle.guarded_cell.proofs.HeldCalls.{held_call}
 use Rattle.word_rule.proofs.WholeCalls.{did_one}

@@ -1,7 +1,6 @@
 use Rattle.std.proofs.Common.{◌≡◌, Ok, Err, subst}
 use Rattle.record_lines.specs.declared.text.fault.LinesFault.TheVariants.{OutOfMemory, Line}
-use Rattle.records.specs.RecordFaults.{NamesBadLine}
-use Rattle.records.specs.RecordStates.{received_record}
+use Rattle.records.specs.{RecordFaults.NamesBadLine, RecordStates.received_record}
 use Rattle.judge.proofs.audit.verdict_of.Goals as goal
 
 pub returns-in-Err-OutOfMemory : goal.returns-in-Err-OutOfMemory

@@ -1,6 +1,5 @@
 use Rattle.std.proofs.Common.{◌≡◌, refl, subst, length, ◌∙◌, ap}
-use Rattle.records.specs.RecordFaults.{NamesBadLine}
-use Rattle.records.specs.RecordStates.{received_record}
+use Rattle.records.specs.{RecordFaults.NamesBadLine, RecordStates.received_record}
 use Rattle.record_lines.specs.declared.text.fault.LinesFault.TheVariants.{Line}
 use Rattle.judge.specs.Orders.{order, cycle, unsound, bad_line, places_report, room_with}
 use Rattle.judge.proofs.merge.order_of.Goals as goal

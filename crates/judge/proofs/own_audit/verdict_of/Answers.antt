@@ -1,9 +1,7 @@
 use Rattle.std.proofs.Common.{◌≡◌, ℕ, List, sym, subst, ◌∙◌}
-use Rattle.judge.specs.Models.{IsMistold, IsVerdictByCounts}
-use Rattle.custom_records.specs.CustomReceived.{received_custom}
-use Rattle.custom_records.specs.RecordFaults.{NamesBadCustomLine}
+use Rattle.judge.specs.{Models.{IsMistold, IsVerdictByCounts}, OwnReport.{judged, mistold, bad_line, AreFitting}}
+use Rattle.custom_records.specs.{CustomReceived.received_custom, RecordFaults.NamesBadCustomLine}
 use Rattle.record_lines.specs.declared.text.fault.LinesFault.TheVariants.{Line}
-use Rattle.judge.specs.OwnReport.{judged, mistold, bad_line, AreFitting}
 use Rattle.judge.proofs.MistoldCounts.{verdict_isnt, same_counts}
 use Rattle.judge.proofs.own_audit.verdict_of.Goals as goal
 

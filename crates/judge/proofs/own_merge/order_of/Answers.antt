@@ -1,14 +1,9 @@
 use Rattle.std.proofs.Common.{◌≡◌, ℕ, List, length, Err, refl, sym, subst, ap, ◌∙◌}
-use Rattle.judge.specs.declared.custom_merge_judge.CustomMergeFault.TheVariants as fault
-use Rattle.judge.specs.Merged.{IsMergedBy, HasCycleBy}
-use Rattle.judge.specs.Models.{Model, AreCounts, IsFirstFaultBy, IsMistold}
-use Rattle.custom_records.specs.CustomReceived.{received_custom}
-use Rattle.custom_records.specs.RecordFaults.{NamesBadCustomLine}
+use Rattle.judge.specs.{Merged.{IsMergedBy, HasCycleBy}, Models.{Model, AreCounts, IsFirstFaultBy, IsMistold}, Orders.{places_report, room_with}, OwnOrders.{order, cycle, unsound, mistold, bad_line}, OwnReport.AreFitting}
+use Rattle.custom_records.specs.{CustomReceived.received_custom, RecordFaults.NamesBadCustomLine}
 use Rattle.record_lines.specs.declared.text.fault.LinesFault.TheVariants.{Line}
-use Rattle.judge.specs.Orders.{places_report, room_with}
-use Rattle.judge.specs.OwnOrders.{order, cycle, unsound, mistold, bad_line}
-use Rattle.judge.specs.OwnReport.{AreFitting}
 use Rattle.judge.proofs.MistoldCounts.{order_isnt, cycle_isnt, fault_isnt, same_counts}
+use Rattle.judge.specs.declared.custom_merge_judge.CustomMergeFault.TheVariants as fault
 use Rattle.judge.proofs.own_merge.order_of.Goals as goal
 
 pub returns-in-Err-Line : goal.returns-in-Err-Line

@@ -1,5 +1,4 @@
-use Rattle.std.proofs.Common.{◌≡◌, ◌+◌, ◌++◌, ◌∷◌, [], map, take, get_or, slice_index, sym, ap, ◌∙◌, append_assoc}
-use Rattle.std.proofs.lemmas.List.{take_all, take_more, map-append}
+use Rattle.std.proofs.{Common.{◌≡◌, ◌+◌, ◌++◌, ◌∷◌, [], map, take, get_or, slice_index, sym, ap, ◌∙◌, append_assoc}, lemmas.List.{take_all, take_more, map-append}}
 use Rattle.log_merge.specs.FoundCycles.{next_place}
 use Rattle.log_merge.proofs.Placing.{all_at}
 use Rattle.log_merge.proofs.cycle.put_next.Goals as goal

@@ -1,5 +1,4 @@
-use Rattle.std.proofs.Common.{◌<◌, ◌++◌, ℕ, length, map, take, drop, slice_index, refl, sym, ◌∙◌, subst, arith}
-use Rattle.std.proofs.lemmas.List.{map-append}
+use Rattle.std.proofs.{Common.{◌<◌, ◌++◌, ℕ, length, map, take, drop, slice_index, refl, sym, ◌∙◌, subst, arith}, lemmas.List.map-append}
 use Rattle.std.specs.List.{AllByRecursion}
 use Rattle.log_merge.specs.FoundCycles.{next_place}
 use Rattle.log_merge.proofs.Placing.{all_take, all_drop, least_at}

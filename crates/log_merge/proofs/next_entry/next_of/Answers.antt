@@ -1,7 +1,6 @@
 use Rattle.std.proofs.Common.{true≢false, get_or, sym, ◌∙◌, arith}
 use Rattle.log_merge.specs.Shapes.{shape_of}
-use Rattle.log_merge.proofs.Lent.{ended}
-use Rattle.log_merge.proofs.Shaped.{none_of, shaped, comes_past, comes_by, blocked_by}
+use Rattle.log_merge.proofs.{Lent.ended, Shaped.{none_of, shaped, comes_past, comes_by, blocked_by}}
 use Rattle.log_merge.proofs.next_entry.next_of.Goals as goal
 
 pub bounds-placed-object : goal.bounds-placed-object

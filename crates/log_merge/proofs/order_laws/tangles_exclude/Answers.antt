@@ -1,5 +1,4 @@
-use Rattle.log_merge.proofs.Exclusion.{tangle_excludes}
-use Rattle.log_merge.proofs.Rows.{crossed_is_tangle}
+use Rattle.log_merge.proofs.{Exclusion.tangle_excludes, Rows.crossed_is_tangle}
 use Rattle.log_merge.proofs.order_laws.tangles_exclude.Goals as goal
 
 pub returns : goal.returns

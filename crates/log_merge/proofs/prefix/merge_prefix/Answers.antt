@@ -1,12 +1,7 @@
 use Rattle.std.proofs.Common.{slice_index, ◌≡◌, ◌<◌, ◌++◌, ◌∷◌, [], ℕ, List, length, take, drop, sym, ap, ◌∙◌, subst, arith}
 use Rattle.sound_run.specs.declared.place.Place.{Place}
-use Rattle.log_merge.specs.Prefixes.{IsPrefix, CanCome}
-use Rattle.log_merge.specs.Least.{IsLeastNext, TakesTheLeast}
-use Rattle.log_merge.specs.Nexts.{IsReady, left_in}
-use Rattle.log_merge.specs.WhoCanCome.{SaysWhoCanCome}
-use Rattle.log_merge.proofs.Leasts.{least_next, least_start, least_push}
-use Rattle.log_merge.proofs.Placing.{ready_of, ready_at_start, prefix_at_start, refilled}
-use Rattle.log_merge.proofs.Waking.{can_within}
+use Rattle.log_merge.specs.{Prefixes.{IsPrefix, CanCome}, Least.{IsLeastNext, TakesTheLeast}, Nexts.{IsReady, left_in}, WhoCanCome.SaysWhoCanCome}
+use Rattle.log_merge.proofs.{Leasts.{least_next, least_start, least_push}, Placing.{ready_of, ready_at_start, prefix_at_start, refilled}, Waking.can_within}
 use Rattle.log_merge.proofs.prefix.merge_prefix.Goals as goal
 
 pub flags_of-requires : goal.flags_of-requires

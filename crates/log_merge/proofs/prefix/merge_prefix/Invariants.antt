@@ -1,7 +1,4 @@
-use Rattle.log_merge.specs.Prefixes.{IsPrefix}
-use Rattle.log_merge.specs.Least.{TakesTheLeast}
-use Rattle.log_merge.specs.Nexts.{IsReady, left_in}
-use Rattle.log_merge.specs.WhoCanCome.{SaysWhoCanCome}
+use Rattle.log_merge.specs.{Prefixes.IsPrefix, Least.TakesTheLeast, Nexts.{IsReady, left_in}, WhoCanCome.SaysWhoCanCome}
 use Rattle.log_merge.proofs.prefix.merge_prefix.Given as goal
 
 abbrev pub invariant-loop-cpu : goal.invariant-loop-cpu

@@ -1,16 +1,9 @@
-use Rattle.std.proofs.Common.{◌↔◌, ◌+◌, ◌<◌, ◌++◌, ◌∷◌, [], ℕ, length, get_or, slice_index, sym, ◌∙◌, subst, arith, add-one}
-use Rattle.std.proofs.lemmas.List.{length-set}
-use Rattle.std.proofs.lemmas.Option.{slice_get_within}
-use Rattle.std.proofs.Math.ListN.{set}
+use Rattle.std.proofs.{Common.{◌↔◌, ◌+◌, ◌<◌, ◌++◌, ◌∷◌, [], ℕ, length, get_or, slice_index, sym, ◌∙◌, subst, arith, add-one}, lemmas.List.length-set, lemmas.Option.slice_get_within, Math.ListN.set}
 use mathlib.Core.Logic.{dite}
 use native.Mathlib.Decide.{ℕ_discrete}
 use Rattle.sound_run.specs.Sound.{transcript_of, log_of}
-use Rattle.log_merge.specs.Prefixes.{IsPrefix, CanCome}
-use Rattle.log_merge.specs.Nexts.{IsReady, left_in}
-use Rattle.log_merge.specs.WhoCanCome.{IsRight, MayWake}
-use Rattle.log_merge.proofs.Placing.{left_falls, full_next, done_next, full_ready, done_ready}
-use Rattle.log_merge.proofs.Shaped.{shaped, steps_of, full_of}
-use Rattle.log_merge.proofs.Waking.{others_after_full, others_after_done, right_still}
+use Rattle.log_merge.specs.{Prefixes.{IsPrefix, CanCome}, Nexts.{IsReady, left_in}, WhoCanCome.{IsRight, MayWake}}
+use Rattle.log_merge.proofs.{Placing.{left_falls, full_next, done_next, full_ready, done_ready}, Shaped.{shaped, steps_of, full_of}, Waking.{others_after_full, others_after_done, right_still}}
 use Rattle.log_merge.proofs.prefix.place_next.Goals as goal
 
 pub overflow_add-at : goal.overflow_add-at

@@ -1,6 +1,5 @@
 use Rattle.std.proofs.Common.{◌≡◌, ◌↔◌, ◌<◌, ◌≤◌, ℕ, length}
-use Rattle.log_merge.specs.Flags.{capacity, HasFlag}
-use Rattle.log_merge.specs.WhoCanCome.{IsRight}
+use Rattle.log_merge.specs.{Flags.{capacity, HasFlag}, WhoCanCome.IsRight}
 use Rattle.log_merge.proofs.ready_cpus.look_at_all.Given as goal
 
 abbrev pub invariant-loop-cpu : goal.invariant-loop-cpu

@@ -1,10 +1,8 @@
-use Rattle.std.proofs.Common.{inl, inr, ℕ, length, get_or, sym, ◌∙◌, subst, arith}
-use Rattle.std.proofs.lemmas.Bool.{cases_lt}
+use Rattle.std.proofs.{Common.{inl, inr, ℕ, length, get_or, sym, ◌∙◌, subst, arith}, lemmas.Bool.cases_lt}
 use mathlib.Core.Logic.{dite}
 use native.Mathlib.Decide.{ℕ_discrete}
 use Rattle.log_merge.specs.WhoCanCome.{IsRight}
-use Rattle.log_merge.proofs.Shaped.{by_of}
-use Rattle.log_merge.proofs.Waking.{through, event_within}
+use Rattle.log_merge.proofs.{Shaped.by_of, Waking.{through, event_within}}
 use Rattle.log_merge.proofs.ready_cpus.look_behind.Goals as goal
 
 pub look-requires-clause-cpu : goal.look-requires-clause-cpu

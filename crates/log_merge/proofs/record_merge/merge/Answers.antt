@@ -1,14 +1,11 @@
 use Rattle.std.proofs.Common.{◌≡◌, refl, sym, ap, ◌∙◌, subst}
 use Rattle.kernel_object.specs.KernelTypes.{KernelRun}
-use Rattle.auditor.specs.declared.fault.Verdict.TheVariants as verdict
 use Rattle.auditor.specs.VerdictText.{CanBeReported}
 use Rattle.records.specs.Runs.{opened_of}
-use Rattle.log_merge.specs.declared.run_merge.Merging.{Merging}
+use Rattle.log_merge.specs.{declared.run_merge.Merging.Merging, Merging.{IsCycleFound, IsMerging}}
+use Rattle.log_merge.proofs.{Exclusion.tangle_excludes, Matched.matched_of_sound, WholeRuns.{whole_of_fits, few_entries}}
+use Rattle.auditor.specs.declared.fault.Verdict.TheVariants as verdict
 use Rattle.log_merge.specs.declared.run_merge.Merging.TheVariants as merging
-use Rattle.log_merge.specs.Merging.{IsCycleFound, IsMerging}
-use Rattle.log_merge.proofs.Exclusion.{tangle_excludes}
-use Rattle.log_merge.proofs.Matched.{matched_of_sound}
-use Rattle.log_merge.proofs.WholeRuns.{whole_of_fits, few_entries}
 use Rattle.log_merge.proofs.record_merge.merge.Goals as goal
 
 pub merge_run-requires-clause-whole : goal.merge_run-requires-clause-whole

@@ -1,11 +1,8 @@
-use Rattle.std.proofs.Common.{refl}
-use Rattle.std.proofs.lemmas.Option.{slice_get-get_or}
+use Rattle.std.proofs.{Common.refl, lemmas.Option.slice_get-get_or}
 use Rattle.record_lines.proofs.Lines.{no_lines}
 use Rattle.sound_run.specs.declared.place.Place.{Place}
 use Rattle.log_merge.specs.MergedText.{place_words}
-use Rattle.log_merge.proofs.NextLines.{line_next}
-use Rattle.log_merge.proofs.Placing.{get_zeros}
-use Rattle.log_merge.proofs.WrittenEvents.{none_written}
+use Rattle.log_merge.proofs.{NextLines.line_next, Placing.get_zeros, WrittenEvents.none_written}
 use Rattle.log_merge.proofs.run_lines.put_order.Goals as goal
 
 pub loop-index-init : goal.loop-index-init

@@ -1,7 +1,6 @@
 use Rattle.std.proofs.Common.{take, map}
 use Rattle.record_lines.specs.Output.{PutsLines}
-use Rattle.log_merge.specs.MergedText.{place_words}
-use Rattle.log_merge.specs.Written.{AreWritten}
+use Rattle.log_merge.specs.{MergedText.place_words, Written.AreWritten}
 use Rattle.log_merge.proofs.run_lines.put_order.Given as goal
 
 abbrev pub invariant-loop-index : goal.invariant-loop-index

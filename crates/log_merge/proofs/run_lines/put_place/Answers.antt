@@ -1,19 +1,12 @@
-use Rattle.std.proofs.Common.{◌+◌, ◌<◌, ◌∷◌, [], map, take, get_or, slice_get, sym, ap, ◌∙◌, subst, arith, rules}
-use Rattle.std.proofs.lemmas.Option.{slice_get-get_or}
+use Rattle.std.proofs.{Common.{◌+◌, ◌<◌, ◌∷◌, [], map, take, get_or, slice_get, sym, ap, ◌∙◌, subst, arith, rules}, lemmas.Option.slice_get-get_or}
 use Rattle.std.specs.Prelude.{codes}
-use Rattle.record_lines.specs.Output.{PutsWords, PutsLines}
+use Rattle.record_lines.specs.{Output.{PutsWords, PutsLines}, Words.separated}
 use Rattle.kernel_words.specs.ItemText.{step_words}
-use Rattle.record_lines.specs.Words.{separated}
 use Rattle.record_lines.proofs.Lines.{line_of_words, lines_same, words_then}
 use Rattle.sound_run.proofs.Slices.{one_of}
-use Rattle.log_merge.specs.MergedText.{place_words}
-use Rattle.log_merge.specs.Shapes.{shape_of}
-use Rattle.log_merge.specs.Written.{AreWritten}
-use Rattle.log_merge.proofs.Shaped.{none_of}
-use Rattle.log_merge.proofs.WrittenEvents.{absent_written, few_written}
-use Rattle.log_merge.proofs.PlaceLines.{full_line, full_counted, its_event, done_line, done_counted, done_next, done_within}
+use Rattle.log_merge.specs.{MergedText.place_words, Shapes.shape_of, Written.AreWritten}
+use Rattle.log_merge.proofs.{Shaped.none_of, WrittenEvents.{absent_written, few_written}, PlaceLines.{full_line, full_counted, its_event, done_line, done_counted, done_next, done_within}, run_lines.put_place.Goals.{in-true, in-false}}
 use Rattle.log_merge.proofs.run_lines.put_place.Goals as goal
-use Rattle.log_merge.proofs.run_lines.put_place.Goals.{in-true, in-false}
 
 pub returns-in_default-clause-written : goal.returns-in_default-clause-written
 returns-in_default-clause-written g c = absent_written c.args.run.now c.args.places.now c.args.index c.args.written.now c.requires.written _ (slice_get-get_or c.args.places.now c.args.index _ c.requires.index) (none_of shape_of _ c.in_default.ensures)

@@ -1,10 +1,8 @@
 use Rattle.std.proofs.Common.{◌≡◌, ◌<◌, ◌≤◌, ℕ, List, length, map, drop, slice_index, sym, ap, ◌∙◌, subst}
 use Rattle.std.specs.List.{AllByRecursion}
 use Rattle.sound_run.specs.Sound.{transcript_of}
-use Rattle.log_merge.specs.FoundCycles.{next_place, IsWalk, IsRotated}
-use Rattle.log_merge.specs.Merging.{IsLeastOrder}
-use Rattle.log_merge.proofs.Cycles.{merged_cycle, merged_order}
-use Rattle.log_merge.proofs.Placing.{all_below, all_drop}
+use Rattle.log_merge.specs.{FoundCycles.{next_place, IsWalk, IsRotated}, Merging.IsLeastOrder}
+use Rattle.log_merge.proofs.{Cycles.{merged_cycle, merged_order}, Placing.{all_below, all_drop}}
 use Rattle.log_merge.proofs.run_merge.merge_run.Goals as goal
 
 pub returns-in_default : goal.returns-in_default

@@ -1,5 +1,4 @@
-use Rattle.std.proofs.Common.{◌≡◌, ℕ, List, false, take, get_or, sym, subst}
-use Rattle.std.proofs.lemmas.List.{get_or_default}
+use Rattle.std.proofs.{Common.{◌≡◌, ℕ, List, false, take, get_or, sym, subst}, lemmas.List.get_or_default}
 use Rattle.event_log.specs.Distinct.{has}
 use Rattle.event_log.proofs.Distinct.{has_push}
 use Rattle.auditor.proofs.Splits.{take_one, take_all}

@@ -1,12 +1,8 @@
 use Rattle.std.proofs.Common.{◌≡◌, ◌++◌, ◌∷◌, [], ℕ, List, false, length, get_or, slice_index, sym, ap, ◌∙◌, subst, arith, length-append}
 use Rattle.event_log.specs.Distinct.{has, AreDistinctBelow}
 use Rattle.event_log.proofs.Distinct.{distinct_push, distinct_length}
-use Rattle.log_merge.specs.Chains.{Chain}
-use Rattle.log_merge.specs.FoundCycles.{IsLeastLeft}
-use Rattle.log_merge.specs.Prefixes.{IsBlocked}
-use Rattle.log_merge.proofs.Placing.{has_transcript, head_append}
-use Rattle.log_merge.proofs.Stuck.{left}
-use Rattle.log_merge.proofs.Rotations.{chain_join}
+use Rattle.log_merge.specs.{Chains.Chain, FoundCycles.IsLeastLeft, Prefixes.IsBlocked}
+use Rattle.log_merge.proofs.{Placing.{has_transcript, head_append}, Stuck.left, Rotations.chain_join}
 use Rattle.log_merge.proofs.walk.walk_from.Goals as goal
 
 pub loop-i-smaller : goal.loop-i-smaller

@@ -1,8 +1,7 @@
 use Rattle.std.proofs.Common.{◌≡◌, ◌<◌, ◌+◌, ◌-◌, ◌++◌, ◌∷◌, [], length, get_or, slice_index}
 use Rattle.event_log.specs.Distinct.{AreDistinctBelow}
 use Rattle.sound_run.specs.Sound.{transcript_of}
-use Rattle.log_merge.specs.Chains.{Chain}
-use Rattle.log_merge.specs.Prefixes.{IsBlocked}
+use Rattle.log_merge.specs.{Chains.Chain, Prefixes.IsBlocked}
 use Rattle.log_merge.proofs.walk.walk_from.Given as goal
 
 abbrev pub invariant-loop-i : goal.invariant-loop-i

@@ -1,7 +1,6 @@
 use Rattle.std.proofs.Common.{◌∙◌, sym, ap, subst}
 use Rattle.auditor.specs.VerdictText.{CanBeReported, verdict_text}
-use Rattle.records.specs.RecordStates.{received_record}
-use Rattle.records.specs.Settings.{Settings}
+use Rattle.records.specs.{RecordStates.received_record, Settings.Settings}
 use Rattle.mc2_command.proofs.answers.audit_answer.Goals as goal
 
 pub verdict_line-requires : goal.verdict_line-requires

@@ -1,7 +1,6 @@
 use Rattle.std.proofs.Common.{Err, ap, subst}
 use Rattle.program.specs.Inputs.{bytes_of}
-use Rattle.records.specs.RecordStates.{received_record}
-use Rattle.records.specs.Settings.{Settings}
+use Rattle.records.specs.{RecordStates.received_record, Settings.Settings}
 use Rattle.mc2_command.specs.Refused.{IsNoOrder}
 use Rattle.mc2_command.proofs.Answered.{no_order}
 use Rattle.mc2_command.proofs.answers.merge_answer.Goals as goal

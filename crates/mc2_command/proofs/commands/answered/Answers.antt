@@ -1,5 +1,4 @@
-use Rattle.std.proofs.Common.{inr}
-use Rattle.std.proofs.lemmas.Result.{IfErr-weaker, IfOk-weaker}
+use Rattle.std.proofs.{Common.inr, lemmas.Result.{IfErr-weaker, IfOk-weaker}}
 use Rattle.mc2_command.proofs.Answered.{with_words}
 use Rattle.mc2_command.proofs.commands.answered.Goals as goal
 

@@ -1,7 +1,6 @@
 use Rattle.std.proofs.Common.{inl, refl, sym, subst}
 use Rattle.program.proofs.Refused.{refused}
-use Rattle.mc2_command.specs.Answers.{AnswersWith}
-use Rattle.mc2_command.specs.Printed.{printed}
+use Rattle.mc2_command.specs.{Answers.AnswersWith, Printed.printed}
 use Rattle.mc2_command.proofs.commands.perform.Goals as goal
 
 pub returns-in-Ok-clause-done : goal.returns-in-Ok-clause-done

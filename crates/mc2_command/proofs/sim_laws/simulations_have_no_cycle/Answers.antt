@@ -1,21 +1,9 @@
-use Rattle.std.proofs.Common.{◌≡◌, ◌++◌, [], ℕ, List, Option, Some, map, sym, ◌∙◌, subst}
-use Rattle.std.proofs.lemmas.List.{append-nil}
-use Rattle.std.proofs.lemmas.Simd.{map-map}
-use Rattle.kernel_object.specs.declared.call.KParams.{KParams}
-use Rattle.kernel_object.specs.declared.call.KCall.{KCall}
-use Rattle.kernel_object.specs.declared.call.KReply.{KReply}
-use Rattle.kernel_object.specs.declared.object.KernelObject.{KernelObject}
-use Rattle.kernel_object.specs.contracts.object.KernelObjectSeqObject.TheImpl.{ghosts as kernel}
-use Rattle.auditor.specs.Faults.{IsFault}
-use Rattle.auditor.specs.Transcripts.{judged_by, opened_by}
-use Rattle.auditor.specs.declared.opened_object.OpenedObject.{OpenedObject}
-use Rattle.sound_run.specs.Orders.{HasOrder}
-use Rattle.sound_run.specs.Sound.{Opened, Sound}
+use Rattle.std.proofs.{Common.{◌≡◌, ◌++◌, [], ℕ, List, Option, Some, map, sym, ◌∙◌, subst}, lemmas.List.append-nil, lemmas.Simd.map-map}
+use Rattle.kernel_object.specs.{declared.call.KParams.KParams, declared.call.KCall.KCall, declared.call.KReply.KReply, declared.object.KernelObject.KernelObject, contracts.object.KernelObjectSeqObject.TheImpl.{ghosts as kernel}}
+use Rattle.auditor.specs.{Faults.IsFault, Transcripts.{judged_by, opened_by}, declared.opened_object.OpenedObject.OpenedObject}
+use Rattle.sound_run.specs.{Orders.HasOrder, Sound.{Opened, Sound}}
 use Rattle.kernel_words.specs.declared.form.TheConstants.{WRITTEN}
-use Rattle.records.specs.RecordFaults.{text_in, text_of}
-use Rattle.records.specs.RecordRanges.{Record, RecordFits}
-use Rattle.records.specs.Runs.{opened_of}
-use Rattle.records.specs.Settings.{Settings, ObjectSettings}
+use Rattle.records.specs.{RecordFaults.{text_in, text_of}, RecordRanges.{Record, RecordFits}, Runs.opened_of, Settings.{Settings, ObjectSettings}}
 use Rattle.program.specs.Texts.{SpellsRecordOf}
 use Rattle.mc2_command.proofs.sim_laws.simulations_have_no_cycle.Goals as goal
 

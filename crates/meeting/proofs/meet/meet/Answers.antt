@@ -1,9 +1,7 @@
-use denote.Exit.{yes}
-use denote.Param.Send.{param_send, arg_send}
+use denote.{Exit.yes, Param.Send.{param_send, arg_send}}
 use Rattle.std.proofs.Common.{rules, ◌≡◌, Some, slice_get, length, take, ap, ◌∙◌, subst, arith}
 use Rattle.shared_queue.specs.contracts.queue.ThreadQueueSeqObject.TheImpl.{ghosts}
-use Rattle.word_rule.specs.Cell.{first_pass}
-use Rattle.word_rule.specs.Passes.{view_of_pass}
+use Rattle.word_rule.specs.{Cell.first_pass, Passes.view_of_pass}
 use Rattle.word_rule.proofs.Owners.{own_both}
 use Rattle.guarded_cell.specs.Calls.{IsEnded}
 use Rattle.guarded_cell.proofs.QueueSends.{queue_pass_send}

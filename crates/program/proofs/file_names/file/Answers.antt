@@ -1,8 +1,7 @@
 use Rattle.std.proofs.Common.{Some, option_map, ap, sym, ◌∙◌, subst, false, ◌≡◌}
 use Rattle.clap.specs.Words.{found_of}
 use Rattle.program.specs.FileNames.{is_no_name}
-use Rattle.program.proofs.Refused.{always}
-use Rattle.program.proofs.Rows.{not_file, value_is}
+use Rattle.program.proofs.{Refused.always, Rows.{not_file, value_is}}
 use Rattle.program.proofs.file_names.file.Goals as goal
 
 pub returns-in_err-file_name-in-Some-clause-refused : goal.returns-in_err-file_name-in-Some-clause-refused

@@ -1,9 +1,6 @@
-use Rattle.std.proofs.Common.{◌≡◌, ◌≤◌, ◌∙◌, List, [], ℕ, Err, IfOk, ap, sym, subst}
-use Rattle.std.proofs.lemmas.List.{append-nil}
+use Rattle.std.proofs.{Common.{◌≡◌, ◌≤◌, ◌∙◌, List, [], ℕ, Err, IfOk, ap, sym, subst}, lemmas.List.append-nil}
 use Rattle.sound_run.specs.declared.limits.TheConstants.{MOST_CPUS}
-use Rattle.scripts.specs.declared.schedule.ScheduleFault.TheVariants.{Word}
-use Rattle.scripts.specs.ScheduleReading.{HasReadSteps}
-use Rattle.scripts.specs.ScheduleText.{IsSchedule, IsFirstBadWord}
+use Rattle.scripts.specs.{declared.schedule.ScheduleFault.TheVariants.Word, ScheduleReading.HasReadSteps, ScheduleText.{IsSchedule, IsFirstBadWord}}
 use Rattle.scripts.proofs.Schedules.{bad_is_not_good}
 use Rattle.scripts.proofs.schedule.read_steps.Goals as goal
 

@@ -3,9 +3,7 @@
 ghost use Rattle.std.specs.Prelude.{◌≡◌, length, replicate};
 ghost use Rattle.toml.specs.View.{view, table_view, items_view};
 ghost use Rattle.kernel_object.specs.declared.kind.Kind.TheVariants.{Pool};
-ghost use Rattle.scripts.specs.KindKeys.Pool.{are_integers, quota_from, each_quota, quotas_from, pool_params_in};
-ghost use Rattle.scripts.specs.SettingsKeys.{key_or};
-ghost use Rattle.scripts.specs.SettingsText.{keys_of};
+ghost use Rattle.scripts.specs.{KindKeys.Pool.{are_integers, quota_from, each_quota, quotas_from, pool_params_in}, SettingsKeys.key_or, SettingsText.keys_of};
 
 use crate::settings::keys::{at, get, number_of};
 use crate::{BadSettings, Cause, SettingsKey, SettingsPlace};

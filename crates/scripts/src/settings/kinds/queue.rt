@@ -3,8 +3,7 @@
 ghost use Rattle.std.specs.Prelude.{◌≡◌};
 ghost use Rattle.toml.specs.View.{table_view};
 ghost use Rattle.kernel_object.specs.declared.kind.Kind.TheVariants.{Queue};
-ghost use Rattle.scripts.specs.KindKeys.Queue.{queue_keys};
-ghost use Rattle.scripts.specs.SettingsText.{keys_of};
+ghost use Rattle.scripts.specs.{KindKeys.Queue.queue_keys, SettingsText.keys_of};
 
 use crate::settings::keys::number_of;
 use crate::{BadSettings, SettingsKey, SettingsPlace};

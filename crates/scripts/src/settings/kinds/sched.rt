@@ -3,8 +3,7 @@
 ghost use Rattle.std.specs.Prelude.{◌≡◌};
 ghost use Rattle.toml.specs.View.{table_view};
 ghost use Rattle.kernel_object.specs.declared.kind.Kind.TheVariants.{Sched};
-ghost use Rattle.scripts.specs.KindKeys.Sched.{sched_params_in};
-ghost use Rattle.scripts.specs.SettingsText.{keys_of};
+ghost use Rattle.scripts.specs.{KindKeys.Sched.sched_params_in, SettingsText.keys_of};
 
 use crate::settings::keys::number_of;
 use crate::{BadSettings, SettingsKey, SettingsPlace};

@@ -1,6 +1,5 @@
 use Rattle.event_log.proofs.Replays.{replay_has, state_has}
-use Rattle.shared_queue.specs.contracts.queue.ThreadQueueSeqObject.TheImpl.{ghosts}
-use Rattle.shared_queue.specs.State.{IsQueueOf}
+use Rattle.shared_queue.specs.{contracts.queue.ThreadQueueSeqObject.TheImpl.ghosts, State.IsQueueOf}
 use Rattle.shared_queue.proofs.Keeps.{keeps, opens}
 use Rattle.shared_queue.proofs.distinct_threads.stays_distinct.Goals as goal
 

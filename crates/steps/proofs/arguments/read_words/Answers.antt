@@ -1,10 +1,6 @@
 use Rattle.std.proofs.Common.{◌≡◌, ◌∙◌, ◌⊎◌, inl, inr, ◌∷◌, [], true, refl, List, subst, sym}
-use Rattle.clap.specs.Words.{App, HasMatchesOf, Kinds, Row, Text, fault_of, found_of, matches_of, rows_of}
-use Rattle.clap.specs.Faults.{is_simple_and_free}
-use Rattle.clap.specs.declared.error.kind.ErrorKind.TheVariants.{DisplayHelp, DisplayVersion}
-use Rattle.clap.specs.declared.parser.matches.ArgMatches.{ArgMatches}
-use Rattle.steps.specs.Asked.{AreFound, faults}
-use Rattle.steps.specs.Form.{form}
+use Rattle.clap.specs.{Words.{App, HasMatchesOf, Kinds, Row, Text, fault_of, found_of, matches_of, rows_of}, Faults.is_simple_and_free, declared.error.kind.ErrorKind.TheVariants.{DisplayHelp, DisplayVersion}, declared.parser.matches.ArgMatches.ArgMatches}
+use Rattle.steps.specs.{Asked.{AreFound, faults}, Form.form}
 use Rattle.steps.proofs.arguments.read_words.Goals as goal
 
 -- words that are taken are no words for help alone

@@ -1,7 +1,5 @@
-use Rattle.std.proofs.Common.{◌≡◌, ◌∙◌, [], true, ap₂, codes, rules}
-use Rattle.std.proofs.lemmas.Result.{IfOk-weaker}
-use Rattle.clap.specs.Simple.{new_shape}
-use Rattle.clap.specs.Words.{app_of, with_rule}
+use Rattle.std.proofs.{Common.{◌≡◌, ◌∙◌, [], true, ap₂, codes, rules}, lemmas.Result.IfOk-weaker}
+use Rattle.clap.specs.{Simple.new_shape, Words.{app_of, with_rule}}
 use Rattle.steps.proofs.form.form.Goals as goal
 
 pub returns : goal.returns

@@ -1,5 +1,4 @@
-use Rattle.std.proofs.Common.{◌≡◌, ◌∙◌, ◌<◌, ◌++◌, ℕ, List, OnOk, Option, Some, None, ap, arith, length, slice_get, string_bytes, subst, sym}
-use Rattle.std.proofs.lemmas.List.{length-map}
+use Rattle.std.proofs.{Common.{◌≡◌, ◌∙◌, ◌<◌, ◌++◌, ℕ, List, OnOk, Option, Some, None, ap, arith, length, slice_get, string_bytes, subst, sym}, lemmas.List.length-map}
 use Rattle.event_log.proofs.Lists.{some_at}
 use Rattle.records.specs.Settings.{ObjectSettings}
 use Rattle.sound_run.proofs.Slices.{read_get}

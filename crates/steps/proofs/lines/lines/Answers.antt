@@ -1,17 +1,8 @@
-use Rattle.std.proofs.Common.{◌≡◌, ℕ, ◌+◌, ◌<◌, ◌++◌, cond, List, drop, get_or, length, length-set, map, slice_get, Some, sym, ap, subst, ◌∙◌, rules, string_bytes}
-use Rattle.std.proofs.lemmas.List.{append-nil, drop_all, length-map}
-use Rattle.std.specs.Borrow.{Bor}
-use Rattle.std.specs.List.{AllByRecursion}
+use Rattle.std.proofs.{Common.{◌≡◌, ℕ, ◌+◌, ◌<◌, ◌++◌, cond, List, drop, get_or, length, length-set, map, slice_get, Some, sym, ap, subst, ◌∙◌, rules, string_bytes}, lemmas.List.{append-nil, drop_all, length-map}}
+use Rattle.std.specs.{Borrow.Bor, List.AllByRecursion}
 use Rattle.sound_run.proofs.Slices.{read_get}
-use Rattle.kernel_object.specs.contracts.object.KernelObjectSeqObject.TheImpl.{ghosts as kernel}
-use Rattle.kernel_object.specs.KernelTypes.{KernelTodo}
-use Rattle.word_rule.specs.declared.machine.step_done.StepDone.{StepDone}
-use Rattle.word_rule.specs.Machine.Opening.{opening_cpu}
-use Rattle.word_rule.specs.Machine.Orders.{first_cell, works_on}
-use Rattle.word_rule.specs.Machine.Shown.{Represents}
-use Rattle.word_rule.specs.Machine.World.{left, step}
-use Rattle.word_rule.specs.Replay.{entries_left}
-use Rattle.word_rule.specs.StepKinds.{ends_hold}
+use Rattle.kernel_object.specs.{contracts.object.KernelObjectSeqObject.TheImpl.{ghosts as kernel}, KernelTypes.KernelTodo}
+use Rattle.word_rule.specs.{declared.machine.step_done.StepDone.StepDone, Machine.Opening.opening_cpu, Machine.Orders.{first_cell, works_on}, Machine.Shown.Represents, Machine.World.{left, step}, Replay.entries_left, StepKinds.ends_hold}
 use Rattle.cpu_worker.specs.Simulation.{KernelWorld, new_world}
 use Rattle.steps.specs.Lines.{line_of, lines_from, steps_text}
 use Rattle.steps.proofs.Left.{all_left, is_below, left_behind, left_of, line_more, works}

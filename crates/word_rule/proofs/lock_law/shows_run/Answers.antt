@@ -1,5 +1,4 @@
-use Rattle.word_rule.proofs.Known.{caller_known}
-use Rattle.word_rule.proofs.Ticket.Served.{serves_next, shows_word}
+use Rattle.word_rule.proofs.{Known.caller_known, Ticket.Served.{serves_next, shows_word}}
 use Rattle.word_rule.proofs.lock_law.shows_run.Goals as goal
 
 pub returns-clause-made : goal.returns-clause-made

@@ -1,9 +1,7 @@
 use Rattle.std.proofs.Common.{◌≡◌, ◌<◌, [], ◌∷◌, ap}
-use Rattle.sound_run.specs.declared.lock_kind.LockKind.TheVariants as kinds
-use Rattle.word_rule.specs.declared.lock_kind.Stage.TheVariants.{Idle}
-use Rattle.word_rule.specs.Locks.{Lock, attempt, lock_of, served, prepare, turn}
-use Rattle.word_rule.specs.Ticket.State.{tickets}
+use Rattle.word_rule.specs.{declared.lock_kind.Stage.TheVariants.Idle, Locks.{Lock, attempt, lock_of, served, prepare, turn}, Ticket.State.tickets}
 use Rattle.word_rule.proofs.LockLaws.{at_kind, prepares, tries}
+use Rattle.sound_run.specs.declared.lock_kind.LockKind.TheVariants as kinds
 use Rattle.word_rule.proofs.Mcs.Tries as mcs
 use Rattle.word_rule.proofs.Ticket.Tries as ticket
 use Rattle.word_rule.proofs.lock_law.tries_are_turns.Goals as goal

@@ -1,5 +1,4 @@
-use Rattle.word_rule.proofs.EventOrder.{events_begin, events_end}
-use Rattle.word_rule.proofs.RunOrder.{ends_in_order}
+use Rattle.word_rule.proofs.{EventOrder.{events_begin, events_end}, RunOrder.ends_in_order}
 use Rattle.word_rule.proofs.order_law.events_in_order.Goals as goal
 
 pub returns-clause-holds : goal.returns-clause-holds

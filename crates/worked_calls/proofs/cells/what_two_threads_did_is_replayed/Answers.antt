@@ -1,5 +1,4 @@
-use denote.Exit.{yes}
-use denote.Param.Send.{param_send, arg_send}
+use denote.{Exit.yes, Param.Send.{param_send, arg_send}}
 use Rattle.guarded_cell.proofs.QueueSends.{queue_pass_send}
 use Rattle.worked_calls.proofs.cells.what_two_threads_did_is_replayed.Goals as goal
 

@@ -1,6 +1,5 @@
 use Rattle.std.proofs.Common.{[], ◌∷◌, length, ap, ◌∙◌, arith, length-append}
-use Rattle.auditor.specs.ReceivedRun.{ReceivedRun, entry_received}
-use Rattle.auditor.specs.Terms.{terms_with}
+use Rattle.auditor.specs.{ReceivedRun.{ReceivedRun, entry_received}, Terms.terms_with}
 use Rattle.auditor.proofs.received_run.ReceivedRun.receive_entry.Goals as goal
 
 pub overflow_add-self : goal.overflow_add-self

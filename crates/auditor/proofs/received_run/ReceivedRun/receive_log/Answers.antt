@@ -1,6 +1,5 @@
 use Rattle.std.proofs.Common.{◌≡◌, [], ◌∷◌, ◌++◌, length, ap, ◌∙◌, arith, length-append}
-use Rattle.auditor.specs.ReceivedRun.{ReceivedRun, log_begun}
-use Rattle.auditor.specs.Terms.{terms_at, terms_with}
+use Rattle.auditor.specs.{ReceivedRun.{ReceivedRun, log_begun}, Terms.{terms_at, terms_with}}
 use Rattle.auditor.proofs.JudgeTerms.{terms_more}
 use Rattle.auditor.proofs.received_run.ReceivedRun.receive_log.Goals as goal
 

@@ -1,6 +1,5 @@
 use Rattle.std.proofs.Common.{length, ap, sym, ◌∙◌}
-use Rattle.auditor.specs.ReceivedRun.{ReceivedRun, log_ended}
-use Rattle.auditor.specs.Terms.{terms_with}
+use Rattle.auditor.specs.{ReceivedRun.{ReceivedRun, log_ended}, Terms.terms_with}
 use Rattle.auditor.proofs.received_run.ReceivedRun.receive_log_end.Goals as goal
 
 pub invariant_of-self : goal.invariant_of-self

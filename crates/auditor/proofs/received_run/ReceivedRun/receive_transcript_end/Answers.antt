@@ -1,6 +1,5 @@
 use Rattle.std.proofs.Common.{[], ◌∷◌, length, ap, sym, ◌∙◌, arith, length-append}
-use Rattle.auditor.specs.ReceivedRun.{ReceivedRun, transcript_ended}
-use Rattle.auditor.specs.Terms.{terms_with}
+use Rattle.auditor.specs.{ReceivedRun.{ReceivedRun, transcript_ended}, Terms.terms_with}
 use Rattle.auditor.proofs.received_run.ReceivedRun.receive_transcript_end.Goals as goal
 
 pub overflow_add-self : goal.overflow_add-self

@@ -1,24 +1,12 @@
 use Rattle.std.proofs.Common.{get_or, ◌≡◌, List, Ok, sym, subst}
 use Rattle.std.specs.Prelude.{◌↔◌}
 use Rattle.sound_run.specs.Sound.{Sound}
-use Rattle.kernel_object.specs.declared.call.KParams.{KParams}
-use Rattle.kernel_object.specs.contracts.object.KernelObjectSeqObject.TheImpl.{ghosts as kernel}
-use Rattle.kernel_object.specs.declared.object.KernelObject.{KernelObject}
+use Rattle.kernel_object.specs.{declared.call.KParams.KParams, contracts.object.KernelObjectSeqObject.TheImpl.{ghosts as kernel}, declared.object.KernelObject.KernelObject}
 use Rattle.record_lines.specs.Received.{IsWholeWith}
-use Rattle.records.specs.KernelForm.{no_head, settings_in}
-use Rattle.records.specs.RecordRanges.{RecordFits}
-use Rattle.records.specs.RecordStates.{KernelReceived, received_record}
-use Rattle.records.specs.Runs.{opened_of}
-use Rattle.auditor.specs.declared.fault.Fault.{Fault}
+use Rattle.records.specs.{KernelForm.{no_head, settings_in}, RecordRanges.RecordFits, RecordStates.{KernelReceived, received_record}, Runs.opened_of}
+use Rattle.auditor.specs.{declared.fault.Fault.Fault, ByModels.SoundBy, Faults.{IsFirstFault, IsFirstFaultBy}, ReceivedRun.run_of, StepModels.object_model, Terms.Terms}
+use Rattle.auditor.proofs.{FaultNumbers.can_be_reported, ReceivedParts.whole_run, ObjectModels.sound_both}
 use Rattle.auditor.specs.declared.fault.Verdict.TheVariants as verdict
-use Rattle.auditor.specs.ByModels.{SoundBy}
-use Rattle.auditor.specs.Faults.{IsFirstFault, IsFirstFaultBy}
-use Rattle.auditor.specs.ReceivedRun.{run_of}
-use Rattle.auditor.proofs.FaultNumbers.{can_be_reported}
-use Rattle.auditor.proofs.ReceivedParts.{whole_run}
-use Rattle.auditor.specs.StepModels.{object_model}
-use Rattle.auditor.specs.Terms.{Terms}
-use Rattle.auditor.proofs.ObjectModels.{sound_both}
 use Rattle.auditor.proofs.record_judge.RecordJudge.verdict.Goals as goal
 
 pub verdict-requires-clause-run : goal.verdict-requires-clause-run

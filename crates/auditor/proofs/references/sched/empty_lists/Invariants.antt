@@ -1,7 +1,5 @@
 use Rattle.std.proofs.Common.{◌≡◌, ◌≤◌, [], map, replicate, vec_len}
-use Rattle.std.specs.List.{All}
-use Rattle.std.specs.Vec.{vec_capacity}
-use Rattle.std.specs.VecDeque.{deque_capacity}
+use Rattle.std.specs.{List.All, Vec.vec_capacity, VecDeque.deque_capacity}
 use Rattle.auditor.proofs.references.sched.empty_lists.Given as goal
 
 -- the lists so far

@@ -1,9 +1,7 @@
 use Rattle.std.proofs.Common.{refl, sym, subst}
 use Rattle.std.specs.Vec.{vec_capacity}
-use Rattle.auditor.specs.ReceivedRun.{ReceivedRun}
-use Rattle.auditor.specs.SoFar.{HasLogs}
+use Rattle.auditor.specs.{ReceivedRun.ReceivedRun, SoFar.HasLogs, StepModels.model_by}
 use Rattle.auditor.proofs.JudgeStateSoFar.{noted_at, noted_transcript}
-use Rattle.auditor.specs.StepModels.{model_by}
 use Rattle.auditor.proofs.run_judge.RunJudge.begin_transcript.Goals as goal
 
 pub invariant_of-self : goal.invariant_of-self

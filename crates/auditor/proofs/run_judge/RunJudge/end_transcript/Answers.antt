@@ -1,8 +1,6 @@
 use Rattle.std.proofs.Common.{◌<◌, length, refl, sym, ap, subst, ◌∙◌}
-use Rattle.auditor.specs.ReceivedRun.{ReceivedRun, transcript_ended}
-use Rattle.auditor.specs.SoFar.{IsInTranscripts}
+use Rattle.auditor.specs.{ReceivedRun.{ReceivedRun, transcript_ended}, SoFar.IsInTranscripts, StepModels.model_by}
 use Rattle.auditor.proofs.JudgeStateSoFar.{noted_at}
-use Rattle.auditor.specs.StepModels.{model_by}
 use Rattle.auditor.proofs.run_judge.RunJudge.end_transcript.Goals as goal
 
 pub end_transcript-requires-clause-transcripts : goal.end_transcript-requires-clause-transcripts

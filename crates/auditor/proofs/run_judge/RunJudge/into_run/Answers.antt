@@ -1,7 +1,5 @@
 use Rattle.std.proofs.Common.{◌≡◌, [], length, sym, subst}
-use Rattle.auditor.specs.ReceivedRun.{ReceivedRun, run_of}
-use Rattle.auditor.specs.Passes.{IsRunOver}
-use Rattle.auditor.specs.SoFar.{HasLogs}
+use Rattle.auditor.specs.{ReceivedRun.{ReceivedRun, run_of}, Passes.IsRunOver, SoFar.HasLogs}
 use Rattle.auditor.proofs.run_judge.RunJudge.into_run.Goals as goal
 
 pub into_run-requires-clause-logs : goal.into_run-requires-clause-logs

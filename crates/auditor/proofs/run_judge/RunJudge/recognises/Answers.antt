@@ -1,7 +1,6 @@
 use Rattle.std.proofs.Common.{refl, sym, ap, ◌∙◌, subst}
-use Rattle.auditor.specs.ReceivedRun.{ReceivedRun, IsStepsOf, done_entry, entry_received}
+use Rattle.auditor.specs.{ReceivedRun.{ReceivedRun, IsStepsOf, done_entry, entry_received}, StepModels.model_by}
 use Rattle.auditor.proofs.JudgeStateSoFar.{noted_at}
-use Rattle.auditor.specs.StepModels.{model_by}
 use Rattle.auditor.proofs.run_judge.RunJudge.recognises.Goals as goal
 
 pub invariant_of-self : goal.invariant_of-self

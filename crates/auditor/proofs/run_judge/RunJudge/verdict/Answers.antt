@@ -1,15 +1,8 @@
 use Rattle.std.proofs.Common.{◌≡◌, [], length, sym, subst}
 use Rattle.std.specs.Prelude.{◌↔◌}
+use Rattle.auditor.specs.{ByModels.SoundBy, Faults.IsFirstFaultBy, ReceivedRun.{ReceivedRun, run_of}, Passes.IsRunOver, SoFar.HasLogs, StepModels.model_by}
+use Rattle.auditor.proofs.{JudgedRuns.{sound_exactly, fault_exactly}, FaultOrder.one_first, Verdicts.no_fault}
 use Rattle.auditor.specs.declared.fault.Verdict.TheVariants as verdict
-use Rattle.auditor.specs.ByModels.{SoundBy}
-use Rattle.auditor.specs.Faults.{IsFirstFaultBy}
-use Rattle.auditor.specs.ReceivedRun.{ReceivedRun, run_of}
-use Rattle.auditor.specs.Passes.{IsRunOver}
-use Rattle.auditor.specs.SoFar.{HasLogs}
-use Rattle.auditor.proofs.JudgedRuns.{sound_exactly, fault_exactly}
-use Rattle.auditor.proofs.FaultOrder.{one_first}
-use Rattle.auditor.proofs.Verdicts.{no_fault}
-use Rattle.auditor.specs.StepModels.{model_by}
 use Rattle.auditor.proofs.run_judge.RunJudge.verdict.Goals as goal
 
 pub verdict-requires-clause-logs : goal.verdict-requires-clause-logs

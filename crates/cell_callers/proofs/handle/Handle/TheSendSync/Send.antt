@@ -1,15 +1,11 @@
 -- A handle goes where what lies at its pointer goes.
 use mir.Raw.{raw}
-use denote.Memory.{lone}
-use denote.Struct.Struct.{exits_of}
-use denote.Struct.Owning.{shape, fields, to}
-use denote.Param.Send.{IsSend, AllSend, owning_send, struct_send, sendable}
-use Rattle.std.proofs.Crossing as heap
+use denote.{Memory.lone, Struct.Struct.exits_of, Struct.Owning.{shape, fields, to}, Param.Send.{IsSend, AllSend, owning_send, struct_send, sendable}}
 use Rattle.std_alloc.proofs.SendSync.{quiet, lies}
-use Rattle.std_heap.proofs.Global.TheSendSync as global
-use Rattle.cell_callers.specs.Handles.{row}
+use Rattle.cell_callers.specs.{Handles.row, contracts.handle.Handle.{the_row, the_type}}
 use Rattle.cell_callers.proofs.Sends.{row_send}
-use Rattle.cell_callers.specs.contracts.handle.Handle.{the_row, the_type}
+use Rattle.std.proofs.Crossing as heap
+use Rattle.std_heap.proofs.Global.TheSendSync as global
 
 pub send : IsSend the_row
 send =

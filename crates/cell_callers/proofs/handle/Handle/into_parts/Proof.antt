@@ -1,32 +1,17 @@
 -- `into_parts` moves two fields, and what they own goes with them.
-use mathlib.Core.Path.{refl, sym, subst}
-use mathlib.Core.List.{List, [], ◌∷◌, ◌++◌}
+use mathlib.{Core.Path.{refl, sym, subst}, Core.List.{List, [], ◌∷◌, ◌++◌}}
 use seplogic.Ra.Ura.{Ura}
 use mir.Val.{Val}
-use base.Logic.{SProp, ent, emp, id⊢}
-use base.Fml.{ftrue, fsep}
-use prog.Memory.{Memory}
-use prog.Routine.{Routine}
-use prog.Wp.{WpFn, Tables}
-use types.Logic.{Logic}
-use contract.Monad.{Fun}
-use contract.Running.{tables, tables_of}
+use base.{Logic.{SProp, ent, emp, id⊢}, Fml.{ftrue, fsep}}
+use prog.{Memory.Memory, Routine.Routine, Wp.{WpFn, Tables}}
+use types.{Logic.Logic, Kit.{Item, ‵, raw, ◌⊛◌, ◌$◌, ◌∵◌, !, qed, by, move, drop, use1, join, split, fsplit, fjoin, suffices, done}, Part.{whole, sub, agg}, Run.{stop, fld, no_more, and_then, of_opd, returns, enter}, ByLocal.{alloc_all, pass_all, free_all, look_at, get, get_in, sets}}
+use contract.{Monad.Fun, Running.{tables, tables_of}}
 use sound.WpLaws.{WpFn-mono}
-use types.Kit.{Item, ‵, raw, ◌⊛◌, ◌$◌, ◌∵◌, !, qed, by, move, drop, use1, join, split, fsplit, fjoin, suffices, done}
-use types.Part.{whole, sub, agg}
-use types.Run.{stop, fld, no_more, and_then, of_opd, returns, enter}
-use types.ByLocal.{alloc_all, pass_all, free_all, look_at, get, get_in, sets}
-use denote.Exit.{yes}
-use denote.Signature.{type_at}
-use denote.Steps.{nothing}
-use denote.Triple.Spec.{triple_of}
-use denote.Triple.Table.{entered}
-use denote.Triple.Walked.{says, Stays, stay_dropped, walk_of, ends_at, Goes-dropped, walk_Meets}
-use Rattle.std_alloc.proofs.BoxSteps.Form.{D, B, word, box_typed}
-use Rattle.std_alloc.proofs.BoxSteps.Steps.{box_out, box_in}
+use denote.{Exit.yes, Signature.type_at, Steps.nothing, Triple.Spec.triple_of, Triple.Table.entered, Triple.Walked.{says, Stays, stay_dropped, walk_of, ends_at, Goes-dropped, walk_Meets}}
+use Rattle.std_alloc.proofs.{BoxSteps.Form.{D, B, word, box_typed}, BoxSteps.Steps.{box_out, box_in}}
 use Rattle.cell_callers.proofs.AsBox.{E, FromHandle as From}
-use Rattle.cell_callers.specs.contracts.handle.Handle.into_parts as F
 use Rattle.cell_callers.specs.contracts.handle.Handle.into_parts.Key.{name as #self}
+use Rattle.cell_callers.specs.contracts.handle.Handle.into_parts as F
 use Rattle.cell_callers.proofs.handle.Handle.into_parts.Statement as stated
 use Rattle.cell_callers.proofs.handle.Handle.into_parts.Code as code
 

@@ -1,11 +1,9 @@
 use Rattle.std.proofs.Common.{ap, is_some, sym, subst}
 use Rattle.std_alloc.specs.Arc.{arc_value}
 use Rattle.guarded_cell.specs.Kinds.{IsPassOf}
+use Rattle.cell_callers.specs.{CallerStates.{IsOf, IsOne, state_of}, OpenCells.AreHome}
+use Rattle.cell_callers.proofs.{Places.placed, Homes.{front_home, last_home}}
 use Rattle.cell_callers.specs.declared.caller_state.CallerState.TheVariants as at
-use Rattle.cell_callers.specs.CallerStates.{IsOf, IsOne, state_of}
-use Rattle.cell_callers.specs.OpenCells.{AreHome}
-use Rattle.cell_callers.proofs.Places.{placed}
-use Rattle.cell_callers.proofs.Homes.{front_home, last_home}
 use Rattle.cell_callers.proofs.open_cell.OpenCell.new_caller.Goals as goal
 
 pub invariant_of-caller : goal.invariant_of-caller

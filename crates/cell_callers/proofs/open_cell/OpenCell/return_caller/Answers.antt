@@ -1,10 +1,9 @@
-use Rattle.std.proofs.Common.{◌≡◌, ◌∙◌, ◌==◌, ◌&&◌, ◌≤◌, ℕ, nat_lt, false, ap, refl, sym, rules, arith, Some}
-use Rattle.std.proofs.lemmas.Bool.Decides.{nat_tests}
+use Rattle.std.proofs.{Common.{◌≡◌, ◌∙◌, ◌==◌, ◌&&◌, ◌≤◌, ℕ, nat_lt, false, ap, refl, sym, rules, arith, Some}, lemmas.Bool.Decides.nat_tests}
 use Rattle.word_rule.specs.Passes.{view_of_pass}
-use Rattle.cell_callers.specs.declared.caller_state.CallerState.TheVariants as at
 use Rattle.cell_callers.specs.Ends.{is_next}
-use Rattle.cell_callers.proofs.open_cell.OpenCell.return_caller.Goals as goal
 use Rattle.cell_callers.proofs.open_cell.OpenCell.return_caller.Goals.{else-self-via-then-self+else-pass-from, else-self-via-else-self}
+use Rattle.cell_callers.specs.declared.caller_state.CallerState.TheVariants as at
+use Rattle.cell_callers.proofs.open_cell.OpenCell.return_caller.Goals as goal
 
 -- all are back, or another is next
 past_all : (back cpus cpu : ℕ) → cpus ≤ back → (nat_lt back cpus && (cpu == back)) ≡ false

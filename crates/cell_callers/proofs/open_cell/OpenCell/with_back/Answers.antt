@@ -2,9 +2,8 @@ use Rattle.std.proofs.Common.{◌+◌, sym, subst}
 use Rattle.std_alloc.specs.Arc.{arc_value}
 use Rattle.guarded_cell.specs.Kinds.{IsPassOf}
 use Rattle.cell_callers.specs.OpenCells.{OwnsFirst}
-use Rattle.cell_callers.proofs.Homes.{first_back, next_back, one_back}
+use Rattle.cell_callers.proofs.{Homes.{first_back, next_back, one_back}, open_cell.OpenCell.with_back.Goals.{in-None, in-Some}}
 use Rattle.cell_callers.proofs.open_cell.OpenCell.with_back.Goals as goal
-use Rattle.cell_callers.proofs.open_cell.OpenCell.with_back.Goals.{in-None, in-Some}
 
 pub invariant_of-result : goal.invariant_of-result
 invariant_of-result g c =

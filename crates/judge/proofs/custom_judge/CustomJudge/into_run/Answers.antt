@@ -1,10 +1,8 @@
 use Rattle.std.proofs.Common.{get_or}
 use Rattle.std.specs.Prelude.{IfOk, IfErr}
-use Rattle.auditor.specs.ByModels.{SoundBy}
-use Rattle.auditor.specs.Faults.{IsFirstFaultBy}
+use Rattle.auditor.specs.{ByModels.SoundBy, Faults.IsFirstFaultBy}
 use Rattle.custom_records.specs.CustomForm.{no_head}
-use Rattle.judge.proofs.CountedLogs.{by_count}
-use Rattle.judge.proofs.WholeCustom.{whole_logs, whole_cpus, whole_run, of_record}
+use Rattle.judge.proofs.{CountedLogs.by_count, WholeCustom.{whole_logs, whole_cpus, whole_run, of_record}}
 use Rattle.judge.proofs.custom_judge.CustomJudge.into_run.Goals as goal
 
 pub into_run-requires-clause-logs : goal.into_run-requires-clause-logs

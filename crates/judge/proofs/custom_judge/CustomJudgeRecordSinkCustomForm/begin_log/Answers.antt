@@ -1,7 +1,5 @@
 use Rattle.std.proofs.Common.{get_or, true, sym, ap, subst}
-use Rattle.custom_records.specs.CustomForm.{no_head}
-use Rattle.custom_records.specs.contracts.custom_form.CustomFormRecordForm.TheImpl.{ghosts as custom_form}
-use Rattle.custom_records.specs.CustomReceived.{CustomReceived}
+use Rattle.custom_records.specs.{CustomForm.no_head, contracts.custom_form.CustomFormRecordForm.TheImpl.{ghosts as custom_form}, CustomReceived.CustomReceived}
 use Rattle.record_lines.specs.Received.{InLogs, IsAtHead}
 use Rattle.judge.specs.Judging.{custom_parts, Counted, CustomReceivedRun, HasReceivedCustom}
 use Rattle.judge.proofs.ReceivedCustom.{before_log, log_opened}

@@ -1,7 +1,6 @@
 use Rattle.std.proofs.Common.{get_or, false, ℕ, List, ◌+◌, refl, sym, ap, ◌∙◌, subst}
 use Rattle.std.specs.Prelude.{slice_index}
-use Rattle.custom_records.specs.CustomForm.{no_head}
-use Rattle.custom_records.specs.contracts.custom_form.CustomFormRecordForm.TheImpl.{ghosts as custom_form}
+use Rattle.custom_records.specs.{CustomForm.no_head, contracts.custom_form.CustomFormRecordForm.TheImpl.{ghosts as custom_form}}
 use Rattle.record_lines.specs.Received.{InLogs}
 use Rattle.judge.specs.Judging.{custom_parts, Counted, CustomReceivedRun, IsNextWithout, HasReceivedCustom}
 use Rattle.judge.proofs.ReceivedCustom.{in_log, log_more}

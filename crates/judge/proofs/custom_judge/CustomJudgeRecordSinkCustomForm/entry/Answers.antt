@@ -1,8 +1,5 @@
 use Rattle.std.proofs.Common.{get_or, ◌<◌, length, sym, ap, subst, arith}
-use Rattle.custom_records.specs.Ranges.{EntryFits}
-use Rattle.custom_records.specs.CustomForm.{no_head}
-use Rattle.custom_records.specs.contracts.custom_form.CustomFormRecordForm.TheImpl.{ghosts as custom_form}
-use Rattle.custom_records.specs.CustomReceived.{CustomReceived}
+use Rattle.custom_records.specs.{Ranges.EntryFits, CustomForm.no_head, contracts.custom_form.CustomFormRecordForm.TheImpl.{ghosts as custom_form}, CustomReceived.CustomReceived}
 use Rattle.record_lines.specs.Received.{InTranscripts}
 use Rattle.judge.specs.Judging.{Counted}
 use Rattle.judge.proofs.ReceivedCustom.{in_transcripts}

@@ -1,8 +1,5 @@
 use Rattle.std.proofs.Common.{get_or, ◌<◌, ◌-◌, length, sym, ap, ◌∙◌, subst, arith}
-use Rattle.custom_records.specs.Ranges.{EventFits}
-use Rattle.custom_records.specs.CustomForm.{no_head}
-use Rattle.custom_records.specs.contracts.custom_form.CustomFormRecordForm.TheImpl.{ghosts as custom_form}
-use Rattle.custom_records.specs.CustomReceived.{CustomReceived}
+use Rattle.custom_records.specs.{Ranges.EventFits, CustomForm.no_head, contracts.custom_form.CustomFormRecordForm.TheImpl.{ghosts as custom_form}, CustomReceived.CustomReceived}
 use Rattle.record_lines.specs.Received.{InLogs}
 use Rattle.judge.specs.Judging.{custom_parts, Counted, CustomReceivedRun, HasReceivedCustom}
 use Rattle.judge.proofs.ReceivedCustom.{in_log, event_more}

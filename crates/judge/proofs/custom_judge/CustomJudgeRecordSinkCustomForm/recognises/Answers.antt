@@ -1,10 +1,6 @@
 use Rattle.std.proofs.Common.{get_or, ◌<◌, length, sym, ap, ◌∙◌, subst, arith, refl}
 use Rattle.auditor.specs.ReceivedRun.{done_entry}
-use Rattle.custom_records.specs.Ranges.{StepsFit}
-use Rattle.custom_records.specs.Writing.{custom_entry_of}
-use Rattle.custom_records.specs.CustomForm.{no_head}
-use Rattle.custom_records.specs.contracts.custom_form.CustomFormRecordForm.TheImpl.{ghosts as custom_form}
-use Rattle.custom_records.specs.CustomReceived.{CustomReceived}
+use Rattle.custom_records.specs.{Ranges.StepsFit, Writing.custom_entry_of, CustomForm.no_head, contracts.custom_form.CustomFormRecordForm.TheImpl.{ghosts as custom_form}, CustomReceived.CustomReceived}
 use Rattle.record_lines.specs.Received.{InTranscripts, with_entry}
 use Rattle.judge.specs.Judging.{custom_parts, Counted}
 use Rattle.judge.proofs.ReceivedCustom.{in_transcripts, entry_known, steps_fit}

@@ -1,21 +1,12 @@
 use Rattle.std.proofs.Common.{◌≡◌, Err, refl, sym, ap, ◌∙◌, subst}
-use Rattle.custom_records.specs.Custom.{CustomRun}
-use Rattle.log_merge.specs.Merging.{IsCycleFound, IsMerging}
-use Rattle.log_merge.specs.declared.run_merge.Merging.{Merging}
+use Rattle.custom_records.specs.{Custom.CustomRun, CustomReceived.received_custom}
+use Rattle.log_merge.specs.{Merging.{IsCycleFound, IsMerging}, declared.run_merge.Merging.Merging, Nexts.IsWhole, Prefixes.IsMatched}
+use Rattle.auditor.specs.{ByModels.{SoundBy as CountedSound}, Faults.{IsFirstFaultBy as CountedFirst}}
+use Rattle.log_merge.proofs.{Exclusion.tangle_excludes, Matched.matched_by_model}
+use Rattle.judge.specs.{declared.custom_judge.Mistold.Mistold, Judging.{custom_terms, Counted}, Models.{IsMistold, IsFirstFaultBy}}
+use Rattle.judge.proofs.{CountedLogs.by_count, MergedCustom.{custom_whole, sound_by, fault_by, none_first, none_mistold}}
 use Rattle.log_merge.specs.declared.run_merge.Merging.TheVariants as merging
-use Rattle.auditor.specs.ByModels.{SoundBy as CountedSound}
-use Rattle.auditor.specs.Faults.{IsFirstFaultBy as CountedFirst}
-use Rattle.log_merge.specs.Nexts.{IsWhole}
-use Rattle.log_merge.specs.Prefixes.{IsMatched}
-use Rattle.log_merge.proofs.Exclusion.{tangle_excludes}
-use Rattle.log_merge.proofs.Matched.{matched_by_model}
-use Rattle.custom_records.specs.CustomReceived.{received_custom}
-use Rattle.judge.specs.declared.custom_judge.Mistold.{Mistold}
 use Rattle.judge.specs.declared.custom_merge_judge.CustomMergeFault.TheVariants as fault
-use Rattle.judge.specs.Judging.{custom_terms, Counted}
-use Rattle.judge.specs.Models.{IsMistold, IsFirstFaultBy}
-use Rattle.judge.proofs.CountedLogs.{by_count}
-use Rattle.judge.proofs.MergedCustom.{custom_whole, sound_by, fault_by, none_first, none_mistold}
 use Rattle.judge.proofs.custom_merge_judge.CustomMergeJudge.into_merged.Goals as goal
 
 pub returns-in-Err-clause-mistold : goal.returns-in-Err-clause-mistold

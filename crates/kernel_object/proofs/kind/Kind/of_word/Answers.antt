@@ -1,5 +1,4 @@
-use Rattle.std.proofs.Common.{codes, arith, sym, ap}
-use Rattle.std.proofs.lemmas.Slice.Eq.{text_from_reads}
+use Rattle.std.proofs.{Common.{codes, arith, sym, ap}, lemmas.Slice.Eq.text_from_reads}
 use Rattle.kernel_object.specs.KindWords.{kind_of}
 use Rattle.kernel_object.proofs.kind.Kind.of_word.Goals as goal
 

@@ -1,10 +1,7 @@
-use Rattle.std.proofs.Common.{◌≡◌, ℕ, ◌<◌, ◌∙◌, [], List, Some, None, Option, replicate, take, get_or, sym, ap, refl, arith, option_map}
-use Rattle.std.proofs.lemmas.List.{take_more_set, take_all, length-set, get_or-replicate}
+use Rattle.std.proofs.{Common.{◌≡◌, ℕ, ◌<◌, ◌∙◌, [], List, Some, None, Option, replicate, take, get_or, sym, ap, refl, arith, option_map}, lemmas.List.{take_more_set, take_all, length-set, get_or-replicate}}
 use Rattle.page_pool.specs.declared.params.TheConstants.{MOST_PAGES, OWNERS}
-use Rattle.kernel_words.specs.declared.tables.field.Field.{Field}
+use Rattle.kernel_words.specs.{declared.tables.field.Field.Field, Kinds.Pool.all_quotas_at, Row.{up_to, field_at}}
 use Rattle.record_lines.specs.Reading.{left}
-use Rattle.kernel_words.specs.Kinds.Pool.{all_quotas_at}
-use Rattle.kernel_words.specs.Row.{up_to, field_at}
 use Rattle.kernel_words.proofs.Lookups.{numbers_start, numbers_step, numbers_stop, numbers_end}
 use Rattle.kernel_words.proofs.kinds.pool.all_quotas.Goals as goal
 

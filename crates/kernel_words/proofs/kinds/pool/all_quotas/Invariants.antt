@@ -1,8 +1,7 @@
 use Rattle.std.proofs.Common.{◌≡◌, take, drop, replicate, length}
 use Rattle.page_pool.specs.declared.params.TheConstants.{MOST_PAGES, OWNERS}
 use Rattle.record_lines.specs.Reading.{left}
-use Rattle.kernel_words.specs.Kinds.Pool.{all_quotas_at}
-use Rattle.kernel_words.specs.Row.{up_to}
+use Rattle.kernel_words.specs.{Kinds.Pool.all_quotas_at, Row.up_to}
 use Rattle.kernel_words.proofs.Lookups.{behind}
 use Rattle.kernel_words.proofs.kinds.pool.all_quotas.Given as goal
 

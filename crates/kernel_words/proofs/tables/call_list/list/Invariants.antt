@@ -1,7 +1,6 @@
 use Rattle.std.proofs.Common.{◌≡◌, ◌-◌, length}
 use Rattle.event_log.specs.declared.event.TheConstants.{MOST_CALLS}
-use Rattle.record_lines.specs.Reading.{left}
-use Rattle.record_lines.specs.LineParts.{list_at}
+use Rattle.record_lines.specs.{Reading.left, LineParts.list_at}
 use Rattle.record_lines.proofs.Lists.{behind}
 use Rattle.kernel_words.proofs.tables.call_list.list.Given as goal
 

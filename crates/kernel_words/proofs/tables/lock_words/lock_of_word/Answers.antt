@@ -1,5 +1,4 @@
-use Rattle.std.proofs.Common.{codes, arith, sym, ap}
-use Rattle.std.proofs.lemmas.Slice.Eq.{text_from_reads}
+use Rattle.std.proofs.{Common.{codes, arith, sym, ap}, lemmas.Slice.Eq.text_from_reads}
 use Rattle.kernel_words.specs.Parameters.{lock_of}
 use Rattle.kernel_words.proofs.tables.lock_words.lock_of_word.Goals as goal
 

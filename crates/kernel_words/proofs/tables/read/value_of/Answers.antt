@@ -1,10 +1,8 @@
 use Rattle.std.proofs.Common.{◌≡◌, Some, sym, ◌∙◌, ap, option_map, subst, ◌∷◌}
 use Rattle.std.specs.List.{list_all}
-use Rattle.record_lines.specs.Reading.{left}
+use Rattle.record_lines.specs.{Reading.left, Words.IsPlain}
 use Rattle.kernel_words.specs.Row.{in_range, refill, numbers_at, value_at}
-use Rattle.record_lines.specs.Words.{IsPlain}
-use Rattle.kernel_words.proofs.FastReads.{fast_read}
-use Rattle.kernel_words.proofs.Spellings.{numbers_take}
+use Rattle.kernel_words.proofs.{FastReads.fast_read, Spellings.numbers_take}
 use Rattle.kernel_words.proofs.tables.read.value_of.Goals as goal
 
 pub with_numbers-requires-after_bounds : goal.with_numbers-requires-after_bounds

@@ -1,20 +1,11 @@
 use Rattle.std.proofs.Common.{◌≡◌, refl, sym, ap, ◌∙◌, subst}
 use Rattle.sound_run.specs.Sound.{Sound}
-use Rattle.kernel_object.specs.contracts.object.KernelObjectSeqObject.TheImpl.{ghosts as kernel}
-use Rattle.kernel_object.specs.KernelTypes.{KernelRun}
-use Rattle.records.specs.KernelForm.{settings_in}
-use Rattle.records.specs.RecordStates.{KernelReceived, received_record}
-use Rattle.records.specs.Runs.{opened_of}
+use Rattle.kernel_object.specs.{contracts.object.KernelObjectSeqObject.TheImpl.{ghosts as kernel}, KernelTypes.KernelRun}
+use Rattle.records.specs.{KernelForm.settings_in, RecordStates.{KernelReceived, received_record}, Runs.opened_of}
 use Rattle.auditor.specs.Faults.{IsFirstFault}
-use Rattle.log_merge.specs.declared.run_merge.Merging.{Merging}
+use Rattle.log_merge.specs.{declared.run_merge.Merging.Merging, Merging.{IsCycleFound, IsMerging}, Nexts.IsWhole, Prefixes.IsMatched}
+use Rattle.log_merge.proofs.{Exclusion.tangle_excludes, SoundRecords.none_first, Matched.matched_of_sound, WholeRuns.{whole_of_fits, few_entries}}
 use Rattle.log_merge.specs.declared.run_merge.Merging.TheVariants as merging
-use Rattle.log_merge.specs.Merging.{IsCycleFound, IsMerging}
-use Rattle.log_merge.specs.Nexts.{IsWhole}
-use Rattle.log_merge.specs.Prefixes.{IsMatched}
-use Rattle.log_merge.proofs.Exclusion.{tangle_excludes}
-use Rattle.log_merge.proofs.SoundRecords.{none_first}
-use Rattle.log_merge.proofs.Matched.{matched_of_sound}
-use Rattle.log_merge.proofs.WholeRuns.{whole_of_fits, few_entries}
 use Rattle.log_merge.proofs.merge_judge.MergeJudge.into_merged.Goals as goal
 
 pub merge_run-requires-clause-whole : goal.merge_run-requires-clause-whole

@@ -1,9 +1,6 @@
 use Rattle.std.proofs.Common.{subst, arith}
-use Rattle.word_rule.specs.declared.lock_kind.Stage.TheVariants.{Mcs}
-use Rattle.word_rule.specs.declared.lock_kind.McsStage.TheVariants.{Behind}
-use Rattle.word_rule.specs.Rule.Callers.{IsWithout}
-use Rattle.word_rule.proofs.Acting.{goes_without, moves_without}
-use Rattle.word_rule.proofs.CallerFacts.{below_without, is_other, else_now}
+use Rattle.word_rule.specs.{declared.lock_kind.Stage.TheVariants.Mcs, declared.lock_kind.McsStage.TheVariants.Behind, Rule.Callers.IsWithout}
+use Rattle.word_rule.proofs.{Acting.{goes_without, moves_without}, CallerFacts.{below_without, is_other, else_now}}
 use Rattle.mcs_lock.proofs.McsActing.{arm_now}
 use Rattle.mcs_lock.proofs.cell.McsCell.arm.Goals as goal
 

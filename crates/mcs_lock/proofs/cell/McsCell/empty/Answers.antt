@@ -1,14 +1,10 @@
 use Rattle.std.proofs.Common.{rules, false, [], ◌∷◌, refl, sym, ap, subst, ◌∙◌, arith, Some}
 use Rattle.atomic_table.specs.Table.{rest}
-use Rattle.word_rule.specs.declared.machine.step_done.StepDone.TheVariants as steps
-use Rattle.word_rule.specs.declared.lock_kind.Stage.TheVariants.{Mcs}
-use Rattle.word_rule.specs.declared.lock_kind.McsStage.TheVariants.{Alone, Leaving}
-use Rattle.word_rule.specs.CallerState.{Moves, NeedsAnother}
-use Rattle.word_rule.specs.Rule.Callers.{state_with, IsWith}
-use Rattle.word_rule.proofs.Acting.{left, rests_now, gives_now, goes_with, lags_with}
-use Rattle.word_rule.proofs.CallerFacts.{came_back}
+use Rattle.word_rule.specs.{declared.lock_kind.Stage.TheVariants.Mcs, declared.lock_kind.McsStage.TheVariants.{Alone, Leaving}, CallerState.{Moves, NeedsAnother}, Rule.Callers.{state_with, IsWith}}
+use Rattle.word_rule.proofs.{Acting.{left, rests_now, gives_now, goes_with, lags_with}, CallerFacts.came_back}
 use Rattle.mcs_lock.specs.Passes.{state_of_alone}
 use Rattle.mcs_lock.proofs.McsActing.{empty_now}
+use Rattle.word_rule.specs.declared.machine.step_done.StepDone.TheVariants as steps
 use Rattle.mcs_lock.proofs.cell.McsCell.empty.Goals as goal
 
 pub compare_exchange-found-requires : goal.compare_exchange-found-requires

@@ -1,11 +1,7 @@
 use Rattle.std.proofs.Common.{rules, refl, ℕ, ◌-◌, ◌∷◌, sym, ap, subst, ◌∙◌, arith, Some}
 use Rattle.atomic_table.specs.Table.{rest}
-use Rattle.word_rule.specs.declared.lock_kind.Stage.TheVariants.{Mcs}
-use Rattle.word_rule.specs.declared.lock_kind.McsStage.TheVariants.{Ready, Behind}
-use Rattle.word_rule.specs.Locks.{holder}
-use Rattle.word_rule.specs.Rule.Callers.{IsWithout}
-use Rattle.word_rule.proofs.Acting.{took, takes_from, holds_from, goes_without, moves_without}
-use Rattle.word_rule.proofs.CallerFacts.{not_else, is_other, else_now}
+use Rattle.word_rule.specs.{declared.lock_kind.Stage.TheVariants.Mcs, declared.lock_kind.McsStage.TheVariants.{Ready, Behind}, Locks.holder, Rule.Callers.IsWithout}
+use Rattle.word_rule.proofs.{Acting.{took, takes_from, holds_from, goes_without, moves_without}, CallerFacts.{not_else, is_other, else_now}}
 use Rattle.mcs_lock.proofs.McsActing.{enter_now, named}
 use Rattle.mcs_lock.proofs.cell.McsCell.enter.Goals as goal
 

@@ -1,17 +1,10 @@
 use Rattle.std.proofs.Common.{rules, refl, ◌≡◌, ◌<◌, true, [], ◌∷◌, sym, ap, subst, ◌∙◌, arith, Some}
 use Rattle.atomic_table.specs.Table.{rest}
 use Rattle.event_log.specs.Distinct.{has}
-use Rattle.word_rule.specs.declared.machine.step_done.StepDone.TheVariants as steps
-use Rattle.word_rule.specs.declared.lock_kind.Stage.TheVariants.{Idle, Mcs}
-use Rattle.word_rule.specs.declared.lock_kind.McsStage.TheVariants.{Waiting, Holding}
-use Rattle.word_rule.specs.Cell.{Lawful}
-use Rattle.word_rule.specs.LockRuns.{Extends, HasRun}
-use Rattle.word_rule.specs.Locks.{holder}
-use Rattle.word_rule.specs.Rule.Callers.{IsWithout, caller_of}
-use Rattle.word_rule.proofs.Known.{AllIdle}
-use Rattle.word_rule.proofs.Acting.{TookLast, last_taken, all_together, holds_now, takes_now, sees_without}
-use Rattle.word_rule.proofs.CallerFacts.{below_without}
+use Rattle.word_rule.specs.{declared.lock_kind.Stage.TheVariants.{Idle, Mcs}, declared.lock_kind.McsStage.TheVariants.{Waiting, Holding}, Cell.Lawful, LockRuns.{Extends, HasRun}, Locks.holder, Rule.Callers.{IsWithout, caller_of}}
+use Rattle.word_rule.proofs.{Known.AllIdle, Acting.{TookLast, last_taken, all_together, holds_now, takes_now, sees_without}, CallerFacts.below_without}
 use Rattle.mcs_lock.proofs.McsActing.{look_now}
+use Rattle.word_rule.specs.declared.machine.step_done.StepDone.TheVariants as steps
 use Rattle.mcs_lock.proofs.cell.McsCell.last_look.Goals as goal
 use Rattle.mcs_lock.proofs.cell.McsCell.last_look.Given as given
 

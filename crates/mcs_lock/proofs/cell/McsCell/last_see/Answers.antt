@@ -1,13 +1,9 @@
 use Rattle.std.proofs.Common.{rules, ◌≡◌, ℕ, ◌-◌, ◌^◌, ◌<◌, true, [], ◌∷◌, refl, sym, ap, subst, ◌∙◌, arith}
 use Rattle.event_log.specs.Distinct.{has}
-use Rattle.word_rule.specs.declared.machine.step_done.StepDone.TheVariants as steps
-use Rattle.word_rule.specs.declared.lock_kind.Stage.TheVariants.{Mcs}
-use Rattle.word_rule.specs.declared.lock_kind.McsStage.TheVariants.{Leaving, Waiting, Passing}
-use Rattle.word_rule.specs.Rule.Announced.{IsElse, Goes}
-use Rattle.word_rule.specs.Rule.Callers.{IsWith, IsWithout, hold_view_of, state_without}
-use Rattle.word_rule.proofs.Acting.{all_together, goes_with, moves_with}
-use Rattle.word_rule.proofs.CallerFacts.{below_with, not_else, is_other, else_below, else_now}
+use Rattle.word_rule.specs.{declared.lock_kind.Stage.TheVariants.Mcs, declared.lock_kind.McsStage.TheVariants.{Leaving, Waiting, Passing}, Rule.Announced.{IsElse, Goes}, Rule.Callers.{IsWith, IsWithout, hold_view_of, state_without}}
+use Rattle.word_rule.proofs.{Acting.{all_together, goes_with, moves_with}, CallerFacts.{below_with, not_else, is_other, else_below, else_now}}
 use Rattle.mcs_lock.proofs.McsActing.{find_now, named, else_of, first_goes, second_same}
+use Rattle.word_rule.specs.declared.machine.step_done.StepDone.TheVariants as steps
 use Rattle.mcs_lock.proofs.cell.McsCell.last_see.Goals as goal
 use Rattle.mcs_lock.proofs.cell.McsCell.last_see.Given as given
 

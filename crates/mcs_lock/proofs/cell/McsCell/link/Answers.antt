@@ -1,9 +1,6 @@
 use Rattle.std.proofs.Common.{subst, arith}
-use Rattle.word_rule.specs.declared.lock_kind.Stage.TheVariants.{Mcs}
-use Rattle.word_rule.specs.declared.lock_kind.McsStage.TheVariants.{Armed}
-use Rattle.word_rule.specs.Rule.Callers.{IsWithout}
-use Rattle.word_rule.proofs.Acting.{goes_without, moves_without}
-use Rattle.word_rule.proofs.CallerFacts.{else_below, is_other}
+use Rattle.word_rule.specs.{declared.lock_kind.Stage.TheVariants.Mcs, declared.lock_kind.McsStage.TheVariants.Armed, Rule.Callers.IsWithout}
+use Rattle.word_rule.proofs.{Acting.{goes_without, moves_without}, CallerFacts.{else_below, is_other}}
 use Rattle.mcs_lock.proofs.McsActing.{link_now}
 use Rattle.mcs_lock.proofs.cell.McsCell.link.Goals as goal
 

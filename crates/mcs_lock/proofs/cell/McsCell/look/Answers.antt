@@ -1,12 +1,7 @@
 use Rattle.std.proofs.Common.{rules, refl, ◌∷◌, sym, ap, subst, ◌∙◌, arith, Some}
 use Rattle.atomic_table.specs.Table.{rest}
-use Rattle.word_rule.specs.declared.lock_kind.Stage.TheVariants.{Mcs}
-use Rattle.word_rule.specs.declared.lock_kind.McsStage.TheVariants.{Waiting}
-use Rattle.word_rule.specs.Locks.{holder}
-use Rattle.word_rule.specs.Rule.Callers.{IsWithout}
-use Rattle.word_rule.proofs.Known.{idle_alone}
-use Rattle.word_rule.proofs.Acting.{took, takes_from, holds_from, goes_without, lags_without}
-use Rattle.word_rule.proofs.CallerFacts.{below_without}
+use Rattle.word_rule.specs.{declared.lock_kind.Stage.TheVariants.Mcs, declared.lock_kind.McsStage.TheVariants.Waiting, Locks.holder, Rule.Callers.IsWithout}
+use Rattle.word_rule.proofs.{Known.idle_alone, Acting.{took, takes_from, holds_from, goes_without, lags_without}, CallerFacts.below_without}
 use Rattle.mcs_lock.proofs.McsActing.{look_now}
 use Rattle.mcs_lock.proofs.cell.McsCell.look.Goals as goal
 

@@ -1,11 +1,8 @@
-use Rattle.std.proofs.Common.{rules, ◌+◌, ◌*◌, arith}
-use Rattle.std.proofs.lemmas.List.{take-replicate}
+use Rattle.std.proofs.{Common.{rules, ◌+◌, ◌*◌, arith}, lemmas.List.take-replicate}
 use Rattle.sound_run.specs.declared.limits.TheConstants.{MOST_CPUS}
+use Rattle.word_rule.specs.{LockDefinition.opening_state, Mcs.Definition.mcs_lock}
+use Rattle.word_rule.proofs.{Mcs.Turns.starts_mcs, ShownLocks.tied_lock}
 use Rattle.sound_run.specs.declared.lock_kind.LockKind.TheVariants as kinds
-use Rattle.word_rule.specs.LockDefinition.{opening_state}
-use Rattle.word_rule.specs.Mcs.Definition.{mcs_lock}
-use Rattle.word_rule.proofs.Mcs.Turns.{starts_mcs}
-use Rattle.word_rule.proofs.ShownLocks.{tied_lock}
 use Rattle.mcs_lock.proofs.cell.McsCell.new.Goals as goal
 
 pub open-requires : goal.open-requires

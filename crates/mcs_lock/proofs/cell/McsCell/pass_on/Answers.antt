@@ -1,9 +1,6 @@
 use Rattle.std.proofs.Common.{rules, subst, arith}
-use Rattle.word_rule.specs.declared.lock_kind.Stage.TheVariants.{Mcs}
-use Rattle.word_rule.specs.declared.lock_kind.McsStage.TheVariants.{Passing}
-use Rattle.word_rule.specs.Rule.Callers.{IsWith}
-use Rattle.word_rule.proofs.Acting.{left, rests_now, gives_now}
-use Rattle.word_rule.proofs.CallerFacts.{else_below, is_other}
+use Rattle.word_rule.specs.{declared.lock_kind.Stage.TheVariants.Mcs, declared.lock_kind.McsStage.TheVariants.Passing, Rule.Callers.IsWith}
+use Rattle.word_rule.proofs.{Acting.{left, rests_now, gives_now}, CallerFacts.{else_below, is_other}}
 use Rattle.mcs_lock.proofs.McsActing.{pass_now}
 use Rattle.mcs_lock.proofs.cell.McsCell.pass_on.Goals as goal
 

@@ -1,8 +1,6 @@
 use Rattle.std.proofs.Common.{subst, arith}
-use Rattle.word_rule.specs.declared.lock_kind.Stage.TheVariants.{Idle}
-use Rattle.word_rule.specs.Rule.Callers.{IsWithout}
-use Rattle.word_rule.proofs.Acting.{goes_without, moves_without}
-use Rattle.word_rule.proofs.CallerFacts.{below_without}
+use Rattle.word_rule.specs.{declared.lock_kind.Stage.TheVariants.Idle, Rule.Callers.IsWithout}
+use Rattle.word_rule.proofs.{Acting.{goes_without, moves_without}, CallerFacts.below_without}
 use Rattle.mcs_lock.proofs.McsActing.{prepare_now}
 use Rattle.mcs_lock.proofs.cell.McsCell.prepare.Goals as goal
 

@@ -1,14 +1,8 @@
 use Rattle.std.proofs.Common.{rules, ℕ, ◌-◌, ◌^◌, ◌<◌, true, false, [], ◌∷◌, ap, subst, ◌∙◌, arith}
-use Rattle.word_rule.specs.declared.machine.step_done.StepDone.TheVariants as steps
-use Rattle.word_rule.specs.declared.lock_kind.Stage.TheVariants.{Mcs}
-use Rattle.word_rule.specs.declared.lock_kind.McsStage.TheVariants.{Holding, Alone, Passing}
-use Rattle.word_rule.specs.CallerState.{Moves}
-use Rattle.word_rule.specs.Rule.Callers.{IsWith, state_with}
-use Rattle.word_rule.specs.Locks.{holder}
+use Rattle.word_rule.specs.{declared.lock_kind.Stage.TheVariants.Mcs, declared.lock_kind.McsStage.TheVariants.{Holding, Alone, Passing}, CallerState.Moves, Rule.Callers.{IsWith, state_with}, Locks.holder}
 use Rattle.mcs_lock.proofs.McsActing.{see_now, named}
-use Rattle.word_rule.proofs.Acting.{goes_with, moves_with}
-use Rattle.word_rule.proofs.CallerFacts.{below_with, not_else, is_other, else_below, else_now}
-use Rattle.word_rule.proofs.Lenders.{holder_holds}
+use Rattle.word_rule.proofs.{Acting.{goes_with, moves_with}, CallerFacts.{below_with, not_else, is_other, else_below, else_now}, Lenders.holder_holds}
+use Rattle.word_rule.specs.declared.machine.step_done.StepDone.TheVariants as steps
 use Rattle.mcs_lock.proofs.cell.McsCell.see.Goals as goal
 
 pub load-found-requires : goal.load-found-requires

@@ -1,9 +1,6 @@
 use Rattle.std.proofs.Common.{rules, ℕ, ◌-◌, ◌^◌, ◌<◌, [], ◌∷◌, refl, ap, subst, ◌∙◌, arith}
-use Rattle.word_rule.specs.declared.lock_kind.Stage.TheVariants.{Mcs}
-use Rattle.word_rule.specs.declared.lock_kind.McsStage.TheVariants.{Leaving, Passing}
-use Rattle.word_rule.specs.Rule.Callers.{IsWith}
-use Rattle.word_rule.proofs.Acting.{goes_with, moves_with, lags_with}
-use Rattle.word_rule.proofs.CallerFacts.{below_with, not_else, is_other, else_below, else_now}
+use Rattle.word_rule.specs.{declared.lock_kind.Stage.TheVariants.Mcs, declared.lock_kind.McsStage.TheVariants.{Leaving, Passing}, Rule.Callers.IsWith}
+use Rattle.word_rule.proofs.{Acting.{goes_with, moves_with, lags_with}, CallerFacts.{below_with, not_else, is_other, else_below, else_now}}
 use Rattle.mcs_lock.proofs.McsActing.{see_again_now, named}
 use Rattle.mcs_lock.proofs.cell.McsCell.see_again.Goals as goal
 

@@ -1,8 +1,6 @@
 use Rattle.std.proofs.Common.{rules, refl, ◌∷◌, sym, ap, subst, ◌∙◌, arith, Some}
 use Rattle.atomic_table.specs.Table.{rest}
-use Rattle.word_rule.specs.declared.lock_kind.Stage.TheVariants.{Idle, Trying}
-use Rattle.word_rule.specs.Locks.{holder}
-use Rattle.word_rule.specs.Rule.Callers.{IsWithout}
+use Rattle.word_rule.specs.{declared.lock_kind.Stage.TheVariants.{Idle, Trying}, Locks.holder, Rule.Callers.IsWithout}
 use Rattle.word_rule.proofs.Acting.{took, takes_from, holds_from, goes_without, lags_without}
 use Rattle.mcs_lock.proofs.McsActing.{try_now}
 use Rattle.mcs_lock.proofs.cell.McsCell.try_enter.Goals as goal

@@ -1,10 +1,8 @@
 use Rattle.std.proofs.Common.{refl, ◌∙◌, [], ◌∷◌, ◌++◌, true, false, arith}
-use Rattle.word_rule.specs.declared.machine.step_done.StepDone.TheVariants as steps
-use Rattle.word_rule.proofs.Acting.{takes_log}
-use Rattle.word_rule.proofs.CallerFacts.{grows_on}
-use Rattle.word_rule.proofs.OneHolds.{waits_more, looks_more, found_left, since_more, since_moved}
+use Rattle.word_rule.proofs.{Acting.takes_log, CallerFacts.grows_on, OneHolds.{waits_more, looks_more, found_left, since_more, since_moved}}
 use Rattle.mcs_lock.specs.Passes.{view_of_behind, state_of_behind, state_of_armed, state_of_waiting}
 use Rattle.word_rule.specs.Passes.{run_of_hold, state_of_hold}
+use Rattle.word_rule.specs.declared.machine.step_done.StepDone.TheVariants as steps
 use Rattle.mcs_lock.proofs.cell.McsCell.wait_behind.Goals as goal
 
 pub loop-init : goal.loop-init

@@ -1,6 +1,5 @@
 use Rattle.std.proofs.Common.{◌≡◌, List}
-use Rattle.word_rule.specs.declared.machine.step_done.StepDone.{StepDone}
-use Rattle.word_rule.specs.Cell.{Grows}
+use Rattle.word_rule.specs.{declared.machine.step_done.StepDone.StepDone, Cell.Grows}
 use Rattle.word_rule.proofs.OneHolds.{Waits, Since}
 use Rattle.mcs_lock.specs.Passes.{IsWaitingOf, view_of_behind, view_of_waiting, state_of_behind, state_of_waiting}
 use Rattle.mcs_lock.proofs.cell.McsCell.wait_behind.Given as goal

@@ -1,6 +1,5 @@
 use Rattle.std.proofs.Common.{◌∙◌, refl, [], true, false}
-use Rattle.word_rule.specs.declared.lock_kind.Stage.TheVariants.{Mcs}
-use Rattle.word_rule.specs.declared.lock_kind.McsStage.TheVariants.{Leaving}
+use Rattle.word_rule.specs.{declared.lock_kind.Stage.TheVariants.Mcs, declared.lock_kind.McsStage.TheVariants.Leaving}
 use Rattle.word_rule.proofs.RunLists.{extends_self}
 use Rattle.mcs_lock.specs.Passes.{state_of_leaving, state_of_passing}
 use Rattle.mcs_lock.proofs.McsActing.{same_held, seen_more}

@@ -1,6 +1,5 @@
 use Rattle.std.proofs.Common.{◌≡◌}
-use Rattle.mcs_lock.specs.Seen.{IsSeen}
-use Rattle.mcs_lock.specs.Passes.{IsLeavingOf, view_of_leaving, state_of_leaving}
+use Rattle.mcs_lock.specs.{Seen.IsSeen, Passes.{IsLeavingOf, view_of_leaving, state_of_leaving}}
 use Rattle.mcs_lock.proofs.cell.McsCell.wait_follower.Given as goal
 
 abbrev pub invariant-loop : goal.invariant-loop

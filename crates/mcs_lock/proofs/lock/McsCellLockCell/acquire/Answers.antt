@@ -1,10 +1,8 @@
 use Rattle.std.proofs.Common.{refl, [], ◌∷◌, true, false, arith}
-use Rattle.word_rule.specs.declared.machine.step_done.StepDone.TheVariants as steps
-use Rattle.word_rule.proofs.Acting.{takes_log}
-use Rattle.word_rule.proofs.CallerFacts.{grows_on}
-use Rattle.word_rule.proofs.OneHolds.{since_moved, acquired_at_once, acquired_queued}
+use Rattle.word_rule.proofs.{Acting.takes_log, CallerFacts.grows_on, OneHolds.{since_moved, acquired_at_once, acquired_queued}}
 use Rattle.mcs_lock.specs.Passes.{state_of_ready, state_of_behind}
 use Rattle.word_rule.specs.Passes.{view_of_pass, run_of_pass, run_of_hold, state_of_pass, state_of_hold}
+use Rattle.word_rule.specs.declared.machine.step_done.StepDone.TheVariants as steps
 use Rattle.mcs_lock.proofs.lock.McsCellLockCell.acquire.Goals as goal
 
 pub returns-in-Hold-clause-grows : goal.returns-in-Hold-clause-grows

@@ -1,11 +1,9 @@
 use Rattle.std.proofs.Common.{refl, [], ◌∷◌, true, false}
-use Rattle.word_rule.specs.declared.machine.step_done.StepDone.TheVariants as steps
-use Rattle.word_rule.specs.Passes.{view_of_hold, run_of_hold, state_of_pass, state_of_hold}
-use Rattle.word_rule.specs.Rule.Callers.{caller_of}
-use Rattle.word_rule.proofs.OneHolds.{HeldSince, held_moved, held_given}
-use Rattle.word_rule.proofs.RunLists.{extends_self}
+use Rattle.word_rule.specs.{Passes.{view_of_hold, run_of_hold, state_of_pass, state_of_hold}, Rule.Callers.caller_of}
+use Rattle.word_rule.proofs.{OneHolds.{HeldSince, held_moved, held_given}, RunLists.extends_self}
 use Rattle.mcs_lock.specs.Passes.{state_of_alone, state_of_leaving, state_of_passing}
 use Rattle.mcs_lock.proofs.McsActing.{held_seen, releases_seen}
+use Rattle.word_rule.specs.declared.machine.step_done.StepDone.TheVariants as steps
 use Rattle.mcs_lock.proofs.lock.McsCellLockCell.release.Goals as goal
 
 pub returns-in-Ok-clause-run : goal.returns-in-Ok-clause-run

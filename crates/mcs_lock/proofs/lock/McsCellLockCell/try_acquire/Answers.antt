@@ -1,14 +1,8 @@
-use Rattle.std.proofs.Common.{refl, subst, [], ◌∷◌, true, arith}
-use Rattle.std.proofs.lemmas.Result.{IfOk-weaker, IfErr-weaker}
-use Rattle.word_rule.specs.declared.machine.step_done.StepDone.TheVariants as steps
-use Rattle.word_rule.specs.Cell.{Grows}
-use Rattle.word_rule.specs.LockRuns.{Extends}
-use Rattle.word_rule.specs.Passes.{view_of_pass, run_of_pass, state_of_pass, state_of_hold}
-use Rattle.word_rule.proofs.Acting.{takes_log, busy_by}
-use Rattle.word_rule.proofs.Lists.{grows_then}
-use Rattle.word_rule.proofs.OneHolds.{acquired_at_once}
-use Rattle.word_rule.proofs.RunLists.{extends_after}
+use Rattle.std.proofs.{Common.{refl, subst, [], ◌∷◌, true, arith}, lemmas.Result.{IfOk-weaker, IfErr-weaker}}
+use Rattle.word_rule.specs.{Cell.Grows, LockRuns.Extends, Passes.{view_of_pass, run_of_pass, state_of_pass, state_of_hold}}
+use Rattle.word_rule.proofs.{Acting.{takes_log, busy_by}, Lists.grows_then, OneHolds.acquired_at_once, RunLists.extends_after}
 use Rattle.mcs_lock.specs.Passes.{state_of_trying}
+use Rattle.word_rule.specs.declared.machine.step_done.StepDone.TheVariants as steps
 use Rattle.mcs_lock.proofs.lock.McsCellLockCell.try_acquire.Goals as goal
 
 pub returns-clause-grows : goal.returns-clause-grows

@@ -1,5 +1,4 @@
-use Rattle.std.proofs.Common.{◌≡◌, ◌<◌, ◌-◌, length, get_or, set, replicate, ap, ◌∙◌, arith, rules}
-use Rattle.std.proofs.lemmas.List.{length-replicate, get_or-replicate, length-set}
+use Rattle.std.proofs.{Common.{◌≡◌, ◌<◌, ◌-◌, length, get_or, set, replicate, ap, ◌∙◌, arith, rules}, lemmas.List.{length-replicate, get_or-replicate, length-set}}
 use Rattle.page_pool.proofs.Topped.{all_has, all_members, all_topped}
 use Rattle.page_pool.proofs.pages.PageSet.all.Goals as goal
 

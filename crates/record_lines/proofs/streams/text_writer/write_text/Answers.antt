@@ -1,6 +1,4 @@
-use Rattle.std.proofs.Common.{◌++◌, arith, ap, ◌∙◌}
-use Rattle.std.proofs.lemmas.List.{take_rest}
-use Rattle.std.proofs.lemmas.Grind.{common_steps}
+use Rattle.std.proofs.{Common.{◌++◌, arith, ap, ◌∙◌}, lemmas.List.take_rest, lemmas.Grind.common_steps}
 use Rattle.record_lines.proofs.Outputs.{written_more}
 use Rattle.record_lines.proofs.streams.text_writer.write_text.Goals as goal
 

@@ -1,5 +1,4 @@
-use Rattle.std.proofs.Common.{sym}
-use Rattle.std.proofs.lemmas.Fmt.{decimal_digit}
+use Rattle.std.proofs.{Common.sym, lemmas.Fmt.decimal_digit}
 use Rattle.record_lines.proofs.Outputs.{puts_same}
 use Rattle.record_lines.proofs.text.line_writer.begin_line.Goals as goal
 

@@ -1,10 +1,6 @@
 use Rattle.std.proofs.Common.{◌≡◌, List, [], ◌∷◌, ℕ, false, sym, ap, ◌∙◌}
-use Rattle.record_lines.specs.Reading.{words}
-use Rattle.record_lines.specs.LineParts.{is_nil}
-use Rattle.record_lines.specs.Words.{sentence, spaced}
-use Rattle.record_lines.proofs.Lines.{sentence_spaced}
-use Rattle.record_lines.proofs.Outputs.{puts_then, puts_same}
-use Rattle.record_lines.proofs.Sentences.{words_some, sentence_words}
+use Rattle.record_lines.specs.{Reading.words, LineParts.is_nil, Words.{sentence, spaced}}
+use Rattle.record_lines.proofs.{Lines.sentence_spaced, Outputs.{puts_then, puts_same}, Sentences.{words_some, sentence_words}}
 use Rattle.record_lines.proofs.text.line_writer.put_words.Goals as goal
 
 -- a sentence behind a space is its words, each behind a space

@@ -1,7 +1,6 @@
 use Rattle.std.proofs.Common.{subst, Option, ℕ}
 use Rattle.memchr.specs.Find.{IsFirstByte, is_byte}
-use Rattle.record_lines.proofs.Cuts.{cut_first, cut_none}
-use Rattle.record_lines.proofs.Readings.{if_none}
+use Rattle.record_lines.proofs.{Cuts.{cut_first, cut_none}, Readings.if_none}
 use Rattle.record_lines.proofs.text.split.split_line.Goals as goal
 
 pub returns-in_err-place-clause-none : goal.returns-in_err-place-clause-none

@@ -1,6 +1,5 @@
 use Rattle.std.proofs.Common.{◌==◌, sym, ◌∙◌}
-use Rattle.record_lines.proofs.Cuts.{cut_found, none_passes}
-use Rattle.record_lines.proofs.Readings.{if_none}
+use Rattle.record_lines.proofs.{Cuts.{cut_found, none_passes}, Readings.if_none}
 use Rattle.record_lines.proofs.text.split.split_once.Goals as goal
 
 pub returns-in_err-place-clause-none : goal.returns-in_err-place-clause-none

@@ -1,7 +1,6 @@
 use Rattle.std.proofs.Common.{sym, ◌∙◌, ap, option_map}
 use Rattle.record_lines.specs.Reading.{left}
-use Rattle.record_lines.proofs.Behind.{word_next}
-use Rattle.record_lines.proofs.Readings.{if_some}
+use Rattle.record_lines.proofs.{Behind.word_next, Readings.if_some}
 use Rattle.record_lines.proofs.text.words.after.Goals as goal
 
 pub returns : goal.returns

@@ -1,6 +1,5 @@
 use Rattle.std.proofs.Common.{◌+◌, ◌*◌, ◌<◌, ap, ◌∙◌, arith}
-use Rattle.record_lines.proofs.Digits.{digits_more, digits_past, digits_push}
-use Rattle.record_lines.proofs.Readings.{if_none}
+use Rattle.record_lines.proofs.{Digits.{digits_more, digits_past, digits_push}, Readings.if_none}
 use Rattle.record_lines.proofs.text.words.digits.Goals as goal
 
 pub returns-in_err-digit-clause-none : goal.returns-in_err-digit-clause-none

@@ -1,8 +1,7 @@
 use Rattle.std.proofs.Common.{sym, subst}
 use Rattle.records.specs.RecordSources.{SpellsRecord}
 use Rattle.kernel_words.specs.declared.form.Form.TheVariants.{One}
-use Rattle.records.proofs.RecordSources.{spells_one, refused_unread}
-use Rattle.records.proofs.SoundBefore.{sound_given}
+use Rattle.records.proofs.{RecordSources.{spells_one, refused_unread}, SoundBefore.sound_given}
 use Rattle.records.proofs.record.Record.read_from.Goals as goal
 
 pub returns-in-Ok-clause-found : goal.returns-in-Ok-clause-found

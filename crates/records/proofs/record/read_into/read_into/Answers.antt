@@ -1,11 +1,7 @@
 use Rattle.std.proofs.Common.{Err, ap, sym, ◌∙◌, subst}
-use Rattle.record_lines.specs.declared.streams.feeding.SourceFault.TheVariants.{Reported}
-use Rattle.record_lines.specs.declared.text.fault.LinesFault.TheVariants.{Line}
-use Rattle.record_lines.specs.Pieces.{HasFed}
-use Rattle.records.specs.RecordFaults.{IsBadLine}
-use Rattle.records.specs.RecordStates.{RecordState, TakesLine}
-use Rattle.records.proofs.RecordSources.{spells_one, end_refused, only_refused, bad_of_rest, out_behind}
-use Rattle.records.proofs.RecordTexts.{bad_is_none}
+use Rattle.record_lines.specs.{declared.streams.feeding.SourceFault.TheVariants.Reported, declared.text.fault.LinesFault.TheVariants.Line, Pieces.HasFed}
+use Rattle.records.specs.{RecordFaults.IsBadLine, RecordStates.{RecordState, TakesLine}}
+use Rattle.records.proofs.{RecordSources.{spells_one, end_refused, only_refused, bad_of_rest, out_behind}, RecordTexts.bad_is_none}
 use Rattle.records.proofs.record.read_into.read_into.Goals as goal
 
 pub returns-in_err-whole_parts-in-Ok-clause-fault : goal.returns-in_err-whole_parts-in-Ok-clause-fault

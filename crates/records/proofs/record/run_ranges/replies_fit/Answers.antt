@@ -1,8 +1,4 @@
-use Rattle.kernel_words.proofs.KernelRanges.{kernel_replies_fit}
-use Rattle.kernel_words.proofs.KindLaws.Console.{console_keeps}
-use Rattle.kernel_words.proofs.KindLaws.Pool.{pool_keeps}
-use Rattle.kernel_words.proofs.KindLaws.Queue.{queue_keeps}
-use Rattle.kernel_words.proofs.KindLaws.Sched.{sched_keeps}
+use Rattle.kernel_words.proofs.{KernelRanges.kernel_replies_fit, KindLaws.Console.console_keeps, KindLaws.Pool.pool_keeps, KindLaws.Queue.queue_keeps, KindLaws.Sched.sched_keeps}
 use Rattle.records.proofs.record.run_ranges.replies_fit.Goals as goal
 
 pub returns : goal.returns

@@ -1,6 +1,5 @@
 use Rattle.std.proofs.Common.{◌∙◌, ℕ, Err, ap, sym, subst}
-use Rattle.scripts.specs.ScheduleReading.{HasReadSteps}
-use Rattle.scripts.specs.ScheduleText.{IsSchedule, IsFirstBadWord}
+use Rattle.scripts.specs.{ScheduleReading.HasReadSteps, ScheduleText.{IsSchedule, IsFirstBadWord}}
 use Rattle.scripts.proofs.StepReading.{source_names, end_names}
 use Rattle.scripts.proofs.schedule.source.steps_from.Goals as goal
 

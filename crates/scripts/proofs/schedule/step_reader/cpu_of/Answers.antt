@@ -1,7 +1,6 @@
 use Rattle.std.proofs.Common.{◌≡◌, ◌<◌, ◌≤◌, ◌^◌, Some, None, sym, ◌∙◌, ap, arith}
 use Rattle.record_lines.specs.Reading.{number_in}
-use Rattle.record_lines.proofs.Cuts.{number_takes, number_again}
-use Rattle.record_lines.proofs.Readings.{if_none}
+use Rattle.record_lines.proofs.{Cuts.{number_takes, number_again}, Readings.if_none}
 use Rattle.scripts.proofs.schedule.step_reader.cpu_of.Goals as goal
 
 pub returns-in_err-number-clause-none : goal.returns-in_err-number-clause-none

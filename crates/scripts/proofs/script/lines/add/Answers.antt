@@ -1,8 +1,5 @@
-use Rattle.std.proofs.Common.{◌≡◌, refl, ◌∙◌, ap, map, Some, arith, length}
-use Rattle.std.specs.Prelude.{slice_get, slice_set}
-use Rattle.std.specs.Option.{option_map}
-use Rattle.std.proofs.lemmas.List.{map-set}
-use Rattle.std.proofs.lemmas.Option.{slice_get-map, slice_get_read}
+use Rattle.std.proofs.{Common.{◌≡◌, refl, ◌∙◌, ap, map, Some, arith, length}, lemmas.List.map-set, lemmas.Option.{slice_get-map, slice_get_read}}
+use Rattle.std.specs.{Prelude.{slice_get, slice_set}, Option.option_map}
 use Rattle.scripts.proofs.script.lines.add.Goals as goal
 
 pub returns-clause-ok : goal.returns-clause-ok

@@ -1,6 +1,4 @@
-use Rattle.std.proofs.Common.{◌≡◌, [], ◌∷◌, ◌++◌, map, ap, sym, ◌∙◌, arith}
-use Rattle.std.proofs.lemmas.List.{map-append}
-use Rattle.std.proofs.lemmas.List.FromFn.{map-range_with_len_more}
+use Rattle.std.proofs.{Common.{◌≡◌, [], ◌∷◌, ◌++◌, map, ap, sym, ◌∙◌, arith}, lemmas.List.map-append, lemmas.List.FromFn.map-range_with_len_more}
 use Rattle.scripts.specs.ScriptText.{script_of, dealt}
 use Rattle.scripts.proofs.script.lines.empty_lists.Goals as goal
 

@@ -1,7 +1,6 @@
 use Rattle.std.proofs.Common.{ℕ, List, sym, subst, ◌∙◌, ap}
 use Rattle.kernel_object.specs.KernelTypes.{KernelTodo}
-use Rattle.scripts.specs.ScriptFaults.{ScriptState, no_entries}
-use Rattle.scripts.specs.ScriptText.{AreScripts, ScriptsWithin, IsFirstBad}
+use Rattle.scripts.specs.{ScriptFaults.{ScriptState, no_entries}, ScriptText.{AreScripts, ScriptsWithin, IsFirstBad}}
 use Rattle.records.specs.Settings.{SettingsFit}
 use Rattle.scripts.proofs.ScriptTexts.{whole_taken, within_all, rest_is_bad}
 use Rattle.scripts.proofs.script.lines.whole_scripts.Goals as goal

@@ -1,6 +1,5 @@
 use Rattle.std.proofs.Common.{ap, ◌∙◌}
-use Rattle.toml.specs.Data.{get_member}
-use Rattle.toml.specs.View.{table_view}
+use Rattle.toml.specs.{Data.get_member, View.table_view}
 use Rattle.toml.proofs.Views.{table_get}
 use Rattle.scripts.proofs.settings.keys.get.Goals as goal
 

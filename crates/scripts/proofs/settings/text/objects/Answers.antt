@@ -1,5 +1,4 @@
-use Rattle.std.proofs.Common.{◌≤◌, ◌+◌, ◌∷◌, [], ◌∙◌, sym, ap, length, length-append, drop, arith}
-use Rattle.std.proofs.lemmas.List.{drop_all}
+use Rattle.std.proofs.{Common.{◌≤◌, ◌+◌, ◌∷◌, [], ◌∙◌, sym, ap, length, length-append, drop, arith}, lemmas.List.drop_all}
 use Rattle.toml.specs.View.{view, items_view}
 use Rattle.scripts.specs.SettingsText.{object_from, objects_from}
 use Rattle.scripts.proofs.SettingsTables.{item_there, objects_more, objects_none, objects_end, refused_map}

@@ -1,8 +1,6 @@
 use Rattle.std.proofs.Common.{rules, ◌∷◌, refl, sym, ap, ◌∙◌, Some}
 use Rattle.atomic_table.specs.Table.{rest}
-use Rattle.word_rule.specs.declared.lock_kind.Stage.TheVariants.{Ticket}
-use Rattle.word_rule.specs.declared.lock_kind.TicketStage.TheVariants.{Served}
-use Rattle.word_rule.specs.Locks.{holder}
+use Rattle.word_rule.specs.{declared.lock_kind.Stage.TheVariants.Ticket, declared.lock_kind.TicketStage.TheVariants.Served, Locks.holder}
 use Rattle.word_rule.proofs.Acting.{took, holds_from, still_without, not_all}
 use Rattle.ticket_lock.proofs.TicketRule.{trying}
 use Rattle.ticket_lock.proofs.cell.TicketCell.exchange.Goals as goal

@@ -1,12 +1,8 @@
 use Rattle.std.proofs.Common.{refl, subst, ◌∙◌, [], ◌∷◌, ◌++◌, true, false, arith}
-use Rattle.word_rule.specs.declared.machine.step_done.StepDone.TheVariants as steps
-use Rattle.word_rule.specs.Cell.{Grows}
-use Rattle.word_rule.proofs.Lists.{grows_self, grows_then}
-use Rattle.word_rule.proofs.Acting.{takes_log}
-use Rattle.word_rule.proofs.RunLists.{extends_self}
-use Rattle.word_rule.proofs.OneHolds.{waits_more, looks_more, found_left, since_more, since_moved}
+use Rattle.word_rule.specs.{Cell.Grows, Passes.{run_of_hold, state_of_hold}}
+use Rattle.word_rule.proofs.{Lists.{grows_self, grows_then}, Acting.takes_log, RunLists.extends_self, OneHolds.{waits_more, looks_more, found_left, since_more, since_moved}}
 use Rattle.ticket_lock.specs.Passes.{view_of_drawn, state_of_drawn}
-use Rattle.word_rule.specs.Passes.{run_of_hold, state_of_hold}
+use Rattle.word_rule.specs.declared.machine.step_done.StepDone.TheVariants as steps
 use Rattle.ticket_lock.proofs.cell.TicketCell.look_on.Goals as goal
 
 pub loop-init : goal.loop-init

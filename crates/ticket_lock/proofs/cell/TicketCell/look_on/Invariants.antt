@@ -1,9 +1,8 @@
 use Rattle.std.proofs.Common.{◌≡◌, List, ◌∷◌, false}
-use Rattle.word_rule.specs.Cell.{Grows}
-use Rattle.word_rule.specs.declared.machine.step_done.StepDone.{StepDone}
-use Rattle.word_rule.specs.declared.machine.step_done.StepDone.TheVariants as steps
+use Rattle.word_rule.specs.{Cell.Grows, declared.machine.step_done.StepDone.StepDone}
 use Rattle.word_rule.proofs.OneHolds.{Waits, Since}
 use Rattle.ticket_lock.specs.Passes.{IsDrawnOf, view_of_drawn, state_of_drawn}
+use Rattle.word_rule.specs.declared.machine.step_done.StepDone.TheVariants as steps
 use Rattle.ticket_lock.proofs.cell.TicketCell.look_on.Given as goal
 
 abbrev pub invariant-loop : goal.invariant-loop

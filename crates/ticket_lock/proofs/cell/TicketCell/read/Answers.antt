@@ -1,8 +1,6 @@
 use Rattle.std.proofs.Common.{rules, sym, ap, subst, ◌∙◌}
-use Rattle.word_rule.specs.Cell.{Grows}
-use Rattle.word_rule.specs.Rule.Callers.{caller_of}
-use Rattle.word_rule.proofs.Acting.{not_all}
-use Rattle.word_rule.proofs.Lists.{grows_self}
+use Rattle.word_rule.specs.{Cell.Grows, Rule.Callers.caller_of}
+use Rattle.word_rule.proofs.{Acting.not_all, Lists.grows_self}
 use Rattle.ticket_lock.proofs.TicketRule.{reading}
 use Rattle.ticket_lock.proofs.cell.TicketCell.read.Goals as goal
 

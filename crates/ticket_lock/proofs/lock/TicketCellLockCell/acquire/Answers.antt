@@ -1,11 +1,8 @@
 use Rattle.std.proofs.Common.{refl, subst, ◌∙◌, [], ◌∷◌, true, false, arith}
-use Rattle.word_rule.specs.declared.machine.step_done.StepDone.TheVariants as steps
-use Rattle.word_rule.specs.Cell.{Grows}
-use Rattle.word_rule.proofs.Lists.{grows_then}
-use Rattle.word_rule.proofs.Acting.{takes_log}
-use Rattle.word_rule.proofs.OneHolds.{since_moved, acquired_at_once, acquired_queued}
+use Rattle.word_rule.specs.{Cell.Grows, Passes.{view_of_pass, run_of_pass, run_of_hold, state_of_hold}}
+use Rattle.word_rule.proofs.{Lists.grows_then, Acting.takes_log, OneHolds.{since_moved, acquired_at_once, acquired_queued}}
 use Rattle.ticket_lock.specs.Passes.{view_of_drawn, state_of_drawn}
-use Rattle.word_rule.specs.Passes.{view_of_pass, run_of_pass, run_of_hold, state_of_hold}
+use Rattle.word_rule.specs.declared.machine.step_done.StepDone.TheVariants as steps
 use Rattle.ticket_lock.proofs.lock.TicketCellLockCell.acquire.Goals as goal
 
 pub returns-in-Ok-clause-caller : goal.returns-in-Ok-clause-caller

@@ -1,9 +1,7 @@
 use Rattle.std.proofs.Common.{refl, []}
+use Rattle.word_rule.specs.{Passes.{view_of_hold, run_of_hold, state_of_pass, state_of_hold}, Rule.Callers.caller_of}
+use Rattle.word_rule.proofs.{OneHolds.released_by, RunLists.extends_self}
 use Rattle.word_rule.specs.declared.machine.step_done.StepDone.TheVariants as steps
-use Rattle.word_rule.specs.Passes.{view_of_hold, run_of_hold, state_of_pass, state_of_hold}
-use Rattle.word_rule.specs.Rule.Callers.{caller_of}
-use Rattle.word_rule.proofs.OneHolds.{released_by}
-use Rattle.word_rule.proofs.RunLists.{extends_self}
 use Rattle.ticket_lock.proofs.lock.TicketCellLockCell.release.Goals as goal
 
 pub returns-clause-run : goal.returns-clause-run

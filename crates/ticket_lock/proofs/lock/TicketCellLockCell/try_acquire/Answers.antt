@@ -1,10 +1,8 @@
 use Rattle.std.proofs.Common.{refl, sym, ap, subst, [], ◌∷◌, true, arith}
-use Rattle.word_rule.specs.declared.machine.step_done.StepDone.TheVariants as steps
-use Rattle.word_rule.specs.LockRuns.{Extends}
-use Rattle.word_rule.specs.Passes.{view_of_pass, run_of_pass, state_of_hold}
-use Rattle.word_rule.proofs.OneHolds.{acquired_at_once, if_ok}
-use Rattle.word_rule.proofs.RunLists.{extends_self}
+use Rattle.word_rule.specs.{LockRuns.Extends, Passes.{view_of_pass, run_of_pass, state_of_hold}}
+use Rattle.word_rule.proofs.{OneHolds.{acquired_at_once, if_ok}, RunLists.extends_self}
 use Rattle.ticket_lock.specs.Passes.{state_of_trying}
+use Rattle.word_rule.specs.declared.machine.step_done.StepDone.TheVariants as steps
 use Rattle.ticket_lock.proofs.lock.TicketCellLockCell.try_acquire.Goals as goal
 
 pub returns-in-Ok-clause-run : goal.returns-in-Ok-clause-run

@@ -1,8 +1,7 @@
 use Rattle.std.proofs.Common.{rules, ◌≡◌, sym, ap, subst, ◌∙◌, true}
 use Rattle.event_log.specs.Distinct.{has}
 use Rattle.word_rule.specs.Locks.{holding}
-use Rattle.word_rule.proofs.Meetings.{joining, returning_slot, meeting_second}
-use Rattle.word_rule.proofs.Lenders.{holder_holds}
+use Rattle.word_rule.proofs.{Meetings.{joining, returning_slot, meeting_second}, Lenders.holder_holds}
 use Rattle.word_rule.proofs.lock_table.LockTable.apart.Goals as goal
 
 pub load-requires : goal.load-requires

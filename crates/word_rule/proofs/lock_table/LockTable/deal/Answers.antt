@@ -1,6 +1,5 @@
 use Rattle.std.proofs.Common.{rules, ◌<◌, sym, ap, subst, ◌∙◌}
-use Rattle.word_rule.specs.declared.lock_kind.Stage.TheVariants.{Idle}
-use Rattle.word_rule.specs.Rule.Callers.{IsWithout}
+use Rattle.word_rule.specs.{declared.lock_kind.Stage.TheVariants.Idle, Rule.Callers.IsWithout}
 use Rattle.word_rule.proofs.Dealing.{goes_on, is_one, one_rests, part_first, each_push}
 use Rattle.word_rule.proofs.lock_table.LockTable.deal.Goals as goal
 

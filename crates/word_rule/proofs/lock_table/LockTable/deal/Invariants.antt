@@ -1,6 +1,5 @@
 use Rattle.std.proofs.Common.{◌≡◌, ◌≤◌, [], vec_len, vec_capacity}
-use Rattle.word_rule.specs.Cell.{EachAt, opening_pass}
-use Rattle.word_rule.specs.Passes.{IsPassAt, view_of_pass, run_of_pass}
+use Rattle.word_rule.specs.{Cell.{EachAt, opening_pass}, Passes.{IsPassAt, view_of_pass, run_of_pass}}
 use Rattle.word_rule.proofs.Dealing.{undealt}
 use Rattle.word_rule.proofs.lock_table.LockTable.deal.Given as goal
 

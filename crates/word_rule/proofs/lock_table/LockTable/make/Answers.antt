@@ -1,8 +1,7 @@
 use Rattle.std.proofs.Common.{List, [], ◌∷◌, ◌++◌, sym, subst, ◌∙◌, Option, Some}
 use Rattle.atomic_table.specs.Table.{opening}
 use Rattle.event_log.specs.History.{History}
-use Rattle.word_rule.specs.Rule.CellInvariant.{CellInvariant}
-use Rattle.word_rule.specs.Rule.Seats.{first_view}
+use Rattle.word_rule.specs.{Rule.CellInvariant.CellInvariant, Rule.Seats.first_view}
 use Rattle.word_rule.proofs.lock_table.LockTable.make.Goals as goal
 
 pub new-requires : goal.new-requires

@@ -1,11 +1,7 @@
 use Rattle.std.proofs.Common.{rules, [], ◌∷◌, sym, ap, subst, ◌∙◌, Some}
 use Rattle.atomic_table.specs.Table.{opening}
-use Rattle.word_rule.specs.Cell.{Lawful, opening_pass}
-use Rattle.word_rule.specs.Locks.{Fits, opening_lock}
-use Rattle.word_rule.specs.Rule.CellInvariant.{CellInvariant}
-use Rattle.word_rule.specs.Rule.Seats.{first_view}
-use Rattle.word_rule.proofs.Ends.{opens, opens_valid}
-use Rattle.word_rule.proofs.LockLaws.{fits}
+use Rattle.word_rule.specs.{Cell.{Lawful, opening_pass}, Locks.{Fits, opening_lock}, Rule.CellInvariant.CellInvariant, Rule.Seats.first_view}
+use Rattle.word_rule.proofs.{Ends.{opens, opens_valid}, LockLaws.fits}
 use Rattle.word_rule.proofs.lock_table.LockTable.open.Goals as goal
 
 pub make-requires : goal.make-requires

@@ -1,9 +1,6 @@
 use Rattle.std.proofs.Common.{ℕ, ap, subst, length, List, Vec, arith}
-use Rattle.std.specs.List.{AllByRecursion}
-use Rattle.std.specs.declared.alloc.Global.{Global}
-use Rattle.word_rule.specs.declared.machine.cell_spec.CellSpec.{CellSpec}
-use Rattle.word_rule.specs.Machine.Shown.{FreshLocks, FreshDone}
-use Rattle.word_rule.specs.Machine.SoundWorld.{IsTodo}
+use Rattle.std.specs.{List.AllByRecursion, declared.alloc.Global.Global}
+use Rattle.word_rule.specs.{declared.machine.cell_spec.CellSpec.CellSpec, Machine.Shown.{FreshLocks, FreshDone}, Machine.SoundWorld.IsTodo}
 use Rattle.word_rule.proofs.Openings.{opening_is, opening_shows, opening_roomy, opening_runs}
 use Rattle.word_rule.proofs.machine.Machine.new.Goals as goal
 

@@ -1,6 +1,5 @@
 use Rattle.std.proofs.Common.{◌≡◌, take}
-use Rattle.word_rule.specs.Machine.Shown.{Represents, opened_by}
-use Rattle.word_rule.specs.Machine.World.{World, run}
+use Rattle.word_rule.specs.{Machine.Shown.{Represents, opened_by}, Machine.World.{World, run}}
 use Rattle.word_rule.proofs.machine.Machine.run.Given as goal
 
 abbrev pub invariant-loop-cpu : goal.invariant-loop-cpu

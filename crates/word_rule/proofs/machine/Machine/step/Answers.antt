@@ -1,10 +1,8 @@
-use Rattle.std.proofs.Common.{sym, ◌∙◌, ap, subst, arith, ◌<◌, ◌≤◌, length}
+use Rattle.std.proofs.{Common.{sym, ◌∙◌, ap, subst, arith, ◌<◌, ◌≤◌, length}, lemmas.Option.slice_get_within}
 use Rattle.std.specs.List.{AllByRecursion}
 use Rattle.event_log.specs.declared.logged.TheConstants.{MOST_EVENTS}
-use Rattle.std.proofs.lemmas.Option.{slice_get_within}
 use Rattle.word_rule.specs.Machine.Shown.{Represents, opened_by}
-use Rattle.word_rule.proofs.MachineKeeps.{at_hand, at_again, not_found, room_at, roomy_next, opened_next, runs_next}
-use Rattle.word_rule.proofs.MachineSteps.{Counts, over, shown_cell, shown_lock, lock_ready, done_is, stepped}
+use Rattle.word_rule.proofs.{MachineKeeps.{at_hand, at_again, not_found, room_at, roomy_next, opened_next, runs_next}, MachineSteps.{Counts, over, shown_cell, shown_lock, lock_ready, done_is, stepped}}
 use Rattle.word_rule.proofs.machine.Machine.step.Goals as goal
 
 pub returns-in_default-clause-done : goal.returns-in_default-clause-done

@@ -1,6 +1,5 @@
 use Rattle.std.proofs.Common.{ap, ◌≡◌, ◌∙◌, subst, IfOk, List}
-use Rattle.event_log.specs.Log.{answers}
-use Rattle.event_log.specs.declared.event.Step.{Step}
+use Rattle.event_log.specs.{Log.answers, declared.event.Step.Step}
 use Rattle.word_rule.proofs.Outcomes.{outcome_is}
 use Rattle.word_rule.proofs.machine.hold.end_hold.Goals as goal
 

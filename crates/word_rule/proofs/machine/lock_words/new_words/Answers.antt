@@ -1,11 +1,7 @@
 use Rattle.std.proofs.Common.{◌∷◌, [], ◌∙◌, ap, arith, sym, subst}
+use Rattle.word_rule.specs.{LockDefinition.opening_state, Locks.{definition_of, opening_lock}, Rule.LockStates.IsLockOf}
+use Rattle.word_rule.proofs.{Mcs.Turns.starts_mcs, ShownLocks.tied_lock, Ticket.Turns.starts_ticket}
 use Rattle.sound_run.specs.declared.lock_kind.LockKind.TheVariants as kinds
-use Rattle.word_rule.specs.LockDefinition.{opening_state}
-use Rattle.word_rule.specs.Locks.{definition_of, opening_lock}
-use Rattle.word_rule.specs.Rule.LockStates.{IsLockOf}
-use Rattle.word_rule.proofs.Mcs.Turns.{starts_mcs}
-use Rattle.word_rule.proofs.ShownLocks.{tied_lock}
-use Rattle.word_rule.proofs.Ticket.Turns.{starts_ticket}
 use Rattle.word_rule.proofs.machine.lock_words.new_words.Goals as goal
 
 pub returns-in_ok-vec-in-Ticket : goal.returns-in_ok-vec-in-Ticket

@@ -1,5 +1,4 @@
-use Rattle.word_rule.proofs.Fairness.{goes_round}
-use Rattle.word_rule.proofs.ScriptsEnd.{scripts_lem, steps_lem}
+use Rattle.word_rule.proofs.{Fairness.goes_round, ScriptsEnd.{scripts_lem, steps_lem}}
 use Rattle.word_rule.proofs.machine.machine_laws.scripts_end.Goals as goal
 
 pub returns-clause-steps : goal.returns-clause-steps

@@ -1,9 +1,7 @@
 use Rattle.std.proofs.Common.{subst}
 use Rattle.sound_run.specs.Sound.{Sound}
 use Rattle.word_rule.specs.Machine.World.{run, run_of}
-use Rattle.word_rule.proofs.Openings.{opening_sound}
-use Rattle.word_rule.proofs.SoundRuns.{sound_run_of, opened_stay}
-use Rattle.word_rule.proofs.SoundSteps.{sound_run}
+use Rattle.word_rule.proofs.{Openings.opening_sound, SoundRuns.{sound_run_of, opened_stay}, SoundSteps.sound_run}
 use Rattle.word_rule.proofs.machine.machine_laws.sound_runs.Goals as goal
 
 pub returns : goal.returns

@@ -1,8 +1,6 @@
 use Rattle.std.proofs.Common.{◌≡◌, sym, subst, take, List, ◌++◌, ◌∷◌, [], Vec, arith}
-use Rattle.std.specs.List.{AllZip}
-use Rattle.std.specs.declared.alloc.Global.{Global}
-use Rattle.word_rule.specs.declared.machine.progress.Progress.{Progress}
-use Rattle.word_rule.specs.Machine.Shown.{FreshCpu}
+use Rattle.std.specs.{List.AllZip, declared.alloc.Global.Global}
+use Rattle.word_rule.specs.{declared.machine.progress.Progress.Progress, Machine.Shown.FreshCpu}
 use Rattle.word_rule.proofs.Openings.{zip_push, take_more}
 use Rattle.word_rule.proofs.machine.room.make_done.Goals as goal
 

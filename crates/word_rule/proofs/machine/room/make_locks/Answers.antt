@@ -1,8 +1,6 @@
 use Rattle.std.proofs.Common.{◌≡◌, sym, subst, take, take_all, List, ◌++◌, ◌∷◌, []}
 use Rattle.std.specs.List.{AllZip}
-use Rattle.word_rule.specs.declared.machine.cell_spec.CellSpec.{CellSpec}
-use Rattle.word_rule.specs.declared.machine.lock_words.LockWords.{LockWords}
-use Rattle.word_rule.specs.Machine.Shown.{FreshLock}
+use Rattle.word_rule.specs.{declared.machine.cell_spec.CellSpec.CellSpec, declared.machine.lock_words.LockWords.LockWords, Machine.Shown.FreshLock}
 use Rattle.word_rule.proofs.Openings.{zip_push, take_more}
 use Rattle.word_rule.proofs.machine.room.make_locks.Goals as goal
 

@@ -1,10 +1,7 @@
-use Rattle.std.proofs.Common.{◌≡◌, None, Some, length, sym, ap, ◌∙◌, arith}
-use Rattle.std.proofs.lemmas.List.{length-set}
-use Rattle.page_pool.specs.State.{PoolState}
-use Rattle.page_pool.specs.Table.{least_free}
+use Rattle.std.proofs.{Common.{◌≡◌, None, Some, length, sym, ap, ◌∙◌, arith}, lemmas.List.length-set}
+use Rattle.page_pool.specs.{State.PoolState, Table.least_free}
 use Rattle.page_pool.proofs.Least.{found_free}
-use Rattle.auditor.proofs.FreePages.{least_at, all_taken, taken_up_to, given_left}
-use Rattle.auditor.proofs.CountedPages.{counted_more}
+use Rattle.auditor.proofs.{FreePages.{least_at, all_taken, taken_up_to, given_left}, CountedPages.counted_more}
 use Rattle.auditor.proofs.references.pool.ReferencePool.give.Goals as goal
 
 pub overflow_sub-self : goal.overflow_sub-self

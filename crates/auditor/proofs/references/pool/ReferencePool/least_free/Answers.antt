@@ -1,8 +1,5 @@
-use Rattle.std.proofs.Common.{◌≡◌, ◌<◌, true, None, is_none, length, get_or, sym, ap, ◌∙◌, arith}
-use Rattle.std.proofs.lemmas.Bool.{not_from_true, not_from_false}
-use Rattle.std.proofs.lemmas.List.{get_or_read}
-use Rattle.page_pool.specs.State.{PoolState}
-use Rattle.page_pool.specs.Table.{least_free}
+use Rattle.std.proofs.{Common.{◌≡◌, ◌<◌, true, None, is_none, length, get_or, sym, ap, ◌∙◌, arith}, lemmas.Bool.{not_from_true, not_from_false}, lemmas.List.get_or_read}
+use Rattle.page_pool.specs.{State.PoolState, Table.least_free}
 use Rattle.auditor.proofs.FreePages.{found_least, found_none}
 use Rattle.auditor.proofs.references.pool.ReferencePool.least_free.Goals as goal
 

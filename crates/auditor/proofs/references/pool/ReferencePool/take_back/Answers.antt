@@ -1,5 +1,4 @@
-use Rattle.std.proofs.Common.{◌≡◌, ◌<◌, None, Some, length, get_or, sym, ◌∙◌, arith}
-use Rattle.std.proofs.lemmas.List.{get_or_read}
+use Rattle.std.proofs.{Common.{◌≡◌, ◌<◌, None, Some, length, get_or, sym, ◌∙◌, arith}, lemmas.List.get_or_read}
 use Rattle.auditor.proofs.FreePages.{some_taken}
 use Rattle.auditor.proofs.references.pool.ReferencePool.take_back.Goals as goal
 

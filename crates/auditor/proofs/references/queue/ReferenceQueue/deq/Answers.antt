@@ -1,9 +1,6 @@
-use Rattle.std.proofs.Common.{◌≡◌, ◌<◌, ◌∷◌, length, get_or, sym, ap, subst, ◌∙◌, arith}
-use Rattle.std.proofs.lemmas.List.{get_or_read}
+use Rattle.std.proofs.{Common.{◌≡◌, ◌<◌, ◌∷◌, length, get_or, sym, ap, subst, ◌∙◌, arith}, lemmas.List.get_or_read}
 use Rattle.event_log.specs.Distinct.{without}
-use Rattle.shared_queue.specs.State.{QueueState}
-use Rattle.shared_queue.specs.Answer.{front_answer}
-use Rattle.shared_queue.specs.declared.call.QueueReply.TheVariants.{Thread}
+use Rattle.shared_queue.specs.{State.QueueState, Answer.front_answer, declared.call.QueueReply.TheVariants.Thread}
 use Rattle.auditor.specs.Row.{row_of}
 use Rattle.auditor.proofs.Rows.{length_walk, first_is}
 use Rattle.auditor.proofs.references.queue.ReferenceQueue.deq.Goals as goal

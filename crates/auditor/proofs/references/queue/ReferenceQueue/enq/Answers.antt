@@ -1,14 +1,8 @@
-use Rattle.std.proofs.Common.{◌≡◌, ◌<◌, ℕ, ◌+◌, true, false, List, [], ◌∷◌, ◌++◌, length, get_or, set, sym, ap, ◌∙◌, arith}
-use Rattle.std.proofs.lemmas.List.{get_or_read, length-set, length_push}
+use Rattle.std.proofs.{Common.{◌≡◌, ◌<◌, ℕ, ◌+◌, true, false, List, [], ◌∷◌, ◌++◌, length, get_or, set, sym, ap, ◌∙◌, arith}, lemmas.List.{get_or_read, length-set, length_push}}
 use Rattle.event_log.specs.Distinct.{has}
-use Rattle.shared_queue.specs.State.{QueueState}
-use Rattle.shared_queue.specs.Answer.{enq_answer}
-use Rattle.shared_queue.specs.declared.call.QueueReply.{QueueReply}
-use Rattle.shared_queue.specs.declared.call.QueueReply.TheVariants.{Ok}
+use Rattle.shared_queue.specs.{State.QueueState, Answer.enq_answer, declared.call.QueueReply.QueueReply, declared.call.QueueReply.TheVariants.Ok}
 use Rattle.auditor.specs.Row.{row_of}
-use Rattle.auditor.proofs.MarkedLists.{marked_fewer}
-use Rattle.auditor.proofs.Rows.{length_walk, last_within, row_put, walked}
-use Rattle.auditor.proofs.Unrefused.{enq_ok}
+use Rattle.auditor.proofs.{MarkedLists.marked_fewer, Rows.{length_walk, last_within, row_put, walked}, Unrefused.enq_ok}
 use Rattle.auditor.proofs.references.queue.ReferenceQueue.enq.Goals as goal
 
 pub index_mut-requires : goal.index_mut-requires

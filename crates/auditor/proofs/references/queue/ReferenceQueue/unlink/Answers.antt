@@ -1,5 +1,4 @@
-use Rattle.std.proofs.Common.{◌≡◌, ℕ, ◌-◌, true, false, List, length, get_or, set, ap, ◌∙◌, arith}
-use Rattle.std.proofs.lemmas.List.{get_or_read, length-set}
+use Rattle.std.proofs.{Common.{◌≡◌, ℕ, ◌-◌, true, false, List, length, get_or, set, ap, ◌∙◌, arith}, lemmas.List.{get_or_read, length-set}}
 use Rattle.event_log.specs.Distinct.{has, without}
 use Rattle.shared_queue.specs.State.{QueueState}
 use Rattle.auditor.specs.Row.{row_of}

@@ -1,6 +1,5 @@
-use Rattle.std.proofs.Common.{◌≡◌, ◌<◌, ℕ, true, false, [], ◌∷◌, ◌++◌, length, length-append, get_or, map, sym, ◌∙◌, arith}
+use Rattle.std.proofs.{Common.{◌≡◌, ◌<◌, ℕ, true, false, [], ◌∷◌, ◌++◌, length, length-append, get_or, map, sym, ◌∙◌, arith}, lemmas.List.{get_or_read, length-set}}
 use Rattle.std.specs.List.{concat}
-use Rattle.std.proofs.lemmas.List.{get_or_read, length-set}
 use Rattle.event_log.proofs.Joined.{between}
 use Rattle.auditor.proofs.MarkedLists.{marked_put, marked_permuted, marked_fewer}
 use Rattle.auditor.proofs.references.sched.ReferenceSched.ready.Goals as goal

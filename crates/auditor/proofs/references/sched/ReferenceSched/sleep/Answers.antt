@@ -1,17 +1,10 @@
-use Rattle.std.proofs.Common.{◌≡◌, ◌≤◌, ◌<◌, ℕ, true, false, List, [], ◌∷◌, ◌++◌, length, get_or, set, map, sym, ap, ◌∙◌, subst, arith}
-use Rattle.std.specs.List.{concat}
-use Rattle.std.specs.VecDeque.{deque_capacity}
-use Rattle.std.proofs.lemmas.List.{get_or_read, length-set}
-use Rattle.std.proofs.lemmas.List.Elements.{All-set}
+use Rattle.std.proofs.{Common.{◌≡◌, ◌≤◌, ◌<◌, ℕ, true, false, List, [], ◌∷◌, ◌++◌, length, get_or, set, map, sym, ap, ◌∙◌, subst, arith}, lemmas.List.{get_or_read, length-set}, lemmas.List.Elements.All-set}
+use Rattle.std.specs.{List.concat, VecDeque.deque_capacity}
 use Rattle.event_log.proofs.Joined.{put_in, fits_one_more}
-use Rattle.wake_list.specs.State.{SchedState}
-use Rattle.wake_list.specs.Answer.{sleep_answer}
-use Rattle.wake_list.specs.declared.call.SchedReply.{SchedReply}
-use Rattle.wake_list.specs.declared.call.SchedReply.TheVariants.{Ok}
+use Rattle.wake_list.specs.{State.SchedState, Answer.sleep_answer, declared.call.SchedReply.SchedReply, declared.call.SchedReply.TheVariants.Ok}
 use Rattle.wake_list.proofs.Kept.{sleep_ok}
 use Rattle.auditor.specs.Marks.{AreMarked}
-use Rattle.auditor.proofs.HeldLists.{place_of, list_at, list_put}
-use Rattle.auditor.proofs.MarkedLists.{marked_put, marked_permuted, marked_fewer}
+use Rattle.auditor.proofs.{HeldLists.{place_of, list_at, list_put}, MarkedLists.{marked_put, marked_permuted, marked_fewer}}
 use Rattle.auditor.proofs.references.sched.ReferenceSched.sleep.Goals as goal
 
 pub push_back_reserved-requires : goal.push_back_reserved-requires

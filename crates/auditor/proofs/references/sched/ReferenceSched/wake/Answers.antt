@@ -1,17 +1,10 @@
-use Rattle.std.proofs.Common.{◌≡◌, ◌≤◌, ◌<◌, ℕ, List, [], ◌∷◌, ◌++◌, length, get_or, set, map, refl, sym, ap, ◌∙◌, subst, arith}
-use Rattle.std.specs.List.{concat}
-use Rattle.std.specs.VecDeque.{deque_capacity}
-use Rattle.std.proofs.lemmas.List.Elements.{All-set}
+use Rattle.std.proofs.{Common.{◌≡◌, ◌≤◌, ◌<◌, ℕ, List, [], ◌∷◌, ◌++◌, length, get_or, set, map, refl, sym, ap, ◌∙◌, subst, arith}, lemmas.List.Elements.All-set}
+use Rattle.std.specs.{List.concat, VecDeque.deque_capacity}
 use Rattle.event_log.proofs.Joined.{taken_out, fits_with}
-use Rattle.wake_list.specs.State.{SchedState}
-use Rattle.wake_list.specs.Answer.{wake_answer}
-use Rattle.wake_list.specs.declared.call.SchedReply.{SchedReply}
-use Rattle.wake_list.specs.declared.call.SchedReply.TheVariants.{Thread, Empty}
+use Rattle.wake_list.specs.{State.SchedState, Answer.wake_answer, declared.call.SchedReply.SchedReply, declared.call.SchedReply.TheVariants.{Thread, Empty}}
 use Rattle.wake_list.proofs.Kept.{wake_ok}
 use Rattle.auditor.specs.Marks.{AreMarked}
-use Rattle.auditor.proofs.HeldLists.{empty_is, place_of, list_at, list_put, list_stays}
-use Rattle.auditor.proofs.MarkedLists.{marked_permuted}
-use Rattle.auditor.proofs.Unrefused.{wake_none}
+use Rattle.auditor.proofs.{HeldLists.{empty_is, place_of, list_at, list_put, list_stays}, MarkedLists.marked_permuted, Unrefused.wake_none}
 use Rattle.auditor.proofs.references.sched.ReferenceSched.wake.Goals as goal
 
 pub push_back_reserved-requires : goal.push_back_reserved-requires

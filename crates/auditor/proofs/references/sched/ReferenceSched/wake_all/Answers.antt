@@ -1,17 +1,10 @@
-use Rattle.std.proofs.Common.{◌≤◌, ◌<◌, ℕ, List, [], ◌++◌, length, get_or, set, map, sym, ap, ◌∙◌, subst, arith}
-use Rattle.std.specs.List.{concat}
-use Rattle.std.specs.VecDeque.{deque_capacity}
-use Rattle.std.proofs.lemmas.List.{append-nil}
-use Rattle.std.proofs.lemmas.List.Elements.{All-set}
+use Rattle.std.proofs.{Common.{◌≤◌, ◌<◌, ℕ, List, [], ◌++◌, length, get_or, set, map, sym, ap, ◌∙◌, subst, arith}, lemmas.List.append-nil, lemmas.List.Elements.All-set}
+use Rattle.std.specs.{List.concat, VecDeque.deque_capacity}
 use Rattle.event_log.proofs.Joined.{taken_out, fits_with}
-use Rattle.wake_list.specs.State.{SchedState}
-use Rattle.wake_list.specs.Answer.{wake_all_answer}
-use Rattle.wake_list.specs.declared.call.SchedReply.{SchedReply}
-use Rattle.wake_list.specs.declared.call.SchedReply.TheVariants.{Count}
+use Rattle.wake_list.specs.{State.SchedState, Answer.wake_all_answer, declared.call.SchedReply.SchedReply, declared.call.SchedReply.TheVariants.Count}
 use Rattle.wake_list.proofs.Kept.{wake_all_ok}
 use Rattle.auditor.specs.Marks.{AreMarked}
-use Rattle.auditor.proofs.HeldLists.{place_of, list_at, list_put}
-use Rattle.auditor.proofs.MarkedLists.{marked_permuted}
+use Rattle.auditor.proofs.{HeldLists.{place_of, list_at, list_put}, MarkedLists.marked_permuted}
 use Rattle.auditor.proofs.references.sched.ReferenceSched.wake_all.Goals as goal
 
 pub move_all-count-requires : goal.move_all-count-requires

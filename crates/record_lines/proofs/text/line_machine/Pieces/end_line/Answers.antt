@@ -1,6 +1,5 @@
 use Rattle.std.proofs.Common.{◌≡◌, ◌+◌, ◌++◌, ◌∷◌, ◌∙◌, ℕ, Err, sym, ap, subst}
-use Rattle.record_lines.specs.declared.text.fault.LinesFault.TheVariants.{Line}
-use Rattle.record_lines.specs.LineMachine.{RefusesText}
+use Rattle.record_lines.specs.{declared.text.fault.LinesFault.TheVariants.Line, LineMachine.RefusesText}
 use Rattle.record_lines.proofs.LineMachine.{line_ended, end_refused}
 use Rattle.record_lines.proofs.text.line_machine.Pieces.end_line.Goals as goal
 

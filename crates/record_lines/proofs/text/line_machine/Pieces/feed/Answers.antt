@@ -1,7 +1,5 @@
 use Rattle.std.proofs.Common.{rules, ◌≡◌, ◌++◌, ◌∷◌, ◌∙◌, ℕ, List, [], Err, inl, inr, refl, sym, ap, subst}
-use Rattle.record_lines.specs.declared.text.fault.LinesFault.TheVariants.{Line}
-use Rattle.record_lines.specs.LineMachine.{HasTaken, RefusesText, RefusesRest}
-use Rattle.record_lines.specs.Words.{NoEnd}
+use Rattle.record_lines.specs.{declared.text.fault.LinesFault.TheVariants.Line, LineMachine.{HasTaken, RefusesText, RefusesRest}, Words.NoEnd}
 use Rattle.record_lines.proofs.LineMachine.{handed_on, line_behind, more_kept, more_refused}
 use Rattle.record_lines.proofs.text.line_machine.Pieces.feed.Goals as goal
 

@@ -1,6 +1,5 @@
 use Rattle.std.proofs.Common.{◌≡◌, ◌++◌, List, ℕ, length}
-use Rattle.record_lines.specs.LineMachine.{HasTaken, IsHeld, IsShort}
-use Rattle.record_lines.specs.Words.{NoEnd}
+use Rattle.record_lines.specs.{LineMachine.{HasTaken, IsHeld, IsShort}, Words.NoEnd}
 use Rattle.record_lines.proofs.text.line_machine.Pieces.feed.Given as goal
 
 abbrev pub invariant-loop-end : goal.invariant-loop-end

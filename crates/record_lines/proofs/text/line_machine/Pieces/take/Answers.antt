@@ -1,5 +1,4 @@
-use Rattle.std.proofs.Common.{◌≡◌, ◌++◌, ◌∙◌, ℕ, List, [], Err, ap, subst}
-use Rattle.std.proofs.lemmas.List.{append-nil}
+use Rattle.std.proofs.{Common.{◌≡◌, ◌++◌, ◌∙◌, ℕ, List, [], Err, ap, subst}, lemmas.List.append-nil}
 use Rattle.record_lines.specs.declared.text.fault.LineFault.TheVariants.{Refused}
 use Rattle.record_lines.proofs.LineMachine.{handed_on}
 use Rattle.record_lines.proofs.text.line_machine.Pieces.take.Goals as goal

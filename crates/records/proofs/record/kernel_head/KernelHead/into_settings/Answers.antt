@@ -1,6 +1,5 @@
 use Rattle.std.proofs.Common.{List, sym, ap, ◌∙◌, subst}
-use Rattle.records.specs.KernelForm.{HeadFits, settings_in}
-use Rattle.records.specs.Settings.{ObjectSettings, SettingsFit}
+use Rattle.records.specs.{KernelForm.{HeadFits, settings_in}, Settings.{ObjectSettings, SettingsFit}}
 use Rattle.records.proofs.Forms.{settings_in_written}
 use Rattle.records.proofs.record.kernel_head.KernelHead.into_settings.Goals as goal
 

@@ -1,11 +1,7 @@
 use Rattle.std.proofs.Common.{sym, ap, ◌∙◌, subst}
-use Rattle.record_lines.specs.FormStates.{whole_of}
-use Rattle.record_lines.specs.Received.{received_whole}
-use Rattle.records.specs.KernelForm.{Head, HeadFits, settings_in}
-use Rattle.records.specs.RecordRanges.{RecordFits}
-use Rattle.records.specs.RecordStates.{RecordState, record_of}
-use Rattle.records.proofs.Forms.{record_in_written}
-use Rattle.records.proofs.KernelRecords.{KernelWhole, record_in, fits_of}
+use Rattle.record_lines.specs.{FormStates.whole_of, Received.received_whole}
+use Rattle.records.specs.{KernelForm.{Head, HeadFits, settings_in}, RecordRanges.RecordFits, RecordStates.{RecordState, record_of}}
+use Rattle.records.proofs.{Forms.record_in_written, KernelRecords.{KernelWhole, record_in, fits_of}}
 use Rattle.records.proofs.record.state.RecordState.into_received.Goals as goal
 
 pub into_received-head-requires : goal.into_received-head-requires

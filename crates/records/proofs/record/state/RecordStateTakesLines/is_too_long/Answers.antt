@@ -1,8 +1,6 @@
-use Rattle.std.proofs.Common.{◌∷◌, ◌<◌, subst, arith}
-use Rattle.std.proofs.lemmas.Bool.{ltb-true}
+use Rattle.std.proofs.{Common.{◌∷◌, ◌<◌, subst, arith}, lemmas.Bool.ltb-true}
 use Rattle.record_lines.specs.FormStates.{FitsAt}
-use Rattle.records.specs.contracts.record.kernel_form.KernelFormRecordForm.TheImpl.{ghosts as kernel_form}
-use Rattle.records.specs.RecordStates.{RecordState}
+use Rattle.records.specs.{contracts.record.kernel_form.KernelFormRecordForm.TheImpl.{ghosts as kernel_form}, RecordStates.RecordState}
 use Rattle.records.proofs.RecordTexts.{long_refused}
 use Rattle.records.proofs.record.state.RecordStateTakesLines.is_too_long.Goals as goal
 

@@ -1,7 +1,6 @@
 use Rattle.std.proofs.Common.{◌≡◌, true, false, subst}
 use Rattle.record_lines.specs.FormStates.{FitsAt}
-use Rattle.records.specs.contracts.record.kernel_form.KernelFormRecordForm.TheImpl.{ghosts as kernel_form}
-use Rattle.records.specs.RecordStates.{RecordState}
+use Rattle.records.specs.{contracts.record.kernel_form.KernelFormRecordForm.TheImpl.{ghosts as kernel_form}, RecordStates.RecordState}
 use Rattle.records.proofs.RecordTexts.{never_idle}
 use Rattle.records.proofs.record.state.RecordStateTakesLines.passes.Goals as goal
 

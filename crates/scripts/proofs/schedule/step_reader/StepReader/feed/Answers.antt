@@ -1,8 +1,6 @@
-use Rattle.std.proofs.Common.{◌≡◌, ◌≤◌, ◌+◌, ◌++◌, ◌∙◌, List, ℕ, take, drop, refl, sym, subst, arith}
-use Rattle.std.proofs.lemmas.List.{append-nil, take_all}
+use Rattle.std.proofs.{Common.{◌≡◌, ◌≤◌, ◌+◌, ◌++◌, ◌∙◌, List, ℕ, take, drop, refl, sym, subst, arith}, lemmas.List.{append-nil, take_all}}
 use Rattle.sound_run.specs.declared.limits.TheConstants.{MOST_CPUS}
-use Rattle.scripts.specs.ScheduleReading.{HasReadSteps}
-use Rattle.scripts.specs.ScheduleText.{IsFirstBadWord}
+use Rattle.scripts.specs.{ScheduleReading.HasReadSteps, ScheduleText.IsFirstBadWord}
 use Rattle.scripts.proofs.StepReading.{fed_next, fed_bad}
 use Rattle.scripts.proofs.schedule.step_reader.StepReader.feed.Goals as goal
 

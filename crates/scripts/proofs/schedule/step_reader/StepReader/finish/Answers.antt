@@ -1,6 +1,5 @@
 use Rattle.std.proofs.Common.{◌≡◌, ◌∙◌, Err, ap, sym, subst}
-use Rattle.scripts.specs.declared.schedule.ScheduleFault.TheVariants.{Word}
-use Rattle.scripts.specs.ScheduleText.{IsSchedule}
+use Rattle.scripts.specs.{declared.schedule.ScheduleFault.TheVariants.Word, ScheduleText.IsSchedule}
 use Rattle.scripts.proofs.StepReading.{text_ended, bad_end}
 use Rattle.scripts.proofs.schedule.step_reader.StepReader.finish.Goals as goal
 

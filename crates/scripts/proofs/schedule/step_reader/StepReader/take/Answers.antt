@@ -1,6 +1,5 @@
 use Rattle.std.proofs.Common.{◌≡◌, ◌++◌, ◌∷◌, ◌∙◌, List, [], ℕ, true, false, sym, subst}
-use Rattle.scripts.specs.ScheduleReading.{HasReadSteps}
-use Rattle.scripts.specs.ScheduleText.{is_gap}
+use Rattle.scripts.specs.{ScheduleReading.HasReadSteps, ScheduleText.is_gap}
 use Rattle.scripts.proofs.StepReading.{byte_put, word_ended, bad_word, bad_byte}
 use Rattle.record_lines.proofs.Consuming.{on_both}
 use Rattle.scripts.proofs.schedule.step_reader.StepReader.take.Goals as goal

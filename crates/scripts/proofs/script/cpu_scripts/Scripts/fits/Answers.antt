@@ -1,6 +1,4 @@
-use Rattle.std.proofs.Common.{◌≡◌, ◌∙◌, sym, ap, length, nat_lt}
-use Rattle.std.proofs.lemmas.List.{length-map}
-use Rattle.std.proofs.lemmas.List.Folds.{list_all-map}
+use Rattle.std.proofs.{Common.{◌≡◌, ◌∙◌, sym, ap, length, nat_lt}, lemmas.List.length-map, lemmas.List.Folds.list_all-map}
 use Rattle.std.specs.List.{list_all}
 use Rattle.scripts.proofs.ScriptRanges.{scripts_fit, scripts_on}
 use Rattle.scripts.proofs.script.cpu_scripts.Scripts.fits.Goals as goal

@@ -1,8 +1,7 @@
 use Rattle.std.proofs.Common.{Err, ap, ◌∙◌, subst}
 use Rattle.record_lines.specs.Pieces.{HasFed}
 use Rattle.scripts.specs.ScriptFaults.{ScriptState, TakesScriptLine}
-use Rattle.scripts.proofs.ScriptLines.{scripts_fit}
-use Rattle.scripts.proofs.ScriptSources.{read_refused, end_refused}
+use Rattle.scripts.proofs.{ScriptLines.scripts_fit, ScriptSources.{read_refused, end_refused}}
 use Rattle.scripts.proofs.script.cpu_scripts.Scripts.read_from.Goals as goal
 
 pub returns-in_err-feed_all-clause-fault : goal.returns-in_err-feed_all-clause-fault

@@ -1,5 +1,4 @@
-use Rattle.std.proofs.Common.{◌<◌, subst, arith}
-use Rattle.std.proofs.lemmas.Bool.{ltb-true}
+use Rattle.std.proofs.{Common.{◌<◌, subst, arith}, lemmas.Bool.ltb-true}
 use Rattle.scripts.specs.ScriptFaults.{ScriptState}
 use Rattle.records.specs.Settings.{SettingsFit}
 use Rattle.scripts.proofs.ScriptTexts.{long_refused}

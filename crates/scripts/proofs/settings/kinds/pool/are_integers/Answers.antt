@@ -1,6 +1,4 @@
-use Rattle.std.proofs.Common.{rules, tests, ◌∙◌}
-use Rattle.std.proofs.lemmas.Iterator.{YieldsList-from_slice}
-use Rattle.std.proofs.lemmas.Iterator.Search.{all_from_yields_List}
+use Rattle.std.proofs.{Common.{rules, tests, ◌∙◌}, lemmas.Iterator.YieldsList-from_slice, lemmas.Iterator.Search.all_from_yields_List}
 use Rattle.scripts.proofs.SettingsTables.{is_integer, integers_all}
 use Rattle.scripts.proofs.settings.kinds.pool.are_integers.Goals as goal
 

@@ -1,5 +1,4 @@
-use Rattle.std.proofs.Common.{◌≡◌, ◌≤◌, ◌+◌, ◌∙◌, Ok, sym, ap, length, length-set, take, drop, arith}
-use Rattle.std.proofs.lemmas.List.{drop_all, take_all, take_more_set}
+use Rattle.std.proofs.{Common.{◌≡◌, ◌≤◌, ◌+◌, ◌∙◌, Ok, sym, ap, length, length-set, take, drop, arith}, lemmas.List.{drop_all, take_all, take_more_set}}
 use Rattle.toml.specs.View.{view, items_view}
 use Rattle.scripts.proofs.SettingsTables.{item_there, error_is, quotas_behind, quotas_more, quotas_none, quotas_end}
 use Rattle.scripts.proofs.settings.kinds.pool.each_quota.Goals as goal

@@ -1,9 +1,7 @@
-use Rattle.std.proofs.Common.{subst, refl, IsTrue}
-use Rattle.std.proofs.lemmas.Bool.{false≢true}
+use Rattle.std.proofs.{Common.{subst, refl, IsTrue}, lemmas.Bool.false≢true}
 use Rattle.scripts.specs.SettingsText.{settings_of, settings_in}
 use Rattle.scripts.proofs.SettingsTables.{found_ok, first_fault}
-use Rattle.toml.specs.Parse.{parse_document}
-use Rattle.toml.specs.View.{table_view}
+use Rattle.toml.specs.{Parse.parse_document, View.table_view}
 use Rattle.scripts.proofs.settings.reading.SettingsReadSettings.read.Goals as goal
 
 pub returns-in-Ok-clause-utf8 : goal.returns-in-Ok-clause-utf8

@@ -1,7 +1,6 @@
-use Rattle.std.proofs.Common.{◌∙◌}
-use Rattle.std.proofs.lemmas.List.{take_at}
-use Rattle.sound_run.specs.declared.lock_kind.LockKind.TheVariants as kinds
+use Rattle.std.proofs.{Common.◌∙◌, lemmas.List.take_at}
 use Rattle.word_rule.proofs.ShownLocks.{some_kept, turn_kept}
+use Rattle.sound_run.specs.declared.lock_kind.LockKind.TheVariants as kinds
 use Rattle.word_rule.proofs.machine.lock_words.LockWords.turn.Goals as goal
 
 pub turn_ticket-requires-clause-shows : goal.turn_ticket-requires-clause-shows
