@@ -35,10 +35,10 @@ def chain():
 # A document; the words around a number, with a group for the number, where a blank is any white space; and what counts it.
 PLACES = [
     ("docs/GATE.md", r"There are (\d+) crates", lambda: len(stands_on())),
-    ("docs/GATE.md", r"crates with ([\d,]+) lines", lambda: thousands(sum(all_lines().values()))),
-    ("docs/GATE.md", r"longest of all has ([\d,]+) lines", lambda: thousands(chain())),
+    ("docs/GATE.md", r"crates with ([\d,]+) lines\.", lambda: thousands(sum(all_lines().values()))),
+    ("docs/GATE.md", r"longest of all has ([\d,]+) lines\.", lambda: thousands(chain())),
     ("docs/GATE.md", r"(\d+) edits in `crates/NAME/must-fail/`", lambda: edits(together=False)),
-    ("docs/GATE.md", r"(\d+) in `crates/NAME/edits.txt`", lambda: edits(together=True)),
+    ("docs/GATE.md", r"(\d+) more in `crates/NAME/edits.txt`", lambda: edits(together=True)),
     ("CONTRIBUTING.md", r"of `word_rule` (\d+) in 100", lambda: again("word_rule")),
     ("CONTRIBUTING.md", r"of `records` (\d+),", lambda: again("records")),
     ("CONTRIBUTING.md", r"of `console_ring` (\d+)\.", lambda: again("console_ring")),
