@@ -54,6 +54,6 @@ def with_counts(document, text):
         if name == document:
             found = [*re.finditer(pattern.replace(" ", r"\s+"), text)]
             if len(found) != 1:
-                raise Stop(f"{name} has {len(found)} places in place of one: {pattern} (PLACES of tools/lib/counted_places.py)", 2)
+                raise Stop(f"{name} has {len(found)} places of {pattern!r}, and not one: tools/lib/counted_places.py", 2)
             text = f"{text[:found[0].start(1)]}{count()}{text[found[0].end(1):]}"
     return text

@@ -1,4 +1,4 @@
-"""Which crates a change proves again, and of the chains of crates that each wait for the one before the one with the most lines."""
+"""Which crates a change proves again, and the chain of crates that takes longest, as each waits for the one before."""
 
 
 def above(names, below):
