@@ -1,4 +1,4 @@
-//! Rounds of calls on a queue that several CPUs share, timed inside: `bench KIND CPUS CALLS ROUNDS`.
+//! Rounds of calls on a queue that several CPUs share, timed inside: `bench KIND[,KIND..] CPUS CALLS ROUNDS [batch|hold] [unkept]`.
 #![tactic(auto)]
 
 mod calls;

@@ -84,7 +84,7 @@ fn come_behind(
     call_code(whole, answered, looks)
 }
 
-// It keeps the object, as who is behind it has to link itself first.
+// It keeps the object, as the caller behind it has to link itself first.
 #[cold]
 #[inline(never)]
 fn keep(line: &mut Line, leaving: Leaving<KernelObject>, reported: u32) -> u32

@@ -1,4 +1,4 @@
-//! Runs of many callers: what they leave who do their scripts on new cells and join.
+//! Runs of many callers: what callers leave that do their scripts on new cells and join.
 
 ghost use Rattle.std.specs.Prelude.{◌≡◌, ℕ, Some, map, slice_get};
 ghost use Rattle.event_log.specs.Entries.{asked_of};

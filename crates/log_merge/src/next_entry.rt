@@ -1,4 +1,4 @@
-//! Who can come next.
+//! The entry that can come next.
 
 ghost use Rattle.std.specs.Prelude.{◌≡◌, ◌<◌, ◌≤◌, ℕ, length, slice_index, MatchOption};
 ghost use Rattle.log_merge.specs.{FoundCycles.IsLeastLeft, Nexts.{IsNext, IsReady}};

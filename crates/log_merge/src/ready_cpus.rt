@@ -1,4 +1,4 @@
-//! Looking at who can come.
+//! Which CPUs' next entries can come.
 
 ghost use Rattle.std.specs.Prelude.{◌≡◌, ◌≢◌, ◌<◌, ◌≤◌, ◌↔◌, ℕ, length, slice_index, IfOk};
 ghost use Rattle.log_merge.specs.{Flags.{capacity, HasFlag}, Nexts.IsReady, Prefixes.IsMatched, WhoCanCome.{IsRight, SaysWhoCanCome, MayWake}};

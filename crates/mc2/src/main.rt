@@ -1,4 +1,4 @@
-//! The program: scripts in, the record of a run out; a record in, a report out.
+//! The program `mc2`, whose work `mc2_command` does.
 #![tactic(auto)]
 
 use mc2_command::{CommandFault, command, refuse};

@@ -1,4 +1,5 @@
-//! What the program `mc2` does: scripts in, the record of a run out; a record in, a report out.
+//! All that the program `mc2` does: it runs scripts into records, judges and orders records, sums them up, and writes an old one in
+//! the new form.
 #![tactic(auto)]
 
 mod answers;

@@ -4,7 +4,7 @@
 //!
 //! For n CPUs word 0 is the tail, word 1 + i the `next` of the CPU i, and word 1 + n + i its `locked`. A caller clears
 //! its `next` and swaps itself into the tail. Where somebody was there it sets its `locked`, names itself in the `next`
-//! of the one before it, and looks at its `locked` until it is clear. Who ends a hold empties the tail, if nobody is
+//! of the one before it, and looks at its `locked` until it is clear. A holder that ends empties the tail, if nobody is
 //! behind it, or clears the `locked` of the one behind. The object lies in the table's one slot and moves to the caller
 //! that finds the tail empty or its `locked` clear.
 #![tactic(auto)]

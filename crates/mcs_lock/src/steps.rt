@@ -161,8 +161,8 @@ impl<O: SeqObject> McsCell<O> {
         }
     }
 
-    /// Gives the object back, and clears the `locked` of the one behind it: one store. It wakes nobody: who naps in `acquire`
-    /// looks again by itself.
+    /// Gives the object back, and clears the `locked` of the one behind it: one store. It wakes nobody: each nap
+    /// ends by itself.
     pub fn pass_on(&self, passing: Passing<O>) -> Pass<O>
         requires { IsPassingOf self.now passing }
         ensures pass { IsPassOf self.now result }

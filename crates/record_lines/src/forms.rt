@@ -1,4 +1,4 @@
-//! Records of any form: what a form is, who is handed over what is read, and the reader.
+//! Records of any form: what a form is, the sink that receives what is read, and the reader.
 
 pub mod entries;
 pub mod form;

@@ -3,7 +3,7 @@
 ghost use Rattle.std.specs.Prelude.{◌≡◌, ◌<◌};
 
 /// The number of a CPU, as a caller has it. It is wider than it need be: behind a lone byte there are seven that no number of LLVM
-/// has, and a caller is then moved through memory. `docs/SPEED.md` has what was counted.
+/// has, and a caller is then moved through memory.
 #[derive(Drop)]
 pub struct Cpu {
     pub number: u32,

@@ -29,7 +29,7 @@ pub trait LockCell<O: SeqObject> {
     /// The numbers of the hold, and the stored history.
     ghost hold_view: { Self.Hold → HoldView O O.Params O.Call O.Reply };
 
-    /// The run of the cell's lock that the pass has seen. The clauses of runs stand apart from those of logs: who wants the log
+    /// The run of the cell's lock that the pass has seen. The clauses of runs stand apart from those of logs: a reader of the log
     /// alone may pass over each `run`.
     ghost pass_run: { Self.Pass → List (TraceStep (Event O O.Params O.Call O.Reply)) };
 

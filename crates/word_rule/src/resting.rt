@@ -20,18 +20,18 @@ const STAY: u64 = 1000;
 
 const STAY_LONGER: u64 = 250;
 
-// One that stays outside, in the word that counts those who nap in line too.
+// One that stays outside, in the word that counts the callers that nap in line too.
 const OUTSIDE: u64 = 1 << 32;
 
-/// Counts who rests beside the lock's words. It takes no memory, and no clause speaks of it.
+/// Counts the callers that rest, beside the lock's words. It takes no memory, and no clause speaks of it.
 ///
 /// Nobody is woken, so a release does nothing here: each sleep ends by itself. A line in order of arrival gets on only as fast as
 /// each in it gets a processor. So there shouldn't be more in line than there are processors, and a nap in line shows that there
-/// are. Who comes meanwhile stays outside for one sleep before it arrives in line, and then arrives in any case.
+/// are. A caller that comes meanwhile stays outside for one sleep before it arrives in line, and then arrives in any case.
 #[derive(Drop)]
 pub struct Resting {
     count: AtomicU64,
-    // It is 0 at all times: who rests parks on it.
+    // It is 0 at all times: a caller that rests parks on it.
     still: AtomicU64,
 }
 

@@ -1,4 +1,4 @@
-//! Who is handed over a record.
+//! The receiver of a record.
 
 ghost use Rattle.std.specs.Prelude.{true, false, Ok, List, ◌≡◌, ◌<◌, ◌≤◌, length, OnOk, OnErr};
 ghost use Rattle.record_lines.specs.Received.{only_head, with_count, with_event, with_log, with_entry, with_transcript, InLogs, InTranscripts, IsAtHead};
@@ -6,7 +6,7 @@ ghost use Rattle.record_lines.specs.Received.{only_head, with_count, with_event,
 use crate::RecordForm;
 use event_log::OutOfMemory;
 
-/// Who is handed over the parts of a record as they are read, in their order, and keeps of them what it needs. Contracts
+/// It receives the parts of a record as they are read, in their order, and keeps of them what it needs. Contracts
 /// speak of all that was handed over, of which nothing has to lie in memory.
 pub trait RecordSink<F: RecordForm>: Drop {
     ghost use Rattle.record_lines.specs.Received.{Received};

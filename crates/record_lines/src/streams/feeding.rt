@@ -14,7 +14,7 @@ pub enum SourceFault<F> {
     Reported(F),
 }
 
-/// Who takes a text that comes in pieces.
+/// The taker of a text that comes in pieces.
 pub trait TakesPieces: Drop {
     /// Why a piece is not taken.
     type Fault: Drop;
@@ -36,7 +36,7 @@ pub trait TakesPieces: Drop {
         ensures { (first : Self) (text : List ℕ) → refuses first text result };
 }
 
-/// Hands the rest of the source to who takes it, in pieces that the buffer has room for. What is refused ends it.
+/// Hands the rest of the source to its taker, in pieces that the buffer has room for. What is refused ends it.
 pub fn feed_all<S: Source, P: TakesPieces>(
     source: &mut S,
     reader: &mut P,
