@@ -1,4 +1,4 @@
--- What is noted, after one thing more was received.
+-- What is state, after one thing more was received.
 use Rattle.std.proofs.{Common.{◌≡◌, ⊎_elim, ℕ, ◌+◌, ◌<◌, ◌≤◌, true, false, true≢false, List, [], ◌∷◌, ◌++◌, length, Option, Some, None, slice_get, refl, sym, ap, ◌∙◌, subst, arith, length-append}, Math.ListN.set}
 use Rattle.std.specs.Prelude.{unwrap_or, slice_index, is_some}
 use Rattle.event_log.specs.{declared.event.Event.Event, declared.entry.Entry.Entry, declared.entry.Run.Run}
@@ -12,13 +12,13 @@ module _ {T O P C R J W : Type 0} (model : StepModel T O P C R) (shows : J → T
   -- a fault that was found stays the first
   pub fault_stays : (d e : ReceivedRun T O P C R) (f : Option Fault) (r s : Option (Replay O J W P C R T)) (logs news : List (KeptLog O W P C R)) (room space : ℕ) → is_some f ≡ true → IsJudgeState model shows d f r logs room
       → ((o : List (Terms P T)) (g : Run O P C R) → IsWith e o g → IsWith d o g) → IsJudgeState model shows e f s news space
-  fault_stays d e (Some f) r s logs news room space is noted back = λ o g h. noted o g (back o g h)
-  fault_stays d e None r s logs news room space is noted back = absurd (true≢false (sym is))
+  fault_stays d e (Some f) r s logs news room space is state back = λ o g h. state o g (back o g h)
+  fault_stays d e None r s logs news room space is state back = absurd (true≢false (sym is))
 
   -- where none was found, all was right
   pub none_found : (d : ReceivedRun T O P C R) (f : Option Fault) (r : Option (Replay O J W P C R T)) (logs : List (KeptLog O W P C R)) (room : ℕ) → is_some f ≡ false → IsJudgeState model shows d f r logs room → IsRightWith model shows d r logs room
-  none_found d (Some f) r logs room is noted = absurd (true≢false is)
-  none_found d None r logs room is noted = noted
+  none_found d (Some f) r logs room is state = absurd (true≢false is)
+  none_found d None r logs room is state = state
 
   pub still_none : (d : ReceivedRun T O P C R) (f : Option Fault) (r : Option (Replay O J W P C R T)) (logs : List (KeptLog O W P C R)) (room : ℕ) → is_some f ≡ false → IsRightWith model shows d r logs room → IsJudgeState model shows d f r logs room
   still_none d (Some f) r logs room is right = absurd (true≢false is)
@@ -126,8 +126,8 @@ module _ {T O P C R J W : Type 0} (model : StepModel T O P C R) (shows : J → T
 
   -- a transcript begins, whatever was found
   pub noted_transcript : (d : ReceivedRun T O P C R) (f : Option Fault) (r : Option (Replay O J W P C R T)) (logs : List (KeptLog O W P C R)) (room n : ℕ) → HasLogs d → IsJudgeState model shows d f r logs room → IsJudgeState model shows (transcript_begun d n) f r logs room
-  noted_transcript d (Some f) r logs room n whole noted = λ o g h. noted o g (from_transcript d o g n whole h)
-  noted_transcript d None r logs room n whole noted = transcript_noted d r logs room noted n whole
+  noted_transcript d (Some f) r logs room n whole state = λ o g h. state o g (from_transcript d o g n whole h)
+  noted_transcript d None r logs room n whole state = transcript_noted d r logs room state n whole
 
   -- where a log is being read, its replay is held
   pub none_held : (d : ReceivedRun T O P C R) (r : Option (Replay O J W P C R T)) (logs : List (KeptLog O W P C R)) (room : ℕ) → IsRightWith model shows d r logs room → r ≡ None → IsInLog d → ⊥

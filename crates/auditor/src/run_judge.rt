@@ -17,7 +17,7 @@ use std::marker::Model;
 pub struct RunJudge<O: SeqObject, J: StepJudge<O>, R: StepRows<O>> {
     alloc: Global,
     received: ReceivedRun<O, J>,
-    notes: JudgeState<O, J, R>,
+    state: JudgeState<O, J, R>,
 }
 
 impl<O: SeqObject, J: StepJudge<O>, R: StepRows<O>> Model for RunJudge<O, J, R> {
@@ -28,7 +28,7 @@ impl<O: SeqObject, J: StepJudge<O>, R: StepRows<O>> Model for RunJudge<O, J, R> 
 
     ghost view = { λ j. j.received };
 
-    ghost invariant = { λ j. IsJudgeState (model_by O.SeqObject J.right J.behind) J.shows j.received j.notes.fault j.notes.replay j.notes.logs.items (vec_capacity j.notes.logs) };
+    ghost invariant = { λ j. IsJudgeState (model_by O.SeqObject J.right J.behind) J.shows j.received j.state.fault j.state.replay j.state.logs.items (vec_capacity j.state.logs) };
 }
 
 impl<O: SeqObject, J: StepJudge<O>, R: StepRows<O>> RunJudge<O, J, R> {
@@ -39,7 +39,7 @@ impl<O: SeqObject, J: StepJudge<O>, R: StepRows<O>> RunJudge<O, J, R> {
         RunJudge {
             alloc,
             received: ReceivedRun::new(0, 0),
-            notes: JudgeState::empty(alloc),
+            state: JudgeState::empty(alloc),
         }
     }
 
@@ -50,7 +50,7 @@ impl<O: SeqObject, J: StepJudge<O>, R: StepRows<O>> RunJudge<O, J, R> {
         Ok(RunJudge {
             alloc,
             received: ReceivedRun::new(cpus, objects),
-            notes: JudgeState::new(alloc, objects)?,
+            state: JudgeState::new(alloc, objects)?,
         })
     }
 
@@ -66,7 +66,7 @@ impl<O: SeqObject, J: StepJudge<O>, R: StepRows<O>> RunJudge<O, J, R> {
         ensures err { OnErr result (self.new ≡ self.old) }
     {
         let first = of_one(&judge);
-        self.notes
+        self.state
             .begin_log(self.alloc, &self.received, opened, judge, count)?;
         self.received.receive_log(opened, &first, count);
         Ok(())
@@ -82,7 +82,7 @@ impl<O: SeqObject, J: StepJudge<O>, R: StepRows<O>> RunJudge<O, J, R> {
         ensures ok { OnOk result (self.new ≡ event_received self.old event.now) }
         ensures err { OnErr result (self.new ≡ self.old) }
     {
-        self.notes.event(&self.received, event, text)?;
+        self.state.event(&self.received, event, text)?;
         self.received.receive_event(event);
         Ok(())
     }
@@ -97,7 +97,7 @@ impl<O: SeqObject, J: StepJudge<O>, R: StepRows<O>> RunJudge<O, J, R> {
         ensures ok { OnOk result (self.new ≡ log_ended self.old) }
         ensures err { OnErr result (self.new ≡ self.old) }
     {
-        self.notes.end_log(self.alloc, &self.received)?;
+        self.state.end_log(self.alloc, &self.received)?;
         self.received.receive_log_end();
         Ok(())
     }
@@ -120,7 +120,7 @@ impl<O: SeqObject, J: StepJudge<O>, R: StepRows<O>> RunJudge<O, J, R> {
         ensures known { IsTrue result → (asked : List O.Call) × (steps : List (Step O O.Params O.Call O.Reply)) × R.tail_spells tail.now asked steps × (self.new ≡ entry_received self.old (done_entry object looks asked steps)) × IsStepsOf self.old.logs object steps }
         ensures unknown { result ≡ false → self.new ≡ self.old }
     {
-        match self.notes.recognises(&self.received, object, tail) {
+        match self.state.recognises(&self.received, object, tail) {
             Some(steps) => {
                 self.received
                     .receive_recognised(object, looks, tail, &steps);
@@ -137,7 +137,7 @@ impl<O: SeqObject, J: StepJudge<O>, R: StepRows<O>> RunJudge<O, J, R> {
         requires object { entry.now.object < self.old.objects }
         ensures { self.new ≡ entry_received self.old entry.now }
     {
-        self.notes.entry(&self.received, entry);
+        self.state.entry(&self.received, entry);
         self.received.receive_entry(entry);
     }
 
@@ -146,7 +146,7 @@ impl<O: SeqObject, J: StepJudge<O>, R: StepRows<O>> RunJudge<O, J, R> {
         requires { IsInTranscripts self.old }
         ensures { self.new ≡ transcript_ended self.old }
     {
-        self.notes.end_transcript(&self.received);
+        self.state.end_transcript(&self.received);
         self.received.receive_transcript_end();
     }
 
@@ -159,7 +159,7 @@ impl<O: SeqObject, J: StepJudge<O>, R: StepRows<O>> RunJudge<O, J, R> {
         ensures sound { (result ≡ Verdict.Sound) ↔ SoundBy (model_by O.SeqObject J.right J.behind) self.now.opened (run_of self.now) }
         ensures fault { (f : Fault) → (result ≡ Verdict.Unsound f) ↔ IsFirstFaultBy (model_by O.SeqObject J.right J.behind) self.now.opened (run_of self.now) f }
     {
-        self.notes.verdict(&self.received)
+        self.state.verdict(&self.received)
     }
 
     /// The run that was received, if it is sound, or else its first fault. It takes no memory.
@@ -175,8 +175,8 @@ impl<O: SeqObject, J: StepJudge<O>, R: StepRows<O>> RunJudge<O, J, R> {
         let RunJudge {
             alloc: _,
             received,
-            notes,
+            state,
         } = self;
-        notes.into_run(received)
+        state.into_run(received)
     }
 }

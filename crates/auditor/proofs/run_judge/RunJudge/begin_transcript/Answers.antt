@@ -7,4 +7,4 @@ use Rattle.auditor.proofs.run_judge.RunJudge.begin_transcript.Goals as goal
 pub invariant_of-self : goal.invariant_of-self
 invariant_of-self g c =
     let i = c.self.inside in
-    noted_at (model_by g.O.SeqObject g.J.StepJudge.right g.J.StepJudge.behind) g.J.StepJudge.shows (sym c.receive_transcript.ensures) refl refl refl refl (noted_transcript (model_by g.O.SeqObject g.J.StepJudge.right g.J.StepJudge.behind) g.J.StepJudge.shows i.received i.notes.fault i.notes.replay i.notes.logs.items (vec_capacity i.notes.logs) c.args.count (subst (λ (d : ReceivedRun _ _ _ _ _). HasLogs d) (sym c.self.view_is) c.requires) c.self.invariant)
+    noted_at (model_by g.O.SeqObject g.J.StepJudge.right g.J.StepJudge.behind) g.J.StepJudge.shows (sym c.receive_transcript.ensures) refl refl refl refl (noted_transcript (model_by g.O.SeqObject g.J.StepJudge.right g.J.StepJudge.behind) g.J.StepJudge.shows i.received i.state.fault i.state.replay i.state.logs.items (vec_capacity i.state.logs) c.args.count (subst (λ (d : ReceivedRun _ _ _ _ _). HasLogs d) (sym c.self.view_is) c.requires) c.self.invariant)
