@@ -1,4 +1,4 @@
--- What is state, after one thing more was received.
+-- The judge's state, after one thing more was received.
 use Rattle.std.proofs.{Common.{◌≡◌, ⊎_elim, ℕ, ◌+◌, ◌<◌, ◌≤◌, true, false, true≢false, List, [], ◌∷◌, ◌++◌, length, Option, Some, None, slice_get, refl, sym, ap, ◌∙◌, subst, arith, length-append}, Math.ListN.set}
 use Rattle.std.specs.Prelude.{unwrap_or, slice_index, is_some}
 use Rattle.event_log.specs.{declared.event.Event.Event, declared.entry.Entry.Entry, declared.entry.Run.Run}
