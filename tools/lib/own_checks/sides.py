@@ -9,8 +9,8 @@ FIELD = re.compile(r"^    pub (\w+): (?:\[(\w+); (\w+)\]|(\w+)),$", re.MULTILINE
 CONSTANT = re.compile(r"^pub const (\w+): \w+ = (\d+);$", re.MULTILINE)
 TYPES = {"u8": "uint8_t", "u16": "uint16_t", "u32": "uint32_t", "u64": "uint64_t"}
 # What C calls the structs and the numbers.
-NAMES = {"SaidTold": "mc2_own_said", "StepTold": "mc2_own_step", "LineTold": "mc2_own_line"}
-NAMES |= {"Told": "mc2_told", "Turn": "mc2_turn"}
+NAMES = {"SaidReport": "mc2_own_said", "StepReport": "mc2_own_step", "LineReport": "mc2_own_line"}
+NAMES |= {"Report": "mc2_told", "Turn": "mc2_turn"}
 NUMBERS = {"NO_LINE": "MC2_OWN_NONE", "OBJECT_LINE": "MC2_OWN_OBJECT", "LOG_LINE": "MC2_OWN_LOG"}
 NUMBERS |= {"EVENT_LINE": "MC2_OWN_EVENT", "OTHER_LINE": "MC2_OWN_OTHER", "MISTOLD": "MC2_MISTOLD"}
 NUMBERS |= {"MOST_CUSTOM_CPUS": "MC2_OWN_CPUS", "MOST_CUSTOM_OBJECTS": "MC2_OWN_OBJECTS", "MOST_SIZES": "MC2_OWN_SIZES"}
@@ -19,9 +19,9 @@ NUMBERS |= {"MOST_CALLS": "MC2_OWN_CALLS", "NO_MODEL": "MC2_NO_MODEL", "COUNTED"
 EXPORTS = {"mc2_own_line", "mc2_own_audit", "mc2_own_merge", "mc2_own_kernel"}
 # Each of these makes the sources wrong, so the header must no longer fit.
 SWAPS = {
-    "fields of LineTold": ("    pub next: u64,\n    pub limit: u64,", "    pub limit: u64,\n    pub next: u64,"),
+    "fields of LineReport": ("    pub next: u64,\n    pub limit: u64,", "    pub limit: u64,\n    pub next: u64,"),
     "lengths": ("    pub numbers: [u64; MOST_NUMBERS],", "    pub numbers: [u64; MOST_SIZES],"),
-    "fields of StepTold": ("    pub call: SaidTold,\n    pub reply", "    pub reply: SaidTold,\n    pub call"),
+    "fields of StepReport": ("    pub call: SaidReport,\n    pub reply", "    pub reply: SaidReport,\n    pub call"),
     "a field's type": ("    pub cpu: u32,", "    pub cpu: u64,"),
     "a number": ("pub const EVENT_LINE: u32 = 3;", "pub const EVENT_LINE: u32 = 4;"),
     "arguments": ("text: &[u8], at: usize", "at: usize, text: &[u8]"),
