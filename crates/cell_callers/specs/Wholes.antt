@@ -17,7 +17,7 @@ module _ {O P C R : Type 0} (g : Ghosts O P C R) {call_eq : Eq C} {call_default 
     pub back : IsDeparture g c (at.Holding left) is_back q
 
   -- the object came by these steps, and then that was done under the hold
-  pub record HasCalled (deed : Hold O P C R g call_eq call_default reply_eq reply_default → Hold O P C R g call_eq call_default reply_eq reply_default → Type 0) (c : AnyCell O P C R) (p : CallerState O P C R g call_eq call_default reply_eq reply_default) (looked is_back : Bool) (q : CallerState O P C R g call_eq call_default reply_eq reply_default) : Type 0 where
+  pub record HasCalledWhole (deed : Hold O P C R g call_eq call_default reply_eq reply_default → Hold O P C R g call_eq call_default reply_eq reply_default → Type 0) (c : AnyCell O P C R) (p : CallerState O P C R g call_eq call_default reply_eq reply_default) (looked is_back : Bool) (q : CallerState O P C R g call_eq call_default reply_eq reply_default) : Type 0 where
     pub steps : ℕ
     pub got : Hold O P C R g call_eq call_default reply_eq reply_default
     pub there : GoesThere g c p steps (got_by looked) (at.Holding got)
@@ -26,8 +26,8 @@ module _ {O P C R : Type 0} (g : Ghosts O P C R) {call_eq : Eq C} {call_default 
   -- how far a whole call came, whose answer says what was done. One that waits has looked once in vain, and done nothing else; one
   -- that is refused has done nothing
   abbrev pub IsWhole : {D : Type 0} → (D → Hold O P C R g call_eq call_default reply_eq reply_default → Hold O P C R g call_eq call_default reply_eq reply_default → Type 0) → AnyCell O P C R → CallerState O P C R g call_eq call_default reply_eq reply_default → Whole D → CallerState O P C R g call_eq call_default reply_eq reply_default → Type 0
-  IsWhole deed c p (whole.Done said looked) q = HasCalled (deed said) c p looked true q
-  IsWhole deed c p (whole.Kept said looked) q = HasCalled (deed said) c p looked false q
+  IsWhole deed c p (whole.Done said looked) q = HasCalledWhole (deed said) c p looked true q
+  IsWhole deed c p (whole.Kept said looked) q = HasCalledWhole (deed said) c p looked false q
   IsWhole deed c p whole.Waits q = (n : ℕ) × GoesThere g c p n reported.Looked q
   IsWhole deed c p whole.Refused q = (may_call p ≡ false) × (q ≡ p)
 

@@ -3,7 +3,7 @@ use Rattle.std.proofs.{Common.{◌≡◌, ℕ, ◌+◌, ◌<◌, ◌≤◌, List
 use Rattle.event_log.specs.{declared.object.SeqObject.Ghosts, declared.event.Event.Event, Log.{Begins, of, calls_of, one_step}, History.History}
 use Rattle.event_log.proofs.Beginnings.{begins_self, begins_then, begins_rest}
 use Rattle.word_rule.specs.{Cell.{Caller, PassView, Grows, Lawful, IsPassView, IsCaller, stored}, Answered.{IsAnswered, IsRefused}}
-use Rattle.guarded_cell.specs.Calls.{asked_by, HasCalled, IsEnded}
+use Rattle.guarded_cell.specs.Calls.{asked_by, HasEachCall, IsEnded}
 
 -- a list that is full, and one that begins with it and isn't longer than the limit
 full_longer : {E : Type 0} (a b : List E) (limit : ℕ) → Begins a b → length a ≡ limit → length b ≤ limit → length b ≡ limit
@@ -17,11 +17,11 @@ module _ {O P C R : Type 0} where
   calls_in e = calls_of e.steps.list.items
 
   -- a caller that has called nothing yet
-  pub called_nothing : (before : PassView O P C R) → HasCalled before [] before.seen
+  pub called_nothing : (before : PassView O P C R) → HasEachCall before [] before.seen
   called_nothing before = record { begins = begins_self before.seen; mine = sym (append-nil (asked_by before.caller.acting before.seen)); others = λ k owned apart. refl }
 
   -- what a caller has called stays where the log grows without it
-  pub called_grows : (before : PassView O P C R) (calls : List C) (a b : List (Event O P C R)) → IsCaller before.caller → HasCalled before calls a → Grows before.caller.owned a b → HasCalled before calls b
+  pub called_grows : (before : PassView O P C R) (calls : List C) (a b : List (Event O P C R)) → IsCaller before.caller → HasEachCall before calls a → Grows before.caller.owned a b → HasEachCall before calls b
   called_grows before calls a b is h g = record {
     begins = begins_then before.seen a b h.begins g.begins;
     mine = ap (map calls_in) (g.own before.caller.acting is.acts) ∙ h.mine;
@@ -29,8 +29,8 @@ module _ {O P C R : Type 0} where
   }
 
   -- what a caller has called stays where it meets another and joins it
-  pub called_met : (before f m : PassView O P C R) (calls : List C) (log : List (Event O P C R)) → IsCaller before.caller → HasCalled before calls f.seen → f.caller ≡ before.caller → m.caller ≡ f.caller
-      → Grows f.caller.owned f.seen m.seen → Grows m.caller.owned m.seen log → HasCalled before calls log
+  pub called_met : (before f m : PassView O P C R) (calls : List C) (log : List (Event O P C R)) → IsCaller before.caller → HasEachCall before calls f.seen → f.caller ≡ before.caller → m.caller ≡ f.caller
+      → Grows f.caller.owned f.seen m.seen → Grows m.caller.owned m.seen log → HasEachCall before calls log
   called_met before f m calls log is h fc mc g k =
       let meets : Grows before.caller.owned f.seen m.seen = subst (λ (x : Caller O P C R). Grows x.owned f.seen m.seen) fc g in
       let joins : Grows before.caller.owned m.seen log = subst (λ (x : Caller O P C R). Grows x.owned m.seen log) (mc ∙ fc) k in
@@ -38,8 +38,8 @@ module _ {O P C R : Type 0} where
 
 module _ {O P C R : Type 0} (meaning : Ghosts O P C R) where
   -- one call more
-  pub called_more : (before mid after : PassView O P C R) (calls : List C) (c : C) (r : R) → mid.caller ≡ before.caller → HasCalled before calls mid.seen → IsAnswered meaning mid (c ∷ []) (one_step c r) after
-      → HasCalled before (calls ++ c ∷ []) after.seen
+  pub called_more : (before mid after : PassView O P C R) (calls : List C) (c : C) (r : R) → mid.caller ≡ before.caller → HasEachCall before calls mid.seen → IsAnswered meaning mid (c ∷ []) (one_step c r) after
+      → HasEachCall before (calls ++ c ∷ []) after.seen
   called_more before mid after calls c r same h answer =
       let k : ℕ = before.caller.acting in
       let e : Event O P C R = record { cpu = k; steps = one_step c r } in
@@ -54,22 +54,22 @@ module _ {O P C R : Type 0} (meaning : Ghosts O P C R) where
 
   -- the call at the index i was done too
   pub called_next : {X : Type 0} (before mid after : PassView O P C R) (calls : List C) (i : ℕ) (c : C) (reply : Result R X) (r : R) → reply ≡ Ok r → IfOk reply (λ x. IsAnswered meaning mid (c ∷ []) (one_step c x) after)
-      → mid.caller ≡ before.caller → i < length calls → c ≡ get_or calls i c → HasCalled before (take i calls) mid.seen → HasCalled before (take (i + 1) calls) after.seen
+      → mid.caller ≡ before.caller → i < length calls → c ≡ get_or calls i c → HasEachCall before (take i calls) mid.seen → HasEachCall before (take (i + 1) calls) after.seen
   called_next {X} before mid after calls i c reply r is answered same lt at h =
       let answer : IsAnswered meaning mid (c ∷ []) (one_step c r) after = subst (λ (v : Result R X). IfOk v (λ x. IsAnswered meaning mid (c ∷ []) (one_step c x) after)) is answered in
       let taken : take (i + 1) calls ≡ take i calls ++ c ∷ [] = take_more calls i c lt ∙ ap (λ x. take i calls ++ x ∷ []) (sym at) in
-      subst (λ l. HasCalled before l after.seen) (sym taken) (called_more before mid after (take i calls) c r same h answer)
+      subst (λ l. HasEachCall before l after.seen) (sym taken) (called_more before mid after (take i calls) c r same h answer)
 
   -- a call without room adds nothing
   pub called_full : {X : Type 0} (before mid after : PassView O P C R) (calls : List C) (reply : Result R X) (x : X) → reply ≡ Err x → OnErr reply (IsRefused meaning mid after)
-      → IsCaller before.caller → mid.caller ≡ before.caller → HasCalled before calls mid.seen → HasCalled before calls after.seen
+      → IsCaller before.caller → mid.caller ≡ before.caller → HasEachCall before calls mid.seen → HasEachCall before calls after.seen
   called_full {X} before mid after calls reply x is refused caller same h =
       let full : IsRefused meaning mid after = subst (λ (v : Result R X). OnErr v (IsRefused meaning mid after)) is refused in
       called_grows before calls mid.seen after.seen caller h (subst (λ (z : Caller O P C R). Grows z.owned mid.seen after.seen) same full.grows)
 
   -- the caller j that ended the cell, and the cell's history
   module _ (j : PassView O P C R) (h : History O P C R) (part : IsPassView meaning j) (closed : h ≡ stored meaning j.caller.cell j.seen) where
-    pub ended : (first second : PassView O P C R) (firsts seconds : List C) → j.caller.cell ≡ first.caller.cell → HasCalled first firsts j.seen → HasCalled second seconds j.seen → IsEnded meaning first firsts second seconds h
+    pub ended : (first second : PassView O P C R) (firsts seconds : List C) → j.caller.cell ≡ first.caller.cell → HasEachCall first firsts j.seen → HasEachCall second seconds j.seen → IsEnded meaning first firsts second seconds h
     ended first second firsts seconds cell a b =
         let log : h.log ≡ j.seen = ap (λ x. x.log) closed in
         let valid : Lawful meaning first.caller.cell j.seen = subst (λ c. Lawful meaning c j.seen) cell part.valid in
@@ -77,8 +77,8 @@ module _ {O P C R : Type 0} (meaning : Ghosts O P C R) where
         record {
           valid = subst (λ l. Lawful meaning first.caller.cell l) (sym log) valid;
           replayed = replayed ∙ ap (λ l. stored meaning first.caller.cell l) (sym log);
-          first_calls = subst (λ l. HasCalled first firsts l) (sym log) a;
-          second_calls = subst (λ l. HasCalled second seconds l) (sym log) b;
+          first_calls = subst (λ l. HasEachCall first firsts l) (sym log) a;
+          second_calls = subst (λ l. HasEachCall second seconds l) (sym log) b;
         }
 
     -- a caller that saw a full log

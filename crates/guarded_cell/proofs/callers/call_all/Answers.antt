@@ -2,7 +2,7 @@ use Rattle.std.proofs.Common.{◌+◌, [], ◌∷◌, ◌++◌, take, refl, sym,
 use Rattle.event_log.specs.{declared.logged.NoRoom.NoRoom, Log.one_step}
 use Rattle.word_rule.specs.{Answered.{IsAnswered, IsRefused}, LockRuns.events_in, OneHold.HasHeld, Holds.HasHeldEach}
 use Rattle.word_rule.proofs.{ManyHolds.leaves_none, RunLists.extends_self}
-use Rattle.guarded_cell.specs.{Calls.HasCalled, Held.{left_by_call, holds_of}}
+use Rattle.guarded_cell.specs.{Calls.HasEachCall, Held.{left_by_call, holds_of}}
 use Rattle.guarded_cell.proofs.{Called.{called_nothing, called_next, called_full}, HeldCalls.{leaves_call, next_held, held_all}}
 use Rattle.guarded_cell.proofs.callers.call_all.Goals as goal
 
@@ -61,7 +61,7 @@ returns-in-Err-clause-done g c =
     let called = called_full g.O.SeqObject before (g.C.LockCell.pass_view c.loop-asked.pass) after (take c.loop-asked.asked-index c.args.calls.now) b.result.1 c.in-Err.field-0 c.in-Err.is b.ensures.refused pass_view.caller i.caller i.called in
     record {
       caller = b.ensures.caller ∙ i.caller;
-      called = subst (λ n. HasCalled before (take n c.args.calls.now) after.seen) (sym i.count) called;
+      called = subst (λ n. HasEachCall before (take n c.args.calls.now) after.seen) (sym i.count) called;
       count = let less = c.loop-asked-test.true in let same = i.count in omega (arith, less, same);
       full = λ less. IsRefused.full (subst (λ (v : Result g.row.O-Reply.Denot NoRoom). OnErr v (IsRefused g.O.SeqObject (g.C.LockCell.pass_view c.loop-asked.pass) after)) c.in-Err.is b.ensures.refused) ∙ ap (λ x. x.cell.limit) i.caller;
     }
@@ -74,7 +74,7 @@ returns-clause-done g c =
     let same = i.count in
     record {
       caller = i.caller;
-      called = subst (λ n. HasCalled (g.C.LockCell.pass_view c.args.pass) (take n c.args.calls.now) (g.C.LockCell.pass_view c.loop-asked.pass).seen) (sym same) i.called;
+      called = subst (λ n. HasEachCall (g.C.LockCell.pass_view c.args.pass) (take n c.args.calls.now) (g.C.LockCell.pass_view c.loop-asked.pass).seen) (sym same) i.called;
       count = omega (arith, within, same);
       full = λ less. absurd (omega (arith, less, whole, same));
     }
