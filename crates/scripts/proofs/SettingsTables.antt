@@ -1,11 +1,16 @@
 -- Values of settings, as they are seen in a TOML table.
-use Rattle.std.proofs.Common.{◌≡◌, ℕ, ◌+◌, ◌<◌, Bool, true, false, List, [], ◌∷◌, ◌++◌, append_assoc, append-nil, length, Option, Some, None, drop, get_or, Ok, Err, IfOk, IfErr, IsUtf8, Result, String, Global, string_bytes, refl, ap, sym, ◌∙◌, ◌&&◌, if◌then◌else◌, IsErrAnd, bytes_eq}
+use Rattle.std.proofs.Common.{◌≡◌, ℕ, suc, ◌+◌, ◌<◌, Bool, true, false, List, [], ◌∷◌, ◌++◌, append_assoc, append-nil, length, Option, Some, None, drop, get_or, Ok, Err, IfOk, IfErr, IsUtf8, Result, String, Global, string_bytes, refl, ap, sym, ◌∙◌, ◌&&◌, if◌then◌else◌, IsErrAnd, bytes_eq}
 use Rattle.std.specs.{List.{list_all, list_any}, Map.keys_of, Option.{is_some, option_map_or}}
 use Rattle.toml.proofs.Views.{items_view-drop, Entry}
 use Rattle.toml.specs.{Data.{Data, Items, no_items, item, as_integer}, Parse.parse_document, View.{view, items_view, members_view}, declared.value.Value.Value}
 use Rattle.records.specs.Settings.{ObjectSettings, Settings}
-use Rattle.scripts.specs.{declared.settings.fault.BadSettings.BadSettings, declared.settings.fault.Cause.Cause, declared.settings.fault.SettingsPlace.SettingsPlace, declared.settings.fault.SettingsFault.SettingsFault, declared.settings.fault.SettingsFault.TheVariants.{OutOfMemory, Refused}, declared.settings.fault.SettingsKey.SettingsKey, KindKeys.Pool.{are_integers, quota_from, each_quota}, SettingsKeys.{at_key, key_word, has_only}, SettingsText.{object_from, objects_from, settings_of, Settles, NamesFirstFault}}
+use Rattle.scripts.specs.{declared.settings.fault.BadSettings.BadSettings, declared.settings.fault.Cause.Cause, declared.settings.fault.SettingsPlace.SettingsPlace, declared.settings.fault.SettingsFault.SettingsFault, declared.settings.fault.SettingsFault.TheVariants.{OutOfMemory, Refused}, declared.settings.fault.SettingsKey.SettingsKey, KindKeys.Pool.{are_integers, quota_from, each_quota}, SettingsKeys.{count_items, at_key, key_word, has_only}, SettingsText.{object_from, objects_from, settings_of, Settles, NamesFirstFault}}
 use Rattle.record_lines.specs.Then.{◌>>=◌, ok_map}
+
+-- an array has as many items as values
+pub items_counted : (vs : List Value) → count_items (items_view vs) ≡ length vs
+items_counted [] = refl
+items_counted (v ∷ vs) = ap suc (items_counted vs)
 
 -- whether it is seen as an integer
 abbrev pub is_integer : Value → Bool
