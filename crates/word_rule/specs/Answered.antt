@@ -1,10 +1,10 @@
--- What a whole call on a cell answers.
+-- The answer of a whole call on a cell.
 use Rattle.std.specs.Prelude.{◌≡◌, ◌≢◌, ℕ, true, List, [], ◌∷◌, ◌++◌, length, map}
 use Rattle.arrayvec.specs.ArrayVec.{ArrayVec}
 use Rattle.event_log.specs.{declared.object.SeqObject.Ghosts, declared.event.Steps.Steps, declared.event.Event.Event, Log.{Begins, Fulfils, of}}
 use Rattle.word_rule.specs.Cell.{PassView, Lawful, Grows, OwnsAll}
 
--- the caller didn't get the object, and did nothing; nobody has it else who owns every number
+-- the caller didn't get the object, and did nothing. A caller that owns every number is never answered so
 pub record IsBusy {O P C R : Type 0} (before after : PassView O P C R) : Type 0 where
   pub caller : after.caller ≡ before.caller
   pub grows : Grows before.caller.owned before.seen after.seen
