@@ -16,6 +16,28 @@ pub trait Object {
 }
 
 /// A call on an object of kind `K`, which answers a `T` unless the object refuses. It is shown as a record has it.
+///
+/// ```
+/// use mc2::{Cell, Console, Error, Lock, Pool, Refusal, Sched};
+///
+/// let pool = Cell::open(Pool { pages: 2, quotas: [1; 16] }, Lock::Mcs, 1, 0)?;
+/// let mut caller = pool.caller().expect("CPU 0");
+/// let page = caller.call(Pool::alloc(3))?;
+/// assert_eq!(caller.call(Pool::alloc(3)), Err(Error::Refused(Refusal::OverQuota)));
+/// assert_eq!(caller.call(Pool::free(4, page)), Err(Error::Refused(Refusal::NotYours)));
+///
+/// let console = Cell::open(Console { bytes: 1 }, Lock::Ticket, 1, 0)?;
+/// let mut caller = console.caller().expect("CPU 0");
+/// assert_eq!((caller.call(Console::put(7))?, caller.call(Console::put(255))?), (None, Some(7)));
+/// assert_eq!((caller.call(Console::get())?, caller.call(Console::level())?), (255, 0));
+///
+/// let sched = Cell::open(Sched { threads: 2, channels: 1 }, Lock::Ticket, 1, 0)?;
+/// let mut caller = sched.caller().expect("CPU 0");
+/// let mut hold = caller.hold();
+/// hold.call(Sched::sleep(0, 1))?;
+/// assert_eq!((hold.call(Sched::wakeall(0))?, hold.call(Sched::next())?), (1, 1));
+/// # Ok::<(), Error>(())
+/// ```
 #[derive(Clone, Copy, Debug, PartialEq, Eq)]
 pub struct Call<K, T = Reply>(pub(crate) Asked, pub(crate) PhantomData<fn() -> (K, T)>);
 impl<K, T> Call<K, T> {
