@@ -34,6 +34,6 @@ returns-clause-known c = λ yes.
     let back = ap (λ (v : Counted). v.parts) c.self.view_is in
     let logs = (subst (InTranscripts custom_form) (sym back) c.requires.place).logs in (
       e,
-      (k.0, k.1, k.2, subst (λ (p : CustomReceived). StepsFit p.head.so_far k.1) back (steps_fit (get_or i.head.items 0 no_head).report i.judged.logs c.args.object k.1 logs k.4), refl),
+      (k.0, k.1, k.2, subst (λ (p : CustomReceived). StepsFit p.head.so_far k.1) back (steps_fit (get_or i.head.items 0 no_head).so_far i.judged.logs c.args.object k.1 logs k.4), refl),
       ap (custom_parts (get_or i.head.items 0 no_head) i.begun) k.3 ∙ ap (λ p. with_entry p e) back,
     )
