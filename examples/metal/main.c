@@ -1,7 +1,7 @@
 // A kernel without a C library. Its CPUs share a queue, a page pool, a console and a scheduler by the cells of libcells.a. Each
 // CPU calls them CALLS times, and its timer's interrupts call them by tries, in the middle of whatever the CPU does between two
 // steps of the library. What was done is noted by mc2_note.h, in memory of each CPU's own. It goes out over the serial port as
-// a record, and a few words about it go to qemu's debug console. docs/IN_A_KERNEL.md goes through all that. Nothing here is
+// a record, and a few words about it go to qemu's debug console. docs/IN_A_KERNEL.md is about such kernels. Nothing here is
 // proved.
 //
 // The Makefile has the settings: CPUS, CALLS, TIMER_COUNT, MASKED, JUDGE, NO_SSE and STAND_IN.

@@ -80,12 +80,14 @@ static void runq_says(void *state, const struct mc2_own_said *call, char *out, s
 
 /* ---- buddy HEIGHT: 2^HEIGHT pages. A block of order K is 2^K pages, the first a multiple of 2^K.
 
-   alloc K = page P     P is any block of order K whose pages are all free alloc K = none       there is no such block alloc K =
-   badorder   K is above HEIGHT free P = ok          a block that begins with P was given; its pages are free, and merge with
-   free buddies at once free P = notgiven    none was left = count N       N pages are free
+     alloc K = page P     P is any block of order K whose pages are all free
+     alloc K = none       there is no such block
+     alloc K = badorder   K is above HEIGHT
+     free P = ok          a block that begins with P was given; its pages are free, and merge with free buddies at once
+     free P = notgiven    none was
+     left = count N       N pages are free
 
-   A block is a node of a tree: node 1 has all pages, and nodes 2n and 2n + 1 the halves of node n. A step takes HEIGHT turns.
-   */
+   A block is a node of a tree: node 1 has all pages, and nodes 2n and 2n + 1 the halves of node n. A step takes HEIGHT turns. */
 
 enum { BUDDY_HEIGHT = 16 };
 
