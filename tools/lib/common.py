@@ -19,6 +19,9 @@ from datetime import datetime, timezone
 from pathlib import Path
 
 ROOT = Path(__file__).resolve().parent.parent.parent
+sys.path.append(str(ROOT))
+from view.streams import tell_time  # (of the folder at the top)
+
 TOOL = os.path.relpath(Path(sys.argv[0]).resolve(), ROOT)
 MC2 = ROOT / "crates/mc2/out/mc2"
 BENCH = ROOT / "crates/bench/out/bench"
@@ -173,19 +176,12 @@ def machine():
     return f"{datetime.now(timezone.utc):%Y-%m-%d %H:%M} UTC, {os.cpu_count()} processors"
 
 
-def tell_time(name=TOOL):
-    """At a terminal a line now and then says how long this process has been running."""
-    if sys.stderr.isatty():
-        teller = [ROOT / "tools/lib/seconds_so_far", name, str(os.getpid())]
-        subprocess.Popen(teller, stdin=subprocess.DEVNULL, stdout=subprocess.DEVNULL)
-
-
 def end(main, tells=True):
     """Calls the tool's main, and ends the process with its status. At a terminal it tells the time meanwhile."""
     try:
         try:
             if tells:
-                tell_time()
+                tell_time(TOOL)
             status = main()
         except Stop as stop:
             print(f"{TOOL}: {stop}", file=sys.stderr)

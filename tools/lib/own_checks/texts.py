@@ -5,7 +5,7 @@ from common import Stop
 from own_checks import small
 from own_checks.cases import answer_of, answers_of, case, lines_of
 from own_checks.mutants import mutant
-from texts.record import record_fault
+from view.texts.record import record_fault
 
 SMALL, CROSSED, TURNS = 12_000, 1_000, 64
 BAD_LINE = 8

@@ -1,4 +1,4 @@
-# Completion for mc2 and mc2-view, and for ./mc2 and ./view: commands, options, and the names of files.
+# Completion for mc2 and mc2-view, and for ./mc2 and view/view: commands, options, and the names of files.
 _mc2_words() {
     local word=${COMP_WORDS[COMP_CWORD]} before=${COMP_WORDS[COMP_CWORD - 1]} command=${COMP_WORDS[1]-}
     local commands options=
@@ -25,4 +25,4 @@ _mc2_words() {
         mapfile -t COMPREPLY < <(compgen -f -- "$word")
     fi
 }
-complete -F _mc2_words mc2 mc2-view ./mc2 ./view
+complete -F _mc2_words mc2 mc2-view ./mc2 view/view

@@ -5,6 +5,8 @@ import re
 # The most bytes of a line. The longest right one, an entry of a record 3, has 3,515. (And no number is longer than Python takes.)
 MOST_LINE = 4096
 MOST_NUMBER = 4_294_967_295
+# The most entries of a CPU in scripts, and the most bytes of settings.
+MOST_ENTRIES, MOST_BYTES = 10_000, 65_536
 # Bytes that no text has, and what they mostly come from.
 STRANGE = {
     13: "a carriage return (byte 13), as Windows ends lines; `tr -d '\\r'` takes them all out",
@@ -141,3 +143,15 @@ class Rows:
         if self.row:
             raise Fault(self.at + 1, len(self.row) + 1, "the end of the text",
                         "the end of the line (byte 10), which each line has, the last too")
+
+
+def entry_lines(text):
+    """The lines of scripts that are neither empty nor skipped. One that is skipped may have any length."""
+    rows = Rows(text)
+    while row := rows.seen():
+        while row.startswith(b"#") and len(row) > MOST_LINE and not row.endswith(b"\n"):
+            row = rows.row = b"#" + rows.file.readline(MOST_LINE)
+        if rows.take() is None:
+            rows.refuse_unended()
+        if row != b"\n" and not row.startswith(b"#"):
+            yield Line(rows.at, row[:-1])

@@ -5,13 +5,14 @@ import resource
 import shlex
 import signal
 import subprocess
-import sys
 import tempfile
 from contextlib import contextmanager
 from functools import partial
 from pathlib import Path
 
-ROOT = Path(__file__).resolve().parent.parent.parent.parent
+from view.streams import say
+
+ROOT = Path(__file__).resolve().parent.parent
 SECONDS, MOST_BYTES = 60, 1 << 26  # how long a judge of one's own may take, and how much it may write
 
 
@@ -59,7 +60,7 @@ class Program:
                 found = re.fullmatch(rb"\w+: (E\d+ .*)\n", line)
                 refusal = found[1].decode() if found else refusal
                 if not found and line not in self.told:
-                    print(line.decode(errors="replace"), end="", file=sys.stderr, flush=True)
+                    say(line.decode(errors="replace").removesuffix("\n"))
                     self.told.add(line)
             status = program.wait()
             if status and not refusal:

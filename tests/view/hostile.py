@@ -9,7 +9,7 @@ from pathlib import Path
 
 from common import ROOT
 from texts.settings import BUILT_IN
-from view_checks.drawn import drawn_entries, record_of
+from drawn import drawn_entries, record_of
 
 MEBIBYTE = 2**20
 # What a script may hold, of addresses and of memory, and with ten times what it reads besides if that is right.
@@ -94,13 +94,13 @@ def view_refused(kind, text, refusal, environment, folder):
     path, settings = given(text, folder / "text"), given(BUILT_IN.encode(), folder / "settings")
     words = {"record": ["timeline", path], "settings": ["schedule", "--settings", path, "/dev/null"],
              "scripts": ["schedule", "--settings", settings, path]}
-    return unlike(ended([ROOT / "view", *words[kind]], environment), (2, "", f"view: {refusal}\n"), MOST)
+    return unlike(ended([ROOT / "view/view", *words[kind]], environment), (2, "", f"view: {refusal}\n"), MOST)
 
 
 def view_tried(program, steps, draw):
     """What is wrong with what `view` makes of all these and of right ones: for each a name, and that or None."""
     environment = {**os.environ, "MC2": shlex.quote(str(program)), "MC2_STEPS": shlex.quote(str(steps))}
-    view, own = ROOT / "view", ROOT / "examples/own/records/runq_lower_first"
+    view, own = ROOT / "view/view", ROOT / "examples/own/records/runq_lower_first"
     tries = [(kind, *it) for kind in ("record", "settings", "scripts") for it in REFUSED[kind]]
     for kind, text, refusal in tries:
         # (what is short is for `steps` alone, if it is no record)

@@ -3,14 +3,14 @@ import tempfile
 from pathlib import Path
 
 from common import ROOT, run
-from texts.record import read_record
+from view.texts.record import read_record
 from view.model import Model
 from view.pages import steps_page, timeline
 from view.verdict import by_mc2, by_said
-from view_checks.browser import Browser, Lost
-from view_checks.drawn import shown_run
-from view_checks.judges import MARKUP, OWN, WRONG
-from view_checks.models import same
+from browser import Browser, Lost
+from drawn import shown_run
+from judges import MARKUP, OWN, WRONG
+from models import same
 
 HERE = Path(__file__).parent
 LOOKS = ROOT / "out"

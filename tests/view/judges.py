@@ -8,11 +8,11 @@ import xml.etree.ElementTree as xml
 from pathlib import Path
 
 from common import ROOT
-from texts.record import read_record
+from view.texts.record import read_record
 from view import asked
 from view.model import Model
 from view.verdict import by_judge
-from view_checks.models import Wrong, check_model, same
+from models import Wrong, check_model, same
 
 OWN = ROOT / "examples/own/records"
 # What examples/own/own.c says of runq_lower_first (examples/own/README.md).
@@ -49,14 +49,14 @@ class Judge:
 
     def view(self, record, script, *words, **how):
         self.file.write_text(f"cat > /dev/null\n{script}\n")
-        command = [ROOT / "view", *words, "--judge", f"sh '{self.file}'", record]
+        command = [ROOT / "view/view", *words, "--judge", f"sh '{self.file}'", record]
         return subprocess.run(command, capture_output=True, env=self.environment, **how)
 
     def said(self, record, said, *words):
         """What view prints, if the judge said this."""
         text = self.file.with_name("said")
         text.write_text(said)
-        ran = subprocess.run([ROOT / "view", *words, "--said", text, record], capture_output=True, env=self.environment)
+        ran = subprocess.run([ROOT / "view/view", *words, "--said", text, record], capture_output=True, env=self.environment)
         same(ran.returncode == 0 and not ran.stderr, f"status {ran.returncode}, {ran.stderr[:200]!r}")
         return ran.stdout.decode()
 
@@ -106,7 +106,7 @@ def check_never(_):
 
 
 def check_missing(judge):
-    ran = subprocess.run([ROOT / "view", "timeline", "--judge", "./not_there", OWN / "runq_right"], capture_output=True)
+    ran = subprocess.run([ROOT / "view/view", "timeline", "--judge", "./not_there", OWN / "runq_right"], capture_output=True)
     same(b"E16 verdict: ./not_there can't be started" in ran.stderr and ran.returncode == 2, f"{ran.stderr!r}")
 
 
@@ -137,7 +137,7 @@ def check_full(judge):
     """A disk that is full."""
     for words in ["timeline"], ["timeline", "--svg"], ["trace"]:
         with open("/dev/full", "wb") as full:
-            ran = subprocess.run([ROOT / "view", *words, OWN / "runq_right"], stdout=full, stderr=subprocess.PIPE)
+            ran = subprocess.run([ROOT / "view/view", *words, OWN / "runq_right"], stdout=full, stderr=subprocess.PIPE)
         same((ran.returncode, ran.stderr) == (3, b"view: E13 write failed\n"), f"{words}: {ran.returncode}, {ran.stderr!r}")
 
 

@@ -3,7 +3,7 @@ import itertools
 import math
 
 from view.svg import COLOURS, ink
-from view_checks.models import same
+from models import same
 
 LEAST_APART, LEAST_APART_OF_FEW, FEW, LEAST_CONTRAST = 15, 16, 8, 4
 # What an eye without one of its three cones makes of light of red, green and blue (Machado, Oliveira and Fernandes 2009).

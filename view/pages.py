@@ -12,7 +12,7 @@ from view.model import Box
 from view.pictures import picture
 from view.svg import COLOURS, ink
 
-HERE = Path(__file__).parent
+PARTS = Path(__file__).parent / "page"
 MOST_PLAIN, MOST_BOXES = 30_000, 1_500_000
 SCRIPTS = ("rows.js", "draw.js", "parts.js", "strip.js", "cards.js", "moves.js", "keys.js")
 STEP = re.compile(r"\d+ cpu (\d+) (?:idle|(\w+) (\w+)(?: ([a-z ]+))? \| ([a-z0-9 ]+))")
@@ -23,11 +23,11 @@ def whole(title, scripts, data, top=""):
     if len(text) > MOST_PLAIN:
         kind, text = "application/deflate", base64.b64encode(zlib.compress(text.encode(), 9)).decode()
     parts = {
-        "TITLE": escape(title), "STYLE": (HERE / "page.css").read_text(), "TOP": top, "KIND": kind,
+        "TITLE": escape(title), "STYLE": (PARTS / "page.css").read_text(), "TOP": top, "KIND": kind,
         "DATA": text.replace("<", "\\u003c"),
-        "SCRIPT": "".join((HERE / name).read_text() for name in ("common.js", *scripts)),
+        "SCRIPT": "".join((PARTS / name).read_text() for name in ("common.js", *scripts)),
     }
-    return re.sub("<!--([A-Z]+)-->", lambda found: parts[found[1]], (HERE / "page.html").read_text())
+    return re.sub("<!--([A-Z]+)-->", lambda found: parts[found[1]], (PARTS / "page.html").read_text())
 
 
 def timeline(model):
