@@ -25,4 +25,4 @@ _mc2_words() {
         mapfile -t COMPREPLY < <(compgen -f -- "$word")
     fi
 }
-complete -F _mc2_words mc2 mc2-view ./mc2 view/view
+complete -F _mc2_words mc2 mc2-view ./mc2 view/view ./view/view
