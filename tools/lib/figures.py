@@ -27,7 +27,7 @@ class Figures:
     def add(self, case, kind, **values):
         """Adds a line for each value. Its name is the measure, with `_` for a blank: `least_ns`."""
         for measure, value in values.items():
-            number = f"{value:.1f}" if isinstance(value, float) else value
+            number = f"{value:.3f}".rstrip("0").rstrip(".")
             self.lines.append([self.figure, case, kind, measure.replace("_", " "), number])
 
     def write(self):
