@@ -16,7 +16,7 @@ static uint64_t pauses, paused_after, naps, microseconds;
 #else
 #define MC2_FREESTANDING
 #endif
-#include "../../../include/mc2_wait.h"
+#include "mc2_wait.h"
 
 #define CHECK(what) check(what, #what, __LINE__)
 

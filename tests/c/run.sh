@@ -1,0 +1,63 @@
+#!/bin/sh
+# use: run.sh [NAME=VALUE].. -- COMMAND WORD..
+#
+# Runs the command, compares what came of it, and ends with 0 if all is as it should be, or with 1 and a line that says what isn't.
+#
+#   status=N        the command ends with N; else with 0
+#   out=PATTERN     a line of standard output matches the pattern (grep -E); the same of err, for standard error
+#   says=LINE       standard output is this line
+#   audit=PATTERN   standard output is a record, and what `$MC2 audit` prints of it is a line that the pattern matches as a whole.
+#                   Where `sound` is wanted, `$MC2 merge` has to print a line for each entry
+#   merge=PATTERN   the same of what `$MC2 merge` complains of
+#   cpus=N events=N entries=N noroom=N each=N
+#                   the record has so many; each: entries of each CPU; noroom=some: at least one
+set -u
+FOLDER=$(mktemp -d) || exit 1
+trap 'rm -rf "$FOLDER"' EXIT
+trap 'exit 1' HUP INT TERM
+RECORD=$FOLDER/out STATUS=0 ALL=
+while [ $# -gt 0 ] && [ "$1" != -- ]; do
+    case $1 in status=*) STATUS=${1#status=} ;; esac
+    ALL="$ALL$1
+"
+    shift
+done
+shift
+fail() {
+    printf '%s\n' "$*"
+    head -c 2000 "$FOLDER/err"
+    exit 1
+}
+"$@" >"$RECORD" 2>"$FOLDER/err"
+ENDED=$?
+[ $ENDED -eq 77 ] && exit 77
+[ $ENDED -eq "$STATUS" ] || fail "ended with status $ENDED and not $STATUS: $*"
+
+# The record's counts, as one names them above.
+counts() {
+    awk '/^cpu / { cpus++; if (cpus > 1 && each != $3) each = "different"; else each = $3 }
+        /^log / { events += $3 } / \| / { entries++ } / \| noroom$/ { noroom++ }
+        END { print "cpus=" cpus + 0; print "each=" each; print "events=" events + 0; print "entries=" entries + 0
+              print "noroom=" noroom + 0; if (noroom) print "noroom=some" }' "$RECORD"
+}
+
+printf %s "$ALL" | while IFS= read -r WANTED; do
+    VALUE=${WANTED#*=}
+    case $WANTED in
+    status=*) ;;
+    out=*) grep -Eq -e "$VALUE" "$RECORD" || fail "no line of output matches $VALUE: $(head -c 500 "$RECORD")" ;;
+    err=*) grep -Eq -e "$VALUE" "$FOLDER/err" || fail "no line of standard error matches $VALUE" ;;
+    says=*) [ "$(cat "$RECORD")" = "$VALUE" ] || fail "says $(head -c 500 "$RECORD") and not $VALUE" ;;
+    audit=*)
+        SAID=$("$MC2" audit <"$RECORD" 2>&1)
+        printf '%s\n' "$SAID" | grep -Exq -e "$VALUE" || fail "audit says $SAID and not $VALUE"
+        if [ "$VALUE" = sound ]; then
+            MERGED=$("$MC2" merge <"$RECORD" | wc -l)
+            counts | grep -qx "entries=$MERGED" || fail "merge prints $MERGED lines, and the record has $(counts)"
+        fi ;;
+    merge=*)
+        SAID=$("$MC2" merge <"$RECORD" 2>&1 >/dev/null)
+        printf '%s\n' "$SAID" | grep -Exq -e "$VALUE" || fail "merge says $SAID and not $VALUE" ;;
+    *) counts | grep -qx "$WANTED" || fail "not $WANTED, but" $(counts) ;;
+    esac
+done
