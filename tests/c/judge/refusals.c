@@ -4,11 +4,11 @@
    With `each`, each block is refused in turn: then memory is told to be out, the room is as it was, and nothing is lost. And a
    merge is given too little room, and just enough. A record of the other forms takes no more memory than include/mc2_judge.h
    says. Prints how many files and blocks there were, and of the largest text its bytes and the most that were taken at one time.
-   The second judge, which has functions for records 3 alone, is built with -DOWN_ONLY and takes memory here by other names.
 
    Status: 0; 1 at the first answer that can't be, which a line on standard error names; 2 for wrong words; 3 if a file can't be
    read, or the system refuses memory. */
 #include "../../../examples/own/models.h"
+#include "mc2_judge.h"
 #include "text.h"
 #include <string.h>
 
@@ -66,39 +66,6 @@ struct taken rattle_realloc(void *old, size_t kept, size_t size, size_t align) {
     }
     return taken;
 }
-
-#ifdef OWN_ONLY
-void *second_malloc(size_t size);
-void *second_realloc(void *old, size_t size);
-void second_free(void *at);
-
-void *second_malloc(size_t size) {
-    struct taken taken = rattle_alloc(size, 1);
-    return taken.is_there ? taken.at : NULL;
-}
-
-void *second_realloc(void *old, size_t size) {
-    if (!old)
-        return second_malloc(size);
-    size_t had = ((struct block *)old - 1)->size;
-    struct taken taken = rattle_realloc(old, had < size ? had : size, size, 1);
-    return taken.is_there ? taken.at : NULL;
-}
-
-void second_free(void *at) {
-    if (at)
-        rattle_dealloc(at);
-}
-
-static void mc2_merge(const uint8_t *bytes, size_t length, struct mc2_turn *room, size_t turns, struct mc2_told *told) {
-    (void)bytes, (void)length, (void)room, (void)turns, (void)told;
-    exit(2);
-}
-
-static void mc2_audit(const uint8_t *bytes, size_t length, struct mc2_told *told) { mc2_merge(bytes, length, NULL, 0, told); }
-#else
-#include "mc2_judge.h"
-#endif
 
 /* ---- The calls */
 
