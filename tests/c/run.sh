@@ -5,6 +5,8 @@
 #
 #   status=N        the command ends with N; else with 0
 #   out=PATTERN     a line of standard output matches the pattern (grep -E); the same of err, for standard error
+#   last=PATTERN    the last line of standard error matches the pattern
+#   errors=CODES    rustc complains of these errors alone
 #   says=LINE       standard output is this line
 #   audit=PATTERN   standard output is a record, and what `$MC2 audit` prints of it is a line that the pattern matches as a whole.
 #                   Where `sound` is wanted, `$MC2 merge` has to print a line for each entry
@@ -58,6 +60,10 @@ printf %s "$ALL" | while IFS= read -r WANTED; do
     status=*) ;;
     out=*) grep -Eq -e "$VALUE" "$RECORD" || fail "no line of output matches $VALUE: $(head -c 500 "$RECORD")" ;;
     err=*) grep -Eq -e "$VALUE" "$FOLDER/err" || fail "no line of standard error matches $VALUE" ;;
+    last=*) tail -n 1 "$FOLDER/err" | grep -Eq -e "$VALUE" || fail "the last line of standard error doesn't match $VALUE" ;;
+    errors=*)
+        ERRORS=$(sed -n 's/^error\[\(E[0-9]*\)\].*/\1/p' "$FOLDER/err" | sort -u)
+        [ "$ERRORS" = "$VALUE" ] || fail "the errors are" $ERRORS "and not $VALUE" ;;
     says=*) [ "$(cat "$RECORD")" = "$VALUE" ] || fail "says $(head -c 500 "$RECORD") and not $VALUE" ;;
     audit=*)
         [ -f "$FOLDER/audit" ] || "$MC2" audit <"$RECORD" >"$FOLDER/audit" 2>&1

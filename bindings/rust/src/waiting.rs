@@ -3,8 +3,14 @@ use crate::ffi::{LOOKED, STEPPED};
 use core::sync::atomic::{AtomicU64, Ordering::Relaxed};
 
 const NAPS: bool = cfg!(feature = "std");
-// From this look in vain on a caller in line naps.
+// From this look in vain on a caller in line naps. So many looks are a round of pauses.
 const LONG_WAIT: u64 = 120;
+const ROUND: u64 = 6;
+// Microseconds of a nap in line, and of a stay outside, with how much longer it is for each other one outside, of so many at most.
+const NAP: u64 = 100;
+const STAY: u64 = 1000;
+const STAY_LONGER: u64 = 250;
+const MOST_OTHERS: u64 = 64;
 const OUTSIDE: u64 = 1 << 32;
 
 fn nap(_microseconds: u64) {
@@ -21,16 +27,16 @@ impl Resting {
     pub fn stay_outside(&self) {
         if NAPS && self.0.load(Relaxed) % OUTSIDE != 0 {
             let others = self.0.fetch_add(OUTSIDE, Relaxed) / OUTSIDE;
-            nap(1000 + 250 * others.min(64));
+            nap(STAY + STAY_LONGER * others.min(MOST_OTHERS));
             self.0.fetch_sub(OUTSIDE, Relaxed);
         }
     }
     fn rest(&self, vain: u64) {
         if !NAPS || vain < LONG_WAIT {
-            return (0..1 << (vain % 6)).for_each(|_| core::hint::spin_loop());
+            return (0..1 << (vain % ROUND)).for_each(|_| core::hint::spin_loop());
         }
         self.0.fetch_add(u64::from(vain == LONG_WAIT), Relaxed);
-        nap(100);
+        nap(NAP);
     }
     /// Does steps until one is the last: what it told, and how many looked in vain.
     pub fn steps(&self, mut step: impl FnMut() -> u32) -> (u32, u64) {

@@ -1,10 +1,12 @@
 // Checks include/mc2_heap.h, from which libcells.a takes its memory here. Memory is handed over 16 bytes at a time, and each time
 // a cell and its callers are opened: as long as there is too little that is refused, and all memory is free again. Then threads
-// take and give blocks at once. It prints how much memory a cell takes, by its object, its lock, its CPUs and its events.
+// take and give blocks at once. It prints how much memory a cell takes, by its object, its lock, its CPUs and its events, and holds
+// that to figures.h.
 //
 // The status is 0, or 1 at the first check that fails, which a line on standard error names.
-#include "../../../include/mc2_cells.h"
-#include "../../../include/mc2_heap.h"
+#include "figures.h"
+#include "mc2_cells.h"
+#include "mc2_heap.h"
 #include <pthread.h>
 
 enum { ROOM = 1 << 20, THREADS = 4, ROUNDS = 20000, HELD = 16 };
@@ -110,14 +112,33 @@ static size_t memory_of(struct mc2_object object, uint32_t events, uint32_t cpus
     return it.of_cell;
 }
 
+// What the object takes beside its cell.
+static size_t object_bytes(const struct mc2_object *it) {
+    switch (it->kind) {
+    case MC2_QUEUE: return 9 * it->size;
+    case MC2_POOL: return 8 * it->size + it->size / 8;
+    case MC2_CONSOLE: return it->size;
+    default: return 9 * it->size + 12 * it->channels;
+    }
+}
+
 // Without a log, then of each of 1,000 events more, and of each caller.
-static void print_memory(const char *name, const struct mc2_object *object) {
-    size_t of_caller, of_one = memory_of(*object, 0, 1, &of_caller), of_two = memory_of(*object, 0, 2, &of_caller);
+static void check_memory(const char *name, const struct mc2_object *object) {
+    static const size_t examples[] = {QUEUE_BYTES, POOL_BYTES, CONSOLE_BYTES};
+    static const uint32_t cpus[] = {1, 2, MC2_MOST_CPUS};
+    size_t of_caller, of_cell[3], of_cpu = CPU_BYTES + (object->lock == MC2_MCS ? MCS_MORE_BYTES : 0);
+    printf("%s %s: bytes of 1, 2 and %d CPUs:", name, object->lock == MC2_MCS ? "mcs" : "ticket", (int)MC2_MOST_CPUS);
+    for (unsigned at = 0; at < 3; at++) {
+        of_cell[at] = memory_of(*object, 0, cpus[at], &of_caller);
+        printf(" %zu", of_cell[at]);
+        CHECK(of_cell[at] <= CELL_BYTES + object_bytes(object) + cpus[at] * of_cpu && of_caller <= CALLER_BYTES);
+    }
     size_t few = memory_of(*object, 1, 2, &of_caller), many = memory_of(*object, 1001, 2, &of_caller);
-    size_t of_most = memory_of(*object, 0, MC2_MOST_CPUS, &of_caller);
-    printf("%s %s: bytes of 1, 2 and %d CPUs: %zu %zu %zu, of an event: %zu, of a caller: %zu", name,
-           object->lock == MC2_MCS ? "mcs" : "ticket", (int)MC2_MOST_CPUS, of_one, of_two, of_most, (many - few + 999) / 1000,
-           of_caller);
+    size_t of_event = (many - few + 999) / 1000;
+    printf(", of an event: %zu, of a caller: %zu", of_event, of_caller);
+    CHECK(of_event <= EVENT_BYTES && of_caller <= CALLER_BYTES);
+    if (object->lock == MC2_TICKET && object->kind != MC2_SCHED)
+        CHECK(of_cell[1] <= examples[object->kind] && of_cell[1] + 32 >= examples[object->kind]);
 }
 
 static void check_cells(void) {
@@ -127,7 +148,7 @@ static void check_cells(void) {
         object.lock = at % 2;
         unsigned refused = check_exhaustion(&object);
         hand_over(ROOM - handed);
-        print_memory(names[at / 2], &object);
+        check_memory(names[at / 2], &object);
         printf("; refused %u times\n", refused);
     }
 }

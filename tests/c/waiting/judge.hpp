@@ -1,4 +1,4 @@
-// The properties of single steps. tools/check/waiting_model says them in words.
+// The properties of single steps. states.cpp says them in words.
 #pragma once
 #include "steps.hpp"
 

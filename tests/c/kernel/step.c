@@ -15,7 +15,7 @@ enum { IS_APART = 1 };
 #else
 enum { IS_APART = 0 };
 #endif
-#include "../../../include/mc2_cells.h"
+#include "mc2_cells.h"
 
 static unsigned within, steps, openings, calls;
 
@@ -62,51 +62,22 @@ uint32_t mc2_caller_call(struct mc2_caller *caller, const struct mc2_call *call,
 }
 
 // By its name a call tells what it tells by its number.
-uint32_t mc2_call_enq(struct mc2_caller *caller, uint32_t thread, struct mc2_reply *reply, uint64_t *looks) {
-    return (void)thread, mc2_caller_call(caller, NULL, reply, looks);
-}
-uint32_t mc2_call_deq(struct mc2_caller *caller, struct mc2_reply *reply, uint64_t *looks) {
-    return mc2_caller_call(caller, NULL, reply, looks);
-}
-uint32_t mc2_call_remove(struct mc2_caller *caller, uint32_t thread, struct mc2_reply *reply, uint64_t *looks) {
-    return (void)thread, mc2_caller_call(caller, NULL, reply, looks);
-}
-uint32_t mc2_call_len(struct mc2_caller *caller, struct mc2_reply *reply, uint64_t *looks) {
-    return mc2_caller_call(caller, NULL, reply, looks);
-}
-uint32_t mc2_call_alloc(struct mc2_caller *caller, uint32_t owner, struct mc2_reply *reply, uint64_t *looks) {
-    return (void)owner, mc2_caller_call(caller, NULL, reply, looks);
-}
-uint32_t mc2_call_free(struct mc2_caller *caller, uint32_t owner, uint32_t page, struct mc2_reply *reply, uint64_t *looks) {
-    return (void)owner, (void)page, mc2_caller_call(caller, NULL, reply, looks);
-}
-uint32_t mc2_call_left(struct mc2_caller *caller, struct mc2_reply *reply, uint64_t *looks) {
-    return mc2_caller_call(caller, NULL, reply, looks);
-}
-uint32_t mc2_call_put(struct mc2_caller *caller, uint8_t byte, struct mc2_reply *reply, uint64_t *looks) {
-    return (void)byte, mc2_caller_call(caller, NULL, reply, looks);
-}
-uint32_t mc2_call_get(struct mc2_caller *caller, struct mc2_reply *reply, uint64_t *looks) {
-    return mc2_caller_call(caller, NULL, reply, looks);
-}
-uint32_t mc2_call_level(struct mc2_caller *caller, struct mc2_reply *reply, uint64_t *looks) {
-    return mc2_caller_call(caller, NULL, reply, looks);
-}
-uint32_t mc2_call_ready(struct mc2_caller *caller, uint32_t thread, struct mc2_reply *reply, uint64_t *looks) {
-    return (void)thread, mc2_caller_call(caller, NULL, reply, looks);
-}
-uint32_t mc2_call_next(struct mc2_caller *caller, struct mc2_reply *reply, uint64_t *looks) {
-    return mc2_caller_call(caller, NULL, reply, looks);
-}
-uint32_t mc2_call_sleep(struct mc2_caller *caller, uint32_t channel, uint32_t thread, struct mc2_reply *reply, uint64_t *looks) {
-    return (void)channel, (void)thread, mc2_caller_call(caller, NULL, reply, looks);
-}
-uint32_t mc2_call_wake(struct mc2_caller *caller, uint32_t channel, struct mc2_reply *reply, uint64_t *looks) {
-    return (void)channel, mc2_caller_call(caller, NULL, reply, looks);
-}
-uint32_t mc2_call_wakeall(struct mc2_caller *caller, uint32_t channel, struct mc2_reply *reply, uint64_t *looks) {
-    return (void)channel, mc2_caller_call(caller, NULL, reply, looks);
-}
+#define NAMED(name) \
+    uint32_t mc2_call_##name(struct mc2_caller *caller, struct mc2_reply *reply, uint64_t *looks) { \
+        return mc2_caller_call(caller, NULL, reply, looks); \
+    }
+#define NAMED_WITH(name, type) \
+    uint32_t mc2_call_##name(struct mc2_caller *caller, type first, struct mc2_reply *reply, uint64_t *looks) { \
+        return (void)first, mc2_caller_call(caller, NULL, reply, looks); \
+    }
+#define NAMED_WITH_TWO(name) \
+    uint32_t mc2_call_##name(struct mc2_caller *caller, uint32_t first, uint32_t second, struct mc2_reply *reply, uint64_t *looks) { \
+        return (void)first, (void)second, mc2_caller_call(caller, NULL, reply, looks); \
+    }
+NAMED(deq) NAMED(len) NAMED(left) NAMED(get) NAMED(level) NAMED(next)
+NAMED_WITH(enq, uint32_t) NAMED_WITH(remove, uint32_t) NAMED_WITH(alloc, uint32_t) NAMED_WITH(put, uint8_t)
+NAMED_WITH(ready, uint32_t) NAMED_WITH(wake, uint32_t) NAMED_WITH(wakeall, uint32_t)
+NAMED_WITH_TWO(free) NAMED_WITH_TWO(sleep)
 
 uint32_t mc2_caller_batch(struct mc2_caller *caller, const struct mc2_batch *batch, struct mc2_replies *replies, uint64_t *looks) {
     return (void)caller, (void)batch, (void)replies, (void)looks, answer(&to_batch, MC2_CELL_DONE_KEPT);

@@ -1,4 +1,4 @@
-//! Two threads call a queue, each by a caller of its own. tools/check/rust puts misuse in the place of a part.
+//! Two threads call a queue, each by a caller of its own. CMakeLists.txt puts misuse in the place of a part.
 use mc2::{audit, Cell, Lock, Queue};
 use std::thread::scope;
 
