@@ -200,7 +200,7 @@ def mutant(texts, chosen):
 
 # ---- Faults planted in a buffer and in counts of references, by the models of examples/own/more_models.h. Each record is of
 # thousands of steps by four CPUs, and goes wrong late.
-CPUS, STEPS, ROOM, SLOTS, MOST_REFS, SEEDS = 4, 6000, 8, 16, 4, 5
+CPUS, STEPS, ROOM, SLOTS, MOST_REFS = 4, 6000, 8, 16, 4
 FAULTS = {"buffer": ("lost", "overtaken", "one too many", "torn", "twice"),
           "refs": ("keep lost", "drop lost", "dropped twice", "gone too early", "kept when gone")}
 

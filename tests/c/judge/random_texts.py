@@ -1,12 +1,12 @@
 #!/usr/bin/env python3
-"""use: random_texts.py small|crossed JUDGED | changed COUNT JUDGED OTHER | planted OWN | wide OWN | refused REFUSALS
+"""use: random_texts.py small|crossed|changed COUNT JUDGED [OTHER] | planted SEEDS OWN | wide OWN | refused REFUSALS
 
 Compares what is told of random records 3, and of texts that are nearly records.
 
-  small    12,000 small records, by judged.c: each fault by its definition, orders by trying all
-  crossed  1,000 sound records whose entries are in another order than they were done, with all room and with little
-  changed  that many texts, of which two programs of judged.c have to tell the same; each tenth is read by tools/lib/texts too
-  planted  faults in a buffer and in counts of references: own.c prints at most 15 steps of each, and names the culprit
+  small    small records by judged.c: each fault by its definition, orders by trying all
+  crossed  sound records whose entries are in another order than they were done, with all room and with little
+  changed  texts of which two programs of judged.c have to tell the same; each tenth is read by tools/lib/texts too
+  planted  ten faults in a buffer and in counts of references: own.c prints at most 15 steps of each, and names the culprit
   wide     a record of 256 CPUs and 256 objects, whose order by own.c has to be one
   refused  the records of examples/own and a large one by refusals.c, where each block of memory is refused
 """
@@ -26,7 +26,7 @@ from common import ROOT, Stop, end, run
 from own_checks.large import record as large_record
 from texts.record import record_fault
 
-SMALL, CROSSED, TURNS, SECONDS = 12_000, 1_000, 64, 1200
+TURNS, SECONDS = 64, 1200
 BAD_LINE = 8
 # Each so many is read by the tools' reader too, and so many are judged at once.
 READ_EACH, AT_ONCE = 10, 20_000
@@ -97,15 +97,15 @@ def judge_small(program, records, told, turns):
     return kinds
 
 
-def small(program):
+def small(count, program):
     chosen = random.Random(11)
-    records = [made.make(chosen) for _ in range(SMALL)]
+    records = [made.make(chosen) for _ in range(int(count))]
     return shown(judge_small(program, records, [made.tell_counts(it, chosen) for it in records], TURNS))
 
 
-def crossed(program):
+def crossed(count, program):
     chosen = random.Random(12)
-    records = [made.crossed(chosen) for _ in range(CROSSED)]
+    records = [made.crossed(chosen) for _ in range(int(count))]
     told = [[record.count(x) for x in range(len(record.logs))] for record in records]
     return "; ".join(f"{shown(judge_small(program, records, told, turns))} with room for {turns}" for turns in (TURNS, 4, 0))
 
@@ -170,8 +170,9 @@ def lines_of_fault(own, kind, fault, seed):
     return len(steps)
 
 
-def planted(own):
-    found = [lines_of_fault(own, kind, fault, seed) for kind in made.FAULTS for fault in made.FAULTS[kind] for seed in range(made.SEEDS)]
+def planted(seeds, own):
+    faults = [(kind, fault, seed) for kind in made.FAULTS for fault in made.FAULTS[kind] for seed in range(int(seeds))]
+    found = [lines_of_fault(own, *fault) for fault in faults]
     return f"{len(found)} records with ten faults, at most {max(found)} lines of each"
 
 
