@@ -19,6 +19,9 @@ from datetime import datetime, timezone
 from pathlib import Path
 
 ROOT = Path(__file__).resolve().parent.parent.parent
+sys.path.append(str(ROOT))
+from view.streams import tell_time  # (of the folder at the top)
+
 TOOL = os.path.relpath(Path(sys.argv[0]).resolve(), ROOT)
 MC2 = ROOT / "crates/mc2/out/mc2"
 BENCH = ROOT / "crates/bench/out/bench"
@@ -39,6 +42,9 @@ HOW_TO_GET = {
     "dpkg-deb": "it is a program of Debian's package dpkg",
     "pkg-config": "on Debian `apt-get install pkgconf` installs it",
     "pandoc": "on Debian `apt-get install pandoc` installs it",
+    "hyperfine": "on Debian `apt-get install hyperfine` installs it",
+    "dot": "on Debian `apt-get install graphviz` installs it",
+    "gnuplot": "on Debian `apt-get install gnuplot-nox` installs it",
     "g++": "on Debian `apt-get install g++` installs it",
     "make": "on Debian `apt-get install make` installs it",
     "qemu-system-x86_64": "on Debian `apt-get install qemu-system-x86` installs it",
@@ -173,19 +179,12 @@ def machine():
     return f"{datetime.now(timezone.utc):%Y-%m-%d %H:%M} UTC, {os.cpu_count()} processors"
 
 
-def tell_time(name=TOOL):
-    """At a terminal a line now and then says how long this process has been running."""
-    if sys.stderr.isatty():
-        teller = [ROOT / "tools/lib/seconds_so_far", name, str(os.getpid())]
-        subprocess.Popen(teller, stdin=subprocess.DEVNULL, stdout=subprocess.DEVNULL)
-
-
 def end(main, tells=True):
     """Calls the tool's main, and ends the process with its status. At a terminal it tells the time meanwhile."""
     try:
         try:
             if tells:
-                tell_time()
+                tell_time(TOOL)
             status = main()
         except Stop as stop:
             print(f"{TOOL}: {stop}", file=sys.stderr)

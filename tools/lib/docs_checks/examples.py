@@ -2,23 +2,20 @@
 import re
 import shutil
 import subprocess
-from dataclasses import dataclass
+from typing import NamedTuple
 
 # Commands begin with one of these, with a path to a program here, or with a tool. Only the first can be run.
 RUN = re.compile(r"(?:cd|printf|echo|cat|(?:\./|\.\./|\.\./\.\./)mc2) ")
 COMMAND = re.compile(r"(?:rt|git|ulimit|\S*tools/\S+|\S*\.ci/run)(?: |$)|\.\.?/\S")
-WHOLE = re.compile(r"\[?`(?P<path>[\w./-]+)`(?:\]\([^()]*\))?(?P<part>, in part)?:")
-OF_A_TEST = re.compile(r"\(the test `(?P<test>\w+)` of `(?P<crate>\w+)`\):$")
+EXCERPT = re.compile(r"\[?`(?P<path>[\w./-]+)`(?:\]\([^()]*\))?(?P<part>, in part)?:")
 SECONDS = 60
 # What is copied for commands.
 FOLDERS = ["README.md", "docs", "examples", "rows"]
 
 
-@dataclass
-class Example:
-    """Commands with their block and line, and what they print with its line, or None."""
+class Example(NamedTuple):
+    """Commands with the line of the first, and what they print with its line, or None."""
 
-    block: object
     line: int
     commands: list
     output_line: int
@@ -46,25 +43,16 @@ def commands_in(lines):
 
 
 def examples_of(document):
-    """All commands. What they print is the rest of their code, or the next code near them."""
-    for place, block in enumerate(document.blocks):
-        lines = block.code() if block.kind == "code" else []
-        count = commands_in(lines)
-        if count and count < len(lines):
-            yield Example(block, block.first_line, lines[:count], block.first_line + count, lines[count:])
+    """All commands. What they print is the rest of their code; or else the next code, if no heading and at most one paragraph
+    stands between, and it is no command."""
+    for code, after in zip(document.code, [*document.code[1:], None]):
+        count = commands_in(code.lines)
+        if 0 < count < len(code.lines):
+            yield Example(code.line, code.lines[:count], code.line + count, code.lines[count:])
         elif count:
-            output = code_near(document.blocks[place + 1 : place + 3])
-            yield Example(block, block.first_line, lines, *((output.first_line, output.code()) if output else (0, None)))
-
-
-def code_near(blocks):
-    """The first of two blocks that is code, if no heading stands before it and it isn't itself a command."""
-    for block in blocks:
-        if block.kind == "heading":
-            return None
-        if block.kind == "code":
-            return None if commands_in(block.code()) else block
-    return None
+            between = document.text[code.end : after.start].strip() if after else ""
+            is_output = after and not re.search(r"\n\s*\n|^#", between) and not commands_in(after.lines)
+            yield Example(code.line, code.lines, *((after.line, after.lines) if is_output else (0, None)))
 
 
 class Room:
@@ -73,93 +61,58 @@ class Room:
     def __init__(self, path, top, program):
         self.path = path
         for name in FOLDERS:
-            if (top / name).is_dir():
-                shutil.copytree(top / name, path / name, ignore=shutil.ignore_patterns("out"))
-            else:
-                shutil.copy(top / name, path / name)
+            copy = shutil.copytree if (top / name).is_dir() else shutil.copy
+            copy(top / name, path / name, **({"ignore": shutil.ignore_patterns("out")} if (top / name).is_dir() else {}))
         (path / "mc2").symlink_to(program)
 
-    def run(self, commands):
-        """What the commands print, both streams together, and the status: by sh, in the top folder, without an input."""
-        how = {"stdin": subprocess.DEVNULL, "stdout": subprocess.PIPE, "stderr": subprocess.STDOUT}
-        ran = subprocess.run(["sh", "-c", "\n".join(commands)], cwd=self.path, timeout=SECONDS, check=False, **how)
-        return ran.stdout.decode(errors="replace"), ran.returncode
-
-
-def wrong_example(example, room):
-    """(line, what is wrong) for commands that print something else, or that fail and have no output to show."""
-    try:
-        printed, status = room.run(example.commands)
-    except subprocess.TimeoutExpired:
-        return example.line, f"the command hadn't ended after {SECONDS} seconds"
-    got = printed.splitlines()
-    if example.output is None:
-        last = got[-1] if got else "it printed nothing"
-        return (example.line, f"the command ends with status {status}: {last}") if status else None
-    place = first_difference(got, example.output)
-    if place is None:
-        return None
-    one, other = (repr(it[place]) if place < len(it) else "nothing more" for it in (got, example.output))
-    return example.output_line + place, f"the command in line {example.line} prints {one} in place of {other}"
+    def wrong(self, example):
+        """(line, what is wrong) for commands that print something else, or that fail and have no output to show. They are run by
+        sh in the top folder, without an input; both streams count."""
+        how = {"stdin": subprocess.DEVNULL, "stdout": subprocess.PIPE, "stderr": subprocess.STDOUT, "timeout": SECONDS}
+        try:
+            ran = subprocess.run(["sh", "-c", "\n".join(example.commands)], cwd=self.path, check=False, **how)
+        except subprocess.TimeoutExpired:
+            return example.line, f"the command hadn't ended after {SECONDS} seconds"
+        got = ran.stdout.decode(errors="replace").splitlines()
+        if example.output is None:
+            last = got[-1] if got else "it printed nothing"
+            return (example.line, f"the command ends with status {ran.returncode}: {last}") if ran.returncode else None
+        place = first_difference(got, example.output)
+        if place is None:
+            return None
+        one, other = (repr(it[place]) if place < len(it) else "nothing more" for it in (got, example.output))
+        return example.output_line + place, f"the command in line {example.line} prints {one} in place of {other}"
 
 
 def first_difference(lines, others):
-    """The place of the first line in which two lists of lines differ."""
-    if lines == others:
-        return None
-    least = min(len(lines), len(others))
-    return next((k for k in range(least) if lines[k] != others[k]), least)
-
-
-# Excerpts.
+    """The place of the first line in which two lists of lines differ, or None."""
+    pairs = enumerate(zip(lines, others))
+    return next((at for at, (one, other) in pairs if one != other), None if len(lines) == len(others) else min(len(lines), len(others)))
 
 
 def excerpts_of(document):
-    """Each code behind a paragraph that says of which file or test it is: (block, match)."""
-    for before, block in zip(document.blocks, document.blocks[1:]):
-        if before.kind == "paragraph" and block.kind == "code":
-            text = re.sub(r"\s+", " ", before.text)
-            found = WHOLE.fullmatch(text) or OF_A_TEST.search(text)
-            if found:
-                yield block, found
+    """(code, match) of each code after a paragraph that is just `PATH`: or `PATH`, in part:"""
+    for code in document.code:
+        before = re.split(r"\n\s*\n", document.prose[: code.start].rstrip())[-1]
+        found = EXCERPT.fullmatch(re.sub(r"\s+", " ", before.strip()))
+        if found:
+            yield code, found
 
 
-def wrong_excerpt(block, found, sources):
-    """(line, what is wrong) for code that isn't what its paragraph says."""
-    if "test" in found.groupdict():
-        return wrong_part(block, of_a_test(found["test"], found["crate"], sources), f"the test {found['test']}")
-    file = sources.top / found["path"]
+def wrong_excerpt(code, found, top):
+    """(line, what is wrong) for code that isn't the file to the letter, or lines that stand together in it with more or less
+    indent."""
+    file = top / found["path"]
     if not file.is_file():
-        return block.line, f"there is no {found['path']}"
+        return code.line, f"there is no {found['path']}"
     lines = file.read_text(encoding="utf-8").splitlines()
-    return wrong_part(block, lines, found["path"]) if found["part"] else wrong_whole(block, lines, found["path"])
-
-
-def of_a_test(name, crate, sources):
-    """The lines of the function of that name in the crate."""
-    for file in sources.files:
-        if file.startswith(f"crates/{crate}/src/") and file.endswith(".rt"):
-            text = (sources.top / file).read_text(encoding="utf-8")
-            found = re.search(rf"^fn {name}\b.*?^\}}", text, re.MULTILINE | re.DOTALL)
-            if found:
-                return found[0].splitlines()
-    return []
-
-
-def wrong_whole(block, lines, name):
-    place = first_difference(block.code(), lines)
-    return None if place is None else (block.first_line + place, f"this isn't line {place + 1} of {name}")
-
-
-def wrong_part(block, lines, name):
-    """The lines have to stand together in the file, all with the same indent more or less."""
-    code = without_indent(block.code())
-    for start in range(len(lines) - len(code) + 1):
-        if without_indent(lines[start : start + len(code)]) == code:
-            return None
-    known = {it.strip() for it in lines}
-    place = next((k for k, it in enumerate(code) if it.strip() not in known), 0)
-    return block.first_line + place, f"these lines don't stand together in {name}"
+    if not found["part"]:
+        place = first_difference(code.lines, lines)
+        return None if place is None else (code.line + place, f"this isn't line {place + 1} of {found['path']}")
+    part = without_indent(code.lines)
+    if any(without_indent(lines[it : it + len(part)]) == part for it in range(len(lines) - len(part) + 1)):
+        return None
+    return code.line, f"these lines don't stand together in {found['path']}"
 
 
 def without_indent(lines):

@@ -1,8 +1,7 @@
 """Scripts and schedules: where the first fault of such a text is."""
-from texts.calls import read_call, read_list
-from texts.line import MOST_LINE, Fault, Line, Rows, is_number, shown
+from view.texts.calls import read_call, read_list
+from view.texts.line import MOST_ENTRIES, MOST_LINE, Fault, Line, Rows, entry_lines, is_number, shown
 
-MOST_ENTRIES = 10_000
 MOST_STEPS = 100_000
 
 
@@ -21,18 +20,6 @@ def read_entry(line, cpus, kinds):
     name = line.take(f"an object of the settings: {names}", lambda it: it in kinds)
     read_list(line, lambda it: read_call(it, kinds[name]), lambda word: word is None, "the end of the line")
     return int(cpu)
-
-
-def entry_lines(text):
-    """The lines of scripts that are neither empty nor skipped. One that is skipped may have any length."""
-    rows = Rows(text)
-    while row := rows.seen():
-        while row.startswith(b"#") and len(row) > MOST_LINE and not row.endswith(b"\n"):
-            row = rows.row = b"#" + rows.file.readline(MOST_LINE)
-        if rows.take() is None:
-            rows.refuse_unended()
-        if row != b"\n" and not row.startswith(b"#"):
-            yield Line(rows.at, row[:-1])
 
 
 def scripts_fault(text, cpus, kinds):

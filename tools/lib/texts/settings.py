@@ -2,7 +2,7 @@
 import re
 from typing import NamedTuple
 
-from texts.line import Fault
+from view.texts.line import MOST_BYTES, Fault
 
 try:
     import tomllib
@@ -10,8 +10,8 @@ except ImportError:
     # (before Python 3.11: nobody can tell whether settings are right)
     tomllib = None
 
-# What the program's reader of TOML takes: of bytes, and of tables and arrays in each other.
-MOST_BYTES, MOST_DEEP = 65_536, 80
+# How many tables and arrays in each other the program's reader of TOML takes.
+MOST_DEEP = 80
 TOO_DEEP = "too many tables or arrays in each other", f"at most {MOST_DEEP} of them"
 KINDS = {"queue": ["threads"], "pool": ["pages", "quotas"], "console": ["bytes"], "sched": ["threads", "channels"]}
 MOST = {"cpus": 64, "events": 65_536, "threads": 1_024, "channels": 64, "pages": 4_096, "bytes": 4_096}

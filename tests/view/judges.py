@@ -1,0 +1,153 @@
+"""Judges of one's own, good and bad: what the script `view` makes of what they say, and of a disk that is full."""
+import os
+import re
+import shlex
+import subprocess
+import tempfile
+import xml.etree.ElementTree as xml
+from pathlib import Path
+
+from common import ROOT
+from view.texts.record import read_record
+from view import asked
+from view.model import Model
+from view.verdict import by_judge
+from models import Wrong, check_model, same
+
+OWN = ROOT / "examples/own/records"
+# What examples/own/own.c says of runq_lower_first (examples/own/README.md).
+WITNESS = """unsound: log ready event 6 step 1: wrong step
+a thread of a higher priority waits:
+  event 1: 0 put 3 1 = ok
+  event 2: 1 put 5 9 = ok
+  event 6: 1 take = thread 3
+right would have been: thread 2, or another that waits with priority 4
+"""
+MARKUP = "<script>document.title = 'taken'</script><img src=x onerror=alert(1)> \"quoted\" & 'more' ]]> </svg> \x00\x1b[31m"
+WRONG = WITNESS.partition("\n")[0]
+# What a judge does, and the cause of the refusal: a script of sh, which reads the record first.
+BAD = {
+    "echo sound; echo cpu 0 entry 1": "it is of another record",
+    "echo unsound: log nothere event 1 step 1: wrong step": "it is of another record",
+    "echo unsound: log ready event 99 step 1: wrong step": "it is of another record",
+    "echo unsound: log ready event 6 step 8: wrong step": "it is of another record",
+    "echo unsound: log ready event 1 step 1: wrongly stepped": "this names no fault: log ready event 1 step 1: wrongly stepped",
+    "echo unsound: cpu 7 entry 1: not its event": "it is of another record",
+    "echo right": "this is none: right",
+    "true": "this is none: ",
+    "echo sound; exit 3": "the judge ended with status 3",
+    "kill -9 $$": "the judge was ended by signal 9",
+    "exec yes": "the judge was ended by signal 25",
+}
+
+
+class Judge:
+    """A judge that is a script, with a file for it."""
+
+    def __init__(self, folder, program):
+        self.file, self.environment = Path(folder) / "judge", {**os.environ, "MC2": shlex.quote(str(program))}
+
+    def view(self, record, script, *words, **how):
+        self.file.write_text(f"cat > /dev/null\n{script}\n")
+        command = [ROOT / "view/view", *words, "--judge", f"sh '{self.file}'", record]
+        return subprocess.run(command, capture_output=True, env=self.environment, **how)
+
+    def said(self, record, said, *words):
+        """What view prints, if the judge said this."""
+        text = self.file.with_name("said")
+        text.write_text(said)
+        ran = subprocess.run([ROOT / "view/view", *words, "--said", text, record], capture_output=True, env=self.environment)
+        same(ran.returncode == 0 and not ran.stderr, f"status {ran.returncode}, {ran.stderr[:200]!r}")
+        return ran.stdout.decode()
+
+
+def check_witness(judge):
+    """Just the witness is drawn, in frames, and the judge's reasons."""
+    picture = judge.said(OWN / "runq_lower_first", WITNESS, "timeline", "--svg")
+    words = [it.text for it in xml.fromstring(picture).iter("{http://www.w3.org/2000/svg}text")]
+    events = [it for it in words if re.fullmatch(r"event \d+", it)]
+    same(events == ["event 1", "event 2", "event 6"], f"other events: {events}")
+    same(all(line.strip() in " ".join(words) for line in WITNESS.splitlines()), "a reason isn't there")
+    same((picture.count('class="kept"'), picture.count('class="frame"')) == (2, 1), "other frames")
+
+
+def check_markup(judge):
+    """A judge's words are text, and no more of them is shown than one reads."""
+    said = f"{WRONG}\n{MARKUP}\n" + "reason " * 200_000 + "\n" + "more\n" * 100_000
+    for words in ("timeline", "--svg"), ("timeline",):
+        drawn = judge.said(OWN / "runq_lower_first", said, *words)
+        same(len(drawn) < 120_000, f"it has {len(drawn):,} letters")
+        same("<script>document.title" not in drawn and "<img" not in drawn, "a judge's words are markup")
+        same("\x00" not in drawn and "\x1b" not in drawn, "letters that can't be seen are there")
+    words = "".join(xml.fromstring(judge.said(OWN / "runq_lower_first", said, "timeline", "--svg")).itertext())
+    same("<script>document.title = 'taken'</script>" in words and "more lines" in words, "a judge's words aren't shown")
+
+
+def check_refused(judge):
+    """What is no verdict of this record is refused by a line, and nothing is written."""
+    for script, cause in BAD.items():
+        ran = judge.view(OWN / "runq_lower_first", script, "timeline", timeout=30)
+        told = (ran.returncode, ran.stdout, ran.stderr.decode())
+        same(told == (2, b"", f"view: E16 verdict: {cause}\n"), f"{script}: {told}")
+
+
+def check_never(_):
+    """A judge that never ends is ended, with what it started."""
+    usual, asked.SECONDS = asked.SECONDS, 1
+    try:
+        by_judge(["sh", "-c", "sleep 1000 & sleep 1000"], b"")
+        raise Wrong("it answered")
+    except asked.Refused as refused:
+        same("had not ended after 1 seconds" in refused.line, refused.line)
+    finally:
+        asked.SECONDS = usual
+    left = subprocess.run(["pgrep", "-f", "^sleep 1000$"], capture_output=True, check=False).stdout
+    same(not left, f"processes are left: {left}")
+
+
+def check_missing(judge):
+    ran = subprocess.run([ROOT / "view/view", "timeline", "--judge", "./not_there", OWN / "runq_right"], capture_output=True)
+    same(b"E16 verdict: ./not_there can't be started" in ran.stderr and ran.returncode == 2, f"{ran.stderr!r}")
+
+
+def check_orders(judge):
+    """A judge's order and cycle are drawn, and its trace; without a judge they are the same."""
+    for name, status in ("runq_right", 0), ("two_cycle", 1):
+        record = OWN / name
+        alone = Model(read_record(record.read_bytes()), None)
+        lines = "\n".join(f"cpu {cpu} entry {entry}" for cpu, entry in alone.order or alone.verdict.cycle)
+        said = "sound\n" + ("" if alone.order else "cycle:\n") + f"{lines}\n"
+        judged = judge.said(record, said, "timeline", "--svg")
+        same("replies not judged" not in judged, "a judge's verdict isn't said to be judged")
+        script = f"[ $1 = audit ] && echo sound && exit\ntail -n +2 {judge.file.with_name('said')}"
+        same(judge.view(record, script, "timeline", "--svg").stdout.decode() == judged, "--judge and --said differ")
+        ran = judge.view(record, script, "trace")
+        is_so = ran.returncode == status and bool(ran.stdout) == (status == 0)
+        same(is_so, f"the trace has status {ran.returncode}: {ran.stderr!r}")
+
+
+def check_own(_):
+    """Each record of objects of one's own is drawn as it is, without a judge."""
+    for file in sorted(OWN.iterdir()):
+        if file.name not in ("no_model_cut", "no_refuses_line"):
+            check_model(Model(read_record(file.read_bytes()), None))
+
+
+def check_full(judge):
+    """A disk that is full."""
+    for words in ["timeline"], ["timeline", "--svg"], ["trace"]:
+        with open("/dev/full", "wb") as full:
+            ran = subprocess.run([ROOT / "view/view", *words, OWN / "runq_right"], stdout=full, stderr=subprocess.PIPE)
+        same((ran.returncode, ran.stderr) == (3, b"view: E13 write failed\n"), f"{words}: {ran.returncode}, {ran.stderr!r}")
+
+
+CHECKS = {"a witness": check_witness, "markup": check_markup, "what is no verdict": check_refused,
+          "a judge that never ends": check_never, "a judge that isn't there": check_missing,
+          "a judge's order and cycle": check_orders, "records 3": check_own, "a full disk": check_full}
+
+
+def check_judges(checks):
+    with tempfile.TemporaryDirectory(prefix="views-") as folder:
+        judge = Judge(folder, checks.program)
+        for name, check in CHECKS.items():
+            checks.tried(name, check, judge)

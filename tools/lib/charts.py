@@ -1,0 +1,75 @@
+"""The charts of docs/SPEED.md, drawn by gnuplot of the figures in docs/figures."""
+from textwrap import wrap
+
+from common import ROOT, run
+from figures import read_figures
+
+FIGURES = ROOT / "docs/figures"
+# Each lock with its colour and the kind of its line.
+LOCKS = {
+    "mutex": ("#24292f", 1), "name-ticket": ("#0969da", 1), "name-mcs": ("#cf222e", 1), "steps-ticket": ("#0969da", 3),
+    "steps-mcs": ("#cf222e", 3), "ck-ticket": ("#1a7f37", 1), "ck-mcs": ("#bf8700", 1),
+}
+JUDGES = {"proved: mc2, libjudge.a": "#0969da", "second judge": "#8c959f"}
+STYLE = """set terminal svg size {} background "white" font "sans-serif,13"
+set border 3 lc rgb "#57606a"; set tics nomirror out; set grid ytics lc rgb "#d0d7de" lw 0.7
+"""
+
+
+def drawn(size, lines):
+    return run(["gnuplot"], input=STYLE.format(size) + "\n".join(lines), text=True).stdout
+
+
+def block(name, rows):
+    """Data of gnuplot under a name."""
+    return [f"{name} << END", *rows, "END"]
+
+
+def panel(log, title):
+    """The nanoseconds of a call by threads, with a log of that kind: a line through the least, and thin bars up to the middle."""
+    known, lines, plots = read_figures(FIGURES / "cells_speed.csv"), [], []
+    for at, (kind, (colour, dash)) in enumerate(LOCKS.items()):
+        rows = []
+        for count in 1, 2, 4, 8:
+            case = f"{log} {count} thread{'s' * (count > 1)}"
+            took = [known.get((case, kind, it), "NaN") for it in ("least ns", "middle ns")]
+            rows.append(f"{count * 1.035 ** (at - 3)} {took[0]} {took[1]}")
+        name = f"${log.partition(' ')[0]}_{at}"
+        lines += block(name, rows)
+        plots.append(f'{name} using 1:2:(0):($3-$2) with vectors nohead lc rgb "{colour}" lw 0.6 notitle')
+        plots.append(f'{name} using 1:2 with linespoints lc rgb "{colour}" dt {dash} lw 1.8 pt 7 ps 0.5 title "{kind}"')
+    return [*lines, f'set title "{title}"', f"plot {', '.join(plots)}"]
+
+
+def calls_chart():
+    head = [
+        "set multiplot layout 1,2 margins 0.095,0.845,0.18,0.9 spacing 0.05", "set logscale xy",
+        "set xrange [0.85:9.6]; set yrange [15:800]", "set xtics (1,2,4,8); set ytics (20,50,100,200,500)",
+        'set xlabel "threads that call one queue"; set ylabel "nanoseconds a call"', "unset key",
+    ]
+    legend = ["unset ylabel; set key at screen 0.99,0.85 right samplen 2 spacing 1.2"]
+    return drawn("900,400", [*head, *panel("no log", "without a log"), *legend, *panel("kept log", "with a log kept in memory")])
+
+
+def label(record, size):
+    return "\\n".join([*wrap(record, 13), f"{size} MB"])
+
+
+def verdicts():
+    """(what, command, milliseconds a megabyte of the proved judge, of the second one) of each record."""
+    judges, own = read_figures(FIGURES / "judges.csv"), read_figures(FIGURES / "own.csv")
+    for case in dict.fromkeys(it for it, *_ in judges):
+        size, record = case.split(" MB ")
+        yield label(record, size), *(judges[case, it, "least ms"] / float(size) for it in ("mc2", "second judge"))
+    for case in dict.fromkeys(it.rpartition(" ")[0] for it, *_ in own):
+        size, record = case.split(" MB ")
+        took = [[own[f"{case} {part}", it, "least ms"] for part in ("ask", "audit", "read")] for it in ("libjudge.a", "second judge")]
+        yield label(f"{record} own objects", size), *((ask + audit - read) / float(size) for ask, audit, read in took)
+
+
+def verdicts_chart():
+    rows = [f'"{what}" {one:.2f} {other:.2f}' for what, one, other in verdicts()]
+    plots = [f'$verdicts using {at}:xtic(1) lc rgb "{colour}" title "{name}"' for at, (name, colour) in enumerate(JUDGES.items(), 2)]
+    head = ['set style data histogram; set style histogram clustered gap 1; set style fill solid', "set yrange [0:*]",
+            'set ylabel "milliseconds of a processor a megabyte"', "set key top left; set xtics font ',11'; set bmargin 6"]
+    return drawn("900,400", [*block("$verdicts", rows), *head, f"plot {', '.join(plots)}"])

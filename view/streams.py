@@ -1,0 +1,35 @@
+"""The standard streams, each of which may be closed or full. A tool says a line on standard error by `say`, which never fails."""
+import itertools
+import os
+import threading
+import time
+
+
+def open_streams():
+    """Opens each standard stream that is closed, so that no file gets its number. To read or to write there fails as before, and
+    what is said on standard error is lost."""
+    for number, mode in enumerate((os.O_WRONLY, os.O_RDONLY, os.O_WRONLY)):
+        try:
+            os.fstat(number)
+        except OSError:
+            os.set_inheritable(os.open(os.devnull, mode), True)
+
+
+def say(line):
+    """Writes the line to standard error, as far as that takes it."""
+    try:
+        os.write(2, f"{line}\n".encode(errors="backslashreplace"))
+    except OSError:
+        pass
+
+
+def tell_time(name):
+    """If standard error is a terminal, a line says after 2 seconds how long this process has been running, after 4, 8 and so on."""
+    def tell():
+        begun = time.monotonic()
+        for seconds in (2 << doubled for doubled in itertools.count()):
+            time.sleep(max(0, begun + seconds - time.monotonic()))
+            say(f"{name}: {seconds} seconds so far")
+
+    if os.isatty(2):
+        threading.Thread(target=tell, daemon=True).start()
