@@ -19,7 +19,7 @@
 
    The functions keep nothing between two calls, so several threads may call them at once. A call takes at most 6,144 bytes of
    stack, and of memory at one time at most 4 bytes for each byte of the text, and 300,000 more. All of it is given back before
-   the call returns. tools/check/metal and tools/check/judge_c hold the calls to these figures, which aren't proved. */
+   the call returns. tools/check/metal and tests/c/judge hold the calls to these figures, which aren't proved. */
 #ifndef MC2_JUDGE_H
 #define MC2_JUDGE_H
 
@@ -85,7 +85,7 @@ void mc2_merge(const uint8_t *text, size_t length, struct mc2_turn *room, size_t
 }
 #endif
 
-/* What crosses lies as the library has it. tools/check/judge_c compares its sources with this header, name by name. */
+/* What crosses lies as the library has it. tests/c/judge compares its sources with this header, name by name. */
 #ifdef __cplusplus
 #define MC2_HAS(type, field, place) static_assert(offsetof(struct type, field) == (place), "another layout")
 #define MC2_HAS_SIZE(type, size) static_assert(sizeof(struct type) == (size), "another size")

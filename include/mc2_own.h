@@ -29,7 +29,7 @@
    - Each size is right, 0 too, if what it counts has at most PTRDIFF_MAX bytes. `at` may be any number.
 
    The functions keep nothing between two calls, so several threads may call them at once. mc2_own_audit was seen to take at
-   most 12,288 bytes of stack, mc2_own_merge 12,288, mc2_own_line 6,144 and mc2_own_kernel 7,168, as tools/check/own checks.
+   most 12,288 bytes of stack, mc2_own_merge 12,288, mc2_own_line 6,144 and mc2_own_kernel 7,168, as tests/c/judge checks.
    Beside the text the first two took less memory than the text has bytes, where the text was large. None of this is proved. */
 #ifndef MC2_OWN_H
 #define MC2_OWN_H
@@ -281,7 +281,7 @@ static inline void mc2_own_judge(const uint8_t *text, size_t length, const struc
     }
 }
 
-/* What crosses lies as the library has it. tools/check/own compares its sources with this header, name by name. */
+/* What crosses lies as the library has it. tests/c/judge compares its sources with this header, name by name. */
 #ifdef __cplusplus
 #define MC2_HAS(type, field, place) static_assert(offsetof(struct type, field) == (place), "another layout")
 #define MC2_HAS_SIZE(type, size) static_assert(sizeof(struct type) == (size), "another size")

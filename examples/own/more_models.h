@@ -1,4 +1,4 @@
-/* Two more models, of a buffer and of references, for own.c: -DMC2_MODELS='"more_models.h"'. tools/check/own plants faults in
+/* Two more models, of a buffer and of references, for own.c: -DMC2_MODELS='"more_models.h"'. tests/c/judge plants faults in
    such objects. For C11 and C++17; nothing is proved.
 
    buffer ITEMS                     refs SLOTS: who calls, C, is a number of the call

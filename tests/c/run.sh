@@ -13,7 +13,18 @@
 #   merge=PATTERN   the same of what `$MC2 merge` complains of
 #   cpus=N events=N entries=N noroom=N each=N
 #                   the record has so many; each: entries of each CPU; noroom=some: at least one
+#   most=N          the record has 1 to N entries
+#   times=N         as the first word: all of it is done so many times
 set -u
+case $1 in times=*)
+    TIMES=${1#times=}
+    shift
+    while [ "$TIMES" -gt 0 ]; do
+        "$0" "$@" || exit
+        TIMES=$((TIMES - 1))
+    done
+    exit 0 ;;
+esac
 FOLDER=$(mktemp -d) || exit 1
 trap 'rm -rf "$FOLDER"' EXIT
 trap 'exit 1' HUP INT TERM
@@ -55,8 +66,8 @@ printf %s "$ALL" | while IFS= read -r WANTED; do
         [ "$ERRORS" = "$VALUE" ] || fail "the errors are" $ERRORS "and not $VALUE" ;;
     says=*) [ "$(cat "$RECORD")" = "$VALUE" ] || fail "says $(head -c 500 "$RECORD") and not $VALUE" ;;
     audit=*)
-        SAID=$("$MC2" audit <"$RECORD" 2>&1)
-        printf '%s\n' "$SAID" | grep -Exq -e "$VALUE" || fail "audit says $SAID and not $VALUE"
+        [ -f "$FOLDER/audit" ] || "$MC2" audit <"$RECORD" >"$FOLDER/audit" 2>&1
+        grep -Exq -e "$VALUE" "$FOLDER/audit" || fail "audit says $(cat "$FOLDER/audit") and not $VALUE"
         if [ "$VALUE" = sound ]; then
             MERGED=$("$MC2" merge <"$RECORD" | wc -l)
             counts | grep -qx "entries=$MERGED" || fail "merge prints $MERGED lines, and the record has $(counts)"
@@ -64,6 +75,9 @@ printf %s "$ALL" | while IFS= read -r WANTED; do
     merge=*)
         SAID=$("$MC2" merge <"$RECORD" 2>&1 >/dev/null)
         printf '%s\n' "$SAID" | grep -Exq -e "$VALUE" || fail "merge says $SAID and not $VALUE" ;;
+    most=*)
+        ENTRIES=$(grep -c ' | ' "$RECORD")
+        [ "$ENTRIES" -ge 1 ] && [ "$ENTRIES" -le "$VALUE" ] || fail "$ENTRIES entries and not 1 to $VALUE" ;;
     *) counts | grep -qx "$WANTED" || fail "not $WANTED, but" $(counts) ;;
     esac
 done

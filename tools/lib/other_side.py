@@ -1,18 +1,18 @@
-"""Says in C what the sources of a static library have of what crosses: its structs, numbers and functions.
+"""Says in C what the sources of a static library have that crosses: its structs, numbers and functions.
 
-The text that comes of it includes the library's header and compiles only if both sides are the same: each field has the same
-type and the same place, each number the same value, each function the same arguments.
+The text that comes of it includes the library's header, and compiles only if both sides are the same: each field has the same type
+and the same place, each number the same value, each function the same arguments.
 """
 import re
 
 from common import Stop
 
 STRUCT = re.compile(r"#\[repr\(C\)\]\npub struct (\w+) \{\n(.*?)\n\}", re.DOTALL)
-FIELD = re.compile(r"^    pub (\w+): (\w+),$", re.MULTILINE)
-NUMBER = re.compile(r"^pub const (\w+): u32 = (\d+);$", re.MULTILINE)
+FIELD = re.compile(r"^    pub (\w+): (?:\[(\w+); (\w+)\]|(\w+)),$", re.MULTILINE)
+NUMBER = re.compile(r"^pub const (\w+): \w+ = (\d+);$", re.MULTILINE)
 EXPORT = re.compile(r'^pub extern "C" fn (\w+)\((.*?)\)(?: -> (\w+))?\s', re.MULTILINE | re.DOTALL)
 # A `Global` takes nothing.
-NUMBERS = {"u8": "uint8_t", "u32": "uint32_t", "u64": "uint64_t", "usize": "size_t"}
+NUMBERS = {"u8": "uint8_t", "u16": "uint16_t", "u32": "uint32_t", "u64": "uint64_t", "usize": "size_t"}
 
 
 def type_of(word, names):
@@ -40,23 +40,24 @@ def arguments(parameter, names):
     return [first, f"size_t {name}_count"] if is_slice else [first]
 
 
-def structs(source, names):
-    """Each struct that crosses, once more, and that it is the header's."""
+def structs(source, names, numbers):
+    """Each struct that crosses, once more, and that it is the header's. A length may be the name of a number."""
     lines = []
     for name, body in STRUCT.findall(source):
         fields = FIELD.findall(body)
-        if name not in names or len(fields) != len(body.splitlines()):
+        if name not in names or len(fields) != len([it for it in body.splitlines() if not it.strip().startswith("//")]):
             raise Stop(f"struct {name} isn't as it was when this was written")
-        lines.append(f"struct of_{name} {{ {' '.join(f'{type_of(kind, names)} {field};' for field, kind in fields)} }};")
-        lines.append(f"IS_SO(sizeof(struct of_{name}) == sizeof(struct {names[name]}));")
-        for field, kind in fields:
-            lines.append(f"IS_SO(offsetof(struct of_{name}, {field}) == offsetof(struct {names[name]}, {field}));")
-            lines.append(f"IS_SO(_Generic(((struct {names[name]} *)0)->{field}, {type_of(kind, names)}: 1, default: 0));")
+        lines.append(f"struct of_{name} {{")
+        for field, item, length, plain in fields:
+            lines.append(f"{type_of(item or plain, names)} {field}{f'[{numbers.get(length, length)}]' if length else ''};")
+        mine, theirs = f"struct of_{name}", f"struct {names[name]}"
+        lines.append(f"}}; IS_SO(sizeof({mine}) == sizeof({theirs}));")
+        for field, item, length, plain in fields:
+            one = f"&(({theirs} *)0)->{field}{'[0]' if length else ''}"
+            lines.append(f"IS_SO(offsetof({mine}, {field}) == offsetof({theirs}, {field}));")
+            lines.append(f"IS_SO(sizeof((({mine} *)0)->{field}) == sizeof((({theirs} *)0)->{field}));")
+            lines.append(f"IS_SO(_Generic({one}, {type_of(item or plain, names)} *: 1, default: 0));")
     return lines
-
-
-def numbers(source):
-    return [f"IS_SO(MC2_{name} == {value});" for name, value in NUMBER.findall(source)]
 
 
 def functions(source, names):
@@ -68,8 +69,11 @@ def functions(source, names):
     return lines
 
 
-def text_of(header, sources, names):
-    """The text in C. Each struct of the sources has the name of C that `names` tells."""
-    source = "\n".join(sources)
-    lines = [f'#include "{header}"', "#include <stddef.h>", '#define IS_SO(what) _Static_assert(what, #what)']
-    return "\n".join([*lines, *structs(source, names), *numbers(source), *functions(source, names), ""])
+def text_of(header, source, names, spelled):
+    """The text in C. `names` has what C calls the structs, and `spelled` what it calls the numbers of the source."""
+    numbers = dict(NUMBER.findall(source))
+    if missing := [it for it in spelled if it not in numbers]:
+        raise Stop(f"the sources have no {', '.join(missing)}")
+    lines = [f'#include "{header}"', "#include <stddef.h>", "#define IS_SO(what) _Static_assert(what, #what)"]
+    same = [f"IS_SO({there} == {numbers[here]});" for here, there in spelled.items()]
+    return "\n".join([*lines, *structs(source, names, numbers), *same, *functions(source, names), ""])

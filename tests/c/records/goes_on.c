@@ -9,7 +9,7 @@
 #include <stdlib.h>
 #include <string.h>
 
-#include "../../../include/mc2_record.h"
+#include "mc2_record.h"
 
 enum { CPUS = 4, PAGES = 6, EVENTS = 500 };
 

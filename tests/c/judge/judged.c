@@ -1,6 +1,6 @@
 /* use: judged < CASES
 
-   Judges texts by the three functions of mc2_own.h, for tools/check/own, and prints what is told. Each case is, as numbers of
+   Judges texts by the three functions of mc2_own.h, for CTest, and prints what is told. Each case is, as numbers of
    64 bits, the length of a text, how many counts there are and how many places the room has; then the counts, and the text. For
    each case a line is printed: the kind and the numbers that mc2_own_audit tells, those that mc2_own_merge tells, the places of
    the room that it wrote, and a digest of what mc2_own_line tells of each line, at its beginning and one byte further on.

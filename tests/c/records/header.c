@@ -11,18 +11,9 @@ static bool is_memory_refused;
 static void *malloc_or_not(size_t size) { return is_memory_refused ? NULL : malloc(size); }
 
 #define malloc malloc_or_not
-#include "../../../include/mc2_record.h"
+#include "mc2_record.h"
 #undef malloc
-
-#define CHECK(what) check(what, #what, __LINE__)
-#define GIVES(call, result) CHECK((call) == (result))
-
-static void check(bool is_so, const char *what, int line) {
-    if (!is_so) {
-        fprintf(stderr, "header.c:%d: not so: %s\n", line, what);
-        exit(1);
-    }
-}
+#include "check.h"
 
 static struct mc2_object object_of(const char *name, uint32_t kind, uint32_t events, uint32_t size, uint32_t channels) {
     struct mc2_object object = {name, kind, MC2_MCS, events, size, channels, NULL};
@@ -119,49 +110,21 @@ static void check_memory(void) {
     check_unopened(&recorder);
 }
 
-// A text as pieces of it come, of which so many more are taken.
-struct pieces {
-    char text[4096];
-    size_t length, left;
-};
-
-static bool take_piece(void *to, const char *text, size_t length) {
-    struct pieces *pieces = (struct pieces *)to;
-    CHECK(length > 0 && length < sizeof pieces->text - pieces->length);
-    if (pieces->left == 0)
-        return false;
-    pieces->left--;
-    memcpy(pieces->text + pieces->length, text, length);
-    pieces->length += length;
-    return true;
+static int write_record(const void *recorder, mc2_take take, void *to) {
+    return mc2_write_to((const struct mc2_recorder *)recorder, take, to);
 }
 
-// What is printed by pieces is that text, and where one isn't taken a beginning of it, and none is given behind it.
-static void check_pieces(const struct mc2_recorder *recorder, const char *text) {
-    struct pieces whole = {{0}, 0, SIZE_MAX};
-    GIVES(mc2_write_to(recorder, take_piece, &whole), MC2_DONE);
-    CHECK(whole.length == strlen(text) && memcmp(whole.text, text, whole.length) == 0);
-    size_t count = SIZE_MAX - whole.left;
-    for (size_t taken = 0; taken < count; taken++) {
-        struct pieces part = {{0}, 0, taken};
-        GIVES(mc2_write_to(recorder, take_piece, &part), MC2_WRITE_FAILED);
-        CHECK(part.left == 0 && part.length < whole.length && memcmp(part.text, text, part.length) == 0);
-    }
-}
-
-// The text of the record. It stays until the second call from here.
+// Returns the text of the record, which has to be the same in a file. It stays until the second call from here.
 static const char *text_of(const struct mc2_recorder *recorder) {
-    static char texts[2][4096];
-    static unsigned turn;
+    static char in_file[sizeof((struct text *)0)->bytes];
+    const char *text = text_by(write_record, recorder);
     FILE *file = tmpfile();
     CHECK(file != NULL);
     GIVES(mc2_write(recorder, file), MC2_DONE);
     rewind(file);
-    char *text = texts[turn++ % 2];
-    size_t length = fread(text, 1, sizeof texts[0] - 1, file);
+    size_t length = fread(in_file, 1, sizeof in_file, file);
     fclose(file);
-    text[length] = 0;
-    check_pieces(recorder, text);
+    CHECK(length == strlen(text) && memcmp(in_file, text, length) == 0);
     return text;
 }
 
@@ -367,7 +330,7 @@ static void check_mixed(void) {
     static struct mc2_recorder recorder;
     struct mc2_call call = mc2_ask(MC2_LEN, 0, 0);
     struct mc2_step step = mc2_answer(call, MC2_COUNT, 0), no_reply = mc2_answer(call, MC2_REPLY_WORDS, 0);
-    struct pieces pieces = {{0}, 0, SIZE_MAX};
+    static struct text pieces = {{0}, 0, SIZE_MAX};
     open_small(&recorder, 1);
     GIVES(mc2_room(&recorder, 0, 0), MC2_DONE);
     GIVES(mc2_room(&recorder, 0, 1), MC2_DONE);
@@ -390,7 +353,7 @@ static void check_unmixed(void) {
     static struct mc2_recorder recorder;
     struct mc2_call call = mc2_ask(MC2_LEN, 0, 0);
     struct mc2_step step = mc2_answer(call, MC2_COUNT, 0);
-    struct pieces pieces = {{0}, 0, SIZE_MAX};
+    static struct text pieces = {{0}, 0, SIZE_MAX};
     open_small(&recorder, 2);
     GIVES(mc2_room(&recorder, 0, 0), MC2_DONE);
     GIVES(mc2_room(&recorder, 0, 1), MC2_DONE);

@@ -1,6 +1,6 @@
 // What a note costs by include/mc2_note.h, and an event with its entry by include/mc2_record.h, on one thread, one call each.
 //
-//     gcc -std=c11 -O2 -o /tmp/note_cost tools/lib/foreign_checks/note_cost.c && /tmp/note_cost
+//     gcc -std=c11 -O2 -Iinclude -o /tmp/note_cost tests/c/records/note_cost.c && /tmp/note_cost
 //
 // The two are noted in turn, 10,000 times each, in memory that was touched before, ROUNDS times. Of each the median of its rounds
 // is printed, and the least.
@@ -8,7 +8,7 @@
 #include <stdlib.h>
 #include <time.h>
 
-#include "../../../include/mc2_note.h"
+#include "mc2_note.h"
 
 enum { CALLS = MC2_MOST_ENTRIES, ROUNDS = 101, PIECES = 2 * CALLS + 8 };
 

@@ -1,20 +1,22 @@
 /* use: refusals each|none FILE..
 
-   Judges the record of each file by libjudge.a with a heap of its own. With `each`, each block is refused in turn: then memory is
-   told to be out, the room is as it was, and nothing is lost. And a merge is given too little room, and just enough. Prints for
-   each file the bytes of its text, the blocks that were taken, and the most bytes that were taken at one time.
+   Judges the record of each file by libjudge.a with a heap of its own; a record 3 with the counts of the models of examples/own.
+   With `each`, each block is refused in turn: then memory is told to be out, the room is as it was, and nothing is lost. And a
+   merge is given too little room, and just enough. A record of the other forms takes no more memory than include/mc2_judge.h
+   says. Prints how many files and blocks there were, and of the largest text its bytes and the most that were taken at one time.
 
    Status: 0; 1 at the first answer that can't be, which a line on standard error names; 2 for wrong words; 3 if a file can't be
    read, or the system refuses memory. */
+#include "../../../examples/own/models.h"
 #include "mc2_judge.h"
-#include <stdbool.h>
-#include <stdio.h>
-#include <stdlib.h>
+#include "text.h"
 #include <string.h>
 
 enum { MOST_TURNS = 640000, BEHIND = 3, UNTOUCHED = 0xa5 };
+/* The most bytes that a call takes for each byte of the text, and how many more. */
+enum { MOST_OF_A_BYTE = 4, MOST_MORE = 300000 };
 
-/* ---- the heap, which refuses one block */
+/* ---- The heap, which refuses one block */
 
 struct taken {
     bool is_there;
@@ -33,11 +35,6 @@ static struct {
 struct taken rattle_alloc(size_t size, size_t align);
 struct taken rattle_realloc(void *old, size_t kept, size_t size, size_t align);
 void rattle_dealloc(void *at);
-
-static void fail(const char *what) {
-    perror(what);
-    exit(3);
-}
 
 struct taken rattle_alloc(size_t size, size_t align) {
     static size_t nowhere;
@@ -70,13 +67,10 @@ struct taken rattle_realloc(void *old, size_t kept, size_t size, size_t align) {
     return taken;
 }
 
-/* ---- the calls */
+/* ---- The calls */
 
-struct text {
-    const char *file;
-    uint8_t *bytes;
-    size_t length;
-};
+static struct mc2_own_asked asked;
+static bool is_own;
 
 /* A call, with so many places of room and some behind them, and what it was told. */
 struct call {
@@ -86,20 +80,17 @@ struct call {
     struct mc2_told told;
 };
 
-static const struct text *judged;
-
 #define CHECK(what) check(what, #what, __LINE__)
 
 static void check(bool is_so, const char *what, int line) {
     if (!is_so) {
-        fprintf(stderr, "refusals.c:%d: not so of %s: %s\n", line, judged->file, what);
+        fprintf(stderr, "refusals.c:%d: not so of %s: %s\n", line, text.name, what);
         exit(1);
     }
 }
 
 static void open_call(struct call *call, bool merges, size_t turns) {
-    size_t bytes = (turns + BEHIND) * sizeof *call->room;
-    *call = (struct call){merges, turns, malloc(bytes), {0, 0, 0, 0}};
+    *call = (struct call){merges, turns, malloc((turns + BEHIND) * sizeof *call->room), {0, 0, 0, 0}};
     if (!call->room)
         fail("memory");
 }
@@ -110,10 +101,14 @@ static void judge(struct call *call, size_t refused) {
     memset(&call->told, UNTOUCHED, sizeof call->told);
     heap.asked = 0;
     heap.refused = refused;
-    if (call->merges)
-        mc2_merge(judged->bytes, judged->length, call->room, call->turns, &call->told);
+    if (is_own && call->merges)
+        mc2_own_merge(text.bytes, text.length, asked.right, asked.objects, call->room, call->turns, &call->told);
+    else if (is_own)
+        mc2_own_audit(text.bytes, text.length, asked.right, asked.objects, &call->told);
+    else if (call->merges)
+        mc2_merge(text.bytes, text.length, call->room, call->turns, &call->told);
     else
-        mc2_audit(judged->bytes, judged->length, &call->told);
+        mc2_audit(text.bytes, text.length, &call->told);
     CHECK(heap.blocks == 0 && heap.bytes == 0);
 }
 
@@ -130,8 +125,6 @@ static bool is_told(const struct mc2_told *told, uint32_t kind, uint64_t first) 
 }
 
 static bool has_turns(const struct mc2_told *told) { return told->kind == MC2_SOUND || told->kind == MC2_CYCLE; }
-
-/* ---- the checks */
 
 /* Refuses each block of a call in turn, or none, and returns how many there are. */
 static size_t check_memory(bool merges, bool refuses) {
@@ -169,44 +162,42 @@ static void check_room(void) {
     struct call whole;
     open_call(&whole, true, MOST_TURNS);
     judge(&whole, 0);
-    if (has_turns(&whole.told)) {
-        size_t needed = whole.told.first;
-        for (size_t turns = 0; turns <= needed + 1; turns += turns < 3 || turns + 3 > needed ? 1 : needed - 2 - turns)
+    size_t needed = whole.told.first;
+    for (size_t turns = 0; has_turns(&whole.told) && turns <= needed + 1; turns++)
+        if (turns < 3 || turns + 3 > needed)
             check_turns(&whole, turns);
-    }
     free(whole.room);
 }
 
-static void read_text(struct text *text, const char *name) {
-    FILE *file = fopen(name, "rb");
-    if (!file || fseek(file, 0, SEEK_END) != 0)
-        fail(name);
-    long length = ftell(file);
-    if (length < 0)
-        fail(name);
-    rewind(file);
-    *text = (struct text){name, malloc(length > 0 ? (size_t)length : 1), (size_t)length};
-    if (!text->bytes || fread(text->bytes, 1, text->length, file) != text->length)
-        fail(name);
-    fclose(file);
+/* Checks one file, and returns how many blocks its calls took. */
+static size_t check_file(const char *name, bool refuses) {
+    static const char head[] = "record 3\n";
+    read_text(name);
+    is_own = text.length >= strlen(head) && memcmp(text.bytes, head, strlen(head)) == 0;
+    heap.refused = 0;
+    if (is_own)
+        mc2_own_ask_all(text.bytes, text.length, models, MODELS, &asked);
+    heap.most = 0;
+    size_t blocks = check_memory(false, refuses) + check_memory(true, refuses);
+    if (refuses)
+        check_room();
+    CHECK(is_own || heap.most <= MOST_OF_A_BYTE * text.length + MOST_MORE);
+    free(text.bytes);
+    return blocks;
 }
 
 int main(int count, char **words) {
     bool refuses = count > 1 && strcmp(words[1], "each") == 0;
+    size_t blocks = 0, largest = 0, most = 0;
     if (count < 3 || (!refuses && strcmp(words[1], "none") != 0)) {
         fputs("use: refusals each|none FILE..\n", stderr);
         return 2;
     }
     for (int at = 2; at < count; at++) {
-        struct text text;
-        read_text(&text, words[at]);
-        judged = &text;
-        heap.most = 0;
-        size_t blocks = check_memory(false, refuses) + check_memory(true, refuses);
-        if (refuses)
-            check_room();
-        printf("%zu %zu %zu\n", text.length, blocks, heap.most);
-        free(text.bytes);
+        blocks += check_file(words[at], refuses);
+        most = text.length >= largest ? heap.most : most;
+        largest = text.length >= largest ? text.length : largest;
     }
+    printf("%d texts, %zu blocks; of the largest, %zu bytes take %zu\n", count - 2, blocks, largest, most);
     return 0;
 }

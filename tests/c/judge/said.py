@@ -1,0 +1,46 @@
+#!/usr/bin/env python3
+"""use: said.py OWN [OTHER]
+
+Judges the records of examples/own/records by own.c. What `merge` prints has to be the file `said`, and `audit` has to print the same
+verdicts; with OTHER, own.cpp has to print those.
+"""
+import re
+import sys
+from pathlib import Path
+
+sys.dont_write_bytecode = True
+sys.path.insert(0, str(Path(__file__).resolve().parents[3] / "tools/lib"))
+from common import ROOT, Stop, end, run
+
+OWN = ROOT / "examples/own"
+VERDICT = re.compile(r"^(== .*|sound|unsound: .*)$", re.MULTILINE)
+
+
+def said_of(program, *words):
+    """What the program prints of each record, below its name."""
+    parts = []
+    for record in sorted((OWN / "records").iterdir()):
+        ran = run([program, *words, record], wanted=(0, 1, 2), timeout=60)
+        parts.append(f"== {record.name}\n{(ran.stdout + ran.stderr).decode()}")
+    return "".join(parts)
+
+
+def main():
+    own, *other = sys.argv[1:]
+    wanted, audits = (OWN / "said").read_text(), VERDICT.findall(said_of(own, "audit"))
+    if other:
+        if VERDICT.findall(said_of(*other)) != audits:
+            raise Stop("C and C++ have other verdicts")
+    else:
+        said = said_of(own, "merge")
+        for got, line, at in zip(said.splitlines(), wanted.splitlines(), range(1, 1 << 30)):
+            if got != line:
+                raise Stop(f"line {at} of `said`: {got!r} in place of {line!r}")
+        if [it for it in audits if it != "sound"] != VERDICT.findall(wanted) or len(said.splitlines()) != len(wanted.splitlines()):
+            raise Stop("audit and merge have other verdicts")
+    print(f"{wanted.count('== ')} records")
+    return 0
+
+
+if __name__ == "__main__":
+    end(main, tells=False)

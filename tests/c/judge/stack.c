@@ -1,0 +1,82 @@
+/* use: stack AUDIT MERGE LINE KERNEL FILE..
+
+   Prints the most bytes of stack that mc2_own_audit, mc2_own_merge, mc2_own_line and mc2_own_kernel take to judge these records,
+   by calls on a stack of their own that was filled before. None may take more than its number among the words. The counts are as
+   many as an object may have, so each log is judged to its end. Status: 0; 1 if one takes more; 3 if something is refused. */
+#define _GNU_SOURCE
+#include "mc2_own.h"
+#include "text.h"
+#include <string.h>
+#include <ucontext.h>
+
+enum { STACK = 1 << 20, FILLED = 0xa5, EXPORTS = 4 };
+
+static uint8_t stack[STACK] __attribute__((aligned(64)));
+static ucontext_t back, there;
+static struct mc2_own_asked asked;
+static struct mc2_turn *room;
+static int export;
+
+/* How many steps each log has. */
+static void count_all(void) {
+    struct mc2_own_line line;
+    mc2_own_find(text.bytes, text.length, &asked);
+    for (size_t at = 0; at < asked.objects; at++) {
+        asked.right[at] = 0;
+        mc2_own_line(text.bytes, text.length, (size_t)asked.log[at], &line);
+        for (uint64_t left = line.kind == MC2_OWN_LOG ? line.limit : 0; left > 0; left--) {
+            mc2_own_line(text.bytes, text.length, (size_t)line.next, &line);
+            asked.right[at] += line.kind == MC2_OWN_EVENT ? line.count : 0;
+        }
+    }
+}
+
+static void call(void) {
+    struct mc2_told told;
+    struct mc2_own_line line;
+    if (export == 0)
+        mc2_own_audit(text.bytes, text.length, asked.right, asked.objects, &told);
+    if (export == 1)
+        mc2_own_merge(text.bytes, text.length, asked.right, asked.objects, room, text.length, &told);
+    for (size_t at = 0; export == 2 && at < text.length; at = (size_t)line.next)
+        mc2_own_line(text.bytes, text.length, at, &line);
+    for (size_t at = 0; export == 3 && at < asked.objects; at++)
+        mc2_own_kernel(text.bytes, text.length, (size_t)asked.object[at], (size_t)asked.log[at], &told);
+}
+
+/* The bytes that the call of an export takes. */
+static size_t taken(void) {
+    size_t untouched = 0;
+    memset(stack, FILLED, STACK);
+    if (getcontext(&there) != 0)
+        fail("there is no stack of its own");
+    there.uc_stack.ss_sp = stack;
+    there.uc_stack.ss_size = STACK;
+    there.uc_link = &back;
+    makecontext(&there, call, 0);
+    swapcontext(&back, &there);
+    while (untouched < STACK && stack[untouched] == FILLED)
+        untouched++;
+    return STACK - untouched;
+}
+
+int main(int count, char **words) {
+    size_t most[EXPORTS] = {0}, bytes;
+    bool is_more = count < 1 + EXPORTS;
+    for (int at = 1 + EXPORTS; at < count; at++) {
+        read_text(words[at]);
+        room = malloc(text.length * sizeof *room + 1);
+        if (!room)
+            fail("memory");
+        count_all();
+        for (export = 0; export < EXPORTS; export++)
+            most[export] = (bytes = taken()) > most[export] ? bytes : most[export];
+        free(text.bytes);
+        free(room);
+    }
+    for (int at = 0; at < EXPORTS; at++) {
+        printf("%zu%s", most[at], at + 1 < EXPORTS ? " " : "\n");
+        is_more = is_more || most[at] > strtoul(words[1 + at], NULL, 10);
+    }
+    return is_more;
+}
