@@ -9,6 +9,7 @@ from libraries import heap
 
 FOLDER = ROOT / "tools/lib/own_checks"
 EXAMPLES = ROOT / "examples/own"
+SECOND_JUDGE = ROOT / "tests/c/second_judge/second_judge.c"
 INCLUDE = f"-I{ROOT / 'include'}"
 CPP17 = ["-std=c++17", *STRICT, INCLUDE]
 RUST = ["rustc", "-O", "--edition", "2021", "-D", "warnings"]
@@ -38,7 +39,7 @@ def stand_in_side(folder, how=("-O2",)):
     """The stand-in, built so."""
     name = f"stand_in{len(list(folder.glob('libstand_in*')))}"
     words = [*C11, *how, *(() if "-Wall" in how else STRICT), INCLUDE, "-c", "-o", folder / f"{name}.o"]
-    run([*words, FOLDER / "stand_in.c"], timeout=BUILD_SECONDS)
+    run([*words, SECOND_JUDGE], timeout=BUILD_SECONDS)
     run(["ar", "rcs", folder / f"lib{name}.a", folder / f"{name}.o"])
     return Side("the stand-in", [folder / f"lib{name}.a"], ["-L", folder, "-l", f"static={name}"])
 
@@ -55,7 +56,7 @@ def build_refusals(folder, library):
     links = [library]
     if library is None:
         names = [f"-D{it}=stand_in_{it}" for it in ("malloc", "realloc", "free")]
-        run([*C11, *SANITIZED, INCLUDE, *names, "-c", "-o", folder / "refusing.o", FOLDER / "stand_in.c"])
+        run([*C11, *SANITIZED, INCLUDE, *names, "-c", "-o", folder / "refusing.o", SECOND_JUDGE])
         links = [folder / "refusing.o"]
     return build_c(FOLDER / "own_refusals.c", folder / "own_refusals", Side("", links, []), SANITIZED)
 

@@ -1,8 +1,8 @@
-/* What the stand-in knows of a record. */
-#ifndef STAND_IN_H
-#define STAND_IN_H
+/* What the second judge knows of a record. */
+#ifndef SECOND_JUDGE_RECORD_H
+#define SECOND_JUDGE_RECORD_H
 
-#include "stand_in_text.h"
+#include "text.h"
 
 enum { SLOTS = 1024, NOBODY = UINT16_MAX };
 /* No event. */

@@ -1,8 +1,8 @@
 /* One order of a sound record's entries, or a cycle. Each place goes to the least CPU whose next entry can come. */
-#ifndef STAND_IN_ORDER_H
-#define STAND_IN_ORDER_H
+#ifndef SECOND_JUDGE_ORDER_H
+#define SECOND_JUDGE_ORDER_H
 
-#include "stand_in.h"
+#include "record.h"
 
 enum { SET_WORDS = MC2_OWN_CPUS / 64 };
 

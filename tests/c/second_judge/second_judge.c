@@ -4,8 +4,8 @@
    It judges while it reads. A step has one spelling, so an entry has the steps of its event if it has the bytes. It holds 16
    bytes for an event, and for a merge 3 for an entry. Of a line that is no event it may tell a part of one, which isn't to be
    read. */
-#include "stand_in.h"
-#include "stand_in_order.h"
+#include "record.h"
+#include "order.h"
 #include <stdlib.h>
 
 /* The first fault that is found stays. */

@@ -1,8 +1,8 @@
-/* What the stand-in reads: words, numbers, calls and steps of a record 3. Each reader gets where something begins and returns
+/* What is read: words, numbers, calls and steps of a record 3. Each reader gets where something begins and returns
    where it ends, or NULL. All that is read has a line end behind it, which no reader passes but end_of, so none looks for the
    end of the text. */
-#ifndef STAND_IN_TEXT_H
-#define STAND_IN_TEXT_H
+#ifndef SECOND_JUDGE_TEXT_H
+#define SECOND_JUDGE_TEXT_H
 
 #include "mc2_own.h"
 #include <string.h>
