@@ -1,17 +1,29 @@
-/* What the second judge knows of a record. */
+/* What the judge knows of a record. */
 #ifndef SECOND_JUDGE_RECORD_H
 #define SECOND_JUDGE_RECORD_H
 
-#include "text.h"
+#include "kernel.h"
 
 enum { SLOTS = 1024, NOBODY = UINT16_MAX };
 /* No event. */
 #define NONE_LEFT UINT32_MAX
 
+/* The most CPUs, objects, events of a log and entries of a transcript in each form. */
+struct limits {
+    const char *head;
+    uint64_t cpus, objects, events, entries;
+};
+
+static const struct limits limits_of[] = {[1] = {"record 1\n", 8, 16, 65536, 10000},
+                                          [2] = {"record 2\n", 64, 16, 65536, 10000},
+                                          [3] = {"record 3\n", MC2_OWN_CPUS, MC2_OWN_OBJECTS, UINT32_MAX, UINT32_MAX}};
+
 struct event {
-    /* Where its steps begin in the text, their bytes, its CPU, and the next event of the same CPU in the same log. */
+    /* Where its steps begin in the text, their bytes and their number, its CPU, and the next event of the same CPU in the same
+       log. */
     uint64_t at;
-    uint16_t length, cpu;
+    uint16_t length;
+    uint8_t count, cpu;
     uint32_t next;
 };
 
@@ -22,7 +34,8 @@ struct record {
     const uint8_t *text, *end, *p;
     /* The line that comes next. */
     uint64_t line;
-    uint32_t cpus, objects, refusing;
+    struct limits most;
+    uint32_t form, cpus, objects, refusing;
     struct name names[MC2_OWN_OBJECTS], refuses[MC2_OWN_REFUSING];
     uint16_t slots[SLOTS];
     uint64_t limits[MC2_OWN_OBJECTS], steps[MC2_OWN_OBJECTS];
@@ -35,10 +48,21 @@ struct record {
     uint16_t *entries;
     size_t entry_count, entry_room, firsts[MC2_OWN_CPUS + 1];
     bool keeps_entries, has_no_memory;
-    /* What the caller told, and the first fault. */
+    /* What the caller says of a record 3. */
     const uint64_t *right;
     size_t counts;
+    /* What the objects of a record 1 or 2 are opened with, and that one whose log is read. */
+    struct params params[16];
+    struct object object;
+    /* The first fault. */
     struct mc2_told fault;
 };
+
+static void tell(struct mc2_told *told, uint32_t kind, uint64_t first, uint64_t second, uint64_t third) {
+    told->kind = kind;
+    told->first = first;
+    told->second = second;
+    told->third = third;
+}
 
 #endif
