@@ -5,7 +5,7 @@ from pathlib import Path
 from common import ROOT, run
 from libraries import heap
 
-FOLDER = ROOT / "tools/lib/own_checks"
+SECOND_JUDGE = ROOT / "tests/c/second_judge/second_judge.c"
 WORDS = ["gcc", "-std=c11", "-O2", "-Wall", "-Wextra", "-pedantic", "-Werror", f"-I{ROOT / 'include'}"]
 
 
@@ -22,7 +22,7 @@ def library_side(library):
 
 
 def stand_in_side(folder):
-    run([*WORDS, "-c", "-o", folder / "stand_in.o", FOLDER / "stand_in.c"])
+    run([*WORDS, "-c", "-o", folder / "stand_in.o", SECOND_JUDGE])
     return Side("the stand-in", [folder / "stand_in.o"])
 
 

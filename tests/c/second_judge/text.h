@@ -1,28 +1,32 @@
-/* What the stand-in reads: words, numbers, calls and steps of a record 3. Each reader gets where something begins and returns
-   where it ends, or NULL. All that is read has a line end behind it, which no reader passes but end_of, so none looks for the
-   end of the text. */
-#ifndef STAND_IN_TEXT_H
-#define STAND_IN_TEXT_H
+/* Words and numbers, and the lines that all records have. Each reader gets where something begins and returns where it ends, or
+   NULL. All that is read has a line end after it, which no reader passes but end_of, so none looks for the end of the text. */
+#ifndef SECOND_JUDGE_TEXT_H
+#define SECOND_JUDGE_TEXT_H
 
 #include "mc2_own.h"
 #include <string.h>
 
 enum { DIGIT = 1, LETTER = 2, MOST_DIGITS = 20 };
 
-/* A word, with zeros behind it. */
+/* A word, with zeros after it. */
 struct name {
     uint64_t low, high;
 };
 
+static inline bool are_same(struct name one, struct name other) { return one.low == other.low && one.high == other.high; }
+
+/* The first bytes of 16, with zeros after them. */
+static inline struct name name_at(const uint8_t *p, uint32_t length) {
+    static const uint8_t ones[2 * MC2_OWN_LETTERS] = {255, 255, 255, 255, 255, 255, 255, 255, 255, 255, 255, 255, 255, 255, 255, 255};
+    struct name name, mask;
+    memcpy(&name, p, sizeof name);
+    memcpy(&mask, ones + MC2_OWN_LETTERS - length, sizeof mask);
+    return (struct name){name.low & mask.low, name.high & mask.high};
+}
+
 struct span {
     const uint8_t *at;
     uint32_t length;
-};
-
-/* The calls of an entry, or the replies of an event. */
-struct spans {
-    uint32_t count;
-    struct span each[MC2_OWN_CALLS];
 };
 
 static const uint8_t sorts[256] = {
@@ -40,8 +44,13 @@ static inline const uint8_t *just(const uint8_t *p, const char *bytes) {
     return *bytes ? NULL : p;
 }
 
-/* Each of the next four takes NULL too, for what wasn't there, and then returns it. */
-static inline const uint8_t *then(const uint8_t *p, const char *bytes) { return p ? just(p, bytes) : NULL; }
+/* All that follow take NULL too, for what wasn't there, and return it then. */
+static inline const uint8_t *space(const uint8_t *p) { return p && *p == ' ' ? p + 1 : NULL; }
+
+/* One of `=`, `;` and `|` between spaces. */
+static inline const uint8_t *mark(const uint8_t *p, char which) {
+    return p && p[0] == ' ' && p[1] == (uint8_t)which && p[2] == ' ' ? p + 3 : NULL;
+}
 
 static inline const uint8_t *end_of(const uint8_t *p) { return p && *p == '\n' ? p + 1 : NULL; }
 
@@ -69,10 +78,16 @@ static inline const uint8_t *digits(const uint8_t *p) {
 }
 
 static inline const uint8_t *number(const uint8_t *p, uint64_t least, uint64_t most, uint64_t *value) {
-    const uint8_t *end = digits(p);
-    for (*value = 0; end && p < end; p++)
-        *value = *value * 10 + (uint64_t)(*p - '0');
-    return end && *value >= least && *value <= most ? end : NULL;
+    const uint8_t *from = p;
+    uint64_t sum = 0;
+    if (!p)
+        return NULL;
+    for (uint8_t digit; (digit = (uint8_t)(*p - '0')) < 10; p++)
+        sum = sum * 10 + digit;
+    *value = sum;
+    if (p - from >= MOST_DIGITS)
+        p = digits(from);
+    return p != from && (*from != '0' || p - from == 1) && sum >= least && sum <= most ? p : NULL;
 }
 
 /* Numbers behind spaces. */
@@ -83,37 +98,12 @@ static inline const uint8_t *numbers(const uint8_t *p, uint32_t most, uint64_t *
     return p;
 }
 
-/* A word and its numbers, whose values aren't needed. */
+/* A call or a reply of a record 3: a word and its numbers, whose values aren't needed. */
 static inline const uint8_t *said(const uint8_t *p, struct span *span) {
     uint32_t count = 0;
     p = word(p, span);
     while (p && *p == ' ' && sorts[p[1]] == DIGIT)
         p = count++ < MC2_OWN_NUMBERS ? digits(p + 1) : NULL;
-    return p;
-}
-
-static inline bool has_more(const uint8_t *p, uint32_t count) { return p && count < MC2_OWN_CALLS && just(p, " ; "); }
-
-/* The calls of an entry, numbers and all. */
-static inline const uint8_t *calls(const uint8_t *p, struct spans *all) {
-    const uint8_t *from;
-    all->count = 0;
-    do {
-        from = all->count > 0 ? p + 3 : p;
-        p = said(from, &all->each[all->count]);
-        all->each[all->count++].length = p ? (uint32_t)(p - from) : 0;
-    } while (has_more(p, all->count));
-    return p;
-}
-
-/* The steps of an event, and the words of their replies. */
-static inline const uint8_t *steps(const uint8_t *p, struct spans *replies) {
-    struct span call;
-    replies->count = 0;
-    do {
-        p = said(replies->count > 0 ? p + 3 : p, &call);
-        p = said(then(p, " = "), &replies->each[replies->count++]);
-    } while (has_more(p, replies->count));
     return p;
 }
 
@@ -134,36 +124,16 @@ static inline const uint8_t *word_in(const uint8_t *p, uint8_t *padded) {
     return p;
 }
 
-static inline const uint8_t *said_in(const uint8_t *p, struct mc2_own_said *it) {
-    memset(it->numbers, 0, sizeof it->numbers);
-    return numbers(word_in(p, it->word), MC2_OWN_NUMBERS, &it->count, it->numbers);
-}
-
-static inline bool event_in(const uint8_t *p, struct mc2_own_line *line) {
-    uint64_t cpu;
-    p = then(number(p, 0, MC2_OWN_CPUS - 1, &cpu), " ");
-    line->cpu = (uint32_t)cpu;
-    line->count = 0;
-    do {
-        struct mc2_own_step *step = &line->steps[line->count];
-        p = said_in(line->count > 0 ? p + 3 : p, &step->call);
-        p = said_in(then(p, " = "), &step->reply);
-        line->count++;
-    } while (has_more(p, (uint32_t)line->count));
-    return end_of(p) != NULL;
-}
-
-static inline bool object_in(const uint8_t *p, struct mc2_own_line *line) {
-    uint8_t lock[MC2_OWN_LETTERS];
-    p = then(word_in(just(p, "object "), line->name), " ");
-    p = number(then(word_in(p, lock), " "), 1, UINT32_MAX, &line->limit);
-    p = word_in(then(p, " "), line->object_kind);
+static inline bool object_in(const uint8_t *p, struct mc2_own_line *line, uint8_t *lock) {
+    p = space(word_in(just(p, "object "), line->name));
+    p = number(space(word_in(p, lock)), 1, UINT32_MAX, &line->limit);
+    p = word_in(space(p), line->object_kind);
     return end_of(numbers(p, MC2_OWN_SIZES, &line->count, line->numbers)) != NULL;
 }
 
 static inline bool log_in(const uint8_t *p, struct mc2_own_line *line) {
     p = word_in(just(p, "log "), line->name);
-    return end_of(number(then(p, " "), 0, UINT32_MAX, &line->limit)) != NULL;
+    return end_of(number(space(p), 0, UINT32_MAX, &line->limit)) != NULL;
 }
 
 #endif

@@ -1,10 +1,11 @@
 /* One order of a sound record's entries, or a cycle. Each place goes to the least CPU whose next entry can come. */
-#ifndef STAND_IN_ORDER_H
-#define STAND_IN_ORDER_H
+#ifndef SECOND_JUDGE_ORDER_H
+#define SECOND_JUDGE_ORDER_H
 
-#include "stand_in.h"
+#include "record.h"
+#include <stdlib.h>
 
-enum { SET_WORDS = MC2_OWN_CPUS / 64 };
+enum { SET_WORDS = (IS_OWN ? MC2_OWN_CPUS : 64) / 64 };
 
 /* A set of CPUs. */
 struct set {
@@ -16,14 +17,9 @@ struct front {
     uint64_t at[MC2_OWN_CPUS], placed[MC2_OWN_OBJECTS];
     /* Whose next entry can come, and who waits until an object's log is at its end. */
     struct set ready, waiting[MC2_OWN_OBJECTS];
+    /* The CPU of each place. */
+    uint8_t order[];
 };
-
-static void tell(struct mc2_told *told, uint32_t kind, uint64_t first, uint64_t second, uint64_t third) {
-    told->kind = kind;
-    told->first = first;
-    told->second = second;
-    told->third = third;
-}
 
 static void add(struct set *set, uint32_t cpu) { set->bits[cpu / 64] |= (uint64_t)1 << cpu % 64; }
 
@@ -86,15 +82,21 @@ static void place(const struct record *r, struct front *front, uint32_t cpu) {
     look(r, front, cpu);
 }
 
-static size_t put_in_order(const struct record *r, struct front *front, uint8_t *order) {
-    size_t count = 0;
+/* Places entries as long as one can come. Returns what was done, which the caller frees, or NULL without memory; all were placed
+   if `count` is the number of the entries. */
+static struct front *put_in_order(const struct record *r, size_t *count) {
+    struct front *front = malloc(sizeof *front + r->entry_count);
+    *count = 0;
+    if (!front)
+        return NULL;
+    memset(front, 0, sizeof *front);
     for (uint32_t cpu = 0; cpu < r->cpus; cpu++)
         look(r, front, cpu);
     for (uint32_t cpu = take_least(&front->ready); cpu < MC2_OWN_CPUS; cpu = take_least(&front->ready)) {
-        order[count++] = (uint8_t)cpu;
+        front->order[(*count)++] = (uint8_t)cpu;
         place(r, front, cpu);
     }
-    return count;
+    return front;
 }
 
 /* Whom the CPU waits for, which has an entry left. */
@@ -137,26 +139,6 @@ static void tell_cycle(const struct record *r, const struct front *front, struct
         room[at].cpu = cpu;
         room[at].entry = front->at[cpu];
     }
-}
-
-static void tell_whole(const struct record *r, const uint8_t *order, struct mc2_turn *room, size_t turns,
-                       struct mc2_told *told) {
-    uint64_t at[MC2_OWN_CPUS] = {0};
-    tell(told, r->entry_count > turns ? MC2_NO_ROOM : MC2_SOUND, r->entry_count, 0, 0);
-    for (size_t n = 0; n < r->entry_count && r->entry_count <= turns; n++) {
-        room[n].cpu = order[n];
-        room[n].entry = at[order[n]]++;
-    }
-}
-
-/* `order` has a place for each entry. */
-static void tell_order(const struct record *r, uint8_t *order, struct mc2_turn *room, size_t turns, struct mc2_told *told) {
-    struct front front;
-    memset(&front, 0, sizeof front);
-    if (put_in_order(r, &front, order) == r->entry_count)
-        tell_whole(r, order, room, turns, told);
-    else
-        tell_cycle(r, &front, room, turns, told);
 }
 
 #endif

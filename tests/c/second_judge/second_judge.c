@@ -1,0 +1,144 @@
+/* The functions of include/mc2_own.h in plain C. They are linked where the proved library isn't built, judge beside it in
+   tools/check/own, and are measured beside it in tools/measure/judges. Nothing here is proved.
+
+   Of a line that is no event mc2_own_line may tell a part of one, which isn't to be read. */
+#define IS_OWN 1
+#include "judge.h"
+#include "order.h"
+
+/* ---- Lines */
+
+static const uint8_t *said_in(const uint8_t *p, struct mc2_own_said *it) {
+    memset(it->numbers, 0, sizeof it->numbers);
+    return numbers(word_in(p, it->word), MC2_OWN_NUMBERS, &it->count, it->numbers);
+}
+
+static bool event_in(const uint8_t *p, struct mc2_own_line *line) {
+    uint64_t cpu;
+    p = space(number(p, 0, MC2_OWN_CPUS - 1, &cpu));
+    line->cpu = (uint32_t)cpu;
+    line->count = 0;
+    for (const uint8_t *more = p; line->count == 0 || (more && line->count < MC2_OWN_CALLS); more = mark(p, ';')) {
+        struct mc2_own_step *step = &line->steps[line->count++];
+        p = said_in(mark(said_in(more, &step->call), '='), &step->reply);
+    }
+    return end_of(p) != NULL;
+}
+
+void mc2_own_line(const uint8_t *text, size_t length, size_t at, struct mc2_own_line *line) {
+    const uint8_t *end = at < length ? memchr(text + at, '\n', length - at) : NULL;
+    uint8_t lock[MC2_OWN_LETTERS];
+    line->kind = MC2_OWN_NONE;
+    if (!end)
+        return;
+    line->next = (uint64_t)(end - text) + 1;
+    line->kind = MC2_OWN_OTHER;
+    if (sorts[text[at]] == DIGIT && event_in(text + at, line))
+        line->kind = MC2_OWN_EVENT;
+    else if (text[at] == 'l' && log_in(text + at, line))
+        line->kind = MC2_OWN_LOG;
+    else if (text[at] == 'o' && object_in(text + at, line, lock))
+        line->kind = MC2_OWN_OBJECT;
+}
+
+/* ---- The kinds that mc2 has */
+
+/* Whether just that is said, with the numbers that it may have. */
+static bool fits(const struct mc2_own_said *said, const struct spelling *it) {
+    for (uint64_t at = 0; at < said->count; at++)
+        if (said->numbers[at] > it->most)
+            return false;
+    return it->length > 0 && said->word[it->length] == 0 && said->count == it->numbers;
+}
+
+static bool is_right_step(struct object *object, const struct mc2_own_step *step) {
+    uint32_t word = find_word(call_words, first_calls, step->call.word);
+    struct call call = {word, step->call.numbers[0], step->call.numbers[1]};
+    if (!fits(&step->call, &call_words[word]))
+        return false;
+    word = find_word(reply_words, first_replies, step->reply.word);
+    struct reply reply = {word, step->reply.numbers[0]};
+    return fits(&step->reply, &reply_words[word]) && are_same_replies(answer(object, &call), reply);
+}
+
+static uint64_t count_log(const uint8_t *text, size_t length, struct mc2_own_line *line, struct object *object) {
+    uint64_t right = 0, in_event = 0;
+    for (uint64_t events = line->limit; events > 0; events--) {
+        mc2_own_line(text, length, (size_t)line->next, line);
+        for (in_event = 0; line->kind == MC2_OWN_EVENT && in_event < line->count; in_event++)
+            if (!is_right_step(object, &line->steps[in_event]))
+                return right + in_event;
+        if (line->kind != MC2_OWN_EVENT)
+            return right;
+        right += in_event;
+    }
+    return right;
+}
+
+void mc2_own_kernel(const uint8_t *text, size_t length, size_t object, size_t log, struct mc2_told *told) {
+    struct mc2_own_line line;
+    struct params params;
+    struct object *it = NULL;
+    tell(told, MC2_NO_MODEL, 0, 0, 0);
+    mc2_own_line(text, length, object, &line);
+    if (line.kind != MC2_OWN_OBJECT || !take_params(line.object_kind, line.numbers, line.count, &params))
+        return;
+    mc2_own_line(text, length, log, &line);
+    if (line.kind != MC2_OWN_LOG)
+        return;
+    tell(told, MC2_OUT_OF_MEMORY, 0, 0, 0);
+    if (!(it = malloc(sizeof *it)))
+        return;
+    open_object(it, &params);
+    tell(told, MC2_OWN_COUNTED, count_log(text, length, &line, it), 0, 0);
+    free(it);
+}
+
+/* ---- Records */
+
+static void drop(struct record *r) {
+    free(r->events);
+    free(r->next);
+    free(r->entries);
+    free(r);
+}
+
+void mc2_own_audit(const uint8_t *text, size_t length, const uint64_t *right, size_t objects, struct mc2_told *told) {
+    struct record *r = malloc(sizeof *r);
+    tell(told, MC2_OUT_OF_MEMORY, 0, 0, 0);
+    if (!r)
+        return;
+    judge(r, text, length, right, objects, false);
+    *told = r->fault;
+    drop(r);
+}
+
+static void tell_order(const struct record *r, const struct front *front, struct mc2_turn *room, size_t turns,
+                       struct mc2_told *told) {
+    uint64_t at[MC2_OWN_CPUS] = {0};
+    tell(told, r->entry_count > turns ? MC2_NO_ROOM : MC2_SOUND, r->entry_count, 0, 0);
+    for (size_t n = 0; n < r->entry_count && r->entry_count <= turns; n++) {
+        room[n].cpu = front->order[n];
+        room[n].entry = at[front->order[n]]++;
+    }
+}
+
+void mc2_own_merge(const uint8_t *text, size_t length, const uint64_t *right, size_t objects, struct mc2_turn *room,
+                   size_t turns, struct mc2_told *told) {
+    struct record *r = malloc(sizeof *r);
+    struct front *front = NULL;
+    size_t placed = 0;
+    tell(told, MC2_OUT_OF_MEMORY, 0, 0, 0);
+    if (!r)
+        return;
+    judge(r, text, length, right, objects, true);
+    *told = r->fault;
+    if (told->kind == MC2_SOUND && !(front = put_in_order(r, &placed)))
+        tell(told, MC2_OUT_OF_MEMORY, 0, 0, 0);
+    else if (told->kind == MC2_SOUND && placed == r->entry_count)
+        tell_order(r, front, room, turns, told);
+    else if (told->kind == MC2_SOUND)
+        tell_cycle(r, front, room, turns, told);
+    free(front);
+    drop(r);
+}
