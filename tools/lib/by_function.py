@@ -48,8 +48,8 @@ class Body(NamedTuple):
 
 
 def module_of(file):
-    """The words of a module's path, by its file in src/."""
-    module = file.removesuffix(".rt")
+    """The words of a module's path, by its file."""
+    module = file.removeprefix("src/").removesuffix(".rt")
     return () if module in ("lib", "main") else tuple(module.split("/"))
 
 
@@ -58,13 +58,8 @@ def homes_of_types(folder):
     homes = defaultdict(list)
     for file in sorted((folder / "src").rglob("*.rt")):
         for name in TYPE.findall(file.read_text(encoding="utf-8")):
-            homes[name].append(module_of(str(file.relative_to(folder / "src"))))
+            homes[name].append(module_of(str(file.relative_to(folder))))
     return homes
-
-
-def home_of(name, module, homes):
-    """The words of the module of the type that a module means by the name: its own, or else the first one."""
-    return module if module in homes[name] or not homes[name] else homes[name][0]
 
 
 def path_in(line, module, homes):
@@ -75,12 +70,15 @@ def path_in(line, module, homes):
     if not found:
         return None
     # (how the kit names the impl of a trait hangs on its types, so all of its module is taken)
-    return () if found[1] else (*home_of(found[2], module, homes), found[2])
+    if found[1]:
+        return ()
+    # The type of that name is the module's own, or else the first one.
+    return (*(module if module in homes[found[2]] or not homes[found[2]] else homes[found[2]][0]), found[2])
 
 
 def bodies(file, text, homes):
     """The bodies in a formatted file: each ends with a brace that is as far in as its `fn`."""
-    module = module_of(file.removeprefix("src/"))
+    module = module_of(file)
     lines, found, owner = text.splitlines(), [], module
     for at, line in enumerate(lines):
         if line == "}":
@@ -126,16 +124,13 @@ def touched_by(folder, change, homes):
     return set() if old.startswith("use ") else None
 
 
-def touched(folder, changes, homes):
-    """The paths of what the changes are in, or none if one is elsewhere."""
-    found = [touched_by(folder, it, homes) for it in changes]
-    return frozenset() if None in found else frozenset().union(*found)
-
-
 def read_edits(folder, edits):
-    """The edits of the crate in that folder, with what they touch."""
-    homes = homes_of_types(folder)
-    return [Edit(it.name, changes_of(it), touched(folder, changes_of(it), homes)) for it in edits]
+    """The edits of the crate in that folder, with what they touch: nothing is named of one of which a part is elsewhere."""
+    homes, found = homes_of_types(folder), []
+    for it in edits:
+        paths = [touched_by(folder, change, homes) for change in changes_of(it)]
+        found.append(Edit(it.name, changes_of(it), frozenset() if None in paths else frozenset().union(*paths)))
+    return found
 
 
 def is_in(path, other):
@@ -174,26 +169,17 @@ def refused_functions(crate, told):
     return refused, set(states)
 
 
-def changed(text, changes):
-    """The text with the changes, each an old text, which is there once, and a new one. None reads what another writes."""
-    for at, old, new in sorted(((text.find(old), old, new) for old, new in changes), reverse=True):
-        text = text[:at] + new + text[at + len(old) :]
-    return text
-
-
 def change(folder, edits):
-    """Makes the edits in the folder. The changes of one may read what those before them made, if it is alone."""
+    """Makes the edits in the folder. The changes of one alone may read what those before them made. Of several none reads what
+    another writes, so those at the end of a file come first."""
     changes = defaultdict(list)
     for edit in edits:
         for file, old, new in edit.changes:
             changes[folder / file].append((old, new))
     for path, pairs in changes.items():
         text = path.read_text(encoding="utf-8")
-        if len(edits) == 1:
-            for old, new in pairs:
-                text = text.replace(old, new, 1)
-        else:
-            text = changed(text, pairs)
+        for old, new in sorted(pairs, key=lambda it: -text.find(it[0])) if len(edits) > 1 else pairs:
+            text = text.replace(old, new, 1)
         path.write_text(text, encoding="utf-8")
 
 
@@ -202,8 +188,6 @@ def check(crate, kept, edits, paths, jobs=1):
     checked before it takes from the folder `kept`."""
     how = ["--logic-built", kit() / "logic_built", "--incremental", kept, "--jobs", str(jobs), "--allow-holes"]
     how += [word for it in sorted(paths) for word in ("--only", it)]
-    # What such a crate has is there for its tests alone.
-    how += ["--test"] if crate.endswith("_tests") else []
     with tempfile.TemporaryDirectory(prefix="edit-") as room:
         folder = Path(room) / crate
         shutil.copytree(ROOT / "crates" / crate, folder, ignore=shutil.ignore_patterns("out"))
@@ -270,12 +254,15 @@ def try_whole(kept, edit):
     return f"{kept.crate}/{edit.name}: NOT REFUSED: {why}", False
 
 
+def below(crate):
+    """The crates of this repository that the crate reaches."""
+    crates = stands_on()
+    return {it for name in crates[crate] if name in crates for it in [name, *below(name)]}
+
+
 def need_built(crate):
     """Stops if a library below the crate isn't built, or a file of one has changed since."""
-    crates, below = stands_on(), [crate]
-    for name in below:
-        below += [it for it in crates[name] if it in crates and it not in below]
-    for name in below[1:]:
+    for name in sorted(below(crate)):
         built = ROOT / f"crates/{name}/out/rlib/{name}.rlib/format"
         parts = [ROOT / "crates" / name / it for it in ("src", "specs", "proofs")]
         newest = max(it.stat().st_mtime for part in parts for it in part.rglob("*") if it.is_file())
