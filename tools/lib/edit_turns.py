@@ -1,16 +1,29 @@
 """Which edits a run of the gate tries beside those of must-fail/: a few of one crate by turns, and those of what changed."""
 import re
+import subprocess
 
 from by_function import need_built
 from common import ROOT, Stop
 from edit_files import TOGETHER, changes_of, edits_of
-from slices import changed_files, git
 
 # How many of the crate whose turn it is, and at most of what changed.
 BY_TURNS, CHANGED = 6, 24
 # A proof file names what these take away, so that only `rt` counts them as refused (docs/GATE.md).
 BY_RT_ALONE = {"acquires_twice", "passes_before_the_object_is_home", "passes_its_turn_twice", "release_takes_another_turn", "names_the_line_before"}
 GREEN = re.compile(r"Last green as a whole: ([0-9a-f]{8,40})\.")
+
+
+def git(*words):
+    """What git prints, or None if it fails."""
+    ran = subprocess.run(["git", "-C", ROOT, *words], capture_output=True, text=True, check=False)
+    return ran.stdout if ran.returncode == 0 else None
+
+
+def changed_files(commit):
+    """The files that are otherwise than at the commit, in the work tree too. The commit has to be one that led to this."""
+    if git("merge-base", "--is-ancestor", commit, "HEAD") is None:
+        raise Stop(f"docs/GATE.md names the commit {commit} as the last that was green as a whole, and it didn't lead to this one")
+    return [*git("diff", "--name-only", commit).splitlines(), *git("ls-files", "--others", "--exclude-standard").splitlines()]
 
 
 def others(crate):
