@@ -102,7 +102,8 @@ def check_model(model):
         check_trace(model)
     data = page_data(timeline(model))
     same(page_boxes(data) == list(map(drawn, model.boxes)), "the page has other boxes")
-    same(data["marked"] == model.marked and bool(model.marked) == model.is_bad(), "the page marks another place")
+    is_marked = model.is_bad() and bool(model.boxes)
+    same(data["marked"] == model.marked and bool(model.marked) == is_marked, "the page marks another place")
     check_picture(model)
     return data
 

@@ -3,6 +3,7 @@ import tempfile
 from pathlib import Path
 
 from common import ROOT, run
+from rows import row_named
 from view.texts.record import read_record
 from view.model import Model
 from view.pages import steps_page, timeline
@@ -101,7 +102,7 @@ def check_markup(pages):
 def check_steps(pages):
     """The page that plays steps: each step by a key, and the lock's line behind the last one."""
     for name in ("at_a_ticket_lock", "at_an_mcs_lock"):
-        lines = (ROOT / "rows/steps" / name / "stdout").read_text()
+        lines = row_named("steps", name).stdout.decode()
         pages.open(steps_page(lines))
         count = len(lines.splitlines())
         pages.browser.press("End")

@@ -54,7 +54,7 @@ static struct mc2_cell_opening opening_of(uint32_t events, uint32_t cpus) {
 }
 
 static struct mc2_cell new_cell(void) {
-    struct mc2_cell cell = {NULL};
+    struct mc2_cell cell = {0};
     must(mc2_handle_new(&cell.own), MC2_CELL_DONE, "a handle");
     must_be(cell.own != NULL, "its pointer");
     return cell;
@@ -103,7 +103,7 @@ static void call_in_turn(struct mc2_caller *callers, uint32_t cpus) {
 static void live(uint32_t events, uint32_t cpus) {
     struct mc2_cell_opening opening = opening_of(events, cpus);
     struct mc2_cell cell = new_cell();
-    struct mc2_caller callers[MC2_MOST_CPUS], more = {NULL};
+    struct mc2_caller callers[MC2_MOST_CPUS], more = {0};
     must(mc2_handle_open(&cell, &opening), MC2_CELL_DONE, "opening");
     must(mc2_handle_open(&cell, &opening), MC2_CELL_REFUSED, "opening what is open");
     must(mc2_cell_reopen(&cell, lock, cpus), MC2_CELL_REFUSED, "reopening what is open");
@@ -298,7 +298,7 @@ static void whole_calls(void) {
 static long refused_openings(uint32_t events, uint32_t cpus) {
     struct mc2_cell_opening opening = opening_of(events, cpus);
     uint32_t told = MC2_CELL_NO_MEMORY;
-    struct mc2_cell cell = {NULL};
+    struct mc2_cell cell = {0};
     long at = 0;
     left = 0;
     must(mc2_handle_new(&cell.own), MC2_CELL_NO_MEMORY, "a handle without memory");

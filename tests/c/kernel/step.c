@@ -5,11 +5,11 @@
 //
 // The status is 0, or 1 at the first check that fails, which a line on standard error names.
 static unsigned begin_step(void);
-static inline unsigned begin_opening(void);
 static unsigned end_step(unsigned told);
 
 #define MC2_STEP(call) end_step((begin_step(), (call)))
 #ifdef APART
+static unsigned begin_opening(void);
 #define MC2_OPENING(call) end_step((begin_opening(), (call)))
 enum { IS_APART = 1 };
 #else
@@ -21,7 +21,9 @@ static unsigned within, steps, openings, calls;
 
 static unsigned begin_step(void) { return steps++, within++; }
 
-static inline unsigned begin_opening(void) { return openings++, begin_step(); }
+#ifdef APART
+static unsigned begin_opening(void) { return openings++, begin_step(); }
+#endif
 
 static unsigned end_step(unsigned told) { return within--, told; }
 

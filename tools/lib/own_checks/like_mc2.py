@@ -1,11 +1,11 @@
-"""Records of rows/mc2, made records 3: the program in C has to say what mc2 says, but for limits; and, where the library has no
-model of the kinds of mc2, but for wrong replies."""
+"""Records of rows of mc2 that have a name, made records 3: the program in C has to say what mc2 says, but for limits; and, where
+the library has no model of the kinds of mc2, but for wrong replies."""
 import os
 import re
 
-from common import ROOT, Stop, run
+from common import Stop, run
+from rows import rows_of
 
-ROWS = ROOT / "rows/mc2"
 REFUSING = "badthread already empty absent badowner none overquota badpage nottaken notyours badchannel badcall"
 KINDS = ("queue", "pool", "console", "sched")
 # A record 3 has no such limits, or others.
@@ -39,17 +39,15 @@ def made_third(text, has_models):
     return "\n".join(lines)
 
 
-def read(row, name):
-    return (row / name).read_bytes().decode(errors="replace") if (row / name).is_file() else ""
-
-
 def record_of(row):
     """The command and the text of a row that audits or merges a record."""
-    words = read(row, "words").split("\n")
-    file = next((row / it for it in words[1:] if it and (row / it).is_file()), row / "stdin")
-    text = file.read_bytes().decode(errors="replace") if file.is_file() else ""
-    is_one = words[0] in ("audit", "merge") and text.startswith(("record 1\n", "record 2\n")) and "\ufffd" not in text
-    return words[0], text if is_one else None
+    command, text = "".join(row.words[:1]), row.text().decode(errors="replace")
+    is_one = command in ("audit", "merge") and text.startswith(("record 1\n", "record 2\n")) and "\ufffd" not in text
+    return command, text if is_one else None
+
+
+def said_by_mc2(row):
+    return (row.stdout + row.stderr).decode(errors="replace")
 
 
 def line_in(said):
@@ -59,7 +57,7 @@ def line_in(said):
 
 def agree(row, command, text, ran):
     """Whether the verdicts are the same. Behind the objects each line is one further down."""
-    said, wanted = ran.stdout.decode() + ran.stderr.decode(), read(row, "stdout") + read(row, "stderr")
+    said, wanted = ran.stdout.decode() + ran.stderr.decode(), said_by_mc2(row)
     if line_in(wanted) is not None and "E9" in wanted:
         objects = [at for at, line in enumerate(text.split("\n"), 1) if line.startswith("object ")]
         return line_in(said) == line_in(wanted) + (bool(objects) and line_in(wanted) > objects[-1])
@@ -73,15 +71,15 @@ def agree(row, command, text, ran):
 def like_mc2(own, has_models):
     """Judges each such record, and says how many are judged alike."""
     alike = left = 0
-    for row in sorted(it for it in ROWS.iterdir() if it.is_dir()):
+    for row in rows_of("mc2"):
         command, text = record_of(row)
-        if text is None or row.name in OTHER_LIMITS:
+        if text is None or row.name in {"", *OTHER_LIMITS}:
             continue
-        if not has_models and "wrong step" in read(row, "stdout") + read(row, "stderr"):
+        if not has_models and "wrong step" in said_by_mc2(row):
             left += 1
             continue
         ran = run([own, command], wanted=None, input=os.fsencode(made_third(text, has_models)), timeout=60)
         if not agree(row, command, text, ran):
-            raise Stop(f"{row.name}: {(ran.stdout + ran.stderr).decode()[:200]!r}")
+            raise Stop(f"{row.place}: {(ran.stdout + ran.stderr).decode()[:200]!r}")
         alike += 1
     return f"{alike} records, and {len(OTHER_LIMITS)} left out for limits and {left} for wrong replies"
