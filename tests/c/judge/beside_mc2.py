@@ -16,9 +16,9 @@ from pathlib import Path
 
 sys.dont_write_bytecode = True
 sys.path.insert(0, str(Path(__file__).resolve().parents[3] / "tools/lib"))
-from cases import cases_of
 from common import ROOT, Stop, Words, end, number, run
 from own_checks.like_mc2 import like_mc2
+from rows import rows_of
 
 MC2, AT_ONCE = os.environ.get("MC2"), 8
 SOUND, CYCLE, BAD_LINE = 0, 7, 8
@@ -36,16 +36,10 @@ FAULTS = {
 def texts():
     """Each text by a name."""
     found = {}
-    for row in sorted((ROOT / "rows/mc2").iterdir()):
-        words = (row / "words").read_bytes().split(b"\n")[:-1] if row.is_dir() else []
-        if words[:1] in ([b"audit"], [b"merge"], [b"upgrade"]):
-            file = row / (os.fsdecode(words[1]) if len(words) > 1 else "stdin")
-            if file.is_file():
-                found[f"rows/mc2/{row.name}"] = file.read_bytes()
-    for file in sorted((ROOT / "rows/cases/mc2").glob("*.jsonl")):
-        for case in cases_of("mc2", file):
-            if case.words in (["audit"], ["merge"]):
-                found[f"rows/cases/{case.name}"] = case.stdin
+    for row in rows_of("mc2"):
+        # (rows without a name upgrade what others audit)
+        if row.words[:1] in (["audit"], ["merge"]) or row.name and row.words[:1] == ["upgrade"]:
+            found[row.place] = row.text()
     for record in sorted((ROOT / "examples").glob("*/record")):
         found[f"examples/{record.parent.name}"] = record.read_bytes()
     return found
