@@ -1,8 +1,8 @@
 #!/usr/bin/env python3
 """use: beside_mc2.py [--each N] audit|merge|refusals|rust|own PROGRAM
 
-Judges texts by a program over libjudge.a, and compares what it is told with what $MC2 answers. The texts are the records of examples/
-and each text that a row has mc2 audit, merge or upgrade, good or bad. With --each only each N-th of them.
+Judges texts by a program over libjudge.a, and compares what it is told with what $MC2 answers. The texts are the records of
+examples/, and each text that a row has mc2 audit, merge or upgrade, good or bad. With --each only each N-th of them.
 
   audit, merge  by examples/judge/judge.c, eight texts at once, each on a thread of its own
   refusals      by refusals.c, where each block of memory is refused; and once more four texts that take much memory
@@ -37,6 +37,7 @@ def texts():
     """Each text by a name."""
     found = {}
     for row in rows_of("mc2"):
+        # (rows without a name upgrade what others audit)
         if row.words[:1] in (["audit"], ["merge"]) or row.name and row.words[:1] == ["upgrade"]:
             found[row.place] = row.text()
     for record in sorted((ROOT / "examples").glob("*/record")):
@@ -47,9 +48,9 @@ def texts():
 # ---- Texts that take much memory for their length. A list of 8,193 lies in room for twice as many.
 
 
-def record_of(cpus, entries, events=None):
-    """A sound record of so many entries of each CPU, whose lines are the shortest there are, and each an event; or, without a number
-    of events, all but the first without room."""
+def record_of(cpus, entries, events=False):
+    """A sound record of so many entries of each CPU, whose lines are the shortest there are. Each is an event; or else all but
+    the first have no room."""
     step, limit = ("len = count 0", 65536) if events else ("deq = empty", 1)
     call, log = step.split(" ")[0], cpus * entries if events else 1
     text = f"record 2\ncpus {cpus}\nobjects 1\nobject a ticket {limit} queue 1\nlog a {log}\n"

@@ -1,11 +1,12 @@
 #!/usr/bin/env python3
 """use: said.py OWN [OTHER]
 
-Judges the records of examples/own/records by own.c. What `merge` prints has to be the file `said`, and `audit` has to print the same
-verdicts; with OTHER, own.cpp has to print those.
+Judges the records of examples/own/records by own.c. What `merge` prints is the file `said`, and `audit` prints the same
+verdicts. With OTHER, own.cpp prints the verdicts of own.c.
 """
 import re
 import sys
+from itertools import zip_longest
 from pathlib import Path
 
 sys.dont_write_bytecode = True
@@ -32,11 +33,10 @@ def main():
         if VERDICT.findall(said_of(*other)) != audits:
             raise Stop("C and C++ have other verdicts")
     else:
-        said = said_of(own, "merge")
-        for got, line, at in zip(said.splitlines(), wanted.splitlines(), range(1, 1 << 30)):
+        for at, (got, line) in enumerate(zip_longest(said_of(own, "merge").splitlines(), wanted.splitlines()), 1):
             if got != line:
                 raise Stop(f"line {at} of `said`: {got!r} in place of {line!r}")
-        if [it for it in audits if it != "sound"] != VERDICT.findall(wanted) or len(said.splitlines()) != len(wanted.splitlines()):
+        if [it for it in audits if it != "sound"] != VERDICT.findall(wanted):
             raise Stop("audit and merge have other verdicts")
     print(f"{wanted.count('== ')} records")
     return 0

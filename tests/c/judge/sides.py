@@ -1,8 +1,8 @@
 #!/usr/bin/env python3
 """use: sides.py mc2_judge.h|mc2_own.h
 
-Compares what the sources of crates/judge have of structs, numbers and arguments that cross with what the header has. The header must
-not fit once two of them are swapped.
+Compares the structs, numbers and arguments that cross: those of the sources of crates/judge with those of the header. The header
+must not fit once two of them are swapped.
 """
 import sys
 from pathlib import Path
@@ -14,16 +14,17 @@ from other_side import EXPORT, text_of
 
 TOLD = {"Report": "mc2_told", "Turn": "mc2_turn"}
 LINES = {"SaidReport": "mc2_own_said", "StepReport": "mc2_own_step", "LineReport": "mc2_own_line"}
-VERDICTS = "SOUND TOO_LONG WRONG_STEP ROOM_WAS_LEFT NOT_ITS_EVENT NOT_ASKED UNCLAIMED CYCLE BAD_LINE OUT_OF_MEMORY NO_ROOM MISTOLD"
+VERDICTS = "SOUND TOO_LONG WRONG_STEP ROOM_WAS_LEFT NOT_ITS_EVENT NOT_ASKED UNCLAIMED CYCLE BAD_LINE OUT_OF_MEMORY NO_ROOM".split()
 OWN_NUMBERS = {"NO_LINE": "NONE", "OBJECT_LINE": "OBJECT", "LOG_LINE": "LOG", "EVENT_LINE": "EVENT", "OTHER_LINE": "OTHER",
                "MOST_CUSTOM_CPUS": "CPUS", "MOST_CUSTOM_OBJECTS": "OBJECTS", "MOST_SIZES": "SIZES", "MOST_WORDS": "REFUSING",
                "MOST_LETTERS": "LETTERS", "MOST_NUMBERS": "NUMBERS", "MOST_CALLS": "CALLS", "COUNTED": "COUNTED"}
-# Of each header the files of crates/ that have what crosses, their exports, what C calls structs and numbers, and what makes the
-# sources wrong.
+NUMBERS = {it: f"MC2_{it}" for it in [*VERDICTS, "MISTOLD"]}
+OWN_NUMBERS = {here: f"MC2_OWN_{there}" for here, there in OWN_NUMBERS.items()} | {it: f"MC2_{it}" for it in ("MISTOLD", "NO_MODEL")}
+# Of each header: the files of crates/ that have what crosses, their exports, the names in C of structs and numbers, and swaps.
 HEADERS = {
     "mc2_judge.h": (
         [f"judge/src/{it}.rt" for it in ("report", "merge", "audit")], {"mc2_audit", "mc2_merge"}, TOLD,
-        {it: f"MC2_{it}" for it in VERDICTS.split()}, {
+        NUMBERS, {
             "fields of Report": ("    pub second: u64,\n    pub third: u64,", "    pub third: u64,\n    pub second: u64,"),
             "fields of Turn": ("    pub cpu: u64,\n    pub entry: u64,", "    pub entry: u64,\n    pub cpu: u64,"),
             "a field's type": ("    pub kind: u32,", "    pub kind: u64,"),
@@ -34,7 +35,7 @@ HEADERS = {
     "mc2_own.h": (
         ["judge/src/*.rt", "custom_records/src/*.rt", "event_log/src/*.rt"],
         {"mc2_own_line", "mc2_own_audit", "mc2_own_merge", "mc2_own_kernel"}, TOLD | LINES,
-        {here: f"MC2_OWN_{there}" for here, there in OWN_NUMBERS.items()} | {"MISTOLD": "MC2_MISTOLD", "NO_MODEL": "MC2_NO_MODEL"}, {
+        OWN_NUMBERS, {
             "fields of LineReport": ("    pub next: u64,\n    pub limit: u64,", "    pub limit: u64,\n    pub next: u64,"),
             "lengths": ("    pub numbers: [u64; MOST_NUMBERS],", "    pub numbers: [u64; MOST_SIZES],"),
             "fields of StepReport": ("    pub call: SaidReport,\n    pub reply", "    pub reply: SaidReport,\n    pub call"),
@@ -43,7 +44,8 @@ HEADERS = {
             "arguments": ("text: &[u8], at: usize", "at: usize, text: &[u8]"),
         }),
 }
-COMPILER = ["gcc", "-std=c11", "-Wall", "-Wextra", "-pedantic", "-Werror", f"-I{ROOT / 'include'}", "-fsyntax-only", "-x", "c", "-"]
+WARNINGS = ["-Wall", "-Wextra", "-pedantic", "-Werror"]
+COMPILER = ["gcc", "-std=c11", *WARNINGS, f"-I{ROOT / 'include'}", "-fsyntax-only", "-x", "c", "-"]
 
 
 def main():

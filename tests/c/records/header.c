@@ -30,49 +30,39 @@ static int opened(const char *name, uint32_t kind, uint32_t events, uint32_t siz
 }
 
 static void check_names(void) {
+    static const char *const wrong[] = {"abcdefghijklmnop9", NULL, "", "9q", "qQ", "q q", "q\n"};
     GIVES(opened("q", MC2_QUEUE, 1, 1, 0), MC2_DONE);
     GIVES(opened("abcdefghijklmno9", MC2_QUEUE, 1, 1, 0), MC2_DONE);
-    GIVES(opened("abcdefghijklmnop9", MC2_QUEUE, 1, 1, 0), MC2_BAD_OBJECT);
-    GIVES(opened(NULL, MC2_QUEUE, 1, 1, 0), MC2_BAD_OBJECT);
-    GIVES(opened("", MC2_QUEUE, 1, 1, 0), MC2_BAD_OBJECT);
-    GIVES(opened("9q", MC2_QUEUE, 1, 1, 0), MC2_BAD_OBJECT);
-    GIVES(opened("qQ", MC2_QUEUE, 1, 1, 0), MC2_BAD_OBJECT);
-    GIVES(opened("q q", MC2_QUEUE, 1, 1, 0), MC2_BAD_OBJECT);
-    GIVES(opened("q\n", MC2_QUEUE, 1, 1, 0), MC2_BAD_OBJECT);
+    for (unsigned at = 0; at < sizeof wrong / sizeof *wrong; at++)
+        GIVES(opened(wrong[at], MC2_QUEUE, 1, 1, 0), MC2_BAD_OBJECT);
 }
 
 static void check_sizes(void) {
-    GIVES(opened("q", MC2_KINDS, 1, 1, 0), MC2_BAD_OBJECT);
-    GIVES(opened("q", MC2_QUEUE, 0, 1, 0), MC2_BAD_OBJECT);
-    GIVES(opened("q", MC2_QUEUE, 65536, 1024, 0), MC2_DONE);
-    GIVES(opened("q", MC2_QUEUE, 65537, 1, 0), MC2_BAD_OBJECT);
-    GIVES(opened("q", MC2_QUEUE, 1, 0, 0), MC2_BAD_OBJECT);
-    GIVES(opened("q", MC2_QUEUE, 1, 1025, 0), MC2_BAD_OBJECT);
-    GIVES(opened("q", MC2_QUEUE, 1, 1, 1), MC2_BAD_OBJECT);
-    GIVES(opened("p", MC2_POOL, 1, 4096, 0), MC2_DONE);
-    GIVES(opened("p", MC2_POOL, 1, 4097, 0), MC2_BAD_OBJECT);
-    GIVES(opened("c", MC2_CONSOLE, 1, 4096, 0), MC2_DONE);
-    GIVES(opened("c", MC2_CONSOLE, 1, 4097, 0), MC2_BAD_OBJECT);
-    GIVES(opened("s", MC2_SCHED, 1, 1024, 64), MC2_DONE);
-    GIVES(opened("s", MC2_SCHED, 1, 1025, 1), MC2_BAD_OBJECT);
-    GIVES(opened("s", MC2_SCHED, 1, 1, 0), MC2_BAD_OBJECT);
-    GIVES(opened("s", MC2_SCHED, 1, 1, 65), MC2_BAD_OBJECT);
+    static const uint32_t right[][4] = {{MC2_QUEUE, 65536, 1024, 0}, {MC2_POOL, 1, 4096, 0}, {MC2_CONSOLE, 1, 4096, 0},
+                                        {MC2_SCHED, 1, 1024, 64}};
+    static const uint32_t wrong[][4] = {
+        {MC2_KINDS, 1, 1, 0},    {MC2_QUEUE, 0, 1, 0},      {MC2_QUEUE, 65537, 1, 0}, {MC2_QUEUE, 1, 0, 0},
+        {MC2_QUEUE, 1, 1025, 0}, {MC2_QUEUE, 1, 1, 1},      {MC2_POOL, 1, 0, 0},      {MC2_POOL, 1, 4097, 0},
+        {MC2_CONSOLE, 1, 4097, 0}, {MC2_SCHED, 1, 1025, 1}, {MC2_SCHED, 1, 1, 0},     {MC2_SCHED, 1, 1, 65}};
+    for (unsigned at = 0; at < sizeof right / sizeof *right; at++)
+        GIVES(opened("q", right[at][0], right[at][1], right[at][2], right[at][3]), MC2_DONE);
+    for (unsigned at = 0; at < sizeof wrong / sizeof *wrong; at++)
+        GIVES(opened("q", wrong[at][0], wrong[at][1], wrong[at][2], wrong[at][3]), MC2_BAD_OBJECT);
     CHECK(sizeof(struct mc2_event_line) == 164 && sizeof(struct mc2_entry_line) == 272);
 }
 
 static void check_counts(void) {
     struct mc2_recorder recorder;
     struct mc2_object objects[17];
-    static const char *const names[17] = {"a", "b", "c", "d", "e", "f", "g", "h", "i", "j", "k", "l", "m", "n", "o", "p", "q"};
-    for (unsigned at = 0; at < 17; at++)
+    static char names[17][2];
+    static const uint32_t wrong[][3] = {{0, 1, 1}, {17, 1, 1}, {1, 0, 1}, {1, 65, 1}, {1, 1, 0}, {1, 1, 10001},
+                                        {1, UINT32_MAX, UINT32_MAX}};
+    for (unsigned at = 0; at < 17; at++) {
+        names[at][0] = (char)('a' + at);
         objects[at] = object_of(names[at], MC2_QUEUE, 1, 1, 0);
-    GIVES(mc2_open(&recorder, objects, 0, 1, 1), MC2_BAD_COUNT);
-    GIVES(mc2_open(&recorder, objects, 17, 1, 1), MC2_BAD_COUNT);
-    GIVES(mc2_open(&recorder, objects, 1, 0, 1), MC2_BAD_COUNT);
-    GIVES(mc2_open(&recorder, objects, 1, 65, 1), MC2_BAD_COUNT);
-    GIVES(mc2_open(&recorder, objects, 1, 1, 0), MC2_BAD_COUNT);
-    GIVES(mc2_open(&recorder, objects, 1, 1, 10001), MC2_BAD_COUNT);
-    GIVES(mc2_open(&recorder, objects, 1, UINT32_MAX, UINT32_MAX), MC2_BAD_COUNT);
+    }
+    for (unsigned at = 0; at < sizeof wrong / sizeof *wrong; at++)
+        GIVES(mc2_open(&recorder, objects, wrong[at][0], wrong[at][1], wrong[at][2]), MC2_BAD_COUNT);
     GIVES(mc2_open(&recorder, NULL, 1, 1, 1), MC2_BAD_POINTER);
     GIVES(mc2_open(NULL, objects, 1, 1, 1), MC2_BAD_POINTER);
     GIVES(mc2_open(&recorder, objects, 16, 8, 10000), MC2_DONE);
@@ -221,11 +211,11 @@ static void check_page_names(void) {
 }
 
 static void check_events(struct mc2_recorder *recorder) {
-    struct mc2_step steps[9], none = mc2_answer(mc2_ask(MC2_CALL_WORDS, 0, 0), MC2_OK, 0);
-    struct mc2_step no_reply = mc2_answer(mc2_ask(MC2_LEN, 0, 0), MC2_REPLY_WORDS, 0);
-    struct mc2_step call_byte = mc2_answer(mc2_ask(MC2_PUT, 256, 0), MC2_OK, 0);
-    struct mc2_step reply_byte = mc2_answer(mc2_ask(MC2_GET, 0, 0), MC2_BYTE, 256);
-    struct mc2_step dropped_byte = mc2_answer(mc2_ask(MC2_PUT, 0, 0), MC2_DROPPED, 256);
+    struct mc2_step steps[9];
+    const struct mc2_step wrong[] = {
+        mc2_answer(mc2_ask(MC2_CALL_WORDS, 0, 0), MC2_OK, 0), mc2_answer(mc2_ask(MC2_LEN, 0, 0), MC2_REPLY_WORDS, 0),
+        mc2_answer(mc2_ask(MC2_PUT, 256, 0), MC2_OK, 0), mc2_answer(mc2_ask(MC2_GET, 0, 0), MC2_BYTE, 256),
+        mc2_answer(mc2_ask(MC2_PUT, 0, 0), MC2_DROPPED, 256)};
     for (unsigned at = 0; at < 9; at++)
         steps[at] = mc2_answer(mc2_ask(MC2_LEN, 0, 0), MC2_COUNT, 0);
     GIVES(mc2_room(NULL, 0, 0), MC2_BAD_POINTER);
@@ -239,11 +229,8 @@ static void check_events(struct mc2_recorder *recorder) {
     GIVES(mc2_event(recorder, 0, UINT32_MAX, steps, 1), MC2_BAD_CPU);
     GIVES(mc2_event(recorder, 0, 0, steps, 0), MC2_BAD_COUNT);
     GIVES(mc2_event(recorder, 0, 0, steps, 9), MC2_BAD_COUNT);
-    GIVES(mc2_event(recorder, 0, 0, &none, 1), MC2_BAD_STEP);
-    GIVES(mc2_event(recorder, 0, 0, &no_reply, 1), MC2_BAD_STEP);
-    GIVES(mc2_event(recorder, 0, 0, &call_byte, 1), MC2_BAD_STEP);
-    GIVES(mc2_event(recorder, 0, 0, &reply_byte, 1), MC2_BAD_STEP);
-    GIVES(mc2_event(recorder, 0, 0, &dropped_byte, 1), MC2_BAD_STEP);
+    for (unsigned at = 0; at < sizeof wrong / sizeof *wrong; at++)
+        GIVES(mc2_event(recorder, 0, 0, &wrong[at], 1), MC2_BAD_STEP);
     steps[7].reply = MC2_REPLY_WORDS;
     GIVES(mc2_event(recorder, 0, 0, steps, 8), MC2_BAD_STEP);
 }

@@ -120,7 +120,8 @@ static void fill_memory(void) {
 
 // Prints the record of a case: right, twice, twins, unnoted, last, late, beyond or full_memory.
 static void print_case(const char *name) {
-    bool is_full = strcmp(name, "full_memory") == 0, is_beyond = strcmp(name, "beyond") == 0, is_last = strcmp(name, "last") == 0;
+    bool is_full = strcmp(name, "full_memory") == 0, is_beyond = strcmp(name, "beyond") == 0;
+    bool is_last = strcmp(name, "last") == 0;
     open_all(is_full ? NOTE_PIECES + 1 : PIECES);
     work(0, 0);
     work(1, 1);
