@@ -1,8 +1,9 @@
-# Completion for mc2 and mc2-view, and for ./mc2 and view/view: commands, options, and the names of files.
+# Completion for mc2, mc2-steps, mc2-view and mc2-why, and for ./mc2 and view/view: commands, options, and the names of files.
 _mc2_words() {
     local word=${COMP_WORDS[COMP_CWORD]} before=${COMP_WORDS[COMP_CWORD - 1]} command=${COMP_WORDS[1]-}
-    local commands options=
-    case ${COMP_WORDS[0]##*/} in
+    local name=${COMP_WORDS[0]##*/} commands='' options=''
+    case $name in
+        mc2-steps | mc2-why) command=$name ;;
         mc2-view | view) commands='steps timeline trace schedule --help --version' ;;
         *) commands='run sim report audit merge upgrade' ;;
     esac
@@ -10,19 +11,23 @@ _mc2_words() {
         run | sim) options='--settings' ;;
         steps) options='--page --settings --help' ;;
         schedule) options='--settings --seed --rounds --help' ;;
-        timeline) options='--svg --judge --said --help' ;;
+        timeline) options='--svg --judge --said --around --help' ;;
         trace) options='--judge --said --help' ;;
+        mc2-steps) options='--settings --help --version' ;;
+        mc2-why) options='--as --settings --program --help --version' ;;
     esac
     COMPREPLY=()
-    if [ "$COMP_CWORD" = 1 ]; then
+    if [ "$COMP_CWORD" = 1 ] && [ -n "$commands" ]; then
         mapfile -t COMPREPLY < <(compgen -W "$commands" -- "$word")
-    elif [[ $before == --seed ]]; then
+    elif [[ $before == --as ]]; then
+        mapfile -t COMPREPLY < <(compgen -W 'settings scripts schedule record' -- "$word")
+    elif [[ $before == --seed || $before == --around ]]; then
         return
-    elif [[ $before != --settings && $before != --said && $before != --judge && $word == -* ]]; then
+    elif [[ $before != --settings && $before != --said && $before != --judge && $before != --program && $word == -* ]]; then
         mapfile -t COMPREPLY < <(compgen -W "$options" -- "$word")
     else
         compopt -o filenames 2> /dev/null
         mapfile -t COMPREPLY < <(compgen -f -- "$word")
     fi
 }
-complete -F _mc2_words mc2 mc2-view ./mc2 view/view ./view/view
+complete -F _mc2_words mc2 mc2-steps mc2-view mc2-why ./mc2 view/view ./view/view

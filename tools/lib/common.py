@@ -22,7 +22,8 @@ ROOT = Path(__file__).resolve().parent.parent.parent
 sys.path.append(str(ROOT))
 from view.streams import tell_time  # (of the folder at the top)
 
-TOOL = os.path.relpath(Path(sys.argv[0]).resolve(), ROOT)
+# The tool's name; an installed one is started under another.
+TOOL = os.environ.get("MC2_TOOL") or os.path.relpath(Path(sys.argv[0]).resolve(), ROOT)
 MC2 = ROOT / "crates/mc2/out/mc2"
 BENCH = ROOT / "crates/bench/out/bench"
 STEPS = ROOT / "crates/steps/out/steps"
