@@ -51,25 +51,19 @@ def calls_chart():
     return drawn("900,400", [*head, *panel("no log", "without a log"), *legend, *panel("kept log", "with a log kept in memory")])
 
 
-def label(record, size):
-    return "\\n".join([*wrap(record, 13), f"{size} MB"])
-
-
 def verdicts():
-    """(what, command, milliseconds a megabyte of the proved judge, of the second one) of each record."""
-    judges, own = read_figures(FIGURES / "judges.csv"), read_figures(FIGURES / "own.csv")
-    for case in dict.fromkeys(it for it, *_ in judges):
-        size, record = case.split(" MB ")
-        yield label(record, size), *(judges[case, it, "least ms"] / float(size) for it in ("mc2", "second judge"))
-    for case in dict.fromkeys(it.rpartition(" ")[0] for it, *_ in own):
-        size, record = case.split(" MB ")
-        took = [[own[f"{case} {part}", it, "least ms"] for part in ("ask", "audit", "read")] for it in ("libjudge.a", "second judge")]
-        yield label(f"{record} own objects", size), *((ask + audit - read) / float(size) for ask, audit, read in took)
+    """(what is below the bars, milliseconds a megabyte of the proved judge, of the second one) of each record."""
+    known = read_figures(FIGURES / "judges.csv")
+    for case, kind, measure in known:
+        size, _, record = case.removesuffix(" audit").partition(" MB ")
+        if case.endswith(" audit") and kind != "second judge" and measure == "least ms" and float(size) >= 1:
+            label = "\\n".join([*wrap(record, 16), f"{size} MB"])
+            yield label, *(known[case, it, measure] / float(size) for it in (kind, "second judge"))
 
 
 def verdicts_chart():
     rows = [f'"{what}" {one:.2f} {other:.2f}' for what, one, other in verdicts()]
     plots = [f'$verdicts using {at}:xtic(1) lc rgb "{colour}" title "{name}"' for at, (name, colour) in enumerate(JUDGES.items(), 2)]
-    head = ['set style data histogram; set style histogram clustered gap 1; set style fill solid', "set yrange [0:*]",
-            'set ylabel "milliseconds of a processor a megabyte"', "set key top left; set xtics font ',11'; set bmargin 6"]
-    return drawn("900,400", [*block("$verdicts", rows), *head, f"plot {', '.join(plots)}"])
+    head = ["set style data histogram; set style histogram clustered gap 1; set style fill solid", "set yrange [0:*]",
+            'set ylabel "milliseconds of a processor a megabyte"', "set key top left; set xtics font ',11'; set bmargin 5"]
+    return drawn("760,360", [*block("$verdicts", rows), *head, f"plot {', '.join(plots)}"])
