@@ -1,5 +1,5 @@
-"""Busy loops that run beside what is measured. They are processes of the same terminal, since the system deals out the processors
-by terminals. Each ends with the tool, however that ends, and after ten minutes of a processor at the latest."""
+"""Busy loops that run beside what is measured. They are processes of the same terminal, since the system shares processors out by
+terminals. Each ends with the tool, however that ends, and after ten minutes of a processor at the latest."""
 import contextlib
 import subprocess
 
@@ -11,7 +11,7 @@ LOOP = ["setpriv", "--pdeathsig", "KILL", "sh", "-c", f"ulimit -t {MOST_SECONDS}
 
 @contextlib.contextmanager
 def busy_loops(count):
-    """Runs so many busy loops meanwhile."""
+    """Runs that number of busy loops meanwhile."""
     loops = []
     try:
         for _ in range(count):

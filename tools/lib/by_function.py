@@ -26,7 +26,7 @@ TOLD = re.compile(r"fn (\S+): (.*)")
 UNPROVED = "`search` did not prove"
 # What it says of a proof file that names a goal, or a step of the code, that isn't there.
 GONE = re.compile(r"^\./proofs/(\S+)/\w+\.antt:\d+:\d+: error: .*has no (?:field `|`\S+` that can be named)", re.MULTILINE)
-# A check of so many functions tells of all, where one of each costs more by what it reads before.
+# How many functions a check reads at most: one check of several reads what is below them once.
 MOST_AT_ONCE = 6
 
 
@@ -63,7 +63,7 @@ def homes_of_types(folder):
 
 
 def path_in(line, module, homes):
-    """The words of the path under which the functions are that come behind such a line, or None if it opens no such block."""
+    """The words of the path of the functions in a block that such a line opens, or None if it opens none."""
     if found := TRAIT.match(line):
         return (*module, found[1])
     found = IMPL.match(line)

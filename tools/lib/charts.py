@@ -26,7 +26,7 @@ def block(name, rows):
 
 
 def panel(log, title):
-    """The nanoseconds of a call by threads, with a log of that kind: a line through the least, and thin bars up to the middle."""
+    """The nanoseconds of a call by threads, with a log of that kind: a line through the least, bars up to the middle."""
     known, lines, plots = read_figures(FIGURES / "cells_speed.csv"), [], []
     for at, (kind, (colour, dash)) in enumerate(LOCKS.items()):
         rows = []
@@ -48,7 +48,8 @@ def calls_chart():
         'set xlabel "threads that call one queue"; set ylabel "nanoseconds a call"', "unset key",
     ]
     legend = ["unset ylabel; set key at screen 0.99,0.85 right samplen 2 spacing 1.2"]
-    return drawn("900,400", [*head, *panel("no log", "without a log"), *legend, *panel("kept log", "with a log kept in memory")])
+    panels = [*panel("no log", "without a log"), *legend, *panel("kept log", "with a log kept in memory")]
+    return drawn("900,400", [*head, *panels])
 
 
 def verdicts():
@@ -63,7 +64,8 @@ def verdicts():
 
 def verdicts_chart():
     rows = [f'"{what}" {one:.2f} {other:.2f}' for what, one, other in verdicts()]
-    plots = [f'$verdicts using {at}:xtic(1) lc rgb "{colour}" title "{name}"' for at, (name, colour) in enumerate(JUDGES.items(), 2)]
+    judges = enumerate(JUDGES.items(), start=2)
+    plots = [f'$verdicts using {at}:xtic(1) lc rgb "{colour}" title "{name}"' for at, (name, colour) in judges]
     head = ["set style data histogram; set style histogram clustered gap 1; set style fill solid", "set yrange [0:*]",
             'set ylabel "milliseconds of a processor a megabyte"', "set key top left; set xtics font ',11'; set bmargin 5"]
     return drawn("760,360", [*block("$verdicts", rows), *head, f"plot {', '.join(plots)}"])

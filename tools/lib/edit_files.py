@@ -37,7 +37,7 @@ def wrong_form(edit):
     if None in kinds:
         return f"line {kinds.index(None) + 1} begins with none of `file: `, `old: ` and `new:`"
     if not re.fullmatch(r"(file: (old: new:)+)+", "".join(it[0] for it in kinds)):
-        return "it isn't made of a `file:` with pairs of `old:` and `new:` behind it"
+        return "it isn't made of a `file:` with pairs of `old:` and `new:` after it"
     return None
 
 

@@ -66,8 +66,8 @@ class Room:
         (path / "mc2").symlink_to(program)
 
     def wrong(self, example):
-        """(line, what is wrong) for commands that print something else, or that fail and have no output to show. They are run by
-        sh in the top folder, without an input; both streams count."""
+        """(line, what is wrong) for commands that print something else, or that fail and have no output to show. sh runs them in
+        the top folder, without an input; both streams count."""
         how = {"stdin": subprocess.DEVNULL, "stdout": subprocess.PIPE, "stderr": subprocess.STDOUT, "timeout": SECONDS}
         try:
             ran = subprocess.run(["sh", "-c", "\n".join(example.commands)], cwd=self.path, check=False, **how)
@@ -86,8 +86,8 @@ class Room:
 
 def first_difference(lines, others):
     """The place of the first line in which two lists of lines differ, or None."""
-    pairs = enumerate(zip(lines, others))
-    return next((at for at, (one, other) in pairs if one != other), None if len(lines) == len(others) else min(len(lines), len(others)))
+    least = min(len(lines), len(others))
+    return next((at for at in range(least) if lines[at] != others[at]), None if len(lines) == len(others) else least)
 
 
 def excerpts_of(document):

@@ -1,4 +1,4 @@
-"""Whether the links and paths of a document go to what is there, and its lines are narrow. Each check gives (line, what is wrong)."""
+"""Whether links and paths of a document go to what is there, and its lines are narrow. Each check gives (line, what is wrong)."""
 import fnmatch
 import os
 import re
@@ -32,8 +32,8 @@ class Places:
         return tuple({f"{own}/", *(f"crates/{it}/" for it in crates), *(f"{it}/" for it in self.folders if f"{it}/" in text)})
 
     def has(self, path, folder, named):
-        """Whether it is a file or folder from the top, from crates/ or from the document's folder, or the end of the path of one
-        in a folder that is named. A folder of capitals is any folder, and `X/` may be that of any crate."""
+        """Whether it is a file or folder from the top, from crates/ or from the document's folder, or the end of the path of
+        one in a folder that is named. A folder of capitals is any folder, and `X/` may be that of any crate."""
         pattern = re.sub(r"(?<![^/])[A-Z]+(?![^/])", "*", path.rstrip("/"))
         tried = {os.path.normpath(f"{base}{pattern}") for base in ("", "crates/", f"{folder}/")}
         if path.endswith("/") and "/" not in pattern:
@@ -76,12 +76,13 @@ def wrong_paths(document, places, excused):
 
 def wide_lines(document):
     lines = enumerate(map(str.rstrip, document.prose.split("\n")), start=1)
-    return [(at, f"the line has {len(it)} columns") for at, it in lines if len(it) > COLUMNS and not it.startswith(("|", "    "))]
+    wide = ((at, it) for at, it in lines if len(it) > COLUMNS and not it.startswith(("|", "    ")))
+    return [(at, f"the line has {len(it)} columns") for at, it in wide]
 
 
 def unread_names(document, top):
-    """Names that a table with the columns File and Read says to read, and that no file of their row has. A path there goes on from
-    crates/ or from the folder of the one before it."""
+    """Names that a table with the columns File and Read says to read, and that no file of their row has. A path there goes on
+    from crates/ or from the folder of the one before it."""
     is_in = False
     for line, text in enumerate(document.prose.split("\n"), start=1):
         is_in = text.startswith("| File | Read |") or is_in and text.startswith("|")
