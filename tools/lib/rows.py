@@ -139,7 +139,7 @@ def lines_of(program, file):
 
 def read_rows(program):
     """The rows of mc2 with the examples, of steps or of view; what is wrong with a row in place of one that can't be read."""
-    folders = [it.parent for it in sorted(ROOT.glob(f"rows/{program}/*/words"))]
+    folders = sorted(ROOT.glob(f"rows/{program}/*/"))
     found = [read(folder_row, it, program, it) for it in folders]
     for file in sorted(ROOT.glob(f"rows/cases/{program}/*.jsonl")):
         found += lines_of(program, file)
