@@ -11,16 +11,17 @@ A row is a line of a file rows/cases/PROGRAM/NAME.jsonl, an object in JSON. Its 
   status, stdout, stderr   what is wanted; default: 0, nothing, nothing. null: anything
   refused the line of a refusal: standard error is to be `PROGRAM: REFUSED` as a line
   echo    true: standard output is to be standard input again
-  counts  a list of [number, ending]: so many lines of the record that is printed end like this. As the record can be another one
-          each time, `stdout` is what `audit` prints of it
+  counts  for a record that can be another one each time: a list of [number, ending], where `number` lines of the record end
+          with `ending`; `stdout` is what `audit` prints of the record
 
-A text is a string, or a list whose parts are put together: strings, and [string, times], which is the string so many times, with
-0, 1, 2 .. in place of `{i}`. A byte that is no text is written as "\\udcXX". The keys of a line {"given": {..}} stand for those that
-the lines below it leave out; an empty one ends that.
+A text is a string, or a list whose parts are put together: strings, and [string, times], which repeats the string, with 0, 1,
+2 .. in place of `{i}`. A byte that is no text is written as "\\udcXX". A line {"given": {..}} has the keys that the lines below
+it take where they leave them out, up to the next such line.
 
-A row whose files are long, or are named elsewhere, is a folder rows/PROGRAM/NAME in place of a line. Its files `stdin`, `output`,
-`status`, `stdout` and `stderr` are those keys, `words` has a word a line, and `counts` a number and an ending a line. All others
-are the row's files. An example is a folder examples/NAME with `settings.toml`, `scripts`, `schedule` and the wanted `record`.
+A row whose texts are long, or whose files are named elsewhere, is a folder rows/PROGRAM/NAME. Its files `stdin`, `output`,
+`status`, `stdout` and `stderr` are those keys, `words` has a word a line, and `counts` a number and an ending a line. All
+others are the row's files. An example is a folder examples/NAME with `settings.toml`, `scripts`, `schedule` and the wanted
+`record`.
 """
 import json
 import tempfile
@@ -139,7 +140,7 @@ def lines_of(program, file):
 
 def read_rows(program):
     """The rows of mc2 with the examples, of steps or of view; what is wrong with a row in place of one that can't be read."""
-    folders = [it.parent for it in sorted(ROOT.glob(f"rows/{program}/*/words"))]
+    folders = sorted(ROOT.glob(f"rows/{program}/*/"))
     found = [read(folder_row, it, program, it) for it in folders]
     for file in sorted(ROOT.glob(f"rows/cases/{program}/*.jsonl")):
         found += lines_of(program, file)

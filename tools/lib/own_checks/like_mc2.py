@@ -1,5 +1,5 @@
-"""Records of rows of mc2 that have a name, made records 3: the program in C has to say what mc2 says, but for limits; and, where
-the library has no model of the kinds of mc2, but for wrong replies."""
+"""Records of rows of mc2 that have a name, made records 3: the program in C has to say what mc2 says, but for limits; and,
+where the library has no model of the kinds of mc2, but for wrong replies."""
 import os
 import re
 

@@ -1,3 +1,0 @@
-cat > /dev/null
-echo sound
-exit 3
