@@ -14,7 +14,7 @@ _mc2_words() {
         timeline) options='--svg --judge --said --around --help' ;;
         trace) options='--judge --said --help' ;;
         mc2-steps) options='--settings --help --version' ;;
-        mc2-why) options='--as --settings --program --help --version' ;;
+        mc2-why) options='--as --settings --program --whole --help --version' ;;
     esac
     COMPREPLY=()
     if [ "$COMP_CWORD" = 1 ] && [ -n "$commands" ]; then

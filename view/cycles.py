@@ -30,7 +30,7 @@ def row(drawn, model, cpu, number, first):
     for x, at in {LEFT: number, right: first}.items():
         box = model.entry(0, at, cpu, at)
         event = f"event {box.event}" if box.event else "no room"
-        drawn.text(x, y - 10, f"entry {at} on {model.record.objects[box.object].name}, {event}", "grey")
+        drawn.text(x, y - 10, f"entry {box.entry} on {model.record.objects[box.object].name}, {event}", "grey")
         drawn.box(x, y, WIDE, 30, box.object, box.text, about(model, box), box.is_noroom())
     drawn.add("rect", class_="frame", x=LEFT - 4, y=y - 4, width=WIDE + 8, height=38, rx=4)
     if first != number:

@@ -4,7 +4,7 @@ With an order (`is_order`) the rows are CPUs, and a box's place is its entry's p
 judge's. For one that is unsound it is one that the logs allow whatever the replies are. Without an order, for a cycle above
 all, there is a row for each log and one for each CPU; a box's place is then its number in its row."""
 from array import array
-from functools import lru_cache
+from functools import cached_property, lru_cache
 from typing import NamedTuple
 
 from view.texts.record import KEYS, Columns
@@ -38,6 +38,8 @@ def kept(boxes):
 
 
 class Model:
+    all_entries = "all entries"
+
     def __init__(self, record, verdict, mc2=None):
         """Without a verdict the record is one of objects of the writer's own. mc2 is asked for a right reply."""
         self.record, self.mc2, self.claims, self.right = record, mc2, Claims(record), None
@@ -45,27 +47,41 @@ class Model:
         if not self.verdict.is_of(record):
             raise bad_verdict("it is of another record")
         self.note = "note" if record.form == 3 else "looks"
-        self.order = self.verdict.order if self.verdict.order is not None else self.allowed()
-        self.is_order = self.order is not None
-        cpus = [f"CPU {cpu}" for cpu in range(record.cpus)]
-        self.rows = cpus if self.is_order else [f"log {named.name}" for named in record.objects] + cpus
-        self.boxes = kept(self.in_order() if self.is_order else self.apart())
-        self.marked = [at for at, box in enumerate(self.boxes) if self.is_marked(box, not self.is_order)]
 
-    def allowed(self):
+    @cached_property
+    def order(self):
         """An order of all entries in which each log and each transcript keeps its own, or None if there is none, or if the
         first fault is an event without an entry. It is that of `mc2 merge`, if the record is sound."""
+        if self.verdict.order is not None:
+            return self.verdict.order
         if self.verdict.cycle or self.verdict.fault and self.verdict.fault.what in ("unclaimed", "too long"):
             return None
         placing = Placing(self.claims)
         return placing.order if placing.is_whole() else None
+
+    @cached_property
+    def is_order(self):
+        return self.order is not None
+
+    @cached_property
+    def rows(self):
+        cpus = [f"CPU {cpu}" for cpu in range(self.record.cpus)]
+        return cpus if self.is_order else [f"log {named.name}" for named in self.record.objects] + cpus
+
+    @cached_property
+    def boxes(self):
+        return kept(self.in_order() if self.is_order else self.apart())
+
+    @cached_property
+    def marked(self):
+        return [at for at, box in enumerate(self.boxes) if self.is_marked(box, not self.is_order)]
 
     def entry(self, row, at, cpu, number):
         it, event = self.record.transcripts[cpu][number - 1], self.claims.event_of(cpu, number)
         text, logged = worded(it.asked, it.done), self.record.logs[it.object][event - 1].steps if event else None
         if event and logged != it.done:  # (then the record is unsound)
             text = f"{it.asked} | {it.done} | {logged}"
-        return Box(row, at, cpu, number, it.object, it.looks, event, text)
+        return Box(row, at, cpu, self.entry_number(cpu, number), it.object, it.looks, self.number_of(event, it.object), text)
 
     def in_order(self):
         for at, (cpu, number) in enumerate(self.order, 1):
@@ -76,10 +92,25 @@ class Model:
             for event, (cpu, steps) in enumerate(log, 1):
                 entry = self.claims.entry_of(number, event)
                 looks = self.record.transcripts[cpu][entry - 1].looks if entry else 0
-                yield Box(number, event, cpu, entry, number, looks, event, steps)
+                named = self.entry_number(cpu, entry), number, looks, self.number_of(event, number)
+                yield Box(number, event, cpu, *named, steps)
         for cpu, transcript in enumerate(self.record.transcripts):
             for number in range(1, len(transcript) + 1):
                 yield self.entry(len(self.record.logs) + cpu, number, cpu, number)
+
+    def number_of(self, event, number):
+        """The number of an event in its log, and below that of an entry in its transcript, as they are shown."""
+        return event
+
+    def entry_number(self, cpu, entry):
+        return entry
+
+    def events_of(self, number):
+        return len(self.record.logs[number])
+
+    def mark(self):
+        """What a box is that is marked."""
+        return "in the cycle" if self.verdict.cycle else "the first fault"
 
     def is_marked(self, box, is_apart):
         """Whether the box has the first fault, or is an entry of the cycle. Apart, an event has a box in its log too."""
@@ -108,7 +139,7 @@ class Model:
         """What left to right is."""
         if not self.is_order:
             return "There is no one order: each row counts its own events or entries."
-        order = "an order that the logs allow" if self.verdict.fault else "the one order of all entries"
+        order = "an order that the logs allow" if self.verdict.fault else f"the one order of {self.all_entries}"
         return f"From left to right is {order}, and no time."
 
     def held(self):

@@ -36,7 +36,8 @@ def timeline(model):
         raise Refused(f"E17 page: {len(model.boxes)} boxes, at most {MOST_BOXES}; --svg draws them in parts", 2)
     data = {
         "title": model.title(), "isBad": model.is_bad(), "isOrder": model.is_order, "means": model.means(), "note": model.note,
-        "objects": [{"name": named.name, "said": named.said(), "most": named.events} for named in model.record.objects],
+        "objects": [{"name": named.name, "said": named.said(), "most": named.events, "events": model.events_of(number)}
+                    for number, named in enumerate(model.record.objects)], "mark": model.mark(),
         "inks": [ink(number) for number in range(16)], "marked": model.marked, "rows": model.rows, "held": model.held(),
         "print": picture(model), **columns(model),
     }

@@ -53,6 +53,8 @@ def order(drawn, model):
         if tail > 0:
             drawn.add("rect", x=left - tail, y=y - 6, width=tail, height=12, fill=colour(box.object), fill_opacity=0.35)
         drawn.box(left, y - 13, wide * 0.88, 26, box.object, box.text, f"{box.at}: {about(model, box)}", box.is_noroom())
+        if box.at - 1 in model.marked:
+            drawn.add("rect", class_="frame", x=left - 3, y=y - 16, width=wide * 0.88 + 6, height=32, rx=4)
         if wide > 28 or box.at % 5 == 0:
             drawn.text(left + wide * 0.44, top - 6, str(box.at), "grey", "middle")
         last[box.cpu] = box.at

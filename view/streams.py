@@ -4,6 +4,8 @@ import os
 import threading
 import time
 
+LEAST_SECONDS = 5  # what takes less isn't worth a word
+
 
 def open_streams():
     """Opens each standard stream that is closed, so that no file gets its number. To read or to write there fails as before, and
@@ -21,6 +23,13 @@ def say(line):
         os.write(2, f"{line}\n".encode(errors="backslashreplace"))
     except OSError:
         pass
+
+
+def tell_large(name, file, speed, more):
+    """Says at once how long this text takes if that is more than some seconds, by how many megabytes a second are done."""
+    megabytes = os.fstat(file.fileno()).st_size / 1e6
+    if megabytes > LEAST_SECONDS * speed:
+        say(f"{name}: {megabytes:,.0f} MB take about {megabytes / speed:,.0f} seconds, {more}")
 
 
 def tell_time(name):

@@ -79,11 +79,20 @@ def unlike(got, wanted, most):
     return f"{status}, {out[:200]!r}, {faults[-200:]!r}, {used // MEBIBYTE} MiB, at most {most // MEBIBYTE}"
 
 
+def behind_estimate(name, kind, text, said):
+    """What was said behind the line that says how long a large text takes."""
+    if kind != "record" or isinstance(text, Path) or len(text) < 5e6:
+        return said
+    line, _, rest = said.partition("\n")
+    return rest if line.startswith(f"{name}: {len(text) / 1e6:,.0f} MB take about ") else f"no time: {said}"
+
+
 def why_refused(program, kind, text, refusal, folder):
     """What is wrong with what tools/develop/why says of such a text, or None."""
     path = given(text, folder / "text")
     got = ended([ROOT / "tools/develop/why", "--program", program, "--as", kind, path])
     status, out, faults, used = got
+    faults = behind_estimate("tools/develop/why", kind, text, faults)
     place, _, rest = out.removeprefix(f"{path}:").partition(": ")
     is_placed = place.replace(":", "").isdigit() and rest.startswith(f"{refusal}\n    ") and "\nwanted: " in rest
     return unlike((status, "placed" if is_placed else out, faults, used), (1, "placed", ""), MOST)
@@ -94,7 +103,9 @@ def view_refused(kind, text, refusal, environment, folder):
     path, settings = given(text, folder / "text"), given(BUILT_IN.encode(), folder / "settings")
     words = {"record": ["timeline", path], "settings": ["schedule", "--settings", path, "/dev/null"],
              "scripts": ["schedule", "--settings", settings, path]}
-    return unlike(ended([ROOT / "view/view", *words[kind]], environment), (2, "", f"view: {refusal}\n"), MOST)
+    status, out, faults, used = ended([ROOT / "view/view", *words[kind]], environment)
+    faults = behind_estimate("view", kind, text, faults)
+    return unlike((status, out, faults, used), (2, "", f"view: {refusal}\n"), MOST)
 
 
 def view_tried(program, steps, draw):

@@ -15,6 +15,7 @@ from view.verdict import by_judge
 from models import Wrong, check_model, same
 
 OWN = ROOT / "examples/own/records"
+RIGHT = OWN / "runq_right"
 # What examples/own/own.c says of runq_lower_first (examples/own/README.md).
 WITNESS = """unsound: log ready event 6 step 1: wrong step
 a thread of a higher priority waits:
@@ -133,17 +134,29 @@ def check_own(_):
             check_model(Model(read_record(file.read_bytes()), None))
 
 
-def check_full(judge):
-    """A disk that is full."""
-    for words in ["timeline"], ["timeline", "--svg"], ["trace"]:
-        with open("/dev/full", "wb") as full:
-            ran = subprocess.run([ROOT / "view/view", *words, OWN / "runq_right"], stdout=full, stderr=subprocess.PIPE)
-        same((ran.returncode, ran.stderr) == (3, b"view: E13 write failed\n"), f"{words}: {ran.returncode}, {ran.stderr!r}")
+# What sh does to the standard streams, the words of view, its status, and its line, or None where that can't be seen.
+STREAMS = [
+    (">/dev/full", ["timeline", RIGHT], 3, "E13 write failed"), (">/dev/full", ["timeline", "--svg", RIGHT], 3, "E13 write failed"),
+    (">/dev/full", ["trace", RIGHT], 3, "E13 write failed"), ("<&-", ["timeline"], 3, "E12 read failed"),
+    (">&-", ["timeline", RIGHT], 3, "E13 write failed"), (">&-", ["--help"], 3, "E13 write failed"),
+    *((streams, *it, None) for streams in ("2>/dev/full", "2>&-") for it in
+      ((["bogus"], 2), (["timeline", "/not/there"], 3), (["timeline", "/dev/null"], 2), (["timeline", RIGHT], 0))),
+    ("<&- >&- 2>&-", ["timeline", RIGHT], 3, None), ("<&- 2>&-", ["timeline", RIGHT], 0, None),
+]
+
+
+def check_streams(judge):
+    """Standard streams that are full or closed."""
+    for streams, words, status, line in STREAMS:
+        command = ["sh", "-c", f'exec "$@" {streams}', "sh", ROOT / "view/view", *words]
+        ran = subprocess.run(command, capture_output=True, env=judge.environment)
+        said = f"view: {line}\n".encode() if line else b""
+        same((ran.returncode, ran.stderr) == (status, said), f"{words} {streams}: {ran.returncode}, {ran.stderr!r}")
 
 
 CHECKS = {"a witness": check_witness, "markup": check_markup, "what is no verdict": check_refused,
           "a judge that never ends": check_never, "a judge that isn't there": check_missing,
-          "a judge's order and cycle": check_orders, "records 3": check_own, "a full disk": check_full}
+          "a judge's order and cycle": check_orders, "records 3": check_own, "closed and full streams": check_streams}
 
 
 def check_judges(checks):

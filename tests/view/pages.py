@@ -9,9 +9,10 @@ from view.model import Model
 from view.pages import steps_page, timeline
 from view.verdict import by_mc2, by_said
 from browser import Browser, Lost
-from drawn import shown_run
+from drawn import record_of, shown_run
 from judges import MARKUP, OWN, WRONG
 from models import same
+from parts import part_of
 
 HERE = Path(__file__).parent
 LOOKS = ROOT / "out"
@@ -90,6 +91,16 @@ def check_cycle(pages):
     pages.look("cycle")
 
 
+def check_around(pages):
+    """The part of a record around an event, with the numbers of the whole."""
+    part = part_of(record_of(4, 1, [(at % 4, 0) for at in range(3_000)]).encode(), "log o0 event 1501 step 1: wrong step", 100)
+    pages.walk(part)
+    pages.browser.press("f")
+    said = pages.browser.run("byId('one').innerText")
+    for words in "CPU 0", "entry 376", "the event that was named", "event 1,501 of 3,000 in its log":
+        same(words in said, f"{words!r} isn't in the card: {said!r}")
+
+
 def check_markup(pages):
     """A judge's words don't become a part of the page."""
     text = (OWN / "runq_lower_first").read_bytes()
@@ -130,7 +141,7 @@ def draw_documents(checks):
 
 
 PAGES = {"a card": check_card, "80,000 entries": check_large, "a fault": check_fault, "a cycle": check_cycle,
-         "markup": check_markup, "steps": check_steps}
+         "a part": check_around, "markup": check_markup, "steps": check_steps}
 
 
 def check_pages(checks):

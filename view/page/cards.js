@@ -10,8 +10,8 @@ function card(i) {
     table.append(make("tr", {}, make("td", {}, call), make("td", { className: reply.startsWith("=") ? "" : "grey" }, reply)));
   const places = [D.isOrder && `place ${byNumber(box.at[i])}`, `CPU ${box.cpu[i]}`,
     box.entry[i] ? `entry ${byNumber(box.entry[i])}` : "no entry has this event",
-    isMarked[i] && (D.marked.length > 1 ? "in the cycle" : "the first fault")];
-  const [event, events, most] = [box.event[i], ofObject[box.object[i]].length, object.most].map(byNumber);
+    isMarked[i] && D.mark];
+  const [event, events, most] = [box.event[i], object.events, object.most].map(byNumber);
   const held = box.event[i] && (D.held[box.object[i]] || [])[box.event[i] - 1];
   const log = box.event[i] ? `event ${event} of ${events} in its log, which may have ${most}` : "no event of its log";
   const looks = D.boxes.looks[i], looked = `looked ${byNumber(looks)} time${looks === 1 ? "" : "s"} at the lock`;

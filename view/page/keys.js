@@ -104,8 +104,7 @@ const HELP = [
 
 function help() {
   const table = make("table");
-  const fault = D.marked.length > 1 ? "next in the cycle; Esc clears" : "the first fault; Esc clears";
-  const cells = [...HELP, D.marked.length ? ["f", fault] : ["Esc", "clear all"]].flat().map((it) => make("td", {}, it));
+  const cells = [...HELP, D.marked.length ? ["f", D.mark + "; Esc clears"] : ["Esc", "clear all"]].flat().map((it) => make("td", {}, it));
   while (cells.length) table.append(make("tr", {}, ...cells.splice(0, 4)));
   const tails = hasTails() ? " A pale tail grows with how often the CPU looked at the lock." : "";
   return make("div", { id: "keys" }, make("div", {}, `${D.means}${tails} Hatched: no room in the log.`), table);
