@@ -4,9 +4,9 @@ use std::path::{Path, PathBuf};
 
 const HOW: &str = "`tools/develop/library cells --unproved && tools/develop/library judge --unproved` makes both in .unproved";
 
-/// Says that a library is being made: at the terminal at once, as cargo shows what a build script prints only once that has ended.
+/// Says that a library is being made: at the terminal at once, since cargo shows what a build script prints only at its end.
 fn announce(name: &str) {
-    let line = format!("lib{name}.a is made without a proof, which takes a minute or two; MC2_HOME names a folder that has it");
+    let line = format!("lib{name}.a is made without a proof, in a minute or two; MC2_HOME names a folder that has it");
     println!("cargo:warning={line}");
     if let Ok(mut terminal) = std::fs::OpenOptions::new().write(true).open("/dev/tty") {
         let _ = writeln!(terminal, "\r\x1b[Kmc2: {line}");
