@@ -1,4 +1,6 @@
 """Builds the static libraries that programs in C link, over what `rt ci` left of the crates below them."""
+import fcntl
+import os
 import shutil
 import tempfile
 from pathlib import Path
@@ -90,7 +92,9 @@ def build_library(crate, clang="library_clang", library=None):
     library = library or folder / f"out/lib{crate}.a"
     checked = folder / f"out/{crate}.checked"
     library.parent.mkdir(parents=True, exist_ok=True)
-    with tempfile.TemporaryDirectory() as room:
+    with open(folder / "out/library.lock", "w") as lock, tempfile.TemporaryDirectory() as room:
+        # (checks that run at the same time build the same libraries)
+        fcntl.flock(lock, fcntl.LOCK_EX)
         make_library_toolchain(Path(room), crate, clang)
         words = words_of(crate)
         new = Path(room) / f"lib{crate}.a"
@@ -100,5 +104,6 @@ def build_library(crate, clang="library_clang", library=None):
             run([kit() / "bin/rattle", "check", *words, *proof], cwd=folder)
             run(build, cwd=folder)
         strip_for(clang, new)
-        shutil.copy(new, library)
+        shutil.copy(new, f"{library}.new")
+        os.replace(f"{library}.new", library)
     return library
