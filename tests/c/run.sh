@@ -1,14 +1,14 @@
 #!/bin/sh
 # use: run.sh [NAME=VALUE].. -- COMMAND WORD..
 #
-# Runs the command, compares what came of it, and ends with 0 if all is as it should be, or with 1 and a line that says what isn't.
+# Runs the command and compares what came of it. Ends with 0 if all is as it should be, or with 1 and a line that says what isn't.
 #
 #   status=N        the command ends with N; else with 0
 #   out=PATTERN     a line of standard output matches the pattern (grep -E); the same of err, for standard error
 #   last=PATTERN    the last line of standard error matches the pattern
 #   errors=CODES    rustc complains of these errors alone
 #   says=LINE       standard output is this line
-#   audit=PATTERN   standard output is a record, and what `$MC2 audit` prints of it is a line that the pattern matches as a whole.
+#   audit=PATTERN   standard output is a record, and the pattern matches the whole line that `$MC2 audit` prints of it.
 #                   Where `sound` is wanted, `$MC2 merge` has to print a line for each entry
 #   merge=PATTERN   the same of what `$MC2 merge` complains of
 #   cpus=N events=N entries=N noroom=N each=N

@@ -1,5 +1,6 @@
-// Checks include/mc2_wait.h, as C11 and as C++17: what a caller in line does after each look in vain, who stays outside and for how
-// long, and that nobody rests at the end. With NAPS a nap is defined, and else there is none, as where there is no operating system.
+// Checks include/mc2_wait.h, as C11 and as C++17: what a caller in line does after each look in vain, who stays outside and
+// for how long, and that nobody rests at the end. With NAPS a nap is defined, and else there is none, as where there is no
+// operating system.
 //
 // The status is 0, or 1 at the first check that fails, which a line on standard error names.
 #include <stdbool.h>

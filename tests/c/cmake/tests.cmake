@@ -23,10 +23,11 @@ function(mc2_sanitizer SANITIZE OUT)
     endif()
 endfunction()
 
-# mc2_program(NAME SOURCES .. [LIBRARIES cells|judge|kernel_cells|kernel_judge|heap|FILE ..] [SANITIZE address,undefined|thread]
+# mc2_program(NAME SOURCES .. [LIBRARIES cells|judge|kernel_cells|kernel_judge|heap|FILE ..] [SANITIZE
+# address,undefined|thread]
 #             [STANDARD c11|c++17|..] [OPTIONS ..])
-# Builds a program, warnings being errors. A source in C is compiled as C++ if that is the standard. Where the compiler of C++, the
-# sanitizer or a library isn't there, each test that runs the program is skipped. SANITIZE OFF: never with a sanitizer.
+# Builds a program, warnings being errors. A source in C is compiled as C++ if that is the standard. Where the compiler of C++,
+# the sanitizer or a library isn't there, each test that runs the program is skipped. SANITIZE OFF: never with a sanitizer.
 function(mc2_program NAME)
     cmake_parse_arguments(PARSE_ARGV 1 IT "" "SANITIZE;STANDARD" "SOURCES;LIBRARIES;OPTIONS")
     cmake_path(GET CMAKE_CURRENT_SOURCE_DIR FILENAME FOLDER)
@@ -142,4 +143,5 @@ function(mc2_compiles NAME)
 endfunction()
 
 # The compiler's own headers, which are there without a C library.
-execute_process(COMMAND ${CMAKE_C_COMPILER} -print-file-name=include OUTPUT_VARIABLE COMPILER_HEADERS OUTPUT_STRIP_TRAILING_WHITESPACE)
+execute_process(COMMAND ${CMAKE_C_COMPILER} -print-file-name=include
+    OUTPUT_VARIABLE COMPILER_HEADERS OUTPUT_STRIP_TRAILING_WHITESPACE)

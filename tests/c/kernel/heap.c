@@ -1,7 +1,7 @@
-// Checks include/mc2_heap.h, from which libcells.a takes its memory here. Memory is handed over 16 bytes at a time, and each time
-// a cell and its callers are opened: as long as there is too little that is refused, and all memory is free again. Then threads
-// take and give blocks at once. It prints how much memory a cell takes, by its object, its lock, its CPUs and its events, and holds
-// that to figures.h.
+// Checks include/mc2_heap.h, from which libcells.a takes its memory here. Memory is handed over 16 bytes at a time, and each
+// time a cell and its callers are opened: as long as there is too little that is refused, and all memory is free again. Then
+// threads take and give blocks at once. It prints how much memory a cell takes, by its object, its lock, its CPUs and its
+// events, and holds that to figures.h.
 //
 // The status is 0, or 1 at the first check that fails, which a line on standard error names.
 #include "figures.h"

@@ -3,8 +3,8 @@
 #
 #   linked.sh asks FILE NAME..    the library or object asks for none but these functions
 #   linked.sh sections FILE       it has code, and neither storage of threads nor constructors or destructors
-#   linked.sh code FILE           no instruction names a register of SSE, or a fixed place below the stack's pointer. With an index
-#                                 register such a place may lie above it, as where the end of an array on the stack is compared
+#   linked.sh code FILE           no instruction names a register of SSE, or a fixed place below the stack's pointer. With an
+#                                 index register it may be above it, as where the end of an array on the stack is compared
 #   linked.sh size FILE MOST      the file has at most so many bytes
 #   linked.sh page FIGURES PAGE   the page has each figure of the header, with commas
 set -u

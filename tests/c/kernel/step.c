@@ -1,7 +1,7 @@
-// Checks that MC2_STEP stands around each call of the library in the inline functions of include/mc2_cells.h, and around one at a
-// time: then no interrupt that a kernel masks there comes within the library. In its place are the functions below. Each tells
-// what has the header's loops go on, and in the end what ends them. With APART it checks that MC2_OPENING stands around just those
-// that open, close and free.
+// Checks that MC2_STEP stands around each call of the library in the inline functions of include/mc2_cells.h, and around one
+// at a time: then no interrupt that a kernel masks there comes within the library. In its place are the functions below. Each
+// tells what has the header's loops go on, and in the end what ends them. With APART it checks that MC2_OPENING stands around
+// just those that open, close and free.
 //
 // The status is 0, or 1 at the first check that fails, which a line on standard error names.
 static unsigned begin_step(void);

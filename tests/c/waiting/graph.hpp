@@ -80,9 +80,6 @@ public:
         return found;
     }
 
-    // Whether the caller's step, from a state of the part that was found, stays in it.
-    bool steps_on(uint32_t at, int i) const { return part[at] == part[found] && stays(at, i); }
-
 private:
     const Graph &graph;
     const int callers;

@@ -1,16 +1,16 @@
 // use: states LOCK CALLERS LONG_WAIT all|PROPERTY [CHOICE=NUMBER]..
 //
-// Tries a model of the waiting at a ticket lock or an MCS lock: every interleaving of 2 to 4 callers, each with any number of calls.
-// Prints `accepted STATES` if that form of the waiting has the property, or else `refused STEPS` and the shortest way there, a step
-// a line. The status is 0 or 1, or 2 for wrong words. CMakeLists.txt has the forms that are tried.
+// Tries a model of the waiting at a ticket lock or an MCS lock: every interleaving of 2 to 4 callers, each with any number of
+// calls. Prints `accepted STATES` if that form of the waiting has the property, or else `refused STEPS` and the shortest way
+// there, a step a line. The status is 0 or 1, or 2 for wrong words. CMakeLists.txt has the forms that are tried.
 //
 // The model is written by hand from crates/word_rule/src/resting.rt and, of each lock's crate, src/whole.rt, src/lock.rt and
-// src/steps.rt. It isn't proved to be that code: read steps.hpp beside it. digest.sh sees that no function that waits has changed
-// since. Who changes one reads both again, and writes its digest into CMakeLists.txt.
+// src/steps.rt. It isn't proved to be that code: read steps.hpp beside it. digest.sh sees that no function that waits has
+// changed since. Who changes one reads both again, and writes its digest into CMakeLists.txt.
 //
 // A step is one operation on one word, of the lock or `resting`, or the end of a sleep. The steps have one order, as the kit's
-// atomics do. A sleep ends at any time, early or arbitrarily late, but it ends. Between two calls a caller may begin another, or
-// never do. Tries are left out, since they wait for nothing. The properties, in all states that can be reached:
+// atomics do. A sleep ends at any time, early or arbitrarily late, but it ends. Between two calls a caller may begin another,
+// or never do. Tries are left out, since they wait for nothing. The properties, in all states that can be reached:
 //
 //   order    who has the object is the first of those in line: of those who came by a draw or an enter, in that order, and haven't
 //            given it back; so one has it at a time
@@ -23,17 +23,17 @@
 //            a nap that it was about to begin comes before
 //   forever  every call ends, in every fair run
 //
-// A run is a way through the graph whose points are the states and whose arrows are the steps of callers. It is fair if no caller is
-// in a call and has a step from some point on without ever taking one. Let c be a caller, and take from the graph the arrows by which
-// a call of c ends. A fair run in which a call of c never ends stays in one strongly connected part of what is left from some point
-// on. In that part c is in a call; and each caller has an arrow in it, is between two calls at some state of it, or has no step at
-// some state of it. Conversely a part of this kind is such a run, as one way goes through all its arrows again and again. A state in
-// which nobody has a step, though a call hasn't ended, is a part of one point. So the property holds exactly if there is no such
-// part. Since callers are alike, c is the first one.
+// A run is a way through the graph whose points are the states and whose arrows are the steps of callers. It is fair if no
+// caller is in a call and has a step from some point on without ever taking one. Let c be a caller, and take from the graph
+// the arrows by which a call of c ends. A fair run in which a call of c never ends stays in one strongly connected part of
+// what is left from some point on. In that part c is in a call; and each caller has an arrow in it, is between two calls at
+// some state of it, or has no step at some state of it. Conversely a part of this kind is such a run, as one way goes through
+// all its arrows again and again. A state in which nobody has a step, though a call hasn't ended, is a part of one point. So
+// the property holds exactly if there is no such part. Since callers are alike, c is the first one.
 //
-// In the code a caller naps after look 120, here after look 1 or 2. Take out all looks in vain before a call's first nap but one or
-// two, and a run of the code is one of the model: they differ in their number alone. With one caller more a wrong form is refused
-// too, as that one may never call. Nothing follows for five callers, nor of how long anything takes.
+// In the code a caller naps after look 120, here after look 1 or 2. Take out all looks in vain before a call's first nap but
+// one or two, and a run of the code is one of the model: they differ in their number alone. With one caller more a wrong form
+// is refused too, as that one may never call. Nothing follows for five callers, nor of how long anything takes.
 #include "graph.hpp"
 #include "judge.hpp"
 #include <cstdio>
@@ -67,20 +67,6 @@ static void print_way(const Graph &graph, const Way &way) {
     }
 }
 
-// What each caller does for ever.
-static void print_part(const Graph &graph, const Endless &endless) {
-    for (int i = 0; i < graph.waiting.callers; i++) {
-        bool does[sizeof PLACE_NAMES / sizeof *PLACE_NAMES] = {};
-        for (uint32_t at = 0; at < graph.states.size(); at++)
-            if (endless.steps_on(at, i)) does[graph.states[at].callers[i].place] = true;
-        printf("caller %d, for ever:", i);
-        bool is_still = true;
-        for (size_t place = 0; place < sizeof does; place++)
-            if (does[place]) is_still = !printf("%s %s", is_still ? "" : ",", STEP_NAMES[place]);
-        puts(is_still ? " nothing" : "");
-    }
-}
-
 static int refuse(const Graph &graph, const Way &way) {
     printf("refused %zu\n", way.size() - 1);
     print_way(graph, way);
@@ -100,10 +86,8 @@ int main(int count, char **words) {
     auto is_wrong = [&](const State &before, int i, const State &after) { return judge.is_wrong(before, i, after); };
     const Way way = graph.search(is_wrong);
     if (!way.empty()) return refuse(graph, way);
-    Endless endless(graph);
-    const uint32_t found = judge.asks(forever) ? endless.search() : NONE;
+    const uint32_t found = judge.asks(forever) ? Endless(graph).search() : NONE;
     if (found == NONE) return printf("accepted %zu\n", graph.states.size()), 0;
     refuse(graph, graph.way_to(found));
-    print_part(graph, endless);
-    return 1;
+    return puts("and from there on a call of caller 0 may never end"), 1;
 }
