@@ -6,11 +6,11 @@ import re
 from array import array
 from collections import Counter
 
+from texts.line import Copying, Fault
+from texts.record import Reader, read_record
 from view.asked import Refused
 from view.claims import Claims, Placing
 from view.model import Model
-from view.texts.line import Copying, Fault
-from view.texts.record import Reader, read_record
 from view.verdict import Verdict
 
 EVENT = re.compile(r"(?:(?:unsound: )?log )?([a-z][a-z0-9]{0,15})(?::| event )([1-9][0-9]{0,9})(?:(?: step [1-8])?: [a-z ]+)?")

@@ -8,7 +8,7 @@ import xml.etree.ElementTree as xml
 from pathlib import Path
 
 from common import ROOT
-from view.texts.record import read_record
+from texts.record import read_record
 from view import asked
 from view.model import Model
 from view.verdict import by_judge

@@ -3,10 +3,10 @@ import io
 import tempfile
 
 from models import check_picture, drawn, page_boxes, page_data, same
+from texts.line import Fault
 from view.around import MOST_BETWEEN, around
 from view.asked import Refused
 from view.pages import timeline
-from view.texts.line import Fault
 
 
 def part_of(text, named, near):
