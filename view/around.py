@@ -6,11 +6,11 @@ import re
 from array import array
 from collections import Counter
 
+from texts.line import Copying, Fault
+from texts.record import Reader, read_record
 from view.asked import Refused
 from view.claims import Claims, Placing
 from view.model import Model
-from view.texts.line import Copying, Fault
-from view.texts.record import Reader, read_record
 from view.verdict import Verdict
 
 EVENT = re.compile(r"(?:(?:unsound: )?log )?([a-z][a-z0-9]{0,15})(?::| event )([1-9][0-9]{0,9})(?:(?: step [1-8])?: [a-z ]+)?")
@@ -121,9 +121,9 @@ class Part(Model):
         return f"Around event {event:,} of {self.record.objects[number].name}: {drawn} of {all_of} entries; replies not judged"
 
 
-def around(file, copy, named, near):
-    """What is drawn of the record in this file around an event, named as `q0:17` or as a verdict names it. The copy gets what is
-    read."""
+def around(file, copy, named, near, most):
+    """What is drawn of the record in this file around an event, named as `q0:17` or as a verdict names it: so many events at
+    each side, or fewer where more entries than `most` would be drawn. The copy gets what is read."""
     name, event = EVENT.fullmatch(named).groups()
     fronts, event = Fronts(Copying(file, copy), (b"1", b"2", b"3")), int(event)
     fronts.all()
@@ -131,4 +131,7 @@ def around(file, copy, named, near):
     if number is None or event > len(fronts.logs[number]):
         raise Refused(f"E18 around: the record has no event {event} of {name}", 2)
     events, entries = chosen(fronts, number, event, near)
+    while near and sum(map(len, entries)) > most:
+        near //= 2
+        events, entries = chosen(fronts, number, event, near)
     return Part(part_of(copy, fronts, events, entries), fronts, (number, event), events, entries)

@@ -4,7 +4,7 @@ import heapq
 from array import array
 from collections import defaultdict
 
-from view.texts.record import steps_of
+from texts.record import steps_of
 from view.verdict import Verdict, places
 
 

@@ -2,7 +2,7 @@
 import re
 from contextlib import suppress
 
-from view.texts.record import steps_of
+from texts.record import steps_of
 from view.held import held_at
 from view.model import kept
 from view.svg import LETTER

@@ -4,8 +4,8 @@ No answer is computed here. Up to the first wrong step all replies are right, an
 reply to the call of that step comes from the proved program: it does the same calls once more, on one CPU."""
 import tempfile
 
-from view.texts.calls import GOING_ON
-from view.texts.record import read_record, steps_of
+from texts.calls import GOING_ON
+from texts.record import read_record, steps_of
 
 MOST_CALLS, MOST_EVENTS = 80_000, 65_536  # of one CPU: 10,000 entries of 8 calls; and of a log
 

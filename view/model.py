@@ -7,7 +7,7 @@ from array import array
 from functools import cached_property, lru_cache
 from typing import NamedTuple
 
-from view.texts.record import KEYS, Columns
+from texts.record import KEYS, Columns
 from view.asked import bad_verdict
 from view.claims import Claims, Placing, verdict_by_claims
 from view.held import held_at, held_before, right_reply

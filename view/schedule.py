@@ -6,8 +6,8 @@ from collections import Counter
 from contextlib import suppress
 from pathlib import Path
 
+from texts.line import MOST_BYTES, MOST_ENTRIES, MOST_LINE, entry_lines
 from view.asked import STEPS, Refused
-from view.texts.line import MOST_BYTES, MOST_ENTRIES, MOST_LINE, entry_lines
 
 MOST_WORDS, MOST_CPUS = 100_000, 64
 LEAST_STEPS = 3  # what an entry takes at least: at a ticket lock it draws, looks and serves

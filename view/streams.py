@@ -1,4 +1,4 @@
-"""The standard streams, each of which may be closed or full. A tool says a line on standard error by `say`, which never fails."""
+"""The standard streams, each of which may be closed or full. `say` writes a line to standard error, and never fails."""
 import itertools
 import os
 import threading
@@ -8,8 +8,8 @@ LEAST_SECONDS = 5  # what takes less isn't worth a word
 
 
 def open_streams():
-    """Opens each standard stream that is closed, so that no file gets its number. To read or to write there fails as before, and
-    what is said on standard error is lost."""
+    """Opens each standard stream that is closed, so that no file gets its number. To read or to write there fails as before,
+    and what is said on standard error is lost."""
     for number, mode in enumerate((os.O_WRONLY, os.O_RDONLY, os.O_WRONLY)):
         try:
             os.fstat(number)
@@ -33,7 +33,7 @@ def tell_large(name, file, speed, more):
 
 
 def tell_time(name):
-    """If standard error is a terminal, a line says after 2 seconds how long this process has been running, after 4, 8 and so on."""
+    """Says at a terminal after 2 seconds how long this process has been running, after 4, after 8 and so on."""
     def tell():
         begun = time.monotonic()
         for seconds in (2 << doubled for doubled in itertools.count()):

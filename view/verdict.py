@@ -14,7 +14,7 @@ import re
 from array import array
 from typing import NamedTuple
 
-from view.texts.record import Columns
+from texts.record import Columns
 from view.asked import Refused, ask_judge, bad_verdict
 
 FAULT = re.compile(r"(?:log (?P<log>\w{1,16})(?: event (?P<event>[1-9]\d{0,18}))?(?: step (?P<step>[1-9]))?"

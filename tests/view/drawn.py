@@ -3,7 +3,7 @@ import random
 import subprocess
 
 from drawn_runs import draw_objects, draw_scripts, scripts_text
-from view.texts.record import Object, record_fault
+from texts.record import Object, record_fault
 
 CALLS = {
     "queue": ["thread 1", "ok", "already", "empty", "absent", "badthread", "count 1"],

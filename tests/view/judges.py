@@ -3,12 +3,13 @@ import os
 import re
 import shlex
 import subprocess
+import sys
 import tempfile
 import xml.etree.ElementTree as xml
 from pathlib import Path
 
 from common import ROOT
-from view.texts.record import read_record
+from texts.record import read_record
 from view import asked
 from view.model import Model
 from view.verdict import by_judge
@@ -136,8 +137,8 @@ def check_own(_):
 
 # What sh does to the standard streams, the words of view, its status, and its line, or None where that can't be seen.
 STREAMS = [
-    (">/dev/full", ["timeline", RIGHT], 3, "E13 write failed"), (">/dev/full", ["timeline", "--svg", RIGHT], 3, "E13 write failed"),
-    (">/dev/full", ["trace", RIGHT], 3, "E13 write failed"), ("<&-", ["timeline"], 3, "E12 read failed"),
+    *((">/dev/full", [*it, RIGHT], 3, "E13 write failed") for it in (["timeline"], ["timeline", "--svg"], ["trace"])),
+    ("<&-", ["timeline"], 3, "E12 read failed"),
     (">&-", ["timeline", RIGHT], 3, "E13 write failed"), (">&-", ["--help"], 3, "E13 write failed"),
     *((streams, *it, None) for streams in ("2>/dev/full", "2>&-") for it in
       ((["bogus"], 2), (["timeline", "/not/there"], 3), (["timeline", "/dev/null"], 2), (["timeline", RIGHT], 0))),
@@ -145,8 +146,32 @@ STREAMS = [
 ]
 
 
+# Whether a file that is opened later gets none of the three numbers.
+PROBE = "import os; from view.streams import open_streams; open_streams(); print(os.open(os.devnull, os.O_RDONLY) > 2)"
+
+
+def long_lines(count):
+    """A record 3 of so many entries, each of some 5,500 bytes."""
+    call = "a" * 16 + " 1234567890123456789" * 6
+    asked, done = " ; ".join([call] * 8), " ; ".join([f"{call} = {call}"] * 8)
+    log, entries = f"0 {done}\n" * count, f"q 0 {asked} | {done}\n" * count
+    head = f"record 3\ncpus 1\nobjects 1\nobject q lock {count} kind\nrefuses\n"
+    return f"{head}log q {count}\n{log}cpu 0 {count}\n{entries}end\n"
+
+
 def check_streams(judge):
     """Standard streams that are full or closed."""
+    # (what is said of the time that a large record takes doesn't get into the copy that a judge reads)
+    large = judge.file.with_name("large")
+    large.write_text(long_lines(1_000))
+    said = "unsound: log q event 1: unclaimed"
+    judge.file.write_text(f"read -r line\n[ \"$line\" = 'record 3' ] || exit 9\ncat > /dev/null\necho {said}\n")
+    words = [ROOT / "view/view", "timeline", "--svg", "--judge", f"sh '{judge.file}'", large]
+    status = subprocess.run(["sh", "-c", 'exec "$@" <&- 2>&-', "sh", *words], stdout=subprocess.DEVNULL).returncode
+    same(status == 0, f"a large record has status {status}")
+    command = ["sh", "-c", 'exec "$@" <&- 2>&-', "sh", sys.executable, "-c", PROBE]
+    said = subprocess.run(command, cwd=ROOT, stdout=subprocess.PIPE).stdout
+    same(said == b"True\n", "a file gets the number of a closed stream")
     for streams, words, status, line in STREAMS:
         command = ["sh", "-c", f'exec "$@" {streams}', "sh", ROOT / "view/view", *words]
         ran = subprocess.run(command, capture_output=True, env=judge.environment)

@@ -4,7 +4,7 @@ from pathlib import Path
 
 from common import ROOT, run
 from rows import row_named
-from view.texts.record import read_record
+from texts.record import read_record
 from view.model import Model
 from view.pages import steps_page, timeline
 from view.verdict import by_mc2, by_said
@@ -16,7 +16,7 @@ from parts import part_of
 
 HERE = Path(__file__).parent
 LOOKS = ROOT / "out"
-DRAWN, REDRAWN = 5_000, 100  # milliseconds, on a machine that others use too
+DRAWN, REDRAWN = 5_000, 200  # milliseconds, on a machine that others use too
 
 
 class Pages:

@@ -3,15 +3,15 @@ import io
 import tempfile
 
 from models import check_picture, drawn, page_boxes, page_data, same
+from texts.line import Fault
 from view.around import MOST_BETWEEN, around
 from view.asked import Refused
 from view.pages import timeline
-from view.texts.line import Fault
 
 
-def part_of(text, named, near):
+def part_of(text, named, near, most=1_000_000):
     with tempfile.TemporaryFile() as copy:
-        return around(io.BytesIO(text), copy, named, near)
+        return around(io.BytesIO(text), copy, named, near, most)
 
 
 def check_part(model, text, draw, near):
@@ -30,7 +30,8 @@ def check_part(model, text, draw, near):
         same([box.event for box in part.boxes if box.row == number] == [*around_it], "other events are in the log")
     marked = [part.boxes[at] for at in part.marked]
     claimed = model.claims.entry_of(number, event)
-    same([(box.object, box.event, box.entry) for box in marked] == [(number, event, claimed)] * bool(claimed or not part.is_order),
+    is_drawn = bool(claimed or not part.is_order)
+    same([(box.object, box.event, box.entry) for box in marked] == [(number, event, claimed)] * is_drawn,
          f"{marked} is marked in place of {name}:{event}")
     return part
 
@@ -53,6 +54,13 @@ def check_shown(model, text, draw):
     same(data["marked"] == part.marked and data["mark"] == part.mark(), "the page of a part marks another place")
     same([it["events"] for it in data["objects"]] == [*map(len, model.record.logs)], "the page of a part has other logs")
     check_picture(part)
+
+
+def check_few(text):
+    """Where too many entries would be drawn, fewer are; at least the one that was named."""
+    for most, wanted in (1_000, 61), (60, 31), (2, 1), (0, 1):
+        part = part_of(text, "o0:50", 30, most)
+        same(len(part.boxes) == wanted and len(part.marked) == 1, f"{len(part.boxes)} entries are drawn where {most} may be")
 
 
 def check_refused(text):

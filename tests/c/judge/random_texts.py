@@ -5,7 +5,7 @@ Compares what is told of random records 3, and of texts that are nearly records.
 
   small    small records by judged.c: each fault by its definition, orders by trying all
   crossed  sound records whose entries are in another order than they were done, with all room and with little
-  changed  texts of which two programs of judged.c have to tell the same; each tenth is read by view/texts too
+  changed  texts of which two programs of judged.c have to tell the same; each tenth is read by tools/lib/texts too
   planted  ten faults in a buffer and in counts of references: own.c prints at most 15 steps of each, and names the culprit
   wide     a record of 256 CPUs and 256 objects, whose order by own.c has to be one
   refused  the records of examples/own and a large one by refusals.c, where each block of memory is refused
@@ -24,7 +24,7 @@ import record_definitions as definitions
 import made_records as made
 from common import ROOT, Stop, end, run
 from own_checks.large import record as large_record
-from view.texts.record import record_fault
+from texts.record import record_fault
 
 TURNS, SECONDS = 64, 1200
 BAD_LINE = 8

@@ -10,8 +10,8 @@ import tempfile
 from pathlib import Path
 
 sys.dont_write_bytecode = True
-sys.path.append(str(Path(__file__).resolve().parents[3]))
-from view.texts.record import read_record
+sys.path.append(str(Path(__file__).resolve().parents[3] / "tools/lib"))
+from texts.record import read_record
 
 record = subprocess.run([sys.argv[1]], stdout=subprocess.PIPE, check=True).stdout
 said = read_record(record)

@@ -1,7 +1,7 @@
 """The four kinds of objects in plain Python: what each answers to a call (docs/FORMATS.md). Calls and replies are a word and its
 numbers, as ("enq", 3). The judges that are measured and the checks of `view` answer by it."""
 
-from view.texts.calls import GOING_ON
+from texts.calls import GOING_ON
 
 
 def refuses(reply):

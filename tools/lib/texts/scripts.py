@@ -1,6 +1,6 @@
 """Scripts and schedules: where the first fault of such a text is."""
-from view.texts.calls import read_call, read_list
-from view.texts.line import MOST_ENTRIES, MOST_LINE, Fault, Line, Rows, entry_lines, is_number, shown
+from texts.calls import read_call, read_list
+from texts.line import MOST_ENTRIES, MOST_LINE, Fault, Line, Rows, entry_lines, is_number, shown
 
 MOST_STEPS = 100_000
 

@@ -2,7 +2,7 @@
 import re
 from typing import NamedTuple
 
-from view.texts.line import MOST_BYTES, Fault
+from texts.line import MOST_BYTES, Fault
 
 try:
     import tomllib

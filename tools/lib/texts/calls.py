@@ -1,5 +1,5 @@
 """Calls and replies, as scripts and records have them."""
-from view.texts.line import MOST_NUMBER, shown
+from texts.line import MOST_NUMBER, shown
 
 # What each call takes, in words, and the kind of object that answers it.
 CALLS = {
