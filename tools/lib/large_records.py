@@ -1,5 +1,4 @@
-"""Large sound records 3, for tools/measure/own: run queues, page allocators and pipes that CPUs use in turn. An entry has one
-call."""
+"""Large sound records 3 of run queues, page allocators and pipes that CPUs use in turn. An entry has one call."""
 import random
 from bisect import insort
 
@@ -70,7 +69,7 @@ class Pipe:
 KINDS = [RunQueue, Pages, Pipe]
 
 
-def record(cpus, objects, entries):
+def large_record(cpus, objects, entries):
     """The text of a record of so many entries, each on an object at random, always the same."""
     chosen = random.Random(7)
     names = [f"object{x}" for x in range(objects)]
