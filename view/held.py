@@ -4,7 +4,7 @@ No answer is computed here. Up to the first wrong step all replies are right, an
 reply to the call of that step comes from the proved program: it does the same calls once more, on one CPU."""
 import tempfile
 
-from texts.calls import GOING_ON
+from texts.calls import GOING_ON, LOOKS
 from texts.record import read_record, steps_of
 
 MOST_CALLS, MOST_EVENTS = 80_000, 65_536  # of one CPU: 10,000 entries of 8 calls; and of a log
@@ -19,7 +19,7 @@ class Held:
 
     def step(self, call, reply):
         (word, *of), (said, *got) = (part.split(" ") for part in (call, reply))
-        if said not in GOING_ON or word in ("len", "left", "level"):
+        if said not in GOING_ON or word in LOOKS:
             return
         line = self.lines[None]
         if word == "alloc":

@@ -2,15 +2,8 @@
 import random
 import subprocess
 
-from drawn_runs import draw_objects, draw_scripts, scripts_text
+from drawn_runs import draw_objects, draw_reply, draw_scripts, scripts_text
 from texts.record import Object, record_fault
-
-CALLS = {
-    "queue": ["thread 1", "ok", "already", "empty", "absent", "badthread", "count 1"],
-    "pool": ["page 0", "page 1", "none", "overquota", "ok", "nottaken", "notyours", "count 2"],
-    "console": ["ok", "byte 1", "dropped 2", "empty", "count 1"],
-    "sched": ["thread 1", "thread 2", "empty", "already", "ok", "count 0", "count 2"],
-}
 
 
 def drawn_record(program, folder, draw, cpus, most):
@@ -44,7 +37,7 @@ def with_a_change(record, draw):
             other = first + draw.randrange(len(record.logs[at]))
             lines[place], lines[other] = lines[other], lines[place]
         else:
-            lines[place] = with_reply(lines[place], draw.choice(CALLS[named.kind]), draw)
+            lines[place] = with_reply(lines[place], draw_reply(draw, named.kind), draw)
     elif way == 3 and logs:
         at, named = draw.choice(logs)
         lines[3 + at] = lines[3 + at].replace(f" {named.events} ", f" {max(1, len(record.logs[at]) - 1)} ", 1)

@@ -1,9 +1,11 @@
 """Random objects and scripts, for tools that try the built program on many runs."""
 from common import MOST_CPUS
+from texts.calls import KINDS, TAKES
 
 LOCKS = ["ticket", "mcs"]
-KINDS = ["queue", "pool", "console", "sched"]
 CPUS = [1, 2, 3, 4, 8, 9, 33, MOST_CPUS]
+# The greatest numbers of calls: a thread, an owner, a page, a channel, a byte.
+MOST = {"T": 6, "O": 16, "P": 6, "C": 3, "B": 255}
 # The most entries of all CPUs.
 MOST_ENTRIES = 20_000
 
@@ -12,7 +14,7 @@ def draw_objects(draw):
     """The kinds of some objects, and their tables in the settings."""
     kinds, tables = [], []
     for place in range(draw.randint(1, 16)):
-        kind = draw.choice(KINDS)
+        kind = draw.choice([*KINDS])
         small, sizes = draw.choice([1, 2, 5, 40]), {}
         if kind == "pool":
             sizes["pages"] = small
@@ -33,17 +35,15 @@ def draw_objects(draw):
 
 def draw_call(draw, kind):
     """A call on an object of that kind, or now and then on one of another kind."""
-    if draw.random() < 0.01:
-        kind = draw.choice(KINDS)
-    small, owner = draw.randint(0, 6), draw.randint(0, 16)
-    return draw.choice(
-        {
-            "queue": [f"enq {small}", "deq", f"remove {small}", "len"],
-            "pool": [f"alloc {owner}", f"free {owner} {small}", "left"],
-            "console": [f"put {draw.randint(0, 255)}", "get", "level"],
-            "sched": [f"ready {small}", "next", f"sleep {draw.randint(0, 3)} {small}", f"wake {small}", f"wakeall {small}"],
-        }[kind]
-    )
+    calls = KINDS[kind if draw.random() >= 0.01 else draw.choice([*KINDS])]
+    word, *takes = draw.choice([*calls]).split()
+    return " ".join([word, *(str(draw.randint(0, MOST[it])) for it in takes)])
+
+
+def draw_reply(draw, kind):
+    """A reply that some call on an object of that kind may get."""
+    word = draw.choice([it for replies in KINDS[kind].values() for it in replies.split()])
+    return f"{word} {draw.randint(0, 2)}" if word in TAKES else word
 
 
 def draw_scripts(draw, cpus, kinds, most):

@@ -17,7 +17,7 @@ from pathlib import Path
 sys.dont_write_bytecode = True
 sys.path.insert(0, str(Path(__file__).resolve().parents[3] / "tools/lib"))
 from common import ROOT, Stop, Words, end, number, run
-from own_checks.like_mc2 import like_mc2
+from like_mc2 import like_mc2
 from rows import rows_of
 
 MC2, AT_ONCE = os.environ.get("MC2"), 8
@@ -163,7 +163,7 @@ def main():
     words.add_argument("program")
     given = words.parse_args()
     if given.how == "own":
-        print(like_mc2(given.program, True))
+        print(like_mc2(given.program))
         return 0
     named, wrong = dict(list(texts().items())[:: given.each]), []
     with tempfile.TemporaryDirectory() as folder:

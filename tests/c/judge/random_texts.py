@@ -23,7 +23,7 @@ sys.path.insert(1, str(Path(__file__).resolve().parents[3] / "tools/lib"))
 import record_definitions as definitions
 import made_records as made
 from common import ROOT, Stop, end, run
-from own_checks.large import record as large_record
+from large_records import large_record
 from texts.record import record_fault
 
 TURNS, SECONDS = 64, 1200

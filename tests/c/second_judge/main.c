@@ -165,7 +165,19 @@ static int merge(const struct record *r) {
     struct front *front = put_in_order(r, &placed);
     if (!front)
         return refuse(3, "E1 out of memory");
-    return placed == r->entry_count ? print_order(r, front) : refuse_cycle(r, front);
+    int status = placed == r->entry_count ? print_order(r, front) : refuse_cycle(r, front);
+    free(front);
+    return status;
+}
+
+static int judge_text(struct record *r, const struct text *text, bool merges) {
+    judge(r, text->bytes, text->length, NULL, 0, merges);
+    if (r->fault.kind == MC2_OUT_OF_MEMORY)
+        return refuse(3, "E1 out of memory");
+    if (r->fault.kind != MC2_BAD_LINE)
+        return merges ? merge(r) : audit(r);
+    fprintf(stderr, "mc2: E9 record: line %llu\n", (unsigned long long)r->fault.first);
+    return 2;
 }
 
 int main(int count, char **words) {
@@ -175,14 +187,10 @@ int main(int count, char **words) {
     if (count < 2 || count > 3 || (!merges && strcmp(words[1], "audit") != 0))
         return refuse(2, "E14 bad words");
     int status = read_text(count > 2 ? words[2] : NULL, &text);
-    if (status != 0)
-        return status;
-    judge(&record, text.bytes, text.length, NULL, 0, merges);
-    if (record.fault.kind == MC2_OUT_OF_MEMORY)
-        return refuse(3, "E1 out of memory");
-    if (record.fault.kind == MC2_BAD_LINE) {
-        fprintf(stderr, "mc2: E9 record: line %llu\n", (unsigned long long)record.fault.first);
-        return 2;
+    if (status == 0) {
+        status = judge_text(&record, &text, merges);
+        drop(&record);
     }
-    return merges ? merge(&record) : audit(&record);
+    free(text.bytes);
+    return status;
 }

@@ -1,5 +1,5 @@
 /* The functions of include/mc2_own.h in plain C. They are linked where the proved library isn't built, judge beside it in
-   tools/check/own, and are measured beside it in tools/measure/judges. Nothing here is proved.
+   tests/c/judge, and are measured beside it in tools/measure/judges. Nothing here is proved.
 
    Of a line that is no event mc2_own_line may tell a part of one, which isn't to be read. */
 #define IS_OWN 1
@@ -96,13 +96,6 @@ void mc2_own_kernel(const uint8_t *text, size_t length, size_t object, size_t lo
 
 /* ---- Records */
 
-static void drop(struct record *r) {
-    free(r->events);
-    free(r->next);
-    free(r->entries);
-    free(r);
-}
-
 void mc2_own_audit(const uint8_t *text, size_t length, const uint64_t *right, size_t objects, struct mc2_told *told) {
     struct record *r = malloc(sizeof *r);
     tell(told, MC2_OUT_OF_MEMORY, 0, 0, 0);
@@ -111,6 +104,7 @@ void mc2_own_audit(const uint8_t *text, size_t length, const uint64_t *right, si
     judge(r, text, length, right, objects, false);
     *told = r->fault;
     drop(r);
+    free(r);
 }
 
 static void tell_order(const struct record *r, const struct front *front, struct mc2_turn *room, size_t turns,
@@ -141,4 +135,5 @@ void mc2_own_merge(const uint8_t *text, size_t length, const uint64_t *right, si
         tell_cycle(r, front, room, turns, told);
     free(front);
     drop(r);
+    free(r);
 }

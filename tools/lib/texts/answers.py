@@ -1,7 +1,7 @@
 """The four kinds of objects in plain Python: what each answers to a call (docs/FORMATS.md). Calls and replies are a word and its
-numbers, as ("enq", 3). The judges that are measured and the checks of `view` answer by it."""
+numbers, as ("enq", 3). The checks of `view` answer by it."""
 
-from texts.calls import GOING_ON
+from texts.calls import CALLS, GOING_ON
 
 
 def refuses(reply):
@@ -137,18 +137,13 @@ class Sched:
         return ("count", count)
 
 
-CALLS = {
-    Queue: {"enq", "deq", "remove", "len"},
-    Pool: {"alloc", "free", "left"},
-    Console: {"put", "get", "level"},
-    Sched: {"ready", "next", "sleep", "wake", "wakeall"},
-}
 KINDS = {"queue": Queue, "pool": Pool, "console": Console, "sched": Sched}
 
 
 def apply(target, call):
     name, *numbers = call
-    return getattr(target, name)(*numbers) if name in CALLS[type(target)] else ("badcall",)
+    kind, _ = CALLS[name.encode()]
+    return getattr(target, name)(*numbers) if isinstance(target, KINDS[kind]) else ("badcall",)
 
 
 def opened(named):

@@ -1,21 +1,23 @@
 """Calls and replies, as scripts and records have them."""
 from texts.line import MOST_NUMBER, shown
 
-# What each call takes, in words, and the kind of object that answers it.
-CALLS = {
-    b"enq": ("queue", ["T"]), b"deq": ("queue", []), b"remove": ("queue", ["T"]), b"len": ("queue", []),
-    b"alloc": ("pool", ["O"]), b"free": ("pool", ["O", "P"]), b"left": ("pool", []),
-    b"put": ("console", ["B"]), b"get": ("console", []), b"level": ("console", []),
-    b"ready": ("sched", ["T"]), b"next": ("sched", []), b"sleep": ("sched", ["C", "T"]), b"wake": ("sched", ["C"]),
-    b"wakeall": ("sched", ["C"]),
+# Each kind of object: what its calls take, and the replies that each may get beside `badcall`.
+KINDS = {
+    "queue": {"enq T": "ok badthread already", "deq": "thread empty", "remove T": "ok badthread absent", "len": "count"},
+    "pool": {"alloc O": "page badowner none overquota", "free O P": "ok badowner badpage nottaken notyours", "left": "count"},
+    "console": {"put B": "ok dropped", "get": "byte empty", "level": "count"},
+    "sched": {"ready T": "ok badthread already", "next": "thread empty", "sleep C T": "ok badchannel badthread already",
+              "wake C": "thread badchannel empty", "wakeall C": "count badchannel"},
 }
-REPLIES = {
-    b"ok": [], b"thread": ["T"], b"count": ["N"], b"page": ["P"], b"dropped": ["B"], b"byte": ["B"],
-    **dict.fromkeys([b"badthread", b"already", b"empty", b"absent", b"badowner", b"none", b"overquota", b"badpage", b"nottaken",
-                     b"notyours", b"badchannel", b"badcall"], []),
-}
-# The replies that don't refuse.
-GOING_ON = {"ok", "thread", "count", "page", "dropped", "byte"}
+# What replies take. All others take nothing, and refuse but for `ok`.
+TAKES = {"thread": "T", "count": "N", "page": "P", "dropped": "B", "byte": "B"}
+GOING_ON = {"ok", *TAKES}
+CALLS = {word.encode(): (kind, takes) for kind, calls in KINDS.items() for word, *takes in map(str.split, calls)}
+# Calls that change nothing.
+LOOKS = {call for calls in KINDS.values() for call, replies in calls.items() if replies == "count"}
+WORDS = dict.fromkeys(it for calls in KINDS.values() for replies in calls.values() for it in replies.split())
+REFUSING = [it for it in WORDS if it not in GOING_ON] + ["badcall"]
+REPLIES = {it.encode(): list(TAKES.get(it, "")) for it in [*(it for it in WORDS if it in GOING_ON), *REFUSING]}
 NAMES = {"T": "a thread", "O": "an owner", "P": "a page", "B": "a byte", "C": "a channel", "N": "a count"}
 MOST_CALLS = 8
 

@@ -1,13 +1,11 @@
-"""Records of rows of mc2 that have a name, made records 3: the program in C has to say what mc2 says, but for limits; and,
-where the library has no model of the kinds of mc2, but for wrong replies."""
+"""Records of rows of mc2 that have a name, made records 3: the program in C has to say what mc2 says, but for limits."""
 import os
 import re
 
 from common import Stop, run
 from rows import rows_of
+from texts.calls import REFUSING
 
-REFUSING = "badthread already empty absent badowner none overquota badpage nottaken notyours badchannel badcall"
-KINDS = ("queue", "pool", "console", "sched")
 # A record 3 has no such limits, or others.
 OTHER_LIMITS = {
     "a_record_1_has_no_overquota",
@@ -24,18 +22,15 @@ OTHER_LIMITS = {
 }
 
 
-def made_third(text, has_models):
-    """The record with another first line and a line of the words that refuse. Quotas are those of record 1, if it is one. Without
-    models of the kinds of mc2, the kinds are such that answer anything."""
+def made_third(text):
+    """The record with another first line and a line of the words that refuse. Quotas are those of record 1, if it is one."""
     if text.startswith("record 1"):
         text = re.sub(r"^(object \S+ \S+ \S+ pool (\d+))$", lambda it: it[1] + f" {it[2]}" * 16, text, flags=re.MULTILINE)
-    if not has_models:
-        text = re.sub(rf"^(object \S+ \S+ \S+) (?:{'|'.join(KINDS)})\b", r"\1 any", text, flags=re.MULTILINE)
     lines = text.split("\n")
     lines[0] = "record 3"
     heads = [at for at, line in enumerate(lines) if line.startswith("object ")]
     if heads:
-        lines.insert(heads[-1] + 1, f"refuses {REFUSING}")
+        lines.insert(heads[-1] + 1, f"refuses {' '.join(REFUSING)}")
     return "\n".join(lines)
 
 
@@ -68,18 +63,15 @@ def agree(row, command, text, ran):
     return said.split("\n")[0] == wanted.replace("mc2: E10 ", "").split("\n")[0]
 
 
-def like_mc2(own, has_models):
+def like_mc2(own):
     """Judges each such record, and says how many are judged alike."""
-    alike = left = 0
+    alike = 0
     for row in rows_of("mc2"):
         command, text = record_of(row)
         if text is None or row.name in {"", *OTHER_LIMITS}:
             continue
-        if not has_models and "wrong step" in said_by_mc2(row):
-            left += 1
-            continue
-        ran = run([own, command], wanted=None, input=os.fsencode(made_third(text, has_models)), timeout=60)
+        ran = run([own, command], wanted=None, input=os.fsencode(made_third(text)), timeout=60)
         if not agree(row, command, text, ran):
             raise Stop(f"{row.place}: {(ran.stdout + ran.stderr).decode()[:200]!r}")
         alike += 1
-    return f"{alike} records, and {len(OTHER_LIMITS)} left out for limits and {left} for wrong replies"
+    return f"{alike} records, and {len(OTHER_LIMITS)} left out for limits"
