@@ -10,7 +10,9 @@ enum kind { QUEUE, POOL, CONSOLE, SCHED, KINDS };
 
 /* ---- Words. Both lists are in the order of the first letters, no word begins a later one, and an empty one is at each end. */
 
-enum call_word { NO_CALL, ALLOC, DEQ, ENQ, FREE, GET, LEN, LEFT, LEVEL, NEXT, PUT, READY, REMOVE, SLEEP, WAKEALL, WAKE, CALL_WORDS };
+enum call_word {
+    NO_CALL, ALLOC, DEQ, ENQ, FREE, GET, LEN, LEFT, LEVEL, NEXT, PUT, READY, REMOVE, SLEEP, WAKEALL, WAKE, CALL_WORDS
+};
 
 enum reply_word {
     NO_REPLY, ALREADY, ABSENT, BYTE, BADCALL, BADCHANNEL, BADOWNER, BADPAGE, BADTHREAD, COUNT, DROPPED, EMPTY,

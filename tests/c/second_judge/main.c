@@ -148,8 +148,10 @@ static int refuse_cycle(const struct record *r, const struct front *front) {
     struct mc2_told told;
     tell_cycle(r, front, room, 64, &told);
     fprintf(stderr, "mc2: E11 cycle:");
-    for (uint64_t at = 0; at < told.first; at++)
-        fprintf(stderr, "%s cpu %u entry %llu", at > 0 ? "," : "", (unsigned)room[at].cpu, (unsigned long long)room[at].entry + 1);
+    for (uint64_t at = 0; at < told.first; at++) {
+        unsigned long long cpu = room[at].cpu, entry = room[at].entry + 1;
+        fprintf(stderr, "%s cpu %llu entry %llu", at > 0 ? "," : "", cpu, entry);
+    }
     fprintf(stderr, "\n");
     return 1;
 }

@@ -82,8 +82,8 @@ static void place(const struct record *r, struct front *front, uint32_t cpu) {
     look(r, front, cpu);
 }
 
-/* Places entries as long as one can come. Returns what was done, which the caller frees, or NULL without memory; all were placed
-   if `count` is the number of the entries. */
+/* Places entries as long as one can come, and counts them. Returns the places, which the caller frees, or NULL without
+   memory. */
 static struct front *put_in_order(const struct record *r, size_t *count) {
     struct front *front = malloc(sizeof *front + r->entry_count);
     *count = 0;

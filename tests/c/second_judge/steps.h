@@ -1,5 +1,5 @@
-/* The calls of entries and the steps of events. Of a record 3 they are words with numbers; of a record 1 or 2 they are those of the
-   four kinds, which are needed as values. */
+/* The calls of entries and the steps of events. Of a record 3 they are words with numbers; of a record 1 or 2 they are those of
+   the four kinds, which are needed as values. */
 #ifndef SECOND_JUDGE_STEPS_H
 #define SECOND_JUDGE_STEPS_H
 

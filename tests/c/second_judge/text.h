@@ -17,7 +17,8 @@ static inline bool are_same(struct name one, struct name other) { return one.low
 
 /* The first bytes of 16, with zeros after them. */
 static inline struct name name_at(const uint8_t *p, uint32_t length) {
-    static const uint8_t ones[2 * MC2_OWN_LETTERS] = {255, 255, 255, 255, 255, 255, 255, 255, 255, 255, 255, 255, 255, 255, 255, 255};
+    static const uint8_t ones[2 * MC2_OWN_LETTERS] = {255, 255, 255, 255, 255, 255, 255, 255,
+                                                      255, 255, 255, 255, 255, 255, 255, 255};
     struct name name, mask;
     memcpy(&name, p, sizeof name);
     memcpy(&mask, ones + MC2_OWN_LETTERS - length, sizeof mask);

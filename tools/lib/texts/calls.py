@@ -34,7 +34,8 @@ def read_numbers(line, names):
 
 def read_call(line, kind=None):
     """A call of any kind. The kind is that of its object, to say which calls are of use there."""
-    wanted = f"a call: {call_forms(kind)}" + (f" of this {kind}, or one of another kind, which is answered `badcall`" if kind else "")
+    other = f" of this {kind}, or one of another kind, which is answered `badcall`" if kind else ""
+    wanted = f"a call: {call_forms(kind)}{other}"
     word = line.take(wanted, lambda it: it in CALLS)
     read_numbers(line, CALLS[word][1])
 
