@@ -1,7 +1,7 @@
-"""Builds the second judge of tests/c/second_judge, for tools that compare it with the proved one."""
+"""Builds the second judge of tools/second_judge, for tools that compare it with the proved one."""
 from common import ROOT, run
 
-FOLDER = ROOT / "tests/c/second_judge"
+FOLDER = ROOT / "tools/second_judge"
 # Has the functions of include/mc2_own.h.
 SECOND_JUDGE = FOLDER / "second_judge.c"
 

@@ -7,7 +7,7 @@ import sys
 from pathlib import Path
 
 sys.dont_write_bytecode = True
-sys.path.insert(0, str(Path(__file__).resolve().parents[3] / "tools/lib"))
+sys.path.insert(0, str(Path(__file__).resolve().parents[2] / "tools/lib"))
 from common import Words, end, run
 from rows import rows_of
 
