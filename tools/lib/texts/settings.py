@@ -167,7 +167,7 @@ def could_stand(key, written):
 
 def line_of(text, bad):
     """The line and column where the key of the fault stands, or where its table begins, if it is written in the usual way."""
-    place, table, head = 0, [], (1, 1)
+    place, head = 0, (1, 1)
     for number, line in enumerate(text.decode(errors="replace").splitlines(), start=1):
         if re.match(r"\s*\[\[\s*object\s*\]\]", line):
             place += 1
