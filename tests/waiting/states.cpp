@@ -6,7 +6,7 @@
 //
 // The model is written by hand from crates/word_rule/src/resting.rt and, of each lock's crate, src/whole.rt, src/lock.rt and
 // src/steps.rt. It isn't proved to be that code: read steps.hpp beside it. digest.sh sees that no function that waits has
-// changed since. Who changes one reads both again, and writes its digest into CMakeLists.txt.
+// changed since. If you change one, read both again, and write its digest into CMakeLists.txt.
 //
 // A step is one operation on one word, of the lock or `resting`, or the end of a sleep. The steps have one order, as the kit's
 // atomics do. A sleep ends at any time, early or arbitrarily late, but it ends. Between two calls a caller may begin another,

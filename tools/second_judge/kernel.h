@@ -80,7 +80,7 @@ static inline uint64_t first_bytes(const void *p) {
     return bytes;
 }
 
-/* The first word with which the text goes on there, or 0. 8 bytes have to be there. */
+/* The first word that the text at `p` begins with, or 0. At least 8 bytes must follow. */
 static inline uint32_t find_word(const struct spelling *words, const uint8_t *first, const uint8_t *p) {
     uint32_t at = first[*p];
     do {
@@ -161,8 +161,8 @@ static bool take_params(const uint8_t *kind, const uint64_t *numbers, uint64_t c
 
 /* ---- Answers */
 
-/* Lists of threads, each thread in one at most: those of the channels, and at the end that of the ready ones, or the queue. The
-   places at the end are the heads of the lists. */
+/* Lists of threads, each thread in one at most: the lists of the channels, and last the ready list, or the queue. The places at
+   the end are the heads of the lists. */
 enum { LISTS = MOST_CHANNELS + 1, READY_LIST = MOST_CHANNELS, PLACES = MOST_THREADS + LISTS, OUT = UINT16_MAX };
 enum { FREE_PAGE = UINT8_MAX };
 

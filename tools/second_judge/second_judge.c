@@ -1,7 +1,7 @@
 /* The functions of include/mc2_own.h in plain C. They are linked where the proved library isn't built, judge beside it in
    tests/c/judge, and are measured beside it in tools/measure/judges. Nothing here is proved.
 
-   Of a line that is no event mc2_own_line may tell a part of one, which isn't to be read. */
+   For a line that is no event mc2_own_line may write a part of one, which the caller must not read. */
 #define IS_OWN 1
 #include "judge.h"
 #include "order.h"
@@ -43,7 +43,7 @@ void mc2_own_line(const uint8_t *text, size_t length, size_t at, struct mc2_own_
 
 /* ---- The kinds that mc2 has */
 
-/* Whether just that is said, with the numbers that it may have. */
+/* Whether this is the word of the entry, with numbers in its range. */
 static bool fits(const struct mc2_own_said *said, const struct spelling *it) {
     for (uint64_t at = 0; at < said->count; at++)
         if (said->numbers[at] > it->most)

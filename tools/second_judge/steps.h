@@ -27,7 +27,7 @@ struct calls {
     struct span each[MC2_OWN_CALLS];
 };
 
-/* A step. Of a record 3 just the word of the reply is kept. */
+/* A step. Of a record 3 only the word of the reply is kept. */
 struct step {
     struct span word;
     struct call call;

@@ -3,10 +3,11 @@ use crate::ffi::{LOOKED, STEPPED};
 use core::sync::atomic::{AtomicU64, Ordering::Relaxed};
 
 const NAPS: bool = cfg!(feature = "std");
-// From this look in vain on a caller in line naps. So many looks are a round of pauses.
+// A caller in line sleeps after LONG_WAIT failed looks. ROUND looks are a round of pauses.
 const LONG_WAIT: u64 = 120;
 const ROUND: u64 = 6;
-// Microseconds of a nap in line, and of a stay outside, with how much longer it is for each other one outside, of so many at most.
+// Microseconds: a sleep in line is NAP; a stay outside is STAY, and STAY_LONGER more for each other caller outside, of at most
+// MOST_OTHERS.
 const NAP: u64 = 100;
 const STAY: u64 = 1000;
 const STAY_LONGER: u64 = 250;

@@ -1,4 +1,4 @@
-// All of mc2_own_note.h that a kernel calls. Compiled freestanding it may ask for memcpy and memset alone.
+// All of mc2_own_note.h that a kernel calls. Compiled freestanding it may only ask for memcpy and memset.
 #include "mc2_own_note.h"
 
 int note(struct mc2_turns *turns, struct mc2_notes *own, const struct mc2_spoken_step *steps, uint32_t asked) {

@@ -1,4 +1,4 @@
-// The checks that note.c and own_note.c share. Who includes this has defined what the header calls OPEN_NOTES, OPEN_TURNS,
+// The checks that note.c and own_note.c share. A program that includes this file defines what the header calls OPEN_NOTES, OPEN_TURNS,
 // HAS_ROOM, TAKE_TURN, NOTE and STEP, with NOTE_PIECES, MOST_OBJECTS and MOST_TURNS. It defines the functions declared here.
 #include "check.h"
 
@@ -51,7 +51,7 @@ static void check_opening(void) {
     CHECK(sizeof(union mc2_note_piece) == 16);
 }
 
-// What no note has is refused. `spoil` makes bad one of the calls, or the reply of a step.
+// A note that isn't one is refused. `spoil` makes bad one of the calls, or the reply of a step.
 static void check_bad_notes(void (*spoil)(STEP *step, bool reply)) {
     STEP steps[9];
     const char *before = text_now();
@@ -76,7 +76,7 @@ static void check_bad_notes(void (*spoil)(STEP *step, bool reply)) {
     GIVES(NOTE(&notes[0], 0, TAKE_TURN(&turns[0], &notes[0]), UINT64_MAX, steps, 2, 1), MC2_DONE);
 }
 
-// A turn is given only if the longest note fits, besides those whose turns were given.
+// A turn is given only if the longest note fits, after those whose turns were given.
 static void check_room(void) {
     STEP steps[8];
     for (unsigned at = 0; at < 8; at++)

@@ -1,5 +1,5 @@
-// Checks include/mc2_own_note.h, as C11 and as C++17: that each bad use is refused by what is returned, and that what was noted
-// before is written as ever. Then it prints a record of three CPUs on two objects of the kind `any`.
+// Checks include/mc2_own_note.h, as C11 and as C++17: that each bad use returns a refusal, and that what was noted
+// before is written as before. Then it prints a record of three CPUs on two objects of the kind `any`.
 //
 //     own_note right|twice|twins|unnoted|last|late|beyond|full_memory
 //
